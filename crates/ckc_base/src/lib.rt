@@ -1,0 +1,18 @@
+//! What every layer of the compiler stands on: lists and boxes that contracts see through, places in a text,
+//! refusals, the run-time checks, and arithmetic on 32-bit words.
+//!
+//! The definitions of traces and showings, and of what it is that one program follows another, stand in
+//! `specs/`; their laws are on the functions of `laws`.
+#![tactic(auto)]
+
+mod arithmetic;
+mod boxed;
+mod places;
+mod runtime_checks;
+mod seq;
+
+pub use arithmetic::{BinOp, Mode, Width, apply};
+pub use boxed::Boxed;
+pub use places::{Pos, Refusal};
+pub use runtime_checks::{Check, check_name, check_number, check_of};
+pub use seq::{Bytes, Seq};

@@ -1,0 +1,14 @@
+/// A place in a text: line and column, both from 1. A column counts bytes, a tab is one column, and only LF
+/// ends a line.
+#[derive(Clone, Copy, Debug, PartialEq, Eq)]
+pub struct Pos {
+    pub line: u32,
+    pub col: u32,
+}
+
+/// Why a text is refused: the number of the refusal, as 120 for E120, and its place.
+#[derive(Clone, Copy, Debug, PartialEq, Eq)]
+pub struct Refusal {
+    pub code: u16,
+    pub pos: Pos,
+}
