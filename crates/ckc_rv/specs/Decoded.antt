@@ -1,6 +1,6 @@
 -- The instruction of a word as a function: which row has the word. Its law is that it answers exactly where the
 -- table relates word and instruction.
-use Rattle.std.specs.Prelude.{ℕ, ◌+◌, ◌-◌, ◌*◌, ◌/◌, ◌%◌, ◌^◌, ◌==◌, ◌&&◌, nat_lt, if◌then◌else◌, ℤ, pos, ◌-ℤ◌, Some, None, Option}
+use Rattle.std.specs.Prelude.{ℕ, ◌+◌, ◌*◌, ◌/◌, ◌%◌, ◌^◌, ◌==◌, ◌&&◌, nat_lt, if◌then◌else◌, ℤ, pos, ◌-ℤ◌, Some, None, Option}
 use Rattle.std.specs.Option.{option_map}
 use Rattle.ckc_rv.specs.declared.instructions.BranchOp.{BranchOp}
 use Rattle.ckc_rv.specs.declared.instructions.BranchOp.TheVariants.{Beq, Bne, Blt, Bge, Bltu, Bgeu}
@@ -16,9 +16,6 @@ use Rattle.ckc_rv.specs.declared.instructions.Instr.{Instr}
 use Rattle.ckc_rv.specs.declared.instructions.Instr.TheVariants.{Lui, Auipc, Jal, Jalr, Branch, Load, Store, Imm, Reg, Fence, Ecall, Ebreak}
 
 -- ---- the fields of a word
-
-abbrev pub opcode_of : ℕ → ℕ
-opcode_of word = word % 2 ^ 7
 
 abbrev pub rd_of : ℕ → ℕ
 rd_of word = word / 2 ^ 7 % 2 ^ 5
@@ -81,6 +78,9 @@ store_op funct3 =
     else if funct3 == 2 then Some Sw
     else None
 
+abbrev pub shift_left_op : ℕ → Option ImmOp
+shift_left_op funct7 = if funct7 == 0 then Some Slli else None
+
 abbrev pub shift_right_op : ℕ → Option ImmOp
 shift_right_op funct7 =
     if funct7 == 0 then Some Srli
@@ -91,7 +91,7 @@ shift_right_op funct7 =
 abbrev pub imm_op : ℕ → ℕ → Option ImmOp
 imm_op funct3 funct7 =
     if funct3 == 0 then Some Addi
-    else if funct3 == 1 then (if funct7 == 0 then Some Slli else None)
+    else if funct3 == 1 then shift_left_op funct7
     else if funct3 == 2 then Some Slti
     else if funct3 == 3 then Some Sltiu
     else if funct3 == 4 then Some Xori
@@ -140,31 +140,56 @@ reg_op funct3 funct7 =
     else if funct7 == 0x20 then other_op funct3
     else None
 
--- ---- the instruction
+-- ---- the instruction, for each opcode that has several
 
--- of a word below 2 ^ 32 with the opcode
+abbrev pub decoded_jalr : ℕ → Option Instr
+decoded_jalr word =
+    if funct3_of word == 0 then Some (Jalr (rd_of word) (rs1_of word) (i_immediate word)) else None
+
+abbrev pub decoded_branch : ℕ → Option Instr
+decoded_branch word =
+    option_map (λ op. Branch op (rs1_of word) (rs2_of word) (b_offset word)) (branch_op (funct3_of word))
+
+abbrev pub decoded_load : ℕ → Option Instr
+decoded_load word =
+    option_map (λ op. Load op (rd_of word) (rs1_of word) (i_immediate word)) (load_op (funct3_of word))
+
+abbrev pub decoded_store : ℕ → Option Instr
+decoded_store word =
+    option_map (λ op. Store op (rs1_of word) (rs2_of word) (s_immediate word)) (store_op (funct3_of word))
+
+abbrev pub decoded_imm : ℕ → Option Instr
+decoded_imm word =
+    option_map (λ op. Imm op (rd_of word) (rs1_of word) (imm_of op word)) (imm_op (funct3_of word) (funct7_of word))
+
+abbrev pub decoded_reg : ℕ → Option Instr
+decoded_reg word =
+    option_map (λ op. Reg op (rd_of word) (rs1_of word) (rs2_of word)) (reg_op (funct3_of word) (funct7_of word))
+
+-- with rd, funct3 and rs1 zero, and the bits 31 to 28
+abbrev pub decoded_fence : ℕ → Option Instr
+decoded_fence word =
+    if word / 2 ^ 28 == 0 && word / 2 ^ 7 % 2 ^ 13 == 0 then Some (Fence (word / 2 ^ 20)) else None
+
+abbrev pub decoded_system : ℕ → Option Instr
+decoded_system word =
+    if word == 0x00000073 then Some Ecall else if word == 0x00100073 then Some Ebreak else None
+
+-- the instruction of a word below 2 ^ 32 with the opcode
 unfoldable pub by_opcode : ℕ → ℕ → Option Instr
 by_opcode opcode word =
     if opcode == 0x37 then Some (Lui (rd_of word) (word / 2 ^ 12))
     else if opcode == 0x17 then Some (Auipc (rd_of word) (word / 2 ^ 12))
     else if opcode == 0x6F then Some (Jal (rd_of word) (j_offset word))
-    else if opcode == 0x67 then
-    (if funct3_of word == 0 then Some (Jalr (rd_of word) (rs1_of word) (i_immediate word)) else None)
-    else if opcode == 0x63 then
-    option_map (λ op. Branch op (rs1_of word) (rs2_of word) (b_offset word)) (branch_op (funct3_of word))
-    else if opcode == 0x03 then
-    option_map (λ op. Load op (rd_of word) (rs1_of word) (i_immediate word)) (load_op (funct3_of word))
-    else if opcode == 0x23 then
-    option_map (λ op. Store op (rs1_of word) (rs2_of word) (s_immediate word)) (store_op (funct3_of word))
-    else if opcode == 0x13 then
-    option_map (λ op. Imm op (rd_of word) (rs1_of word) (imm_of op word)) (imm_op (funct3_of word) (funct7_of word))
-    else if opcode == 0x33 then
-    option_map (λ op. Reg op (rd_of word) (rs1_of word) (rs2_of word)) (reg_op (funct3_of word) (funct7_of word))
-    else if opcode == 0x0F then
-    (if word / 2 ^ 28 == 0 && word / 2 ^ 7 % 2 ^ 13 == 0 then Some (Fence (word / 2 ^ 20)) else None)
-    else if word == 0x00000073 then Some Ecall
-    else if word == 0x00100073 then Some Ebreak
+    else if opcode == 0x67 then decoded_jalr word
+    else if opcode == 0x63 then decoded_branch word
+    else if opcode == 0x03 then decoded_load word
+    else if opcode == 0x23 then decoded_store word
+    else if opcode == 0x13 then decoded_imm word
+    else if opcode == 0x33 then decoded_reg word
+    else if opcode == 0x0F then decoded_fence word
+    else if opcode == 0x73 then decoded_system word
     else None
 
 unfoldable pub decoded : ℕ → Option Instr
-decoded word = if nat_lt word (2 ^ 32) then by_opcode (opcode_of word) word else None
+decoded word = if nat_lt word (2 ^ 32) then by_opcode (word % 2 ^ 7) word else None
