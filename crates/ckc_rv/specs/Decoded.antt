@@ -1,0 +1,195 @@
+-- The instruction of a word as a function: which row has the word. Its law is that it answers exactly where the
+-- table relates word and instruction.
+use Rattle.std.specs.Prelude.{ℕ, ◌+◌, ◌*◌, ◌/◌, ◌%◌, ◌^◌, ◌==◌, ◌&&◌, nat_lt, if◌then◌else◌, ℤ, pos, ◌-ℤ◌, Some, None, Option}
+use Rattle.std.specs.Option.{option_map}
+use Rattle.ckc_rv.specs.declared.instructions.BranchOp.{BranchOp}
+use Rattle.ckc_rv.specs.declared.instructions.BranchOp.TheVariants.{Beq, Bne, Blt, Bge, Bltu, Bgeu}
+use Rattle.ckc_rv.specs.declared.instructions.LoadOp.{LoadOp}
+use Rattle.ckc_rv.specs.declared.instructions.LoadOp.TheVariants.{Lb, Lh, Lw, Lbu, Lhu}
+use Rattle.ckc_rv.specs.declared.instructions.StoreOp.{StoreOp}
+use Rattle.ckc_rv.specs.declared.instructions.StoreOp.TheVariants.{Sb, Sh, Sw}
+use Rattle.ckc_rv.specs.declared.instructions.ImmOp.{ImmOp}
+use Rattle.ckc_rv.specs.declared.instructions.ImmOp.TheVariants.{Addi, Slti, Sltiu, Xori, Ori, Andi, Slli, Srli, Srai}
+use Rattle.ckc_rv.specs.declared.instructions.RegOp.{RegOp}
+use Rattle.ckc_rv.specs.declared.instructions.RegOp.TheVariants.{Add, Sub, Sll, Slt, Sltu, Xor, Srl, Sra, Or, And, Mul, Mulh, Mulhsu, Mulhu, Div, Divu, Rem, Remu}
+use Rattle.ckc_rv.specs.declared.instructions.Instr.{Instr}
+use Rattle.ckc_rv.specs.declared.instructions.Instr.TheVariants.{Lui, Auipc, Jal, Jalr, Branch, Load, Store, Imm, Reg, Fence, Ecall, Ebreak}
+
+-- ---- the fields of a word
+
+abbrev pub rd_of : ℕ → ℕ
+rd_of word = word / 2 ^ 7 % 2 ^ 5
+
+abbrev pub funct3_of : ℕ → ℕ
+funct3_of word = word / 2 ^ 12 % 2 ^ 3
+
+abbrev pub rs1_of : ℕ → ℕ
+rs1_of word = word / 2 ^ 15 % 2 ^ 5
+
+abbrev pub rs2_of : ℕ → ℕ
+rs2_of word = word / 2 ^ 20 % 2 ^ 5
+
+abbrev pub funct7_of : ℕ → ℕ
+funct7_of word = word / 2 ^ 25
+
+-- the number whose lowest bits, of which the highest is the sign, are these
+abbrev pub signed_from : ℕ → ℕ → ℤ
+signed_from half bits = if nat_lt bits half then pos bits else pos bits -ℤ pos (2 * half)
+
+abbrev pub i_immediate : ℕ → ℤ
+i_immediate word = signed_from (2 ^ 11) (word / 2 ^ 20)
+
+abbrev pub s_immediate : ℕ → ℤ
+s_immediate word = signed_from (2 ^ 11) (funct7_of word * 2 ^ 5 + rd_of word)
+
+abbrev pub b_offset : ℕ → ℤ
+b_offset word = signed_from (2 ^ 12)
+    (funct7_of word / 2 ^ 6 * 2 ^ 12 + rd_of word % 2 * 2 ^ 11 + funct7_of word % 2 ^ 6 * 2 ^ 5 + rd_of word / 2 * 2)
+
+abbrev pub j_offset : ℕ → ℤ
+j_offset word = signed_from (2 ^ 20)
+    (word / 2 ^ 31 * 2 ^ 20 + word / 2 ^ 12 % 2 ^ 8 * 2 ^ 12 + word / 2 ^ 20 % 2 * 2 ^ 11 + word / 2 ^ 21 % 2 ^ 10 * 2)
+
+-- ---- the operations by their codes
+
+abbrev pub branch_op : ℕ → Option BranchOp
+branch_op funct3 =
+    if funct3 == 0 then Some Beq
+    else if funct3 == 1 then Some Bne
+    else if funct3 == 4 then Some Blt
+    else if funct3 == 5 then Some Bge
+    else if funct3 == 6 then Some Bltu
+    else if funct3 == 7 then Some Bgeu
+    else None
+
+abbrev pub load_op : ℕ → Option LoadOp
+load_op funct3 =
+    if funct3 == 0 then Some Lb
+    else if funct3 == 1 then Some Lh
+    else if funct3 == 2 then Some Lw
+    else if funct3 == 4 then Some Lbu
+    else if funct3 == 5 then Some Lhu
+    else None
+
+abbrev pub store_op : ℕ → Option StoreOp
+store_op funct3 =
+    if funct3 == 0 then Some Sb
+    else if funct3 == 1 then Some Sh
+    else if funct3 == 2 then Some Sw
+    else None
+
+abbrev pub shift_left_op : ℕ → Option ImmOp
+shift_left_op funct7 = if funct7 == 0 then Some Slli else None
+
+abbrev pub shift_right_op : ℕ → Option ImmOp
+shift_right_op funct7 =
+    if funct7 == 0 then Some Srli
+    else if funct7 == 0x20 then Some Srai
+    else None
+
+-- the operation with an immediate, by funct3 and funct7; only shifts look at funct7
+abbrev pub imm_op : ℕ → ℕ → Option ImmOp
+imm_op funct3 funct7 =
+    if funct3 == 0 then Some Addi
+    else if funct3 == 1 then shift_left_op funct7
+    else if funct3 == 2 then Some Slti
+    else if funct3 == 3 then Some Sltiu
+    else if funct3 == 4 then Some Xori
+    else if funct3 == 5 then shift_right_op funct7
+    else if funct3 == 6 then Some Ori
+    else Some Andi
+
+abbrev pub imm_of : ImmOp → ℕ → ℤ
+imm_of Slli word = pos (rs2_of word)
+imm_of Srli word = pos (rs2_of word)
+imm_of Srai word = pos (rs2_of word)
+imm_of _ word = i_immediate word
+
+abbrev pub base_op : ℕ → RegOp
+base_op funct3 =
+    if funct3 == 0 then Add
+    else if funct3 == 1 then Sll
+    else if funct3 == 2 then Slt
+    else if funct3 == 3 then Sltu
+    else if funct3 == 4 then Xor
+    else if funct3 == 5 then Srl
+    else if funct3 == 6 then Or
+    else And
+
+abbrev pub product_op : ℕ → RegOp
+product_op funct3 =
+    if funct3 == 0 then Mul
+    else if funct3 == 1 then Mulh
+    else if funct3 == 2 then Mulhsu
+    else if funct3 == 3 then Mulhu
+    else if funct3 == 4 then Div
+    else if funct3 == 5 then Divu
+    else if funct3 == 6 then Rem
+    else Remu
+
+abbrev pub other_op : ℕ → Option RegOp
+other_op funct3 =
+    if funct3 == 0 then Some Sub
+    else if funct3 == 5 then Some Sra
+    else None
+
+abbrev pub reg_op : ℕ → ℕ → Option RegOp
+reg_op funct3 funct7 =
+    if funct7 == 0 then Some (base_op funct3)
+    else if funct7 == 1 then Some (product_op funct3)
+    else if funct7 == 0x20 then other_op funct3
+    else None
+
+-- ---- the instruction, for each opcode that has several
+
+abbrev pub decoded_jalr : ℕ → Option Instr
+decoded_jalr word =
+    if funct3_of word == 0 then Some (Jalr (rd_of word) (rs1_of word) (i_immediate word)) else None
+
+abbrev pub decoded_branch : ℕ → Option Instr
+decoded_branch word =
+    option_map (λ op. Branch op (rs1_of word) (rs2_of word) (b_offset word)) (branch_op (funct3_of word))
+
+abbrev pub decoded_load : ℕ → Option Instr
+decoded_load word =
+    option_map (λ op. Load op (rd_of word) (rs1_of word) (i_immediate word)) (load_op (funct3_of word))
+
+abbrev pub decoded_store : ℕ → Option Instr
+decoded_store word =
+    option_map (λ op. Store op (rs1_of word) (rs2_of word) (s_immediate word)) (store_op (funct3_of word))
+
+abbrev pub decoded_imm : ℕ → Option Instr
+decoded_imm word =
+    option_map (λ op. Imm op (rd_of word) (rs1_of word) (imm_of op word)) (imm_op (funct3_of word) (funct7_of word))
+
+abbrev pub decoded_reg : ℕ → Option Instr
+decoded_reg word =
+    option_map (λ op. Reg op (rd_of word) (rs1_of word) (rs2_of word)) (reg_op (funct3_of word) (funct7_of word))
+
+-- with rd, funct3 and rs1 zero, and the bits 31 to 28
+abbrev pub decoded_fence : ℕ → Option Instr
+decoded_fence word =
+    if word / 2 ^ 28 == 0 && word / 2 ^ 7 % 2 ^ 13 == 0 then Some (Fence (word / 2 ^ 20)) else None
+
+abbrev pub decoded_system : ℕ → Option Instr
+decoded_system word =
+    if word == 0x00000073 then Some Ecall else if word == 0x00100073 then Some Ebreak else None
+
+-- the instruction of a word below 2 ^ 32 with the opcode
+unfoldable pub by_opcode : ℕ → ℕ → Option Instr
+by_opcode opcode word =
+    if opcode == 0x37 then Some (Lui (rd_of word) (word / 2 ^ 12))
+    else if opcode == 0x17 then Some (Auipc (rd_of word) (word / 2 ^ 12))
+    else if opcode == 0x6F then Some (Jal (rd_of word) (j_offset word))
+    else if opcode == 0x67 then decoded_jalr word
+    else if opcode == 0x63 then decoded_branch word
+    else if opcode == 0x03 then decoded_load word
+    else if opcode == 0x23 then decoded_store word
+    else if opcode == 0x13 then decoded_imm word
+    else if opcode == 0x33 then decoded_reg word
+    else if opcode == 0x0F then decoded_fence word
+    else if opcode == 0x73 then decoded_system word
+    else None
+
+unfoldable pub decoded : ℕ → Option Instr
+decoded word = if nat_lt word (2 ^ 32) then by_opcode (word % 2 ^ 7) word else None

@@ -1,0 +1,20 @@
+//! The instructions of RV32IM (RISC-V unprivileged ISA manual, RV32I and "M"): which words they are, and what
+//! each does.
+//!
+//! `specs/Table.antt` has a row for each instruction, `specs/Effects.antt` what it does.
+#![tactic(auto)]
+
+mod codes;
+mod decoding;
+mod effects;
+mod encoding;
+mod instructions;
+mod ranges;
+mod registers;
+
+pub use decoding::decode;
+pub use effects::effect;
+pub use encoding::encode;
+pub use instructions::{BranchOp, ImmOp, Instr, LoadOp, RegOp, StoreOp};
+pub use ranges::in_range;
+pub use registers::{Outcome, Regs};
