@@ -1,9 +1,6 @@
-use Rattle.std.specs.Prelude.{ℕ, ◌+◌, ◌-◌, ◌^◌, min, List, Bool, cond, ◌==◌}
+use Rattle.std.specs.Prelude.{ℕ, List, Bool, cond, ◌==◌}
 use Rattle.std.specs.List.{list_any}
-
--- a count after one more, which stands still at its last value
-abbrev pub one_more : ℕ → ℕ
-one_more n = min (n + 1) (2 ^ 64 - 1)
+use Rattle.ckc_outside.specs.Outside.{one_more}
 
 -- whether the call after so many calls is listed
 abbrev pub is_listed : List ℕ → ℕ → Bool

@@ -1,6 +1,6 @@
 ghost use Rattle.std.specs.Prelude.{◌≡◌, ◌≢◌, ℕ, ◌≤◌, List, Option, Some, None, Bool, IsTrue, OnErr, IsErrOf};
 ghost use Rattle.std.specs.FinMap as map;
-ghost use Rattle.ckc_outside.specs.Outside.{Rose, Files, GivesNext, Puts, GivesFile, Keeps};
+ghost use Rattle.ckc_outside.specs.Outside.{Rose, one_more, Files, GivesNext, Puts, GivesFile, Keeps};
 
 use ckc_base::Bytes;
 use std::alloc::Global;
@@ -50,11 +50,15 @@ pub trait Sink {
     /// The bytes that were written, where they are told.
     ghost written: { Self → Option (List ℕ) };
 
+    /// How many pieces were put, those that failed too. The count stands still at 2^64 - 1.
+    ghost puts: { Self → ℕ };
+
     /// Writes a piece after what was written. A failure may leave a prefix of it there.
     fn put(&mut self, piece: &[u8]) -> Result<(), Failed>
         ensures counts { faults self.old ≤ faults self.new }
         ensures failed { OnErr result (Rose (faults self.old) (faults self.new)) }
-        ensures told { (bytes : List ℕ) → written self.old ≡ Some bytes → Puts bytes piece.now result (written self.new) };
+        ensures told { (bytes : List ℕ) → written self.old ≡ Some bytes → Puts bytes piece.now result (written self.new) }
+        ensures once { puts self.new ≡ one_more (puts self.old) };
 }
 
 /// A store of named files.

@@ -1,6 +1,6 @@
 ghost use Rattle.std.specs.Prelude.{◌≡◌, ◌≤◌, IsTrue};
-ghost use Rattle.ckc_outside.specs.Outside.{Rose};
-ghost use Rattle.ckc_outside.specs.Memory.{one_more, is_listed, counted};
+ghost use Rattle.ckc_outside.specs.Outside.{Rose, one_more};
+ghost use Rattle.ckc_outside.specs.Memory.{is_listed, counted};
 
 /// Which calls of an object fail, by their numbers from 1; how many calls and faults there were. Both counts stand
 /// still at their last value.

@@ -41,7 +41,7 @@ impl<'a> MemSink<'a> {
 
 impl<'a> Sink for MemSink<'a> {
     ghost use Rattle.std.specs.Prelude.{◌≡◌, ℕ, ◌+◌, ◌<◌, List, Option, Some, OnErr, is_err, ◌||◌, ◌++◌, if◌then◌else◌, take};
-    ghost use Rattle.ckc_outside.specs.Outside.{Rose, Puts};
+    ghost use Rattle.ckc_outside.specs.Outside.{Rose, one_more, Puts};
     ghost use Rattle.ckc_outside.specs.Memory.{is_listed, after_call};
     ghost use Rattle.ckc_outside.specs.MemSink.{written_of, room_of, plan_of, overflows};
 
@@ -49,10 +49,13 @@ impl<'a> Sink for MemSink<'a> {
 
     ghost written = { λ s. Some (written_of s) };
 
+    ghost puts = { λ s. (plan_of s).calls };
+
     fn put(&mut self, piece: &[u8]) -> Result<(), Failed>
         ensures counts { (plan_of self.old).faults ≤ (plan_of self.new).faults }
         ensures failed { OnErr result (Rose (plan_of self.old).faults (plan_of self.new).faults) }
         ensures told { (bytes : List ℕ) → Some (written_of self.old) ≡ Some bytes → Puts bytes piece.now result (Some (written_of self.new)) }
+        ensures once { (plan_of self.new).calls ≡ one_more (plan_of self.old).calls }
         // A call fails exactly where it is listed or the piece does not fit, and then the count of faults goes up
         // by one.
         ensures fails { is_err result ≡ (is_listed (plan_of self.old).listed (plan_of self.old).calls || overflows self.old piece.now) }

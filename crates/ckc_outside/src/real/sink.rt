@@ -7,13 +7,18 @@ use std::io::{ErrorKind, Write};
 #[derive(Drop)]
 pub struct RealSink<W> {
     writer: W,
+    calls: u64,
     faults: u64,
 }
 
 impl<W: Write + Drop> RealSink<W> {
     /// Into the writer.
     pub fn new(writer: W) -> RealSink<W> {
-        RealSink { writer, faults: 0 }
+        RealSink {
+            writer,
+            calls: 0,
+            faults: 0,
+        }
     }
 }
 
@@ -22,7 +27,10 @@ impl<W: Write> Sink for RealSink<W> {
 
     ghost written = { λ _. None };
 
+    ghost puts = { λ s. s.calls };
+
     fn put(&mut self, piece: &[u8]) -> Result<(), Failed> {
+        self.calls = self.calls.saturating_add(1);
         match write_whole(&mut self.writer, piece) {
             Ok(()) => Ok(()),
             Err(_) => {
