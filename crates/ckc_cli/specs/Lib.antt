@@ -1,1 +1,5 @@
 pub mod Report
+pub mod Words
+pub mod FirstForm
+pub mod Source
+pub mod Reading
