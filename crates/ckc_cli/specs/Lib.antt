@@ -3,3 +3,4 @@ pub mod Words
 pub mod FirstForm
 pub mod Source
 pub mod Reading
+pub mod Program

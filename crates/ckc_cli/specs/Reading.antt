@@ -1,6 +1,7 @@
 -- Reading a text of the first form from the left, as functions on lists. The form itself is in FirstForm.
-use Rattle.std.specs.Prelude.{ℕ, zero, suc, ◌+◌, ◌-◌, ◌*◌, ◌^◌, ◌==◌, ◌&&◌, ◌||◌, nat_lt, nat_le, nat_eq, not, Bool, cond, if◌then◌else◌, List, [], ◌∷◌, length, take, drop, slice_index, codes, Option, Some, None, option_and_then}
+use Rattle.std.specs.Prelude.{ℕ, zero, suc, ◌+◌, ◌-◌, ◌*◌, ◌^◌, ◌==◌, ◌&&◌, ◌||◌, nat_lt, nat_le, nat_eq, not, Bool, cond, if◌then◌else◌, List, [], ◌∷◌, ◌++◌, length, take, drop, slice_index, codes, Option, Some, None, option_and_then}
 use Rattle.std.specs.List.{starts_with}
+use Rattle.std.specs.Option.{option_map}
 use Rattle.ckc_cli.specs.FirstForm.{is_blank}
 
 -- what stands behind the blanks
@@ -46,21 +47,24 @@ numeral text = do
   n ← value_of (take (run (skip text)) (skip text))
   Some (n, drop (run (skip text)) (skip text))
 
--- the same of a spelling behind at least one blank
+-- what stands behind one blank
 unfoldable pub after_gap : List ℕ → Option (List ℕ)
 after_gap [] = None
 after_gap (c ∷ cs) = if is_blank c then Some cs else None
+
+-- what stands behind at least one blank and a spelling
+unfoldable pub after_apart : List ℕ → List ℕ → Option (List ℕ)
+after_apart spelling text = after_gap text >>= after spelling
 
 -- `int main(void) {`
 unfoldable pub after_head : List ℕ → Option (List ℕ)
 after_head text = do
   t ← after (codes "int") text
-  u ← after_gap t
-  v ← after (codes "main") u
-  w ← after (codes "(") v
-  x ← after (codes "void") w
-  y ← after (codes ")") x
-  after (codes "{") y
+  u ← after_apart (codes "main") t
+  v ← after (codes "(") u
+  w ← after (codes "void") v
+  x ← after (codes ")") w
+  after (codes "{") x
 
 -- `(n);`
 unfoldable pub argument : List ℕ → Option (ℕ × List ℕ)
@@ -80,3 +84,27 @@ ending text = do
   v ← after (codes ";") n.1
   w ← after (codes "}") v
   if length (skip w) == 0 then Some n.0 else None
+
+-- the numbers of so many times `putchar(n);` at most, and what follows
+abbrev pub put_or_stop : (List ℕ → Option (List ℕ × List ℕ)) → List ℕ → Option (List ℕ) → Option (List ℕ × List ℕ)
+put_or_stop go text None = Some ([], text)
+put_or_stop go text (Some t) = do
+  n ← argument t
+  rest ← go n.1
+  Some (n.0 ∷ rest.0, rest.1)
+
+unfoldable pub puts_at : ℕ → List ℕ → Option (List ℕ × List ℕ)
+puts_at zero text = Some ([], text)
+puts_at (suc count) text = put_or_stop (puts_at count) text (after (codes "putchar") text)
+
+-- the same with numbers in front
+abbrev pub with_front : List ℕ → Option (List ℕ × List ℕ) → Option (List ℕ × List ℕ)
+with_front front o = option_map (λ (x : List ℕ × List ℕ). (front ++ x.0, x.1)) o
+
+-- the numbers that a text puts, and the value that it returns
+unfoldable pub form_of : List ℕ → Option (List ℕ × ℕ)
+form_of text = do
+  t ← after_head text
+  puts ← puts_at 300 t
+  value ← ending puts.1
+  Some (puts.0, value)

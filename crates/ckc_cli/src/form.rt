@@ -1,8 +1,11 @@
-//! Reading a text of the first form.
-ghost use Rattle.std.specs.Prelude.{◌≡◌, ◌+◌, ◌≤◌, length, take, drop, Some, None};
+//! Reading a text of the first form: one function main that puts some bytes and returns.
+ghost use Rattle.std.specs.Prelude.{◌≡◌, ℕ, ◌+◌, ◌≤◌, List, length, take, drop, Some, None, IfOk, MatchOption};
 ghost use Rattle.std.specs.Option.{option_copied, option_map};
-ghost use Rattle.ckc_cli.specs.FirstForm.{is_blank};
-ghost use Rattle.ckc_cli.specs.Reading.{skip, after, after_gap, is_digit, run, read_on, is_plain, small_value, value_of, numeral, after_head, argument, ending};
+ghost use Rattle.ckc_cli.specs.FirstForm.{is_blank, IsForm};
+ghost use Rattle.ckc_cli.specs.Reading.{skip, after, after_gap, after_apart, is_digit, run, read_on, is_plain, small_value, value_of, numeral, after_head, argument, ending, puts_at, form_of};
+ghost use Rattle.ckc_cli.specs.Program.{numbers_of};
+
+use std::alloc::{AllocError, Global};
 
 fn is_blank(c: u8) -> bool
     ensures { result ≡ is_blank c }
@@ -52,6 +55,15 @@ fn after_gap(text: &[u8]) -> Option<&[u8]>
             }
         }
     }
+}
+
+/// What stands behind at least one blank and a spelling.
+#[tactic(auto, unfolding(crate::specs::Reading::after_apart))]
+fn after_apart<'a>(spelling: &[u8], text: &'a [u8]) -> Option<&'a [u8]>
+    ensures { option_copied result ≡ after_apart spelling.now text.now }
+{
+    let rest = after_gap(text)?;
+    after(spelling, rest)
 }
 
 fn is_digit(c: u8) -> bool
@@ -130,8 +142,7 @@ fn after_head(text: &[u8]) -> Option<&[u8]>
     ensures { option_copied result ≡ after_head text.now }
 {
     let rest = after(b"int", text)?;
-    let rest = after_gap(rest)?;
-    let rest = after(b"main", rest)?;
+    let rest = after_apart(b"main", rest)?;
     let rest = after(b"(", rest)?;
     let rest = after(b"void", rest)?;
     let rest = after(b")", rest)?;
@@ -165,4 +176,61 @@ fn ending(text: &[u8]) -> Option<u32>
     } else {
         None
     }
+}
+
+/// The most calls of `putchar` that a text may have.
+const MOST_PUTS: usize = 300;
+
+/// The numbers of a text of the first form.
+#[derive(Debug, Drop)]
+pub struct Program {
+    pub puts: Vec<u32>,
+    pub value: u32,
+}
+
+/// The numbers of `putchar(n);` as often as it stands there, but at most so often, and what follows.
+fn puts_at(
+    alloc: Global,
+    text: &[u8],
+    most: usize,
+) -> Result<Option<(Vec<u32>, &[u8])>, AllocError>
+    ensures { IfOk result (λ r. option_map (λ x. (x.0.items, x.1.now)) r ≡ puts_at most text.now) }
+{
+    let mut puts = Vec::new(alloc);
+    let mut rest = text;
+    for _turn in 0..most {
+        let Some(open) = after(b"putchar", rest) else {
+            return Ok(Some((puts, rest)));
+        };
+        let Some((value, next)) = argument(open) else {
+            return Ok(None);
+        };
+        puts.push(value)?;
+        rest = next;
+    }
+    Ok(Some((puts, rest)))
+}
+
+/// The numbers of a text, where it has the first form.
+pub fn program_of(alloc: Global, text: &[u8]) -> Result<Option<Program>, AllocError>
+    ensures form { IfOk result (λ r. MatchOption r ((puts : List ℕ) (value : ℕ) → ¬ IsForm text.now puts value)
+        (λ p. IsForm text.now p.puts.items p.value)) }
+{
+    read_program(alloc, text)
+}
+
+#[tactic(auto, unfolding(crate::specs::Reading::form_of))]
+fn read_program(alloc: Global, text: &[u8]) -> Result<Option<Program>, AllocError>
+    ensures { IfOk result (λ r. option_map numbers_of r ≡ form_of text.now) }
+{
+    let Some(rest) = after_head(text) else {
+        return Ok(None);
+    };
+    let Some((puts, rest)) = puts_at(alloc, rest, MOST_PUTS)? else {
+        return Ok(None);
+    };
+    let Some(value) = ending(rest) else {
+        return Ok(None);
+    };
+    Ok(Some(Program { puts, value }))
 }
