@@ -4,3 +4,4 @@ pub mod FirstForm
 pub mod Source
 pub mod Reading
 pub mod Program
+pub mod Compiled
