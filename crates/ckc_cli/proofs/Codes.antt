@@ -95,3 +95,13 @@ step_at parts s front back i code range small memory pc =
     let is : decoded (row_word i) ≡ Some i = (decoded_law (row_word i) i).1 (range, refl) in
     ap (λ b. cond b (executes s (option_and_then decoded (loaded s.memory 4 s.pc))) (faults 0 s)) in_it
     ∙ ap (λ o. executes s (option_and_then decoded o)) word ∙ ap (executes s) is
+
+-- the word at an address of the code
+pub word_in_code : (parts : Parts) (code : List ℕ) (pc at : ℕ) → parts.code ≡ code → pc ≡ code_start + at → at + 3 < length code
+    → loaded (flat parts) 4 pc ≡ Some (from_le_bytes w32 (get_or code at 0 ∷ get_or code (at + 1) 0 ∷ get_or code (at + 2) 0 ∷ get_or code (at + 3) 0 ∷ []))
+word_in_code parts code pc at e p h =
+    let byte : (a r : ℕ) → a ≡ code_start + (at + r) → r < 4 → flat parts a ≡ Some (get_or code (at + r) 0) = λ a r q l.
+      code_at_sum parts a (at + r) q (omega (arith, ap length e)) ∙ ap (λ (c : List ℕ). Some (get_or c (at + r) 0)) e in
+    let b0 : flat parts pc ≡ Some (get_or code at 0) = (let z : at ≡ at + 0 = omega arith in code_at_sum parts pc at p (omega (arith, ap length e)) ∙ ap (λ (c : List ℕ). Some (get_or c at 0)) e) in
+    loaded_four (flat parts) pc _ _ _ _ b0 (byte (pc + 1) 1 (omega arith) (omega arith)) (byte (pc + 1 + 1) 2 (omega arith) (omega arith)) (byte (pc + 1 + 1 + 1) 3 (omega arith) (omega arith))
+    ∙ ap Some (omega arith)

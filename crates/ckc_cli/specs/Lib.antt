@@ -5,3 +5,5 @@ pub mod Source
 pub mod Reading
 pub mod Program
 pub mod Compiled
+pub mod Running
+pub mod Cpu

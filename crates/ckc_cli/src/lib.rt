@@ -4,6 +4,7 @@
 mod compiler;
 mod form;
 mod line;
+mod machine;
 mod report;
 mod status;
 mod words;
