@@ -1,5 +1,5 @@
 -- The code of an accepted text follows its meaning.
-use Rattle.std.proofs.Common.{◌≡◌, ◌≢◌, ◌⊎◌, inl, inr, ℕ, zero, suc, ◌+◌, ◌-◌, ◌*◌, ◌/◌, ◌%◌, ◌≤◌, ◌<◌, ◌^◌, Bool, true, false, cond, nat_lt, ◌==◌, List, [], ◌∷◌, ◌++◌, length, get_or, refl, sym, ap, subst, ◌∙◌, arith, append_assoc, length-append, ℤ, pos, ◌-ℤ◌}
+use Rattle.std.proofs.Common.{◌≡◌, ◌≢◌, ◌⊎◌, inl, inr, ℕ, zero, suc, ◌+◌, ◌-◌, ◌*◌, ◌/◌, ◌%◌, ◌≤◌, ◌<◌, ◌^◌, Bool, true, false, cond, nat_lt, ◌==◌, List, [], ◌∷◌, ◌++◌, length, get_or, refl, sym, ap, subst, ◌∙◌, arith, append_assoc, length-append, map, ℤ, pos, ◌-ℤ◌}
 use Rattle.std.specs.Prelude.{slice_set, replicate}
 use Rattle.std.specs.List.{flat_map}
 use Rattle.std.proofs.lemmas.Bool.Decides.{nat_tests}
@@ -20,7 +20,8 @@ use Rattle.ckc_rv.specs.Machine.{Parts, State, Memory, flat, code_start, machine
 use Rattle.ckc_cli.specs.FirstForm.{AllSmall}
 use Rattle.ckc_cli.specs.Source.{source, source_system, source_step, Agrees, AreBytes}
 use Rattle.ckc_cli.specs.Compiled.{put_code, end_code, instructions, code_of, parts_of, upper, lower}
-use Rattle.ckc_cli.proofs.Codes.{step_at, length-code_of}
+use Rattle.ckc_cli.specs.Running.{IsPlain, AtPlain, Path, by_quiet, by_put, by_end, Runs, code_parts}
+use Rattle.ckc_cli.proofs.Codes.{step_at, plain_at}
 
 -- The machine is about to run these instructions, and then those after them; the rest of its state is as the code
 -- leaves it.
@@ -77,12 +78,21 @@ ready_skip parts i left s d = record {
 steps_at : (parts : Parts) (s : State) (i : Instr) (left : List Instr) → Ready parts (i ∷ left) s → InRange i → row_word i < 2 ^ 32 → machine_step parts s ≡ by_outcome s (effect_of i s.pc s.x)
 steps_at parts s i left d range small = step_at parts s d.front left i d.code range small d.memory d.pc
 
+ready_plain : (parts : Parts) (s : State) (i : Instr) (left : List Instr) → Ready parts (i ∷ left) s → InRange i → row_word i < 2 ^ 32 → IsPlain i s.x → AtPlain parts s
+ready_plain parts s i left d range small plain = plain_at parts s d.front left i d.code range small d.memory d.pc plain
+
+small_range : (r n : ℕ) → r < 32 → n < 256 → InRange (Imm Addi r 0 (pos n))
+small_range r n h small = (h, omega arith, (omega (arith, ints), omega (arith, ints)))
+
+small_word : (r n : ℕ) → r < 32 → n < 256 → row_word (Imm Addi r 0 (pos n)) < 2 ^ 32
+small_word r n h small = omega (arith, ints)
+
 -- ADDI of a small number to x0
 set_small : (parts : Parts) (s : State) (left : List Instr) (r n : ℕ) → 0 < r → r < 32 → n < 256 → Ready parts (Imm Addi r 0 (pos n) ∷ left) s → machine_step parts s ≡ Goes [] (set_reg s r n)
 set_small parts s left r n h h32 small d =
     let value : (get_or s.x 0 0 + word_of (pos n)) % 2 ^ 32 ≡ n = omega (arith, ints, d.zero_is) in
     let test : (r == 0) ≡ false = grind (arith, nat_tests) in
-    steps_at parts s (Imm Addi r 0 (pos n)) left d (h32, omega arith, (omega (arith, ints), omega (arith, ints))) (omega (arith, ints))
+    steps_at parts s (Imm Addi r 0 (pos n)) left d (small_range r n h32 small) (small_word r n h32 small)
     ∙ ap (λ (b : Bool). Goes [] (record s { x = cond b s.x (slice_set s.x r ((get_or s.x 0 0 + word_of (pos n)) % 2 ^ 32)); pc = following s.pc })) test
     ∙ ap (λ v. Goes [] (set_reg s r v)) value
 
@@ -135,50 +145,108 @@ mod_small n = omega arith
 got : (x : List ℕ) (r v : ℕ) → length x ≡ 32 → r < 32 → get_or (slice_set x r v) r 0 ≡ v
 got x r v e h = get_or-set_same x r v 0 (omega arith)
 
+-- the states after each instruction of `putchar(n);` and of `return n;`
+abbrev put_1 : State → ℕ → State
+put_1 s n = set_reg s 10 (n % 256)
+
+abbrev put_2 : State → ℕ → State
+put_2 s n = set_reg (put_1 s n) 17 1
+
+abbrev put_3 : State → ℕ → State
+put_3 s n = skip_on (put_2 s n)
+
+record Putting (parts : Parts) (left : List Instr) (n : ℕ) (s : State) : Type 0 where
+  e0 : machine_step parts s ≡ Goes [] (put_1 s n)
+  e1 : machine_step parts (put_1 s n) ≡ Goes [] (put_2 s n)
+  e2 : machine_step parts (put_2 s n) ≡ Goes (Put (n % 256) ∷ []) (put_3 s n)
+  p0 : AtPlain parts s
+  p1 : AtPlain parts (put_1 s n)
+  p2 : AtPlain parts (put_2 s n)
+  next : Ready parts left (put_3 s n)
+
+putting : (parts : Parts) (s : State) (left : List Instr) (n : ℕ) → Ready parts (put_code n ++ left) s → Putting parts left n s
+putting parts s left n d =
+    let b = n % 256 in
+    let i0 = Imm Addi 10 0 (pos b) in
+    let i1 = Imm Addi 17 0 (pos 1) in
+    let rest1 = i1 ∷ Ecall ∷ left in
+    let d1 = ready_next parts i0 rest1 s 10 b (omega arith) d in
+    let d2 = ready_next parts i1 (Ecall ∷ left) (put_1 s n) 17 1 (omega arith) d1 in
+    let x10 : get_or (put_2 s n).x 10 0 ≡ b = get_or-set_other (put_1 s n).x 17 10 1 0 (omega arith) ∙ got s.x 10 b d.regs (omega arith) in
+    let x17 : get_or (put_2 s n).x 17 0 ≡ 1 = got (put_1 s n).x 17 1 d1.regs (omega arith) in
+    record {
+      e0 = set_small parts s rest1 10 b (omega arith) (omega arith) (mod_small n) d;
+      e1 = set_small parts (put_1 s n) (Ecall ∷ left) 17 1 (omega arith) (omega arith) (omega arith) d1;
+      e2 = puts_byte parts (put_2 s n) left b x10 (mod_small n) x17 d2;
+      p0 = ready_plain parts s i0 rest1 d (small_range 10 b (omega arith) (mod_small n)) (small_word 10 b (omega arith) (mod_small n)) tt;
+      p1 = ready_plain parts (put_1 s n) i1 (Ecall ∷ left) d1 (small_range 17 1 (omega arith) (omega arith)) (small_word 17 1 (omega arith) (omega arith)) tt;
+      p2 = ready_plain parts (put_2 s n) Ecall left d2 tt (omega arith) (inr x17);
+      next = ready_skip parts Ecall left (put_2 s n) d2;
+    }
+
+abbrev end_1 : State → ℕ → State
+end_1 s n = set_reg s 10 (upper n * 2 ^ 12)
+
+abbrev end_2 : State → ℕ → State
+end_2 s n = set_reg (end_1 s n) 10 n
+
+abbrev end_3 : State → ℕ → State
+end_3 s n = set_reg (end_2 s n) 17 0
+
+record Ending (parts : Parts) (n : ℕ) (s : State) : Type 0 where
+  e0 : machine_step parts s ≡ Goes [] (end_1 s n)
+  e1 : machine_step parts (end_1 s n) ≡ Goes [] (end_2 s n)
+  e2 : machine_step parts (end_2 s n) ≡ Goes [] (end_3 s n)
+  e3 : machine_step parts (end_3 s n) ≡ Halts [] (Ended n)
+  p0 : AtPlain parts s
+  p1 : AtPlain parts (end_1 s n)
+  p2 : AtPlain parts (end_2 s n)
+  p3 : AtPlain parts (end_3 s n)
+
+ending : (parts : Parts) (s : State) (n : ℕ) → n < 2 ^ 31 → Ready parts (end_code n) s → Ending parts n s
+ending parts s n h d =
+    let u = upper n in
+    let i1 = Imm Addi 10 10 (lower n) in
+    let i2 = Imm Addi 17 0 (pos 0) in
+    let rest2 = i2 ∷ Ecall ∷ [] in
+    let rest1 = i1 ∷ rest2 in
+    let fits : u < 2 ^ 20 = omega arith in
+    let d1 = ready_next parts (Lui 10 u) rest1 s 10 (u * 2 ^ 12) (omega arith) d in
+    let d2 = ready_next parts i1 rest2 (end_1 s n) 10 n (omega arith) d1 in
+    let d3 = ready_next parts i2 (Ecall ∷ []) (end_2 s n) 17 0 (omega arith) d2 in
+    let x10 : get_or (end_3 s n).x 10 0 ≡ n = get_or-set_other (end_2 s n).x 17 10 0 0 (omega arith) ∙ got (end_1 s n).x 10 n d1.regs (omega arith) in
+    let x17 : get_or (end_3 s n).x 17 0 ≡ 0 = got (end_2 s n).x 17 0 d2.regs (omega arith) in
+    record {
+      e0 = set_upper parts s rest1 u fits d;
+      e1 = add_lower parts (end_1 s n) rest2 n h (got s.x 10 (u * 2 ^ 12) d.regs (omega arith)) d1;
+      e2 = set_small parts (end_2 s n) (Ecall ∷ []) 17 0 (omega arith) (omega arith) (omega arith) d2;
+      e3 = ends_with parts (end_3 s n) [] n x10 x17 d3;
+      p0 = ready_plain parts s (Lui 10 u) rest1 d (omega arith, fits) (omega arith) tt;
+      p1 = ready_plain parts (end_1 s n) i1 rest2 d1 (lower_fits n) (omega (arith, ints)) tt;
+      p2 = ready_plain parts (end_2 s n) i2 (Ecall ∷ []) d2 (small_range 17 0 (omega arith) (omega arith)) (small_word 17 0 (omega arith) (omega arith)) tt;
+      p3 = ready_plain parts (end_3 s n) Ecall [] d3 tt (omega arith) (inl x17);
+    }
+
 -- `putchar(n);` in three instructions
 puts_in_three : (parts : Parts) (s : State) (left : List Instr) (n : ℕ) → Ready parts (put_code n ++ left) s
     → (u : State) × Stretch (machine_system parts) 3 (Put (n % 256) ∷ []) s u × Ready parts left u
 puts_in_three parts s left n d =
     let m = machine_system parts in
-    let b = n % 256 in
-    let s1 = set_reg s 10 b in
-    let s2 = set_reg s1 17 1 in
-    let s3 = skip_on s2 in
-    let rest1 = Imm Addi 17 0 (pos 1) ∷ Ecall ∷ left in
-    let e0 = set_small parts s rest1 10 b (omega arith) (omega arith) (mod_small n) d in
-    let d1 = ready_next parts (Imm Addi 10 0 (pos b)) rest1 s 10 b (omega arith) d in
-    let e1 = set_small parts s1 (Ecall ∷ left) 17 1 (omega arith) (omega arith) (omega arith) d1 in
-    let d2 = ready_next parts (Imm Addi 17 0 (pos 1)) (Ecall ∷ left) s1 17 1 (omega arith) d1 in
-    let x10 : get_or s2.x 10 0 ≡ b = get_or-set_other s1.x 17 10 1 0 (omega arith) ∙ got s.x 10 b d.regs (omega arith) in
-    let x17 : get_or s2.x 17 0 ≡ 1 = got s1.x 17 1 d1.regs (omega arith) in
-    let e2 = puts_byte parts s2 left b x10 (mod_small n) x17 d2 in
-    (s3,
-      then_stretch m 1 2 [] (Put b ∷ []) s s1 s3 (one_step m [] s s1 e0)
-        (then_stretch m 1 1 [] (Put b ∷ []) s1 s2 s3 (one_step m [] s1 s2 e1) (one_step m (Put b ∷ []) s2 s3 e2)),
-      ready_skip parts Ecall left s2 d2)
+    let p = putting parts s left n d in
+    let put = Put (n % 256) ∷ [] in
+    (put_3 s n,
+      then_stretch m 1 2 [] put s (put_1 s n) (put_3 s n) (one_step m [] s (put_1 s n) p.e0)
+        (then_stretch m 1 1 [] put (put_1 s n) (put_2 s n) (put_3 s n) (one_step m [] (put_1 s n) (put_2 s n) p.e1) (one_step m put (put_2 s n) (put_3 s n) p.e2)),
+      p.next)
 
 -- `return n;` in four instructions
 ends_in_four : (parts : Parts) (s : State) (n : ℕ) → n < 2 ^ 31 → Ready parts (end_code n) s → Closes (machine_system parts) 4 [] s (Ended n)
 ends_in_four parts s n h d =
     let m = machine_system parts in
-    let u = upper n in
-    let s1 = set_reg s 10 (u * 2 ^ 12) in
-    let s2 = set_reg s1 10 n in
-    let s3 = set_reg s2 17 0 in
-    let rest2 = Imm Addi 17 0 (pos 0) ∷ Ecall ∷ [] in
-    let rest1 = Imm Addi 10 10 (lower n) ∷ rest2 in
-    let e0 = set_upper parts s rest1 u (omega arith) d in
-    let d1 = ready_next parts (Lui 10 u) rest1 s 10 (u * 2 ^ 12) (omega arith) d in
-    let e1 = add_lower parts s1 rest2 n h (got s.x 10 (u * 2 ^ 12) d.regs (omega arith)) d1 in
-    let d2 = ready_next parts (Imm Addi 10 10 (lower n)) rest2 s1 10 n (omega arith) d1 in
-    let e2 = set_small parts s2 (Ecall ∷ []) 17 0 (omega arith) (omega arith) (omega arith) d2 in
-    let d3 = ready_next parts (Imm Addi 17 0 (pos 0)) (Ecall ∷ []) s2 17 0 (omega arith) d2 in
-    let x10 : get_or s3.x 10 0 ≡ n = get_or-set_other s2.x 17 10 0 0 (omega arith) ∙ got s1.x 10 n d1.regs (omega arith) in
-    let x17 : get_or s3.x 17 0 ≡ 0 = got s2.x 17 0 d2.regs (omega arith) in
-    let e3 = ends_with parts s3 [] n x10 x17 d3 in
-    then_closes m 1 3 [] [] s s1 (Ended n) (one_step m [] s s1 e0)
-      (then_closes m 1 2 [] [] s1 s2 (Ended n) (one_step m [] s1 s2 e1)
-        (then_closes m 1 1 [] [] s2 s3 (Ended n) (one_step m [] s2 s3 e2) (one_halt m [] s3 (Ended n) e3)))
+    let p = ending parts s n h d in
+    then_closes m 1 3 [] [] s (end_1 s n) (Ended n) (one_step m [] s (end_1 s n) p.e0)
+      (then_closes m 1 2 [] [] (end_1 s n) (end_2 s n) (Ended n) (one_step m [] (end_1 s n) (end_2 s n) p.e1)
+        (then_closes m 1 1 [] [] (end_2 s n) (end_3 s n) (Ended n) (one_step m [] (end_2 s n) (end_3 s n) p.e2) (one_halt m [] (end_3 s n) (Ended n) p.e3)))
 
 -- ---- texts
 
@@ -213,3 +281,21 @@ pub follows_in_four : (puts : List ℕ) (value : ℕ) (input : List ℕ) → len
 follows_in_four puts value input few h =
     follows_by_steps (source_system value) (machine_system (parts_of puts value)) (At (parts_of puts value) value) (λ _. 0) 4
       (matches (parts_of puts value) value h) puts (first_state (parts_of puts value) input) (first_ready puts value input few)
+
+-- the machine over the code puts the low bytes of the numbers and ends with the value, all by plain instructions
+path_from : (parts : Parts) (value : ℕ) → value < 2 ^ 31 → (left : List ℕ) (s : State) → At parts value left s
+    → (n : ℕ) × (n ≡ 3 * length left + 4) × Path parts value n (map (λ b. b % 256) left) s
+path_from parts value h [] s d =
+    let p = ending parts s value h d in
+    (4, refl, by_quiet 3 [] s (end_1 s value) p.p0 p.e0 (by_quiet 2 [] (end_1 s value) (end_2 s value) p.p1 p.e1 (by_quiet 1 [] (end_2 s value) (end_3 s value) p.p2 p.e2 (by_end (end_3 s value) p.p3 p.e3))))
+path_from parts value h (b ∷ left) s d =
+    let p = putting parts s (instructions left value) b d in
+    let r = path_from parts value h left (put_3 s b) p.next in
+    let bytes = map (λ b. b % 256) left in
+    (suc (suc (suc r.0)), omega (arith, r.1),
+      by_quiet (suc (suc r.0)) (b % 256 ∷ bytes) s (put_1 s b) p.p0 p.e0 (by_quiet (suc r.0) (b % 256 ∷ bytes) (put_1 s b) (put_2 s b) p.p1 p.e1 (by_put r.0 (b % 256) bytes (put_2 s b) (put_3 s b) p.p2 p.e2 r.2)))
+
+pub runs_code : (puts : List ℕ) (value : ℕ) → length puts ≤ 300 → value < 2 ^ 31 → Runs (code_of (instructions puts value)) 1000000000 (map (λ b. b % 256) puts) value
+runs_code puts value few h =
+    let p = path_from (parts_of puts value) value h puts (first_state (parts_of puts value) []) (first_ready puts value [] few) in
+    (p.0, omega (arith, p.1), p.2)

@@ -16,6 +16,7 @@ use Rattle.ckc_rv.specs.Decoded.{decoded}
 use Rattle.ckc_rv.specs.Effects.{effect_of}
 use Rattle.ckc_rv.specs.Machine.{Parts, State, Memory, flat, loaded, is_code, code_start, data_start, machine_step, executes, by_outcome, faults}
 use Rattle.ckc_rv.proofs.Rows.{decoded_law}
+use Rattle.ckc_cli.specs.Running.{IsPlain, AtPlain}
 use Rattle.ckc_cli.specs.Compiled.{put_code, end_code, instructions, instruction_bytes, code_of}
 
 -- what several numbers' code spells is the code of all of them
@@ -105,3 +106,15 @@ word_in_code parts code pc at e p h =
     let b0 : flat parts pc ≡ Some (get_or code at 0) = (let z : at ≡ at + 0 = omega arith in code_at_sum parts pc at p (omega (arith, ap length e)) ∙ ap (λ (c : List ℕ). Some (get_or c at 0)) e) in
     loaded_four (flat parts) pc _ _ _ _ b0 (byte (pc + 1) 1 (omega arith) (omega arith)) (byte (pc + 1 + 1) 2 (omega arith) (omega arith)) (byte (pc + 1 + 1 + 1) 3 (omega arith) (omega arith))
     ∙ ap Some (omega arith)
+
+-- a plain instruction behind others stands at the pc
+pub plain_at : (parts : Parts) (s : State) (front back : List Instr) (i : Instr) → parts.code ≡ code_of (front ++ i ∷ back) → InRange i → row_word i < 2 ^ 32
+    → s.memory ≡ flat parts → s.pc ≡ code_start + 4 * length front → IsPlain i s.x → AtPlain parts s
+plain_at parts s front back i code range small memory pc plain = record {
+  in_code = ap (is_code parts) pc ∙ in_code parts front back i code;
+  instruction = i;
+  fetched =
+    ap (λ m. option_and_then decoded (loaded m 4 s.pc)) memory ∙ ap (λ a. option_and_then decoded (loaded (flat parts) 4 a)) pc
+    ∙ ap (option_and_then decoded) (fetched parts front back i code small) ∙ (decoded_law (row_word i) i).1 (range, refl);
+  plain = plain;
+}

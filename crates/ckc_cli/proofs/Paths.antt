@@ -6,17 +6,17 @@ use Rattle.ckc_base.specs.Traces.{Event, Put, Standing, Ended}
 use Rattle.ckc_base.specs.Steps.{Move, Goes, Halts}
 use Rattle.ckc_outside.specs.Outside.{Rose}
 use Rattle.ckc_rv.specs.Machine.{Parts, State, machine_step}
-use Rattle.ckc_cli.specs.Running.{AtPlain, Path, quiet, puts, ends}
+use Rattle.ckc_cli.specs.Running.{AtPlain, Path, by_quiet, by_put, by_end}
 
 pub path_plain : (parts : Parts) (value n : ℕ) (bytes : List ℕ) (s : State) → Path parts value n bytes s → AtPlain parts s
-path_plain parts value _ bytes _ (quiet n _ s u at e p) = at
-path_plain parts value _ _ _ (puts n b bytes s u at e p) = at
-path_plain parts value _ _ _ (ends s at e) = at
+path_plain parts value _ bytes _ (by_quiet n _ s u at e p) = at
+path_plain parts value _ _ _ (by_put n b bytes s u at e p) = at
+path_plain parts value _ _ _ (by_end s at e) = at
 
 pub path_positive : (parts : Parts) (value n : ℕ) (bytes : List ℕ) (s : State) → Path parts value n bytes s → 0 < n
-path_positive parts value _ _ _ (quiet n bytes s u at e p) = omega arith
-path_positive parts value _ _ _ (puts n b bytes s u at e p) = omega arith
-path_positive parts value _ _ _ (ends s at e) = omega arith
+path_positive parts value _ _ _ (by_quiet n bytes s u at e p) = omega arith
+path_positive parts value _ _ _ (by_put n b bytes s u at e p) = omega arith
+path_positive parts value _ _ _ (by_end s at e) = omega arith
 
 abbrev pub AfterQuiet : Parts → ℕ → ℕ → List ℕ → State → Type 0
 AfterQuiet parts value n bytes u = (m : ℕ) × (n ≡ suc m) × Path parts value m bytes u
@@ -25,27 +25,27 @@ goes_inj : (s u : State) (es fs : List Event) → ◌≡◌ {A = Move Event Stat
 goes_inj s u es fs e = (cc, cc)
 
 pub path_quiet : (parts : Parts) (value n : ℕ) (bytes : List ℕ) (s u : State) → Path parts value n bytes s → machine_step parts s ≡ Goes [] u → AfterQuiet parts value n bytes u
-path_quiet parts value _ _ _ u (quiet n bytes s t at e p) h =
+path_quiet parts value _ _ _ u (by_quiet n bytes s t at e p) h =
     let same = goes_inj t u [] [] (sym e ∙ h) in
     (n, refl, subst (λ (v : State). Path parts value n bytes v) same.1 p)
-path_quiet parts value _ _ _ u (puts n b bytes s t at e p) h = absurd (let same = goes_inj t u (Put b ∷ []) [] (sym e ∙ h) in let q : Put b ∷ [] ≡ [] = same.0 in cc)
-path_quiet parts value _ _ _ u (ends s at e) h = absurd (let q : Halts [] (Ended value) ≡ Goes [] u = sym e ∙ h in cc)
+path_quiet parts value _ _ _ u (by_put n b bytes s t at e p) h = absurd (let same = goes_inj t u (Put b ∷ []) [] (sym e ∙ h) in let q : Put b ∷ [] ≡ [] = same.0 in cc)
+path_quiet parts value _ _ _ u (by_end s at e) h = absurd (let q : Halts [] (Ended value) ≡ Goes [] u = sym e ∙ h in cc)
 
 abbrev pub AfterPut : Parts → ℕ → ℕ → ℕ → List ℕ → State → Type 0
 AfterPut parts value n b bytes u = (m : ℕ) × (rest : List ℕ) × (n ≡ suc m) × (bytes ≡ b ∷ rest) × Path parts value m rest u
 
 pub path_puts : (parts : Parts) (value n b : ℕ) (bytes : List ℕ) (s u : State) → Path parts value n bytes s → machine_step parts s ≡ Goes (Put b ∷ []) u → AfterPut parts value n b bytes u
-path_puts parts value _ b _ _ u (quiet n bytes s t at e p) h = absurd (let same = goes_inj t u [] (Put b ∷ []) (sym e ∙ h) in let q : [] ≡ Put b ∷ [] = same.0 in cc)
-path_puts parts value _ b _ _ u (puts n d bytes s t at e p) h =
+path_puts parts value _ b _ _ u (by_quiet n bytes s t at e p) h = absurd (let same = goes_inj t u [] (Put b ∷ []) (sym e ∙ h) in let q : [] ≡ Put b ∷ [] = same.0 in cc)
+path_puts parts value _ b _ _ u (by_put n d bytes s t at e p) h =
     let same = goes_inj t u (Put d ∷ []) (Put b ∷ []) (sym e ∙ h) in
     let byte : d ≡ b = (let q : Put d ∷ [] ≡ Put b ∷ [] = same.0 in cc) in
     (n, bytes, refl, ap (λ x. x ∷ bytes) byte, subst (λ (v : State). Path parts value n bytes v) same.1 p)
-path_puts parts value _ b _ _ u (ends s at e) h = absurd (let q : Halts [] (Ended value) ≡ Goes (Put b ∷ []) u = sym e ∙ h in cc)
+path_puts parts value _ b _ _ u (by_end s at e) h = absurd (let q : Halts [] (Ended value) ≡ Goes (Put b ∷ []) u = sym e ∙ h in cc)
 
 pub path_ends : (parts : Parts) (value n v : ℕ) (bytes : List ℕ) (s : State) → Path parts value n bytes s → machine_step parts s ≡ Halts [] (Ended v) → (bytes ≡ []) × (v ≡ value)
-path_ends parts value _ v _ _ (quiet n bytes s t at e p) h = absurd (let q : Goes [] t ≡ Halts [] (Ended v) = sym e ∙ h in cc)
-path_ends parts value _ v _ _ (puts n b bytes s t at e p) h = absurd (let q : Goes (Put b ∷ []) t ≡ Halts [] (Ended v) = sym e ∙ h in cc)
-path_ends parts value _ v _ _ (ends s at e) h = (refl, (let q : Halts [] (Ended value) ≡ Halts [] (Ended v) = sym e ∙ h in cc))
+path_ends parts value _ v _ _ (by_quiet n bytes s t at e p) h = absurd (let q : Goes [] t ≡ Halts [] (Ended v) = sym e ∙ h in cc)
+path_ends parts value _ v _ _ (by_put n b bytes s t at e p) h = absurd (let q : Goes (Put b ∷ []) t ≡ Halts [] (Ended v) = sym e ∙ h in cc)
+path_ends parts value _ v _ _ (by_end s at e) h = (refl, (let q : Halts [] (Ended value) ≡ Halts [] (Ended v) = sym e ∙ h in cc))
 
 pub rose_later : (a b c : ℕ) → a ≤ b → Rose b c → Rose a c
 rose_later a b c h (inl r) = inl (omega arith)

@@ -25,9 +25,9 @@ pub record AtPlain (parts : Parts) (s : State) : Type 0 where
 
 -- In so many steps, each a plain instruction, the machine puts these bytes and ends with the value.
 pub data Path (parts : Parts) (value : ℕ) : ℕ → List ℕ → State → Type 0 where
-  quiet : (n : ℕ) (bytes : List ℕ) (s u : State) → AtPlain parts s → machine_step parts s ≡ Goes [] u → Path parts value n bytes u → Path parts value (suc n) bytes s
-  puts : (n b : ℕ) (bytes : List ℕ) (s u : State) → AtPlain parts s → machine_step parts s ≡ Goes (Put b ∷ []) u → Path parts value n bytes u → Path parts value (suc n) (b ∷ bytes) s
-  ends : (s : State) → AtPlain parts s → machine_step parts s ≡ Halts [] (Ended value) → Path parts value 1 [] s
+  by_quiet : (n : ℕ) (bytes : List ℕ) (s u : State) → AtPlain parts s → machine_step parts s ≡ Goes [] u → Path parts value n bytes u → Path parts value (suc n) bytes s
+  by_put : (n b : ℕ) (bytes : List ℕ) (s u : State) → AtPlain parts s → machine_step parts s ≡ Goes (Put b ∷ []) u → Path parts value n bytes u → Path parts value (suc n) (b ∷ bytes) s
+  by_end : (s : State) → AtPlain parts s → machine_step parts s ≡ Halts [] (Ended value) → Path parts value 1 [] s
 
 -- the image of code alone, entered at its start
 abbrev pub code_parts : List ℕ → Parts
