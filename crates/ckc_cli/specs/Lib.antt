@@ -7,3 +7,5 @@ pub mod Program
 pub mod Compiled
 pub mod Running
 pub mod Cpu
+pub mod Causes
+pub mod Executing

@@ -2,6 +2,7 @@
 #![tactic(auto)]
 
 mod compiler;
+mod exec;
 mod form;
 mod line;
 mod machine;

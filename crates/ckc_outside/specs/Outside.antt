@@ -37,6 +37,12 @@ GivesFile file limit (Ok (Whole bytes)) = (file ≡ Some bytes) × (length bytes
 GivesFile file limit (Ok Longer) = (bytes : List ℕ) × (file ≡ Some bytes) × (limit < length bytes)
 GivesFile file limit (Err e) = Unit {0}
 
+-- a file that is fetched whole has at most limit many bytes
+abbrev pub IsWithin : ℕ → Result fetches.Fetched errors.StoreError → Type 0
+IsWithin limit (Ok (Whole bytes)) = length bytes ≤ limit
+IsWithin limit (Ok Longer) = Unit {0}
+IsWithin limit (Err e) = Unit {0}
+
 -- What keep leaves: the bytes under the name. After an Err that name may hold anything, and every other name
 -- holds what it held.
 abbrev pub Keeps : Files → List ℕ → List ℕ → Result (Unit {0}) errors.StoreError → Option Files → Type 0

@@ -1,6 +1,6 @@
 ghost use Rattle.std.specs.Prelude.{◌≡◌, ◌≢◌, ℕ, ◌≤◌, List, Option, Some, None, Bool, IsTrue, OnErr, IsErrOf};
 ghost use Rattle.std.specs.FinMap as map;
-ghost use Rattle.ckc_outside.specs.Outside.{Rose, one_more, Files, GivesNext, Puts, GivesFile, Keeps};
+ghost use Rattle.ckc_outside.specs.Outside.{Rose, one_more, Files, GivesNext, Puts, IsWithin, GivesFile, Keeps};
 
 use ckc_base::Bytes;
 use std::alloc::Global;
@@ -76,6 +76,7 @@ pub trait Store {
     fn fetch(&mut self, alloc: Global, name: &str, limit: u64) -> Result<Fetched, StoreError>
         ensures counts { faults self.old ≤ faults self.new }
         ensures failed { IsErrOf result StoreError.Failed → Rose (faults self.old) (faults self.new) }
+        ensures within { IsWithin limit result }
         ensures unchanged { files self.new ≡ files self.old }
         ensures told { (here : Files) → files self.old ≡ Some here → GivesFile (map.get here name.now) limit result }
         ensures steady { IsTrue (steady self.old) → IsTrue (steady self.new) }

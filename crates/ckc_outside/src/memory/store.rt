@@ -1,7 +1,7 @@
 ghost use Rattle.std.specs.Prelude.{◌≡◌, ◌≢◌, ℕ, ◌≤◌, List, Option, Some, None, Bool, IsTrue, OnOk, OnErr, IsErrOf, Err, is_none, ◌||◌};
 ghost use Rattle.std.specs.FinMap as map;
 ghost use Rattle.std.specs.Option.{option_copied};
-ghost use Rattle.ckc_outside.specs.Outside.{Rose, Files, GivesFile, Keeps};
+ghost use Rattle.ckc_outside.specs.Outside.{Rose, Files, IsWithin, GivesFile, Keeps};
 ghost use Rattle.ckc_outside.specs.Memory.{is_listed, after_call};
 ghost use Rattle.ckc_outside.specs.MemStore.{files_of, files_in, plan_of, is_steady, has_failed};
 
@@ -57,6 +57,7 @@ impl<'a> Store for MemStore<'a> {
     fn fetch(&mut self, alloc: Global, name: &str, limit: u64) -> Result<Fetched, StoreError>
         ensures counts { (plan_of self.old).faults ≤ (plan_of self.new).faults }
         ensures failed { IsErrOf result StoreError.Failed → Rose (plan_of self.old).faults (plan_of self.new).faults }
+        ensures within { IsWithin limit result }
         ensures unchanged { Some (files_of self.new) ≡ Some (files_of self.old) }
         ensures told { (here : Files) → Some (files_of self.old) ≡ Some here → GivesFile (map.get here name.now) limit result }
         ensures steady { IsTrue (is_steady self.old) → IsTrue (is_steady self.new) }

@@ -1,4 +1,5 @@
 ghost use Rattle.std.specs.Prelude.{None, false};
+ghost use Rattle.ckc_outside.specs.Outside.{IsWithin};
 
 use super::sink::write_whole;
 use super::source::read_some;
@@ -59,7 +60,9 @@ fn read_file<R: Files>(
     alloc: Global,
     name: &str,
     limit: u64,
-) -> Result<Fetched, StoreError> {
+) -> Result<Fetched, StoreError>
+    ensures { IsWithin limit result }
+{
     let Ok(mut file) = fs::open(rt, name) else {
         return Err(StoreError::Failed);
     };
