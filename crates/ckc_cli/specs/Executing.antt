@@ -1,5 +1,5 @@
 -- The causes of the statuses of the parts of `exec`, each with what the objects show before and after.
-use Rattle.std.specs.Prelude.{◌≡◌, ℕ, ◌%◌, ◌≤◌, List, length, map, Option, Some}
+use Rattle.std.specs.Prelude.{◌≡◌, ◌⊎◌, Bool, IsTrue, None, ℕ, ◌%◌, ◌≤◌, List, length, map, Option, Some}
 use Rattle.std.specs.FinMap as fin
 use Rattle.ckc_outside.specs.declared.traits.Fetched.{Fetched}
 use Rattle.ckc_outside.specs.declared.traits.Fetched.TheVariants.{Whole, Longer}
@@ -7,6 +7,7 @@ use Rattle.ckc_outside.specs.Outside.{Files, Rose}
 use Rattle.ckc_cli.specs.declared.status.Status.{Status}
 use Rattle.ckc_cli.specs.declared.status.Status.TheVariants as status
 use Rattle.ckc_cli.specs.FirstForm.{IsForm, Accepted, FirstFault, first_place, text_limit}
+use Rattle.ckc_cli.specs.Words.{Command, Exec, Reads}
 use Rattle.ckc_cli.specs.Causes.{Printed, PrintedFront}
 
 -- the bytes that the numbers put
@@ -48,3 +49,10 @@ abbrev pub OfName : Option Files → ℕ → ℕ → List ℕ → ℕ → ℕ �
 OfName files store store' name faults faults' old new same status.StoreFault = Rose store store' × same
 OfName files store store' name faults faults' old new same status.Memory = same
 OfName files store store' name faults faults' old new same s = (text : List ℕ) × Holds files name text × OfText text faults faults' old new same s
+
+-- of the words: none are read, or those of a name
+abbrev pub OfWords : List (List ℕ) → Option Files → Bool → ℕ → ℕ → ℕ → ℕ → Option (List ℕ) → Option (List ℕ) → Type 0 → Type 0 → Status → Type 0
+OfWords words files steady store store' faults faults' old new same kept s =
+    (((command : Command) → ¬ Reads words command) × (s ≡ status.Usage) × same × kept)
+    ⊎ ((name : List ℕ) × Reads words (Exec name) × OfName files store store' name faults faults' old new same s
+      × ((here : Files) → IsTrue steady → files ≡ Some here → s ≡ status.StoreFault → fin.get here name ≡ None))

@@ -8,6 +8,8 @@ mod line;
 mod machine;
 mod report;
 mod status;
+mod top;
 mod words;
 
 pub use status::{FaultKind, Status};
+pub use top::ccc;
