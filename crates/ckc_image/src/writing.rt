@@ -1,0 +1,30 @@
+ghost use Rattle.std.specs.Prelude.{◌≡◌, ◌++◌, IfOk, OnOk};
+ghost use Rattle.ckc_image.specs.Image.{ImageOf, word_bytes};
+
+use crate::parts::Parts;
+use byteorder::{ByteOrder, LittleEndian};
+use std::alloc::{AllocError, Global};
+
+/// The bytes of the image with these parts.
+pub fn write(alloc: Global, p: &Parts) -> Result<Vec<u8>, AllocError>
+    ensures { IfOk result (λ image. ImageOf image.items p.now.entry p.now.code p.now.initial) }
+{
+    let mut image = Vec::new(alloc);
+    image.extend_from_slice(b"CCIM")?;
+    put_word(&mut image, 1)?;
+    put_word(&mut image, p.entry)?;
+    put_word(&mut image, p.code.len() as u32)?;
+    put_word(&mut image, p.initial.len() as u32)?;
+    image.extend_from_slice(p.code.as_slice())?;
+    image.extend_from_slice(p.initial.as_slice())?;
+    Ok(image)
+}
+
+fn put_word(image: &mut Vec<u8>, n: u32) -> Result<(), AllocError>
+    ensures { OnOk result (image.new.items ≡ image.old.items ++ word_bytes n) }
+{
+    let mut word = [0; 4];
+    LittleEndian::write_u32(&mut word, n);
+    image.extend_from_slice(&word)?;
+    Ok(())
+}
