@@ -7,9 +7,8 @@
 
 mod laws;
 mod parts;
-mod reading;
-mod writing;
+mod view;
 
 pub use laws::{one_first_bad, read_then_write, write_then_read};
-pub use parts::{BadImage, Parts, View};
-pub use writing::write;
+pub use parts::{Parts, write};
+pub use view::{BadImage, View};

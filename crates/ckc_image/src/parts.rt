@@ -1,7 +1,9 @@
-ghost use Rattle.ckc_image.specs.Image.{IsProper};
+ghost use Rattle.std.specs.Prelude.{◌≡◌, ◌++◌, IfOk, OnOk};
+ghost use Rattle.ckc_image.specs.Image.{ImageOf, IsProper, word_bytes};
 
+use byteorder::{ByteOrder, LittleEndian};
 use ckc_base::Bytes;
-use thiserror::Error;
+use std::alloc::{AllocError, Global};
 
 /// What an image holds: the address at which a program starts, its code from address 0x00001000, and the first
 /// bytes of the data region from 0x02000000. The code's length is a multiple of 4 from 4 to 16,773,120, there are
@@ -14,17 +16,26 @@ pub struct Parts {
     ghost proper: { IsProper entry code initial },
 }
 
-/// The parts of an image as they stand in its bytes, under the same rules as `Parts`.
-#[derive(Clone, Copy, Debug)]
-pub struct View<'a> {
-    pub entry: u32,
-    pub code: &'a [u8],
-    pub initial: &'a [u8],
-    ghost proper: { IsProper entry code.now initial.now },
+/// The bytes of the image with these parts.
+pub fn write(alloc: Global, p: &Parts) -> Result<Vec<u8>, AllocError>
+    ensures { IfOk result (λ image. ImageOf image.items p.now.entry p.now.code p.now.initial) }
+{
+    let mut image = Vec::new(alloc);
+    image.extend_from_slice(b"CCIM")?;
+    put_word(&mut image, 1)?;
+    put_word(&mut image, p.entry)?;
+    put_word(&mut image, p.code.len() as u32)?;
+    put_word(&mut image, p.initial.len() as u32)?;
+    image.extend_from_slice(p.code.as_slice())?;
+    image.extend_from_slice(p.initial.as_slice())?;
+    Ok(image)
 }
 
-/// The bytes are no image. The number is the first part that disagrees: 1 the magic, 2 the version, 3 the whole
-/// length, 4 the lengths of code and initial bytes, 5 the entry.
-#[derive(Clone, Copy, Debug, PartialEq, Eq, Error)]
-#[error("bad image: part {0}")]
-pub struct BadImage(pub u8);
+fn put_word(image: &mut Vec<u8>, n: u32) -> Result<(), AllocError>
+    ensures { OnOk result (image.new.items ≡ image.old.items ++ word_bytes n) }
+{
+    let mut word = [0; 4];
+    LittleEndian::write_u32(&mut word, n);
+    image.extend_from_slice(&word)?;
+    Ok(())
+}

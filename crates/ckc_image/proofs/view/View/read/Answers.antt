@@ -2,7 +2,7 @@
 use Rattle.std.proofs.Common.{◌≡◌, ◌+◌, ◌-◌, take, drop, sym, ap, ◌∙◌, rules, arith}
 use Rattle.ckc_image.specs.Image.{word_at, FirstBad}
 use Rattle.ckc_image.proofs.Agreement.{never_bad, same_parts, image_from_parts, rest_is}
-use Rattle.ckc_image.proofs.parts.View.read.Goals as goal
+use Rattle.ckc_image.proofs.view.View.read.Goals as goal
 
 pub returns-clause-parts : goal.returns-clause-parts
 returns-clause-parts c =

@@ -1,15 +1,28 @@
-ghost use Rattle.ckc_image.specs.Image.{four_at, word_at, LengthsFit, EntryFits};
-ghost use Rattle.std.specs.Prelude.{◌≡◌, ◌↔◌, ℕ, List, ◌+◌, ◌≤◌, ◌<◌, length, IsTrue, IsOkAnd, IsErrAnd, MatchResult};
+ghost use Rattle.std.specs.Prelude.{◌≡◌, ◌↔◌, ℕ, List, ◌+◌, ◌≤◌, length, IsTrue, IsOkAnd, IsErrAnd, MatchResult};
+ghost use Rattle.ckc_image.specs.Image.{EntryFits, FirstBad, ImageOf, IsProper, LengthsFit, four_at, word_at};
 
-use crate::parts::{BadImage, View};
+use thiserror::Error;
 
 const MAGIC: [u8; 4] = *b"CCIM";
 
 const VERSION: [u8; 4] = [1, 0, 0, 0];
 
-impl<'a> View<'a> {
-    ghost use Rattle.ckc_image.specs.Image.{ImageOf, FirstBad};
+/// The parts of an image as they stand in its bytes, under the same rules as `Parts`.
+#[derive(Clone, Copy, Debug)]
+pub struct View<'a> {
+    pub entry: u32,
+    pub code: &'a [u8],
+    pub initial: &'a [u8],
+    ghost proper: { IsProper entry code.now initial.now },
+}
 
+/// The bytes are no image. The number is the first part that disagrees: 1 the magic, 2 the version, 3 the whole
+/// length, 4 the lengths of code and initial bytes, 5 the entry.
+#[derive(Clone, Copy, Debug, PartialEq, Eq, Error)]
+#[error("bad image: part {0}")]
+pub struct BadImage(pub u8);
+
+impl<'a> View<'a> {
     /// The parts of an image, lent out of its bytes.
     pub fn read(bytes: &'a [u8]) -> Result<View<'a>, BadImage>
         ensures parts { MatchResult result (λ v. ImageOf bytes.now v.entry v.code.now v.initial.now) (λ e. FirstBad bytes.now e.0) }
