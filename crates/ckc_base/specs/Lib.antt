@@ -1,3 +1,6 @@
 pub mod Checks
 pub mod Words
+pub mod Traces
+pub mod Follows
+pub mod Steps
 pub mod formers

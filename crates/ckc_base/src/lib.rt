@@ -7,6 +7,7 @@
 
 mod arithmetic;
 mod boxed;
+pub mod laws;
 mod places;
 mod runtime_checks;
 mod seq;

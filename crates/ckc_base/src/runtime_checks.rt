@@ -1,5 +1,5 @@
 ghost use Rattle.std.specs.Prelude.{◌≡◌, ◌<◌, ◌≤◌, ◌⊎◌, ◌↔◌, IsNone, IfSome};
-ghost use Rattle.ckc_base.specs.Checks.{number_of, name_of};
+ghost use Rattle.ckc_base.specs.Checks.{number_of, name_of, check_with};
 
 /// A check at which a program stops (Checked C specification 0.9, section 3, on dynamic checks).
 #[derive(Clone, Copy, Debug, PartialEq, Eq)]
@@ -34,6 +34,7 @@ pub fn check_number(c: Check) -> u32
 pub fn check_of(n: u32) -> Option<Check>
     ensures found { IfSome result (λ c. number_of c ≡ n) }
     ensures none { IsNone result ↔ ((n < 1) ⊎ (8 < n)) }
+    ensures exact { result ≡ check_with n }
 {
     match n {
         1 => Some(Check::Null),

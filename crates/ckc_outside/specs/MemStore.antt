@@ -1,0 +1,38 @@
+use Rattle.std.specs.Prelude.{ℕ, List, Bool, ◌==◌, length, map, None, Option, ◌≡◌, String, Vec, Result, Ok, Err, true, false}
+use Rattle.std.specs.Ordering.{nat_cmp}
+use Rattle.std.specs.Cmp.Lexicographic.{slice_cmp}
+use Rattle.std.specs.BTreeMap.{BTreeMap}
+use Rattle.std.specs.FinMap as fin
+use Rattle.std.specs.String.{string_bytes}
+use Rattle.std.specs.declared.alloc.Global.{Global}
+use Rattle.ckc_outside.specs.Memory.{Failing}
+use Rattle.ckc_outside.specs.Outside.{Files}
+use Rattle.ckc_outside.specs.declared.traits.StoreError.{StoreError}
+use Rattle.ckc_outside.specs.declared.traits.StoreError.TheVariants.{Failed, Memory}
+use Rattle.ckc_outside.specs.declared.memory.store.MemStore.{MemStore}
+
+-- a file's name and bytes
+abbrev pub named : String Global × Vec ℕ Global → List ℕ × List ℕ
+named file = (string_bytes file.0, file.1.items)
+
+-- the files of a map by name
+abbrev pub files_in : BTreeMap (String Global) (Vec ℕ Global) → Files
+files_in files = fin.from_entries (map named files.entries)
+
+-- the files by name
+abbrev pub files_of : MemStore → Files
+files_of s = files_in s.files
+
+-- which calls fail, and the counts
+abbrev pub plan_of : MemStore → Failing
+plan_of s = record { listed = s.plan.fail.now; calls = s.plan.calls; faults = s.plan.faults }
+
+-- no call is listed
+abbrev pub is_steady : MemStore → Bool
+is_steady s = length s.plan.fail.now == 0
+
+-- whether a call answered that the store failed
+abbrev pub has_failed : {T : Type 0} → Result T StoreError → Bool
+has_failed (Ok x) = false
+has_failed (Err Failed) = true
+has_failed (Err Memory) = false

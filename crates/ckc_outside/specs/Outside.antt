@@ -1,0 +1,45 @@
+use Rattle.std.specs.Prelude.{◌≡◌, ◌≢◌, ◌⊎◌, ℕ, ◌+◌, ◌-◌, ◌^◌, ◌<◌, ◌≤◌, min, List, ◌++◌, length, take, drop, slice_get, Option, Some, None, IsSome, Result, Ok, Err, MatchResult}
+use Rattle.std.specs.Ordering.{nat_cmp}
+use Rattle.std.specs.Cmp.Lexicographic.{slice_cmp}
+use Rattle.std.specs.FinMap as map
+use Rattle.ckc_outside.specs.declared.traits.Failed.{Failed}
+use Rattle.ckc_outside.specs.declared.traits.StoreError as errors
+use Rattle.ckc_outside.specs.declared.traits.StoreError.TheVariants as store_error
+use Rattle.ckc_outside.specs.declared.traits.Fetched as fetches
+use Rattle.ckc_outside.specs.declared.traits.Fetched.TheVariants.{Whole, Longer}
+
+-- A count rose in a call where it is greater than before the call, or stands at its last value.
+abbrev pub Rose : ℕ → ℕ → Type 0
+Rose old new = (old < new) ⊎ (new ≡ 2 ^ 64 - 1)
+
+-- a count after one more, which stands still at its last value
+abbrev pub one_more : ℕ → ℕ
+one_more n = min (n + 1) (2 ^ 64 - 1)
+
+-- a finite map from names to bytes, each a list of bytes
+abbrev pub Files : Type 0
+Files = map.FinMap (slice_cmp nat_cmp) (List ℕ)
+
+-- What next gives where bytes are left: the first, which is taken, or None exactly where there is none. After a
+-- failure they are still left.
+abbrev pub GivesNext : List ℕ → Result (Option ℕ) Failed → Option (List ℕ) → Type 0
+GivesNext bytes (Ok given) left = (given ≡ slice_get bytes 0) × (left ≡ Some (drop 1 bytes))
+GivesNext bytes (Err failed) left = left ≡ Some bytes
+
+-- What put leaves where bytes were written: the piece after them, or a prefix of it after a failure.
+abbrev pub Puts : List ℕ → List ℕ → Result (Unit {0}) Failed → Option (List ℕ) → Type 0
+Puts bytes piece (Ok done) written = written ≡ Some (bytes ++ piece)
+Puts bytes piece (Err failed) written = (k : ℕ) × (written ≡ Some (bytes ++ take k piece))
+
+-- What fetch gives for a name: its bytes where they are at most limit many, and Longer where there are more.
+abbrev pub GivesFile : Option (List ℕ) → ℕ → Result fetches.Fetched errors.StoreError → Type 0
+GivesFile file limit (Ok (Whole bytes)) = (file ≡ Some bytes) × (length bytes ≤ limit)
+GivesFile file limit (Ok Longer) = (bytes : List ℕ) × (file ≡ Some bytes) × (limit < length bytes)
+GivesFile file limit (Err e) = Unit {0}
+
+-- What keep leaves: the bytes under the name. After an Err that name may hold anything, and every other name
+-- holds what it held.
+abbrev pub Keeps : Files → List ℕ → List ℕ → Result (Unit {0}) errors.StoreError → Option Files → Type 0
+Keeps files name bytes (Ok done) after = after ≡ Some (map.insert files name bytes)
+Keeps files name bytes (Err e) after =
+    (kept : Files) × (after ≡ Some kept) × ((other : List ℕ) → other ≢ name → map.get kept other ≡ map.get files other)

@@ -1,0 +1,55 @@
+ghost use Rattle.std.specs.Prelude.{◌≡◌, ℕ, ◌≤◌, List, Option, Some, OnErr, is_err};
+ghost use Rattle.ckc_outside.specs.Outside.{Rose, GivesNext};
+ghost use Rattle.ckc_outside.specs.Memory.{is_listed, after_call};
+ghost use Rattle.ckc_outside.specs.MemSource.{left_of, plan_of};
+
+use super::plan::Plan;
+use crate::traits::{Failed, Source};
+
+/// A source over bytes in memory, which fails at the calls that are listed.
+#[derive(Debug, Drop)]
+pub struct MemSource<'a> {
+    left: &'a [u8],
+    plan: Plan<'a>,
+}
+
+impl<'a> MemSource<'a> {
+    /// Over these bytes. `fail` lists the numbers of the calls, from 1, that answer `Failed`.
+    pub fn new(bytes: &'a [u8], fail: &'a [u64]) -> MemSource<'a>
+        ensures left { left_of result ≡ bytes.now }
+        ensures listed { (plan_of result).listed ≡ fail.now }
+        ensures calls { (plan_of result).calls ≡ 0 }
+        ensures faults { (plan_of result).faults ≡ 0 }
+    {
+        MemSource {
+            left: bytes,
+            plan: Plan::new(fail),
+        }
+    }
+}
+
+impl<'a> Source for MemSource<'a> {
+    ghost faults = { λ s. (plan_of s).faults };
+
+    ghost left = { λ s. Some (left_of s) };
+
+    fn next(&mut self) -> Result<Option<u8>, Failed>
+        ensures counts { (plan_of self.old).faults ≤ (plan_of self.new).faults }
+        ensures failed { OnErr result (Rose (plan_of self.old).faults (plan_of self.new).faults) }
+        ensures told { (bytes : List ℕ) → Some (left_of self.old) ≡ Some bytes → GivesNext bytes result (Some (left_of self.new)) }
+        // A call fails exactly where it is listed, and then the count of faults goes up by one.
+        ensures fails { is_err result ≡ is_listed (plan_of self.old).listed (plan_of self.old).calls }
+        ensures plan { plan_of self.new ≡ after_call (plan_of self.old) (is_err result) }
+    {
+        if self.plan.fails() {
+            return Err(Failed);
+        }
+        match self.left.split_first() {
+            None => Ok(None),
+            Some((first, rest)) => {
+                self.left = rest;
+                Ok(Some(*first))
+            }
+        }
+    }
+}

@@ -1,0 +1,117 @@
+ghost use Rattle.std.specs.Prelude.{◌≡◌, ◌≢◌, ℕ, ◌≤◌, List, Option, Some, None, Bool, IsTrue, OnOk, OnErr, IsErrOf, Err, is_none, ◌||◌};
+ghost use Rattle.std.specs.FinMap as map;
+ghost use Rattle.std.specs.Option.{option_copied};
+ghost use Rattle.ckc_outside.specs.Outside.{Rose, Files, GivesFile, Keeps};
+ghost use Rattle.ckc_outside.specs.Memory.{is_listed, after_call};
+ghost use Rattle.ckc_outside.specs.MemStore.{files_of, files_in, plan_of, is_steady, has_failed};
+
+use super::plan::Plan;
+use crate::traits::{Fetched, Store, StoreError};
+use ckc_base::Bytes;
+use std::alloc::{AllocError, Global};
+use std::collections::BTreeMap;
+
+/// A store in memory, which fails at the calls that are listed and where a name is missing.
+#[derive(Drop)]
+pub struct MemStore<'a> {
+    alloc: Global,
+    files: BTreeMap<String, Vec<u8>>,
+    plan: Plan<'a>,
+}
+
+impl<'a> MemStore<'a> {
+    /// An empty store. `fail` lists the numbers of the calls of both kinds, from 1, that answer `Failed`.
+    pub fn new(alloc: Global, fail: &'a [u64]) -> MemStore<'a>
+        ensures files { files_of result ≡ map.empty }
+        ensures listed { (plan_of result).listed ≡ fail.now }
+        ensures calls { (plan_of result).calls ≡ 0 }
+        ensures faults { (plan_of result).faults ≡ 0 }
+    {
+        MemStore {
+            alloc,
+            files: BTreeMap::new(alloc),
+            plan: Plan::new(fail),
+        }
+    }
+
+    /// Puts a file there. This is no counted call.
+    pub fn set(&mut self, name: &str, bytes: &[u8]) -> Result<(), AllocError>
+        ensures ok { OnOk result (files_of self.new ≡ map.insert (files_of self.old) name.now bytes.now) }
+        ensures err { OnErr result (files_of self.new ≡ files_of self.old) }
+        ensures plan { plan_of self.new ≡ plan_of self.old }
+    {
+        let key = String::from_str(self.alloc, name)?;
+        let bytes = Vec::from_slice(self.alloc, bytes)?;
+        self.files.insert(key, bytes)?;
+        Ok(())
+    }
+}
+
+impl<'a> Store for MemStore<'a> {
+    ghost faults = { λ s. (plan_of s).faults };
+
+    ghost files = { λ s. Some (files_of s) };
+
+    ghost steady = { is_steady };
+
+    fn fetch(&mut self, alloc: Global, name: &str, limit: u64) -> Result<Fetched, StoreError>
+        ensures counts { (plan_of self.old).faults ≤ (plan_of self.new).faults }
+        ensures failed { IsErrOf result StoreError.Failed → Rose (plan_of self.old).faults (plan_of self.new).faults }
+        ensures unchanged { Some (files_of self.new) ≡ Some (files_of self.old) }
+        ensures told { (here : Files) → Some (files_of self.old) ≡ Some here → GivesFile (map.get here name.now) limit result }
+        ensures steady { IsTrue (is_steady self.old) → IsTrue (is_steady self.new) }
+        ensures lacks { (here : Files) → IsTrue (is_steady self.old) → Some (files_of self.old) ≡ Some here
+            → IsErrOf result StoreError.Failed → map.get here name.now ≡ None }
+        // A call fails exactly where it is listed or the name is missing, and then the count of faults goes up by
+        // one.
+        ensures fails { has_failed result
+            ≡ (is_listed (plan_of self.old).listed (plan_of self.old).calls || is_none (map.get (files_of self.old) name.now)) }
+        ensures plan { plan_of self.new ≡ after_call (plan_of self.old) (has_failed result) }
+    {
+        if self.plan.fails() {
+            return Err(StoreError::Failed);
+        }
+        let Some(bytes) = bytes_under(&self.files, name) else {
+            self.plan.fault();
+            return Err(StoreError::Failed);
+        };
+        if bytes.len() as u64 > limit {
+            return Ok(Fetched::Longer);
+        }
+        match Bytes::from_slice(alloc, bytes) {
+            Ok(bytes) => Ok(Fetched::Whole(bytes)),
+            Err(_) => Err(StoreError::Memory),
+        }
+    }
+
+    fn keep(&mut self, name: &str, bytes: &[u8]) -> Result<(), StoreError>
+        ensures counts { (plan_of self.old).faults ≤ (plan_of self.new).faults }
+        ensures failed { IsErrOf result StoreError.Failed → Rose (plan_of self.old).faults (plan_of self.new).faults }
+        ensures told { (here : Files) → Some (files_of self.old) ≡ Some here
+            → Keeps here name.now bytes.now result (Some (files_of self.new)) }
+        ensures steady { IsTrue (is_steady self.old) → IsTrue (is_steady self.new) × (result ≢ Err StoreError.Failed) }
+        // A call fails exactly where it is listed, and then the count of faults goes up by one. Any `Err` changes
+        // nothing here.
+        ensures fails { has_failed result ≡ is_listed (plan_of self.old).listed (plan_of self.old).calls }
+        ensures plan { plan_of self.new ≡ after_call (plan_of self.old) (has_failed result) }
+        ensures err { OnErr result (files_of self.new ≡ files_of self.old) }
+    {
+        if self.plan.fails() {
+            return Err(StoreError::Failed);
+        }
+        match self.set(name, bytes) {
+            Ok(()) => Ok(()),
+            Err(_) => Err(StoreError::Memory),
+        }
+    }
+}
+
+/// The bytes under a name.
+fn bytes_under<'f>(files: &'f BTreeMap<String, Vec<u8>>, name: &str) -> Option<&'f [u8]>
+    ensures { option_copied result ≡ map.get (files_in files.now) name.now }
+{
+    match files.get(name) {
+        Some(bytes) => Some(bytes.as_slice()),
+        None => None,
+    }
+}

@@ -1,0 +1,77 @@
+ghost use Rattle.std.specs.Prelude.{None};
+
+use crate::traits::{Failed, Sink};
+use std::io::{ErrorKind, Write};
+
+/// A writer, as standard output or standard error. Each piece is written whole and flushed.
+#[derive(Drop)]
+pub struct RealSink<W> {
+    writer: W,
+    calls: u64,
+    faults: u64,
+}
+
+impl<W: Write + Drop> RealSink<W> {
+    /// Into the writer.
+    pub fn new(writer: W) -> RealSink<W> {
+        RealSink {
+            writer,
+            calls: 0,
+            faults: 0,
+        }
+    }
+}
+
+impl<W: Write> Sink for RealSink<W> {
+    ghost faults = { λ s. s.faults };
+
+    ghost written = { λ _. None };
+
+    ghost puts = { λ s. s.calls };
+
+    fn put(&mut self, piece: &[u8]) -> Result<(), Failed> {
+        self.calls = self.calls.saturating_add(1);
+        match write_whole(&mut self.writer, piece) {
+            Ok(()) => Ok(()),
+            Err(_) => {
+                self.faults = self.faults.saturating_add(1);
+                Err(Failed)
+            }
+        }
+    }
+}
+
+/// Writes all of a piece and flushes it. A write that takes no byte is a failure; one that was interrupted is begun
+/// again.
+pub fn write_whole<W: Write>(writer: &mut W, piece: &[u8]) -> Result<(), Failed> {
+    let mut rest = piece;
+    for _ in 0..u64::MAX {
+        if rest.is_empty() {
+            return flush(writer);
+        }
+        match writer.write(rest) {
+            Ok(0) => return Err(Failed),
+            Ok(count) => rest = &rest[count..],
+            Err(e) => {
+                if e.kind() != ErrorKind::Interrupted {
+                    return Err(Failed);
+                }
+            }
+        }
+    }
+    Err(Failed)
+}
+
+fn flush<W: Write>(writer: &mut W) -> Result<(), Failed> {
+    for _ in 0..u64::MAX {
+        match writer.flush() {
+            Ok(()) => return Ok(()),
+            Err(e) => {
+                if e.kind() != ErrorKind::Interrupted {
+                    return Err(Failed);
+                }
+            }
+        }
+    }
+    Err(Failed)
+}

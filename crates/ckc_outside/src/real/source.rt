@@ -1,0 +1,73 @@
+ghost use Rattle.std.specs.Prelude.{◌≡◌, ◌≤◌, None, IfOk, length};
+
+use crate::traits::{Failed, Source};
+use std::io::{ErrorKind, Read};
+
+const ROOM: usize = 4096;
+
+/// The bytes of a reader, as standard input. A read that gives no byte is the end.
+#[derive(Drop)]
+pub struct RealSource<R> {
+    reader: R,
+    room: [u8; 4096],
+    from: usize,
+    to: usize,
+    faults: u64,
+    ghost in_order: { from ≤ to },
+    ghost within: { to ≤ 4096 },
+}
+
+impl<R: Read + Drop> RealSource<R> {
+    /// Over what the reader gives.
+    pub fn new(reader: R) -> RealSource<R> {
+        RealSource {
+            reader,
+            room: [0; ROOM],
+            from: 0,
+            to: 0,
+            faults: 0,
+        }
+    }
+}
+
+impl<R: Read> Source for RealSource<R> {
+    ghost faults = { λ s. s.faults };
+
+    ghost left = { λ _. None };
+
+    fn next(&mut self) -> Result<Option<u8>, Failed> {
+        if self.from == self.to {
+            match read_some(&mut self.reader, &mut self.room) {
+                Ok(0) => return Ok(None),
+                Ok(count) => {
+                    self.from = 0;
+                    self.to = count;
+                }
+                Err(_) => {
+                    self.faults = self.faults.saturating_add(1);
+                    return Err(Failed);
+                }
+            }
+        }
+        let byte = self.room[self.from];
+        self.from += 1;
+        Ok(Some(byte))
+    }
+}
+
+/// One read, begun again where it was interrupted.
+pub fn read_some<R: Read>(reader: &mut R, room: &mut [u8]) -> Result<usize, Failed>
+    ensures { IfOk result (λ count. count ≤ length room.new) }
+{
+    for _ in 0..u64::MAX {
+        match reader.read(room) {
+            Ok(count) => return Ok(count),
+            Err(e) => {
+                if e.kind() != ErrorKind::Interrupted {
+                    return Err(Failed);
+                }
+            }
+        }
+    }
+    Err(Failed)
+}

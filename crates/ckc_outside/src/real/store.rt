@@ -1,0 +1,98 @@
+ghost use Rattle.std.specs.Prelude.{None, false};
+
+use super::sink::write_whole;
+use super::source::read_some;
+use crate::traits::{Failed, Fetched, Store, StoreError};
+use ckc_base::Bytes;
+use std::alloc::Global;
+use std::fs;
+use std::rt::Files;
+
+const ROOM: usize = 4096;
+
+/// The files of the system, by their paths.
+#[derive(Drop)]
+pub struct RealStore<'a, R> {
+    rt: &'a R,
+    faults: u64,
+}
+
+impl<'a, R: Files> RealStore<'a, R> {
+    /// The files that the runtime reaches.
+    pub fn new(rt: &'a R) -> RealStore<'a, R> {
+        RealStore { rt, faults: 0 }
+    }
+}
+
+impl<'a, R: Files> Store for RealStore<'a, R> {
+    ghost faults = { λ s. s.faults };
+
+    ghost files = { λ _. None };
+
+    ghost steady = { λ _. false };
+
+    fn fetch(&mut self, alloc: Global, name: &str, limit: u64) -> Result<Fetched, StoreError> {
+        match read_file(self.rt, alloc, name, limit) {
+            Ok(fetched) => Ok(fetched),
+            Err(StoreError::Memory) => Err(StoreError::Memory),
+            Err(StoreError::Failed) => {
+                self.faults = self.faults.saturating_add(1);
+                Err(StoreError::Failed)
+            }
+        }
+    }
+
+    fn keep(&mut self, name: &str, bytes: &[u8]) -> Result<(), StoreError> {
+        match write_file(self.rt, name, bytes) {
+            Ok(()) => Ok(()),
+            Err(_) => {
+                self.faults = self.faults.saturating_add(1);
+                Err(StoreError::Failed)
+            }
+        }
+    }
+}
+
+/// Reads a file, and stops after `limit + 1` bytes. Each turn takes at least one byte.
+fn read_file<R: Files>(
+    rt: &R,
+    alloc: Global,
+    name: &str,
+    limit: u64,
+) -> Result<Fetched, StoreError> {
+    let Ok(mut file) = fs::open(rt, name) else {
+        return Err(StoreError::Failed);
+    };
+    let mut bytes = Vec::new(alloc);
+    let mut room = [0u8; ROOM];
+    let mut more = limit;
+    for _ in 0..u64::MAX {
+        let most = if more < ROOM as u64 {
+            more as usize + 1
+        } else {
+            ROOM
+        };
+        let Ok(count) = read_some(&mut file, &mut room[..most]) else {
+            return Err(StoreError::Failed);
+        };
+        if count == 0 {
+            return Ok(Fetched::Whole(Bytes::from_vec(bytes)));
+        }
+        if count as u64 > more {
+            return Ok(Fetched::Longer);
+        }
+        more -= count as u64;
+        if bytes.extend_from_slice(&room[..count]).is_err() {
+            return Err(StoreError::Memory);
+        }
+    }
+    Err(StoreError::Failed)
+}
+
+/// Puts bytes into a file, in place of what was there.
+fn write_file<R: Files>(rt: &R, name: &str, bytes: &[u8]) -> Result<(), Failed> {
+    let Ok(mut file) = fs::create(rt, name) else {
+        return Err(Failed);
+    };
+    write_whole(&mut file, bytes)
+}
