@@ -20,7 +20,7 @@ pub struct Parts {
 pub fn write(alloc: Global, p: &Parts) -> Result<Vec<u8>, AllocError>
     ensures { IfOk result (λ image. ImageOf image.items p.now.entry p.now.code p.now.initial) }
 {
-    let mut image = Vec::new(alloc);
+    let mut image = Vec::with_capacity(alloc, 20 + p.code.len() + p.initial.len())?;
     image.extend_from_slice(b"CCIM")?;
     put_word(&mut image, 1)?;
     put_word(&mut image, p.entry)?;
