@@ -115,7 +115,8 @@ imm_funct3 Slli = 1
 imm_funct3 Srli = 5
 imm_funct3 Srai = 5
 
--- the bits 31 to 20 of an operation with an immediate: SRAI has 0x20 above the count
+-- The bits 31 to 20 of an operation with an immediate. A count is below 32, so bits 31 to 25 of SLLI and SRLI are
+-- zero; SRAI has 0x20 there.
 abbrev pub imm_bits : ImmOp → ℤ → ℕ
 imm_bits Srai z = 0x20 * 2 ^ 5 + low_bits 5 z
 imm_bits _ z = low_bits 12 z
@@ -155,7 +156,8 @@ reg_funct7 _ = 1
 
 -- ---- the rows
 
--- the word of an instruction in range
+-- The word of an instruction in range. A FENCE has rd, rs1 and the bits 31 to 28 zero; the other FENCE words of the
+-- manual, FENCE.TSO among them, have no row.
 abbrev pub row_word : Instr → ℕ
 row_word (Lui rd upper) = u_word upper rd 0x37
 row_word (Auipc rd upper) = u_word upper rd 0x17

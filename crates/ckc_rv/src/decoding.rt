@@ -15,6 +15,7 @@ pub fn decode(word: u32) -> Option<Instr>
     row_of(word)
 }
 
+/// Splits by opcode. The law of `decoded` is applied once, in `decode`.
 fn row_of(word: u32) -> Option<Instr>
     ensures { result ≡ decoded word }
 {

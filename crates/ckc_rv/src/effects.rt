@@ -16,14 +16,14 @@ pub fn effect(i: &Instr, pc: u32, regs: &Regs) -> Outcome
     match *i {
         Instr::Lui(rd, upper) => going_on(rd, upper << 12, pc),
         Instr::Auipc(rd, upper) => going_on(rd, pc.wrapping_add(upper << 12), pc),
-        Instr::Jal(rd, offset) => jump(rd, pc, displaced(pc, offset)),
+        Instr::Jal(rd, offset) => jump(rd, pc.wrapping_add(4), displaced(pc, offset)),
         Instr::Jalr(rd, rs1, offset) => {
             let target = displaced(register(regs, rs1), offset);
-            jump(rd, pc, target - target % 2)
+            jump(rd, pc.wrapping_add(4), target - target % 2)
         }
         Instr::Branch(op, rs1, rs2, offset) => {
             if taken(op, register(regs, rs1), register(regs, rs2)) {
-                branch(displaced(pc, offset))
+                jump(0, 0, displaced(pc, offset))
             } else {
                 going_on(0, 0, pc)
             }
@@ -75,21 +75,11 @@ fn going_on(rd: u8, value: u32, pc: u32) -> Outcome
     Outcome::Next(rd, value, pc.wrapping_add(4))
 }
 
-fn jump(rd: u8, pc: u32, target: u32) -> Outcome
-    ensures { result ≡ jumps rd (moved pc (pos 4)) target }
+fn jump(rd: u8, value: u32, target: u32) -> Outcome
+    ensures { result ≡ jumps rd value target }
 {
     if target % 4 == 0 {
-        Outcome::Next(rd, pc.wrapping_add(4), target)
-    } else {
-        Outcome::BadTarget
-    }
-}
-
-fn branch(target: u32) -> Outcome
-    ensures { result ≡ jumps 0 0 target }
-{
-    if target % 4 == 0 {
-        Outcome::Next(0, 0, target)
+        Outcome::Next(rd, value, target)
     } else {
         Outcome::BadTarget
     }

@@ -1,0 +1,87 @@
+ghost use Rattle.std.specs.Prelude.{◌≡◌, ◌↔◌, ℕ, List, ◌+◌, ◌≤◌, length, IsTrue, IsOkAnd, IsErrAnd, MatchResult};
+ghost use Rattle.ckc_image.specs.Image.{EntryFits, FirstBad, ImageOf, IsProper, LengthsFit, four_at, word_at};
+
+use thiserror::Error;
+
+const MAGIC: [u8; 4] = *b"CCIM";
+
+const VERSION: [u8; 4] = [1, 0, 0, 0];
+
+/// The parts of an image as they stand in its bytes, under the same rules as `Parts`.
+#[derive(Clone, Copy, Debug)]
+pub struct View<'a> {
+    pub entry: u32,
+    pub code: &'a [u8],
+    pub initial: &'a [u8],
+    ghost proper: { IsProper entry code.now initial.now },
+}
+
+/// The bytes are no image. The number is the first part that disagrees: 1 the magic, 2 the version, 3 the whole
+/// length, 4 the lengths of code and initial bytes, 5 the entry.
+#[derive(Clone, Copy, Debug, PartialEq, Eq, Error)]
+#[error("bad image: part {0}")]
+pub struct BadImage(pub u8);
+
+impl<'a> View<'a> {
+    /// The parts of an image, lent out of its bytes.
+    pub fn read(bytes: &'a [u8]) -> Result<View<'a>, BadImage>
+        ensures parts { MatchResult result (λ v. ImageOf bytes.now v.entry v.code.now v.initial.now) (λ e. FirstBad bytes.now e.0) }
+        ensures found { (entry : ℕ) (code initial : List ℕ) → ImageOf bytes.now entry code initial
+            → IsOkAnd result (λ v. (v.entry ≡ entry) × (v.code.now ≡ code) × (v.initial.now ≡ initial)) }
+        ensures refused { (k : ℕ) → FirstBad bytes.now k → IsErrAnd result (λ e. e.0 ≡ k) }
+    {
+        if bytes.len() < 4 || four_bytes(bytes, 0) != MAGIC {
+            return Err(BadImage(1));
+        }
+        if bytes.len() < 8 || four_bytes(bytes, 4) != VERSION {
+            return Err(BadImage(2));
+        }
+        if bytes.len() < 20 {
+            return Err(BadImage(3));
+        }
+        let entry = word(bytes, 8);
+        let code = word(bytes, 12) as usize;
+        let initial = word(bytes, 16) as usize;
+        if bytes.len() != 20 + code + initial {
+            return Err(BadImage(3));
+        }
+        if !lengths_fit(code, initial) {
+            return Err(BadImage(4));
+        }
+        if !entry_fits(entry, code) {
+            return Err(BadImage(5));
+        }
+        Ok(View {
+            entry,
+            code: &bytes[20..20 + code],
+            initial: &bytes[20 + code..],
+        })
+    }
+}
+
+fn four_bytes(bytes: &[u8], at: usize) -> [u8; 4]
+    requires { at + 4 ≤ length bytes.now }
+    ensures { result ≡ four_at bytes.now at }
+{
+    [bytes[at], bytes[at + 1], bytes[at + 2], bytes[at + 3]]
+}
+
+fn word(bytes: &[u8], at: usize) -> u32
+    requires { at + 4 ≤ length bytes.now }
+    ensures { result ≡ word_at bytes.now at }
+{
+    u32::from_le_bytes(four_bytes(bytes, at))
+}
+
+fn lengths_fit(code: usize, initial: usize) -> bool
+    ensures { IsTrue result ↔ LengthsFit code initial }
+{
+    code % 4 == 0 && 4 <= code && code <= 16_773_120 && initial <= 16_777_216
+}
+
+fn entry_fits(entry: u32, code: usize) -> bool
+    requires { code ≤ 16773120 }
+    ensures { IsTrue result ↔ EntryFits entry code }
+{
+    entry % 4 == 0 && 0x1000 <= entry && (entry as usize) < 0x1000 + code
+}
