@@ -3,7 +3,7 @@ ghost use Rattle.ckc_lexer.specs.Bytes.{is_feed};
 ghost use Rattle.ckc_lexer.specs.Longest.{Longest, IsRun};
 ghost use Rattle.ckc_lexer.specs.Comments.{IsSlashItem};
 
-use crate::items::{Found, Item};
+use crate::items::{Found, Item, OPEN_COMMENT};
 use ckc_syntax::TokenKind;
 
 /// The comment at the front of a text, or the mark `/`.
@@ -57,6 +57,6 @@ fn block_at(text: &[u8]) -> Found
     }
     Found {
         len: text.len(),
-        item: Item::Broken(102),
+        item: Item::Broken(OPEN_COMMENT),
     }
 }

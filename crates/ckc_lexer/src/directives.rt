@@ -8,7 +8,7 @@ ghost use Rattle.ckc_lexer.specs.DirectiveReading.{behind_spaces, behind_some_sp
 
 use crate::bytes::is_space;
 use crate::comments::line_len;
-use crate::items::{Found, Item};
+use crate::items::{BAD_DIRECTIVE, Found, Item, NO_TOKEN};
 use ckc_syntax::{Directive, TokenKind};
 
 const INCLUDE: &[u8] = b"include";
@@ -40,7 +40,7 @@ pub fn hash_at(fresh: bool, text: &[u8]) -> Found
     if !fresh {
         return Found {
             len: 1,
-            item: Item::Broken(101),
+            item: Item::Broken(NO_TOKEN),
         };
     }
     directive_at(text)
@@ -60,7 +60,7 @@ fn directive_at(text: &[u8]) -> Found
         },
         None => Found {
             len: line,
-            item: Item::Broken(105),
+            item: Item::Broken(BAD_DIRECTIVE),
         },
     }
 }

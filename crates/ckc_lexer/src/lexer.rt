@@ -10,7 +10,7 @@ ghost use Rattle.ckc_lexer.specs.Reading.{IsReading};
 use crate::bytes::{Class, class_of, is_blank};
 use crate::comments::slash_at;
 use crate::directives::hash_at;
-use crate::items::{Context, Found, Here, Item};
+use crate::items::{Context, Found, Here, Item, LONG_TEXT, NO_TOKEN};
 use crate::literals::{character_at, text_at};
 use crate::marks::mark_at;
 use crate::numbers::number_at;
@@ -59,7 +59,7 @@ pub fn lex<'a>(alloc: Global, text: &'a [u8]) -> Result<Seq<Token<'a>>, LexFault
 {
     if text.len() > LONGEST_TEXT {
         return Err(LexFault::Refused(Refusal {
-            code: 201,
+            code: LONG_TEXT,
             pos: Pos { line: 1, col: 1 },
         }));
     }
@@ -166,7 +166,7 @@ fn item_at(context: Context, text: &[u8]) -> Found
         Class::Mark => mark_at(text),
         Class::Other => Found {
             len: 1,
-            item: Item::Broken(101),
+            item: Item::Broken(NO_TOKEN),
         },
     }
 }

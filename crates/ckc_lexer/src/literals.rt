@@ -5,7 +5,7 @@ ghost use Rattle.ckc_lexer.specs.Numbers.{is_digit_in, value_in};
 ghost use Rattle.ckc_lexer.specs.Literals.{is_plain, simple_escape, IsPiece, IsDigitsAfter, IsEscape, IsLiteral, CharacterCases, TextCases};
 ghost use Rattle.ckc_lexer.specs.LiteralReading.{IsOnlyLiteral, IsMostDigits};
 
-use crate::items::{Found, Item};
+use crate::items::{BAD_LITERAL, Found, Item};
 use crate::numbers::digit_value;
 use ckc_syntax::TokenKind;
 
@@ -29,7 +29,7 @@ pub fn character_at(text: &[u8]) -> Found
         },
         None => Found {
             len: 1,
-            item: Item::Broken(103),
+            item: Item::Broken(BAD_LITERAL),
         },
     }
 }
@@ -47,7 +47,7 @@ pub fn text_at(text: &[u8]) -> Found
         },
         None => Found {
             len: 1,
-            item: Item::Broken(103),
+            item: Item::Broken(BAD_LITERAL),
         },
     }
 }

@@ -4,7 +4,7 @@ ghost use Rattle.ckc_lexer.specs.Longest.{Longest};
 ghost use Rattle.ckc_lexer.specs.Numbers.{digit_value, is_digit_in, value_in, has_suffix, is_hexadecimal, IsNumeral, IsNumber, IsNumberItem};
 
 use crate::bytes::{is_digit, word_len};
-use crate::items::{Found, Item};
+use crate::items::{BAD_LITERAL, Found, Item};
 use ckc_syntax::TokenKind;
 
 /// The number at the front of a text.
@@ -16,7 +16,7 @@ pub fn number_at(text: &[u8]) -> Found
     let len = word_len(text);
     let item = match number_of(&text[..len]) {
         Some((value, unsigned)) => Item::Token(TokenKind::Number(value, unsigned)),
-        None => Item::Broken(103),
+        None => Item::Broken(BAD_LITERAL),
     };
     Found { len, item }
 }

@@ -37,16 +37,28 @@ fn worked_texts(rt: HostRuntime) -> Result<(), Fail> {
         ("", ""),
         ("int main(void){ return 0; } @", "E101 1:29"),
         ("int main", "Keyword int 1:1, Name main 1:5"),
-        ("a+++b", "Name a 1:1, Mark + 1:2, Mark + 1:3, Mark + 1:4, Name b 1:5"),
+        (
+            "a+++b",
+            "Name a 1:1, Mark + 1:2, Mark + 1:3, Mark + 1:4, Name b 1:5",
+        ),
         ("a>>b", "Name a 1:1, Mark > 1:2, Mark > 1:3, Name b 1:4"),
         (">>=", "Mark > 1:1, Mark >= 1:2"),
         ("> >=", "Mark > 1:1, Mark >= 1:3"),
         ("a/b", "Name a 1:1, Mark / 1:2, Name b 1:3"),
-        ("2147483647 2147483648", "Number(2147483647, false) 2147483647 1:1, Number(2147483648, true) 2147483648 1:12"),
+        (
+            "2147483647 2147483648",
+            "Number(2147483647, false) 2147483647 1:1, Number(2147483648, true) 2147483648 1:12",
+        ),
         ("4294967295", "Number(4294967295, true) 4294967295 1:1"),
         ("4294967296", "E103 1:1"),
-        ("017 0 0u 7U", "Number(15, false) 017 1:1, Number(0, false) 0 1:5, Number(0, true) 0u 1:7, Number(7, true) 7U 1:10"),
-        ("0x1F 0XfFu", "Number(31, false) 0x1F 1:1, Number(255, true) 0XfFu 1:6"),
+        (
+            "017 0 0u 7U",
+            "Number(15, false) 017 1:1, Number(0, false) 0 1:5, Number(0, true) 0u 1:7, Number(7, true) 7U 1:10",
+        ),
+        (
+            "0x1F 0XfFu",
+            "Number(31, false) 0x1F 1:1, Number(255, true) 0XfFu 1:6",
+        ),
         ("0xFFFFFFFF", "Number(4294967295, true) 0xFFFFFFFF 1:1"),
         ("0x100000000", "E103 1:1"),
         ("037777777777", "Number(4294967295, true) 037777777777 1:1"),
@@ -57,12 +69,30 @@ fn worked_texts(rt: HostRuntime) -> Result<(), Fail> {
         ("1_", "E103 1:1"),
         ("1uu", "E103 1:1"),
         ("0xg", "E103 1:1"),
-        ("'a' '\\n' '\\''", "Character(97) 'a' 1:1, Character(10) '\\n' 1:5, Character(39) '\\'' 1:10"),
-        ("'\"' '\\\\' '\\?' '\\\"'", "Character(34) '\"' 1:1, Character(92) '\\\\' 1:5, Character(63) '\\?' 1:10, Character(34) '\\\"' 1:15"),
-        ("'\\a' '\\b' '\\f'", "Character(7) '\\a' 1:1, Character(8) '\\b' 1:6, Character(12) '\\f' 1:11"),
-        ("'\\v' '\\t' '\\r'", "Character(11) '\\v' 1:1, Character(9) '\\t' 1:6, Character(13) '\\r' 1:11"),
-        ("'\\0' '\\12' '\\377'", "Character(0) '\\0' 1:1, Character(10) '\\12' 1:6, Character(255) '\\377' 1:12"),
-        ("'\\x4' '\\xfF'", "Character(4) '\\x4' 1:1, Character(255) '\\xfF' 1:7"),
+        (
+            "'a' '\\n' '\\''",
+            "Character(97) 'a' 1:1, Character(10) '\\n' 1:5, Character(39) '\\'' 1:10",
+        ),
+        (
+            "'\"' '\\\\' '\\?' '\\\"'",
+            "Character(34) '\"' 1:1, Character(92) '\\\\' 1:5, Character(63) '\\?' 1:10, Character(34) '\\\"' 1:15",
+        ),
+        (
+            "'\\a' '\\b' '\\f'",
+            "Character(7) '\\a' 1:1, Character(8) '\\b' 1:6, Character(12) '\\f' 1:11",
+        ),
+        (
+            "'\\v' '\\t' '\\r'",
+            "Character(11) '\\v' 1:1, Character(9) '\\t' 1:6, Character(13) '\\r' 1:11",
+        ),
+        (
+            "'\\0' '\\12' '\\377'",
+            "Character(0) '\\0' 1:1, Character(10) '\\12' 1:6, Character(255) '\\377' 1:12",
+        ),
+        (
+            "'\\x4' '\\xfF'",
+            "Character(4) '\\x4' 1:1, Character(255) '\\xfF' 1:7",
+        ),
         ("'\\400'", "E103 1:1"),
         ("''", "E103 1:1"),
         ("'ab'", "E103 1:1"),
@@ -77,8 +107,14 @@ fn worked_texts(rt: HostRuntime) -> Result<(), Fail> {
         ("\"\\", "E103 1:1"),
         ("\"\\q\"", "E103 1:1"),
         ("\"\t\"", "E103 1:1"),
-        ("nnnnnnnnnnnnnnnnnnnnnnnnnnnnnnnnnnnnnnnnnnnnnnnnnnnnnnnnnnnnnnn", "Name nnnnnnnnnnnnnnnnnnnnnnnnnnnnnnnnnnnnnnnnnnnnnnnnnnnnnnnnnnnnnnn 1:1"),
-        ("+nnnnnnnnnnnnnnnnnnnnnnnnnnnnnnnnnnnnnnnnnnnnnnnnnnnnnnnnnnnnnnnn", "E104 1:2"),
+        (
+            "nnnnnnnnnnnnnnnnnnnnnnnnnnnnnnnnnnnnnnnnnnnnnnnnnnnnnnnnnnnnnnn",
+            "Name nnnnnnnnnnnnnnnnnnnnnnnnnnnnnnnnnnnnnnnnnnnnnnnnnnnnnnnnnnnnnnn 1:1",
+        ),
+        (
+            "+nnnnnnnnnnnnnnnnnnnnnnnnnnnnnnnnnnnnnnnnnnnnnnnnnnnnnnnnnnnnnnnn",
+            "E104 1:2",
+        ),
         ("/* a /* b */ c", "Name c 1:14"),
         ("/***/x", "Name x 1:6"),
         ("/*/ x", "E102 1:1"),
@@ -86,10 +122,22 @@ fn worked_texts(rt: HostRuntime) -> Result<(), Fail> {
         ("// x\ny", "Name y 2:1"),
         ("//", ""),
         ("/* \n\u{ff} @ */ z", "Name z 2:9"),
-        ("#include <stdio.h>", "Directive(Stdio) #include <stdio.h> 1:1"),
-        ("  # include\t<stdlib.h>  \r\nx", "Directive(Stdlib) # include\t<stdlib.h> 1:3, Name x 2:1"),
-        ("#pragma CHECKED_SCOPE on\n#pragma  CHECKED_SCOPE\tOFF", "Directive(ScopeOn) #pragma CHECKED_SCOPE on 1:1, Directive(ScopeOff) #pragma  CHECKED_SCOPE\tOFF 2:1"),
-        ("#pragma CHECKED_SCOPE ON\n#pragma CHECKED_SCOPE off", "Directive(ScopeOn) #pragma CHECKED_SCOPE ON 1:1, Directive(ScopeOff) #pragma CHECKED_SCOPE off 2:1"),
+        (
+            "#include <stdio.h>",
+            "Directive(Stdio) #include <stdio.h> 1:1",
+        ),
+        (
+            "  # include\t<stdlib.h>  \r\nx",
+            "Directive(Stdlib) # include\t<stdlib.h> 1:3, Name x 2:1",
+        ),
+        (
+            "#pragma CHECKED_SCOPE on\n#pragma  CHECKED_SCOPE\tOFF",
+            "Directive(ScopeOn) #pragma CHECKED_SCOPE on 1:1, Directive(ScopeOff) #pragma  CHECKED_SCOPE\tOFF 2:1",
+        ),
+        (
+            "#pragma CHECKED_SCOPE ON\n#pragma CHECKED_SCOPE off",
+            "Directive(ScopeOn) #pragma CHECKED_SCOPE ON 1:1, Directive(ScopeOff) #pragma CHECKED_SCOPE off 2:1",
+        ),
         ("#include <stdio.h> x", "E105 1:1"),
         ("#include <stdio.h> // c", "E105 1:1"),
         ("#pragmaCHECKED_SCOPE on", "E105 1:1"),
@@ -101,7 +149,10 @@ fn worked_texts(rt: HostRuntime) -> Result<(), Fail> {
         ("x #include <stdio.h>", "E101 1:3"),
         ("/* c */ #include <stdio.h>", "E101 1:9"),
         ("/* \n */ #include <stdio.h>", "E101 2:5"),
-        ("ptr checked\n#include<stdchecked.h>\nptr checked _Ptr", "Name ptr 1:1, Name checked 1:5, Directive(Stdchecked) #include<stdchecked.h> 2:1, Keyword ptr 3:1, Keyword checked 3:5, Keyword _Ptr 3:13"),
+        (
+            "ptr checked\n#include<stdchecked.h>\nptr checked _Ptr",
+            "Name ptr 1:1, Name checked 1:5, Directive(Stdchecked) #include<stdchecked.h> 2:1, Keyword ptr 3:1, Keyword checked 3:5, Keyword _Ptr 3:13",
+        ),
         ("\ta\r\n\t b", "Name a 1:2, Name b 2:3"),
         ("/* a */ @ 08", "E101 1:9"),
         ("08 @", "E103 1:1"),
@@ -126,6 +177,7 @@ fn each_mark(rt: HostRuntime) -> Result<(), Fail> {
 }
 
 const LETTERS: &str = "abcdefghijklmnopqrstuvwxyzABCDEFGHIJKLMNOPQRSTUVWXYZ_";
+
 const SINGLE_MARKS: &str = "(){}[]<>,;:?=.+-*/%&|^~!";
 
 /// What a text of one byte gives.
@@ -160,7 +212,8 @@ fn each_byte(rt: HostRuntime) -> Result<(), Fail> {
 
 const TOKENS_OF_WORD_COUNT: usize = 469;
 
-const WORD_COUNT: &str = "#include <stdchecked.h>\n#pragma CHECKED_SCOPE on\nstruct word {\n  int len;\n  array_ptr<char> text : count(len);\n  int times;\n  ptr<struct word> next;\n};\nptr<struct word> first;\nchar line checked[32];\n\nint same(ptr<struct word> w, int n) {\n  int i;\n  if (w->len != n) return 0;\n  for (i = 0; i < n; i = i + 1)\n    if (w->text[i] != line[i]) return 0;\n  return 1;\n}\n\nvoid add(int n) {\n  int i = 0;\n  ptr<struct word> w = first;\n  while (w) {\n    i = same(w, n);\n    if (i) { w->times = w->times + 1; return; }\n    w = w->next;\n  }\n  ptr<struct word> fresh = calloc<struct word>(1, sizeof(struct word));\n  array_ptr<char> text : count(n) = calloc<char>(n, sizeof(char));\n  for (i = 0; i < n; i = i + 1) text[i] = line[i];\n  _Bundled { fresh->len = n; fresh->text = text; }\n  fresh->times = 1;\n  fresh->next = first;\n  first = fresh;\n}\n\nvoid number(int v) {\n  if (v > 9) number(v / 10);\n  putchar(48 + v % 10);\n}\n\nint main(void) {\n  int c;\n  int n = 0;\n  int i;\n  c = getchar();\n  while (c != EOF) {\n    if (c > 32) {\n      if (n < 32) { line[n] = c; n = n + 1; }\n    } else {\n      if (n > 0) add(n);\n      n = 0;\n    }\n    c = getchar();\n  }\n  if (n > 0) add(n);\n  ptr<struct word> w = first;\n  while (w) {\n    for (i = 0; i < w->len; i = i + 1) putchar(w->text[i]);\n    putchar(32);\n    number(w->times);\n    putchar(10);\n    w = w->next;\n  }\n  return 0;\n}\n";
+const WORD_COUNT: &str =
+    "#include <stdchecked.h>\n#pragma CHECKED_SCOPE on\nstruct word {\n  int len;\n  array_ptr<char> text : count(len);\n  int times;\n  ptr<struct word> next;\n};\nptr<struct word> first;\nchar line checked[32];\n\nint same(ptr<struct word> w, int n) {\n  int i;\n  if (w->len != n) return 0;\n  for (i = 0; i < n; i = i + 1)\n    if (w->text[i] != line[i]) return 0;\n  return 1;\n}\n\nvoid add(int n) {\n  int i = 0;\n  ptr<struct word> w = first;\n  while (w) {\n    i = same(w, n);\n    if (i) { w->times = w->times + 1; return; }\n    w = w->next;\n  }\n  ptr<struct word> fresh = calloc<struct word>(1, sizeof(struct word));\n  array_ptr<char> text : count(n) = calloc<char>(n, sizeof(char));\n  for (i = 0; i < n; i = i + 1) text[i] = line[i];\n  _Bundled { fresh->len = n; fresh->text = text; }\n  fresh->times = 1;\n  fresh->next = first;\n  first = fresh;\n}\n\nvoid number(int v) {\n  if (v > 9) number(v / 10);\n  putchar(48 + v % 10);\n}\n\nint main(void) {\n  int c;\n  int n = 0;\n  int i;\n  c = getchar();\n  while (c != EOF) {\n    if (c > 32) {\n      if (n < 32) { line[n] = c; n = n + 1; }\n    } else {\n      if (n > 0) add(n);\n      n = 0;\n    }\n    c = getchar();\n  }\n  if (n > 0) add(n);\n  ptr<struct word> w = first;\n  while (w) {\n    for (i = 0; i < w->len; i = i + 1) putchar(w->text[i]);\n    putchar(32);\n    number(w->times);\n    putchar(10);\n    w = w->next;\n  }\n  return 0;\n}\n";
 
 /// Each front of a program is answered, and the program has the tokens that were counted by hand.
 #[test]

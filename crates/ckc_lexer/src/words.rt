@@ -2,15 +2,16 @@ ghost use Rattle.std.specs.Prelude.{◌≡◌, ◌<◌, true, length, slice_inde
 ghost use Rattle.std.specs.List.{list_any};
 ghost use Rattle.ckc_lexer.specs.Bytes.{is_word_byte};
 ghost use Rattle.ckc_lexer.specs.Longest.{Longest};
-ghost use Rattle.ckc_lexer.specs.Words.{is_keyword, word_item, IsWordItem};
+ghost use Rattle.ckc_lexer.specs.Words.{keywords, is_keyword, word_item, IsWordItem};
 
 use crate::bytes::word_len;
-use crate::items::{Found, Item};
+use crate::items::{Found, Item, LONG_NAME};
 use ckc_syntax::TokenKind;
 
 const LONGEST_NAME: usize = 63;
 
-const KEYWORDS: &[&[u8]] = &[
+/// The keywords that do not begin with `_`.
+const PLAIN: &[&[u8]] = &[
     b"int",
     b"unsigned",
     b"char",
@@ -27,16 +28,6 @@ const KEYWORDS: &[&[u8]] = &[
     b"sizeof",
     b"NULL",
     b"EOF",
-    b"_Ptr",
-    b"_Array_ptr",
-    b"_Nt_array_ptr",
-    b"_Checked",
-    b"_Unchecked",
-    b"_Nt_checked",
-    b"_Bundled",
-    b"_Dynamic_check",
-    b"_Dynamic_bounds_cast",
-    b"_Assume_bounds_cast",
     b"auto",
     b"case",
     b"const",
@@ -57,6 +48,20 @@ const KEYWORDS: &[&[u8]] = &[
     b"typedef",
     b"union",
     b"volatile",
+];
+
+/// The keywords that begin with `_`.
+const UNDERSCORED: &[&[u8]] = &[
+    b"_Ptr",
+    b"_Array_ptr",
+    b"_Nt_array_ptr",
+    b"_Checked",
+    b"_Unchecked",
+    b"_Nt_checked",
+    b"_Bundled",
+    b"_Dynamic_check",
+    b"_Dynamic_bounds_cast",
+    b"_Assume_bounds_cast",
     b"_Alignas",
     b"_Alignof",
     b"_Atomic",
@@ -72,6 +77,7 @@ const KEYWORDS: &[&[u8]] = &[
     b"_Itype_for_any",
 ];
 
+/// The words that `stdchecked.h` makes keywords.
 const CHECKED_KEYWORDS: &[&[u8]] = &[
     b"ptr",
     b"array_ptr",
@@ -99,7 +105,7 @@ fn word_item(checked: bool, word: &[u8]) -> Item
     ensures { result ≡ word_item checked word.now }
 {
     if word.len() > LONGEST_NAME {
-        Item::Broken(104)
+        Item::Broken(LONG_NAME)
     } else if is_keyword(checked, word) {
         Item::Token(TokenKind::Keyword)
     } else {
@@ -110,7 +116,17 @@ fn word_item(checked: bool, word: &[u8]) -> Item
 fn is_keyword(checked: bool, word: &[u8]) -> bool
     ensures { result ≡ is_keyword checked word.now }
 {
-    is_in(word, KEYWORDS) || (checked && is_in(word, CHECKED_KEYWORDS))
+    is_reserved(word) || (checked && is_in(word, CHECKED_KEYWORDS))
+}
+
+fn is_reserved(word: &[u8]) -> bool
+    ensures { result ≡ list_any (λ k. bytes_eq k word.now) keywords }
+{
+    if !word.is_empty() && word[0] == b'_' {
+        is_in(word, UNDERSCORED)
+    } else {
+        is_in(word, PLAIN)
+    }
 }
 
 fn is_in(word: &[u8], table: &[&[u8]]) -> bool
