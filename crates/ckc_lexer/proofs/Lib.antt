@@ -1,0 +1,16 @@
+pub mod Answer
+pub mod Ascii
+pub mod ByteLists
+pub mod Classes
+pub mod CommentFronts
+pub mod CutLaw
+pub mod Digits
+pub mod DirectiveFronts
+pub mod DirectiveLaw
+pub mod EscapeFronts
+pub mod Fronts
+pub mod LiteralFronts
+pub mod MarkFronts
+pub mod OneItem
+pub mod PlaceLaw
+pub mod Reading

@@ -1,0 +1,14 @@
+pub mod Bytes
+pub mod Comments
+pub mod Cut
+pub mod DirectiveReading
+pub mod Directives
+pub mod LiteralReading
+pub mod Literals
+pub mod Longest
+pub mod Marks
+pub mod Numbers
+pub mod Places
+pub mod Reading
+pub mod Spelling
+pub mod Words

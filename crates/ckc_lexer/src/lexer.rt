@@ -1,0 +1,172 @@
+ghost use Rattle.std.specs.Prelude.{◌≡◌, ◌||◌, ◌<◌, ◌≤◌, ◌+◌, ◌^◌, length, slice_index, List, map, IfOk, IfErr, IsUtf8};
+ghost use Rattle.ckc_lexer.specs.declared.lexer.LexFault.TheVariants.{Memory};
+ghost use Rattle.ckc_lexer.specs.Longest.{Longest};
+ghost use Rattle.ckc_lexer.specs.Spelling.{Spells};
+ghost use Rattle.ckc_lexer.specs.Reading.{moved};
+ghost use Rattle.ckc_base.specs.declared.places.Refusal.{Refusal};
+ghost use Rattle.ckc_lexer.specs.Cut.{is_stdchecked, longest_text, Spelled, spelled, Lexes, FirstFault, IfRefused, AnswersTokens, AnswersFault};
+ghost use Rattle.ckc_lexer.specs.Reading.{IsReading};
+
+use crate::bytes::{Class, class_of, is_blank};
+use crate::comments::slash_at;
+use crate::directives::hash_at;
+use crate::items::{Context, Found, Here, Item, LONG_TEXT, NO_TOKEN};
+use crate::literals::{character_at, text_at};
+use crate::marks::mark_at;
+use crate::numbers::number_at;
+use crate::words::word_at;
+use ckc_base::{Pos, Refusal, Seq};
+use ckc_syntax::{Directive, Token, TokenKind};
+use std::alloc::{AllocError, AllocFailed, Global};
+use std::str;
+use thiserror::Error;
+
+/// Why there are no tokens: the text is refused, or memory ran out.
+#[derive(Debug, Drop, Error)]
+pub enum LexFault {
+    #[error("refused")]
+    Refused(Refusal),
+    #[error("out of memory")]
+    Memory,
+}
+
+impl From<AllocError> for LexFault {
+    ghost from_gives = { λ _ e. e ≡ Memory };
+
+    fn from(_e: AllocError) -> LexFault {
+        LexFault::Memory
+    }
+}
+
+const LONGEST_TEXT: usize = 262144;
+
+/// The tokens of a text. Each lends its bytes of the text, and no byte is copied. Lines and columns count from
+/// 1, a column counts bytes, and only LF ends a line.
+///
+/// A text is refused for its first fault: 201 at its start where it has over 262,144 bytes; else, in the order
+/// of the text, 101 for a byte outside comments that begins no token, 102 for a comment that is open at the
+/// end, 103 for a bad number, character or string, 104 for a name of over 63 bytes, 105 for a line begun by
+/// `#` that is no directive, each at its first byte. Where memory runs out is left open.
+pub fn lex<'a>(alloc: Global, text: &'a [u8]) -> Result<Seq<Token<'a>>, LexFault>
+    // What is found are the tokens of the text: the bytes of each are the spelling at its place.
+    ensures tokens { IfOk result (λ found. (length text.now ≤ longest_text) × Lexes text.now (map spelled found)) }
+    // What is refused is refused for its first fault.
+    ensures refused { IfErr result (λ e. IfRefused e (FirstFault text.now)) }
+    // Tokens that a text has are found, unless memory runs out.
+    ensures all_tokens { (wanted : List Spelled) → length text.now ≤ longest_text → Lexes text.now wanted → AnswersTokens result wanted }
+    // A fault that is the first is told, unless memory runs out.
+    ensures all_faults { (wanted : Refusal) → FirstFault text.now wanted → AnswersFault result wanted }
+{
+    if text.len() > LONGEST_TEXT {
+        return Err(LexFault::Refused(Refusal {
+            code: LONG_TEXT,
+            pos: Pos { line: 1, col: 1 },
+        }));
+    }
+    tokens_of(alloc, text)
+}
+
+fn tokens_of<'a>(alloc: Global, text: &'a [u8]) -> Result<Seq<Token<'a>>, LexFault>
+    requires { length text.now ≤ 262144 }
+    ensures { IsReading text.now result }
+{
+    let mut tokens = Seq::new(alloc);
+    let mut here = Here {
+        line: 1,
+        col: 1,
+        fresh: true,
+    };
+    let mut checked = false;
+    let mut rest = text;
+    while !rest.is_empty() {
+        let context = Context {
+            fresh: here.fresh,
+            checked,
+        };
+        let found = item_at(context, rest);
+        let (word, after) = rest.split_at(found.len);
+        let pos = Pos {
+            line: here.line,
+            col: here.col,
+        };
+        match found.item {
+            Item::Gap => {}
+            Item::Token(kind) => {
+                let text = text_of(word);
+                tokens.push(Token { kind, text, pos })?;
+            }
+            Item::Broken(code) => return Err(LexFault::Refused(Refusal { code, pos })),
+        }
+        checked = checked_after(checked, found.item);
+        here = moved(here, word);
+        rest = after;
+    }
+    Ok(tokens)
+}
+
+/// Whether `#include <stdchecked.h>` has come.
+fn checked_after(checked: bool, item: Item) -> bool
+    ensures { result ≡ (checked || is_stdchecked item) }
+{
+    checked
+        || matches!(
+            item,
+            Item::Token(TokenKind::Directive(Directive::Stdchecked))
+        )
+}
+
+/// Bytes in ASCII as text.
+fn text_of(bytes: &[u8]) -> &str
+    requires { IsUtf8 bytes.now }
+    ensures { result.now ≡ bytes.now }
+{
+    unsafe { str::from_utf8_unchecked(bytes) }
+}
+
+/// The place behind a word.
+fn moved(mut here: Here, word: &[u8]) -> Here
+    requires line { here.line + length word.now < 2 ^ 32 }
+    requires col { here.col + length word.now < 2 ^ 32 }
+    ensures { result ≡ moved here word.now }
+{
+    for b in word {
+        here = if *b == b'\n' {
+            Here {
+                line: here.line + 1,
+                col: 1,
+                fresh: true,
+            }
+        } else {
+            Here {
+                line: here.line,
+                col: here.col + 1,
+                fresh: here.fresh && is_blank(*b),
+            }
+        };
+    }
+    here
+}
+
+/// The item at the front of a text.
+fn item_at(context: Context, text: &[u8]) -> Found
+    requires { 0 < length text.now }
+    ensures { Longest (Spells context) text.now result.len result.item }
+{
+    match class_of(text[0]) {
+        Class::Blank => Found {
+            len: 1,
+            item: Item::Gap,
+        },
+        Class::Letter => word_at(context.checked, text),
+        Class::Digit => number_at(text),
+        Class::Apostrophe => character_at(text),
+        Class::Quotation => text_at(text),
+        Class::Slash => slash_at(text),
+        Class::Hash => hash_at(context.fresh, text),
+        Class::Mark => mark_at(text),
+        Class::Other => Found {
+            len: 1,
+            item: Item::Broken(NO_TOKEN),
+        },
+    }
+}
