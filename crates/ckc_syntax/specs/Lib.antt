@@ -1,0 +1,4 @@
+pub mod Depth
+pub mod Marks
+pub mod Small
+pub mod Tally

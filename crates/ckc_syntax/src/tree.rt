@@ -1,0 +1,200 @@
+use crate::Directive;
+use ckc_base::{Boxed, Bytes, Mode, Pos, Seq};
+
+/// The tree of a text. `N` is what stands for a name: its spelling at first, and once names are resolved the
+/// declaration that it means. `A` is what a phase notes at each statement and expression.
+///
+/// A child stands in a box of its own, since the types contain one another.
+#[derive(Drop)]
+pub struct Tree<N, A> {
+    pub items: Seq<Item<N, A>>,
+}
+
+/// An item of a text: a directive, a tag line `struct name;`, a structure with its members, an object, a
+/// prototype or a function (ISO C11, 6.9). A place is that of the tag.
+#[derive(Drop)]
+pub enum Item<N, A> {
+    Directive(Directive),
+    Tag(N, Pos),
+    Struct(N, Seq<Decl<N, A>>, Pos),
+    Static(Boxed<Decl<N, A>>),
+    Proto(Boxed<Head<N, A>>),
+    Function(Boxed<Head<N, A>>, Boxed<Stmt<N, A>>),
+}
+
+/// The head of a function: its mode, the type of its result, its name with its place, its parameters, and the
+/// bounds of its result (Checked C specification 0.9, section 3, on checked scopes, and section 4, on bounds).
+#[derive(Drop)]
+pub struct Head<N, A> {
+    pub mode: Option<Mode>,
+    pub result: TypeTree<N>,
+    pub name: N,
+    pub params: Seq<Decl<N, A>>,
+    pub bounds: Option<Boxed<Limits<N, A>>>,
+    pub pos: Pos,
+}
+
+/// A type: `Raw` is `T *` with the place of the `*`, `One` is `_Ptr<T>`, `Arr` is `_Array_ptr<T>` and `Nt` is
+/// `_Nt_array_ptr<T>` (Checked C specification 0.9, section 2). The place of a structure is that of its tag.
+#[derive(Drop)]
+pub enum TypeTree<N> {
+    Int,
+    Unsigned,
+    Char,
+    Void,
+    Struct(N, Pos),
+    Raw(Boxed<TypeTree<N>>, Pos),
+    One(Boxed<TypeTree<N>>),
+    Arr(Boxed<TypeTree<N>>),
+    Nt(Boxed<TypeTree<N>>),
+}
+
+/// What a declared name is: no array, an array `[n]` with the place of its `[`, `_Checked[n]` or
+/// `_Nt_checked[n]` (Checked C specification 0.9, section 2.4). The number may be left out.
+#[derive(Clone, Copy, Debug, Drop)]
+pub enum Length {
+    Plain,
+    Raw(Option<u32>, Pos),
+    Checked(Option<u32>),
+    Nt(Option<u32>),
+}
+
+/// A declared object, member, parameter or local, with the place of its name.
+#[derive(Drop)]
+pub struct Decl<N, A> {
+    pub ctype: TypeTree<N>,
+    pub name: N,
+    pub length: Length,
+    pub bounds: Option<Boxed<Limits<N, A>>>,
+    pub init: Init<N, A>,
+    pub pos: Pos,
+}
+
+/// What a declared object begins as: nothing is written, one expression, or a list in braces.
+#[derive(Drop)]
+pub enum Init<N, A> {
+    Nothing,
+    One(Boxed<Expr<N, A>>),
+    Many(Seq<Expr<N, A>>),
+}
+
+/// A bounds expression (Checked C specification 0.9, section 3.1): `count(e)`, `byte_count(e)`,
+/// `bounds(e, f)`, or `bounds(unknown)` with the place of `bounds`.
+#[derive(Drop)]
+#[cycle(expr)]
+pub enum Limits<N, A> {
+    Count(Boxed<Expr<N, A>>),
+    ByteCount(Boxed<Expr<N, A>>),
+    Between(Boxed<Expr<N, A>>, Boxed<Expr<N, A>>),
+    Unknown(Pos),
+}
+
+/// A statement with its place: an assignment at its `=`, a local at its name, every other one at its first
+/// token.
+#[derive(Drop)]
+#[cycle(stmt)]
+pub struct Stmt<N, A> {
+    pub body: Act<N, A>,
+    pub pos: Pos,
+    pub note: A,
+}
+
+/// The statements (ISO C11, 6.8), with `_Dynamic_check` and `_Bundled` of Checked C.
+#[derive(Drop)]
+#[cycle(stmt)]
+pub enum Act<N, A> {
+    Block(Option<Mode>, Seq<Stmt<N, A>>),
+    Empty,
+    Local(Boxed<Decl<N, A>>),
+    Assign(Boxed<Expr<N, A>>, Boxed<Expr<N, A>>),
+    Call(Boxed<Expr<N, A>>),
+    If(Boxed<Expr<N, A>>, Boxed<Stmt<N, A>>, Option<Boxed<Stmt<N, A>>>),
+    While(Boxed<Expr<N, A>>, Boxed<Stmt<N, A>>),
+    For(
+        Option<Boxed<Stmt<N, A>>>,
+        Option<Boxed<Expr<N, A>>>,
+        Option<Boxed<Stmt<N, A>>>,
+        Boxed<Stmt<N, A>>,
+    ),
+    Return(Option<Boxed<Expr<N, A>>>),
+    Break,
+    Continue,
+    Check(Boxed<Expr<N, A>>),
+    Bundle(Seq<Stmt<N, A>>),
+}
+
+/// An expression with its place: a literal or name at its first byte, an operator, `[`, `.`, `->`, `?` at that
+/// token, a call at the called name, a cast at its `(`, `sizeof` and a bounds cast at the keyword.
+#[derive(Drop)]
+#[cycle(expr)]
+pub struct Expr<N, A> {
+    pub node: Node<N, A>,
+    pub pos: Pos,
+    pub note: A,
+}
+
+/// The expressions (ISO C11, 6.5), with the bounds casts of Checked C: `Tested` is `_Dynamic_bounds_cast` and
+/// `Trusted` is `_Assume_bounds_cast`. The flag of a number says that its type is `unsigned`.
+#[derive(Drop)]
+#[cycle(expr)]
+pub enum Node<N, A> {
+    Number(u32, bool),
+    Text(Bytes),
+    Null,
+    Name(N),
+    Un(TreeOp, Boxed<Expr<N, A>>),
+    Bin(TreeOp, Boxed<Expr<N, A>>, Boxed<Expr<N, A>>),
+    Pick(Boxed<Expr<N, A>>, Boxed<Expr<N, A>>, Boxed<Expr<N, A>>),
+    Index(Boxed<Expr<N, A>>, Boxed<Expr<N, A>>),
+    Dot(Boxed<Expr<N, A>>, N),
+    Arrow(Boxed<Expr<N, A>>, N),
+    Cast(TypeTree<N>, Boxed<Expr<N, A>>),
+    Size(TypeTree<N>),
+    Trusted(TypeTree<N>, Boxed<Expr<N, A>>, Option<Boxed<Limits<N, A>>>),
+    Tested(TypeTree<N>, Boxed<Expr<N, A>>, Option<Boxed<Limits<N, A>>>),
+    Call(N, Seq<Expr<N, A>>),
+    Calloc(TypeTree<N>, Boxed<Expr<N, A>>, TypeTree<N>),
+}
+
+/// The operators. The first six are unary `-`, `+`, `!`, `~`, `*` and `&`; the others are `||`, `&&`, `|`, `^`,
+/// `&`, `==`, `!=`, `<`, `<=`, `>`, `>=`, `<<`, `>>`, `+`, `-`, `*`, `/` and `%`.
+#[derive(Clone, Copy, Debug, PartialEq, Eq)]
+pub enum TreeOp {
+    Minus,
+    Plus,
+    Not,
+    Flip,
+    Deref,
+    Address,
+    OrElse,
+    AndThen,
+    Or,
+    Xor,
+    And,
+    Eq,
+    Ne,
+    Lt,
+    Le,
+    Gt,
+    Ge,
+    Shl,
+    Shr,
+    Add,
+    Sub,
+    Mul,
+    Div,
+    Rem,
+}
+
+/// What a name means once it is resolved: a local of the function, a static, a function, a tag or a member by
+/// its number, or one of the two functions that every text may call.
+#[derive(Clone, Copy, Debug, PartialEq, Eq)]
+pub enum Name {
+    Local(u32),
+    Static(u32),
+    Function(u32),
+    Tag(u32),
+    Member(u32),
+    Getchar,
+    Putchar,
+}
