@@ -51,7 +51,7 @@ ready_next parts i left s r v h d = record {
   code = d.code ∙ ap code_of (regroup d.front i left);
   short = subst (λ (l : List Instr). length l < 2 ^ 20) (regroup d.front i left) d.short;
   pc = pc_next s.pc (length d.front) d.pc (omega (arith, d.short, length-append d.front (i ∷ left)))
-    ∙ (let e : suc (length d.front) ≡ length (d.front ++ i ∷ []) = omega (arith, length-append d.front (i ∷ [])) in ap (λ k. code_start + 4 * k) e);
+      ∙ (let e : suc (length d.front) ≡ length (d.front ++ i ∷ []) = omega (arith, length-append d.front (i ∷ [])) in ap (λ k. code_start + 4 * k) e);
   memory = d.memory;
   regs = length-set s.x r v ∙ d.regs;
   zero_is = get_or-set_other s.x r 0 v 0 (omega arith) ∙ d.zero_is;
@@ -67,7 +67,7 @@ ready_skip parts i left s d = record {
   code = d.code ∙ ap code_of (regroup d.front i left);
   short = subst (λ (l : List Instr). length l < 2 ^ 20) (regroup d.front i left) d.short;
   pc = pc_next s.pc (length d.front) d.pc (omega (arith, d.short, length-append d.front (i ∷ left)))
-    ∙ (let e : suc (length d.front) ≡ length (d.front ++ i ∷ []) = omega (arith, length-append d.front (i ∷ [])) in ap (λ k. code_start + 4 * k) e);
+      ∙ (let e : suc (length d.front) ≡ length (d.front ++ i ∷ []) = omega (arith, length-append d.front (i ∷ [])) in ap (λ k. code_start + 4 * k) e);
   memory = d.memory;
   regs = d.regs;
   zero_is = d.zero_is;
@@ -233,11 +233,12 @@ puts_in_three : (parts : Parts) (s : State) (left : List Instr) (n : ℕ) → Re
 puts_in_three parts s left n d =
     let m = machine_system parts in
     let p = putting parts s left n d in
-    let put = Put (n % 256) ∷ [] in
-    (put_3 s n,
+    let put = Put (n % 256) ∷ [] in (
+      put_3 s n,
       then_stretch m 1 2 [] put s (put_1 s n) (put_3 s n) (one_step m [] s (put_1 s n) p.e0)
-        (then_stretch m 1 1 [] put (put_1 s n) (put_2 s n) (put_3 s n) (one_step m [] (put_1 s n) (put_2 s n) p.e1) (one_step m put (put_2 s n) (put_3 s n) p.e2)),
-      p.next)
+          (then_stretch m 1 1 [] put (put_1 s n) (put_2 s n) (put_3 s n) (one_step m [] (put_1 s n) (put_2 s n) p.e1) (one_step m put (put_2 s n) (put_3 s n) p.e2)),
+      p.next,
+    )
 
 -- `return n;` in four instructions
 ends_in_four : (parts : Parts) (s : State) (n : ℕ) → n < 2 ^ 31 → Ready parts (end_code n) s → Closes (machine_system parts) 4 [] s (Ended n)
@@ -245,8 +246,8 @@ ends_in_four parts s n h d =
     let m = machine_system parts in
     let p = ending parts s n h d in
     then_closes m 1 3 [] [] s (end_1 s n) (Ended n) (one_step m [] s (end_1 s n) p.e0)
-      (then_closes m 1 2 [] [] (end_1 s n) (end_2 s n) (Ended n) (one_step m [] (end_1 s n) (end_2 s n) p.e1)
-        (then_closes m 1 1 [] [] (end_2 s n) (end_3 s n) (Ended n) (one_step m [] (end_2 s n) (end_3 s n) p.e2) (one_halt m [] (end_3 s n) (Ended n) p.e3)))
+    (then_closes m 1 2 [] [] (end_1 s n) (end_2 s n) (Ended n) (one_step m [] (end_1 s n) (end_2 s n) p.e1)
+    (then_closes m 1 1 [] [] (end_2 s n) (end_3 s n) (Ended n) (one_step m [] (end_2 s n) (end_3 s n) p.e2) (one_halt m [] (end_3 s n) (Ended n) p.e3)))
 
 -- ---- texts
 
@@ -280,7 +281,7 @@ first_ready puts value input few = record {
 pub follows_in_four : (puts : List ℕ) (value : ℕ) (input : List ℕ) → length puts ≤ 300 → value < 2 ^ 31 → Follows (source puts value) (machine (parts_of puts value) input) 4
 follows_in_four puts value input few h =
     follows_by_steps (source_system value) (machine_system (parts_of puts value)) (At (parts_of puts value) value) (λ _. 0) 4
-      (matches (parts_of puts value) value h) puts (first_state (parts_of puts value) input) (first_ready puts value input few)
+    (matches (parts_of puts value) value h) puts (first_state (parts_of puts value) input) (first_ready puts value input few)
 
 -- the machine over the code puts the low bytes of the numbers and ends with the value, all by plain instructions
 path_from : (parts : Parts) (value : ℕ) → value < 2 ^ 31 → (left : List ℕ) (s : State) → At parts value left s
@@ -291,9 +292,11 @@ path_from parts value h [] s d =
 path_from parts value h (b ∷ left) s d =
     let p = putting parts s (instructions left value) b d in
     let r = path_from parts value h left (put_3 s b) p.next in
-    let bytes = map (λ b. b % 256) left in
-    (suc (suc (suc r.0)), omega (arith, r.1),
-      by_quiet (suc (suc r.0)) (b % 256 ∷ bytes) s (put_1 s b) p.p0 p.e0 (by_quiet (suc r.0) (b % 256 ∷ bytes) (put_1 s b) (put_2 s b) p.p1 p.e1 (by_put r.0 (b % 256) bytes (put_2 s b) (put_3 s b) p.p2 p.e2 r.2)))
+    let bytes = map (λ b. b % 256) left in (
+      suc (suc (suc r.0)),
+      omega (arith, r.1),
+      by_quiet (suc (suc r.0)) (b % 256 ∷ bytes) s (put_1 s b) p.p0 p.e0 (by_quiet (suc r.0) (b % 256 ∷ bytes) (put_1 s b) (put_2 s b) p.p1 p.e1 (by_put r.0 (b % 256) bytes (put_2 s b) (put_3 s b) p.p2 p.e2 r.2)),
+    )
 
 pub runs_code : (puts : List ℕ) (value : ℕ) → length puts ≤ 300 → value < 2 ^ 31 → Runs (code_of (instructions puts value)) 1000000000 (map (λ b. b % 256) puts) value
 runs_code puts value few h =

@@ -102,7 +102,7 @@ pub word_in_code : (parts : Parts) (code : List ℕ) (pc at : ℕ) → parts.cod
     → loaded (flat parts) 4 pc ≡ Some (from_le_bytes w32 (get_or code at 0 ∷ get_or code (at + 1) 0 ∷ get_or code (at + 2) 0 ∷ get_or code (at + 3) 0 ∷ []))
 word_in_code parts code pc at e p h =
     let byte : (a r : ℕ) → a ≡ code_start + (at + r) → r < 4 → flat parts a ≡ Some (get_or code (at + r) 0) = λ a r q l.
-      code_at_sum parts a (at + r) q (omega (arith, ap length e)) ∙ ap (λ (c : List ℕ). Some (get_or c (at + r) 0)) e in
+    code_at_sum parts a (at + r) q (omega (arith, ap length e)) ∙ ap (λ (c : List ℕ). Some (get_or c (at + r) 0)) e in
     let b0 : flat parts pc ≡ Some (get_or code at 0) = (let z : at ≡ at + 0 = omega arith in code_at_sum parts pc at p (omega (arith, ap length e)) ∙ ap (λ (c : List ℕ). Some (get_or c at 0)) e) in
     loaded_four (flat parts) pc _ _ _ _ b0 (byte (pc + 1) 1 (omega arith) (omega arith)) (byte (pc + 1 + 1) 2 (omega arith) (omega arith)) (byte (pc + 1 + 1 + 1) 3 (omega arith) (omega arith))
     ∙ ap Some (omega arith)
@@ -114,7 +114,7 @@ plain_at parts s front back i code range small memory pc plain = record {
   in_code = ap (is_code parts) pc ∙ in_code parts front back i code;
   instruction = i;
   fetched =
-    ap (λ m. option_and_then decoded (loaded m 4 s.pc)) memory ∙ ap (λ a. option_and_then decoded (loaded (flat parts) 4 a)) pc
-    ∙ ap (option_and_then decoded) (fetched parts front back i code small) ∙ (decoded_law (row_word i) i).1 (range, refl);
+      ap (λ m. option_and_then decoded (loaded m 4 s.pc)) memory ∙ ap (λ a. option_and_then decoded (loaded (flat parts) 4 a)) pc
+      ∙ ap (option_and_then decoded) (fetched parts front back i code small) ∙ (decoded_law (row_word i) i).1 (range, refl);
   plain = plain;
 }

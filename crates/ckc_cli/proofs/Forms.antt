@@ -80,11 +80,12 @@ laid_argument n more text h l =
     let a = laid_joined (codes "(") (joined (decimal n) ∷ joined (codes ")") ∷ joined (codes ";") ∷ more) text refl l in
     let b = laid_number n 41 [] (joined (codes ";") ∷ more) a.0 h refl a.2 in
     let c = laid_joined (codes ")") (joined (codes ";") ∷ more) b.0 refl b.2 in
-    let d = laid_joined (codes ";") more c.0 refl c.2 in
-    (d.0,
+    let d = laid_joined (codes ";") more c.0 refl c.2 in (
+      d.0,
       ap (λ o. o >>= (λ t. numeral t >>= after_number)) a.1 ∙ ap (λ o. o >>= after_number) b.1
-      ∙ ap (λ o. o >>= (λ u. after (codes ";") u >>= (λ v. with_rest v n))) c.1 ∙ ap (λ o. o >>= (λ v. with_rest v n)) d.1,
-      d.2)
+          ∙ ap (λ o. o >>= (λ u. after (codes ";") u >>= (λ v. with_rest v n))) c.1 ∙ ap (λ o. o >>= (λ v. with_rest v n)) d.1,
+      d.2,
+    )
 
 argument_laid : (n : ℕ) (more : List Item) (text t : List ℕ) → argument text ≡ Some (n, t) → Laid more t → (n < 2 ^ 31) × IsArgument n more text
 unfolding argument
@@ -181,11 +182,12 @@ laid_puts (suc count) (n ∷ puts) value text few small l =
     let more = flat_map put puts ++ tail value in
     let a = laid_joined (codes "putchar") (joined (codes "(") ∷ joined (decimal n) ∷ joined (codes ")") ∷ joined (codes ";") ∷ more) text refl l in
     let b = laid_argument n more a.0 small.0 a.2 in
-    let c = laid_puts count puts value b.0 (omega arith) small.1 b.2 in
-    (c.0,
+    let c = laid_puts count puts value b.0 (omega arith) small.1 b.2 in (
+      c.0,
       ap (put_or_stop (puts_at count) text) a.1 ∙ ap (λ o. o >>= after_put (puts_at count)) b.1
-      ∙ ap (λ o. o >>= (λ (rest : List ℕ × List ℕ). Some (n ∷ rest.0, rest.1))) c.1,
-      c.2)
+          ∙ ap (λ o. o >>= (λ (rest : List ℕ × List ℕ). Some (n ∷ rest.0, rest.1))) c.1,
+      c.2,
+    )
 
 abbrev FoundPuts : ℕ → List ℕ → ℕ → List ℕ → Type 0
 FoundPuts count puts value text = (length puts ≤ count) × AllSmall puts × Laid (flat_map put puts ++ tail value) text

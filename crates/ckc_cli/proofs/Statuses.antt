@@ -64,10 +64,10 @@ ends_through_image text puts value f =
       parts = parts;
       agrees = λ input are. wider _ _ 4 33554432 (omega arith) (follows_in_four puts value input f.few f.value_small);
       machine_ends = λ input are.
-        let p = (follows_in_four puts value input f.few f.value_small).forward n (ended_is_not_stuck (source puts value n) value ended) in
-        let within : p.0 ≤ instruction_limit = omega (arith, p.1, f.few) in
-        let later = shown-later (machine_system parts) p.0 instruction_limit 0 [] (first_state parts input) within in
-        later.stays (ended_is_not_going (machine parts input p.0) value (ap (λ (a : Showing Event). a.standing) p.2 ∙ ended)) ∙ p.2;
+          let p = (follows_in_four puts value input f.few f.value_small).forward n (ended_is_not_stuck (source puts value n) value ended) in
+          let within : p.0 ≤ instruction_limit = omega (arith, p.1, f.few) in
+          let later = shown-later (machine_system parts) p.0 instruction_limit 0 [] (first_state parts input) within in
+          later.stays (ended_is_not_going (machine parts input p.0) value (ap (λ (a : Showing Event). a.standing) p.2 ∙ ended)) ∙ p.2;
     }
 
 -- ---- texts and faults
@@ -91,7 +91,6 @@ refusal_is r code at e f = ap (λ c. record { code = c; pos = r.pos }) e ∙ ap 
 -- the words name one text
 same_name : (words : List (List ℕ)) (name other : List ℕ) → Reads words (Exec name) → Reads words (Exec other) → name ≡ other
 same_name words name other e f = let p = sym e ∙ f in cc
-
 
 -- ---- the clauses
 

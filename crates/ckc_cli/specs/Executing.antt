@@ -55,4 +55,4 @@ abbrev pub OfWords : List (List ℕ) → Option Files → Bool → ℕ → ℕ �
 OfWords words files steady store store' faults faults' old new same kept s =
     (((command : Command) → ¬ Reads words command) × (s ≡ status.Usage) × same × kept)
     ⊎ ((name : List ℕ) × Reads words (Exec name) × OfName files store store' name faults faults' old new same s
-      × ((here : Files) → IsTrue steady → files ≡ Some here → s ≡ status.StoreFault → fin.get here name ≡ None))
+    × ((here : Files) → IsTrue steady → files ≡ Some here → s ≡ status.StoreFault → fin.get here name ≡ None))

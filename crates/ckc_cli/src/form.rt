@@ -47,13 +47,7 @@ fn after_gap(text: &[u8]) -> Option<&[u8]>
 {
     match text.split_first() {
         None => None,
-        Some((first, rest)) => {
-            if is_blank(*first) {
-                Some(rest)
-            } else {
-                None
-            }
-        }
+        Some((first, rest)) => { if is_blank(*first) { Some(rest) } else { None } }
     }
 }
 
@@ -109,7 +103,11 @@ fn small_value(digits: &[u8]) -> Option<u32>
         }
         value = 10 * value + u64::from(*c - b'0');
     }
-    if value < 0x8000_0000 { Some(value as u32) } else { None }
+    if value < 0x8000_0000 {
+        Some(value as u32)
+    } else {
+        None
+    }
 }
 
 /// The number that plain digits spell, where it is below 2^31.
@@ -189,11 +187,7 @@ pub struct Program {
 }
 
 /// The numbers of `putchar(n);` as often as it stands there, but at most so often, and what follows.
-fn puts_at(
-    alloc: Global,
-    text: &[u8],
-    most: usize,
-) -> Result<Option<(Vec<u32>, &[u8])>, AllocError>
+fn puts_at(alloc: Global, text: &[u8], most: usize) -> Result<Option<(Vec<u32>, &[u8])>, AllocError>
     ensures { IfOk result (λ r. option_map (λ x. (x.0.items, x.1.now)) r ≡ puts_at most text.now) }
 {
     let mut puts = Vec::new(alloc);

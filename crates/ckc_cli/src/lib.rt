@@ -13,3 +13,6 @@ mod words;
 
 pub use status::{FaultKind, Status};
 pub use top::ccc;
+
+#[cfg(test)]
+mod tests;

@@ -25,6 +25,7 @@ impl Model for Line {
 }
 
 impl Line {
+    /// An empty line.
     pub fn new() -> Line
         ensures { result ≡ [] }
     {
@@ -34,6 +35,7 @@ impl Line {
         }
     }
 
+    /// The bytes of the line so far.
     pub fn as_bytes(&self) -> &[u8]
         ensures { result.now ≡ self.now }
     {
@@ -90,5 +92,9 @@ fn hex_byte(digit: u32) -> u8
     requires { digit < 16 }
     ensures { result ≡ hex_digit digit }
 {
-    if digit < 10 { 48 + digit as u8 } else { 87 + digit as u8 }
+    if digit < 10 {
+        48 + digit as u8
+    } else {
+        87 + digit as u8
+    }
 }

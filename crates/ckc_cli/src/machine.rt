@@ -101,7 +101,7 @@ pub fn run<O: Sink>(code: &[u8], limit: u64, out: &mut O) -> Result<u32, Failed>
         → MatchResult result (λ v. v ≡ value) (λ _. Rose (O.faults out.old) (O.faults out.new)) }
     ensures told { (bytes : List ℕ) (value : ℕ) (before : List ℕ) → Runs code.now limit bytes value → O.written out.old ≡ Some before
         → MatchResult result (λ _. O.written out.new ≡ Some (before ++ bytes))
-            (λ _. (k : ℕ) × (O.written out.new ≡ Some (before ++ take k bytes))) }
+        (λ _. (k : ℕ) × (O.written out.new ≡ Some (before ++ take k bytes))) }
 {
     let mut cpu = Cpu {
         regs: Regs { x: [0; 32] },

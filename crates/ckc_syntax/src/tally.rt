@@ -18,6 +18,7 @@ pub struct Tally {
 }
 
 impl Tally {
+    /// The counts of nothing.
     pub fn none() -> Tally
         ensures { result ≡ nothing }
     {

@@ -12,6 +12,7 @@ pub struct Plan<'a> {
 }
 
 impl<'a> Plan<'a> {
+    /// No call is made yet; the calls with these numbers, from 1, fail.
     pub fn new(fail: &'a [u64]) -> Plan<'a>
         ensures listed { result.fail.now ≡ fail.now }
         ensures calls { result.calls ≡ 0 }

@@ -55,12 +55,7 @@ impl<'a, R: Files> Store for RealStore<'a, R> {
 }
 
 /// Reads a file, and stops after `limit + 1` bytes. Each turn takes at least one byte.
-fn read_file<R: Files>(
-    rt: &R,
-    alloc: Global,
-    name: &str,
-    limit: u64,
-) -> Result<Fetched, StoreError>
+fn read_file<R: Files>(rt: &R, alloc: Global, name: &str, limit: u64) -> Result<Fetched, StoreError>
     ensures { IsWithin limit result }
 {
     let Ok(mut file) = fs::open(rt, name) else {

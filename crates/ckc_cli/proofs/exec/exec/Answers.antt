@@ -9,4 +9,4 @@ returns-in-Ok-clause-cause g c =
     let out = c.args.out.now in
     let after = c.exec_fetched.new.out in
     fetched_cause (g.F.Store.files c.args.store.now) (g.F.Store.faults c.args.store.now) (g.F.Store.faults c.fetch.new.self) c.args.name.now
-      (faults out) (faults after) (written out) (written after) (after ≡ out) c.in-Ok.fetched c.exec_fetched.result c.in-Ok.ensures.told c.exec_fetched.ensures.cause
+    (faults out) (faults after) (written out) (written after) (after ≡ out) c.in-Ok.fetched c.exec_fetched.result c.in-Ok.ensures.told c.exec_fetched.ensures.cause

@@ -11,4 +11,4 @@ returns-in-Whole-clause-cause g c =
     let after = c.exec_text.new.out in
     let s = c.exec_text.result in
     subst (λ (f : Fetched). OfFetched f (faults out) (faults after) (written out) (written after) (after ≡ out) s) (sym c.in-Whole.is)
-      (subst (λ (t : List ℕ). OfText t (faults out) (faults after) (written out) (written after) (after ≡ out) s) c.as_slice.ensures c.exec_text.ensures.cause)
+    (subst (λ (t : List ℕ). OfText t (faults out) (faults after) (written out) (written after) (after ≡ out) s) c.as_slice.ensures c.exec_text.ensures.cause)

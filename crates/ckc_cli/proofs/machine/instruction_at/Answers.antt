@@ -10,7 +10,7 @@ returns-clause-step c = λ parts input e.
     let pc = c.args.cpu.now.pc in
     let s : State = state_of parts input c.args.cpu.now in
     let in_it : is_code parts pc ≡ true =
-      ap (λ (l : List ℕ). not (nat_lt pc code_start) && nat_lt (pc + 3) (code_start + length l)) (e ∙ sym c.requires.2) ∙ c.requires.3.in_code in
+    ap (λ (l : List ℕ). not (nat_lt pc code_start) && nat_lt (pc + 3) (code_start + length l)) (e ∙ sym c.requires.2) ∙ c.requires.3.in_code in
     ap (λ b. cond b (executes s (option_and_then decoded (loaded s.memory 4 pc))) (faults 0 s)) in_it
     ∙ ap (λ (o : Option ℕ). executes s (option_and_then decoded o)) (c.word_at.ensures parts e)
     ∙ ap (executes s) (sym c.in-Some.ensures.computed)

@@ -51,24 +51,30 @@ pub loop-step-preserved : goal.loop-step-preserved
 loop-step-preserved g c =
     let parts = code_parts c.args.code.now in
     elim c.match-execute.branch [
-      in-Quiet w ↦ record {
+      | in-Quiet w ↦ record {
         counts = subst (λ o. g.O.Sink.faults c.args.out.now ≤ g.O.Sink.faults o) (sym w.out-is) c.loop-step.invariant.counts;
         left = λ bytes value r.
-          let p = c.loop-step.invariant.left bytes value r in
-          let e = c.instruction_at-i.ensures.step parts [] refl ∙ w.in-Quiet.ensures parts [] in
-          let q = path_quiet parts value p.2 p.1 _ _ p.5 e in
-          (p.0, p.1, q.0, p.3, omega (arith, p.4, q.1), q.2, λ before h. ap g.O.Sink.written w.out-is ∙ p.6 before h);
+            let p = c.loop-step.invariant.left bytes value r in
+            let e = c.instruction_at-i.ensures.step parts [] refl ∙ w.in-Quiet.ensures parts [] in
+            let q = path_quiet parts value p.2 p.1 _ _ p.5 e in
+            (p.0, p.1, q.0, p.3, omega (arith, p.4, q.1), q.2, λ before h. ap g.O.Sink.written w.out-is ∙ p.6 before h);
       }
-    | in-Puts+in_ok-put-in-Puts w ↦ record {
+      | in-Puts+in_ok-put-in-Puts w ↦ record {
         counts =
-          let later : g.O.Sink.faults c.args.out.now ≤ g.O.Sink.faults w.put.new.self = omega (arith, c.loop-step.invariant.counts, w.put.ensures.counts) in
-          subst (λ o. g.O.Sink.faults c.args.out.now ≤ g.O.Sink.faults o) (sym w.out-is) later;
+            let later : g.O.Sink.faults c.args.out.now ≤ g.O.Sink.faults w.put.new.self = omega (arith, c.loop-step.invariant.counts, w.put.ensures.counts) in
+            subst (λ o. g.O.Sink.faults c.args.out.now ≤ g.O.Sink.faults o) (sym w.out-is) later;
         left = λ bytes value r.
-          let p = c.loop-step.invariant.left bytes value r in
-          let e = c.instruction_at-i.ensures.step parts [] refl ∙ w.in-Puts.ensures parts [] in
-          let q = path_puts parts value p.2 w.in-Puts.byte p.1 _ _ p.5 e in
-          (p.0 ++ w.in-Puts.byte ∷ [], q.1, q.0, p.3 ∙ ap (λ l. p.0 ++ l) q.3 ∙ sym (append_assoc p.0 (w.in-Puts.byte ∷ []) q.1), omega (arith, p.4, q.2), q.4,
-            λ before h. ap g.O.Sink.written w.out-is ∙ w.in_ok-put-in-Puts.ensures.told (before ++ p.0) (p.6 before h) ∙ ap Some (append_assoc before p.0 (w.in-Puts.byte ∷ [])));
+            let p = c.loop-step.invariant.left bytes value r in
+            let e = c.instruction_at-i.ensures.step parts [] refl ∙ w.in-Puts.ensures parts [] in
+            let q = path_puts parts value p.2 w.in-Puts.byte p.1 _ _ p.5 e in (
+              p.0 ++ w.in-Puts.byte ∷ [],
+              q.1,
+              q.0,
+              p.3 ∙ ap (λ l. p.0 ++ l) q.3 ∙ sym (append_assoc p.0 (w.in-Puts.byte ∷ []) q.1),
+              omega (arith, p.4, q.2),
+              q.4,
+              λ before h. ap g.O.Sink.written w.out-is ∙ w.in_ok-put-in-Puts.ensures.told (before ++ p.0) (p.6 before h) ∙ ap Some (append_assoc before p.0 (w.in-Puts.byte ∷ [])),
+            );
       }
     ]
 
