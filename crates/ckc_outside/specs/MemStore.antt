@@ -1,6 +1,4 @@
-use Rattle.std.specs.Prelude.{ℕ, List, Bool, ◌==◌, length, map, None, Option, ◌≡◌, String, Vec, Result, Ok, Err, true, false}
-use Rattle.std.specs.Ordering.{nat_cmp}
-use Rattle.std.specs.Cmp.Lexicographic.{slice_cmp}
+use Rattle.std.specs.Prelude.{ℕ, List, Bool, ◌==◌, length, map, String, Vec, Result, Ok, Err, true, false}
 use Rattle.std.specs.BTreeMap.{BTreeMap}
 use Rattle.std.specs.FinMap as fin
 use Rattle.std.specs.String.{string_bytes}
