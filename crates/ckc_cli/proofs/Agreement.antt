@@ -1,26 +1,24 @@
 -- The code of an accepted text follows its meaning.
-use Rattle.std.proofs.Common.{◌≡◌, ◌≢◌, ◌⊎◌, inl, inr, ℕ, zero, suc, ◌+◌, ◌-◌, ◌*◌, ◌/◌, ◌%◌, ◌≤◌, ◌<◌, ◌^◌, Bool, true, false, cond, nat_lt, ◌==◌, List, [], ◌∷◌, ◌++◌, length, get_or, refl, sym, ap, subst, ◌∙◌, arith, append_assoc, length-append, map, ℤ, pos, ◌-ℤ◌}
-use Rattle.std.specs.Prelude.{slice_set, replicate}
-use Rattle.std.specs.List.{flat_map}
+use Rattle.std.proofs.Common.{◌≡◌, inl, inr, ℕ, suc, ◌+◌, ◌*◌, ◌%◌, ◌≤◌, ◌<◌, ◌^◌, Bool, true, false, cond, nat_lt, ◌==◌, List, [], ◌∷◌, ◌++◌, length, get_or, refl, sym, ap, subst, ◌∙◌, arith, append_assoc, length-append, map, pos, ◌-ℤ◌}
+use Rattle.std.specs.Prelude.{slice_set}
 use Rattle.std.proofs.lemmas.Bool.Decides.{nat_tests}
 use Rattle.std.proofs.lemmas.Int.{ints}
 use Rattle.std.proofs.lemmas.List.{get_or-set_same, get_or-set_other}
 use Rattle.std.proofs.Math.ListN.{length-set}
 use Rattle.ckc_base.specs.Words.{word_of}
-use Rattle.ckc_base.specs.Traces.{Event, Put, Standing, Ended, Stuck, Showing}
-use Rattle.ckc_base.specs.Steps.{Move, Goes, Halts, System, meaning}
-use Rattle.ckc_base.specs.Follows.{Follows, IsOver}
+use Rattle.ckc_base.specs.Traces.{Put, Ended}
+use Rattle.ckc_base.specs.Steps.{Goes, Halts}
+use Rattle.ckc_base.specs.Follows.{Follows}
 use Rattle.ckc_base.proofs.Runs.{Stretch, Closes, Matched, one_step, one_halt, then_stretch, then_closes, follows_by_steps}
 use Rattle.ckc_rv.specs.declared.instructions.ImmOp.TheVariants.{Addi}
 use Rattle.ckc_rv.specs.declared.instructions.Instr.{Instr}
 use Rattle.ckc_rv.specs.declared.instructions.Instr.TheVariants.{Lui, Imm, Ecall}
 use Rattle.ckc_rv.specs.Table.{row_word, InRange}
-use Rattle.ckc_rv.specs.Effects.{effect_of, following, moved}
-use Rattle.ckc_rv.specs.Machine.{Parts, State, Memory, flat, code_start, machine_step, machine_system, first_state, machine, with_register, calls, by_outcome}
-use Rattle.ckc_cli.specs.FirstForm.{AllSmall}
-use Rattle.ckc_cli.specs.Source.{source, source_system, source_step, Agrees, AreBytes}
+use Rattle.ckc_rv.specs.Effects.{effect_of, following}
+use Rattle.ckc_rv.specs.Machine.{Parts, State, flat, code_start, machine_step, machine_system, first_state, machine, calls, by_outcome}
+use Rattle.ckc_cli.specs.Source.{source, source_system, source_step}
 use Rattle.ckc_cli.specs.Compiled.{put_code, end_code, instructions, code_of, parts_of, upper, lower}
-use Rattle.ckc_cli.specs.Running.{IsPlain, AtPlain, Path, by_quiet, by_put, by_end, Runs, code_parts}
+use Rattle.ckc_cli.specs.Running.{IsPlain, AtPlain, Path, by_quiet, by_put, by_end, Runs}
 use Rattle.ckc_cli.proofs.Codes.{step_at, plain_at}
 
 -- The machine is about to run these instructions, and then those after them; the rest of its state is as the code

@@ -1,20 +1,17 @@
 -- The bytes of instructions, and how they are fetched.
-use Rattle.std.proofs.Common.{◌≡◌, ◌≢◌, ℕ, zero, suc, ◌+◌, ◌-◌, ◌*◌, ◌/◌, ◌%◌, ◌≤◌, ◌<◌, ◌^◌, Bool, true, false, cond, not, nat_lt, List, [], ◌∷◌, ◌++◌, length, get_or, take, drop, refl, sym, ap, subst, ◌∙◌, arith, None, Some, Option, option_and_then, append_assoc, length-append}
-use Rattle.std.specs.Option.{option_map}
+use Rattle.std.proofs.Common.{◌≡◌, ℕ, ◌+◌, ◌-◌, ◌*◌, ◌<◌, ◌^◌, Bool, true, false, cond, nat_lt, List, [], ◌∷◌, ◌++◌, length, get_or, refl, sym, ap, ◌∙◌, arith, None, Some, option_and_then, length-append}
 use Rattle.std.specs.List.{flat_map}
-use Rattle.std.specs.Int.{w32, to_le_bytes, from_le_bytes}
+use Rattle.std.specs.Int.{w32, from_le_bytes}
 use Rattle.std.proofs.lemmas.Bool.Decides.{nat_tests}
 use Rattle.std.proofs.lemmas.Nat.{from_le_bytes-to_le_bytes_4}
 use Rattle.std.proofs.lemmas.List.{get_or-append-add}
 use Rattle.std.proofs.Math.ListN.{get_or-append}
 use Rattle.std.proofs.lemmas.Grind.{flat_map-append}
-use Rattle.ckc_base.specs.Traces.{Event}
-use Rattle.ckc_base.specs.Steps.{Move}
 use Rattle.ckc_rv.specs.declared.instructions.Instr.{Instr}
-use Rattle.ckc_rv.specs.Table.{row_word, InRange, Decodes}
+use Rattle.ckc_rv.specs.Table.{row_word, InRange}
 use Rattle.ckc_rv.specs.Decoded.{decoded}
 use Rattle.ckc_rv.specs.Effects.{effect_of}
-use Rattle.ckc_rv.specs.Machine.{Parts, State, Memory, flat, loaded, is_code, code_start, data_start, machine_step, executes, by_outcome, faults}
+use Rattle.ckc_rv.specs.Machine.{Parts, State, Memory, flat, loaded, is_code, code_start, machine_step, executes, by_outcome, faults}
 use Rattle.ckc_rv.proofs.Rows.{decoded_law}
 use Rattle.ckc_cli.specs.Running.{IsPlain, AtPlain}
 use Rattle.ckc_cli.specs.Compiled.{put_code, end_code, instructions, instruction_bytes, code_of}

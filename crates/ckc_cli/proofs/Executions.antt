@@ -1,18 +1,15 @@
 -- What the parts of `exec` rest on.
-use Rattle.std.proofs.Common.{◌≡◌, ◌⊎◌, inl, inr, ℕ, zero, suc, ◌+◌, ◌≤◌, ◌<◌, ◌^◌, List, [], ◌∷◌, ◌++◌, length, take, Option, None, Some, Result, Ok, refl, sym, ap, subst, ◌∙◌, arith}
+use Rattle.std.proofs.Common.{◌≡◌, inl, ℕ, zero, suc, ◌<◌, List, [], ◌∷◌, length, Option, None, Some, Ok, refl, sym, ap, subst, arith}
 use Rattle.std.specs.FinMap as fin
-use Rattle.ckc_base.specs.declared.places.Pos.{Pos}
-use Rattle.ckc_base.specs.declared.places.Refusal.{Refusal}
 use Rattle.ckc_outside.specs.declared.traits.Fetched.{Fetched}
 use Rattle.ckc_outside.specs.declared.traits.Fetched.TheVariants.{Whole, Longer}
-use Rattle.ckc_outside.specs.Outside.{Files, Rose, GivesFile}
+use Rattle.ckc_outside.specs.Outside.{Files, GivesFile}
 use Rattle.ckc_cli.specs.declared.status.Status.{Status}
 use Rattle.ckc_cli.specs.declared.status.Status.TheVariants as status
 use Rattle.ckc_cli.specs.FirstForm.{IsForm, FirstFault, first_place, text_limit}
 use Rattle.ckc_cli.specs.Executing.{OfName, OfText, OfFetched, Holds, bytes_put}
 use Rattle.ckc_cli.specs.Compiled.{instructions, code_of}
 use Rattle.ckc_cli.specs.Running.{Runs}
-use Rattle.ckc_cli.specs.Causes.{instruction_limit}
 use Rattle.ckc_cli.proofs.Agreement.{runs_code}
 
 -- the code of a text of the form, kept under whatever name, runs

@@ -1,10 +1,9 @@
 -- The form of a text is exactly what is read of it.
-use Rattle.std.proofs.Common.{◌≡◌, ◌≢◌, ◌↔◌, ◌⊎◌, inl, inr, ℕ, zero, suc, ◌+◌, ◌≤◌, ◌<◌, ◌^◌, ◌==◌, Bool, true, false, cond, IsTrue, List, [], ◌∷◌, ◌++◌, length, drop, nat_eq, refl, sym, ap, subst, ◌∙◌, arith, None, Some, Option, codes, append_assoc, append-nil}
-use Rattle.std.specs.List.{list_all, flat_map, starts_with}
+use Rattle.std.proofs.Common.{◌≡◌, ℕ, zero, suc, ◌≤◌, ◌<◌, ◌^◌, ◌==◌, Bool, true, false, cond, List, [], ◌∷◌, ◌++◌, length, drop, nat_eq, refl, sym, ap, subst, ◌∙◌, arith, None, Some, Option, codes, append_assoc, append-nil}
+use Rattle.std.specs.List.{flat_map, starts_with}
 use Rattle.std.specs.Fmt.{decimal}
-use Rattle.std.proofs.lemmas.Bool.{false≢true}
 use Rattle.std.proofs.lemmas.Bool.Decides.{nat_tests}
-use Rattle.ckc_cli.specs.FirstForm.{is_blank, AreBlanks, Item, Laid, joined, apart, head, put, tail, AllSmall, IsForm}
+use Rattle.ckc_cli.specs.FirstForm.{AreBlanks, Item, Laid, joined, apart, head, put, tail, AllSmall, IsForm}
 use Rattle.ckc_cli.specs.Reading.{skip, after, after_gap, after_apart, numeral, after_head, argument, ending, puts_at, put_or_stop, form_of, ◌>>=◌}
 use Rattle.ckc_cli.proofs.Readings.{IsWord, with_rest, bind_some, some_inj, after_is, laid_joined, joined_laid, laid_apart, apart_laid, laid_number, number_laid, laid_number_apart, number_apart_laid, skip-blanks, skip_splits}
 

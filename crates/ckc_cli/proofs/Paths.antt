@@ -1,8 +1,8 @@
 -- Runs of plain instructions, one step at a time.
-use Rattle.std.proofs.Common.{◌≡◌, ◌≢◌, ◌⊎◌, inl, inr, ℕ, zero, suc, ◌+◌, ◌-◌, ◌^◌, ◌≤◌, ◌<◌, List, [], ◌∷◌, ◌++◌, length, take, refl, sym, ap, subst, ◌∙◌, arith, append_assoc, append-nil, Some, Option, true, false, Result, Ok, Err, MatchResult}
+use Rattle.std.proofs.Common.{◌≡◌, inl, inr, ℕ, zero, suc, ◌≤◌, ◌<◌, List, [], ◌∷◌, ◌++◌, length, take, refl, sym, ap, subst, ◌∙◌, arith, append_assoc, append-nil, true, false, Result, Ok, Err, MatchResult}
 use Rattle.std.specs.Result.{IsErr}
 use Rattle.std.proofs.lemmas.Grind.{common_steps}
-use Rattle.ckc_base.specs.Traces.{Event, Put, Standing, Ended}
+use Rattle.ckc_base.specs.Traces.{Event, Put, Ended}
 use Rattle.ckc_base.specs.Steps.{Move, Goes, Halts}
 use Rattle.ckc_outside.specs.Outside.{Rose}
 use Rattle.ckc_rv.specs.Machine.{Parts, State, machine_step}

@@ -1,6 +1,6 @@
 -- Reading from the left finds exactly what the form lays out.
-use Rattle.std.proofs.Common.{◌≡◌, ◌≢◌, ◌↔◌, ◌⊎◌, inl, inr, ℕ, zero, suc, ◌+◌, ◌-◌, ◌*◌, ◌≤◌, ◌<◌, ◌^◌, ◌&&◌, Bool, true, false, cond, not, IsTrue, List, [], ◌∷◌, ◌++◌, length, take, drop, get_or, refl, sym, ap, subst, ◌∙◌, arith, None, Some, Option, codes, nat_eq, nat_lt, ◌==◌, ◌||◌, option_and_then, append_assoc, append-nil}
-use Rattle.std.specs.List.{list_all, starts_with, flat_map}
+use Rattle.std.proofs.Common.{◌≡◌, ℕ, zero, suc, ◌+◌, ◌-◌, ◌≤◌, ◌<◌, ◌^◌, ◌&&◌, Bool, true, false, cond, not, IsTrue, List, [], ◌∷◌, ◌++◌, length, take, drop, get_or, refl, sym, ap, ◌∙◌, arith, None, Some, Option, nat_eq, nat_lt, ◌==◌, ◌||◌, append_assoc}
+use Rattle.std.specs.List.{list_all, starts_with}
 use Rattle.std.specs.Fmt.{decimal}
 use Rattle.std.proofs.lemmas.Bool.{false≢true}
 use Rattle.std.proofs.lemmas.Bool.Decides.{nat_tests}
@@ -12,8 +12,8 @@ use Rattle.std.proofs.lemmas.Str.Parse.{IsNumeralModel, numerals_by_fold, tells_
 use Rattle.std.proofs.lemmas.Fmt.{digits_decimal, digits_value-decimal, decimal-digits_value, decimal_nonempty, first_decimal, decimal_digit}
 use Rattle.std.proofs.lemmas.Slice.Eq.{bytes_eq-Decides}
 use Rattle.std.proofs.lemmas.List.{take-append-drop}
-use Rattle.ckc_cli.specs.FirstForm.{is_blank, AreBlanks, Item, Laid, joined, apart, head, put, tail, AllSmall, IsForm}
-use Rattle.ckc_cli.specs.Reading.{skip, after, after_gap, is_digit, run, read_on, is_plain, small_value, value_of, numeral, after_head, argument, ending, puts_at, put_or_stop, form_of, ◌>>=◌}
+use Rattle.ckc_cli.specs.FirstForm.{is_blank, AreBlanks, Item, Laid, joined, apart}
+use Rattle.ckc_cli.specs.Reading.{skip, after, after_gap, is_digit, run, read_on, is_plain, small_value, value_of, numeral, ◌>>=◌}
 
 -- ---- options
 

@@ -1,5 +1,5 @@
 -- What putting a line leaves.
-use Rattle.std.proofs.Common.{◌≡◌, ◌⊎◌, inl, inr, ℕ, Bool, true, false, List, [], ◌∷◌, ◌++◌, length, take, Option, Some, Result, Ok, Err, OnErr, ◌==◌, refl, sym, ap, ◌∙◌}
+use Rattle.std.proofs.Common.{◌≡◌, inl, inr, ℕ, true, false, List, [], ◌∷◌, length, Option, Some, Result, Ok, Err, OnErr, ◌==◌}
 use Rattle.ckc_outside.specs.declared.traits.Failed.{Failed}
 use Rattle.ckc_outside.specs.Outside.{Puts}
 use Rattle.ckc_cli.specs.Causes.{Reported}

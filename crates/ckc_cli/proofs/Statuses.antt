@@ -1,24 +1,23 @@
 -- The clauses of the top call, from the causes of its parts.
-use Rattle.std.proofs.Common.{◌≡◌, ◌≢◌, ◌⊎◌, ◌↔◌, inl, inr, ℕ, zero, suc, ◌+◌, ◌*◌, ◌%◌, ◌≤◌, ◌<◌, ◌^◌, Bool, List, [], ◌∷◌, ◌++◌, length, map, take, Option, None, Some, IsTrue, refl, sym, ap, subst, ◌∙◌, arith, append_assoc, append-nil}
+use Rattle.std.proofs.Common.{◌≡◌, ◌≢◌, ◌⊎◌, ◌↔◌, inl, inr, ℕ, suc, ◌+◌, ◌%◌, ◌≤◌, Bool, List, [], ◌∷◌, ◌++◌, length, map, Option, None, Some, IsTrue, refl, sym, ap, subst, ◌∙◌, arith, append_assoc}
 use Rattle.std.proofs.Math.Nat.{mul-le-mul_right}
 use Rattle.std.specs.FinMap as fin
-use Rattle.std.specs.List.{flat_map}
 use Rattle.ckc_base.specs.declared.places.Pos.{Pos}
 use Rattle.ckc_base.specs.declared.places.Refusal.{Refusal}
-use Rattle.ckc_base.specs.Traces.{Event, Put, Standing, Going, Ended, Stuck, Showing, output, put_byte}
-use Rattle.ckc_base.specs.Steps.{shown, meaning}
+use Rattle.ckc_base.specs.Traces.{Event, Put, Going, Ended, Stuck, Showing, output}
+use Rattle.ckc_base.specs.Steps.{shown}
 use Rattle.ckc_base.specs.Follows.{Follows}
 use Rattle.ckc_base.proofs.Runs.{shown-later}
 use Rattle.ckc_outside.specs.Outside.{Files, Rose}
-use Rattle.ckc_rv.specs.Machine.{Parts, machine, machine_system, first_state}
+use Rattle.ckc_rv.specs.Machine.{machine, machine_system, first_state}
 use Rattle.ckc_cli.specs.declared.status.Status.{Status}
 use Rattle.ckc_cli.specs.declared.status.Status.TheVariants as status
-use Rattle.ckc_cli.specs.FirstForm.{IsForm, Accepted, FirstFault, text_limit, first_place}
-use Rattle.ckc_cli.specs.Source.{source, source_system, Agrees}
+use Rattle.ckc_cli.specs.FirstForm.{IsForm, Accepted, FirstFault}
+use Rattle.ckc_cli.specs.Source.{source, source_system}
 use Rattle.ckc_cli.specs.Words.{Command, Exec, Reads}
-use Rattle.ckc_cli.specs.Executing.{OfWords, OfName, OfText, Holds, bytes_put}
+use Rattle.ckc_cli.specs.Executing.{OfWords, OfName, bytes_put}
 use Rattle.ckc_cli.specs.Compiled.{parts_of}
-use Rattle.ckc_cli.specs.Causes.{MayBeFetched, Printed, PrintedFront, EndsThroughImage, EndsWith, StopsAtOutput, IsPossible, IsBeforeRun, instruction_limit}
+use Rattle.ckc_cli.specs.Causes.{MayBeFetched, EndsThroughImage, EndsWith, StopsAtOutput, IsPossible, IsBeforeRun, instruction_limit}
 use Rattle.ckc_cli.proofs.Agreement.{follows_in_four}
 use Rattle.ckc_cli.proofs.Forms.{form_unique}
 

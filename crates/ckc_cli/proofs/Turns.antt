@@ -1,6 +1,5 @@
 -- One turn of the loop over `putchar(n);`.
-use Rattle.std.proofs.Common.{◌≡◌, ℕ, zero, suc, ◌+◌, ◌-◌, ◌<◌, List, [], ◌∷◌, ◌++◌, refl, sym, ap, ◌∙◌, arith, None, Some, Option, codes, append_assoc, append-nil}
-use Rattle.std.specs.Option.{option_map}
+use Rattle.std.proofs.Common.{◌≡◌, ℕ, suc, ◌+◌, ◌-◌, ◌<◌, List, [], ◌∷◌, ◌++◌, refl, sym, ap, ◌∙◌, arith, None, Some, Option, codes, append_assoc, append-nil}
 use Rattle.ckc_cli.specs.Reading.{after, argument, puts_at, put_or_stop, with_front, ◌>>=◌}
 
 -- at least one more turn is left

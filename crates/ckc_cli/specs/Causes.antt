@@ -1,14 +1,14 @@
 -- When each status of the top call comes.
-use Rattle.std.specs.Prelude.{◌≡◌, ◌⊎◌, ℕ, ◌%◌, ◌<◌, ◌≤◌, List, [], ◌∷◌, ◌++◌, length, map, take, Option, Some}
+use Rattle.std.specs.Prelude.{◌≡◌, ◌⊎◌, ℕ, List, [], ◌∷◌, ◌++◌, take, Option, Some}
 use Rattle.std.specs.FinMap as fin
-use Rattle.ckc_base.specs.Traces.{Event, Ended, output, Showing}
-use Rattle.ckc_outside.specs.Outside.{Files, Rose, one_more}
+use Rattle.ckc_base.specs.Traces.{Ended, output}
+use Rattle.ckc_outside.specs.Outside.{Files, one_more}
 use Rattle.ckc_rv.specs.Machine.{Parts, machine}
 use Rattle.ckc_cli.specs.declared.status.Status.{Status}
 use Rattle.ckc_cli.specs.declared.status.Status.TheVariants as status
-use Rattle.ckc_cli.specs.FirstForm.{Accepted, FirstFault}
+use Rattle.ckc_cli.specs.FirstForm.{Accepted}
 use Rattle.ckc_cli.specs.Source.{source, Agrees, AreBytes}
-use Rattle.ckc_cli.specs.Words.{Command, Exec, Reads}
+use Rattle.ckc_cli.specs.Words.{Exec, Reads}
 
 -- The text may be what the store gave for the name that the words have: it is, where the store tells its files.
 abbrev pub MayBeFetched : List (List ℕ) → Option Files → List ℕ → Type 0

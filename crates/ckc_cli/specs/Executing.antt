@@ -6,7 +6,7 @@ use Rattle.ckc_outside.specs.declared.traits.Fetched.TheVariants.{Whole, Longer}
 use Rattle.ckc_outside.specs.Outside.{Files, Rose}
 use Rattle.ckc_cli.specs.declared.status.Status.{Status}
 use Rattle.ckc_cli.specs.declared.status.Status.TheVariants as status
-use Rattle.ckc_cli.specs.FirstForm.{IsForm, Accepted, FirstFault, first_place, text_limit}
+use Rattle.ckc_cli.specs.FirstForm.{Accepted, FirstFault, first_place, text_limit}
 use Rattle.ckc_cli.specs.Words.{Command, Exec, Reads}
 use Rattle.ckc_cli.specs.Causes.{Printed, PrintedFront}
 

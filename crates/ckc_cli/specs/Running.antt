@@ -1,13 +1,11 @@
 -- Runs of the machine over code that moves no memory, step by step.
-use Rattle.std.specs.Prelude.{◌≡◌, ◌⊎◌, ℕ, suc, ◌+◌, ◌<◌, ◌≤◌, true, List, [], ◌∷◌, Option, Some, option_and_then, slice_index}
-use Rattle.ckc_base.specs.Traces.{Event, Put, Ended}
-use Rattle.ckc_base.specs.Steps.{Move, Goes, Halts}
+use Rattle.std.specs.Prelude.{◌≡◌, ◌⊎◌, ℕ, suc, ◌≤◌, true, List, [], ◌∷◌, Some, option_and_then, slice_index}
+use Rattle.ckc_base.specs.Traces.{Put, Ended}
+use Rattle.ckc_base.specs.Steps.{Goes, Halts}
 use Rattle.ckc_rv.specs.declared.instructions.Instr.{Instr}
 use Rattle.ckc_rv.specs.declared.instructions.Instr.TheVariants.{Lui, Imm, Ecall}
-use Rattle.ckc_rv.specs.declared.registers.Regs.{Regs}
-use Rattle.ckc_rv.specs.Table.{InRange}
 use Rattle.ckc_rv.specs.Decoded.{decoded}
-use Rattle.ckc_rv.specs.Machine.{Parts, State, flat, loaded, is_code, machine_step, first_state, code_start}
+use Rattle.ckc_rv.specs.Machine.{Parts, State, loaded, is_code, machine_step, first_state, code_start}
 
 -- an instruction on registers alone, or an environment call that ends or puts
 abbrev pub IsPlain : Instr → List ℕ → Type 0

@@ -1,10 +1,9 @@
 -- The meaning of an accepted text, one step for each statement.
-use Rattle.std.specs.Prelude.{ℕ, ◌%◌, ◌<◌, ◌*◌, ◌≤◌, List, [], ◌∷◌}
+use Rattle.std.specs.Prelude.{ℕ, ◌%◌, ◌<◌, List, [], ◌∷◌}
 use Rattle.ckc_base.specs.Traces.{Event, Put, Ended, Showing}
 use Rattle.ckc_base.specs.Steps.{Move, Goes, Halts, System, meaning}
 use Rattle.ckc_base.specs.Follows.{Follows}
 use Rattle.ckc_rv.specs.Machine.{Parts, machine}
-use Rattle.ckc_cli.specs.FirstForm.{Accepted}
 
 -- the step of the statement that comes next: `putchar(n);` puts the low byte of n, `return value;` ends
 abbrev pub source_step : ℕ → List ℕ → Move Event (List ℕ)

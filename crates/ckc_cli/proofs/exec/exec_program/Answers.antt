@@ -1,4 +1,4 @@
-use Rattle.std.proofs.Common.{◌≡◌, ◌∙◌}
+use Rattle.std.proofs.Common.{◌∙◌}
 use Rattle.ckc_cli.specs.Executing.{bytes_put}
 use Rattle.ckc_cli.proofs.Executions.{form_runs}
 use Rattle.ckc_cli.proofs.exec.exec_program.Goals as goal

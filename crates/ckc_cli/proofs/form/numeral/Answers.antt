@@ -1,4 +1,4 @@
-use Rattle.std.proofs.Common.{◌≡◌, length, take, sym, ap, ◌∙◌, subst, ℕ}
+use Rattle.std.proofs.Common.{◌≡◌, length, take, sym, subst, ℕ}
 use Rattle.ckc_cli.specs.Reading.{run}
 use Rattle.ckc_cli.proofs.Digits.{run-take}
 use Rattle.ckc_cli.proofs.form.numeral.Goals as goal

@@ -1,4 +1,4 @@
-use Rattle.std.proofs.Common.{◌≡◌, ◌≤◌, ◌-◌, ◌+◌, ◌∷◌, [], ◌++◌, None, Some, sym, ap, ◌∙◌, arith}
+use Rattle.std.proofs.Common.{◌≡◌, ◌-◌, ◌+◌, sym, ap, ◌∙◌, arith}
 use Rattle.ckc_cli.specs.Reading.{puts_at, with_front}
 use Rattle.ckc_cli.proofs.Turns.{at_none, at_fault, at_put, at_limit}
 use Rattle.ckc_cli.proofs.form.puts_at.Goals as goal

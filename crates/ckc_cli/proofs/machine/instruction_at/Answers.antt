@@ -1,6 +1,6 @@
-use Rattle.std.proofs.Common.{◌≡◌, ◌+◌, Bool, true, cond, not, nat_lt, ◌&&◌, List, ℕ, length, Option, Some, option_and_then, sym, ap, ◌∙◌}
+use Rattle.std.proofs.Common.{◌≡◌, ◌+◌, true, cond, not, nat_lt, ◌&&◌, List, ℕ, length, Option, option_and_then, sym, ap, ◌∙◌}
 use Rattle.ckc_rv.specs.Decoded.{decoded}
-use Rattle.ckc_rv.specs.Machine.{Parts, State, flat, loaded, is_code, code_start, machine_step, executes, faults}
+use Rattle.ckc_rv.specs.Machine.{State, loaded, is_code, code_start, machine_step, executes, faults}
 use Rattle.ckc_cli.specs.Cpu.{state_of}
 use Rattle.ckc_cli.proofs.machine.instruction_at.Goals as goal
 

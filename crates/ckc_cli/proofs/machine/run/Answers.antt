@@ -1,10 +1,5 @@
-use Rattle.std.proofs.Common.{◌≡◌, ◌+◌, ◌≤◌, ◌<◌, ℕ, List, [], ◌∷◌, ◌++◌, take, Some, refl, sym, ap, subst, ◌∙◌, arith, append_assoc, append-nil}
-use Rattle.ckc_base.specs.Traces.{Event, Put, Ended}
-use Rattle.ckc_base.specs.Steps.{Goes, Halts}
-use Rattle.ckc_outside.specs.Outside.{Rose}
-use Rattle.ckc_rv.specs.Machine.{State, machine_step}
+use Rattle.std.proofs.Common.{◌≡◌, ◌≤◌, [], ◌∷◌, ◌++◌, take, Some, refl, sym, ap, subst, ◌∙◌, arith, append_assoc, append-nil}
 use Rattle.ckc_cli.specs.Running.{code_parts}
-use Rattle.ckc_cli.specs.Cpu.{state_of}
 use Rattle.ckc_cli.proofs.Paths.{path_plain, path_positive, path_quiet, path_puts, path_ends, put_front, err_case}
 use Rattle.ckc_cli.proofs.machine.run.Goals as goal
 use Rattle.ckc_cli.proofs.machine.run.Goals.{in-Quiet, in-Puts+in_ok-put-in-Puts}

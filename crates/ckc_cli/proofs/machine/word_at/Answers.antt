@@ -1,5 +1,4 @@
-use Rattle.std.proofs.Common.{◌≡◌, ◌+◌, ◌-◌, ◌<◌, length, Some, sym, ap, ◌∙◌, arith}
-use Rattle.ckc_rv.specs.Machine.{code_start}
+use Rattle.std.proofs.Common.{◌-◌, Some, sym, ap, ◌∙◌, arith}
 use Rattle.ckc_cli.proofs.Codes.{word_in_code}
 use Rattle.ckc_cli.proofs.machine.word_at.Goals as goal
 

@@ -1,4 +1,4 @@
-use Rattle.std.proofs.Common.{◌≡◌, ◌==◌, Bool, true, false, List, ℕ, length, sym, ap, subst, ◌∙◌}
+use Rattle.std.proofs.Common.{List, ℕ, sym, subst, ◌∙◌}
 use Rattle.ckc_outside.specs.Outside.{Rose}
 use Rattle.ckc_cli.specs.Causes.{Reported}
 use Rattle.ckc_cli.proofs.Reports.{reported}
