@@ -4,6 +4,7 @@ use Rattle.std.proofs.Math.Nat.{mul-le-mul_left}
 use Rattle.ckc_base.specs.Traces.{Standing, Going, Ended, Stopped, Stuck, Fault, Showing}
 use Rattle.ckc_base.specs.Follows.{IsSafe, IsOver, IsPrefix, IsBorneOut, Follows}
 use Rattle.ckc_base.specs.Steps.{Move, Goes, Halts, System, after, shown, meaning}
+use Rattle.ckc_base.specs.Matching.{Stretch, Closes, MatchedBy}
 use Rattle.ckc_base.proofs.Following.{prefix_trans}
 
 -- nothing is shown while the state waits
@@ -21,14 +22,6 @@ shown-moving m (suc n) zero later trace s h =
     let e : n ≡ later = omega arith in
     ap (λ k. after (λ events next. shown m k (m.weight next) events next) trace (m.step s)) e
 shown-moving m (suc n) (suc wait) later trace s h = shown-moving m n wait later trace s (omega arith)
-
--- In count steps the system goes from s to u with these events, whatever came before.
-pub record Stretch {E S : Type 0} (m : System E S) (count : ℕ) (events : List E) (s u : S) : Type 0 where
-  pub leads : (n : ℕ) (trace : List E) → shown m (count + n) (m.weight s) trace s ≡ shown m n (m.weight u) (trace ++ events) u
-
--- In count steps the system halts from s with these events.
-pub record Closes {E S : Type 0} (m : System E S) (count : ℕ) (events : List E) (s : S) (standing : Standing) : Type 0 where
-  pub shows : (n : ℕ) (trace : List E) → shown m (count + n) (m.weight s) trace s ≡ record { trace = trace ++ events; standing = standing }
 
 pub one_step : {E S : Type 0} (m : System E S) (events : List E) (s u : S) → m.step s ≡ Goes events u → Stretch m (m.weight s + 1) events s u
 one_step m events s u e = record {
@@ -288,3 +281,28 @@ module _ {E S T : Type 0} (a : System E S) (b : System E T) (R : S → T → Typ
           ],
         );
   }
+
+-- the states that a list of pairs joins
+abbrev Paired : {S T P : Type 0} → (P → S) → (P → T) → S → T → Type 0
+Paired {S} {T} {P} upper lower s t = (p : P) × (upper p ≡ s) × (lower p ≡ t)
+
+paired_move : {E S T P : Type 0} (b : System E T) (upper : P → S) (lower : P → T) (measure : S → ℕ) (s : S) (t : T) (most : ℕ) (move : Move E S)
+    → MatchedBy b upper lower measure s t most move → Matched b (Paired upper lower) measure s t most move
+paired_move b upper lower measure s t most (Goes events next) m =
+    (m.0, lower m.1, m.2, m.3, m.4, (m.1, m.5, refl))
+paired_move b upper lower measure s t most (Halts events standing) m = m
+
+paired_matches : {E S T P : Type 0} (a : System E S) (b : System E T) (upper : P → S) (lower : P → T) (measure : S → ℕ) (c : ℕ)
+    → ((p : P) → MatchedBy b upper lower measure (upper p) (lower p) (c * (a.weight (upper p) + 1)) (a.step (upper p)))
+    → (s : S) (t : T) → Paired upper lower s t → Matched b (Paired upper lower) measure s t (c * (a.weight s + 1)) (a.step s)
+paired_matches a b upper lower measure c h s t q =
+    let m = paired_move b upper lower measure (upper q.0) (lower q.0) (c * (a.weight (upper q.0) + 1)) (a.step (upper q.0)) (h q.0) in
+    subst (λ s. Matched b (Paired upper lower) measure s t (c * (a.weight s + 1)) (a.step s)) q.1
+    (subst (λ t. Matched b (Paired upper lower) measure (upper q.0) t (c * (a.weight (upper q.0) + 1)) (a.step (upper q.0))) q.2 m)
+
+-- the same lemma over pairs of states, in place of a relation
+pub follows_by_pairs : {E S T P : Type 0} (a : System E S) (b : System E T) (upper : P → S) (lower : P → T) (measure : S → ℕ) (c : ℕ)
+    → ((p : P) → MatchedBy b upper lower measure (upper p) (lower p) (c * (a.weight (upper p) + 1)) (a.step (upper p)))
+    → (p : P) → Follows (meaning a (upper p)) (meaning b (lower p)) c
+follows_by_pairs a b upper lower measure c h p =
+    follows_by_steps a b (Paired upper lower) measure c (paired_matches a b upper lower measure c h) (upper p) (lower p) (p, refl, refl)

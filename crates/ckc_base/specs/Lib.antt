@@ -3,4 +3,5 @@ pub mod Words
 pub mod Traces
 pub mod Follows
 pub mod Steps
+pub mod Matching
 pub mod formers
