@@ -4,7 +4,8 @@ use Rattle.ckc_base.specs.declared.places.Refusal.{Refusal}
 use Rattle.ckc_syntax.specs.declared.tokens.Token as tokens
 use Rattle.ckc_lexer.specs.declared.lexer.LexFault.{LexFault}
 use Rattle.ckc_lexer.specs.declared.lexer.LexFault.TheVariants.{Refused, Memory}
-use Rattle.ckc_lexer.specs.Cut.{Spelled, spelled, longest_text, Lexes, FirstBroken, FirstFault, IfRefused, AnswersTokens, AnswersFault}
+use Rattle.ckc_syntax.specs.Spelled.{Spelled, spelled}
+use Rattle.ckc_lexer.specs.Cut.{longest_text, Lexes, FirstBroken, FirstFault, IfRefused, AnswersTokens, AnswersFault}
 use Rattle.ckc_lexer.specs.Reading.{Outcome, IsReading}
 use Rattle.ckc_lexer.proofs.CutLaw.{read_lexes, read_fault, lexes_read, fault_read, reads_once}
 

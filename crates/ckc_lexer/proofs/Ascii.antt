@@ -14,9 +14,11 @@ use Rattle.ckc_lexer.specs.declared.bytes.Class.{Class}
 use Rattle.ckc_lexer.specs.declared.bytes.Class.TheVariants.{Blank, Letter, Digit, Apostrophe, Quotation, Slash, Hash, Mark, Other}
 use Rattle.ckc_lexer.specs.declared.items.Item.TheVariants.{Gap, Token, Broken}
 use Rattle.ckc_lexer.specs.declared.items.Context.{Context}
-use Rattle.ckc_lexer.specs.Bytes.{is_space, is_word_byte, class_of, AllBytes}
-use Rattle.ckc_lexer.specs.Numbers.{digit_value}
-use Rattle.ckc_lexer.specs.Literals.{is_plain, simple_escape, IsEscape, simple, octal, hexadecimal, IsPiece, plain, escape, Characters, ends, next, IsLiteral, CharacterCases, TextCases}
+use Rattle.ckc_syntax.specs.Bytes.{AllBytes}
+use Rattle.ckc_lexer.specs.Bytes.{is_space, is_word_byte, class_of}
+use Rattle.ckc_syntax.specs.Digits.{digit_value}
+use Rattle.ckc_syntax.specs.Literals.{is_plain, simple_escape, IsEscape, simple, octal, hexadecimal, IsPiece, plain, escape, Characters, ends, next, IsLiteral}
+use Rattle.ckc_lexer.specs.Literals.{CharacterCases, TextCases}
 use Rattle.ckc_lexer.specs.Comments.{IsSlashItem, mark, line, closed, open_at_end}
 use Rattle.ckc_lexer.specs.Directives.{IsInclude, IsPragma, IsDirective, HashCases}
 use Rattle.ckc_lexer.specs.Marks.{marks}

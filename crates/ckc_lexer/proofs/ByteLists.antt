@@ -3,7 +3,7 @@ use Rattle.std.proofs.Common.{◌≡◌, ℕ, suc, ◌+◌, ◌-◌, ◌<◌, Bo
 use Rattle.std.specs.List.{list_all, prefix_len}
 use Rattle.std.proofs.lemmas.Bool.{and_parts, cases_Bool}
 use Rattle.std.proofs.lemmas.List.{get_or-append_right}
-use Rattle.ckc_lexer.specs.Bytes.{AllBytes}
+use Rattle.ckc_syntax.specs.Bytes.{AllBytes}
 
 module _ (p : ℕ → Bool) where
   pub all_nil : AllBytes p []

@@ -4,7 +4,7 @@ use Rattle.ckc_lexer.specs.declared.bytes.Class.{Class}
 use Rattle.ckc_lexer.specs.declared.items.Item.{Item}
 use Rattle.ckc_lexer.specs.declared.items.Context.{Context}
 use Rattle.ckc_lexer.specs.Bytes.{class_of}
-use Rattle.ckc_lexer.specs.Longest.{Longest}
+use Rattle.ckc_syntax.specs.Longest.{Longest}
 use Rattle.ckc_lexer.specs.Spelling.{SpelledBy, Spells}
 
 class_in_front : (text : List ℕ) (m : ℕ) → 0 < m → class_of (get_or (take m text) 0 0) ≡ class_of (get_or text 0 0)

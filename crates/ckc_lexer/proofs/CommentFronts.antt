@@ -3,7 +3,7 @@ use Rattle.std.proofs.Common.{◌≡◌, ℕ, ◌+◌, ◌-◌, ◌<◌, ◌≤�
 use Rattle.std.proofs.lemmas.List.{take-take}
 use Rattle.ckc_lexer.specs.declared.items.Item.{Item}
 use Rattle.ckc_lexer.specs.declared.items.Item.TheVariants.{Gap}
-use Rattle.ckc_lexer.specs.Longest.{Longest}
+use Rattle.ckc_syntax.specs.Longest.{Longest}
 use Rattle.ckc_lexer.specs.Comments.{IsOpen, IsSlashItem, mark, line, closed, open_at_end}
 
 front_of : (text : List ℕ) (m : ℕ) → 0 < m → m ≤ length text → take (length (take m text) - 1) (take m text) ≡ take (m - 1) text

@@ -4,10 +4,8 @@ pub mod ByteLists
 pub mod Classes
 pub mod CommentFronts
 pub mod CutLaw
-pub mod Digits
 pub mod DirectiveFronts
 pub mod DirectiveLaw
-pub mod EscapeFronts
 pub mod Fronts
 pub mod LiteralFronts
 pub mod MarkFronts

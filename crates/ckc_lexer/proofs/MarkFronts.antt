@@ -6,7 +6,7 @@ use Rattle.std.proofs.lemmas.Slice.Eq.{bytes_eq-Decides}
 use Rattle.ckc_syntax.specs.declared.tokens.TokenKind.TheVariants.{Mark}
 use Rattle.ckc_lexer.specs.declared.items.Item.TheVariants.{Token}
 use Rattle.ckc_lexer.specs.Bytes.{is_mark}
-use Rattle.ckc_lexer.specs.Longest.{Longest}
+use Rattle.ckc_syntax.specs.Longest.{Longest}
 use Rattle.ckc_lexer.specs.Marks.{marks, is_mark_text, IsMarkItem}
 
 -- what is one of some texts passes a test that they all pass

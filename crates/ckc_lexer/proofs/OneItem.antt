@@ -10,7 +10,8 @@ use Rattle.ckc_lexer.specs.declared.items.Item.TheVariants.{Gap, Token, Broken}
 use Rattle.ckc_lexer.specs.declared.items.Context.{Context}
 use Rattle.ckc_lexer.specs.Bytes.{is_space, class_of}
 use Rattle.ckc_lexer.specs.Numbers.{has_suffix, IsNumber, NumberCases}
-use Rattle.ckc_lexer.specs.Literals.{IsLiteral, CharacterCases, TextCases}
+use Rattle.ckc_syntax.specs.Literals.{IsLiteral}
+use Rattle.ckc_lexer.specs.Literals.{CharacterCases, TextCases}
 use Rattle.ckc_lexer.specs.Comments.{IsOpen, IsClosed, IsSlashItem, mark, line, closed, open_at_end}
 use Rattle.ckc_lexer.specs.Directives.{IsDirective, IsDirectiveLine, DirectiveCases, HashCases}
 use Rattle.ckc_lexer.specs.Spelling.{SpelledBy, Spells}

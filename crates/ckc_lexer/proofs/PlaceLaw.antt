@@ -81,3 +81,8 @@ from_start b = moved_is start b ∙ here_path _ _ _ _ _ _ refl
 -- further bytes move the place on
 pub here_append : (before w : List ℕ) → moved (here_of before) w ≡ here_of (before ++ w)
 here_append before w = ap (λ h. moved h w) (sym (from_start before)) ∙ (sym (fold-append step start before w) ∙ from_start (before ++ w))
+
+-- the place of what moved over a whole text
+pub end_place : (text : List ℕ) (here : Here) → here ≡ moved start text → record { line = here.line; col = here.col } ≡ place_after text
+unfolding here_of
+end_place text here h = ap (λ (x : Here). record { line = x.line; col = x.col }) (h ∙ from_start text)

@@ -1,5 +1,6 @@
 -- The bytes of a text by what they are for, as tests on their codes in ASCII (ISO C11, 5.2.1 and 6.4).
-use Rattle.std.specs.Prelude.{◌≡◌, ℕ, ◌<◌, Bool, true, ◌&&◌, ◌||◌, ◌==◌, nat_le, if◌then◌else◌, List, length, slice_index}
+use Rattle.std.specs.Prelude.{ℕ, Bool, ◌||◌, ◌==◌, if◌then◌else◌}
+use Rattle.ckc_syntax.specs.Bytes.{is_between, is_digit}
 use Rattle.ckc_lexer.specs.declared.bytes.Class.{Class}
 use Rattle.ckc_lexer.specs.declared.bytes.Class.TheVariants.{Blank, Letter, Digit, Apostrophe, Quotation, Slash, Hash, Mark, Other}
 
@@ -13,12 +14,6 @@ is_feed b = b == 10
 
 abbrev pub is_blank : ℕ → Bool
 is_blank b = is_space b || is_feed b
-
-abbrev pub is_between : ℕ → ℕ → ℕ → Bool
-is_between low high b = nat_le low b && nat_le b high
-
-abbrev pub is_digit : ℕ → Bool
-is_digit b = is_between 48 57 b
 
 -- a letter or `_`
 abbrev pub is_letter : ℕ → Bool
@@ -46,7 +41,3 @@ class_of b =
     else (if b == 35 then Hash
     else (if is_mark b then Mark
     else Other)))))))
-
--- each byte passes the test
-abbrev pub AllBytes : (ℕ → Bool) → List ℕ → Type 0
-AllBytes test w = (k : ℕ) → k < length w → test (slice_index w k) ≡ true

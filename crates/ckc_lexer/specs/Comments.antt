@@ -3,7 +3,8 @@ use Rattle.std.specs.Prelude.{◌≡◌, ℕ, ◌+◌, ◌-◌, ◌<◌, ◌≤�
 use Rattle.ckc_syntax.specs.declared.tokens.TokenKind.TheVariants.{Mark}
 use Rattle.ckc_lexer.specs.declared.items.Item.{Item}
 use Rattle.ckc_lexer.specs.declared.items.Item.TheVariants.{Gap, Token, Broken}
-use Rattle.ckc_lexer.specs.Bytes.{is_feed, AllBytes}
+use Rattle.ckc_syntax.specs.Bytes.{AllBytes}
+use Rattle.ckc_lexer.specs.Bytes.{is_feed}
 
 -- `//` and what follows it on the line
 abbrev pub IsLineComment : List ℕ → Type 0

@@ -1,12 +1,11 @@
 -- What the tokens of a text are, and which fault is its first. The whole text is cut at once.
 use Rattle.std.specs.Prelude.{◌≡◌, ℕ, ◌<◌, ◌≤◌, Bool, true, false, ◌⊎◌, List, [], ◌∷◌, ◌++◌, length, map, Result, Ok, Err}
 use Rattle.std.specs.List.{list_any, flat_map}
-use Rattle.ckc_base.specs.declared.places.Pos.{Pos}
 use Rattle.ckc_base.specs.declared.places.Refusal.{Refusal}
-use Rattle.ckc_syntax.specs.declared.tokens.TokenKind.{TokenKind}
 use Rattle.ckc_syntax.specs.declared.tokens.TokenKind.TheVariants as kinds
 use Rattle.ckc_syntax.specs.declared.tokens.Directive.TheVariants.{Stdchecked}
 use Rattle.ckc_syntax.specs.declared.tokens.Token as tokens
+use Rattle.ckc_syntax.specs.Spelled.{Spelled, spelled}
 use Rattle.ckc_lexer.specs.declared.items.Item.{Item}
 use Rattle.ckc_lexer.specs.declared.items.Item.TheVariants.{Gap, Token, Broken}
 use Rattle.ckc_lexer.specs.declared.items.Context.{Context}
@@ -14,15 +13,6 @@ use Rattle.ckc_lexer.specs.declared.lexer.LexFault.{LexFault}
 use Rattle.ckc_lexer.specs.declared.lexer.LexFault.TheVariants.{Refused, Memory}
 use Rattle.ckc_lexer.specs.Places.{place_after, is_fresh_after}
 use Rattle.ckc_lexer.specs.Spelling.{Spells}
-
--- a token without where its bytes lie in memory
-pub record Spelled : Type 0 where
-  pub kind : TokenKind
-  pub text : List ℕ
-  pub pos : Pos
-
-abbrev pub spelled : tokens.Token → Spelled
-spelled t = record { kind = t.kind; text = t.text.now; pos = t.pos }
 
 -- a part of a text: the bytes that spell an item
 pub record Part : Type 0 where

@@ -6,7 +6,8 @@ use Rattle.ckc_syntax.specs.declared.tokens.Directive.{Directive}
 use Rattle.ckc_syntax.specs.declared.tokens.Directive.TheVariants.{Stdio, Stdlib, Stdchecked, ScopeOn, ScopeOff}
 use Rattle.ckc_lexer.specs.declared.items.Item.{Item}
 use Rattle.ckc_lexer.specs.declared.items.Item.TheVariants.{Token, Broken}
-use Rattle.ckc_lexer.specs.Bytes.{is_space, is_feed, AllBytes}
+use Rattle.ckc_syntax.specs.Bytes.{AllBytes}
+use Rattle.ckc_lexer.specs.Bytes.{is_space, is_feed}
 
 -- `#`, `include` and the header, with any spaces before the last two
 pub record IsInclude (header w : List ℕ) : Type 0 where

@@ -1,24 +1,11 @@
 -- Numbers (ISO C11, 6.4.4.1, without the suffixes `l` and `ll`).
-use Rattle.std.specs.Prelude.{◌≡◌, ℕ, ◌+◌, ◌-◌, ◌*◌, ◌^◌, ◌<◌, Bool, ◌&&◌, ◌||◌, ◌==◌, nat_le, nat_lt, if◌then◌else◌, List, length, take, drop, slice_index, fold}
+use Rattle.std.specs.Prelude.{◌≡◌, ℕ, ◌-◌, ◌^◌, ◌<◌, Bool, ◌&&◌, ◌||◌, ◌==◌, nat_le, nat_lt, if◌then◌else◌, List, length, take, drop, slice_index}
 use Rattle.ckc_syntax.specs.declared.tokens.TokenKind.TheVariants.{Number}
 use Rattle.ckc_lexer.specs.declared.items.Item.{Item}
 use Rattle.ckc_lexer.specs.declared.items.Item.TheVariants.{Token, Broken}
-use Rattle.ckc_lexer.specs.Bytes.{is_between, is_digit, is_word_byte, AllBytes}
-
--- the value of a hexadecimal digit; every other byte has one that no radix allows
-abbrev pub digit_value : ℕ → ℕ
-digit_value b =
-    if is_digit b then b - 48
-    else (if is_between 97 102 b then b - 87
-    else (if is_between 65 70 b then b - 55
-    else 16))
-
-abbrev pub is_digit_in : ℕ → ℕ → Bool
-is_digit_in radix b = nat_lt (digit_value b) radix
-
--- the number that the digits stand for
-abbrev pub value_in : ℕ → List ℕ → ℕ
-value_in radix digits = fold (λ n b. n * radix + digit_value b) 0 digits
+use Rattle.ckc_syntax.specs.Bytes.{AllBytes}
+use Rattle.ckc_syntax.specs.Digits.{is_digit_in, value_in}
+use Rattle.ckc_lexer.specs.Bytes.{is_word_byte}
 
 -- a last `u` or `U`
 abbrev pub has_suffix : List ℕ → Bool

@@ -10,9 +10,10 @@ use Rattle.ckc_lexer.specs.declared.items.Here.{Here}
 use Rattle.ckc_lexer.specs.declared.lexer.LexFault.{LexFault}
 use Rattle.ckc_lexer.specs.declared.lexer.LexFault.TheVariants.{Refused, Memory}
 use Rattle.ckc_lexer.specs.Bytes.{is_feed, is_blank}
-use Rattle.ckc_lexer.specs.Longest.{Longest}
+use Rattle.ckc_syntax.specs.Longest.{Longest}
 use Rattle.ckc_lexer.specs.Spelling.{Spells}
-use Rattle.ckc_lexer.specs.Cut.{Spelled, spelled, is_stdchecked}
+use Rattle.ckc_syntax.specs.Spelled.{Spelled, spelled}
+use Rattle.ckc_lexer.specs.Cut.{is_stdchecked}
 
 -- a place and whether its line has only blanks yet, a byte further on
 abbrev pub step : Here → ℕ → Here

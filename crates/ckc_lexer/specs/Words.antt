@@ -4,7 +4,8 @@ use Rattle.std.specs.List.{list_any}
 use Rattle.ckc_syntax.specs.declared.tokens.TokenKind.TheVariants.{Name, Keyword}
 use Rattle.ckc_lexer.specs.declared.items.Item.{Item}
 use Rattle.ckc_lexer.specs.declared.items.Item.TheVariants.{Token, Broken}
-use Rattle.ckc_lexer.specs.Bytes.{is_word_byte, AllBytes}
+use Rattle.ckc_syntax.specs.Bytes.{AllBytes}
+use Rattle.ckc_lexer.specs.Bytes.{is_word_byte}
 
 -- the keywords without `_` in front: those of the grammar, and every other one of ISO C11, 6.4.1
 abbrev pub plain_keywords : List (List ℕ)

@@ -1,6 +1,9 @@
 ghost use Rattle.std.specs.Prelude.{◌≡◌};
-ghost use Rattle.ckc_lexer.specs.Bytes.{is_space, is_blank, is_digit, is_letter, is_word_byte, is_mark, class_of};
+ghost use Rattle.ckc_syntax.specs.Bytes.{is_digit};
+ghost use Rattle.ckc_lexer.specs.Bytes.{is_space, is_blank, is_letter, is_word_byte, is_mark, class_of};
 ghost use Rattle.ckc_lexer.specs.Longest.{IsRun};
+
+use ckc_syntax::is_digit;
 
 /// What an item may be, by its first byte.
 #[derive(Clone, Copy)]
@@ -53,13 +56,6 @@ pub fn is_blank(b: u8) -> bool
     ensures { result ≡ is_blank b }
 {
     is_space(b) || b == b'\n'
-}
-
-/// Whether a byte is a decimal digit.
-pub fn is_digit(b: u8) -> bool
-    ensures { result ≡ is_digit b }
-{
-    b'0' <= b && b <= b'9'
 }
 
 fn is_letter(b: u8) -> bool

@@ -1,7 +1,7 @@
 ghost use Rattle.std.specs.Prelude.{◌≡◌, ◌<◌, ◌≤◌, length, drop, slice_index, option_and_then, codes};
 ghost use Rattle.std.specs.List.{prefix_len};
 ghost use Rattle.std.specs.Option.{option_copied};
-ghost use Rattle.ckc_lexer.specs.Longest.{Longest};
+ghost use Rattle.ckc_syntax.specs.Longest.{Longest};
 ghost use Rattle.ckc_lexer.specs.Bytes.{is_space};
 ghost use Rattle.ckc_lexer.specs.Directives.{HashCases, DirectiveCases};
 ghost use Rattle.ckc_lexer.specs.DirectiveReading.{behind_spaces, behind_some_spaces, strip, header_of, scope_of, pragma_of, body_of, IsTrimmed};

@@ -1,6 +1,7 @@
 ghost use Rattle.std.specs.Prelude.{◌≡◌, ◌≤◌, ℕ, List, length};
 ghost use Rattle.ckc_base.specs.declared.places.Refusal.{Refusal};
-ghost use Rattle.ckc_lexer.specs.Cut.{Spelled, longest_text, Lexes, FirstFault};
+ghost use Rattle.ckc_syntax.specs.Spelled.{Spelled};
+ghost use Rattle.ckc_lexer.specs.Cut.{longest_text, Lexes, FirstFault};
 
 /// A text has one list of tokens, or one first fault, and not both.
 pub fn one_answer()

@@ -1,11 +1,13 @@
 ghost use Rattle.std.specs.Prelude.{◌≡◌, ◌||◌, ◌<◌, ◌≤◌, ◌+◌, ◌^◌, length, slice_index, List, map, IfOk, IfErr, IsUtf8};
 ghost use Rattle.ckc_lexer.specs.declared.lexer.LexFault.TheVariants.{Memory};
-ghost use Rattle.ckc_lexer.specs.Longest.{Longest};
+ghost use Rattle.ckc_syntax.specs.Longest.{Longest};
 ghost use Rattle.ckc_lexer.specs.Spelling.{Spells};
 ghost use Rattle.ckc_lexer.specs.Reading.{moved};
 ghost use Rattle.ckc_base.specs.declared.places.Refusal.{Refusal};
-ghost use Rattle.ckc_lexer.specs.Cut.{is_stdchecked, longest_text, Spelled, spelled, Lexes, FirstFault, IfRefused, AnswersTokens, AnswersFault};
+ghost use Rattle.ckc_syntax.specs.Spelled.{Spelled, spelled};
+ghost use Rattle.ckc_lexer.specs.Cut.{is_stdchecked, longest_text, Lexes, FirstFault, IfRefused, AnswersTokens, AnswersFault};
 ghost use Rattle.ckc_lexer.specs.Reading.{IsReading};
+ghost use Rattle.ckc_lexer.specs.Places.{place_after};
 
 use crate::bytes::{Class, class_of, is_blank};
 use crate::comments::slash_at;
@@ -102,6 +104,25 @@ fn tokens_of<'a>(alloc: Global, text: &'a [u8]) -> Result<Seq<Token<'a>>, LexFau
         rest = after;
     }
     Ok(tokens)
+}
+
+/// The place just past a text, for what is missing at its end.
+pub fn end_of(text: &[u8]) -> Pos
+    requires { length text.now ≤ longest_text }
+    ensures { result ≡ place_after text.now }
+{
+    let end = moved(
+        Here {
+            line: 1,
+            col: 1,
+            fresh: true,
+        },
+        text,
+    );
+    Pos {
+        line: end.line,
+        col: end.col,
+    }
 }
 
 /// Whether `#include <stdchecked.h>` has come.

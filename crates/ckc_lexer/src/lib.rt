@@ -15,4 +15,4 @@ mod tests;
 mod words;
 
 pub use laws::one_answer;
-pub use lexer::{LexFault, lex};
+pub use lexer::{LexFault, end_of, lex};

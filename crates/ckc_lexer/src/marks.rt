@@ -1,6 +1,6 @@
 ghost use Rattle.std.specs.Prelude.{◌≡◌, ◌<◌, [], ◌∷◌, true, length, slice_index};
 ghost use Rattle.ckc_lexer.specs.Bytes.{is_mark};
-ghost use Rattle.ckc_lexer.specs.Longest.{Longest};
+ghost use Rattle.ckc_syntax.specs.Longest.{Longest};
 ghost use Rattle.ckc_lexer.specs.Marks.{is_mark_text, IsMarkItem};
 
 use crate::items::{Found, Item};

@@ -1,11 +1,13 @@
 ghost use Rattle.std.specs.Prelude.{◌≡◌, ℕ, ◌<◌, ◌≤◌, ◌⊎◌, Bool, true, length, slice_index, MatchOption};
-ghost use Rattle.ckc_lexer.specs.Bytes.{is_word_byte, AllBytes};
-ghost use Rattle.ckc_lexer.specs.Longest.{Longest};
-ghost use Rattle.ckc_lexer.specs.Numbers.{digit_value, is_digit_in, value_in, has_suffix, is_hexadecimal, IsNumeral, IsNumber, IsNumberItem};
+ghost use Rattle.ckc_syntax.specs.Bytes.{AllBytes};
+ghost use Rattle.ckc_lexer.specs.Bytes.{is_word_byte};
+ghost use Rattle.ckc_syntax.specs.Longest.{Longest};
+ghost use Rattle.ckc_syntax.specs.Digits.{digit_value, is_digit_in, value_in};
+ghost use Rattle.ckc_lexer.specs.Numbers.{has_suffix, is_hexadecimal, IsNumeral, IsNumber, IsNumberItem};
 
-use crate::bytes::{is_digit, word_len};
+use crate::bytes::word_len;
 use crate::items::{BAD_LITERAL, Found, Item};
-use ckc_syntax::TokenKind;
+use ckc_syntax::{TokenKind, digit_value};
 
 /// The number at the front of a text.
 pub fn number_at(text: &[u8]) -> Found
@@ -91,19 +93,4 @@ fn value_of(radix: u64, digits: &[u8]) -> Option<u32>
         }
     }
     u32::try_from(value).ok()
-}
-
-/// The value of a hexadecimal digit, and 16 for any other byte.
-pub fn digit_value(b: u8) -> u64
-    ensures { result ≡ digit_value b }
-{
-    if is_digit(b) {
-        u64::from(b - b'0')
-    } else if b'a' <= b && b <= b'f' {
-        u64::from(b - b'a' + 10)
-    } else if b'A' <= b && b <= b'F' {
-        u64::from(b - b'A' + 10)
-    } else {
-        16
-    }
 }

@@ -1,7 +1,7 @@
 ghost use Rattle.std.specs.Prelude.{◌≡◌, ◌<◌, true, length, slice_index, bytes_eq};
 ghost use Rattle.std.specs.List.{list_any};
 ghost use Rattle.ckc_lexer.specs.Bytes.{is_word_byte};
-ghost use Rattle.ckc_lexer.specs.Longest.{Longest};
+ghost use Rattle.ckc_syntax.specs.Longest.{Longest};
 ghost use Rattle.ckc_lexer.specs.Words.{keywords, is_keyword, word_item, IsWordItem};
 
 use crate::bytes::word_len;

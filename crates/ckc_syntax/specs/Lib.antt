@@ -1,4 +1,11 @@
+pub mod Bytes
+pub mod Decoded
 pub mod Depth
+pub mod DigitReading
+pub mod Digits
+pub mod Literals
+pub mod Longest
 pub mod Marks
 pub mod Small
+pub mod Spelled
 pub mod Tally

@@ -1,5 +1,6 @@
 use crate::{
     Act, Decl, Expr, Head, Init, Item, Length, Limits, Node, Stmt, Tree, TreeOp, TypeTree, fits,
+    string_bytes,
 };
 use ckc_base::{Boxed, Pos, Refusal, Seq};
 use std::alloc::{AllocError, Global};
@@ -196,5 +197,27 @@ fn first_refusal_in_order(rt: HostRuntime) -> Result<(), Fail> {
     check(&rt, &tree, refused(202, 7, 5));
     let tree = two(a, texts(a, 20_000)?, function(a, 0, 0, 62)?)?;
     check(&rt, &tree, refused(203, 1, 1));
+    Ok(())
+}
+
+#[test]
+fn bytes_of_strings(rt: HostRuntime) -> Result<(), Fail> {
+    let rows: [(&str, &[u8]); 8] = [
+        (r#""""#, b""),
+        (r#""a b""#, b"a b"),
+        (
+            r#""\n\t\r\a\b\f\v\\\'\"\?""#,
+            b"\n\t\r\x07\x08\x0C\x0B\\'\"?",
+        ),
+        (r#""\0\101\400\3777""#, b"\0A 0\xFF7"),
+        (r#""\x4\x41\xFFF""#, b"\x04A\xFFF"),
+        (r#""open"#, b"open"),
+        (r#""a"b"#, b"a"),
+        ("", b""),
+    ];
+    for (spelling, bytes) in rows {
+        let found = string_bytes(rt.alloc(), spelling)?;
+        assert!(&rt; found.as_slice() == bytes);
+    }
     Ok(())
 }

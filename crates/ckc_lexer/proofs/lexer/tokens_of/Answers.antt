@@ -2,7 +2,7 @@ use Rattle.std.proofs.Common.{List, ℕ, length, subst, sym, refl, ◌∙◌}
 use Rattle.std.proofs.lemmas.Bool.{eqb-true}
 use Rattle.std.proofs.lemmas.List.{nil_from_length}
 use Rattle.ckc_lexer.specs.declared.items.Item.{Item}
-use Rattle.ckc_lexer.specs.Longest.{Longest}
+use Rattle.ckc_syntax.specs.Longest.{Longest}
 use Rattle.ckc_lexer.specs.Spelling.{Spells}
 use Rattle.ckc_lexer.specs.Reading.{context_at}
 use Rattle.ckc_lexer.proofs.Ascii.{token_utf8}

@@ -1,8 +1,8 @@
 use Rattle.std.proofs.Common.{◌≤◌, ℕ, Option, MatchOption, List, [], ◌∷◌, length, take, sym, subst, arith}
 use Rattle.std.proofs.lemmas.List.{take_rest}
-use Rattle.ckc_lexer.specs.declared.literals.Piece.{Piece}
-use Rattle.ckc_lexer.specs.Longest.{Longest, NoFront}
-use Rattle.ckc_lexer.specs.Literals.{IsPiece, IsLiteral}
+use Rattle.ckc_syntax.specs.declared.literals.Piece.{Piece}
+use Rattle.ckc_syntax.specs.Longest.{Longest, NoFront}
+use Rattle.ckc_syntax.specs.Literals.{IsPiece, IsLiteral}
 use Rattle.ckc_lexer.specs.LiteralReading.{IsOnlyLiteral}
 use Rattle.ckc_lexer.proofs.LiteralFronts.{apostrophe, no_character, one_character, no_end}
 use Rattle.ckc_lexer.proofs.literals.character_of.Goals as goal

@@ -1,7 +1,7 @@
 use Rattle.std.proofs.Common.{List, ℕ, subst, arith}
 use Rattle.std.proofs.lemmas.List.{take_rest}
-use Rattle.ckc_lexer.specs.Longest.{Longest, NoFront}
-use Rattle.ckc_lexer.specs.Literals.{IsPiece}
+use Rattle.ckc_syntax.specs.Longest.{Longest, NoFront}
+use Rattle.ckc_syntax.specs.Literals.{IsPiece}
 use Rattle.ckc_lexer.proofs.LiteralFronts.{quotation, scanned_none, scanned_more, scanned_literal, scanned_open}
 use Rattle.ckc_lexer.proofs.literals.text_len.Goals as goal
 use Rattle.ckc_lexer.proofs.literals.text_len.Goals.{else-len-text-via-then-len-text+else-text-len-eq34, else-len-text-via-else-len-text}

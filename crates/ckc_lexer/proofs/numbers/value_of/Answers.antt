@@ -1,5 +1,5 @@
 use Rattle.std.proofs.Common.{◌+◌, arith}
-use Rattle.ckc_lexer.proofs.Digits.{value_next, value_front, digits_more}
+use Rattle.ckc_syntax.proofs.DigitFronts.{value_next, value_front, digits_more}
 use Rattle.ckc_lexer.proofs.numbers.value_of.Goals as goal
 
 pub returns-then-value-gt4294967295 : goal.returns-then-value-gt4294967295

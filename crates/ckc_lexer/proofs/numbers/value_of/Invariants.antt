@@ -1,5 +1,5 @@
 use Rattle.std.proofs.Common.{◌≡◌, ℕ, ◌<◌, ◌^◌, true, take, get_or}
-use Rattle.ckc_lexer.specs.Numbers.{is_digit_in, value_in}
+use Rattle.ckc_syntax.specs.Digits.{is_digit_in, value_in}
 use Rattle.ckc_lexer.proofs.numbers.value_of.Given as goal
 
 abbrev pub invariant-loop-b : goal.invariant-loop-b

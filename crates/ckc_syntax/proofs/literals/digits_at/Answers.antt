@@ -1,7 +1,7 @@
 use Rattle.std.proofs.Common.{inl, inr, arith}
-use Rattle.ckc_lexer.proofs.Digits.{value_next, digits_more, most_digits}
-use Rattle.ckc_lexer.proofs.literals.digits_at.Goals as goal
-use Rattle.ckc_lexer.proofs.literals.digits_at.Goals.{then-len-most-via-then-len-most, then-len-most-via-else-len-most+then-digit-radix, then-len-most-via-else-len-most+else-digit-radix+then-value-radix-gt255}
+use Rattle.ckc_syntax.proofs.DigitFronts.{value_next, digits_more, most_digits}
+use Rattle.ckc_syntax.proofs.literals.digits_at.Goals as goal
+use Rattle.ckc_syntax.proofs.literals.digits_at.Goals.{then-len-most-via-then-len-most, then-len-most-via-else-len-most+then-digit-radix, then-len-most-via-else-len-most+else-digit-radix+then-value-radix-gt255}
 
 pub returns-then-len-most : goal.returns-then-len-most
 returns-then-len-most c =

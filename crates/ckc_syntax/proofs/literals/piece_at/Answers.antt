@@ -1,6 +1,6 @@
-use Rattle.ckc_lexer.specs.Literals.{IsEscape, IsPiece, escape}
-use Rattle.ckc_lexer.proofs.EscapeFronts.{only_escape, same_answer}
-use Rattle.ckc_lexer.proofs.literals.piece_at.Goals as goal
+use Rattle.ckc_syntax.specs.Literals.{IsEscape, IsPiece, escape}
+use Rattle.ckc_syntax.proofs.EscapeFronts.{only_escape, same_answer}
+use Rattle.ckc_syntax.proofs.literals.piece_at.Goals as goal
 
 pub returns-then-text-eq92 : goal.returns-then-text-eq92
 returns-then-text-eq92 c =

@@ -1,9 +1,9 @@
 use Rattle.std.proofs.Common.{◌∙◌, Option, MatchOption, sym, subst, arith, length-take-le, get_or-take}
-use Rattle.ckc_lexer.specs.Literals.{IsDigitsAfter, IsEscape, octal, hexadecimal}
-use Rattle.ckc_lexer.specs.declared.literals.Piece.{Piece}
-use Rattle.ckc_lexer.specs.Longest.{Longest, NoFront}
-use Rattle.ckc_lexer.proofs.EscapeFronts.{only_hexadecimal, only_octal, same_answer, no_escape, simple_longest}
-use Rattle.ckc_lexer.proofs.literals.escape_at.Goals as goal
+use Rattle.ckc_syntax.specs.Literals.{IsDigitsAfter, IsEscape, octal, hexadecimal}
+use Rattle.ckc_syntax.specs.declared.literals.Piece.{Piece}
+use Rattle.ckc_syntax.specs.Longest.{Longest, NoFront}
+use Rattle.ckc_syntax.proofs.EscapeFronts.{only_hexadecimal, only_octal, same_answer, no_escape, simple_longest}
+use Rattle.ckc_syntax.proofs.literals.escape_at.Goals as goal
 
 pub returns-then-text-eq120 : goal.returns-then-text-eq120
 returns-then-text-eq120 c =

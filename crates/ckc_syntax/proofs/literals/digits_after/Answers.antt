@@ -1,8 +1,8 @@
 use Rattle.std.proofs.Common.{ℕ, List, subst, arith, length-take-le}
 use Rattle.std.proofs.lemmas.List.{take_rest}
-use Rattle.ckc_lexer.specs.LiteralReading.{IsMostDigits}
-use Rattle.ckc_lexer.proofs.Digits.{no_more_digits, digits_longest}
-use Rattle.ckc_lexer.proofs.literals.digits_after.Goals as goal
+use Rattle.ckc_syntax.specs.DigitReading.{IsMostDigits}
+use Rattle.ckc_syntax.proofs.DigitFronts.{no_more_digits, digits_longest}
+use Rattle.ckc_syntax.proofs.literals.digits_after.Goals as goal
 
 pub returns-then-digits-eq0 : goal.returns-then-digits-eq0
 returns-then-digits-eq0 c = λ m u some le s.

@@ -1,6 +1,6 @@
 use Rattle.std.proofs.Common.{◌≡◌, ℕ, ◌<◌, ◌≤◌, true, take, get_or}
-use Rattle.ckc_lexer.specs.Numbers.{is_digit_in, value_in}
-use Rattle.ckc_lexer.proofs.literals.digits_at.Given as goal
+use Rattle.ckc_syntax.specs.Digits.{is_digit_in, value_in}
+use Rattle.ckc_syntax.proofs.literals.digits_at.Given as goal
 
 abbrev pub invariant-loop-len : goal.invariant-loop-len
 invariant-loop-len l = record {

@@ -4,10 +4,10 @@ use Rattle.std.proofs.Math.Nat.{mul-le-mul_left}
 use Rattle.std.proofs.lemmas.Grind.{fold-append}
 use Rattle.std.proofs.lemmas.List.{take_more, take-take, drop-take}
 use Rattle.std.proofs.lemmas.Bool.{ltb-true, lt-ltb, cases_lt}
-use Rattle.ckc_lexer.specs.Numbers.{digit_value, is_digit_in, value_in}
-use Rattle.ckc_lexer.specs.Literals.{IsDigitsAfter}
-use Rattle.ckc_lexer.specs.LiteralReading.{IsMostDigits}
-use Rattle.ckc_lexer.specs.Longest.{Longest}
+use Rattle.ckc_syntax.specs.Digits.{digit_value, is_digit_in, value_in}
+use Rattle.ckc_syntax.specs.Literals.{IsDigitsAfter}
+use Rattle.ckc_syntax.specs.DigitReading.{IsMostDigits}
+use Rattle.ckc_syntax.specs.Longest.{Longest}
 
 abbrev next : ℕ → ℕ → ℕ → ℕ
 next radix n b = n * radix + digit_value b

@@ -1,10 +1,10 @@
 -- Which fronts of a text are escapes and characters of a literal.
 use Rattle.std.proofs.Common.{◌≡◌, ℕ, ◌<◌, ◌≤◌, true, not, ◌||◌, nat_lt, List, length, take, get_or, Option, Some, None, MatchOption, is_none, sym, refl, ap, ◌∙◌, ⊎_elim, arith, length-take-le, get_or-take, get_or-drop, length-drop}
 use Rattle.std.proofs.lemmas.Bool.{false≢true, or_cases, and_parts, not-true, agree_below_at, ltb-true, lt-ltb}
-use Rattle.ckc_lexer.specs.declared.literals.Piece.{Piece}
-use Rattle.ckc_lexer.specs.Longest.{Longest, NoFront}
-use Rattle.ckc_lexer.specs.Numbers.{digit_value, is_digit_in}
-use Rattle.ckc_lexer.specs.Literals.{is_plain, simple_escape, IsDigitsAfter, IsEscape, simple, octal, hexadecimal, IsPiece, plain, escape}
+use Rattle.ckc_syntax.specs.declared.literals.Piece.{Piece}
+use Rattle.ckc_syntax.specs.Longest.{Longest, NoFront}
+use Rattle.ckc_syntax.specs.Digits.{digit_value, is_digit_in}
+use Rattle.ckc_syntax.specs.Literals.{is_plain, simple_escape, IsDigitsAfter, IsEscape, simple, octal, hexadecimal, IsPiece, plain, escape}
 
 -- no octal digit is a letter of an escape
 pub not_octal : (b : ℕ) → b < 256 → digit_value b < 8 → (u : ℕ) → simple_escape b ≡ Some u → ⊥
