@@ -1,0 +1,18 @@
+use Rattle.std.proofs.Common.{◌≡◌, refl, sym, ap, ◌∙◌}
+use Rattle.ckc_parser.specs.Values.{made}
+use Rattle.ckc_parser.specs.Grammar.{k}
+use Rattle.ckc_parser.specs.Marked.{ahead}
+use Rattle.ckc_parser.specs.Reading.{pick, kind_of}
+use Rattle.ckc_parser.proofs.Steps.{chosen_as}
+use Rattle.ckc_parser.specs.Grammar as g
+use Rattle.ckc_parser.specs.Values as v
+use Rattle.ckc_parser.proofs.Choices as o
+use Rattle.ckc_parser.proofs.reader.Reader.declaration.Goals as goal
+
+pub returns-in-Struct-clause-gives : goal.returns-in-Struct-clause-gives
+returns-in-Struct-clause-gives c =
+    chosen_as (λ y. v.as_items y) (λ x vs. v.as_items (made g.StaticStruct vs) ≡ x) g.declaration g.StaticStruct _ _ c.static_struct.result (ap (λ k. pick g.declaration k) (sym c.in-Struct.ensures)) (λ k. refl) (λ x vs h. h) c.static_struct.ensures.reads
+
+pub returns-in_default-clause-gives : goal.returns-in_default-clause-gives
+returns-in_default-clause-gives c =
+    chosen_as (λ y. v.as_items y) (λ x vs. v.as_items (made g.StaticOther vs) ≡ x) g.declaration g.StaticOther _ _ c.static_other.result (o.other_declaration (kind_of (ahead c.args.self.now)) (λ e. c.in_default.not-Struct (c.kind.ensures ∙ e))) (λ k. refl) (λ x vs h. h) c.static_other.ensures.reads

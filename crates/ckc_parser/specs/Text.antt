@@ -1,0 +1,44 @@
+-- What the tokens of a whole text derive, and where they stop to be the beginning of a text.
+use Rattle.std.specs.Prelude.{◌≡◌, List, [], ◌∷◌, ◌++◌}
+use Rattle.ckc_base.specs.declared.places.Pos.{Pos}
+use Rattle.ckc_base.specs.declared.places.Refusal.{Refusal}
+use Rattle.ckc_syntax.specs.Spelled.{Spelled}
+use Rattle.ckc_parser.specs.declared.kind.Kind.TheVariants as kind
+use Rattle.ckc_parser.specs.Grammar.{Part, n}
+use Rattle.ckc_parser.specs.Grammar as g
+use Rattle.ckc_parser.specs.Trees as trees
+use Rattle.ckc_parser.specs.Values.{Value, tree}
+use Rattle.ckc_parser.specs.Derives.{Derives}
+use Rattle.ckc_parser.specs.Marked.{signs}
+
+abbrev pub start : Part
+start = g.text
+
+-- the tokens derive a value
+abbrev pub DerivesValue : List Spelled → Value → Type 0
+DerivesValue xs v = Derives (n start ∷ []) (signs xs) kind.End (v ∷ [])
+
+-- the tokens begin some that derive a value
+abbrev pub Viable : List Spelled → Type 0
+Viable xs = (ys : List Spelled) × (v : Value) × DerivesValue (xs ++ ys) v
+
+-- The fault is at the first token with which the tokens so far are not viable, or at the end where all are and
+-- derive nothing.
+abbrev pub FaultAt : List Spelled → List Spelled → Pos → Pos → Type 0
+FaultAt front [] end pos = (pos ≡ end) × ((v : Value) → DerivesValue front v → ⊥)
+FaultAt front (x ∷ more) end pos = (pos ≡ x.pos) × (Viable (front ++ x ∷ []) → ⊥)
+
+abbrev pub IsFault : List Spelled → Pos → Pos → Type 0
+IsFault xs end pos = (front : List Spelled) × (rest : List Spelled) × (xs ≡ front ++ rest) × Viable front × FaultAt front rest end pos
+
+-- a tree with the bytes of its names
+abbrev pub SpelledTree : Type 0
+SpelledTree = trees.Tree
+
+-- the tokens derive the tree
+abbrev pub DerivesTokens : List Spelled → SpelledTree → Type 0
+DerivesTokens xs whole = DerivesValue xs (tree whole)
+
+-- The fault for which the tokens are refused: 120 at the first place where they stop to begin a text.
+abbrev pub FirstFault : List Spelled → Pos → Refusal → Type 0
+FirstFault xs end fault = (fault.code ≡ 120) × IsFault xs end fault.pos

@@ -1,0 +1,19 @@
+-- One item of a text, which more items follow.
+use Rattle.std.specs.Prelude.{◌≡◌, List, [], ◌∷◌, ◌++◌, true, Some}
+use Rattle.ckc_parser.specs.declared.kind.Kind.{Kind}
+use Rattle.ckc_parser.specs.Grammar.{Symbol, n, Rule, right, allowed}
+use Rattle.ckc_parser.specs.Grammar as g
+use Rattle.ckc_parser.specs.Trees.{Item}
+use Rattle.ckc_parser.specs.Values.{Value, made, as_items}
+use Rattle.ckc_parser.specs.Derives.{Sign}
+use Rattle.ckc_parser.specs.Reading.{kind_of, pick, Takes}
+
+pub record IsItem (old : List Sign) (x : List Item) (new : List Sign) : Type 0 where
+  pub rule : Rule
+  pub front : List Symbol
+  pub values : List Value
+  pub picked : pick g.items (kind_of old) ≡ Some rule
+  pub goes_on : right rule ≡ front ++ n g.items ∷ []
+  pub allows : (k : Kind) → allowed rule k ≡ true
+  pub taken : Takes front old values new
+  pub makes : (y : Value) → as_items (made rule (values ++ y ∷ [])) ≡ x ++ as_items y
