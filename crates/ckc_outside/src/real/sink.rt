@@ -1,4 +1,4 @@
-ghost use Rattle.std.specs.Prelude.{None};
+ghost use Rattle.std.specs.Prelude.{◌≡◌, None};
 
 use crate::traits::{Failed, Sink};
 use std::io::{ErrorKind, Write};
@@ -13,7 +13,10 @@ pub struct RealSink<W> {
 
 impl<W: Write + Drop> RealSink<W> {
     /// Into the writer.
-    pub fn new(writer: W) -> RealSink<W> {
+    pub fn new(writer: W) -> RealSink<W>
+        ensures calls { result.calls ≡ 0 }
+        ensures faults { result.faults ≡ 0 }
+    {
         RealSink {
             writer,
             calls: 0,

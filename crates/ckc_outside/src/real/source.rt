@@ -19,7 +19,9 @@ pub struct RealSource<R> {
 
 impl<R: Read + Drop> RealSource<R> {
     /// Over what the reader gives.
-    pub fn new(reader: R) -> RealSource<R> {
+    pub fn new(reader: R) -> RealSource<R>
+        ensures faults { result.faults ≡ 0 }
+    {
         RealSource {
             reader,
             room: [0; ROOM],

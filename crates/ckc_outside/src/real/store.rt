@@ -1,4 +1,4 @@
-ghost use Rattle.std.specs.Prelude.{None, false};
+ghost use Rattle.std.specs.Prelude.{◌≡◌, None, false};
 ghost use Rattle.ckc_outside.specs.Outside.{IsWithin};
 
 use super::sink::write_whole;
@@ -20,7 +20,9 @@ pub struct RealStore<'a, R> {
 
 impl<'a, R: Files> RealStore<'a, R> {
     /// The files that the runtime reaches.
-    pub fn new(rt: &'a R) -> RealStore<'a, R> {
+    pub fn new(rt: &'a R) -> RealStore<'a, R>
+        ensures faults { result.faults ≡ 0 }
+    {
         RealStore { rt, faults: 0 }
     }
 }

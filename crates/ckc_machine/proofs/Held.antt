@@ -1,0 +1,393 @@
+-- What a held memory has at each address.
+use Rattle.std.proofs.Common.{◌≡◌, ◌≢◌, ◌⊎◌, inl, inr, ℕ, zero, suc, ◌+◌, ◌-◌, ◌*◌, ◌/◌, ◌%◌, ◌^◌, ◌≤◌, ◌<◌, List, length, get_or, take, drop, length-take, Some, None, refl, sym, ap, subst, ◌∙◌, arith}
+use Rattle.std.specs.Prelude.{slice_set}
+use Rattle.std.proofs.lemmas.Bool.Decides.{nat_tests}
+use Rattle.std.proofs.lemmas.Bool.{cases_lt}
+use Rattle.std.proofs.Math.Path.{fun_ext}
+use Rattle.std.proofs.lemmas.List.{get_or-set_same, get_or-set_other, get_or-drop, get_or-take, get_or_past}
+use Rattle.ckc_rv.specs.Machine.{Parts, Memory, flat, loaded, stored, with_byte, code_start, data_start, stack_start, memory_end}
+use Rattle.ckc_rv.specs.declared.instructions.LoadOp.{LoadOp}
+use Rattle.ckc_rv.specs.declared.instructions.LoadOp.TheVariants.{Lb, Lh, Lw, Lbu, Lhu}
+use Rattle.ckc_rv.specs.declared.instructions.StoreOp.{StoreOp}
+use Rattle.ckc_rv.specs.declared.instructions.StoreOp.TheVariants.{Sb, Sh, Sw}
+use Rattle.ckc_rv.specs.Effects.{load_bytes, store_bytes}
+use Rattle.ckc_machine.specs.Bytes.{byte_of, byte_in, part_of, held, Holds, IsUnmapped, IsChanged, IsMerged}
+
+-- what holds of 0, 1, 2 and 3 holds of each number below 4
+pub below_4 : (P : ℕ → Type 0) → P 0 → P 1 → P 2 → P 3 → (i : ℕ) → i < 4 → P i
+below_4 P a b c d zero h = a
+below_4 P a b c d (suc zero) h = b
+below_4 P a b c d (suc (suc zero)) h = c
+below_4 P a b c d (suc (suc (suc zero))) h = d
+below_4 P a b c d (suc (suc (suc (suc n)))) h = absurd (omega arith)
+
+-- the bytes of the word that four bytes spell
+pub bytes_of_word : (word b0 b1 b2 b3 : ℕ) → b0 < 256 → b1 < 256 → b2 < 256 → b3 < 256 → word ≡ b0 + 256 * (b1 + 256 * (b2 + 256 * (b3 + 256 * 0)))
+    → (byte_of word 0 ≡ b0) × (byte_of word 1 ≡ b1) × (byte_of word 2 ≡ b2) × (byte_of word 3 ≡ b3)
+bytes_of_word word b0 b1 b2 b3 h0 h1 h2 h3 e = (omega arith, omega arith, omega arith, omega arith)
+
+module _ (code statics stack : List ℕ) where
+  pub held_code : (a : ℕ) → code_start ≤ a → a < code_start + length code → held code statics stack a ≡ Some (get_or code (a - code_start) 0)
+  unfolding held
+  held_code a h k = grind (arith, nat_tests)
+
+  pub held_statics : (a : ℕ) → length code ≤ 16773120 → data_start ≤ a → a < stack_start → held code statics stack a ≡ Some (byte_in statics (a - data_start))
+  unfolding held
+  held_statics a fits h k = grind (arith, nat_tests)
+
+  pub held_stack : (a : ℕ) → length code ≤ 16773120 → stack_start ≤ a → a < memory_end → held code statics stack a ≡ Some (byte_in stack (a - stack_start))
+  unfolding held
+  held_stack a fits h k = grind (arith, nat_tests)
+
+  pub held_below : (a : ℕ) → a < code_start → held code statics stack a ≡ None
+  unfolding held
+  held_below a h = grind (arith, nat_tests)
+
+  pub held_between : (a : ℕ) → code_start + length code ≤ a → a < data_start → held code statics stack a ≡ None
+  unfolding held
+  held_between a h k = grind (arith, nat_tests)
+
+  pub held_above : (a : ℕ) → length code ≤ 16773120 → memory_end ≤ a → held code statics stack a ≡ None
+  unfolding held
+  held_above a fits h = grind (arith, nat_tests)
+
+-- the byte i of the word at a place that is a multiple of 4
+pub byte_in_word : (words : List ℕ) (a i : ℕ) → a % 4 ≡ 0 → i < 4 → byte_in words (a + i) ≡ byte_of (get_or words (a / 4) 0) i
+byte_in_word words a i h k =
+    let p : (a + i) / 4 ≡ a / 4 = omega arith in
+    let q : (a + i) % 4 ≡ i = omega arith in
+    ap (λ j. byte_of (get_or words j 0) ((a + i) % 4)) p ∙ ap (byte_of (get_or words (a / 4) 0)) q
+
+module _ (code statics stack : List ℕ) (fits : length code ≤ 16773120) where
+  pub holds_statics : (a : ℕ) → a % 4 ≡ 0 → data_start ≤ a → a < stack_start → Holds (held code statics stack) a (get_or statics ((a - data_start) / 4) 0)
+  holds_statics a al h k i l =
+      let e : a + i - data_start ≡ a - data_start + i = omega arith in
+      held_statics code statics stack (a + i) fits (omega arith) (omega arith)
+      ∙ ap (λ j. Some (byte_in statics j)) e ∙ ap Some (byte_in_word statics (a - data_start) i (omega arith) l)
+
+  pub holds_stack : (a : ℕ) → a % 4 ≡ 0 → stack_start ≤ a → a < memory_end → Holds (held code statics stack) a (get_or stack ((a - stack_start) / 4) 0)
+  holds_stack a al h k i l =
+      let e : a + i - stack_start ≡ a - stack_start + i = omega arith in
+      held_stack code statics stack (a + i) fits (omega arith) (omega arith)
+      ∙ ap (λ j. Some (byte_in stack j)) e ∙ ap Some (byte_in_word stack (a - stack_start) i (omega arith) l)
+
+  pub unmapped_below : (a : ℕ) → a % 4 ≡ 0 → a < code_start → IsUnmapped (held code statics stack) a
+  unmapped_below a al h i l = held_below code statics stack (a + i) (omega arith)
+
+  pub unmapped_between : (a : ℕ) → a % 4 ≡ 0 → code_start + length code ≤ a → a < data_start → IsUnmapped (held code statics stack) a
+  unmapped_between a al h k i l = held_between code statics stack (a + i) (omega arith) (omega arith)
+
+  pub unmapped_above : (a : ℕ) → memory_end ≤ a → IsUnmapped (held code statics stack) a
+  unmapped_above a h i l = held_above code statics stack (a + i) fits (omega arith)
+
+  pub holds_code : (a word : ℕ) → code_start ≤ a → a + 3 < code_start + length code
+      → ((i : ℕ) → i < 4 → byte_of word i ≡ get_or code (a - code_start + i) 0) → Holds (held code statics stack) a word
+  holds_code a word h k e i l =
+      let j : a + i - code_start ≡ a - code_start + i = omega arith in
+      held_code code statics stack (a + i) (omega arith) (omega arith)
+      ∙ ap (λ n. Some (get_or code n 0)) j ∙ ap Some (sym (e i l))
+
+-- ---- what is loaded
+
+-- the number that bytes spell, the lowest first
+abbrev pub spelled : ℕ → (ℕ → ℕ) → ℕ
+spelled zero f = 0
+spelled (suc n) f = f 0 + 256 * spelled n (λ i. f (suc i))
+
+loaded_more : (m : Memory) (n a b r : ℕ) → m a ≡ Some b → loaded m n (a + 1) ≡ Some r → loaded m (suc n) a ≡ Some (b + 256 * r)
+unfolding loaded
+loaded_more m n a b r e f = rw (e, f) refl
+
+pub loaded_bytes : (n : ℕ) (m : Memory) (a : ℕ) (f : ℕ → ℕ) → ((i : ℕ) → i < n → m (a + i) ≡ Some (f i)) → loaded m n a ≡ Some (spelled n f)
+unfolding loaded
+loaded_bytes zero m a f e = refl
+loaded_bytes (suc n) m a f e =
+    let here : a + 0 ≡ a = omega arith in
+    let next : (i : ℕ) → i < n → m (a + 1 + i) ≡ Some (f (suc i)) = λ i h.
+    let on : a + suc i ≡ a + 1 + i = omega arith in
+    subst (λ q. m q ≡ Some (f (suc i))) on (e (suc i) (omega arith)) in
+    loaded_more m n a (f 0) (spelled n (λ i. f (suc i))) (subst (λ q. m q ≡ Some (f 0)) here (e 0 (omega arith))) (loaded_bytes n m (a + 1) (λ i. f (suc i)) next)
+
+pub loaded_none : (m : Memory) (n a : ℕ) → m a ≡ None → loaded m (suc n) a ≡ None
+unfolding loaded
+loaded_none m n a e = rw e refl
+
+-- the whole word
+pub loaded_word : (m : Memory) (a word : ℕ) → word < 2 ^ 32 → Holds m a word → loaded m 4 a ≡ Some word
+loaded_word m a word h e =
+    let w : spelled 4 (byte_of word) ≡ word = omega arith in
+    loaded_bytes 4 m a (byte_of word) e ∙ ap Some w
+
+-- one byte, two bytes or four of a word
+bytes_from : (m : Memory) (a word place n : ℕ) → place + n ≤ 4 → Holds m (a - place) word → place ≤ a → loaded m n a ≡ Some (spelled n (λ i. byte_of word (place + i)))
+bytes_from m a word place n fits h below =
+    loaded_bytes n m a (λ i. byte_of word (place + i)) (λ i k.
+    let on : a - place + (place + i) ≡ a + i = omega arith in
+    subst (λ q. m q ≡ Some (byte_of word (place + i))) on (h (place + i) (omega arith)))
+
+spelled_one : (word place : ℕ) → place < 4 → spelled 1 (λ i. byte_of word (place + i)) ≡ part_of word place 1
+spelled_one word place h = below_4 (λ p. spelled 1 (λ i. byte_of word (p + i)) ≡ part_of word p 1) (omega arith) (omega arith) (omega arith) (omega arith) place h
+
+pub loaded_one : (m : Memory) (a word : ℕ) → Holds m (a - a % 4) word → loaded m 1 a ≡ Some (part_of word (a % 4) 1)
+loaded_one m a word h = bytes_from m a word (a % 4) 1 (omega arith) h (omega arith) ∙ ap Some (spelled_one word (a % 4) (omega arith))
+
+spelled_two : (word place : ℕ) → place % 2 ≡ 0 → place < 4 → spelled 2 (λ i. byte_of word (place + i)) ≡ part_of word place 2
+spelled_two word place al h = below_4 (λ p. p % 2 ≡ 0 → spelled 2 (λ i. byte_of word (p + i)) ≡ part_of word p 2) (λ e. omega arith) (λ e. absurd (omega arith)) (λ e. omega arith) (λ e. absurd (omega arith)) place h al
+
+pub loaded_two : (m : Memory) (a word : ℕ) → a % 2 ≡ 0 → Holds m (a - a % 4) word → loaded m 2 a ≡ Some (part_of word (a % 4) 2)
+loaded_two m a word al h = bytes_from m a word (a % 4) 2 (omega arith) h (omega arith) ∙ ap Some (spelled_two word (a % 4) (omega arith) (omega arith))
+
+pub loaded_four : (m : Memory) (a word : ℕ) → word < 2 ^ 32 → a % 4 ≡ 0 → Holds m (a - a % 4) word → loaded m 4 a ≡ Some (part_of word (a % 4) 4)
+loaded_four m a word small al h =
+    let here : a - a % 4 ≡ a = omega arith in
+    let whole : part_of word (a % 4) 4 ≡ word = ap (λ p. part_of word p 4) al ∙ omega arith in
+    loaded_word m a word small (subst (λ q. Holds m q word) here h) ∙ ap Some (sym whole)
+
+pub loaded_unmapped : (m : Memory) (a n : ℕ) → IsUnmapped m (a - a % 4) → loaded m (suc n) a ≡ None
+loaded_unmapped m a n h =
+    let on : a - a % 4 + a % 4 ≡ a = omega arith in
+    loaded_none m n a (subst (λ q. m q ≡ None) on (h (a % 4) (omega arith)))
+
+pub load_gives : (op : LoadOp) (m : Memory) (a word : ℕ) → word < 2 ^ 32 → a % load_bytes op ≡ 0 → Holds m (a - a % 4) word
+    → loaded m (load_bytes op) a ≡ Some (part_of word (a % 4) (load_bytes op))
+load_gives Lb m a word small al h = loaded_one m a word h
+load_gives Lh m a word small al h = loaded_two m a word al h
+load_gives Lw m a word small al h = loaded_four m a word small al h
+load_gives Lbu m a word small al h = loaded_one m a word h
+load_gives Lhu m a word small al h = loaded_two m a word al h
+
+pub load_fails : (op : LoadOp) (m : Memory) (a : ℕ) → IsUnmapped m (a - a % 4) → loaded m (load_bytes op) a ≡ None
+load_fails Lb m a h = loaded_unmapped m a 0 h
+load_fails Lh m a h = loaded_unmapped m a 1 h
+load_fails Lw m a h = loaded_unmapped m a 3 h
+load_fails Lbu m a h = loaded_unmapped m a 0 h
+load_fails Lhu m a h = loaded_unmapped m a 1 h
+
+-- ---- what is stored
+
+-- a number that is read from four bytes has these bytes
+pub read_back : (word : ℕ) (bytes : List ℕ) → ((i : ℕ) → i < 4 → get_or bytes i 0 < 256)
+    → word ≡ get_or bytes 0 0 + 256 * (get_or bytes 1 0 + 256 * (get_or bytes 2 0 + 256 * (get_or bytes 3 0 + 256 * 0)))
+    → (i : ℕ) → i < 4 → byte_of word i ≡ get_or bytes i 0
+read_back word bytes small e =
+    let w = bytes_of_word word (get_or bytes 0 0) (get_or bytes 1 0) (get_or bytes 2 0) (get_or bytes 3 0) (small 0 (omega arith)) (small 1 (omega arith)) (small 2 (omega arith)) (small 3 (omega arith)) e in
+    below_4 (λ i. byte_of word i ≡ get_or bytes i 0) w.0 w.1 w.2 w.3
+
+byte_small : (word i : ℕ) → i < 4 → byte_of word i < 256
+byte_small word = below_4 (λ i. byte_of word i < 256) (omega arith) (omega arith) (omega arith) (omega arith)
+
+split_at : (i place : ℕ) → (i ≡ place) ⊎ ((i < place) ⊎ (place + 1 ≤ i))
+split_at i place = grind arith
+
+small_at : (word place value : ℕ) (bytes : List ℕ) → get_or bytes place 0 ≡ value % 256 → ((i : ℕ) → i < 4 → (i < place) ⊎ (place + 1 ≤ i) → get_or bytes i 0 ≡ byte_of word i)
+    → (i : ℕ) → i < 4 → (i ≡ place) ⊎ ((i < place) ⊎ (place + 1 ≤ i)) → get_or bytes i 0 < 256
+small_at word place value bytes same other i k (inl e) = let v : value % 256 < 256 = omega arith in subst (λ b. b < 256) (sym (ap (λ j. get_or bytes j 0) e ∙ same)) v
+small_at word place value bytes same other i k (inr o) = subst (λ b. b < 256) (sym (other i k o)) (byte_small word i k)
+
+-- one byte of a word is set
+pub merged_byte : (word place value merged : ℕ) (bytes : List ℕ) → place < length bytes → ((i : ℕ) → i < 4 → get_or bytes i 0 ≡ byte_of word i)
+    → (let set' = slice_set bytes place (value % 256) in merged ≡ get_or set' 0 0 + 256 * (get_or set' 1 0 + 256 * (get_or set' 2 0 + 256 * (get_or set' 3 0 + 256 * 0))))
+    → place < 4 → IsMerged word place 1 value merged
+merged_byte word place value merged bytes within e read h =
+    let set' = slice_set bytes place (value % 256) in
+    let same : get_or set' place 0 ≡ value % 256 = get_or-set_same bytes place (value % 256) 0 within in
+    let other : (i : ℕ) → i < 4 → (i < place) ⊎ (place + 1 ≤ i) → get_or set' i 0 ≡ byte_of word i = λ i k o. get_or-set_other bytes place i (value % 256) 0 (elim o as (λ _. i ≢ place) [ inl p ↦ omega arith | inr p ↦ omega arith ]) ∙ e i k in
+    let small : (i : ℕ) → i < 4 → get_or set' i 0 < 256 = λ i k. small_at word place value set' same other i k (split_at i place) in
+    let back = read_back merged set' small read in
+    record {
+      inside = λ i k. let here : place + i ≡ place = omega arith in let first : i ≡ 0 = omega arith in
+          ap (byte_of merged) here ∙ back place h ∙ same ∙ ap (byte_of value) (sym first);
+      outside = λ i k o. back i k ∙ other i k o;
+    }
+
+-- ---- a word is put
+
+same_below : (code s s' t t' : List ℕ) (q : ℕ) → q < data_start → held code s t q ≡ held code s' t' q
+unfolding held
+same_below code s s' t t' q h = grind (arith, nat_tests)
+
+data Region (q : ℕ) : Type 0 where
+  below_data : q < data_start → Region q
+  in_data : data_start ≤ q → q < stack_start → Region q
+  in_stack : stack_start ≤ q → q < memory_end → Region q
+  above : memory_end ≤ q → Region q
+
+region_of : (q : ℕ) → Region q
+region_of q = elim (cases_lt q data_start) [
+  | inl h ↦ below_data h
+  | inr h ↦ elim (cases_lt q stack_start) [
+    | inl k ↦ in_data h k
+    | inr k ↦ elim (cases_lt q memory_end) [ inl l ↦ in_stack k l | inr l ↦ above l ]
+  ]
+]
+
+-- the bytes of the other words stay
+byte_stays : (words : List ℕ) (a word k : ℕ) → a % 4 ≡ 0 → (k < a) ⊎ (a + 4 ≤ k) → byte_in (slice_set words (a / 4) word) k ≡ byte_in words k
+byte_stays words a word k al o =
+    let apart : k / 4 ≢ a / 4 = elim o as (λ _. k / 4 ≢ a / 4) [ inl p ↦ omega arith | inr p ↦ omega arith ] in
+    ap (λ w. byte_of w (k % 4)) (get_or-set_other words (a / 4) (k / 4) word 0 apart)
+
+module _ (code statics stack : List ℕ) (fits : length code ≤ 16773120) (a word : ℕ) (al : a % 4 ≡ 0) where
+  pub changed_statics : length statics ≡ 4194304 → data_start ≤ a → a < stack_start → IsChanged (held code statics stack) (held code (slice_set statics ((a - data_start) / 4) word) stack) a word
+  changed_statics len h k =
+      let j = (a - data_start) / 4 in
+      let now = slice_set statics j word in
+      record {
+        here = subst (Holds (held code now stack) a) (get_or-set_same statics j word 0 (omega arith)) (holds_statics code now stack fits a al h k);
+        elsewhere = λ q o. elim (region_of q) as (λ _. held code now stack q ≡ held code statics stack q) [
+          | below_data l ↦ same_below code now statics stack stack q l
+          | in_data l r ↦
+              let apart : (q - data_start < a - data_start) ⊎ (a - data_start + 4 ≤ q - data_start) = elim o as (λ _. (q - data_start < a - data_start) ⊎ (a - data_start + 4 ≤ q - data_start)) [ inl p ↦ inl (omega arith) | inr p ↦ inr (omega arith) ] in
+              held_statics code now stack q fits l r ∙ ap Some (byte_stays statics (a - data_start) word (q - data_start) (omega arith) apart) ∙ sym (held_statics code statics stack q fits l r)
+          | in_stack l r ↦ held_stack code now stack q fits l r ∙ sym (held_stack code statics stack q fits l r)
+          | above l ↦ held_above code now stack q fits l ∙ sym (held_above code statics stack q fits l)
+        ];
+      }
+
+  pub changed_stack : length stack ≡ 4194304 → stack_start ≤ a → a < memory_end → IsChanged (held code statics stack) (held code statics (slice_set stack ((a - stack_start) / 4) word)) a word
+  changed_stack len h k =
+      let j = (a - stack_start) / 4 in
+      let now = slice_set stack j word in
+      record {
+        here = subst (Holds (held code statics now) a) (get_or-set_same stack j word 0 (omega arith)) (holds_stack code statics now fits a al h k);
+        elsewhere = λ q o. elim (region_of q) as (λ _. held code statics now q ≡ held code statics stack q) [
+          | below_data l ↦ same_below code statics statics now stack q l
+          | in_data l r ↦ held_statics code statics now q fits l r ∙ sym (held_statics code statics stack q fits l r)
+          | in_stack l r ↦
+              let apart : (q - stack_start < a - stack_start) ⊎ (a - stack_start + 4 ≤ q - stack_start) = elim o as (λ _. (q - stack_start < a - stack_start) ⊎ (a - stack_start + 4 ≤ q - stack_start)) [ inl p ↦ inl (omega arith) | inr p ↦ inr (omega arith) ] in
+              held_stack code statics now q fits l r ∙ ap Some (byte_stays stack (a - stack_start) word (q - stack_start) (omega arith) apart) ∙ sym (held_stack code statics stack q fits l r)
+          | above l ↦ held_above code statics now q fits l ∙ sym (held_above code statics stack q fits l)
+        ];
+      }
+
+-- ---- a value is stored
+
+byte_next : (value i : ℕ) → i < 3 → byte_of (value / 256) i ≡ byte_of value (suc i)
+byte_next value zero h = omega arith
+byte_next value (suc zero) h = omega arith
+byte_next value (suc (suc zero)) h = omega arith
+byte_next value (suc (suc (suc i))) h = absurd (omega arith)
+
+with_byte_same : (m : Memory) (a byte q : ℕ) → q ≡ a → with_byte m a byte q ≡ Some byte
+unfolding with_byte
+with_byte_same m a byte q e = grind (arith, nat_tests)
+
+with_byte_other : (m : Memory) (a byte q : ℕ) → q ≢ a → with_byte m a byte q ≡ m q
+unfolding with_byte
+with_byte_other m a byte q e = grind (arith, nat_tests)
+
+stored_inside : (n : ℕ) (m : Memory) (a value i : ℕ) → n ≤ 4 → i < n → stored m n a value (a + i) ≡ Some (byte_of value i)
+unfolding stored
+stored_inside zero m a value i fits h = absurd (omega arith)
+stored_inside (suc n) m a value zero fits h = with_byte_same (stored m n (a + 1) (value / 256)) a (value % 256) (a + 0) (omega arith)
+stored_inside (suc n) m a value (suc i) fits h =
+    let on : a + suc i ≡ a + 1 + i = omega arith in
+    with_byte_other (stored m n (a + 1) (value / 256)) a (value % 256) (a + suc i) (omega arith)
+    ∙ ap (stored m n (a + 1) (value / 256)) on ∙ stored_inside n m (a + 1) (value / 256) i (omega arith) (omega arith) ∙ ap Some (byte_next value i (omega arith))
+
+stored_outside : (n : ℕ) (m : Memory) (a value q : ℕ) → (q < a) ⊎ (a + n ≤ q) → stored m n a value q ≡ m q
+unfolding stored
+stored_outside zero m a value q o = refl
+stored_outside (suc n) m a value q o =
+    let apart : q ≢ a = elim o as (λ _. q ≢ a) [ inl p ↦ omega arith | inr p ↦ omega arith ] in
+    let later : (q < a + 1) ⊎ (a + 1 + n ≤ q) = elim o as (λ _. (q < a + 1) ⊎ (a + 1 + n ≤ q)) [ inl p ↦ inl (omega arith) | inr p ↦ inr (omega arith) ] in
+    with_byte_other (stored m n (a + 1) (value / 256)) a (value % 256) q apart ∙ stored_outside n m (a + 1) (value / 256) q later
+
+-- A word that is put with some bytes of a value is those bytes stored.
+pub put_is_stored : (old new : Memory) (n a word value merged : ℕ) → a % 4 + n ≤ 4 → Holds old (a - a % 4) word → IsMerged word (a % 4) n value merged → IsChanged old new (a - a % 4) merged
+    → new ≡ stored old n a value
+put_is_stored old new n a word value merged fits h g k = fun_ext (λ q.
+    let w = a - a % 4 in
+    elim (cases_lt q w) as (λ _. new q ≡ stored old n a value q) [
+      | inl p ↦ k.elsewhere q (inl p) ∙ sym (stored_outside n old a value q (inl (omega arith)))
+      | inr p ↦ elim (cases_lt q (w + 4)) as (λ _. new q ≡ stored old n a value q) [
+        | inr r ↦ k.elsewhere q (inr r) ∙ sym (stored_outside n old a value q (inr (omega arith)))
+        | inl r ↦
+            let i = q - w in
+            let on : w + i ≡ q = omega arith in
+            let now : new q ≡ Some (byte_of merged i) = subst (λ (x : ℕ). new x ≡ Some (byte_of merged i)) on (k.here i (omega arith)) in
+            let was : old q ≡ Some (byte_of word i) = subst (λ (x : ℕ). old x ≡ Some (byte_of word i)) on (h i (omega arith)) in
+            elim (cases_lt i (a % 4)) as (λ _. new q ≡ stored old n a value q) [
+              | inl s ↦ now ∙ ap Some (g.outside i (omega arith) (inl s)) ∙ sym was ∙ sym (stored_outside n old a value q (inl (omega arith)))
+              | inr s ↦ elim (cases_lt i (a % 4 + n)) as (λ _. new q ≡ stored old n a value q) [
+                | inr t ↦ now ∙ ap Some (g.outside i (omega arith) (inr t)) ∙ sym was ∙ sym (stored_outside n old a value q (inr (omega arith)))
+                | inl t ↦
+                    let j = i - a % 4 in
+                    let place : a % 4 + j ≡ i = omega arith in
+                    let there : a + j ≡ q = omega arith in
+                    now ∙ ap (λ x. Some (byte_of merged x)) (sym place) ∙ ap Some (g.inside j (omega arith))
+                    ∙ sym (subst (λ (x : ℕ). stored old n a value x ≡ Some (byte_of value j)) there (stored_inside n old a value j (omega arith) (omega arith)))
+              ]
+            ]
+      ]
+    ])
+
+-- an aligned access lies in one word
+pub store_within : (op : StoreOp) (a : ℕ) → a % store_bytes op ≡ 0 → a % 4 + store_bytes op ≤ 4
+store_within Sb a h = omega arith
+store_within Sh a h = omega arith
+store_within Sw a h = omega arith
+
+-- ---- the memory at the start
+
+-- byte i of what lies behind a place, which is 0 past the end
+pub byte_behind : (xs : List ℕ) (at i : ℕ) → get_or (take (length xs - at) (drop at xs)) i 0 ≡ get_or xs (at + i) 0
+byte_behind xs at i = elim (cases_lt (at + i) (length xs)) as (λ _. get_or (take (length xs - at) (drop at xs)) i 0 ≡ get_or xs (at + i) 0) [
+  | inl h ↦ get_or-take (length xs - at) (drop at xs) i 0 (omega arith) ∙ get_or-drop at xs i 0
+  | inr h ↦
+      let past : length (take (length xs - at) (drop at xs)) ≤ i = omega (arith, length-take (length xs - at) (drop at xs)) in
+      get_or_past (take (length xs - at) (drop at xs)) i 0 past ∙ sym (get_or_past xs (at + i) 0 h)
+]
+
+-- one word more is filled
+pub filled_more : (words bytes : List ℕ) (i word : ℕ) → i < length words → ((k : ℕ) → k < 4 * i → byte_in words k ≡ get_or bytes k 0)
+    → ((r : ℕ) → r < 4 → byte_of word r ≡ get_or bytes (4 * i + r) 0) → (k : ℕ) → k < 4 * (i + 1) → byte_in (slice_set words i word) k ≡ get_or bytes k 0
+filled_more words bytes i word h before here k l =
+    let whole : 4 * i / 4 ≡ i = omega arith in
+    elim (cases_lt k (4 * i)) as (λ _. byte_in (slice_set words i word) k ≡ get_or bytes k 0) [
+      | inl p ↦
+          ap (λ j. byte_in (slice_set words j word) k) (sym whole) ∙ byte_stays words (4 * i) word k (omega arith) (inl p) ∙ before k p
+      | inr p ↦
+          let j : k / 4 ≡ i = omega arith in
+          let at : 4 * i + k % 4 ≡ k = omega arith in
+          ap (λ n. byte_of (get_or (slice_set words i word) n 0) (k % 4)) j ∙ ap (λ w. byte_of w (k % 4)) (get_or-set_same words i word 0 h)
+          ∙ here (k % 4) (omega arith) ∙ ap (λ n. get_or bytes n 0) at
+    ]
+
+zero_byte : (i : ℕ) → i < 4 → byte_of 0 i ≡ 0
+zero_byte = below_4 (λ i. byte_of 0 i ≡ 0) refl refl refl refl
+
+-- where all words of the bytes are filled and the others are 0
+pub filled_all : (words bytes : List ℕ) (i : ℕ) → length bytes ≤ 4 * i → ((k : ℕ) → k < 4 * i → byte_in words k ≡ get_or bytes k 0) → ((j : ℕ) → i ≤ j → get_or words j 0 ≡ 0)
+    → (k : ℕ) → byte_in words k ≡ get_or bytes k 0
+filled_all words bytes i h filled zero' k = elim (cases_lt k (4 * i)) as (λ _. byte_in words k ≡ get_or bytes k 0) [
+  | inl p ↦ filled k p
+  | inr p ↦ ap (λ w. byte_of w (k % 4)) (zero' (k / 4) (omega arith)) ∙ zero_byte (k % 4) (omega arith) ∙ sym (get_or_past bytes k 0 (omega arith))
+]
+
+flat_below : (parts : Parts) (s t : List ℕ) (q : ℕ) → q < data_start → held parts.code s t q ≡ flat parts q
+unfolding held flat
+flat_below parts s t q h = grind (arith, nat_tests)
+
+flat_data : (parts : Parts) (q : ℕ) → length parts.code ≤ 16773120 → data_start ≤ q → q < stack_start → flat parts q ≡ Some (get_or parts.initial (q - data_start) 0)
+unfolding flat
+flat_data parts q fits h k = grind (arith, nat_tests)
+
+flat_stack : (parts : Parts) (q : ℕ) → length parts.code ≤ 16773120 → stack_start ≤ q → q < memory_end → flat parts q ≡ Some 0
+unfolding flat
+flat_stack parts q fits h k = grind (arith, nat_tests)
+
+flat_above : (parts : Parts) (q : ℕ) → length parts.code ≤ 16773120 → memory_end ≤ q → flat parts q ≡ None
+unfolding flat
+flat_above parts q fits h = grind (arith, nat_tests)
+
+pub held_is_flat : (parts : Parts) (statics stack : List ℕ) → length parts.code ≤ 16773120 → ((k : ℕ) → byte_in statics k ≡ get_or parts.initial k 0) → ((j : ℕ) → get_or stack j 0 ≡ 0)
+    → held parts.code statics stack ≡ flat parts
+held_is_flat parts statics stack fits e z = fun_ext (λ q. elim (region_of q) as (λ _. held parts.code statics stack q ≡ flat parts q) [
+  | below_data l ↦ flat_below parts statics stack q l
+  | in_data l r ↦ held_statics parts.code statics stack q fits l r ∙ ap Some (e (q - data_start)) ∙ sym (flat_data parts q fits l r)
+  | in_stack l r ↦
+      let zero' : byte_in stack (q - stack_start) ≡ 0 = ap (λ w. byte_of w ((q - stack_start) % 4)) (z ((q - stack_start) / 4)) ∙ zero_byte ((q - stack_start) % 4) (omega arith) in
+      held_stack parts.code statics stack q fits l r ∙ ap Some zero' ∙ sym (flat_stack parts q fits l r)
+  | above l ↦ held_above parts.code statics stack q fits l ∙ sym (flat_above parts q fits l)
+])

@@ -1,0 +1,5 @@
+pub mod Held
+pub mod Turning
+pub mod Moving
+pub mod Points
+pub mod Arrivals

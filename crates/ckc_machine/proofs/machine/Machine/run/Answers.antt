@@ -1,0 +1,111 @@
+use Rattle.std.proofs.Common.{◌≡◌, ◌+◌, ◌<◌, inl, inr, ℕ, List, Option, refl, sym, subst, arith, ◌∙◌}
+use Rattle.std.proofs.lemmas.Bool.{false≢true}
+use Rattle.ckc_rv.specs.Machine.{Parts, machine}
+use Rattle.ckc_machine.specs.declared.observed.Observed.{Observed}
+use Rattle.ckc_machine.specs.declared.observed.Observed.TheVariants.{Going}
+use Rattle.ckc_machine.specs.declared.machine.Machine.{Machine}
+use Rattle.ckc_machine.specs.Points.{state_at}
+use Rattle.ckc_machine.specs.Runs.{Arrives, Runs, IsFed, AsksFor, AsksNothing, answer_of}
+use Rattle.ckc_machine.proofs.Arrivals.{settled, then_going, then_ends, fed_same, arrives_none, runs_arriving}
+use Rattle.ckc_machine.proofs.machine.Machine.run.Goals as goal
+
+pub returns-then-not-goes-clause-exact : goal.returns-then-not-goes-clause-exact
+returns-then-not-goes-clause-exact g c = λ parts given k is.
+    settled parts given k c.args.limit c.args.self.now (g.S.Source.left c.args.input.now) (g.O.Sink.written c.args.out.now) (g.S.Source.faults c.args.input.now) (g.O.Sink.faults c.args.out.now) is (λ e. false≢true (c.if-not-goes.ensures.1 e))
+
+pub returns-then-not-goes-clause-silent : goal.returns-then-not-goes-clause-silent
+returns-then-not-goes-clause-silent g c = λ parts given k left is silent.
+    (refl, settled parts given k c.args.limit c.args.self.now left (g.O.Sink.written c.args.out.now) (g.S.Source.faults c.args.input.now) (g.O.Sink.faults c.args.out.now) is (λ e. false≢true (c.if-not-goes.ensures.1 e)))
+
+-- one instruction of a silent run asks for nothing
+silent_at : (parts : Parts) (given : List ℕ) (k i limit : ℕ) → i < limit → AsksNothing parts given k limit → ¬ AsksFor parts (state_at parts given (k + i)) 2
+silent_at parts given k i limit h silent = silent (k + i) (omega arith) (omega arith)
+
+-- what the source is left with halfway
+halfway : (told mid : Option (List ℕ)) (told' : Option (List ℕ)) (silent one : Type 0) (left left' : Option (List ℕ)) → (silent → one) → IsFed told told' silent left left'
+    → (between : Option (List ℕ)) × IsFed told mid silent left between × IsFed mid told' one between left'
+halfway told mid told' silent one left left' f (inl h) = (mid, inl (h.0, refl), inl (refl, h.1))
+halfway told mid told' silent one left left' f (inr h) = (left, inr (h.0, refl), inr (f h.0, h.1))
+
+pub loop-step-init : goal.loop-step-init
+loop-step-init g c = record {
+  going = c.if-not-goes.ensures.0 refl;
+  arrives = λ parts given k before after is fed.
+      let written = g.O.Sink.written c.args.out.now in
+      let same = fed_same (g.S.Source.left c.args.input.now) _ before after fed in
+      subst (λ (l : Option (List ℕ)). Arrives parts given k 0 c.args.self.now before l written written) (sym same) (arrives_none parts given k c.args.self.now before written is);
+  silent = λ parts given k before is quiet. refl;
+  input_counts = omega arith;
+  out_counts = omega arith;
+}
+
+pub returns-then-not-goes-2-clause-exact : goal.returns-then-not-goes-2-clause-exact
+returns-then-not-goes-2-clause-exact g c = λ parts given k is.
+    let told = g.S.Source.left in
+    let i = c.loop-step._step in
+    let half = halfway (told c.args.input.now) (told c.loop-step.input) (told c.step.new.input) _ _ (told c.args.input.now) (told c.step.new.input) (silent_at parts given k i c.args.limit c.loop-step-test.true) (inl (refl, refl)) in
+    let before = c.loop-step.invariant.arrives parts given k (told c.args.input.now) half.0 is half.1 in
+    then_ends parts given k i c.args.limit c.loop-step.self c.step.new.self
+    (told c.args.input.now) half.0 (told c.step.new.input) (g.O.Sink.written c.args.out.now) (g.O.Sink.written c.loop-step.out) (g.O.Sink.written c.step.new.out)
+    (g.S.Source.faults c.args.input.now) (g.S.Source.faults c.loop-step.input) (g.S.Source.faults c.step.new.input) (g.O.Sink.faults c.args.out.now) (g.O.Sink.faults c.loop-step.out) (g.O.Sink.faults c.step.new.out)
+    is.rest before (omega arith) c.loop-step.invariant.input_counts c.loop-step.invariant.out_counts (answer_of c.step.new.self) refl (λ e. false≢true (c.if-not-goes-2.ensures.1 e))
+    (c.step.ensures.exact parts given (k + i) half.0 (told c.step.new.input) before.at half.2)
+
+pub returns-then-not-goes-2-clause-silent : goal.returns-then-not-goes-2-clause-silent
+returns-then-not-goes-2-clause-silent g c = λ parts given k left is quiet.
+    let i = c.loop-step._step in
+    let one = silent_at parts given k i c.args.limit c.loop-step-test.true quiet in
+    let before = c.loop-step.invariant.arrives parts given k left left is (inr (quiet, refl)) in (
+      c.step.ensures.silent parts given (k + i) left before.at one ∙ c.loop-step.invariant.silent parts given k left is quiet,
+      then_ends parts given k i c.args.limit c.loop-step.self c.step.new.self
+          left left left (g.O.Sink.written c.args.out.now) (g.O.Sink.written c.loop-step.out) (g.O.Sink.written c.step.new.out)
+          (g.S.Source.faults c.args.input.now) (g.S.Source.faults c.loop-step.input) (g.S.Source.faults c.step.new.input) (g.O.Sink.faults c.args.out.now) (g.O.Sink.faults c.loop-step.out) (g.O.Sink.faults c.step.new.out)
+          is.rest before (omega arith) c.loop-step.invariant.input_counts c.loop-step.invariant.out_counts (answer_of c.step.new.self) refl (λ e. false≢true (c.if-not-goes-2.ensures.1 e))
+          (c.step.ensures.exact parts given (k + i) left left before.at (inr (one, refl))),
+    )
+
+pub loop-step-preserved : goal.loop-step-preserved
+loop-step-preserved g c =
+    let told = g.S.Source.left in
+    let written = g.O.Sink.written in
+    let i = c.loop-step._step in
+    let going : answer_of c.step.new.self ≡ Going = c.if-not-goes-2.ensures.0 refl in
+    record {
+      going = going;
+      arrives = λ parts given k left left' is fed.
+          let half = halfway (told c.args.input.now) (told c.loop-step.input) (told c.step.new.input) _ _ left left' (silent_at parts given k i c.args.limit c.loop-step-test.true) fed in
+          let before = c.loop-step.invariant.arrives parts given k left half.0 is half.1 in
+          then_going parts given k i c.args.limit c.loop-step.self c.step.new.self
+          left half.0 left' (written c.args.out.now) (written c.loop-step.out) (written c.step.new.out)
+          (g.S.Source.faults c.args.input.now) (g.S.Source.faults c.loop-step.input) (g.S.Source.faults c.step.new.input) (g.O.Sink.faults c.args.out.now) (g.O.Sink.faults c.loop-step.out) (g.O.Sink.faults c.step.new.out)
+          is.rest before c.loop-step-test.true c.loop-step.invariant.input_counts c.loop-step.invariant.out_counts going
+          (subst (λ (o : Observed). Runs parts given (k + i) 1 c.step.new.self half.0 left' (written c.loop-step.out) (written c.step.new.out)
+          (g.S.Source.faults c.loop-step.input) (g.S.Source.faults c.step.new.input) (g.O.Sink.faults c.loop-step.out) (g.O.Sink.faults c.step.new.out) o) going (c.step.ensures.exact parts given (k + i) half.0 left' before.at half.2));
+      silent = λ parts given k left is quiet.
+          let before = c.loop-step.invariant.arrives parts given k left left is (inr (quiet, refl)) in
+          c.step.ensures.silent parts given (k + i) left before.at (silent_at parts given k i c.args.limit c.loop-step-test.true quiet) ∙ c.loop-step.invariant.silent parts given k left is quiet;
+      input_counts = omega (arith, c.loop-step.invariant.input_counts, c.step.ensures.input_counts);
+      out_counts = omega (arith, c.loop-step.invariant.out_counts, c.step.ensures.out_counts);
+    }
+
+-- the loop has come to the limit
+at_limit : (parts : Parts) (given : List ℕ) (k i limit : ℕ) (m : Machine) (left left' written written' : Option (List ℕ)) (faults faults' puts puts' : ℕ) → i ≡ limit → Arrives parts given k i m left left' written written'
+    → Runs parts given k limit m left left' written written' faults faults' puts puts' (answer_of m)
+at_limit parts given k i limit m left left' written written' faults faults' puts puts' e a =
+    let there = subst (λ n. Arrives parts given k n m left left' written written') e a in
+    runs_arriving parts given k limit m left left' written written' faults faults' puts puts' (answer_of m) (machine parts given (k + limit)).standing there.at.answer there
+
+pub returns-clause-exact : goal.returns-clause-exact
+returns-clause-exact g c = λ parts given k is.
+    let told = g.S.Source.left in
+    at_limit parts given k c.loop-step._step c.args.limit c.loop-step.self (told c.args.input.now) (told c.loop-step.input) (g.O.Sink.written c.args.out.now) (g.O.Sink.written c.loop-step.out)
+    (g.S.Source.faults c.args.input.now) (g.S.Source.faults c.loop-step.input) (g.O.Sink.faults c.args.out.now) (g.O.Sink.faults c.loop-step.out) (omega arith)
+    (c.loop-step.invariant.arrives parts given k (told c.args.input.now) (told c.loop-step.input) is (inl (refl, refl)))
+
+pub returns-clause-silent : goal.returns-clause-silent
+returns-clause-silent g c = λ parts given k left is quiet. (
+  c.loop-step.invariant.silent parts given k left is quiet,
+  at_limit parts given k c.loop-step._step c.args.limit c.loop-step.self left left (g.O.Sink.written c.args.out.now) (g.O.Sink.written c.loop-step.out)
+      (g.S.Source.faults c.args.input.now) (g.S.Source.faults c.loop-step.input) (g.O.Sink.faults c.args.out.now) (g.O.Sink.faults c.loop-step.out) (omega arith)
+      (c.loop-step.invariant.arrives parts given k left left is (inr (quiet, refl))),
+)

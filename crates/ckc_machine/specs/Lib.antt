@@ -1,0 +1,5 @@
+pub mod Bytes
+pub mod Memories
+pub mod Points
+pub mod Runs
+pub mod Turns
