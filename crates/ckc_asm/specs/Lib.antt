@@ -1,0 +1,9 @@
+pub mod Assembled
+pub mod Places
+pub mod Names
+pub mod Listing
+pub mod Putting
+pub mod Cut
+pub mod Numerals
+pub mod Items
+pub mod Program

@@ -1,0 +1,3 @@
+//! Values by hand, words by LLVM's `llvm-mc`.
+mod assembling;
+mod listing;
