@@ -1,0 +1,13 @@
+//! Facts about integer variables, and what follows from them by chains.
+#![tactic(auto)]
+
+mod chains;
+mod facts;
+mod forms;
+pub mod laws;
+#[cfg(test)]
+mod tests;
+
+pub use chains::entails;
+pub use facts::{Fact, Facts, add, forget, shift};
+pub use forms::{Base, Form};
