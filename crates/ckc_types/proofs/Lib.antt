@@ -1,0 +1,4 @@
+pub mod Aligns
+pub mod Forms
+pub mod Multiples
+pub mod Offsets

@@ -1,0 +1,5 @@
+pub mod LaidOut
+pub mod Layout
+pub mod Multiples
+pub mod Places
+pub mod Scalars

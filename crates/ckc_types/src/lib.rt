@@ -1,0 +1,11 @@
+//! Types as the compiler keeps them, the members of structures, and how both lie in memory.
+#![tactic(auto)]
+
+pub mod laws;
+mod layout;
+#[cfg(test)]
+mod tests;
+mod types;
+
+pub use layout::{align, offset, size};
+pub use types::{CType, Kind, MemberBounds, MemberShape, StructShape, Structs};

@@ -1,0 +1,51 @@
+use ckc_base::{Boxed, Seq};
+
+/// The kinds of pointers: `T *`, `_Ptr<T>`, `_Array_ptr<T>` and `_Nt_array_ptr<T>` (Checked C specification 0.9,
+/// section 2).
+#[derive(Clone, Copy, Debug, PartialEq, Eq)]
+pub enum Kind {
+    Raw,
+    One,
+    Arr,
+    Nt,
+}
+
+/// A type. A structure is given by the number of its tag.
+#[derive(Drop)]
+pub enum CType {
+    Int,
+    Unsigned,
+    Char,
+    Void,
+    Struct(u32),
+    Pointer(Kind, Boxed<CType>),
+}
+
+/// How many elements a member points to: `Fixed(c)` is `count(c)`, and `Named(m, c)` is `count(m + c)` for the
+/// member m of the same structure.
+#[derive(Clone, Copy, Debug, PartialEq, Eq)]
+pub enum MemberBounds {
+    Nothing,
+    Fixed(i64),
+    Named(u32, i64),
+}
+
+/// A member: the number of its spelling, its type and its bounds.
+#[derive(Drop)]
+pub struct MemberShape {
+    pub name: u32,
+    pub ctype: CType,
+    pub bounds: MemberBounds,
+}
+
+/// The members of a structure, in order.
+#[derive(Drop)]
+pub struct StructShape {
+    pub members: Seq<MemberShape>,
+}
+
+/// The structures of a text, each at the number of its tag.
+#[derive(Drop)]
+pub struct Structs {
+    pub shapes: Seq<StructShape>,
+}
