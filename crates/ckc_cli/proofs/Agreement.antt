@@ -1,5 +1,5 @@
 -- The code of an accepted text follows its meaning.
-use Rattle.std.proofs.Common.{◌≡◌, inl, inr, ℕ, suc, ◌+◌, ◌*◌, ◌%◌, ◌≤◌, ◌<◌, ◌^◌, Bool, true, false, cond, nat_lt, ◌==◌, List, [], ◌∷◌, ◌++◌, length, get_or, refl, sym, ap, subst, ◌∙◌, arith, append_assoc, length-append, map, pos, ◌-ℤ◌}
+use Rattle.std.proofs.Common.{◌≡◌, inl, inr, ℕ, suc, ◌+◌, ◌*◌, ◌%◌, ◌≤◌, ◌<◌, ◌^◌, Bool, true, false, cond, nat_lt, ◌==◌, List, [], ◌∷◌, ◌++◌, length, get_or, refl, sym, ap, subst, ◌∙◌, arith, append_assoc, length-append, pos, ◌-ℤ◌}
 use Rattle.std.specs.Prelude.{slice_set}
 use Rattle.std.proofs.lemmas.Bool.Decides.{nat_tests}
 use Rattle.std.proofs.lemmas.Int.{ints}
@@ -9,7 +9,8 @@ use Rattle.ckc_base.specs.Words.{word_of}
 use Rattle.ckc_base.specs.Traces.{Put, Ended}
 use Rattle.ckc_base.specs.Steps.{Goes, Halts}
 use Rattle.ckc_base.specs.Follows.{Follows}
-use Rattle.ckc_base.proofs.Runs.{Stretch, Closes, Matched, one_step, one_halt, then_stretch, then_closes, follows_by_steps}
+use Rattle.ckc_base.specs.Matching.{Stretch, Closes}
+use Rattle.ckc_base.proofs.Runs.{Matched, one_step, one_halt, then_stretch, then_closes, follows_by_steps}
 use Rattle.ckc_rv.specs.declared.instructions.ImmOp.TheVariants.{Addi}
 use Rattle.ckc_rv.specs.declared.instructions.Instr.{Instr}
 use Rattle.ckc_rv.specs.declared.instructions.Instr.TheVariants.{Lui, Imm, Ecall}
@@ -18,8 +19,7 @@ use Rattle.ckc_rv.specs.Effects.{effect_of, following}
 use Rattle.ckc_rv.specs.Machine.{Parts, State, flat, code_start, machine_step, machine_system, first_state, machine, calls, by_outcome}
 use Rattle.ckc_cli.specs.Source.{source, source_system, source_step}
 use Rattle.ckc_cli.specs.Compiled.{put_code, end_code, instructions, code_of, parts_of, upper, lower}
-use Rattle.ckc_cli.specs.Running.{IsPlain, AtPlain, Path, by_quiet, by_put, by_end, Runs}
-use Rattle.ckc_cli.proofs.Codes.{step_at, plain_at}
+use Rattle.ckc_cli.proofs.Codes.{step_at}
 
 -- The machine is about to run these instructions, and then those after them; the rest of its state is as the code
 -- leaves it.
@@ -76,9 +76,6 @@ ready_skip parts i left s d = record {
 steps_at : (parts : Parts) (s : State) (i : Instr) (left : List Instr) → Ready parts (i ∷ left) s → InRange i → row_word i < 2 ^ 32 → machine_step parts s ≡ by_outcome s (effect_of i s.pc s.x)
 steps_at parts s i left d range small = step_at parts s d.front left i d.code range small d.memory d.pc
 
-ready_plain : (parts : Parts) (s : State) (i : Instr) (left : List Instr) → Ready parts (i ∷ left) s → InRange i → row_word i < 2 ^ 32 → IsPlain i s.x → AtPlain parts s
-ready_plain parts s i left d range small plain = plain_at parts s d.front left i d.code range small d.memory d.pc plain
-
 small_range : (r n : ℕ) → r < 32 → n < 256 → InRange (Imm Addi r 0 (pos n))
 small_range r n h small = (h, omega arith, (omega (arith, ints), omega (arith, ints)))
 
@@ -98,7 +95,7 @@ set_small parts s left r n h h32 small d =
 set_upper : (parts : Parts) (s : State) (left : List Instr) (u : ℕ) → u < 2 ^ 20 → Ready parts (Lui 10 u ∷ left) s → machine_step parts s ≡ Goes [] (set_reg s 10 (u * 2 ^ 12))
 set_upper parts s left u h d = steps_at parts s (Lui 10 u) left d (omega arith, h) (omega arith)
 
-join_test : (n : ℕ) → n < 2 ^ 31 → (b : Bool) → nat_lt (n % 4096) 2048 ≡ b → (upper n * 2 ^ 12 + word_of (cond b (pos (n % 4096)) (pos (n % 4096) -ℤ pos 4096))) % 2 ^ 32 ≡ n
+join_test : (n : ℕ) → n < 2 ^ 32 → (b : Bool) → nat_lt (n % 4096) 2048 ≡ b → (upper n * 2 ^ 12 + word_of (cond b (pos (n % 4096)) (pos (n % 4096) -ℤ pos 4096))) % 2 ^ 32 ≡ n
 join_test n h true e = let k : n % 4096 < 2048 = grind (arith, nat_tests) in omega (arith, ints)
 join_test n h false e = let k : 2048 ≤ n % 4096 = grind (arith, nat_tests) in omega (arith, ints)
 
@@ -107,14 +104,14 @@ fits_test n true e = let k : n % 4096 < 2048 = grind (arith, nat_tests) in (omeg
 fits_test n false e = let k : 2048 ≤ n % 4096 = grind (arith, nat_tests) in (omega arith, omega arith, (omega (arith, ints), omega (arith, ints)))
 
 -- the upper and the lower part of a number make the number
-parts_join : (n : ℕ) → n < 2 ^ 31 → (upper n * 2 ^ 12 + word_of (lower n)) % 2 ^ 32 ≡ n
+parts_join : (n : ℕ) → n < 2 ^ 32 → (upper n * 2 ^ 12 + word_of (lower n)) % 2 ^ 32 ≡ n
 parts_join n h = join_test n h (nat_lt (n % 4096) 2048) refl
 
 lower_fits : (n : ℕ) → InRange (Imm Addi 10 10 (lower n))
 lower_fits n = fits_test n (nat_lt (n % 4096) 2048) refl
 
 -- ADDI of the lower part to x10
-add_lower : (parts : Parts) (s : State) (left : List Instr) (n : ℕ) → n < 2 ^ 31 → get_or s.x 10 0 ≡ upper n * 2 ^ 12 → Ready parts (Imm Addi 10 10 (lower n) ∷ left) s → machine_step parts s ≡ Goes [] (set_reg s 10 n)
+add_lower : (parts : Parts) (s : State) (left : List Instr) (n : ℕ) → n < 2 ^ 32 → get_or s.x 10 0 ≡ upper n * 2 ^ 12 → Ready parts (Imm Addi 10 10 (lower n) ∷ left) s → machine_step parts s ≡ Goes [] (set_reg s 10 n)
 add_lower parts s left n h e d =
     steps_at parts s (Imm Addi 10 10 (lower n)) left d (lower_fits n) (omega (arith, ints))
     ∙ ap (λ v. Goes [] (set_reg s 10 ((v + word_of (lower n)) % 2 ^ 32))) e ∙ ap (λ v. Goes [] (set_reg s 10 v)) (parts_join n h)
@@ -157,9 +154,6 @@ record Putting (parts : Parts) (left : List Instr) (n : ℕ) (s : State) : Type 
   e0 : machine_step parts s ≡ Goes [] (put_1 s n)
   e1 : machine_step parts (put_1 s n) ≡ Goes [] (put_2 s n)
   e2 : machine_step parts (put_2 s n) ≡ Goes (Put (n % 256) ∷ []) (put_3 s n)
-  p0 : AtPlain parts s
-  p1 : AtPlain parts (put_1 s n)
-  p2 : AtPlain parts (put_2 s n)
   next : Ready parts left (put_3 s n)
 
 putting : (parts : Parts) (s : State) (left : List Instr) (n : ℕ) → Ready parts (put_code n ++ left) s → Putting parts left n s
@@ -176,9 +170,6 @@ putting parts s left n d =
       e0 = set_small parts s rest1 10 b (omega arith) (omega arith) (mod_small n) d;
       e1 = set_small parts (put_1 s n) (Ecall ∷ left) 17 1 (omega arith) (omega arith) (omega arith) d1;
       e2 = puts_byte parts (put_2 s n) left b x10 (mod_small n) x17 d2;
-      p0 = ready_plain parts s i0 rest1 d (small_range 10 b (omega arith) (mod_small n)) (small_word 10 b (omega arith) (mod_small n)) tt;
-      p1 = ready_plain parts (put_1 s n) i1 (Ecall ∷ left) d1 (small_range 17 1 (omega arith) (omega arith)) (small_word 17 1 (omega arith) (omega arith)) tt;
-      p2 = ready_plain parts (put_2 s n) Ecall left d2 tt (omega arith) (inr x17);
       next = ready_skip parts Ecall left (put_2 s n) d2;
     }
 
@@ -196,12 +187,8 @@ record Ending (parts : Parts) (n : ℕ) (s : State) : Type 0 where
   e1 : machine_step parts (end_1 s n) ≡ Goes [] (end_2 s n)
   e2 : machine_step parts (end_2 s n) ≡ Goes [] (end_3 s n)
   e3 : machine_step parts (end_3 s n) ≡ Halts [] (Ended n)
-  p0 : AtPlain parts s
-  p1 : AtPlain parts (end_1 s n)
-  p2 : AtPlain parts (end_2 s n)
-  p3 : AtPlain parts (end_3 s n)
 
-ending : (parts : Parts) (s : State) (n : ℕ) → n < 2 ^ 31 → Ready parts (end_code n) s → Ending parts n s
+ending : (parts : Parts) (s : State) (n : ℕ) → n < 2 ^ 32 → Ready parts (end_code n) s → Ending parts n s
 ending parts s n h d =
     let u = upper n in
     let i1 = Imm Addi 10 10 (lower n) in
@@ -219,10 +206,6 @@ ending parts s n h d =
       e1 = add_lower parts (end_1 s n) rest2 n h (got s.x 10 (u * 2 ^ 12) d.regs (omega arith)) d1;
       e2 = set_small parts (end_2 s n) (Ecall ∷ []) 17 0 (omega arith) (omega arith) (omega arith) d2;
       e3 = ends_with parts (end_3 s n) [] n x10 x17 d3;
-      p0 = ready_plain parts s (Lui 10 u) rest1 d (omega arith, fits) (omega arith) tt;
-      p1 = ready_plain parts (end_1 s n) i1 rest2 d1 (lower_fits n) (omega (arith, ints)) tt;
-      p2 = ready_plain parts (end_2 s n) i2 (Ecall ∷ []) d2 (small_range 17 0 (omega arith) (omega arith)) (small_word 17 0 (omega arith) (omega arith)) tt;
-      p3 = ready_plain parts (end_3 s n) Ecall [] d3 tt (omega arith) (inl x17);
     }
 
 -- `putchar(n);` in three instructions
@@ -239,7 +222,7 @@ puts_in_three parts s left n d =
     )
 
 -- `return n;` in four instructions
-ends_in_four : (parts : Parts) (s : State) (n : ℕ) → n < 2 ^ 31 → Ready parts (end_code n) s → Closes (machine_system parts) 4 [] s (Ended n)
+ends_in_four : (parts : Parts) (s : State) (n : ℕ) → n < 2 ^ 32 → Ready parts (end_code n) s → Closes (machine_system parts) 4 [] s (Ended n)
 ends_in_four parts s n h d =
     let m = machine_system parts in
     let p = ending parts s n h d in
@@ -253,18 +236,18 @@ ends_in_four parts s n h d =
 abbrev At : Parts → ℕ → List ℕ → State → Type 0
 At parts value left s = Ready parts (instructions left value) s
 
-matches : (parts : Parts) (value : ℕ) → value < 2 ^ 31 → (left : List ℕ) (s : State) → At parts value left s
+matches : (parts : Parts) (value : ℕ) → value < 2 ^ 32 → (left : List ℕ) (s : State) → At parts value left s
     → Matched (machine_system parts) (At parts value) (λ _. 0) left s (4 * (0 + 1)) (source_step value left)
 matches parts value h [] s d = inr (4, omega arith, tt, ends_in_four parts s value h d)
 matches parts value h (n ∷ left) s d =
     let p = puts_in_three parts s (instructions left value) n d in
     (3, p.0, omega arith, inl (omega arith), p.1, p.2)
 
-few_instructions : (puts : List ℕ) (value : ℕ) → length (instructions puts value) ≡ 3 * length puts + 4
+pub few_instructions : (puts : List ℕ) (value : ℕ) → length (instructions puts value) ≡ 3 * length puts + 4
 few_instructions [] value = refl
 few_instructions (n ∷ puts) value = omega (arith, few_instructions puts value)
 
-first_ready : (puts : List ℕ) (value : ℕ) (input : List ℕ) → length puts ≤ 300 → At (parts_of puts value) value puts (first_state (parts_of puts value) input)
+first_ready : (puts : List ℕ) (value : ℕ) (input : List ℕ) → length puts ≤ 1000 → At (parts_of puts value) value puts (first_state (parts_of puts value) input)
 first_ready puts value input few = record {
   front = [];
   code = refl;
@@ -276,27 +259,7 @@ first_ready puts value input few = record {
 }
 
 -- the machine shows each statement within four instructions
-pub follows_in_four : (puts : List ℕ) (value : ℕ) (input : List ℕ) → length puts ≤ 300 → value < 2 ^ 31 → Follows (source puts value) (machine (parts_of puts value) input) 4
+pub follows_in_four : (puts : List ℕ) (value : ℕ) (input : List ℕ) → length puts ≤ 1000 → value < 2 ^ 32 → Follows (source (record { puts = puts; value = value })) (machine (parts_of puts value) input) 4
 follows_in_four puts value input few h =
     follows_by_steps (source_system value) (machine_system (parts_of puts value)) (At (parts_of puts value) value) (λ _. 0) 4
     (matches (parts_of puts value) value h) puts (first_state (parts_of puts value) input) (first_ready puts value input few)
-
--- the machine over the code puts the low bytes of the numbers and ends with the value, all by plain instructions
-path_from : (parts : Parts) (value : ℕ) → value < 2 ^ 31 → (left : List ℕ) (s : State) → At parts value left s
-    → (n : ℕ) × (n ≡ 3 * length left + 4) × Path parts value n (map (λ b. b % 256) left) s
-path_from parts value h [] s d =
-    let p = ending parts s value h d in
-    (4, refl, by_quiet 3 [] s (end_1 s value) p.p0 p.e0 (by_quiet 2 [] (end_1 s value) (end_2 s value) p.p1 p.e1 (by_quiet 1 [] (end_2 s value) (end_3 s value) p.p2 p.e2 (by_end (end_3 s value) p.p3 p.e3))))
-path_from parts value h (b ∷ left) s d =
-    let p = putting parts s (instructions left value) b d in
-    let r = path_from parts value h left (put_3 s b) p.next in
-    let bytes = map (λ b. b % 256) left in (
-      suc (suc (suc r.0)),
-      omega (arith, r.1),
-      by_quiet (suc (suc r.0)) (b % 256 ∷ bytes) s (put_1 s b) p.p0 p.e0 (by_quiet (suc r.0) (b % 256 ∷ bytes) (put_1 s b) (put_2 s b) p.p1 p.e1 (by_put r.0 (b % 256) bytes (put_2 s b) (put_3 s b) p.p2 p.e2 r.2)),
-    )
-
-pub runs_code : (puts : List ℕ) (value : ℕ) → length puts ≤ 300 → value < 2 ^ 31 → Runs (code_of (instructions puts value)) 1000000000 (map (λ b. b % 256) puts) value
-runs_code puts value few h =
-    let p = path_from (parts_of puts value) value h puts (first_state (parts_of puts value) []) (first_ready puts value [] few) in
-    (p.0, omega (arith, p.1), p.2)

@@ -1,7 +1,6 @@
 -- The bytes of instructions, and how they are fetched.
 use Rattle.std.proofs.Common.{◌≡◌, ℕ, ◌+◌, ◌-◌, ◌*◌, ◌<◌, ◌^◌, Bool, true, false, cond, nat_lt, List, [], ◌∷◌, ◌++◌, length, get_or, refl, sym, ap, ◌∙◌, arith, None, Some, option_and_then, length-append}
 use Rattle.std.specs.List.{flat_map}
-use Rattle.std.specs.Int.{w32, from_le_bytes}
 use Rattle.std.proofs.lemmas.Bool.Decides.{nat_tests}
 use Rattle.std.proofs.lemmas.Nat.{from_le_bytes-to_le_bytes_4}
 use Rattle.std.proofs.lemmas.List.{get_or-append-add}
@@ -13,7 +12,6 @@ use Rattle.ckc_rv.specs.Decoded.{decoded}
 use Rattle.ckc_rv.specs.Effects.{effect_of}
 use Rattle.ckc_rv.specs.Machine.{Parts, State, Memory, flat, loaded, is_code, code_start, machine_step, executes, by_outcome, faults}
 use Rattle.ckc_rv.proofs.Rows.{decoded_law}
-use Rattle.ckc_cli.specs.Running.{IsPlain, AtPlain}
 use Rattle.ckc_cli.specs.Compiled.{put_code, end_code, instructions, instruction_bytes, code_of}
 
 -- what several numbers' code spells is the code of all of them
@@ -93,25 +91,3 @@ step_at parts s front back i code range small memory pc =
     let is : decoded (row_word i) ≡ Some i = (decoded_law (row_word i) i).1 (range, refl) in
     ap (λ b. cond b (executes s (option_and_then decoded (loaded s.memory 4 s.pc))) (faults 0 s)) in_it
     ∙ ap (λ o. executes s (option_and_then decoded o)) word ∙ ap (executes s) is
-
--- the word at an address of the code
-pub word_in_code : (parts : Parts) (code : List ℕ) (pc at : ℕ) → parts.code ≡ code → pc ≡ code_start + at → at + 3 < length code
-    → loaded (flat parts) 4 pc ≡ Some (from_le_bytes w32 (get_or code at 0 ∷ get_or code (at + 1) 0 ∷ get_or code (at + 2) 0 ∷ get_or code (at + 3) 0 ∷ []))
-word_in_code parts code pc at e p h =
-    let byte : (a r : ℕ) → a ≡ code_start + (at + r) → r < 4 → flat parts a ≡ Some (get_or code (at + r) 0) = λ a r q l.
-    code_at_sum parts a (at + r) q (omega (arith, ap length e)) ∙ ap (λ (c : List ℕ). Some (get_or c (at + r) 0)) e in
-    let b0 : flat parts pc ≡ Some (get_or code at 0) = (let z : at ≡ at + 0 = omega arith in code_at_sum parts pc at p (omega (arith, ap length e)) ∙ ap (λ (c : List ℕ). Some (get_or c at 0)) e) in
-    loaded_four (flat parts) pc _ _ _ _ b0 (byte (pc + 1) 1 (omega arith) (omega arith)) (byte (pc + 1 + 1) 2 (omega arith) (omega arith)) (byte (pc + 1 + 1 + 1) 3 (omega arith) (omega arith))
-    ∙ ap Some (omega arith)
-
--- a plain instruction behind others stands at the pc
-pub plain_at : (parts : Parts) (s : State) (front back : List Instr) (i : Instr) → parts.code ≡ code_of (front ++ i ∷ back) → InRange i → row_word i < 2 ^ 32
-    → s.memory ≡ flat parts → s.pc ≡ code_start + 4 * length front → IsPlain i s.x → AtPlain parts s
-plain_at parts s front back i code range small memory pc plain = record {
-  in_code = ap (is_code parts) pc ∙ in_code parts front back i code;
-  instruction = i;
-  fetched =
-      ap (λ m. option_and_then decoded (loaded m 4 s.pc)) memory ∙ ap (λ a. option_and_then decoded (loaded (flat parts) 4 a)) pc
-      ∙ ap (option_and_then decoded) (fetched parts front back i code small) ∙ (decoded_law (row_word i) i).1 (range, refl);
-  plain = plain;
-}

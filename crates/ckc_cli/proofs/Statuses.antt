@@ -1,233 +1,227 @@
--- The clauses of the top call, from the causes of its parts.
-use Rattle.std.proofs.Common.{◌≡◌, ◌≢◌, ◌⊎◌, ◌↔◌, inl, inr, ℕ, suc, ◌+◌, ◌%◌, ◌≤◌, Bool, List, [], ◌∷◌, ◌++◌, length, map, Option, None, Some, IsTrue, refl, sym, ap, subst, ◌∙◌, arith, append_assoc}
-use Rattle.std.proofs.Math.Nat.{mul-le-mul_right}
+-- How each status comes, and what is known of it.
+use Rattle.std.proofs.Common.{◌≡◌, ◌≢◌, ◌↔◌, inl, inr, ℕ, Bool, true, false, List, None, Some, Ok, Err, IsTrue, refl, sym, ap, subst, ◌∙◌}
 use Rattle.std.specs.FinMap as fin
-use Rattle.ckc_base.specs.declared.places.Pos.{Pos}
 use Rattle.ckc_base.specs.declared.places.Refusal.{Refusal}
-use Rattle.ckc_base.specs.Traces.{Event, Put, Going, Ended, Stuck, Showing, output}
-use Rattle.ckc_base.specs.Steps.{shown}
-use Rattle.ckc_base.specs.Follows.{Follows}
-use Rattle.ckc_base.proofs.Runs.{shown-later}
+use Rattle.ckc_outside.specs.declared.traits.StoreError.TheVariants as error
 use Rattle.ckc_outside.specs.Outside.{Files, Rose}
-use Rattle.ckc_rv.specs.Machine.{machine, machine_system, first_state}
+use Rattle.ckc_rv.specs.Machine.{Parts}
+use Rattle.ckc_machine.specs.declared.observed.Observed.{Observed}
+use Rattle.ckc_machine.specs.declared.observed.Observed.TheVariants as observed
+use Rattle.ckc_machine.specs.Runs.{Printed}
 use Rattle.ckc_cli.specs.declared.status.Status.{Status}
 use Rattle.ckc_cli.specs.declared.status.Status.TheVariants as status
-use Rattle.ckc_cli.specs.FirstForm.{IsForm, Accepted, FirstFault}
-use Rattle.ckc_cli.specs.Source.{source, source_system}
-use Rattle.ckc_cli.specs.Words.{Command, Exec, Reads}
-use Rattle.ckc_cli.specs.Executing.{OfWords, OfName, bytes_put}
-use Rattle.ckc_cli.specs.Compiled.{parts_of}
-use Rattle.ckc_cli.specs.Causes.{MayBeFetched, EndsThroughImage, EndsWith, StopsAtOutput, IsPossible, IsBeforeRun, instruction_limit}
-use Rattle.ckc_cli.proofs.Agreement.{follows_in_four}
-use Rattle.ckc_cli.proofs.Forms.{form_unique}
+use Rattle.ckc_cli.specs.Words.{Command, Reads}
+use Rattle.ckc_cli.specs.Commands.{name_of, Refuses, IsBad, Keeps, Lists, Executes}
+use Rattle.ckc_cli.specs.Running.{Seen, Ran, Ends, shows, Listed, whole, front, ListedFront, status_of, shows_run}
+use Rattle.ckc_cli.specs.Running as running
+use Rattle.ckc_cli.specs.Causes.{Stored, Holds, Kept, Idle, Came, Unfetched, Obeyed, Caused, Over, IsDone, IsShown, IsCutShort}
+use Rattle.ckc_cli.specs.Causes as causes
 
--- ---- the meaning, through an image
+-- what was observed, of a status that shows it
+observed_by : Status → Observed
+observed_by (status.Ended value) = observed.Ended value
+observed_by (status.Stopped check at) = observed.Stopped check at
+observed_by (status.MachineFault kind pc) = observed.Fault kind pc
+observed_by status.ReadFault = observed.ReadFault
+observed_by status.WriteFault = observed.WriteFault
+observed_by s = observed.Going
 
-events_put : List ℕ → List Event
-events_put left = map (λ n. Put (n % 256)) left
+back : (o : Observed) → observed_by (status_of o) ≡ o
+unfolding observed_by
+back (observed.Ended value) = refl
+back (observed.Stopped check at) = refl
+back observed.Going = refl
+back (observed.Fault kind pc) = refl
+back observed.ReadFault = refl
+back observed.WriteFault = refl
 
-source_shows : (value : ℕ) (left : List ℕ) (trace : List Event) → shown (source_system value) (suc (length left)) 0 trace left ≡ record { trace = trace ++ events_put left; standing = Ended value }
-unfolding shown events_put
-source_shows value [] trace = refl
-source_shows value (n ∷ left) trace =
-    source_shows value left (trace ++ Put (n % 256) ∷ [])
-    ∙ ap (λ (t : List Event). record { trace = t; standing = Ended value }) (append_assoc trace (Put (n % 256) ∷ []) (events_put left))
+pub same_shown : (o p : Observed) → status_of o ≡ status_of p → o ≡ p
+same_shown o p e = sym (back o) ∙ ap observed_by e ∙ back p
 
-output_put : (left : List ℕ) → output (events_put left) ≡ bytes_put left
-unfolding events_put
-output_put [] = refl
-output_put (n ∷ left) = ap (λ l. n % 256 ∷ l) (output_put left)
+shows_true : (o : Observed) → shows_run (status_of o) ≡ true
+shows_true (observed.Ended value) = refl
+shows_true (observed.Stopped check at) = refl
+shows_true observed.Going = refl
+shows_true (observed.Fault kind pc) = refl
+shows_true observed.ReadFault = refl
+shows_true observed.WriteFault = refl
 
-wider : {E : Type 0} (a b : ℕ → Showing E) (c d : ℕ) → c ≤ d → Follows a b c → Follows a b d
-wider a b c d h f = record {
-  forward = λ n ok. let p = f.forward n ok in (p.0, omega (arith, p.1, mul-le-mul_right (n + 1) h), p.2);
-  back = f.back;
-}
+true_false : ◌≡◌ {A = Bool} true false → ⊥
+true_false e = cc
 
-ended_is_not_stuck : (a : Showing Event) (v : ℕ) → a.standing ≡ Ended v → a.standing ≢ Stuck
-ended_is_not_stuck a v e h = cc
+pub not_shown : (o : Observed) (s : Status) → status_of o ≡ s → shows_run s ≡ false → ⊥
+not_shown o s e f = true_false (sym (shows_true o) ∙ ap shows_run e ∙ f)
 
-ended_is_not_going : (a : Showing Event) (v : ℕ) → a.standing ≡ Ended v → a.standing ≢ Going
-ended_is_not_going a v e h = cc
+same_refusal : (a b : Refusal) → status.Refused a ≡ status.Refused b → a ≡ b
+same_refusal a b e = cc
 
-ends_through_image : (text puts : List ℕ) (value : ℕ) → IsForm text puts value → EndsThroughImage puts value (bytes_put puts)
-ends_through_image text puts value f =
-    let n = suc (length puts) in
-    let shows : source puts value n ≡ record { trace = events_put puts; standing = Ended value } = source_shows value puts [] in
-    let ended : (source puts value n).standing ≡ Ended value = ap (λ (a : Showing Event). a.standing) shows in
-    let parts = parts_of puts value in
-    record {
-      step = n;
-      ended = ended;
-      bytes_are = ap (λ (a : Showing Event). output a.trace) shows ∙ output_put puts;
-      parts = parts;
-      agrees = λ input are. wider _ _ 4 33554432 (omega arith) (follows_in_four puts value input f.few f.value_small);
-      machine_ends = λ input are.
-          let p = (follows_in_four puts value input f.few f.value_small).forward n (ended_is_not_stuck (source puts value n) value ended) in
-          let within : p.0 ≤ instruction_limit = omega (arith, p.1, f.few) in
-          let later = shown-later (machine_system parts) p.0 instruction_limit 0 [] (first_state parts input) within in
-          later.stays (ended_is_not_going (machine parts input p.0) value (ap (λ (a : Showing Event). a.standing) p.2 ∙ ended)) ∙ p.2;
-    }
+same_part : (a b : ℕ) → status.BadImage a ≡ status.BadImage b → a ≡ b
+same_part a b e = cc
 
--- ---- texts and faults
+module _ (words : List (List ℕ)) (old new : Seen) (before after : Stored) (quiet untaken unasked : Type 0) where
+  abbrev IsIdle : Type 0
+  IsIdle = Idle before after quiet untaken
 
-accepted_unique : (text puts others : List ℕ) (value other : ℕ) → Accepted text puts value → Accepted text others other → value ≡ other
-accepted_unique text puts others value other a b = (form_unique text puts others value other a.form b.form).1
+  -- how a status comes
+  pub data Leaf (s : Status) : Type 0 where
+    by_usage : ((command : Command) → ¬ Reads words command) → s ≡ status.Usage → quiet → untaken → unasked → Leaf s
+    by_store : (command : Command) → Reads words command → Rose before.faults after.faults
+        → ((here : Files) → IsTrue before.steady → before.files ≡ Some here → fin.get here (name_of command) ≡ None) → s ≡ status.StoreFault → IsIdle → Leaf s
+    by_refusal : (command : Command) → Reads words command → (bytes : List ℕ) → Holds before.files (name_of command) bytes
+        → (fault : Refusal) → Refuses command bytes fault → s ≡ status.Refused fault → IsIdle → Leaf s
+    by_bad : (command : Command) → Reads words command → (bytes : List ℕ) → Holds before.files (name_of command) bytes
+        → (k : ℕ) → IsBad command bytes k → s ≡ status.BadImage k → IsIdle → Leaf s
+    by_keeping : (command : Command) → Reads words command → (bytes : List ℕ) → Holds before.files (name_of command) bytes
+        → (name image : List ℕ) → Keeps command bytes name image → s ≡ status.Done → Kept before.files name image (Ok tt) after.files → quiet → untaken → Leaf s
+    by_not_keeping : (command : Command) → Reads words command → (bytes : List ℕ) → Holds before.files (name_of command) bytes
+        → (name image : List ℕ) → Keeps command bytes name image → s ≡ status.StoreFault → Kept before.files name image (Err error.Failed) after.files
+        → Rose before.faults after.faults → ¬ IsTrue before.steady → quiet → untaken → Leaf s
+    by_memory : (command : Command) → Reads words command → s ≡ status.Memory → quiet → untaken → after.files ≡ before.files → Leaf s
+    by_keeping_memory : (command : Command) → Reads words command → (bytes : List ℕ) → Holds before.files (name_of command) bytes
+        → (name image : List ℕ) → Keeps command bytes name image → s ≡ status.Memory → Kept before.files name image (Err error.Memory) after.files → quiet → untaken → Leaf s
+    by_listing : (command : Command) → Reads words command → (bytes : List ℕ) → Holds before.files (name_of command) bytes
+        → (text : List ℕ) → Lists command bytes text → s ≡ status.Done → Printed old.written new.written text → after.files ≡ before.files → untaken → Leaf s
+    by_cut_listing : (command : Command) → Reads words command → (bytes : List ℕ) → Holds before.files (name_of command) bytes
+        → (text : List ℕ) → Lists command bytes text → s ≡ status.WriteFault → Rose old.write_faults new.write_faults → ListedFront old.written new.written text
+        → after.files ≡ before.files → untaken → Leaf s
+    by_running : (command : Command) → Reads words command → (bytes : List ℕ) → Holds before.files (name_of command) bytes
+        → (parts : Parts) (limit : ℕ) → Executes command bytes parts limit → (o : Observed) → s ≡ status_of o → Ran parts limit old new untaken o → after.files ≡ before.files → Leaf s
 
-accepted_has_no_fault : (text puts : List ℕ) (value code : ℕ) (at : Pos) → Accepted text puts value → FirstFault text code at → ⊥
-accepted_has_no_fault text puts value code at a (inl f) = omega (arith, a.fits, f.0)
-accepted_has_no_fault text puts value code at a (inr f) = f.1 puts value a.form
+  came_leaf : (s : Status) (command : Command) (bytes : List ℕ) → Reads words command → Holds before.files (name_of command) bytes → Came command bytes old new before after quiet untaken s → Leaf s
+  came_leaf s command bytes r h (causes.refused fault x e i) = by_refusal command r bytes h fault x e i
+  came_leaf s command bytes r h (causes.bad_image k x e i) = by_bad command r bytes h k x e i
+  came_leaf s command bytes r h (causes.kept name image x e k a b) = by_keeping command r bytes h name image x e k a b
+  came_leaf s command bytes r h (causes.not_kept name image x e k rose t a b) = by_not_keeping command r bytes h name image x e k rose t a b
+  came_leaf s command bytes r h (causes.not_kept_for_memory name image x e k a b) = by_keeping_memory command r bytes h name image x e k a b
+  came_leaf s command bytes r h (causes.listed text x (whole e p) f b) = by_listing command r bytes h text x e p f b
+  came_leaf s command bytes r h (causes.listed text x (front e rose p) f b) = by_cut_listing command r bytes h text x e rose p f b
+  came_leaf s command bytes r h (causes.ran parts limit x (shows o e ran) f) = by_running command r bytes h parts limit x o e ran f
+  came_leaf s command bytes r h (causes.ran parts limit x (running.no_memory e a b) f) = by_memory command r e a b f
+  came_leaf s command bytes r h (causes.no_memory e i) = by_memory command r e i.put i.took i.files
 
-fault_unique : (text : List ℕ) (code other : ℕ) (at place : Pos) → FirstFault text code at → FirstFault text other place → (code ≡ other) × (at ≡ place)
-fault_unique text code other at place (inl f) (inl g) = (f.1 ∙ sym g.1, f.2 ∙ sym g.2)
-fault_unique text code other at place (inl f) (inr g) = absurd (omega (arith, f.0, g.0))
-fault_unique text code other at place (inr f) (inl g) = absurd (omega (arith, f.0, g.0))
-fault_unique text code other at place (inr f) (inr g) = (f.2 ∙ sym g.2, f.3 ∙ sym g.3)
+  pub leaf : (s : Status) → Caused words old new before after quiet untaken unasked s → Leaf s
+  leaf s (causes.usage none e a b k) = by_usage none e a b k
+  leaf s (causes.obeyed command r (causes.not_fetched (causes.failed e rose lacks) i)) = by_store command r rose lacks e i
+  leaf s (causes.obeyed command r (causes.not_fetched (causes.no_memory e) i)) = by_memory command r e i.put i.took i.files
+  leaf s (causes.obeyed command r (causes.fetched bytes h c)) = came_leaf s command bytes r h c
 
-refusal_is : (r : Refusal) (code : ℕ) (at : Pos) → r.code ≡ code → r.pos ≡ at → r ≡ record { code = code; pos = at }
-refusal_is r code at e f = ap (λ c. record { code = c; pos = r.pos }) e ∙ ap (λ p. record { code = code; pos = p }) f
+  pub refused_by : (s : Status) → Leaf s → (wanted : Refusal) → s ≡ status.Refused wanted → Over words before.files (λ command bytes. Refuses command bytes wanted)
+  refused_by s (by_usage none e a b k) wanted q = absurd (let z : status.Usage ≡ status.Refused wanted = sym e ∙ q in cc)
+  refused_by s (by_store command r rose lacks e i) wanted q = absurd (let z : status.StoreFault ≡ status.Refused wanted = sym e ∙ q in cc)
+  refused_by s (by_refusal command r bytes h fault x e i) wanted q = record { command = command; reads = r; bytes = bytes; holds = h; are = subst (Refuses command bytes) (same_refusal fault wanted (sym e ∙ q)) x }
+  refused_by s (by_bad command r bytes h k x e i) wanted q = absurd (let z : status.BadImage k ≡ status.Refused wanted = sym e ∙ q in cc)
+  refused_by s (by_keeping command r bytes h name image x e k a b) wanted q = absurd (let z : status.Done ≡ status.Refused wanted = sym e ∙ q in cc)
+  refused_by s (by_not_keeping command r bytes h name image x e k rose t a b) wanted q = absurd (let z : status.StoreFault ≡ status.Refused wanted = sym e ∙ q in cc)
+  refused_by s (by_memory command r e a b f) wanted q = absurd (let z : status.Memory ≡ status.Refused wanted = sym e ∙ q in cc)
+  refused_by s (by_keeping_memory command r bytes h name image x e k a b) wanted q = absurd (let z : status.Memory ≡ status.Refused wanted = sym e ∙ q in cc)
+  refused_by s (by_listing command r bytes h text x e p f b) wanted q = absurd (let z : status.Done ≡ status.Refused wanted = sym e ∙ q in cc)
+  refused_by s (by_cut_listing command r bytes h text x e rose p f b) wanted q = absurd (let z : status.WriteFault ≡ status.Refused wanted = sym e ∙ q in cc)
+  refused_by s (by_running command r bytes h parts limit x o e ran f) wanted q = absurd (not_shown o (status.Refused wanted) (sym e ∙ q) refl)
 
--- the words name one text
-same_name : (words : List (List ℕ)) (name other : List ℕ) → Reads words (Exec name) → Reads words (Exec other) → name ≡ other
-same_name words name other e f = let p = sym e ∙ f in cc
+  pub bad_by : (s : Status) → Leaf s → (wanted : ℕ) → s ≡ status.BadImage wanted → Over words before.files (λ command bytes. IsBad command bytes wanted)
+  bad_by s (by_usage none e a b k) wanted q = absurd (let z : status.Usage ≡ status.BadImage wanted = sym e ∙ q in cc)
+  bad_by s (by_store command r rose lacks e i) wanted q = absurd (let z : status.StoreFault ≡ status.BadImage wanted = sym e ∙ q in cc)
+  bad_by s (by_refusal command r bytes h fault x e i) wanted q = absurd (let z : status.Refused fault ≡ status.BadImage wanted = sym e ∙ q in cc)
+  bad_by s (by_bad command r bytes h k x e i) wanted q = record { command = command; reads = r; bytes = bytes; holds = h; are = subst (IsBad command bytes) (same_part k wanted (sym e ∙ q)) x }
+  bad_by s (by_keeping command r bytes h name image x e k a b) wanted q = absurd (let z : status.Done ≡ status.BadImage wanted = sym e ∙ q in cc)
+  bad_by s (by_not_keeping command r bytes h name image x e k rose t a b) wanted q = absurd (let z : status.StoreFault ≡ status.BadImage wanted = sym e ∙ q in cc)
+  bad_by s (by_memory command r e a b f) wanted q = absurd (let z : status.Memory ≡ status.BadImage wanted = sym e ∙ q in cc)
+  bad_by s (by_keeping_memory command r bytes h name image x e k a b) wanted q = absurd (let z : status.Memory ≡ status.BadImage wanted = sym e ∙ q in cc)
+  bad_by s (by_listing command r bytes h text x e p f b) wanted q = absurd (let z : status.Done ≡ status.BadImage wanted = sym e ∙ q in cc)
+  bad_by s (by_cut_listing command r bytes h text x e rose p f b) wanted q = absurd (let z : status.WriteFault ≡ status.BadImage wanted = sym e ∙ q in cc)
+  bad_by s (by_running command r bytes h parts limit x o e ran f) wanted q = absurd (not_shown o (status.BadImage wanted) (sym e ∙ q) refl)
 
--- ---- the clauses
+  pub done_by : (s : Status) → Leaf s → s ≡ status.Done → Over words before.files (IsDone old new before after)
+  done_by s (by_usage none e a b k) q = absurd (let z : status.Usage ≡ status.Done = sym e ∙ q in cc)
+  done_by s (by_store command r rose lacks e i) q = absurd (let z : status.StoreFault ≡ status.Done = sym e ∙ q in cc)
+  done_by s (by_refusal command r bytes h fault x e i) q = absurd (let z : status.Refused fault ≡ status.Done = sym e ∙ q in cc)
+  done_by s (by_bad command r bytes h k x e i) q = absurd (let z : status.BadImage k ≡ status.Done = sym e ∙ q in cc)
+  done_by s (by_keeping command r bytes h name image x e k a b) q = record { command = command; reads = r; bytes = bytes; holds = h; are = inl (name, image, x, k) }
+  done_by s (by_not_keeping command r bytes h name image x e k rose t a b) q = absurd (let z : status.StoreFault ≡ status.Done = sym e ∙ q in cc)
+  done_by s (by_memory command r e a b f) q = absurd (let z : status.Memory ≡ status.Done = sym e ∙ q in cc)
+  done_by s (by_keeping_memory command r bytes h name image x e k a b) q = absurd (let z : status.Memory ≡ status.Done = sym e ∙ q in cc)
+  done_by s (by_listing command r bytes h text x e p f b) q = record { command = command; reads = r; bytes = bytes; holds = h; are = inr (text, x, p) }
+  done_by s (by_cut_listing command r bytes h text x e rose p f b) q = absurd (let z : status.WriteFault ≡ status.Done = sym e ∙ q in cc)
+  done_by s (by_running command r bytes h parts limit x o e ran f) q = absurd (not_shown o (status.Done) (sym e ∙ q) refl)
 
-module _ (words : List (List ℕ)) (files : Option Files) (steady : Bool) (store store' faults faults' : ℕ) (old new : Option (List ℕ)) (same kept : Type 0) where
-  abbrev Named : List ℕ → Status → Type 0
-  Named name s = OfName files store store' name faults faults' old new same s
+  pub store_fault_by : (s : Status) → Leaf s → s ≡ status.StoreFault → Rose before.faults after.faults
+  store_fault_by s (by_usage none e a b k) q = absurd (let z : status.Usage ≡ status.StoreFault = sym e ∙ q in cc)
+  store_fault_by s (by_store command r rose lacks e i) q = rose
+  store_fault_by s (by_refusal command r bytes h fault x e i) q = absurd (let z : status.Refused fault ≡ status.StoreFault = sym e ∙ q in cc)
+  store_fault_by s (by_bad command r bytes h k x e i) q = absurd (let z : status.BadImage k ≡ status.StoreFault = sym e ∙ q in cc)
+  store_fault_by s (by_keeping command r bytes h name image x e k a b) q = absurd (let z : status.Done ≡ status.StoreFault = sym e ∙ q in cc)
+  store_fault_by s (by_not_keeping command r bytes h name image x e k rose t a b) q = rose
+  store_fault_by s (by_memory command r e a b f) q = absurd (let z : status.Memory ≡ status.StoreFault = sym e ∙ q in cc)
+  store_fault_by s (by_keeping_memory command r bytes h name image x e k a b) q = absurd (let z : status.Memory ≡ status.StoreFault = sym e ∙ q in cc)
+  store_fault_by s (by_listing command r bytes h text x e p f b) q = absurd (let z : status.Done ≡ status.StoreFault = sym e ∙ q in cc)
+  store_fault_by s (by_cut_listing command r bytes h text x e rose p f b) q = absurd (let z : status.WriteFault ≡ status.StoreFault = sym e ∙ q in cc)
+  store_fault_by s (by_running command r bytes h parts limit x o e ran f) q = absurd (not_shown o (status.StoreFault) (sym e ∙ q) refl)
 
-  abbrev Steady : List ℕ → Status → Type 0
-  Steady name s = (here : Files) → IsTrue steady → files ≡ Some here → s ≡ status.StoreFault → fin.get here name ≡ None
+  pub write_fault_by : (s : Status) → Leaf s → s ≡ status.WriteFault → Rose old.write_faults new.write_faults × Over words before.files (IsCutShort old new untaken)
+  write_fault_by s (by_usage none e a b k) q = absurd (let z : status.Usage ≡ status.WriteFault = sym e ∙ q in cc)
+  write_fault_by s (by_store command r rose lacks e i) q = absurd (let z : status.StoreFault ≡ status.WriteFault = sym e ∙ q in cc)
+  write_fault_by s (by_refusal command r bytes h fault x e i) q = absurd (let z : status.Refused fault ≡ status.WriteFault = sym e ∙ q in cc)
+  write_fault_by s (by_bad command r bytes h k x e i) q = absurd (let z : status.BadImage k ≡ status.WriteFault = sym e ∙ q in cc)
+  write_fault_by s (by_keeping command r bytes h name image x e k a b) q = absurd (let z : status.Done ≡ status.WriteFault = sym e ∙ q in cc)
+  write_fault_by s (by_not_keeping command r bytes h name image x e k rose t a b) q = absurd (let z : status.StoreFault ≡ status.WriteFault = sym e ∙ q in cc)
+  write_fault_by s (by_memory command r e a b f) q = absurd (let z : status.Memory ≡ status.WriteFault = sym e ∙ q in cc)
+  write_fault_by s (by_keeping_memory command r bytes h name image x e k a b) q = absurd (let z : status.Memory ≡ status.WriteFault = sym e ∙ q in cc)
+  write_fault_by s (by_listing command r bytes h text x e p f b) q = absurd (let z : status.Done ≡ status.WriteFault = sym e ∙ q in cc)
+  write_fault_by s (by_cut_listing command r bytes h text x e rose p f b) q = (rose, record { command = command; reads = r; bytes = bytes; holds = h; are = inr (text, x, p) })
+  write_fault_by s (by_running command r bytes h parts limit x o e ran f) q = let same = same_shown o observed.WriteFault (sym e ∙ q) in (ran.write_fault same, record { command = command; reads = r; bytes = bytes; holds = h; are = inl (parts, limit, x, subst (Ran parts limit old new untaken) same ran) })
 
-  abbrev Obeyed : Status → Type 0
-  Obeyed s = OfWords words files steady store store' faults faults' old new same kept s
+  pub shown_by : (s : Status) → Leaf s → (wanted : Observed) → wanted ≢ observed.WriteFault → s ≡ status_of wanted → Over words before.files (IsShown old new untaken wanted)
+  shown_by s (by_usage none e a b k) wanted w q = absurd (not_shown wanted (status.Usage) (sym q ∙ e) refl)
+  shown_by s (by_store command r rose lacks e i) wanted w q = absurd (not_shown wanted (status.StoreFault) (sym q ∙ e) refl)
+  shown_by s (by_refusal command r bytes h fault x e i) wanted w q = absurd (not_shown wanted (status.Refused fault) (sym q ∙ e) refl)
+  shown_by s (by_bad command r bytes h k x e i) wanted w q = absurd (not_shown wanted (status.BadImage k) (sym q ∙ e) refl)
+  shown_by s (by_keeping command r bytes h name image x e k a b) wanted w q = absurd (not_shown wanted (status.Done) (sym q ∙ e) refl)
+  shown_by s (by_not_keeping command r bytes h name image x e k rose t a b) wanted w q = absurd (not_shown wanted (status.StoreFault) (sym q ∙ e) refl)
+  shown_by s (by_memory command r e a b f) wanted w q = absurd (not_shown wanted (status.Memory) (sym q ∙ e) refl)
+  shown_by s (by_keeping_memory command r bytes h name image x e k a b) wanted w q = absurd (not_shown wanted (status.Memory) (sym q ∙ e) refl)
+  shown_by s (by_listing command r bytes h text x e p f b) wanted w q = absurd (not_shown wanted (status.Done) (sym q ∙ e) refl)
+  shown_by s (by_cut_listing command r bytes h text x e rose p f b) wanted w q = absurd (w (same_shown wanted observed.WriteFault (sym q ∙ e)))
+  shown_by s (by_running command r bytes h parts limit x o e ran f) wanted w q = record { command = command; reads = r; bytes = bytes; holds = h; are = (parts, limit, x, subst (Ran parts limit old new untaken) (same_shown o wanted (sym e ∙ q)) ran) }
 
-  possible_named : (name : List ℕ) (s : Status) → Named name s → IsPossible s
-  possible_named name status.Done o = o.2
-  possible_named name (status.Ended v) o = tt
-  possible_named name (status.Stopped check at) o = o.2
-  possible_named name status.Going o = o.2
-  possible_named name (status.MachineFault kind pc) o = o.2
-  possible_named name status.Usage o = absurd o.2
-  possible_named name (status.Refused refusal) o = tt
-  possible_named name (status.BadImage part) o = o.2
-  possible_named name status.ReadFault o = o.2
-  possible_named name status.WriteFault o = tt
-  possible_named name status.StoreFault o = tt
-  possible_named name status.Memory o = tt
+  pub usage_by : (s : Status) → Leaf s → s ≡ status.Usage → ((command : Command) → ¬ Reads words command) × quiet × untaken × unasked
+  usage_by s (by_usage none e a b k) q = (none, a, b, k)
+  usage_by s (by_store command r rose lacks e i) q = absurd (let z : status.StoreFault ≡ status.Usage = sym e ∙ q in cc)
+  usage_by s (by_refusal command r bytes h fault x e i) q = absurd (let z : status.Refused fault ≡ status.Usage = sym e ∙ q in cc)
+  usage_by s (by_bad command r bytes h k x e i) q = absurd (let z : status.BadImage k ≡ status.Usage = sym e ∙ q in cc)
+  usage_by s (by_keeping command r bytes h name image x e k a b) q = absurd (let z : status.Done ≡ status.Usage = sym e ∙ q in cc)
+  usage_by s (by_not_keeping command r bytes h name image x e k rose t a b) q = absurd (let z : status.StoreFault ≡ status.Usage = sym e ∙ q in cc)
+  usage_by s (by_memory command r e a b f) q = absurd (let z : status.Memory ≡ status.Usage = sym e ∙ q in cc)
+  usage_by s (by_keeping_memory command r bytes h name image x e k a b) q = absurd (let z : status.Memory ≡ status.Usage = sym e ∙ q in cc)
+  usage_by s (by_listing command r bytes h text x e p f b) q = absurd (let z : status.Done ≡ status.Usage = sym e ∙ q in cc)
+  usage_by s (by_cut_listing command r bytes h text x e rose p f b) q = absurd (let z : status.WriteFault ≡ status.Usage = sym e ∙ q in cc)
+  usage_by s (by_running command r bytes h parts limit x o e ran f) q = absurd (not_shown o status.Usage (sym e ∙ q) refl)
 
-  pub possible : (s : Status) → Obeyed s → IsPossible s
-  possible s (inl p) = subst IsPossible (sym p.1) tt
-  possible s (inr p) = possible_named p.0 s p.2
+  -- under these statuses nothing was put or taken
+  pub idle_by : (s : Status) → Leaf s → shows_run s ≡ false → s ≢ status.Done → quiet × untaken
+  idle_by s (by_usage none e a b k) w d = (a, b)
+  idle_by s (by_store command r rose lacks e i) w d = (i.put, i.took)
+  idle_by s (by_refusal command r bytes h fault x e i) w d = (i.put, i.took)
+  idle_by s (by_bad command r bytes h k x e i) w d = (i.put, i.took)
+  idle_by s (by_keeping command r bytes h name image x e k a b) w d = (a, b)
+  idle_by s (by_not_keeping command r bytes h name image x e k rose t a b) w d = (a, b)
+  idle_by s (by_memory command r e a b f) w d = (a, b)
+  idle_by s (by_keeping_memory command r bytes h name image x e k a b) w d = (a, b)
+  idle_by s (by_listing command r bytes h text x e p f b) w d = absurd (d e)
+  idle_by s (by_cut_listing command r bytes h text x e rose p f b) w d = absurd (true_false (ap shows_run (sym e) ∙ w))
+  idle_by s (by_running command r bytes h parts limit x o e ran f) w d = absurd (not_shown o s (sym e) w)
 
-  pub usage : (s : Status) → Obeyed s → (s ≡ status.Usage) ↔ ((command : Command) → ¬ Reads words command)
-  usage s (inl p) = ((λ e. p.0), (λ none. p.1))
-  usage s (inr p) = ((λ e. absurd (subst (Named p.0) e p.2).2), (λ none. absurd (none (Exec p.0) p.1)))
-
-  pub unfetched : (s : Status) → Obeyed s → s ≡ status.Usage → kept
-  unfetched s (inl p) e = p.3
-  unfetched s (inr p) e = absurd (subst (Named p.0) e p.2).2
-
-  before_named : (name : List ℕ) (s : Status) → Named name s → IsBeforeRun s → same
-  before_named name status.Done o h = absurd h
-  before_named name (status.Ended v) o h = absurd h
-  before_named name (status.Stopped check at) o h = absurd h
-  before_named name status.Going o h = absurd h
-  before_named name (status.MachineFault kind pc) o h = absurd h
-  before_named name status.Usage o h = absurd o.2
-  before_named name (status.Refused refusal) o h = o.2.1
-  before_named name (status.BadImage part) o h = absurd h
-  before_named name status.ReadFault o h = absurd h
-  before_named name status.WriteFault o h = absurd h
-  before_named name status.StoreFault o h = o.1
-  before_named name status.Memory o h = o
-
-  pub before : (s : Status) → Obeyed s → IsBeforeRun s → same
-  before s (inl p) h = p.2
-  before s (inr p) h = before_named p.0 s p.2 h
-
-  pub refused : (s : Status) → Obeyed s → (r : Refusal) → s ≡ status.Refused r → (text : List ℕ) × MayBeFetched words files text × FirstFault text r.code r.pos
-  refused s (inl p) r e = absurd (let q : status.Usage ≡ status.Refused r = sym p.1 ∙ e in cc)
-  refused s (inr p) r e = let o = subst (Named p.0) e p.2 in (o.0, (p.0, p.1, o.1), o.2.0)
-
-  pub ended : (s : Status) → Obeyed s → (v : ℕ) → s ≡ status.Ended v → EndsWith words files old new v
-  ended s (inl p) v e = absurd (let q : status.Usage ≡ status.Ended v = sym p.1 ∙ e in cc)
-  ended s (inr p) v e =
-      let o = subst (Named p.0) e p.2 in
-      record { text = o.0; fetched = (p.0, p.1, o.1); puts = o.2.0; accepted = o.2.1; bytes = bytes_put o.2.0; meaning = ends_through_image o.0 o.2.0 v o.2.1.form; printed = o.2.2 }
-
-  pub write_fault : (s : Status) → Obeyed s → s ≡ status.WriteFault → Rose faults faults' × StopsAtOutput words files old new
-  write_fault s (inl p) e = absurd (let q : status.Usage ≡ status.WriteFault = sym p.1 ∙ e in cc)
-  write_fault s (inr p) e =
-      let o = subst (Named p.0) e p.2 in
-      (o.2.3, record { text = o.0; fetched = (p.0, p.1, o.1); puts = o.2.0; value = o.2.1; accepted = o.2.2; bytes = bytes_put o.2.0; meaning = ends_through_image o.0 o.2.0 o.2.1 o.2.2.form; printed = o.2.4 })
-
-  pub store_fault : (s : Status) → Obeyed s → s ≡ status.StoreFault → Rose store store'
-  store_fault s (inl p) e = absurd (let q : status.Usage ≡ status.StoreFault = sym p.1 ∙ e in cc)
-  store_fault s (inr p) e = (subst (Named p.0) e p.2).0
-
-  pub steady_store : (s : Status) → Obeyed s → (name : List ℕ) (here : Files) → IsTrue steady → files ≡ Some here → Reads words (Exec name) → s ≡ status.StoreFault → fin.get here name ≡ None
-  steady_store s (inl p) name here h e r f = absurd (let q : status.Usage ≡ status.StoreFault = sym p.1 ∙ f in cc)
-  steady_store s (inr p) name here h e r f = ap (fin.get here) (same_name words name p.0 r p.1) ∙ p.3 here h e f
-
-  -- no fault of the store that matters
-  abbrev StoreIsFine : Type 0
-  StoreIsFine = (¬ Rose store store') ⊎ IsTrue steady
-
-  no_store_fault : (name text : List ℕ) (here : Files) → files ≡ Some here → fin.get here name ≡ Some text → StoreIsFine → Rose store store' → Steady name status.StoreFault → ⊥
-  no_store_fault name text here e t (inl fine) rose k = fine rose
-  no_store_fault name text here e t (inr steadily) rose k = let q : ◌≡◌ {A = Option (List ℕ)} None (Some text) = sym (k here steadily e refl) ∙ t in cc
-
-  module _ (text : List ℕ) (here : Files) (e : files ≡ Some here) (fine : StoreIsFine) where
-    complete_named : (name puts : List ℕ) (value : ℕ) (s : Status) → fin.get here name ≡ Some text → Accepted text puts value → ¬ Rose faults faults' → Named name s → Steady name s → (s ≡ status.Ended value) ⊎ (s ≡ status.Memory)
-    complete_named name puts value status.Done t a n o k = absurd o.2
-    complete_named name puts value (status.Ended v) t a n o k =
-        let found : o.0 ≡ text = (let q : ◌≡◌ {A = Option (List ℕ)} (Some o.0) (Some text) = sym (o.1 here e) ∙ t in cc) in
-        inl (ap status.Ended (accepted_unique text o.2.0 puts v value (subst (λ (x : List ℕ). Accepted x o.2.0 v) found o.2.1) a))
-    complete_named name puts value (status.Stopped check at) t a n o k = absurd o.2
-    complete_named name puts value status.Going t a n o k = absurd o.2
-    complete_named name puts value (status.MachineFault kind pc) t a n o k = absurd o.2
-    complete_named name puts value status.Usage t a n o k = absurd o.2
-    complete_named name puts value (status.Refused refusal) t a n o k =
-        let found : o.0 ≡ text = (let q : ◌≡◌ {A = Option (List ℕ)} (Some o.0) (Some text) = sym (o.1 here e) ∙ t in cc) in
-        absurd (accepted_has_no_fault text puts value refusal.code refusal.pos a (subst (λ (x : List ℕ). FirstFault x refusal.code refusal.pos) found o.2.0))
-    complete_named name puts value (status.BadImage part) t a n o k = absurd o.2
-    complete_named name puts value status.ReadFault t a n o k = absurd o.2
-    complete_named name puts value status.WriteFault t a n o k = absurd (n o.2.3)
-    complete_named name puts value status.StoreFault t a n o k = absurd (no_store_fault name text here e t fine o.0 k)
-    complete_named name puts value status.Memory t a n o k = inr refl
-
-    refused_named : (name : List ℕ) (code : ℕ) (at : Pos) (s : Status) → fin.get here name ≡ Some text → FirstFault text code at → Named name s → Steady name s → (s ≡ status.Refused (record { code = code; pos = at })) ⊎ (s ≡ status.Memory)
-    refused_named name code at status.Done t f o k = absurd o.2
-    refused_named name code at (status.Ended v) t f o k =
-        let found : o.0 ≡ text = (let q : ◌≡◌ {A = Option (List ℕ)} (Some o.0) (Some text) = sym (o.1 here e) ∙ t in cc) in
-        absurd (accepted_has_no_fault text o.2.0 v code at (subst (λ (x : List ℕ). Accepted x o.2.0 v) found o.2.1) f)
-    refused_named name code at (status.Stopped check place) t f o k = absurd o.2
-    refused_named name code at status.Going t f o k = absurd o.2
-    refused_named name code at (status.MachineFault kind pc) t f o k = absurd o.2
-    refused_named name code at status.Usage t f o k = absurd o.2
-    refused_named name code at (status.Refused r) t f o k =
-        let found : o.0 ≡ text = (let q : ◌≡◌ {A = Option (List ℕ)} (Some o.0) (Some text) = sym (o.1 here e) ∙ t in cc) in
-        let u = fault_unique text r.code code r.pos at (subst (λ (x : List ℕ). FirstFault x r.code r.pos) found o.2.0) f in
-        inl (ap status.Refused (refusal_is r code at u.0 u.1))
-    refused_named name code at (status.BadImage part) t f o k = absurd o.2
-    refused_named name code at status.ReadFault t f o k = absurd o.2
-    refused_named name code at status.WriteFault t f o k =
-        let found : o.0 ≡ text = (let q : ◌≡◌ {A = Option (List ℕ)} (Some o.0) (Some text) = sym (o.1 here e) ∙ t in cc) in
-        absurd (accepted_has_no_fault text o.2.0 o.2.1 code at (subst (λ (x : List ℕ). Accepted x o.2.0 o.2.1) found o.2.2) f)
-    refused_named name code at status.StoreFault t f o k = absurd (no_store_fault name text here e t fine o.0 k)
-    refused_named name code at status.Memory t f o k = inr refl
-
-  renamed : (here : Files) (name other text : List ℕ) → Reads words (Exec name) → Reads words (Exec other) → fin.get here name ≡ Some text → fin.get here other ≡ Some text
-  renamed here name other text r q t = ap (fin.get here) (same_name words other name q r) ∙ t
-
-  pub complete : (s : Status) → Obeyed s → (name text puts : List ℕ) (value : ℕ) (here : Files) → Reads words (Exec name) → files ≡ Some here → fin.get here name ≡ Some text → Accepted text puts value
-      → ¬ Rose faults faults' → StoreIsFine → (s ≡ status.Ended value) ⊎ (s ≡ status.Memory)
-  complete s (inl p) name text puts value here r e t a n fine = absurd (p.0 (Exec name) r)
-  complete s (inr p) name text puts value here r e t a n fine = complete_named text here e fine p.0 puts value s (renamed here name p.0 text r p.1 t) a n p.2 p.3
-
-  pub refused_always : (s : Status) → Obeyed s → (name text : List ℕ) (code : ℕ) (at : Pos) (here : Files) → Reads words (Exec name) → files ≡ Some here → fin.get here name ≡ Some text → FirstFault text code at
-      → StoreIsFine → (s ≡ status.Refused (record { code = code; pos = at })) ⊎ (s ≡ status.Memory)
-  refused_always s (inl p) name text code at here r e t f fine = absurd (p.0 (Exec name) r)
-  refused_always s (inr p) name text code at here r e t f fine = refused_named text here e fine p.0 code at s (renamed here name p.0 text r p.1 t) f p.2 p.3
+  pub usage_is : (s : Status) → Leaf s → (s ≡ status.Usage) ↔ ((command : Command) → ¬ Reads words command)
+  usage_is s l = ((λ e. (usage_by s l e).0), (λ none. only s l none))
+    where
+      only : (s : Status) → Leaf s → ((command : Command) → ¬ Reads words command) → s ≡ status.Usage
+      only s (by_usage none e a b k) n = e
+      only s (by_store command r rose lacks e i) n = absurd (n command r)
+      only s (by_refusal command r bytes h fault x e i) n = absurd (n command r)
+      only s (by_bad command r bytes h k x e i) n = absurd (n command r)
+      only s (by_keeping command r bytes h name image x e k a b) n = absurd (n command r)
+      only s (by_not_keeping command r bytes h name image x e k rose t a b) n = absurd (n command r)
+      only s (by_memory command r e a b f) n = absurd (n command r)
+      only s (by_keeping_memory command r bytes h name image x e k a b) n = absurd (n command r)
+      only s (by_listing command r bytes h text x e p f b) n = absurd (n command r)
+      only s (by_cut_listing command r bytes h text x e rose p f b) n = absurd (n command r)
+      only s (by_running command r bytes h parts limit x o e ran f) n = absurd (n command r)

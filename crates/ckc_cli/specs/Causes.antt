@@ -1,80 +1,130 @@
--- When each status of the top call comes.
-use Rattle.std.specs.Prelude.{◌≡◌, ◌⊎◌, ℕ, List, [], ◌∷◌, ◌++◌, take, Option, Some}
+-- When each status of the top call comes, and what it leaves.
+use Rattle.std.specs.Prelude.{◌≡◌, ◌≢◌, ◌⊎◌, ℕ, List, [], ◌∷◌, ◌++◌, take, Bool, IsTrue, Option, None, Some, Result, Ok, Err}
 use Rattle.std.specs.FinMap as fin
-use Rattle.ckc_base.specs.Traces.{Ended, output}
-use Rattle.ckc_outside.specs.Outside.{Files, one_more}
-use Rattle.ckc_rv.specs.Machine.{Parts, machine}
+use Rattle.ckc_base.specs.declared.places.Refusal.{Refusal}
+use Rattle.ckc_outside.specs.declared.traits.StoreError as errors
+use Rattle.ckc_outside.specs.declared.traits.StoreError.TheVariants as error
+use Rattle.ckc_outside.specs.Outside as outside
+use Rattle.ckc_outside.specs.Outside.{Files, Rose, one_more}
+use Rattle.ckc_rv.specs.Machine.{Parts}
 use Rattle.ckc_cli.specs.declared.status.Status.{Status}
 use Rattle.ckc_cli.specs.declared.status.Status.TheVariants as status
-use Rattle.ckc_cli.specs.FirstForm.{Accepted}
-use Rattle.ckc_cli.specs.Source.{source, Agrees, AreBytes}
-use Rattle.ckc_cli.specs.Words.{Exec, Reads}
+use Rattle.ckc_base.specs.Traces.{Ended, output}
+use Rattle.ckc_cli.specs.Accepted.{Meaning, Accepted}
+use Rattle.ckc_cli.specs.Source.{source}
+use Rattle.ckc_cli.specs.Words.{Command, Reads}
+use Rattle.ckc_machine.specs.declared.observed.Observed.{Observed}
+use Rattle.ckc_machine.specs.declared.observed.Observed.TheVariants as observed
+use Rattle.ckc_machine.specs.Runs.{Printed}
+use Rattle.ckc_cli.specs.Running.{Seen, Ran, Ends, Listed, ListedFront}
+use Rattle.ckc_cli.specs.Commands.{name_of, Refuses, IsBad, Keeps, Lists, Executes}
 
--- The text may be what the store gave for the name that the words have: it is, where the store tells its files.
-abbrev pub MayBeFetched : List (List ℕ) → Option Files → List ℕ → Type 0
-MayBeFetched words files text =
-    (name : List ℕ) × Reads words (Exec name) × ((here : Files) → files ≡ Some here → fin.get here name ≡ Some text)
+-- ---- the objects
 
--- where what was written is told, these bytes came after it
-abbrev pub Printed : Option (List ℕ) → Option (List ℕ) → List ℕ → Type 0
-Printed old new bytes = (before : List ℕ) → old ≡ Some before → new ≡ Some (before ++ bytes)
+-- What is seen of the store: its files, where it tells them, whether it is steady, and how many faults there were.
+pub record Stored : Type 0 where
+  pub files : Option Files
+  pub steady : Bool
+  pub faults : ℕ
 
--- where what was written is told, a front of these bytes came after it
-abbrev pub PrintedFront : Option (List ℕ) → Option (List ℕ) → List ℕ → Type 0
-PrintedFront old new bytes = (before : List ℕ) → old ≡ Some before → (k : ℕ) × (new ≡ Some (before ++ take k bytes))
+-- The store tells these bytes under the name, or tells nothing.
+abbrev pub Holds : Option Files → List ℕ → List ℕ → Type 0
+Holds files name bytes = (here : Files) → files ≡ Some here → fin.get here name ≡ Some bytes
 
--- how many instructions are executed at most
-abbrev pub instruction_limit : ℕ
-instruction_limit = 1000000000
+-- what keeping the bytes under a name leaves, where the files are told
+abbrev pub Kept : Option Files → List ℕ → List ℕ → Result (Unit {0}) errors.StoreError → Option Files → Type 0
+Kept files name bytes result files' = (here : Files) → files ≡ Some here → outside.Keeps here name bytes result files'
 
--- The meaning of the text, which puts the numbers and returns the value, comes to show the value and these bytes;
--- an image with some parts follows it, and its machine shows the same within the limit, for every input.
-pub record EndsThroughImage (puts : List ℕ) (value : ℕ) (bytes : List ℕ) : Type 0 where
-  pub step : ℕ
-  pub ended : (source puts value step).standing ≡ Ended value
-  pub bytes_are : output (source puts value step).trace ≡ bytes
-  pub parts : Parts
-  pub agrees : Agrees puts value parts
-  pub machine_ends : (input : List ℕ) → AreBytes input → machine parts input instruction_limit ≡ source puts value step
+-- ---- causes
 
--- The status Ended(value) of a text: it is accepted, and the bytes of its meaning were put.
-pub record EndsWith (words : List (List ℕ)) (files : Option Files) (old new : Option (List ℕ)) (value : ℕ) : Type 0 where
-  pub text : List ℕ
-  pub fetched : MayBeFetched words files text
-  pub puts : List ℕ
-  pub accepted : Accepted text puts value
+-- Nothing was kept, put or taken.
+pub record Idle (before after : Stored) (quiet untaken : Type 0) : Type 0 where
+  pub files : after.files ≡ before.files
+  pub put : quiet
+  pub took : untaken
+
+-- What comes of a command over the bytes under its name. `quiet` says that nothing was put on the output, and
+-- `untaken` that nothing was taken from the input.
+pub data Came (command : Command) (bytes : List ℕ) (old new : Seen) (before after : Stored) (quiet untaken : Type 0) (s : Status) : Type 0 where
+  refused : (fault : Refusal) → Refuses command bytes fault → s ≡ status.Refused fault → Idle before after quiet untaken → Came command bytes old new before after quiet untaken s
+  bad_image : (k : ℕ) → IsBad command bytes k → s ≡ status.BadImage k → Idle before after quiet untaken → Came command bytes old new before after quiet untaken s
+  kept : (name image : List ℕ) → Keeps command bytes name image → s ≡ status.Done → Kept before.files name image (Ok tt) after.files → quiet → untaken
+      → Came command bytes old new before after quiet untaken s
+  not_kept : (name image : List ℕ) → Keeps command bytes name image → s ≡ status.StoreFault → Kept before.files name image (Err error.Failed) after.files
+      → Rose before.faults after.faults → ¬ IsTrue before.steady → quiet → untaken → Came command bytes old new before after quiet untaken s
+  not_kept_for_memory : (name image : List ℕ) → Keeps command bytes name image → s ≡ status.Memory → Kept before.files name image (Err error.Memory) after.files
+      → quiet → untaken → Came command bytes old new before after quiet untaken s
+  listed : (text : List ℕ) → Lists command bytes text → Listed text old.written new.written old.write_faults new.write_faults s
+      → after.files ≡ before.files → untaken → Came command bytes old new before after quiet untaken s
+  ran : (parts : Parts) (limit : ℕ) → Executes command bytes parts limit → Ends parts limit old new quiet untaken s
+      → after.files ≡ before.files → Came command bytes old new before after quiet untaken s
+  no_memory : s ≡ status.Memory → Idle before after quiet untaken → Came command bytes old new before after quiet untaken s
+
+-- Nothing was fetched under the name: the store failed, or there was not enough memory.
+pub data Unfetched (name : List ℕ) (before after : Stored) (s : Status) : Type 0 where
+  failed : s ≡ status.StoreFault → Rose before.faults after.faults
+      → ((here : Files) → IsTrue before.steady → before.files ≡ Some here → fin.get here name ≡ None) → Unfetched name before after s
+  no_memory : s ≡ status.Memory → Unfetched name before after s
+
+-- what comes of a command
+pub data Obeyed (command : Command) (old new : Seen) (before after : Stored) (quiet untaken : Type 0) (s : Status) : Type 0 where
+  not_fetched : Unfetched (name_of command) before after s → Idle before after quiet untaken → Obeyed command old new before after quiet untaken s
+  fetched : (bytes : List ℕ) → Holds before.files (name_of command) bytes → Came command bytes old new before after quiet untaken s
+      → Obeyed command old new before after quiet untaken s
+
+-- what comes of words
+pub data Caused (words : List (List ℕ)) (old new : Seen) (before after : Stored) (quiet untaken unasked : Type 0) (s : Status) : Type 0 where
+  usage : ((command : Command) → ¬ Reads words command) → s ≡ status.Usage → quiet → untaken → unasked → Caused words old new before after quiet untaken unasked s
+  obeyed : (command : Command) → Reads words command → Obeyed command old new before after quiet untaken s
+      → Caused words old new before after quiet untaken unasked s
+
+-- ---- statuses
+
+-- The words read a command, and the bytes under its name, or of which the store tells nothing, are such.
+pub record Over (words : List (List ℕ)) (files : Option Files) (Are : Command → List ℕ → Type 0) : Type 0 where
+  pub command : Command
+  pub reads : Reads words command
   pub bytes : List ℕ
-  pub meaning : EndsThroughImage puts value bytes
-  pub printed : Printed old new bytes
+  pub holds : Holds files (name_of command) bytes
+  pub are : Are command bytes
 
--- The status WriteFault: an accepted text was run, and a front of the bytes of its meaning was put.
-pub record StopsAtOutput (words : List (List ℕ)) (files : Option Files) (old new : Option (List ℕ)) : Type 0 where
-  pub text : List ℕ
-  pub fetched : MayBeFetched words files text
-  pub puts : List ℕ
-  pub value : ℕ
-  pub accepted : Accepted text puts value
-  pub bytes : List ℕ
-  pub meaning : EndsThroughImage puts value bytes
-  pub printed : PrintedFront old new bytes
+-- an image was kept, or a listing put
+abbrev pub IsDone : Seen → Seen → Stored → Stored → Command → List ℕ → Type 0
+IsDone old new before after command bytes =
+    ((name : List ℕ) × (image : List ℕ) × Keeps command bytes name image × Kept before.files name image (Ok tt) after.files)
+    ⊎ ((text : List ℕ) × Lists command bytes text × Printed old.written new.written text)
 
--- the statuses that come of `exec` over the texts that are accepted so far
-abbrev pub IsPossible : Status → Type 0
-IsPossible (status.Ended value) = Unit {0}
-IsPossible status.Usage = Unit {0}
-IsPossible (status.Refused refusal) = Unit {0}
-IsPossible status.WriteFault = Unit {0}
-IsPossible status.StoreFault = Unit {0}
-IsPossible status.Memory = Unit {0}
-IsPossible _ = ⊥
+-- the machine of an image was run, and showed this
+abbrev pub IsShown : Seen → Seen → Type 0 → Observed → Command → List ℕ → Type 0
+IsShown old new untaken o command bytes = (parts : Parts) × (limit : ℕ) × Executes command bytes parts limit × Ran parts limit old new untaken o
 
--- the statuses under which the program was not run
-abbrev pub IsBeforeRun : Status → Type 0
-IsBeforeRun status.Usage = Unit {0}
-IsBeforeRun (status.Refused refusal) = Unit {0}
-IsBeforeRun status.StoreFault = Unit {0}
-IsBeforeRun status.Memory = Unit {0}
-IsBeforeRun _ = ⊥
+-- the output failed in a run, or in a listing
+abbrev pub IsCutShort : Seen → Seen → Type 0 → Command → List ℕ → Type 0
+IsCutShort old new untaken command bytes =
+    IsShown old new untaken observed.WriteFault command bytes ⊎ ((text : List ℕ) × Lists command bytes text × ListedFront old.written new.written text)
+
+-- The text is accepted, and its meaning comes to end with the value and with these bytes put.
+abbrev pub EndsAsMeant : ℕ → Option (List ℕ) → Option (List ℕ) → Command → List ℕ → Type 0
+EndsAsMeant value old new command text =
+    (m : Meaning) × Accepted text m × ((n : ℕ) × ((source m n).standing ≡ Ended value) × Printed old new (output (source m n).trace))
+
+-- Where the files are told, every name but this one holds what it held.
+abbrev pub KeepsOthers : List ℕ → Option Files → Option Files → Type 0
+KeepsOthers name files files' =
+    (here : Files) → files ≡ Some here → (kept : Files) × (files' ≡ Some kept) × ((other : List ℕ) → other ≢ name → fin.get kept other ≡ fin.get here other)
+
+-- no fault of the store that matters
+abbrev pub StoreIsFine : Stored → Stored → Type 0
+StoreIsFine before after = (¬ Rose before.faults after.faults) ⊎ IsTrue before.steady
+
+-- The words read the command, and the store tells the bytes under its name.
+pub record Given (words : List (List ℕ)) (files : Option Files) (command : Command) (bytes : List ℕ) : Type 0 where
+  pub reads : Reads words command
+  pub here : Files
+  pub told : files ≡ Some here
+  pub there : fin.get here (name_of command) ≡ Some bytes
+
+-- ---- the report
 
 -- The line was put in one call: all of it, or a front of it where the count of the sink rose. A line that is empty
 -- is not put.

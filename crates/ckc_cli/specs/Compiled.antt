@@ -1,5 +1,5 @@
 -- The code of an accepted text.
-use Rattle.std.specs.Prelude.{ℕ, ◌+◌, ◌/◌, ◌%◌, nat_lt, if◌then◌else◌, ℤ, pos, ◌-ℤ◌, List, [], ◌∷◌, ◌++◌}
+use Rattle.std.specs.Prelude.{ℕ, ◌+◌, ◌^◌, ◌/◌, ◌%◌, nat_lt, if◌then◌else◌, ℤ, pos, ◌-ℤ◌, List, [], ◌∷◌, ◌++◌}
 use Rattle.std.specs.List.{flat_map}
 use Rattle.std.specs.Int.{w32, to_le_bytes}
 use Rattle.ckc_rv.specs.declared.instructions.ImmOp.TheVariants.{Addi}
@@ -10,7 +10,7 @@ use Rattle.ckc_rv.specs.Machine.{Parts, code_start}
 
 -- a number as the upper 20 bits for LUI and a signed rest for ADDI
 abbrev pub upper : ℕ → ℕ
-upper n = (n + 2048) / 4096
+upper n = (n + 2048) % 2 ^ 32 / 4096
 
 abbrev pub lower : ℕ → ℤ
 lower n = if nat_lt (n % 4096) 2048 then pos (n % 4096) else pos (n % 4096) -ℤ pos 4096

@@ -1,71 +1,86 @@
--- The texts that are accepted: one function main that puts some bytes and returns.
-use Rattle.std.specs.Prelude.{◌≡◌, ℕ, ◌^◌, ◌<◌, ◌≤◌, ◌==◌, ◌||◌, ◌⊎◌, Bool, true, false, IsTrue, List, [], ◌∷◌, ◌++◌, codes, length}
-use Rattle.std.specs.List.{list_all, flat_map}
-use Rattle.std.specs.Fmt.{decimal}
-use Rattle.ckc_base.specs.declared.places.Pos.{Pos}
+-- The trees that are built so far: one function main that puts some bytes and returns.
+use Rattle.std.specs.Prelude.{◌≡◌, ℕ, ◌<◌, ◌^◌, Bool, List, [], ◌∷◌, ◌++◌, codes, Option, None, Some}
+use Rattle.ckc_syntax.specs.declared.tree.Tree as trees
+use Rattle.ckc_syntax.specs.declared.tree.Item as items
+use Rattle.ckc_syntax.specs.declared.tree.Item.TheVariants as item
+use Rattle.ckc_syntax.specs.declared.tree.Head as heads
+use Rattle.ckc_syntax.specs.declared.tree.TypeTree.TheVariants as types
+use Rattle.ckc_syntax.specs.declared.tree.Stmt as statements
+use Rattle.ckc_syntax.specs.declared.tree.Act.TheVariants as act
+use Rattle.ckc_syntax.specs.declared.tree.Expr as exprs
+use Rattle.ckc_syntax.specs.declared.tree.Node.TheVariants as node
 
--- space, tab, CR and LF
-abbrev pub is_blank : ℕ → Bool
-is_blank c = c == 32 || c == 9 || c == 13 || c == 10
+-- Names are spelled, and nothing is noted.
+abbrev pub Tree : Type 0
+Tree = trees.Tree (List ℕ) (Unit {0})
 
-abbrev pub AreBlanks : List ℕ → Type 0
-AreBlanks bytes = IsTrue (list_all is_blank bytes)
+abbrev pub Head : Type 0
+Head = heads.Head (List ℕ) (Unit {0})
 
--- a spelling, and whether at least one blank stands before it
-pub record Item : Type 0 where
-  pub spelling : List ℕ
-  pub apart : Bool
+abbrev pub Item : Type 0
+Item = items.Item (List ℕ) (Unit {0})
 
--- The text is the spellings in order, with blanks before each and after the last.
-abbrev pub Laid : List Item → List ℕ → Type 0
-Laid [] text = AreBlanks text
-Laid (item ∷ items) text =
-    (gap rest : List ℕ) × (text ≡ gap ++ item.spelling ++ rest) × AreBlanks gap × (IsTrue item.apart → 0 < length gap) × Laid items rest
+abbrev pub Stmt : Type 0
+Stmt = statements.Stmt (List ℕ) (Unit {0})
 
-abbrev pub joined : List ℕ → Item
-joined spelling = record { spelling = spelling; apart = false }
+abbrev pub Expr : Type 0
+Expr = exprs.Expr (List ℕ) (Unit {0})
 
-abbrev pub apart : List ℕ → Item
-apart spelling = record { spelling = spelling; apart = true }
+-- a number of either type, which is a word
+abbrev pub IsNumber : Expr → ℕ → Type 0
+IsNumber e n = (unsigned : Bool) × (e.node ≡ node.Number n unsigned) × (n < 2 ^ 32)
 
--- `int main(void) {`
-abbrev pub head : List Item
-head = joined (codes "int") ∷ apart (codes "main") ∷ joined (codes "(") ∷ joined (codes "void") ∷ joined (codes ")") ∷ joined (codes "{") ∷ []
+-- one expression, which is a number
+abbrev pub IsOnly : List Expr → ℕ → Type 0
+IsOnly arguments n = (e : Expr) × (arguments ≡ e ∷ []) × IsNumber e n
+
+-- `putchar(n)`
+abbrev pub IsCall : Expr → ℕ → Type 0
+IsCall e n = (arguments : List Expr) × (e.node ≡ node.Call (codes "putchar") arguments) × IsOnly arguments n
 
 -- `putchar(n);`
-abbrev pub put : ℕ → List Item
-put n = joined (codes "putchar") ∷ joined (codes "(") ∷ joined (decimal n) ∷ joined (codes ")") ∷ joined (codes ";") ∷ []
+abbrev pub IsPut : Stmt → ℕ → Type 0
+IsPut s n = (call : Expr) × (s.body ≡ act.Call call) × IsCall call n
 
--- `return n; }`
-abbrev pub tail : ℕ → List Item
-tail n = joined (codes "return") ∷ apart (decimal n) ∷ joined (codes ";") ∷ joined (codes "}") ∷ []
+-- an expression, which is a number
+abbrev pub IsValue : Option Expr → ℕ → Type 0
+IsValue value n = (e : Expr) × (value ≡ Some e) × IsNumber e n
 
-abbrev pub AllSmall : List ℕ → Type 0
-AllSmall [] = Unit {0}
-AllSmall (n ∷ ns) = (n < 2 ^ 31) × AllSmall ns
+-- `return n;`
+abbrev pub IsReturn : Stmt → ℕ → Type 0
+IsReturn s n = (value : Option Expr) × (s.body ≡ act.Return value) × IsValue value n
 
--- The text is `int main(void) {`, at most 300 times `putchar(n);`, and `return value; }`, with numbers below 2 ^ 31
--- in decimal without leading zeros, and blanks between.
-pub record IsForm (text puts : List ℕ) (value : ℕ) : Type 0 where
-  pub few : length puts ≤ 300
-  pub small : AllSmall puts
-  pub value_small : value < 2 ^ 31
-  pub laid : Laid (head ++ flat_map put puts ++ tail value) text
+-- the statements put these numbers, one after another
+abbrev pub ArePuts : List Stmt → List ℕ → Type 0
+ArePuts [] [] = Unit {0}
+ArePuts (s ∷ statements) (n ∷ puts) = IsPut s n × ArePuts statements puts
+ArePuts _ _ = ⊥
 
--- the most bytes that a text may have
-abbrev pub text_limit : ℕ
-text_limit = 262144
+-- `int main(void)` without limits and without a mode
+pub record IsMain (head : Head) : Type 0 where
+  pub mode : head.mode ≡ None
+  pub result : head.result ≡ types.Int
+  pub name : head.name ≡ codes "main"
+  pub params : head.params ≡ []
+  pub bounds : head.bounds ≡ None
 
--- The text is accepted, with the numbers that it puts and the value that it returns.
-pub record Accepted (text puts : List ℕ) (value : ℕ) : Type 0 where
-  pub fits : length text ≤ text_limit
-  pub form : IsForm text puts value
+-- these statements, and then a return of the value
+pub record AreStatements (all : List Stmt) (puts : List ℕ) (value : ℕ) : Type 0 where
+  pub front : List Stmt
+  pub last : Stmt
+  pub in_order : all ≡ front ++ last ∷ []
+  pub are_puts : ArePuts front puts
+  pub returns : IsReturn last value
 
-abbrev pub first_place : Pos
-first_place = record { line = 1; col = 1 }
+-- a block without a mode
+abbrev pub IsBody : Stmt → List ℕ → ℕ → Type 0
+IsBody body puts value = (statements : List Stmt) × (body.body ≡ act.Block None statements) × AreStatements statements puts value
 
--- The first fault of a text: 201 at 1:1 where it is too long, else 100 at 1:1 where it has no form.
-abbrev pub FirstFault : List ℕ → ℕ → Pos → Type 0
-FirstFault text code at =
-    ((text_limit < length text) × (code ≡ 201) × (at ≡ first_place))
-    ⊎ ((length text ≤ text_limit) × ((puts : List ℕ) (value : ℕ) → ¬ IsForm text puts value) × (code ≡ 100) × (at ≡ first_place))
+-- the function main
+abbrev pub IsMainItem : Item → List ℕ → ℕ → Type 0
+IsMainItem (item.Function head body) puts value = IsMain head × IsBody body puts value
+IsMainItem _ puts value = ⊥
+
+-- The tree is one function main, whose body puts the numbers, one after another, and then returns the value.
+abbrev pub IsForm : Tree → List ℕ → ℕ → Type 0
+IsForm tree puts value = (only : Item) × (tree.items ≡ only ∷ []) × IsMainItem only puts value

@@ -1,11 +1,13 @@
 pub mod Report
 pub mod Words
+pub mod Commanded
+pub mod Phases
 pub mod FirstForm
+pub mod Accepted
+pub mod Judging
 pub mod Source
-pub mod Reading
-pub mod Program
 pub mod Compiled
+pub mod Commands
 pub mod Running
-pub mod Cpu
 pub mod Causes
-pub mod Executing
+pub mod Fetching

@@ -3,8 +3,8 @@ use Rattle.std.specs.Prelude.{ℕ, zero, suc, ◌+◌, ◌/◌, ◌%◌, ◌^◌
 use Rattle.std.specs.Fmt.{decimal}
 use Rattle.ckc_base.specs.declared.places.Pos.{Pos}
 use Rattle.ckc_base.specs.Checks.{number_of, name_of}
-use Rattle.ckc_cli.specs.declared.status.FaultKind.{FaultKind}
-use Rattle.ckc_cli.specs.declared.status.FaultKind.TheVariants.{Fetch, Word, Align, Load, Store, Break, Call}
+use Rattle.ckc_machine.specs.declared.observed.FaultKind.{FaultKind}
+use Rattle.ckc_machine.specs.declared.observed.FaultKind.TheVariants.{Fetch, Word, Align, Load, Store, Break, Call}
 use Rattle.ckc_cli.specs.declared.status.Status.{Status}
 use Rattle.ckc_cli.specs.declared.status.Status.TheVariants.{Done, Ended, Stopped, Going, MachineFault, Usage, Refused, BadImage, ReadFault, WriteFault, StoreFault, Memory}
 

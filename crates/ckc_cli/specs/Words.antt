@@ -1,15 +1,49 @@
 -- The words of the command line.
-use Rattle.std.specs.Prelude.{◌≡◌, List, [], ◌∷◌, ℕ, codes, map, String}
+use Rattle.std.specs.Prelude.{◌≡◌, ◌≤◌, ◌⊎◌, List, [], ◌∷◌, ℕ, codes, length, map, String}
+use Rattle.std.specs.Str.Parse.{IsNumeral, digits_value}
 use Rattle.std.specs.String.{string_bytes}
 use Rattle.std.specs.declared.alloc.Global.{Global}
 
--- what the words ask for: `exec TEXT`, to fetch a text, build it and run it
+-- What the words ask for, with the names of files and the most instructions that are executed.
 pub data Command : Type 0 where
-  Exec : (text : List ℕ) → Command
+  Build : (text image : List ℕ) → Command
+  Exec : (text : List ℕ) (limit : ℕ) → Command
+  Run : (image : List ℕ) (limit : ℕ) → Command
+  Show : (image : List ℕ) → Command
+
+-- the limit where the words say none
+abbrev pub usual_limit : ℕ
+usual_limit = 1000000000
+
+-- 1 to 18 decimal digits, with a value of at least 1
+pub record IsLimit (word : List ℕ) (limit : ℕ) : Type 0 where
+  pub digits : IsNumeral 10 word
+  pub few : length word ≤ 18
+  pub value : limit ≡ digits_value 10 word
+  pub positive : 1 ≤ limit
+
+-- a name and perhaps a limit behind it
+abbrev pub NameAndLimit : List (List ℕ) → List ℕ → ℕ → Type 0
+NameAndLimit words name limit =
+    ((words ≡ name ∷ []) × (limit ≡ usual_limit)) ⊎ ((word : List ℕ) × (words ≡ name ∷ word ∷ []) × IsLimit word limit)
+
+-- the first word of a command
+abbrev pub keyword : Command → List ℕ
+keyword (Build text image) = codes "build"
+keyword (Exec text limit) = codes "exec"
+keyword (Run image limit) = codes "run"
+keyword (Show image) = codes "list"
+
+-- the other words
+abbrev pub Arguments : List (List ℕ) → Command → Type 0
+Arguments words (Build text image) = words ≡ text ∷ image ∷ []
+Arguments words (Exec text limit) = NameAndLimit words text limit
+Arguments words (Run image limit) = NameAndLimit words image limit
+Arguments words (Show image) = words ≡ image ∷ []
 
 -- The words are those of the command. They are compared byte for byte, and a name may be any word.
 abbrev pub Reads : List (List ℕ) → Command → Type 0
-Reads words (Exec text) = words ≡ codes "exec" ∷ text ∷ []
+Reads words command = (more : List (List ℕ)) × (words ≡ keyword command ∷ more) × Arguments more command
 
 -- the bytes of each word
 abbrev pub bytes_of : List (String Global) → List (List ℕ)

@@ -1,7 +1,6 @@
 //! The code of a text of the first form.
 ghost use Rattle.std.specs.Prelude.{◌≡◌, ◌<◌, ◌^◌, ◌++◌, OnOk, IfOk, IfSome};
 ghost use Rattle.ckc_rv.specs.Table.{InRange};
-ghost use Rattle.ckc_cli.specs.FirstForm.{AllSmall};
 ghost use Rattle.ckc_cli.specs.Compiled.{put_code, end_code, instructions, code_of, instruction_bytes, upper, lower};
 
 use crate::form::Program;
@@ -16,7 +15,6 @@ const A7: u8 = 17;
 
 /// The bytes of the code, for address 0x1000.
 pub fn compile(alloc: Global, program: &Program) -> Result<Vec<u8>, AllocError>
-    requires { program.now.value < 2 ^ 31 }
     ensures { IfOk result (λ code. code.items ≡ code_of (instructions program.now.puts.items program.now.value)) }
 {
     let mut code = Vec::new(alloc);
@@ -38,10 +36,9 @@ fn push_put(code: &mut Vec<u8>, n: u32) -> Result<(), AllocError>
 
 /// `return n;`
 fn push_end(code: &mut Vec<u8>, n: u32) -> Result<(), AllocError>
-    requires { n < 2 ^ 31 }
     ensures { OnOk result (code.new.items ≡ code.old.items ++ code_of (end_code n)) }
 {
-    push(code, &Instr::Lui(A0, (n + 2048) / 4096))?;
+    push(code, &Instr::Lui(A0, n.wrapping_add(2048) / 4096))?;
     push(code, &Instr::Imm(ImmOp::Addi, A0, A0, lower_bits(n)))?;
     push(code, &Instr::Imm(ImmOp::Addi, A7, 0, 0))?;
     push(code, &Instr::Ecall)

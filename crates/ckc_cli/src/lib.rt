@@ -1,17 +1,22 @@
 //! The top call of the compiler: from the words of the command line and the objects of the outside to a status.
 #![tactic(auto)]
 
+mod build;
+mod commands;
 mod compiler;
-mod exec;
 mod form;
+mod front;
+mod laws;
 mod line;
-mod machine;
 mod report;
+mod run;
 mod status;
 mod top;
 mod words;
 
-pub use status::{FaultKind, Status};
+pub use ckc_machine::FaultKind;
+pub use laws::one_meaning;
+pub use status::Status;
 pub use top::ccc;
 
 #[cfg(test)]

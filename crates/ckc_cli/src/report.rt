@@ -4,8 +4,9 @@ ghost use Rattle.ckc_base.specs.Checks.{name_of};
 ghost use Rattle.ckc_cli.specs.Report.{report_of, kind_name, place, hex};
 
 use crate::line::Line;
-use crate::status::{FaultKind, Status};
+use crate::status::Status;
 use ckc_base::{Check, Pos, Refusal, check_name};
+use ckc_machine::FaultKind;
 
 /// The line of a status, LF included; nothing where the status has none.
 pub fn report(status: &Status) -> Line

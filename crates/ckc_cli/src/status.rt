@@ -2,19 +2,7 @@ ghost use Rattle.std.specs.Prelude.{◌≡◌};
 ghost use Rattle.ckc_cli.specs.Report.{exit_of};
 
 use ckc_base::{Check, Pos, Refusal, check_number};
-
-/// The kinds of faults of the machine: the pc lies outside the code; the word is no instruction; a misaligned access
-/// or target; an unmapped load; an unmapped store or one to code; EBREAK; an unknown environment call.
-#[derive(Clone, Copy, Debug, PartialEq, Eq)]
-pub enum FaultKind {
-    Fetch,
-    Word,
-    Align,
-    Load,
-    Store,
-    Break,
-    Call,
-}
+use ckc_machine::FaultKind;
 
 /// How a call of `ccc` ended.
 ///

@@ -1,29 +1,47 @@
 use crate::report::report;
 use crate::{FaultKind, Status, ccc};
 use ckc_base::{Check, Pos, Refusal};
-use ckc_outside::{MemSink, MemSource, MemStore, Source};
+use ckc_outside::{Fetched, MemSink, MemSource, MemStore, Store};
 use std::alloc::Global;
 use std::process::Abort;
 use std::test::Fail;
 
 const HELLO: &str = "int main(void) { putchar(72); return 0; }";
 
-const SPREAD: &str = "\tint\r\nmain ( void ){putchar(328) ;putchar ( 10 ); return\n2147483647;}\n";
+const SPREAD: &str =
+    "\tint\r\nmain ( void ){putchar(328) ;/* a */putchar ( '\\n' ); return // b\n4294967295u;}\n";
 
-fn refused(code: u16) -> Status {
+/// `addi x10, x0, 7`, `addi x17, x0, 0` and `ecall`.
+const SEVEN: &[u8] =
+    b"CCIM\x01\0\0\0\0\x10\0\0\x0c\0\0\0\0\0\0\0\x13\x05\x70\0\x93\x08\0\0\x73\0\0\0";
+
+/// `lw x5, 0(x0)`
+const LOAD: &[u8] = b"CCIM\x01\0\0\0\0\x10\0\0\x04\0\0\0\0\0\0\0\x83\x22\0\0";
+
+/// `jal x0, 0`
+const ENDLESS: &[u8] = b"CCIM\x01\0\0\0\0\x10\0\0\x04\0\0\0\0\0\0\0\x6f\0\0\0";
+
+/// `addi x17, x0, 2`, `ecall`, `addi x17, x0, 1`, `ecall`, `addi x17, x0, 0`, `ecall`: one byte from input to output.
+const ECHO: &[u8] =
+    b"CCIM\x01\0\0\0\0\x10\0\0\x18\0\0\0\0\0\0\0\x93\x08\x20\0\x73\0\0\0\x93\x08\x10\0\x73\0\0\0\x93\x08\0\0\x73\0\0\0";
+
+const SEVEN_LISTED: &[u8] = b".entry 0x00001000\naddi x10, x0, 7\naddi x17, x0, 0\necall\n";
+
+fn refused(code: u16, col: u32) -> Status {
     Status::Refused(Refusal {
         code,
-        pos: Pos { line: 1, col: 1 },
+        pos: Pos { line: 1, col },
     })
 }
 
-/// A row: the text under t.c, the words, the calls of the store and of the output that fail, and what is wanted: the
-/// status, the output and the line on standard error.
+/// A row: the bytes under `file`, the words, the calls that fail, and what is wanted: the status, the output and the
+/// line on standard error. The input is `in`.
 #[derive(Drop)]
 struct Row {
-    text: &'static str,
+    file: &'static [u8],
     words: &'static [&'static str],
     store_fails: &'static [u64],
+    input_fails: &'static [u64],
     out_fails: &'static [u64],
     status: Status,
     out: &'static [u8],
@@ -40,16 +58,17 @@ fn words_of(alloc: Global, words: &[&str]) -> Result<Vec<String>, Fail> {
 
 /// A row in which no call fails.
 fn plain(
-    text: &'static str,
+    file: &'static [u8],
     words: &'static [&'static str],
     status: Status,
     out: &'static [u8],
     err: &'static [u8],
 ) -> Row {
     Row {
-        text,
+        file,
         words,
         store_fails: &[],
+        input_fails: &[],
         out_fails: &[],
         status,
         out,
@@ -66,13 +85,13 @@ fn run_row(
     err_wanted: &[u8],
 ) -> Result<(), Fail> {
     let words = words_of(alloc, row.words)?;
-    let mut input = MemSource::new(b"in", &[]);
-    let mut out_room = [0u8; 16];
+    let mut input = MemSource::new(b"in", row.input_fails);
+    let mut out_room = [0u8; 128];
     let mut err_room = [0u8; 64];
     let mut out = MemSink::new(&mut out_room, row.out_fails);
     let mut err = MemSink::new(&mut err_room, err_fails);
     let mut store = MemStore::new(alloc, row.store_fails);
-    store.set("t.c", row.text.as_bytes())?;
+    store.set("file", row.file)?;
     let status = ccc(
         alloc,
         words.as_slice(),
@@ -81,82 +100,122 @@ fn run_row(
         &mut err,
         &mut store,
     );
-    let text = row.text;
-    assert_eq!(rt; status, row.status, "{text}");
-    assert_eq!(rt; out.written(), row.out, "{text}");
-    assert_eq!(rt; err.written(), err_wanted, "{text}");
-    assert_eq!(rt; input.next(), Ok(Some(b'i')), "{text}");
+    assert_eq!(rt; status, row.status, "{:?} {:?}", row.words, row.file);
+    assert_eq!(rt; out.written(), row.out, "{:?} {:?}", row.words, row.file);
+    assert_eq!(rt; err.written(), err_wanted, "{:?} {:?}", row.words, row.file);
+    Ok(())
+}
+
+fn run_rows(rt: &impl Abort, alloc: Global, rows: &[Row]) -> Result<(), Fail> {
+    for row in rows {
+        run_row(rt, alloc, row, &[], row.err)?;
+        run_row(rt, alloc, row, &[1], b"")?;
+    }
     Ok(())
 }
 
 #[test]
-fn each_status_has_its_cause(rt: HostRuntime) -> Result<(), Fail> {
+fn texts_are_executed_or_refused(rt: HostRuntime) -> Result<(), Fail> {
     let alloc = rt.alloc();
-    let exec: &[&str] = &["exec", "t.c"];
+    let exec: &[&str] = &["exec", "file"];
+    let hello = HELLO.as_bytes();
     let rows = [
-        plain(HELLO, exec, Status::Ended(0), b"H", b""),
+        plain(hello, exec, Status::Ended(0), b"H", b""),
         plain(
-            "int main(void){ return 0; }",
+            b"int main(void){ return 0; }",
             exec,
             Status::Ended(0),
             b"",
             b"",
         ),
-        plain(SPREAD, exec, Status::Ended(2147483647), b"H\n", b""),
         plain(
-            "int main(void){ return 0 }",
+            SPREAD.as_bytes(),
             exec,
-            refused(100),
+            Status::Ended(4294967295),
+            b"H\n",
+            b"",
+        ),
+        plain(
+            b"int main(void){ return 0 }",
+            exec,
+            refused(120, 26),
+            b"",
+            b"refused: E120 at 1:26\n",
+        ),
+        plain(
+            b"int main(void){ return 0; } @",
+            exec,
+            refused(101, 29),
+            b"",
+            b"refused: E101 at 1:29\n",
+        ),
+        plain(
+            b"int main(void){ return 0 } @",
+            exec,
+            refused(101, 28),
+            b"",
+            b"refused: E101 at 1:28\n",
+        ),
+        plain(
+            b"int main(void){ return 0;",
+            exec,
+            refused(120, 26),
+            b"",
+            b"refused: E120 at 1:26\n",
+        ),
+        plain(
+            b"int main(void){ return x; }",
+            exec,
+            refused(100, 1),
             b"",
             b"refused: E100 at 1:1\n",
         ),
         plain(
-            "intmain(void){ return 0; }",
+            b"int main(void){ putchar(1, 2); return 0; }",
             exec,
-            refused(100),
+            refused(100, 1),
             b"",
             b"refused: E100 at 1:1\n",
         ),
         plain(
-            "int main(void){ return 00; }",
+            b"int main(void){ return 0; } int f(void){ return 0; }",
             exec,
-            refused(100),
+            refused(100, 1),
             b"",
             b"refused: E100 at 1:1\n",
         ),
         plain(
-            "int main(void){ return 2147483648; }",
+            b"_Checked int main(void){ return 0; }",
             exec,
-            refused(100),
+            refused(100, 1),
             b"",
             b"refused: E100 at 1:1\n",
         ),
         plain(
-            "int main(void){ return 0; } @",
+            b"int main(void){ putchar(72); }",
             exec,
-            refused(100),
+            refused(100, 1),
             b"",
             b"refused: E100 at 1:1\n",
         ),
-        plain("", exec, refused(100), b"", b"refused: E100 at 1:1\n"),
-        plain(HELLO, &[], Status::Usage, b"", b"ccc: wrong words\n"),
-        plain(HELLO, &["exec"], Status::Usage, b"", b"ccc: wrong words\n"),
+        plain(b"", exec, refused(100, 1), b"", b"refused: E100 at 1:1\n"),
+        plain(hello, &["exec", "file", "7"], Status::Ended(0), b"H", b""),
         plain(
-            HELLO,
-            &["exec", "t.c", "100"],
-            Status::Usage,
-            b"",
-            b"ccc: wrong words\n",
+            hello,
+            &["exec", "file", "6"],
+            Status::Going,
+            b"H",
+            b"going: limit reached\n",
         ),
         plain(
-            HELLO,
-            &["run", "t.c"],
-            Status::Usage,
+            hello,
+            &["exec", "file", "2"],
+            Status::Going,
             b"",
-            b"ccc: wrong words\n",
+            b"going: limit reached\n",
         ),
         plain(
-            HELLO,
+            hello,
             &["exec", "nothing"],
             Status::StoreFault,
             b"",
@@ -164,54 +223,292 @@ fn each_status_has_its_cause(rt: HostRuntime) -> Result<(), Fail> {
         ),
         Row {
             store_fails: &[1],
-            ..plain(HELLO, exec, Status::StoreFault, b"", b"fault: store\n")
+            ..plain(hello, exec, Status::StoreFault, b"", b"fault: store\n")
         },
         Row {
             out_fails: &[1],
-            ..plain(HELLO, exec, Status::WriteFault, b"", b"fault: output\n")
+            ..plain(hello, exec, Status::WriteFault, b"", b"fault: output\n")
         },
         Row {
             out_fails: &[2],
-            ..plain(SPREAD, exec, Status::WriteFault, b"H", b"fault: output\n")
+            ..plain(
+                SPREAD.as_bytes(),
+                exec,
+                Status::WriteFault,
+                b"H",
+                b"fault: output\n",
+            )
+        },
+        Row {
+            input_fails: &[1],
+            ..plain(hello, exec, Status::Ended(0), b"H", b"")
         },
     ];
-    for row in &rows {
-        run_row(&rt, alloc, row, &[], row.err)?;
-        run_row(&rt, alloc, row, &[1], b"")?;
+    run_rows(&rt, alloc, &rows)
+}
+
+#[test]
+fn images_are_run_and_listed(rt: HostRuntime) -> Result<(), Fail> {
+    let alloc = rt.alloc();
+    let run: &[&str] = &["run", "file"];
+    let list: &[&str] = &["list", "file"];
+    let rows = [
+        plain(SEVEN, run, Status::Ended(7), b"", b""),
+        plain(
+            SEVEN,
+            &["run", "file", "2"],
+            Status::Going,
+            b"",
+            b"going: limit reached\n",
+        ),
+        plain(
+            LOAD,
+            run,
+            Status::MachineFault(FaultKind::Load, 0x1000),
+            b"",
+            b"fault: load at 0x00001000\n",
+        ),
+        plain(
+            ENDLESS,
+            &["run", "file", "100"],
+            Status::Going,
+            b"",
+            b"going: limit reached\n",
+        ),
+        plain(ECHO, run, Status::Ended(105), b"i", b""),
+        Row {
+            input_fails: &[1],
+            ..plain(ECHO, run, Status::ReadFault, b"", b"fault: input\n")
+        },
+        Row {
+            out_fails: &[1],
+            ..plain(ECHO, run, Status::WriteFault, b"", b"fault: output\n")
+        },
+        plain(
+            b"CCIN",
+            run,
+            Status::BadImage(1),
+            b"",
+            b"bad image: part 1\n",
+        ),
+        plain(SEVEN, list, Status::Done, SEVEN_LISTED, b""),
+        plain(
+            LOAD,
+            list,
+            Status::Done,
+            b".entry 0x00001000\nlw x5, 0(x0)\n",
+            b"",
+        ),
+        Row {
+            out_fails: &[2],
+            ..plain(
+                SEVEN,
+                list,
+                Status::WriteFault,
+                b".entry 0x00001000\n",
+                b"fault: output\n",
+            )
+        },
+        plain(
+            b"CCIM\x02\0\0\0",
+            list,
+            Status::BadImage(2),
+            b"",
+            b"bad image: part 2\n",
+        ),
+        plain(
+            SEVEN,
+            &["list", "nothing"],
+            Status::StoreFault,
+            b"",
+            b"fault: store\n",
+        ),
+    ];
+    run_rows(&rt, alloc, &rows)
+}
+
+#[test]
+fn other_words_are_no_command(rt: HostRuntime) -> Result<(), Fail> {
+    let alloc = rt.alloc();
+    let rows: [&'static [&'static str]; 16] = [
+        &[],
+        &["exec"],
+        &["exec", "file", "0"],
+        &["exec", "file", "+7"],
+        &["exec", "file", "-7"],
+        &["exec", "file", ""],
+        &["exec", "file", "7 "],
+        &["exec", "file", "1000000000000000000"],
+        &["exec", "file", "0000000000000000007"],
+        &["exec", "file", "7", "7"],
+        &["Exec", "file"],
+        &["run"],
+        &["run", "file", "0"],
+        &["list", "file", "7"],
+        &["build", "file"],
+        &["build", "file", "image", "7"],
+    ];
+    for words in &rows {
+        let row = plain(
+            HELLO.as_bytes(),
+            *words,
+            Status::Usage,
+            b"",
+            b"ccc: wrong words\n",
+        );
+        run_row(&rt, alloc, &row, &[], row.err)?;
     }
     Ok(())
+}
+
+/// The status of `exec file` over a text with ample room.
+fn executed(alloc: Global, text: &[u8], words: &[String]) -> Result<Status, Fail> {
+    let mut input = MemSource::new(b"", &[]);
+    let mut out = MemSink::new(&mut [], &[]);
+    let mut room = [0u8; 64];
+    let mut err = MemSink::new(&mut room, &[]);
+    let mut store = MemStore::new(alloc, &[]);
+    store.set("file", text)?;
+    Ok(ccc(alloc, words, &mut input, &mut out, &mut err, &mut store))
 }
 
 #[test]
 fn a_text_has_at_most_262144_bytes(rt: HostRuntime) -> Result<(), Fail> {
     let alloc = rt.alloc();
+    let words = words_of(alloc, &["exec", "file"])?;
     let mut text = Vec::from_slice(alloc, b"int main(void){ return 0; }")?;
     for _ in text.len()..262_144 {
         text.push(b'\n')?;
     }
-    let words = words_of(alloc, &["exec", "t.c"])?;
-    for (more, status) in [(0, Status::Ended(0)), (1, refused(201))] {
-        for _ in 0..more {
-            text.push(b'\n')?;
+    assert_eq!(rt;
+        executed(alloc, text.as_slice(), words.as_slice())?,
+        Status::Ended(0)
+    );
+    text.push(b'@')?;
+    assert_eq!(rt;
+        executed(alloc, text.as_slice(), words.as_slice())?,
+        refused(201, 1)
+    );
+    Ok(())
+}
+
+#[test]
+fn a_text_is_at_most_64_deep(rt: HostRuntime) -> Result<(), Fail> {
+    let alloc = rt.alloc();
+    let words = words_of(alloc, &["exec", "file"])?;
+    for (signs, status) in [(61, refused(100, 1)), (62, refused(202, 5))] {
+        let mut text = Vec::from_slice(alloc, b"int main(void){ return ")?;
+        for _ in 0..signs {
+            text.push(b'!')?;
         }
-        let mut input = MemSource::new(b"", &[]);
-        let mut out = MemSink::new(&mut [], &[]);
-        let mut room = [0u8; 64];
-        let mut err = MemSink::new(&mut room, &[]);
-        let mut store = MemStore::new(alloc, &[]);
-        store.set("t.c", text.as_slice())?;
+        text.extend_from_slice(b"1; }")?;
+        assert_eq!(rt; executed(alloc, text.as_slice(), words.as_slice())?, status);
+    }
+    Ok(())
+}
+
+#[test]
+fn each_front_of_an_image_is_none(rt: HostRuntime) -> Result<(), Fail> {
+    let alloc = rt.alloc();
+    let words = words_of(alloc, &["run", "file"])?;
+    for k in 0..SEVEN.len() {
+        let part = if k < 4 {
+            1
+        } else if k < 8 {
+            2
+        } else {
+            3
+        };
         assert_eq!(rt;
-            ccc(
-                alloc,
-                words.as_slice(),
-                &mut input,
-                &mut out,
-                &mut err,
-                &mut store
-            ),
-            status
+            executed(alloc, &SEVEN[..k], words.as_slice())?,
+            Status::BadImage(part),
+            "{k}"
         );
     }
+    let mut more = Vec::from_slice(alloc, SEVEN)?;
+    more.push(0)?;
+    assert_eq!(rt;
+        executed(alloc, more.as_slice(), words.as_slice())?,
+        Status::BadImage(3)
+    );
+    Ok(())
+}
+
+/// What the store has under a name, in bytes.
+fn length_under(alloc: Global, store: &mut MemStore<'_>, name: &str) -> usize {
+    match store.fetch(alloc, name, 1_000_000) {
+        Ok(Fetched::Whole(bytes)) => bytes.len(),
+        _ => 0,
+    }
+}
+
+#[test]
+fn a_built_image_runs(rt: HostRuntime) -> Result<(), Fail> {
+    let alloc = rt.alloc();
+    let build = words_of(alloc, &["build", "file", "image"])?;
+    let run = words_of(alloc, &["run", "image"])?;
+    let mut input = MemSource::new(b"", &[]);
+    let mut room = [0u8; 64];
+    let mut err_room = [0u8; 64];
+    let mut out = MemSink::new(&mut room, &[]);
+    let mut err = MemSink::new(&mut err_room, &[]);
+    let mut store = MemStore::new(alloc, &[]);
+    store.set("file", HELLO.as_bytes())?;
+    let built = ccc(
+        alloc,
+        build.as_slice(),
+        &mut input,
+        &mut out,
+        &mut err,
+        &mut store,
+    );
+    assert_eq!(rt; built, Status::Done);
+    assert_eq!(rt; length_under(alloc, &mut store, "image"), 48);
+    let ran = ccc(
+        alloc,
+        run.as_slice(),
+        &mut input,
+        &mut out,
+        &mut err,
+        &mut store,
+    );
+    assert_eq!(rt; ran, Status::Ended(0));
+    assert_eq!(rt; out.written(), b"H".as_slice());
+    store.set("file", b"int main")?;
+    let again = ccc(
+        alloc,
+        build.as_slice(),
+        &mut input,
+        &mut out,
+        &mut err,
+        &mut store,
+    );
+    assert_eq!(rt; again, refused(120, 9));
+    assert_eq!(rt; length_under(alloc, &mut store, "image"), 48);
+    Ok(())
+}
+
+#[test]
+fn a_store_that_fails_keeps_nothing(rt: HostRuntime) -> Result<(), Fail> {
+    let alloc = rt.alloc();
+    let build = words_of(alloc, &["build", "file", "image"])?;
+    let mut input = MemSource::new(b"", &[]);
+    let mut err_room = [0u8; 64];
+    let mut out = MemSink::new(&mut [], &[]);
+    let mut err = MemSink::new(&mut err_room, &[]);
+    let mut store = MemStore::new(alloc, &[2]);
+    store.set("file", HELLO.as_bytes())?;
+    let built = ccc(
+        alloc,
+        build.as_slice(),
+        &mut input,
+        &mut out,
+        &mut err,
+        &mut store,
+    );
+    assert_eq!(rt; built, Status::StoreFault);
+    assert_eq!(rt; err.written(), b"fault: store\n".as_slice());
+    assert_eq!(rt; length_under(alloc, &mut store, "image"), 0);
     Ok(())
 }
 
@@ -257,7 +554,7 @@ fn each_status_has_its_line_and_exit_status(rt: HostRuntime) {
             111,
         ),
         (Status::Usage, b"ccc: wrong words\n", 112),
-        (refused(604), b"refused: E604 at 1:1\n", 113),
+        (refused(604, 1), b"refused: E604 at 1:1\n", 113),
         (Status::BadImage(3), b"bad image: part 3\n", 114),
         (Status::ReadFault, b"fault: input\n", 115),
         (Status::WriteFault, b"fault: output\n", 116),

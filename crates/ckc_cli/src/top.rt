@@ -1,25 +1,26 @@
-ghost use Rattle.std.specs.Prelude.{◌≡◌, ◌⊎◌, ◌↔◌, ℕ, ◌≤◌, List, Some, None, IsTrue};
-ghost use Rattle.std.specs.FinMap as fin;
-ghost use Rattle.ckc_base.specs.declared.places.Pos.{Pos};
+ghost use Rattle.std.specs.Prelude.{◌≡◌, ◌≢◌, ◌⊎◌, ◌↔◌, ℕ, ◌+◌, ◌*◌, ◌≤◌, List, false, IsTrue};
 ghost use Rattle.ckc_base.specs.declared.places.Refusal.{Refusal};
-ghost use Rattle.ckc_outside.specs.Outside.{Rose, Files};
-ghost use Rattle.ckc_cli.specs.FirstForm.{Accepted, FirstFault};
-ghost use Rattle.ckc_cli.specs.Words.{Command, Exec, Reads, bytes_of};
+ghost use Rattle.ckc_base.specs.Traces.{Ended};
+ghost use Rattle.ckc_outside.specs.Outside.{Rose};
+ghost use Rattle.ckc_rv.specs.Machine.{Parts};
+ghost use Rattle.ckc_machine.specs.declared.observed.Observed.{Observed};
+ghost use Rattle.ckc_machine.specs.declared.observed.FaultKind.{FaultKind};
+ghost use Rattle.ckc_cli.specs.Accepted.{Meaning, Accepted};
+ghost use Rattle.ckc_cli.specs.Source.{source};
+ghost use Rattle.ckc_cli.specs.Words.{Command, Build, Exec, Reads, bytes_of};
+ghost use Rattle.ckc_cli.specs.Commands.{Refuses, IsBad, Keeps, Lists, Executes};
+ghost use Rattle.ckc_cli.specs.Running.{Ran, status_of, shows_run};
 ghost use Rattle.ckc_cli.specs.Report.{report_of};
-ghost use Rattle.ckc_cli.specs.Executing.{OfWords};
-ghost use Rattle.ckc_cli.specs.Causes.{MayBeFetched, EndsWith, StopsAtOutput, IsPossible, IsBeforeRun, Reported, puts_after};
+ghost use Rattle.ckc_cli.specs.Causes.{Caused, Over, Given, StoreIsFine, IsDone, IsShown, IsCutShort, EndsAsMeant, KeepsOthers, Reported, puts_after};
 
-use crate::exec::exec;
+use crate::commands::obey;
 use crate::report::report;
 use crate::status::Status;
-use crate::words::text_to_execute;
+use crate::words::command_of;
 use ckc_outside::{Sink, Source, Store};
 use std::alloc::Global;
 
 /// Does what the words ask for, and puts the line of the status on `err`, in one call.
-///
-/// `exec TEXT` fetches TEXT from `store` (at most 262,144 bytes), builds it, and runs at most 1,000,000,000
-/// instructions, with `input` as its input and `out` as its output. Every other list of words is `Usage`.
 pub fn ccc<S: Source, O: Sink, E: Sink, F: Store>(
     alloc: Global,
     words: &[String],
@@ -28,77 +29,127 @@ pub fn ccc<S: Source, O: Sink, E: Sink, F: Store>(
     err: &mut E,
     store: &mut F,
 ) -> Status
-    ensures possible { IsPossible result }
-
-    // Usage comes exactly where no command has the words, and nothing is fetched then.
+    // Usage comes exactly where no command has the words, and then nothing is fetched.
     ensures usage { (result ≡ Status.Usage) ↔ ((command : Command) → ¬ Reads (bytes_of words.now) command) }
-    ensures unfetched { result ≡ Status.Usage → store.new ≡ store.old }
+    ensures unasked { result ≡ Status.Usage → store.new ≡ store.old }
 
-    // Refused comes only where the fetched text has that first fault, and always there, but for want of memory
-    // and a fault of the store.
-    ensures refused { (r : Refusal) → result ≡ Status.Refused r
-        → (text : List ℕ) × MayBeFetched (bytes_of words.now) (F.files store.old) text × FirstFault text r.code r.pos }
-    ensures refused_always { (name text : List ℕ) (code : ℕ) (at : Pos) (here : Files)
-        → Reads (bytes_of words.now) (Exec name) → F.files store.old ≡ Some here → fin.get here name ≡ Some text → FirstFault text code at
-        → (¬ Rose (F.faults store.old) (F.faults store.new)) ⊎ IsTrue (F.steady store.old)
-        → (result ≡ Status.Refused (record { code = code; pos = at })) ⊎ (result ≡ Status.Memory) }
+    // Refused comes only with the first fault of the fetched text, and always there, but for want of memory and a
+    // fault of the store that matters.
+    ensures refused { (fault : Refusal) → result ≡ Status.Refused fault → Over (bytes_of words.now) (F.files store.old) (λ command bytes. Refuses command bytes fault) }
+    ensures refused_always { (command : Command) (bytes : List ℕ) (fault : Refusal) → Given (bytes_of words.now) (F.files store.old) command bytes
+        → StoreIsFine (record { files = F.files store.old; steady = F.steady store.old; faults = F.faults store.old })
+        (record { files = F.files store.new; steady = F.steady store.new; faults = F.faults store.new })
+        → Refuses command bytes fault → (result ≡ Status.Refused fault) ⊎ (result ≡ Status.Memory) }
 
-    // Ended comes only with the value and the bytes of the meaning of the accepted text that was fetched, through
-    // an image that follows it; and always there, but for want of memory and faults of out and store.
-    ensures ended { (v : ℕ) → result ≡ Status.Ended v
-        → EndsWith (bytes_of words.now) (F.files store.old) (O.written out.old) (O.written out.new) v }
-    ensures complete { (name text puts : List ℕ) (value : ℕ) (here : Files)
-        → Reads (bytes_of words.now) (Exec name) → F.files store.old ≡ Some here → fin.get here name ≡ Some text → Accepted text puts value
-        → ¬ Rose (O.faults out.old) (O.faults out.new)
-        → (¬ Rose (F.faults store.old) (F.faults store.new)) ⊎ IsTrue (F.steady store.old)
-        → (result ≡ Status.Ended value) ⊎ (result ≡ Status.Memory) }
+    // BadImage comes only with the first part of the fetched bytes that disagrees, and likewise always there.
+    ensures bad_image { (k : ℕ) → result ≡ Status.BadImage k → Over (bytes_of words.now) (F.files store.old) (λ command bytes. IsBad command bytes k) }
+    ensures bad_image_always { (command : Command) (bytes : List ℕ) (k : ℕ) → Given (bytes_of words.now) (F.files store.old) command bytes
+        → StoreIsFine (record { files = F.files store.old; steady = F.steady store.old; faults = F.faults store.old })
+        (record { files = F.files store.new; steady = F.steady store.new; faults = F.faults store.new })
+        → IsBad command bytes k → (result ≡ Status.BadImage k) ⊎ (result ≡ Status.Memory) }
 
-    // The faults come only where the count of the object rose in this call.
-    ensures write_fault { result ≡ Status.WriteFault → Rose (O.faults out.old) (O.faults out.new)
-        × StopsAtOutput (bytes_of words.now) (F.files store.old) (O.written out.old) (O.written out.new) }
+    // Done comes only where an image was kept or a listing put, and likewise always there, but for a fault of the
+    // output.
+    ensures done { result ≡ Status.Done → Over (bytes_of words.now) (F.files store.old) (IsDone
+        (record { left = S.left input.old; written = O.written out.old; read_faults = S.faults input.old; write_faults = O.faults out.old })
+        (record { left = S.left input.new; written = O.written out.new; read_faults = S.faults input.new; write_faults = O.faults out.new })
+        (record { files = F.files store.old; steady = F.steady store.old; faults = F.faults store.old })
+        (record { files = F.files store.new; steady = F.steady store.new; faults = F.faults store.new })) }
+    ensures kept_always { (command : Command) (bytes name image : List ℕ) → Given (bytes_of words.now) (F.files store.old) command bytes
+        → StoreIsFine (record { files = F.files store.old; steady = F.steady store.old; faults = F.faults store.old })
+        (record { files = F.files store.new; steady = F.steady store.new; faults = F.faults store.new })
+        → Keeps command bytes name image → (result ≡ Status.Done) ⊎ (result ≡ Status.Memory) }
+    ensures listed_always { (command : Command) (bytes text : List ℕ) → Given (bytes_of words.now) (F.files store.old) command bytes
+        → StoreIsFine (record { files = F.files store.old; steady = F.steady store.old; faults = F.faults store.old })
+        (record { files = F.files store.new; steady = F.steady store.new; faults = F.faults store.new })
+        → Lists command bytes text → ¬ Rose (O.faults out.old) (O.faults out.new) → (result ≡ Status.Done) ⊎ (result ≡ Status.Memory) }
+
+    // Ended, Stopped, Going, MachineFault and ReadFault come only as a run of an image shows them, and a run always
+    // shows one of them, or WriteFault.
+    ensures shown { (o : Observed) → o ≢ Observed.WriteFault → result ≡ status_of o → Over (bytes_of words.now) (F.files store.old) (IsShown
+        (record { left = S.left input.old; written = O.written out.old; read_faults = S.faults input.old; write_faults = O.faults out.old })
+        (record { left = S.left input.new; written = O.written out.new; read_faults = S.faults input.new; write_faults = O.faults out.new })
+        (input.new ≡ input.old) o) }
+    ensures shown_always { (command : Command) (bytes : List ℕ) (parts : Parts) (limit : ℕ) → Given (bytes_of words.now) (F.files store.old) command bytes
+        → StoreIsFine (record { files = F.files store.old; steady = F.steady store.old; faults = F.faults store.old })
+        (record { files = F.files store.new; steady = F.steady store.new; faults = F.faults store.new })
+        → Executes command bytes parts limit → ((parts' : Parts) × (limit' : ℕ) × (o : Observed) × Executes command bytes parts' limit' × (result ≡ status_of o) × Ran parts' limit'
+        (record { left = S.left input.old; written = O.written out.old; read_faults = S.faults input.old; write_faults = O.faults out.old })
+        (record { left = S.left input.new; written = O.written out.new; read_faults = S.faults input.new; write_faults = O.faults out.new })
+        (input.new ≡ input.old) o) ⊎ (result ≡ Status.Memory) }
+
+    // The headline. `exec` ends only as the meaning of the accepted text does, with the bytes that it puts; it always
+    // does so where the meaning ends in time; and it never shows a fault of the machine.
+    ensures exec_ended { (name : List ℕ) (limit value : ℕ) → Reads (bytes_of words.now) (Exec name limit) → result ≡ Status.Ended value → Over (bytes_of words.now) (F.files store.old)
+        (EndsAsMeant value (O.written out.old) (O.written out.new)) }
+    ensures exec_always { (name text : List ℕ) (limit n value : ℕ) (m : Meaning) → Given (bytes_of words.now) (F.files store.old) (Exec name limit) text
+        → StoreIsFine (record { files = F.files store.old; steady = F.steady store.old; faults = F.faults store.old })
+        (record { files = F.files store.new; steady = F.steady store.new; faults = F.faults store.new })
+        → Accepted text m → (source m n).standing ≡ Ended value → 4 * (n + 1) ≤ limit
+        → ¬ Rose (S.faults input.old) (S.faults input.new) → ¬ Rose (O.faults out.old) (O.faults out.new) → (result ≡ Status.Ended value) ⊎ (result ≡ Status.Memory) }
+    ensures exec_faultless { (name : List ℕ) (limit pc : ℕ) (kind : FaultKind) → Reads (bytes_of words.now) (Exec name limit) → result ≢ Status.MachineFault kind pc }
+
+    // The faults of the objects come only where their counts rose.
+    ensures read_fault { result ≡ Status.ReadFault → Rose (S.faults input.old) (S.faults input.new) }
+    ensures write_fault { result ≡ Status.WriteFault → Rose (O.faults out.old) (O.faults out.new) × Over (bytes_of words.now) (F.files store.old) (IsCutShort
+        (record { left = S.left input.old; written = O.written out.old; read_faults = S.faults input.old; write_faults = O.faults out.old })
+        (record { left = S.left input.new; written = O.written out.new; read_faults = S.faults input.new; write_faults = O.faults out.new })
+        (input.new ≡ input.old)) }
     ensures store_fault { result ≡ Status.StoreFault → Rose (F.faults store.old) (F.faults store.new) }
-    ensures steady { (name : List ℕ) (here : Files) → IsTrue (F.steady store.old) → F.files store.old ≡ Some here
-        → Reads (bytes_of words.now) (Exec name) → result ≡ Status.StoreFault → fin.get here name ≡ None }
+    ensures steady { (command : Command) (bytes : List ℕ) → Given (bytes_of words.now) (F.files store.old) command bytes → IsTrue (F.steady store.old) → result ≢ Status.StoreFault }
 
     // What the call leaves.
-    ensures input { input.new ≡ input.old }
-    ensures out { IsBeforeRun result → out.new ≡ out.old }
-    ensures files { F.files store.new ≡ F.files store.old }
+    ensures idle { shows_run result ≡ false → result ≢ Status.Done → (out.new ≡ out.old) × (input.new ≡ input.old) }
+    ensures files { ((text image : List ℕ) → ¬ Reads (bytes_of words.now) (Build text image)) → F.files store.new ≡ F.files store.old }
+    ensures others { (text image : List ℕ) → Reads (bytes_of words.now) (Build text image) → KeepsOthers image (F.files store.old) (F.files store.new) }
+    ensures refused_keeps { result ≢ Status.Done → result ≢ Status.StoreFault → result ≢ Status.Memory → F.files store.new ≡ F.files store.old }
+    ensures input_counts { S.faults input.old ≤ S.faults input.new }
     ensures out_counts { O.faults out.old ≤ O.faults out.new }
     ensures store_counts { F.faults store.old ≤ F.faults store.new }
 
     // The report of the status is put on err in one call; a fault of err changes no status.
     ensures report { Reported (report_of result) (E.written err.old) (E.written err.new) (Rose (E.faults err.old) (E.faults err.new)) }
     ensures once { E.puts err.new ≡ puts_after (report_of result) (E.puts err.old) }
+    ensures err_counts { E.faults err.old ≤ E.faults err.new }
 {
-    let _ = input;
-    let status = obey(alloc, words, out, store);
+    let status = asked(alloc, words, input, out, store);
     tell(&status, err);
     status
-}
-
-/// Does what the words ask for.
-fn obey<O: Sink, F: Store>(alloc: Global, words: &[String], out: &mut O, store: &mut F) -> Status
-    ensures cause { OfWords (bytes_of words.now) (F.files store.old) (F.steady store.old) (F.faults store.old) (F.faults store.new)
-        (O.faults out.old) (O.faults out.new) (O.written out.old) (O.written out.new) (out.new ≡ out.old) (store.new ≡ store.old) result }
-    ensures files { F.files store.new ≡ F.files store.old }
-    ensures out_counts { O.faults out.old ≤ O.faults out.new }
-    ensures store_counts { F.faults store.old ≤ F.faults store.new }
-{
-    match text_to_execute(words) {
-        None => Status::Usage,
-        Some(name) => exec(alloc, name, out, store),
-    }
 }
 
 /// Puts the line of a status, where it has one.
 fn tell<E: Sink>(status: &Status, err: &mut E)
     ensures report { Reported (report_of status.now) (E.written err.old) (E.written err.new) (Rose (E.faults err.old) (E.faults err.new)) }
     ensures once { E.puts err.new ≡ puts_after (report_of status.now) (E.puts err.old) }
+    ensures counts { E.faults err.old ≤ E.faults err.new }
 {
     let line = report(status);
     let line = line.as_bytes();
     if !line.is_empty() {
         let _ = err.put(line);
+    }
+}
+
+/// Does what the words ask for.
+fn asked<S: Source, O: Sink, F: Store>(
+    alloc: Global,
+    words: &[String],
+    input: &mut S,
+    out: &mut O,
+    store: &mut F,
+) -> Status
+    ensures cause { Caused (bytes_of words.now)
+        (record { left = S.left input.old; written = O.written out.old; read_faults = S.faults input.old; write_faults = O.faults out.old })
+        (record { left = S.left input.new; written = O.written out.new; read_faults = S.faults input.new; write_faults = O.faults out.new })
+        (record { files = F.files store.old; steady = F.steady store.old; faults = F.faults store.old })
+        (record { files = F.files store.new; steady = F.steady store.new; faults = F.faults store.new })
+        (out.new ≡ out.old) (input.new ≡ input.old) (store.new ≡ store.old) result }
+    ensures input_counts { S.faults input.old ≤ S.faults input.new }
+    ensures out_counts { O.faults out.old ≤ O.faults out.new }
+    ensures store_counts { F.faults store.old ≤ F.faults store.new }
+{
+    match command_of(words) {
+        None => Status::Usage,
+        Some(command) => obey(alloc, command, input, out, store),
     }
 }

@@ -1,0 +1,102 @@
+-- What comes of each command, from what its parts gave.
+use Rattle.std.proofs.Common.{◌≡◌, inl, inr, ℕ, ◌<◌, ◌≤◌, List, length, Ok, refl, sym, ap, subst, ◌∙◌, arith}
+use Rattle.ckc_outside.specs.declared.traits.Fetched.{Fetched}
+use Rattle.ckc_outside.specs.declared.traits.Fetched.TheVariants.{Whole, Longer}
+use Rattle.ckc_outside.specs.Outside.{Rose}
+use Rattle.ckc_rv.specs.Machine.{Parts}
+use Rattle.ckc_image.proofs.Agreement.{never_bad, same_parts}
+use Rattle.ckc_asm.specs.Listing.{listing}
+use Rattle.ckc_cli.specs.declared.front.Fault.{Fault}
+use Rattle.ckc_cli.specs.declared.front.Fault.TheVariants as faults
+use Rattle.ckc_cli.specs.declared.status.Status.{Status}
+use Rattle.ckc_cli.specs.declared.words.Command as commands
+use Rattle.ckc_cli.specs.Commanded.{command_is}
+use Rattle.ckc_cli.specs.Words.{Command, Exec, Run, Show}
+use Rattle.ckc_cli.specs.Commands.{longest_image, IsImage, Built, Refuses}
+use Rattle.ckc_cli.specs.Running.{Seen, Ran, Ends, shows, Listed, OverImage, proper, bad}
+use Rattle.ckc_cli.specs.Running as running
+use Rattle.ckc_cli.specs.Causes as causes
+use Rattle.ckc_cli.specs.Causes.{Stored, Holds, Idle, Came, Obeyed}
+use Rattle.ckc_cli.specs.Judging.{IfRefused, fault_status}
+use Rattle.ckc_cli.specs.Fetching.{Fetches}
+
+-- ---- what was fetched
+
+pub over_limit : (f : Fetched) (name : List ℕ) (limit : ℕ) (before after : Stored) → f ≡ Longer → Fetches name limit before after (Ok f) → (bytes : List ℕ) × Holds before.files name bytes × (limit < length bytes)
+over_limit f name limit before after e h = subst (λ (f : Fetched). Fetches name limit before after (Ok f)) e h
+
+pub whole_of : (f : Fetched) (bytes name : List ℕ) (limit : ℕ) (before after : Stored) → f ≡ Whole bytes → Fetches name limit before after (Ok f) → Holds before.files name bytes × (length bytes ≤ limit)
+whole_of f bytes name limit before after e h = subst (λ (f : Fetched). Fetches name limit before after (Ok f)) e h
+
+same_image : (bytes : List ℕ) (p q : Parts) → IsImage bytes p → IsImage bytes q → p ≡ q
+same_image bytes p q i j =
+    let e = same_parts bytes p.entry q.entry p.code q.code p.initial q.initial i j in
+    λ k. record { entry = e.0 k; code = e.1 k; initial = e.2 k }
+
+-- ---- over bytes
+
+module _ (old new : Seen) (before after : Stored) (quiet untaken : Type 0) (s : Status) where
+  pub came_as : (command : Command) (bytes other : List ℕ) → bytes ≡ other → Came command bytes old new before after quiet untaken s → Came command other old new before after quiet untaken s
+  came_as command bytes other e c = subst (λ (b : List ℕ). Came command b old new before after quiet untaken s) e c
+
+  pub faulted : (command : Command) (bytes : List ℕ) (fault : Fault) → IfRefused fault (Refuses command bytes) → s ≡ fault_status fault → Idle before after quiet untaken
+      → Came command bytes old new before after quiet untaken s
+  faulted command bytes (faults.Refused fault) h e idle = causes.refused fault h e idle
+  faulted command bytes faults.Memory h e idle = causes.no_memory e idle
+
+  pub exec_came : (text bytes image : List ℕ) (limit : ℕ) (parts : Parts) → Built bytes parts → IsImage image parts
+      → OverImage image (λ p. Ends p limit old new quiet untaken s) (quiet × untaken) s → after.files ≡ before.files → Came (Exec text limit) bytes old new before after quiet untaken s
+  exec_came text bytes image limit parts built i (proper q j ends) f =
+      causes.ran parts limit (refl, built) (subst (λ (p : Parts). Ends p limit old new quiet untaken s) (same_image image q parts j i) ends) f
+  exec_came text bytes image limit parts built i (bad k first e idle) f = absurd (never_bad image parts.entry parts.code parts.initial i k first)
+
+  pub run_came : (name bytes : List ℕ) (limit : ℕ) → length bytes ≤ longest_image
+      → OverImage bytes (λ p. Ends p limit old new quiet untaken s) (quiet × untaken) s → after.files ≡ before.files → Came (Run name limit) bytes old new before after quiet untaken s
+  run_came name bytes limit le (proper q j ends) f = causes.ran q limit (refl, j) ends f
+  run_came name bytes limit le (bad k first e idle) f = causes.bad_image k (inr (le, first)) e (record { files = f; put = idle.0; took = idle.1 })
+
+  pub list_came : (name bytes : List ℕ) → length bytes ≤ longest_image → untaken
+      → OverImage bytes (λ p. Listed (listing p.entry p.code p.initial) old.written new.written old.write_faults new.write_faults s) quiet s → after.files ≡ before.files
+      → Came (Show name) bytes old new before after quiet untaken s
+  list_came name bytes le took (proper q j l) f = causes.listed (listing q.entry q.code q.initial) (q, j, refl) l f took
+  list_came name bytes le took (bad k first e idle) f = causes.bad_image k (inr (le, first)) e (record { files = f; put = idle; took = took })
+
+-- ---- what is told of the objects is narrowed
+
+module _ (old new : Seen) (before after : Stored) (quiet untaken quiet' untaken' : Type 0) (s : Status) (q : quiet → quiet') (u : untaken → untaken') where
+  idle_as : Idle before after quiet untaken → Idle before after quiet' untaken'
+  idle_as i = record { files = i.files; put = q i.put; took = u i.took }
+
+  ends_as : (parts : Parts) (limit : ℕ) → Ends parts limit old new quiet untaken s → Ends parts limit old new quiet' untaken' s
+  ends_as parts limit (shows o e r) = shows o e (record {
+    shown = r.shown;
+    silent = λ given nothing. let p = r.silent given nothing in (u p.0, p.1);
+    read_fault = r.read_fault;
+    write_fault = r.write_fault;
+  })
+  ends_as parts limit (running.no_memory e a b) = running.no_memory e (q a) (u b)
+
+  came_with : (command : Command) (bytes : List ℕ) → Came command bytes old new before after quiet untaken s → Came command bytes old new before after quiet' untaken' s
+  came_with command bytes (causes.refused fault h e i) = causes.refused fault h e (idle_as i)
+  came_with command bytes (causes.bad_image k h e i) = causes.bad_image k h e (idle_as i)
+  came_with command bytes (causes.kept name image h e k a b) = causes.kept name image h e k (q a) (u b)
+  came_with command bytes (causes.not_kept name image h e k r t a b) = causes.not_kept name image h e k r t (q a) (u b)
+  came_with command bytes (causes.not_kept_for_memory name image h e k a b) = causes.not_kept_for_memory name image h e k (q a) (u b)
+  came_with command bytes (causes.listed text h l f b) = causes.listed text h l f (u b)
+  came_with command bytes (causes.ran parts limit h ends f) = causes.ran parts limit h (ends_as parts limit ends) f
+  came_with command bytes (causes.no_memory e i) = causes.no_memory e (idle_as i)
+
+  pub obeyed_with : (command : Command) → Obeyed command old new before after quiet untaken s → Obeyed command old new before after quiet' untaken' s
+  obeyed_with command (causes.not_fetched n i) = causes.not_fetched n (idle_as i)
+  obeyed_with command (causes.fetched bytes h c) = causes.fetched bytes h (came_with command bytes c)
+
+-- the command of the code is that of the definition
+pub command_as : (old new : Seen) (before after : Stored) (quiet untaken : Type 0) (s : Status) (command : Command) (given wanted : commands.Command) → given ≡ wanted → command_is wanted ≡ command
+    → Obeyed command old new before after quiet untaken s → Obeyed (command_is given) old new before after quiet untaken s
+command_as old new before after quiet untaken s command given wanted e f o =
+    subst (λ (c : Command). Obeyed c old new before after quiet untaken s) (sym (ap command_is e ∙ f)) o
+
+-- a count that rose later rose from before, too
+pub rose_from : (a b c : ℕ) → a ≤ b → Rose b c → Rose a c
+rose_from a b c h (inl r) = inl (omega (arith, h, r))
+rose_from a b c h (inr r) = inr r

@@ -1,0 +1,15 @@
+use Rattle.std.proofs.Common.{◌≡◌}
+use Rattle.ckc_cli.specs.Running.{shows}
+use Rattle.ckc_cli.proofs.Shows.{ran_of}
+use Rattle.ckc_cli.proofs.run.run_view.Goals as goal
+
+pub returns-in-Ok-clause-ran : goal.returns-in-Ok-clause-ran
+returns-in-Ok-clause-ran g c = λ parts entry code initial.
+    let input = c.args.input.now in
+    let out = c.args.out.now in
+    let r = c.run.ensures in
+    shows c.run.result c.shown.ensures
+    (ran_of parts c.args.limit c.in-Ok.machine c.run.new.self (c.run.new.input ≡ input)
+    (record { left = g.S.Source.left input; written = g.O.Sink.written out; read_faults = g.S.Source.faults input; write_faults = g.O.Sink.faults out })
+    (record { left = g.S.Source.left c.run.new.input; written = g.O.Sink.written c.run.new.out; read_faults = g.S.Source.faults c.run.new.input; write_faults = g.O.Sink.faults c.run.new.out })
+    c.run.result (λ given. c.in-Ok.ensures.start parts given entry code initial) r.answer r.exact r.silent r.read_fault r.write_fault)

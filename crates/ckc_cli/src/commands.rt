@@ -1,0 +1,212 @@
+//! The commands, one function for each.
+ghost use Rattle.std.specs.Prelude.{◌≡◌, ℕ, ◌≤◌, List, Option, IsTrue, length};
+ghost use Rattle.ckc_lexer.specs.Cut.{longest_text};
+ghost use Rattle.ckc_cli.specs.Words as w;
+ghost use Rattle.ckc_cli.specs.Commanded.{command_is};
+ghost use Rattle.ckc_cli.specs.Commands.{longest_image};
+ghost use Rattle.ckc_cli.specs.Running.{Seen};
+ghost use Rattle.ckc_cli.specs.Causes.{Stored, Came, Obeyed};
+ghost use Rattle.ckc_cli.specs.Judging.{fault_status};
+ghost use Rattle.ckc_cli.specs.Fetching.{Fetches};
+
+use crate::build::build;
+use crate::front::Fault;
+use crate::run::{list_bytes, run_bytes};
+use crate::status::Status;
+use crate::words::Command;
+use ckc_base::{Pos, Refusal};
+use ckc_outside::{Fetched, Sink, Source, Store, StoreError};
+use std::alloc::Global;
+
+/// The most bytes that a text may have.
+const TEXT_LIMIT: u64 = 262_144;
+
+/// The most bytes that an image may have.
+const IMAGE_LIMIT: u64 = 33_550_356;
+
+/// Does what a command asks for.
+pub fn obey<'a, S: Source, O: Sink, F: Store>(
+    alloc: Global,
+    command: Command<'a>,
+    input: &mut S,
+    out: &mut O,
+    store: &mut F,
+) -> Status
+    ensures cause { Obeyed (command_is command.entry)
+        (record { left = S.left input.old; written = O.written out.old; read_faults = S.faults input.old; write_faults = O.faults out.old })
+        (record { left = S.left input.new; written = O.written out.new; read_faults = S.faults input.new; write_faults = O.faults out.new })
+        (record { files = F.files store.old; steady = F.steady store.old; faults = F.faults store.old })
+        (record { files = F.files store.new; steady = F.steady store.new; faults = F.faults store.new })
+        (out.new ≡ out.old) (input.new ≡ input.old) result }
+    ensures input_counts { S.faults input.old ≤ S.faults input.new }
+    ensures out_counts { O.faults out.old ≤ O.faults out.new }
+    ensures store_counts { F.faults store.old ≤ F.faults store.new }
+{
+    match command {
+        Command::Build(text, image) => build_text(alloc, text, image, store),
+        Command::Exec(text, limit) => exec_text(alloc, text, limit, input, out, store),
+        Command::Run(image, limit) => run_image(alloc, image, limit, input, out, store),
+        Command::List(image) => list_image(alloc, image, out, store),
+    }
+}
+
+/// `build TEXT IMAGE`
+fn build_text<F: Store>(alloc: Global, text: &str, image: &str, store: &mut F) -> Status
+    ensures cause { (seen : Seen) → Obeyed (w.Build text.now image.now) seen seen
+        (record { files = F.files store.old; steady = F.steady store.old; faults = F.faults store.old })
+        (record { files = F.files store.new; steady = F.steady store.new; faults = F.faults store.new })
+        (Unit {0}) (Unit {0}) result }
+    ensures counts { F.faults store.old ≤ F.faults store.new }
+{
+    match fetch(alloc, text, TEXT_LIMIT, store) {
+        Err(status) => status,
+        Ok(Fetched::Longer) => too_long(),
+        Ok(Fetched::Whole(bytes)) => build_bytes(alloc, bytes.as_slice(), image, store),
+    }
+}
+
+/// Builds a text and keeps its image.
+fn build_bytes<F: Store>(alloc: Global, bytes: &[u8], image: &str, store: &mut F) -> Status
+    requires { length bytes.now ≤ longest_text }
+    ensures cause { (text : List ℕ) (seen : Seen) (before : Stored) → before.files ≡ F.files store.old → before.faults ≤ F.faults store.old
+        → (IsTrue before.steady → IsTrue (F.steady store.old)) → Came (w.Build text image.now) bytes.now seen seen before
+        (record { files = F.files store.new; steady = F.steady store.new; faults = F.faults store.new })
+        (Unit {0}) (Unit {0}) result }
+    ensures counts { F.faults store.old ≤ F.faults store.new }
+{
+    match build(alloc, bytes) {
+        Err(fault) => status_of(fault),
+        Ok(built) => match store.keep(image, built.as_slice()) {
+            Ok(()) => Status::Done,
+            Err(StoreError::Failed) => Status::StoreFault,
+            Err(StoreError::Memory) => Status::Memory,
+        },
+    }
+}
+
+/// `exec TEXT [LIMIT]`
+fn exec_text<S: Source, O: Sink, F: Store>(
+    alloc: Global,
+    text: &str,
+    limit: u64,
+    input: &mut S,
+    out: &mut O,
+    store: &mut F,
+) -> Status
+    ensures cause { Obeyed (w.Exec text.now limit)
+        (record { left = S.left input.old; written = O.written out.old; read_faults = S.faults input.old; write_faults = O.faults out.old })
+        (record { left = S.left input.new; written = O.written out.new; read_faults = S.faults input.new; write_faults = O.faults out.new })
+        (record { files = F.files store.old; steady = F.steady store.old; faults = F.faults store.old })
+        (record { files = F.files store.new; steady = F.steady store.new; faults = F.faults store.new })
+        (out.new ≡ out.old) (input.new ≡ input.old) result }
+    ensures input_counts { S.faults input.old ≤ S.faults input.new }
+    ensures out_counts { O.faults out.old ≤ O.faults out.new }
+    ensures store_counts { F.faults store.old ≤ F.faults store.new }
+{
+    match fetch(alloc, text, TEXT_LIMIT, store) {
+        Err(status) => status,
+        Ok(Fetched::Longer) => too_long(),
+        Ok(Fetched::Whole(bytes)) => exec_bytes(alloc, bytes.as_slice(), limit, input, out),
+    }
+}
+
+/// Builds a text and runs its image.
+fn exec_bytes<S: Source, O: Sink>(
+    alloc: Global,
+    bytes: &[u8],
+    limit: u64,
+    input: &mut S,
+    out: &mut O,
+) -> Status
+    requires { length bytes.now ≤ longest_text }
+    ensures cause { (text : List ℕ) (before after : Stored) → after.files ≡ before.files → Came (w.Exec text limit) bytes.now
+        (record { left = S.left input.old; written = O.written out.old; read_faults = S.faults input.old; write_faults = O.faults out.old })
+        (record { left = S.left input.new; written = O.written out.new; read_faults = S.faults input.new; write_faults = O.faults out.new })
+        before after (out.new ≡ out.old) (input.new ≡ input.old) result }
+    ensures input_counts { S.faults input.old ≤ S.faults input.new }
+    ensures out_counts { O.faults out.old ≤ O.faults out.new }
+{
+    match build(alloc, bytes) {
+        Err(fault) => status_of(fault),
+        Ok(image) => run_bytes(alloc, image.as_slice(), limit, input, out),
+    }
+}
+
+/// `run IMAGE [LIMIT]`
+fn run_image<S: Source, O: Sink, F: Store>(
+    alloc: Global,
+    image: &str,
+    limit: u64,
+    input: &mut S,
+    out: &mut O,
+    store: &mut F,
+) -> Status
+    ensures cause { Obeyed (w.Run image.now limit)
+        (record { left = S.left input.old; written = O.written out.old; read_faults = S.faults input.old; write_faults = O.faults out.old })
+        (record { left = S.left input.new; written = O.written out.new; read_faults = S.faults input.new; write_faults = O.faults out.new })
+        (record { files = F.files store.old; steady = F.steady store.old; faults = F.faults store.old })
+        (record { files = F.files store.new; steady = F.steady store.new; faults = F.faults store.new })
+        (out.new ≡ out.old) (input.new ≡ input.old) result }
+    ensures input_counts { S.faults input.old ≤ S.faults input.new }
+    ensures out_counts { O.faults out.old ≤ O.faults out.new }
+    ensures store_counts { F.faults store.old ≤ F.faults store.new }
+{
+    match fetch(alloc, image, IMAGE_LIMIT, store) {
+        Err(status) => status,
+        Ok(Fetched::Longer) => Status::BadImage(3),
+        Ok(Fetched::Whole(bytes)) => run_bytes(alloc, bytes.as_slice(), limit, input, out),
+    }
+}
+
+/// `list IMAGE`
+fn list_image<O: Sink, F: Store>(alloc: Global, image: &str, out: &mut O, store: &mut F) -> Status
+    ensures cause { (left : Option (List ℕ)) (reads : ℕ) → Obeyed (w.Show image.now)
+        (record { left = left; written = O.written out.old; read_faults = reads; write_faults = O.faults out.old })
+        (record { left = left; written = O.written out.new; read_faults = reads; write_faults = O.faults out.new })
+        (record { files = F.files store.old; steady = F.steady store.old; faults = F.faults store.old })
+        (record { files = F.files store.new; steady = F.steady store.new; faults = F.faults store.new })
+        (out.new ≡ out.old) (Unit {0}) result }
+    ensures out_counts { O.faults out.old ≤ O.faults out.new }
+    ensures store_counts { F.faults store.old ≤ F.faults store.new }
+{
+    match fetch(alloc, image, IMAGE_LIMIT, store) {
+        Err(status) => status,
+        Ok(Fetched::Longer) => Status::BadImage(3),
+        Ok(Fetched::Whole(bytes)) => list_bytes(bytes.as_slice(), out),
+    }
+}
+
+/// The refusal of a text that is too long.
+fn too_long() -> Status
+    ensures { result ≡ Status.Refused (record { code = 201; pos = record { line = 1; col = 1 } }) }
+{
+    Status::Refused(Refusal {
+        code: 201,
+        pos: Pos { line: 1, col: 1 },
+    })
+}
+
+/// The status of a fault.
+fn status_of(fault: Fault) -> Status
+    ensures { result ≡ fault_status fault }
+{
+    match fault {
+        Fault::Refused(refusal) => Status::Refused(refusal),
+        Fault::Memory => Status::Memory,
+    }
+}
+
+/// What the store has under a name.
+fn fetch<F: Store>(alloc: Global, name: &str, limit: u64, store: &mut F) -> Result<Fetched, Status>
+    ensures fetches { Fetches name.now limit (record { files = F.files store.old; steady = F.steady store.old; faults = F.faults store.old })
+        (record { files = F.files store.new; steady = F.steady store.new; faults = F.faults store.new }) result }
+    ensures files { F.files store.new ≡ F.files store.old }
+    ensures steady { IsTrue (F.steady store.old) → IsTrue (F.steady store.new) }
+    ensures counts { F.faults store.old ≤ F.faults store.new }
+{
+    match store.fetch(alloc, name, limit) {
+        Ok(fetched) => Ok(fetched),
+        Err(StoreError::Failed) => Err(Status::StoreFault),
+        Err(StoreError::Memory) => Err(Status::Memory),
+    }
+}

@@ -1,0 +1,83 @@
+//! Running and listing the bytes of an image.
+ghost use Rattle.std.specs.Prelude.{◌≡◌, ◌≤◌};
+ghost use Rattle.ckc_rv.specs.Machine.{Parts};
+ghost use Rattle.ckc_asm.specs.Listing.{listing};
+ghost use Rattle.ckc_cli.specs.Running.{Ends, Listed, OverImage, status_of};
+
+use crate::status::Status;
+use ckc_asm::list;
+use ckc_image::View;
+use ckc_machine::{Machine, Observed};
+use ckc_outside::{Sink, Source};
+use std::alloc::Global;
+
+/// Runs the image that the bytes are, or says which part of them disagrees.
+pub fn run_bytes<S: Source, O: Sink>(
+    alloc: Global,
+    image: &[u8],
+    limit: u64,
+    input: &mut S,
+    out: &mut O,
+) -> Status
+    ensures over { OverImage image.now (λ parts. Ends parts limit
+        (record { left = S.left input.old; written = O.written out.old; read_faults = S.faults input.old; write_faults = O.faults out.old })
+        (record { left = S.left input.new; written = O.written out.new; read_faults = S.faults input.new; write_faults = O.faults out.new })
+        (out.new ≡ out.old) (input.new ≡ input.old) result) ((out.new ≡ out.old) × (input.new ≡ input.old)) result }
+    ensures input_counts { S.faults input.old ≤ S.faults input.new }
+    ensures out_counts { O.faults out.old ≤ O.faults out.new }
+{
+    match View::read(image) {
+        Err(bad) => Status::BadImage(bad.0),
+        Ok(view) => run_view(alloc, view, limit, input, out),
+    }
+}
+
+/// Runs an image.
+fn run_view<'a, S: Source, O: Sink>(
+    alloc: Global,
+    view: View<'a>,
+    limit: u64,
+    input: &mut S,
+    out: &mut O,
+) -> Status
+    ensures ran { (parts : Parts) → parts.entry ≡ view.entry.entry → parts.code ≡ view.entry.code.now → parts.initial ≡ view.entry.initial.now → Ends parts limit
+        (record { left = S.left input.old; written = O.written out.old; read_faults = S.faults input.old; write_faults = O.faults out.old })
+        (record { left = S.left input.new; written = O.written out.new; read_faults = S.faults input.new; write_faults = O.faults out.new })
+        (out.new ≡ out.old) (input.new ≡ input.old) result }
+    ensures input_counts { S.faults input.old ≤ S.faults input.new }
+    ensures out_counts { O.faults out.old ≤ O.faults out.new }
+{
+    match Machine::load(alloc, view) {
+        Err(_) => Status::Memory,
+        Ok(mut machine) => shown(machine.run(limit, input, out)),
+    }
+}
+
+/// The status of what a run shows.
+fn shown(observed: Observed) -> Status
+    ensures { result ≡ status_of observed }
+{
+    match observed {
+        Observed::Ended(value) => Status::Ended(value),
+        Observed::Stopped(check, pos) => Status::Stopped(check, pos),
+        Observed::Going => Status::Going,
+        Observed::Fault(kind, pc) => Status::MachineFault(kind, pc),
+        Observed::ReadFault => Status::ReadFault,
+        Observed::WriteFault => Status::WriteFault,
+    }
+}
+
+/// Puts the listing of the image that the bytes are, or says which part of them disagrees.
+pub fn list_bytes<O: Sink>(image: &[u8], out: &mut O) -> Status
+    ensures over { OverImage image.now (λ parts. Listed (listing parts.entry parts.code parts.initial) (O.written out.old) (O.written out.new)
+        (O.faults out.old) (O.faults out.new) result) (out.new ≡ out.old) result }
+    ensures out_counts { O.faults out.old ≤ O.faults out.new }
+{
+    match View::read(image) {
+        Err(bad) => Status::BadImage(bad.0),
+        Ok(view) => match list(view.entry, view.code, view.initial, out) {
+            Ok(()) => Status::Done,
+            Err(_) => Status::WriteFault,
+        },
+    }
+}
