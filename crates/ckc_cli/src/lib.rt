@@ -16,8 +16,7 @@ mod words;
 
 pub use ckc_machine::FaultKind;
 pub use laws::one_meaning;
+pub use line::Line;
+pub use report::report;
 pub use status::Status;
 pub use top::ccc;
-
-#[cfg(test)]
-mod tests;

@@ -3,8 +3,6 @@
 
 mod constants;
 mod declarators;
-#[cfg(test)]
-mod expression_tests;
 mod expressions;
 mod items;
 mod join;
@@ -17,8 +15,6 @@ mod parts;
 mod reader;
 mod statements;
 mod text;
-#[cfg(test)]
-mod text_tests;
 mod types;
 mod values;
 

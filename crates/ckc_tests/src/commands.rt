@@ -1,6 +1,6 @@
-use crate::report::report;
-use crate::{FaultKind, Status, ccc};
+//! `ccc` over the objects in memory.
 use ckc_base::{Check, Pos, Refusal};
+use ckc_cli::{FaultKind, Status, ccc, report};
 use ckc_outside::{Fetched, MemSink, MemSource, MemStore, Store};
 use std::alloc::Global;
 use std::process::Abort;

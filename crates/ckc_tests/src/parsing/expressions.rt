@@ -1,46 +1,22 @@
-use crate::kind::{Kind, keyword_kind, mark_kind};
-use crate::parts::Stop;
-use crate::reader::Reader;
-use ckc_base::{Pos, Seq};
-use ckc_syntax::{Expr, Node, Spelling, Token, TokenKind, TreeOp};
+use ckc_base::{Pos, Refusal};
+use ckc_lexer::lex;
+use ckc_parser::{ParseFault, parse};
+use ckc_syntax::{Act, Expr, Item, Node, Spelling, Tree, TreeOp};
 use std::alloc::{AllocError, Global};
 use std::test::Fail;
 
-/// A token by its spelling.
-fn token(word: &'static str, col: u32) -> Token<'static> {
-    let kind = match word {
-        "1" => TokenKind::Number(1, false),
-        "'c'" => TokenKind::Character(99),
-        "\"s\"" => TokenKind::Text,
-        _ => match keyword_kind(word) {
-            Kind::Other => match mark_kind(word) {
-                Kind::Other => TokenKind::Name,
-                _ => TokenKind::Mark,
-            },
-            _ => TokenKind::Keyword,
-        },
-    };
-    Token {
-        kind,
-        text: word,
-        pos: Pos { line: 1, col },
-    }
-}
-
-/// The tokens of words, ten columns apart. The word `>>` is two tokens, one directly behind the other.
-fn tokens(alloc: Global, words: &[&'static str]) -> Result<Seq<Token<'static>>, AllocError> {
-    let mut tokens = Seq::new(alloc);
-    let mut col: u32 = 1;
+/// A function that returns the expression: its words stand twenty columns apart in line 2.
+fn text_of(alloc: Global, words: &[&'static str]) -> Result<String, AllocError> {
+    let mut text = String::new(alloc);
+    text.push_str("int f(void) { return\n")?;
     for word in words {
-        if *word == ">>" {
-            tokens.push(token(">", col))?;
-            tokens.push(token(">", col.wrapping_add(1)))?;
-        } else {
-            tokens.push(token(word, col))?;
+        text.push_str(*word)?;
+        for _ in word.len()..20 {
+            text.push(' ')?;
         }
-        col = col.wrapping_add(10);
     }
-    Ok(tokens)
+    text.push_str("\n;}")?;
+    Ok(text)
 }
 
 /// What an expression is at its root, with the column of its place.
@@ -69,26 +45,40 @@ fn root(alloc: Global, e: &Expr<Spelling, ()>) -> Result<String, AllocError> {
     }
 }
 
+/// The expression that the one function returns.
+fn returned<'t, 'a>(tree: &'t Tree<Spelling<'a>, ()>) -> Option<&'t Expr<Spelling<'a>, ()>> {
+    let [Item::Function(_, body)] = tree.items.as_slice() else {
+        return None;
+    };
+    let Act::Block(None, statements) = &body.get().body else {
+        return None;
+    };
+    let [one] = statements.as_slice() else {
+        return None;
+    };
+    match &one.body {
+        Act::Return(Some(e)) => Some(e.get()),
+        _ => None,
+    }
+}
+
 /// The root of the expression that words are, or the column of the word at which reading stops. The end is at column
 /// 999.
 fn read(alloc: Global, words: &[&'static str]) -> Result<String, AllocError> {
-    let tokens = tokens(alloc, words)?;
-    let mut reader = Reader::new(tokens.as_slice());
-    let end = Pos { line: 1, col: 999 };
-    match reader.expr(alloc) {
-        Ok(e) => {
-            if reader.is_at_end() {
-                root(alloc, e.get())
-            } else {
-                let col = reader.refusal(end).pos.col;
-                format!(in alloc; "stops {col}")
-            }
-        }
-        Err(Stop::Syntax) => {
-            let col = reader.refusal(end).pos.col;
+    let text = text_of(alloc, words)?;
+    let Ok(tokens) = lex(alloc, text.as_bytes()) else {
+        return Err(AllocError);
+    };
+    match parse(alloc, tokens.as_slice(), Pos { line: 9, col: 1 }) {
+        Ok(tree) => match returned(&tree) {
+            Some(e) => root(alloc, e),
+            None => format!(in alloc; "nothing"),
+        },
+        Err(ParseFault::Refused(Refusal { code: _, pos })) => {
+            let col = if pos.line == 2 { pos.col } else { 999 };
             format!(in alloc; "stops {col}")
         }
-        Err(Stop::Memory) => format!(in alloc; "memory"),
+        Err(ParseFault::Memory) => Err(AllocError),
     }
 }
 
@@ -121,9 +111,9 @@ fn pairs_of_operators(rt: HostRuntime) -> Result<(), Fail> {
         for (second, tighter, other) in OPERATORS {
             let found = read(a, &["a", first, "b", second, "c"])?;
             let wanted = if tighter > tight {
-                format!(in a; "{op:?} 11")?
+                format!(in a; "{op:?} 21")?
             } else {
-                format!(in a; "{other:?} 31")?
+                format!(in a; "{other:?} 61")?
             };
             assert_eq!(&rt; found, wanted);
         }
@@ -135,10 +125,10 @@ fn pairs_of_operators(rt: HostRuntime) -> Result<(), Fail> {
 fn roots_and_stops(rt: HostRuntime) -> Result<(), Fail> {
     let a = rt.alloc();
     let table: [(&[&'static str], &str); 52] = [
-        (&[], "stops 999"),
+        (&[], "nothing"),
         (&["a"], "name 1"),
         (&["calloc"], "name 1"),
-        (&["count", "+", "bounds"], "Add 11"),
+        (&["count", "+", "bounds"], "Add 21"),
         (&["1"], "number 1 1"),
         (&["'c'"], "number 99 1"),
         (&["\"s\""], "text 1 1"),
@@ -152,40 +142,40 @@ fn roots_and_stops(rt: HostRuntime) -> Result<(), Fail> {
         (&["*", "a", "[", "1", "]"], "Deref 1"),
         (&["&", "a", "->", "m"], "Address 1"),
         (&["-"], "stops 999"),
-        (&["a", ".", "b", "->", "c", "[", "1", "]"], "index 51"),
-        (&["a", "[", "1", "]", "->", "c"], "arrow 41"),
-        (&["a", "[", "1", "]", ".", "c"], "dot 41"),
-        (&["a", "[", "]"], "stops 21"),
-        (&["a", "[", "1", ")"], "stops 31"),
-        (&["a", ".", "1"], "stops 21"),
-        (&["(", "a", ")"], "name 11"),
-        (&["(", "a", ")", ".", "m"], "dot 31"),
+        (&["a", ".", "b", "->", "c", "[", "1", "]"], "index 101"),
+        (&["a", "[", "1", "]", "->", "c"], "arrow 81"),
+        (&["a", "[", "1", "]", ".", "c"], "dot 81"),
+        (&["a", "[", "]"], "stops 41"),
+        (&["a", "[", "1", ")"], "stops 61"),
+        (&["a", ".", "1"], "stops 41"),
+        (&["(", "a", ")"], "name 21"),
+        (&["(", "a", ")", ".", "m"], "dot 61"),
         (&["(", "a"], "stops 999"),
-        (&["(", ")"], "stops 11"),
-        (&["(", "int", ")", "a", "+", "b"], "Add 41"),
+        (&["(", ")"], "stops 21"),
+        (&["(", "int", ")", "a", "+", "b"], "Add 81"),
         (&["(", "int", "*", ")", "-", "a"], "cast 1"),
         (&["(", "struct", "s", "*", ")", "a"], "cast 1"),
-        (&["(", "struct", ")", "a"], "stops 21"),
+        (&["(", "struct", ")", "a"], "stops 41"),
         (&["(", "unsigned", "int", ")", "a", ".", "m"], "cast 1"),
         (
             &["(", "_Ptr", "<", "_Ptr", "<", "int", ">>", ")", "a"],
             "cast 1",
         ),
-        (&["(", "_Ptr", "<", "int", ")", "a"], "stops 41"),
-        (&["(", "int", "a"], "stops 21"),
+        (&["(", "_Ptr", "<", "int", ")", "a"], "stops 81"),
+        (&["(", "int", "a"], "stops 41"),
         (&["sizeof", "(", "char", ")"], "size 1"),
-        (&["sizeof", "(", "a", ")"], "stops 21"),
-        (&["sizeof", "(", "char", ")", ".", "m"], "stops 41"),
-        (&["sizeof", "1"], "stops 11"),
-        (&["a", "?", "b", ":", "c", "?", "d", ":", "e"], "pick 11"),
-        (&["a", "||", "b", "?", "c", ":", "d"], "pick 31"),
-        (&["a", "?", "b", ",", "c"], "stops 31"),
-        (&["a", "?", ":", "c"], "stops 21"),
+        (&["sizeof", "(", "a", ")"], "stops 41"),
+        (&["sizeof", "(", "char", ")", ".", "m"], "stops 81"),
+        (&["sizeof", "1"], "stops 21"),
+        (&["a", "?", "b", ":", "c", "?", "d", ":", "e"], "pick 21"),
+        (&["a", "||", "b", "?", "c", ":", "d"], "pick 61"),
+        (&["a", "?", "b", ",", "c"], "stops 61"),
+        (&["a", "?", ":", "c"], "stops 41"),
         (&["a", "+"], "stops 999"),
-        (&["a", ">", ">", "b"], "stops 21"),
-        (&["a", "b"], "stops 11"),
-        (&["a", "(", ")"], "stops 11"),
-        (&["a", "=", "b"], "stops 11"),
+        (&["a", ">", ">", "b"], "stops 41"),
+        (&["a", "b"], "stops 21"),
+        (&["a", "(", ")"], "stops 21"),
+        (&["a", "=", "b"], "stops 21"),
         (
             &[
                 "_Assume_bounds_cast",
@@ -200,7 +190,7 @@ fn roots_and_stops(rt: HostRuntime) -> Result<(), Fail> {
                 "->",
                 "m",
             ],
-            "arrow 91",
+            "arrow 181",
         ),
         (
             &[
@@ -253,7 +243,7 @@ fn roots_and_stops(rt: HostRuntime) -> Result<(), Fail> {
                 "1",
                 ")",
             ],
-            "stops 121",
+            "stops 241",
         ),
     ];
     for (words, wanted) in table {
