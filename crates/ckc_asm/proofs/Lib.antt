@@ -6,3 +6,13 @@ pub mod Words
 pub mod Numbers
 pub mod Listed
 pub mod ReadBack
+pub mod Cutting
+pub mod Digits
+pub mod DataBytes
+pub mod StatementRows
+pub mod RowsBelow
+pub mod LabelsBelow
+pub mod LabelUses
+pub mod Judging
+pub mod Answer
+pub mod Shaped

@@ -27,14 +27,14 @@ both false b h = absurd (let z : false ≡ true = h in cc)
 and_true : (a b : Bool) → a ≡ true → b ≡ true → (a && b) ≡ true
 and_true a b p q = rw (p, q) refl
 
-none_of : (a b c : Bool) → not (a || b || c) ≡ true → (a ≡ false) × (b ≡ false) × (c ≡ false)
+pub none_of : (a b c : Bool) → not (a || b || c) ≡ true → (a ≡ false) × (b ≡ false) × (c ≡ false)
 none_of true b c h = absurd (let z : false ≡ true = h in cc)
 none_of false true c h = absurd (let z : false ≡ true = h in cc)
 none_of false false true h = absurd (let z : false ≡ true = h in cc)
 none_of false false false h = (refl, refl, refl)
 
 -- the first byte of a word
-cut_first : (col b : ℕ) (rest : List ℕ) → is_word_byte b ≡ true → cut col (b ∷ rest) ≡ cond (goes_on rest) (onto_word col b (cut (col + 1) rest)) (new_word col b (cut (col + 1) rest))
+pub cut_first : (col b : ℕ) (rest : List ℕ) → is_word_byte b ≡ true → cut col (b ∷ rest) ≡ cond (goes_on rest) (onto_word col b (cut (col + 1) rest)) (new_word col b (cut (col + 1) rest))
 unfolding cut
 cut_first col b rest h =
     let n = none_of (is_blank b) (is_mark b) (is_hash b) h in

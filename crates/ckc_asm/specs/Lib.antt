@@ -7,3 +7,7 @@ pub mod Cut
 pub mod Numerals
 pub mod Items
 pub mod Program
+pub mod Faults
+pub mod Outcome
+pub mod Rows
+pub mod Reading

@@ -1,3 +1,5 @@
+ghost use Rattle.std.specs.Prelude.{◌≡◌, ◌<◌, ◌≤◌, [], ◌∷◌, ◌++◌, length};
+
 use ckc_rv::{BranchOp, ImmOp, LoadOp, RegOp, StoreOp};
 use std::marker::Model;
 
@@ -72,4 +74,33 @@ impl Model for Sixteen {
     ghost view = { λ s. take s.len s.room };
 
     ghost invariant = { λ s. s.len ≤ 16 };
+}
+
+impl Sixteen {
+    /// No bytes.
+    pub fn new() -> Sixteen
+        ensures { result ≡ [] }
+    {
+        Sixteen {
+            room: [0; 16],
+            len: 0,
+        }
+    }
+
+    /// Adds a byte.
+    pub fn push(&mut self, byte: u8)
+        requires { length self.old < 16 }
+        ensures { self.new ≡ self.old ++ byte ∷ [] }
+    {
+        self.room[self.len] = byte;
+        self.len += 1;
+    }
+
+    /// The bytes.
+    pub fn as_slice(&self) -> &[u8]
+        ensures bytes { result.now ≡ self.now }
+        ensures few { length result.now ≤ 16 }
+    {
+        &self.room[..self.len]
+    }
 }

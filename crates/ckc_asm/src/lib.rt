@@ -2,17 +2,33 @@
 #![tactic(auto)]
 
 mod assembler;
+mod code;
+mod encoding;
+mod fault;
+mod image;
+mod item_reader;
 mod items;
+mod kinds;
+mod labels;
+mod laws;
 mod lines;
 mod lister;
 mod names;
+mod numerals;
 mod places;
+mod reader;
+mod shapes;
+mod spots;
+mod statements;
 mod text_line;
 mod texts;
 
 pub use assembler::assemble;
+pub use fault::AsmFault;
+pub use laws::one_answer;
 pub use lines::{Labelled, Line};
 pub use lister::list;
+pub use reader::read_asm;
 
 #[cfg(test)]
 mod tests;
