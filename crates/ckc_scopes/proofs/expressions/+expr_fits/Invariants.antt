@@ -1,0 +1,10 @@
+use Rattle.std.proofs.Common.{◌≡◌, drop}
+use Rattle.std.specs.Prelude.{flat_map}
+use Rattle.ckc_typed.specs.Walk.{spots_of_expr}
+use Rattle.ckc_scopes.specs.Verdict.{verdict}
+use Rattle.ckc_scopes.proofs.expressions.+expr_fits.Given as goal
+
+-- what is left gives what the whole gives
+abbrev pub invariant-exprs_fit-loop-e : goal.invariant-exprs_fit-loop-e
+invariant-exprs_fit-loop-e l =
+    verdict l.items (flat_map spots_of_expr l.es) ≡ verdict l.items (flat_map spots_of_expr (drop l.e-index l.es))
