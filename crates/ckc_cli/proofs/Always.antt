@@ -7,11 +7,12 @@ use Rattle.ckc_rv.specs.Machine.{Parts}
 use Rattle.ckc_machine.specs.declared.observed.Observed.{Observed}
 use Rattle.ckc_cli.specs.declared.status.Status.{Status}
 use Rattle.ckc_cli.specs.declared.status.Status.TheVariants as status
-use Rattle.ckc_cli.specs.Words.{Command, Build, Exec, Run, Show, Reads}
+use Rattle.ckc_cli.specs.Words.{Command, Build, Assemble, Exec, Run, Show, Reads}
 use Rattle.ckc_cli.specs.Commands.{name_of, BadBytes, Refuses, IsBad, Keeps, Lists, Executes}
 use Rattle.ckc_cli.specs.Running.{Seen, Ran, status_of}
 use Rattle.ckc_cli.specs.Causes.{Stored, Holds, StoreIsFine, Given}
 use Rattle.ckc_cli.proofs.Exact.{phases_exact}
+use Rattle.ckc_cli.proofs.Assembling.{fault_once}
 use Rattle.ckc_cli.proofs.OneTask.{one_bad, not_Refuses_IsBad, not_Refuses_Keeps, not_Refuses_Lists, not_Refuses_Executes, not_IsBad_Keeps, not_IsBad_Lists, not_IsBad_Executes, not_Keeps_Lists, not_Keeps_Executes, not_Lists_Executes}
 use Rattle.ckc_cli.proofs.Wording.{reads_once}
 use Rattle.ckc_cli.proofs.Statuses as by
@@ -19,6 +20,7 @@ use Rattle.ckc_cli.proofs.Statuses.{not_shown, by_usage, by_store, by_refusal, b
 
 refuses_once : (command : Command) (bytes : List ℕ) (fault other : Refusal) → Refuses command bytes fault → Refuses command bytes other → fault ≡ other
 refuses_once (Build text image) bytes fault other p q = phases_exact.fault_once bytes fault other p q
+refuses_once (Assemble text image) bytes fault other p q = fault_once bytes fault other p q
 refuses_once (Exec text limit) bytes fault other p q = phases_exact.fault_once bytes fault other p q
 refuses_once (Run image limit) bytes fault other p q = absurd p
 refuses_once (Show image) bytes fault other p q = absurd p
@@ -31,6 +33,7 @@ bad_bytes_once bytes k j (inr p) (inr q) = one_bad bytes k j p.1 q.1
 
 bad_once : (command : Command) (bytes : List ℕ) (k j : ℕ) → IsBad command bytes k → IsBad command bytes j → k ≡ j
 bad_once (Build text image) bytes k j p q = absurd p
+bad_once (Assemble text image) bytes k j p q = absurd p
 bad_once (Exec text limit) bytes k j p q = absurd p
 bad_once (Run image limit) bytes k j p q = bad_bytes_once bytes k j p q
 bad_once (Show image) bytes k j p q = bad_bytes_once bytes k j p q

@@ -79,8 +79,8 @@ module _ (words : List (List ℕ)) (old new : Seen) (before after : Stored) (qui
       exec_always s (by_refusal command r bytes h fault x e i) =
           absurd (phases_exact.not_both text m fault a (moved (λ c b. Refuses c b fault) command bytes (same_command command r) (same_bytes command bytes r h) x))
       exec_always s (by_bad command r bytes h k x e i) = absurd (moved (λ c b. IsBad c b k) command bytes (same_command command r) (same_bytes command bytes r h) x)
-      exec_always s (by_keeping command r bytes h place image x e k b c) = absurd (moved (λ c b. Keeps c b place image) command bytes (same_command command r) (same_bytes command bytes r h) x)
-      exec_always s (by_not_keeping command r bytes h place image x e k rose t b c) = absurd (moved (λ c b. Keeps c b place image) command bytes (same_command command r) (same_bytes command bytes r h) x)
+      exec_always s (by_keeping command r bytes h place image x e k b c) = absurd ((moved (λ c b. Keeps c b place image) command bytes (same_command command r) (same_bytes command bytes r h) x).1.1)
+      exec_always s (by_not_keeping command r bytes h place image x e k rose t b c) = absurd ((moved (λ c b. Keeps c b place image) command bytes (same_command command r) (same_bytes command bytes r h) x).1.1)
       exec_always s (by_memory command r e b c f) = inr e
       exec_always s (by_keeping_memory command r bytes h place image x e k b c) = inr e
       exec_always s (by_listing command r bytes h listing x e p f b) = absurd (moved (λ c b. Lists c b listing) command bytes (same_command command r) (same_bytes command bytes r h) x)

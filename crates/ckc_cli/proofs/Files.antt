@@ -1,5 +1,5 @@
 -- What is left of the files.
-use Rattle.std.proofs.Common.{◌≡◌, ◌≢◌, ℕ, Bool, true, false, cond, List, Some, Result, Ok, Err, refl, sym, ap, subst, ◌∙◌}
+use Rattle.std.proofs.Common.{◌≡◌, ◌≢◌, ℕ, Bool, true, false, cond, List, Some, Result, Ok, Err, refl, sym, ap, ◌∙◌}
 use Rattle.std.specs.FinMap as fin
 use Rattle.std.specs.Str.{bytes_eq}
 use Rattle.std.specs.Ordering.{nat_cmp, eq_by_cmp}
@@ -13,8 +13,8 @@ use Rattle.ckc_outside.specs.declared.traits.StoreError.TheVariants as error
 use Rattle.ckc_outside.specs.Outside.{Files}
 use Rattle.ckc_cli.specs.declared.status.Status.{Status}
 use Rattle.ckc_cli.specs.declared.status.Status.TheVariants as status
-use Rattle.ckc_cli.specs.Words.{Command, Build, Exec, Run, Show, Reads}
-use Rattle.ckc_cli.specs.Commands.{Keeps}
+use Rattle.ckc_cli.specs.Words.{Command, Reads}
+use Rattle.ckc_cli.specs.Commands.{kept_name, AsksToKeep, Keeps}
 use Rattle.ckc_cli.specs.Running.{Seen}
 use Rattle.ckc_cli.specs.Causes.{Stored, Kept, KeepsOthers}
 use Rattle.ckc_cli.proofs.Wording.{reads_once}
@@ -36,36 +36,29 @@ others_same : (here : Files) (name bytes other : List ℕ) → other ≢ name �
 others_same here name bytes other n =
     fin.get-insert nat_list_cmp_total here name bytes other ∙ ap (λ b. cond b (Some bytes) (fin.get here other)) (apart name other n)
 
--- what keeps is a build
-is_build : (command : Command) (bytes name image : List ℕ) → Keeps command bytes name image → (text : List ℕ) × (command ≡ Build text name)
-is_build (Build text target) bytes name image k = (text, ap (λ n. Build text n) (sym k.0))
-is_build (Exec text limit) bytes name image k = absurd k
-is_build (Run place limit) bytes name image k = absurd k
-is_build (Show place) bytes name image k = absurd k
-
-same_target : (text name other target : List ℕ) → Build text name ≡ Build other target → name ≡ target
-same_target text name other target e = cc
+same_name : (a b : List ℕ) → Some a ≡ Some b → a ≡ b
+same_name a b e = cc
 
 module _ (words : List (List ℕ)) (old new : Seen) (before after : Stored) (quiet untaken unasked : Type 0) (same : unasked → after.files ≡ before.files) where
   abbrev Leaf : Status → Type 0
   Leaf s = by.Leaf words old new before after quiet untaken unasked s
 
-  -- a command that keeps nothing
+  -- no name is asked for
   abbrev KeepsNothing : Type 0
-  KeepsNothing = (text image : List ℕ) → ¬ Reads words (Build text image)
+  KeepsNothing = (name : List ℕ) → ¬ AsksToKeep words name
 
-  not_build : (command : Command) (bytes name image : List ℕ) → Keeps command bytes name image → Reads words command → KeepsNothing → ⊥
-  not_build command bytes name image k r none = let b = is_build command bytes name image k in none b.0 name (subst (Reads words) b.1 r)
+  not_asked : (command : Command) (bytes name image : List ℕ) → Keeps command bytes name image → Reads words command → KeepsNothing → ⊥
+  not_asked command bytes name image k r none = none name (command, r, k.0)
 
   pub files_same : (s : Status) → Leaf s → KeepsNothing → after.files ≡ before.files
   files_same s (by_usage none e a b k) n = same k
   files_same s (by_store command r rose lacks e i) n = i.files
   files_same s (by_refusal command r bytes h fault x e i) n = i.files
   files_same s (by_bad command r bytes h k x e i) n = i.files
-  files_same s (by_keeping command r bytes h name image x e k a b) n = absurd (not_build command bytes name image x r n)
-  files_same s (by_not_keeping command r bytes h name image x e k rose t a b) n = absurd (not_build command bytes name image x r n)
+  files_same s (by_keeping command r bytes h name image x e k a b) n = absurd (not_asked command bytes name image x r n)
+  files_same s (by_not_keeping command r bytes h name image x e k rose t a b) n = absurd (not_asked command bytes name image x r n)
   files_same s (by_memory command' r e a b f) n = f
-  files_same s (by_keeping_memory command r bytes h name image x e k a b) n = absurd (not_build command bytes name image x r n)
+  files_same s (by_keeping_memory command r bytes h name image x e k a b) n = absurd (not_asked command bytes name image x r n)
   files_same s (by_listing command r bytes h text x e p f b) n = f
   files_same s (by_cut_listing command r bytes h text x e rose p f b) n = f
   files_same s (by_running command r bytes h parts limit x o e ran f) n = f
@@ -90,20 +83,19 @@ module _ (words : List (List ℕ)) (old new : Seen) (before after : Stored) (qui
   kept_one target name image (Ok done) e k = λ here told. (fin.insert here name image, k here told, λ other n. others_same here name image other (λ q. n (q ∙ e)))
   kept_one target name image (Err fault) e k = λ here told. let p = k here told in (p.0, p.1, λ other n. p.2 other (λ q. n (q ∙ e)))
 
-  target_is : (command : Command) (bytes name image text target : List ℕ) → Keeps command bytes name image → Reads words command → Reads words (Build text target) → name ≡ target
-  target_is command bytes name image text target k r w =
-      let b = is_build command bytes name image k in
-      same_target b.0 name text target (sym b.1 ∙ reads_once words command (Build text target) r w)
+  target_is : (command : Command) (bytes name image target : List ℕ) → Keeps command bytes name image → Reads words command → AsksToKeep words target → name ≡ target
+  target_is command bytes name image target k r asked =
+      same_name name target (sym k.0 ∙ ap kept_name (reads_once words command asked.0 r asked.1) ∙ asked.2)
 
-  pub others_kept : (s : Status) → Leaf s → (text target : List ℕ) → Reads words (Build text target) → KeepsOthers target before.files after.files
-  others_kept s (by_usage none e a b k) text target w = unchanged target (same k)
-  others_kept s (by_store command r rose lacks e i) text target w = unchanged target i.files
-  others_kept s (by_refusal command r bytes h fault x e i) text target w = unchanged target i.files
-  others_kept s (by_bad command r bytes h k x e i) text target w = unchanged target i.files
-  others_kept s (by_keeping command r bytes h name image x e k a b) text target w = kept_one target name image (Ok tt) (target_is command bytes name image text target x r w) k
-  others_kept s (by_not_keeping command r bytes h name image x e k rose t a b) text target w = kept_one target name image (Err error.Failed) (target_is command bytes name image text target x r w) k
-  others_kept s (by_memory command' r e a b f) text target w = unchanged target f
-  others_kept s (by_keeping_memory command r bytes h name image x e k a b) text target w = kept_one target name image (Err error.Memory) (target_is command bytes name image text target x r w) k
-  others_kept s (by_listing command r bytes h text' x e p f b) text target w = unchanged target f
-  others_kept s (by_cut_listing command r bytes h text' x e rose p f b) text target w = unchanged target f
-  others_kept s (by_running command r bytes h parts limit x o e ran f) text target w = unchanged target f
+  pub others_kept : (s : Status) → Leaf s → (target : List ℕ) → AsksToKeep words target → KeepsOthers target before.files after.files
+  others_kept s (by_usage none e a b k) target w = unchanged target (same k)
+  others_kept s (by_store command r rose lacks e i) target w = unchanged target i.files
+  others_kept s (by_refusal command r bytes h fault x e i) target w = unchanged target i.files
+  others_kept s (by_bad command r bytes h k x e i) target w = unchanged target i.files
+  others_kept s (by_keeping command r bytes h name image x e k a b) target w = kept_one target name image (Ok tt) (target_is command bytes name image target x r w) k
+  others_kept s (by_not_keeping command r bytes h name image x e k rose t a b) target w = kept_one target name image (Err error.Failed) (target_is command bytes name image target x r w) k
+  others_kept s (by_memory command' r e a b f) target w = unchanged target f
+  others_kept s (by_keeping_memory command r bytes h name image x e k a b) target w = kept_one target name image (Err error.Memory) (target_is command bytes name image target x r w) k
+  others_kept s (by_listing command r bytes h text x e p f b) target w = unchanged target f
+  others_kept s (by_cut_listing command r bytes h text' x e rose p f b) target w = unchanged target f
+  others_kept s (by_running command r bytes h parts limit x o e ran f) target w = unchanged target f

@@ -1,20 +1,35 @@
 -- What the commands make of the bytes that they fetch.
-use Rattle.std.specs.Prelude.{◌≡◌, ◌⊎◌, ℕ, ◌<◌, ◌≤◌, List, length}
+use Rattle.std.specs.Prelude.{◌≡◌, ◌⊎◌, ℕ, ◌<◌, ◌≤◌, List, length, Option, None, Some}
 use Rattle.ckc_base.specs.declared.places.Refusal.{Refusal}
 use Rattle.ckc_base.specs.Follows.{Follows}
 use Rattle.ckc_rv.specs.Machine.{Parts, machine}
 use Rattle.ckc_image.specs.Image.{ImageOf, FirstBad}
 use Rattle.ckc_asm.specs.Listing.{listing}
-use Rattle.ckc_cli.specs.Words.{Command, Build, Exec, Run, Show}
+use Rattle.ckc_asm.specs.Program.{AsmOf}
+use Rattle.ckc_asm.specs.Faults.{longest_text, IsFirstFault}
+use Rattle.ckc_cli.specs.Words.{Command, Build, Assemble, Exec, Run, Show, Reads}
 use Rattle.ckc_cli.specs.Accepted.{Meaning, Accepted, FirstFault}
 use Rattle.ckc_cli.specs.Source.{source, AreBytes}
 
 -- the name whose bytes are fetched
 abbrev pub name_of : Command → List ℕ
 name_of (Build text image) = text
+name_of (Assemble text image) = text
 name_of (Exec text limit) = text
 name_of (Run image limit) = image
 name_of (Show image) = image
+
+-- the name under which an image is kept, where the command keeps one
+abbrev pub kept_name : Command → Option (List ℕ)
+kept_name (Build text image) = Some image
+kept_name (Assemble text image) = Some image
+kept_name (Exec text limit) = None
+kept_name (Run image limit) = None
+kept_name (Show image) = None
+
+-- the words are those of a command that keeps an image under the name
+abbrev pub AsksToKeep : List (List ℕ) → List ℕ → Type 0
+AsksToKeep words name = (command : Command) × Reads words command × (kept_name command ≡ Some name)
 
 -- the longest image, in bytes
 abbrev pub longest_image : ℕ
@@ -34,9 +49,14 @@ pub record Built (text : List ℕ) (parts : Parts) : Type 0 where
   pub accepted : Accepted text meaning
   pub follows : (input : List ℕ) → AreBytes input → Follows (source meaning) (machine parts input) 4
 
+-- The text is assembly of the parts, and not too long.
+abbrev pub Assembles : List ℕ → Parts → Type 0
+Assembles text parts = (length text ≤ longest_text) × AsmOf text parts.entry parts.code parts.initial
+
 -- the text is refused
 abbrev pub Refuses : Command → List ℕ → Refusal → Type 0
 Refuses (Build text image) bytes fault = FirstFault bytes fault
+Refuses (Assemble text image) bytes fault = IsFirstFault bytes fault.code fault.pos
 Refuses (Exec text limit) bytes fault = FirstFault bytes fault
 Refuses (Run image limit) bytes fault = ⊥
 Refuses (Show image) bytes fault = ⊥
@@ -44,20 +64,27 @@ Refuses (Show image) bytes fault = ⊥
 -- the bytes are no image
 abbrev pub IsBad : Command → List ℕ → ℕ → Type 0
 IsBad (Build text image) bytes k = ⊥
+IsBad (Assemble text image) bytes k = ⊥
 IsBad (Exec text limit) bytes k = ⊥
 IsBad (Run image limit) bytes k = BadBytes bytes k
 IsBad (Show image) bytes k = BadBytes bytes k
 
--- an image is kept under a name
+-- the parts are those that the command makes of the text, to keep them
+abbrev pub Makes : Command → List ℕ → Parts → Type 0
+Makes (Build text image) bytes parts = Built bytes parts
+Makes (Assemble text image) bytes parts = Assembles bytes parts
+Makes (Exec text limit) bytes parts = ⊥
+Makes (Run image limit) bytes parts = ⊥
+Makes (Show image) bytes parts = ⊥
+
+-- an image of these parts is kept under a name
 abbrev pub Keeps : Command → List ℕ → List ℕ → List ℕ → Type 0
-Keeps (Build text image) bytes name kept = (name ≡ image) × ((parts : Parts) × Built bytes parts × IsImage kept parts)
-Keeps (Exec text limit) bytes name kept = ⊥
-Keeps (Run image limit) bytes name kept = ⊥
-Keeps (Show image) bytes name kept = ⊥
+Keeps command bytes name kept = (kept_name command ≡ Some name) × ((parts : Parts) × Makes command bytes parts × IsImage kept parts)
 
 -- a listing is put
 abbrev pub Lists : Command → List ℕ → List ℕ → Type 0
 Lists (Build text image) bytes text' = ⊥
+Lists (Assemble text image) bytes text' = ⊥
 Lists (Exec text limit) bytes text' = ⊥
 Lists (Run image limit) bytes text' = ⊥
 Lists (Show image) bytes text = (parts : Parts) × IsImage bytes parts × (text ≡ listing parts.entry parts.code parts.initial)
@@ -65,6 +92,7 @@ Lists (Show image) bytes text = (parts : Parts) × IsImage bytes parts × (text 
 -- the machine of an image is run
 abbrev pub Executes : Command → List ℕ → Parts → ℕ → Type 0
 Executes (Build text image) bytes parts most = ⊥
+Executes (Assemble text image) bytes parts most = ⊥
 Executes (Exec text limit) bytes parts most = (most ≡ limit) × Built bytes parts
 Executes (Run image limit) bytes parts most = (most ≡ limit) × IsImage bytes parts
 Executes (Show image) bytes parts most = ⊥

@@ -7,6 +7,7 @@ use Rattle.std.specs.declared.alloc.Global.{Global}
 -- What the words ask for, with the names of files and the most instructions that are executed.
 pub data Command : Type 0 where
   Build : (text image : List ℕ) → Command
+  Assemble : (text image : List ℕ) → Command
   Exec : (text : List ℕ) (limit : ℕ) → Command
   Run : (image : List ℕ) (limit : ℕ) → Command
   Show : (image : List ℕ) → Command
@@ -30,6 +31,7 @@ NameAndLimit words name limit =
 -- the first word of a command
 abbrev pub keyword : Command → List ℕ
 keyword (Build text image) = codes "build"
+keyword (Assemble text image) = codes "asm"
 keyword (Exec text limit) = codes "exec"
 keyword (Run image limit) = codes "run"
 keyword (Show image) = codes "list"
@@ -37,6 +39,7 @@ keyword (Show image) = codes "list"
 -- the other words
 abbrev pub Arguments : List (List ℕ) → Command → Type 0
 Arguments words (Build text image) = words ≡ text ∷ image ∷ []
+Arguments words (Assemble text image) = words ≡ text ∷ image ∷ []
 Arguments words (Exec text limit) = NameAndLimit words text limit
 Arguments words (Run image limit) = NameAndLimit words image limit
 Arguments words (Show image) = words ≡ image ∷ []

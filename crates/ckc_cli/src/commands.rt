@@ -3,12 +3,13 @@ ghost use Rattle.std.specs.Prelude.{◌≡◌, ℕ, ◌≤◌, List, Option, IsT
 ghost use Rattle.ckc_lexer.specs.Cut.{longest_text};
 ghost use Rattle.ckc_cli.specs.Words as w;
 ghost use Rattle.ckc_cli.specs.Commanded.{command_is};
-ghost use Rattle.ckc_cli.specs.Commands.{longest_image};
+ghost use Rattle.ckc_cli.specs.Commands.{longest_image, Keeps};
 ghost use Rattle.ckc_cli.specs.Running.{Seen};
 ghost use Rattle.ckc_cli.specs.Causes.{Stored, Came, Obeyed};
 ghost use Rattle.ckc_cli.specs.Judging.{fault_status};
 ghost use Rattle.ckc_cli.specs.Fetching.{Fetches};
 
+use crate::assembly::assemble;
 use crate::build::build;
 use crate::front::Fault;
 use crate::run::{list_bytes, run_bytes};
@@ -44,6 +45,7 @@ pub fn obey<'a, S: Source, O: Sink, F: Store>(
 {
     match command {
         Command::Build(text, image) => build_text(alloc, text, image, store),
+        Command::Assemble(text, image) => assemble_text(alloc, text, image, store),
         Command::Exec(text, limit) => exec_text(alloc, text, limit, input, out, store),
         Command::Run(image, limit) => run_image(alloc, image, limit, input, out, store),
         Command::List(image) => list_image(alloc, image, out, store),
@@ -76,11 +78,52 @@ fn build_bytes<F: Store>(alloc: Global, bytes: &[u8], image: &str, store: &mut F
 {
     match build(alloc, bytes) {
         Err(fault) => status_of(fault),
-        Ok(built) => match store.keep(image, built.as_slice()) {
-            Ok(()) => Status::Done,
-            Err(StoreError::Failed) => Status::StoreFault,
-            Err(StoreError::Memory) => Status::Memory,
-        },
+        Ok(built) => keep_image(image, built.as_slice(), store),
+    }
+}
+
+/// `asm TEXT IMAGE`
+fn assemble_text<F: Store>(alloc: Global, text: &str, image: &str, store: &mut F) -> Status
+    ensures cause { (seen : Seen) → Obeyed (w.Assemble text.now image.now) seen seen
+        (record { files = F.files store.old; steady = F.steady store.old; faults = F.faults store.old })
+        (record { files = F.files store.new; steady = F.steady store.new; faults = F.faults store.new })
+        (Unit {0}) (Unit {0}) result }
+    ensures counts { F.faults store.old ≤ F.faults store.new }
+{
+    match fetch(alloc, text, TEXT_LIMIT, store) {
+        Err(status) => status,
+        Ok(Fetched::Longer) => too_long(),
+        Ok(Fetched::Whole(bytes)) => assemble_bytes(alloc, bytes.as_slice(), image, store),
+    }
+}
+
+/// Assembles a text and keeps its image.
+fn assemble_bytes<F: Store>(alloc: Global, bytes: &[u8], image: &str, store: &mut F) -> Status
+    ensures cause { (text : List ℕ) (seen : Seen) (before : Stored) → before.files ≡ F.files store.old → before.faults ≤ F.faults store.old
+        → (IsTrue before.steady → IsTrue (F.steady store.old)) → Came (w.Assemble text image.now) bytes.now seen seen before
+        (record { files = F.files store.new; steady = F.steady store.new; faults = F.faults store.new })
+        (Unit {0}) (Unit {0}) result }
+    ensures counts { F.faults store.old ≤ F.faults store.new }
+{
+    match assemble(alloc, bytes) {
+        Err(fault) => status_of(fault),
+        Ok(assembled) => keep_image(image, assembled.as_slice(), store),
+    }
+}
+
+/// Keeps an image under its name, last of all.
+fn keep_image<F: Store>(name: &str, image: &[u8], store: &mut F) -> Status
+    ensures cause { (command : w.Command) (bytes : List ℕ) (seen : Seen) (before : Stored) → Keeps command bytes name.now image.now
+        → before.files ≡ F.files store.old → before.faults ≤ F.faults store.old → (IsTrue before.steady → IsTrue (F.steady store.old))
+        → Came command bytes seen seen before
+        (record { files = F.files store.new; steady = F.steady store.new; faults = F.faults store.new })
+        (Unit {0}) (Unit {0}) result }
+    ensures counts { F.faults store.old ≤ F.faults store.new }
+{
+    match store.keep(name, image) {
+        Ok(()) => Status::Done,
+        Err(StoreError::Failed) => Status::StoreFault,
+        Err(StoreError::Memory) => Status::Memory,
     }
 }
 

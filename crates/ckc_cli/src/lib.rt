@@ -1,6 +1,7 @@
 //! The top call of the compiler: from the words of the command line and the objects of the outside to a status.
 #![tactic(auto)]
 
+mod assembly;
 mod build;
 mod commands;
 mod compiler;
@@ -8,7 +9,7 @@ mod form;
 mod front;
 mod laws;
 mod line;
-mod report;
+mod reporting;
 mod run;
 mod status;
 mod top;
@@ -17,6 +18,6 @@ mod words;
 pub use ckc_machine::FaultKind;
 pub use laws::one_meaning;
 pub use line::Line;
-pub use report::report;
+pub use reporting::report;
 pub use status::Status;
 pub use top::ccc;

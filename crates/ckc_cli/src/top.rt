@@ -7,14 +7,14 @@ ghost use Rattle.ckc_machine.specs.declared.observed.Observed.{Observed};
 ghost use Rattle.ckc_machine.specs.declared.observed.FaultKind.{FaultKind};
 ghost use Rattle.ckc_cli.specs.Accepted.{Meaning, Accepted};
 ghost use Rattle.ckc_cli.specs.Source.{source};
-ghost use Rattle.ckc_cli.specs.Words.{Command, Build, Exec, Reads, bytes_of};
-ghost use Rattle.ckc_cli.specs.Commands.{Refuses, IsBad, Keeps, Lists, Executes};
+ghost use Rattle.ckc_cli.specs.Words.{Command, Exec, Reads, bytes_of};
+ghost use Rattle.ckc_cli.specs.Commands.{Refuses, IsBad, Keeps, Lists, Executes, AsksToKeep};
 ghost use Rattle.ckc_cli.specs.Running.{Ran, status_of, shows_run};
 ghost use Rattle.ckc_cli.specs.Report.{report_of};
 ghost use Rattle.ckc_cli.specs.Causes.{Caused, Over, Given, StoreIsFine, IsDone, IsShown, IsCutShort, EndsAsMeant, KeepsOthers, Reported, puts_after};
 
 use crate::commands::obey;
-use crate::report::report;
+use crate::reporting::report;
 use crate::status::Status;
 use crate::words::command_of;
 use ckc_outside::{Sink, Source, Store};
@@ -100,8 +100,8 @@ pub fn ccc<S: Source, O: Sink, E: Sink, F: Store>(
 
     // What the call leaves.
     ensures idle { shows_run result ≡ false → result ≢ Status.Done → (out.new ≡ out.old) × (input.new ≡ input.old) }
-    ensures files { ((text image : List ℕ) → ¬ Reads (bytes_of words.now) (Build text image)) → F.files store.new ≡ F.files store.old }
-    ensures others { (text image : List ℕ) → Reads (bytes_of words.now) (Build text image) → KeepsOthers image (F.files store.old) (F.files store.new) }
+    ensures files { ((name : List ℕ) → ¬ AsksToKeep (bytes_of words.now) name) → F.files store.new ≡ F.files store.old }
+    ensures others { (name : List ℕ) → AsksToKeep (bytes_of words.now) name → KeepsOthers name (F.files store.old) (F.files store.new) }
     ensures refused_keeps { result ≢ Status.Done → result ≢ Status.StoreFault → result ≢ Status.Memory → F.files store.new ≡ F.files store.old }
     ensures input_counts { S.faults input.old ≤ S.faults input.new }
     ensures out_counts { O.faults out.old ≤ O.faults out.new }

@@ -8,6 +8,7 @@ ghost use Rattle.ckc_cli.specs.Commanded.{command_is, spelling, HasArguments, Is
 #[derive(Clone, Copy, Debug)]
 pub enum Command<'a> {
     Build(&'a str, &'a str),
+    Assemble(&'a str, &'a str),
     Exec(&'a str, u64),
     Run(&'a str, u64),
     List(&'a str),
@@ -17,6 +18,7 @@ pub enum Command<'a> {
 #[derive(Clone, Copy, Debug)]
 enum Keyword {
     Build,
+    Assemble,
     Exec,
     Run,
     List,
@@ -44,6 +46,7 @@ fn keyword_of(name: &str) -> Option<Keyword>
 {
     match name {
         "build" => Some(Keyword::Build),
+        "asm" => Some(Keyword::Assemble),
         "exec" => Some(Keyword::Exec),
         "run" => Some(Keyword::Run),
         "list" => Some(Keyword::List),
@@ -60,6 +63,10 @@ fn command_with(keyword: Keyword, more: &[String]) -> Option<Command<'_>>
         Keyword::Build => match two_names(more) {
             None => None,
             Some((text, image)) => Some(Command::Build(text, image)),
+        },
+        Keyword::Assemble => match two_names(more) {
+            None => None,
+            Some((text, image)) => Some(Command::Assemble(text, image)),
         },
         Keyword::Exec => match name_and_limit(more) {
             None => None,

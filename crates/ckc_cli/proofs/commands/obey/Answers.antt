@@ -1,5 +1,5 @@
 use Rattle.std.proofs.Common.{◌≡◌, refl}
-use Rattle.ckc_cli.specs.Words.{Build, Show}
+use Rattle.ckc_cli.specs.Words.{Build, Assemble, Show}
 use Rattle.ckc_cli.specs.declared.words.Command.TheVariants as command
 use Rattle.ckc_cli.specs.Running.{Seen}
 use Rattle.ckc_cli.specs.Causes.{Stored}
@@ -17,6 +17,18 @@ returns-in-Build-clause-cause g c =
     let after : Stored = record { files = g.F.Store.files last; steady = g.F.Store.steady last; faults = g.F.Store.faults last } in
     command_as old old before after (out ≡ out) (input ≡ input) c.build_text.result (Build c.in-Build.text.now c.in-Build.image.now) c.args.command (command.Build c.in-Build.text c.in-Build.image) c.in-Build.is refl
     (obeyed_with old old before after (Unit {0}) (Unit {0}) (out ≡ out) (input ≡ input) c.build_text.result (λ _. refl) (λ _. refl) (Build c.in-Build.text.now c.in-Build.image.now) (c.build_text.ensures.cause old))
+
+pub returns-in-Assemble-clause-cause : goal.returns-in-Assemble-clause-cause
+returns-in-Assemble-clause-cause g c =
+    let input = c.args.input.now in
+    let out = c.args.out.now in
+    let store = c.args.store.now in
+    let before : Stored = record { files = g.F.Store.files store; steady = g.F.Store.steady store; faults = g.F.Store.faults store } in
+    let old : Seen = record { left = g.S.Source.left input; written = g.O.Sink.written out; read_faults = g.S.Source.faults input; write_faults = g.O.Sink.faults out } in
+    let last = c.assemble_text.new.store in
+    let after : Stored = record { files = g.F.Store.files last; steady = g.F.Store.steady last; faults = g.F.Store.faults last } in
+    command_as old old before after (out ≡ out) (input ≡ input) c.assemble_text.result (Assemble c.in-Assemble.text.now c.in-Assemble.image.now) c.args.command (command.Assemble c.in-Assemble.text c.in-Assemble.image) c.in-Assemble.is refl
+    (obeyed_with old old before after (Unit {0}) (Unit {0}) (out ≡ out) (input ≡ input) c.assemble_text.result (λ _. refl) (λ _. refl) (Assemble c.in-Assemble.text.now c.in-Assemble.image.now) (c.assemble_text.ensures.cause old))
 
 pub returns-in-List-clause-cause : goal.returns-in-List-clause-cause
 returns-in-List-clause-cause g c =

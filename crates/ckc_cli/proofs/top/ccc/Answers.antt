@@ -447,7 +447,7 @@ returns-clause-others g c =
     let unasked = store' ≡ store in
     let s = a.result in
     let l = by.leaf w old new before after quiet untaken unasked s a.ensures.cause in
-    λ text image r. files.others_kept w old new before after quiet untaken unasked (λ e. ap g.F.Store.files e) s l text image r
+    λ name r. files.others_kept w old new before after quiet untaken unasked (λ e. ap g.F.Store.files e) s l name r
 
 pub returns-clause-refused_keeps : goal.returns-clause-refused_keeps
 returns-clause-refused_keeps g c =

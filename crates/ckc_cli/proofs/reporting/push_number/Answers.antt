@@ -1,7 +1,7 @@
 use Rattle.std.proofs.Common.{length, ap, ◌∙◌, arith, length-append}
 use Rattle.std.specs.Fmt.{decimal}
 use Rattle.std.proofs.lemmas.Fmt.{length-decimal-le}
-use Rattle.ckc_cli.proofs.report.push_number.Goals as goal
+use Rattle.ckc_cli.proofs.reporting.push_number.Goals as goal
 
 pub push_decimal-requires : goal.push_decimal-requires
 push_decimal-requires c = omega (arith, length-decimal-le 10 c.args.n (omega arith) (omega arith) (omega arith))
