@@ -1,4 +1,6 @@
 //! `ccc` over the objects in memory.
+mod assembly;
+
 use ckc_base::{Check, Pos, Refusal};
 use ckc_cli::{FaultKind, Status, ccc, report};
 use ckc_outside::{Fetched, MemSink, MemSource, MemStore, Store};
@@ -330,7 +332,7 @@ fn images_are_run_and_listed(rt: HostRuntime) -> Result<(), Fail> {
 #[test]
 fn other_words_are_no_command(rt: HostRuntime) -> Result<(), Fail> {
     let alloc = rt.alloc();
-    let rows: [&'static [&'static str]; 16] = [
+    let rows: [&'static [&'static str]; 19] = [
         &[],
         &["exec"],
         &["exec", "file", "0"],
@@ -347,6 +349,9 @@ fn other_words_are_no_command(rt: HostRuntime) -> Result<(), Fail> {
         &["list", "file", "7"],
         &["build", "file"],
         &["build", "file", "image", "7"],
+        &["asm", "file"],
+        &["asm", "file", "image", "7"],
+        &["assemble", "file", "image"],
     ];
     for words in &rows {
         let row = plain(

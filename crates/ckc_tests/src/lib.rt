@@ -1,5 +1,9 @@
-//! Tests that take several crates at once, from tables. There is nothing else here.
+//! Tests and laws that take several crates at once.
 #![tactic(auto)]
+
+mod laws;
+
+pub use laws::one_tree;
 
 #[cfg(test)]
 mod commands;

@@ -1,0 +1,11 @@
+//! Laws over the definitions of several crates, each the contract of a function that does nothing.
+ghost use Rattle.std.specs.Prelude.{◌≡◌, List};
+ghost use Rattle.ckc_syntax.specs.Spelled.{Spelled};
+ghost use Rattle.ckc_lexer.specs.Cut.{Lexes};
+ghost use Rattle.ckc_parser.specs.Text.{SpelledTree, DerivesTokens};
+
+/// A text has at most one tree.
+pub fn one_tree(text: &[u8])
+    ensures { (a b : List Spelled) (x y : SpelledTree) → Lexes text.now a → DerivesTokens a x → Lexes text.now b → DerivesTokens b y → x ≡ y }
+{
+}
