@@ -2,7 +2,6 @@
 use Rattle.std.proofs.Common.{◌≡◌, ℕ, suc, ◌+◌, ◌<◌, ◌≤◌, ℤ, pos, List, [], ◌∷◌, ◌++◌, length, map, take, drop, Option, Some, None, refl, sym, ap, ◌∙◌, ◌⊎◌, inl, inr, ⊎_elim, arith, subst, sum_by, length-drop}
 use Rattle.std.specs.List.{slice_get}
 use Rattle.std.specs.Option.{option_map}
-use Rattle.std.proofs.lemmas.Bool.{cases_lt}
 use Rattle.std.proofs.lemmas.List.{nil_from_length, take-append-drop, drop-drop}
 use Rattle.std.proofs.lemmas.List.Sums.{sum_by-cons}
 use Rattle.std.proofs.lemmas.Option.{same_Some, slice_get-map}
@@ -23,11 +22,9 @@ use Rattle.ckc_asm.specs.Faults as faults
 use Rattle.ckc_asm.specs.Faults.{longest_text, place_of, readings, ReadsEntry, IsFirst, NoneHas, HasNoForm, HasOldLabel, NamesNothing, HasNoWord, IsNoImage, AreFormed, IsAt, IsLabel, IsOperand, WholeFault, NumberFault, NameFault, LabelFault, FormFault, IsFirstFault}
 use Rattle.ckc_asm.specs.Outcome.{AreParts, AreFaults}
 use Rattle.ckc_asm.proofs.Shaped.{named_shape}
+use Rattle.ckc_asm.proofs.Cases.{order}
 
 -- ---- lists
-
-order : (j k : ℕ) → (j < k) ⊎ ((k < j) ⊎ (j ≡ k))
-order j k = ⊎_elim (λ l. inl l) (λ g. inr (⊎_elim (λ l. inl l) (λ h. inr (omega arith)) (cases_lt k j))) (cases_lt j k)
 
 first_once : {A : Type 0} (P : ℕ → A → Type 0) (xs : List A) (j k : ℕ) (x y : A) → IsFirst P xs j x → IsFirst P xs k y → j ≡ k
 first_once P xs j k x y f g = ⊎_elim

@@ -1,17 +1,14 @@
 -- How the words of a line are cut off its front, one after another.
-use Rattle.std.proofs.Common.{◌≡◌, ℕ, suc, ◌+◌, ◌<◌, ◌≤◌, Bool, true, false, cond, ◌||◌, not, List, [], ◌∷◌, ◌++◌, length, take, drop, get_or, refl, sym, ap, ◌∙◌, arith, ◌⊎◌, inl, inr, ⊎_elim, append_assoc, drop-cons, add-one}
+use Rattle.std.proofs.Common.{◌≡◌, ℕ, suc, ◌+◌, ◌<◌, ◌≤◌, Bool, true, false, cond, ◌||◌, not, List, [], ◌∷◌, ◌++◌, length, take, drop, get_or, refl, sym, ap, ◌∙◌, arith, ⊎_elim, append_assoc, drop-cons, add-one}
 use Rattle.std.specs.List.{prefix_len}
 use Rattle.std.proofs.lemmas.List.{append-nil, drop_all, drop-drop}
 use Rattle.ckc_asm.specs.Cut.{Word, cut, is_blank, is_mark, is_hash, is_word_byte, onto_word, new_word}
 use Rattle.ckc_asm.proofs.Words.{cut_first}
+use Rattle.ckc_asm.proofs.Cases.{bool_cases}
 
 -- the word at a column
 abbrev pub word : ℕ → List ℕ → Word
 word col text = record { col = col; text = text }
-
-bool_cases : (b : Bool) → (b ≡ true) ⊎ (b ≡ false)
-bool_cases true = inl refl
-bool_cases false = inr refl
 
 pub cut_hash : (col b : ℕ) (rest : List ℕ) → is_hash b ≡ true → cut col (b ∷ rest) ≡ []
 unfolding cut

@@ -4,7 +4,6 @@ use Rattle.std.specs.Borrow.{Bor}
 use Rattle.std.specs.List.{slice_get, slice_split, onto_first, flat_map}
 use Rattle.std.specs.Option.{option_map}
 use Rattle.std.specs.Result.{IfOk, IfErr}
-use Rattle.std.proofs.lemmas.Bool.{cases_lt}
 use Rattle.std.proofs.lemmas.List.{length-map}
 use Rattle.std.proofs.lemmas.List.Splits.{length-slice_split}
 use Rattle.std.proofs.lemmas.List.Sums.{sum_by-cons, count_by-le-length}
@@ -23,6 +22,7 @@ use Rattle.ckc_asm.specs.Faults.{longest_text, NoneHas, HasNoForm, HasOldLabel, 
 use Rattle.ckc_asm.specs.Outcome.{IfRefused, AnswersParts, AnswersFault}
 use Rattle.ckc_asm.proofs.Answer.{parts_once, fault_once, parts_or_fault}
 use Rattle.ckc_asm.specs.Reading.{AreRead, IsWhole, IsNoProgram, readings_in}
+use Rattle.ckc_asm.proofs.Cases.{bool_cases, order}
 
 refused_weaker : (e : AsmFault) (P Q : ℕ → Pos → Type 0) → ((code : ℕ) (place : Pos) → P code place → Q code place) → IfRefused e P → IfRefused e Q
 refused_weaker (fault.Refused r) P Q f h = f r.code r.pos h
@@ -92,10 +92,6 @@ onto_short x [] n h (suc k) part at = absurd (let z : None ≡ Some part = at in
 onto_short x (first ∷ parts) n h zero part at = let e : x ∷ first ≡ part = same_Some (x ∷ first) part at in omega (arith, ap length e, h 0 first refl)
 onto_short x (first ∷ parts) n h (suc k) part at = omega (arith, h (suc k) part at)
 
-bool_cases : (b : Bool) → (b ≡ true) ⊎ (b ≡ false)
-bool_cases true = inl refl
-bool_cases false = inr refl
-
 part_short : (p : ℕ → Bool) (xs : List ℕ) (k : ℕ) (part : List ℕ) → slice_get (slice_split p xs) k ≡ Some part → length part ≤ length xs
 part_short p [] zero part at = let e : [] ≡ part = same_Some [] part at in omega (arith, ap length e)
 part_short p [] (suc k) part at = absurd (let z : None ≡ Some part = at in cc)
@@ -131,9 +127,6 @@ read_few lines statements read =
 get_some : (lines : List (Option Statement)) (statements : List Statement) (k : ℕ) (s : Statement) → lines ≡ map (λ t. Some t) statements → slice_get statements k ≡ Some s
     → slice_get lines k ≡ Some (Some s)
 get_some lines statements k s e at = ap (λ l. slice_get l k) e ∙ slice_get-map (λ (t : Statement). Some t) statements k ∙ ap (option_map (λ (t : Statement). Some t)) at
-
-order : (j k : ℕ) → (j < k) ⊎ ((k < j) ⊎ (j ≡ k))
-order j k = ⊎_elim (λ l. inl l) (λ g. inr (⊎_elim (λ l. inl l) (λ h. inr (omega arith)) (cases_lt k j))) (cases_lt j k)
 
 pub are_single : (lines : List (Option Statement)) (statements : List Statement) → AreRead lines statements → NoneHas (HasOldLabel statements) statements → AreSingle statements
 are_single lines statements read none = record {

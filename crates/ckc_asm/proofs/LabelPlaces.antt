@@ -1,11 +1,12 @@
 -- Where a label stands that stands once.
-use Rattle.std.proofs.Common.{◌≡◌, ℕ, zero, suc, ◌+◌, ◌<◌, Bool, true, false, cond, eqb, not, List, [], ◌∷◌, Some, None, refl, sym, ap, ◌∙◌, subst, arith, eq-eqb, ◌⊎◌, inl, inr, ⊎_elim}
+use Rattle.std.proofs.Common.{◌≡◌, ℕ, zero, suc, ◌+◌, ◌<◌, true, false, cond, eqb, not, List, [], ◌∷◌, Some, None, refl, sym, ap, ◌∙◌, subst, arith, eq-eqb, ⊎_elim}
 use Rattle.std.specs.List.{slice_get, count_by, position_or_len}
 use Rattle.std.proofs.lemmas.List.Sums.{sum_by-cons}
 use Rattle.std.proofs.lemmas.Option.{same_Some}
 use Rattle.ckc_asm.specs.declared.lines.Line.{Line}
 use Rattle.ckc_asm.specs.declared.lines.Line.TheVariants.{Label}
 use Rattle.ckc_asm.specs.Assembled.{is_label, StandsAt, address_of, CanStand}
+use Rattle.ckc_asm.proofs.Cases.{bool_cases}
 
 counted : (label : ℕ) (x : Line) (lines : List Line) → count_by (is_label label) (x ∷ lines) ≡ cond (is_label label x) 1 0 + count_by (is_label label) lines
 counted label x lines = sum_by-cons (λ l. cond (is_label label l) 1 0) x lines
@@ -15,10 +16,6 @@ eqb_same n = eq-eqb n n refl
 
 is_it : (label : ℕ) (x : Line) → x ≡ Label label → is_label label x ≡ true
 is_it label x e = rw e (eqb_same label)
-
-bool_cases : (b : Bool) → (b ≡ true) ⊎ (b ≡ false)
-bool_cases true = inl refl
-bool_cases false = inr refl
 
 some_counted : (label : ℕ) (lines : List Line) (k : ℕ) → slice_get lines k ≡ Some (Label label) → 0 < count_by (is_label label) lines
 some_counted label [] k at = absurd (let z : None ≡ Some (Label label) = at in cc)

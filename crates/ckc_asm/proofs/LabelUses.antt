@@ -1,7 +1,6 @@
 -- Items that name labels, by the table of labels: the names, the words and the entry.
 use Rattle.std.proofs.Common.{◌≡◌, ℕ, ◌+◌, ◌<◌, ◌≤◌, ℤ, Bool, true, false, List, [], ◌∷◌, ◌++◌, length, take, drop, Option, Some, None, IsSome, refl, sym, ap, ◌∙◌, ◌⊎◌, inl, inr, ⊎_elim, arith, subst, sum_by, length-append, length-drop}
 use Rattle.std.specs.List.{slice_get, flat_map}
-use Rattle.std.proofs.lemmas.Bool.{cases_lt}
 use Rattle.std.proofs.lemmas.List.{take_more, take-append-le, drop-append-le, drop_at, take_all, take-take, append-nil}
 use Rattle.std.proofs.lemmas.List.Sums.{sum_by-take-le}
 use Rattle.std.proofs.lemmas.Grind.{flat_map-append}
@@ -21,9 +20,7 @@ use Rattle.ckc_asm.specs.Faults.{IsFirst, NoneHas, NamesNothing, HasNoWord, IsAt
 use Rattle.ckc_asm.specs.Outcome.{IfRefused}
 use Rattle.ckc_asm.specs.Reading.{IsExact, IsWhole, ValueIs, EntryIs, StandsFor, LacksWord}
 use Rattle.ckc_asm.proofs.LabelsBelow.{offset_more}
-
-last_or_before : (j k : ℕ) → j < k + 1 → (j < k) ⊎ (j ≡ k)
-last_or_before j k h = ⊎_elim (λ l. inl l) (λ g. inr (omega arith)) (cases_lt j k)
+use Rattle.ckc_asm.proofs.Cases.{last_or_before}
 
 none_or_some : (o : Option ℕ) → (o ≡ None) ⊎ ((a : ℕ) × (o ≡ Some a))
 none_or_some None = inl refl

@@ -1,8 +1,7 @@
 -- The labels of the first statements of a text, and where statements stand.
-use Rattle.std.proofs.Common.{◌≡◌, ℕ, ◌+◌, ◌<◌, ◌≤◌, Bool, true, false, cond, List, length, get_or, Option, Some, None, IsSome, refl, sym, ap, ◌∙◌, ◌⊎◌, inl, inr, ⊎_elim, arith, bytes_eq}
+use Rattle.std.proofs.Common.{◌≡◌, ℕ, ◌+◌, ◌<◌, ◌≤◌, true, false, cond, List, length, get_or, Option, Some, None, IsSome, refl, sym, ap, ◌∙◌, ⊎_elim, arith, bytes_eq}
 use Rattle.std.specs.List.{slice_get}
 use Rattle.std.specs.Option.{option_map}
-use Rattle.std.proofs.lemmas.Bool.{cases_lt}
 use Rattle.std.proofs.lemmas.List.{length-map}
 use Rattle.std.proofs.lemmas.List.Sums.{sum_by_more}
 use Rattle.std.proofs.lemmas.Option.{same_Some, slice_get_within, slice_get-get_or, slice_get-map, get_or_from_slice_get}
@@ -20,6 +19,7 @@ use Rattle.ckc_asm.specs.Faults.{IsFirst, NoneHas, HasOldLabel, IsAt, IsLabel}
 use Rattle.ckc_asm.specs.Outcome.{IfRefused}
 use Rattle.ckc_asm.specs.Reading.{IsExact}
 use Rattle.ckc_asm.specs.Rows.{word_of, statement_in, statements_in}
+use Rattle.ckc_asm.proofs.Cases.{bool_cases, last_or_before}
 
 -- ---- places
 
@@ -59,13 +59,6 @@ labels_none at statements h = record {
   found = λ j s name l there has. absurd (omega arith);
   none = λ j s l there old. absurd (omega arith);
 }
-
-last_or_before : (j k : ℕ) → j < k + 1 → (j < k) ⊎ (j ≡ k)
-last_or_before j k h = ⊎_elim (λ l. inl l) (λ g. inr (omega arith)) (cases_lt j k)
-
-bool_cases : (b : Bool) → (b ≡ true) ⊎ (b ≡ false)
-bool_cases true = inl refl
-bool_cases false = inr refl
 
 same_text : (s : Statement) (w : Word) (name : List ℕ) → s.label ≡ Some w → HasLabel s name → w.text ≡ name
 same_text s w name e has = ap (λ (v : Word). v.text) (same_Some w has.0 (sym e ∙ has.1)) ∙ has.2

@@ -1,3 +1,4 @@
+pub mod Cases
 pub mod LabelPlaces
 pub mod LineCodes
 pub mod Pieces

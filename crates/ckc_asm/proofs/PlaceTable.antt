@@ -11,6 +11,7 @@ use Rattle.ckc_asm.specs.declared.lines.Line.TheVariants.{Label, Plain, Jump, Br
 use Rattle.ckc_asm.specs.Assembled.{size_of, offset_of, address_of, is_label, StandsAt, StandsOnce, IsCode, bytes_at, Assembled, CanStand, CanAssemble}
 use Rattle.ckc_image.specs.Image.{IsProper}
 use Rattle.ckc_asm.specs.Places.{KnowsPlaces, Knows, Encodes, IsCodeBelow, CanEncode}
+use Rattle.ckc_asm.proofs.Cases.{bool_cases}
 
 pub offset_more : (lines : List Line) (k : ℕ) (line : Line) → slice_get lines k ≡ Some line → offset_of lines (k + 1) ≡ offset_of lines k + size_of line
 offset_more lines k line at =
@@ -42,10 +43,6 @@ any_more label lines k line at =
 other_or : (a b : Bool) → (a || b) ≡ true → (a ≡ true) ⊎ (b ≡ true)
 other_or true b h = inl refl
 other_or false b h = inr h
-
-bool_cases : (b : Bool) → (b ≡ true) ⊎ (b ≡ false)
-bool_cases true = inl refl
-bool_cases false = inr refl
 
 some_is : (o : Option ℕ) (x : ℕ) → o ≡ Some x → IsSome o
 some_is o x e = rw e refl

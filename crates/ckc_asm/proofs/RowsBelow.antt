@@ -4,7 +4,6 @@ use Rattle.std.specs.Bool.{IsTrue}
 use Rattle.std.specs.Borrow.{Bor}
 use Rattle.std.specs.List.{slice_get}
 use Rattle.std.specs.Option.{option_map}
-use Rattle.std.proofs.lemmas.Bool.{cases_lt}
 use Rattle.std.proofs.lemmas.List.{map-append, length-map, take_more, take_all}
 use Rattle.std.proofs.lemmas.Option.{same_Some, slice_get_within, slice_get-get_or, slice_get-map, get_or_from_slice_get}
 use Rattle.ckc_asm.specs.declared.fault.AsmFault.{AsmFault}
@@ -14,6 +13,7 @@ use Rattle.ckc_asm.specs.Outcome.{IfRefused}
 use Rattle.ckc_asm.specs.Program.{IsEntry}
 use Rattle.ckc_asm.specs.Faults.{IsFirst, HasNoForm, ReadsEntry}
 use Rattle.ckc_asm.specs.Reading.{HasTarget, HaveTargets, AreRead, IsRefusedLine, IsFormFault, readings_in}
+use Rattle.ckc_asm.proofs.Cases.{bool_cases, last_or_before}
 
 -- the first k lines have these statements; whether one is `.entry`
 pub record AreRowsBelow (lines : List (Option Statement)) (k : ℕ) (entered : Bool) (statements : List Statement) : Type 0 where
@@ -31,13 +31,6 @@ rows_none lines = record {
   some_entry = λ e. absurd (let z : false ≡ true = e in cc);
   no_entry = λ e j line h at reads. absurd (omega arith);
 }
-
-bool_cases : (b : Bool) → (b ≡ true) ⊎ (b ≡ false)
-bool_cases true = inl refl
-bool_cases false = inr refl
-
-last_or_before : (j k : ℕ) → j < k + 1 → (j < k) ⊎ (j ≡ k)
-last_or_before j k h = ⊎_elim (λ l. inl l) (λ g. inr (omega arith)) (cases_lt j k)
 
 -- an element of a list with one more
 pub of_push : {A : Type 0} (xs : List A) (x y : A) (k : ℕ) → slice_get (xs ++ x ∷ []) k ≡ Some y → (slice_get xs k ≡ Some y) ⊎ (x ≡ y)

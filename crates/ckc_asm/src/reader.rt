@@ -29,6 +29,7 @@ pub fn read_asm(alloc: Global, text: &[u8]) -> Result<Parts, AsmFault>
     read(alloc, text)
 }
 
+/// The parts of a text, or its first fault.
 fn read(alloc: Global, text: &[u8]) -> Result<Parts, AsmFault>
     ensures parts { IfOk result (λ p. (length text.now ≤ longest_text) × AsmOf text.now p.entry p.code p.initial) }
     ensures fault { IfErr result (λ e. IfRefused e (λ code place. IsFirstFault text.now code place)) }

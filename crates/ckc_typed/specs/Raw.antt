@@ -7,7 +7,7 @@ use Rattle.ckc_types.specs.declared.types.Kind.TheVariants as kind
 use Rattle.ckc_types.specs.declared.types.CType.{CType, CType-F, fold-CType}
 use Rattle.ckc_syntax.specs.declared.tree.TypeTree.{TypeTree, TypeTree-F, fold-TypeTree}
 use Rattle.ckc_syntax.specs.declared.tree.Length.{Length}
-use Rattle.ckc_syntax.specs.declared.tree.Length.TheVariants as length
+use Rattle.ckc_syntax.specs.declared.tree.Length.TheVariants as lengths
 use Rattle.ckc_syntax.specs.declared.tree.Decl.{Decl}
 use Rattle.ckc_syntax.specs.declared.tree.Head.{Head}
 
@@ -46,10 +46,10 @@ stars {N} = fold-TypeTree N (List Pos) stars_in_form
 
 -- the place of the `[` of an unchecked array
 abbrev pub brackets : Length → List Pos
-brackets length.Plain = []
-brackets (length.Raw n at) = at ∷ []
-brackets (length.Checked n) = []
-brackets (length.Nt n) = []
+brackets lengths.Plain = []
+brackets (lengths.Raw n at) = at ∷ []
+brackets (lengths.Checked n) = []
+brackets (lengths.Nt n) = []
 
 -- where a declaration writes unchecked pointers and arrays: in its type, then the array that it is itself
 abbrev pub raws_of_decl : {N A : Type 0} → Decl N A → List Pos
