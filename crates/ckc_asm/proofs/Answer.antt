@@ -308,16 +308,21 @@ label_fault_or statements entry code' code initial place shaped single image pro
     names (inl f) = has_not (NamesNothing statements) IsOperand statements place f.0 (name_or statements (pos entry) code initial shaped single image)
     names (inr h) = numbers h.1
 
-shaped_in : (text : List ℕ) (statements : List Statement) → AreStatements text statements → (k : ℕ) (s : Statement) → slice_get statements k ≡ Some s
-    → s.item.operand ≡ Named → (size_of s ≡ 4) ⊎ IsEntry s.item.form
-shaped_in text statements form k s at named = go (slice_get (lines_of text) k) refl
+-- the line of a statement
+pub line_of : (text : List ℕ) (statements : List Statement) → AreStatements text statements → (k : ℕ) (s : Statement) → slice_get statements k ≡ Some s
+    → (line : List ℕ) × (reading line ≡ Some s)
+line_of text statements form k s at = go (slice_get (lines_of text) k) refl
   where
     there : option_map reading (slice_get (lines_of text) k) ≡ Some (Some s)
     there = sym (slice_get-map reading (lines_of text) k) ∙ ap (λ l. slice_get l k) form ∙ slice_get-map (λ (t : Statement). Some t) statements k ∙ ap (option_map (λ (t : Statement). Some t)) at
 
-    go : (o : Option (List ℕ)) → slice_get (lines_of text) k ≡ o → (size_of s ≡ 4) ⊎ IsEntry s.item.form
+    go : (o : Option (List ℕ)) → slice_get (lines_of text) k ≡ o → (line : List ℕ) × (reading line ≡ Some s)
     go None e = absurd (let z : None ≡ Some (Some s) = sym (ap (option_map reading) e) ∙ there in cc)
-    go (Some line) e = named_shape (cut 1 line) s (same_Some (reading line) (Some s) (sym (ap (option_map reading) e) ∙ there)) named
+    go (Some line) e = (line, same_Some (reading line) (Some s) (sym (ap (option_map reading) e) ∙ there))
+
+shaped_in : (text : List ℕ) (statements : List Statement) → AreStatements text statements → (k : ℕ) (s : Statement) → slice_get statements k ≡ Some s
+    → s.item.operand ≡ Named → (size_of s ≡ 4) ⊎ IsEntry s.item.form
+shaped_in text statements form k s at named = let l = line_of text statements form k s at in named_shape (cut 1 l.0) s l.1 named
 
 pub parts_or_fault : (text : List ℕ) (entry : ℕ) (code initial : List ℕ) (number : ℕ) (place : Pos) → length text ≤ longest_text
     → AsmOf text entry code initial → IsFirstFault text number place → ⊥

@@ -17,3 +17,4 @@ pub mod LabelUses
 pub mod Judging
 pub mod Answer
 pub mod Shaped
+pub mod Ranges

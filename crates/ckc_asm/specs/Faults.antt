@@ -68,7 +68,7 @@ abbrev pub NamesNothing : List Statement → ℕ → Statement → Type 0
 NamesNothing statements k s =
     (s.item.operand ≡ Named) × ((address : ℕ) → IsLabelAt statements s.operand.text address → ⊥)
 
--- ---- E804: a number or distance that is odd or out of range, so that no word has it
+-- ---- E804: a number or distance that is odd or out of range, so that no word has it (specs/Ranges.antt has the ranges)
 
 abbrev pub HasNoWord : List Statement → ℕ → Statement → Type 0
 HasNoWord statements k s =

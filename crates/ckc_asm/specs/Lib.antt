@@ -11,3 +11,4 @@ pub mod Faults
 pub mod Outcome
 pub mod Rows
 pub mod Reading
+pub mod Ranges

@@ -1,8 +1,10 @@
-ghost use Rattle.std.specs.Prelude.{◌≡◌, ◌≤◌, ℕ, List, length};
+ghost use Rattle.std.specs.Prelude.{◌≡◌, ◌≤◌, ◌↔◌, ℕ, ℤ, List, length, slice_get, Some};
 ghost use Rattle.ckc_base.specs.declared.places.Pos.{Pos};
-ghost use Rattle.ckc_asm.specs.Program.{AsmOf};
+ghost use Rattle.ckc_asm.specs.Items.{Statement};
+ghost use Rattle.ckc_asm.specs.Program.{AsmOf, AreStatements, IsWordOf, size_of};
 ghost use Rattle.ckc_asm.specs.Faults.{longest_text, IsFirstFault};
 ghost use Rattle.ckc_asm.specs.Outcome.{AreParts, AreFaults};
+ghost use Rattle.ckc_asm.specs.Ranges.{IsInRange};
 
 /// A text is assembly of one entry, code and list of initial bytes, or it has one first fault, and not both.
 pub fn one_answer()
@@ -12,4 +14,12 @@ pub fn one_answer()
         IsFirstFault text code place → IsFirstFault text other place' → AreFaults code place other place' }
     ensures not_both { (text : List ℕ) (entry : ℕ) (code initial : List ℕ) (number : ℕ) (place : Pos) →
         length text ≤ longest_text → AsmOf text entry code initial → IsFirstFault text number place → ⊥ }
+{}
+
+/// An item with a number has a word exactly where the number is in range, and even where it is an offset of a branch
+/// or of JAL.
+pub fn words_by_range()
+    ensures { (text : List ℕ) (statements : List Statement) (k : ℕ) (s : Statement) (z : ℤ) →
+        AreStatements text statements → slice_get statements k ≡ Some s → size_of s ≡ 4 →
+        ((word : ℕ) × IsWordOf s.item.form z word) ↔ IsInRange s.item.form z }
 {}
