@@ -1,0 +1,8 @@
+pub mod Answer
+pub mod Ends
+pub mod Indexing
+pub mod Search
+pub mod Sequels
+pub mod Tables
+pub mod Turns
+pub mod Writing

@@ -1,0 +1,86 @@
+-- The items of a text with their names replaced by what they mean.
+use Rattle.std.specs.Prelude.{Bool, ◌||◌, ◌&&◌, false, true, List, [], Ok, map, if◌then◌else◌, is_none, codes, Option, Some, None}
+use Rattle.std.specs.List.{list_any}
+use Rattle.std.specs.Str.{bytes_eq}
+use Rattle.ckc_base.specs.declared.places.Pos.{Pos}
+use Rattle.ckc_syntax.specs.declared.tree.Name.{Name}
+use Rattle.ckc_syntax.specs.declared.tree.Name.TheVariants as name
+use Rattle.ckc_syntax.specs.declared.tree.Item.TheVariants as item
+use Rattle.ckc_syntax.specs.declared.tree.TypeTree.{TypeTree-F, out-TypeTree}
+use Rattle.ckc_resolve.specs.declared.names.Names.{Names}
+use Rattle.ckc_resolve.specs.Outcomes.{Outcome, bind, refused, in_turn}
+use Rattle.ckc_resolve.specs.Spellings.{Spelling, is_among, number_of}
+use Rattle.ckc_resolve.specs.Trees.{Tree, Item, Head, Decl, Stmt, TypeTree, NamedTree, NamedItem}
+use Rattle.ckc_resolve.specs.Scoping.{noted, no_names, names_of, no_scope, is_reserved}
+use Rattle.ckc_resolve.specs.Declarations.{decl_named, unless_taken}
+use Rattle.ckc_resolve.specs.Statements.{body_named}
+use Rattle.ckc_resolve.specs.Heads.{struct_named, head_named}
+use Rattle.ckc_resolve.specs.Written.{written_head}
+
+abbrev pub name_of_tag : Names → Spelling → Name
+name_of_tag names s = name.Tag (number_of names.tags s)
+
+-- E302: an object or a function of the same name stands before, or no text may declare the name
+abbrev pub is_taken_static : Names → Spelling → Bool
+is_taken_static before s = is_reserved s || (is_among before.statics s || is_among before.functions s)
+
+-- E302: an object of the same name stands before, or no text may declare the name
+abbrev pub is_taken_function : Names → Spelling → Bool
+is_taken_function before s = is_reserved s || is_among before.statics s
+
+-- E304: no function of the text has the same head
+abbrev pub if_defined : {A : Type 0} → Names → Head → A → Outcome A
+if_defined names h a = if is_among names.heads (written_head h) then Ok a else refused 304 h.pos
+
+abbrev pub structure_named : Names → Names → Spelling → List Decl → Pos → Outcome NamedItem
+structure_named names before s members pos =
+    bind (struct_named names members) (λ ds. unless_taken (is_among before.structs s) pos (item.Struct (name_of_tag names s) ds pos))
+
+abbrev pub static_named : Names → Names → Decl → Outcome NamedItem
+static_named names before d =
+    bind (decl_named names no_scope no_scope (name.Static (number_of names.statics d.name)) d) (λ e.
+    unless_taken (is_taken_static before d.name) d.pos (item.Static e))
+
+abbrev pub proto_named : Names → Names → Head → Outcome NamedItem
+proto_named names before h =
+    bind (head_named names h) (λ p. bind (unless_taken (is_taken_function before h.name) h.pos p.0) (λ g. if_defined names h (item.Proto g)))
+
+-- The body is judged behind the head.
+abbrev pub function_named : Names → Names → Head → Stmt → Outcome NamedItem
+function_named names before h body =
+    bind (head_named names h) (λ p. bind (unless_taken (is_taken_function before h.name || is_among before.defined h.name) h.pos p.0) (λ g.
+    bind (body_named names body p.1) (λ b. Ok (item.Function g b.0))))
+
+-- an item, with the names of the whole text and those of the items before it
+abbrev pub item_named : Names → Names → Item → Outcome NamedItem
+item_named names before (item.Directive d) = Ok (item.Directive d)
+item_named names before (item.Tag s pos) = Ok (item.Tag (name_of_tag names s) pos)
+item_named names before (item.Struct s members pos) = structure_named names before s members pos
+item_named names before (item.Static d) = static_named names before d
+item_named names before (item.Proto h) = proto_named names before h
+item_named names before (item.Function h body) = function_named names before h body
+
+abbrev pub item_in_turn : Names → Item → Names → Outcome (NamedItem × Names)
+item_in_turn names i before = bind (item_named names before i) (λ j. Ok (j, noted before i))
+
+abbrev pub items_named : Names → List Item → Names → Outcome (List NamedItem × Names)
+items_named names is = in_turn (map (item_in_turn names) is)
+
+abbrev pub is_int_form : TypeTree-F Spelling TypeTree → Bool
+is_int_form TypeTree-F.Int = true
+is_int_form form = false
+
+abbrev pub is_int : TypeTree → Bool
+is_int t = is_int_form (out-TypeTree Spelling t)
+
+abbrev pub is_empty : List Decl → Bool
+is_empty [] = true
+is_empty ds = false
+
+-- the head `int main(void)`, with or without a mode before it
+abbrev pub is_main_head : Head → Bool
+is_main_head h = bytes_eq h.name (codes "main") && (is_int h.result && (is_empty h.params && is_none h.bounds))
+
+abbrev pub is_main : Item → Bool
+is_main (item.Function h body) = is_main_head h
+is_main i = false

@@ -1,0 +1,15 @@
+pub mod Outcomes
+pub mod Spellings
+pub mod Trees
+pub mod Indexed
+pub mod Written
+pub mod Scoping
+pub mod Meanings
+pub mod Types
+pub mod Expressions
+pub mod Declarations
+pub mod Statements
+pub mod Heads
+pub mod Items
+pub mod Named
+pub mod Verdicts

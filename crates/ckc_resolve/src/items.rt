@@ -1,0 +1,220 @@
+//! The items of a text with their names replaced by what they mean.
+
+ghost use Rattle.std.specs.Prelude.{◌≡◌, Ok};
+ghost use Rattle.std.specs.List.{list_any};
+ghost use Rattle.ckc_resolve.specs.Outcomes.{Answers, Steps};
+ghost use Rattle.ckc_resolve.specs.Items.{name_of_tag, is_taken_static, is_taken_function, if_defined, structure_named, static_named, proto_named, function_named, item_named, item_in_turn, items_named, is_int, is_main_head, is_main};
+
+use crate::bodies::named_body;
+use crate::declarations::named_decl;
+use crate::fault::{ResolveFault, refused};
+use crate::heads::{named_head, named_members};
+use crate::meanings::fitting;
+use crate::names::Names;
+use crate::scopes::{Scopes, is_reserved};
+use crate::written::written_head;
+use ckc_base::{Boxed, Pos, Seq};
+use ckc_syntax::{Decl, Head, Item, Name, Spelling, Stmt, TypeTree};
+use std::alloc::Global;
+
+fn tag_name<'a>(names: &Names<'a>, s: &Spelling<'a>) -> Result<Name, ResolveFault>
+    ensures { Answers result (Ok (name_of_tag names.now s.now)) }
+{
+    let number = fitting(names.tags.number(s))?;
+    Ok(Name::Tag(number))
+}
+
+fn is_taken_static<'a>(before: &Names<'a>, s: &Spelling<'a>) -> bool
+    ensures { result ≡ is_taken_static before.now s.now }
+{
+    is_reserved(s) || before.statics.contains(s) || before.functions.contains(s)
+}
+
+fn is_taken_function<'a>(before: &Names<'a>, s: &Spelling<'a>) -> bool
+    ensures { result ≡ is_taken_function before.now s.now }
+{
+    is_reserved(s) || before.statics.contains(s)
+}
+
+fn defined_proto<'a>(
+    alloc: Global,
+    names: &Names<'a>,
+    head: &Head<Spelling<'a>, ()>,
+    named: Boxed<Head<Name, ()>>,
+) -> Result<Item<Name, ()>, ResolveFault>
+    ensures { Answers result (if_defined names.now head.now (Item.Proto named)) }
+{
+    let written = written_head(alloc, head)?;
+    if !names.heads.contains(&written) {
+        return Err(refused(304, head.pos));
+    }
+    Ok(Item::Proto(named))
+}
+
+fn named_structure<'a>(
+    alloc: Global,
+    names: &Names<'a>,
+    before: &Names<'a>,
+    s: &Spelling<'a>,
+    members: &[Decl<Spelling<'a>, ()>],
+    pos: Pos,
+) -> Result<Item<Name, ()>, ResolveFault>
+    ensures { Answers result (structure_named names.now before.now s.now members.now pos) }
+{
+    let tag = tag_name(names, s)?;
+    let members = named_members(alloc, names, members)?;
+    if before.structs.contains(s) {
+        return Err(refused(302, pos));
+    }
+    Ok(Item::Struct(tag, members, pos))
+}
+
+fn named_static<'a>(
+    alloc: Global,
+    names: &Names<'a>,
+    before: &Names<'a>,
+    decl: &Decl<Spelling<'a>, ()>,
+) -> Result<Item<Name, ()>, ResolveFault>
+    ensures { Answers result (static_named names.now before.now decl.now) }
+{
+    let number = fitting(names.statics.number(&decl.name))?;
+    let scopes = Scopes::new(alloc);
+    let named = named_decl(alloc, names, &scopes, Name::Static(number), decl)?;
+    let boxed = Boxed::new(alloc, named)?;
+    if is_taken_static(before, &decl.name) {
+        return Err(refused(302, decl.pos));
+    }
+    Ok(Item::Static(boxed))
+}
+
+fn named_proto<'a>(
+    alloc: Global,
+    names: &Names<'a>,
+    before: &Names<'a>,
+    head: &Head<Spelling<'a>, ()>,
+) -> Result<Item<Name, ()>, ResolveFault>
+    ensures { Answers result (proto_named names.now before.now head.now) }
+{
+    let mut body = Scopes::new(alloc);
+    let named = named_head(alloc, names, &mut body, head)?;
+    let boxed = Boxed::new(alloc, named)?;
+    if is_taken_function(before, &head.name) {
+        return Err(refused(302, head.pos));
+    }
+    defined_proto(alloc, names, head, boxed)
+}
+
+fn named_function<'a>(
+    alloc: Global,
+    names: &Names<'a>,
+    before: &Names<'a>,
+    head: &Head<Spelling<'a>, ()>,
+    body: &Stmt<Spelling<'a>, ()>,
+) -> Result<Item<Name, ()>, ResolveFault>
+    ensures { Answers result (function_named names.now before.now head.now body.now) }
+{
+    let mut scopes = Scopes::new(alloc);
+    let named = named_head(alloc, names, &mut scopes, head)?;
+    let boxed = Boxed::new(alloc, named)?;
+    if is_taken_function(before, &head.name) || before.defined.contains(&head.name) {
+        return Err(refused(302, head.pos));
+    }
+    let body = named_body(alloc, names, &mut scopes, body)?;
+    Ok(Item::Function(boxed, body))
+}
+
+fn named_item<'a>(
+    alloc: Global,
+    names: &Names<'a>,
+    before: &Names<'a>,
+    item: &Item<Spelling<'a>, ()>,
+) -> Result<Item<Name, ()>, ResolveFault>
+    ensures { Answers result (item_named names.now before.now item.now) }
+{
+    match item {
+        Item::Directive(directive) => Ok(Item::Directive(*directive)),
+        Item::Tag(s, pos) => {
+            let tag = tag_name(names, s)?;
+            Ok(Item::Tag(tag, *pos))
+        }
+        Item::Struct(s, members, pos) => {
+            named_structure(alloc, names, before, s, members.as_slice(), *pos)
+        }
+        Item::Static(decl) => named_static(alloc, names, before, decl.get()),
+        Item::Proto(head) => named_proto(alloc, names, before, head.get()),
+        Item::Function(head, body) => {
+            named_function(alloc, names, before, head.get(), body.get())
+        }
+    }
+}
+
+fn item_in_turn<'a>(
+    alloc: Global,
+    names: &Names<'a>,
+    before: &mut Names<'a>,
+    item: &Item<Spelling<'a>, ()>,
+) -> Result<Item<Name, ()>, ResolveFault>
+    ensures { Steps result before.new (item_in_turn names.now item.now before.old) }
+{
+    let named = named_item(alloc, names, before, item)?;
+    before.note(alloc, item)?;
+    Ok(named)
+}
+
+/// The items, with the names of the whole text.
+pub fn named_items<'a>(
+    alloc: Global,
+    names: &Names<'a>,
+    before: &mut Names<'a>,
+    items: &[Item<Spelling<'a>, ()>],
+) -> Result<Seq<Item<Name, ()>>, ResolveFault>
+    ensures { Steps result before.new (items_named names.now items.now before.old) }
+{
+    let mut all = Seq::new(alloc);
+    for item in items {
+        let named = item_in_turn(alloc, names, before, item)?;
+        all.push(named)?;
+    }
+    Ok(all)
+}
+
+fn is_int<'a>(t: &TypeTree<Spelling<'a>>) -> bool
+    ensures { result ≡ is_int t.now }
+{
+    match t {
+        TypeTree::Int => true,
+        TypeTree::Unsigned | TypeTree::Char | TypeTree::Void | TypeTree::Struct(_, _) => false,
+        TypeTree::Raw(_, _) | TypeTree::One(_) | TypeTree::Arr(_) | TypeTree::Nt(_) => false,
+    }
+}
+
+fn is_main_head<'a>(head: &Head<Spelling<'a>, ()>) -> bool
+    ensures { result ≡ is_main_head head.now }
+{
+    head.name.as_str() == "main"
+        && is_int(&head.result)
+        && head.params.is_empty()
+        && head.bounds.is_none()
+}
+
+fn is_main<'a>(item: &Item<Spelling<'a>, ()>) -> bool
+    ensures { result ≡ is_main item.now }
+{
+    match item {
+        Item::Function(head, _) => is_main_head(head.get()),
+        Item::Directive(_) | Item::Tag(_, _) | Item::Struct(_, _, _) => false,
+        Item::Static(_) | Item::Proto(_) => false,
+    }
+}
+
+/// Whether some item is a function `int main(void)`.
+pub fn has_main<'a>(items: &[Item<Spelling<'a>, ()>]) -> bool
+    ensures { result ≡ list_any is_main items.now }
+{
+    for item in items {
+        if is_main(item) {
+            return true;
+        }
+    }
+    false
+}

@@ -1,0 +1,77 @@
+ghost use Rattle.std.specs.Prelude.{◌≡◌, Ok, OnOk, fold};
+ghost use Rattle.ckc_resolve.specs.Outcomes.{Answers};
+ghost use Rattle.ckc_resolve.specs.Scoping.{no_names, noted, with_member};
+
+use crate::fault::ResolveFault;
+use crate::spellings::{Spellings, WrittenHeads};
+use crate::written::written_head;
+use ckc_syntax::{Decl, Item, Spelling};
+use std::alloc::Global;
+
+/// The names that items declare: statics, functions and those with a body, tags and those with a body, and the
+/// members of all structures.
+#[derive(Drop)]
+pub struct Names<'a> {
+    pub statics: Spellings<'a>,
+    pub functions: Spellings<'a>,
+    pub defined: Spellings<'a>,
+    pub tags: Spellings<'a>,
+    pub structs: Spellings<'a>,
+    pub members: Spellings<'a>,
+    pub heads: WrittenHeads,
+}
+
+impl<'a> Names<'a> {
+    /// No names.
+    pub fn new(alloc: Global) -> Names<'a>
+        ensures { result ≡ no_names }
+    {
+        Names {
+            statics: Spellings::new(alloc),
+            functions: Spellings::new(alloc),
+            defined: Spellings::new(alloc),
+            tags: Spellings::new(alloc),
+            structs: Spellings::new(alloc),
+            members: Spellings::new(alloc),
+            heads: WrittenHeads::new(alloc),
+        }
+    }
+
+    /// Adds what an item declares.
+    pub fn note(&mut self, alloc: Global, item: &Item<Spelling<'a>, ()>) -> Result<(), ResolveFault>
+        ensures noted { OnOk result (self.new ≡ noted self.old item.now) }
+        ensures memory { Answers result (Ok tt) }
+    {
+        match item {
+            Item::Directive(_) => Ok(()),
+            Item::Tag(n, _) => self.tags.add(n),
+            Item::Struct(n, members, _) => {
+                self.tags.add(n)?;
+                self.structs.add(n)?;
+                add_members(&mut self.members, members.as_slice())
+            }
+            Item::Static(decl) => self.statics.add(&decl.get().name),
+            Item::Proto(head) => self.functions.add(&head.get().name),
+            Item::Function(head, _) => {
+                self.functions.add(&head.get().name)?;
+                self.defined.add(&head.get().name)?;
+                let written = written_head(alloc, head.get())?;
+                self.heads.add(written)
+            }
+        }
+    }
+}
+
+/// Adds the spellings of members.
+pub fn add_members<'a>(
+    all: &mut Spellings<'a>,
+    members: &[Decl<Spelling<'a>, ()>],
+) -> Result<(), ResolveFault>
+    ensures added { OnOk result (all.new ≡ fold with_member all.old members.now) }
+    ensures memory { Answers result (Ok tt) }
+{
+    for member in members {
+        all.add(&member.name)?;
+    }
+    Ok(())
+}
