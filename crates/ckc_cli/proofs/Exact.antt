@@ -8,8 +8,9 @@ use Rattle.ckc_lexer.specs.Reading.{Outcome}
 use Rattle.ckc_lexer.proofs.CutLaw.{lexes_read, fault_read, reads_once}
 use Rattle.ckc_lexer.proofs.Answer as lexer
 use Rattle.ckc_parser.proofs.Answering.{one_tree, one_fault, tree_or_fault}
+use Rattle.ckc_resolve.proofs.Answer as names
 use Rattle.ckc_cli.specs.Phases.{Phase, ◌>=>◌, IsExact}
-use Rattle.ckc_cli.specs.Accepted.{Tokens, Meaning, length_phase, lexing, syntax_phase, limits_phase, form_phase, phases}
+use Rattle.ckc_cli.specs.Accepted.{Tokens, Meaning, length_phase, lexing, syntax_phase, limits_phase, names_phase, form_phase, phases}
 use Rattle.ckc_cli.proofs.OneForm.{form_once}
 
 module _ {A B C : Type 0} (p : Phase A B) (q : Phase B C) (exact : IsExact p) (next : IsExact q) where
@@ -79,6 +80,13 @@ limits_exact = record {
   not_both = λ tree b fault m f. no_first fault (faults_of tree) ((small_is tree).0 m.0) f;
 }
 
+names_exact : IsExact names_phase
+names_exact = record {
+  once = λ tree b other m n. m.1 ∙ sym n.1;
+  fault_once = λ tree fault other f g. let same = names.fault_once tree fault.code other.code fault.pos other.pos f g in refusal_path fault other same.0 same.1;
+  not_both = λ tree b fault m f. names.not_both tree m.0.0 fault.code fault.pos m.0.1 f;
+}
+
 meaning_path : (a b : Meaning) → a.puts ≡ b.puts → a.value ≡ b.value → a ≡ b
 meaning_path a b e f = λ j. record { puts = e j; value = f j }
 
@@ -91,7 +99,8 @@ form_exact = record {
 
 pub phases_exact : IsExact phases
 phases_exact =
-    then_exact length_phase (lexing >=> syntax_phase >=> limits_phase >=> form_phase) length_exact
-    (then_exact lexing (syntax_phase >=> limits_phase >=> form_phase) lexing_exact
-    (then_exact syntax_phase (limits_phase >=> form_phase) syntax_exact
-    (then_exact limits_phase form_phase limits_exact form_exact)))
+    then_exact length_phase (lexing >=> syntax_phase >=> limits_phase >=> names_phase >=> form_phase) length_exact
+    (then_exact lexing (syntax_phase >=> limits_phase >=> names_phase >=> form_phase) lexing_exact
+    (then_exact syntax_phase (limits_phase >=> names_phase >=> form_phase) syntax_exact
+    (then_exact limits_phase (names_phase >=> form_phase) limits_exact
+    (then_exact names_phase form_phase names_exact form_exact))))

@@ -68,5 +68,6 @@ value_in_item (item.Proto h) puts value m = absurd m
 pub accepted_bounds : (text : List ℕ) (m : Meaning) → Accepted text m → (length m.puts ≤ 1000) × (m.value < 2 ^ 32)
 accepted_bounds text m a =
     let limits = a.2.2.2 in
-    let form = limits.2 in
-    (few_in_form limits.0 m.puts m.value (subst Small (sym limits.1.1) limits.1.0) form, value_in_item form.0 m.puts m.value form.2)
+    let names = limits.2 in
+    let form = names.2 in
+    (few_in_form names.0 m.puts m.value (subst Small (sym (names.1.1 ∙ limits.1.1)) limits.1.0) form, value_in_item form.0 m.puts m.value form.2)

@@ -7,6 +7,8 @@ use Rattle.ckc_syntax.specs.Small.{Small, IsFirst, faults_of}
 use Rattle.ckc_lexer.specs.Cut.{Lexes, FirstBroken, longest_text}
 use Rattle.ckc_lexer.specs.Places.{place_after}
 use Rattle.ckc_parser.specs.Text as syntax
+use Rattle.ckc_resolve.specs.Trees.{NamedTree}
+use Rattle.ckc_resolve.specs.Named.{Named, IsFirstNameFault}
 use Rattle.ckc_cli.specs.Phases.{Phase, ◌>=>◌}
 use Rattle.ckc_cli.specs.FirstForm.{Tree, IsForm}
 
@@ -54,6 +56,14 @@ limits_phase = record {
   Refuses = λ tree fault. IsFirst fault (faults_of tree);
 }
 
+-- A tree whose names are declared goes on as it is; another one is refused for the first fault of its names, with 301
+-- to 304.
+abbrev pub names_phase : Phase Tree Tree
+names_phase = record {
+  Makes = λ tree same. ((named : NamedTree) × Named tree named) × (same ≡ tree);
+  Refuses = λ tree fault. IsFirstNameFault tree fault.code fault.pos;
+}
+
 -- A tree of the form that is built so far; every other one is refused with 100 at 1:1.
 abbrev pub form_phase : Phase Tree Meaning
 form_phase = record {
@@ -63,7 +73,7 @@ form_phase = record {
 
 -- all phases, in their order
 abbrev pub phases : Phase (List ℕ) Meaning
-phases = length_phase >=> lexing >=> syntax_phase >=> limits_phase >=> form_phase
+phases = length_phase >=> lexing >=> syntax_phase >=> limits_phase >=> names_phase >=> form_phase
 
 -- The text is accepted, with this meaning.
 abbrev pub Accepted : List ℕ → Meaning → Type 0
