@@ -1,5 +1,6 @@
 //! `ccc` over the objects in memory.
 mod assembly;
+mod names;
 
 use ckc_base::{Check, Pos, Refusal};
 use ckc_cli::{FaultKind, Status, ccc, report};
@@ -168,9 +169,9 @@ fn texts_are_executed_or_refused(rt: HostRuntime) -> Result<(), Fail> {
         plain(
             b"int main(void){ return x; }",
             exec,
-            refused(100, 1),
+            refused(301, 24),
             b"",
-            b"refused: E100 at 1:1\n",
+            b"refused: E301 at 1:24\n",
         ),
         plain(
             b"int main(void){ putchar(1, 2); return 0; }",
@@ -200,7 +201,7 @@ fn texts_are_executed_or_refused(rt: HostRuntime) -> Result<(), Fail> {
             b"",
             b"refused: E100 at 1:1\n",
         ),
-        plain(b"", exec, refused(100, 1), b"", b"refused: E100 at 1:1\n"),
+        plain(b"", exec, refused(303, 1), b"", b"refused: E303 at 1:1\n"),
         plain(hello, &["exec", "file", "7"], Status::Ended(0), b"H", b""),
         plain(
             hello,

@@ -7,5 +7,4 @@ ghost use Rattle.ckc_parser.specs.Text.{SpelledTree, DerivesTokens};
 /// A text has at most one tree.
 pub fn one_tree(text: &[u8])
     ensures { (a b : List Spelled) (x y : SpelledTree) → Lexes text.now a → DerivesTokens a x → Lexes text.now b → DerivesTokens b y → x ≡ y }
-{
-}
+{}

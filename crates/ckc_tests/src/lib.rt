@@ -8,4 +8,6 @@ pub use laws::one_tree;
 #[cfg(test)]
 mod commands;
 #[cfg(test)]
+mod naming;
+#[cfg(test)]
 mod parsing;
