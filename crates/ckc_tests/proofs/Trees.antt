@@ -1,5 +1,5 @@
 -- A text has at most one tree.
-use Rattle.std.specs.Prelude.{◌≡◌, ℕ, List, subst, sym}
+use Rattle.std.proofs.Common.{◌≡◌, ℕ, List, subst}
 use Rattle.ckc_syntax.specs.Spelled.{Spelled}
 use Rattle.ckc_lexer.specs.Cut.{Lexes}
 use Rattle.ckc_lexer.proofs.Answer.{tokens_once}
