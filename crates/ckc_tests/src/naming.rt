@@ -3,20 +3,9 @@ use ckc_base::Pos;
 use ckc_lexer::lex;
 use ckc_parser::parse;
 use ckc_resolve::{main_of, resolve};
-use ckc_syntax::{Act, Expr, Item, Name, Node, Stmt, Tree, TypeTree};
+use ckc_syntax::{Act, Expr, Item, Name, Node, Spelling, Tree, TypeTree};
 use std::alloc::{AllocError, Global};
 use std::test::Fail;
-
-/// The last statement of the last function of a text.
-fn last<'t>(tree: &'t Tree<Name, ()>) -> Option<&'t Stmt<Name, ()>> {
-    let Some(Item::Function(_, body)) = tree.items.as_slice().last() else {
-        return None;
-    };
-    match &body.get().body {
-        Act::Block(_, statements) => statements.as_slice().last(),
-        _ => None,
-    }
-}
 
 /// What an expression names at its root.
 fn named(e: &Expr<Name, ()>) -> Option<Name> {
@@ -30,31 +19,59 @@ fn named(e: &Expr<Name, ()>) -> Option<Name> {
     }
 }
 
-/// What the last statement of the last function returns or calls, and the number of `main`.
-fn meaning(alloc: Global, text: &str) -> Result<String, AllocError> {
-    let Ok(tokens) = lex(alloc, text.as_bytes()) else {
-        return format!(in alloc; "no tokens");
-    };
-    let Ok(tree) = parse(alloc, tokens.as_slice(), Pos { line: 9, col: 1 }) else {
-        return format!(in alloc; "no tree");
-    };
-    let Ok(Some(main)) = main_of(alloc, &tree) else {
-        return format!(in alloc; "no main");
-    };
-    let Ok(tree) = resolve(alloc, tree) else {
-        return format!(in alloc; "refused");
-    };
-    let name = match last(&tree) {
-        Some(statement) => match &statement.body {
-            Act::Return(Some(e)) => named(e.get()),
-            Act::Call(e) => named(e.get()),
+/// What a statement returns or calls.
+fn named_by(act: &Act<Name, ()>) -> Option<Name> {
+    match act {
+        Act::Return(Some(e)) => named(e.get()),
+        Act::Call(e) => named(e.get()),
+        _ => None,
+    }
+}
+
+/// What the last statement of a body returns or calls.
+fn named_last(act: &Act<Name, ()>) -> Option<Name> {
+    match act {
+        Act::Block(_, statements) => match statements.as_slice().split_last() {
+            Some((statement, _)) => named_by(&statement.body),
+            None => None,
+        },
+        _ => None,
+    }
+}
+
+/// What the last statement of the last item, a function, returns or calls.
+fn named_in(tree: &Tree<Name, ()>) -> Option<Name> {
+    match tree.items.as_slice().split_last() {
+        Some((item, _)) => match item {
+            Item::Function(_, body) => named_last(&body.get().body),
             _ => None,
         },
         None => None,
+    }
+}
+
+/// That, and the number of `main`.
+fn meaning_of(alloc: Global, tree: Tree<Spelling, ()>) -> Result<String, AllocError> {
+    let main = match main_of(alloc, &tree) {
+        Ok(Some(main)) => main,
+        _ => return Err(AllocError),
     };
-    match name {
-        Some(name) => format!(in alloc; "{name:?} {main}"),
-        None => format!(in alloc; "nothing"),
+    match resolve(alloc, tree) {
+        Ok(resolved) => match named_in(&resolved) {
+            Some(name) => format!(in alloc; "{name:?} {main}"),
+            None => String::from_str(alloc, "nothing"),
+        },
+        Err(_) => Err(AllocError),
+    }
+}
+
+fn meaning(alloc: Global, text: &str) -> Result<String, AllocError> {
+    match lex(alloc, text.as_bytes()) {
+        Ok(tokens) => match parse(alloc, tokens.as_slice(), Pos { line: 9, col: 1 }) {
+            Ok(tree) => meaning_of(alloc, tree),
+            Err(_) => Err(AllocError),
+        },
+        Err(_) => Err(AllocError),
     }
 }
 

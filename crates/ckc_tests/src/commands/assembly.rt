@@ -75,6 +75,21 @@ fn assembled(
     Ok(status)
 }
 
+/// Runs a row, and compares what it left.
+fn run_row(rt: &impl Abort, alloc: Global, row: &Row) -> Result<(), Fail> {
+    let mut store = MemStore::new(alloc, row.store_fails);
+    store.set("file", row.text.as_bytes())?;
+    let status = assembled(rt, alloc, &mut store, row.err)?;
+    assert_eq!(rt; status, row.status, "{}", row.text);
+    match store.fetch(alloc, "image", 1_000) {
+        Ok(Fetched::Whole(bytes)) => {
+            assert_eq!(rt; Some(bytes.as_slice()), row.image, "{}", row.text);
+        }
+        _ => assert!(rt; row.image.is_none(), "{}", row.text),
+    }
+    Ok(())
+}
+
 #[test]
 fn texts_are_assembled_or_refused(rt: HostRuntime) -> Result<(), Fail> {
     let alloc = rt.alloc();
@@ -108,16 +123,7 @@ fn texts_are_assembled_or_refused(rt: HostRuntime) -> Result<(), Fail> {
         },
     ];
     for row in &rows {
-        let mut store = MemStore::new(alloc, row.store_fails);
-        store.set("file", row.text.as_bytes())?;
-        let status = assembled(&rt, alloc, &mut store, row.err)?;
-        assert_eq!(rt; status, row.status, "{}", row.text);
-        match store.fetch(alloc, "image", 1_000) {
-            Ok(Fetched::Whole(bytes)) => {
-                assert_eq!(rt; Some(bytes.as_slice()), row.image, "{}", row.text);
-            }
-            _ => assert!(rt; row.image.is_none(), "{}", row.text),
-        }
+        run_row(&rt, alloc, row)?;
     }
     Ok(())
 }

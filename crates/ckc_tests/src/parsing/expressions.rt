@@ -1,4 +1,5 @@
-use ckc_base::{Pos, Refusal};
+use super::END;
+use ckc_base::Pos;
 use ckc_lexer::lex;
 use ckc_parser::{ParseFault, parse};
 use ckc_syntax::{Act, Expr, Item, Node, Spelling, Tree, TreeOp};
@@ -45,40 +46,60 @@ fn root(alloc: Global, e: &Expr<Spelling, ()>) -> Result<String, AllocError> {
     }
 }
 
-/// The expression that the one function returns.
-fn returned<'t, 'a>(tree: &'t Tree<Spelling<'a>, ()>) -> Option<&'t Expr<Spelling<'a>, ()>> {
-    let [Item::Function(_, body)] = tree.items.as_slice() else {
-        return None;
-    };
-    let Act::Block(None, statements) = &body.get().body else {
-        return None;
-    };
-    let [one] = statements.as_slice() else {
-        return None;
-    };
-    match &one.body {
-        Act::Return(Some(e)) => Some(e.get()),
-        _ => None,
+fn nothing(alloc: Global) -> Result<String, AllocError> {
+    String::from_str(alloc, "nothing")
+}
+
+/// The root of the expression that a statement returns.
+fn root_of_statement(alloc: Global, act: &Act<Spelling, ()>) -> Result<String, AllocError> {
+    match act {
+        Act::Return(Some(e)) => root(alloc, e.get()),
+        _ => nothing(alloc),
     }
 }
 
-/// The root of the expression that words are, or the column of the word at which reading stops. The end is at column
-/// 999.
+/// That of the first statement of a body.
+fn root_of_body(alloc: Global, act: &Act<Spelling, ()>) -> Result<String, AllocError> {
+    match act {
+        Act::Block(_, statements) => match statements.as_slice().split_first() {
+            Some((first, _)) => root_of_statement(alloc, &first.body),
+            None => nothing(alloc),
+        },
+        _ => nothing(alloc),
+    }
+}
+
+/// That of the first item, which is a function.
+fn root_of_tree(alloc: Global, tree: &Tree<Spelling, ()>) -> Result<String, AllocError> {
+    match tree.items.as_slice().split_first() {
+        Some((item, _)) => match item {
+            Item::Function(_, body) => root_of_body(alloc, &body.get().body),
+            _ => nothing(alloc),
+        },
+        None => nothing(alloc),
+    }
+}
+
+/// The column at which reading stops. The end is at column 999.
+fn stop(alloc: Global, pos: Pos) -> Result<String, AllocError> {
+    let col = if pos.line == 2 { pos.col } else { 999 };
+    format!(in alloc; "stops {col}")
+}
+
+/// The root of the expression that words are, or the column of the word at which reading stops.
 fn read(alloc: Global, words: &[&'static str]) -> Result<String, AllocError> {
     let text = text_of(alloc, words)?;
-    let Ok(tokens) = lex(alloc, text.as_bytes()) else {
-        return Err(AllocError);
-    };
-    match parse(alloc, tokens.as_slice(), Pos { line: 9, col: 1 }) {
-        Ok(tree) => match returned(&tree) {
-            Some(e) => root(alloc, e),
-            None => format!(in alloc; "nothing"),
+    read_text(alloc, text.as_str())
+}
+
+fn read_text(alloc: Global, text: &str) -> Result<String, AllocError> {
+    match lex(alloc, text.as_bytes()) {
+        Ok(tokens) => match parse(alloc, tokens.as_slice(), END) {
+            Ok(tree) => root_of_tree(alloc, &tree),
+            Err(ParseFault::Refused(refusal)) => stop(alloc, refusal.pos),
+            Err(ParseFault::Memory) => Err(AllocError),
         },
-        Err(ParseFault::Refused(Refusal { code: _, pos })) => {
-            let col = if pos.line == 2 { pos.col } else { 999 };
-            format!(in alloc; "stops {col}")
-        }
-        Err(ParseFault::Memory) => Err(AllocError),
+        Err(_) => Err(AllocError),
     }
 }
 

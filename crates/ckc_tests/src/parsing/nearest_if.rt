@@ -1,32 +1,54 @@
 use super::END;
 use ckc_lexer::lex;
 use ckc_parser::parse;
-use ckc_syntax::{Act, Item};
+use ckc_syntax::{Act, Item, Spelling, Tree};
 use std::alloc::{AllocError, Global};
 use std::process::Abort;
 use std::test::Fail;
 
-/// Whether a text is one function whose body is an `if` without `else` around one with `else`.
+/// Whether a statement is an `if` with `else`.
+fn is_whole(act: &Act<Spelling, ()>) -> bool {
+    match act {
+        Act::If(_, _, Some(_)) => true,
+        _ => false,
+    }
+}
+
+/// Whether a statement is an `if` without `else` around one with `else`.
+fn is_around(act: &Act<Spelling, ()>) -> bool {
+    match act {
+        Act::If(_, inner, None) => is_whole(&inner.get().body),
+        _ => false,
+    }
+}
+
+/// Whether a body begins with such a statement.
+fn begins_around(act: &Act<Spelling, ()>) -> bool {
+    match act {
+        Act::Block(_, statements) => match statements.as_slice().split_first() {
+            Some((first, _)) => is_around(&first.body),
+            None => false,
+        },
+        _ => false,
+    }
+}
+
+/// Whether a tree begins with a function whose body does.
+fn is_nested(tree: &Tree<Spelling, ()>) -> bool {
+    match tree.items.as_slice().split_first() {
+        Some((item, _)) => match item {
+            Item::Function(_, body) => begins_around(&body.get().body),
+            _ => false,
+        },
+        None => false,
+    }
+}
+
 fn is_else_within(alloc: Global, text: &str) -> Result<bool, AllocError> {
-    let Ok(tokens) = lex(alloc, text.as_bytes()) else {
-        return Err(AllocError);
-    };
-    match parse(alloc, tokens.as_slice(), END) {
-        Ok(tree) => match tree.items.as_slice() {
-            [Item::Function(_, body)] => match &body.get().body {
-                Act::Block(None, statements) => match statements.as_slice() {
-                    [outer] => match &outer.body {
-                        Act::If(_, inner, None) => match &inner.get().body {
-                            Act::If(_, _, Some(_)) => Ok(true),
-                            _ => Ok(false),
-                        },
-                        _ => Ok(false),
-                    },
-                    _ => Ok(false),
-                },
-                _ => Ok(false),
-            },
-            _ => Ok(false),
+    match lex(alloc, text.as_bytes()) {
+        Ok(tokens) => match parse(alloc, tokens.as_slice(), END) {
+            Ok(tree) => Ok(is_nested(&tree)),
+            Err(_) => Err(AllocError),
         },
         Err(_) => Err(AllocError),
     }
