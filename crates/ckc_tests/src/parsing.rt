@@ -1,7 +1,6 @@
 //! Texts through lexer and parser.
 mod expressions;
 mod items;
-mod nearest_if;
 mod statements;
 
 use ckc_base::Pos;
