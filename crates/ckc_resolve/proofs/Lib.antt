@@ -1,4 +1,11 @@
 pub mod Answer
+pub mod Codes
+pub mod TypeCodes
+pub mod NodeCodes
+pub mod HeadCodes
+pub mod TypeWords
+pub mod NodeWords
+pub mod HeadWords
 pub mod Ends
 pub mod Indexing
 pub mod Search

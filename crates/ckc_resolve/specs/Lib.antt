@@ -3,6 +3,7 @@ pub mod Spellings
 pub mod Trees
 pub mod Indexed
 pub mod Written
+pub mod Placeless
 pub mod Scoping
 pub mod Meanings
 pub mod Types
