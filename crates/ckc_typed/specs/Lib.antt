@@ -1,3 +1,16 @@
 pub mod Raw
 pub mod Walk
 pub mod Scoped
+pub mod Outcomes
+pub mod Trees
+pub mod Types
+pub mod Environment
+pub mod Constants
+pub mod Operands
+pub mod Conversions
+pub mod Expressions
+pub mod Declarations
+pub mod Statements
+pub mod Layouts
+pub mod Statics
+pub mod Texts

@@ -1,0 +1,143 @@
+-- What a text declares (ISO C11, 6.2.1): its objects of file scope and its functions, and the variables that an
+-- expression sees beside them. Where a tree names what it does not declare, nothing is found.
+use Rattle.std.specs.Prelude.{ℕ, ◌==◌, Bool, true, false, List, [], ◌∷◌, ◌++◌, map, flat_map, find, Option, None, Some}
+use Rattle.std.specs.Option.{option_map}
+use Rattle.ckc_types.specs.declared.types.Kind.{Kind}
+use Rattle.ckc_types.specs.declared.types.Kind.TheVariants as kind
+use Rattle.ckc_types.specs.declared.types.CType.{CType}
+use Rattle.ckc_types.specs.declared.types.CType.TheVariants as ctype
+use Rattle.ckc_types.specs.declared.types.Structs.{Structs}
+use Rattle.ckc_types.specs.Layout.{members_of}
+use Rattle.ckc_syntax.specs.declared.tree.Name.{Name}
+use Rattle.ckc_syntax.specs.declared.tree.Name.TheVariants as name
+use Rattle.ckc_syntax.specs.declared.tree.Length.{Length}
+use Rattle.ckc_syntax.specs.declared.tree.Length.TheVariants as lengths
+use Rattle.ckc_syntax.specs.declared.tree.Item.TheVariants as item
+use Rattle.ckc_syntax.specs.declared.tree.Act.{Act-F}
+use Rattle.ckc_syntax.specs.declared.tree.Stmt.{Stmt-F, fold-Stmt}
+use Rattle.ckc_typed.specs.declared.environment.Globals.{Globals}
+use Rattle.ckc_typed.specs.declared.environment.Object.{Object}
+use Rattle.ckc_typed.specs.declared.environment.Signature.{Signature}
+use Rattle.ckc_typed.specs.declared.environment.Variable.{Variable}
+use Rattle.ckc_typed.specs.Trees.{Item, Head, Decl, Stmt}
+use Rattle.ckc_typed.specs.Types.{type_written}
+
+abbrev pub same_name : Name → Name → Bool
+same_name (name.Local j) (name.Local k) = j == k
+same_name (name.Static j) (name.Static k) = j == k
+same_name (name.Function j) (name.Function k) = j == k
+same_name (name.Tag j) (name.Tag k) = j == k
+same_name (name.Member j) (name.Member k) = j == k
+same_name name.Getchar name.Getchar = true
+same_name name.Putchar name.Putchar = true
+same_name _ _ = false
+
+-- Used, `T a[n]` is a `T *`, `_Checked` an `_Array_ptr<T>`, and `_Nt_checked` an `_Nt_array_ptr<T>`.
+abbrev pub kind_of_array : Length → Option Kind
+kind_of_array lengths.Plain = None
+kind_of_array (lengths.Raw n pos) = Some kind.Raw
+kind_of_array (lengths.Checked n) = Some kind.Arr
+kind_of_array (lengths.Nt n) = Some kind.Nt
+
+abbrev pub object_declared : Decl → Object
+object_declared d = record { name = d.name; element = type_written d.ctype; array = kind_of_array d.length }
+
+abbrev pub variable_declared : Decl → Variable
+variable_declared d = record { name = d.name; ctype = type_written d.ctype }
+
+abbrev pub type_declared : Decl → CType
+type_declared d = type_written d.ctype
+
+abbrev pub signature_declared : Head → Signature
+signature_declared h = record { name = h.name; result = type_written h.result; params = map type_declared h.params }
+
+abbrev pub objects_of_item : Item → List Object
+objects_of_item (item.Static d) = object_declared d ∷ []
+objects_of_item _ = []
+
+-- A prototype adds none, since its function has the same head.
+abbrev pub signatures_of_item : Item → List Signature
+signatures_of_item (item.Function h body) = signature_declared h ∷ []
+signatures_of_item _ = []
+
+abbrev pub objects_of : List Item → List Object
+objects_of items = flat_map objects_of_item items
+
+-- `int getchar(void)` and `int putchar(int)` stand for every text.
+abbrev pub getchar : Signature
+getchar = record { name = name.Getchar; result = ctype.Int; params = [] }
+
+abbrev pub putchar : Signature
+putchar = record { name = name.Putchar; result = ctype.Int; params = ctype.Int ∷ [] }
+
+abbrev pub signatures_of : List Item → List Signature
+signatures_of items = getchar ∷ putchar ∷ flat_map signatures_of_item items
+
+abbrev pub held_variables : Option (List Variable) → List Variable
+held_variables None = []
+held_variables (Some vs) = vs
+
+abbrev pub joined_variables : List (List Variable) → List Variable
+joined_variables [] = []
+joined_variables (vs ∷ rest) = vs ++ joined_variables rest
+
+abbrev pub act_variables : Act-F Name (Unit {0}) (List Variable) (List Variable) → List Variable
+act_variables (Act-F.Block m ss) = joined_variables ss
+act_variables Act-F.Empty = []
+act_variables (Act-F.Local d) = variable_declared d ∷ []
+act_variables (Act-F.Assign e f) = []
+act_variables (Act-F.Call e) = []
+act_variables (Act-F.If e s t) = s ++ held_variables t
+act_variables (Act-F.While e s) = s
+act_variables (Act-F.For s e t body) = held_variables s ++ held_variables t ++ body
+act_variables (Act-F.Return e) = []
+act_variables Act-F.Break = []
+act_variables Act-F.Continue = []
+act_variables (Act-F.Check e) = []
+act_variables (Act-F.Bundle ss) = joined_variables ss
+
+abbrev pub stmt_variables : Stmt-F Name (Unit {0}) (List Variable) (List Variable) → List Variable
+stmt_variables s = s.body
+
+-- the locals that a statement declares anywhere in it; a function numbers each of its locals once
+abbrev pub locals_of : Stmt → List Variable
+locals_of = fold-Stmt Name (Unit {0}) (List Variable) (List Variable) act_variables stmt_variables
+
+abbrev pub params_of : Head → List Variable
+params_of h = map variable_declared h.params
+
+-- what an expression in a function sees
+abbrev pub variables_of : Head → Stmt → List Variable
+variables_of h body = params_of h ++ locals_of body
+
+abbrev pub object_named : Globals → Name → Option Object
+object_named globals n = find (λ o. same_name o.name n) globals.objects
+
+abbrev pub signature_named : Globals → Name → Option Signature
+signature_named globals n = find (λ s. same_name s.name n) globals.functions
+
+abbrev pub variable_named : List Variable → Name → Option Variable
+variable_named variables n = find (λ v. same_name v.name n) variables
+
+abbrev pub is_member_named : Name → ℕ → Bool
+is_member_named n k = same_name n (name.Member k)
+
+-- the type of a member of the structure with a tag
+abbrev pub member_type : Structs → ℕ → Name → Option CType
+member_type structs tag n = option_map (λ m. m.ctype) (find (λ m. is_member_named n m.name) (members_of structs tag))
+
+-- A used array is a pointer to its first element.
+abbrev pub used : CType → Option Kind → CType
+used element None = element
+used element (Some k) = ctype.Pointer k element
+
+abbrev pub object_type : Object → CType
+object_type o = used o.element o.array
+
+abbrev pub or_variable : Option Variable → Option Object → Option CType
+or_variable (Some v) o = Some v.ctype
+or_variable None o = option_map object_type o
+
+-- the type of a name that is used in an expression
+abbrev pub type_of_name : Globals → List Variable → Name → Option CType
+type_of_name globals variables n = or_variable (variable_named variables n) (object_named globals n)

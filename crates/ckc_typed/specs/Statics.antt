@@ -1,0 +1,180 @@
+-- Where objects lie that live as long as the program (ISO C11, 6.2.4 and 6.7.9): the declared ones come first, in the
+-- order of the text, then a block for each string literal that initialises no array, in the order of the text, with a
+-- zero byte behind its bytes. At 0x02000000 lies a word of the heap's. Each block begins at the least multiple of 8
+-- that is at least 8 bytes past the end of what lies before it.
+use Rattle.std.specs.Prelude.{ℕ, ◌+◌, ◌*◌, Bool, true, false, if◌then◌else◌, List, [], ◌∷◌, ◌++◌, length, take, map, flat_map, Option, None, Some, unwrap_or}
+use Rattle.std.specs.Int.{w32, to_le_bytes, next_multiple_of}
+use Rattle.ckc_types.specs.declared.types.CType.{CType}
+use Rattle.ckc_types.specs.declared.types.CType.TheVariants as ctype
+use Rattle.ckc_types.specs.declared.types.Structs.{Structs}
+use Rattle.ckc_syntax.specs.declared.tree.Name.{Name}
+use Rattle.ckc_syntax.specs.declared.tree.Init.TheVariants as init
+use Rattle.ckc_syntax.specs.declared.tree.Length.{Length}
+use Rattle.ckc_syntax.specs.declared.tree.Length.TheVariants as lengths
+use Rattle.ckc_syntax.specs.declared.tree.Item.TheVariants as item
+use Rattle.ckc_syntax.specs.declared.tree.Limits.{Limits-F, fold-Limits}
+use Rattle.ckc_syntax.specs.declared.tree.Node.{Node-F}
+use Rattle.ckc_syntax.specs.declared.tree.Expr.{Expr-F, fold-Expr}
+use Rattle.ckc_syntax.specs.declared.tree.Act.{Act-F}
+use Rattle.ckc_syntax.specs.declared.tree.Stmt.{Stmt-F, fold-Stmt}
+use Rattle.ckc_typed.specs.declared.environment.Constant.{Constant}
+use Rattle.ckc_typed.specs.declared.typed.Note.{Note}
+use Rattle.ckc_typed.specs.declared.typed.StaticObject.{StaticObject}
+use Rattle.ckc_typed.specs.Trees.{NotedItem, NotedHead, NotedDecl, NotedInit, NotedLimits, NotedExpr, NotedStmt}
+use Rattle.ckc_typed.specs.Types.{type_written, is_char}
+use Rattle.ckc_typed.specs.Constants.{constant, size_of}
+use Rattle.ckc_typed.specs.Declarations.{count_of, is_plain, string_in}
+
+-- the bytes of strings, from a first part to a last
+abbrev pub Strings : Type 0
+Strings = List (List ℕ)
+
+abbrev pub joined_strings : List Strings → Strings
+joined_strings [] = []
+joined_strings (s ∷ rest) = s ++ joined_strings rest
+
+abbrev pub held_strings : Option Strings → Strings
+held_strings None = []
+held_strings (Some s) = s
+
+abbrev pub limits_strings : Limits-F Name Note Strings Strings Strings → Strings
+limits_strings (Limits-F.Count e) = e
+limits_strings (Limits-F.ByteCount e) = e
+limits_strings (Limits-F.Between e f) = e ++ f
+limits_strings (Limits-F.Unknown pos) = []
+
+abbrev pub node_strings : Node-F Name Note Strings Strings Strings → Strings
+node_strings (Node-F.Number n unsigned) = []
+node_strings (Node-F.Text bytes) = bytes ∷ []
+node_strings Node-F.Null = []
+node_strings (Node-F.Name n) = []
+node_strings (Node-F.Un o e) = e
+node_strings (Node-F.Bin o e f) = e ++ f
+node_strings (Node-F.Pick e f g) = e ++ f ++ g
+node_strings (Node-F.Index e f) = e ++ f
+node_strings (Node-F.Dot e n) = e
+node_strings (Node-F.Arrow e n) = e
+node_strings (Node-F.Cast t e) = e
+node_strings (Node-F.Size t) = []
+node_strings (Node-F.Trusted t e l) = e ++ held_strings l
+node_strings (Node-F.Tested t e l) = e ++ held_strings l
+node_strings (Node-F.Call n es) = joined_strings es
+node_strings (Node-F.Calloc t e u) = e
+
+abbrev pub expr_strings : Expr-F Name Note Strings Strings Strings → Strings
+expr_strings e = e.node
+
+abbrev pub strings_of_limits : NotedLimits → Strings
+strings_of_limits = fold-Limits Name Note Strings Strings Strings limits_strings node_strings expr_strings
+
+abbrev pub strings_of_expr : NotedExpr → Strings
+strings_of_expr = fold-Expr Name Note Strings Strings Strings limits_strings node_strings expr_strings
+
+abbrev pub strings_of_bounds : Option NotedLimits → Strings
+strings_of_bounds None = []
+strings_of_bounds (Some l) = strings_of_limits l
+
+abbrev pub strings_of_value : Option NotedExpr → Strings
+strings_of_value None = []
+strings_of_value (Some e) = strings_of_expr e
+
+-- A string that initialises an array makes no block.
+abbrev pub strings_of_init : Bool → NotedInit → Strings
+strings_of_init plain init.Nothing = []
+strings_of_init plain (init.One e) = if plain then strings_of_expr e else []
+strings_of_init plain (init.Many es) = flat_map strings_of_expr es
+
+abbrev pub strings_of_decl : NotedDecl → Strings
+strings_of_decl d = strings_of_bounds d.bounds ++ strings_of_init (is_plain d.length) d.init
+
+abbrev pub act_strings : Act-F Name Note Strings Strings → Strings
+act_strings (Act-F.Block m ss) = joined_strings ss
+act_strings Act-F.Empty = []
+act_strings (Act-F.Local d) = strings_of_decl d
+act_strings (Act-F.Assign e f) = strings_of_expr e ++ strings_of_expr f
+act_strings (Act-F.Call e) = strings_of_expr e
+act_strings (Act-F.If e s t) = strings_of_expr e ++ s ++ held_strings t
+act_strings (Act-F.While e s) = strings_of_expr e ++ s
+act_strings (Act-F.For s e t body) = held_strings s ++ strings_of_value e ++ held_strings t ++ body
+act_strings (Act-F.Return e) = strings_of_value e
+act_strings Act-F.Break = []
+act_strings Act-F.Continue = []
+act_strings (Act-F.Check e) = strings_of_expr e
+act_strings (Act-F.Bundle ss) = joined_strings ss
+
+abbrev pub stmt_strings : Stmt-F Name Note Strings Strings → Strings
+stmt_strings s = s.body
+
+abbrev pub strings_of_stmt : NotedStmt → Strings
+strings_of_stmt = fold-Stmt Name Note Strings Strings act_strings stmt_strings
+
+abbrev pub strings_of_head : NotedHead → Strings
+strings_of_head h = flat_map strings_of_decl h.params ++ strings_of_bounds h.bounds
+
+abbrev pub strings_of_item : NotedItem → Strings
+strings_of_item (item.Directive d) = []
+strings_of_item (item.Tag n pos) = []
+strings_of_item (item.Struct n members pos) = flat_map strings_of_decl members
+strings_of_item (item.Static d) = strings_of_decl d
+strings_of_item (item.Proto h) = strings_of_head h
+strings_of_item (item.Function h body) = strings_of_head h ++ strings_of_stmt body
+
+abbrev pub word_in : Option Constant → ℕ
+word_in (Some c) = c.word
+word_in None = 0
+
+-- The bytes of a constant, the low one first; of a `char` the low one alone. Null is zero.
+abbrev pub bytes_of : Structs → CType → NotedExpr → List ℕ
+bytes_of structs t e = take (if is_char t then 1 else 4) (to_le_bytes w32 (word_in (constant structs e)))
+
+abbrev pub bytes_of_one : Structs → CType → NotedExpr → Option (List ℕ) → List ℕ
+bytes_of_one structs t e (Some bytes) = bytes
+bytes_of_one structs t e None = bytes_of structs t e
+
+-- what an object begins with; the rest of it is zero
+abbrev pub initial_bytes : Structs → CType → NotedInit → List ℕ
+initial_bytes structs t init.Nothing = []
+initial_bytes structs t (init.One e) = bytes_of_one structs t e (string_in e)
+initial_bytes structs t (init.Many es) = flat_map (bytes_of structs t) es
+
+abbrev pub is_terminated : Length → Bool
+is_terminated (lengths.Nt n) = true
+is_terminated _ = false
+
+abbrev pub object_of : Structs → NotedDecl → StaticObject
+object_of structs d = record { at = 0; element = type_written d.ctype; count = unwrap_or (count_of d) 0; terminated = is_terminated d.length; initial = initial_bytes structs (type_written d.ctype) d.init }
+
+abbrev pub objects_of_item : Structs → NotedItem → List StaticObject
+objects_of_item structs (item.Static d) = object_of structs d ∷ []
+objects_of_item structs _ = []
+
+abbrev pub object_of_string : List ℕ → StaticObject
+object_of_string bytes = record { at = 0; element = ctype.Char; count = length bytes + 1; terminated = true; initial = bytes }
+
+-- the blocks in their order, without their places
+abbrev pub blocks : Structs → List NotedItem → List StaticObject
+blocks structs items = flat_map (objects_of_item structs) items ++ map object_of_string (flat_map strings_of_item items)
+
+-- where the block behind an end begins
+abbrev pub begin_behind : ℕ → ℕ
+begin_behind end = next_multiple_of (end + 8) 8
+
+abbrev pub end_of_block : Structs → ℕ → StaticObject → ℕ
+end_of_block structs end o = begin_behind end + size_of structs o.element * o.count
+
+-- the blocks at their places behind an end
+abbrev pub placed : Structs → ℕ → List StaticObject → List StaticObject
+placed structs end [] = []
+placed structs end (o ∷ os) = record o { at = begin_behind end } ∷ placed structs (end_of_block structs end o) os
+
+-- where the last of them ends
+abbrev pub end_of_blocks : Structs → ℕ → List StaticObject → ℕ
+end_of_blocks structs end [] = end
+end_of_blocks structs end (o ∷ os) = end_of_blocks structs (end_of_block structs end o) os
+
+-- the end of what lies before the first block, and the last end that fits
+abbrev pub FIRST_END : ℕ
+FIRST_END = 0x02000000
+
+abbrev pub LAST_END : ℕ
+LAST_END = 0x02400000

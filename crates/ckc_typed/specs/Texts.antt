@@ -1,0 +1,81 @@
+-- A whole text with its types: what it becomes, and its first fault. Items are judged in the order of the text. That
+-- the static objects end too late is judged last.
+use Rattle.std.specs.Prelude.{◌≡◌, ℕ, nat_lt, Bool, not, ◌||◌, List, [], ◌∷◌, map, unwrap_or, Ok}
+use Rattle.std.specs.Prelude.{false}
+use Rattle.ckc_base.specs.declared.places.Pos.{Pos}
+use Rattle.ckc_base.specs.declared.arithmetic.Mode.{Mode}
+use Rattle.ckc_base.specs.declared.arithmetic.Mode.TheVariants.{Unchecked}
+use Rattle.ckc_types.specs.declared.types.CType.{CType}
+use Rattle.ckc_types.specs.declared.types.Structs.{Structs}
+use Rattle.ckc_syntax.specs.declared.tree.Item.TheVariants as item
+use Rattle.ckc_typed.specs.declared.environment.Globals.{Globals}
+use Rattle.ckc_typed.specs.declared.typed.StaticObject.{StaticObject}
+use Rattle.ckc_typed.specs.declared.typed.Typed.{Typed}
+use Rattle.ckc_typed.specs.Outcomes.{Outcome, bind, refused, unless}
+use Rattle.ckc_typed.specs.Trees.{Tree, Item, Head, Stmt, NotedItem, NotedHead}
+use Rattle.ckc_typed.specs.Types.{type_written, is_void, is_scalar_type}
+use Rattle.ckc_typed.specs.Environment.{objects_of, signatures_of, params_of, variables_of, variable_declared}
+use Rattle.ckc_typed.specs.Expressions.{bounds_typed}
+use Rattle.ckc_typed.specs.Declarations.{bares_typed, static_typed}
+use Rattle.ckc_typed.specs.Statements.{stmt_typed}
+use Rattle.ckc_typed.specs.Layouts.{structs_of}
+use Rattle.ckc_typed.specs.Statics.{blocks, placed, end_of_blocks, FIRST_END, LAST_END}
+use Rattle.ckc_typed.specs.Walk.{mode_of_directive}
+
+-- A result is a scalar or `void`.
+abbrev pub is_result_type : CType → Bool
+is_result_type t = is_void t || is_scalar_type t
+
+abbrev pub head_mode : Mode → Head → Mode
+head_mode pragma h = unwrap_or h.mode pragma
+
+-- A head has its own mode, or that of the pragma before it.
+abbrev pub head_typed : Globals → Mode → Head → Outcome NotedHead
+head_typed globals pragma h =
+    bind (bares_typed globals (params_of h) (head_mode pragma h) h.params) (λ ps. bind (bounds_typed globals (params_of h) (head_mode pragma h) h.bounds) (λ l.
+    unless (not (is_result_type (type_written h.result))) 401 h.pos (Ok (record { mode = h.mode; result = h.result; name = h.name; params = ps; bounds = l; pos = h.pos }))))
+
+abbrev pub function_typed : Globals → Mode → Head → Stmt → Outcome NotedItem
+function_typed globals pragma h body =
+    bind (head_typed globals pragma h) (λ g. bind (stmt_typed globals (variables_of h body) (type_written h.result) body (head_mode pragma h) false) (λ b. Ok (item.Function g b)))
+
+abbrev pub item_typed : Globals → Mode → Item → Outcome NotedItem
+item_typed globals pragma (item.Directive d) = Ok (item.Directive d)
+item_typed globals pragma (item.Tag n pos) = Ok (item.Tag n pos)
+item_typed globals pragma (item.Struct n members pos) = bind (bares_typed globals (map variable_declared members) pragma members) (λ ms. Ok (item.Struct n ms pos))
+item_typed globals pragma (item.Static d) = bind (static_typed globals pragma d) (λ n. Ok (item.Static n))
+item_typed globals pragma (item.Proto h) = bind (head_typed globals pragma h) (λ g. Ok (item.Proto g))
+item_typed globals pragma (item.Function h body) = function_typed globals pragma h body
+
+-- the mode of what follows an item, where no head says another
+abbrev pub pragma_after : Mode → Item → Mode
+pragma_after pragma (item.Directive d) = mode_of_directive pragma d
+pragma_after pragma _ = pragma
+
+abbrev pub items_typed : Globals → Mode → List Item → Outcome (List NotedItem)
+items_typed globals pragma [] = Ok []
+items_typed globals pragma (i ∷ rest) = bind (item_typed globals pragma i) (λ n. bind (items_typed globals (pragma_after pragma i) rest) (λ ns. Ok (n ∷ ns)))
+
+-- what the whole text sees
+abbrev pub globals_of : List Item → Globals
+globals_of items = record { structs = structs_of items; objects = objects_of items; functions = signatures_of items }
+
+abbrev pub start_of_text : Pos
+start_of_text = record { line = 1; col = 1 }
+
+-- E206: the static objects end too late
+abbrev pub laid_out : Structs → List NotedItem → Outcome (List StaticObject)
+laid_out structs items = unless (nat_lt LAST_END (end_of_blocks structs FIRST_END (blocks structs items))) 206 start_of_text (Ok (placed structs FIRST_END (blocks structs items)))
+
+abbrev pub text_typed : Tree → ℕ → Outcome Typed
+text_typed tree main =
+    bind (items_typed (globals_of tree.items) Unchecked tree.items) (λ items. bind (laid_out (structs_of tree.items) items) (λ statics.
+    Ok (record { tree = record { items = items }; layout = structs_of tree.items; statics = statics; main = main })))
+
+-- The typed text is the tree with its types, where no rule is broken. The number of `main` is given with the tree.
+abbrev pub TypedAs : Tree → ℕ → Typed → Type 0
+TypedAs tree main p = text_typed tree main ≡ Ok p
+
+-- The first rule that the tree breaks, in walk order, has this code and this place.
+abbrev pub IsFirstTypeFault : Tree → ℕ → ℕ → Pos → Type 0
+IsFirstTypeFault tree main code at = text_typed tree main ≡ refused code at

@@ -1,0 +1,42 @@
+use ckc_base::Seq;
+use ckc_syntax::Name;
+use ckc_types::{CType, Kind, Structs};
+
+/// What the whole text sees (ISO C11, 6.2.1, file scope): the structures by the numbers of their tags, the objects of
+/// file scope, and the functions, with `getchar` and `putchar`.
+#[derive(Drop)]
+pub struct Globals {
+    pub structs: Structs,
+    pub objects: Seq<Object>,
+    pub functions: Seq<Signature>,
+}
+
+/// An object of file scope: the type of its elements, and the kind of pointer that its use gives where it is an array.
+#[derive(Drop)]
+pub struct Object {
+    pub name: Name,
+    pub element: CType,
+    pub array: Option<Kind>,
+}
+
+/// The type of a function: that of its result and those of its parameters.
+#[derive(Drop)]
+pub struct Signature {
+    pub name: Name,
+    pub result: CType,
+    pub params: Seq<CType>,
+}
+
+/// A parameter or local of a function, or a member where bounds name it.
+#[derive(Drop)]
+pub struct Variable {
+    pub name: Name,
+    pub ctype: CType,
+}
+
+/// The value of a constant: a word, and whether it is read as `unsigned` or as `int`.
+#[derive(Clone, Copy, Debug, PartialEq, Eq)]
+pub struct Constant {
+    pub word: u32,
+    pub unsigned: bool,
+}
