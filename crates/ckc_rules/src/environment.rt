@@ -1,0 +1,150 @@
+//! What a text declares: its objects, its functions and the variables of a function.
+
+ghost use Rattle.std.specs.Prelude.{◌≡◌, [], ◌∷◌, ◌++◌, IfOk, OnOk, map};
+ghost use Rattle.ckc_typed.specs.Environment.{kind_of_array, object_declared, variable_declared, type_declared, signature_declared, objects_of_item, signatures_of_item, objects_of, getchar, putchar, signatures_of};
+
+use crate::types::type_written;
+use ckc_base::Seq;
+use ckc_syntax::{Decl, Head, Item, Length, Name};
+use ckc_typed::{Object, Signature, Variable};
+use ckc_types::{CType, Kind};
+use std::alloc::{AllocError, Global};
+
+fn kind_of_array(length: Length) -> Option<Kind>
+    ensures { result ≡ kind_of_array length }
+{
+    match length {
+        Length::Plain => None,
+        Length::Raw(_, _) => Some(Kind::Raw),
+        Length::Checked(_) => Some(Kind::Arr),
+        Length::Nt(_) => Some(Kind::Nt),
+    }
+}
+
+fn object_declared(alloc: Global, d: &Decl<Name, ()>) -> Result<Object, AllocError>
+    ensures { IfOk result (λ o. o ≡ object_declared d.now) }
+{
+    let element = type_written(alloc, &d.ctype)?;
+    Ok(Object {
+        name: d.name,
+        element,
+        array: kind_of_array(d.length),
+    })
+}
+
+/// The variable that a declaration makes.
+pub fn variable_declared(alloc: Global, d: &Decl<Name, ()>) -> Result<Variable, AllocError>
+    ensures { IfOk result (λ v. v ≡ variable_declared d.now) }
+{
+    let ctype = type_written(alloc, &d.ctype)?;
+    Ok(Variable {
+        name: d.name,
+        ctype,
+    })
+}
+
+fn types_declared(alloc: Global, ds: &[Decl<Name, ()>]) -> Result<Seq<CType>, AllocError>
+    ensures { IfOk result (λ ts. ts ≡ map type_declared ds.now) }
+{
+    let mut all = Seq::new(alloc);
+    for d in ds {
+        let t = type_written(alloc, &d.ctype)?;
+        all.push(t)?;
+    }
+    Ok(all)
+}
+
+/// The variables that declarations make: parameters or members.
+pub fn variables_declared(alloc: Global, ds: &[Decl<Name, ()>]) -> Result<Seq<Variable>, AllocError>
+    ensures { IfOk result (λ vs. vs ≡ map variable_declared ds.now) }
+{
+    let mut all = Seq::new(alloc);
+    for d in ds {
+        let v = variable_declared(alloc, d)?;
+        all.push(v)?;
+    }
+    Ok(all)
+}
+
+fn signature_declared(alloc: Global, h: &Head<Name, ()>) -> Result<Signature, AllocError>
+    ensures { IfOk result (λ s. s ≡ signature_declared h.now) }
+{
+    let result = type_written(alloc, &h.result)?;
+    let params = types_declared(alloc, h.params.as_slice())?;
+    Ok(Signature {
+        name: h.name,
+        result,
+        params,
+    })
+}
+
+fn add_object(alloc: Global, all: &mut Seq<Object>, item: &Item<Name, ()>) -> Result<(), AllocError>
+    ensures { OnOk result (all.new ≡ all.old ++ objects_of_item item.now) }
+{
+    match item {
+        Item::Static(d) => {
+            let o = object_declared(alloc, d.get())?;
+            all.push(o)
+        }
+        Item::Directive(_) | Item::Tag(_, _) | Item::Struct(_, _, _) => Ok(()),
+        Item::Proto(_) | Item::Function(_, _) => Ok(()),
+    }
+}
+
+/// The objects of file scope.
+pub fn objects_of(alloc: Global, items: &[Item<Name, ()>]) -> Result<Seq<Object>, AllocError>
+    ensures { IfOk result (λ all. all ≡ objects_of items.now) }
+{
+    let mut all = Seq::new(alloc);
+    for item in items {
+        add_object(alloc, &mut all, item)?;
+    }
+    Ok(all)
+}
+
+fn add_signature(
+    alloc: Global,
+    all: &mut Seq<Signature>,
+    item: &Item<Name, ()>,
+) -> Result<(), AllocError>
+    ensures { OnOk result (all.new ≡ all.old ++ signatures_of_item item.now) }
+{
+    match item {
+        Item::Function(h, _) => {
+            let s = signature_declared(alloc, h.get())?;
+            all.push(s)
+        }
+        Item::Directive(_) | Item::Tag(_, _) | Item::Struct(_, _, _) => Ok(()),
+        Item::Static(_) | Item::Proto(_) => Ok(()),
+    }
+}
+
+fn built_in(alloc: Global) -> Result<Seq<Signature>, AllocError>
+    ensures { IfOk result (λ all. all ≡ getchar ∷ putchar ∷ []) }
+{
+    let mut byte = Seq::new(alloc);
+    byte.push(CType::Int)?;
+    let mut all = Seq::new(alloc);
+    all.push(Signature {
+        name: Name::Getchar,
+        result: CType::Int,
+        params: Seq::new(alloc),
+    })?;
+    all.push(Signature {
+        name: Name::Putchar,
+        result: CType::Int,
+        params: byte,
+    })?;
+    Ok(all)
+}
+
+/// The functions, `getchar` and `putchar` before those of the text.
+pub fn signatures_of(alloc: Global, items: &[Item<Name, ()>]) -> Result<Seq<Signature>, AllocError>
+    ensures { IfOk result (λ all. all ≡ signatures_of items.now) }
+{
+    let mut all = built_in(alloc)?;
+    for item in items {
+        add_signature(alloc, &mut all, item)?;
+    }
+    Ok(all)
+}

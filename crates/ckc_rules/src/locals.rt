@@ -1,0 +1,88 @@
+//! The locals that a function declares.
+
+ghost use Rattle.std.specs.Prelude.{◌≡◌, [], ◌∷◌, ◌++◌, IfOk, OnOk, map};
+ghost use Rattle.ckc_typed.specs.Environment.{variable_declared, joined_variables, locals_of, variables_of};
+ghost use Rattle.ckc_rules.specs.Parts.{locals_of_act, locals_of_part};
+
+use crate::environment::{variable_declared, variables_declared};
+use ckc_base::{Boxed, Seq};
+use ckc_syntax::{Act, Decl, Head, Name, Stmt};
+use ckc_typed::Variable;
+use std::alloc::{AllocError, Global};
+
+fn add_local(alloc: Global, all: &mut Seq<Variable>, d: &Decl<Name, ()>) -> Result<(), AllocError>
+    ensures { OnOk result (all.new ≡ all.old ++ variable_declared d.now ∷ []) }
+{
+    let v = variable_declared(alloc, d)?;
+    all.push(v)
+}
+
+#[cycle(locals)]
+fn add_act(alloc: Global, all: &mut Seq<Variable>, act: &Act<Name, ()>) -> Result<(), AllocError>
+    ensures { OnOk result (all.new ≡ all.old ++ locals_of_act act.now) }
+{
+    match act {
+        Act::Block(_, ss) | Act::Bundle(ss) => add_stmts(alloc, all, ss.as_slice()),
+        Act::Local(d) => add_local(alloc, all, d.get()),
+        Act::If(_, s, t) => {
+            add_stmt(alloc, all, s.get())?;
+            add_part(alloc, all, t)
+        }
+        Act::While(_, s) => add_stmt(alloc, all, s.get()),
+        Act::For(s, _, t, body) => {
+            add_part(alloc, all, s)?;
+            add_part(alloc, all, t)?;
+            add_stmt(alloc, all, body.get())
+        }
+        Act::Empty | Act::Assign(_, _) | Act::Call(_) | Act::Return(_) => Ok(()),
+        Act::Break | Act::Continue | Act::Check(_) => Ok(()),
+    }
+}
+
+#[cycle(locals)]
+fn add_stmt(alloc: Global, all: &mut Seq<Variable>, s: &Stmt<Name, ()>) -> Result<(), AllocError>
+    ensures { OnOk result (all.new ≡ all.old ++ locals_of s.now) }
+{
+    add_act(alloc, all, &s.body)
+}
+
+#[cycle(locals)]
+fn add_stmts(
+    alloc: Global,
+    all: &mut Seq<Variable>,
+    ss: &[Stmt<Name, ()>],
+) -> Result<(), AllocError>
+    ensures { OnOk result (all.new ≡ all.old ++ joined_variables (map locals_of ss.now)) }
+{
+    for s in ss {
+        add_stmt(alloc, all, s)?;
+    }
+    Ok(())
+}
+
+#[cycle(locals)]
+fn add_part(
+    alloc: Global,
+    all: &mut Seq<Variable>,
+    part: &Option<Boxed<Stmt<Name, ()>>>,
+) -> Result<(), AllocError>
+    ensures { OnOk result (all.new ≡ all.old ++ locals_of_part part.now) }
+{
+    match part {
+        None => Ok(()),
+        Some(s) => add_stmt(alloc, all, s.get()),
+    }
+}
+
+/// What an expression in a function sees: its parameters and its locals.
+pub fn variables_of(
+    alloc: Global,
+    h: &Head<Name, ()>,
+    body: &Stmt<Name, ()>,
+) -> Result<Seq<Variable>, AllocError>
+    ensures { IfOk result (λ vs. vs ≡ variables_of h.now body.now) }
+{
+    let mut all = variables_declared(alloc, h.params.as_slice())?;
+    add_stmt(alloc, &mut all, body)?;
+    Ok(all)
+}

@@ -1,0 +1,173 @@
+//! What a name stands for, and what type it has.
+
+ghost use Rattle.std.specs.Prelude.{◌≡◌, IfOk, find};
+ghost use Rattle.std.specs.Option.{option_copied, option_map};
+ghost use Rattle.ckc_types.specs.Layout.{members_of};
+ghost use Rattle.ckc_typed.specs.Environment.{same_name, object_named, signature_named, variable_named, is_member_named, member_type, object_type, type_of_name};
+ghost use Rattle.ckc_typed.specs.Operands.{dot_type, arrow_type};
+
+use crate::types::copied;
+use ckc_base::Boxed;
+use ckc_syntax::Name;
+use ckc_typed::{Globals, Object, Signature, Variable};
+use ckc_types::{CType, MemberShape, Structs};
+use std::alloc::{AllocError, Global};
+
+fn same_name(a: Name, b: Name) -> bool
+    ensures { result ≡ same_name a b }
+{
+    match (a, b) {
+        (Name::Local(j), Name::Local(k)) => j == k,
+        (Name::Static(j), Name::Static(k)) => j == k,
+        (Name::Function(j), Name::Function(k)) => j == k,
+        (Name::Tag(j), Name::Tag(k)) => j == k,
+        (Name::Member(j), Name::Member(k)) => j == k,
+        (Name::Getchar, Name::Getchar) => true,
+        (Name::Putchar, Name::Putchar) => true,
+        _ => false,
+    }
+}
+
+/// The object of file scope with a name, where there is one.
+pub fn object_named(globals: &Globals, n: Name) -> Option<&Object>
+    ensures { option_copied result ≡ object_named globals.now n }
+{
+    globals
+        .objects
+        .as_slice()
+        .iter()
+        .find(|o| same_name(o.name, n))
+}
+
+/// The type of the function with a name, where there is one.
+pub fn signature_named(globals: &Globals, n: Name) -> Option<&Signature>
+    ensures { option_copied result ≡ signature_named globals.now n }
+{
+    globals
+        .functions
+        .as_slice()
+        .iter()
+        .find(|s| same_name(s.name, n))
+}
+
+/// The variable with a name, where there is one.
+pub fn variable_named(variables: &[Variable], n: Name) -> Option<&Variable>
+    ensures { option_copied result ≡ variable_named variables.now n }
+{
+    variables.iter().find(|v| same_name(v.name, n))
+}
+
+/// The type of an object that is used: an array is a pointer to its first element.
+fn object_type(alloc: Global, o: &Object) -> Result<CType, AllocError>
+    ensures { IfOk result (λ t. t ≡ object_type o.now) }
+{
+    let element = copied(alloc, &o.element)?;
+    match o.array {
+        None => Ok(element),
+        Some(kind) => {
+            let boxed = Boxed::new(alloc, element)?;
+            Ok(CType::Pointer(kind, boxed))
+        }
+    }
+}
+
+fn object_type_named(alloc: Global, globals: &Globals, n: Name) -> Result<Option<CType>, AllocError>
+    ensures { IfOk result (λ t. t ≡ option_map object_type (object_named globals.now n)) }
+{
+    match object_named(globals, n) {
+        None => Ok(None),
+        Some(o) => {
+            let used = object_type(alloc, o)?;
+            Ok(Some(used))
+        }
+    }
+}
+
+/// The type of a name that is used in an expression, where it is declared.
+pub fn type_of_name(
+    alloc: Global,
+    globals: &Globals,
+    variables: &[Variable],
+    n: Name,
+) -> Result<Option<CType>, AllocError>
+    ensures { IfOk result (λ t. t ≡ type_of_name globals.now variables.now n) }
+{
+    match variable_named(variables, n) {
+        None => object_type_named(alloc, globals, n),
+        Some(v) => {
+            let used = copied(alloc, &v.ctype)?;
+            Ok(Some(used))
+        }
+    }
+}
+
+fn is_member_named(n: Name, k: u32) -> bool
+    ensures { result ≡ is_member_named n k }
+{
+    same_name(n, Name::Member(k))
+}
+
+fn member_named(members: &[MemberShape], n: Name) -> Option<&MemberShape>
+    ensures { option_copied result ≡ find (λ m. is_member_named n m.name) members.now }
+{
+    members.iter().find(|m| is_member_named(n, m.name))
+}
+
+/// The members of the structure with a tag, none where there is no such structure.
+pub fn members_of(structs: &Structs, tag: u32) -> &[MemberShape]
+    ensures { result.now ≡ members_of structs.now tag }
+{
+    match structs.shapes.get(tag as usize) {
+        None => &[],
+        Some(shape) => shape.members.as_slice(),
+    }
+}
+
+fn member_type(
+    alloc: Global,
+    structs: &Structs,
+    tag: u32,
+    n: Name,
+) -> Result<Option<CType>, AllocError>
+    ensures { IfOk result (λ t. t ≡ member_type structs.now tag n) }
+{
+    match member_named(members_of(structs, tag), n) {
+        None => Ok(None),
+        Some(m) => {
+            let found = copied(alloc, &m.ctype)?;
+            Ok(Some(found))
+        }
+    }
+}
+
+/// The type of `x.m`, by that of `x`.
+pub fn dot_type(
+    alloc: Global,
+    structs: &Structs,
+    t: &CType,
+    n: Name,
+) -> Result<Option<CType>, AllocError>
+    ensures { IfOk result (λ r. r ≡ dot_type structs.now t.now n) }
+{
+    match t {
+        CType::Struct(tag) => member_type(alloc, structs, *tag, n),
+        CType::Int | CType::Unsigned | CType::Char | CType::Void => Ok(None),
+        CType::Pointer(_, _) => Ok(None),
+    }
+}
+
+/// The type of `p->m`, by that of `p`.
+pub fn arrow_type(
+    alloc: Global,
+    structs: &Structs,
+    t: &CType,
+    n: Name,
+) -> Result<Option<CType>, AllocError>
+    ensures { IfOk result (λ r. r ≡ arrow_type structs.now t.now n) }
+{
+    match t {
+        CType::Pointer(_, to) => dot_type(alloc, structs, to.get(), n),
+        CType::Int | CType::Unsigned | CType::Char | CType::Void => Ok(None),
+        CType::Struct(_) => Ok(None),
+    }
+}
