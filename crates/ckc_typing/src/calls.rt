@@ -1,0 +1,60 @@
+//! Calls: the arguments against the parameters.
+
+ghost use Rattle.std.specs.Prelude.{◌≡◌, length};
+ghost use Rattle.ckc_typed.specs.Expressions.{arguments_typed, result_typed, call_typed};
+ghost use Rattle.ckc_typing.specs.Answers.{Answers};
+
+use crate::fault::{TypeFault, refused};
+use ckc_base::Pos;
+use ckc_rules::conversions::converts;
+use ckc_rules::lookups::signature_named;
+use ckc_rules::types::copied;
+use ckc_syntax::{Expr, Name};
+use ckc_typed::{Globals, Note, Signature};
+use ckc_types::CType;
+use std::alloc::Global;
+
+/// Judges that each argument converts to the type of its parameter.
+fn arguments_fit(params: &[CType], args: &[Expr<Name, Note>]) -> Result<(), TypeFault>
+    requires { length args.now ≡ length params.now }
+    ensures { Answers result (arguments_typed params.now args.now) }
+{
+    for (i, arg) in args.iter().enumerate() {
+        if !converts(&params[i], arg) {
+            return Err(refused(402, arg.pos));
+        }
+    }
+    Ok(())
+}
+
+fn result_typed(
+    alloc: Global,
+    s: &Signature,
+    args: &[Expr<Name, Note>],
+    pos: Pos,
+) -> Result<CType, TypeFault>
+    ensures { Answers result (result_typed s.now args.now pos) }
+{
+    if args.len() != s.params.len() {
+        return Err(refused(404, pos));
+    }
+    arguments_fit(s.params.as_slice(), args)?;
+    let t = copied(alloc, &s.result)?;
+    Ok(t)
+}
+
+/// The type of a call.
+pub fn call_typed(
+    alloc: Global,
+    globals: &Globals,
+    n: Name,
+    args: &[Expr<Name, Note>],
+    pos: Pos,
+) -> Result<CType, TypeFault>
+    ensures { Answers result (call_typed globals.now n args.now pos) }
+{
+    match signature_named(globals, n) {
+        None => Err(refused(404, pos)),
+        Some(s) => result_typed(alloc, s, args, pos),
+    }
+}

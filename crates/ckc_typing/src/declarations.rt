@@ -1,0 +1,222 @@
+//! Declarations with their bounds and initialisers noted.
+
+ghost use Rattle.std.specs.Prelude.{◌≡◌, IfOk};
+ghost use Rattle.ckc_typed.specs.Declarations.{init_typed, decl_with, parts_typed, judged, is_nothing, bare_fault, is_checked_kind, start_fault, local_fault, static_fault, bare_typed, bares_typed, local_typed, static_typed};
+ghost use Rattle.ckc_typing.specs.Answers.{Answers};
+
+use crate::expressions::{boxed_expr, typed_bounds, typed_exprs};
+use crate::fault::{TypeFault, refused};
+use ckc_base::{Boxed, Mode, Seq};
+use ckc_rules::conversions::converts;
+use ckc_rules::copies::copied_type;
+use ckc_rules::initials::{count_fits, is_element_for, is_plain};
+use ckc_rules::types::{is_scalar_type, kind_of, type_written};
+use ckc_syntax::{Decl, Init, Limits, Name};
+use ckc_typed::{Globals, Note, Variable};
+use ckc_types::{CType, Kind, Structs};
+use std::alloc::{AllocError, Global};
+
+fn typed_init(
+    alloc: Global,
+    globals: &Globals,
+    variables: &[Variable],
+    mode: Mode,
+    init: &Init<Name, ()>,
+) -> Result<Init<Name, Note>, TypeFault>
+    ensures { Answers result (init_typed globals.now variables.now mode init.now) }
+{
+    match init {
+        Init::Nothing => Ok(Init::Nothing),
+        Init::One(e) => {
+            let typed = boxed_expr(alloc, globals, variables, mode, e.get())?;
+            Ok(Init::One(typed))
+        }
+        Init::Many(es) => {
+            let all = typed_exprs(alloc, globals, variables, mode, es.as_slice())?;
+            Ok(Init::Many(all))
+        }
+    }
+}
+
+fn decl_with(
+    alloc: Global,
+    d: &Decl<Name, ()>,
+    bounds: Option<Boxed<Limits<Name, Note>>>,
+    init: Init<Name, Note>,
+) -> Result<Decl<Name, Note>, AllocError>
+    ensures { IfOk result (λ n. n ≡ decl_with d.now bounds init) }
+{
+    let ctype = copied_type(alloc, &d.ctype)?;
+    Ok(Decl {
+        ctype,
+        name: d.name,
+        length: d.length,
+        bounds,
+        init,
+        pos: d.pos,
+    })
+}
+
+fn typed_parts(
+    alloc: Global,
+    globals: &Globals,
+    variables: &[Variable],
+    mode: Mode,
+    d: &Decl<Name, ()>,
+) -> Result<Decl<Name, Note>, TypeFault>
+    ensures { Answers result (parts_typed globals.now variables.now mode d.now) }
+{
+    let bounds = typed_bounds(alloc, globals, variables, mode, &d.bounds)?;
+    let init = typed_init(alloc, globals, variables, mode, &d.init)?;
+    let typed = decl_with(alloc, d, bounds, init)?;
+    Ok(typed)
+}
+
+/// The declaration, or its refusal at the declared name.
+fn judged(fault: Option<u16>, d: Decl<Name, Note>) -> Result<Decl<Name, Note>, TypeFault>
+    ensures { Answers result (judged fault d) }
+{
+    match fault {
+        None => Ok(d),
+        Some(code) => Err(refused(code, d.pos)),
+    }
+}
+
+fn is_nothing(init: &Init<Name, Note>) -> bool
+    ensures { result ≡ is_nothing init.now }
+{
+    match init {
+        Init::Nothing => true,
+        Init::One(_) | Init::Many(_) => false,
+    }
+}
+
+fn bare_fault(alloc: Global, d: &Decl<Name, Note>) -> Result<Option<u16>, AllocError>
+    ensures { IfOk result (λ f. f ≡ bare_fault d.now) }
+{
+    let t = type_written(alloc, &d.ctype)?;
+    if is_scalar_type(&t) && is_plain(d.length) && is_nothing(&d.init) {
+        Ok(None)
+    } else {
+        Ok(Some(401))
+    }
+}
+
+fn is_checked_kind(kind: Option<Kind>) -> bool
+    ensures { result ≡ is_checked_kind kind }
+{
+    match kind {
+        Some(Kind::One | Kind::Arr | Kind::Nt) => true,
+        Some(Kind::Raw) | None => false,
+    }
+}
+
+fn start_fault(t: &CType, init: &Init<Name, Note>) -> Option<u16>
+    ensures { result ≡ start_fault t.now init.now }
+{
+    match init {
+        Init::Nothing => {
+            if is_checked_kind(kind_of(t)) {
+                Some(407)
+            } else {
+                None
+            }
+        }
+        Init::One(e) => {
+            if converts(t, e.get()) {
+                None
+            } else {
+                Some(402)
+            }
+        }
+        Init::Many(_) => Some(401),
+    }
+}
+
+fn local_fault(alloc: Global, d: &Decl<Name, Note>) -> Result<Option<u16>, AllocError>
+    ensures { IfOk result (λ f. f ≡ local_fault d.now) }
+{
+    let t = type_written(alloc, &d.ctype)?;
+    if is_scalar_type(&t) && is_plain(d.length) {
+        Ok(start_fault(&t, &d.init))
+    } else {
+        Ok(Some(401))
+    }
+}
+
+fn static_fault(
+    alloc: Global,
+    structs: &Structs,
+    d: &Decl<Name, Note>,
+) -> Result<Option<u16>, AllocError>
+    ensures { IfOk result (λ f. f ≡ static_fault structs.now d.now) }
+{
+    let t = type_written(alloc, &d.ctype)?;
+    if !is_element_for(d.length, &t) {
+        return Ok(Some(401));
+    }
+    let fits = count_fits(alloc, structs, &t, d)?;
+    if fits { Ok(None) } else { Ok(Some(401)) }
+}
+
+/// A parameter or a member.
+fn typed_bare(
+    alloc: Global,
+    globals: &Globals,
+    variables: &[Variable],
+    mode: Mode,
+    d: &Decl<Name, ()>,
+) -> Result<Decl<Name, Note>, TypeFault>
+    ensures { Answers result (bare_typed globals.now variables.now mode d.now) }
+{
+    let typed = typed_parts(alloc, globals, variables, mode, d)?;
+    let fault = bare_fault(alloc, &typed)?;
+    judged(fault, typed)
+}
+
+/// Parameters or members, from the first to the last.
+pub fn typed_bares(
+    alloc: Global,
+    globals: &Globals,
+    variables: &[Variable],
+    mode: Mode,
+    ds: &[Decl<Name, ()>],
+) -> Result<Seq<Decl<Name, Note>>, TypeFault>
+    ensures { Answers result (bares_typed globals.now variables.now mode ds.now) }
+{
+    let mut all = Seq::new(alloc);
+    for d in ds {
+        let typed = typed_bare(alloc, globals, variables, mode, d)?;
+        all.push(typed)?;
+    }
+    Ok(all)
+}
+
+/// A local.
+pub fn typed_local(
+    alloc: Global,
+    globals: &Globals,
+    variables: &[Variable],
+    mode: Mode,
+    d: &Decl<Name, ()>,
+) -> Result<Decl<Name, Note>, TypeFault>
+    ensures { Answers result (local_typed globals.now variables.now mode d.now) }
+{
+    let typed = typed_parts(alloc, globals, variables, mode, d)?;
+    let fault = local_fault(alloc, &typed)?;
+    judged(fault, typed)
+}
+
+/// An object of file scope.
+pub fn typed_static(
+    alloc: Global,
+    globals: &Globals,
+    mode: Mode,
+    d: &Decl<Name, ()>,
+) -> Result<Decl<Name, Note>, TypeFault>
+    ensures { Answers result (static_typed globals.now mode d.now) }
+{
+    let typed = typed_parts(alloc, globals, &[], mode, d)?;
+    let fault = static_fault(alloc, &globals.structs, &typed)?;
+    judged(fault, typed)
+}

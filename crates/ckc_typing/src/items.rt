@@ -1,0 +1,215 @@
+//! The items of a text with their types.
+
+ghost use Rattle.std.specs.Prelude.{◌≡◌, IfOk, Ok, map, not};
+ghost use Rattle.ckc_base.specs.declared.arithmetic.Mode.TheVariants as mode;
+ghost use Rattle.ckc_syntax.specs.declared.tree.Item.TheVariants as item;
+ghost use Rattle.ckc_typed.specs.Outcomes.{bind, unless};
+ghost use Rattle.ckc_typed.specs.Types.{type_written};
+ghost use Rattle.ckc_typed.specs.Environment.{variable_declared, variables_of};
+ghost use Rattle.ckc_typed.specs.Declarations.{bares_typed, static_typed};
+ghost use Rattle.ckc_typed.specs.Texts.{is_result_type, head_mode, head_typed, function_typed, item_typed, pragma_after, items_typed, globals_of};
+ghost use Rattle.ckc_typed.specs.Walk.{mode_of_directive};
+ghost use Rattle.ckc_typing.specs.Answers.{Answers};
+
+use crate::declarations::{typed_bares, typed_static};
+use crate::expressions::typed_bounds;
+use crate::fault::{TypeFault, refused};
+use crate::statements::{Frame, boxed_stmt};
+use ckc_base::{Boxed, Mode, Seq};
+use ckc_rules::copies::copied_type;
+use ckc_rules::environment::{objects_of, signatures_of, variables_declared};
+use ckc_rules::layouts::structs_of;
+use ckc_rules::locals::variables_of;
+use ckc_rules::types::{is_scalar_type, is_void, type_written};
+use ckc_syntax::{Decl, Directive, Head, Item, Limits, Name, Stmt};
+use ckc_typed::{Globals, Note};
+use std::alloc::{AllocError, Global};
+
+fn has_result_type(alloc: Global, h: &Head<Name, ()>) -> Result<bool, AllocError>
+    ensures { IfOk result (λ b. b ≡ is_result_type (type_written h.now.result)) }
+{
+    let t = type_written(alloc, &h.result)?;
+    Ok(is_void(&t) || is_scalar_type(&t))
+}
+
+fn head_mode(pragma: Mode, h: &Head<Name, ()>) -> Mode
+    ensures { result ≡ head_mode pragma h.now }
+{
+    h.mode.unwrap_or(pragma)
+}
+
+fn head_with(
+    alloc: Global,
+    h: &Head<Name, ()>,
+    params: Seq<Decl<Name, Note>>,
+    bounds: Option<Boxed<Limits<Name, Note>>>,
+) -> Result<Head<Name, Note>, TypeFault>
+    ensures { Answers result (unless (not (is_result_type (type_written h.now.result))) 401 h.now.pos (Ok (record { mode = h.now.mode; result = h.now.result; name = h.now.name; params = params; bounds = bounds; pos = h.now.pos }))) }
+{
+    let fits = has_result_type(alloc, h)?;
+    if !fits {
+        return Err(refused(401, h.pos));
+    }
+    let copy = copied_type(alloc, &h.result)?;
+    Ok(Head {
+        mode: h.mode,
+        result: copy,
+        name: h.name,
+        params,
+        bounds,
+        pos: h.pos,
+    })
+}
+
+fn typed_head(
+    alloc: Global,
+    globals: &Globals,
+    pragma: Mode,
+    h: &Head<Name, ()>,
+) -> Result<Head<Name, Note>, TypeFault>
+    ensures { Answers result (head_typed globals.now pragma h.now) }
+{
+    let mode = head_mode(pragma, h);
+    let seen = variables_declared(alloc, h.params.as_slice())?;
+    let params = typed_bares(alloc, globals, seen.as_slice(), mode, h.params.as_slice())?;
+    let bounds = typed_bounds(alloc, globals, seen.as_slice(), mode, &h.bounds)?;
+    head_with(alloc, h, params, bounds)
+}
+
+fn typed_function(
+    alloc: Global,
+    globals: &Globals,
+    pragma: Mode,
+    h: &Head<Name, ()>,
+    body: &Stmt<Name, ()>,
+) -> Result<Item<Name, Note>, TypeFault>
+    ensures { Answers result (function_typed globals.now pragma h.now body.now) }
+{
+    let head = boxed_head(alloc, globals, pragma, h)?;
+    let frame = frame_of(alloc, h, body)?;
+    let typed = boxed_stmt(alloc, globals, &frame, head_mode(pragma, h), false, body)?;
+    Ok(Item::Function(head, typed))
+}
+
+fn boxed_head(
+    alloc: Global,
+    globals: &Globals,
+    pragma: Mode,
+    h: &Head<Name, ()>,
+) -> Result<Boxed<Head<Name, Note>>, TypeFault>
+    ensures { Answers result (head_typed globals.now pragma h.now) }
+{
+    let typed = typed_head(alloc, globals, pragma, h)?;
+    let boxed = Boxed::new(alloc, typed)?;
+    Ok(boxed)
+}
+
+fn frame_of(alloc: Global, h: &Head<Name, ()>, body: &Stmt<Name, ()>) -> Result<Frame, AllocError>
+    ensures variables { IfOk result (λ f. f.variables ≡ variables_of h.now body.now) }
+    ensures result_type { IfOk result (λ f. f.result ≡ type_written h.now.result) }
+{
+    let variables = variables_of(alloc, h, body)?;
+    let result = type_written(alloc, &h.result)?;
+    Ok(Frame { variables, result })
+}
+
+fn typed_struct(
+    alloc: Global,
+    globals: &Globals,
+    pragma: Mode,
+    members: &[Decl<Name, ()>],
+) -> Result<Seq<Decl<Name, Note>>, TypeFault>
+    ensures { Answers result (bares_typed globals.now (map variable_declared members.now) pragma members.now) }
+{
+    let seen = variables_declared(alloc, members)?;
+    typed_bares(alloc, globals, seen.as_slice(), pragma, members)
+}
+
+fn typed_object(
+    alloc: Global,
+    globals: &Globals,
+    pragma: Mode,
+    d: &Decl<Name, ()>,
+) -> Result<Item<Name, Note>, TypeFault>
+    ensures { Answers result (bind (static_typed globals.now pragma d.now) (λ n. Ok (item.Static n))) }
+{
+    let typed = typed_static(alloc, globals, pragma, d)?;
+    let boxed = Boxed::new(alloc, typed)?;
+    Ok(Item::Static(boxed))
+}
+
+fn typed_item(
+    alloc: Global,
+    globals: &Globals,
+    pragma: Mode,
+    item: &Item<Name, ()>,
+) -> Result<Item<Name, Note>, TypeFault>
+    ensures { Answers result (item_typed globals.now pragma item.now) }
+{
+    match item {
+        Item::Directive(d) => Ok(Item::Directive(*d)),
+        Item::Tag(n, pos) => Ok(Item::Tag(*n, *pos)),
+        Item::Struct(n, members, pos) => {
+            let typed = typed_struct(alloc, globals, pragma, members.as_slice())?;
+            Ok(Item::Struct(*n, typed, *pos))
+        }
+        Item::Static(d) => typed_object(alloc, globals, pragma, d.get()),
+        Item::Proto(h) => {
+            let typed = boxed_head(alloc, globals, pragma, h.get())?;
+            Ok(Item::Proto(typed))
+        }
+        Item::Function(h, body) => typed_function(alloc, globals, pragma, h.get(), body.get()),
+    }
+}
+
+fn mode_of_directive(pragma: Mode, d: Directive) -> Mode
+    ensures { result ≡ mode_of_directive pragma d }
+{
+    match d {
+        Directive::ScopeOn => Mode::Checked,
+        Directive::ScopeOff => Mode::Unchecked,
+        Directive::Stdio | Directive::Stdlib | Directive::Stdchecked => pragma,
+    }
+}
+
+fn pragma_after(pragma: Mode, item: &Item<Name, ()>) -> Mode
+    ensures { result ≡ pragma_after pragma item.now }
+{
+    match item {
+        Item::Directive(d) => mode_of_directive(pragma, *d),
+        Item::Tag(_, _) | Item::Struct(_, _, _) | Item::Static(_) => pragma,
+        Item::Proto(_) | Item::Function(_, _) => pragma,
+    }
+}
+
+/// The items, from the first to the last.
+pub fn typed_items(
+    alloc: Global,
+    globals: &Globals,
+    items: &[Item<Name, ()>],
+) -> Result<Seq<Item<Name, Note>>, TypeFault>
+    ensures { Answers result (items_typed globals.now mode.Unchecked items.now) }
+{
+    let mut all = Seq::new(alloc);
+    let mut pragma = Mode::Unchecked;
+    for item in items {
+        let typed = typed_item(alloc, globals, pragma, item)?;
+        all.push(typed)?;
+        pragma = pragma_after(pragma, item);
+    }
+    Ok(all)
+}
+
+/// What the whole text sees.
+pub fn globals_of(alloc: Global, items: &[Item<Name, ()>]) -> Result<Globals, AllocError>
+    ensures { IfOk result (λ g. g ≡ globals_of items.now) }
+{
+    let structs = structs_of(alloc, items)?;
+    let objects = objects_of(alloc, items)?;
+    let functions = signatures_of(alloc, items)?;
+    Ok(Globals {
+        structs,
+        objects,
+        functions,
+    })
+}

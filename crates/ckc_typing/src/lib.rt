@@ -1,0 +1,21 @@
+//! The types of a text: each statement and expression of a tree gets its type and its mode, or the first fault is told
+//! (ISO C11, 6.5 to 6.8; Checked C specification 0.9, section 2).
+#![tactic(auto)]
+
+mod calls;
+mod declarations;
+mod expressions;
+mod fault;
+mod forms;
+mod items;
+mod laws;
+mod makers;
+mod placing;
+mod rules;
+mod statements;
+mod statics;
+mod text;
+
+pub use fault::TypeFault;
+pub use laws::one_answer;
+pub use text::type_of;

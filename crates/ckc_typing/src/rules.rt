@@ -1,0 +1,311 @@
+//! What an expression has for a type by the types of its parts, and its own faults.
+
+ghost use Rattle.std.specs.Prelude.{◌≡◌, IfOk};
+ghost use Rattle.ckc_types.specs.declared.types.CType.TheVariants as ctype;
+ghost use Rattle.ckc_types.specs.declared.types.Kind.TheVariants as kind;
+ghost use Rattle.ckc_typed.specs.Expressions.{in_row, number_type, string_type, is_no_array, is_target_op, has_address, address_typed, unary_typed, binary_typed, choice_typed, index_typed, dot_typed, arrow_typed, cast_typed, tested_typed, trusted_typed, is_no_allocation, allocation_typed};
+ghost use Rattle.ckc_typed.specs.Environment.{object_named};
+ghost use Rattle.ckc_typed.specs.Outcomes.{there_or};
+ghost use Rattle.ckc_typed.specs.Types.{is_void};
+ghost use Rattle.ckc_typed.specs.Operands.{unary_type, size_type};
+ghost use Rattle.ckc_typing.specs.Answers.{Answers};
+
+use crate::fault::{TypeFault, refused};
+use ckc_base::{Boxed, Mode, Pos};
+use ckc_rules::conversions::{is_bounds_cast, is_null, is_tested, is_trusted};
+use ckc_rules::lookups::object_named;
+use ckc_rules::types::{copied, is_integer, is_object_type, is_void, same_type};
+use ckc_rules::{lookups, operands};
+use ckc_syntax::{Expr, Limits, Name, Node, TreeOp};
+use ckc_typed::{Globals, Note};
+use ckc_types::{CType, Kind};
+use std::alloc::{AllocError, Global};
+
+/// The type of a row, or the refusal of operands that are in none.
+fn in_row(void: bool, pos: Pos, t: Option<CType>) -> Result<CType, TypeFault>
+    ensures { Answers result (in_row void pos t) }
+{
+    match t {
+        Some(t) => Ok(t),
+        None => {
+            if void {
+                Err(refused(402, pos))
+            } else {
+                Err(refused(401, pos))
+            }
+        }
+    }
+}
+
+/// The type of a number, by whether it is unsigned.
+pub fn number_type(unsigned: bool) -> CType
+    ensures { result ≡ number_type unsigned }
+{
+    if unsigned {
+        CType::Unsigned
+    } else {
+        CType::Int
+    }
+}
+
+/// The type of a string literal in a scope.
+pub fn string_type(alloc: Global, mode: Mode) -> Result<CType, AllocError>
+    ensures { IfOk result (λ t. t ≡ string_type mode) }
+{
+    let to = Boxed::new(alloc, CType::Char)?;
+    match mode {
+        Mode::Checked => Ok(CType::Pointer(Kind::Nt, to)),
+        Mode::Unchecked => Ok(CType::Pointer(Kind::Raw, to)),
+    }
+}
+
+/// The type of `NULL`.
+pub fn null_type(alloc: Global) -> Result<CType, AllocError>
+    ensures { IfOk result (λ t. t ≡ ctype.Pointer kind.One ctype.Void) }
+{
+    let to = Boxed::new(alloc, CType::Void)?;
+    Ok(CType::Pointer(Kind::One, to))
+}
+
+/// Whether a name is that of an object of file scope that is no array.
+pub fn is_no_array(globals: &Globals, n: Name) -> bool
+    ensures { result ≡ is_no_array (object_named globals.now n) }
+{
+    match object_named(globals, n) {
+        Some(o) => o.array.is_none(),
+        None => false,
+    }
+}
+
+/// Whether an operator is the unary `*`.
+pub fn is_target_op(op: TreeOp) -> bool
+    ensures { result ≡ is_target_op op }
+{
+    match op {
+        TreeOp::Deref => true,
+        _ => false,
+    }
+}
+
+fn has_address(globals: &Globals, e: &Expr<Name, Note>) -> bool
+    ensures { result ≡ has_address globals.now e.now }
+{
+    match &e.node {
+        Node::Name(n) => is_no_array(globals, *n),
+        Node::Un(op, _) => is_target_op(*op),
+        Node::Index(_, _) | Node::Dot(_, _) | Node::Arrow(_, _) => true,
+        _ => false,
+    }
+}
+
+fn address_typed(
+    alloc: Global,
+    globals: &Globals,
+    mode: Mode,
+    e: &Expr<Name, Note>,
+    pos: Pos,
+) -> Result<CType, TypeFault>
+    ensures { Answers result (address_typed globals.now mode e.now pos) }
+{
+    if !has_address(globals, e) {
+        return Err(refused(405, pos));
+    }
+    let element = copied(alloc, &e.note.ctype)?;
+    let to = Boxed::new(alloc, element)?;
+    match mode {
+        Mode::Checked => Ok(CType::Pointer(Kind::Arr, to)),
+        Mode::Unchecked => Ok(CType::Pointer(Kind::Raw, to)),
+    }
+}
+
+fn operation_typed(
+    alloc: Global,
+    op: TreeOp,
+    e: &Expr<Name, Note>,
+    pos: Pos,
+) -> Result<CType, TypeFault>
+    ensures { Answers result (in_row (is_void e.now.note.ctype) pos (unary_type op e.now.note.ctype)) }
+{
+    let t = operands::unary_type(alloc, op, &e.note.ctype)?;
+    in_row(is_void(&e.note.ctype), pos, t)
+}
+
+/// The type of a unary operator with its operand.
+pub fn unary_typed(
+    alloc: Global,
+    globals: &Globals,
+    mode: Mode,
+    op: TreeOp,
+    e: &Expr<Name, Note>,
+    pos: Pos,
+) -> Result<CType, TypeFault>
+    ensures { Answers result (unary_typed globals.now mode op e.now pos) }
+{
+    match op {
+        TreeOp::Address => address_typed(alloc, globals, mode, e, pos),
+        _ => operation_typed(alloc, op, e, pos),
+    }
+}
+
+/// The type of a binary operator with its operands.
+pub fn binary_typed(
+    alloc: Global,
+    op: TreeOp,
+    e: &Expr<Name, Note>,
+    f: &Expr<Name, Note>,
+    pos: Pos,
+) -> Result<CType, TypeFault>
+    ensures { Answers result (binary_typed op e.now f.now pos) }
+{
+    let void = is_void(&e.note.ctype) || is_void(&f.note.ctype);
+    let t = operands::binary_type(
+        alloc,
+        op,
+        &e.note.ctype,
+        is_null(e),
+        &f.note.ctype,
+        is_null(f),
+    )?;
+    in_row(void, pos, t)
+}
+
+/// The type of `? :` with its operands.
+pub fn choice_typed(
+    e: &Expr<Name, Note>,
+    f: &Expr<Name, Note>,
+    g: &Expr<Name, Note>,
+    pos: Pos,
+) -> Result<CType, TypeFault>
+    ensures { Answers result (choice_typed e.now f.now g.now pos) }
+{
+    let void = is_void(&e.note.ctype) || is_void(&f.note.ctype) || is_void(&g.note.ctype);
+    let t = operands::choice_type(&e.note.ctype, &f.note.ctype, &g.note.ctype);
+    in_row(void, pos, t)
+}
+
+/// The type of `p[e]`.
+pub fn index_typed(
+    alloc: Global,
+    e: &Expr<Name, Note>,
+    f: &Expr<Name, Note>,
+    pos: Pos,
+) -> Result<CType, TypeFault>
+    ensures { Answers result (index_typed e.now f.now pos) }
+{
+    let void = is_void(&e.note.ctype) || is_void(&f.note.ctype);
+    let t = operands::index_type(alloc, &e.note.ctype, &f.note.ctype)?;
+    in_row(void, pos, t)
+}
+
+/// The type of `x.m`.
+pub fn dot_typed(
+    alloc: Global,
+    globals: &Globals,
+    e: &Expr<Name, Note>,
+    n: Name,
+    pos: Pos,
+) -> Result<CType, TypeFault>
+    ensures { Answers result (dot_typed globals.now e.now n pos) }
+{
+    let t = lookups::dot_type(alloc, &globals.structs, &e.note.ctype, n)?;
+    in_row(is_void(&e.note.ctype), pos, t)
+}
+
+/// The type of `p->m`.
+pub fn arrow_typed(
+    alloc: Global,
+    globals: &Globals,
+    e: &Expr<Name, Note>,
+    n: Name,
+    pos: Pos,
+) -> Result<CType, TypeFault>
+    ensures { Answers result (arrow_typed globals.now e.now n pos) }
+{
+    let t = lookups::arrow_type(alloc, &globals.structs, &e.note.ctype, n)?;
+    in_row(is_void(&e.note.ctype), pos, t)
+}
+
+/// The type of a cast to a type.
+pub fn cast_typed(
+    alloc: Global,
+    t: &CType,
+    e: &Expr<Name, Note>,
+    pos: Pos,
+) -> Result<CType, TypeFault>
+    ensures { Answers result (cast_typed t.now e.now pos) }
+{
+    let to = operands::cast_type(alloc, t, &e.note.ctype, is_null(e))?;
+    in_row(is_void(&e.note.ctype), pos, to)
+}
+
+/// The type of `sizeof` of a type.
+pub fn size_typed(t: &CType, pos: Pos) -> Result<CType, TypeFault>
+    ensures { Answers result (there_or 401 pos (size_type t.now)) }
+{
+    match operands::size_type(t) {
+        Some(size) => Ok(size),
+        None => Err(refused(401, pos)),
+    }
+}
+
+/// The type of `_Dynamic_bounds_cast` to a type.
+pub fn tested_typed(
+    t: CType,
+    e: &Expr<Name, Note>,
+    limits: &Option<Boxed<Limits<Name, Note>>>,
+    pos: Pos,
+) -> Result<CType, TypeFault>
+    ensures { Answers result (tested_typed t e.now limits.now pos) }
+{
+    if !is_bounds_cast(&t, limits) {
+        return Err(refused(401, pos));
+    }
+    if !is_tested(&t, e) {
+        return Err(refused(402, pos));
+    }
+    Ok(t)
+}
+
+/// The type of `_Assume_bounds_cast` to a type.
+pub fn trusted_typed(
+    t: CType,
+    e: &Expr<Name, Note>,
+    limits: &Option<Boxed<Limits<Name, Note>>>,
+    pos: Pos,
+) -> Result<CType, TypeFault>
+    ensures { Answers result (trusted_typed t e.now limits.now pos) }
+{
+    if !is_bounds_cast(&t, limits) {
+        return Err(refused(401, pos));
+    }
+    if !is_trusted(&t, e) {
+        return Err(refused(402, pos));
+    }
+    Ok(t)
+}
+
+fn is_no_allocation(t: &CType, e: &Expr<Name, Note>, u: &CType) -> bool
+    ensures { result ≡ is_no_allocation t.now e.now u.now }
+{
+    is_void(t) || !same_type(t, u) || !is_integer(&e.note.ctype)
+}
+
+/// The type of `calloc` of two written types with a count.
+pub fn allocation_typed(
+    alloc: Global,
+    t: CType,
+    e: &Expr<Name, Note>,
+    u: &CType,
+    pos: Pos,
+) -> Result<CType, TypeFault>
+    ensures { Answers result (allocation_typed t e.now u.now pos) }
+{
+    if is_no_allocation(&t, e, u) {
+        return Err(refused(404, pos));
+    }
+    if !is_object_type(&t) {
+        return Err(refused(401, pos));
+    }
+    let to = Boxed::new(alloc, t)?;
+    Ok(CType::Pointer(Kind::Arr, to))
+}
