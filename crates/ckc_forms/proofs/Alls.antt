@@ -1,0 +1,32 @@
+-- Equations for lists of parts.
+use Rattle.std.proofs.Common.{rules, refl, ◌≡◌, ◌<◌, ◌+◌, ℕ, suc, length, Bool, true, false, ◌&&◌, List, [], ◌∷◌, get_or, drop, ap, sym, ◌∙◌, drop-cons, add-one}
+use Rattle.std.specs.List.{list_all}
+use Rattle.std.specs.Prelude.{map, Option}
+use Rattle.ckc_base.specs.declared.arithmetic.Mode.{Mode}
+use Rattle.ckc_syntax.specs.declared.tree.Node.{the_lemmas as expr_lemmas}
+use Rattle.ckc_syntax.specs.declared.tree.Node.TheVariants as nodes
+use Rattle.ckc_syntax.specs.declared.tree.Expr.{Expr}
+use Rattle.ckc_syntax.specs.declared.tree.Stmt.{Stmt, the_lemmas as stmt_lemmas}
+use Rattle.ckc_syntax.specs.declared.tree.Act.TheVariants as act
+use Rattle.ckc_forms.specs.Integer.{all_of, integer_node, integer_expr, integer_act, integer_stmt}
+
+all_is : {X : Type 0} (f : X → Bool) (xs : List X) → all_of (map f xs) ≡ list_all f xs
+all_is f [] = refl
+all_is f (x ∷ xs) = ap (λ b. f x && b) (all_is f xs)
+
+all_of_call : {N A : Type 0} (n : N) (es : List (Expr N A)) → integer_node (nodes.Call n es) ≡ all_of (map integer_expr es)
+all_of_call n es = search (rules, expr_lemmas)
+
+pub integer_call : {N A : Type 0} (n : N) (es : List (Expr N A)) → integer_node (nodes.Call n es) ≡ list_all integer_expr es
+integer_call n es = all_of_call n es ∙ all_is integer_expr es
+
+all_of_block : {N A : Type 0} (m : Option Mode) (ss : List (Stmt N A)) → integer_act (act.Block m ss) ≡ all_of (map integer_stmt ss)
+all_of_block m ss = search (rules, stmt_lemmas)
+
+pub integer_block : {N A : Type 0} (m : Option Mode) (ss : List (Stmt N A)) → integer_act (act.Block m ss) ≡ list_all integer_stmt ss
+integer_block m ss = all_of_block m ss ∙ all_is integer_stmt ss
+
+-- one turn of a loop over parts
+pub all_turn : {X : Type 0} (f : X → Bool) (xs : List X) (i : ℕ) (x : X) → i < length xs → x ≡ get_or xs i x →
+    list_all f (drop i xs) ≡ (f x && list_all f (drop (i + 1) xs))
+all_turn f xs i x h e = rw (add-one, drop-cons xs i x) (ap (λ y. f y && list_all f (drop (suc i) xs)) (sym e))
