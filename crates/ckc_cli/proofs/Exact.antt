@@ -1,5 +1,5 @@
 -- Each phase makes one thing or has one fault, and so do all of them, one after another.
-use Rattle.std.proofs.Common.{◌≡◌, inl, inr, List, [], ◌∷◌, Ok, Err, sym, subst, ◌∙◌, arith}
+use Rattle.std.proofs.Common.{◌≡◌, ℕ, inl, inr, Some, List, [], ◌∷◌, Ok, Err, sym, subst, ◌∙◌, arith}
 use Rattle.ckc_base.specs.declared.places.Refusal.{Refusal}
 use Rattle.ckc_syntax.specs.Spelled.{Spelled}
 use Rattle.ckc_syntax.specs.Small.{IsFirst, faults_of}
@@ -9,8 +9,10 @@ use Rattle.ckc_lexer.proofs.CutLaw.{lexes_read, fault_read, reads_once}
 use Rattle.ckc_lexer.proofs.Answer as lexer
 use Rattle.ckc_parser.proofs.Answering.{one_tree, one_fault, tree_or_fault}
 use Rattle.ckc_resolve.proofs.Answer as names
+use Rattle.ckc_typing.proofs.Answer as types
+use Rattle.ckc_cli.specs.FirstForm.{Tree}
 use Rattle.ckc_cli.specs.Phases.{Phase, ◌>=>◌, IsExact}
-use Rattle.ckc_cli.specs.Accepted.{Tokens, Meaning, length_phase, lexing, syntax_phase, limits_phase, names_phase, form_phase, phases}
+use Rattle.ckc_cli.specs.Accepted.{Tokens, Meaning, Resolved, length_phase, lexing, syntax_phase, limits_phase, names_phase, integer_phase, types_phase, form_phase, phases}
 use Rattle.ckc_cli.proofs.OneForm.{form_once}
 
 module _ {A B C : Type 0} (p : Phase A B) (q : Phase B C) (exact : IsExact p) (next : IsExact q) where
@@ -80,11 +82,31 @@ limits_exact = record {
   not_both = λ tree b fault m f. no_first fault (faults_of tree) ((small_is tree).0 m.0) f;
 }
 
+resolved_path : (a b : Resolved) → a.spelled ≡ b.spelled → a.named ≡ b.named → a.main ≡ b.main → a ≡ b
+resolved_path a b e f g = λ j. record { spelled = e j; named = f j; main = g j }
+
+same_number : (n m : ℕ) → Some n ≡ Some m → n ≡ m
+same_number n m e = cc
+
 names_exact : IsExact names_phase
 names_exact = record {
-  once = λ tree b other m n. m.1 ∙ sym n.1;
+  once = λ tree a b m n. resolved_path a b (m.0 ∙ sym n.0) (names.tree_once tree a.named b.named m.1 n.1) (same_number a.main b.main (sym m.2 ∙ n.2));
   fault_once = λ tree fault other f g. let same = names.fault_once tree fault.code other.code fault.pos other.pos f g in refusal_path fault other same.0 same.1;
-  not_both = λ tree b fault m f. names.not_both tree m.0.0 fault.code fault.pos m.0.1 f;
+  not_both = λ tree r fault m f. names.not_both tree r.named fault.code fault.pos m.1 f;
+}
+
+integer_exact : IsExact integer_phase
+integer_exact = record {
+  once = λ r a b m n. m.1 ∙ sym n.1;
+  fault_once = λ r fault other f g. f.1 ∙ sym g.1;
+  not_both = λ r a fault m f. f.0 m.0;
+}
+
+types_exact : IsExact types_phase
+types_exact = record {
+  once = λ r a b m n. m.1 ∙ sym n.1;
+  fault_once = λ r fault other f g. let same = types.fault_once r.named r.main fault.code other.code fault.pos other.pos f g in refusal_path fault other same.0 same.1;
+  not_both = λ r a fault m f. types.not_both r.named r.main m.0.0 fault.code fault.pos m.0.1 f;
 }
 
 meaning_path : (a b : Meaning) → a.puts ≡ b.puts → a.value ≡ b.value → a ≡ b
@@ -92,15 +114,33 @@ meaning_path a b e f = λ j. record { puts = e j; value = f j }
 
 form_exact : IsExact form_phase
 form_exact = record {
-  once = λ tree a b m n. let same = form_once tree a.puts b.puts a.value b.value m n in meaning_path a b same.0 same.1;
-  fault_once = λ tree fault other f g. f.1 ∙ sym g.1;
-  not_both = λ tree m fault is f. f.0 m.puts m.value is;
+  once = λ r a b m n. let same = form_once r.spelled a.puts b.puts a.value b.value m n in meaning_path a b same.0 same.1;
+  fault_once = λ r fault other f g. f.1 ∙ sym g.1;
+  not_both = λ r m fault is f. f.0 m.puts m.value is;
 }
+
+-- the phases behind each of them
+abbrev behind_integers : Phase Resolved Meaning
+behind_integers = types_phase >=> form_phase
+
+abbrev behind_names : Phase Resolved Meaning
+behind_names = integer_phase >=> behind_integers
+
+abbrev behind_limits : Phase Tree Meaning
+behind_limits = names_phase >=> behind_names
+
+abbrev behind_syntax : Phase Tree Meaning
+behind_syntax = limits_phase >=> behind_limits
+
+abbrev behind_lexing : Phase Tokens Meaning
+behind_lexing = syntax_phase >=> behind_syntax
 
 pub phases_exact : IsExact phases
 phases_exact =
-    then_exact length_phase (lexing >=> syntax_phase >=> limits_phase >=> names_phase >=> form_phase) length_exact
-    (then_exact lexing (syntax_phase >=> limits_phase >=> names_phase >=> form_phase) lexing_exact
-    (then_exact syntax_phase (limits_phase >=> names_phase >=> form_phase) syntax_exact
-    (then_exact limits_phase (names_phase >=> form_phase) limits_exact
-    (then_exact names_phase form_phase names_exact form_exact))))
+    then_exact length_phase (lexing >=> behind_lexing) length_exact
+    (then_exact lexing behind_lexing lexing_exact
+    (then_exact syntax_phase behind_syntax syntax_exact
+    (then_exact limits_phase behind_limits limits_exact
+    (then_exact names_phase behind_names names_exact
+    (then_exact integer_phase behind_integers integer_exact
+    (then_exact types_phase form_phase types_exact form_exact))))))

@@ -69,5 +69,8 @@ pub accepted_bounds : (text : List ℕ) (m : Meaning) → Accepted text m → (l
 accepted_bounds text m a =
     let limits = a.2.2.2 in
     let names = limits.2 in
-    let form = names.2 in
-    (few_in_form names.0 m.puts m.value (subst Small (sym (names.1.1 ∙ limits.1.1)) limits.1.0) form, value_in_item form.0 m.puts m.value form.2)
+    let integers = names.2 in
+    let types = integers.2 in
+    let form = types.2 in
+    let same = ap (λ r. r.spelled) (types.1.1 ∙ integers.1.1) ∙ names.1.0 ∙ limits.1.1 in
+    (few_in_form types.0.spelled m.puts m.value (subst Small (sym same) limits.1.0) form, value_in_item form.0 m.puts m.value form.2)

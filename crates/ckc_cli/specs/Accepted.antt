@@ -1,5 +1,5 @@
 -- Which texts are accepted, and which fault of a text is its first.
-use Rattle.std.specs.Prelude.{◌≡◌, ℕ, ◌<◌, ◌≤◌, List, length}
+use Rattle.std.specs.Prelude.{◌≡◌, ℕ, ◌<◌, ◌≤◌, List, length, codes, IsTrue, Some}
 use Rattle.ckc_base.specs.declared.places.Pos.{Pos}
 use Rattle.ckc_base.specs.declared.places.Refusal.{Refusal}
 use Rattle.ckc_syntax.specs.Spelled.{Spelled}
@@ -8,7 +8,12 @@ use Rattle.ckc_lexer.specs.Cut.{Lexes, FirstBroken, longest_text}
 use Rattle.ckc_lexer.specs.Places.{place_after}
 use Rattle.ckc_parser.specs.Text as syntax
 use Rattle.ckc_resolve.specs.Trees.{NamedTree}
+use Rattle.ckc_resolve.specs.Spellings.{place_of}
+use Rattle.ckc_resolve.specs.Scoping.{names_of}
 use Rattle.ckc_resolve.specs.Named.{Named, IsFirstNameFault}
+use Rattle.ckc_forms.specs.Integer.{integer_tree}
+use Rattle.ckc_typed.specs.declared.typed.Typed.{Typed}
+use Rattle.ckc_typed.specs.Texts.{TypedAs, IsFirstTypeFault}
 use Rattle.ckc_cli.specs.Phases.{Phase, ◌>=>◌}
 use Rattle.ckc_cli.specs.FirstForm.{Tree, IsForm}
 
@@ -27,6 +32,12 @@ pub record Tokens : Type 0 where
 pub record Meaning : Type 0 where
   pub puts : List ℕ
   pub value : ℕ
+
+-- the tree as it is spelled, the tree of what its names mean, and the number of the function `main`
+pub record Resolved : Type 0 where
+  pub spelled : Tree
+  pub named : NamedTree
+  pub main : ℕ
 
 -- A text of at most 262,144 bytes goes on as it is; a longer one is refused with 201 at 1:1.
 abbrev pub length_phase : Phase (List ℕ) (List ℕ)
@@ -56,24 +67,38 @@ limits_phase = record {
   Refuses = λ tree fault. IsFirst fault (faults_of tree);
 }
 
--- A tree whose names are declared goes on as it is; another one is refused for the first fault of its names, with 301
--- to 304.
-abbrev pub names_phase : Phase Tree Tree
+-- The tree with what its names mean; or the first fault of its names, with 301 to 304.
+abbrev pub names_phase : Phase Tree Resolved
 names_phase = record {
-  Makes = λ tree same. ((named : NamedTree) × Named tree named) × (same ≡ tree);
+  Makes = λ tree r. (r.spelled ≡ tree) × Named tree r.named × (place_of (names_of tree).functions (codes "main") ≡ Some r.main);
   Refuses = λ tree fault. IsFirstNameFault tree fault.code fault.pos;
 }
 
--- A tree of the form that is built so far; every other one is refused with 100 at 1:1.
-abbrev pub form_phase : Phase Tree Meaning
+-- A text over integers alone goes on as it is; every other one is refused with 100 at 1:1.
+abbrev pub integer_phase : Phase Resolved Resolved
+integer_phase = record {
+  Makes = λ r same. IsTrue (integer_tree r.named) × (same ≡ r);
+  Refuses = λ r fault. (¬ IsTrue (integer_tree r.named)) × (fault ≡ at_start 100);
+}
+
+-- A text whose types are right goes on as it is; another one is refused for the first fault of its types, with 401 to
+-- 407 and 206.
+abbrev pub types_phase : Phase Resolved Resolved
+types_phase = record {
+  Makes = λ r same. ((typed : Typed) × TypedAs r.named r.main typed) × (same ≡ r);
+  Refuses = λ r fault. IsFirstTypeFault r.named r.main fault.code fault.pos;
+}
+
+-- A text of the form that is built so far; every other one is refused with 100 at 1:1.
+abbrev pub form_phase : Phase Resolved Meaning
 form_phase = record {
-  Makes = λ tree m. IsForm tree m.puts m.value;
-  Refuses = λ tree fault. ((puts : List ℕ) (value : ℕ) → ¬ IsForm tree puts value) × (fault ≡ at_start 100);
+  Makes = λ r m. IsForm r.spelled m.puts m.value;
+  Refuses = λ r fault. ((puts : List ℕ) (value : ℕ) → ¬ IsForm r.spelled puts value) × (fault ≡ at_start 100);
 }
 
 -- all phases, in their order
 abbrev pub phases : Phase (List ℕ) Meaning
-phases = length_phase >=> lexing >=> syntax_phase >=> limits_phase >=> names_phase >=> form_phase
+phases = length_phase >=> lexing >=> syntax_phase >=> limits_phase >=> names_phase >=> integer_phase >=> types_phase >=> form_phase
 
 -- The text is accepted, with this meaning.
 abbrev pub Accepted : List ℕ → Meaning → Type 0

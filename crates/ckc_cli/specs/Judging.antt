@@ -1,8 +1,10 @@
 -- What the phases answer.
-use Rattle.std.specs.Prelude.{Result, Ok, Err}
+use Rattle.std.specs.Prelude.{ℕ, Result, Ok, Err}
 use Rattle.ckc_base.specs.declared.places.Refusal.{Refusal}
 use Rattle.ckc_cli.specs.Phases.{Phase}
-use Rattle.ckc_cli.specs.Accepted.{Meaning}
+use Rattle.ckc_resolve.specs.Trees.{NamedTree}
+use Rattle.ckc_cli.specs.FirstForm.{Tree}
+use Rattle.ckc_cli.specs.Accepted.{Meaning, Resolved}
 use Rattle.ckc_cli.specs.declared.form.Program.{Program}
 use Rattle.ckc_cli.specs.declared.front.Fault.{Fault}
 use Rattle.ckc_cli.specs.declared.front.Fault.TheVariants as faults
@@ -11,6 +13,9 @@ use Rattle.ckc_cli.specs.declared.status.Status.TheVariants as status
 
 abbrev pub meaning_of : Program → Meaning
 meaning_of p = record { puts = p.puts.items; value = p.value }
+
+abbrev pub resolved : Tree → NamedTree → ℕ → Resolved
+resolved tree named main = record { spelled = tree; named = named; main = main }
 
 -- the answer of phases: what they make, or the first fault, unless memory ran out
 abbrev pub Judged : {A : Type 0} → Phase A Meaning → A → Result Program Fault → Type 0

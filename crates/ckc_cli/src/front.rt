@@ -1,18 +1,25 @@
 //! From a text to its program, phase by phase, or to its first fault.
-ghost use Rattle.std.specs.Prelude.{◌≡◌, ◌≤◌, List, length, map};
+ghost use Rattle.std.specs.Prelude.{◌≡◌, ◌≤◌, ℕ, List, length, map};
 ghost use Rattle.ckc_syntax.specs.Spelled.{spelled};
 ghost use Rattle.ckc_lexer.specs.Cut.{longest_text};
 ghost use Rattle.ckc_cli.specs.Phases.{◌>=>◌};
-ghost use Rattle.ckc_cli.specs.Accepted.{phases, lexing, syntax_phase, limits_phase, names_phase, form_phase};
-ghost use Rattle.ckc_cli.specs.Judging.{Judged};
+ghost use Rattle.ckc_resolve.specs.Trees.{NamedTree};
+ghost use Rattle.ckc_cli.specs.FirstForm as forms;
+ghost use Rattle.ckc_cli.specs.Accepted.{phases, lexing, syntax_phase, limits_phase, names_phase, integer_phase, types_phase, form_phase};
+ghost use Rattle.ckc_cli.specs.Judging.{Judged, resolved};
 
 use crate::form::{Program, program_of};
 use ckc_base::{Pos, Refusal};
+use ckc_forms::is_integer_tree;
 use ckc_lexer::{LexFault, end_of, lex};
 use ckc_parser::{ParseFault, parse};
-use ckc_resolve::{ResolveFault, resolve};
-use ckc_syntax::{Spelling, Token, Tree, fits};
+use ckc_resolve::{ResolveFault, main_of, resolve};
+use ckc_syntax::{Name, Spelling, Token, Tree, fits};
+use ckc_typing::{TypeFault, type_of};
 use std::alloc::Global;
+
+/// Where a text of another form is refused, which is a property of the whole text.
+const START: Pos = Pos { line: 1, col: 1 };
 
 /// Why a text has no program: its first fault, or want of memory.
 #[derive(Drop)]
@@ -35,7 +42,7 @@ pub fn read_text(alloc: Global, text: &[u8]) -> Result<Program, Fault>
 
 /// The program of the tokens of a text, which ends at `end`.
 fn read_tokens<'a>(alloc: Global, tokens: &[Token<'a>], end: Pos) -> Result<Program, Fault>
-    ensures { Judged (syntax_phase >=> limits_phase >=> names_phase >=> form_phase) (record { list = map spelled tokens.now; end = end }) result }
+    ensures { Judged (syntax_phase >=> limits_phase >=> names_phase >=> integer_phase >=> types_phase >=> form_phase) (record { list = map spelled tokens.now; end = end }) result }
 {
     match parse(alloc, tokens, end) {
         Err(ParseFault::Refused(refusal)) => Err(Fault::Refused(refusal)),
@@ -46,7 +53,7 @@ fn read_tokens<'a>(alloc: Global, tokens: &[Token<'a>], end: Pos) -> Result<Prog
 
 /// The program of a tree.
 fn read_tree<'a>(alloc: Global, tree: Tree<Spelling<'a>, ()>) -> Result<Program, Fault>
-    ensures { Judged (limits_phase >=> names_phase >=> form_phase) tree.entry result }
+    ensures { Judged (limits_phase >=> names_phase >=> integer_phase >=> types_phase >=> form_phase) tree.entry result }
 {
     match fits(&tree) {
         Err(refusal) => Err(Fault::Refused(refusal)),
@@ -54,27 +61,64 @@ fn read_tree<'a>(alloc: Global, tree: Tree<Spelling<'a>, ()>) -> Result<Program,
     }
 }
 
-/// The program of a tree that is small. The form is judged behind the names, on the tree as it is spelled.
+/// The program of a tree that is small. The form is judged last, on the tree as it is spelled.
 fn read_small<'a>(alloc: Global, tree: Tree<Spelling<'a>, ()>) -> Result<Program, Fault>
-    ensures { Judged (names_phase >=> form_phase) tree.entry result }
+    ensures { Judged (names_phase >=> integer_phase >=> types_phase >=> form_phase) tree.entry result }
 {
     let found = read_form(alloc, &tree);
+    let Ok(main) = main_of(alloc, &tree) else {
+        return Err(Fault::Memory);
+    };
     match resolve(alloc, tree) {
         Err(ResolveFault::Refused(refusal)) => Err(Fault::Refused(refusal)),
         Err(ResolveFault::Memory) => Err(Fault::Memory),
+        Ok(named) => read_named(alloc, named, main.unwrap(), found),
+    }
+}
+
+/// The program of a tree of what its names mean, where the tree as it is spelled gives `found`.
+fn read_named(
+    alloc: Global,
+    named: Tree<Name, ()>,
+    main: u32,
+    found: Result<Program, Fault>,
+) -> Result<Program, Fault>
+    ensures { (tree : forms.Tree) → Judged form_phase (resolved tree named main) found → Judged (integer_phase >=> types_phase >=> form_phase) (resolved tree named main) result }
+{
+    if !is_integer_tree(&named) {
+        return Err(Fault::Refused(Refusal {
+            code: 100,
+            pos: START,
+        }));
+    }
+    read_integers(alloc, named, main, found)
+}
+
+/// The program of a tree over integers alone, where the tree as it is spelled gives `found`.
+fn read_integers(
+    alloc: Global,
+    named: Tree<Name, ()>,
+    main: u32,
+    found: Result<Program, Fault>,
+) -> Result<Program, Fault>
+    ensures { (tree : forms.Tree) → Judged form_phase (resolved tree named main) found → Judged (types_phase >=> form_phase) (resolved tree named main) result }
+{
+    match type_of(alloc, named, main) {
+        Err(TypeFault::Refused(refusal)) => Err(Fault::Refused(refusal)),
+        Err(TypeFault::Memory) => Err(Fault::Memory),
         Ok(_) => found,
     }
 }
 
 /// The program of a tree, where it has the form that is built.
 fn read_form<'a>(alloc: Global, tree: &Tree<Spelling<'a>, ()>) -> Result<Program, Fault>
-    ensures { Judged form_phase tree.now result }
+    ensures { (named : NamedTree) (main : ℕ) → Judged form_phase (resolved tree.now named main) result }
 {
     match program_of(alloc, tree) {
         Err(_) => Err(Fault::Memory),
         Ok(None) => Err(Fault::Refused(Refusal {
             code: 100,
-            pos: Pos { line: 1, col: 1 },
+            pos: START,
         })),
         Ok(Some(program)) => Ok(program),
     }
