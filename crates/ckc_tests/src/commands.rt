@@ -1,6 +1,7 @@
 //! `ccc` over the objects in memory.
 mod assembly;
 mod names;
+mod types;
 
 use ckc_base::{Check, Pos, Refusal};
 use ckc_cli::{FaultKind, Status, ccc, report};
@@ -175,6 +176,13 @@ fn texts_are_executed_or_refused(rt: HostRuntime) -> Result<(), Fail> {
         ),
         plain(
             b"int main(void){ putchar(1, 2); return 0; }",
+            exec,
+            refused(404, 17),
+            b"",
+            b"refused: E404 at 1:17\n",
+        ),
+        plain(
+            b"int main(void){ return *1; }",
             exec,
             refused(100, 1),
             b"",

@@ -11,3 +11,5 @@ mod commands;
 mod naming;
 #[cfg(test)]
 mod parsing;
+#[cfg(test)]
+mod typing;
