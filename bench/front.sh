@@ -1,5 +1,5 @@
 #!/bin/bash
-# How long `ccc exec` takes to refuse a text as E100, which is judged behind lexer, parser, limits and names: texts of
+# How long `ccc exec` takes to refuse a text as E100, which is judged behind lexer, parser, limits, names and types: texts of
 # 262,144 bytes and of half of it, with as many functions of some 985 nodes as the limits allow and half as many, each
 # read 20 times. Prints milliseconds for the 20, the starts of the process included; the time shall grow with the length.
 # Run by hand; `./ccc` builds the program first where that has not been done.
