@@ -45,11 +45,22 @@ const TARGETS: [(&'static str, &'static str); 15] = [
 ];
 
 /// In a checked scope, where a string literal is another pointer.
-const CHECKED: [(&'static str, &'static str); 4] = [
+const CHECKED: [(&'static str, &'static str); 15] = [
+    ("int", "yyyyy...........y.."),
+    ("unsigned", "yyyyy...........y.."),
+    ("char", "yyyyy...........y.."),
+    ("int *", "....yyy.......y...."),
+    ("_Ptr<int>", "....yyyyyy....y...."),
+    ("_Array_ptr<int>", "....yyyyyy....y...."),
+    ("_Nt_array_ptr<int>", "....yy...y....y...."),
     ("char *", "....yy.........y..."),
     ("_Ptr<char>", "....yy......yy.y..."),
+    ("_Array_ptr<char>", "....yy......yy.y..."),
     ("_Nt_array_ptr<char>", "....yy......yy.y..."),
-    ("_Nt_array_ptr<int>", "....yy...y....y...."),
+    ("_Ptr<struct t>", "....yy....yy......."),
+    ("_Array_ptr<struct t>", "....yy....yy......."),
+    ("struct t *", "....yy............."),
+    ("_Ptr<struct r>", "....yy............."),
 ];
 
 /// `y` where a source converts, `.` where it is E402 at the declared name, and `?` where there is another fault.
