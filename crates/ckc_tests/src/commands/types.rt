@@ -3,7 +3,8 @@
 use super::{executed, refused, words_of};
 use std::test::Fail;
 
-const ROWS: [(&str, u16, u32); 62] = [
+/// Declarations that are not over integers alone.
+const FORMS: [(&str, u16, u32); 20] = [
     ("struct t { int a; }; int main(void){ break; }", 100, 1),
     ("struct t; int main(void){ break; }", 100, 1),
     ("int *p; int main(void){ break; }", 100, 1),
@@ -40,6 +41,10 @@ const ROWS: [(&str, u16, u32); 62] = [
     ("int main(void){ int x = \"a\"; break; }", 100, 1),
     ("int main(void){ if (NULL) ; break; }", 100, 1),
     ("int main(void){ if (*1) ; break; }", 100, 1),
+];
+
+/// Parts of bodies that are not.
+const PARTS: [(&str, u16, u32); 24] = [
     ("int main(void){ int x; if (&x) ; break; }", 100, 1),
     ("int main(void){ int x; if (x[0]) ; break; }", 100, 1),
     (
@@ -84,6 +89,10 @@ const ROWS: [(&str, u16, u32); 62] = [
     ("int main(void){ if ((char)*1) ; break; }", 100, 1),
     ("int x = { 1, *2 }; int main(void){ break; }", 100, 1),
     ("int main(void){ break; }", 406, 17),
+];
+
+/// Faults of types, and of what stands around them.
+const TYPES: [(&str, u16, u32); 18] = [
     ("_Checked int main(void){ continue; }", 406, 26),
     ("int main(void){ _Dynamic_check(1); break; }", 406, 36),
     (
@@ -141,10 +150,38 @@ const ROWS: [(&str, u16, u32); 62] = [
 ];
 
 #[test]
-fn types_fit_or_are_refused(rt: HostRuntime) -> Result<(), Fail> {
+fn forms(rt: HostRuntime) -> Result<(), Fail> {
     let alloc = rt.alloc();
     let words = words_of(alloc, &["exec", "file"])?;
-    for (text, code, col) in ROWS {
+    for (text, code, col) in FORMS {
+        assert_eq!(rt;
+            executed(alloc, text.as_bytes(), words.as_slice())?,
+            refused(code, col),
+            "{text}"
+        );
+    }
+    Ok(())
+}
+
+#[test]
+fn parts(rt: HostRuntime) -> Result<(), Fail> {
+    let alloc = rt.alloc();
+    let words = words_of(alloc, &["exec", "file"])?;
+    for (text, code, col) in PARTS {
+        assert_eq!(rt;
+            executed(alloc, text.as_bytes(), words.as_slice())?,
+            refused(code, col),
+            "{text}"
+        );
+    }
+    Ok(())
+}
+
+#[test]
+fn types(rt: HostRuntime) -> Result<(), Fail> {
+    let alloc = rt.alloc();
+    let words = words_of(alloc, &["exec", "file"])?;
+    for (text, code, col) in TYPES {
         assert_eq!(rt;
             executed(alloc, text.as_bytes(), words.as_slice())?,
             refused(code, col),

@@ -2,7 +2,8 @@
 use super::{verdict, verdict_on};
 use std::test::Fail;
 
-const DECLARATIONS: [(&'static str, &'static str); 73] = [
+/// How objects begin.
+const STARTS: [(&'static str, &'static str); 26] = [
     ("int z = 1;", "fine"),
     ("int z = -1;", "fine"),
     ("int z = - -1;", "fine"),
@@ -29,6 +30,9 @@ const DECLARATIONS: [(&'static str, &'static str); 73] = [
     ("struct t z[2];", "fine"),
     ("struct t z[2] = { 0 };", "E401 10"),
     ("int z = { 1 };", "E401 5"),
+];
+
+const ARRAYS: [(&'static str, &'static str); 29] = [
     ("int z[0];", "E401 5"),
     ("int z[];", "E401 5"),
     ("int z[1];", "fine"),
@@ -58,6 +62,10 @@ const DECLARATIONS: [(&'static str, &'static str); 73] = [
     ("char z = \"a\";", "E401 6"),
     ("_Ptr<int> z _Checked[2] = { NULL, 0 };", "fine"),
     ("_Ptr<int> z _Checked[2] = { NULL, 1 };", "E401 11"),
+];
+
+/// Members, parameters and results.
+const HEADS: [(&'static str, &'static str); 18] = [
     ("_Ptr<int> z _Nt_checked[2];", "E401 11"),
     ("struct t z _Nt_checked[2];", "E401 10"),
     ("char z _Nt_checked[2] = { 'a' };", "fine"),
@@ -162,9 +170,29 @@ const WHOLE: [(&'static str, &'static str); 6] = [
 ];
 
 #[test]
-fn declarations(rt: HostRuntime) -> Result<(), Fail> {
+fn starts(rt: HostRuntime) -> Result<(), Fail> {
     let alloc = rt.alloc();
-    for (line, wanted) in DECLARATIONS {
+    for (line, wanted) in STARTS {
+        let found = verdict_on(alloc, "", line, "")?;
+        assert_eq!(&rt; found.as_str(), wanted, "{line}");
+    }
+    Ok(())
+}
+
+#[test]
+fn arrays(rt: HostRuntime) -> Result<(), Fail> {
+    let alloc = rt.alloc();
+    for (line, wanted) in ARRAYS {
+        let found = verdict_on(alloc, "", line, "")?;
+        assert_eq!(&rt; found.as_str(), wanted, "{line}");
+    }
+    Ok(())
+}
+
+#[test]
+fn heads(rt: HostRuntime) -> Result<(), Fail> {
+    let alloc = rt.alloc();
+    for (line, wanted) in HEADS {
         let found = verdict_on(alloc, "", line, "")?;
         assert_eq!(&rt; found.as_str(), wanted, "{line}");
     }

@@ -2,7 +2,7 @@
 use super::condition;
 use std::test::Fail;
 
-const OPERATORS: [(&'static str, &'static str); 62] = [
+const VALUES: [(&'static str, &'static str); 31] = [
     ("1", "int"),
     ("1u", "unsigned"),
     ("2147483647", "int"),
@@ -34,6 +34,9 @@ const OPERATORS: [(&'static str, &'static str); 62] = [
     ("i << u", "int"),
     ("u >> i", "unsigned"),
     ("c << 1u", "int"),
+];
+
+const OPERATORS: [(&'static str, &'static str); 31] = [
     ("-c", "int"),
     ("-u", "unsigned"),
     ("+c", "int"),
@@ -67,7 +70,8 @@ const OPERATORS: [(&'static str, &'static str); 62] = [
     ("sizeof(struct t)", "unsigned"),
 ];
 
-const POINTERS: [(&'static str, &'static str); 85] = [
+/// Pointers are moved and compared.
+const ARITHMETIC: [(&'static str, &'static str); 33] = [
     ("raw + 1", "int *"),
     ("1 + raw", "int *"),
     ("raw - c", "int *"),
@@ -101,6 +105,10 @@ const POINTERS: [(&'static str, &'static str); 85] = [
     ("raw == s", "E401 9"),
     ("raw == v", "E401 9"),
     ("v == v", "E401 7"),
+];
+
+/// Arrays, elements and members.
+const ACCESSES: [(&'static str, &'static str); 28] = [
     ("a", "int *"),
     ("b", "_Array_ptr<int>"),
     ("n", "_Nt_array_ptr<int>"),
@@ -129,6 +137,10 @@ const POINTERS: [(&'static str, &'static str); 85] = [
     ("v->m", "E401 6"),
     ("raw->m", "E401 8"),
     ("link->k", "E401 9"),
+];
+
+/// Addresses, casts and string literals.
+const ADDRESSES: [(&'static str, &'static str); 24] = [
     ("&i", "int *"),
     ("&v", "struct 0 *"),
     ("&raw", "int * *"),
@@ -217,6 +229,16 @@ const CHECKED: [(&'static str, &'static str); 8] = [
 ];
 
 #[test]
+fn values(rt: HostRuntime) -> Result<(), Fail> {
+    let alloc = rt.alloc();
+    for (expression, wanted) in VALUES {
+        let found = condition(alloc, "int h(int x) {", expression)?;
+        assert_eq!(&rt; found.as_str(), wanted, "{expression}");
+    }
+    Ok(())
+}
+
+#[test]
 fn operators(rt: HostRuntime) -> Result<(), Fail> {
     let alloc = rt.alloc();
     for (expression, wanted) in OPERATORS {
@@ -227,9 +249,29 @@ fn operators(rt: HostRuntime) -> Result<(), Fail> {
 }
 
 #[test]
-fn pointers(rt: HostRuntime) -> Result<(), Fail> {
+fn arithmetic(rt: HostRuntime) -> Result<(), Fail> {
     let alloc = rt.alloc();
-    for (expression, wanted) in POINTERS {
+    for (expression, wanted) in ARITHMETIC {
+        let found = condition(alloc, "int h(int x) {", expression)?;
+        assert_eq!(&rt; found.as_str(), wanted, "{expression}");
+    }
+    Ok(())
+}
+
+#[test]
+fn accesses(rt: HostRuntime) -> Result<(), Fail> {
+    let alloc = rt.alloc();
+    for (expression, wanted) in ACCESSES {
+        let found = condition(alloc, "int h(int x) {", expression)?;
+        assert_eq!(&rt; found.as_str(), wanted, "{expression}");
+    }
+    Ok(())
+}
+
+#[test]
+fn addresses(rt: HostRuntime) -> Result<(), Fail> {
+    let alloc = rt.alloc();
+    for (expression, wanted) in ADDRESSES {
         let found = condition(alloc, "int h(int x) {", expression)?;
         assert_eq!(&rt; found.as_str(), wanted, "{expression}");
     }

@@ -2,7 +2,7 @@
 use super::statement;
 use std::test::Fail;
 
-const STATEMENTS: [(&'static str, &'static str); 90] = [
+const JUMPS: [(&'static str, &'static str); 23] = [
     ("break;", "E406 1"),
     ("continue;", "E406 1"),
     ("while (1) break;", "fine"),
@@ -26,6 +26,9 @@ const STATEMENTS: [(&'static str, &'static str); 90] = [
     ("_Dynamic_check(raw);", "fine"),
     ("for (; raw; ) ;", "fine"),
     ("if (v) break;", "E406 8"),
+];
+
+const TARGETS: [(&'static str, &'static str); 31] = [
     ("x = 1;", "int"),
     ("i = u;", "unsigned"),
     ("c = 300;", "int"),
@@ -57,6 +60,10 @@ const STATEMENTS: [(&'static str, &'static str); 90] = [
     ("link->m = f(1);", "E403 9"),
     ("a[0] = getchar();", "int"),
     ("v.c = putchar(1);", "int"),
+];
+
+/// Locals, bundles and calls.
+const CALLS: [(&'static str, &'static str); 36] = [
     (
         "v.next = calloc<struct t>(1, sizeof(struct t));",
         "_Array_ptr<struct 0>",
@@ -128,9 +135,29 @@ const POINTER: [(&'static str, &'static str); 8] = [
 ];
 
 #[test]
-fn statements(rt: HostRuntime) -> Result<(), Fail> {
+fn jumps(rt: HostRuntime) -> Result<(), Fail> {
     let alloc = rt.alloc();
-    for (line, wanted) in STATEMENTS {
+    for (line, wanted) in JUMPS {
+        let found = statement(alloc, "int h(int x) {", line)?;
+        assert_eq!(&rt; found.as_str(), wanted, "{line}");
+    }
+    Ok(())
+}
+
+#[test]
+fn targets(rt: HostRuntime) -> Result<(), Fail> {
+    let alloc = rt.alloc();
+    for (line, wanted) in TARGETS {
+        let found = statement(alloc, "int h(int x) {", line)?;
+        assert_eq!(&rt; found.as_str(), wanted, "{line}");
+    }
+    Ok(())
+}
+
+#[test]
+fn calls(rt: HostRuntime) -> Result<(), Fail> {
+    let alloc = rt.alloc();
+    for (line, wanted) in CALLS {
         let found = statement(alloc, "int h(int x) {", line)?;
         assert_eq!(&rt; found.as_str(), wanted, "{line}");
     }

@@ -18,7 +18,7 @@ fn bytes_of(alloc: Global, o: &StaticObject) -> Result<String, AllocError> {
 fn object(alloc: Global, o: &StaticObject) -> Result<String, AllocError> {
     let element = written(alloc, &o.element)?;
     let bytes = bytes_of(alloc, o)?;
-    let offset = o.at - 0x0200_0000;
+    let offset = o.at % 0x0100_0000;
     let count = o.count;
     let end = if o.terminated { "!" } else { "" };
     format!(in alloc; "{offset} {element} {count}{end}:{bytes}")
