@@ -1,6 +1,7 @@
 //! Texts through lexer and parser.
 mod expressions;
 mod items;
+mod nearest_if;
 mod statements;
 
 use ckc_base::Pos;
