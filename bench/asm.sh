@@ -1,22 +1,8 @@
-#!/bin/sh
+#!/bin/bash
 # How fast assembly is read and listed: texts of 131,072 and 262,144 bytes, each read 100 times, and images of 2 MiB and
-# 4 MiB of code, each listed once. Prints the time of each in milliseconds; it is to grow as the size does.
-#
-# Usage: bench/asm.sh, from the repository's root. The program is written into a temporary folder.
-set -e
-root=$(cd "$(dirname "$0")/.." && pwd)
-work=$(mktemp -d)
-trap 'rm -rf "$work"' EXIT
-mkdir -p "$work/crates/asm_times/src"
-for name in ckc_base ckc_outside ckc_rv ckc_image ckc_asm; do
-    mkdir "$work/crates/$name"
-    for part in src specs proofs; do
-        if [ -d "$root/crates/$name/$part" ]; then cp -r "$root/crates/$name/$part" "$work/crates/$name/"; fi
-    done
-done
-grep -E '^(ckc_base|ckc_outside|ckc_rv|ckc_image|ckc_asm):' "$root/crates.txt" > "$work/crates.txt"
-echo 'asm_times: ckc_base ckc_outside ckc_rv ckc_image ckc_asm' >> "$work/crates.txt"
-cat > "$work/crates/asm_times/src/main.rt" <<'PROGRAM'
+# 4 MiB of code, each listed once. The times are to grow as the sizes do.
+. "$(dirname "$0")/workspace.sh"
+program asm_times ckc_asm ckc_image ckc_outside > "$work/told" <<'PROGRAM'
 #![tactic(auto)]
 
 use ckc_asm::{list, read_asm};
@@ -76,5 +62,4 @@ fn main(rt: HostRuntime) -> io::Result<()> {
     list_time(&rt, 1048576)
 }
 PROGRAM
-cd "$work/crates/asm_times"
-rt run
+awk '/^read/ { printf "assembler, %d bytes\t%.0f\tMB/s\n", $2, $2 * 100 / 1000 / $6 } /^listed/ { printf "listing, %d words\t%.0f\tmillion words/s\n", $2, $2 / 1000 / $4 }' "$work/told"

@@ -1,21 +1,9 @@
-#!/bin/sh
+#!/bin/bash
 # How long a query of `entails` takes: 1,000 variables and 2,000 facts, of three kinds. Ranges are two facts for each
 # variable, as a compiler always has them. Random facts lead from anywhere to anywhere. In a path each fact leads to the
 # next variable, in the order in which each round of the search finds but one sum more: the worst that can be.
-#
-# Usage: bench/entails.sh. The program is written into a temporary folder.
-set -e
-root=$(cd "$(dirname "$0")/.." && pwd)
-work=$(mktemp -d)
-trap 'rm -rf "$work"' EXIT
-mkdir -p "$work/crates/bench_entails/src"
-for name in ckc_base ckc_linear; do
-    mkdir "$work/crates/$name"
-    cp -r "$root/crates/$name/src" "$root/crates/$name/specs" "$root/crates/$name/proofs" "$work/crates/$name/"
-done
-grep -E '^(ckc_base|ckc_linear):' "$root/crates.txt" > "$work/crates.txt"
-echo 'bench_entails: ckc_base ckc_linear' >> "$work/crates.txt"
-cat > "$work/crates/bench_entails/src/main.rt" <<'PROGRAM'
+. "$(dirname "$0")/workspace.sh"
+program entails_times ckc_base ckc_linear > "$work/told" <<'PROGRAM'
 #![tactic(auto)]
 ghost use Rattle.std.specs.Prelude.{◌<◌};
 
@@ -100,7 +88,4 @@ fn main(rt: HostRuntime) -> io::Result<()> {
     Ok(())
 }
 PROGRAM
-cd "$work/crates/bench_entails"
-rt run > "$work/log" 2>&1 || true
-grep ' queries, ' "$work/log" || tail -20 "$work/log"
-awk '/ queries, / { printf "%s %.0f ns a query\n", $1, $8 / $4 }' "$work/log"
+awk '/ queries, / { printf "entails, %s\t%.0f\tns a query\n", substr($1, 1, length($1) - 1), $8 / $4 }' "$work/told"

@@ -1,22 +1,8 @@
-#!/bin/sh
+#!/bin/bash
 # How fast the machine runs: a loop of eight instructions (and, sums, a load, an exclusive or, a store, a branch), 50
-# million turns. Prints how many instructions a second.
-#
-# Usage: bench/machine.sh, from the repository's root. The program is written into a temporary folder.
-set -e
-root=$(cd "$(dirname "$0")/.." && pwd)
-work=$(mktemp -d)
-trap 'rm -rf "$work"' EXIT
-mkdir -p "$work/crates/run_loop/src"
-for name in ckc_base ckc_outside ckc_rv ckc_image ckc_machine; do
-    mkdir "$work/crates/$name"
-    for part in src specs proofs; do
-        if [ -d "$root/crates/$name/$part" ]; then cp -r "$root/crates/$name/$part" "$work/crates/$name/"; fi
-    done
-done
-grep -E '^(ckc_base|ckc_outside|ckc_rv|ckc_image|ckc_machine):' "$root/crates.txt" > "$work/crates.txt"
-echo 'run_loop: ckc_base ckc_outside ckc_rv ckc_image ckc_machine' >> "$work/crates.txt"
-cat > "$work/crates/run_loop/src/main.rt" <<'PROGRAM'
+# million turns.
+. "$(dirname "$0")/workspace.sh"
+program run_loop ckc_image ckc_machine ckc_outside > "$work/told" <<'PROGRAM'
 #![tactic(auto)]
 
 use ckc_image::View;
@@ -68,5 +54,4 @@ fn main(rt: HostRuntime) -> io::Result<()> {
     Ok(())
 }
 PROGRAM
-cd "$work/crates/run_loop"
-rt run
+awk '/^ended: true/ { printf "simulator, loop\t%.0f\tmillion instructions/s\n", 400000006 / 1000 / $6 }' "$work/told"

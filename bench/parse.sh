@@ -1,27 +1,8 @@
 #!/bin/bash
-# How fast the parser reads: the tokens of a text of 262,144 bytes and of half of it, each parsed 40 times. The time
-# shall grow with the length. Writes a program into a temporary folder.
-set -e
-top=$(cd "$(dirname "$0")/.." && pwd)
-work=$(mktemp -d)
-trap 'rm -rf "$work"' EXIT
-mkdir "$work/crates"
-for crate in ckc_base ckc_syntax ckc_lexer ckc_parser; do
-  mkdir "$work/crates/$crate"
-  for part in src specs proofs; do
-    if [ -d "$top/crates/$crate/$part" ]; then cp -r "$top/crates/$crate/$part" "$work/crates/$crate/"; fi
-  done
-done
-grep -E '^(ckc_base|ckc_syntax|ckc_lexer|ckc_parser):' "$top/crates.txt" > "$work/crates.txt"
-cd "$work"
-git init -q .
-echo 'Handles allowed: none.' > HANDLES
-rt new crates/bench_parse start_io > /dev/null
-echo 'bench_parse: ckc_base ckc_syntax ckc_lexer ckc_parser' >> crates.txt
-rm -rf crates/bench_parse/*
-mkdir crates/bench_parse/src crates/bench_parse/proofs crates/bench_parse/specs
-touch crates/bench_parse/proofs/Lib.antt crates/bench_parse/specs/Lib.antt
-cat > crates/bench_parse/src/main.rt <<'P'
+# How fast the parser reads: the tokens of source files of 131,072 and 262,144 bytes, each parsed 40 times. The time
+# is to grow as the size does.
+. "$(dirname "$0")/workspace.sh"
+program parse_times ckc_base ckc_lexer ckc_parser > "$work/told" <<'PROGRAM'
 #![tactic(auto)]
 
 use ckc_base::Pos;
@@ -65,7 +46,5 @@ fn main(rt: HostRuntime) -> io::Result<()> {
     measure(rt, 131_072)?;
     measure(rt, 262_144)
 }
-P
-cd crates/bench_parse
-rt run 2>&1 | tee "$work/log" | grep -E '^bytes|error|no proof' || tail -20 "$work/log"
-awk '/^bytes/ { printf "%.1f MB/s, %.1f microseconds a text\n", $2 * $8 * 1000 / $NF, $NF / $8 / 1000 }' "$work/log"
+PROGRAM
+awk '/^bytes/ { printf "parser, %d bytes\t%.0f\tMB/s\n", $2, $2 * $8 * 1000 / $NF }' "$work/told"
