@@ -1,2 +1,6 @@
 pub mod Following
 pub mod Runs
+pub mod Travelling
+pub mod Seeing
+pub mod Simulating
+pub mod Listed

@@ -4,4 +4,13 @@ pub mod Traces
 pub mod Follows
 pub mod Steps
 pub mod Matching
+pub mod States
+pub mod Simulation
+pub mod Listing
+pub mod LongEvents
+pub mod Memory
+pub mod Actions
+pub mod Activations
+pub mod Products
+pub mod Sizes
 pub mod formers

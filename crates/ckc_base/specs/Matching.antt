@@ -1,5 +1,5 @@
 use Rattle.std.specs.Prelude.{◌≡◌, ◌⊎◌, ℕ, ◌+◌, ◌≤◌, ◌<◌, List, ◌++◌}
-use Rattle.ckc_base.specs.Traces.{Standing, Stuck, Showing}
+use Rattle.ckc_base.specs.Traces.{Standing, Stuck}
 use Rattle.ckc_base.specs.Follows.{IsOver}
 use Rattle.ckc_base.specs.Steps.{Move, Goes, Halts, System, shown}
 

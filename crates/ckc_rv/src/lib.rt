@@ -9,6 +9,7 @@ mod decoding;
 mod effects;
 mod encoding;
 mod instructions;
+pub mod laws;
 mod ranges;
 mod registers;
 

@@ -1,0 +1,5 @@
+pub mod Code
+pub mod Meaning
+pub mod WellFormed
+pub mod Limits
+pub mod Sizes

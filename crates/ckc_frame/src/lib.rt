@@ -1,0 +1,7 @@
+//! Placed code: three-address code in which each register has a place, one of twelve machine registers or a slot of
+//! the frame. Its meaning stands in `specs/`.
+#![tactic(auto)]
+
+mod code;
+
+pub use code::{Place, Placed, PlacedFunc};

@@ -1,0 +1,4 @@
+pub mod Operations
+pub mod Meaning
+pub mod WellFormed
+pub mod Sizes

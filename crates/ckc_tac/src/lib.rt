@@ -1,0 +1,7 @@
+//! Three-address code: functions of blocks of operations over registers, with jumps between blocks. Its meaning
+//! stands in `specs/`.
+#![tactic(auto)]
+
+mod code;
+
+pub use code::{Tac, TacBlock, TacEnd, TacFunc, TacOp};
