@@ -1,6 +1,6 @@
 -- Running the operations of the arguments of a call gives their values.
 use Rattle.std.proofs.Common.{◌≡◌, ℕ, ◌+◌, ◌≤◌, ◌<◌, List, [], ◌∷◌, ◌++◌, append_assoc, refl, sym, ◌∙◌, ap, subst, arith}
-use Rattle.std.specs.Prelude.{Some, None, option_and_then, All}
+use Rattle.std.specs.Prelude.{Option, Some, None, option_and_then, All}
 use Rattle.std.specs.Option.{option_map}
 use Rattle.std.proofs.lemmas.List.Elements.{All-head, All-tail}
 use Rattle.ckc_base.specs.Matching.{Stretch}
@@ -27,6 +27,10 @@ values_ops (e ∷ es) t = value_ops e None t ++ values_ops es (free_from e t)
 read_both : (registers : Values) (r v : ℕ) (rs vs : List ℕ) → registers r ≡ Some v → values_in registers rs ≡ Some vs → values_in registers (r ∷ rs) ≡ Some (v ∷ vs)
 read_both registers r v rs vs e h =
     ap (option_and_then (λ v. option_map (λ vs. v ∷ vs) (values_in registers rs))) e ∙ ap (option_map (λ vs. v ∷ vs)) h
+
+-- what a register holds after more operations that leave it
+still : (after before : Values) (r : ℕ) (value : Option ℕ) → after r ≡ before r → before r ≡ value → after r ≡ value
+still after before r value e h = e ∙ h
 
 module _ (functions : List TacFunc) (blocks : List TacBlock) (end : TacEnd) (callers : List Caller) (world : World) where
   -- The operations of the expressions lead to those behind them, with the values in their registers; what lies below t
@@ -57,9 +61,11 @@ module _ (functions : List TacFunc) (blocks : List TacBlock) (end : TacEnd) (cal
         let r = register_of e None t in
         let over_e = All-head (IsExprOver locals) e es over in
         let first = computes functions blocks end callers world locals values e None t found.0 (values_ops es u ++ more) registers l over_e agree found.1 in
-        let agree_first : Agree locals first.after values = λ x less. first.same x (omega arith) ∙ agree x less in
+        let agree_first : Agree locals first.after values = λ x less. still first.after registers x (values x) (first.same x (omega arith)) (agree x less) in
         let second = computes_all es u rest.0 more first.after (omega (arith, free_more e t)) (All-tail (IsExprOver locals) e es over) agree_first rest.1 in
-        let here : second.after r ≡ Some found.0 = second.same r (register_below e locals t l over_e) ∙ first.value in
+        let all_of : values_in second.after (registers_of (e ∷ es) t) ≡ Some (found.0 ∷ rest.0) =
+        read_both second.after r found.0 (registers_of es u) rest.0
+        (still second.after first.after r (Some found.0) (second.same r (register_below e locals t l over_e)) first.value) second.values in
         let path = then_stretch (tac_system functions) first.count second.count [] []
         (at functions blocks end callers world (value_ops e None t ++ (values_ops es u ++ more)) registers)
         (at functions blocks end callers world (values_ops es u ++ more) first.after)
@@ -70,6 +76,6 @@ module _ (functions : List TacFunc) (blocks : List TacBlock) (end : TacEnd) (cal
           few = omega (arith, first.few, second.few);
           path = subst (λ x. Stretch (tac_system functions) (first.count + second.count) [] (at functions blocks end callers world x registers) (at functions blocks end callers world more second.after))
               (sym (append_assoc (value_ops e None t) (values_ops es u) more)) path;
-          values = read_both second.after r found.0 (registers_of es u) rest.0 here second.values ∙ ap Some rest.2;
-          same = λ x below. second.same x (omega (arith, free_more e t)) ∙ first.same x below;
+          values = subst (λ ws. values_in second.after (registers_of (e ∷ es) t) ≡ Some ws) rest.2 all_of;
+          same = λ x below. still second.after first.after x (registers x) (second.same x (omega (arith, free_more e t))) (first.same x below);
         }

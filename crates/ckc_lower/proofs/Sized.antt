@@ -4,7 +4,7 @@ use Rattle.std.specs.Prelude.{Bool, Option, Some, None, sum_by, map}
 use Rattle.std.proofs.lemmas.List.Sums.{sum_by-append}
 use Rattle.ckc_base.specs.declared.arithmetic.Width.{Width}
 use Rattle.ckc_base.specs.declared.arithmetic.BinOp.{BinOp}
-use Rattle.ckc_base.specs.Sizes.{call_size}
+use Rattle.ckc_base.specs.Sizes.{const_size, call_size, return_size}
 use Rattle.ckc_core.specs.Code.{Expr, Const, Local, Load, Bin, High, Code, End, Set, Store, Check, Call, Get, Put, Alloc, If, Loop, Break, Continue, Return, Function, Program}
 use Rattle.ckc_core.specs.Sizes.{expr_size, exprs_size, set_size, code_size, function_size, program_size}
 use Rattle.ckc_tac.specs.declared.code.TacBlock.{TacBlock}
@@ -136,7 +136,7 @@ length-registers_of (e ∷ es) t = let h : length (registers_of es (free_from e 
 -- what the end of the function adds to the jump that is counted for the end of a list
 abbrev fall_size : Option ℕ → ℕ
 fall_size (Some to) = 0
-fall_size None = 13
+fall_size None = const_size + return_size
 
 size-built : (t : ℕ) (code : Code) (exit : Option ℕ) (loop : Option Targets) (b : Builder) → size (built t code exit loop b) ≤ size b + code_size code + fall_size exit
 size-built t End (Some to) loop b = let e = size-end b (ends.Jump to) in omega (arith, e)

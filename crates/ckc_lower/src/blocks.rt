@@ -44,6 +44,14 @@ fn count_blocks(stmts: &[CoreStmt]) -> Result<u32, AllocError>
     Ok(count)
 }
 
+/// The number of the block behind those of the statements, which begin at a block.
+fn behind(at: u32, stmts: &[CoreStmt]) -> Result<u32, AllocError>
+    ensures { IfOk result (λ n. n ≡ at + block_count (code_of stmts.now)) }
+{
+    let count = count_blocks(stmts)?;
+    sum(at, count)
+}
+
 impl Builder {
     /// The number of the block behind the open one.
     fn next_block(&self) -> Result<u32, AllocError>
@@ -160,8 +168,8 @@ impl Builder {
         ensures built { OnOk result (self.new ≡ forked locals (expr_of e.now) (code_of one.now) (code_of two.now) self.old) }
     {
         let first = self.next_block()?;
-        let second = sum(first, count_blocks(one)?)?;
-        let join = sum(second, count_blocks(two)?)?;
+        let second = behind(first, one)?;
+        let join = behind(second, two)?;
         let r = self.value(e, None, locals)?;
         self.end(alloc, TacEnd::Branch(r, first, second))?;
         Ok(join)
@@ -178,8 +186,8 @@ impl Builder {
         ensures built { OnOk result (self.new ≡ entered self.old) }
     {
         let head = self.next_block()?;
-        let step_at = sum(head, count_blocks(body)?)?;
-        let out = sum(step_at, count_blocks(step)?)?;
+        let step_at = behind(head, body)?;
+        let out = behind(step_at, step)?;
         self.end(alloc, TacEnd::Jump(head))?;
         Ok(Targets { out, step: step_at })
     }

@@ -38,6 +38,7 @@ pub fn free_after(e: &CoreExpr, t: u32) -> u32
 }
 
 impl Builder {
+    /// Adds an operation to the open block.
     pub fn op(&mut self, op: TacOp) -> Result<(), AllocError>
         ensures { OnOk result (self.new ≡ with_op self.old op) }
     {
