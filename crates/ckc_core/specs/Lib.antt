@@ -3,3 +3,4 @@ pub mod Meaning
 pub mod WellFormed
 pub mod Limits
 pub mod Sizes
+pub mod Example

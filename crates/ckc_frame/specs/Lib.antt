@@ -1,3 +1,4 @@
 pub mod Places
 pub mod Meaning
 pub mod WellFormed
+pub mod Example

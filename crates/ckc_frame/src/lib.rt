@@ -3,5 +3,6 @@
 #![tactic(auto)]
 
 mod code;
+pub mod laws;
 
 pub use code::{Place, Placed, PlacedFunc};

@@ -2,3 +2,4 @@ pub mod Operations
 pub mod Meaning
 pub mod WellFormed
 pub mod Sizes
+pub mod Example

@@ -1,0 +1,11 @@
+pub mod Parts
+pub mod Values
+pub mod Arguments
+pub mod Relation
+pub mod Steps
+pub mod Appending
+pub mod Standing
+pub mod Follows
+pub mod Sized
+pub mod Registers
+pub mod Formed

@@ -1,0 +1,159 @@
+-- How many registers what is built uses.
+use Rattle.std.proofs.Common.{ℕ, ◌+◌, ◌≤◌, List, [], ◌∷◌, length, arith}
+use Rattle.std.specs.Prelude.{Option, Some, None, map, All}
+use Rattle.std.proofs.lemmas.List.Elements.{All-nil, All-cons, All-head, All-tail}
+use Rattle.ckc_core.specs.Code.{Expr, Const, Local, Load, Bin, High, Code, End, Set, Store, Check, Call, Get, Put, Alloc, If, Loop, Break, Continue, Return, Function, Program}
+use Rattle.ckc_core.specs.Limits.{depth, IsShallow, KeepsLimits, IsSmallFunction, IsWithinLimits}
+use Rattle.ckc_tac.specs.declared.code.TacFunc.{TacFunc}
+use Rattle.ckc_tac.specs.declared.code.TacOp.{TacOp}
+use Rattle.ckc_tac.specs.declared.code.TacOp.TheVariants as op
+use Rattle.ckc_tac.specs.WellFormed.{HasFewRegisters}
+use Rattle.ckc_lower.specs.declared.builder.Builder.{Builder}
+use Rattle.ckc_lower.specs.declared.builder.Targets.{Targets}
+use Rattle.ckc_lower.specs.Built.{free_from, registers_of, with_op, with_temporary, with_value, with_values, stored, used, forked, join_of, entered, step_at, targets_of, built}
+use Rattle.ckc_lower.specs.Lowered.{empty, lowered_function, lowered}
+
+-- ---- no register is given back
+
+temporary-more : (want : Option ℕ) (t : ℕ) (b : Builder) → b.regs ≤ (with_temporary want t b).regs
+temporary-more (Some d) t b = omega arith
+temporary-more None t b = omega arith
+
+pub value-more : (e : Expr) (want : Option ℕ) (t : ℕ) (b : Builder) → b.regs ≤ (with_value e want t b).regs
+value-more (Const n) want t b = temporary-more want t b
+value-more (Local x) (Some d) t b = omega arith
+value-more (Local x) None t b = omega arith
+value-more (Load width a) want t b = omega (arith, value-more a None t b, temporary-more want t (with_value a None t b))
+value-more (Bin o p q) want t b =
+    let u = free_from p t in
+    let c = with_value p None t b in
+    omega (arith, value-more p None t b, value-more q None u c, temporary-more want t (with_value q None u c))
+value-more (High s p q) want t b =
+    let u = free_from p t in
+    let c = with_value p None t b in
+    omega (arith, value-more p None t b, value-more q None u c, temporary-more want t (with_value q None u c))
+
+pub values-more : (es : List Expr) (t : ℕ) (b : Builder) → b.regs ≤ (with_values es t b).regs
+values-more [] t b = omega arith
+values-more (e ∷ es) t b = omega (arith, value-more e None t b, values-more es (free_from e t) (with_value e None t b))
+
+pub stored-more : (t : ℕ) (a e : Expr) (o : ℕ → ℕ → TacOp) (b : Builder) → b.regs ≤ (stored t a e o b).regs
+stored-more t a e o b = omega (arith, value-more a None t b, value-more e None (free_from a t) (with_value a None t b))
+
+pub built-more : (t : ℕ) (code : Code) (exit : Option ℕ) (loop : Option Targets) (b : Builder) → b.regs ≤ (built t code exit loop b).regs
+built-more t End (Some to) loop b = omega arith
+built-more t End None loop b = temporary-more None t b
+built-more t (Set x e rest) exit loop b = omega (arith, value-more e (Some x) t b, built-more t rest exit loop (with_value e (Some x) t b))
+built-more t (Store width a e rest) exit loop b =
+    omega (arith, stored-more t a e (op.Store width) b, built-more t rest exit loop (stored t a e (op.Store width) b))
+built-more t (Check check place e rest) exit loop b =
+    omega (arith, value-more e None t b, built-more t rest exit loop (used t e (op.Check check place) b))
+built-more t (Call target i es place rest) exit loop b =
+    omega (arith, values-more es t b, built-more t rest exit loop (with_op (with_values es t b) (op.Call target i (registers_of es t) place)))
+built-more t (Get x rest) exit loop b = built-more t rest exit loop (with_op b (op.Get x))
+built-more t (Put e rest) exit loop b = omega (arith, value-more e None t b, built-more t rest exit loop (used t e op.Put b))
+built-more t (Alloc x e size rest) exit loop b =
+    omega (arith, value-more e None t b, built-more t rest exit loop (used t e (λ r. op.Alloc x r size) b))
+built-more t (If e one two rest) exit loop b =
+    let join = Some (join_of one two b) in
+    let c = forked t e one two b in
+    let d = built t one join loop c in
+    omega (arith, value-more e None t b, built-more t one join loop c, built-more t two join loop d, built-more t rest exit loop (built t two join loop d))
+built-more t (Loop body step rest) exit loop b =
+    let head = Some (length b.blocks + 1) in
+    let c = entered b in
+    let d = built t body (Some (step_at body b)) (Some (targets_of body step b)) c in
+    omega (arith, built-more t body (Some (step_at body b)) (Some (targets_of body step b)) c, built-more t step head None d, built-more t rest exit loop (built t step head None d))
+built-more t (Break rest) exit loop b = omega arith
+built-more t (Continue rest) exit loop b = omega arith
+built-more t (Return e rest) exit loop b = value-more e None t b
+
+-- ---- there are few registers
+
+some_depth : (e : Expr) → 1 ≤ depth e
+some_depth (Const n) = omega arith
+some_depth (Local x) = omega arith
+some_depth (Load width a) = omega arith
+some_depth (Bin o p q) = omega arith
+some_depth (High s p q) = omega arith
+
+pub free_at_most : (e : Expr) (t : ℕ) → free_from e t ≤ t + 1
+free_at_most (Const n) t = omega arith
+free_at_most (Local x) t = omega arith
+free_at_most (Load width a) t = omega arith
+free_at_most (Bin o p q) t = omega arith
+free_at_most (High s p q) t = omega arith
+
+temporary-few : (most : ℕ) (want : Option ℕ) (t : ℕ) (b : Builder) → t + 1 ≤ most → b.regs ≤ most → (with_temporary want t b).regs ≤ most
+temporary-few most (Some d) t b h few = few
+temporary-few most None t b h few = omega arith
+
+value-few : (most : ℕ) (e : Expr) (want : Option ℕ) (t : ℕ) (b : Builder) → t + depth e ≤ most → b.regs ≤ most → (with_value e want t b).regs ≤ most
+value-few most (Const n) want t b h few = temporary-few most want t b h few
+value-few most (Local x) (Some d) t b h few = few
+value-few most (Local x) None t b h few = few
+value-few most (Load width a) want t b h few =
+    temporary-few most want t (with_value a None t b) (omega arith) (value-few most a None t b (omega arith) few)
+value-few most (Bin o p q) want t b h few =
+    let u = free_from p t in
+    let c = with_value p None t b in
+    temporary-few most want t (with_value q None u c) (omega arith)
+    (value-few most q None u c (omega (arith, free_at_most p t)) (value-few most p None t b (omega arith) few))
+value-few most (High s p q) want t b h few =
+    let u = free_from p t in
+    let c = with_value p None t b in
+    temporary-few most want t (with_value q None u c) (omega arith)
+    (value-few most q None u c (omega (arith, free_at_most p t)) (value-few most p None t b (omega arith) few))
+
+values-few : (es : List Expr) (t : ℕ) (b : Builder) → t + length es ≤ 2255 → All IsShallow es → b.regs ≤ 4064 → (with_values es t b).regs ≤ 4064
+values-few [] t b h all few = few
+values-few (e ∷ es) t b h all few =
+    let shallow : depth e ≤ 1000 = All-head IsShallow e es all in
+    values-few es (free_from e t) (with_value e None t b) (omega (arith, free_at_most e t)) (All-tail IsShallow e es all)
+    (value-few 4064 e None t b (omega arith) few)
+
+built-few : (t : ℕ) → t ≤ 2000 → (code : Code) (exit : Option ℕ) (loop : Option Targets) (b : Builder) → KeepsLimits code → b.regs ≤ 4064 → (built t code exit loop b).regs ≤ 4064
+built-few t l End (Some to) loop b k few = few
+built-few t l End None loop b k few = temporary-few 4064 None t b (omega arith) few
+built-few t l (Set x e rest) exit loop b k few =
+    built-few t l rest exit loop (with_value e (Some x) t b) k.1 (value-few 4064 e (Some x) t b (omega (arith, k.0)) few)
+built-few t l (Store width a e rest) exit loop b k few =
+    built-few t l rest exit loop (stored t a e (op.Store width) b) k.2
+    (value-few 4064 e None (free_from a t) (with_value a None t b) (omega (arith, k.1, free_at_most a t)) (value-few 4064 a None t b (omega (arith, k.0)) few))
+built-few t l (Check check place e rest) exit loop b k few =
+    built-few t l rest exit loop (used t e (op.Check check place) b) k.1 (value-few 4064 e None t b (omega (arith, k.0)) few)
+built-few t l (Call target i es place rest) exit loop b k few =
+    built-few t l rest exit loop (with_op (with_values es t b) (op.Call target i (registers_of es t) place)) k.2
+    (values-few es t b (omega (arith, k.0)) k.1 few)
+built-few t l (Get x rest) exit loop b k few = built-few t l rest exit loop (with_op b (op.Get x)) k few
+built-few t l (Put e rest) exit loop b k few =
+    built-few t l rest exit loop (used t e op.Put b) k.1 (value-few 4064 e None t b (omega (arith, k.0)) few)
+built-few t l (Alloc x e size rest) exit loop b k few =
+    built-few t l rest exit loop (used t e (λ r. op.Alloc x r size) b) k.1 (value-few 4064 e None t b (omega (arith, k.0)) few)
+built-few t l (If e one two rest) exit loop b k few =
+    let join = Some (join_of one two b) in
+    let c = forked t e one two b in
+    let d = built t one join loop c in
+    built-few t l rest exit loop (built t two join loop d) k.3
+    (built-few t l two join loop d k.2 (built-few t l one join loop c k.1 (value-few 4064 e None t b (omega (arith, k.0)) few)))
+built-few t l (Loop body step rest) exit loop b k few =
+    let head = Some (length b.blocks + 1) in
+    let c = entered b in
+    let d = built t body (Some (step_at body b)) (Some (targets_of body step b)) c in
+    built-few t l rest exit loop (built t step head None d) k.2
+    (built-few t l step head None d k.1 (built-few t l body (Some (step_at body b)) (Some (targets_of body step b)) c k.0 few))
+built-few t l (Break rest) exit loop b k few = few
+built-few t l (Continue rest) exit loop b k few = few
+built-few t l (Return e rest) exit loop b k few = value-few 4064 e None t b (omega (arith, k.0)) few
+
+few_each : (fs : List Function) → All IsSmallFunction fs → All (λ (g : TacFunc). g.regs ≤ 4064) (map lowered_function fs)
+few_each [] all = All-nil (λ (g : TacFunc). g.regs ≤ 4064)
+few_each (f ∷ fs) all =
+    let small = All-head IsSmallFunction f fs all in
+    All-cons (λ (g : TacFunc). g.regs ≤ 4064) (lowered_function f) (map lowered_function fs)
+    (built-few f.locals small.0 f.body None None (empty f.locals) small.1 (omega (arith, small.0)))
+    (few_each fs (All-tail IsSmallFunction f fs all))
+
+-- each function of a program within the limits has few registers
+pub lowered_few : (p : Program) → IsWithinLimits p → HasFewRegisters (lowered p)
+lowered_few p l = few_each p.functions l

@@ -1,0 +1,116 @@
+-- How states of core code and of its three-address code are related.
+use Rattle.std.proofs.Common.{◌≡◌, ℕ, List, [], ◌∷◌, ◌++◌}
+use Rattle.std.specs.Prelude.{Option, Some, None, slice_get, All}
+use Rattle.ckc_core.specs.Code.{Code, End, Set, Store, Check, Call, Get, Put, Alloc, If, Loop, Break, Continue, Return, Function}
+use Rattle.ckc_core.specs.Meaning.{Rest, Stop, Next, Body, Step}
+use Rattle.ckc_core.specs.Meaning as C
+use Rattle.ckc_core.specs.WellFormed.{IsExprOver}
+use Rattle.ckc_tac.specs.declared.code.TacFunc.{TacFunc}
+use Rattle.ckc_tac.specs.declared.code.TacBlock.{TacBlock}
+use Rattle.ckc_tac.specs.declared.code.TacOp.{TacOp}
+use Rattle.ckc_tac.specs.declared.code.TacOp.TheVariants as op
+use Rattle.ckc_tac.specs.declared.code.TacEnd.{TacEnd}
+use Rattle.ckc_tac.specs.declared.code.TacEnd.TheVariants as ends
+use Rattle.ckc_tac.specs.Meaning as T
+use Rattle.ckc_lower.specs.declared.builder.Targets.{Targets}
+use Rattle.ckc_lower.specs.Built.{free_from, register_of, registers_of, out_of, step_of}
+use Rattle.ckc_lower.proofs.Values.{value_ops, Agree}
+use Rattle.ckc_lower.proofs.Arguments.{values_ops}
+
+-- there is a block with the number, and this holds of its operations and its end
+abbrev pub At : List TacBlock → ℕ → (List TacOp → TacEnd → Type 0) → Type 0
+At blocks i P = (block : TacBlock) × (slice_get blocks i ≡ Some block) × P block.ops block.end
+
+-- the end of a list of statements: a jump, or the return of 0
+abbrev pub Leaves : ℕ → List TacOp → TacEnd → Option ℕ → Type 0
+Leaves t ops end (Some to) = (ops ≡ []) × (end ≡ ends.Jump to)
+Leaves t ops end None = (ops ≡ op.Const t 0 ∷ []) × (end ≡ ends.Return t)
+
+abbrev pub loop_of : (out step : ℕ) → Option Targets
+loop_of out step = Some (record { out = out; step = step })
+
+-- From these operations and this end on the blocks run the code, over t locals: behind it they go to the exit, and out of
+-- the innermost loop where it says.
+abbrev pub Runs : List TacBlock → ℕ → Code → List TacOp → TacEnd → Option ℕ → Option Targets → Type 0
+Runs blocks t End ops end exit loop = Leaves t ops end exit
+Runs blocks t (Set x e rest) ops end exit loop =
+    (more : List TacOp) × (ops ≡ value_ops e (Some x) t ++ more) × IsExprOver t e × Runs blocks t rest more end exit loop
+Runs blocks t (Store width a e rest) ops end exit loop =
+    (more : List TacOp)
+    × (ops ≡ value_ops a None t ++ (value_ops e None (free_from a t) ++ (op.Store width (register_of a None t) (register_of e None (free_from a t)) ∷ more)))
+    × IsExprOver t a × IsExprOver t e × Runs blocks t rest more end exit loop
+Runs blocks t (Check check place e rest) ops end exit loop =
+    (more : List TacOp) × (ops ≡ value_ops e None t ++ (op.Check check place (register_of e None t) ∷ more)) × IsExprOver t e
+    × Runs blocks t rest more end exit loop
+Runs blocks t (Call target callee es place rest) ops end exit loop =
+    (more : List TacOp) × (ops ≡ values_ops es t ++ (op.Call target callee (registers_of es t) place ∷ more)) × All (IsExprOver t) es
+    × Runs blocks t rest more end exit loop
+Runs blocks t (Get x rest) ops end exit loop =
+    (more : List TacOp) × (ops ≡ op.Get x ∷ more) × Runs blocks t rest more end exit loop
+Runs blocks t (Put e rest) ops end exit loop =
+    (more : List TacOp) × (ops ≡ value_ops e None t ++ (op.Put (register_of e None t) ∷ more)) × IsExprOver t e
+    × Runs blocks t rest more end exit loop
+Runs blocks t (Alloc x e size rest) ops end exit loop =
+    (more : List TacOp) × (ops ≡ value_ops e None t ++ (op.Alloc x (register_of e None t) size ∷ more)) × IsExprOver t e
+    × Runs blocks t rest more end exit loop
+Runs blocks t (If e one two rest) ops end exit loop =
+    (one_at two_at join : ℕ) × (ops ≡ value_ops e None t) × (end ≡ ends.Branch (register_of e None t) one_at two_at) × IsExprOver t e
+    × At blocks one_at (λ ops end. Runs blocks t one ops end (Some join) loop)
+    × At blocks two_at (λ ops end. Runs blocks t two ops end (Some join) loop)
+    × At blocks join (λ ops end. Runs blocks t rest ops end exit loop)
+Runs blocks t (Loop body step rest) ops end exit loop =
+    (head step_at out : ℕ) × (ops ≡ []) × (end ≡ ends.Jump head)
+    × At blocks head (λ ops end. Runs blocks t body ops end (Some step_at) (loop_of out step_at))
+    × At blocks step_at (λ ops end. Runs blocks t step ops end (Some head) None)
+    × At blocks out (λ ops end. Runs blocks t rest ops end exit loop)
+Runs blocks t (Break rest) ops end exit loop = (ops ≡ []) × (end ≡ ends.Jump (out_of loop))
+Runs blocks t (Continue rest) ops end exit loop = (ops ≡ []) × (end ≡ ends.Jump (step_of loop))
+Runs blocks t (Return e rest) ops end exit loop =
+    (ops ≡ value_ops e None t) × (end ≡ ends.Return (register_of e None t)) × IsExprOver t e
+
+abbrev pub RunsAt : List TacBlock → ℕ → ℕ → Code → Option ℕ → Option Targets → Type 0
+RunsAt blocks t i code exit loop = At blocks i (λ ops end. Runs blocks t code ops end exit loop)
+
+-- a loop with what stands behind it, whose blocks are head, step_at and out
+pub record LoopRuns (blocks : List TacBlock) (t head step_at out : ℕ) (body step code : Code) (exit : Option ℕ) (loop : Option Targets) : Type 0 where
+  pub body_runs : RunsAt blocks t head body (Some step_at) (loop_of out step_at)
+  pub step_runs : RunsAt blocks t step_at step (Some head) None
+  pub behind : RunsAt blocks t out code exit loop
+
+-- what comes behind the statements that run stands at the exit, and out of the innermost loop where it says
+abbrev pub Continues : List TacBlock → ℕ → Rest → Option ℕ → Option Targets → Type 0
+Continues blocks t Stop exit loop = (exit ≡ None) × (loop ≡ None)
+Continues blocks t (Next code after) exit loop =
+    (to : ℕ) × (outer : Option ℕ) × (exit ≡ Some to) × RunsAt blocks t to code outer loop × Continues blocks t after outer loop
+Continues blocks t (Body body step code after) exit loop =
+    (head step_at out : ℕ) × (outer : Option ℕ) × (around : Option Targets) × (exit ≡ Some step_at) × (loop ≡ loop_of out step_at)
+    × LoopRuns blocks t head step_at out body step code outer around × Continues blocks t after outer around
+Continues blocks t (Step body step code after) exit loop =
+    (head step_at out : ℕ) × (outer : Option ℕ) × (around : Option Targets) × (exit ≡ Some head) × (loop ≡ None)
+    × LoopRuns blocks t head step_at out body step code outer around × Continues blocks t after outer around
+
+-- a call of core code and the same call of its three-address code
+pub record SameFrame (f : C.Frame) (g : T.Frame) : Type 0 where
+  pub locals : ℕ
+  pub exit : Option ℕ
+  pub loop_at : Option Targets
+  pub runs : Runs g.blocks locals f.code g.ops g.end exit loop_at
+  pub continues : Continues g.blocks locals f.rest exit loop_at
+  pub agree : Agree locals g.registers f.locals
+
+abbrev pub SameCallers : List C.Caller → List T.Caller → Type 0
+SameCallers [] [] = Unit {0}
+SameCallers [] (d ∷ ds) = ⊥
+SameCallers (c ∷ cs) [] = ⊥
+SameCallers (c ∷ cs) (d ∷ ds) = SameFrame c.frame d.frame × (c.target ≡ d.target) × SameCallers cs ds
+
+pub record SameState (s : C.State) (u : T.State) : Type 0 where
+  pub frame : SameFrame s.frame u.frame
+  pub callers : SameCallers s.callers u.callers
+  pub world : s.world ≡ u.world
+
+-- each function of core code has one with its code at the same number
+abbrev pub SameFunctions : List Function → List TacFunc → Type 0
+SameFunctions functions lowered =
+    (i : ℕ) (f : Function) → slice_get functions i ≡ Some f
+    → (g : TacFunc) × (slice_get lowered i ≡ Some g) × RunsAt g.blocks f.locals 0 f.body None None

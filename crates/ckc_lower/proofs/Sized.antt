@@ -1,0 +1,236 @@
+-- The size of what is built is at most that of the code.
+use Rattle.std.proofs.Common.{◌≡◌, ℕ, ◌+◌, ◌≤◌, List, [], ◌∷◌, ◌++◌, length, refl, ◌∙◌, ap, arith}
+use Rattle.std.specs.Prelude.{Bool, Option, Some, None, sum_by, map}
+use Rattle.std.proofs.lemmas.List.Sums.{sum_by-append}
+use Rattle.ckc_base.specs.declared.arithmetic.Width.{Width}
+use Rattle.ckc_base.specs.declared.arithmetic.BinOp.{BinOp}
+use Rattle.ckc_base.specs.Sizes.{const_size, call_size, return_size}
+use Rattle.ckc_core.specs.Code.{Expr, Const, Local, Load, Bin, High, Code, End, Set, Store, Check, Call, Get, Put, Alloc, If, Loop, Break, Continue, Return, Function, Program}
+use Rattle.ckc_core.specs.Sizes.{expr_size, exprs_size, set_size, code_size, function_size, program_size}
+use Rattle.ckc_tac.specs.declared.code.TacBlock.{TacBlock}
+use Rattle.ckc_tac.specs.declared.code.TacOp.{TacOp}
+use Rattle.ckc_tac.specs.declared.code.TacOp.TheVariants as op
+use Rattle.ckc_tac.specs.declared.code.TacEnd.{TacEnd}
+use Rattle.ckc_tac.specs.declared.code.TacEnd.TheVariants as ends
+use Rattle.ckc_tac.specs.Sizes as T
+use Rattle.ckc_lower.specs.declared.builder.Builder.{Builder}
+use Rattle.ckc_lower.specs.declared.builder.Targets.{Targets}
+use Rattle.ckc_lower.specs.Built.{free_from, target_of, register_of, registers_of, with_op, with_temporary, with_value, with_values, block_count, with_end, stored, used, forked, join_of, entered, step_at, targets_of, out_of, step_of, built}
+use Rattle.ckc_lower.specs.Lowered.{empty, whole, lowered_function, lowered}
+
+-- the size of what a builder has
+unfoldable pub size : Builder → ℕ
+size b = sum_by T.block_size b.blocks + T.ops_size b.ops
+
+pub size-op : (b : Builder) (o : TacOp) → size (with_op b o) ≡ size b + T.op_size o
+unfolding size
+size-op b o =
+    let e : T.ops_size (b.ops ++ o ∷ []) ≡ T.ops_size b.ops + (0 + T.op_size o) = sum_by-append T.op_size b.ops (o ∷ []) in
+    omega (arith, e)
+
+pub size-end : (b : Builder) (end : TacEnd) → size (with_end b end) ≡ size b + T.end_size end
+unfolding size
+size-end b end =
+    let block : TacBlock = record { ops = b.ops; end = end } in
+    let e : sum_by T.block_size (b.blocks ++ block ∷ []) ≡ sum_by T.block_size b.blocks + (0 + T.block_size block) = sum_by-append T.block_size b.blocks (block ∷ []) in
+    omega (arith, e)
+
+pub size-temporary : (want : Option ℕ) (t : ℕ) (b : Builder) → size (with_temporary want t b) ≡ size b
+unfolding size
+size-temporary (Some d) t b = refl
+size-temporary None t b = refl
+
+-- what an expression adds where its value is wanted in a register, or anywhere
+abbrev wanted_size : Option ℕ → Expr → ℕ
+wanted_size (Some d) e = set_size e
+wanted_size None e = expr_size e
+
+wanted-const : (want : Option ℕ) (n : ℕ) → wanted_size want (Const n) ≡ expr_size (Const n)
+wanted-const (Some d) n = refl
+wanted-const None n = refl
+
+wanted-load : (want : Option ℕ) (width : Width) (a : Expr) → wanted_size want (Load width a) ≡ expr_size (Load width a)
+wanted-load (Some d) width a = refl
+wanted-load None width a = refl
+
+wanted-bin : (want : Option ℕ) (o : BinOp) (p q : Expr) → wanted_size want (Bin o p q) ≡ expr_size (Bin o p q)
+wanted-bin (Some d) o p q = refl
+wanted-bin None o p q = refl
+
+wanted-high : (want : Option ℕ) (s : Bool) (p q : Expr) → wanted_size want (High s p q) ≡ expr_size (High s p q)
+wanted-high (Some d) s p q = refl
+wanted-high None s p q = refl
+
+size-value : (e : Expr) (want : Option ℕ) (t : ℕ) (b : Builder) → size (with_value e want t b) ≡ size b + wanted_size want e
+size-value (Const n) want t b =
+    let c = with_temporary want t b in
+    let first = size-op c (op.Const (target_of want t) n) in
+    let second = size-temporary want t b in
+    let third = wanted-const want n in
+    omega (arith, first, second, third)
+size-value (Local x) (Some d) t b = size-op b (op.Copy d x)
+size-value (Local x) None t b = omega arith
+size-value (Load width a) want t b =
+    let c = with_value a None t b in
+    let d = with_temporary want t c in
+    let first = size-value a None t b in
+    let second = size-temporary want t c in
+    let third = size-op d (op.Load width (target_of want t) (register_of a None t)) in
+    let fourth = wanted-load want width a in
+    omega (arith, first, second, third, fourth)
+size-value (Bin o p q) want t b =
+    let u = free_from p t in
+    let c = with_value p None t b in
+    let d = with_value q None u c in
+    let f = with_temporary want t d in
+    let first = size-value p None t b in
+    let second = size-value q None u c in
+    let third = size-temporary want t d in
+    let fourth = size-op f (op.Bin o (target_of want t) (register_of p None t) (register_of q None u)) in
+    let fifth = wanted-bin want o p q in
+    omega (arith, first, second, third, fourth, fifth)
+size-value (High s p q) want t b =
+    let u = free_from p t in
+    let c = with_value p None t b in
+    let d = with_value q None u c in
+    let f = with_temporary want t d in
+    let first = size-value p None t b in
+    let second = size-value q None u c in
+    let third = size-temporary want t d in
+    let fourth = size-op f (op.High s (target_of want t) (register_of p None t) (register_of q None u)) in
+    let fifth = wanted-high want s p q in
+    omega (arith, first, second, third, fourth, fifth)
+
+sum_by-cons : {X : Type 0} (f : X → ℕ) (x : X) (xs : List X) → sum_by f (x ∷ xs) ≡ f x + sum_by f xs
+sum_by-cons f x xs =
+    let none : 0 + f x ≡ f x = omega arith in
+    sum_by-append f (x ∷ []) xs ∙ ap (λ n. n + sum_by f xs) none
+
+size-values : (es : List Expr) (t : ℕ) (b : Builder) → size (with_values es t b) ≡ size b + exprs_size es
+size-values [] t b = omega arith
+size-values (e ∷ es) t b =
+    let first = size-value e None t b in
+    let second = size-values es (free_from e t) (with_value e None t b) in
+    let third = sum_by-cons expr_size e es in
+    omega (arith, first, second, third)
+
+size-stored : (t : ℕ) (a e : Expr) (o : ℕ → ℕ → TacOp) (b : Builder) → size (stored t a e o b) ≡ size b + expr_size a + expr_size e + T.op_size (o (register_of a None t) (register_of e None (free_from a t)))
+size-stored t a e o b =
+    let u = free_from a t in
+    let c = with_value a None t b in
+    let first = size-value a None t b in
+    let second = size-value e None u c in
+    let third = size-op (with_value e None u c) (o (register_of a None t) (register_of e None u)) in
+    omega (arith, first, second, third)
+
+size-used : (t : ℕ) (e : Expr) (o : ℕ → TacOp) (b : Builder) → size (used t e o b) ≡ size b + expr_size e + T.op_size (o (register_of e None t))
+size-used t e o b =
+    let first = size-value e None t b in
+    let second = size-op (with_value e None t b) (o (register_of e None t)) in
+    omega (arith, first, second)
+
+length-registers_of : (es : List Expr) (t : ℕ) → length (registers_of es t) ≡ length es
+length-registers_of [] t = refl
+length-registers_of (e ∷ es) t = let h : length (registers_of es (free_from e t)) ≡ length es = length-registers_of es (free_from e t) in omega arith
+
+-- what the end of the function adds to the jump that is counted for the end of a list
+abbrev fall_size : Option ℕ → ℕ
+fall_size (Some to) = 0
+fall_size None = const_size + return_size
+
+size-built : (t : ℕ) (code : Code) (exit : Option ℕ) (loop : Option Targets) (b : Builder) → size (built t code exit loop b) ≤ size b + code_size code + fall_size exit
+size-built t End (Some to) loop b = let e = size-end b (ends.Jump to) in omega (arith, e)
+size-built t End None loop b =
+    let c = with_temporary None t b in
+    let first = size-temporary None t b in
+    let second = size-op c (op.Const t 0) in
+    let third = size-end (with_op c (op.Const t 0)) (ends.Return t) in
+    omega (arith, first, second, third)
+size-built t (Set x e rest) exit loop b =
+    let first = size-value e (Some x) t b in
+    let second = size-built t rest exit loop (with_value e (Some x) t b) in
+    omega (arith, first, second)
+size-built t (Store width a e rest) exit loop b =
+    let first = size-stored t a e (op.Store width) b in
+    let second = size-built t rest exit loop (stored t a e (op.Store width) b) in
+    omega (arith, first, second)
+size-built t (Check check place e rest) exit loop b =
+    let first = size-used t e (op.Check check place) b in
+    let second = size-built t rest exit loop (used t e (op.Check check place) b) in
+    omega (arith, first, second)
+size-built t (Call target i es place rest) exit loop b =
+    let o = op.Call target i (registers_of es t) place in
+    let c = with_values es t b in
+    let first = size-values es t b in
+    let second = size-op c o in
+    let third = size-built t rest exit loop (with_op c o) in
+    let fourth : T.op_size o ≡ call_size (length es) = ap call_size (length-registers_of es t) in
+    omega (arith, first, second, third, fourth)
+size-built t (Get x rest) exit loop b =
+    let first = size-op b (op.Get x) in
+    let second = size-built t rest exit loop (with_op b (op.Get x)) in
+    omega (arith, first, second)
+size-built t (Put e rest) exit loop b =
+    let first = size-used t e op.Put b in
+    let second = size-built t rest exit loop (used t e op.Put b) in
+    omega (arith, first, second)
+size-built t (Alloc x e size rest) exit loop b =
+    let o : ℕ → TacOp = λ r. op.Alloc x r size in
+    let first = size-used t e o b in
+    let second = size-built t rest exit loop (used t e o b) in
+    omega (arith, first, second)
+size-built t (If e one two rest) exit loop b =
+    let join = Some (join_of one two b) in
+    let v = with_value e None t b in
+    let fork : TacEnd = ends.Branch (register_of e None t) (length b.blocks + 1) (length b.blocks + 1 + block_count one) in
+    let c = forked t e one two b in
+    let d = built t one join loop c in
+    let f = built t two join loop d in
+    let first = size-value e None t b in
+    let second = size-end v fork in
+    let third = size-built t one join loop c in
+    let fourth = size-built t two join loop d in
+    let fifth = size-built t rest exit loop f in
+    omega (arith, first, second, third, fourth, fifth)
+size-built t (Loop body step rest) exit loop b =
+    let c = entered b in
+    let d = built t body (Some (step_at body b)) (Some (targets_of body step b)) c in
+    let f = built t step (Some (length b.blocks + 1)) None d in
+    let first = size-end b (ends.Jump (length b.blocks + 1)) in
+    let second = size-built t body (Some (step_at body b)) (Some (targets_of body step b)) c in
+    let third = size-built t step (Some (length b.blocks + 1)) None d in
+    let fourth = size-built t rest exit loop f in
+    omega (arith, first, second, third, fourth)
+size-built t (Break rest) exit loop b = let e = size-end b (ends.Jump (out_of loop)) in omega (arith, e)
+size-built t (Continue rest) exit loop b = let e = size-end b (ends.Jump (step_of loop)) in omega (arith, e)
+size-built t (Return e rest) exit loop b =
+    let first = size-value e None t b in
+    let second = size-end (with_value e None t b) (ends.Return (register_of e None t)) in
+    omega (arith, first, second)
+
+blocks_within : (b : Builder) → sum_by T.block_size b.blocks ≤ size b
+unfolding size
+blocks_within b = omega arith
+
+size-empty : (locals : ℕ) → size (empty locals) ≡ 0
+unfolding size
+size-empty locals = refl
+
+lowered_function_size : (f : Function) → T.function_size (lowered_function f) ≤ function_size f
+lowered_function_size f =
+    let first = size-built f.locals f.body None None (empty f.locals) in
+    let second = blocks_within (whole f) in
+    let third = size-empty f.locals in
+    omega (arith, first, second, third)
+
+lowered_functions_size : (fs : List Function) → sum_by T.function_size (map lowered_function fs) ≤ sum_by function_size fs
+lowered_functions_size [] = omega arith
+lowered_functions_size (f ∷ fs) =
+    let first = lowered_function_size f in
+    let second = lowered_functions_size fs in
+    let third = sum_by-cons T.function_size (lowered_function f) (map lowered_function fs) in
+    let fourth = sum_by-cons function_size f fs in
+    omega (arith, first, second, third, fourth)
+
+pub lowered_size : (p : Program) → T.program_size (lowered p) ≤ program_size p
+lowered_size p = lowered_functions_size p.functions

@@ -1,0 +1,462 @@
+-- Each step of core code is matched by steps of its three-address code.
+use Rattle.std.proofs.Common.{◌≡◌, inl, inr, ℕ, ◌+◌, ◌*◌, ◌≤◌, ◌==◌, List, [], ◌∷◌, ◌++◌, append-nil, length, refl, sym, ◌∙◌, ap, subst, arith}
+use Rattle.std.specs.Prelude.{Bool, true, false, if◌then◌else◌, Option, Some, None, slice_get}
+use Rattle.ckc_base.specs.declared.places.Pos.{Pos}
+use Rattle.ckc_base.specs.declared.arithmetic.Width.{Width}
+use Rattle.ckc_base.specs.declared.runtime_checks.Check.TheVariants.{Depth}
+use Rattle.ckc_base.specs.Traces.{Stopped, Ended}
+use Rattle.ckc_base.specs.LongEvents.{LongEvent, Entered, Returned}
+use Rattle.ckc_base.specs.Steps.{Move, Halts}
+use Rattle.ckc_base.specs.Matching.{Stretch, Closes}
+use Rattle.ckc_base.specs.Actions.{Outcome, Gives, Done, Stops, Lost, with_value as by_value, stores, checks, gets, puts, allocates}
+use Rattle.ckc_base.specs.Activations.{Values, with_written, with_result, first_values, has_room}
+use Rattle.ckc_base.proofs.Runs.{Matched, one_step, one_halt, no_step, then_stretch, then_closes}
+use Rattle.ckc_core.specs.Code.{Expr, Code, End, Set, Store, Check, Call, Get, Put, Alloc, If, Loop, Break, Continue, Return, Function}
+use Rattle.ckc_core.specs.Meaning.{Rest, Stop, Next, Body, Step, value_of, values_of, nodes, all_nodes}
+use Rattle.ckc_core.specs.Meaning as C
+use Rattle.ckc_core.specs.WellFormed.{IsExprOver}
+use Rattle.ckc_tac.specs.declared.code.TacFunc.{TacFunc}
+use Rattle.ckc_tac.specs.declared.code.TacBlock.{TacBlock}
+use Rattle.ckc_tac.specs.declared.code.TacOp.{TacOp}
+use Rattle.ckc_tac.specs.declared.code.TacOp.TheVariants as op
+use Rattle.ckc_tac.specs.declared.code.TacEnd.{TacEnd}
+use Rattle.ckc_tac.specs.declared.code.TacEnd.TheVariants as ends
+use Rattle.ckc_tac.specs.Meaning.{tac_step, tac_system, extra_of}
+use Rattle.ckc_tac.specs.Meaning as T
+use Rattle.ckc_lower.specs.declared.builder.Targets.{Targets}
+use Rattle.ckc_lower.specs.Built.{free_from, register_of, registers_of, out_of, step_of}
+use Rattle.ckc_lower.proofs.Values.{value_ops, free_more, register_below, written_same, written_like, result_like, Agree, at, computes}
+use Rattle.ckc_lower.proofs.Arguments.{values_ops, computes_all}
+use Rattle.ckc_lower.proofs.Relation.{Leaves, loop_of, Runs, RunsAt, Continues, SameFrame, SameCallers, SameState, SameFunctions}
+
+same_count : (cs : List C.Caller) (ds : List T.Caller) → SameCallers cs ds → length cs ≡ length ds
+same_count [] [] h = refl
+same_count [] (d ∷ ds) h = absurd h
+same_count (c ∷ cs) [] h = absurd h
+same_count (c ∷ cs) (d ∷ ds) h = let e : length cs ≡ length ds = same_count cs ds h.2 in omega arith
+
+length-registers_of : (es : List Expr) (t : ℕ) → length (registers_of es t) ≡ length es
+length-registers_of [] t = refl
+length-registers_of (e ∷ es) t = let h : length (registers_of es (free_from e t)) ≡ length es = length-registers_of es (free_from e t) in omega arith
+
+le_self : (n : ℕ) → n ≤ n
+le_self n = omega arith
+
+module _ (functions : List Function) (lowered : List TacFunc) (s : C.State) (blocks : List TacBlock) (callers : List T.Caller) (t : ℕ) (same : SameCallers s.callers callers) where
+  abbrev values : Values
+  values = s.frame.locals
+
+  -- a state of the three-address code, in the same call
+  abbrev point : TacEnd → List TacOp → Values → T.State
+  point end ops registers = at lowered blocks end callers s.world ops registers
+
+  abbrev Matches : T.State → ℕ → Move LongEvent C.State → Type 0
+  Matches u most move = Matched (tac_system lowered) SameState (λ _. 0) s u most move
+
+  next_frame : (code : Code) (rest : Rest) (locals : Values) (g : T.Frame) (exit : Option ℕ) (loop : Option Targets)
+      → Runs g.blocks t code g.ops g.end exit loop → Continues g.blocks t rest exit loop → Agree t g.registers locals
+      → SameFrame (record { code = code; rest = rest; locals = locals }) g
+  next_frame code rest locals g exit loop r c a =
+      record { locals = t; exit = exit; loop_at = loop; runs = r; continues = c; agree = a }
+
+  -- an outcome that an operation comes to, behind some steps
+  by_outcome : (end : TacEnd) (u : T.State) (count most : ℕ) (code : Code) (o : TacOp) (more : List TacOp) (after : Values) (exit : Option ℕ) (loop : Option Targets) (out : Outcome)
+      → Stretch (tac_system lowered) count [] u (point end (o ∷ more) after)
+      → tac_step lowered (point end (o ∷ more) after) ≡ T.goes_by (point end (o ∷ more) after) more out → extra_of o ≡ 0 → count + 1 ≤ most
+      → Runs blocks t code more end exit loop → Continues blocks t s.frame.rest exit loop → Agree t after values
+      → Matches u most (C.goes_by s code out)
+  by_outcome end u count most code o more after exit loop (Gives events x value world) path e plain few r c agree =
+      let one : extra_of o + 1 ≡ 1 = omega arith in
+      let v = point end (o ∷ more) after in
+      let w : T.State = record { frame = record { blocks = blocks; ops = more; end = end; registers = with_written after x value }; callers = callers; world = world } in
+      let last : Stretch (tac_system lowered) 1 events v w = subst (λ n. Stretch (tac_system lowered) n events v w) one (one_step (tac_system lowered) events v w e) in (
+        count + 1,
+        w,
+        few,
+        inl (omega arith),
+        then_stretch (tac_system lowered) count 1 [] events u v w path last,
+        record {
+          frame = next_frame code s.frame.rest (with_written values x value) w.frame exit loop r c (λ y less. written_like after values x value y (agree y less));
+          callers = same;
+          world = refl;
+        },
+      )
+  by_outcome end u count most code o more after exit loop (Done events world) path e plain few r c agree =
+      let one : extra_of o + 1 ≡ 1 = omega arith in
+      let v = point end (o ∷ more) after in
+      let w : T.State = record { frame = record { blocks = blocks; ops = more; end = end; registers = after }; callers = callers; world = world } in
+      let last : Stretch (tac_system lowered) 1 events v w = subst (λ n. Stretch (tac_system lowered) n events v w) one (one_step (tac_system lowered) events v w e) in (
+        count + 1,
+        w,
+        few,
+        inl (omega arith),
+        then_stretch (tac_system lowered) count 1 [] events u v w path last,
+        record { frame = next_frame code s.frame.rest values w.frame exit loop r c agree; callers = same; world = refl },
+      )
+  by_outcome end u count most code o more after exit loop (Stops check place) path e plain few r c agree =
+      let one : extra_of o + 1 ≡ 1 = omega arith in
+      let v = point end (o ∷ more) after in
+      let last : Closes (tac_system lowered) 1 [] v (Stopped check place) = subst (λ n. Closes (tac_system lowered) n [] v (Stopped check place)) one (one_halt (tac_system lowered) [] v (Stopped check place) e) in
+      inr (count + 1, few, tt, then_closes (tac_system lowered) count 1 [] [] u v (Stopped check place) path last)
+  by_outcome end u count most code o more after exit loop Lost path e plain few r c agree = inl refl
+
+  -- a jump to where the code stands
+  by_jump : (end : TacEnd) (u : T.State) (count most to : ℕ) (code : Code) (rest : Rest) (after : Values) (exit : Option ℕ) (loop : Option Targets)
+      → Stretch (tac_system lowered) count [] u (point end [] after)
+      → tac_step lowered (point end [] after) ≡ T.goes_to (point end [] after) (slice_get blocks to) → count + 1 ≤ most
+      → RunsAt blocks t to code exit loop → Continues blocks t rest exit loop → Agree t after values
+      → Matches u most (C.goes_to s code rest)
+  by_jump end u count most to code rest after exit loop path e few r c agree =
+      let v = point end [] after in
+      let w : T.State = record { frame = T.begins blocks after r.0; callers = callers; world = s.world } in
+      let last = one_step (tac_system lowered) [] v w (e ∙ ap (T.goes_to v) r.1) in (
+        count + 1,
+        w,
+        few,
+        inl (omega arith),
+        then_stretch (tac_system lowered) count 1 [] [] u v w path last,
+        record { frame = next_frame code rest values w.frame exit loop r.2 c agree; callers = same; world = refl },
+      )
+
+  -- ---- statements
+
+  by_set : (x : ℕ) (e : Expr) (code : Code) (end : TacEnd) (ops : List TacOp) (registers : Values) (exit : Option ℕ) (loop : Option Targets) (v : Option ℕ)
+      → Runs blocks t (Set x e code) ops end exit loop → Continues blocks t s.frame.rest exit loop → Agree t registers values
+      → value_of values s.world.memory e ≡ v
+      → Matches (point end ops registers) (4 * (nodes e + 1)) (C.goes_by s code (by_value v (λ w. Gives [] x w s.world)))
+  by_set x e code end ops registers exit loop None r c agree h = inl refl
+  by_set x e code end ops registers exit loop (Some w) r c agree h =
+      let p = computes lowered blocks end callers s.world t values e (Some x) t w r.0 registers (le_self t) r.2 agree h in
+      let u = point end r.0 p.after in (
+        p.count,
+        u,
+        omega (arith, p.few),
+        inl p.some,
+        subst (λ o. Stretch (tac_system lowered) p.count [] (point end o registers) u) (sym r.1) p.path,
+        record {
+          frame = next_frame code s.frame.rest (with_written values x w) u.frame exit loop r.3 c
+              (λ y less. p.same y less ∙ written_like registers values x w y (agree y less));
+          callers = same;
+          world = refl;
+        },
+      )
+
+  -- a statement with one expression, and the operation on its value
+  by_use : (e : Expr) (act : ℕ → Outcome) (make : ℕ → TacOp) (code : Code) (end : TacEnd) (more ops : List TacOp) (registers : Values) (exit : Option ℕ) (loop : Option Targets) (v : Option ℕ)
+      → ((r : ℕ) → extra_of (make r) ≡ 0)
+      → ((r w : ℕ) (after : Values) → after r ≡ Some w → tac_step lowered (point end (make r ∷ more) after) ≡ T.goes_by (point end (make r ∷ more) after) more (act w))
+      → ops ≡ value_ops e None t ++ (make (register_of e None t) ∷ more) → IsExprOver t e
+      → Runs blocks t code more end exit loop → Continues blocks t s.frame.rest exit loop → Agree t registers values
+      → value_of values s.world.memory e ≡ v
+      → Matches (point end ops registers) (4 * (nodes e + 1)) (C.goes_by s code (by_value v act))
+  by_use e act make code end more ops registers exit loop None plain step at_ops over r c agree h = inl refl
+  by_use e act make code end more ops registers exit loop (Some w) plain step at_ops over r c agree h =
+      let o = make (register_of e None t) in
+      let p = computes lowered blocks end callers s.world t values e None t w (o ∷ more) registers (le_self t) over agree h in
+      let agree_after : Agree t p.after values = λ y less. p.same y less ∙ agree y less in
+      by_outcome end (point end ops registers) p.count (4 * (nodes e + 1)) code o more p.after exit loop (act w)
+      (subst (λ o. Stretch (tac_system lowered) p.count [] (point end o registers) (point end (make (register_of e None t) ∷ more) p.after)) (sym at_ops) p.path)
+      (step (register_of e None t) w p.after p.value) (plain (register_of e None t)) (omega (arith, p.few)) r c agree_after
+
+  by_store : (width : Width) (a e : Expr) (code : Code) (end : TacEnd) (ops : List TacOp) (registers : Values) (exit : Option ℕ) (loop : Option Targets) (v w : Option ℕ)
+      → Runs blocks t (Store width a e code) ops end exit loop → Continues blocks t s.frame.rest exit loop → Agree t registers values
+      → value_of values s.world.memory a ≡ v → value_of values s.world.memory e ≡ w
+      → Matches (point end ops registers) (4 * (nodes a + nodes e + 1))
+      (C.goes_by s code (by_value v (λ p. by_value w (stores s.world width p))))
+  unfolding tac_step
+  by_store width a e code end ops registers exit loop None w r c agree h k = inl refl
+  by_store width a e code end ops registers exit loop (Some p) None r c agree h k = inl refl
+  by_store width a e code end ops registers exit loop (Some p) (Some x) r c agree h k =
+      let b = free_from a t in
+      let i = register_of a None t in
+      let j = register_of e None b in
+      let o = op.Store width i j in
+      let first = computes lowered blocks end callers s.world t values a None t p (value_ops e None b ++ (o ∷ r.0)) registers (le_self t) r.2 agree h in
+      let agree_first : Agree t first.after values = λ y less. first.same y less ∙ agree y less in
+      let second = computes lowered blocks end callers s.world t values e None b x (o ∷ r.0) first.after (free_more a t) r.3 agree_first k in
+      let agree_second : Agree t second.after values = λ y less. second.same y (omega (arith, free_more a t)) ∙ agree_first y less in
+      let there : second.after i ≡ Some p = second.same i (register_below a t t (le_self t) r.2) ∙ first.value in
+      let v = point end (o ∷ r.0) second.after in
+      let step : tac_step lowered v ≡ T.goes_by v r.0 (stores s.world width p x) =
+      ap (λ z. T.goes_by v r.0 (by_value z (λ p. by_value (second.after j) (stores s.world width p)))) there
+      ∙ ap (λ z. T.goes_by v r.0 (by_value z (stores s.world width p))) second.value in
+      let path = then_stretch (tac_system lowered) first.count second.count [] [] (point end (value_ops a None t ++ (value_ops e None b ++ (o ∷ r.0))) registers)
+      (point end (value_ops e None b ++ (o ∷ r.0)) first.after) v first.path second.path in
+      by_outcome end (point end ops registers) (first.count + second.count) (4 * (nodes a + nodes e + 1)) code o r.0 second.after exit loop (stores s.world width p x)
+      (subst (λ o. Stretch (tac_system lowered) (first.count + second.count) [] (point end o registers) v) (sym r.1) path)
+      step refl (omega (arith, first.few, second.few)) r.4 c agree_second
+
+  by_get : (x : ℕ) (code : Code) (end : TacEnd) (ops : List TacOp) (registers : Values) (exit : Option ℕ) (loop : Option Targets)
+      → Runs blocks t (Get x code) ops end exit loop → Continues blocks t s.frame.rest exit loop → Agree t registers values
+      → Matches (point end ops registers) (4 * (0 + 1)) (C.goes_by s code (gets s.world x))
+  unfolding tac_step
+  by_get x code end ops registers exit loop r c agree =
+      by_outcome end (point end ops registers) 0 (4 * (0 + 1)) code (op.Get x) r.0 registers exit loop (gets s.world x)
+      (subst (λ o. Stretch (tac_system lowered) 0 [] (point end o registers) (point end (op.Get x ∷ r.0) registers)) (sym r.1) (no_step (tac_system lowered) (point end (op.Get x ∷ r.0) registers)))
+      refl refl (omega arith) r.2 c agree
+
+  by_choice : (zero : Bool) (one two code : Code) (one_at two_at join : ℕ) (end : TacEnd) (u : T.State) (count most : ℕ) (after : Values) (exit : Option ℕ) (loop : Option Targets)
+      → Stretch (tac_system lowered) count [] u (point end [] after)
+      → tac_step lowered (point end [] after) ≡ (if zero then T.goes_to (point end [] after) (slice_get blocks two_at) else T.goes_to (point end [] after) (slice_get blocks one_at))
+      → count + 1 ≤ most → RunsAt blocks t one_at one (Some join) loop → RunsAt blocks t two_at two (Some join) loop
+      → RunsAt blocks t join code exit loop → Continues blocks t s.frame.rest exit loop → Agree t after values
+      → Matches u most (if zero then C.goes_to s two (Next code s.frame.rest) else C.goes_to s one (Next code s.frame.rest))
+  by_choice true one two code one_at two_at join end u count most after exit loop path e few p q r c agree =
+      by_jump end u count most two_at two (Next code s.frame.rest) after (Some join) loop path e few q (join, exit, refl, r, c) agree
+  by_choice false one two code one_at two_at join end u count most after exit loop path e few p q r c agree =
+      by_jump end u count most one_at one (Next code s.frame.rest) after (Some join) loop path e few p (join, exit, refl, r, c) agree
+
+  by_if : (e : Expr) (one two code : Code) (end : TacEnd) (ops : List TacOp) (registers : Values) (exit : Option ℕ) (loop : Option Targets) (v : Option ℕ)
+      → Runs blocks t (If e one two code) ops end exit loop → Continues blocks t s.frame.rest exit loop → Agree t registers values
+      → value_of values s.world.memory e ≡ v
+      → Matches (point end ops registers) (4 * (nodes e + 1)) (C.branches s one two code v)
+  unfolding tac_step
+  by_if e one two code end ops registers exit loop None r c agree h = inl refl
+  by_if e one two code end ops registers exit loop (Some w) r c agree h =
+      let b = register_of e None t in
+      let fork : TacEnd = ends.Branch b r.0 r.1 in
+      let p = computes lowered blocks fork callers s.world t values e None t w [] registers (le_self t) r.5 agree h in
+      let agree_after : Agree t p.after values = λ y less. p.same y less ∙ agree y less in
+      let v = point fork [] p.after in
+      let path : Stretch (tac_system lowered) p.count [] (point fork (value_ops e None t) registers) v =
+      subst (λ o. Stretch (tac_system lowered) p.count [] (point fork o registers) v) (append-nil (value_ops e None t)) p.path in
+      let matched = by_choice (w == 0) one two code r.0 r.1 r.2 fork (point fork (value_ops e None t) registers) p.count (4 * (nodes e + 1)) p.after exit loop
+      path (ap (T.branches v r.0 r.1) p.value) (omega (arith, p.few)) r.6 r.7 r.8 c agree_after in
+      subst (λ n. Matches (point n ops registers) (4 * (nodes e + 1)) (C.branches s one two code (Some w))) (sym r.4)
+      (subst (λ o. Matches (point fork o registers) (4 * (nodes e + 1)) (C.branches s one two code (Some w))) (sym r.3) matched)
+
+  -- a block that only jumps
+  by_block : (to : ℕ) (code : Code) (rest : Rest) (end : TacEnd) (ops : List TacOp) (registers : Values) (exit : Option ℕ) (loop : Option Targets)
+      → ops ≡ [] → end ≡ ends.Jump to → RunsAt blocks t to code exit loop → Continues blocks t rest exit loop → Agree t registers values
+      → Matches (point end ops registers) (4 * (0 + 1)) (C.goes_to s code rest)
+  unfolding tac_step
+  by_block to code rest end ops registers exit loop at_ops at_end r c agree =
+      let v = point (ends.Jump to) [] registers in
+      let matched = by_jump (ends.Jump to) v 0 (4 * (0 + 1)) to code rest registers exit loop (no_step (tac_system lowered) v) refl (omega arith) r c agree in
+      subst (λ n. Matches (point n ops registers) (4 * (0 + 1)) (C.goes_to s code rest)) (sym at_end)
+      (subst (λ o. Matches (point (ends.Jump to) o registers) (4 * (0 + 1)) (C.goes_to s code rest)) (sym at_ops) matched)
+
+  by_loop : (body step code : Code) (end : TacEnd) (ops : List TacOp) (registers : Values) (exit : Option ℕ) (loop : Option Targets)
+      → Runs blocks t (Loop body step code) ops end exit loop → Continues blocks t s.frame.rest exit loop → Agree t registers values
+      → Matches (point end ops registers) (4 * (0 + 1)) (C.goes_to s body (Body body step code s.frame.rest))
+  by_loop body step code end ops registers exit loop r c agree =
+      by_block r.0 body (Body body step code s.frame.rest) end ops registers (Some r.1) (loop_of r.2 r.1) r.3 r.4 r.5
+      (r.0, r.1, r.2, exit, loop, refl, refl, record { body_runs = r.5; step_runs = r.6; behind = r.7 }, c) agree
+
+  by_break : (rest : Rest) (end : TacEnd) (ops : List TacOp) (registers : Values) (exit : Option ℕ) (loop : Option Targets)
+      → ops ≡ [] → end ≡ ends.Jump (out_of loop) → Continues blocks t rest exit loop → Agree t registers values
+      → Matches (point end ops registers) (4 * (0 + 1)) (C.breaks s rest)
+  by_break Stop end ops registers exit loop at_ops at_end c agree = inl refl
+  by_break (Next code after) end ops registers exit loop at_ops at_end c agree =
+      by_break after end ops registers c.1 loop at_ops at_end c.4 agree
+  by_break (Body body step code after) end ops registers exit loop at_ops at_end c agree =
+      by_block c.2 code after end ops registers c.3 c.4 at_ops (at_end ∙ ap (λ l. ends.Jump (out_of l)) c.6) c.7.behind c.8 agree
+  by_break (Step body step code after) end ops registers exit loop at_ops at_end c agree = inl refl
+
+  by_continue : (rest : Rest) (end : TacEnd) (ops : List TacOp) (registers : Values) (exit : Option ℕ) (loop : Option Targets)
+      → ops ≡ [] → end ≡ ends.Jump (step_of loop) → Continues blocks t rest exit loop → Agree t registers values
+      → Matches (point end ops registers) (4 * (0 + 1)) (C.continues s rest)
+  by_continue Stop end ops registers exit loop at_ops at_end c agree = inl refl
+  by_continue (Next code after) end ops registers exit loop at_ops at_end c agree =
+      by_continue after end ops registers c.1 loop at_ops at_end c.4 agree
+  by_continue (Body body step code after) end ops registers exit loop at_ops at_end c agree =
+      by_block c.1 step (Step body step code after) end ops registers (Some c.0) None at_ops (at_end ∙ ap (λ l. ends.Jump (step_of l)) c.6)
+      c.7.step_runs (c.0, c.1, c.2, c.3, c.4, refl, refl, c.7, c.8) agree
+  by_continue (Step body step code after) end ops registers exit loop at_ops at_end c agree = inl refl
+
+  -- ---- returns
+
+  returned : (outer : List C.Caller) (below : List T.Caller) (u v : T.State) (count most value : ℕ) → SameCallers outer below → v.world ≡ s.world
+      → Stretch (tac_system lowered) count [] u v → v.frame.ops ≡ [] → tac_step lowered v ≡ T.returns v below (Some value) → count + 1 ≤ most
+      → Matches u most (C.returns s outer value)
+  returned [] [] u v count most value h w path nothing e few =
+      let one : T.extra_steps v.frame.ops + 1 ≡ 1 = ap (λ o. T.extra_steps o + 1) nothing in
+      let last : Closes (tac_system lowered) 1 [] v (Ended value) = subst (λ n. Closes (tac_system lowered) n [] v (Ended value)) one (one_halt (tac_system lowered) [] v (Ended value) e) in
+      inr (count + 1, few, tt, then_closes (tac_system lowered) count 1 [] [] u v (Ended value) path last)
+  returned [] (d ∷ ds) u v count most value h w path nothing e few = absurd h
+  returned (c ∷ cs) [] u v count most value h w path nothing e few = absurd h
+  returned (c ∷ cs) (d ∷ ds) u v count most value h w path nothing e few =
+      let one : T.extra_steps v.frame.ops + 1 ≡ 1 = ap (λ o. T.extra_steps o + 1) nothing in
+      let x : T.State = record v { frame = record d.frame { registers = with_result d.frame.registers d.target value }; callers = ds } in
+      let last : Stretch (tac_system lowered) 1 (Returned ∷ []) v x = subst (λ n. Stretch (tac_system lowered) n (Returned ∷ []) v x) one (one_step (tac_system lowered) (Returned ∷ []) v x e) in
+      let f = h.0 in (
+        count + 1,
+        x,
+        few,
+        inl (omega arith),
+        then_stretch (tac_system lowered) count 1 [] (Returned ∷ []) u v x path last,
+        record {
+          frame = record {
+            locals = f.locals;
+            exit = f.exit;
+            loop_at = f.loop_at;
+            runs = f.runs;
+            continues = f.continues;
+            agree = λ y less.
+                result_like d.frame.registers c.frame.locals d.target value y (f.agree y less)
+                ∙ ap (λ g. with_result c.frame.locals g value y) (sym h.1);
+          };
+          callers = h.2;
+          world = sym w;
+        },
+      )
+
+  by_return : (e : Expr) (code : Code) (end : TacEnd) (ops : List TacOp) (registers : Values) (exit : Option ℕ) (loop : Option Targets) (v : Option ℕ)
+      → Runs blocks t (Return e code) ops end exit loop → Agree t registers values
+      → value_of values s.world.memory e ≡ v
+      → Matches (point end ops registers) (4 * (nodes e + 1)) (C.returns_value s v)
+  unfolding tac_step
+  by_return e code end ops registers exit loop None r agree h = inl refl
+  by_return e code end ops registers exit loop (Some w) r agree h =
+      let b = register_of e None t in
+      let last : TacEnd = ends.Return b in
+      let p = computes lowered blocks last callers s.world t values e None t w [] registers (le_self t) r.2 agree h in
+      let v = point last [] p.after in
+      let path : Stretch (tac_system lowered) p.count [] (point last (value_ops e None t) registers) v =
+      subst (λ o. Stretch (tac_system lowered) p.count [] (point last o registers) v) (append-nil (value_ops e None t)) p.path in
+      let matched = returned s.callers callers (point last (value_ops e None t) registers) v p.count (4 * (nodes e + 1)) w same refl path refl
+      (ap (T.returns v callers) p.value) (omega (arith, p.few)) in
+      subst (λ n. Matches (point n ops registers) (4 * (nodes e + 1)) (C.returns s s.callers w)) (sym r.1)
+      (subst (λ o. Matches (point last o registers) (4 * (nodes e + 1)) (C.returns s s.callers w)) (sym r.0) matched)
+
+  -- the end of the function returns 0
+  by_fall : (end : TacEnd) (ops : List TacOp) (registers : Values) → ops ≡ op.Const t 0 ∷ [] → end ≡ ends.Return t
+      → Matches (point end ops registers) (4 * (0 + 1)) (C.returns s s.callers 0)
+  unfolding tac_step
+  by_fall end ops registers at_ops at_end =
+      let last : TacEnd = ends.Return t in
+      let after = with_written registers t 0 in
+      let v = point last [] after in
+      let path : Stretch (tac_system lowered) 1 [] (point last (op.Const t 0 ∷ []) registers) v = one_step (tac_system lowered) [] (point last (op.Const t 0 ∷ []) registers) v refl in
+      let matched = returned s.callers callers (point last (op.Const t 0 ∷ []) registers) v 1 (4 * (0 + 1)) 0 same refl path refl
+      (ap (T.returns v callers) (written_same registers t 0)) (omega arith) in
+      subst (λ n. Matches (point n ops registers) (4 * (0 + 1)) (C.returns s s.callers 0)) (sym at_end)
+      (subst (λ o. Matches (point last o registers) (4 * (0 + 1)) (C.returns s s.callers 0)) (sym at_ops) matched)
+
+  by_end : (rest : Rest) (end : TacEnd) (ops : List TacOp) (registers : Values) (exit : Option ℕ) (loop : Option Targets)
+      → Leaves t ops end exit → Continues blocks t rest exit loop → Agree t registers values
+      → Matches (point end ops registers) (4 * (0 + 1)) (C.ends s rest)
+  by_end Stop end ops registers exit loop leave c agree =
+      let l = subst (Leaves t ops end) c.0 leave in
+      by_fall end ops registers l.0 l.1
+  by_end (Next code after) end ops registers exit loop leave c agree =
+      let l = subst (Leaves t ops end) c.2 leave in
+      by_block c.0 code after end ops registers c.1 loop l.0 l.1 c.3 c.4 agree
+  by_end (Body body step code after) end ops registers exit loop leave c agree =
+      let l = subst (Leaves t ops end) c.5 leave in
+      by_block c.1 step (Step body step code after) end ops registers (Some c.0) None l.0 l.1 c.7.step_runs
+      (c.0, c.1, c.2, c.3, c.4, refl, refl, c.7, c.8) agree
+  by_end (Step body step code after) end ops registers exit loop leave c agree =
+      let l = subst (Leaves t ops end) c.5 leave in
+      by_block c.0 body (Body body step code after) end ops registers (Some c.1) (loop_of c.2 c.1) l.0 l.1 c.7.body_runs
+      (c.0, c.1, c.2, c.3, c.4, refl, refl, c.7, c.8) agree
+
+  -- ---- calls
+
+  module _ (same_functions : SameFunctions functions lowered) where
+    entered : (target : Option ℕ) (place : Pos) (code : Code) (end : TacEnd) (more : List TacOp) (after : Values) (exit : Option ℕ) (loop : Option Targets)
+        (o : TacOp) (u : T.State) (count most : ℕ) (vs : List ℕ) (i : ℕ) (callee : Option Function) → slice_get functions i ≡ callee
+        → Stretch (tac_system lowered) count [] u (point end (o ∷ more) after)
+        → tac_step lowered (point end (o ∷ more) after) ≡ T.enters (point end (o ∷ more) after) more target vs (slice_get lowered i)
+        → count + (extra_of o + 1) ≤ most
+        → Runs blocks t code more end exit loop → Continues blocks t s.frame.rest exit loop → Agree t after values
+        → Matches u most (C.enters s code target vs callee)
+    unfolding first_values
+    entered target place code end more after exit loop o u count most vs i None is path e few r c agree = inl refl
+    entered target place code end more after exit loop o u count most vs i (Some f) is path e few r c agree =
+        let found = same_functions i f is in
+        let g = found.0 in
+        let v = point end (o ∷ more) after in
+        let block = found.2.0 in
+        let w : T.State = record {
+          frame = T.begins g.blocks (first_values vs) block;
+          callers = record { frame = record v.frame { ops = more }; target = target } ∷ callers;
+          world = s.world;
+        } in
+        let last = one_step (tac_system lowered) (Entered ∷ []) v w
+        (e ∙ ap (T.enters v more target vs) found.1 ∙ ap (T.enters_block v more target vs g.blocks) found.2.1) in (
+          count + (extra_of o + 1),
+          w,
+          few,
+          inl (omega arith),
+          then_stretch (tac_system lowered) count (extra_of o + 1) [] (Entered ∷ []) u v w path last,
+          record {
+            frame = record { locals = f.locals; exit = None; loop_at = None; runs = found.2.2; continues = (refl, refl); agree = λ y less. refl };
+            callers = (next_frame code s.frame.rest values (record v.frame { ops = more }) exit loop r c agree, refl, same);
+            world = refl;
+          },
+        )
+
+    -- the test of the depth
+    admitted : (room : Bool) (target : Option ℕ) (place : Pos) (code : Code) (end : TacEnd) (more : List TacOp) (after : Values) (exit : Option ℕ) (loop : Option Targets)
+        (o : TacOp) (u : T.State) (count most : ℕ) (vs : List ℕ) (i : ℕ)
+        → Stretch (tac_system lowered) count [] u (point end (o ∷ more) after)
+        → tac_step lowered (point end (o ∷ more) after) ≡ (if room then T.enters (point end (o ∷ more) after) more target vs (slice_get lowered i) else Halts [] (Stopped Depth place))
+        → count + (extra_of o + 1) ≤ most
+        → Runs blocks t code more end exit loop → Continues blocks t s.frame.rest exit loop → Agree t after values
+        → Matches u most (if room then C.enters s code target vs (slice_get functions i) else Halts [] (Stopped Depth place))
+    admitted true target place code end more after exit loop o u count most vs i path e few r c agree =
+        entered target place code end more after exit loop o u count most vs i (slice_get functions i) refl path e few r c agree
+    admitted false target place code end more after exit loop o u count most vs i path e few r c agree =
+        let v = point end (o ∷ more) after in
+        inr (
+          count + (extra_of o + 1),
+          few,
+          tt,
+          then_closes (tac_system lowered) count (extra_of o + 1) [] [] u v (Stopped Depth place) path
+              (one_halt (tac_system lowered) [] v (Stopped Depth place) e),
+        )
+
+    by_call : (target : Option ℕ) (i : ℕ) (es : List Expr) (place : Pos) (code : Code) (end : TacEnd) (ops : List TacOp) (registers : Values) (exit : Option ℕ) (loop : Option Targets) (v : Option (List ℕ))
+        → Runs blocks t (Call target i es place code) ops end exit loop → Continues blocks t s.frame.rest exit loop → Agree t registers values
+        → values_of values s.world.memory es ≡ v
+        → Matches (point end ops registers) (4 * (all_nodes es + length es + 1)) (C.calls functions s code target i place v)
+    unfolding tac_step
+    by_call target i es place code end ops registers exit loop None r c agree h = inl refl
+    by_call target i es place code end ops registers exit loop (Some vs) r c agree h =
+        let o = op.Call target i (registers_of es t) place in
+        let p = computes_all lowered blocks end callers s.world t values es t vs (o ∷ r.0) registers (le_self t) r.2 agree h in
+        let agree_after : Agree t p.after values = λ y less. p.same y less ∙ agree y less in
+        let v = point end (o ∷ r.0) p.after in
+        let count : length (registers_of es t) ≡ length es = length-registers_of es t in
+        let depth : has_room (length callers + 1) ≡ has_room (length s.callers + 1) = ap (λ n. has_room (n + 1)) (sym (same_count s.callers callers same)) in
+        let read : tac_step lowered v ≡ (if has_room (length s.callers + 1) then T.enters v r.0 target vs (slice_get lowered i) else Halts [] (Stopped Depth place)) =
+        ap (T.calls lowered v r.0 target i place) p.values
+        ∙ ap (λ room. if room then T.enters v r.0 target vs (slice_get lowered i) else Halts [] (Stopped Depth place)) depth in
+        subst (λ o. Matches (point end o registers) (4 * (all_nodes es + length es + 1)) (C.calls functions s code target i place (Some vs))) (sym r.1)
+        (admitted (has_room (length s.callers + 1)) target place code end r.0 p.after exit loop o (point end (values_ops es t ++ (o ∷ r.0)) registers)
+        p.count (4 * (all_nodes es + length es + 1)) vs i p.path read (omega (arith, p.few, count)) r.3 c agree_after)
+
+    -- ---- all steps
+
+    pub steps : (code : Code) (end : TacEnd) (ops : List TacOp) (registers : Values) (exit : Option ℕ) (loop : Option Targets)
+        → Runs blocks t code ops end exit loop → Continues blocks t s.frame.rest exit loop → Agree t registers values
+        → Matches (point end ops registers) (4 * (C.extra_steps code + 1)) (C.runs functions s code)
+    unfolding tac_step
+    steps End end ops registers exit loop r c agree = by_end s.frame.rest end ops registers exit loop r c agree
+    steps (Set x e code) end ops registers exit loop r c agree =
+        by_set x e code end ops registers exit loop (value_of values s.world.memory e) r c agree refl
+    steps (Store width a e code) end ops registers exit loop r c agree =
+        by_store width a e code end ops registers exit loop (value_of values s.world.memory a) (value_of values s.world.memory e) r c agree refl refl
+    steps (Check check place e code) end ops registers exit loop r c agree =
+        by_use e (checks s.world check place) (op.Check check place) code end r.0 ops registers exit loop (value_of values s.world.memory e)
+        (λ q. refl) (λ q w after h. ap (λ z. T.goes_by (point end (op.Check check place q ∷ r.0) after) r.0 (by_value z (checks s.world check place))) h)
+        r.1 r.2 r.3 c agree refl
+    steps (Call target i es place code) end ops registers exit loop r c agree =
+        by_call target i es place code end ops registers exit loop (values_of values s.world.memory es) r c agree refl
+    steps (Get x code) end ops registers exit loop r c agree = by_get x code end ops registers exit loop r c agree
+    steps (Put e code) end ops registers exit loop r c agree =
+        by_use e (puts s.world) op.Put code end r.0 ops registers exit loop (value_of values s.world.memory e)
+        (λ q. refl) (λ q w after h. ap (λ z. T.goes_by (point end (op.Put q ∷ r.0) after) r.0 (by_value z (puts s.world))) h)
+        r.1 r.2 r.3 c agree refl
+    steps (Alloc x e size code) end ops registers exit loop r c agree =
+        by_use e (λ n. allocates s.world x n size) (λ q. op.Alloc x q size) code end r.0 ops registers exit loop (value_of values s.world.memory e)
+        (λ q. refl) (λ q w after h. ap (λ z. T.goes_by (point end (op.Alloc x q size ∷ r.0) after) r.0 (by_value z (λ n. allocates s.world x n size))) h)
+        r.1 r.2 r.3 c agree refl
+    steps (If e one two code) end ops registers exit loop r c agree =
+        by_if e one two code end ops registers exit loop (value_of values s.world.memory e) r c agree refl
+    steps (Loop body step code) end ops registers exit loop r c agree = by_loop body step code end ops registers exit loop r c agree
+    steps (Break code) end ops registers exit loop r c agree = by_break s.frame.rest end ops registers exit loop r.0 r.1 c agree
+    steps (Continue code) end ops registers exit loop r c agree = by_continue s.frame.rest end ops registers exit loop r.0 r.1 c agree
+    steps (Return e code) end ops registers exit loop r c agree =
+        by_return e code end ops registers exit loop (value_of values s.world.memory e) r agree refl

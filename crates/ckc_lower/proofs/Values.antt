@@ -1,0 +1,283 @@
+-- Running the operations of an expression gives its value, in the register that is told.
+use Rattle.std.proofs.Common.{◌≡◌, ◌≢◌, ℕ, ◌+◌, ◌≤◌, ◌<◌, ◌==◌, List, [], ◌∷◌, ◌++◌, append_assoc, refl, sym, ◌∙◌, ap, subst, arith}
+use Rattle.std.specs.Prelude.{Option, Some, None, Bool, if◌then◌else◌, option_and_then}
+use Rattle.std.specs.Option.{option_map}
+use Rattle.ckc_base.specs.declared.arithmetic.Width.{Width}
+use Rattle.ckc_base.specs.declared.arithmetic.BinOp.{BinOp}
+use Rattle.ckc_base.specs.Words.{applied}
+use Rattle.ckc_base.specs.Products.{high_product}
+use Rattle.ckc_base.specs.Steps.{Goes}
+use Rattle.ckc_base.specs.Matching.{Stretch}
+use Rattle.ckc_base.specs.Memory.{value_at}
+use Rattle.ckc_base.specs.Actions.{World, Gives, with_value as by_value}
+use Rattle.ckc_base.specs.Activations.{Values, with_written, with_result}
+use Rattle.ckc_base.proofs.Runs.{one_step, no_step, then_stretch}
+use Rattle.ckc_core.specs.Code.{Expr, Const, Local, Load, Bin, High}
+use Rattle.ckc_core.specs.Meaning.{value_of, both, nodes}
+use Rattle.ckc_core.specs.WellFormed.{IsExprOver}
+use Rattle.ckc_tac.specs.declared.code.TacFunc.{TacFunc}
+use Rattle.ckc_tac.specs.declared.code.TacBlock.{TacBlock}
+use Rattle.ckc_tac.specs.declared.code.TacOp.{TacOp}
+use Rattle.ckc_tac.specs.declared.code.TacOp.TheVariants as op
+use Rattle.ckc_tac.specs.declared.code.TacEnd.{TacEnd}
+use Rattle.ckc_tac.specs.Meaning.{State, Caller, tac_step, tac_system, extra_of, goes_by}
+use Rattle.ckc_lower.specs.Built.{free_from, target_of, register_of}
+
+-- the operations that compute an expression
+abbrev pub value_ops : Expr → Option ℕ → ℕ → List TacOp
+value_ops (Const n) want t = op.Const (target_of want t) n ∷ []
+value_ops (Local x) (Some d) t = op.Copy d x ∷ []
+value_ops (Local x) None t = []
+value_ops (Load width a) want t = value_ops a None t ++ op.Load width (target_of want t) (register_of a None t) ∷ []
+value_ops (Bin o p q) want t =
+    value_ops p None t ++ (value_ops q None (free_from p t)
+    ++ op.Bin o (target_of want t) (register_of p None t) (register_of q None (free_from p t)) ∷ [])
+value_ops (High is_signed p q) want t =
+    value_ops p None t ++ (value_ops q None (free_from p t)
+    ++ op.High is_signed (target_of want t) (register_of p None t) (register_of q None (free_from p t)) ∷ [])
+
+-- ---- numbers of registers
+
+pub free_more : (e : Expr) (t : ℕ) → t ≤ free_from e t
+free_more (Const n) t = omega arith
+free_more (Local x) t = omega arith
+free_more (Load width a) t = omega arith
+free_more (Bin o p q) t = omega arith
+free_more (High s p q) t = omega arith
+
+-- the register with the value lies below the temporaries that are free beside it
+pub register_below : (e : Expr) (locals t : ℕ) → locals ≤ t → IsExprOver locals e → register_of e None t < free_from e t
+register_below (Const n) locals t l h = omega arith
+register_below (Local x) locals t l h = omega (arith, h)
+register_below (Load width a) locals t l h = omega arith
+register_below (Bin o p q) locals t l h = omega arith
+register_below (High s p q) locals t l h = omega arith
+
+-- ---- values that are written
+
+test_same : (r : ℕ) → (r == r) ≡ Bool.true
+test_same r = grind arith
+
+test_other : (q r : ℕ) → q ≢ r → (q == r) ≡ Bool.false
+test_other q r h = grind arith
+
+pub written_same : (values : Values) (r v : ℕ) → with_written values r v r ≡ Some v
+unfolding with_written
+written_same values r v = ap (λ b. if b then Some v else values r) (test_same r)
+
+pub written_other : (values : Values) (r v q : ℕ) → q ≢ r → with_written values r v q ≡ values q
+unfolding with_written
+written_other values r v q h = ap (λ b. if b then Some v else values q) (test_other q r h)
+
+pub written_like : (values others : Values) (r v q : ℕ) → values q ≡ others q → with_written values r v q ≡ with_written others r v q
+unfolding with_written
+written_like values others r v q e = ap (λ x. if q == r then Some v else x) e
+
+pub result_like : (values others : Values) (target : Option ℕ) (v q : ℕ) → values q ≡ others q → with_result values target v q ≡ with_result others target v q
+result_like values others (Some r) v q e = written_like values others r v q e
+result_like values others None v q e = e
+
+-- a write of the wanted register, or of the temporary t, seen below t
+target_written : (values : Values) (want : Option ℕ) (t v q : ℕ) → q < t → with_written values (target_of want t) v q ≡ with_result values want v q
+target_written values (Some d) t v q h = refl
+target_written values None t v q h = written_other values t v q (omega arith)
+
+-- ---- values that are there
+
+pub and_then_some : {X Y : Type 0} (f : X → Option Y) (o : Option X) (v : Y) → option_and_then f o ≡ Some v → (x : X) × (o ≡ Some x) × (f x ≡ Some v)
+and_then_some f (Some x) v h = (x, refl, h)
+and_then_some f None v h = cc
+
+pub map_some : {X Y : Type 0} (f : X → Y) (o : Option X) (v : Y) → option_map f o ≡ Some v → (x : X) × (o ≡ Some x) × (f x ≡ v)
+map_some f (Some x) v h = (x, refl, cc)
+map_some f None v h = cc
+
+pub some_same : {X : Type 0} (x y : X) → Some x ≡ Some y → x ≡ y
+some_same x y h = cc
+
+both_some : (f : ℕ → ℕ → ℕ) (o p : Option ℕ) (v : ℕ) → both f o p ≡ Some v → (x y : ℕ) × (o ≡ Some x) × (p ≡ Some y) × (f x y ≡ v)
+both_some f o p v h =
+    let first = and_then_some (λ a. option_map (f a) p) o v h in
+    let second = map_some (f first.0) p v first.2 in
+    (first.0, second.0, first.1, second.1, second.2)
+
+-- ---- paths
+
+abbrev pub least : Option ℕ → ℕ
+least (Some d) = 1
+least None = 0
+
+least_one : (want : Option ℕ) (count : ℕ) → 1 ≤ count → least want ≤ count
+least_one (Some d) count h = h
+least_one None count h = omega arith
+
+-- the values below a number are the same
+abbrev pub Agree : ℕ → Values → Values → Type 0
+Agree locals registers values = (x : ℕ) → x < locals → registers x ≡ values x
+
+module _ (functions : List TacFunc) (blocks : List TacBlock) (end : TacEnd) (callers : List Caller) (world : World) where
+  -- a call at these operations
+  abbrev pub at : List TacOp → Values → State
+  at ops registers =
+      record { frame = record { blocks = blocks; ops = ops; end = end; registers = registers }; callers = callers; world = world }
+
+  -- The operations of an expression lead, in at most as many steps as it has nodes, to the operations behind them, with
+  -- the value in its register; of the registers below t only the wanted one is another.
+  pub record Computes (e : Expr) (want : Option ℕ) (t v : ℕ) (more : List TacOp) (registers : Values) : Type 0 where
+    pub count : ℕ
+    pub after : Values
+    pub some : least want ≤ count
+    pub few : count ≤ nodes e
+    pub path : Stretch (tac_system functions) count [] (at (value_ops e want t ++ more) registers) (at more after)
+    pub value : after (register_of e want t) ≡ Some v
+    pub same : (x : ℕ) → x < t → after x ≡ with_result registers want v x
+
+  -- an operation that gives a value
+  abbrev IsStep : TacOp → List TacOp → Values → ℕ → ℕ → Type 0
+  IsStep o more registers d v = tac_step functions (at (o ∷ more) registers) ≡ Goes [] (at more (with_written registers d v))
+
+  one_op : (o : TacOp) (more : List TacOp) (registers : Values) (d v : ℕ) → extra_of o ≡ 0 → IsStep o more registers d v
+      → Stretch (tac_system functions) 1 [] (at (o ∷ more) registers) (at more (with_written registers d v))
+  one_op o more registers d v plain e =
+      let count : extra_of o + 1 ≡ 1 = omega arith in
+      subst (λ n. Stretch (tac_system functions) n [] (at (o ∷ more) registers) (at more (with_written registers d v))) count
+      (one_step (tac_system functions) [] (at (o ∷ more) registers) (at more (with_written registers d v)) e)
+
+  const_step : (d n : ℕ) (more : List TacOp) (registers : Values) → IsStep (op.Const d n) more registers d n
+  unfolding tac_step
+  const_step d n more registers = refl
+
+  copy_step : (d a v : ℕ) (more : List TacOp) (registers : Values) → registers a ≡ Some v → IsStep (op.Copy d a) more registers d v
+  unfolding tac_step
+  copy_step d a v more registers e =
+      ap (λ r. goes_by (at (op.Copy d a ∷ more) registers) more (by_value r (λ x. Gives [] d x world))) e
+
+  load_step : (width : Width) (d a p v : ℕ) (more : List TacOp) (registers : Values) → registers a ≡ Some p → value_at width world.memory p ≡ Some v → IsStep (op.Load width d a) more registers d v
+  unfolding tac_step
+  load_step width d a p v more registers e h =
+      ap (λ r. goes_by (at (op.Load width d a ∷ more) registers) more (by_value r (λ p. by_value (value_at width world.memory p) (λ x. Gives [] d x world)))) e
+      ∙ ap (λ r. goes_by (at (op.Load width d a ∷ more) registers) more (by_value r (λ x. Gives [] d x world))) h
+
+  bin_step : (o : BinOp) (d a b x y : ℕ) (more : List TacOp) (registers : Values) → registers a ≡ Some x → registers b ≡ Some y → IsStep (op.Bin o d a b) more registers d (applied o x y)
+  unfolding tac_step
+  bin_step o d a b x y more registers e h =
+      ap (λ r. goes_by (at (op.Bin o d a b ∷ more) registers) more (by_value r (λ x. by_value (registers b) (λ y. Gives [] d (applied o x y) world)))) e
+      ∙ ap (λ r. goes_by (at (op.Bin o d a b ∷ more) registers) more (by_value r (λ y. Gives [] d (applied o x y) world))) h
+
+  high_step : (s : Bool) (d a b x y : ℕ) (more : List TacOp) (registers : Values) → registers a ≡ Some x → registers b ≡ Some y → IsStep (op.High s d a b) more registers d (high_product s x y)
+  unfolding tac_step
+  high_step s d a b x y more registers e h =
+      ap (λ r. goes_by (at (op.High s d a b ∷ more) registers) more (by_value r (λ x. by_value (registers b) (λ y. Gives [] d (high_product s x y) world)))) e
+      ∙ ap (λ r. goes_by (at (op.High s d a b ∷ more) registers) more (by_value r (λ y. Gives [] d (high_product s x y) world))) h
+
+  module _ (locals : ℕ) (values : Values) where
+    abbrev Claim : Expr → Type 0
+    Claim e = (want : Option ℕ) (t v : ℕ) (more : List TacOp) (registers : Values) → locals ≤ t → IsExprOver locals e
+        → Agree locals registers values → value_of values world.memory e ≡ Some v → Computes e want t v more registers
+
+    agree_after : (t v : ℕ) (registers after : Values) → locals ≤ t → Agree locals registers values
+        → ((x : ℕ) → x < t → after x ≡ with_result registers None v x) → Agree locals after values
+    agree_after t v registers after l agree same = λ x h. same x (omega arith) ∙ agree x h
+
+    -- an operation on two values
+    two : (e p q : Expr) (make : ℕ → ℕ → ℕ → TacOp) (f : ℕ → ℕ → ℕ) → Claim p → Claim q
+        → ((d a b : ℕ) → extra_of (make d a b) ≡ 0)
+        → ((d a b x y : ℕ) (more : List TacOp) (registers : Values) → registers a ≡ Some x → registers b ≡ Some y → IsStep (make d a b) more registers d (f x y))
+        → nodes e ≡ 1 + nodes p + nodes q
+        → (want : Option ℕ) (t v : ℕ) (more : List TacOp) (registers : Values)
+        → register_of e want t ≡ target_of want t
+        → value_ops e want t ≡ value_ops p None t ++ (value_ops q None (free_from p t) ++ make (target_of want t) (register_of p None t) (register_of q None (free_from p t)) ∷ [])
+        → locals ≤ t → IsExprOver locals p → IsExprOver locals q → Agree locals registers values
+        → both f (value_of values world.memory p) (value_of values world.memory q) ≡ Some v → Computes e want t v more registers
+    two e p q make f claim_p claim_q plain step size want t v more registers reg ops l over_p over_q agree h =
+        let found = both_some f (value_of values world.memory p) (value_of values world.memory q) v h in
+        let u = free_from p t in
+        let d = target_of want t in
+        let a = register_of p None t in
+        let b = register_of q None u in
+        let last = make d a b in
+        let first = claim_p None t found.0 (value_ops q None u ++ (last ∷ more)) registers l over_p agree found.2 in
+        let agree_first = agree_after t found.0 registers first.after l agree first.same in
+        let less : locals ≤ u = omega (arith, free_more p t) in
+        let second = claim_q None u found.1 (last ∷ more) first.after less over_q agree_first found.3 in
+        let left : second.after a ≡ Some found.0 = second.same a (register_below p locals t l over_p) ∙ first.value in
+        let done : IsStep last more second.after d (f found.0 found.1) = step d a b found.0 found.1 more second.after left second.value in
+        let result = with_written second.after d (f found.0 found.1) in
+        let regroup : value_ops e want t ++ more ≡ value_ops p None t ++ (value_ops q None u ++ (last ∷ more)) =
+        ap (λ x. x ++ more) ops ∙ append_assoc (value_ops p None t) (value_ops q None u ++ last ∷ []) more
+        ∙ ap (λ x. value_ops p None t ++ x) (append_assoc (value_ops q None u) (last ∷ []) more) in
+        let path = then_stretch (tac_system functions) first.count (second.count + 1) [] [] (at (value_ops p None t ++ (value_ops q None u ++ (last ∷ more))) registers) (at (value_ops q None u ++ (last ∷ more)) first.after) (at more result)
+        first.path
+        (then_stretch (tac_system functions) second.count 1 [] [] (at (value_ops q None u ++ (last ∷ more)) first.after) (at (last ∷ more) second.after) (at more result)
+        second.path (one_op last more second.after d (f found.0 found.1) (plain d a b) done)) in
+        record {
+          count = first.count + (second.count + 1);
+          after = result;
+          some = least_one want (first.count + (second.count + 1)) (omega arith);
+          few = omega (arith, first.few, second.few, size);
+          path = subst (λ x. Stretch (tac_system functions) (first.count + (second.count + 1)) [] (at x registers) (at more result)) (sym regroup) path;
+          value = subst (λ r. result r ≡ Some v) (sym reg) (written_same second.after d (f found.0 found.1) ∙ ap Some found.4);
+          same = λ x below.
+              let two_same : second.after x ≡ registers x = second.same x (omega (arith, free_more p t)) ∙ first.same x below in
+              target_written second.after want t (f found.0 found.1) x below
+              ∙ result_like second.after registers want (f found.0 found.1) x two_same
+              ∙ ap (λ w. with_result registers want w x) found.4;
+        }
+
+    pub computes : (e : Expr) → Claim e
+    computes (Const n) want t v more registers l over agree h =
+        let same : n ≡ v = some_same n v h in
+        record {
+          count = 1;
+          after = with_written registers (target_of want t) n;
+          some = least_one want 1 (omega arith);
+          few = omega arith;
+          path = one_op (op.Const (target_of want t) n) more registers (target_of want t) n refl (const_step (target_of want t) n more registers);
+          value = written_same registers (target_of want t) n ∙ ap Some same;
+          same = λ x below. target_written registers want t n x below ∙ ap (λ w. with_result registers want w x) same;
+        }
+    computes (Local y) (Some d) t v more registers l over agree h =
+        let there : registers y ≡ Some v = agree y over ∙ h in
+        record {
+          count = 1;
+          after = with_written registers d v;
+          some = omega arith;
+          few = omega arith;
+          path = one_op (op.Copy d y) more registers d v refl (copy_step d y v more registers there);
+          value = written_same registers d v;
+          same = λ x below. refl;
+        }
+    computes (Local y) None t v more registers l over agree h = record {
+      count = 0;
+      after = registers;
+      some = omega arith;
+      few = omega arith;
+      path = no_step (tac_system functions) (at more registers);
+      value = agree y over ∙ h;
+      same = λ x below. refl;
+    }
+    computes (Load width a) want t v more registers l over agree h =
+        let found = and_then_some (value_at width world.memory) (value_of values world.memory a) v h in
+        let d = target_of want t in
+        let r = register_of a None t in
+        let last = op.Load width d r in
+        let first = computes a None t found.0 (last ∷ more) registers l over agree found.1 in
+        let done : IsStep last more first.after d v = load_step width d r found.0 v more first.after first.value found.2 in
+        let result = with_written first.after d v in
+        let path = then_stretch (tac_system functions) first.count 1 [] [] (at (value_ops a None t ++ (last ∷ more)) registers) (at (last ∷ more) first.after) (at more result)
+        first.path (one_op last more first.after d v refl done) in
+        record {
+          count = first.count + 1;
+          after = result;
+          some = least_one want (first.count + 1) (omega arith);
+          few = omega (arith, first.few);
+          path = subst (λ x. Stretch (tac_system functions) (first.count + 1) [] (at x registers) (at more result)) (sym (append_assoc (value_ops a None t) (last ∷ []) more)) path;
+          value = written_same first.after d v;
+          same = λ x below. target_written first.after want t v x below ∙ result_like first.after registers want v x (first.same x below);
+        }
+    computes (Bin o p q) want t v more registers l over agree h =
+        two (Bin o p q) p q (op.Bin o) (applied o) (computes p) (computes q) (λ d a b. refl) (bin_step o) refl
+        want t v more registers refl refl l over.0 over.1 agree h
+    computes (High s p q) want t v more registers l over agree h =
+        two (High s p q) p q (op.High s) (high_product s) (computes p) (computes q) (λ d a b. refl) (high_step s) refl
+        want t v more registers refl refl l over.0 over.1 agree h

@@ -1,0 +1,14 @@
+use Rattle.std.proofs.Common.{◌≡◌, drop}
+use Rattle.ckc_core.specs.Code.{code_of}
+use Rattle.ckc_core.specs.Limits.{KeepsLimits}
+use Rattle.ckc_lower.specs.Built.{built}
+use Rattle.ckc_lower.proofs.builder.Builder.+code.Given as goal
+
+abbrev pub decreases-code : goal.decreases-code
+decreases-code l = goal.size-code l
+
+abbrev pub invariant-loop-s : goal.invariant-loop-s
+invariant-loop-s l = record {
+  limits : KeepsLimits (code_of (drop l.s-index l.stmts));
+  built : built l.locals (code_of (drop l.s-index l.stmts)) l.exit l.loop_at l.self ≡ built l.locals (code_of l.stmts) l.exit l.loop_at l.initial.self;
+}

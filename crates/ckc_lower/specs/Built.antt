@@ -1,0 +1,146 @@
+-- What the builder of a function is after each part of its code. Private contracts alone speak of it.
+use Rattle.std.specs.Prelude.{ℕ, ◌+◌, max, List, [], ◌∷◌, ◌++◌, length, Option, Some, None}
+use Rattle.ckc_core.specs.Code.{Expr, Const, Local, Load, Bin, High, Code, End, Set, Store, Check, Call, Get, Put, Alloc, If, Loop, Break, Continue, Return}
+use Rattle.ckc_tac.specs.declared.code.TacOp.{TacOp}
+use Rattle.ckc_tac.specs.declared.code.TacOp.TheVariants as op
+use Rattle.ckc_tac.specs.declared.code.TacEnd.{TacEnd}
+use Rattle.ckc_tac.specs.declared.code.TacEnd.TheVariants as ends
+use Rattle.ckc_lower.specs.declared.builder.Builder.{Builder}
+use Rattle.ckc_lower.specs.declared.builder.Targets.{Targets}
+
+-- ---- expressions
+
+-- the first temporary that is free beside the value of an expression, which was computed from t on
+abbrev pub free_from : Expr → ℕ → ℕ
+free_from (Const n) t = t + 1
+free_from (Local x) t = t
+free_from (Load width a) t = t + 1
+free_from (Bin op a b) t = t + 1
+free_from (High is_signed a b) t = t + 1
+
+-- the register that an operation writes: the one that is wanted, or the temporary t
+abbrev pub target_of : Option ℕ → ℕ → ℕ
+target_of (Some d) t = d
+target_of None t = t
+
+-- the register with the value of an expression
+abbrev pub register_of : Expr → Option ℕ → ℕ → ℕ
+register_of (Const n) want t = target_of want t
+register_of (Local x) (Some d) t = d
+register_of (Local x) None t = x
+register_of (Load width a) want t = target_of want t
+register_of (Bin op a b) want t = target_of want t
+register_of (High is_signed a b) want t = target_of want t
+
+abbrev pub with_op : Builder → TacOp → Builder
+with_op b o = record b { ops = b.ops ++ o ∷ [] }
+
+-- the temporary t is used, unless another register is wanted
+abbrev pub with_temporary : Option ℕ → ℕ → Builder → Builder
+with_temporary (Some d) t b = b
+with_temporary None t b = record b { regs = max b.regs (t + 1) }
+
+-- the value of an expression is computed into the wanted register, or into one that `register_of` names
+abbrev pub with_value : Expr → Option ℕ → ℕ → Builder → Builder
+with_value (Const n) want t b = with_op (with_temporary want t b) (op.Const (target_of want t) n)
+with_value (Local x) (Some d) t b = with_op b (op.Copy d x)
+with_value (Local x) None t b = b
+with_value (Load width a) want t b =
+    with_op (with_temporary want t (with_value a None t b)) (op.Load width (target_of want t) (register_of a None t))
+with_value (Bin o p q) want t b =
+    with_op (with_temporary want t (with_value q None (free_from p t) (with_value p None t b)))
+    (op.Bin o (target_of want t) (register_of p None t) (register_of q None (free_from p t)))
+with_value (High is_signed p q) want t b =
+    with_op (with_temporary want t (with_value q None (free_from p t) (with_value p None t b)))
+    (op.High is_signed (target_of want t) (register_of p None t) (register_of q None (free_from p t)))
+
+-- values of several expressions, each in a register of its own
+abbrev pub with_values : List Expr → ℕ → Builder → Builder
+with_values [] t b = b
+with_values (e ∷ es) t b = with_values es (free_from e t) (with_value e None t b)
+
+abbrev pub registers_of : List Expr → ℕ → List ℕ
+registers_of [] t = []
+registers_of (e ∷ es) t = register_of e None t ∷ registers_of es (free_from e t)
+
+-- ---- statements
+
+-- how many blocks the code ends
+abbrev pub block_count : Code → ℕ
+block_count End = 1
+block_count (Set x e rest) = block_count rest
+block_count (Store width a e rest) = block_count rest
+block_count (Check check at e rest) = block_count rest
+block_count (Call target callee es at rest) = block_count rest
+block_count (Get x rest) = block_count rest
+block_count (Put e rest) = block_count rest
+block_count (Alloc x e size rest) = block_count rest
+block_count (If e one two rest) = 1 + block_count one + block_count two + block_count rest
+block_count (Loop body step rest) = 1 + block_count body + block_count step + block_count rest
+block_count (Break rest) = 1
+block_count (Continue rest) = 1
+block_count (Return e rest) = 1
+
+-- the open block is done and has this end
+abbrev pub with_end : Builder → TacEnd → Builder
+with_end b end = record b { blocks = b.blocks ++ record { ops = b.ops; end = end } ∷ []; ops = [] }
+
+-- the end of a list of statements: a jump, or at the end of the function the return of 0
+abbrev pub left : ℕ → Option ℕ → Builder → Builder
+left t (Some to) b = with_end b (ends.Jump to)
+left t None b = with_end (with_op (with_temporary None t b) (op.Const t 0)) (ends.Return t)
+
+abbrev pub out_of : Option Targets → ℕ
+out_of (Some targets) = targets.out
+out_of None = 0
+
+abbrev pub step_of : Option Targets → ℕ
+step_of (Some targets) = targets.step
+step_of None = 0
+
+abbrev pub stored : ℕ → Expr → Expr → (ℕ → ℕ → TacOp) → Builder → Builder
+stored t a e o b =
+    with_op (with_value e None (free_from a t) (with_value a None t b))
+    (o (register_of a None t) (register_of e None (free_from a t)))
+
+abbrev pub used : ℕ → Expr → (ℕ → TacOp) → Builder → Builder
+used t e o b = with_op (with_value e None t b) (o (register_of e None t))
+
+abbrev pub forked : ℕ → Expr → Code → Code → Builder → Builder
+forked t e one two b =
+    with_end (with_value e None t b)
+    (ends.Branch (register_of e None t) (length b.blocks + 1) (length b.blocks + 1 + block_count one))
+
+abbrev pub join_of : Code → Code → Builder → ℕ
+join_of one two b = length b.blocks + 1 + block_count one + block_count two
+
+abbrev pub entered : Builder → Builder
+entered b = with_end b (ends.Jump (length b.blocks + 1))
+
+abbrev pub step_at : Code → Builder → ℕ
+step_at body b = length b.blocks + 1 + block_count body
+
+abbrev pub targets_of : Code → Code → Builder → Targets
+targets_of body step b = record { out = step_at body b + block_count step; step = step_at body b }
+
+-- The code is built behind what stands; t is the first temporary, exit the block behind the code, and loop the innermost
+-- loop. What stands behind a Break, a Continue or a Return is never reached and not built.
+abbrev pub built : ℕ → Code → Option ℕ → Option Targets → Builder → Builder
+built t End exit loop b = left t exit b
+built t (Set x e rest) exit loop b = built t rest exit loop (with_value e (Some x) t b)
+built t (Store width a e rest) exit loop b = built t rest exit loop (stored t a e (op.Store width) b)
+built t (Check check at e rest) exit loop b = built t rest exit loop (used t e (op.Check check at) b)
+built t (Call target callee es at rest) exit loop b =
+    built t rest exit loop (with_op (with_values es t b) (op.Call target callee (registers_of es t) at))
+built t (Get x rest) exit loop b = built t rest exit loop (with_op b (op.Get x))
+built t (Put e rest) exit loop b = built t rest exit loop (used t e op.Put b)
+built t (Alloc x e size rest) exit loop b = built t rest exit loop (used t e (λ r. op.Alloc x r size) b)
+built t (If e one two rest) exit loop b =
+    built t rest exit loop (built t two (Some (join_of one two b)) loop
+    (built t one (Some (join_of one two b)) loop (forked t e one two b)))
+built t (Loop body step rest) exit loop b =
+    built t rest exit loop (built t step (Some (length b.blocks + 1)) None
+    (built t body (Some (step_at body b)) (Some (targets_of body step b)) (entered b)))
+built t (Break rest) exit loop b = with_end b (ends.Jump (out_of loop))
+built t (Continue rest) exit loop b = with_end b (ends.Jump (step_of loop))
+built t (Return e rest) exit loop b = with_end (with_value e None t b) (ends.Return (register_of e None t))
