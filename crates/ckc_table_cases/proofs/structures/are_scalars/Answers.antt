@@ -2,7 +2,7 @@ use Rattle.std.proofs.Common.{ap, sym, refl, ◌∙◌, ◌++◌, [], ◌∷◌,
 use Rattle.std.proofs.lemmas.List.{take_all, take_more}
 use Rattle.std.proofs.lemmas.List.Elements.{All-push, All-same}
 use Rattle.ckc_types.specs.Scalars.{IsScalar}
-use Rattle.ckc_types.proofs.tests.are_scalars.Goals as goal
+use Rattle.ckc_table_cases.proofs.structures.are_scalars.Goals as goal
 
 pub loop-m-preserved : goal.loop-m-preserved
 loop-m-preserved c =

@@ -1,7 +1,7 @@
 use Rattle.std.proofs.Common.{◌≡◌, refl, subst}
 use Rattle.std.specs.List.{Contains}
 use Rattle.ckc_types.specs.declared.types.MemberShape.{MemberShape}
-use Rattle.ckc_types.proofs.tests.has_member.Goals as goal
+use Rattle.ckc_table_cases.proofs.structures.has_member.Goals as goal
 
 pub returns-then-is_struct : goal.returns-then-is_struct
 returns-then-is_struct c = λ found. record {
