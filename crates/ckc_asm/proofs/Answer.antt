@@ -1,9 +1,7 @@
 -- A text of assembly has one answer: its parts, or its first fault.
-use Rattle.std.proofs.Common.{◌≡◌, ℕ, suc, ◌+◌, ◌<◌, ◌≤◌, ℤ, pos, List, [], ◌∷◌, ◌++◌, length, map, take, drop, Option, Some, None, refl, sym, ap, ◌∙◌, ◌⊎◌, inl, inr, ⊎_elim, arith, subst, sum_by, length-drop}
+use Rattle.std.proofs.Common.{◌≡◌, ℕ, ◌<◌, ◌≤◌, ℤ, pos, List, [], ◌∷◌, length, map, Option, Some, None, refl, sym, ap, ◌∙◌, ◌⊎◌, inl, inr, ⊎_elim, arith, subst}
 use Rattle.std.specs.List.{slice_get}
 use Rattle.std.specs.Option.{option_map}
-use Rattle.std.proofs.lemmas.List.{nil_from_length, take-append-drop, drop-drop}
-use Rattle.std.proofs.lemmas.List.Sums.{sum_by-cons}
 use Rattle.std.proofs.lemmas.Option.{same_Some, slice_get-map}
 use Rattle.ckc_base.specs.declared.places.Pos.{Pos}
 use Rattle.ckc_image.specs.Image.{EntryFits, IsProper, word_bytes}
@@ -23,6 +21,7 @@ use Rattle.ckc_asm.specs.Faults.{longest_text, place_of, readings, ReadsEntry, I
 use Rattle.ckc_asm.specs.Outcome.{AreParts, AreFaults}
 use Rattle.ckc_asm.proofs.Shaped.{named_shape}
 use Rattle.ckc_asm.proofs.Cases.{order}
+use Rattle.ckc_asm.proofs.WholePieces.{pieces_once}
 
 -- ---- lists
 
@@ -146,28 +145,8 @@ bytes_once statements address s x y single (of_word z word v w f) (of_word z' wo
 
 -- ---- the code is its pieces
 
-pieces_once : (statements : List Statement) (c d : List ℕ) → length c ≡ sum_by size_of statements → length d ≡ sum_by size_of statements
-    → ((k : ℕ) (s : Statement) → slice_get statements k ≡ Some s → bytes_at statements k s c ≡ bytes_at statements k s d) → c ≡ d
-pieces_once [] c d hc hd each = nil_from_length c hc ∙ sym (nil_from_length d hd)
-pieces_once (s ∷ statements) c d hc hd each =
-    let n = size_of s in
-    let e = sum_by-cons size_of s statements in
-    let front : take n c ≡ take n d = each 0 s refl in
-    let hc' : length (drop n c) ≡ sum_by size_of statements = omega (arith, hc, e, length-drop n c) in
-    let hd' : length (drop n d) ≡ sum_by size_of statements = omega (arith, hd, e, length-drop n d) in
-    let back = pieces_once statements (drop n c) (drop n d) hc' hd' (behind s statements c d each) in
-    sym (take-append-drop n c) ∙ ap (λ l. l ++ drop n c) front ∙ ap (λ l. take n d ++ l) back ∙ take-append-drop n d
-  where
-    behind : (s : Statement) (statements : List Statement) (c d : List ℕ)
-        → ((k : ℕ) (t : Statement) → slice_get (s ∷ statements) k ≡ Some t → bytes_at (s ∷ statements) k t c ≡ bytes_at (s ∷ statements) k t d)
-        → (k : ℕ) (t : Statement) → slice_get statements k ≡ Some t → bytes_at statements k t (drop (size_of s) c) ≡ bytes_at statements k t (drop (size_of s) d)
-    behind s statements c d each k t at =
-        let e : offset_of (s ∷ statements) (suc k) ≡ size_of s + offset_of statements k = sum_by-cons size_of s (take k statements) in
-        let shift = λ (l : List ℕ). ap (take (size_of t)) (drop-drop (offset_of statements k) (size_of s) l ∙ ap (λ m. drop m l) (sym e)) in
-        shift c ∙ each (suc k) t at ∙ sym (shift d)
-
 code_once : (statements : List Statement) (e f : ℤ) (c d i j : List ℕ) → AreSingle statements → IsImage statements e c i → IsImage statements f d j → c ≡ d
-code_once statements e f c d i j single p q = pieces_once statements c d p.whole q.whole
+code_once statements e f c d i j single p q = pieces_once size_of statements c d p.whole q.whole
     (λ k s at. bytes_once statements (address_of statements k) s (bytes_at statements k s c) (bytes_at statements k s d) single (p.each k s at) (q.each k s at))
 
 entry_of_once : (statements : List Statement) (name : List ℕ) (operand : Operand) (z y : ℤ) → AreSingle statements → IsEntryOf statements name operand z → IsEntryOf statements name operand y → z ≡ y

@@ -15,6 +15,8 @@ pub mod RowsBelow
 pub mod LabelsBelow
 pub mod LabelUses
 pub mod Judging
+pub mod WholePieces
 pub mod Answer
+pub mod OneAssembly
 pub mod Shaped
 pub mod Ranges

@@ -5,6 +5,8 @@ ghost use Rattle.ckc_asm.specs.Program.{AsmOf, AreStatements, IsWordOf, size_of}
 ghost use Rattle.ckc_asm.specs.Faults.{longest_text, IsFirstFault};
 ghost use Rattle.ckc_asm.specs.Outcome.{AreParts, AreFaults};
 ghost use Rattle.ckc_asm.specs.Ranges.{IsInRange};
+ghost use Rattle.ckc_asm.specs.declared.lines.Line.{Line};
+ghost use Rattle.ckc_asm.specs.Assembled.{Assembled, CanAssemble};
 
 /// A text is assembly of one entry, code and list of initial bytes, or it has one first fault, and not both.
 pub fn one_answer()
@@ -22,4 +24,11 @@ pub fn words_by_range()
     ensures { (text : List ℕ) (statements : List Statement) (k : ℕ) (s : Statement) (z : ℤ) →
         AreStatements text statements → slice_get statements k ≡ Some s → size_of s ≡ 4 →
         ((word : ℕ) × IsWordOf s.item.form z word) ↔ IsInRange s.item.form z }
+{}
+
+/// Labelled lines are assembled to one entry, code and list of initial bytes.
+pub fn one_assembly()
+    ensures { (lines : List Line) (start entry other : ℕ) (given code code' initial initial' : List ℕ) →
+        CanAssemble lines start given → Assembled lines start given entry code initial →
+        Assembled lines start given other code' initial' → AreParts entry code initial other code' initial' }
 {}

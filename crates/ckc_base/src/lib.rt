@@ -17,6 +17,3 @@ pub use boxed::Boxed;
 pub use places::{Pos, Refusal};
 pub use runtime_checks::{Check, check_name, check_number, check_of};
 pub use seq::{Bytes, Seq};
-
-#[cfg(test)]
-mod tests;

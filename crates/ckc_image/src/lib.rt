@@ -12,6 +12,3 @@ mod view;
 pub use laws::{one_first_bad, read_then_write, write_then_read};
 pub use parts::{Parts, write};
 pub use view::{BadImage, View};
-
-#[cfg(test)]
-mod tests;

@@ -1,4 +1,4 @@
-ghost use Rattle.std.specs.Prelude.{◌≡◌, ◌↔◌, ℕ, List, ◌+◌, ◌≤◌, length, IsTrue, IsOkAnd, IsErrAnd, MatchResult};
+ghost use Rattle.std.specs.Prelude.{◌≡◌, ◌↔◌, ℕ, List, ◌+◌, ◌^◌, ◌<◌, ◌≤◌, length, IsTrue, IsOkAnd, IsErrAnd, MatchResult};
 ghost use Rattle.ckc_image.specs.Image.{EntryFits, FirstBad, ImageOf, IsProper, LengthsFit, four_at, word_at};
 
 use thiserror::Error;
@@ -42,7 +42,7 @@ impl<'a> View<'a> {
         let entry = word(bytes, 8);
         let code = word(bytes, 12) as usize;
         let initial = word(bytes, 16) as usize;
-        if bytes.len() != 20 + code + initial {
+        if !has_length(bytes, code, initial) {
             return Err(BadImage(3));
         }
         if !lengths_fit(code, initial) {
@@ -71,6 +71,14 @@ fn word(bytes: &[u8], at: usize) -> u32
     ensures { result ≡ word_at bytes.now at }
 {
     u32::from_le_bytes(four_bytes(bytes, at))
+}
+
+/// Whether nothing is missing behind the header, and nothing comes after the last part.
+fn has_length(bytes: &[u8], code: usize, initial: usize) -> bool
+    requires { (code < 2 ^ 32) × (initial < 2 ^ 32) }
+    ensures { IsTrue result ↔ (length bytes.now ≡ 20 + code + initial) }
+{
+    bytes.len() == 20 + code + initial
 }
 
 fn lengths_fit(code: usize, initial: usize) -> bool

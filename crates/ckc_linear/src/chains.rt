@@ -1,4 +1,4 @@
-ghost use Rattle.std.specs.Prelude.{◌≡◌, ◌+◌, ◌*◌, ◌^◌, ◌<◌, ◌↔◌, length, IsTrue, pos, ◌≤ℤ◌};
+ghost use Rattle.std.specs.Prelude.{◌≡◌, ◌+◌, ◌*◌, ◌^◌, ◌<◌, ◌≤◌, ◌↔◌, length, IsTrue, pos, ◌≤ℤ◌};
 ghost use Rattle.std.specs.Bool.{OnFalse};
 ghost use Rattle.std.specs.List.{All};
 ghost use Rattle.ckc_linear.specs.Facts.{IsWithin};
@@ -34,7 +34,7 @@ fn find_sums(facts: &Facts, y: u32, sums: &mut [i64], next: &mut [i64])
 {
     sums.fill(NONE);
     sums[y as usize] = 0;
-    for _most in 0..facts.vars + 1 {
+    for _most in 0..most_facts(facts.vars) {
         next.copy_from_slice(sums);
         // Where a round lowers no sum, no later one does.
         if !round(facts, sums, next) {
@@ -42,6 +42,14 @@ fn find_sums(facts: &Facts, y: u32, sums: &mut [i64], next: &mut [i64])
         }
         sums.copy_from_slice(next);
     }
+}
+
+/// How many facts a chain over so many variables has at most.
+fn most_facts(vars: u32) -> u32
+    requires { vars ≤ 1024 }
+    ensures { result ≡ vars + 1 }
+{
+    vars + 1
 }
 
 /// Lets each fact lower the sums of `next`, which are those of `sums` before, and says whether one did.

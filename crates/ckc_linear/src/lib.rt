@@ -5,8 +5,6 @@ mod chains;
 mod facts;
 mod forms;
 pub mod laws;
-#[cfg(test)]
-mod tests;
 
 pub use chains::entails;
 pub use facts::{Fact, Facts, add, forget, shift};

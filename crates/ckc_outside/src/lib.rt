@@ -9,6 +9,3 @@ mod traits;
 pub use memory::{MemSink, MemSource, MemStore};
 pub use real::{RealSink, RealSource, RealStore};
 pub use traits::{Failed, Fetched, Sink, Source, Store, StoreError};
-
-#[cfg(test)]
-mod tests;

@@ -19,6 +19,3 @@ pub use encoding::encode;
 pub use instructions::{BranchOp, ImmOp, Instr, LoadOp, RegOp, StoreOp};
 pub use ranges::in_range;
 pub use registers::{Outcome, Regs};
-
-#[cfg(test)]
-mod tests;

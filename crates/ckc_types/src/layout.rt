@@ -68,7 +68,7 @@ fn scalar_align(t: &CType) -> u32
     }
 }
 
-pub(crate) fn members_of(structs: &Structs, tag: u32) -> &[MemberShape]
+fn members_of(structs: &Structs, tag: u32) -> &[MemberShape]
     requires { IsSome (slice_get structs.now.shapes tag) }
     ensures { result.now ≡ members_of structs.now tag }
 {

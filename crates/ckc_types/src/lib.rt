@@ -3,8 +3,6 @@
 
 pub mod laws;
 mod layout;
-#[cfg(test)]
-mod tests;
 mod types;
 
 pub use layout::{align, offset, size};

@@ -1,0 +1,150 @@
+//! Instructions of RV32IM as text: the form, the operation and the fields, as `Imm(Addi, 3, 1, -2048)`.
+
+use crate::fields::{Wrong, byte, signed, word, words_of};
+use ckc_rv::{BranchOp, ImmOp, Instr, LoadOp, RegOp, StoreOp};
+use std::alloc::Global;
+
+/// The instruction that a field spells. It may be out of range.
+pub fn instruction(alloc: Global, field: &str) -> Result<Instr, Wrong> {
+    let words = words_of(alloc, field)?;
+    match words.as_slice() {
+        [form] => alone(form),
+        [form, a] => with_one(form, a),
+        [form, a, b] => with_two(form, a, b),
+        [form, a, b, c] => with_three(form, a, b, c),
+        [form, op, a, b, c] => with_operation(form, op, a, b, c),
+        _ => Err(Wrong::Malformed),
+    }
+}
+
+fn alone(form: &str) -> Result<Instr, Wrong> {
+    match form {
+        "Ecall" => Ok(Instr::Ecall),
+        "Ebreak" => Ok(Instr::Ebreak),
+        _ => Err(Wrong::Malformed),
+    }
+}
+
+fn with_one(form: &str, a: &str) -> Result<Instr, Wrong> {
+    match form {
+        "Fence" => Ok(Instr::Fence(byte(a)?)),
+        _ => Err(Wrong::Malformed),
+    }
+}
+
+fn with_two(form: &str, a: &str, b: &str) -> Result<Instr, Wrong> {
+    let rd = byte(a)?;
+    match form {
+        "Lui" => Ok(Instr::Lui(rd, word(b)?)),
+        "Auipc" => Ok(Instr::Auipc(rd, word(b)?)),
+        "Jal" => Ok(Instr::Jal(rd, signed(b)?)),
+        _ => Err(Wrong::Malformed),
+    }
+}
+
+fn with_three(form: &str, a: &str, b: &str, c: &str) -> Result<Instr, Wrong> {
+    match form {
+        "Jalr" => Ok(Instr::Jalr(byte(a)?, byte(b)?, signed(c)?)),
+        _ => Err(Wrong::Malformed),
+    }
+}
+
+fn with_operation(form: &str, op: &str, a: &str, b: &str, c: &str) -> Result<Instr, Wrong> {
+    let a = byte(a)?;
+    let b = byte(b)?;
+    let c = signed(c)?;
+    let i = match form {
+        "Branch" => branch_of(op).map(|op| Instr::Branch(op, a, b, c)),
+        "Load" => load_of(op).map(|op| Instr::Load(op, a, b, c)),
+        "Store" => store_of(op).map(|op| Instr::Store(op, a, b, c)),
+        "Imm" => imm_of(op).map(|op| Instr::Imm(op, a, b, c)),
+        "Reg" => registers(op, a, b, c),
+        _ => None,
+    };
+    i.ok_or(Wrong::Malformed)
+}
+
+fn registers(op: &str, a: u8, b: u8, c: i32) -> Option<Instr> {
+    let op = reg_of(op)?;
+    match u8::try_from(c) {
+        Ok(c) => Some(Instr::Reg(op, a, b, c)),
+        Err(_) => None,
+    }
+}
+
+fn branch_of(name: &str) -> Option<BranchOp> {
+    match name {
+        "Beq" => Some(BranchOp::Beq),
+        "Bne" => Some(BranchOp::Bne),
+        "Blt" => Some(BranchOp::Blt),
+        "Bge" => Some(BranchOp::Bge),
+        "Bltu" => Some(BranchOp::Bltu),
+        "Bgeu" => Some(BranchOp::Bgeu),
+        _ => None,
+    }
+}
+
+fn load_of(name: &str) -> Option<LoadOp> {
+    match name {
+        "Lb" => Some(LoadOp::Lb),
+        "Lh" => Some(LoadOp::Lh),
+        "Lw" => Some(LoadOp::Lw),
+        "Lbu" => Some(LoadOp::Lbu),
+        "Lhu" => Some(LoadOp::Lhu),
+        _ => None,
+    }
+}
+
+fn store_of(name: &str) -> Option<StoreOp> {
+    match name {
+        "Sb" => Some(StoreOp::Sb),
+        "Sh" => Some(StoreOp::Sh),
+        "Sw" => Some(StoreOp::Sw),
+        _ => None,
+    }
+}
+
+fn imm_of(name: &str) -> Option<ImmOp> {
+    match name {
+        "Addi" => Some(ImmOp::Addi),
+        "Slti" => Some(ImmOp::Slti),
+        "Sltiu" => Some(ImmOp::Sltiu),
+        "Xori" => Some(ImmOp::Xori),
+        "Ori" => Some(ImmOp::Ori),
+        "Andi" => Some(ImmOp::Andi),
+        "Slli" => Some(ImmOp::Slli),
+        "Srli" => Some(ImmOp::Srli),
+        "Srai" => Some(ImmOp::Srai),
+        _ => None,
+    }
+}
+
+fn reg_of(name: &str) -> Option<RegOp> {
+    match name {
+        "Add" => Some(RegOp::Add),
+        "Sub" => Some(RegOp::Sub),
+        "Sll" => Some(RegOp::Sll),
+        "Slt" => Some(RegOp::Slt),
+        "Sltu" => Some(RegOp::Sltu),
+        "Xor" => Some(RegOp::Xor),
+        "Srl" => Some(RegOp::Srl),
+        "Sra" => Some(RegOp::Sra),
+        "Or" => Some(RegOp::Or),
+        "And" => Some(RegOp::And),
+        _ => product_of(name),
+    }
+}
+
+fn product_of(name: &str) -> Option<RegOp> {
+    match name {
+        "Mul" => Some(RegOp::Mul),
+        "Mulh" => Some(RegOp::Mulh),
+        "Mulhsu" => Some(RegOp::Mulhsu),
+        "Mulhu" => Some(RegOp::Mulhu),
+        "Div" => Some(RegOp::Div),
+        "Divu" => Some(RegOp::Divu),
+        "Rem" => Some(RegOp::Rem),
+        "Remu" => Some(RegOp::Remu),
+        _ => None,
+    }
+}
