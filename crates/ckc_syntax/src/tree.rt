@@ -12,7 +12,6 @@ pub struct Tree<N, A> {
 
 /// An item of a text: a directive, a tag line `struct name;`, a structure with its members, an object, a
 /// prototype or a function (ISO C11, 6.9). A place is that of the tag.
-#[derive(Drop)]
 pub enum Item<N, A> {
     Directive(Directive),
     Tag(N, Pos),
@@ -22,9 +21,21 @@ pub enum Item<N, A> {
     Function(Boxed<Head<N, A>>, Boxed<Stmt<N, A>>),
 }
 
+impl<N: Drop, A: Drop> Drop for Item<N, A> {
+    fn drop(self) {
+        match self {
+            Item::Directive(_directive) => {}
+            Item::Tag(_name, _pos) => {}
+            Item::Struct(_name, _members, _pos) => {}
+            Item::Static(_decl) => {}
+            Item::Proto(_head) => {}
+            Item::Function(_head, _body) => {}
+        }
+    }
+}
+
 /// The head of a function: its mode, the type of its result, its name with its place, its parameters, and the
 /// bounds of its result (Checked C specification 0.9, section 3, on checked scopes, and section 4, on bounds).
-#[derive(Drop)]
 pub struct Head<N, A> {
     pub mode: Option<Mode>,
     pub result: TypeTree<N>,
@@ -34,9 +45,21 @@ pub struct Head<N, A> {
     pub pos: Pos,
 }
 
+impl<N: Drop, A: Drop> Drop for Head<N, A> {
+    fn drop(self) {
+        let Head {
+            mode: _mode,
+            result: _result,
+            name: _name,
+            params: _params,
+            bounds: _bounds,
+            pos: _pos,
+        } = self;
+    }
+}
+
 /// A type: `Raw` is `T *` with the place of the `*`, `One` is `_Ptr<T>`, `Arr` is `_Array_ptr<T>` and `Nt` is
 /// `_Nt_array_ptr<T>` (Checked C specification 0.9, section 2). The place of a structure is that of its tag.
-#[derive(Drop)]
 pub enum TypeTree<N> {
     Int,
     Unsigned,
@@ -47,6 +70,22 @@ pub enum TypeTree<N> {
     One(Boxed<TypeTree<N>>),
     Arr(Boxed<TypeTree<N>>),
     Nt(Boxed<TypeTree<N>>),
+}
+
+impl<N: Drop> Drop for TypeTree<N> {
+    fn drop(self) {
+        match self {
+            TypeTree::Int => {}
+            TypeTree::Unsigned => {}
+            TypeTree::Char => {}
+            TypeTree::Void => {}
+            TypeTree::Struct(_tag, _pos) => {}
+            TypeTree::Raw(inner, _pos) => drop(inner.into_inner()),
+            TypeTree::One(inner) => drop(inner.into_inner()),
+            TypeTree::Arr(inner) => drop(inner.into_inner()),
+            TypeTree::Nt(inner) => drop(inner.into_inner()),
+        }
+    }
 }
 
 /// What a declared name is: no array, an array `[n]` with the place of its `[`, `_Checked[n]` or
@@ -60,7 +99,6 @@ pub enum Length {
 }
 
 /// A declared object, member, parameter or local, with the place of its name.
-#[derive(Drop)]
 pub struct Decl<N, A> {
     pub ctype: TypeTree<N>,
     pub name: N,
@@ -70,12 +108,34 @@ pub struct Decl<N, A> {
     pub pos: Pos,
 }
 
+impl<N: Drop, A: Drop> Drop for Decl<N, A> {
+    fn drop(self) {
+        let Decl {
+            ctype: _ctype,
+            name: _name,
+            length: _length,
+            bounds: _bounds,
+            init: _init,
+            pos: _pos,
+        } = self;
+    }
+}
+
 /// What a declared object begins as: nothing is written, one expression, or a list in braces.
-#[derive(Drop)]
 pub enum Init<N, A> {
     Nothing,
     One(Boxed<Expr<N, A>>),
     Many(Seq<Expr<N, A>>),
+}
+
+impl<N: Drop, A: Drop> Drop for Init<N, A> {
+    fn drop(self) {
+        match self {
+            Init::Nothing => {}
+            Init::One(_value) => {}
+            Init::Many(_values) => {}
+        }
+    }
 }
 
 /// A bounds expression (Checked C specification 0.9, section 3.1): `count(e)`, `byte_count(e)`,
