@@ -6,3 +6,8 @@ pub mod Fronts
 pub mod Pieces
 pub mod Smalls
 pub mod Tallies
+pub mod Tells
+pub mod SameLists
+pub mod SameTypes
+pub mod SameNodes
+pub mod SameHeads

@@ -5,6 +5,8 @@ mod depth;
 mod digits;
 mod limits;
 mod literals;
+mod placeless;
+mod same;
 mod tally;
 #[cfg(test)]
 mod tests;
@@ -14,6 +16,8 @@ mod tree;
 pub use digits::{digit_value, is_digit};
 pub use limits::fits;
 pub use literals::{Piece, piece_at, string_bytes};
+pub use placeless::same_but_for_places;
+pub use same::same_head;
 pub use tokens::{Directive, Spelling, Token, TokenKind};
 pub use tree::{
     Act, Decl, Expr, Head, Init, Item, Length, Limits, Name, Node, Stmt, Tree, TreeOp, TypeTree,
