@@ -1,6 +1,7 @@
 pub mod Decoding
 pub mod Depths
 pub mod DigitFronts
+pub mod Emptied
 pub mod EscapeFronts
 pub mod Fronts
 pub mod Pieces

@@ -3,6 +3,7 @@
 
 mod depth;
 mod digits;
+mod laws;
 mod limits;
 mod literals;
 mod placeless;
@@ -14,6 +15,7 @@ mod tokens;
 mod tree;
 
 pub use digits::{digit_value, is_digit};
+pub use laws::one_answer;
 pub use limits::fits;
 pub use literals::{Piece, piece_at, string_bytes};
 pub use placeless::same_but_for_places;

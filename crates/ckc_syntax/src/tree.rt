@@ -140,7 +140,6 @@ impl<N: Drop, A: Drop> Drop for Init<N, A> {
 
 /// A bounds expression (Checked C specification 0.9, section 3.1): `count(e)`, `byte_count(e)`,
 /// `bounds(e, f)`, or `bounds(unknown)` with the place of `bounds`.
-#[derive(Drop)]
 #[cycle(expr)]
 pub enum Limits<N, A> {
     Count(Boxed<Expr<N, A>>),
@@ -149,9 +148,27 @@ pub enum Limits<N, A> {
     Unknown(Pos),
 }
 
+impl<N: Drop, A: Drop> Drop for Limits<N, A> {
+    #[cycle(expr_drop)]
+    fn drop(self) {
+        match self {
+            Limits::Count(e) => {
+                drop(e.into_inner());
+            }
+            Limits::ByteCount(e) => {
+                drop(e.into_inner());
+            }
+            Limits::Between(e, f) => {
+                drop(e.into_inner());
+                drop(f.into_inner());
+            }
+            Limits::Unknown(_pos) => {}
+        }
+    }
+}
+
 /// A statement with its place: an assignment at its `=`, a local at its name, every other one at its first
 /// token.
-#[derive(Drop)]
 #[cycle(stmt)]
 pub struct Stmt<N, A> {
     pub body: Act<N, A>,
@@ -159,8 +176,18 @@ pub struct Stmt<N, A> {
     pub note: A,
 }
 
+impl<N: Drop, A: Drop> Drop for Stmt<N, A> {
+    #[cycle(stmt_drop)]
+    fn drop(self) {
+        let Stmt {
+            body: _body,
+            pos: _pos,
+            note: _note,
+        } = self;
+    }
+}
+
 /// The statements (ISO C11, 6.8), with `_Dynamic_check` and `_Bundled` of Checked C.
-#[derive(Drop)]
 #[cycle(stmt)]
 pub enum Act<N, A> {
     Block(Option<Mode>, Seq<Stmt<N, A>>),
@@ -183,9 +210,42 @@ pub enum Act<N, A> {
     Bundle(Seq<Stmt<N, A>>),
 }
 
+impl<N: Drop, A: Drop> Drop for Act<N, A> {
+    #[cycle(stmt_drop)]
+    fn drop(self) {
+        match self {
+            Act::Block(_mode, stmts) => {
+                drop_stmts(stmts);
+            }
+            Act::Empty => {}
+            Act::Local(_decl) => {}
+            Act::Assign(_e, _f) => {}
+            Act::Call(_e) => {}
+            Act::If(_e, s, t) => {
+                drop(s.into_inner());
+                drop_part(t);
+            }
+            Act::While(_e, s) => {
+                drop(s.into_inner());
+            }
+            Act::For(first, _e, step, body) => {
+                drop_part(first);
+                drop_part(step);
+                drop(body.into_inner());
+            }
+            Act::Return(_e) => {}
+            Act::Break => {}
+            Act::Continue => {}
+            Act::Check(_e) => {}
+            Act::Bundle(stmts) => {
+                drop_stmts(stmts);
+            }
+        }
+    }
+}
+
 /// An expression with its place: a literal or name at its first byte, an operator, `[`, `.`, `->`, `?` at that
 /// token, a call at the called name, a cast at its `(`, `sizeof` and a bounds cast at the keyword.
-#[derive(Drop)]
 #[cycle(expr)]
 pub struct Expr<N, A> {
     pub node: Node<N, A>,
@@ -193,9 +253,19 @@ pub struct Expr<N, A> {
     pub note: A,
 }
 
+impl<N: Drop, A: Drop> Drop for Expr<N, A> {
+    #[cycle(expr_drop)]
+    fn drop(self) {
+        let Expr {
+            node: _node,
+            pos: _pos,
+            note: _note,
+        } = self;
+    }
+}
+
 /// The expressions (ISO C11, 6.5), with the bounds casts of Checked C: `Tested` is `_Dynamic_bounds_cast` and
 /// `Trusted` is `_Assume_bounds_cast`. The flag of a number says that its type is `unsigned`.
-#[derive(Drop)]
 #[cycle(expr)]
 pub enum Node<N, A> {
     Number(u32, bool),
@@ -214,6 +284,58 @@ pub enum Node<N, A> {
     Tested(TypeTree<N>, Boxed<Expr<N, A>>, Option<Boxed<Limits<N, A>>>),
     Call(N, Seq<Expr<N, A>>),
     Calloc(TypeTree<N>, Boxed<Expr<N, A>>, TypeTree<N>),
+}
+
+impl<N: Drop, A: Drop> Drop for Node<N, A> {
+    #[cycle(expr_drop)]
+    fn drop(self) {
+        match self {
+            Node::Number(_n, _unsigned) => {}
+            Node::Text(_bytes) => {}
+            Node::Null => {}
+            Node::Name(_name) => {}
+            Node::Un(_op, e) => {
+                drop(e.into_inner());
+            }
+            Node::Bin(_op, e, f) => {
+                drop(e.into_inner());
+                drop(f.into_inner());
+            }
+            Node::Pick(e, f, g) => {
+                drop(e.into_inner());
+                drop(f.into_inner());
+                drop(g.into_inner());
+            }
+            Node::Index(e, f) => {
+                drop(e.into_inner());
+                drop(f.into_inner());
+            }
+            Node::Dot(e, _name) => {
+                drop(e.into_inner());
+            }
+            Node::Arrow(e, _name) => {
+                drop(e.into_inner());
+            }
+            Node::Cast(_t, e) => {
+                drop(e.into_inner());
+            }
+            Node::Size(_t) => {}
+            Node::Trusted(_t, e, limits) => {
+                drop(e.into_inner());
+                drop_bounds(limits);
+            }
+            Node::Tested(_t, e, limits) => {
+                drop(e.into_inner());
+                drop_bounds(limits);
+            }
+            Node::Call(_name, es) => {
+                drop_exprs(es);
+            }
+            Node::Calloc(_t, e, _u) => {
+                drop(e.into_inner());
+            }
+        }
+    }
 }
 
 /// The operators. The first six are unary `-`, `+`, `!`, `~`, `*` and `&`; the others are `||`, `&&`, `|`, `^`,
@@ -257,4 +379,36 @@ pub enum Name {
     Member(u32),
     Getchar,
     Putchar,
+}
+
+#[cycle(expr_drop)]
+fn drop_bounds<N: Drop, A: Drop>(bounds: Option<Boxed<Limits<N, A>>>) {
+    if let Some(limits) = bounds {
+        drop(limits.into_inner());
+    }
+}
+
+#[cycle(stmt_drop)]
+fn drop_part<N: Drop, A: Drop>(part: Option<Boxed<Stmt<N, A>>>) {
+    if let Some(stmt) = part {
+        drop(stmt.into_inner());
+    }
+}
+
+#[cycle(expr_drop)]
+fn drop_exprs<N: Drop, A: Drop>(exprs: Seq<Expr<N, A>>) {
+    let mut rest = exprs.into_vec();
+    while let Some(e) = rest.pop() {
+        drop(e);
+    }
+    rest.destroy_empty();
+}
+
+#[cycle(stmt_drop)]
+fn drop_stmts<N: Drop, A: Drop>(stmts: Seq<Stmt<N, A>>) {
+    let mut rest = stmts.into_vec();
+    while let Some(s) = rest.pop() {
+        drop(s);
+    }
+    rest.destroy_empty();
 }
