@@ -24,8 +24,37 @@ kind_of_name text =
     if is text (codes "unknown") then Unknown else
     Name
 
--- Keywords, with the words that stand for some of them after `#include <stdchecked.h>`. The other keywords of C11
--- stand in no production.
+-- The words that stand for some keywords after `#include <stdchecked.h>`. The other keywords of C11 stand in no
+-- production.
+abbrev pub kind_of_checked_word : List ℕ → Kind
+kind_of_checked_word text =
+    if is text (codes "ptr") then Ptr else
+    if is text (codes "array_ptr") then ArrayPtr else
+    if is text (codes "nt_array_ptr") then NtArrayPtr else
+    if is text (codes "checked") then Checked else
+    if is text (codes "unchecked") then Unchecked else
+    if is text (codes "nt_checked") then NtChecked else
+    if is text (codes "dynamic_check") then Check else
+    if is text (codes "dynamic_bounds_cast") then Tested else
+    if is text (codes "assume_bounds_cast") then Trusted else
+    Other
+
+-- Keywords of Checked C.
+abbrev pub kind_of_checked_keyword : List ℕ → Kind
+kind_of_checked_keyword text =
+    if is text (codes "_Ptr") then Ptr else
+    if is text (codes "_Array_ptr") then ArrayPtr else
+    if is text (codes "_Nt_array_ptr") then NtArrayPtr else
+    if is text (codes "_Checked") then Checked else
+    if is text (codes "_Unchecked") then Unchecked else
+    if is text (codes "_Nt_checked") then NtChecked else
+    if is text (codes "_Bundled") then Bundled else
+    if is text (codes "_Dynamic_check") then Check else
+    if is text (codes "_Dynamic_bounds_cast") then Tested else
+    if is text (codes "_Assume_bounds_cast") then Trusted else
+    kind_of_checked_word text
+
+-- Keywords of C11 with the two names that stand like keywords.
 abbrev pub kind_of_keyword : List ℕ → Kind
 kind_of_keyword text =
     if is text (codes "int") then Int else
@@ -44,26 +73,34 @@ kind_of_keyword text =
     if is text (codes "sizeof") then Sizeof else
     if is text (codes "NULL") then Null else
     if is text (codes "EOF") then Eof else
-    if is text (codes "_Ptr") then Ptr else
-    if is text (codes "_Array_ptr") then ArrayPtr else
-    if is text (codes "_Nt_array_ptr") then NtArrayPtr else
-    if is text (codes "_Checked") then Checked else
-    if is text (codes "_Unchecked") then Unchecked else
-    if is text (codes "_Nt_checked") then NtChecked else
-    if is text (codes "_Bundled") then Bundled else
-    if is text (codes "_Dynamic_check") then Check else
-    if is text (codes "_Dynamic_bounds_cast") then Tested else
-    if is text (codes "_Assume_bounds_cast") then Trusted else
-    if is text (codes "ptr") then Ptr else
-    if is text (codes "array_ptr") then ArrayPtr else
-    if is text (codes "nt_array_ptr") then NtArrayPtr else
-    if is text (codes "checked") then Checked else
-    if is text (codes "unchecked") then Unchecked else
-    if is text (codes "nt_checked") then NtChecked else
-    if is text (codes "dynamic_check") then Check else
-    if is text (codes "dynamic_bounds_cast") then Tested else
-    if is text (codes "assume_bounds_cast") then Trusted else
+    kind_of_checked_keyword text
+
+-- Operators of two bytes.
+abbrev pub kind_of_long_operator : List ℕ → Kind
+kind_of_long_operator text =
+    if is text (codes "<<") then ShiftLeft else
+    if is text (codes "<=") then LessEquals else
+    if is text (codes ">=") then GreaterEquals else
+    if is text (codes "==") then EqualsEquals else
+    if is text (codes "!=") then NotEquals else
+    if is text (codes "&&") then AndAnd else
+    if is text (codes "||") then BarBar else
     Other
+
+-- Operators of one byte.
+abbrev pub kind_of_operator : List ℕ → Kind
+kind_of_operator text =
+    if is text (codes "+") then Plus else
+    if is text (codes "-") then Minus else
+    if is text (codes "*") then Star else
+    if is text (codes "/") then Slash else
+    if is text (codes "%") then Percent else
+    if is text (codes "&") then Ampersand else
+    if is text (codes "|") then Bar else
+    if is text (codes "^") then Caret else
+    if is text (codes "~") then Tilde else
+    if is text (codes "!") then Exclamation else
+    kind_of_long_operator text
 
 -- Marks.
 abbrev pub kind_of_mark : List ℕ → Kind
@@ -83,24 +120,7 @@ kind_of_mark text =
     if is text (codes "=") then Equals else
     if is text (codes ".") then Dot else
     if is text (codes "->") then Arrow else
-    if is text (codes "+") then Plus else
-    if is text (codes "-") then Minus else
-    if is text (codes "*") then Star else
-    if is text (codes "/") then Slash else
-    if is text (codes "%") then Percent else
-    if is text (codes "&") then Ampersand else
-    if is text (codes "|") then Bar else
-    if is text (codes "^") then Caret else
-    if is text (codes "~") then Tilde else
-    if is text (codes "!") then Exclamation else
-    if is text (codes "<<") then ShiftLeft else
-    if is text (codes "<=") then LessEquals else
-    if is text (codes ">=") then GreaterEquals else
-    if is text (codes "==") then EqualsEquals else
-    if is text (codes "!=") then NotEquals else
-    if is text (codes "&&") then AndAnd else
-    if is text (codes "||") then BarBar else
-    Other
+    kind_of_operator text
 
 -- the kind of a token by itself
 abbrev pub kind_by : TokenKind → List ℕ → Kind

@@ -1,5 +1,5 @@
 ghost use Rattle.std.specs.Prelude.{◌≡◌};
-ghost use Rattle.ckc_parser.specs.Kinds.{kind_of_name, kind_of_keyword, kind_of_mark};
+ghost use Rattle.ckc_parser.specs.Kinds.{kind_of_name, kind_of_keyword, kind_of_checked_keyword, kind_of_checked_word, kind_of_mark, kind_of_operator, kind_of_long_operator};
 
 /// What the grammar tells apart: keywords and marks by their spelling, a few names that have a meaning in some
 /// places, and the end of the text. `GreaterNext` is a `>` that follows another directly.
@@ -113,6 +113,15 @@ pub fn keyword_kind(text: &str) -> Kind
         "sizeof" => Kind::Sizeof,
         "NULL" => Kind::Null,
         "EOF" => Kind::Eof,
+        _ => checked_keyword_kind(text),
+    }
+}
+
+/// The kind of a keyword of Checked C.
+fn checked_keyword_kind(text: &str) -> Kind
+    ensures { result ≡ kind_of_checked_keyword text.now }
+{
+    match text {
         "_Ptr" => Kind::Ptr,
         "_Array_ptr" => Kind::ArrayPtr,
         "_Nt_array_ptr" => Kind::NtArrayPtr,
@@ -123,6 +132,15 @@ pub fn keyword_kind(text: &str) -> Kind
         "_Dynamic_check" => Kind::Check,
         "_Dynamic_bounds_cast" => Kind::Tested,
         "_Assume_bounds_cast" => Kind::Trusted,
+        _ => checked_word_kind(text),
+    }
+}
+
+/// The kind of a word that stands for a keyword of Checked C.
+fn checked_word_kind(text: &str) -> Kind
+    ensures { result ≡ kind_of_checked_word text.now }
+{
+    match text {
         "ptr" => Kind::Ptr,
         "array_ptr" => Kind::ArrayPtr,
         "nt_array_ptr" => Kind::NtArrayPtr,
@@ -156,6 +174,15 @@ pub fn mark_kind(text: &str) -> Kind
         "=" => Kind::Equals,
         "." => Kind::Dot,
         "->" => Kind::Arrow,
+        _ => operator_kind(text),
+    }
+}
+
+/// The kind of an operator.
+fn operator_kind(text: &str) -> Kind
+    ensures { result ≡ kind_of_operator text.now }
+{
+    match text {
         "+" => Kind::Plus,
         "-" => Kind::Minus,
         "*" => Kind::Star,
@@ -166,6 +193,15 @@ pub fn mark_kind(text: &str) -> Kind
         "^" => Kind::Caret,
         "~" => Kind::Tilde,
         "!" => Kind::Exclamation,
+        _ => long_operator_kind(text),
+    }
+}
+
+/// The kind of an operator of two bytes.
+fn long_operator_kind(text: &str) -> Kind
+    ensures { result ≡ kind_of_long_operator text.now }
+{
+    match text {
         "<<" => Kind::ShiftLeft,
         "<=" => Kind::LessEquals,
         ">=" => Kind::GreaterEquals,

@@ -27,11 +27,11 @@ same_names : (a b : Names) → as_it_is a ≡ Ok b → a ≡ b
 same_names a b e = cc
 
 pub tree_fault : (tree : Tree) (names before : Names) (items : List Item) → as_it_is (names_of tree) ≡ Ok names → before ≡ no_names → items ≡ tree.items
-    → (f : Refusal) → items_named names items before ≡ Err f → tree_named tree ≡ Err f
+    → (f : Refusal) → items_named names items items before ≡ Err f → tree_named tree ≡ Err f
 tree_fault tree names before items e b i f h =
     ap (λ o. bind o (λ p. if list_any is_main tree.items then Ok (record { items = p.0 }) else refused 303 start))
-    (ap (λ n. items_named n tree.items no_names) (same_names (names_of tree) names e) ∙ ap (λ m. items_named names tree.items m) (sym b) ∙ ap (λ is. items_named names is before) (sym i) ∙ h)
+    (ap (λ n. items_named n tree.items tree.items no_names) (same_names (names_of tree) names e) ∙ ap (λ m. items_named names tree.items tree.items m) (sym b) ∙ ap (λ is. items_named names is is before) (sym i) ∙ h)
 
-pub static_item : (r : Result NamedItem ResolveFault) (names before : Names) (i : Item) (d e : Decl) → i ≡ item.Static d → e ≡ d → Answers r (static_named names before e) → Answers r (item_named names before i)
-static_item r names before i d e is same h =
-    subst (λ j. Answers r (item_named names before j)) (sym is) (subst (λ x. Answers r (static_named names before x)) same h)
+pub static_item : (r : Result NamedItem ResolveFault) (names : Names) (all : List Item) (before : Names) (i : Item) (d e : Decl) → i ≡ item.Static d → e ≡ d → Answers r (static_named names before e) → Answers r (item_named names all before i)
+static_item r names all before i d e is same h =
+    subst (λ j. Answers r (item_named names all before j)) (sym is) (subst (λ x. Answers r (static_named names before x)) same h)

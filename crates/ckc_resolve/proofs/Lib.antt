@@ -1,15 +1,7 @@
 pub mod Answer
-pub mod Codes
-pub mod TypeCodes
-pub mod NodeCodes
-pub mod HeadCodes
-pub mod TypeWords
-pub mod NodeWords
-pub mod HeadWords
 pub mod Ends
 pub mod Indexing
 pub mod Search
 pub mod Sequels
 pub mod Tables
 pub mod Turns
-pub mod Writing

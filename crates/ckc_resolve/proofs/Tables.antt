@@ -56,18 +56,3 @@ number_behind s ks h = of_none _ _ (number_within (λ k. not (bytes_eq s k.now))
 
 pub place_same : (ss : List Spelling) (s t : Spelling) (ks : List (Bor Spelling)) → ss ≡ bytes_of ks → t ≡ s → position (λ k. bytes_eq t k.now) ks ≡ place_of ss s
 place_same ss s t ks e h = rw (e, h) (place_bytes s ks)
-
--- the same of a set of other lists of numbers, each seen through f
-module _ {K : Type 0} (f : K → List ℕ) where
-  pub any_seen : (s : List ℕ) (ks : List K) → list_any (λ k. bytes_eq s (f k)) ks ≡ is_among (map f ks) s
-  any_seen s [] = refl
-  any_seen s (k ∷ ks) = ap (λ b. bytes_eq s (f k) || b) (any_seen s ks)
-
-  pub add_seen : (ks : List K) (k : K) → map f (insert_key (λ x y. bytes_eq (f x) (f y)) ks k) ≡ with_spelling (map f ks) (f k)
-  add_seen ks k = by (list_any (λ x. bytes_eq (f k) (f x)) ks) (is_among (map f ks) (f k)) (any_seen (f k) ks)
-    where
-      by : (a b : Bool) → a ≡ b → map f (cond a ks (ks ++ k ∷ [])) ≡ cond b (map f ks) (map f ks ++ f k ∷ [])
-      by true true e = refl
-      by false false e = map-append f ks (k ∷ [])
-      by true false e = cc
-      by false true e = cc

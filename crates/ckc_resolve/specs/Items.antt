@@ -7,6 +7,7 @@ use Rattle.ckc_syntax.specs.declared.tree.Name.{Name}
 use Rattle.ckc_syntax.specs.declared.tree.Name.TheVariants as name
 use Rattle.ckc_syntax.specs.declared.tree.Item.TheVariants as item
 use Rattle.ckc_syntax.specs.declared.tree.TypeTree.{TypeTree-F, out-TypeTree}
+use Rattle.ckc_syntax.specs.Same.{same_head}
 use Rattle.ckc_resolve.specs.declared.names.Names.{Names}
 use Rattle.ckc_resolve.specs.Outcomes.{Outcome, bind, refused, in_turn}
 use Rattle.ckc_resolve.specs.Spellings.{Spelling, is_among, number_of}
@@ -15,7 +16,6 @@ use Rattle.ckc_resolve.specs.Scoping.{noted, no_names, names_of, no_scope, is_re
 use Rattle.ckc_resolve.specs.Declarations.{decl_named, unless_taken}
 use Rattle.ckc_resolve.specs.Statements.{body_named}
 use Rattle.ckc_resolve.specs.Heads.{struct_named, head_named}
-use Rattle.ckc_resolve.specs.Written.{written_head}
 
 abbrev pub name_of_tag : Names → Spelling → Name
 name_of_tag names s = name.Tag (number_of names.tags s)
@@ -28,9 +28,14 @@ is_taken_static before s = is_reserved s || (is_among before.statics s || is_amo
 abbrev pub is_taken_function : Names → Spelling → Bool
 is_taken_function before s = is_reserved s || is_among before.statics s
 
--- E304: no function of the text has the same head
-abbrev pub if_defined : {A : Type 0} → Names → Head → A → Outcome A
-if_defined names h a = if is_among names.heads (written_head h) then Ok a else refused 304 h.pos
+-- whether an item is a function with a body and the head, places aside
+abbrev pub defines : Head → Item → Bool
+defines h (item.Function g body) = same_head h g
+defines h i = false
+
+-- E304: no function among all items has the same head
+abbrev pub if_defined : {A : Type 0} → List Item → Head → A → Outcome A
+if_defined all h a = if list_any (defines h) all then Ok a else refused 304 h.pos
 
 abbrev pub structure_named : Names → Names → Spelling → List Decl → Pos → Outcome NamedItem
 structure_named names before s members pos =
@@ -41,9 +46,9 @@ static_named names before d =
     bind (decl_named names no_scope no_scope (name.Static (number_of names.statics d.name)) d) (λ e.
     unless_taken (is_taken_static before d.name) d.pos (item.Static e))
 
-abbrev pub proto_named : Names → Names → Head → Outcome NamedItem
-proto_named names before h =
-    bind (head_named names h) (λ p. bind (unless_taken (is_taken_function before h.name) h.pos p.0) (λ g. if_defined names h (item.Proto g)))
+abbrev pub proto_named : Names → List Item → Names → Head → Outcome NamedItem
+proto_named names all before h =
+    bind (head_named names h) (λ p. bind (unless_taken (is_taken_function before h.name) h.pos p.0) (λ g. if_defined all h (item.Proto g)))
 
 -- The body is judged behind the head.
 abbrev pub function_named : Names → Names → Head → Stmt → Outcome NamedItem
@@ -51,20 +56,20 @@ function_named names before h body =
     bind (head_named names h) (λ p. bind (unless_taken (is_taken_function before h.name || is_among before.defined h.name) h.pos p.0) (λ g.
     bind (body_named names body p.1) (λ b. Ok (item.Function g b.0))))
 
--- an item, with the names of the whole text and those of the items before it
-abbrev pub item_named : Names → Names → Item → Outcome NamedItem
-item_named names before (item.Directive d) = Ok (item.Directive d)
-item_named names before (item.Tag s pos) = Ok (item.Tag (name_of_tag names s) pos)
-item_named names before (item.Struct s members pos) = structure_named names before s members pos
-item_named names before (item.Static d) = static_named names before d
-item_named names before (item.Proto h) = proto_named names before h
-item_named names before (item.Function h body) = function_named names before h body
+-- an item, with the names and the items of the whole text, and the names of the items before it
+abbrev pub item_named : Names → List Item → Names → Item → Outcome NamedItem
+item_named names all before (item.Directive d) = Ok (item.Directive d)
+item_named names all before (item.Tag s pos) = Ok (item.Tag (name_of_tag names s) pos)
+item_named names all before (item.Struct s members pos) = structure_named names before s members pos
+item_named names all before (item.Static d) = static_named names before d
+item_named names all before (item.Proto h) = proto_named names all before h
+item_named names all before (item.Function h body) = function_named names before h body
 
-abbrev pub item_in_turn : Names → Item → Names → Outcome (NamedItem × Names)
-item_in_turn names i before = bind (item_named names before i) (λ j. Ok (j, noted before i))
+abbrev pub item_in_turn : Names → List Item → Item → Names → Outcome (NamedItem × Names)
+item_in_turn names all i before = bind (item_named names all before i) (λ j. Ok (j, noted before i))
 
-abbrev pub items_named : Names → List Item → Names → Outcome (List NamedItem × Names)
-items_named names is = in_turn (map (item_in_turn names) is)
+abbrev pub items_named : Names → List Item → List Item → Names → Outcome (List NamedItem × Names)
+items_named names all is = in_turn (map (item_in_turn names all) is)
 
 abbrev pub is_int_form : TypeTree-F Spelling TypeTree → Bool
 is_int_form TypeTree-F.Int = true

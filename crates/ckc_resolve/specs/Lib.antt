@@ -2,8 +2,6 @@ pub mod Outcomes
 pub mod Spellings
 pub mod Trees
 pub mod Indexed
-pub mod Written
-pub mod Placeless
 pub mod Scoping
 pub mod Meanings
 pub mod Types

@@ -12,7 +12,7 @@ abbrev pub start : Pos
 start = record { line = 1; col = 1 }
 
 abbrev pub tree_named : Tree → Outcome NamedTree
-tree_named tree = bind (items_named (names_of tree) tree.items no_names) (λ p.
+tree_named tree = bind (items_named (names_of tree) tree.items tree.items no_names) (λ p.
     if list_any is_main tree.items then Ok (record { items = p.0 }) else refused 303 start)
 
 -- the tree has these names, and no fault

@@ -10,23 +10,22 @@ use Rattle.ckc_resolve.specs.declared.visible.Entry.{Entry}
 use Rattle.ckc_resolve.specs.declared.scopes.Scopes.{Scopes}
 use Rattle.ckc_resolve.specs.Spellings.{Spelling, is_among, with_spelling}
 use Rattle.ckc_resolve.specs.Trees.{Tree, Item, Decl}
-use Rattle.ckc_resolve.specs.Written.{written_head}
 
 abbrev pub no_names : Names
-no_names = record { statics = []; functions = []; defined = []; tags = []; structs = []; members = []; heads = [] }
+no_names = record { statics = []; functions = []; defined = []; tags = []; structs = []; members = [] }
 
 abbrev pub with_member : List Spelling → Decl → List Spelling
 with_member ms d = with_spelling ms d.name
 
 -- The names that one item more declares: statics, functions and those with a body, tags and those with a body, and
--- members, with the heads of the functions that have a body. Each kind is numbered in the order of first declaration.
+-- members. Each kind is numbered in the order of first declaration.
 abbrev pub noted : Names → Item → Names
 noted names (item.Directive d) = names
 noted names (item.Tag n pos) = record names { tags = with_spelling names.tags n }
 noted names (item.Struct n members pos) = record names { tags = with_spelling names.tags n; structs = with_spelling names.structs n; members = fold with_member names.members members }
 noted names (item.Static d) = record names { statics = with_spelling names.statics d.name }
 noted names (item.Proto h) = record names { functions = with_spelling names.functions h.name }
-noted names (item.Function h body) = record names { functions = with_spelling names.functions h.name; defined = with_spelling names.defined h.name; heads = with_spelling names.heads (written_head h) }
+noted names (item.Function h body) = record names { functions = with_spelling names.functions h.name; defined = with_spelling names.defined h.name }
 
 -- the names that the whole text sees
 abbrev pub names_of : Tree → Names

@@ -3,7 +3,7 @@
 ghost use Rattle.std.specs.Prelude.{◌≡◌, Ok};
 ghost use Rattle.std.specs.List.{list_any};
 ghost use Rattle.ckc_resolve.specs.Outcomes.{Answers, Steps};
-ghost use Rattle.ckc_resolve.specs.Items.{name_of_tag, is_taken_static, is_taken_function, if_defined, structure_named, static_named, proto_named, function_named, item_named, item_in_turn, items_named, is_int, is_main_head, is_main};
+ghost use Rattle.ckc_resolve.specs.Items.{name_of_tag, is_taken_static, is_taken_function, defines, if_defined, structure_named, static_named, proto_named, function_named, item_named, item_in_turn, items_named, is_int, is_main_head, is_main};
 
 use crate::bodies::named_body;
 use crate::declarations::named_decl;
@@ -12,9 +12,8 @@ use crate::heads::{named_head, named_members};
 use crate::meanings::fitting;
 use crate::names::Names;
 use crate::scopes::{Scopes, is_reserved};
-use crate::written::written_head;
 use ckc_base::{Boxed, Pos, Seq};
-use ckc_syntax::{Decl, Head, Item, Name, Spelling, Stmt, TypeTree};
+use ckc_syntax::{Decl, Head, Item, Name, Spelling, Stmt, TypeTree, same_head};
 use std::alloc::Global;
 
 fn tag_name<'a>(names: &Names<'a>, s: &Spelling<'a>) -> Result<Name, ResolveFault>
@@ -36,16 +35,36 @@ fn is_taken_function<'a>(before: &Names<'a>, s: &Spelling<'a>) -> bool
     is_reserved(s) || before.statics.contains(s)
 }
 
+/// Whether an item is a function with a body and the head, places aside.
+fn defines<'a>(head: &Head<Spelling<'a>, ()>, item: &Item<Spelling<'a>, ()>) -> bool
+    ensures { result ≡ defines head.now item.now }
+{
+    match item {
+        Item::Function(other, _) => same_head(head, other.get()),
+        Item::Directive(_) | Item::Tag(_, _) | Item::Struct(_, _, _) => false,
+        Item::Static(_) | Item::Proto(_) => false,
+    }
+}
+
+fn is_defined<'a>(all: &[Item<Spelling<'a>, ()>], head: &Head<Spelling<'a>, ()>) -> bool
+    ensures { result ≡ list_any (defines head.now) all.now }
+{
+    for item in all {
+        if defines(head, item) {
+            return true;
+        }
+    }
+    false
+}
+
 fn defined_proto<'a>(
-    alloc: Global,
-    names: &Names<'a>,
+    all: &[Item<Spelling<'a>, ()>],
     head: &Head<Spelling<'a>, ()>,
     named: Boxed<Head<Name, ()>>,
 ) -> Result<Item<Name, ()>, ResolveFault>
-    ensures { Answers result (if_defined names.now head.now (Item.Proto named)) }
+    ensures { Answers result (if_defined all.now head.now (Item.Proto named)) }
 {
-    let written = written_head(alloc, head)?;
-    if !names.heads.contains(&written) {
+    if !is_defined(all, head) {
         return Err(refused(304, head.pos));
     }
     Ok(Item::Proto(named))
@@ -90,10 +109,11 @@ fn named_static<'a>(
 fn named_proto<'a>(
     alloc: Global,
     names: &Names<'a>,
+    all: &[Item<Spelling<'a>, ()>],
     before: &Names<'a>,
     head: &Head<Spelling<'a>, ()>,
 ) -> Result<Item<Name, ()>, ResolveFault>
-    ensures { Answers result (proto_named names.now before.now head.now) }
+    ensures { Answers result (proto_named names.now all.now before.now head.now) }
 {
     let mut body = Scopes::new(alloc);
     let named = named_head(alloc, names, &mut body, head)?;
@@ -101,7 +121,7 @@ fn named_proto<'a>(
     if is_taken_function(before, &head.name) {
         return Err(refused(302, head.pos));
     }
-    defined_proto(alloc, names, head, boxed)
+    defined_proto(all, head, boxed)
 }
 
 fn named_function<'a>(
@@ -126,10 +146,11 @@ fn named_function<'a>(
 fn named_item<'a>(
     alloc: Global,
     names: &Names<'a>,
+    all: &[Item<Spelling<'a>, ()>],
     before: &Names<'a>,
     item: &Item<Spelling<'a>, ()>,
 ) -> Result<Item<Name, ()>, ResolveFault>
-    ensures { Answers result (item_named names.now before.now item.now) }
+    ensures { Answers result (item_named names.now all.now before.now item.now) }
 {
     match item {
         Item::Directive(directive) => Ok(Item::Directive(*directive)),
@@ -141,7 +162,7 @@ fn named_item<'a>(
             named_structure(alloc, names, before, s, members.as_slice(), *pos)
         }
         Item::Static(decl) => named_static(alloc, names, before, decl.get()),
-        Item::Proto(head) => named_proto(alloc, names, before, head.get()),
+        Item::Proto(head) => named_proto(alloc, names, all, before, head.get()),
         Item::Function(head, body) => {
             named_function(alloc, names, before, head.get(), body.get())
         }
@@ -151,13 +172,14 @@ fn named_item<'a>(
 fn item_in_turn<'a>(
     alloc: Global,
     names: &Names<'a>,
+    all: &[Item<Spelling<'a>, ()>],
     before: &mut Names<'a>,
     item: &Item<Spelling<'a>, ()>,
 ) -> Result<Item<Name, ()>, ResolveFault>
-    ensures { Steps result before.new (item_in_turn names.now item.now before.old) }
+    ensures { Steps result before.new (item_in_turn names.now all.now item.now before.old) }
 {
-    let named = named_item(alloc, names, before, item)?;
-    before.note(alloc, item)?;
+    let named = named_item(alloc, names, all, before, item)?;
+    before.note(item)?;
     Ok(named)
 }
 
@@ -168,14 +190,14 @@ pub fn named_items<'a>(
     before: &mut Names<'a>,
     items: &[Item<Spelling<'a>, ()>],
 ) -> Result<Seq<Item<Name, ()>>, ResolveFault>
-    ensures { Steps result before.new (items_named names.now items.now before.old) }
+    ensures { Steps result before.new (items_named names.now items.now items.now before.old) }
 {
-    let mut all = Seq::new(alloc);
+    let mut out = Seq::new(alloc);
     for item in items {
-        let named = item_in_turn(alloc, names, before, item)?;
-        all.push(named)?;
+        let named = item_in_turn(alloc, names, items, before, item)?;
+        out.push(named)?;
     }
-    Ok(all)
+    Ok(out)
 }
 
 fn is_int<'a>(t: &TypeTree<Spelling<'a>>) -> bool

@@ -1,9 +1,7 @@
 ghost use Rattle.std.specs.Prelude.{◌≡◌, ◌⊎◌, ℕ};
 ghost use Rattle.ckc_base.specs.declared.places.Pos.{Pos};
-ghost use Rattle.ckc_resolve.specs.Trees.{Tree, Head, NamedTree};
+ghost use Rattle.ckc_resolve.specs.Trees.{Tree, NamedTree};
 ghost use Rattle.ckc_resolve.specs.Named.{Named, IsFirstNameFault};
-ghost use Rattle.ckc_resolve.specs.Placeless.{placeless_head};
-ghost use Rattle.ckc_resolve.specs.Written.{written_head};
 
 /// A tree has one tree of names or one first fault, and not both.
 pub fn one_answer()
@@ -11,10 +9,4 @@ pub fn one_answer()
     ensures faults { (t : Tree) (c d : ℕ) (p q : Pos) → IsFirstNameFault t c p → IsFirstNameFault t d q → (c ≡ d) × (p ≡ q) }
     ensures not_both { (t : Tree) (a : NamedTree) (c : ℕ) (p : Pos) → Named t a → IsFirstNameFault t c p → ⊥ }
     ensures some { (t : Tree) → ((a : NamedTree) × Named t a) ⊎ ((c : ℕ) × (p : Pos) × IsFirstNameFault t c p) }
-{}
-
-/// Heads are written alike just where they differ in places alone.
-pub fn heads_written_alike()
-    ensures same { (g h : Head) → written_head g ≡ written_head h → placeless_head g ≡ placeless_head h }
-    ensures written { (g h : Head) → placeless_head g ≡ placeless_head h → written_head g ≡ written_head h }
 {}

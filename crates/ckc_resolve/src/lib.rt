@@ -16,7 +16,6 @@ mod statements;
 mod top;
 mod types;
 mod visible;
-mod written;
 
 pub use fault::ResolveFault;
 pub use laws::one_answer;

@@ -3,14 +3,12 @@ ghost use Rattle.ckc_resolve.specs.Outcomes.{Answers};
 ghost use Rattle.ckc_resolve.specs.Scoping.{no_names, noted, with_member};
 
 use crate::fault::ResolveFault;
-use crate::spellings::{Spellings, WrittenHeads};
-use crate::written::written_head;
+use crate::spellings::Spellings;
 use ckc_syntax::{Decl, Item, Spelling};
 use std::alloc::Global;
 
 /// The names that items declare: statics, functions and those with a body, tags and those with a body, and the
 /// members of all structures.
-#[derive(Drop)]
 pub struct Names<'a> {
     pub statics: Spellings<'a>,
     pub functions: Spellings<'a>,
@@ -18,7 +16,20 @@ pub struct Names<'a> {
     pub tags: Spellings<'a>,
     pub structs: Spellings<'a>,
     pub members: Spellings<'a>,
-    pub heads: WrittenHeads,
+}
+
+// Written out, so that an exit over which names live has one call in place of six tables.
+impl<'a> Drop for Names<'a> {
+    fn drop(self) {
+        let Names {
+            statics: _statics,
+            functions: _functions,
+            defined: _defined,
+            tags: _tags,
+            structs: _structs,
+            members: _members,
+        } = self;
+    }
 }
 
 impl<'a> Names<'a> {
@@ -33,12 +44,11 @@ impl<'a> Names<'a> {
             tags: Spellings::new(alloc),
             structs: Spellings::new(alloc),
             members: Spellings::new(alloc),
-            heads: WrittenHeads::new(alloc),
         }
     }
 
     /// Adds what an item declares.
-    pub fn note(&mut self, alloc: Global, item: &Item<Spelling<'a>, ()>) -> Result<(), ResolveFault>
+    pub fn note(&mut self, item: &Item<Spelling<'a>, ()>) -> Result<(), ResolveFault>
         ensures noted { OnOk result (self.new ≡ noted self.old item.now) }
         ensures memory { Answers result (Ok tt) }
     {
@@ -54,9 +64,7 @@ impl<'a> Names<'a> {
             Item::Proto(head) => self.functions.add(&head.get().name),
             Item::Function(head, _) => {
                 self.functions.add(&head.get().name)?;
-                self.defined.add(&head.get().name)?;
-                let written = written_head(alloc, head.get())?;
-                self.heads.add(written)
+                self.defined.add(&head.get().name)
             }
         }
     }

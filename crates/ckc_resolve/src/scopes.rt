@@ -11,7 +11,6 @@ use std::alloc::Global;
 
 /// The declarations that are visible beside those of the whole text. The innermost scope begins at `base`. The next
 /// local gets the number `next`. In the bounds of a member its structure's members are visible, and nothing else.
-#[derive(Drop)]
 pub struct Scopes<'a> {
     pub visible: Visible<'a>,
     pub base: usize,
@@ -25,6 +24,19 @@ pub struct Scopes<'a> {
 pub struct Mark {
     len: usize,
     base: usize,
+}
+
+// Written out, so that an exit over which scopes live has one call in place of their parts.
+impl<'a> Drop for Scopes<'a> {
+    fn drop(self) {
+        let Scopes {
+            visible: _visible,
+            base: _,
+            next: _,
+            of_members: _,
+            members: _members,
+        } = self;
+    }
 }
 
 impl<'a> Scopes<'a> {

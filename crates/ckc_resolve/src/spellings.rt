@@ -3,14 +3,12 @@ ghost use Rattle.ckc_resolve.specs.Outcomes.{Answers};
 ghost use Rattle.ckc_resolve.specs.Spellings.{is_among, with_spelling, place_of, number_of};
 
 use crate::fault::ResolveFault;
-use ckc_base::Seq;
 use ckc_syntax::Spelling;
 use indexmap::IndexSet;
 use std::alloc::Global;
 use std::marker::Model;
 
 /// Spellings in the order in which they first come, each once, with its number from 0.
-#[derive(Drop)]
 pub struct Spellings<'a> {
     set: IndexSet<&'a str>,
 }
@@ -24,6 +22,13 @@ impl<'a> Model for Spellings<'a> {
     ghost coded = { coded_list (coded_list coded_ℕ) };
 
     ghost view = { λ s. map (λ k. k.now) s.set.keys };
+}
+
+// Written out, so that an exit over which a table lives has one call in place of the table's parts.
+impl<'a> Drop for Spellings<'a> {
+    fn drop(self) {
+        let Spellings { set: _set } = self;
+    }
 }
 
 impl<'a> Spellings<'a> {
@@ -67,49 +72,5 @@ impl<'a> Spellings<'a> {
             Some(n) => n,
             None => self.set.len(),
         }
-    }
-}
-
-/// Heads that are written out, each once.
-#[derive(Drop)]
-pub struct WrittenHeads {
-    set: IndexSet<Vec<u64>>,
-}
-
-impl Model for WrittenHeads {
-    ghost use Rattle.std.specs.Prelude.{List, ℕ, map};
-    ghost use Rattle.std.specs.Coded.{coded_list, coded_ℕ};
-
-    ghost Value = { List (List ℕ) };
-
-    ghost coded = { coded_list (coded_list coded_ℕ) };
-
-    ghost view = { λ s. map (λ k. k.items) s.set.keys };
-}
-
-impl WrittenHeads {
-    /// No head. It takes no memory.
-    pub fn new(alloc: Global) -> WrittenHeads
-        ensures { result ≡ [] }
-    {
-        WrittenHeads {
-            set: IndexSet::new(alloc),
-        }
-    }
-
-    /// Puts a head in, unless it is there.
-    pub fn add(&mut self, head: Seq<u64>) -> Result<(), ResolveFault>
-        ensures added { OnOk result (self.new ≡ with_spelling self.old head) }
-        ensures memory { Answers result (Ok tt) }
-    {
-        self.set.insert(head.into_vec())?;
-        Ok(())
-    }
-
-    /// Whether a head is there.
-    pub fn contains(&self, head: &Seq<u64>) -> bool
-        ensures { result ≡ is_among self.now head.now }
-    {
-        self.set.contains(head.as_slice())
     }
 }

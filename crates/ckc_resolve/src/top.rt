@@ -50,7 +50,7 @@ fn names_of<'a>(alloc: Global, tree: &Tree<Spelling<'a>, ()>) -> Result<Names<'a
 {
     let mut names = Names::new(alloc);
     for item in tree.items.as_slice() {
-        names.note(alloc, item)?;
+        names.note(item)?;
     }
     Ok(names)
 }

@@ -26,7 +26,6 @@ pub struct Slot<'a> {
 
 /// The declarations that are visible, in the order of declaration. The last one of each spelling is found by a table,
 /// which the end of a scope sets back.
-#[derive(Drop)]
 pub struct Visible<'a> {
     slots: Vec<Slot<'a>>,
     last: IndexMap<&'a str, Option<usize>>,
@@ -45,6 +44,16 @@ impl<'a> Model for Visible<'a> {
     ghost view = { λ v. entries_of v.slots.items };
 
     ghost invariant = { λ v. IsIndexed v.slots.items (λ s. get_by (λ k. bytes_eq s k.now) v.last) };
+}
+
+// Written out, so that an exit over which a table lives has one call in place of the table's parts.
+impl<'a> Drop for Visible<'a> {
+    fn drop(self) {
+        let Visible {
+            slots: _slots,
+            last: _last,
+        } = self;
+    }
 }
 
 impl<'a> Visible<'a> {

@@ -135,13 +135,24 @@ fn head(
     gives: TypeTree<Name>,
     param: TypeTree<Name>,
 ) -> Result<Boxed<Head<Name, Note>>, AllocError> {
+    numbered_head(alloc, 3, mode, gives, param)
+}
+
+/// A head of a function by its number, with one parameter.
+fn numbered_head(
+    alloc: Global,
+    number: u32,
+    mode: Option<Mode>,
+    gives: TypeTree<Name>,
+    param: TypeTree<Name>,
+) -> Result<Boxed<Head<Name, Note>>, AllocError> {
     let params = seq(alloc, declared(param, Length::Plain))?;
     Boxed::new(
         alloc,
         Head {
             mode,
             result: gives,
-            name: Name::Function(3),
+            name: Name::Function(number),
             params,
             bounds: None,
             pos: at(92),
@@ -263,14 +274,7 @@ fn call(
     let node = Node::Call(called, Seq::new(alloc));
     let body = Act::Call(expr(alloc, node, mode, Kind::Arr, 1)?);
     let mut items = seq(alloc, proto)?;
-    let head = head(alloc, None, TypeTree::Int, TypeTree::Int)?;
-    let head = Boxed::new(
-        alloc,
-        Head {
-            name: Name::Function(4),
-            ..head.into_inner()
-        },
-    )?;
+    let head = numbered_head(alloc, 4, None, TypeTree::Int, TypeTree::Int)?;
     items.push(Item::Function(head, stmt(alloc, body, mode)?))?;
     Ok(items)
 }

@@ -205,3 +205,10 @@ module _ {N A : Type 0} (items : List (Item N A)) (i : ℕ) where
 pub small_ok : {N A X : Type 0} (tree : Tree N A) (r : Result X Refusal) → Judges r (faults_of tree) → (IsOk r → Small tree) × (Small tree → IsOk r)
 small_ok tree (Ok x) h = (λ o. (small_is tree).1 h, λ s. refl)
 small_ok tree (Err e) h = (λ o. cc, λ s. let none = (small_is tree).0 s in let some = h.1 in cc)
+
+-- a tree has one first refusal, and none where it is small
+pub same_first : {X : Type 0} (x y : X) (xs : List X) → IsFirst x xs → IsFirst y xs → x ≡ y
+same_first x y xs h k = let a = h.1 in let b = k.1 in cc
+
+pub small_none : {N A : Type 0} (tree : Tree N A) (r : Refusal) → Small tree → IsFirst r (faults_of tree) → ⊥
+small_none tree r s h = let none = (small_is tree).0 s in let some = h.1 in cc

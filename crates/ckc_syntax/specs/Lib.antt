@@ -9,3 +9,5 @@ pub mod Marks
 pub mod Small
 pub mod Spelled
 pub mod Tally
+pub mod Same
+pub mod Placeless

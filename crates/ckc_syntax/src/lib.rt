@@ -3,8 +3,11 @@
 
 mod depth;
 mod digits;
+mod laws;
 mod limits;
 mod literals;
+mod placeless;
+mod same;
 mod tally;
 #[cfg(test)]
 mod tests;
@@ -12,8 +15,11 @@ mod tokens;
 mod tree;
 
 pub use digits::{digit_value, is_digit};
+pub use laws::one_answer;
 pub use limits::fits;
 pub use literals::{Piece, piece_at, string_bytes};
+pub use placeless::same_but_for_places;
+pub use same::same_head;
 pub use tokens::{Directive, Spelling, Token, TokenKind};
 pub use tree::{
     Act, Decl, Expr, Head, Init, Item, Length, Limits, Name, Node, Stmt, Tree, TreeOp, TypeTree,

@@ -12,7 +12,6 @@ pub struct Tree<N, A> {
 
 /// An item of a text: a directive, a tag line `struct name;`, a structure with its members, an object, a
 /// prototype or a function (ISO C11, 6.9). A place is that of the tag.
-#[derive(Drop)]
 pub enum Item<N, A> {
     Directive(Directive),
     Tag(N, Pos),
@@ -22,9 +21,21 @@ pub enum Item<N, A> {
     Function(Boxed<Head<N, A>>, Boxed<Stmt<N, A>>),
 }
 
+impl<N: Drop, A: Drop> Drop for Item<N, A> {
+    fn drop(self) {
+        match self {
+            Item::Directive(_directive) => {}
+            Item::Tag(_name, _pos) => {}
+            Item::Struct(_name, _members, _pos) => {}
+            Item::Static(_decl) => {}
+            Item::Proto(_head) => {}
+            Item::Function(_head, _body) => {}
+        }
+    }
+}
+
 /// The head of a function: its mode, the type of its result, its name with its place, its parameters, and the
 /// bounds of its result (Checked C specification 0.9, section 3, on checked scopes, and section 4, on bounds).
-#[derive(Drop)]
 pub struct Head<N, A> {
     pub mode: Option<Mode>,
     pub result: TypeTree<N>,
@@ -34,9 +45,21 @@ pub struct Head<N, A> {
     pub pos: Pos,
 }
 
+impl<N: Drop, A: Drop> Drop for Head<N, A> {
+    fn drop(self) {
+        let Head {
+            mode: _mode,
+            result: _result,
+            name: _name,
+            params: _params,
+            bounds: _bounds,
+            pos: _pos,
+        } = self;
+    }
+}
+
 /// A type: `Raw` is `T *` with the place of the `*`, `One` is `_Ptr<T>`, `Arr` is `_Array_ptr<T>` and `Nt` is
 /// `_Nt_array_ptr<T>` (Checked C specification 0.9, section 2). The place of a structure is that of its tag.
-#[derive(Drop)]
 pub enum TypeTree<N> {
     Int,
     Unsigned,
@@ -47,6 +70,22 @@ pub enum TypeTree<N> {
     One(Boxed<TypeTree<N>>),
     Arr(Boxed<TypeTree<N>>),
     Nt(Boxed<TypeTree<N>>),
+}
+
+impl<N: Drop> Drop for TypeTree<N> {
+    fn drop(self) {
+        match self {
+            TypeTree::Int => {}
+            TypeTree::Unsigned => {}
+            TypeTree::Char => {}
+            TypeTree::Void => {}
+            TypeTree::Struct(_tag, _pos) => {}
+            TypeTree::Raw(inner, _pos) => drop(inner.into_inner()),
+            TypeTree::One(inner) => drop(inner.into_inner()),
+            TypeTree::Arr(inner) => drop(inner.into_inner()),
+            TypeTree::Nt(inner) => drop(inner.into_inner()),
+        }
+    }
 }
 
 /// What a declared name is: no array, an array `[n]` with the place of its `[`, `_Checked[n]` or
@@ -60,7 +99,6 @@ pub enum Length {
 }
 
 /// A declared object, member, parameter or local, with the place of its name.
-#[derive(Drop)]
 pub struct Decl<N, A> {
     pub ctype: TypeTree<N>,
     pub name: N,
@@ -70,17 +108,38 @@ pub struct Decl<N, A> {
     pub pos: Pos,
 }
 
+impl<N: Drop, A: Drop> Drop for Decl<N, A> {
+    fn drop(self) {
+        let Decl {
+            ctype: _ctype,
+            name: _name,
+            length: _length,
+            bounds: _bounds,
+            init: _init,
+            pos: _pos,
+        } = self;
+    }
+}
+
 /// What a declared object begins as: nothing is written, one expression, or a list in braces.
-#[derive(Drop)]
 pub enum Init<N, A> {
     Nothing,
     One(Boxed<Expr<N, A>>),
     Many(Seq<Expr<N, A>>),
 }
 
+impl<N: Drop, A: Drop> Drop for Init<N, A> {
+    fn drop(self) {
+        match self {
+            Init::Nothing => {}
+            Init::One(_value) => {}
+            Init::Many(_values) => {}
+        }
+    }
+}
+
 /// A bounds expression (Checked C specification 0.9, section 3.1): `count(e)`, `byte_count(e)`,
 /// `bounds(e, f)`, or `bounds(unknown)` with the place of `bounds`.
-#[derive(Drop)]
 #[cycle(expr)]
 pub enum Limits<N, A> {
     Count(Boxed<Expr<N, A>>),
@@ -89,9 +148,27 @@ pub enum Limits<N, A> {
     Unknown(Pos),
 }
 
+impl<N: Drop, A: Drop> Drop for Limits<N, A> {
+    #[cycle(expr_drop)]
+    fn drop(self) {
+        match self {
+            Limits::Count(e) => {
+                drop(e.into_inner());
+            }
+            Limits::ByteCount(e) => {
+                drop(e.into_inner());
+            }
+            Limits::Between(e, f) => {
+                drop(e.into_inner());
+                drop(f.into_inner());
+            }
+            Limits::Unknown(_pos) => {}
+        }
+    }
+}
+
 /// A statement with its place: an assignment at its `=`, a local at its name, every other one at its first
 /// token.
-#[derive(Drop)]
 #[cycle(stmt)]
 pub struct Stmt<N, A> {
     pub body: Act<N, A>,
@@ -99,8 +176,18 @@ pub struct Stmt<N, A> {
     pub note: A,
 }
 
+impl<N: Drop, A: Drop> Drop for Stmt<N, A> {
+    #[cycle(stmt_drop)]
+    fn drop(self) {
+        let Stmt {
+            body: _body,
+            pos: _pos,
+            note: _note,
+        } = self;
+    }
+}
+
 /// The statements (ISO C11, 6.8), with `_Dynamic_check` and `_Bundled` of Checked C.
-#[derive(Drop)]
 #[cycle(stmt)]
 pub enum Act<N, A> {
     Block(Option<Mode>, Seq<Stmt<N, A>>),
@@ -123,9 +210,42 @@ pub enum Act<N, A> {
     Bundle(Seq<Stmt<N, A>>),
 }
 
+impl<N: Drop, A: Drop> Drop for Act<N, A> {
+    #[cycle(stmt_drop)]
+    fn drop(self) {
+        match self {
+            Act::Block(_mode, stmts) => {
+                drop_stmts(stmts);
+            }
+            Act::Empty => {}
+            Act::Local(_decl) => {}
+            Act::Assign(_e, _f) => {}
+            Act::Call(_e) => {}
+            Act::If(_e, s, t) => {
+                drop(s.into_inner());
+                drop_part(t);
+            }
+            Act::While(_e, s) => {
+                drop(s.into_inner());
+            }
+            Act::For(first, _e, step, body) => {
+                drop_part(first);
+                drop_part(step);
+                drop(body.into_inner());
+            }
+            Act::Return(_e) => {}
+            Act::Break => {}
+            Act::Continue => {}
+            Act::Check(_e) => {}
+            Act::Bundle(stmts) => {
+                drop_stmts(stmts);
+            }
+        }
+    }
+}
+
 /// An expression with its place: a literal or name at its first byte, an operator, `[`, `.`, `->`, `?` at that
 /// token, a call at the called name, a cast at its `(`, `sizeof` and a bounds cast at the keyword.
-#[derive(Drop)]
 #[cycle(expr)]
 pub struct Expr<N, A> {
     pub node: Node<N, A>,
@@ -133,9 +253,19 @@ pub struct Expr<N, A> {
     pub note: A,
 }
 
+impl<N: Drop, A: Drop> Drop for Expr<N, A> {
+    #[cycle(expr_drop)]
+    fn drop(self) {
+        let Expr {
+            node: _node,
+            pos: _pos,
+            note: _note,
+        } = self;
+    }
+}
+
 /// The expressions (ISO C11, 6.5), with the bounds casts of Checked C: `Tested` is `_Dynamic_bounds_cast` and
 /// `Trusted` is `_Assume_bounds_cast`. The flag of a number says that its type is `unsigned`.
-#[derive(Drop)]
 #[cycle(expr)]
 pub enum Node<N, A> {
     Number(u32, bool),
@@ -154,6 +284,58 @@ pub enum Node<N, A> {
     Tested(TypeTree<N>, Boxed<Expr<N, A>>, Option<Boxed<Limits<N, A>>>),
     Call(N, Seq<Expr<N, A>>),
     Calloc(TypeTree<N>, Boxed<Expr<N, A>>, TypeTree<N>),
+}
+
+impl<N: Drop, A: Drop> Drop for Node<N, A> {
+    #[cycle(expr_drop)]
+    fn drop(self) {
+        match self {
+            Node::Number(_n, _unsigned) => {}
+            Node::Text(_bytes) => {}
+            Node::Null => {}
+            Node::Name(_name) => {}
+            Node::Un(_op, e) => {
+                drop(e.into_inner());
+            }
+            Node::Bin(_op, e, f) => {
+                drop(e.into_inner());
+                drop(f.into_inner());
+            }
+            Node::Pick(e, f, g) => {
+                drop(e.into_inner());
+                drop(f.into_inner());
+                drop(g.into_inner());
+            }
+            Node::Index(e, f) => {
+                drop(e.into_inner());
+                drop(f.into_inner());
+            }
+            Node::Dot(e, _name) => {
+                drop(e.into_inner());
+            }
+            Node::Arrow(e, _name) => {
+                drop(e.into_inner());
+            }
+            Node::Cast(_t, e) => {
+                drop(e.into_inner());
+            }
+            Node::Size(_t) => {}
+            Node::Trusted(_t, e, limits) => {
+                drop(e.into_inner());
+                drop_bounds(limits);
+            }
+            Node::Tested(_t, e, limits) => {
+                drop(e.into_inner());
+                drop_bounds(limits);
+            }
+            Node::Call(_name, es) => {
+                drop_exprs(es);
+            }
+            Node::Calloc(_t, e, _u) => {
+                drop(e.into_inner());
+            }
+        }
+    }
 }
 
 /// The operators. The first six are unary `-`, `+`, `!`, `~`, `*` and `&`; the others are `||`, `&&`, `|`, `^`,
@@ -197,4 +379,36 @@ pub enum Name {
     Member(u32),
     Getchar,
     Putchar,
+}
+
+#[cycle(expr_drop)]
+fn drop_bounds<N: Drop, A: Drop>(bounds: Option<Boxed<Limits<N, A>>>) {
+    if let Some(limits) = bounds {
+        drop(limits.into_inner());
+    }
+}
+
+#[cycle(stmt_drop)]
+fn drop_part<N: Drop, A: Drop>(part: Option<Boxed<Stmt<N, A>>>) {
+    if let Some(stmt) = part {
+        drop(stmt.into_inner());
+    }
+}
+
+#[cycle(expr_drop)]
+fn drop_exprs<N: Drop, A: Drop>(exprs: Seq<Expr<N, A>>) {
+    let mut rest = exprs.into_vec();
+    while let Some(e) = rest.pop() {
+        drop(e);
+    }
+    rest.destroy_empty();
+}
+
+#[cycle(stmt_drop)]
+fn drop_stmts<N: Drop, A: Drop>(stmts: Seq<Stmt<N, A>>) {
+    let mut rest = stmts.into_vec();
+    while let Some(s) = rest.pop() {
+        drop(s);
+    }
+    rest.destroy_empty();
 }

@@ -11,7 +11,6 @@ pub enum Kind {
 }
 
 /// A type. A structure is given by the number of its tag.
-#[derive(Drop)]
 pub enum CType {
     Int,
     Unsigned,
@@ -19,6 +18,20 @@ pub enum CType {
     Void,
     Struct(u32),
     Pointer(Kind, Boxed<CType>),
+}
+
+// Written out, so that an exit over which a type lives has one call.
+impl Drop for CType {
+    fn drop(self) {
+        match self {
+            CType::Int => {}
+            CType::Unsigned => {}
+            CType::Char => {}
+            CType::Void => {}
+            CType::Struct(_tag) => {}
+            CType::Pointer(_kind, to) => drop(to.into_inner()),
+        }
+    }
 }
 
 /// How many elements a member points to: `Fixed(c)` is `count(c)`, and `Named(m, c)` is `count(m + c)` for the

@@ -4,7 +4,7 @@ use Rattle.ckc_parser.proofs.Spelled.{skip}
 use Rattle.ckc_parser.proofs.kind.mark_kind.Goals as goal
 
 pub returns-in_default : goal.returns-in_default
-returns-in_default c = sym (
+returns-in_default c = c.operator_kind.ensures ∙ sym (
     skip _ (codes "(") _ _ c.in_default.not-text
     ∙ skip _ (codes ")") _ _ c.in_default.not-text-2
     ∙ skip _ (codes "{") _ _ c.in_default.not-text-3
@@ -19,21 +19,4 @@ returns-in_default c = sym (
     ∙ skip _ (codes "?") _ _ c.in_default.not-text-12
     ∙ skip _ (codes "=") _ _ c.in_default.not-text-13
     ∙ skip _ (codes ".") _ _ c.in_default.not-text-14
-    ∙ skip _ (codes "->") _ _ c.in_default.not-text-15
-    ∙ skip _ (codes "+") _ _ c.in_default.not-text-16
-    ∙ skip _ (codes "-") _ _ c.in_default.not-text-17
-    ∙ skip _ (codes "*") _ _ c.in_default.not-text-18
-    ∙ skip _ (codes "/") _ _ c.in_default.not-text-19
-    ∙ skip _ (codes "%") _ _ c.in_default.not-text-20
-    ∙ skip _ (codes "&") _ _ c.in_default.not-text-21
-    ∙ skip _ (codes "|") _ _ c.in_default.not-text-22
-    ∙ skip _ (codes "^") _ _ c.in_default.not-text-23
-    ∙ skip _ (codes "~") _ _ c.in_default.not-text-24
-    ∙ skip _ (codes "!") _ _ c.in_default.not-text-25
-    ∙ skip _ (codes "<<") _ _ c.in_default.not-text-26
-    ∙ skip _ (codes "<=") _ _ c.in_default.not-text-27
-    ∙ skip _ (codes ">=") _ _ c.in_default.not-text-28
-    ∙ skip _ (codes "==") _ _ c.in_default.not-text-29
-    ∙ skip _ (codes "!=") _ _ c.in_default.not-text-30
-    ∙ skip _ (codes "&&") _ _ c.in_default.not-text-31
-    ∙ skip _ (codes "||") _ _ c.in_default.not-text-32)
+    ∙ skip _ (codes "->") _ _ c.in_default.not-text-15)

@@ -4,18 +4,18 @@ use Rattle.ckc_resolve.proofs.Sequels.{begin, stops, turn_fault, turn_done, turn
 use Rattle.ckc_resolve.proofs.items.named_items.Goals as goal
 
 pub loop-item-init : goal.loop-item-init
-loop-item-init c = begin (items_named c.args.names.now c.args.items.now c.args.before.now) _ c.new-all.ensures
+loop-item-init c = begin (items_named c.args.names.now c.args.items.now c.args.items.now c.args.before.now) _ c.new-out.ensures
 
 pub returns-in_err-named : goal.returns-in_err-named
 returns-in_err-named c =
-    let f = item_in_turn c.args.names.now in
+    let f = item_in_turn c.args.names.now c.args.items.now in
     let p = err_from_is_err_and c.from_residual.result c.from_residual.ensures.1 in
-    stops (f c.item-item.result c.loop-item.before) _ (items_named c.args.names.now c.args.items.now c.args.before.now) _ c.from_residual.result p.0 c.in_err-named.field-0.0 p.1 p.2 c.in_err-named.ensures
+    stops (f c.item-item.result c.loop-item.before) _ (items_named c.args.names.now c.args.items.now c.args.items.now c.args.before.now) _ c.from_residual.result p.0 c.in_err-named.field-0.0 p.1 p.2 c.in_err-named.ensures
     (turn_fault f c.args.items.now c.loop-item.item-index c.loop-item.before _ _ c.loop-item.invariant c.item-item.result c.loop-item-test.true c.item-item.is)
 
 pub loop-item-preserved : goal.loop-item-preserved
 loop-item-preserved c =
-    turn_done (item_in_turn c.args.names.now) c.args.items.now c.loop-item.item-index c.loop-item.before _ _ c.loop-item.invariant c.item-item.result c.in_ok-named.named _ _ c.loop-item-test.true c.item-item.is c.in_ok-named.ensures c.in_ok-push.ensures.ok
+    turn_done (item_in_turn c.args.names.now c.args.items.now) c.args.items.now c.loop-item.item-index c.loop-item.before _ _ c.loop-item.invariant c.item-item.result c.in_ok-named.named _ _ c.loop-item-test.true c.item-item.is c.in_ok-named.ensures c.in_ok-push.ensures.ok
 
 pub returns : goal.returns
-returns c = turn_end (item_in_turn c.args.names.now) c.args.items.now c.loop-item.item-index _ _ _ c.loop-item.invariant c.loop-item-test.false
+returns c = turn_end (item_in_turn c.args.names.now c.args.items.now) c.args.items.now c.loop-item.item-index _ _ _ c.loop-item.invariant c.loop-item-test.false
