@@ -29,6 +29,3 @@ pub use laws::{one_answer, one_assembly, words_by_range};
 pub use lines::{Labelled, Line};
 pub use lister::list;
 pub use reader::read_asm;
-
-#[cfg(test)]
-mod tests;

@@ -12,6 +12,3 @@ mod observed;
 pub use laws::{events_since, input_is_taken, one_instruction, puts_ask_nothing};
 pub use machine::Machine;
 pub use observed::{FaultKind, Observed};
-
-#[cfg(test)]
-mod tests;

@@ -6,8 +6,6 @@ mod laws;
 pub use laws::one_tree;
 
 #[cfg(test)]
-mod commands;
-#[cfg(test)]
 mod naming;
 #[cfg(test)]
 mod parsing;

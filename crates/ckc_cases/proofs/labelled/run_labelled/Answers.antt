@@ -8,7 +8,7 @@ use Rattle.ckc_asm.specs.declared.lines.Line.{Line}
 use Rattle.ckc_asm.specs.declared.lines.Line.TheVariants.{Label, Plain, Jump, Branch, Far}
 use Rattle.ckc_asm.specs.Assembled.{CanAssemble, distance}
 use Rattle.ckc_asm.proofs.LabelPlaces.{address_is, stand_each}
-use Rattle.ckc_asm.proofs.tests.assembling.lines_and_words.Goals as goal
+use Rattle.ckc_cases.proofs.labelled.run_labelled.Goals as goal
 
 abbrev lines : List Line
 lines = Label 7 ∷ Jump 1 9 ∷ Branch Bne 5 6 7 ∷ Label 8 ∷ Label 9 ∷ Far 0 7 ∷ Far 1 10 ∷ Plain Ecall ∷ Label 10 ∷ []
@@ -38,7 +38,7 @@ can = record {
 }
 
 pub assemble-requires : goal.assemble-requires
-assemble-requires g c =
+assemble-requires c =
     let P : List Line → Type 0 = λ l. CanAssemble l 8 c.in_ok-from_slice-2.field-0 in
     let Q : List ℕ → Type 0 = λ d. CanAssemble lines 8 d in
     subst P (sym c.in_ok-from_slice.ensures) (subst Q (sym c.in_ok-from_slice-2.ensures) can)
