@@ -6,6 +6,7 @@ mod commands;
 mod labelled;
 mod machine;
 mod notation;
+mod pages;
 mod rows;
 mod statuses;
 mod why;
@@ -13,6 +14,7 @@ mod why;
 use commands::{message_of, run_case};
 use labelled::run_labelled;
 use machine::run_machine;
+use pages::Page;
 use rows::lines_of;
 use std::alloc::{AllocError, Global};
 use std::process::ExitCode;
@@ -22,7 +24,12 @@ fn main(rt: HostRuntime) -> io::Result<ExitCode> {
     let mut differ = run_code(&rt)?;
     for name in env::args(&rt)?.skip(1) {
         let text = fs::read_to_string(&rt, name.as_str())?;
-        differ = differ.saturating_add(run_file(&rt, name.as_str(), text.as_str())?);
+        let more = if name.ends_with(".md") {
+            run_page(&rt, name.as_str(), text.as_str())?
+        } else {
+            run_file(&rt, name.as_str(), text.as_str())?
+        };
+        differ = differ.saturating_add(more);
     }
     Ok(if differ == 0 {
         ExitCode::SUCCESS
@@ -43,6 +50,21 @@ fn run_code(rt: &(impl Print + AllocGlobal)) -> io::Result<u32> {
             Ok(0)
         }
     }
+}
+
+/// Does the programs of a page. How many differ.
+fn run_page(rt: &(impl Print + AllocGlobal), name: &str, text: &str) -> io::Result<u32> {
+    let mut page = Page::new(rt.alloc());
+    let mut differ = 0u32;
+    for line in text.lines() {
+        if let Some(message) = page.take(rt.alloc(), line)? {
+            differ = differ.saturating_add(1);
+            println!(rt; "{name}: {line}\n  {message}")?;
+        }
+    }
+    let count = page.count;
+    println!(rt; "{name}: {count} programs, {differ} differ")?;
+    Ok(differ)
 }
 
 /// A file under way: the case that is read, from its first line on, and the counts.
