@@ -6,8 +6,6 @@ mod digits;
 mod limits;
 mod literals;
 mod tally;
-#[cfg(test)]
-mod tests;
 mod tokens;
 mod tree;
 

@@ -7,9 +7,3 @@ pub use laws::one_tree;
 
 #[cfg(test)]
 mod commands;
-#[cfg(test)]
-mod naming;
-#[cfg(test)]
-mod parsing;
-#[cfg(test)]
-mod typing;
