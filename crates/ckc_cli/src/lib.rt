@@ -16,7 +16,7 @@ mod top;
 mod words;
 
 pub use ckc_machine::FaultKind;
-pub use laws::one_meaning;
+pub use laws::{one_meaning, one_tree};
 pub use line::Line;
 pub use reporting::report;
 pub use status::Status;

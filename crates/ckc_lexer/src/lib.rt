@@ -10,8 +10,6 @@ mod lexer;
 mod literals;
 mod marks;
 mod numbers;
-#[cfg(test)]
-mod tests;
 mod words;
 
 pub use laws::one_answer;

@@ -7,8 +7,6 @@ mod items;
 pub mod laws;
 mod raw;
 mod statements;
-#[cfg(test)]
-mod tests;
 mod text;
 
 pub use text::{ScopeFault, scopes};

@@ -9,8 +9,6 @@ mod literals;
 mod placeless;
 mod same;
 mod tally;
-#[cfg(test)]
-mod tests;
 mod tokens;
 mod tree;
 

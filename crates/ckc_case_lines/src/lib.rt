@@ -1,0 +1,15 @@
+//! Files of cases, for programs that try what a reader adds as text: a line is a case, its fields stand apart by bars,
+//! the last field is what is wanted. docs/phase-cases.md has the form of a line.
+#![tactic(auto)]
+
+mod expand;
+mod fault;
+mod files;
+mod reader;
+mod units;
+mod writing;
+
+pub use fault::CaseFault;
+pub use files::{Judge, run_files};
+pub use reader::{Case, Reader};
+pub use writing::written;

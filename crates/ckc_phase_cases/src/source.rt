@@ -1,0 +1,14 @@
+//! Tokens, types and trees as source text.
+mod expressions;
+mod names;
+mod objects;
+mod statements;
+mod tokens;
+mod types;
+
+pub use expressions::put_expr;
+pub use names::Written;
+pub use objects::put_objects;
+pub use statements::put_statement;
+pub use tokens::{put_place, put_tokens};
+pub use types::put_type;
