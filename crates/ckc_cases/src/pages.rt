@@ -20,6 +20,7 @@ pub struct Page {
 }
 
 impl Page {
+    /// A page of which nothing was read.
     pub fn new(alloc: Global) -> Page {
         Page {
             part: Part::Outside,
