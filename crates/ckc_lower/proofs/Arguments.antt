@@ -1,5 +1,5 @@
 -- Running the operations of the arguments of a call gives their values.
-use Rattle.std.proofs.Common.{◌≡◌, ℕ, ◌+◌, ◌≤◌, ◌<◌, List, [], ◌∷◌, ◌++◌, append_assoc, refl, sym, ◌∙◌, ap, subst, arith}
+use Rattle.std.proofs.Common.{length, ◌≡◌, ℕ, ◌+◌, ◌≤◌, ◌<◌, List, [], ◌∷◌, ◌++◌, append_assoc, refl, sym, ◌∙◌, ap, subst, arith}
 use Rattle.std.specs.Prelude.{Option, Some, None, option_and_then, All}
 use Rattle.std.specs.Option.{option_map}
 use Rattle.std.proofs.lemmas.List.Elements.{All-head, All-tail}
@@ -18,6 +18,11 @@ use Rattle.ckc_tac.specs.Operations.{values_in}
 use Rattle.ckc_tac.specs.Meaning.{Caller, tac_system}
 use Rattle.ckc_lower.specs.Built.{free_from, register_of, registers_of}
 use Rattle.ckc_lower.proofs.Values.{value_ops, free_more, register_below, and_then_some, map_some, Agree, at, computes}
+
+-- as many registers as expressions
+pub length-registers_of : (es : List Expr) (t : ℕ) → length (registers_of es t) ≡ length es
+length-registers_of [] t = refl
+length-registers_of (e ∷ es) t = let h : length (registers_of es (free_from e t)) ≡ length es = length-registers_of es (free_from e t) in omega arith
 
 -- the operations that compute several expressions
 abbrev pub values_ops : List Expr → ℕ → List TacOp

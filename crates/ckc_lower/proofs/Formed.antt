@@ -15,9 +15,10 @@ use Rattle.ckc_tac.specs.WellFormed as T
 use Rattle.ckc_lower.specs.declared.builder.Builder.{Builder}
 use Rattle.ckc_lower.specs.declared.builder.Targets.{Targets}
 use Rattle.ckc_lower.specs.Built.{free_from, target_of, register_of, registers_of, with_op, with_temporary, with_value, with_values, block_count, with_end, stored, used, forked, join_of, entered, step_at, targets_of, out_of, step_of, built}
+use Rattle.ckc_lower.proofs.Arguments.{length-registers_of}
 use Rattle.ckc_lower.specs.Lowered.{empty, whole, lowered_function, lowered}
 use Rattle.ckc_lower.proofs.Appending.{value-blocks, ended-length, built-length}
-use Rattle.ckc_lower.proofs.Registers.{value-more, values-more, built-more}
+use Rattle.ckc_lower.proofs.Registers.{temporary-more, value-more, values-more, built-more}
 
 some_blocks : (code : Code) → 1 ≤ block_count code
 some_blocks End = omega arith
@@ -33,10 +34,6 @@ some_blocks (Loop body step rest) = omega arith
 some_blocks (Break rest) = omega arith
 some_blocks (Continue rest) = omega arith
 some_blocks (Return e rest) = omega arith
-
-length-registers_of : (es : List Expr) (t : ℕ) → length (registers_of es t) ≡ length es
-length-registers_of [] t = refl
-length-registers_of (e ∷ es) t = let h : length (registers_of es (free_from e t)) ≡ length es = length-registers_of es (free_from e t) in omega arith
 
 module _ (functions : List Function) (t blocks regs : ℕ) (room : t ≤ regs) where
   abbrev lowered_all : List TacFunc
@@ -78,10 +75,6 @@ module _ (functions : List Function) (t blocks regs : ℕ) (room : t ≤ regs) w
   register_good (Bin o p q) want u b over w few = target_good want u (with_value q None (free_from p u) (with_value p None u b)) w few
   register_good (High s p q) want u b over w few = target_good want u (with_value q None (free_from p u) (with_value p None u b)) w few
 
-  temporary_more : (want : Option ℕ) (u : ℕ) (b : Builder) → b.regs ≤ (with_temporary want u b).regs
-  temporary_more (Some d) u b = omega arith
-  temporary_more None u b = omega arith
-
   good_value : (e : Expr) (want : Option ℕ) (u : ℕ) (b : Builder) → IsExprOver t e → IsWanted want → (with_value e want u b).regs ≤ regs → IsGood b → IsGood (with_value e want u b)
   good_value (Const n) want u b over w few g =
       good_op (with_temporary want u b) (op.Const (target_of want u) n) (good_temporary want u b g) (target_good want u b w few, over)
@@ -89,14 +82,14 @@ module _ (functions : List Function) (t blocks regs : ℕ) (room : t ≤ regs) w
   good_value (Local x) None u b over w few g = g
   good_value (Load width a) want u b over w few g =
       let c = with_value a None u b in
-      let here : c.regs ≤ regs = omega (arith, temporary_more want u c) in
+      let here : c.regs ≤ regs = omega (arith, temporary-more want u c) in
       good_op (with_temporary want u c) (op.Load width (target_of want u) (register_of a None u)) (good_temporary want u c (good_value a None u b over tt here g))
       (target_good want u c w few, register_good a None u b over tt here)
   good_value (Bin o p q) want u b over w few g =
       let v = free_from p u in
       let c = with_value p None u b in
       let d = with_value q None v c in
-      let second : d.regs ≤ regs = omega (arith, temporary_more want u d) in
+      let second : d.regs ≤ regs = omega (arith, temporary-more want u d) in
       let first : c.regs ≤ regs = omega (arith, value-more q None v c) in
       good_op (with_temporary want u d) (op.Bin o (target_of want u) (register_of p None u) (register_of q None v))
       (good_temporary want u d (good_value q None v c over.1 tt second (good_value p None u b over.0 tt first g)))
@@ -105,7 +98,7 @@ module _ (functions : List Function) (t blocks regs : ℕ) (room : t ≤ regs) w
       let v = free_from p u in
       let c = with_value p None u b in
       let d = with_value q None v c in
-      let second : d.regs ≤ regs = omega (arith, temporary_more want u d) in
+      let second : d.regs ≤ regs = omega (arith, temporary-more want u d) in
       let first : c.regs ≤ regs = omega (arith, value-more q None v c) in
       good_op (with_temporary want u d) (op.High s (target_of want u) (register_of p None u) (register_of q None v))
       (good_temporary want u d (good_value q None v c over.1 tt second (good_value p None u b over.0 tt first g)))

@@ -15,7 +15,7 @@ use Rattle.ckc_lower.specs.Lowered.{empty, lowered_function, lowered}
 
 -- ---- no register is given back
 
-temporary-more : (want : Option ℕ) (t : ℕ) (b : Builder) → b.regs ≤ (with_temporary want t b).regs
+pub temporary-more : (want : Option ℕ) (t : ℕ) (b : Builder) → b.regs ≤ (with_temporary want t b).regs
 temporary-more (Some d) t b = omega arith
 temporary-more None t b = omega arith
 

@@ -16,6 +16,7 @@ use Rattle.ckc_tac.specs.Sizes as T
 use Rattle.ckc_lower.specs.declared.builder.Builder.{Builder}
 use Rattle.ckc_lower.specs.declared.builder.Targets.{Targets}
 use Rattle.ckc_lower.specs.Built.{free_from, target_of, register_of, registers_of, with_op, with_temporary, with_value, with_values, block_count, with_end, stored, used, forked, join_of, entered, step_at, targets_of, out_of, step_of, built}
+use Rattle.ckc_lower.proofs.Arguments.{length-registers_of}
 use Rattle.ckc_lower.specs.Lowered.{empty, whole, lowered_function, lowered}
 
 -- the size of what a builder has
@@ -128,10 +129,6 @@ size-used t e o b =
     let first = size-value e None t b in
     let second = size-op (with_value e None t b) (o (register_of e None t)) in
     omega (arith, first, second)
-
-length-registers_of : (es : List Expr) (t : ℕ) → length (registers_of es t) ≡ length es
-length-registers_of [] t = refl
-length-registers_of (e ∷ es) t = let h : length (registers_of es (free_from e t)) ≡ length es = length-registers_of es (free_from e t) in omega arith
 
 -- what the end of the function adds to the jump that is counted for the end of a list
 abbrev fall_size : Option ℕ → ℕ

@@ -26,7 +26,7 @@ use Rattle.ckc_tac.specs.Meaning as T
 use Rattle.ckc_lower.specs.declared.builder.Targets.{Targets}
 use Rattle.ckc_lower.specs.Built.{free_from, register_of, registers_of, out_of, step_of}
 use Rattle.ckc_lower.proofs.Values.{value_ops, free_more, register_below, written_same, written_like, result_like, Agree, at, computes}
-use Rattle.ckc_lower.proofs.Arguments.{values_ops, computes_all}
+use Rattle.ckc_lower.proofs.Arguments.{length-registers_of, values_ops, computes_all}
 use Rattle.ckc_lower.proofs.Relation.{Leaves, loop_of, Runs, RunsAt, Continues, SameFrame, SameCallers, SameState, SameFunctions}
 
 same_count : (cs : List C.Caller) (ds : List T.Caller) → SameCallers cs ds → length cs ≡ length ds
@@ -34,10 +34,6 @@ same_count [] [] h = refl
 same_count [] (d ∷ ds) h = absurd h
 same_count (c ∷ cs) [] h = absurd h
 same_count (c ∷ cs) (d ∷ ds) h = let e : length cs ≡ length ds = same_count cs ds h.2 in omega arith
-
-length-registers_of : (es : List Expr) (t : ℕ) → length (registers_of es t) ≡ length es
-length-registers_of [] t = refl
-length-registers_of (e ∷ es) t = let h : length (registers_of es (free_from e t)) ≡ length es = length-registers_of es (free_from e t) in omega arith
 
 le_self : (n : ℕ) → n ≤ n
 le_self n = omega arith
