@@ -54,27 +54,42 @@ pub fn number(text: &str) -> Result<i64, Wrong> {
         Some(digits) => i64::from_str_radix(digits, 16),
         None => i64::from_str_radix(text, 10),
     };
-    read.map_err(|_| Wrong::Malformed)
+    match read {
+        Ok(n) => Ok(n),
+        Err(_) => Err(Wrong::Malformed),
+    }
 }
 
 /// A number below 2^8.
 pub fn byte(text: &str) -> Result<u8, Wrong> {
-    u8::try_from(number(text)?).map_err(|_| Wrong::Malformed)
+    match u8::try_from(number(text)?) {
+        Ok(n) => Ok(n),
+        Err(_) => Err(Wrong::Malformed),
+    }
 }
 
 /// A number below 2^32.
 pub fn word(text: &str) -> Result<u32, Wrong> {
-    u32::try_from(number(text)?).map_err(|_| Wrong::Malformed)
+    match u32::try_from(number(text)?) {
+        Ok(n) => Ok(n),
+        Err(_) => Err(Wrong::Malformed),
+    }
 }
 
 /// A number from 0 on.
 pub fn count(text: &str) -> Result<u64, Wrong> {
-    u64::try_from(number(text)?).map_err(|_| Wrong::Malformed)
+    match u64::try_from(number(text)?) {
+        Ok(n) => Ok(n),
+        Err(_) => Err(Wrong::Malformed),
+    }
 }
 
 /// A number from -2^31 to below 2^31.
 pub fn signed(text: &str) -> Result<i32, Wrong> {
-    i32::try_from(number(text)?).map_err(|_| Wrong::Malformed)
+    match i32::try_from(number(text)?) {
+        Ok(n) => Ok(n),
+        Err(_) => Err(Wrong::Malformed),
+    }
 }
 
 /// The bytes of a field of words that are pairs of hexadecimal digits.

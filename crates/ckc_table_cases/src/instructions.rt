@@ -53,15 +53,21 @@ fn with_operation(form: &str, op: &str, a: &str, b: &str, c: &str) -> Result<Ins
     let a = byte(a)?;
     let b = byte(b)?;
     let c = signed(c)?;
-    let i = match form {
-        "Branch" => branch_of(op).map(|op| Instr::Branch(op, a, b, c)),
-        "Load" => load_of(op).map(|op| Instr::Load(op, a, b, c)),
-        "Store" => store_of(op).map(|op| Instr::Store(op, a, b, c)),
-        "Imm" => imm_of(op).map(|op| Instr::Imm(op, a, b, c)),
+    match operation(form, op, a, b, c) {
+        Some(i) => Ok(i),
+        None => Err(Wrong::Malformed),
+    }
+}
+
+fn operation(form: &str, op: &str, a: u8, b: u8, c: i32) -> Option<Instr> {
+    match form {
+        "Branch" => Some(Instr::Branch(branch_of(op)?, a, b, c)),
+        "Load" => Some(Instr::Load(load_of(op)?, a, b, c)),
+        "Store" => Some(Instr::Store(store_of(op)?, a, b, c)),
+        "Imm" => Some(Instr::Imm(imm_of(op)?, a, b, c)),
         "Reg" => registers(op, a, b, c),
         _ => None,
-    };
-    i.ok_or(Wrong::Malformed)
+    }
 }
 
 fn registers(op: &str, a: u8, b: u8, c: i32) -> Option<Instr> {

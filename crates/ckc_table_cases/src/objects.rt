@@ -153,7 +153,10 @@ pub fn store_case(rt: &(impl Files + AllocGlobal), given: &[&str]) -> Answer {
 }
 
 fn remove(rt: &impl Files, name: &str) -> Result<(), Wrong> {
-    fs::remove_file(rt, name).map_err(|_| Wrong::Malformed)
+    match fs::remove_file(rt, name) {
+        Ok(()) => Ok(()),
+        Err(_) => Err(Wrong::Malformed),
+    }
 }
 
 fn do_step<S: Store>(
