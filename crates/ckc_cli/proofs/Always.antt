@@ -10,7 +10,8 @@ use Rattle.ckc_cli.specs.declared.status.Status.TheVariants as status
 use Rattle.ckc_cli.specs.Words.{Command, Build, Assemble, Exec, Run, Show, Reads}
 use Rattle.ckc_cli.specs.Commands.{name_of, BadBytes, Refuses, IsBad, Keeps, Lists, Executes}
 use Rattle.ckc_cli.specs.Running.{Seen, Ran, status_of}
-use Rattle.ckc_cli.specs.Causes.{Stored, Holds, StoreIsFine, Given}
+use Rattle.ckc_outside.specs.Outside.{Stored}
+use Rattle.ckc_cli.specs.Causes.{Holds, StoreIsFine, Given}
 use Rattle.ckc_cli.proofs.Exact.{phases_exact}
 use Rattle.ckc_cli.proofs.Assembling.{fault_once}
 use Rattle.ckc_cli.proofs.OneTask.{one_bad, not_Refuses_IsBad, not_Refuses_Keeps, not_Refuses_Lists, not_Refuses_Executes, not_IsBad_Keeps, not_IsBad_Lists, not_IsBad_Executes, not_Keeps_Lists, not_Keeps_Executes, not_Lists_Executes}

@@ -13,7 +13,8 @@ use Rattle.ckc_cli.specs.Source.{source}
 use Rattle.ckc_cli.specs.Words.{Command, Exec, Reads}
 use Rattle.ckc_cli.specs.Commands.{name_of, Built, Refuses, IsBad, Keeps, Lists, Executes}
 use Rattle.ckc_cli.specs.Running.{Seen, Ran, status_of}
-use Rattle.ckc_cli.specs.Causes.{Stored, Holds, StoreIsFine, Given, Over, IsShown, EndsAsMeant}
+use Rattle.ckc_outside.specs.Outside.{Stored}
+use Rattle.ckc_cli.specs.Causes.{Holds, StoreIsFine, Given, Over, IsShown, EndsAsMeant}
 use Rattle.ckc_cli.proofs.Exact.{phases_exact}
 use Rattle.ckc_cli.proofs.Wording.{reads_once}
 use Rattle.ckc_cli.proofs.Headline.{ran_ended, ran_no_fault, ran_in_time}

@@ -4,7 +4,8 @@ use Rattle.std.specs.FinMap as fin
 use Rattle.ckc_outside.specs.declared.traits.Fetched.{Fetched}
 use Rattle.ckc_outside.specs.declared.traits.Fetched.TheVariants.{Whole, Longer}
 use Rattle.ckc_outside.specs.Outside.{Files, GivesFile, IsWithin}
-use Rattle.ckc_cli.specs.Causes.{Stored, Holds}
+use Rattle.ckc_outside.specs.Outside.{Stored}
+use Rattle.ckc_cli.specs.Causes.{Holds}
 use Rattle.ckc_cli.specs.Fetching.{Fetches}
 
 -- there is a list of each length

@@ -16,7 +16,8 @@ use Rattle.ckc_cli.specs.declared.status.Status.TheVariants as status
 use Rattle.ckc_cli.specs.Words.{Command, Reads}
 use Rattle.ckc_cli.specs.Commands.{kept_name, AsksToKeep, Keeps}
 use Rattle.ckc_cli.specs.Running.{Seen}
-use Rattle.ckc_cli.specs.Causes.{Stored, Kept, KeepsOthers}
+use Rattle.ckc_outside.specs.Outside.{Stored}
+use Rattle.ckc_cli.specs.Causes.{Kept, Unkept, KeepsOthers}
 use Rattle.ckc_cli.proofs.Wording.{reads_once}
 use Rattle.ckc_cli.proofs.Statuses as by
 use Rattle.ckc_cli.proofs.Statuses.{by_usage, by_store, by_refusal, by_bad, by_keeping, by_not_keeping, by_memory, by_keeping_memory, by_listing, by_cut_listing, by_running}
@@ -39,7 +40,7 @@ others_same here name bytes other n =
 same_name : (a b : List ℕ) → Some a ≡ Some b → a ≡ b
 same_name a b e = cc
 
-module _ (words : List (List ℕ)) (old new : Seen) (before after : Stored) (quiet untaken unasked : Type 0) (same : unasked → after.files ≡ before.files) where
+module _ (words : List (List ℕ)) (old new : Seen) (before after : Stored) (quiet untaken unasked : Type 0) (same : unasked → Unkept before after) where
   abbrev Leaf : Status → Type 0
   Leaf s = by.Leaf words old new before after quiet untaken unasked s
 
@@ -51,30 +52,30 @@ module _ (words : List (List ℕ)) (old new : Seen) (before after : Stored) (qui
   not_asked command bytes name image k r none = none name (command, r, k.0)
 
   pub files_same : (s : Status) → Leaf s → KeepsNothing → after.files ≡ before.files
-  files_same s (by_usage none e a b k) n = same k
-  files_same s (by_store command r rose lacks e i) n = i.files
-  files_same s (by_refusal command r bytes h fault x e i) n = i.files
-  files_same s (by_bad command r bytes h k x e i) n = i.files
+  files_same s (by_usage none e a b k) n = (same k).files
+  files_same s (by_store command r rose lacks e i) n = i.unkept.files
+  files_same s (by_refusal command r bytes h fault x e i) n = i.unkept.files
+  files_same s (by_bad command r bytes h k x e i) n = i.unkept.files
   files_same s (by_keeping command r bytes h name image x e k a b) n = absurd (not_asked command bytes name image x r n)
   files_same s (by_not_keeping command r bytes h name image x e k rose t a b) n = absurd (not_asked command bytes name image x r n)
-  files_same s (by_memory command' r e a b f) n = f
+  files_same s (by_memory command' r e a b f) n = f.files
   files_same s (by_keeping_memory command r bytes h name image x e k a b) n = absurd (not_asked command bytes name image x r n)
-  files_same s (by_listing command r bytes h text x e p f b) n = f
-  files_same s (by_cut_listing command r bytes h text x e rose p f b) n = f
-  files_same s (by_running command r bytes h parts limit x o e ran f) n = f
+  files_same s (by_listing command r bytes h text x e p f b) n = f.files
+  files_same s (by_cut_listing command r bytes h text x e rose p f b) n = f.files
+  files_same s (by_running command r bytes h parts limit x o e ran f) n = f.files
 
   pub refused_keeps : (s : Status) → Leaf s → s ≢ status.Done → s ≢ status.StoreFault → s ≢ status.Memory → after.files ≡ before.files
-  refused_keeps s (by_usage none e a b k) d t m = same k
-  refused_keeps s (by_store command r rose lacks e i) d t m = i.files
-  refused_keeps s (by_refusal command r bytes h fault x e i) d t m = i.files
-  refused_keeps s (by_bad command r bytes h k x e i) d t m = i.files
+  refused_keeps s (by_usage none e a b k) d t m = (same k).files
+  refused_keeps s (by_store command r rose lacks e i) d t m = i.unkept.files
+  refused_keeps s (by_refusal command r bytes h fault x e i) d t m = i.unkept.files
+  refused_keeps s (by_bad command r bytes h k x e i) d t m = i.unkept.files
   refused_keeps s (by_keeping command r bytes h name image x e k a b) d t m = absurd (d e)
   refused_keeps s (by_not_keeping command r bytes h name image x e k rose w a b) d t m = absurd (t e)
-  refused_keeps s (by_memory command' r e a b f) d t m = f
+  refused_keeps s (by_memory command' r e a b f) d t m = f.files
   refused_keeps s (by_keeping_memory command r bytes h name image x e k a b) d t m = absurd (m e)
-  refused_keeps s (by_listing command r bytes h text x e p f b) d t m = f
-  refused_keeps s (by_cut_listing command r bytes h text x e rose p f b) d t m = f
-  refused_keeps s (by_running command r bytes h parts limit x o e ran f) d t m = f
+  refused_keeps s (by_listing command r bytes h text x e p f b) d t m = f.files
+  refused_keeps s (by_cut_listing command r bytes h text x e rose p f b) d t m = f.files
+  refused_keeps s (by_running command r bytes h parts limit x o e ran f) d t m = f.files
 
   unchanged : (image : List ℕ) → after.files ≡ before.files → KeepsOthers image before.files after.files
   unchanged image f = λ here told. (here, f ∙ told, λ other n. refl)
@@ -88,14 +89,14 @@ module _ (words : List (List ℕ)) (old new : Seen) (before after : Stored) (qui
       same_name name target (sym k.0 ∙ ap kept_name (reads_once words command asked.0 r asked.1) ∙ asked.2)
 
   pub others_kept : (s : Status) → Leaf s → (target : List ℕ) → AsksToKeep words target → KeepsOthers target before.files after.files
-  others_kept s (by_usage none e a b k) target w = unchanged target (same k)
-  others_kept s (by_store command r rose lacks e i) target w = unchanged target i.files
-  others_kept s (by_refusal command r bytes h fault x e i) target w = unchanged target i.files
-  others_kept s (by_bad command r bytes h k x e i) target w = unchanged target i.files
-  others_kept s (by_keeping command r bytes h name image x e k a b) target w = kept_one target name image (Ok tt) (target_is command bytes name image target x r w) k
-  others_kept s (by_not_keeping command r bytes h name image x e k rose t a b) target w = kept_one target name image (Err error.Failed) (target_is command bytes name image target x r w) k
-  others_kept s (by_memory command' r e a b f) target w = unchanged target f
-  others_kept s (by_keeping_memory command r bytes h name image x e k a b) target w = kept_one target name image (Err error.Memory) (target_is command bytes name image target x r w) k
-  others_kept s (by_listing command r bytes h text x e p f b) target w = unchanged target f
-  others_kept s (by_cut_listing command r bytes h text' x e rose p f b) target w = unchanged target f
-  others_kept s (by_running command r bytes h parts limit x o e ran f) target w = unchanged target f
+  others_kept s (by_usage none e a b k) target w = unchanged target (same k).files
+  others_kept s (by_store command r rose lacks e i) target w = unchanged target i.unkept.files
+  others_kept s (by_refusal command r bytes h fault x e i) target w = unchanged target i.unkept.files
+  others_kept s (by_bad command r bytes h k x e i) target w = unchanged target i.unkept.files
+  others_kept s (by_keeping command r bytes h name image x e k a b) target w = kept_one target name image (Ok tt) (target_is command bytes name image target x r w) k.files
+  others_kept s (by_not_keeping command r bytes h name image x e k rose t a b) target w = kept_one target name image (Err error.Failed) (target_is command bytes name image target x r w) k.files
+  others_kept s (by_memory command' r e a b f) target w = unchanged target f.files
+  others_kept s (by_keeping_memory command r bytes h name image x e k a b) target w = kept_one target name image (Err error.Memory) (target_is command bytes name image target x r w) k.files
+  others_kept s (by_listing command r bytes h text x e p f b) target w = unchanged target f.files
+  others_kept s (by_cut_listing command r bytes h text' x e rose p f b) target w = unchanged target f.files
+  others_kept s (by_running command r bytes h parts limit x o e ran f) target w = unchanged target f.files

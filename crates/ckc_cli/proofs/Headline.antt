@@ -47,7 +47,7 @@ plain m n = plain_from m.value n m.puts [] tt
 
 module _ (text : List ℕ) (parts : Parts) (built : Built text parts) where
   -- what the machine shows is borne out by the meaning
-  borne : (k : ℕ) → (n : ℕ) × IsBorneOut (source built.meaning n) (machine parts [] k)
+  pub borne : (k : ℕ) → (n : ℕ) × IsBorneOut (source built.meaning n) (machine parts [] k)
   borne k =
       let p = (built.follows [] tt).back k in
       (p.0, not_stuck p.0 p.1)

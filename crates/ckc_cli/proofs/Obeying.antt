@@ -1,8 +1,10 @@
 -- What comes of each command, from what its parts gave.
-use Rattle.std.proofs.Common.{◌≡◌, inl, inr, ℕ, ◌<◌, ◌≤◌, List, length, Ok, refl, sym, ap, subst, ◌∙◌, arith}
+use Rattle.std.proofs.Common.{◌≡◌, inl, inr, ℕ, ◌<◌, ◌≤◌, List, length, Some, Result, Ok, refl, sym, ap, subst, ◌∙◌, arith}
 use Rattle.ckc_outside.specs.declared.traits.Fetched.{Fetched}
 use Rattle.ckc_outside.specs.declared.traits.Fetched.TheVariants.{Whole, Longer}
-use Rattle.ckc_outside.specs.Outside.{Rose}
+use Rattle.ckc_outside.specs.declared.traits.StoreError as errors
+use Rattle.ckc_outside.specs.Outside as outside
+use Rattle.ckc_outside.specs.Outside.{Files, Rose, one_more, after_keep}
 use Rattle.ckc_rv.specs.Machine.{Parts}
 use Rattle.ckc_image.proofs.Agreement.{never_bad, same_parts}
 use Rattle.ckc_asm.specs.Listing.{listing}
@@ -16,7 +18,8 @@ use Rattle.ckc_cli.specs.Commands.{longest_image, IsImage, Built, Refuses}
 use Rattle.ckc_cli.specs.Running.{Seen, Ran, Ends, shows, Listed, OverImage, proper, bad}
 use Rattle.ckc_cli.specs.Running as running
 use Rattle.ckc_cli.specs.Causes as causes
-use Rattle.ckc_cli.specs.Causes.{Stored, Holds, Idle, Came, Obeyed}
+use Rattle.ckc_outside.specs.Outside.{Stored}
+use Rattle.ckc_cli.specs.Causes.{Holds, Unkept, KeptOnce, Idle, Came, Obeyed}
 use Rattle.ckc_cli.specs.Judging.{IfRefused, fault_status}
 use Rattle.ckc_cli.specs.Fetching.{Fetches}
 
@@ -45,27 +48,27 @@ module _ (old new : Seen) (before after : Stored) (quiet untaken : Type 0) (s : 
   faulted command bytes faults.Memory h e idle = causes.no_memory e idle
 
   pub exec_came : (text bytes image : List ℕ) (limit : ℕ) (parts : Parts) → Built bytes parts → IsImage image parts
-      → OverImage image (λ p. Ends p limit old new quiet untaken s) (quiet × untaken) s → after.files ≡ before.files → Came (Exec text limit) bytes old new before after quiet untaken s
+      → OverImage image (λ p. Ends p limit old new quiet untaken s) (quiet × untaken) s → Unkept before after → Came (Exec text limit) bytes old new before after quiet untaken s
   exec_came text bytes image limit parts built i (proper q j ends) f =
       causes.ran parts limit (refl, built) (subst (λ (p : Parts). Ends p limit old new quiet untaken s) (same_image image q parts j i) ends) f
   exec_came text bytes image limit parts built i (bad k first e idle) f = absurd (never_bad image parts.entry parts.code parts.initial i k first)
 
   pub run_came : (name bytes : List ℕ) (limit : ℕ) → length bytes ≤ longest_image
-      → OverImage bytes (λ p. Ends p limit old new quiet untaken s) (quiet × untaken) s → after.files ≡ before.files → Came (Run name limit) bytes old new before after quiet untaken s
+      → OverImage bytes (λ p. Ends p limit old new quiet untaken s) (quiet × untaken) s → Unkept before after → Came (Run name limit) bytes old new before after quiet untaken s
   run_came name bytes limit le (proper q j ends) f = causes.ran q limit (refl, j) ends f
-  run_came name bytes limit le (bad k first e idle) f = causes.bad_image k (inr (le, first)) e (record { files = f; put = idle.0; took = idle.1 })
+  run_came name bytes limit le (bad k first e idle) f = causes.bad_image k (inr (le, first)) e (record { unkept = f; put = idle.0; took = idle.1 })
 
   pub list_came : (name bytes : List ℕ) → length bytes ≤ longest_image → untaken
-      → OverImage bytes (λ p. Listed (listing p.entry p.code p.initial) old.written new.written old.write_faults new.write_faults s) quiet s → after.files ≡ before.files
+      → OverImage bytes (λ p. Listed (listing p.entry p.code p.initial) old.written new.written old.write_faults new.write_faults s) quiet s → Unkept before after
       → Came (Show name) bytes old new before after quiet untaken s
   list_came name bytes le took (proper q j l) f = causes.listed (listing q.entry q.code q.initial) (q, j, refl) l f took
-  list_came name bytes le took (bad k first e idle) f = causes.bad_image k (inr (le, first)) e (record { files = f; put = idle; took = took })
+  list_came name bytes le took (bad k first e idle) f = causes.bad_image k (inr (le, first)) e (record { unkept = f; put = idle; took = took })
 
 -- ---- what is told of the objects is narrowed
 
 module _ (old new : Seen) (before after : Stored) (quiet untaken quiet' untaken' : Type 0) (s : Status) (q : quiet → quiet') (u : untaken → untaken') where
   idle_as : Idle before after quiet untaken → Idle before after quiet' untaken'
-  idle_as i = record { files = i.files; put = q i.put; took = u i.took }
+  idle_as i = record { unkept = i.unkept; put = q i.put; took = u i.took }
 
   ends_as : (parts : Parts) (limit : ℕ) → Ends parts limit old new quiet untaken s → Ends parts limit old new quiet' untaken' s
   ends_as parts limit (shows o e r) = shows o e (record {
@@ -100,3 +103,17 @@ command_as old new before after quiet untaken s command given wanted e f o =
 pub rose_from : (a b c : ℕ) → a ≤ b → Rose b c → Rose a c
 rose_from a b c h (inl r) = inl (omega (arith, h, r))
 rose_from a b c h (inr r) = inr r
+
+-- what one call of keep leaves, where nothing was kept before it
+pub kept_once : (before middle after : Stored) (name bytes : List ℕ) (given result : Result (Unit {0}) errors.StoreError) → given ≡ result → Unkept before middle
+    → ((here : Files) → middle.files ≡ Some here → outside.Keeps here name bytes given after.files)
+    → after.keeps ≡ one_more middle.keeps → after.kept ≡ after_keep given middle.kept → KeptOnce before after name bytes result
+kept_once before middle after name bytes given result is u told once done = record {
+  files = λ here e. subst (λ (r : Result (Unit {0}) errors.StoreError). outside.Keeps here name bytes r after.files) is (told here (u.files ∙ e));
+  keeps = once ∙ ap one_more u.keeps;
+  kept = subst (λ (r : Result (Unit {0}) errors.StoreError). after.kept ≡ after_keep r before.kept) is (done ∙ ap (after_keep given) u.kept);
+}
+
+-- a store that is the same has kept nothing
+pub unkept_same : (before after : Stored) {same : Type 0} → (same → after ≡ before) → same → Unkept before after
+unkept_same before after {same} h e = record { files = ap (λ (s : Stored). s.files) (h e); keeps = ap (λ (s : Stored). s.keeps) (h e); kept = ap (λ (s : Stored). s.kept) (h e) }

@@ -14,7 +14,8 @@ use Rattle.ckc_cli.specs.Words.{Command, Reads}
 use Rattle.ckc_cli.specs.Commands.{name_of, Refuses, IsBad, Keeps, Lists, Executes}
 use Rattle.ckc_cli.specs.Running.{Seen, Ran, Ends, shows, Listed, whole, front, ListedFront, status_of, shows_run}
 use Rattle.ckc_cli.specs.Running as running
-use Rattle.ckc_cli.specs.Causes.{Stored, Holds, Kept, Idle, Came, Unfetched, Obeyed, Caused, Over, IsDone, IsShown, IsCutShort}
+use Rattle.ckc_outside.specs.Outside.{Stored}
+use Rattle.ckc_cli.specs.Causes.{Holds, Kept, Unkept, KeptOnce, Idle, Came, Unfetched, Obeyed, Caused, Over, IsDone, IsShown, IsCutShort}
 use Rattle.ckc_cli.specs.Causes as causes
 
 -- what was observed, of a status that shows it
@@ -72,20 +73,20 @@ module _ (words : List (List ℕ)) (old new : Seen) (before after : Stored) (qui
     by_bad : (command : Command) → Reads words command → (bytes : List ℕ) → Holds before.files (name_of command) bytes
         → (k : ℕ) → IsBad command bytes k → s ≡ status.BadImage k → IsIdle → Leaf s
     by_keeping : (command : Command) → Reads words command → (bytes : List ℕ) → Holds before.files (name_of command) bytes
-        → (name image : List ℕ) → Keeps command bytes name image → s ≡ status.Done → Kept before.files name image (Ok tt) after.files → quiet → untaken → Leaf s
+        → (name image : List ℕ) → Keeps command bytes name image → s ≡ status.Done → KeptOnce before after name image (Ok tt) → quiet → untaken → Leaf s
     by_not_keeping : (command : Command) → Reads words command → (bytes : List ℕ) → Holds before.files (name_of command) bytes
-        → (name image : List ℕ) → Keeps command bytes name image → s ≡ status.StoreFault → Kept before.files name image (Err error.Failed) after.files
+        → (name image : List ℕ) → Keeps command bytes name image → s ≡ status.StoreFault → KeptOnce before after name image (Err error.Failed)
         → Rose before.faults after.faults → ¬ IsTrue before.steady → quiet → untaken → Leaf s
-    by_memory : (command : Command) → Reads words command → s ≡ status.Memory → quiet → untaken → after.files ≡ before.files → Leaf s
+    by_memory : (command : Command) → Reads words command → s ≡ status.Memory → quiet → untaken → Unkept before after → Leaf s
     by_keeping_memory : (command : Command) → Reads words command → (bytes : List ℕ) → Holds before.files (name_of command) bytes
-        → (name image : List ℕ) → Keeps command bytes name image → s ≡ status.Memory → Kept before.files name image (Err error.Memory) after.files → quiet → untaken → Leaf s
+        → (name image : List ℕ) → Keeps command bytes name image → s ≡ status.Memory → KeptOnce before after name image (Err error.Memory) → quiet → untaken → Leaf s
     by_listing : (command : Command) → Reads words command → (bytes : List ℕ) → Holds before.files (name_of command) bytes
-        → (text : List ℕ) → Lists command bytes text → s ≡ status.Done → Printed old.written new.written text → after.files ≡ before.files → untaken → Leaf s
+        → (text : List ℕ) → Lists command bytes text → s ≡ status.Done → Printed old.written new.written text → Unkept before after → untaken → Leaf s
     by_cut_listing : (command : Command) → Reads words command → (bytes : List ℕ) → Holds before.files (name_of command) bytes
         → (text : List ℕ) → Lists command bytes text → s ≡ status.WriteFault → Rose old.write_faults new.write_faults → ListedFront old.written new.written text
-        → after.files ≡ before.files → untaken → Leaf s
+        → Unkept before after → untaken → Leaf s
     by_running : (command : Command) → Reads words command → (bytes : List ℕ) → Holds before.files (name_of command) bytes
-        → (parts : Parts) (limit : ℕ) → Executes command bytes parts limit → (o : Observed) → s ≡ status_of o → Ran parts limit old new untaken o → after.files ≡ before.files → Leaf s
+        → (parts : Parts) (limit : ℕ) → Executes command bytes parts limit → (o : Observed) → s ≡ status_of o → Ran parts limit old new untaken o → Unkept before after → Leaf s
 
   came_leaf : (s : Status) (command : Command) (bytes : List ℕ) → Reads words command → Holds before.files (name_of command) bytes → Came command bytes old new before after quiet untaken s → Leaf s
   came_leaf s command bytes r h (causes.refused fault x e i) = by_refusal command r bytes h fault x e i
@@ -97,12 +98,12 @@ module _ (words : List (List ℕ)) (old new : Seen) (before after : Stored) (qui
   came_leaf s command bytes r h (causes.listed text x (front e rose p) f b) = by_cut_listing command r bytes h text x e rose p f b
   came_leaf s command bytes r h (causes.ran parts limit x (shows o e ran) f) = by_running command r bytes h parts limit x o e ran f
   came_leaf s command bytes r h (causes.ran parts limit x (running.no_memory e a b) f) = by_memory command r e a b f
-  came_leaf s command bytes r h (causes.no_memory e i) = by_memory command r e i.put i.took i.files
+  came_leaf s command bytes r h (causes.no_memory e i) = by_memory command r e i.put i.took i.unkept
 
   pub leaf : (s : Status) → Caused words old new before after quiet untaken unasked s → Leaf s
   leaf s (causes.usage none e a b k) = by_usage none e a b k
   leaf s (causes.obeyed command r (causes.not_fetched (causes.failed e rose lacks) i)) = by_store command r rose lacks e i
-  leaf s (causes.obeyed command r (causes.not_fetched (causes.no_memory e) i)) = by_memory command r e i.put i.took i.files
+  leaf s (causes.obeyed command r (causes.not_fetched (causes.no_memory e) i)) = by_memory command r e i.put i.took i.unkept
   leaf s (causes.obeyed command r (causes.fetched bytes h c)) = came_leaf s command bytes r h c
 
   pub refused_by : (s : Status) → Leaf s → (wanted : Refusal) → s ≡ status.Refused wanted → Over words before.files (λ command bytes. Refuses command bytes wanted)
@@ -136,7 +137,7 @@ module _ (words : List (List ℕ)) (old new : Seen) (before after : Stored) (qui
   done_by s (by_store command r rose lacks e i) q = absurd (let z : status.StoreFault ≡ status.Done = sym e ∙ q in cc)
   done_by s (by_refusal command r bytes h fault x e i) q = absurd (let z : status.Refused fault ≡ status.Done = sym e ∙ q in cc)
   done_by s (by_bad command r bytes h k x e i) q = absurd (let z : status.BadImage k ≡ status.Done = sym e ∙ q in cc)
-  done_by s (by_keeping command r bytes h name image x e k a b) q = record { command = command; reads = r; bytes = bytes; holds = h; are = inl (name, image, x, k) }
+  done_by s (by_keeping command r bytes h name image x e k a b) q = record { command = command; reads = r; bytes = bytes; holds = h; are = inl (name, image, x, k.files) }
   done_by s (by_not_keeping command r bytes h name image x e k rose t a b) q = absurd (let z : status.StoreFault ≡ status.Done = sym e ∙ q in cc)
   done_by s (by_memory command r e a b f) q = absurd (let z : status.Memory ≡ status.Done = sym e ∙ q in cc)
   done_by s (by_keeping_memory command r bytes h name image x e k a b) q = absurd (let z : status.Memory ≡ status.Done = sym e ∙ q in cc)

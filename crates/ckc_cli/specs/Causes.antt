@@ -1,11 +1,11 @@
 -- When each status of the top call comes, and what it leaves.
-use Rattle.std.specs.Prelude.{◌≡◌, ◌≢◌, ◌⊎◌, ℕ, List, [], ◌∷◌, ◌++◌, take, Bool, IsTrue, Option, None, Some, Result, Ok, Err}
+use Rattle.std.specs.Prelude.{◌≡◌, ◌≢◌, ◌≤◌, ◌⊎◌, ℕ, List, [], ◌∷◌, ◌++◌, take, Bool, IsTrue, Option, None, Some, Result, Ok, Err}
 use Rattle.std.specs.FinMap as fin
 use Rattle.ckc_base.specs.declared.places.Refusal.{Refusal}
 use Rattle.ckc_outside.specs.declared.traits.StoreError as errors
 use Rattle.ckc_outside.specs.declared.traits.StoreError.TheVariants as error
 use Rattle.ckc_outside.specs.Outside as outside
-use Rattle.ckc_outside.specs.Outside.{Files, Rose, one_more}
+use Rattle.ckc_outside.specs.Outside.{Files, Stored, Rose, one_more, after_keep}
 use Rattle.ckc_rv.specs.Machine.{Parts}
 use Rattle.ckc_cli.specs.declared.status.Status.{Status}
 use Rattle.ckc_cli.specs.declared.status.Status.TheVariants as status
@@ -21,12 +21,6 @@ use Rattle.ckc_cli.specs.Commands.{name_of, Refuses, IsBad, Keeps, Lists, Execut
 
 -- ---- the objects
 
--- What is seen of the store: its files, where it tells them, whether it is steady, and how many faults there were.
-pub record Stored : Type 0 where
-  pub files : Option Files
-  pub steady : Bool
-  pub faults : ℕ
-
 -- The store tells these bytes under the name, or tells nothing.
 abbrev pub Holds : Option Files → List ℕ → List ℕ → Type 0
 Holds files name bytes = (here : Files) → files ≡ Some here → fin.get here name ≡ Some bytes
@@ -35,11 +29,29 @@ Holds files name bytes = (here : Files) → files ≡ Some here → fin.get here
 abbrev pub Kept : Option Files → List ℕ → List ℕ → Result (Unit {0}) errors.StoreError → Option Files → Type 0
 Kept files name bytes result files' = (here : Files) → files ≡ Some here → outside.Keeps here name bytes result files'
 
+-- nothing was kept
+pub record Unkept (before after : Stored) : Type 0 where
+  pub files : after.files ≡ before.files
+  pub keeps : after.keeps ≡ before.keeps
+  pub kept : after.kept ≡ before.kept
+
+-- Nothing was kept; faults may have come, and a steady store stays so.
+pub record OnlyFetched (before after : Stored) : Type 0 where
+  pub unkept : Unkept before after
+  pub faults : before.faults ≤ after.faults
+  pub steady : IsTrue before.steady → IsTrue after.steady
+
+-- the bytes were kept in one call, with this answer
+pub record KeptOnce (before after : Stored) (name bytes : List ℕ) (result : Result (Unit {0}) errors.StoreError) : Type 0 where
+  pub files : Kept before.files name bytes result after.files
+  pub keeps : after.keeps ≡ one_more before.keeps
+  pub kept : after.kept ≡ after_keep result before.kept
+
 -- ---- causes
 
 -- Nothing was kept, put or taken.
 pub record Idle (before after : Stored) (quiet untaken : Type 0) : Type 0 where
-  pub files : after.files ≡ before.files
+  pub unkept : Unkept before after
   pub put : quiet
   pub took : untaken
 
@@ -48,16 +60,16 @@ pub record Idle (before after : Stored) (quiet untaken : Type 0) : Type 0 where
 pub data Came (command : Command) (bytes : List ℕ) (old new : Seen) (before after : Stored) (quiet untaken : Type 0) (s : Status) : Type 0 where
   refused : (fault : Refusal) → Refuses command bytes fault → s ≡ status.Refused fault → Idle before after quiet untaken → Came command bytes old new before after quiet untaken s
   bad_image : (k : ℕ) → IsBad command bytes k → s ≡ status.BadImage k → Idle before after quiet untaken → Came command bytes old new before after quiet untaken s
-  kept : (name image : List ℕ) → Keeps command bytes name image → s ≡ status.Done → Kept before.files name image (Ok tt) after.files → quiet → untaken
+  kept : (name image : List ℕ) → Keeps command bytes name image → s ≡ status.Done → KeptOnce before after name image (Ok tt) → quiet → untaken
       → Came command bytes old new before after quiet untaken s
-  not_kept : (name image : List ℕ) → Keeps command bytes name image → s ≡ status.StoreFault → Kept before.files name image (Err error.Failed) after.files
+  not_kept : (name image : List ℕ) → Keeps command bytes name image → s ≡ status.StoreFault → KeptOnce before after name image (Err error.Failed)
       → Rose before.faults after.faults → ¬ IsTrue before.steady → quiet → untaken → Came command bytes old new before after quiet untaken s
-  not_kept_for_memory : (name image : List ℕ) → Keeps command bytes name image → s ≡ status.Memory → Kept before.files name image (Err error.Memory) after.files
+  not_kept_for_memory : (name image : List ℕ) → Keeps command bytes name image → s ≡ status.Memory → KeptOnce before after name image (Err error.Memory)
       → quiet → untaken → Came command bytes old new before after quiet untaken s
   listed : (text : List ℕ) → Lists command bytes text → Listed text old.written new.written old.write_faults new.write_faults s
-      → after.files ≡ before.files → untaken → Came command bytes old new before after quiet untaken s
+      → Unkept before after → untaken → Came command bytes old new before after quiet untaken s
   ran : (parts : Parts) (limit : ℕ) → Executes command bytes parts limit → Ends parts limit old new quiet untaken s
-      → after.files ≡ before.files → Came command bytes old new before after quiet untaken s
+      → Unkept before after → Came command bytes old new before after quiet untaken s
   no_memory : s ≡ status.Memory → Idle before after quiet untaken → Came command bytes old new before after quiet untaken s
 
 -- Nothing was fetched under the name: the store failed, or there was not enough memory.
@@ -87,6 +99,10 @@ pub record Over (words : List (List ℕ)) (files : Option Files) (Are : Command 
   pub bytes : List ℕ
   pub holds : Holds files (name_of command) bytes
   pub are : Are command bytes
+
+-- an image is kept under a name
+abbrev pub HasImage : Command → List ℕ → Type 0
+HasImage command bytes = (name : List ℕ) × (image : List ℕ) × Keeps command bytes name image
 
 -- an image was kept, or a listing put
 abbrev pub IsDone : Seen → Seen → Stored → Stored → Command → List ℕ → Type 0

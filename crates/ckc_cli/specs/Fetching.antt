@@ -3,7 +3,8 @@ use Rattle.std.specs.Prelude.{ℕ, ◌<◌, ◌≤◌, List, length, Result, Ok,
 use Rattle.ckc_outside.specs.declared.traits.Fetched.{Fetched}
 use Rattle.ckc_outside.specs.declared.traits.Fetched.TheVariants.{Whole, Longer}
 use Rattle.ckc_cli.specs.declared.status.Status.{Status}
-use Rattle.ckc_cli.specs.Causes.{Stored, Holds, Unfetched}
+use Rattle.ckc_outside.specs.Outside.{Stored}
+use Rattle.ckc_cli.specs.Causes.{Holds, Unfetched}
 
 -- the bytes under the name, or that there are more than the limit; or why there are none
 abbrev pub Fetches : List ℕ → ℕ → Stored → Stored → Result Fetched Status → Type 0

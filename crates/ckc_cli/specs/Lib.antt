@@ -11,3 +11,4 @@ pub mod Commands
 pub mod Running
 pub mod Causes
 pub mod Fetching
+pub mod Agreeing

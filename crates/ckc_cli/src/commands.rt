@@ -5,7 +5,8 @@ ghost use Rattle.ckc_cli.specs.Words as w;
 ghost use Rattle.ckc_cli.specs.Commanded.{command_is};
 ghost use Rattle.ckc_cli.specs.Commands.{longest_image, Keeps};
 ghost use Rattle.ckc_cli.specs.Running.{Seen};
-ghost use Rattle.ckc_cli.specs.Causes.{Stored, Came, Obeyed};
+ghost use Rattle.ckc_outside.specs.Outside.{Stored};
+ghost use Rattle.ckc_cli.specs.Causes.{OnlyFetched, Unkept, Came, Obeyed};
 ghost use Rattle.ckc_cli.specs.Judging.{fault_status};
 ghost use Rattle.ckc_cli.specs.Fetching.{Fetches};
 
@@ -36,12 +37,11 @@ pub fn obey<'a, S: Source, O: Sink, F: Store>(
     ensures cause { Obeyed (command_is command.entry)
         (record { left = S.left input.old; written = O.written out.old; read_faults = S.faults input.old; write_faults = O.faults out.old })
         (record { left = S.left input.new; written = O.written out.new; read_faults = S.faults input.new; write_faults = O.faults out.new })
-        (record { files = F.files store.old; steady = F.steady store.old; faults = F.faults store.old })
-        (record { files = F.files store.new; steady = F.steady store.new; faults = F.faults store.new })
+        (F.seen store.old) (F.seen store.new)
         (out.new ≡ out.old) (input.new ≡ input.old) result }
     ensures input_counts { S.faults input.old ≤ S.faults input.new }
     ensures out_counts { O.faults out.old ≤ O.faults out.new }
-    ensures store_counts { F.faults store.old ≤ F.faults store.new }
+    ensures store_counts { (F.seen store.old).faults ≤ (F.seen store.new).faults }
 {
     match command {
         Command::Build(text, image) => build_text(alloc, text, image, store),
@@ -55,10 +55,9 @@ pub fn obey<'a, S: Source, O: Sink, F: Store>(
 /// `build TEXT IMAGE`
 fn build_text<F: Store>(alloc: Global, text: &str, image: &str, store: &mut F) -> Status
     ensures cause { (seen : Seen) → Obeyed (w.Build text.now image.now) seen seen
-        (record { files = F.files store.old; steady = F.steady store.old; faults = F.faults store.old })
-        (record { files = F.files store.new; steady = F.steady store.new; faults = F.faults store.new })
+        (F.seen store.old) (F.seen store.new)
         (Unit {0}) (Unit {0}) result }
-    ensures counts { F.faults store.old ≤ F.faults store.new }
+    ensures counts { (F.seen store.old).faults ≤ (F.seen store.new).faults }
 {
     match fetch(alloc, text, TEXT_LIMIT, store) {
         Err(status) => status,
@@ -70,11 +69,11 @@ fn build_text<F: Store>(alloc: Global, text: &str, image: &str, store: &mut F) -
 /// Builds a text and keeps its image.
 fn build_bytes<F: Store>(alloc: Global, bytes: &[u8], image: &str, store: &mut F) -> Status
     requires { length bytes.now ≤ longest_text }
-    ensures cause { (text : List ℕ) (seen : Seen) (before : Stored) → before.files ≡ F.files store.old → before.faults ≤ F.faults store.old
-        → (IsTrue before.steady → IsTrue (F.steady store.old)) → Came (w.Build text image.now) bytes.now seen seen before
-        (record { files = F.files store.new; steady = F.steady store.new; faults = F.faults store.new })
+    ensures cause { (text : List ℕ) (seen : Seen) (before : Stored) → OnlyFetched before (F.seen store.old)
+        → Came (w.Build text image.now) bytes.now seen seen before
+        (F.seen store.new)
         (Unit {0}) (Unit {0}) result }
-    ensures counts { F.faults store.old ≤ F.faults store.new }
+    ensures counts { (F.seen store.old).faults ≤ (F.seen store.new).faults }
 {
     match build(alloc, bytes) {
         Err(fault) => status_of(fault),
@@ -85,10 +84,9 @@ fn build_bytes<F: Store>(alloc: Global, bytes: &[u8], image: &str, store: &mut F
 /// `asm TEXT IMAGE`
 fn assemble_text<F: Store>(alloc: Global, text: &str, image: &str, store: &mut F) -> Status
     ensures cause { (seen : Seen) → Obeyed (w.Assemble text.now image.now) seen seen
-        (record { files = F.files store.old; steady = F.steady store.old; faults = F.faults store.old })
-        (record { files = F.files store.new; steady = F.steady store.new; faults = F.faults store.new })
+        (F.seen store.old) (F.seen store.new)
         (Unit {0}) (Unit {0}) result }
-    ensures counts { F.faults store.old ≤ F.faults store.new }
+    ensures counts { (F.seen store.old).faults ≤ (F.seen store.new).faults }
 {
     match fetch(alloc, text, TEXT_LIMIT, store) {
         Err(status) => status,
@@ -99,11 +97,11 @@ fn assemble_text<F: Store>(alloc: Global, text: &str, image: &str, store: &mut F
 
 /// Assembles a text and keeps its image.
 fn assemble_bytes<F: Store>(alloc: Global, bytes: &[u8], image: &str, store: &mut F) -> Status
-    ensures cause { (text : List ℕ) (seen : Seen) (before : Stored) → before.files ≡ F.files store.old → before.faults ≤ F.faults store.old
-        → (IsTrue before.steady → IsTrue (F.steady store.old)) → Came (w.Assemble text image.now) bytes.now seen seen before
-        (record { files = F.files store.new; steady = F.steady store.new; faults = F.faults store.new })
+    ensures cause { (text : List ℕ) (seen : Seen) (before : Stored) → OnlyFetched before (F.seen store.old)
+        → Came (w.Assemble text image.now) bytes.now seen seen before
+        (F.seen store.new)
         (Unit {0}) (Unit {0}) result }
-    ensures counts { F.faults store.old ≤ F.faults store.new }
+    ensures counts { (F.seen store.old).faults ≤ (F.seen store.new).faults }
 {
     match assemble(alloc, bytes) {
         Err(fault) => status_of(fault),
@@ -114,11 +112,9 @@ fn assemble_bytes<F: Store>(alloc: Global, bytes: &[u8], image: &str, store: &mu
 /// Keeps an image under its name, last of all.
 fn keep_image<F: Store>(name: &str, image: &[u8], store: &mut F) -> Status
     ensures cause { (command : w.Command) (bytes : List ℕ) (seen : Seen) (before : Stored) → Keeps command bytes name.now image.now
-        → before.files ≡ F.files store.old → before.faults ≤ F.faults store.old → (IsTrue before.steady → IsTrue (F.steady store.old))
-        → Came command bytes seen seen before
-        (record { files = F.files store.new; steady = F.steady store.new; faults = F.faults store.new })
+        → OnlyFetched before (F.seen store.old) → Came command bytes seen seen before (F.seen store.new)
         (Unit {0}) (Unit {0}) result }
-    ensures counts { F.faults store.old ≤ F.faults store.new }
+    ensures counts { (F.seen store.old).faults ≤ (F.seen store.new).faults }
 {
     match store.keep(name, image) {
         Ok(()) => Status::Done,
@@ -139,12 +135,11 @@ fn exec_text<S: Source, O: Sink, F: Store>(
     ensures cause { Obeyed (w.Exec text.now limit)
         (record { left = S.left input.old; written = O.written out.old; read_faults = S.faults input.old; write_faults = O.faults out.old })
         (record { left = S.left input.new; written = O.written out.new; read_faults = S.faults input.new; write_faults = O.faults out.new })
-        (record { files = F.files store.old; steady = F.steady store.old; faults = F.faults store.old })
-        (record { files = F.files store.new; steady = F.steady store.new; faults = F.faults store.new })
+        (F.seen store.old) (F.seen store.new)
         (out.new ≡ out.old) (input.new ≡ input.old) result }
     ensures input_counts { S.faults input.old ≤ S.faults input.new }
     ensures out_counts { O.faults out.old ≤ O.faults out.new }
-    ensures store_counts { F.faults store.old ≤ F.faults store.new }
+    ensures store_counts { (F.seen store.old).faults ≤ (F.seen store.new).faults }
 {
     match fetch(alloc, text, TEXT_LIMIT, store) {
         Err(status) => status,
@@ -162,7 +157,7 @@ fn exec_bytes<S: Source, O: Sink>(
     out: &mut O,
 ) -> Status
     requires { length bytes.now ≤ longest_text }
-    ensures cause { (text : List ℕ) (before after : Stored) → after.files ≡ before.files → Came (w.Exec text limit) bytes.now
+    ensures cause { (text : List ℕ) (before after : Stored) → Unkept before after → Came (w.Exec text limit) bytes.now
         (record { left = S.left input.old; written = O.written out.old; read_faults = S.faults input.old; write_faults = O.faults out.old })
         (record { left = S.left input.new; written = O.written out.new; read_faults = S.faults input.new; write_faults = O.faults out.new })
         before after (out.new ≡ out.old) (input.new ≡ input.old) result }
@@ -187,12 +182,11 @@ fn run_image<S: Source, O: Sink, F: Store>(
     ensures cause { Obeyed (w.Run image.now limit)
         (record { left = S.left input.old; written = O.written out.old; read_faults = S.faults input.old; write_faults = O.faults out.old })
         (record { left = S.left input.new; written = O.written out.new; read_faults = S.faults input.new; write_faults = O.faults out.new })
-        (record { files = F.files store.old; steady = F.steady store.old; faults = F.faults store.old })
-        (record { files = F.files store.new; steady = F.steady store.new; faults = F.faults store.new })
+        (F.seen store.old) (F.seen store.new)
         (out.new ≡ out.old) (input.new ≡ input.old) result }
     ensures input_counts { S.faults input.old ≤ S.faults input.new }
     ensures out_counts { O.faults out.old ≤ O.faults out.new }
-    ensures store_counts { F.faults store.old ≤ F.faults store.new }
+    ensures store_counts { (F.seen store.old).faults ≤ (F.seen store.new).faults }
 {
     match fetch(alloc, image, IMAGE_LIMIT, store) {
         Err(status) => status,
@@ -206,11 +200,10 @@ fn list_image<O: Sink, F: Store>(alloc: Global, image: &str, out: &mut O, store:
     ensures cause { (left : Option (List ℕ)) (reads : ℕ) → Obeyed (w.Show image.now)
         (record { left = left; written = O.written out.old; read_faults = reads; write_faults = O.faults out.old })
         (record { left = left; written = O.written out.new; read_faults = reads; write_faults = O.faults out.new })
-        (record { files = F.files store.old; steady = F.steady store.old; faults = F.faults store.old })
-        (record { files = F.files store.new; steady = F.steady store.new; faults = F.faults store.new })
+        (F.seen store.old) (F.seen store.new)
         (out.new ≡ out.old) (Unit {0}) result }
     ensures out_counts { O.faults out.old ≤ O.faults out.new }
-    ensures store_counts { F.faults store.old ≤ F.faults store.new }
+    ensures store_counts { (F.seen store.old).faults ≤ (F.seen store.new).faults }
 {
     match fetch(alloc, image, IMAGE_LIMIT, store) {
         Err(status) => status,
@@ -241,11 +234,9 @@ fn status_of(fault: Fault) -> Status
 
 /// What the store has under a name.
 fn fetch<F: Store>(alloc: Global, name: &str, limit: u64, store: &mut F) -> Result<Fetched, Status>
-    ensures fetches { Fetches name.now limit (record { files = F.files store.old; steady = F.steady store.old; faults = F.faults store.old })
-        (record { files = F.files store.new; steady = F.steady store.new; faults = F.faults store.new }) result }
-    ensures files { F.files store.new ≡ F.files store.old }
-    ensures steady { IsTrue (F.steady store.old) → IsTrue (F.steady store.new) }
-    ensures counts { F.faults store.old ≤ F.faults store.new }
+    ensures fetches { Fetches name.now limit (F.seen store.old) (F.seen store.new) result }
+    ensures only { OnlyFetched (F.seen store.old) (F.seen store.new) }
+    ensures counts { (F.seen store.old).faults ≤ (F.seen store.new).faults }
 {
     match store.fetch(alloc, name, limit) {
         Ok(fetched) => Ok(fetched),

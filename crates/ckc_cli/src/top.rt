@@ -1,17 +1,20 @@
 ghost use Rattle.std.specs.Prelude.{◌≡◌, ◌≢◌, ◌⊎◌, ◌↔◌, ℕ, ◌+◌, ◌*◌, ◌≤◌, List, false, IsTrue};
 ghost use Rattle.ckc_base.specs.declared.places.Refusal.{Refusal};
-ghost use Rattle.ckc_base.specs.Traces.{Ended};
-ghost use Rattle.ckc_outside.specs.Outside.{Rose};
+ghost use Rattle.ckc_base.specs.declared.places.Pos.{Pos};
+ghost use Rattle.ckc_base.specs.declared.runtime_checks.Check.{Check};
+ghost use Rattle.ckc_base.specs.Traces.{Ended, Stopped, Stuck, output};
+ghost use Rattle.ckc_outside.specs.Outside.{Rose, one_more};
 ghost use Rattle.ckc_rv.specs.Machine.{Parts};
 ghost use Rattle.ckc_machine.specs.declared.observed.Observed.{Observed};
 ghost use Rattle.ckc_machine.specs.declared.observed.FaultKind.{FaultKind};
 ghost use Rattle.ckc_cli.specs.Accepted.{Meaning, Accepted};
 ghost use Rattle.ckc_cli.specs.Source.{source};
-ghost use Rattle.ckc_cli.specs.Words.{Command, Exec, Reads, bytes_of};
+ghost use Rattle.ckc_cli.specs.Words.{Command, Build, Exec, Show, Reads, bytes_of};
 ghost use Rattle.ckc_cli.specs.Commands.{Refuses, IsBad, Keeps, Lists, Executes, AsksToKeep};
 ghost use Rattle.ckc_cli.specs.Running.{Ran, status_of, shows_run};
+ghost use Rattle.ckc_cli.specs.Agreeing.{RanBuilt, PrintedFirst, StopsAsMeant, GoesAsMeant};
 ghost use Rattle.ckc_cli.specs.Report.{report_of};
-ghost use Rattle.ckc_cli.specs.Causes.{Caused, Over, Given, StoreIsFine, IsDone, IsShown, IsCutShort, EndsAsMeant, KeepsOthers, Reported, puts_after};
+ghost use Rattle.ckc_cli.specs.Causes.{Caused, Over, Given, StoreIsFine, HasImage, IsDone, IsShown, IsCutShort, EndsAsMeant, KeepsOthers, Reported, puts_after};
 
 use crate::commands::obey;
 use crate::reporting::report;
@@ -35,77 +38,124 @@ pub fn ccc<S: Source, O: Sink, E: Sink, F: Store>(
 
     // Refused comes only with the first fault of the fetched text, and always there, but for want of memory and a
     // fault of the store that matters.
-    ensures refused { (fault : Refusal) → result ≡ Status.Refused fault → Over (bytes_of words.now) (F.files store.old) (λ command bytes. Refuses command bytes fault) }
-    ensures refused_always { (command : Command) (bytes : List ℕ) (fault : Refusal) → Given (bytes_of words.now) (F.files store.old) command bytes
-        → StoreIsFine (record { files = F.files store.old; steady = F.steady store.old; faults = F.faults store.old })
-        (record { files = F.files store.new; steady = F.steady store.new; faults = F.faults store.new })
+    ensures refused { (fault : Refusal) → result ≡ Status.Refused fault → Over (bytes_of words.now) (F.seen store.old).files (λ command bytes. Refuses command bytes fault) }
+    ensures refused_always { (command : Command) (bytes : List ℕ) (fault : Refusal) → Given (bytes_of words.now) (F.seen store.old).files command bytes
+        → StoreIsFine (F.seen store.old) (F.seen store.new)
         → Refuses command bytes fault → (result ≡ Status.Refused fault) ⊎ (result ≡ Status.Memory) }
 
     // BadImage comes only with the first part of the fetched bytes that disagrees, and likewise always there.
-    ensures bad_image { (k : ℕ) → result ≡ Status.BadImage k → Over (bytes_of words.now) (F.files store.old) (λ command bytes. IsBad command bytes k) }
-    ensures bad_image_always { (command : Command) (bytes : List ℕ) (k : ℕ) → Given (bytes_of words.now) (F.files store.old) command bytes
-        → StoreIsFine (record { files = F.files store.old; steady = F.steady store.old; faults = F.faults store.old })
-        (record { files = F.files store.new; steady = F.steady store.new; faults = F.faults store.new })
+    ensures bad_image { (k : ℕ) → result ≡ Status.BadImage k → Over (bytes_of words.now) (F.seen store.old).files (λ command bytes. IsBad command bytes k) }
+    ensures bad_image_always { (command : Command) (bytes : List ℕ) (k : ℕ) → Given (bytes_of words.now) (F.seen store.old).files command bytes
+        → StoreIsFine (F.seen store.old) (F.seen store.new)
         → IsBad command bytes k → (result ≡ Status.BadImage k) ⊎ (result ≡ Status.Memory) }
 
     // Done comes only where an image was kept or a listing put, and likewise always there, but for a fault of the
     // output.
-    ensures done { result ≡ Status.Done → Over (bytes_of words.now) (F.files store.old) (IsDone
+    ensures done { result ≡ Status.Done → Over (bytes_of words.now) (F.seen store.old).files (IsDone
         (record { left = S.left input.old; written = O.written out.old; read_faults = S.faults input.old; write_faults = O.faults out.old })
         (record { left = S.left input.new; written = O.written out.new; read_faults = S.faults input.new; write_faults = O.faults out.new })
-        (record { files = F.files store.old; steady = F.steady store.old; faults = F.faults store.old })
-        (record { files = F.files store.new; steady = F.steady store.new; faults = F.faults store.new })) }
-    ensures kept_always { (command : Command) (bytes name image : List ℕ) → Given (bytes_of words.now) (F.files store.old) command bytes
-        → StoreIsFine (record { files = F.files store.old; steady = F.steady store.old; faults = F.faults store.old })
-        (record { files = F.files store.new; steady = F.steady store.new; faults = F.faults store.new })
+        (F.seen store.old) (F.seen store.new)) }
+    ensures kept_always { (command : Command) (bytes name image : List ℕ) → Given (bytes_of words.now) (F.seen store.old).files command bytes
+        → StoreIsFine (F.seen store.old) (F.seen store.new)
         → Keeps command bytes name image → (result ≡ Status.Done) ⊎ (result ≡ Status.Memory) }
-    ensures listed_always { (command : Command) (bytes text : List ℕ) → Given (bytes_of words.now) (F.files store.old) command bytes
-        → StoreIsFine (record { files = F.files store.old; steady = F.steady store.old; faults = F.faults store.old })
-        (record { files = F.files store.new; steady = F.steady store.new; faults = F.faults store.new })
+    ensures built_always { (source name text : List ℕ) (m : Meaning)
+        → Given (bytes_of words.now) (F.seen store.old).files (Build source name) text
+        → StoreIsFine (F.seen store.old) (F.seen store.new)
+        → Accepted text m → (result ≡ Status.Done) ⊎ (result ≡ Status.Memory) }
+    ensures listed_always { (command : Command) (bytes text : List ℕ) → Given (bytes_of words.now) (F.seen store.old).files command bytes
+        → StoreIsFine (F.seen store.old) (F.seen store.new)
         → Lists command bytes text → ¬ Rose (O.faults out.old) (O.faults out.new) → (result ≡ Status.Done) ⊎ (result ≡ Status.Memory) }
 
     // Ended, Stopped, Going, MachineFault and ReadFault come only as a run of an image shows them, and a run always
     // shows one of them, or WriteFault.
-    ensures shown { (o : Observed) → o ≢ Observed.WriteFault → result ≡ status_of o → Over (bytes_of words.now) (F.files store.old) (IsShown
+    ensures shown { (o : Observed) → o ≢ Observed.WriteFault → result ≡ status_of o → Over (bytes_of words.now) (F.seen store.old).files (IsShown
         (record { left = S.left input.old; written = O.written out.old; read_faults = S.faults input.old; write_faults = O.faults out.old })
         (record { left = S.left input.new; written = O.written out.new; read_faults = S.faults input.new; write_faults = O.faults out.new })
         (input.new ≡ input.old) o) }
-    ensures shown_always { (command : Command) (bytes : List ℕ) (parts : Parts) (limit : ℕ) → Given (bytes_of words.now) (F.files store.old) command bytes
-        → StoreIsFine (record { files = F.files store.old; steady = F.steady store.old; faults = F.faults store.old })
-        (record { files = F.files store.new; steady = F.steady store.new; faults = F.faults store.new })
+    ensures shown_always { (command : Command) (bytes : List ℕ) (parts : Parts) (limit : ℕ) → Given (bytes_of words.now) (F.seen store.old).files command bytes
+        → StoreIsFine (F.seen store.old) (F.seen store.new)
         → Executes command bytes parts limit → ((parts' : Parts) × (limit' : ℕ) × (o : Observed) × Executes command bytes parts' limit' × (result ≡ status_of o) × Ran parts' limit'
         (record { left = S.left input.old; written = O.written out.old; read_faults = S.faults input.old; write_faults = O.faults out.old })
         (record { left = S.left input.new; written = O.written out.new; read_faults = S.faults input.new; write_faults = O.faults out.new })
         (input.new ≡ input.old) o) ⊎ (result ≡ Status.Memory) }
 
+    // The machine of an image of an accepted text is run.
+    ensures run_always { (name text : List ℕ) (limit : ℕ) (m : Meaning)
+        → Given (bytes_of words.now) (F.seen store.old).files (Exec name limit) text
+        → StoreIsFine (F.seen store.old) (F.seen store.new) → Accepted text m → RanBuilt text limit
+        (record { left = S.left input.old; written = O.written out.old; read_faults = S.faults input.old; write_faults = O.faults out.old })
+        (record { left = S.left input.new; written = O.written out.new; read_faults = S.faults input.new; write_faults = O.faults out.new })
+        (input.new ≡ input.old) result ⊎ (result ≡ Status.Memory) }
+
     // The headline. `exec` ends only as the meaning of the accepted text does, with the bytes that it puts; it always
     // does so where the meaning ends in time; and it never shows a fault of the machine.
-    ensures exec_ended { (name : List ℕ) (limit value : ℕ) → Reads (bytes_of words.now) (Exec name limit) → result ≡ Status.Ended value → Over (bytes_of words.now) (F.files store.old)
+    ensures exec_ended { (name : List ℕ) (limit value : ℕ) → Reads (bytes_of words.now) (Exec name limit) → result ≡ Status.Ended value → Over (bytes_of words.now) (F.seen store.old).files
         (EndsAsMeant value (O.written out.old) (O.written out.new)) }
-    ensures exec_always { (name text : List ℕ) (limit n value : ℕ) (m : Meaning) → Given (bytes_of words.now) (F.files store.old) (Exec name limit) text
-        → StoreIsFine (record { files = F.files store.old; steady = F.steady store.old; faults = F.faults store.old })
-        (record { files = F.files store.new; steady = F.steady store.new; faults = F.faults store.new })
+    ensures exec_always { (name text : List ℕ) (limit n value : ℕ) (m : Meaning) → Given (bytes_of words.now) (F.seen store.old).files (Exec name limit) text
+        → StoreIsFine (F.seen store.old) (F.seen store.new)
         → Accepted text m → (source m n).standing ≡ Ended value → 4 * (n + 1) ≤ limit
         → ¬ Rose (S.faults input.old) (S.faults input.new) → ¬ Rose (O.faults out.old) (O.faults out.new) → (result ≡ Status.Ended value) ⊎ (result ≡ Status.Memory) }
+    // It stops at a check only as the meaning does, and always does so where the meaning stops in time.
+    ensures exec_stopped { (name : List ℕ) (limit : ℕ) (check : Check) (at : Pos)
+        → Reads (bytes_of words.now) (Exec name limit) → result ≡ Status.Stopped check at
+        → Over (bytes_of words.now) (F.seen store.old).files
+        (StopsAsMeant check at (O.written out.old) (O.written out.new)) }
+    ensures stopped_always { (name text : List ℕ) (limit n : ℕ) (m : Meaning) (check : Check) (at : Pos)
+        → Given (bytes_of words.now) (F.seen store.old).files (Exec name limit) text
+        → StoreIsFine (F.seen store.old) (F.seen store.new)
+        → Accepted text m → (source m n).standing ≡ Stopped check at → 4 * (n + 1) ≤ limit
+        → ¬ Rose (S.faults input.old) (S.faults input.new) → ¬ Rose (O.faults out.old) (O.faults out.new)
+        → (result ≡ Status.Stopped check at) ⊎ (result ≡ Status.Memory) }
+
+    // Where the limit is reached, the bytes that were put are a front of those that the meaning puts; and those that
+    // the meaning has put after n steps are a front of those that were put, where the limit suffices.
+    ensures exec_going { (name : List ℕ) (limit : ℕ)
+        → Reads (bytes_of words.now) (Exec name limit) → result ≡ Status.Going
+        → Over (bytes_of words.now) (F.seen store.old).files (GoesAsMeant (O.written out.old) (O.written out.new)) }
+    ensures put_always { (name text : List ℕ) (limit n : ℕ) (m : Meaning)
+        → Given (bytes_of words.now) (F.seen store.old).files (Exec name limit) text
+        → StoreIsFine (F.seen store.old) (F.seen store.new)
+        → Accepted text m → (source m n).standing ≢ Stuck → 4 * (n + 1) ≤ limit
+        → ¬ Rose (S.faults input.old) (S.faults input.new) → ¬ Rose (O.faults out.old) (O.faults out.new)
+        → PrintedFirst (O.written out.old) (O.written out.new) (output (source m n).trace)
+        ⊎ (result ≡ Status.Memory) }
     ensures exec_faultless { (name : List ℕ) (limit pc : ℕ) (kind : FaultKind) → Reads (bytes_of words.now) (Exec name limit) → result ≢ Status.MachineFault kind pc }
 
     // The faults of the objects come only where their counts rose.
     ensures read_fault { result ≡ Status.ReadFault → Rose (S.faults input.old) (S.faults input.new) }
-    ensures write_fault { result ≡ Status.WriteFault → Rose (O.faults out.old) (O.faults out.new) × Over (bytes_of words.now) (F.files store.old) (IsCutShort
+    ensures write_fault { result ≡ Status.WriteFault → Rose (O.faults out.old) (O.faults out.new) × Over (bytes_of words.now) (F.seen store.old).files (IsCutShort
         (record { left = S.left input.old; written = O.written out.old; read_faults = S.faults input.old; write_faults = O.faults out.old })
         (record { left = S.left input.new; written = O.written out.new; read_faults = S.faults input.new; write_faults = O.faults out.new })
         (input.new ≡ input.old)) }
-    ensures store_fault { result ≡ Status.StoreFault → Rose (F.faults store.old) (F.faults store.new) }
-    ensures steady { (command : Command) (bytes : List ℕ) → Given (bytes_of words.now) (F.files store.old) command bytes → IsTrue (F.steady store.old) → result ≢ Status.StoreFault }
+    ensures store_fault { result ≡ Status.StoreFault → Rose (F.seen store.old).faults (F.seen store.new).faults }
+    ensures steady { (command : Command) (bytes : List ℕ) → Given (bytes_of words.now) (F.seen store.old).files command bytes → IsTrue (F.seen store.old).steady → result ≢ Status.StoreFault }
 
     // What the call leaves.
     ensures idle { shows_run result ≡ false → result ≢ Status.Done → (out.new ≡ out.old) × (input.new ≡ input.old) }
-    ensures files { ((name : List ℕ) → ¬ AsksToKeep (bytes_of words.now) name) → F.files store.new ≡ F.files store.old }
-    ensures others { (name : List ℕ) → AsksToKeep (bytes_of words.now) name → KeepsOthers name (F.files store.old) (F.files store.new) }
-    ensures refused_keeps { result ≢ Status.Done → result ≢ Status.StoreFault → result ≢ Status.Memory → F.files store.new ≡ F.files store.old }
+    ensures files { ((name : List ℕ) → ¬ AsksToKeep (bytes_of words.now) name) → (F.seen store.new).files ≡ (F.seen store.old).files }
+    ensures others { (name : List ℕ) → AsksToKeep (bytes_of words.now) name → KeepsOthers name (F.seen store.old).files (F.seen store.new).files }
+    ensures refused_keeps { result ≢ Status.Done → result ≢ Status.StoreFault → result ≢ Status.Memory → (F.seen store.new).files ≡ (F.seen store.old).files }
+    // build and asm put nothing and take nothing, and list takes nothing.
+    ensures kept_quietly { (name : List ℕ) → AsksToKeep (bytes_of words.now) name → out.new ≡ out.old }
+    ensures kept_untaken { (name : List ℕ) → AsksToKeep (bytes_of words.now) name → input.new ≡ input.old }
+    ensures listed_untaken { (name : List ℕ) → Reads (bytes_of words.now) (Show name) → input.new ≡ input.old }
+
+    // At most one keep is made, of an image that the command is to keep, and none but for build and asm. Where none
+    // was made the files are as they were, whatever the status, and one is done only where the status is Done.
+    ensures keeps_once { ((F.seen store.new).keeps ≡ (F.seen store.old).keeps)
+        ⊎ ((F.seen store.new).keeps ≡ one_more (F.seen store.old).keeps) }
+    ensures keeps_images { (F.seen store.new).keeps ≢ (F.seen store.old).keeps
+        → Over (bytes_of words.now) (F.seen store.old).files HasImage }
+    ensures keeps_for_commands { ((name : List ℕ) → ¬ AsksToKeep (bytes_of words.now) name)
+        → (F.seen store.new).keeps ≡ (F.seen store.old).keeps }
+    ensures unkept_files { ¬ Rose (F.seen store.old).keeps (F.seen store.new).keeps
+        → (F.seen store.new).files ≡ (F.seen store.old).files }
+    ensures kept_done { result ≢ Status.Done → (F.seen store.new).kept ≡ (F.seen store.old).kept }
+
+    // Counts of faults do not fall.
     ensures input_counts { S.faults input.old ≤ S.faults input.new }
     ensures out_counts { O.faults out.old ≤ O.faults out.new }
-    ensures store_counts { F.faults store.old ≤ F.faults store.new }
+    ensures store_counts { (F.seen store.old).faults ≤ (F.seen store.new).faults }
 
     // The report of the status is put on err in one call; a fault of err changes no status.
     ensures report { Reported (report_of result) (E.written err.old) (E.written err.new) (Rose (E.faults err.old) (E.faults err.new)) }
@@ -141,12 +191,11 @@ fn asked<S: Source, O: Sink, F: Store>(
     ensures cause { Caused (bytes_of words.now)
         (record { left = S.left input.old; written = O.written out.old; read_faults = S.faults input.old; write_faults = O.faults out.old })
         (record { left = S.left input.new; written = O.written out.new; read_faults = S.faults input.new; write_faults = O.faults out.new })
-        (record { files = F.files store.old; steady = F.steady store.old; faults = F.faults store.old })
-        (record { files = F.files store.new; steady = F.steady store.new; faults = F.faults store.new })
+        (F.seen store.old) (F.seen store.new)
         (out.new ≡ out.old) (input.new ≡ input.old) (store.new ≡ store.old) result }
     ensures input_counts { S.faults input.old ≤ S.faults input.new }
     ensures out_counts { O.faults out.old ≤ O.faults out.new }
-    ensures store_counts { F.faults store.old ≤ F.faults store.new }
+    ensures store_counts { (F.seen store.old).faults ≤ (F.seen store.new).faults }
 {
     match command_of(words) {
         None => Status::Usage,

@@ -1,10 +1,14 @@
-use Rattle.std.specs.Prelude.{ℕ, List}
+use Rattle.std.specs.Prelude.{ℕ, List, Bool, ◌==◌, length}
 use Rattle.ckc_outside.specs.Memory.{Failing}
 use Rattle.ckc_outside.specs.declared.memory.source.MemSource.{MemSource}
 
 -- the bytes that are left
 abbrev pub left_of : MemSource → List ℕ
 left_of s = s.left.now
+
+-- whether no byte is left
+abbrev pub has_ended : MemSource → Bool
+has_ended s = length s.left.now == 0
 
 -- which calls fail, and the counts
 abbrev pub plan_of : MemSource → Failing

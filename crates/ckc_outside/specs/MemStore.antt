@@ -1,10 +1,10 @@
-use Rattle.std.specs.Prelude.{ℕ, List, Bool, ◌==◌, length, map, String, Vec, Result, Ok, Err, true, false}
+use Rattle.std.specs.Prelude.{ℕ, List, Bool, Some, ◌==◌, length, map, String, Vec, Result, Ok, Err, true, false}
 use Rattle.std.specs.BTreeMap.{BTreeMap}
 use Rattle.std.specs.FinMap as fin
 use Rattle.std.specs.String.{string_bytes}
 use Rattle.std.specs.declared.alloc.Global.{Global}
 use Rattle.ckc_outside.specs.Memory.{Failing}
-use Rattle.ckc_outside.specs.Outside.{Files}
+use Rattle.ckc_outside.specs.Outside.{Files, Stored}
 use Rattle.ckc_outside.specs.declared.traits.StoreError.{StoreError}
 use Rattle.ckc_outside.specs.declared.traits.StoreError.TheVariants.{Failed, Memory}
 use Rattle.ckc_outside.specs.declared.memory.store.MemStore.{MemStore}
@@ -28,6 +28,10 @@ plan_of s = record { listed = s.plan.fail.now; calls = s.plan.calls; faults = s.
 -- no call is listed
 abbrev pub is_steady : MemStore → Bool
 is_steady s = length s.plan.fail.now == 0
+
+-- what is seen of it
+abbrev pub seen_of : MemStore → Stored
+seen_of s = record { files = Some (files_of s); steady = is_steady s; faults = (plan_of s).faults; keeps = s.keeps; kept = s.kept }
 
 -- whether a call answered that the store failed
 abbrev pub has_failed : {T : Type 0} → Result T StoreError → Bool

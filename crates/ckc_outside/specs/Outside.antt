@@ -1,4 +1,4 @@
-use Rattle.std.specs.Prelude.{◌≡◌, ◌≢◌, ◌⊎◌, ℕ, ◌+◌, ◌-◌, ◌^◌, ◌<◌, ◌≤◌, min, List, ◌++◌, length, take, drop, slice_get, Option, Some, Result, Ok, Err}
+use Rattle.std.specs.Prelude.{◌≡◌, ◌≢◌, ◌⊎◌, ℕ, ◌+◌, ◌-◌, ◌^◌, ◌<◌, ◌≤◌, min, List, ◌++◌, length, take, drop, slice_get, Bool, Option, None, Some, Result, Ok, Err}
 use Rattle.std.specs.Ordering.{nat_cmp}
 use Rattle.std.specs.Cmp.Lexicographic.{slice_cmp}
 use Rattle.std.specs.FinMap as map
@@ -18,6 +18,21 @@ one_more n = min (n + 1) (2 ^ 64 - 1)
 -- a finite map from names to bytes, each a list of bytes
 abbrev pub Files : Type 0
 Files = map.FinMap (slice_cmp nat_cmp) (List ℕ)
+
+-- What is seen of a store: its files, where it tells them; whether it is steady; how many faults there were, how many
+-- calls of keep, and how many of these were done.
+pub record Stored : Type 0 where
+  pub files : Option Files
+  pub steady : Bool
+  pub faults : ℕ
+  pub keeps : ℕ
+  pub kept : ℕ
+
+-- next gave no byte: it answered that there is none, or failed
+abbrev pub GivesNothing : Result (Option ℕ) Failed → Type 0
+GivesNothing (Ok None) = Unit {0}
+GivesNothing (Ok (Some byte)) = ⊥
+GivesNothing (Err failed) = Unit {0}
 
 -- What next gives where bytes are left: the first, which is taken, or None exactly where there is none. After a
 -- failure they are still left.
@@ -48,3 +63,8 @@ abbrev pub Keeps : Files → List ℕ → List ℕ → Result (Unit {0}) errors.
 Keeps files name bytes (Ok done) after = after ≡ Some (map.insert files name bytes)
 Keeps files name bytes (Err e) after =
     (kept : Files) × (after ≡ Some kept) × ((other : List ℕ) → other ≢ name → map.get kept other ≡ map.get files other)
+
+-- a count of the calls of keep that were done, after one more call
+abbrev pub after_keep : Result (Unit {0}) errors.StoreError → ℕ → ℕ
+after_keep (Ok done) n = one_more n
+after_keep (Err e) n = n

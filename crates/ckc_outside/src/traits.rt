@@ -1,6 +1,6 @@
-ghost use Rattle.std.specs.Prelude.{◌≡◌, ◌≢◌, ℕ, ◌≤◌, List, Option, Some, None, Bool, IsTrue, OnErr, IsErrOf};
+ghost use Rattle.std.specs.Prelude.{◌≡◌, ◌≢◌, ℕ, ◌≤◌, List, Option, Ok, None, Some, Bool, IsTrue, OnErr, IsErrOf};
 ghost use Rattle.std.specs.FinMap as map;
-ghost use Rattle.ckc_outside.specs.Outside.{Rose, one_more, Files, GivesNext, Puts, IsWithin, GivesFile, Keeps};
+ghost use Rattle.ckc_outside.specs.Outside.{Rose, one_more, Files, Stored, GivesNext, GivesNothing, Puts, IsWithin, GivesFile, Keeps, after_keep};
 
 use ckc_base::Bytes;
 use std::alloc::Global;
@@ -35,11 +35,17 @@ pub trait Source {
     /// The bytes that are left, where they are told.
     ghost left: { Self → Option (List ℕ) };
 
+    /// Whether it said that there is no byte. It gives none from then on.
+    ghost ended: { Self → Bool };
+
     /// Takes the next byte, or says that there is none.
     fn next(&mut self) -> Result<Option<u8>, Failed>
         ensures counts { faults self.old ≤ faults self.new }
         ensures failed { OnErr result (Rose (faults self.old) (faults self.new)) }
-        ensures told { (bytes : List ℕ) → left self.old ≡ Some bytes → GivesNext bytes result (left self.new) };
+        ensures told { (bytes : List ℕ) → left self.old ≡ Some bytes → GivesNext bytes result (left self.new) }
+        ensures end { result ≡ Ok None → IsTrue (ended self.new) }
+        ensures stays { IsTrue (ended self.old) → IsTrue (ended self.new) }
+        ensures nothing { IsTrue (ended self.old) → GivesNothing result };
 }
 
 /// A sink of output bytes.
@@ -63,30 +69,30 @@ pub trait Sink {
 
 /// A store of named files.
 pub trait Store {
-    /// How many faults there were. The count stands still at 2^64 - 1.
-    ghost faults: { Self → ℕ };
-
-    /// The files by name, where they are told.
-    ghost files: { Self → Option Files };
-
-    /// Whether the store is steady: it stays so, never fails to keep, and fails to fetch only a name that it lacks.
-    ghost steady: { Self → Bool };
+    /// What is seen of it. It may tell its files by name. Where it is steady it stays so, never fails to keep, and
+    /// fails to fetch only a name that it lacks. The counts of the faults, of the calls of `keep` and of those that
+    /// were done stand still at 2^64 - 1.
+    ghost seen: { Self → Stored };
 
     /// The bytes under a name, where they are at most `limit` many. A missing name is a fault.
     fn fetch(&mut self, alloc: Global, name: &str, limit: u64) -> Result<Fetched, StoreError>
-        ensures counts { faults self.old ≤ faults self.new }
-        ensures failed { IsErrOf result StoreError.Failed → Rose (faults self.old) (faults self.new) }
+        ensures counts { (seen self.old).faults ≤ (seen self.new).faults }
+        ensures failed { IsErrOf result StoreError.Failed → Rose (seen self.old).faults (seen self.new).faults }
         ensures within { IsWithin limit result }
-        ensures unchanged { files self.new ≡ files self.old }
-        ensures told { (here : Files) → files self.old ≡ Some here → GivesFile (map.get here name.now) limit result }
-        ensures steady { IsTrue (steady self.old) → IsTrue (steady self.new) }
-        ensures lacks { (here : Files) → IsTrue (steady self.old) → files self.old ≡ Some here
-            → IsErrOf result StoreError.Failed → map.get here name.now ≡ None };
+        ensures unchanged { (seen self.new).files ≡ (seen self.old).files }
+        ensures told { (here : Files) → (seen self.old).files ≡ Some here → GivesFile (map.get here name.now) limit result }
+        ensures steady { IsTrue (seen self.old).steady → IsTrue (seen self.new).steady }
+        ensures lacks { (here : Files) → IsTrue (seen self.old).steady → (seen self.old).files ≡ Some here
+            → IsErrOf result StoreError.Failed → map.get here name.now ≡ None }
+        ensures unkept { (seen self.new).keeps ≡ (seen self.old).keeps }
+        ensures undone { (seen self.new).kept ≡ (seen self.old).kept };
 
     /// Puts bytes under a name, in place of what was there. After an `Err` that name may hold anything.
     fn keep(&mut self, name: &str, bytes: &[u8]) -> Result<(), StoreError>
-        ensures counts { faults self.old ≤ faults self.new }
-        ensures failed { IsErrOf result StoreError.Failed → Rose (faults self.old) (faults self.new) }
-        ensures told { (here : Files) → files self.old ≡ Some here → Keeps here name.now bytes.now result (files self.new) }
-        ensures steady { IsTrue (steady self.old) → IsTrue (steady self.new) × (result ≢ Err StoreError.Failed) };
+        ensures counts { (seen self.old).faults ≤ (seen self.new).faults }
+        ensures failed { IsErrOf result StoreError.Failed → Rose (seen self.old).faults (seen self.new).faults }
+        ensures told { (here : Files) → (seen self.old).files ≡ Some here → Keeps here name.now bytes.now result (seen self.new).files }
+        ensures steady { IsTrue (seen self.old).steady → IsTrue (seen self.new).steady × (result ≢ Err StoreError.Failed) }
+        ensures once { (seen self.new).keeps ≡ one_more (seen self.old).keeps }
+        ensures done { (seen self.new).kept ≡ after_keep result (seen self.old).kept };
 }

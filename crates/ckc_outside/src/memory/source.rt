@@ -1,7 +1,7 @@
-ghost use Rattle.std.specs.Prelude.{◌≡◌, ℕ, ◌≤◌, List, Option, Some, OnErr, is_err};
-ghost use Rattle.ckc_outside.specs.Outside.{Rose, GivesNext};
+ghost use Rattle.std.specs.Prelude.{◌≡◌, ℕ, ◌≤◌, List, Option, Some, None, Ok, IsTrue, OnErr, is_err};
+ghost use Rattle.ckc_outside.specs.Outside.{Rose, GivesNext, GivesNothing};
 ghost use Rattle.ckc_outside.specs.Memory.{is_listed, after_call};
-ghost use Rattle.ckc_outside.specs.MemSource.{left_of, plan_of};
+ghost use Rattle.ckc_outside.specs.MemSource.{left_of, has_ended, plan_of};
 
 use super::plan::Plan;
 use crate::traits::{Failed, Source};
@@ -33,10 +33,15 @@ impl<'a> Source for MemSource<'a> {
 
     ghost left = { λ s. Some (left_of s) };
 
+    ghost ended = { has_ended };
+
     fn next(&mut self) -> Result<Option<u8>, Failed>
         ensures counts { (plan_of self.old).faults ≤ (plan_of self.new).faults }
         ensures failed { OnErr result (Rose (plan_of self.old).faults (plan_of self.new).faults) }
         ensures told { (bytes : List ℕ) → Some (left_of self.old) ≡ Some bytes → GivesNext bytes result (Some (left_of self.new)) }
+        ensures end { result ≡ Ok None → IsTrue (has_ended self.new) }
+        ensures stays { IsTrue (has_ended self.old) → IsTrue (has_ended self.new) }
+        ensures nothing { IsTrue (has_ended self.old) → GivesNothing result }
         // A call fails exactly where it is listed, and then the count of faults goes up by one.
         ensures fails { is_err result ≡ is_listed (plan_of self.old).listed (plan_of self.old).calls }
         ensures plan { plan_of self.new ≡ after_call (plan_of self.old) (is_err result) }

@@ -1,9 +1,9 @@
 ghost use Rattle.std.specs.Prelude.{◌≡◌, ◌≢◌, ℕ, ◌≤◌, List, Option, Some, None, Bool, IsTrue, OnOk, OnErr, IsErrOf, Err, is_none, ◌||◌};
 ghost use Rattle.std.specs.FinMap as map;
 ghost use Rattle.std.specs.Option.{option_copied};
-ghost use Rattle.ckc_outside.specs.Outside.{Rose, Files, IsWithin, GivesFile, Keeps};
+ghost use Rattle.ckc_outside.specs.Outside.{Rose, one_more, Files, IsWithin, GivesFile, Keeps, after_keep};
 ghost use Rattle.ckc_outside.specs.Memory.{is_listed, after_call};
-ghost use Rattle.ckc_outside.specs.MemStore.{files_of, files_in, plan_of, is_steady, has_failed};
+ghost use Rattle.ckc_outside.specs.MemStore.{files_of, files_in, plan_of, is_steady, seen_of, has_failed};
 
 use super::plan::Plan;
 use crate::traits::{Fetched, Store, StoreError};
@@ -17,6 +17,8 @@ pub struct MemStore<'a> {
     alloc: Global,
     files: BTreeMap<String, Vec<u8>>,
     plan: Plan<'a>,
+    keeps: u64,
+    kept: u64,
 }
 
 impl<'a> MemStore<'a> {
@@ -26,11 +28,15 @@ impl<'a> MemStore<'a> {
         ensures listed { (plan_of result).listed ≡ fail.now }
         ensures calls { (plan_of result).calls ≡ 0 }
         ensures faults { (plan_of result).faults ≡ 0 }
+        ensures keeps { (seen_of result).keeps ≡ 0 }
+        ensures kept { (seen_of result).kept ≡ 0 }
     {
         MemStore {
             alloc,
             files: BTreeMap::new(alloc),
             plan: Plan::new(fail),
+            keeps: 0,
+            kept: 0,
         }
     }
 
@@ -39,6 +45,8 @@ impl<'a> MemStore<'a> {
         ensures ok { OnOk result (files_of self.new ≡ map.insert (files_of self.old) name.now bytes.now) }
         ensures err { OnErr result (files_of self.new ≡ files_of self.old) }
         ensures plan { plan_of self.new ≡ plan_of self.old }
+        ensures keeps { (seen_of self.new).keeps ≡ (seen_of self.old).keeps }
+        ensures kept { (seen_of self.new).kept ≡ (seen_of self.old).kept }
     {
         let key = String::from_str(self.alloc, name)?;
         let bytes = Vec::from_slice(self.alloc, bytes)?;
@@ -48,11 +56,7 @@ impl<'a> MemStore<'a> {
 }
 
 impl<'a> Store for MemStore<'a> {
-    ghost faults = { λ s. (plan_of s).faults };
-
-    ghost files = { λ s. Some (files_of s) };
-
-    ghost steady = { is_steady };
+    ghost seen = { seen_of };
 
     fn fetch(&mut self, alloc: Global, name: &str, limit: u64) -> Result<Fetched, StoreError>
         ensures counts { (plan_of self.old).faults ≤ (plan_of self.new).faults }
@@ -63,6 +67,8 @@ impl<'a> Store for MemStore<'a> {
         ensures steady { IsTrue (is_steady self.old) → IsTrue (is_steady self.new) }
         ensures lacks { (here : Files) → IsTrue (is_steady self.old) → Some (files_of self.old) ≡ Some here
             → IsErrOf result StoreError.Failed → map.get here name.now ≡ None }
+        ensures unkept { (seen_of self.new).keeps ≡ (seen_of self.old).keeps }
+        ensures undone { (seen_of self.new).kept ≡ (seen_of self.old).kept }
         // A call fails exactly where it is listed or the name is missing, and then the count of faults goes up by
         // one.
         ensures fails { has_failed result
@@ -91,17 +97,23 @@ impl<'a> Store for MemStore<'a> {
         ensures told { (here : Files) → Some (files_of self.old) ≡ Some here
             → Keeps here name.now bytes.now result (Some (files_of self.new)) }
         ensures steady { IsTrue (is_steady self.old) → IsTrue (is_steady self.new) × (result ≢ Err StoreError.Failed) }
+        ensures once { (seen_of self.new).keeps ≡ one_more (seen_of self.old).keeps }
+        ensures done { (seen_of self.new).kept ≡ after_keep result (seen_of self.old).kept }
         // A call fails exactly where it is listed, and then the count of faults goes up by one. Any `Err` changes
         // nothing here.
         ensures fails { has_failed result ≡ is_listed (plan_of self.old).listed (plan_of self.old).calls }
         ensures plan { plan_of self.new ≡ after_call (plan_of self.old) (has_failed result) }
         ensures err { OnErr result (files_of self.new ≡ files_of self.old) }
     {
+        self.keeps = self.keeps.saturating_add(1);
         if self.plan.fails() {
             return Err(StoreError::Failed);
         }
         match self.set(name, bytes) {
-            Ok(()) => Ok(()),
+            Ok(()) => {
+                self.kept = self.kept.saturating_add(1);
+                Ok(())
+            }
             Err(_) => Err(StoreError::Memory),
         }
     }

@@ -1,5 +1,6 @@
-ghost use Rattle.std.specs.Prelude.{◌≡◌, None};
+ghost use Rattle.std.specs.Prelude.{◌≡◌, ◌≤◌, None, IfOk, length};
 
+use super::source::TRIES;
 use crate::traits::{Failed, Sink};
 use std::io::{ErrorKind, Write};
 
@@ -44,17 +45,32 @@ impl<W: Write> Sink for RealSink<W> {
     }
 }
 
-/// Writes all of a piece and flushes it. A write that takes no byte is a failure; one that was interrupted is begun
-/// again.
+/// Writes all of a piece and flushes it. A write that takes no byte is a failure.
 pub fn write_whole<W: Write>(writer: &mut W, piece: &[u8]) -> Result<(), Failed> {
     let mut rest = piece;
-    for _ in 0..u64::MAX {
+    for _ in 0..piece.len() {
         if rest.is_empty() {
-            return flush(writer);
+            break;
         }
-        match writer.write(rest) {
-            Ok(0) => return Err(Failed),
-            Ok(count) => rest = &rest[count..],
+        let count = write_some(writer, rest)?;
+        if count == 0 {
+            return Err(Failed);
+        }
+        rest = &rest[count..];
+    }
+    if !rest.is_empty() {
+        return Err(Failed);
+    }
+    flush(writer)
+}
+
+/// One write, begun again where it was interrupted. One that is interrupted each time is a failure.
+fn write_some<W: Write>(writer: &mut W, bytes: &[u8]) -> Result<usize, Failed>
+    ensures { IfOk result (λ count. count ≤ length bytes.now) }
+{
+    for _ in 0..TRIES {
+        match writer.write(bytes) {
+            Ok(count) => return Ok(count),
             Err(e) => {
                 if e.kind() != ErrorKind::Interrupted {
                     return Err(Failed);
@@ -65,8 +81,9 @@ pub fn write_whole<W: Write>(writer: &mut W, piece: &[u8]) -> Result<(), Failed>
     Err(Failed)
 }
 
+/// One flush, begun again likewise.
 fn flush<W: Write>(writer: &mut W) -> Result<(), Failed> {
-    for _ in 0..u64::MAX {
+    for _ in 0..TRIES {
         match writer.flush() {
             Ok(()) => return Ok(()),
             Err(e) => {

@@ -5,13 +5,15 @@ use std::io::{ErrorKind, Read};
 
 const ROOM: usize = 4096;
 
-/// The bytes of a reader, as standard input. A read that gives no byte is the end.
+/// The bytes of a reader, as standard input. A read that gives no byte is the end, also where more could be read
+/// later, as at a terminal.
 #[derive(Drop)]
 pub struct RealSource<R> {
     reader: R,
     room: [u8; 4096],
     from: usize,
     to: usize,
+    ended: bool,
     faults: u64,
     ghost in_order: { from ≤ to },
     ghost within: { to ≤ 4096 },
@@ -27,6 +29,7 @@ impl<R: Read + Drop> RealSource<R> {
             room: [0; ROOM],
             from: 0,
             to: 0,
+            ended: false,
             faults: 0,
         }
     }
@@ -37,10 +40,18 @@ impl<R: Read> Source for RealSource<R> {
 
     ghost left = { λ _. None };
 
+    ghost ended = { λ s. s.ended };
+
     fn next(&mut self) -> Result<Option<u8>, Failed> {
+        if self.ended {
+            return Ok(None);
+        }
         if self.from == self.to {
             match read_some(&mut self.reader, &mut self.room) {
-                Ok(0) => return Ok(None),
+                Ok(0) => {
+                    self.ended = true;
+                    return Ok(None);
+                }
                 Ok(count) => {
                     self.from = 0;
                     self.to = count;
@@ -57,11 +68,14 @@ impl<R: Read> Source for RealSource<R> {
     }
 }
 
-/// One read, begun again where it was interrupted.
+/// How many times a call is made that is interrupted each time.
+pub const TRIES: u32 = 1000;
+
+/// One read, begun again where it was interrupted. One that is interrupted each time is a failure.
 pub fn read_some<R: Read>(reader: &mut R, room: &mut [u8]) -> Result<usize, Failed>
     ensures { IfOk result (λ count. count ≤ length room.new) }
 {
-    for _ in 0..u64::MAX {
+    for _ in 0..TRIES {
         match reader.read(room) {
             Ok(count) => return Ok(count),
             Err(e) => {

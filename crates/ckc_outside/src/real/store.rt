@@ -1,4 +1,4 @@
-ghost use Rattle.std.specs.Prelude.{◌≡◌, None, false};
+ghost use Rattle.std.specs.Prelude.{◌≡◌, None, false, ◌≤◌};
 ghost use Rattle.ckc_outside.specs.Outside.{IsWithin};
 
 use super::sink::write_whole;
@@ -16,23 +16,28 @@ const ROOM: usize = 4096;
 pub struct RealStore<'a, R> {
     rt: &'a R,
     faults: u64,
+    keeps: u64,
+    kept: u64,
 }
 
 impl<'a, R: Files> RealStore<'a, R> {
     /// The files that the runtime reaches.
     pub fn new(rt: &'a R) -> RealStore<'a, R>
         ensures faults { result.faults ≡ 0 }
+        ensures keeps { result.keeps ≡ 0 }
+        ensures kept { result.kept ≡ 0 }
     {
-        RealStore { rt, faults: 0 }
+        RealStore {
+            rt,
+            faults: 0,
+            keeps: 0,
+            kept: 0,
+        }
     }
 }
 
 impl<'a, R: Files> Store for RealStore<'a, R> {
-    ghost faults = { λ s. s.faults };
-
-    ghost files = { λ _. None };
-
-    ghost steady = { λ _. false };
+    ghost seen = { λ s. record { files = None; steady = false; faults = s.faults; keeps = s.keeps; kept = s.kept } };
 
     fn fetch(&mut self, alloc: Global, name: &str, limit: u64) -> Result<Fetched, StoreError> {
         match read_file(self.rt, alloc, name, limit) {
@@ -46,8 +51,12 @@ impl<'a, R: Files> Store for RealStore<'a, R> {
     }
 
     fn keep(&mut self, name: &str, bytes: &[u8]) -> Result<(), StoreError> {
+        self.keeps = self.keeps.saturating_add(1);
         match write_file(self.rt, name, bytes) {
-            Ok(()) => Ok(()),
+            Ok(()) => {
+                self.kept = self.kept.saturating_add(1);
+                Ok(())
+            }
             Err(_) => {
                 self.faults = self.faults.saturating_add(1);
                 Err(StoreError::Failed)

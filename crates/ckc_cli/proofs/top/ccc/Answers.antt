@@ -1,11 +1,16 @@
 use Rattle.std.proofs.Common.{◌≡◌, inr, ap}
 use Rattle.ckc_cli.specs.Words.{bytes_of}
 use Rattle.ckc_cli.specs.Running.{Seen}
-use Rattle.ckc_cli.specs.Causes.{Stored}
+use Rattle.ckc_outside.specs.Outside.{Stored}
 use Rattle.ckc_cli.proofs.Statuses as by
 use Rattle.ckc_cli.proofs.Always as always
+use Rattle.ckc_cli.proofs.Obeying.{unkept_same}
 use Rattle.ckc_cli.proofs.Files as files
 use Rattle.ckc_cli.proofs.Execs as execs
+use Rattle.ckc_cli.proofs.Keeping as keeping
+use Rattle.ckc_cli.proofs.Touching as touching
+use Rattle.ckc_cli.proofs.Completing as completing
+use Rattle.ckc_cli.proofs.Agreeing as agreeing
 use Rattle.ckc_cli.proofs.top.ccc.Goals as goal
 
 pub returns-clause-usage : goal.returns-clause-usage
@@ -20,8 +25,8 @@ returns-clause-usage g c =
     let store' = a.new.store in
     let old : Seen = record { left = g.S.Source.left input; written = g.O.Sink.written out; read_faults = g.S.Source.faults input; write_faults = g.O.Sink.faults out } in
     let new : Seen = record { left = g.S.Source.left input'; written = g.O.Sink.written out'; read_faults = g.S.Source.faults input'; write_faults = g.O.Sink.faults out' } in
-    let before : Stored = record { files = g.F.Store.files store; steady = g.F.Store.steady store; faults = g.F.Store.faults store } in
-    let after : Stored = record { files = g.F.Store.files store'; steady = g.F.Store.steady store'; faults = g.F.Store.faults store' } in
+    let before : Stored = g.F.Store.seen store in
+    let after : Stored = g.F.Store.seen store' in
     let quiet = out' ≡ out in
     let untaken = input' ≡ input in
     let unasked = store' ≡ store in
@@ -41,8 +46,8 @@ returns-clause-unasked g c =
     let store' = a.new.store in
     let old : Seen = record { left = g.S.Source.left input; written = g.O.Sink.written out; read_faults = g.S.Source.faults input; write_faults = g.O.Sink.faults out } in
     let new : Seen = record { left = g.S.Source.left input'; written = g.O.Sink.written out'; read_faults = g.S.Source.faults input'; write_faults = g.O.Sink.faults out' } in
-    let before : Stored = record { files = g.F.Store.files store; steady = g.F.Store.steady store; faults = g.F.Store.faults store } in
-    let after : Stored = record { files = g.F.Store.files store'; steady = g.F.Store.steady store'; faults = g.F.Store.faults store' } in
+    let before : Stored = g.F.Store.seen store in
+    let after : Stored = g.F.Store.seen store' in
     let quiet = out' ≡ out in
     let untaken = input' ≡ input in
     let unasked = store' ≡ store in
@@ -62,8 +67,8 @@ returns-clause-refused g c =
     let store' = a.new.store in
     let old : Seen = record { left = g.S.Source.left input; written = g.O.Sink.written out; read_faults = g.S.Source.faults input; write_faults = g.O.Sink.faults out } in
     let new : Seen = record { left = g.S.Source.left input'; written = g.O.Sink.written out'; read_faults = g.S.Source.faults input'; write_faults = g.O.Sink.faults out' } in
-    let before : Stored = record { files = g.F.Store.files store; steady = g.F.Store.steady store; faults = g.F.Store.faults store } in
-    let after : Stored = record { files = g.F.Store.files store'; steady = g.F.Store.steady store'; faults = g.F.Store.faults store' } in
+    let before : Stored = g.F.Store.seen store in
+    let after : Stored = g.F.Store.seen store' in
     let quiet = out' ≡ out in
     let untaken = input' ≡ input in
     let unasked = store' ≡ store in
@@ -83,8 +88,8 @@ returns-clause-refused_always g c =
     let store' = a.new.store in
     let old : Seen = record { left = g.S.Source.left input; written = g.O.Sink.written out; read_faults = g.S.Source.faults input; write_faults = g.O.Sink.faults out } in
     let new : Seen = record { left = g.S.Source.left input'; written = g.O.Sink.written out'; read_faults = g.S.Source.faults input'; write_faults = g.O.Sink.faults out' } in
-    let before : Stored = record { files = g.F.Store.files store; steady = g.F.Store.steady store; faults = g.F.Store.faults store } in
-    let after : Stored = record { files = g.F.Store.files store'; steady = g.F.Store.steady store'; faults = g.F.Store.faults store' } in
+    let before : Stored = g.F.Store.seen store in
+    let after : Stored = g.F.Store.seen store' in
     let quiet = out' ≡ out in
     let untaken = input' ≡ input in
     let unasked = store' ≡ store in
@@ -104,8 +109,8 @@ returns-clause-bad_image g c =
     let store' = a.new.store in
     let old : Seen = record { left = g.S.Source.left input; written = g.O.Sink.written out; read_faults = g.S.Source.faults input; write_faults = g.O.Sink.faults out } in
     let new : Seen = record { left = g.S.Source.left input'; written = g.O.Sink.written out'; read_faults = g.S.Source.faults input'; write_faults = g.O.Sink.faults out' } in
-    let before : Stored = record { files = g.F.Store.files store; steady = g.F.Store.steady store; faults = g.F.Store.faults store } in
-    let after : Stored = record { files = g.F.Store.files store'; steady = g.F.Store.steady store'; faults = g.F.Store.faults store' } in
+    let before : Stored = g.F.Store.seen store in
+    let after : Stored = g.F.Store.seen store' in
     let quiet = out' ≡ out in
     let untaken = input' ≡ input in
     let unasked = store' ≡ store in
@@ -125,8 +130,8 @@ returns-clause-bad_image_always g c =
     let store' = a.new.store in
     let old : Seen = record { left = g.S.Source.left input; written = g.O.Sink.written out; read_faults = g.S.Source.faults input; write_faults = g.O.Sink.faults out } in
     let new : Seen = record { left = g.S.Source.left input'; written = g.O.Sink.written out'; read_faults = g.S.Source.faults input'; write_faults = g.O.Sink.faults out' } in
-    let before : Stored = record { files = g.F.Store.files store; steady = g.F.Store.steady store; faults = g.F.Store.faults store } in
-    let after : Stored = record { files = g.F.Store.files store'; steady = g.F.Store.steady store'; faults = g.F.Store.faults store' } in
+    let before : Stored = g.F.Store.seen store in
+    let after : Stored = g.F.Store.seen store' in
     let quiet = out' ≡ out in
     let untaken = input' ≡ input in
     let unasked = store' ≡ store in
@@ -146,8 +151,8 @@ returns-clause-done g c =
     let store' = a.new.store in
     let old : Seen = record { left = g.S.Source.left input; written = g.O.Sink.written out; read_faults = g.S.Source.faults input; write_faults = g.O.Sink.faults out } in
     let new : Seen = record { left = g.S.Source.left input'; written = g.O.Sink.written out'; read_faults = g.S.Source.faults input'; write_faults = g.O.Sink.faults out' } in
-    let before : Stored = record { files = g.F.Store.files store; steady = g.F.Store.steady store; faults = g.F.Store.faults store } in
-    let after : Stored = record { files = g.F.Store.files store'; steady = g.F.Store.steady store'; faults = g.F.Store.faults store' } in
+    let before : Stored = g.F.Store.seen store in
+    let after : Stored = g.F.Store.seen store' in
     let quiet = out' ≡ out in
     let untaken = input' ≡ input in
     let unasked = store' ≡ store in
@@ -167,8 +172,8 @@ returns-clause-kept_always g c =
     let store' = a.new.store in
     let old : Seen = record { left = g.S.Source.left input; written = g.O.Sink.written out; read_faults = g.S.Source.faults input; write_faults = g.O.Sink.faults out } in
     let new : Seen = record { left = g.S.Source.left input'; written = g.O.Sink.written out'; read_faults = g.S.Source.faults input'; write_faults = g.O.Sink.faults out' } in
-    let before : Stored = record { files = g.F.Store.files store; steady = g.F.Store.steady store; faults = g.F.Store.faults store } in
-    let after : Stored = record { files = g.F.Store.files store'; steady = g.F.Store.steady store'; faults = g.F.Store.faults store' } in
+    let before : Stored = g.F.Store.seen store in
+    let after : Stored = g.F.Store.seen store' in
     let quiet = out' ≡ out in
     let untaken = input' ≡ input in
     let unasked = store' ≡ store in
@@ -188,8 +193,8 @@ returns-clause-listed_always g c =
     let store' = a.new.store in
     let old : Seen = record { left = g.S.Source.left input; written = g.O.Sink.written out; read_faults = g.S.Source.faults input; write_faults = g.O.Sink.faults out } in
     let new : Seen = record { left = g.S.Source.left input'; written = g.O.Sink.written out'; read_faults = g.S.Source.faults input'; write_faults = g.O.Sink.faults out' } in
-    let before : Stored = record { files = g.F.Store.files store; steady = g.F.Store.steady store; faults = g.F.Store.faults store } in
-    let after : Stored = record { files = g.F.Store.files store'; steady = g.F.Store.steady store'; faults = g.F.Store.faults store' } in
+    let before : Stored = g.F.Store.seen store in
+    let after : Stored = g.F.Store.seen store' in
     let quiet = out' ≡ out in
     let untaken = input' ≡ input in
     let unasked = store' ≡ store in
@@ -209,8 +214,8 @@ returns-clause-shown g c =
     let store' = a.new.store in
     let old : Seen = record { left = g.S.Source.left input; written = g.O.Sink.written out; read_faults = g.S.Source.faults input; write_faults = g.O.Sink.faults out } in
     let new : Seen = record { left = g.S.Source.left input'; written = g.O.Sink.written out'; read_faults = g.S.Source.faults input'; write_faults = g.O.Sink.faults out' } in
-    let before : Stored = record { files = g.F.Store.files store; steady = g.F.Store.steady store; faults = g.F.Store.faults store } in
-    let after : Stored = record { files = g.F.Store.files store'; steady = g.F.Store.steady store'; faults = g.F.Store.faults store' } in
+    let before : Stored = g.F.Store.seen store in
+    let after : Stored = g.F.Store.seen store' in
     let quiet = out' ≡ out in
     let untaken = input' ≡ input in
     let unasked = store' ≡ store in
@@ -230,8 +235,8 @@ returns-clause-shown_always g c =
     let store' = a.new.store in
     let old : Seen = record { left = g.S.Source.left input; written = g.O.Sink.written out; read_faults = g.S.Source.faults input; write_faults = g.O.Sink.faults out } in
     let new : Seen = record { left = g.S.Source.left input'; written = g.O.Sink.written out'; read_faults = g.S.Source.faults input'; write_faults = g.O.Sink.faults out' } in
-    let before : Stored = record { files = g.F.Store.files store; steady = g.F.Store.steady store; faults = g.F.Store.faults store } in
-    let after : Stored = record { files = g.F.Store.files store'; steady = g.F.Store.steady store'; faults = g.F.Store.faults store' } in
+    let before : Stored = g.F.Store.seen store in
+    let after : Stored = g.F.Store.seen store' in
     let quiet = out' ≡ out in
     let untaken = input' ≡ input in
     let unasked = store' ≡ store in
@@ -251,8 +256,8 @@ returns-clause-exec_ended g c =
     let store' = a.new.store in
     let old : Seen = record { left = g.S.Source.left input; written = g.O.Sink.written out; read_faults = g.S.Source.faults input; write_faults = g.O.Sink.faults out } in
     let new : Seen = record { left = g.S.Source.left input'; written = g.O.Sink.written out'; read_faults = g.S.Source.faults input'; write_faults = g.O.Sink.faults out' } in
-    let before : Stored = record { files = g.F.Store.files store; steady = g.F.Store.steady store; faults = g.F.Store.faults store } in
-    let after : Stored = record { files = g.F.Store.files store'; steady = g.F.Store.steady store'; faults = g.F.Store.faults store' } in
+    let before : Stored = g.F.Store.seen store in
+    let after : Stored = g.F.Store.seen store' in
     let quiet = out' ≡ out in
     let untaken = input' ≡ input in
     let unasked = store' ≡ store in
@@ -272,8 +277,8 @@ returns-clause-exec_always g c =
     let store' = a.new.store in
     let old : Seen = record { left = g.S.Source.left input; written = g.O.Sink.written out; read_faults = g.S.Source.faults input; write_faults = g.O.Sink.faults out } in
     let new : Seen = record { left = g.S.Source.left input'; written = g.O.Sink.written out'; read_faults = g.S.Source.faults input'; write_faults = g.O.Sink.faults out' } in
-    let before : Stored = record { files = g.F.Store.files store; steady = g.F.Store.steady store; faults = g.F.Store.faults store } in
-    let after : Stored = record { files = g.F.Store.files store'; steady = g.F.Store.steady store'; faults = g.F.Store.faults store' } in
+    let before : Stored = g.F.Store.seen store in
+    let after : Stored = g.F.Store.seen store' in
     let quiet = out' ≡ out in
     let untaken = input' ≡ input in
     let unasked = store' ≡ store in
@@ -293,8 +298,8 @@ returns-clause-exec_faultless g c =
     let store' = a.new.store in
     let old : Seen = record { left = g.S.Source.left input; written = g.O.Sink.written out; read_faults = g.S.Source.faults input; write_faults = g.O.Sink.faults out } in
     let new : Seen = record { left = g.S.Source.left input'; written = g.O.Sink.written out'; read_faults = g.S.Source.faults input'; write_faults = g.O.Sink.faults out' } in
-    let before : Stored = record { files = g.F.Store.files store; steady = g.F.Store.steady store; faults = g.F.Store.faults store } in
-    let after : Stored = record { files = g.F.Store.files store'; steady = g.F.Store.steady store'; faults = g.F.Store.faults store' } in
+    let before : Stored = g.F.Store.seen store in
+    let after : Stored = g.F.Store.seen store' in
     let quiet = out' ≡ out in
     let untaken = input' ≡ input in
     let unasked = store' ≡ store in
@@ -314,8 +319,8 @@ returns-clause-read_fault g c =
     let store' = a.new.store in
     let old : Seen = record { left = g.S.Source.left input; written = g.O.Sink.written out; read_faults = g.S.Source.faults input; write_faults = g.O.Sink.faults out } in
     let new : Seen = record { left = g.S.Source.left input'; written = g.O.Sink.written out'; read_faults = g.S.Source.faults input'; write_faults = g.O.Sink.faults out' } in
-    let before : Stored = record { files = g.F.Store.files store; steady = g.F.Store.steady store; faults = g.F.Store.faults store } in
-    let after : Stored = record { files = g.F.Store.files store'; steady = g.F.Store.steady store'; faults = g.F.Store.faults store' } in
+    let before : Stored = g.F.Store.seen store in
+    let after : Stored = g.F.Store.seen store' in
     let quiet = out' ≡ out in
     let untaken = input' ≡ input in
     let unasked = store' ≡ store in
@@ -335,8 +340,8 @@ returns-clause-write_fault g c =
     let store' = a.new.store in
     let old : Seen = record { left = g.S.Source.left input; written = g.O.Sink.written out; read_faults = g.S.Source.faults input; write_faults = g.O.Sink.faults out } in
     let new : Seen = record { left = g.S.Source.left input'; written = g.O.Sink.written out'; read_faults = g.S.Source.faults input'; write_faults = g.O.Sink.faults out' } in
-    let before : Stored = record { files = g.F.Store.files store; steady = g.F.Store.steady store; faults = g.F.Store.faults store } in
-    let after : Stored = record { files = g.F.Store.files store'; steady = g.F.Store.steady store'; faults = g.F.Store.faults store' } in
+    let before : Stored = g.F.Store.seen store in
+    let after : Stored = g.F.Store.seen store' in
     let quiet = out' ≡ out in
     let untaken = input' ≡ input in
     let unasked = store' ≡ store in
@@ -356,8 +361,8 @@ returns-clause-store_fault g c =
     let store' = a.new.store in
     let old : Seen = record { left = g.S.Source.left input; written = g.O.Sink.written out; read_faults = g.S.Source.faults input; write_faults = g.O.Sink.faults out } in
     let new : Seen = record { left = g.S.Source.left input'; written = g.O.Sink.written out'; read_faults = g.S.Source.faults input'; write_faults = g.O.Sink.faults out' } in
-    let before : Stored = record { files = g.F.Store.files store; steady = g.F.Store.steady store; faults = g.F.Store.faults store } in
-    let after : Stored = record { files = g.F.Store.files store'; steady = g.F.Store.steady store'; faults = g.F.Store.faults store' } in
+    let before : Stored = g.F.Store.seen store in
+    let after : Stored = g.F.Store.seen store' in
     let quiet = out' ≡ out in
     let untaken = input' ≡ input in
     let unasked = store' ≡ store in
@@ -377,8 +382,8 @@ returns-clause-steady g c =
     let store' = a.new.store in
     let old : Seen = record { left = g.S.Source.left input; written = g.O.Sink.written out; read_faults = g.S.Source.faults input; write_faults = g.O.Sink.faults out } in
     let new : Seen = record { left = g.S.Source.left input'; written = g.O.Sink.written out'; read_faults = g.S.Source.faults input'; write_faults = g.O.Sink.faults out' } in
-    let before : Stored = record { files = g.F.Store.files store; steady = g.F.Store.steady store; faults = g.F.Store.faults store } in
-    let after : Stored = record { files = g.F.Store.files store'; steady = g.F.Store.steady store'; faults = g.F.Store.faults store' } in
+    let before : Stored = g.F.Store.seen store in
+    let after : Stored = g.F.Store.seen store' in
     let quiet = out' ≡ out in
     let untaken = input' ≡ input in
     let unasked = store' ≡ store in
@@ -398,8 +403,8 @@ returns-clause-idle g c =
     let store' = a.new.store in
     let old : Seen = record { left = g.S.Source.left input; written = g.O.Sink.written out; read_faults = g.S.Source.faults input; write_faults = g.O.Sink.faults out } in
     let new : Seen = record { left = g.S.Source.left input'; written = g.O.Sink.written out'; read_faults = g.S.Source.faults input'; write_faults = g.O.Sink.faults out' } in
-    let before : Stored = record { files = g.F.Store.files store; steady = g.F.Store.steady store; faults = g.F.Store.faults store } in
-    let after : Stored = record { files = g.F.Store.files store'; steady = g.F.Store.steady store'; faults = g.F.Store.faults store' } in
+    let before : Stored = g.F.Store.seen store in
+    let after : Stored = g.F.Store.seen store' in
     let quiet = out' ≡ out in
     let untaken = input' ≡ input in
     let unasked = store' ≡ store in
@@ -419,14 +424,14 @@ returns-clause-files g c =
     let store' = a.new.store in
     let old : Seen = record { left = g.S.Source.left input; written = g.O.Sink.written out; read_faults = g.S.Source.faults input; write_faults = g.O.Sink.faults out } in
     let new : Seen = record { left = g.S.Source.left input'; written = g.O.Sink.written out'; read_faults = g.S.Source.faults input'; write_faults = g.O.Sink.faults out' } in
-    let before : Stored = record { files = g.F.Store.files store; steady = g.F.Store.steady store; faults = g.F.Store.faults store } in
-    let after : Stored = record { files = g.F.Store.files store'; steady = g.F.Store.steady store'; faults = g.F.Store.faults store' } in
+    let before : Stored = g.F.Store.seen store in
+    let after : Stored = g.F.Store.seen store' in
     let quiet = out' ≡ out in
     let untaken = input' ≡ input in
     let unasked = store' ≡ store in
     let s = a.result in
     let l = by.leaf w old new before after quiet untaken unasked s a.ensures.cause in
-    λ none. files.files_same w old new before after quiet untaken unasked (λ e. ap g.F.Store.files e) s l none
+    λ none. files.files_same w old new before after quiet untaken unasked (unkept_same before after (λ e. ap g.F.Store.seen e)) s l none
 
 pub returns-clause-others : goal.returns-clause-others
 returns-clause-others g c =
@@ -440,14 +445,14 @@ returns-clause-others g c =
     let store' = a.new.store in
     let old : Seen = record { left = g.S.Source.left input; written = g.O.Sink.written out; read_faults = g.S.Source.faults input; write_faults = g.O.Sink.faults out } in
     let new : Seen = record { left = g.S.Source.left input'; written = g.O.Sink.written out'; read_faults = g.S.Source.faults input'; write_faults = g.O.Sink.faults out' } in
-    let before : Stored = record { files = g.F.Store.files store; steady = g.F.Store.steady store; faults = g.F.Store.faults store } in
-    let after : Stored = record { files = g.F.Store.files store'; steady = g.F.Store.steady store'; faults = g.F.Store.faults store' } in
+    let before : Stored = g.F.Store.seen store in
+    let after : Stored = g.F.Store.seen store' in
     let quiet = out' ≡ out in
     let untaken = input' ≡ input in
     let unasked = store' ≡ store in
     let s = a.result in
     let l = by.leaf w old new before after quiet untaken unasked s a.ensures.cause in
-    λ name r. files.others_kept w old new before after quiet untaken unasked (λ e. ap g.F.Store.files e) s l name r
+    λ name r. files.others_kept w old new before after quiet untaken unasked (unkept_same before after (λ e. ap g.F.Store.seen e)) s l name r
 
 pub returns-clause-refused_keeps : goal.returns-clause-refused_keeps
 returns-clause-refused_keeps g c =
@@ -461,11 +466,305 @@ returns-clause-refused_keeps g c =
     let store' = a.new.store in
     let old : Seen = record { left = g.S.Source.left input; written = g.O.Sink.written out; read_faults = g.S.Source.faults input; write_faults = g.O.Sink.faults out } in
     let new : Seen = record { left = g.S.Source.left input'; written = g.O.Sink.written out'; read_faults = g.S.Source.faults input'; write_faults = g.O.Sink.faults out' } in
-    let before : Stored = record { files = g.F.Store.files store; steady = g.F.Store.steady store; faults = g.F.Store.faults store } in
-    let after : Stored = record { files = g.F.Store.files store'; steady = g.F.Store.steady store'; faults = g.F.Store.faults store' } in
+    let before : Stored = g.F.Store.seen store in
+    let after : Stored = g.F.Store.seen store' in
     let quiet = out' ≡ out in
     let untaken = input' ≡ input in
     let unasked = store' ≡ store in
     let s = a.result in
     let l = by.leaf w old new before after quiet untaken unasked s a.ensures.cause in
-    λ d t m. files.refused_keeps w old new before after quiet untaken unasked (λ e. ap g.F.Store.files e) s l d t m
+    λ d t m. files.refused_keeps w old new before after quiet untaken unasked (unkept_same before after (λ e. ap g.F.Store.seen e)) s l d t m
+
+pub returns-clause-built_always : goal.returns-clause-built_always
+returns-clause-built_always g c =
+    let w = bytes_of c.args.words.now in
+    let a = c.asked-status in
+    let input = c.args.input.now in
+    let out = c.args.out.now in
+    let store = c.args.store.now in
+    let input' = a.new.input in
+    let out' = a.new.out in
+    let store' = a.new.store in
+    let old : Seen = record { left = g.S.Source.left input; written = g.O.Sink.written out; read_faults = g.S.Source.faults input; write_faults = g.O.Sink.faults out } in
+    let new : Seen = record { left = g.S.Source.left input'; written = g.O.Sink.written out'; read_faults = g.S.Source.faults input'; write_faults = g.O.Sink.faults out' } in
+    let before : Stored = g.F.Store.seen store in
+    let after : Stored = g.F.Store.seen store' in
+    let quiet = out' ≡ out in
+    let untaken = input' ≡ input in
+    let unasked = store' ≡ store in
+    let s = a.result in
+    let l = by.leaf w old new before after quiet untaken unasked s a.ensures.cause in
+    λ source name text m g2 fine a2. completing.built_always w old new before after quiet untaken unasked s l source name text m g2 fine a2
+
+pub returns-clause-run_always : goal.returns-clause-run_always
+returns-clause-run_always g c =
+    let w = bytes_of c.args.words.now in
+    let a = c.asked-status in
+    let input = c.args.input.now in
+    let out = c.args.out.now in
+    let store = c.args.store.now in
+    let input' = a.new.input in
+    let out' = a.new.out in
+    let store' = a.new.store in
+    let old : Seen = record { left = g.S.Source.left input; written = g.O.Sink.written out; read_faults = g.S.Source.faults input; write_faults = g.O.Sink.faults out } in
+    let new : Seen = record { left = g.S.Source.left input'; written = g.O.Sink.written out'; read_faults = g.S.Source.faults input'; write_faults = g.O.Sink.faults out' } in
+    let before : Stored = g.F.Store.seen store in
+    let after : Stored = g.F.Store.seen store' in
+    let quiet = out' ≡ out in
+    let untaken = input' ≡ input in
+    let unasked = store' ≡ store in
+    let s = a.result in
+    let l = by.leaf w old new before after quiet untaken unasked s a.ensures.cause in
+    λ name text limit m g2 fine a2. completing.run_always w old new before after quiet untaken unasked s l name text limit m g2 fine a2
+
+pub returns-clause-exec_stopped : goal.returns-clause-exec_stopped
+returns-clause-exec_stopped g c =
+    let w = bytes_of c.args.words.now in
+    let a = c.asked-status in
+    let input = c.args.input.now in
+    let out = c.args.out.now in
+    let store = c.args.store.now in
+    let input' = a.new.input in
+    let out' = a.new.out in
+    let store' = a.new.store in
+    let old : Seen = record { left = g.S.Source.left input; written = g.O.Sink.written out; read_faults = g.S.Source.faults input; write_faults = g.O.Sink.faults out } in
+    let new : Seen = record { left = g.S.Source.left input'; written = g.O.Sink.written out'; read_faults = g.S.Source.faults input'; write_faults = g.O.Sink.faults out' } in
+    let before : Stored = g.F.Store.seen store in
+    let after : Stored = g.F.Store.seen store' in
+    let quiet = out' ≡ out in
+    let untaken = input' ≡ input in
+    let unasked = store' ≡ store in
+    let s = a.result in
+    let l = by.leaf w old new before after quiet untaken unasked s a.ensures.cause in
+    λ name limit check at r e. agreeing.exec_stopped w old new before after quiet untaken unasked s l name limit check at r e
+
+pub returns-clause-stopped_always : goal.returns-clause-stopped_always
+returns-clause-stopped_always g c =
+    let w = bytes_of c.args.words.now in
+    let a = c.asked-status in
+    let input = c.args.input.now in
+    let out = c.args.out.now in
+    let store = c.args.store.now in
+    let input' = a.new.input in
+    let out' = a.new.out in
+    let store' = a.new.store in
+    let old : Seen = record { left = g.S.Source.left input; written = g.O.Sink.written out; read_faults = g.S.Source.faults input; write_faults = g.O.Sink.faults out } in
+    let new : Seen = record { left = g.S.Source.left input'; written = g.O.Sink.written out'; read_faults = g.S.Source.faults input'; write_faults = g.O.Sink.faults out' } in
+    let before : Stored = g.F.Store.seen store in
+    let after : Stored = g.F.Store.seen store' in
+    let quiet = out' ≡ out in
+    let untaken = input' ≡ input in
+    let unasked = store' ≡ store in
+    let s = a.result in
+    let l = by.leaf w old new before after quiet untaken unasked s a.ensures.cause in
+    λ name text limit n m check at g2 fine a2 stops le r wr. agreeing.exec_stops w old new before after quiet untaken unasked s text limit n m a2 le r wr (completing.run_always w old new before after quiet untaken unasked s l name text limit m g2 fine a2) check at stops
+
+pub returns-clause-exec_going : goal.returns-clause-exec_going
+returns-clause-exec_going g c =
+    let w = bytes_of c.args.words.now in
+    let a = c.asked-status in
+    let input = c.args.input.now in
+    let out = c.args.out.now in
+    let store = c.args.store.now in
+    let input' = a.new.input in
+    let out' = a.new.out in
+    let store' = a.new.store in
+    let old : Seen = record { left = g.S.Source.left input; written = g.O.Sink.written out; read_faults = g.S.Source.faults input; write_faults = g.O.Sink.faults out } in
+    let new : Seen = record { left = g.S.Source.left input'; written = g.O.Sink.written out'; read_faults = g.S.Source.faults input'; write_faults = g.O.Sink.faults out' } in
+    let before : Stored = g.F.Store.seen store in
+    let after : Stored = g.F.Store.seen store' in
+    let quiet = out' ≡ out in
+    let untaken = input' ≡ input in
+    let unasked = store' ≡ store in
+    let s = a.result in
+    let l = by.leaf w old new before after quiet untaken unasked s a.ensures.cause in
+    λ name limit r e. agreeing.exec_going w old new before after quiet untaken unasked s l name limit r e
+
+pub returns-clause-put_always : goal.returns-clause-put_always
+returns-clause-put_always g c =
+    let w = bytes_of c.args.words.now in
+    let a = c.asked-status in
+    let input = c.args.input.now in
+    let out = c.args.out.now in
+    let store = c.args.store.now in
+    let input' = a.new.input in
+    let out' = a.new.out in
+    let store' = a.new.store in
+    let old : Seen = record { left = g.S.Source.left input; written = g.O.Sink.written out; read_faults = g.S.Source.faults input; write_faults = g.O.Sink.faults out } in
+    let new : Seen = record { left = g.S.Source.left input'; written = g.O.Sink.written out'; read_faults = g.S.Source.faults input'; write_faults = g.O.Sink.faults out' } in
+    let before : Stored = g.F.Store.seen store in
+    let after : Stored = g.F.Store.seen store' in
+    let quiet = out' ≡ out in
+    let untaken = input' ≡ input in
+    let unasked = store' ≡ store in
+    let s = a.result in
+    let l = by.leaf w old new before after quiet untaken unasked s a.ensures.cause in
+    λ name text limit n m g2 fine a2 safe le r wr. agreeing.exec_put w old new before after quiet untaken unasked s text limit n m a2 le r wr (completing.run_always w old new before after quiet untaken unasked s l name text limit m g2 fine a2) safe
+
+pub returns-clause-kept_quietly : goal.returns-clause-kept_quietly
+returns-clause-kept_quietly g c =
+    let w = bytes_of c.args.words.now in
+    let a = c.asked-status in
+    let input = c.args.input.now in
+    let out = c.args.out.now in
+    let store = c.args.store.now in
+    let input' = a.new.input in
+    let out' = a.new.out in
+    let store' = a.new.store in
+    let old : Seen = record { left = g.S.Source.left input; written = g.O.Sink.written out; read_faults = g.S.Source.faults input; write_faults = g.O.Sink.faults out } in
+    let new : Seen = record { left = g.S.Source.left input'; written = g.O.Sink.written out'; read_faults = g.S.Source.faults input'; write_faults = g.O.Sink.faults out' } in
+    let before : Stored = g.F.Store.seen store in
+    let after : Stored = g.F.Store.seen store' in
+    let quiet = out' ≡ out in
+    let untaken = input' ≡ input in
+    let unasked = store' ≡ store in
+    let s = a.result in
+    let l = by.leaf w old new before after quiet untaken unasked s a.ensures.cause in
+    λ name r. (touching.keeper_touches w old new before after quiet untaken unasked s l name r).0
+
+pub returns-clause-kept_untaken : goal.returns-clause-kept_untaken
+returns-clause-kept_untaken g c =
+    let w = bytes_of c.args.words.now in
+    let a = c.asked-status in
+    let input = c.args.input.now in
+    let out = c.args.out.now in
+    let store = c.args.store.now in
+    let input' = a.new.input in
+    let out' = a.new.out in
+    let store' = a.new.store in
+    let old : Seen = record { left = g.S.Source.left input; written = g.O.Sink.written out; read_faults = g.S.Source.faults input; write_faults = g.O.Sink.faults out } in
+    let new : Seen = record { left = g.S.Source.left input'; written = g.O.Sink.written out'; read_faults = g.S.Source.faults input'; write_faults = g.O.Sink.faults out' } in
+    let before : Stored = g.F.Store.seen store in
+    let after : Stored = g.F.Store.seen store' in
+    let quiet = out' ≡ out in
+    let untaken = input' ≡ input in
+    let unasked = store' ≡ store in
+    let s = a.result in
+    let l = by.leaf w old new before after quiet untaken unasked s a.ensures.cause in
+    λ name r. (touching.keeper_touches w old new before after quiet untaken unasked s l name r).1
+
+pub returns-clause-listed_untaken : goal.returns-clause-listed_untaken
+returns-clause-listed_untaken g c =
+    let w = bytes_of c.args.words.now in
+    let a = c.asked-status in
+    let input = c.args.input.now in
+    let out = c.args.out.now in
+    let store = c.args.store.now in
+    let input' = a.new.input in
+    let out' = a.new.out in
+    let store' = a.new.store in
+    let old : Seen = record { left = g.S.Source.left input; written = g.O.Sink.written out; read_faults = g.S.Source.faults input; write_faults = g.O.Sink.faults out } in
+    let new : Seen = record { left = g.S.Source.left input'; written = g.O.Sink.written out'; read_faults = g.S.Source.faults input'; write_faults = g.O.Sink.faults out' } in
+    let before : Stored = g.F.Store.seen store in
+    let after : Stored = g.F.Store.seen store' in
+    let quiet = out' ≡ out in
+    let untaken = input' ≡ input in
+    let unasked = store' ≡ store in
+    let s = a.result in
+    let l = by.leaf w old new before after quiet untaken unasked s a.ensures.cause in
+    λ name r. touching.list_takes_nothing w old new before after quiet untaken unasked s l name r
+
+pub returns-clause-keeps_once : goal.returns-clause-keeps_once
+returns-clause-keeps_once g c =
+    let w = bytes_of c.args.words.now in
+    let a = c.asked-status in
+    let input = c.args.input.now in
+    let out = c.args.out.now in
+    let store = c.args.store.now in
+    let input' = a.new.input in
+    let out' = a.new.out in
+    let store' = a.new.store in
+    let old : Seen = record { left = g.S.Source.left input; written = g.O.Sink.written out; read_faults = g.S.Source.faults input; write_faults = g.O.Sink.faults out } in
+    let new : Seen = record { left = g.S.Source.left input'; written = g.O.Sink.written out'; read_faults = g.S.Source.faults input'; write_faults = g.O.Sink.faults out' } in
+    let before : Stored = g.F.Store.seen store in
+    let after : Stored = g.F.Store.seen store' in
+    let quiet = out' ≡ out in
+    let untaken = input' ≡ input in
+    let unasked = store' ≡ store in
+    let s = a.result in
+    let l = by.leaf w old new before after quiet untaken unasked s a.ensures.cause in
+    keeping.keeps_once w old new before after quiet untaken unasked (unkept_same before after (λ e. ap g.F.Store.seen e)) s l
+
+pub returns-clause-keeps_images : goal.returns-clause-keeps_images
+returns-clause-keeps_images g c =
+    let w = bytes_of c.args.words.now in
+    let a = c.asked-status in
+    let input = c.args.input.now in
+    let out = c.args.out.now in
+    let store = c.args.store.now in
+    let input' = a.new.input in
+    let out' = a.new.out in
+    let store' = a.new.store in
+    let old : Seen = record { left = g.S.Source.left input; written = g.O.Sink.written out; read_faults = g.S.Source.faults input; write_faults = g.O.Sink.faults out } in
+    let new : Seen = record { left = g.S.Source.left input'; written = g.O.Sink.written out'; read_faults = g.S.Source.faults input'; write_faults = g.O.Sink.faults out' } in
+    let before : Stored = g.F.Store.seen store in
+    let after : Stored = g.F.Store.seen store' in
+    let quiet = out' ≡ out in
+    let untaken = input' ≡ input in
+    let unasked = store' ≡ store in
+    let s = a.result in
+    let l = by.leaf w old new before after quiet untaken unasked s a.ensures.cause in
+    λ n. keeping.keeps_images w old new before after quiet untaken unasked (unkept_same before after (λ e. ap g.F.Store.seen e)) s l n
+
+pub returns-clause-keeps_for_commands : goal.returns-clause-keeps_for_commands
+returns-clause-keeps_for_commands g c =
+    let w = bytes_of c.args.words.now in
+    let a = c.asked-status in
+    let input = c.args.input.now in
+    let out = c.args.out.now in
+    let store = c.args.store.now in
+    let input' = a.new.input in
+    let out' = a.new.out in
+    let store' = a.new.store in
+    let old : Seen = record { left = g.S.Source.left input; written = g.O.Sink.written out; read_faults = g.S.Source.faults input; write_faults = g.O.Sink.faults out } in
+    let new : Seen = record { left = g.S.Source.left input'; written = g.O.Sink.written out'; read_faults = g.S.Source.faults input'; write_faults = g.O.Sink.faults out' } in
+    let before : Stored = g.F.Store.seen store in
+    let after : Stored = g.F.Store.seen store' in
+    let quiet = out' ≡ out in
+    let untaken = input' ≡ input in
+    let unasked = store' ≡ store in
+    let s = a.result in
+    let l = by.leaf w old new before after quiet untaken unasked s a.ensures.cause in
+    λ none. keeping.keeps_for_commands w old new before after quiet untaken unasked (unkept_same before after (λ e. ap g.F.Store.seen e)) s l none
+
+pub returns-clause-unkept_files : goal.returns-clause-unkept_files
+returns-clause-unkept_files g c =
+    let w = bytes_of c.args.words.now in
+    let a = c.asked-status in
+    let input = c.args.input.now in
+    let out = c.args.out.now in
+    let store = c.args.store.now in
+    let input' = a.new.input in
+    let out' = a.new.out in
+    let store' = a.new.store in
+    let old : Seen = record { left = g.S.Source.left input; written = g.O.Sink.written out; read_faults = g.S.Source.faults input; write_faults = g.O.Sink.faults out } in
+    let new : Seen = record { left = g.S.Source.left input'; written = g.O.Sink.written out'; read_faults = g.S.Source.faults input'; write_faults = g.O.Sink.faults out' } in
+    let before : Stored = g.F.Store.seen store in
+    let after : Stored = g.F.Store.seen store' in
+    let quiet = out' ≡ out in
+    let untaken = input' ≡ input in
+    let unasked = store' ≡ store in
+    let s = a.result in
+    let l = by.leaf w old new before after quiet untaken unasked s a.ensures.cause in
+    λ n. keeping.unkept_files w old new before after quiet untaken unasked (unkept_same before after (λ e. ap g.F.Store.seen e)) s l n
+
+pub returns-clause-kept_done : goal.returns-clause-kept_done
+returns-clause-kept_done g c =
+    let w = bytes_of c.args.words.now in
+    let a = c.asked-status in
+    let input = c.args.input.now in
+    let out = c.args.out.now in
+    let store = c.args.store.now in
+    let input' = a.new.input in
+    let out' = a.new.out in
+    let store' = a.new.store in
+    let old : Seen = record { left = g.S.Source.left input; written = g.O.Sink.written out; read_faults = g.S.Source.faults input; write_faults = g.O.Sink.faults out } in
+    let new : Seen = record { left = g.S.Source.left input'; written = g.O.Sink.written out'; read_faults = g.S.Source.faults input'; write_faults = g.O.Sink.faults out' } in
+    let before : Stored = g.F.Store.seen store in
+    let after : Stored = g.F.Store.seen store' in
+    let quiet = out' ≡ out in
+    let untaken = input' ≡ input in
+    let unasked = store' ≡ store in
+    let s = a.result in
+    let l = by.leaf w old new before after quiet untaken unasked s a.ensures.cause in
+    λ n. keeping.kept_done w old new before after quiet untaken unasked (unkept_same before after (λ e. ap g.F.Store.seen e)) s l n
