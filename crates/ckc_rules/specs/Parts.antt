@@ -1,13 +1,10 @@
--- What the parts of statements and expressions declare and hold.
+-- The locals that the parts of statements declare.
 use Rattle.std.specs.Prelude.{List, [], Option, None, Some}
 use Rattle.ckc_syntax.specs.declared.tree.Name.{Name}
-use Rattle.ckc_syntax.specs.declared.tree.Node.{fold-Node}
 use Rattle.ckc_syntax.specs.declared.tree.Act.{fold-Act}
 use Rattle.ckc_typed.specs.declared.environment.Variable.{Variable}
-use Rattle.ckc_typed.specs.declared.typed.Note.{Note}
-use Rattle.ckc_typed.specs.Trees.{Act, Stmt, NotedNode, NotedAct, NotedStmt}
+use Rattle.ckc_typed.specs.Trees.{Act, Stmt}
 use Rattle.ckc_typed.specs.Environment.{act_variables, stmt_variables, locals_of}
-use Rattle.ckc_typed.specs.Statics.{Strings, limits_strings, node_strings, expr_strings, act_strings, stmt_strings, strings_of_stmt}
 
 -- the locals that the parts of a statement declare
 abbrev pub locals_of_act : Act → List Variable
@@ -16,14 +13,3 @@ locals_of_act = fold-Act Name (Unit {0}) (List Variable) (List Variable) act_var
 abbrev pub locals_of_part : Option Stmt → List Variable
 locals_of_part None = []
 locals_of_part (Some s) = locals_of s
-
--- the strings that a node holds
-abbrev pub strings_of_node : NotedNode → Strings
-strings_of_node = fold-Node Name Note Strings Strings Strings limits_strings node_strings expr_strings
-
-abbrev pub strings_of_act : NotedAct → Strings
-strings_of_act = fold-Act Name Note Strings Strings act_strings stmt_strings
-
-abbrev pub strings_of_part : Option NotedStmt → Strings
-strings_of_part None = []
-strings_of_part (Some s) = strings_of_stmt s

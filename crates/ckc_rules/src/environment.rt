@@ -3,9 +3,9 @@
 ghost use Rattle.std.specs.Prelude.{◌≡◌, [], ◌∷◌, ◌++◌, IfOk, OnOk, map};
 ghost use Rattle.ckc_typed.specs.Environment.{kind_of_array, object_declared, variable_declared, type_declared, signature_declared, objects_of_item, signatures_of_item, objects_of, getchar, putchar, signatures_of};
 
-use crate::types::type_written;
 use ckc_base::Seq;
 use ckc_syntax::{Decl, Head, Item, Length, Name};
+use ckc_typed::types::type_written;
 use ckc_typed::{Object, Signature, Variable};
 use ckc_types::{CType, Kind};
 use std::alloc::{AllocError, Global};

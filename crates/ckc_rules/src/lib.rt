@@ -1,15 +1,13 @@
-//! The rules of types that tell no fault: written types, constants, operands, conversions, what a text declares, its
-//! structures and its string literals (ISO C11, 6.2.5 to 6.7.9; Checked C specification 0.9, section 2).
+//! The rules of types that tell no fault: operands, conversions, look-ups and what a text declares (ISO C11, 6.2.5 to
+//! 6.7.9; Checked C specification 0.9, section 2).
 #![tactic(auto)]
 
-pub mod constants;
 pub mod conversions;
 pub mod copies;
 pub mod environment;
-pub mod initials;
-pub mod layouts;
+pub mod literals;
 pub mod locals;
 pub mod lookups;
+pub mod notes;
 pub mod operands;
-pub mod strings;
-pub mod types;
+pub mod targets;

@@ -6,9 +6,10 @@ ghost use Rattle.ckc_types.specs.Layout.{members_of};
 ghost use Rattle.ckc_typed.specs.Environment.{same_name, object_named, signature_named, variable_named, is_member_named, member_type, object_type, type_of_name};
 ghost use Rattle.ckc_typed.specs.Operands.{dot_type, arrow_type};
 
-use crate::types::copied;
 use ckc_base::Boxed;
 use ckc_syntax::Name;
+use ckc_typed::constants::members_of;
+use ckc_typed::types::copied;
 use ckc_typed::{Globals, Object, Signature, Variable};
 use ckc_types::{CType, MemberShape, Structs};
 use std::alloc::{AllocError, Global};
@@ -111,16 +112,6 @@ fn member_named(members: &[MemberShape], n: Name) -> Option<&MemberShape>
     ensures { option_copied result ≡ find (λ m. is_member_named n m.name) members.now }
 {
     members.iter().find(|m| is_member_named(n, m.name))
-}
-
-/// The members of the structure with a tag, none where there is no such structure.
-pub fn members_of(structs: &Structs, tag: u32) -> &[MemberShape]
-    ensures { result.now ≡ members_of structs.now tag }
-{
-    match structs.shapes.get(tag as usize) {
-        None => &[],
-        Some(shape) => shape.members.as_slice(),
-    }
 }
 
 fn member_type(

@@ -3,81 +3,18 @@
 ghost use Rattle.std.specs.Prelude.{◌≡◌, Ok};
 ghost use Rattle.ckc_syntax.specs.declared.tree.Act.TheVariants as act;
 ghost use Rattle.ckc_typed.specs.Outcomes.{bind};
-ghost use Rattle.ckc_typed.specs.Statements.{stated, is_named, is_placed, is_function, is_text_call, is_target, target_fits, scalar_fits, scalar_there_fits, is_result, result_fits, loop_fits};
+ghost use Rattle.ckc_typed.specs.Statements.{stated, target_fits, scalar_fits, scalar_there_fits, result_fits, loop_fits};
 ghost use Rattle.ckc_typing.specs.Answers.{Answers};
 
 use crate::fault::{TypeFault, refused};
-use crate::rules::{is_no_array, is_target_op};
 use ckc_base::{Boxed, Mode, Pos};
 use ckc_rules::conversions::converts;
-use ckc_rules::lookups::variable_named;
-use ckc_rules::types::{is_scalar, is_void};
-use ckc_syntax::{Act, Expr, Name, Node, Stmt};
-use ckc_typed::{Globals, Note, Range, Variable};
+use ckc_rules::notes::stated;
+use ckc_rules::targets::{is_result, is_target};
+use ckc_syntax::{Act, Expr, Name, Stmt};
+use ckc_typed::types::{is_scalar, is_void};
+use ckc_typed::{Globals, Note, Variable};
 use ckc_types::CType;
-
-/// A statement with its mode noted.
-pub fn stated(mode: Mode, pos: Pos, body: Act<Name, Note>) -> Stmt<Name, Note>
-    ensures { result ≡ stated mode pos body }
-{
-    let note = Note {
-        ctype: CType::Void,
-        mode,
-        range: Range::Missing,
-    };
-    Stmt { body, pos, note }
-}
-
-fn is_named(globals: &Globals, variables: &[Variable], e: &Expr<Name, Note>) -> bool
-    ensures { result ≡ is_named globals.now variables.now e.now }
-{
-    match &e.node {
-        Node::Name(n) => variable_named(variables, *n).is_some() || is_no_array(globals, *n),
-        _ => false,
-    }
-}
-
-fn is_placed(e: &Expr<Name, Note>) -> bool
-    ensures { result ≡ is_placed e.now }
-{
-    match &e.node {
-        Node::Un(op, _) => is_target_op(*op),
-        Node::Index(_, _) | Node::Dot(_, _) | Node::Arrow(_, _) => true,
-        _ => false,
-    }
-}
-
-fn is_function(n: Name) -> bool
-    ensures { result ≡ is_function n }
-{
-    match n {
-        Name::Function(_) => true,
-        _ => false,
-    }
-}
-
-fn is_text_call(e: &Expr<Name, Note>) -> bool
-    ensures { result ≡ is_text_call e.now }
-{
-    match &e.node {
-        Node::Call(n, _) => is_function(*n),
-        _ => false,
-    }
-}
-
-fn is_target(
-    globals: &Globals,
-    variables: &[Variable],
-    e: &Expr<Name, Note>,
-    f: &Expr<Name, Note>,
-) -> bool
-    ensures { result ≡ is_target globals.now variables.now e.now f.now }
-{
-    if !is_scalar(&e.note.ctype) {
-        return false;
-    }
-    is_named(globals, variables, e) || (is_placed(e) && !is_text_call(f))
-}
 
 fn target_fits(
     globals: &Globals,
@@ -187,15 +124,6 @@ pub fn counting(
 {
     scalar_there_fits(pos, &e)?;
     Ok(stated(mode, pos, Act::For(start, e, step, body)))
-}
-
-fn is_result(result_type: &CType, e: &Option<Boxed<Expr<Name, Note>>>) -> bool
-    ensures { result ≡ is_result result_type.now e.now }
-{
-    match e {
-        None => is_void(result_type),
-        Some(e) => converts(result_type, e.get()),
-    }
 }
 
 /// Judges what a function returns.

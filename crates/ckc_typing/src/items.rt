@@ -7,8 +7,7 @@ ghost use Rattle.ckc_typed.specs.Outcomes.{bind, unless};
 ghost use Rattle.ckc_typed.specs.Types.{type_written};
 ghost use Rattle.ckc_typed.specs.Environment.{variable_declared, variables_of};
 ghost use Rattle.ckc_typed.specs.Declarations.{bares_typed, static_typed};
-ghost use Rattle.ckc_typed.specs.Texts.{is_result_type, head_mode, head_typed, function_typed, item_typed, pragma_after, items_typed, globals_of};
-ghost use Rattle.ckc_typed.specs.Walk.{mode_of_directive};
+ghost use Rattle.ckc_typed.specs.Texts.{is_result_type, head_mode, head_typed, function_typed, item_typed, items_typed, globals_of};
 ghost use Rattle.ckc_typing.specs.Answers.{Answers};
 
 use crate::declarations::{typed_bares, typed_static};
@@ -18,10 +17,11 @@ use crate::statements::{Frame, boxed_stmt};
 use ckc_base::{Boxed, Mode, Seq};
 use ckc_rules::copies::copied_type;
 use ckc_rules::environment::{objects_of, signatures_of, variables_declared};
-use ckc_rules::layouts::structs_of;
 use ckc_rules::locals::variables_of;
-use ckc_rules::types::{is_scalar_type, is_void, type_written};
-use ckc_syntax::{Decl, Directive, Head, Item, Limits, Name, Stmt};
+use ckc_rules::notes::{head_mode, pragma_after};
+use ckc_statics::layouts::structs_of;
+use ckc_syntax::{Decl, Head, Item, Limits, Name, Stmt};
+use ckc_typed::types::{is_scalar_type, is_void, type_written};
 use ckc_typed::{Globals, Note};
 use std::alloc::{AllocError, Global};
 
@@ -30,12 +30,6 @@ fn has_result_type(alloc: Global, h: &Head<Name, ()>) -> Result<bool, AllocError
 {
     let t = type_written(alloc, &h.result)?;
     Ok(is_void(&t) || is_scalar_type(&t))
-}
-
-fn head_mode(pragma: Mode, h: &Head<Name, ()>) -> Mode
-    ensures { result ≡ head_mode pragma h.now }
-{
-    h.mode.unwrap_or(pragma)
 }
 
 fn head_with(
@@ -159,26 +153,6 @@ fn typed_item(
             Ok(Item::Proto(typed))
         }
         Item::Function(h, body) => typed_function(alloc, globals, pragma, h.get(), body.get()),
-    }
-}
-
-fn mode_of_directive(pragma: Mode, d: Directive) -> Mode
-    ensures { result ≡ mode_of_directive pragma d }
-{
-    match d {
-        Directive::ScopeOn => Mode::Checked,
-        Directive::ScopeOff => Mode::Unchecked,
-        Directive::Stdio | Directive::Stdlib | Directive::Stdchecked => pragma,
-    }
-}
-
-fn pragma_after(pragma: Mode, item: &Item<Name, ()>) -> Mode
-    ensures { result ≡ pragma_after pragma item.now }
-{
-    match item {
-        Item::Directive(d) => mode_of_directive(pragma, *d),
-        Item::Tag(_, _) | Item::Struct(_, _, _) | Item::Static(_) => pragma,
-        Item::Proto(_) | Item::Function(_, _) => pragma,
     }
 }
 

@@ -13,7 +13,6 @@ mod makers;
 mod placing;
 mod rules;
 mod statements;
-mod statics;
 mod text;
 
 pub use fault::TypeFault;

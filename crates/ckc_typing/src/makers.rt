@@ -15,27 +15,18 @@ use crate::calls::call_typed;
 use crate::fault::{TypeFault, refused};
 use crate::rules::{
     allocation_typed, arrow_typed, binary_typed, cast_typed, choice_typed, dot_typed, index_typed,
-    null_type, number_type, size_typed, string_type, tested_typed, trusted_typed, unary_typed,
+    size_typed, tested_typed, trusted_typed, unary_typed,
 };
 use ckc_base::{Boxed, Bytes, Mode, Pos, Seq};
 use ckc_rules::copies::copied_type;
+use ckc_rules::literals::{null_type, number_type, string_type};
 use ckc_rules::lookups::type_of_name;
-use ckc_rules::types::type_written;
+use ckc_rules::notes::noted;
 use ckc_syntax::{Expr, Limits, Name, Node, TreeOp, TypeTree};
-use ckc_typed::{Globals, Note, Range, Variable};
+use ckc_typed::types::type_written;
+use ckc_typed::{Globals, Note, Variable};
 use ckc_types::CType;
 use std::alloc::Global;
-
-fn noted(mode: Mode, pos: Pos, node: Node<Name, Note>, ctype: CType) -> Expr<Name, Note>
-    ensures { result ≡ noted mode pos node ctype }
-{
-    let note = Note {
-        ctype,
-        mode,
-        range: Range::Missing,
-    };
-    Expr { node, pos, note }
-}
 
 fn typed_name(
     alloc: Global,

@@ -8,9 +8,9 @@ ghost use Rattle.ckc_typing.specs.Answers.{Answers};
 
 use crate::fault::{TypeFault, refused};
 use ckc_base::{Bytes, Pos, Seq};
-use ckc_rules::constants::size_of;
-use ckc_rules::types::copied;
 use ckc_typed::StaticObject;
+use ckc_typed::constants::size_of;
+use ckc_typed::types::copied;
 use ckc_types::Structs;
 use std::alloc::{AllocError, Global};
 

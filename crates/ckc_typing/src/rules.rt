@@ -1,10 +1,6 @@
 //! What an expression has for a type by the types of its parts, and its own faults.
 
-ghost use Rattle.std.specs.Prelude.{◌≡◌, IfOk};
-ghost use Rattle.ckc_types.specs.declared.types.CType.TheVariants as ctype;
-ghost use Rattle.ckc_types.specs.declared.types.Kind.TheVariants as kind;
-ghost use Rattle.ckc_typed.specs.Expressions.{in_row, number_type, string_type, is_no_array, is_target_op, has_address, address_typed, unary_typed, binary_typed, choice_typed, index_typed, dot_typed, arrow_typed, cast_typed, tested_typed, trusted_typed, is_no_allocation, allocation_typed};
-ghost use Rattle.ckc_typed.specs.Environment.{object_named};
+ghost use Rattle.ckc_typed.specs.Expressions.{in_row, address_typed, unary_typed, binary_typed, choice_typed, index_typed, dot_typed, arrow_typed, cast_typed, tested_typed, trusted_typed, allocation_typed};
 ghost use Rattle.ckc_typed.specs.Outcomes.{there_or};
 ghost use Rattle.ckc_typed.specs.Types.{is_void};
 ghost use Rattle.ckc_typed.specs.Operands.{unary_type, size_type};
@@ -12,14 +8,15 @@ ghost use Rattle.ckc_typing.specs.Answers.{Answers};
 
 use crate::fault::{TypeFault, refused};
 use ckc_base::{Boxed, Mode, Pos};
-use ckc_rules::conversions::{is_bounds_cast, is_null, is_tested, is_trusted};
-use ckc_rules::lookups::object_named;
-use ckc_rules::types::{copied, is_integer, is_object_type, is_void, same_type};
+use ckc_rules::conversions::{is_bounds_cast, is_tested, is_trusted};
+use ckc_rules::targets::{has_address, is_no_allocation};
 use ckc_rules::{lookups, operands};
-use ckc_syntax::{Expr, Limits, Name, Node, TreeOp};
+use ckc_syntax::{Expr, Limits, Name, TreeOp};
+use ckc_typed::constants::is_null;
+use ckc_typed::types::{copied, is_object_type, is_void};
 use ckc_typed::{Globals, Note};
 use ckc_types::{CType, Kind};
-use std::alloc::{AllocError, Global};
+use std::alloc::Global;
 
 /// The type of a row, or the refusal of operands that are in none.
 fn in_row(void: bool, pos: Pos, t: Option<CType>) -> Result<CType, TypeFault>
@@ -34,67 +31,6 @@ fn in_row(void: bool, pos: Pos, t: Option<CType>) -> Result<CType, TypeFault>
                 Err(refused(401, pos))
             }
         }
-    }
-}
-
-/// The type of a number, by whether it is unsigned.
-pub fn number_type(unsigned: bool) -> CType
-    ensures { result ≡ number_type unsigned }
-{
-    if unsigned {
-        CType::Unsigned
-    } else {
-        CType::Int
-    }
-}
-
-/// The type of a string literal in a scope.
-pub fn string_type(alloc: Global, mode: Mode) -> Result<CType, AllocError>
-    ensures { IfOk result (λ t. t ≡ string_type mode) }
-{
-    let to = Boxed::new(alloc, CType::Char)?;
-    match mode {
-        Mode::Checked => Ok(CType::Pointer(Kind::Nt, to)),
-        Mode::Unchecked => Ok(CType::Pointer(Kind::Raw, to)),
-    }
-}
-
-/// The type of `NULL`.
-pub fn null_type(alloc: Global) -> Result<CType, AllocError>
-    ensures { IfOk result (λ t. t ≡ ctype.Pointer kind.One ctype.Void) }
-{
-    let to = Boxed::new(alloc, CType::Void)?;
-    Ok(CType::Pointer(Kind::One, to))
-}
-
-/// Whether a name is that of an object of file scope that is no array.
-pub fn is_no_array(globals: &Globals, n: Name) -> bool
-    ensures { result ≡ is_no_array (object_named globals.now n) }
-{
-    match object_named(globals, n) {
-        Some(o) => o.array.is_none(),
-        None => false,
-    }
-}
-
-/// Whether an operator is the unary `*`.
-pub fn is_target_op(op: TreeOp) -> bool
-    ensures { result ≡ is_target_op op }
-{
-    match op {
-        TreeOp::Deref => true,
-        _ => false,
-    }
-}
-
-fn has_address(globals: &Globals, e: &Expr<Name, Note>) -> bool
-    ensures { result ≡ has_address globals.now e.now }
-{
-    match &e.node {
-        Node::Name(n) => is_no_array(globals, *n),
-        Node::Un(op, _) => is_target_op(*op),
-        Node::Index(_, _) | Node::Dot(_, _) | Node::Arrow(_, _) => true,
-        _ => false,
     }
 }
 
@@ -282,12 +218,6 @@ pub fn trusted_typed(
         return Err(refused(402, pos));
     }
     Ok(t)
-}
-
-fn is_no_allocation(t: &CType, e: &Expr<Name, Note>, u: &CType) -> bool
-    ensures { result ≡ is_no_allocation t.now e.now u.now }
-{
-    is_void(t) || !same_type(t, u) || !is_integer(&e.note.ctype)
 }
 
 /// The type of `calloc` of two written types with a count.

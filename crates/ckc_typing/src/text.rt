@@ -10,8 +10,8 @@ ghost use Rattle.ckc_typing.specs.Verdicts.{IfRefused, AnswersTyped, AnswersFaul
 use crate::fault::TypeFault;
 use crate::items::{globals_of, typed_items};
 use crate::placing::placed;
-use crate::statics::blocks;
 use ckc_base::Seq;
+use ckc_statics::blocks;
 use ckc_syntax::{Item, Name, Tree};
 use ckc_typed::{Note, StaticObject, Typed};
 use ckc_types::Structs;
