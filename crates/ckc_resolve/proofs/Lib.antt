@@ -1,4 +1,5 @@
 pub mod Answer
+pub mod DefinedAt
 pub mod Ends
 pub mod Indexing
 pub mod Search

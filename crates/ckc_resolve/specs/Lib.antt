@@ -10,5 +10,6 @@ pub mod Declarations
 pub mod Statements
 pub mod Heads
 pub mod Items
+pub mod Bodies
 pub mod Named
 pub mod Verdicts

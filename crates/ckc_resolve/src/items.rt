@@ -2,6 +2,7 @@
 
 ghost use Rattle.std.specs.Prelude.{◌≡◌, Ok};
 ghost use Rattle.std.specs.List.{list_any};
+ghost use Rattle.ckc_resolve.specs.Bodies.{has_body, bodies_from, defines_at};
 ghost use Rattle.ckc_resolve.specs.Outcomes.{Answers, Steps};
 ghost use Rattle.ckc_resolve.specs.Items.{name_of_tag, is_taken_static, is_taken_function, defines, if_defined, structure_named, static_named, proto_named, function_named, item_named, item_in_turn, items_named, is_int, is_main_head, is_main};
 
@@ -46,11 +47,55 @@ fn defines<'a>(head: &Head<Spelling<'a>, ()>, item: &Item<Spelling<'a>, ()>) -> 
     }
 }
 
-fn is_defined<'a>(all: &[Item<Spelling<'a>, ()>], head: &Head<Spelling<'a>, ()>) -> bool
+fn has_body<'a>(item: &Item<Spelling<'a>, ()>) -> bool
+    ensures { result ≡ has_body item.now }
+{
+    match item {
+        Item::Function(_, _) => true,
+        Item::Directive(_) | Item::Tag(_, _) | Item::Struct(_, _, _) => false,
+        Item::Static(_) | Item::Proto(_) => false,
+    }
+}
+
+/// The places of the functions with a body. They are few, so a prototype is compared with few.
+fn bodies_of<'a>(
+    alloc: Global,
+    items: &[Item<Spelling<'a>, ()>],
+) -> Result<Seq<usize>, ResolveFault>
+    ensures { Answers result (Ok (bodies_from 0 items.now)) }
+{
+    let mut places = Seq::new(alloc);
+    for place in 0..items.len() {
+        if has_body(&items[place]) {
+            places.push(place)?;
+        }
+    }
+    Ok(places)
+}
+
+fn defines_at<'a>(
+    all: &[Item<Spelling<'a>, ()>],
+    head: &Head<Spelling<'a>, ()>,
+    place: usize,
+) -> bool
+    ensures { result ≡ defines_at all.now head.now place }
+{
+    match all.get(place) {
+        Some(item) => defines(head, item),
+        None => false,
+    }
+}
+
+fn is_defined<'a>(
+    all: &[Item<Spelling<'a>, ()>],
+    bodies: &[usize],
+    head: &Head<Spelling<'a>, ()>,
+) -> bool
+    requires { bodies.now ≡ bodies_from 0 all.now }
     ensures { result ≡ list_any (defines head.now) all.now }
 {
-    for item in all {
-        if defines(head, item) {
+    for place in bodies {
+        if defines_at(all, head, *place) {
             return true;
         }
     }
@@ -59,12 +104,14 @@ fn is_defined<'a>(all: &[Item<Spelling<'a>, ()>], head: &Head<Spelling<'a>, ()>)
 
 fn defined_proto<'a>(
     all: &[Item<Spelling<'a>, ()>],
+    bodies: &[usize],
     head: &Head<Spelling<'a>, ()>,
     named: Boxed<Head<Name, ()>>,
 ) -> Result<Item<Name, ()>, ResolveFault>
+    requires { bodies.now ≡ bodies_from 0 all.now }
     ensures { Answers result (if_defined all.now head.now (Item.Proto named)) }
 {
-    if !is_defined(all, head) {
+    if !is_defined(all, bodies, head) {
         return Err(refused(304, head.pos));
     }
     Ok(Item::Proto(named))
@@ -110,9 +157,11 @@ fn named_proto<'a>(
     alloc: Global,
     names: &Names<'a>,
     all: &[Item<Spelling<'a>, ()>],
+    bodies: &[usize],
     before: &Names<'a>,
     head: &Head<Spelling<'a>, ()>,
 ) -> Result<Item<Name, ()>, ResolveFault>
+    requires { bodies.now ≡ bodies_from 0 all.now }
     ensures { Answers result (proto_named names.now all.now before.now head.now) }
 {
     let mut body = Scopes::new(alloc);
@@ -121,7 +170,7 @@ fn named_proto<'a>(
     if is_taken_function(before, &head.name) {
         return Err(refused(302, head.pos));
     }
-    defined_proto(all, head, boxed)
+    defined_proto(all, bodies, head, boxed)
 }
 
 fn named_function<'a>(
@@ -147,9 +196,11 @@ fn named_item<'a>(
     alloc: Global,
     names: &Names<'a>,
     all: &[Item<Spelling<'a>, ()>],
+    bodies: &[usize],
     before: &Names<'a>,
     item: &Item<Spelling<'a>, ()>,
 ) -> Result<Item<Name, ()>, ResolveFault>
+    requires { bodies.now ≡ bodies_from 0 all.now }
     ensures { Answers result (item_named names.now all.now before.now item.now) }
 {
     match item {
@@ -162,7 +213,7 @@ fn named_item<'a>(
             named_structure(alloc, names, before, s, members.as_slice(), *pos)
         }
         Item::Static(decl) => named_static(alloc, names, before, decl.get()),
-        Item::Proto(head) => named_proto(alloc, names, all, before, head.get()),
+        Item::Proto(head) => named_proto(alloc, names, all, bodies, before, head.get()),
         Item::Function(head, body) => {
             named_function(alloc, names, before, head.get(), body.get())
         }
@@ -173,12 +224,14 @@ fn item_in_turn<'a>(
     alloc: Global,
     names: &Names<'a>,
     all: &[Item<Spelling<'a>, ()>],
+    bodies: &[usize],
     before: &mut Names<'a>,
     item: &Item<Spelling<'a>, ()>,
 ) -> Result<Item<Name, ()>, ResolveFault>
+    requires { bodies.now ≡ bodies_from 0 all.now }
     ensures { Steps result before.new (item_in_turn names.now all.now item.now before.old) }
 {
-    let named = named_item(alloc, names, all, before, item)?;
+    let named = named_item(alloc, names, all, bodies, before, item)?;
     before.note(item)?;
     Ok(named)
 }
@@ -192,9 +245,23 @@ pub fn named_items<'a>(
 ) -> Result<Seq<Item<Name, ()>>, ResolveFault>
     ensures { Steps result before.new (items_named names.now items.now items.now before.old) }
 {
+    let bodies = bodies_of(alloc, items)?;
+    items_in_turn(alloc, names, bodies.as_slice(), before, items)
+}
+
+fn items_in_turn<'a>(
+    alloc: Global,
+    names: &Names<'a>,
+    bodies: &[usize],
+    before: &mut Names<'a>,
+    items: &[Item<Spelling<'a>, ()>],
+) -> Result<Seq<Item<Name, ()>>, ResolveFault>
+    requires { bodies.now ≡ bodies_from 0 items.now }
+    ensures { Steps result before.new (items_named names.now items.now items.now before.old) }
+{
     let mut out = Seq::new(alloc);
     for item in items {
-        let named = item_in_turn(alloc, names, items, before, item)?;
+        let named = item_in_turn(alloc, names, items, bodies, before, item)?;
         out.push(named)?;
     }
     Ok(out)

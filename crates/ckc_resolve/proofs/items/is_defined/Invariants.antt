@@ -1,7 +1,7 @@
 use Rattle.std.proofs.Common.{◌≡◌, drop}
 use Rattle.std.specs.List.{list_any}
-use Rattle.ckc_resolve.specs.Items.{defines}
+use Rattle.ckc_resolve.specs.Bodies.{defines_at}
 use Rattle.ckc_resolve.proofs.items.is_defined.Given as goal
 
-abbrev pub invariant-loop-item : goal.invariant-loop-item
-invariant-loop-item l = list_any (defines l.head) l.all ≡ list_any (defines l.head) (drop l.item-index l.all)
+abbrev pub invariant-loop-place : goal.invariant-loop-place
+invariant-loop-place l = list_any (defines_at l.all l.head) l.bodies ≡ list_any (defines_at l.all l.head) (drop l.place-index l.bodies)

@@ -1,7 +1,7 @@
 use Rattle.std.proofs.lemmas.Result.{err_from_is_err_and}
 use Rattle.ckc_resolve.specs.Items.{item_in_turn, items_named}
 use Rattle.ckc_resolve.proofs.Sequels.{begin, stops, turn_fault, turn_done, turn_end}
-use Rattle.ckc_resolve.proofs.items.named_items.Goals as goal
+use Rattle.ckc_resolve.proofs.items.items_in_turn.Goals as goal
 
 pub loop-item-init : goal.loop-item-init
 loop-item-init c = begin (items_named c.args.names.now c.args.items.now c.args.items.now c.args.before.now) _ c.new-out.ensures

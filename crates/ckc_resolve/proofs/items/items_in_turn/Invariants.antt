@@ -1,7 +1,7 @@
 use Rattle.std.proofs.Common.{◌≡◌}
 use Rattle.ckc_resolve.specs.Items.{item_in_turn, items_named}
 use Rattle.ckc_resolve.proofs.Sequels.{behind, left}
-use Rattle.ckc_resolve.proofs.items.named_items.Given as goal
+use Rattle.ckc_resolve.proofs.items.items_in_turn.Given as goal
 
 abbrev pub invariant-loop-item : goal.invariant-loop-item
 invariant-loop-item l = items_named l.names l.items l.items l.fn.before ≡ behind l.out (left (item_in_turn l.names l.items) l.items l.item-index l.before)
