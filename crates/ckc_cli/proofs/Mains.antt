@@ -105,7 +105,7 @@ bound b (Err r) t h = cc
 
 pub main_declared : (tree : Tree) (named : NamedTree) → Named tree named → IsSome (place_of (names_of tree).functions main_name)
 main_declared tree named h =
-    place_there (names_of tree).functions (all_note no_names tree.items (bound (list_any is_main tree.items) (items_named (names_of tree) tree.items no_names) named h))
+    place_there (names_of tree).functions (all_note no_names tree.items (bound (list_any is_main tree.items) (items_named (names_of tree) tree.items tree.items no_names) named h))
 
 pub same_place : (place main : Option ℕ) → ◌≡◌ {A = Outcome (Option ℕ)} (Ok place) (Ok main) → place ≡ main
 same_place place main h = cc
