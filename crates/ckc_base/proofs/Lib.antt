@@ -4,3 +4,4 @@ pub mod Travelling
 pub mod Seeing
 pub mod Simulating
 pub mod Listed
+pub mod Phases

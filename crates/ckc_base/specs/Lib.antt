@@ -14,3 +14,6 @@ pub mod Activations
 pub mod Products
 pub mod Sizes
 pub mod formers
+pub mod Phases
+pub mod Outcomes
+pub mod Places

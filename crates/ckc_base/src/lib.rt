@@ -7,6 +7,7 @@
 
 mod arithmetic;
 mod boxed;
+mod fault;
 pub mod laws;
 mod places;
 mod runtime_checks;
@@ -14,6 +15,7 @@ mod seq;
 
 pub use arithmetic::{BinOp, Mode, Width, apply};
 pub use boxed::Boxed;
-pub use places::{Pos, Refusal};
+pub use fault::{Fault, refused};
+pub use places::{LONGEST_TEXT, Pos, Refusal, START};
 pub use runtime_checks::{Check, check_name, check_number, check_of};
 pub use seq::{Bytes, Seq};

@@ -6,6 +6,12 @@ pub struct Pos {
     pub col: u32,
 }
 
+/// The first place of a text.
+pub const START: Pos = Pos { line: 1, col: 1 };
+
+/// How many bytes a text may have.
+pub const LONGEST_TEXT: usize = 262_144;
+
 /// Why a text is refused: the number of the refusal, as 120 for E120, and its place.
 #[derive(Clone, Copy, Debug, PartialEq, Eq)]
 pub struct Refusal {
