@@ -4,6 +4,7 @@ pub mod DigitFronts
 pub mod Emptied
 pub mod EscapeFronts
 pub mod Fronts
+pub mod Limiting
 pub mod Pieces
 pub mod Smalls
 pub mod Tallies

@@ -1,13 +1,14 @@
 -- Expressions and bounds are the same but for their places just where they are equal without them.
-use Rattle.std.proofs.Common.{rules, ◌≡◌, ℕ, ◌∙◌, ap, sym, refl, Bool, true, false, List, [], ◌∷◌, map, get_or}
+use Rattle.std.proofs.Common.{rules, ◌≡◌, ℕ, ◌∙◌, ap, sym, refl, Bool, true, false, List, [], ◌∷◌, get_or}
 use Rattle.std.specs.Prelude.{Option, Some, None}
+use Rattle.ckc_base.specs.Places.{start}
 use Rattle.ckc_syntax.specs.declared.tree.Limits.{Limits-F, map-Limits, ind-Limits, out-Limits, roll-Limits, fold-roll-Limits, fold_out-Limits}
 use Rattle.ckc_syntax.specs.declared.tree.Node.{Node-F, map-Node, out-Node, roll-Node, fold-roll-Node, fold_out-Node, the_lemmas as expr_lemmas}
 use Rattle.ckc_syntax.specs.declared.tree.Expr.{Expr-F, map-Expr, ind-Expr, out-Expr, roll-Expr, fold-roll-Expr, fold_out-Expr}
 use Rattle.ckc_syntax.specs.declared.tree.TreeOp.{TreeOp}
 use Rattle.ckc_syntax.specs.declared.tree.TreeOp.TheVariants as op
 use Rattle.ckc_syntax.specs.Same.{Spelling, TypeTree, Limits, Node, Expr, OfLimits, OfNode, OfExpr, number_of_op, same_op, same_flag, same_limits_parts, same_node_parts, of_limits, of_node, of_expr, same_limits, same_node, same_expr}
-use Rattle.ckc_syntax.specs.Placeless.{start, LimitsLayer, NodeLayer, ExprLayer, placeless_type, limits_at_start, node_at_start, expr_at_start, limits_rolled, node_rolled, expr_rolled, placeless_limits, placeless_node, placeless_expr}
+use Rattle.ckc_syntax.specs.Placeless.{LimitsLayer, NodeLayer, ExprLayer, limits_at_start, node_at_start, expr_at_start, limits_rolled, node_rolled, expr_rolled, placeless_limits, placeless_node, placeless_expr}
 use Rattle.ckc_syntax.proofs.Tells.{Tells, yes, unlike, both, made, same_tells, numbers, names, kept_lists, none_tells, some_tells, left_tells, right_tells}
 use Rattle.ckc_syntax.proofs.SameTypes.{type_tells}
 
@@ -114,9 +115,9 @@ abbrev bare_expr : ExprLayer → ExprLayer
 bare_expr x = expr_at_start (map-Expr Spelling (Unit {0}) Limits Node Expr Limits Node Expr placeless_limits placeless_node placeless_expr x)
 
 abbrev limits_form : LimitsLayer → ℕ
-limits_form (Limits-F.Count e) = 0
-limits_form (Limits-F.ByteCount e) = 1
-limits_form (Limits-F.Between e f) = 2
+limits_form (Limits-F.Count e p) = 0
+limits_form (Limits-F.ByteCount e p) = 1
+limits_form (Limits-F.Between e f p) = 2
 limits_form (Limits-F.Unknown p) = 3
 
 abbrev node_form : NodeLayer → ℕ
@@ -128,8 +129,8 @@ node_form (Node-F.Un o e) = 4
 node_form (Node-F.Bin o e f) = 5
 node_form (Node-F.Pick e f g) = 6
 node_form (Node-F.Index e f) = 7
-node_form (Node-F.Dot e s) = 8
-node_form (Node-F.Arrow e s) = 9
+node_form (Node-F.Dot e s p) = 8
+node_form (Node-F.Arrow e s p) = 9
 node_form (Node-F.Cast t e) = 10
 node_form (Node-F.Size t) = 11
 node_form (Node-F.Trusted t e l) = 12
@@ -138,19 +139,19 @@ node_form (Node-F.Call s es) = 14
 node_form (Node-F.Calloc t e u) = 15
 
 abbrev count : Expr → LimitsLayer
-count z = Limits-F.Count z
+count z = Limits-F.Count z start
 
 inj_count : (a p : Expr) → count a ≡ count p → ◌≡◌ {A = Expr} a p
 inj_count a p e = cc
 
 abbrev byte_count : Expr → LimitsLayer
-byte_count z = Limits-F.ByteCount z
+byte_count z = Limits-F.ByteCount z start
 
 inj_byte_count : (a p : Expr) → byte_count a ≡ byte_count p → ◌≡◌ {A = Expr} a p
 inj_byte_count a p e = cc
 
 abbrev between : Expr × Expr → LimitsLayer
-between z = Limits-F.Between z.0 z.1
+between z = Limits-F.Between z.0 z.1 start
 
 inj_between : (a p : Expr) (b q : Expr) → between (a, b) ≡ between (p, q) → ◌≡◌ {A = Expr × Expr} (a, b) (p, q)
 inj_between a p b q e = cc
@@ -198,13 +199,13 @@ inj_index : (a p : Expr) (b q : Expr) → index (a, b) ≡ index (p, q) → ◌�
 inj_index a p b q e = cc
 
 abbrev dot : Expr × Spelling → NodeLayer
-dot z = Node-F.Dot z.0 z.1
+dot z = Node-F.Dot z.0 z.1 start
 
 inj_dot : (a p : Expr) (b q : Spelling) → dot (a, b) ≡ dot (p, q) → ◌≡◌ {A = Expr × Spelling} (a, b) (p, q)
 inj_dot a p b q e = cc
 
 abbrev arrow : Expr × Spelling → NodeLayer
-arrow z = Node-F.Arrow z.0 z.1
+arrow z = Node-F.Arrow z.0 z.1 start
 
 inj_arrow : (a p : Expr) (b q : Spelling) → arrow (a, b) ≡ arrow (p, q) → ◌≡◌ {A = Expr × Spelling} (a, b) (p, q)
 inj_arrow a p b q e = cc
@@ -246,9 +247,9 @@ inj_calloc : (a p : TypeTree) (b q : Expr) (c r : TypeTree) → calloc (a, (b, c
 inj_calloc a p b q c r e = cc
 
 limits_step : (y : Limits-F Spelling (Unit {0}) KeptLimits KeptNode KeptExpr) (v : LimitsLayer) → Tells (same_limits_parts (test_limits (inner_limits y)) v) (bare_limits (inner_limits y)) (bare_limits v)
-limits_step (Limits-F.Count k) (Limits-F.Count a) = made count (k.1 a) (inj_count _ _)
-limits_step (Limits-F.ByteCount k) (Limits-F.ByteCount a) = made byte_count (k.1 a) (inj_byte_count _ _)
-limits_step (Limits-F.Between k j) (Limits-F.Between a b) = made between (both (k.1 a) (j.1 b)) (inj_between _ _ _ _)
+limits_step (Limits-F.Count k p) (Limits-F.Count a q) = made count (k.1 a) (inj_count _ _)
+limits_step (Limits-F.ByteCount k p) (Limits-F.ByteCount a q) = made byte_count (k.1 a) (inj_byte_count _ _)
+limits_step (Limits-F.Between k j p) (Limits-F.Between a b q) = made between (both (k.1 a) (j.1 b)) (inj_between _ _ _ _)
 limits_step (Limits-F.Unknown p) (Limits-F.Unknown q) = yes _
 limits_step y v = unlike limits_form _ _ refl
 
@@ -261,8 +262,8 @@ node_step (Node-F.Un o k) (Node-F.Un p a) = made un (both (ops o p) (k.1 a)) (in
 node_step (Node-F.Bin o k j) (Node-F.Bin p a b) = made bin (both (ops o p) (both (k.1 a) (j.1 b))) (inj_bin _ _ _ _ _ _)
 node_step (Node-F.Pick k j i) (Node-F.Pick a b c) = made pick (both (k.1 a) (both (j.1 b) (i.1 c))) (inj_pick _ _ _ _ _ _)
 node_step (Node-F.Index k j) (Node-F.Index a b) = made index (both (k.1 a) (j.1 b)) (inj_index _ _ _ _)
-node_step (Node-F.Dot k s) (Node-F.Dot a t) = made dot (both (k.1 a) (names s t)) (inj_dot _ _ _ _)
-node_step (Node-F.Arrow k s) (Node-F.Arrow a t) = made arrow (both (k.1 a) (names s t)) (inj_arrow _ _ _ _)
+node_step (Node-F.Dot k s p) (Node-F.Dot a t q) = made dot (both (k.1 a) (names s t)) (inj_dot _ _ _ _)
+node_step (Node-F.Arrow k s p) (Node-F.Arrow a t q) = made arrow (both (k.1 a) (names s t)) (inj_arrow _ _ _ _)
 node_step (Node-F.Cast t k) (Node-F.Cast u a) = made cast (both (type_tells t u) (k.1 a)) (inj_cast _ _ _ _)
 node_step (Node-F.Size t) (Node-F.Size u) = made size (type_tells t u) (inj_size _ _)
 node_step (Node-F.Trusted t k None) (Node-F.Trusted u a None) = made trusted (both (type_tells t u) (both (k.1 a) none_tells)) (inj_trusted _ _ _ _ _ _)

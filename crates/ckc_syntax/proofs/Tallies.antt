@@ -8,6 +8,7 @@ use Rattle.ckc_syntax.specs.Tally.{counted, tallied}
 use Rattle.ckc_syntax.specs.declared.tree.Node.{the_lemmas as expr_lemmas}
 use Rattle.ckc_syntax.specs.declared.tree.Node.TheVariants as nodes
 use Rattle.ckc_syntax.specs.declared.tree.Expr.{Expr}
+use Rattle.ckc_base.specs.declared.places.Pos.{Pos}
 use Rattle.ckc_syntax.specs.declared.tree.Limits.{Limits}
 use Rattle.ckc_syntax.specs.declared.tree.Limits.TheVariants as limits
 use Rattle.ckc_syntax.specs.declared.tree.TypeTree.{TypeTree}
@@ -47,8 +48,8 @@ pub marks_of_bundle : {N A : Type 0} (ss : List (Stmt N A)) → marks_of_act (ac
 marks_of_bundle ss = joined_of_bundle ss ∙ joined_is marks_of_stmt ss
 
 -- the parts of the nodes that have several
-pub marks_of_between : {N A : Type 0} (e f : Expr N A) → marks_of_limits (limits.Between e f) ≡ marks_of_expr e ++ marks_of_expr f
-marks_of_between e f = search (rules, expr_lemmas)
+pub marks_of_between : {N A : Type 0} (e f : Expr N A) (pos : Pos) → marks_of_limits (limits.Between e f pos) ≡ marks_of_expr e ++ marks_of_expr f
+marks_of_between e f pos = search (rules, expr_lemmas)
 
 pub marks_of_bin : {N A : Type 0} (op : TreeOp) (e f : Expr N A) → marks_of_node (nodes.Bin op e f) ≡ marks_of_expr e ++ marks_of_expr f
 marks_of_bin op e f = search (rules, expr_lemmas)

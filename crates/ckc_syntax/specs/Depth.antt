@@ -24,9 +24,9 @@ held_depth (Some d) = d
 -- The depth of a tree is the number of statements and expressions on the longest path down into it. Each step
 -- below is one level, with the depth of each part in its place.
 abbrev pub limits_depth : {N A : Type 0} → Limits-F N A ℕ ℕ ℕ → ℕ
-limits_depth (Limits-F.Count e) = e
-limits_depth (Limits-F.ByteCount e) = e
-limits_depth (Limits-F.Between e f) = max e f
+limits_depth (Limits-F.Count e pos) = e
+limits_depth (Limits-F.ByteCount e pos) = e
+limits_depth (Limits-F.Between e f pos) = max e f
 limits_depth (Limits-F.Unknown pos) = 0
 
 abbrev pub node_depth : {N A : Type 0} → Node-F N A ℕ ℕ ℕ → ℕ
@@ -38,8 +38,8 @@ node_depth (Node-F.Un op e) = e
 node_depth (Node-F.Bin op e f) = max e f
 node_depth (Node-F.Pick e f g) = max e (max f g)
 node_depth (Node-F.Index e f) = max e f
-node_depth (Node-F.Dot e n) = e
-node_depth (Node-F.Arrow e n) = e
+node_depth (Node-F.Dot e n pos) = e
+node_depth (Node-F.Arrow e n pos) = e
 node_depth (Node-F.Cast t e) = e
 node_depth (Node-F.Size t) = 0
 node_depth (Node-F.Trusted t e limits) = max e (held_depth limits)

@@ -6,6 +6,7 @@ pub mod Digits
 pub mod Literals
 pub mod Longest
 pub mod Marks
+pub mod Phase
 pub mod Small
 pub mod Spelled
 pub mod Tally

@@ -33,9 +33,9 @@ held (Some ms) = ms
 -- The marks of a tree are those of its parts, in the order of the text, and its own first. Each step below is
 -- one level, with the marks of each part in its place.
 abbrev pub limits_marks : {N A : Type 0} → Limits-F N A (List Mark) (List Mark) (List Mark) → List Mark
-limits_marks (Limits-F.Count e) = e
-limits_marks (Limits-F.ByteCount e) = e
-limits_marks (Limits-F.Between e f) = e ++ f
+limits_marks (Limits-F.Count e pos) = e
+limits_marks (Limits-F.ByteCount e pos) = e
+limits_marks (Limits-F.Between e f pos) = e ++ f
 limits_marks (Limits-F.Unknown pos) = []
 
 abbrev pub node_marks : {N A : Type 0} → Node-F N A (List Mark) (List Mark) (List Mark) → List Mark
@@ -47,8 +47,8 @@ node_marks (Node-F.Un op e) = e
 node_marks (Node-F.Bin op e f) = e ++ f
 node_marks (Node-F.Pick e f g) = e ++ f ++ g
 node_marks (Node-F.Index e f) = e ++ f
-node_marks (Node-F.Dot e n) = e
-node_marks (Node-F.Arrow e n) = e
+node_marks (Node-F.Dot e n pos) = e
+node_marks (Node-F.Arrow e n pos) = e
 node_marks (Node-F.Cast t e) = e
 node_marks (Node-F.Size t) = []
 node_marks (Node-F.Trusted t e limits) = e ++ held limits

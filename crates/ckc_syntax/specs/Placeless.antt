@@ -1,7 +1,7 @@
 -- Types, expressions, declarations and heads without their places: each place is set to the start of a text, and all
 -- else stands. Two are alike but for their places just where these are equal.
 use Rattle.std.specs.Prelude.{map, Option, Some, None}
-use Rattle.ckc_base.specs.declared.places.Pos.{Pos}
+use Rattle.ckc_base.specs.Places.{start}
 use Rattle.ckc_syntax.specs.declared.tree.TypeTree.{TypeTree-F, fold-TypeTree, roll-TypeTree}
 use Rattle.ckc_syntax.specs.declared.tree.Limits.{Limits-F, fold-Limits, roll-Limits}
 use Rattle.ckc_syntax.specs.declared.tree.Node.{Node-F, fold-Node, roll-Node}
@@ -10,9 +10,6 @@ use Rattle.ckc_syntax.specs.declared.tree.Init.TheVariants as init
 use Rattle.ckc_syntax.specs.declared.tree.Length.{Length}
 use Rattle.ckc_syntax.specs.declared.tree.Length.TheVariants as len
 use Rattle.ckc_syntax.specs.Same.{Spelling, TypeTree, Limits, Node, Expr, Init, Decl, Head}
-
-abbrev pub start : Pos
-start = record { line = 1; col = 1 }
 
 abbrev pub type_at_start : TypeTree-F Spelling TypeTree → TypeTree-F Spelling TypeTree
 type_at_start (TypeTree-F.Struct s pos) = TypeTree-F.Struct s start
@@ -32,10 +29,14 @@ abbrev pub ExprLayer : Type 0
 ExprLayer = Expr-F Spelling (Unit {0}) Limits Node Expr
 
 abbrev pub limits_at_start : LimitsLayer → LimitsLayer
+limits_at_start (Limits-F.Count e pos) = Limits-F.Count e start
+limits_at_start (Limits-F.ByteCount e pos) = Limits-F.ByteCount e start
+limits_at_start (Limits-F.Between e f pos) = Limits-F.Between e f start
 limits_at_start (Limits-F.Unknown pos) = Limits-F.Unknown start
-limits_at_start l = l
 
 abbrev pub node_at_start : NodeLayer → NodeLayer
+node_at_start (Node-F.Dot e n pos) = Node-F.Dot e n start
+node_at_start (Node-F.Arrow e n pos) = Node-F.Arrow e n start
 node_at_start (Node-F.Cast t e) = Node-F.Cast (placeless_type t) e
 node_at_start (Node-F.Size t) = Node-F.Size (placeless_type t)
 node_at_start (Node-F.Trusted t e l) = Node-F.Trusted (placeless_type t) e l

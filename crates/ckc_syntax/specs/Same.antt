@@ -123,9 +123,9 @@ abbrev pub NodeTests : Type 0
 NodeTests = Node-F Spelling (Unit {0}) OfLimits OfNode OfExpr
 
 abbrev pub same_limits_parts : LimitsTests → Limits-F Spelling (Unit {0}) Limits Node Expr → Bool
-same_limits_parts (Limits-F.Count e) (Limits-F.Count a) = e a
-same_limits_parts (Limits-F.ByteCount e) (Limits-F.ByteCount a) = e a
-same_limits_parts (Limits-F.Between e f) (Limits-F.Between a b) = e a && f b
+same_limits_parts (Limits-F.Count e p) (Limits-F.Count a q) = e a
+same_limits_parts (Limits-F.ByteCount e p) (Limits-F.ByteCount a q) = e a
+same_limits_parts (Limits-F.Between e f p) (Limits-F.Between a b q) = e a && f b
 same_limits_parts (Limits-F.Unknown p) (Limits-F.Unknown q) = true
 same_limits_parts _ _ = false
 
@@ -138,8 +138,8 @@ same_node_parts (Node-F.Un o e) (Node-F.Un p a) = same_op o p && e a
 same_node_parts (Node-F.Bin o e f) (Node-F.Bin p a b) = same_op o p && (e a && f b)
 same_node_parts (Node-F.Pick e f g) (Node-F.Pick a b c) = e a && (f b && g c)
 same_node_parts (Node-F.Index e f) (Node-F.Index a b) = e a && f b
-same_node_parts (Node-F.Dot e s) (Node-F.Dot a t) = e a && bytes_eq s t
-same_node_parts (Node-F.Arrow e s) (Node-F.Arrow a t) = e a && bytes_eq s t
+same_node_parts (Node-F.Dot e s p) (Node-F.Dot a t q) = e a && bytes_eq s t
+same_node_parts (Node-F.Arrow e s p) (Node-F.Arrow a t q) = e a && bytes_eq s t
 same_node_parts (Node-F.Cast t e) (Node-F.Cast u a) = same_type t u && e a
 same_node_parts (Node-F.Size t) (Node-F.Size u) = same_type t u
 same_node_parts (Node-F.Trusted t e l) (Node-F.Trusted u a m) = same_type t u && (e a && passes l m)

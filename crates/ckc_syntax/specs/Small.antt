@@ -3,6 +3,7 @@ use Rattle.std.specs.Prelude.{Result, Ok, Err, ℕ, ◌≡◌, ◌≤◌, List, 
 use Rattle.std.specs.List.{AllByRecursion}
 use Rattle.ckc_base.specs.declared.places.Pos.{Pos}
 use Rattle.ckc_base.specs.declared.places.Refusal.{Refusal}
+use Rattle.ckc_base.specs.Places.{start}
 use Rattle.ckc_syntax.specs.declared.tree.Tree.{Tree}
 use Rattle.ckc_syntax.specs.declared.tree.Item.{Item}
 use Rattle.ckc_syntax.specs.declared.tree.Item.TheVariants as item
@@ -39,7 +40,7 @@ pub record Small {N A : Type 0} (tree : Tree N A) : Type 0 where
 abbrev pub over : ℕ → ℕ → ℕ → Pos → List Refusal
 over limit number code pos = if nat_lt limit number then record { code = code; pos = pos } ∷ [] else []
 
--- what a function breaks: its nodes, and then its locals
+-- what a function breaks: its nodes (E203), and then its locals (E204)
 abbrev pub faults_of_function : List Mark → Pos → List Refusal
 faults_of_function ms pos = over 1000 (how_many is_node ms) 203 pos ++ over 255 (how_many is_local ms) 204 pos
 
@@ -52,9 +53,6 @@ faults_of_item (item.Static d) = over 64 (depth_of_item (item.Static d)) 202 d.p
 faults_of_item (item.Proto h) = over 64 (depth_of_item (item.Proto h)) 202 h.pos
 faults_of_item (item.Function h body) =
     over 64 (depth_of_item (item.Function h body)) 202 h.pos ++ faults_of_function (marks_of_item (item.Function h body)) h.pos
-
-abbrev pub start : Pos
-start = record { line = 1; col = 1 }
 
 -- what the whole text breaks: its nodes, and then its functions, objects and string literals
 abbrev pub faults_of_marks : List Mark → List Refusal

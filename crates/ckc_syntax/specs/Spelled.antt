@@ -10,5 +10,10 @@ pub record Spelled : Type 0 where
   pub text : List ℕ
   pub pos : Pos
 
+-- the tokens of a text, and the place just past it
+pub record Tokens : Type 0 where
+  pub list : List Spelled
+  pub end : Pos
+
 abbrev pub spelled : tokens.Token → Spelled
 spelled t = record { kind = t.kind; text = t.text.now; pos = t.pos }

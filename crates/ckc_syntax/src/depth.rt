@@ -11,8 +11,8 @@ fn limits_within<N, A>(limits: &Limits<N, A>, left: u32) -> bool
     ensures { IsTrue result ↔ (depth_of_limits limits.now ≤ left) }
 {
     match limits {
-        Limits::Count(e) | Limits::ByteCount(e) => expr_within(e.get(), left),
-        Limits::Between(e, f) => expr_within(e.get(), left) && expr_within(f.get(), left),
+        Limits::Count(e, _) | Limits::ByteCount(e, _) => expr_within(e.get(), left),
+        Limits::Between(e, f, _) => expr_within(e.get(), left) && expr_within(f.get(), left),
         Limits::Unknown(_) => true,
     }
 }
@@ -23,7 +23,7 @@ fn node_within<N, A>(node: &Node<N, A>, left: u32) -> bool
 {
     match node {
         Node::Number(_, _) | Node::Text(_) | Node::Null | Node::Name(_) | Node::Size(_) => true,
-        Node::Un(_, e) | Node::Dot(e, _) | Node::Arrow(e, _) => expr_within(e.get(), left),
+        Node::Un(_, e) | Node::Dot(e, _, _) | Node::Arrow(e, _, _) => expr_within(e.get(), left),
         Node::Cast(_, e) | Node::Calloc(_, e, _) => expr_within(e.get(), left),
         Node::Bin(_, e, f) => expr_within(e.get(), left) && expr_within(f.get(), left),
         Node::Index(e, f) => expr_within(e.get(), left) && expr_within(f.get(), left),

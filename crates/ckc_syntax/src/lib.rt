@@ -13,12 +13,13 @@ mod tokens;
 mod tree;
 
 pub use digits::{digit_value, is_digit};
-pub use laws::one_answer;
-pub use limits::fits;
+pub use laws::{codes, is_exact};
+pub use limits::{TOO_DEEP, TOO_MANY_ITEMS, TOO_MANY_LOCALS, TOO_MANY_NODES, fits};
 pub use literals::{Piece, piece_at, string_bytes};
 pub use placeless::same_but_for_places;
 pub use same::same_head;
 pub use tokens::{Directive, Spelling, Token, TokenKind};
 pub use tree::{
-    Act, Decl, Expr, Head, Init, Item, Length, Limits, Name, Node, Stmt, Tree, TreeOp, TypeTree,
+    Act, Decl, Expr, Head, Init, Item, Length, Limits, Name, NamedText, Node, Stmt, Tree, TreeOp,
+    TypeTree,
 };

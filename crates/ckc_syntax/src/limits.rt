@@ -1,13 +1,16 @@
-ghost use Rattle.std.specs.Prelude.{◌≡◌, List, ◌↔◌, IsOk, IfErr};
+ghost use Rattle.std.specs.Prelude.{◌≡◌, List, IfErr};
+ghost use Rattle.ckc_base.specs.declared.fault.Fault.TheVariants.{Memory};
+ghost use Rattle.ckc_base.specs.Phases.{Exact, viewed};
 ghost use Rattle.ckc_syntax.specs.Depth.{depth_of_item};
-ghost use Rattle.ckc_syntax.specs.Small.{Small, IsFirst, Judges, faults_of, faults_of_item, faults_of_function, faults_of_marks, over};
+ghost use Rattle.ckc_syntax.specs.Phase.{limiting};
+ghost use Rattle.ckc_syntax.specs.Small.{Judges, faults_of, faults_of_item, faults_of_function, faults_of_marks, over};
 ghost use Rattle.ckc_syntax.specs.Tally.{tallied, nothing};
 ghost use Rattle.ckc_syntax.specs.Marks.{Mark};
 
 use crate::depth::item_within;
 use crate::tally::{Tally, item_tally};
 use crate::{Item, Tree};
-use ckc_base::{Pos, Refusal};
+use ckc_base::{Fault, Pos, Refusal, START};
 
 /// How deep statements and expressions may stand in one another.
 const DEPTH: u32 = 64;
@@ -26,17 +29,29 @@ const STATICS: u32 = 1_024;
 
 const TEXTS: u32 = 1_024;
 
-/// The place of what the whole text breaks.
-const START: Pos = Pos { line: 1, col: 1 };
+/// E202: statements and expressions stand in one another more than 64 deep.
+pub const TOO_DEEP: u16 = 202;
+
+/// E203: a function has over 1,000 nodes, or a text over 16,384.
+pub const TOO_MANY_NODES: u16 = 203;
+
+/// E204: a function has over 255 locals with its parameters.
+pub const TOO_MANY_LOCALS: u16 = 204;
+
+/// E205: a text has over 512 functions, 1,024 objects or 1,024 string literals.
+pub const TOO_MANY_ITEMS: u16 = 205;
 
 /// Whether a tree keeps the limits of a text, or the first refusal: item by item in the order of the text
 /// E202, then for a function E203 and E204, each at the declared name or tag; then for the whole text E203 and
 /// E205, at 1:1. It takes no memory.
-pub fn fits<N, A>(tree: &Tree<N, A>) -> Result<(), Refusal>
-    ensures ok { IsOk result ↔ Small tree.now }
-    ensures err { IfErr result (λ r. IsFirst r (faults_of tree.now)) }
+pub fn fits<N, A>(tree: &Tree<N, A>) -> Result<(), Fault>
+    // Ok where the tree is small, a refusal for exactly the first limit that is broken, both ways.
+    ensures exact { Exact limiting tree.now (viewed (λ _. tree.now) result) }
+    // It takes no memory.
+    ensures no_memory { IfErr result (λ e. ¬ (e ≡ Memory)) }
 {
-    judged(tree)
+    judged(tree)?;
+    Ok(())
 }
 
 fn judged<N, A>(tree: &Tree<N, A>) -> Result<(), Refusal>
@@ -69,7 +84,10 @@ fn depth_fits<N, A>(item: &Item<N, A>, pos: Pos) -> Result<(), Refusal>
     ensures { Judges result (over 64 (depth_of_item item.now) 202 pos) }
 {
     if !item_within(item, DEPTH) {
-        return Err(Refusal { code: 202, pos });
+        return Err(Refusal {
+            code: TOO_DEEP,
+            pos,
+        });
     }
     Ok(())
 }
@@ -78,18 +96,18 @@ fn depth_fits<N, A>(item: &Item<N, A>, pos: Pos) -> Result<(), Refusal>
 fn function_fits(tally: Tally, pos: Pos) -> Result<(), Refusal>
     ensures { (ms : List Mark) → tally ≡ tallied nothing ms → Judges result (faults_of_function ms pos) }
 {
-    at_most(NODES, tally.nodes, 203, pos)?;
-    at_most(LOCALS, tally.locals, 204, pos)
+    at_most(NODES, tally.nodes, TOO_MANY_NODES, pos)?;
+    at_most(LOCALS, tally.locals, TOO_MANY_LOCALS, pos)
 }
 
 /// Judges the counts of a text, of which `ms` are the marks.
 fn whole_fits(tally: Tally) -> Result<(), Refusal>
     ensures { (ms : List Mark) → tally ≡ tallied nothing ms → Judges result (faults_of_marks ms) }
 {
-    at_most(ALL_NODES, tally.nodes, 203, START)?;
-    at_most(FUNCTIONS, tally.functions, 205, START)?;
-    at_most(STATICS, tally.statics, 205, START)?;
-    at_most(TEXTS, tally.texts, 205, START)
+    at_most(ALL_NODES, tally.nodes, TOO_MANY_NODES, START)?;
+    at_most(FUNCTIONS, tally.functions, TOO_MANY_ITEMS, START)?;
+    at_most(STATICS, tally.statics, TOO_MANY_ITEMS, START)?;
+    at_most(TEXTS, tally.texts, TOO_MANY_ITEMS, START)
 }
 
 /// Judges a number.

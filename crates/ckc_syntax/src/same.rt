@@ -73,9 +73,9 @@ fn same_limits<'a>(l: &Limits<Spelling<'a>, ()>, m: &Limits<Spelling<'a>, ()>) -
     ensures { result ≡ same_limits l.now m.now }
 {
     match (l, m) {
-        (Limits::Count(e), Limits::Count(a)) => same_expr(e.get(), a.get()),
-        (Limits::ByteCount(e), Limits::ByteCount(a)) => same_expr(e.get(), a.get()),
-        (Limits::Between(e, f), Limits::Between(a, b)) => {
+        (Limits::Count(e, _), Limits::Count(a, _)) => same_expr(e.get(), a.get()),
+        (Limits::ByteCount(e, _), Limits::ByteCount(a, _)) => same_expr(e.get(), a.get()),
+        (Limits::Between(e, f, _), Limits::Between(a, b, _)) => {
             same_expr(e.get(), a.get()) && same_expr(f.get(), b.get())
         }
         (Limits::Unknown(_), Limits::Unknown(_)) => true,
@@ -104,8 +104,9 @@ fn same_node<'a>(n: &Node<Spelling<'a>, ()>, m: &Node<Spelling<'a>, ()>) -> bool
         (Node::Index(e, f), Node::Index(a, b)) => {
             same_expr(e.get(), a.get()) && same_expr(f.get(), b.get())
         }
-        (Node::Dot(e, s), Node::Dot(a, t)) => same_expr(e.get(), a.get()) && same_name(s, t),
-        (Node::Arrow(e, s), Node::Arrow(a, t)) => same_expr(e.get(), a.get()) && same_name(s, t),
+        (Node::Dot(e, s, _), Node::Dot(a, t, _)) => same_expr(e.get(), a.get()) && same_name(s, t),
+        (Node::Arrow(e, s, _), Node::Arrow(a, t, _)) => same_expr(e.get(), a.get())
+            && same_name(s, t),
         (Node::Cast(t, e), Node::Cast(u, a)) => same_type(t, u) && same_expr(e.get(), a.get()),
         (Node::Size(t), Node::Size(u)) => same_type(t, u),
         (Node::Trusted(t, e, l), Node::Trusted(u, a, m)) => {

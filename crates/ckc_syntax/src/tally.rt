@@ -83,8 +83,8 @@ fn limits_tally<N, A>(limits: &Limits<N, A>, so_far: Tally) -> Tally
     ensures { result ≡ tallied so_far (marks_of_limits limits.now) }
 {
     match limits {
-        Limits::Count(e) | Limits::ByteCount(e) => expr_tally(e.get(), so_far),
-        Limits::Between(e, f) => expr_tally(f.get(), expr_tally(e.get(), so_far)),
+        Limits::Count(e, _) | Limits::ByteCount(e, _) => expr_tally(e.get(), so_far),
+        Limits::Between(e, f, _) => expr_tally(f.get(), expr_tally(e.get(), so_far)),
         Limits::Unknown(_) => so_far,
     }
 }
@@ -97,7 +97,7 @@ fn node_tally<N, A>(node: &Node<N, A>, so_far: Tally) -> Tally
     match node {
         Node::Number(_, _) | Node::Null | Node::Name(_) | Node::Size(_) => so_far,
         Node::Text(_) => so_far.text(),
-        Node::Un(_, e) | Node::Dot(e, _) | Node::Arrow(e, _) => expr_tally(e.get(), so_far),
+        Node::Un(_, e) | Node::Dot(e, _, _) | Node::Arrow(e, _, _) => expr_tally(e.get(), so_far),
         Node::Cast(_, e) | Node::Calloc(_, e, _) => expr_tally(e.get(), so_far),
         Node::Bin(_, e, f) => expr_tally(f.get(), expr_tally(e.get(), so_far)),
         Node::Index(e, f) => expr_tally(f.get(), expr_tally(e.get(), so_far)),

@@ -10,6 +10,13 @@ pub struct Tree<N, A> {
     pub items: Seq<Item<N, A>>,
 }
 
+/// A text whose names are resolved, with the number of its function `main`.
+#[derive(Drop)]
+pub struct NamedText {
+    pub tree: Tree<Name, ()>,
+    pub main: u32,
+}
+
 /// An item of a text: a directive, a tag line `struct name;`, a structure with its members, an object, a
 /// prototype or a function (ISO C11, 6.9). A place is that of the tag.
 pub enum Item<N, A> {
@@ -139,12 +146,12 @@ impl<N: Drop, A: Drop> Drop for Init<N, A> {
 }
 
 /// A bounds expression (Checked C specification 0.9, section 3.1): `count(e)`, `byte_count(e)`,
-/// `bounds(e, f)`, or `bounds(unknown)` with the place of `bounds`.
+/// `bounds(e, f)` or `bounds(unknown)`, each with the place of its first token.
 #[cycle(expr)]
 pub enum Limits<N, A> {
-    Count(Boxed<Expr<N, A>>),
-    ByteCount(Boxed<Expr<N, A>>),
-    Between(Boxed<Expr<N, A>>, Boxed<Expr<N, A>>),
+    Count(Boxed<Expr<N, A>>, Pos),
+    ByteCount(Boxed<Expr<N, A>>, Pos),
+    Between(Boxed<Expr<N, A>>, Boxed<Expr<N, A>>, Pos),
     Unknown(Pos),
 }
 
@@ -152,13 +159,13 @@ impl<N: Drop, A: Drop> Drop for Limits<N, A> {
     #[cycle(expr_drop)]
     fn drop(self) {
         match self {
-            Limits::Count(e) => {
+            Limits::Count(e, _pos) => {
                 drop(e.into_inner());
             }
-            Limits::ByteCount(e) => {
+            Limits::ByteCount(e, _pos) => {
                 drop(e.into_inner());
             }
-            Limits::Between(e, f) => {
+            Limits::Between(e, f, _pos) => {
                 drop(e.into_inner());
                 drop(f.into_inner());
             }
@@ -265,7 +272,8 @@ impl<N: Drop, A: Drop> Drop for Expr<N, A> {
 }
 
 /// The expressions (ISO C11, 6.5), with the bounds casts of Checked C: `Tested` is `_Dynamic_bounds_cast` and
-/// `Trusted` is `_Assume_bounds_cast`. The flag of a number says that its type is `unsigned`.
+/// `Trusted` is `_Assume_bounds_cast`. The flag of a number says that its type is `unsigned`. A member that is
+/// named has the place of its name.
 #[cycle(expr)]
 pub enum Node<N, A> {
     Number(u32, bool),
@@ -276,8 +284,8 @@ pub enum Node<N, A> {
     Bin(TreeOp, Boxed<Expr<N, A>>, Boxed<Expr<N, A>>),
     Pick(Boxed<Expr<N, A>>, Boxed<Expr<N, A>>, Boxed<Expr<N, A>>),
     Index(Boxed<Expr<N, A>>, Boxed<Expr<N, A>>),
-    Dot(Boxed<Expr<N, A>>, N),
-    Arrow(Boxed<Expr<N, A>>, N),
+    Dot(Boxed<Expr<N, A>>, N, Pos),
+    Arrow(Boxed<Expr<N, A>>, N, Pos),
     Cast(TypeTree<N>, Boxed<Expr<N, A>>),
     Size(TypeTree<N>),
     Trusted(TypeTree<N>, Boxed<Expr<N, A>>, Option<Boxed<Limits<N, A>>>),
@@ -310,10 +318,10 @@ impl<N: Drop, A: Drop> Drop for Node<N, A> {
                 drop(e.into_inner());
                 drop(f.into_inner());
             }
-            Node::Dot(e, _name) => {
+            Node::Dot(e, _name, _pos) => {
                 drop(e.into_inner());
             }
-            Node::Arrow(e, _name) => {
+            Node::Arrow(e, _name, _pos) => {
                 drop(e.into_inner());
             }
             Node::Cast(_t, e) => {

@@ -1,6 +1,7 @@
 use Rattle.std.proofs.Common.{refl, ◌++◌}
 use Rattle.std.proofs.lemmas.Result.{err_from_is_err_and}
-use Rattle.ckc_syntax.specs.Small.{over, start}
+use Rattle.ckc_base.specs.Places.{start}
+use Rattle.ckc_syntax.specs.Small.{over}
 use Rattle.ckc_syntax.proofs.Smalls.{stops, goes, whole_faults}
 use Rattle.ckc_syntax.proofs.limits.whole_fits.Goals as goal
 
