@@ -1,13 +1,20 @@
--- The answers of a lexer that reads forward are those that the cut of the text gives.
-use Rattle.std.proofs.Common.{◌≡◌, ℕ, ◌≤◌, List, length, map, Result, Ok, Err, IfOk, IfErr, sym, ◌∙◌, inl, inr, arith}
+-- The answers of a lexer that reads forward are those that the cut of the text gives, and the phase is exact.
+use Rattle.std.proofs.Common.{◌≡◌, ℕ, ◌≤◌, ◌<◌, false, List, length, Result, Ok, Err, sym, refl, ◌∙◌, inl, inr, ⊎_elim, arith}
+use Rattle.std.proofs.lemmas.Bool.{cases_lt}
 use Rattle.ckc_base.specs.declared.places.Refusal.{Refusal}
+use Rattle.ckc_base.specs.declared.fault.Fault.{Fault}
+use Rattle.ckc_base.specs.declared.fault.Fault.TheVariants.{Refused, Memory}
+use Rattle.ckc_base.specs.Phases.{IsExact, Answers, Exact, viewed}
+use Rattle.ckc_base.specs.Places.{at_start, longest_text}
+use Rattle.ckc_base.proofs.Phases.{exact_of}
 use Rattle.ckc_syntax.specs.declared.tokens.Token as tokens
-use Rattle.ckc_lexer.specs.declared.lexer.LexFault.{LexFault}
-use Rattle.ckc_lexer.specs.declared.lexer.LexFault.TheVariants.{Refused, Memory}
-use Rattle.ckc_syntax.specs.Spelled.{Spelled, spelled}
-use Rattle.ckc_lexer.specs.Cut.{longest_text, Lexes, FirstBroken, FirstFault, IfRefused, AnswersTokens, AnswersFault}
-use Rattle.ckc_lexer.specs.Reading.{Outcome, IsReading}
+use Rattle.ckc_syntax.specs.Spelled.{Spelled, Tokens}
+use Rattle.ckc_lexer.specs.Cut.{Lexes, FirstBroken, FirstFault}
+use Rattle.ckc_lexer.specs.Phase.{lexing, tokens_in}
+use Rattle.ckc_lexer.specs.Places.{place_after}
+use Rattle.ckc_lexer.specs.Reading.{Outcome, IsReading, Reads, start}
 use Rattle.ckc_lexer.proofs.CutLaw.{read_lexes, read_fault, lexes_read, fault_read, reads_once}
+use Rattle.ckc_lexer.proofs.Total.{reads_some}
 
 tokens_fault : (a : List Spelled) (b : Refusal) → ◌≡◌ {A = Outcome} (Ok a) (Err b) → ⊥
 tokens_fault a b e = cc
@@ -23,35 +30,43 @@ broken_of : (text : List ℕ) (fault : Refusal) → length text ≤ longest_text
 broken_of text fault le (inl f) = absurd (omega (arith, f.0, le))
 broken_of text fault le (inr f) = f.1
 
-module _ (text : List ℕ) (le : length text ≤ longest_text) where
-  pub found_tokens : (r : Result (List tokens.Token) LexFault) → IsReading text r → IfOk r (λ found. (length text ≤ longest_text) × Lexes text (map spelled found))
-  found_tokens (Ok found) h = (le, read_lexes text (map spelled found) h)
-  found_tokens (Err e) h = tt
-
-  pub found_fault : (r : Result (List tokens.Token) LexFault) → IsReading text r → IfErr r (λ e. IfRefused e (FirstFault text))
-  found_fault (Ok found) h = tt
-  found_fault (Err Memory) h = tt
-  found_fault (Err (Refused fault)) h = inr (le, read_fault text fault h)
-
-  pub wanted_tokens : (r : Result (List tokens.Token) LexFault) → IsReading text r → (wanted : List Spelled) → Lexes text wanted → AnswersTokens r wanted
-  wanted_tokens (Ok found) h wanted l = same_tokens (map spelled found) wanted (reads_once h (lexes_read text wanted l))
-  wanted_tokens (Err Memory) h wanted l = tt
-  wanted_tokens (Err (Refused fault)) h wanted l = tokens_fault wanted fault (reads_once (lexes_read text wanted l) h)
-
-  pub wanted_fault : (r : Result (List tokens.Token) LexFault) → IsReading text r → (wanted : Refusal) → FirstFault text wanted → AnswersFault r wanted
-  wanted_fault (Ok found) h wanted f = tokens_fault (map spelled found) wanted (reads_once h (fault_read text wanted (broken_of text wanted le f)))
-  wanted_fault (Err Memory) h wanted f = tt
-  wanted_fault (Err (Refused fault)) h wanted f = same_fault fault wanted (reads_once h (fault_read text wanted (broken_of text wanted le f)))
-
--- the laws of the definitions
 pub tokens_once : (text : List ℕ) (a b : List Spelled) → Lexes text a → Lexes text b → a ≡ b
 tokens_once text a b x y = same_tokens a b (reads_once (lexes_read text a x) (lexes_read text b y))
 
-pub fault_once : (text : List ℕ) (a b : Refusal) → FirstFault text a → FirstFault text b → a ≡ b
+made_once : (text : List ℕ) (a b : Tokens) → lexing.Makes text a → lexing.Makes text b → a ≡ b
+made_once text a b x y = λ j. record { list = tokens_once text a.list b.list x.1 y.1 j; end = (x.2 ∙ sym y.2) j }
+
+fault_once : (text : List ℕ) (a b : Refusal) → FirstFault text a → FirstFault text b → a ≡ b
 fault_once text a b (inl x) (inl y) = x.1 ∙ sym y.1
 fault_once text a b (inl x) (inr y) = absurd (omega (arith, x.0, y.0))
 fault_once text a b (inr x) (inl y) = absurd (omega (arith, x.0, y.0))
 fault_once text a b (inr x) (inr y) = same_fault a b (reads_once (fault_read text a x.1) (fault_read text b y.1))
 
-pub tokens_or_fault : (text : List ℕ) (a : List Spelled) (b : Refusal) → length text ≤ longest_text → Lexes text a → FirstFault text b → ⊥
-tokens_or_fault text a b le x y = tokens_fault a b (reads_once (lexes_read text a x) (fault_read text b (broken_of text b le y)))
+never_both : (text : List ℕ) (a : Tokens) (b : Refusal) → lexing.Makes text a → FirstFault text b → ⊥
+never_both text a b x y = tokens_fault a.list b (reads_once (lexes_read text a.list x.1) (fault_read text b (broken_of text b x.0 y)))
+
+module _ (text : List ℕ) (no_made : (a : Tokens) → ¬ lexing.Makes text a) (no_refused : (b : Refusal) → ¬ FirstFault text b) where
+  no_outcome : length text ≤ longest_text → (o : Outcome) → ¬ Reads start false text o
+  no_outcome le (Ok found) r = no_made (record { list = found; end = place_after text }) (le, read_lexes text found r, refl)
+  no_outcome le (Err fault) r = no_refused fault (inr (le, read_fault text fault r))
+
+  never_neither : ⊥
+  never_neither = ⊎_elim
+      (λ (more : longest_text < length text). no_refused (at_start 201) (inl (more, refl)))
+      (λ (le : length text ≤ longest_text). reads_some start false text (no_outcome le))
+      (cases_lt longest_text (length text))
+
+pub lexing_exact : IsExact lexing
+lexing_exact = record { made_once = made_once; refused_once = fault_once; never_both = never_both; never_neither = never_neither }
+
+-- a reading of a text is the answer of the phase
+answers_of : (text : List ℕ) → length text ≤ longest_text → (r : Result (List tokens.Token) Fault) → IsReading text r → Answers lexing text (viewed (tokens_in text) r)
+answers_of text le (Ok found) h = (le, read_lexes text (tokens_in text found).list h, refl)
+answers_of text le (Err Memory) h = tt
+answers_of text le (Err (Refused fault)) h = inr (le, read_fault text fault h)
+
+pub reading_exact : (text : List ℕ) → length text ≤ longest_text → (r : Result (List tokens.Token) Fault) → IsReading text r → Exact lexing text (viewed (tokens_in text) r)
+reading_exact text le r h = exact_of lexing lexing_exact text (viewed (tokens_in text) r) (answers_of text le r h)
+
+pub long_exact : (text : List ℕ) → longest_text < length text → Exact lexing text (Err (Refused (at_start 201)))
+long_exact text more = exact_of lexing lexing_exact text (Err (Refused (at_start 201))) (inl (more, refl))

@@ -48,7 +48,7 @@ large_escape b h = grind (arith, nat_tests)
 letter_ascii : (b u : ℕ) → simple_escape b ≡ Some u → is_ascii b ≡ true
 letter_ascii b u e = ⊎_elim (λ (h : b < 128). lt-ltb b 128 h) (λ (h : 128 ≤ b). absurd (false≢true (sym (ap is_none e) ∙ ap is_none (large_escape b h)))) (cases_lt b 128)
 
-large_class : (b : ℕ) → 128 ≤ b → class_of b ≡ Other
+pub large_class : (b : ℕ) → 128 ≤ b → class_of b ≡ Other
 large_class b h = grind (arith, nat_tests)
 
 zero_or : (k : ℕ) → 0 < k → 1 ≤ k

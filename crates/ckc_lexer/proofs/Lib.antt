@@ -2,6 +2,7 @@ pub mod Answer
 pub mod Ascii
 pub mod ByteLists
 pub mod Classes
+pub mod FaultCodes
 pub mod CommentFronts
 pub mod CutLaw
 pub mod DirectiveFronts
@@ -12,3 +13,4 @@ pub mod MarkFronts
 pub mod OneItem
 pub mod PlaceLaw
 pub mod Reading
+pub mod Total

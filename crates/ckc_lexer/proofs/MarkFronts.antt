@@ -23,7 +23,7 @@ among test (k ∷ ks) w all any =
 mark_short : (w : List ℕ) → is_mark_text w ≡ true → length w ≤ 2
 mark_short w h = leb-true (length w) 2 (among (λ k. nat_le (length k) 2) marks w refl h)
 
-single : (b : ℕ) → b < 256 → is_mark b ≡ true → is_mark_text (b ∷ []) ≡ true
+pub single : (b : ℕ) → b < 256 → is_mark b ≡ true → is_mark_text (b ∷ []) ≡ true
 single b lt h = ⊎_elim (λ e. absurd (false≢true (sym (not-true (is_mark b) e) ∙ h))) (λ e. e)
     (or_cases (not (is_mark b)) (is_mark_text (b ∷ [])) (agree_below_at (λ b. not (is_mark b) || is_mark_text (b ∷ [])) (λ b. true) 256 b refl lt))
 

@@ -24,7 +24,7 @@ number_once w n m u v a b =
     let same : n ≡ m = a.0.2 ∙ sym b.0.2 in
     (same, a.1 ∙ (ap (λ k. has_suffix w || nat_le (2 ^ 31) k) same ∙ sym b.1))
 
-number_ways : (w : List ℕ) (item : Item) → NumberCases w item → ((n : ℕ) × (u : Bool) × (item ≡ Token (Number n u)) × IsNumber w n u) ⊎ ((item ≡ Broken 103) × ((n : ℕ) (u : Bool) → IsNumber w n u → ⊥))
+pub number_ways : (w : List ℕ) (item : Item) → NumberCases w item → ((n : ℕ) × (u : Bool) × (item ≡ Token (Number n u)) × IsNumber w n u) ⊎ ((item ≡ Broken 103) × ((n : ℕ) (u : Bool) → IsNumber w n u → ⊥))
 number_ways w Gap s = absurd s
 number_ways w (Token (Number n u)) s = inl (n, u, refl, s)
 number_ways w (Broken code) s = inr (ap Broken s.0, s.1)
@@ -35,7 +35,7 @@ number_ways w (Token Text) s = absurd s
 number_ways w (Token kinds.Mark) s = absurd s
 number_ways w (Token (kinds.Directive d)) s = absurd s
 
-character_ways : (w : List ℕ) (item : Item) → CharacterCases w item → ((v : ℕ) × (item ≡ Token (Character v)) × IsLiteral 39 w (v ∷ [])) ⊎ ((item ≡ Broken 103) × (length w ≡ 1))
+pub character_ways : (w : List ℕ) (item : Item) → CharacterCases w item → ((v : ℕ) × (item ≡ Token (Character v)) × IsLiteral 39 w (v ∷ [])) ⊎ ((item ≡ Broken 103) × (length w ≡ 1))
 character_ways w Gap s = absurd s
 character_ways w (Token (Character v)) s = inl (v, refl, s)
 character_ways w (Broken code) s = inr (ap Broken s.1, s.0)
@@ -46,7 +46,7 @@ character_ways w (Token Text) s = absurd s
 character_ways w (Token kinds.Mark) s = absurd s
 character_ways w (Token (kinds.Directive d)) s = absurd s
 
-text_ways : (w : List ℕ) (item : Item) → TextCases w item → ((vs : List ℕ) × (item ≡ Token Text) × IsLiteral 34 w vs) ⊎ ((item ≡ Broken 103) × (length w ≡ 1))
+pub text_ways : (w : List ℕ) (item : Item) → TextCases w item → ((vs : List ℕ) × (item ≡ Token Text) × IsLiteral 34 w vs) ⊎ ((item ≡ Broken 103) × (length w ≡ 1))
 text_ways w Gap s = absurd s
 text_ways w (Token Text) s = inl (s.0, refl, s.1)
 text_ways w (Broken code) s = inr (ap Broken s.1, s.0)
@@ -57,7 +57,7 @@ text_ways w (Token (Character v)) s = absurd s
 text_ways w (Token kinds.Mark) s = absurd s
 text_ways w (Token (kinds.Directive d)) s = absurd s
 
-directive_ways : (w : List ℕ) (item : Item) → DirectiveCases w item → ((d : Directive) × (item ≡ Token (kinds.Directive d)) × IsDirective w d) ⊎ ((item ≡ Broken 105) × (IsDirectiveLine w → ⊥))
+pub directive_ways : (w : List ℕ) (item : Item) → DirectiveCases w item → ((d : Directive) × (item ≡ Token (kinds.Directive d)) × IsDirective w d) ⊎ ((item ≡ Broken 105) × (IsDirectiveLine w → ⊥))
 directive_ways w Gap s = absurd s
 directive_ways w (Token (kinds.Directive d)) s = inl (d, refl, s)
 directive_ways w (Broken code) s = inr (ap Broken s.0, s.3)

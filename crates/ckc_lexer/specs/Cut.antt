@@ -1,16 +1,14 @@
 -- What the tokens of a text are, and which fault is its first. The whole text is cut at once.
-use Rattle.std.specs.Prelude.{◌≡◌, ℕ, ◌<◌, ◌≤◌, Bool, true, false, ◌⊎◌, List, [], ◌∷◌, ◌++◌, length, map, Result, Ok, Err}
+use Rattle.std.specs.Prelude.{◌≡◌, ℕ, ◌<◌, ◌≤◌, Bool, true, false, ◌⊎◌, List, [], ◌∷◌, ◌++◌, length}
 use Rattle.std.specs.List.{list_any, flat_map}
 use Rattle.ckc_base.specs.declared.places.Refusal.{Refusal}
+use Rattle.ckc_base.specs.Places.{at_start, longest_text}
 use Rattle.ckc_syntax.specs.declared.tokens.TokenKind.TheVariants as kinds
 use Rattle.ckc_syntax.specs.declared.tokens.Directive.TheVariants.{Stdchecked}
-use Rattle.ckc_syntax.specs.declared.tokens.Token as tokens
-use Rattle.ckc_syntax.specs.Spelled.{Spelled, spelled}
+use Rattle.ckc_syntax.specs.Spelled.{Spelled}
 use Rattle.ckc_lexer.specs.declared.items.Item.{Item}
 use Rattle.ckc_lexer.specs.declared.items.Item.TheVariants.{Gap, Token, Broken}
 use Rattle.ckc_lexer.specs.declared.items.Context.{Context}
-use Rattle.ckc_lexer.specs.declared.lexer.LexFault.{LexFault}
-use Rattle.ckc_lexer.specs.declared.lexer.LexFault.TheVariants.{Refused, Memory}
 use Rattle.ckc_lexer.specs.Places.{place_after, is_fresh_after}
 use Rattle.ckc_lexer.specs.Spelling.{Spells}
 
@@ -76,29 +74,8 @@ pub record FirstBroken (text : List ℕ) (fault : Refusal) : Type 0 where
   pub broken : part.item ≡ Broken fault.code
   pub place : fault.pos ≡ place_after (joined before)
 
--- the longest text, in bytes
-abbrev pub longest_text : ℕ
-longest_text = 262144
-
 -- The fault for which a text is refused: 201 at its start where it is too long, else the first in it.
 abbrev pub FirstFault : List ℕ → Refusal → Type 0
 FirstFault text fault =
-    ((longest_text < length text) × (fault ≡ record { code = 201; pos = record { line = 1; col = 1 } }))
+    ((longest_text < length text) × (fault ≡ at_start 201))
     ⊎ ((length text ≤ longest_text) × FirstBroken text fault)
-
--- the property of a fault for which a text is refused; where memory ran out, nothing
-abbrev pub IfRefused : LexFault → (Refusal → Type 0) → Type 0
-IfRefused (Refused fault) P = P fault
-IfRefused Memory P = Unit {0}
-
--- the answer is these tokens, unless memory ran out
-abbrev pub AnswersTokens : Result (List tokens.Token) LexFault → List Spelled → Type 0
-AnswersTokens (Ok found) wanted = map spelled found ≡ wanted
-AnswersTokens (Err Memory) wanted = Unit {0}
-AnswersTokens (Err (Refused fault)) wanted = ⊥
-
--- the answer is this fault, unless memory ran out
-abbrev pub AnswersFault : Result (List tokens.Token) LexFault → Refusal → Type 0
-AnswersFault (Ok found) wanted = ⊥
-AnswersFault (Err Memory) wanted = Unit {0}
-AnswersFault (Err (Refused fault)) wanted = fault ≡ wanted

@@ -8,6 +8,7 @@ pub mod Literals
 pub mod Longest
 pub mod Marks
 pub mod Numbers
+pub mod Phase
 pub mod Places
 pub mod Reading
 pub mod Spelling

@@ -7,8 +7,8 @@ use Rattle.ckc_syntax.specs.declared.tokens.Token as tokens
 use Rattle.ckc_lexer.specs.declared.items.Item.TheVariants.{Gap, Token, Broken}
 use Rattle.ckc_lexer.specs.declared.items.Context.{Context}
 use Rattle.ckc_lexer.specs.declared.items.Here.{Here}
-use Rattle.ckc_lexer.specs.declared.lexer.LexFault.{LexFault}
-use Rattle.ckc_lexer.specs.declared.lexer.LexFault.TheVariants.{Refused, Memory}
+use Rattle.ckc_base.specs.declared.fault.Fault.{Fault}
+use Rattle.ckc_base.specs.declared.fault.Fault.TheVariants.{Refused, Memory}
 use Rattle.ckc_lexer.specs.Bytes.{is_feed, is_blank}
 use Rattle.ckc_syntax.specs.Longest.{Longest}
 use Rattle.ckc_lexer.specs.Spelling.{Spells}
@@ -50,7 +50,7 @@ abbrev pub start : Here
 start = record { line = 1; col = 1; fresh = true }
 
 -- the answer is how the text ends when it is read from its start, unless memory ran out
-abbrev pub IsReading : List ℕ → Result (List tokens.Token) LexFault → Type 0
+abbrev pub IsReading : List ℕ → Result (List tokens.Token) Fault → Type 0
 IsReading text (Ok found) = Reads start false text (Ok (map spelled found))
 IsReading text (Err Memory) = Unit {0}
 IsReading text (Err (Refused fault)) = Reads start false text (Err fault)

@@ -31,15 +31,15 @@ pub struct Here {
     pub fresh: bool,
 }
 
-/// A byte begins no token.
+/// E101: a byte begins no token.
 pub const NO_TOKEN: u16 = 101;
-/// A comment is open at the end.
+/// E102: a comment is open at the end.
 pub const OPEN_COMMENT: u16 = 102;
-/// A bad number, character or string.
+/// E103: a bad number, character or string.
 pub const BAD_LITERAL: u16 = 103;
-/// A name has over 63 bytes.
+/// E104: a name has over 63 bytes.
 pub const LONG_NAME: u16 = 104;
-/// A line begun by `#` is no directive.
+/// E105: a line begun by `#` is no directive.
 pub const BAD_DIRECTIVE: u16 = 105;
-/// The text has over 262,144 bytes.
+/// E201: the text has over 262,144 bytes.
 pub const LONG_TEXT: u16 = 201;

@@ -1,11 +1,11 @@
-ghost use Rattle.std.specs.Prelude.{◌≡◌, ◌||◌, ◌<◌, ◌≤◌, ◌+◌, ◌^◌, length, slice_index, List, map, IfOk, IfErr, IsUtf8};
-ghost use Rattle.ckc_lexer.specs.declared.lexer.LexFault.TheVariants.{Memory};
+ghost use Rattle.std.specs.Prelude.{◌≡◌, ◌||◌, ◌<◌, ◌≤◌, ◌+◌, ◌^◌, length, slice_index, IsUtf8};
+ghost use Rattle.ckc_base.specs.Phases.{Exact, viewed};
+ghost use Rattle.ckc_base.specs.Places.{longest_text};
 ghost use Rattle.ckc_syntax.specs.Longest.{Longest};
 ghost use Rattle.ckc_lexer.specs.Spelling.{Spells};
 ghost use Rattle.ckc_lexer.specs.Reading.{moved};
-ghost use Rattle.ckc_base.specs.declared.places.Refusal.{Refusal};
-ghost use Rattle.ckc_syntax.specs.Spelled.{Spelled, spelled};
-ghost use Rattle.ckc_lexer.specs.Cut.{is_stdchecked, longest_text, Lexes, FirstFault, IfRefused, AnswersTokens, AnswersFault};
+ghost use Rattle.ckc_lexer.specs.Cut.{is_stdchecked};
+ghost use Rattle.ckc_lexer.specs.Phase.{lexing, tokens_in};
 ghost use Rattle.ckc_lexer.specs.Reading.{IsReading};
 ghost use Rattle.ckc_lexer.specs.Places.{place_after};
 
@@ -17,30 +17,10 @@ use crate::literals::{character_at, text_at};
 use crate::marks::mark_at;
 use crate::numbers::number_at;
 use crate::words::word_at;
-use ckc_base::{Pos, Refusal, Seq};
+use ckc_base::{Fault, LONGEST_TEXT, Pos, START, Seq, refused};
 use ckc_syntax::{Directive, Token, TokenKind};
-use std::alloc::{AllocError, AllocFailed, Global};
+use std::alloc::Global;
 use std::str;
-use thiserror::Error;
-
-/// Why there are no tokens: the text is refused, or memory ran out.
-#[derive(Debug, Drop, Error)]
-pub enum LexFault {
-    #[error("refused")]
-    Refused(Refusal),
-    #[error("out of memory")]
-    Memory,
-}
-
-impl From<AllocError> for LexFault {
-    ghost from_gives = { λ _ e. e ≡ Memory };
-
-    fn from(_e: AllocError) -> LexFault {
-        LexFault::Memory
-    }
-}
-
-const LONGEST_TEXT: usize = 262144;
 
 /// The tokens of a text. Each lends its bytes of the text, and no byte is copied. Lines and columns count from
 /// 1, a column counts bytes, and only LF ends a line.
@@ -49,26 +29,18 @@ const LONGEST_TEXT: usize = 262144;
 /// of the text, 101 for a byte outside comments that begins no token, 102 for a comment that is open at the
 /// end, 103 for a bad number, character or string, 104 for a name of over 63 bytes, 105 for a line begun by
 /// `#` that is no directive, each at its first byte. Where memory runs out is left open.
-pub fn lex<'a>(alloc: Global, text: &'a [u8]) -> Result<Seq<Token<'a>>, LexFault>
-    // What is found are the tokens of the text: the bytes of each are the spelling at its place.
-    ensures tokens { IfOk result (λ found. (length text.now ≤ longest_text) × Lexes text.now (map spelled found)) }
-    // What is refused is refused for its first fault.
-    ensures refused { IfErr result (λ e. IfRefused e (FirstFault text.now)) }
-    // Tokens that a text has are found, unless memory runs out.
-    ensures all_tokens { (wanted : List Spelled) → length text.now ≤ longest_text → Lexes text.now wanted → AnswersTokens result wanted }
-    // A fault that is the first is told, unless memory runs out.
-    ensures all_faults { (wanted : Refusal) → FirstFault text.now wanted → AnswersFault result wanted }
+pub fn lex<'a>(alloc: Global, text: &'a [u8]) -> Result<Seq<Token<'a>>, Fault>
+    // Ok of exactly the tokens of the text, the bytes of each being the spelling at its place; a refusal for
+    // exactly its first fault.
+    ensures exact { Exact lexing text.now (viewed (tokens_in text.now) result) }
 {
     if text.len() > LONGEST_TEXT {
-        return Err(LexFault::Refused(Refusal {
-            code: LONG_TEXT,
-            pos: Pos { line: 1, col: 1 },
-        }));
+        return Err(refused(LONG_TEXT, START));
     }
     tokens_of(alloc, text)
 }
 
-fn tokens_of<'a>(alloc: Global, text: &'a [u8]) -> Result<Seq<Token<'a>>, LexFault>
+fn tokens_of<'a>(alloc: Global, text: &'a [u8]) -> Result<Seq<Token<'a>>, Fault>
     requires { length text.now ≤ 262144 }
     ensures { IsReading text.now result }
 {
@@ -97,7 +69,7 @@ fn tokens_of<'a>(alloc: Global, text: &'a [u8]) -> Result<Seq<Token<'a>>, LexFau
                 let text = text_of(word);
                 tokens.push(Token { kind, text, pos })?;
             }
-            Item::Broken(code) => return Err(LexFault::Refused(Refusal { code, pos })),
+            Item::Broken(code) => return Err(refused(code, pos)),
         }
         checked = checked_after(checked, found.item);
         here = moved(here, word);

@@ -1,11 +1,13 @@
-use Rattle.std.proofs.Common.{arith}
-use Rattle.ckc_lexer.proofs.Answer.{found_tokens, found_fault, wanted_tokens, wanted_fault}
+use Rattle.std.proofs.Common.{Err, arith, subst, sym}
+use Rattle.ckc_base.specs.Phases.{Exact}
+use Rattle.ckc_lexer.specs.Phase.{lexing}
+use Rattle.ckc_lexer.proofs.Answer.{reading_exact, long_exact}
 use Rattle.ckc_lexer.proofs.lexer.lex.Goals as goal
 
 pub returns : goal.returns
-returns c = record {
-  tokens = found_tokens c.args.text.now (omega arith) c.tokens_of.result c.tokens_of.ensures;
-  refused = found_fault c.args.text.now (omega arith) c.tokens_of.result c.tokens_of.ensures;
-  all_tokens = λ wanted le l. wanted_tokens c.args.text.now le c.tokens_of.result c.tokens_of.ensures wanted l;
-  all_faults = λ wanted f. wanted_fault c.args.text.now (omega arith) c.tokens_of.result c.tokens_of.ensures wanted f;
+returns c = record { exact = reading_exact c.args.text.now (omega arith) c.tokens_of.result c.tokens_of.ensures }
+
+pub returns-then-text-gt-LONGEST_TEXT : goal.returns-then-text-gt-LONGEST_TEXT
+returns-then-text-gt-LONGEST_TEXT c = record {
+  exact = subst (λ e. Exact lexing c.args.text.now (Err e)) (sym c.refused.ensures) (long_exact c.args.text.now (omega arith));
 }

@@ -1,10 +1,10 @@
-use Rattle.std.proofs.Common.{List, ℕ, length, subst, sym, refl, ◌∙◌}
+use Rattle.std.proofs.Common.{List, ℕ, Err, length, subst, sym, refl, ◌∙◌}
 use Rattle.std.proofs.lemmas.Bool.{eqb-true}
 use Rattle.std.proofs.lemmas.List.{nil_from_length}
 use Rattle.ckc_lexer.specs.declared.items.Item.{Item}
 use Rattle.ckc_syntax.specs.Longest.{Longest}
 use Rattle.ckc_lexer.specs.Spelling.{Spells}
-use Rattle.ckc_lexer.specs.Reading.{context_at}
+use Rattle.ckc_lexer.specs.Reading.{context_at, IsReading}
 use Rattle.ckc_lexer.proofs.Ascii.{token_utf8}
 use Rattle.ckc_lexer.proofs.Reading.{read_broken, read_end, next_gap, next_token}
 use Rattle.ckc_lexer.proofs.lexer.tokens_of.Goals as goal
@@ -19,8 +19,9 @@ text_of-text-requires c =
 
 pub returns-in-Broken : goal.returns-in-Broken
 returns-in-Broken c =
-    read_broken c.loop-rest.invariant c.item_at-found.result.len c.in-Broken.code
-    (subst (λ (i : Item). Longest (Spells (context_at c.loop-rest.here c.loop-rest.checked)) c.loop-rest.rest.now c.item_at-found.result.len i) c.in-Broken.is c.item_at-found.ensures)
+    subst (λ e. IsReading c.args.text.now (Err e)) (sym c.refused.ensures)
+    (read_broken c.loop-rest.invariant c.item_at-found.result.len c.in-Broken.code
+    (subst (λ (i : Item). Longest (Spells (context_at c.loop-rest.here c.loop-rest.checked)) c.loop-rest.rest.now c.item_at-found.result.len i) c.in-Broken.is c.item_at-found.ensures))
 
 pub loop-rest-preserved : goal.loop-rest-preserved
 loop-rest-preserved c = elim c.match-found.branch [

@@ -1,0 +1,159 @@
+-- Each text is read to an end: some item stands at each place.
+use Rattle.std.proofs.Common.{◌≡◌, ℕ, suc, ◌+◌, ◌<◌, ◌≤◌, ◌||◌, ◌==◌, not, Bool, true, false, cond, zero, Some, is_none, Ok, Err, List, [], ◌∷◌, length, take, drop, sym, refl, ap, ◌∙◌, subst, ⊎_elim, arith, length-drop, length-append}
+use Rattle.std.proofs.lemmas.Bool.{false≢true, cases_lt}
+use Rattle.std.proofs.lemmas.List.{nil_from_length}
+use Rattle.ckc_syntax.specs.declared.tokens.TokenKind.TheVariants.{Number}
+use Rattle.ckc_syntax.specs.declared.tokens.TokenKind.TheVariants as kinds
+use Rattle.ckc_syntax.specs.declared.tokens.Directive.{Directive}
+use Rattle.ckc_lexer.specs.declared.bytes.Class.{Class}
+use Rattle.ckc_lexer.specs.declared.bytes.Class.TheVariants.{Blank, Letter, Digit, Apostrophe, Quotation, Slash, Hash, Mark, Other}
+use Rattle.ckc_lexer.specs.declared.items.Item.{Item}
+use Rattle.ckc_lexer.specs.declared.items.Item.TheVariants.{Gap, Token, Broken}
+use Rattle.ckc_lexer.specs.declared.items.Context.{Context}
+use Rattle.ckc_lexer.specs.declared.items.Here.{Here}
+use Rattle.ckc_syntax.specs.Bytes.{AllBytes, is_digit}
+use Rattle.ckc_syntax.specs.Longest.{Longest}
+use Rattle.ckc_lexer.specs.Bytes.{class_of, is_blank, is_letter, is_mark, is_word_byte, is_space, is_feed}
+use Rattle.ckc_lexer.specs.Comments.{mark}
+use Rattle.ckc_lexer.specs.Cut.{is_stdchecked}
+use Rattle.ckc_lexer.specs.Directives.{IsDirective, IsDirectiveLine, HashCases}
+use Rattle.ckc_lexer.specs.DirectiveReading.{body_of, include_or_pragma}
+use Rattle.ckc_lexer.specs.Marks.{is_mark_text}
+use Rattle.ckc_lexer.specs.Reading.{Outcome, context_at, moved, onto, pos_at, Reads, ends, breaks, skips, takes}
+use Rattle.ckc_lexer.specs.Spelling.{SpelledBy, Spells}
+use Rattle.ckc_lexer.specs.Words.{word_item}
+use Rattle.ckc_lexer.proofs.Ascii.{large_class}
+use Rattle.ckc_lexer.proofs.ByteLists.{all_nil, all_cons}
+use Rattle.ckc_lexer.proofs.DirectiveLaw.{body_complete}
+use Rattle.ckc_lexer.proofs.MarkFronts.{single}
+
+-- what the class of a byte says of it
+abbrev Says : Class → Bool → Bool → Bool → Bool → Type 0
+Says Letter blank letter digit punctuation = letter ≡ true
+Says Digit blank letter digit punctuation = digit ≡ true
+Says Hash blank letter digit punctuation = blank ≡ false
+Says Mark blank letter digit punctuation = punctuation ≡ true
+Says _ blank letter digit punctuation = Unit {0}
+
+says : (blank letter digit apostrophe quotation slash hash punctuation : Bool) →
+    Says (cond blank Blank (cond letter Letter (cond digit Digit (cond apostrophe Apostrophe (cond quotation Quotation (cond slash Slash (cond hash Hash (cond punctuation Mark Other)))))))) blank letter digit punctuation
+says true l d a q s h m = tt
+says false true d a q s h m = refl
+says false false true a q s h m = refl
+says false false false true q s h m = tt
+says false false false false true s h m = tt
+says false false false false false true h m = tt
+says false false false false false false true m = refl
+says false false false false false false false true = refl
+says false false false false false false false false = tt
+
+class_says : (b : ℕ) (c : Class) → class_of b ≡ c → Says c (is_blank b) (is_letter b) (is_digit b) (is_mark b)
+class_says b c e = subst (λ c. Says c (is_blank b) (is_letter b) (is_digit b) (is_mark b)) e (says (is_blank b) (is_letter b) (is_digit b) (b == 39) (b == 34) (b == 47) (b == 35) (is_mark b))
+
+alone : (test : ℕ → Bool) (b : ℕ) → test b ≡ true → AllBytes test (b ∷ [])
+alone test b t = all_cons test b [] t (all_nil test)
+
+digit_is_word : (letter digit : Bool) → digit ≡ true → (letter || digit) ≡ true
+digit_is_word true digit e = refl
+digit_is_word false digit e = e
+
+letter_is_word : (letter digit : Bool) → letter ≡ true → (letter || digit) ≡ true
+letter_is_word letter digit e = ap (λ t. t || digit) e
+
+no_feed : (space feed : Bool) → (space || feed) ≡ false → not feed ≡ true
+no_feed space true e = absurd (false≢true (sym e ∙ or_true space))
+  where
+    or_true : (t : Bool) → (t || true) ≡ true
+    or_true true = refl
+    or_true false = refl
+no_feed space false e = refl
+
+no_directive : (w : List ℕ) (d : Directive) → length w ≤ 1 → IsDirective w d → ⊥
+unfolding body_of include_or_pragma
+no_directive w d short is =
+    let size = length-drop 1 w in
+    let none : drop 1 w ≡ [] = nil_from_length (drop 1 w) (omega arith) in
+    let found : body_of [] ≡ Some d = sym (ap body_of none) ∙ body_complete w d is in
+    false≢true (sym (ap is_none found))
+
+no_line : (b : ℕ) → IsDirectiveLine (b ∷ []) → ⊥
+no_line b l =
+    let size = length-append l.front l.spaces in
+    let whole = ap length l.whole in
+    no_directive l.front l.directive (omega arith) l.is_directive
+
+apart : Mark ≡ Other → ⊥
+apart e = cc
+
+-- a mark of one byte
+mark_alone : (b : ℕ) → class_of b ≡ Mark → is_mark b ≡ true → is_mark_text (b ∷ []) ≡ true
+mark_alone b class is = ⊎_elim
+    (λ (small : b < 256). single b small is)
+    (λ (large : 256 ≤ b). absurd (apart (sym class ∙ large_class b (omega arith))))
+    (cases_lt b 256)
+
+-- a first byte alone spells something
+module _ (context : Context) (b : ℕ) where
+  by_class : (c : Class) → class_of b ≡ c → ((item : Item) → ¬ SpelledBy c context (b ∷ []) item) → ⊥
+  by_class Blank e never = never Gap (refl, refl)
+  by_class Letter e never =
+      let word = letter_is_word (is_letter b) (is_digit b) (class_says b Letter e) in
+      never (word_item context.checked (b ∷ [])) (alone is_word_byte b word, refl)
+  by_class Digit e never =
+      let word = alone is_word_byte b (digit_is_word (is_letter b) (is_digit b) (class_says b Digit e)) in
+      never (Broken 103) (word, (refl, λ n u is. never (Token (Number n u)) (word, is)))
+  by_class Apostrophe e never = never (Broken 103) (refl, refl)
+  by_class Quotation e never = never (Broken 103) (refl, refl)
+  by_class Slash e never = never (Token kinds.Mark) (mark refl refl)
+  by_class Hash e never = by_fresh context.fresh never
+    where
+      by_fresh : (fresh : Bool) → ((item : Item) → ¬ HashCases fresh (b ∷ []) item) → ⊥
+      by_fresh true never = never (Broken 105) (refl, omega arith, alone (λ b. not (is_feed b)) b (no_feed (is_space b) (is_feed b) (class_says b Hash e)), no_line b)
+      by_fresh false never = never (Broken 101) (refl, refl)
+  by_class Mark e never = never (Token kinds.Mark) (mark_alone b e (class_says b Mark e), refl)
+  by_class Other e never = never (Broken 101) (refl, refl)
+
+  some_item : ((item : Item) → ¬ Spells context (b ∷ []) item) → ⊥
+  some_item never = by_class (class_of b) refl never
+
+-- a front that is spelled has a longest one
+module _ {A : Type 0} (P : List ℕ → A → Type 0) (text : List ℕ) (never : (n : ℕ) (a : A) → ¬ Longest P text n a) where
+  no_front : (k n : ℕ) (a : A) → length text ≤ n + k → 0 < n → n ≤ length text → ¬ P (take n text) a
+  no_front zero n a bound some within p = never n a (record {
+    some = some;
+    within = within;
+    spelled = p;
+    longest = λ m other lt le s. omega (arith, bound, lt, le);
+  })
+  no_front (suc k) n a bound some within p = never n a (record {
+    some = some;
+    within = within;
+    spelled = p;
+    longest = λ m other lt le s. no_front k m other (omega (arith, bound, lt)) (omega (arith, some, lt)) le s;
+  })
+
+no_longest : (context : Context) (b : ℕ) (bs : List ℕ) → ((n : ℕ) (item : Item) → ¬ Longest (Spells context) (b ∷ bs) n item) → ⊥
+no_longest context b bs never =
+    some_item context b (λ item s. no_front (Spells context) (b ∷ bs) never (length (b ∷ bs)) 1 item (omega arith) (omega arith) (omega arith) s)
+
+-- how the rest of a text ends is how the text ends, behind its first item
+module _ (here : Here) (checked : Bool) (text : List ℕ) (never : (o : Outcome) → ¬ Reads here checked text o) where
+  step_on : (n : ℕ) (item : Item) → Longest (Spells (context_at here checked)) text n item →
+      ((there : Here) (said : Bool) → ((o : Outcome) → ¬ Reads there said (drop n text) o) → ⊥) → ⊥
+  step_on n Gap l rest = rest (moved here (take n text)) checked (λ o r. never o (skips l r))
+  step_on n (Token kind) l rest =
+      rest (moved here (take n text)) (checked || is_stdchecked (Token kind))
+      (λ o r. never (onto (record { kind = kind; text = take n text; pos = pos_at here } ∷ []) o) (takes l r refl))
+  step_on n (Broken code) l rest = never (Err (record { code = code; pos = pos_at here })) (breaks l)
+
+-- Each text ends somehow when it is read.
+reads_within : (k : ℕ) (here : Here) (checked : Bool) (text : List ℕ) → length text ≤ k → ((o : Outcome) → ¬ Reads here checked text o) → ⊥
+reads_within k here checked [] le never = never (Ok []) ends
+reads_within zero here checked (b ∷ bs) le never = omega (arith, le)
+reads_within (suc k) here checked (b ∷ bs) le never =
+    no_longest (context_at here checked) b bs
+    (λ n item l. step_on here checked (b ∷ bs) never n item l
+    (λ there said none. reads_within k there said (drop n (b ∷ bs)) (let e = length-drop n (b ∷ bs) in omega (arith, le, l.some)) none))
+
+pub reads_some : (here : Here) (checked : Bool) (text : List ℕ) → ((o : Outcome) → ¬ Reads here checked text o) → ⊥
+reads_some here checked text never = reads_within (length text) here checked text (omega arith) never
