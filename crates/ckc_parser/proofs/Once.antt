@@ -1,48 +1,53 @@
--- Tokens have one tree or one fault, and the clauses of a parser follow from its answer.
-use Rattle.std.proofs.Common.{◌≡◌, List, sym, ◌∙◌}
-use Rattle.std.specs.Prelude.{Result, Ok, Err, IfOk, IfErr}
+-- Tokens have one tree or one first fault: never two, never both, never neither.
+use Rattle.std.proofs.Common.{◌≡◌, List, [], ◌∷◌, ◌++◌, true, refl, sym, subst, ◌∙◌, append_assoc, append-nil}
 use Rattle.ckc_base.specs.declared.places.Pos.{Pos}
 use Rattle.ckc_base.specs.declared.places.Refusal.{Refusal}
-use Rattle.ckc_syntax.specs.Spelled.{Spelled}
-use Rattle.ckc_parser.specs.declared.text.ParseFault.{ParseFault}
-use Rattle.ckc_parser.specs.declared.text.ParseFault.TheVariants as fault
-use Rattle.ckc_parser.specs.Values.{tree}
-use Rattle.ckc_parser.specs.Text.{SpelledTree, DerivesTokens, FirstFault}
-use Rattle.ckc_parser.specs.Outcome.{Answers, IfRefused, AnswersTree, AnswersFault}
+use Rattle.ckc_base.specs.Phases.{IsExact}
+use Rattle.ckc_syntax.specs.Spelled.{Spelled, Tokens}
+use Rattle.ckc_grammar.specs.Grammar as g
+use Rattle.ckc_grammar.specs.Values.{Value, tree, items}
+use Rattle.ckc_grammar.specs.Derives as D
+use Rattle.ckc_grammar.specs.Shapes.{tree_shape, has_shape}
+use Rattle.ckc_parser.specs.Text.{DerivesValue, Viable, IsFault, SpelledTree, DerivesTokens, FirstFault}
+use Rattle.ckc_parser.specs.Phase.{parsing}
+use Rattle.ckc_grammar.specs.Marked.{signs}
+use Rattle.ckc_grammar.specs.declared.kind.Kind.TheVariants as kind
+use Rattle.ckc_grammar.proofs.Shapes.{shape_derived}
 use Rattle.ckc_parser.proofs.Answering as answering
-
-pub tree_once : (xs : List Spelled) (a b : SpelledTree) → DerivesTokens xs a → DerivesTokens xs b → a ≡ b
-tree_once xs a b d e = answering.one_tree xs a b d e
 
 fault_is : (a b : Refusal) → a.code ≡ b.code → a.pos ≡ b.pos → a ≡ b
 fault_is a b e h = λ i. record { code = e i; pos = h i }
 
-pub fault_once : (xs : List Spelled) (end : Pos) (a b : Refusal) → FirstFault xs end a → FirstFault xs end b → a ≡ b
+fault_once : (xs : List Spelled) (end : Pos) (a b : Refusal) → FirstFault xs end a → FirstFault xs end b → a ≡ b
 fault_once xs end a b f g = fault_is a b (f.0 ∙ sym g.0) (answering.one_fault xs end a.pos b.pos f.1 g.1)
 
-pub tree_or_fault : (xs : List Spelled) (end : Pos) (whole : SpelledTree) (r : Refusal) → DerivesTokens xs whole → FirstFault xs end r → ⊥
-tree_or_fault xs end whole r d f = answering.tree_or_fault xs whole end r.pos d f.1
+-- no tokens are a text
+empty_text : Viable []
+empty_text = ([], tree (record { items = [] }), D.by g.Text [] [] (items [] ∷ []) refl (D.by g.NoItems [] [] [] refl D.nil refl refl D.nil refl) refl refl D.nil refl)
 
-same_tree : (a b : SpelledTree) → tree a ≡ tree b → a ≡ b
-same_tree a b e = cc
+is_tree : (v : Value) → has_shape tree_shape v ≡ true → (whole : SpelledTree) × (v ≡ tree whole)
+is_tree (tree whole) h = (whole, refl)
+is_tree _ h = absurd (cc)
 
--- the clauses of a parser
-module _ (xs : List Spelled) (end : Pos) where
-  pub tree_clause : (res : Result SpelledTree ParseFault) → Answers (λ x. tree x) xs end res → IfOk res (λ whole. DerivesTokens xs whole)
-  tree_clause (Ok whole) h = h.0
-  tree_clause (Err e) h = tt
+-- What a text derives is a tree.
+no_value : (xs : List Spelled) → ((whole : SpelledTree) → ¬ DerivesTokens xs whole) → (v : Value) → DerivesValue xs v → ⊥
+no_value xs none v d =
+    let t = is_tree v (shape_derived g.text (signs xs) kind.End v d) in
+    none t.0 (subst (λ z. DerivesValue xs z) t.1 d)
 
-  pub refused_clause : (res : Result SpelledTree ParseFault) → Answers (λ x. tree x) xs end res → IfErr res (λ e. IfRefused e (FirstFault xs end))
-  refused_clause (Ok whole) h = tt
-  refused_clause (Err (fault.Refused r)) h = h
-  refused_clause (Err fault.Memory) h = tt
+-- Where no fault stands, each longer front is viable too, up to the end, which is a fault then.
+no_longest : (xs : List Spelled) (end : Pos) → ((v : Value) → DerivesValue xs v → ⊥) → ((pos : Pos) → IsFault xs end pos → ⊥) →
+    (front rest : List Spelled) → xs ≡ front ++ rest → Viable front → ⊥
+no_longest xs end none faults front [] e v =
+    faults end (front, [], e, v, (refl, λ w d. none w (subst (λ z. DerivesValue z w) (sym (e ∙ append-nil front)) d)))
+no_longest xs end none faults front (x ∷ rest) e v =
+    faults x.pos (front, x ∷ rest, e, v, (refl, λ w. no_longest xs end none faults (front ++ x ∷ []) rest (e ∙ sym (append_assoc front (x ∷ []) rest)) w))
 
-  pub trees_clause : (res : Result SpelledTree ParseFault) → Answers (λ x. tree x) xs end res → (wanted : SpelledTree) → DerivesTokens xs wanted → AnswersTree res wanted
-  trees_clause (Ok whole) h wanted d = same_tree whole wanted (h.1 (tree wanted) d)
-  trees_clause (Err (fault.Refused r)) h wanted d = tree_or_fault xs end wanted r d h
-  trees_clause (Err fault.Memory) h wanted d = tt
-
-  pub faults_clause : (res : Result SpelledTree ParseFault) → Answers (λ x. tree x) xs end res → (wanted : Refusal) → FirstFault xs end wanted → AnswersFault res wanted
-  faults_clause (Ok whole) h wanted f = tree_or_fault xs end whole wanted h.0 f
-  faults_clause (Err (fault.Refused r)) h wanted f = fault_once xs end r wanted h f
-  faults_clause (Err fault.Memory) h wanted f = tt
+pub parsing_exact : IsExact parsing
+parsing_exact = record {
+  made_once = λ tokens a b. answering.one_tree tokens.list a b;
+  refused_once = λ tokens r other. fault_once tokens.list tokens.end r other;
+  never_both = λ tokens a r d f. answering.tree_or_fault tokens.list a tokens.end r.pos d f.1;
+  never_neither = λ tokens no_made no_refused.
+      no_longest tokens.list tokens.end (no_value tokens.list no_made) (λ pos f. no_refused (record { code = 120; pos = pos }) (refl, f)) [] tokens.list refl empty_text;
+}

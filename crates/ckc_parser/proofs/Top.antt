@@ -4,20 +4,20 @@ use Rattle.std.proofs.lemmas.List.{append_cancel_right}
 use Rattle.ckc_base.specs.declared.places.Pos.{Pos}
 use Rattle.ckc_syntax.specs.Spelled.{Spelled}
 use Rattle.ckc_syntax.specs.declared.tokens.TokenKind.TheVariants as kinds
-use Rattle.ckc_parser.specs.declared.kind.Kind.{Kind}
-use Rattle.ckc_parser.specs.declared.kind.Kind.TheVariants as kind
-use Rattle.ckc_parser.specs.Kinds.{kind_of_token}
-use Rattle.ckc_parser.specs.Grammar.{Terminal, Part, n}
-use Rattle.ckc_parser.specs.Values.{Value}
-use Rattle.ckc_parser.specs.Marked.{signs, signs_after, kind_after, place_of}
-use Rattle.ckc_parser.specs.Derives.{Sign, before, Derives}
-use Rattle.ckc_parser.specs.Derives as D
-use Rattle.ckc_parser.specs.Reading.{kind_of, Takes, Stops}
+use Rattle.ckc_grammar.specs.declared.kind.Kind.{Kind}
+use Rattle.ckc_grammar.specs.declared.kind.Kind.TheVariants as kind
+use Rattle.ckc_grammar.specs.Kinds.{kind_of_token}
+use Rattle.ckc_grammar.specs.Grammar.{Terminal, Part, n}
+use Rattle.ckc_grammar.specs.Values.{Value}
+use Rattle.ckc_grammar.specs.Marked.{signs, signs_after, kind_after, place_of}
+use Rattle.ckc_grammar.specs.Derives.{Sign, before, Derives}
+use Rattle.ckc_grammar.specs.Derives as D
+use Rattle.ckc_grammar.specs.Reading.{kind_of, Takes, Stops}
 use Rattle.ckc_parser.specs.Text.{start, DerivesValue, Viable, FaultAt, IsFault}
-use Rattle.ckc_parser.proofs.Marks.{last_of, signs_both, glued_no}
-use Rattle.ckc_parser.proofs.Samples.{sample, sample_token}
-use Rattle.ckc_parser.proofs.Theory.{complete, read_of, same_read, clash}
-use Rattle.ckc_parser.proofs.Prefixes.{stopped_of, begun_of, relax}
+use Rattle.ckc_grammar.proofs.Marks.{last_of, signs_both, glued_no}
+use Rattle.ckc_grammar.proofs.Samples.{sample, sample_token}
+use Rattle.ckc_grammar.proofs.Theory.{complete, read_of, same_read, clash}
+use Rattle.ckc_grammar.proofs.Prefixes.{stopped_of, begun_of, relax}
 
 -- no token, behind which the first one stands
 abbrev pub nobody : Spelled
@@ -129,24 +129,20 @@ take_fault xs end b v s some pos place =
       take_at xs end b v pos c.fs c.gs q.front c.is_front c.is_back some q.moved (place c.fs c.gs c.whole c.is_back),
     )
 
-pub all_taken : (xs : List Spelled) (v : Value) → Takes (n start ∷ []) (signs xs) (v ∷ []) [] → DerivesValue xs v × ((w : Value) → DerivesValue xs w → v ≡ w)
-all_taken xs v s =
-    let q = read_of s in (
-      subst (λ z. Derives (n start ∷ []) z kind.End (v ∷ [])) (sym (q.whole ∙ append-nil q.front)) q.derived,
-      λ w d. let h = (same_read s (w ∷ []) [] (whole_taken xs w d)).0 in cc,
-    )
+pub all_taken : (xs : List Spelled) (v : Value) → Takes (n start ∷ []) (signs xs) (v ∷ []) [] → DerivesValue xs v
+all_taken xs v s = let q = read_of s in subst (λ z. Derives (n start ∷ []) z kind.End (v ∷ [])) (sym (q.whole ∙ append-nil q.front)) q.derived
 
 pub place_is : (gs : List Spelled) (y : Spelled) (b : List Sign) (end : Pos) → b ≡ signs_after y gs → IsPlace gs end (place_of b end)
 place_is [] y b end e = ap (λ z. place_of z end) e
 place_is (x ∷ gs) y b end e = ap (λ z. place_of z end) e
 
 -- the answers of a parser of the start
-module _ {X : Type 0} (f : X → Value) (xs : List Spelled) (end : Pos) where
-  pub good_answer : (x : X) (a b : List Sign) → a ≡ signs xs → Takes (n start ∷ []) a (f x ∷ []) b → b ≡ [] → DerivesValue xs (f x) × ((w : Value) → DerivesValue xs w → f x ≡ w)
-  good_answer x a b e d h = all_taken xs (f x) (subst (λ z. Takes (n start ∷ []) (signs xs) (f x ∷ []) z) h (subst (λ z. Takes (n start ∷ []) z (f x ∷ []) b) e d))
+pub good_answer : {X : Type 0} (f : X → Value) (xs : List Spelled) (x : X) (a b : List Sign) → a ≡ signs xs → Takes (n start ∷ []) a (f x ∷ []) b → b ≡ [] → DerivesValue xs (f x)
+good_answer f xs x a b e d h = all_taken xs (f x) (subst (λ z. Takes (n start ∷ []) (signs xs) (f x ∷ []) z) h (subst (λ z. Takes (n start ∷ []) z (f x ∷ []) b) e d))
 
-  pub more_answer : (x : X) (a b : List Sign) (pos : Pos) → a ≡ signs xs → Takes (n start ∷ []) a (f x ∷ []) b → (b ≡ [] → ⊥) → pos ≡ place_of b end → IsFault xs end pos
-  more_answer x a b pos e d h k =
+module _ (xs : List Spelled) (end : Pos) where
+  pub more_answer : {X : Type 0} (f : X → Value) (x : X) (a b : List Sign) (pos : Pos) → a ≡ signs xs → Takes (n start ∷ []) a (f x ∷ []) b → (b ≡ [] → ⊥) → pos ≡ place_of b end → IsFault xs end pos
+  more_answer f x a b pos e d h k =
       take_fault xs end b (f x) (subst (λ z. Takes (n start ∷ []) z (f x ∷ []) b) e d) h pos
       (λ fs gs w is. subst (λ z. IsPlace gs end z) (sym k) (place_is gs (last_of nobody fs) b end is))
 

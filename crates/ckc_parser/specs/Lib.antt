@@ -1,12 +1,3 @@
-pub mod Derives
-pub mod Forms
-pub mod Grammar
-pub mod Kinds
-pub mod Marked
-pub mod Outcome
-pub mod Reading
-pub mod Shapes
+pub mod Phase
 pub mod Text
-pub mod Trees
 pub mod Turns
-pub mod Values

@@ -1,19 +1,23 @@
 ghost use Rattle.std.specs.Prelude.{◌≡◌, List, [], ◌∷◌, true};
-ghost use Rattle.ckc_base.specs.declared.places.Pos.{Pos};
+ghost use Rattle.ckc_base.specs.Phases.{IsExact};
 ghost use Rattle.ckc_base.specs.declared.places.Refusal.{Refusal};
-ghost use Rattle.ckc_syntax.specs.Spelled.{Spelled};
-ghost use Rattle.ckc_parser.specs.declared.kind.Kind.{Kind};
-ghost use Rattle.ckc_parser.specs.Derives.{Sign, Derives};
-ghost use Rattle.ckc_parser.specs.Grammar.{Part, n};
-ghost use Rattle.ckc_parser.specs.Shapes.{shape_of, has_shape};
-ghost use Rattle.ckc_parser.specs.Values.{Value};
-ghost use Rattle.ckc_parser.specs.Text.{SpelledTree, DerivesTokens, FirstFault};
+ghost use Rattle.ckc_syntax.specs.Spelled.{Tokens};
+ghost use Rattle.ckc_grammar.specs.declared.kind.Kind.{Kind};
+ghost use Rattle.ckc_grammar.specs.Derives.{Sign, Derives};
+ghost use Rattle.ckc_grammar.specs.Grammar.{Part, n};
+ghost use Rattle.ckc_grammar.specs.Shapes.{shape_of, has_shape};
+ghost use Rattle.ckc_grammar.specs.Values.{Value};
+ghost use Rattle.ckc_parser.specs.Phase.{parsing};
 
-/// Tokens have one tree, or one place where they stop to be the beginning of a text, and not both.
-pub fn one_answer()
-    ensures trees { (xs : List Spelled) (a b : SpelledTree) → DerivesTokens xs a → DerivesTokens xs b → a ≡ b }
-    ensures fault { (xs : List Spelled) (end : Pos) (a b : Refusal) → FirstFault xs end a → FirstFault xs end b → a ≡ b }
-    ensures not_both { (xs : List Spelled) (end : Pos) (a : SpelledTree) (r : Refusal) → DerivesTokens xs a → FirstFault xs end r → ⊥ }
+/// Tokens have one tree, or one place where they stop to be the beginning of a text: never two, never both, never
+/// neither.
+pub fn is_exact()
+    ensures { IsExact parsing }
+{}
+
+/// Tokens are refused by one code.
+pub fn codes()
+    ensures { (tokens : Tokens) (r : Refusal) → parsing.Refuses tokens r → r.code ≡ 120 }
 {}
 
 /// What tokens derive for a part is a value of that part: none that stands in for a value of another part occurs.

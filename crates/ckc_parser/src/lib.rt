@@ -1,22 +1,12 @@
-//! The grammar of Checked C texts.
+//! The tree of a Checked C text, read from its tokens.
 #![tactic(auto)]
 
-mod constants;
 mod declarators;
-mod expressions;
 mod items;
-mod join;
-mod kind;
 mod laws;
-mod make;
-mod operations;
-mod operators;
-mod parts;
-mod reader;
 mod statements;
 mod text;
-mod types;
-mod values;
 
-pub use laws::{one_answer, values_have_shapes};
-pub use text::{ParseFault, parse};
+pub use ckc_grammar::SYNTAX_ERROR;
+pub use laws::{codes, is_exact, values_have_shapes};
+pub use text::parse;

@@ -1,0 +1,314 @@
+ghost use Rattle.std.specs.Prelude.{◌≡◌, ◌≤◌, ◌<◌, ◌∷◌, [], ◌++◌, length, true, MatchResult, Option, Some, None, IfOk};
+ghost use Rattle.ckc_syntax.specs.Spelled.{spelled};
+ghost use Rattle.ckc_syntax.specs.declared.tree.Item.TheVariants as item;
+ghost use Rattle.ckc_grammar.specs.Grammar as g;
+ghost use Rattle.ckc_grammar.specs.Trees as trees;
+ghost use Rattle.ckc_grammar.specs.Values as v;
+ghost use Rattle.ckc_grammar.specs.Reading.{kind_of};
+ghost use Rattle.ckc_grammar.specs.Marked.{ahead, remaining, Answered, Gives, Reads};
+
+use crate::constants::named;
+use crate::expressions::{expr, expr_rest, first, posts, unary};
+use crate::types::type_name;
+use ckc_base::Seq;
+use ckc_grammar::{
+    Expression, Kind, Reader, Statement, Step, Stop, called, expression, one, statement, whole,
+};
+use ckc_syntax::{Act, Expr, Node, Spelling, Token, TreeOp};
+use std::alloc::Global;
+
+/// The right side of an assignment, or what a local begins as: an expression or a call.
+pub fn value<'a>(reader: &mut Reader<'a>, alloc: Global) -> Result<Expression<'a>, Stop>
+    ensures gives { Gives (λ y. v.as_expr y) (g.n g.value) (ahead reader.old) result (ahead reader.new) }
+    ensures fewer { remaining reader.new ≤ remaining reader.old }
+{
+    match reader.kind() {
+        Kind::Calloc => calloc_first(reader, alloc),
+        Kind::Name => name_first(reader, alloc),
+        Kind::Count => name_first(reader, alloc),
+        Kind::ByteCount => name_first(reader, alloc),
+        Kind::Bounds => name_first(reader, alloc),
+        Kind::Unknown => name_first(reader, alloc),
+        _ => other_value(reader, alloc),
+    }
+}
+
+/// A value that begins with `calloc`.
+fn calloc_first<'a>(reader: &mut Reader<'a>, alloc: Global) -> Result<Expression<'a>, Stop>
+    ensures reads { Reads (g.right g.CallocValue) (λ x vs. v.as_expr (v.made g.CallocValue vs) ≡ x) (ahead reader.old) result (ahead reader.new) }
+    ensures fewer { remaining reader.new ≤ remaining reader.old }
+{
+    let name = reader.take(Kind::Calloc)?;
+    let whole = calloc_value(reader, alloc, name)?;
+    Ok(whole)
+}
+
+/// A value that begins with another name.
+fn name_first<'a>(reader: &mut Reader<'a>, alloc: Global) -> Result<Expression<'a>, Stop>
+    ensures reads { Reads (g.right g.NamedValue) (λ x vs. v.as_expr (v.made g.NamedValue vs) ≡ x) (ahead reader.old) result (ahead reader.new) }
+    ensures fewer { remaining reader.new ≤ remaining reader.old }
+{
+    let name = reader.take_name_but_calloc()?;
+    let whole = named_value(reader, alloc, name)?;
+    Ok(whole)
+}
+
+/// A value that begins with no name.
+fn other_value<'a>(reader: &mut Reader<'a>, alloc: Global) -> Result<Expression<'a>, Stop>
+    ensures reads { Reads (g.right g.Value) (λ x vs. v.as_expr (v.made g.Value vs) ≡ x) (ahead reader.old) result (ahead reader.new) }
+    ensures fewer { remaining reader.new ≤ remaining reader.old }
+{
+    let operand = first(reader, alloc)?;
+    let rest = expr_rest(reader, alloc, Seq::new(alloc))?;
+    let whole = whole(alloc, operand, rest)?;
+    Ok(whole)
+}
+
+/// What goes on behind a name but `calloc`: a call, or an expression.
+fn named_value<'a>(
+    reader: &mut Reader<'a>,
+    alloc: Global,
+    name: Token<'a>,
+) -> Result<Expression<'a>, Stop>
+    ensures gives { Gives (λ y. v.as_expr_of_name y (spelled name.entry)) (g.n g.named_value) (ahead reader.old) result (ahead reader.new) }
+    ensures fewer { remaining reader.new ≤ remaining reader.old }
+{
+    match reader.kind() {
+        Kind::RoundOpen => call_value(reader, alloc, name),
+        _ => name_expr(reader, alloc, name),
+    }
+}
+
+/// The arguments of a call, with their parentheses.
+fn call_value<'a>(
+    reader: &mut Reader<'a>,
+    alloc: Global,
+    name: Token<'a>,
+) -> Result<Expression<'a>, Stop>
+    ensures reads { Reads (g.right g.CallValue) (λ x vs. v.as_expr_of_name (v.made g.CallValue vs) (spelled name.entry) ≡ x) (ahead reader.old) result (ahead reader.new) }
+    ensures fewer { remaining reader.new ≤ remaining reader.old }
+{
+    let open = reader.take(Kind::RoundOpen)?;
+    let all = arguments(reader, alloc)?;
+    let whole = called(alloc, name, all)?;
+    Ok(whole)
+}
+
+/// The arguments of a call of `calloc` without a type.
+fn calloc_call<'a>(
+    reader: &mut Reader<'a>,
+    alloc: Global,
+    name: Token<'a>,
+) -> Result<Expression<'a>, Stop>
+    ensures reads { Reads (g.right g.CallocCall) (λ x vs. v.as_expr_of_name (v.made g.CallocCall vs) (spelled name.entry) ≡ x) (ahead reader.old) result (ahead reader.new) }
+    ensures fewer { remaining reader.new ≤ remaining reader.old }
+{
+    let open = reader.take(Kind::RoundOpen)?;
+    let all = arguments(reader, alloc)?;
+    let whole = called(alloc, name, all)?;
+    Ok(whole)
+}
+
+/// An expression behind the name that it begins with.
+fn name_expr<'a>(
+    reader: &mut Reader<'a>,
+    alloc: Global,
+    name: Token<'a>,
+) -> Result<Expression<'a>, Stop>
+    ensures reads { Reads (g.right g.ExprValue) (λ x vs. v.as_expr_of_name (v.made g.ExprValue vs) (spelled name.entry) ≡ x) (ahead reader.old) result (ahead reader.new) }
+    ensures fewer { remaining reader.new ≤ remaining reader.old }
+{
+    let start = named(alloc, name)?;
+    let operand = posts(reader, alloc, start)?;
+    let rest = expr_rest(reader, alloc, Seq::new(alloc))?;
+    let whole = whole(alloc, operand, rest)?;
+    Ok(whole)
+}
+
+/// What goes on behind `calloc`: a call, a call with a type, or an expression.
+fn calloc_value<'a>(
+    reader: &mut Reader<'a>,
+    alloc: Global,
+    name: Token<'a>,
+) -> Result<Expression<'a>, Stop>
+    ensures gives { Gives (λ y. v.as_expr_of_name y (spelled name.entry)) (g.n g.calloc_value) (ahead reader.old) result (ahead reader.new) }
+    ensures fewer { remaining reader.new ≤ remaining reader.old }
+{
+    match reader.kind() {
+        Kind::RoundOpen => calloc_call(reader, alloc, name),
+        Kind::Less => calloc_less(reader, alloc, name),
+        _ => name_expr(reader, alloc, name),
+    }
+}
+
+/// `<` behind `calloc`.
+fn calloc_less<'a>(
+    reader: &mut Reader<'a>,
+    alloc: Global,
+    name: Token<'a>,
+) -> Result<Expression<'a>, Stop>
+    ensures reads { Reads (g.right g.CallocLess) (λ x vs. v.as_expr_of_name (v.made g.CallocLess vs) (spelled name.entry) ≡ x) (ahead reader.old) result (ahead reader.new) }
+    ensures fewer { remaining reader.new ≤ remaining reader.old }
+{
+    let mark = reader.take(Kind::Less)?;
+    let whole = behind_less(reader, alloc, name, mark)?;
+    Ok(whole)
+}
+
+/// What goes on behind `calloc <`: a type, or an operand.
+fn behind_less<'a>(
+    reader: &mut Reader<'a>,
+    alloc: Global,
+    name: Token<'a>,
+    mark: Token<'a>,
+) -> Result<Expression<'a>, Stop>
+    ensures gives { Gives (λ y. v.as_expr_of_less y (spelled name.entry) (v.place (v.token (spelled mark.entry)))) (g.n g.less) (ahead reader.old) result (ahead reader.new) }
+    ensures fewer { remaining reader.new ≤ remaining reader.old }
+{
+    match reader.kind() {
+        Kind::Int => less_type(reader, alloc, name, mark),
+        Kind::Unsigned => less_type(reader, alloc, name, mark),
+        Kind::Char => less_type(reader, alloc, name, mark),
+        Kind::Struct => less_type(reader, alloc, name, mark),
+        Kind::Ptr => less_type(reader, alloc, name, mark),
+        Kind::ArrayPtr => less_type(reader, alloc, name, mark),
+        Kind::NtArrayPtr => less_type(reader, alloc, name, mark),
+        _ => less_operand(reader, alloc, name, mark),
+    }
+}
+
+/// A call with a type, behind its `<`.
+fn less_type<'a>(
+    reader: &mut Reader<'a>,
+    alloc: Global,
+    name: Token<'a>,
+    mark: Token<'a>,
+) -> Result<Expression<'a>, Stop>
+    ensures reads { Reads (g.right g.LessType) (λ x vs. v.as_expr_of_less (v.made g.LessType vs) (spelled name.entry) (v.place (v.token (spelled mark.entry))) ≡ x) (ahead reader.old) result (ahead reader.new) }
+    ensures fewer { remaining reader.new ≤ remaining reader.old }
+{
+    let whole = allocation(reader, alloc, name)?;
+    Ok(whole)
+}
+
+/// An operand of `<` with what follows it.
+fn less_operand<'a>(
+    reader: &mut Reader<'a>,
+    alloc: Global,
+    name: Token<'a>,
+    mark: Token<'a>,
+) -> Result<Expression<'a>, Stop>
+    ensures reads { Reads (g.right g.LessOperand) (λ x vs. v.as_expr_of_less (v.made g.LessOperand vs) (spelled name.entry) (v.place (v.token (spelled mark.entry))) ≡ x) (ahead reader.old) result (ahead reader.new) }
+    ensures fewer { remaining reader.new ≤ remaining reader.old }
+{
+    let start = named(alloc, name)?;
+    let operand = unary(reader, alloc)?;
+    let steps = one(
+        alloc,
+        Step {
+            op: TreeOp::Lt,
+            pos: mark.pos,
+            operand,
+        },
+    )?;
+    let rest = expr_rest(reader, alloc, steps)?;
+    let whole = whole(alloc, start, rest)?;
+    Ok(whole)
+}
+
+/// The arguments of a call, up to the `)`.
+pub fn arguments<'a>(
+    reader: &mut Reader<'a>,
+    alloc: Global,
+) -> Result<Seq<Expr<Spelling<'a>, ()>>, Stop>
+    ensures gives { Gives (λ y. v.as_exprs y) (g.n g.arguments) (ahead reader.old) result (ahead reader.new) }
+    ensures fewer { remaining reader.new ≤ remaining reader.old }
+{
+    match reader.kind() {
+        Kind::RoundClose => no_arguments(reader, alloc),
+        _ => some_arguments(reader, alloc),
+    }
+}
+
+/// `)`.
+fn no_arguments<'a>(
+    reader: &mut Reader<'a>,
+    alloc: Global,
+) -> Result<Seq<Expr<Spelling<'a>, ()>>, Stop>
+    ensures reads { Reads (g.right g.NoArguments) (λ x vs. v.as_exprs (v.made g.NoArguments vs) ≡ x) (ahead reader.old) result (ahead reader.new) }
+    ensures fewer { remaining reader.new ≤ remaining reader.old }
+{
+    let close = reader.take(Kind::RoundClose)?;
+    Ok(Seq::new(alloc))
+}
+
+/// At least one argument.
+fn some_arguments<'a>(
+    reader: &mut Reader<'a>,
+    alloc: Global,
+) -> Result<Seq<Expr<Spelling<'a>, ()>>, Stop>
+    ensures reads { Reads (g.right g.Arguments) (λ x vs. v.as_exprs (v.made g.Arguments vs) ≡ x) (ahead reader.old) result (ahead reader.new) }
+    ensures fewer { remaining reader.new ≤ remaining reader.old }
+{
+    let first = expr(reader, alloc)?;
+    let all = more_arguments(reader, alloc, first)?;
+    Ok(all)
+}
+
+/// More arguments, up to the `)`.
+fn more_arguments<'a>(
+    reader: &mut Reader<'a>,
+    alloc: Global,
+    first: Expression<'a>,
+) -> Result<Seq<Expr<Spelling<'a>, ()>>, Stop>
+    ensures gives { Gives (λ y. first.entry ∷ v.as_exprs y) (g.n g.more_arguments) (ahead reader.old) result (ahead reader.new) }
+    ensures fewer { remaining reader.new ≤ remaining reader.old }
+{
+    let mut all = one(alloc, first.into_inner())?;
+    'list: while let Kind::Comma = reader.kind() {
+        let comma = reader.take(Kind::Comma)?;
+        let item = expr(reader, alloc)?;
+        all.push(item.into_inner())?;
+    }
+    let end = reader.take(Kind::RoundClose)?;
+    Ok(all)
+}
+
+/// A call of `calloc` behind its `<`.
+pub fn allocation<'a>(
+    reader: &mut Reader<'a>,
+    alloc: Global,
+    name: Token<'a>,
+) -> Result<Expression<'a>, Stop>
+    ensures gives { Gives (λ y. v.as_expr_of_name y (spelled name.entry)) (g.n g.allocation) (ahead reader.old) result (ahead reader.new) }
+    ensures fewer { remaining reader.new ≤ remaining reader.old }
+{
+    let ctype = type_name(reader, alloc)?;
+    let close = reader.take_greater()?;
+    let open = reader.take(Kind::RoundOpen)?;
+    let count = expr(reader, alloc)?;
+    let comma = reader.take(Kind::Comma)?;
+    let word = reader.take(Kind::Sizeof)?;
+    let round = reader.take(Kind::RoundOpen)?;
+    let other = type_name(reader, alloc)?;
+    let end = reader.take(Kind::RoundClose)?;
+    let last = reader.take(Kind::RoundClose)?;
+    let whole = expression(
+        alloc,
+        Node::Calloc(ctype.into_inner(), count, other.into_inner()),
+        name.pos,
+    )?;
+    Ok(whole)
+}
+
+/// An assignment (ISO C11, 6.5.16).
+pub fn assign<'a>(reader: &mut Reader<'a>, alloc: Global) -> Result<Statement<'a>, Stop>
+    ensures gives { Gives (λ y. v.as_stmt y) (g.n g.assign) (ahead reader.old) result (ahead reader.new) }
+    ensures fewer { remaining reader.new ≤ remaining reader.old }
+{
+    let target = unary(reader, alloc)?;
+    let equals = reader.take(Kind::Equals)?;
+    let value = value(reader, alloc)?;
+    let whole = statement(alloc, Act::Assign(target, value), equals.pos)?;
+    Ok(whole)
+}

@@ -1,0 +1,26 @@
+-- A text that is not a word is passed over.
+use Rattle.std.proofs.Common.{◌≡◌, ℕ, List, [], ◌∷◌, Bool, true, false, cond, refl, ◌&&◌, ◌==◌, arith}
+use Rattle.std.proofs.lemmas.Bool.Decides.{nat_tests}
+use Rattle.ckc_grammar.specs.declared.kind.Kind.{Kind}
+use Rattle.ckc_grammar.specs.Kinds.{is}
+
+same_number : (b c : ℕ) → (b == c) ≡ true → b ≡ c
+same_number b c e = grind (arith, nat_tests)
+
+both : (p q : Bool) (b c : ℕ) (bs cs : List ℕ) → (p && q) ≡ true → (p ≡ true → b ≡ c) → (q ≡ true → bs ≡ cs) → b ∷ bs ≡ c ∷ cs
+both true true b c bs cs e f g = let h = f refl in let i = g refl in cc
+both true false b c bs cs e f g = cc
+both false q b c bs cs e f g = cc
+
+is_same : (text word : List ℕ) → is text word ≡ true → text ≡ word
+is_same [] [] e = refl
+is_same [] (c ∷ cs) e = cc
+is_same (b ∷ bs) [] e = cc
+is_same (b ∷ bs) (c ∷ cs) e = both (b == c) (is bs cs) b c bs cs e (λ t. same_number b c t) (is_same bs cs)
+
+passed : (b : Bool) (x y : Kind) → (b ≡ true → ⊥) → cond b x y ≡ y
+passed true x y h = absurd (h refl)
+passed false x y h = refl
+
+pub skip : (text word : List ℕ) (x y : Kind) → (text ≡ word → ⊥) → cond (is text word) x y ≡ y
+skip text word x y h = passed (is text word) x y (λ e. h (is_same text word e))

@@ -1,0 +1,9 @@
+pub mod Derives
+pub mod Forms
+pub mod Grammar
+pub mod Kinds
+pub mod Marked
+pub mod Reading
+pub mod Shapes
+pub mod Trees
+pub mod Values

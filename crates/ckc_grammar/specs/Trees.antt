@@ -1,0 +1,152 @@
+-- What the trees of a text are made of.
+use Rattle.std.specs.Prelude.{ℕ, zero, suc, ◌==◌, List, [], ◌∷◌, Option, None, Some, false, if◌then◌else◌}
+use Rattle.ckc_base.specs.declared.places.Pos.{Pos}
+use Rattle.ckc_syntax.specs.declared.tokens.TokenKind.{TokenKind}
+use Rattle.ckc_syntax.specs.declared.tokens.TokenKind.TheVariants as kinds
+use Rattle.ckc_syntax.specs.declared.tree.Tree as trees
+use Rattle.ckc_syntax.specs.declared.tree.Item as items
+use Rattle.ckc_syntax.specs.declared.tree.Item.TheVariants as item
+use Rattle.ckc_syntax.specs.declared.tree.Head as heads
+use Rattle.ckc_syntax.specs.declared.tree.TypeTree as types
+use Rattle.ckc_syntax.specs.declared.tree.TypeTree.TheVariants as ctype
+use Rattle.ckc_syntax.specs.declared.tree.Decl as decls
+use Rattle.ckc_syntax.specs.declared.tree.Init as inits
+use Rattle.ckc_syntax.specs.declared.tree.Limits as limits
+use Rattle.ckc_syntax.specs.declared.tree.Expr as exprs
+use Rattle.ckc_syntax.specs.declared.tree.Node as nodes
+use Rattle.ckc_syntax.specs.declared.tree.Node.TheVariants as node
+use Rattle.ckc_syntax.specs.declared.tree.Stmt as statements
+use Rattle.ckc_syntax.specs.declared.tree.Act as acts
+use Rattle.ckc_syntax.specs.declared.tree.Act.TheVariants as act
+use Rattle.ckc_syntax.specs.declared.tree.TreeOp.{TreeOp}
+use Rattle.ckc_syntax.specs.declared.tree.TreeOp.TheVariants as op
+use Rattle.ckc_grammar.specs.declared.parts.Step.{Step}
+use Rattle.ckc_grammar.specs.declared.parts.Arms.{Arms}
+use Rattle.ckc_grammar.specs.declared.parts.Post.{Post}
+use Rattle.ckc_grammar.specs.declared.parts.Post.TheVariants as post
+
+-- A name is its spelling, and nothing is noted yet.
+abbrev pub Name : Type 0
+Name = List ℕ
+
+abbrev pub Tree : Type 0
+Tree = trees.Tree Name (Unit {0})
+
+abbrev pub Item : Type 0
+Item = items.Item Name (Unit {0})
+
+abbrev pub Head : Type 0
+Head = heads.Head Name (Unit {0})
+
+abbrev pub TypeTree : Type 0
+TypeTree = types.TypeTree Name
+
+abbrev pub Decl : Type 0
+Decl = decls.Decl Name (Unit {0})
+
+abbrev pub Init : Type 0
+Init = inits.Init Name (Unit {0})
+
+abbrev pub Limits : Type 0
+Limits = limits.Limits Name (Unit {0})
+
+abbrev pub Expr : Type 0
+Expr = exprs.Expr Name (Unit {0})
+
+abbrev pub Node : Type 0
+Node = nodes.Node Name (Unit {0})
+
+abbrev pub Stmt : Type 0
+Stmt = statements.Stmt Name (Unit {0})
+
+abbrev pub Act : Type 0
+Act = acts.Act Name (Unit {0})
+
+abbrev pub expr_at : Node → Pos → Expr
+expr_at x pos = record { node = x; pos = pos; note = tt }
+
+abbrev pub stmt_at : Act → Pos → Stmt
+stmt_at x pos = record { body = x; pos = pos; note = tt }
+
+-- a type behind which stars stand, the first one innermost
+abbrev pub starred : TypeTree → List Pos → TypeTree
+starred base [] = base
+starred base (pos ∷ ps) = starred (ctype.Raw base pos) ps
+
+-- one item for each declared object
+abbrev pub statics : List Decl → List Item
+statics [] = []
+statics (d ∷ ds) = item.Static d ∷ statics ds
+
+-- a statement for each declared local, at its name
+abbrev pub local_of : Decl → Stmt
+local_of d = stmt_at (act.Local d) d.pos
+
+abbrev pub locals : List Decl → List Stmt
+locals [] = []
+locals (d ∷ ds) = local_of d ∷ locals ds
+
+-- a head with or without a body
+abbrev pub function_of : Head → Option Stmt → Item
+function_of h None = item.Proto h
+function_of h (Some body) = item.Function h body
+
+-- an expression behind which `[e]`, `.m` and `->m` stand
+abbrev pub posted : Expr → List Post → Expr
+posted e [] = e
+posted e (post.Index i pos ∷ ps) = posted (expr_at (node.Index e i) pos) ps
+posted e (post.Dot name at pos ∷ ps) = posted (expr_at (node.Dot e name at) pos) ps
+posted e (post.Arrow name at pos ∷ ps) = posted (expr_at (node.Arrow e name at) pos) ps
+
+-- how tight a binary operator is, from `||`
+abbrev pub level : TreeOp → ℕ
+level op.OrElse = 1
+level op.AndThen = 2
+level op.Or = 3
+level op.Xor = 4
+level op.And = 5
+level op.Eq = 6
+level op.Ne = 6
+level op.Lt = 7
+level op.Le = 7
+level op.Gt = 7
+level op.Ge = 7
+level op.Shl = 8
+level op.Shr = 8
+level op.Add = 9
+level op.Sub = 9
+level op.Mul = 10
+level op.Div = 10
+level op.Rem = 10
+level _ = 0
+
+-- Operands joined at the operators of one level, to the left; those of other levels stay.
+abbrev pub joined_at : ℕ → Expr → List Step → Expr × List Step
+joined_at l e [] = (e, [])
+joined_at l e (s ∷ ss) =
+    if level s.op == l then joined_at l (expr_at (node.Bin s.op e s.operand) s.pos) ss
+    else (e, let rest = joined_at l s.operand ss in record { op = s.op; pos = s.pos; operand = rest.0 } ∷ rest.1)
+
+-- operands that are joined already, whose last one goes on with the steps
+abbrev pub attached : ℕ → Expr → List Step → List Step → Expr × List Step
+attached l e [] ss = joined_at l e ss
+attached l e (x ∷ xs) ss = (e, let rest = attached l x.operand xs ss in record { op = x.op; pos = x.pos; operand = rest.0 } ∷ rest.1)
+
+-- from the tightest level to the loosest
+unfoldable pub joined_to : ℕ → Expr × List Step → Expr × List Step
+joined_to zero c = c
+joined_to (suc l) c = joined_to l (joined_at (suc l) c.0 c.1)
+
+unfoldable pub joined : Expr → List Step → Expr
+unfolding joined_to
+joined e ss = (joined_to 10 (e, ss)).0
+
+abbrev pub picked : Expr → Option Arms → Expr
+picked e None = e
+picked e (Some a) = expr_at (node.Pick e a.yes a.no) a.pos
+
+-- the value of a number or character
+abbrev pub literal : TokenKind → Node
+literal (kinds.Number number unsigned) = node.Number number unsigned
+literal (kinds.Character byte) = node.Number byte false
+literal _ = node.Null

@@ -1,0 +1,23 @@
+//! The grammar of Checked C texts as data, a reader of tokens, and what trees are made of.
+#![tactic(auto)]
+
+mod join;
+mod kind;
+mod make;
+mod operators;
+mod parts;
+mod reader;
+
+pub use join::whole;
+pub use kind::Kind;
+pub use make::{
+    add, append, called, copied, declaration, directive_of, expression, function, local_of,
+    number_of, one, one_of, statement, struct_type, two,
+};
+pub use operators::{
+    begins_post, begins_step, begins_type, binary_op, is_greater, is_sign, sign_op,
+};
+pub use parts::{
+    Arms, Bounds, CType, Declaration, Expression, Operation, Rest, Statement, Step, Stop,
+};
+pub use reader::{Reader, SYNTAX_ERROR, is_name, token_kind};

@@ -1,0 +1,323 @@
+ghost use Rattle.std.specs.Prelude.{◌≡◌, ◌≢◌, ◌≤◌, ◌<◌, [], ◌∷◌, length, map, MatchOption, MatchResult, IfOk, IsNone, IsTrue, ◌↔◌};
+ghost use Rattle.ckc_syntax.specs.Spelled.{spelled};
+ghost use Rattle.ckc_grammar.specs.Kinds.{kind_of_token};
+ghost use Rattle.ckc_grammar.specs.Grammar.{t, one, name, greater, sign, operator, literal, name_but_calloc, name_but_unknown, is_name, is_name_but_calloc, is_name_but_unknown};
+ghost use Rattle.ckc_grammar.specs.Forms.{is_unknown_alone, is_close, has_more};
+ghost use Rattle.ckc_grammar.specs.Values.{token};
+ghost use Rattle.ckc_grammar.specs.Reading.{kind_of};
+ghost use Rattle.ckc_grammar.specs.Marked.{kind_after, adjacent, signs, ahead, remaining, place_of, Parses};
+
+use crate::kind::{Kind, keyword_kind, mark_kind, name_kind};
+use crate::operators::{is_greater, is_literal, is_operator, is_sign};
+use crate::parts::Stop;
+use ckc_base::{Pos, Refusal};
+use ckc_syntax::{Token, TokenKind};
+
+/// E120: the next token does not go on, or more tokens are wanted.
+pub const SYNTAX_ERROR: u16 = 120;
+
+/// Tokens that are left to read, with the kind of the first.
+#[derive(Clone, Copy)]
+pub struct Reader<'a> {
+    kind: Kind,
+    rest: &'a [Token<'a>],
+}
+
+/// The kind of a token by itself.
+pub fn token_kind(token: &Token) -> Kind
+    ensures { result ≡ kind_of_token (spelled token.now) }
+{
+    match token.kind {
+        TokenKind::Name => name_kind(token.text),
+        TokenKind::Keyword => keyword_kind(token.text),
+        TokenKind::Number(_, _) => Kind::Number,
+        TokenKind::Character(_) => Kind::Character,
+        TokenKind::Text => Kind::Text,
+        TokenKind::Mark => mark_kind(token.text),
+        TokenKind::Directive(_) => Kind::Directive,
+    }
+}
+
+/// Whether a token is a name.
+pub fn is_name(kind: Kind) -> bool
+    ensures { result ≡ is_name kind }
+{
+    match kind {
+        Kind::Name => true,
+        Kind::Calloc => true,
+        Kind::Count => true,
+        Kind::ByteCount => true,
+        Kind::Bounds => true,
+        Kind::Unknown => true,
+        _ => false,
+    }
+}
+
+/// Whether a token is a name but `calloc`.
+pub fn is_name_but_calloc(kind: Kind) -> bool
+    ensures { result ≡ is_name_but_calloc kind }
+{
+    match kind {
+        Kind::Calloc => false,
+        _ => is_name(kind),
+    }
+}
+
+/// Whether a token is a name but `unknown`.
+pub fn is_name_but_unknown(kind: Kind) -> bool
+    ensures { result ≡ is_name_but_unknown kind }
+{
+    match kind {
+        Kind::Unknown => false,
+        _ => is_name(kind),
+    }
+}
+
+/// The kind of a token behind another.
+fn kind_behind(before: &Token, token: &Token) -> Kind
+    ensures { result ≡ kind_after (spelled before.now) (spelled token.now) }
+{
+    let kind = token_kind(token);
+    match kind {
+        Kind::Greater => {
+            if is_adjacent(before, token) {
+                Kind::GreaterNext
+            } else {
+                Kind::Greater
+            }
+        }
+        _ => kind,
+    }
+}
+
+/// Whether a token stands directly behind a `>`.
+fn is_adjacent(before: &Token, token: &Token) -> bool
+    ensures { result ≡ adjacent (spelled before.now) (spelled token.now) }
+{
+    match token_kind(before) {
+        Kind::Greater => {
+            before.pos.line == token.pos.line
+                && before.pos.col.checked_add(1) == Some(token.pos.col)
+        }
+        _ => false,
+    }
+}
+
+impl<'a> Reader<'a> {
+    /// Nothing is read yet.
+    pub fn new(tokens: &'a [Token<'a>]) -> Reader<'a>
+        ensures { ahead result ≡ signs (map spelled tokens.now) }
+    {
+        let kind = match tokens {
+            [] => Kind::End,
+            [first, ..] => token_kind(first),
+        };
+        Reader { kind, rest: tokens }
+    }
+
+    /// The kind of the next token.
+    pub fn kind(&self) -> Kind
+        ensures { result ≡ kind_of (ahead self.now) }
+    {
+        if self.rest.is_empty() {
+            Kind::End
+        } else {
+            self.kind
+        }
+    }
+
+    /// Takes the next token.
+    fn next(&mut self) -> Option<Token<'a>>
+        ensures taken { MatchOption result (ahead self.old ≡ [])
+            (λ x. ahead self.old ≡ record { kind = kind_of (ahead self.old); token = spelled x } ∷ ahead self.new) }
+        ensures end { IsNone result → ahead self.new ≡ ahead self.old }
+        ensures fewer { MatchOption result (remaining self.new ≤ remaining self.old) (λ x. remaining self.new < remaining self.old) }
+    {
+        match self.rest {
+            [] => None,
+            [first, rest @ ..] => {
+                let kind = match rest {
+                    [] => Kind::End,
+                    [second, ..] => kind_behind(first, second),
+                };
+                self.kind = kind;
+                self.rest = rest;
+                Some(*first)
+            }
+        }
+    }
+
+    /// Takes a token of a kind.
+    pub fn take(&mut self, kind: Kind) -> Result<Token<'a>, Stop>
+        requires { kind ≢ Kind.End }
+        ensures parses { Parses (λ x. token (spelled x)) (t (one kind)) (ahead self.old) result (ahead self.new) }
+        ensures fewer { MatchResult result (λ x. remaining self.new < remaining self.old) (λ e. remaining self.new ≤ remaining self.old) }
+    {
+        if self.kind() != kind {
+            return Err(Stop::Syntax);
+        }
+        match self.next() {
+            Some(token) => Ok(token),
+            None => Err(Stop::Syntax),
+        }
+    }
+
+    /// Takes a name.
+    pub fn take_name(&mut self) -> Result<Token<'a>, Stop>
+        ensures parses { Parses (λ x. token (spelled x)) (t name) (ahead self.old) result (ahead self.new) }
+        ensures fewer { MatchResult result (λ x. remaining self.new < remaining self.old) (λ e. remaining self.new ≤ remaining self.old) }
+    {
+        if !is_name(self.kind()) {
+            return Err(Stop::Syntax);
+        }
+        match self.next() {
+            Some(token) => Ok(token),
+            None => Err(Stop::Syntax),
+        }
+    }
+
+    /// Takes a name but `calloc`.
+    pub fn take_name_but_calloc(&mut self) -> Result<Token<'a>, Stop>
+        ensures parses { Parses (λ x. token (spelled x)) (t name_but_calloc) (ahead self.old) result (ahead self.new) }
+        ensures fewer { MatchResult result (λ x. remaining self.new < remaining self.old) (λ e. remaining self.new ≤ remaining self.old) }
+    {
+        if !is_name_but_calloc(self.kind()) {
+            return Err(Stop::Syntax);
+        }
+        match self.next() {
+            Some(token) => Ok(token),
+            None => Err(Stop::Syntax),
+        }
+    }
+
+    /// Takes a name but `unknown`.
+    pub fn take_name_but_unknown(&mut self) -> Result<Token<'a>, Stop>
+        ensures parses { Parses (λ x. token (spelled x)) (t name_but_unknown) (ahead self.old) result (ahead self.new) }
+        ensures fewer { MatchResult result (λ x. remaining self.new < remaining self.old) (λ e. remaining self.new ≤ remaining self.old) }
+    {
+        if !is_name_but_unknown(self.kind()) {
+            return Err(Stop::Syntax);
+        }
+        match self.next() {
+            Some(token) => Ok(token),
+            None => Err(Stop::Syntax),
+        }
+    }
+
+    /// Takes a sign before an operand.
+    pub fn take_sign(&mut self) -> Result<Token<'a>, Stop>
+        ensures parses { Parses (λ x. token (spelled x)) (t sign) (ahead self.old) result (ahead self.new) }
+        ensures fewer { MatchResult result (λ x. remaining self.new < remaining self.old) (λ e. remaining self.new ≤ remaining self.old) }
+    {
+        if !is_sign(self.kind()) {
+            return Err(Stop::Syntax);
+        }
+        match self.next() {
+            Some(token) => Ok(token),
+            None => Err(Stop::Syntax),
+        }
+    }
+
+    /// Takes a binary operator, `>` and `>>` apart.
+    pub fn take_operator(&mut self) -> Result<Token<'a>, Stop>
+        ensures parses { Parses (λ x. token (spelled x)) (t operator) (ahead self.old) result (ahead self.new) }
+        ensures fewer { MatchResult result (λ x. remaining self.new < remaining self.old) (λ e. remaining self.new ≤ remaining self.old) }
+    {
+        if !is_operator(self.kind()) {
+            return Err(Stop::Syntax);
+        }
+        match self.next() {
+            Some(token) => Ok(token),
+            None => Err(Stop::Syntax),
+        }
+    }
+
+    /// Takes a number or a character.
+    pub fn take_literal(&mut self) -> Result<Token<'a>, Stop>
+        ensures parses { Parses (λ x. token (spelled x)) (t literal) (ahead self.old) result (ahead self.new) }
+        ensures fewer { MatchResult result (λ x. remaining self.new < remaining self.old) (λ e. remaining self.new ≤ remaining self.old) }
+    {
+        if !is_literal(self.kind()) {
+            return Err(Stop::Syntax);
+        }
+        match self.next() {
+            Some(token) => Ok(token),
+            None => Err(Stop::Syntax),
+        }
+    }
+
+    /// Takes a `>`.
+    pub fn take_greater(&mut self) -> Result<Token<'a>, Stop>
+        ensures parses { Parses (λ x. token (spelled x)) (t greater) (ahead self.old) result (ahead self.new) }
+        ensures fewer { MatchResult result (λ x. remaining self.new < remaining self.old) (λ e. remaining self.new ≤ remaining self.old) }
+    {
+        if !is_greater(self.kind()) {
+            return Err(Stop::Syntax);
+        }
+        match self.next() {
+            Some(token) => Ok(token),
+            None => Err(Stop::Syntax),
+        }
+    }
+
+    /// Whether `unknown` is next, with a `)` behind it.
+    pub fn is_unknown_alone(&self) -> bool
+        ensures { result ≡ is_unknown_alone (ahead self.now) }
+    {
+        match self.kind() {
+            Kind::Unknown => {
+                let mut probe = *self;
+                let word = probe.next();
+                match probe.kind() {
+                    Kind::RoundClose => true,
+                    _ => false,
+                }
+            }
+            _ => false,
+        }
+    }
+
+    /// Whether a `}` is next.
+    pub fn closes(&self) -> bool
+        ensures { result ≡ is_close (kind_of (ahead self.now)) }
+    {
+        match self.kind() {
+            Kind::CurlyClose => true,
+            _ => false,
+        }
+    }
+
+    /// Whether a token is next.
+    pub fn goes_on(&self) -> bool
+        ensures { result ≡ has_more (kind_of (ahead self.now)) }
+    {
+        match self.kind() {
+            Kind::End => false,
+            _ => true,
+        }
+    }
+
+    /// Whether no token is left.
+    pub fn is_at_end(&self) -> bool
+        ensures { IsTrue result ↔ (ahead self.now ≡ []) }
+    {
+        self.rest.is_empty()
+    }
+
+    /// The refusal of the next token, or of the end.
+    pub fn refusal(&self, end: Pos) -> Refusal
+        ensures code { result.code ≡ 120 }
+        ensures pos { result.pos ≡ place_of (ahead self.now) end }
+    {
+        match self.rest {
+            [] => Refusal {
+                code: SYNTAX_ERROR,
+                pos: end,
+            },
+            [first, ..] => Refusal {
+                code: SYNTAX_ERROR,
+                pos: first.pos,
+            },
+        }
+    }
+}

@@ -1,0 +1,22 @@
+-- One item of a text.
+use Rattle.std.proofs.Common.{◌≡◌, List, [], ◌∷◌, ◌++◌, true, sym, subst}
+use Rattle.std.specs.Prelude.{Some, Result}
+use Rattle.ckc_grammar.specs.declared.kind.Kind.{Kind}
+use Rattle.ckc_grammar.specs.declared.parts.Stop.{Stop}
+use Rattle.ckc_grammar.specs.Grammar.{Symbol, n, Rule, right, allowed}
+use Rattle.ckc_grammar.specs.Grammar as g
+use Rattle.ckc_grammar.specs.Trees.{Item}
+use Rattle.ckc_grammar.specs.Values.{Value, made, as_items}
+use Rattle.ckc_grammar.specs.Derives.{Sign}
+use Rattle.ckc_grammar.specs.Reading.{kind_of, pick, Takes, Stops}
+use Rattle.ckc_grammar.specs.Marked.{Answered, Reads}
+use Rattle.ckc_parser.specs.Turns.{IsItem}
+use Rattle.ckc_grammar.proofs.Steps.{here_all, stop_rule, turned}
+
+-- one item of a text, by a production that the next token chooses
+pub item_turn : (r : Rule) (front : List Symbol) (a b : List Sign) (res : Result (List Item) Stop) → right r ≡ front ++ n g.items ∷ [] → pick g.items (kind_of a) ≡ Some r → ((k : Kind) → allowed r k ≡ true) →
+    Reads front (λ x vs. (y : Value) → as_items (made r (vs ++ y ∷ [])) ≡ x ++ as_items y) a res b → Answered (λ x. IsItem a x b) (n g.items ∷ []) a res b
+item_turn r front a b res rt pk al h =
+    turned (λ x. (vs : List Value) × Takes front a vs b × ((y : Value) → as_items (made r (vs ++ y ∷ [])) ≡ x ++ as_items y)) (λ x. IsItem a x b) front (n g.items ∷ []) a a b res
+    (λ x i. record { rule = r; front = front; values = i.0; picked = pk; goes_on = rt; allows = al; taken = i.1; makes = i.2 })
+    (λ s. stop_rule r pk (subst (λ z. Stops z a b) (sym rt) (here_all (n g.items ∷ []) s))) h

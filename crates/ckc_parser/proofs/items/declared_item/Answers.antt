@@ -1,0 +1,19 @@
+use Rattle.std.proofs.Common.{refl, ap, ◌∷◌, [], ◌++◌}
+use Rattle.std.proofs.lemmas.Result.{err_from_is_err_and}
+use Rattle.ckc_grammar.specs.Marked.{ahead}
+use Rattle.ckc_grammar.proofs.Steps.{exit}
+use Rattle.ckc_grammar.proofs.Shrinks.{fewer}
+use Rattle.ckc_grammar.specs.Values as v
+use Rattle.ckc_parser.proofs.items.declared_item.Goals as goal
+
+pub returns-in_err-all-clause-reads : goal.returns-in_err-all-clause-reads
+returns-in_err-all-clause-reads c =
+    let p = err_from_is_err_and c.from_residual.result c.from_residual.ensures.1 in
+    exit _ _ _ (ahead c.args.reader.now) _ _ p.1 p.2 c.in_err-all.ensures.gives (λ d. d)
+
+pub returns-clause-reads : goal.returns-clause-reads
+returns-clause-reads c =
+    (c.in_ok-all.ensures.gives.0 ∷ [], c.in_ok-all.ensures.gives.1, λ y. ap (λ z. z ++ v.as_items y) c.in_ok-all.ensures.gives.2)
+
+pub returns-clause-fewer : goal.returns-clause-fewer
+returns-clause-fewer c = fewer c.args.reader.now c.declared.new.reader c.in_ok-all.ensures.gives.1 refl

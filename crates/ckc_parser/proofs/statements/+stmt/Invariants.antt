@@ -1,0 +1,43 @@
+use Rattle.std.proofs.Common.{◌≡◌, ◌≤◌, ◌+◌, ◌*◌, ◌++◌, length}
+use Rattle.ckc_grammar.specs.Grammar.{n}
+use Rattle.ckc_grammar.specs.Grammar as g
+use Rattle.ckc_grammar.specs.Values as v
+use Rattle.ckc_grammar.specs.Marked.{ahead, remaining}
+use Rattle.ckc_grammar.proofs.Onward.{Onward}
+use Rattle.ckc_parser.proofs.statements.+stmt.Given as goal
+
+abbrev pub invariant-block_items-list : goal.invariant-block_items-list
+invariant-block_items-list l = record {
+  onward : Onward (λ y z. v.as_stmts z ≡ l.all ++ v.as_stmts y) (n g.block_items) (ahead l.fn.reader) (ahead l.reader);
+  fewer : remaining l.reader ≤ remaining l.fn.reader;
+}
+
+abbrev pub decreases-block_items-list : goal.decreases-block_items-list
+decreases-block_items-list l = remaining l.reader
+
+abbrev pub decreases-stmt : goal.decreases-stmt
+decreases-stmt l = 4 * remaining l.reader.now + 2
+
+abbrev pub decreases-moded_block : goal.decreases-moded_block
+decreases-moded_block l = 4 * remaining l.reader.now + 1
+
+abbrev pub decreases-block : goal.decreases-block
+decreases-block l = 4 * remaining l.reader.now + 1
+
+abbrev pub decreases-if_stmt : goal.decreases-if_stmt
+decreases-if_stmt l = 4 * remaining l.reader.now + 1
+
+abbrev pub decreases-otherwise : goal.decreases-otherwise
+decreases-otherwise l = 4 * remaining l.reader.now + 2
+
+abbrev pub decreases-else_part : goal.decreases-else_part
+decreases-else_part l = 4 * remaining l.reader.now + 1
+
+abbrev pub decreases-while_stmt : goal.decreases-while_stmt
+decreases-while_stmt l = 4 * remaining l.reader.now + 1
+
+abbrev pub decreases-for_stmt : goal.decreases-for_stmt
+decreases-for_stmt l = 4 * remaining l.reader.now + 1
+
+abbrev pub decreases-block_items : goal.decreases-block_items
+decreases-block_items l = 4 * remaining l.reader.now + 3

@@ -1,0 +1,43 @@
+use Rattle.std.proofs.Common.{◌≡◌, refl, sym, ap, ◌∙◌, ◌∷◌, [], ◌++◌, arith, append-nil}
+use Rattle.std.proofs.lemmas.Result.{err_from_is_err_and}
+use Rattle.ckc_syntax.specs.Spelled.{spelled}
+use Rattle.ckc_grammar.specs.Grammar.{k}
+use Rattle.ckc_grammar.specs.Marked.{ahead}
+use Rattle.ckc_grammar.specs.Reading.{kind_of}
+use Rattle.ckc_grammar.proofs.Steps.{also, then_stops, here_stops, exit}
+use Rattle.ckc_grammar.proofs.Onward.{at_start, one_turn, last_turn, stop_turn}
+use Rattle.ckc_grammar.proofs.Lists.{next_item}
+use Rattle.ckc_grammar.specs.declared.kind.Kind.TheVariants as kind
+use Rattle.ckc_grammar.specs.Grammar as g
+use Rattle.ckc_grammar.specs.Values as v
+use Rattle.ckc_grammar.proofs.Choices as o
+use Rattle.ckc_parser.proofs.statements.assigns.Goals as goal
+
+pub list-init : goal.list-init
+list-init c = record { onward = at_start (λ y z. c.args.first ∷ c.args.second ∷ v.as_stmts z ≡ c.in_ok-all.all ++ v.as_stmts y) _ _ (λ y. ap (λ q. q ++ v.as_stmts y) (sym c.in_ok-all.ensures)); fewer = omega arith }
+
+pub returns-in_err-item-clause-gives : goal.returns-in_err-item-clause-gives
+returns-in_err-item-clause-gives c =
+    let p = err_from_is_err_and c.from_residual-in_err-item.result c.from_residual-in_err-item.ensures.1 in
+    exit _ _ _ (ahead c.args.reader.now) _ _ p.1 p.2 c.in_err-item.ensures.gives (λ d. stop_turn (λ y z. c.args.first ∷ c.args.second ∷ v.as_stmts z ≡ c.list.all ++ v.as_stmts y) g.assigns g.Assigns _ _ _ (o.no_close (kind_of (ahead c.list.reader)) (sym c.closes.ensures ∙ c.list-test.true)) (here_stops _ d) c.list.invariant.onward)
+
+pub returns-in_err-mark-clause-gives : goal.returns-in_err-mark-clause-gives
+returns-in_err-mark-clause-gives c =
+    let p = err_from_is_err_and c.from_residual-in_err-mark.result c.from_residual-in_err-mark.ensures.1 in
+    exit _ _ _ (ahead c.args.reader.now) _ _ p.1 p.2 c.in_err-mark.ensures.parses (λ d. stop_turn (λ y z. c.args.first ∷ c.args.second ∷ v.as_stmts z ≡ c.list.all ++ v.as_stmts y) g.assigns g.Assigns _ _ _ (o.no_close (kind_of (ahead c.list.reader)) (sym c.closes.ensures ∙ c.list-test.true)) (then_stops c.in_ok-item.ensures.gives.1 (here_stops _ d)) c.list.invariant.onward)
+
+pub list-preserved : goal.list-preserved
+list-preserved c = record {
+  onward = one_turn (λ y z. c.args.first ∷ c.args.second ∷ v.as_stmts z ≡ c.list.all ++ v.as_stmts y) (λ y z. c.args.first ∷ c.args.second ∷ v.as_stmts z ≡ c.add.new.all ++ v.as_stmts y) g.assigns g.Assigns (g.n g.assign ∷ k kind.Semicolon ∷ []) _ _ _ (c.in_ok-item.ensures.gives.0 ∷ v.token (spelled c.in_ok-mark.mark) ∷ []) refl (o.no_close (kind_of (ahead c.list.reader)) (sym c.closes.ensures ∙ c.list-test.true)) (λ k. refl) (also c.in_ok-item.ensures.gives.1 c.in_ok-mark.ensures.parses) (λ y z e. next_item c.list.all c.add.new.all _ _ _ _ e c.in_ok-item.ensures.gives.2 c.in_ok-add.ensures) c.list.invariant.onward;
+  fewer = omega (arith, c.list.invariant.fewer, c.in_ok-item.ensures.fewer, c.in_ok-mark.ensures.fewer);
+}
+
+pub returns-in_err-end-clause-gives : goal.returns-in_err-end-clause-gives
+returns-in_err-end-clause-gives c =
+    let p = err_from_is_err_and c.from_residual-in_err-end.result c.from_residual-in_err-end.ensures.1 in
+    exit _ _ _ (ahead c.args.reader.now) _ _ p.1 p.2 c.in_err-end.ensures.parses (λ d. stop_turn (λ y z. c.args.first ∷ c.args.second ∷ v.as_stmts z ≡ c.list.all ++ v.as_stmts y) g.assigns g.EndAssigns _ _ _ (o.at_close (kind_of (ahead c.list.reader)) (sym c.closes.ensures ∙ c.list-test.false)).1 d c.list.invariant.onward)
+
+pub returns-clause-gives : goal.returns-clause-gives
+returns-clause-gives c =
+    let t = last_turn (λ y z. c.args.first ∷ c.args.second ∷ v.as_stmts z ≡ c.list.all ++ v.as_stmts y) g.assigns g.EndAssigns _ _ _ (v.token (spelled c.in_ok-end.end) ∷ []) (o.at_close (kind_of (ahead c.list.reader)) (sym c.closes.ensures ∙ c.list-test.false)).1 (λ k. refl) c.in_ok-end.ensures.parses c.list.invariant.onward in
+    (t.0, t.1, t.2 ∙ append-nil c.list.all)
