@@ -1,7 +1,10 @@
-pub mod Answer
+pub mod Coded
+pub mod CodedItems
+pub mod CodedNodes
 pub mod DefinedAt
 pub mod Ends
 pub mod Indexing
+pub mod MainDeclared
 pub mod Search
 pub mod Sequels
 pub mod Tables

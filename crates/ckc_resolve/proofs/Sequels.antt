@@ -3,9 +3,9 @@ use Rattle.std.proofs.Common.{◌≡◌, ◌<◌, ◌≤◌, ℕ, suc, ◌+◌, 
 use Rattle.std.specs.Prelude.{Result, Ok, Err}
 use Rattle.std.proofs.lemmas.List.{drop_all}
 use Rattle.ckc_base.specs.declared.places.Refusal.{Refusal}
-use Rattle.ckc_resolve.specs.declared.fault.ResolveFault.{ResolveFault}
-use Rattle.ckc_resolve.specs.declared.fault.ResolveFault.TheVariants as fault
-use Rattle.ckc_resolve.specs.Outcomes.{Outcome, bind, in_turn, Steps}
+use Rattle.ckc_base.specs.declared.fault.Fault.{Fault}
+use Rattle.ckc_base.specs.declared.fault.Fault.TheVariants as fault
+use Rattle.ckc_base.specs.Outcomes.{Outcome, bind, in_turn, StepsOutcome}
 
 -- what has been made, in front of what is still to be made
 abbrev pub behind : {A S : Type 0} → List A → Outcome (List A × S) → Outcome (List A × S)
@@ -22,10 +22,10 @@ begin {A} {S} o done e = by o ∙ ap (λ d. behind d o) (sym e)
     by (Err r) = refl
 
 -- a fault of the part that is judged now is the answer
-pub stops : {A B S T : Type 0} (o : Outcome (A × S)) (now : S) (whole : Outcome (B × T)) (new : T) (r : Result B ResolveFault) (y x : ResolveFault) → r ≡ Err y → y ≡ x → Steps {A = A} (Err x) now o → ((f : Refusal) → o ≡ Err f → whole ≡ Err f) → Steps r new whole
-stops {A} {B} o now whole new r y x e h a k = subst {A = Result B ResolveFault} (λ z. Steps z new whole) (sym (e ∙ ap (λ z. Err z) h)) (by x a)
+pub stops : {A B S T : Type 0} (o : Outcome (A × S)) (now : S) (whole : Outcome (B × T)) (new : T) (r : Result B Fault) (y x : Fault) → r ≡ Err y → y ≡ x → StepsOutcome {A = A} (Err x) now o → ((f : Refusal) → o ≡ Err f → whole ≡ Err f) → StepsOutcome r new whole
+stops {A} {B} o now whole new r y x e h a k = subst {A = Result B Fault} (λ z. StepsOutcome z new whole) (sym (e ∙ ap (λ z. Err z) h)) (by x a)
   where
-    by : (x : ResolveFault) → Steps {A = A} (Err x) now o → Steps {A = B} (Err x) new whole
+    by : (x : Fault) → StepsOutcome {A = A} (Err x) now o → StepsOutcome {A = B} (Err x) new whole
     by (fault.Refused f) a = k f a
     by fault.Memory a = tt
 

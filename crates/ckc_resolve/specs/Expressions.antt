@@ -1,5 +1,5 @@
--- Expressions and bounds with their names replaced by what they mean, and their first fault: the parts of an
--- expression are judged from left to right.
+-- Expressions and bounds with their names replaced by what they mean, and their first error: the parts of an
+-- expression are judged from left to right, and then the called name or the member.
 use Rattle.std.specs.Prelude.{List, Ok, Option, Some, None, map}
 use Rattle.ckc_base.specs.declared.places.Pos.{Pos}
 use Rattle.ckc_syntax.specs.declared.tree.Limits.{Limits-F, fold-Limits}
@@ -9,10 +9,10 @@ use Rattle.ckc_syntax.specs.declared.tree.Node.TheVariants as node
 use Rattle.ckc_syntax.specs.declared.tree.Expr.{Expr-F, fold-Expr}
 use Rattle.ckc_resolve.specs.declared.names.Names.{Names}
 use Rattle.ckc_resolve.specs.declared.scopes.Scopes.{Scopes}
-use Rattle.ckc_resolve.specs.Outcomes.{Outcome, bind, in_order, if_there}
+use Rattle.ckc_base.specs.Outcomes.{Outcome, bind, in_order, if_there}
 use Rattle.ckc_resolve.specs.Spellings.{Spelling}
 use Rattle.ckc_resolve.specs.Trees.{Limits, Node, Expr, NamedLimits, NamedNode, NamedExpr}
-use Rattle.ckc_resolve.specs.Meanings.{value_named, call_named, member_named}
+use Rattle.ckc_resolve.specs.Meanings.{meaning_named, member_named}
 use Rattle.ckc_resolve.specs.Types.{type_named}
 
 abbrev pub OfLimits : Type 0
@@ -26,27 +26,27 @@ abbrev pub OfExpr : Type 0
 OfExpr = Outcome NamedExpr
 
 abbrev pub limits_parts : Limits-F Spelling (Unit {0}) OfLimits OfNode OfExpr → OfLimits
-limits_parts (Limits-F.Count e) = bind e (λ a. Ok (limits.Count a))
-limits_parts (Limits-F.ByteCount e) = bind e (λ a. Ok (limits.ByteCount a))
-limits_parts (Limits-F.Between e f) = bind e (λ a. bind f (λ b. Ok (limits.Between a b)))
+limits_parts (Limits-F.Count e pos) = bind e (λ a. Ok (limits.Count a pos))
+limits_parts (Limits-F.ByteCount e pos) = bind e (λ a. Ok (limits.ByteCount a pos))
+limits_parts (Limits-F.Between e f pos) = bind e (λ a. bind f (λ b. Ok (limits.Between a b pos)))
 limits_parts (Limits-F.Unknown pos) = Ok (limits.Unknown pos)
 
 abbrev pub node_parts : Names → Scopes → Node-F Spelling (Unit {0}) OfLimits OfNode OfExpr → OfNode
 node_parts names scopes (Node-F.Number n unsigned) pos = Ok (node.Number n unsigned)
 node_parts names scopes (Node-F.Text bytes) pos = Ok (node.Text bytes)
 node_parts names scopes Node-F.Null pos = Ok node.Null
-node_parts names scopes (Node-F.Name s) pos = bind (value_named names scopes s pos) (λ n. Ok (node.Name n))
+node_parts names scopes (Node-F.Name s) pos = bind (meaning_named names scopes s pos) (λ n. Ok (node.Name n))
 node_parts names scopes (Node-F.Un op e) pos = bind e (λ a. Ok (node.Un op a))
 node_parts names scopes (Node-F.Bin op e f) pos = bind e (λ a. bind f (λ b. Ok (node.Bin op a b)))
 node_parts names scopes (Node-F.Pick e f g) pos = bind e (λ a. bind f (λ b. bind g (λ c. Ok (node.Pick a b c))))
 node_parts names scopes (Node-F.Index e f) pos = bind e (λ a. bind f (λ b. Ok (node.Index a b)))
-node_parts names scopes (Node-F.Dot e s) pos = bind e (λ a. bind (member_named names s pos) (λ m. Ok (node.Dot a m)))
-node_parts names scopes (Node-F.Arrow e s) pos = bind e (λ a. bind (member_named names s pos) (λ m. Ok (node.Arrow a m)))
+node_parts names scopes (Node-F.Dot e s at) pos = bind e (λ a. bind (member_named names s at) (λ m. Ok (node.Dot a m at)))
+node_parts names scopes (Node-F.Arrow e s at) pos = bind e (λ a. bind (member_named names s at) (λ m. Ok (node.Arrow a m at)))
 node_parts names scopes (Node-F.Cast t e) pos = bind (type_named names t) (λ u. bind e (λ a. Ok (node.Cast u a)))
 node_parts names scopes (Node-F.Size t) pos = bind (type_named names t) (λ u. Ok (node.Size u))
 node_parts names scopes (Node-F.Trusted t e l) pos = bind (type_named names t) (λ u. bind e (λ a. bind (if_there l) (λ k. Ok (node.Trusted u a k))))
 node_parts names scopes (Node-F.Tested t e l) pos = bind (type_named names t) (λ u. bind e (λ a. bind (if_there l) (λ k. Ok (node.Tested u a k))))
-node_parts names scopes (Node-F.Call s es) pos = bind (call_named names scopes s pos) (λ n. bind (in_order es) (λ args. Ok (node.Call n args)))
+node_parts names scopes (Node-F.Call s es) pos = bind (in_order es) (λ args. bind (meaning_named names scopes s pos) (λ n. Ok (node.Call n args)))
 node_parts names scopes (Node-F.Calloc t e u) pos = bind (type_named names t) (λ v. bind e (λ a. bind (type_named names u) (λ w. Ok (node.Calloc v a w))))
 
 abbrev pub expr_parts : Expr-F Spelling (Unit {0}) OfLimits OfNode OfExpr → OfExpr

@@ -4,16 +4,23 @@ use Rattle.ckc_syntax.specs.declared.tree.Name.{Name}
 use Rattle.ckc_syntax.specs.declared.tree.Name.TheVariants as name
 use Rattle.ckc_resolve.specs.declared.names.Names.{Names}
 use Rattle.ckc_resolve.specs.declared.scopes.Scopes.{Scopes}
-use Rattle.ckc_resolve.specs.Outcomes.{Outcome, bind, in_turn}
+use Rattle.ckc_base.specs.Outcomes.{Outcome, bind, in_turn}
 use Rattle.ckc_resolve.specs.Spellings.{Spelling, is_among, with_spelling, number_of}
 use Rattle.ckc_resolve.specs.Trees.{Decl, Head, NamedDecl, NamedHead}
-use Rattle.ckc_resolve.specs.Scoping.{no_scope, member_scope, with_local, is_taken_here}
+use Rattle.ckc_resolve.specs.Scoping.{no_scope, with_name, with_local, is_taken_here}
 use Rattle.ckc_resolve.specs.Types.{type_named}
 use Rattle.ckc_resolve.specs.Expressions.{bounds_named}
 use Rattle.ckc_resolve.specs.Declarations.{decl_named, unless_taken}
 
 abbrev pub name_of_member : Names → Spelling → Name
 name_of_member names s = name.Member (number_of names.members s)
+
+abbrev pub with_member_name : Names → Scopes → Decl → Scopes
+with_member_name names scopes d = with_name scopes d.name (name_of_member names d.name)
+
+-- in the bounds of a member all members of its structure are visible
+abbrev pub member_scope : Names → List Decl → Scopes
+member_scope names ds = fold (with_member_name names) no_scope ds
 
 -- A member, and the spellings of the members so far.
 abbrev pub member_named : Names → Scopes → Decl → List Spelling → Outcome (NamedDecl × List Spelling)
@@ -25,7 +32,7 @@ abbrev pub members_named : Names → Scopes → List Decl → List Spelling → 
 members_named names all ds = in_turn (map (member_named names all) ds)
 
 abbrev pub struct_named : Names → List Decl → Outcome (List NamedDecl)
-struct_named names ds = bind (members_named names (member_scope ds) ds []) (λ p. Ok p.0)
+struct_named names ds = bind (members_named names (member_scope names ds) ds []) (λ p. Ok p.0)
 
 abbrev pub with_param : Scopes → Decl → Scopes
 with_param scopes d = with_local scopes d.name

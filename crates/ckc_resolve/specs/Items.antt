@@ -1,18 +1,17 @@
 -- The items of a text with their names replaced by what they mean.
 use Rattle.std.specs.Prelude.{Bool, ◌||◌, ◌&&◌, false, true, List, [], Ok, map, if◌then◌else◌, is_none, codes, Option, Some, None}
 use Rattle.std.specs.List.{list_any}
-use Rattle.std.specs.Str.{bytes_eq}
 use Rattle.ckc_base.specs.declared.places.Pos.{Pos}
 use Rattle.ckc_syntax.specs.declared.tree.Name.{Name}
 use Rattle.ckc_syntax.specs.declared.tree.Name.TheVariants as name
 use Rattle.ckc_syntax.specs.declared.tree.Item.TheVariants as item
-use Rattle.ckc_syntax.specs.declared.tree.TypeTree.{TypeTree-F, out-TypeTree}
 use Rattle.ckc_syntax.specs.Same.{same_head}
 use Rattle.ckc_resolve.specs.declared.names.Names.{Names}
-use Rattle.ckc_resolve.specs.Outcomes.{Outcome, bind, refused, in_turn}
+use Rattle.ckc_base.specs.Outcomes.{Outcome, bind, refused, in_turn}
+use Rattle.ckc_resolve.specs.Codes.{undefined}
 use Rattle.ckc_resolve.specs.Spellings.{Spelling, is_among, number_of}
-use Rattle.ckc_resolve.specs.Trees.{Tree, Item, Head, Decl, Stmt, TypeTree, NamedTree, NamedItem}
-use Rattle.ckc_resolve.specs.Scoping.{noted, no_names, names_of, no_scope, is_reserved}
+use Rattle.ckc_resolve.specs.Trees.{Item, Head, Decl, Stmt, NamedItem}
+use Rattle.ckc_resolve.specs.Scoping.{noted, no_names, no_scope, is_reserved}
 use Rattle.ckc_resolve.specs.Declarations.{decl_named, unless_taken}
 use Rattle.ckc_resolve.specs.Statements.{body_named}
 use Rattle.ckc_resolve.specs.Heads.{struct_named, head_named}
@@ -20,11 +19,11 @@ use Rattle.ckc_resolve.specs.Heads.{struct_named, head_named}
 abbrev pub name_of_tag : Names → Spelling → Name
 name_of_tag names s = name.Tag (number_of names.tags s)
 
--- E302: an object or a function of the same name stands before, or no text may declare the name
+-- an object or a function of the same name stands before, or no text may declare the name
 abbrev pub is_taken_static : Names → Spelling → Bool
 is_taken_static before s = is_reserved s || (is_among before.statics s || is_among before.functions s)
 
--- E302: an object of the same name stands before, or no text may declare the name
+-- an object of the same name stands before, or no text may declare the name
 abbrev pub is_taken_function : Names → Spelling → Bool
 is_taken_function before s = is_reserved s || is_among before.statics s
 
@@ -33,9 +32,9 @@ abbrev pub defines : Head → Item → Bool
 defines h (item.Function g body) = same_head h g
 defines h i = false
 
--- E304: no function among all items has the same head
+-- refused where no function among all items has the same head
 abbrev pub if_defined : {A : Type 0} → List Item → Head → A → Outcome A
-if_defined all h a = if list_any (defines h) all then Ok a else refused 304 h.pos
+if_defined all h a = if list_any (defines h) all then Ok a else refused undefined h.pos
 
 abbrev pub structure_named : Names → Names → Spelling → List Decl → Pos → Outcome NamedItem
 structure_named names before s members pos =
@@ -71,21 +70,6 @@ item_in_turn names all i before = bind (item_named names all before i) (λ j. Ok
 abbrev pub items_named : Names → List Item → List Item → Names → Outcome (List NamedItem × Names)
 items_named names all is = in_turn (map (item_in_turn names all) is)
 
-abbrev pub is_int_form : TypeTree-F Spelling TypeTree → Bool
-is_int_form TypeTree-F.Int = true
-is_int_form form = false
-
-abbrev pub is_int : TypeTree → Bool
-is_int t = is_int_form (out-TypeTree Spelling t)
-
-abbrev pub is_empty : List Decl → Bool
-is_empty [] = true
-is_empty ds = false
-
--- the head `int main(void)`, with or without a mode before it
-abbrev pub is_main_head : Head → Bool
-is_main_head h = bytes_eq h.name (codes "main") && (is_int h.result && (is_empty h.params && is_none h.bounds))
-
-abbrev pub is_main : Item → Bool
-is_main (item.Function h body) = is_main_head h
-is_main i = false
+-- all items of a text
+abbrev pub all_named : Names → List Item → Outcome (List NamedItem)
+all_named names all = bind (items_named names all all no_names) (λ p. Ok p.0)

@@ -1,4 +1,4 @@
-pub mod Outcomes
+pub mod Codes
 pub mod Spellings
 pub mod Trees
 pub mod Indexed
@@ -11,5 +11,5 @@ pub mod Statements
 pub mod Heads
 pub mod Items
 pub mod Bodies
-pub mod Named
-pub mod Verdicts
+pub mod Main
+pub mod Phase

@@ -1,5 +1,5 @@
 -- The names of a text, and those that a place in it sees.
-use Rattle.std.specs.Prelude.{ℕ, ◌+◌, Bool, false, true, ◌||◌, List, [], ◌∷◌, ◌++◌, length, take, drop, fold, Option, None, Some, if◌then◌else◌, codes}
+use Rattle.std.specs.Prelude.{ℕ, ◌+◌, Bool, ◌||◌, List, [], ◌∷◌, ◌++◌, length, take, drop, fold, Option, None, Some, if◌then◌else◌, codes}
 use Rattle.std.specs.List.{list_any}
 use Rattle.std.specs.Str.{bytes_eq}
 use Rattle.ckc_syntax.specs.declared.tree.Name.{Name}
@@ -50,9 +50,12 @@ is_reserved s = bytes_eq s (codes "getchar") || (bytes_eq s (codes "putchar") ||
 abbrev pub is_taken_here : Scopes → Spelling → Bool
 is_taken_here scopes s = is_reserved s || is_declared_here scopes s
 
+abbrev pub with_name : Scopes → Spelling → Name → Scopes
+with_name scopes s n = record scopes { visible = scopes.visible ++ record { spelling = s; name = n } ∷ [] }
+
 -- Locals are numbered in the order of declaration.
 abbrev pub with_local : Scopes → Spelling → Scopes
-with_local scopes s = record scopes { visible = scopes.visible ++ record { spelling = s; name = name.Local scopes.next } ∷ []; next = scopes.next + 1 }
+with_local scopes s = record (with_name scopes s (name.Local scopes.next)) { next = scopes.next + 1 }
 
 -- a new innermost scope, which declares nothing so far
 abbrev pub opened : Scopes → Scopes
@@ -63,8 +66,4 @@ abbrev pub closed : Scopes → Scopes → Scopes
 closed outer inner = record inner { visible = take (length outer.visible) inner.visible; base = outer.base }
 
 abbrev pub no_scope : Scopes
-no_scope = record { visible = []; base = 0; next = 0; of_members = false; members = [] }
-
--- in the bounds of a member the members of its structure are visible, and nothing else
-abbrev pub member_scope : List Decl → Scopes
-member_scope ds = record no_scope { of_members = true; members = fold with_member [] ds }
+no_scope = record { visible = []; base = 0; next = 0 }

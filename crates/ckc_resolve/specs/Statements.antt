@@ -5,7 +5,7 @@ use Rattle.ckc_syntax.specs.declared.tree.Act.TheVariants as act
 use Rattle.ckc_syntax.specs.declared.tree.Stmt.{Stmt-F, fold-Stmt}
 use Rattle.ckc_resolve.specs.declared.names.Names.{Names}
 use Rattle.ckc_resolve.specs.declared.scopes.Scopes.{Scopes}
-use Rattle.ckc_resolve.specs.Outcomes.{Outcome, bind, in_turn}
+use Rattle.ckc_base.specs.Outcomes.{Outcome, bind, in_turn}
 use Rattle.ckc_resolve.specs.Spellings.{Spelling}
 use Rattle.ckc_resolve.specs.Trees.{Stmt, Act, NamedStmt, NamedAct}
 use Rattle.ckc_resolve.specs.Scoping.{opened, closed}

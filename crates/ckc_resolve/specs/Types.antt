@@ -3,7 +3,7 @@ use Rattle.std.specs.Prelude.{Ok}
 use Rattle.ckc_syntax.specs.declared.tree.TypeTree.{TypeTree-F, fold-TypeTree}
 use Rattle.ckc_syntax.specs.declared.tree.TypeTree.TheVariants as ctype
 use Rattle.ckc_resolve.specs.declared.names.Names.{Names}
-use Rattle.ckc_resolve.specs.Outcomes.{Outcome, bind}
+use Rattle.ckc_base.specs.Outcomes.{Outcome, bind}
 use Rattle.ckc_resolve.specs.Spellings.{Spelling}
 use Rattle.ckc_resolve.specs.Trees.{TypeTree, NamedType}
 use Rattle.ckc_resolve.specs.Meanings.{tag_named}

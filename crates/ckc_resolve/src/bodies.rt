@@ -1,13 +1,12 @@
 //! The bodies of functions with their names replaced by what they mean.
 
-ghost use Rattle.ckc_resolve.specs.Outcomes.{Steps};
+ghost use Rattle.ckc_base.specs.Outcomes.{StepsOutcome};
 ghost use Rattle.ckc_resolve.specs.Statements.{body_act_named, body_named};
 
-use crate::fault::ResolveFault;
 use crate::names::Names;
 use crate::scopes::Scopes;
 use crate::statements::{named_act, named_stmts};
-use ckc_base::Boxed;
+use ckc_base::{Boxed, Fault};
 use ckc_syntax::{Act, Name, Spelling, Stmt};
 use std::alloc::Global;
 
@@ -17,8 +16,8 @@ pub fn named_body<'a>(
     names: &Names<'a>,
     scopes: &mut Scopes<'a>,
     stmt: &Stmt<Spelling<'a>, ()>,
-) -> Result<Boxed<Stmt<Name, ()>>, ResolveFault>
-    ensures { Steps result scopes.new (body_named names.now stmt.now scopes.old) }
+) -> Result<Boxed<Stmt<Name, ()>>, Fault>
+    ensures { StepsOutcome result scopes.new (body_named names.now stmt.now scopes.old) }
 {
     let body = body_act(alloc, names, scopes, &stmt.body)?;
     let boxed = Boxed::new(
@@ -37,8 +36,8 @@ fn body_act<'a>(
     names: &Names<'a>,
     scopes: &mut Scopes<'a>,
     act: &Act<Spelling<'a>, ()>,
-) -> Result<Act<Name, ()>, ResolveFault>
-    ensures { Steps result scopes.new (body_act_named names.now act.now scopes.old) }
+) -> Result<Act<Name, ()>, Fault>
+    ensures { StepsOutcome result scopes.new (body_act_named names.now act.now scopes.old) }
 {
     match act {
         Act::Block(mode, stmts) => {

@@ -1,17 +1,17 @@
 //! Declarations with their names replaced by what they mean.
 
 ghost use Rattle.std.specs.Prelude.{◌≡◌, OnOk};
-ghost use Rattle.ckc_resolve.specs.Outcomes.{Answers, Steps};
+ghost use Rattle.ckc_base.specs.Outcomes.{AnswersOutcome, StepsOutcome};
 ghost use Rattle.ckc_resolve.specs.Scoping.{with_local};
 ghost use Rattle.ckc_resolve.specs.Declarations.{init_named, decl_named, local_named};
 ghost use Rattle.ckc_resolve.specs.Expressions.{bounds_named, maybe_named};
 
 use crate::expressions::{boxed_expr, named_bounds, named_exprs};
-use crate::fault::{ResolveFault, refused};
 use crate::names::Names;
+use crate::refusals::DECLARED_TWICE;
 use crate::scopes::Scopes;
 use crate::types::named_type;
-use ckc_base::Boxed;
+use ckc_base::{Boxed, Fault, refused};
 use ckc_syntax::{Decl, Expr, Init, Limits, Name, Spelling};
 use std::alloc::Global;
 
@@ -21,8 +21,8 @@ pub fn maybe_expr<'a>(
     names: &Names<'a>,
     scopes: &Scopes<'a>,
     e: &Option<Boxed<Expr<Spelling<'a>, ()>>>,
-) -> Result<Option<Boxed<Expr<Name, ()>>>, ResolveFault>
-    ensures { Answers result (maybe_named names.now scopes.now e.now) }
+) -> Result<Option<Boxed<Expr<Name, ()>>>, Fault>
+    ensures { AnswersOutcome result (maybe_named names.now scopes.now e.now) }
 {
     match e {
         None => Ok(None),
@@ -38,8 +38,8 @@ fn named_init<'a>(
     names: &Names<'a>,
     scopes: &Scopes<'a>,
     init: &Init<Spelling<'a>, ()>,
-) -> Result<Init<Name, ()>, ResolveFault>
-    ensures { Answers result (init_named names.now scopes.now init.now) }
+) -> Result<Init<Name, ()>, Fault>
+    ensures { AnswersOutcome result (init_named names.now scopes.now init.now) }
 {
     match init {
         Init::Nothing => Ok(Init::Nothing),
@@ -61,8 +61,8 @@ pub fn named_decl<'a>(
     scopes: &Scopes<'a>,
     name: Name,
     decl: &Decl<Spelling<'a>, ()>,
-) -> Result<Decl<Name, ()>, ResolveFault>
-    ensures { Answers result (decl_named names.now scopes.now scopes.now name decl.now) }
+) -> Result<Decl<Name, ()>, Fault>
+    ensures { AnswersOutcome result (decl_named names.now scopes.now scopes.now name decl.now) }
 {
     let ctype = named_type(alloc, names, &decl.ctype)?;
     let bounds = named_bounds(alloc, names, scopes, &decl.bounds)?;
@@ -83,8 +83,8 @@ fn own_bounds<'a>(
     names: &Names<'a>,
     scopes: &mut Scopes<'a>,
     decl: &Decl<Spelling<'a>, ()>,
-) -> Result<Option<Boxed<Limits<Name, ()>>>, ResolveFault>
-    ensures bounds { Answers result (bounds_named names.now (with_local scopes.old decl.now.name) decl.now.bounds) }
+) -> Result<Option<Boxed<Limits<Name, ()>>>, Fault>
+    ensures bounds { AnswersOutcome result (bounds_named names.now (with_local scopes.old decl.now.name) decl.now.bounds) }
     ensures kept { OnOk result (scopes.new ≡ scopes.old) }
 {
     scopes.declare(&decl.name)?;
@@ -99,14 +99,14 @@ pub fn named_local<'a>(
     names: &Names<'a>,
     scopes: &mut Scopes<'a>,
     decl: &Decl<Spelling<'a>, ()>,
-) -> Result<Decl<Name, ()>, ResolveFault>
-    ensures { Steps result scopes.new (local_named names.now scopes.old decl.now) }
+) -> Result<Decl<Name, ()>, Fault>
+    ensures { StepsOutcome result scopes.new (local_named names.now scopes.old decl.now) }
 {
     let ctype = named_type(alloc, names, &decl.ctype)?;
     let bounds = own_bounds(alloc, names, scopes, decl)?;
     let init = named_init(alloc, names, scopes, &decl.init)?;
     if scopes.is_taken(&decl.name) {
-        return Err(refused(302, decl.pos));
+        return Err(refused(DECLARED_TWICE, decl.pos));
     }
     let name = Name::Local(scopes.next);
     scopes.declare(&decl.name)?;

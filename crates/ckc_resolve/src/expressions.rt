@@ -1,14 +1,13 @@
 //! Expressions and bounds with their names replaced by what they mean.
 
-ghost use Rattle.ckc_resolve.specs.Outcomes.{Answers};
+ghost use Rattle.ckc_base.specs.Outcomes.{AnswersOutcome};
 ghost use Rattle.ckc_resolve.specs.Expressions.{limits_named, node_named, expr_named, exprs_named, bounds_named};
 
-use crate::fault::ResolveFault;
-use crate::meanings::{call_name, member_name, value_name};
+use crate::meanings::{named_meaning, named_member};
 use crate::names::Names;
 use crate::scopes::Scopes;
 use crate::types::named_type;
-use ckc_base::{Boxed, Bytes, Pos, Seq};
+use ckc_base::{Boxed, Bytes, Fault, Pos, Seq};
 use ckc_syntax::{Expr, Limits, Name, Node, Spelling};
 use std::alloc::Global;
 
@@ -18,22 +17,22 @@ fn named_limits<'a>(
     names: &Names<'a>,
     scopes: &Scopes<'a>,
     limits: &Limits<Spelling<'a>, ()>,
-) -> Result<Limits<Name, ()>, ResolveFault>
-    ensures { Answers result (limits_named names.now scopes.now limits.now) }
+) -> Result<Limits<Name, ()>, Fault>
+    ensures { AnswersOutcome result (limits_named names.now scopes.now limits.now) }
 {
     match limits {
-        Limits::Count(e) => {
+        Limits::Count(e, pos) => {
             let amount = boxed_expr(alloc, names, scopes, e.get())?;
-            Ok(Limits::Count(amount))
+            Ok(Limits::Count(amount, *pos))
         }
-        Limits::ByteCount(e) => {
+        Limits::ByteCount(e, pos) => {
             let amount = boxed_expr(alloc, names, scopes, e.get())?;
-            Ok(Limits::ByteCount(amount))
+            Ok(Limits::ByteCount(amount, *pos))
         }
-        Limits::Between(e, f) => {
+        Limits::Between(e, f, pos) => {
             let low = boxed_expr(alloc, names, scopes, e.get())?;
             let high = boxed_expr(alloc, names, scopes, f.get())?;
-            Ok(Limits::Between(low, high))
+            Ok(Limits::Between(low, high, *pos))
         }
         Limits::Unknown(pos) => Ok(Limits::Unknown(*pos)),
     }
@@ -46,8 +45,8 @@ fn named_node<'a>(
     scopes: &Scopes<'a>,
     node: &Node<Spelling<'a>, ()>,
     pos: Pos,
-) -> Result<Node<Name, ()>, ResolveFault>
-    ensures { Answers result (node_named names.now scopes.now node.now pos) }
+) -> Result<Node<Name, ()>, Fault>
+    ensures { AnswersOutcome result (node_named names.now scopes.now node.now pos) }
 {
     match node {
         Node::Number(n, unsigned) => Ok(Node::Number(*n, *unsigned)),
@@ -57,7 +56,7 @@ fn named_node<'a>(
         }
         Node::Null => Ok(Node::Null),
         Node::Name(n) => {
-            let name = value_name(names, scopes, n, pos)?;
+            let name = named_meaning(names, scopes, n, pos)?;
             Ok(Node::Name(name))
         }
         Node::Un(op, e) => {
@@ -80,15 +79,15 @@ fn named_node<'a>(
             let f = boxed_expr(alloc, names, scopes, f.get())?;
             Ok(Node::Index(e, f))
         }
-        Node::Dot(e, n) => {
+        Node::Dot(e, n, at) => {
             let e = boxed_expr(alloc, names, scopes, e.get())?;
-            let member = member_name(names, n, pos)?;
-            Ok(Node::Dot(e, member))
+            let member = named_member(names, n, *at)?;
+            Ok(Node::Dot(e, member, *at))
         }
-        Node::Arrow(e, n) => {
+        Node::Arrow(e, n, at) => {
             let e = boxed_expr(alloc, names, scopes, e.get())?;
-            let member = member_name(names, n, pos)?;
-            Ok(Node::Arrow(e, member))
+            let member = named_member(names, n, *at)?;
+            Ok(Node::Arrow(e, member, *at))
         }
         Node::Cast(t, e) => {
             let t = named_type(alloc, names, t)?;
@@ -112,9 +111,9 @@ fn named_node<'a>(
             Ok(Node::Tested(t, e, limits))
         }
         Node::Call(n, es) => {
-            let function = call_name(names, scopes, n, pos)?;
             let arguments = named_exprs(alloc, names, scopes, es.as_slice())?;
-            Ok(Node::Call(function, arguments))
+            let called = named_meaning(names, scopes, n, pos)?;
+            Ok(Node::Call(called, arguments))
         }
         Node::Calloc(t, e, u) => {
             let t = named_type(alloc, names, t)?;
@@ -132,8 +131,8 @@ pub fn named_expr<'a>(
     names: &Names<'a>,
     scopes: &Scopes<'a>,
     e: &Expr<Spelling<'a>, ()>,
-) -> Result<Expr<Name, ()>, ResolveFault>
-    ensures { Answers result (expr_named names.now scopes.now e.now) }
+) -> Result<Expr<Name, ()>, Fault>
+    ensures { AnswersOutcome result (expr_named names.now scopes.now e.now) }
 {
     let node = named_node(alloc, names, scopes, &e.node, e.pos)?;
     Ok(Expr {
@@ -150,8 +149,8 @@ pub fn boxed_expr<'a>(
     names: &Names<'a>,
     scopes: &Scopes<'a>,
     e: &Expr<Spelling<'a>, ()>,
-) -> Result<Boxed<Expr<Name, ()>>, ResolveFault>
-    ensures { Answers result (expr_named names.now scopes.now e.now) }
+) -> Result<Boxed<Expr<Name, ()>>, Fault>
+    ensures { AnswersOutcome result (expr_named names.now scopes.now e.now) }
 {
     let named = named_expr(alloc, names, scopes, e)?;
     let boxed = Boxed::new(alloc, named)?;
@@ -165,8 +164,8 @@ pub fn named_exprs<'a>(
     names: &Names<'a>,
     scopes: &Scopes<'a>,
     es: &[Expr<Spelling<'a>, ()>],
-) -> Result<Seq<Expr<Name, ()>>, ResolveFault>
-    ensures { Answers result (exprs_named names.now scopes.now es.now) }
+) -> Result<Seq<Expr<Name, ()>>, Fault>
+    ensures { AnswersOutcome result (exprs_named names.now scopes.now es.now) }
 {
     let mut all = Seq::new(alloc);
     for e in es {
@@ -183,8 +182,8 @@ pub fn named_bounds<'a>(
     names: &Names<'a>,
     scopes: &Scopes<'a>,
     bounds: &Option<Boxed<Limits<Spelling<'a>, ()>>>,
-) -> Result<Option<Boxed<Limits<Name, ()>>>, ResolveFault>
-    ensures { Answers result (bounds_named names.now scopes.now bounds.now) }
+) -> Result<Option<Boxed<Limits<Name, ()>>>, Fault>
+    ensures { AnswersOutcome result (bounds_named names.now scopes.now bounds.now) }
 {
     match bounds {
         None => Ok(None),

@@ -1,39 +1,39 @@
 //! Members, parameters and the heads of functions with their names replaced by what they mean.
 
 ghost use Rattle.std.specs.Prelude.{◌≡◌, Ok};
-ghost use Rattle.ckc_resolve.specs.Outcomes.{Answers, Steps};
-ghost use Rattle.ckc_resolve.specs.Scoping.{no_scope, member_scope};
-ghost use Rattle.ckc_resolve.specs.Heads.{name_of_member, member_named, members_named, struct_named, param_scope, param_named, params_named, head_named};
+ghost use Rattle.ckc_base.specs.Outcomes.{AnswersOutcome, StepsOutcome};
+ghost use Rattle.ckc_resolve.specs.Scoping.{no_scope};
+ghost use Rattle.ckc_resolve.specs.Heads.{name_of_member, member_scope, member_named, members_named, struct_named, param_scope, param_named, params_named, head_named};
 
 use crate::declarations::named_decl;
 use crate::expressions::named_bounds;
-use crate::fault::{ResolveFault, refused};
-use crate::meanings::fitting;
-use crate::names::{Names, add_members};
+use crate::names::Names;
+use crate::refusals::DECLARED_TWICE;
 use crate::scopes::Scopes;
 use crate::spellings::Spellings;
 use crate::types::named_type;
-use ckc_base::Seq;
+use ckc_base::{Fault, Seq, refused};
 use ckc_syntax::{Decl, Head, Name, Spelling};
 use std::alloc::Global;
 
-fn member_name<'a>(names: &Names<'a>, s: &Spelling<'a>) -> Result<Name, ResolveFault>
-    ensures { Answers result (Ok (name_of_member names.now s.now)) }
+fn name_of_member<'a>(names: &Names<'a>, s: &Spelling<'a>) -> Name
+    ensures { result ≡ name_of_member names.now s.now }
 {
-    let number = fitting(names.members.number(s))?;
-    Ok(Name::Member(number))
+    Name::Member(names.members.number(s))
 }
 
 /// The scope of the bounds of members.
 fn scope_of_members<'a>(
     alloc: Global,
+    names: &Names<'a>,
     decls: &[Decl<Spelling<'a>, ()>],
-) -> Result<Scopes<'a>, ResolveFault>
-    ensures { Answers result (Ok (member_scope decls.now)) }
+) -> Result<Scopes<'a>, Fault>
+    ensures { AnswersOutcome result (Ok (member_scope names.now decls.now)) }
 {
     let mut all = Scopes::new(alloc);
-    all.of_members = true;
-    add_members(&mut all.members, decls)?;
+    for decl in decls {
+        all.show(&decl.name, name_of_member(names, &decl.name))?;
+    }
     Ok(all)
 }
 
@@ -43,13 +43,13 @@ fn named_member<'a>(
     all: &Scopes<'a>,
     before: &mut Spellings<'a>,
     decl: &Decl<Spelling<'a>, ()>,
-) -> Result<Decl<Name, ()>, ResolveFault>
-    ensures { Steps result before.new (member_named names.now all.now decl.now before.old) }
+) -> Result<Decl<Name, ()>, Fault>
+    ensures { StepsOutcome result before.new (member_named names.now all.now decl.now before.old) }
 {
-    let name = member_name(names, &decl.name)?;
+    let name = name_of_member(names, &decl.name);
     let named = named_decl(alloc, names, all, name, decl)?;
     if before.contains(&decl.name) {
-        return Err(refused(302, decl.pos));
+        return Err(refused(DECLARED_TWICE, decl.pos));
     }
     before.add(&decl.name)?;
     Ok(named)
@@ -61,8 +61,8 @@ fn members_in_turn<'a>(
     all: &Scopes<'a>,
     before: &mut Spellings<'a>,
     decls: &[Decl<Spelling<'a>, ()>],
-) -> Result<Seq<Decl<Name, ()>>, ResolveFault>
-    ensures { Steps result before.new (members_named names.now all.now decls.now before.old) }
+) -> Result<Seq<Decl<Name, ()>>, Fault>
+    ensures { StepsOutcome result before.new (members_named names.now all.now decls.now before.old) }
 {
     let mut out = Seq::new(alloc);
     for decl in decls {
@@ -77,21 +77,18 @@ pub fn named_members<'a>(
     alloc: Global,
     names: &Names<'a>,
     decls: &[Decl<Spelling<'a>, ()>],
-) -> Result<Seq<Decl<Name, ()>>, ResolveFault>
-    ensures { Answers result (struct_named names.now decls.now) }
+) -> Result<Seq<Decl<Name, ()>>, Fault>
+    ensures { AnswersOutcome result (struct_named names.now decls.now) }
 {
-    let all = scope_of_members(alloc, decls)?;
+    let all = scope_of_members(alloc, names, decls)?;
     let mut before = Spellings::new(alloc);
     let out = members_in_turn(alloc, names, &all, &mut before, decls)?;
     Ok(out)
 }
 
 /// The scope of the bounds of parameters and of the result.
-fn scope_of_params<'a>(
-    alloc: Global,
-    decls: &[Decl<Spelling<'a>, ()>],
-) -> Result<Scopes<'a>, ResolveFault>
-    ensures { Answers result (Ok (param_scope decls.now)) }
+fn scope_of_params<'a>(alloc: Global, decls: &[Decl<Spelling<'a>, ()>]) -> Result<Scopes<'a>, Fault>
+    ensures { AnswersOutcome result (Ok (param_scope decls.now)) }
 {
     let mut all = Scopes::new(alloc);
     for decl in decls {
@@ -106,13 +103,13 @@ fn named_param<'a>(
     all: &Scopes<'a>,
     before: &mut Scopes<'a>,
     decl: &Decl<Spelling<'a>, ()>,
-) -> Result<Decl<Name, ()>, ResolveFault>
-    ensures { Steps result before.new (param_named names.now all.now decl.now before.old) }
+) -> Result<Decl<Name, ()>, Fault>
+    ensures { StepsOutcome result before.new (param_named names.now all.now decl.now before.old) }
 {
     let name = Name::Local(before.next);
     let named = named_decl(alloc, names, all, name, decl)?;
     if before.is_taken(&decl.name) {
-        return Err(refused(302, decl.pos));
+        return Err(refused(DECLARED_TWICE, decl.pos));
     }
     before.declare(&decl.name)?;
     Ok(named)
@@ -124,8 +121,8 @@ fn named_params<'a>(
     all: &Scopes<'a>,
     before: &mut Scopes<'a>,
     decls: &[Decl<Spelling<'a>, ()>],
-) -> Result<Seq<Decl<Name, ()>>, ResolveFault>
-    ensures { Steps result before.new (params_named names.now all.now decls.now before.old) }
+) -> Result<Seq<Decl<Name, ()>>, Fault>
+    ensures { StepsOutcome result before.new (params_named names.now all.now decls.now before.old) }
 {
     let mut out = Seq::new(alloc);
     for decl in decls {
@@ -141,11 +138,11 @@ pub fn named_head<'a>(
     names: &Names<'a>,
     body: &mut Scopes<'a>,
     head: &Head<Spelling<'a>, ()>,
-) -> Result<Head<Name, ()>, ResolveFault>
+) -> Result<Head<Name, ()>, Fault>
     requires { body.old ≡ no_scope }
-    ensures { Steps result body.new (head_named names.now head.now) }
+    ensures { StepsOutcome result body.new (head_named names.now head.now) }
 {
-    let number = fitting(names.functions.number(&head.name))?;
+    let number = names.functions.number(&head.name);
     let result = named_type(alloc, names, &head.result)?;
     let all = scope_of_params(alloc, head.params.as_slice())?;
     let params = named_params(alloc, names, &all, body, head.params.as_slice())?;

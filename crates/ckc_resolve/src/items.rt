@@ -3,25 +3,23 @@
 ghost use Rattle.std.specs.Prelude.{◌≡◌, Ok};
 ghost use Rattle.std.specs.List.{list_any};
 ghost use Rattle.ckc_resolve.specs.Bodies.{has_body, bodies_from, defines_at};
-ghost use Rattle.ckc_resolve.specs.Outcomes.{Answers, Steps};
-ghost use Rattle.ckc_resolve.specs.Items.{name_of_tag, is_taken_static, is_taken_function, defines, if_defined, structure_named, static_named, proto_named, function_named, item_named, item_in_turn, items_named, is_int, is_main_head, is_main};
+ghost use Rattle.ckc_base.specs.Outcomes.{AnswersOutcome, StepsOutcome};
+ghost use Rattle.ckc_resolve.specs.Items.{name_of_tag, is_taken_static, is_taken_function, defines, if_defined, structure_named, static_named, proto_named, function_named, item_named, item_in_turn, items_named, all_named};
 
 use crate::bodies::named_body;
 use crate::declarations::named_decl;
-use crate::fault::{ResolveFault, refused};
 use crate::heads::{named_head, named_members};
-use crate::meanings::fitting;
 use crate::names::Names;
+use crate::refusals::{DECLARED_TWICE, UNDEFINED};
 use crate::scopes::{Scopes, is_reserved};
-use ckc_base::{Boxed, Pos, Seq};
-use ckc_syntax::{Decl, Head, Item, Name, Spelling, Stmt, TypeTree, same_head};
+use ckc_base::{Boxed, Fault, Pos, Seq, refused};
+use ckc_syntax::{Decl, Head, Item, Name, Spelling, Stmt, same_head};
 use std::alloc::Global;
 
-fn tag_name<'a>(names: &Names<'a>, s: &Spelling<'a>) -> Result<Name, ResolveFault>
-    ensures { Answers result (Ok (name_of_tag names.now s.now)) }
+fn name_of_tag<'a>(names: &Names<'a>, s: &Spelling<'a>) -> Name
+    ensures { result ≡ name_of_tag names.now s.now }
 {
-    let number = fitting(names.tags.number(s))?;
-    Ok(Name::Tag(number))
+    Name::Tag(names.tags.number(s))
 }
 
 fn is_taken_static<'a>(before: &Names<'a>, s: &Spelling<'a>) -> bool
@@ -58,11 +56,8 @@ fn has_body<'a>(item: &Item<Spelling<'a>, ()>) -> bool
 }
 
 /// The places of the functions with a body. They are few, so a prototype is compared with few.
-fn bodies_of<'a>(
-    alloc: Global,
-    items: &[Item<Spelling<'a>, ()>],
-) -> Result<Seq<usize>, ResolveFault>
-    ensures { Answers result (Ok (bodies_from 0 items.now)) }
+fn bodies_of<'a>(alloc: Global, items: &[Item<Spelling<'a>, ()>]) -> Result<Seq<usize>, Fault>
+    ensures { AnswersOutcome result (Ok (bodies_from 0 items.now)) }
 {
     let mut places = Seq::new(alloc);
     for place in 0..items.len() {
@@ -107,12 +102,12 @@ fn defined_proto<'a>(
     bodies: &[usize],
     head: &Head<Spelling<'a>, ()>,
     named: Boxed<Head<Name, ()>>,
-) -> Result<Item<Name, ()>, ResolveFault>
+) -> Result<Item<Name, ()>, Fault>
     requires { bodies.now ≡ bodies_from 0 all.now }
-    ensures { Answers result (if_defined all.now head.now (Item.Proto named)) }
+    ensures { AnswersOutcome result (if_defined all.now head.now (Item.Proto named)) }
 {
     if !is_defined(all, bodies, head) {
-        return Err(refused(304, head.pos));
+        return Err(refused(UNDEFINED, head.pos));
     }
     Ok(Item::Proto(named))
 }
@@ -124,13 +119,13 @@ fn named_structure<'a>(
     s: &Spelling<'a>,
     members: &[Decl<Spelling<'a>, ()>],
     pos: Pos,
-) -> Result<Item<Name, ()>, ResolveFault>
-    ensures { Answers result (structure_named names.now before.now s.now members.now pos) }
+) -> Result<Item<Name, ()>, Fault>
+    ensures { AnswersOutcome result (structure_named names.now before.now s.now members.now pos) }
 {
-    let tag = tag_name(names, s)?;
+    let tag = name_of_tag(names, s);
     let members = named_members(alloc, names, members)?;
     if before.structs.contains(s) {
-        return Err(refused(302, pos));
+        return Err(refused(DECLARED_TWICE, pos));
     }
     Ok(Item::Struct(tag, members, pos))
 }
@@ -140,15 +135,15 @@ fn named_static<'a>(
     names: &Names<'a>,
     before: &Names<'a>,
     decl: &Decl<Spelling<'a>, ()>,
-) -> Result<Item<Name, ()>, ResolveFault>
-    ensures { Answers result (static_named names.now before.now decl.now) }
+) -> Result<Item<Name, ()>, Fault>
+    ensures { AnswersOutcome result (static_named names.now before.now decl.now) }
 {
-    let number = fitting(names.statics.number(&decl.name))?;
+    let number = names.statics.number(&decl.name);
     let scopes = Scopes::new(alloc);
     let named = named_decl(alloc, names, &scopes, Name::Static(number), decl)?;
     let boxed = Boxed::new(alloc, named)?;
     if is_taken_static(before, &decl.name) {
-        return Err(refused(302, decl.pos));
+        return Err(refused(DECLARED_TWICE, decl.pos));
     }
     Ok(Item::Static(boxed))
 }
@@ -160,15 +155,15 @@ fn named_proto<'a>(
     bodies: &[usize],
     before: &Names<'a>,
     head: &Head<Spelling<'a>, ()>,
-) -> Result<Item<Name, ()>, ResolveFault>
+) -> Result<Item<Name, ()>, Fault>
     requires { bodies.now ≡ bodies_from 0 all.now }
-    ensures { Answers result (proto_named names.now all.now before.now head.now) }
+    ensures { AnswersOutcome result (proto_named names.now all.now before.now head.now) }
 {
     let mut body = Scopes::new(alloc);
     let named = named_head(alloc, names, &mut body, head)?;
     let boxed = Boxed::new(alloc, named)?;
     if is_taken_function(before, &head.name) {
-        return Err(refused(302, head.pos));
+        return Err(refused(DECLARED_TWICE, head.pos));
     }
     defined_proto(all, bodies, head, boxed)
 }
@@ -179,14 +174,14 @@ fn named_function<'a>(
     before: &Names<'a>,
     head: &Head<Spelling<'a>, ()>,
     body: &Stmt<Spelling<'a>, ()>,
-) -> Result<Item<Name, ()>, ResolveFault>
-    ensures { Answers result (function_named names.now before.now head.now body.now) }
+) -> Result<Item<Name, ()>, Fault>
+    ensures { AnswersOutcome result (function_named names.now before.now head.now body.now) }
 {
     let mut scopes = Scopes::new(alloc);
     let named = named_head(alloc, names, &mut scopes, head)?;
     let boxed = Boxed::new(alloc, named)?;
     if is_taken_function(before, &head.name) || before.defined.contains(&head.name) {
-        return Err(refused(302, head.pos));
+        return Err(refused(DECLARED_TWICE, head.pos));
     }
     let body = named_body(alloc, names, &mut scopes, body)?;
     Ok(Item::Function(boxed, body))
@@ -199,16 +194,13 @@ fn named_item<'a>(
     bodies: &[usize],
     before: &Names<'a>,
     item: &Item<Spelling<'a>, ()>,
-) -> Result<Item<Name, ()>, ResolveFault>
+) -> Result<Item<Name, ()>, Fault>
     requires { bodies.now ≡ bodies_from 0 all.now }
-    ensures { Answers result (item_named names.now all.now before.now item.now) }
+    ensures { AnswersOutcome result (item_named names.now all.now before.now item.now) }
 {
     match item {
         Item::Directive(directive) => Ok(Item::Directive(*directive)),
-        Item::Tag(s, pos) => {
-            let tag = tag_name(names, s)?;
-            Ok(Item::Tag(tag, *pos))
-        }
+        Item::Tag(s, pos) => Ok(Item::Tag(name_of_tag(names, s), *pos)),
         Item::Struct(s, members, pos) => {
             named_structure(alloc, names, before, s, members.as_slice(), *pos)
         }
@@ -227,9 +219,9 @@ fn item_in_turn<'a>(
     bodies: &[usize],
     before: &mut Names<'a>,
     item: &Item<Spelling<'a>, ()>,
-) -> Result<Item<Name, ()>, ResolveFault>
+) -> Result<Item<Name, ()>, Fault>
     requires { bodies.now ≡ bodies_from 0 all.now }
-    ensures { Steps result before.new (item_in_turn names.now all.now item.now before.old) }
+    ensures { StepsOutcome result before.new (item_in_turn names.now all.now item.now before.old) }
 {
     let named = named_item(alloc, names, all, bodies, before, item)?;
     before.note(item)?;
@@ -240,13 +232,14 @@ fn item_in_turn<'a>(
 pub fn named_items<'a>(
     alloc: Global,
     names: &Names<'a>,
-    before: &mut Names<'a>,
     items: &[Item<Spelling<'a>, ()>],
-) -> Result<Seq<Item<Name, ()>>, ResolveFault>
-    ensures { Steps result before.new (items_named names.now items.now items.now before.old) }
+) -> Result<Seq<Item<Name, ()>>, Fault>
+    ensures { AnswersOutcome result (all_named names.now items.now) }
 {
     let bodies = bodies_of(alloc, items)?;
-    items_in_turn(alloc, names, bodies.as_slice(), before, items)
+    let mut before = Names::new(alloc);
+    let named = items_in_turn(alloc, names, bodies.as_slice(), &mut before, items)?;
+    Ok(named)
 }
 
 fn items_in_turn<'a>(
@@ -255,9 +248,9 @@ fn items_in_turn<'a>(
     bodies: &[usize],
     before: &mut Names<'a>,
     items: &[Item<Spelling<'a>, ()>],
-) -> Result<Seq<Item<Name, ()>>, ResolveFault>
+) -> Result<Seq<Item<Name, ()>>, Fault>
     requires { bodies.now ≡ bodies_from 0 items.now }
-    ensures { Steps result before.new (items_named names.now items.now items.now before.old) }
+    ensures { StepsOutcome result before.new (items_named names.now items.now items.now before.old) }
 {
     let mut out = Seq::new(alloc);
     for item in items {
@@ -265,45 +258,4 @@ fn items_in_turn<'a>(
         out.push(named)?;
     }
     Ok(out)
-}
-
-fn is_int<'a>(t: &TypeTree<Spelling<'a>>) -> bool
-    ensures { result ≡ is_int t.now }
-{
-    match t {
-        TypeTree::Int => true,
-        TypeTree::Unsigned | TypeTree::Char | TypeTree::Void | TypeTree::Struct(_, _) => false,
-        TypeTree::Raw(_, _) | TypeTree::One(_) | TypeTree::Arr(_) | TypeTree::Nt(_) => false,
-    }
-}
-
-fn is_main_head<'a>(head: &Head<Spelling<'a>, ()>) -> bool
-    ensures { result ≡ is_main_head head.now }
-{
-    head.name.as_str() == "main"
-        && is_int(&head.result)
-        && head.params.is_empty()
-        && head.bounds.is_none()
-}
-
-fn is_main<'a>(item: &Item<Spelling<'a>, ()>) -> bool
-    ensures { result ≡ is_main item.now }
-{
-    match item {
-        Item::Function(head, _) => is_main_head(head.get()),
-        Item::Directive(_) | Item::Tag(_, _) | Item::Struct(_, _, _) => false,
-        Item::Static(_) | Item::Proto(_) => false,
-    }
-}
-
-/// Whether some item is a function `int main(void)`.
-pub fn has_main<'a>(items: &[Item<Spelling<'a>, ()>]) -> bool
-    ensures { result ≡ list_any is_main items.now }
-{
-    for item in items {
-        if is_main(item) {
-            return true;
-        }
-    }
-    false
 }

@@ -1,12 +1,24 @@
-ghost use Rattle.std.specs.Prelude.{◌≡◌, ◌⊎◌, ℕ};
-ghost use Rattle.ckc_base.specs.declared.places.Pos.{Pos};
-ghost use Rattle.ckc_resolve.specs.Trees.{Tree, NamedTree};
-ghost use Rattle.ckc_resolve.specs.Named.{Named, IsFirstNameFault};
+//! What holds of the definitions.
 
-/// A tree has one tree of names or one first fault, and not both.
-pub fn one_answer()
-    ensures trees { (t : Tree) (a b : NamedTree) → Named t a → Named t b → a ≡ b }
-    ensures faults { (t : Tree) (c d : ℕ) (p q : Pos) → IsFirstNameFault t c p → IsFirstNameFault t d q → (c ≡ d) × (p ≡ q) }
-    ensures not_both { (t : Tree) (a : NamedTree) (c : ℕ) (p : Pos) → Named t a → IsFirstNameFault t c p → ⊥ }
-    ensures some { (t : Tree) → ((a : NamedTree) × Named t a) ⊎ ((c : ℕ) × (p : Pos) × IsFirstNameFault t c p) }
+ghost use Rattle.std.specs.Prelude.{◌≡◌, Some};
+ghost use Rattle.ckc_base.specs.declared.places.Refusal.{Refusal};
+ghost use Rattle.ckc_base.specs.Phases.{IsExact};
+ghost use Rattle.ckc_syntax.specs.declared.tree.NamedText.{NamedText};
+ghost use Rattle.ckc_resolve.specs.Codes.{IsCode};
+ghost use Rattle.ckc_resolve.specs.Trees.{Tree};
+ghost use Rattle.ckc_resolve.specs.Phase.{naming, place_of_main};
+
+/// A tree has one text of names or one first error, and not both.
+pub fn is_exact()
+    ensures exact { IsExact naming }
+{}
+
+/// Names are refused with the codes 301 to 304.
+pub fn codes()
+    ensures codes { (tree : Tree) (r : Refusal) → naming.Refuses tree r → IsCode r.code }
+{}
+
+/// A text whose names are right declares the function `main`, and its number is that of `main`.
+pub fn declares_main()
+    ensures declared { (t : Tree) (n : NamedText) → naming.Makes t n → place_of_main t ≡ Some n.main }
 {}

@@ -4,12 +4,13 @@
 mod bodies;
 mod declarations;
 mod expressions;
-mod fault;
 mod heads;
 mod items;
 mod laws;
+mod mains;
 mod meanings;
 mod names;
+mod refusals;
 mod scopes;
 mod spellings;
 mod statements;
@@ -17,6 +18,6 @@ mod top;
 mod types;
 mod visible;
 
-pub use fault::ResolveFault;
-pub use laws::one_answer;
-pub use top::{main_of, resolve};
+pub use laws::{codes, declares_main, is_exact};
+pub use refusals::{DECLARED_TWICE, NO_MAIN, UNDECLARED, UNDEFINED};
+pub use top::resolve;

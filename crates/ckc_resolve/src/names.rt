@@ -1,9 +1,9 @@
 ghost use Rattle.std.specs.Prelude.{◌≡◌, Ok, OnOk, fold};
-ghost use Rattle.ckc_resolve.specs.Outcomes.{Answers};
+ghost use Rattle.ckc_base.specs.Outcomes.{AnswersOutcome};
 ghost use Rattle.ckc_resolve.specs.Scoping.{no_names, noted, with_member};
 
-use crate::fault::ResolveFault;
 use crate::spellings::Spellings;
+use ckc_base::Fault;
 use ckc_syntax::{Decl, Item, Spelling};
 use std::alloc::Global;
 
@@ -48,9 +48,9 @@ impl<'a> Names<'a> {
     }
 
     /// Adds what an item declares.
-    pub fn note(&mut self, item: &Item<Spelling<'a>, ()>) -> Result<(), ResolveFault>
+    pub fn note(&mut self, item: &Item<Spelling<'a>, ()>) -> Result<(), Fault>
         ensures noted { OnOk result (self.new ≡ noted self.old item.now) }
-        ensures memory { Answers result (Ok tt) }
+        ensures memory { AnswersOutcome result (Ok tt) }
     {
         match item {
             Item::Directive(_) => Ok(()),
@@ -74,9 +74,9 @@ impl<'a> Names<'a> {
 pub fn add_members<'a>(
     all: &mut Spellings<'a>,
     members: &[Decl<Spelling<'a>, ()>],
-) -> Result<(), ResolveFault>
+) -> Result<(), Fault>
     ensures added { OnOk result (all.new ≡ fold with_member all.old members.now) }
-    ensures memory { Answers result (Ok tt) }
+    ensures memory { AnswersOutcome result (Ok tt) }
 {
     for member in members {
         all.add(&member.name)?;

@@ -1,22 +1,19 @@
 ghost use Rattle.std.specs.Prelude.{◌≡◌, ◌+◌, ℕ, List, OnOk, Ok, length};
 ghost use Rattle.ckc_resolve.specs.declared.scopes.Scopes.{Scopes};
-ghost use Rattle.ckc_resolve.specs.Outcomes.{Answers};
-ghost use Rattle.ckc_resolve.specs.Scoping.{is_reserved, is_taken_here, with_local, opened, closed, no_scope};
+ghost use Rattle.ckc_base.specs.Outcomes.{AnswersOutcome};
+ghost use Rattle.ckc_resolve.specs.Scoping.{is_reserved, is_taken_here, with_name, with_local, opened, closed, no_scope};
 
-use crate::fault::ResolveFault;
-use crate::spellings::Spellings;
 use crate::visible::{Entry, Visible};
+use ckc_base::Fault;
 use ckc_syntax::{Name, Spelling};
 use std::alloc::Global;
 
 /// The declarations that are visible beside those of the whole text. The innermost scope begins at `base`. The next
-/// local gets the number `next`. In the bounds of a member its structure's members are visible, and nothing else.
+/// local gets the number `next`.
 pub struct Scopes<'a> {
     pub visible: Visible<'a>,
     pub base: usize,
     pub next: u32,
-    pub of_members: bool,
-    pub members: Spellings<'a>,
 }
 
 /// What is to be visible again where a scope ends.
@@ -33,8 +30,6 @@ impl<'a> Drop for Scopes<'a> {
             visible: _visible,
             base: _,
             next: _,
-            of_members: _,
-            members: _members,
         } = self;
     }
 }
@@ -48,8 +43,6 @@ impl<'a> Scopes<'a> {
             visible: Visible::new(alloc),
             base: 0,
             next: 0,
-            of_members: false,
-            members: Spellings::new(alloc),
         }
     }
 
@@ -60,16 +53,24 @@ impl<'a> Scopes<'a> {
         is_reserved(s) || self.visible.has_behind(self.base, s)
     }
 
-    /// Declares a local.
-    pub fn declare(&mut self, s: &Spelling<'a>) -> Result<(), ResolveFault>
-        ensures declared { OnOk result (self.new ≡ with_local self.old s.now) }
-        ensures memory { Answers result (Ok tt) }
+    /// Makes the declaration of a name visible.
+    pub fn show(&mut self, s: &Spelling<'a>, name: Name) -> Result<(), Fault>
+        ensures shown { OnOk result (self.new ≡ with_name self.old s.now name) }
+        ensures memory { AnswersOutcome result (Ok tt) }
     {
-        let next = following(self.next)?;
         self.visible.push(Entry {
             spelling: Spelling::new(s.as_str()),
-            name: Name::Local(self.next),
-        })?;
+            name,
+        })
+    }
+
+    /// Declares a local.
+    pub fn declare(&mut self, s: &Spelling<'a>) -> Result<(), Fault>
+        ensures declared { OnOk result (self.new ≡ with_local self.old s.now) }
+        ensures memory { AnswersOutcome result (Ok tt) }
+    {
+        let next = following(self.next)?;
+        self.show(s, Name::Local(self.next))?;
         self.next = next;
         Ok(())
     }
@@ -107,12 +108,12 @@ impl<'a> Scopes<'a> {
 }
 
 /// The number behind a number; where it does not fit, that is taken for want of memory.
-fn following(n: u32) -> Result<u32, ResolveFault>
-    ensures { Answers result (Ok (n + 1)) }
+fn following(n: u32) -> Result<u32, Fault>
+    ensures { AnswersOutcome result (Ok (n + 1)) }
 {
     match n.checked_add(1) {
         Some(next) => Ok(next),
-        None => Err(ResolveFault::Memory),
+        None => Err(Fault::Memory),
     }
 }
 

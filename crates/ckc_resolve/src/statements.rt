@@ -1,14 +1,13 @@
 //! Statements with their names replaced by what they mean.
 
-ghost use Rattle.ckc_resolve.specs.Outcomes.{Steps};
+ghost use Rattle.ckc_base.specs.Outcomes.{StepsOutcome};
 ghost use Rattle.ckc_resolve.specs.Statements.{act_named, stmt_named, stmts_named, part_named};
 
 use crate::declarations::{maybe_expr, named_local};
 use crate::expressions::boxed_expr;
-use crate::fault::ResolveFault;
 use crate::names::Names;
 use crate::scopes::Scopes;
-use ckc_base::{Boxed, Seq};
+use ckc_base::{Boxed, Fault, Seq};
 use ckc_syntax::{Act, Name, Spelling, Stmt};
 use std::alloc::Global;
 
@@ -19,8 +18,8 @@ pub fn named_act<'a>(
     names: &Names<'a>,
     scopes: &mut Scopes<'a>,
     act: &Act<Spelling<'a>, ()>,
-) -> Result<Act<Name, ()>, ResolveFault>
-    ensures { Steps result scopes.new (act_named names.now act.now scopes.old) }
+) -> Result<Act<Name, ()>, Fault>
+    ensures { StepsOutcome result scopes.new (act_named names.now act.now scopes.old) }
 {
     match act {
         Act::Empty => Ok(Act::Empty),
@@ -88,8 +87,8 @@ fn named_stmt<'a>(
     names: &Names<'a>,
     scopes: &mut Scopes<'a>,
     stmt: &Stmt<Spelling<'a>, ()>,
-) -> Result<Stmt<Name, ()>, ResolveFault>
-    ensures { Steps result scopes.new (stmt_named names.now stmt.now scopes.old) }
+) -> Result<Stmt<Name, ()>, Fault>
+    ensures { StepsOutcome result scopes.new (stmt_named names.now stmt.now scopes.old) }
 {
     let body = named_act(alloc, names, scopes, &stmt.body)?;
     Ok(Stmt {
@@ -106,8 +105,8 @@ fn boxed_stmt<'a>(
     names: &Names<'a>,
     scopes: &mut Scopes<'a>,
     stmt: &Stmt<Spelling<'a>, ()>,
-) -> Result<Boxed<Stmt<Name, ()>>, ResolveFault>
-    ensures { Steps result scopes.new (stmt_named names.now stmt.now scopes.old) }
+) -> Result<Boxed<Stmt<Name, ()>>, Fault>
+    ensures { StepsOutcome result scopes.new (stmt_named names.now stmt.now scopes.old) }
 {
     let named = named_stmt(alloc, names, scopes, stmt)?;
     let boxed = Boxed::new(alloc, named)?;
@@ -121,8 +120,8 @@ fn named_part<'a>(
     names: &Names<'a>,
     scopes: &mut Scopes<'a>,
     part: &Option<Boxed<Stmt<Spelling<'a>, ()>>>,
-) -> Result<Option<Boxed<Stmt<Name, ()>>>, ResolveFault>
-    ensures { Steps result scopes.new (part_named names.now part.now scopes.old) }
+) -> Result<Option<Boxed<Stmt<Name, ()>>>, Fault>
+    ensures { StepsOutcome result scopes.new (part_named names.now part.now scopes.old) }
 {
     match part {
         None => Ok(None),
@@ -140,8 +139,8 @@ pub fn named_stmts<'a>(
     names: &Names<'a>,
     scopes: &mut Scopes<'a>,
     stmts: &[Stmt<Spelling<'a>, ()>],
-) -> Result<Seq<Stmt<Name, ()>>, ResolveFault>
-    ensures { Steps result scopes.new (stmts_named names.now stmts.now scopes.old) }
+) -> Result<Seq<Stmt<Name, ()>>, Fault>
+    ensures { StepsOutcome result scopes.new (stmts_named names.now stmts.now scopes.old) }
 {
     let mut all = Seq::new(alloc);
     for stmt in stmts {

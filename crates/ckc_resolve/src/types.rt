@@ -1,10 +1,9 @@
-ghost use Rattle.ckc_resolve.specs.Outcomes.{Answers};
+ghost use Rattle.ckc_base.specs.Outcomes.{AnswersOutcome};
 ghost use Rattle.ckc_resolve.specs.Types.{type_named};
 
-use crate::fault::ResolveFault;
-use crate::meanings::tag_name;
+use crate::meanings::named_tag;
 use crate::names::Names;
-use ckc_base::Boxed;
+use ckc_base::{Boxed, Fault};
 use ckc_syntax::{Name, Spelling, TypeTree};
 use std::alloc::Global;
 
@@ -14,8 +13,8 @@ pub fn named_type<'a>(
     alloc: Global,
     names: &Names<'a>,
     t: &TypeTree<Spelling<'a>>,
-) -> Result<TypeTree<Name>, ResolveFault>
-    ensures { Answers result (type_named names.now t.now) }
+) -> Result<TypeTree<Name>, Fault>
+    ensures { AnswersOutcome result (type_named names.now t.now) }
 {
     match t {
         TypeTree::Int => Ok(TypeTree::Int),
@@ -23,7 +22,7 @@ pub fn named_type<'a>(
         TypeTree::Char => Ok(TypeTree::Char),
         TypeTree::Void => Ok(TypeTree::Void),
         TypeTree::Struct(n, pos) => {
-            let tag = tag_name(names, n, *pos)?;
+            let tag = named_tag(names, n, *pos)?;
             Ok(TypeTree::Struct(tag, *pos))
         }
         TypeTree::Raw(u, pos) => {
@@ -50,8 +49,8 @@ fn boxed_type<'a>(
     alloc: Global,
     names: &Names<'a>,
     t: &Boxed<TypeTree<Spelling<'a>>>,
-) -> Result<Boxed<TypeTree<Name>>, ResolveFault>
-    ensures { Answers result (type_named names.now t.now) }
+) -> Result<Boxed<TypeTree<Name>>, Fault>
+    ensures { AnswersOutcome result (type_named names.now t.now) }
 {
     let inner = named_type(alloc, names, t.get())?;
     let boxed = Boxed::new(alloc, inner)?;

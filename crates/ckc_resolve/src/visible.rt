@@ -1,9 +1,9 @@
 ghost use Rattle.std.specs.Prelude.{◌≡◌, ◌-◌, [], ◌∷◌, ◌++◌, OnOk, Ok, length, take, drop};
-ghost use Rattle.ckc_resolve.specs.Outcomes.{Answers};
+ghost use Rattle.ckc_base.specs.Outcomes.{AnswersOutcome};
 ghost use Rattle.ckc_resolve.specs.Scoping.{found, is_declared};
 ghost use Rattle.ckc_resolve.specs.Indexed.{last_at};
 
-use crate::fault::ResolveFault;
+use ckc_base::Fault;
 use ckc_syntax::{Name, Spelling};
 use indexmap::IndexMap;
 use std::alloc::Global;
@@ -85,9 +85,9 @@ impl<'a> Visible<'a> {
     }
 
     /// Adds a declaration.
-    pub fn push(&mut self, entry: Entry<'a>) -> Result<(), ResolveFault>
+    pub fn push(&mut self, entry: Entry<'a>) -> Result<(), Fault>
         ensures pushed { OnOk result (self.new ≡ self.old ++ entry.entry ∷ []) }
-        ensures memory { Answers result (Ok tt) }
+        ensures memory { AnswersOutcome result (Ok tt) }
     {
         let Entry { spelling, name } = entry;
         let text = spelling.as_str();
@@ -102,7 +102,7 @@ impl<'a> Visible<'a> {
             Ok(_) => Ok(()),
             Err(_) => {
                 let _ = self.slots.pop();
-                Err(ResolveFault::Memory)
+                Err(Fault::Memory)
             }
         }
     }

@@ -1,15 +1,6 @@
-use Rattle.ckc_resolve.specs.Named.{tree_named}
-use Rattle.ckc_resolve.proofs.Answer.{gives_named, gives_refused, gives_all_trees, gives_all_faults}
+use Rattle.ckc_base.proofs.Phases.{exact_of, answers_by, phase_by_exact}
+use Rattle.ckc_resolve.specs.Phase.{text_named, naming}
 use Rattle.ckc_resolve.proofs.top.resolve.Goals as goal
 
-pub returns-clause-named : goal.returns-clause-named
-returns-clause-named c = gives_named (tree_named c.args.tree) c.resolved.result c.resolved.ensures
-
-pub returns-clause-refused : goal.returns-clause-refused
-returns-clause-refused c = gives_refused (tree_named c.args.tree) c.resolved.result c.resolved.ensures
-
-pub returns-clause-all_trees : goal.returns-clause-all_trees
-returns-clause-all_trees c = gives_all_trees (tree_named c.args.tree) c.resolved.result c.resolved.ensures
-
-pub returns-clause-all_faults : goal.returns-clause-all_faults
-returns-clause-all_faults c = λ code pos w. gives_all_faults (tree_named c.args.tree) c.resolved.result c.resolved.ensures (record { code = code; pos = pos }) w
+pub returns : goal.returns
+returns c = record { exact = exact_of naming (phase_by_exact text_named) c.args.tree c.resolved.result (answers_by text_named c.args.tree c.resolved.result c.resolved.ensures) }

@@ -1,7 +1,7 @@
 use Rattle.std.proofs.Common.{sym, ◌∙◌}
-use Rattle.ckc_resolve.specs.Items.{is_main}
+use Rattle.ckc_resolve.specs.Main.{is_main}
 use Rattle.ckc_resolve.proofs.Search.{any_here, any_behind, any_nowhere}
-use Rattle.ckc_resolve.proofs.items.has_main.Goals as goal
+use Rattle.ckc_resolve.proofs.mains.has_main.Goals as goal
 
 pub returns-then-is_main : goal.returns-then-is_main
 returns-then-is_main c =
