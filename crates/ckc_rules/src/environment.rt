@@ -1,25 +1,14 @@
 //! What a text declares: its objects, its functions and the variables of a function.
 
 ghost use Rattle.std.specs.Prelude.{◌≡◌, [], ◌∷◌, ◌++◌, IfOk, OnOk, map};
-ghost use Rattle.ckc_typed.specs.Environment.{kind_of_array, object_declared, variable_declared, type_declared, signature_declared, objects_of_item, signatures_of_item, objects_of, getchar, putchar, signatures_of};
+ghost use Rattle.ckc_typed.specs.Environment.{object_declared, variable_declared, type_declared, signature_declared, objects_of_item, signatures_of_item, objects_of, getchar, putchar, signatures_of};
 
 use ckc_base::Seq;
-use ckc_syntax::{Decl, Head, Item, Length, Name};
-use ckc_typed::types::type_written;
+use ckc_syntax::{Decl, Head, Item, Name};
+use ckc_typed::types::{kind_of_array, type_written};
 use ckc_typed::{Object, Signature, Variable};
-use ckc_types::{CType, Kind};
+use ckc_types::CType;
 use std::alloc::{AllocError, Global};
-
-fn kind_of_array(length: Length) -> Option<Kind>
-    ensures { result ≡ kind_of_array length }
-{
-    match length {
-        Length::Plain => None,
-        Length::Raw(_, _) => Some(Kind::Raw),
-        Length::Checked(_) => Some(Kind::Arr),
-        Length::Nt(_) => Some(Kind::Nt),
-    }
-}
 
 fn object_declared(alloc: Global, d: &Decl<Name, ()>) -> Result<Object, AllocError>
     ensures { IfOk result (λ o. o ≡ object_declared d.now) }

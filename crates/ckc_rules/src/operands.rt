@@ -2,7 +2,7 @@
 
 ghost use Rattle.std.specs.Prelude.{◌≡◌, IfOk};
 ghost use Rattle.ckc_typed.specs.Types.{is_void, element_of};
-ghost use Rattle.ckc_typed.specs.Operands.{promoted, common, is_moved, same_element, sign_type, truth_type, target_type, arithmetic_type, shift_type, both_type, sum_type, distance_type, difference_type, is_compared, comparison_type, index_type, choice_type, size_type, is_cast, cast_type, binary_type, unary_type};
+ghost use Rattle.ckc_typed.specs.Operands.{promoted, common, is_moved, same_element, sign_type, truth_type, target_type, arithmetic_type, shift_type, both_type, sum_type, distance_type, difference_type, is_compared, comparison_type, index_type, choice_type, size_type, is_cast, binary_type, unary_type};
 
 use ckc_syntax::TreeOp;
 use ckc_typed::types::{
@@ -209,7 +209,8 @@ pub fn size_type(t: &CType) -> Option<CType>
     }
 }
 
-fn is_cast(t: &CType, u: &CType, null_u: bool) -> bool
+/// Whether a value of the second type may be cast to the first.
+pub fn is_cast(t: &CType, u: &CType, null_u: bool) -> bool
     ensures { result ≡ is_cast t.now u.now null_u }
 {
     if !is_object_type(t) {
@@ -221,23 +222,6 @@ fn is_cast(t: &CType, u: &CType, null_u: bool) -> bool
     match kind_of(t) {
         Some(Kind::Raw) => is_pointer(u) || null_u,
         Some(Kind::One | Kind::Arr | Kind::Nt) | None => false,
-    }
-}
-
-/// The type of a cast of a value of the second type to the first.
-pub fn cast_type(
-    alloc: Global,
-    t: &CType,
-    u: &CType,
-    null_u: bool,
-) -> Result<Option<CType>, AllocError>
-    ensures { IfOk result (λ r. r ≡ cast_type t.now u.now null_u) }
-{
-    if is_cast(t, u, null_u) {
-        let to = copied(alloc, t)?;
-        Ok(Some(to))
-    } else {
-        Ok(None)
     }
 }
 

@@ -1,20 +1,21 @@
 //! What may stand before an `=` or behind a `&`, and what a function may return.
 
 ghost use Rattle.std.specs.Prelude.{◌≡◌};
+ghost use Rattle.ckc_syntax.specs.declared.tree.Node.{out-Node};
 ghost use Rattle.ckc_typed.specs.Environment.{object_named};
-ghost use Rattle.ckc_typed.specs.Expressions.{is_no_array, is_target_op, has_address, is_no_allocation};
-ghost use Rattle.ckc_typed.specs.Statements.{is_named, is_placed, is_function, is_text_call, is_target, is_result};
+ghost use Rattle.ckc_typed.specs.Expressions.{is_no_array, is_target_op, is_placed, is_object, has_address, is_no_allocation};
+ghost use Rattle.ckc_typed.specs.Statements.{is_variable_form, is_named, is_function, is_text_call, is_target, is_result};
 
 use crate::conversions::converts;
 use crate::lookups::{object_named, variable_named};
 use ckc_base::Boxed;
 use ckc_syntax::{Expr, Name, Node, TreeOp};
-use ckc_typed::types::{is_integer, is_scalar, is_void, same_type};
+use ckc_typed::types::{is_integer, is_object_type, is_scalar, is_void, same_type};
 use ckc_typed::{Globals, Note, Variable};
 use ckc_types::CType;
 
 /// Whether a name is that of an object of file scope that is no array.
-pub fn is_no_array(globals: &Globals, n: Name) -> bool
+fn is_no_array(globals: &Globals, n: Name) -> bool
     ensures { result ≡ is_no_array (object_named globals.now n) }
 {
     match object_named(globals, n) {
@@ -24,7 +25,7 @@ pub fn is_no_array(globals: &Globals, n: Name) -> bool
 }
 
 /// Whether an operator is the unary `*`.
-pub fn is_target_op(op: TreeOp) -> bool
+fn is_target_op(op: TreeOp) -> bool
     ensures { result ≡ is_target_op op }
 {
     match op {
@@ -33,23 +34,12 @@ pub fn is_target_op(op: TreeOp) -> bool
     }
 }
 
-/// Whether an expression has an address.
-pub fn has_address(globals: &Globals, e: &Expr<Name, Note>) -> bool
-    ensures { result ≡ has_address globals.now e.now }
+/// Whether an expression is a name of an object of file scope that is no array.
+fn is_object(globals: &Globals, e: &Expr<Name, Note>) -> bool
+    ensures { result ≡ is_object globals.now e.now }
 {
     match &e.node {
         Node::Name(n) => is_no_array(globals, *n),
-        Node::Un(op, _) => is_target_op(*op),
-        Node::Index(_, _) | Node::Dot(_, _) | Node::Arrow(_, _) => true,
-        _ => false,
-    }
-}
-
-fn is_named(globals: &Globals, variables: &[Variable], e: &Expr<Name, Note>) -> bool
-    ensures { result ≡ is_named globals.now variables.now e.now }
-{
-    match &e.node {
-        Node::Name(n) => variable_named(variables, *n).is_some() || is_no_array(globals, *n),
         _ => false,
     }
 }
@@ -59,9 +49,31 @@ fn is_placed(e: &Expr<Name, Note>) -> bool
 {
     match &e.node {
         Node::Un(op, _) => is_target_op(*op),
-        Node::Index(_, _) | Node::Dot(_, _) | Node::Arrow(_, _) => true,
+        Node::Index(_, _) | Node::Dot(_, _, _) | Node::Arrow(_, _, _) => true,
         _ => false,
     }
+}
+
+/// Whether an expression has an address.
+pub fn has_address(globals: &Globals, e: &Expr<Name, Note>) -> bool
+    ensures { result ≡ has_address globals.now e.now }
+{
+    is_object(globals, e) || is_placed(e)
+}
+
+fn is_variable(variables: &[Variable], e: &Expr<Name, Note>) -> bool
+    ensures { result ≡ is_variable_form variables.now (out-Node Name Note e.now.node) }
+{
+    match &e.node {
+        Node::Name(n) => variable_named(variables, *n).is_some(),
+        _ => false,
+    }
+}
+
+fn is_named(globals: &Globals, variables: &[Variable], e: &Expr<Name, Note>) -> bool
+    ensures { result ≡ is_named globals.now variables.now e.now }
+{
+    is_variable(variables, e) || is_object(globals, e)
 }
 
 fn is_function(n: Name) -> bool
@@ -111,5 +123,5 @@ pub fn is_result(result_type: &CType, e: &Option<Boxed<Expr<Name, Note>>>) -> bo
 pub fn is_no_allocation(t: &CType, e: &Expr<Name, Note>, u: &CType) -> bool
     ensures { result ≡ is_no_allocation t.now e.now u.now }
 {
-    is_void(t) || !same_type(t, u) || !is_integer(&e.note.ctype)
+    !is_object_type(t) || !same_type(t, u) || !is_integer(&e.note.ctype)
 }

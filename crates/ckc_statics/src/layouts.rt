@@ -1,17 +1,16 @@
 //! The structures of a text with the bounds of their members.
 
-ghost use Rattle.std.specs.Prelude.{◌≡◌, [], IfOk, OnOk, map, neg_ℤ};
+ghost use Rattle.std.specs.Prelude.{◌≡◌, [], IfOk, OnOk, map};
 ghost use Rattle.std.specs.Option.{option_copied};
-ghost use Rattle.ckc_syntax.specs.declared.tree.Node.{out-Node};
 ghost use Rattle.ckc_syntax.specs.declared.tree.Limits.{out-Limits};
-ghost use Rattle.ckc_typed.specs.Constants.{value_of};
-ghost use Rattle.ckc_typed.specs.Layouts.{member_number, member_in, number_of, number_in, negative, moved, or_moved, sum_amount, amount_in_form, amount, is_multiple, scaled, byte_amount, bounds_by, bounds_of, bare_member, bounded_member, behind_tag, tags_to, tag_count, shapes_below, structs_with, structs_of};
+ghost use Rattle.ckc_typed.specs.Layouts.{member_number, counted, bounds_by, bounds_of, bare_member, bounded_member, behind_tag, tags_to, tag_count, shapes_below, structs_with, structs_of};
 ghost use Rattle.ckc_statics.specs.Shapes.{member_by, with_shape, with_struct};
 
 use ckc_base::{Boxed, Seq};
-use ckc_syntax::{Decl, Expr, Item, Limits, Name, Node, TreeOp};
-use ckc_typed::Constant;
-use ckc_typed::constants::{constant, size_of, value_of};
+use ckc_syntax::{Decl, Item, Limits, Name};
+use ckc_typed::Amount;
+use ckc_typed::amounts::amount_of_limits;
+use ckc_typed::constants::size_of;
 use ckc_typed::types::{element_of, type_written};
 use ckc_types::{CType, MemberBounds, MemberShape, StructShape, Structs};
 use std::alloc::{AllocError, Global};
@@ -25,157 +24,17 @@ fn member_number(n: Name) -> u32
     }
 }
 
-/// The member that an expression names.
-fn member_in(e: &Expr<Name, ()>) -> Option<u32>
-    ensures { result ≡ member_in e.now }
+fn counted(amount: Option<Amount>) -> MemberBounds
+    ensures { result ≡ counted amount }
 {
-    match &e.node {
-        Node::Name(Name::Member(k)) => Some(*k),
-        _ => None,
+    match amount {
+        None => MemberBounds::NoForm,
+        Some(a) => match a.variable {
+            None => MemberBounds::Fixed(a.number),
+            Some(Name::Member(m)) => MemberBounds::Named(m, a.number),
+            Some(_) => MemberBounds::NoForm,
+        },
     }
-}
-
-fn number_of(c: Option<Constant>) -> Option<i64>
-    ensures { result ≡ number_of c }
-{
-    match c {
-        Some(c) => Some(value_of(c)),
-        None => None,
-    }
-}
-
-fn number_in(
-    alloc: Global,
-    structs: &Structs,
-    e: &Expr<Name, ()>,
-) -> Result<Option<i64>, AllocError>
-    ensures { IfOk result (λ n. n ≡ number_in structs.now e.now) }
-{
-    let c = constant(alloc, structs, e)?;
-    Ok(number_of(c))
-}
-
-fn negative_value(c: Constant) -> i64
-    ensures { result ≡ neg_ℤ (value_of c) }
-{
-    if c.unsigned {
-        -i64::from(c.word)
-    } else {
-        -i64::from(c.word.cast_signed())
-    }
-}
-
-fn negative(c: Option<Constant>) -> Option<i64>
-    ensures { result ≡ negative (number_of c) }
-{
-    match c {
-        Some(c) => Some(negative_value(c)),
-        None => None,
-    }
-}
-
-fn moved(member: Option<u32>, by: Option<i64>) -> MemberBounds
-    ensures { result ≡ moved member by }
-{
-    match (member, by) {
-        (Some(m), Some(c)) => MemberBounds::Named(m, c),
-        (Some(_), None) => MemberBounds::Nothing,
-        (None, _) => MemberBounds::Nothing,
-    }
-}
-
-fn or_moved(bounds: MemberBounds, other: MemberBounds) -> MemberBounds
-    ensures { result ≡ or_moved bounds other }
-{
-    match bounds {
-        MemberBounds::Nothing => other,
-        MemberBounds::Fixed(c) => MemberBounds::Fixed(c),
-        MemberBounds::Named(m, c) => MemberBounds::Named(m, c),
-    }
-}
-
-fn sum_amount(
-    alloc: Global,
-    structs: &Structs,
-    op: TreeOp,
-    e: &Expr<Name, ()>,
-    f: &Expr<Name, ()>,
-) -> Result<MemberBounds, AllocError>
-    ensures { IfOk result (λ b. b ≡ sum_amount structs.now op e.now f.now) }
-{
-    match op {
-        TreeOp::Add => {
-            let c = number_in(alloc, structs, f)?;
-            let d = number_in(alloc, structs, e)?;
-            Ok(or_moved(moved(member_in(e), c), moved(member_in(f), d)))
-        }
-        TreeOp::Sub => {
-            let c = constant(alloc, structs, f)?;
-            Ok(moved(member_in(e), negative(c)))
-        }
-        _ => Ok(MemberBounds::Nothing),
-    }
-}
-
-/// The amount that an expression is, which is no constant.
-fn amount_in(
-    alloc: Global,
-    structs: &Structs,
-    e: &Expr<Name, ()>,
-) -> Result<MemberBounds, AllocError>
-    ensures { IfOk result (λ b. b ≡ amount_in_form structs.now (out-Node Name (Unit {0}) e.now.node)) }
-{
-    match &e.node {
-        Node::Name(_) => Ok(moved(member_in(e), Some(0))),
-        Node::Bin(op, f, g) => sum_amount(alloc, structs, *op, f.get(), g.get()),
-        _ => Ok(MemberBounds::Nothing),
-    }
-}
-
-fn amount(alloc: Global, structs: &Structs, e: &Expr<Name, ()>) -> Result<MemberBounds, AllocError>
-    ensures { IfOk result (λ b. b ≡ amount structs.now e.now) }
-{
-    let c = number_in(alloc, structs, e)?;
-    match c {
-        Some(c) => Ok(MemberBounds::Fixed(c)),
-        None => amount_in(alloc, structs, e),
-    }
-}
-
-fn is_multiple(c: i64, size: u32) -> bool
-    ensures { result ≡ is_multiple c size }
-{
-    size > 0 && c % i64::from(size) == 0
-}
-
-fn scaled(size: u32, c: Option<i64>) -> MemberBounds
-    ensures { result ≡ scaled size c }
-{
-    match c {
-        Some(c) => {
-            if is_multiple(c, size) {
-                MemberBounds::Fixed(c / i64::from(size))
-            } else {
-                MemberBounds::Nothing
-            }
-        }
-        None => MemberBounds::Nothing,
-    }
-}
-
-fn byte_amount(
-    alloc: Global,
-    structs: &Structs,
-    size: u32,
-    e: &Expr<Name, ()>,
-) -> Result<MemberBounds, AllocError>
-    ensures { IfOk result (λ b. b ≡ byte_amount structs.now size e.now) }
-{
-    if size == 1 {
-        return amount(alloc, structs, e);
-    }
-    let c = number_in(alloc, structs, e)?;
-    Ok(scaled(size, c))
 }
 
 fn bounds_by(
@@ -186,11 +45,11 @@ fn bounds_by(
 ) -> Result<MemberBounds, AllocError>
     ensures { IfOk result (λ b. b ≡ bounds_by structs.now size (out-Limits Name (Unit {0}) limits.now)) }
 {
-    match limits {
-        Limits::Count(e) => amount(alloc, structs, e.get()),
-        Limits::ByteCount(e) => byte_amount(alloc, structs, size, e.get()),
-        Limits::Between(_, _) | Limits::Unknown(_) => Ok(MemberBounds::Nothing),
+    if let Limits::Unknown(_) = limits {
+        return Ok(MemberBounds::Unknown);
     }
+    let found = amount_of_limits(alloc, structs, size, limits)?;
+    Ok(counted(found))
 }
 
 fn bounds_of(

@@ -10,9 +10,9 @@ use crate::strings::strings_of;
 use ckc_base::{Bytes, Seq};
 use ckc_syntax::{Decl, Expr, Init, Item, Length, Name};
 use ckc_typed::constants::constant;
-use ckc_typed::types::{is_char, type_written};
+use ckc_typed::types::{is_char, kind_of_array, type_written};
 use ckc_typed::{Constant, Note, StaticObject};
-use ckc_types::{CType, Structs};
+use ckc_types::{CType, Kind, Structs};
 use std::alloc::{AllocError, Global};
 
 fn word_in(c: Option<Constant>) -> u32
@@ -124,6 +124,7 @@ fn object_of(
     Ok(StaticObject {
         at: 0,
         element,
+        array: kind_of_array(d.length),
         count,
         terminated: is_terminated(d.length),
         initial,
@@ -138,6 +139,7 @@ fn object_of_string(alloc: Global, bytes: &Bytes) -> Result<StaticObject, AllocE
     Ok(StaticObject {
         at: 0,
         element: CType::Char,
+        array: Some(Kind::Nt),
         count,
         terminated: true,
         initial,

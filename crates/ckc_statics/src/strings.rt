@@ -27,8 +27,8 @@ fn add_limits(
     ensures { OnOk result (all.new ≡ all.old ++ strings_of_limits limits.now) }
 {
     match limits {
-        Limits::Count(e) | Limits::ByteCount(e) => add_expr(alloc, all, e.get()),
-        Limits::Between(e, f) => {
+        Limits::Count(e, _) | Limits::ByteCount(e, _) => add_expr(alloc, all, e.get()),
+        Limits::Between(e, f, _) => {
             add_expr(alloc, all, e.get())?;
             add_expr(alloc, all, f.get())
         }
@@ -43,7 +43,7 @@ fn add_node(alloc: Global, all: &mut Seq<Bytes>, node: &Node<Name, Note>) -> Res
     match node {
         Node::Number(_, _) | Node::Null | Node::Name(_) | Node::Size(_) => Ok(()),
         Node::Text(bytes) => add_string(alloc, all, bytes),
-        Node::Un(_, e) | Node::Dot(e, _) | Node::Arrow(e, _) => add_expr(alloc, all, e.get()),
+        Node::Un(_, e) | Node::Dot(e, _, _) | Node::Arrow(e, _, _) => add_expr(alloc, all, e.get()),
         Node::Cast(_, e) | Node::Calloc(_, e, _) => add_expr(alloc, all, e.get()),
         Node::Bin(_, e, f) | Node::Index(e, f) => {
             add_expr(alloc, all, e.get())?;

@@ -16,17 +16,18 @@ use Rattle.ckc_syntax.specs.declared.tree.Limits.TheVariants as limits
 use Rattle.ckc_syntax.specs.declared.tree.Node.{Node-F, out-Node, fold-Node}
 use Rattle.ckc_syntax.specs.declared.tree.Node.TheVariants as node
 use Rattle.ckc_syntax.specs.declared.tree.Expr.{Expr-F, fold-Expr}
+use Rattle.ckc_typed.specs.Codes.{bad_operands, bad_conversion, bad_call, no_address}
 use Rattle.ckc_typed.specs.declared.environment.Globals.{Globals}
 use Rattle.ckc_typed.specs.declared.environment.Object.{Object}
 use Rattle.ckc_typed.specs.declared.environment.Signature.{Signature}
 use Rattle.ckc_typed.specs.declared.environment.Variable.{Variable}
 use Rattle.ckc_typed.specs.declared.typed.Note.{Note}
 use Rattle.ckc_typed.specs.declared.typed.Range.TheVariants.{Missing}
-use Rattle.ckc_typed.specs.Outcomes.{Outcome, bind, unless, there_or, in_order, if_there}
+use Rattle.ckc_base.specs.Outcomes.{Outcome, bind, unless, there_or, in_order, if_there}
 use Rattle.ckc_typed.specs.Trees.{Limits, Node, Expr, NotedLimits, NotedNode, NotedExpr}
 use Rattle.ckc_typed.specs.Types.{type_written, is_integer, is_void, is_object_type, same_type}
 use Rattle.ckc_typed.specs.Environment.{type_of_name, object_named, signature_named}
-use Rattle.ckc_typed.specs.Operands.{unary_type, binary_type, choice_type, index_type, dot_type, arrow_type, cast_type, size_type}
+use Rattle.ckc_typed.specs.Operands.{unary_type, binary_type, choice_type, index_type, dot_type, arrow_type, is_cast, size_type}
 use Rattle.ckc_typed.specs.Conversions.{is_null, converts, is_tested, is_trusted, is_bounds_cast}
 
 abbrev pub noted : Mode → Pos → NotedNode → CType → NotedExpr
@@ -34,7 +35,7 @@ noted mode pos n t = record { node = n; pos = pos; note = record { ctype = t; mo
 
 -- E401 where the operands are in no row, but E402 where one is the value of a call that gives none.
 abbrev pub in_row : Bool → Pos → Option CType → Outcome CType
-in_row void pos t = there_or (if void then 402 else 401) pos t
+in_row void pos t = there_or (if void then bad_conversion else bad_operands) pos t
 
 abbrev pub number_type : Bool → CType
 number_type unsigned = if unsigned then ctype.Unsigned else ctype.Int
@@ -57,21 +58,32 @@ abbrev pub is_target_op : TreeOp → Bool
 is_target_op op.Deref = true
 is_target_op _ = false
 
-abbrev pub has_address_form : {A L M E : Type 0} → Globals → Node-F Name A L M E → Bool
-has_address_form globals (Node-F.Name n) = is_no_array (object_named globals n)
-has_address_form globals (Node-F.Un o e) = is_target_op o
-has_address_form globals (Node-F.Index e f) = true
-has_address_form globals (Node-F.Dot e n) = true
-has_address_form globals (Node-F.Arrow e n) = true
-has_address_form globals _ = false
+-- Elements and members lie at a place that is computed.
+abbrev pub is_placed_form : {A L M E : Type 0} → Node-F Name A L M E → Bool
+is_placed_form (Node-F.Un o e) = is_target_op o
+is_placed_form (Node-F.Index e f) = true
+is_placed_form (Node-F.Dot e n at) = true
+is_placed_form (Node-F.Arrow e n at) = true
+is_placed_form _ = false
+
+abbrev pub is_placed : NotedExpr → Bool
+is_placed e = is_placed_form (out-Node Name Note e.node)
+
+abbrev pub is_object_form : {A L M E : Type 0} → Globals → Node-F Name A L M E → Bool
+is_object_form globals (Node-F.Name n) = is_no_array (object_named globals n)
+is_object_form globals _ = false
+
+-- a name of an object of file scope that is no array
+abbrev pub is_object : Globals → NotedExpr → Bool
+is_object globals e = is_object_form globals (out-Node Name Note e.node)
 
 -- An address have objects of file scope that are no arrays, elements and members, but no locals and no values.
 abbrev pub has_address : Globals → NotedExpr → Bool
-has_address globals e = has_address_form globals (out-Node Name Note e.node)
+has_address globals e = is_object globals e || is_placed e
 
 -- E405: the address of a local or of a value
 abbrev pub address_typed : Globals → Mode → NotedExpr → Pos → Outcome CType
-address_typed globals mode e pos = unless (not (has_address globals e)) 405 pos (Ok (ctype.Pointer (address_kind mode) e.note.ctype))
+address_typed globals mode e pos = unless (not (has_address globals e)) no_address pos (Ok (ctype.Pointer (address_kind mode) e.note.ctype))
 
 abbrev pub unary_typed : Globals → Mode → TreeOp → NotedExpr → Pos → Outcome CType
 unary_typed globals mode op.Address e pos = address_typed globals mode e pos
@@ -92,36 +104,37 @@ dot_typed globals e n pos = in_row (is_void e.note.ctype) pos (dot_type globals.
 abbrev pub arrow_typed : Globals → NotedExpr → Name → Pos → Outcome CType
 arrow_typed globals e n pos = in_row (is_void e.note.ctype) pos (arrow_type globals.structs e.note.ctype n)
 
+-- E401: no cast to such a type. E402: the conversion is not allowed.
 abbrev pub cast_typed : CType → NotedExpr → Pos → Outcome CType
-cast_typed t e pos = in_row (is_void e.note.ctype) pos (cast_type t e.note.ctype (is_null e))
+cast_typed t e pos = unless (not (is_object_type t)) bad_operands pos (unless (not (is_cast t e.note.ctype (is_null e))) bad_conversion pos (Ok t))
 
--- E401: no bounds cast to such a type with such limits. E402: the conversion is not allowed.
+-- Of a bounds cast the limits are judged with the type.
 abbrev pub tested_typed : CType → NotedExpr → Option NotedLimits → Pos → Outcome CType
-tested_typed t e l pos = unless (not (is_bounds_cast t l)) 401 pos (unless (not (is_tested t e)) 402 pos (Ok t))
+tested_typed t e l pos = unless (not (is_bounds_cast t l)) bad_operands pos (unless (not (is_tested t e)) bad_conversion pos (Ok t))
 
 abbrev pub trusted_typed : CType → NotedExpr → Option NotedLimits → Pos → Outcome CType
-trusted_typed t e l pos = unless (not (is_bounds_cast t l)) 401 pos (unless (not (is_trusted t e)) 402 pos (Ok t))
+trusted_typed t e l pos = unless (not (is_bounds_cast t l)) bad_operands pos (unless (not (is_trusted t e)) bad_conversion pos (Ok t))
 
 -- E402 at the first argument that does not convert to the type of its parameter
 abbrev pub arguments_typed : List CType → List NotedExpr → Outcome (Unit {0})
-arguments_typed (t ∷ ts) (e ∷ es) = unless (not (converts t e)) 402 e.pos (arguments_typed ts es)
+arguments_typed (t ∷ ts) (e ∷ es) = unless (not (converts t e)) bad_conversion e.pos (arguments_typed ts es)
 arguments_typed _ _ = Ok tt
 
 -- E404: another number of arguments than parameters
 abbrev pub result_typed : Signature → List NotedExpr → Pos → Outcome CType
-result_typed s es pos = unless (not (length es == length s.params)) 404 pos (bind (arguments_typed s.params es) (λ u. Ok s.result))
+result_typed s es pos = unless (not (length es == length s.params)) bad_call pos (bind (arguments_typed s.params es) (λ u. Ok s.result))
 
 -- E404: what is called is no function
 abbrev pub call_typed : Globals → Name → List NotedExpr → Pos → Outcome CType
-call_typed globals n es pos = bind (there_or 404 pos (signature_named globals n)) (λ s. result_typed s es pos)
+call_typed globals n es pos = bind (there_or bad_call pos (signature_named globals n)) (λ s. result_typed s es pos)
 
 abbrev pub is_no_allocation : CType → NotedExpr → CType → Bool
-is_no_allocation t e u = is_void t || (not (same_type t u) || not (is_integer e.note.ctype))
+is_no_allocation t e u = not (is_object_type t) || (not (same_type t u) || not (is_integer e.note.ctype))
 
--- E404: the types differ or are `void`, or the count is no integer. The result goes to any kind of pointer; its note
+-- E404: the types differ or are not those of objects, or the count is no integer. The result goes to any kind of pointer; its note
 -- says `_Array_ptr`.
 abbrev pub allocation_typed : CType → NotedExpr → CType → Pos → Outcome CType
-allocation_typed t e u pos = unless (is_no_allocation t e u) 404 pos (unless (not (is_object_type t)) 401 pos (Ok (ctype.Pointer kind.Arr t)))
+allocation_typed t e u pos = unless (is_no_allocation t e u) bad_call pos (Ok (ctype.Pointer kind.Arr t))
 
 abbrev pub OfLimits : Type 0
 OfLimits = Outcome NotedLimits
@@ -134,9 +147,9 @@ abbrev pub OfExpr : Type 0
 OfExpr = Outcome NotedExpr
 
 abbrev pub limits_parts : Limits-F Name (Unit {0}) OfLimits OfNode OfExpr → OfLimits
-limits_parts (Limits-F.Count e) = bind e (λ a. Ok (limits.Count a))
-limits_parts (Limits-F.ByteCount e) = bind e (λ a. Ok (limits.ByteCount a))
-limits_parts (Limits-F.Between e f) = bind e (λ a. bind f (λ b. Ok (limits.Between a b)))
+limits_parts (Limits-F.Count e at) = bind e (λ a. Ok (limits.Count a at))
+limits_parts (Limits-F.ByteCount e at) = bind e (λ a. Ok (limits.ByteCount a at))
+limits_parts (Limits-F.Between e f at) = bind e (λ a. bind f (λ b. Ok (limits.Between a b at)))
 limits_parts (Limits-F.Unknown pos) = Ok (limits.Unknown pos)
 
 -- `NULL` has the type `_Ptr<void>`.
@@ -144,15 +157,15 @@ abbrev pub node_parts : Globals → List Variable → Mode → Node-F Name (Unit
 node_parts globals variables mode (Node-F.Number n unsigned) pos = Ok (noted mode pos (node.Number n unsigned) (number_type unsigned))
 node_parts globals variables mode (Node-F.Text bytes) pos = Ok (noted mode pos (node.Text bytes) (string_type mode))
 node_parts globals variables mode Node-F.Null pos = Ok (noted mode pos node.Null (ctype.Pointer kind.One ctype.Void))
-node_parts globals variables mode (Node-F.Name n) pos = bind (there_or 401 pos (type_of_name globals variables n)) (λ t. Ok (noted mode pos (node.Name n) t))
+node_parts globals variables mode (Node-F.Name n) pos = bind (there_or bad_operands pos (type_of_name globals variables n)) (λ t. Ok (noted mode pos (node.Name n) t))
 node_parts globals variables mode (Node-F.Un o e) pos = bind e (λ a. bind (unary_typed globals mode o a pos) (λ t. Ok (noted mode pos (node.Un o a) t)))
 node_parts globals variables mode (Node-F.Bin o e f) pos = bind e (λ a. bind f (λ b. bind (binary_typed o a b pos) (λ t. Ok (noted mode pos (node.Bin o a b) t))))
 node_parts globals variables mode (Node-F.Pick e f g) pos = bind e (λ a. bind f (λ b. bind g (λ c. bind (choice_typed a b c pos) (λ t. Ok (noted mode pos (node.Pick a b c) t)))))
 node_parts globals variables mode (Node-F.Index e f) pos = bind e (λ a. bind f (λ b. bind (index_typed a b pos) (λ t. Ok (noted mode pos (node.Index a b) t))))
-node_parts globals variables mode (Node-F.Dot e n) pos = bind e (λ a. bind (dot_typed globals a n pos) (λ t. Ok (noted mode pos (node.Dot a n) t)))
-node_parts globals variables mode (Node-F.Arrow e n) pos = bind e (λ a. bind (arrow_typed globals a n pos) (λ t. Ok (noted mode pos (node.Arrow a n) t)))
+node_parts globals variables mode (Node-F.Dot e n at) pos = bind e (λ a. bind (dot_typed globals a n pos) (λ t. Ok (noted mode pos (node.Dot a n at) t)))
+node_parts globals variables mode (Node-F.Arrow e n at) pos = bind e (λ a. bind (arrow_typed globals a n pos) (λ t. Ok (noted mode pos (node.Arrow a n at) t)))
 node_parts globals variables mode (Node-F.Cast w e) pos = bind e (λ a. bind (cast_typed (type_written w) a pos) (λ t. Ok (noted mode pos (node.Cast w a) t)))
-node_parts globals variables mode (Node-F.Size w) pos = bind (there_or 401 pos (size_type (type_written w))) (λ t. Ok (noted mode pos (node.Size w) t))
+node_parts globals variables mode (Node-F.Size w) pos = bind (there_or bad_operands pos (size_type (type_written w))) (λ t. Ok (noted mode pos (node.Size w) t))
 node_parts globals variables mode (Node-F.Trusted w e l) pos = bind e (λ a. bind (if_there l) (λ k. bind (trusted_typed (type_written w) a k pos) (λ t. Ok (noted mode pos (node.Trusted w a k) t))))
 node_parts globals variables mode (Node-F.Tested w e l) pos = bind e (λ a. bind (if_there l) (λ k. bind (tested_typed (type_written w) a k pos) (λ t. Ok (noted mode pos (node.Tested w a k) t))))
 node_parts globals variables mode (Node-F.Call n es) pos = bind (in_order es) (λ args. bind (call_typed globals n args pos) (λ t. Ok (noted mode pos (node.Call n args) t)))

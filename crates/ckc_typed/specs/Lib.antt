@@ -1,7 +1,7 @@
 pub mod Raw
 pub mod Walk
 pub mod Scoped
-pub mod Outcomes
+pub mod Codes
 pub mod Trees
 pub mod Types
 pub mod Environment
@@ -11,6 +11,7 @@ pub mod Conversions
 pub mod Expressions
 pub mod Declarations
 pub mod Statements
+pub mod Amounts
 pub mod Layouts
 pub mod Statics
 pub mod Texts

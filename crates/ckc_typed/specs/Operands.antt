@@ -111,9 +111,6 @@ is_raw_kind _ = false
 abbrev pub is_cast : CType → CType → Bool → Bool
 is_cast t u null_u = is_object_type t && ((is_integer t && is_integer u) || (is_raw_kind (kind_of t) && (is_pointer u || null_u)))
 
-abbrev pub cast_type : CType → CType → Bool → Option CType
-cast_type t u null_u = if is_cast t u null_u then Some t else None
-
 -- The rows by operator, with the type of each operand and whether it is null. A unary operator has no row here.
 abbrev pub binary_type : TreeOp → CType → Bool → CType → Bool → Option CType
 binary_type op.OrElse t m u n = both_type t u

@@ -13,33 +13,25 @@ use Rattle.ckc_syntax.specs.declared.tree.Node.{Node-F, out-Node}
 use Rattle.ckc_syntax.specs.declared.tree.Act.{Act-F, fold-Act}
 use Rattle.ckc_syntax.specs.declared.tree.Act.TheVariants as act
 use Rattle.ckc_syntax.specs.declared.tree.Stmt.{Stmt-F, fold-Stmt}
+use Rattle.ckc_typed.specs.Codes.{bad_operands, bad_conversion, bad_target, no_loop}
 use Rattle.ckc_typed.specs.declared.environment.Globals.{Globals}
 use Rattle.ckc_typed.specs.declared.environment.Variable.{Variable}
 use Rattle.ckc_typed.specs.declared.typed.Note.{Note}
 use Rattle.ckc_typed.specs.declared.typed.Range.TheVariants.{Missing}
-use Rattle.ckc_typed.specs.Outcomes.{Outcome, bind, unless, in_order, if_there}
+use Rattle.ckc_base.specs.Outcomes.{Outcome, bind, unless, in_order, if_there}
 use Rattle.ckc_typed.specs.Trees.{Act, Stmt, NotedAct, NotedStmt, NotedExpr}
 use Rattle.ckc_typed.specs.Types.{is_void, is_scalar}
-use Rattle.ckc_typed.specs.Environment.{variable_named, object_named}
+use Rattle.ckc_typed.specs.Environment.{variable_named}
 use Rattle.ckc_typed.specs.Conversions.{converts}
-use Rattle.ckc_typed.specs.Expressions.{expr_typed, value_typed, is_no_array, is_target_op}
+use Rattle.ckc_typed.specs.Expressions.{expr_typed, value_typed, is_object, is_placed}
 use Rattle.ckc_typed.specs.Declarations.{local_typed}
 
 abbrev pub stated : Mode → Pos → NotedAct → NotedStmt
 stated mode pos a = record { body = a; pos = pos; note = record { ctype = ctype.Void; mode = mode; range = Missing } }
 
--- A named target is a local, or an object of file scope that is no array.
-abbrev pub is_named_form : {A L M E : Type 0} → Globals → List Variable → Node-F Name A L M E → Bool
-is_named_form globals variables (Node-F.Name n) = is_some (variable_named variables n) || is_no_array (object_named globals n)
-is_named_form globals variables _ = false
-
--- The other targets are elements and members.
-abbrev pub is_placed_form : {A L M E : Type 0} → Node-F Name A L M E → Bool
-is_placed_form (Node-F.Un o e) = is_target_op o
-is_placed_form (Node-F.Index e f) = true
-is_placed_form (Node-F.Dot e n) = true
-is_placed_form (Node-F.Arrow e n) = true
-is_placed_form _ = false
+abbrev pub is_variable_form : {A L M E : Type 0} → List Variable → Node-F Name A L M E → Bool
+is_variable_form variables (Node-F.Name n) = is_some (variable_named variables n)
+is_variable_form variables _ = false
 
 abbrev pub is_function : Name → Bool
 is_function (name.Function k) = true
@@ -49,28 +41,26 @@ abbrev pub is_call_form : {A L M E : Type 0} → Node-F Name A L M E → Bool
 is_call_form (Node-F.Call n es) = is_function n
 is_call_form _ = false
 
+-- A named target is a local, or an object of file scope that is no array.
 abbrev pub is_named : Globals → List Variable → NotedExpr → Bool
-is_named globals variables e = is_named_form globals variables (out-Node Name Note e.node)
-
-abbrev pub is_placed : NotedExpr → Bool
-is_placed e = is_placed_form (out-Node Name Note e.node)
+is_named globals variables e = is_variable_form variables (out-Node Name Note e.node) || is_object globals e
 
 -- a call of a function of the text
 abbrev pub is_text_call : NotedExpr → Bool
 is_text_call e = is_call_form (out-Node Name Note e.node)
 
--- A target is a scalar local, object, element or member. Where the right side calls a function of the text, it is a
+-- A target is a local, or what has an address, and a scalar. Where the right side calls a function of the text, it is a
 -- local or an object by its name.
 abbrev pub is_target : Globals → List Variable → NotedExpr → NotedExpr → Bool
 is_target globals variables e f = is_scalar e.note.ctype && (is_named globals variables e || (is_placed e && not (is_text_call f)))
 
--- E403: what is no target. E402: the right side does not convert.
+-- E402: the right side does not convert. E403: what is no target.
 abbrev pub target_fits : Globals → List Variable → Pos → NotedExpr → NotedExpr → Outcome (Unit {0})
-target_fits globals variables pos e f = unless (not (is_target globals variables e f)) 403 pos (unless (not (converts e.note.ctype f)) 402 pos (Ok tt))
+target_fits globals variables pos e f = unless (not (converts e.note.ctype f)) bad_conversion pos (unless (not (is_target globals variables e f)) bad_target pos (Ok tt))
 
 -- E401: the condition is no scalar, but E402 where it is the value of a call that gives none.
 abbrev pub scalar_fits : Pos → NotedExpr → Outcome (Unit {0})
-scalar_fits pos e = unless (not (is_scalar e.note.ctype)) (if is_void e.note.ctype then 402 else 401) pos (Ok tt)
+scalar_fits pos e = unless (not (is_scalar e.note.ctype)) (if is_void e.note.ctype then bad_conversion else bad_operands) pos (Ok tt)
 
 abbrev pub scalar_there_fits : Pos → Option NotedExpr → Outcome (Unit {0})
 scalar_there_fits pos None = Ok tt
@@ -83,11 +73,11 @@ is_result result (Some e) = converts result e
 
 -- E402: not what the function returns
 abbrev pub result_fits : CType → Pos → Option NotedExpr → Outcome (Unit {0})
-result_fits result pos e = unless (not (is_result result e)) 402 pos (Ok tt)
+result_fits result pos e = unless (not (is_result result e)) bad_conversion pos (Ok tt)
 
 -- E406: `break` or `continue` outside a loop
 abbrev pub loop_fits : Bool → Pos → Outcome (Unit {0})
-loop_fits looped pos = unless (not looped) 406 pos (Ok tt)
+loop_fits looped pos = unless (not looped) no_loop pos (Ok tt)
 
 -- A statement is judged in the mode of its scope, and in a loop or outside.
 abbrev pub OfStmt : Type 0

@@ -4,6 +4,7 @@
 -- that is at least 8 bytes past the end of what lies before it.
 use Rattle.std.specs.Prelude.{ℕ, ◌+◌, ◌*◌, Bool, true, false, if◌then◌else◌, List, [], ◌∷◌, ◌++◌, length, take, map, flat_map, Option, None, Some, unwrap_or}
 use Rattle.std.specs.Int.{w32, to_le_bytes, next_multiple_of}
+use Rattle.ckc_types.specs.declared.types.Kind.TheVariants as kind
 use Rattle.ckc_types.specs.declared.types.CType.{CType}
 use Rattle.ckc_types.specs.declared.types.CType.TheVariants as ctype
 use Rattle.ckc_types.specs.declared.types.Structs.{Structs}
@@ -22,6 +23,7 @@ use Rattle.ckc_typed.specs.declared.typed.Note.{Note}
 use Rattle.ckc_typed.specs.declared.typed.StaticObject.{StaticObject}
 use Rattle.ckc_typed.specs.Trees.{NotedItem, NotedHead, NotedDecl, NotedInit, NotedLimits, NotedExpr, NotedStmt}
 use Rattle.ckc_typed.specs.Types.{type_written, is_char}
+use Rattle.ckc_typed.specs.Environment.{kind_of_array}
 use Rattle.ckc_typed.specs.Constants.{constant, size_of}
 use Rattle.ckc_typed.specs.Declarations.{count_of, is_plain, string_in}
 
@@ -38,9 +40,9 @@ held_strings None = []
 held_strings (Some s) = s
 
 abbrev pub limits_strings : Limits-F Name Note Strings Strings Strings → Strings
-limits_strings (Limits-F.Count e) = e
-limits_strings (Limits-F.ByteCount e) = e
-limits_strings (Limits-F.Between e f) = e ++ f
+limits_strings (Limits-F.Count e at) = e
+limits_strings (Limits-F.ByteCount e at) = e
+limits_strings (Limits-F.Between e f at) = e ++ f
 limits_strings (Limits-F.Unknown pos) = []
 
 abbrev pub node_strings : Node-F Name Note Strings Strings Strings → Strings
@@ -52,8 +54,8 @@ node_strings (Node-F.Un o e) = e
 node_strings (Node-F.Bin o e f) = e ++ f
 node_strings (Node-F.Pick e f g) = e ++ f ++ g
 node_strings (Node-F.Index e f) = e ++ f
-node_strings (Node-F.Dot e n) = e
-node_strings (Node-F.Arrow e n) = e
+node_strings (Node-F.Dot e n at) = e
+node_strings (Node-F.Arrow e n at) = e
 node_strings (Node-F.Cast t e) = e
 node_strings (Node-F.Size t) = []
 node_strings (Node-F.Trusted t e l) = e ++ held_strings l
@@ -142,14 +144,14 @@ is_terminated (lengths.Nt n) = true
 is_terminated _ = false
 
 abbrev pub object_of : Structs → NotedDecl → StaticObject
-object_of structs d = record { at = 0; element = type_written d.ctype; count = unwrap_or (count_of d) 0; terminated = is_terminated d.length; initial = initial_bytes structs (type_written d.ctype) d.init }
+object_of structs d = record { at = 0; element = type_written d.ctype; array = kind_of_array d.length; count = unwrap_or (count_of d) 0; terminated = is_terminated d.length; initial = initial_bytes structs (type_written d.ctype) d.init }
 
 abbrev pub objects_of_item : Structs → NotedItem → List StaticObject
 objects_of_item structs (item.Static d) = object_of structs d ∷ []
 objects_of_item structs _ = []
 
 abbrev pub object_of_string : List ℕ → StaticObject
-object_of_string bytes = record { at = 0; element = ctype.Char; count = length bytes + 1; terminated = true; initial = bytes }
+object_of_string bytes = record { at = 0; element = ctype.Char; array = Some kind.Nt; count = length bytes + 1; terminated = true; initial = bytes }
 
 -- the blocks in their order, without their places
 abbrev pub blocks : Structs → List NotedItem → List StaticObject

@@ -1,18 +1,20 @@
 -- A whole text with its types: what it becomes, and its first fault. Items are judged in the order of the text. That
 -- the static objects end too late is judged last.
-use Rattle.std.specs.Prelude.{◌≡◌, ℕ, nat_lt, Bool, not, ◌||◌, List, [], ◌∷◌, map, unwrap_or, Ok}
+use Rattle.std.specs.Prelude.{ℕ, nat_lt, Bool, not, ◌||◌, List, [], ◌∷◌, map, unwrap_or, Option, Ok}
 use Rattle.std.specs.Prelude.{false}
-use Rattle.ckc_base.specs.declared.places.Pos.{Pos}
+use Rattle.ckc_base.specs.Places.{start}
 use Rattle.ckc_base.specs.declared.arithmetic.Mode.{Mode}
 use Rattle.ckc_base.specs.declared.arithmetic.Mode.TheVariants.{Unchecked}
 use Rattle.ckc_types.specs.declared.types.CType.{CType}
 use Rattle.ckc_types.specs.declared.types.Structs.{Structs}
 use Rattle.ckc_syntax.specs.declared.tree.Item.TheVariants as item
+use Rattle.ckc_syntax.specs.declared.tree.NamedText.{NamedText}
+use Rattle.ckc_typed.specs.Codes.{bad_operands, late_statics}
 use Rattle.ckc_typed.specs.declared.environment.Globals.{Globals}
 use Rattle.ckc_typed.specs.declared.typed.StaticObject.{StaticObject}
 use Rattle.ckc_typed.specs.declared.typed.Typed.{Typed}
-use Rattle.ckc_typed.specs.Outcomes.{Outcome, bind, refused, unless}
-use Rattle.ckc_typed.specs.Trees.{Tree, Item, Head, Stmt, NotedItem, NotedHead}
+use Rattle.ckc_base.specs.Outcomes.{Outcome, bind, unless}
+use Rattle.ckc_typed.specs.Trees.{Tree, Item, Head, Stmt, NotedItem, NotedHead, NotedDecl, NotedLimits}
 use Rattle.ckc_typed.specs.Types.{type_written, is_void, is_scalar_type}
 use Rattle.ckc_typed.specs.Environment.{objects_of, signatures_of, params_of, variables_of, variable_declared}
 use Rattle.ckc_typed.specs.Expressions.{bounds_typed}
@@ -29,11 +31,19 @@ is_result_type t = is_void t || is_scalar_type t
 abbrev pub head_mode : Mode → Head → Mode
 head_mode pragma h = unwrap_or h.mode pragma
 
--- A head has its own mode, or that of the pragma before it.
+-- E401 at the name of the function: no function gives such a type
+abbrev pub result_allowed : Head → Outcome (Unit {0})
+result_allowed h = unless (not (is_result_type (type_written h.result))) bad_operands h.pos (Ok tt)
+
+abbrev pub head_with : Head → List NotedDecl → Option NotedLimits → NotedHead
+head_with h ps l = record { mode = h.mode; result = h.result; name = h.name; params = ps; bounds = l; pos = h.pos }
+
+-- A head has its own mode, or that of the pragma before it. Its parameters are judged, the bounds of the result, and
+-- then itself.
 abbrev pub head_typed : Globals → Mode → Head → Outcome NotedHead
 head_typed globals pragma h =
     bind (bares_typed globals (params_of h) (head_mode pragma h) h.params) (λ ps. bind (bounds_typed globals (params_of h) (head_mode pragma h) h.bounds) (λ l.
-    unless (not (is_result_type (type_written h.result))) 401 h.pos (Ok (record { mode = h.mode; result = h.result; name = h.name; params = ps; bounds = l; pos = h.pos }))))
+    bind (result_allowed h) (λ u. Ok (head_with h ps l))))
 
 abbrev pub function_typed : Globals → Mode → Head → Stmt → Outcome NotedItem
 function_typed globals pragma h body =
@@ -60,22 +70,15 @@ items_typed globals pragma (i ∷ rest) = bind (item_typed globals pragma i) (λ
 abbrev pub globals_of : List Item → Globals
 globals_of items = record { structs = structs_of items; objects = objects_of items; functions = signatures_of items }
 
-abbrev pub start_of_text : Pos
-start_of_text = record { line = 1; col = 1 }
-
 -- E206: the static objects end too late
 abbrev pub laid_out : Structs → List NotedItem → Outcome (List StaticObject)
-laid_out structs items = unless (nat_lt LAST_END (end_of_blocks structs FIRST_END (blocks structs items))) 206 start_of_text (Ok (placed structs FIRST_END (blocks structs items)))
+laid_out structs items = unless (nat_lt LAST_END (end_of_blocks structs FIRST_END (blocks structs items))) late_statics start (Ok (placed structs FIRST_END (blocks structs items)))
 
 abbrev pub text_typed : Tree → ℕ → Outcome Typed
 text_typed tree main =
     bind (items_typed (globals_of tree.items) Unchecked tree.items) (λ items. bind (laid_out (structs_of tree.items) items) (λ statics.
     Ok (record { tree = record { items = items }; layout = structs_of tree.items; statics = statics; main = main })))
 
--- The typed text is the tree with its types, where no rule is broken. The number of `main` is given with the tree.
-abbrev pub TypedAs : Tree → ℕ → Typed → Type 0
-TypedAs tree main p = text_typed tree main ≡ Ok p
-
--- The first rule that the tree breaks, in walk order, has this code and this place.
-abbrev pub IsFirstTypeFault : Tree → ℕ → ℕ → Pos → Type 0
-IsFirstTypeFault tree main code at = text_typed tree main ≡ refused code at
+-- The number of `main` is that of the text.
+abbrev pub named_typed : NamedText → Outcome Typed
+named_typed t = text_typed t.tree t.main

@@ -68,9 +68,9 @@ called_by _ = []
 
 -- Each step below is one level, with the spots of each part in its place.
 abbrev pub limits_spots : Limits-F Name Note (List Spot) Within (List Spot) → List Spot
-limits_spots (Limits-F.Count e) = e
-limits_spots (Limits-F.ByteCount e) = e
-limits_spots (Limits-F.Between e f) = e ++ f
+limits_spots (Limits-F.Count e at) = e
+limits_spots (Limits-F.ByteCount e at) = e
+limits_spots (Limits-F.Between e f at) = e ++ f
 limits_spots (Limits-F.Unknown pos) = []
 
 abbrev pub node_spots : Node-F Name Note (List Spot) Within (List Spot) → Within
@@ -82,8 +82,8 @@ node_spots (Node-F.Un op e) = parts_only e
 node_spots (Node-F.Bin op e f) = parts_only (e ++ f)
 node_spots (Node-F.Pick e f g) = parts_only (e ++ (f ++ g))
 node_spots (Node-F.Index e f) = parts_only (e ++ f)
-node_spots (Node-F.Dot e n) = parts_only e
-node_spots (Node-F.Arrow e n) = parts_only e
+node_spots (Node-F.Dot e n at) = parts_only e
+node_spots (Node-F.Arrow e n at) = parts_only e
 node_spots (Node-F.Cast t e) = parts_only e
 node_spots (Node-F.Size t) = parts_only []
 node_spots (Node-F.Trusted t e limits) = record { parts = e ++ held limits; own = assumed ∷ [] }

@@ -95,7 +95,9 @@ fn constant_of_node<A>(
             Ok(negated(*op, c))
         }
         Node::Text(_) | Node::Null | Node::Name(_) | Node::Bin(_, _, _) => Ok(None),
-        Node::Pick(_, _, _) | Node::Index(_, _) | Node::Dot(_, _) | Node::Arrow(_, _) => Ok(None),
+        Node::Pick(_, _, _) | Node::Index(_, _) | Node::Dot(_, _, _) | Node::Arrow(_, _, _) => Ok(
+            None,
+        ),
         Node::Cast(_, _) | Node::Trusted(_, _, _) | Node::Tested(_, _, _) => Ok(None),
         Node::Call(_, _) | Node::Calloc(_, _, _) => Ok(None),
     }

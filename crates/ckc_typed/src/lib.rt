@@ -2,13 +2,15 @@
 //! its value, with the layout of its structures and its static objects.
 //!
 //! What types the parts of a text have, and what it is that a typed tree keeps the rules of checked scopes, stands in
-//! `specs/`. `types` and `constants` compute what written types and constant expressions stand for.
+//! `specs/`. `types`, `constants` and `amounts` compute what written types, constant expressions and amounts stand for.
 #![tactic(auto)]
 
+pub mod amounts;
+pub mod codes;
 pub mod constants;
 mod environment;
 mod typed;
 pub mod types;
 
-pub use environment::{Constant, Globals, Object, Signature, Variable};
+pub use environment::{Amount, Constant, Globals, Object, Signature, Variable};
 pub use typed::{Note, Range, StaticObject, Typed};

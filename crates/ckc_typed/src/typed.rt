@@ -3,7 +3,7 @@ ghost use Rattle.std.specs.Prelude.{◌≡◌};
 use ckc_base::{Bytes, Mode, Seq};
 use ckc_linear::Form;
 use ckc_syntax::{Name, Tree};
-use ckc_types::{CType, Structs};
+use ckc_types::{CType, Kind, Structs};
 
 /// Where a checked pointer may be used (Checked C specification 0.9, section 3, on bounds): nothing is known, any
 /// range will do, as for null, or from one form up to another.
@@ -43,12 +43,14 @@ impl Note {
     }
 }
 
-/// An object that lives as long as the program: its address, the type of its elements, how many there are, whether
-/// the last one stays zero, and the bytes that it begins with. A string literal is one too.
+/// An object that lives as long as the program: its address, the type of its elements, the kind of pointer that its use
+/// gives where it is an array, how many elements there are, whether the last one stays zero, and the bytes that it begins
+/// with. A string literal is one too.
 #[derive(Drop)]
 pub struct StaticObject {
     pub at: u32,
     pub element: CType,
+    pub array: Option<Kind>,
     pub count: u32,
     pub terminated: bool,
     pub initial: Bytes,

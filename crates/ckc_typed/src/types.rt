@@ -1,10 +1,11 @@
 //! Types: what a written type is, which are the types of objects, and when two are the same.
 
 ghost use Rattle.std.specs.Prelude.{◌≡◌, IfOk};
+ghost use Rattle.ckc_typed.specs.Environment.{kind_of_array};
 ghost use Rattle.ckc_typed.specs.Types.{type_written, struct_of, is_integer, is_pointer, is_void, is_unsigned, is_char, is_scalar, element_of, kind_of, integer_object, is_object_type, is_scalar_type, same_kind, same_type};
 
 use ckc_base::Boxed;
-use ckc_syntax::{Name, TypeTree};
+use ckc_syntax::{Length, Name, TypeTree};
 use ckc_types::{CType, Kind};
 use std::alloc::{AllocError, Global};
 
@@ -141,6 +142,18 @@ pub fn kind_of(t: &CType) -> Option<Kind>
     match t {
         CType::Pointer(kind, _) => Some(*kind),
         CType::Int | CType::Unsigned | CType::Char | CType::Void | CType::Struct(_) => None,
+    }
+}
+
+/// The kind of pointer that the use of an array gives.
+pub fn kind_of_array(length: Length) -> Option<Kind>
+    ensures { result ≡ kind_of_array length }
+{
+    match length {
+        Length::Plain => None,
+        Length::Raw(_, _) => Some(Kind::Raw),
+        Length::Checked(_) => Some(Kind::Arr),
+        Length::Nt(_) => Some(Kind::Nt),
     }
 }
 

@@ -34,13 +34,16 @@ impl Drop for CType {
     }
 }
 
-/// How many elements a member points to: `Fixed(c)` is `count(c)`, and `Named(m, c)` is `count(m + c)` for the
-/// member m of the same structure.
+/// How many elements a member points to: no bounds are written, `bounds(unknown)` is, `Fixed(c)` is `count(c)`,
+/// `Named(m, c)` is `count(m + c)` for the member m of the same structure, and `NoForm` is what is none of these and
+/// is refused when bounds are judged.
 #[derive(Clone, Copy, Debug, PartialEq, Eq)]
 pub enum MemberBounds {
     Nothing,
+    Unknown,
     Fixed(i64),
     Named(u32, i64),
+    NoForm,
 }
 
 /// A member: the number of its spelling, its type and its bounds.
