@@ -8,7 +8,7 @@ use Rattle.ckc_syntax.specs.declared.tree.Act.{the_lemmas}
 use Rattle.ckc_syntax.specs.declared.tree.Act.TheVariants as act
 use Rattle.ckc_typed.specs.declared.environment.Globals.{Globals}
 use Rattle.ckc_typed.specs.declared.environment.Variable.{Variable}
-use Rattle.ckc_typed.specs.Outcomes.{Outcome, bind}
+use Rattle.ckc_base.specs.Outcomes.{Outcome, bind}
 use Rattle.ckc_typed.specs.Trees.{Act, Stmt, Expr, Decl, NotedStmt, NotedExpr, NotedDecl}
 use Rattle.ckc_typed.specs.Expressions.{expr_typed, value_typed}
 use Rattle.ckc_typed.specs.Declarations.{local_typed}

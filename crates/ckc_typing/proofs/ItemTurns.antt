@@ -5,7 +5,7 @@ use Rattle.std.proofs.lemmas.List.{drop_all}
 use Rattle.ckc_base.specs.declared.arithmetic.Mode.{Mode}
 use Rattle.ckc_base.specs.declared.places.Refusal.{Refusal}
 use Rattle.ckc_typed.specs.declared.environment.Globals.{Globals}
-use Rattle.ckc_typed.specs.Outcomes.{Outcome, bind}
+use Rattle.ckc_base.specs.Outcomes.{Outcome, bind}
 use Rattle.ckc_typed.specs.Trees.{Item, NotedItem}
 use Rattle.ckc_typed.specs.Texts.{item_typed, items_typed, pragma_after}
 use Rattle.ckc_typing.proofs.Turns.{ahead}

@@ -5,4 +5,7 @@ pub mod Acts
 pub mod Scopes
 pub mod ItemTurns
 pub mod PlacingTurns
-pub mod Answer
+pub mod Coded
+pub mod CodedItems
+pub mod Placed
+pub mod Objects

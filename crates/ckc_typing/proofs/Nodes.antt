@@ -6,7 +6,7 @@ use Rattle.ckc_syntax.specs.declared.tree.Node.{the_lemmas}
 use Rattle.ckc_syntax.specs.declared.tree.Node.TheVariants as node
 use Rattle.ckc_typed.specs.declared.environment.Globals.{Globals}
 use Rattle.ckc_typed.specs.declared.environment.Variable.{Variable}
-use Rattle.ckc_typed.specs.Outcomes.{Outcome, bind}
+use Rattle.ckc_base.specs.Outcomes.{Outcome, bind}
 use Rattle.ckc_typed.specs.Trees.{TypeTree, Expr, NotedExpr}
 use Rattle.ckc_typed.specs.Types.{type_written}
 use Rattle.ckc_typed.specs.Expressions.{noted, number_type, node_typed, expr_typed, allocation_typed}

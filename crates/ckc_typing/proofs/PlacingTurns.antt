@@ -4,11 +4,12 @@ use Rattle.std.specs.Prelude.{Ok, Err}
 use Rattle.std.proofs.lemmas.List.{drop_all}
 use Rattle.std.proofs.lemmas.Bool.Decides.{nat_tests}
 use Rattle.ckc_types.specs.declared.types.Structs.{Structs}
+use Rattle.ckc_typed.specs.Codes.{late_statics}
 use Rattle.ckc_typed.specs.declared.typed.StaticObject.{StaticObject}
-use Rattle.ckc_typed.specs.Outcomes.{Outcome, unless, refused}
+use Rattle.ckc_base.specs.Outcomes.{Outcome, unless, refused}
 use Rattle.ckc_typed.specs.Constants.{size_of}
 use Rattle.ckc_typed.specs.Statics.{placed, begin_behind, end_of_block, end_of_blocks, LAST_END}
-use Rattle.ckc_typed.specs.Texts.{start_of_text}
+use Rattle.ckc_base.specs.Places.{start}
 use Rattle.ckc_typing.specs.Placing.{placed_behind}
 use Rattle.ckc_typing.proofs.Turns.{ahead}
 
@@ -29,7 +30,7 @@ ends_later structs (o ∷ os) end =
     let rest : end_of_block structs end o ≤ end_of_blocks structs (end_of_block structs end o) os = ends_later structs os (end_of_block structs end o) in
     omega arith
 
-in_front : (b : Bool) (x : StaticObject) (ps : List StaticObject) → unless b 206 start_of_text (Ok (x ∷ ps)) ≡ ahead (x ∷ []) (unless b 206 start_of_text (Ok ps))
+in_front : (b : Bool) (x : StaticObject) (ps : List StaticObject) → unless b late_statics start (Ok (x ∷ ps)) ≡ ahead (x ∷ []) (unless b late_statics start (Ok ps))
 in_front true x ps = refl
 in_front false x ps = refl
 
@@ -53,15 +54,15 @@ module _ (structs : Structs) (end : ℕ) (xs : List StaticObject) (i : ℕ) (who
       ∙ ap (λ l. ahead l (placed_behind structs (end_of_block structs end o) (drop (i + 1) xs))) (sym m)
       ∙ ap (λ k. ahead more (placed_behind structs k (drop (i + 1) xs))) (sym n)
 
-  pub placed_late : (o : StaticObject) (next : ℕ) → i < length xs → o ≡ get_or xs i o → next ≡ end_of_block structs end o → LAST_END < next → whole ≡ refused 206 start_of_text
+  pub placed_late : (o : StaticObject) (next : ℕ) → i < length xs → o ≡ get_or xs i o → next ≡ end_of_block structs end o → LAST_END < next → whole ≡ refused late_statics start
   placed_late o next h e n late =
       let last : end_of_block structs end o ≤ end_of_blocks structs (end_of_block structs end o) (drop (i + 1) xs) = ends_later structs (drop (i + 1) xs) (end_of_block structs end o) in
       let past : LAST_END < end_of_blocks structs (end_of_block structs end o) (drop (i + 1) xs) = omega arith in
       kept ∙ ap (λ l. ahead done (placed_behind structs end l)) (split o h e)
-      ∙ ap (λ b. ahead done (unless b 206 start_of_text (Ok (placed structs end (o ∷ drop (i + 1) xs))))) (is_less LAST_END (end_of_blocks structs (end_of_block structs end o) (drop (i + 1) xs)) past)
+      ∙ ap (λ b. ahead done (unless b late_statics start (Ok (placed structs end (o ∷ drop (i + 1) xs))))) (is_less LAST_END (end_of_blocks structs (end_of_block structs end o) (drop (i + 1) xs)) past)
 
   pub placed_end : length xs ≤ i → end ≤ LAST_END → whole ≡ Ok done
   placed_end h within =
       kept ∙ ap (λ l. ahead done (placed_behind structs end l)) (drop_all i xs h)
-      ∙ ap (λ b. ahead done (unless b 206 start_of_text (Ok []))) (is_no_less LAST_END end within)
+      ∙ ap (λ b. ahead done (unless b late_statics start (Ok []))) (is_no_less LAST_END end within)
       ∙ ap (λ l. Ok l) (append-nil done)

@@ -1,7 +1,7 @@
 -- Statements that are judged in one scope.
 use Rattle.std.proofs.Common.{◌≡◌, Bool, List, [], ◌∷◌, map, Ok, refl, ap}
 use Rattle.ckc_base.specs.declared.arithmetic.Mode.{Mode}
-use Rattle.ckc_typed.specs.Outcomes.{bind, in_order}
+use Rattle.ckc_base.specs.Outcomes.{bind, in_order}
 use Rattle.ckc_typed.specs.Statements.{OfStmt, all_in}
 
 pub in_scope : {X : Type 0} (f : X → OfStmt) (mode : Mode) (looped : Bool) (ss : List X) → all_in mode looped (map f ss) ≡ in_order (map (λ s. f s mode looped) ss)

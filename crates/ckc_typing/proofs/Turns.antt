@@ -3,10 +3,10 @@ use Rattle.std.proofs.Common.{◌≡◌, ◌<◌, ◌≤◌, ℕ, suc, ◌+◌, 
 use Rattle.std.specs.Prelude.{Result, Ok, Err}
 use Rattle.std.proofs.lemmas.List.{drop_all}
 use Rattle.ckc_base.specs.declared.places.Refusal.{Refusal}
-use Rattle.ckc_typing.specs.declared.fault.TypeFault.{TypeFault}
-use Rattle.ckc_typing.specs.declared.fault.TypeFault.TheVariants as fault
-use Rattle.ckc_typed.specs.Outcomes.{Outcome, bind, in_order}
-use Rattle.ckc_typing.specs.Answers.{Answers}
+use Rattle.ckc_base.specs.declared.fault.Fault.{Fault}
+use Rattle.ckc_base.specs.declared.fault.Fault.TheVariants as fault
+use Rattle.ckc_base.specs.Outcomes.{Outcome, bind, in_order}
+use Rattle.ckc_base.specs.Outcomes.{AnswersOutcome}
 
 -- what has been made, in front of what is still to be made
 abbrev pub ahead : {A : Type 0} → List A → Outcome (List A) → Outcome (List A)
@@ -23,10 +23,10 @@ begin {A} o done e = by o ∙ ap (λ d. ahead d o) (sym e)
     by (Err r) = refl
 
 -- a fault of the part that is judged now is the answer
-pub stops : {A B : Type 0} (o : Outcome A) (whole : Outcome B) (r : Result B TypeFault) (y x : TypeFault) → r ≡ Err y → y ≡ x → Answers {A = A} (Err x) o → ((f : Refusal) → o ≡ Err f → whole ≡ Err f) → Answers r whole
-stops {A} {B} o whole r y x e h a k = subst {A = Result B TypeFault} (λ z. Answers z whole) (sym (e ∙ ap (λ z. Err z) h)) (by x a)
+pub stops : {A B : Type 0} (o : Outcome A) (whole : Outcome B) (r : Result B Fault) (y x : Fault) → r ≡ Err y → y ≡ x → AnswersOutcome {A = A} (Err x) o → ((f : Refusal) → o ≡ Err f → whole ≡ Err f) → AnswersOutcome r whole
+stops {A} {B} o whole r y x e h a k = subst {A = Result B Fault} (λ z. AnswersOutcome z whole) (sym (e ∙ ap (λ z. Err z) h)) (by x a)
   where
-    by : (x : TypeFault) → Answers {A = A} (Err x) o → Answers {A = B} (Err x) whole
+    by : (x : Fault) → AnswersOutcome {A = A} (Err x) o → AnswersOutcome {A = B} (Err x) whole
     by (fault.Refused f) a = k f a
     by fault.Memory a = tt
 

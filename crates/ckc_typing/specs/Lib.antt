@@ -1,3 +1,3 @@
-pub mod Answers
+pub mod Objects
+pub mod Phase
 pub mod Placing
-pub mod Verdicts

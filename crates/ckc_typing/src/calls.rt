@@ -2,26 +2,26 @@
 
 ghost use Rattle.std.specs.Prelude.{◌≡◌, length};
 ghost use Rattle.ckc_typed.specs.Expressions.{arguments_typed, result_typed, call_typed};
-ghost use Rattle.ckc_typing.specs.Answers.{Answers};
+ghost use Rattle.ckc_base.specs.Outcomes.{AnswersOutcome};
 
-use crate::fault::{TypeFault, refused};
-use ckc_base::Pos;
+use ckc_base::{Fault, Pos, refused};
 use ckc_rules::conversions::converts;
 use ckc_rules::lookups::signature_named;
 use ckc_syntax::{Expr, Name};
+use ckc_typed::codes::{BAD_CALL, BAD_CONVERSION};
 use ckc_typed::types::copied;
 use ckc_typed::{Globals, Note, Signature};
 use ckc_types::CType;
 use std::alloc::Global;
 
 /// Judges that each argument converts to the type of its parameter.
-fn arguments_fit(params: &[CType], args: &[Expr<Name, Note>]) -> Result<(), TypeFault>
+fn arguments_fit(params: &[CType], args: &[Expr<Name, Note>]) -> Result<(), Fault>
     requires { length args.now ≡ length params.now }
-    ensures { Answers result (arguments_typed params.now args.now) }
+    ensures { AnswersOutcome result (arguments_typed params.now args.now) }
 {
     for (i, arg) in args.iter().enumerate() {
         if !converts(&params[i], arg) {
-            return Err(refused(402, arg.pos));
+            return Err(refused(BAD_CONVERSION, arg.pos));
         }
     }
     Ok(())
@@ -32,11 +32,11 @@ fn result_typed(
     s: &Signature,
     args: &[Expr<Name, Note>],
     pos: Pos,
-) -> Result<CType, TypeFault>
-    ensures { Answers result (result_typed s.now args.now pos) }
+) -> Result<CType, Fault>
+    ensures { AnswersOutcome result (result_typed s.now args.now pos) }
 {
     if args.len() != s.params.len() {
-        return Err(refused(404, pos));
+        return Err(refused(BAD_CALL, pos));
     }
     arguments_fit(s.params.as_slice(), args)?;
     let t = copied(alloc, &s.result)?;
@@ -50,11 +50,11 @@ pub fn call_typed(
     n: Name,
     args: &[Expr<Name, Note>],
     pos: Pos,
-) -> Result<CType, TypeFault>
-    ensures { Answers result (call_typed globals.now n args.now pos) }
+) -> Result<CType, Fault>
+    ensures { AnswersOutcome result (call_typed globals.now n args.now pos) }
 {
     match signature_named(globals, n) {
-        None => Err(refused(404, pos)),
+        None => Err(refused(BAD_CALL, pos)),
         Some(s) => result_typed(alloc, s, args, pos),
     }
 }

@@ -1,16 +1,16 @@
 //! Declarations with their bounds and initialisers noted.
 
 ghost use Rattle.std.specs.Prelude.{◌≡◌, IfOk};
-ghost use Rattle.ckc_typed.specs.Declarations.{init_typed, decl_with, parts_typed, judged, is_nothing, bare_fault, is_checked_kind, start_fault, local_fault, static_fault, bare_typed, bares_typed, local_typed, static_typed};
-ghost use Rattle.ckc_typing.specs.Answers.{Answers};
+ghost use Rattle.ckc_typed.specs.Declarations.{init_typed, decl_with, parts_typed, judged, is_nothing, type_allowed, is_scalar_declared, is_element_declared, bare_fault, is_checked_kind, start_fault, local_fault, static_fault, bare_typed, bares_typed, local_typed, static_typed};
+ghost use Rattle.ckc_base.specs.Outcomes.{AnswersOutcome};
 
 use crate::expressions::{boxed_expr, typed_bounds, typed_exprs};
-use crate::fault::{TypeFault, refused};
-use ckc_base::{Boxed, Mode, Seq};
+use ckc_base::{Boxed, Fault, Mode, Seq, refused};
 use ckc_rules::conversions::converts;
 use ckc_rules::copies::copied_type;
 use ckc_statics::initials::{count_fits, is_element_for, is_plain};
 use ckc_syntax::{Decl, Init, Limits, Name};
+use ckc_typed::codes::{BAD_CONVERSION, BAD_OPERANDS, NO_INITIALISER};
 use ckc_typed::types::{is_scalar_type, kind_of, type_written};
 use ckc_typed::{Globals, Note, Variable};
 use ckc_types::{CType, Kind, Structs};
@@ -22,8 +22,8 @@ fn typed_init(
     variables: &[Variable],
     mode: Mode,
     init: &Init<Name, ()>,
-) -> Result<Init<Name, Note>, TypeFault>
-    ensures { Answers result (init_typed globals.now variables.now mode init.now) }
+) -> Result<Init<Name, Note>, Fault>
+    ensures { AnswersOutcome result (init_typed globals.now variables.now mode init.now) }
 {
     match init {
         Init::Nothing => Ok(Init::Nothing),
@@ -63,8 +63,8 @@ fn typed_parts(
     variables: &[Variable],
     mode: Mode,
     d: &Decl<Name, ()>,
-) -> Result<Decl<Name, Note>, TypeFault>
-    ensures { Answers result (parts_typed globals.now variables.now mode d.now) }
+) -> Result<Decl<Name, Note>, Fault>
+    ensures { AnswersOutcome result (parts_typed globals.now variables.now mode d.now) }
 {
     let bounds = typed_bounds(alloc, globals, variables, mode, &d.bounds)?;
     let init = typed_init(alloc, globals, variables, mode, &d.init)?;
@@ -73,8 +73,8 @@ fn typed_parts(
 }
 
 /// The declaration, or its refusal at the declared name.
-fn judged(fault: Option<u16>, d: Decl<Name, Note>) -> Result<Decl<Name, Note>, TypeFault>
-    ensures { Answers result (judged fault d) }
+fn judged(fault: Option<u16>, d: Decl<Name, Note>) -> Result<Decl<Name, Note>, Fault>
+    ensures { AnswersOutcome result (judged fault d) }
 {
     match fault {
         None => Ok(d),
@@ -91,14 +91,13 @@ fn is_nothing(init: &Init<Name, Note>) -> bool
     }
 }
 
-fn bare_fault(alloc: Global, d: &Decl<Name, Note>) -> Result<Option<u16>, AllocError>
-    ensures { IfOk result (λ f. f ≡ bare_fault d.now) }
+fn bare_fault(d: &Decl<Name, Note>) -> Option<u16>
+    ensures { result ≡ bare_fault d.now }
 {
-    let t = type_written(alloc, &d.ctype)?;
-    if is_scalar_type(&t) && is_plain(d.length) && is_nothing(&d.init) {
-        Ok(None)
+    if is_plain(d.length) && is_nothing(&d.init) {
+        None
     } else {
-        Ok(Some(401))
+        Some(BAD_OPERANDS)
     }
 }
 
@@ -117,7 +116,7 @@ fn start_fault(t: &CType, init: &Init<Name, Note>) -> Option<u16>
     match init {
         Init::Nothing => {
             if is_checked_kind(kind_of(t)) {
-                Some(407)
+                Some(NO_INITIALISER)
             } else {
                 None
             }
@@ -126,10 +125,10 @@ fn start_fault(t: &CType, init: &Init<Name, Note>) -> Option<u16>
             if converts(t, e.get()) {
                 None
             } else {
-                Some(402)
+                Some(BAD_CONVERSION)
             }
         }
-        Init::Many(_) => Some(401),
+        Init::Many(_) => Some(BAD_OPERANDS),
     }
 }
 
@@ -137,10 +136,10 @@ fn local_fault(alloc: Global, d: &Decl<Name, Note>) -> Result<Option<u16>, Alloc
     ensures { IfOk result (λ f. f ≡ local_fault d.now) }
 {
     let t = type_written(alloc, &d.ctype)?;
-    if is_scalar_type(&t) && is_plain(d.length) {
+    if is_plain(d.length) {
         Ok(start_fault(&t, &d.init))
     } else {
-        Ok(Some(401))
+        Ok(Some(BAD_OPERANDS))
     }
 }
 
@@ -152,11 +151,34 @@ fn static_fault(
     ensures { IfOk result (λ f. f ≡ static_fault structs.now d.now) }
 {
     let t = type_written(alloc, &d.ctype)?;
-    if !is_element_for(d.length, &t) {
-        return Ok(Some(401));
-    }
     let fits = count_fits(alloc, structs, &t, d)?;
-    if fits { Ok(None) } else { Ok(Some(401)) }
+    if fits {
+        Ok(None)
+    } else {
+        Ok(Some(BAD_OPERANDS))
+    }
+}
+
+/// Judges that a declared type is that of a scalar.
+fn scalar_declared(alloc: Global, d: &Decl<Name, ()>) -> Result<(), Fault>
+    ensures { AnswersOutcome result (type_allowed (is_scalar_declared d.now) d.now) }
+{
+    let t = type_written(alloc, &d.ctype)?;
+    if !is_scalar_type(&t) {
+        return Err(refused(BAD_OPERANDS, d.pos));
+    }
+    Ok(())
+}
+
+/// Judges that a declared type is that of the elements of an object of file scope.
+fn element_declared(alloc: Global, d: &Decl<Name, ()>) -> Result<(), Fault>
+    ensures { AnswersOutcome result (type_allowed (is_element_declared d.now) d.now) }
+{
+    let t = type_written(alloc, &d.ctype)?;
+    if !is_element_for(d.length, &t) {
+        return Err(refused(BAD_OPERANDS, d.pos));
+    }
+    Ok(())
 }
 
 /// A parameter or a member.
@@ -166,12 +188,12 @@ fn typed_bare(
     variables: &[Variable],
     mode: Mode,
     d: &Decl<Name, ()>,
-) -> Result<Decl<Name, Note>, TypeFault>
-    ensures { Answers result (bare_typed globals.now variables.now mode d.now) }
+) -> Result<Decl<Name, Note>, Fault>
+    ensures { AnswersOutcome result (bare_typed globals.now variables.now mode d.now) }
 {
+    scalar_declared(alloc, d)?;
     let typed = typed_parts(alloc, globals, variables, mode, d)?;
-    let fault = bare_fault(alloc, &typed)?;
-    judged(fault, typed)
+    judged(bare_fault(&typed), typed)
 }
 
 /// Parameters or members, from the first to the last.
@@ -181,8 +203,8 @@ pub fn typed_bares(
     variables: &[Variable],
     mode: Mode,
     ds: &[Decl<Name, ()>],
-) -> Result<Seq<Decl<Name, Note>>, TypeFault>
-    ensures { Answers result (bares_typed globals.now variables.now mode ds.now) }
+) -> Result<Seq<Decl<Name, Note>>, Fault>
+    ensures { AnswersOutcome result (bares_typed globals.now variables.now mode ds.now) }
 {
     let mut all = Seq::new(alloc);
     for d in ds {
@@ -199,9 +221,10 @@ pub fn typed_local(
     variables: &[Variable],
     mode: Mode,
     d: &Decl<Name, ()>,
-) -> Result<Decl<Name, Note>, TypeFault>
-    ensures { Answers result (local_typed globals.now variables.now mode d.now) }
+) -> Result<Decl<Name, Note>, Fault>
+    ensures { AnswersOutcome result (local_typed globals.now variables.now mode d.now) }
 {
+    scalar_declared(alloc, d)?;
     let typed = typed_parts(alloc, globals, variables, mode, d)?;
     let fault = local_fault(alloc, &typed)?;
     judged(fault, typed)
@@ -213,9 +236,10 @@ pub fn typed_static(
     globals: &Globals,
     mode: Mode,
     d: &Decl<Name, ()>,
-) -> Result<Decl<Name, Note>, TypeFault>
-    ensures { Answers result (static_typed globals.now mode d.now) }
+) -> Result<Decl<Name, Note>, Fault>
+    ensures { AnswersOutcome result (static_typed globals.now mode d.now) }
 {
+    element_declared(alloc, d)?;
     let typed = typed_parts(alloc, globals, &[], mode, d)?;
     let fault = static_fault(alloc, &globals.structs, &typed)?;
     judged(fault, typed)

@@ -2,11 +2,10 @@
 //! to right, and then itself.
 
 ghost use Rattle.ckc_typed.specs.Expressions.{limits_typed, node_typed, expr_typed, exprs_typed, bounds_typed, value_typed};
-ghost use Rattle.ckc_typing.specs.Answers.{Answers};
+ghost use Rattle.ckc_base.specs.Outcomes.{AnswersOutcome};
 
-use crate::fault::TypeFault;
 use crate::makers;
-use ckc_base::{Boxed, Mode, Pos, Seq};
+use ckc_base::{Boxed, Fault, Mode, Pos, Seq};
 use ckc_syntax::{Expr, Limits, Name, Node};
 use ckc_typed::{Globals, Note, Variable};
 use std::alloc::Global;
@@ -18,22 +17,22 @@ fn typed_limits(
     variables: &[Variable],
     mode: Mode,
     limits: &Limits<Name, ()>,
-) -> Result<Limits<Name, Note>, TypeFault>
-    ensures { Answers result (limits_typed globals.now variables.now mode limits.now) }
+) -> Result<Limits<Name, Note>, Fault>
+    ensures { AnswersOutcome result (limits_typed globals.now variables.now mode limits.now) }
 {
     match limits {
-        Limits::Count(e) => {
+        Limits::Count(e, at) => {
             let amount = boxed_expr(alloc, globals, variables, mode, e.get())?;
-            Ok(Limits::Count(amount))
+            Ok(Limits::Count(amount, *at))
         }
-        Limits::ByteCount(e) => {
+        Limits::ByteCount(e, at) => {
             let amount = boxed_expr(alloc, globals, variables, mode, e.get())?;
-            Ok(Limits::ByteCount(amount))
+            Ok(Limits::ByteCount(amount, *at))
         }
-        Limits::Between(e, f) => {
+        Limits::Between(e, f, at) => {
             let low = boxed_expr(alloc, globals, variables, mode, e.get())?;
             let high = boxed_expr(alloc, globals, variables, mode, f.get())?;
-            Ok(Limits::Between(low, high))
+            Ok(Limits::Between(low, high, *at))
         }
         Limits::Unknown(pos) => Ok(Limits::Unknown(*pos)),
     }
@@ -47,8 +46,8 @@ fn typed_node(
     mode: Mode,
     node: &Node<Name, ()>,
     pos: Pos,
-) -> Result<Expr<Name, Note>, TypeFault>
-    ensures { Answers result (node_typed globals.now variables.now mode node.now pos) }
+) -> Result<Expr<Name, Note>, Fault>
+    ensures { AnswersOutcome result (node_typed globals.now variables.now mode node.now pos) }
 {
     match node {
         Node::Number(n, unsigned) => Ok(makers::number(mode, pos, *n, *unsigned)),
@@ -75,13 +74,13 @@ fn typed_node(
             let f = boxed_expr(alloc, globals, variables, mode, f.get())?;
             makers::index(alloc, mode, pos, e, f)
         }
-        Node::Dot(e, n) => {
+        Node::Dot(e, n, at) => {
             let e = boxed_expr(alloc, globals, variables, mode, e.get())?;
-            makers::dot(alloc, globals, mode, pos, e, *n)
+            makers::dot(alloc, globals, mode, pos, e, *n, *at)
         }
-        Node::Arrow(e, n) => {
+        Node::Arrow(e, n, at) => {
             let e = boxed_expr(alloc, globals, variables, mode, e.get())?;
-            makers::arrow(alloc, globals, mode, pos, e, *n)
+            makers::arrow(alloc, globals, mode, pos, e, *n, *at)
         }
         Node::Cast(w, e) => {
             let e = boxed_expr(alloc, globals, variables, mode, e.get())?;
@@ -117,8 +116,8 @@ pub fn typed_expr(
     variables: &[Variable],
     mode: Mode,
     e: &Expr<Name, ()>,
-) -> Result<Expr<Name, Note>, TypeFault>
-    ensures { Answers result (expr_typed globals.now variables.now mode e.now) }
+) -> Result<Expr<Name, Note>, Fault>
+    ensures { AnswersOutcome result (expr_typed globals.now variables.now mode e.now) }
 {
     typed_node(alloc, globals, variables, mode, &e.node, e.pos)
 }
@@ -131,8 +130,8 @@ pub fn boxed_expr(
     variables: &[Variable],
     mode: Mode,
     e: &Expr<Name, ()>,
-) -> Result<Boxed<Expr<Name, Note>>, TypeFault>
-    ensures { Answers result (expr_typed globals.now variables.now mode e.now) }
+) -> Result<Boxed<Expr<Name, Note>>, Fault>
+    ensures { AnswersOutcome result (expr_typed globals.now variables.now mode e.now) }
 {
     let typed = typed_expr(alloc, globals, variables, mode, e)?;
     let boxed = Boxed::new(alloc, typed)?;
@@ -147,8 +146,8 @@ pub fn typed_exprs(
     variables: &[Variable],
     mode: Mode,
     es: &[Expr<Name, ()>],
-) -> Result<Seq<Expr<Name, Note>>, TypeFault>
-    ensures { Answers result (exprs_typed globals.now variables.now mode es.now) }
+) -> Result<Seq<Expr<Name, Note>>, Fault>
+    ensures { AnswersOutcome result (exprs_typed globals.now variables.now mode es.now) }
 {
     let mut all = Seq::new(alloc);
     for e in es {
@@ -166,8 +165,8 @@ pub fn typed_bounds(
     variables: &[Variable],
     mode: Mode,
     bounds: &Option<Boxed<Limits<Name, ()>>>,
-) -> Result<Option<Boxed<Limits<Name, Note>>>, TypeFault>
-    ensures { Answers result (bounds_typed globals.now variables.now mode bounds.now) }
+) -> Result<Option<Boxed<Limits<Name, Note>>>, Fault>
+    ensures { AnswersOutcome result (bounds_typed globals.now variables.now mode bounds.now) }
 {
     match bounds {
         None => Ok(None),
@@ -186,8 +185,8 @@ pub fn typed_value(
     variables: &[Variable],
     mode: Mode,
     value: &Option<Boxed<Expr<Name, ()>>>,
-) -> Result<Option<Boxed<Expr<Name, Note>>>, TypeFault>
-    ensures { Answers result (value_typed globals.now variables.now mode value.now) }
+) -> Result<Option<Boxed<Expr<Name, Note>>>, Fault>
+    ensures { AnswersOutcome result (value_typed globals.now variables.now mode value.now) }
 {
     match value {
         None => Ok(None),

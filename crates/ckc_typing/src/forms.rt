@@ -2,16 +2,16 @@
 
 ghost use Rattle.std.specs.Prelude.{◌≡◌, Ok};
 ghost use Rattle.ckc_syntax.specs.declared.tree.Act.TheVariants as act;
-ghost use Rattle.ckc_typed.specs.Outcomes.{bind};
+ghost use Rattle.ckc_base.specs.Outcomes.{bind};
 ghost use Rattle.ckc_typed.specs.Statements.{stated, target_fits, scalar_fits, scalar_there_fits, result_fits, loop_fits};
-ghost use Rattle.ckc_typing.specs.Answers.{Answers};
+ghost use Rattle.ckc_base.specs.Outcomes.{AnswersOutcome};
 
-use crate::fault::{TypeFault, refused};
-use ckc_base::{Boxed, Mode, Pos};
+use ckc_base::{Boxed, Fault, Mode, Pos, refused};
 use ckc_rules::conversions::converts;
 use ckc_rules::notes::stated;
 use ckc_rules::targets::{is_result, is_target};
 use ckc_syntax::{Act, Expr, Name, Stmt};
+use ckc_typed::codes::{BAD_CONVERSION, BAD_OPERANDS, BAD_TARGET, NO_LOOP};
 use ckc_typed::types::{is_scalar, is_void};
 use ckc_typed::{Globals, Note, Variable};
 use ckc_types::CType;
@@ -22,14 +22,14 @@ fn target_fits(
     pos: Pos,
     e: &Expr<Name, Note>,
     f: &Expr<Name, Note>,
-) -> Result<(), TypeFault>
-    ensures { Answers result (target_fits globals.now variables.now pos e.now f.now) }
+) -> Result<(), Fault>
+    ensures { AnswersOutcome result (target_fits globals.now variables.now pos e.now f.now) }
 {
-    if !is_target(globals, variables, e, f) {
-        return Err(refused(403, pos));
-    }
     if !converts(&e.note.ctype, f) {
-        return Err(refused(402, pos));
+        return Err(refused(BAD_CONVERSION, pos));
+    }
+    if !is_target(globals, variables, e, f) {
+        return Err(refused(BAD_TARGET, pos));
     }
     Ok(())
 }
@@ -42,24 +42,24 @@ pub fn assignment(
     pos: Pos,
     e: Boxed<Expr<Name, Note>>,
     f: Boxed<Expr<Name, Note>>,
-) -> Result<Stmt<Name, Note>, TypeFault>
-    ensures { Answers result (bind (target_fits globals.now variables.now pos e f) (λ u. Ok (stated mode pos (act.Assign e f)))) }
+) -> Result<Stmt<Name, Note>, Fault>
+    ensures { AnswersOutcome result (bind (target_fits globals.now variables.now pos e f) (λ u. Ok (stated mode pos (act.Assign e f)))) }
 {
     target_fits(globals, variables, pos, e.get(), f.get())?;
     Ok(stated(mode, pos, Act::Assign(e, f)))
 }
 
 /// Judges that a condition is a scalar.
-fn scalar_fits(pos: Pos, e: &Expr<Name, Note>) -> Result<(), TypeFault>
-    ensures { Answers result (scalar_fits pos e.now) }
+fn scalar_fits(pos: Pos, e: &Expr<Name, Note>) -> Result<(), Fault>
+    ensures { AnswersOutcome result (scalar_fits pos e.now) }
 {
     if is_scalar(&e.note.ctype) {
         return Ok(());
     }
     if is_void(&e.note.ctype) {
-        return Err(refused(402, pos));
+        return Err(refused(BAD_CONVERSION, pos));
     }
-    Err(refused(401, pos))
+    Err(refused(BAD_OPERANDS, pos))
 }
 
 /// An `if`.
@@ -69,8 +69,8 @@ pub fn branches(
     e: Boxed<Expr<Name, Note>>,
     s: Boxed<Stmt<Name, Note>>,
     other: Option<Boxed<Stmt<Name, Note>>>,
-) -> Result<Stmt<Name, Note>, TypeFault>
-    ensures { Answers result (bind (scalar_fits pos e) (λ u. Ok (stated mode pos (act.If e s other)))) }
+) -> Result<Stmt<Name, Note>, Fault>
+    ensures { AnswersOutcome result (bind (scalar_fits pos e) (λ u. Ok (stated mode pos (act.If e s other)))) }
 {
     scalar_fits(pos, e.get())?;
     Ok(stated(mode, pos, Act::If(e, s, other)))
@@ -82,28 +82,24 @@ pub fn repetition(
     pos: Pos,
     e: Boxed<Expr<Name, Note>>,
     body: Boxed<Stmt<Name, Note>>,
-) -> Result<Stmt<Name, Note>, TypeFault>
-    ensures { Answers result (bind (scalar_fits pos e) (λ u. Ok (stated mode pos (act.While e body)))) }
+) -> Result<Stmt<Name, Note>, Fault>
+    ensures { AnswersOutcome result (bind (scalar_fits pos e) (λ u. Ok (stated mode pos (act.While e body)))) }
 {
     scalar_fits(pos, e.get())?;
     Ok(stated(mode, pos, Act::While(e, body)))
 }
 
 /// A `_Dynamic_check`.
-pub fn check(
-    mode: Mode,
-    pos: Pos,
-    e: Boxed<Expr<Name, Note>>,
-) -> Result<Stmt<Name, Note>, TypeFault>
-    ensures { Answers result (bind (scalar_fits pos e) (λ u. Ok (stated mode pos (act.Check e)))) }
+pub fn check(mode: Mode, pos: Pos, e: Boxed<Expr<Name, Note>>) -> Result<Stmt<Name, Note>, Fault>
+    ensures { AnswersOutcome result (bind (scalar_fits pos e) (λ u. Ok (stated mode pos (act.Check e)))) }
 {
     scalar_fits(pos, e.get())?;
     Ok(stated(mode, pos, Act::Check(e)))
 }
 
 /// Judges that a condition is a scalar, where there is one.
-fn scalar_there_fits(pos: Pos, e: &Option<Boxed<Expr<Name, Note>>>) -> Result<(), TypeFault>
-    ensures { Answers result (scalar_there_fits pos e.now) }
+fn scalar_there_fits(pos: Pos, e: &Option<Boxed<Expr<Name, Note>>>) -> Result<(), Fault>
+    ensures { AnswersOutcome result (scalar_there_fits pos e.now) }
 {
     match e {
         None => Ok(()),
@@ -119,8 +115,8 @@ pub fn counting(
     e: Option<Boxed<Expr<Name, Note>>>,
     step: Option<Boxed<Stmt<Name, Note>>>,
     body: Boxed<Stmt<Name, Note>>,
-) -> Result<Stmt<Name, Note>, TypeFault>
-    ensures { Answers result (bind (scalar_there_fits pos e) (λ u. Ok (stated mode pos (act.For start e step body)))) }
+) -> Result<Stmt<Name, Note>, Fault>
+    ensures { AnswersOutcome result (bind (scalar_there_fits pos e) (λ u. Ok (stated mode pos (act.For start e step body)))) }
 {
     scalar_there_fits(pos, &e)?;
     Ok(stated(mode, pos, Act::For(start, e, step, body)))
@@ -131,11 +127,11 @@ fn result_fits(
     result_type: &CType,
     pos: Pos,
     e: &Option<Boxed<Expr<Name, Note>>>,
-) -> Result<(), TypeFault>
-    ensures { Answers result (result_fits result_type.now pos e.now) }
+) -> Result<(), Fault>
+    ensures { AnswersOutcome result (result_fits result_type.now pos e.now) }
 {
     if !is_result(result_type, e) {
-        return Err(refused(402, pos));
+        return Err(refused(BAD_CONVERSION, pos));
     }
     Ok(())
 }
@@ -146,20 +142,20 @@ pub fn returned(
     mode: Mode,
     pos: Pos,
     e: Option<Boxed<Expr<Name, Note>>>,
-) -> Result<Stmt<Name, Note>, TypeFault>
-    ensures { Answers result (bind (result_fits result_type.now pos e) (λ u. Ok (stated mode pos (act.Return e)))) }
+) -> Result<Stmt<Name, Note>, Fault>
+    ensures { AnswersOutcome result (bind (result_fits result_type.now pos e) (λ u. Ok (stated mode pos (act.Return e)))) }
 {
     result_fits(result_type, pos, &e)?;
     Ok(stated(mode, pos, Act::Return(e)))
 }
 
 /// Judges that a `break` or a `continue` stands in a loop.
-pub fn in_loop(looped: bool, pos: Pos) -> Result<(), TypeFault>
-    ensures { Answers result (loop_fits looped pos) }
+pub fn in_loop(looped: bool, pos: Pos) -> Result<(), Fault>
+    ensures { AnswersOutcome result (loop_fits looped pos) }
 {
     if looped {
         Ok(())
     } else {
-        Err(refused(406, pos))
+        Err(refused(NO_LOOP, pos))
     }
 }

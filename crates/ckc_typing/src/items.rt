@@ -1,35 +1,39 @@
 //! The items of a text with their types.
 
-ghost use Rattle.std.specs.Prelude.{◌≡◌, IfOk, Ok, map, not};
+ghost use Rattle.std.specs.Prelude.{◌≡◌, IfOk, Ok, map};
 ghost use Rattle.ckc_base.specs.declared.arithmetic.Mode.TheVariants as mode;
 ghost use Rattle.ckc_syntax.specs.declared.tree.Item.TheVariants as item;
-ghost use Rattle.ckc_typed.specs.Outcomes.{bind, unless};
+ghost use Rattle.ckc_base.specs.Outcomes.{bind};
 ghost use Rattle.ckc_typed.specs.Types.{type_written};
 ghost use Rattle.ckc_typed.specs.Environment.{variable_declared, variables_of};
 ghost use Rattle.ckc_typed.specs.Declarations.{bares_typed, static_typed};
-ghost use Rattle.ckc_typed.specs.Texts.{is_result_type, head_mode, head_typed, function_typed, item_typed, items_typed, globals_of};
-ghost use Rattle.ckc_typing.specs.Answers.{Answers};
+ghost use Rattle.ckc_typed.specs.Texts.{result_allowed, head_with, head_mode, head_typed, function_typed, item_typed, items_typed, globals_of};
+ghost use Rattle.ckc_base.specs.Outcomes.{AnswersOutcome};
 
 use crate::declarations::{typed_bares, typed_static};
 use crate::expressions::typed_bounds;
-use crate::fault::{TypeFault, refused};
 use crate::statements::{Frame, boxed_stmt};
-use ckc_base::{Boxed, Mode, Seq};
+use ckc_base::{Boxed, Fault, Mode, Seq, refused};
 use ckc_rules::copies::copied_type;
 use ckc_rules::environment::{objects_of, signatures_of, variables_declared};
 use ckc_rules::locals::variables_of;
 use ckc_rules::notes::{head_mode, pragma_after};
 use ckc_statics::layouts::structs_of;
 use ckc_syntax::{Decl, Head, Item, Limits, Name, Stmt};
+use ckc_typed::codes::BAD_OPERANDS;
 use ckc_typed::types::{is_scalar_type, is_void, type_written};
 use ckc_typed::{Globals, Note};
 use std::alloc::{AllocError, Global};
 
-fn has_result_type(alloc: Global, h: &Head<Name, ()>) -> Result<bool, AllocError>
-    ensures { IfOk result (λ b. b ≡ is_result_type (type_written h.now.result)) }
+/// Judges that a function may give a result of its type.
+fn result_allowed(alloc: Global, h: &Head<Name, ()>) -> Result<(), Fault>
+    ensures { AnswersOutcome result (result_allowed h.now) }
 {
     let t = type_written(alloc, &h.result)?;
-    Ok(is_void(&t) || is_scalar_type(&t))
+    if !is_void(&t) && !is_scalar_type(&t) {
+        return Err(refused(BAD_OPERANDS, h.pos));
+    }
+    Ok(())
 }
 
 fn head_with(
@@ -37,13 +41,9 @@ fn head_with(
     h: &Head<Name, ()>,
     params: Seq<Decl<Name, Note>>,
     bounds: Option<Boxed<Limits<Name, Note>>>,
-) -> Result<Head<Name, Note>, TypeFault>
-    ensures { Answers result (unless (not (is_result_type (type_written h.now.result))) 401 h.now.pos (Ok (record { mode = h.now.mode; result = h.now.result; name = h.now.name; params = params; bounds = bounds; pos = h.now.pos }))) }
+) -> Result<Head<Name, Note>, AllocError>
+    ensures { IfOk result (λ n. n ≡ head_with h.now params bounds) }
 {
-    let fits = has_result_type(alloc, h)?;
-    if !fits {
-        return Err(refused(401, h.pos));
-    }
     let copy = copied_type(alloc, &h.result)?;
     Ok(Head {
         mode: h.mode,
@@ -55,19 +55,33 @@ fn head_with(
     })
 }
 
+/// The head, where a function may give a result of its type.
+fn made_head(
+    alloc: Global,
+    h: &Head<Name, ()>,
+    params: Seq<Decl<Name, Note>>,
+    bounds: Option<Boxed<Limits<Name, Note>>>,
+) -> Result<Head<Name, Note>, Fault>
+    ensures { AnswersOutcome result (bind (result_allowed h.now) (λ u. Ok (head_with h.now params bounds))) }
+{
+    result_allowed(alloc, h)?;
+    let made = head_with(alloc, h, params, bounds)?;
+    Ok(made)
+}
+
 fn typed_head(
     alloc: Global,
     globals: &Globals,
     pragma: Mode,
     h: &Head<Name, ()>,
-) -> Result<Head<Name, Note>, TypeFault>
-    ensures { Answers result (head_typed globals.now pragma h.now) }
+) -> Result<Head<Name, Note>, Fault>
+    ensures { AnswersOutcome result (head_typed globals.now pragma h.now) }
 {
     let mode = head_mode(pragma, h);
     let seen = variables_declared(alloc, h.params.as_slice())?;
     let params = typed_bares(alloc, globals, seen.as_slice(), mode, h.params.as_slice())?;
     let bounds = typed_bounds(alloc, globals, seen.as_slice(), mode, &h.bounds)?;
-    head_with(alloc, h, params, bounds)
+    made_head(alloc, h, params, bounds)
 }
 
 fn typed_function(
@@ -76,8 +90,8 @@ fn typed_function(
     pragma: Mode,
     h: &Head<Name, ()>,
     body: &Stmt<Name, ()>,
-) -> Result<Item<Name, Note>, TypeFault>
-    ensures { Answers result (function_typed globals.now pragma h.now body.now) }
+) -> Result<Item<Name, Note>, Fault>
+    ensures { AnswersOutcome result (function_typed globals.now pragma h.now body.now) }
 {
     let head = boxed_head(alloc, globals, pragma, h)?;
     let frame = frame_of(alloc, h, body)?;
@@ -90,8 +104,8 @@ fn boxed_head(
     globals: &Globals,
     pragma: Mode,
     h: &Head<Name, ()>,
-) -> Result<Boxed<Head<Name, Note>>, TypeFault>
-    ensures { Answers result (head_typed globals.now pragma h.now) }
+) -> Result<Boxed<Head<Name, Note>>, Fault>
+    ensures { AnswersOutcome result (head_typed globals.now pragma h.now) }
 {
     let typed = typed_head(alloc, globals, pragma, h)?;
     let boxed = Boxed::new(alloc, typed)?;
@@ -112,8 +126,8 @@ fn typed_struct(
     globals: &Globals,
     pragma: Mode,
     members: &[Decl<Name, ()>],
-) -> Result<Seq<Decl<Name, Note>>, TypeFault>
-    ensures { Answers result (bares_typed globals.now (map variable_declared members.now) pragma members.now) }
+) -> Result<Seq<Decl<Name, Note>>, Fault>
+    ensures { AnswersOutcome result (bares_typed globals.now (map variable_declared members.now) pragma members.now) }
 {
     let seen = variables_declared(alloc, members)?;
     typed_bares(alloc, globals, seen.as_slice(), pragma, members)
@@ -124,8 +138,8 @@ fn typed_object(
     globals: &Globals,
     pragma: Mode,
     d: &Decl<Name, ()>,
-) -> Result<Item<Name, Note>, TypeFault>
-    ensures { Answers result (bind (static_typed globals.now pragma d.now) (λ n. Ok (item.Static n))) }
+) -> Result<Item<Name, Note>, Fault>
+    ensures { AnswersOutcome result (bind (static_typed globals.now pragma d.now) (λ n. Ok (item.Static n))) }
 {
     let typed = typed_static(alloc, globals, pragma, d)?;
     let boxed = Boxed::new(alloc, typed)?;
@@ -137,8 +151,8 @@ fn typed_item(
     globals: &Globals,
     pragma: Mode,
     item: &Item<Name, ()>,
-) -> Result<Item<Name, Note>, TypeFault>
-    ensures { Answers result (item_typed globals.now pragma item.now) }
+) -> Result<Item<Name, Note>, Fault>
+    ensures { AnswersOutcome result (item_typed globals.now pragma item.now) }
 {
     match item {
         Item::Directive(d) => Ok(Item::Directive(*d)),
@@ -161,8 +175,8 @@ pub fn typed_items(
     alloc: Global,
     globals: &Globals,
     items: &[Item<Name, ()>],
-) -> Result<Seq<Item<Name, Note>>, TypeFault>
-    ensures { Answers result (items_typed globals.now mode.Unchecked items.now) }
+) -> Result<Seq<Item<Name, Note>>, Fault>
+    ensures { AnswersOutcome result (items_typed globals.now mode.Unchecked items.now) }
 {
     let mut all = Seq::new(alloc);
     let mut pragma = Mode::Unchecked;

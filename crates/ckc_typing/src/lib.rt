@@ -5,7 +5,6 @@
 mod calls;
 mod declarations;
 mod expressions;
-mod fault;
 mod forms;
 mod items;
 mod laws;
@@ -15,6 +14,5 @@ mod rules;
 mod statements;
 mod text;
 
-pub use fault::TypeFault;
-pub use laws::one_answer;
+pub use laws::{codes, is_exact, statics_are_named, statics_lie_apart};
 pub use text::type_of;

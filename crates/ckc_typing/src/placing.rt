@@ -4,11 +4,11 @@ ghost use Rattle.std.specs.Prelude.{◌≡◌, ◌+◌, ◌-◌, ◌≤◌, ◌<
 ghost use Rattle.ckc_typed.specs.Constants.{size_of};
 ghost use Rattle.ckc_typed.specs.Statics.{begin_behind, end_of_block, FIRST_END, LAST_END};
 ghost use Rattle.ckc_typing.specs.Placing.{placed_behind};
-ghost use Rattle.ckc_typing.specs.Answers.{Answers};
+ghost use Rattle.ckc_base.specs.Outcomes.{AnswersOutcome};
 
-use crate::fault::{TypeFault, refused};
-use ckc_base::{Bytes, Pos, Seq};
+use ckc_base::{Bytes, Fault, START, Seq, refused};
 use ckc_typed::StaticObject;
+use ckc_typed::codes::LATE_STATICS;
 use ckc_typed::constants::size_of;
 use ckc_typed::types::copied;
 use ckc_types::Structs;
@@ -50,6 +50,7 @@ fn at_place(alloc: Global, o: &StaticObject, at: u32) -> Result<StaticObject, Al
     Ok(StaticObject {
         at,
         element,
+        array: o.array,
         count: o.count,
         terminated: o.terminated,
         initial,
@@ -68,15 +69,15 @@ pub fn placed(
     alloc: Global,
     structs: &Structs,
     blocks: &[StaticObject],
-) -> Result<Seq<StaticObject>, TypeFault>
-    ensures { Answers result (placed_behind structs.now FIRST_END blocks.now) }
+) -> Result<Seq<StaticObject>, Fault>
+    ensures { AnswersOutcome result (placed_behind structs.now FIRST_END blocks.now) }
 {
     let mut all = Seq::new(alloc);
     let mut end: u64 = FIRST;
     for o in blocks {
         let next = end_of_block(structs, end, o);
         if next > LAST {
-            return Err(refused(206, Pos { line: 1, col: 1 }));
+            return Err(refused(LATE_STATICS, START));
         }
         let moved = begun(alloc, o, end)?;
         all.push(moved)?;

@@ -1,17 +1,19 @@
 //! What an expression has for a type by the types of its parts, and its own faults.
 
+ghost use Rattle.ckc_typed.specs.Codes.{bad_operands};
 ghost use Rattle.ckc_typed.specs.Expressions.{in_row, address_typed, unary_typed, binary_typed, choice_typed, index_typed, dot_typed, arrow_typed, cast_typed, tested_typed, trusted_typed, allocation_typed};
-ghost use Rattle.ckc_typed.specs.Outcomes.{there_or};
+ghost use Rattle.ckc_base.specs.Outcomes.{there_or};
 ghost use Rattle.ckc_typed.specs.Types.{is_void};
 ghost use Rattle.ckc_typed.specs.Operands.{unary_type, size_type};
-ghost use Rattle.ckc_typing.specs.Answers.{Answers};
+ghost use Rattle.ckc_base.specs.Outcomes.{AnswersOutcome};
 
-use crate::fault::{TypeFault, refused};
-use ckc_base::{Boxed, Mode, Pos};
+use ckc_base::{Boxed, Fault, Mode, Pos, refused};
 use ckc_rules::conversions::{is_bounds_cast, is_tested, is_trusted};
+use ckc_rules::operands::is_cast;
 use ckc_rules::targets::{has_address, is_no_allocation};
 use ckc_rules::{lookups, operands};
 use ckc_syntax::{Expr, Limits, Name, TreeOp};
+use ckc_typed::codes::{BAD_CALL, BAD_CONVERSION, BAD_OPERANDS, NO_ADDRESS};
 use ckc_typed::constants::is_null;
 use ckc_typed::types::{copied, is_object_type, is_void};
 use ckc_typed::{Globals, Note};
@@ -19,16 +21,16 @@ use ckc_types::{CType, Kind};
 use std::alloc::Global;
 
 /// The type of a row, or the refusal of operands that are in none.
-fn in_row(void: bool, pos: Pos, t: Option<CType>) -> Result<CType, TypeFault>
-    ensures { Answers result (in_row void pos t) }
+fn in_row(void: bool, pos: Pos, t: Option<CType>) -> Result<CType, Fault>
+    ensures { AnswersOutcome result (in_row void pos t) }
 {
     match t {
         Some(t) => Ok(t),
         None => {
             if void {
-                Err(refused(402, pos))
+                Err(refused(BAD_CONVERSION, pos))
             } else {
-                Err(refused(401, pos))
+                Err(refused(BAD_OPERANDS, pos))
             }
         }
     }
@@ -40,11 +42,11 @@ fn address_typed(
     mode: Mode,
     e: &Expr<Name, Note>,
     pos: Pos,
-) -> Result<CType, TypeFault>
-    ensures { Answers result (address_typed globals.now mode e.now pos) }
+) -> Result<CType, Fault>
+    ensures { AnswersOutcome result (address_typed globals.now mode e.now pos) }
 {
     if !has_address(globals, e) {
-        return Err(refused(405, pos));
+        return Err(refused(NO_ADDRESS, pos));
     }
     let element = copied(alloc, &e.note.ctype)?;
     let to = Boxed::new(alloc, element)?;
@@ -59,8 +61,8 @@ fn operation_typed(
     op: TreeOp,
     e: &Expr<Name, Note>,
     pos: Pos,
-) -> Result<CType, TypeFault>
-    ensures { Answers result (in_row (is_void e.now.note.ctype) pos (unary_type op e.now.note.ctype)) }
+) -> Result<CType, Fault>
+    ensures { AnswersOutcome result (in_row (is_void e.now.note.ctype) pos (unary_type op e.now.note.ctype)) }
 {
     let t = operands::unary_type(alloc, op, &e.note.ctype)?;
     in_row(is_void(&e.note.ctype), pos, t)
@@ -74,8 +76,8 @@ pub fn unary_typed(
     op: TreeOp,
     e: &Expr<Name, Note>,
     pos: Pos,
-) -> Result<CType, TypeFault>
-    ensures { Answers result (unary_typed globals.now mode op e.now pos) }
+) -> Result<CType, Fault>
+    ensures { AnswersOutcome result (unary_typed globals.now mode op e.now pos) }
 {
     match op {
         TreeOp::Address => address_typed(alloc, globals, mode, e, pos),
@@ -90,8 +92,8 @@ pub fn binary_typed(
     e: &Expr<Name, Note>,
     f: &Expr<Name, Note>,
     pos: Pos,
-) -> Result<CType, TypeFault>
-    ensures { Answers result (binary_typed op e.now f.now pos) }
+) -> Result<CType, Fault>
+    ensures { AnswersOutcome result (binary_typed op e.now f.now pos) }
 {
     let void = is_void(&e.note.ctype) || is_void(&f.note.ctype);
     let t = operands::binary_type(
@@ -111,8 +113,8 @@ pub fn choice_typed(
     f: &Expr<Name, Note>,
     g: &Expr<Name, Note>,
     pos: Pos,
-) -> Result<CType, TypeFault>
-    ensures { Answers result (choice_typed e.now f.now g.now pos) }
+) -> Result<CType, Fault>
+    ensures { AnswersOutcome result (choice_typed e.now f.now g.now pos) }
 {
     let void = is_void(&e.note.ctype) || is_void(&f.note.ctype) || is_void(&g.note.ctype);
     let t = operands::choice_type(&e.note.ctype, &f.note.ctype, &g.note.ctype);
@@ -125,8 +127,8 @@ pub fn index_typed(
     e: &Expr<Name, Note>,
     f: &Expr<Name, Note>,
     pos: Pos,
-) -> Result<CType, TypeFault>
-    ensures { Answers result (index_typed e.now f.now pos) }
+) -> Result<CType, Fault>
+    ensures { AnswersOutcome result (index_typed e.now f.now pos) }
 {
     let void = is_void(&e.note.ctype) || is_void(&f.note.ctype);
     let t = operands::index_type(alloc, &e.note.ctype, &f.note.ctype)?;
@@ -140,8 +142,8 @@ pub fn dot_typed(
     e: &Expr<Name, Note>,
     n: Name,
     pos: Pos,
-) -> Result<CType, TypeFault>
-    ensures { Answers result (dot_typed globals.now e.now n pos) }
+) -> Result<CType, Fault>
+    ensures { AnswersOutcome result (dot_typed globals.now e.now n pos) }
 {
     let t = lookups::dot_type(alloc, &globals.structs, &e.note.ctype, n)?;
     in_row(is_void(&e.note.ctype), pos, t)
@@ -154,33 +156,33 @@ pub fn arrow_typed(
     e: &Expr<Name, Note>,
     n: Name,
     pos: Pos,
-) -> Result<CType, TypeFault>
-    ensures { Answers result (arrow_typed globals.now e.now n pos) }
+) -> Result<CType, Fault>
+    ensures { AnswersOutcome result (arrow_typed globals.now e.now n pos) }
 {
     let t = lookups::arrow_type(alloc, &globals.structs, &e.note.ctype, n)?;
     in_row(is_void(&e.note.ctype), pos, t)
 }
 
 /// The type of a cast to a type.
-pub fn cast_typed(
-    alloc: Global,
-    t: &CType,
-    e: &Expr<Name, Note>,
-    pos: Pos,
-) -> Result<CType, TypeFault>
-    ensures { Answers result (cast_typed t.now e.now pos) }
+pub fn cast_typed(t: CType, e: &Expr<Name, Note>, pos: Pos) -> Result<CType, Fault>
+    ensures { AnswersOutcome result (cast_typed t e.now pos) }
 {
-    let to = operands::cast_type(alloc, t, &e.note.ctype, is_null(e))?;
-    in_row(is_void(&e.note.ctype), pos, to)
+    if !is_object_type(&t) {
+        return Err(refused(BAD_OPERANDS, pos));
+    }
+    if !is_cast(&t, &e.note.ctype, is_null(e)) {
+        return Err(refused(BAD_CONVERSION, pos));
+    }
+    Ok(t)
 }
 
 /// The type of `sizeof` of a type.
-pub fn size_typed(t: &CType, pos: Pos) -> Result<CType, TypeFault>
-    ensures { Answers result (there_or 401 pos (size_type t.now)) }
+pub fn size_typed(t: &CType, pos: Pos) -> Result<CType, Fault>
+    ensures { AnswersOutcome result (there_or bad_operands pos (size_type t.now)) }
 {
     match operands::size_type(t) {
         Some(size) => Ok(size),
-        None => Err(refused(401, pos)),
+        None => Err(refused(BAD_OPERANDS, pos)),
     }
 }
 
@@ -190,14 +192,14 @@ pub fn tested_typed(
     e: &Expr<Name, Note>,
     limits: &Option<Boxed<Limits<Name, Note>>>,
     pos: Pos,
-) -> Result<CType, TypeFault>
-    ensures { Answers result (tested_typed t e.now limits.now pos) }
+) -> Result<CType, Fault>
+    ensures { AnswersOutcome result (tested_typed t e.now limits.now pos) }
 {
     if !is_bounds_cast(&t, limits) {
-        return Err(refused(401, pos));
+        return Err(refused(BAD_OPERANDS, pos));
     }
     if !is_tested(&t, e) {
-        return Err(refused(402, pos));
+        return Err(refused(BAD_CONVERSION, pos));
     }
     Ok(t)
 }
@@ -208,14 +210,14 @@ pub fn trusted_typed(
     e: &Expr<Name, Note>,
     limits: &Option<Boxed<Limits<Name, Note>>>,
     pos: Pos,
-) -> Result<CType, TypeFault>
-    ensures { Answers result (trusted_typed t e.now limits.now pos) }
+) -> Result<CType, Fault>
+    ensures { AnswersOutcome result (trusted_typed t e.now limits.now pos) }
 {
     if !is_bounds_cast(&t, limits) {
-        return Err(refused(401, pos));
+        return Err(refused(BAD_OPERANDS, pos));
     }
     if !is_trusted(&t, e) {
-        return Err(refused(402, pos));
+        return Err(refused(BAD_CONVERSION, pos));
     }
     Ok(t)
 }
@@ -227,14 +229,11 @@ pub fn allocation_typed(
     e: &Expr<Name, Note>,
     u: &CType,
     pos: Pos,
-) -> Result<CType, TypeFault>
-    ensures { Answers result (allocation_typed t e.now u.now pos) }
+) -> Result<CType, Fault>
+    ensures { AnswersOutcome result (allocation_typed t e.now u.now pos) }
 {
     if is_no_allocation(&t, e, u) {
-        return Err(refused(404, pos));
-    }
-    if !is_object_type(&t) {
-        return Err(refused(401, pos));
+        return Err(refused(BAD_CALL, pos));
     }
     let to = Boxed::new(alloc, t)?;
     Ok(CType::Pointer(Kind::Arr, to))

@@ -3,16 +3,15 @@
 ghost use Rattle.std.specs.Prelude.{Ok, map};
 ghost use Rattle.std.specs.Option.{option_map};
 ghost use Rattle.ckc_syntax.specs.declared.tree.Act.TheVariants as act;
-ghost use Rattle.ckc_typed.specs.Outcomes.{bind};
+ghost use Rattle.ckc_base.specs.Outcomes.{bind};
 ghost use Rattle.ckc_typed.specs.Declarations.{local_typed};
 ghost use Rattle.ckc_typed.specs.Statements.{act_typed, stmt_typed, all_in, part_in, stated};
-ghost use Rattle.ckc_typing.specs.Answers.{Answers};
+ghost use Rattle.ckc_base.specs.Outcomes.{AnswersOutcome};
 
 use crate::declarations::typed_local;
 use crate::expressions::{boxed_expr, typed_value};
-use crate::fault::TypeFault;
 use crate::forms;
-use ckc_base::{Boxed, Mode, Pos, Seq};
+use ckc_base::{Boxed, Fault, Mode, Pos, Seq};
 use ckc_rules::notes::stated;
 use ckc_syntax::{Act, Decl, Name, Stmt};
 use ckc_typed::{Globals, Note, Variable};
@@ -33,8 +32,8 @@ fn boxed_local(
     mode: Mode,
     pos: Pos,
     d: &Decl<Name, ()>,
-) -> Result<Stmt<Name, Note>, TypeFault>
-    ensures { Answers result (bind (local_typed globals.now frame.now.variables mode d.now) (λ n. Ok (stated mode pos (act.Local n)))) }
+) -> Result<Stmt<Name, Note>, Fault>
+    ensures { AnswersOutcome result (bind (local_typed globals.now frame.now.variables mode d.now) (λ n. Ok (stated mode pos (act.Local n)))) }
 {
     let typed = typed_local(alloc, globals, frame.variables.as_slice(), mode, d)?;
     let boxed = Boxed::new(alloc, typed)?;
@@ -50,8 +49,8 @@ fn typed_act(
     looped: bool,
     body: &Act<Name, ()>,
     pos: Pos,
-) -> Result<Stmt<Name, Note>, TypeFault>
-    ensures { Answers result (act_typed globals.now frame.now.variables frame.now.result body.now mode looped pos) }
+) -> Result<Stmt<Name, Note>, Fault>
+    ensures { AnswersOutcome result (act_typed globals.now frame.now.variables frame.now.result body.now mode looped pos) }
 {
     let variables = frame.variables.as_slice();
     match body {
@@ -121,8 +120,8 @@ pub fn typed_stmt(
     mode: Mode,
     looped: bool,
     s: &Stmt<Name, ()>,
-) -> Result<Stmt<Name, Note>, TypeFault>
-    ensures { Answers result (stmt_typed globals.now frame.now.variables frame.now.result s.now mode looped) }
+) -> Result<Stmt<Name, Note>, Fault>
+    ensures { AnswersOutcome result (stmt_typed globals.now frame.now.variables frame.now.result s.now mode looped) }
 {
     typed_act(alloc, globals, frame, mode, looped, &s.body, s.pos)
 }
@@ -136,8 +135,8 @@ pub fn boxed_stmt(
     mode: Mode,
     looped: bool,
     s: &Stmt<Name, ()>,
-) -> Result<Boxed<Stmt<Name, Note>>, TypeFault>
-    ensures { Answers result (stmt_typed globals.now frame.now.variables frame.now.result s.now mode looped) }
+) -> Result<Boxed<Stmt<Name, Note>>, Fault>
+    ensures { AnswersOutcome result (stmt_typed globals.now frame.now.variables frame.now.result s.now mode looped) }
 {
     let typed = typed_stmt(alloc, globals, frame, mode, looped, s)?;
     let boxed = Boxed::new(alloc, typed)?;
@@ -153,8 +152,8 @@ fn typed_stmts(
     mode: Mode,
     looped: bool,
     ss: &[Stmt<Name, ()>],
-) -> Result<Seq<Stmt<Name, Note>>, TypeFault>
-    ensures { Answers result (all_in mode looped (map (stmt_typed globals.now frame.now.variables frame.now.result) ss.now)) }
+) -> Result<Seq<Stmt<Name, Note>>, Fault>
+    ensures { AnswersOutcome result (all_in mode looped (map (stmt_typed globals.now frame.now.variables frame.now.result) ss.now)) }
 {
     let mut all = Seq::new(alloc);
     for s in ss {
@@ -173,8 +172,8 @@ fn typed_part(
     mode: Mode,
     looped: bool,
     part: &Option<Boxed<Stmt<Name, ()>>>,
-) -> Result<Option<Boxed<Stmt<Name, Note>>>, TypeFault>
-    ensures { Answers result (part_in mode looped (option_map (stmt_typed globals.now frame.now.variables frame.now.result) part.now)) }
+) -> Result<Option<Boxed<Stmt<Name, Note>>>, Fault>
+    ensures { AnswersOutcome result (part_in mode looped (option_map (stmt_typed globals.now frame.now.variables frame.now.result) part.now)) }
 {
     match part {
         None => Ok(None),

@@ -1,8 +1,8 @@
 use Rattle.std.proofs.Common.{ap, sym, ◌∙◌, subst, Ok}
 use Rattle.std.proofs.lemmas.Result.{err_from_is_err_and}
-use Rattle.ckc_typed.specs.Outcomes.{bind}
+use Rattle.ckc_base.specs.Outcomes.{bind}
 use Rattle.ckc_typed.specs.Expressions.{expr_typed, exprs_typed, node_typed}
-use Rattle.ckc_typing.specs.Answers.{Answers}
+use Rattle.ckc_base.specs.Outcomes.{AnswersOutcome}
 use Rattle.ckc_typing.proofs.Nodes.{number_is, calloc_is, allocated}
 use Rattle.ckc_typing.proofs.Turns.{begin, stops, turn_fault, turn_done, turn_end}
 use Rattle.ckc_typing.proofs.expressions.+expr.Goals as goal
@@ -37,4 +37,4 @@ typed_node-returns-in_ok-e-in-Calloc t c =
     ∙ calloc_is c.args.globals.now c.args.variables.now c.args.mode c.args.pos c.in-Calloc.w c.in-Calloc.e c.in-Calloc.x
     ∙ ap (λ e. bind (expr_typed c.args.globals.now c.args.variables.now c.args.mode e) next) (sym c.get-in-Calloc.ensures)
     ∙ ap (λ o. bind o next) c.in_ok-e-in-Calloc.ensures in
-    subst (λ o. Answers c.allocation.result o) (sym q) c.allocation.ensures
+    subst (λ o. AnswersOutcome c.allocation.result o) (sym q) c.allocation.ensures

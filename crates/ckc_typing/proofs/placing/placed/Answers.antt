@@ -2,7 +2,7 @@ use Rattle.std.proofs.Common.{sym, subst}
 use Rattle.std.specs.Prelude.{List, Err}
 use Rattle.ckc_typed.specs.declared.typed.StaticObject.{StaticObject}
 use Rattle.ckc_typed.specs.Statics.{FIRST_END}
-use Rattle.ckc_typing.specs.Answers.{Answers}
+use Rattle.ckc_base.specs.Outcomes.{AnswersOutcome}
 use Rattle.ckc_typing.specs.Placing.{placed_behind}
 use Rattle.ckc_typing.proofs.PlacingTurns.{placed_late}
 use Rattle.ckc_typing.proofs.placing.placed.Goals as goal
@@ -10,5 +10,5 @@ use Rattle.ckc_typing.proofs.placing.placed.Goals as goal
 pub returns-then-next-gt-LAST : goal.returns-then-next-gt-LAST
 returns-then-next-gt-LAST c =
     let whole = placed_behind c.args.structs.now FIRST_END c.args.blocks.now in
-    subst (λ e. Answers {A = List StaticObject} (Err e) whole) (sym c.refused.ensures)
+    subst (λ e. AnswersOutcome {A = List StaticObject} (Err e) whole) (sym c.refused.ensures)
     (placed_late c.args.structs.now c.loop-o.end c.args.blocks.now c.loop-o.o-index whole _ c.loop-o.invariant.kept c.o-item.result _ c.loop-o-test.true c.o-item.is c.end_of_block-next.ensures c.if-next-gt-LAST.true)

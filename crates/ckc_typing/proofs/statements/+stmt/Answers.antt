@@ -1,6 +1,6 @@
 use Rattle.std.proofs.Common.{◌∙◌, map, ap, sym, refl, true, Ok}
 use Rattle.std.proofs.lemmas.Result.{err_from_is_err_and}
-use Rattle.ckc_typed.specs.Outcomes.{Outcome, bind, in_order}
+use Rattle.ckc_base.specs.Outcomes.{Outcome, bind, in_order}
 use Rattle.ckc_typed.specs.Trees.{Stmt, NotedStmt}
 use Rattle.ckc_typed.specs.Expressions.{value_typed}
 use Rattle.ckc_typed.specs.Declarations.{local_typed}

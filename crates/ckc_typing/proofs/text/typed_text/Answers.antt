@@ -5,7 +5,7 @@ use Rattle.ckc_types.specs.declared.types.Structs.{Structs}
 use Rattle.ckc_typed.specs.declared.environment.Globals.{Globals}
 use Rattle.ckc_typed.specs.declared.typed.StaticObject.{StaticObject}
 use Rattle.ckc_typed.specs.declared.typed.Typed.{Typed}
-use Rattle.ckc_typed.specs.Outcomes.{Outcome, bind}
+use Rattle.ckc_base.specs.Outcomes.{Outcome, bind}
 use Rattle.ckc_typed.specs.Trees.{Tree, Item, NotedItem}
 use Rattle.ckc_typed.specs.Layouts.{structs_of}
 use Rattle.ckc_typed.specs.Texts.{globals_of, items_typed, laid_out, text_typed}
