@@ -1,5 +1,5 @@
 -- Equations for lists of parts.
-use Rattle.std.proofs.Common.{rules, refl, ◌≡◌, ◌<◌, ◌+◌, ℕ, suc, length, Bool, true, false, ◌&&◌, List, [], ◌∷◌, get_or, drop, ap, sym, ◌∙◌, drop-cons, add-one}
+use Rattle.std.proofs.Common.{rules, refl, ◌≡◌, ◌<◌, ◌+◌, ℕ, suc, length, Bool, ◌&&◌, List, [], ◌∷◌, get_or, drop, ap, sym, ◌∙◌, drop-cons, add-one}
 use Rattle.std.specs.List.{list_all}
 use Rattle.std.specs.Prelude.{map, Option}
 use Rattle.ckc_base.specs.declared.arithmetic.Mode.{Mode}

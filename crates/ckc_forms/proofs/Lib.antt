@@ -1,1 +1,2 @@
 mod Alls
+pub mod Judged

@@ -1,11 +1,19 @@
 //! Whether a text is over integers alone.
 
-ghost use Rattle.std.specs.Prelude.{◌≡◌};
+ghost use Rattle.std.specs.Prelude.{◌≡◌, IfErr};
 ghost use Rattle.std.specs.List.{list_all};
+ghost use Rattle.ckc_base.specs.declared.fault.Fault.TheVariants.{Memory};
+ghost use Rattle.ckc_base.specs.Phases.{Exact, viewed};
+ghost use Rattle.ckc_forms.specs.Phase.{integers};
 ghost use Rattle.ckc_forms.specs.Integer.{integer_type, integer_op, integer_node, integer_expr, integer_value, integer_init, is_plain, integer_decl, integer_act, integer_stmt, integer_part, integer_head, integer_item, integer_tree};
 
-use ckc_base::Boxed;
-use ckc_syntax::{Act, Decl, Expr, Head, Init, Item, Length, Node, Stmt, Tree, TreeOp, TypeTree};
+use ckc_base::{Boxed, Fault, START, refused};
+use ckc_syntax::{
+    Act, Decl, Expr, Head, Init, Item, Length, NamedText, Node, Stmt, Tree, TreeOp, TypeTree,
+};
+
+/// E100: a text is of no form that is built so far.
+pub const NOT_BUILT: u16 = 100;
 
 fn is_integer_type<N>(ctype: &TypeTree<N>) -> bool
     ensures { result ≡ integer_type ctype.now }
@@ -35,7 +43,7 @@ fn is_integer_node<N, A>(node: &Node<N, A>) -> bool
         Node::Pick(e, f, g) => {
             is_integer_expr(e.get()) && is_integer_expr(f.get()) && is_integer_expr(g.get())
         }
-        Node::Index(_, _) | Node::Dot(_, _) | Node::Arrow(_, _) => false,
+        Node::Index(_, _) | Node::Dot(_, _, _) | Node::Arrow(_, _, _) => false,
         Node::Cast(ctype, e) => is_integer_type(ctype) && is_integer_expr(e.get()),
         Node::Size(ctype) => is_integer_type(ctype),
         Node::Trusted(_, _, _) | Node::Tested(_, _, _) | Node::Calloc(_, _, _) => false,
@@ -181,9 +189,8 @@ fn is_integer_item<N, A>(item: &Item<N, A>) -> bool
     }
 }
 
-/// Whether a text is of the integer form: over integers alone, with no structure, pointer, array, bounds and
-/// string, and with none of the expressions and statements that are for these. It takes no memory.
-pub fn is_integer_tree<N, A>(tree: &Tree<N, A>) -> bool
+/// Whether a tree is of the integer form.
+fn is_integer_tree<N, A>(tree: &Tree<N, A>) -> bool
     ensures { result ≡ integer_tree tree.now }
 {
     for item in tree.items.as_slice() {
@@ -192,4 +199,18 @@ pub fn is_integer_tree<N, A>(tree: &Tree<N, A>) -> bool
         }
     }
     true
+}
+
+/// Whether a text is of the integer form: over integers alone, with no structure, pointer, array, bounds and
+/// string, and with none of the expressions and statements that are for these. Every other text is refused with
+/// E100 at 1:1. It takes no memory.
+pub fn integers(text: &NamedText) -> Result<(), Fault>
+    // Ok where the text is over integers alone, a refusal for exactly every other one.
+    ensures exact { Exact integers text.now (viewed (λ _. text.now) result) }
+    ensures no_memory { IfErr result (λ e. ¬ (e ≡ Memory)) }
+{
+    if !is_integer_tree(&text.tree) {
+        return Err(refused(NOT_BUILT, START));
+    }
+    Ok(())
 }

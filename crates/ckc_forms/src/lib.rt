@@ -2,5 +2,7 @@
 #![tactic(auto)]
 
 mod integer;
+mod laws;
 
-pub use integer::is_integer_tree;
+pub use integer::{NOT_BUILT, integers};
+pub use laws::{codes, is_exact};

@@ -1,16 +1,25 @@
 -- The verdict on a typed text tells its first fault.
-use Rattle.std.proofs.Common.{refl, ◌≡◌, ◌↔◌, ℕ, List, [], ◌∷◌, ◌++◌, ap, sym, ◌∙◌, Option, None, Some}
+use Rattle.std.proofs.Common.{refl, ◌≡◌, ◌↔◌, ℕ, List, [], ◌∷◌, ◌++◌, ap, sym, subst, ◌∙◌, Option, None, Some}
 use Rattle.std.specs.Prelude.{Result, Ok, Err, ◌⊎◌}
+use Rattle.std.specs.Prelude.{Bool, true, false, cond}
 use Rattle.std.specs.List.{All}
 use Rattle.std.proofs.Common.{inl, inr}
 use Rattle.std.proofs.lemmas.List.Elements.{All-nil, All-cons, All-head, All-tail}
 use Rattle.ckc_base.specs.declared.places.Pos.{Pos}
 use Rattle.ckc_base.specs.declared.places.Refusal.{Refusal}
+use Rattle.ckc_syntax.specs.declared.tree.Item.{Item}
+use Rattle.ckc_syntax.specs.declared.tree.Name.{Name}
+use Rattle.ckc_typed.specs.declared.typed.Note.{Note}
 use Rattle.ckc_typed.specs.declared.typed.Typed.{Typed}
-use Rattle.ckc_typed.specs.Walk.{Spot, walk}
-use Rattle.ckc_typed.specs.Scoped.{fault_at, IsFine, Scoped, IsFirstScopeFault}
-use Rattle.ckc_scopes.specs.declared.text.ScopeFault.{ScopeFault}
-use Rattle.ckc_scopes.specs.declared.text.ScopeFault.TheVariants as fault
+use Rattle.ckc_typed.specs.Walk.{Spot, walk, Matter, written, value, called, assumed}
+use Rattle.ckc_typed.specs.Scoped.{fault_at, fault_in, fault_of_matter, fault_where, is_raw_function, IsFine, Scoped, IsFirstScopeFault}
+use Rattle.ckc_base.specs.declared.arithmetic.Mode.{Mode}
+use Rattle.ckc_base.specs.declared.arithmetic.Mode.TheVariants.{Checked, Unchecked}
+use Rattle.ckc_base.specs.declared.fault.Fault.{Fault}
+use Rattle.ckc_base.specs.declared.fault.Fault.TheVariants.{Refused}
+use Rattle.ckc_base.specs.Phases.{IsExact, Exact}
+use Rattle.ckc_base.proofs.Phases.{exact_of}
+use Rattle.ckc_scopes.specs.Phase.{scoping}
 use Rattle.ckc_scopes.specs.Verdict.{Verdict, then, refused, verdict}
 
 abbrev pub refusal : ℕ → Pos → Refusal
@@ -22,9 +31,6 @@ ok_or_err v r e f = cc
 
 pub same_refusal : (v : Verdict) (r s : Refusal) → v ≡ Err r → v ≡ Err s → r ≡ s
 same_refusal v r s e f = cc
-
-pub same_fault : {X : Type 0} (v : Result X ScopeFault) (r s : Refusal) → v ≡ Err (fault.Refused r) → v ≡ Err (fault.Refused s) → r ≡ s
-same_fault v r s e f = cc
 
 module _ (p : Typed) where
   fine_ok : (ss : List Spot) → All (IsFine p) ss → verdict p.tree.items ss ≡ Ok tt
@@ -106,17 +112,58 @@ module _ (p : Typed) where
       ap (λ ss. verdict p.tree.items ss) f.walked ∙ first_err f.before f.found f.rest code f.fine f.fault
       ∙ ap (λ place. Err (refusal code place)) f.place
 
-  some_verdict : (v : Verdict) → verdict p.tree.items (walk p) ≡ v → Scoped p ⊎ ((code : ℕ) × (at : Pos) × IsFirstScopeFault p code at)
-  some_verdict (Ok u) e = inl (scoped_is.1 e)
-  some_verdict (Err r) e = inr (r.code, r.pos, fault_of_err r e)
+  same_place : (r other : Refusal) → r.code ≡ other.code → r.pos ≡ other.pos → r ≡ other
+  same_place r other e f = λ j. record { code = e j; pos = f j }
 
-  pub one_of_both : Scoped p ⊎ ((code : ℕ) × (at : Pos) × IsFirstScopeFault p code at)
-  one_of_both = some_verdict (verdict p.tree.items (walk p)) refl
+  fault_once : (r other : Refusal) → scoping.Refuses p r → scoping.Refuses p other → r ≡ other
+  fault_once r other f g = same_refusal _ r other (err_of_fault r.code r.pos f) (err_of_fault other.code other.pos g)
 
-  pub fault_once : (code other : ℕ) (at elsewhere : Pos) → IsFirstScopeFault p code at → IsFirstScopeFault p other elsewhere → (code ≡ other) × (at ≡ elsewhere)
-  fault_once code other at elsewhere f g =
-      let same = same_refusal _ (refusal code at) (refusal other elsewhere) (err_of_fault code at f) (err_of_fault other elsewhere g) in
-      (ap (λ r. r.code) same, ap (λ r. r.pos) same)
+  never_both : (same : Typed) (r : Refusal) → scoping.Makes p same → scoping.Refuses p r → ⊥
+  never_both same r m f = ok_or_err _ r (scoped_is.0 m.0) (err_of_fault r.code r.pos f)
 
-  pub never_both : (code : ℕ) (at : Pos) → Scoped p → IsFirstScopeFault p code at → ⊥
-  never_both code at s f = ok_or_err _ (refusal code at) (scoped_is.0 s) (err_of_fault code at f)
+  never_neither : ((same : Typed) → ¬ scoping.Makes p same) → ((r : Refusal) → ¬ scoping.Refuses p r) → ⊥
+  never_neither no_made no_refused = by_verdict (verdict p.tree.items (walk p)) refl
+    where
+      by_verdict : (v : Verdict) → verdict p.tree.items (walk p) ≡ v → ⊥
+      by_verdict (Ok u) e = no_made p (scoped_is.1 e, refl)
+      by_verdict (Err r) e = no_refused r (fault_of_err r e)
+
+pub scoping_exact : IsExact scoping
+scoping_exact = record {
+  made_once = λ p same other m n. m.1 ∙ sym n.1;
+  refused_once = fault_once;
+  never_both = never_both;
+  never_neither = never_neither;
+}
+
+-- a verdict on a typed text is the answer of the phase
+pub scoped_exact : (p : Typed) → verdict p.tree.items (walk p) ≡ Ok tt → Exact scoping p (Ok p)
+scoped_exact p e = exact_of scoping scoping_exact p (Ok p) ((scoped_is p).1 e, refl)
+
+pub fault_exact : (p : Typed) (r : Refusal) → verdict p.tree.items (walk p) ≡ Err r → Exact scoping p (Err (Refused r))
+fault_exact p r e = exact_of scoping scoping_exact p (Err (Refused r)) (fault_of_err p r e)
+
+-- the codes of faults
+abbrev IsCode : ℕ → Type 0
+IsCode code = (code ≡ 501) ⊎ (code ≡ 502)
+
+abbrev Coded : Option ℕ → Type 0
+Coded None = Unit {0}
+Coded (Some code) = IsCode code
+
+where_coded : (b : Bool) → Coded (fault_where b)
+where_coded true = inl refl
+where_coded false = tt
+
+matter_coded : (items : List (Item Name Note)) (m : Matter) → Coded (fault_of_matter items m)
+matter_coded items written = inl refl
+matter_coded items (value ctype) = where_coded _
+matter_coded items (called k) = where_coded (is_raw_function items k)
+matter_coded items assumed = inr refl
+
+mode_coded : (mode : Mode) (o : Option ℕ) → Coded o → Coded (fault_in mode o)
+mode_coded Checked o c = c
+mode_coded Unchecked o c = tt
+
+pub scoping_codes : (p : Typed) (r : Refusal) → scoping.Refuses p r → IsCode r.code
+scoping_codes p r f = subst Coded f.fault (mode_coded f.found.mode (fault_of_matter p.tree.items f.found.matter) (matter_coded p.tree.items f.found.matter))

@@ -2,6 +2,7 @@
 use Rattle.std.proofs.Common.{rules, refl, ◌≡◌, List, [], ◌∷◌, ◌++◌, ap, ◌∙◌, Option, None, Some}
 use Rattle.std.specs.Prelude.{flat_map, map, option_map}
 use Rattle.ckc_base.specs.declared.arithmetic.Mode.{Mode}
+use Rattle.ckc_base.specs.declared.places.Pos.{Pos}
 use Rattle.ckc_syntax.specs.declared.tree.Name.{Name}
 use Rattle.ckc_syntax.specs.declared.tree.Node.{the_lemmas as expr_lemmas}
 use Rattle.ckc_syntax.specs.declared.tree.Node.TheVariants as nodes
@@ -25,8 +26,8 @@ joined_of_call n es = search (rules, expr_lemmas)
 pub parts_of_call : (n : Name) (es : List (Expr Name Note)) → (within (nodes.Call n es)).parts ≡ flat_map spots_of_expr es
 parts_of_call n es = joined_of_call n es ∙ joined_is spots_of_expr es
 
-pub parts_of_between : (e f : Expr Name Note) → spots_of_limits (limits.Between e f) ≡ spots_of_expr e ++ spots_of_expr f
-parts_of_between e f = search (rules, expr_lemmas)
+pub parts_of_between : (e f : Expr Name Note) (pos : Pos) → spots_of_limits (limits.Between e f pos) ≡ spots_of_expr e ++ spots_of_expr f
+parts_of_between e f pos = search (rules, expr_lemmas)
 
 pub parts_of_bin : (op : TreeOp) (e f : Expr Name Note) → (within (nodes.Bin op e f)).parts ≡ spots_of_expr e ++ spots_of_expr f
 parts_of_bin op e f = search (rules, expr_lemmas)

@@ -13,11 +13,11 @@ use ckc_base::{Boxed, Mode, Pos, Refusal};
 use ckc_syntax::{Expr, Init, Item, Limits, Name, Node};
 use ckc_typed::Note;
 
-/// The refusal of an unchecked pointer or array type in a checked scope.
-const RAW: u16 = 501;
+/// E501: an unchecked pointer or array type in a checked scope.
+pub const RAW: u16 = 501;
 
-/// The refusal of `_Assume_bounds_cast` in a checked scope.
-const TRUSTED: u16 = 502;
+/// E502: `_Assume_bounds_cast` in a checked scope.
+pub const TRUSTED: u16 = 502;
 
 /// Judges the first of the unchecked pointers and arrays that a declaration writes.
 pub fn place_fits(place: Option<Pos>, mode: Mode) -> Result<(), Refusal>
@@ -52,7 +52,7 @@ fn deed_fits(node: &Node<Name, Note>, pos: Pos, items: &[Item<Name, Note>]) -> R
         Node::Trusted(_, _, _) => Err(Refusal { code: TRUSTED, pos }),
         Node::Number(_, _) | Node::Text(_) | Node::Null | Node::Name(_) | Node::Size(_) => Ok(()),
         Node::Un(_, _) | Node::Bin(_, _, _) | Node::Pick(_, _, _) | Node::Index(_, _) => Ok(()),
-        Node::Dot(_, _) | Node::Arrow(_, _) | Node::Cast(_, _) => Ok(()),
+        Node::Dot(_, _, _) | Node::Arrow(_, _, _) | Node::Cast(_, _) => Ok(()),
         Node::Tested(_, _, _) | Node::Calloc(_, _, _) => Ok(()),
     }
 }
@@ -80,8 +80,8 @@ fn limits_fit(limits: &Limits<Name, Note>, items: &[Item<Name, Note>]) -> Result
     ensures { result ≡ verdict items.now (spots_of_limits limits.now) }
 {
     match limits {
-        Limits::Count(e) | Limits::ByteCount(e) => expr_fits(e.get(), items),
-        Limits::Between(e, f) => {
+        Limits::Count(e, _) | Limits::ByteCount(e, _) => expr_fits(e.get(), items),
+        Limits::Between(e, f, _) => {
             expr_fits(e.get(), items)?;
             expr_fits(f.get(), items)
         }
@@ -95,7 +95,7 @@ fn parts_fit(node: &Node<Name, Note>, items: &[Item<Name, Note>]) -> Result<(), 
 {
     match node {
         Node::Number(_, _) | Node::Text(_) | Node::Null | Node::Name(_) | Node::Size(_) => Ok(()),
-        Node::Un(_, e) | Node::Dot(e, _) | Node::Arrow(e, _) => expr_fits(e.get(), items),
+        Node::Un(_, e) | Node::Dot(e, _, _) | Node::Arrow(e, _, _) => expr_fits(e.get(), items),
         Node::Cast(_, e) | Node::Calloc(_, e, _) => expr_fits(e.get(), items),
         Node::Bin(_, e, f) => {
             expr_fits(e.get(), items)?;

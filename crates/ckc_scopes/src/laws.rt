@@ -1,13 +1,16 @@
 //! Laws of the definitions, each the contract of a function that does nothing.
-ghost use Rattle.std.specs.Prelude.{◌≡◌, ℕ, ◌⊎◌};
-ghost use Rattle.ckc_base.specs.declared.places.Pos.{Pos};
+ghost use Rattle.std.specs.Prelude.{◌≡◌, ◌⊎◌};
+ghost use Rattle.ckc_base.specs.declared.places.Refusal.{Refusal};
+ghost use Rattle.ckc_base.specs.Phases.{IsExact};
 ghost use Rattle.ckc_typed.specs.declared.typed.Typed.{Typed};
-ghost use Rattle.ckc_typed.specs.Scoped.{Scoped, IsFirstScopeFault};
+ghost use Rattle.ckc_scopes.specs.Phase.{scoping};
 
-/// A typed text is scoped or has exactly one first fault, and not both.
-pub fn one_answer()
-    ensures some { (p : Typed) → Scoped p ⊎ ((code : ℕ) × (at : Pos) × IsFirstScopeFault p code at) }
-    ensures one { (p : Typed) (code other : ℕ) (at elsewhere : Pos) → IsFirstScopeFault p code at →
-        IsFirstScopeFault p other elsewhere → (code ≡ other) × (at ≡ elsewhere) }
-    ensures not_both { (p : Typed) (code : ℕ) (at : Pos) → Scoped p → IsFirstScopeFault p code at → ⊥ }
+/// A typed text is scoped or has one first fault: never both, never neither.
+pub fn is_exact()
+    ensures { IsExact scoping }
+{}
+
+/// The codes of the refusals: 501 and 502.
+pub fn codes()
+    ensures { (p : Typed) (r : Refusal) → scoping.Refuses p r → (r.code ≡ 501) ⊎ (r.code ≡ 502) }
 {}

@@ -4,9 +4,11 @@
 
 mod expressions;
 mod items;
-pub mod laws;
+mod laws;
 mod raw;
 mod statements;
 mod text;
 
-pub use text::{ScopeFault, scopes};
+pub use expressions::{RAW, TRUSTED};
+pub use laws::{codes, is_exact};
+pub use text::scopes;

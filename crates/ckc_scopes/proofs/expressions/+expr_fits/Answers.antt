@@ -11,12 +11,12 @@ use Rattle.ckc_scopes.proofs.expressions.+expr_fits.Goals as goal
 
 pub limits_fit-returns-in_err-expr_fits-in-Between : goal.limits_fit-returns-in_err-expr_fits-in-Between
 limits_fit-returns-in_err-expr_fits-in-Between t c =
-    let k = parts_of_between c.in-Between.e c.in-Between.f in
+    let k = parts_of_between c.in-Between.e c.in-Between.f c.in-Between.field-2 in
     stops c.args.items.now (spots_of_expr c.in-Between.e) (spots_of_expr c.in-Between.f) (spots_of_limits c.args.limits.now) _ _ _ c.from_residual.ensures.1 c.in_err-expr_fits-in-Between.was (cc) (cc)
 
 pub limits_fit-returns-in_ok-expr_fits-in-Between : goal.limits_fit-returns-in_ok-expr_fits-in-Between
 limits_fit-returns-in_ok-expr_fits-in-Between t c =
-    let k = parts_of_between c.in-Between.e c.in-Between.f in
+    let k = parts_of_between c.in-Between.e c.in-Between.f c.in-Between.field-2 in
     goes c.args.items.now (spots_of_expr c.in-Between.e) (spots_of_expr c.in-Between.f) (spots_of_limits c.args.limits.now) _ _ c.in_ok-expr_fits-in-Between.was (cc) (cc) (cc)
 
 pub parts_fit-returns-in_err-expr_fits-in-Bin : goal.parts_fit-returns-in_err-expr_fits-in-Bin
