@@ -34,6 +34,12 @@ GivesNothing (Ok None) = Unit {0}
 GivesNothing (Ok (Some byte)) = ⊥
 GivesNothing (Err failed) = Unit {0}
 
+-- a count of the bytes that were given, after one more call of next
+abbrev pub after_next : Result (Option ℕ) Failed → ℕ → ℕ
+after_next (Ok None) n = n
+after_next (Ok (Some byte)) n = one_more n
+after_next (Err failed) n = n
+
 -- What next gives where bytes are left: the first, which is taken, or None exactly where there is none. After a
 -- failure they are still left.
 abbrev pub GivesNext : List ℕ → Result (Option ℕ) Failed → Option (List ℕ) → Type 0

@@ -1,6 +1,6 @@
 ghost use Rattle.std.specs.Prelude.{◌≡◌, ◌≢◌, ℕ, ◌≤◌, List, Option, Ok, None, Some, Bool, IsTrue, OnErr, IsErrOf};
 ghost use Rattle.std.specs.FinMap as map;
-ghost use Rattle.ckc_outside.specs.Outside.{Rose, one_more, Files, Stored, GivesNext, GivesNothing, Puts, IsWithin, GivesFile, Keeps, after_keep};
+ghost use Rattle.ckc_outside.specs.Outside.{Rose, one_more, Files, Stored, GivesNext, GivesNothing, after_next, Puts, IsWithin, GivesFile, Keeps, after_keep};
 
 use ckc_base::Bytes;
 use std::alloc::Global;
@@ -38,6 +38,9 @@ pub trait Source {
     /// Whether it said that there is no byte. It gives none from then on.
     ghost ended: { Self → Bool };
 
+    /// How many bytes it gave. The count stands still at 2^64 - 1.
+    ghost answers: { Self → ℕ };
+
     /// Takes the next byte, or says that there is none.
     fn next(&mut self) -> Result<Option<u8>, Failed>
         ensures counts { faults self.old ≤ faults self.new }
@@ -45,7 +48,8 @@ pub trait Source {
         ensures told { (bytes : List ℕ) → left self.old ≡ Some bytes → GivesNext bytes result (left self.new) }
         ensures end { result ≡ Ok None → IsTrue (ended self.new) }
         ensures stays { IsTrue (ended self.old) → IsTrue (ended self.new) }
-        ensures nothing { IsTrue (ended self.old) → GivesNothing result };
+        ensures nothing { IsTrue (ended self.old) → GivesNothing result }
+        ensures answered { answers self.new ≡ after_next result (answers self.old) };
 }
 
 /// A sink of output bytes.

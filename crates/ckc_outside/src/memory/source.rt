@@ -1,5 +1,5 @@
 ghost use Rattle.std.specs.Prelude.{◌≡◌, ℕ, ◌≤◌, List, Option, Some, None, Ok, IsTrue, OnErr, is_err};
-ghost use Rattle.ckc_outside.specs.Outside.{Rose, GivesNext, GivesNothing};
+ghost use Rattle.ckc_outside.specs.Outside.{Rose, GivesNext, GivesNothing, after_next};
 ghost use Rattle.ckc_outside.specs.Memory.{is_listed, after_call};
 ghost use Rattle.ckc_outside.specs.MemSource.{left_of, has_ended, plan_of};
 
@@ -10,6 +10,7 @@ use crate::traits::{Failed, Source};
 #[derive(Debug, Drop)]
 pub struct MemSource<'a> {
     left: &'a [u8],
+    answers: u64,
     plan: Plan<'a>,
 }
 
@@ -17,12 +18,14 @@ impl<'a> MemSource<'a> {
     /// Over these bytes. `fail` lists the numbers of the calls, from 1, that answer `Failed`.
     pub fn new(bytes: &'a [u8], fail: &'a [u64]) -> MemSource<'a>
         ensures left { left_of result ≡ bytes.now }
+        ensures answers { result.answers ≡ 0 }
         ensures listed { (plan_of result).listed ≡ fail.now }
         ensures calls { (plan_of result).calls ≡ 0 }
         ensures faults { (plan_of result).faults ≡ 0 }
     {
         MemSource {
             left: bytes,
+            answers: 0,
             plan: Plan::new(fail),
         }
     }
@@ -35,6 +38,8 @@ impl<'a> Source for MemSource<'a> {
 
     ghost ended = { has_ended };
 
+    ghost answers = { λ s. s.answers };
+
     fn next(&mut self) -> Result<Option<u8>, Failed>
         ensures counts { (plan_of self.old).faults ≤ (plan_of self.new).faults }
         ensures failed { OnErr result (Rose (plan_of self.old).faults (plan_of self.new).faults) }
@@ -42,6 +47,7 @@ impl<'a> Source for MemSource<'a> {
         ensures end { result ≡ Ok None → IsTrue (has_ended self.new) }
         ensures stays { IsTrue (has_ended self.old) → IsTrue (has_ended self.new) }
         ensures nothing { IsTrue (has_ended self.old) → GivesNothing result }
+        ensures answered { self.new.answers ≡ after_next result self.old.answers }
         // A call fails exactly where it is listed, and then the count of faults goes up by one.
         ensures fails { is_err result ≡ is_listed (plan_of self.old).listed (plan_of self.old).calls }
         ensures plan { plan_of self.new ≡ after_call (plan_of self.old) (is_err result) }
@@ -53,6 +59,7 @@ impl<'a> Source for MemSource<'a> {
             None => Ok(None),
             Some((first, rest)) => {
                 self.left = rest;
+                self.answers = self.answers.saturating_add(1);
                 Ok(Some(*first))
             }
         }

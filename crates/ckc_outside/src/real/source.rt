@@ -14,6 +14,7 @@ pub struct RealSource<R> {
     from: usize,
     to: usize,
     ended: bool,
+    answers: u64,
     faults: u64,
     ghost in_order: { from ≤ to },
     ghost within: { to ≤ 4096 },
@@ -22,6 +23,7 @@ pub struct RealSource<R> {
 impl<R: Read + Drop> RealSource<R> {
     /// Over what the reader gives.
     pub fn new(reader: R) -> RealSource<R>
+        ensures answers { result.answers ≡ 0 }
         ensures faults { result.faults ≡ 0 }
     {
         RealSource {
@@ -30,6 +32,7 @@ impl<R: Read + Drop> RealSource<R> {
             from: 0,
             to: 0,
             ended: false,
+            answers: 0,
             faults: 0,
         }
     }
@@ -41,6 +44,8 @@ impl<R: Read> Source for RealSource<R> {
     ghost left = { λ _. None };
 
     ghost ended = { λ s. s.ended };
+
+    ghost answers = { λ s. s.answers };
 
     fn next(&mut self) -> Result<Option<u8>, Failed> {
         if self.ended {
@@ -64,6 +69,7 @@ impl<R: Read> Source for RealSource<R> {
         }
         let byte = self.room[self.from];
         self.from += 1;
+        self.answers = self.answers.saturating_add(1);
         Ok(Some(byte))
     }
 }

@@ -1,9 +1,9 @@
 ghost use Rattle.std.specs.Prelude.{◌≡◌, None, false, ◌≤◌};
 ghost use Rattle.ckc_outside.specs.Outside.{IsWithin};
 
-use super::sink::write_whole;
+use super::replace::put_file;
 use super::source::read_some;
-use crate::traits::{Failed, Fetched, Store, StoreError};
+use crate::traits::{Fetched, Store, StoreError};
 use ckc_base::Bytes;
 use std::alloc::Global;
 use std::fs;
@@ -11,7 +11,7 @@ use std::rt::Files;
 
 const ROOM: usize = 4096;
 
-/// The files of the system, by their paths.
+/// The files of the system, by their paths. A regular file is kept whole or left as it was.
 #[derive(Drop)]
 pub struct RealStore<'a, R> {
     rt: &'a R,
@@ -36,7 +36,7 @@ impl<'a, R: Files> RealStore<'a, R> {
     }
 }
 
-impl<'a, R: Files> Store for RealStore<'a, R> {
+impl<'a, R: Files + AllocGlobal> Store for RealStore<'a, R> {
     ghost seen = { λ s. record { files = None; steady = false; faults = s.faults; keeps = s.keeps; kept = s.kept } };
 
     fn fetch(&mut self, alloc: Global, name: &str, limit: u64) -> Result<Fetched, StoreError> {
@@ -52,12 +52,13 @@ impl<'a, R: Files> Store for RealStore<'a, R> {
 
     fn keep(&mut self, name: &str, bytes: &[u8]) -> Result<(), StoreError> {
         self.keeps = self.keeps.saturating_add(1);
-        match write_file(self.rt, name, bytes) {
+        match put_file(self.rt, self.rt.alloc(), name, bytes) {
             Ok(()) => {
                 self.kept = self.kept.saturating_add(1);
                 Ok(())
             }
-            Err(_) => {
+            Err(StoreError::Memory) => Err(StoreError::Memory),
+            Err(StoreError::Failed) => {
                 self.faults = self.faults.saturating_add(1);
                 Err(StoreError::Failed)
             }
@@ -96,12 +97,4 @@ fn read_file<R: Files>(rt: &R, alloc: Global, name: &str, limit: u64) -> Result<
         }
     }
     Err(StoreError::Failed)
-}
-
-/// Puts bytes into a file, in place of what was there.
-fn write_file<R: Files>(rt: &R, name: &str, bytes: &[u8]) -> Result<(), Failed> {
-    let Ok(mut file) = fs::create(rt, name) else {
-        return Err(Failed);
-    };
-    write_whole(&mut file, bytes)
 }
