@@ -3,3 +3,5 @@ pub mod Turning
 pub mod Moving
 pub mod Points
 pub mod Arrivals
+pub mod Giving
+pub mod Stepping

@@ -1,8 +1,8 @@
 -- What a machine is, and what a run of it does.
-use Rattle.std.specs.Prelude.{◌≡◌, ℕ, suc, ◌+◌, ◌≤◌, ◌<◌, true, List, [], ◌∷◌, ◌++◌, length, take, ◌⊎◌, Option, Some, option_and_then}
+use Rattle.std.specs.Prelude.{◌≡◌, ℕ, suc, ◌+◌, ◌≤◌, ◌<◌, true, List, [], ◌∷◌, ◌++◌, length, take, ◌⊎◌, Bool, IsTrue, Option, Some, option_and_then}
 use Rattle.ckc_base.specs.Traces.{Event, Got, Put, Standing, output}
 use Rattle.ckc_base.specs.Traces as standings
-use Rattle.ckc_outside.specs.Outside.{Rose}
+use Rattle.ckc_outside.specs.Outside.{Rose, one_more}
 use Rattle.ckc_rv.specs.declared.instructions.Instr.TheVariants.{Ecall}
 use Rattle.ckc_rv.specs.Decoded.{decoded}
 use Rattle.ckc_rv.specs.Machine.{Parts, State, is_code, loaded, register, machine}
@@ -69,6 +69,27 @@ ArePuts (Got byte ∷ trace) = ⊥
 -- What is left before and after is what the source tells; or nothing is asked for, and it is the same.
 abbrev pub IsFed : Option (List ℕ) → Option (List ℕ) → Type 0 → Option (List ℕ) → Option (List ℕ) → Type 0
 IsFed told told' silent left left' = ((left ≡ told) × (left' ≡ told')) ⊎ (silent × (left' ≡ left))
+
+-- a count of the bytes that a source gave, after these, one by one
+unfoldable pub after_answers : ℕ → List ℕ → ℕ
+after_answers n [] = n
+after_answers n (byte ∷ more) = after_answers (one_more n) more
+
+-- What a source gave: as many bytes as it counted, and none where it had ended. Where it had ended it stays so.
+pub record Gave (ended ended' : Bool) (answers answers' : ℕ) (more : List ℕ) : Type 0 where
+  pub count : answers' ≡ after_answers answers more
+  pub none : IsTrue ended → more ≡ []
+  pub stays : IsTrue ended → IsTrue ended'
+
+-- what may come behind the bytes that a source gave: anything, and nothing where it has ended
+abbrev pub MayCome : Bool → List ℕ → Type 0
+MayCome ended rest = IsTrue ended → rest ≡ []
+
+-- The source gave some bytes, and whatever may come behind them, something holds of what was left before, which is the
+-- bytes and what may come, and of what is left then.
+abbrev pub OverAny : Bool → Bool → ℕ → ℕ → (List ℕ → List ℕ → Type 0) → Type 0
+OverAny ended ended' answers answers' Holds =
+    (more : List ℕ) × Gave ended ended' answers answers' more × ((rest : List ℕ) → MayCome ended' rest → Holds (more ++ rest) rest)
 
 -- where what was written is told, these bytes came after it
 abbrev pub Printed : Option (List ℕ) → Option (List ℕ) → List ℕ → Type 0

@@ -36,7 +36,7 @@ impl<'a> Machine<'a> {
     ghost use Rattle.ckc_rv.specs.declared.registers.Outcome.TheVariants as outcome;
     ghost use Rattle.ckc_rv.specs.Machine.{Parts, by_outcome, calls, stops, register, with_register, next_with, stored, data_start, memory_end};
     ghost use Rattle.ckc_machine.specs.Points.{state_at};
-    ghost use Rattle.ckc_machine.specs.Runs.{IsAt, AsksFor, AsksNothing, IsFed, Runs, answer_of, state_of};
+    ghost use Rattle.ckc_machine.specs.Runs.{IsAt, AsksFor, AsksNothing, IsFed, OverAny, Runs, answer_of, state_of};
     ghost use Rattle.ckc_machine.specs.Turns.{Turns, TurnsBy, NamesRegister};
 
     /// The machine of an image before its first instruction. It takes all the memory that the machine needs.
@@ -70,6 +70,12 @@ impl<'a> Machine<'a> {
             → (input.new ≡ input.old) × Runs parts given k limit self.new left left (O.written out.old) (O.written out.new)
             (S.faults input.old) (S.faults input.new) (O.faults out.old) (O.faults out.new) result }
 
+        // Over any source, whatever may come behind the bytes that it gave, the same holds of the input with both.
+        ensures any { OverAny (S.ended input.old) (S.ended input.new) (S.answers input.old) (S.answers input.new)
+            (λ left left'. (parts : Parts) (given : List ℕ) (k : ℕ) → IsAt parts given k self.old (Some left)
+            → Runs parts given k limit self.new (Some left) (Some left') (O.written out.old) (O.written out.new)
+            (S.faults input.old) (S.faults input.new) (O.faults out.old) (O.faults out.new) result) }
+
         // A fault of an object is first answered only where its count rose.
         ensures read_fault { answer_of self.old ≡ Observed.Going → result ≡ Observed.ReadFault → Rose (S.faults input.old) (S.faults input.new) }
         ensures write_fault { answer_of self.old ≡ Observed.Going → result ≡ Observed.WriteFault → Rose (O.faults out.old) (O.faults out.new) }
@@ -102,6 +108,10 @@ impl<'a> Machine<'a> {
             → IsFed (S.left input.old) (S.left input.new) (¬ AsksFor parts (state_at parts given k) 2) left left'
             → Runs parts given k 1 self.new left left' (O.written out.old) (O.written out.new)
             (S.faults input.old) (S.faults input.new) (O.faults out.old) (O.faults out.new) (answer_of self.new) }
+        ensures any { OverAny (S.ended input.old) (S.ended input.new) (S.answers input.old) (S.answers input.new)
+            (λ left left'. (parts : Parts) (given : List ℕ) (k : ℕ) → IsAt parts given k self.old (Some left)
+            → Runs parts given k 1 self.new (Some left) (Some left') (O.written out.old) (O.written out.new)
+            (S.faults input.old) (S.faults input.new) (O.faults out.old) (O.faults out.new) (answer_of self.new)) }
         ensures silent { (parts : Parts) (given : List ℕ) (k : ℕ) (left : Option (List ℕ)) → IsAt parts given k self.old left
             → ¬ AsksFor parts (state_at parts given k) 2 → input.new ≡ input.old }
         ensures read_fault { answer_of self.new ≡ Observed.ReadFault → Rose (S.faults input.old) (S.faults input.new) }
@@ -140,6 +150,10 @@ impl<'a> Machine<'a> {
         ensures exact { (parts : Parts) (given : List ℕ) (k : ℕ) (written : Option (List ℕ)) (faults : ℕ) → IsAt parts given k self.old (S.left input.old)
             → AsksFor parts (state_at parts given k) 2
             → Runs parts given k 1 self.new (S.left input.old) (S.left input.new) written written (S.faults input.old) (S.faults input.new) faults faults (answer_of self.new) }
+        ensures any { OverAny (S.ended input.old) (S.ended input.new) (S.answers input.old) (S.answers input.new)
+            (λ left left'. (parts : Parts) (given : List ℕ) (k : ℕ) (written : Option (List ℕ)) (faults : ℕ) → IsAt parts given k self.old (Some left)
+            → AsksFor parts (state_at parts given k) 2
+            → Runs parts given k 1 self.new (Some left) (Some left') written written (S.faults input.old) (S.faults input.new) faults faults (answer_of self.new)) }
         ensures read_fault { answer_of self.new ≡ Observed.ReadFault → Rose (S.faults input.old) (S.faults input.new) }
         ensures write_fault { answer_of self.new ≢ Observed.WriteFault }
         ensures input_counts { S.faults input.old ≤ S.faults input.new }

@@ -114,6 +114,8 @@ fn register_form(op: ImmOp) -> RegOp
     }
 }
 
+// Inlined, so that the simulator needs no jump for the operation behind the one for the opcode.
+#[inline(always)]
 fn computed(op: RegOp, a: u32, b: u32) -> u32
     ensures { result ≡ reg_value op a b }
 {

@@ -1,4 +1,4 @@
-use Rattle.std.proofs.Common.{◌≡◌, ◌+◌, ◌<◌, inl, inr, ℕ, List, Option, refl, sym, subst, arith, ◌∙◌}
+use Rattle.std.proofs.Common.{◌≡◌, ◌+◌, ◌<◌, inl, inr, ℕ, List, Option, Some, refl, sym, subst, arith, ◌∙◌}
 use Rattle.std.proofs.lemmas.Bool.{false≢true}
 use Rattle.ckc_rv.specs.Machine.{Parts, machine}
 use Rattle.ckc_machine.specs.declared.observed.Observed.{Observed}
@@ -7,6 +7,7 @@ use Rattle.ckc_machine.specs.declared.machine.Machine.{Machine}
 use Rattle.ckc_machine.specs.Points.{state_at}
 use Rattle.ckc_machine.specs.Runs.{Arrives, Runs, IsFed, AsksFor, AsksNothing, answer_of}
 use Rattle.ckc_machine.proofs.Arrivals.{settled, then_going, then_ends, fed_same, arrives_none, runs_arriving}
+use Rattle.ckc_machine.proofs.Giving.{not_asked, given_so, given_then, RunsBy, ArrivesBy}
 use Rattle.ckc_machine.proofs.machine.Machine.run.Goals as goal
 
 pub returns-then-not-goes-clause-exact : goal.returns-then-not-goes-clause-exact
@@ -16,6 +17,10 @@ returns-then-not-goes-clause-exact g c = λ parts given k is.
 pub returns-then-not-goes-clause-silent : goal.returns-then-not-goes-clause-silent
 returns-then-not-goes-clause-silent g c = λ parts given k left is silent.
     (refl, settled parts given k c.args.limit c.args.self.now left (g.O.Sink.written c.args.out.now) (g.S.Source.faults c.args.input.now) (g.O.Sink.faults c.args.out.now) is (λ e. false≢true (c.if-not-goes.ensures.1 e)))
+
+pub returns-then-not-goes-clause-any : goal.returns-then-not-goes-clause-any
+returns-then-not-goes-clause-any g c = not_asked _ _ (RunsBy c.args.limit c.args.self.now c.args.self.now (g.O.Sink.written c.args.out.now) (g.O.Sink.written c.args.out.now) (g.S.Source.faults c.args.input.now) (g.S.Source.faults c.args.input.now) (g.O.Sink.faults c.args.out.now) (g.O.Sink.faults c.args.out.now) (answer_of c.args.self.now)) (λ rest parts given k is.
+    settled parts given k c.args.limit c.args.self.now (Some rest) (g.O.Sink.written c.args.out.now) (g.S.Source.faults c.args.input.now) (g.O.Sink.faults c.args.out.now) is (λ e. false≢true (c.if-not-goes.ensures.1 e)))
 
 -- one instruction of a silent run asks for nothing
 silent_at : (parts : Parts) (given : List ℕ) (k i limit : ℕ) → i < limit → AsksNothing parts given k limit → ¬ AsksFor parts (state_at parts given (k + i)) 2
@@ -34,6 +39,7 @@ loop-step-init g c = record {
       let written = g.O.Sink.written c.args.out.now in
       let same = fed_same (g.S.Source.left c.args.input.now) _ before after fed in
       subst (λ (l : Option (List ℕ)). Arrives parts given k 0 c.args.self.now before l written written) (sym same) (arrives_none parts given k c.args.self.now before written is);
+  any = not_asked _ _ (ArrivesBy 0 c.args.self.now c.args.self.now (g.O.Sink.written c.args.out.now) (g.O.Sink.written c.args.out.now)) (λ rest parts given k is. arrives_none parts given k c.args.self.now (Some rest) (g.O.Sink.written c.args.out.now) is);
   silent = λ parts given k before is quiet. refl;
   input_counts = omega arith;
   out_counts = omega arith;
@@ -64,6 +70,18 @@ returns-then-not-goes-2-clause-silent g c = λ parts given k left is quiet.
           (c.step.ensures.exact parts given (k + i) left left before.at (inr (one, refl))),
     )
 
+pub returns-then-not-goes-2-clause-any : goal.returns-then-not-goes-2-clause-any
+returns-then-not-goes-2-clause-any g c =
+    let i = c.loop-step._step in
+    given_then _ _ _ _ _ _ (ArrivesBy c.loop-step._step c.args.self.now c.loop-step.self (g.O.Sink.written c.args.out.now) (g.O.Sink.written c.loop-step.out)) (RunsBy 1 c.loop-step.self c.step.new.self (g.O.Sink.written c.loop-step.out) (g.O.Sink.written c.step.new.out) (g.S.Source.faults c.loop-step.input) (g.S.Source.faults c.step.new.input) (g.O.Sink.faults c.loop-step.out) (g.O.Sink.faults c.step.new.out) (answer_of c.step.new.self))
+    (RunsBy c.args.limit c.args.self.now c.step.new.self (g.O.Sink.written c.args.out.now) (g.O.Sink.written c.step.new.out) (g.S.Source.faults c.args.input.now) (g.S.Source.faults c.step.new.input) (g.O.Sink.faults c.args.out.now) (g.O.Sink.faults c.step.new.out) (answer_of c.step.new.self)) c.loop-step.invariant.any c.step.ensures.any (λ left mid left' first then parts given k is.
+    let before = first parts given k is in
+    then_ends parts given k i c.args.limit c.loop-step.self c.step.new.self
+    (Some left) (Some mid) (Some left') (g.O.Sink.written c.args.out.now) (g.O.Sink.written c.loop-step.out) (g.O.Sink.written c.step.new.out)
+    (g.S.Source.faults c.args.input.now) (g.S.Source.faults c.loop-step.input) (g.S.Source.faults c.step.new.input) (g.O.Sink.faults c.args.out.now) (g.O.Sink.faults c.loop-step.out) (g.O.Sink.faults c.step.new.out)
+    is.rest before (omega arith) c.loop-step.invariant.input_counts c.loop-step.invariant.out_counts (answer_of c.step.new.self) refl (λ e. false≢true (c.if-not-goes-2.ensures.1 e))
+    (then parts given (k + i) before.at))
+
 pub loop-step-preserved : goal.loop-step-preserved
 loop-step-preserved g c =
     let told = g.S.Source.left in
@@ -81,6 +99,15 @@ loop-step-preserved g c =
           is.rest before c.loop-step-test.true c.loop-step.invariant.input_counts c.loop-step.invariant.out_counts going
           (subst (λ (o : Observed). Runs parts given (k + i) 1 c.step.new.self half.0 left' (written c.loop-step.out) (written c.step.new.out)
           (g.S.Source.faults c.loop-step.input) (g.S.Source.faults c.step.new.input) (g.O.Sink.faults c.loop-step.out) (g.O.Sink.faults c.step.new.out) o) going (c.step.ensures.exact parts given (k + i) half.0 left' before.at half.2));
+      any = given_then _ _ _ _ _ _ (ArrivesBy c.loop-step._step c.args.self.now c.loop-step.self (g.O.Sink.written c.args.out.now) (g.O.Sink.written c.loop-step.out)) (RunsBy 1 c.loop-step.self c.step.new.self (g.O.Sink.written c.loop-step.out) (g.O.Sink.written c.step.new.out) (g.S.Source.faults c.loop-step.input) (g.S.Source.faults c.step.new.input) (g.O.Sink.faults c.loop-step.out) (g.O.Sink.faults c.step.new.out) (answer_of c.step.new.self))
+          (ArrivesBy (c.loop-step._step + 1) c.args.self.now c.step.new.self (g.O.Sink.written c.args.out.now) (g.O.Sink.written c.step.new.out)) c.loop-step.invariant.any c.step.ensures.any (λ left mid left' first then parts given k is.
+          let before = first parts given k is in
+          then_going parts given k i c.args.limit c.loop-step.self c.step.new.self
+          (Some left) (Some mid) (Some left') (written c.args.out.now) (written c.loop-step.out) (written c.step.new.out)
+          (g.S.Source.faults c.args.input.now) (g.S.Source.faults c.loop-step.input) (g.S.Source.faults c.step.new.input) (g.O.Sink.faults c.args.out.now) (g.O.Sink.faults c.loop-step.out) (g.O.Sink.faults c.step.new.out)
+          is.rest before c.loop-step-test.true c.loop-step.invariant.input_counts c.loop-step.invariant.out_counts going
+          (subst (λ (o : Observed). Runs parts given (k + i) 1 c.step.new.self (Some mid) (Some left') (written c.loop-step.out) (written c.step.new.out)
+          (g.S.Source.faults c.loop-step.input) (g.S.Source.faults c.step.new.input) (g.O.Sink.faults c.loop-step.out) (g.O.Sink.faults c.step.new.out) o) going (then parts given (k + i) before.at)));
       silent = λ parts given k left is quiet.
           let before = c.loop-step.invariant.arrives parts given k left left is (inr (quiet, refl)) in
           c.step.ensures.silent parts given (k + i) left before.at (silent_at parts given k i c.args.limit c.loop-step-test.true quiet) ∙ c.loop-step.invariant.silent parts given k left is quiet;
@@ -101,6 +128,12 @@ returns-clause-exact g c = λ parts given k is.
     at_limit parts given k c.loop-step._step c.args.limit c.loop-step.self (told c.args.input.now) (told c.loop-step.input) (g.O.Sink.written c.args.out.now) (g.O.Sink.written c.loop-step.out)
     (g.S.Source.faults c.args.input.now) (g.S.Source.faults c.loop-step.input) (g.O.Sink.faults c.args.out.now) (g.O.Sink.faults c.loop-step.out) (omega arith)
     (c.loop-step.invariant.arrives parts given k (told c.args.input.now) (told c.loop-step.input) is (inl (refl, refl)))
+
+pub returns-clause-any : goal.returns-clause-any
+returns-clause-any g c = given_so _ _ _ _ (ArrivesBy c.loop-step._step c.args.self.now c.loop-step.self (g.O.Sink.written c.args.out.now) (g.O.Sink.written c.loop-step.out))
+    (RunsBy c.args.limit c.args.self.now c.loop-step.self (g.O.Sink.written c.args.out.now) (g.O.Sink.written c.loop-step.out) (g.S.Source.faults c.args.input.now) (g.S.Source.faults c.loop-step.input) (g.O.Sink.faults c.args.out.now) (g.O.Sink.faults c.loop-step.out) (answer_of c.loop-step.self)) c.loop-step.invariant.any (λ left left' arrives parts given k is.
+    at_limit parts given k c.loop-step._step c.args.limit c.loop-step.self (Some left) (Some left') (g.O.Sink.written c.args.out.now) (g.O.Sink.written c.loop-step.out)
+    (g.S.Source.faults c.args.input.now) (g.S.Source.faults c.loop-step.input) (g.O.Sink.faults c.args.out.now) (g.O.Sink.faults c.loop-step.out) (omega arith) (arrives parts given k is))
 
 pub returns-clause-silent : goal.returns-clause-silent
 returns-clause-silent g c = λ parts given k left is quiet. (

@@ -1,0 +1,68 @@
+-- What a source gave, and what may come behind it.
+use Rattle.std.proofs.Common.{◌≡◌, ℕ, List, [], ◌∷◌, ◌++◌, Option, Some, Bool, refl, sym, ap, subst, ◌∙◌, append_assoc}
+use Rattle.ckc_outside.specs.Outside.{one_more}
+use Rattle.ckc_rv.specs.Machine.{Parts}
+use Rattle.ckc_machine.specs.declared.observed.Observed.{Observed}
+use Rattle.ckc_machine.specs.declared.machine.Machine.{Machine}
+use Rattle.ckc_machine.specs.Points.{state_at}
+use Rattle.ckc_machine.specs.Runs.{after_answers, OverAny, IsAt, AsksFor, Arrives, Runs}
+
+pub no_answer : (n : ℕ) → n ≡ after_answers n []
+unfolding after_answers
+no_answer n = refl
+
+pub one_answer : (n byte : ℕ) → one_more n ≡ after_answers n (byte ∷ [])
+unfolding after_answers
+one_answer n byte = refl
+
+answers_join : (n : ℕ) (more then : List ℕ) → after_answers (after_answers n more) then ≡ after_answers n (more ++ then)
+unfolding after_answers
+answers_join n [] then = refl
+answers_join n (byte ∷ more) then = answers_join (one_more n) more then
+
+-- a source that was not asked
+pub not_asked : (ended : Bool) (answers : ℕ) (Holds : List ℕ → List ℕ → Type 0) → ((rest : List ℕ) → Holds rest rest) → OverAny ended ended answers answers Holds
+not_asked ended answers Holds h = ([], record { count = no_answer answers; none = λ t. refl; stays = λ t. t }, λ rest may. h rest)
+
+pub given_so : (ended ended' : Bool) (answers answers' : ℕ) (One Other : List ℕ → List ℕ → Type 0) → OverAny ended ended' answers answers' One
+    → ((left left' : List ℕ) → One left left' → Other left left') → OverAny ended ended' answers answers' Other
+given_so ended ended' answers answers' One Other o h = (o.0, o.1, λ rest may. h (o.0 ++ rest) rest (o.2 rest may))
+
+both_none : (more then : List ℕ) → more ≡ [] → then ≡ [] → more ++ then ≡ []
+both_none more then e f = ap (λ l. l ++ then) e ∙ f
+
+-- what was given first, and what was given then
+pub given_then : (ended midway ended' : Bool) (answers between answers' : ℕ) (First Then Both : List ℕ → List ℕ → Type 0)
+    → OverAny ended midway answers between First → OverAny midway ended' between answers' Then
+    → ((left mid left' : List ℕ) → First left mid → Then mid left' → Both left left') → OverAny ended ended' answers answers' Both
+given_then ended midway ended' answers between answers' First Then Both f t h =
+    let more = f.0 in
+    let then = t.0 in (
+      more ++ then,
+      record {
+        count = t.1.count ∙ ap (λ n. after_answers n then) f.1.count ∙ answers_join answers more then;
+        none = λ e. both_none more then (f.1.none e) (t.1.none (f.1.stays e));
+        stays = λ e. t.1.stays (f.1.stays e);
+      },
+      λ rest may. subst (λ l. Both l rest) (sym (append_assoc more then rest))
+          (h (more ++ (then ++ rest)) (then ++ rest) rest (f.2 (then ++ rest) (λ e. both_none then rest (t.1.none e) (may (t.1.stays e)))) (t.2 rest may)),
+    )
+
+-- ---- what holds of what was left before and then
+
+-- a run from wherever the machine is
+abbrev pub RunsBy : ℕ → Machine → Machine → Option (List ℕ) → Option (List ℕ) → ℕ → ℕ → ℕ → ℕ → Observed → List ℕ → List ℕ → Type 0
+RunsBy limit m m' written written' faults faults' puts puts' answer left left' =
+    (parts : Parts) (given : List ℕ) (k : ℕ) → IsAt parts given k m (Some left)
+    → Runs parts given k limit m' (Some left) (Some left') written written' faults faults' puts puts' answer
+
+-- so many instructions more
+abbrev pub ArrivesBy : ℕ → Machine → Machine → Option (List ℕ) → Option (List ℕ) → List ℕ → List ℕ → Type 0
+ArrivesBy count m m' written written' left left' =
+    (parts : Parts) (given : List ℕ) (k : ℕ) → IsAt parts given k m (Some left) → Arrives parts given k count m' (Some left) (Some left') written written'
+
+-- an instruction that asks for a byte
+abbrev pub GetsBy : Machine → Machine → ℕ → ℕ → Observed → List ℕ → List ℕ → Type 0
+GetsBy m m' faults faults' answer left left' =
+    (parts : Parts) (given : List ℕ) (k : ℕ) (written : Option (List ℕ)) (puts : ℕ) → IsAt parts given k m (Some left) → AsksFor parts (state_at parts given k) 2
+    → Runs parts given k 1 m' (Some left) (Some left') written written faults faults' puts puts answer
