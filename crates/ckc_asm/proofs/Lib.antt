@@ -7,6 +7,7 @@ pub mod Words
 pub mod Numbers
 pub mod Listed
 pub mod ReadBack
+pub mod Spelling
 pub mod Cutting
 pub mod Digits
 pub mod DataBytes

@@ -47,7 +47,7 @@ digits_all : (radix : ℕ) (w : List ℕ) → AllDigits radix w → list_all (λ
 digits_all radix [] d = refl
 digits_all radix (b ∷ w) d = let t : is_digit b radix ≡ true = lt-ltb (digit_value b) radix d.0 in rw (t, digits_all radix w d.1) refl
 
-is_numeral_from : (radix : ℕ) (w : List ℕ) → IsNumeral radix w → is_numeral radix w ≡ true
+pub is_numeral_from : (radix : ℕ) (w : List ℕ) → IsNumeral radix w → is_numeral radix w ≡ true
 is_numeral_from radix w n = let t : nat_lt 0 (length w) ≡ true = lt-ltb 0 (length w) n.0 in rw (t, digits_all radix w n.1) refl
 
 numeral_back : (radix n : ℕ) (w : List ℕ) → IsNumeral radix w → digits_value radix w ≡ n → n ≤ 2 ^ 40 → numeral_of radix w ≡ Some n
@@ -59,11 +59,11 @@ pub decimal_run : (n : ℕ) → n < 2 ^ 64 → IsRun (decimal n)
 decimal_run n h = numeral_run 10 (decimal n) (omega arith) (decimal_is_IsNumeral n h).0
 
 -- a decimal numeral begins with no sign and no `0x`
-first_digit : (w : List ℕ) → IsNumeral 10 w → (slice_index w 0 == 45) ≡ false
+pub first_digit : (w : List ℕ) → IsNumeral 10 w → (slice_index w 0 == 45) ≡ false
 first_digit [] n = absurd (omega (arith, n.0))
 first_digit (b ∷ w) n = is_not b 45 (λ e. omega (arith, (digit_range b (omega (arith, n.1.0))).0))
 
-no_x : (w : List ℕ) → AllDigits 10 w → (slice_index w 1 == 120) ≡ false
+pub no_x : (w : List ℕ) → AllDigits 10 w → (slice_index w 1 == 120) ≡ false
 no_x [] d = refl
 no_x (b ∷ []) d = refl
 no_x (b ∷ c ∷ w) d = is_not c 120 (λ e. let h : digit_value 120 < 10 = subst (λ n. digit_value n < 10) e d.1.0 in omega arith)

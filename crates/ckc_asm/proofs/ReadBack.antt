@@ -55,7 +55,7 @@ comma = 44 ∷ []
 
 -- ---- names
 
-branch_kind : (op : BranchOp) → (kind_of (branch_name op) ≡ Some (kind.Branch op)) × IsRun (branch_name op)
+pub branch_kind : (op : BranchOp) → (kind_of (branch_name op) ≡ Some (kind.Branch op)) × IsRun (branch_name op)
 unfolding kind_of
 branch_kind Beq = (refl, record { some = omega arith; plain = refl })
 branch_kind Bne = (refl, record { some = omega arith; plain = refl })
@@ -64,7 +64,7 @@ branch_kind Bge = (refl, record { some = omega arith; plain = refl })
 branch_kind Bltu = (refl, record { some = omega arith; plain = refl })
 branch_kind Bgeu = (refl, record { some = omega arith; plain = refl })
 
-load_kind : (op : LoadOp) → (kind_of (load_name op) ≡ Some (kind.Load op)) × IsRun (load_name op)
+pub load_kind : (op : LoadOp) → (kind_of (load_name op) ≡ Some (kind.Load op)) × IsRun (load_name op)
 unfolding kind_of
 load_kind Lb = (refl, record { some = omega arith; plain = refl })
 load_kind Lh = (refl, record { some = omega arith; plain = refl })
@@ -72,13 +72,13 @@ load_kind Lw = (refl, record { some = omega arith; plain = refl })
 load_kind Lbu = (refl, record { some = omega arith; plain = refl })
 load_kind Lhu = (refl, record { some = omega arith; plain = refl })
 
-store_kind : (op : StoreOp) → (kind_of (store_name op) ≡ Some (kind.Store op)) × IsRun (store_name op)
+pub store_kind : (op : StoreOp) → (kind_of (store_name op) ≡ Some (kind.Store op)) × IsRun (store_name op)
 unfolding kind_of
 store_kind Sb = (refl, record { some = omega arith; plain = refl })
 store_kind Sh = (refl, record { some = omega arith; plain = refl })
 store_kind Sw = (refl, record { some = omega arith; plain = refl })
 
-imm_kind : (op : ImmOp) → (kind_of (imm_name op) ≡ Some (kind.Imm op)) × IsRun (imm_name op)
+pub imm_kind : (op : ImmOp) → (kind_of (imm_name op) ≡ Some (kind.Imm op)) × IsRun (imm_name op)
 unfolding kind_of
 imm_kind Addi = (refl, record { some = omega arith; plain = refl })
 imm_kind Slti = (refl, record { some = omega arith; plain = refl })
@@ -90,7 +90,7 @@ imm_kind Slli = (refl, record { some = omega arith; plain = refl })
 imm_kind Srli = (refl, record { some = omega arith; plain = refl })
 imm_kind Srai = (refl, record { some = omega arith; plain = refl })
 
-reg_kind : (op : RegOp) → (kind_of (reg_name op) ≡ Some (kind.Reg op)) × IsRun (reg_name op)
+pub reg_kind : (op : RegOp) → (kind_of (reg_name op) ≡ Some (kind.Reg op)) × IsRun (reg_name op)
 unfolding kind_of
 reg_kind Add = (refl, record { some = omega arith; plain = refl })
 reg_kind Sub = (refl, record { some = omega arith; plain = refl })

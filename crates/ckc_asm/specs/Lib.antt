@@ -6,6 +6,7 @@ pub mod Putting
 pub mod Cut
 pub mod Numerals
 pub mod Items
+pub mod Spelled
 pub mod Program
 pub mod Faults
 pub mod Outcome

@@ -25,7 +25,7 @@ mod texts;
 
 pub use assembler::assemble;
 pub use fault::AsmFault;
-pub use laws::{one_answer, one_assembly, words_by_range};
+pub use laws::{one_answer, one_assembly, words_by_range, words_by_spelling};
 pub use lines::{Labelled, Line};
 pub use lister::list;
 pub use reader::read_asm;
