@@ -13,14 +13,15 @@ use Rattle.ckc_machine.specs.declared.observed.Observed.TheVariants as observed
 use Rattle.ckc_machine.specs.Runs.{Printed, kind_number}
 use Rattle.ckc_cli.specs.declared.status.Status.{Status}
 use Rattle.ckc_cli.specs.declared.status.Status.TheVariants as status
-use Rattle.ckc_cli.specs.Accepted.{Meaning, Accepted}
-use Rattle.ckc_cli.specs.Source.{source}
+use Rattle.ckc_build.specs.Accepted.{Meaning, Accepted}
+use Rattle.ckc_build.specs.Source.{source}
 use Rattle.ckc_cli.specs.Words.{Command, Exec, Reads}
-use Rattle.ckc_cli.specs.Commands.{Built, Executes}
+use Rattle.ckc_build.specs.Built.{Built}
+use Rattle.ckc_cli.specs.Commands.{Executes}
 use Rattle.ckc_cli.specs.Running.{Seen, ShownOver, Ran, fed, status_of}
 use Rattle.ckc_cli.specs.Causes.{Over, IsShown}
 use Rattle.ckc_cli.specs.Agreeing.{RanBuilt, PrintedPart, PrintedFirst, StopsAsMeant, GoesAsMeant}
-use Rattle.ckc_cli.proofs.Exact.{phases_exact}
+use Rattle.ckc_build.proofs.Chain.{phases_exact}
 use Rattle.ckc_cli.proofs.Wording.{reads_once}
 use Rattle.ckc_cli.proofs.Headline.{asks_nothing, borne}
 use Rattle.ckc_cli.proofs.Statuses as by
@@ -121,7 +122,7 @@ module _ (words : List (List ℕ)) (old new : Seen) (before after : Stored) (qui
 
   module _ (s : Status) (text : List ℕ) (limit n : ℕ) (m : Meaning) (a : Accepted text m) (le : 4 * (n + 1) ≤ limit) (reads : ¬ Rose old.read_faults new.read_faults) (writes : ¬ Rose old.write_faults new.write_faults) where
     one_meaning : (parts : Parts) (built : Built text parts) → m ≡ built.meaning
-    one_meaning parts built = phases_exact.once text m built.meaning a built.accepted
+    one_meaning parts built = phases_exact.made_once text m built.meaning a built.accepted
 
     pub exec_put : RanBuilt text limit old new untaken s ⊎ (s ≡ status.Memory) → (source m n).standing ≢ Stuck
         → PrintedFirst old.written new.written (output (source m n).trace) ⊎ (s ≡ status.Memory)

@@ -12,7 +12,7 @@ use Rattle.ckc_cli.specs.Commands.{name_of, BadBytes, Refuses, IsBad, Keeps, Lis
 use Rattle.ckc_cli.specs.Running.{Seen, Ran, status_of}
 use Rattle.ckc_outside.specs.Outside.{Stored}
 use Rattle.ckc_cli.specs.Causes.{Holds, StoreIsFine, Given}
-use Rattle.ckc_cli.proofs.Exact.{phases_exact}
+use Rattle.ckc_build.proofs.Chain.{phases_exact}
 use Rattle.ckc_cli.proofs.Assembling.{fault_once}
 use Rattle.ckc_cli.proofs.OneTask.{one_bad, not_Refuses_IsBad, not_Refuses_Keeps, not_Refuses_Lists, not_Refuses_Executes, not_IsBad_Keeps, not_IsBad_Lists, not_IsBad_Executes, not_Keeps_Lists, not_Keeps_Executes, not_Lists_Executes}
 use Rattle.ckc_cli.proofs.Wording.{reads_once}
@@ -20,9 +20,9 @@ use Rattle.ckc_cli.proofs.Statuses as by
 use Rattle.ckc_cli.proofs.Statuses.{not_shown, by_usage, by_store, by_refusal, by_bad, by_keeping, by_not_keeping, by_memory, by_keeping_memory, by_listing, by_cut_listing, by_running}
 
 refuses_once : (command : Command) (bytes : List ℕ) (fault other : Refusal) → Refuses command bytes fault → Refuses command bytes other → fault ≡ other
-refuses_once (Build text image) bytes fault other p q = phases_exact.fault_once bytes fault other p q
+refuses_once (Build text image) bytes fault other p q = phases_exact.refused_once bytes fault other p q
 refuses_once (Assemble text image) bytes fault other p q = fault_once bytes fault other p q
-refuses_once (Exec text limit) bytes fault other p q = phases_exact.fault_once bytes fault other p q
+refuses_once (Exec text limit) bytes fault other p q = phases_exact.refused_once bytes fault other p q
 refuses_once (Run image limit) bytes fault other p q = absurd p
 refuses_once (Show image) bytes fault other p q = absurd p
 

@@ -6,14 +6,15 @@ use Rattle.ckc_image.specs.Image.{image_bytes}
 use Rattle.ckc_machine.specs.declared.observed.Observed.{Observed}
 use Rattle.ckc_cli.specs.declared.status.Status.{Status}
 use Rattle.ckc_cli.specs.declared.status.Status.TheVariants as status
-use Rattle.ckc_cli.specs.Accepted.{Meaning, Accepted}
-use Rattle.ckc_cli.specs.Compiled.{instructions, code_of}
+use Rattle.ckc_build.specs.Accepted.{Meaning, Accepted}
+use Rattle.ckc_build.specs.Compiled.{instructions, code_of}
 use Rattle.ckc_cli.specs.Words.{Build, Exec}
-use Rattle.ckc_cli.specs.Commands.{Built, Keeps, Executes}
+use Rattle.ckc_build.specs.Built.{Built}
+use Rattle.ckc_cli.specs.Commands.{Keeps, Executes}
 use Rattle.ckc_cli.specs.Running.{Seen, Ran, status_of}
 use Rattle.ckc_cli.specs.Causes.{StoreIsFine, Given}
 use Rattle.ckc_cli.specs.Agreeing.{RanBuilt}
-use Rattle.ckc_cli.proofs.Judgements.{code_fits, built_of}
+use Rattle.ckc_build.proofs.Judgements.{code_fits, built_of}
 use Rattle.ckc_cli.proofs.Statuses as by
 use Rattle.ckc_cli.proofs.Always as always
 

@@ -8,14 +8,15 @@ use Rattle.ckc_machine.specs.declared.observed.Observed.TheVariants as observed
 use Rattle.ckc_machine.specs.declared.observed.FaultKind.{FaultKind}
 use Rattle.ckc_cli.specs.declared.status.Status.{Status}
 use Rattle.ckc_cli.specs.declared.status.Status.TheVariants as status
-use Rattle.ckc_cli.specs.Accepted.{Meaning, Accepted}
-use Rattle.ckc_cli.specs.Source.{source}
+use Rattle.ckc_build.specs.Accepted.{Meaning, Accepted}
+use Rattle.ckc_build.specs.Source.{source}
 use Rattle.ckc_cli.specs.Words.{Command, Exec, Reads}
-use Rattle.ckc_cli.specs.Commands.{name_of, Built, Refuses, IsBad, Keeps, Lists, Executes}
+use Rattle.ckc_build.specs.Built.{Built}
+use Rattle.ckc_cli.specs.Commands.{name_of, Refuses, IsBad, Keeps, Lists, Executes}
 use Rattle.ckc_cli.specs.Running.{Seen, Ran, status_of}
 use Rattle.ckc_outside.specs.Outside.{Stored}
 use Rattle.ckc_cli.specs.Causes.{Holds, StoreIsFine, Given, Over, IsShown, EndsAsMeant}
-use Rattle.ckc_cli.proofs.Exact.{phases_exact}
+use Rattle.ckc_build.proofs.Chain.{phases_exact}
 use Rattle.ckc_cli.proofs.Wording.{reads_once}
 use Rattle.ckc_cli.proofs.Headline.{ran_ended, ran_no_fault, ran_in_time}
 use Rattle.ckc_cli.proofs.Always as always
@@ -62,7 +63,7 @@ module _ (words : List (List ℕ)) (old new : Seen) (before after : Stored) (qui
         → ¬ Rose old.read_faults new.read_faults → ¬ Rose old.write_faults new.write_faults → Executes (Exec name limit) text parts most → Ran parts most old new untaken o → o ≡ observed.Ended value
     in_time m n value most parts o a e le r w x ran =
         let built : Built text parts = x.1 in
-        let same : m ≡ built.meaning = phases_exact.once text m built.meaning a built.accepted in
+        let same : m ≡ built.meaning = phases_exact.made_once text m built.meaning a built.accepted in
         let ends : (source built.meaning n).standing ≡ Ended value = subst (λ (y : Meaning). (source y n).standing ≡ Ended value) same e in
         ran_in_time text parts built most old new untaken n value o ends (subst (λ k. 4 * (n + 1) ≤ k) (sym x.0) le) r w ran
 
@@ -78,7 +79,7 @@ module _ (words : List (List ℕ)) (old new : Seen) (before after : Stored) (qui
       exec_always s (by_usage none e b c k) = absurd (none (Exec name limit) g.reads)
       exec_always s (by_store command r rose lacks e i) = absurd (always.no_store words old new before after quiet untaken unasked (Exec name limit) text g fine command rose (λ here t e. lacks here t e) r)
       exec_always s (by_refusal command r bytes h fault x e i) =
-          absurd (phases_exact.not_both text m fault a (moved (λ c b. Refuses c b fault) command bytes (same_command command r) (same_bytes command bytes r h) x))
+          absurd (phases_exact.never_both text m fault a (moved (λ c b. Refuses c b fault) command bytes (same_command command r) (same_bytes command bytes r h) x))
       exec_always s (by_bad command r bytes h k x e i) = absurd (moved (λ c b. IsBad c b k) command bytes (same_command command r) (same_bytes command bytes r h) x)
       exec_always s (by_keeping command r bytes h place image x e k b c) = absurd ((moved (λ c b. Keeps c b place image) command bytes (same_command command r) (same_bytes command bytes r h) x).1.1)
       exec_always s (by_not_keeping command r bytes h place image x e k rose t b c) = absurd ((moved (λ c b. Keeps c b place image) command bytes (same_command command r) (same_bytes command bytes r h) x).1.1)

@@ -12,9 +12,9 @@ use Rattle.ckc_machine.specs.declared.observed.FaultKind.{FaultKind}
 use Rattle.ckc_machine.specs.Runs.{ArePuts, AsksNothing, Printed, kind_number}
 use Rattle.ckc_machine.proofs.Points.{since_start}
 use Rattle.ckc_machine.proofs.Arrivals.{puts_are_silent}
-use Rattle.ckc_cli.specs.Accepted.{Meaning}
-use Rattle.ckc_cli.specs.Source.{source, source_system}
-use Rattle.ckc_cli.specs.Commands.{Built}
+use Rattle.ckc_build.specs.Accepted.{Meaning}
+use Rattle.ckc_build.specs.Source.{source, source_system}
+use Rattle.ckc_build.specs.Built.{Built}
 use Rattle.ckc_cli.specs.Running.{Seen, ShownOver, Ran, fed}
 
 -- ---- the meaning puts bytes and reads none

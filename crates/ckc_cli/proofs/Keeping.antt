@@ -1,6 +1,5 @@
 -- What is kept: once, of the image, and by no other command.
-use Rattle.std.proofs.Common.{◌≡◌, ◌≢◌, ◌⊎◌, inl, inr, ℕ, List, Ok, Err, sym, arith}
-use Rattle.ckc_outside.specs.declared.traits.StoreError.TheVariants as error
+use Rattle.std.proofs.Common.{◌≡◌, ◌≢◌, ◌⊎◌, inl, inr, ℕ, List, arith}
 use Rattle.ckc_outside.specs.Outside.{Stored, Rose, one_more}
 use Rattle.ckc_cli.specs.declared.status.Status.{Status}
 use Rattle.ckc_cli.specs.declared.status.Status.TheVariants as status

@@ -1,5 +1,5 @@
 -- What comes of each command, from what its parts gave.
-use Rattle.std.proofs.Common.{◌≡◌, inl, inr, ℕ, ◌<◌, ◌≤◌, List, length, Some, Result, Ok, refl, sym, ap, subst, ◌∙◌, arith}
+use Rattle.std.proofs.Common.{◌≡◌, inl, inr, ℕ, ◌<◌, ◌≤◌, List, length, Some, Result, Ok, Err, refl, sym, ap, subst, ◌∙◌, arith}
 use Rattle.ckc_outside.specs.declared.traits.Fetched.{Fetched}
 use Rattle.ckc_outside.specs.declared.traits.Fetched.TheVariants.{Whole, Longer}
 use Rattle.ckc_outside.specs.declared.traits.StoreError as errors
@@ -8,19 +8,22 @@ use Rattle.ckc_outside.specs.Outside.{Files, Rose, one_more, after_keep}
 use Rattle.ckc_rv.specs.Machine.{Parts}
 use Rattle.ckc_image.proofs.Agreement.{never_bad, same_parts}
 use Rattle.ckc_asm.specs.Listing.{listing}
-use Rattle.ckc_cli.specs.declared.front.Fault.{Fault}
-use Rattle.ckc_cli.specs.declared.front.Fault.TheVariants as faults
+use Rattle.ckc_base.specs.declared.places.Refusal.{Refusal}
+use Rattle.ckc_base.specs.declared.fault.Fault.{Fault}
+use Rattle.ckc_base.specs.Phases.{Phase, Answers}
+use Rattle.ckc_base.specs.declared.fault.Fault.TheVariants as faults
 use Rattle.ckc_cli.specs.declared.status.Status.{Status}
 use Rattle.ckc_cli.specs.declared.words.Command as commands
 use Rattle.ckc_cli.specs.Commanded.{command_is}
 use Rattle.ckc_cli.specs.Words.{Command, Exec, Run, Show}
-use Rattle.ckc_cli.specs.Commands.{longest_image, IsImage, Built, Refuses}
+use Rattle.ckc_build.specs.Built.{IsImage, Built}
+use Rattle.ckc_cli.specs.Commands.{longest_image, Refuses}
 use Rattle.ckc_cli.specs.Running.{Seen, Ran, Ends, shows, Listed, OverImage, proper, bad}
 use Rattle.ckc_cli.specs.Running as running
 use Rattle.ckc_cli.specs.Causes as causes
 use Rattle.ckc_outside.specs.Outside.{Stored}
 use Rattle.ckc_cli.specs.Causes.{Holds, Unkept, KeptOnce, Idle, Came, Obeyed}
-use Rattle.ckc_cli.specs.Judging.{IfRefused, fault_status}
+use Rattle.ckc_cli.specs.Judging.{fault_status}
 use Rattle.ckc_cli.specs.Fetching.{Fetches}
 
 -- ---- what was fetched
@@ -42,10 +45,11 @@ module _ (old new : Seen) (before after : Stored) (quiet untaken : Type 0) (s : 
   pub came_as : (command : Command) (bytes other : List ℕ) → bytes ≡ other → Came command bytes old new before after quiet untaken s → Came command other old new before after quiet untaken s
   came_as command bytes other e c = subst (λ (b : List ℕ). Came command b old new before after quiet untaken s) e c
 
-  pub faulted : (command : Command) (bytes : List ℕ) (fault : Fault) → IfRefused fault (Refuses command bytes) → s ≡ fault_status fault → Idle before after quiet untaken
-      → Came command bytes old new before after quiet untaken s
-  faulted command bytes (faults.Refused fault) h e idle = causes.refused fault h e idle
-  faulted command bytes faults.Memory h e idle = causes.no_memory e idle
+  -- a phase whose errors are those of the command
+  pub faulted : (p : Phase (List ℕ) (List ℕ)) (command : Command) (bytes : List ℕ) (fault : Fault) → ((r : Refusal) → p.Refuses bytes r → Refuses command bytes r)
+      → Answers p bytes (Err fault) → s ≡ fault_status fault → Idle before after quiet untaken → Came command bytes old new before after quiet untaken s
+  faulted p command bytes (faults.Refused refusal) refuses h e idle = causes.refused refusal (refuses refusal h) e idle
+  faulted p command bytes faults.Memory refuses h e idle = causes.no_memory e idle
 
   pub exec_came : (text bytes image : List ℕ) (limit : ℕ) (parts : Parts) → Built bytes parts → IsImage image parts
       → OverImage image (λ p. Ends p limit old new quiet untaken s) (quiet × untaken) s → Unkept before after → Came (Exec text limit) bytes old new before after quiet untaken s

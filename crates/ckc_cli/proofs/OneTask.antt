@@ -5,8 +5,9 @@ use Rattle.ckc_rv.specs.Machine.{Parts}
 use Rattle.ckc_image.specs.Image.{magic, word_bytes, FirstBad}
 use Rattle.ckc_image.proofs.Agreement.{never_bad}
 use Rattle.ckc_cli.specs.Words.{Command, Build, Assemble, Exec, Run, Show}
-use Rattle.ckc_cli.specs.Commands.{IsImage, BadBytes, longest_image, Refuses, IsBad, Keeps, Lists, Executes}
-use Rattle.ckc_cli.proofs.Exact.{phases_exact}
+use Rattle.ckc_build.specs.Built.{IsImage}
+use Rattle.ckc_cli.specs.Commands.{BadBytes, longest_image, Refuses, IsBad, Keeps, Lists, Executes}
+use Rattle.ckc_build.proofs.Chain.{phases_exact}
 use Rattle.ckc_cli.proofs.Assembling.{never_both}
 
 -- an image is no longer than the longest
@@ -44,7 +45,7 @@ not_Refuses_IsBad (Run name most) bytes fault k p q = p
 not_Refuses_IsBad (Show name) bytes fault k p q = p
 
 pub not_Refuses_Keeps : (command : Command) (bytes : List ℕ) (fault : Refusal) (place image : List ℕ) → Refuses command bytes fault → Keeps command bytes place image → ⊥
-not_Refuses_Keeps (Build text target) bytes fault place image p q = phases_exact.not_both bytes q.1.1.meaning fault q.1.1.accepted p
+not_Refuses_Keeps (Build text target) bytes fault place image p q = phases_exact.never_both bytes q.1.1.meaning fault q.1.1.accepted p
 not_Refuses_Keeps (Assemble text target) bytes fault place image p q = never_both bytes q.1.0 fault q.1.1 p
 not_Refuses_Keeps (Exec text most) bytes fault place image p q = q.1.1
 not_Refuses_Keeps (Run name most) bytes fault place image p q = p
@@ -60,7 +61,7 @@ not_Refuses_Lists (Show name) bytes fault listing p q = p
 pub not_Refuses_Executes : (command : Command) (bytes : List ℕ) (fault : Refusal) (parts : Parts) (limit : ℕ) → Refuses command bytes fault → Executes command bytes parts limit → ⊥
 not_Refuses_Executes (Build text target) bytes fault parts limit p q = q
 not_Refuses_Executes (Assemble text target) bytes fault parts limit p q = q
-not_Refuses_Executes (Exec text most) bytes fault parts limit p q = phases_exact.not_both bytes q.1.meaning fault q.1.accepted p
+not_Refuses_Executes (Exec text most) bytes fault parts limit p q = phases_exact.never_both bytes q.1.meaning fault q.1.accepted p
 not_Refuses_Executes (Run name most) bytes fault parts limit p q = p
 not_Refuses_Executes (Show name) bytes fault parts limit p q = p
 

@@ -1,5 +1,5 @@
 -- Which commands touch neither input nor output.
-use Rattle.std.proofs.Common.{◌≡◌, ℕ, List, Option, None, Some, refl, sym, ap, subst, ◌∙◌}
+use Rattle.std.proofs.Common.{◌≡◌, ℕ, List, Some, ap, subst, ◌∙◌}
 use Rattle.ckc_outside.specs.Outside.{Stored}
 use Rattle.ckc_rv.specs.Machine.{Parts}
 use Rattle.ckc_cli.specs.declared.status.Status.{Status}

@@ -8,10 +8,10 @@ use Rattle.ckc_rv.specs.Machine.{Parts}
 use Rattle.ckc_machine.specs.declared.observed.Observed.{Observed}
 use Rattle.ckc_machine.specs.Runs.{Printed}
 use Rattle.ckc_cli.specs.declared.status.Status.{Status}
-use Rattle.ckc_cli.specs.Accepted.{Meaning, Accepted}
-use Rattle.ckc_cli.specs.Source.{source}
+use Rattle.ckc_build.specs.Accepted.{Meaning, Accepted}
+use Rattle.ckc_build.specs.Source.{source}
 use Rattle.ckc_cli.specs.Words.{Command}
-use Rattle.ckc_cli.specs.Commands.{Built}
+use Rattle.ckc_build.specs.Built.{Built}
 use Rattle.ckc_cli.specs.Running.{Seen, Ran, status_of}
 
 -- The machine of an image of the text was run, and the status is what it showed.

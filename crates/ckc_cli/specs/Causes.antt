@@ -1,5 +1,5 @@
 -- When each status of the top call comes, and what it leaves.
-use Rattle.std.specs.Prelude.{◌≡◌, ◌≢◌, ◌≤◌, ◌⊎◌, ℕ, List, [], ◌∷◌, ◌++◌, take, Bool, IsTrue, Option, None, Some, Result, Ok, Err}
+use Rattle.std.specs.Prelude.{◌≡◌, ◌≢◌, ◌≤◌, ◌⊎◌, ℕ, List, [], ◌∷◌, ◌++◌, take, IsTrue, Option, None, Some, Result, Ok, Err}
 use Rattle.std.specs.FinMap as fin
 use Rattle.ckc_base.specs.declared.places.Refusal.{Refusal}
 use Rattle.ckc_outside.specs.declared.traits.StoreError as errors
@@ -10,8 +10,8 @@ use Rattle.ckc_rv.specs.Machine.{Parts}
 use Rattle.ckc_cli.specs.declared.status.Status.{Status}
 use Rattle.ckc_cli.specs.declared.status.Status.TheVariants as status
 use Rattle.ckc_base.specs.Traces.{Ended, output}
-use Rattle.ckc_cli.specs.Accepted.{Meaning, Accepted}
-use Rattle.ckc_cli.specs.Source.{source}
+use Rattle.ckc_build.specs.Accepted.{Meaning, Accepted}
+use Rattle.ckc_build.specs.Source.{source}
 use Rattle.ckc_cli.specs.Words.{Command, Reads}
 use Rattle.ckc_machine.specs.declared.observed.Observed.{Observed}
 use Rattle.ckc_machine.specs.declared.observed.Observed.TheVariants as observed

@@ -1,15 +1,15 @@
 -- What the commands make of the bytes that they fetch.
 use Rattle.std.specs.Prelude.{◌≡◌, ◌⊎◌, ℕ, ◌<◌, ◌≤◌, List, length, Option, None, Some}
 use Rattle.ckc_base.specs.declared.places.Refusal.{Refusal}
-use Rattle.ckc_base.specs.Follows.{Follows}
-use Rattle.ckc_rv.specs.Machine.{Parts, machine}
-use Rattle.ckc_image.specs.Image.{ImageOf, FirstBad}
+use Rattle.ckc_base.specs.Phases.{Phase}
+use Rattle.ckc_rv.specs.Machine.{Parts}
+use Rattle.ckc_image.specs.Image.{FirstBad}
 use Rattle.ckc_asm.specs.Listing.{listing}
 use Rattle.ckc_asm.specs.Program.{AsmOf}
 use Rattle.ckc_asm.specs.Faults.{longest_text, IsFirstFault}
 use Rattle.ckc_cli.specs.Words.{Command, Build, Assemble, Exec, Run, Show, Reads}
-use Rattle.ckc_cli.specs.Accepted.{Meaning, Accepted, FirstFault}
-use Rattle.ckc_cli.specs.Source.{source, AreBytes}
+use Rattle.ckc_build.specs.Accepted.{FirstFault}
+use Rattle.ckc_build.specs.Built.{Built, IsImage}
 
 -- the name whose bytes are fetched
 abbrev pub name_of : Command → List ℕ
@@ -35,23 +35,20 @@ AsksToKeep words name = (command : Command) × Reads words command × (kept_name
 abbrev pub longest_image : ℕ
 longest_image = 33550356
 
-abbrev pub IsImage : List ℕ → Parts → Type 0
-IsImage bytes parts = ImageOf bytes parts.entry parts.code parts.initial
-
 -- k is the first part that disagrees, and 3 where there are too many bytes
 abbrev pub BadBytes : List ℕ → ℕ → Type 0
 BadBytes bytes k = ((longest_image < length bytes) × (k ≡ 3)) ⊎ ((length bytes ≤ longest_image) × FirstBad bytes k)
 
--- The parts are those of an image of an accepted text: for every input, its machine follows the meaning of the text,
--- within 4 instructions for each step and one more.
-pub record Built (text : List ℕ) (parts : Parts) : Type 0 where
-  pub meaning : Meaning
-  pub accepted : Accepted text meaning
-  pub follows : (input : List ℕ) → AreBytes input → Follows (source meaning) (machine parts input) 4
-
 -- The text is assembly of the parts, and not too long.
 abbrev pub Assembles : List ℕ → Parts → Type 0
 Assembles text parts = (length text ≤ longest_text) × AsmOf text parts.entry parts.code parts.initial
+
+-- From a text of assembly to the image of its parts, or to its first fault.
+abbrev pub assembling : Phase (List ℕ) (List ℕ)
+assembling = record {
+  Makes = λ text image. (parts : Parts) × Assembles text parts × IsImage image parts;
+  Refuses = λ text refusal. IsFirstFault text refusal.code refusal.pos;
+}
 
 -- the text is refused
 abbrev pub Refuses : Command → List ℕ → Refusal → Type 0

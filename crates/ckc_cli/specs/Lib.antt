@@ -1,12 +1,7 @@
 pub mod Report
 pub mod Words
 pub mod Commanded
-pub mod Phases
-pub mod FirstForm
-pub mod Accepted
 pub mod Judging
-pub mod Source
-pub mod Compiled
 pub mod Commands
 pub mod Running
 pub mod Causes

@@ -8,7 +8,7 @@ use Rattle.ckc_machine.specs.declared.observed.Observed.TheVariants as observed
 use Rattle.ckc_machine.specs.Points.{taken}
 use Rattle.ckc_machine.specs.Runs.{Says, Printed, Took, AsksNothing, FailsToGet, FailsToPut}
 use Rattle.ckc_image.specs.Image.{FirstBad}
-use Rattle.ckc_cli.specs.Commands.{IsImage}
+use Rattle.ckc_build.specs.Built.{IsImage}
 use Rattle.ckc_cli.specs.declared.status.Status.{Status}
 use Rattle.ckc_cli.specs.declared.status.Status.TheVariants as status
 

@@ -1,18 +1,16 @@
 //! From a text of assembly to the bytes of its image.
-ghost use Rattle.std.specs.Prelude.{MatchResult};
-ghost use Rattle.ckc_asm.specs.Faults.{IsFirstFault};
-ghost use Rattle.ckc_rv.specs.Machine as machine;
-ghost use Rattle.ckc_cli.specs.Judging.{IfRefused};
-ghost use Rattle.ckc_cli.specs.Commands.{Assembles, IsImage};
+ghost use Rattle.ckc_base.specs.Phases.{Answers, viewed};
+ghost use Rattle.ckc_build.specs.Built.{bytes_of};
+ghost use Rattle.ckc_cli.specs.Commands.{assembling};
 
-use crate::front::Fault;
 use ckc_asm::{AsmFault, read_asm};
+use ckc_base::Fault;
 use ckc_image::write;
 use std::alloc::Global;
 
 /// The image of the parts that a text of assembly stands for.
 pub fn assemble(alloc: Global, text: &[u8]) -> Result<Vec<u8>, Fault>
-    ensures { MatchResult result (λ image. (parts : machine.Parts) × Assembles text.now parts × IsImage image.items parts) (λ e. IfRefused e (λ fault. IsFirstFault text.now fault.code fault.pos)) }
+    ensures { Answers assembling text.now (viewed bytes_of result) }
 {
     match read_asm(alloc, text) {
         Err(AsmFault::Refused(refusal)) => Err(Fault::Refused(refusal)),

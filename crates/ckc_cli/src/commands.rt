@@ -1,9 +1,9 @@
 //! The commands, one function for each.
-ghost use Rattle.std.specs.Prelude.{◌≡◌, ℕ, ◌≤◌, List, Option, IsTrue, length};
-ghost use Rattle.ckc_lexer.specs.Cut.{longest_text};
+ghost use Rattle.std.specs.Prelude.{◌≡◌, ℕ, ◌≤◌, List, Option};
+ghost use Rattle.ckc_base.specs.Places.{at_start};
 ghost use Rattle.ckc_cli.specs.Words as w;
 ghost use Rattle.ckc_cli.specs.Commanded.{command_is};
-ghost use Rattle.ckc_cli.specs.Commands.{longest_image, Keeps};
+ghost use Rattle.ckc_cli.specs.Commands.{Keeps};
 ghost use Rattle.ckc_cli.specs.Running.{Seen};
 ghost use Rattle.ckc_outside.specs.Outside.{Stored};
 ghost use Rattle.ckc_cli.specs.Causes.{OnlyFetched, Unkept, Came, Obeyed};
@@ -11,20 +11,25 @@ ghost use Rattle.ckc_cli.specs.Judging.{fault_status};
 ghost use Rattle.ckc_cli.specs.Fetching.{Fetches};
 
 use crate::assembly::assemble;
-use crate::build::build;
-use crate::front::Fault;
 use crate::run::{list_bytes, run_bytes};
 use crate::status::Status;
 use crate::words::Command;
-use ckc_base::{Pos, Refusal};
+use ckc_base::{Fault, LONGEST_TEXT, Refusal, START};
+use ckc_build::build;
 use ckc_outside::{Fetched, Sink, Source, Store, StoreError};
 use std::alloc::Global;
 
 /// The most bytes that a text may have.
-const TEXT_LIMIT: u64 = 262_144;
+const TEXT_LIMIT: u64 = LONGEST_TEXT as u64;
 
 /// The most bytes that an image may have.
 const IMAGE_LIMIT: u64 = 33_550_356;
+
+/// The part of an image that is at fault where there are too many bytes.
+const TOO_MANY_BYTES: u8 = 3;
+
+/// E201: the text has over 262,144 bytes.
+const LONG_TEXT: u16 = 201;
 
 /// Does what a command asks for.
 pub fn obey<'a, S: Source, O: Sink, F: Store>(
@@ -68,7 +73,6 @@ fn build_text<F: Store>(alloc: Global, text: &str, image: &str, store: &mut F) -
 
 /// Builds a text and keeps its image.
 fn build_bytes<F: Store>(alloc: Global, bytes: &[u8], image: &str, store: &mut F) -> Status
-    requires { length bytes.now ≤ longest_text }
     ensures cause { (text : List ℕ) (seen : Seen) (before : Stored) → OnlyFetched before (F.seen store.old)
         → Came (w.Build text image.now) bytes.now seen seen before
         (F.seen store.new)
@@ -156,7 +160,6 @@ fn exec_bytes<S: Source, O: Sink>(
     input: &mut S,
     out: &mut O,
 ) -> Status
-    requires { length bytes.now ≤ longest_text }
     ensures cause { (text : List ℕ) (before after : Stored) → Unkept before after → Came (w.Exec text limit) bytes.now
         (record { left = S.left input.old; written = O.written out.old; read_faults = S.faults input.old; write_faults = O.faults out.old })
         (record { left = S.left input.new; written = O.written out.new; read_faults = S.faults input.new; write_faults = O.faults out.new })
@@ -190,7 +193,7 @@ fn run_image<S: Source, O: Sink, F: Store>(
 {
     match fetch(alloc, image, IMAGE_LIMIT, store) {
         Err(status) => status,
-        Ok(Fetched::Longer) => Status::BadImage(3),
+        Ok(Fetched::Longer) => Status::BadImage(TOO_MANY_BYTES),
         Ok(Fetched::Whole(bytes)) => run_bytes(alloc, bytes.as_slice(), limit, input, out),
     }
 }
@@ -207,18 +210,18 @@ fn list_image<O: Sink, F: Store>(alloc: Global, image: &str, out: &mut O, store:
 {
     match fetch(alloc, image, IMAGE_LIMIT, store) {
         Err(status) => status,
-        Ok(Fetched::Longer) => Status::BadImage(3),
+        Ok(Fetched::Longer) => Status::BadImage(TOO_MANY_BYTES),
         Ok(Fetched::Whole(bytes)) => list_bytes(bytes.as_slice(), out),
     }
 }
 
 /// The refusal of a text that is too long.
 fn too_long() -> Status
-    ensures { result ≡ Status.Refused (record { code = 201; pos = record { line = 1; col = 1 } }) }
+    ensures { result ≡ Status.Refused (at_start 201) }
 {
     Status::Refused(Refusal {
-        code: 201,
-        pos: Pos { line: 1, col: 1 },
+        code: LONG_TEXT,
+        pos: START,
     })
 }
 

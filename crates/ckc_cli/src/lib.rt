@@ -2,12 +2,7 @@
 #![tactic(auto)]
 
 mod assembly;
-mod build;
 mod commands;
-mod compiler;
-mod form;
-mod front;
-mod laws;
 mod line;
 mod reporting;
 mod run;
@@ -16,7 +11,6 @@ mod top;
 mod words;
 
 pub use ckc_machine::FaultKind;
-pub use laws::{one_meaning, one_tree};
 pub use line::Line;
 pub use reporting::report;
 pub use status::Status;

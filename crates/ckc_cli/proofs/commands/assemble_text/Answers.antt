@@ -1,9 +1,9 @@
-use Rattle.std.proofs.Common.{refl, sym}
+use Rattle.std.proofs.Common.{refl}
 use Rattle.ckc_cli.specs.Words.{Assemble}
 use Rattle.ckc_outside.specs.Outside.{Stored}
 use Rattle.ckc_cli.specs.Causes.{refused, fetched}
 use Rattle.ckc_asm.specs.Faults.{too_long}
-use Rattle.ckc_cli.specs.Accepted.{at_start}
+use Rattle.ckc_base.specs.Places.{at_start}
 use Rattle.ckc_cli.proofs.Obeying.{over_limit, whole_of, came_as}
 use Rattle.ckc_cli.proofs.commands.assemble_text.Goals as goal
 

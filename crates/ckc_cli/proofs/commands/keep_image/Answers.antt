@@ -1,8 +1,6 @@
-use Rattle.std.proofs.Common.{◌≡◌, ◌∙◌, ap, sym, subst, refl, Ok, Err}
-use Rattle.ckc_outside.specs.Outside as outside
+use Rattle.std.proofs.Common.{ap, refl, Ok, Err}
 use Rattle.ckc_outside.specs.declared.traits.StoreError as errors
 use Rattle.ckc_outside.specs.declared.traits.StoreError.TheVariants as error
-use Rattle.ckc_outside.specs.Outside.{after_keep, one_more}
 use Rattle.ckc_cli.specs.Causes.{kept, not_kept, not_kept_for_memory}
 use Rattle.ckc_cli.proofs.Obeying.{rose_from, kept_once}
 use Rattle.ckc_cli.proofs.commands.keep_image.Goals as goal

@@ -1,0 +1,187 @@
+-- The phases, one after another: each text is accepted or has one first error, and what a call of each phase answers.
+use Rattle.std.proofs.Common.{◌≡◌, ℕ, inl, inr, List, map, Option, None, Some, Result, Ok, Err, MatchOption, refl, sym, ap, subst, ◌∙◌}
+use Rattle.ckc_base.specs.declared.places.Pos.{Pos}
+use Rattle.ckc_base.specs.declared.places.Refusal.{Refusal}
+use Rattle.ckc_base.specs.declared.fault.Fault.{Fault}
+use Rattle.ckc_base.specs.declared.fault.Fault.TheVariants as fault
+use Rattle.ckc_base.specs.Outcomes.{AnswersOutcome, there_or}
+use Rattle.ckc_base.specs.Phases.{Phase, ◌>=>◌, IsExact, Answers, Exact, viewed}
+use Rattle.ckc_base.specs.Places.{at_start, start}
+use Rattle.ckc_base.proofs.Phases.{then_exact, answers_on, exact_of, phase_by_exact}
+use Rattle.ckc_syntax.specs.declared.tokens.Token as code
+use Rattle.ckc_syntax.specs.declared.tree.NamedText.{NamedText}
+use Rattle.ckc_syntax.specs.Spelled.{Tokens, spelled}
+use Rattle.ckc_syntax.specs.Phase.{limiting}
+use Rattle.ckc_syntax.proofs.Limiting.{limiting_exact}
+use Rattle.ckc_lexer.specs.Phase.{lexing, tokens_in}
+use Rattle.ckc_lexer.specs.Places.{place_after}
+use Rattle.ckc_lexer.proofs.Answer.{lexing_exact}
+use Rattle.ckc_parser.specs.Phase.{parsing}
+use Rattle.ckc_parser.specs.Text.{SpelledTree}
+use Rattle.ckc_parser.proofs.Once.{parsing_exact}
+use Rattle.ckc_resolve.specs.Phase.{naming, text_named}
+use Rattle.ckc_forms.specs.Phase.{integers}
+use Rattle.ckc_forms.proofs.Judged.{integers_exact}
+use Rattle.ckc_typed.specs.declared.typed.Typed.{Typed}
+use Rattle.ckc_typed.specs.Texts.{named_typed}
+use Rattle.ckc_typing.specs.Phase.{typing}
+use Rattle.ckc_build.specs.declared.form.Program.{Program}
+use Rattle.ckc_build.specs.FirstForm.{IsForm}
+use Rattle.ckc_build.specs.Accepted.{Meaning, beside, first_form, reading, after_reading, after_lexing, phases, meaning_of}
+use Rattle.ckc_build.proofs.OneForm.{form_once}
+
+-- ---- the phases are exact
+
+naming_exact : IsExact naming
+naming_exact = phase_by_exact text_named
+
+typing_exact : IsExact typing
+typing_exact = phase_by_exact named_typed
+
+both_same : {A B : Type 0} (a : A) (m n : A × B) → m.0 ≡ a → n.0 ≡ a → m.1 ≡ n.1 → m ≡ n
+both_same a m n e f g = λ j. ((e ∙ sym f) j, g j)
+
+beside_exact : {A B : Type 0} (p : Phase A B) → IsExact p → IsExact (beside p)
+beside_exact p exact = record {
+  made_once = λ a b other m n. both_same a b other m.0 n.0 (exact.made_once a b.1 other.1 m.1 n.1);
+  refused_once = exact.refused_once;
+  never_both = λ a b r m f. exact.never_both a b.1 r m.1 f;
+  never_neither = λ a no_made no_refused. exact.never_neither a (λ b m. no_made (a, b) (refl, m)) no_refused;
+}
+
+meaning_path : (a b : Meaning) → a.puts ≡ b.puts → a.value ≡ b.value → a ≡ b
+meaning_path a b e f = λ j. record { puts = e j; value = f j }
+
+first_form_exact : IsExact first_form
+first_form_exact = record {
+  made_once = λ text a b m n. let same = form_once text.0 a.puts b.puts a.value b.value m n in meaning_path a b same.0 same.1;
+  refused_once = λ text r other f g. f.1 ∙ sym g.1;
+  never_both = λ text m r is f. f.0 m.puts m.value is;
+  never_neither = λ text no_made no_refused. no_refused (at_start 100)
+      (λ puts value is. no_made (record { puts = puts; value = value }) is, refl);
+}
+
+-- the tree with its types
+abbrev later : Phase SpelledTree Typed
+later = naming >=> integers >=> typing
+
+abbrev behind_limits : Phase SpelledTree Meaning
+behind_limits = beside later >=> first_form
+
+later_exact : IsExact later
+later_exact = then_exact naming (integers >=> typing) naming_exact (then_exact integers typing integers_exact typing_exact)
+
+reading_exact : IsExact reading
+reading_exact = then_exact lexing parsing lexing_exact parsing_exact
+
+behind_limits_exact : IsExact behind_limits
+behind_limits_exact = then_exact (beside later) first_form (beside_exact later later_exact) first_form_exact
+
+pub after_reading_exact : IsExact after_reading
+after_reading_exact = then_exact limiting behind_limits limiting_exact behind_limits_exact
+
+pub after_lexing_exact : IsExact after_lexing
+after_lexing_exact = then_exact parsing after_reading parsing_exact after_reading_exact
+
+pub phases_exact : IsExact phases
+phases_exact = then_exact lexing after_lexing lexing_exact after_lexing_exact
+
+pub one_tree : (text : List ℕ) (a b : SpelledTree) → reading.Makes text a → reading.Makes text b → a ≡ b
+one_tree = reading_exact.made_once
+
+-- ---- what calls of the phases answer
+
+-- an error of the first phase is an error of both
+err_first : {A B C : Type 0} (p : Phase A B) (q : Phase B C) (a : A) (e : Fault) → Answers p a (Err e) → Answers (p >=> q) a (Err e)
+err_first p q a (fault.Refused r) f = inl f
+err_first p q a fault.Memory f = tt
+
+err_beside : {A B : Type 0} (p : Phase A B) (a : A) (e : Fault) → Answers p a (Err e) → Answers (beside p) a (Err e)
+err_beside p a (fault.Refused r) f = f
+err_beside p a fault.Memory f = tt
+
+-- what the code gives to a phase is what the one before it makes
+pub tokens_same : (text : List ℕ) (found now : List code.Token) (end : Pos) → now ≡ found → end ≡ place_after text
+    → record { list = map spelled now; end = end } ≡ tokens_in text found
+tokens_same text found now end e f = λ j. record { list = map spelled (e j); end = f j }
+
+module _ {A B C : Type 0} (p : Phase A B) (q : Phase B C) (exact : IsExact p) (next : IsExact q) (a : A) where
+  -- an error of the first of two phases is the answer of both
+  pub exact_err : (e : Fault) → Exact p a (Err e) → Exact (p >=> q) a (Err e)
+  exact_err e x = exact_of (p >=> q) (then_exact p q exact next) a (Err e) (err_first p q a e x.answers)
+
+  -- and else the answer of the second one is
+  pub exact_on : (b : B) (answer : Result C Fault) → Exact p a (Ok b) → Exact q b answer → Exact (p >=> q) a answer
+  exact_on b answer x y = exact_of (p >=> q) (then_exact p q exact next) a answer (answers_on p q exact next a b answer x.answers y.answers)
+
+-- a call that ends with an error
+pub ends : {A : Type 0} (p : Phase A Meaning) (a : A) (answer : Result Program Fault) (e other : Fault) → answer ≡ Err e → e ≡ other
+    → Exact p a (Err other) → Exact p a (viewed meaning_of answer)
+ends p a answer e other is same x = subst (λ r. Exact p a (viewed meaning_of r)) (sym (is ∙ ap (λ y. Err y) same)) x
+
+pub lex_ends : (text : List ℕ) (e : Fault) → Exact lexing text (Err e) → Exact phases text (Err e)
+lex_ends text e x = exact_err lexing after_lexing lexing_exact after_lexing_exact text e x
+
+pub lex_goes : (text : List ℕ) (tokens : Tokens) (answer : Result Meaning Fault) → Exact lexing text (Ok tokens) → Exact after_lexing tokens answer → Exact phases text answer
+lex_goes text tokens answer x y = exact_on lexing after_lexing lexing_exact after_lexing_exact text tokens answer x y
+
+pub parse_ends : (tokens : Tokens) (e : Fault) → Exact parsing tokens (Err e) → Exact after_lexing tokens (Err e)
+parse_ends tokens e x = exact_err parsing after_reading parsing_exact after_reading_exact tokens e x
+
+pub parse_goes : (tokens : Tokens) (tree : SpelledTree) (answer : Result Meaning Fault) → Exact parsing tokens (Ok tree) → Exact after_reading tree answer → Exact after_lexing tokens answer
+parse_goes tokens tree answer x y = exact_on parsing after_reading parsing_exact after_reading_exact tokens tree answer x y
+
+module _ (tree : SpelledTree) where
+  pub fits_ends : (e : Fault) → Exact limiting tree (Err e) → Exact after_reading tree (Err e)
+  fits_ends e x = exact_err limiting behind_limits limiting_exact behind_limits_exact tree e x
+
+  -- what comes of a small tree
+  from_small : Exact limiting tree (Ok tree) → (answer : Result Meaning Fault) → Answers behind_limits tree answer → Exact after_reading tree answer
+  from_small small answer a =
+      exact_of after_reading after_reading_exact tree answer (answers_on limiting behind_limits limiting_exact behind_limits_exact tree tree answer small.answers a)
+
+  pub memory_ends : Exact after_reading tree (Err fault.Memory)
+  memory_ends = exact_of after_reading after_reading_exact tree (Err fault.Memory) tt
+
+  pub typed_ends : Exact limiting tree (Ok tree) → (e : Fault) → Exact later tree (Err e) → Exact after_reading tree (Err e)
+  typed_ends small e x = from_small small (Err e) (err_first (beside later) first_form tree e (err_beside later tree e x.answers))
+
+  abbrev FoundForm : Option Program → Type 0
+  FoundForm form = MatchOption form ((puts : List ℕ) (value : ℕ) → ¬ IsForm tree puts value) (λ p. IsForm tree p.puts.items p.value)
+
+  form_answers : (typed : Typed) (form : Option Program) (r : Result Program Fault) → FoundForm form → AnswersOutcome r (there_or 100 start form)
+      → Answers first_form (tree, typed) (viewed meaning_of r)
+  form_answers typed (Some p) (Ok q) found a = let same : p ≡ q = cc in subst (λ p. IsForm tree p.puts.items p.value) same found
+  form_answers typed (Some p) (Err (fault.Refused r)) found a = absurd (cc)
+  form_answers typed (Some p) (Err fault.Memory) found a = tt
+  form_answers typed None (Ok q) found a = absurd (cc)
+  form_answers typed None (Err (fault.Refused r)) found a = let same : at_start 100 ≡ r = cc in (found, sym same)
+  form_answers typed None (Err fault.Memory) found a = tt
+
+  pub all_ends : Exact limiting tree (Ok tree) → (typed : Typed) → Exact later tree (Ok typed) → (form : Option Program) → FoundForm form
+      → (r : Result Program Fault) → AnswersOutcome r (there_or 100 start form) → Exact after_reading tree (viewed meaning_of r)
+  all_ends small typed x form found r a =
+      from_small small (viewed meaning_of r)
+      (answers_on (beside later) first_form (beside_exact later later_exact) first_form_exact tree (tree, typed) (viewed meaning_of r) (refl, x.answers) (form_answers typed form r found a))
+
+-- ---- the tree with its types
+
+module _ (tree : SpelledTree) where
+  pub ends_typed : (answer : Result Typed Fault) (e other : Fault) → answer ≡ Err e → e ≡ other → Answers later tree (Err other) → Exact later tree answer
+  ends_typed answer e other is same a =
+      subst (λ r. Exact later tree r) (sym (is ∙ ap (λ x. Err x) same)) (exact_of later later_exact tree (Err other) a)
+
+  pub naming_ends : (e : Fault) → Exact naming tree (Err e) → Answers later tree (Err e)
+  naming_ends e x = err_first naming (integers >=> typing) tree e x.answers
+
+  module _ (named : NamedText) (is_named : Exact naming tree (Ok named)) where
+    from_named : (answer : Result Typed Fault) → Answers (integers >=> typing) named answer → Answers later tree answer
+    from_named answer a = answers_on naming (integers >=> typing) naming_exact (then_exact integers typing integers_exact typing_exact) tree named answer is_named.answers a
+
+    pub integers_ends : (e : Fault) → Exact integers named (Err e) → Answers later tree (Err e)
+    integers_ends e x = from_named (Err e) (err_first integers typing named e x.answers)
+
+    pub typing_ends : Exact integers named (Ok named) → (answer : Result Typed Fault) → Exact typing named answer → Exact later tree answer
+    typing_ends passed answer x =
+        exact_of later later_exact tree answer
+        (from_named answer (answers_on integers typing integers_exact typing_exact named named answer passed.answers x.answers))

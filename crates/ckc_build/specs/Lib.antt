@@ -1,0 +1,5 @@
+pub mod Accepted
+pub mod Built
+pub mod Compiled
+pub mod FirstForm
+pub mod Source

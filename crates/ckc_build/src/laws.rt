@@ -1,0 +1,16 @@
+//! What holds of the definitions, each the contract of a function that does nothing.
+ghost use Rattle.std.specs.Prelude.{◌≡◌, List, ℕ};
+ghost use Rattle.ckc_base.specs.Phases.{IsExact};
+ghost use Rattle.ckc_parser.specs.Text.{SpelledTree};
+ghost use Rattle.ckc_build.specs.Accepted.{phases, reading};
+
+/// A text is accepted, with one meaning, or it has one first error: never both, never neither.
+pub fn is_exact()
+    ensures { IsExact phases }
+{}
+
+/// A text has at most one tree.
+pub fn one_tree()
+    ensures { (text : List ℕ) (a b : SpelledTree) →
+        reading.Makes text a → reading.Makes text b → a ≡ b }
+{}

@@ -1,0 +1,15 @@
+//! From a text to the bytes of its image, or to its first error: the phases, one after another.
+//!
+//! The last phase is that of the texts that are built so far (`form`, `compiler`).
+#![tactic(auto)]
+
+mod compiler;
+mod form;
+mod front;
+mod images;
+mod laws;
+
+pub use form::Program;
+pub use front::accept;
+pub use images::build;
+pub use laws::{is_exact, one_tree};
