@@ -1,0 +1,78 @@
+-- What the lines of operations come to: the value of each operation is in a register.
+use Rattle.std.proofs.Common.{◌≡◌, ◌≢◌, inl, ℕ, ◌^◌, ◌<◌, nat_lt, List, ◌∷◌, refl, sym, ap, ◌∙◌, arith}
+use Rattle.std.specs.Prelude.{pos}
+use Rattle.ckc_base.specs.Words.{flag, applied}
+use Rattle.ckc_base.specs.declared.arithmetic.BinOp.{BinOp}
+use Rattle.ckc_base.specs.declared.arithmetic.BinOp.TheVariants as op
+use Rattle.ckc_rv.specs.declared.instructions.RegOp.{RegOp}
+use Rattle.ckc_rv.specs.declared.instructions.RegOp.TheVariants.{Sub, Sltu}
+use Rattle.ckc_rv.specs.declared.instructions.ImmOp.TheVariants.{Sltiu}
+use Rattle.ckc_rv.specs.declared.instructions.Instr.TheVariants.{Imm, Reg}
+use Rattle.ckc_rv.specs.Effects.{reg_value}
+use Rattle.ckc_asm.specs.declared.lines.Line.{Line}
+use Rattle.ckc_asm.specs.declared.lines.Line.TheVariants.{Plain}
+use Rattle.ckc_frame.specs.declared.code.Place.{Place}
+use Rattle.ckc_frame.specs.WellFormed.{IsPlace}
+use Rattle.ckc_emit.specs.Lines.{source_of, write_lines, operation_of, apply_lines, const_lines}
+use Rattle.ckc_emit.proofs.Local.{Local}
+use Rattle.ckc_emit.proofs.Steps.{reg_step, imm_step}
+use Rattle.ckc_emit.proofs.Paths.{Code, Sets, set_by, set_again, sets_loosened}
+use Rattle.ckc_emit.proofs.FrameWords.{sets_value, constant_sets}
+use Rattle.ckc_emit.proofs.Homes.{IsFramed, Writes, write_after, source_low}
+use Rattle.ckc_emit.proofs.Values.{equal_flag, unequal_flag}
+
+module _ (c : Code) where
+  -- an operation of two registers
+  reg_sets : (o : RegOp) (rd ra rb x y : ℕ) (rest : List Line) (l : Local) → rd ≢ 0 → rd < 32 → ra < 32 → rb < 32 → l.x ra ≡ x → l.x rb ≡ y
+      → Sets c 1 1 (Plain (Reg o rd ra rb) ∷ rest) rest l rd (reg_value o x y)
+  reg_sets o rd ra rb x y rest l nonzero h i j e f =
+      sets_value c 1 1 (Plain (Reg o rd ra rb) ∷ rest) rest l rd (reg_value o (l.x ra) (l.x rb)) (reg_value o x y)
+      (ap (λ v. reg_value o v (l.x rb)) e ∙ ap (reg_value o x) f)
+      (set_by c (Reg o rd ra rb) rest l rd (reg_value o (l.x ra) (l.x rb)) nonzero (λ pc at. reg_step c.parts l pc o rd ra rb at h i j))
+
+  pub plain_sets : (o : RegOp) (v rd ra rb x y : ℕ) (rest : List Line) (l : Local) → rd ≢ 0 → rd < 32 → ra < 32 → rb < 32 → l.x ra ≡ x → l.x rb ≡ y → reg_value o x y ≡ v
+      → Sets c 1 2 (Plain (Reg o rd ra rb) ∷ rest) rest l rd v
+  plain_sets o v rd ra rb x y rest l nonzero h i j e f g =
+      sets_loosened c 1 1 1 2 (Plain (Reg o rd ra rb) ∷ rest) rest l rd v (omega arith) (omega arith)
+      (sets_value c 1 1 (Plain (Reg o rd ra rb) ∷ rest) rest l rd (reg_value o x y) v g (reg_sets o rd ra rb x y rest l nonzero h i j e f))
+
+  -- a register gets the value of an operation on two others
+  pub apply_sets : (o : BinOp) (rd ra rb x y : ℕ) (rest : List Line) (l : Local) → rd ≢ 0 → rd < 32 → ra < 32 → rb < 32 → l.x 0 ≡ 0 → l.x ra ≡ x → l.x rb ≡ y
+      → x < 2 ^ 32 → y < 2 ^ 32 → Sets c 1 2 (apply_lines o rd ra rb rest) rest l rd (applied o x y)
+  apply_sets op.Eq rd ra rb x y rest l nonzero h i j z e f fits also =
+      let last = Plain (Imm Sltiu rd rd (pos 1)) ∷ rest in
+      let one = reg_sets Sub rd ra rb x y last l nonzero h i j e f in
+      let two = set_by c (Imm Sltiu rd rd (pos 1)) rest one.next rd (flag (nat_lt (one.next.x rd) 1)) nonzero (λ pc at. imm_step c.parts one.next pc Sltiu rd rd (pos 1) at h h) in
+      sets_loosened c 2 2 1 2 (apply_lines op.Eq rd ra rb rest) rest l rd (applied op.Eq x y) (omega arith) (omega arith)
+      (set_again c 1 1 1 1 (apply_lines op.Eq rd ra rb rest) last rest l rd (reg_value Sub x y) rd (applied op.Eq x y) (inl refl) one
+      (sets_value c 1 1 last rest one.next rd (flag (nat_lt (one.next.x rd) 1)) (applied op.Eq x y)
+      (ap (λ v. flag (nat_lt v 1)) one.value ∙ ap flag (equal_flag x y fits also)) two))
+  apply_sets op.Ne rd ra rb x y rest l nonzero h i j z e f fits also =
+      let last = Plain (Reg Sltu rd 0 rd) ∷ rest in
+      let one = reg_sets Sub rd ra rb x y last l nonzero h i j e f in
+      let two = reg_sets Sltu rd 0 rd 0 (reg_value Sub x y) rest one.next nonzero h (omega arith) h (one.other 0 (λ q. nonzero (sym q)) (omega arith) ∙ z) one.value in
+      sets_loosened c 2 2 1 2 (apply_lines op.Ne rd ra rb rest) rest l rd (applied op.Ne x y) (omega arith) (omega arith)
+      (set_again c 1 1 1 1 (apply_lines op.Ne rd ra rb rest) last rest l rd (reg_value Sub x y) rd (applied op.Ne x y) (inl refl) one
+      (sets_value c 1 1 last rest one.next rd (reg_value Sltu 0 (reg_value Sub x y)) (applied op.Ne x y) (ap flag (unequal_flag x y fits also)) two))
+  apply_sets op.Add rd ra rb x y rest l nonzero h i j z e f fits also = plain_sets (operation_of op.Add) (applied op.Add x y) rd ra rb x y rest l nonzero h i j e f refl
+  apply_sets op.Sub rd ra rb x y rest l nonzero h i j z e f fits also = plain_sets (operation_of op.Sub) (applied op.Sub x y) rd ra rb x y rest l nonzero h i j e f refl
+  apply_sets op.Mul rd ra rb x y rest l nonzero h i j z e f fits also = plain_sets (operation_of op.Mul) (applied op.Mul x y) rd ra rb x y rest l nonzero h i j e f refl
+  apply_sets op.DivS rd ra rb x y rest l nonzero h i j z e f fits also = plain_sets (operation_of op.DivS) (applied op.DivS x y) rd ra rb x y rest l nonzero h i j e f refl
+  apply_sets op.DivU rd ra rb x y rest l nonzero h i j z e f fits also = plain_sets (operation_of op.DivU) (applied op.DivU x y) rd ra rb x y rest l nonzero h i j e f refl
+  apply_sets op.RemS rd ra rb x y rest l nonzero h i j z e f fits also = plain_sets (operation_of op.RemS) (applied op.RemS x y) rd ra rb x y rest l nonzero h i j e f refl
+  apply_sets op.RemU rd ra rb x y rest l nonzero h i j z e f fits also = plain_sets (operation_of op.RemU) (applied op.RemU x y) rd ra rb x y rest l nonzero h i j e f refl
+  apply_sets op.And rd ra rb x y rest l nonzero h i j z e f fits also = plain_sets (operation_of op.And) (applied op.And x y) rd ra rb x y rest l nonzero h i j e f refl
+  apply_sets op.Or rd ra rb x y rest l nonzero h i j z e f fits also = plain_sets (operation_of op.Or) (applied op.Or x y) rd ra rb x y rest l nonzero h i j e f refl
+  apply_sets op.Xor rd ra rb x y rest l nonzero h i j z e f fits also = plain_sets (operation_of op.Xor) (applied op.Xor x y) rd ra rb x y rest l nonzero h i j e f refl
+  apply_sets op.Shl rd ra rb x y rest l nonzero h i j z e f fits also = plain_sets (operation_of op.Shl) (applied op.Shl x y) rd ra rb x y rest l nonzero h i j e f refl
+  apply_sets op.ShrS rd ra rb x y rest l nonzero h i j z e f fits also = plain_sets (operation_of op.ShrS) (applied op.ShrS x y) rd ra rb x y rest l nonzero h i j e f refl
+  apply_sets op.ShrU rd ra rb x y rest l nonzero h i j z e f fits also = plain_sets (operation_of op.ShrU) (applied op.ShrU x y) rd ra rb x y rest l nonzero h i j e f refl
+  apply_sets op.LtS rd ra rb x y rest l nonzero h i j z e f fits also = plain_sets (operation_of op.LtS) (applied op.LtS x y) rd ra rb x y rest l nonzero h i j e f refl
+  apply_sets op.LtU rd ra rb x y rest l nonzero h i j z e f fits also = plain_sets (operation_of op.LtU) (applied op.LtU x y) rd ra rb x y rest l nonzero h i j e f refl
+
+  -- a place gets a constant
+  pub const_writes : (t : Place) (v : ℕ) (rest : List Line) (l : Local) → IsFramed l → IsPlace t → v < 2 ^ 32 → Writes c 1 5 (const_lines t v rest) rest l t v
+  const_writes t v rest l f h fits =
+      let low = source_low c t h in
+      write_after c 1 2 (const_lines t v rest) t v rest l f h
+      (constant_sets c (source_of t 5) v (write_lines t 5 rest) l low.0 low.1 fits f.zero)

@@ -1,0 +1,284 @@
+-- What each piece of lines adds.
+use Rattle.std.proofs.Common.{◌≡◌, ℕ, ◌+◌, ◌*◌, ◌^◌, ◌≤◌, ◌<◌, ◌==◌, ◌||◌, nat_lt, if◌then◌else◌, Bool, true, false, List, ◌∷◌, arith}
+use Rattle.std.specs.Prelude.{ℤ, pos}
+use Rattle.std.proofs.lemmas.Int.{ints}
+use Rattle.std.proofs.lemmas.Bool.Decides.{nat_tests}
+use Rattle.ckc_base.specs.declared.places.Pos.{Pos}
+use Rattle.ckc_base.specs.declared.arithmetic.BinOp.{BinOp}
+use Rattle.ckc_base.specs.declared.arithmetic.BinOp.TheVariants as op
+use Rattle.ckc_base.specs.declared.arithmetic.Width.{Width}
+use Rattle.ckc_base.specs.declared.runtime_checks.Check.{Check}
+use Rattle.ckc_base.specs.Checks.{number_of}
+use Rattle.ckc_rv.specs.declared.instructions.BranchOp.{BranchOp}
+use Rattle.ckc_rv.specs.declared.instructions.BranchOp.TheVariants.{Bne, Bge, Bltu}
+use Rattle.ckc_rv.specs.declared.instructions.LoadOp.{LoadOp}
+use Rattle.ckc_rv.specs.declared.instructions.LoadOp.TheVariants.{Lw}
+use Rattle.ckc_rv.specs.declared.instructions.StoreOp.{StoreOp}
+use Rattle.ckc_rv.specs.declared.instructions.StoreOp.TheVariants.{Sw}
+use Rattle.ckc_rv.specs.declared.instructions.ImmOp.TheVariants.{Addi, Sltiu, Slli, Srli}
+use Rattle.ckc_rv.specs.declared.instructions.RegOp.{RegOp}
+use Rattle.ckc_rv.specs.declared.instructions.RegOp.TheVariants.{Add, Sub, Sltu, Mul, Divu}
+use Rattle.ckc_rv.specs.declared.instructions.Instr.TheVariants.{Lui, Branch, Load, Store, Imm, Reg, Ecall}
+use Rattle.ckc_rv.specs.Table.{IsSigned}
+use Rattle.ckc_asm.specs.declared.lines.Line.{Line}
+use Rattle.ckc_asm.specs.declared.lines.Line.TheVariants.{Plain}
+use Rattle.ckc_frame.specs.declared.code.Place.{Place}
+use Rattle.ckc_frame.specs.declared.code.Place.TheVariants as place
+use Rattle.ckc_frame.specs.WellFormed.{IsPlace}
+use Rattle.ckc_emit.specs.Lines.{upper_of, lower_of, is_round, both_lines, large_lines, constant_lines, constant_count, move_lines, offset_lines, load_lines, store_lines, ask_lines, stop_lines, check_lines, register_of, source_of, read_lines, write_lines, settle_lines, fetch_lines, const_lines, copy_lines, operation_of, apply_lines, bin_lines, high_op, high_lines, load_op, store_op, data_load_lines, data_store_lines, test_lines, get_lines, put_lines, tests_lines, room_lines, rounded_lines, claim_lines, alloc_lines}
+use Rattle.ckc_emit.proofs.Splits.{upper_small}
+use Rattle.ckc_emit.proofs.Pieces.{Adds, nothing, then_adds, more_adds, plain_adds, either_adds}
+
+-- ---- what fits
+
+lower_fits : (v : ℕ) → IsSigned (2 ^ 11) (lower_of v)
+unfolding lower_of
+lower_fits v = (grind (arith, ints), grind (arith, ints))
+
+pub near_fits : (n : ℕ) → n < 2048 → IsSigned (2 ^ 11) (pos n)
+near_fits n h = (grind (arith, ints), grind (arith, ints))
+
+-- a register of a place is one of x13 to x25
+pub register_low : (k : ℕ) → k < 12 → register_of k < 27
+register_low k h = grind (arith, nat_tests)
+
+pub source_low : (q : Place) (scratch : ℕ) → IsPlace q → scratch < 27 → source_of q scratch < 27
+source_low (place.Reg k) scratch h low = register_low k h
+source_low (place.Slot k) scratch h low = low
+
+upper_none : (v : ℕ) → v < 2048 → (upper_of v == 0) ≡ false → ⊥
+unfolding upper_of
+upper_none v h e = grind (arith, nat_tests)
+
+one_or_two : (b : Bool) → (if b then 1 else 2) ≤ 2
+one_or_two true = omega arith
+one_or_two false = omega arith
+
+round_count : (v : ℕ) → constant_count v ≤ 2
+round_count v = one_or_two (upper_of v == 0 || is_round v)
+
+module _ (labels k : ℕ) where
+  abbrev Adding : ℕ → List Line → List Line → Type 0
+  Adding most xs ys = Adds labels k k most xs ys
+
+  pub lui_adds : (rd upper : ℕ) (ys : List Line) → rd < 27 → upper < 2 ^ 20 → Adding 1 (Plain (Lui rd upper) ∷ ys) ys
+  lui_adds rd upper ys h u = plain_adds labels k (Lui rd upper) ys (omega arith, omega arith) h
+
+  addi_adds : (rd rs : ℕ) (z : ℤ) (ys : List Line) → rd < 27 → rs < 27 → IsSigned (2 ^ 11) z → Adding 1 (Plain (Imm Addi rd rs z) ∷ ys) ys
+  addi_adds rd rs z ys h i s = plain_adds labels k (Imm Addi rd rs z) ys (omega arith, omega arith, s) (h, i)
+
+  pub reg_adds : (o : RegOp) (rd a b : ℕ) (ys : List Line) → rd < 27 → a < 27 → b < 27 → Adding 1 (Plain (Reg o rd a b) ∷ ys) ys
+  reg_adds o rd a b ys h i j = plain_adds labels k (Reg o rd a b) ys (omega arith, omega arith, omega arith) (h, i, j)
+
+  load_adds : (o : LoadOp) (rd rs : ℕ) (z : ℤ) (ys : List Line) → rd < 27 → rs < 27 → IsSigned (2 ^ 11) z → Adding 1 (Plain (Load o rd rs z) ∷ ys) ys
+  load_adds o rd rs z ys h i s = plain_adds labels k (Load o rd rs z) ys (omega arith, omega arith, s) (h, i)
+
+  store_adds : (o : StoreOp) (a b : ℕ) (z : ℤ) (ys : List Line) → a < 27 → b < 27 → IsSigned (2 ^ 11) z → Adding 1 (Plain (Store o a b z) ∷ ys) ys
+  store_adds o a b z ys h i s = plain_adds labels k (Store o a b z) ys (omega arith, omega arith, s) (h, i)
+
+  pub branch_adds : (o : BranchOp) (a b n : ℕ) (ys : List Line) → a < 27 → b < 27 → n < 500 → Adding 1 (Plain (Branch o a b (pos (n * 4))) ∷ ys) ys
+  branch_adds o a b n ys h i s =
+      plain_adds labels k (Branch o a b (pos (n * 4))) ys (omega arith, omega arith, ((grind (arith, ints), grind (arith, ints)), omega arith)) (h, i)
+
+  -- ---- constants, moves, and words of frames
+
+  both_adds : (rd v : ℕ) (ys : List Line) → rd < 27 → Adding 2 (both_lines rd v ys) ys
+  both_adds rd v ys h = then_adds labels (lui_adds rd (upper_of v) _ h (upper_small v)) (addi_adds rd rd (lower_of v) ys h h (lower_fits v))
+
+  large_adds : (rd v : ℕ) (ys : List Line) → rd < 27 → Adding 2 (large_lines rd v ys) ys
+  large_adds rd v ys h =
+      either_adds labels (is_round v)
+      (λ e. more_adds labels 2 (omega arith) (lui_adds rd (upper_of v) ys h (upper_small v)))
+      (λ e. both_adds rd v ys h)
+
+  constant_adds : (rd v : ℕ) (ys : List Line) → rd < 27 → Adding 2 (constant_lines rd v ys) ys
+  constant_adds rd v ys h =
+      either_adds labels (upper_of v == 0)
+      (λ e. more_adds labels 2 (omega arith) (addi_adds rd 0 (lower_of v) ys h (omega arith) (lower_fits v)))
+      (λ e. large_adds rd v ys h)
+
+  pub move_adds : (rd rs : ℕ) (ys : List Line) → rd < 27 → rs < 27 → Adding 1 (move_lines rd rs ys) ys
+  move_adds rd rs ys h i = addi_adds rd rs (pos 0) ys h i (near_fits 0 (omega arith))
+
+  offset_adds : (frame offset : ℕ) (ys : List Line) → frame < 27 → Adding 2 (offset_lines frame offset ys) ys
+  offset_adds frame offset ys h =
+      then_adds labels (lui_adds 7 (upper_of offset) _ (omega arith) (upper_small offset)) (reg_adds Add 7 7 frame ys (omega arith) (omega arith) h)
+
+  pub loads_add : (rd frame offset : ℕ) (ys : List Line) → rd < 27 → frame < 27 → Adding 3 (load_lines rd frame offset ys) ys
+  loads_add rd frame offset ys h i =
+      either_adds labels (nat_lt offset 2048)
+      (λ e. more_adds labels 3 (omega arith) (load_adds Lw rd frame (pos offset) ys h i (near_fits offset (grind (arith, nat_tests)))))
+      (λ e. then_adds labels (offset_adds frame offset _ i) (load_adds Lw rd 7 (lower_of offset) ys h (omega arith) (lower_fits offset)))
+
+  pub stores_add : (rs frame offset : ℕ) (ys : List Line) → rs < 27 → frame < 27 → Adding 3 (store_lines rs frame offset ys) ys
+  stores_add rs frame offset ys h i =
+      either_adds labels (nat_lt offset 2048)
+      (λ e. more_adds labels 3 (omega arith) (store_adds Sw frame rs (pos offset) ys i h (near_fits offset (grind (arith, nat_tests)))))
+      (λ e. then_adds labels (offset_adds frame offset _ i) (store_adds Sw 7 rs (lower_of offset) ys (omega arith) h (lower_fits offset)))
+
+  -- near the beginning of a frame one instruction is enough
+  pub near_load_adds : (rd frame offset : ℕ) (ys : List Line) → rd < 27 → frame < 27 → offset < 2048 → Adding 1 (load_lines rd frame offset ys) ys
+  near_load_adds rd frame offset ys h i near =
+      either_adds labels (nat_lt offset 2048)
+      (λ e. load_adds Lw rd frame (pos offset) ys h i (near_fits offset near))
+      (λ e. absurd (grind (arith, nat_tests)))
+
+  pub near_store_adds : (rs frame offset : ℕ) (ys : List Line) → rs < 27 → frame < 27 → offset < 2048 → Adding 1 (store_lines rs frame offset ys) ys
+  near_store_adds rs frame offset ys h i near =
+      either_adds labels (nat_lt offset 2048)
+      (λ e. store_adds Sw frame rs (pos offset) ys i h (near_fits offset near))
+      (λ e. absurd (grind (arith, nat_tests)))
+
+  -- ---- environment calls and stops
+
+  pub ask_adds : (call : ℕ) (ys : List Line) → Adding 3 (ask_lines call ys) ys
+  ask_adds call ys = then_adds labels (constant_adds 17 call _ (omega arith)) (plain_adds labels k Ecall ys tt tt)
+
+  -- a call with a number below 2,048 takes two
+  pub two_ask_adds : (call : ℕ) (ys : List Line) → call < 2048 → Adding 2 (ask_lines call ys) ys
+  two_ask_adds call ys h =
+      then_adds labels
+      (either_adds labels (upper_of call == 0)
+      (λ e. addi_adds 17 0 (lower_of call) _ (omega arith) (omega arith) (lower_fits call))
+      (λ e. absurd (upper_none call h e)))
+      (plain_adds labels k Ecall ys tt tt)
+
+  stop_adds : (check : Check) (at : Pos) (ys : List Line) → Adding 9 (stop_lines check at ys) ys
+  stop_adds check at ys =
+      then_adds labels (constant_adds 10 (number_of check) _ (omega arith))
+      (then_adds labels (constant_adds 11 at.line _ (omega arith))
+      (then_adds labels (constant_adds 12 at.col _ (omega arith)) (ask_adds 3 ys)))
+
+  pub check_adds : (a b : ℕ) (check : Check) (at : Pos) (ys : List Line) → a < 27 → b < 27 → Adding 10 (check_lines a b check at ys) ys
+  check_adds a b check at ys h i =
+      then_adds labels (branch_adds Bne a b (constant_count at.line + constant_count at.col + 4) _ h i (omega (arith, round_count at.line, round_count at.col))) (stop_adds check at ys)
+
+  -- ---- places
+
+  pub read_adds : (q : Place) (scratch : ℕ) (ys : List Line) → scratch < 27 → Adding 3 (read_lines q scratch ys) ys
+  read_adds (place.Reg j) scratch ys h = more_adds labels 3 (omega arith) (nothing labels k ys)
+  read_adds (place.Slot j) scratch ys h = loads_add scratch 2 (j * 4 + 64) ys h (omega arith)
+
+  write_adds : (q : Place) (scratch : ℕ) (ys : List Line) → scratch < 27 → Adding 3 (write_lines q scratch ys) ys
+  write_adds (place.Reg j) scratch ys h = more_adds labels 3 (omega arith) (nothing labels k ys)
+  write_adds (place.Slot j) scratch ys h = stores_add scratch 2 (j * 4 + 64) ys h (omega arith)
+
+  pub settle_adds : (q : Place) (rs : ℕ) (ys : List Line) → IsPlace q → rs < 27 → Adding 3 (settle_lines q rs ys) ys
+  settle_adds (place.Reg j) rs ys p h = more_adds labels 3 (omega arith) (move_adds (register_of j) rs ys (register_low j p) h)
+  settle_adds (place.Slot j) rs ys p h = stores_add rs 2 (j * 4 + 64) ys h (omega arith)
+
+  pub fetch_adds : (rd : ℕ) (q : Place) (ys : List Line) → IsPlace q → rd < 27 → Adding 3 (fetch_lines rd q ys) ys
+  fetch_adds rd (place.Reg j) ys p h = more_adds labels 3 (omega arith) (move_adds rd (register_of j) ys h (register_low j p))
+  fetch_adds rd (place.Slot j) ys p h = loads_add rd 2 (j * 4 + 64) ys h (omega arith)
+
+  -- ---- operations
+
+  pub const_adds : (t : Place) (v : ℕ) (ys : List Line) → IsPlace t → Adding 5 (const_lines t v ys) ys
+  const_adds t v ys p = then_adds labels (constant_adds (source_of t 5) v _ (source_low t 5 p (omega arith))) (write_adds t 5 ys (omega arith))
+
+  pub copy_adds : (t a : Place) (ys : List Line) → IsPlace t → IsPlace a → Adding 6 (copy_lines t a ys) ys
+  copy_adds t (place.Reg j) ys p q = more_adds labels 6 (omega arith) (settle_adds t (register_of j) ys p (register_low j q))
+  copy_adds t (place.Slot j) ys p q =
+      then_adds labels (loads_add (source_of t 5) 2 (j * 4 + 64) _ (source_low t 5 p (omega arith)) (omega arith)) (write_adds t 5 ys (omega arith))
+
+  one_adds : (o : BinOp) (rd a b : ℕ) (ys : List Line) → rd < 27 → a < 27 → b < 27 → Adding 2 (Plain (Reg (operation_of o) rd a b) ∷ ys) ys
+  one_adds o rd a b ys h i j = more_adds labels 2 (omega arith) (reg_adds (operation_of o) rd a b ys h i j)
+
+  apply_adds : (o : BinOp) (rd a b : ℕ) (ys : List Line) → rd < 27 → a < 27 → b < 27 → Adding 2 (apply_lines o rd a b ys) ys
+  apply_adds op.Eq rd a b ys h i j =
+      then_adds labels (reg_adds Sub rd a b _ h i j) (plain_adds labels k (Imm Sltiu rd rd (pos 1)) ys (omega arith, omega arith, near_fits 1 (omega arith)) (h, h))
+  apply_adds op.Ne rd a b ys h i j = then_adds labels (reg_adds Sub rd a b _ h i j) (reg_adds Sltu rd 0 rd ys h (omega arith) h)
+  apply_adds op.Add rd a b ys h i j = one_adds op.Add rd a b ys h i j
+  apply_adds op.Sub rd a b ys h i j = one_adds op.Sub rd a b ys h i j
+  apply_adds op.Mul rd a b ys h i j = one_adds op.Mul rd a b ys h i j
+  apply_adds op.DivS rd a b ys h i j = one_adds op.DivS rd a b ys h i j
+  apply_adds op.DivU rd a b ys h i j = one_adds op.DivU rd a b ys h i j
+  apply_adds op.RemS rd a b ys h i j = one_adds op.RemS rd a b ys h i j
+  apply_adds op.RemU rd a b ys h i j = one_adds op.RemU rd a b ys h i j
+  apply_adds op.And rd a b ys h i j = one_adds op.And rd a b ys h i j
+  apply_adds op.Or rd a b ys h i j = one_adds op.Or rd a b ys h i j
+  apply_adds op.Xor rd a b ys h i j = one_adds op.Xor rd a b ys h i j
+  apply_adds op.Shl rd a b ys h i j = one_adds op.Shl rd a b ys h i j
+  apply_adds op.ShrS rd a b ys h i j = one_adds op.ShrS rd a b ys h i j
+  apply_adds op.ShrU rd a b ys h i j = one_adds op.ShrU rd a b ys h i j
+  apply_adds op.LtS rd a b ys h i j = one_adds op.LtS rd a b ys h i j
+  apply_adds op.LtU rd a b ys h i j = one_adds op.LtU rd a b ys h i j
+
+  pub bin_adds : (o : BinOp) (t a b : Place) (ys : List Line) → IsPlace t → IsPlace a → IsPlace b → Adding 11 (bin_lines o t a b ys) ys
+  bin_adds o t a b ys p q r =
+      then_adds labels (read_adds a 5 _ (omega arith))
+      (then_adds labels (read_adds b 6 _ (omega arith))
+      (then_adds labels (apply_adds o (source_of t 5) (source_of a 5) (source_of b 6) _ (source_low t 5 p (omega arith)) (source_low a 5 q (omega arith)) (source_low b 6 r (omega arith)))
+      (write_adds t 5 ys (omega arith))))
+
+  pub high_adds : (s : Bool) (t a b : Place) (ys : List Line) → IsPlace t → IsPlace a → IsPlace b → Adding 11 (high_lines s t a b ys) ys
+  high_adds s t a b ys p q r =
+      more_adds labels 11 (omega arith)
+      (then_adds labels (read_adds a 5 _ (omega arith))
+      (then_adds labels (read_adds b 6 _ (omega arith))
+      (then_adds labels (reg_adds (high_op s) (source_of t 5) (source_of a 5) (source_of b 6) _ (source_low t 5 p (omega arith)) (source_low a 5 q (omega arith)) (source_low b 6 r (omega arith)))
+      (write_adds t 5 ys (omega arith)))))
+
+  pub data_load_adds : (width : Width) (t a : Place) (ys : List Line) → IsPlace t → IsPlace a → Adding 7 (data_load_lines width t a ys) ys
+  data_load_adds width t a ys p q =
+      then_adds labels (read_adds a 5 _ (omega arith))
+      (then_adds labels (load_adds (load_op width) (source_of t 5) (source_of a 5) (pos 0) _ (source_low t 5 p (omega arith)) (source_low a 5 q (omega arith)) (near_fits 0 (omega arith)))
+      (write_adds t 5 ys (omega arith)))
+
+  pub data_store_adds : (width : Width) (a b : Place) (ys : List Line) → IsPlace a → IsPlace b → Adding 7 (data_store_lines width a b ys) ys
+  data_store_adds width a b ys p q =
+      then_adds labels (read_adds a 5 _ (omega arith))
+      (then_adds labels (read_adds b 6 _ (omega arith))
+      (store_adds (store_op width) (source_of a 5) (source_of b 6) (pos 0) ys (source_low a 5 p (omega arith)) (source_low b 6 q (omega arith)) (near_fits 0 (omega arith))))
+
+  pub test_adds : (check : Check) (at : Pos) (a : Place) (ys : List Line) → IsPlace a → Adding 14 (test_lines check at a ys) ys
+  test_adds check at a ys p =
+      more_adds labels 14 (omega arith)
+      (then_adds labels (read_adds a 5 _ (omega arith)) (check_adds (source_of a 5) 0 check at ys (source_low a 5 p (omega arith)) (omega arith)))
+
+  pub get_adds : (t : Place) (ys : List Line) → IsPlace t → Adding 6 (get_lines t ys) ys
+  get_adds t ys p = then_adds labels (ask_adds 2 _) (settle_adds t 10 ys p (omega arith))
+
+  pub put_adds : (a : Place) (ys : List Line) → IsPlace a → Adding 7 (put_lines a ys) ys
+  put_adds a ys p = more_adds labels 7 (omega arith) (then_adds labels (fetch_adds 10 a _ p (omega arith)) (ask_adds 1 ys))
+
+  -- ---- an Alloc
+
+  tests_add : (ys : List Line) → Adding 6 (tests_lines ys) ys
+  tests_add ys =
+      then_adds labels (addi_adds 10 0 (pos 0) _ (omega arith) (omega arith) (near_fits 0 (omega arith)))
+      (then_adds labels (branch_adds Bge 0 5 12 _ (omega arith) (omega arith) (omega arith))
+      (then_adds labels (branch_adds Bltu 12 11 11 _ (omega arith) (omega arith) (omega arith))
+      (then_adds labels (reg_adds Sub 12 12 11 _ (omega arith) (omega arith) (omega arith))
+      (then_adds labels (reg_adds Divu 12 12 6 _ (omega arith) (omega arith) (omega arith)) (branch_adds Bltu 12 5 8 ys (omega arith) (omega arith) (omega arith))))))
+
+  room_adds : (ys : List Line) → Adding 9 (room_lines ys) ys
+  room_adds ys =
+      then_adds labels (lui_adds 8 0x2000 _ (omega arith) (omega arith))
+      (then_adds labels (load_adds Lw 11 8 (pos 0) _ (omega arith) (omega arith) (near_fits 0 (omega arith)))
+      (then_adds labels (lui_adds 12 0x3000 _ (omega arith) (omega arith)) (tests_add ys)))
+
+  shift_adds : (rd rs n : ℕ) (ys : List Line) → rd < 27 → rs < 27 → n < 32 → Adding 1 (Plain (Imm Srli rd rs (pos n)) ∷ ys) ys
+  shift_adds rd rs n ys h i s = plain_adds labels k (Imm Srli rd rs (pos n)) ys (omega arith, omega arith, (grind (arith, ints), grind (arith, ints))) (h, i)
+
+  shift_back_adds : (rd rs n : ℕ) (ys : List Line) → rd < 27 → rs < 27 → n < 32 → Adding 1 (Plain (Imm Slli rd rs (pos n)) ∷ ys) ys
+  shift_back_adds rd rs n ys h i s = plain_adds labels k (Imm Slli rd rs (pos n)) ys (omega arith, omega arith, (grind (arith, ints), grind (arith, ints))) (h, i)
+
+  rounded_adds : (ys : List Line) → Adding 3 (rounded_lines ys) ys
+  rounded_adds ys =
+      then_adds labels (shift_adds 5 5 3 _ (omega arith) (omega arith) (omega arith))
+      (then_adds labels (shift_back_adds 5 5 3 _ (omega arith) (omega arith) (omega arith)) (store_adds Sw 8 5 (pos 0) ys (omega arith) (omega arith) (near_fits 0 (omega arith))))
+
+  claim_adds : (ys : List Line) → Adding 7 (claim_lines ys) ys
+  claim_adds ys =
+      then_adds labels (addi_adds 10 11 (pos 0) _ (omega arith) (omega arith) (near_fits 0 (omega arith)))
+      (then_adds labels (reg_adds Mul 5 5 6 _ (omega arith) (omega arith) (omega arith))
+      (then_adds labels (reg_adds Add 5 5 11 _ (omega arith) (omega arith) (omega arith))
+      (then_adds labels (addi_adds 5 5 (pos 15) _ (omega arith) (omega arith) (near_fits 15 (omega arith))) (rounded_adds ys))))
+
+  pub alloc_adds : (t a : Place) (size : ℕ) (ys : List Line) → IsPlace t → IsPlace a → Adding 32 (alloc_lines t a size ys) ys
+  alloc_adds t a size ys p q =
+      more_adds labels 32 (omega arith)
+      (then_adds labels (fetch_adds 5 a _ q (omega arith))
+      (then_adds labels (constant_adds 6 size _ (omega arith))
+      (then_adds labels (room_adds _) (then_adds labels (claim_adds _) (settle_adds t 10 ys p (omega arith))))))

@@ -1,0 +1,228 @@
+-- What operations, blocks, functions and programs add.
+use Rattle.std.proofs.Common.{◌≡◌, ℕ, zero, suc, ◌+◌, ◌≤◌, ◌<◌, ◌==◌, List, [], ◌∷◌, length, get_or, Option, Some, None, refl, sym, ap, subst, arith}
+use Rattle.std.specs.Prelude.{All, IfSome, sum_by, pos}
+use Rattle.std.specs.List.{slice_get}
+use Rattle.std.proofs.lemmas.List.{take_all}
+use Rattle.std.proofs.lemmas.List.Elements.{All-head, All-tail}
+use Rattle.std.proofs.lemmas.List.Sums.{sum_by-cons, sum_by_more_le}
+use Rattle.ckc_rv.specs.declared.instructions.BranchOp.{BranchOp}
+use Rattle.ckc_rv.specs.declared.instructions.BranchOp.TheVariants.{Beq, Bne}
+use Rattle.ckc_rv.specs.declared.instructions.Instr.TheVariants as instr
+use Rattle.ckc_asm.specs.declared.lines.Line.{Line}
+use Rattle.ckc_tac.specs.declared.code.TacFunc.{TacFunc}
+use Rattle.ckc_tac.specs.declared.code.TacBlock.{TacBlock}
+use Rattle.ckc_tac.specs.declared.code.TacOp.{TacOp}
+use Rattle.ckc_tac.specs.declared.code.TacOp.TheVariants.{Const, Copy, Bin, High, Load, Store, Check, Call, Get, Put, Alloc}
+use Rattle.ckc_tac.specs.declared.code.TacEnd.{TacEnd}
+use Rattle.ckc_tac.specs.declared.code.TacEnd.TheVariants.{Jump, Branch, Return}
+use Rattle.ckc_tac.specs.WellFormed.{HasParams, IsOpOver, IsEndOver, IsBlockOver, IsFunctionOver}
+use Rattle.ckc_tac.specs.Sizes.{op_size, end_size, ops_size, block_size, function_size}
+use Rattle.ckc_frame.specs.declared.code.Place.{Place}
+use Rattle.ckc_frame.specs.declared.code.Placed.{Placed}
+use Rattle.ckc_frame.specs.declared.code.PlacedFunc.{PlacedFunc}
+use Rattle.ckc_frame.specs.Meaning.{is_call, calls_in}
+use Rattle.ckc_frame.specs.Places.{marks_of}
+use Rattle.ckc_frame.specs.WellFormed.{IsPlace, IsPlacedWhole, IsWellFormed}
+use Rattle.ckc_emit.specs.CodeSize.{code_size}
+use Rattle.ckc_emit.specs.Lines.{source_of}
+use Rattle.ckc_emit.specs.CallLines.{place_at}
+use Rattle.ckc_emit.specs.ProgramLines.{label_of, codes_of, homes_of, op_lines, ops_lines, over_lines, jump_lines, branch_lines, falls_through, return_lines, end_lines, block_lines, blocks_lines, function_lines, functions_lines, start_lines, program_lines}
+use Rattle.ckc_emit.proofs.PlaceAt.{place_is}
+use Rattle.ckc_emit.proofs.Pieces.{Adds, nothing, then_adds, more_adds, plain_adds, far_adds, label_adds, either_adds, numbered_adds}
+use Rattle.ckc_emit.proofs.Added.{near_fits, source_low, lui_adds, branch_adds, near_load_adds, near_store_adds, two_ask_adds, read_adds, fetch_adds, const_adds, copy_adds, bin_adds, high_adds, data_load_adds, data_store_adds, test_adds, get_adds, put_adds, alloc_adds}
+use Rattle.ckc_emit.proofs.AddedCalls.{call_adds}
+use Rattle.ckc_emit.proofs.Turning.{labels_in}
+
+-- ---- functions that are called
+
+-- a function with so many parameters, and its number
+pub record IsCallable (functions : List PlacedFunc) (callee count : ℕ) : Type 0 where
+  pub f : PlacedFunc
+  pub is : slice_get functions callee ≡ Some f
+  pub below : callee < length functions
+  pub placed : IsPlacedWhole f
+  pub enough : count ≤ length f.homes
+
+one_more : (f : PlacedFunc) (functions : List PlacedFunc) (callee count : ℕ) → IsCallable functions callee count → IsCallable (f ∷ functions) (suc callee) count
+one_more f functions callee count c = record { f = c.f; is = c.is; below = omega (arith, c.below); placed = c.placed; enough = c.enough }
+
+pub callable : (codes : List TacFunc) (functions : List PlacedFunc) (callee count : ℕ) → All IsPlacedWhole functions → All (IsFunctionOver codes) (codes_of functions)
+    → HasParams count (slice_get (codes_of functions) callee) → IsCallable functions callee count
+callable codes [] callee count p o h = absurd h
+callable codes (f ∷ functions) zero count p o h =
+    let placed = All-head IsPlacedWhole f functions p in
+    let over = All-head (IsFunctionOver codes) f.code (codes_of functions) o in
+    let few = over.0 in
+    let homes = placed.homes in
+    record { f = f; is = refl; below = omega arith; placed = placed; enough = omega arith }
+callable codes (f ∷ functions) (suc callee) count p o h =
+    one_more f functions callee count
+    (callable codes functions callee count (All-tail IsPlacedWhole f functions p) (All-tail (IsFunctionOver codes) f.code (codes_of functions) o) h)
+
+pub over_at : (codes : List TacFunc) (fs : List PlacedFunc) (i : ℕ) (f : PlacedFunc) → i < length fs → f ≡ get_or fs i f → All (IsFunctionOver codes) (codes_of fs) → IsFunctionOver codes f.code
+over_at codes [] i f h e o = absurd (omega arith)
+over_at codes (g ∷ gs) zero f h e o = subst (λ (x : PlacedFunc). IsFunctionOver codes x.code) (sym e) (All-head (IsFunctionOver codes) g.code (codes_of gs) o)
+over_at codes (g ∷ gs) (suc i) f h e o = over_at codes gs i f (omega arith) e (All-tail (IsFunctionOver codes) g.code (codes_of gs) o)
+
+-- how many labels there are
+pub all_labels : (functions : List PlacedFunc) → label_of functions (length functions) ≡ 1 + sum_by labels_in functions
+all_labels functions = ap (λ l. 1 + sum_by labels_in l) (take_all (length functions) functions (omega arith))
+
+-- the label of a function that is there is one of a program's
+pub label_fits : (functions : List PlacedFunc) (k : ℕ) → k < length functions → label_of functions k < label_of functions (length functions)
+label_fits [] k h = absurd (omega arith)
+label_fits (g ∷ gs) k h =
+    let bound = sum_by_more_le labels_in (g ∷ gs) k g h in
+    let all = all_labels (g ∷ gs) in
+    omega (arith, bound, all)
+
+module _ (functions : List PlacedFunc) (placed : All IsPlacedWhole functions) (over : All (IsFunctionOver (codes_of functions)) (codes_of functions)) where
+  -- how many labels the program has
+  abbrev labels : ℕ
+  labels = label_of functions (length functions)
+
+  module _ (f : PlacedFunc) (whole : IsPlacedWhole f) (k : ℕ) where
+    abbrev Adding : ℕ → List Line → List Line → Type 0
+    Adding most xs ys = Adds labels k k most xs ys
+
+    within : (r : ℕ) → r < f.code.regs → r < length f.homes
+    within r h = subst (λ n. r < n) (sym whole.homes) h
+
+    good : (r : ℕ) → r < f.code.regs → IsPlace (place_at f.homes r)
+    good r h = place_is f.homes r (within r h) whole.places
+
+    all_within : (rs : List ℕ) → All (λ r. r < f.code.regs) rs → All (λ r. r < length f.homes) rs
+    all_within rs h = λ i d below. within _ (h i d below)
+
+    target_within : (target : Option ℕ) → IfSome target (λ t. t < f.code.regs) → IfSome target (λ t. t < length f.homes)
+    target_within None h = h
+    target_within (Some t) h = within t h
+
+    pub op_adds : (n : ℕ) (op : TacOp) (ys : List Line) → IsOpOver (codes_of functions) f.code.regs op → Adding (op_size op) (op_lines functions f n op ys) ys
+    op_adds n (Const t v) ys o = const_adds labels k (place_at f.homes t) v ys (good t o.0)
+    op_adds n (Copy t a) ys o = copy_adds labels k (place_at f.homes t) (place_at f.homes a) ys (good t o.0) (good a o.1)
+    op_adds n (Bin b t x y) ys o = bin_adds labels k b (place_at f.homes t) (place_at f.homes x) (place_at f.homes y) ys (good t o.0) (good x o.1) (good y o.2)
+    op_adds n (High s t x y) ys o = high_adds labels k s (place_at f.homes t) (place_at f.homes x) (place_at f.homes y) ys (good t o.0) (good x o.1) (good y o.2)
+    op_adds n (Load width t a) ys o = data_load_adds labels k width (place_at f.homes t) (place_at f.homes a) ys (good t o.0) (good a o.1)
+    op_adds n (Store width a b) ys o = data_store_adds labels k width (place_at f.homes a) (place_at f.homes b) ys (good a o.0) (good b o.1)
+    op_adds n (Check check at a) ys o = test_adds labels k check at (place_at f.homes a) ys (good a o.1)
+    op_adds n (Call target callee arguments at) ys o =
+        let c = callable (codes_of functions) functions callee (length arguments) placed over o.1 in
+        let params : homes_of (slice_get functions callee) ≡ c.f.homes = ap homes_of c.is in
+        let all : All IsPlace (homes_of (slice_get functions callee)) = subst (All IsPlace) (sym params) c.placed.places in
+        let enough : length arguments ≤ length (homes_of (slice_get functions callee)) = subst (λ (l : List Place). length arguments ≤ length l) (sym params) c.enough in
+        call_adds labels k f.homes (marks_of (slice_get f.kept n)) (homes_of (slice_get functions callee)) (label_of functions callee) arguments at target ys
+        whole.places all (all_within arguments o.2) enough (label_fits functions callee c.below) (target_within target o.0)
+    op_adds n (Get t) ys o = get_adds labels k (place_at f.homes t) ys (good t o)
+    op_adds n (Put a) ys o = put_adds labels k (place_at f.homes a) ys (good a o)
+    op_adds n (Alloc t a size) ys o = alloc_adds labels k (place_at f.homes t) (place_at f.homes a) size ys (good t o.0) (good a o.1)
+
+    pub ops_add : (n : ℕ) (ops : List TacOp) (ys : List Line) → All (IsOpOver (codes_of functions) f.code.regs) ops → Adding (ops_size ops) (ops_lines functions f n ops ys) ys
+    ops_add n [] ys o = nothing labels k ys
+    ops_add n (op ∷ ops) ys o =
+        more_adds labels (ops_size (op ∷ ops)) (omega (arith, sum_by-cons op_size op ops))
+        (then_adds labels (op_adds n op _ (All-head (IsOpOver (codes_of functions) f.code.regs) op ops o))
+        (ops_add (n + is_call op) ops ys (All-tail (IsOpOver (codes_of functions) f.code.regs) op ops o)))
+
+    over_adds : (o : BranchOp) (r label : ℕ) (ys : List Line) → r < 27 → label < labels → Adding 3 (over_lines o r label ys) ys
+    over_adds o r label ys h below = then_adds labels (branch_adds labels k o r 0 3 _ h (omega arith) (omega arith)) (far_adds labels k 0 label ys (omega arith) below)
+
+    jump_adds : (first next b : ℕ) (ys : List Line) → first + b < labels → Adding 2 (jump_lines first next b ys) ys
+    jump_adds first next b ys h =
+        either_adds labels (b == next) (λ e. more_adds labels 2 (omega arith) (nothing labels k ys)) (λ e. far_adds labels k 0 (first + b) ys (omega arith) h)
+
+    branch_end_adds : (r : Place) (first next one two : ℕ) (ys : List Line) → IsPlace r → first + one < labels → first + two < labels → Adding 8 (branch_lines r first next one two ys) ys
+    branch_end_adds r first next one two ys p h i =
+        then_adds labels (read_adds labels k r 5 _ (omega arith))
+        (either_adds labels (one == next)
+        (λ e. more_adds labels 5 (omega arith) (over_adds Bne (source_of r 5) (first + two) ys (source_low r 5 p (omega arith)) i))
+        (λ e. then_adds labels (over_adds Beq (source_of r 5) (first + one) _ (source_low r 5 p (omega arith)) h) (jump_adds first next two ys i)))
+
+    return_adds : (r : Place) (ys : List Line) → IsPlace r → Adding 8 (return_lines r ys) ys
+    return_adds r ys p =
+        more_adds labels 8 (omega arith)
+        (then_adds labels (fetch_adds labels k 10 r _ p (omega arith))
+        (then_adds labels (near_load_adds labels k 1 2 0 _ (omega arith) (omega arith) (omega arith))
+        (plain_adds labels k (instr.Jalr 0 1 (pos 0)) ys (omega arith, omega arith, near_fits 0 (omega arith)) (omega arith, omega arith))))
+
+    pub end_adds : (first next : ℕ) (end : TacEnd) (ys : List Line) → IsEndOver (length f.code.blocks) f.code.regs end → first + length f.code.blocks ≤ labels
+        → Adding (end_size end) (end_lines f first next end ys) ys
+    end_adds first next (Jump b) ys o fits =
+        either_adds labels (falls_through f.code.blocks next b) (λ e. more_adds labels 2 (omega arith) (nothing labels k ys)) (λ e. far_adds labels k 0 (first + b) ys (omega arith) (omega arith))
+    end_adds first next (Branch r one two) ys o fits =
+        let one_is = o.1 in
+        let two_is = o.2 in
+        branch_end_adds (place_at f.homes r) first next one two ys (good r o.0) (omega arith) (omega arith)
+    end_adds first next (Return r) ys o fits = return_adds (place_at f.homes r) ys (good r o)
+
+  module _ (f : PlacedFunc) (whole : IsPlacedWhole f) where
+    pub block_adds : (first b n : ℕ) (block : TacBlock) (ys : List Line) → IsBlockOver (codes_of functions) (length f.code.blocks) f.code.regs block → first + length f.code.blocks ≤ labels
+        → Adds labels (first + b) (first + b + 1) (block_size block) (block_lines functions f first b n block ys) ys
+    block_adds first b n block ys o fits =
+        more_adds labels (block_size block) (omega arith)
+        (then_adds labels (label_adds labels (first + b) _)
+        (then_adds labels (ops_add f whole (first + b + 1) n block.ops _ o.0) (end_adds f whole (first + b + 1) first (b + 1) block.end ys o.1 fits)))
+
+    pub blocks_add : (first b n : ℕ) (blocks : List TacBlock) (ys : List Line) → All (IsBlockOver (codes_of functions) (length f.code.blocks) f.code.regs) blocks → first + length f.code.blocks ≤ labels
+        → Adds labels (first + b) (first + b + length blocks) (sum_by block_size blocks) (blocks_lines functions f first b n blocks ys) ys
+    blocks_add first b n [] ys o fits = numbered_adds labels (omega arith) (omega arith) (nothing labels (first + b) ys)
+    blocks_add first b n (block ∷ blocks) ys o fits =
+        more_adds labels (sum_by block_size (block ∷ blocks)) (omega (arith, sum_by-cons block_size block blocks))
+        (numbered_adds labels refl (omega arith)
+        (then_adds labels (block_adds first b n block _ (All-head (IsBlockOver (codes_of functions) (length f.code.blocks) f.code.regs) block blocks o) fits)
+        (numbered_adds labels (omega arith) refl
+        (blocks_add first (b + 1) (n + calls_in block) blocks ys (All-tail (IsBlockOver (codes_of functions) (length f.code.blocks) f.code.regs) block blocks o) fits))))
+
+    pub function_adds : (label : ℕ) (ys : List Line) → IsFunctionOver (codes_of functions) f.code → label + (length f.code.blocks + 1) ≤ labels
+        → Adds labels label (label + (length f.code.blocks + 1)) (function_size f.code) (function_lines functions f label ys) ys
+    function_adds label ys o fits =
+        more_adds labels (function_size f.code) (omega arith)
+        (numbered_adds labels refl (omega arith)
+        (then_adds labels (label_adds labels label _)
+        (then_adds labels (near_store_adds labels (label + 1) 1 2 0 _ (omega arith) (omega arith) (omega arith))
+        (numbered_adds labels (omega arith) refl (blocks_add (label + 1) 0 0 f.code.blocks ys o.2 (omega arith))))))
+
+  pub functions_add : (label : ℕ) (fs : List PlacedFunc) (ys : List Line) → All IsPlacedWhole fs → All (IsFunctionOver (codes_of functions)) (codes_of fs) → label + sum_by labels_in fs ≤ labels
+      → Adds labels label (label + sum_by labels_in fs) (sum_by function_size (codes_of fs)) (functions_lines functions label fs ys) ys
+  functions_add label [] ys p o fits = numbered_adds labels refl (omega arith) (nothing labels label ys)
+  functions_add label (f ∷ fs) ys p o fits =
+      let more = sum_by-cons labels_in f fs in
+      more_adds labels (sum_by function_size (codes_of (f ∷ fs))) (omega (arith, sum_by-cons function_size f.code (codes_of fs)))
+      (numbered_adds labels refl (omega arith)
+      (then_adds labels (function_adds f (All-head IsPlacedWhole f fs p) label _ (All-head (IsFunctionOver (codes_of functions)) f.code (codes_of fs) o) (omega arith))
+      (functions_add (label + (length f.code.blocks + 1)) fs ys (All-tail IsPlacedWhole f fs p) (All-tail (IsFunctionOver (codes_of functions)) f.code (codes_of fs) o) (omega arith))))
+
+pub start_adds : (labels main : ℕ) (ys : List Line) → main < labels → Adds labels 0 1 5 (start_lines main ys) ys
+start_adds labels main ys h =
+    more_adds labels 5 (omega arith)
+    (then_adds labels (label_adds labels 0 _)
+    (then_adds labels (lui_adds labels 1 2 0x3FFC _ (omega arith) (omega arith))
+    (then_adds labels (far_adds labels 1 1 main _ (omega arith) h) (two_ask_adds labels 1 0 ys (omega arith)))))
+
+-- the lines of a program have the labels from 0 on, each once, and their size is within that of the program
+pub program_adds : (p : Placed) → IsWellFormed p → Adds (label_of p.funcs (length p.funcs)) 0 (label_of p.funcs (length p.funcs)) (code_size p) (program_lines p) []
+program_adds p w =
+    let main = callable (codes_of p.funcs) p.funcs p.main 0 w.placed w.code.functions w.code.main in
+    let all = all_labels p.funcs in
+    more_adds (label_of p.funcs (length p.funcs)) (code_size p) (omega arith)
+    (numbered_adds (label_of p.funcs (length p.funcs)) refl (sym all)
+    (then_adds (label_of p.funcs (length p.funcs)) (start_adds (label_of p.funcs (length p.funcs)) (label_of p.funcs p.main) _ (label_fits p.funcs p.main main.below))
+    (functions_add p.funcs w.placed w.code.functions 1 p.funcs [] w.placed w.code.functions (omega arith))))
+
+-- ---- labels are few
+
+end_big : (end : TacEnd) → 2 ≤ end_size end
+end_big (Jump b) = omega arith
+end_big (Branch r one two) = omega arith
+end_big (Return r) = omega arith
+
+blocks_big : (blocks : List TacBlock) → length blocks ≤ sum_by block_size blocks
+blocks_big [] = omega arith
+blocks_big (block ∷ blocks) = omega (arith, sum_by-cons block_size block blocks, end_big block.end, blocks_big blocks)
+
+functions_big : (fs : List PlacedFunc) → sum_by labels_in fs ≤ sum_by function_size (codes_of fs)
+functions_big [] = omega arith
+functions_big (f ∷ fs) = omega (arith, sum_by-cons labels_in f fs, sum_by-cons function_size f.code (codes_of fs), blocks_big f.code.blocks, functions_big fs)
+
+pub labels_few : (p : Placed) → label_of p.funcs (length p.funcs) ≤ code_size p
+labels_few p = omega (arith, all_labels p.funcs, functions_big p.funcs)

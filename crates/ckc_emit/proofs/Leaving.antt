@@ -1,0 +1,363 @@
+-- The ends of blocks that lead to another block are simulated.
+use Rattle.std.proofs.Common.{◌≡◌, ◌≢◌, ◌⊎◌, inl, inr, ℕ, ◌+◌, ◌*◌, ◌≤◌, ◌<◌, ◌==◌, not, if◌then◌else◌, Bool, true, false, List, [], ◌∷◌, length, map, Option, Some, None, refl, sym, ap, subst, ◌∙◌, arith}
+use Rattle.std.specs.Prelude.{All, pos}
+use Rattle.std.specs.List.{slice_get}
+use Rattle.std.proofs.lemmas.List.Elements.{All-get_or, All-nil}
+use Rattle.std.proofs.lemmas.Option.{slice_get_within, get_or_from_slice_get}
+use Rattle.ckc_base.specs.Activations.{Values}
+use Rattle.ckc_base.specs.Memory.{data_start}
+use Rattle.ckc_base.specs.States.{Travels}
+use Rattle.ckc_base.proofs.Travelling.{one_travel, no_travel, then_travels}
+use Rattle.ckc_rv.specs.declared.instructions.BranchOp.{BranchOp}
+use Rattle.ckc_rv.specs.declared.instructions.BranchOp.TheVariants.{Beq, Bne}
+use Rattle.ckc_rv.specs.declared.instructions.Instr.TheVariants.{Branch as BranchInstr}
+use Rattle.ckc_rv.specs.Effects.{moved, is_taken}
+use Rattle.ckc_rv.specs.Detailed.{detailed_system}
+use Rattle.ckc_asm.specs.declared.lines.Line.{Line}
+use Rattle.ckc_asm.specs.declared.lines.Line.TheVariants.{Plain, Far}
+use Rattle.ckc_tac.specs.declared.code.TacBlock.{TacBlock}
+use Rattle.ckc_tac.specs.declared.code.TacOp.{TacOp}
+use Rattle.ckc_tac.specs.declared.code.TacEnd.{TacEnd}
+use Rattle.ckc_tac.specs.declared.code.TacEnd.TheVariants.{Jump, Branch}
+use Rattle.ckc_tac.specs.WellFormed.{IsFunctionOver, IsBlockOver}
+use Rattle.ckc_frame.specs.declared.code.Place.{Place}
+use Rattle.ckc_frame.specs.declared.code.Place.TheVariants as place
+use Rattle.ckc_frame.specs.declared.code.PlacedFunc.{PlacedFunc}
+use Rattle.ckc_frame.specs.Places.{number_of, registers_in}
+use Rattle.ckc_frame.specs.WellFormed.{IsPlace, IsPlacedWhole}
+use Rattle.ckc_frame.specs.Meaning.{State, begins, goes_to, branches, registers_of}
+use Rattle.ckc_emit.specs.Lines.{register_of, source_of}
+use Rattle.ckc_emit.specs.CallLines.{place_at}
+use Rattle.ckc_emit.specs.ProgramLines.{label_of, ops_lines, end_lines, jump_lines, branch_lines, is_passing, is_passing_block, falls_through}
+use Rattle.ckc_emit.proofs.Local.{Local, state_of}
+use Rattle.ckc_emit.proofs.Steps.{branch_taken, branch_passed}
+use Rattle.ckc_emit.proofs.Paths.{Code, LinesAt, FarAt}
+use Rattle.ckc_emit.proofs.Homes.{HasValue, framed_kept, keeps_same, register_is}
+use Rattle.ckc_emit.proofs.Asking.{IsSoft, soft_then, places_soft}
+use Rattle.ckc_emit.proofs.Sources.{one_read, left_register}
+use Rattle.ckc_emit.proofs.Relation.{world_kept}
+use Rattle.ckc_emit.proofs.PlaceAt.{home_is, place_is}
+use Rattle.ckc_emit.proofs.Jumping.{far_goes}
+use Rattle.ckc_emit.proofs.Frames.{AreWaiting, IsRelated}
+use Rattle.ckc_emit.proofs.Standing.{block_label, BeginsWith, Stands}
+use Rattle.ckc_emit.proofs.Related.{May, measure, Simulated, Reaches, reaches_simulates, are_waiting_kept}
+use Rattle.ckc_emit.proofs.Tests.{eq_is, eq_of, apart_is, apart_of, not_true, and_first, and_second}
+
+-- what holds of all elements holds of each
+pub all_at : {X : Type 0} (P : X → Type 0) (xs : List X) (k : ℕ) (x : X) → All P xs → slice_get xs k ≡ Some x → P x
+all_at P xs k x h e = subst P (get_or_from_slice_get xs k x x e) (All-get_or P xs k x (slice_get_within xs k x e) h)
+
+-- the value of a register is at its place
+pub place_value : (homes : List Place) (places : Values) (r x : ℕ) → r < length homes → registers_in homes places r ≡ Some x → places (number_of (place_at homes r)) ≡ Some x
+unfolding registers_in
+place_value homes places r x h e = ap places (sym (home_is homes r h)) ∙ e
+
+beq_is : (x y : ℕ) (b : Bool) → (x == y) ≡ b → is_taken Beq x y ≡ b
+beq_is x y b e = e
+
+bne_is : (x y : ℕ) (b : Bool) → (x == y) ≡ b → is_taken Bne x y ≡ not b
+bne_is x y b e = ap not e
+
+module _ (functions : List PlacedFunc) (c : Code) where
+  -- All of a program stands, and its functions are well formed.
+  pub record IsWhole (main : ℕ) : Type 0 where
+    pub stands : Stands functions c main
+    pub over : (index : ℕ) (f : PlacedFunc) → slice_get functions index ≡ Some f → IsFunctionOver (map (λ (f : PlacedFunc). f.code) functions) f.code
+    pub placed : (index : ℕ) (f : PlacedFunc) → slice_get functions index ≡ Some f → IsPlacedWhole f
+
+  -- The machine comes to a block in so many instructions, with scratch registers changed alone.
+  pub record Comes (least most : ℕ) (l : Local) (pc index b : ℕ) : Type 0 where
+    pub to : Local
+    pub count : ℕ
+    pub many : least ≤ count
+    pub few : count ≤ most
+    pub travels : Travels (detailed_system c.parts) count [] (state_of c.parts l pc) (state_of c.parts to (c.label (block_label functions index b)))
+    pub soft : IsSoft l to
+    pub bytes : to.bytes ≡ l.bytes
+    pub input : to.input ≡ l.input
+
+  comes_same : (l : Local) (pc index b : ℕ) → c.label (block_label functions index b) ≡ pc → Comes 0 0 l pc index b
+  comes_same l pc index b e = record {
+    to = l;
+    count = 0;
+    many = omega arith;
+    few = omega arith;
+    travels = subst (λ q. Travels (detailed_system c.parts) 0 [] (state_of c.parts l pc) (state_of c.parts l q)) (sym e) (no_travel (detailed_system c.parts) (state_of c.parts l pc));
+    soft = record { keeps = keeps_same l; has = λ q w i h. h };
+    bytes = refl;
+    input = refl;
+  }
+
+  -- the block comes next
+  comes_next : (l : Local) (pc index : ℕ) (blocks : List TacBlock) (b : ℕ) (block : TacBlock) (behind : List Line) → BeginsWith functions index blocks b behind → slice_get blocks b ≡ Some block
+      → LinesAt c pc behind → Comes 0 0 l pc index b
+  comes_next l pc index blocks b block behind begin e at =
+      let m = begin block e in
+      let labelled = subst (LinesAt c pc) m.1 at in
+      comes_same l pc index b labelled.0
+
+  far_has : (l m : Local) → ((r : ℕ) → r ≢ 0 → r ≢ 26 → m.x r ≡ l.x r) → m.words ≡ l.words → (q : Place) (w : ℕ) → IsPlace q → HasValue l q w → HasValue m q w
+  far_has l m k e (place.Reg j) w p h =
+      let i = register_is j p in
+      let low = i.low in
+      let high = i.high in
+      k (register_of j) (omega arith) (omega arith) ∙ h
+  far_has l m k e (place.Slot j) w p h =
+      ap (λ (f : ℕ → ℕ). f (m.x 2 + (j * 4 + 64))) e ∙ ap (λ b. l.words (b + (j * 4 + 64))) (k 2 (omega arith) (omega arith)) ∙ h
+
+  -- a far jump leads to the block
+  comes_far : (l : Local) (pc index b : ℕ) → FarAt c pc 0 (block_label functions index b) → Comes 2 2 l pc index b
+  comes_far l pc index b f =
+      let g = far_goes c l pc 0 (block_label functions index b) (omega arith) f in
+      record {
+        to = g.next;
+        count = 2;
+        many = omega arith;
+        few = omega arith;
+        travels = g.travels;
+        soft = record {
+          keeps = record { zero = g.zero; frame = g.other 2 (omega arith) (omega arith); above = λ a o. ap (λ (f : ℕ → ℕ). f a) g.words };
+          has = far_has l g.next g.other g.words;
+        };
+        bytes = g.bytes;
+        input = g.input;
+      }
+
+  -- in front of it some instructions are run
+  then_comes : (first least more : ℕ) (l m : Local) (pc to index b : ℕ) → Travels (detailed_system c.parts) first [] (state_of c.parts l pc) (state_of c.parts m to)
+      → IsSoft l m → m.bytes ≡ l.bytes → m.input ≡ l.input → Comes least more m to index b → Comes (first + least) (first + more) l pc index b
+  then_comes first least more l m pc to index b t soft e f k = record {
+    to = k.to;
+    count = first + k.count;
+    many = omega (arith, k.many);
+    few = omega (arith, k.few);
+    travels = then_travels (detailed_system c.parts) first k.count [] [] (state_of c.parts l pc) (state_of c.parts m to) (state_of c.parts k.to (c.label (block_label functions index b))) t k.travels;
+    soft = soft_then l m k.to soft k.soft;
+    bytes = k.bytes ∙ e;
+    input = k.input ∙ f;
+  }
+
+  comes_loosened : (a few d many : ℕ) (l : Local) (pc index b : ℕ) → d ≤ a → few ≤ many → Comes a few l pc index b → Comes d many l pc index b
+  comes_loosened a few d many l pc index b g h k = record { to = k.to; count = k.count; many = omega (arith, k.many); few = omega (arith, k.few); travels = k.travels; soft = k.soft; bytes = k.bytes; input = k.input }
+
+  -- ---- the related state at a block
+
+  module _ (main : ℕ) (whole : IsWhole main) (s : State) (l : Local) (pc : ℕ) (r : IsRelated functions c s l pc) where
+    abbrev f : PlacedFunc
+    f = s.frame.function
+
+    abbrev index : ℕ
+    index = r.at.index
+
+    abbrev at_block : ℕ → TacBlock → State
+    at_block b block = record s { frame = begins f b s.frame.places block }
+
+    arrives : (least most b : ℕ) (block : TacBlock) → slice_get f.code.blocks b ≡ Some block → (k : Comes least most l pc index b)
+        → IsRelated functions c (at_block b block) k.to (c.label (block_label functions index b))
+    arrives least most b block e k =
+        let stand = whole.stands.block index f b block r.at.is e in
+        let over = whole.over index f r.at.is in
+        let good = all_at (IsBlockOver (map (λ (f : PlacedFunc). f.code) functions) (length f.code.blocks) f.code.regs) f.code.blocks b block over.2 e in
+        record {
+          framed = framed_kept l k.to r.framed k.soft.keeps;
+          depth = ap (λ q. q + 16384 * (length s.callers + 1)) k.soft.keeps.frame ∙ r.depth;
+          has = places_soft c l k.to s.frame.places k.soft r.has;
+          world = world_kept c l k.to s.world k.bytes k.input r.world;
+          at = record {
+            index = index;
+            is = r.at.is;
+            placed = r.at.placed;
+            ops_over = good.0;
+            end_over = good.1;
+            next = b + 1;
+            behind = stand.behind;
+            falls = stand.next;
+          };
+          here = stand.there;
+          callers = subst (λ q. AreWaiting functions c k.to.words q s.callers) (sym k.soft.keeps.frame)
+              (are_waiting_kept functions c l.words k.to.words (l.x 2) s.callers k.soft.keeps.above r.callers);
+        }
+
+    comes_reach : (least most b : ℕ) (block : TacBlock) → most ≤ 63 → slice_get f.code.blocks b ≡ Some block → (k : Comes least most l pc index b)
+        → (1 ≤ k.count) ⊎ (measure (at_block b block) < measure s) → Reaches functions c s l pc [] (at_block b block)
+    comes_reach least most b block few e k on = record {
+      to = k.to;
+      there = c.label (block_label functions index b);
+      count = k.count;
+      lower = [];
+      few = omega (arith, k.few);
+      goes_on = on;
+      travels = k.travels;
+      seen = refl;
+      allowed = All-nil (May s);
+      related = arrives least most b block e k;
+    }
+
+    -- ---- a jump
+
+    passing_is : (blocks : List TacBlock) (b : ℕ) (block : TacBlock) → slice_get blocks b ≡ Some block → is_passing (slice_get blocks b) ≡ is_passing_block block.ops block.end
+    passing_is blocks b block e = ap is_passing e
+
+    lower_measure : (b : ℕ) (block : TacBlock) → s.frame.ops ≡ [] → s.frame.end ≡ Jump b → is_passing_block block.ops block.end ≡ false → measure (at_block b block) < measure s
+    lower_measure b block none end e =
+        let now : measure s ≡ 1 = ap (λ (ops : List TacOp). if is_passing_block ops s.frame.end then 1 else 0) none ∙ ap (λ (end : TacEnd). if is_passing_block [] end then 1 else 0) end in
+        let then_ : measure (at_block b block) ≡ 0 = ap (λ q. if q then 1 else 0) e in
+        omega arith
+
+    jump_by : (falls : Bool) (b : ℕ) (block : TacBlock) → falls_through f.code.blocks r.at.next b ≡ falls → s.frame.ops ≡ [] → s.frame.end ≡ Jump b → slice_get f.code.blocks b ≡ Some block
+        → LinesAt c pc (if falls then r.at.behind else Far 0 (label_of functions index + 1 + b) ∷ r.at.behind) → Reaches functions c s l pc [] (at_block b block)
+    jump_by true b block falls none end e at =
+        let same = eq_of b r.at.next (and_first (b == r.at.next) (not (is_passing (slice_get f.code.blocks b))) falls) in
+        let busy = not_true (is_passing (slice_get f.code.blocks b)) (and_second (b == r.at.next) (not (is_passing (slice_get f.code.blocks b))) falls) in
+        let begin : BeginsWith functions index f.code.blocks b r.at.behind = subst (λ q. BeginsWith functions index f.code.blocks q r.at.behind) (sym same) r.at.falls in
+        let k = comes_next l pc index f.code.blocks b block r.at.behind begin e at in
+        comes_reach 0 0 b block (omega arith) e k (inr (lower_measure b block none end (sym (passing_is f.code.blocks b block e) ∙ busy)))
+    jump_by false b block falls none end e at =
+        let k = comes_far l pc index b at.0 in
+        comes_reach 2 2 b block (omega arith) e k (inl (omega (arith, k.many)))
+
+    pub ends_at : (end : TacEnd) → s.frame.ops ≡ [] → s.frame.end ≡ end → LinesAt c pc (end_lines f (label_of functions index + 1) r.at.next end r.at.behind)
+    ends_at end none e =
+        subst (λ (end : TacEnd). LinesAt c pc (end_lines f (label_of functions index + 1) r.at.next end r.at.behind)) e
+        (subst (λ (ops : List TacOp). LinesAt c pc (ops_lines functions f s.frame.calls_before ops (end_lines f (label_of functions index + 1) r.at.next s.frame.end r.at.behind))) none r.here)
+
+    jump_goes : (b : ℕ) (o : Option TacBlock) → slice_get f.code.blocks b ≡ o → s.frame.ops ≡ [] → s.frame.end ≡ Jump b → Simulated functions c s (state_of c.parts l pc) (goes_to s b o)
+    jump_goes b (Some block) e none end =
+        reaches_simulates functions c s l pc [] (at_block b block)
+        (jump_by (falls_through f.code.blocks r.at.next b) b block refl none end e (ends_at (Jump b) none end))
+    jump_goes b None e none end = inl refl
+
+    pub jump_simulates : (b : ℕ) → s.frame.ops ≡ [] → s.frame.end ≡ Jump b → Simulated functions c s (state_of c.parts l pc) (goes_to s b (slice_get f.code.blocks b))
+    jump_simulates b none end = jump_goes b (slice_get f.code.blocks b) refl none end
+
+    -- ---- a branch
+
+    module _ (m : Local) (q rs v : ℕ) (low : rs < 32) (holds : m.x rs ≡ v) (zero_is : m.x 0 ≡ 0) where
+      test_is : (o : BranchOp) (b : Bool) → is_taken o v 0 ≡ b → is_taken o (m.x rs) (m.x 0) ≡ b
+      test_is o b e = ap (λ w. is_taken o w (m.x 0)) holds ∙ ap (is_taken o v) zero_is ∙ e
+
+      soft_here : IsSoft m m
+      soft_here = record { keeps = keeps_same m; has = λ a w i h. h }
+
+      -- the branch is not taken
+      passes_to : (o : BranchOp) (b most : ℕ) (more : List Line) → LinesAt c q (Plain (BranchInstr o rs 0 (pos 12)) ∷ more) → is_taken o v 0 ≡ false
+          → Comes 0 most m (q + 4) index b → Comes 1 (1 + most) m q index b
+      passes_to o b most more at e k =
+          then_comes 1 0 most m m q (q + 4) index b
+          (one_travel (detailed_system c.parts) [] (state_of c.parts m q) (state_of c.parts m (q + 4)) (branch_passed c.parts m q o rs 0 (pos 12) at.0 low (omega arith) (test_is o false e)))
+          soft_here refl refl k
+
+      over_is : q + 4 ≤ data_start → moved q (pos 12) ≡ q + 12
+      over_is h = omega arith
+
+      -- the branch is taken
+      leads_to : (o : BranchOp) (b most : ℕ) (more : List Line) → LinesAt c q (Plain (BranchInstr o rs 0 (pos 12)) ∷ more) → is_taken o v 0 ≡ true
+          → Comes 0 most m (q + 12) index b → Comes 1 (1 + most) m q index b
+      leads_to o b most more at e k =
+          let here = at.0.low in
+          let aligned = at.0.aligned in
+          then_comes 1 0 most m m q (q + 12) index b
+          (one_travel (detailed_system c.parts) [] (state_of c.parts m q) (state_of c.parts m (q + 12)) (branch_taken c.parts m q o rs 0 (pos 12) (q + 12) at.0 low (omega arith) (test_is o true e) (over_is here) (omega arith)))
+          soft_here refl refl k
+
+      behind_far : (rest : List Line) → LinesAt c (q + 4 + 8) rest → LinesAt c (q + 12) rest
+      behind_far rest at = subst (λ p. LinesAt c p rest) (let e : q + 4 + 8 ≡ q + 12 = omega arith in e) at
+
+      abbrev first : ℕ
+      first = label_of functions index + 1
+
+      abbrev next : ℕ
+      next = r.at.next
+
+      abbrev behind : List Line
+      behind = r.at.behind
+
+      falls_to : (b : ℕ) (block : TacBlock) → slice_get f.code.blocks b ≡ Some block → b ≡ next → LinesAt c (q + 12) behind → Comes 0 2 m (q + 12) index b
+      falls_to b block e same at =
+          comes_loosened 0 0 0 2 m (q + 12) index b (omega arith) (omega arith)
+          (comes_next m (q + 12) index f.code.blocks b block behind (subst (λ p. BeginsWith functions index f.code.blocks p behind) (sym same) r.at.falls) e at)
+
+      far_to : (p b : ℕ) → FarAt c p 0 (first + b) → Comes 0 2 m p index b
+      far_to p b at = comes_loosened 2 2 0 2 m p index b (omega arith) (omega arith) (comes_far m p index b at)
+
+      jump_to : (t : Bool) (b : ℕ) (block : TacBlock) → (b == next) ≡ t → slice_get f.code.blocks b ≡ Some block → LinesAt c (q + 12) (if t then behind else Far 0 (first + b) ∷ behind)
+          → Comes 0 2 m (q + 12) index b
+      jump_to true b block same e at = falls_to b block e (eq_of b next same) at
+      jump_to false b block same e at = far_to (q + 12) b at.0
+
+      abbrev tested : Bool → ℕ → ℕ → List Line
+      tested t one two =
+          if t then Plain (BranchInstr Bne rs 0 (pos 12)) ∷ Far 0 (first + two) ∷ behind
+          else (Plain (BranchInstr Beq rs 0 (pos 12)) ∷ Far 0 (first + one) ∷ jump_lines first next two behind)
+
+      to_two : (t : Bool) (one two : ℕ) (block : TacBlock) → slice_get f.code.blocks two ≡ Some block → v ≡ 0 → LinesAt c q (tested t one two) → Comes 1 3 m q index two
+      to_two true one two block e none at =
+          passes_to Bne two 2 (Far 0 (first + two) ∷ behind) at (bne_is v 0 true (eq_is v 0 none)) (far_to (q + 4) two at.1.0)
+      to_two false one two block e none at =
+          leads_to Beq two 2 (Far 0 (first + one) ∷ jump_lines first next two behind) at (eq_is v 0 none)
+          (jump_to (two == next) two block refl e (behind_far (jump_lines first next two behind) at.1.1))
+
+      to_one : (t : Bool) (one two : ℕ) (block : TacBlock) → (one == next) ≡ t → slice_get f.code.blocks one ≡ Some block → v ≢ 0 → LinesAt c q (tested t one two) → Comes 1 3 m q index one
+      to_one true one two block same e some at =
+          leads_to Bne one 2 (Far 0 (first + two) ∷ behind) at (bne_is v 0 false (apart_is v 0 some)) (falls_to one block e (eq_of one next same) (behind_far behind at.1.1))
+      to_one false one two block same e some at =
+          passes_to Beq one 2 (Far 0 (first + one) ∷ jump_lines first next two behind) at (apart_is v 0 some) (far_to (q + 4) one at.1.0)
+
+    module _ (a one two v : ℕ) (within : a < f.code.regs) (there : registers_of s.frame a ≡ Some v) (lines : LinesAt c pc (branch_lines (place_at f.homes a) (label_of functions index + 1) r.at.next one two r.at.behind)) where
+      fit : a < length f.homes
+      fit = omega (arith, r.at.placed.homes)
+
+      abbrev p : Place
+      p = place_at f.homes a
+
+      good_place : IsPlace p
+      good_place = place_is f.homes a fit r.at.placed.places
+
+      value_is : s.frame.places (number_of p) ≡ Some v
+      value_is = place_value f.homes s.frame.places a v fit there
+
+      abbrev mid : List Line
+      mid = if one == r.at.next then Plain (BranchInstr Bne (source_of p 5) 0 (pos 12)) ∷ Far 0 (label_of functions index + 1 + two) ∷ r.at.behind
+          else (Plain (BranchInstr Beq (source_of p 5) 0 (pos 12)) ∷ Far 0 (label_of functions index + 1 + one) ∷ jump_lines (label_of functions index + 1) r.at.next two r.at.behind)
+
+      -- the value is read, and then the branch is tested
+      after_read : (b : ℕ) → ((m : Local) (q : ℕ) → m.x (source_of p 5) ≡ v → m.x 0 ≡ 0 → LinesAt c q mid → Comes 1 3 m q index b) → Comes 1 6 l pc index b
+      after_read b on =
+          let read = one_read c p v mid l r.framed good_place (r.has.has p v good_place value_is) (r.has.word p v good_place value_is) in
+          let lead = read.path.leads pc lines in
+          let soft : IsSoft l read.next = record { keeps = read.keeps; has = read.has } in
+          let k = on read.next lead.to read.left (read.keeps.zero ∙ r.framed.zero) lead.there in
+          comes_loosened (lead.count + 1) (lead.count + 3) 1 6 l pc index b (omega arith) (omega (arith, lead.few))
+          (then_comes lead.count 1 3 l read.next pc lead.to index b lead.travels soft read.bytes read.input k)
+
+      comes_two : (block : TacBlock) → slice_get f.code.blocks two ≡ Some block → v ≡ 0 → Comes 1 6 l pc index two
+      comes_two block e none = after_read two (λ m q holds z at. to_two m q (source_of p 5) v (left_register c p good_place).0 holds z (one == r.at.next) one two block e none at)
+
+      comes_one : (block : TacBlock) → slice_get f.code.blocks one ≡ Some block → v ≢ 0 → Comes 1 6 l pc index one
+      comes_one block e some = after_read one (λ m q holds z at. to_one m q (source_of p 5) v (left_register c p good_place).0 holds z (one == r.at.next) one two block refl e some at)
+
+      goes_two : (o : Option TacBlock) → slice_get f.code.blocks two ≡ o → v ≡ 0 → Simulated functions c s (state_of c.parts l pc) (goes_to s two o)
+      goes_two (Some block) e none =
+          let k = comes_two block e none in
+          reaches_simulates functions c s l pc [] (at_block two block) (comes_reach 1 6 two block (omega arith) e k (inl k.many))
+      goes_two None e none = inl refl
+
+      goes_one : (o : Option TacBlock) → slice_get f.code.blocks one ≡ o → v ≢ 0 → Simulated functions c s (state_of c.parts l pc) (goes_to s one o)
+      goes_one (Some block) e some =
+          let k = comes_one block e some in
+          reaches_simulates functions c s l pc [] (at_block one block) (comes_reach 1 6 one block (omega arith) e k (inl k.many))
+      goes_one None e some = inl refl
+
+      branch_goes : (b : Bool) → (v == 0) ≡ b
+          → Simulated functions c s (state_of c.parts l pc) (if b then goes_to s two (slice_get f.code.blocks two) else goes_to s one (slice_get f.code.blocks one))
+      branch_goes true e = goes_two (slice_get f.code.blocks two) refl (eq_of v 0 e)
+      branch_goes false e = goes_one (slice_get f.code.blocks one) refl (apart_of v 0 e)
+
+    branch_by : (a one two : ℕ) (o : Option ℕ) → registers_of s.frame a ≡ o → s.frame.ops ≡ [] → s.frame.end ≡ Branch a one two → a < f.code.regs
+        → Simulated functions c s (state_of c.parts l pc) (branches s one two o)
+    branch_by a one two (Some v) e none end within = branch_goes a one two v within e (ends_at (Branch a one two) none end) (v == 0) refl
+    branch_by a one two None e none end within = inl refl
+
+    pub branch_simulates : (a one two : ℕ) → s.frame.ops ≡ [] → s.frame.end ≡ Branch a one two → a < f.code.regs
+        → Simulated functions c s (state_of c.parts l pc) (branches s one two (registers_of s.frame a))
+    branch_simulates a one two none end within = branch_by a one two (registers_of s.frame a) refl none end within

@@ -1,0 +1,35 @@
+-- A word is its upper 20 bits and the signed rest.
+use Rattle.std.proofs.Common.{◌≡◌, ℕ, ◌+◌, ◌*◌, ◌%◌, ◌^◌, ◌<◌, arith}
+use Rattle.std.specs.Prelude.{pos}
+use Rattle.std.proofs.lemmas.Int.{ints}
+use Rattle.std.proofs.lemmas.Bool.Decides.{nat_tests}
+use Rattle.ckc_base.specs.Words.{word_of}
+use Rattle.ckc_rv.specs.Effects.{moved}
+use Rattle.ckc_emit.specs.Lines.{upper_of, lower_of}
+
+pub split_word : (v : ℕ) → v < 2 ^ 32 → (upper_of v * 2 ^ 12 + word_of (lower_of v)) % 2 ^ 32 ≡ v
+unfolding upper_of lower_of
+split_word v h = grind (arith, ints, nat_tests)
+
+pub small_word : (v : ℕ) → v < 2 ^ 32 → upper_of v ≡ 0 → (0 + word_of (lower_of v)) % 2 ^ 32 ≡ v
+unfolding upper_of lower_of
+small_word v h e = grind (arith, ints, nat_tests)
+
+pub round_word : (v : ℕ) → v < 2 ^ 32 → lower_of v ≡ pos 0 → upper_of v * 2 ^ 12 ≡ v
+unfolding upper_of lower_of
+round_word v h e = grind (arith, ints, nat_tests)
+
+pub upper_small : (v : ℕ) → upper_of v < 2 ^ 20
+unfolding upper_of
+upper_small v = omega arith
+
+-- an offset of a frame that is added in two parts
+pub far_word : (frame offset : ℕ) → frame < 2 ^ 31 → offset < 2 ^ 31 → moved ((upper_of offset * 2 ^ 12 + frame) % 2 ^ 32) (lower_of offset) ≡ frame + offset
+unfolding upper_of lower_of
+far_word frame offset h k = grind (arith, ints, nat_tests)
+
+pub near_word : (frame offset : ℕ) → frame < 2 ^ 31 → offset < 2 ^ 31 → moved frame (pos offset) ≡ frame + offset
+near_word frame offset h k = grind (arith, ints, nat_tests)
+
+pub moved_none : (a : ℕ) → a < 2 ^ 32 → moved a (pos 0) ≡ a
+moved_none a h = omega arith

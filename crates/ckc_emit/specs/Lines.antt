@@ -1,0 +1,231 @@
+-- The lines that are emitted for each piece of placed code, each in front of the lines that follow it. The code is
+-- proved against these; what they come to is said of the machine that runs them (specs/Promise.antt).
+use Rattle.std.specs.Prelude.{ℕ, ◌+◌, ◌*◌, ◌/◌, ◌%◌, ◌^◌, ◌==◌, nat_lt, ◌||◌, Bool, true, false, if◌then◌else◌, ℤ, pos, ◌-ℤ◌, List, ◌∷◌}
+use Rattle.std.specs.Ordering.{int_eq}
+use Rattle.ckc_base.specs.declared.arithmetic.BinOp.{BinOp}
+use Rattle.ckc_base.specs.declared.arithmetic.BinOp.TheVariants as op
+use Rattle.ckc_base.specs.declared.arithmetic.Width.{Width}
+use Rattle.ckc_base.specs.declared.arithmetic.Width.TheVariants.{Byte, Word}
+use Rattle.ckc_base.specs.declared.places.Pos.{Pos}
+use Rattle.ckc_base.specs.declared.runtime_checks.Check.{Check}
+use Rattle.ckc_base.specs.Checks.{number_of}
+use Rattle.ckc_rv.specs.declared.instructions.BranchOp.TheVariants.{Bne, Bge, Bltu}
+use Rattle.ckc_rv.specs.declared.instructions.LoadOp.{LoadOp}
+use Rattle.ckc_rv.specs.declared.instructions.LoadOp.TheVariants.{Lw, Lbu}
+use Rattle.ckc_rv.specs.declared.instructions.StoreOp.{StoreOp}
+use Rattle.ckc_rv.specs.declared.instructions.StoreOp.TheVariants.{Sb, Sw}
+use Rattle.ckc_rv.specs.declared.instructions.ImmOp.TheVariants.{Addi, Sltiu, Slli, Srli}
+use Rattle.ckc_rv.specs.declared.instructions.RegOp.{RegOp}
+use Rattle.ckc_rv.specs.declared.instructions.RegOp.TheVariants.{Add, Sub, Sll, Slt, Sltu, Xor, Srl, Sra, Or, And, Mul, Mulh, Mulhu, Div, Divu, Rem, Remu}
+use Rattle.ckc_rv.specs.declared.instructions.Instr.{Instr}
+use Rattle.ckc_rv.specs.declared.instructions.Instr.TheVariants.{Lui, Branch, Load, Store, Imm, Reg, Ecall}
+use Rattle.ckc_asm.specs.declared.lines.Line.{Line}
+use Rattle.ckc_asm.specs.declared.lines.Line.TheVariants.{Plain}
+use Rattle.ckc_frame.specs.declared.code.Place.{Place}
+use Rattle.ckc_frame.specs.declared.code.Place.TheVariants as place
+
+-- ---- constants
+
+-- the upper 20 bits of a word, rounded so that the rest fits 12 bits with a sign
+unfoldable pub upper_of : ℕ → ℕ
+upper_of v = (v + 0x800) % 2 ^ 32 / 0x1000
+
+-- the rest of a word beside its upper 20 bits, from -2048 to 2047
+unfoldable pub lower_of : ℕ → ℤ
+lower_of v = pos ((v + 0x800) % 2 ^ 32 % 0x1000) -ℤ pos 0x800
+
+abbrev pub add_lower_of : ℕ → ℕ → ℕ → Instr
+add_lower_of rd rs v = Imm Addi rd rs (lower_of v)
+
+abbrev pub load_lower_of : ℕ → ℕ → Instr
+load_lower_of rd offset = Load Lw rd 7 (lower_of offset)
+
+abbrev pub store_lower_of : ℕ → ℕ → Instr
+store_lower_of rs offset = Store Sw 7 rs (lower_of offset)
+
+abbrev pub load_near_of : ℕ → ℕ → ℕ → Instr
+load_near_of rd frame offset = Load Lw rd frame (pos offset)
+
+abbrev pub store_near_of : ℕ → ℕ → ℕ → Instr
+store_near_of rs frame offset = Store Sw frame rs (pos offset)
+
+-- the lower bits are zero
+abbrev pub is_round : ℕ → Bool
+is_round v = int_eq (lower_of v) (pos 0)
+
+abbrev pub both_lines : ℕ → ℕ → List Line → List Line
+both_lines rd v rest = Plain (Lui rd (upper_of v)) ∷ Plain (add_lower_of rd rd v) ∷ rest
+
+abbrev pub large_lines : ℕ → ℕ → List Line → List Line
+large_lines rd v rest = if is_round v then Plain (Lui rd (upper_of v)) ∷ rest else both_lines rd v rest
+
+-- a register is set to a word
+abbrev pub constant_lines : ℕ → ℕ → List Line → List Line
+constant_lines rd v rest =
+    if upper_of v == 0 then Plain (add_lower_of rd 0 v) ∷ rest else large_lines rd v rest
+
+abbrev pub constant_count : ℕ → ℕ
+constant_count v = if upper_of v == 0 || is_round v then 1 else 2
+
+abbrev pub move_lines : ℕ → ℕ → List Line → List Line
+move_lines rd rs rest = Plain (Imm Addi rd rs (pos 0)) ∷ rest
+
+-- ---- the words of a frame
+
+-- x7 is set to an offset, of which the lower part is left, from a frame
+abbrev pub offset_lines : ℕ → ℕ → List Line → List Line
+offset_lines frame offset rest = Plain (Lui 7 (upper_of offset)) ∷ Plain (Reg Add 7 7 frame) ∷ rest
+
+abbrev pub far_load_lines : ℕ → ℕ → ℕ → List Line → List Line
+far_load_lines rd frame offset rest = offset_lines frame offset (Plain (load_lower_of rd offset) ∷ rest)
+
+abbrev pub load_lines : ℕ → ℕ → ℕ → List Line → List Line
+load_lines rd frame offset rest =
+    if nat_lt offset 2048 then Plain (load_near_of rd frame offset) ∷ rest else far_load_lines rd frame offset rest
+
+abbrev pub far_store_lines : ℕ → ℕ → ℕ → List Line → List Line
+far_store_lines rs frame offset rest = offset_lines frame offset (Plain (store_lower_of rs offset) ∷ rest)
+
+abbrev pub store_lines : ℕ → ℕ → ℕ → List Line → List Line
+store_lines rs frame offset rest =
+    if nat_lt offset 2048 then Plain (store_near_of rs frame offset) ∷ rest else far_store_lines rs frame offset rest
+
+-- ---- environment calls and stops
+
+abbrev pub ask_lines : ℕ → List Line → List Line
+ask_lines call rest = constant_lines 17 call (Plain Ecall ∷ rest)
+
+abbrev pub stop_lines : Check → Pos → List Line → List Line
+stop_lines check at rest = constant_lines 10 (number_of check) (constant_lines 11 at.line (constant_lines 12 at.col (ask_lines 3 rest)))
+
+-- a branch over itself and the stop behind it, where two registers differ
+abbrev pub over_stop_of : ℕ → ℕ → Pos → Instr
+over_stop_of rs1 rs2 at = Branch Bne rs1 rs2 (pos ((constant_count at.line + constant_count at.col + 4) * 4))
+
+-- stops unless two registers differ
+abbrev pub check_lines : ℕ → ℕ → Check → Pos → List Line → List Line
+check_lines rs1 rs2 check at rest =
+    Plain (over_stop_of rs1 rs2 at) ∷ stop_lines check at rest
+
+-- ---- places
+
+-- the register of the machine for a register of placed code: x13 to x25 without x17
+abbrev pub register_of : ℕ → ℕ
+register_of k = if nat_lt k 4 then k + 13 else k + 14
+
+-- where the frame keeps a place
+abbrev pub offset_of : Place → ℕ
+offset_of (place.Reg k) = k * 4 + 16
+offset_of (place.Slot k) = k * 4 + 64
+
+-- the register that has the value of a place, where a scratch register has that of a slot
+abbrev pub source_of : Place → ℕ → ℕ
+source_of (place.Reg k) scratch = register_of k
+source_of (place.Slot k) scratch = scratch
+
+abbrev pub read_lines : Place → ℕ → List Line → List Line
+read_lines (place.Reg k) scratch rest = rest
+read_lines (place.Slot k) scratch rest = load_lines scratch 2 (k * 4 + 64) rest
+
+abbrev pub write_lines : Place → ℕ → List Line → List Line
+write_lines (place.Reg k) scratch rest = rest
+write_lines (place.Slot k) scratch rest = store_lines scratch 2 (k * 4 + 64) rest
+
+-- a place gets the value of a register
+abbrev pub settle_lines : Place → ℕ → List Line → List Line
+settle_lines (place.Reg k) rs rest = move_lines (register_of k) rs rest
+settle_lines (place.Slot k) rs rest = store_lines rs 2 (k * 4 + 64) rest
+
+-- a register gets the value of a place
+abbrev pub fetch_lines : ℕ → Place → List Line → List Line
+fetch_lines rd (place.Reg k) rest = move_lines rd (register_of k) rest
+fetch_lines rd (place.Slot k) rest = load_lines rd 2 (k * 4 + 64) rest
+
+-- ---- operations
+
+abbrev pub const_lines : Place → ℕ → List Line → List Line
+const_lines t v rest = constant_lines (source_of t 5) v (write_lines t 5 rest)
+
+abbrev pub copy_lines : Place → Place → List Line → List Line
+copy_lines t (place.Reg k) rest = settle_lines t (register_of k) rest
+copy_lines t (place.Slot k) rest = load_lines (source_of t 5) 2 (k * 4 + 64) (write_lines t 5 rest)
+
+-- the instruction of an operation that has one
+abbrev pub operation_of : BinOp → RegOp
+operation_of op.Add = Add
+operation_of op.Sub = Sub
+operation_of op.Mul = Mul
+operation_of op.DivS = Div
+operation_of op.DivU = Divu
+operation_of op.RemS = Rem
+operation_of op.RemU = Remu
+operation_of op.And = And
+operation_of op.Or = Or
+operation_of op.Xor = Xor
+operation_of op.Shl = Sll
+operation_of op.ShrS = Sra
+operation_of op.ShrU = Srl
+operation_of op.LtS = Slt
+operation_of op.LtU = Sltu
+operation_of op.Eq = Sub
+operation_of op.Ne = Sub
+
+abbrev pub apply_lines : BinOp → ℕ → ℕ → ℕ → List Line → List Line
+apply_lines op.Eq rd a b rest = Plain (Reg Sub rd a b) ∷ Plain (Imm Sltiu rd rd (pos 1)) ∷ rest
+apply_lines op.Ne rd a b rest = Plain (Reg Sub rd a b) ∷ Plain (Reg Sltu rd 0 rd) ∷ rest
+apply_lines o rd a b rest = Plain (Reg (operation_of o) rd a b) ∷ rest
+
+abbrev pub bin_lines : BinOp → Place → Place → Place → List Line → List Line
+bin_lines o t a b rest =
+    read_lines a 5 (read_lines b 6 (apply_lines o (source_of t 5) (source_of a 5) (source_of b 6) (write_lines t 5 rest)))
+
+abbrev pub high_op : Bool → RegOp
+high_op true = Mulh
+high_op false = Mulhu
+
+abbrev pub high_lines : Bool → Place → Place → Place → List Line → List Line
+high_lines is_signed t a b rest =
+    read_lines a 5 (read_lines b 6 (Plain (Reg (high_op is_signed) (source_of t 5) (source_of a 5) (source_of b 6)) ∷ write_lines t 5 rest))
+
+abbrev pub load_op : Width → LoadOp
+load_op Byte = Lbu
+load_op Word = Lw
+
+abbrev pub store_op : Width → StoreOp
+store_op Byte = Sb
+store_op Word = Sw
+
+abbrev pub data_load_lines : Width → Place → Place → List Line → List Line
+data_load_lines width t a rest = read_lines a 5 (Plain (Load (load_op width) (source_of t 5) (source_of a 5) (pos 0)) ∷ write_lines t 5 rest)
+
+abbrev pub data_store_lines : Width → Place → Place → List Line → List Line
+data_store_lines width a b rest = read_lines a 5 (read_lines b 6 (Plain (Store (store_op width) (source_of a 5) (source_of b 6) (pos 0)) ∷ rest))
+
+abbrev pub test_lines : Check → Pos → Place → List Line → List Line
+test_lines check at a rest = read_lines a 5 (check_lines (source_of a 5) 0 check at rest)
+
+abbrev pub get_lines : Place → List Line → List Line
+get_lines t rest = ask_lines 2 (settle_lines t 10 rest)
+
+abbrev pub put_lines : Place → List Line → List Line
+put_lines a rest = fetch_lines 10 a (ask_lines 1 rest)
+
+-- ---- an Alloc of x5 elements of x6 bytes: x10 is the place of the block, or 0
+
+abbrev pub tests_lines : List Line → List Line
+tests_lines rest =
+    Plain (Imm Addi 10 0 (pos 0)) ∷ Plain (Branch Bge 0 5 (pos 48)) ∷ Plain (Branch Bltu 12 11 (pos 44))
+    ∷ Plain (Reg Sub 12 12 11) ∷ Plain (Reg Divu 12 12 6) ∷ Plain (Branch Bltu 12 5 (pos 32)) ∷ rest
+
+abbrev pub room_lines : List Line → List Line
+room_lines rest = Plain (Lui 8 0x2000) ∷ Plain (Load Lw 11 8 (pos 0)) ∷ Plain (Lui 12 0x3000) ∷ tests_lines rest
+
+abbrev pub rounded_lines : List Line → List Line
+rounded_lines rest = Plain (Imm Srli 5 5 (pos 3)) ∷ Plain (Imm Slli 5 5 (pos 3)) ∷ Plain (Store Sw 8 5 (pos 0)) ∷ rest
+
+abbrev pub claim_lines : List Line → List Line
+claim_lines rest =
+    Plain (Imm Addi 10 11 (pos 0)) ∷ Plain (Reg Mul 5 5 6) ∷ Plain (Reg Add 5 5 11) ∷ Plain (Imm Addi 5 5 (pos 15)) ∷ rounded_lines rest
+
+abbrev pub alloc_lines : Place → Place → ℕ → List Line → List Line
+alloc_lines t a size rest = fetch_lines 5 a (constant_lines 6 size (room_lines (claim_lines (settle_lines t 10 rest))))

@@ -1,0 +1,311 @@
+//! The lines of operations, of the ends of blocks, and of functions.
+ghost use Rattle.std.specs.Prelude.{◌≡◌, ◌+◌, ◌≤◌, ◌<◌, ◌^◌, All, IfSome, IfOk, length, map, slice_get, sum_by, OnOk};
+ghost use Rattle.ckc_tac.specs.WellFormed.{HasParams, IsOpOver, IsEndOver, IsBlockOver, IsFunctionOver};
+ghost use Rattle.ckc_frame.specs.Meaning.{is_call as calls_of, calls_in};
+ghost use Rattle.ckc_frame.specs.WellFormed.{IsPlace, IsPlacedWhole, IsWellFormed};
+ghost use Rattle.ckc_frame.specs.Places.{marks_of};
+ghost use Rattle.ckc_emit.specs.Emitting.{Emits};
+ghost use Rattle.ckc_emit.specs.CallLines.{place_at, call_lines, result_lines};
+ghost use Rattle.ckc_emit.specs.ProgramLines.{AreLabels, label_of, homes_of, op_lines, ops_lines, jump_lines, branch_lines, is_passing_block, falls_through, end_lines, block_lines, blocks_lines, function_lines, codes_of, return_lines, pass_lines, over_lines};
+
+use crate::allocation::put_alloc;
+use crate::calls::{put_call, put_result};
+use crate::operations::{
+    put_bin, put_const, put_copy, put_data_load, put_data_store, put_get, put_high, put_put,
+    put_test,
+};
+use crate::places::{place_in, put_fetch, put_read, source};
+use crate::templates::{SP, put, put_load, put_store};
+use ckc_asm::Line;
+use ckc_base::Pos;
+use ckc_frame::{Place, Placed, PlacedFunc};
+use ckc_rv::{BranchOp, Instr};
+use ckc_tac::{TacBlock, TacEnd, TacOp};
+use std::alloc::AllocError;
+
+/// The place of a register of a function.
+fn home(f: &PlacedFunc, r: u32) -> Place
+    requires placed { IsPlacedWhole f.now }
+    requires within { r < f.now.code.regs }
+    ensures is { result ≡ place_at f.now.homes r }
+    ensures place { IsPlace result }
+{
+    place_in(f.homes.as_slice(), r as usize)
+}
+
+/// The lines of an operation; `calls` counts those before it in the function.
+fn put_op(
+    out: &mut Vec<Line>,
+    p: &Placed,
+    labels: &[u32],
+    f: &PlacedFunc,
+    calls: usize,
+    op: &TacOp,
+) -> Result<(), AllocError>
+    requires whole { IsWellFormed p.now }
+    requires labelled { AreLabels p.now.funcs labels.now }
+    requires placed { IsPlacedWhole f.now }
+    requires over { IsOpOver (codes_of p.now.funcs) f.now.code.regs op.now }
+    requires counted { calls + calls_of op.now ≤ length f.now.kept }
+    ensures { OnOk result (Emits out.old.items out.new.items (op_lines p.now.funcs f.now calls op.now)) }
+{
+    match op {
+        TacOp::Const(t, v) => put_const(out, home(f, *t), *v),
+        TacOp::Copy(t, a) => put_copy(out, home(f, *t), home(f, *a)),
+        TacOp::Bin(op, t, a, b) => put_bin(out, *op, home(f, *t), home(f, *a), home(f, *b)),
+        TacOp::High(s, t, a, b) => put_high(out, *s, home(f, *t), home(f, *a), home(f, *b)),
+        TacOp::Load(width, t, a) => put_data_load(out, *width, home(f, *t), home(f, *a)),
+        TacOp::Store(width, a, b) => put_data_store(out, *width, home(f, *a), home(f, *b)),
+        TacOp::Check(check, at, a) => put_test(out, *check, *at, home(f, *a)),
+        TacOp::Get(t) => put_get(out, home(f, *t)),
+        TacOp::Put(a) => put_put(out, home(f, *a)),
+        TacOp::Alloc(t, a, size) => put_alloc(out, home(f, *t), home(f, *a), *size),
+        TacOp::Call(t, callee, args, at) => {
+            put_whole_call(out, p, labels, f, calls, *t, *callee, args.as_slice(), *at)
+        }
+    }
+}
+
+/// The lines of a call and of its result.
+fn put_whole_call(
+    out: &mut Vec<Line>,
+    p: &Placed,
+    labels: &[u32],
+    f: &PlacedFunc,
+    calls: usize,
+    target: Option<u32>,
+    callee: u32,
+    args: &[u32],
+    at: Pos,
+) -> Result<(), AllocError>
+    requires whole { IsWellFormed p.now }
+    requires labelled { AreLabels p.now.funcs labels.now }
+    requires placed { IsPlacedWhole f.now }
+    requires target { IfSome target (λ t. t < f.now.code.regs) }
+    requires callee { HasParams (length args.now) (slice_get (codes_of p.now.funcs) callee) }
+    requires arguments { All (λ r. r < f.now.code.regs) args.now }
+    requires counted { calls < length f.now.kept }
+    ensures { OnOk result (Emits out.old.items out.new.items
+        (λ rest. call_lines f.now.homes (marks_of (slice_get f.now.kept calls)) (homes_of (slice_get p.now.funcs callee)) (label_of p.now.funcs callee) args.now at
+        (result_lines f.now.homes target rest))) }
+{
+    let homes = f.homes.as_slice();
+    let row = f.kept.as_slice()[calls].as_slice();
+    let params = p.funcs.as_slice()[callee as usize].homes.as_slice();
+    put_call(out, homes, row, params, labels[callee as usize], args, at)?;
+    put_result(out, homes, target)
+}
+
+fn is_call(op: &TacOp) -> usize
+    ensures { result ≡ calls_of op.now }
+{
+    match op {
+        TacOp::Call(_, _, _, _) => 1,
+        _ => 0,
+    }
+}
+
+/// The lines of operations, of which the first has so many calls before it in the function; and how many calls stand
+/// before what comes next.
+fn put_ops(
+    out: &mut Vec<Line>,
+    p: &Placed,
+    labels: &[u32],
+    f: &PlacedFunc,
+    before: usize,
+    ops: &[TacOp],
+) -> Result<usize, AllocError>
+    requires whole { IsWellFormed p.now }
+    requires labelled { AreLabels p.now.funcs labels.now }
+    requires placed { IsPlacedWhole f.now }
+    requires over { All (IsOpOver (codes_of p.now.funcs) f.now.code.regs) ops.now }
+    requires counted { before + sum_by calls_of ops.now ≤ length f.now.kept }
+    ensures lines { OnOk result (Emits out.old.items out.new.items (ops_lines p.now.funcs f.now before ops.now)) }
+    ensures calls { IfOk result (λ n. n ≡ before + sum_by calls_of ops.now) }
+{
+    let _rows = f.kept.len();
+    let mut calls = before;
+    for op in ops {
+        put_op(out, p, labels, f, calls, op)?;
+        calls += is_call(op);
+    }
+    Ok(calls)
+}
+
+/// The lines of a block's end, where another block or function follows.
+fn put_end(
+    out: &mut Vec<Line>,
+    f: &PlacedFunc,
+    first: u32,
+    next: u32,
+    end: TacEnd,
+) -> Result<(), AllocError>
+    requires placed { IsPlacedWhole f.now }
+    requires over { IsEndOver (length f.now.code.blocks) f.now.code.regs end }
+    requires fits { first + length f.now.code.blocks < 2 ^ 32 }
+    ensures { OnOk result (Emits out.old.items out.new.items (end_lines f.now first next end)) }
+{
+    match end {
+        TacEnd::Jump(b) => put_pass(out, f.code.blocks.as_slice(), first, next, b),
+        TacEnd::Branch(r, one, two) => put_branch(out, home(f, r), first, next, one, two),
+        TacEnd::Return(r) => put_return(out, home(f, r)),
+    }
+}
+
+/// Goes back to the caller with a value.
+fn put_return(out: &mut Vec<Line>, r: Place) -> Result<(), AllocError>
+    requires { IsPlace r }
+    ensures { OnOk result (Emits out.old.items out.new.items (return_lines r)) }
+{
+    put_fetch(out, 10, r)?;
+    put_load(out, 1, SP, 0)?;
+    put(out, Instr::Jalr(0, 1, 0))
+}
+
+/// Whether a block has no operation and jumps on.
+fn is_passing(block: &TacBlock) -> bool
+    ensures { result ≡ is_passing_block block.now.ops block.now.end }
+{
+    block.ops.is_empty() && matches!(block.end, TacEnd::Jump(_))
+}
+
+/// Whether a jump to a block is left out: where the block comes next, unless it only jumps on. So no two steps without
+/// an instruction follow each other.
+fn is_left_out(blocks: &[TacBlock], next: u32, b: u32) -> bool
+    requires { b < length blocks.now }
+    ensures { result ≡ falls_through blocks.now next b }
+{
+    b == next && !is_passing(&blocks[b as usize])
+}
+
+/// A jump at the end of a block.
+fn put_pass(
+    out: &mut Vec<Line>,
+    blocks: &[TacBlock],
+    first: u32,
+    next: u32,
+    b: u32,
+) -> Result<(), AllocError>
+    requires within { b < length blocks.now }
+    requires fits { first + length blocks.now < 2 ^ 32 }
+    ensures { OnOk result (Emits out.old.items out.new.items (pass_lines blocks.now first next b)) }
+{
+    if !is_left_out(blocks, next, b) {
+        out.push(Line::Far(0, first + b))?;
+    }
+    Ok(())
+}
+
+/// A jump to a block, if it does not come next.
+fn put_jump(out: &mut Vec<Line>, first: u32, next: u32, b: u32) -> Result<(), AllocError>
+    requires { first + b < 2 ^ 32 }
+    ensures { OnOk result (Emits out.old.items out.new.items (jump_lines first next b)) }
+{
+    if b != next {
+        out.push(Line::Far(0, first + b))?;
+    }
+    Ok(())
+}
+
+/// Goes to a block where a register is not zero, and else to another one.
+fn put_branch(
+    out: &mut Vec<Line>,
+    r: Place,
+    first: u32,
+    next: u32,
+    one: u32,
+    two: u32,
+) -> Result<(), AllocError>
+    requires place { IsPlace r }
+    requires one { first + one < 2 ^ 32 }
+    requires two { first + two < 2 ^ 32 }
+    ensures { OnOk result (Emits out.old.items out.new.items (branch_lines r first next one two)) }
+{
+    put_read(out, r, 5)?;
+    if one == next {
+        put_over(out, BranchOp::Bne, source(r, 5), first + two)
+    } else {
+        put_over(out, BranchOp::Beq, source(r, 5), first + one)?;
+        put_jump(out, first, next, two)
+    }
+}
+
+/// A far jump, and a branch over it where a register compares to zero.
+fn put_over(out: &mut Vec<Line>, op: BranchOp, r: u8, label: u32) -> Result<(), AllocError>
+    ensures { OnOk result (Emits out.old.items out.new.items (over_lines op r label)) }
+{
+    put(out, Instr::Branch(op, r, 0, 12))?;
+    out.push(Line::Far(0, label))?;
+    Ok(())
+}
+
+/// The lines of a block, with so many calls before it in the function; and how many calls stand before the next one.
+fn put_block(
+    out: &mut Vec<Line>,
+    p: &Placed,
+    labels: &[u32],
+    f: &PlacedFunc,
+    first: u32,
+    b: u32,
+    before: usize,
+    block: &TacBlock,
+) -> Result<usize, AllocError>
+    requires whole { IsWellFormed p.now }
+    requires labelled { AreLabels p.now.funcs labels.now }
+    requires placed { IsPlacedWhole f.now }
+    requires over { IsBlockOver (codes_of p.now.funcs) (length f.now.code.blocks) f.now.code.regs block.now }
+    requires counted { before + calls_in block.now ≤ length f.now.kept }
+    requires within { b < length f.now.code.blocks }
+    requires fits { first + length f.now.code.blocks < 2 ^ 32 }
+    ensures lines { OnOk result (Emits out.old.items out.new.items (block_lines p.now.funcs f.now first b before block.now)) }
+    ensures calls { IfOk result (λ n. n ≡ before + calls_in block.now) }
+{
+    out.push(Line::Label(first + b))?;
+    let calls = put_ops(out, p, labels, f, before, block.ops.as_slice())?;
+    put_end(out, f, first, b + 1, block.end)?;
+    Ok(calls)
+}
+
+/// The lines of the blocks of a function.
+fn put_blocks(
+    out: &mut Vec<Line>,
+    p: &Placed,
+    labels: &[u32],
+    f: &PlacedFunc,
+    first: u32,
+) -> Result<(), AllocError>
+    requires whole { IsWellFormed p.now }
+    requires labelled { AreLabels p.now.funcs labels.now }
+    requires placed { IsPlacedWhole f.now }
+    requires over { IsFunctionOver (codes_of p.now.funcs) f.now.code }
+    requires fits { first + length f.now.code.blocks < 2 ^ 32 }
+    ensures { OnOk result (Emits out.old.items out.new.items (blocks_lines p.now.funcs f.now first 0 0 f.now.code.blocks)) }
+{
+    let mut calls = 0;
+    let mut b = 0;
+    for block in f.code.blocks.as_slice() {
+        calls = put_block(out, p, labels, f, first, b, calls, block)?;
+        b += 1;
+    }
+    Ok(())
+}
+
+/// The lines of a function: its label, the store of the return address, and its blocks.
+pub fn put_function(
+    out: &mut Vec<Line>,
+    p: &Placed,
+    labels: &[u32],
+    f: &PlacedFunc,
+    label: u32,
+) -> Result<(), AllocError>
+    requires whole { IsWellFormed p.now }
+    requires labelled { AreLabels p.now.funcs labels.now }
+    requires placed { IsPlacedWhole f.now }
+    requires over { IsFunctionOver (codes_of p.now.funcs) f.now.code }
+    requires fits { label + 1 + length f.now.code.blocks < 2 ^ 32 }
+    ensures { OnOk result (Emits out.old.items out.new.items (function_lines p.now.funcs f.now label)) }
+{
+    out.push(Line::Label(label))?;
+    put_store(out, 1, SP, 0)?;
+    put_blocks(out, p, labels, f, label + 1)
+}

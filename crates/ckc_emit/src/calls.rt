@@ -1,0 +1,191 @@
+//! The lines of a call.
+ghost use Rattle.std.specs.Prelude.{◌≡◌, ◌<◌, ◌≤◌, ◌==◌, ◌||◌, ℕ, All, IfSome, false, length, slice_index_or, OnOk};
+ghost use Rattle.ckc_frame.specs.WellFormed.{IsPlace};
+ghost use Rattle.ckc_frame.specs.Places.{number_of, is_kept_home};
+ghost use Rattle.ckc_emit.specs.Emitting.{Emits};
+ghost use Rattle.ckc_emit.specs.CallLines.{is_argument_home, save_lines, saves_lines, restore_lines, restores_lines, depth_lines, argument_lines, arguments_lines, visit_lines, call_lines, result_lines};
+
+use crate::places::{offset, place_in, put_settle, register, source};
+use crate::templates::{SP, put, put_check, put_load, put_move, put_store};
+use ckc_asm::Line;
+use ckc_base::{Check, Pos};
+use ckc_frame::Place;
+use ckc_rv::{Instr, RegOp};
+use std::alloc::AllocError;
+
+const FRAME: u8 = 8;
+
+/// Marks the register of a place, if it is one.
+fn mark(found: &mut [bool; 12], place: Place)
+    requires { IsPlace place }
+    ensures { (k : ℕ) → k < 12 → slice_index_or found.new k false ≡ (slice_index_or found.old k false || number_of place == k) }
+{
+    if let Place::Reg(k) = place {
+        found[k as usize] = true;
+    }
+}
+
+/// Which of the twelve registers are homes of registers that a row marks.
+fn kept_homes(homes: &[Place], row: &[bool]) -> [bool; 12]
+    requires { All IsPlace homes.now }
+    ensures { (k : ℕ) → k < 12 → slice_index_or result k false ≡ is_kept_home k homes.now row.now }
+{
+    let mut found = [false; 12];
+    for (place, marked) in homes.iter().zip(row) {
+        if *marked {
+            mark(&mut found, *place);
+        }
+    }
+    found
+}
+
+/// The same registers, and those that are homes of arguments.
+fn saved_homes(kept: &[bool; 12], homes: &[Place], args: &[u32]) -> [bool; 12]
+    requires places { All IsPlace homes.now }
+    requires within { All (λ r. r < length homes.now) args.now }
+    ensures { (k : ℕ) → k < 12 → slice_index_or result k false ≡ (slice_index_or kept.now k false || is_argument_home k homes.now args.now) }
+{
+    let mut found = *kept;
+    for r in args {
+        mark(&mut found, place_in(homes, *r as usize));
+    }
+    found
+}
+
+/// Saves a register in the frame if it is marked.
+fn put_save(out: &mut Vec<Line>, marked: &[bool; 12], k: u8) -> Result<(), AllocError>
+    requires { k < 12 }
+    ensures { OnOk result (Emits out.old.items out.new.items (save_lines (slice_index_or marked.now k false) k)) }
+{
+    if marked[k as usize] {
+        put_store(out, register(k), SP, offset(Place::Reg(k)))
+    } else {
+        Ok(())
+    }
+}
+
+/// Saves the registers that are marked in the frame.
+fn put_saves(out: &mut Vec<Line>, marked: &[bool; 12]) -> Result<(), AllocError>
+    ensures { OnOk result (Emits out.old.items out.new.items (saves_lines (λ k. slice_index_or marked.now k false) 12 0)) }
+{
+    for k in 0..12u8 {
+        put_save(out, marked, k)?;
+    }
+    Ok(())
+}
+
+/// Restores a register from the frame if it is marked.
+fn put_restore(out: &mut Vec<Line>, marked: &[bool; 12], k: u8) -> Result<(), AllocError>
+    requires { k < 12 }
+    ensures { OnOk result (Emits out.old.items out.new.items (restore_lines (slice_index_or marked.now k false) k)) }
+{
+    if marked[k as usize] {
+        put_load(out, register(k), SP, offset(Place::Reg(k)))
+    } else {
+        Ok(())
+    }
+}
+
+/// Restores the registers that are marked from the frame.
+fn put_restores(out: &mut Vec<Line>, marked: &[bool; 12]) -> Result<(), AllocError>
+    ensures { OnOk result (Emits out.old.items out.new.items (restores_lines (λ k. slice_index_or marked.now k false) 12 0)) }
+{
+    for k in 0..12u8 {
+        put_restore(out, marked, k)?;
+    }
+    Ok(())
+}
+
+/// Stops unless a frame more fits, and sets x8 to it.
+fn put_depth(out: &mut Vec<Line>, at: Pos) -> Result<(), AllocError>
+    ensures { OnOk result (Emits out.old.items out.new.items (depth_lines at)) }
+{
+    put(out, Instr::Lui(5, 0x3000))?;
+    put_check(out, SP, 5, Check::Depth, at)?;
+    put(out, Instr::Lui(FRAME, 0xFFFFC))?;
+    put(out, Instr::Reg(RegOp::Add, FRAME, FRAME, SP))
+}
+
+/// Writes the arguments, the last first, from the frame to the homes of the called function's parameters.
+fn put_arguments(
+    out: &mut Vec<Line>,
+    homes: &[Place],
+    args: &[u32],
+    params: &[Place],
+) -> Result<(), AllocError>
+    requires places { All IsPlace homes.now }
+    requires within { All (λ r. r < length homes.now) args.now }
+    requires params { All IsPlace params.now }
+    requires enough { length args.now ≤ length params.now }
+    ensures { OnOk result (Emits out.old.items out.new.items (arguments_lines homes.now args.now 0 params.now)) }
+{
+    let mut i = args.len();
+    while i > 0 {
+        i -= 1;
+        put_argument(out, place_in(homes, args[i] as usize), place_in(params, i))?;
+    }
+    Ok(())
+}
+
+fn put_argument(out: &mut Vec<Line>, from: Place, to: Place) -> Result<(), AllocError>
+    requires from { IsPlace from }
+    requires to { IsPlace to }
+    ensures { OnOk result (Emits out.old.items out.new.items (argument_lines from to)) }
+{
+    put_load(out, source(to, 5), SP, offset(from))?;
+    match to {
+        Place::Reg(_) => Ok(()),
+        Place::Slot(_) => put_store(out, 5, FRAME, offset(to)),
+    }
+}
+
+/// Goes to a function and back.
+fn put_visit(out: &mut Vec<Line>, label: u32) -> Result<(), AllocError>
+    ensures { OnOk result (Emits out.old.items out.new.items (visit_lines label)) }
+{
+    put_move(out, SP, FRAME)?;
+    out.push(Line::Far(1, label))?;
+    put(out, Instr::Lui(FRAME, 4))?;
+    put(out, Instr::Reg(RegOp::Add, SP, SP, FRAME))
+}
+
+/// Calls a function with arguments, and keeps the registers of a row over the call.
+pub fn put_call(
+    out: &mut Vec<Line>,
+    homes: &[Place],
+    row: &[bool],
+    params: &[Place],
+    label: u32,
+    args: &[u32],
+    at: Pos,
+) -> Result<(), AllocError>
+    requires places { All IsPlace homes.now }
+    requires within { All (λ r. r < length homes.now) args.now }
+    requires params { All IsPlace params.now }
+    requires enough { length args.now ≤ length params.now }
+    ensures { OnOk result (Emits out.old.items out.new.items (call_lines homes.now row.now params.now label args.now at)) }
+{
+    let kept = kept_homes(homes, row);
+    let saved = saved_homes(&kept, homes, args);
+    put_saves(out, &saved)?;
+    put_depth(out, at)?;
+    put_arguments(out, homes, args, params)?;
+    put_visit(out, label)?;
+    put_restores(out, &kept)
+}
+
+/// Writes the result of a call.
+pub fn put_result(
+    out: &mut Vec<Line>,
+    homes: &[Place],
+    target: Option<u32>,
+) -> Result<(), AllocError>
+    requires places { All IsPlace homes.now }
+    requires within { IfSome target (λ t. t < length homes.now) }
+    ensures { OnOk result (Emits out.old.items out.new.items (result_lines homes.now target)) }
+{
+    match target {
+        None => Ok(()),
+        Some(t) => put_settle(out, place_in(homes, t as usize), 10),
+    }
+}

@@ -1,0 +1,94 @@
+//! Where places are: registers of the machine and words of the frame.
+ghost use Rattle.std.specs.Prelude.{◌≡◌, ◌<◌, length, All, OnOk};
+ghost use Rattle.ckc_frame.specs.WellFormed.{IsPlace};
+ghost use Rattle.ckc_emit.specs.Emitting.{Emits};
+ghost use Rattle.ckc_emit.specs.CallLines.{place_at};
+ghost use Rattle.ckc_emit.specs.Lines.{register_of, offset_of, source_of, read_lines, write_lines, settle_lines, fetch_lines};
+
+use crate::templates::{SP, put_load, put_move, put_store};
+use ckc_asm::Line;
+use ckc_frame::Place;
+use std::alloc::AllocError;
+
+/// The place of a register of placed code.
+pub fn place_in(homes: &[Place], r: usize) -> Place
+    requires within { r < length homes.now }
+    requires places { All IsPlace homes.now }
+    ensures is { result ≡ place_at homes.now r }
+    ensures place { IsPlace result }
+{
+    homes[r]
+}
+
+/// The register of the machine for a register of placed code: x13 to x25 without x17.
+pub fn register(k: u8) -> u8
+    requires { k < 12 }
+    ensures { result ≡ register_of k }
+{
+    if k < 4 { k + 13 } else { k + 14 }
+}
+
+/// Where the frame keeps a place.
+pub fn offset(place: Place) -> u32
+    ensures { result ≡ offset_of place }
+{
+    match place {
+        Place::Reg(k) => u32::from(k) * 4 + 16,
+        Place::Slot(k) => u32::from(k) * 4 + 64,
+    }
+}
+
+/// The register in which a place's value is after `put_read`.
+pub fn source(place: Place, scratch: u8) -> u8
+    requires { IsPlace place }
+    ensures { result ≡ source_of place scratch }
+{
+    match place {
+        Place::Reg(k) => register(k),
+        Place::Slot(_) => scratch,
+    }
+}
+
+/// Loads a slot into a scratch register; a register has its value already.
+pub fn put_read(out: &mut Vec<Line>, place: Place, scratch: u8) -> Result<(), AllocError>
+    requires { IsPlace place }
+    ensures { OnOk result (Emits out.old.items out.new.items (read_lines place scratch)) }
+{
+    match place {
+        Place::Reg(_) => Ok(()),
+        Place::Slot(_) => put_load(out, scratch, SP, offset(place)),
+    }
+}
+
+/// Writes a place from the register that `source` names for it.
+pub fn put_write(out: &mut Vec<Line>, place: Place, scratch: u8) -> Result<(), AllocError>
+    requires { IsPlace place }
+    ensures { OnOk result (Emits out.old.items out.new.items (write_lines place scratch)) }
+{
+    match place {
+        Place::Reg(_) => Ok(()),
+        Place::Slot(_) => put_store(out, scratch, SP, offset(place)),
+    }
+}
+
+/// Writes a place from any register.
+pub fn put_settle(out: &mut Vec<Line>, place: Place, rs: u8) -> Result<(), AllocError>
+    requires { IsPlace place }
+    ensures { OnOk result (Emits out.old.items out.new.items (settle_lines place rs)) }
+{
+    match place {
+        Place::Reg(k) => put_move(out, register(k), rs),
+        Place::Slot(_) => put_store(out, rs, SP, offset(place)),
+    }
+}
+
+/// Reads a place into any register.
+pub fn put_fetch(out: &mut Vec<Line>, rd: u8, place: Place) -> Result<(), AllocError>
+    requires { IsPlace place }
+    ensures { OnOk result (Emits out.old.items out.new.items (fetch_lines rd place)) }
+{
+    match place {
+        Place::Reg(k) => put_move(out, rd, register(k)),
+        Place::Slot(_) => put_load(out, rd, SP, offset(place)),
+    }
+}
