@@ -1,0 +1,4 @@
+mod Elements
+mod Places
+mod Found
+mod Truth

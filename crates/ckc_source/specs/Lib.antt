@@ -1,0 +1,11 @@
+pub mod Types
+pub mod Code
+pub mod Blocks
+pub mod LaidOut
+pub mod Runs
+pub mod Words
+pub mod Eval
+pub mod States
+pub mod Steps
+pub mod Source
+pub mod Example

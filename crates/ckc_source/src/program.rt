@@ -1,0 +1,53 @@
+//! A program: its static objects, its structures, and its functions.
+
+use crate::expr::Limits;
+use crate::stmt::{Spot, StmtTree};
+use ckc_base::{Bytes, Seq};
+use ckc_types::CType;
+
+/// A static object or a string literal: its address, the type and the size of an element, how many there are, whether
+/// they are a null-terminated array, whether pointers with known limits may point into it, and its first bytes, which
+/// are followed by zeros.
+#[derive(Drop)]
+pub struct Object {
+    pub at: u32,
+    pub element: CType,
+    pub size: u32,
+    pub count: u32,
+    pub terminated: bool,
+    pub is_run: bool,
+    pub initial: Bytes,
+}
+
+/// A member that pointers with known limits may point to: it takes no part in bounds and has no declared bounds.
+#[derive(Drop)]
+pub struct MemberRun {
+    pub offset: u32,
+    pub ctype: CType,
+}
+
+/// The members of a structure that pointers with known limits may point to.
+#[derive(Drop)]
+pub struct Shape {
+    pub runs: Seq<MemberRun>,
+}
+
+/// A function: where the step of falling off its end stands, how many locals it has, its parameters first among them,
+/// its body, and the limits of its result, where it is a pointer with known limits.
+#[derive(Drop)]
+pub struct FunctionTree {
+    pub end: Spot,
+    pub locals: u32,
+    pub body: Seq<StmtTree>,
+    pub result: Option<Limits>,
+}
+
+/// A program: its objects in the order of their addresses, its structures by the numbers of their tags, its functions,
+/// and the number of `main`.
+#[derive(Drop)]
+pub struct Program {
+    pub objects: Seq<Object>,
+    pub shapes: Seq<Shape>,
+    pub functions: Seq<FunctionTree>,
+    pub main: u32,
+}
