@@ -1,8 +1,7 @@
-use crate::fault::Fault;
 use crate::page::Page;
 use crate::phases::{Asked, put_answer};
 use crate::source::put_place;
-use ckc_base::Refusal;
+use ckc_base::{Fault, Refusal};
 use ckc_case_lines::{CaseFault, Judge};
 use ckc_syntax::string_bytes;
 use std::alloc::Global;

@@ -3,7 +3,6 @@
 #![tactic(auto)]
 
 mod answer;
-mod fault;
 mod page;
 mod parts;
 mod phases;

@@ -1,14 +1,13 @@
 //! A text through the phases, up to the one of which something is asked.
-use crate::fault::Fault;
 use crate::page::Page;
 use crate::parts::{last_statement, last_value, put_last_type};
 use crate::source::{Written, put_expr, put_objects, put_place, put_statement, put_tokens};
-use ckc_base::Pos;
-use ckc_lexer::{LexFault, end_of, lex};
+use ckc_base::{Fault, Pos};
+use ckc_lexer::{end_of, lex};
 use ckc_parser::parse;
-use ckc_resolve::{main_of, resolve};
+use ckc_resolve::resolve;
 use ckc_scopes::scopes;
-use ckc_syntax::{Name, Spelling, Token, Tree, fits};
+use ckc_syntax::{NamedText, Spelling, Token, Tree, fits};
 use ckc_typed::Typed;
 use ckc_typing::type_of;
 use std::alloc::Global;
@@ -59,7 +58,7 @@ pub fn put_answer(alloc: Global, asked: Asked, text: &[u8], page: &mut Page) -> 
 /// Cuts each front of a text.
 fn lex_fronts(alloc: Global, text: &[u8]) -> Result<(), Fault> {
     for len in 0..text.len() {
-        if let Err(LexFault::Memory) = lex(alloc, &text[..len]) {
+        if let Err(Fault::Memory) = lex(alloc, &text[..len]) {
             return Err(Fault::Memory);
         }
     }
@@ -112,36 +111,29 @@ fn of_tree<'a>(
         page.put("fine");
         return Ok(());
     }
-    let main = main_of(alloc, &tree)?;
     let named = resolve(alloc, tree)?;
-    of_names(alloc, asked, named, main.unwrap_or(0), page)
+    of_names(alloc, asked, named, page)
 }
 
-fn of_names(
-    alloc: Global,
-    asked: Asked,
-    tree: Tree<Name, ()>,
-    main: u32,
-    page: &mut Page,
-) -> Result<(), Fault> {
+fn of_names(alloc: Global, asked: Asked, named: NamedText, page: &mut Page) -> Result<(), Fault> {
     match asked {
         Asked::Names => page.put("fine"),
-        Asked::Name => put_meanings(page, &tree, main),
+        Asked::Name => put_meanings(page, &named),
         _ => {
-            let typed = type_of(alloc, tree, main)?;
+            let typed = type_of(alloc, named)?;
             of_types(asked, typed, page)?;
         }
     }
     Ok(())
 }
 
-fn put_meanings(page: &mut Page, tree: &Tree<Name, ()>, main: u32) {
-    match last_value(tree) {
+fn put_meanings(page: &mut Page, named: &NamedText) {
+    match last_value(&named.tree) {
         Some(e) => put_expr(page, e),
         None => page.put("nothing"),
     }
     page.put(" ");
-    page.number(main);
+    page.number(named.main);
 }
 
 fn of_types(asked: Asked, typed: Typed, page: &mut Page) -> Result<(), Fault> {

@@ -41,12 +41,12 @@ fn put_node<N: Written, A>(page: &mut Page, node: &Node<N, A>) {
             put_node(page, &f.get().node);
             page.put("]");
         }
-        Node::Dot(e, name) => {
+        Node::Dot(e, name, _) => {
             put_operand(page, e.get());
             page.put(".");
             name.put(page);
         }
-        Node::Arrow(e, name) => {
+        Node::Arrow(e, name, _) => {
             put_operand(page, e.get());
             page.put("->");
             name.put(page);
@@ -117,15 +117,15 @@ pub fn put_exprs<N: Written, A>(page: &mut Page, es: &[Expr<N, A>]) {
 #[cycle(expr)]
 pub fn put_limits<N: Written, A>(page: &mut Page, limits: &Limits<N, A>) {
     match limits {
-        Limits::Count(e) => {
+        Limits::Count(e, _) => {
             page.put("count(");
             put_node(page, &e.get().node);
         }
-        Limits::ByteCount(e) => {
+        Limits::ByteCount(e, _) => {
             page.put("byte_count(");
             put_node(page, &e.get().node);
         }
-        Limits::Between(e, f) => {
+        Limits::Between(e, f, _) => {
             page.put("bounds(");
             put_node(page, &e.get().node);
             page.put(", ");
