@@ -129,15 +129,17 @@ stmt_of = fold-StmtTree (Code → Code) stmt_form
 abbrev pub code_of : List StmtTree → Code
 code_of statements = chained (map stmt_of statements) End
 
--- A function: where falling off its end stands, how many locals it has, its body, and the limits of its result.
+-- A function: where falling off its end stands, how many parameters and locals it has, its body, and the limits of its
+-- result.
 pub record Function : Type 0 where
   pub end : Spot
+  pub params : ℕ
   pub locals : ℕ
   pub body : Code
   pub result : Option Limits
 
 abbrev pub function_of : FunctionTree → Function
-function_of f = record { end = f.end; locals = f.locals; body = code_of f.body; result = f.result }
+function_of f = record { end = f.end; params = f.params; locals = f.locals; body = code_of f.body; result = f.result }
 
 -- A program: its objects, its structures, its functions, and the number of `main`.
 pub record Program : Type 0 where

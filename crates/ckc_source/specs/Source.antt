@@ -22,6 +22,7 @@ source_system p = record { step = source_step p; weight = λ s. 0 }
 abbrev pub no_function : Function
 no_function = record {
   end = record { at = record { line = 0; col = 0 }; mode = Unchecked };
+  params = 0;
   locals = 0;
   body = End;
   result = None;

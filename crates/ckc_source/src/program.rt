@@ -32,11 +32,12 @@ pub struct Shape {
     pub runs: Seq<MemberRun>,
 }
 
-/// A function: where the step of falling off its end stands, how many locals it has, its parameters first among them,
-/// its body, and the limits of its result, where it is a pointer with known limits.
+/// A function: where the step of falling off its end stands, how many parameters and how many locals it has, its
+/// parameters first among them, its body, and the limits of its result, where it is a pointer with known limits.
 #[derive(Drop)]
 pub struct FunctionTree {
     pub end: Spot,
+    pub params: u32,
     pub locals: u32,
     pub body: Seq<StmtTree>,
     pub result: Option<Limits>,
