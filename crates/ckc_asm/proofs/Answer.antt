@@ -11,17 +11,17 @@ use Rattle.ckc_asm.specs.declared.items.Form.{Form}
 use Rattle.ckc_asm.specs.declared.items.Form.TheVariants as form
 use Rattle.ckc_asm.specs.declared.items.Operand.{Operand}
 use Rattle.ckc_asm.specs.declared.items.Operand.TheVariants.{Nothing, Number, Named}
-use Rattle.ckc_asm.specs.Assembled.{distance}
+use Rattle.ckc_lines.specs.Assembled.{distance, AreParts}
 use Rattle.ckc_asm.specs.Cut.{Word, cut, lines_of}
 use Rattle.ckc_asm.specs.Items.{Statement, reading}
 use Rattle.ckc_asm.specs.Program as program
 use Rattle.ckc_asm.specs.Program.{width_of, size_of, offset_of, address_of, HasLabel, IsLabelAt, IsWordOf, IsValue, IsBytes, no_place, of_word, IsEntry, IsEntryOf, Enters, bytes_at, IsImage, AreSingle, AreStatements, AsmOf}
 use Rattle.ckc_asm.specs.Faults as faults
 use Rattle.ckc_asm.specs.Faults.{longest_text, place_of, readings, ReadsEntry, IsFirst, NoneHas, HasNoForm, HasOldLabel, NamesNothing, HasNoWord, IsNoImage, AreFormed, IsAt, IsLabel, IsOperand, WholeFault, NumberFault, NameFault, LabelFault, FormFault, IsFirstFault}
-use Rattle.ckc_asm.specs.Outcome.{AreParts, AreFaults}
+use Rattle.ckc_asm.specs.Outcome.{AreFaults}
 use Rattle.ckc_asm.proofs.Shaped.{named_shape}
-use Rattle.ckc_asm.proofs.Cases.{order}
-use Rattle.ckc_asm.proofs.WholePieces.{pieces_once}
+use Rattle.ckc_lines.proofs.Cases.{order}
+use Rattle.ckc_lines.proofs.WholePieces.{pieces_once}
 
 -- ---- lists
 

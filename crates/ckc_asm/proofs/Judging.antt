@@ -22,7 +22,7 @@ use Rattle.ckc_asm.specs.Faults.{longest_text, NoneHas, HasNoForm, HasOldLabel, 
 use Rattle.ckc_asm.specs.Outcome.{IfRefused, AnswersParts, AnswersFault}
 use Rattle.ckc_asm.proofs.Answer.{parts_once, fault_once, parts_or_fault}
 use Rattle.ckc_asm.specs.Reading.{AreRead, IsWhole, IsNoProgram, readings_in}
-use Rattle.ckc_asm.proofs.Cases.{bool_cases, order}
+use Rattle.ckc_lines.proofs.Cases.{bool_cases, order}
 
 refused_weaker : (e : AsmFault) (P Q : ℕ → Pos → Type 0) → ((code : ℕ) (place : Pos) → P code place → Q code place) → IfRefused e P → IfRefused e Q
 refused_weaker (fault.Refused r) P Q f h = f r.code r.pos h

@@ -1,12 +1,6 @@
-pub mod Cases
-pub mod LabelPlaces
-pub mod LineCodes
-pub mod Pieces
-pub mod PlaceTable
 pub mod Words
 pub mod Numbers
-pub mod Listed
-pub mod ReadBack
+pub mod KindNames
 pub mod Spelling
 pub mod Cutting
 pub mod Digits
@@ -16,8 +10,6 @@ pub mod RowsBelow
 pub mod LabelsBelow
 pub mod LabelUses
 pub mod Judging
-pub mod WholePieces
 pub mod Answer
-pub mod OneAssembly
 pub mod Shaped
 pub mod Ranges

@@ -13,7 +13,7 @@ use Rattle.ckc_asm.specs.Outcome.{IfRefused}
 use Rattle.ckc_asm.specs.Program.{IsEntry}
 use Rattle.ckc_asm.specs.Faults.{IsFirst, HasNoForm, ReadsEntry}
 use Rattle.ckc_asm.specs.Reading.{HasTarget, HaveTargets, AreRead, IsRefusedLine, IsFormFault, readings_in}
-use Rattle.ckc_asm.proofs.Cases.{bool_cases, last_or_before}
+use Rattle.ckc_lines.proofs.Cases.{bool_cases, last_or_before}
 
 -- the first k lines have these statements; whether one is `.entry`
 pub record AreRowsBelow (lines : List (Option Statement)) (k : ℕ) (entered : Bool) (statements : List Statement) : Type 0 where

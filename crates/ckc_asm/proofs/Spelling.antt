@@ -15,7 +15,7 @@ use Rattle.ckc_asm.specs.Numerals.{is_numeral, numeral_of, beyond, is_hexadecima
 use Rattle.ckc_asm.specs.Items.{kind_name, kinds, kind_of}
 use Rattle.ckc_asm.specs.Spelled.{IsRegister, Spells, IsNumber, plain, negative, hexadecimal, IsByte, IsKind}
 use Rattle.ckc_asm.proofs.Numbers.{is_numeral_from, first_digit, no_x, register_back}
-use Rattle.ckc_asm.proofs.ReadBack.{branch_kind, load_kind, store_kind, imm_kind, reg_kind}
+use Rattle.ckc_asm.proofs.KindNames.{branch_kind, load_kind, store_kind, imm_kind, reg_kind}
 
 -- ---- tests and options
 

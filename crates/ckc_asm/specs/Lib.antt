@@ -1,8 +1,4 @@
-pub mod Assembled
-pub mod Places
 pub mod Names
-pub mod Listing
-pub mod Putting
 pub mod Cut
 pub mod Numerals
 pub mod Items

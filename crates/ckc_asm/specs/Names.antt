@@ -1,5 +1,5 @@
 -- The names of the instructions (RISC-V unprivileged ISA manual, RV32I and "M"), of registers, and digits.
-use Rattle.std.specs.Prelude.{ℕ, zero, suc, ◌+◌, ◌/◌, ◌%◌, ◌^◌, nat_lt, if◌then◌else◌, List, [], ◌∷◌, codes}
+use Rattle.std.specs.Prelude.{ℕ, zero, suc, ◌+◌, ◌/◌, ◌%◌, ◌^◌, nat_lt, if◌then◌else◌, List, [], ◌∷◌, ◌++◌, codes}
 use Rattle.std.specs.Fmt.{decimal}
 use Rattle.ckc_rv.specs.declared.instructions.BranchOp.{BranchOp}
 use Rattle.ckc_rv.specs.declared.instructions.BranchOp.TheVariants.{Beq, Bne, Blt, Bge, Bltu, Bgeu}
@@ -75,3 +75,7 @@ hex_digit d = if nat_lt d 10 then 48 + d else 87 + d
 unfoldable pub hex : ℕ → ℕ → List ℕ
 hex zero n = []
 hex (suc count) n = hex_digit (n / 16 ^ count % 16) ∷ hex count n
+
+-- `0x` and so many digits
+abbrev pub hexadecimal : ℕ → ℕ → List ℕ
+hexadecimal count n = codes "0x" ++ hex count n

@@ -22,12 +22,6 @@ AnswersFault (Ok p) code pos = ⊥
 AnswersFault (Err fault.Memory) code pos = Unit {0}
 AnswersFault (Err (fault.Refused r)) code pos = (r.code ≡ code) × (r.pos ≡ pos)
 
--- the same parts
-pub record AreParts (entry : ℕ) (code initial : List ℕ) (entry' : ℕ) (code' initial' : List ℕ) : Type 0 where
-  pub entry_is : entry ≡ entry'
-  pub code_is : code ≡ code'
-  pub initial_is : initial ≡ initial'
-
 -- the same fault
 pub record AreFaults (code : ℕ) (place : Pos) (code' : ℕ) (place' : Pos) : Type 0 where
   pub code_is : code ≡ code'

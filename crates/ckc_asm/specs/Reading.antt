@@ -7,7 +7,7 @@ use Rattle.ckc_image.specs.Image.{EntryFits, word_bytes}
 use Rattle.ckc_asm.specs.declared.items.Item.{Item}
 use Rattle.ckc_asm.specs.declared.items.Operand.{Operand}
 use Rattle.ckc_asm.specs.declared.items.Operand.TheVariants.{Nothing, Number, Named}
-use Rattle.ckc_asm.specs.Assembled.{distance}
+use Rattle.ckc_lines.specs.Assembled.{distance}
 use Rattle.ckc_asm.specs.Items.{Statement, reading}
 use Rattle.ckc_asm.specs.Program.{size_of, address_of, IsLabelAt, IsWordOf, IsBytes, IsEntry, bytes_at}
 use Rattle.ckc_asm.specs.Faults.{IsFirst, NoneHas, HasNoForm, ReadsEntry, line_front}

@@ -10,8 +10,8 @@ use crate::encoding::word_of;
 use crate::fault::AsmFault;
 use crate::items::Operand;
 use crate::labels::{Labels, refused, width_of};
-use crate::places::CODE;
 use crate::statements::Row;
+use ckc_lines::CODE;
 use std::alloc::Global;
 
 /// That each label that an item names stands somewhere.

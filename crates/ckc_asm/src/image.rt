@@ -13,10 +13,10 @@ use crate::code::target_of;
 use crate::fault::AsmFault;
 use crate::items::{Form, Operand};
 use crate::labels::{Labels, refused};
-use crate::places::CODE;
 use crate::statements::{Row, is_entry};
 use ckc_base::Seq;
 use ckc_image::Parts;
+use ckc_lines::CODE;
 use std::alloc::{AllocError, Global};
 
 /// The initial bytes of statements.

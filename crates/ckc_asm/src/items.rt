@@ -4,7 +4,7 @@ use ckc_rv::{BranchOp, ImmOp, LoadOp, RegOp, StoreOp};
 use std::marker::Model;
 
 /// What the first word of an item names.
-#[derive(Clone, Copy, Debug, PartialEq, Eq)]
+#[derive(Clone, Copy)]
 pub enum Kind {
     Lui,
     Auipc,
@@ -45,7 +45,7 @@ pub enum Form {
 }
 
 /// The number or label of an item. A label is given by its word.
-#[derive(Clone, Copy, Debug, PartialEq, Eq)]
+#[derive(Clone, Copy)]
 pub enum Operand {
     Nothing,
     Number(i64),

@@ -9,10 +9,10 @@ ghost use Rattle.ckc_asm.specs.Rows.{statement_in, statements_in};
 
 use crate::fault::AsmFault;
 use crate::items::{Form, Operand};
-use crate::places::CODE;
 use crate::spots::Spot;
 use crate::statements::Row;
 use ckc_base::{Pos, Refusal};
+use ckc_lines::CODE;
 use indexmap::IndexMap;
 use std::alloc::Global;
 

@@ -6,10 +6,9 @@ ghost use Rattle.ckc_asm.specs.Numerals.{register_of, number_of, byte_of};
 ghost use Rattle.ckc_asm.specs.Spelled.{IsRegister, IsNumber, IsByte, IsKind};
 ghost use Rattle.ckc_asm.specs.Program.{AsmOf, AreStatements, IsWordOf, size_of};
 ghost use Rattle.ckc_asm.specs.Faults.{longest_text, IsFirstFault};
-ghost use Rattle.ckc_asm.specs.Outcome.{AreParts, AreFaults};
+ghost use Rattle.ckc_asm.specs.Outcome.{AreFaults};
 ghost use Rattle.ckc_asm.specs.Ranges.{IsInRange};
-ghost use Rattle.ckc_asm.specs.declared.lines.Line.{Line};
-ghost use Rattle.ckc_asm.specs.Assembled.{Assembled, CanAssemble};
+ghost use Rattle.ckc_lines.specs.Assembled.{AreParts};
 
 /// A text is assembly of one entry, code and list of initial bytes, or it has one first fault, and not both.
 pub fn one_answer()
@@ -35,11 +34,4 @@ pub fn words_by_spelling()
     ensures number { (w : List ℕ) (z : ℤ) → (number_of w ≡ Some z) ↔ IsNumber w z }
     ensures byte { (w : List ℕ) (b : ℕ) → (byte_of w ≡ Some b) ↔ IsByte w b }
     ensures kind { (w : List ℕ) (k : Kind) → (kind_of w ≡ Some k) ↔ IsKind w k }
-{}
-
-/// Labelled lines are assembled to one entry, code and list of initial bytes.
-pub fn one_assembly()
-    ensures { (lines : List Line) (start entry other : ℕ) (given code code' initial initial' : List ℕ) →
-        CanAssemble lines start given → Assembled lines start given entry code initial →
-        Assembled lines start given other code' initial' → AreParts entry code initial other code' initial' }
 {}

@@ -1,7 +1,6 @@
-//! Assembly: labelled lines to the parts of an image, assembly text to parts, and parts to their listing.
+//! Assembly text to the parts of an image.
 #![tactic(auto)]
 
-mod assembler;
 mod code;
 mod encoding;
 mod fault;
@@ -11,21 +10,14 @@ mod items;
 mod kinds;
 mod labels;
 mod laws;
-mod lines;
-mod lister;
 mod names;
 mod numerals;
-mod places;
 mod reader;
 mod shapes;
 mod spots;
 mod statements;
-mod text_line;
-mod texts;
 
-pub use assembler::assemble;
 pub use fault::AsmFault;
-pub use laws::{one_answer, one_assembly, words_by_range, words_by_spelling};
-pub use lines::{Labelled, Line};
-pub use lister::list;
+pub use laws::{one_answer, words_by_range, words_by_spelling};
+pub use names::{branch_name, imm_name, load_name, reg_name, store_name};
 pub use reader::read_asm;

@@ -8,7 +8,7 @@ ghost use Rattle.ckc_asm.specs.Rows.{word_of};
 use std::alloc::{AllocError, Global};
 
 /// A word of a line, with its column from 1.
-#[derive(Clone, Copy, Debug)]
+#[derive(Clone, Copy)]
 pub struct Spot<'a> {
     pub col: u32,
     pub text: &'a [u8],

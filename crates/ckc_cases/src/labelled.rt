@@ -1,6 +1,6 @@
 //! The one case in code: labelled lines with jumps to any distance, which no text of assembly spells.
-use ckc_asm::{Labelled, Line, assemble};
 use ckc_base::Seq;
+use ckc_lines::{Labelled, Line, assemble};
 use ckc_rv::{BranchOp, Instr};
 use std::alloc::{AllocError, Global};
 

@@ -7,7 +7,7 @@ use Rattle.ckc_outside.specs.Outside as outside
 use Rattle.ckc_outside.specs.Outside.{Files, Rose, one_more, after_keep}
 use Rattle.ckc_rv.specs.Machine.{Parts}
 use Rattle.ckc_image.proofs.Agreement.{never_bad, same_parts}
-use Rattle.ckc_asm.specs.Listing.{listing}
+use Rattle.ckc_listing.specs.Listing.{listing}
 use Rattle.ckc_base.specs.declared.places.Refusal.{Refusal}
 use Rattle.ckc_base.specs.declared.fault.Fault.{Fault}
 use Rattle.ckc_base.specs.Phases.{Phase, Answers}

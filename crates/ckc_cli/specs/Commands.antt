@@ -4,7 +4,7 @@ use Rattle.ckc_base.specs.declared.places.Refusal.{Refusal}
 use Rattle.ckc_base.specs.Phases.{Phase}
 use Rattle.ckc_rv.specs.Machine.{Parts}
 use Rattle.ckc_image.specs.Image.{FirstBad}
-use Rattle.ckc_asm.specs.Listing.{listing}
+use Rattle.ckc_listing.specs.Listing.{listing}
 use Rattle.ckc_asm.specs.Program.{AsmOf}
 use Rattle.ckc_asm.specs.Faults.{longest_text, IsFirstFault}
 use Rattle.ckc_cli.specs.Words.{Command, Build, Assemble, Exec, Run, Show, Reads}

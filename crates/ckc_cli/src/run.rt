@@ -1,12 +1,12 @@
 //! Running and listing the bytes of an image.
 ghost use Rattle.std.specs.Prelude.{◌≡◌, ◌≤◌};
 ghost use Rattle.ckc_rv.specs.Machine.{Parts};
-ghost use Rattle.ckc_asm.specs.Listing.{listing};
+ghost use Rattle.ckc_listing.specs.Listing.{listing};
 ghost use Rattle.ckc_cli.specs.Running.{Ends, Listed, OverImage, status_of};
 
 use crate::status::Status;
-use ckc_asm::list;
 use ckc_image::View;
+use ckc_listing::list;
 use ckc_machine::{Machine, Observed};
 use ckc_outside::{Sink, Source};
 use std::alloc::Global;

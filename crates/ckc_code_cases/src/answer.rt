@@ -5,7 +5,6 @@ ghost use Rattle.ckc_core.specs.WellFormed.{IsWellFormed};
 ghost use Rattle.ckc_core.specs.Limits.{IsWithinLimits};
 
 use crate::sizes::size_of;
-use ckc_asm::assemble;
 use ckc_assign::assign;
 use ckc_base::check_name;
 use ckc_case_lines::{CaseFault, Judge};
@@ -13,6 +12,7 @@ use ckc_code_text::{TextFault, program};
 use ckc_core::Core;
 use ckc_emit::emit;
 use ckc_image::{Parts, View, write};
+use ckc_lines::assemble;
 use ckc_lower::lower;
 use ckc_machine::{Machine, Observed};
 use ckc_outside::{MemSink, MemSource};

@@ -9,8 +9,8 @@ use Rattle.ckc_rv.specs.declared.instructions.RegOp.TheVariants.{Sub, Sltu}
 use Rattle.ckc_rv.specs.declared.instructions.ImmOp.TheVariants.{Sltiu}
 use Rattle.ckc_rv.specs.declared.instructions.Instr.TheVariants.{Imm, Reg}
 use Rattle.ckc_rv.specs.Effects.{reg_value}
-use Rattle.ckc_asm.specs.declared.lines.Line.{Line}
-use Rattle.ckc_asm.specs.declared.lines.Line.TheVariants.{Plain}
+use Rattle.ckc_lines.specs.declared.lines.Line.{Line}
+use Rattle.ckc_lines.specs.declared.lines.Line.TheVariants.{Plain}
 use Rattle.ckc_frame.specs.declared.code.Place.{Place}
 use Rattle.ckc_frame.specs.WellFormed.{IsPlace}
 use Rattle.ckc_emit.specs.Lines.{source_of, write_lines, operation_of, apply_lines, const_lines}

@@ -20,8 +20,8 @@ use Rattle.ckc_rv.specs.declared.instructions.RegOp.{RegOp}
 use Rattle.ckc_rv.specs.declared.instructions.RegOp.TheVariants.{Add, Sub, Sltu, Mul, Divu}
 use Rattle.ckc_rv.specs.declared.instructions.Instr.TheVariants.{Lui, Branch, Load, Store, Imm, Reg, Ecall}
 use Rattle.ckc_rv.specs.Table.{IsSigned}
-use Rattle.ckc_asm.specs.declared.lines.Line.{Line}
-use Rattle.ckc_asm.specs.declared.lines.Line.TheVariants.{Plain}
+use Rattle.ckc_lines.specs.declared.lines.Line.{Line}
+use Rattle.ckc_lines.specs.declared.lines.Line.TheVariants.{Plain}
 use Rattle.ckc_frame.specs.declared.code.Place.{Place}
 use Rattle.ckc_frame.specs.declared.code.Place.TheVariants as place
 use Rattle.ckc_frame.specs.WellFormed.{IsPlace}

@@ -8,7 +8,7 @@ use Rattle.std.proofs.lemmas.List.Sums.{sum_by-cons, sum_by_more_le}
 use Rattle.ckc_rv.specs.declared.instructions.BranchOp.{BranchOp}
 use Rattle.ckc_rv.specs.declared.instructions.BranchOp.TheVariants.{Beq, Bne}
 use Rattle.ckc_rv.specs.declared.instructions.Instr.TheVariants as instr
-use Rattle.ckc_asm.specs.declared.lines.Line.{Line}
+use Rattle.ckc_lines.specs.declared.lines.Line.{Line}
 use Rattle.ckc_tac.specs.declared.code.TacFunc.{TacFunc}
 use Rattle.ckc_tac.specs.declared.code.TacBlock.{TacBlock}
 use Rattle.ckc_tac.specs.declared.code.TacOp.{TacOp}

@@ -13,8 +13,8 @@ use Rattle.ckc_rv.specs.declared.instructions.ImmOp.TheVariants.{Addi}
 use Rattle.ckc_rv.specs.declared.instructions.Instr.TheVariants.{Lui, Imm, Reg}
 use Rattle.ckc_rv.specs.Machine.{stack_start}
 use Rattle.ckc_rv.specs.Detailed.{MachineEvent}
-use Rattle.ckc_asm.specs.declared.lines.Line.{Line}
-use Rattle.ckc_asm.specs.declared.lines.Line.TheVariants.{Plain}
+use Rattle.ckc_lines.specs.declared.lines.Line.{Line}
+use Rattle.ckc_lines.specs.declared.lines.Line.TheVariants.{Plain}
 use Rattle.ckc_tac.specs.Operations.{values_in}
 use Rattle.ckc_frame.specs.declared.code.Place.{Place}
 use Rattle.ckc_frame.specs.declared.code.Place.TheVariants as place

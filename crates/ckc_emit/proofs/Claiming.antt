@@ -21,8 +21,8 @@ use Rattle.ckc_rv.specs.declared.instructions.StoreOp.TheVariants.{Sw}
 use Rattle.ckc_rv.specs.declared.instructions.Instr.TheVariants.{Lui, Branch, Load, Store, Imm, Reg}
 use Rattle.ckc_rv.specs.Effects.{moved, is_taken, reg_value, reg_form}
 use Rattle.ckc_rv.specs.Detailed.{Wrote, detailed_system}
-use Rattle.ckc_asm.specs.declared.lines.Line.{Line}
-use Rattle.ckc_asm.specs.declared.lines.Line.TheVariants.{Plain}
+use Rattle.ckc_lines.specs.declared.lines.Line.{Line}
+use Rattle.ckc_lines.specs.declared.lines.Line.TheVariants.{Plain}
 use Rattle.ckc_frame.specs.declared.code.Place.{Place}
 use Rattle.ckc_frame.specs.Places.{number_of}
 use Rattle.ckc_frame.specs.WellFormed.{IsPlace}

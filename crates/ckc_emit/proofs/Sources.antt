@@ -6,8 +6,8 @@ use Rattle.ckc_base.specs.declared.arithmetic.BinOp.{BinOp}
 use Rattle.std.specs.Prelude.{Bool, true, false}
 use Rattle.ckc_rv.specs.declared.instructions.Instr.TheVariants.{Reg as RegInstr}
 use Rattle.ckc_rv.specs.Effects.{reg_value}
-use Rattle.ckc_asm.specs.declared.lines.Line.{Line}
-use Rattle.ckc_asm.specs.declared.lines.Line.TheVariants.{Plain}
+use Rattle.ckc_lines.specs.declared.lines.Line.{Line}
+use Rattle.ckc_lines.specs.declared.lines.Line.TheVariants.{Plain}
 use Rattle.ckc_frame.specs.declared.code.Place.{Place}
 use Rattle.ckc_frame.specs.declared.code.Place.TheVariants.{Reg, Slot}
 use Rattle.ckc_frame.specs.WellFormed.{IsPlace}

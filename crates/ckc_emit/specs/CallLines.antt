@@ -5,8 +5,8 @@ use Rattle.ckc_base.specs.declared.places.Pos.{Pos}
 use Rattle.ckc_base.specs.declared.runtime_checks.Check.TheVariants.{Depth}
 use Rattle.ckc_rv.specs.declared.instructions.RegOp.TheVariants.{Add}
 use Rattle.ckc_rv.specs.declared.instructions.Instr.TheVariants.{Lui, Reg}
-use Rattle.ckc_asm.specs.declared.lines.Line.{Line}
-use Rattle.ckc_asm.specs.declared.lines.Line.TheVariants.{Plain, Far}
+use Rattle.ckc_lines.specs.declared.lines.Line.{Line}
+use Rattle.ckc_lines.specs.declared.lines.Line.TheVariants.{Plain, Far}
 use Rattle.ckc_frame.specs.declared.code.Place.{Place}
 use Rattle.ckc_frame.specs.declared.code.Place.TheVariants as place
 use Rattle.ckc_frame.specs.Places.{home, is_kept_home}

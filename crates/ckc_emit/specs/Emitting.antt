@@ -1,5 +1,5 @@
 use Rattle.std.specs.Prelude.{◌≡◌, List, ◌++◌}
-use Rattle.ckc_asm.specs.declared.lines.Line.{Line}
+use Rattle.ckc_lines.specs.declared.lines.Line.{Line}
 
 -- The lines were extended by those that a function puts in front of whatever follows.
 abbrev pub Emits : List Line → List Line → (List Line → List Line) → Type 0

@@ -4,9 +4,9 @@ use Rattle.std.specs.Prelude.{◌≡◌, ℕ, ◌+◌, ◌<◌, ◌==◌, not, �
 use Rattle.ckc_rv.specs.declared.instructions.BranchOp.{BranchOp}
 use Rattle.ckc_rv.specs.declared.instructions.BranchOp.TheVariants.{Beq, Bne}
 use Rattle.ckc_rv.specs.declared.instructions.Instr.TheVariants.{Lui, Jalr, Branch as BranchInstr}
-use Rattle.ckc_asm.specs.declared.lines.Labelled.{Labelled}
-use Rattle.ckc_asm.specs.declared.lines.Line.{Line}
-use Rattle.ckc_asm.specs.declared.lines.Line.TheVariants.{Label, Plain, Far}
+use Rattle.ckc_lines.specs.declared.lines.Labelled.{Labelled}
+use Rattle.ckc_lines.specs.declared.lines.Line.{Line}
+use Rattle.ckc_lines.specs.declared.lines.Line.TheVariants.{Label, Plain, Far}
 use Rattle.ckc_tac.specs.declared.code.TacFunc.{TacFunc}
 use Rattle.ckc_tac.specs.declared.code.TacBlock.{TacBlock}
 use Rattle.ckc_tac.specs.declared.code.TacOp.{TacOp}

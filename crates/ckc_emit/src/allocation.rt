@@ -6,8 +6,8 @@ ghost use Rattle.ckc_emit.specs.Lines.{alloc_lines, tests_lines, room_lines, rou
 
 use crate::places::{put_fetch, put_settle};
 use crate::templates::{put, put_constant};
-use ckc_asm::Line;
 use ckc_frame::Place;
+use ckc_lines::Line;
 use ckc_rv::{BranchOp, ImmOp, Instr, LoadOp, RegOp, StoreOp};
 use std::alloc::AllocError;
 

@@ -16,9 +16,9 @@ use crate::operations::{
 };
 use crate::places::{place_in, put_fetch, put_read, source};
 use crate::templates::{SP, put, put_load, put_store};
-use ckc_asm::Line;
 use ckc_base::Pos;
 use ckc_frame::{Place, Placed, PlacedFunc};
+use ckc_lines::Line;
 use ckc_rv::{BranchOp, Instr};
 use ckc_tac::{TacBlock, TacEnd, TacOp};
 use std::alloc::AllocError;

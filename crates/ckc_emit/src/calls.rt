@@ -7,9 +7,9 @@ ghost use Rattle.ckc_emit.specs.CallLines.{is_argument_home, save_lines, saves_l
 
 use crate::places::{offset, place_in, put_settle, register, source};
 use crate::templates::{SP, put, put_check, put_load, put_move, put_store};
-use ckc_asm::Line;
 use ckc_base::{Check, Pos};
 use ckc_frame::Place;
+use ckc_lines::Line;
 use ckc_rv::{Instr, RegOp};
 use std::alloc::AllocError;
 

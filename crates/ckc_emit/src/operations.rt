@@ -6,9 +6,9 @@ ghost use Rattle.ckc_emit.specs.Lines.{const_lines, copy_lines, bin_lines, apply
 
 use crate::places::{put_fetch, put_read, put_settle, put_write, source};
 use crate::templates::{put, put_ask, put_check, put_constant};
-use ckc_asm::Line;
 use ckc_base::{BinOp, Check, Pos, Width};
 use ckc_frame::Place;
+use ckc_lines::Line;
 use ckc_rv::{ImmOp, Instr, LoadOp, RegOp, StoreOp};
 use std::alloc::AllocError;
 

@@ -6,8 +6,8 @@ ghost use Rattle.ckc_emit.specs.CallLines.{place_at};
 ghost use Rattle.ckc_emit.specs.Lines.{register_of, offset_of, source_of, read_lines, write_lines, settle_lines, fetch_lines};
 
 use crate::templates::{SP, put_load, put_move, put_store};
-use ckc_asm::Line;
 use ckc_frame::Place;
+use ckc_lines::Line;
 use std::alloc::AllocError;
 
 /// The place of a register of placed code.

@@ -1,6 +1,6 @@
 //! The lines of a program.
 ghost use Rattle.std.specs.Prelude.{◌≡◌, ◌*◌, ◌≤◌, ◌<◌, ◌^◌, length, sum_by, All, IfOk, OnOk};
-ghost use Rattle.ckc_asm.specs.Assembled.{size_of, CanAssemble};
+ghost use Rattle.ckc_lines.specs.Assembled.{size_of, CanAssemble};
 ghost use Rattle.ckc_frame.specs.WellFormed.{IsWellFormed};
 ghost use Rattle.ckc_emit.specs.Emitting.{Emits};
 ghost use Rattle.ckc_emit.specs.ProgramLines.{AreLabels, label_of, start_lines, functions_lines, program_lines, labelled_program};
@@ -11,9 +11,9 @@ ghost use Rattle.ckc_emit.specs.Promise.{FollowsPlaced, FollowsStores, ListsStor
 use crate::blocks::put_function;
 use crate::initial::copy_of;
 use crate::templates::{SP, put, put_ask};
-use ckc_asm::{Labelled, Line};
 use ckc_base::Seq;
 use ckc_frame::{Placed, PlacedFunc};
+use ckc_lines::{Labelled, Line};
 use ckc_rv::Instr;
 use std::alloc::{AllocError, Global};
 

@@ -1,11 +1,11 @@
 //! Short sequences of instructions.
 ghost use Rattle.std.specs.Prelude.{◌≡◌, ◌+◌, ◌*◌, ◌^◌, ◌<◌, ◌∷◌, OnOk, pos};
-ghost use Rattle.ckc_asm.specs.declared.lines.Line.TheVariants as line;
+ghost use Rattle.ckc_lines.specs.declared.lines.Line.TheVariants as line;
 ghost use Rattle.ckc_emit.specs.Emitting.{Emits};
 ghost use Rattle.ckc_emit.specs.Lines.{add_lower_of, load_lower_of, store_lower_of, load_near_of, store_near_of, over_stop_of, upper_of, lower_of, constant_lines, large_lines, both_lines, far_load_lines, far_store_lines, constant_count as count_of, move_lines, load_lines, store_lines, offset_lines, ask_lines, stop_lines, check_lines};
 
-use ckc_asm::Line;
 use ckc_base::{Check, Pos, check_number};
+use ckc_lines::Line;
 use ckc_rv::{BranchOp, ImmOp, Instr, LoadOp, RegOp, StoreOp};
 use std::alloc::AllocError;
 

@@ -4,10 +4,10 @@ use Rattle.std.proofs.lemmas.Int.{ints}
 use Rattle.ckc_rv.specs.declared.instructions.BranchOp.TheVariants.{Bne}
 use Rattle.ckc_rv.specs.declared.instructions.Instr.TheVariants.{Ecall}
 use Rattle.ckc_rv.specs.Table.{IsOffset}
-use Rattle.ckc_asm.specs.declared.lines.Line.{Line}
-use Rattle.ckc_asm.specs.declared.lines.Line.TheVariants.{Label, Plain, Jump, Branch, Far}
-use Rattle.ckc_asm.specs.Assembled.{CanAssemble, distance}
-use Rattle.ckc_asm.proofs.LabelPlaces.{address_is, stand_each}
+use Rattle.ckc_lines.specs.declared.lines.Line.{Line}
+use Rattle.ckc_lines.specs.declared.lines.Line.TheVariants.{Label, Plain, Jump, Branch, Far}
+use Rattle.ckc_lines.specs.Assembled.{CanAssemble, distance}
+use Rattle.ckc_lines.proofs.LabelPlaces.{address_is, stand_each}
 use Rattle.ckc_cases.proofs.labelled.run_labelled.Goals as goal
 
 abbrev lines : List Line

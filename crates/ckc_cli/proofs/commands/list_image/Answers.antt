@@ -1,5 +1,5 @@
 use Rattle.std.proofs.Common.{◌≡◌, ℕ, List, inl, refl, subst}
-use Rattle.ckc_asm.specs.Listing.{listing}
+use Rattle.ckc_listing.specs.Listing.{listing}
 use Rattle.ckc_cli.specs.Running.{Seen, Listed, OverImage}
 use Rattle.ckc_outside.specs.Outside.{Stored}
 use Rattle.ckc_cli.specs.Causes.{bad_image, fetched}

@@ -1,5 +1,5 @@
 use Rattle.std.proofs.Common.{◌≡◌, ◌-◌, List, ◌++◌, false, slice_index_or}
-use Rattle.ckc_asm.specs.declared.lines.Line.{Line}
+use Rattle.ckc_lines.specs.declared.lines.Line.{Line}
 use Rattle.ckc_emit.specs.CallLines.{saves_lines}
 use Rattle.ckc_emit.proofs.calls.put_saves.Given as goal
 
