@@ -1,0 +1,2 @@
+pub mod IntegerForm
+pub mod Inserted

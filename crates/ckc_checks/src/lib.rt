@@ -1,0 +1,3 @@
+//! From the plain program of a text to core code, with all checks written out.
+#![tactic(auto)]
+
