@@ -1,6 +1,6 @@
 -- Programs of integers: no pointer, no bundle and no `calloc` stands in them, and memory is read and written at named
 -- statics alone.
-use Rattle.std.specs.Prelude.{◌≡◌, ℕ, ◌+◌, ◌≤◌, ◌<◌, ◌^◌, max, Bool, true, false, IsTrue, List, [], ◌∷◌, length, slice_get, Option, Some, None, All, IfSome}
+use Rattle.std.specs.Prelude.{◌≡◌, ℕ, ◌+◌, ◌≤◌, ◌<◌, ◌^◌, max, Bool, true, false, IsTrue, List, [], ◌∷◌, length, slice_get, sum_by, Option, Some, None, All, IfSome}
 use Rattle.ckc_base.specs.Memory.{data_start}
 use Rattle.ckc_core.specs.WellFormed.{IsPlace}
 use Rattle.ckc_source.specs.declared.expr.Through.{Through}
@@ -8,7 +8,7 @@ use Rattle.ckc_source.specs.declared.expr.Through.TheVariants.{Named}
 use Rattle.ckc_source.specs.declared.program.Object.{Object}
 use Rattle.ckc_source.specs.declared.stmt.Kept.{Kept}
 use Rattle.ckc_source.specs.declared.stmt.Kept.TheVariants as kept
-use Rattle.ckc_source.specs.Code.{Expr, Number, Local, Load, Binary, And, Or, Choice, Narrow, Target, Nothing, Variable, Memory, Right, Value, Code, End, Assign, Get, Put, Call, If, Loop, Break, Continue, Return, Check, Function, Program}
+use Rattle.ckc_source.specs.Code.{Expr, Number, Local, Load, Binary, And, Or, Choice, Narrow, Target, Nothing, Variable, Memory, Right, Value, Code, End, Assign, Bundle, Get, Put, Call, If, Loop, Break, Continue, Return, Check, Function, Program}
 
 -- ---- measures
 
@@ -39,7 +39,9 @@ right_nodes (Value e) = expr_nodes e
 right_nodes _ = 0
 
 abbrev pub code_nodes : Code → ℕ
+code_nodes End = 0
 code_nodes (Assign spot target right rest) = 1 + right_nodes right + code_nodes rest
+code_nodes (Bundle spot assigns rest) = 1 + code_nodes rest
 code_nodes (Get spot target rest) = 1 + code_nodes rest
 code_nodes (Put spot target e rest) = 1 + expr_nodes e + code_nodes rest
 code_nodes (Call spot target callee es rest) = 1 + exprs_nodes es + code_nodes rest
@@ -49,7 +51,13 @@ code_nodes (Break rest) = 1 + code_nodes rest
 code_nodes (Continue rest) = 1 + code_nodes rest
 code_nodes (Return spot e rest) = 1 + expr_nodes e + code_nodes rest
 code_nodes (Check spot e rest) = 1 + expr_nodes e + code_nodes rest
-code_nodes _ = 0
+
+-- a function and each of its locals are nodes too
+abbrev pub function_nodes : Function → ℕ
+function_nodes f = 1 + f.locals + code_nodes f.body
+
+abbrev pub program_nodes : Program → ℕ
+program_nodes p = sum_by function_nodes p.functions
 
 -- ---- expressions
 
