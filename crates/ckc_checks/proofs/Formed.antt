@@ -1,0 +1,249 @@
+-- What is inserted names only what is there.
+use Rattle.std.proofs.Common.{◌≡◌, ℕ, zero, suc, ◌+◌, ◌-◌, ◌≤◌, ◌<◌, List, [], ◌∷◌, length, refl, sym, ◌∙◌, ap, subst, arith, lit<}
+use Rattle.std.specs.Prelude.{Bool, true, false, if◌then◌else◌, Option, Some, None, slice_get, map, All, IfSome}
+use Rattle.std.specs.Option.{option_map}
+use Rattle.std.proofs.lemmas.Option.{slice_get-map}
+use Rattle.std.proofs.lemmas.List.Elements.{All-nil, All-cons, All-head, All-tail, All-map, All-weaker}
+use Rattle.ckc_base.specs.declared.arithmetic.Width.{Width}
+use Rattle.ckc_base.specs.declared.arithmetic.Width.TheVariants as width
+use Rattle.ckc_base.specs.declared.places.Pos.{Pos}
+use Rattle.ckc_base.specs.declared.runtime_checks.Check.TheVariants as check
+use Rattle.ckc_source.specs.declared.expr.Operation.{Operation}
+use Rattle.ckc_source.specs.declared.expr.Operation.TheVariants.{Le, Gt, Ge}
+use Rattle.ckc_source.specs.declared.stmt.Kept.{Kept}
+use Rattle.ckc_source.specs.declared.stmt.Kept.TheVariants as kept
+use Rattle.ckc_source.specs.Code as source
+use Rattle.ckc_source.specs.Words.{divides}
+use Rattle.ckc_core.specs.Code.{Expr, Const, Local, Code, End, Set, Check, Function}
+use Rattle.ckc_core.specs.WellFormed.{IsExprOver, IsCodeOver, IsFunctionOver, IsWellFormed, HasParams, IsPlace}
+use Rattle.ckc_checks.specs.IntegerForm as form
+use Rattle.ckc_checks.specs.IntegerForm.{IsIntegerExpr, IsIntegerPart, IsIntegerTarget, IsIntegerRight, IsIntegerKept, IsIntegerCode, IsIntegerFunction, IsIntegerProgram}
+use Rattle.ckc_checks.specs.Inserted.{is_direct, operated, low_byte, as_truth, number_of, direct, operand, operation_code, expr_code, operand_code, operands_code, operands, expr_room, operand_room, operands_room, is_narrow, kept_in, written, right_assigned, assigned_room, result_in, result_kept, statements, room, zeroed, function_code, inserted}
+
+-- an expression needs a temporary for its value
+pub expr_room_some : (e : source.Expr) → 1 ≤ expr_room e
+expr_room_some (source.Choice c a b) = omega (arith, expr_room_some a)
+expr_room_some e = omega arith
+
+pub length-operands : (es : List source.Expr) (t : ℕ) → length (operands es t) ≡ length es
+length-operands [] t = refl
+length-operands (e ∷ es) t = ap suc (length-operands es (t + 1))
+
+module _ (few locals : ℕ) (more : few ≤ locals) where
+  operated_over : (o : Operation) (s : Bool) (a b : Expr) → IsExprOver locals a → IsExprOver locals b → IsExprOver locals (operated o s a b)
+  operated_over Le s a b x y = ((y, x), lit< tt)
+  operated_over Gt s a b x y = (y, x)
+  operated_over Ge s a b x y = ((x, y), lit< tt)
+  operated_over o s a b x y = (x, y)
+
+  direct_over : (e : source.Expr) → IsIntegerExpr few e → IsExprOver locals (direct e)
+  direct_over (source.Number n) h = h
+  direct_over (source.Local x) h = omega arith
+  direct_over (source.Load width access p i) h = let n = number_of p in omega arith
+  direct_over (source.Binary o s at a b) h = operated_over o s (direct a) (direct b) (direct_over a h.1) (direct_over b h.2)
+  direct_over (source.Narrow e) h = (direct_over e h, lit< tt)
+  direct_over (source.And a b) h = lit< tt
+  direct_over (source.Or a b) h = lit< tt
+  direct_over (source.Choice c a b) h = lit< tt
+  direct_over e h = absurd h
+
+  by_room : (is_one : Bool) (d : Expr) (r t : ℕ) → IsExprOver locals d → 1 ≤ r → t + (if is_one then 0 else r) ≤ locals → IsExprOver locals (if is_one then d else Local t)
+  by_room true d r t h some fits = h
+  by_room false d r t h some fits = omega arith
+
+  operand_over : (e : source.Expr) (t : ℕ) → IsIntegerExpr few e → t + operand_room e ≤ locals → IsExprOver locals (operand e t)
+  operand_over e t h fits = by_room (is_direct e) (direct e) (expr_room e) t (direct_over e h) (expr_room_some e) fits
+
+  operands_over : (es : List source.Expr) (t : ℕ) → All (IsIntegerPart few) es → t + operands_room es ≤ locals → All (IsExprOver locals) (operands es t)
+  operands_over [] t h fits = All-nil (IsExprOver locals)
+  operands_over (e ∷ es) t h fits =
+      All-cons (IsExprOver locals) (operand e t) (operands es (t + 1))
+      (operand_over e t (All-head (IsIntegerPart few) e es h).0 (omega arith))
+      (operands_over es (t + 1) (All-tail (IsIntegerPart few) e es h) (omega arith))
+
+  kept_over : (w : Width) (is_byte : Bool) (e : Expr) → IsExprOver locals e → IsExprOver locals (kept_in w is_byte e)
+  kept_over width.Byte true e h = h
+  kept_over width.Byte false e h = (h, lit< tt)
+  kept_over width.Word is_byte e h = h
+
+  module _ (functions : List Function) (looped : Bool) where
+    abbrev Over : Code → Type 0
+    Over code = IsCodeOver functions locals looped code
+
+    unless_over : (is_one : Bool) (r t : ℕ) (with without : Code) → (t + r ≤ locals → Over with) → Over without → t + (if is_one then 0 else r) ≤ locals → Over (if is_one then without else with)
+    unless_over true r t with without h over fits = over
+    unless_over false r t with without h over fits = h fits
+
+    operand_step : (e : source.Expr) (t : ℕ) (rest : Code) → (t + expr_room e ≤ locals → Over (expr_code e t rest)) → t + operand_room e ≤ locals → Over rest → Over (operand_code e t rest)
+    operand_step e t rest h fits over = unless_over (is_direct e) (expr_room e) t (expr_code e t rest) rest h over fits
+
+    check_by : (is_one : Bool) (at : Pos) (b : Expr) (rest : Code) → IsPlace at → IsExprOver locals b → Over rest → Over (if is_one then Check check.Divide at b rest else rest)
+    check_by true at b rest place h over = (place, h, over)
+    check_by false at b rest place h over = over
+
+    operation_over : (o : Operation) (s : Bool) (at : Pos) (a b : Expr) (t : ℕ) (rest : Code) → IsPlace at → IsExprOver locals a → IsExprOver locals b → t < locals → Over rest → Over (operation_code o s at a b t rest)
+    operation_over o s at a b t rest place x y below over =
+        check_by (divides o) at b (Set t (operated o s a b) rest) place y (below, operated_over o s a b x y, over)
+
+    truth_over : (e : source.Expr) (t : ℕ) → IsIntegerExpr few e → t < locals → t + operand_room e ≤ locals → Over (Set t (as_truth (operand e t)) End)
+    truth_over e t h below fits = (below, (operand_over e t h fits, lit< tt), tt)
+
+    expr_over : (e : source.Expr) (t : ℕ) (rest : Code) → IsIntegerExpr few e → t + expr_room e ≤ locals → Over rest → Over (expr_code e t rest)
+    expr_over (source.Binary o s at a b) t rest h fits over =
+        let after = operation_code o s at (operand a t) (operand b (t + 1)) t rest in
+        let second = operand_code b (t + 1) after in
+        let left : t + operand_room a ≤ locals = omega arith in
+        let right : t + 1 + operand_room b ≤ locals = omega arith in
+        let below : t < locals = omega arith in
+        let after_over = operation_over o s at (operand a t) (operand b (t + 1)) t rest h.0 (operand_over a t h.1 left) (operand_over b (t + 1) h.2 right) below over in
+        operand_step a t second (λ fits. expr_over a t second h.1 fits (operand_step b (t + 1) after (λ fits. expr_over b (t + 1) after h.2 fits after_over) right after_over)) left
+        (operand_step b (t + 1) after (λ fits. expr_over b (t + 1) after h.2 fits after_over) right after_over)
+    expr_over (source.And a b) t rest h fits over =
+        let set = Set t (as_truth (operand b t)) End in
+        let left : t + operand_room a ≤ locals = omega arith in
+        let right : t + operand_room b ≤ locals = omega arith in
+        let below : t < locals = omega arith in
+        let set_over = truth_over b t h.1 below right in
+        let one = operand_step b t set (λ fits. expr_over b t set h.1 fits set_over) right set_over in
+        let zero_over : Over (Set t (Const 0) End) = (below, lit< tt, tt) in
+        let after = Code.If (operand a t) (operand_code b t set) (Set t (Const 0) End) rest in
+        let after_over : Over after = (operand_over a t h.0 left, one, zero_over, over) in
+        operand_step a t after (λ fits. expr_over a t after h.0 fits after_over) left after_over
+    expr_over (source.Or a b) t rest h fits over =
+        let set = Set t (as_truth (operand b t)) End in
+        let left : t + operand_room a ≤ locals = omega arith in
+        let right : t + operand_room b ≤ locals = omega arith in
+        let below : t < locals = omega arith in
+        let set_over = truth_over b t h.1 below right in
+        let two = operand_step b t set (λ fits. expr_over b t set h.1 fits set_over) right set_over in
+        let one_over : Over (Set t (Const 1) End) = (below, lit< tt, tt) in
+        let after = Code.If (operand a t) (Set t (Const 1) End) (operand_code b t set) rest in
+        let after_over : Over after = (operand_over a t h.0 left, one_over, two, over) in
+        operand_step a t after (λ fits. expr_over a t after h.0 fits after_over) left after_over
+    expr_over (source.Choice c a b) t rest h fits over =
+        let first : t + operand_room c ≤ locals = omega arith in
+        let second : t + expr_room a ≤ locals = omega arith in
+        let third : t + expr_room b ≤ locals = omega arith in
+        let after = Code.If (operand c t) (expr_code a t End) (expr_code b t End) rest in
+        let after_over : Over after = (operand_over c t h.0 first, expr_over a t End h.1 second tt, expr_over b t End h.2 third tt, over) in
+        operand_step c t after (λ fits. expr_over c t after h.0 fits after_over) first after_over
+    expr_over (source.Narrow e) t rest h fits over =
+        let inner : t + operand_room e ≤ locals = omega arith in
+        let below : t < locals = omega arith in
+        let after = Set t (low_byte (operand e t)) rest in
+        let after_over : Over after = (below, (operand_over e t h inner, lit< tt), over) in
+        operand_step e t after (λ fits. expr_over e t after h fits after_over) inner after_over
+    expr_over (source.Number n) t rest h fits over = (omega arith, h, over)
+    expr_over (source.Local x) t rest h fits over = (omega arith, omega arith, over)
+    expr_over (source.Load width access p i) t rest h fits over = (omega arith, direct_over (source.Load width access p i) h, over)
+    expr_over e t rest h fits over = absurd h
+
+    operand_code_over : (e : source.Expr) (t : ℕ) (rest : Code) → IsIntegerExpr few e → t + operand_room e ≤ locals → Over rest → Over (operand_code e t rest)
+    operand_code_over e t rest h fits over = operand_step e t rest (λ fits. expr_over e t rest h fits over) fits over
+
+    operands_code_over : (es : List source.Expr) (t : ℕ) (rest : Code) → All (IsIntegerPart few) es → t + operands_room es ≤ locals → Over rest → Over (operands_code es t rest)
+    operands_code_over [] t rest h fits over = over
+    operands_code_over (e ∷ es) t rest h fits over =
+        operand_code_over e t (operands_code es (t + 1) rest) (All-head (IsIntegerPart few) e es h).0 (omega arith)
+        (operands_code_over es (t + 1) rest (All-tail (IsIntegerPart few) e es h) (omega arith) over)
+
+    written_over : (target : source.Target) (is_byte : Bool) (e : Expr) (rest : Code) → IsIntegerTarget few target → IsExprOver locals e → Over rest → Over (written target is_byte e rest)
+    written_over source.Nothing is_byte e rest h x over = over
+    written_over (source.Variable y w) is_byte e rest h x over = (omega arith, kept_over w is_byte e x, over)
+    written_over (source.Memory w access p i) is_byte e rest h x over = (direct_over (source.Load w access p i) h, x, over)
+
+    right_over : (target : source.Target) (right : source.Right) (rest : Code) → IsIntegerTarget few target → IsIntegerRight few right → few + assigned_room target right ≤ locals → Over rest → Over (right_assigned target right few rest)
+    right_over source.Nothing (source.Value e) rest h x fits over = expr_over e few rest x.0 fits over
+    right_over (source.Variable y w) (source.Value e) rest h x fits over =
+        operand_code_over e few _ x.0 fits (written_over (source.Variable y w) (is_narrow e) (operand e few) rest h (operand_over e few x.0 fits) over)
+    right_over (source.Memory w access p i) (source.Value e) rest h x fits over =
+        operand_code_over e few _ x.0 fits (written_over (source.Memory w access p i) (is_narrow e) (operand e few) rest h (operand_over e few x.0 fits) over)
+    right_over target (source.Fresh to e) rest h x fits over = absurd x
+
+    result_below : (target : Option Kept) → IfSome target (IsIntegerKept few) → few < locals → IfSome (result_in target few) (λ x. x < locals)
+    result_below None h below = tt
+    result_below (Some (kept.Local x w)) h below = omega (arith, h)
+    result_below (Some (kept.Static a w)) h below = below
+
+    result_over : (target : Option Kept) (rest : Code) → IfSome target (IsIntegerKept few) → few < locals → Over rest → Over (result_kept target few rest)
+    result_over None rest h below over = over
+    result_over (Some (kept.Local x width.Byte)) rest h below over = (omega (arith, h), (omega (arith, h), lit< tt), over)
+    result_over (Some (kept.Local x width.Word)) rest h below over = over
+    result_over (Some (kept.Static a w)) rest h below over = (h, below, over)
+
+    zeroed_over : (x count : ℕ) (rest : Code) → x + count ≤ locals → Over rest → Over (zeroed x count rest)
+    zeroed_over x zero rest fits over = over
+    zeroed_over x (suc count) rest fits over = (omega arith, lit< tt, zeroed_over (x + 1) count rest (omega arith) over)
+
+params_same : (count same : ℕ) (found : Option source.Function) → same ≡ count → form.HasParams count found → HasParams same (option_map function_code found)
+params_same count same (Some f) e h = h ∙ sym e
+params_same count same None e h = h
+
+module _ (functions : List source.Function) (few locals : ℕ) (more : few ≤ locals) where
+  abbrev all_code : List Function
+  all_code = map function_code functions
+
+  statements_over : (code : source.Code) (looped : Bool) → IsIntegerCode functions few looped code → few + room code ≤ locals → IsCodeOver all_code locals looped (statements few code)
+  statements_over source.End looped h fits = tt
+  statements_over (source.Assign spot target right rest) looped h fits =
+      right_over few locals more all_code looped target right (statements few rest) h.0 h.1 (omega arith) (statements_over rest looped h.2 (omega arith))
+  statements_over (source.Bundle spot assigns rest) looped h fits = absurd h
+  statements_over (source.Get spot target rest) looped h fits =
+      (omega arith, written_over few locals more all_code looped target false (Local few) (statements few rest) h.0 (omega arith) (statements_over rest looped h.1 (omega arith)))
+  statements_over (source.Put spot target e rest) looped h fits =
+      let inner : few + operand_room e ≤ locals = omega arith in
+      let x = operand_over few locals more e few h.1.0 inner in
+      operand_code_over few locals more all_code looped e few _ h.1.0 inner
+      (x, written_over few locals more all_code looped target true (low_byte (operand e few)) (statements few rest) h.0 (x, lit< tt) (statements_over rest looped h.2 (omega arith)))
+  statements_over (source.Call spot target callee es rest) looped h fits =
+      let inner : few + operands_room es ≤ locals = omega arith in
+      let below : few < locals = omega arith in
+      let params : HasParams (length (operands es few)) (slice_get all_code callee) =
+      subst (HasParams (length (operands es few))) (sym (slice_get-map function_code functions callee))
+      (params_same (length es) (length (operands es few)) (slice_get functions callee) (length-operands es few) h.1) in
+      let call = Code.Call (result_in target few) callee (operands es few) spot.at (result_kept target few (statements few rest)) in
+      operands_code_over few locals more all_code looped es few call h.2 inner (
+        result_below few locals more all_code looped target h.0 below,
+        params,
+        operands_over few locals more es few h.2 inner,
+        h.3,
+        result_over few locals more all_code looped target (statements few rest) h.0 below (statements_over rest looped h.4 (omega arith)),
+      )
+  statements_over (source.If spot e one two rest) looped h fits =
+      let inner : few + operand_room e ≤ locals = omega arith in
+      let fork = Code.If (operand e few) (statements few one) (statements few two) (statements few rest) in
+      operand_code_over few locals more all_code looped e few fork h.0.0 inner
+      (operand_over few locals more e few h.0.0 inner, statements_over one looped h.1 (omega arith), statements_over two looped h.2 (omega arith), statements_over rest looped h.3 (omega arith))
+  statements_over (source.Loop spot e body step rest) looped h fits =
+      let inner : few + operand_room e ≤ locals = omega arith in (
+        operand_code_over few locals more all_code true e few _ h.0.0 inner
+            (operand_over few locals more e few h.0.0 inner, tt, (refl, tt), statements_over body true h.1 (omega arith)),
+        statements_over step false h.2 (omega arith),
+        statements_over rest looped h.3 (omega arith),
+      )
+  statements_over (source.Break rest) looped h fits = (h.0, statements_over rest looped h.1 fits)
+  statements_over (source.Continue rest) looped h fits = (h.0, statements_over rest looped h.1 fits)
+  statements_over (source.Return spot e rest) looped h fits =
+      let inner : few + operand_room e ≤ locals = omega arith in
+      operand_code_over few locals more all_code looped e few _ h.0.0 inner (operand_over few locals more e few h.0.0 inner, statements_over rest looped h.1 (omega arith))
+  statements_over (source.Check spot e rest) looped h fits =
+      let inner : few + operand_room e ≤ locals = omega arith in
+      operand_code_over few locals more all_code looped e few _ h.1.0 inner (h.0, operand_over few locals more e few h.1.0 inner, statements_over rest looped h.2 (omega arith))
+
+function_over : (functions : List source.Function) (f : source.Function) → IsIntegerFunction functions f → IsFunctionOver (map function_code functions) (function_code f)
+function_over functions f w =
+    let locals = f.locals + room f.body in
+    let fits : f.params + (f.locals - f.params) ≤ locals = omega (arith, w.params) in
+    let below : f.params ≤ locals = omega (arith, w.params) in (
+      below,
+      zeroed_over f.locals locals (omega arith) (map function_code functions) false f.params (f.locals - f.params) (statements f.locals f.body) fits
+          (statements_over functions f.locals locals (omega arith) f.body false w.body (omega arith)),
+    )
+
+-- the core code of a program of integers is well-formed
+pub inserted_formed : (p : source.Program) → IsIntegerProgram p → IsWellFormed (inserted p)
+inserted_formed p w = record {
+  functions = All-map (IsFunctionOver (map function_code p.functions)) function_code p.functions
+      (All-weaker (IsIntegerFunction p.functions) (λ f. IsFunctionOver (map function_code p.functions) (function_code f)) (λ f h. function_over p.functions f h) p.functions w.functions);
+  main = subst (HasParams 0) (sym (slice_get-map function_code p.functions p.main)) (params_same 0 0 (slice_get p.functions p.main) refl w.main);
+}

@@ -1,0 +1,6 @@
+pub mod Backward
+pub mod BlockLengths
+pub mod Formed
+pub mod Image
+pub mod Sized
+pub mod Small

@@ -1,0 +1,42 @@
+-- What stands in a list of statements that is built from its end. Private contracts alone speak of it.
+use Rattle.std.specs.Prelude.{ℕ, Bool, true, false, List, reverse, Option}
+use Rattle.ckc_base.specs.declared.places.Pos.{Pos}
+use Rattle.ckc_base.specs.declared.runtime_checks.Check.TheVariants as check
+use Rattle.ckc_core.specs.declared.code.CoreStmt.{CoreStmt}
+use Rattle.ckc_core.specs.Code.{Code, End, Put, Call, If, Loop, Break, Return, Check, code_of}
+use Rattle.ckc_source.specs.declared.stmt.Kept.{Kept}
+use Rattle.ckc_source.specs.Code as source
+use Rattle.ckc_checks.specs.Inserted.{expr_code, expr_room, operand_room, operand_code, operand, operands_code, operands, low_byte, written, result_in, result_kept}
+
+-- the code of statements from the last one to the first
+unfoldable pub behind : List CoreStmt → Code
+behind statements = code_of (reverse statements)
+
+-- the code of an expression, where the flag says so also that of a direct one
+abbrev pub expr_code_if : Bool → source.Expr → ℕ → Code → Code
+expr_code_if true e t rest = expr_code e t rest
+expr_code_if false e t rest = operand_code e t rest
+
+abbrev pub put_code : source.Target → source.Expr → ℕ → Code → Code
+put_code target e t rest = operand_code e t (Put (operand e t) (written target true (low_byte (operand e t)) rest))
+
+abbrev pub call_code : Option Kept → ℕ → List source.Expr → Pos → ℕ → Code → Code
+call_code target callee es at t rest =
+    operands_code es t (Call (result_in target t) callee (operands es t) at (result_kept target t rest))
+
+abbrev pub branch_code : source.Expr → ℕ → Code → Code → Code → Code
+branch_code e t one two rest = operand_code e t (If (operand e t) one two rest)
+
+abbrev pub loop_code : source.Expr → ℕ → Code → Code → Code → Code
+loop_code e t body step rest = Loop (branch_code e t End (Break End) body) step rest
+
+abbrev pub return_code : source.Expr → ℕ → Code → Code
+return_code e t rest = operand_code e t (Return (operand e t) rest)
+
+abbrev pub check_code : Pos → source.Expr → ℕ → Code → Code
+check_code at e t rest = operand_code e t (Check check.Dynamic at (operand e t) rest)
+
+-- how many temporaries that needs
+abbrev pub expr_room_if : Bool → source.Expr → ℕ
+expr_room_if true e = expr_room e
+expr_room_if false e = operand_room e

@@ -1,0 +1,238 @@
+-- The core code of a source program in the integer form. It mirrors what `insert` makes and need not be believed: the
+-- contract of `insert` says how core code follows the program.
+use Rattle.std.specs.Prelude.{ℕ, zero, suc, ◌+◌, ◌-◌, ◌/◌, ◌%◌, max, Bool, true, false, not, ◌&&◌, if◌then◌else◌, List, [], ◌∷◌, ◌++◌, map, length, replicate, Option, Some, None}
+use Rattle.ckc_base.specs.declared.arithmetic.BinOp.TheVariants as binary
+use Rattle.ckc_base.specs.declared.arithmetic.Width.{Width}
+use Rattle.ckc_base.specs.declared.arithmetic.Width.TheVariants as width
+use Rattle.ckc_base.specs.declared.places.Pos.{Pos}
+use Rattle.ckc_base.specs.declared.runtime_checks.Check.TheVariants as check
+use Rattle.ckc_base.specs.Memory.{data_start}
+use Rattle.ckc_source.specs.declared.expr.Access.{Access}
+use Rattle.ckc_source.specs.declared.expr.Operation.{Operation}
+use Rattle.ckc_source.specs.declared.expr.Operation.TheVariants.{Lt, Le, Gt, Ge}
+use Rattle.ckc_source.specs.declared.program.Object.{Object}
+use Rattle.ckc_source.specs.declared.stmt.Kept.{Kept}
+use Rattle.ckc_source.specs.declared.stmt.Kept.TheVariants as kept
+use Rattle.ckc_source.specs.Code as source
+use Rattle.ckc_source.specs.Blocks.{block_of, place_behind, first_place}
+use Rattle.ckc_source.specs.Eval.{place_in}
+use Rattle.ckc_source.specs.Words.{operator, divides}
+use Rattle.ckc_core.specs.Code.{Expr, Const, Local, Load, Bin, Code, End, Set, Store, Check, Call, Get, Put, If, Loop, Break, Continue, Return, Function, Program}
+
+-- ---- expressions
+
+-- A direct expression is one expression of core code: it has no division, no remainder and no branch.
+abbrev pub is_direct : source.Expr → Bool
+is_direct (source.Binary operation is_signed at a b) = not (divides operation) && is_direct a && is_direct b
+is_direct (source.And a b) = false
+is_direct (source.Or a b) = false
+is_direct (source.Choice c a b) = false
+is_direct (source.Narrow e) = is_direct e
+is_direct _ = true
+
+-- a > b is b < a, and a <= b is where a > b is not
+abbrev pub operated : Operation → Bool → Expr → Expr → Expr
+operated Le is_signed a b = Bin binary.Eq (Bin (operator Lt is_signed) b a) (Const 0)
+operated Gt is_signed a b = Bin (operator Lt is_signed) b a
+operated Ge is_signed a b = Bin binary.Eq (Bin (operator Lt is_signed) a b) (Const 0)
+operated operation is_signed a b = Bin (operator operation is_signed) a b
+
+abbrev pub low_byte : Expr → Expr
+low_byte e = Bin binary.And e (Const 255)
+
+abbrev pub as_truth : Expr → Expr
+as_truth e = Bin binary.Ne e (Const 0)
+
+abbrev pub number_of : source.Expr → ℕ
+number_of (source.Number n) = n
+number_of _ = 0
+
+-- the place of a named static
+abbrev pub fixed_place : Access → source.Expr → ℕ
+fixed_place access p = place_in (number_of p) access.offset
+
+-- the core expression of a direct expression
+abbrev pub direct : source.Expr → Expr
+direct (source.Number n) = Const n
+direct (source.Local x) = Local x
+direct (source.Load width access p i) = Load width (Const (fixed_place access p))
+direct (source.Binary operation is_signed at a b) = operated operation is_signed (direct a) (direct b)
+direct (source.Narrow e) = low_byte (direct e)
+direct _ = Const 0
+
+-- where the value of an expression is: where it stands, or in the temporary t
+abbrev pub operand : source.Expr → ℕ → Expr
+operand e t = if is_direct e then direct e else Local t
+
+-- what puts the value of an expression into a temporary stands in front only where it is not direct
+abbrev pub unless_direct : source.Expr → (Code → Code) → Code → Code
+unless_direct e code rest = if is_direct e then rest else code rest
+
+-- a division or remainder stops at a divisor of zero
+abbrev pub divide_check : Operation → Pos → Expr → Code → Code
+divide_check operation at b rest = if divides operation then Check check.Divide at b rest else rest
+
+-- an operation on two operands, into the local t
+abbrev pub operation_code : Operation → Bool → Pos → Expr → Expr → ℕ → Code → Code
+operation_code operation is_signed at a b t rest = divide_check operation at b (Set t (operated operation is_signed a b) rest)
+
+-- The value of an expression goes to the local t, and then comes the rest. Of the locals only those from t on are
+-- written. The code of the operands is made of `expr_code e t` behind `unless_direct e`.
+abbrev pub expr_code : source.Expr → ℕ → Code → Code
+expr_code (source.Binary operation is_signed at a b) t rest =
+    unless_direct a (expr_code a t) (unless_direct b (expr_code b (t + 1))
+    (operation_code operation is_signed at (operand a t) (operand b (t + 1)) t rest))
+expr_code (source.And a b) t rest =
+    unless_direct a (expr_code a t) (If (operand a t)
+    (unless_direct b (expr_code b t) (Set t (as_truth (operand b t)) End)) (Set t (Const 0) End) rest)
+expr_code (source.Or a b) t rest =
+    unless_direct a (expr_code a t) (If (operand a t)
+    (Set t (Const 1) End) (unless_direct b (expr_code b t) (Set t (as_truth (operand b t)) End)) rest)
+expr_code (source.Choice c a b) t rest =
+    unless_direct c (expr_code c t) (If (operand c t) (expr_code a t End) (expr_code b t End) rest)
+expr_code (source.Narrow e) t rest = unless_direct e (expr_code e t) (Set t (low_byte (operand e t)) rest)
+expr_code e t rest = Set t (direct e) rest
+
+-- what an operand needs in front of it
+abbrev pub operand_code : source.Expr → ℕ → Code → Code
+operand_code e t rest = unless_direct e (expr_code e t) rest
+
+-- the operands of a call, each with a temporary of its own
+abbrev pub operands_code : List source.Expr → ℕ → Code → Code
+operands_code [] t rest = rest
+operands_code (e ∷ es) t rest = operand_code e t (operands_code es (t + 1) rest)
+
+abbrev pub operands : List source.Expr → ℕ → List Expr
+operands [] t = []
+operands (e ∷ es) t = operand e t ∷ operands es (t + 1)
+
+-- how many locals from t on `operand_code` may write, where its expression alone would write so many
+abbrev pub unless_direct_room : source.Expr → ℕ → ℕ
+unless_direct_room e room = if is_direct e then 0 else room
+
+-- how many locals from t on `expr_code` may write
+abbrev pub expr_room : source.Expr → ℕ
+expr_room (source.Binary operation is_signed at a b) =
+    max (unless_direct_room a (expr_room a)) (1 + unless_direct_room b (expr_room b))
+expr_room (source.And a b) = max 1 (max (unless_direct_room a (expr_room a)) (unless_direct_room b (expr_room b)))
+expr_room (source.Or a b) = max 1 (max (unless_direct_room a (expr_room a)) (unless_direct_room b (expr_room b)))
+expr_room (source.Choice c a b) = max (unless_direct_room c (expr_room c)) (max (expr_room a) (expr_room b))
+expr_room (source.Narrow e) = max 1 (unless_direct_room e (expr_room e))
+expr_room _ = 1
+
+abbrev pub operand_room : source.Expr → ℕ
+operand_room e = unless_direct_room e (expr_room e)
+
+abbrev pub operands_room : List source.Expr → ℕ
+operands_room [] = 0
+operands_room (e ∷ es) = max (operand_room e) (1 + operands_room es)
+
+-- ---- statements
+
+abbrev pub is_narrow : source.Expr → Bool
+is_narrow (source.Narrow e) = true
+is_narrow _ = false
+
+-- a value as it is kept in a local of the width, by whether it is a byte already
+abbrev pub kept_in : Width → Bool → Expr → Expr
+kept_in width.Byte is_byte e = if is_byte then e else low_byte e
+kept_in width.Word is_byte e = e
+
+-- a value that the target keeps, by whether it is a byte already
+abbrev pub written : source.Target → Bool → Expr → Code → Code
+written source.Nothing is_byte e rest = rest
+written (source.Variable x width) is_byte e rest = Set x (kept_in width is_byte e) rest
+written (source.Memory width access p i) is_byte e rest = Store width (Const (fixed_place access p)) e rest
+
+-- An assignment. Where nothing is assigned, the value goes to the temporary t.
+abbrev pub assigned : source.Target → source.Expr → ℕ → Code → Code
+assigned source.Nothing e t rest = expr_code e t rest
+assigned target e t rest = operand_code e t (written target (is_narrow e) (operand e t) rest)
+
+abbrev pub right_assigned : source.Target → source.Right → ℕ → Code → Code
+right_assigned target (source.Value e) t rest = assigned target e t rest
+right_assigned target (source.Fresh to e) t rest = rest
+
+-- where a call puts its result
+abbrev pub result_in : Option Kept → ℕ → Option ℕ
+result_in None t = None
+result_in (Some (kept.Local x width)) t = Some x
+result_in (Some (kept.Static a width)) t = Some t
+
+-- what is done with the result then
+abbrev pub result_kept : Option Kept → ℕ → Code → Code
+result_kept None t rest = rest
+result_kept (Some (kept.Local x width.Byte)) t rest = Set x (low_byte (Local x)) rest
+result_kept (Some (kept.Local x width.Word)) t rest = rest
+result_kept (Some (kept.Static a width)) t rest = Store width (Const a) (Local t) rest
+
+-- Statements, where t is the first temporary.
+abbrev pub statements : ℕ → source.Code → Code
+statements t source.End = End
+statements t (source.Assign spot target right rest) = right_assigned target right t (statements t rest)
+statements t (source.Bundle spot assigns rest) = statements t rest
+statements t (source.Get spot target rest) = Get t (written target false (Local t) (statements t rest))
+statements t (source.Put spot target e rest) =
+    operand_code e t (Put (operand e t) (written target true (low_byte (operand e t)) (statements t rest)))
+statements t (source.Call spot target callee es rest) =
+    operands_code es t (Call (result_in target t) callee (operands es t) spot.at (result_kept target t (statements t rest)))
+statements t (source.If spot e one two rest) =
+    operand_code e t (If (operand e t) (statements t one) (statements t two) (statements t rest))
+statements t (source.Loop spot e body step rest) =
+    Loop (operand_code e t (If (operand e t) End (Break End) (statements t body))) (statements t step) (statements t rest)
+statements t (source.Break rest) = Break (statements t rest)
+statements t (source.Continue rest) = Continue (statements t rest)
+statements t (source.Return spot e rest) = operand_code e t (Return (operand e t) (statements t rest))
+statements t (source.Check spot e rest) =
+    operand_code e t (Check check.Dynamic spot.at (operand e t) (statements t rest))
+
+abbrev pub assigned_room : source.Target → source.Right → ℕ
+assigned_room source.Nothing (source.Value e) = expr_room e
+assigned_room target (source.Value e) = operand_room e
+assigned_room target (source.Fresh to e) = 0
+
+-- how many temporaries statements need
+abbrev pub room : source.Code → ℕ
+room source.End = 0
+room (source.Assign spot target right rest) = max (assigned_room target right) (room rest)
+room (source.Bundle spot assigns rest) = room rest
+room (source.Get spot target rest) = max 1 (room rest)
+room (source.Put spot target e rest) = max (operand_room e) (room rest)
+room (source.Call spot target callee es rest) = max (max 1 (operands_room es)) (room rest)
+room (source.If spot e one two rest) = max (operand_room e) (max (room one) (max (room two) (room rest)))
+room (source.Loop spot e body step rest) = max (operand_room e) (max (room body) (max (room step) (room rest)))
+room (source.Break rest) = room rest
+room (source.Continue rest) = room rest
+room (source.Return spot e rest) = max (operand_room e) (room rest)
+room (source.Check spot e rest) = max (operand_room e) (room rest)
+
+-- ---- functions and programs
+
+-- so many locals from x on are set to zero
+abbrev pub zeroed : (x count : ℕ) → Code → Code
+zeroed x zero rest = rest
+zeroed x (suc count) rest = Set x (Const 0) (zeroed (x + 1) count rest)
+
+-- The temporaries stand behind the locals, which begin at zero but for the parameters.
+abbrev pub function_code : source.Function → Function
+function_code f = record {
+  params = f.params;
+  locals = f.locals + room f.body;
+  body = zeroed f.params (f.locals - f.params) (statements f.locals f.body);
+}
+
+-- the bytes from an address on, with the first bytes of objects at their places
+abbrev pub image : ℕ → List Object → List ℕ
+image a [] = []
+image a (o ∷ objects) = replicate (o.at - a) 0 ++ o.initial ++ image (o.at + length o.initial) objects
+
+-- a word in memory, the lowest byte first
+abbrev pub word_bytes : ℕ → List ℕ
+word_bytes n = n % 256 ∷ n / 256 % 256 ∷ n / 65536 % 256 ∷ n / 16777216 % 256 ∷ []
+
+-- The data region begins with the heap word, which is the place behind the objects.
+abbrev pub first_bytes : List Object → List ℕ
+first_bytes objects = word_bytes (place_behind first_place (map block_of objects)) ++ image (data_start + 4) objects
+
+abbrev pub inserted : source.Program → Program
+inserted p = record { initial = first_bytes p.objects; functions = map function_code p.functions; main = p.main }

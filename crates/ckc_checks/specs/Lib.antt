@@ -1,0 +1,3 @@
+pub mod IntegerForm
+pub mod Inserted
+pub mod Building

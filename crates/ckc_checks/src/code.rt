@@ -1,0 +1,216 @@
+//! The code of expressions, built from its end: lists of statements stand from the last one to the first.
+
+ghost use Rattle.std.specs.Prelude.{◌≡◌, [], IfOk, OnOk};
+ghost use Rattle.ckc_core.specs.Code.{Code, code_of, stmt_of, expr_of};
+ghost use Rattle.ckc_source.specs.Code.{expr_of as source_of};
+ghost use Rattle.ckc_checks.specs.Inserted.{as_truth, low_byte, divide_check, operated, operation_code, operand};
+ghost use Rattle.ckc_checks.specs.Building.{behind, expr_code_if};
+
+use crate::exprs::{as_truth, direct, divides, is_direct, low_byte, operand, operated, sum};
+use ckc_base::{Check, Pos, Seq};
+use ckc_core::{CoreExpr, CoreStmt};
+use ckc_source::{ExprTree, Operation};
+use std::alloc::{AllocError, Global};
+
+/// An empty list of statements.
+#[tactic(auto, using(crate::proofs::Backward::behind_none))]
+pub fn nothing(alloc: Global) -> Seq<CoreStmt>
+    ensures { behind result ≡ Code.End }
+{
+    Seq::new(alloc)
+}
+
+/// Puts a statement in front.
+#[tactic(auto, using(crate::proofs::Backward::behind_push))]
+pub fn front(code: &mut Seq<CoreStmt>, s: CoreStmt) -> Result<(), AllocError>
+    ensures { OnOk result (behind code.new ≡ stmt_of s (behind code.old)) }
+{
+    code.push(s)?;
+    Ok(())
+}
+
+/// The statements from the first one to the last.
+#[tactic(auto, unfolding(crate::specs::Building::behind))]
+pub fn in_order(code: Seq<CoreStmt>) -> Seq<CoreStmt>
+    ensures { code_of result ≡ behind code }
+{
+    let mut items = code.into_vec();
+    items.reverse();
+    Seq::from_vec(items)
+}
+
+/// A list that sets one local.
+fn set_alone(alloc: Global, t: u32, value: CoreExpr) -> Result<Seq<CoreStmt>, AllocError>
+    ensures { IfOk result (λ code. behind code ≡ Code.Set t (expr_of value) Code.End) }
+{
+    let mut code = nothing(alloc);
+    front(&mut code, CoreStmt::Set(t, value))?;
+    Ok(code)
+}
+
+/// A list that sets a local to 1 where the value of an operand is not zero, and else to 0.
+fn truth_alone(alloc: Global, e: &ExprTree, t: u32) -> Result<Seq<CoreStmt>, AllocError>
+    ensures { IfOk result (λ code. behind code ≡ Code.Set t (as_truth (operand (source_of e.now) t)) Code.End) }
+{
+    let value = operand(alloc, e, t)?;
+    let value = as_truth(alloc, value)?;
+    set_alone(alloc, t, value)
+}
+
+/// Puts a branch on an operand in front.
+pub fn fork(
+    alloc: Global,
+    e: &ExprTree,
+    t: u32,
+    one: Seq<CoreStmt>,
+    two: Seq<CoreStmt>,
+    code: &mut Seq<CoreStmt>,
+) -> Result<(), AllocError>
+    ensures { OnOk result (behind code.new ≡ Code.If (operand (source_of e.now) t) (behind one) (behind two) (behind code.old)) }
+{
+    let condition = operand(alloc, e, t)?;
+    front(code, CoreStmt::If(condition, in_order(one), in_order(two)))?;
+    Ok(())
+}
+
+/// Puts the check of a divisor in front, where the operation divides.
+fn check_divisor(
+    alloc: Global,
+    operation: Operation,
+    at: Pos,
+    b: &ExprTree,
+    t: u32,
+    code: &mut Seq<CoreStmt>,
+) -> Result<(), AllocError>
+    ensures { OnOk result (behind code.new ≡ divide_check operation at (operand (source_of b.now) t) (behind code.old)) }
+{
+    if divides(operation) {
+        let divisor = operand(alloc, b, t)?;
+        front(code, CoreStmt::Check(Check::Divide, at, divisor))?;
+    }
+    Ok(())
+}
+
+/// An operation on two operands, in t and in the temporary `next`.
+fn operation_of(
+    alloc: Global,
+    operation: Operation,
+    is_signed: bool,
+    a: &ExprTree,
+    b: &ExprTree,
+    t: u32,
+    next: u32,
+) -> Result<CoreExpr, AllocError>
+    ensures { IfOk result (λ c. expr_of c ≡ operated operation is_signed (operand (source_of a.now) t) (operand (source_of b.now) next)) }
+{
+    let left = operand(alloc, a, t)?;
+    let right = operand(alloc, b, next)?;
+    operated(alloc, operation, is_signed, left, right)
+}
+
+/// Puts an operation on two operands, in t and in the temporary `next`, in front.
+fn operate(
+    alloc: Global,
+    operation: Operation,
+    is_signed: bool,
+    at: Pos,
+    a: &ExprTree,
+    b: &ExprTree,
+    t: u32,
+    next: u32,
+    code: &mut Seq<CoreStmt>,
+) -> Result<(), AllocError>
+    ensures { OnOk result (behind code.new ≡ operation_code operation is_signed at
+        (operand (source_of a.now) t) (operand (source_of b.now) next) t (behind code.old)) }
+{
+    let value = operation_of(alloc, operation, is_signed, a, b, t, next)?;
+    front(code, CoreStmt::Set(t, value))?;
+    check_divisor(alloc, operation, at, b, next, code)?;
+    Ok(())
+}
+
+/// Puts a statement in front that sets a local to the low byte of an operand.
+fn narrow(alloc: Global, e: &ExprTree, t: u32, code: &mut Seq<CoreStmt>) -> Result<(), AllocError>
+    ensures { OnOk result (behind code.new ≡ Code.Set t (low_byte (operand (source_of e.now) t)) (behind code.old)) }
+{
+    let value = operand(alloc, e, t)?;
+    let value = low_byte(alloc, value)?;
+    front(code, CoreStmt::Set(t, value))?;
+    Ok(())
+}
+
+/// Puts the code in front that writes the value of an expression to the local t. A direct expression has such code
+/// only where the flag says so.
+pub fn expr(
+    alloc: Global,
+    e: &ExprTree,
+    always: bool,
+    t: u32,
+    code: &mut Seq<CoreStmt>,
+) -> Result<(), AllocError>
+    ensures { OnOk result (behind code.new ≡ expr_code_if always (source_of e.now) t (behind code.old)) }
+{
+    if !always && is_direct(e) {
+        return Ok(());
+    }
+    match e {
+        ExprTree::Binary(operation, is_signed, at, a, b) => {
+            let next = sum(t, 1)?;
+            operate(
+                alloc,
+                *operation,
+                *is_signed,
+                *at,
+                a.get(),
+                b.get(),
+                t,
+                next,
+                code,
+            )?;
+            expr(alloc, b.get(), false, next, code)?;
+            expr(alloc, a.get(), false, t, code)?;
+        }
+        ExprTree::And(a, b) => {
+            let mut one = truth_alone(alloc, b.get(), t)?;
+            expr(alloc, b.get(), false, t, &mut one)?;
+            let two = set_alone(alloc, t, CoreExpr::Const(0))?;
+            fork(alloc, a.get(), t, one, two, code)?;
+            expr(alloc, a.get(), false, t, code)?;
+        }
+        ExprTree::Or(a, b) => {
+            let one = set_alone(alloc, t, CoreExpr::Const(1))?;
+            let mut two = truth_alone(alloc, b.get(), t)?;
+            expr(alloc, b.get(), false, t, &mut two)?;
+            fork(alloc, a.get(), t, one, two, code)?;
+            expr(alloc, a.get(), false, t, code)?;
+        }
+        ExprTree::Choice(c, a, b) => {
+            let mut one = nothing(alloc);
+            expr(alloc, a.get(), true, t, &mut one)?;
+            let mut two = nothing(alloc);
+            expr(alloc, b.get(), true, t, &mut two)?;
+            fork(alloc, c.get(), t, one, two, code)?;
+            expr(alloc, c.get(), false, t, code)?;
+        }
+        ExprTree::Narrow(inner) => {
+            narrow(alloc, inner.get(), t, code)?;
+            expr(alloc, inner.get(), false, t, code)?;
+        }
+        ExprTree::Number(_)
+        | ExprTree::Local(_)
+        | ExprTree::Limited(_, _)
+        | ExprTree::Array(_, _)
+        | ExprTree::Load(_, _, _, _)
+        | ExprTree::Member(_, _, _, _, _)
+        | ExprTree::Address(_, _, _, _)
+        | ExprTree::Moved(_, _, _)
+        | ExprTree::Added(_, _, _)
+        | ExprTree::Bare(_)
+        | ExprTree::Tested(_, _, _, _, _)
+        | ExprTree::Trusted(_, _, _, _) => {
+            let value = direct(alloc, e)?;
+            front(code, CoreStmt::Set(t, value))?;
+        }
+    }
+    Ok(())
+}

@@ -1,0 +1,10 @@
+//! From the plain program of a text to core code, with all checks written out.
+#![tactic(auto)]
+
+mod code;
+mod exprs;
+mod program;
+mod rooms;
+mod statements;
+
+pub use program::insert;

@@ -1,0 +1,112 @@
+//! How many temporaries code needs.
+
+ghost use Rattle.std.specs.Prelude.{◌≡◌, ◌+◌, max, map, IfOk, if◌then◌else◌};
+ghost use Rattle.ckc_source.specs.Code.{code_of, expr_of, target_of, right_of};
+ghost use Rattle.ckc_checks.specs.Inserted.{expr_room, operand_room, operands_room, assigned_room, room};
+ghost use Rattle.ckc_checks.specs.Building.{expr_room_if};
+
+use crate::exprs::{is_direct, sum};
+use ckc_source::{Assign, ExprTree, RightTree, StmtTree, TargetTree};
+use std::alloc::AllocError;
+
+/// How many temporaries the code of an expression needs; that of a direct one has none unless the flag says so.
+fn expr_room(e: &ExprTree, always: bool) -> Result<u32, AllocError>
+    ensures { IfOk result (λ n. n ≡ expr_room_if always (expr_of e.now)) }
+{
+    if !always && is_direct(e) {
+        return Ok(0);
+    }
+    match e {
+        ExprTree::Binary(_, _, _, a, b) => {
+            let left = expr_room(a.get(), false)?;
+            let right = expr_room(b.get(), false)?;
+            let right = sum(1, right)?;
+            Ok(left.max(right))
+        }
+        ExprTree::And(a, b) | ExprTree::Or(a, b) => {
+            let left = expr_room(a.get(), false)?;
+            let right = expr_room(b.get(), false)?;
+            Ok(1u32.max(left.max(right)))
+        }
+        ExprTree::Choice(c, a, b) => {
+            let condition = expr_room(c.get(), false)?;
+            let one = expr_room(a.get(), true)?;
+            let two = expr_room(b.get(), true)?;
+            Ok(condition.max(one.max(two)))
+        }
+        ExprTree::Narrow(inner) => {
+            let value = expr_room(inner.get(), false)?;
+            Ok(1u32.max(value))
+        }
+        ExprTree::Number(_)
+        | ExprTree::Local(_)
+        | ExprTree::Limited(_, _)
+        | ExprTree::Array(_, _)
+        | ExprTree::Load(_, _, _, _)
+        | ExprTree::Member(_, _, _, _, _)
+        | ExprTree::Address(_, _, _, _)
+        | ExprTree::Moved(_, _, _)
+        | ExprTree::Added(_, _, _)
+        | ExprTree::Bare(_)
+        | ExprTree::Tested(_, _, _, _, _)
+        | ExprTree::Trusted(_, _, _, _) => Ok(1),
+    }
+}
+
+/// How many temporaries the operands of a call need.
+fn operands_room(es: &[ExprTree]) -> Result<u32, AllocError>
+    ensures { IfOk result (λ n. n ≡ operands_room (map expr_of es.now)) }
+{
+    let mut most = 0u32;
+    let mut i = es.len();
+    while i > 0 {
+        i -= 1;
+        let behind = sum(1, most)?;
+        let here = expr_room(&es[i], false)?;
+        most = here.max(behind);
+    }
+    Ok(most)
+}
+
+/// How many temporaries an assignment needs.
+fn assigned_room(a: &Assign) -> Result<u32, AllocError>
+    ensures { IfOk result (λ n. n ≡ assigned_room (target_of a.now.target) (right_of a.now.right)) }
+{
+    match &a.right {
+        RightTree::Value(e) => match &a.target {
+            TargetTree::Nothing => expr_room(e.get(), true),
+            TargetTree::Local(_, _) | TargetTree::Memory(_, _, _, _) => expr_room(e.get(), false),
+        },
+        RightTree::Fresh(_, _) => Ok(0),
+    }
+}
+
+/// How many temporaries statements need.
+pub fn room(stmts: &[StmtTree]) -> Result<u32, AllocError>
+    ensures { IfOk result (λ n. n ≡ room (code_of stmts.now)) }
+{
+    let mut most = 0u32;
+    let mut i = stmts.len();
+    while i > 0 {
+        i -= 1;
+        match &stmts[i] {
+            StmtTree::Assign(_, a) => most = assigned_room(a.get())?.max(most),
+            StmtTree::Get(_, _) => most = 1u32.max(most),
+            StmtTree::Put(_, _, e) | StmtTree::Return(_, e) | StmtTree::Check(_, e) => {
+                most = expr_room(e.get(), false)?.max(most);
+            }
+            StmtTree::Call(_, _, _, es) => {
+                let needed = operands_room(es.as_slice())?;
+                most = 1u32.max(needed).max(most);
+            }
+            StmtTree::If(_, e, one, two) | StmtTree::Loop(_, e, one, two) => {
+                let condition = expr_room(e.get(), false)?;
+                let first = room(one.as_slice())?;
+                let second = room(two.as_slice())?;
+                most = condition.max(first.max(second.max(most)));
+            }
+            StmtTree::Bundle(_, _) | StmtTree::Break | StmtTree::Continue => {}
+        }
+    }
+    Ok(most)
+}

@@ -1,0 +1,346 @@
+//! The code of statements, built from its end.
+
+ghost use Rattle.std.specs.Prelude.{◌≡◌, false, map, IfOk, OnOk};
+ghost use Rattle.ckc_core.specs.Code.{Expr, Code, code_of, expr_of};
+ghost use Rattle.ckc_source.specs.Code.{expr_of as source_of, target_of, right_of, code_of as source_code};
+ghost use Rattle.ckc_checks.specs.Inserted.{low_byte, operand, operands, operands_code, is_narrow, kept_in, written, assigned, right_assigned, result_in, result_kept, statements};
+ghost use Rattle.ckc_checks.specs.Building.{behind, expr_code_if, put_code, call_code, branch_code, loop_code, return_code, check_code};
+
+use crate::code::{expr, fork, front, in_order, nothing};
+use crate::exprs::{fixed_place, low_byte, operand, sum};
+use ckc_base::{Check, Pos, Seq, Width};
+use ckc_core::{CoreExpr, CoreStmt};
+use ckc_source::{Assign, ExprTree, Kept, RightTree, StmtTree, TargetTree};
+use std::alloc::{AllocError, Global};
+
+/// Whether a value is a byte by its form.
+fn is_narrow(e: &ExprTree) -> bool
+    ensures { result ≡ is_narrow (source_of e.now) }
+{
+    match e {
+        ExprTree::Narrow(_) => true,
+        ExprTree::Number(_)
+        | ExprTree::Local(_)
+        | ExprTree::Limited(_, _)
+        | ExprTree::Array(_, _)
+        | ExprTree::Load(_, _, _, _)
+        | ExprTree::Member(_, _, _, _, _)
+        | ExprTree::Address(_, _, _, _)
+        | ExprTree::Moved(_, _, _)
+        | ExprTree::Added(_, _, _)
+        | ExprTree::Binary(_, _, _, _, _)
+        | ExprTree::And(_, _)
+        | ExprTree::Or(_, _)
+        | ExprTree::Choice(_, _, _)
+        | ExprTree::Bare(_)
+        | ExprTree::Tested(_, _, _, _, _)
+        | ExprTree::Trusted(_, _, _, _) => false,
+    }
+}
+
+/// A value as it is kept in a local of the width, by whether it is a byte already.
+fn kept_in(alloc: Global, width: Width, is_byte: bool, e: CoreExpr) -> Result<CoreExpr, AllocError>
+    ensures { IfOk result (λ c. expr_of c ≡ kept_in width is_byte (expr_of e)) }
+{
+    match width {
+        Width::Byte => { if is_byte { Ok(e) } else { low_byte(alloc, e) } }
+        Width::Word => Ok(e),
+    }
+}
+
+/// Puts a statement in front that writes a value to a target, by whether it is a byte already.
+fn write(
+    alloc: Global,
+    target: &TargetTree,
+    is_byte: bool,
+    value: CoreExpr,
+    code: &mut Seq<CoreStmt>,
+) -> Result<(), AllocError>
+    ensures { OnOk result (behind code.new ≡ written (target_of target.now) is_byte (expr_of value) (behind code.old)) }
+{
+    match target {
+        TargetTree::Nothing => Ok(()),
+        TargetTree::Local(x, width) => {
+            let kept = kept_in(alloc, *width, is_byte, value)?;
+            front(code, CoreStmt::Set(*x, kept))?;
+            Ok(())
+        }
+        TargetTree::Memory(width, access, p, _) => {
+            let place = CoreExpr::Const(fixed_place(*access, p.get()));
+            front(code, CoreStmt::Store(*width, place, value))?;
+            Ok(())
+        }
+    }
+}
+
+/// Puts the code of an assignment of a value in front.
+fn assign_value(
+    alloc: Global,
+    target: &TargetTree,
+    e: &ExprTree,
+    t: u32,
+    code: &mut Seq<CoreStmt>,
+) -> Result<(), AllocError>
+    ensures { OnOk result (behind code.new ≡ assigned (target_of target.now) (source_of e.now) t (behind code.old)) }
+{
+    match target {
+        TargetTree::Nothing => expr(alloc, e, true, t, code),
+        TargetTree::Local(_, _) | TargetTree::Memory(_, _, _, _) => {
+            let value = operand(alloc, e, t)?;
+            write(alloc, target, is_narrow(e), value, code)?;
+            expr(alloc, e, false, t, code)?;
+            Ok(())
+        }
+    }
+}
+
+/// Puts the code of an assignment in front.
+fn assign(alloc: Global, a: &Assign, t: u32, code: &mut Seq<CoreStmt>) -> Result<(), AllocError>
+    ensures { OnOk result (behind code.new ≡ right_assigned (target_of a.now.target) (right_of a.now.right) t (behind code.old)) }
+{
+    match &a.right {
+        RightTree::Value(e) => assign_value(alloc, &a.target, e.get(), t, code),
+        RightTree::Fresh(_, _) => Ok(()),
+    }
+}
+
+/// Puts the code in front that gets a byte.
+fn get(
+    alloc: Global,
+    target: &TargetTree,
+    t: u32,
+    code: &mut Seq<CoreStmt>,
+) -> Result<(), AllocError>
+    ensures { OnOk result (behind code.new ≡ Code.Get t (written (target_of target.now) false (Expr.Local t) (behind code.old))) }
+{
+    write(alloc, target, false, CoreExpr::Local(t), code)?;
+    front(code, CoreStmt::Get(t))?;
+    Ok(())
+}
+
+/// Puts the code in front that puts a byte.
+fn put(
+    alloc: Global,
+    target: &TargetTree,
+    e: &ExprTree,
+    t: u32,
+    code: &mut Seq<CoreStmt>,
+) -> Result<(), AllocError>
+    ensures { OnOk result (behind code.new ≡ put_code (target_of target.now) (source_of e.now) t (behind code.old)) }
+{
+    let value = operand(alloc, e, t)?;
+    let byte = low_byte(alloc, value)?;
+    write(alloc, target, true, byte, code)?;
+    let value = operand(alloc, e, t)?;
+    front(code, CoreStmt::Put(value))?;
+    expr(alloc, e, false, t, code)?;
+    Ok(())
+}
+
+/// The operands of a call, each with a temporary of its own from t on.
+fn operands(alloc: Global, es: &[ExprTree], t: u32) -> Result<Seq<CoreExpr>, AllocError>
+    ensures { IfOk result (λ cs. map expr_of cs ≡ operands (map source_of es.now) t) }
+{
+    let mut done = Seq::new(alloc);
+    let mut next = t;
+    for e in es {
+        let value = operand(alloc, e, next)?;
+        done.push(value)?;
+        next = sum(next, 1)?;
+    }
+    Ok(done)
+}
+
+/// Puts what the operands of a call need in front.
+fn before_call(
+    alloc: Global,
+    es: &[ExprTree],
+    t: u32,
+    code: &mut Seq<CoreStmt>,
+) -> Result<(), AllocError>
+    ensures { OnOk result (behind code.new ≡ operands_code (map source_of es.now) t (behind code.old)) }
+{
+    let mut i = es.len();
+    let mut next = match u32::try_from(i) {
+        Ok(count) => sum(t, count)?,
+        Err(_) => return Err(AllocError),
+    };
+    while i > 0 {
+        i -= 1;
+        next -= 1;
+        expr(alloc, &es[i], false, next, code)?;
+    }
+    Ok(())
+}
+
+/// Where a call puts its result.
+fn result_in(target: Option<Kept>, t: u32) -> Option<u32>
+    ensures { result ≡ result_in target t }
+{
+    match target {
+        None => None,
+        Some(Kept::Local(x, _)) => Some(x),
+        Some(Kept::Static(_, _)) => Some(t),
+    }
+}
+
+/// Puts a statement in front that keeps the result of a call.
+fn keep(
+    alloc: Global,
+    target: Option<Kept>,
+    t: u32,
+    code: &mut Seq<CoreStmt>,
+) -> Result<(), AllocError>
+    ensures { OnOk result (behind code.new ≡ result_kept target t (behind code.old)) }
+{
+    match target {
+        None => Ok(()),
+        Some(Kept::Local(x, Width::Byte)) => {
+            let value = low_byte(alloc, CoreExpr::Local(x))?;
+            front(code, CoreStmt::Set(x, value))?;
+            Ok(())
+        }
+        Some(Kept::Local(_, Width::Word)) => Ok(()),
+        Some(Kept::Static(a, width)) => {
+            front(
+                code,
+                CoreStmt::Store(width, CoreExpr::Const(a), CoreExpr::Local(t)),
+            )?;
+            Ok(())
+        }
+    }
+}
+
+/// Puts the code of a call in front.
+fn call(
+    alloc: Global,
+    target: Option<Kept>,
+    callee: u32,
+    es: &[ExprTree],
+    at: Pos,
+    t: u32,
+    code: &mut Seq<CoreStmt>,
+) -> Result<(), AllocError>
+    ensures { OnOk result (behind code.new ≡ call_code target callee (map source_of es.now) at t (behind code.old)) }
+{
+    keep(alloc, target, t, code)?;
+    let arguments = operands(alloc, es, t)?;
+    front(
+        code,
+        CoreStmt::Call(result_in(target, t), callee, arguments, at),
+    )?;
+    before_call(alloc, es, t, code)?;
+    Ok(())
+}
+
+/// Puts a branch in front, with the code of its condition.
+fn branch(
+    alloc: Global,
+    e: &ExprTree,
+    t: u32,
+    one: Seq<CoreStmt>,
+    two: Seq<CoreStmt>,
+    code: &mut Seq<CoreStmt>,
+) -> Result<(), AllocError>
+    ensures { OnOk result (behind code.new ≡ branch_code (source_of e.now) t (behind one) (behind two) (behind code.old)) }
+{
+    fork(alloc, e, t, one, two, code)?;
+    expr(alloc, e, false, t, code)?;
+    Ok(())
+}
+
+/// A list that leaves a loop.
+fn break_alone(alloc: Global) -> Result<Seq<CoreStmt>, AllocError>
+    ensures { IfOk result (λ code. behind code ≡ Code.Break Code.End) }
+{
+    let mut code = nothing(alloc);
+    front(&mut code, CoreStmt::Break)?;
+    Ok(code)
+}
+
+/// Puts a loop in front, which is left where its condition is zero.
+fn turn(
+    alloc: Global,
+    e: &ExprTree,
+    t: u32,
+    mut body: Seq<CoreStmt>,
+    step: Seq<CoreStmt>,
+    code: &mut Seq<CoreStmt>,
+) -> Result<(), AllocError>
+    ensures { OnOk result (behind code.new ≡ loop_code (source_of e.now) t (behind body) (behind step) (behind code.old)) }
+{
+    let out = break_alone(alloc)?;
+    branch(alloc, e, t, nothing(alloc), out, &mut body)?;
+    front(code, CoreStmt::Loop(in_order(body), in_order(step)))?;
+    Ok(())
+}
+
+/// Puts a return in front.
+fn leave(alloc: Global, e: &ExprTree, t: u32, code: &mut Seq<CoreStmt>) -> Result<(), AllocError>
+    ensures { OnOk result (behind code.new ≡ return_code (source_of e.now) t (behind code.old)) }
+{
+    let value = operand(alloc, e, t)?;
+    front(code, CoreStmt::Return(value))?;
+    expr(alloc, e, false, t, code)?;
+    Ok(())
+}
+
+/// Puts a dynamic check in front.
+fn check(
+    alloc: Global,
+    at: Pos,
+    e: &ExprTree,
+    t: u32,
+    code: &mut Seq<CoreStmt>,
+) -> Result<(), AllocError>
+    ensures { OnOk result (behind code.new ≡ check_code at (source_of e.now) t (behind code.old)) }
+{
+    let value = operand(alloc, e, t)?;
+    front(code, CoreStmt::Check(Check::Dynamic, at, value))?;
+    expr(alloc, e, false, t, code)?;
+    Ok(())
+}
+
+/// Builds the code of statements, where t is the first temporary.
+pub fn statements(
+    alloc: Global,
+    stmts: &[StmtTree],
+    t: u32,
+    code: &mut Seq<CoreStmt>,
+) -> Result<(), AllocError>
+    requires { behind code.old ≡ Code.End }
+    ensures { OnOk result (behind code.new ≡ statements t (source_code stmts.now)) }
+{
+    let mut i = stmts.len();
+    while i > 0 {
+        i -= 1;
+        match &stmts[i] {
+            StmtTree::Assign(_, a) => assign(alloc, a.get(), t, code)?,
+            StmtTree::Bundle(_, _) => {}
+            StmtTree::Get(_, target) => get(alloc, target.get(), t, code)?,
+            StmtTree::Put(_, target, e) => put(alloc, target.get(), e.get(), t, code)?,
+            StmtTree::Call(spot, target, callee, es) => {
+                call(alloc, *target, *callee, es.as_slice(), spot.at, t, code)?;
+            }
+            StmtTree::If(_, e, one, two) => {
+                let mut first = nothing(alloc);
+                statements(alloc, one.as_slice(), t, &mut first)?;
+                let mut second = nothing(alloc);
+                statements(alloc, two.as_slice(), t, &mut second)?;
+                branch(alloc, e.get(), t, first, second, code)?;
+            }
+            StmtTree::Loop(_, e, body, step) => {
+                let mut first = nothing(alloc);
+                statements(alloc, body.as_slice(), t, &mut first)?;
+                let mut second = nothing(alloc);
+                statements(alloc, step.as_slice(), t, &mut second)?;
+                turn(alloc, e.get(), t, first, second, code)?;
+            }
+            StmtTree::Break => front(code, CoreStmt::Break)?,
+            StmtTree::Continue => front(code, CoreStmt::Continue)?,
+            StmtTree::Return(_, e) => leave(alloc, e.get(), t, code)?,
+            StmtTree::Check(spot, e) => check(alloc, spot.at, e.get(), t, code)?,
+        }
+    }
+    Ok(())
+}

@@ -1,0 +1,12 @@
+pub mod Running
+pub mod Bytes
+pub mod Values
+pub mod Exprs
+pub mod Relation
+pub mod Settling
+pub mod Writing
+pub mod Entering
+pub mod Acting
+pub mod Stepping
+pub mod Starting
+pub mod Follows

@@ -1,0 +1,262 @@
+-- What a statement of the source writes, its core code writes.
+use Rattle.std.proofs.Common.{◌≡◌, ◌⊎◌, inl, inr, ℕ, zero, suc, ◌+◌, ◌≤◌, ◌<◌, ◌==◌, List, [], ◌∷◌, append-nil, length, length-set, refl, sym, ◌∙◌, ap, subst, arith}
+use Rattle.std.specs.Prelude.{Bool, true, false, if◌then◌else◌, slice_index, slice_set, Option, Some, None, Result, Ok, Err}
+use Rattle.std.proofs.lemmas.List.{get_or-set_same, get_or-set_other}
+use Rattle.ckc_base.specs.declared.arithmetic.Width.{Width}
+use Rattle.ckc_base.specs.declared.arithmetic.Width.TheVariants.{Byte, Word}
+use Rattle.ckc_base.specs.Traces.{Event}
+use Rattle.ckc_base.specs.LongEvents.{Stored}
+use Rattle.ckc_base.specs.Steps.{Move, Goes, Halts}
+use Rattle.ckc_base.specs.Matching.{Stretch}
+use Rattle.ckc_base.specs.Memory.{data_start, data_end, kept_part, memory_with, with_bytes, width_bytes}
+use Rattle.ckc_base.specs.Actions.{World, with_value, stores, stores_in}
+use Rattle.ckc_base.specs.Activations.{Values, with_written}
+use Rattle.ckc_base.proofs.Runs.{Matched, no_step, then_stretch, then_closes}
+use Rattle.ckc_base.proofs.Travelling.{below_or_from}
+use Rattle.ckc_source.specs.declared.outcome.Halt.{Halt}
+use Rattle.ckc_source.specs.declared.outcome.Halt.TheVariants.{Stopped, Stuck}
+use Rattle.ckc_source.specs.declared.outcome.Place.{Place}
+use Rattle.ckc_source.specs.declared.outcome.Place.TheVariants as place
+use Rattle.ckc_source.specs.Code as source
+use Rattle.ckc_source.specs.Blocks.{Block, stored, first_place}
+use Rattle.ckc_source.specs.States.{Work, Rest}
+use Rattle.ckc_source.specs.States as S
+use Rattle.ckc_source.specs.Steps.{at_work, writes, with_blocks, and_moves, comes_to}
+use Rattle.ckc_core.specs.Code.{Expr, Const, Code, Store, Function}
+use Rattle.ckc_core.specs.Meaning.{value_of, nodes, core_step, goes_by}
+use Rattle.ckc_core.specs.Meaning as C
+use Rattle.ckc_checks.specs.IntegerForm.{IsIntegerTarget}
+use Rattle.ckc_checks.specs.Inserted.{fixed_place, kept_in, written, statements}
+use Rattle.ckc_inserted.proofs.Running.{machine, Runs, at, by_set, step_by}
+use Rattle.ckc_inserted.proofs.Bytes.{stored_there}
+use Rattle.ckc_inserted.proofs.Values.{Agree, low_value}
+use Rattle.ckc_inserted.proofs.Exprs.{written_same}
+use Rattle.ckc_inserted.proofs.Relation.{Stands, Behind, SameCallers, SameWorld, SameState, Related}
+
+-- ---- locals
+
+pub written_other : (values : Values) (r v q : ℕ) → (q < r) ⊎ (r < q) → with_written values r v q ≡ values q
+unfolding with_written
+written_other values r v q (inl h) =
+    let t : (q == r) ≡ false = grind arith in
+    ap (λ b. if b then Some v else values q) t
+written_other values r v q (inr h) =
+    let t : (q == r) ≡ false = grind arith in
+    ap (λ b. if b then Some v else values q) t
+
+-- a local that is written in both
+pub agree_set : (n : ℕ) (locals : List ℕ) (l after : Values) (x v : ℕ) → length locals ≡ n → x < n → Agree n locals l → after x ≡ Some v
+    → ((y : ℕ) → (y < x) ⊎ (x < y) → y < n → after y ≡ l y) → Agree n (slice_set locals x v) after
+agree_set n locals l after x v count less agree there other y h =
+    elim (below_or_from y x) [
+      | inl below ↦
+          other y (inl below) h ∙ agree y h ∙ ap Some (sym (get_or-set_other locals x y v 0 (λ e. omega arith)))
+      | inr p ↦ same p.0 p.1
+    ]
+  where
+    same : (k : ℕ) → y ≡ x + k → after y ≡ Some (slice_index (slice_set locals x v) y)
+    same zero e =
+        let e' : y ≡ x = omega arith in
+        ap after e' ∙ there ∙ ap Some (sym (ap (slice_index (slice_set locals x v)) e' ∙ get_or-set_same locals x v 0 (omega arith)))
+    same (suc k) e =
+        other y (inr (omega arith)) h ∙ agree y h ∙ ap Some (sym (get_or-set_other locals x y v 0 (λ q. omega arith)))
+
+-- where a target is
+abbrev pub place_of : source.Target → Place
+place_of source.Nothing = place.Nowhere
+place_of (source.Variable x width) = place.Local x width
+place_of (source.Memory width access p i) = place.Memory (fixed_place access p) width None
+
+-- only a target writes
+abbrev pub least_of : source.Target → ℕ
+least_of source.Nothing = 0
+least_of target = 1
+
+module _ (functions : List source.Function) (core : List Function) (limit : ℕ) (in_region : limit ≤ data_end) where
+  -- The parts of a state, with this work behind the statements in front, and of the core state that is the same.
+  pub record Ready (s : S.State) (work : List Work) (looped : Bool) (ds : List C.Caller) (world : World) (rest : C.Rest) (l : Values) : Type 0 where
+    pub behind : Behind functions s.frame.function.locals looped work rest
+    pub callers : SameCallers functions s.callers ds
+    pub outside : SameWorld functions limit s world
+    pub count : length s.frame.locals ≡ s.frame.function.locals
+    pub agree : Agree s.frame.function.locals s.frame.locals l
+    pub result : s.frame.function.result ≡ None
+
+  abbrev pub Same : S.State → C.State → Type 0
+  Same s u = SameState functions limit s u
+
+  pub same_state : (s : S.State) (work : List Work) (looped : Bool) (ds : List C.Caller) (world : World) (rest : C.Rest) (l : Values) (code : source.Code)
+      → Ready s work looped ds world rest l → Stands functions s.frame.function.locals looped (length work) code
+      → Same (at_work s (Rest code ∷ work)) (at ds world (statements s.frame.function.locals code) rest l)
+  same_state s work looped ds world rest l code r st = record {
+    frame = record {
+      code = code;
+      work = work;
+      looped = looped;
+      next = refl;
+      stands = st;
+      begins = refl;
+      behind = r.behind;
+      count = r.count;
+      agree = r.agree;
+      result = r.result;
+    };
+    callers = r.callers;
+    world = record { bytes = r.outside.bytes; apart = r.outside.apart; input = r.outside.input };
+  }
+
+  pub related : (s : S.State) (u : C.State) → Same s u → Related functions core limit s u
+  related s u h = record { count = 0; to = u; few = omega arith; path = no_step (machine core) u; same = h }
+
+  abbrev pub Matches : S.State → C.State → ℕ → Move Event S.State → Type 0
+  Matches s u most move = Matched (machine core) (Related functions core limit) (λ _. 0) s u most move
+
+  -- Core code comes, in so many steps and with nothing seen, to what the source has written.
+  abbrev pub Written : (least most : ℕ) → C.State → Result S.State Halt → Type 0
+  Written least most u (Ok s) =
+      (count : ℕ) × (w : C.State) × (least ≤ count) × (count ≤ most) × Stretch (machine core) count [] u w × Same s w
+  Written least most u (Err Stuck) = Unit {0}
+  Written least most u (Err (Stopped why at)) = ⊥
+
+  -- ---- composition
+
+  pub first_matched : (c n k : ℕ) (s : S.State) (u w : C.State) (move : Move Event S.State) → c + n ≤ k → Stretch (machine core) c [] u w
+      → Matches s w n move → Matches s u k move
+  first_matched c n k s u w (Goes events next) few path m = (
+    c + m.0,
+    m.1,
+    omega (arith, m.2),
+    elim m.3 [ inl h ↦ inl (omega arith) | inr h ↦ inr h ],
+    then_stretch (machine core) c m.0 [] events u w m.1 path m.4,
+    m.5,
+  )
+  first_matched c n k s u w (Halts events standing) few path (inl stuck) = inl stuck
+  first_matched c n k s u w (Halts events standing) few path (inr m) =
+      inr (c + m.0, omega (arith, m.1), m.2, then_closes (machine core) c m.0 [] events u w standing path m.3)
+
+  pub then_matched : {A : Type 0} (m n k : ℕ) (s : S.State) (u : C.State) (x : Result A Halt) (f : A → Move Event S.State) (Q : A → C.State → Type 0)
+      → m + n ≤ k → Runs core 0 m u x Q → ((v : A) (w : C.State) → Q v w → Matches s w n (f v)) → Matches s u k (and_moves x f)
+  then_matched m n k s u (Ok v) f Q few r next =
+      first_matched r.0 n k s u r.1 (f v) (omega (arith, r.3)) r.4 (next v r.1 r.5)
+  then_matched m n k s u (Err (Stopped why place)) f Q few r next = inr (r.0, omega (arith, r.1), tt, r.2)
+  then_matched m n k s u (Err Stuck) f Q few r next = inl refl
+
+  -- what is written behind a stretch with these events
+  pub then_written : (c least n k : ℕ) (s : S.State) (events : List Event) (u w : C.State) (r : Result S.State Halt) → c + n ≤ k → 1 ≤ c + least
+      → Stretch (machine core) c events u w → Written least n w r → Matches s u k (comes_to events r)
+  then_written c least n k s events u w (Ok t) few some path h = (
+    c + h.0,
+    h.1,
+    omega (arith, h.3),
+    inl (omega (arith, h.2)),
+    subst (λ es. Stretch (machine core) (c + h.0) es u h.1) (append-nil events) (then_stretch (machine core) c h.0 events [] u w h.1 path h.4),
+    related t h.1 h.5,
+  )
+  then_written c least n k s events u w (Err Stuck) few some path h = inl refl
+  then_written c least n k s events u w (Err (Stopped why at)) few some path h = absurd h
+
+  -- what is written behind an evaluation
+  pub then_comes_to : {A : Type 0} (first least m n k : ℕ) (s : S.State) (u : C.State) (x : Result A Halt) (g : A → Result S.State Halt) (Q : A → C.State → Type 0)
+      → m + n ≤ k → 1 ≤ first + least → Runs core first m u x Q → ((v : A) (w : C.State) → x ≡ Ok v → Q v w → Written least n w (g v))
+      → Matches s u k (and_moves x (λ v. comes_to [] (g v)))
+  then_comes_to first least m n k s u (Ok v) g Q few some r next =
+      then_written r.0 least n k s [] u r.1 (g v) (omega (arith, r.3)) (omega (arith, r.2)) r.4 (next v r.1 refl r.5)
+  then_comes_to first least m n k s u (Err (Stopped why place)) g Q few some r next = inr (r.0, omega (arith, r.1), tt, r.2)
+  then_comes_to first least m n k s u (Err Stuck) g Q few some r next = inl refl
+
+  -- ---- writes
+
+  store_step : (ds : List C.Caller) (world : World) (width : Width) (a n : ℕ) (e : Expr) (next : Code) (rest : C.Rest) (l : Values) (memory : Rattle.ckc_base.specs.Memory.Memory)
+      → value_of l world.memory e ≡ Some n → memory_with width world.memory a n ≡ Some memory
+      → Stretch (machine core) (1 + nodes e + 1) [] (at ds world (Store width (Const a) e next) rest l) (at ds (record world { memory = memory }) next rest l)
+  unfolding core_step
+  store_step ds world width a n e next rest l memory h k =
+      let u = at ds world (Store width (Const a) e next) rest l in
+      let w = at ds (record world { memory = memory }) next rest l in
+      step_by core (Stored a width (kept_part width n) ∷ []) u w
+      (ap (λ o. goes_by u next (with_value o (stores world width a))) h
+      ∙ ap (λ m. goes_by u next (stores_in world (Stored a width (kept_part width n)) m)) k)
+
+  -- a store in both
+  pub stores_same : (s : S.State) (work : List Work) (looped : Bool) (ds : List C.Caller) (world : World) (rest : C.Rest) (l : Values) (code : source.Code)
+      (width : Width) (a n : ℕ) (e : Expr) → Ready s work looped ds world rest l → Stands functions s.frame.function.locals looped (length work) code
+      → value_of l world.memory e ≡ Some n → (o : Option (List Block)) → stored width a n s.blocks ≡ o
+      → Written 1 (nodes e + 2) (at ds world (Store width (Const a) e (statements s.frame.function.locals code)) rest l)
+      (with_blocks (at_work s (Rest code ∷ work)) o)
+  stores_same s work looped ds world rest l code width a n e r st h None k = tt
+  stores_same s work looped ds world rest l code width a n e r st h (Some bs) k =
+      let memory = with_bytes world.memory (width_bytes width) a n in
+      let p = stored_there width a n first_place limit s.blocks bs world.memory r.outside.apart (omega arith) in_region r.outside.bytes k in
+      let t = s.frame.function.locals in
+      let good : Ready (record s { blocks = bs }) work looped ds (record world { memory = memory }) rest l = record {
+        behind = r.behind;
+        callers = r.callers;
+        outside = record { bytes = p.1; apart = p.2; input = r.outside.input };
+        count = r.count;
+        agree = r.agree;
+        result = r.result;
+      } in (
+        1 + nodes e + 1,
+        at ds (record world { memory = memory }) (statements t code) rest l,
+        omega arith,
+        omega arith,
+        store_step ds world width a n e (statements t code) rest l memory h p.0,
+        same_state (record s { blocks = bs }) work looped ds (record world { memory = memory }) rest l code good st,
+      )
+
+  -- a value as it is kept in a local
+  kept_value : (l : Values) (memory : Rattle.ckc_base.specs.Memory.Memory) (width : Width) (is_byte : Bool) (e : Expr) (n : ℕ) → value_of l memory e ≡ Some n → (is_byte ≡ true → n < 256)
+      → value_of l memory (kept_in width is_byte e) ≡ Some (kept_part width n)
+  kept_value l memory Byte true e n h b = let less : n < 256 = b refl in h ∙ ap Some (omega arith)
+  kept_value l memory Byte false e n h b = low_value l memory e n h
+  kept_value l memory Word is_byte e n h b = h
+
+  kept_nodes : (width : Width) (is_byte : Bool) (e : Expr) → nodes (kept_in width is_byte e) ≤ nodes e + 2
+  kept_nodes Byte true e = omega arith
+  kept_nodes Byte false e = omega arith
+  kept_nodes Word is_byte e = omega arith
+
+  pub set_local : (s : S.State) (work : List Work) (looped : Bool) (ds : List C.Caller) (world : World) (rest : C.Rest) (l after : Values) (x v : ℕ)
+      → Ready s work looped ds world rest l → x < s.frame.function.locals → after x ≡ Some v
+      → ((y : ℕ) → (y < x) ⊎ (x < y) → y < s.frame.function.locals → after y ≡ l y)
+      → Ready (record s { frame = record s.frame { locals = slice_set s.frame.locals x v } }) work looped ds world rest after
+  set_local s work looped ds world rest l after x v r less there other = record {
+    behind = r.behind;
+    callers = r.callers;
+    outside = record { bytes = r.outside.bytes; apart = r.outside.apart; input = r.outside.input };
+    count = length-set s.frame.locals x v ∙ r.count;
+    agree = agree_set s.frame.function.locals s.frame.locals l after x v r.count less r.agree there other;
+    result = r.result;
+  }
+
+  -- a value is written to a target in both
+  pub writes_same : (s : S.State) (work : List Work) (looped : Bool) (ds : List C.Caller) (world : World) (rest : C.Rest) (l : Values) (code : source.Code)
+      (target : source.Target) (is_byte : Bool) (e : Expr) (n : ℕ) → Ready s work looped ds world rest l → Stands functions s.frame.function.locals looped (length work) code
+      → IsIntegerTarget s.frame.function.locals target → value_of l world.memory e ≡ Some n → (is_byte ≡ true → n < 256)
+      → Written (least_of target) (nodes e + 4) (at ds world (written target is_byte e (statements s.frame.function.locals code)) rest l)
+      (writes (place_of target) n (at_work s (Rest code ∷ work)))
+  writes_same s work looped ds world rest l code source.Nothing is_byte e n r st h v b =
+      let u = at ds world (statements s.frame.function.locals code) rest l in
+      (0, u, omega arith, omega arith, no_step (machine core) u, same_state s work looped ds world rest l code r st)
+  writes_same s work looped ds world rest l code (source.Variable x width) is_byte e n r st h v b =
+      let t = s.frame.function.locals in
+      let k = kept_in width is_byte e in
+      let after = with_written l x (kept_part width n) in
+      let s2 : S.State = record s { frame = record s.frame { locals = slice_set s.frame.locals x (kept_part width n) } } in
+      let good = set_local s work looped ds world rest l after x (kept_part width n) r h (written_same l x (kept_part width n))
+      (λ y other less. written_other l x (kept_part width n) y other) in (
+        nodes k + 1,
+        at ds world (statements t code) rest after,
+        omega arith,
+        omega (arith, kept_nodes width is_byte e),
+        by_set core ds world x k (statements t code) rest l (kept_part width n) (kept_value l world.memory width is_byte e n v b),
+        same_state s2 work looped ds world rest after code good st,
+      )
+  writes_same s work looped ds world rest l code (source.Memory width access p i) is_byte e n r st h v b =
+      let a = fixed_place access p in
+      more (stored width a n s.blocks) (stores_same s work looped ds world rest l code width a n e r st v (stored width a n s.blocks) refl)
+    where
+      more : (o : Option (List Block)) → Written 1 (nodes e + 2) (at ds world (Store width (Const (fixed_place access p)) e (statements s.frame.function.locals code)) rest l) (with_blocks (at_work s (Rest code ∷ work)) o)
+          → Written 1 (nodes e + 4) (at ds world (Store width (Const (fixed_place access p)) e (statements s.frame.function.locals code)) rest l) (with_blocks (at_work s (Rest code ∷ work)) o)
+      more None w = tt
+      more (Some bs) w = (w.0, w.1, w.2, omega (arith, w.3), w.4, w.5)
