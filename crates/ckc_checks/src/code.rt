@@ -50,7 +50,8 @@ fn set_alone(alloc: Global, t: u32, value: CoreExpr) -> Result<Seq<CoreStmt>, Al
 
 /// A list that sets a local to 1 where the value of an operand is not zero, and else to 0.
 fn truth_alone(alloc: Global, e: &ExprTree, t: u32) -> Result<Seq<CoreStmt>, AllocError>
-    ensures { IfOk result (λ code. behind code ≡ Code.Set t (as_truth (operand (source_of e.now) t)) Code.End) }
+    ensures { IfOk result (λ code. behind code ≡
+        Code.Set t (as_truth (operand (source_of e.now) t)) Code.End) }
 {
     let value = operand(alloc, e, t)?;
     let value = as_truth(alloc, value)?;
@@ -66,7 +67,8 @@ pub fn fork(
     two: Seq<CoreStmt>,
     code: &mut Seq<CoreStmt>,
 ) -> Result<(), AllocError>
-    ensures { OnOk result (behind code.new ≡ Code.If (operand (source_of e.now) t) (behind one) (behind two) (behind code.old)) }
+    ensures { OnOk result (behind code.new ≡
+        Code.If (operand (source_of e.now) t) (behind one) (behind two) (behind code.old)) }
 {
     let condition = operand(alloc, e, t)?;
     front(code, CoreStmt::If(condition, in_order(one), in_order(two)))?;
@@ -82,7 +84,8 @@ fn check_divisor(
     t: u32,
     code: &mut Seq<CoreStmt>,
 ) -> Result<(), AllocError>
-    ensures { OnOk result (behind code.new ≡ divide_check operation at (operand (source_of b.now) t) (behind code.old)) }
+    ensures { OnOk result (behind code.new ≡
+        divide_check operation at (operand (source_of b.now) t) (behind code.old)) }
 {
     if divides(operation) {
         let divisor = operand(alloc, b, t)?;
@@ -101,7 +104,9 @@ fn operation_of(
     t: u32,
     next: u32,
 ) -> Result<CoreExpr, AllocError>
-    ensures { IfOk result (λ c. expr_of c ≡ operated operation is_signed (operand (source_of a.now) t) (operand (source_of b.now) next)) }
+    ensures { IfOk result (λ c. expr_of c ≡
+        operated operation is_signed (operand (source_of a.now) t)
+        (operand (source_of b.now) next)) }
 {
     let left = operand(alloc, a, t)?;
     let right = operand(alloc, b, next)?;
@@ -131,7 +136,8 @@ fn operate(
 
 /// Puts a statement in front that sets a local to the low byte of an operand.
 fn narrow(alloc: Global, e: &ExprTree, t: u32, code: &mut Seq<CoreStmt>) -> Result<(), AllocError>
-    ensures { OnOk result (behind code.new ≡ Code.Set t (low_byte (operand (source_of e.now) t)) (behind code.old)) }
+    ensures { OnOk result (behind code.new ≡
+        Code.Set t (low_byte (operand (source_of e.now) t)) (behind code.old)) }
 {
     let value = operand(alloc, e, t)?;
     let value = low_byte(alloc, value)?;
@@ -148,7 +154,8 @@ pub fn expr(
     t: u32,
     code: &mut Seq<CoreStmt>,
 ) -> Result<(), AllocError>
-    ensures { OnOk result (behind code.new ≡ expr_code_if always (source_of e.now) t (behind code.old)) }
+    ensures { OnOk result (behind code.new ≡
+        expr_code_if always (source_of e.now) t (behind code.old)) }
 {
     if !always && is_direct(e) {
         return Ok(());

@@ -52,7 +52,8 @@ fn function(alloc: Global, f: &FunctionTree) -> Result<CoreFunc, AllocError>
 }
 
 fn functions(alloc: Global, funcs: &[FunctionTree]) -> Result<Seq<CoreFunc>, AllocError>
-    ensures { IfOk result (λ cs. map core_function cs ≡ map function_code (map source_function funcs.now)) }
+    ensures { IfOk result (λ cs. map core_function cs ≡
+        map function_code (map source_function funcs.now)) }
 {
     let mut done = Seq::new(alloc);
     for f in funcs {
@@ -170,7 +171,8 @@ pub fn insert(alloc: Global, p: &Program) -> Result<Core, AllocError>
     ensures limits { IfOk result (λ c. IsWithinLimits (core_program c)) }
 
     // at most 80 instructions for each node
-    ensures size { IfOk result (λ c. program_size (core_program c) ≤ 80 * program_nodes (source_program p.now)) }
+    ensures size { IfOk result (λ c. program_size (core_program c) ≤
+        80 * program_nodes (source_program p.now)) }
     ensures initial { IfOk result (λ c. length c.initial ≤ 4194304) }
 {
     let c = program(alloc, p)?;

@@ -56,7 +56,8 @@ fn write(
     value: CoreExpr,
     code: &mut Seq<CoreStmt>,
 ) -> Result<(), AllocError>
-    ensures { OnOk result (behind code.new ≡ written (target_of target.now) is_byte (expr_of value) (behind code.old)) }
+    ensures { OnOk result (behind code.new ≡
+        written (target_of target.now) is_byte (expr_of value) (behind code.old)) }
 {
     match target {
         TargetTree::Nothing => Ok(()),
@@ -81,7 +82,8 @@ fn assign_value(
     t: u32,
     code: &mut Seq<CoreStmt>,
 ) -> Result<(), AllocError>
-    ensures { OnOk result (behind code.new ≡ assigned (target_of target.now) (source_of e.now) t (behind code.old)) }
+    ensures { OnOk result (behind code.new ≡
+        assigned (target_of target.now) (source_of e.now) t (behind code.old)) }
 {
     match target {
         TargetTree::Nothing => expr(alloc, e, true, t, code),
@@ -96,7 +98,8 @@ fn assign_value(
 
 /// Puts the code of an assignment in front.
 fn assign(alloc: Global, a: &Assign, t: u32, code: &mut Seq<CoreStmt>) -> Result<(), AllocError>
-    ensures { OnOk result (behind code.new ≡ right_assigned (target_of a.now.target) (right_of a.now.right) t (behind code.old)) }
+    ensures { OnOk result (behind code.new ≡
+        right_assigned (target_of a.now.target) (right_of a.now.right) t (behind code.old)) }
 {
     match &a.right {
         RightTree::Value(e) => assign_value(alloc, &a.target, e.get(), t, code),
@@ -111,7 +114,8 @@ fn get(
     t: u32,
     code: &mut Seq<CoreStmt>,
 ) -> Result<(), AllocError>
-    ensures { OnOk result (behind code.new ≡ Code.Get t (written (target_of target.now) false (Expr.Local t) (behind code.old))) }
+    ensures { OnOk result (behind code.new ≡
+        Code.Get t (written (target_of target.now) false (Expr.Local t) (behind code.old))) }
 {
     write(alloc, target, false, CoreExpr::Local(t), code)?;
     front(code, CoreStmt::Get(t))?;
@@ -126,7 +130,8 @@ fn put(
     t: u32,
     code: &mut Seq<CoreStmt>,
 ) -> Result<(), AllocError>
-    ensures { OnOk result (behind code.new ≡ put_code (target_of target.now) (source_of e.now) t (behind code.old)) }
+    ensures { OnOk result (behind code.new ≡
+        put_code (target_of target.now) (source_of e.now) t (behind code.old)) }
 {
     let value = operand(alloc, e, t)?;
     let byte = low_byte(alloc, value)?;
@@ -158,7 +163,8 @@ fn before_call(
     t: u32,
     code: &mut Seq<CoreStmt>,
 ) -> Result<(), AllocError>
-    ensures { OnOk result (behind code.new ≡ operands_code (map source_of es.now) t (behind code.old)) }
+    ensures { OnOk result (behind code.new ≡
+        operands_code (map source_of es.now) t (behind code.old)) }
 {
     let mut i = es.len();
     let mut next = match u32::try_from(i) {
@@ -221,7 +227,8 @@ fn call(
     t: u32,
     code: &mut Seq<CoreStmt>,
 ) -> Result<(), AllocError>
-    ensures { OnOk result (behind code.new ≡ call_code target callee (map source_of es.now) at t (behind code.old)) }
+    ensures { OnOk result (behind code.new ≡
+        call_code target callee (map source_of es.now) at t (behind code.old)) }
 {
     keep(alloc, target, t, code)?;
     let arguments = operands(alloc, es, t)?;
@@ -242,7 +249,8 @@ fn branch(
     two: Seq<CoreStmt>,
     code: &mut Seq<CoreStmt>,
 ) -> Result<(), AllocError>
-    ensures { OnOk result (behind code.new ≡ branch_code (source_of e.now) t (behind one) (behind two) (behind code.old)) }
+    ensures { OnOk result (behind code.new ≡
+        branch_code (source_of e.now) t (behind one) (behind two) (behind code.old)) }
 {
     fork(alloc, e, t, one, two, code)?;
     expr(alloc, e, false, t, code)?;
@@ -267,7 +275,8 @@ fn turn(
     step: Seq<CoreStmt>,
     code: &mut Seq<CoreStmt>,
 ) -> Result<(), AllocError>
-    ensures { OnOk result (behind code.new ≡ loop_code (source_of e.now) t (behind body) (behind step) (behind code.old)) }
+    ensures { OnOk result (behind code.new ≡
+        loop_code (source_of e.now) t (behind body) (behind step) (behind code.old)) }
 {
     let out = break_alone(alloc)?;
     branch(alloc, e, t, nothing(alloc), out, &mut body)?;
