@@ -21,15 +21,15 @@ abbrev pub SameBytes : List Block → Memory → Type 0
 SameBytes [] memory = Unit {0}
 SameBytes (b ∷ bs) memory = Spells memory b.base b.bytes × SameBytes bs memory
 
-both_true : (p q : Bool) → (p && q) ≡ true → (p ≡ true) × (q ≡ true)
-both_true true true h = (refl, refl)
-both_true true false h = absurd cc
-both_true false q h = absurd cc
+pub and_true : (p q : Bool) → (p && q) ≡ true → (p ≡ true) × (q ≡ true)
+and_true true true h = (refl, refl)
+and_true true false h = absurd cc
+and_true false q h = absurd cc
 
 -- where an access lies in a block
 pub inside : (width : Width) (a : ℕ) (b : Block) → has width a b ≡ true → (b.base ≤ a) × (a + width_bytes width ≤ end_of b)
 inside width a b h =
-    let p = both_true (nat_le b.base a) (nat_le (a + width_bytes width) (end_of b)) h in
+    let p = and_true (nat_le b.base a) (nat_le (a + width_bytes width) (end_of b)) h in
     (leb-true b.base a p.0, leb-true (a + width_bytes width) (end_of b) p.1)
 
 -- ---- loads

@@ -24,6 +24,7 @@ use Rattle.ckc_source.specs.declared.program.Shape.{Shape}
 use Rattle.ckc_source.specs.declared.stmt.Kept.{Kept}
 use Rattle.ckc_source.specs.declared.stmt.Kept.TheVariants as kept
 use Rattle.ckc_source.specs.declared.outcome.Halt.{Halt}
+use Rattle.ckc_source.specs.declared.outcome.Halt.TheVariants.{Stopped, Stuck}
 use Rattle.ckc_source.specs.Code as source
 use Rattle.ckc_source.specs.Blocks.{stored}
 use Rattle.ckc_source.specs.States.{Work, Rest, entered}
@@ -192,8 +193,8 @@ module _ (functions : List source.Function) (limit : ℕ) (in_region : limit ≤
 
   wider : (least most k : ℕ) (u : C.State) (r : Result S.State Halt) → most ≤ k → Written functions core limit in_region least most u r → Written functions core limit in_region 0 k u r
   wider least most k u (Ok s) few w = (w.0, w.1, omega arith, omega (arith, w.3), w.4, w.5)
-  wider least most k u (Err Rattle.ckc_source.specs.declared.outcome.Halt.TheVariants.Stuck) few w = tt
-  wider least most k u (Err (Rattle.ckc_source.specs.declared.outcome.Halt.TheVariants.Stopped why at)) few w = w
+  wider least most k u (Err Stuck) few w = tt
+  wider least most k u (Err (Stopped why at)) few w = w
 
   -- what is done with the result of a call, once it is returned
   kept_same : (s : S.State) (work : List Work) (looped : Bool) (ds : List C.Caller) (world : World) (rest : C.Rest) (l : Values) (code : source.Code) (shapes : List Shape) (entry : List ℕ) (n : ℕ)

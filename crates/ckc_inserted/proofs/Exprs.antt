@@ -13,6 +13,7 @@ use Rattle.ckc_base.specs.Activations.{Values, with_written}
 use Rattle.ckc_base.proofs.Runs.{no_step, then_stretch}
 use Rattle.ckc_source.specs.declared.expr.Operation.{Operation}
 use Rattle.ckc_source.specs.declared.expr.Operation.TheVariants.{Le, Gt, Ge}
+use Rattle.ckc_source.specs.declared.outcome.Range.TheVariants.{Without}
 use Rattle.ckc_source.specs.declared.outcome.Value.{Value}
 use Rattle.ckc_source.specs.declared.outcome.Halt.{Halt}
 use Rattle.ckc_source.specs.declared.outcome.Halt.TheVariants.{Stopped, Stuck}
@@ -141,14 +142,14 @@ module _ (functions : List Function) (callers : List Caller) (world : World) whe
       (nodes b + 1, omega arith, by_fail functions callers world check.Divide place b (Set t (operated operation is_signed a b) more) rest l y k z)
   operation_by operation is_signed place a b t more rest before l x y most true false few below h k z =
       let o = operated operation is_signed a b in
-      let v : Value = record { number = computed operation is_signed x y; range = Rattle.ckc_source.specs.declared.outcome.Range.TheVariants.Without } in
+      let v : Value = record { number = computed operation is_signed x y; range = Without } in
       first_runs functions (nodes b + 1) 1 (nodes o + 1) most (at callers world (Check check.Divide place b (Set t o more)) rest l) (at callers world (Set t o more) rest l)
       (Ok v) (λ v u. (l : Values) × (u ≡ at callers world more rest l) × Put t before v l) few
       (by_pass functions callers world check.Divide place b (Set t o more) rest l y k z)
       (set_put o t more rest before l v (nodes o + 1) (omega arith) below (operated_value l world.memory operation is_signed a b x y h k))
   operation_by operation is_signed place a b t more rest before l x y most false zero few below h k z =
       let o = operated operation is_signed a b in
-      set_put o t more rest before l (record { number = computed operation is_signed x y; range = Rattle.ckc_source.specs.declared.outcome.Range.TheVariants.Without }) most (omega arith) below
+      set_put o t more rest before l (record { number = computed operation is_signed x y; range = Without }) most (omega arith) below
       (operated_value l world.memory operation is_signed a b x y h k)
 
   module _ (n : ℕ) (s : Store) (same : SameBytes s.blocks world.memory) where
@@ -271,9 +272,6 @@ module _ (functions : List Function) (callers : List Caller) (world : World) whe
     truth_value : (l : Values) (e : Expr) (x : ℕ) → value_of l world.memory e ≡ Some x → value_of l world.memory (as_truth e) ≡ Some (truth x)
     truth_value l e x h = ap (λ o. both (applied binary.Ne) o (Some 0)) h
 
-    more_below : (t : ℕ) (l before : Values) → Below t l before → Below t before before
-    more_below t l before h x less = refl
-
     weaken : (most t : ℕ) (st : State) (r : Result Value Halt) (l before : Values) (more : Code) (rest : Rest) → Below t l before
         → Comes 1 most st r more rest (Put t l) → Comes 1 most st r more rest (Put t before)
     weaken most t st (Ok v) l before more rest below c =
@@ -292,13 +290,13 @@ module _ (functions : List Function) (callers : List Caller) (world : World) whe
         then_comes 1 (operand_steps b t) (nodes q + 3) (operand_steps b t + (nodes q + 3)) (at callers world (operand_code b t last) rest l) (evaluated s b)
         (λ y. plain (truth y.number)) last rest (Held q t l) (λ v u. (l' : Values) × (u ≡ at callers world End rest l') × Put t before v l') (omega arith)
         (claim t last rest l le h agree)
-        (λ y l2 held. set_put (as_truth q) t End rest before l2 (record { number = truth y.number; range = Rattle.ckc_source.specs.declared.outcome.Range.TheVariants.Without }) (nodes q + 3) (omega arith)
+        (λ y l2 held. set_put (as_truth q) t End rest before l2 (record { number = truth y.number; range = Without }) (nodes q + 3) (omega arith)
         (λ z less. held.0 z less ∙ below z less) (truth_value l2 q y.number (held_value q t l l2 y held)))
 
     const_comes : (k t most : ℕ) (rest : Rest) (before l : Values) → Below t l before → 2 ≤ most
         → Comes 1 most (at callers world (Set t (Const k) End) rest l) (plain k) End rest (Put t before)
     const_comes k t most rest before l below few =
-        set_put (Const k) t End rest before l (record { number = k; range = Rattle.ckc_source.specs.declared.outcome.Range.TheVariants.Without }) most (omega arith) below refl
+        set_put (Const k) t End rest before l (record { number = k; range = Without }) most (omega arith) below refl
 
     both_steps : (na nb ea eb : ℕ) → na ≤ 4 * ea → nb ≤ 4 * eb → 1 ≤ ea → 1 ≤ eb
         → (8 * ea - 2 * na) + (na + 1 + ((8 * eb - 2 * nb) + (nb + 3) + 1)) ≤ 8 * (1 + ea + eb) - 2
@@ -379,7 +377,7 @@ module _ (functions : List Function) (callers : List Caller) (world : World) whe
         (λ y. plain (y.number % 256)) last rest (Held q t l) (λ v u. (l' : Values) × (u ≡ at callers world more rest l') × Put t l v l')
         (narrow_steps (nodes q) (expr_nodes e) (operand_nodes e t) (some_node e))
         (claim t last rest l le h agree)
-        (λ y l2 held. set_put (low_byte q) t more rest l l2 (record { number = y.number % 256; range = Rattle.ckc_source.specs.declared.outcome.Range.TheVariants.Without }) (nodes q + 3) (omega arith)
+        (λ y l2 held. set_put (low_byte q) t more rest l l2 (record { number = y.number % 256; range = Without }) (nodes q + 3) (omega arith)
         held.0 (low_value l2 world.memory q y.number (held_value q t l l2 y held)))
 
     -- the code of an expression puts its value into the temporary t

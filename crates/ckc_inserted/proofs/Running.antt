@@ -8,7 +8,7 @@ use Rattle.ckc_base.specs.Traces as standing
 use Rattle.ckc_base.specs.LongEvents.{LongEvent, plain_events}
 use Rattle.ckc_base.specs.Steps.{Goes, Halts, System}
 use Rattle.ckc_base.specs.Matching.{Stretch, Closes}
-use Rattle.ckc_base.specs.Actions.{World, Gives, with_value, checks}
+use Rattle.ckc_base.specs.Actions.{World, Gives, Done, Stops, with_value, checks}
 use Rattle.ckc_base.specs.Activations.{Values, with_written}
 use Rattle.ckc_base.proofs.Runs.{one_step, one_halt, then_stretch, then_closes}
 use Rattle.ckc_base.proofs.Seeing.{seen_move, seen_system}
@@ -16,7 +16,7 @@ use Rattle.ckc_source.specs.declared.outcome.Halt.{Halt}
 use Rattle.ckc_source.specs.declared.outcome.Halt.TheVariants.{Stopped, Stuck}
 use Rattle.ckc_source.specs.Eval.{given}
 use Rattle.ckc_core.specs.Code.{Expr, Code, End, Set, Check, If, Loop, Function}
-use Rattle.ckc_core.specs.Meaning.{Rest, Next, Body, Step, State, Caller, value_of, nodes, extra_steps, core_step, core_system, goes_by, goes_to, branches}
+use Rattle.ckc_core.specs.Meaning.{Rest, Next, Body, State, Caller, value_of, nodes, extra_steps, core_step, core_system, goes_by, goes_to, branches}
 
 -- core code of which input and output are seen
 abbrev pub machine : List Function → System Event State
@@ -81,7 +81,7 @@ module _ (functions : List Function) where
     by_pass check place e more rest locals v h z =
         step_by [] (at callers world (Check check place e more) rest locals) (at callers world more rest locals)
         (ap (λ o. goes_by (at callers world (Check check place e more) rest locals) more (with_value o (checks world check place))) h
-        ∙ ap (λ b. goes_by (at callers world (Check check place e more) rest locals) more (if b then Rattle.ckc_base.specs.Actions.Stops check place else Rattle.ckc_base.specs.Actions.Done [] world)) z)
+        ∙ ap (λ b. goes_by (at callers world (Check check place e more) rest locals) more (if b then Stops check place else Done [] world)) z)
 
     pub by_fail : (check : CheckName) (place : Pos) (e : Expr) (more : Code) (rest : Rest) (locals : Values) (v : ℕ) → value_of locals world.memory e ≡ Some v
         → (v == 0) ≡ true → Closes (machine functions) (nodes e + 1) [] (at callers world (Check check place e more) rest locals) (standing.Stopped check place)
@@ -89,7 +89,7 @@ module _ (functions : List Function) where
     by_fail check place e more rest locals v h z =
         halt_by (at callers world (Check check place e more) rest locals) (standing.Stopped check place)
         (ap (λ o. goes_by (at callers world (Check check place e more) rest locals) more (with_value o (checks world check place))) h
-        ∙ ap (λ b. goes_by (at callers world (Check check place e more) rest locals) more (if b then Rattle.ckc_base.specs.Actions.Stops check place else Rattle.ckc_base.specs.Actions.Done [] world)) z)
+        ∙ ap (λ b. goes_by (at callers world (Check check place e more) rest locals) more (if b then Stops check place else Done [] world)) z)
 
     pub by_if : (e : Expr) (one two more : Code) (rest : Rest) (locals : Values) (v : ℕ) → value_of locals world.memory e ≡ Some v
         → Stretch (machine functions) (nodes e + 1) [] (at callers world (If e one two more) rest locals) (at callers world (if v == 0 then two else one) (Next more rest) locals)
@@ -106,18 +106,6 @@ module _ (functions : List Function) where
     pub by_end : (more : Code) (rest : Rest) (locals : Values) → Stretch (machine functions) 1 [] (at callers world End (Next more rest) locals) (at callers world more rest locals)
     unfolding core_step
     by_end more rest locals = step_by [] (at callers world End (Next more rest) locals) (at callers world more rest locals) refl
-
-    pub by_body_end : (body step more : Code) (rest : Rest) (locals : Values)
-        → Stretch (machine functions) 1 [] (at callers world End (Body body step more rest) locals) (at callers world step (Step body step more rest) locals)
-    unfolding core_step
-    by_body_end body step more rest locals =
-        step_by [] (at callers world End (Body body step more rest) locals) (at callers world step (Step body step more rest) locals) refl
-
-    pub by_step_end : (body step more : Code) (rest : Rest) (locals : Values)
-        → Stretch (machine functions) 1 [] (at callers world End (Step body step more rest) locals) (at callers world body (Body body step more rest) locals)
-    unfolding core_step
-    by_step_end body step more rest locals =
-        step_by [] (at callers world End (Step body step more rest) locals) (at callers world body (Body body step more rest) locals) refl
 
     pub by_loop : (body step more : Code) (rest : Rest) (locals : Values)
         → Stretch (machine functions) 1 [] (at callers world (Loop body step more) rest locals) (at callers world body (Body body step more rest) locals)

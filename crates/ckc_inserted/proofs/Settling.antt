@@ -1,6 +1,6 @@
 -- Ended lists, `break` and `continue` are no steps of the source, and steps of core code.
 use Rattle.std.proofs.Common.{◌≡◌, inl, inr, ℕ, suc, ◌+◌, ◌≤◌, List, [], ◌∷◌, length, refl, sym, ◌∙◌, ap, subst, arith}
-use Rattle.std.specs.Prelude.{Bool, true, false, IsTrue}
+use Rattle.std.specs.Prelude.{Bool, false, IsTrue}
 use Rattle.ckc_base.specs.Matching.{Stretch}
 use Rattle.ckc_base.proofs.Runs.{no_step, then_stretch}
 use Rattle.ckc_source.specs.declared.stmt.Spot.{Spot}
@@ -87,15 +87,6 @@ module _ (functions : List source.Function) (core : List Function) (t : ℕ) whe
       again Continued rest looped (placed s (Continue (statements t more)) rest) (statements t more, refl, refl) st.form.0 b
   begins code work rest looped s again st b =
       now (length work + 1) s (statements t code) rest (Rest code ∷ work) (looped, st, inl (refl, b))
-
-  -- the parts of a loop
-  loop_form : (around : Bool) (behind : ℕ) (spot : Spot) (e : source.Expr) (body step rest : source.Code) → Stands functions t around behind (source.Loop spot e body step rest)
-      → Stands functions t true (behind + 1) body × Stands functions t false (behind + 1) step × Stands functions t around behind rest
-  loop_form around behind spot e body step rest st = (
-    record { form = st.form.1; few = omega (arith, st.few) },
-    record { form = st.form.2; few = omega (arith, st.few) },
-    record { form = st.form.3; few = omega (arith, st.few) },
-  )
 
   -- the step of a loop comes next
   stepping : (spot : Spot) (e : source.Expr) (body step rest : source.Code) (around : Bool) (work : List Work) (after : C.Rest) (s : C.State) (most : ℕ) → 1 ≤ most

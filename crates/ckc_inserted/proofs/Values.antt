@@ -5,6 +5,7 @@ use Rattle.std.proofs.lemmas.Nat.{and_mask}
 use Rattle.ckc_base.specs.declared.arithmetic.Width.{Width}
 use Rattle.ckc_base.specs.declared.arithmetic.BinOp.TheVariants as binary
 use Rattle.ckc_base.specs.declared.places.Pos.{Pos}
+use Rattle.ckc_base.specs.declared.runtime_checks.Check.TheVariants.{Divide}
 use Rattle.ckc_base.specs.Words.{applied}
 use Rattle.ckc_base.specs.Memory.{Memory, value_at}
 use Rattle.ckc_base.specs.Activations.{Values}
@@ -20,17 +21,12 @@ use Rattle.ckc_source.specs.declared.outcome.Halt.TheVariants.{Stopped, Stuck}
 use Rattle.ckc_source.specs.Code as source
 use Rattle.ckc_source.specs.Blocks.{loaded}
 use Rattle.ckc_source.specs.Words.{operator, computed, divides}
-use Rattle.ckc_source.specs.Eval.{Store, given, given_both, given_some, plain, element, element_through, place_in, loads, operates, evaluated}
+use Rattle.ckc_source.specs.Eval.{Store, given, given_both, given_some, plain, stops, element, element_through, place_in, loads, operates, evaluated}
 use Rattle.ckc_core.specs.Code.{Expr}
 use Rattle.ckc_core.specs.Meaning.{value_of, both}
 use Rattle.ckc_checks.specs.IntegerForm.{IsNamed, IsNumber, IsIntegerExpr}
 use Rattle.ckc_checks.specs.Inserted.{is_direct, operated, low_byte, number_of, fixed_place, direct}
-use Rattle.ckc_inserted.proofs.Bytes.{SameBytes, loaded_there}
-
-pub and_true : (p q : Bool) → (p && q) ≡ true → (p ≡ true) × (q ≡ true)
-and_true true true h = (refl, refl)
-and_true true false h = absurd cc
-and_true false q h = absurd cc
+use Rattle.ckc_inserted.proofs.Bytes.{and_true, SameBytes, loaded_there}
 
 not_true : (p : Bool) → not p ≡ true → p ≡ false
 not_true true h = absurd cc
@@ -94,7 +90,7 @@ operation_value : (locals : Values) (memory : Memory) (operation : Operation) (i
     → divides operation ≡ false → IsValue r (value_of locals memory a) → IsValue q (value_of locals memory b)
     → IsValue (given_both r q (λ x y. operates operation is_signed place x.number y.number)) (value_of locals memory (operated operation is_signed a b))
 operation_value locals memory operation is_signed place a b (Ok x) (Ok y) d h k =
-    subst (λ (c : Bool). IsValue (if c && (y.number == 0) then Err (Stopped Rattle.ckc_base.specs.declared.runtime_checks.Check.TheVariants.Divide place) else plain (computed operation is_signed x.number y.number))
+    subst (λ (c : Bool). IsValue (if c && (y.number == 0) then stops Divide place else plain (computed operation is_signed x.number y.number))
     (value_of locals memory (operated operation is_signed a b))) (sym d)
     (operated_value locals memory operation is_signed a b x.number y.number h k)
 operation_value locals memory operation is_signed place a b (Ok x) (Err Stuck) d h k = tt

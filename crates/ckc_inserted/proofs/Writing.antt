@@ -8,7 +8,7 @@ use Rattle.ckc_base.specs.Traces.{Event}
 use Rattle.ckc_base.specs.LongEvents.{Stored}
 use Rattle.ckc_base.specs.Steps.{Move, Goes, Halts}
 use Rattle.ckc_base.specs.Matching.{Stretch}
-use Rattle.ckc_base.specs.Memory.{data_start, data_end, kept_part, memory_with, with_bytes, width_bytes}
+use Rattle.ckc_base.specs.Memory.{Memory, data_end, kept_part, memory_with, with_bytes, width_bytes}
 use Rattle.ckc_base.specs.Actions.{World, with_value, stores, stores_in}
 use Rattle.ckc_base.specs.Activations.{Values, with_written}
 use Rattle.ckc_base.proofs.Runs.{Matched, no_step, then_stretch, then_closes}
@@ -166,7 +166,7 @@ module _ (functions : List source.Function) (core : List Function) (limit : ℕ)
 
   -- ---- writes
 
-  store_step : (ds : List C.Caller) (world : World) (width : Width) (a n : ℕ) (e : Expr) (next : Code) (rest : C.Rest) (l : Values) (memory : Rattle.ckc_base.specs.Memory.Memory)
+  store_step : (ds : List C.Caller) (world : World) (width : Width) (a n : ℕ) (e : Expr) (next : Code) (rest : C.Rest) (l : Values) (memory : Memory)
       → value_of l world.memory e ≡ Some n → memory_with width world.memory a n ≡ Some memory
       → Stretch (machine core) (1 + nodes e + 1) [] (at ds world (Store width (Const a) e next) rest l) (at ds (record world { memory = memory }) next rest l)
   unfolding core_step
@@ -205,7 +205,7 @@ module _ (functions : List source.Function) (core : List Function) (limit : ℕ)
       )
 
   -- a value as it is kept in a local
-  kept_value : (l : Values) (memory : Rattle.ckc_base.specs.Memory.Memory) (width : Width) (is_byte : Bool) (e : Expr) (n : ℕ) → value_of l memory e ≡ Some n → (is_byte ≡ true → n < 256)
+  kept_value : (l : Values) (memory : Memory) (width : Width) (is_byte : Bool) (e : Expr) (n : ℕ) → value_of l memory e ≡ Some n → (is_byte ≡ true → n < 256)
       → value_of l memory (kept_in width is_byte e) ≡ Some (kept_part width n)
   kept_value l memory Byte true e n h b = let less : n < 256 = b refl in h ∙ ap Some (omega arith)
   kept_value l memory Byte false e n h b = low_value l memory e n h
