@@ -1,0 +1,7 @@
+//! From the plain program of a text to the parts of an image, through all layers, with the theorem that the machine of
+//! these parts follows the meaning of the program.
+#![tactic(auto)]
+
+mod program;
+
+pub use program::{MOST_NODES, compile};

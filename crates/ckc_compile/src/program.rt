@@ -1,0 +1,87 @@
+//! The layers, one after another.
+ghost use Rattle.std.specs.Prelude.{◌≡◌, ℕ, ◌*◌, ◌≤◌, List, length, IfOk};
+ghost use Rattle.ckc_base.specs.Follows.{Follows};
+ghost use Rattle.ckc_source.specs.Code.{program_of};
+ghost use Rattle.ckc_source.specs.LaidOut.{IsLaidOut};
+ghost use Rattle.ckc_source.specs.Source.{source};
+ghost use Rattle.ckc_checks.specs.IntegerForm.{IsIntegerProgram, program_nodes};
+ghost use Rattle.ckc_tac.specs.Meaning.{tac_meaning};
+ghost use Rattle.ckc_tac.specs.Sizes.{program_size as tac_size};
+ghost use Rattle.ckc_tac.specs.WellFormed.{IsWellFormed as IsWellFormedTac, HasFewRegisters};
+ghost use Rattle.ckc_frame.specs.Meaning.{placed_meaning};
+ghost use Rattle.ckc_frame.specs.WellFormed.{IsWellFormed, program_size};
+ghost use Rattle.ckc_emit.specs.CodeSize.{code_size};
+ghost use Rattle.ckc_emit.specs.Promise.{FollowsPlaced};
+ghost use Rattle.ckc_compile.specs.Compiled.{FollowsSource, machine_parts};
+
+use ckc_assign::assign;
+use ckc_checks::insert;
+use ckc_emit::emit;
+use ckc_frame::Placed;
+use ckc_image::Parts;
+use ckc_lines::assemble;
+use ckc_lower::lower;
+use ckc_source::Program;
+use ckc_tac::Tac;
+use std::alloc::{AllocError, Global};
+
+/// How many nodes a program may have: each gives at most 80 instructions, the start five, and an image has room for
+/// 4,193,280.
+pub const MOST_NODES: u32 = 52_415;
+
+/// The three-address code of a program.
+fn lowered(alloc: Global, p: &Program) -> Result<Tac, AllocError>
+    requires form { IsIntegerProgram (program_of p.now) }
+    requires laid { IsLaidOut (program_of p.now) }
+    ensures formed { IfOk result IsWellFormedTac }
+    ensures few { IfOk result HasFewRegisters }
+    ensures size { IfOk result (λ t. tac_size t ≤ 80 * program_nodes (program_of p.now)) }
+    ensures initial { IfOk result (λ t. length t.initial ≤ 4194304) }
+    ensures follows { IfOk result (λ t. (input : List ℕ) →
+        Follows (source (program_of p.now) input) (tac_meaning t input) 400004) }
+{
+    let c = insert(alloc, p)?;
+    let t = lower(alloc, &c)?;
+    Ok(t)
+}
+
+/// The placed code of a program.
+fn placed(alloc: Global, p: &Program) -> Result<Placed, AllocError>
+    requires form { IsIntegerProgram (program_of p.now) }
+    requires laid { IsLaidOut (program_of p.now) }
+    ensures whole { IfOk result IsWellFormed }
+    ensures size { IfOk result (λ q. program_size q ≤ 80 * program_nodes (program_of p.now)) }
+    ensures initial { IfOk result (λ q. length q.initial ≤ 4194304) }
+    ensures follows { IfOk result (λ q. (input : List ℕ) →
+        Follows (source (program_of p.now) input) (placed_meaning q input) 400005) }
+{
+    let t = lowered(alloc, p)?;
+    let q = assign(alloc, &t)?;
+    Ok(q)
+}
+
+/// The parts of placed code.
+fn assembled(alloc: Global, q: &Placed) -> Result<Parts, AllocError>
+    requires whole { IsWellFormed q.now }
+    requires fits { code_size q.now ≤ 4193280 }
+    requires initial { length q.now.initial ≤ 16777216 }
+    ensures { IfOk result (λ parts. FollowsPlaced q.now (machine_parts parts)) }
+{
+    let l = emit(alloc, q)?;
+    let parts = assemble(alloc, &l)?;
+    Ok(parts)
+}
+
+/// The parts of an image of a program of integers, or want of memory. The machine that runs them reads and puts the same
+/// bytes as the program, and ends with the same value or stops at the same check and place. Nothing is said of where the
+/// program is stuck.
+pub fn compile(alloc: Global, p: &Program) -> Result<Parts, AllocError>
+    requires form { IsIntegerProgram (program_of p.now) }
+    requires laid { IsLaidOut (program_of p.now) }
+    requires small { program_nodes (program_of p.now) ≤ MOST_NODES }
+    ensures follows { IfOk result (FollowsSource (program_of p.now)) }
+{
+    let q = placed(alloc, p)?;
+    let parts = assembled(alloc, &q)?;
+    Ok(parts)
+}
