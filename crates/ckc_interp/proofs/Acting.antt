@@ -1,5 +1,5 @@
 -- States part by part.
-use Rattle.std.proofs.Common.{◌≡◌, ℕ, suc, ◌+◌, ◌<◌, ◌≤◌, Bool, true, false, nat_lt, List, [], ◌∷◌, length, Option, Some, None, Result, Ok, Err, if◌then◌else◌, refl, sym, ◌∙◌, ap, arith}
+use Rattle.std.proofs.Common.{◌≡◌, ℕ, ◌+◌, ◌<◌, ◌≤◌, Bool, true, false, nat_lt, List, [], ◌∷◌, length, Option, Some, None, Ok, Err, if◌then◌else◌, sym, ◌∙◌, ap, arith}
 use Rattle.std.specs.Prelude.{slice_get, map}
 use Rattle.std.specs.Option.{option_map}
 use Rattle.std.proofs.lemmas.Option.{slice_get-map}
@@ -7,14 +7,14 @@ use Rattle.std.proofs.lemmas.Bool.Decides.{nat_tests}
 use Rattle.ckc_base.specs.declared.places.Pos.{Pos}
 use Rattle.ckc_base.specs.declared.runtime_checks.Check.TheVariants.{Depth}
 use Rattle.ckc_base.specs.Traces as standing
-use Rattle.ckc_base.specs.Steps.{Move, Goes, Halts}
+use Rattle.ckc_base.specs.Steps.{Halts}
 use Rattle.ckc_source.specs.declared.outcome.Halt.{Halt}
 use Rattle.ckc_source.specs.declared.stmt.Kept.{Kept}
 use Rattle.ckc_source.specs.declared.program.FunctionTree.{FunctionTree}
 use Rattle.ckc_source.specs.Blocks.{Block}
 use Rattle.ckc_source.specs.Code.{Function, function_of}
 use Rattle.ckc_source.specs.Eval.{given}
-use Rattle.ckc_source.specs.States.{Work, Frame, Caller, State, active, entered}
+use Rattle.ckc_source.specs.States.{Work, Frame, Caller, State, active}
 use Rattle.ckc_source.specs.Steps.{Write, writes, all_written, calls, enters}
 use Rattle.ckc_interp.specs.Views.{stacked}
 

@@ -1,5 +1,5 @@
 -- How a run comes to its answer.
-use Rattle.std.proofs.Common.{◌≡◌, ℕ, suc, ◌+◌, ◌≤◌, ◌<◌, List, [], ◌∷◌, ◌++◌, length, take, Option, Some, None, refl, sym, ◌∙◌, ap, subst, arith, append_assoc}
+use Rattle.std.proofs.Common.{◌≡◌, ℕ, suc, ◌+◌, ◌<◌, List, [], ◌∷◌, ◌++◌, length, take, Option, Some, None, refl, sym, ◌∙◌, ap, subst, arith, append_assoc}
 use Rattle.std.proofs.lemmas.Grind.{flat_map-append}
 use Rattle.ckc_base.specs.declared.places.Pos.{Pos}
 use Rattle.ckc_base.specs.Steps.{Move, Goes, Halts}
@@ -7,7 +7,7 @@ use Rattle.ckc_base.specs.Traces.{Event, Showing, Put, put_byte, output}
 use Rattle.ckc_base.proofs.Travelling.{one_travel, then_travels}
 use Rattle.ckc_source.specs.Code.{Program}
 use Rattle.ckc_source.specs.States.{State}
-use Rattle.ckc_source.specs.Steps.{source_step, spot_of}
+use Rattle.ckc_source.specs.Steps.{source_step}
 use Rattle.ckc_source.specs.Source.{source}
 use Rattle.ckc_interp.specs.declared.seen.Seen.{Seen}
 use Rattle.ckc_interp.specs.declared.seen.Seen.TheVariants as seen

@@ -1,12 +1,12 @@
 -- A step of a state is that of the state without its input, but for what it gets.
-use Rattle.std.proofs.Common.{◌≡◌, ℕ, ◌%◌, ◌==◌, Bool, true, false, List, [], ◌∷◌, Option, Some, None, Result, Ok, Err, if◌then◌else◌, refl, sym, ◌∙◌, ap}
+use Rattle.std.proofs.Common.{◌≡◌, ℕ, ◌==◌, Bool, true, false, List, [], ◌∷◌, Option, Some, None, Result, Ok, Err, if◌then◌else◌, refl, sym, ◌∙◌, ap}
 use Rattle.std.specs.Prelude.{slice_get}
 use Rattle.ckc_base.specs.declared.places.Pos.{Pos}
 use Rattle.ckc_base.specs.declared.runtime_checks.Check.TheVariants as check
 use Rattle.ckc_base.specs.Traces.{Event}
 use Rattle.ckc_base.specs.Traces as standing
 use Rattle.ckc_base.specs.Steps.{Move, Goes, Halts}
-use Rattle.ckc_base.specs.Memory.{heap_has_room, next_place}
+use Rattle.ckc_base.specs.Memory.{heap_has_room}
 use Rattle.ckc_base.specs.Activations.{has_room}
 use Rattle.ckc_source.specs.declared.expr.Limits.{Limits}
 use Rattle.ckc_source.specs.declared.expr.Pointee.{Pointee}

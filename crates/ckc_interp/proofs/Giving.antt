@@ -1,7 +1,7 @@
 -- What a source gave, and what may be left behind it.
-use Rattle.std.proofs.Common.{◌≡◌, ◌⊎◌, inl, inr, ℕ, List, [], ◌∷◌, ◌++◌, Option, Some, None, Bool, IsTrue, Ok, slice_get, drop, refl, sym, ap, subst, ◌∙◌, append_assoc}
+use Rattle.std.proofs.Common.{◌≡◌, inl, inr, ℕ, List, [], ◌∷◌, ◌++◌, Option, Some, None, Bool, IsTrue, Ok, slice_get, drop, refl, sym, ap, subst, ◌∙◌, append_assoc}
 use Rattle.ckc_outside.specs.Outside.{one_more, GivesNext}
-use Rattle.ckc_interp.specs.Outsides.{after_answers, Gave, MayCome, OverAny, WhereTold}
+use Rattle.ckc_interp.specs.Outsides.{after_answers, Gave, OverAny, WhereTold}
 use Rattle.ckc_interp.specs.Turns.{MayBeLeft, Took, Fed}
 
 pub no_answer : (n : ℕ) → n ≡ after_answers n []

@@ -1,5 +1,5 @@
 -- A run after some steps, and after one more.
-use Rattle.std.proofs.Common.{◌≡◌, ◌≢◌, ◌⊎◌, inl, inr, ℕ, zero, suc, ◌+◌, ◌≤◌, ◌<◌, List, [], ◌∷◌, ◌++◌, length, take, Option, Some, None, refl, sym, ◌∙◌, ap, subst, arith, append_assoc, append-nil}
+use Rattle.std.proofs.Common.{◌≡◌, ◌≢◌, ◌⊎◌, inl, inr, ℕ, zero, suc, ◌+◌, ◌≤◌, ◌<◌, List, [], ◌++◌, Option, Some, None, refl, sym, ◌∙◌, ap, subst, arith, append_assoc, append-nil}
 use Rattle.std.proofs.lemmas.Grind.{flat_map-append}
 use Rattle.ckc_base.specs.declared.arithmetic.Mode.{Mode}
 use Rattle.ckc_base.specs.declared.arithmetic.Mode.TheVariants.{Checked, Unchecked}
@@ -14,7 +14,7 @@ use Rattle.ckc_source.specs.Code.{Program}
 use Rattle.ckc_source.specs.States.{State}
 use Rattle.ckc_source.specs.Steps.{source_step, spot_of}
 use Rattle.ckc_source.specs.Source.{source, source_system, first_state, place_after, unchecked_since, first_unchecked, on_next, by_mode}
-use Rattle.ckc_interp.specs.Outsides.{got_byte, taken, Printed, PrintedFront}
+use Rattle.ckc_interp.specs.Outsides.{got_byte, taken, Printed}
 use Rattle.ckc_interp.specs.Runs.{GoesAt, Comes}
 use Rattle.ckc_interp.specs.Turns.{noted}
 

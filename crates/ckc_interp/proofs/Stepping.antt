@@ -1,23 +1,21 @@
 -- One step, by what it asks of the outside.
-use Rattle.std.proofs.Common.{◌≡◌, ◌⊎◌, inl, inr, ℕ, ◌%◌, ◌^◌, ◌-◌, ◌+◌, List, [], ◌∷◌, ◌++◌, Option, Some, None, Result, Ok, Err, refl, sym, ◌∙◌, ap, subst}
+use Rattle.std.proofs.Common.{◌≡◌, inl, inr, ℕ, ◌%◌, ◌^◌, ◌-◌, List, [], ◌∷◌, ◌++◌, Option, Some, None, Result, Ok, Err, refl, sym, ◌∙◌, ap, subst}
 use Rattle.ckc_base.specs.declared.places.Pos.{Pos}
 use Rattle.ckc_base.specs.Traces.{Event, Got, Put as Puts', output}
-use Rattle.ckc_base.specs.Traces as standing
-use Rattle.ckc_base.specs.Steps.{Move, Goes, Halts}
 use Rattle.ckc_source.specs.declared.outcome.Halt.{Halt}
 use Rattle.ckc_source.specs.declared.outcome.Halt.TheVariants as halt
 use Rattle.ckc_source.specs.declared.outcome.Place.{Place}
 use Rattle.ckc_source.specs.declared.outcome.Value.{Value}
-use Rattle.ckc_source.specs.Code.{Code, End, Assign, Bundle, Get, Put, Call, If, Loop, Break, Continue, Return, Check, Program}
+use Rattle.ckc_source.specs.Code.{End, Assign, Bundle, Get, Put, Call, If, Loop, Break, Continue, Return, Check, Program}
 use Rattle.ckc_source.specs.States.{Work, Rest, Turn as Ahead, State, settled}
-use Rattle.ckc_source.specs.Steps.{source_step, spot_of, comes_to, halts, gets, puts, writes_allowed}
+use Rattle.ckc_source.specs.Steps.{source_step, spot_of, comes_to, halts, gets, writes_allowed}
 use Rattle.ckc_interp.specs.declared.seen.Seen.{Seen}
 use Rattle.ckc_interp.specs.declared.seen.Seen.TheVariants as seen
 use Rattle.ckc_interp.specs.declared.run.Turn.{Turn}
 use Rattle.ckc_interp.specs.declared.run.Turn.TheVariants as turn
-use Rattle.ckc_interp.specs.Outsides.{taken, Printed, PrintedFront}
+use Rattle.ckc_interp.specs.Outsides.{taken, Printed}
 use Rattle.ckc_interp.specs.Runs.{AsksToGet, AsksToPut}
-use Rattle.ckc_interp.specs.Turns.{Asked, Does, Gets, Puts, asked, asked_next, gets_at, puts_at, turn_asks, move_of, noted, seen_of, Wrote, PutsAs, GetsAs, Steps, events_of}
+use Rattle.ckc_interp.specs.Turns.{Gets, Puts, asked_next, gets_at, puts_at, turn_asks, move_of, noted, seen_of, Wrote, PutsAs, GetsAs, Steps, events_of}
 use Rattle.ckc_interp.proofs.Feeding.{fed, fed_result, played, works_fed, turn_played, allowed_fed}
 use Rattle.ckc_interp.proofs.Reaching.{printed_nothing}
 

@@ -1,6 +1,5 @@
 -- What a run of the meaning does, by its answer.
 use Rattle.std.specs.Prelude.{◌≡◌, ℕ, suc, ◌≤◌, ◌<◌, List, ◌∷◌, ◌++◌, length, Option}
-use Rattle.ckc_base.specs.declared.places.Pos.{Pos}
 use Rattle.ckc_base.specs.States.{state_at}
 use Rattle.ckc_base.specs.Traces.{Standing, output}
 use Rattle.ckc_base.specs.Traces as standing

@@ -1,8 +1,8 @@
-use Rattle.std.proofs.Common.{◌≡◌, ◌∷◌, ◌++◌, [], refl, sym, ◌∙◌, ap}
-use Rattle.ckc_source.specs.States.{Work, Ended, Broken, Continued, resumed}
+use Rattle.std.proofs.Common.{sym, ◌∙◌}
+use Rattle.ckc_source.specs.States.{resumed}
 use Rattle.ckc_source.specs.Code.{code_of}
-use Rattle.ckc_interp.specs.Views.{work_of, next_of_call, leaving_of}
-use Rattle.ckc_interp.proofs.Working.{stacked-push, stacked-nil, begun_left, begun_stays, turned_with, turned_without, resumed-nil, resumed-rest, resumed-turn_broken, resumed-turn_ended, resumed-turn_continued, resumed-rest_broken, resumed-rest_continued}
+use Rattle.ckc_interp.specs.Views.{next_of_call, leaving_of}
+use Rattle.ckc_interp.proofs.Working.{begun_left, begun_stays}
 use Rattle.ckc_interp.proofs.work.begin.Goals as goal
 
 pub returns-in_ok-push_rest-in-None-clause-left : goal.returns-in_ok-push_rest-in-None-clause-left

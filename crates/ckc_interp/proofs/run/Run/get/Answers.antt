@@ -1,4 +1,4 @@
-use Rattle.std.proofs.Common.{◌≡◌, ◌++◌, ℕ, List, [], ◌∷◌, drop, slice_get, Option, None, Some, Ok, inl, inr, refl, sym, ap, subst, ◌∙◌}
+use Rattle.std.proofs.Common.{◌≡◌, ℕ, List, [], ◌∷◌, drop, Option, Some, Ok, inl, inr, refl, sym, ap, subst, ◌∙◌}
 use Rattle.ckc_outside.specs.Outside.{GivesNext, GivesNothing, after_next}
 use Rattle.ckc_source.specs.Steps.{writes_allowed}
 use Rattle.ckc_interp.specs.Turns.{Wrote}

@@ -1,4 +1,4 @@
-use Rattle.std.proofs.Common.{[], ◌∷◌, sym, ◌∙◌, ap}
+use Rattle.std.proofs.Common.{[], sym, ◌∙◌, ap}
 use Rattle.std.specs.Option.{option_copied}
 use Rattle.ckc_source.specs.Steps.{returns, hands, comes_to}
 use Rattle.ckc_blocks.specs.Views.{shapes_of}

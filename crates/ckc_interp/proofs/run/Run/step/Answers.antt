@@ -1,4 +1,4 @@
-use Rattle.std.proofs.Common.{Option, List, ℕ, None, Some, refl, sym, ap, subst, ◌∙◌}
+use Rattle.std.proofs.Common.{None, Some, refl, sym, ap, subst, ◌∙◌}
 use Rattle.ckc_source.specs.Code.{program_of}
 use Rattle.ckc_interp.specs.declared.seen.Seen.{Seen}
 use Rattle.ckc_interp.specs.declared.seen.Seen.TheVariants as seen
