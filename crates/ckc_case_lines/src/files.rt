@@ -2,8 +2,9 @@ use crate::fault::CaseFault;
 use crate::reader::Reader;
 use crate::writing::written;
 use std::alloc::{AllocError, Global};
-use std::rt::Files;
-use std::{fs, io};
+use std::process::ExitCode;
+use std::rt::{Env, Files};
+use std::{env, fs, io};
 
 /// What is under trial: it answers cases.
 pub trait Judge {
@@ -24,6 +25,22 @@ enum Outcome {
     NoCase,
     Right,
     Wrong(String),
+}
+
+/// Tries the cases of the files that the words of the command line name. The status is a failure where a line failed.
+pub fn run_words<R: Env + Files + Print + AllocGlobal, J: Judge>(
+    rt: &R,
+    judge: &J,
+) -> io::Result<ExitCode> {
+    let mut failed = 0u64;
+    for name in env::args(rt)?.skip(1) {
+        failed = failed.saturating_add(run_files(rt, judge, &[name.as_str()])?);
+    }
+    Ok(if failed == 0 {
+        ExitCode::SUCCESS
+    } else {
+        ExitCode::FAILURE
+    })
 }
 
 /// Tries the cases of files: prints each that differs and each malformed line, and a count for each file. Gives how

@@ -4,12 +4,14 @@
 
 mod expand;
 mod fault;
+mod fields;
 mod files;
 mod reader;
 mod units;
 mod writing;
 
 pub use fault::CaseFault;
-pub use files::{Judge, run_files};
+pub use fields::{Answer, byte, count, number, put, signed, text_of, texts_of, word, words_of};
+pub use files::{Judge, run_files, run_words};
 pub use reader::{Case, Reader};
 pub use writing::written;

@@ -1,15 +1,15 @@
 //! Operations on words, and the run-time checks.
 
-use crate::fields::{Answer, Wrong, word};
 use ckc_base::{BinOp, apply, check_name, check_number, check_of};
+use ckc_case_lines::{Answer, CaseFault, word};
 use std::alloc::Global;
 
 /// `apply | OPERATION | A | B`: the value of the operation.
 pub fn apply_case(alloc: Global, given: &[&str]) -> Answer {
     let [op, a, b] = given else {
-        return Err(Wrong::Malformed);
+        return Err(CaseFault::Malformed("not apply | OPERATION | A | B | WANTED"));
     };
-    let op = operation_of(op).ok_or(Wrong::Malformed)?;
+    let op = operation_of(op).ok_or(CaseFault::Malformed("an unknown operation"))?;
     let value = apply(op, word(a)?, word(b)?);
     Ok(format!(in alloc; "{value:#x}")?)
 }
@@ -46,7 +46,7 @@ fn comparison_of(name: &str) -> Option<BinOp> {
 /// `check | NUMBER`: the check that has the number, its number and its name.
 pub fn check_case(alloc: Global, given: &[&str]) -> Answer {
     let [number] = given else {
-        return Err(Wrong::Malformed);
+        return Err(CaseFault::Malformed("not check | NUMBER | WANTED"));
     };
     let came = match check_of(word(number)?) {
         Some(check) => {

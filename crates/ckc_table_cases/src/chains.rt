@@ -1,7 +1,7 @@
 //! What follows from facts by chains.
 
 use crate::facts::{fact, facts_of, is_in_range};
-use crate::fields::{Answer, Wrong, put, word, words_of};
+use ckc_case_lines::{Answer, CaseFault, put, word, words_of};
 use ckc_linear::{Fact, Facts, entails};
 use std::alloc::Global;
 
@@ -9,7 +9,7 @@ use std::alloc::Global;
 /// holds at the start does not matter.
 pub fn chain_case(alloc: Global, given: &[&str]) -> Answer {
     let [vars, known, asked] = given else {
-        return Err(Wrong::Malformed);
+        return Err(CaseFault::Malformed("not chain | VARS | FACT.. | FACT.. | WANTED"));
     };
     let facts = facts_of(alloc, word(vars)?, known)?;
     let first = answers(alloc, &facts, asked, 7)?;
@@ -34,9 +34,9 @@ fn answers(alloc: Global, facts: &Facts, asked: &str, before: i64) -> Answer {
 }
 
 /// Whether the fact is entailed.
-pub fn says(facts: &Facts, f: Fact, row: &mut [i64]) -> Result<bool, Wrong> {
+pub fn says(facts: &Facts, f: Fact, row: &mut [i64]) -> Result<bool, CaseFault> {
     if !is_in_range(facts.vars, f) || row.len() != 2 * facts.vars as usize {
-        return Err(Wrong::Malformed);
+        return Err(CaseFault::Malformed("a question out of range"));
     }
     Ok(entails(facts, f.x, f.y, f.c, row))
 }

@@ -4,7 +4,7 @@ ghost use Rattle.std.specs.List.{All};
 ghost use Rattle.ckc_linear.specs.Facts.{IsWithin};
 
 use crate::facts::{facts_of, shown};
-use crate::fields::{Answer, Wrong, number, word};
+use ckc_case_lines::{Answer, CaseFault, number, word};
 use ckc_linear::{Fact, Facts, forget, shift};
 use std::alloc::Global;
 
@@ -13,7 +13,7 @@ const HALF: i64 = 1 << 49;
 /// `add | VARS | FACT..`: the facts, each added at the end.
 pub fn add_case(alloc: Global, given: &[&str]) -> Answer {
     let [vars, known] = given else {
-        return Err(Wrong::Malformed);
+        return Err(CaseFault::Malformed("not add | VARS | FACT.. | WANTED"));
     };
     let facts = facts_of(alloc, word(vars)?, known)?;
     Ok(shown(alloc, &facts)?)
@@ -22,7 +22,7 @@ pub fn add_case(alloc: Global, given: &[&str]) -> Answer {
 /// `forget | VARS | FACT.. | X`: the facts that are left without those that name X.
 pub fn forget_case(alloc: Global, given: &[&str]) -> Answer {
     let [vars, known, x] = given else {
-        return Err(Wrong::Malformed);
+        return Err(CaseFault::Malformed("not forget | VARS | FACT.. | X | WANTED"));
     };
     let mut facts = facts_of(alloc, word(vars)?, known)?;
     forget(&mut facts, word(x)?);
@@ -32,19 +32,19 @@ pub fn forget_case(alloc: Global, given: &[&str]) -> Answer {
 /// `shift | VARS | FACT.. | X | C`: the facts after X has grown by C. The numbers are within 2^49 either way.
 pub fn shift_case(alloc: Global, given: &[&str]) -> Answer {
     let [vars, known, x, c] = given else {
-        return Err(Wrong::Malformed);
+        return Err(CaseFault::Malformed("not shift | VARS | FACT.. | X | C | WANTED"));
     };
     let mut facts = facts_of(alloc, word(vars)?, known)?;
     shift_small(&mut facts, word(x)?, number(c)?)?;
     Ok(shown(alloc, &facts)?)
 }
 
-fn shift_small(facts: &mut Facts, x: u32, c: i64) -> Result<(), Wrong> {
+fn shift_small(facts: &mut Facts, x: u32, c: i64) -> Result<(), CaseFault> {
     if -HALF <= c && c <= HALF && are_small(facts.list.as_slice()) {
         shift(facts, x, c);
         return Ok(());
     }
-    Err(Wrong::Malformed)
+    Err(CaseFault::Malformed("a number beyond 2^49"))
 }
 
 /// Whether each number is within 2^49 either way.

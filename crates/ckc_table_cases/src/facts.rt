@@ -3,8 +3,8 @@
 ghost use Rattle.std.specs.Prelude.{◌^◌, ◌<◌, IsTrue};
 ghost use Rattle.ckc_linear.specs.Facts.{IsInRange, IsWithin};
 
-use crate::fields::{Wrong, number, put, word, words_of};
 use ckc_base::Seq;
+use ckc_case_lines::{CaseFault, number, put, word, words_of};
 use ckc_linear::{Fact, Facts, add};
 use std::alloc::{AllocError, Global};
 
@@ -12,7 +12,7 @@ use std::alloc::{AllocError, Global};
 const LIMIT: i64 = 1 << 50;
 
 /// The facts that a field spells over variables below `vars`.
-pub fn facts_of(alloc: Global, vars: u32, field: &str) -> Result<Facts, Wrong> {
+pub fn facts_of(alloc: Global, vars: u32, field: &str) -> Result<Facts, CaseFault> {
     let mut facts = no_facts(alloc, vars)?;
     for word in words_of(alloc, field)?.as_slice() {
         add_word(&mut facts, word)?;
@@ -21,9 +21,9 @@ pub fn facts_of(alloc: Global, vars: u32, field: &str) -> Result<Facts, Wrong> {
 }
 
 /// No facts, over at most 1,024 variables.
-pub fn no_facts(alloc: Global, vars: u32) -> Result<Facts, Wrong> {
+pub fn no_facts(alloc: Global, vars: u32) -> Result<Facts, CaseFault> {
     if vars > 1024 {
-        return Err(Wrong::Malformed);
+        return Err(CaseFault::Malformed("more than 1,024 variables"));
     }
     Ok(Facts {
         vars,
@@ -32,8 +32,10 @@ pub fn no_facts(alloc: Global, vars: u32) -> Result<Facts, Wrong> {
 }
 
 /// Adds the fact or the facts of a word.
-fn add_word(facts: &mut Facts, text: &str) -> Result<(), Wrong> {
-    let (variables, c) = text.split_once("<=").ok_or(Wrong::Malformed)?;
+fn add_word(facts: &mut Facts, text: &str) -> Result<(), CaseFault> {
+    let (variables, c) = text
+        .split_once("<=")
+        .ok_or(CaseFault::Malformed("a fact without <="))?;
     let c = number(c)?;
     match variables.split_once("..") {
         Some((from, to)) => add_run(facts, word(from)?, word(to)?, c),
@@ -41,7 +43,7 @@ fn add_word(facts: &mut Facts, text: &str) -> Result<(), Wrong> {
     }
 }
 
-fn add_run(facts: &mut Facts, from: u32, to: u32, c: i64) -> Result<(), Wrong> {
+fn add_run(facts: &mut Facts, from: u32, to: u32, c: i64) -> Result<(), CaseFault> {
     let vars = facts.vars;
     for x in from..to {
         let next = x.wrapping_add(1);
@@ -52,9 +54,9 @@ fn add_run(facts: &mut Facts, from: u32, to: u32, c: i64) -> Result<(), Wrong> {
 }
 
 /// Adds a fact in range.
-pub fn add_one(facts: &mut Facts, f: Fact) -> Result<(), Wrong> {
+pub fn add_one(facts: &mut Facts, f: Fact) -> Result<(), CaseFault> {
     if !is_in_range(facts.vars, f) {
-        return Err(Wrong::Malformed);
+        return Err(CaseFault::Malformed("a fact out of range"));
     }
     add(facts, f)?;
     Ok(())
@@ -68,9 +70,13 @@ pub fn is_in_range(vars: u32, f: Fact) -> bool
 }
 
 /// The fact of a word `X-Y<=C`.
-pub fn fact(text: &str) -> Result<Fact, Wrong> {
-    let (variables, c) = text.split_once("<=").ok_or(Wrong::Malformed)?;
-    let (x, y) = variables.split_once('-').ok_or(Wrong::Malformed)?;
+pub fn fact(text: &str) -> Result<Fact, CaseFault> {
+    let (variables, c) = text
+        .split_once("<=")
+        .ok_or(CaseFault::Malformed("not a fact X-Y<=C"))?;
+    let (x, y) = variables
+        .split_once('-')
+        .ok_or(CaseFault::Malformed("not a fact X-Y<=C"))?;
     Ok(Fact {
         x: word(x)?,
         y: word(y)?,

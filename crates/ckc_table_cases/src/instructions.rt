@@ -1,11 +1,11 @@
 //! Instructions of RV32IM as text: the form, the operation and the fields, as `Imm(Addi, 3, 1, -2048)`.
 
-use crate::fields::{Wrong, byte, signed, word, words_of};
+use ckc_case_lines::{CaseFault, byte, signed, word, words_of};
 use ckc_rv::{BranchOp, ImmOp, Instr, LoadOp, RegOp, StoreOp};
 use std::alloc::Global;
 
 /// The instruction that a field spells. It may be out of range.
-pub fn instruction(alloc: Global, field: &str) -> Result<Instr, Wrong> {
+pub fn instruction(alloc: Global, field: &str) -> Result<Instr, CaseFault> {
     let words = words_of(alloc, field)?;
     match words.as_slice() {
         [form] => alone(form),
@@ -13,49 +13,49 @@ pub fn instruction(alloc: Global, field: &str) -> Result<Instr, Wrong> {
         [form, a, b] => with_two(form, a, b),
         [form, a, b, c] => with_three(form, a, b, c),
         [form, op, a, b, c] => with_operation(form, op, a, b, c),
-        _ => Err(Wrong::Malformed),
+        _ => Err(CaseFault::Malformed("not an instruction")),
     }
 }
 
-fn alone(form: &str) -> Result<Instr, Wrong> {
+fn alone(form: &str) -> Result<Instr, CaseFault> {
     match form {
         "Ecall" => Ok(Instr::Ecall),
         "Ebreak" => Ok(Instr::Ebreak),
-        _ => Err(Wrong::Malformed),
+        _ => Err(CaseFault::Malformed("not an instruction")),
     }
 }
 
-fn with_one(form: &str, a: &str) -> Result<Instr, Wrong> {
+fn with_one(form: &str, a: &str) -> Result<Instr, CaseFault> {
     match form {
         "Fence" => Ok(Instr::Fence(byte(a)?)),
-        _ => Err(Wrong::Malformed),
+        _ => Err(CaseFault::Malformed("not an instruction")),
     }
 }
 
-fn with_two(form: &str, a: &str, b: &str) -> Result<Instr, Wrong> {
+fn with_two(form: &str, a: &str, b: &str) -> Result<Instr, CaseFault> {
     let rd = byte(a)?;
     match form {
         "Lui" => Ok(Instr::Lui(rd, word(b)?)),
         "Auipc" => Ok(Instr::Auipc(rd, word(b)?)),
         "Jal" => Ok(Instr::Jal(rd, signed(b)?)),
-        _ => Err(Wrong::Malformed),
+        _ => Err(CaseFault::Malformed("not an instruction")),
     }
 }
 
-fn with_three(form: &str, a: &str, b: &str, c: &str) -> Result<Instr, Wrong> {
+fn with_three(form: &str, a: &str, b: &str, c: &str) -> Result<Instr, CaseFault> {
     match form {
         "Jalr" => Ok(Instr::Jalr(byte(a)?, byte(b)?, signed(c)?)),
-        _ => Err(Wrong::Malformed),
+        _ => Err(CaseFault::Malformed("not an instruction")),
     }
 }
 
-fn with_operation(form: &str, op: &str, a: &str, b: &str, c: &str) -> Result<Instr, Wrong> {
+fn with_operation(form: &str, op: &str, a: &str, b: &str, c: &str) -> Result<Instr, CaseFault> {
     let a = byte(a)?;
     let b = byte(b)?;
     let c = signed(c)?;
     match operation(form, op, a, b, c) {
         Some(i) => Ok(i),
-        None => Err(Wrong::Malformed),
+        None => Err(CaseFault::Malformed("not an instruction")),
     }
 }
 

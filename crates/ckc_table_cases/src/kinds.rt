@@ -1,19 +1,22 @@
 //! The kinds of cases.
 
-use crate::fields::{Answer, Wrong};
-use crate::{arithmetic, chains, changes, images, layouts, lists, objects, walks, words};
+use crate::{arithmetic, chains, changes, images, layouts, lists, walks, words};
+use ckc_case_lines::{Answer, CaseFault, Judge, text_of, texts_of};
 use std::alloc::Global;
-use std::rt::Files;
 
-/// What comes of a case with this kind and these fields.
-pub fn answer(rt: &(impl Files + AllocGlobal), kind: &str, given: &[&str]) -> Answer {
-    match kind {
-        "store" => objects::store_case(rt, given),
-        _ => of_values(rt.alloc(), kind, given),
+/// What the small crates answer.
+pub struct Tables;
+
+impl Judge for Tables {
+    fn answer(&self, alloc: Global, kind: &[u8], given: &[Vec<u8>]) -> Result<Vec<u8>, CaseFault> {
+        let given = texts_of(alloc, given)?;
+        let came = answer(alloc, text_of(kind)?, given.as_slice())?;
+        Ok(came.into_bytes())
     }
 }
 
-fn of_values(alloc: Global, kind: &str, given: &[&str]) -> Answer {
+/// What comes of a case with this kind and these fields.
+fn answer(alloc: Global, kind: &str, given: &[&str]) -> Answer {
     match kind {
         "word" => words::word_case(alloc, given),
         "range" => words::range_case(alloc, given),
@@ -33,11 +36,6 @@ fn of_values(alloc: Global, kind: &str, given: &[&str]) -> Answer {
         "repeated" => layouts::repeated_case(alloc, given),
         "read" => images::read_case(alloc, given),
         "write" => images::write_case(alloc, given),
-        "source" => objects::source_case(alloc, given),
-        "sink" => objects::sink_case(alloc, given),
-        "memory-source" => objects::memory_source_case(alloc, given),
-        "memory-sink" => objects::memory_sink_case(alloc, given),
-        "memory-store" => objects::memory_store_case(alloc, given),
-        _ => Err(Wrong::Malformed),
+        _ => Err(CaseFault::Malformed("an unknown kind")),
     }
 }

@@ -1,8 +1,8 @@
 //! How types lie in memory.
 
-use crate::fields::{Answer, Wrong, put, word, words_of};
 use crate::structures::{has_member, is_laid_out, structs_of};
 use ckc_base::Boxed;
+use ckc_case_lines::{Answer, CaseFault, put, word, words_of};
 use ckc_types::{CType, Kind, Structs, align, offset, size};
 use std::alloc::Global;
 
@@ -10,7 +10,7 @@ use std::alloc::Global;
 /// offset of each member.
 pub fn struct_case(alloc: Global, given: &[&str]) -> Answer {
     let [letters] = given else {
-        return Err(Wrong::Malformed);
+        return Err(CaseFault::Malformed("not struct | LETTERS | WANTED"));
     };
     let structs = structs_of(alloc, letters, 1)?;
     let (bytes, step) = layout(&structs, &CType::Struct(1))?;
@@ -28,7 +28,7 @@ pub fn struct_case(alloc: Global, given: &[&str]) -> Answer {
 /// said, and the offset of the member with this name, from 5 for the first.
 pub fn repeated_case(alloc: Global, given: &[&str]) -> Answer {
     let [letters, times, name] = given else {
-        return Err(Wrong::Malformed);
+        return Err(CaseFault::Malformed("not repeated | LETTERS | TIMES | NAME | WANTED"));
     };
     let structs = structs_of(alloc, letters, word(times)?)?;
     let (bytes, step) = layout(&structs, &CType::Struct(1))?;
@@ -41,7 +41,7 @@ pub fn repeated_case(alloc: Global, given: &[&str]) -> Answer {
 /// stands before it. `struct0` has two of `unsigned` and a `char`, `struct1` a `char`.
 pub fn type_case(alloc: Global, given: &[&str]) -> Answer {
     let [text] = given else {
-        return Err(Wrong::Malformed);
+        return Err(CaseFault::Malformed("not type | BASE KIND.. | WANTED"));
     };
     let structs = structs_of(alloc, "c", 1)?;
     let t = type_of(alloc, text)?;
@@ -49,7 +49,7 @@ pub fn type_case(alloc: Global, given: &[&str]) -> Answer {
     Ok(format!(in alloc; "{bytes} {step}")?)
 }
 
-fn type_of(alloc: Global, text: &str) -> Result<CType, Wrong> {
+fn type_of(alloc: Global, text: &str) -> Result<CType, CaseFault> {
     let words = words_of(alloc, text)?;
     match words.as_slice() {
         [base] => base_of(base),
@@ -58,11 +58,11 @@ fn type_of(alloc: Global, text: &str) -> Result<CType, Wrong> {
             let to = Boxed::new(alloc, base_of(base)?)?;
             Ok(CType::Pointer(kind, to))
         }
-        _ => Err(Wrong::Malformed),
+        _ => Err(CaseFault::Malformed("not BASE or BASE KIND")),
     }
 }
 
-fn base_of(name: &str) -> Result<CType, Wrong> {
+fn base_of(name: &str) -> Result<CType, CaseFault> {
     match name {
         "int" => Ok(CType::Int),
         "unsigned" => Ok(CType::Unsigned),
@@ -70,32 +70,32 @@ fn base_of(name: &str) -> Result<CType, Wrong> {
         "void" => Ok(CType::Void),
         "struct0" => Ok(CType::Struct(0)),
         "struct1" => Ok(CType::Struct(1)),
-        _ => Err(Wrong::Malformed),
+        _ => Err(CaseFault::Malformed("an unknown base")),
     }
 }
 
-fn kind_of(name: &str) -> Result<Kind, Wrong> {
+fn kind_of(name: &str) -> Result<Kind, CaseFault> {
     match name {
         "Raw" => Ok(Kind::Raw),
         "One" => Ok(Kind::One),
         "Arr" => Ok(Kind::Arr),
         "Nt" => Ok(Kind::Nt),
-        _ => Err(Wrong::Malformed),
+        _ => Err(CaseFault::Malformed("an unknown kind of pointer")),
     }
 }
 
 /// The size and the alignment of a type that has a layout.
-fn layout(structs: &Structs, t: &CType) -> Result<(u32, u32), Wrong> {
+fn layout(structs: &Structs, t: &CType) -> Result<(u32, u32), CaseFault> {
     if !is_laid_out(structs, t) {
-        return Err(Wrong::Malformed);
+        return Err(CaseFault::Malformed("no layout"));
     }
     Ok((size(structs, t), align(structs, t)))
 }
 
 /// Puts the offset of a member of the second structure.
-fn put_offset(structs: &Structs, name: u32, line: &mut String) -> Result<(), Wrong> {
+fn put_offset(structs: &Structs, name: u32, line: &mut String) -> Result<(), CaseFault> {
     if !has_member(structs, 1, name) {
-        return Err(Wrong::Malformed);
+        return Err(CaseFault::Malformed("no such member"));
     }
     let at = offset(structs, 1, name);
     write!(line, " {at}")?;

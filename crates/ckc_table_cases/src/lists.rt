@@ -1,14 +1,14 @@
 //! Lists and boxes.
 
-use crate::fields::{Answer, Wrong, put, word, words_of};
 use ckc_base::{Boxed, Bytes, Seq};
+use ckc_case_lines::{Answer, CaseFault, put, word, words_of};
 use std::alloc::{AllocError, Global};
 
 /// `list | TEXT | STEP..`: what the steps give on the list of the bytes of the text: `+C` pushes the byte C, `-` pops, `@N`
 /// gets the byte N, `len` counts, `slice` shows all bytes. At the end come the bytes of the list's `Vec`.
 pub fn list_case(alloc: Global, given: &[&str]) -> Answer {
     let [text, steps] = given else {
-        return Err(Wrong::Malformed);
+        return Err(CaseFault::Malformed("not list | TEXT | STEP.. | WANTED"));
     };
     let steps = words_of(alloc, steps)?;
     let mut bytes: Bytes = Seq::from_slice(alloc, text.as_bytes())?;
@@ -20,7 +20,7 @@ pub fn list_case(alloc: Global, given: &[&str]) -> Answer {
     Ok(came)
 }
 
-fn do_step(bytes: &mut Bytes, step: &str, came: &mut String) -> Result<(), Wrong> {
+fn do_step(bytes: &mut Bytes, step: &str, came: &mut String) -> Result<(), CaseFault> {
     match step.as_bytes() {
         [b'+', byte] => bytes.push(*byte)?,
         [b'-'] => put_byte(came, bytes.pop())?,
@@ -30,7 +30,7 @@ fn do_step(bytes: &mut Bytes, step: &str, came: &mut String) -> Result<(), Wrong
         }
         b"len" => put_length(came, bytes.len())?,
         b"slice" => put_bytes(came, bytes.as_slice())?,
-        _ => return Err(Wrong::Malformed),
+        _ => return Err(CaseFault::Malformed("an unknown step")),
     }
     Ok(())
 }
@@ -58,7 +58,7 @@ fn put_bytes(came: &mut String, bytes: &[u8]) -> Result<(), AllocError> {
 /// `empty`: whether a new list of words is empty, and what it pops.
 pub fn empty_case(alloc: Global, given: &[&str]) -> Answer {
     if !given.is_empty() {
-        return Err(Wrong::Malformed);
+        return Err(CaseFault::Malformed("not empty | WANTED"));
     }
     let mut list: Seq<u32> = Seq::new(alloc);
     let is_empty = list.is_empty();
@@ -69,7 +69,7 @@ pub fn empty_case(alloc: Global, given: &[&str]) -> Answer {
 /// `boxed | WORD`: what a box shows, and what it gives back.
 pub fn boxed_case(alloc: Global, given: &[&str]) -> Answer {
     let [text] = given else {
-        return Err(Wrong::Malformed);
+        return Err(CaseFault::Malformed("not boxed | WORD | WANTED"));
     };
     let boxed = Boxed::new(alloc, word(text)?)?;
     let shown = *boxed.get();

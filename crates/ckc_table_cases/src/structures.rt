@@ -6,14 +6,14 @@ ghost use Rattle.ckc_types.specs.Scalars.{IsScalar};
 ghost use Rattle.ckc_types.specs.Layout.{members_of};
 ghost use Rattle.ckc_types.specs.LaidOut.{IsStruct, IsLaidOut, HasMember};
 
-use crate::fields::Wrong;
 use ckc_base::{Boxed, Seq};
+use ckc_case_lines::CaseFault;
 use ckc_types::{CType, Kind, MemberBounds, MemberShape, StructShape, Structs};
 use std::alloc::{AllocError, Global};
 
 /// Two structures: the first has an `unsigned`, one more and a `char`, the second a member for each letter, named from 5
 /// up, as often as is said.
-pub fn structs_of(alloc: Global, letters: &str, times: u32) -> Result<Structs, Wrong> {
+pub fn structs_of(alloc: Global, letters: &str, times: u32) -> Result<Structs, CaseFault> {
     let mut structs = Structs {
         shapes: Seq::new(alloc),
     };
@@ -22,7 +22,7 @@ pub fn structs_of(alloc: Global, letters: &str, times: u32) -> Result<Structs, W
     Ok(structs)
 }
 
-fn add(alloc: Global, structs: &mut Structs, letters: &[u8], times: u32) -> Result<(), Wrong> {
+fn add(alloc: Global, structs: &mut Structs, letters: &[u8], times: u32) -> Result<(), CaseFault> {
     let mut members = Seq::new(alloc);
     let mut name: u32 = 5;
     for _ in 0..times {
@@ -36,13 +36,13 @@ fn add(alloc: Global, structs: &mut Structs, letters: &[u8], times: u32) -> Resu
 }
 
 /// `c` is `char`, `u` is `unsigned`, `i` is `int` and `p` is a pointer.
-fn member(alloc: Global, name: u32, letter: u8) -> Result<MemberShape, Wrong> {
+fn member(alloc: Global, name: u32, letter: u8) -> Result<MemberShape, CaseFault> {
     let ctype = match letter {
         b'c' => CType::Char,
         b'u' => CType::Unsigned,
         b'i' => CType::Int,
         b'p' => CType::Pointer(Kind::Nt, Boxed::new(alloc, CType::Char)?),
-        _ => return Err(Wrong::Malformed),
+        _ => return Err(CaseFault::Malformed("an unknown letter")),
     };
     Ok(MemberShape {
         name,

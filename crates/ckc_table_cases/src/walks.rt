@@ -3,7 +3,7 @@ ghost use Rattle.std.specs.Prelude.{◌<◌};
 
 use crate::chains::says;
 use crate::facts::{add_one, no_facts, shown};
-use crate::fields::{Answer, Wrong, word};
+use ckc_case_lines::{Answer, CaseFault, word};
 use ckc_linear::{Fact, Facts};
 use std::alloc::Global;
 
@@ -11,7 +11,7 @@ use std::alloc::Global;
 /// LEAST and MOST questions have the answer yes.
 pub fn walks_case(alloc: Global, given: &[&str]) -> Answer {
     let [sets, least, most] = given else {
-        return Err(Wrong::Malformed);
+        return Err(CaseFault::Malformed("not walks | SETS | LEAST | MOST | WANTED"));
     };
     let mut state = 1;
     let mut yes: u32 = 0;
@@ -35,7 +35,7 @@ fn differs(alloc: Global, facts: &Facts, f: Fact) -> Answer {
 }
 
 /// Up to six facts over two to four variables, with numbers from -4 to 4.
-fn random_facts(alloc: Global, state: &mut u64) -> Result<Facts, Wrong> {
+fn random_facts(alloc: Global, state: &mut u64) -> Result<Facts, CaseFault> {
     let vars = 2 + next(state, 3);
     let mut facts = no_facts(alloc, vars)?;
     for _ in 0..next(state, 7) {
@@ -59,7 +59,7 @@ fn next(state: &mut u64, limit: u32) -> u32
 }
 
 /// The first fact, with a number from -8 to 8, for which chains and the search differ. Counts those that are entailed.
-fn differing(alloc: Global, facts: &Facts, yes: &mut u32) -> Result<Option<Fact>, Wrong> {
+fn differing(alloc: Global, facts: &Facts, yes: &mut u32) -> Result<Option<Fact>, CaseFault> {
     let mut row = vec![in alloc; 0; 2 * facts.vars as usize]?;
     for x in 0..facts.vars {
         for y in 0..facts.vars {

@@ -1,15 +1,16 @@
 //! Words and instructions of RV32IM.
 
-use crate::fields::{Answer, Wrong, word};
 use crate::instructions::instruction;
+use ckc_case_lines::{Answer, CaseFault, word};
 use ckc_rv::{Instr, Outcome, Regs, decode, effect, encode, in_range};
 use std::alloc::{AllocError, Global};
 
-/// `word | WORD`: its instruction, and which of the 32 words one bit beside it are instructions: bit k of the mask stands
+/// `word | WORD | ASSEMBLY`: its instruction, and which of the 32 words one bit beside it are instructions: bit k of the mask stands
 /// for the word with bit k turned. The instruction must be in range and have the word.
+/// The assembly is what the word was assembled from.
 pub fn word_case(alloc: Global, given: &[&str]) -> Answer {
-    let [text] = given else {
-        return Err(Wrong::Malformed);
+    let [text, _] = given else {
+        return Err(CaseFault::Malformed("not word | WORD | ASSEMBLY | WANTED"));
     };
     let w = word(text)?;
     let came = match decode(w) {
@@ -45,7 +46,7 @@ fn mask_of(w: u32) -> u32 {
 /// `range | INSTRUCTION`: whether its fields are in range.
 pub fn range_case(alloc: Global, given: &[&str]) -> Answer {
     let [text] = given else {
-        return Err(Wrong::Malformed);
+        return Err(CaseFault::Malformed("not range | INSTRUCTION | WANTED"));
     };
     let i = instruction(alloc, text)?;
     let came = if in_range(&i) {
@@ -59,7 +60,7 @@ pub fn range_case(alloc: Global, given: &[&str]) -> Answer {
 /// `effect | INSTRUCTION | X1 | X2`: what the instruction does at 0x1000, with these values of x1 and x2.
 pub fn effect_case(alloc: Global, given: &[&str]) -> Answer {
     let [text, first, second] = given else {
-        return Err(Wrong::Malformed);
+        return Err(CaseFault::Malformed("not effect | INSTRUCTION | X1 | X2 | WANTED"));
     };
     let i = instruction(alloc, text)?;
     let regs = registers(word(first)?, word(second)?);

@@ -1,7 +1,7 @@
 //! Sources, sinks and stores, in memory and over the system.
 
-use crate::fields::{Answer, Wrong, byte, count, put, words_of};
 use crate::scripts::{ScriptedReader, ScriptedWriter};
+use ckc_case_lines::{Answer, CaseFault, Judge, byte, count, put, text_of, texts_of, words_of};
 use ckc_outside::{
     Fetched, MemSink, MemSource, MemStore, RealSink, RealSource, RealStore, Sink, Source, Store,
     StoreError,
@@ -11,10 +11,38 @@ use std::fs;
 use std::io::Write;
 use std::rt::Files;
 
+/// What the objects answer. `rt` gives the files of a store.
+#[derive(Drop)]
+pub struct Objects<'a, R> {
+    pub rt: &'a R,
+}
+
+impl<R: Files + AllocGlobal> Judge for Objects<'_, R> {
+    fn answer(&self, alloc: Global, kind: &[u8], given: &[Vec<u8>]) -> Result<Vec<u8>, CaseFault> {
+        let given = texts_of(alloc, given)?;
+        let came = match kind {
+            b"store" => store_case(self.rt, given.as_slice())?,
+            _ => in_memory(alloc, text_of(kind)?, given.as_slice())?,
+        };
+        Ok(came.into_bytes())
+    }
+}
+
+fn in_memory(alloc: Global, kind: &str, given: &[&str]) -> Answer {
+    match kind {
+        "source" => source_case(alloc, given),
+        "sink" => sink_case(alloc, given),
+        "memory-source" => memory_source_case(alloc, given),
+        "memory-sink" => memory_sink_case(alloc, given),
+        "memory-store" => memory_store_case(alloc, given),
+        _ => Err(CaseFault::Malformed("an unknown kind")),
+    }
+}
+
 /// `source | READ..`: what a real source gives, call by call up to the end, over a reader that does what the words say.
-pub fn source_case(alloc: Global, given: &[&str]) -> Answer {
+fn source_case(alloc: Global, given: &[&str]) -> Answer {
     let [reads] = given else {
-        return Err(Wrong::Malformed);
+        return Err(CaseFault::Malformed("not source | READ.. | WANTED"));
     };
     let words = words_of(alloc, reads)?;
     let mut source = RealSource::new(ScriptedReader::new(words.as_slice()));
@@ -23,9 +51,9 @@ pub fn source_case(alloc: Global, given: &[&str]) -> Answer {
 
 /// `memory-source | BYTE.. | CALL..`: what a source over the bytes gives, call by call up to the end. The calls that are
 /// listed fail.
-pub fn memory_source_case(alloc: Global, given: &[&str]) -> Answer {
+fn memory_source_case(alloc: Global, given: &[&str]) -> Answer {
     let [bytes, calls] = given else {
-        return Err(Wrong::Malformed);
+        return Err(CaseFault::Malformed("not memory-source | BYTE.. | CALL.. | WANTED"));
     };
     let bytes = bytes_in(alloc, bytes)?;
     let calls = calls_in(alloc, calls)?;
@@ -33,7 +61,7 @@ pub fn memory_source_case(alloc: Global, given: &[&str]) -> Answer {
     Ok(all_of(alloc, &mut source)?)
 }
 
-fn bytes_in(alloc: Global, field: &str) -> Result<Vec<u8>, Wrong> {
+fn bytes_in(alloc: Global, field: &str) -> Result<Vec<u8>, CaseFault> {
     let mut bytes = Vec::new(alloc);
     for word in words_of(alloc, field)?.as_slice() {
         bytes.push(byte(word)?)?;
@@ -41,7 +69,7 @@ fn bytes_in(alloc: Global, field: &str) -> Result<Vec<u8>, Wrong> {
     Ok(bytes)
 }
 
-fn calls_in(alloc: Global, field: &str) -> Result<Vec<u64>, Wrong> {
+fn calls_in(alloc: Global, field: &str) -> Result<Vec<u64>, CaseFault> {
     let mut calls = Vec::new(alloc);
     for word in words_of(alloc, field)?.as_slice() {
         calls.push(count(word)?)?;
@@ -72,9 +100,9 @@ fn put_byte(line: &mut String, b: u8) -> Result<(), AllocError> {
 
 /// `sink | WRITE.. | PIECE..`: what a real sink answers for each piece, and the bytes that came, over a writer that does
 /// what the words say.
-pub fn sink_case(alloc: Global, given: &[&str]) -> Answer {
+fn sink_case(alloc: Global, given: &[&str]) -> Answer {
     let [writes, pieces] = given else {
-        return Err(Wrong::Malformed);
+        return Err(CaseFault::Malformed("not sink | WRITE.. | PIECE.. | WANTED"));
     };
     let words = words_of(alloc, writes)?;
     let mut writer = ScriptedWriter::new(words.as_slice(), Vec::new(alloc));
@@ -87,9 +115,9 @@ pub fn sink_case(alloc: Global, given: &[&str]) -> Answer {
 
 /// `memory-sink | ROOM | CALL.. | PIECE..`: what a sink with room for so many bytes answers for each piece, and the bytes
 /// that came. The calls that are listed fail.
-pub fn memory_sink_case(alloc: Global, given: &[&str]) -> Answer {
+fn memory_sink_case(alloc: Global, given: &[&str]) -> Answer {
     let [size, calls, pieces] = given else {
-        return Err(Wrong::Malformed);
+        return Err(CaseFault::Malformed("not memory-sink | ROOM | CALL.. | PIECE.. | WANTED"));
     };
     let mut room = vec![in alloc; 0u8; usize::from(byte(size)?)]?;
     let calls = calls_in(alloc, calls)?;
@@ -119,9 +147,9 @@ fn put_text(line: &mut String, bytes: &[u8]) -> Result<(), AllocError> {
 
 /// `memory-store | CALL.. | STEP, STEP..`: what a store answers for each step `fetch NAME LIMIT` or `keep NAME TEXT`.
 /// `set NAME TEXT` puts a file there. The calls that are listed fail.
-pub fn memory_store_case(alloc: Global, given: &[&str]) -> Answer {
+fn memory_store_case(alloc: Global, given: &[&str]) -> Answer {
     let [calls, steps] = given else {
-        return Err(Wrong::Malformed);
+        return Err(CaseFault::Malformed("not memory-store | CALL.. | STEP, STEP.. | WANTED"));
     };
     let calls = calls_in(alloc, calls)?;
     let mut store = MemStore::new(alloc, calls.as_slice());
@@ -137,9 +165,9 @@ pub fn memory_store_case(alloc: Global, given: &[&str]) -> Answer {
 
 /// `store | STEP, STEP..`: what the store of files answers for each step `fetch NAME LIMIT` or `keep NAME TEXT`. `remove
 /// NAME` removes a file.
-pub fn store_case(rt: &(impl Files + AllocGlobal), given: &[&str]) -> Answer {
+fn store_case(rt: &(impl Files + AllocGlobal), given: &[&str]) -> Answer {
     let [steps] = given else {
-        return Err(Wrong::Malformed);
+        return Err(CaseFault::Malformed("not store | STEP, STEP.. | WANTED"));
     };
     let mut store = RealStore::new(rt);
     let mut line = String::new(rt.alloc());
@@ -152,10 +180,10 @@ pub fn store_case(rt: &(impl Files + AllocGlobal), given: &[&str]) -> Answer {
     Ok(line)
 }
 
-fn remove(rt: &impl Files, name: &str) -> Result<(), Wrong> {
+fn remove(rt: &impl Files, name: &str) -> Result<(), CaseFault> {
     match fs::remove_file(rt, name) {
         Ok(()) => Ok(()),
-        Err(_) => Err(Wrong::Malformed),
+        Err(_) => Err(CaseFault::Malformed("a file that cannot be removed")),
     }
 }
 
@@ -164,7 +192,7 @@ fn do_step<S: Store>(
     store: &mut S,
     step: &[&str],
     line: &mut String,
-) -> Result<(), Wrong> {
+) -> Result<(), CaseFault> {
     match step {
         ["fetch", name, limit] => {
             let fetched = store.fetch(alloc, name, count(limit)?);
@@ -174,7 +202,7 @@ fn do_step<S: Store>(
             Ok(()) => put(line, "ok")?,
             Err(e) => put(line, named(e))?,
         },
-        _ => return Err(Wrong::Malformed),
+        _ => return Err(CaseFault::Malformed("an unknown step")),
     }
     Ok(())
 }

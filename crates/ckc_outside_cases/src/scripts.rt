@@ -2,7 +2,7 @@
 
 ghost use Rattle.std.specs.Prelude.{◌≤◌, length, IfOk};
 
-use crate::fields::byte;
+use ckc_case_lines::byte;
 use std::io;
 use std::io::{ErrorKind, Read, Write};
 
