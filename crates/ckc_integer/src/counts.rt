@@ -1,0 +1,125 @@
+//! How deep expressions are and how many nodes there are, up to 2^64 - 1.
+ghost use Rattle.std.specs.Prelude.{◌≡◌, ◌+◌, map};
+ghost use Rattle.ckc_source.specs.Code.{expr_of, right_of, code_of};
+ghost use Rattle.ckc_checks.specs.IntegerForm.{depth, expr_nodes, exprs_nodes, right_nodes, code_nodes};
+ghost use Rattle.ckc_integer.specs.Capped.{capped};
+
+use ckc_source::{ExprTree, RightTree, StmtTree};
+
+/// How many nodes the longest path down an expression has.
+pub fn depth(e: &ExprTree) -> u64
+    ensures { result ≡ capped (depth (expr_of e.now)) }
+{
+    match e {
+        ExprTree::Binary(_, _, _, a, b) | ExprTree::And(a, b) | ExprTree::Or(a, b) => {
+            let left = depth(a.get());
+            let right = depth(b.get());
+            left.max(right).saturating_add(1)
+        }
+        ExprTree::Choice(c, a, b) => {
+            let condition = depth(c.get());
+            let one = depth(a.get());
+            let two = depth(b.get());
+            condition.max(one.max(two)).saturating_add(1)
+        }
+        ExprTree::Narrow(inner) => depth(inner.get()).saturating_add(1),
+        ExprTree::Number(_)
+        | ExprTree::Local(_)
+        | ExprTree::Limited(_, _)
+        | ExprTree::Array(_, _)
+        | ExprTree::Load(_, _, _, _)
+        | ExprTree::Member(_, _, _, _, _)
+        | ExprTree::Address(_, _, _, _)
+        | ExprTree::Moved(_, _, _)
+        | ExprTree::Added(_, _, _)
+        | ExprTree::Bare(_)
+        | ExprTree::Tested(_, _, _, _, _)
+        | ExprTree::Trusted(_, _, _, _) => 1,
+    }
+}
+
+/// How many nodes an expression has.
+fn expr_nodes(e: &ExprTree) -> u64
+    ensures { result ≡ capped (expr_nodes (expr_of e.now)) }
+{
+    match e {
+        ExprTree::Binary(_, _, _, a, b) | ExprTree::And(a, b) | ExprTree::Or(a, b) => {
+            let left = expr_nodes(a.get());
+            let right = expr_nodes(b.get());
+            left.saturating_add(right).saturating_add(1)
+        }
+        ExprTree::Choice(c, a, b) => {
+            let condition = expr_nodes(c.get());
+            let one = expr_nodes(a.get());
+            let two = expr_nodes(b.get());
+            condition
+                .saturating_add(one.saturating_add(two))
+                .saturating_add(1)
+        }
+        ExprTree::Narrow(inner) => expr_nodes(inner.get()).saturating_add(1),
+        ExprTree::Number(_)
+        | ExprTree::Local(_)
+        | ExprTree::Limited(_, _)
+        | ExprTree::Array(_, _)
+        | ExprTree::Load(_, _, _, _)
+        | ExprTree::Member(_, _, _, _, _)
+        | ExprTree::Address(_, _, _, _)
+        | ExprTree::Moved(_, _, _)
+        | ExprTree::Added(_, _, _)
+        | ExprTree::Bare(_)
+        | ExprTree::Tested(_, _, _, _, _)
+        | ExprTree::Trusted(_, _, _, _) => 1,
+    }
+}
+
+/// How many nodes expressions have.
+fn exprs_nodes(es: &[ExprTree]) -> u64
+    ensures { result ≡ capped (exprs_nodes (map expr_of es.now)) }
+{
+    let mut count = 0u64;
+    let mut i = es.len();
+    while i > 0 {
+        i -= 1;
+        let here = expr_nodes(&es[i]);
+        count = here.saturating_add(count);
+    }
+    count
+}
+
+/// How many nodes the right side of an assignment has.
+fn right_nodes(right: &RightTree) -> u64
+    ensures { result ≡ capped (right_nodes (right_of right.now)) }
+{
+    match right {
+        RightTree::Value(e) => expr_nodes(e.get()),
+        RightTree::Fresh(_, _) => 0,
+    }
+}
+
+/// How many nodes statements have.
+pub fn code_nodes(stmts: &[StmtTree]) -> u64
+    ensures { result ≡ capped (code_nodes (code_of stmts.now)) }
+{
+    let mut count = 0u64;
+    let mut i = stmts.len();
+    while i > 0 {
+        i -= 1;
+        let here = match &stmts[i] {
+            StmtTree::Assign(_, a) => right_nodes(&a.get().right),
+            StmtTree::Put(_, _, e) | StmtTree::Return(_, e) | StmtTree::Check(_, e) => {
+                expr_nodes(e.get())
+            }
+            StmtTree::Call(_, _, _, es) => exprs_nodes(es.as_slice()),
+            StmtTree::If(_, e, one, two) | StmtTree::Loop(_, e, one, two) => {
+                let condition = expr_nodes(e.get());
+                let first = code_nodes(one.as_slice());
+                let second = code_nodes(two.as_slice());
+                condition.saturating_add(first.saturating_add(second))
+            }
+            StmtTree::Bundle(_, _) | StmtTree::Get(_, _) => 0,
+            StmtTree::Break | StmtTree::Continue => 0,
+        };
+        count = here.saturating_add(count).saturating_add(1);
+    }
+    count
+}
