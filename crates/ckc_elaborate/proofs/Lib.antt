@@ -1,3 +1,5 @@
 pub mod Turns
 pub mod Blocks
 pub mod Acts
+pub mod There
+pub mod Laid
