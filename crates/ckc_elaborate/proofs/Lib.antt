@@ -3,3 +3,4 @@ pub mod Blocks
 pub mod Acts
 pub mod There
 pub mod Laid
+pub mod Kept

@@ -19,11 +19,15 @@ step true m k d f = omega arith
 step false m k (inl e) f = absurd (false_is_true e)
 step false m k (inr x) f = let l : m < k = f x in omega arith
 
+other : {X : Type 0} → ◌≡◌ {A = Bool} false true ⊎ X → X
+other (inl e) = absurd (false_is_true e)
+other (inr x) = x
+
 pub is_there : (p : Typed) (n : Name) (items : List NotedItem) → IsDefined n items → number_of n items < length (flat_map (functions_in p) items)
 is_there p n [] d = absurd d
 is_there p n (item.Function h body ∷ rest) d = step (same_name h.name n) (number_of n rest) (length (flat_map (functions_in p) rest)) d (is_there p n rest)
-is_there p n (item.Directive i ∷ rest) d = is_there p n rest d
-is_there p n (item.Tag t at ∷ rest) d = is_there p n rest d
-is_there p n (item.Struct t ms at ∷ rest) d = is_there p n rest d
-is_there p n (item.Static s ∷ rest) d = is_there p n rest d
-is_there p n (item.Proto h ∷ rest) d = is_there p n rest d
+is_there p n (item.Directive i ∷ rest) d = is_there p n rest (other d)
+is_there p n (item.Tag t at ∷ rest) d = is_there p n rest (other d)
+is_there p n (item.Struct t ms at ∷ rest) d = is_there p n rest (other d)
+is_there p n (item.Static s ∷ rest) d = is_there p n rest (other d)
+is_there p n (item.Proto h ∷ rest) d = is_there p n rest (other d)
