@@ -1,3 +1,6 @@
 pub mod Turns
 pub mod Blocks
 pub mod Acts
+pub mod There
+pub mod Laid
+pub mod Kept

@@ -5,3 +5,4 @@ pub mod Statements
 pub mod Functions
 pub mod Objects
 pub mod Elaborated
+pub mod Sound

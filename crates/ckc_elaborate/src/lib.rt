@@ -10,6 +10,7 @@ ghost use Rattle.ckc_elaborate.specs.Elaborated.{elaborated};
 
 mod expressions;
 mod functions;
+pub mod laws;
 mod locals;
 mod names;
 mod objects;

@@ -1,0 +1,33 @@
+-- A function that is defined has a number below how many there are.
+use Rattle.std.proofs.Common.{◌≡◌, ◌<◌, ℕ, suc, ◌+◌, Bool, true, false, List, [], ◌∷◌, length, inl, inr, arith}
+use Rattle.std.specs.Prelude.{◌⊎◌, if◌then◌else◌}
+use Rattle.std.specs.List.{flat_map}
+use Rattle.ckc_syntax.specs.declared.tree.Name.{Name}
+use Rattle.ckc_syntax.specs.declared.tree.Item.TheVariants as item
+use Rattle.ckc_typed.specs.declared.typed.Typed.{Typed}
+use Rattle.ckc_typed.specs.Trees.{NotedItem}
+use Rattle.ckc_typed.specs.Environment.{same_name}
+use Rattle.ckc_elaborate.specs.Names.{number_of}
+use Rattle.ckc_elaborate.specs.Functions.{functions_in}
+use Rattle.ckc_elaborate.specs.Sound.{IsDefined}
+
+false_is_true : ◌≡◌ {A = Bool} false true → ⊥
+false_is_true e = cc
+
+step : {X : Type 0} (b : Bool) (m k : ℕ) → (b ≡ true) ⊎ X → (X → m < k) → (if b then 0 else m + 1) < suc k
+step true m k d f = omega arith
+step false m k (inl e) f = absurd (false_is_true e)
+step false m k (inr x) f = let l : m < k = f x in omega arith
+
+other : {X : Type 0} → ◌≡◌ {A = Bool} false true ⊎ X → X
+other (inl e) = absurd (false_is_true e)
+other (inr x) = x
+
+pub is_there : (p : Typed) (n : Name) (items : List NotedItem) → IsDefined n items → number_of n items < length (flat_map (functions_in p) items)
+is_there p n [] d = absurd d
+is_there p n (item.Function h body ∷ rest) d = step (same_name h.name n) (number_of n rest) (length (flat_map (functions_in p) rest)) d (is_there p n rest)
+is_there p n (item.Directive i ∷ rest) d = is_there p n rest (other d)
+is_there p n (item.Tag t at ∷ rest) d = is_there p n rest (other d)
+is_there p n (item.Struct t ms at ∷ rest) d = is_there p n rest (other d)
+is_there p n (item.Static s ∷ rest) d = is_there p n rest (other d)
+is_there p n (item.Proto h ∷ rest) d = is_there p n rest (other d)

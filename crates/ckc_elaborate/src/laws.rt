@@ -1,0 +1,32 @@
+//! What follows from the definitions, each the contract of a function that does nothing.
+
+ghost use Rattle.std.specs.Prelude.{◌≡◌, ◌<◌, length};
+ghost use Rattle.ckc_syntax.specs.declared.tree.Name.{Name};
+ghost use Rattle.ckc_syntax.specs.declared.tree.NamedText.{NamedText};
+ghost use Rattle.ckc_typed.specs.declared.typed.Typed.{Typed};
+ghost use Rattle.ckc_typing.specs.Objects.{LieApart};
+ghost use Rattle.ckc_typing.specs.Phase.{typing};
+ghost use Rattle.ckc_source.specs.LaidOut.{IsLaidOut};
+ghost use Rattle.ckc_elaborate.specs.Names.{number_of};
+ghost use Rattle.ckc_elaborate.specs.Elaborated.{elaborated};
+ghost use Rattle.ckc_elaborate.specs.Sound.{IsDefined, BeginAsBytes};
+
+/// The types phase keeps which functions are defined, and the number of `main`.
+pub fn functions_are_kept()
+    ensures kept { (t : NamedText) (p : Typed) (n : Name) → typing.Makes t p →
+        IsDefined n t.tree.items → IsDefined n p.tree.items }
+    ensures main { (t : NamedText) (p : Typed) → typing.Makes t p → p.main ≡ t.main }
+{}
+
+/// A function that is defined has a number of the program's functions, `main` too.
+pub fn functions_are_there()
+    ensures there { (p : Typed) (n : Name) → IsDefined n p.tree.items →
+        number_of n p.tree.items < length (elaborated p).functions }
+{}
+
+/// The objects of a program lie apart and begin as bytes, where the static objects of the typed text lie apart, as the
+/// types phase places them, and begin with bytes that they have room for.
+pub fn objects_are_laid_out()
+    ensures laid_out { (p : Typed) → LieApart p.layout p.statics →
+        BeginAsBytes p.layout p.statics → IsLaidOut (elaborated p) }
+{}
