@@ -3,11 +3,11 @@
 ghost use Rattle.ckc_base.specs.Outcomes.{AnswersOutcome};
 ghost use Rattle.ckc_resolve.specs.Expressions.{limits_named, node_named, expr_named, exprs_named, bounds_named};
 
-use crate::meanings::{named_meaning, named_member};
 use crate::names::Names;
+use crate::nodes;
 use crate::scopes::Scopes;
 use crate::types::named_type;
-use ckc_base::{Boxed, Bytes, Fault, Pos, Seq};
+use ckc_base::{Boxed, Fault, Pos, Seq};
 use ckc_syntax::{Expr, Limits, Name, Node, Spelling};
 use std::alloc::Global;
 
@@ -50,15 +50,9 @@ fn named_node<'a>(
 {
     match node {
         Node::Number(n, unsigned) => Ok(Node::Number(*n, *unsigned)),
-        Node::Text(bytes) => {
-            let copy = Bytes::from_slice(alloc, bytes.as_slice())?;
-            Ok(Node::Text(copy))
-        }
+        Node::Text(bytes) => nodes::text(alloc, bytes),
         Node::Null => Ok(Node::Null),
-        Node::Name(n) => {
-            let name = named_meaning(names, scopes, n, pos)?;
-            Ok(Node::Name(name))
-        }
+        Node::Name(n) => nodes::name(names, scopes, n, pos),
         Node::Un(op, e) => {
             let e = boxed_expr(alloc, names, scopes, e.get())?;
             Ok(Node::Un(*op, e))
@@ -81,23 +75,18 @@ fn named_node<'a>(
         }
         Node::Dot(e, n, at) => {
             let e = boxed_expr(alloc, names, scopes, e.get())?;
-            let member = named_member(names, n, *at)?;
-            Ok(Node::Dot(e, member, *at))
+            nodes::dot(names, e, n, *at)
         }
         Node::Arrow(e, n, at) => {
             let e = boxed_expr(alloc, names, scopes, e.get())?;
-            let member = named_member(names, n, *at)?;
-            Ok(Node::Arrow(e, member, *at))
+            nodes::arrow(names, e, n, *at)
         }
         Node::Cast(t, e) => {
             let t = named_type(alloc, names, t)?;
             let e = boxed_expr(alloc, names, scopes, e.get())?;
             Ok(Node::Cast(t, e))
         }
-        Node::Size(t) => {
-            let t = named_type(alloc, names, t)?;
-            Ok(Node::Size(t))
-        }
+        Node::Size(t) => nodes::sizeof(alloc, names, t),
         Node::Trusted(t, e, limits) => {
             let t = named_type(alloc, names, t)?;
             let e = boxed_expr(alloc, names, scopes, e.get())?;
@@ -111,15 +100,13 @@ fn named_node<'a>(
             Ok(Node::Tested(t, e, limits))
         }
         Node::Call(n, es) => {
-            let arguments = named_exprs(alloc, names, scopes, es.as_slice())?;
-            let called = named_meaning(names, scopes, n, pos)?;
-            Ok(Node::Call(called, arguments))
+            let args = named_exprs(alloc, names, scopes, es.as_slice())?;
+            nodes::call(names, scopes, n, pos, args)
         }
         Node::Calloc(t, e, u) => {
             let t = named_type(alloc, names, t)?;
             let e = boxed_expr(alloc, names, scopes, e.get())?;
-            let u = named_type(alloc, names, u)?;
-            Ok(Node::Calloc(t, e, u))
+            nodes::allocation(alloc, names, t, e, u)
         }
     }
 }

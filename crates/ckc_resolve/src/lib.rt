@@ -1,6 +1,7 @@
 //! The names of a tree: each is replaced by the declaration that it means (ISO C11, 6.2.1 and 6.2.3).
 #![tactic(auto)]
 
+mod acts;
 mod bodies;
 mod declarations;
 mod expressions;
@@ -10,6 +11,7 @@ mod laws;
 mod mains;
 mod meanings;
 mod names;
+mod nodes;
 mod refusals;
 mod scopes;
 mod spellings;

@@ -3,7 +3,8 @@
 ghost use Rattle.ckc_base.specs.Outcomes.{StepsOutcome};
 ghost use Rattle.ckc_resolve.specs.Statements.{act_named, stmt_named, stmts_named, part_named};
 
-use crate::declarations::{maybe_expr, named_local};
+use crate::acts;
+use crate::declarations::maybe_expr;
 use crate::expressions::boxed_expr;
 use crate::names::Names;
 use crate::scopes::Scopes;
@@ -31,20 +32,13 @@ pub fn named_act<'a>(
             scopes.close(mark);
             Ok(Act::Block(*mode, stmts))
         }
-        Act::Local(decl) => {
-            let local = named_local(alloc, names, scopes, decl.get())?;
-            let boxed = Boxed::new(alloc, local)?;
-            Ok(Act::Local(boxed))
-        }
+        Act::Local(decl) => acts::local(alloc, names, scopes, decl),
         Act::Assign(e, f) => {
             let target = boxed_expr(alloc, names, scopes, e.get())?;
             let value = boxed_expr(alloc, names, scopes, f.get())?;
             Ok(Act::Assign(target, value))
         }
-        Act::Call(e) => {
-            let call = boxed_expr(alloc, names, scopes, e.get())?;
-            Ok(Act::Call(call))
-        }
+        Act::Call(e) => acts::call(alloc, names, scopes, e),
         Act::If(e, s, t) => {
             let condition = boxed_expr(alloc, names, scopes, e.get())?;
             let then = boxed_stmt(alloc, names, scopes, s.get())?;
@@ -65,14 +59,8 @@ pub fn named_act<'a>(
             scopes.close(mark);
             Ok(Act::For(first, condition, step, body))
         }
-        Act::Return(e) => {
-            let value = maybe_expr(alloc, names, scopes, e)?;
-            Ok(Act::Return(value))
-        }
-        Act::Check(e) => {
-            let condition = boxed_expr(alloc, names, scopes, e.get())?;
-            Ok(Act::Check(condition))
-        }
+        Act::Return(e) => acts::result(alloc, names, scopes, e),
+        Act::Check(e) => acts::check(alloc, names, scopes, e),
         Act::Bundle(stmts) => {
             let stmts = named_stmts(alloc, names, scopes, stmts.as_slice())?;
             Ok(Act::Bundle(stmts))
