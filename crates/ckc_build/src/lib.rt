@@ -10,6 +10,6 @@ mod images;
 mod laws;
 
 pub use form::Program;
-pub use front::accept;
+pub use front::{accept, judge};
 pub use images::build;
-pub use laws::{is_exact, one_tree};
+pub use laws::{is_exact, judging_is_exact, one_tree};
