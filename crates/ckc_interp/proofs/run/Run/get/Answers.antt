@@ -1,0 +1,49 @@
+use Rattle.std.proofs.Common.{◌≡◌, ℕ, List, [], ◌∷◌, drop, Option, Some, Ok, inl, inr, refl, sym, ap, subst, ◌∙◌}
+use Rattle.ckc_outside.specs.Outside.{GivesNext, GivesNothing, after_next}
+use Rattle.ckc_source.specs.Steps.{writes_allowed}
+use Rattle.ckc_interp.specs.Turns.{Wrote}
+use Rattle.ckc_interp.specs.Views.{core_of}
+use Rattle.ckc_interp.proofs.Giving.{no_answer, one_answer, first_of, none_of, left_none}
+use Rattle.ckc_interp.proofs.run.Run.get.Goals as goal
+
+pub returns-in-Ok-Some-clause-gets : goal.returns-in-Ok-Some-clause-gets
+returns-in-Ok-Some-clause-gets g c =
+    let byte = c.in-Ok-Some.byte in
+    let some = c.in-Ok-Some.field-0-is in (
+      byte ∷ [],
+      record {
+        count = subst (λ (o : Option ℕ). g.S.Source.answers c.next.new.self ≡ after_next (Ok o) (g.S.Source.answers c.args.input.now)) some c.in-Ok-Some.ensures.answered ∙ one_answer _ byte;
+        none = λ t. absurd (subst (λ (o : Option ℕ). GivesNothing (Ok o)) some (c.in-Ok-Some.ensures.nothing t));
+        stays = c.next.ensures.stays;
+      },
+      λ before e.
+          let told = subst (λ (o : Option ℕ). GivesNext before (Ok o) (g.S.Source.left c.next.new.self)) some (c.in-Ok-Some.ensures.told before e) in
+          (drop 1 before, told.1, first_of before byte told.0),
+      λ rest may. inl (byte, refl, subst (λ (n : ℕ). Wrote (writes_allowed c.args.to n (core_of c.args.self.now)) (core_of c.wrote.new.self) c.args.marks.at c.args.marks.blame c.wrote.result) c.from.ensures c.wrote.ensures.done),
+    )
+
+pub returns-in-Ok-None-clause-gets : goal.returns-in-Ok-None-clause-gets
+returns-in-Ok-None-clause-gets g c =
+    let none = c.in-Ok-None.field-0-is in
+    let told = λ (before : List ℕ) (e : g.S.Source.left c.args.input.now ≡ Some before). subst (λ (o : Option ℕ). GivesNext before (Ok o) (g.S.Source.left c.next.new.self)) none (c.in-Ok-None.ensures.told before e) in (
+      [],
+      record {
+        count = subst (λ (o : Option ℕ). g.S.Source.answers c.next.new.self ≡ after_next (Ok o) (g.S.Source.answers c.args.input.now)) none c.in-Ok-None.ensures.answered ∙ no_answer _;
+        none = λ t. refl;
+        stays = c.next.ensures.stays;
+      },
+      λ before e.
+          let t = told before e in
+          (drop 1 before, t.1, let empty = none_of before t.0 in empty ∙ ap (drop 1) (sym empty)),
+      λ rest may.
+          let empty = left_none (g.S.Source.ended c.next.new.self) (g.S.Source.left c.args.input.now) (g.S.Source.left c.next.new.self) rest (c.in-Ok-None.ensures.end (ap (λ (o : Option ℕ). Ok o) none)) told may in
+          inr (inl (empty, empty, c.wrote-in-Ok-None.ensures.done)),
+    )
+
+pub returns-in-Err-clause-gets : goal.returns-in-Err-clause-gets
+returns-in-Err-clause-gets g c = (
+  [],
+  record { count = c.in-Err.ensures.answered ∙ no_answer _; none = λ t. refl; stays = c.next.ensures.stays },
+  λ before e. (before, c.in-Err.ensures.told before e, refl),
+  λ rest may. inr (inr (refl, refl)),
+)

@@ -1,0 +1,48 @@
+-- What a source gave and a sink was given in a run.
+use Rattle.std.specs.Prelude.{◌≡◌, ℕ, ◌≤◌, List, [], ◌∷◌, ◌++◌, take, Bool, IsTrue, Option, Some, None}
+use Rattle.std.specs.List.{flat_map}
+use Rattle.ckc_base.specs.Traces.{Event, Got, Put}
+use Rattle.ckc_outside.specs.Outside.{one_more}
+
+-- the byte that an event takes from the input
+abbrev pub got_byte : Event → List ℕ
+got_byte (Got (Some byte)) = byte ∷ []
+got_byte (Got None) = []
+got_byte (Put byte) = []
+
+-- the bytes that a trace takes, in order
+abbrev pub taken : List Event → List ℕ
+taken trace = flat_map got_byte trace
+
+-- a count of the bytes that a source gave, after these, one by one
+unfoldable pub after_answers : ℕ → List ℕ → ℕ
+after_answers n [] = n
+after_answers n (byte ∷ more) = after_answers (one_more n) more
+
+-- What a source gave: as many bytes as it counted, and none where it had ended. Where it had ended it stays so.
+pub record Gave (ended ended' : Bool) (answers answers' : ℕ) (more : List ℕ) : Type 0 where
+  pub count : answers' ≡ after_answers answers more
+  pub none : IsTrue ended → more ≡ []
+  pub stays : IsTrue ended → IsTrue ended'
+
+-- what may come behind the bytes that a source gave: anything, and nothing where it has ended
+abbrev pub MayCome : Bool → List ℕ → Type 0
+MayCome ended rest = IsTrue ended → rest ≡ []
+
+-- The source gave some bytes, and whatever may come behind them, something holds of what was left before, which is the
+-- bytes and what may come, and of what is left then.
+abbrev pub OverAny : Bool → Bool → ℕ → ℕ → (List ℕ → List ℕ → Type 0) → Type 0
+OverAny ended ended' answers answers' Holds =
+    (more : List ℕ) × Gave ended ended' answers answers' more × ((rest : List ℕ) → MayCome ended' rest → Holds (more ++ rest) rest)
+
+-- where what is left is told, something holds of what was left before and of what is left then
+abbrev pub WhereTold : Option (List ℕ) → Option (List ℕ) → (List ℕ → List ℕ → Type 0) → Type 0
+WhereTold told told' Holds = (before : List ℕ) → told ≡ Some before → (after : List ℕ) × (told' ≡ Some after) × Holds before after
+
+-- where what was written is told, these bytes came after it
+abbrev pub Printed : Option (List ℕ) → Option (List ℕ) → List ℕ → Type 0
+Printed old new bytes = (before : List ℕ) → old ≡ Some before → new ≡ Some (before ++ bytes)
+
+-- where what was written is told, a front of these bytes came after it, of at least so many
+abbrev pub PrintedFront : Option (List ℕ) → Option (List ℕ) → ℕ → List ℕ → Type 0
+PrintedFront old new least bytes = (before : List ℕ) → old ≡ Some before → (n : ℕ) × (least ≤ n) × (new ≡ Some (before ++ take n bytes))
