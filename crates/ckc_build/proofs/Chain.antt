@@ -27,7 +27,7 @@ use Rattle.ckc_typed.specs.Texts.{named_typed}
 use Rattle.ckc_typing.specs.Phase.{typing}
 use Rattle.ckc_build.specs.declared.form.Program.{Program}
 use Rattle.ckc_build.specs.FirstForm.{IsForm}
-use Rattle.ckc_build.specs.Accepted.{Meaning, beside, first_form, reading, after_reading, after_lexing, phases, meaning_of}
+use Rattle.ckc_build.specs.Accepted.{Meaning, beside, first_form, reading, judging_tree, judging, forming, phases, meaning_of}
 use Rattle.ckc_build.proofs.OneForm.{form_once}
 
 -- ---- the phases are exact
@@ -65,26 +65,23 @@ first_form_exact = record {
 abbrev later : Phase SpelledTree Typed
 later = naming >=> integers >=> typing
 
-abbrev behind_limits : Phase SpelledTree Meaning
-behind_limits = beside later >=> first_form
-
 later_exact : IsExact later
 later_exact = then_exact naming (integers >=> typing) naming_exact (then_exact integers typing integers_exact typing_exact)
 
 reading_exact : IsExact reading
 reading_exact = then_exact lexing parsing lexing_exact parsing_exact
 
-behind_limits_exact : IsExact behind_limits
-behind_limits_exact = then_exact (beside later) first_form (beside_exact later later_exact) first_form_exact
+judging_tree_exact : IsExact judging_tree
+judging_tree_exact = then_exact limiting later limiting_exact later_exact
 
-pub after_reading_exact : IsExact after_reading
-after_reading_exact = then_exact limiting behind_limits limiting_exact behind_limits_exact
+pub judging_exact : IsExact judging
+judging_exact = then_exact reading judging_tree reading_exact judging_tree_exact
 
-pub after_lexing_exact : IsExact after_lexing
-after_lexing_exact = then_exact parsing after_reading parsing_exact after_reading_exact
+forming_exact : IsExact forming
+forming_exact = then_exact (beside judging_tree) first_form (beside_exact judging_tree judging_tree_exact) first_form_exact
 
 pub phases_exact : IsExact phases
-phases_exact = then_exact lexing after_lexing lexing_exact after_lexing_exact
+phases_exact = then_exact reading forming reading_exact forming_exact
 
 pub one_tree : (text : List ℕ) (a b : SpelledTree) → reading.Makes text a → reading.Makes text b → a ≡ b
 one_tree = reading_exact.made_once
@@ -115,36 +112,57 @@ module _ {A B C : Type 0} (p : Phase A B) (q : Phase B C) (exact : IsExact p) (n
   exact_on b answer x y = exact_of (p >=> q) (then_exact p q exact next) a answer (answers_on p q exact next a b answer x.answers y.answers)
 
 -- a call that ends with an error
-pub ends : {A : Type 0} (p : Phase A Meaning) (a : A) (answer : Result Program Fault) (e other : Fault) → answer ≡ Err e → e ≡ other
-    → Exact p a (Err other) → Exact p a (viewed meaning_of answer)
-ends p a answer e other is same x = subst (λ r. Exact p a (viewed meaning_of r)) (sym (is ∙ ap (λ y. Err y) same)) x
+pub ends : {B : Type 0} (Owes : Result B Fault → Type 0) (answer : Result B Fault) (e other : Fault) → answer ≡ Err e → e ≡ other → Owes (Err other) → Owes answer
+ends Owes answer e other is same x = subst Owes (sym (is ∙ ap (λ y. Err y) same)) x
 
-pub lex_ends : (text : List ℕ) (e : Fault) → Exact lexing text (Err e) → Exact phases text (Err e)
-lex_ends text e x = exact_err lexing after_lexing lexing_exact after_lexing_exact text e x
+-- ---- a text is read, and then a phase behind that comes
 
-pub lex_goes : (text : List ℕ) (tokens : Tokens) (answer : Result Meaning Fault) → Exact lexing text (Ok tokens) → Exact after_lexing tokens answer → Exact phases text answer
-lex_goes text tokens answer x y = exact_on lexing after_lexing lexing_exact after_lexing_exact text tokens answer x y
+module _ {B : Type 0} (q : Phase SpelledTree B) (next : IsExact q) (text : List ℕ) where
+  lex_ends : (e : Fault) → Exact lexing text (Err e) → Exact (reading >=> q) text (Err e)
+  lex_ends e x = exact_err reading q reading_exact next text e (exact_err lexing parsing lexing_exact parsing_exact text e x)
 
-pub parse_ends : (tokens : Tokens) (e : Fault) → Exact parsing tokens (Err e) → Exact after_lexing tokens (Err e)
-parse_ends tokens e x = exact_err parsing after_reading parsing_exact after_reading_exact tokens e x
+  module _ (tokens : Tokens) (cut : Exact lexing text (Ok tokens)) where
+    parse_ends : (e : Fault) → Exact parsing tokens (Err e) → Exact (reading >=> q) text (Err e)
+    parse_ends e x = exact_err reading q reading_exact next text e (exact_on lexing parsing lexing_exact parsing_exact text tokens (Err e) cut x)
 
-pub parse_goes : (tokens : Tokens) (tree : SpelledTree) (answer : Result Meaning Fault) → Exact parsing tokens (Ok tree) → Exact after_reading tree answer → Exact after_lexing tokens answer
-parse_goes tokens tree answer x y = exact_on parsing after_reading parsing_exact after_reading_exact tokens tree answer x y
+    read_goes : (tree : SpelledTree) (answer : Result B Fault) → Exact parsing tokens (Ok tree) → Exact q tree answer → Exact (reading >=> q) text answer
+    read_goes tree answer x y = exact_on reading q reading_exact next text tree answer (exact_on lexing parsing lexing_exact parsing_exact text tokens (Ok tree) cut x) y
+
+pub judge_lex_ends : (text : List ℕ) (e : Fault) → Exact lexing text (Err e) → Exact judging text (Err e)
+judge_lex_ends = lex_ends judging_tree judging_tree_exact
+
+pub judge_parse_ends : (text : List ℕ) (tokens : Tokens) → Exact lexing text (Ok tokens) → (e : Fault) → Exact parsing tokens (Err e) → Exact judging text (Err e)
+judge_parse_ends = parse_ends judging_tree judging_tree_exact
+
+pub judge_goes : (text : List ℕ) (tokens : Tokens) → Exact lexing text (Ok tokens) → (tree : SpelledTree) (answer : Result Typed Fault) → Exact parsing tokens (Ok tree)
+    → Exact judging_tree tree answer → Exact judging text answer
+judge_goes = read_goes judging_tree judging_tree_exact
+
+pub accept_lex_ends : (text : List ℕ) (e : Fault) → Exact lexing text (Err e) → Exact phases text (Err e)
+accept_lex_ends = lex_ends forming forming_exact
+
+pub accept_parse_ends : (text : List ℕ) (tokens : Tokens) → Exact lexing text (Ok tokens) → (e : Fault) → Exact parsing tokens (Err e) → Exact phases text (Err e)
+accept_parse_ends = parse_ends forming forming_exact
+
+pub accept_goes : (text : List ℕ) (tokens : Tokens) → Exact lexing text (Ok tokens) → (tree : SpelledTree) (answer : Result Meaning Fault) → Exact parsing tokens (Ok tree)
+    → Exact forming tree answer → Exact phases text answer
+accept_goes = read_goes forming forming_exact
+
+-- ---- the form of a tree, and its types
 
 module _ (tree : SpelledTree) where
-  pub fits_ends : (e : Fault) → Exact limiting tree (Err e) → Exact after_reading tree (Err e)
-  fits_ends e x = exact_err limiting behind_limits limiting_exact behind_limits_exact tree e x
+  pub fits_ends : (e : Fault) → Exact limiting tree (Err e) → Exact judging_tree tree (Err e)
+  fits_ends e x = exact_err limiting later limiting_exact later_exact tree e x
 
-  -- what comes of a small tree
-  from_small : Exact limiting tree (Ok tree) → (answer : Result Meaning Fault) → Answers behind_limits tree answer → Exact after_reading tree answer
-  from_small small answer a =
-      exact_of after_reading after_reading_exact tree answer (answers_on limiting behind_limits limiting_exact behind_limits_exact tree tree answer small.answers a)
+  pub fits_goes : Exact limiting tree (Ok tree) → (answer : Result Typed Fault) → Exact later tree answer → Exact judging_tree tree answer
+  fits_goes small answer x = exact_on limiting later limiting_exact later_exact tree tree answer small x
 
-  pub memory_ends : Exact after_reading tree (Err fault.Memory)
-  memory_ends = exact_of after_reading after_reading_exact tree (Err fault.Memory) tt
+  pub memory_ends : Exact forming tree (Err fault.Memory)
+  memory_ends = exact_of forming forming_exact tree (Err fault.Memory) tt
 
-  pub typed_ends : Exact limiting tree (Ok tree) → (e : Fault) → Exact later tree (Err e) → Exact after_reading tree (Err e)
-  typed_ends small e x = from_small small (Err e) (err_first (beside later) first_form tree e (err_beside later tree e x.answers))
+  pub judged_ends : (e : Fault) → Exact judging_tree tree (Err e) → Exact forming tree (Err e)
+  judged_ends e x =
+      exact_of forming forming_exact tree (Err e) (err_first (beside judging_tree) first_form tree e (err_beside judging_tree tree e x.answers))
 
   abbrev FoundForm : Option Program → Type 0
   FoundForm form = MatchOption form ((puts : List ℕ) (value : ℕ) → ¬ IsForm tree puts value) (λ p. IsForm tree p.puts.items p.value)
@@ -158,11 +176,12 @@ module _ (tree : SpelledTree) where
   form_answers typed None (Err (fault.Refused r)) found a = let same : at_start 100 ≡ r = cc in (found, sym same)
   form_answers typed None (Err fault.Memory) found a = tt
 
-  pub all_ends : Exact limiting tree (Ok tree) → (typed : Typed) → Exact later tree (Ok typed) → (form : Option Program) → FoundForm form
-      → (r : Result Program Fault) → AnswersOutcome r (there_or 100 start form) → Exact after_reading tree (viewed meaning_of r)
-  all_ends small typed x form found r a =
-      from_small small (viewed meaning_of r)
-      (answers_on (beside later) first_form (beside_exact later later_exact) first_form_exact tree (tree, typed) (viewed meaning_of r) (refl, x.answers) (form_answers typed form r found a))
+  pub form_ends : (typed : Typed) → Exact judging_tree tree (Ok typed) → (form : Option Program) → FoundForm form
+      → (r : Result Program Fault) → AnswersOutcome r (there_or 100 start form) → Exact forming tree (viewed meaning_of r)
+  form_ends typed x form found r a =
+      exact_of forming forming_exact tree (viewed meaning_of r)
+      (answers_on (beside judging_tree) first_form (beside_exact judging_tree judging_tree_exact) first_form_exact tree (tree, typed) (viewed meaning_of r) (refl, x.answers)
+      (form_answers typed form r found a))
 
 -- ---- the tree with its types
 

@@ -67,9 +67,6 @@ value_in_item (item.Proto h) puts value m = absurd m
 
 pub accepted_bounds : (text : List ℕ) (m : Meaning) → Accepted text m → (length m.puts ≤ 1000) × (m.value < 2 ^ 32)
 accepted_bounds text m a =
-    let tree = a.2.0 in
-    let limits = a.2.2 in
-    let types = limits.2 in
-    let form = types.2 in
-    let same : types.0.0 ≡ tree = types.1.0 ∙ limits.1.1 in
-    (few_in_form types.0.0 m.puts m.value (subst Small (sym same) limits.1.0) form, value_in_item form.0 m.puts m.value form.2)
+    let judged = a.2.1 in
+    let form = a.2.2 in
+    (few_in_form a.2.0.0 m.puts m.value (subst Small (sym judged.0) judged.1.1.0) form, value_in_item form.0 m.puts m.value form.2)

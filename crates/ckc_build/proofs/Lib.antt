@@ -5,3 +5,5 @@ pub mod Forms
 pub mod OneForm
 pub mod Chain
 pub mod Judgements
+pub mod Programs
+pub mod Places

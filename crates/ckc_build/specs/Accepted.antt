@@ -6,7 +6,6 @@ use Rattle.ckc_base.specs.Places.{at_start}
 use Rattle.ckc_syntax.specs.Phase.{limiting}
 use Rattle.ckc_lexer.specs.Phase.{lexing}
 use Rattle.ckc_parser.specs.Phase.{parsing}
-use Rattle.ckc_syntax.specs.Spelled.{Tokens}
 use Rattle.ckc_parser.specs.Text.{SpelledTree}
 use Rattle.ckc_resolve.specs.Phase.{naming}
 use Rattle.ckc_forms.specs.Phase.{integers}
@@ -38,16 +37,21 @@ first_form = record {
 abbrev pub reading : Phase (List ℕ) SpelledTree
 reading = lexing >=> parsing
 
--- the phases behind the reading of a text, in their order
-abbrev pub after_reading : Phase SpelledTree Meaning
-after_reading = limiting >=> beside (naming >=> integers >=> typing) >=> first_form
+-- the phases that judge a tree, in their order
+abbrev pub judging_tree : Phase SpelledTree Typed
+judging_tree = limiting >=> naming >=> integers >=> typing
 
-abbrev pub after_lexing : Phase Tokens Meaning
-after_lexing = parsing >=> after_reading
+-- a text with its types
+abbrev pub judging : Phase (List ℕ) Typed
+judging = reading >=> judging_tree
+
+-- a tree that is judged, and then has the form
+abbrev pub forming : Phase SpelledTree Meaning
+forming = beside judging_tree >=> first_form
 
 -- all phases
 abbrev pub phases : Phase (List ℕ) Meaning
-phases = lexing >=> after_lexing
+phases = reading >=> forming
 
 -- The text is accepted, with this meaning.
 abbrev pub Accepted : List ℕ → Meaning → Type 0

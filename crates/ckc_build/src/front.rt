@@ -1,19 +1,17 @@
 //! From a text to its program, phase by phase.
-ghost use Rattle.std.specs.Prelude.{map};
 ghost use Rattle.ckc_base.specs.Phases.{◌>=>◌, Exact, viewed};
 ghost use Rattle.ckc_resolve.specs.Phase.{naming};
 ghost use Rattle.ckc_forms.specs.Phase.{integers as integers_phase};
 ghost use Rattle.ckc_typing.specs.Phase.{typing};
-ghost use Rattle.ckc_syntax.specs.Spelled.{spelled};
-ghost use Rattle.ckc_build.specs.Accepted.{phases, after_lexing, after_reading, meaning_of};
+ghost use Rattle.ckc_build.specs.Accepted.{phases, forming, judging, judging_tree, meaning_of};
 
 use crate::form::{Program, built, program_of};
-use ckc_base::{Fault, Pos};
+use ckc_base::Fault;
 use ckc_forms::integers;
 use ckc_lexer::{end_of, lex};
 use ckc_parser::parse;
 use ckc_resolve::resolve;
-use ckc_syntax::{Spelling, Token, Tree, fits};
+use ckc_syntax::{Spelling, Tree, fits};
 use ckc_typed::Typed;
 use ckc_typing::type_of;
 use std::alloc::Global;
@@ -24,25 +22,35 @@ pub fn accept(alloc: Global, text: &[u8]) -> Result<Program, Fault>
     ensures exact { Exact phases text.now (viewed meaning_of result) }
 {
     let tokens = lex(alloc, text)?;
-    of_tokens(alloc, tokens.as_slice(), end_of(text))
+    let tree = parse(alloc, tokens.as_slice(), end_of(text))?;
+    formed(alloc, tree)
 }
 
-/// The program of the tokens of a text, which ends at `end`.
-fn of_tokens<'a>(alloc: Global, tokens: &[Token<'a>], end: Pos) -> Result<Program, Fault>
-    ensures exact { Exact after_lexing (record { list = map spelled tokens.now; end = end }) (viewed meaning_of result) }
+/// The text with its types, or the first error of the text.
+pub fn judge(alloc: Global, text: &[u8]) -> Result<Typed, Fault>
+    // Ok of exactly the text with its types, a refusal for exactly its first error, both ways.
+    ensures exact { Exact judging text.now result }
 {
-    let tree = parse(alloc, tokens, end)?;
-    of_tree(alloc, tree)
+    let tokens = lex(alloc, text)?;
+    let tree = parse(alloc, tokens.as_slice(), end_of(text))?;
+    judged(alloc, tree)
 }
 
 /// The program of a tree. The form is read off the tree as it is spelled, and judged last.
-fn of_tree<'a>(alloc: Global, tree: Tree<Spelling<'a>, ()>) -> Result<Program, Fault>
-    ensures exact { Exact after_reading tree.entry (viewed meaning_of result) }
+fn formed<'a>(alloc: Global, tree: Tree<Spelling<'a>, ()>) -> Result<Program, Fault>
+    ensures exact { Exact forming tree.entry (viewed meaning_of result) }
+{
+    let form = program_of(alloc, &tree)?;
+    judged(alloc, tree)?;
+    built(form)
+}
+
+/// The tree that keeps the limits, with what its names mean and with its types.
+fn judged<'a>(alloc: Global, tree: Tree<Spelling<'a>, ()>) -> Result<Typed, Fault>
+    ensures exact { Exact judging_tree tree.entry result }
 {
     fits(&tree)?;
-    let form = program_of(alloc, &tree)?;
-    typed(alloc, tree)?;
-    built(form)
+    typed(alloc, tree)
 }
 
 /// The tree with what its names mean and with its types.

@@ -8,8 +8,11 @@ mod form;
 mod front;
 mod images;
 mod laws;
+mod meanings;
+mod placed;
 
 pub use form::Program;
-pub use front::accept;
+pub use front::{accept, judge};
 pub use images::build;
-pub use laws::{is_exact, one_tree};
+pub use laws::{is_exact, judging_is_exact, one_tree};
+pub use meanings::{meanings_are_exact, program};

@@ -24,6 +24,7 @@ use Rattle.ckc_cli.specs.Agreeing.{RanBuilt, PrintedPart, PrintedFirst, StopsAsM
 use Rattle.ckc_build.proofs.Chain.{phases_exact}
 use Rattle.ckc_cli.proofs.Wording.{reads_once}
 use Rattle.ckc_cli.proofs.Headline.{asks_nothing, borne}
+use Rattle.ckc_cli.proofs.Execs as execs
 use Rattle.ckc_cli.proofs.Statuses as by
 
 -- what a front of a trace puts is a front of what the trace puts
@@ -107,7 +108,7 @@ module _ (words : List (List ℕ)) (old new : Seen) (before after : Stored) (qui
       → Over words before.files (StopsAsMeant check at old.written new.written)
   exec_stopped s l name limit check at r q =
       let o = by.shown_by words old new before after quiet untaken unasked s l (observed.Stopped check at) (λ e. cc) q in
-      record { command = o.command; reads = o.reads; bytes = o.bytes; holds = o.holds; are = stopped_of o.command o.bytes name limit check at (reads_once words o.command (Exec name limit) o.reads r) o.are }
+      record { command = o.command; reads = o.reads; bytes = o.bytes; holds = o.holds; are = let e = reads_once words o.command (Exec name limit) o.reads r in stopped_of o.command o.bytes name limit check at e (execs.by_image words old new before after quiet untaken unasked o.command o.bytes name limit (observed.Stopped check at) e o.are) }
 
   going_of : (command : Command) (bytes name : List ℕ) (limit : ℕ) → command ≡ Exec name limit → IsShown old new untaken observed.Going command bytes → GoesAsMeant old.written new.written command bytes
   going_of command bytes name limit e x =
@@ -118,24 +119,24 @@ module _ (words : List (List ℕ)) (old new : Seen) (before after : Stored) (qui
   pub exec_going : (s : Status) → Leaf s → (name : List ℕ) (limit : ℕ) → Reads words (Exec name limit) → s ≡ status.Going → Over words before.files (GoesAsMeant old.written new.written)
   exec_going s l name limit r q =
       let o = by.shown_by words old new before after quiet untaken unasked s l observed.Going (λ e. cc) q in
-      record { command = o.command; reads = o.reads; bytes = o.bytes; holds = o.holds; are = going_of o.command o.bytes name limit (reads_once words o.command (Exec name limit) o.reads r) o.are }
+      record { command = o.command; reads = o.reads; bytes = o.bytes; holds = o.holds; are = let e = reads_once words o.command (Exec name limit) o.reads r in going_of o.command o.bytes name limit e (execs.by_image words old new before after quiet untaken unasked o.command o.bytes name limit observed.Going e o.are) }
 
-  module _ (s : Status) (text : List ℕ) (limit n : ℕ) (m : Meaning) (a : Accepted text m) (le : 4 * (n + 1) ≤ limit) (reads : ¬ Rose old.read_faults new.read_faults) (writes : ¬ Rose old.write_faults new.write_faults) where
-    one_meaning : (parts : Parts) (built : Built text parts) → m ≡ built.meaning
-    one_meaning parts built = phases_exact.made_once text m built.meaning a built.accepted
+module _ (old new : Seen) (untaken : Type 0) (s : Status) (text : List ℕ) (limit n : ℕ) (m : Meaning) (a : Accepted text m) (le : 4 * (n + 1) ≤ limit) (reads : ¬ Rose old.read_faults new.read_faults) (writes : ¬ Rose old.write_faults new.write_faults) where
+  one_meaning : (parts : Parts) (built : Built text parts) → m ≡ built.meaning
+  one_meaning parts built = phases_exact.made_once text m built.meaning a built.accepted
 
-    pub exec_put : RanBuilt text limit old new untaken s ⊎ (s ≡ status.Memory) → (source m n).standing ≢ Stuck
-        → PrintedFirst old.written new.written (output (source m n).trace) ⊎ (s ≡ status.Memory)
-    exec_put (inr e) h = inr e
-    exec_put (inl p) h =
-        let same = one_meaning p.0 p.2 in
-        let safe : (source p.2.meaning n).standing ≢ Stuck = subst (λ (y : Meaning). (source y n).standing ≢ Stuck) same h in
-        let put = ran_put text p.0 p.2 limit n old new untaken p.1 le reads writes p.4 safe in
-        inl (subst (λ (y : Meaning). PrintedFirst old.written new.written (output (source y n).trace)) (sym same) put)
+  pub exec_put : RanBuilt text limit old new untaken s ⊎ (s ≡ status.Memory) → (source m n).standing ≢ Stuck
+      → PrintedFirst old.written new.written (output (source m n).trace) ⊎ (s ≡ status.Memory)
+  exec_put (inr e) h = inr e
+  exec_put (inl p) h =
+      let same = one_meaning p.0 p.2 in
+      let safe : (source p.2.meaning n).standing ≢ Stuck = subst (λ (y : Meaning). (source y n).standing ≢ Stuck) same h in
+      let put = ran_put text p.0 p.2 limit n old new untaken p.1 le reads writes p.4 safe in
+      inl (subst (λ (y : Meaning). PrintedFirst old.written new.written (output (source y n).trace)) (sym same) put)
 
-    pub exec_stops : RanBuilt text limit old new untaken s ⊎ (s ≡ status.Memory) → (check : Check) (at : Pos) → (source m n).standing ≡ Stopped check at → (s ≡ status.Stopped check at) ⊎ (s ≡ status.Memory)
-    exec_stops (inr e) check at h = inr e
-    exec_stops (inl p) check at h =
-        let same = one_meaning p.0 p.2 in
-        let stops : (source p.2.meaning n).standing ≡ Stopped check at = subst (λ (y : Meaning). (source y n).standing ≡ Stopped check at) same h in
-        inl (p.3 ∙ ap status_of (ran_stops text p.0 p.2 limit n old new untaken p.1 le reads writes p.4 check at stops))
+  pub exec_stops : RanBuilt text limit old new untaken s ⊎ (s ≡ status.Memory) → (check : Check) (at : Pos) → (source m n).standing ≡ Stopped check at → (s ≡ status.Stopped check at) ⊎ (s ≡ status.Memory)
+  exec_stops (inr e) check at h = inr e
+  exec_stops (inl p) check at h =
+      let same = one_meaning p.0 p.2 in
+      let stops : (source p.2.meaning n).standing ≡ Stopped check at = subst (λ (y : Meaning). (source y n).standing ≡ Stopped check at) same h in
+      inl (p.3 ∙ ap status_of (ran_stops text p.0 p.2 limit n old new untaken p.1 le reads writes p.4 check at stops))

@@ -7,22 +7,26 @@ use Rattle.ckc_rv.specs.Machine.{Parts}
 use Rattle.ckc_machine.specs.declared.observed.Observed.{Observed}
 use Rattle.ckc_cli.specs.declared.status.Status.{Status}
 use Rattle.ckc_cli.specs.declared.status.Status.TheVariants as status
-use Rattle.ckc_cli.specs.Words.{Command, Build, Assemble, Exec, Run, Show, Reads}
-use Rattle.ckc_cli.specs.Commands.{name_of, BadBytes, Refuses, IsBad, Keeps, Lists, Executes}
+use Rattle.ckc_cli.specs.Words.{Command, Build, Assemble, Exec, Interp, Run, Show, Reads}
+use Rattle.ckc_cli.specs.Commands.{name_of, BadBytes, Refuses, IsBad, Keeps, Lists, Executes, Means}
 use Rattle.ckc_cli.specs.Running.{Seen, Ran, status_of}
 use Rattle.ckc_outside.specs.Outside.{Stored}
 use Rattle.ckc_cli.specs.Causes.{Holds, StoreIsFine, Given}
+use Rattle.ckc_source.specs.Code.{Program}
+use Rattle.ckc_cli.specs.Interpreting.{ShowsAs}
 use Rattle.ckc_build.proofs.Chain.{phases_exact}
+use Rattle.ckc_build.proofs.Programs.{meanings_exact}
 use Rattle.ckc_cli.proofs.Assembling.{fault_once}
-use Rattle.ckc_cli.proofs.OneTask.{one_bad, not_Refuses_IsBad, not_Refuses_Keeps, not_Refuses_Lists, not_Refuses_Executes, not_IsBad_Keeps, not_IsBad_Lists, not_IsBad_Executes, not_Keeps_Lists, not_Keeps_Executes, not_Lists_Executes}
+use Rattle.ckc_cli.proofs.OneTask.{one_bad, not_Refuses_IsBad, not_Refuses_Keeps, not_Refuses_Lists, not_Refuses_Executes, not_IsBad_Keeps, not_IsBad_Lists, not_IsBad_Executes, not_Keeps_Lists, not_Keeps_Executes, not_Lists_Executes, not_Refuses_Means, not_IsBad_Means, not_Keeps_Means, not_Lists_Means, not_Executes_Means}
 use Rattle.ckc_cli.proofs.Wording.{reads_once}
 use Rattle.ckc_cli.proofs.Statuses as by
-use Rattle.ckc_cli.proofs.Statuses.{not_shown, by_usage, by_store, by_refusal, by_bad, by_keeping, by_not_keeping, by_memory, by_keeping_memory, by_listing, by_cut_listing, by_running}
+use Rattle.ckc_cli.proofs.Statuses.{not_shown, not_meant, by_usage, by_store, by_refusal, by_bad, by_keeping, by_not_keeping, by_memory, by_keeping_memory, by_listing, by_cut_listing, by_running, by_meaning}
 
 refuses_once : (command : Command) (bytes : List ℕ) (fault other : Refusal) → Refuses command bytes fault → Refuses command bytes other → fault ≡ other
 refuses_once (Build text image) bytes fault other p q = phases_exact.refused_once bytes fault other p q
 refuses_once (Assemble text image) bytes fault other p q = fault_once bytes fault other p q
 refuses_once (Exec text limit) bytes fault other p q = phases_exact.refused_once bytes fault other p q
+refuses_once (Interp text limit) bytes fault other p q = meanings_exact.refused_once bytes fault other p q
 refuses_once (Run image limit) bytes fault other p q = absurd p
 refuses_once (Show image) bytes fault other p q = absurd p
 
@@ -36,6 +40,7 @@ bad_once : (command : Command) (bytes : List ℕ) (k j : ℕ) → IsBad command 
 bad_once (Build text image) bytes k j p q = absurd p
 bad_once (Assemble text image) bytes k j p q = absurd p
 bad_once (Exec text limit) bytes k j p q = absurd p
+bad_once (Interp text limit) bytes k j p q = absurd p
 bad_once (Run image limit) bytes k j p q = bad_bytes_once bytes k j p q
 bad_once (Show image) bytes k j p q = bad_bytes_once bytes k j p q
 
@@ -98,6 +103,12 @@ module _ (words : List (List ℕ)) (old new : Seen) (before after : Stored) (qui
       let b = same_bytes command' bytes' r h in
       subst (λ (c : Command). Executes c bytes parts limit) e (subst (λ (l : List ℕ). Executes command' l parts limit) b x)
 
+  moved_Means : (command' : Command) (bytes' : List ℕ) (p : Program) (limit : ℕ) → Reads words command' → Holds before.files (name_of command') bytes' → Means command' bytes' p limit → Means command bytes p limit
+  moved_Means command' bytes' p limit r h x =
+      let e = same_command command' r in
+      let b = same_bytes command' bytes' r h in
+      subst (λ (c : Command). Means c bytes p limit) e (subst (λ (l : List ℕ). Means command' l p limit) b x)
+
   pub refused_always : (s : Status) → Leaf s → (fault : Refusal) → Refuses command bytes fault → (s ≡ status.Refused fault) ⊎ (s ≡ status.Memory)
   refused_always s (by_usage none e a b z) fault y = absurd (none command g.reads)
   refused_always s (by_store command' r rose lacks e i) fault y = absurd (no_store command' rose (λ here t e. lacks here t e) r)
@@ -110,6 +121,7 @@ module _ (words : List (List ℕ)) (old new : Seen) (before after : Stored) (qui
   refused_always s (by_listing command' r bytes' h text' x e p f b) fault y = absurd (not_Refuses_Lists command bytes fault text' y (moved_Lists command' bytes' text' r h x))
   refused_always s (by_cut_listing command' r bytes' h text' x e rose p f b) fault y = absurd (not_Refuses_Lists command bytes fault text' y (moved_Lists command' bytes' text' r h x))
   refused_always s (by_running command' r bytes' h parts' limit' x o e ran f) fault y = absurd (not_Refuses_Executes command bytes fault parts' limit' y (moved_Executes command' bytes' parts' limit' r h x))
+  refused_always s (by_meaning command' r bytes' h p' limit' x o e ran f) fault y = absurd (not_Refuses_Means command bytes fault p' limit' y (moved_Means command' bytes' p' limit' r h x))
 
   pub bad_always : (s : Status) → Leaf s → (k : ℕ) → IsBad command bytes k → (s ≡ status.BadImage k) ⊎ (s ≡ status.Memory)
   bad_always s (by_usage none e a b z) k y = absurd (none command g.reads)
@@ -123,6 +135,7 @@ module _ (words : List (List ℕ)) (old new : Seen) (before after : Stored) (qui
   bad_always s (by_listing command' r bytes' h text' x e p f b) k y = absurd (not_IsBad_Lists command bytes k text' y (moved_Lists command' bytes' text' r h x))
   bad_always s (by_cut_listing command' r bytes' h text' x e rose p f b) k y = absurd (not_IsBad_Lists command bytes k text' y (moved_Lists command' bytes' text' r h x))
   bad_always s (by_running command' r bytes' h parts' limit' x o e ran f) k y = absurd (not_IsBad_Executes command bytes k parts' limit' y (moved_Executes command' bytes' parts' limit' r h x))
+  bad_always s (by_meaning command' r bytes' h p' limit' x o e ran f) k y = absurd (not_IsBad_Means command bytes k p' limit' y (moved_Means command' bytes' p' limit' r h x))
 
   pub kept_always : (s : Status) → Leaf s → (name image : List ℕ) → Keeps command bytes name image → (s ≡ status.Done) ⊎ (s ≡ status.Memory)
   kept_always s (by_usage none e a b z) name image y = absurd (none command g.reads)
@@ -136,6 +149,7 @@ module _ (words : List (List ℕ)) (old new : Seen) (before after : Stored) (qui
   kept_always s (by_listing command' r bytes' h text' x e p f b) name image y = absurd (not_Keeps_Lists command bytes name image text' y (moved_Lists command' bytes' text' r h x))
   kept_always s (by_cut_listing command' r bytes' h text' x e rose p f b) name image y = absurd (not_Keeps_Lists command bytes name image text' y (moved_Lists command' bytes' text' r h x))
   kept_always s (by_running command' r bytes' h parts' limit' x o e ran f) name image y = absurd (not_Keeps_Executes command bytes name image parts' limit' y (moved_Executes command' bytes' parts' limit' r h x))
+  kept_always s (by_meaning command' r bytes' h p' limit' x o e ran f) name image y = absurd (not_Keeps_Means command bytes name image p' limit' y (moved_Means command' bytes' p' limit' r h x))
 
   pub listed_always : (s : Status) → Leaf s → (text : List ℕ) → Lists command bytes text → ¬ Rose old.write_faults new.write_faults → (s ≡ status.Done) ⊎ (s ≡ status.Memory)
   listed_always s (by_usage none e a b z) text y n = absurd (none command g.reads)
@@ -149,6 +163,7 @@ module _ (words : List (List ℕ)) (old new : Seen) (before after : Stored) (qui
   listed_always s (by_listing command' r bytes' h text' x e p f b) text y n = inl e
   listed_always s (by_cut_listing command' r bytes' h text' x e rose p f b) text y n = absurd (n rose)
   listed_always s (by_running command' r bytes' h parts' limit' x o e ran f) text y n = absurd (not_Lists_Executes command bytes text parts' limit' y (moved_Executes command' bytes' parts' limit' r h x))
+  listed_always s (by_meaning command' r bytes' h p' limit' x o e ran f) text y n = absurd (not_Lists_Means command bytes text p' limit' y (moved_Means command' bytes' p' limit' r h x))
 
   pub ran_always : (s : Status) → Leaf s → (parts : Parts) (limit : ℕ) → Executes command bytes parts limit → ((parts' : Parts) × (limit' : ℕ) × (o : Observed) × Executes command bytes parts' limit' × (s ≡ status_of o) × Ran parts' limit' old new untaken o) ⊎ (s ≡ status.Memory)
   ran_always s (by_usage none e a b z) parts limit y = absurd (none command g.reads)
@@ -162,6 +177,21 @@ module _ (words : List (List ℕ)) (old new : Seen) (before after : Stored) (qui
   ran_always s (by_listing command' r bytes' h text' x e p f b) parts limit y = absurd (not_Lists_Executes command bytes text' parts limit (moved_Lists command' bytes' text' r h x) y)
   ran_always s (by_cut_listing command' r bytes' h text' x e rose p f b) parts limit y = absurd (not_Lists_Executes command bytes text' parts limit (moved_Lists command' bytes' text' r h x) y)
   ran_always s (by_running command' r bytes' h parts' limit' x o e ran f) parts limit y = inl (parts', limit', o, moved_Executes command' bytes' parts' limit' r h x, e, ran)
+  ran_always s (by_meaning command' r bytes' h p' limit' x o e ran f) parts limit y = absurd (not_Executes_Means command bytes parts limit p' limit' y (moved_Means command' bytes' p' limit' r h x))
+
+  pub meant_always : (s : Status) → Leaf s → (p : Program) (limit : ℕ) → Means command bytes p limit → ((p' : Program) × (limit' : ℕ) × Means command bytes p' limit' × ShowsAs p' limit' old new s) ⊎ (s ≡ status.Memory)
+  meant_always s (by_usage none e a b z) p limit y = absurd (none command g.reads)
+  meant_always s (by_store command' r rose lacks e i) p limit y = absurd (no_store command' rose (λ here t e. lacks here t e) r)
+  meant_always s (by_refusal command' r bytes' h fault' x e i) p limit y = absurd (not_Refuses_Means command bytes fault' p limit (moved_Refuses command' bytes' fault' r h x) y)
+  meant_always s (by_bad command' r bytes' h k' x e i) p limit y = absurd (not_IsBad_Means command bytes k' p limit (moved_IsBad command' bytes' k' r h x) y)
+  meant_always s (by_keeping command' r bytes' h name' image' x e k' a b) p limit y = absurd (not_Keeps_Means command bytes name' image' p limit (moved_Keeps command' bytes' name' image' r h x) y)
+  meant_always s (by_not_keeping command' r bytes' h name' image' x e k' rose t a b) p limit y = absurd (not_Keeps_Means command bytes name' image' p limit (moved_Keeps command' bytes' name' image' r h x) y)
+  meant_always s (by_memory command' r e a b f) p limit y = inr e
+  meant_always s (by_keeping_memory command' r bytes' h name' image' x e k' a b) p limit y = inr e
+  meant_always s (by_listing command' r bytes' h text' x e q f b) p limit y = absurd (not_Lists_Means command bytes text' p limit (moved_Lists command' bytes' text' r h x) y)
+  meant_always s (by_cut_listing command' r bytes' h text' x e rose q f b) p limit y = absurd (not_Lists_Means command bytes text' p limit (moved_Lists command' bytes' text' r h x) y)
+  meant_always s (by_running command' r bytes' h parts' limit' x o e ran f) p limit y = absurd (not_Executes_Means command bytes parts' limit' p limit (moved_Executes command' bytes' parts' limit' r h x) y)
+  meant_always s (by_meaning command' r bytes' h p' limit' x o e ran f) p limit y = inl (p', limit', moved_Means command' bytes' p' limit' r h x, (o, e, ran))
 
   -- no fault of the store comes
   pub never_store_fault : (s : Status) → Leaf s → s ≡ status.StoreFault → ⊥
@@ -176,3 +206,4 @@ module _ (words : List (List ℕ)) (old new : Seen) (before after : Stored) (qui
   never_store_fault s (by_listing command' r bytes' h text x e p f b) q = let z : status.Done ≡ status.StoreFault = sym e ∙ q in cc
   never_store_fault s (by_cut_listing command' r bytes' h text x e rose p f b) q = let z : status.WriteFault ≡ status.StoreFault = sym e ∙ q in cc
   never_store_fault s (by_running command' r bytes' h parts limit x o e ran f) q = not_shown o status.StoreFault (sym e ∙ q) refl
+  never_store_fault s (by_meaning command' r bytes' h p' limit' x o e ran f) q = not_meant o status.StoreFault (sym e ∙ q) refl

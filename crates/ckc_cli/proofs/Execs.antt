@@ -12,20 +12,26 @@ use Rattle.ckc_build.specs.Accepted.{Meaning, Accepted}
 use Rattle.ckc_build.specs.Source.{source}
 use Rattle.ckc_cli.specs.Words.{Command, Exec, Reads}
 use Rattle.ckc_build.specs.Built.{Built}
-use Rattle.ckc_cli.specs.Commands.{name_of, Refuses, IsBad, Keeps, Lists, Executes}
+use Rattle.ckc_cli.specs.Commands.{name_of, Refuses, IsBad, Keeps, Lists, Executes, Means}
 use Rattle.ckc_cli.specs.Running.{Seen, Ran, status_of}
 use Rattle.ckc_outside.specs.Outside.{Stored}
-use Rattle.ckc_cli.specs.Causes.{Holds, StoreIsFine, Given, Over, IsShown, EndsAsMeant}
+use Rattle.ckc_cli.specs.Causes.{Holds, StoreIsFine, Given, Over, IsShown, IsRun, EndsAsMeant}
 use Rattle.ckc_build.proofs.Chain.{phases_exact}
 use Rattle.ckc_cli.proofs.Wording.{reads_once}
 use Rattle.ckc_cli.proofs.Headline.{ran_ended, ran_no_fault, ran_in_time}
 use Rattle.ckc_cli.proofs.Always as always
+use Rattle.ckc_interp.specs.declared.seen.Seen.TheVariants as seen
 use Rattle.ckc_cli.proofs.Statuses as by
-use Rattle.ckc_cli.proofs.Statuses.{by_usage, by_store, by_refusal, by_bad, by_keeping, by_not_keeping, by_memory, by_keeping_memory, by_listing, by_cut_listing, by_running}
+use Rattle.ckc_cli.proofs.Statuses.{by_usage, by_store, by_refusal, by_bad, by_keeping, by_not_keeping, by_memory, by_keeping_memory, by_listing, by_cut_listing, by_running, by_meaning}
 
 module _ (words : List (List ℕ)) (old new : Seen) (before after : Stored) (quiet untaken unasked : Type 0) where
   abbrev Leaf : Status → Type 0
   Leaf s = by.Leaf words old new before after quiet untaken unasked s
+
+  -- what `exec` runs is an image
+  pub by_image : (command : Command) (bytes name : List ℕ) (limit : ℕ) (o : Observed) → command ≡ Exec name limit → IsRun old new untaken o command bytes → IsShown old new untaken o command bytes
+  by_image command bytes name limit o e (inl x) = x
+  by_image command bytes name limit o e (inr x) = absurd (subst (λ (c : Command). Means c bytes x.0 x.1) e x.2)
 
   meant : (command : Command) (bytes name : List ℕ) (limit value : ℕ) → command ≡ Exec name limit → IsShown old new untaken (observed.Ended value) command bytes
       → EndsAsMeant value old.written new.written command bytes
@@ -37,7 +43,7 @@ module _ (words : List (List ℕ)) (old new : Seen) (before after : Stored) (qui
   pub exec_ended : (s : Status) → Leaf s → (name : List ℕ) (limit value : ℕ) → Reads words (Exec name limit) → s ≡ status.Ended value → Over words before.files (EndsAsMeant value old.written new.written)
   exec_ended s l name limit value r q =
       let o = by.shown_by words old new before after quiet untaken unasked s l (observed.Ended value) (λ e. cc) q in
-      record { command = o.command; reads = o.reads; bytes = o.bytes; holds = o.holds; are = meant o.command o.bytes name limit value (reads_once words o.command (Exec name limit) o.reads r) o.are }
+      record { command = o.command; reads = o.reads; bytes = o.bytes; holds = o.holds; are = let e = reads_once words o.command (Exec name limit) o.reads r in meant o.command o.bytes name limit value e (by_image o.command o.bytes name limit (observed.Ended value) e o.are) }
 
   no_fault : (command : Command) (bytes name : List ℕ) (limit pc : ℕ) (kind : FaultKind) → command ≡ Exec name limit → IsShown old new untaken (observed.Fault kind pc) command bytes → ⊥
   no_fault command bytes name limit pc kind e x =
@@ -47,12 +53,17 @@ module _ (words : List (List ℕ)) (old new : Seen) (before after : Stored) (qui
   pub exec_faultless : (s : Status) → Leaf s → (name : List ℕ) (limit pc : ℕ) (kind : FaultKind) → Reads words (Exec name limit) → s ≢ status.MachineFault kind pc
   exec_faultless s l name limit pc kind r q =
       let o = by.shown_by words old new before after quiet untaken unasked s l (observed.Fault kind pc) (λ e. cc) q in
-      no_fault o.command o.bytes name limit pc kind (reads_once words o.command (Exec name limit) o.reads r) o.are
+      let e = reads_once words o.command (Exec name limit) o.reads r in
+      no_fault o.command o.bytes name limit pc kind e (by_image o.command o.bytes name limit (observed.Fault kind pc) e o.are)
 
   pub read_fault_by : (s : Status) → Leaf s → s ≡ status.ReadFault → Rose old.read_faults new.read_faults
   read_fault_by s l q =
       let o = by.shown_by words old new before after quiet untaken unasked s l observed.ReadFault (λ e. cc) q in
-      o.are.3.read_fault refl
+      risen o.command o.bytes o.are
+    where
+      risen : (command : Command) (bytes : List ℕ) → IsRun old new untaken observed.ReadFault command bytes → Rose old.read_faults new.read_faults
+      risen command bytes (inl x) = x.3.read_fault refl
+      risen command bytes (inr x) = x.3.2.read_fault (by.same_meant x.3.0 seen.ReadFault (sym x.3.1))
 
   module _ (text name : List ℕ) (limit : ℕ) (g : Given words before.files (Exec name limit) text) (fine : StoreIsFine before after) where
     -- what comes of the command comes of this one and this text
@@ -90,3 +101,4 @@ module _ (words : List (List ℕ)) (old new : Seen) (before after : Stored) (qui
       exec_always s (by_running command r bytes h parts most x o e ran f) =
           let y = moved (λ c b. Executes c b parts most) command bytes (same_command command r) (same_bytes command bytes r h) x in
           inl (e ∙ ap status_of (in_time m n value most parts o a ends le reads writes y ran))
+      exec_always s (by_meaning command r bytes h p most x o e ran f) = absurd (moved (λ c b. Means c b p most) command bytes (same_command command r) (same_bytes command bytes r h) x)

@@ -20,7 +20,7 @@ use Rattle.ckc_outside.specs.Outside.{Stored}
 use Rattle.ckc_cli.specs.Causes.{Kept, Unkept, KeepsOthers}
 use Rattle.ckc_cli.proofs.Wording.{reads_once}
 use Rattle.ckc_cli.proofs.Statuses as by
-use Rattle.ckc_cli.proofs.Statuses.{by_usage, by_store, by_refusal, by_bad, by_keeping, by_not_keeping, by_memory, by_keeping_memory, by_listing, by_cut_listing, by_running}
+use Rattle.ckc_cli.proofs.Statuses.{by_usage, by_store, by_refusal, by_bad, by_keeping, by_not_keeping, by_memory, by_keeping_memory, by_listing, by_cut_listing, by_running, by_meaning}
 
 -- another name is not found where bytes were put under this one
 apart : (name other : List ℕ) → other ≢ name → eq_by_cmp (slice_cmp nat_cmp) other name ≡ false
@@ -63,6 +63,7 @@ module _ (words : List (List ℕ)) (old new : Seen) (before after : Stored) (qui
   files_same s (by_listing command r bytes h text x e p f b) n = f.files
   files_same s (by_cut_listing command r bytes h text x e rose p f b) n = f.files
   files_same s (by_running command r bytes h parts limit x o e ran f) n = f.files
+  files_same s (by_meaning command r bytes h p limit x o e ran f) n = f.files
 
   pub refused_keeps : (s : Status) → Leaf s → s ≢ status.Done → s ≢ status.StoreFault → s ≢ status.Memory → after.files ≡ before.files
   refused_keeps s (by_usage none e a b k) d t m = (same k).files
@@ -76,6 +77,7 @@ module _ (words : List (List ℕ)) (old new : Seen) (before after : Stored) (qui
   refused_keeps s (by_listing command r bytes h text x e p f b) d t m = f.files
   refused_keeps s (by_cut_listing command r bytes h text x e rose p f b) d t m = f.files
   refused_keeps s (by_running command r bytes h parts limit x o e ran f) d t m = f.files
+  refused_keeps s (by_meaning command r bytes h p limit x o e ran f) d t m = f.files
 
   unchanged : (image : List ℕ) → after.files ≡ before.files → KeepsOthers image before.files after.files
   unchanged image f = λ here told. (here, f ∙ told, λ other n. refl)
@@ -100,3 +102,4 @@ module _ (words : List (List ℕ)) (old new : Seen) (before after : Stored) (qui
   others_kept s (by_listing command r bytes h text x e p f b) target w = unchanged target f.files
   others_kept s (by_cut_listing command r bytes h text' x e rose p f b) target w = unchanged target f.files
   others_kept s (by_running command r bytes h parts limit x o e ran f) target w = unchanged target f.files
+  others_kept s (by_meaning command r bytes h p limit x o e ran f) target w = unchanged target f.files

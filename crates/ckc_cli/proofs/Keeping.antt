@@ -8,7 +8,7 @@ use Rattle.ckc_cli.specs.Commands.{name_of, AsksToKeep, Keeps}
 use Rattle.ckc_cli.specs.Running.{Seen}
 use Rattle.ckc_cli.specs.Causes.{Holds, Unkept, Over, HasImage}
 use Rattle.ckc_cli.proofs.Statuses as by
-use Rattle.ckc_cli.proofs.Statuses.{by_usage, by_store, by_refusal, by_bad, by_keeping, by_not_keeping, by_memory, by_keeping_memory, by_listing, by_cut_listing, by_running}
+use Rattle.ckc_cli.proofs.Statuses.{by_usage, by_store, by_refusal, by_bad, by_keeping, by_not_keeping, by_memory, by_keeping_memory, by_listing, by_cut_listing, by_running, by_meaning}
 
 -- one more is a rise
 rose_by_one : (n m : ℕ) → m ≡ one_more n → Rose n m
@@ -36,6 +36,7 @@ module _ (words : List (List ℕ)) (old new : Seen) (before after : Stored) (qui
   keeping s (by_listing command r bytes h text x e p f b) = nothing f
   keeping s (by_cut_listing command r bytes h text x e rose p f b) = nothing f
   keeping s (by_running command r bytes h parts limit x o e ran f) = nothing f
+  keeping s (by_meaning command r bytes h p limit x o e ran f) = nothing f
 
   once_by : (s : Status) → Keeping s → (after.keeps ≡ before.keeps) ⊎ (after.keeps ≡ one_more before.keeps)
   once_by s (nothing u) = inl u.keeps

@@ -46,10 +46,10 @@ module _ (old new : Seen) (before after : Stored) (quiet untaken : Type 0) (s : 
   came_as command bytes other e c = subst (λ (b : List ℕ). Came command b old new before after quiet untaken s) e c
 
   -- a phase whose errors are those of the command
-  pub faulted : (p : Phase (List ℕ) (List ℕ)) (command : Command) (bytes : List ℕ) (fault : Fault) → ((r : Refusal) → p.Refuses bytes r → Refuses command bytes r)
+  pub faulted : {B : Type 0} (p : Phase (List ℕ) B) (command : Command) (bytes : List ℕ) (fault : Fault) → ((r : Refusal) → p.Refuses bytes r → Refuses command bytes r)
       → Answers p bytes (Err fault) → s ≡ fault_status fault → Idle before after quiet untaken → Came command bytes old new before after quiet untaken s
-  faulted p command bytes (faults.Refused refusal) refuses h e idle = causes.refused refusal (refuses refusal h) e idle
-  faulted p command bytes faults.Memory refuses h e idle = causes.no_memory e idle
+  faulted {B} p command bytes (faults.Refused refusal) refuses h e idle = causes.refused refusal (refuses refusal h) e idle
+  faulted {B} p command bytes faults.Memory refuses h e idle = causes.no_memory e idle
 
   pub exec_came : (text bytes image : List ℕ) (limit : ℕ) (parts : Parts) → Built bytes parts → IsImage image parts
       → OverImage image (λ p. Ends p limit old new quiet untaken s) (quiet × untaken) s → Unkept before after → Came (Exec text limit) bytes old new before after quiet untaken s
@@ -91,6 +91,7 @@ module _ (old new : Seen) (before after : Stored) (quiet untaken quiet' untaken'
   came_with command bytes (causes.not_kept_for_memory name image h e k a b) = causes.not_kept_for_memory name image h e k (q a) (u b)
   came_with command bytes (causes.listed text h l f b) = causes.listed text h l f (u b)
   came_with command bytes (causes.ran parts limit h ends f) = causes.ran parts limit h (ends_as parts limit ends) f
+  came_with command bytes (causes.meant p limit h run f) = causes.meant p limit h run f
   came_with command bytes (causes.no_memory e i) = causes.no_memory e (idle_as i)
 
   pub obeyed_with : (command : Command) → Obeyed command old new before after quiet untaken s → Obeyed command old new before after quiet' untaken' s

@@ -4,10 +4,12 @@ use Rattle.ckc_base.specs.declared.places.Refusal.{Refusal}
 use Rattle.ckc_rv.specs.Machine.{Parts}
 use Rattle.ckc_image.specs.Image.{magic, word_bytes, FirstBad}
 use Rattle.ckc_image.proofs.Agreement.{never_bad}
-use Rattle.ckc_cli.specs.Words.{Command, Build, Assemble, Exec, Run, Show}
+use Rattle.ckc_cli.specs.Words.{Command, Build, Assemble, Exec, Interp, Run, Show}
 use Rattle.ckc_build.specs.Built.{IsImage}
-use Rattle.ckc_cli.specs.Commands.{BadBytes, longest_image, Refuses, IsBad, Keeps, Lists, Executes}
+use Rattle.ckc_cli.specs.Commands.{BadBytes, longest_image, Refuses, IsBad, Keeps, Lists, Executes, Means}
+use Rattle.ckc_source.specs.Code.{Program}
 use Rattle.ckc_build.proofs.Chain.{phases_exact}
+use Rattle.ckc_build.proofs.Programs.{meanings_exact}
 use Rattle.ckc_cli.proofs.Assembling.{never_both}
 
 -- an image is no longer than the longest
@@ -41,6 +43,7 @@ pub not_Refuses_IsBad : (command : Command) (bytes : List ℕ) (fault : Refusal)
 not_Refuses_IsBad (Build text target) bytes fault k p q = q
 not_Refuses_IsBad (Assemble text target) bytes fault k p q = q
 not_Refuses_IsBad (Exec text most) bytes fault k p q = q
+not_Refuses_IsBad (Interp text most) bytes fault k p q = q
 not_Refuses_IsBad (Run name most) bytes fault k p q = p
 not_Refuses_IsBad (Show name) bytes fault k p q = p
 
@@ -48,6 +51,7 @@ pub not_Refuses_Keeps : (command : Command) (bytes : List ℕ) (fault : Refusal)
 not_Refuses_Keeps (Build text target) bytes fault place image p q = phases_exact.never_both bytes q.1.1.meaning fault q.1.1.accepted p
 not_Refuses_Keeps (Assemble text target) bytes fault place image p q = never_both bytes q.1.0 fault q.1.1 p
 not_Refuses_Keeps (Exec text most) bytes fault place image p q = q.1.1
+not_Refuses_Keeps (Interp text most) bytes fault place image p q = q.1.1
 not_Refuses_Keeps (Run name most) bytes fault place image p q = p
 not_Refuses_Keeps (Show name) bytes fault place image p q = p
 
@@ -55,6 +59,7 @@ pub not_Refuses_Lists : (command : Command) (bytes : List ℕ) (fault : Refusal)
 not_Refuses_Lists (Build text target) bytes fault listing p q = q
 not_Refuses_Lists (Assemble text target) bytes fault listing p q = q
 not_Refuses_Lists (Exec text most) bytes fault listing p q = q
+not_Refuses_Lists (Interp text most) bytes fault listing p q = q
 not_Refuses_Lists (Run name most) bytes fault listing p q = p
 not_Refuses_Lists (Show name) bytes fault listing p q = p
 
@@ -62,6 +67,7 @@ pub not_Refuses_Executes : (command : Command) (bytes : List ℕ) (fault : Refus
 not_Refuses_Executes (Build text target) bytes fault parts limit p q = q
 not_Refuses_Executes (Assemble text target) bytes fault parts limit p q = q
 not_Refuses_Executes (Exec text most) bytes fault parts limit p q = phases_exact.never_both bytes q.1.meaning fault q.1.accepted p
+not_Refuses_Executes (Interp text most) bytes fault parts limit p q = q
 not_Refuses_Executes (Run name most) bytes fault parts limit p q = p
 not_Refuses_Executes (Show name) bytes fault parts limit p q = p
 
@@ -69,6 +75,7 @@ pub not_IsBad_Keeps : (command : Command) (bytes : List ℕ) (k : ℕ) (place im
 not_IsBad_Keeps (Build text target) bytes k place image p q = p
 not_IsBad_Keeps (Assemble text target) bytes k place image p q = p
 not_IsBad_Keeps (Exec text most) bytes k place image p q = p
+not_IsBad_Keeps (Interp text most) bytes k place image p q = p
 not_IsBad_Keeps (Run name most) bytes k place image p q = q.1.1
 not_IsBad_Keeps (Show name) bytes k place image p q = q.1.1
 
@@ -76,6 +83,7 @@ pub not_IsBad_Lists : (command : Command) (bytes : List ℕ) (k : ℕ) (listing 
 not_IsBad_Lists (Build text target) bytes k listing p q = p
 not_IsBad_Lists (Assemble text target) bytes k listing p q = p
 not_IsBad_Lists (Exec text most) bytes k listing p q = p
+not_IsBad_Lists (Interp text most) bytes k listing p q = p
 not_IsBad_Lists (Run name most) bytes k listing p q = q
 not_IsBad_Lists (Show name) bytes k listing p q = never_bad_bytes bytes q.0 k q.1 p
 
@@ -83,6 +91,7 @@ pub not_IsBad_Executes : (command : Command) (bytes : List ℕ) (k : ℕ) (parts
 not_IsBad_Executes (Build text target) bytes k parts limit p q = p
 not_IsBad_Executes (Assemble text target) bytes k parts limit p q = p
 not_IsBad_Executes (Exec text most) bytes k parts limit p q = p
+not_IsBad_Executes (Interp text most) bytes k parts limit p q = p
 not_IsBad_Executes (Run name most) bytes k parts limit p q = never_bad_bytes bytes parts k q.1 p
 not_IsBad_Executes (Show name) bytes k parts limit p q = q
 
@@ -90,6 +99,7 @@ pub not_Keeps_Lists : (command : Command) (bytes : List ℕ) (place image : List
 not_Keeps_Lists (Build text target) bytes place image listing p q = q
 not_Keeps_Lists (Assemble text target) bytes place image listing p q = q
 not_Keeps_Lists (Exec text most) bytes place image listing p q = p.1.1
+not_Keeps_Lists (Interp text most) bytes place image listing p q = p.1.1
 not_Keeps_Lists (Run name most) bytes place image listing p q = p.1.1
 not_Keeps_Lists (Show name) bytes place image listing p q = p.1.1
 
@@ -97,6 +107,7 @@ pub not_Keeps_Executes : (command : Command) (bytes : List ℕ) (place image : L
 not_Keeps_Executes (Build text target) bytes place image parts limit p q = q
 not_Keeps_Executes (Assemble text target) bytes place image parts limit p q = q
 not_Keeps_Executes (Exec text most) bytes place image parts limit p q = p.1.1
+not_Keeps_Executes (Interp text most) bytes place image parts limit p q = p.1.1
 not_Keeps_Executes (Run name most) bytes place image parts limit p q = p.1.1
 not_Keeps_Executes (Show name) bytes place image parts limit p q = p.1.1
 
@@ -104,5 +115,46 @@ pub not_Lists_Executes : (command : Command) (bytes : List ℕ) (listing : List 
 not_Lists_Executes (Build text target) bytes listing parts limit p q = p
 not_Lists_Executes (Assemble text target) bytes listing parts limit p q = p
 not_Lists_Executes (Exec text most) bytes listing parts limit p q = p
+not_Lists_Executes (Interp text most) bytes listing parts limit p q = p
 not_Lists_Executes (Run name most) bytes listing parts limit p q = p
 not_Lists_Executes (Show name) bytes listing parts limit p q = q
+
+pub not_Refuses_Means : (command : Command) (bytes : List ℕ) (fault : Refusal) (m : Program) (limit : ℕ) → Refuses command bytes fault → Means command bytes m limit → ⊥
+not_Refuses_Means (Build text target) bytes fault m limit p q = q
+not_Refuses_Means (Assemble text target) bytes fault m limit p q = q
+not_Refuses_Means (Exec text most) bytes fault m limit p q = q
+not_Refuses_Means (Interp text most) bytes fault m limit p q = meanings_exact.never_both bytes m fault q.1 p
+not_Refuses_Means (Run name most) bytes fault m limit p q = q
+not_Refuses_Means (Show name) bytes fault m limit p q = q
+
+pub not_IsBad_Means : (command : Command) (bytes : List ℕ) (k : ℕ) (m : Program) (limit : ℕ) → IsBad command bytes k → Means command bytes m limit → ⊥
+not_IsBad_Means (Build text target) bytes k m limit p q = q
+not_IsBad_Means (Assemble text target) bytes k m limit p q = q
+not_IsBad_Means (Exec text most) bytes k m limit p q = q
+not_IsBad_Means (Interp text most) bytes k m limit p q = p
+not_IsBad_Means (Run name most) bytes k m limit p q = q
+not_IsBad_Means (Show name) bytes k m limit p q = q
+
+pub not_Keeps_Means : (command : Command) (bytes : List ℕ) (place image : List ℕ) (m : Program) (limit : ℕ) → Keeps command bytes place image → Means command bytes m limit → ⊥
+not_Keeps_Means (Build text target) bytes place image m limit p q = q
+not_Keeps_Means (Assemble text target) bytes place image m limit p q = q
+not_Keeps_Means (Exec text most) bytes place image m limit p q = q
+not_Keeps_Means (Interp text most) bytes place image m limit p q = p.1.1
+not_Keeps_Means (Run name most) bytes place image m limit p q = q
+not_Keeps_Means (Show name) bytes place image m limit p q = q
+
+pub not_Lists_Means : (command : Command) (bytes : List ℕ) (listing : List ℕ) (m : Program) (limit : ℕ) → Lists command bytes listing → Means command bytes m limit → ⊥
+not_Lists_Means (Build text target) bytes listing m limit p q = q
+not_Lists_Means (Assemble text target) bytes listing m limit p q = q
+not_Lists_Means (Exec text most) bytes listing m limit p q = q
+not_Lists_Means (Interp text most) bytes listing m limit p q = p
+not_Lists_Means (Run name most) bytes listing m limit p q = q
+not_Lists_Means (Show name) bytes listing m limit p q = q
+
+pub not_Executes_Means : (command : Command) (bytes : List ℕ) (parts : Parts) (count : ℕ) (m : Program) (limit : ℕ) → Executes command bytes parts count → Means command bytes m limit → ⊥
+not_Executes_Means (Build text target) bytes parts count m limit p q = q
+not_Executes_Means (Assemble text target) bytes parts count m limit p q = q
+not_Executes_Means (Exec text most) bytes parts count m limit p q = q
+not_Executes_Means (Interp text most) bytes parts count m limit p q = p
+not_Executes_Means (Run name most) bytes parts count m limit p q = q
+not_Executes_Means (Show name) bytes parts count m limit p q = q

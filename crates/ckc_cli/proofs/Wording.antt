@@ -3,20 +3,30 @@ use Rattle.std.proofs.Common.{◌≡◌, ◌≢◌, inl, inr, ℕ, List, [], ◌
 use Rattle.ckc_cli.specs.declared.words.Command as commands
 use Rattle.ckc_cli.specs.declared.words.Keyword.{Keyword}
 use Rattle.ckc_cli.specs.declared.words.Keyword.TheVariants as keywords
-use Rattle.ckc_cli.specs.Words.{Command, Build, Assemble, Exec, Run, Show, keyword, IsLimit, NameAndLimit, Arguments, Reads}
+use Rattle.ckc_cli.specs.Words.{Command, Build, Assemble, Exec, Interp, Run, Show, keyword, IsLimit, NameAndLimit, Arguments, Reads}
 use Rattle.ckc_cli.specs.Commanded.{command_is, spelling, HasArguments}
 
 pub no_exec : (more : List (List ℕ)) → ((name : List ℕ) (limit : ℕ) → NameAndLimit more name limit → ⊥) → (command : Command) → HasArguments keywords.Exec more command → ⊥
 no_exec more none (Build text image) h = omega (arith, ap (λ (l : List ℕ). get_or l 0 0) h.0)
 no_exec more none (Assemble text image) h = omega (arith, ap (λ (l : List ℕ). get_or l 0 0) h.0)
 no_exec more none (Exec text limit) h = none text limit h.1
+no_exec more none (Interp text limit) h = omega (arith, ap (λ (l : List ℕ). get_or l 0 0) h.0)
 no_exec more none (Run image limit) h = omega (arith, ap (λ (l : List ℕ). get_or l 0 0) h.0)
 no_exec more none (Show image) h = omega (arith, ap (λ (l : List ℕ). get_or l 0 0) h.0)
+
+pub no_interp : (more : List (List ℕ)) → ((name : List ℕ) (limit : ℕ) → NameAndLimit more name limit → ⊥) → (command : Command) → HasArguments keywords.Interp more command → ⊥
+no_interp more none (Build text image) h = omega (arith, ap (λ (l : List ℕ). get_or l 0 0) h.0)
+no_interp more none (Assemble text image) h = omega (arith, ap (λ (l : List ℕ). get_or l 0 0) h.0)
+no_interp more none (Exec text limit) h = omega (arith, ap (λ (l : List ℕ). get_or l 0 0) h.0)
+no_interp more none (Interp text limit) h = none text limit h.1
+no_interp more none (Run image limit) h = omega (arith, ap (λ (l : List ℕ). get_or l 0 0) h.0)
+no_interp more none (Show image) h = omega (arith, ap (λ (l : List ℕ). get_or l 0 0) h.0)
 
 pub no_run : (more : List (List ℕ)) → ((name : List ℕ) (limit : ℕ) → NameAndLimit more name limit → ⊥) → (command : Command) → HasArguments keywords.Run more command → ⊥
 no_run more none (Build text image) h = omega (arith, ap (λ (l : List ℕ). get_or l 0 0) h.0)
 no_run more none (Assemble text image) h = omega (arith, ap (λ (l : List ℕ). get_or l 0 0) h.0)
 no_run more none (Exec text limit) h = omega (arith, ap (λ (l : List ℕ). get_or l 0 0) h.0)
+no_run more none (Interp text limit) h = omega (arith, ap (λ (l : List ℕ). get_or l 0 0) h.0)
 no_run more none (Run image limit) h = none image limit h.1
 no_run more none (Show image) h = omega (arith, ap (λ (l : List ℕ). get_or l 0 0) h.0)
 
@@ -25,6 +35,7 @@ spelled : (command : Command) → (k : Keyword) × (keyword command ≡ spelling
 spelled (Build text image) = (keywords.Build, refl)
 spelled (Assemble text image) = (keywords.Assemble, refl)
 spelled (Exec text limit) = (keywords.Exec, refl)
+spelled (Interp text limit) = (keywords.Interp, refl)
 spelled (Run image limit) = (keywords.Run, refl)
 spelled (Show image) = (keywords.List, refl)
 
@@ -70,26 +81,37 @@ same_arguments : (more : List (List ℕ)) (c d : Command) → keyword c ≡ keyw
 same_arguments more (Build text image) (Build text' image') k p q = let e = pair_is text image text' image' (sym p ∙ q) in ap (λ t. Build t image) e.0 ∙ ap (λ i. Build text' i) e.1
 same_arguments more (Build text image) (Assemble text' image') k p q = absurd (omega (arith, ap (λ (l : List ℕ). get_or l 0 0) k))
 same_arguments more (Build text image) (Exec text' limit') k p q = absurd (omega (arith, ap (λ (l : List ℕ). get_or l 0 0) k))
+same_arguments more (Build text image) (Interp text' limit') k p q = absurd (omega (arith, ap (λ (l : List ℕ). get_or l 0 0) k))
 same_arguments more (Build text image) (Run image' limit') k p q = absurd (omega (arith, ap (λ (l : List ℕ). get_or l 0 0) k))
 same_arguments more (Build text image) (Show image') k p q = absurd (omega (arith, ap (λ (l : List ℕ). get_or l 0 0) k))
 same_arguments more (Assemble text image) (Build text' image') k p q = absurd (omega (arith, ap (λ (l : List ℕ). get_or l 0 0) k))
 same_arguments more (Assemble text image) (Assemble text' image') k p q = let e = pair_is text image text' image' (sym p ∙ q) in ap (λ t. Assemble t image) e.0 ∙ ap (λ i. Assemble text' i) e.1
 same_arguments more (Assemble text image) (Exec text' limit') k p q = absurd (omega (arith, ap (λ (l : List ℕ). get_or l 0 0) k))
+same_arguments more (Assemble text image) (Interp text' limit') k p q = absurd (omega (arith, ap (λ (l : List ℕ). get_or l 0 0) k))
 same_arguments more (Assemble text image) (Run image' limit') k p q = absurd (omega (arith, ap (λ (l : List ℕ). get_or l 0 0) k))
 same_arguments more (Assemble text image) (Show image') k p q = absurd (omega (arith, ap (λ (l : List ℕ). get_or l 0 0) k))
 same_arguments more (Exec text limit) (Build text' image') k p q = absurd (omega (arith, ap (λ (l : List ℕ). get_or l 0 0) k))
 same_arguments more (Exec text limit) (Assemble text' image') k p q = absurd (omega (arith, ap (λ (l : List ℕ). get_or l 0 0) k))
 same_arguments more (Exec text limit) (Exec text' limit') k p q = let e = name_once more text text' limit limit' p q in ap (λ t. Exec t limit) e.0 ∙ ap (λ l. Exec text' l) e.1
+same_arguments more (Exec text limit) (Interp text' limit') k p q = absurd (omega (arith, ap (λ (l : List ℕ). get_or l 0 0) k))
 same_arguments more (Exec text limit) (Run image' limit') k p q = absurd (omega (arith, ap (λ (l : List ℕ). get_or l 0 0) k))
 same_arguments more (Exec text limit) (Show image') k p q = absurd (omega (arith, ap (λ (l : List ℕ). get_or l 0 0) k))
+same_arguments more (Interp text limit) (Build text' image') k p q = absurd (omega (arith, ap (λ (l : List ℕ). get_or l 0 0) k))
+same_arguments more (Interp text limit) (Assemble text' image') k p q = absurd (omega (arith, ap (λ (l : List ℕ). get_or l 0 0) k))
+same_arguments more (Interp text limit) (Exec text' limit') k p q = absurd (omega (arith, ap (λ (l : List ℕ). get_or l 0 0) k))
+same_arguments more (Interp text limit) (Interp text' limit') k p q = let e = name_once more text text' limit limit' p q in ap (λ t. Interp t limit) e.0 ∙ ap (λ l. Interp text' l) e.1
+same_arguments more (Interp text limit) (Run image' limit') k p q = absurd (omega (arith, ap (λ (l : List ℕ). get_or l 0 0) k))
+same_arguments more (Interp text limit) (Show image') k p q = absurd (omega (arith, ap (λ (l : List ℕ). get_or l 0 0) k))
 same_arguments more (Run image limit) (Build text' image') k p q = absurd (omega (arith, ap (λ (l : List ℕ). get_or l 0 0) k))
 same_arguments more (Run image limit) (Assemble text' image') k p q = absurd (omega (arith, ap (λ (l : List ℕ). get_or l 0 0) k))
 same_arguments more (Run image limit) (Exec text' limit') k p q = absurd (omega (arith, ap (λ (l : List ℕ). get_or l 0 0) k))
+same_arguments more (Run image limit) (Interp text' limit') k p q = absurd (omega (arith, ap (λ (l : List ℕ). get_or l 0 0) k))
 same_arguments more (Run image limit) (Run image' limit') k p q = let e = name_once more image image' limit limit' p q in ap (λ t. Run t limit) e.0 ∙ ap (λ l. Run image' l) e.1
 same_arguments more (Run image limit) (Show image') k p q = absurd (omega (arith, ap (λ (l : List ℕ). get_or l 0 0) k))
 same_arguments more (Show image) (Build text' image') k p q = absurd (omega (arith, ap (λ (l : List ℕ). get_or l 0 0) k))
 same_arguments more (Show image) (Assemble text' image') k p q = absurd (omega (arith, ap (λ (l : List ℕ). get_or l 0 0) k))
 same_arguments more (Show image) (Exec text' limit') k p q = absurd (omega (arith, ap (λ (l : List ℕ). get_or l 0 0) k))
+same_arguments more (Show image) (Interp text' limit') k p q = absurd (omega (arith, ap (λ (l : List ℕ). get_or l 0 0) k))
 same_arguments more (Show image) (Run image' limit') k p q = absurd (omega (arith, ap (λ (l : List ℕ). get_or l 0 0) k))
 same_arguments more (Show image) (Show image') k p q = ap Show (head_is image image' [] [] (sym p ∙ q))
 

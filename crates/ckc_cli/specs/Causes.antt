@@ -16,8 +16,10 @@ use Rattle.ckc_cli.specs.Words.{Command, Reads}
 use Rattle.ckc_machine.specs.declared.observed.Observed.{Observed}
 use Rattle.ckc_machine.specs.declared.observed.Observed.TheVariants as observed
 use Rattle.ckc_machine.specs.Runs.{Printed}
-use Rattle.ckc_cli.specs.Running.{Seen, Ran, Ends, Listed, ListedFront}
-use Rattle.ckc_cli.specs.Commands.{name_of, Refuses, IsBad, Keeps, Lists, Executes}
+use Rattle.ckc_cli.specs.Running.{Seen, Ran, Ends, Listed, ListedFront, status_of}
+use Rattle.ckc_cli.specs.Commands.{name_of, Refuses, IsBad, Keeps, Lists, Executes, Means}
+use Rattle.ckc_cli.specs.Interpreting.{ShowsAs, IsMeant}
+use Rattle.ckc_source.specs.Code.{Program}
 
 -- ---- the objects
 
@@ -70,6 +72,8 @@ pub data Came (command : Command) (bytes : List ℕ) (old new : Seen) (before af
       → Unkept before after → untaken → Came command bytes old new before after quiet untaken s
   ran : (parts : Parts) (limit : ℕ) → Executes command bytes parts limit → Ends parts limit old new quiet untaken s
       → Unkept before after → Came command bytes old new before after quiet untaken s
+  meant : (p : Program) (limit : ℕ) → Means command bytes p limit → ShowsAs p limit old new s → Unkept before after
+      → Came command bytes old new before after quiet untaken s
   no_memory : s ≡ status.Memory → Idle before after quiet untaken → Came command bytes old new before after quiet untaken s
 
 -- Nothing was fetched under the name: the store failed, or there was not enough memory.
@@ -114,10 +118,14 @@ IsDone old new before after command bytes =
 abbrev pub IsShown : Seen → Seen → Type 0 → Observed → Command → List ℕ → Type 0
 IsShown old new untaken o command bytes = (parts : Parts) × (limit : ℕ) × Executes command bytes parts limit × Ran parts limit old new untaken o
 
+-- the machine of an image was run, or the meaning of a text, and showed this
+abbrev pub IsRun : Seen → Seen → Type 0 → Observed → Command → List ℕ → Type 0
+IsRun old new untaken o command bytes = IsShown old new untaken o command bytes ⊎ IsMeant old new (status_of o) command bytes
+
 -- the output failed in a run, or in a listing
 abbrev pub IsCutShort : Seen → Seen → Type 0 → Command → List ℕ → Type 0
 IsCutShort old new untaken command bytes =
-    IsShown old new untaken observed.WriteFault command bytes ⊎ ((text : List ℕ) × Lists command bytes text × ListedFront old.written new.written text)
+    IsRun old new untaken observed.WriteFault command bytes ⊎ ((text : List ℕ) × Lists command bytes text × ListedFront old.written new.written text)
 
 -- The text is accepted, and its meaning comes to end with the value and with these bytes put.
 abbrev pub EndsAsMeant : ℕ → Option (List ℕ) → Option (List ℕ) → Command → List ℕ → Type 0
@@ -132,6 +140,12 @@ KeepsOthers name files files' =
 -- no fault of the store that matters
 abbrev pub StoreIsFine : Stored → Stored → Type 0
 StoreIsFine before after = (¬ Rose before.faults after.faults) ⊎ IsTrue before.steady
+
+-- no fault of the store that matters, and none of the input or of the output
+pub record AllIsFine (old new : Seen) (before after : Stored) : Type 0 where
+  pub store : StoreIsFine before after
+  pub input : ¬ Rose old.read_faults new.read_faults
+  pub output : ¬ Rose old.write_faults new.write_faults
 
 -- The words read the command, and the store tells the bytes under its name.
 pub record Given (words : List (List ℕ)) (files : Option Files) (command : Command) (bytes : List ℕ) : Type 0 where

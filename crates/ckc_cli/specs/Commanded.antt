@@ -1,6 +1,6 @@
 -- The commands of the code as those of the definition.
 use Rattle.std.specs.Prelude.{◌≡◌, ℕ, List, [], ◌∷◌, codes}
-use Rattle.ckc_cli.specs.Words.{Command, Build, Assemble, Exec, Run, Show, Arguments}
+use Rattle.ckc_cli.specs.Words.{Command, Build, Assemble, Exec, Interp, Run, Show, Arguments}
 use Rattle.ckc_cli.specs.Words as w
 use Rattle.ckc_cli.specs.declared.words.Command as commands
 use Rattle.ckc_cli.specs.declared.words.Command.TheVariants as command
@@ -11,6 +11,7 @@ abbrev pub command_is : commands.Command → Command
 command_is (command.Build text image) = Build text.now image.now
 command_is (command.Assemble text image) = Assemble text.now image.now
 command_is (command.Exec text limit) = Exec text.now limit
+command_is (command.Interp text limit) = Interp text.now limit
 command_is (command.Run image limit) = Run image.now limit
 command_is (command.List image) = Show image.now
 
@@ -18,6 +19,7 @@ abbrev pub spelling : Keyword → List ℕ
 spelling keyword.Build = codes "build"
 spelling keyword.Assemble = codes "asm"
 spelling keyword.Exec = codes "exec"
+spelling keyword.Interp = codes "interp"
 spelling keyword.Run = codes "run"
 spelling keyword.List = codes "list"
 

@@ -7,15 +7,18 @@ use Rattle.ckc_image.specs.Image.{FirstBad}
 use Rattle.ckc_listing.specs.Listing.{listing}
 use Rattle.ckc_asm.specs.Program.{AsmOf}
 use Rattle.ckc_asm.specs.Faults.{longest_text, IsFirstFault}
-use Rattle.ckc_cli.specs.Words.{Command, Build, Assemble, Exec, Run, Show, Reads}
+use Rattle.ckc_cli.specs.Words.{Command, Build, Assemble, Exec, Interp, Run, Show, Reads}
 use Rattle.ckc_build.specs.Accepted.{FirstFault}
 use Rattle.ckc_build.specs.Built.{Built, IsImage}
+use Rattle.ckc_build.specs.Meanings.{meanings, HasMeaning}
+use Rattle.ckc_source.specs.Code.{Program}
 
 -- the name whose bytes are fetched
 abbrev pub name_of : Command → List ℕ
 name_of (Build text image) = text
 name_of (Assemble text image) = text
 name_of (Exec text limit) = text
+name_of (Interp text limit) = text
 name_of (Run image limit) = image
 name_of (Show image) = image
 
@@ -24,6 +27,7 @@ abbrev pub kept_name : Command → Option (List ℕ)
 kept_name (Build text image) = Some image
 kept_name (Assemble text image) = Some image
 kept_name (Exec text limit) = None
+kept_name (Interp text limit) = None
 kept_name (Run image limit) = None
 kept_name (Show image) = None
 
@@ -55,6 +59,7 @@ abbrev pub Refuses : Command → List ℕ → Refusal → Type 0
 Refuses (Build text image) bytes fault = FirstFault bytes fault
 Refuses (Assemble text image) bytes fault = IsFirstFault bytes fault.code fault.pos
 Refuses (Exec text limit) bytes fault = FirstFault bytes fault
+Refuses (Interp text limit) bytes fault = meanings.Refuses bytes fault
 Refuses (Run image limit) bytes fault = ⊥
 Refuses (Show image) bytes fault = ⊥
 
@@ -63,6 +68,7 @@ abbrev pub IsBad : Command → List ℕ → ℕ → Type 0
 IsBad (Build text image) bytes k = ⊥
 IsBad (Assemble text image) bytes k = ⊥
 IsBad (Exec text limit) bytes k = ⊥
+IsBad (Interp text limit) bytes k = ⊥
 IsBad (Run image limit) bytes k = BadBytes bytes k
 IsBad (Show image) bytes k = BadBytes bytes k
 
@@ -71,6 +77,7 @@ abbrev pub Makes : Command → List ℕ → Parts → Type 0
 Makes (Build text image) bytes parts = Built bytes parts
 Makes (Assemble text image) bytes parts = Assembles bytes parts
 Makes (Exec text limit) bytes parts = ⊥
+Makes (Interp text limit) bytes parts = ⊥
 Makes (Run image limit) bytes parts = ⊥
 Makes (Show image) bytes parts = ⊥
 
@@ -83,6 +90,7 @@ abbrev pub Lists : Command → List ℕ → List ℕ → Type 0
 Lists (Build text image) bytes text' = ⊥
 Lists (Assemble text image) bytes text' = ⊥
 Lists (Exec text limit) bytes text' = ⊥
+Lists (Interp text limit) bytes text' = ⊥
 Lists (Run image limit) bytes text' = ⊥
 Lists (Show image) bytes text = (parts : Parts) × IsImage bytes parts × (text ≡ listing parts.entry parts.code parts.initial)
 
@@ -91,5 +99,15 @@ abbrev pub Executes : Command → List ℕ → Parts → ℕ → Type 0
 Executes (Build text image) bytes parts most = ⊥
 Executes (Assemble text image) bytes parts most = ⊥
 Executes (Exec text limit) bytes parts most = (most ≡ limit) × Built bytes parts
+Executes (Interp text limit) bytes parts most = ⊥
 Executes (Run image limit) bytes parts most = (most ≡ limit) × IsImage bytes parts
 Executes (Show image) bytes parts most = ⊥
+
+-- the meaning of a text is run
+abbrev pub Means : Command → List ℕ → Program → ℕ → Type 0
+Means (Build text image) bytes p most = ⊥
+Means (Assemble text image) bytes p most = ⊥
+Means (Exec text limit) bytes p most = ⊥
+Means (Interp text limit) bytes p most = (most ≡ limit) × HasMeaning bytes p
+Means (Run image limit) bytes p most = ⊥
+Means (Show image) bytes p most = ⊥

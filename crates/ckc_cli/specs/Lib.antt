@@ -7,3 +7,4 @@ pub mod Running
 pub mod Causes
 pub mod Fetching
 pub mod Agreeing
+pub mod Interpreting

@@ -1,12 +1,12 @@
 -- The exit status and the line of each status.
-use Rattle.std.specs.Prelude.{ℕ, zero, suc, ◌+◌, ◌/◌, ◌%◌, ◌^◌, nat_lt, if◌then◌else◌, List, [], ◌∷◌, ◌++◌, codes}
+use Rattle.std.specs.Prelude.{ℕ, zero, suc, ◌+◌, ◌/◌, ◌%◌, ◌^◌, nat_lt, if◌then◌else◌, List, [], ◌∷◌, ◌++◌, codes, Option, None, Some}
 use Rattle.std.specs.Fmt.{decimal}
 use Rattle.ckc_base.specs.declared.places.Pos.{Pos}
 use Rattle.ckc_base.specs.Checks.{number_of, name_of}
 use Rattle.ckc_machine.specs.declared.observed.FaultKind.{FaultKind}
 use Rattle.ckc_machine.specs.declared.observed.FaultKind.TheVariants.{Fetch, Word, Align, Load, Store, Break, Call}
 use Rattle.ckc_cli.specs.declared.status.Status.{Status}
-use Rattle.ckc_cli.specs.declared.status.Status.TheVariants.{Done, Ended, Stopped, Going, MachineFault, Usage, Refused, BadImage, ReadFault, WriteFault, StoreFault, Memory}
+use Rattle.ckc_cli.specs.declared.status.Status.TheVariants.{Done, Ended, Stopped, Going, MachineFault, Stuck, Usage, Refused, BadImage, ReadFault, WriteFault, StoreFault, Memory}
 
 -- the exit status of the process
 abbrev pub exit_of : Status → ℕ
@@ -22,6 +22,7 @@ exit_of ReadFault = 115
 exit_of WriteFault = 116
 exit_of StoreFault = 117
 exit_of Memory = 118
+exit_of (Stuck at since) = 119
 
 -- the name of a kind of fault
 abbrev pub kind_name : FaultKind → List ℕ
@@ -46,6 +47,11 @@ abbrev pub hex : ℕ → ℕ → List ℕ
 hex zero n = []
 hex (suc count) n = hex_digit (n / 16 ^ count % 16) ∷ hex count n
 
+-- where unchecked code first ran, if it did
+abbrev pub since_words : Option Pos → List ℕ
+since_words None = []
+since_words (Some since) = codes ", unchecked since " ++ place since
+
 -- the words of a status, without the end of the line
 abbrev pub report_words : Status → List ℕ
 report_words Done = []
@@ -53,6 +59,7 @@ report_words (Ended value) = []
 report_words (Stopped check at) = codes "stopped: " ++ name_of check ++ codes " at " ++ place at
 report_words Going = codes "going: limit reached"
 report_words (MachineFault kind pc) = codes "fault: " ++ kind_name kind ++ codes " at 0x" ++ hex 8 pc
+report_words (Stuck at since) = codes "stuck: at " ++ place at ++ since_words since
 report_words Usage = codes "ccc: wrong words"
 report_words (Refused refusal) = codes "refused: E" ++ decimal refusal.code ++ codes " at " ++ place refusal.pos
 report_words (BadImage part) = codes "bad image: part " ++ decimal part

@@ -12,13 +12,30 @@ use Rattle.ckc_build.specs.Built.{IsImage}
 use Rattle.ckc_cli.specs.declared.status.Status.{Status}
 use Rattle.ckc_cli.specs.declared.status.Status.TheVariants as status
 
--- What is seen of the input and the output: what is left and what was written, where they tell it, and how many
--- faults there were.
+-- What is seen of the input and the output: what is left and what was written, where they tell it, how many faults
+-- there were, and how many bytes the input gave and whether it had ended.
 pub record Seen : Type 0 where
   pub left : Option (List ℕ)
+  pub ended : Bool
+  pub answers : ℕ
   pub written : Option (List ℕ)
   pub read_faults : ℕ
   pub write_faults : ℕ
+
+-- what is seen of an input and of an output, by what their kinds tell
+abbrev pub seen_of : {I O : Type 0} → (I → Option (List ℕ)) → (I → Bool) → (I → ℕ) → (I → ℕ) → (O → Option (List ℕ)) → (O → ℕ) → I → O → Seen
+seen_of {I} {O} left ended answers read_faults written write_faults input out = record {
+  left = left input;
+  ended = ended input;
+  answers = answers input;
+  written = written out;
+  read_faults = read_faults input;
+  write_faults = write_faults out;
+}
+
+-- the same with an output of which this is seen
+abbrev pub putting : Seen → Option (List ℕ) → ℕ → Seen
+putting seen written faults = record seen { written = written; write_faults = faults }
 
 -- the same with these bytes left
 abbrev pub fed : List ℕ → Seen → Seen
@@ -61,6 +78,7 @@ shows_run (status.Ended value) = true
 shows_run (status.Stopped check at) = true
 shows_run status.Going = true
 shows_run (status.MachineFault kind pc) = true
+shows_run (status.Stuck at since) = true
 shows_run status.ReadFault = true
 shows_run status.WriteFault = true
 shows_run s = false

@@ -4,11 +4,12 @@ use Rattle.std.specs.Str.Parse.{IsNumeral, digits_value}
 use Rattle.std.specs.String.{string_bytes}
 use Rattle.std.specs.declared.alloc.Global.{Global}
 
--- What the words ask for, with the names of files and the most instructions that are executed.
+-- What the words ask for, with the names of files and the most instructions that are executed, or steps that are run.
 pub data Command : Type 0 where
   Build : (text image : List ℕ) → Command
   Assemble : (text image : List ℕ) → Command
   Exec : (text : List ℕ) (limit : ℕ) → Command
+  Interp : (text : List ℕ) (limit : ℕ) → Command
   Run : (image : List ℕ) (limit : ℕ) → Command
   Show : (image : List ℕ) → Command
 
@@ -33,6 +34,7 @@ abbrev pub keyword : Command → List ℕ
 keyword (Build text image) = codes "build"
 keyword (Assemble text image) = codes "asm"
 keyword (Exec text limit) = codes "exec"
+keyword (Interp text limit) = codes "interp"
 keyword (Run image limit) = codes "run"
 keyword (Show image) = codes "list"
 
@@ -41,6 +43,7 @@ abbrev pub Arguments : List (List ℕ) → Command → Type 0
 Arguments words (Build text image) = words ≡ text ∷ image ∷ []
 Arguments words (Assemble text image) = words ≡ text ∷ image ∷ []
 Arguments words (Exec text limit) = NameAndLimit words text limit
+Arguments words (Interp text limit) = NameAndLimit words text limit
 Arguments words (Run image limit) = NameAndLimit words image limit
 Arguments words (Show image) = words ≡ image ∷ []
 

@@ -1,21 +1,22 @@
 //! The commands, one function for each.
-ghost use Rattle.std.specs.Prelude.{◌≡◌, ℕ, ◌≤◌, List, Option};
+ghost use Rattle.std.specs.Prelude.{◌≡◌, ℕ, ◌≤◌, List};
 ghost use Rattle.ckc_base.specs.Places.{at_start};
 ghost use Rattle.ckc_cli.specs.Words as w;
 ghost use Rattle.ckc_cli.specs.Commanded.{command_is};
 ghost use Rattle.ckc_cli.specs.Commands.{Keeps};
-ghost use Rattle.ckc_cli.specs.Running.{Seen};
+ghost use Rattle.ckc_cli.specs.Running.{Seen, seen_of, putting};
 ghost use Rattle.ckc_outside.specs.Outside.{Stored};
 ghost use Rattle.ckc_cli.specs.Causes.{OnlyFetched, Unkept, Came, Obeyed};
 ghost use Rattle.ckc_cli.specs.Judging.{fault_status};
 ghost use Rattle.ckc_cli.specs.Fetching.{Fetches};
 
 use crate::assembly::assemble;
-use crate::run::{list_bytes, run_bytes};
+use crate::run::{list_bytes, meant, run_bytes};
 use crate::status::Status;
 use crate::words::Command;
 use ckc_base::{Fault, LONGEST_TEXT, Refusal, START};
-use ckc_build::build;
+use ckc_build::{build, program};
+use ckc_interp::interp;
 use ckc_outside::{Fetched, Sink, Source, Store, StoreError};
 use std::alloc::Global;
 
@@ -40,8 +41,8 @@ pub fn obey<'a, S: Source, O: Sink, F: Store>(
     store: &mut F,
 ) -> Status
     ensures cause { Obeyed (command_is command.entry)
-        (record { left = S.left input.old; written = O.written out.old; read_faults = S.faults input.old; write_faults = O.faults out.old })
-        (record { left = S.left input.new; written = O.written out.new; read_faults = S.faults input.new; write_faults = O.faults out.new })
+        (seen_of S.left S.ended S.answers S.faults O.written O.faults input.old out.old)
+        (seen_of S.left S.ended S.answers S.faults O.written O.faults input.new out.new)
         (F.seen store.old) (F.seen store.new)
         (out.new ≡ out.old) (input.new ≡ input.old) result }
     ensures input_counts { S.faults input.old ≤ S.faults input.new }
@@ -52,6 +53,7 @@ pub fn obey<'a, S: Source, O: Sink, F: Store>(
         Command::Build(text, image) => build_text(alloc, text, image, store),
         Command::Assemble(text, image) => assemble_text(alloc, text, image, store),
         Command::Exec(text, limit) => exec_text(alloc, text, limit, input, out, store),
+        Command::Interp(text, limit) => interp_text(alloc, text, limit, input, out, store),
         Command::Run(image, limit) => run_image(alloc, image, limit, input, out, store),
         Command::List(image) => list_image(alloc, image, out, store),
     }
@@ -73,7 +75,8 @@ fn build_text<F: Store>(alloc: Global, text: &str, image: &str, store: &mut F) -
 
 /// Builds a text and keeps its image.
 fn build_bytes<F: Store>(alloc: Global, bytes: &[u8], image: &str, store: &mut F) -> Status
-    ensures cause { (text : List ℕ) (seen : Seen) (before : Stored) → OnlyFetched before (F.seen store.old)
+    ensures cause { (text : List ℕ) (seen : Seen) (before : Stored)
+        → OnlyFetched before (F.seen store.old)
         → Came (w.Build text image.now) bytes.now seen seen before
         (F.seen store.new)
         (Unit {0}) (Unit {0}) result }
@@ -101,7 +104,8 @@ fn assemble_text<F: Store>(alloc: Global, text: &str, image: &str, store: &mut F
 
 /// Assembles a text and keeps its image.
 fn assemble_bytes<F: Store>(alloc: Global, bytes: &[u8], image: &str, store: &mut F) -> Status
-    ensures cause { (text : List ℕ) (seen : Seen) (before : Stored) → OnlyFetched before (F.seen store.old)
+    ensures cause { (text : List ℕ) (seen : Seen) (before : Stored)
+        → OnlyFetched before (F.seen store.old)
         → Came (w.Assemble text image.now) bytes.now seen seen before
         (F.seen store.new)
         (Unit {0}) (Unit {0}) result }
@@ -115,8 +119,9 @@ fn assemble_bytes<F: Store>(alloc: Global, bytes: &[u8], image: &str, store: &mu
 
 /// Keeps an image under its name, last of all.
 fn keep_image<F: Store>(name: &str, image: &[u8], store: &mut F) -> Status
-    ensures cause { (command : w.Command) (bytes : List ℕ) (seen : Seen) (before : Stored) → Keeps command bytes name.now image.now
-        → OnlyFetched before (F.seen store.old) → Came command bytes seen seen before (F.seen store.new)
+    ensures cause { (command : w.Command) (bytes : List ℕ) (seen : Seen) (before : Stored)
+        → Keeps command bytes name.now image.now → OnlyFetched before (F.seen store.old)
+        → Came command bytes seen seen before (F.seen store.new)
         (Unit {0}) (Unit {0}) result }
     ensures counts { (F.seen store.old).faults ≤ (F.seen store.new).faults }
 {
@@ -137,8 +142,8 @@ fn exec_text<S: Source, O: Sink, F: Store>(
     store: &mut F,
 ) -> Status
     ensures cause { Obeyed (w.Exec text.now limit)
-        (record { left = S.left input.old; written = O.written out.old; read_faults = S.faults input.old; write_faults = O.faults out.old })
-        (record { left = S.left input.new; written = O.written out.new; read_faults = S.faults input.new; write_faults = O.faults out.new })
+        (seen_of S.left S.ended S.answers S.faults O.written O.faults input.old out.old)
+        (seen_of S.left S.ended S.answers S.faults O.written O.faults input.new out.new)
         (F.seen store.old) (F.seen store.new)
         (out.new ≡ out.old) (input.new ≡ input.old) result }
     ensures input_counts { S.faults input.old ≤ S.faults input.new }
@@ -160,9 +165,10 @@ fn exec_bytes<S: Source, O: Sink>(
     input: &mut S,
     out: &mut O,
 ) -> Status
-    ensures cause { (text : List ℕ) (before after : Stored) → Unkept before after → Came (w.Exec text limit) bytes.now
-        (record { left = S.left input.old; written = O.written out.old; read_faults = S.faults input.old; write_faults = O.faults out.old })
-        (record { left = S.left input.new; written = O.written out.new; read_faults = S.faults input.new; write_faults = O.faults out.new })
+    ensures cause { (text : List ℕ) (before after : Stored) → Unkept before after
+        → Came (w.Exec text limit) bytes.now
+        (seen_of S.left S.ended S.answers S.faults O.written O.faults input.old out.old)
+        (seen_of S.left S.ended S.answers S.faults O.written O.faults input.new out.new)
         before after (out.new ≡ out.old) (input.new ≡ input.old) result }
     ensures input_counts { S.faults input.old ≤ S.faults input.new }
     ensures out_counts { O.faults out.old ≤ O.faults out.new }
@@ -170,6 +176,53 @@ fn exec_bytes<S: Source, O: Sink>(
     match build(alloc, bytes) {
         Err(fault) => status_of(fault),
         Ok(image) => run_bytes(alloc, image.as_slice(), limit, input, out),
+    }
+}
+
+/// `interp TEXT [LIMIT]`
+fn interp_text<S: Source, O: Sink, F: Store>(
+    alloc: Global,
+    text: &str,
+    limit: u64,
+    input: &mut S,
+    out: &mut O,
+    store: &mut F,
+) -> Status
+    ensures cause { Obeyed (w.Interp text.now limit)
+        (seen_of S.left S.ended S.answers S.faults O.written O.faults input.old out.old)
+        (seen_of S.left S.ended S.answers S.faults O.written O.faults input.new out.new)
+        (F.seen store.old) (F.seen store.new)
+        (out.new ≡ out.old) (input.new ≡ input.old) result }
+    ensures input_counts { S.faults input.old ≤ S.faults input.new }
+    ensures out_counts { O.faults out.old ≤ O.faults out.new }
+    ensures store_counts { (F.seen store.old).faults ≤ (F.seen store.new).faults }
+{
+    match fetch(alloc, text, TEXT_LIMIT, store) {
+        Err(status) => status,
+        Ok(Fetched::Longer) => too_long(),
+        Ok(Fetched::Whole(bytes)) => interp_bytes(alloc, bytes.as_slice(), limit, input, out),
+    }
+}
+
+/// Runs the meaning of a text.
+fn interp_bytes<S: Source, O: Sink>(
+    alloc: Global,
+    bytes: &[u8],
+    limit: u64,
+    input: &mut S,
+    out: &mut O,
+) -> Status
+    ensures cause { (text : List ℕ) (before after : Stored) → Unkept before after
+        → Came (w.Interp text limit) bytes.now
+        (seen_of S.left S.ended S.answers S.faults O.written O.faults input.old out.old)
+        (seen_of S.left S.ended S.answers S.faults O.written O.faults input.new out.new)
+        before after (out.new ≡ out.old) (input.new ≡ input.old) result }
+    ensures input_counts { S.faults input.old ≤ S.faults input.new }
+    ensures out_counts { O.faults out.old ≤ O.faults out.new }
+{
+    match program(alloc, bytes) {
+        Err(fault) => status_of(fault),
+        Ok(p) => meant(interp(alloc, &p, limit, input, out)),
     }
 }
 
@@ -183,8 +236,8 @@ fn run_image<S: Source, O: Sink, F: Store>(
     store: &mut F,
 ) -> Status
     ensures cause { Obeyed (w.Run image.now limit)
-        (record { left = S.left input.old; written = O.written out.old; read_faults = S.faults input.old; write_faults = O.faults out.old })
-        (record { left = S.left input.new; written = O.written out.new; read_faults = S.faults input.new; write_faults = O.faults out.new })
+        (seen_of S.left S.ended S.answers S.faults O.written O.faults input.old out.old)
+        (seen_of S.left S.ended S.answers S.faults O.written O.faults input.new out.new)
         (F.seen store.old) (F.seen store.new)
         (out.new ≡ out.old) (input.new ≡ input.old) result }
     ensures input_counts { S.faults input.old ≤ S.faults input.new }
@@ -200,9 +253,9 @@ fn run_image<S: Source, O: Sink, F: Store>(
 
 /// `list IMAGE`
 fn list_image<O: Sink, F: Store>(alloc: Global, image: &str, out: &mut O, store: &mut F) -> Status
-    ensures cause { (left : Option (List ℕ)) (reads : ℕ) → Obeyed (w.Show image.now)
-        (record { left = left; written = O.written out.old; read_faults = reads; write_faults = O.faults out.old })
-        (record { left = left; written = O.written out.new; read_faults = reads; write_faults = O.faults out.new })
+    ensures cause { (seen : Seen) → Obeyed (w.Show image.now)
+        (putting seen (O.written out.old) (O.faults out.old))
+        (putting seen (O.written out.new) (O.faults out.new))
         (F.seen store.old) (F.seen store.new)
         (out.new ≡ out.old) (Unit {0}) result }
     ensures out_counts { O.faults out.old ≤ O.faults out.new }

@@ -1,7 +1,7 @@
 ghost use Rattle.std.specs.Prelude.{◌≡◌, ◌+◌, ◌≤◌, [], ◌∷◌, ◌++◌, length, codes};
 ghost use Rattle.std.specs.Fmt.{decimal};
 ghost use Rattle.ckc_base.specs.Checks.{name_of};
-ghost use Rattle.ckc_cli.specs.Report.{report_of, kind_name, place, hex};
+ghost use Rattle.ckc_cli.specs.Report.{report_of, kind_name, place, since_words, hex};
 
 use crate::line::Line;
 use crate::status::Status;
@@ -17,6 +17,7 @@ pub fn report(status: &Status) -> Line
         Status::Stopped(check, at) => stopped_line(*check, at),
         Status::Going => plain_line(b"going: limit reached"),
         Status::MachineFault(kind, pc) => fault_line(*kind, *pc),
+        Status::Stuck(at, since) => stuck_line(at, since),
         Status::Usage => plain_line(b"ccc: wrong words"),
         Status::Refused(refusal) => refused_line(refusal),
         Status::BadImage(part) => bad_image_line(*part),
@@ -47,6 +48,28 @@ fn stopped_line(check: Check, at: &Pos) -> Line
     push_place(&mut line, at);
     line.push(b'\n');
     line
+}
+
+fn stuck_line(at: &Pos, since: &Option<Pos>) -> Line
+    ensures { result ≡ codes "stuck: at " ++ place at.now ++ since_words since.now ++ 10 ∷ [] }
+{
+    let mut line = Line::new();
+    line.push_text(b"stuck: at ");
+    push_place(&mut line, at);
+    push_since(&mut line, since);
+    line.push(b'\n');
+    line
+}
+
+fn push_since(line: &mut Line, since: &Option<Pos>)
+    requires { length line.old ≤ 31 }
+    ensures text { line.new ≡ line.old ++ since_words since.now }
+    ensures length { length line.new ≤ length line.old + 39 }
+{
+    if let Some(at) = since {
+        line.push_text(b", unchecked since ");
+        push_place(line, at);
+    }
 }
 
 fn fault_line(kind: FaultKind, pc: u32) -> Line
@@ -84,7 +107,7 @@ fn bad_image_line(part: u8) -> Line
 }
 
 fn push_place(line: &mut Line, at: &Pos)
-    requires { length line.old ≤ 40 }
+    requires { length line.old ≤ 49 }
     ensures text { line.new ≡ line.old ++ place at.now }
     ensures length { length line.new ≤ length line.old + 21 }
 {

@@ -1,11 +1,13 @@
-//! Running and listing the bytes of an image.
+//! Running and listing the bytes of an image, and what a run of a meaning shows.
 ghost use Rattle.std.specs.Prelude.{◌≡◌, ◌≤◌};
 ghost use Rattle.ckc_rv.specs.Machine.{Parts};
 ghost use Rattle.ckc_listing.specs.Listing.{listing};
-ghost use Rattle.ckc_cli.specs.Running.{Ends, Listed, OverImage, status_of};
+ghost use Rattle.ckc_cli.specs.Interpreting.{meant_status};
+ghost use Rattle.ckc_cli.specs.Running.{Ends, Listed, OverImage, seen_of, status_of};
 
 use crate::status::Status;
 use ckc_image::View;
+use ckc_interp::Seen;
 use ckc_listing::list;
 use ckc_machine::{Machine, Observed};
 use ckc_outside::{Sink, Source};
@@ -20,9 +22,10 @@ pub fn run_bytes<S: Source, O: Sink>(
     out: &mut O,
 ) -> Status
     ensures over { OverImage image.now (λ parts. Ends parts limit
-        (record { left = S.left input.old; written = O.written out.old; read_faults = S.faults input.old; write_faults = O.faults out.old })
-        (record { left = S.left input.new; written = O.written out.new; read_faults = S.faults input.new; write_faults = O.faults out.new })
-        (out.new ≡ out.old) (input.new ≡ input.old) result) ((out.new ≡ out.old) × (input.new ≡ input.old)) result }
+        (seen_of S.left S.ended S.answers S.faults O.written O.faults input.old out.old)
+        (seen_of S.left S.ended S.answers S.faults O.written O.faults input.new out.new)
+        (out.new ≡ out.old) (input.new ≡ input.old) result)
+        ((out.new ≡ out.old) × (input.new ≡ input.old)) result }
     ensures input_counts { S.faults input.old ≤ S.faults input.new }
     ensures out_counts { O.faults out.old ≤ O.faults out.new }
 {
@@ -40,9 +43,11 @@ fn run_view<'a, S: Source, O: Sink>(
     input: &mut S,
     out: &mut O,
 ) -> Status
-    ensures ran { (parts : Parts) → parts.entry ≡ view.entry.entry → parts.code ≡ view.entry.code.now → parts.initial ≡ view.entry.initial.now → Ends parts limit
-        (record { left = S.left input.old; written = O.written out.old; read_faults = S.faults input.old; write_faults = O.faults out.old })
-        (record { left = S.left input.new; written = O.written out.new; read_faults = S.faults input.new; write_faults = O.faults out.new })
+    ensures ran { (parts : Parts) → parts.entry ≡ view.entry.entry
+        → parts.code ≡ view.entry.code.now → parts.initial ≡ view.entry.initial.now
+        → Ends parts limit
+        (seen_of S.left S.ended S.answers S.faults O.written O.faults input.old out.old)
+        (seen_of S.left S.ended S.answers S.faults O.written O.faults input.new out.new)
         (out.new ≡ out.old) (input.new ≡ input.old) result }
     ensures input_counts { S.faults input.old ≤ S.faults input.new }
     ensures out_counts { O.faults out.old ≤ O.faults out.new }
@@ -67,9 +72,25 @@ fn shown(observed: Observed) -> Status
     }
 }
 
+/// The status of what a run of a meaning shows.
+pub fn meant(seen: Seen) -> Status
+    ensures { result ≡ meant_status seen }
+{
+    match seen {
+        Seen::Ended(value) => Status::Ended(value),
+        Seen::Stopped(check, pos) => Status::Stopped(check, pos),
+        Seen::Going => Status::Going,
+        Seen::Stuck(at, since) => Status::Stuck(at, since),
+        Seen::ReadFault => Status::ReadFault,
+        Seen::WriteFault => Status::WriteFault,
+        Seen::Memory => Status::Memory,
+    }
+}
+
 /// Puts the listing of the image that the bytes are, or says which part of them disagrees.
 pub fn list_bytes<O: Sink>(image: &[u8], out: &mut O) -> Status
-    ensures over { OverImage image.now (λ parts. Listed (listing parts.entry parts.code parts.initial) (O.written out.old) (O.written out.new)
+    ensures over { OverImage image.now (λ parts. Listed
+        (listing parts.entry parts.code parts.initial) (O.written out.old) (O.written out.new)
         (O.faults out.old) (O.faults out.new) result) (out.new ≡ out.old) result }
     ensures out_counts { O.faults out.old ≤ O.faults out.new }
 {

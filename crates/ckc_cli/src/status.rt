@@ -8,8 +8,9 @@ use ckc_machine::FaultKind;
 ///
 /// - `Done`: all was done.
 /// - `Ended(value)`, `Stopped(check, place)`: the program ended, or stopped at a run-time check.
-/// - `Going`: the limit of instructions was reached.
+/// - `Going`: the limit of instructions, or of steps, was reached.
 /// - `MachineFault(kind, pc)`: a fault of the machine at the instruction at pc.
+/// - `Stuck(place, since)`: the meaning of the text is stuck at the place; where unchecked code first ran, if it did.
 /// - `Usage`: the words are no command.
 /// - `Refused(refusal)`: the text is not accepted.
 /// - `BadImage(part)`: the bytes are no image; the part that disagrees.
@@ -22,6 +23,7 @@ pub enum Status {
     Stopped(Check, Pos),
     Going,
     MachineFault(FaultKind, u32),
+    Stuck(Pos, Option<Pos>),
     Usage,
     Refused(Refusal),
     BadImage(u8),
@@ -49,6 +51,7 @@ impl Status {
             Status::WriteFault => 116,
             Status::StoreFault => 117,
             Status::Memory => 118,
+            Status::Stuck(_, _) => 119,
         }
     }
 }

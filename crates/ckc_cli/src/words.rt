@@ -4,12 +4,13 @@ ghost use Rattle.ckc_cli.specs.Words as w;
 ghost use Rattle.ckc_cli.specs.Words.{Reads, IsLimit, NameAndLimit, bytes_of};
 ghost use Rattle.ckc_cli.specs.Commanded.{command_is, spelling, HasArguments, IsTwo, IsOne};
 
-/// What the words ask for, with the names of files and the most instructions that are executed.
+/// What the words ask for, with the names of files and the most instructions that are executed, or steps that are run.
 #[derive(Clone, Copy, Debug)]
 pub enum Command<'a> {
     Build(&'a str, &'a str),
     Assemble(&'a str, &'a str),
     Exec(&'a str, u64),
+    Interp(&'a str, u64),
     Run(&'a str, u64),
     List(&'a str),
 }
@@ -20,6 +21,7 @@ enum Keyword {
     Build,
     Assemble,
     Exec,
+    Interp,
     Run,
     List,
 }
@@ -42,12 +44,14 @@ pub fn command_of(words: &[String]) -> Option<Command<'_>>
 }
 
 fn keyword_of(name: &str) -> Option<Keyword>
-    ensures { MatchOption result ((k : Keyword) → name.now ≢ spelling k) (λ k. name.now ≡ spelling k) }
+    ensures { MatchOption result ((k : Keyword)
+        → name.now ≢ spelling k) (λ k. name.now ≡ spelling k) }
 {
     match name {
         "build" => Some(Keyword::Build),
         "asm" => Some(Keyword::Assemble),
         "exec" => Some(Keyword::Exec),
+        "interp" => Some(Keyword::Interp),
         "run" => Some(Keyword::Run),
         "list" => Some(Keyword::List),
         _ => None,
@@ -56,7 +60,8 @@ fn keyword_of(name: &str) -> Option<Keyword>
 
 /// The command with the other words.
 fn command_with(keyword: Keyword, more: &[String]) -> Option<Command<'_>>
-    ensures { MatchOption result ((command : w.Command) → ¬ HasArguments keyword (bytes_of more.now) command)
+    ensures { MatchOption result ((command : w.Command)
+        → ¬ HasArguments keyword (bytes_of more.now) command)
         (λ c. HasArguments keyword (bytes_of more.now) (command_is c)) }
 {
     match keyword {
@@ -72,6 +77,10 @@ fn command_with(keyword: Keyword, more: &[String]) -> Option<Command<'_>>
             None => None,
             Some((text, limit)) => Some(Command::Exec(text, limit)),
         },
+        Keyword::Interp => match name_and_limit(more) {
+            None => None,
+            Some((text, limit)) => Some(Command::Interp(text, limit)),
+        },
         Keyword::Run => match name_and_limit(more) {
             None => None,
             Some((image, limit)) => Some(Command::Run(image, limit)),
@@ -84,7 +93,8 @@ fn command_with(keyword: Keyword, more: &[String]) -> Option<Command<'_>>
 }
 
 fn one_name(words: &[String]) -> Option<&str>
-    ensures { MatchOption result ((name : List ℕ) → ¬ IsOne (bytes_of words.now) name) (λ name. IsOne (bytes_of words.now) name.now) }
+    ensures { MatchOption result ((name : List ℕ)
+        → ¬ IsOne (bytes_of words.now) name) (λ name. IsOne (bytes_of words.now) name.now) }
 {
     match words {
         [name] => Some(name.as_str()),
@@ -103,7 +113,8 @@ fn two_names(words: &[String]) -> Option<(&str, &str)>
 }
 
 fn name_and_limit(words: &[String]) -> Option<(&str, u64)>
-    ensures { MatchOption result ((name : List ℕ) (limit : ℕ) → ¬ NameAndLimit (bytes_of words.now) name limit)
+    ensures { MatchOption result ((name : List ℕ) (limit : ℕ)
+        → ¬ NameAndLimit (bytes_of words.now) name limit)
         (λ found. NameAndLimit (bytes_of words.now) found.0.now found.1) }
 {
     match words {
@@ -117,7 +128,8 @@ fn name_and_limit(words: &[String]) -> Option<(&str, u64)>
 }
 
 fn limit_of(word: &str) -> Option<u64>
-    ensures { MatchOption result ((limit : ℕ) → ¬ IsLimit word.now limit) (λ limit. IsLimit word.now limit) }
+    ensures { MatchOption result ((limit : ℕ)
+        → ¬ IsLimit word.now limit) (λ limit. IsLimit word.now limit) }
 {
     if word.len() > 18 || word.as_bytes().first() == Some(&b'+') {
         return None;

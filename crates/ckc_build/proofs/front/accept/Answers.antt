@@ -1,20 +1,33 @@
-use Rattle.std.proofs.Common.{subst}
+use Rattle.std.proofs.Common.{Ok, Err, subst}
 use Rattle.std.proofs.lemmas.Result.{err_from_is_err_and}
 use Rattle.ckc_base.specs.Phases.{Exact, viewed}
 use Rattle.ckc_lexer.specs.Phase.{tokens_in}
-use Rattle.ckc_build.specs.Accepted.{phases, after_lexing, meaning_of}
-use Rattle.ckc_build.proofs.Chain.{ends, tokens_same, lex_ends, lex_goes}
+use Rattle.ckc_parser.specs.Phase.{parsing}
+use Rattle.ckc_build.specs.Accepted.{phases, meaning_of}
+use Rattle.ckc_build.proofs.Chain.{ends, tokens_same, accept_lex_ends, accept_parse_ends, accept_goes}
 use Rattle.ckc_build.proofs.front.accept.Goals as goal
 
 pub returns-in_err-tokens : goal.returns-in_err-tokens
 returns-in_err-tokens c =
     let text = c.args.text.now in
     let p = err_from_is_err_and c.from_residual.result c.from_residual.ensures.1 in
-    record { exact = ends phases text c.from_residual.result p.0 c.in_err-tokens.field-0.0 p.1 p.2 (lex_ends text c.in_err-tokens.field-0.0 c.in_err-tokens.ensures.exact) }
+    record { exact = ends (λ r. Exact phases text (viewed meaning_of r)) c.from_residual.result p.0 c.in_err-tokens.field-0.0 p.1 p.2 (accept_lex_ends text c.in_err-tokens.field-0.0 c.in_err-tokens.ensures.exact) }
+
+pub returns-in_err-tree : goal.returns-in_err-tree
+returns-in_err-tree c =
+    let text = c.args.text.now in
+    let tokens = tokens_in text c.in_ok-tokens.tokens in
+    let same = tokens_same text c.in_ok-tokens.tokens c.as_slice.result.now c.end_of.result c.as_slice.ensures c.end_of.ensures in
+    let p = err_from_is_err_and c.from_residual-in_err-tree.result c.from_residual-in_err-tree.ensures.1 in
+    let e = c.in_err-tree.field-0.0 in
+    let stops = subst (λ t. Exact parsing t (Err e)) same c.in_err-tree.ensures.exact in
+    record { exact = ends (λ r. Exact phases text (viewed meaning_of r)) c.from_residual-in_err-tree.result p.0 e p.1 p.2 (accept_parse_ends text tokens c.in_ok-tokens.ensures.exact e stops) }
 
 pub returns : goal.returns
 returns c =
     let text = c.args.text.now in
-    let answer = viewed meaning_of c.of_tokens.result in
+    let tokens = tokens_in text c.in_ok-tokens.tokens in
     let same = tokens_same text c.in_ok-tokens.tokens c.as_slice.result.now c.end_of.result c.as_slice.ensures c.end_of.ensures in
-    record { exact = lex_goes text (tokens_in text c.in_ok-tokens.tokens) answer c.in_ok-tokens.ensures.exact (subst (λ t. Exact after_lexing t answer) same c.of_tokens.ensures.exact) }
+    let tree = c.in_ok-tree.tree in
+    let parsed = subst (λ t. Exact parsing t (Ok tree)) same c.in_ok-tree.ensures.exact in
+    record { exact = accept_goes text tokens c.in_ok-tokens.ensures.exact tree (viewed meaning_of c.formed.result) parsed c.formed.ensures.exact }

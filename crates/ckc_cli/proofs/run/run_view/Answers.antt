@@ -1,5 +1,5 @@
 use Rattle.std.proofs.Common.{◌≡◌}
-use Rattle.ckc_cli.specs.Running.{shows}
+use Rattle.ckc_cli.specs.Running.{seen_of, shows}
 use Rattle.ckc_cli.proofs.Shows.{ran_of}
 use Rattle.ckc_cli.proofs.run.run_view.Goals as goal
 
@@ -10,6 +10,6 @@ returns-in-Ok-clause-ran g c = λ parts entry code initial.
     let r = c.run.ensures in
     shows c.run.result c.shown.ensures
     (ran_of parts c.args.limit c.in-Ok.machine c.run.new.self (c.run.new.input ≡ input)
-    (record { left = g.S.Source.left input; written = g.O.Sink.written out; read_faults = g.S.Source.faults input; write_faults = g.O.Sink.faults out })
-    (record { left = g.S.Source.left c.run.new.input; written = g.O.Sink.written c.run.new.out; read_faults = g.S.Source.faults c.run.new.input; write_faults = g.O.Sink.faults c.run.new.out })
+    (seen_of g.S.Source.left g.S.Source.ended g.S.Source.answers g.S.Source.faults g.O.Sink.written g.O.Sink.faults input out)
+    (seen_of g.S.Source.left g.S.Source.ended g.S.Source.answers g.S.Source.faults g.O.Sink.written g.O.Sink.faults c.run.new.input c.run.new.out)
     c.run.result (λ given. c.in-Ok.ensures.start parts given entry code initial) r.answer r.exact r.silent r.read_fault r.write_fault)

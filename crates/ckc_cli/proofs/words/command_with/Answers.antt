@@ -2,7 +2,7 @@ use Rattle.std.proofs.Common.{sym, subst}
 use Rattle.ckc_cli.specs.declared.words.Keyword.{Keyword}
 use Rattle.ckc_cli.specs.Words.{Command, bytes_of}
 use Rattle.ckc_cli.specs.Commanded.{HasArguments}
-use Rattle.ckc_cli.proofs.Wording.{no_exec, no_run}
+use Rattle.ckc_cli.proofs.Wording.{no_exec, no_interp, no_run}
 use Rattle.ckc_cli.proofs.words.command_with.Goals as goal
 
 pub returns-in-None-name_and_limit : goal.returns-in-None-name_and_limit
@@ -13,4 +13,9 @@ returns-in-None-name_and_limit c =
 pub returns-in-None-name_and_limit-2 : goal.returns-in-None-name_and_limit-2
 returns-in-None-name_and_limit-2 c =
     let more = bytes_of c.args.more.now in
-    subst (λ (k : Keyword). (command : Command) → HasArguments k more command → ⊥) (sym c.in-Run.is) (no_run more c.in-None-name_and_limit-2.ensures)
+    subst (λ (k : Keyword). (command : Command) → HasArguments k more command → ⊥) (sym c.in-Interp.is) (no_interp more c.in-None-name_and_limit-2.ensures)
+
+pub returns-in-None-name_and_limit-3 : goal.returns-in-None-name_and_limit-3
+returns-in-None-name_and_limit-3 c =
+    let more = bytes_of c.args.more.now in
+    subst (λ (k : Keyword). (command : Command) → HasArguments k more command → ⊥) (sym c.in-Run.is) (no_run more c.in-None-name_and_limit-3.ensures)

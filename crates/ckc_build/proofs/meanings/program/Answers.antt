@@ -1,0 +1,13 @@
+use Rattle.ckc_source.specs.Code.{program_of}
+use Rattle.ckc_build.proofs.Programs.{judging_ends, memory_ends, means}
+use Rattle.ckc_build.proofs.meanings.program.Goals as goal
+
+pub returns-in-Err-clause-exact : goal.returns-in-Err-clause-exact
+returns-in-Err-clause-exact c = judging_ends c.args.text.now c.in-Err.fault c.in-Err.ensures.exact
+
+pub returns-in-Err-elaborate-clause-exact : goal.returns-in-Err-elaborate-clause-exact
+returns-in-Err-elaborate-clause-exact c = memory_ends c.args.text.now
+
+pub returns-then-lies_apart-clause-exact : goal.returns-then-lies_apart-clause-exact
+returns-then-lies_apart-clause-exact c =
+    means c.args.text.now c.in-Ok.typed (program_of c.in-Ok-elaborate.p) c.in-Ok.ensures.exact c.in-Ok-elaborate.ensures

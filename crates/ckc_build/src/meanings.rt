@@ -1,0 +1,40 @@
+//! From a text to the program that it means.
+ghost use Rattle.std.specs.Prelude.{IfOk};
+ghost use Rattle.ckc_base.specs.Phases.{Exact, IsExact, viewed};
+ghost use Rattle.ckc_source.specs.Code.{program_of};
+ghost use Rattle.ckc_source.specs.LaidOut.{IsLaidOut};
+ghost use Rattle.ckc_build.specs.Meanings.{meanings};
+
+use crate::front::judge;
+use crate::placed::lies_apart;
+use ckc_base::Fault;
+use ckc_elaborate::elaborate;
+use ckc_source::Program;
+use std::alloc::Global;
+
+/// The program that a text means, or the first error of the text.
+pub fn program(alloc: Global, text: &[u8]) -> Result<Program, Fault>
+    // Ok of exactly the meaning of the text, a refusal for exactly its first error, both ways.
+    ensures exact { Exact meanings text.now (viewed program_of result) }
+    // The static objects lie apart, as a run of the program needs them.
+    ensures laid_out { IfOk result (λ p. IsLaidOut (program_of p)) }
+{
+    match judge(alloc, text) {
+        Err(fault) => Err(fault),
+        Ok(typed) => match elaborate(alloc, &typed) {
+            Err(_) => Err(Fault::Memory),
+            Ok(p) => {
+                if lies_apart(&p) {
+                    Ok(p)
+                } else {
+                    Err(Fault::Memory)
+                }
+            }
+        },
+    }
+}
+
+/// A text means one program, or it has one first error.
+pub fn meanings_are_exact()
+    ensures { IsExact meanings }
+{}
