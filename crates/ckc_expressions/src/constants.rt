@@ -7,7 +7,7 @@ ghost use Rattle.ckc_grammar.specs.Marked.{ahead, remaining, Parses, Reads, Make
 
 use crate::types::type_name;
 use ckc_base::Boxed;
-use ckc_grammar::{Expression, Kind, Reader, Stop};
+use ckc_grammar::{Class, Expression, Kind, Reader, Stop};
 use ckc_syntax::{Expr, Node, Spelling, Token, TokenKind, string_bytes};
 use std::alloc::{AllocError, Global};
 
@@ -29,7 +29,7 @@ fn literal<'a>(reader: &mut Reader<'a>, alloc: Global) -> Result<Expression<'a>,
     ensures reads { Reads (g.right g.Literal) (Makes g.Literal (λ x. expr x)) (ahead reader.old) result (ahead reader.new) }
     ensures fewer { remaining reader.new ≤ remaining reader.old }
 {
-    let token = reader.take_literal()?;
+    let token = reader.take_any(Class::Literal)?;
     let whole = Boxed::new(
         alloc,
         Expr {
@@ -98,7 +98,7 @@ pub fn name_operand<'a>(reader: &mut Reader<'a>, alloc: Global) -> Result<Expres
     ensures reads { Reads (g.t g.name ∷ []) (λ x vs. (token : Value) × (vs ≡ token ∷ []) × (x ≡ named (as_token token))) (ahead reader.old) result (ahead reader.new) }
     ensures fewer { remaining reader.new ≤ remaining reader.old }
 {
-    let token = reader.take_name()?;
+    let token = reader.take_any(Class::Name)?;
     let whole = named(alloc, token)?;
     Ok(whole)
 }

@@ -14,8 +14,8 @@ use crate::operations::operation;
 use crate::types::type_name;
 use ckc_base::{Boxed, Pos, Seq};
 use ckc_grammar::{
-    Arms, Bounds, CType, Expression, Kind, Reader, Rest, Step, Stop, begins_post, begins_step,
-    begins_type, is_name, is_sign, sign_op, token_kind, whole,
+    Arms, Bounds, CType, Class, Expression, Kind, Reader, Rest, Step, Stop, begins_post,
+    begins_step, begins_type, is_name, is_sign, sign_op, token_kind, whole,
 };
 use ckc_syntax::{Expr, Limits, Node, Spelling};
 use std::alloc::{AllocError, Global};
@@ -135,7 +135,7 @@ fn signed<'a>(reader: &mut Reader<'a>, alloc: Global) -> Result<Expression<'a>, 
     ensures reads { Reads (g.right g.Signed) (Makes g.Signed (λ x. expr x)) (ahead reader.old) result (ahead reader.new) }
     ensures fewer { remaining reader.new ≤ remaining reader.old }
 {
-    let sign = reader.take_sign()?;
+    let sign = reader.take_any(Class::Sign)?;
     let operand = unary(reader, alloc)?;
     let whole = Boxed::new(
         alloc,
@@ -272,7 +272,7 @@ fn dot<'a>(
     ensures fewer { MatchResult result (λ x. remaining reader.new < remaining reader.old) (λ e. remaining reader.new ≤ remaining reader.old) }
 {
     let mark = reader.take(Kind::Dot)?;
-    let name = reader.take_name()?;
+    let name = reader.take_any(Class::Name)?;
     let whole = Boxed::new(
         alloc,
         Expr {
@@ -294,7 +294,7 @@ fn arrow<'a>(
     ensures fewer { MatchResult result (λ x. remaining reader.new < remaining reader.old) (λ e. remaining reader.new ≤ remaining reader.old) }
 {
     let mark = reader.take(Kind::Arrow)?;
-    let name = reader.take_name()?;
+    let name = reader.take_any(Class::Name)?;
     let whole = Boxed::new(
         alloc,
         Expr {
@@ -345,7 +345,7 @@ fn cast_type<'a>(reader: &mut Reader<'a>, alloc: Global) -> Result<CType<'a>, St
 {
     let open = reader.take(Kind::Less)?;
     let ctype = type_name(reader, alloc)?;
-    let close = reader.take_greater()?;
+    let close = reader.take_any(Class::Greater)?;
     let round = reader.take(Kind::RoundOpen)?;
     Ok(ctype)
 }

@@ -4,7 +4,7 @@ ghost use Rattle.ckc_grammar.specs.Grammar as g;
 ghost use Rattle.ckc_grammar.specs.Values.{operator, second};
 ghost use Rattle.ckc_grammar.specs.Marked.{ahead, remaining, Parses, Reads, Makes};
 
-use ckc_grammar::{Kind, Operation, Reader, Stop, binary_op, is_greater, token_kind};
+use ckc_grammar::{Class, Kind, Operation, Reader, Stop, binary_op, is_greater, token_kind};
 use ckc_syntax::TreeOp;
 
 /// A binary operator.
@@ -47,7 +47,7 @@ fn plain_operation<'a>(reader: &mut Reader<'a>) -> Result<Operation, Stop>
     ensures reads { Reads (g.right g.Operator) (Makes g.Operator (λ x. operator x.op x.pos)) (ahead reader.old) result (ahead reader.new) }
     ensures fewer { MatchResult result (λ x. remaining reader.new < remaining reader.old) (λ e. remaining reader.new ≤ remaining reader.old) }
 {
-    let mark = reader.take_operator()?;
+    let mark = reader.take_any(Class::Operator)?;
     Ok(Operation {
         op: binary_op(token_kind(&mark)),
         pos: mark.pos,
@@ -59,7 +59,7 @@ fn greater<'a>(reader: &mut Reader<'a>) -> Result<Operation, Stop>
     ensures reads { Reads (g.right g.Greater) (Makes g.Greater (λ x. operator x.op x.pos)) (ahead reader.old) result (ahead reader.new) }
     ensures fewer { MatchResult result (λ x. remaining reader.new < remaining reader.old) (λ e. remaining reader.new ≤ remaining reader.old) }
 {
-    let mark = reader.take_greater()?;
+    let mark = reader.take_any(Class::Greater)?;
     let is_shift = second(reader)?;
     Ok(Operation {
         op: greater_op(is_shift),

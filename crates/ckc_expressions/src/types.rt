@@ -6,7 +6,7 @@ ghost use Rattle.ckc_grammar.specs.Marked.{ahead, remaining, Parses, Gives, Read
 ghost use Rattle.ckc_expressions.specs.Forms.{pointed, IsThird};
 
 use ckc_base::Boxed;
-use ckc_grammar::{CType, Kind, Reader, Stop};
+use ckc_grammar::{CType, Class, Kind, Reader, Stop};
 use ckc_syntax::{Spelling, TypeTree};
 use std::alloc::Global;
 
@@ -55,7 +55,7 @@ fn struct_base<'a>(reader: &mut Reader<'a>, alloc: Global) -> Result<CType<'a>, 
     ensures fewer { remaining reader.new ≤ remaining reader.old }
 {
     let keyword = reader.take(Kind::Struct)?;
-    let tag = reader.take_name()?;
+    let tag = reader.take_any(Class::Name)?;
     let base = Boxed::new(alloc, TypeTree::Struct(Spelling::new(tag.text), tag.pos))?;
     Ok(base)
 }
@@ -162,6 +162,6 @@ fn pointed<'a>(reader: &mut Reader<'a>, alloc: Global, keyword: Kind) -> Result<
     let word = reader.take(keyword)?;
     let open = reader.take(Kind::Less)?;
     let inner = type_name(reader, alloc)?;
-    let close = reader.take_greater()?;
+    let close = reader.take_any(Class::Greater)?;
     Ok(inner)
 }

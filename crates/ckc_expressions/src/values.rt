@@ -1,21 +1,22 @@
 ghost use Rattle.std.specs.Prelude.{◌≡◌, ◌≤◌, ◌<◌, ◌∷◌, [], ◌++◌, length, true, MatchResult, Option, Some, None, IfOk};
 ghost use Rattle.ckc_syntax.specs.Spelled.{spelled};
-ghost use Rattle.ckc_syntax.specs.declared.tree.Item.TheVariants as item;
+ghost use Rattle.ckc_syntax.specs.declared.tree.Node.TheVariants as node;
 ghost use Rattle.ckc_grammar.specs.Grammar as g;
 ghost use Rattle.ckc_grammar.specs.Trees as trees;
 ghost use Rattle.ckc_grammar.specs.Values as v;
-ghost use Rattle.ckc_grammar.specs.Reading.{kind_of};
+ghost use Rattle.ckc_expressions.specs.Allocations.{allocated_type, allocated_size, IsLead, IsFourth};
 ghost use Rattle.ckc_grammar.specs.Marked.{ahead, remaining, Answered, Gives, Reads};
 
 use crate::constants::named;
 use crate::expressions::{expr, expr_rest, first, posts, unary};
 use crate::types::type_name;
-use ckc_base::Seq;
+use ckc_base::{Pos, Seq};
 use ckc_grammar::{
-    Expression, Kind, Reader, Statement, Step, Stop, called, expression, one, statement, whole,
+    CType, Class, Expression, Kind, Reader, Statement, Step, Stop, called, expression, one,
+    statement, whole,
 };
 use ckc_syntax::{Act, Expr, Node, Spelling, Token, TreeOp};
-use std::alloc::Global;
+use std::alloc::{AllocError, Global};
 
 /// The right side of an assignment, or what a local begins as: an expression or a call.
 pub fn value<'a>(reader: &mut Reader<'a>, alloc: Global) -> Result<Expression<'a>, Stop>
@@ -39,8 +40,7 @@ fn calloc_first<'a>(reader: &mut Reader<'a>, alloc: Global) -> Result<Expression
     ensures fewer { remaining reader.new ≤ remaining reader.old }
 {
     let name = reader.take(Kind::Calloc)?;
-    let whole = calloc_value(reader, alloc, name)?;
-    Ok(whole)
+    calloc_value(reader, alloc, name)
 }
 
 /// A value that begins with another name.
@@ -48,9 +48,8 @@ fn name_first<'a>(reader: &mut Reader<'a>, alloc: Global) -> Result<Expression<'
     ensures reads { Reads (g.right g.NamedValue) (λ x vs. v.as_expr (v.made g.NamedValue vs) ≡ x) (ahead reader.old) result (ahead reader.new) }
     ensures fewer { remaining reader.new ≤ remaining reader.old }
 {
-    let name = reader.take_name_but_calloc()?;
-    let whole = named_value(reader, alloc, name)?;
-    Ok(whole)
+    let name = reader.take_any(Class::NameButCalloc)?;
+    named_value(reader, alloc, name)
 }
 
 /// A value that begins with no name.
@@ -151,8 +150,7 @@ fn calloc_less<'a>(
     ensures fewer { remaining reader.new ≤ remaining reader.old }
 {
     let mark = reader.take(Kind::Less)?;
-    let whole = behind_less(reader, alloc, name, mark)?;
-    Ok(whole)
+    behind_less(reader, alloc, name, mark)
 }
 
 /// What goes on behind `calloc <`: a type, or an operand.
@@ -187,8 +185,7 @@ fn less_type<'a>(
     ensures reads { Reads (g.right g.LessType) (λ x vs. v.as_expr_of_less (v.made g.LessType vs) (spelled name.entry) (v.place (v.token (spelled mark.entry))) ≡ x) (ahead reader.old) result (ahead reader.new) }
     ensures fewer { remaining reader.new ≤ remaining reader.old }
 {
-    let whole = allocation(reader, alloc, name)?;
-    Ok(whole)
+    allocation(reader, alloc, name)
 }
 
 /// An operand of `<` with what follows it.
@@ -251,8 +248,7 @@ fn some_arguments<'a>(
     ensures fewer { remaining reader.new ≤ remaining reader.old }
 {
     let first = expr(reader, alloc)?;
-    let all = more_arguments(reader, alloc, first)?;
-    Ok(all)
+    more_arguments(reader, alloc, first)
 }
 
 /// More arguments, up to the `)`.
@@ -283,22 +279,53 @@ pub fn allocation<'a>(
     ensures gives { Gives (λ y. v.as_expr_of_name y (spelled name.entry)) (g.n g.allocation) (ahead reader.old) result (ahead reader.new) }
     ensures fewer { remaining reader.new ≤ remaining reader.old }
 {
-    let ctype = type_name(reader, alloc)?;
-    let close = reader.take_greater()?;
-    let open = reader.take(Kind::RoundOpen)?;
+    let ctype = allocated_type(reader, alloc)?;
     let count = expr(reader, alloc)?;
+    let other = allocated_size(reader, alloc)?;
+    let whole = allocation_at(alloc, ctype, count, other, name.pos)?;
+    Ok(whole)
+}
+
+/// The type behind `calloc <`, with the `>` and the `(` behind it.
+fn allocated_type<'a>(reader: &mut Reader<'a>, alloc: Global) -> Result<CType<'a>, Stop>
+    ensures reads { Reads allocated_type (λ x vs. IsLead (v.type_tree x) vs) (ahead reader.old) result (ahead reader.new) }
+    ensures fewer { remaining reader.new ≤ remaining reader.old }
+{
+    let ctype = type_name(reader, alloc)?;
+    let close = reader.take_any(Class::Greater)?;
+    let open = reader.take(Kind::RoundOpen)?;
+    Ok(ctype)
+}
+
+/// The `sizeof` of a type as the last argument of `calloc`, with the `,` before it and the `)` behind it.
+fn allocated_size<'a>(reader: &mut Reader<'a>, alloc: Global) -> Result<CType<'a>, Stop>
+    ensures reads { Reads allocated_size (λ x vs. IsFourth (v.type_tree x) vs) (ahead reader.old) result (ahead reader.new) }
+    ensures fewer { remaining reader.new ≤ remaining reader.old }
+{
     let comma = reader.take(Kind::Comma)?;
     let word = reader.take(Kind::Sizeof)?;
     let round = reader.take(Kind::RoundOpen)?;
-    let other = type_name(reader, alloc)?;
+    let ctype = type_name(reader, alloc)?;
     let end = reader.take(Kind::RoundClose)?;
     let last = reader.take(Kind::RoundClose)?;
-    let whole = expression(
+    Ok(ctype)
+}
+
+/// A call of `calloc` with its type, count and the type whose size is given.
+fn allocation_at<'a>(
+    alloc: Global,
+    ctype: CType<'a>,
+    count: Expression<'a>,
+    other: CType<'a>,
+    pos: Pos,
+) -> Result<Expression<'a>, AllocError>
+    ensures { IfOk result (λ e. e ≡ trees.expr_at (node.Calloc ctype.entry count.entry other.entry) pos) }
+{
+    expression(
         alloc,
         Node::Calloc(ctype.into_inner(), count, other.into_inner()),
-        name.pos,
-    )?;
-    Ok(whole)
+        pos,
+    )
 }
 
 /// An assignment (ISO C11, 6.5.16).

@@ -1,3 +1,4 @@
+pub mod Classes
 pub mod Derives
 pub mod Forms
 pub mod Grammar

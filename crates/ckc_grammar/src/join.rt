@@ -20,8 +20,7 @@ pub fn whole<'a>(
 {
     let Rest { steps, arms } = rest;
     let joined = joined(alloc, first, steps)?;
-    let whole = picked(alloc, joined, arms)?;
-    Ok(whole)
+    picked(alloc, joined, arms)
 }
 
 /// A condition with its arms, where it has some.

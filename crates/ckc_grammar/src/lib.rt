@@ -20,4 +20,4 @@ pub use operators::{
 pub use parts::{
     Arms, Bounds, CType, Declaration, Expression, Operation, Rest, Statement, Step, Stop,
 };
-pub use reader::{Reader, SYNTAX_ERROR, is_name, token_kind};
+pub use reader::{Class, Reader, SYNTAX_ERROR, is_name, token_kind};

@@ -1,6 +1,6 @@
 ghost use Rattle.std.specs.Prelude.{◌≡◌, ◌++◌, ◌∷◌, [], IfOk, OnOk, Option, Some, None};
 ghost use Rattle.ckc_syntax.specs.Spelled.{spelled};
-ghost use Rattle.ckc_syntax.specs.declared.tree.TypeTree.TheVariants as types;
+ghost use Rattle.ckc_syntax.specs.declared.tree.Item.TheVariants as item;
 ghost use Rattle.ckc_grammar.specs.Trees as trees;
 ghost use Rattle.ckc_grammar.specs.Values as v;
 
@@ -155,7 +155,25 @@ pub fn function<'a>(
 ) -> Result<Seq<Item<Spelling<'a>, ()>>, AllocError>
     ensures { IfOk result (λ all. all ≡ trees.function_of (record { mode = mode; result = result_type.entry; name = (spelled name.entry).text; params = params.entry; bounds = bounds.entry; pos = (spelled name.entry).pos }) body.entry ∷ []) }
 {
-    let head = Boxed::new(
+    let head = head(alloc, mode, result_type, name, params, bounds)?;
+    match body {
+        None => prototype(alloc, head),
+        Some(body) => definition(alloc, head, body),
+    }
+}
+
+/// The head of a function.
+fn head<'a>(
+    alloc: Global,
+    mode: Option<Mode>,
+    result_type: CType<'a>,
+    name: Token<'a>,
+    params: Seq<Decl<Spelling<'a>, ()>>,
+    bounds: Option<Bounds<'a>>,
+) -> Result<Boxed<Head<Spelling<'a>, ()>>, AllocError>
+    ensures { IfOk result (λ head. head ≡ record { mode = mode; result = result_type.entry; name = (spelled name.entry).text; params = params.entry; bounds = bounds.entry; pos = (spelled name.entry).pos }) }
+{
+    Boxed::new(
         alloc,
         Head {
             mode,
@@ -165,11 +183,37 @@ pub fn function<'a>(
             bounds,
             pos: name.pos,
         },
-    )?;
-    let item = match body {
-        None => Item::Proto(head),
-        Some(body) => Item::Function(head, body),
-    };
+    )
+}
+
+/// A head without a body.
+fn prototype<'a>(
+    alloc: Global,
+    head: Boxed<Head<Spelling<'a>, ()>>,
+) -> Result<Seq<Item<Spelling<'a>, ()>>, AllocError>
+    ensures { IfOk result (λ all. all ≡ item.Proto head.entry ∷ []) }
+{
+    one_item(alloc, Item::Proto(head))
+}
+
+/// A head with a body.
+fn definition<'a>(
+    alloc: Global,
+    head: Boxed<Head<Spelling<'a>, ()>>,
+    body: Statement<'a>,
+) -> Result<Seq<Item<Spelling<'a>, ()>>, AllocError>
+    ensures { IfOk result (λ all. all ≡ item.Function head.entry body.entry ∷ []) }
+{
+    one_item(alloc, Item::Function(head, body))
+}
+
+/// One item.
+fn one_item<'a>(
+    alloc: Global,
+    item: Item<Spelling<'a>, ()>,
+) -> Result<Seq<Item<Spelling<'a>, ()>>, AllocError>
+    ensures { IfOk result (λ all. all ≡ item.entry ∷ []) }
+{
     one(alloc, item)
 }
 

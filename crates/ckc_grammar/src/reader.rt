@@ -1,9 +1,10 @@
 ghost use Rattle.std.specs.Prelude.{◌≡◌, ◌≢◌, ◌≤◌, ◌<◌, [], ◌∷◌, length, map, MatchOption, MatchResult, IfOk, IsNone, IsTrue, ◌↔◌};
 ghost use Rattle.ckc_syntax.specs.Spelled.{spelled};
 ghost use Rattle.ckc_grammar.specs.Kinds.{kind_of_token};
-ghost use Rattle.ckc_grammar.specs.Grammar.{t, one, name, greater, sign, operator, literal, name_but_calloc, name_but_unknown, is_name, is_name_but_calloc, is_name_but_unknown};
+ghost use Rattle.ckc_grammar.specs.Grammar.{t, one, fits, is_name, is_name_but_calloc};
 ghost use Rattle.ckc_grammar.specs.Forms.{is_unknown_alone, is_close, has_more};
 ghost use Rattle.ckc_grammar.specs.Values.{token};
+ghost use Rattle.ckc_grammar.specs.Classes.{terminal};
 ghost use Rattle.ckc_grammar.specs.Reading.{kind_of};
 ghost use Rattle.ckc_grammar.specs.Marked.{kind_after, adjacent, signs, ahead, remaining, place_of, Parses};
 
@@ -54,7 +55,7 @@ pub fn is_name(kind: Kind) -> bool
 }
 
 /// Whether a token is a name but `calloc`.
-pub fn is_name_but_calloc(kind: Kind) -> bool
+fn is_name_but_calloc(kind: Kind) -> bool
     ensures { result ≡ is_name_but_calloc kind }
 {
     match kind {
@@ -63,13 +64,29 @@ pub fn is_name_but_calloc(kind: Kind) -> bool
     }
 }
 
-/// Whether a token is a name but `unknown`.
-pub fn is_name_but_unknown(kind: Kind) -> bool
-    ensures { result ≡ is_name_but_unknown kind }
+/// The tokens of several kinds that may stand in one place: a name, a name but `calloc`, a `>`, a sign before an
+/// operand, a binary operator but `<` and `>`, a number or character.
+#[derive(Clone, Copy)]
+pub enum Class {
+    Name,
+    NameButCalloc,
+    Greater,
+    Sign,
+    Operator,
+    Literal,
+}
+
+/// Whether a token is of a class.
+fn is_of(class: Class, kind: Kind) -> bool
+    ensures { result ≡ fits (terminal class) kind }
 {
-    match kind {
-        Kind::Unknown => false,
-        _ => is_name(kind),
+    match class {
+        Class::Name => is_name(kind),
+        Class::NameButCalloc => is_name_but_calloc(kind),
+        Class::Greater => is_greater(kind),
+        Class::Sign => is_sign(kind),
+        Class::Operator => is_operator(kind),
+        Class::Literal => is_literal(kind),
     }
 }
 
@@ -162,96 +179,12 @@ impl<'a> Reader<'a> {
         }
     }
 
-    /// Takes a name.
-    pub fn take_name(&mut self) -> Result<Token<'a>, Stop>
-        ensures parses { Parses (λ x. token (spelled x)) (t name) (ahead self.old) result (ahead self.new) }
+    /// Takes a token of a class.
+    pub fn take_any(&mut self, class: Class) -> Result<Token<'a>, Stop>
+        ensures parses { Parses (λ x. token (spelled x)) (t (terminal class)) (ahead self.old) result (ahead self.new) }
         ensures fewer { MatchResult result (λ x. remaining self.new < remaining self.old) (λ e. remaining self.new ≤ remaining self.old) }
     {
-        if !is_name(self.kind()) {
-            return Err(Stop::Syntax);
-        }
-        match self.next() {
-            Some(token) => Ok(token),
-            None => Err(Stop::Syntax),
-        }
-    }
-
-    /// Takes a name but `calloc`.
-    pub fn take_name_but_calloc(&mut self) -> Result<Token<'a>, Stop>
-        ensures parses { Parses (λ x. token (spelled x)) (t name_but_calloc) (ahead self.old) result (ahead self.new) }
-        ensures fewer { MatchResult result (λ x. remaining self.new < remaining self.old) (λ e. remaining self.new ≤ remaining self.old) }
-    {
-        if !is_name_but_calloc(self.kind()) {
-            return Err(Stop::Syntax);
-        }
-        match self.next() {
-            Some(token) => Ok(token),
-            None => Err(Stop::Syntax),
-        }
-    }
-
-    /// Takes a name but `unknown`.
-    pub fn take_name_but_unknown(&mut self) -> Result<Token<'a>, Stop>
-        ensures parses { Parses (λ x. token (spelled x)) (t name_but_unknown) (ahead self.old) result (ahead self.new) }
-        ensures fewer { MatchResult result (λ x. remaining self.new < remaining self.old) (λ e. remaining self.new ≤ remaining self.old) }
-    {
-        if !is_name_but_unknown(self.kind()) {
-            return Err(Stop::Syntax);
-        }
-        match self.next() {
-            Some(token) => Ok(token),
-            None => Err(Stop::Syntax),
-        }
-    }
-
-    /// Takes a sign before an operand.
-    pub fn take_sign(&mut self) -> Result<Token<'a>, Stop>
-        ensures parses { Parses (λ x. token (spelled x)) (t sign) (ahead self.old) result (ahead self.new) }
-        ensures fewer { MatchResult result (λ x. remaining self.new < remaining self.old) (λ e. remaining self.new ≤ remaining self.old) }
-    {
-        if !is_sign(self.kind()) {
-            return Err(Stop::Syntax);
-        }
-        match self.next() {
-            Some(token) => Ok(token),
-            None => Err(Stop::Syntax),
-        }
-    }
-
-    /// Takes a binary operator, `>` and `>>` apart.
-    pub fn take_operator(&mut self) -> Result<Token<'a>, Stop>
-        ensures parses { Parses (λ x. token (spelled x)) (t operator) (ahead self.old) result (ahead self.new) }
-        ensures fewer { MatchResult result (λ x. remaining self.new < remaining self.old) (λ e. remaining self.new ≤ remaining self.old) }
-    {
-        if !is_operator(self.kind()) {
-            return Err(Stop::Syntax);
-        }
-        match self.next() {
-            Some(token) => Ok(token),
-            None => Err(Stop::Syntax),
-        }
-    }
-
-    /// Takes a number or a character.
-    pub fn take_literal(&mut self) -> Result<Token<'a>, Stop>
-        ensures parses { Parses (λ x. token (spelled x)) (t literal) (ahead self.old) result (ahead self.new) }
-        ensures fewer { MatchResult result (λ x. remaining self.new < remaining self.old) (λ e. remaining self.new ≤ remaining self.old) }
-    {
-        if !is_literal(self.kind()) {
-            return Err(Stop::Syntax);
-        }
-        match self.next() {
-            Some(token) => Ok(token),
-            None => Err(Stop::Syntax),
-        }
-    }
-
-    /// Takes a `>`.
-    pub fn take_greater(&mut self) -> Result<Token<'a>, Stop>
-        ensures parses { Parses (λ x. token (spelled x)) (t greater) (ahead self.old) result (ahead self.new) }
-        ensures fewer { MatchResult result (λ x. remaining self.new < remaining self.old) (λ e. remaining self.new ≤ remaining self.old) }
-    {
-        if !is_greater(self.kind()) {
+        if !is_of(class, self.kind()) {
             return Err(Stop::Syntax);
         }
         match self.next() {

@@ -9,7 +9,8 @@ ghost use Rattle.ckc_grammar.specs.Marked.{ahead, remaining, Gives, Reads};
 use ckc_base::Seq;
 use ckc_expressions::{array, base, declared_limits, initial, local_initial, starred};
 use ckc_grammar::{
-    CType, Declaration, Kind, Reader, Stop, append, begins_type, copied, declaration, local_of, one,
+    CType, Class, Declaration, Kind, Reader, Stop, append, begins_type, copied, declaration,
+    local_of, one,
 };
 use ckc_syntax::{Decl, Expr, Init, Item, Length, Spelling, Stmt, Token};
 use std::alloc::Global;
@@ -24,7 +25,7 @@ fn slot<'a>(
 {
     let copy = copied(alloc, base.get())?;
     let ctype = starred(reader, alloc, copy)?;
-    let name = reader.take_name()?;
+    let name = reader.take_any(Class::Name)?;
     let bounds = declared_limits(reader, alloc)?;
     let whole = declaration(alloc, ctype, name, Length::Plain, bounds, Init::Nothing)?;
     Ok(whole)
@@ -58,8 +59,7 @@ pub fn member<'a>(
 {
     let base = base(reader, alloc)?;
     let first = slot(reader, alloc, &base)?;
-    let all = slots(reader, alloc, &base, first)?;
-    Ok(all)
+    slots(reader, alloc, &base, first)
 }
 
 /// What stands behind the name of a static.
@@ -88,7 +88,7 @@ fn object<'a>(
 {
     let copy = copied(alloc, base.get())?;
     let ctype = starred(reader, alloc, copy)?;
-    let name = reader.take_name()?;
+    let name = reader.take_any(Class::Name)?;
     let whole = object_rest(reader, alloc, ctype, name)?;
     Ok(whole)
 }
@@ -123,7 +123,7 @@ pub fn local<'a>(
 {
     let copy = copied(alloc, base.get())?;
     let ctype = starred(reader, alloc, copy)?;
-    let name = reader.take_name()?;
+    let name = reader.take_any(Class::Name)?;
     let bounds = declared_limits(reader, alloc)?;
     let init = local_initial(reader, alloc)?;
     let whole = declaration(alloc, ctype, name, Length::Plain, bounds, init)?;
@@ -160,8 +160,7 @@ pub fn locals<'a>(
 {
     let base = base(reader, alloc)?;
     let first = local(reader, alloc, &base)?;
-    let all = more_locals(reader, alloc, &base, first)?;
-    Ok(all)
+    more_locals(reader, alloc, &base, first)
 }
 
 /// A parameter.
@@ -169,8 +168,7 @@ fn param<'a>(reader: &mut Reader<'a>, alloc: Global) -> Result<Declaration<'a>, 
     ensures gives { Gives (λ y. v.as_decl y) (g.n g.param) (ahead reader.old) result (ahead reader.new) }
 {
     let base = base(reader, alloc)?;
-    let whole = slot(reader, alloc, &base)?;
-    Ok(whole)
+    slot(reader, alloc, &base)
 }
 
 /// More parameters, up to the `)`.
@@ -236,8 +234,7 @@ fn some_params<'a>(
     ensures reads { Reads (g.right g.Params) (λ x vs. v.as_decls (v.made g.Params vs) ≡ x) (ahead reader.old) result (ahead reader.new) }
 {
     let first = param(reader, alloc)?;
-    let all = more_params(reader, alloc, first)?;
-    Ok(all)
+    more_params(reader, alloc, first)
 }
 
 /// More members of a structure.

@@ -14,8 +14,8 @@ use crate::statements::{block_items, mode};
 use ckc_base::{Boxed, Mode, Seq};
 use ckc_expressions::{declared_limits, scalar, starred, type_name};
 use ckc_grammar::{
-    CType, Kind, Reader, Statement, Stop, append, copied, directive_of, function, one, statement,
-    struct_type,
+    CType, Class, Kind, Reader, Statement, Stop, append, copied, directive_of, function, one,
+    statement, struct_type,
 };
 use ckc_syntax::{Act, Decl, Item, Spelling, Token, TypeTree};
 use std::alloc::Global;
@@ -89,8 +89,7 @@ fn void_result<'a>(reader: &mut Reader<'a>, alloc: Global) -> Result<CType<'a>, 
 fn other_result<'a>(reader: &mut Reader<'a>, alloc: Global) -> Result<CType<'a>, Stop>
     ensures reads { Reads (g.right g.OtherResult) (λ x vs. v.as_type (v.made g.OtherResult vs) ≡ x) (ahead reader.old) result (ahead reader.new) }
 {
-    let ctype = type_name(reader, alloc)?;
-    Ok(ctype)
+    type_name(reader, alloc)
 }
 
 /// What goes on behind `struct` and a name.
@@ -150,8 +149,7 @@ fn structured<'a>(
     ensures reads { Reads (g.right g.Structured) (λ x vs. v.as_items_of_name (v.made g.Structured vs) (spelled name.entry) ≡ x) (ahead reader.old) result (ahead reader.new) }
 {
     let base = struct_type(alloc, name)?;
-    let all = declarators(reader, alloc, base)?;
-    Ok(all)
+    declarators(reader, alloc, base)
 }
 
 /// What is declared behind a base.
@@ -164,9 +162,8 @@ fn declarators<'a>(
 {
     let copy = copied(alloc, base.get())?;
     let ctype = starred(reader, alloc, copy)?;
-    let name = reader.take_name()?;
-    let all = declarator(reader, alloc, &base, ctype, name)?;
-    Ok(all)
+    let name = reader.take_any(Class::Name)?;
+    declarator(reader, alloc, &base, ctype, name)
 }
 
 /// What goes on behind a base, stars and a name: a head, or statics.
@@ -195,8 +192,7 @@ fn headed<'a>(
 ) -> Result<Seq<Item<Spelling<'a>, ()>>, Stop>
     ensures reads { Reads (g.right g.Headed) (λ x vs. v.as_items_of_declarator (v.made g.Headed vs) base.now ctype.entry (spelled name.entry) ≡ x) (ahead reader.old) result (ahead reader.new) }
 {
-    let all = head(reader, alloc, None, ctype, name)?;
-    Ok(all)
+    head(reader, alloc, None, ctype, name)
 }
 
 /// Statics.
@@ -210,8 +206,7 @@ fn statics<'a>(
     ensures reads { Reads (g.right g.Objects) (λ x vs. v.as_items_of_declarator (v.made g.Objects vs) base.now ctype.entry (spelled name.entry) ≡ x) (ahead reader.old) result (ahead reader.new) }
 {
     let first = object_rest(reader, alloc, ctype, name)?;
-    let all = objects(reader, alloc, base, first)?;
-    Ok(all)
+    objects(reader, alloc, base, first)
 }
 
 /// A head with a mode, a function without a result, or what is declared with a base that is no structure.
@@ -232,9 +227,8 @@ fn moded<'a>(reader: &mut Reader<'a>, alloc: Global) -> Result<Seq<Item<Spelling
 {
     let mode = mode(reader)?;
     let ctype = result_type(reader, alloc)?;
-    let name = reader.take_name()?;
-    let all = head(reader, alloc, Some(mode.0), ctype, name)?;
-    Ok(all)
+    let name = reader.take_any(Class::Name)?;
+    head(reader, alloc, Some(mode.0), ctype, name)
 }
 
 /// A function or a prototype without a result.
@@ -242,10 +236,9 @@ fn voided<'a>(reader: &mut Reader<'a>, alloc: Global) -> Result<Seq<Item<Spellin
     ensures reads { Reads (g.right g.Voided) (λ x vs. v.as_items (v.made g.Voided vs) ≡ x) (ahead reader.old) result (ahead reader.new) }
 {
     let word = reader.take(Kind::Void)?;
-    let name = reader.take_name()?;
+    let name = reader.take_any(Class::Name)?;
     let ctype = Boxed::new(alloc, TypeTree::Void)?;
-    let all = head(reader, alloc, None, ctype, name)?;
-    Ok(all)
+    head(reader, alloc, None, ctype, name)
 }
 
 /// What is declared with a base that is no structure.
@@ -253,8 +246,7 @@ fn based<'a>(reader: &mut Reader<'a>, alloc: Global) -> Result<Seq<Item<Spelling
     ensures reads { Reads (g.right g.Based) (λ x vs. v.as_items (v.made g.Based vs) ≡ x) (ahead reader.old) result (ahead reader.new) }
 {
     let base = scalar(reader, alloc)?;
-    let all = declarators(reader, alloc, base)?;
-    Ok(all)
+    declarators(reader, alloc, base)
 }
 
 /// What stands behind `static`.
@@ -278,10 +270,9 @@ fn static_struct<'a>(
     ensures reads { Reads (g.right g.StaticStruct) (λ x vs. v.as_items (v.made g.StaticStruct vs) ≡ x) (ahead reader.old) result (ahead reader.new) }
 {
     let word = reader.take(Kind::Struct)?;
-    let name = reader.take_name()?;
+    let name = reader.take_any(Class::Name)?;
     let base = struct_type(alloc, name)?;
-    let all = declarators(reader, alloc, base)?;
-    Ok(all)
+    declarators(reader, alloc, base)
 }
 
 /// What is declared otherwise.
@@ -291,8 +282,7 @@ fn static_other<'a>(
 ) -> Result<Seq<Item<Spelling<'a>, ()>>, Stop>
     ensures reads { Reads (g.right g.StaticOther) (λ x vs. v.as_items (v.made g.StaticOther vs) ≡ x) (ahead reader.old) result (ahead reader.new) }
 {
-    let all = declared(reader, alloc)?;
-    Ok(all)
+    declared(reader, alloc)
 }
 
 /// A directive.
@@ -317,7 +307,7 @@ fn struct_item<'a>(
     ensures fewer { IfOk result (λ x. remaining reader.new < remaining reader.old) }
 {
     let word = reader.take(Kind::Struct)?;
-    let name = reader.take_name()?;
+    let name = reader.take_any(Class::Name)?;
     let all = structure(reader, alloc, name)?;
     Ok(all)
 }

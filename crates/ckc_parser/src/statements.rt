@@ -11,7 +11,7 @@ use crate::declarators::{local, locals};
 use ckc_base::{Boxed, Mode, Pos, Seq};
 use ckc_expressions::{allocation, arguments, assign, base, expr, first, named, posts, value};
 use ckc_grammar::{
-    Expression, Kind, Reader, Statement, Stop, add, append, begins_type, called, local_of,
+    Class, Expression, Kind, Reader, Statement, Stop, add, append, begins_type, called, local_of,
     statement, two,
 };
 use ckc_syntax::{Act, Spelling, Stmt, Token};
@@ -216,9 +216,8 @@ fn name_first_stmt<'a>(reader: &mut Reader<'a>, alloc: Global) -> Result<Stateme
     ensures reads { Reads (g.right g.NamedStmt) (λ x vs. v.as_stmt (v.made g.NamedStmt vs) ≡ x) (ahead reader.old) result (ahead reader.new) }
     ensures fewer { remaining reader.new ≤ remaining reader.old }
 {
-    let name = reader.take_name_but_calloc()?;
-    let whole = named_stmt(reader, alloc, name)?;
-    Ok(whole)
+    let name = reader.take_any(Class::NameButCalloc)?;
+    named_stmt(reader, alloc, name)
 }
 
 /// A call or an assignment that begins with `calloc`.
@@ -227,8 +226,7 @@ fn calloc_first_stmt<'a>(reader: &mut Reader<'a>, alloc: Global) -> Result<State
     ensures fewer { remaining reader.new ≤ remaining reader.old }
 {
     let name = reader.take(Kind::Calloc)?;
-    let whole = calloc_stmt(reader, alloc, name)?;
-    Ok(whole)
+    calloc_stmt(reader, alloc, name)
 }
 
 /// What goes on behind the name that begins a statement.
@@ -321,8 +319,7 @@ fn calloc_name_stmt<'a>(
     ensures reads { Reads (g.right g.CallocNameStmt) (λ x vs. v.as_stmt_of_name (v.made g.CallocNameStmt vs) (spelled name.entry) ≡ x) (ahead reader.old) result (ahead reader.new) }
     ensures fewer { remaining reader.new ≤ remaining reader.old }
 {
-    let whole = named_stmt(reader, alloc, name)?;
-    Ok(whole)
+    named_stmt(reader, alloc, name)
 }
 
 /// An expression that may be left out, and the `;` behind it.

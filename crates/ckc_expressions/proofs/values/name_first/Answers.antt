@@ -2,7 +2,7 @@ use Rattle.std.proofs.Common.{◌∷◌, []}
 use Rattle.std.proofs.lemmas.Result.{err_from_is_err_and}
 use Rattle.ckc_syntax.specs.Spelled.{spelled}
 use Rattle.ckc_grammar.specs.Marked.{ahead}
-use Rattle.ckc_grammar.proofs.Steps.{also, then_stops, here_stops, exit}
+use Rattle.ckc_grammar.proofs.Steps.{also, then_stops, here_stops, exit, turned}
 use Rattle.ckc_grammar.specs.Values as v
 use Rattle.ckc_expressions.proofs.values.name_first.Goals as goal
 
@@ -11,11 +11,6 @@ returns-in_err-name-clause-reads c =
     let p = err_from_is_err_and c.from_residual.result c.from_residual.ensures.1 in
     exit _ _ _ (ahead c.args.reader.now) _ _ p.1 p.2 c.in_err-name.ensures.parses (λ d. here_stops _ d)
 
-pub returns-in_err-whole-clause-reads : goal.returns-in_err-whole-clause-reads
-returns-in_err-whole-clause-reads c =
-    let p = err_from_is_err_and c.from_residual-in_err-whole.result c.from_residual-in_err-whole.ensures.1 in
-    exit _ _ _ (ahead c.args.reader.now) _ _ p.1 p.2 c.in_err-whole.ensures.gives (λ d. then_stops c.in_ok-name.ensures.parses (d))
-
 pub returns-clause-reads : goal.returns-clause-reads
 returns-clause-reads c =
-    (v.token (spelled c.in_ok-name.name) ∷ c.in_ok-whole.ensures.gives.0 ∷ [], (also c.in_ok-name.ensures.parses c.in_ok-whole.ensures.gives.1), c.in_ok-whole.ensures.gives.2)
+    turned _ _ _ _ _ _ _ c.named_value.result (λ x h. (v.token (spelled c.in_ok-name.name) ∷ h.0 ∷ [], (also c.in_ok-name.ensures.parses h.1), h.2)) (λ d. then_stops c.in_ok-name.ensures.parses (d)) c.named_value.ensures.gives

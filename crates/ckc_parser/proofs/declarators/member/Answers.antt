@@ -2,7 +2,7 @@ use Rattle.std.proofs.Common.{refl, ap, ◌∙◌, ◌∷◌, []}
 use Rattle.std.proofs.lemmas.Result.{err_from_is_err_and}
 use Rattle.ckc_grammar.specs.Values.{made}
 use Rattle.ckc_grammar.specs.Marked.{ahead}
-use Rattle.ckc_grammar.proofs.Steps.{also, then_stops, here_stops, exit, by_rule, stop_rule}
+use Rattle.ckc_grammar.proofs.Steps.{also, then_stops, here_stops, exit, by_rule, stop_rule, turned}
 use Rattle.ckc_grammar.specs.Grammar as g
 use Rattle.ckc_grammar.specs.Values as v
 use Rattle.ckc_parser.proofs.declarators.member.Goals as goal
@@ -21,15 +21,8 @@ returns-in_err-first c = record {
       exit _ _ _ (ahead c.args.reader.now) _ _ p.1 p.2 c.in_err-first.ensures.gives (λ d. stop_rule g.Member refl (then_stops c.in_ok-base.ensures.parses (here_stops _ d)));
 }
 
-pub returns-in_err-all : goal.returns-in_err-all
-returns-in_err-all c = record {
-  gives =
-      let p = err_from_is_err_and c.from_residual-in_err-all.result c.from_residual-in_err-all.ensures.1 in
-      exit _ _ _ (ahead c.args.reader.now) _ _ p.1 p.2 c.in_err-all.ensures.gives (λ d. stop_rule g.Member refl (then_stops c.in_ok-base.ensures.parses (then_stops c.in_ok-first.ensures.gives.1 (d))));
-}
-
 pub returns : goal.returns
 returns c = record {
   gives =
-      (made g.Member (v.type_tree c.in_ok-base.base ∷ c.in_ok-first.ensures.gives.0 ∷ c.in_ok-all.ensures.gives.0 ∷ []), by_rule g.Member refl refl refl (also c.in_ok-base.ensures.parses (also c.in_ok-first.ensures.gives.1 c.in_ok-all.ensures.gives.1)), ap (λ z. z ∷ v.as_decls_of_base c.in_ok-all.ensures.gives.0 c.in_ok-base.base) c.in_ok-first.ensures.gives.2 ∙ c.in_ok-all.ensures.gives.2);
+      turned _ _ _ _ _ _ _ c.slots.result (λ x h. (made g.Member (v.type_tree c.in_ok-base.base ∷ c.in_ok-first.ensures.gives.0 ∷ h.0 ∷ []), by_rule g.Member refl refl refl (also c.in_ok-base.ensures.parses (also c.in_ok-first.ensures.gives.1 h.1)), ap (λ z. z ∷ v.as_decls_of_base h.0 c.in_ok-base.base) c.in_ok-first.ensures.gives.2 ∙ h.2)) (λ d. stop_rule g.Member refl (then_stops c.in_ok-base.ensures.parses (then_stops c.in_ok-first.ensures.gives.1 (d)))) c.slots.ensures.gives;
 }

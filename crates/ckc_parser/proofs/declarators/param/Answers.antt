@@ -2,7 +2,7 @@ use Rattle.std.proofs.Common.{refl, ◌∷◌, []}
 use Rattle.std.proofs.lemmas.Result.{err_from_is_err_and}
 use Rattle.ckc_grammar.specs.Values.{made}
 use Rattle.ckc_grammar.specs.Marked.{ahead}
-use Rattle.ckc_grammar.proofs.Steps.{also, then_stops, here_stops, exit, by_rule, stop_rule}
+use Rattle.ckc_grammar.proofs.Steps.{also, then_stops, here_stops, exit, by_rule, stop_rule, turned}
 use Rattle.ckc_grammar.specs.Grammar as g
 use Rattle.ckc_grammar.specs.Values as v
 use Rattle.ckc_parser.proofs.declarators.param.Goals as goal
@@ -14,15 +14,8 @@ returns-in_err-base c = record {
       exit _ _ _ (ahead c.args.reader.now) _ _ p.1 p.2 c.in_err-base.ensures.parses (λ d. stop_rule g.Param refl (here_stops _ d));
 }
 
-pub returns-in_err-whole : goal.returns-in_err-whole
-returns-in_err-whole c = record {
-  gives =
-      let p = err_from_is_err_and c.from_residual-in_err-whole.result c.from_residual-in_err-whole.ensures.1 in
-      exit _ _ _ (ahead c.args.reader.now) _ _ p.1 p.2 c.in_err-whole.ensures.gives (λ d. stop_rule g.Param refl (then_stops c.in_ok-base.ensures.parses (d)));
-}
-
 pub returns : goal.returns
 returns c = record {
   gives =
-      (made g.Param (v.type_tree c.in_ok-base.base ∷ c.in_ok-whole.ensures.gives.0 ∷ []), by_rule g.Param refl refl refl (also c.in_ok-base.ensures.parses c.in_ok-whole.ensures.gives.1), c.in_ok-whole.ensures.gives.2);
+      turned _ _ _ _ _ _ _ c.slot.result (λ x h. (made g.Param (v.type_tree c.in_ok-base.base ∷ h.0 ∷ []), by_rule g.Param refl refl refl (also c.in_ok-base.ensures.parses h.1), h.2)) (λ d. stop_rule g.Param refl (then_stops c.in_ok-base.ensures.parses (d))) c.slot.ensures.gives;
 }

@@ -1,7 +1,7 @@
 use Rattle.std.proofs.Common.{◌∷◌, []}
 use Rattle.std.proofs.lemmas.Result.{err_from_is_err_and}
 use Rattle.ckc_grammar.specs.Marked.{ahead}
-use Rattle.ckc_grammar.proofs.Steps.{also, then_stops, here_stops, exit}
+use Rattle.ckc_grammar.proofs.Steps.{also, then_stops, here_stops, exit, turned}
 use Rattle.ckc_grammar.specs.Values as v
 use Rattle.ckc_parser.proofs.items.based.Goals as goal
 
@@ -12,15 +12,8 @@ returns-in_err-base c = record {
       exit _ _ _ (ahead c.args.reader.now) _ _ p.1 p.2 c.in_err-base.ensures.parses (λ d. here_stops _ d);
 }
 
-pub returns-in_err-all : goal.returns-in_err-all
-returns-in_err-all c = record {
-  reads =
-      let p = err_from_is_err_and c.from_residual-in_err-all.result c.from_residual-in_err-all.ensures.1 in
-      exit _ _ _ (ahead c.args.reader.now) _ _ p.1 p.2 c.in_err-all.ensures.gives (λ d. then_stops c.in_ok-base.ensures.parses (d));
-}
-
 pub returns : goal.returns
 returns c = record {
   reads =
-      (v.type_tree c.in_ok-base.base ∷ c.in_ok-all.ensures.gives.0 ∷ [], (also c.in_ok-base.ensures.parses c.in_ok-all.ensures.gives.1), c.in_ok-all.ensures.gives.2);
+      turned _ _ _ _ _ _ _ c.declarators.result (λ x h. (v.type_tree c.in_ok-base.base ∷ h.0 ∷ [], (also c.in_ok-base.ensures.parses h.1), h.2)) (λ d. then_stops c.in_ok-base.ensures.parses (d)) c.declarators.ensures.gives;
 }

@@ -3,7 +3,7 @@ use Rattle.std.proofs.lemmas.Result.{err_from_is_err_and}
 use Rattle.ckc_syntax.specs.Spelled.{spelled}
 use Rattle.ckc_grammar.specs.Values.{made}
 use Rattle.ckc_grammar.specs.Marked.{ahead}
-use Rattle.ckc_grammar.proofs.Steps.{also, then_stops, here_stops, exit, by_rule, stop_rule}
+use Rattle.ckc_grammar.proofs.Steps.{also, then_stops, here_stops, exit, by_rule, stop_rule, turned}
 use Rattle.ckc_grammar.specs.Grammar as g
 use Rattle.ckc_grammar.specs.Values as v
 use Rattle.ckc_grammar.specs.Trees as trees
@@ -23,15 +23,8 @@ returns-in_err-name c = record {
       exit _ _ _ (ahead c.args.reader.now) _ _ p.1 p.2 c.in_err-name.ensures.parses (λ d. stop_rule g.Declarators refl (then_stops c.in_ok-ctype.ensures.gives.1 (here_stops _ d)));
 }
 
-pub returns-in_err-all : goal.returns-in_err-all
-returns-in_err-all c = record {
-  gives =
-      let p = err_from_is_err_and c.from_residual-in_err-all.result c.from_residual-in_err-all.ensures.1 in
-      exit _ _ _ (ahead c.args.reader.now) _ _ p.1 p.2 c.in_err-all.ensures.gives (λ d. stop_rule g.Declarators refl (then_stops c.in_ok-ctype.ensures.gives.1 (then_stops c.in_ok-name.ensures.parses (d))));
-}
-
 pub returns : goal.returns
 returns c = record {
   gives =
-      (made g.Declarators (c.in_ok-ctype.ensures.gives.0 ∷ v.token (spelled c.in_ok-name.name) ∷ c.in_ok-all.ensures.gives.0 ∷ []), by_rule g.Declarators refl refl refl (also c.in_ok-ctype.ensures.gives.1 (also c.in_ok-name.ensures.parses c.in_ok-all.ensures.gives.1)), ap (λ z. v.as_items_of_declarator c.in_ok-all.ensures.gives.0 c.args.base z (spelled c.in_ok-name.name)) (ap (λ z. trees.starred z (v.as_stars c.in_ok-ctype.ensures.gives.0)) (sym (c.in_ok-copy.ensures ∙ c.get.ensures)) ∙ c.in_ok-ctype.ensures.gives.2) ∙ c.in_ok-all.ensures.gives.2);
+      turned _ _ _ _ _ _ _ c.declarator.result (λ x h. (made g.Declarators (c.in_ok-ctype.ensures.gives.0 ∷ v.token (spelled c.in_ok-name.name) ∷ h.0 ∷ []), by_rule g.Declarators refl refl refl (also c.in_ok-ctype.ensures.gives.1 (also c.in_ok-name.ensures.parses h.1)), ap (λ z. v.as_items_of_declarator h.0 c.args.base z (spelled c.in_ok-name.name)) (ap (λ z. trees.starred z (v.as_stars c.in_ok-ctype.ensures.gives.0)) (sym (c.in_ok-copy.ensures ∙ c.get.ensures)) ∙ c.in_ok-ctype.ensures.gives.2) ∙ h.2)) (λ d. stop_rule g.Declarators refl (then_stops c.in_ok-ctype.ensures.gives.1 (then_stops c.in_ok-name.ensures.parses (d)))) c.declarator.ensures.gives;
 }

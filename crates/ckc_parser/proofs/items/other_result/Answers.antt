@@ -1,19 +1,11 @@
 use Rattle.std.proofs.Common.{refl, ◌∷◌, []}
-use Rattle.std.proofs.lemmas.Result.{err_from_is_err_and}
 use Rattle.ckc_grammar.specs.Marked.{ahead}
-use Rattle.ckc_grammar.proofs.Steps.{exit}
+use Rattle.ckc_grammar.proofs.Steps.{turned}
 use Rattle.ckc_grammar.specs.Values as v
 use Rattle.ckc_parser.proofs.items.other_result.Goals as goal
-
-pub returns-in_err-ctype : goal.returns-in_err-ctype
-returns-in_err-ctype c = record {
-  reads =
-      let p = err_from_is_err_and c.from_residual.result c.from_residual.ensures.1 in
-      exit _ _ _ (ahead c.args.reader.now) _ _ p.1 p.2 c.in_err-ctype.ensures.parses (λ d. d);
-}
 
 pub returns : goal.returns
 returns c = record {
   reads =
-      (v.type_tree c.in_ok-ctype.ctype ∷ [], c.in_ok-ctype.ensures.parses, refl);
+      turned _ _ _ _ _ _ _ c.type_name.result (λ x h. (v.type_tree x ∷ [], h, refl)) (λ d. d) c.type_name.ensures.parses;
 }

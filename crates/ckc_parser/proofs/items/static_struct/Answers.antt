@@ -2,7 +2,7 @@ use Rattle.std.proofs.Common.{sym, ap, ◌∙◌, ◌∷◌, []}
 use Rattle.std.proofs.lemmas.Result.{err_from_is_err_and}
 use Rattle.ckc_syntax.specs.Spelled.{spelled}
 use Rattle.ckc_grammar.specs.Marked.{ahead}
-use Rattle.ckc_grammar.proofs.Steps.{also, then_stops, here_stops, exit}
+use Rattle.ckc_grammar.proofs.Steps.{also, then_stops, here_stops, exit, turned}
 use Rattle.ckc_grammar.specs.Values as v
 use Rattle.ckc_parser.proofs.items.static_struct.Goals as goal
 
@@ -20,15 +20,8 @@ returns-in_err-name c = record {
       exit _ _ _ (ahead c.args.reader.now) _ _ p.1 p.2 c.in_err-name.ensures.parses (λ d. then_stops c.in_ok-word.ensures.parses (here_stops _ d));
 }
 
-pub returns-in_err-all : goal.returns-in_err-all
-returns-in_err-all c = record {
-  reads =
-      let p = err_from_is_err_and c.from_residual-in_err-all.result c.from_residual-in_err-all.ensures.1 in
-      exit _ _ _ (ahead c.args.reader.now) _ _ p.1 p.2 c.in_err-all.ensures.gives (λ d. then_stops c.in_ok-word.ensures.parses (then_stops c.in_ok-name.ensures.parses (d)));
-}
-
 pub returns : goal.returns
 returns c = record {
   reads =
-      (v.token (spelled c.in_ok-word.word) ∷ v.token (spelled c.in_ok-name.name) ∷ c.in_ok-all.ensures.gives.0 ∷ [], (also c.in_ok-word.ensures.parses (also c.in_ok-name.ensures.parses c.in_ok-all.ensures.gives.1)), ap (λ z. v.as_items_of_base c.in_ok-all.ensures.gives.0 z) (sym c.in_ok-base.ensures) ∙ c.in_ok-all.ensures.gives.2);
+      turned _ _ _ _ _ _ _ c.declarators.result (λ x h. (v.token (spelled c.in_ok-word.word) ∷ v.token (spelled c.in_ok-name.name) ∷ h.0 ∷ [], (also c.in_ok-word.ensures.parses (also c.in_ok-name.ensures.parses h.1)), ap (λ z. v.as_items_of_base h.0 z) (sym c.in_ok-base.ensures) ∙ h.2)) (λ d. then_stops c.in_ok-word.ensures.parses (then_stops c.in_ok-name.ensures.parses (d))) c.declarators.ensures.gives;
 }

@@ -1,19 +1,11 @@
 use Rattle.std.proofs.Common.{sym, ap, ◌∙◌, ◌∷◌, []}
-use Rattle.std.proofs.lemmas.Result.{err_from_is_err_and}
 use Rattle.ckc_grammar.specs.Marked.{ahead}
-use Rattle.ckc_grammar.proofs.Steps.{exit}
+use Rattle.ckc_grammar.proofs.Steps.{turned}
 use Rattle.ckc_grammar.specs.Values as v
 use Rattle.ckc_parser.proofs.items.structured.Goals as goal
-
-pub returns-in_err-all : goal.returns-in_err-all
-returns-in_err-all c = record {
-  reads =
-      let p = err_from_is_err_and c.from_residual-in_err-all.result c.from_residual-in_err-all.ensures.1 in
-      exit _ _ _ (ahead c.args.reader.now) _ _ p.1 p.2 c.in_err-all.ensures.gives (λ d. d);
-}
 
 pub returns : goal.returns
 returns c = record {
   reads =
-      (c.in_ok-all.ensures.gives.0 ∷ [], c.in_ok-all.ensures.gives.1, ap (λ z. v.as_items_of_base c.in_ok-all.ensures.gives.0 z) (sym c.in_ok-base.ensures) ∙ c.in_ok-all.ensures.gives.2);
+      turned _ _ _ _ _ _ _ c.declarators.result (λ x h. (h.0 ∷ [], h.1, ap (λ z. v.as_items_of_base h.0 z) (sym c.in_ok-base.ensures) ∙ h.2)) (λ d. d) c.declarators.ensures.gives;
 }
