@@ -1,12 +1,9 @@
--- The phases, one after another: each text is accepted or has one first error, and what a call of each phase answers.
-use Rattle.std.proofs.Common.{◌≡◌, ℕ, inl, inr, List, map, Option, None, Some, Result, Ok, Err, MatchOption, refl, sym, ap, subst, ◌∙◌}
+-- The phases, one after another: each text is judged or has one first error, and what a call of each phase answers.
+use Rattle.std.proofs.Common.{◌≡◌, ℕ, inl, List, map, Result, Ok, Err, sym, ap, subst, ◌∙◌}
 use Rattle.ckc_base.specs.declared.places.Pos.{Pos}
-use Rattle.ckc_base.specs.declared.places.Refusal.{Refusal}
 use Rattle.ckc_base.specs.declared.fault.Fault.{Fault}
 use Rattle.ckc_base.specs.declared.fault.Fault.TheVariants as fault
-use Rattle.ckc_base.specs.Outcomes.{AnswersOutcome, there_or}
-use Rattle.ckc_base.specs.Phases.{Phase, ◌>=>◌, IsExact, Answers, Exact, viewed}
-use Rattle.ckc_base.specs.Places.{at_start, start}
+use Rattle.ckc_base.specs.Phases.{Phase, ◌>=>◌, IsExact, Answers, Exact}
 use Rattle.ckc_base.proofs.Phases.{then_exact, answers_on, exact_of, phase_by_exact}
 use Rattle.ckc_syntax.specs.declared.tokens.Token as code
 use Rattle.ckc_syntax.specs.declared.tree.NamedText.{NamedText}
@@ -25,10 +22,7 @@ use Rattle.ckc_forms.proofs.Judged.{integers_exact}
 use Rattle.ckc_typed.specs.declared.typed.Typed.{Typed}
 use Rattle.ckc_typed.specs.Texts.{named_typed}
 use Rattle.ckc_typing.specs.Phase.{typing}
-use Rattle.ckc_build.specs.declared.form.Program.{Program}
-use Rattle.ckc_build.specs.FirstForm.{IsForm}
-use Rattle.ckc_build.specs.Accepted.{Meaning, beside, first_form, reading, judging_tree, judging, forming, phases, meaning_of}
-use Rattle.ckc_build.proofs.OneForm.{form_once}
+use Rattle.ckc_build.specs.Meanings.{reading, judging_tree, judging}
 
 -- ---- the phases are exact
 
@@ -37,29 +31,6 @@ naming_exact = phase_by_exact text_named
 
 typing_exact : IsExact typing
 typing_exact = phase_by_exact named_typed
-
-both_same : {A B : Type 0} (a : A) (m n : A × B) → m.0 ≡ a → n.0 ≡ a → m.1 ≡ n.1 → m ≡ n
-both_same a m n e f g = λ j. ((e ∙ sym f) j, g j)
-
-beside_exact : {A B : Type 0} (p : Phase A B) → IsExact p → IsExact (beside p)
-beside_exact p exact = record {
-  made_once = λ a b other m n. both_same a b other m.0 n.0 (exact.made_once a b.1 other.1 m.1 n.1);
-  refused_once = exact.refused_once;
-  never_both = λ a b r m f. exact.never_both a b.1 r m.1 f;
-  never_neither = λ a no_made no_refused. exact.never_neither a (λ b m. no_made (a, b) (refl, m)) no_refused;
-}
-
-meaning_path : (a b : Meaning) → a.puts ≡ b.puts → a.value ≡ b.value → a ≡ b
-meaning_path a b e f = λ j. record { puts = e j; value = f j }
-
-first_form_exact : IsExact first_form
-first_form_exact = record {
-  made_once = λ text a b m n. let same = form_once text.0 a.puts b.puts a.value b.value m n in meaning_path a b same.0 same.1;
-  refused_once = λ text r other f g. f.1 ∙ sym g.1;
-  never_both = λ text m r is f. f.0 m.puts m.value is;
-  never_neither = λ text no_made no_refused. no_refused (at_start 100)
-      (λ puts value is. no_made (record { puts = puts; value = value }) is, refl);
-}
 
 -- the tree with its types
 abbrev later : Phase SpelledTree Typed
@@ -77,12 +48,6 @@ judging_tree_exact = then_exact limiting later limiting_exact later_exact
 pub judging_exact : IsExact judging
 judging_exact = then_exact reading judging_tree reading_exact judging_tree_exact
 
-forming_exact : IsExact forming
-forming_exact = then_exact (beside judging_tree) first_form (beside_exact judging_tree judging_tree_exact) first_form_exact
-
-pub phases_exact : IsExact phases
-phases_exact = then_exact reading forming reading_exact forming_exact
-
 pub one_tree : (text : List ℕ) (a b : SpelledTree) → reading.Makes text a → reading.Makes text b → a ≡ b
 one_tree = reading_exact.made_once
 
@@ -92,10 +57,6 @@ one_tree = reading_exact.made_once
 err_first : {A B C : Type 0} (p : Phase A B) (q : Phase B C) (a : A) (e : Fault) → Answers p a (Err e) → Answers (p >=> q) a (Err e)
 err_first p q a (fault.Refused r) f = inl f
 err_first p q a fault.Memory f = tt
-
-err_beside : {A B : Type 0} (p : Phase A B) (a : A) (e : Fault) → Answers p a (Err e) → Answers (beside p) a (Err e)
-err_beside p a (fault.Refused r) f = f
-err_beside p a fault.Memory f = tt
 
 -- what the code gives to a phase is what the one before it makes
 pub tokens_same : (text : List ℕ) (found now : List code.Token) (end : Pos) → now ≡ found → end ≡ place_after text
@@ -138,17 +99,7 @@ pub judge_goes : (text : List ℕ) (tokens : Tokens) → Exact lexing text (Ok t
     → Exact judging_tree tree answer → Exact judging text answer
 judge_goes = read_goes judging_tree judging_tree_exact
 
-pub accept_lex_ends : (text : List ℕ) (e : Fault) → Exact lexing text (Err e) → Exact phases text (Err e)
-accept_lex_ends = lex_ends forming forming_exact
-
-pub accept_parse_ends : (text : List ℕ) (tokens : Tokens) → Exact lexing text (Ok tokens) → (e : Fault) → Exact parsing tokens (Err e) → Exact phases text (Err e)
-accept_parse_ends = parse_ends forming forming_exact
-
-pub accept_goes : (text : List ℕ) (tokens : Tokens) → Exact lexing text (Ok tokens) → (tree : SpelledTree) (answer : Result Meaning Fault) → Exact parsing tokens (Ok tree)
-    → Exact forming tree answer → Exact phases text answer
-accept_goes = read_goes forming forming_exact
-
--- ---- the form of a tree, and its types
+-- ---- the tree with its types
 
 module _ (tree : SpelledTree) where
   pub fits_ends : (e : Fault) → Exact limiting tree (Err e) → Exact judging_tree tree (Err e)
@@ -157,35 +108,6 @@ module _ (tree : SpelledTree) where
   pub fits_goes : Exact limiting tree (Ok tree) → (answer : Result Typed Fault) → Exact later tree answer → Exact judging_tree tree answer
   fits_goes small answer x = exact_on limiting later limiting_exact later_exact tree tree answer small x
 
-  pub memory_ends : Exact forming tree (Err fault.Memory)
-  memory_ends = exact_of forming forming_exact tree (Err fault.Memory) tt
-
-  pub judged_ends : (e : Fault) → Exact judging_tree tree (Err e) → Exact forming tree (Err e)
-  judged_ends e x =
-      exact_of forming forming_exact tree (Err e) (err_first (beside judging_tree) first_form tree e (err_beside judging_tree tree e x.answers))
-
-  abbrev FoundForm : Option Program → Type 0
-  FoundForm form = MatchOption form ((puts : List ℕ) (value : ℕ) → ¬ IsForm tree puts value) (λ p. IsForm tree p.puts.items p.value)
-
-  form_answers : (typed : Typed) (form : Option Program) (r : Result Program Fault) → FoundForm form → AnswersOutcome r (there_or 100 start form)
-      → Answers first_form (tree, typed) (viewed meaning_of r)
-  form_answers typed (Some p) (Ok q) found a = let same : p ≡ q = cc in subst (λ p. IsForm tree p.puts.items p.value) same found
-  form_answers typed (Some p) (Err (fault.Refused r)) found a = absurd (cc)
-  form_answers typed (Some p) (Err fault.Memory) found a = tt
-  form_answers typed None (Ok q) found a = absurd (cc)
-  form_answers typed None (Err (fault.Refused r)) found a = let same : at_start 100 ≡ r = cc in (found, sym same)
-  form_answers typed None (Err fault.Memory) found a = tt
-
-  pub form_ends : (typed : Typed) → Exact judging_tree tree (Ok typed) → (form : Option Program) → FoundForm form
-      → (r : Result Program Fault) → AnswersOutcome r (there_or 100 start form) → Exact forming tree (viewed meaning_of r)
-  form_ends typed x form found r a =
-      exact_of forming forming_exact tree (viewed meaning_of r)
-      (answers_on (beside judging_tree) first_form (beside_exact judging_tree judging_tree_exact) first_form_exact tree (tree, typed) (viewed meaning_of r) (refl, x.answers)
-      (form_answers typed form r found a))
-
--- ---- the tree with its types
-
-module _ (tree : SpelledTree) where
   pub ends_typed : (answer : Result Typed Fault) (e other : Fault) → answer ≡ Err e → e ≡ other → Answers later tree (Err other) → Exact later tree answer
   ends_typed answer e other is same a =
       subst (λ r. Exact later tree r) (sym (is ∙ ap (λ x. Err x) same)) (exact_of later later_exact tree (Err other) a)

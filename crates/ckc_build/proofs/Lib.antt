@@ -1,9 +1,3 @@
-pub mod Codes
-pub mod Agreement
-pub mod FormSteps
-pub mod Forms
-pub mod OneForm
 pub mod Chain
-pub mod Judgements
 pub mod Programs
 pub mod Places

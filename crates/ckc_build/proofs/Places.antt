@@ -1,10 +1,9 @@
 -- The bytes of objects.
-use Rattle.std.proofs.Common.{◌≡◌, ℕ, suc, zero, ◌+◌, ◌-◌, ◌*◌, ◌/◌, ◌≤◌, ◌<◌, ◌^◌, List, [], ◌∷◌, ◌++◌, length, get_or, map, arith, refl, sym, ap, subst, ◌∙◌}
+use Rattle.std.proofs.Common.{ℕ, suc, zero, ◌-◌, ◌*◌, ◌<◌, ◌^◌, List, [], ◌∷◌, ◌++◌, length, get_or, arith}
 use Rattle.std.specs.Prelude.{replicate}
 use Rattle.ckc_source.specs.declared.program.Object.{Object}
-use Rattle.ckc_source.specs.Blocks.{block_of, end_of, place_behind}
-use Rattle.ckc_source.specs.LaidOut.{AreApart, AreBytes, HoldBytes}
-use Rattle.ckc_build.specs.Placed.{ArePlaced}
+use Rattle.ckc_source.specs.Blocks.{block_of}
+use Rattle.ckc_source.specs.LaidOut.{AreBytes}
 
 pub bytes_by : (bytes : List ℕ) → ((k : ℕ) → get_or bytes k 0 < 2 ^ 8) → AreBytes bytes
 bytes_by [] h = tt

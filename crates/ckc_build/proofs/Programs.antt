@@ -1,15 +1,17 @@
 -- The program that a text means.
-use Rattle.std.proofs.Common.{◌≡◌, ℕ, List, Ok, Err, sym, ap}
+use Rattle.std.proofs.Common.{◌≡◌, ℕ, List, Result, Ok, Err, IfOk, sym, ap}
 use Rattle.ckc_base.specs.declared.fault.Fault.{Fault}
 use Rattle.ckc_base.specs.declared.fault.Fault.TheVariants as fault
-use Rattle.ckc_base.specs.Phases.{IsExact, Exact}
+use Rattle.ckc_base.specs.Phases.{IsExact, Answers, Exact}
 use Rattle.ckc_base.proofs.Phases.{then_exact, exact_of, phase_by_exact}
 use Rattle.ckc_source.specs.Code.{Program}
 use Rattle.ckc_typed.specs.declared.typed.Typed.{Typed}
 use Rattle.ckc_elaborate.specs.Elaborated.{elaborated}
-use Rattle.ckc_build.specs.Accepted.{judging}
-use Rattle.ckc_build.specs.Meanings.{elaborating, meanings}
-use Rattle.ckc_build.proofs.Chain.{judging_exact, exact_err, exact_on}
+use Rattle.ckc_image.specs.declared.parts.Parts as parts
+use Rattle.ckc_compile.specs.Compiled.{FollowsSource, machine_parts}
+use Rattle.ckc_build.specs.Meanings.{judging, elaborating, meanings}
+use Rattle.ckc_build.specs.Built.{IsImage, building}
+use Rattle.ckc_build.proofs.Chain.{judging_exact, exact_err}
 
 elaborating_exact : IsExact elaborating
 elaborating_exact = phase_by_exact (λ (typed : Typed). Ok (elaborated typed))
@@ -20,6 +22,10 @@ meanings_exact = then_exact judging elaborating judging_exact elaborating_exact
 made : (typed : Typed) (p : Program) → p ≡ elaborated typed → elaborating.Makes typed p
 made typed p e = ap Ok (sym e)
 
+pub on_ok : {A E : Type 0} {P Q : A → Type 0} (r : Result A E) → ((a : A) → P a → Q a) → IfOk r P → IfOk r Q
+on_ok (Ok a) f p = f a p
+on_ok (Err e) f p = tt
+
 module _ (text : List ℕ) where
   pub judging_ends : (e : Fault) → Exact judging text (Err e) → Exact meanings text (Err e)
   judging_ends e x = exact_err judging elaborating judging_exact elaborating_exact text e x
@@ -29,3 +35,13 @@ module _ (text : List ℕ) where
 
   pub means : (typed : Typed) (p : Program) → Exact judging text (Ok typed) → p ≡ elaborated typed → Exact meanings text (Ok p)
   means typed p x e = exact_of meanings meanings_exact text (Ok p) (typed, x.answers, made typed p e)
+
+  -- ---- images
+
+  pub refused_of : (e : Fault) → Exact meanings text (Err e) → Answers building text (Err e)
+  refused_of (fault.Refused r) x = x.answers
+  refused_of fault.Memory x = tt
+
+  pub built_of : (p : Program) (image : List ℕ) → Exact meanings text (Ok p)
+      → ((made : parts.Parts) × FollowsSource p made × IsImage image (machine_parts made)) → building.Makes text image
+  built_of p image x q = (machine_parts q.0, record { program = p; means = x.answers; follows = q.1 }, q.2)

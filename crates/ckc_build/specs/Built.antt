@@ -1,22 +1,24 @@
--- The images of accepted texts.
+-- The images of texts that have a meaning.
 use Rattle.std.specs.Prelude.{ℕ, List, Vec}
 use Rattle.std.specs.declared.alloc.Global.{Global}
 use Rattle.ckc_base.specs.Follows.{Follows}
 use Rattle.ckc_base.specs.Phases.{Phase}
 use Rattle.ckc_rv.specs.Machine.{Parts, machine}
 use Rattle.ckc_image.specs.Image.{ImageOf}
-use Rattle.ckc_build.specs.Accepted.{Meaning, Accepted, FirstFault}
-use Rattle.ckc_build.specs.Source.{source, AreBytes}
+use Rattle.ckc_source.specs.Code.{Program}
+use Rattle.ckc_source.specs.LaidOut.{AreBytes}
+use Rattle.ckc_source.specs.Source.{source}
+use Rattle.ckc_build.specs.Meanings.{HasMeaning, FirstFault}
 
 abbrev pub IsImage : List ℕ → Parts → Type 0
 IsImage bytes parts = ImageOf bytes parts.entry parts.code parts.initial
 
--- The parts are those of an image of an accepted text: for every input, its machine follows the meaning of the text,
--- within 4 instructions for each step and one more.
+-- The parts are those of an image of a text: for every input of bytes its machine follows the meaning of the text,
+-- within 2^25 instructions for each step and as many more.
 pub record Built (text : List ℕ) (parts : Parts) : Type 0 where
-  pub meaning : Meaning
-  pub accepted : Accepted text meaning
-  pub follows : (input : List ℕ) → AreBytes input → Follows (source meaning) (machine parts input) 4
+  pub program : Program
+  pub means : HasMeaning text program
+  pub follows : (input : List ℕ) → AreBytes input → Follows (source program input) (machine parts input) 33554432
 
 -- From a text to an image of it, or to its first error. Which of its images comes is left open.
 abbrev pub building : Phase (List ℕ) (List ℕ)

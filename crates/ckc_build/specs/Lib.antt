@@ -1,7 +1,3 @@
-pub mod Accepted
-pub mod Built
-pub mod Compiled
-pub mod FirstForm
-pub mod Source
 pub mod Meanings
+pub mod Built
 pub mod Placed

@@ -1,11 +1,30 @@
--- The meaning of a text, as a plain program.
+-- The phases that judge a text, the program that a text means, and which error of a text is its first.
 use Rattle.std.specs.Prelude.{ℕ, List, Ok}
+use Rattle.ckc_base.specs.declared.places.Refusal.{Refusal}
 use Rattle.ckc_base.specs.Outcomes.{phase_by}
 use Rattle.ckc_base.specs.Phases.{Phase, ◌>=>◌}
+use Rattle.ckc_syntax.specs.Phase.{limiting}
+use Rattle.ckc_lexer.specs.Phase.{lexing}
+use Rattle.ckc_parser.specs.Phase.{parsing}
+use Rattle.ckc_parser.specs.Text.{SpelledTree}
+use Rattle.ckc_resolve.specs.Phase.{naming}
+use Rattle.ckc_forms.specs.Phase.{integers}
 use Rattle.ckc_source.specs.Code.{Program}
 use Rattle.ckc_typed.specs.declared.typed.Typed.{Typed}
+use Rattle.ckc_typing.specs.Phase.{typing}
 use Rattle.ckc_elaborate.specs.Elaborated.{elaborated}
-use Rattle.ckc_build.specs.Accepted.{judging}
+
+-- the tree of a text
+abbrev pub reading : Phase (List ℕ) SpelledTree
+reading = lexing >=> parsing
+
+-- the phases that judge a tree, in their order
+abbrev pub judging_tree : Phase SpelledTree Typed
+judging_tree = limiting >=> naming >=> integers >=> typing
+
+-- a text with its types
+abbrev pub judging : Phase (List ℕ) Typed
+judging = reading >=> judging_tree
 
 -- What a typed text means; none is refused.
 abbrev pub elaborating : Phase Typed Program
@@ -18,3 +37,7 @@ meanings = judging >=> elaborating
 -- The text keeps all rules, and means this program.
 abbrev pub HasMeaning : List ℕ → Program → Type 0
 HasMeaning text p = meanings.Makes text p
+
+-- the first error of a text
+abbrev pub FirstFault : List ℕ → Refusal → Type 0
+FirstFault text refusal = meanings.Refuses text refusal

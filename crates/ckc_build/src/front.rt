@@ -1,11 +1,10 @@
-//! From a text to its program, phase by phase.
-ghost use Rattle.ckc_base.specs.Phases.{◌>=>◌, Exact, viewed};
+//! From a text to the text with its types, phase by phase.
+ghost use Rattle.ckc_base.specs.Phases.{◌>=>◌, Exact};
 ghost use Rattle.ckc_resolve.specs.Phase.{naming};
 ghost use Rattle.ckc_forms.specs.Phase.{integers as integers_phase};
 ghost use Rattle.ckc_typing.specs.Phase.{typing};
-ghost use Rattle.ckc_build.specs.Accepted.{phases, forming, judging, judging_tree, meaning_of};
+ghost use Rattle.ckc_build.specs.Meanings.{judging, judging_tree};
 
-use crate::form::{Program, built, program_of};
 use ckc_base::Fault;
 use ckc_forms::integers;
 use ckc_lexer::{end_of, lex};
@@ -16,16 +15,6 @@ use ckc_typed::Typed;
 use ckc_typing::type_of;
 use std::alloc::Global;
 
-/// The program of a text that is accepted, or the first error of the text.
-pub fn accept(alloc: Global, text: &[u8]) -> Result<Program, Fault>
-    // Ok of exactly the meaning of the text, a refusal for exactly its first error, both ways.
-    ensures exact { Exact phases text.now (viewed meaning_of result) }
-{
-    let tokens = lex(alloc, text)?;
-    let tree = parse(alloc, tokens.as_slice(), end_of(text))?;
-    formed(alloc, tree)
-}
-
 /// The text with its types, or the first error of the text.
 pub fn judge(alloc: Global, text: &[u8]) -> Result<Typed, Fault>
     // Ok of exactly the text with its types, a refusal for exactly its first error, both ways.
@@ -34,15 +23,6 @@ pub fn judge(alloc: Global, text: &[u8]) -> Result<Typed, Fault>
     let tokens = lex(alloc, text)?;
     let tree = parse(alloc, tokens.as_slice(), end_of(text))?;
     judged(alloc, tree)
-}
-
-/// The program of a tree. The form is read off the tree as it is spelled, and judged last.
-fn formed<'a>(alloc: Global, tree: Tree<Spelling<'a>, ()>) -> Result<Program, Fault>
-    ensures exact { Exact forming tree.entry (viewed meaning_of result) }
-{
-    let form = program_of(alloc, &tree)?;
-    judged(alloc, tree)?;
-    built(form)
 }
 
 /// The tree that keeps the limits, with what its names mean and with its types.

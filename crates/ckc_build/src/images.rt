@@ -1,48 +1,52 @@
 //! From a text to the bytes of its image.
-ghost use Rattle.std.specs.Prelude.{List, ℕ, IfOk};
+ghost use Rattle.std.specs.Prelude.{◌≤◌, IfOk};
 ghost use Rattle.ckc_base.specs.Phases.{Answers, viewed};
-ghost use Rattle.ckc_rv.specs.Machine as machine;
-ghost use Rattle.ckc_build.specs.Accepted.{Accepted, meaning_of};
-ghost use Rattle.ckc_build.specs.Built.{Built, IsImage, building, bytes_of};
+ghost use Rattle.ckc_image.specs.declared.parts.Parts as parts;
+ghost use Rattle.ckc_source.specs.Code.{program_of};
+ghost use Rattle.ckc_source.specs.LaidOut.{IsLaidOut};
+ghost use Rattle.ckc_checks.specs.IntegerForm.{IsIntegerProgram, program_nodes};
+ghost use Rattle.ckc_compile.specs.Compiled.{FollowsSource, machine_parts};
+ghost use Rattle.ckc_build.specs.Built.{IsImage, building, bytes_of};
 
-use crate::compiler::compile;
-use crate::form::Program;
-use crate::front::accept;
-use ckc_base::{Fault, Seq};
-use ckc_image::{Parts, write};
+use crate::meanings::program;
+use ckc_base::Fault;
+use ckc_compile::{MOST_NODES, compile};
+use ckc_image::write;
+use ckc_integer::is_integer_program;
+use ckc_source::Program;
 use std::alloc::{AllocError, Global};
-
-/// Where the code stands, and the program starts.
-const CODE_START: u32 = 0x1000;
 
 /// The image of a text.
 pub fn build(alloc: Global, text: &[u8]) -> Result<Vec<u8>, Fault>
-    // Ok of an image of the accepted text, whose machine follows its meaning; a refusal for its first error.
+    // Ok of an image of the text, whose machine follows its meaning; a refusal for its first error.
     ensures answers { Answers building text.now (viewed bytes_of result) }
 {
-    let program = accept(alloc, text)?;
-    match image_of(alloc, &program) {
-        Ok(image) => Ok(image),
-        Err(_) => Err(Fault::Memory),
+    match program(alloc, text) {
+        Err(fault) => Err(fault),
+        Ok(p) => {
+            // The program of a text over integers always has the form, so this is never answered. That is tested and
+            // not proved.
+            if !is_integer_program(&p, MOST_NODES) {
+                return Err(Fault::Memory);
+            }
+            match image_of(alloc, &p) {
+                Err(_) => Err(Fault::Memory),
+                Ok(image) => Ok(image),
+            }
+        }
     }
 }
 
-/// The image of the program of an accepted text.
-fn image_of(alloc: Global, program: &Program) -> Result<Vec<u8>, AllocError>
-    requires { (text : List ℕ) × Accepted text (meaning_of program.now) }
-    ensures { IfOk result (λ image. (parts : machine.Parts) ×
-        ((text : List ℕ) → Accepted text (meaning_of program.now) → Built text parts) ×
-        IsImage image.items parts) }
+/// An image of a program of integers.
+fn image_of(alloc: Global, p: &Program) -> Result<Vec<u8>, AllocError>
+    requires form { IsIntegerProgram (program_of p.now) }
+    requires laid { IsLaidOut (program_of p.now) }
+    requires small { program_nodes (program_of p.now) ≤ MOST_NODES }
+    ensures { IfOk result (λ image. (made : parts.Parts) × FollowsSource (program_of p.now) made
+        × IsImage image.items (machine_parts made)) }
 {
-    match compile(alloc, program) {
+    match compile(alloc, p) {
         Err(e) => Err(e),
-        Ok(code) => {
-            let parts = Parts {
-                entry: CODE_START,
-                code: Seq::from_vec(code),
-                initial: Seq::new(alloc),
-            };
-            write(alloc, &parts)
-        }
+        Ok(parts) => write(alloc, &parts),
     }
 }

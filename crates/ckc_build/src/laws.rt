@@ -2,12 +2,7 @@
 ghost use Rattle.std.specs.Prelude.{◌≡◌, List, ℕ};
 ghost use Rattle.ckc_base.specs.Phases.{IsExact};
 ghost use Rattle.ckc_parser.specs.Text.{SpelledTree};
-ghost use Rattle.ckc_build.specs.Accepted.{phases, judging, reading};
-
-/// A text is accepted, with one meaning, or it has one first error: never both, never neither.
-pub fn is_exact()
-    ensures { IsExact phases }
-{}
+ghost use Rattle.ckc_build.specs.Meanings.{judging, reading};
 
 /// A text is judged, with one outcome of its types, or it has one first error.
 pub fn judging_is_exact()

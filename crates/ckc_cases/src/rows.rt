@@ -8,6 +8,8 @@ struct Frame(&'static str, &'static str, &'static str);
 
 const EXEC: Frame = Frame("file text ", "\nccc exec text\n", "");
 
+const INTERP: Frame = Frame("file text ", "\nccc interp text\n", "");
+
 const IMAGE: Frame = Frame("file image ", "\nccc run image\n", "");
 
 const REPORT: Frame = Frame("report ", "\n", "");
@@ -44,6 +46,7 @@ pub fn lines_of(alloc: Global, row: &str) -> Result<String, Why> {
         ("usage", _) => filled(alloc, &USAGE, "", rest),
         ("parts", Some((parts, text))) => filled(alloc, &PARTS, parts, text),
         ("exec", Some((wanted, text))) => wanting(alloc, &EXEC, wanted, text),
+        ("interp", Some((wanted, text))) => wanting(alloc, &INTERP, wanted, text),
         ("image", Some((wanted, text))) => wanting(alloc, &IMAGE, wanted, text),
         ("report", Some((wanted, text))) => wanting(alloc, &REPORT, wanted, text),
         ("asm", Some((wanted, text))) => wanting(alloc, &ASM, wanted, text),

@@ -3,8 +3,8 @@ use crate::notation::split_word;
 use ckc_base::{Pos, Refusal, check_of};
 use ckc_cli::{FaultKind, Status};
 
-/// `done`, `ended 7`, `stopped 2 9:14` with the number of the check, `fault load 4096`, `refused 301 1:24`, `image 3`,
-/// and the others by their word.
+/// `done`, `ended 7`, `stopped 2 9:14` with the number of the check, `fault load 4096`, `stuck 3:38 5:7` or `stuck 3:38`,
+/// `refused 301 1:24`, `image 3`, and the others by their word.
 pub fn status_of(text: &str) -> Option<Status> {
     let (name, rest) = split_word(text);
     match name {
@@ -13,6 +13,7 @@ pub fn status_of(text: &str) -> Option<Status> {
         "stopped" => stopped_of(rest),
         "going" => Some(Status::Going),
         "fault" => fault_of(rest),
+        "stuck" => stuck_of(rest),
         "usage" => Some(Status::Usage),
         "refused" => refused_of(rest),
         "image" => Some(Status::BadImage(rest.parse::<u8>().ok()?)),
@@ -28,6 +29,15 @@ fn stopped_of(text: &str) -> Option<Status> {
     let (number, place) = split_word(text);
     let check = check_of(number.parse::<u32>().ok()?)?;
     Some(Status::Stopped(check, place_of(place)?))
+}
+
+fn stuck_of(text: &str) -> Option<Status> {
+    let (at, since) = split_word(text);
+    let at = place_of(at)?;
+    if since.is_empty() {
+        return Some(Status::Stuck(at, None));
+    }
+    Some(Status::Stuck(at, Some(place_of(since)?)))
 }
 
 fn fault_of(text: &str) -> Option<Status> {

@@ -14,7 +14,6 @@ use Rattle.ckc_outside.specs.Outside.{Stored}
 use Rattle.ckc_cli.specs.Causes.{Holds, StoreIsFine, Given}
 use Rattle.ckc_source.specs.Code.{Program}
 use Rattle.ckc_cli.specs.Interpreting.{ShowsAs}
-use Rattle.ckc_build.proofs.Chain.{phases_exact}
 use Rattle.ckc_build.proofs.Programs.{meanings_exact}
 use Rattle.ckc_cli.proofs.Assembling.{fault_once}
 use Rattle.ckc_cli.proofs.OneTask.{one_bad, not_Refuses_IsBad, not_Refuses_Keeps, not_Refuses_Lists, not_Refuses_Executes, not_IsBad_Keeps, not_IsBad_Lists, not_IsBad_Executes, not_Keeps_Lists, not_Keeps_Executes, not_Lists_Executes, not_Refuses_Means, not_IsBad_Means, not_Keeps_Means, not_Lists_Means, not_Executes_Means}
@@ -23,9 +22,9 @@ use Rattle.ckc_cli.proofs.Statuses as by
 use Rattle.ckc_cli.proofs.Statuses.{not_shown, not_meant, by_usage, by_store, by_refusal, by_bad, by_keeping, by_not_keeping, by_memory, by_keeping_memory, by_listing, by_cut_listing, by_running, by_meaning}
 
 refuses_once : (command : Command) (bytes : List ℕ) (fault other : Refusal) → Refuses command bytes fault → Refuses command bytes other → fault ≡ other
-refuses_once (Build text image) bytes fault other p q = phases_exact.refused_once bytes fault other p q
+refuses_once (Build text image) bytes fault other p q = meanings_exact.refused_once bytes fault other p q
 refuses_once (Assemble text image) bytes fault other p q = fault_once bytes fault other p q
-refuses_once (Exec text limit) bytes fault other p q = phases_exact.refused_once bytes fault other p q
+refuses_once (Exec text limit) bytes fault other p q = meanings_exact.refused_once bytes fault other p q
 refuses_once (Interp text limit) bytes fault other p q = meanings_exact.refused_once bytes fault other p q
 refuses_once (Run image limit) bytes fault other p q = absurd p
 refuses_once (Show image) bytes fault other p q = absurd p

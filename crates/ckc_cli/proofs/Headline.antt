@@ -1,105 +1,209 @@
--- A run of the image of an accepted text shows the meaning of the text.
-use Rattle.std.proofs.Common.{◌≡◌, ◌≢◌, ◌⊎◌, inl, inr, ℕ, zero, suc, ◌+◌, ◌*◌, ◌%◌, ◌≤◌, List, [], ◌∷◌, ◌++◌, refl, sym, ap, subst, ◌∙◌, arith}
-use Rattle.ckc_base.specs.Traces.{Event, Got, Put, Going, Ended, Stopped, Stuck, Fault, Showing, output}
-use Rattle.ckc_base.specs.Steps.{shown}
-use Rattle.ckc_base.specs.Follows.{IsSafe, IsOver, IsBorneOut}
+-- A run of the image of a text shows the meaning of the text.
+use Rattle.std.proofs.Common.{◌≡◌, ◌≢◌, ◌⊎◌, inl, inr, ℕ, ◌+◌, ◌≤◌, List, [], ◌∷◌, ◌++◌, Option, refl, sym, ap, subst, ◌∙◌, arith}
+use Rattle.std.proofs.lemmas.Grind.{flat_map-append}
+use Rattle.ckc_base.specs.declared.places.Pos.{Pos}
+use Rattle.ckc_base.specs.declared.runtime_checks.Check.{Check}
+use Rattle.ckc_base.specs.Traces.{Event, Going, Ended, Stopped, Stuck, Fault, Standing, Showing, put_byte, output}
+use Rattle.ckc_base.specs.Follows.{Follows, IsSafe, IsOver, IsPrefix, IsBorneOut}
 use Rattle.ckc_base.proofs.Runs.{shown-later}
-use Rattle.ckc_outside.specs.Outside.{Rose}
 use Rattle.ckc_rv.specs.Machine.{Parts, machine, machine_system, first_state}
 use Rattle.ckc_machine.specs.declared.observed.Observed.{Observed}
 use Rattle.ckc_machine.specs.declared.observed.Observed.TheVariants as observed
 use Rattle.ckc_machine.specs.declared.observed.FaultKind.{FaultKind}
-use Rattle.ckc_machine.specs.Runs.{ArePuts, AsksNothing, Printed, kind_number}
-use Rattle.ckc_machine.proofs.Points.{since_start}
-use Rattle.ckc_machine.proofs.Arrivals.{puts_are_silent}
-use Rattle.ckc_build.specs.Accepted.{Meaning}
-use Rattle.ckc_build.specs.Source.{source, source_system}
+use Rattle.ckc_machine.specs.Points.{got_byte, taken}
+use Rattle.ckc_machine.specs.Runs.{Says, Printed, kind_number}
+use Rattle.ckc_machine.specs.Runs as runs
+use Rattle.ckc_source.specs.Code.{Program}
+use Rattle.ckc_source.specs.LaidOut.{AreBytes}
+use Rattle.ckc_source.specs.Source.{source}
 use Rattle.ckc_build.specs.Built.{Built}
-use Rattle.ckc_cli.specs.Running.{Seen, ShownOver, Ran, fed}
+use Rattle.ckc_cli.specs.Running.{Seen, Shown, ShownOver, Ran, fed}
+use Rattle.ckc_cli.specs.Agreeing.{OverInput, OfInput, PrintedFirst, ComesToBeStuck, ComesTo, ComesBy, StandsInTime, PutsInTime, enough}
 
--- ---- the meaning puts bytes and reads none
+-- what a front of a trace puts is a front of what the trace puts
+output_begins : (a b : List Event) → IsPrefix a b → IsPrefix (output a) (output b)
+output_begins a b p = (output p.0, ap output p.1 ∙ flat_map-append put_byte a p.0)
 
-joined_puts : (a b : List Event) → ArePuts a → ArePuts b → ArePuts (a ++ b)
-joined_puts [] b p q = q
-joined_puts (Put byte ∷ a) b p q = joined_puts a b p q
-joined_puts (Got byte ∷ a) b p q = absurd p
+taken_begins : (a b : List Event) → IsPrefix a b → IsPrefix (taken a) (taken b)
+taken_begins a b p = (taken p.0, ap taken p.1 ∙ flat_map-append got_byte a p.0)
 
-first_puts : (a b : List Event) → ArePuts (a ++ b) → ArePuts a
-first_puts [] b p = tt
-first_puts (Put byte ∷ a) b p = first_puts a b p
-first_puts (Got byte ∷ a) b p = absurd p
+-- ---- the machine beside the program, over one input
 
--- the trace has puts alone, and the run is not stuck
-record Plain (a : Showing Event) : Type 0 where
-  puts : ArePuts a.trace
-  going : a.standing ≢ Stuck
+module _ (p : Program) (parts : Parts) (given : List ℕ) (follows : Follows (source p given) (machine parts given) 33554432) where
+  abbrev Borne : ℕ → Type 0
+  Borne k = (n : ℕ) × IsBorneOut (source p given n) (machine parts given k)
 
-plain_from : (value : ℕ) (n : ℕ) (left : List ℕ) (trace : List Event) → ArePuts trace → Plain (shown (source_system value) n 0 trace left)
-unfolding shown
-plain_from value zero left trace p = record { puts = p; going = λ e. cc }
-plain_from value (suc n) [] trace p = record { puts = joined_puts trace [] p tt; going = λ e. cc }
-plain_from value (suc n) (b ∷ left) trace p = plain_from value n left (trace ++ Put (b % 256) ∷ []) (joined_puts trace (Put (b % 256) ∷ []) p tt)
-
-plain : (m : Meaning) (n : ℕ) → Plain (source m n)
-plain m n = plain_from m.value n m.puts [] tt
-
--- ---- the machine, over an empty input
-
-module _ (text : List ℕ) (parts : Parts) (built : Built text parts) where
-  -- what the machine shows is borne out by the meaning
-  pub borne : (k : ℕ) → (n : ℕ) × IsBorneOut (source built.meaning n) (machine parts [] k)
-  borne k =
-      let p = (built.follows [] tt).back k in
-      (p.0, not_stuck p.0 p.1)
+  -- what the machine shows is borne out by the program, or the program is stuck
+  borne : (k : ℕ) → ComesToBeStuck p given ⊎ Borne k
+  borne k = let q = follows.back k in at q.0 q.1
     where
-      not_stuck : (n : ℕ) → ((source built.meaning n).standing ≡ Stuck) ⊎ IsBorneOut (source built.meaning n) (machine parts [] k) → IsBorneOut (source built.meaning n) (machine parts [] k)
-      not_stuck n (inl stuck) = absurd ((plain built.meaning n).going stuck)
-      not_stuck n (inr b) = b
+      at : (n : ℕ) → ((source p given n).standing ≡ Stuck) ⊎ IsBorneOut (source p given n) (machine parts given k) → ComesToBeStuck p given ⊎ Borne k
+      at n (inl stuck) = inl (n, stuck)
+      at n (inr b) = inr (n, b)
 
-  puts_alone : (k : ℕ) → ArePuts (machine parts [] k).trace
-  puts_alone k =
-      let b = borne k in
-      first_puts (machine parts [] k).trace b.1.begins.0 (subst ArePuts b.1.begins.1 (plain built.meaning b.0).puts)
+  pub fault_as : (limit kind pc : ℕ) → (machine parts given limit).standing ≡ Fault kind pc → ComesToBeStuck p given
+  fault_as limit kind pc e = at (borne limit)
+    where
+      at : ComesToBeStuck p given ⊎ Borne limit → ComesToBeStuck p given
+      at (inl stuck) = stuck
+      at (inr b) = absurd (subst IsSafe e b.1.safe)
 
-  pub asks_nothing : (limit : ℕ) → AsksNothing parts [] 0 limit
-  asks_nothing limit = puts_are_silent parts [] 0 limit (subst ArePuts (sym (since_start parts [] (0 + limit))) (puts_alone (0 + limit)))
+  module _ (limit : ℕ) (left : List ℕ) (old new : Option (List ℕ)) (put : Printed old new (output (machine parts given limit).trace))
+      (took : given ≡ taken (machine parts given limit).trace ++ left) where
+    pub over_as : (stands : Standing) → IsOver stands → (machine parts given limit).standing ≡ stands → ComesToBeStuck p given ⊎ ComesTo p stands old new given left
+    over_as stands over e = at (borne limit)
+      where
+        at : ComesToBeStuck p given ⊎ Borne limit → ComesToBeStuck p given ⊎ ComesTo p stands old new given left
+        at (inl stuck) = inl stuck
+        at (inr b) =
+            let same = b.1.over (subst IsOver (sym e) over) in
+            inr (record {
+              steps = b.0;
+              stands_so = ap (λ (a : Showing Event). a.standing) same ∙ e;
+              put = subst (λ (a : Showing Event). Printed old new (output a.trace)) (sym same) put;
+              took = subst (λ (a : Showing Event). given ≡ taken a.trace ++ left) (sym same) took;
+            })
 
-  pub never_fault : (limit kind pc : ℕ) → (machine parts [] limit).standing ≡ Fault kind pc → ⊥
-  never_fault limit kind pc e = subst IsSafe e (borne limit).1.safe
+    pub goes_as : ComesToBeStuck p given ⊎ ComesBy p old new given left
+    goes_as = at (borne limit)
+      where
+        at : ComesToBeStuck p given ⊎ Borne limit → ComesToBeStuck p given ⊎ ComesBy p old new given left
+        at (inl stuck) = inl stuck
+        at (inr b) =
+            inr (record {
+              steps = b.0;
+              put = (output (machine parts given limit).trace, output_begins (machine parts given limit).trace (source p given b.0).trace b.1.begins, put);
+              took = (taken (machine parts given limit).trace, taken_begins (machine parts given limit).trace (source p given b.0).trace b.1.begins, took);
+            })
 
-  -- where the machine ended, the meaning ends with the same value and trace
-  pub ended_as : (limit value : ℕ) → (machine parts [] limit).standing ≡ Ended value → (n : ℕ) × (source built.meaning n ≡ machine parts [] limit)
-  ended_as limit value e = let b = borne limit in (b.0, b.1.over (subst IsOver (sym e) tt))
+  -- what the program shows the machine has shown by then, and what is over stays
+  pub reached : (n limit : ℕ) → (source p given n).standing ≢ Stuck → enough n ≤ limit → IsPrefix (output (source p given n).trace) (output (machine parts given limit).trace)
+  reached n limit h le =
+      let q = follows.forward n h in
+      let later = shown-later (machine_system parts) q.0 limit 0 [] (first_state parts given) (omega (arith, q.1)) in
+      output_begins (source p given n).trace (machine parts given limit).trace
+      (subst (λ (a : Showing Event). IsPrefix a.trace (machine parts given limit).trace) q.2 later.begins)
 
-  -- and where the meaning ends in time, the machine does
-  pub ends_in_time : (n value limit : ℕ) → (source built.meaning n).standing ≡ Ended value → 4 * (n + 1) ≤ limit → (machine parts [] limit).standing ≡ Ended value
-  ends_in_time n value limit e le =
-      let p = (built.follows [] tt).forward n (λ stuck. let z : Ended value ≡ Stuck = sym e ∙ stuck in cc) in
-      let stands : (machine parts [] p.0).standing ≡ Ended value = ap (λ (a : Showing Event). a.standing) p.2 ∙ e in
-      let later = shown-later (machine_system parts) p.0 limit 0 [] (first_state parts []) (omega (arith, p.1)) in
-      ap (λ (a : Showing Event). a.standing) (later.stays (λ going. let z : Ended value ≡ Going = sym stands ∙ going in cc)) ∙ stands
+  pub in_time : (stands : Standing) → IsOver stands → (n limit : ℕ) → (source p given n).standing ≡ stands → enough n ≤ limit → (machine parts given limit).standing ≡ stands
+  in_time stands over n limit e le =
+      let q = follows.forward n (λ stuck. subst IsOver (sym e ∙ stuck) over) in
+      let by : (machine parts given q.0).standing ≡ stands = ap (λ (a : Showing Event). a.standing) q.2 ∙ e in
+      let later = shown-later (machine_system parts) q.0 limit 0 [] (first_state parts given) (omega (arith, q.1)) in
+      ap (λ (a : Showing Event). a.standing) (later.stays (λ going. subst IsOver (sym by ∙ going) over)) ∙ by
 
-  pub ran_ended : (limit : ℕ) (old new : Seen) (untaken : Type 0) (value : ℕ) → Ran parts limit old new untaken (observed.Ended value)
-      → (n : ℕ) × ((source built.meaning n).standing ≡ Ended value) × Printed old.written new.written (output (source built.meaning n).trace)
-  ran_ended limit old new untaken value ran =
-      let s = (ran.silent [] (asks_nothing limit)).1 in
-      let p = ended_as limit value s.stands in
-      (p.0, ap (λ (a : Showing Event). a.standing) p.1 ∙ s.stands, subst (λ (a : Showing Event). Printed old.written new.written (output a.trace)) (sym p.1) s.put)
+-- ---- answers
 
-  pub ran_no_fault : (limit : ℕ) (old new : Seen) (untaken : Type 0) (kind : FaultKind) (pc : ℕ) → Ran parts limit old new untaken (observed.Fault kind pc) → ⊥
-  ran_no_fault limit old new untaken kind pc ran = never_fault limit (kind_number kind) pc (ran.silent [] (asks_nothing limit)).1.stands
+pub says_ended : (o : Observed) (value : ℕ) → Says o (Ended value) → o ≡ observed.Ended value
+says_ended (observed.Ended v) value s = cc
+says_ended (observed.Stopped check at) value s = absurd cc
+says_ended observed.Going value s = absurd cc
+says_ended (observed.Fault kind pc) value s = absurd cc
+says_ended observed.ReadFault value s = absurd s
+says_ended observed.WriteFault value s = absurd s
 
-  -- what is shown where the meaning ends in time
-  shown_ended : (limit : ℕ) (old new : Seen) (value : ℕ) → (machine parts [] limit).standing ≡ Ended value → (o : Observed) → o ≢ observed.ReadFault → o ≢ observed.WriteFault
-      → ShownOver parts [] limit old new o → o ≡ observed.Ended value
-  shown_ended limit old new value e (observed.Ended v) r w s = let z : Ended v ≡ Ended value = sym s.stands ∙ e in cc
-  shown_ended limit old new value e (observed.Stopped check at) r w s = absurd (let z : Stopped check at ≡ Ended value = sym s.stands ∙ e in cc)
-  shown_ended limit old new value e observed.Going r w s = absurd (let z : Going ≡ Ended value = sym s.stands ∙ e in cc)
-  shown_ended limit old new value e (observed.Fault kind pc) r w s = absurd (let z : Fault (kind_number kind) pc ≡ Ended value = sym s.stands ∙ e in cc)
-  shown_ended limit old new value e observed.ReadFault r w s = absurd (r refl)
-  shown_ended limit old new value e observed.WriteFault r w s = absurd (w refl)
+pub says_stopped : (o : Observed) (check : Check) (at : Pos) → Says o (Stopped check at) → o ≡ observed.Stopped check at
+says_stopped (observed.Ended v) check at s = absurd cc
+says_stopped (observed.Stopped c p) check at s = cc
+says_stopped observed.Going check at s = absurd cc
+says_stopped (observed.Fault kind pc) check at s = absurd cc
+says_stopped observed.ReadFault check at s = absurd s
+says_stopped observed.WriteFault check at s = absurd s
 
-  pub ran_in_time : (limit : ℕ) (old new : Seen) (untaken : Type 0) (n value : ℕ) (o : Observed) → (source built.meaning n).standing ≡ Ended value → 4 * (n + 1) ≤ limit
-      → ¬ Rose old.read_faults new.read_faults → ¬ Rose old.write_faults new.write_faults → Ran parts limit old new untaken o → o ≡ observed.Ended value
-  ran_in_time limit old new untaken n value o e le r w ran =
-      shown_ended limit (fed [] old) (fed [] new) value (ends_in_time n value limit e le) o (λ q. r (ran.read_fault q)) (λ q. w (ran.write_fault q)) (ran.silent [] (asks_nothing limit)).1
+-- ---- inputs
+
+bytes_alone : (more : List ℕ) → runs.AreBytes more → AreBytes (more ++ [])
+bytes_alone [] h = tt
+bytes_alone (b ∷ more) h = (h.0, bytes_alone more h.1)
+
+module _ (text : List ℕ) (parts : Parts) (built : Built text parts) (limit : ℕ) (old new : Seen) (untaken : Type 0) where
+  abbrev Runs : Observed → Type 0
+  Runs o = Ran parts limit old new untaken o
+
+  -- what a run shows over one input, where no object failed
+  record Plain (o : Observed) (given left : List ℕ) : Type 0 where
+    says : Says o (machine parts given limit).standing
+    put : Printed old.written new.written (output (machine parts given limit).trace)
+    took : given ≡ taken (machine parts given limit).trace ++ left
+
+  over_input : (o : Observed) → ((given : List ℕ) (a b : Seen) → ShownOver parts given limit a b o → Shown parts given limit a b o) → Runs o
+      → (Holds : List ℕ → List ℕ → Type 0) → ((given left : List ℕ) → AreBytes given → Plain o given left → Holds given left) → OverInput old new Holds
+  over_input o plain ran Holds h = record {
+    told = λ given e.
+        let s = plain given old new (ran.shown given e) in
+        let t = s.took given e in
+        (t.0, t.1, λ bytes. h given t.0 bytes (record { says = s.stands; put = s.put; took = t.2 }));
+    any = (
+      ran.any.0,
+      ran.any.1,
+      λ rest may bytes.
+          let given = ran.any.0 ++ rest in
+          let s = plain given (fed given old) (fed rest new) (ran.any.2 rest may) in
+          let t = s.took given refl in
+          let same : t.0 ≡ rest = (let e = t.1 in cc) in
+          h given rest bytes (record { says = s.stands; put = s.put; took = t.2 ∙ ap (λ l. taken (machine parts given limit).trace ++ l) same }),
+    );
+  }
+
+  pub ran_ended : (value : ℕ) → Runs (observed.Ended value) → OverInput old new (λ given left. ComesToBeStuck built.program given ⊎ ComesTo built.program (Ended value) old.written new.written given left)
+  ran_ended value ran =
+      over_input (observed.Ended value) (λ given a b s. s) ran (λ given left. ComesToBeStuck built.program given ⊎ ComesTo built.program (Ended value) old.written new.written given left)
+      (λ given left bytes s. over_as built.program parts given (built.follows given bytes) limit left old.written new.written s.put s.took (Ended value) tt s.says)
+
+  pub ran_stopped : (check : Check) (at : Pos) → Runs (observed.Stopped check at)
+      → OverInput old new (λ given left. ComesToBeStuck built.program given ⊎ ComesTo built.program (Stopped check at) old.written new.written given left)
+  ran_stopped check at ran =
+      over_input (observed.Stopped check at) (λ given a b s. s) ran (λ given left. ComesToBeStuck built.program given ⊎ ComesTo built.program (Stopped check at) old.written new.written given left)
+      (λ given left bytes s. over_as built.program parts given (built.follows given bytes) limit left old.written new.written s.put s.took (Stopped check at) tt s.says)
+
+  pub ran_going : Runs observed.Going → OverInput old new (λ given left. ComesToBeStuck built.program given ⊎ ComesBy built.program old.written new.written given left)
+  ran_going ran =
+      over_input observed.Going (λ given a b s. s) ran (λ given left. ComesToBeStuck built.program given ⊎ ComesBy built.program old.written new.written given left)
+      (λ given left bytes s. goes_as built.program parts given (built.follows given bytes) limit left old.written new.written s.put s.took)
+
+  pub ran_faulty : (kind : FaultKind) (pc : ℕ) → Runs (observed.Fault kind pc) → OverInput old new (λ given left. ComesToBeStuck built.program given)
+  ran_faulty kind pc ran =
+      over_input (observed.Fault kind pc) (λ given a b s. s) ran (λ given left. ComesToBeStuck built.program given)
+      (λ given left bytes s. fault_as built.program parts given (built.follows given bytes) limit (kind_number kind) pc s.says)
+
+  -- ---- where no object fails
+
+  module _ (o : Observed) (read : o ≢ observed.ReadFault) (write : o ≢ observed.WriteFault) (ran : Runs o) where
+    plainly : (given : List ℕ) (a b : Seen) (q : Observed) → q ≢ observed.ReadFault → q ≢ observed.WriteFault → ShownOver parts given limit a b q → Shown parts given limit a b q
+    plainly given a b (observed.Ended v) r w s = s
+    plainly given a b (observed.Stopped check at) r w s = s
+    plainly given a b observed.Going r w s = s
+    plainly given a b (observed.Fault kind pc) r w s = s
+    plainly given a b observed.ReadFault r w s = absurd (r refl)
+    plainly given a b observed.WriteFault r w s = absurd (w refl)
+
+    -- over some input of those that are meant the run shows this
+    record Some_input (Holds : List ℕ → Type 0) : Type 0 where
+      given : List ℕ
+      bytes : AreBytes given
+      holds : Holds given
+      says : Says o (machine parts given limit).standing
+      put : Printed old.written new.written (output (machine parts given limit).trace)
+
+    some_input : (Holds : List ℕ → Type 0) → OfInput old.left Holds → Some_input Holds
+    some_input Holds (inl q) =
+        let s = plainly q.0 old new o read write (ran.shown q.0 q.1) in
+        record { given = q.0; bytes = q.2; holds = q.3; says = s.stands; put = s.put }
+    some_input Holds (inr q) =
+        let all = ran.any.0 ++ [] in
+        let are = bytes_alone ran.any.0 ran.any.1.bytes in
+        let s = plainly all (fed all old) (fed [] new) o read write (ran.any.2 [] (λ e. refl)) in
+        record { given = all; bytes = are; holds = q all are; says = s.stands; put = s.put }
+
+    pub ran_in_time : (stands : Standing) → IsOver stands → OfInput old.left (StandsInTime built.program limit stands) → Says o stands
+    ran_in_time stands over h =
+        let s = some_input (StandsInTime built.program limit stands) h in
+        subst (Says o) (in_time built.program parts s.given (built.follows s.given s.bytes) stands over s.holds.0 limit s.holds.2 s.holds.1) s.says
+
+    pub ran_put : (bytes : List ℕ) → OfInput old.left (PutsInTime built.program limit bytes) → PrintedFirst old.written new.written bytes
+    ran_put bytes h =
+        let s = some_input (PutsInTime built.program limit bytes) h in
+        let begins = reached built.program parts s.given (built.follows s.given s.bytes) s.holds.0 limit s.holds.2 s.holds.1 in (
+          output (machine parts s.given limit).trace,
+          subst (λ (l : List ℕ). IsPrefix l (output (machine parts s.given limit).trace)) s.holds.3 begins,
+          s.put,
+        )

@@ -77,6 +77,7 @@ module _ (old new : Seen) (before after : Stored) (quiet untaken quiet' untaken'
   ends_as : (parts : Parts) (limit : ℕ) → Ends parts limit old new quiet untaken s → Ends parts limit old new quiet' untaken' s
   ends_as parts limit (shows o e r) = shows o e (record {
     shown = r.shown;
+    any = r.any;
     silent = λ given nothing. let p = r.silent given nothing in (u p.0, p.1);
     read_fault = r.read_fault;
     write_fault = r.write_fault;

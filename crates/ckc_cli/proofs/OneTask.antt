@@ -8,7 +8,6 @@ use Rattle.ckc_cli.specs.Words.{Command, Build, Assemble, Exec, Interp, Run, Sho
 use Rattle.ckc_build.specs.Built.{IsImage}
 use Rattle.ckc_cli.specs.Commands.{BadBytes, longest_image, Refuses, IsBad, Keeps, Lists, Executes, Means}
 use Rattle.ckc_source.specs.Code.{Program}
-use Rattle.ckc_build.proofs.Chain.{phases_exact}
 use Rattle.ckc_build.proofs.Programs.{meanings_exact}
 use Rattle.ckc_cli.proofs.Assembling.{never_both}
 
@@ -48,7 +47,7 @@ not_Refuses_IsBad (Run name most) bytes fault k p q = p
 not_Refuses_IsBad (Show name) bytes fault k p q = p
 
 pub not_Refuses_Keeps : (command : Command) (bytes : List ℕ) (fault : Refusal) (place image : List ℕ) → Refuses command bytes fault → Keeps command bytes place image → ⊥
-not_Refuses_Keeps (Build text target) bytes fault place image p q = phases_exact.never_both bytes q.1.1.meaning fault q.1.1.accepted p
+not_Refuses_Keeps (Build text target) bytes fault place image p q = meanings_exact.never_both bytes q.1.1.program fault q.1.1.means p
 not_Refuses_Keeps (Assemble text target) bytes fault place image p q = never_both bytes q.1.0 fault q.1.1 p
 not_Refuses_Keeps (Exec text most) bytes fault place image p q = q.1.1
 not_Refuses_Keeps (Interp text most) bytes fault place image p q = q.1.1
@@ -66,7 +65,7 @@ not_Refuses_Lists (Show name) bytes fault listing p q = p
 pub not_Refuses_Executes : (command : Command) (bytes : List ℕ) (fault : Refusal) (parts : Parts) (limit : ℕ) → Refuses command bytes fault → Executes command bytes parts limit → ⊥
 not_Refuses_Executes (Build text target) bytes fault parts limit p q = q
 not_Refuses_Executes (Assemble text target) bytes fault parts limit p q = q
-not_Refuses_Executes (Exec text most) bytes fault parts limit p q = phases_exact.never_both bytes q.1.meaning fault q.1.accepted p
+not_Refuses_Executes (Exec text most) bytes fault parts limit p q = meanings_exact.never_both bytes q.1.program fault q.1.means p
 not_Refuses_Executes (Interp text most) bytes fault parts limit p q = q
 not_Refuses_Executes (Run name most) bytes fault parts limit p q = p
 not_Refuses_Executes (Show name) bytes fault parts limit p q = p

@@ -1,5 +1,5 @@
 -- What a run of a machine that was just loaded shows.
-use Rattle.std.proofs.Common.{◌≡◌, ℕ, ◌+◌, List, [], Option, Some, refl, sym, ap, subst, ◌∙◌, arith}
+use Rattle.std.proofs.Common.{◌≡◌, ℕ, ◌+◌, List, [], ◌++◌, Option, Some, refl, sym, ap, subst, ◌∙◌, arith}
 use Rattle.ckc_base.specs.Traces.{Going, output}
 use Rattle.ckc_base.specs.Steps.{shown}
 use Rattle.ckc_outside.specs.Outside.{Rose}
@@ -8,7 +8,7 @@ use Rattle.ckc_machine.specs.declared.observed.Observed.{Observed}
 use Rattle.ckc_machine.specs.declared.observed.Observed.TheVariants as observed
 use Rattle.ckc_machine.specs.declared.machine.Machine.{Machine}
 use Rattle.ckc_machine.specs.Points.{since, taken}
-use Rattle.ckc_machine.specs.Runs.{Says, Printed, Took, IsAt, AsksNothing, Arrives, Runs, answer_of}
+use Rattle.ckc_machine.specs.Runs.{Says, Printed, Took, OverAny, IsAt, AsksNothing, Arrives, Runs, answer_of}
 use Rattle.ckc_cli.specs.Running.{Seen, Shown, ShownOver, Ran, fed}
 
 -- from the start on, all of the trace is since
@@ -56,11 +56,20 @@ module _ (parts : Parts) (limit : ℕ) (first last : Machine) (untaken : Type 0)
       → Runs parts given k limit last old.left new.left old.written new.written old.read_faults new.read_faults old.write_faults new.write_faults o)
       → ((parts : Parts) (given : List ℕ) (k : ℕ) (left : Option (List ℕ)) → IsAt parts given k first left → AsksNothing parts given k limit
       → untaken × Runs parts given k limit last left left old.written new.written old.read_faults new.read_faults old.write_faults new.write_faults o)
+      → OverAny old.ended new.ended old.answers new.answers (λ left left'. (parts : Parts) (given : List ℕ) (k : ℕ) → IsAt parts given k first (Some left)
+      → Runs parts given k limit last (Some left) (Some left') old.written new.written old.read_faults new.read_faults old.write_faults new.write_faults o)
       → (answer_of first ≡ observed.Going → o ≡ observed.ReadFault → Rose old.read_faults new.read_faults)
       → (answer_of first ≡ observed.Going → o ≡ observed.WriteFault → Rose old.write_faults new.write_faults)
       → Ran parts limit old new untaken o
-  ran_of at answer exact silent read write = record {
+  ran_of at answer exact silent any read write = record {
     shown = λ given e. shown_over parts given limit last old new o answer (exact parts given 0 (subst (λ l. IsAt parts given 0 first l) (sym e) (at given)));
+    any = (
+      any.0,
+      any.1,
+      λ rest may.
+          let given = any.0 ++ rest in
+          shown_over parts given limit last (fed given old) (fed rest new) o answer (any.2 rest may parts given 0 (at given)),
+    );
     silent = λ given nothing.
         let p = silent parts given 0 (Some given) (at given) nothing in
         (p.0, shown_over parts given limit last (fed given old) (fed given new) o answer p.1);

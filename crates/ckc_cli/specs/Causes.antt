@@ -9,9 +9,6 @@ use Rattle.ckc_outside.specs.Outside.{Files, Stored, Rose, one_more, after_keep}
 use Rattle.ckc_rv.specs.Machine.{Parts}
 use Rattle.ckc_cli.specs.declared.status.Status.{Status}
 use Rattle.ckc_cli.specs.declared.status.Status.TheVariants as status
-use Rattle.ckc_base.specs.Traces.{Ended, output}
-use Rattle.ckc_build.specs.Accepted.{Meaning, Accepted}
-use Rattle.ckc_build.specs.Source.{source}
 use Rattle.ckc_cli.specs.Words.{Command, Reads}
 use Rattle.ckc_machine.specs.declared.observed.Observed.{Observed}
 use Rattle.ckc_machine.specs.declared.observed.Observed.TheVariants as observed
@@ -126,11 +123,6 @@ IsRun old new untaken o command bytes = IsShown old new untaken o command bytes 
 abbrev pub IsCutShort : Seen → Seen → Type 0 → Command → List ℕ → Type 0
 IsCutShort old new untaken command bytes =
     IsRun old new untaken observed.WriteFault command bytes ⊎ ((text : List ℕ) × Lists command bytes text × ListedFront old.written new.written text)
-
--- The text is accepted, and its meaning comes to end with the value and with these bytes put.
-abbrev pub EndsAsMeant : ℕ → Option (List ℕ) → Option (List ℕ) → Command → List ℕ → Type 0
-EndsAsMeant value old new command text =
-    (m : Meaning) × Accepted text m × ((n : ℕ) × ((source m n).standing ≡ Ended value) × Printed old new (output (source m n).trace))
 
 -- Where the files are told, every name but this one holds what it held.
 abbrev pub KeepsOthers : List ℕ → Option Files → Option Files → Type 0

@@ -8,9 +8,8 @@ use Rattle.ckc_listing.specs.Listing.{listing}
 use Rattle.ckc_asm.specs.Program.{AsmOf}
 use Rattle.ckc_asm.specs.Faults.{longest_text, IsFirstFault}
 use Rattle.ckc_cli.specs.Words.{Command, Build, Assemble, Exec, Interp, Run, Show, Reads}
-use Rattle.ckc_build.specs.Accepted.{FirstFault}
 use Rattle.ckc_build.specs.Built.{Built, IsImage}
-use Rattle.ckc_build.specs.Meanings.{meanings, HasMeaning}
+use Rattle.ckc_build.specs.Meanings.{HasMeaning, FirstFault}
 use Rattle.ckc_source.specs.Code.{Program}
 
 -- the name whose bytes are fetched
@@ -59,7 +58,7 @@ abbrev pub Refuses : Command → List ℕ → Refusal → Type 0
 Refuses (Build text image) bytes fault = FirstFault bytes fault
 Refuses (Assemble text image) bytes fault = IsFirstFault bytes fault.code fault.pos
 Refuses (Exec text limit) bytes fault = FirstFault bytes fault
-Refuses (Interp text limit) bytes fault = meanings.Refuses bytes fault
+Refuses (Interp text limit) bytes fault = FirstFault bytes fault
 Refuses (Run image limit) bytes fault = ⊥
 Refuses (Show image) bytes fault = ⊥
 

@@ -6,7 +6,7 @@ use Rattle.ckc_rv.specs.Machine.{Parts, machine}
 use Rattle.ckc_machine.specs.declared.observed.Observed.{Observed}
 use Rattle.ckc_machine.specs.declared.observed.Observed.TheVariants as observed
 use Rattle.ckc_machine.specs.Points.{taken}
-use Rattle.ckc_machine.specs.Runs.{Says, Printed, Took, AsksNothing, FailsToGet, FailsToPut}
+use Rattle.ckc_machine.specs.Runs.{Says, Printed, Took, AsksNothing, OverAny, FailsToGet, FailsToPut}
 use Rattle.ckc_image.specs.Image.{FirstBad}
 use Rattle.ckc_build.specs.Built.{IsImage}
 use Rattle.ckc_cli.specs.declared.status.Status.{Status}
@@ -55,10 +55,12 @@ ShownOver parts given limit old new observed.WriteFault =
     FailsToPut parts given 0 limit new.left old.written new.written old.write_faults new.write_faults
 ShownOver parts given limit old new o = Shown parts given limit old new o
 
--- A fault of an object comes only where its count rose. What is shown is known where the source tells what it has
--- left; and over any source, from which nothing is taken then, where no instruction asks for a byte.
+-- What is shown over what the source tells to be left, and over any source, whatever may come behind the bytes that it
+-- gave; nothing is taken from a source where no instruction asks for a byte. A fault of an object comes only where its
+-- count rose.
 pub record Ran (parts : Parts) (limit : ℕ) (old new : Seen) (untaken : Type 0) (o : Observed) : Type 0 where
   pub shown : (given : List ℕ) → old.left ≡ Some given → ShownOver parts given limit old new o
+  pub any : OverAny old.ended new.ended old.answers new.answers (λ given left. ShownOver parts given limit (fed given old) (fed left new) o)
   pub silent : (given : List ℕ) → AsksNothing parts given 0 limit → untaken × ShownOver parts given limit (fed given old) (fed given new) o
   pub read_fault : o ≡ observed.ReadFault → Rose old.read_faults new.read_faults
   pub write_fault : o ≡ observed.WriteFault → Rose old.write_faults new.write_faults

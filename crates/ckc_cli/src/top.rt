@@ -2,13 +2,11 @@ ghost use Rattle.std.specs.Prelude.{◌≡◌, ◌≢◌, ◌⊎◌, ◌↔◌, 
 ghost use Rattle.ckc_base.specs.declared.places.Refusal.{Refusal};
 ghost use Rattle.ckc_base.specs.declared.places.Pos.{Pos};
 ghost use Rattle.ckc_base.specs.declared.runtime_checks.Check.{Check};
-ghost use Rattle.ckc_base.specs.Traces.{Ended, Stopped, Going, Stuck, output};
+ghost use Rattle.ckc_base.specs.Traces.{Ended, Stopped, Going};
 ghost use Rattle.ckc_outside.specs.Outside.{Rose, one_more};
 ghost use Rattle.ckc_rv.specs.Machine.{Parts};
 ghost use Rattle.ckc_machine.specs.declared.observed.Observed.{Observed};
 ghost use Rattle.ckc_machine.specs.declared.observed.FaultKind.{FaultKind};
-ghost use Rattle.ckc_build.specs.Accepted.{Meaning, Accepted};
-ghost use Rattle.ckc_build.specs.Source.{source};
 ghost use Rattle.ckc_build.specs.Meanings.{HasMeaning};
 ghost use Rattle.ckc_source.specs.Code.{Program};
 ghost use Rattle.ckc_source.specs.Source.{place_after, unchecked_since};
@@ -16,10 +14,10 @@ ghost use Rattle.ckc_interp.specs.declared.seen.Seen.{Seen};
 ghost use Rattle.ckc_cli.specs.Words.{Command, Build, Exec, Interp, Show, Reads, bytes_of};
 ghost use Rattle.ckc_cli.specs.Commands.{Refuses, IsBad, Keeps, Lists, Executes, AsksToKeep};
 ghost use Rattle.ckc_cli.specs.Running.{Ran, seen_of, status_of, shows_run};
-ghost use Rattle.ckc_cli.specs.Agreeing.{RanBuilt, PrintedFirst, StopsAsMeant, GoesAsMeant};
+ghost use Rattle.ckc_cli.specs.Agreeing.{RanBuilt, OfInput, PrintedFirst, StandsAsMeant, GoesAsMeant, IsStuckAsMeant, StandsInTime, PutsInTime};
 ghost use Rattle.ckc_cli.specs.Interpreting.{ShowsAs, ShowsMeaning, IsStuckFirst, standing_after};
 ghost use Rattle.ckc_cli.specs.Report.{report_of};
-ghost use Rattle.ckc_cli.specs.Causes.{Caused, Over, Given, StoreIsFine, AllIsFine, HasImage, IsDone, IsRun, IsCutShort, EndsAsMeant, KeepsOthers, Reported, puts_after};
+ghost use Rattle.ckc_cli.specs.Causes.{Caused, Over, Given, StoreIsFine, AllIsFine, HasImage, IsDone, IsRun, IsCutShort, KeepsOthers, Reported, puts_after};
 
 use crate::commands::obey;
 use crate::reporting::report;
@@ -72,10 +70,10 @@ pub fn ccc<S: Source, O: Sink, E: Sink, F: Store>(
         → Given (bytes_of words.now) (F.seen store.old).files command bytes
         → StoreIsFine (F.seen store.old) (F.seen store.new)
         → Keeps command bytes name image → (result ≡ Status.Done) ⊎ (result ≡ Status.Memory) }
-    ensures built_always { (source name text : List ℕ) (m : Meaning)
+    ensures built_always { (source name text : List ℕ) (p : Program)
         → Given (bytes_of words.now) (F.seen store.old).files (Build source name) text
         → StoreIsFine (F.seen store.old) (F.seen store.new)
-        → Accepted text m → (result ≡ Status.Done) ⊎ (result ≡ Status.Memory) }
+        → HasMeaning text p → (result ≡ Status.Done) ⊎ (result ≡ Status.Memory) }
     ensures listed_always { (command : Command) (bytes text : List ℕ)
         → Given (bytes_of words.now) (F.seen store.old).files command bytes
         → StoreIsFine (F.seen store.old) (F.seen store.new)
@@ -99,58 +97,68 @@ pub fn ccc<S: Source, O: Sink, E: Sink, F: Store>(
         (seen_of S.left S.ended S.answers S.faults O.written O.faults input.new out.new)
         (input.new ≡ input.old) o) ⊎ (result ≡ Status.Memory) }
 
-    // The machine of an image of an accepted text is run.
-    ensures run_always { (name text : List ℕ) (limit : ℕ) (m : Meaning)
+    // The machine of an image of a text that has a meaning is run.
+    ensures run_always { (name text : List ℕ) (limit : ℕ) (p : Program)
         → Given (bytes_of words.now) (F.seen store.old).files (Exec name limit) text
         → StoreIsFine (F.seen store.old) (F.seen store.new)
-        → Accepted text m → RanBuilt text limit
+        → HasMeaning text p → RanBuilt text limit
         (seen_of S.left S.ended S.answers S.faults O.written O.faults input.old out.old)
         (seen_of S.left S.ended S.answers S.faults O.written O.faults input.new out.new)
         (input.new ≡ input.old) result ⊎ (result ≡ Status.Memory) }
 
-    // The headline. `exec` ends only as the meaning of the accepted text does, with the bytes that it puts; it always
-    // does so where the meaning ends in time; and it never shows a fault of the machine.
+    // The headline. `exec` ends only as the meaning of the text does, with the bytes that it puts and takes, or where
+    // the meaning is stuck; and it always does so where the meaning ends in time, and no object fails.
     ensures exec_ended { (name : List ℕ) (limit value : ℕ)
         → Reads (bytes_of words.now) (Exec name limit) → result ≡ Status.Ended value
-        → Over (bytes_of words.now) (F.seen store.old).files
-        (EndsAsMeant value (O.written out.old) (O.written out.new)) }
-    ensures exec_always { (name text : List ℕ) (limit n value : ℕ) (m : Meaning)
+        → Over (bytes_of words.now) (F.seen store.old).files (StandsAsMeant (Ended value)
+        (seen_of S.left S.ended S.answers S.faults O.written O.faults input.old out.old)
+        (seen_of S.left S.ended S.answers S.faults O.written O.faults input.new out.new)) }
+    ensures exec_always { (name text : List ℕ) (limit value : ℕ) (p : Program)
         → Given (bytes_of words.now) (F.seen store.old).files (Exec name limit) text
-        → StoreIsFine (F.seen store.old) (F.seen store.new)
-        → Accepted text m → (source m n).standing ≡ Ended value → 4 * (n + 1) ≤ limit
-        → ¬ Rose (S.faults input.old) (S.faults input.new)
-        → ¬ Rose (O.faults out.old) (O.faults out.new)
+        → HasMeaning text p → AllIsFine
+        (seen_of S.left S.ended S.answers S.faults O.written O.faults input.old out.old)
+        (seen_of S.left S.ended S.answers S.faults O.written O.faults input.new out.new)
+        (F.seen store.old) (F.seen store.new)
+        → OfInput (S.left input.old) (StandsInTime p limit (Ended value))
         → (result ≡ Status.Ended value) ⊎ (result ≡ Status.Memory) }
     // It stops at a check only as the meaning does, and always does so where the meaning stops in time.
     ensures exec_stopped { (name : List ℕ) (limit : ℕ) (check : Check) (at : Pos)
         → Reads (bytes_of words.now) (Exec name limit) → result ≡ Status.Stopped check at
-        → Over (bytes_of words.now) (F.seen store.old).files
-        (StopsAsMeant check at (O.written out.old) (O.written out.new)) }
-    ensures stopped_always { (name text : List ℕ) (limit n : ℕ) (m : Meaning) (check : Check)
+        → Over (bytes_of words.now) (F.seen store.old).files (StandsAsMeant (Stopped check at)
+        (seen_of S.left S.ended S.answers S.faults O.written O.faults input.old out.old)
+        (seen_of S.left S.ended S.answers S.faults O.written O.faults input.new out.new)) }
+    ensures stopped_always { (name text : List ℕ) (limit : ℕ) (p : Program) (check : Check)
         (at : Pos)
         → Given (bytes_of words.now) (F.seen store.old).files (Exec name limit) text
-        → StoreIsFine (F.seen store.old) (F.seen store.new)
-        → Accepted text m → (source m n).standing ≡ Stopped check at → 4 * (n + 1) ≤ limit
-        → ¬ Rose (S.faults input.old) (S.faults input.new)
-        → ¬ Rose (O.faults out.old) (O.faults out.new)
+        → HasMeaning text p → AllIsFine
+        (seen_of S.left S.ended S.answers S.faults O.written O.faults input.old out.old)
+        (seen_of S.left S.ended S.answers S.faults O.written O.faults input.new out.new)
+        (F.seen store.old) (F.seen store.new)
+        → OfInput (S.left input.old) (StandsInTime p limit (Stopped check at))
         → (result ≡ Status.Stopped check at) ⊎ (result ≡ Status.Memory) }
 
-    // Where the limit is reached, the bytes that were put are a front of those that the meaning puts; and those that
-    // the meaning has put after n steps are a front of those that were put, where the limit suffices.
+    // Where the limit is reached, the bytes that were put and taken are a front of those that the meaning puts and
+    // takes; and those that the meaning has put after n steps are a front of those that were put, where the limit
+    // suffices.
     ensures exec_going { (name : List ℕ) (limit : ℕ)
         → Reads (bytes_of words.now) (Exec name limit) → result ≡ Status.Going
-        → Over (bytes_of words.now) (F.seen store.old).files (GoesAsMeant (O.written out.old)
-        (O.written out.new)) }
-    ensures put_always { (name text : List ℕ) (limit n : ℕ) (m : Meaning)
+        → Over (bytes_of words.now) (F.seen store.old).files (GoesAsMeant
+        (seen_of S.left S.ended S.answers S.faults O.written O.faults input.old out.old)
+        (seen_of S.left S.ended S.answers S.faults O.written O.faults input.new out.new)) }
+    ensures put_always { (name text bytes : List ℕ) (limit : ℕ) (p : Program)
         → Given (bytes_of words.now) (F.seen store.old).files (Exec name limit) text
-        → StoreIsFine (F.seen store.old) (F.seen store.new)
-        → Accepted text m → (source m n).standing ≢ Stuck → 4 * (n + 1) ≤ limit
-        → ¬ Rose (S.faults input.old) (S.faults input.new)
-        → ¬ Rose (O.faults out.old) (O.faults out.new)
-        → PrintedFirst (O.written out.old) (O.written out.new) (output (source m n).trace)
-        ⊎ (result ≡ Status.Memory) }
+        → HasMeaning text p → AllIsFine
+        (seen_of S.left S.ended S.answers S.faults O.written O.faults input.old out.old)
+        (seen_of S.left S.ended S.answers S.faults O.written O.faults input.new out.new)
+        (F.seen store.old) (F.seen store.new)
+        → OfInput (S.left input.old) (PutsInTime p limit bytes)
+        → PrintedFirst (O.written out.old) (O.written out.new) bytes ⊎ (result ≡ Status.Memory) }
+    // It shows a fault of the machine only where the meaning is stuck.
     ensures exec_faultless { (name : List ℕ) (limit pc : ℕ) (kind : FaultKind)
-        → Reads (bytes_of words.now) (Exec name limit) → result ≢ Status.MachineFault kind pc }
+        → Reads (bytes_of words.now) (Exec name limit) → result ≡ Status.MachineFault kind pc
+        → Over (bytes_of words.now) (F.seen store.old).files (IsStuckAsMeant
+        (seen_of S.left S.ended S.answers S.faults O.written O.faults input.old out.old)
+        (seen_of S.left S.ended S.answers S.faults O.written O.faults input.new out.new)) }
 
     // `interp` ends, stops, goes on and is stuck only as the meaning of the text does within the limit, with exactly
     // the bytes that it puts and takes; and it always does so where the input is told and no object fails.

@@ -75,9 +75,16 @@ unfoldable pub after_answers : ℕ → List ℕ → ℕ
 after_answers n [] = n
 after_answers n (byte ∷ more) = after_answers (one_more n) more
 
--- What a source gave: as many bytes as it counted, and none where it had ended. Where it had ended it stays so.
+-- each number is a byte
+abbrev pub AreBytes : List ℕ → Type 0
+AreBytes [] = Unit {0}
+AreBytes (b ∷ bytes) = (b < 256) × AreBytes bytes
+
+-- What a source gave: as many numbers as it counted, each a byte, and none where it had ended. Where it had ended it
+-- stays so.
 pub record Gave (ended ended' : Bool) (answers answers' : ℕ) (more : List ℕ) : Type 0 where
   pub count : answers' ≡ after_answers answers more
+  pub bytes : AreBytes more
   pub none : IsTrue ended → more ≡ []
   pub stays : IsTrue ended → IsTrue ended'
 

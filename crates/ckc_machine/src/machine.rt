@@ -1,4 +1,4 @@
-ghost use Rattle.std.specs.Prelude.{◌≡◌};
+ghost use Rattle.std.specs.Prelude.{◌≡◌, ◌<◌};
 ghost use Rattle.ckc_rv.specs.Effects.{load_bytes, store_bytes};
 
 use crate::memory::{Memory, is_writable};
@@ -159,7 +159,7 @@ impl<'a> Machine<'a> {
         ensures input_counts { S.faults input.old ≤ S.faults input.new }
     {
         match input.next() {
-            Ok(Some(byte)) => self.go_on(10, u32::from(byte), self.pc.wrapping_add(4)),
+            Ok(Some(byte)) => self.go_on(10, word_of(byte), self.pc.wrapping_add(4)),
             Ok(None) => self.go_on(10, u32::MAX, self.pc.wrapping_add(4)),
             Err(_) => self.halt(Observed::ReadFault),
         }
@@ -319,4 +319,12 @@ fn store_size(op: StoreOp) -> u32
         StoreOp::Sh => 2,
         StoreOp::Sw => 4,
     }
+}
+
+/// A byte as a word.
+fn word_of(byte: u8) -> u32
+    ensures same { result ≡ byte }
+    ensures small { byte < 256 }
+{
+    u32::from(byte)
 }

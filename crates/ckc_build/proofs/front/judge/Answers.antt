@@ -3,7 +3,7 @@ use Rattle.std.proofs.lemmas.Result.{err_from_is_err_and}
 use Rattle.ckc_base.specs.Phases.{Exact}
 use Rattle.ckc_lexer.specs.Phase.{tokens_in}
 use Rattle.ckc_parser.specs.Phase.{parsing}
-use Rattle.ckc_build.specs.Accepted.{judging}
+use Rattle.ckc_build.specs.Meanings.{judging}
 use Rattle.ckc_build.proofs.Chain.{ends, tokens_same, judge_lex_ends, judge_parse_ends, judge_goes}
 use Rattle.ckc_build.proofs.front.judge.Goals as goal
 

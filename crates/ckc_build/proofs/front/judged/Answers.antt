@@ -1,6 +1,6 @@
 use Rattle.std.proofs.lemmas.Result.{err_from_is_err_and}
 use Rattle.ckc_base.specs.Phases.{Exact}
-use Rattle.ckc_build.specs.Accepted.{judging_tree}
+use Rattle.ckc_build.specs.Meanings.{judging_tree}
 use Rattle.ckc_build.proofs.Chain.{ends, fits_ends, fits_goes}
 use Rattle.ckc_build.proofs.front.judged.Goals as goal
 

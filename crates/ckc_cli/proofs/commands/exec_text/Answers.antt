@@ -16,7 +16,7 @@ returns-in-Ok-Longer-clause-cause g c =
     let after : Stored = g.F.Store.seen c.fetch.new.store in
     let old : Seen = seen_of g.S.Source.left g.S.Source.ended g.S.Source.answers g.S.Source.faults g.O.Sink.written g.O.Sink.faults input out in
     let p = over_limit c.in-Ok-Longer.field-0 c.args.text.now 262144 before after c.in-Ok-Longer.field-0-is c.in-Ok-Longer.ensures.fetches in
-    fetched p.0 p.1 (refused (at_start 201) (inl (inl (inl (p.2, refl)))) c.too_long.ensures (record { unkept = c.fetch.ensures.only.unkept; put = refl; took = refl }))
+    fetched p.0 p.1 (refused (at_start 201) (inl (inl (inl (inl (p.2, refl))))) c.too_long.ensures (record { unkept = c.fetch.ensures.only.unkept; put = refl; took = refl }))
 
 pub returns-in-Ok-Whole-clause-cause : goal.returns-in-Ok-Whole-clause-cause
 returns-in-Ok-Whole-clause-cause g c =

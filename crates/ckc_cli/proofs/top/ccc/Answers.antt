@@ -8,7 +8,6 @@ use Rattle.ckc_cli.proofs.Execs as execs
 use Rattle.ckc_cli.proofs.Keeping as keeping
 use Rattle.ckc_cli.proofs.Touching as touching
 use Rattle.ckc_cli.proofs.Completing as completing
-use Rattle.ckc_cli.proofs.Agreeing as agreeing
 use Rattle.ckc_cli.proofs.Meant as meant
 use Rattle.ckc_cli.proofs.top.ccc.Goals as goal
 
@@ -75,12 +74,12 @@ returns-clause-exec_ended g c =
 pub returns-clause-exec_always : goal.returns-clause-exec_always
 returns-clause-exec_always g c =
     let l = by.leaf _ _ _ _ _ _ _ _ _ c.asked-status.ensures.cause in
-    λ name text limit n value m given fine accepted ends le r wr. execs.exec_always _ _ _ _ _ _ _ _ text name limit given fine m n value accepted ends le r wr _ l
+    λ name text limit value p given m fine h. completing.exec_always _ _ _ _ _ _ _ _ name text limit p given m fine _ l value h
 
 pub returns-clause-exec_faultless : goal.returns-clause-exec_faultless
 returns-clause-exec_faultless g c =
     let l = by.leaf _ _ _ _ _ _ _ _ _ c.asked-status.ensures.cause in
-    λ name limit pc kind r. execs.exec_faultless _ _ _ _ _ _ _ _ _ l name limit pc kind r
+    λ name limit pc kind r e. execs.exec_faultless _ _ _ _ _ _ _ _ _ l name limit pc kind r e
 
 pub returns-clause-interp_ended : goal.returns-clause-interp_ended
 returns-clause-interp_ended g c =
@@ -175,32 +174,32 @@ returns-clause-refused_keeps g c =
 pub returns-clause-built_always : goal.returns-clause-built_always
 returns-clause-built_always g c =
     let l = by.leaf _ _ _ _ _ _ _ _ _ c.asked-status.ensures.cause in
-    λ source name text m g2 fine a2. completing.built_always _ _ _ _ _ _ _ _ _ l source name text m g2 fine a2
+    λ source name text p given fine m. completing.built_always _ _ _ _ _ _ _ _ source name text p given fine m _ l
 
 pub returns-clause-run_always : goal.returns-clause-run_always
 returns-clause-run_always g c =
     let l = by.leaf _ _ _ _ _ _ _ _ _ c.asked-status.ensures.cause in
-    λ name text limit m g2 fine a2. completing.run_always _ _ _ _ _ _ _ _ _ l name text limit m g2 fine a2
+    λ name text limit p given fine m. completing.run_always _ _ _ _ _ _ _ _ name text limit p given m fine _ l
 
 pub returns-clause-exec_stopped : goal.returns-clause-exec_stopped
 returns-clause-exec_stopped g c =
     let l = by.leaf _ _ _ _ _ _ _ _ _ c.asked-status.ensures.cause in
-    λ name limit check at r e. agreeing.exec_stopped _ _ _ _ _ _ _ _ _ l name limit check at r e
+    λ name limit check at r e. execs.exec_stopped _ _ _ _ _ _ _ _ _ l name limit check at r e
 
 pub returns-clause-stopped_always : goal.returns-clause-stopped_always
 returns-clause-stopped_always g c =
     let l = by.leaf _ _ _ _ _ _ _ _ _ c.asked-status.ensures.cause in
-    λ name text limit n m check at g2 fine a2 stops le r wr. agreeing.exec_stops _ _ _ _ text limit n m a2 le r wr (completing.run_always _ _ _ _ _ _ _ _ _ l name text limit m g2 fine a2) check at stops
+    λ name text limit p check at given m fine h. completing.stopped_always _ _ _ _ _ _ _ _ name text limit p given m fine _ l check at h
 
 pub returns-clause-exec_going : goal.returns-clause-exec_going
 returns-clause-exec_going g c =
     let l = by.leaf _ _ _ _ _ _ _ _ _ c.asked-status.ensures.cause in
-    λ name limit r e. agreeing.exec_going _ _ _ _ _ _ _ _ _ l name limit r e
+    λ name limit r e. execs.exec_going _ _ _ _ _ _ _ _ _ l name limit r e
 
 pub returns-clause-put_always : goal.returns-clause-put_always
 returns-clause-put_always g c =
     let l = by.leaf _ _ _ _ _ _ _ _ _ c.asked-status.ensures.cause in
-    λ name text limit n m g2 fine a2 safe le r wr. agreeing.exec_put _ _ _ _ text limit n m a2 le r wr (completing.run_always _ _ _ _ _ _ _ _ _ l name text limit m g2 fine a2) safe
+    λ name text bytes limit p given m fine h. completing.put_always _ _ _ _ _ _ _ _ name text limit p given m fine _ l bytes h
 
 pub returns-clause-kept_quietly : goal.returns-clause-kept_quietly
 returns-clause-kept_quietly g c =

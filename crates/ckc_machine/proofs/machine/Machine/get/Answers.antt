@@ -21,7 +21,7 @@ returns-in-Ok-Some-clause-exact g c = λ parts given k written faults is asks.
     runs_going parts given k m' left left' written written (g.S.Source.faults c.args.input.now) (g.S.Source.faults c.next.new.self) faults faults answer
     (arrives_getting parts given k m m' left left' written written (Some c.in-Ok-Some.byte) is c.requires asks (sym c.in-Ok-Some.field-0-is ∙ told.0)
     c.go_on.ensures.code
-    (λ l. c.go_on.ensures.state l ∙ ap (λ v. record (state_of m l) { x = with_register m.regs.x 10 v; pc = following m.pc }) c.from.ensures)
+    (λ l. c.go_on.ensures.state l ∙ ap (λ v. record (state_of m l) { x = with_register m.regs.x 10 v; pc = following m.pc }) c.word_of.ensures.same)
     answer told.1 refl)
 
 pub returns-in-Ok-Some-clause-any : goal.returns-in-Ok-Some-clause-any
@@ -36,6 +36,7 @@ returns-in-Ok-Some-clause-any g c =
       byte ∷ [],
       record {
         count = subst (λ (o : Option ℕ). g.S.Source.answers c.next.new.self ≡ after_next (Ok o) (g.S.Source.answers c.args.input.now)) some c.in-Ok-Some.ensures.answered ∙ one_answer _ byte;
+        bytes = (c.word_of.ensures.small, tt);
         none = λ t. absurd (subst (λ (o : Option ℕ). GivesNothing (Ok o)) some (c.in-Ok-Some.ensures.nothing t));
         stays = c.next.ensures.stays;
       },
@@ -44,7 +45,7 @@ returns-in-Ok-Some-clause-any g c =
           runs_going parts given k m' (Some (byte ∷ rest)) (Some rest) written written faults faults' puts puts answer
           (arrives_getting parts given k m m' (Some (byte ∷ rest)) (Some rest) written written (Some byte) is c.requires asks (ap (λ (l : List ℕ). slice_get l 0) same)
           c.go_on.ensures.code
-          (λ l. c.go_on.ensures.state l ∙ ap (λ v. record (state_of m l) { x = with_register m.regs.x 10 v; pc = following m.pc }) c.from.ensures)
+          (λ l. c.go_on.ensures.state l ∙ ap (λ v. record (state_of m l) { x = with_register m.regs.x 10 v; pc = following m.pc }) c.word_of.ensures.same)
           answer (ap (λ (l : List ℕ). Some (drop 1 l)) same) refl),
     )
 
@@ -72,6 +73,7 @@ returns-in-Ok-None-clause-any g c =
       [],
       record {
         count = subst (λ (o : Option ℕ). g.S.Source.answers c.next.new.self ≡ after_next (Ok o) (g.S.Source.answers c.args.input.now)) none c.in-Ok-None.ensures.answered ∙ no_answer _;
+        bytes = tt;
         none = λ t. refl;
         stays = c.next.ensures.stays;
       },
@@ -91,7 +93,7 @@ returns-in-Err-clause-any g c =
     let faults = g.S.Source.faults c.args.input.now in
     let faults' = g.S.Source.faults c.next.new.self in (
       [],
-      record { count = c.in-Err.ensures.answered ∙ no_answer _; none = λ t. refl; stays = c.next.ensures.stays },
+      record { count = c.in-Err.ensures.answered ∙ no_answer _; bytes = tt; none = λ t. refl; stays = c.next.ensures.stays },
       λ rest may parts given k written puts is asks.
           subst (λ (o : Observed). Runs parts given k 1 m' (Some rest) (Some rest) written written faults faults' puts puts o) (sym c.halt.ensures.answer)
           (fails_getting parts given k m m' (Some rest) (Some rest) written written faults faults' is asks c.in-Err.ensures.failed is.rest),
