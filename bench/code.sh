@@ -1,0 +1,45 @@
+#!/bin/bash
+# How many instructions the machine runs for programs: the least LIMIT with which `ccc exec` does not answer that the
+# limit was reached.
+. "$(dirname "$0")/workspace.sh"
+reaches_limit() { # limit program input
+  printf '%s' "$3" | "$top/ccc" exec "$2" "$1" > "$work/said" 2>&1
+  [ $? = 110 ]
+}
+count() { # name program input
+  local low=0 high=1
+  while reaches_limit $high "$2" "$3"; do low=$high; high=$((high * 2)); done
+  while [ $((high - low)) -gt 1 ]; do
+    local middle=$(((low + high) / 2))
+    if reaches_limit $middle "$2" "$3"; then low=$middle; else high=$middle; fi
+  done
+  row "code, $1" $high instructions
+}
+cat > "$work/loop.c" <<'TEXT'
+int main(void) {
+  unsigned i;
+  unsigned sum = 0;
+  for (i = 0; i < 1000; i = i + 1)
+    sum = sum * 3 + i;
+  return 7;
+}
+TEXT
+cat > "$work/gcd.c" <<'TEXT'
+int gcd(int a, int b) {
+  int value = a;
+  if (b != 0)
+    value = gcd(b, a % b);
+  return value;
+}
+int main(void) {
+  int value = gcd(832040, 514229);
+  return value;
+}
+TEXT
+count 'a loop of 1,000 turns' "$work/loop.c" ''
+count 'a greatest common divisor by 29 calls' "$work/gcd.c" ''
+count 'towers of Hanoi of 8 disks' "$top/examples/hanoi.c" 8
+count 'a calculator' "$top/examples/calculator.c" '2*(3+4)-10/3
+'
+count 'sorting of eight numbers' "$top/examples/sorter.c" '8 7 6 5 4 3 2 1
+'
