@@ -1,17 +1,16 @@
 -- What a held memory has at each address.
 use Rattle.std.proofs.Common.{◌≡◌, ◌≢◌, ◌⊎◌, inl, inr, ℕ, zero, suc, ◌+◌, ◌-◌, ◌*◌, ◌/◌, ◌%◌, ◌^◌, ◌≤◌, ◌<◌, List, length, get_or, take, drop, length-take, Some, None, refl, sym, ap, subst, ◌∙◌, arith}
-use Rattle.std.specs.Prelude.{slice_set}
 use Rattle.std.proofs.lemmas.Bool.Decides.{nat_tests}
 use Rattle.std.proofs.lemmas.Bool.{cases_lt}
 use Rattle.std.proofs.Math.Path.{fun_ext}
-use Rattle.std.proofs.lemmas.List.{get_or-set_same, get_or-set_other, get_or-drop, get_or-take, get_or_past}
+use Rattle.std.proofs.lemmas.List.{get_or-drop, get_or-take, get_or_past}
 use Rattle.ckc_rv.specs.Machine.{Parts, Memory, flat, loaded, stored, with_byte, code_start, data_start, stack_start, memory_end}
 use Rattle.ckc_rv.specs.declared.instructions.LoadOp.{LoadOp}
 use Rattle.ckc_rv.specs.declared.instructions.LoadOp.TheVariants.{Lb, Lh, Lw, Lbu, Lhu}
 use Rattle.ckc_rv.specs.declared.instructions.StoreOp.{StoreOp}
 use Rattle.ckc_rv.specs.declared.instructions.StoreOp.TheVariants.{Sb, Sh, Sw}
 use Rattle.ckc_rv.specs.Effects.{load_bytes, store_bytes}
-use Rattle.ckc_machine.specs.Bytes.{byte_of, byte_in, part_of, held, Holds, IsUnmapped, IsChanged, IsMerged}
+use Rattle.ckc_machine.specs.Bytes.{byte_of, byte_in, stack_byte, part_of, held, Holds, IsUnmapped, IsChanged, IsMerged}
 
 -- what holds of 0, 1, 2 and 3 holds of each number below 4
 pub below_4 : (P : ℕ → Type 0) → P 0 → P 1 → P 2 → P 3 → (i : ℕ) → i < 4 → P i
@@ -35,7 +34,7 @@ module _ (code statics stack : List ℕ) where
   unfolding held
   held_statics a fits h k = grind (arith, nat_tests)
 
-  pub held_stack : (a : ℕ) → length code ≤ 16773120 → stack_start ≤ a → a < memory_end → held code statics stack a ≡ Some (byte_in stack (a - stack_start))
+  pub held_stack : (a : ℕ) → length code ≤ 16773120 → stack_start ≤ a → a < memory_end → held code statics stack a ≡ Some (stack_byte stack a)
   unfolding held
   held_stack a fits h k = grind (arith, nat_tests)
 
@@ -58,6 +57,13 @@ byte_in_word words a i h k =
     let q : (a + i) % 4 ≡ i = omega arith in
     ap (λ j. byte_of (get_or words j 0) ((a + i) % 4)) p ∙ ap (byte_of (get_or words (a / 4) 0)) q
 
+-- the byte i of the word at an address of the stack that is a multiple of 4
+byte_in_stack : (words : List ℕ) (a i : ℕ) → a % 4 ≡ 0 → a < memory_end → i < 4 → stack_byte words (a + i) ≡ byte_of (get_or words ((memory_end - 1 - a) / 4) 0) i
+byte_in_stack words a i h below k =
+    let p : (memory_end - 1 - (a + i)) / 4 ≡ (memory_end - 1 - a) / 4 = omega arith in
+    let q : (a + i) % 4 ≡ i = omega arith in
+    ap (λ j. byte_of (get_or words j 0) ((a + i) % 4)) p ∙ ap (byte_of (get_or words ((memory_end - 1 - a) / 4) 0)) q
+
 module _ (code statics stack : List ℕ) (fits : length code ≤ 16773120) where
   pub holds_statics : (a : ℕ) → a % 4 ≡ 0 → data_start ≤ a → a < stack_start → Holds (held code statics stack) a (get_or statics ((a - data_start) / 4) 0)
   holds_statics a al h k i l =
@@ -65,11 +71,9 @@ module _ (code statics stack : List ℕ) (fits : length code ≤ 16773120) where
       held_statics code statics stack (a + i) fits (omega arith) (omega arith)
       ∙ ap (λ j. Some (byte_in statics j)) e ∙ ap Some (byte_in_word statics (a - data_start) i (omega arith) l)
 
-  pub holds_stack : (a : ℕ) → a % 4 ≡ 0 → stack_start ≤ a → a < memory_end → Holds (held code statics stack) a (get_or stack ((a - stack_start) / 4) 0)
+  pub holds_stack : (a : ℕ) → a % 4 ≡ 0 → stack_start ≤ a → a < memory_end → Holds (held code statics stack) a (get_or stack ((memory_end - 1 - a) / 4) 0)
   holds_stack a al h k i l =
-      let e : a + i - stack_start ≡ a - stack_start + i = omega arith in
-      held_stack code statics stack (a + i) fits (omega arith) (omega arith)
-      ∙ ap (λ j. Some (byte_in stack j)) e ∙ ap Some (byte_in_word stack (a - stack_start) i (omega arith) l)
+      held_stack code statics stack (a + i) fits (omega arith) (omega arith) ∙ ap Some (byte_in_stack stack a i al k l)
 
   pub unmapped_below : (a : ℕ) → a % 4 ≡ 0 → a < code_start → IsUnmapped (held code statics stack) a
   unmapped_below a al h i l = held_below code statics stack (a + i) (omega arith)
@@ -173,32 +177,66 @@ read_back word bytes small e =
     let w = bytes_of_word word (get_or bytes 0 0) (get_or bytes 1 0) (get_or bytes 2 0) (get_or bytes 3 0) (small 0 (omega arith)) (small 1 (omega arith)) (small 2 (omega arith)) (small 3 (omega arith)) e in
     below_4 (λ i. byte_of word i ≡ get_or bytes i 0) w.0 w.1 w.2 w.3
 
-byte_small : (word i : ℕ) → i < 4 → byte_of word i < 256
-byte_small word = below_4 (λ i. byte_of word i < 256) (omega arith) (omega arith) (omega arith) (omega arith)
+-- A word with its bits from a place on replaced, as it is computed: those above, the value's, and those below.
+abbrev pub replaced : ℕ → ℕ → ℕ → ℕ → ℕ
+replaced word shift size value =
+    (((word / 2 ^ shift / size * size) % 2 ^ 32 + value % size) * 2 ^ shift % 2 ^ 32 + word % (1 * 2 ^ shift % 2 ^ 32)) % 2 ^ 32
 
-split_at : (i place : ℕ) → (i ≡ place) ⊎ ((i < place) ⊎ (place + 1 ≤ i))
-split_at i place = grind arith
+merged_one : (word place value merged : ℕ) → byte_of merged place ≡ value % 256 → ((i : ℕ) → i < 4 → i ≢ place → byte_of merged i ≡ byte_of word i)
+    → IsMerged word place 1 value merged
+merged_one word place value merged here others = record {
+  inside = λ i h.
+      let first : i ≡ 0 = omega arith in
+      let at : place + i ≡ place = omega arith in
+      ap (byte_of merged) at ∙ here ∙ ap (byte_of value) (sym first);
+  outside = λ i h o. others i h (elim o as (λ _. i ≢ place) [ inl p ↦ omega arith | inr p ↦ omega arith ]);
+}
 
-small_at : (word place value : ℕ) (bytes : List ℕ) → get_or bytes place 0 ≡ value % 256 → ((i : ℕ) → i < 4 → (i < place) ⊎ (place + 1 ≤ i) → get_or bytes i 0 ≡ byte_of word i)
-    → (i : ℕ) → i < 4 → (i ≡ place) ⊎ ((i < place) ⊎ (place + 1 ≤ i)) → get_or bytes i 0 < 256
-small_at word place value bytes same other i k (inl e) = let v : value % 256 < 256 = omega arith in subst (λ b. b < 256) (sym (ap (λ j. get_or bytes j 0) e ∙ same)) v
-small_at word place value bytes same other i k (inr o) = subst (λ b. b < 256) (sym (other i k o)) (byte_small word i k)
+byte_0 : (word value : ℕ) → word < 2 ^ 32 → IsMerged word 0 1 value (replaced word (8 * 0) 256 value)
+byte_0 word value small = merged_one word 0 value (replaced word (8 * 0) 256 value) (omega arith)
+    (below_4 (λ i. i ≢ 0 → byte_of (replaced word (8 * 0) 256 value) i ≡ byte_of word i) (λ n. absurd (n refl)) (λ n. omega arith) (λ n. omega arith) (λ n. omega arith))
+
+byte_1 : (word value : ℕ) → word < 2 ^ 32 → IsMerged word 1 1 value (replaced word (8 * 1) 256 value)
+byte_1 word value small = merged_one word 1 value (replaced word (8 * 1) 256 value) (omega arith)
+    (below_4 (λ i. i ≢ 1 → byte_of (replaced word (8 * 1) 256 value) i ≡ byte_of word i) (λ n. omega arith) (λ n. absurd (n refl)) (λ n. omega arith) (λ n. omega arith))
+
+byte_2 : (word value : ℕ) → word < 2 ^ 32 → IsMerged word 2 1 value (replaced word (8 * 2) 256 value)
+byte_2 word value small = merged_one word 2 value (replaced word (8 * 2) 256 value) (omega arith)
+    (below_4 (λ i. i ≢ 2 → byte_of (replaced word (8 * 2) 256 value) i ≡ byte_of word i) (λ n. omega arith) (λ n. omega arith) (λ n. absurd (n refl)) (λ n. omega arith))
+
+byte_3 : (word value : ℕ) → word < 2 ^ 32 → IsMerged word 3 1 value (replaced word (8 * 3) 256 value)
+byte_3 word value small = merged_one word 3 value (replaced word (8 * 3) 256 value) (omega arith)
+    (below_4 (λ i. i ≢ 3 → byte_of (replaced word (8 * 3) 256 value) i ≡ byte_of word i) (λ n. omega arith) (λ n. omega arith) (λ n. omega arith) (λ n. absurd (n refl)))
 
 -- one byte of a word is set
-pub merged_byte : (word place value merged : ℕ) (bytes : List ℕ) → place < length bytes → ((i : ℕ) → i < 4 → get_or bytes i 0 ≡ byte_of word i)
-    → (let set' = slice_set bytes place (value % 256) in merged ≡ get_or set' 0 0 + 256 * (get_or set' 1 0 + 256 * (get_or set' 2 0 + 256 * (get_or set' 3 0 + 256 * 0))))
-    → place < 4 → IsMerged word place 1 value merged
-merged_byte word place value merged bytes within e read h =
-    let set' = slice_set bytes place (value % 256) in
-    let same : get_or set' place 0 ≡ value % 256 = get_or-set_same bytes place (value % 256) 0 within in
-    let other : (i : ℕ) → i < 4 → (i < place) ⊎ (place + 1 ≤ i) → get_or set' i 0 ≡ byte_of word i = λ i k o. get_or-set_other bytes place i (value % 256) 0 (elim o as (λ _. i ≢ place) [ inl p ↦ omega arith | inr p ↦ omega arith ]) ∙ e i k in
-    let small : (i : ℕ) → i < 4 → get_or set' i 0 < 256 = λ i k. small_at word place value set' same other i k (split_at i place) in
-    let back = read_back merged set' small read in
-    record {
-      inside = λ i k. let here : place + i ≡ place = omega arith in let first : i ≡ 0 = omega arith in
-          ap (byte_of merged) here ∙ back place h ∙ same ∙ ap (byte_of value) (sym first);
-      outside = λ i k o. back i k ∙ other i k o;
-    }
+pub merged_byte : (word place value : ℕ) → word < 2 ^ 32 → place < 4 → IsMerged word place 1 value (replaced word (8 * place) 256 value)
+merged_byte word place value small = below_4 (λ p. IsMerged word p 1 value (replaced word (8 * p) 256 value))
+    (byte_0 word value small) (byte_1 word value small) (byte_2 word value small) (byte_3 word value small) place
+
+neither : {i from to : ℕ} → (i < from) ⊎ (to ≤ i) → from ≤ i → i < to → ⊥
+neither (inl p) h k = omega arith
+neither (inr p) h k = omega arith
+
+half_0 : (word value : ℕ) → word < 2 ^ 32 → IsMerged word 0 2 value (replaced word (8 * 0) 65536 value)
+half_0 word value small = record {
+  inside = λ i h. below_4 (λ i. i < 2 → byte_of (replaced word (8 * 0) 65536 value) (0 + i) ≡ byte_of value i)
+      (λ l. omega arith) (λ l. omega arith) (λ l. absurd (omega arith)) (λ l. absurd (omega arith)) i (omega arith) h;
+  outside = below_4 (λ i. (i < 0) ⊎ (0 + 2 ≤ i) → byte_of (replaced word (8 * 0) 65536 value) i ≡ byte_of word i)
+      (λ o. absurd (neither o (omega arith) (omega arith))) (λ o. absurd (neither o (omega arith) (omega arith))) (λ o. omega arith) (λ o. omega arith);
+}
+
+half_2 : (word value : ℕ) → word < 2 ^ 32 → IsMerged word 2 2 value (replaced word (8 * 2) 65536 value)
+half_2 word value small = record {
+  inside = λ i h. below_4 (λ i. i < 2 → byte_of (replaced word (8 * 2) 65536 value) (2 + i) ≡ byte_of value i)
+      (λ l. omega arith) (λ l. omega arith) (λ l. absurd (omega arith)) (λ l. absurd (omega arith)) i (omega arith) h;
+  outside = below_4 (λ i. (i < 2) ⊎ (2 + 2 ≤ i) → byte_of (replaced word (8 * 2) 65536 value) i ≡ byte_of word i)
+      (λ o. omega arith) (λ o. omega arith) (λ o. absurd (neither o (omega arith) (omega arith))) (λ o. absurd (neither o (omega arith) (omega arith)));
+}
+
+-- one half of a word is set
+pub merged_half : (word place value : ℕ) → word < 2 ^ 32 → place % 2 ≡ 0 → place < 4 → IsMerged word place 2 value (replaced word (8 * place) 65536 value)
+merged_half word place value small even h = below_4 (λ p. p % 2 ≡ 0 → IsMerged word p 2 value (replaced word (8 * p) 65536 value))
+    (λ e. half_0 word value small) (λ e. absurd (omega arith)) (λ e. half_2 word value small) (λ e. absurd (omega arith)) place h even
 
 -- ---- a word is put
 
@@ -221,44 +259,36 @@ region_of q = elim (cases_lt q data_start) [
   ]
 ]
 
--- the bytes of the other words stay
-byte_stays : (words : List ℕ) (a word k : ℕ) → a % 4 ≡ 0 → (k < a) ⊎ (a + 4 ≤ k) → byte_in (slice_set words (a / 4) word) k ≡ byte_in words k
-byte_stays words a word k al o =
-    let apart : k / 4 ≢ a / 4 = elim o as (λ _. k / 4 ≢ a / 4) [ inl p ↦ omega arith | inr p ↦ omega arith ] in
-    ap (λ w. byte_of w (k % 4)) (get_or-set_other words (a / 4) (k / 4) word 0 apart)
+-- the words but for one place stay
+abbrev pub SameBut : ℕ → List ℕ → List ℕ → Type 0
+SameBut at old new = (j : ℕ) → j ≢ at → get_or new j 0 ≡ get_or old j 0
 
-module _ (code statics stack : List ℕ) (fits : length code ≤ 16773120) (a word : ℕ) (al : a % 4 ≡ 0) where
-  pub changed_statics : length statics ≡ 4194304 → data_start ≤ a → a < stack_start → IsChanged (held code statics stack) (held code (slice_set statics ((a - data_start) / 4) word) stack) a word
-  changed_statics len h k =
-      let j = (a - data_start) / 4 in
-      let now = slice_set statics j word in
-      record {
-        here = subst (Holds (held code now stack) a) (get_or-set_same statics j word 0 (omega arith)) (holds_statics code now stack fits a al h k);
-        elsewhere = λ q o. elim (region_of q) as (λ _. held code now stack q ≡ held code statics stack q) [
-          | below_data l ↦ same_below code now statics stack stack q l
-          | in_data l r ↦
-              let apart : (q - data_start < a - data_start) ⊎ (a - data_start + 4 ≤ q - data_start) = elim o as (λ _. (q - data_start < a - data_start) ⊎ (a - data_start + 4 ≤ q - data_start)) [ inl p ↦ inl (omega arith) | inr p ↦ inr (omega arith) ] in
-              held_statics code now stack q fits l r ∙ ap Some (byte_stays statics (a - data_start) word (q - data_start) (omega arith) apart) ∙ sym (held_statics code statics stack q fits l r)
-          | in_stack l r ↦ held_stack code now stack q fits l r ∙ sym (held_stack code statics stack q fits l r)
-          | above l ↦ held_above code now stack q fits l ∙ sym (held_above code statics stack q fits l)
-        ];
-      }
+module _ (code statics stack now : List ℕ) (fits : length code ≤ 16773120) (a word : ℕ) (al : a % 4 ≡ 0) where
+  pub changed_statics : get_or now ((a - data_start) / 4) 0 ≡ word → SameBut ((a - data_start) / 4) statics now → data_start ≤ a → a < stack_start → IsChanged (held code statics stack) (held code now stack) a word
+  changed_statics same others h k = record {
+    here = subst (Holds (held code now stack) a) same (holds_statics code now stack fits a al h k);
+    elsewhere = λ q o. elim (region_of q) as (λ _. held code now stack q ≡ held code statics stack q) [
+      | below_data l ↦ same_below code now statics stack stack q l
+      | in_data l r ↦
+          let apart : (q - data_start) / 4 ≢ (a - data_start) / 4 = elim o as (λ _. (q - data_start) / 4 ≢ (a - data_start) / 4) [ inl p ↦ omega arith | inr p ↦ omega arith ] in
+          held_statics code now stack q fits l r ∙ ap (λ w. Some (byte_of w ((q - data_start) % 4))) (others ((q - data_start) / 4) apart) ∙ sym (held_statics code statics stack q fits l r)
+      | in_stack l r ↦ held_stack code now stack q fits l r ∙ sym (held_stack code statics stack q fits l r)
+      | above l ↦ held_above code now stack q fits l ∙ sym (held_above code statics stack q fits l)
+    ];
+  }
 
-  pub changed_stack : length stack ≡ 4194304 → stack_start ≤ a → a < memory_end → IsChanged (held code statics stack) (held code statics (slice_set stack ((a - stack_start) / 4) word)) a word
-  changed_stack len h k =
-      let j = (a - stack_start) / 4 in
-      let now = slice_set stack j word in
-      record {
-        here = subst (Holds (held code statics now) a) (get_or-set_same stack j word 0 (omega arith)) (holds_stack code statics now fits a al h k);
-        elsewhere = λ q o. elim (region_of q) as (λ _. held code statics now q ≡ held code statics stack q) [
-          | below_data l ↦ same_below code statics statics now stack q l
-          | in_data l r ↦ held_statics code statics now q fits l r ∙ sym (held_statics code statics stack q fits l r)
-          | in_stack l r ↦
-              let apart : (q - stack_start < a - stack_start) ⊎ (a - stack_start + 4 ≤ q - stack_start) = elim o as (λ _. (q - stack_start < a - stack_start) ⊎ (a - stack_start + 4 ≤ q - stack_start)) [ inl p ↦ inl (omega arith) | inr p ↦ inr (omega arith) ] in
-              held_stack code statics now q fits l r ∙ ap Some (byte_stays stack (a - stack_start) word (q - stack_start) (omega arith) apart) ∙ sym (held_stack code statics stack q fits l r)
-          | above l ↦ held_above code statics now q fits l ∙ sym (held_above code statics stack q fits l)
-        ];
-      }
+  pub changed_stack : get_or now ((memory_end - 1 - a) / 4) 0 ≡ word → SameBut ((memory_end - 1 - a) / 4) stack now → stack_start ≤ a → a < memory_end → IsChanged (held code statics stack) (held code statics now) a word
+  changed_stack same others h k = record {
+    here = subst (Holds (held code statics now) a) same (holds_stack code statics now fits a al h k);
+    elsewhere = λ q o. elim (region_of q) as (λ _. held code statics now q ≡ held code statics stack q) [
+      | below_data l ↦ same_below code statics statics now stack q l
+      | in_data l r ↦ held_statics code statics now q fits l r ∙ sym (held_statics code statics stack q fits l r)
+      | in_stack l r ↦
+          let apart : (memory_end - 1 - q) / 4 ≢ (memory_end - 1 - a) / 4 = elim o as (λ _. (memory_end - 1 - q) / 4 ≢ (memory_end - 1 - a) / 4) [ inl p ↦ omega arith | inr p ↦ omega arith ] in
+          held_stack code statics now q fits l r ∙ ap (λ w. Some (byte_of w (q % 4))) (others ((memory_end - 1 - q) / 4) apart) ∙ sym (held_stack code statics stack q fits l r)
+      | above l ↦ held_above code statics now q fits l ∙ sym (held_above code statics stack q fits l)
+    ];
+  }
 
 -- ---- a value is stored
 
@@ -340,19 +370,16 @@ byte_behind xs at i = elim (cases_lt (at + i) (length xs)) as (λ _. get_or (tak
 ]
 
 -- one word more is filled
-pub filled_more : (words bytes : List ℕ) (i word : ℕ) → i < length words → ((k : ℕ) → k < 4 * i → byte_in words k ≡ get_or bytes k 0)
-    → ((r : ℕ) → r < 4 → byte_of word r ≡ get_or bytes (4 * i + r) 0) → (k : ℕ) → k < 4 * (i + 1) → byte_in (slice_set words i word) k ≡ get_or bytes k 0
-filled_more words bytes i word h before here k l =
-    let whole : 4 * i / 4 ≡ i = omega arith in
-    elim (cases_lt k (4 * i)) as (λ _. byte_in (slice_set words i word) k ≡ get_or bytes k 0) [
-      | inl p ↦
-          ap (λ j. byte_in (slice_set words j word) k) (sym whole) ∙ byte_stays words (4 * i) word k (omega arith) (inl p) ∙ before k p
-      | inr p ↦
-          let j : k / 4 ≡ i = omega arith in
-          let at : 4 * i + k % 4 ≡ k = omega arith in
-          ap (λ n. byte_of (get_or (slice_set words i word) n 0) (k % 4)) j ∙ ap (λ w. byte_of w (k % 4)) (get_or-set_same words i word 0 h)
-          ∙ here (k % 4) (omega arith) ∙ ap (λ n. get_or bytes n 0) at
-    ]
+pub filled_more : (words now bytes : List ℕ) (i word : ℕ) → get_or now i 0 ≡ word → SameBut i words now → ((k : ℕ) → k < 4 * i → byte_in words k ≡ get_or bytes k 0)
+    → ((r : ℕ) → r < 4 → byte_of word r ≡ get_or bytes (4 * i + r) 0) → (k : ℕ) → k < 4 * (i + 1) → byte_in now k ≡ get_or bytes k 0
+filled_more words now bytes i word same others before here k l = elim (cases_lt k (4 * i)) as (λ _. byte_in now k ≡ get_or bytes k 0) [
+  | inl p ↦ ap (λ w. byte_of w (k % 4)) (others (k / 4) (omega arith)) ∙ before k p
+  | inr p ↦
+      let j : k / 4 ≡ i = omega arith in
+      let at : 4 * i + k % 4 ≡ k = omega arith in
+      ap (λ n. byte_of (get_or now n 0) (k % 4)) j ∙ ap (λ w. byte_of w (k % 4)) same
+      ∙ here (k % 4) (omega arith) ∙ ap (λ n. get_or bytes n 0) at
+]
 
 zero_byte : (i : ℕ) → i < 4 → byte_of 0 i ≡ 0
 zero_byte = below_4 (λ i. byte_of 0 i ≡ 0) refl refl refl refl
@@ -387,7 +414,7 @@ held_is_flat parts statics stack fits e z = fun_ext (λ q. elim (region_of q) as
   | below_data l ↦ flat_below parts statics stack q l
   | in_data l r ↦ held_statics parts.code statics stack q fits l r ∙ ap Some (e (q - data_start)) ∙ sym (flat_data parts q fits l r)
   | in_stack l r ↦
-      let zero' : byte_in stack (q - stack_start) ≡ 0 = ap (λ w. byte_of w ((q - stack_start) % 4)) (z ((q - stack_start) / 4)) ∙ zero_byte ((q - stack_start) % 4) (omega arith) in
+      let zero' : stack_byte stack q ≡ 0 = ap (λ w. byte_of w (q % 4)) (z ((memory_end - 1 - q) / 4)) ∙ zero_byte (q % 4) (omega arith) in
       held_stack parts.code statics stack q fits l r ∙ ap Some zero' ∙ sym (flat_stack parts q fits l r)
   | above l ↦ held_above parts.code statics stack q fits l ∙ sym (flat_above parts q fits l)
 ])

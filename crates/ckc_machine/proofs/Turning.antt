@@ -1,11 +1,12 @@
 -- What the next instruction of a state comes to.
-use Rattle.std.proofs.Common.{◌≡◌, ℕ, Bool, true, false, cond, List, Option, None, Some, option_and_then, refl, ap, ◌∙◌}
+use Rattle.std.proofs.Common.{◌≡◌, ℕ, Bool, true, false, cond, List, Option, None, Some, option_and_then, refl, sym, subst, ap, ◌∙◌}
 use Rattle.ckc_rv.specs.declared.instructions.Instr.{Instr}
 use Rattle.ckc_rv.specs.declared.instructions.Instr.TheVariants.{Lui, Auipc, Jal, Jalr, Branch, Load, Store, Imm, Reg, Fence, Ecall, Ebreak}
 use Rattle.ckc_rv.specs.declared.registers.Outcome.{Outcome}
 use Rattle.ckc_rv.specs.declared.registers.Outcome.TheVariants as outcome
 use Rattle.ckc_rv.specs.Effects.{effect_of, jumps, moved, following, writes}
 use Rattle.ckc_rv.specs.Decoded.{decoded}
+use Rattle.ckc_rv.specs.Outcomes.{effect_if, outcome_of}
 use Rattle.ckc_rv.specs.Machine.{Parts, State, loaded, is_code, machine_step, executes, faults, by_outcome, calls, stops, register}
 use Rattle.ckc_base.specs.Checks.{check_with}
 use Rattle.ckc_machine.specs.declared.machine.Turn.{Turn}
@@ -54,7 +55,7 @@ module _ (parts : Parts) (s : State) where
       ap (λ b. cond b (executes s (option_and_then decoded (loaded s.memory 4 s.pc))) (faults 0 s)) e
       ∙ ap (λ (o : Option ℕ). executes s (option_and_then decoded o)) f
 
-  pub not_decoded : (word : ℕ) → is_code parts s.pc ≡ true → loaded s.memory 4 s.pc ≡ Some word → decoded word ≡ None → machine_step parts s ≡ faults 1 s
+  not_decoded : (word : ℕ) → is_code parts s.pc ≡ true → loaded s.memory 4 s.pc ≡ Some word → decoded word ≡ None → machine_step parts s ≡ faults 1 s
   not_decoded word e f d = fetched word e f ∙ ap (executes s) d
 
   executed : (word : ℕ) (i : Instr) → is_code parts s.pc ≡ true → loaded s.memory 4 s.pc ≡ Some word → decoded word ≡ Some i → machine_step parts s ≡ by_outcome s (effect_of i s.pc s.x)
@@ -67,13 +68,33 @@ module _ (parts : Parts) (s : State) where
     number = r;
   }
 
-  pub turns : (word : ℕ) (i : Instr) (t : Turn) → is_code parts s.pc ≡ true → loaded s.memory 4 s.pc ≡ Some word → decoded word ≡ Some i
+  turns : (word : ℕ) (i : Instr) (t : Turn) → is_code parts s.pc ≡ true → loaded s.memory 4 s.pc ≡ Some word → decoded word ≡ Some i
       → TurnsBy (effect_of i s.pc s.x) s (by_outcome s (effect_of i s.pc s.x)) t → Turns parts s t
   turns word i (turn.Next rd value pc) e f d h = (h.0, executed word i e f d ∙ h.1)
   turns word i (turn.Store op a value) e f d h = (h.0, h.1, h.2, executed word i e f d ∙ h.3)
   turns word i (turn.Put byte) e f d h = (h.0, asks word i 1 e f d h.1.0 h.1.1)
   turns word i turn.Get e f d h = asks word i 2 e f d h.0 h.1
   turns word i (turn.Halt answer) e f d h = (h.0, h.1, executed word i e f d ∙ h.2)
+
+  by_instruction : (word : ℕ) (out : Outcome) (t : Turn) (i : Option Instr) → is_code parts s.pc ≡ true → loaded s.memory 4 s.pc ≡ Some word → decoded word ≡ i
+      → effect_if i s.pc s.x ≡ Some out → TurnsBy out s (by_outcome s out) t → Turns parts s t
+  by_instruction word out t None e f d o h = absurd cc
+  by_instruction word out t (Some i) e f d o h =
+      let same : effect_of i s.pc s.x ≡ out = cc in
+      turns word i t e f d (subst (λ (p : Outcome). TurnsBy p s (by_outcome s p) t) (sym same) h)
+
+  no_effect : (i : Option Instr) → effect_if i s.pc s.x ≡ None → i ≡ None
+  no_effect None e = refl
+  no_effect (Some i) e = absurd cc
+
+  -- a word that is no instruction
+  pub no_instruction : (word : ℕ) → is_code parts s.pc ≡ true → loaded s.memory 4 s.pc ≡ Some word → outcome_of word s.pc s.x ≡ None → machine_step parts s ≡ faults 1 s
+  no_instruction word e f o = not_decoded word e f (no_effect (decoded word) o)
+
+  -- a word with an outcome
+  pub turns_with : (word : ℕ) (out : Outcome) (t : Turn) → is_code parts s.pc ≡ true → loaded s.memory 4 s.pc ≡ Some word → outcome_of word s.pc s.x ≡ Some out
+      → TurnsBy out s (by_outcome s out) t → Turns parts s t
+  turns_with word out t e f o h = by_instruction word out t (decoded word) e f refl o h
 
   -- an environment call does what its number says
   pub asks_step : (call : ℕ) → AsksFor parts s call → machine_step parts s ≡ calls s

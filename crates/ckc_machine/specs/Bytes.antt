@@ -11,6 +11,10 @@ byte_of word i = byte_at i word
 abbrev pub byte_in : List ℕ → ℕ → ℕ
 byte_in words k = byte_of (slice_index words (k / 4)) (k % 4)
 
+-- the byte at an address of the stack, whose words run downwards from the end of memory
+abbrev pub stack_byte : List ℕ → ℕ → ℕ
+stack_byte words a = byte_of (slice_index words ((memory_end - 1 - a) / 4)) (a % 4)
+
 -- The memory that has this code, and these words in the data region and in the stack.
 unfoldable pub held : List ℕ → List ℕ → List ℕ → Memory
 held code statics stack a =
@@ -18,7 +22,7 @@ held code statics stack a =
     else if nat_lt a (code_start + length code) then Some (slice_index code (a - code_start))
     else if nat_lt a data_start then None
     else if nat_lt a stack_start then Some (byte_in statics (a - data_start))
-    else if nat_lt a memory_end then Some (byte_in stack (a - stack_start))
+    else if nat_lt a memory_end then Some (stack_byte stack a)
     else None
 
 -- the four bytes from an address are those of a word

@@ -4,4 +4,4 @@ use Rattle.ckc_machine.specs.Bytes.{held}
 use Rattle.ckc_machine.specs.declared.memory.Memory as held_by
 
 abbrev pub memory_of : held_by.Memory → Memory
-memory_of m = held m.code.now m.statics.items m.stack.items
+memory_of m = held m.code.now m.statics.words.items m.stack.words.items

@@ -27,9 +27,3 @@ TurnsBy out s move turn = Moves s move turn ((out ≡ outcome.Call) × (register
 -- what the next instruction of a state comes to
 abbrev pub Turns : Parts → State → Turn → Type 0
 Turns parts s turn = Moves s (machine_step parts s) turn (AsksFor parts s 1) (AsksFor parts s 2)
-
--- the register that an outcome writes is one of the 32
-abbrev pub NamesRegister : Outcome → Type 0
-NamesRegister (outcome.Next rd value pc) = rd < 32
-NamesRegister (outcome.Load op rd a) = rd < 32
-NamesRegister _ = Unit {0}

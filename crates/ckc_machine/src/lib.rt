@@ -8,6 +8,7 @@ mod laws;
 mod machine;
 mod memory;
 mod observed;
+mod region;
 
 pub use laws::{events_since, input_is_taken, one_instruction, puts_ask_nothing};
 pub use machine::Machine;

@@ -6,7 +6,7 @@ use crate::observed::{FaultKind, Observed};
 use ckc_base::{Pos, check_of};
 use ckc_image::View;
 use ckc_outside::{Sink, Source};
-use ckc_rv::{LoadOp, Outcome, Regs, StoreOp, decode, effect};
+use ckc_rv::{LoadOp, Outcome, Regs, StoreOp, word_effect};
 use std::alloc::{AllocError, Global};
 
 /// A machine: its memory, registers and pc, and what it last answered.
@@ -37,7 +37,8 @@ impl<'a> Machine<'a> {
     ghost use Rattle.ckc_rv.specs.Machine.{Parts, by_outcome, calls, stops, register, with_register, next_with, stored, data_start, memory_end};
     ghost use Rattle.ckc_machine.specs.Points.{state_at};
     ghost use Rattle.ckc_machine.specs.Runs.{IsAt, AsksFor, AsksNothing, IsFed, OverAny, Runs, answer_of, state_of};
-    ghost use Rattle.ckc_machine.specs.Turns.{Turns, TurnsBy, NamesRegister};
+    ghost use Rattle.ckc_rv.specs.Outcomes.{NamesRegister};
+    ghost use Rattle.ckc_machine.specs.Turns.{Turns, TurnsBy};
 
     /// The machine of an image before its first instruction. It takes all the memory that the machine needs.
     pub fn load(alloc: Global, view: View<'a>) -> Result<Machine<'a>, AllocError>
@@ -95,6 +96,7 @@ impl<'a> Machine<'a> {
     }
 
     /// Whether the machine goes on.
+    #[inline(always)]
     fn goes(&self) -> bool
         ensures { IsTrue result ↔ (answer_of self.now ≡ Observed.Going) }
     {
@@ -102,6 +104,7 @@ impl<'a> Machine<'a> {
     }
 
     /// Executes the next instruction of a machine that goes on.
+    #[inline(always)]
     fn step<S: Source, O: Sink>(&mut self, input: &mut S, out: &mut O)
         requires { answer_of self.old ≡ Observed.Going }
         ensures exact { (parts : Parts) (given : List ℕ) (k : ℕ) (left left' : Option (List ℕ)) → IsAt parts given k self.old left
@@ -166,6 +169,7 @@ impl<'a> Machine<'a> {
     }
 
     /// Stores a value and goes on.
+    #[inline(always)]
     fn store(&mut self, op: StoreOp, a: u32, value: u32)
         requires aligned { a % store_bytes op ≡ 0 }
         requires start { data_start ≤ a }
@@ -175,11 +179,16 @@ impl<'a> Machine<'a> {
         ensures code { self.new.memory.code.now ≡ self.old.memory.code.now }
         ensures answer { answer_of self.new ≡ answer_of self.old }
     {
-        self.memory.store(op, a, value);
+        match op {
+            StoreOp::Sb => self.memory.store(StoreOp::Sb, a, value),
+            StoreOp::Sh => self.memory.store(StoreOp::Sh, a, value),
+            StoreOp::Sw => self.memory.store(StoreOp::Sw, a, value),
+        }
         self.pc = self.pc.wrapping_add(4);
     }
 
     /// Writes a register, but for register 0, and goes on at a pc.
+    #[inline(always)]
     fn go_on(&mut self, rd: u8, value: u32, pc: u32)
         requires { rd < 32 }
         ensures state { (input : List ℕ) → let s = state_of self.old input in
@@ -203,19 +212,21 @@ impl<'a> Machine<'a> {
     }
 
     /// What the next instruction asks.
+    #[inline(always)]
     fn turn(&self) -> Turn
         ensures { (parts : Parts) (input : List ℕ) → parts.code ≡ self.now.memory.code.now → Turns parts (state_of self.now input) result }
     {
         let Some(word) = self.memory.fetch(self.pc) else {
             return self.fault(FaultKind::Fetch);
         };
-        let Some(i) = decode(word) else {
-            return self.fault(FaultKind::Word);
-        };
-        self.turn_by(effect(&i, self.pc, &self.regs))
+        match word_effect(word, self.pc, &self.regs) {
+            Some(out) => self.turn_by(out),
+            None => self.fault(FaultKind::Word),
+        }
     }
 
     /// What comes of an effect.
+    #[inline(always)]
     fn turn_by(&self, out: Outcome) -> Turn
         requires { NamesRegister out }
         ensures { (input : List ℕ) → TurnsBy out (state_of self.now input) (by_outcome (state_of self.now input) out) result }
@@ -230,8 +241,24 @@ impl<'a> Machine<'a> {
         }
     }
 
-    /// A load. A misaligned address is a fault before an unmapped one.
+    /// A load. Each operation has its own code, so that nothing but the jump to it depends on which it is.
+    #[inline(always)]
     fn load_turn(&self, op: LoadOp, rd: u8, a: u32) -> Turn
+        requires { rd < 32 }
+        ensures { (input : List ℕ) → TurnsBy (outcome.Load op rd a) (state_of self.now input) (by_outcome (state_of self.now input) (outcome.Load op rd a)) result }
+    {
+        match op {
+            LoadOp::Lb => self.load_as(LoadOp::Lb, rd, a),
+            LoadOp::Lh => self.load_as(LoadOp::Lh, rd, a),
+            LoadOp::Lw => self.load_as(LoadOp::Lw, rd, a),
+            LoadOp::Lbu => self.load_as(LoadOp::Lbu, rd, a),
+            LoadOp::Lhu => self.load_as(LoadOp::Lhu, rd, a),
+        }
+    }
+
+    /// A load by one operation. A misaligned address is a fault before an unmapped one.
+    #[inline(always)]
+    fn load_as(&self, op: LoadOp, rd: u8, a: u32) -> Turn
         requires { rd < 32 }
         ensures { (input : List ℕ) → TurnsBy (outcome.Load op rd a) (state_of self.now input) (by_outcome (state_of self.now input) (outcome.Load op rd a)) result }
     {
@@ -244,8 +271,21 @@ impl<'a> Machine<'a> {
         }
     }
 
-    /// A store, to the data region or the stack alone.
+    /// A store, to the data region or the stack alone. Each operation has its own code, as with loads.
+    #[inline(always)]
     fn store_turn(&self, op: StoreOp, a: u32, value: u32) -> Turn
+        ensures { (input : List ℕ) → TurnsBy (outcome.Store op a value) (state_of self.now input) (by_outcome (state_of self.now input) (outcome.Store op a value)) result }
+    {
+        match op {
+            StoreOp::Sb => self.store_turn_as(StoreOp::Sb, a, value),
+            StoreOp::Sh => self.store_turn_as(StoreOp::Sh, a, value),
+            StoreOp::Sw => self.store_turn_as(StoreOp::Sw, a, value),
+        }
+    }
+
+    /// A store by one operation. A misaligned address is a fault before an unmapped one.
+    #[inline(always)]
+    fn store_turn_as(&self, op: StoreOp, a: u32, value: u32) -> Turn
         ensures { (input : List ℕ) → TurnsBy (outcome.Store op a value) (state_of self.now input) (by_outcome (state_of self.now input) (outcome.Store op a value)) result }
     {
         if a % store_size(op) != 0 {
@@ -290,6 +330,7 @@ impl<'a> Machine<'a> {
     }
 
     /// A fault at the next instruction.
+    #[inline(always)]
     fn fault(&self, kind: FaultKind) -> Turn
         ensures { result ≡ Turn.Halt (Observed.Fault kind self.now.pc) }
     {
@@ -298,6 +339,7 @@ impl<'a> Machine<'a> {
 }
 
 /// How many bytes a load moves.
+#[inline(always)]
 fn load_size(op: LoadOp) -> u32
     ensures { result ≡ load_bytes op }
 {
@@ -311,6 +353,7 @@ fn load_size(op: LoadOp) -> u32
 }
 
 /// How many bytes a store moves.
+#[inline(always)]
 fn store_size(op: StoreOp) -> u32
     ensures { result ≡ store_bytes op }
 {

@@ -3,11 +3,12 @@ ghost use Rattle.ckc_machine.specs.Bytes.{byte_of, byte_in, part_of, IsMerged};
 ghost use Rattle.ckc_rv.specs.Machine.{is_writable as is_writable_address};
 ghost use Rattle.ckc_rv.specs.Effects.{load_bytes, load_value, store_bytes};
 
+use crate::region::Region;
 use byteorder::{ByteOrder, LittleEndian};
 use ckc_rv::{LoadOp, StoreOp};
 use std::alloc::{AllocError, Global};
 
-/// Where the code, the data region and the stack begin, and where memory ends.
+/// Where the code, the data region and the stack begin, and where memory ends. A region has 2^22 words.
 const CODE_START: u32 = 0x0000_1000;
 
 const DATA_START: u32 = 0x0200_0000;
@@ -16,46 +17,33 @@ const STACK_START: u32 = 0x0300_0000;
 
 const MEMORY_END: u32 = 0x0400_0000;
 
-/// How many words the data region has, and how many the stack.
-const REGION_WORDS: usize = 0x40_0000;
-
-/// The memory of a machine: the lent code, and the words of the data region and of the stack.
+/// The memory of a machine: the lent code, the words of the data region upwards, and those of the stack downwards from
+/// the end of memory.
 #[derive(Debug, Drop)]
 pub struct Memory<'a> {
     code: &'a [u8],
-    statics: Vec<u32>,
-    stack: Vec<u32>,
+    statics: Region,
+    stack: Region,
     ghost code_is_words: { length code.now % 4 ≡ 0 },
     ghost code_fits: { length code.now ≤ 16773120 },
-    ghost statics_fit: { vec_len statics ≡ 4194304 },
-    ghost stack_fits: { vec_len stack ≡ 4194304 },
 }
 
 /// Whether a store may go to an address: it lies in the data region or the stack.
+#[inline(always)]
 pub fn is_writable(a: u32) -> bool
     ensures { result ≡ is_writable_address a }
 {
     DATA_START <= a && a < MEMORY_END
 }
 
-/// So many words, all 0.
-fn zeros(alloc: Global, count: usize) -> Result<Vec<u32>, AllocError>
-    ensures count { IfOk result (λ v. vec_len v ≡ count) }
-    ensures zero { IfOk result (λ v. (j : ℕ) → slice_index v.items j ≡ 0) }
-{
-    let words = vec![in alloc; 0; count]?;
-    Ok(words)
-}
-
-/// Puts bytes into words that are 0, four into each, the lowest first.
-fn fill(words: &mut [u32], bytes: &[u8])
-    requires zero { (j : ℕ) → slice_index words.old j ≡ 0 }
+/// Puts bytes into the words of a region that are 0, four into each, the lowest first.
+fn fill(region: &mut Region, bytes: &[u8])
+    requires zero { (j : ℕ) → slice_index region.old.words.items j ≡ 0 }
     requires few { length bytes.now ≤ 16777216 }
-    requires fits { length bytes.now ≤ 4 * length words.old }
-    ensures { (k : ℕ) → byte_in words.new k ≡ slice_index bytes.now k }
+    ensures { (k : ℕ) → byte_in region.new.words.items k ≡ slice_index bytes.now k }
 {
     for i in 0..(bytes.len() + 3) / 4 {
-        words[i] = first_word(&bytes[4 * i..]);
+        region.put(i, first_word(&bytes[4 * i..]));
     }
 }
 
@@ -71,6 +59,7 @@ fn first_word(bytes: &[u8]) -> u32
 }
 
 /// The word at a place of the code.
+#[inline(always)]
 fn code_word(code: &[u8], at: usize) -> u32
     requires { at + 3 < length code.now }
     ensures { (i : ℕ) → i < 4 → byte_of result i ≡ slice_index code.now (at + i) }
@@ -93,9 +82,9 @@ impl<'a> Memory<'a> {
         ensures flat { IfOk result (λ m. (parts : Parts) → parts.code ≡ code.now → parts.initial ≡ initial.now → memory_of m ≡ flat parts) }
         ensures code { IfOk result (λ m. m.code.now ≡ code.now) }
     {
-        let mut statics = zeros(alloc, REGION_WORDS)?;
+        let mut statics = Region::new(alloc)?;
         fill(&mut statics, initial);
-        let stack = zeros(alloc, REGION_WORDS)?;
+        let stack = Region::new(alloc)?;
         Ok(Memory {
             code,
             statics,
@@ -104,6 +93,7 @@ impl<'a> Memory<'a> {
     }
 
     /// The word at an address of the code, where an instruction lies there.
+    #[inline(always)]
     pub fn fetch(&self, pc: u32) -> Option<u32>
         ensures { (parts : Parts) → parts.code ≡ self.now.code.now → MatchOption result (is_code parts pc ≡ false)
             (λ w. (is_code parts pc ≡ true) × (loaded (memory_of self.now) 4 pc ≡ Some w)) }
@@ -120,6 +110,7 @@ impl<'a> Memory<'a> {
     }
 
     /// The word at an address that is a multiple of 4 in the data region or the stack.
+    #[inline(always)]
     fn own_word(&self, a: u32) -> u32
         requires aligned { a % 4 ≡ 0 }
         requires start { data_start ≤ a }
@@ -127,13 +118,14 @@ impl<'a> Memory<'a> {
         ensures { Holds (memory_of self.now) a result }
     {
         if a < STACK_START {
-            self.statics[((a - DATA_START) / 4) as usize]
+            self.statics.get(((a - DATA_START) / 4) as usize)
         } else {
-            self.stack[((a - STACK_START) / 4) as usize]
+            self.stack.get(((MEMORY_END - 1 - a) / 4) as usize)
         }
     }
 
     /// The word at an address that is a multiple of 4, where it is mapped.
+    #[inline(always)]
     fn word(&self, a: u32) -> Option<u32>
         requires { a % 4 ≡ 0 }
         ensures { MatchOption result (IsUnmapped (memory_of self.now) a) (λ w. Holds (memory_of self.now) a w) }
@@ -157,6 +149,7 @@ impl<'a> Memory<'a> {
     }
 
     /// What a load at an aligned address gives, where its bytes are mapped.
+    #[inline(always)]
     pub fn load(&self, op: LoadOp, a: u32) -> Option<u32>
         requires { a % load_bytes op ≡ 0 }
         ensures { result ≡ option_map (load_value op) (loaded (memory_of self.now) (load_bytes op) a) }
@@ -168,6 +161,7 @@ impl<'a> Memory<'a> {
     }
 
     /// Puts a word at an address that is a multiple of 4 in the data region or the stack.
+    #[inline(always)]
     fn put_word(&mut self, a: u32, word: u32)
         requires aligned { a % 4 ≡ 0 }
         requires start { data_start ≤ a }
@@ -176,13 +170,14 @@ impl<'a> Memory<'a> {
         ensures code { self.new.code.now ≡ self.old.code.now }
     {
         if a < STACK_START {
-            self.statics[((a - DATA_START) / 4) as usize] = word;
+            self.statics.put(((a - DATA_START) / 4) as usize, word);
         } else {
-            self.stack[((a - STACK_START) / 4) as usize] = word;
+            self.stack.put(((MEMORY_END - 1 - a) / 4) as usize, word);
         }
     }
 
     /// Stores the lowest bytes of a value at an aligned address in the data region or the stack.
+    #[inline(always)]
     pub fn store(&mut self, op: StoreOp, a: u32, value: u32)
         requires aligned { a % store_bytes op ≡ 0 }
         requires start { data_start ≤ a }
@@ -196,6 +191,7 @@ impl<'a> Memory<'a> {
 }
 
 /// What a load gives of a word, from a place in it on.
+#[inline(always)]
 fn loaded_part(op: LoadOp, word: u32, place: u32) -> u32
     requires aligned { place % load_bytes op ≡ 0 }
     requires within { place < 4 }
@@ -212,6 +208,7 @@ fn loaded_part(op: LoadOp, word: u32, place: u32) -> u32
 }
 
 /// A word with the lowest bytes of a value from a place on.
+#[inline(always)]
 fn with_part(op: StoreOp, word: u32, place: u32, value: u32) -> u32
     requires aligned { place % store_bytes op ≡ 0 }
     requires within { place < 4 }
@@ -224,20 +221,25 @@ fn with_part(op: StoreOp, word: u32, place: u32, value: u32) -> u32
     }
 }
 
+#[inline(always)]
 fn with_byte(word: u32, place: u32, value: u32) -> u32
     requires { place < 4 }
     ensures { IsMerged word place 1 value result }
 {
-    let mut bytes = [0; 4];
-    LittleEndian::write_u32(&mut bytes, word);
-    bytes[place as usize] = (value % 0x100) as u8;
-    LittleEndian::read_u32(&bytes)
+    let shift = 8 * place;
+    let above = (word >> shift) >> 8;
+    let upper = ((above << 8) + value % 0x100) << shift;
+    upper.wrapping_add(word % (1 << shift))
 }
 
+#[inline(always)]
 fn with_half(word: u32, place: u32, value: u32) -> u32
-    requires { place < 3 }
+    requires even { place % 2 ≡ 0 }
+    requires within { place < 4 }
     ensures { IsMerged word place 2 value result }
 {
-    let low = with_byte(word, place, value);
-    with_byte(low, place + 1, value >> 8)
+    let shift = 8 * place;
+    let above = (word >> shift) >> 16;
+    let upper = ((above << 16) + value % 0x1_0000) << shift;
+    upper.wrapping_add(word % (1 << shift))
 }

@@ -3,3 +3,4 @@ pub mod Decoded
 pub mod Effects
 pub mod Machine
 pub mod Detailed
+pub mod Outcomes

@@ -79,7 +79,7 @@ fn decode_reg(word: u32) -> Option<Instr>
     Some(Instr::Reg(op, rd(word), rs1(word), rs2(word)))
 }
 
-fn decode_fence(word: u32) -> Option<Instr>
+pub(crate) fn decode_fence(word: u32) -> Option<Instr>
     ensures { result ≡ decoded_fence word }
 {
     if word >> 28 == 0 && (word >> 7) % 0x2000 == 0 {
@@ -99,25 +99,25 @@ fn decode_system(word: u32) -> Option<Instr>
     }
 }
 
-fn rd(word: u32) -> u8
+pub(crate) fn rd(word: u32) -> u8
     ensures { result ≡ rd_of word }
 {
     ((word >> 7) % 32) as u8
 }
 
-fn rs1(word: u32) -> u8
+pub(crate) fn rs1(word: u32) -> u8
     ensures { result ≡ rs1_of word }
 {
     ((word >> 15) % 32) as u8
 }
 
-fn rs2(word: u32) -> u8
+pub(crate) fn rs2(word: u32) -> u8
     ensures { result ≡ rs2_of word }
 {
     ((word >> 20) % 32) as u8
 }
 
-fn funct3(word: u32) -> u32
+pub(crate) fn funct3(word: u32) -> u32
     ensures value { result ≡ funct3_of word }
     ensures below { result < 8 }
 {
@@ -136,14 +136,14 @@ fn sign_extended(bits: u32, half: u32) -> i32
     }
 }
 
-fn immediate(word: u32) -> i32
+pub(crate) fn immediate(word: u32) -> i32
     ensures { result ≡ i_immediate word }
 {
-    sign_extended(word >> 20, 0x800)
+    word.cast_signed() >> 20
 }
 
 /// The second operand of an operation with an immediate: the immediate, or the count of a shift.
-fn operand(op: ImmOp, word: u32) -> i32
+pub(crate) fn operand(op: ImmOp, word: u32) -> i32
     ensures { result ≡ imm_of op word }
 {
     match op {
@@ -154,13 +154,13 @@ fn operand(op: ImmOp, word: u32) -> i32
     }
 }
 
-fn store_offset(word: u32) -> i32
+pub(crate) fn store_offset(word: u32) -> i32
     ensures { result ≡ s_immediate word }
 {
     sign_extended(((word >> 25) << 5) + (word >> 7) % 32, 0x800)
 }
 
-fn branch_offset(word: u32) -> i32
+pub(crate) fn branch_offset(word: u32) -> i32
     ensures { result ≡ b_offset word }
 {
     let upper = word >> 25;
@@ -172,7 +172,7 @@ fn branch_offset(word: u32) -> i32
     sign_extended(bits, 0x1000)
 }
 
-fn jump_offset(word: u32) -> i32
+pub(crate) fn jump_offset(word: u32) -> i32
     ensures { result ≡ j_offset word }
 {
     let bits = ((word >> 31) << 20)

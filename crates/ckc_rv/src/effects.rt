@@ -56,26 +56,26 @@ pub fn effect(i: &Instr, pc: u32, regs: &Regs) -> Outcome
     }
 }
 
-fn register(regs: &Regs, r: u8) -> u32
+pub(crate) fn register(regs: &Regs, r: u8) -> u32
     requires { r < 32 }
     ensures { result ≡ slice_index regs.now.x r }
 {
     regs.x[usize::from(r)]
 }
 
-fn displaced(address: u32, offset: i32) -> u32
+pub(crate) fn displaced(address: u32, offset: i32) -> u32
     ensures { result ≡ moved address offset }
 {
     address.wrapping_add(offset.cast_unsigned())
 }
 
-fn going_on(rd: u8, value: u32, pc: u32) -> Outcome
+pub(crate) fn going_on(rd: u8, value: u32, pc: u32) -> Outcome
     ensures { result ≡ writes rd value pc }
 {
     Outcome::Next(rd, value, pc.wrapping_add(4))
 }
 
-fn jump(rd: u8, value: u32, target: u32) -> Outcome
+pub(crate) fn jump(rd: u8, value: u32, target: u32) -> Outcome
     ensures { result ≡ jumps rd value target }
 {
     if target % 4 == 0 {
@@ -85,7 +85,7 @@ fn jump(rd: u8, value: u32, target: u32) -> Outcome
     }
 }
 
-fn taken(op: BranchOp, a: u32, b: u32) -> bool
+pub(crate) fn taken(op: BranchOp, a: u32, b: u32) -> bool
     ensures { result ≡ is_taken op a b }
 {
     match op {
@@ -98,7 +98,7 @@ fn taken(op: BranchOp, a: u32, b: u32) -> bool
     }
 }
 
-fn register_form(op: ImmOp) -> RegOp
+pub(crate) fn register_form(op: ImmOp) -> RegOp
     ensures { result ≡ reg_form op }
 {
     match op {
@@ -116,7 +116,7 @@ fn register_form(op: ImmOp) -> RegOp
 
 // Inlined, so that the simulator needs no jump for the operation behind the one for the opcode.
 #[inline(always)]
-fn computed(op: RegOp, a: u32, b: u32) -> u32
+pub(crate) fn computed(op: RegOp, a: u32, b: u32) -> u32
     ensures { result ≡ reg_value op a b }
 {
     match op {

@@ -10,6 +10,7 @@ mod effects;
 mod encoding;
 mod instructions;
 pub mod laws;
+mod outcomes;
 mod ranges;
 mod registers;
 
@@ -17,5 +18,6 @@ pub use decoding::decode;
 pub use effects::effect;
 pub use encoding::encode;
 pub use instructions::{BranchOp, ImmOp, Instr, LoadOp, RegOp, StoreOp};
+pub use outcomes::word_effect;
 pub use ranges::in_range;
 pub use registers::{Outcome, Regs};

@@ -12,5 +12,5 @@ returns-then-at-self c = λ parts e.
     let m = c.args.self.now in
     let pc = c.args.pc in (
       ap (λ (l : List ℕ). not (nat_lt pc code_start) && nat_lt (pc + 3) (code_start + length l)) e ∙ in_code m.code.now pc (omega arith) (omega arith),
-      loaded_word _ pc c.code_word.result (omega arith) (holds_code m.code.now m.statics.items m.stack.items (omega arith) pc c.code_word.result (omega arith) (omega arith) c.code_word.ensures),
+      loaded_word _ pc c.code_word.result (omega arith) (holds_code m.code.now m.statics.words.items m.stack.words.items (omega arith) pc c.code_word.result (omega arith) (omega arith) c.code_word.ensures),
     )
