@@ -1,9 +1,34 @@
 #!/bin/bash
-# How long `ccc` takes for source files of 131,072 and 262,144 bytes, with 8 and 16 functions of some 985 nodes, each 20
-# times, the starts of the process included: `interp`, which goes through lexer, parser, size limits, names and types to
-# the program that the file means; and `build`, which compiles it and writes its image too. The times are to grow as the
-# size does.
+# How much processor time `ccc` takes for source files, each 20 times, the starts of the process included. First the front beside
+# `gcc -fsyntax-only`, on ten files of 262,144 bytes, each with much of one kind (front/text.awk): `interp` goes through
+# lexer, parser, size limits, names and types to the program that the file means, which then ends at once. A file that
+# is refused says so in its row. Then files of 131,072 and 262,144 bytes, with 8 and 16 functions of some 985 nodes:
+# `interp`, and `build`, which compiles the file and writes its image too. The times are to grow as the size does.
 . "$(dirname "$0")/workspace.sh"
+
+# The milliseconds of processor time that a call of a command takes, which ends in a status of those given:
+# `average '0 113' COMMAND..`.
+TIMEFORMAT='%U %S'
+repeat() { for ((k = 0; k < 20; k++)); do "$@" > "$work/said" 2>&1 || true; done; }
+average() {
+  local wanted=" $1 " status=0; shift
+  "$@" > "$work/said" 2>&1 || status=$?
+  case $wanted in *" $status "*) ;; *) cat "$work/said" >&2; return 1 ;; esac
+  { time repeat "$@"; } 2>&1 | awk '{ printf "%.1f", ($1 + $2) * 50 }'
+}
+
+# Fills a file up with empty lines to so many bytes.
+fill() { head -c $(($2 - $(stat -c %s "$1"))) /dev/zero | tr '\0' '\n' >> "$1"; }
+
+for kind in functions 'long names' objects locals 'nested blocks' 'nested expressions' prototypes calls initialisers structures; do
+  awk -v kind="$kind" -v half=1 -f "$top/bench/front/text.awk" > "$work/text.c"
+  fill "$work/text.c" 262144
+  ours=$(average '0 113' "$top/ccc" interp "$work/text.c")
+  refused=$(sed -n 's/^refused: \(E[0-9]*\).*/, refused as \1/p' "$work/said")
+  peer=$(average 0 gcc -w -fsyntax-only "$work/text.c")
+  row "front, $kind$refused" "$ours beside $peer" "ms a file, ccc beside gcc -fsyntax-only"
+done
+
 text() { # bytes functions
   {
     for ((f = 0; f < $2; f++)); do
@@ -12,18 +37,11 @@ text() { # bytes functions
       echo "  return n; }"
     done
     echo "int main(void) { return 0; }"
-  } > "$work/part"
-  { cat "$work/part"; head -c $(($1 - $(stat -c %s "$work/part"))) /dev/zero | tr '\0' '\n'; } > "$work/text"
-}
-measure() { # name words
-  local begun name=$1; shift
-  "$top/ccc" "$@" > "$work/said" 2>&1 || { cat "$work/said" >&2; exit 1; }
-  begun=$(date +%s%N)
-  for ((k = 0; k < 20; k++)); do "$top/ccc" "$@" > "$work/said" 2>&1; done
-  row "$name, $((262144 / half)) bytes, with the start" $((($(date +%s%N) - begun) / 20000000)) "ms a file"
+  } > "$work/text"
+  fill "$work/text" "$1"
 }
 for half in 2 1; do
   text $((262144 / half)) $((16 / half))
-  measure front interp "$work/text"
-  measure build build "$work/text" "$work/image"
+  row "front, $((262144 / half)) bytes" "$(average 0 "$top/ccc" interp "$work/text")" "ms a file"
+  row "build, $((262144 / half)) bytes" "$(average 0 "$top/ccc" build "$work/text" "$work/image")" "ms a file"
 done

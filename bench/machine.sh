@@ -1,6 +1,7 @@
 #!/bin/bash
 # How fast the machine runs, beside a plain interpreter in C (machine/interpreter.c, gcc -O2): a tight loop; copies and
-# strides; a program like CoreMark, compiled by gcc -O2. Each takes user time, with the start of its process.
+# strides; a program like CoreMark, compiled by gcc -O2. Each takes user time, with the start of its process. Then the
+# start of a run: a program that ends at once, 20 times, user and system time.
 . "$(dirname "$0")/workspace.sh"
 program run_image ckc_asm ckc_image ckc_machine ckc_outside <<'PROGRAM'
 #![tactic(auto)]
@@ -40,22 +41,28 @@ fn main(rt: HostRuntime) -> io::Result<()> {
 }
 PROGRAM
 gcc -O2 -o "$work/interpreter" "$top/bench/machine/interpreter.c"
-TIMEFORMAT=%U
 
 # The user seconds of a command, whose output goes to `said`.
+TIMEFORMAT=%U
 seconds() { { time "$@" > "$work/said"; } 2>&1; }
+ours=$work/crates/run_image/out/run_image
+asm=$top/bench/machine
 
-measure() {
-  local ours peer count
-  ours=$(seconds "$work/crates/run_image/out/run_image" "$top/bench/machine/$1.s" "$work/image")
+measure() { # program name
+  local mine peer count
+  mine=$(seconds "$ours" "$asm/$1.s" "$work/image")
   grep -q '^ended: true' "$work/said" || { cat "$work/said" >&2; return 1; }
   peer=$(seconds "$work/interpreter" "$work/image")
   count=$(awk '{ print $1 }' "$work/said")
-  row "simulator, $2" "$(awk "BEGIN { printf \"%.0f\", $count / 1000000 / $ours }")" "million instructions/s"
-  row "C interpreter, $2" "$(awk "BEGIN { printf \"%.0f\", $count / 1000000 / $peer }")" "million instructions/s"
-  row "C by ours, $2" "$(awk "BEGIN { printf \"%.2f\", $ours / $peer }")" "times as fast"
+  row "simulator, $2" "$(awk "BEGIN { printf \"%.0f beside %.0f\", $count / 1000000 / $mine, $count / 1000000 / $peer }")" "million instructions/s, ours beside C"
 }
 
 measure loop 'loop'
 measure copies 'copies and strides'
 measure mixed 'like CoreMark'
+
+repeat() { for ((k = 0; k < 20; k++)); do "$@" > "$work/said"; done; }
+average() { { time repeat "$@"; } 2>&1 | awk '{ printf "%.1f", ($1 + $2) * 50 }'; }
+TIMEFORMAT='%U %S'
+mine=$(average "$ours" "$asm/end.s" "$work/image")
+row "simulator, start of a run" "$mine beside $(average "$work/interpreter" "$work/image")" "ms, ours beside C"
