@@ -4,7 +4,7 @@ ghost use Rattle.ckc_base.specs.Phases.{Answers, viewed};
 ghost use Rattle.ckc_image.specs.declared.parts.Parts as parts;
 ghost use Rattle.ckc_source.specs.Code.{program_of};
 ghost use Rattle.ckc_source.specs.LaidOut.{IsLaidOut};
-ghost use Rattle.ckc_checks.specs.IntegerForm.{IsIntegerProgram, program_nodes};
+ghost use Rattle.ckc_checks.specs.Compilable.{IsCompilable, program_nodes};
 ghost use Rattle.ckc_compile.specs.Compiled.{FollowsSource, machine_parts};
 ghost use Rattle.ckc_build.specs.Built.{IsImage, building, bytes_of};
 
@@ -12,7 +12,7 @@ use crate::meanings::program;
 use ckc_base::Fault;
 use ckc_compile::{MOST_NODES, compile};
 use ckc_image::write;
-use ckc_integer::is_integer_program;
+use ckc_integer::is_compilable;
 use ckc_source::Program;
 use std::alloc::{AllocError, Global};
 
@@ -26,7 +26,7 @@ pub fn build(alloc: Global, text: &[u8]) -> Result<Vec<u8>, Fault>
         Ok(p) => {
             // The program of a text over integers always has the form, so this is never answered. That is tested and
             // not proved.
-            if !is_integer_program(&p, MOST_NODES) {
+            if !is_compilable(&p, MOST_NODES) {
                 return Err(Fault::Memory);
             }
             match image_of(alloc, &p) {
@@ -39,7 +39,7 @@ pub fn build(alloc: Global, text: &[u8]) -> Result<Vec<u8>, Fault>
 
 /// An image of a program of integers.
 fn image_of(alloc: Global, p: &Program) -> Result<Vec<u8>, AllocError>
-    requires form { IsIntegerProgram (program_of p.now) }
+    requires form { IsCompilable (program_of p.now) }
     requires laid { IsLaidOut (program_of p.now) }
     requires small { program_nodes (program_of p.now) ≤ MOST_NODES }
     ensures { IfOk result (λ image. (made : parts.Parts) × FollowsSource (program_of p.now) made

@@ -1,6 +1,6 @@
 -- What is inserted names only what is there.
 use Rattle.std.proofs.Common.{◌≡◌, ℕ, zero, suc, ◌+◌, ◌-◌, ◌≤◌, ◌<◌, List, [], ◌∷◌, length, refl, sym, ◌∙◌, ap, subst, arith, lit<}
-use Rattle.std.specs.Prelude.{Bool, true, false, if◌then◌else◌, Option, Some, None, slice_get, map, All, IfSome}
+use Rattle.std.specs.Prelude.{◌^◌, ◌==◌, Bool, true, false, if◌then◌else◌, Option, Some, None, slice_get, map, All, IfSome}
 use Rattle.std.specs.Option.{option_map}
 use Rattle.std.proofs.lemmas.Option.{slice_get-map}
 use Rattle.std.proofs.lemmas.List.Elements.{All-nil, All-cons, All-head, All-tail, All-map, All-weaker}
@@ -8,21 +8,27 @@ use Rattle.ckc_base.specs.declared.arithmetic.Width.{Width}
 use Rattle.ckc_base.specs.declared.arithmetic.Width.TheVariants as width
 use Rattle.ckc_base.specs.declared.places.Pos.{Pos}
 use Rattle.ckc_base.specs.declared.runtime_checks.Check.TheVariants as check
+use Rattle.ckc_base.specs.declared.arithmetic.BinOp.TheVariants as binary
+use Rattle.ckc_source.specs.declared.expr.Access.{Access}
+use Rattle.ckc_source.specs.declared.expr.Through.{Through}
+use Rattle.ckc_source.specs.declared.expr.Through.TheVariants.{Named, Raw, One, Array, Terminated}
 use Rattle.ckc_source.specs.declared.expr.Operation.{Operation}
 use Rattle.ckc_source.specs.declared.expr.Operation.TheVariants.{Le, Gt, Ge}
 use Rattle.ckc_source.specs.declared.stmt.Kept.{Kept}
 use Rattle.ckc_source.specs.declared.stmt.Kept.TheVariants as kept
 use Rattle.ckc_source.specs.Code as source
 use Rattle.ckc_source.specs.Words.{divides}
-use Rattle.ckc_core.specs.Code.{Expr, Const, Local, Code, End, Set, Check, Function}
+use Rattle.ckc_core.specs.Code.{Expr, Const, Local, Load, Bin, Code, End, Set, Check, Function}
 use Rattle.ckc_core.specs.WellFormed.{IsExprOver, IsCodeOver, IsFunctionOver, IsWellFormed, HasParams, IsPlace}
-use Rattle.ckc_checks.specs.IntegerForm as form
-use Rattle.ckc_checks.specs.IntegerForm.{IsIntegerExpr, IsIntegerPart, IsIntegerTarget, IsIntegerRight, IsIntegerKept, IsIntegerCode, IsIntegerFunction, IsIntegerProgram}
-use Rattle.ckc_checks.specs.Inserted.{is_direct, operated, low_byte, as_truth, number_of, direct, operand, operation_code, expr_code, operand_code, operands_code, operands, expr_room, operand_room, operands_room, is_narrow, kept_in, written, right_assigned, assigned_room, result_in, result_kept, statements, room, zeroed, function_code, inserted}
+use Rattle.ckc_checks.specs.Compilable as form
+use Rattle.ckc_checks.specs.Compilable.{IsAccess, IsCompilableExpr, IsCompilablePart, IsCompilableTarget, IsCompilableRight, IsCompilableKept, IsCompilableCode, IsCompilableFunction, IsCompilable}
+use Rattle.ckc_checks.specs.Inserted.{is_direct, operated, low_byte, as_truth, is_zero, scaled, shifted, at_offset, element_of, place_at, checks_null, null_check, direct, operand, operation_code, expr_code, operand_code, operands_code, operands, expr_room, operand_room, operands_room, is_narrow, kept_in, aim_code, target_count, written, fixed, written_there, right_assigned, target_room, aimed_room, assigned_room, result_in, result_kept, statements, room, zeroed, function_code, inserted}
 
 -- an expression needs a temporary for its value
 pub expr_room_some : (e : source.Expr) → 1 ≤ expr_room e
 expr_room_some (source.Choice c a b) = omega (arith, expr_room_some a)
+expr_room_some (source.Bare p) = omega (arith, expr_room_some p)
+expr_room_some (source.Trusted to how p k) = omega (arith, expr_room_some p)
 expr_room_some e = omega arith
 
 pub length-operands : (es : List source.Expr) (t : ℕ) → length (operands es t) ≡ length es
@@ -36,30 +42,72 @@ module _ (few locals : ℕ) (more : few ≤ locals) where
   operated_over Ge s a b x y = ((x, y), lit< tt)
   operated_over o s a b x y = (x, y)
 
-  direct_over : (e : source.Expr) → IsIntegerExpr few e → IsExprOver locals (direct e)
+  scaled_over : (size : ℕ) (e : Expr) → size < 2 ^ 32 → IsExprOver locals e → IsExprOver locals (scaled size e)
+  scaled_over size (Const n) h x = omega arith
+  scaled_over size e h x = by (size == 1)
+    where
+      by : (one : Bool) → IsExprOver locals (if one then e else Bin binary.Mul (Const size) e)
+      by true = x
+      by false = (h, x)
+
+  shifted_over : (back : Bool) (size : ℕ) (a i : Expr) → size < 2 ^ 32 → IsExprOver locals a → IsExprOver locals i → IsExprOver locals (shifted back size a i)
+  shifted_over back size a i h x y = by (is_zero i)
+    where
+      by : (none : Bool) → IsExprOver locals (if none then a else Bin (if back then binary.Sub else binary.Add) a (scaled size i))
+      by true = x
+      by false = (x, scaled_over size i h y)
+
+  at_offset_over : (offset : ℕ) (e : Expr) → offset < 2 ^ 32 → IsExprOver locals e → IsExprOver locals (at_offset offset e)
+  at_offset_over offset (Const n) h x = omega arith
+  at_offset_over offset e h x = by (offset == 0)
+    where
+      by : (none : Bool) → IsExprOver locals (if none then e else Bin binary.Add e (Const offset))
+      by true = x
+      by false = (x, h)
+
+  element_over : (through : Through) (size : ℕ) (a i : Expr) → size < 2 ^ 32 → IsExprOver locals a → IsExprOver locals i → IsExprOver locals (element_of through size a i)
+  element_over Named size a i h x y = x
+  element_over Raw size a i h x y = shifted_over false size a i h x y
+  element_over One size a i h x y = x
+  element_over Array size a i h x y = x
+  element_over Terminated size a i h x y = x
+
+  place_over : (access : Access) (index : source.Expr) (a i : Expr) → IsAccess access index → IsExprOver locals a → IsExprOver locals i → IsExprOver locals (place_at access a i)
+  place_over access index a i h x y =
+      at_offset_over access.offset (element_of access.through access.size a i) h.2 (element_over access.through access.size a i h.1 x y)
+
+  direct_over : (e : source.Expr) → IsCompilableExpr few e → IsExprOver locals (direct e)
   direct_over (source.Number n) h = h
   direct_over (source.Local x) h = omega arith
-  direct_over (source.Load width access p i) h = let n = number_of p in omega arith
+  direct_over (source.Limited x limits) h = omega arith
+  direct_over (source.Array at bytes) h = h
+  direct_over (source.Load w access p i) h = place_over access i (direct p) (direct i) h.0 (direct_over p h.1) (direct_over i h.2)
+  direct_over (source.Member to count access p i) h = place_over access i (direct p) (direct i) h.0 (direct_over p h.1) (direct_over i h.2)
+  direct_over (source.Address bytes access p i) h = place_over access i (direct p) (direct i) h.0 (direct_over p h.1) (direct_over i h.2)
+  direct_over (source.Moved shift p i) h = let s = h.0 in shifted_over shift.back shift.size (direct p) (direct i) s.1 (direct_over p h.1) (direct_over i h.2)
+  direct_over (source.Added shift i p) h = let s = h.0 in shifted_over shift.back shift.size (direct p) (direct i) s.1 (direct_over p h.2) (direct_over i h.1)
+  direct_over (source.Bare p) h = direct_over p h
+  direct_over (source.Trusted to how p k) h = direct_over p h.0
   direct_over (source.Binary o s at a b) h = operated_over o s (direct a) (direct b) (direct_over a h.1) (direct_over b h.2)
   direct_over (source.Narrow e) h = (direct_over e h, lit< tt)
   direct_over (source.And a b) h = lit< tt
   direct_over (source.Or a b) h = lit< tt
   direct_over (source.Choice c a b) h = lit< tt
-  direct_over e h = absurd h
+  direct_over (source.Tested size how at p k) h = absurd h
 
   by_room : (is_one : Bool) (d : Expr) (r t : ℕ) → IsExprOver locals d → 1 ≤ r → t + (if is_one then 0 else r) ≤ locals → IsExprOver locals (if is_one then d else Local t)
   by_room true d r t h some fits = h
   by_room false d r t h some fits = omega arith
 
-  operand_over : (e : source.Expr) (t : ℕ) → IsIntegerExpr few e → t + operand_room e ≤ locals → IsExprOver locals (operand e t)
+  operand_over : (e : source.Expr) (t : ℕ) → IsCompilableExpr few e → t + operand_room e ≤ locals → IsExprOver locals (operand e t)
   operand_over e t h fits = by_room (is_direct e) (direct e) (expr_room e) t (direct_over e h) (expr_room_some e) fits
 
-  operands_over : (es : List source.Expr) (t : ℕ) → All (IsIntegerPart few) es → t + operands_room es ≤ locals → All (IsExprOver locals) (operands es t)
+  operands_over : (es : List source.Expr) (t : ℕ) → All (IsCompilablePart few) es → t + operands_room es ≤ locals → All (IsExprOver locals) (operands es t)
   operands_over [] t h fits = All-nil (IsExprOver locals)
   operands_over (e ∷ es) t h fits =
       All-cons (IsExprOver locals) (operand e t) (operands es (t + 1))
-      (operand_over e t (All-head (IsIntegerPart few) e es h).0 (omega arith))
-      (operands_over es (t + 1) (All-tail (IsIntegerPart few) e es h) (omega arith))
+      (operand_over e t (All-head (IsCompilablePart few) e es h).0 (omega arith))
+      (operands_over es (t + 1) (All-tail (IsCompilablePart few) e es h) (omega arith))
 
   kept_over : (w : Width) (is_byte : Bool) (e : Expr) → IsExprOver locals e → IsExprOver locals (kept_in w is_byte e)
   kept_over width.Byte true e h = h
@@ -85,10 +133,26 @@ module _ (few locals : ℕ) (more : few ≤ locals) where
     operation_over o s at a b t rest place x y below over =
         check_by (divides o) at b (Set t (operated o s a b) rest) place y (below, operated_over o s a b x y, over)
 
-    truth_over : (e : source.Expr) (t : ℕ) → IsIntegerExpr few e → t < locals → t + operand_room e ≤ locals → Over (Set t (as_truth (operand e t)) End)
+    truth_over : (e : source.Expr) (t : ℕ) → IsCompilableExpr few e → t < locals → t + operand_room e ≤ locals → Over (Set t (as_truth (operand e t)) End)
     truth_over e t h below fits = (below, (operand_over e t h fits, lit< tt), tt)
 
-    expr_over : (e : source.Expr) (t : ℕ) (rest : Code) → IsIntegerExpr few e → t + expr_room e ≤ locals → Over rest → Over (expr_code e t rest)
+    null_over : (access : Access) (a : Expr) (rest : Code) → IsPlace access.at → IsExprOver locals a → Over rest → Over (null_check access a rest)
+    null_over access a rest at x over = by (checks_null access.through)
+      where
+        by : (one : Bool) → Over (if one then Check check.Null access.at a rest else rest)
+        by true = (at, x, over)
+        by false = over
+
+    -- the code of two operands in front
+    pair_over : (a b : source.Expr) (t : ℕ) (after : Code) → ((rest : Code) → t + expr_room a ≤ locals → Over rest → Over (expr_code a t rest))
+        → ((rest : Code) → t + 1 + expr_room b ≤ locals → Over rest → Over (expr_code b (t + 1) rest))
+        → t + operand_room a ≤ locals → t + 1 + operand_room b ≤ locals → Over after → Over (operand_code a t (operand_code b (t + 1) after))
+    pair_over a b t after on_a on_b left right over =
+        let second = operand_code b (t + 1) after in
+        let second_over = operand_step b (t + 1) after (λ fits. on_b after fits over) right over in
+        operand_step a t second (λ fits. on_a second fits second_over) left second_over
+
+    expr_over : (e : source.Expr) (t : ℕ) (rest : Code) → IsCompilableExpr few e → t + expr_room e ≤ locals → Over rest → Over (expr_code e t rest)
     expr_over (source.Binary o s at a b) t rest h fits over =
         let after = operation_code o s at (operand a t) (operand b (t + 1)) t rest in
         let second = operand_code b (t + 1) after in
@@ -135,37 +199,131 @@ module _ (few locals : ℕ) (more : few ≤ locals) where
         operand_step e t after (λ fits. expr_over e t after h fits after_over) inner after_over
     expr_over (source.Number n) t rest h fits over = (omega arith, h, over)
     expr_over (source.Local x) t rest h fits over = (omega arith, omega arith, over)
-    expr_over (source.Load width access p i) t rest h fits over = (omega arith, direct_over (source.Load width access p i) h, over)
-    expr_over e t rest h fits over = absurd h
+    expr_over (source.Limited x limits) t rest h fits over = (omega arith, omega arith, over)
+    expr_over (source.Array at bytes) t rest h fits over = (omega arith, h, over)
+    expr_over (source.Load w access p i) t rest h fits over =
+        let left : t + operand_room p ≤ locals = omega arith in
+        let right : t + 1 + operand_room i ≤ locals = omega arith in
+        let below : t < locals = omega arith in
+        let pointer = operand_over p t h.1 left in
+        let place = place_over access i (operand p t) (operand i (t + 1)) h.0 pointer (operand_over i (t + 1) h.2 right) in
+        pair_over p i t _ (λ rest fits over. expr_over p t rest h.1 fits over) (λ rest fits over. expr_over i (t + 1) rest h.2 fits over) left right
+        (null_over access (operand p t) (Set t (Load w (place_at access (operand p t) (operand i (t + 1)))) rest) h.0.0 pointer (below, place, over))
+    expr_over (source.Member to count access p i) t rest h fits over =
+        let left : t + operand_room p ≤ locals = omega arith in
+        let right : t + 1 + operand_room i ≤ locals = omega arith in
+        let below : t < locals = omega arith in
+        let pointer = operand_over p t h.1 left in
+        let place = place_over access i (operand p t) (operand i (t + 1)) h.0 pointer (operand_over i (t + 1) h.2 right) in
+        pair_over p i t _ (λ rest fits over. expr_over p t rest h.1 fits over) (λ rest fits over. expr_over i (t + 1) rest h.2 fits over) left right
+        (null_over access (operand p t) (Set t (Load width.Word (place_at access (operand p t) (operand i (t + 1)))) rest) h.0.0 pointer (below, place, over))
+    expr_over (source.Address bytes access p i) t rest h fits over =
+        let left : t + operand_room p ≤ locals = omega arith in
+        let right : t + 1 + operand_room i ≤ locals = omega arith in
+        let below : t < locals = omega arith in
+        let pointer = operand_over p t h.1 left in
+        let place = place_over access i (operand p t) (operand i (t + 1)) h.0 pointer (operand_over i (t + 1) h.2 right) in
+        pair_over p i t _ (λ rest fits over. expr_over p t rest h.1 fits over) (λ rest fits over. expr_over i (t + 1) rest h.2 fits over) left right
+        (null_over access (operand p t) (Set t (place_at access (operand p t) (operand i (t + 1))) rest) h.0.0 pointer (below, place, over))
+    expr_over (source.Moved shift p i) t rest h fits over =
+        let s = h.0 in
+        let left : t + operand_room p ≤ locals = omega arith in
+        let right : t + 1 + operand_room i ≤ locals = omega arith in
+        let below : t < locals = omega arith in
+        let value = shifted_over shift.back shift.size (operand p t) (operand i (t + 1)) s.1 (operand_over p t h.1 left) (operand_over i (t + 1) h.2 right) in
+        pair_over p i t (Set t (shifted shift.back shift.size (operand p t) (operand i (t + 1))) rest)
+        (λ rest fits over. expr_over p t rest h.1 fits over) (λ rest fits over. expr_over i (t + 1) rest h.2 fits over) left right (below, value, over)
+    expr_over (source.Added shift i p) t rest h fits over =
+        let s = h.0 in
+        let left : t + operand_room i ≤ locals = omega arith in
+        let right : t + 1 + operand_room p ≤ locals = omega arith in
+        let below : t < locals = omega arith in
+        let value = shifted_over shift.back shift.size (operand p (t + 1)) (operand i t) s.1 (operand_over p (t + 1) h.2 right) (operand_over i t h.1 left) in
+        pair_over i p t (Set t (shifted shift.back shift.size (operand p (t + 1)) (operand i t)) rest)
+        (λ rest fits over. expr_over i t rest h.1 fits over) (λ rest fits over. expr_over p (t + 1) rest h.2 fits over) left right (below, value, over)
+    expr_over (source.Bare p) t rest h fits over = expr_over p t rest h fits over
+    expr_over (source.Trusted to how p k) t rest h fits over =
+        let left : t + expr_room p ≤ locals = omega arith in
+        let right : t + 1 + operand_room k ≤ locals = omega arith in
+        expr_over p t (operand_code k (t + 1) rest) h.0 left (operand_step k (t + 1) rest (λ fits. expr_over k (t + 1) rest h.1 fits over) right over)
+    expr_over (source.Tested size how at p k) t rest h fits over = absurd h
 
-    operand_code_over : (e : source.Expr) (t : ℕ) (rest : Code) → IsIntegerExpr few e → t + operand_room e ≤ locals → Over rest → Over (operand_code e t rest)
+    operand_code_over : (e : source.Expr) (t : ℕ) (rest : Code) → IsCompilableExpr few e → t + operand_room e ≤ locals → Over rest → Over (operand_code e t rest)
     operand_code_over e t rest h fits over = operand_step e t rest (λ fits. expr_over e t rest h fits over) fits over
 
-    operands_code_over : (es : List source.Expr) (t : ℕ) (rest : Code) → All (IsIntegerPart few) es → t + operands_room es ≤ locals → Over rest → Over (operands_code es t rest)
+    operands_code_over : (es : List source.Expr) (t : ℕ) (rest : Code) → All (IsCompilablePart few) es → t + operands_room es ≤ locals → Over rest → Over (operands_code es t rest)
     operands_code_over [] t rest h fits over = over
     operands_code_over (e ∷ es) t rest h fits over =
-        operand_code_over e t (operands_code es (t + 1) rest) (All-head (IsIntegerPart few) e es h).0 (omega arith)
-        (operands_code_over es (t + 1) rest (All-tail (IsIntegerPart few) e es h) (omega arith) over)
+        operand_code_over e t (operands_code es (t + 1) rest) (All-head (IsCompilablePart few) e es h).0 (omega arith)
+        (operands_code_over es (t + 1) rest (All-tail (IsCompilablePart few) e es h) (omega arith) over)
 
-    written_over : (target : source.Target) (is_byte : Bool) (e : Expr) (rest : Code) → IsIntegerTarget few target → IsExprOver locals e → Over rest → Over (written target is_byte e rest)
-    written_over source.Nothing is_byte e rest h x over = over
-    written_over (source.Variable y w) is_byte e rest h x over = (omega arith, kept_over w is_byte e x, over)
-    written_over (source.Memory w access p i) is_byte e rest h x over = (direct_over (source.Load w access p i) h, x, over)
+    aim_over : (target : source.Target) (rest : Code) → IsCompilableTarget few target → few + target_room target ≤ locals → Over rest → Over (aim_code target few rest)
+    aim_over source.Nothing rest h fits over = over
+    aim_over (source.Variable y w) rest h fits over = over
+    aim_over (source.Memory w access p i) rest h fits over =
+        let at = h.0 in
+        let pointer = h.1 in
+        let index = h.2 in
+        let left : few + operand_room p ≤ locals = omega arith in
+        let right : few + 1 + operand_room i ≤ locals = omega arith in
+        operand_code_over p few _ pointer.0 left
+        (operand_code_over i (few + 1) _ index.0 right (null_over access (operand p few) rest at.0 (operand_over p few pointer.0 left) over))
 
-    right_over : (target : source.Target) (right : source.Right) (rest : Code) → IsIntegerTarget few target → IsIntegerRight few right → few + assigned_room target right ≤ locals → Over rest → Over (right_assigned target right few rest)
+    written_over : (target : source.Target) (is_byte : Bool) (e : Expr) (rest : Code) → IsCompilableTarget few target → few + target_room target ≤ locals → IsExprOver locals e → Over rest → Over (written target few is_byte e rest)
+    written_over source.Nothing is_byte e rest h fits x over = over
+    written_over (source.Variable y w) is_byte e rest h fits x over = (omega arith, kept_over w is_byte e x, over)
+    written_over (source.Memory w access p i) is_byte e rest h fits x over =
+        let at = h.0 in
+        let pointer = h.1 in
+        let index = h.2 in
+        let left : few + operand_room p ≤ locals = omega arith in
+        let right : few + 1 + operand_room i ≤ locals = omega arith in
+        (place_over access i (operand p few) (operand i (few + 1)) at (operand_over p few pointer.0 left) (operand_over i (few + 1) index.0 right), x, over)
+
+    fixed_over : (target : source.Target) (rest : Code) → IsCompilableTarget few target → few + target_room target ≤ locals → Over rest → Over (fixed target few rest)
+    fixed_over source.Nothing rest h fits over = over
+    fixed_over (source.Variable y w) rest h fits over = over
+    fixed_over (source.Memory w access p i) rest h fits over =
+        let at = h.0 in
+        let pointer = h.1 in
+        let index = h.2 in
+        let left : few + operand_room p ≤ locals = omega arith in
+        let right : few + 1 + operand_room i ≤ locals = omega arith in
+        (omega arith, place_over access i (operand p few) (operand i (few + 1)) at (operand_over p few pointer.0 left) (operand_over i (few + 1) index.0 right), over)
+
+    there_over : (target : source.Target) (e : Expr) (rest : Code) → IsCompilableTarget few target → few + target_room target ≤ locals → IsExprOver locals e → Over rest → Over (written_there target few e rest)
+    there_over source.Nothing e rest h fits x over = over
+    there_over (source.Variable y w) e rest h fits x over = (omega arith, kept_over w false e x, over)
+    there_over (source.Memory w access p i) e rest h fits x over = (omega arith, x, over)
+
+    assigned_over : (target : source.Target) (e : source.Expr) (rest : Code) → IsCompilableTarget few target → IsCompilableExpr few e → few + aimed_room target (operand_room e) ≤ locals → Over rest
+        → Over (aim_code target few (operand_code e (few + target_count target) (written target few (is_narrow e) (operand e (few + target_count target)) rest)))
+    assigned_over target e rest h x fits over =
+        let u = few + target_count target in
+        let aims : few + target_room target ≤ locals = omega arith in
+        let inner : u + operand_room e ≤ locals = omega arith in
+        aim_over target _ h aims
+        (operand_code_over e u _ x inner (written_over target (is_narrow e) (operand e u) rest h aims (operand_over e u x inner) over))
+
+    right_over : (target : source.Target) (right : source.Right) (rest : Code) → IsCompilableTarget few target → IsCompilableRight few right → few + assigned_room target right ≤ locals → Over rest → Over (right_assigned target right few rest)
     right_over source.Nothing (source.Value e) rest h x fits over = expr_over e few rest x.0 fits over
-    right_over (source.Variable y w) (source.Value e) rest h x fits over =
-        operand_code_over e few _ x.0 fits (written_over (source.Variable y w) (is_narrow e) (operand e few) rest h (operand_over e few x.0 fits) over)
-    right_over (source.Memory w access p i) (source.Value e) rest h x fits over =
-        operand_code_over e few _ x.0 fits (written_over (source.Memory w access p i) (is_narrow e) (operand e few) rest h (operand_over e few x.0 fits) over)
-    right_over target (source.Fresh to e) rest h x fits over = absurd x
+    right_over (source.Variable y w) (source.Value e) rest h x fits over = assigned_over (source.Variable y w) e rest h x.0 fits over
+    right_over (source.Memory w access p i) (source.Value e) rest h x fits over = assigned_over (source.Memory w access p i) e rest h x.0 fits over
+    right_over target (source.Fresh to e) rest h x fits over =
+        let part = x.0 in
+        let u = few + target_count target in
+        let aims : few + target_room target ≤ locals = omega arith in
+        let inner : u + operand_room e ≤ locals = omega arith in
+        let below : u < locals = omega arith in
+        aim_over target _ h aims (fixed_over target _ h aims
+        (operand_code_over e u _ part.0 inner (below, operand_over e u part.0 inner, x.1, there_over target (Local u) rest h aims below over)))
 
-    result_below : (target : Option Kept) → IfSome target (IsIntegerKept few) → few < locals → IfSome (result_in target few) (λ x. x < locals)
+    result_below : (target : Option Kept) → IfSome target (IsCompilableKept few) → few < locals → IfSome (result_in target few) (λ x. x < locals)
     result_below None h below = tt
     result_below (Some (kept.Local x w)) h below = omega (arith, h)
     result_below (Some (kept.Static a w)) h below = below
 
-    result_over : (target : Option Kept) (rest : Code) → IfSome target (IsIntegerKept few) → few < locals → Over rest → Over (result_kept target few rest)
+    result_over : (target : Option Kept) (rest : Code) → IfSome target (IsCompilableKept few) → few < locals → Over rest → Over (result_kept target few rest)
     result_over None rest h below over = over
     result_over (Some (kept.Local x width.Byte)) rest h below over = (omega (arith, h), (omega (arith, h), lit< tt), over)
     result_over (Some (kept.Local x width.Word)) rest h below over = over
@@ -183,18 +341,25 @@ module _ (functions : List source.Function) (few locals : ℕ) (more : few ≤ l
   abbrev all_code : List Function
   all_code = map function_code functions
 
-  statements_over : (code : source.Code) (looped : Bool) → IsIntegerCode functions few looped code → few + room code ≤ locals → IsCodeOver all_code locals looped (statements few code)
+  statements_over : (code : source.Code) (looped : Bool) → IsCompilableCode functions few looped code → few + room code ≤ locals → IsCodeOver all_code locals looped (statements few code)
   statements_over source.End looped h fits = tt
   statements_over (source.Assign spot target right rest) looped h fits =
       right_over few locals more all_code looped target right (statements few rest) h.0 h.1 (omega arith) (statements_over rest looped h.2 (omega arith))
   statements_over (source.Bundle spot assigns rest) looped h fits = absurd h
   statements_over (source.Get spot target rest) looped h fits =
-      (omega arith, written_over few locals more all_code looped target false (Local few) (statements few rest) h.0 (omega arith) (statements_over rest looped h.1 (omega arith)))
+      let u = few + target_count target in
+      let aims : few + target_room target ≤ locals = omega arith in
+      let below : u < locals = omega arith in
+      aim_over few locals more all_code looped target _ h.0 aims
+      (below, written_over few locals more all_code looped target false (Local u) (statements few rest) h.0 aims below (statements_over rest looped h.1 (omega arith)))
   statements_over (source.Put spot target e rest) looped h fits =
-      let inner : few + operand_room e ≤ locals = omega arith in
-      let x = operand_over few locals more e few h.1.0 inner in
-      operand_code_over few locals more all_code looped e few _ h.1.0 inner
-      (x, written_over few locals more all_code looped target true (low_byte (operand e few)) (statements few rest) h.0 (x, lit< tt) (statements_over rest looped h.2 (omega arith)))
+      let u = few + target_count target in
+      let aims : few + target_room target ≤ locals = omega arith in
+      let inner : u + operand_room e ≤ locals = omega arith in
+      let x = operand_over few locals more e u h.1.0 inner in
+      aim_over few locals more all_code looped target _ h.0 aims
+      (operand_code_over few locals more all_code looped e u _ h.1.0 inner
+      (x, written_over few locals more all_code looped target true (low_byte (operand e u)) (statements few rest) h.0 aims (x, lit< tt) (statements_over rest looped h.2 (omega arith))))
   statements_over (source.Call spot target callee es rest) looped h fits =
       let inner : few + operands_room es ≤ locals = omega arith in
       let below : few < locals = omega arith in
@@ -230,7 +395,7 @@ module _ (functions : List source.Function) (few locals : ℕ) (more : few ≤ l
       let inner : few + operand_room e ≤ locals = omega arith in
       operand_code_over few locals more all_code looped e few _ h.1.0 inner (h.0, operand_over few locals more e few h.1.0 inner, statements_over rest looped h.2 (omega arith))
 
-function_over : (functions : List source.Function) (f : source.Function) → IsIntegerFunction functions f → IsFunctionOver (map function_code functions) (function_code f)
+function_over : (functions : List source.Function) (f : source.Function) → IsCompilableFunction functions f → IsFunctionOver (map function_code functions) (function_code f)
 function_over functions f w =
     let locals = f.locals + room f.body in
     let fits : f.params + (f.locals - f.params) ≤ locals = omega (arith, w.params) in
@@ -240,10 +405,10 @@ function_over functions f w =
           (statements_over functions f.locals locals (omega arith) f.body false w.body (omega arith)),
     )
 
--- the core code of a program of integers is well-formed
-pub inserted_formed : (p : source.Program) → IsIntegerProgram p → IsWellFormed (inserted p)
+-- the core code of a program is well-formed
+pub inserted_formed : (p : source.Program) → IsCompilable p → IsWellFormed (inserted p)
 inserted_formed p w = record {
   functions = All-map (IsFunctionOver (map function_code p.functions)) function_code p.functions
-      (All-weaker (IsIntegerFunction p.functions) (λ f. IsFunctionOver (map function_code p.functions) (function_code f)) (λ f h. function_over p.functions f h) p.functions w.functions);
+      (All-weaker (IsCompilableFunction p.functions) (λ f. IsFunctionOver (map function_code p.functions) (function_code f)) (λ f h. function_over p.functions f h) p.functions w.functions);
   main = subst (HasParams 0) (sym (slice_get-map function_code p.functions p.main)) (params_same 0 0 (slice_get p.functions p.main) refl w.main);
 }

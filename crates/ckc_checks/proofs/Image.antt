@@ -8,7 +8,7 @@ use Rattle.ckc_source.specs.declared.program.Object.{Object}
 use Rattle.ckc_source.specs.Code.{Program}
 use Rattle.ckc_source.specs.Blocks.{block_of, end_of}
 use Rattle.ckc_source.specs.LaidOut.{AreApart, IsLaidOut}
-use Rattle.ckc_checks.specs.IntegerForm.{BeginsLow, IsIntegerProgram}
+use Rattle.ckc_checks.specs.Compilable.{BeginsLow, IsCompilable}
 use Rattle.ckc_checks.specs.Inserted.{image, first_bytes}
 
 image_length : (objects : List Object) (a low place : ℕ) → a ≤ low → a ≤ data_start + 4194304 → AreApart low (map block_of objects) place → All BeginsLow objects
@@ -23,5 +23,5 @@ image_length (o ∷ objects) a low place under below apart begins =
     omega (arith, apart.0, rest, length-append (padding ++ o.initial) (image next objects), length-append padding o.initial, length-replicate {A = ℕ} (o.at - a) 0)
 
 -- they are at most 4 MiB
-pub first_bytes_length : (p : Program) → IsIntegerProgram p → IsLaidOut p → length (first_bytes p.objects) ≤ 4194304
+pub first_bytes_length : (p : Program) → IsCompilable p → IsLaidOut p → length (first_bytes p.objects) ≤ 4194304
 first_bytes_length p w laid = omega (arith, image_length p.objects (data_start + 4) 0x02000008 _ (omega arith) (omega arith) laid.apart w.objects)

@@ -1,9 +1,13 @@
 -- The size of what is inserted is bounded by the nodes of the program.
 use Rattle.std.proofs.Common.{ℕ, zero, suc, ◌+◌, ◌-◌, ◌*◌, ◌≤◌, List, [], ◌∷◌, length, arith}
-use Rattle.std.specs.Prelude.{Bool, true, false, if◌then◌else◌, Option, Some, None, map, sum_by}
+use Rattle.std.specs.Prelude.{Bool, true, false, ◌==◌, if◌then◌else◌, Option, Some, None, map, sum_by}
 use Rattle.std.proofs.lemmas.List.Sums.{sum_by-cons}
 use Rattle.ckc_base.specs.declared.arithmetic.Width.TheVariants as width
+use Rattle.ckc_base.specs.declared.arithmetic.BinOp.TheVariants as binary
 use Rattle.ckc_base.specs.declared.places.Pos.{Pos}
+use Rattle.ckc_source.specs.declared.expr.Access.{Access}
+use Rattle.ckc_source.specs.declared.expr.Through.{Through}
+use Rattle.ckc_source.specs.declared.expr.Through.TheVariants.{Named, Raw, One, Array, Terminated}
 use Rattle.ckc_base.specs.declared.runtime_checks.Check.TheVariants as check
 use Rattle.ckc_source.specs.declared.expr.Operation.{Operation}
 use Rattle.ckc_source.specs.declared.expr.Operation.TheVariants.{Le}
@@ -11,14 +15,23 @@ use Rattle.ckc_source.specs.declared.stmt.Kept.{Kept}
 use Rattle.ckc_source.specs.declared.stmt.Kept.TheVariants as kept
 use Rattle.ckc_source.specs.Code as source
 use Rattle.ckc_source.specs.Words.{divides}
-use Rattle.ckc_core.specs.Code.{Expr, Const, Local, Code, End, Set, Check}
+use Rattle.ckc_core.specs.Code.{Expr, Const, Local, Load, Bin, Code, End, Set, Check}
 use Rattle.ckc_core.specs.Sizes.{expr_size, exprs_size, set_size, code_size, function_size, program_size}
-use Rattle.ckc_checks.specs.IntegerForm.{expr_nodes, exprs_nodes, right_nodes, code_nodes, function_nodes, program_nodes}
-use Rattle.ckc_checks.specs.Inserted.{is_direct, operated, low_byte, as_truth, direct, operand, operation_code, expr_code, operand_code, operands_code, operands, is_narrow, written, right_assigned, result_in, result_kept, statements, zeroed, function_code, inserted}
+use Rattle.ckc_checks.specs.Compilable.{access_nodes, expr_nodes, exprs_nodes, target_nodes, right_nodes, code_nodes, function_nodes, program_nodes}
+use Rattle.ckc_checks.specs.Inserted.{is_direct, operated, low_byte, as_truth, is_zero, scaled, shifted, at_offset, element_of, place_at, checks_null, null_check, direct, operand, operation_code, expr_code, operand_code, operands_code, operands, is_narrow, aim_code, target_count, written, fixed, written_there, right_assigned, result_in, result_kept, statements, zeroed, function_code, inserted}
+
+access_some : (through : Through) → 1 ≤ access_nodes through
+access_some Named = omega arith
+access_some Raw = omega arith
+access_some One = omega arith
+access_some Array = omega arith
+access_some Terminated = omega arith
 
 -- an expression has a node
 expr_nodes_some : (e : source.Expr) → 1 ≤ expr_nodes e
-expr_nodes_some (source.Number n) = omega arith
+expr_nodes_some (source.Load w access p i) = omega (arith, expr_nodes_some p)
+expr_nodes_some (source.Member to count access p i) = omega (arith, expr_nodes_some p)
+expr_nodes_some (source.Address bytes access p i) = omega (arith, expr_nodes_some p)
 expr_nodes_some e = omega arith
 
 set_sized : (e : Expr) → set_size e ≤ 6 + expr_size e
@@ -29,9 +42,57 @@ operated_sized : (o : Operation) (s : Bool) (a b : Expr) → expr_size (operated
 operated_sized Le s a b = omega arith
 operated_sized o s a b = omega arith
 
+scaled_sized : (size : ℕ) (e : Expr) → expr_size (scaled size e) ≤ 16 + expr_size e
+scaled_sized size (Const n) = omega arith
+scaled_sized size e = by (size == 1)
+  where
+    by : (one : Bool) → expr_size (if one then e else Bin binary.Mul (Const size) e) ≤ 16 + expr_size e
+    by true = omega arith
+    by false = omega arith
+
+shifted_sized : (back : Bool) (size : ℕ) (a i : Expr) → expr_size (shifted back size a i) ≤ 27 + expr_size a + expr_size i
+shifted_sized back size a i = by (is_zero i)
+  where
+    by : (zero : Bool) → expr_size (if zero then a else Bin (if back then binary.Sub else binary.Add) a (scaled size i)) ≤ 27 + expr_size a + expr_size i
+    by true = omega arith
+    by false = omega (arith, scaled_sized size i)
+
+at_offset_sized : (offset : ℕ) (e : Expr) → expr_size (at_offset offset e) ≤ 16 + expr_size e
+at_offset_sized offset (Const n) = omega arith
+at_offset_sized offset e = by (offset == 0)
+  where
+    by : (none : Bool) → expr_size (if none then e else Bin binary.Add e (Const offset)) ≤ 16 + expr_size e
+    by true = omega arith
+    by false = omega arith
+
+element_sized : (through : Through) (size : ℕ) (a i : Expr) → expr_size (element_of through size a i) + 27 ≤ 27 * access_nodes through + expr_size a + expr_size i
+element_sized Named size a i = omega arith
+element_sized Raw size a i = omega (arith, shifted_sized false size a i)
+element_sized One size a i = omega arith
+element_sized Array size a i = omega arith
+element_sized Terminated size a i = omega arith
+
+place_sized : (access : Access) (a i : Expr) → expr_size (place_at access a i) + 11 ≤ 27 * access_nodes access.through + expr_size a + expr_size i
+place_sized access a i =
+    omega (arith, at_offset_sized access.offset (element_of access.through access.size a i), element_sized access.through access.size a i)
+
+null_sized : (access : Access) (a : Expr) (rest : Code) → code_size (null_check access a rest) ≤ 14 + expr_size a + code_size rest
+null_sized access a rest = by (checks_null access.through)
+  where
+    by : (one : Bool) → code_size (if one then Check check.Null access.at a rest else rest) ≤ 14 + expr_size a + code_size rest
+    by true = omega arith
+    by false = omega arith
+
 direct_sized : (e : source.Expr) → expr_size (direct e) ≤ 27 * expr_nodes e
 direct_sized (source.Binary o s at a b) = omega (arith, operated_sized o s (direct a) (direct b), direct_sized a, direct_sized b)
+direct_sized (source.Load w access p i) = omega (arith, place_sized access (direct p) (direct i), direct_sized p, direct_sized i)
+direct_sized (source.Member to count access p i) = omega (arith, place_sized access (direct p) (direct i), direct_sized p, direct_sized i)
+direct_sized (source.Address bytes access p i) = omega (arith, place_sized access (direct p) (direct i), direct_sized p, direct_sized i)
+direct_sized (source.Moved shift p i) = omega (arith, shifted_sized shift.back shift.size (direct p) (direct i), direct_sized p, direct_sized i)
+direct_sized (source.Added shift i p) = omega (arith, shifted_sized shift.back shift.size (direct p) (direct i), direct_sized p, direct_sized i)
 direct_sized (source.Narrow e) = omega (arith, direct_sized e)
+direct_sized (source.Bare p) = omega (arith, direct_sized p)
+direct_sized (source.Trusted to how p k) = omega (arith, direct_sized p)
 direct_sized e = omega arith
 
 -- the code in front of an operand and twice the operand
@@ -78,6 +139,69 @@ expr_sized (source.Choice c a b) t rest =
 expr_sized (source.Narrow e) t rest =
     let after = Set t (low_byte (operand e t)) rest in
     omega (arith, operand_step e t after (expr_sized e t after))
+expr_sized (source.Load w access p i) t rest =
+    let value = Load w (place_at access (operand p t) (operand i (t + 1))) in
+    let after = null_check access (operand p t) (Set t value rest) in
+    let second = operand_code i (t + 1) after in
+    omega (
+      arith,
+      null_sized access (operand p t) (Set t value rest),
+      place_sized access (operand p t) (operand i (t + 1)),
+      access_some access.through,
+      operand_step i (t + 1) after (expr_sized i (t + 1) after),
+      operand_step p t second (expr_sized p t second),
+    )
+expr_sized (source.Member to count access p i) t rest =
+    let value = Load width.Word (place_at access (operand p t) (operand i (t + 1))) in
+    let after = null_check access (operand p t) (Set t value rest) in
+    let second = operand_code i (t + 1) after in
+    omega (
+      arith,
+      null_sized access (operand p t) (Set t value rest),
+      place_sized access (operand p t) (operand i (t + 1)),
+      access_some access.through,
+      operand_step i (t + 1) after (expr_sized i (t + 1) after),
+      operand_step p t second (expr_sized p t second),
+    )
+expr_sized (source.Address bytes access p i) t rest =
+    let value = place_at access (operand p t) (operand i (t + 1)) in
+    let after = null_check access (operand p t) (Set t value rest) in
+    let second = operand_code i (t + 1) after in
+    omega (
+      arith,
+      null_sized access (operand p t) (Set t value rest),
+      set_sized value,
+      place_sized access (operand p t) (operand i (t + 1)),
+      access_some access.through,
+      operand_step i (t + 1) after (expr_sized i (t + 1) after),
+      operand_step p t second (expr_sized p t second),
+    )
+expr_sized (source.Moved shift p i) t rest =
+    let value = shifted shift.back shift.size (operand p t) (operand i (t + 1)) in
+    let after = Set t value rest in
+    let second = operand_code i (t + 1) after in
+    omega (
+      arith,
+      set_sized value,
+      shifted_sized shift.back shift.size (operand p t) (operand i (t + 1)),
+      operand_step i (t + 1) after (expr_sized i (t + 1) after),
+      operand_step p t second (expr_sized p t second),
+    )
+expr_sized (source.Added shift i p) t rest =
+    let value = shifted shift.back shift.size (operand p (t + 1)) (operand i t) in
+    let after = Set t value rest in
+    let second = operand_code p (t + 1) after in
+    omega (
+      arith,
+      set_sized value,
+      shifted_sized shift.back shift.size (operand p (t + 1)) (operand i t),
+      operand_step p (t + 1) after (expr_sized p (t + 1) after),
+      operand_step i t second (expr_sized i t second),
+    )
+expr_sized (source.Bare p) t rest = omega (arith, expr_sized p t rest)
+expr_sized (source.Trusted to how p k) t rest =
+    let second = operand_code k (t + 1) rest in
+    omega (arith, operand_step k (t + 1) rest (expr_sized k (t + 1) rest), expr_sized p t second)
 expr_sized e t rest = omega arith
 
 operand_sized : (e : source.Expr) (t : ℕ) (rest : Code) → code_size (operand_code e t rest) + 2 * expr_size (operand e t) ≤ 60 * expr_nodes e + code_size rest
@@ -90,22 +214,61 @@ operands_sized (e ∷ es) t rest =
     let after = operands_code es (t + 1) rest in
     omega (arith, operand_sized e t after, operands_sized es (t + 1) rest, expr_nodes_some e, sum_by-cons expr_size (operand e t) (operands es (t + 1)))
 
-written_sized : (target : source.Target) (is_byte : Bool) (e : Expr) (rest : Code) → code_size (written target is_byte e rest) ≤ 22 + expr_size e + code_size rest
-written_sized source.Nothing is_byte e rest = omega arith
-written_sized (source.Variable x width.Word) is_byte e rest = omega (arith, set_sized e)
-written_sized (source.Variable x width.Byte) true e rest = omega (arith, set_sized e)
-written_sized (source.Variable x width.Byte) false e rest = omega arith
-written_sized (source.Memory w access p i) is_byte e rest = omega arith
+-- A value is written behind what finds the place of the target.
+aimed_sized : (target : source.Target) (t n : ℕ) (is_byte : Bool) (value : Expr) (rest inner : Code)
+    → code_size inner + expr_size value ≤ n + code_size (written target t is_byte value rest)
+    → code_size (aim_code target t inner) ≤ 22 + 60 * target_nodes target + n + code_size rest
+aimed_sized source.Nothing t n is_byte value rest inner h = omega arith
+aimed_sized (source.Variable x width.Word) t n is_byte value rest inner h = omega (arith, set_sized value)
+aimed_sized (source.Variable x width.Byte) t n true value rest inner h = omega (arith, set_sized value)
+aimed_sized (source.Variable x width.Byte) t n false value rest inner h = omega arith
+aimed_sized (source.Memory w access p i) t n is_byte value rest inner h =
+    let after = null_check access (operand p t) inner in
+    let second = operand_code i (t + 1) after in
+    omega (
+      arith,
+      null_sized access (operand p t) inner,
+      place_sized access (operand p t) (operand i (t + 1)),
+      operand_sized i (t + 1) after,
+      operand_sized p t second,
+    )
 
-right_sized : (target : source.Target) (right : source.Right) (t : ℕ) (rest : Code) → code_size (right_assigned target right t rest) ≤ 22 + 60 * right_nodes right + code_size rest
+assigned_sized : (target : source.Target) (e : source.Expr) (t : ℕ) (rest : Code)
+    → code_size (aim_code target t (operand_code e (t + target_count target) (written target t (is_narrow e) (operand e (t + target_count target)) rest)))
+    ≤ 22 + 60 * target_nodes target + 60 * expr_nodes e + code_size rest
+assigned_sized target e t rest =
+    let u = t + target_count target in
+    let after = written target t (is_narrow e) (operand e u) rest in
+    aimed_sized target t (60 * expr_nodes e) (is_narrow e) (operand e u) rest (operand_code e u after) (omega (arith, operand_sized e u after))
+
+there_sized : (target : source.Target) (t n u : ℕ) (rest inner : Code) → code_size inner ≤ n + code_size (written_there target t (Local u) rest)
+    → code_size (aim_code target t (fixed target t inner)) ≤ 22 + 60 * target_nodes target + n + code_size rest
+there_sized source.Nothing t n u rest inner h = omega arith
+there_sized (source.Variable x width.Word) t n u rest inner h = omega arith
+there_sized (source.Variable x width.Byte) t n u rest inner h = omega arith
+there_sized (source.Memory w access p i) t n u rest inner h =
+    let place = place_at access (operand p t) (operand i (t + 1)) in
+    let set = Set t place inner in
+    let after = null_check access (operand p t) set in
+    let second = operand_code i (t + 1) after in
+    omega (
+      arith,
+      null_sized access (operand p t) set,
+      set_sized place,
+      place_sized access (operand p t) (operand i (t + 1)),
+      operand_sized i (t + 1) after,
+      operand_sized p t second,
+    )
+
+right_sized : (target : source.Target) (right : source.Right) (t : ℕ) (rest : Code)
+    → code_size (right_assigned target right t rest) ≤ 54 + 60 * target_nodes target + 60 * right_nodes right + code_size rest
 right_sized source.Nothing (source.Value e) t rest = omega (arith, expr_sized e t rest)
-right_sized (source.Variable x w) (source.Value e) t rest =
-    let after = written (source.Variable x w) (is_narrow e) (operand e t) rest in
-    omega (arith, operand_sized e t after, written_sized (source.Variable x w) (is_narrow e) (operand e t) rest)
-right_sized (source.Memory w access p i) (source.Value e) t rest =
-    let after = written (source.Memory w access p i) (is_narrow e) (operand e t) rest in
-    omega (arith, operand_sized e t after, written_sized (source.Memory w access p i) (is_narrow e) (operand e t) rest)
-right_sized target (source.Fresh to e) t rest = omega arith
+right_sized (source.Variable x w) (source.Value e) t rest = omega (arith, assigned_sized (source.Variable x w) e t rest)
+right_sized (source.Memory w access p i) (source.Value e) t rest = omega (arith, assigned_sized (source.Memory w access p i) e t rest)
+right_sized target (source.Fresh to e) t rest =
+    let u = t + target_count target in
+    let alloc = Code.Alloc u (operand e u) to.size (written_there target t (Local u) rest) in
+    omega (arith, there_sized target t (60 * expr_nodes e + 32) u rest (operand_code e u alloc) (omega (arith, operand_sized e u alloc)))
 
 result_sized : (target : Option Kept) (t : ℕ) (rest : Code) → code_size (result_kept target t rest) ≤ 16 + code_size rest
 result_sized None t rest = omega arith
@@ -119,10 +282,18 @@ statements_sized t (source.Assign spot target right rest) =
     omega (arith, right_sized target right t (statements t rest), statements_sized t rest)
 statements_sized t (source.Bundle spot assigns rest) = omega (arith, statements_sized t rest)
 statements_sized t (source.Get spot target rest) =
-    omega (arith, written_sized target false (Local t) (statements t rest), statements_sized t rest)
+    let u = t + target_count target in
+    let after = written target t false (Local u) (statements t rest) in
+    omega (arith, aimed_sized target t 6 false (Local u) (statements t rest) (Code.Get u after) (omega arith), statements_sized t rest)
 statements_sized t (source.Put spot target e rest) =
-    let after = written target true (low_byte (operand e t)) (statements t rest) in
-    omega (arith, operand_sized e t (Code.Put (operand e t) after), written_sized target true (low_byte (operand e t)) (statements t rest), statements_sized t rest)
+    let u = t + target_count target in
+    let after = written target t true (low_byte (operand e u)) (statements t rest) in
+    let put = Code.Put (operand e u) after in
+    omega (
+      arith,
+      aimed_sized target t (60 * expr_nodes e + 23) true (low_byte (operand e u)) (statements t rest) (operand_code e u put) (omega (arith, operand_sized e u put)),
+      statements_sized t rest,
+    )
 statements_sized t (source.Call spot target callee es rest) =
     let after = result_kept target t (statements t rest) in
     let call = Code.Call (result_in target t) callee (operands es t) spot.at after in

@@ -1,9 +1,13 @@
 -- What is inserted keeps the limits of core code.
 use Rattle.std.proofs.Common.{ℕ, zero, suc, ◌+◌, ◌-◌, ◌*◌, ◌≤◌, List, [], ◌∷◌, length, arith}
-use Rattle.std.specs.Prelude.{Bool, true, false, if◌then◌else◌, max, Option, Some, None, slice_get, All}
+use Rattle.std.specs.Prelude.{Bool, true, false, ◌==◌, if◌then◌else◌, max, Option, Some, None, slice_get, All}
 use Rattle.std.proofs.lemmas.List.Elements.{All-nil, All-cons, All-head, All-tail, All-map, All-weaker}
 use Rattle.ckc_base.specs.declared.arithmetic.Width.TheVariants as width
 use Rattle.ckc_base.specs.declared.places.Pos.{Pos}
+use Rattle.ckc_base.specs.declared.arithmetic.BinOp.TheVariants as binary
+use Rattle.ckc_source.specs.declared.expr.Access.{Access}
+use Rattle.ckc_source.specs.declared.expr.Through.{Through}
+use Rattle.ckc_source.specs.declared.expr.Through.TheVariants.{Named, Raw, One, Array, Terminated}
 use Rattle.ckc_base.specs.declared.runtime_checks.Check.TheVariants as check
 use Rattle.ckc_source.specs.declared.expr.Operation.{Operation}
 use Rattle.ckc_source.specs.declared.expr.Operation.TheVariants.{Le}
@@ -11,11 +15,11 @@ use Rattle.ckc_source.specs.declared.stmt.Kept.{Kept}
 use Rattle.ckc_source.specs.declared.stmt.Kept.TheVariants as kept
 use Rattle.ckc_source.specs.Code as source
 use Rattle.ckc_source.specs.Words.{divides}
-use Rattle.ckc_core.specs.Code.{Expr, Const, Local, Code, End, Set, Check}
+use Rattle.ckc_core.specs.Code.{Expr, Const, Local, Load, Bin, Code, End, Set, Check}
 use Rattle.ckc_core.specs.Limits.{depth, IsShallow, KeepsLimits, IsSmallFunction, IsWithinLimits}
-use Rattle.ckc_checks.specs.IntegerForm as form
-use Rattle.ckc_checks.specs.IntegerForm.{IsIntegerPart, IsIntegerTarget, IsIntegerRight, IsIntegerCode, IsIntegerFunction, IsIntegerProgram}
-use Rattle.ckc_checks.specs.Inserted.{is_direct, operated, low_byte, as_truth, direct, operand, operation_code, expr_code, operand_code, operands_code, operands, expr_room, operand_room, operands_room, is_narrow, written, right_assigned, assigned_room, result_kept, statements, room, zeroed, function_code, inserted}
+use Rattle.ckc_checks.specs.Compilable as form
+use Rattle.ckc_checks.specs.Compilable.{IsCompilablePart, IsCompilableTarget, IsCompilableRight, IsCompilableCode, IsCompilableFunction, IsCompilable}
+use Rattle.ckc_checks.specs.Inserted.{is_direct, operated, low_byte, as_truth, is_zero, scaled, shifted, at_offset, element_of, place_at, checks_null, null_check, direct, operand, operation_code, expr_code, operand_code, operands_code, operands, expr_room, operand_room, operands_room, is_narrow, aim_code, target_count, written, fixed, written_there, right_assigned, aimed_room, assigned_room, result_kept, statements, room, zeroed, function_code, inserted}
 use Rattle.ckc_checks.proofs.Formed.{length-operands}
 
 -- ---- expressions
@@ -24,16 +28,61 @@ operated_depth : (o : Operation) (s : Bool) (a b : Expr) → depth (operated o s
 operated_depth Le s a b = omega arith
 operated_depth o s a b = omega arith
 
-direct_depth : (e : source.Expr) → depth (direct e) ≤ 2 * form.depth e
+scaled_depth : (size : ℕ) (e : Expr) → depth (scaled size e) ≤ 1 + max 1 (depth e)
+scaled_depth size (Const n) = omega arith
+scaled_depth size e = by (size == 1)
+  where
+    by : (one : Bool) → depth (if one then e else Bin binary.Mul (Const size) e) ≤ 1 + max 1 (depth e)
+    by true = omega arith
+    by false = omega arith
+
+shifted_depth : (back : Bool) (size : ℕ) (a i : Expr) → depth (shifted back size a i) ≤ 2 + max (depth a) (max 1 (depth i))
+shifted_depth back size a i = by (is_zero i)
+  where
+    by : (zero : Bool) → depth (if zero then a else Bin (if back then binary.Sub else binary.Add) a (scaled size i)) ≤ 2 + max (depth a) (max 1 (depth i))
+    by true = omega arith
+    by false = omega (arith, scaled_depth size i)
+
+at_offset_depth : (offset : ℕ) (e : Expr) → depth (at_offset offset e) ≤ 1 + max 1 (depth e)
+at_offset_depth offset (Const n) = omega arith
+at_offset_depth offset e = by (offset == 0)
+  where
+    by : (none : Bool) → depth (if none then e else Bin binary.Add e (Const offset)) ≤ 1 + max 1 (depth e)
+    by true = omega arith
+    by false = omega arith
+
+element_depth : (through : Through) (size : ℕ) (a i : Expr) → depth (element_of through size a i) ≤ 2 + max (depth a) (max 1 (depth i))
+element_depth Named size a i = omega arith
+element_depth Raw size a i = shifted_depth false size a i
+element_depth One size a i = omega arith
+element_depth Array size a i = omega arith
+element_depth Terminated size a i = omega arith
+
+place_depth : (access : Access) (a i : Expr) → depth (place_at access a i) ≤ 3 + max (depth a) (max 1 (depth i))
+place_depth access a i =
+    omega (arith, at_offset_depth access.offset (element_of access.through access.size a i), element_depth access.through access.size a i)
+
+some_depth : (e : source.Expr) → 1 ≤ form.depth e
+some_depth (source.Number n) = omega arith
+some_depth e = omega arith
+
+direct_depth : (e : source.Expr) → depth (direct e) ≤ 4 * form.depth e
+direct_depth (source.Load w access p i) = omega (arith, place_depth access (direct p) (direct i), direct_depth p, direct_depth i, some_depth p)
+direct_depth (source.Member to count access p i) = omega (arith, place_depth access (direct p) (direct i), direct_depth p, direct_depth i, some_depth p)
+direct_depth (source.Address bytes access p i) = omega (arith, place_depth access (direct p) (direct i), direct_depth p, direct_depth i, some_depth p)
+direct_depth (source.Moved shift p i) = omega (arith, shifted_depth shift.back shift.size (direct p) (direct i), direct_depth p, direct_depth i, some_depth p)
+direct_depth (source.Added shift i p) = omega (arith, shifted_depth shift.back shift.size (direct p) (direct i), direct_depth p, direct_depth i, some_depth p)
 direct_depth (source.Binary o s at a b) = omega (arith, operated_depth o s (direct a) (direct b), direct_depth a, direct_depth b)
 direct_depth (source.Narrow e) = omega (arith, direct_depth e)
+direct_depth (source.Bare p) = omega (arith, direct_depth p)
+direct_depth (source.Trusted to how p k) = omega (arith, direct_depth p)
 direct_depth e = omega arith
 
-by_depth : (is_one : Bool) (d : Expr) (t : ℕ) → depth d ≤ 400 → depth (if is_one then d else Local t) ≤ 400
+by_depth : (is_one : Bool) (d : Expr) (t : ℕ) → depth d ≤ 800 → depth (if is_one then d else Local t) ≤ 800
 by_depth true d t h = h
 by_depth false d t h = omega arith
 
-operand_depth : (e : source.Expr) (t : ℕ) → form.depth e ≤ 200 → depth (operand e t) ≤ 400
+operand_depth : (e : source.Expr) (t : ℕ) → form.depth e ≤ 200 → depth (operand e t) ≤ 800
 operand_depth e t h = by_depth (is_direct e) (direct e) t (omega (arith, direct_depth e))
 
 by_few : (is_one : Bool) (r n : ℕ) → r ≤ n → (if is_one then 0 else r) ≤ n
@@ -47,12 +96,26 @@ unless_small false x y h k = h
 operand_step : (e : source.Expr) (t : ℕ) (rest : Code) → KeepsLimits (expr_code e t rest) → KeepsLimits rest → KeepsLimits (operand_code e t rest)
 operand_step e t rest h k = unless_small (is_direct e) (expr_code e t rest) rest h k
 
-operation_small : (o : Operation) (s : Bool) (at : Pos) (a b : Expr) (t : ℕ) (rest : Code) → depth a ≤ 400 → depth b ≤ 400 → KeepsLimits rest → KeepsLimits (operation_code o s at a b t rest)
+operation_small : (o : Operation) (s : Bool) (at : Pos) (a b : Expr) (t : ℕ) (rest : Code) → depth a ≤ 800 → depth b ≤ 800 → KeepsLimits rest → KeepsLimits (operation_code o s at a b t rest)
 operation_small o s at a b t rest x y k =
     let value = operated o s a b in
     let value_small : depth value ≤ 1000 = omega (arith, operated_depth o s a b) in
     let divisor : depth b ≤ 1000 = omega arith in
     unless_small (divides o) (Set t value rest) (Check check.Divide at b (Set t value rest)) (value_small, k) (divisor, (value_small, k))
+
+null_small : (access : Access) (a : Expr) (rest : Code) → depth a ≤ 800 → KeepsLimits rest → KeepsLimits (null_check access a rest)
+null_small access a rest h k = unless_small (checks_null access.through) rest (Check check.Null access.at a rest) k (omega arith, k)
+
+-- a value behind an access whose pointer and index are operands
+reached_small : (p i : source.Expr) (t : ℕ) (access : Access) (value : Expr) (rest : Code) → form.depth p ≤ 200 → form.depth i ≤ 200 → depth value ≤ 1000 → KeepsLimits rest
+    → ((rest : Code) → KeepsLimits rest → KeepsLimits (expr_code p t rest)) → ((rest : Code) → KeepsLimits rest → KeepsLimits (expr_code i (t + 1) rest))
+    → KeepsLimits (operand_code p t (operand_code i (t + 1) (null_check access (operand p t) (Set t value rest))))
+reached_small p i t access value rest pointer index small k on_p on_i =
+    let after = null_check access (operand p t) (Set t value rest) in
+    let after_small = null_small access (operand p t) (Set t value rest) (operand_depth p t pointer) (small, k) in
+    let second = operand_code i (t + 1) after in
+    let second_small = operand_step i (t + 1) after (on_i after after_small) after_small in
+    operand_step p t second (on_p second second_small) second_small
 
 expr_small : (e : source.Expr) (t : ℕ) (rest : Code) → form.depth e ≤ 200 → KeepsLimits rest → KeepsLimits (expr_code e t rest)
 expr_small (source.Binary o s at a b) t rest h k =
@@ -91,6 +154,45 @@ expr_small (source.Narrow e) t rest h k =
     let after = Set t (low_byte (operand e t)) rest in
     let after_small : KeepsLimits after = (omega (arith, operand_depth e t inner), k) in
     operand_step e t after (expr_small e t after inner after_small) after_small
+expr_small (source.Load w access p i) t rest h k =
+    let pointer : form.depth p ≤ 200 = omega arith in
+    let index : form.depth i ≤ 200 = omega arith in
+    let value = Load w (place_at access (operand p t) (operand i (t + 1))) in
+    let value_small : depth value ≤ 1000 = omega (arith, place_depth access (operand p t) (operand i (t + 1)), operand_depth p t pointer, operand_depth i (t + 1) index) in
+    reached_small p i t access value rest pointer index value_small k (λ rest k. expr_small p t rest pointer k) (λ rest k. expr_small i (t + 1) rest index k)
+expr_small (source.Member to count access p i) t rest h k =
+    let pointer : form.depth p ≤ 200 = omega arith in
+    let index : form.depth i ≤ 200 = omega arith in
+    let value = Load width.Word (place_at access (operand p t) (operand i (t + 1))) in
+    let value_small : depth value ≤ 1000 = omega (arith, place_depth access (operand p t) (operand i (t + 1)), operand_depth p t pointer, operand_depth i (t + 1) index) in
+    reached_small p i t access value rest pointer index value_small k (λ rest k. expr_small p t rest pointer k) (λ rest k. expr_small i (t + 1) rest index k)
+expr_small (source.Address bytes access p i) t rest h k =
+    let pointer : form.depth p ≤ 200 = omega arith in
+    let index : form.depth i ≤ 200 = omega arith in
+    let value = place_at access (operand p t) (operand i (t + 1)) in
+    let value_small : depth value ≤ 1000 = omega (arith, place_depth access (operand p t) (operand i (t + 1)), operand_depth p t pointer, operand_depth i (t + 1) index) in
+    reached_small p i t access value rest pointer index value_small k (λ rest k. expr_small p t rest pointer k) (λ rest k. expr_small i (t + 1) rest index k)
+expr_small (source.Moved shift p i) t rest h k =
+    let pointer : form.depth p ≤ 200 = omega arith in
+    let index : form.depth i ≤ 200 = omega arith in
+    let after = Set t (shifted shift.back shift.size (operand p t) (operand i (t + 1))) rest in
+    let after_small : KeepsLimits after = (omega (arith, shifted_depth shift.back shift.size (operand p t) (operand i (t + 1)), operand_depth p t pointer, operand_depth i (t + 1) index), k) in
+    let second = operand_code i (t + 1) after in
+    let second_small = operand_step i (t + 1) after (expr_small i (t + 1) after index after_small) after_small in
+    operand_step p t second (expr_small p t second pointer second_small) second_small
+expr_small (source.Added shift i p) t rest h k =
+    let pointer : form.depth p ≤ 200 = omega arith in
+    let index : form.depth i ≤ 200 = omega arith in
+    let after = Set t (shifted shift.back shift.size (operand p (t + 1)) (operand i t)) rest in
+    let after_small : KeepsLimits after = (omega (arith, shifted_depth shift.back shift.size (operand p (t + 1)) (operand i t), operand_depth p (t + 1) pointer, operand_depth i t index), k) in
+    let second = operand_code p (t + 1) after in
+    let second_small = operand_step p (t + 1) after (expr_small p (t + 1) after pointer after_small) after_small in
+    operand_step i t second (expr_small i t second index second_small) second_small
+expr_small (source.Bare p) t rest h k = expr_small p t rest (omega arith) k
+expr_small (source.Trusted to how p k) t rest h small =
+    let count : form.depth k ≤ 200 = omega arith in
+    let second = operand_code k (t + 1) rest in
+    expr_small p t second (omega arith) (operand_step k (t + 1) rest (expr_small k (t + 1) rest count small) small)
 expr_small e t rest h k = (omega arith, k)
 
 operand_small : (e : source.Expr) (t : ℕ) (rest : Code) → form.depth e ≤ 200 → KeepsLimits rest → KeepsLimits (operand_code e t rest)
@@ -105,6 +207,19 @@ expr_room_few (source.Or a b) =
     omega (arith, by_few (is_direct a) (expr_room a) (form.depth a) (expr_room_few a), by_few (is_direct b) (expr_room b) (form.depth b) (expr_room_few b))
 expr_room_few (source.Choice c a b) =
     omega (arith, by_few (is_direct c) (expr_room c) (form.depth c) (expr_room_few c), expr_room_few a, expr_room_few b)
+expr_room_few (source.Load w access p i) =
+    omega (arith, by_few (is_direct p) (expr_room p) (form.depth p) (expr_room_few p), by_few (is_direct i) (expr_room i) (form.depth i) (expr_room_few i))
+expr_room_few (source.Member to count access p i) =
+    omega (arith, by_few (is_direct p) (expr_room p) (form.depth p) (expr_room_few p), by_few (is_direct i) (expr_room i) (form.depth i) (expr_room_few i))
+expr_room_few (source.Address bytes access p i) =
+    omega (arith, by_few (is_direct p) (expr_room p) (form.depth p) (expr_room_few p), by_few (is_direct i) (expr_room i) (form.depth i) (expr_room_few i))
+expr_room_few (source.Moved shift p i) =
+    omega (arith, by_few (is_direct p) (expr_room p) (form.depth p) (expr_room_few p), by_few (is_direct i) (expr_room i) (form.depth i) (expr_room_few i))
+expr_room_few (source.Added shift i p) =
+    omega (arith, by_few (is_direct p) (expr_room p) (form.depth p) (expr_room_few p), by_few (is_direct i) (expr_room i) (form.depth i) (expr_room_few i))
+expr_room_few (source.Bare p) = omega (arith, expr_room_few p)
+expr_room_few (source.Trusted to how p k) =
+    omega (arith, expr_room_few p, by_few (is_direct k) (expr_room k) (form.depth k) (expr_room_few k))
 expr_room_few (source.Narrow e) = omega (arith, by_few (is_direct e) (expr_room e) (form.depth e) (expr_room_few e))
 expr_room_few e = omega arith
 
@@ -112,39 +227,76 @@ operand_room_few : (e : source.Expr) → form.depth e ≤ 200 → operand_room e
 operand_room_few e h = let least = by_few (is_direct e) (expr_room e) (form.depth e) (expr_room_few e) in omega arith
 
 module _ (few : ℕ) where
-  operands_code_small : (es : List source.Expr) (t : ℕ) (rest : Code) → All (IsIntegerPart few) es → KeepsLimits rest → KeepsLimits (operands_code es t rest)
+  operands_code_small : (es : List source.Expr) (t : ℕ) (rest : Code) → All (IsCompilablePart few) es → KeepsLimits rest → KeepsLimits (operands_code es t rest)
   operands_code_small [] t rest h k = k
   operands_code_small (e ∷ es) t rest h k =
-      operand_small e t (operands_code es (t + 1) rest) (All-head (IsIntegerPart few) e es h).1
-      (operands_code_small es (t + 1) rest (All-tail (IsIntegerPart few) e es h) k)
+      operand_small e t (operands_code es (t + 1) rest) (All-head (IsCompilablePart few) e es h).1
+      (operands_code_small es (t + 1) rest (All-tail (IsCompilablePart few) e es h) k)
 
-  operands_small : (es : List source.Expr) (t : ℕ) → All (IsIntegerPart few) es → All IsShallow (operands es t)
+  operands_small : (es : List source.Expr) (t : ℕ) → All (IsCompilablePart few) es → All IsShallow (operands es t)
   operands_small [] t h = All-nil IsShallow
   operands_small (e ∷ es) t h =
-      All-cons IsShallow (operand e t) (operands es (t + 1)) (omega (arith, operand_depth e t (All-head (IsIntegerPart few) e es h).1))
-      (operands_small es (t + 1) (All-tail (IsIntegerPart few) e es h))
+      All-cons IsShallow (operand e t) (operands es (t + 1)) (omega (arith, operand_depth e t (All-head (IsCompilablePart few) e es h).1))
+      (operands_small es (t + 1) (All-tail (IsCompilablePart few) e es h))
 
-  operands_room_few : (es : List source.Expr) → All (IsIntegerPart few) es → operands_room es ≤ length es + 200
+  operands_room_few : (es : List source.Expr) → All (IsCompilablePart few) es → operands_room es ≤ length es + 200
   operands_room_few [] h = omega arith
   operands_room_few (e ∷ es) h =
-      omega (arith, operand_room_few e (All-head (IsIntegerPart few) e es h).1, operands_room_few es (All-tail (IsIntegerPart few) e es h))
+      omega (arith, operand_room_few e (All-head (IsCompilablePart few) e es h).1, operands_room_few es (All-tail (IsCompilablePart few) e es h))
 
 -- ---- statements
 
-written_small : (target : source.Target) (is_byte : Bool) (e : Expr) (rest : Code) → depth e ≤ 900 → KeepsLimits rest → KeepsLimits (written target is_byte e rest)
-written_small source.Nothing is_byte e rest h k = k
-written_small (source.Variable x width.Word) is_byte e rest h k = (omega arith, k)
-written_small (source.Variable x width.Byte) true e rest h k = (omega arith, k)
-written_small (source.Variable x width.Byte) false e rest h k = (omega arith, k)
-written_small (source.Memory w access p i) is_byte e rest h k = (omega arith, omega arith, k)
+-- the place of a target is found, and then a value is written
+aim_small : (few t : ℕ) (target : source.Target) (rest : Code) → IsCompilableTarget few target → KeepsLimits rest → KeepsLimits (aim_code target t rest)
+aim_small few t source.Nothing rest h k = k
+aim_small few t (source.Variable x w) rest h k = k
+aim_small few t (source.Memory w access p i) rest h k =
+    let pointer = h.1 in
+    let index = h.2 in
+    let after_small = null_small access (operand p t) rest (operand_depth p t pointer.1) k in
+    let after = null_check access (operand p t) rest in
+    operand_small p t (operand_code i (t + 1) after) pointer.1 (operand_small i (t + 1) after index.1 after_small)
 
-right_small : (few : ℕ) (target : source.Target) (right : source.Right) (t : ℕ) (rest : Code) → IsIntegerRight few right → KeepsLimits rest → KeepsLimits (right_assigned target right t rest)
-right_small few source.Nothing (source.Value e) t rest h k = expr_small e t rest h.1 k
-right_small few (source.Variable x w) (source.Value e) t rest h k =
-    operand_small e t _ h.1 (written_small (source.Variable x w) (is_narrow e) (operand e t) rest (omega (arith, operand_depth e t h.1)) k)
-right_small few (source.Memory w access p i) (source.Value e) t rest h k =
-    operand_small e t _ h.1 (written_small (source.Memory w access p i) (is_narrow e) (operand e t) rest (omega (arith, operand_depth e t h.1)) k)
-right_small few target (source.Fresh to e) t rest h k = k
+written_small : (few t : ℕ) (target : source.Target) (is_byte : Bool) (e : Expr) (rest : Code) → IsCompilableTarget few target → depth e ≤ 900 → KeepsLimits rest → KeepsLimits (written target t is_byte e rest)
+written_small few t source.Nothing is_byte e rest s h k = k
+written_small few t (source.Variable x width.Word) is_byte e rest s h k = (omega arith, k)
+written_small few t (source.Variable x width.Byte) true e rest s h k = (omega arith, k)
+written_small few t (source.Variable x width.Byte) false e rest s h k = (omega arith, k)
+written_small few t (source.Memory w access p i) is_byte e rest s h k =
+    let pointer = s.1 in
+    let index = s.2 in
+    (omega (arith, place_depth access (operand p t) (operand i (t + 1)), operand_depth p t pointer.1, operand_depth i (t + 1) index.1), omega arith, k)
+
+fixed_small : (few t : ℕ) (target : source.Target) (rest : Code) → IsCompilableTarget few target → KeepsLimits rest → KeepsLimits (fixed target t rest)
+fixed_small few t source.Nothing rest s k = k
+fixed_small few t (source.Variable x w) rest s k = k
+fixed_small few t (source.Memory w access p i) rest s k =
+    let pointer = s.1 in
+    let index = s.2 in
+    (omega (arith, place_depth access (operand p t) (operand i (t + 1)), operand_depth p t pointer.1, operand_depth i (t + 1) index.1), k)
+
+there_small : (few t : ℕ) (target : source.Target) (e : Expr) (rest : Code) → depth e ≤ 900 → KeepsLimits rest → KeepsLimits (written_there target t e rest)
+there_small few t source.Nothing e rest h k = k
+there_small few t (source.Variable x width.Word) e rest h k = (omega arith, k)
+there_small few t (source.Variable x width.Byte) e rest h k = (omega arith, k)
+there_small few t (source.Memory w access p i) e rest h k = (omega arith, omega arith, k)
+
+assigned_small : (few t : ℕ) (target : source.Target) (e : source.Expr) (rest : Code) → IsCompilableTarget few target → form.depth e ≤ 200 → KeepsLimits rest
+    → KeepsLimits (aim_code target t (operand_code e (t + target_count target) (written target t (is_narrow e) (operand e (t + target_count target)) rest)))
+assigned_small few t target e rest s h k =
+    let u = t + target_count target in
+    aim_small few t target _ s
+    (operand_small e u _ h (written_small few t target (is_narrow e) (operand e u) rest s (omega (arith, operand_depth e u h)) k))
+
+right_small : (few t : ℕ) (target : source.Target) (right : source.Right) (rest : Code) → IsCompilableTarget few target → IsCompilableRight few right → KeepsLimits rest → KeepsLimits (right_assigned target right t rest)
+right_small few t source.Nothing (source.Value e) rest s h k = expr_small e t rest h.1 k
+right_small few t (source.Variable x w) (source.Value e) rest s h k = assigned_small few t (source.Variable x w) e rest s h.1 k
+right_small few t (source.Memory w access p i) (source.Value e) rest s h k = assigned_small few t (source.Memory w access p i) e rest s h.1 k
+right_small few t target (source.Fresh to e) rest s h k =
+    let u = t + target_count target in
+    let part = h.0 in
+    let last = there_small few t target (Local u) rest (omega arith) k in
+    aim_small few t target _ s (fixed_small few t target _ s (operand_small e u _ part.1 (omega (arith, operand_depth e u part.1), last)))
 
 result_small : (target : Option Kept) (t : ℕ) (rest : Code) → KeepsLimits rest → KeepsLimits (result_kept target t rest)
 result_small None t rest k = k
@@ -152,22 +304,36 @@ result_small (Some (kept.Local x width.Byte)) t rest k = (omega arith, k)
 result_small (Some (kept.Local x width.Word)) t rest k = k
 result_small (Some (kept.Static a w)) t rest k = (omega arith, omega arith, k)
 
-right_room_few : (few : ℕ) (target : source.Target) (right : source.Right) → IsIntegerRight few right → assigned_room target right ≤ 200
-right_room_few few source.Nothing (source.Value e) h = omega (arith, expr_room_few e)
-right_room_few few (source.Variable x w) (source.Value e) h = operand_room_few e h.1
-right_room_few few (source.Memory w access p i) (source.Value e) h = operand_room_few e h.1
-right_room_few few target (source.Fresh to e) h = omega arith
+aimed_room_few : (few r : ℕ) (target : source.Target) → IsCompilableTarget few target → r ≤ 200 → aimed_room target r ≤ 202
+aimed_room_few few r source.Nothing h k = omega arith
+aimed_room_few few r (source.Variable x w) h k = omega arith
+aimed_room_few few r (source.Memory w access p i) h k =
+    let pointer = h.1 in
+    let index = h.2 in
+    omega (arith, operand_room_few p pointer.1, operand_room_few i index.1)
+
+right_room_few : (few : ℕ) (target : source.Target) (right : source.Right) → IsCompilableTarget few target → IsCompilableRight few right → assigned_room target right ≤ 202
+right_room_few few source.Nothing (source.Value e) s h = omega (arith, expr_room_few e)
+right_room_few few (source.Variable x w) (source.Value e) s h = aimed_room_few few (operand_room e) (source.Variable x w) s (operand_room_few e h.1)
+right_room_few few (source.Memory w access p i) (source.Value e) s h = aimed_room_few few (operand_room e) (source.Memory w access p i) s (operand_room_few e h.1)
+right_room_few few target (source.Fresh to e) s h =
+    let part = h.0 in
+    aimed_room_few few (max 1 (operand_room e)) target s (omega (arith, operand_room_few e part.1))
 
 module _ (functions : List source.Function) (few : ℕ) (call_few : (n i : ℕ) → form.HasParams n (slice_get functions i) → n ≤ 255) where
-  statements_small : (code : source.Code) (looped : Bool) → IsIntegerCode functions few looped code → KeepsLimits (statements few code)
+  statements_small : (code : source.Code) (looped : Bool) → IsCompilableCode functions few looped code → KeepsLimits (statements few code)
   statements_small source.End looped h = tt
-  statements_small (source.Assign spot target right rest) looped h = right_small few target right few (statements few rest) h.1 (statements_small rest looped h.2)
+  statements_small (source.Assign spot target right rest) looped h = right_small few few target right (statements few rest) h.0 h.1 (statements_small rest looped h.2)
   statements_small (source.Bundle spot assigns rest) looped h = absurd h
-  statements_small (source.Get spot target rest) looped h = written_small target false (Local few) (statements few rest) (omega arith) (statements_small rest looped h.1)
+  statements_small (source.Get spot target rest) looped h =
+      aim_small few few target _ h.0 (written_small few few target false (Local (few + target_count target)) (statements few rest) h.0 (omega arith) (statements_small rest looped h.1))
   statements_small (source.Put spot target e rest) looped h =
-      let shallow = operand_depth e few h.1.1 in
-      operand_small e few _ h.1.1
-      (omega arith, written_small target true (low_byte (operand e few)) (statements few rest) (omega arith) (statements_small rest looped h.2))
+      let part = h.1 in
+      let u = few + target_count target in
+      let shallow = operand_depth e u part.1 in
+      aim_small few few target _ h.0
+      (operand_small e u _ part.1
+      (omega (arith, shallow), written_small few few target true (low_byte (operand e u)) (statements few rest) h.0 (omega (arith, shallow)) (statements_small rest looped h.2)))
   statements_small (source.Call spot target callee es rest) looped h =
       let count : length es ≤ 255 = call_few (length es) callee h.1 in
       operands_code_small few es few _ h.2
@@ -187,12 +353,13 @@ module _ (functions : List source.Function) (few : ℕ) (call_few : (n i : ℕ) 
   statements_small (source.Check spot e rest) looped h =
       operand_small e few _ h.1.1 (omega (arith, operand_depth e few h.1.1), statements_small rest looped h.2)
 
-  room_few : (code : source.Code) (looped : Bool) → IsIntegerCode functions few looped code → room code ≤ 455
+  room_few : (code : source.Code) (looped : Bool) → IsCompilableCode functions few looped code → room code ≤ 455
   room_few source.End looped h = omega arith
-  room_few (source.Assign spot target right rest) looped h = omega (arith, right_room_few few target right h.1, room_few rest looped h.2)
+  room_few (source.Assign spot target right rest) looped h = omega (arith, right_room_few few target right h.0 h.1, room_few rest looped h.2)
   room_few (source.Bundle spot assigns rest) looped h = absurd h
-  room_few (source.Get spot target rest) looped h = omega (arith, room_few rest looped h.1)
-  room_few (source.Put spot target e rest) looped h = omega (arith, operand_room_few e h.1.1, room_few rest looped h.2)
+  room_few (source.Get spot target rest) looped h = omega (arith, aimed_room_few few 1 target h.0 (omega arith), room_few rest looped h.1)
+  room_few (source.Put spot target e rest) looped h =
+      omega (arith, aimed_room_few few (operand_room e) target h.0 (operand_room_few e h.1.1), room_few rest looped h.2)
   room_few (source.Call spot target callee es rest) looped h =
       omega (arith, call_few (length es) callee h.1, operands_room_few few es h.2, room_few rest looped h.4)
   room_few (source.If spot e one two rest) looped h =
@@ -207,26 +374,26 @@ module _ (functions : List source.Function) (few : ℕ) (call_few : (n i : ℕ) 
 -- ---- functions and programs
 
 -- a call has at most 255 arguments
-few_params : (all functions : List source.Function) → All (IsIntegerFunction all) functions → (n i : ℕ) → form.HasParams n (slice_get functions i) → n ≤ 255
+few_params : (all functions : List source.Function) → All (IsCompilableFunction all) functions → (n i : ℕ) → form.HasParams n (slice_get functions i) → n ≤ 255
 few_params all [] w n i h = absurd h
 few_params all (f ∷ functions) w n zero h =
-    let one = All-head (IsIntegerFunction all) f functions w in omega (arith, one.params, one.locals, h)
-few_params all (f ∷ functions) w n (suc i) h = few_params all functions (All-tail (IsIntegerFunction all) f functions w) n i h
+    let one = All-head (IsCompilableFunction all) f functions w in omega (arith, one.params, one.locals, h)
+few_params all (f ∷ functions) w n (suc i) h = few_params all functions (All-tail (IsCompilableFunction all) f functions w) n i h
 
 zeroed_small : (x count : ℕ) (rest : Code) → KeepsLimits rest → KeepsLimits (zeroed x count rest)
 zeroed_small x zero rest k = k
 zeroed_small x (suc count) rest k = (omega arith, zeroed_small (x + 1) count rest k)
 
 function_small : (functions : List source.Function) (f : source.Function) → ((n i : ℕ) → form.HasParams n (slice_get functions i) → n ≤ 255)
-    → IsIntegerFunction functions f → IsSmallFunction (function_code f)
+    → IsCompilableFunction functions f → IsSmallFunction (function_code f)
 function_small functions f few w = (
   omega (arith, w.locals, room_few functions f.locals few f.body false w.body),
   zeroed_small f.params (f.locals - f.params) (statements f.locals f.body) (statements_small functions f.locals few f.body false w.body),
 )
 
 -- the core code of a program of integers keeps the limits
-pub inserted_small : (p : source.Program) → IsIntegerProgram p → IsWithinLimits (inserted p)
+pub inserted_small : (p : source.Program) → IsCompilable p → IsWithinLimits (inserted p)
 inserted_small p w =
     let few = few_params p.functions p.functions w.functions in
     All-map IsSmallFunction function_code p.functions
-    (All-weaker (IsIntegerFunction p.functions) (λ f. IsSmallFunction (function_code f)) (λ f h. function_small p.functions f few h) p.functions w.functions)
+    (All-weaker (IsCompilableFunction p.functions) (λ f. IsSmallFunction (function_code f)) (λ f h. function_small p.functions f few h) p.functions w.functions)

@@ -1,12 +1,12 @@
 -- What stands in a list of statements that is built from its end. Private contracts alone speak of it.
-use Rattle.std.specs.Prelude.{ℕ, Bool, true, false, List, reverse, Option}
+use Rattle.std.specs.Prelude.{ℕ, ◌+◌, Bool, true, false, List, reverse, Option}
 use Rattle.ckc_base.specs.declared.places.Pos.{Pos}
 use Rattle.ckc_base.specs.declared.runtime_checks.Check.TheVariants as check
 use Rattle.ckc_core.specs.declared.code.CoreStmt.{CoreStmt}
-use Rattle.ckc_core.specs.Code.{Code, End, Put, Call, If, Loop, Break, Return, Check, code_of}
+use Rattle.ckc_core.specs.Code.{Local, Code, End, Get, Put, Call, If, Loop, Break, Return, Check, code_of}
 use Rattle.ckc_source.specs.declared.stmt.Kept.{Kept}
 use Rattle.ckc_source.specs.Code as source
-use Rattle.ckc_checks.specs.Inserted.{expr_code, expr_room, operand_room, operand_code, operand, operands_code, operands, low_byte, written, result_in, result_kept}
+use Rattle.ckc_checks.specs.Inserted.{expr_code, expr_room, operand_room, operand_code, operand, operands_code, operands, operand_used, low_byte, aim_code, target_count, written, result_in, result_kept}
 
 -- the code of statements from the last one to the first
 unfoldable pub behind : List CoreStmt → Code
@@ -18,7 +18,12 @@ expr_code_if true e t rest = expr_code e t rest
 expr_code_if false e t rest = operand_code e t rest
 
 abbrev pub put_code : source.Target → source.Expr → ℕ → Code → Code
-put_code target e t rest = operand_code e t (Put (operand e t) (written target true (low_byte (operand e t)) rest))
+put_code target e t rest =
+    aim_code target t (operand_used e (t + target_count target) (λ value. Put value (written target t true (low_byte value) rest)))
+
+abbrev pub get_code : source.Target → ℕ → Code → Code
+get_code target t rest =
+    aim_code target t (Get (t + target_count target) (written target t false (Local (t + target_count target)) rest))
 
 abbrev pub call_code : Option Kept → ℕ → List source.Expr → Pos → ℕ → Code → Code
 call_code target callee es at t rest =

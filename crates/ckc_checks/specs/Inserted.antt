@@ -1,13 +1,16 @@
--- The core code of a source program in the integer form. It mirrors what `insert` makes and need not be believed: the
+-- The core code of a source program. It mirrors what `insert` makes and need not be believed: the
 -- contract of `insert` says how core code follows the program.
-use Rattle.std.specs.Prelude.{ℕ, zero, suc, ◌+◌, ◌-◌, ◌/◌, ◌%◌, max, Bool, true, false, not, ◌&&◌, if◌then◌else◌, List, [], ◌∷◌, ◌++◌, map, length, replicate, Option, Some, None}
+use Rattle.std.specs.Prelude.{ℕ, zero, suc, ◌+◌, ◌-◌, ◌/◌, ◌%◌, max, Bool, true, false, not, ◌&&◌, ◌==◌, if◌then◌else◌, List, [], ◌∷◌, ◌++◌, map, length, replicate, Option, Some, None}
 use Rattle.ckc_base.specs.declared.arithmetic.BinOp.TheVariants as binary
 use Rattle.ckc_base.specs.declared.arithmetic.Width.{Width}
 use Rattle.ckc_base.specs.declared.arithmetic.Width.TheVariants as width
 use Rattle.ckc_base.specs.declared.places.Pos.{Pos}
 use Rattle.ckc_base.specs.declared.runtime_checks.Check.TheVariants as check
 use Rattle.ckc_base.specs.Memory.{data_start}
+use Rattle.ckc_base.specs.Words.{applied}
 use Rattle.ckc_source.specs.declared.expr.Access.{Access}
+use Rattle.ckc_source.specs.declared.expr.Through.{Through}
+use Rattle.ckc_source.specs.declared.expr.Through.TheVariants.{Named, Raw, One}
 use Rattle.ckc_source.specs.declared.expr.Operation.{Operation}
 use Rattle.ckc_source.specs.declared.expr.Operation.TheVariants.{Lt, Le, Gt, Ge}
 use Rattle.ckc_source.specs.declared.program.Object.{Object}
@@ -17,17 +20,30 @@ use Rattle.ckc_source.specs.Code as source
 use Rattle.ckc_source.specs.Blocks.{block_of, place_behind, first_place}
 use Rattle.ckc_source.specs.Eval.{place_in}
 use Rattle.ckc_source.specs.Words.{operator, divides}
-use Rattle.ckc_core.specs.Code.{Expr, Const, Local, Load, Bin, Code, End, Set, Store, Check, Call, Get, Put, If, Loop, Break, Continue, Return, Function, Program}
+use Rattle.ckc_core.specs.Code.{Expr, Const, Local, Load, Bin, Code, End, Set, Store, Check, Call, Get, Put, Alloc, If, Loop, Break, Continue, Return, Function, Program}
 
 -- ---- expressions
 
--- A direct expression is one expression of core code: it has no division, no remainder and no branch.
+-- an access that has no checks
+abbrev pub is_unchecked : Through → Bool
+is_unchecked Named = true
+is_unchecked Raw = true
+is_unchecked _ = false
+
+-- A direct expression is one expression of core code: it has no division, no remainder, no branch and no check.
 abbrev pub is_direct : source.Expr → Bool
+is_direct (source.Load width access p i) = is_unchecked access.through && (is_direct p && is_direct i)
+is_direct (source.Member to count access p i) = is_unchecked access.through && (is_direct p && is_direct i)
+is_direct (source.Address bytes access p i) = is_unchecked access.through && (is_direct p && is_direct i)
+is_direct (source.Moved shift p i) = is_direct p && is_direct i
+is_direct (source.Added shift i p) = is_direct i && is_direct p
 is_direct (source.Binary operation is_signed at a b) = not (divides operation) && is_direct a && is_direct b
 is_direct (source.And a b) = false
 is_direct (source.Or a b) = false
 is_direct (source.Choice c a b) = false
 is_direct (source.Narrow e) = is_direct e
+is_direct (source.Bare p) = is_direct p
+is_direct (source.Trusted to form p k) = is_direct p && is_direct k
 is_direct _ = true
 
 -- a > b is b < a, and a <= b is where a > b is not
@@ -43,21 +59,48 @@ low_byte e = Bin binary.And e (Const 255)
 abbrev pub as_truth : Expr → Expr
 as_truth e = Bin binary.Ne e (Const 0)
 
-abbrev pub number_of : source.Expr → ℕ
-number_of (source.Number n) = n
-number_of _ = 0
+abbrev pub is_zero : Expr → Bool
+is_zero (Const n) = n == 0
+is_zero _ = false
 
--- the place of a named static
-abbrev pub fixed_place : Access → source.Expr → ℕ
-fixed_place access p = place_in (number_of p) access.offset
+-- so many elements of a size
+abbrev pub scaled : ℕ → Expr → Expr
+scaled size (Const n) = Const (applied binary.Mul size n)
+scaled size e = if size == 1 then e else Bin binary.Mul (Const size) e
+
+-- an address so many elements of a size further on, or back
+abbrev pub shifted : Bool → ℕ → Expr → Expr → Expr
+shifted back size a i = if is_zero i then a else Bin (if back then binary.Sub else binary.Add) a (scaled size i)
+
+-- an address so many bytes further on
+abbrev pub at_offset : ℕ → Expr → Expr
+at_offset offset (Const n) = Const (place_in n offset)
+at_offset offset e = if offset == 0 then e else Bin binary.Add e (Const offset)
+
+-- the element that an access goes to, through a pointer at an index
+abbrev pub element_of : Through → ℕ → Expr → Expr → Expr
+element_of Raw size a i = shifted false size a i
+element_of _ size a i = a
+
+-- the place that an access goes to
+abbrev pub place_at : Access → Expr → Expr → Expr
+place_at access a i = at_offset access.offset (element_of access.through access.size a i)
 
 -- the core expression of a direct expression
 abbrev pub direct : source.Expr → Expr
 direct (source.Number n) = Const n
 direct (source.Local x) = Local x
-direct (source.Load width access p i) = Load width (Const (fixed_place access p))
+direct (source.Limited x limits) = Local x
+direct (source.Array at bytes) = Const at
+direct (source.Load width access p i) = Load width (place_at access (direct p) (direct i))
+direct (source.Member to count access p i) = Load width.Word (place_at access (direct p) (direct i))
+direct (source.Address bytes access p i) = place_at access (direct p) (direct i)
+direct (source.Moved shift p i) = shifted shift.back shift.size (direct p) (direct i)
+direct (source.Added shift i p) = shifted shift.back shift.size (direct p) (direct i)
 direct (source.Binary operation is_signed at a b) = operated operation is_signed (direct a) (direct b)
 direct (source.Narrow e) = low_byte (direct e)
+direct (source.Bare p) = direct p
+direct (source.Trusted to form p k) = direct p
 direct _ = Const 0
 
 -- where the value of an expression is: where it stands, or in the temporary t
@@ -76,9 +119,32 @@ divide_check operation at b rest = if divides operation then Check check.Divide 
 abbrev pub operation_code : Operation → Bool → Pos → Expr → Expr → ℕ → Code → Code
 operation_code operation is_signed at a b t rest = divide_check operation at b (Set t (operated operation is_signed a b) rest)
 
+abbrev pub checks_null : Through → Bool
+checks_null One = true
+checks_null _ = false
+
+-- an access through a checked pointer stops at null
+abbrev pub null_check : Access → Expr → Code → Code
+null_check access a rest = if checks_null access.through then Check check.Null access.at a rest else rest
+
 -- The value of an expression goes to the local t, and then comes the rest. Of the locals only those from t on are
 -- written. The code of the operands is made of `expr_code e t` behind `unless_direct e`.
 abbrev pub expr_code : source.Expr → ℕ → Code → Code
+expr_code (source.Load width access p i) t rest =
+    unless_direct p (expr_code p t) (unless_direct i (expr_code i (t + 1))
+    (null_check access (operand p t) (Set t (Load width (place_at access (operand p t) (operand i (t + 1)))) rest)))
+expr_code (source.Member to count access p i) t rest =
+    unless_direct p (expr_code p t) (unless_direct i (expr_code i (t + 1))
+    (null_check access (operand p t) (Set t (Load width.Word (place_at access (operand p t) (operand i (t + 1)))) rest)))
+expr_code (source.Address bytes access p i) t rest =
+    unless_direct p (expr_code p t) (unless_direct i (expr_code i (t + 1))
+    (null_check access (operand p t) (Set t (place_at access (operand p t) (operand i (t + 1))) rest)))
+expr_code (source.Moved shift p i) t rest =
+    unless_direct p (expr_code p t) (unless_direct i (expr_code i (t + 1))
+    (Set t (shifted shift.back shift.size (operand p t) (operand i (t + 1))) rest))
+expr_code (source.Added shift i p) t rest =
+    unless_direct i (expr_code i t) (unless_direct p (expr_code p (t + 1))
+    (Set t (shifted shift.back shift.size (operand p (t + 1)) (operand i t)) rest))
 expr_code (source.Binary operation is_signed at a b) t rest =
     unless_direct a (expr_code a t) (unless_direct b (expr_code b (t + 1))
     (operation_code operation is_signed at (operand a t) (operand b (t + 1)) t rest))
@@ -91,6 +157,8 @@ expr_code (source.Or a b) t rest =
 expr_code (source.Choice c a b) t rest =
     unless_direct c (expr_code c t) (If (operand c t) (expr_code a t End) (expr_code b t End) rest)
 expr_code (source.Narrow e) t rest = unless_direct e (expr_code e t) (Set t (low_byte (operand e t)) rest)
+expr_code (source.Bare p) t rest = expr_code p t rest
+expr_code (source.Trusted to form p k) t rest = expr_code p t (unless_direct k (expr_code k (t + 1)) rest)
 expr_code e t rest = Set t (direct e) rest
 
 -- what an operand needs in front of it
@@ -112,12 +180,24 @@ unless_direct_room e room = if is_direct e then 0 else room
 
 -- how many locals from t on `expr_code` may write
 abbrev pub expr_room : source.Expr → ℕ
+expr_room (source.Load width access p i) =
+    max (unless_direct_room p (expr_room p)) (1 + unless_direct_room i (expr_room i))
+expr_room (source.Member to count access p i) =
+    max (unless_direct_room p (expr_room p)) (1 + unless_direct_room i (expr_room i))
+expr_room (source.Address bytes access p i) =
+    max (unless_direct_room p (expr_room p)) (1 + unless_direct_room i (expr_room i))
+expr_room (source.Moved shift p i) =
+    max (unless_direct_room p (expr_room p)) (1 + unless_direct_room i (expr_room i))
+expr_room (source.Added shift i p) =
+    max (unless_direct_room i (expr_room i)) (1 + unless_direct_room p (expr_room p))
 expr_room (source.Binary operation is_signed at a b) =
     max (unless_direct_room a (expr_room a)) (1 + unless_direct_room b (expr_room b))
 expr_room (source.And a b) = max 1 (max (unless_direct_room a (expr_room a)) (unless_direct_room b (expr_room b)))
 expr_room (source.Or a b) = max 1 (max (unless_direct_room a (expr_room a)) (unless_direct_room b (expr_room b)))
 expr_room (source.Choice c a b) = max (unless_direct_room c (expr_room c)) (max (expr_room a) (expr_room b))
 expr_room (source.Narrow e) = max 1 (unless_direct_room e (expr_room e))
+expr_room (source.Bare p) = expr_room p
+expr_room (source.Trusted to form p k) = max (expr_room p) (1 + unless_direct_room k (expr_room k))
 expr_room _ = 1
 
 abbrev pub operand_room : source.Expr → ℕ
@@ -138,20 +218,54 @@ abbrev pub kept_in : Width → Bool → Expr → Expr
 kept_in width.Byte is_byte e = if is_byte then e else low_byte e
 kept_in width.Word is_byte e = e
 
--- a value that the target keeps, by whether it is a byte already
-abbrev pub written : source.Target → Bool → Expr → Code → Code
-written source.Nothing is_byte e rest = rest
-written (source.Variable x width) is_byte e rest = Set x (kept_in width is_byte e) rest
-written (source.Memory width access p i) is_byte e rest = Store width (Const (fixed_place access p)) e rest
+-- what finds the place of a target in memory
+abbrev pub aim_code : source.Target → ℕ → Code → Code
+aim_code (source.Memory width access p i) t rest =
+    operand_code p t (operand_code i (t + 1) (null_check access (operand p t) rest))
+aim_code _ t rest = rest
 
--- An assignment. Where nothing is assigned, the value goes to the temporary t.
+-- how many temporaries keep the place of a target
+abbrev pub target_count : source.Target → ℕ
+target_count (source.Memory width access p i) = 2
+target_count _ = 0
+
+-- A value that a target keeps whose place is found in the temporaries from t on, by whether it is a byte already.
+abbrev pub written : source.Target → ℕ → Bool → Expr → Code → Code
+written source.Nothing t is_byte e rest = rest
+written (source.Variable x width) t is_byte e rest = Set x (kept_in width is_byte e) rest
+written (source.Memory width access p i) t is_byte e rest = Store width (place_at access (operand p t) (operand i (t + 1))) e rest
+
+-- an operand in front of what uses it, in a temporary
+abbrev pub operand_used : source.Expr → ℕ → (Expr → Code) → Code
+operand_used e t go = operand_code e t (go (operand e t))
+
+-- A value is assigned. Where nothing is assigned, it goes to the temporary t.
 abbrev pub assigned : source.Target → source.Expr → ℕ → Code → Code
 assigned source.Nothing e t rest = expr_code e t rest
-assigned target e t rest = operand_code e t (written target (is_narrow e) (operand e t) rest)
+assigned target e t rest =
+    aim_code target t (operand_used e (t + target_count target) (λ value. written target t (is_narrow e) value rest))
 
+-- a fresh block is taken, whose address goes to the local u
+abbrev pub taken : source.Expr → ℕ → ℕ → Code → Code
+taken e size u rest = operand_used e u (λ count. Alloc u count size rest)
+
+-- the place of a target in memory goes to the temporary t
+abbrev pub fixed : source.Target → ℕ → Code → Code
+fixed (source.Memory width access p i) t rest = Set t (place_at access (operand p t) (operand i (t + 1))) rest
+fixed _ t rest = rest
+
+-- a value that a target keeps whose place is in the temporary t
+abbrev pub written_there : source.Target → ℕ → Expr → Code → Code
+written_there source.Nothing t e rest = rest
+written_there (source.Variable x width) t e rest = Set x (kept_in width false e) rest
+written_there (source.Memory width access p i) t e rest = Store width (Local t) e rest
+
+-- A fresh block changes memory, so the place of a target is found before.
 abbrev pub right_assigned : source.Target → source.Right → ℕ → Code → Code
 right_assigned target (source.Value e) t rest = assigned target e t rest
-right_assigned target (source.Fresh to e) t rest = rest
+right_assigned target (source.Fresh to e) t rest =
+    aim_code target t (fixed target t (taken e to.size (t + target_count target)
+    (written_there target t (Local (t + target_count target)) rest)))
 
 -- where a call puts its result
 abbrev pub result_in : Option Kept → ℕ → Option ℕ
@@ -171,9 +285,12 @@ abbrev pub statements : ℕ → source.Code → Code
 statements t source.End = End
 statements t (source.Assign spot target right rest) = right_assigned target right t (statements t rest)
 statements t (source.Bundle spot assigns rest) = statements t rest
-statements t (source.Get spot target rest) = Get t (written target false (Local t) (statements t rest))
+statements t (source.Get spot target rest) =
+    aim_code target t (Get (t + target_count target)
+    (written target t false (Local (t + target_count target)) (statements t rest)))
 statements t (source.Put spot target e rest) =
-    operand_code e t (Put (operand e t) (written target true (low_byte (operand e t)) (statements t rest)))
+    aim_code target t (operand_used e (t + target_count target) (λ value.
+    Put value (written target t true (low_byte value) (statements t rest))))
 statements t (source.Call spot target callee es rest) =
     operands_code es t (Call (result_in target t) callee (operands es t) spot.at (result_kept target t (statements t rest)))
 statements t (source.If spot e one two rest) =
@@ -186,18 +303,27 @@ statements t (source.Return spot e rest) = operand_code e t (Return (operand e t
 statements t (source.Check spot e rest) =
     operand_code e t (Check check.Dynamic spot.at (operand e t) (statements t rest))
 
+-- how many temporaries finding the place of a target needs
+abbrev pub target_room : source.Target → ℕ
+target_room (source.Memory width access p i) = max (operand_room p) (1 + operand_room i)
+target_room _ = 0
+
+-- how many temporaries a target and so many for its value need
+abbrev pub aimed_room : source.Target → ℕ → ℕ
+aimed_room target room = max (target_room target) (target_count target + room)
+
 abbrev pub assigned_room : source.Target → source.Right → ℕ
 assigned_room source.Nothing (source.Value e) = expr_room e
-assigned_room target (source.Value e) = operand_room e
-assigned_room target (source.Fresh to e) = 0
+assigned_room target (source.Value e) = aimed_room target (operand_room e)
+assigned_room target (source.Fresh to e) = aimed_room target (max 1 (operand_room e))
 
 -- how many temporaries statements need
 abbrev pub room : source.Code → ℕ
 room source.End = 0
 room (source.Assign spot target right rest) = max (assigned_room target right) (room rest)
 room (source.Bundle spot assigns rest) = room rest
-room (source.Get spot target rest) = max 1 (room rest)
-room (source.Put spot target e rest) = max (operand_room e) (room rest)
+room (source.Get spot target rest) = max (aimed_room target 1) (room rest)
+room (source.Put spot target e rest) = max (aimed_room target (operand_room e)) (room rest)
 room (source.Call spot target callee es rest) = max (max 1 (operands_room es)) (room rest)
 room (source.If spot e one two rest) = max (operand_room e) (max (room one) (max (room two) (room rest)))
 room (source.Loop spot e body step rest) = max (operand_room e) (max (room body) (max (room step) (room rest)))

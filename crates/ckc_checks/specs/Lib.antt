@@ -1,3 +1,3 @@
-pub mod IntegerForm
+pub mod Compilable
 pub mod Inserted
 pub mod Building

@@ -1,15 +1,17 @@
 //! The code of expressions, built from its end: lists of statements stand from the last one to the first.
 
 ghost use Rattle.std.specs.Prelude.{◌≡◌, [], IfOk, OnOk};
-ghost use Rattle.ckc_core.specs.Code.{Code, code_of, stmt_of, expr_of};
+ghost use Rattle.ckc_core.specs.Code.{Expr, Code, code_of, stmt_of, expr_of};
 ghost use Rattle.ckc_source.specs.Code.{expr_of as source_of};
-ghost use Rattle.ckc_checks.specs.Inserted.{as_truth, low_byte, divide_check, operated, operation_code, operand};
+ghost use Rattle.ckc_checks.specs.Inserted.{as_truth, low_byte, divide_check, operated, operation_code, checks_null, null_check, shifted, place_at, operand};
 ghost use Rattle.ckc_checks.specs.Building.{behind, expr_code_if};
 
-use crate::exprs::{as_truth, direct, divides, is_direct, low_byte, operand, operated, sum};
-use ckc_base::{Check, Pos, Seq};
+use crate::exprs::{
+    as_truth, direct, divides, is_direct, load, low_byte, operand, operated, place_at, shifted, sum,
+};
+use ckc_base::{Check, Pos, Seq, Width};
 use ckc_core::{CoreExpr, CoreStmt};
-use ckc_source::{ExprTree, Operation};
+use ckc_source::{Access, ExprTree, Operation, Shift, Through};
 use std::alloc::{AllocError, Global};
 
 /// An empty list of statements.
@@ -145,6 +147,116 @@ fn narrow(alloc: Global, e: &ExprTree, t: u32, code: &mut Seq<CoreStmt>) -> Resu
     Ok(())
 }
 
+fn checks_null(through: Through) -> bool
+    ensures { result ≡ checks_null through }
+{
+    match through {
+        Through::One => true,
+        Through::Named | Through::Raw | Through::Array | Through::Terminated => false,
+    }
+}
+
+/// Puts the check for null in front, where an access goes through a checked pointer that is in t.
+pub fn check_null(
+    alloc: Global,
+    access: Access,
+    p: &ExprTree,
+    t: u32,
+    code: &mut Seq<CoreStmt>,
+) -> Result<(), AllocError>
+    ensures { OnOk result (behind code.new ≡
+        null_check access (operand (source_of p.now) t) (behind code.old)) }
+{
+    if checks_null(access.through) {
+        let pointer = operand(alloc, p, t)?;
+        front(code, CoreStmt::Check(Check::Null, access.at, pointer))?;
+    }
+    Ok(())
+}
+
+/// The place that an access goes to, of which the pointer is in t and the index in the temporary `next`.
+pub fn place(
+    alloc: Global,
+    access: Access,
+    p: &ExprTree,
+    i: &ExprTree,
+    t: u32,
+    next: u32,
+) -> Result<CoreExpr, AllocError>
+    ensures { IfOk result (λ c. expr_of c ≡
+        place_at access (operand (source_of p.now) t) (operand (source_of i.now) next)) }
+{
+    let pointer = operand(alloc, p, t)?;
+    let index = operand(alloc, i, next)?;
+    place_at(alloc, access, pointer, index)
+}
+
+/// Puts a statement in front that loads where an access goes to into t.
+fn load_place(
+    alloc: Global,
+    width: Width,
+    access: Access,
+    p: &ExprTree,
+    i: &ExprTree,
+    t: u32,
+    next: u32,
+    code: &mut Seq<CoreStmt>,
+) -> Result<(), AllocError>
+    ensures { OnOk result (behind code.new ≡ null_check access (operand (source_of p.now) t)
+        (Code.Set t (Expr.Load width (place_at access (operand (source_of p.now) t)
+        (operand (source_of i.now) next))) (behind code.old))) }
+{
+    let pointer = operand(alloc, p, t)?;
+    let index = operand(alloc, i, next)?;
+    let value = load(alloc, width, access, pointer, index)?;
+    front(code, CoreStmt::Set(t, value))?;
+    check_null(alloc, access, p, t, code)?;
+    Ok(())
+}
+
+/// Puts a statement in front that sets t to where an access goes to.
+fn address(
+    alloc: Global,
+    access: Access,
+    p: &ExprTree,
+    i: &ExprTree,
+    t: u32,
+    next: u32,
+    code: &mut Seq<CoreStmt>,
+) -> Result<(), AllocError>
+    ensures { OnOk result (behind code.new ≡ null_check access (operand (source_of p.now) t)
+        (Code.Set t (place_at access (operand (source_of p.now) t)
+        (operand (source_of i.now) next)) (behind code.old))) }
+{
+    let value = place(alloc, access, p, i, t, next)?;
+    front(code, CoreStmt::Set(t, value))?;
+    check_null(alloc, access, p, t, code)?;
+    Ok(())
+}
+
+/// Puts a statement in front that sets t to a pointer that is moved. It is in the one temporary and the index in
+/// the other.
+fn shift(
+    alloc: Global,
+    shift: Shift,
+    p: &ExprTree,
+    of_pointer: u32,
+    i: &ExprTree,
+    of_index: u32,
+    t: u32,
+    code: &mut Seq<CoreStmt>,
+) -> Result<(), AllocError>
+    ensures { OnOk result (behind code.new ≡ Code.Set t (shifted shift.back shift.size
+        (operand (source_of p.now) of_pointer) (operand (source_of i.now) of_index))
+        (behind code.old)) }
+{
+    let pointer = operand(alloc, p, of_pointer)?;
+    let index = operand(alloc, i, of_index)?;
+    let value = shifted(alloc, shift.back, shift.size, pointer, index)?;
+    front(code, CoreStmt::Set(t, value))?;
+    Ok(())
+}
+
 /// Puts the code in front that writes the value of an expression to the local t. A direct expression has such code
 /// only where the flag says so.
 pub fn expr(
@@ -161,6 +273,42 @@ pub fn expr(
         return Ok(());
     }
     match e {
+        ExprTree::Load(width, access, p, i) => {
+            let next = sum(t, 1)?;
+            load_place(alloc, *width, *access, p.get(), i.get(), t, next, code)?;
+            expr(alloc, i.get(), false, next, code)?;
+            expr(alloc, p.get(), false, t, code)?;
+        }
+        ExprTree::Member(_, _, access, p, i) => {
+            let next = sum(t, 1)?;
+            load_place(alloc, Width::Word, *access, p.get(), i.get(), t, next, code)?;
+            expr(alloc, i.get(), false, next, code)?;
+            expr(alloc, p.get(), false, t, code)?;
+        }
+        ExprTree::Address(_, access, p, i) => {
+            let next = sum(t, 1)?;
+            address(alloc, *access, p.get(), i.get(), t, next, code)?;
+            expr(alloc, i.get(), false, next, code)?;
+            expr(alloc, p.get(), false, t, code)?;
+        }
+        ExprTree::Moved(how, p, i) => {
+            let next = sum(t, 1)?;
+            shift(alloc, *how, p.get(), t, i.get(), next, t, code)?;
+            expr(alloc, i.get(), false, next, code)?;
+            expr(alloc, p.get(), false, t, code)?;
+        }
+        ExprTree::Added(how, i, p) => {
+            let next = sum(t, 1)?;
+            shift(alloc, *how, p.get(), next, i.get(), t, t, code)?;
+            expr(alloc, p.get(), false, next, code)?;
+            expr(alloc, i.get(), false, t, code)?;
+        }
+        ExprTree::Bare(p) => expr(alloc, p.get(), true, t, code)?,
+        ExprTree::Trusted(_, _, p, k) => {
+            let next = sum(t, 1)?;
+            expr(alloc, k.get(), false, next, code)?;
+            expr(alloc, p.get(), true, t, code)?;
+        }
         ExprTree::Binary(operation, is_signed, at, a, b) => {
             let next = sum(t, 1)?;
             operate(
@@ -207,14 +355,7 @@ pub fn expr(
         | ExprTree::Local(_)
         | ExprTree::Limited(_, _)
         | ExprTree::Array(_, _)
-        | ExprTree::Load(_, _, _, _)
-        | ExprTree::Member(_, _, _, _, _)
-        | ExprTree::Address(_, _, _, _)
-        | ExprTree::Moved(_, _, _)
-        | ExprTree::Added(_, _, _)
-        | ExprTree::Bare(_)
-        | ExprTree::Tested(_, _, _, _, _)
-        | ExprTree::Trusted(_, _, _, _) => {
+        | ExprTree::Tested(_, _, _, _, _) => {
             let value = direct(alloc, e)?;
             front(code, CoreStmt::Set(t, value))?;
         }

@@ -3,12 +3,13 @@
 ghost use Rattle.std.specs.Prelude.{◌≡◌, ◌+◌, max, IfOk, if◌then◌else◌};
 ghost use Rattle.ckc_core.specs.Code.{Expr, expr_of};
 ghost use Rattle.ckc_source.specs.Code.{expr_of as source_of};
+ghost use Rattle.ckc_base.specs.declared.arithmetic.Width.TheVariants.{Word};
 ghost use Rattle.ckc_source.specs.Words.{operator, divides};
-ghost use Rattle.ckc_checks.specs.Inserted.{is_direct, operated, low_byte, as_truth, number_of, fixed_place, direct, operand, expr_room, operand_room};
+ghost use Rattle.ckc_checks.specs.Inserted.{is_unchecked, is_direct, operated, low_byte, as_truth, is_zero, scaled, shifted, at_offset, element_of, place_at, direct, operand};
 
-use ckc_base::{BinOp, Boxed};
+use ckc_base::{BinOp, Boxed, Width};
 use ckc_core::CoreExpr;
-use ckc_source::{Access, ExprTree, Operation};
+use ckc_source::{Access, ExprTree, Operation, Through};
 use std::alloc::{AllocError, Global};
 
 /// A sum; one past 2^32 - 1 is taken for want of memory.
@@ -62,7 +63,17 @@ pub fn divides(operation: Operation) -> bool
     }
 }
 
-/// Whether one expression of core code gives the value: no division, no remainder and no branch stands in it.
+/// Whether an access has no checks.
+fn is_unchecked(through: Through) -> bool
+    ensures { result ≡ is_unchecked through }
+{
+    match through {
+        Through::Named | Through::Raw => true,
+        Through::One | Through::Array | Through::Terminated => false,
+    }
+}
+
+/// Whether one expression of core code gives the value: no division, no remainder, no branch and no check stands in it.
 pub fn is_direct(e: &ExprTree) -> bool
     ensures { result ≡ is_direct (source_of e.now) }
 {
@@ -71,19 +82,20 @@ pub fn is_direct(e: &ExprTree) -> bool
             !divides(*operation) && is_direct(a.get()) && is_direct(b.get())
         }
         ExprTree::And(_, _) | ExprTree::Or(_, _) | ExprTree::Choice(_, _, _) => false,
-        ExprTree::Narrow(e) => is_direct(e.get()),
+        ExprTree::Load(_, access, p, i)
+        | ExprTree::Member(_, _, access, p, i)
+        | ExprTree::Address(_, access, p, i) => {
+            is_unchecked(access.through) && (is_direct(p.get()) && is_direct(i.get()))
+        }
+        ExprTree::Moved(_, a, b) | ExprTree::Added(_, a, b) | ExprTree::Trusted(_, _, a, b) => {
+            is_direct(a.get()) && is_direct(b.get())
+        }
+        ExprTree::Narrow(e) | ExprTree::Bare(e) => is_direct(e.get()),
         ExprTree::Number(_)
         | ExprTree::Local(_)
         | ExprTree::Limited(_, _)
         | ExprTree::Array(_, _)
-        | ExprTree::Load(_, _, _, _)
-        | ExprTree::Member(_, _, _, _, _)
-        | ExprTree::Address(_, _, _, _)
-        | ExprTree::Moved(_, _, _)
-        | ExprTree::Added(_, _, _)
-        | ExprTree::Bare(_)
-        | ExprTree::Tested(_, _, _, _, _)
-        | ExprTree::Trusted(_, _, _, _) => true,
+        | ExprTree::Tested(_, _, _, _, _) => true,
     }
 }
 
@@ -135,36 +147,129 @@ pub fn as_truth(alloc: Global, e: CoreExpr) -> Result<CoreExpr, AllocError>
     binary(alloc, BinOp::Ne, e, CoreExpr::Const(0))
 }
 
-/// The number that an expression is.
-fn number_of(e: &ExprTree) -> u32
-    ensures { result ≡ number_of (source_of e.now) }
+/// Whether an expression is the constant zero.
+fn is_zero(e: &CoreExpr) -> bool
+    ensures { result ≡ is_zero (expr_of e.now) }
 {
     match e {
-        ExprTree::Number(n) => *n,
-        ExprTree::Local(_)
-        | ExprTree::Limited(_, _)
-        | ExprTree::Array(_, _)
-        | ExprTree::Load(_, _, _, _)
-        | ExprTree::Member(_, _, _, _, _)
-        | ExprTree::Address(_, _, _, _)
-        | ExprTree::Moved(_, _, _)
-        | ExprTree::Added(_, _, _)
-        | ExprTree::Binary(_, _, _, _, _)
-        | ExprTree::And(_, _)
-        | ExprTree::Or(_, _)
-        | ExprTree::Choice(_, _, _)
-        | ExprTree::Narrow(_)
-        | ExprTree::Bare(_)
-        | ExprTree::Tested(_, _, _, _, _)
-        | ExprTree::Trusted(_, _, _, _) => 0,
+        CoreExpr::Const(n) => *n == 0,
+        CoreExpr::Local(_)
+        | CoreExpr::Load(_, _)
+        | CoreExpr::Bin(_, _, _)
+        | CoreExpr::High(_, _, _) => false,
     }
 }
 
-/// The place of a named static.
-pub fn fixed_place(access: Access, p: &ExprTree) -> u32
-    ensures { result ≡ fixed_place access (source_of p.now) }
+/// An operation with a constant on the right, which is left out where the flag says so.
+fn with_constant(
+    alloc: Global,
+    none: bool,
+    op: BinOp,
+    e: CoreExpr,
+    n: u32,
+) -> Result<CoreExpr, AllocError>
+    ensures { IfOk result (λ c. expr_of c ≡
+        (if none then expr_of e else Expr.Bin op (expr_of e) (Expr.Const n))) }
 {
-    number_of(p).wrapping_add(access.offset)
+    if none {
+        Ok(e)
+    } else {
+        binary(alloc, op, e, CoreExpr::Const(n))
+    }
+}
+
+/// So many elements of a size.
+fn scaled(alloc: Global, size: u32, e: CoreExpr) -> Result<CoreExpr, AllocError>
+    ensures { IfOk result (λ c. expr_of c ≡ scaled size (expr_of e)) }
+{
+    match e {
+        CoreExpr::Const(n) => Ok(CoreExpr::Const(size.wrapping_mul(n))),
+        CoreExpr::Local(_)
+        | CoreExpr::Load(_, _)
+        | CoreExpr::Bin(_, _, _)
+        | CoreExpr::High(_, _, _) => {
+            if size == 1 {
+                Ok(e)
+            } else {
+                binary(alloc, BinOp::Mul, CoreExpr::Const(size), e)
+            }
+        }
+    }
+}
+
+/// An address so many elements of a size further on, or back.
+pub fn shifted(
+    alloc: Global,
+    back: bool,
+    size: u32,
+    a: CoreExpr,
+    i: CoreExpr,
+) -> Result<CoreExpr, AllocError>
+    ensures { IfOk result (λ c. expr_of c ≡ shifted back size (expr_of a) (expr_of i)) }
+{
+    if is_zero(&i) {
+        return Ok(a);
+    }
+    let bytes = scaled(alloc, size, i)?;
+    binary(alloc, chosen(back, BinOp::Sub, BinOp::Add), a, bytes)
+}
+
+/// An address so many bytes further on.
+fn at_offset(alloc: Global, offset: u32, e: CoreExpr) -> Result<CoreExpr, AllocError>
+    ensures { IfOk result (λ c. expr_of c ≡ at_offset offset (expr_of e)) }
+{
+    match e {
+        CoreExpr::Const(n) => Ok(CoreExpr::Const(n.wrapping_add(offset))),
+        CoreExpr::Local(_)
+        | CoreExpr::Load(_, _)
+        | CoreExpr::Bin(_, _, _)
+        | CoreExpr::High(_, _, _) => with_constant(alloc, offset == 0, BinOp::Add, e, offset),
+    }
+}
+
+/// The element that an access goes to, through a pointer at an index.
+fn element_of(
+    alloc: Global,
+    through: Through,
+    size: u32,
+    a: CoreExpr,
+    i: CoreExpr,
+) -> Result<CoreExpr, AllocError>
+    ensures { IfOk result (λ c. expr_of c ≡ element_of through size (expr_of a) (expr_of i)) }
+{
+    match through {
+        Through::Raw => shifted(alloc, false, size, a, i),
+        Through::Named | Through::One | Through::Array | Through::Terminated => Ok(a),
+    }
+}
+
+/// The place that an access goes to, through a pointer at an index.
+pub fn place_at(
+    alloc: Global,
+    access: Access,
+    a: CoreExpr,
+    i: CoreExpr,
+) -> Result<CoreExpr, AllocError>
+    ensures { IfOk result (λ c. expr_of c ≡ place_at access (expr_of a) (expr_of i)) }
+{
+    let element = element_of(alloc, access.through, access.size, a, i)?;
+    at_offset(alloc, access.offset, element)
+}
+
+/// What memory has where an access goes to.
+pub fn load(
+    alloc: Global,
+    width: Width,
+    access: Access,
+    a: CoreExpr,
+    i: CoreExpr,
+) -> Result<CoreExpr, AllocError>
+    ensures { IfOk result (λ c. expr_of c ≡
+        Expr.Load width (place_at access (expr_of a) (expr_of i))) }
+{
+    let place = place_at(alloc, access, a, i)?;
+    let place = Boxed::new(alloc, place)?;
+    Ok(CoreExpr::Load(width, place))
 }
 
 /// The expression of core code for a direct expression.
@@ -172,11 +277,27 @@ pub fn direct(alloc: Global, e: &ExprTree) -> Result<CoreExpr, AllocError>
     ensures { IfOk result (λ c. expr_of c ≡ direct (source_of e.now)) }
 {
     match e {
-        ExprTree::Number(n) => Ok(CoreExpr::Const(*n)),
-        ExprTree::Local(x) => Ok(CoreExpr::Local(*x)),
-        ExprTree::Load(width, access, p, _) => {
-            let place = Boxed::new(alloc, CoreExpr::Const(fixed_place(*access, p.get())))?;
-            Ok(CoreExpr::Load(*width, place))
+        ExprTree::Number(n) | ExprTree::Array(n, _) => Ok(CoreExpr::Const(*n)),
+        ExprTree::Local(x) | ExprTree::Limited(x, _) => Ok(CoreExpr::Local(*x)),
+        ExprTree::Load(width, access, p, i) => {
+            let a = direct(alloc, p.get())?;
+            let i = direct(alloc, i.get())?;
+            load(alloc, *width, *access, a, i)
+        }
+        ExprTree::Member(_, _, access, p, i) => {
+            let a = direct(alloc, p.get())?;
+            let i = direct(alloc, i.get())?;
+            load(alloc, Width::Word, *access, a, i)
+        }
+        ExprTree::Address(_, access, p, i) => {
+            let a = direct(alloc, p.get())?;
+            let i = direct(alloc, i.get())?;
+            place_at(alloc, *access, a, i)
+        }
+        ExprTree::Moved(shift, p, i) | ExprTree::Added(shift, i, p) => {
+            let a = direct(alloc, p.get())?;
+            let i = direct(alloc, i.get())?;
+            shifted(alloc, shift.back, shift.size, a, i)
         }
         ExprTree::Binary(operation, is_signed, _, a, b) => {
             let a = direct(alloc, a.get())?;
@@ -187,18 +308,11 @@ pub fn direct(alloc: Global, e: &ExprTree) -> Result<CoreExpr, AllocError>
             let e = direct(alloc, e.get())?;
             low_byte(alloc, e)
         }
-        ExprTree::Limited(_, _)
-        | ExprTree::Array(_, _)
-        | ExprTree::Member(_, _, _, _, _)
-        | ExprTree::Address(_, _, _, _)
-        | ExprTree::Moved(_, _, _)
-        | ExprTree::Added(_, _, _)
-        | ExprTree::And(_, _)
+        ExprTree::Bare(p) | ExprTree::Trusted(_, _, p, _) => direct(alloc, p.get()),
+        ExprTree::And(_, _)
         | ExprTree::Or(_, _)
         | ExprTree::Choice(_, _, _)
-        | ExprTree::Bare(_)
-        | ExprTree::Tested(_, _, _, _, _)
-        | ExprTree::Trusted(_, _, _, _) => Ok(CoreExpr::Const(0)),
+        | ExprTree::Tested(_, _, _, _, _) => Ok(CoreExpr::Const(0)),
     }
 }
 

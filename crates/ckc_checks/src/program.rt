@@ -6,7 +6,7 @@ ghost use Rattle.ckc_core.specs.Code.{function_of as core_function, program_of a
 ghost use Rattle.ckc_core.specs.Limits.{IsWithinLimits};
 ghost use Rattle.ckc_core.specs.Sizes.{program_size};
 ghost use Rattle.ckc_core.specs.WellFormed.{IsWellFormed};
-ghost use Rattle.ckc_checks.specs.IntegerForm.{IsIntegerProgram, program_nodes};
+ghost use Rattle.ckc_checks.specs.Compilable.{IsCompilable, program_nodes};
 ghost use Rattle.ckc_source.specs.LaidOut.{IsLaidOut};
 ghost use Rattle.ckc_source.specs.Blocks.{block_of, end_of, place_behind, first_place};
 ghost use Rattle.ckc_source.specs.Code.{function_of as source_function, program_of as source_program};
@@ -161,10 +161,11 @@ fn program(alloc: Global, p: &Program) -> Result<Core, AllocError>
     })
 }
 
-/// The core code of a program of integers, with all checks written out: before each division the test of the divisor,
-/// the dynamic checks, and the depth of calls. The temporaries of a function stand behind its locals.
+/// The core code of a program that can be compiled, with all checks written out: before each division the test of the
+/// divisor, before each access through a `_Ptr` the test for null, the dynamic checks, and the depth of calls. The
+/// temporaries of a function stand behind its locals.
 pub fn insert(alloc: Global, p: &Program) -> Result<Core, AllocError>
-    requires form { IsIntegerProgram (source_program p.now) }
+    requires form { IsCompilable (source_program p.now) }
     requires laid { IsLaidOut (source_program p.now) }
     ensures code { IfOk result (λ c. core_program c ≡ inserted (source_program p.now)) }
     ensures formed { IfOk result (λ c. IsWellFormed (core_program c)) }

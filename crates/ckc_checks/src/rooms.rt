@@ -2,7 +2,7 @@
 
 ghost use Rattle.std.specs.Prelude.{◌≡◌, ◌+◌, max, map, IfOk, if◌then◌else◌};
 ghost use Rattle.ckc_source.specs.Code.{code_of, expr_of, target_of, right_of};
-ghost use Rattle.ckc_checks.specs.Inserted.{expr_room, operand_room, operands_room, assigned_room, room};
+ghost use Rattle.ckc_checks.specs.Inserted.{expr_room, operand_room, operands_room, target_count, target_room, aimed_room, assigned_room, room};
 ghost use Rattle.ckc_checks.specs.Building.{expr_room_if};
 
 use crate::exprs::{is_direct, sum};
@@ -17,7 +17,12 @@ fn expr_room(e: &ExprTree, always: bool) -> Result<u32, AllocError>
         return Ok(0);
     }
     match e {
-        ExprTree::Binary(_, _, _, a, b) => {
+        ExprTree::Load(_, _, a, b)
+        | ExprTree::Member(_, _, _, a, b)
+        | ExprTree::Address(_, _, a, b)
+        | ExprTree::Moved(_, a, b)
+        | ExprTree::Added(_, a, b)
+        | ExprTree::Binary(_, _, _, a, b) => {
             let left = expr_room(a.get(), false)?;
             let right = expr_room(b.get(), false)?;
             let right = sum(1, right)?;
@@ -38,18 +43,18 @@ fn expr_room(e: &ExprTree, always: bool) -> Result<u32, AllocError>
             let value = expr_room(inner.get(), false)?;
             Ok(1u32.max(value))
         }
+        ExprTree::Bare(p) => expr_room(p.get(), true),
+        ExprTree::Trusted(_, _, p, k) => {
+            let value = expr_room(p.get(), true)?;
+            let count = expr_room(k.get(), false)?;
+            let count = sum(1, count)?;
+            Ok(value.max(count))
+        }
         ExprTree::Number(_)
         | ExprTree::Local(_)
         | ExprTree::Limited(_, _)
         | ExprTree::Array(_, _)
-        | ExprTree::Load(_, _, _, _)
-        | ExprTree::Member(_, _, _, _, _)
-        | ExprTree::Address(_, _, _, _)
-        | ExprTree::Moved(_, _, _)
-        | ExprTree::Added(_, _, _)
-        | ExprTree::Bare(_)
-        | ExprTree::Tested(_, _, _, _, _)
-        | ExprTree::Trusted(_, _, _, _) => Ok(1),
+        | ExprTree::Tested(_, _, _, _, _) => Ok(1),
     }
 }
 
@@ -68,6 +73,40 @@ fn operands_room(es: &[ExprTree]) -> Result<u32, AllocError>
     Ok(most)
 }
 
+/// How many temporaries keep the place of a target.
+pub fn target_count(target: &TargetTree) -> u32
+    ensures { result ≡ target_count (target_of target.now) }
+{
+    match target {
+        TargetTree::Memory(_, _, _, _) => 2,
+        TargetTree::Nothing | TargetTree::Local(_, _) => 0,
+    }
+}
+
+/// How many temporaries finding the place of a target needs.
+fn target_room(target: &TargetTree) -> Result<u32, AllocError>
+    ensures { IfOk result (λ n. n ≡ target_room (target_of target.now)) }
+{
+    match target {
+        TargetTree::Memory(_, _, p, i) => {
+            let pointer = expr_room(p.get(), false)?;
+            let index = expr_room(i.get(), false)?;
+            let index = sum(1, index)?;
+            Ok(pointer.max(index))
+        }
+        TargetTree::Nothing | TargetTree::Local(_, _) => Ok(0),
+    }
+}
+
+/// How many temporaries a target and so many for its value need.
+fn aimed_room(target: &TargetTree, room: u32) -> Result<u32, AllocError>
+    ensures { IfOk result (λ n. n ≡ aimed_room (target_of target.now) room) }
+{
+    let place = target_room(target)?;
+    let value = sum(target_count(target), room)?;
+    Ok(place.max(value))
+}
+
 /// How many temporaries an assignment needs.
 fn assigned_room(a: &Assign) -> Result<u32, AllocError>
     ensures { IfOk result (λ n. n ≡ assigned_room (target_of a.now.target) (right_of a.now.right)) }
@@ -75,9 +114,15 @@ fn assigned_room(a: &Assign) -> Result<u32, AllocError>
     match &a.right {
         RightTree::Value(e) => match &a.target {
             TargetTree::Nothing => expr_room(e.get(), true),
-            TargetTree::Local(_, _) | TargetTree::Memory(_, _, _, _) => expr_room(e.get(), false),
+            TargetTree::Local(_, _) | TargetTree::Memory(_, _, _, _) => {
+                let value = expr_room(e.get(), false)?;
+                aimed_room(&a.target, value)
+            }
         },
-        RightTree::Fresh(_, _) => Ok(0),
+        RightTree::Fresh(_, e) => {
+            let count = expr_room(e.get(), false)?;
+            aimed_room(&a.target, 1u32.max(count))
+        }
     }
 }
 
@@ -91,8 +136,12 @@ pub fn room(stmts: &[StmtTree]) -> Result<u32, AllocError>
         i -= 1;
         match &stmts[i] {
             StmtTree::Assign(_, a) => most = assigned_room(a.get())?.max(most),
-            StmtTree::Get(_, _) => most = 1u32.max(most),
-            StmtTree::Put(_, _, e) | StmtTree::Return(_, e) | StmtTree::Check(_, e) => {
+            StmtTree::Get(_, target) => most = aimed_room(target.get(), 1)?.max(most),
+            StmtTree::Put(_, target, e) => {
+                let value = expr_room(e.get(), false)?;
+                most = aimed_room(target.get(), value)?.max(most);
+            }
+            StmtTree::Return(_, e) | StmtTree::Check(_, e) => {
                 most = expr_room(e.get(), false)?.max(most);
             }
             StmtTree::Call(_, _, _, es) => {

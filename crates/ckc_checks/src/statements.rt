@@ -1,13 +1,14 @@
 //! The code of statements, built from its end.
 
-ghost use Rattle.std.specs.Prelude.{◌≡◌, false, map, IfOk, OnOk};
+ghost use Rattle.std.specs.Prelude.{◌≡◌, ◌+◌, true, false, map, IfOk, OnOk};
 ghost use Rattle.ckc_core.specs.Code.{Expr, Code, code_of, expr_of};
 ghost use Rattle.ckc_source.specs.Code.{expr_of as source_of, target_of, right_of, code_of as source_code};
-ghost use Rattle.ckc_checks.specs.Inserted.{low_byte, operand, operands, operands_code, is_narrow, kept_in, written, assigned, right_assigned, result_in, result_kept, statements};
-ghost use Rattle.ckc_checks.specs.Building.{behind, expr_code_if, put_code, call_code, branch_code, loop_code, return_code, check_code};
+ghost use Rattle.ckc_checks.specs.Inserted.{low_byte, operand, operands, operands_code, is_narrow, kept_in, aim_code, target_count, written, operand_used, assigned, taken, fixed, written_there, right_assigned, result_in, result_kept, statements};
+ghost use Rattle.ckc_checks.specs.Building.{behind, expr_code_if, get_code, put_code, call_code, branch_code, loop_code, return_code, check_code};
 
-use crate::code::{expr, fork, front, in_order, nothing};
-use crate::exprs::{fixed_place, low_byte, operand, sum};
+use crate::code::{check_null, expr, fork, front, in_order, nothing, place};
+use crate::exprs::{low_byte, operand, sum};
+use crate::rooms::target_count;
 use ckc_base::{Check, Pos, Seq, Width};
 use ckc_core::{CoreExpr, CoreStmt};
 use ckc_source::{Assign, ExprTree, Kept, RightTree, StmtTree, TargetTree};
@@ -48,16 +49,18 @@ fn kept_in(alloc: Global, width: Width, is_byte: bool, e: CoreExpr) -> Result<Co
     }
 }
 
-/// Puts a statement in front that writes a value to a target, by whether it is a byte already.
+/// Puts a statement in front that writes a value to a target whose place is found in the temporaries from t on, by
+/// whether it is a byte already.
 fn write(
     alloc: Global,
     target: &TargetTree,
+    t: u32,
     is_byte: bool,
     value: CoreExpr,
     code: &mut Seq<CoreStmt>,
 ) -> Result<(), AllocError>
     ensures { OnOk result (behind code.new ≡
-        written (target_of target.now) is_byte (expr_of value) (behind code.old)) }
+        written (target_of target.now) t is_byte (expr_of value) (behind code.old)) }
 {
     match target {
         TargetTree::Nothing => Ok(()),
@@ -66,9 +69,31 @@ fn write(
             front(code, CoreStmt::Set(*x, kept))?;
             Ok(())
         }
-        TargetTree::Memory(width, access, p, _) => {
-            let place = CoreExpr::Const(fixed_place(*access, p.get()));
-            front(code, CoreStmt::Store(*width, place, value))?;
+        TargetTree::Memory(width, access, p, i) => {
+            let next = sum(t, 1)?;
+            let to = place(alloc, *access, p.get(), i.get(), t, next)?;
+            front(code, CoreStmt::Store(*width, to, value))?;
+            Ok(())
+        }
+    }
+}
+
+/// Puts the code in front that finds the place of a target.
+fn aim(
+    alloc: Global,
+    target: &TargetTree,
+    t: u32,
+    code: &mut Seq<CoreStmt>,
+) -> Result<(), AllocError>
+    ensures { OnOk result (behind code.new ≡ aim_code (target_of target.now) t (behind code.old)) }
+{
+    match target {
+        TargetTree::Nothing | TargetTree::Local(_, _) => Ok(()),
+        TargetTree::Memory(_, access, p, i) => {
+            let next = sum(t, 1)?;
+            check_null(alloc, *access, p.get(), t, code)?;
+            expr(alloc, i.get(), false, next, code)?;
+            expr(alloc, p.get(), false, t, code)?;
             Ok(())
         }
     }
@@ -88,12 +113,75 @@ fn assign_value(
     match target {
         TargetTree::Nothing => expr(alloc, e, true, t, code),
         TargetTree::Local(_, _) | TargetTree::Memory(_, _, _, _) => {
-            let value = operand(alloc, e, t)?;
-            write(alloc, target, is_narrow(e), value, code)?;
-            expr(alloc, e, false, t, code)?;
+            let u = sum(t, target_count(target))?;
+            let value = operand(alloc, e, u)?;
+            write(alloc, target, t, is_narrow(e), value, code)?;
+            expr(alloc, e, false, u, code)?;
+            aim(alloc, target, t, code)?;
             Ok(())
         }
     }
+}
+
+/// Puts the code in front that keeps the place of a target in the temporary t.
+fn fix(
+    alloc: Global,
+    target: &TargetTree,
+    t: u32,
+    code: &mut Seq<CoreStmt>,
+) -> Result<(), AllocError>
+    ensures { OnOk result (behind code.new ≡ fixed (target_of target.now) t (behind code.old)) }
+{
+    match target {
+        TargetTree::Nothing | TargetTree::Local(_, _) => Ok(()),
+        TargetTree::Memory(_, access, p, i) => {
+            let next = sum(t, 1)?;
+            let to = place(alloc, *access, p.get(), i.get(), t, next)?;
+            front(code, CoreStmt::Set(t, to))?;
+            Ok(())
+        }
+    }
+}
+
+/// Puts a statement in front that writes a value to a target whose place is in the temporary t.
+fn write_there(
+    alloc: Global,
+    target: &TargetTree,
+    t: u32,
+    value: CoreExpr,
+    code: &mut Seq<CoreStmt>,
+) -> Result<(), AllocError>
+    ensures { OnOk result (behind code.new ≡
+        written_there (target_of target.now) t (expr_of value) (behind code.old)) }
+{
+    match target {
+        TargetTree::Nothing => Ok(()),
+        TargetTree::Local(x, width) => {
+            let kept = kept_in(alloc, *width, false, value)?;
+            front(code, CoreStmt::Set(*x, kept))?;
+            Ok(())
+        }
+        TargetTree::Memory(width, _, _, _) => {
+            front(code, CoreStmt::Store(*width, CoreExpr::Local(t), value))?;
+            Ok(())
+        }
+    }
+}
+
+/// Puts the code in front that takes a fresh block, whose address goes to u.
+fn take(
+    alloc: Global,
+    e: &ExprTree,
+    size: u32,
+    u: u32,
+    code: &mut Seq<CoreStmt>,
+) -> Result<(), AllocError>
+    ensures { OnOk result (behind code.new ≡ taken (source_of e.now) size u (behind code.old)) }
+{
+    let count = operand(alloc, e, u)?;
+    front(code, CoreStmt::Alloc(u, count, size))?;
+    expr(alloc, e, false, u, code)?;
+    Ok(())
 }
 
 /// Puts the code of an assignment in front.
@@ -103,7 +191,14 @@ fn assign(alloc: Global, a: &Assign, t: u32, code: &mut Seq<CoreStmt>) -> Result
 {
     match &a.right {
         RightTree::Value(e) => assign_value(alloc, &a.target, e.get(), t, code),
-        RightTree::Fresh(_, _) => Ok(()),
+        RightTree::Fresh(to, e) => {
+            let u = sum(t, target_count(&a.target))?;
+            write_there(alloc, &a.target, t, CoreExpr::Local(u), code)?;
+            take(alloc, e.get(), to.get().size, u, code)?;
+            fix(alloc, &a.target, t, code)?;
+            aim(alloc, &a.target, t, code)?;
+            Ok(())
+        }
     }
 }
 
@@ -114,11 +209,33 @@ fn get(
     t: u32,
     code: &mut Seq<CoreStmt>,
 ) -> Result<(), AllocError>
-    ensures { OnOk result (behind code.new ≡
-        Code.Get t (written (target_of target.now) false (Expr.Local t) (behind code.old))) }
+    ensures { OnOk result (behind code.new ≡ get_code (target_of target.now) t (behind code.old)) }
 {
-    write(alloc, target, false, CoreExpr::Local(t), code)?;
-    front(code, CoreStmt::Get(t))?;
+    let u = sum(t, target_count(target))?;
+    write(alloc, target, t, false, CoreExpr::Local(u), code)?;
+    front(code, CoreStmt::Get(u))?;
+    aim(alloc, target, t, code)?;
+    Ok(())
+}
+
+/// Puts the code in front that puts the byte of an operand and writes it.
+fn put_operand(
+    alloc: Global,
+    target: &TargetTree,
+    e: &ExprTree,
+    t: u32,
+    u: u32,
+    code: &mut Seq<CoreStmt>,
+) -> Result<(), AllocError>
+    ensures { OnOk result (behind code.new ≡ Code.Put (operand (source_of e.now) u)
+        (written (target_of target.now) t true (low_byte (operand (source_of e.now) u))
+        (behind code.old))) }
+{
+    let value = operand(alloc, e, u)?;
+    let byte = low_byte(alloc, value)?;
+    write(alloc, target, t, true, byte, code)?;
+    let value = operand(alloc, e, u)?;
+    front(code, CoreStmt::Put(value))?;
     Ok(())
 }
 
@@ -133,12 +250,10 @@ fn put(
     ensures { OnOk result (behind code.new ≡
         put_code (target_of target.now) (source_of e.now) t (behind code.old)) }
 {
-    let value = operand(alloc, e, t)?;
-    let byte = low_byte(alloc, value)?;
-    write(alloc, target, true, byte, code)?;
-    let value = operand(alloc, e, t)?;
-    front(code, CoreStmt::Put(value))?;
-    expr(alloc, e, false, t, code)?;
+    let u = sum(t, target_count(target))?;
+    put_operand(alloc, target, e, t, u, code)?;
+    expr(alloc, e, false, u, code)?;
+    aim(alloc, target, t, code)?;
     Ok(())
 }
 

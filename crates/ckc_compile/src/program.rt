@@ -2,9 +2,9 @@
 ghost use Rattle.std.specs.Prelude.{◌≡◌, ℕ, ◌*◌, ◌≤◌, List, length, IfOk};
 ghost use Rattle.ckc_base.specs.Follows.{Follows};
 ghost use Rattle.ckc_source.specs.Code.{program_of};
-ghost use Rattle.ckc_source.specs.LaidOut.{IsLaidOut};
+ghost use Rattle.ckc_source.specs.LaidOut.{AreBytes, IsLaidOut};
 ghost use Rattle.ckc_source.specs.Source.{source};
-ghost use Rattle.ckc_checks.specs.IntegerForm.{IsIntegerProgram, program_nodes};
+ghost use Rattle.ckc_checks.specs.Compilable.{IsCompilable, program_nodes};
 ghost use Rattle.ckc_tac.specs.Meaning.{tac_meaning};
 ghost use Rattle.ckc_tac.specs.Sizes.{program_size as tac_size};
 ghost use Rattle.ckc_tac.specs.WellFormed.{IsWellFormed as IsWellFormedTac, HasFewRegisters};
@@ -31,13 +31,13 @@ pub const MOST_NODES: u32 = 52_415;
 
 /// The three-address code of a program.
 fn lowered(alloc: Global, p: &Program) -> Result<Tac, AllocError>
-    requires form { IsIntegerProgram (program_of p.now) }
+    requires form { IsCompilable (program_of p.now) }
     requires laid { IsLaidOut (program_of p.now) }
     ensures formed { IfOk result IsWellFormedTac }
     ensures few { IfOk result HasFewRegisters }
     ensures size { IfOk result (λ t. tac_size t ≤ 80 * program_nodes (program_of p.now)) }
     ensures initial { IfOk result (λ t. length t.initial ≤ 4194304) }
-    ensures follows { IfOk result (λ t. (input : List ℕ) →
+    ensures follows { IfOk result (λ t. (input : List ℕ) → AreBytes input →
         Follows (source (program_of p.now) input) (tac_meaning t input) 400004) }
 {
     let c = insert(alloc, p)?;
@@ -47,12 +47,12 @@ fn lowered(alloc: Global, p: &Program) -> Result<Tac, AllocError>
 
 /// The placed code of a program.
 fn placed(alloc: Global, p: &Program) -> Result<Placed, AllocError>
-    requires form { IsIntegerProgram (program_of p.now) }
+    requires form { IsCompilable (program_of p.now) }
     requires laid { IsLaidOut (program_of p.now) }
     ensures whole { IfOk result IsWellFormed }
     ensures size { IfOk result (λ q. program_size q ≤ 80 * program_nodes (program_of p.now)) }
     ensures initial { IfOk result (λ q. length q.initial ≤ 4194304) }
-    ensures follows { IfOk result (λ q. (input : List ℕ) →
+    ensures follows { IfOk result (λ q. (input : List ℕ) → AreBytes input →
         Follows (source (program_of p.now) input) (placed_meaning q input) 400005) }
 {
     let t = lowered(alloc, p)?;
@@ -72,11 +72,11 @@ fn assembled(alloc: Global, q: &Placed) -> Result<Parts, AllocError>
     Ok(parts)
 }
 
-/// The parts of an image of a program of integers, or want of memory. The machine that runs them reads and puts the same
+/// The parts of an image of a program, or want of memory. The machine that runs them reads and puts the same
 /// bytes as the program, and ends with the same value or stops at the same check and place. Nothing is said of where the
 /// program is stuck.
 pub fn compile(alloc: Global, p: &Program) -> Result<Parts, AllocError>
-    requires form { IsIntegerProgram (program_of p.now) }
+    requires form { IsCompilable (program_of p.now) }
     requires laid { IsLaidOut (program_of p.now) }
     requires small { program_nodes (program_of p.now) ≤ MOST_NODES }
     ensures follows { IfOk result (FollowsSource (program_of p.now)) }

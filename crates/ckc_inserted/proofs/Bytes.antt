@@ -37,13 +37,13 @@ inside width a b h =
 byte_there : (memory : Memory) (base a i : ℕ) (bytes : List ℕ) → Spells memory base bytes → a ≡ base + i → i < length bytes → memory a ≡ Some (slice_index bytes i)
 byte_there memory base a i bytes s e h = ap memory e ∙ s i h
 
-joined : (memory : Memory) (count a low high : ℕ) → memory a ≡ Some low → bytes_from memory count (a + 1) ≡ Some high → bytes_from memory (suc count) a ≡ Some (low + 256 * high)
+pub joined : (memory : Memory) (count a low high : ℕ) → memory a ≡ Some low → bytes_from memory count (a + 1) ≡ Some high → bytes_from memory (suc count) a ≡ Some (low + 256 * high)
 unfolding bytes_from
 joined memory count a low high e h =
     ap (λ o. option_and_then (λ low. option_map (λ high. low + 256 * high) (bytes_from memory count (a + 1))) o) e
     ∙ ap (λ o. option_map (λ high. low + 256 * high) o) h
 
-none_left : (memory : Memory) (a : ℕ) → bytes_from memory 0 a ≡ Some 0
+pub none_left : (memory : Memory) (a : ℕ) → bytes_from memory 0 a ≡ Some 0
 unfolding bytes_from
 none_left memory a = refl
 
@@ -113,13 +113,13 @@ byte_other memory a v q (inr h) =
     ap (λ c. if c then Some v else memory q) t
 
 -- ahead of the bytes that are written
-ahead : (memory : Memory) (count a n q : ℕ) → q < a → with_bytes memory count a n q ≡ memory q
+pub ahead : (memory : Memory) (count a n q : ℕ) → q < a → with_bytes memory count a n q ≡ memory q
 unfolding with_bytes
 ahead memory zero a n q h = refl
 ahead memory (suc count) a n q h =
     byte_other (with_bytes memory count (a + 1) (n / 256)) a (n % 256) q (inl h) ∙ ahead memory count (a + 1) (n / 256) q (omega arith)
 
-past : (memory : Memory) (count a n q : ℕ) → a + count ≤ q → with_bytes memory count a n q ≡ memory q
+pub past : (memory : Memory) (count a n q : ℕ) → a + count ≤ q → with_bytes memory count a n q ≡ memory q
 unfolding with_bytes
 past memory zero a n q h = refl
 past memory (suc count) a n q h =
@@ -133,7 +133,7 @@ later_byte : (memory : Memory) (count a n q : ℕ) → a < q → with_bytes memo
 unfolding with_bytes
 later_byte memory count a n q h = byte_other (with_bytes memory count (a + 1) (n / 256)) a (n % 256) q (inr h)
 
-written_digit : (width : Width) (memory : Memory) (a n k q : ℕ) → k < width_bytes width → q ≡ a + k
+pub written_digit : (width : Width) (memory : Memory) (a n k q : ℕ) → k < width_bytes width → q ≡ a + k
     → with_bytes memory (width_bytes width) a n q ≡ Some (digit n k)
 written_digit Byte memory a n zero q h e = first_byte memory 0 a n q (omega arith)
 written_digit Byte memory a n (suc k) q h e = absurd (omega arith)
@@ -226,7 +226,7 @@ spells_stored width memory base a i n bytes s e l j h =
       ]
     ]
 
-spells_kept : (memory : Memory) (count base a n : ℕ) (bytes : List ℕ) → Spells memory base bytes → (base + length bytes ≤ a) ⊎ (a + count ≤ base)
+pub spells_kept : (memory : Memory) (count base a n : ℕ) (bytes : List ℕ) → Spells memory base bytes → (base + length bytes ≤ a) ⊎ (a + count ≤ base)
     → Spells (with_bytes memory count a n) base bytes
 spells_kept memory count base a n bytes s (inl h) = λ j l. ahead memory count a n (base + j) (omega arith) ∙ s j l
 spells_kept memory count base a n bytes s (inr h) = λ j l. past memory count a n (base + j) (omega arith) ∙ s j l
@@ -249,16 +249,16 @@ apart_ordered low limit (b ∷ bs) apart =
     let h = apart_ordered (end_of b + 1) limit bs apart.1 in
     omega (arith, apart.0, h)
 
--- an access that lies in a block lies above where the blocks begin and below their limit
+-- an access that lies in a block lies above where the blocks begin and before the byte in front of their limit
 pub any_within : (width : Width) (a low limit : ℕ) (bs : List Block) → AreApart low bs limit → list_any (has width a) bs ≡ true
-    → (low ≤ a) × (a + width_bytes width ≤ limit)
+    → (low ≤ a) × (a + width_bytes width + 1 ≤ limit)
 any_within width a low limit [] apart h = absurd cc
 any_within width a low limit (b ∷ bs) apart h =
     by (has width a b) refl h (λ k. any_within width a (end_of b + 1) limit bs apart.1 k) (apart_ordered (end_of b + 1) limit bs apart.1)
   where
     by : (here : Bool) → has width a b ≡ here → (here || list_any (has width a) bs) ≡ true
-        → (list_any (has width a) bs ≡ true → (end_of b + 1 ≤ a) × (a + width_bytes width ≤ limit)) → end_of b + 1 ≤ limit
-        → (low ≤ a) × (a + width_bytes width ≤ limit)
+        → (list_any (has width a) bs ≡ true → (end_of b + 1 ≤ a) × (a + width_bytes width + 1 ≤ limit)) → end_of b + 1 ≤ limit
+        → (low ≤ a) × (a + width_bytes width + 1 ≤ limit)
     by true e h again o = let p = inside width a b e in (omega (arith, p.0, apart.0), omega (arith, p.1))
     by false e h again o = let p = again h in (omega (arith, p.0, apart.0), p.1)
 
@@ -282,7 +282,7 @@ changed_stored width a n low limit memory (b ∷ bs) apart h one s =
         let p = any_within width a (end_of b + 1) limit bs apart.1 h in
         (spells_kept memory (width_bytes width) b.base a n b.bytes s.0 (inl (omega (arith, p.0))), again h)
 
-one_byte : (width : Width) → 1 ≤ width_bytes width
+pub one_byte : (width : Width) → 1 ≤ width_bytes width
 one_byte Byte = omega arith
 one_byte Word = omega arith
 
@@ -293,7 +293,7 @@ in_data a h k =
     ap (λ x. not x && nat_lt a data_end) p ∙ q
 
 -- What is stored in the blocks is stored in the memory.
-pub stored_there : (width : Width) (a n low limit : ℕ) (bs cs : List Block) (memory : Memory) → AreApart low bs limit → data_start ≤ low → limit ≤ data_end
+pub stored_there : (width : Width) (a n low limit : ℕ) (bs cs : List Block) (memory : Memory) → AreApart low bs limit → data_start ≤ low → limit ≤ data_end + 1
     → SameBytes bs memory → stored width a n bs ≡ Some cs
     → (memory_with width memory a n ≡ Some (with_bytes memory (width_bytes width) a n))
     × SameBytes cs (with_bytes memory (width_bytes width) a n) × AreApart low cs limit

@@ -1,12 +1,16 @@
 pub mod Running
 pub mod Bytes
+pub mod Flat
+pub mod Bounded
 pub mod Values
 pub mod Exprs
+pub mod Aiming
 pub mod Relation
 pub mod Settling
 pub mod Writing
 pub mod Entering
 pub mod Acting
+pub mod Assigning
 pub mod Stepping
 pub mod Starting
 pub mod Follows

@@ -1,22 +1,22 @@
 -- How states of a source program and of its core code are related.
 use Rattle.std.proofs.Common.{◌≡◌, ◌⊎◌, ℕ, ◌+◌, ◌≤◌, List, [], ◌∷◌, length}
-use Rattle.std.specs.Prelude.{Bool, IsTrue, None, IfSome}
+use Rattle.std.specs.Prelude.{Bool, IsTrue, IfSome}
 use Rattle.ckc_base.specs.Matching.{Stretch}
 use Rattle.ckc_base.specs.Actions.{World}
 use Rattle.ckc_source.specs.declared.stmt.Spot.{Spot}
 use Rattle.ckc_source.specs.Code as source
-use Rattle.ckc_source.specs.Blocks.{first_place}
-use Rattle.ckc_source.specs.LaidOut.{AreApart}
+use Rattle.ckc_source.specs.LaidOut.{AreBytes}
 use Rattle.ckc_source.specs.States.{Work, Rest, Turn}
 use Rattle.ckc_source.specs.States as S
 use Rattle.ckc_core.specs.Code.{Code, End, If, Break, Function}
 use Rattle.ckc_core.specs.Meaning.{Stop, Next, Body, Step}
 use Rattle.ckc_core.specs.Meaning as C
-use Rattle.ckc_checks.specs.IntegerForm.{IsIntegerCode, IsIntegerKept, code_nodes}
+use Rattle.ckc_checks.specs.Compilable.{IsCompilableCode, IsCompilableKept, code_nodes}
 use Rattle.ckc_checks.specs.Inserted.{operand, operand_code, statements, result_in, result_kept}
 use Rattle.ckc_inserted.proofs.Running.{machine}
-use Rattle.ckc_inserted.proofs.Bytes.{SameBytes}
+use Rattle.ckc_inserted.proofs.Flat.{SameMemory}
 use Rattle.ckc_inserted.proofs.Values.{Agree}
+use Rattle.ckc_inserted.proofs.Bounded.{AreSmall}
 
 -- one turn of a loop: its condition, and its body
 abbrev pub turn_code : ℕ → source.Expr → source.Code → Code
@@ -25,7 +25,7 @@ turn_code t e body = operand_code e t (If (operand e t) End (Break End) (stateme
 module _ (functions : List source.Function) where
   -- statements in the integer form, in front of so many lists of them, which are small together
   pub record Stands (t : ℕ) (looped : Bool) (behind : ℕ) (code : source.Code) : Type 0 where
-    pub form : IsIntegerCode functions t looped code
+    pub form : IsCompilableCode functions t looped code
     pub few : code_nodes code + behind ≤ 6000
 
   -- the code is a loop, and its parts in core code are these
@@ -69,13 +69,13 @@ module _ (functions : List source.Function) where
     pub behind : Behind f.function.locals looped work g.rest
     pub count : length f.locals ≡ f.function.locals
     pub agree : Agree f.function.locals f.locals g.locals
-    pub result : f.function.result ≡ None
+    pub small : AreSmall f.locals
 
   -- a call that waits keeps the result of the other one first
   pub record SameCaller (c : S.Caller) (d : C.Caller) : Type 0 where
     pub frame : SameFrame (result_kept c.target c.frame.function.locals) c.frame d.frame
     pub target : d.target ≡ result_in c.target c.frame.function.locals
-    pub keeps : IfSome c.target (IsIntegerKept c.frame.function.locals)
+    pub keeps : IfSome c.target (IsCompilableKept c.frame.function.locals)
 
   abbrev pub SameCallers : List S.Caller → List C.Caller → Type 0
   SameCallers [] [] = Unit {0}
@@ -83,21 +83,21 @@ module _ (functions : List source.Function) where
   SameCallers (c ∷ cs) [] = ⊥
   SameCallers (c ∷ cs) (d ∷ ds) = SameCaller c d × SameCallers cs ds
 
-  -- the memory has the bytes of the blocks, which end before a limit, and the same is left of the input
-  pub record SameWorld (limit : ℕ) (s : S.State) (world : World) : Type 0 where
-    pub bytes : SameBytes s.blocks world.memory
-    pub apart : AreApart first_place s.blocks limit
+  -- the memory has the blocks, and the same bytes are left of the input
+  pub record SameWorld (s : S.State) (world : World) : Type 0 where
+    pub memory : SameMemory s.blocks s.next world.memory
     pub input : s.input ≡ world.input
+    pub bytes : AreBytes s.input
 
-  pub record SameState (limit : ℕ) (s : S.State) (u : C.State) : Type 0 where
+  pub record SameState (s : S.State) (u : C.State) : Type 0 where
     pub frame : SameFrame (λ c. c) s.frame u.frame
     pub callers : SameCallers s.callers u.callers
-    pub world : SameWorld limit s u.world
+    pub world : SameWorld s u.world
 
   -- Core code comes to the same state in a few steps of which nothing is seen: at the entry of a function it sets locals.
-  pub record Related (core : List Function) (limit : ℕ) (s : S.State) (u : C.State) : Type 0 where
+  pub record Related (core : List Function) (s : S.State) (u : C.State) : Type 0 where
     pub count : ℕ
     pub to : C.State
     pub few : count ≤ 512
     pub path : Stretch (machine core) count [] u to
-    pub same : SameState limit s to
+    pub same : SameState s to

@@ -48,6 +48,15 @@ module _ (functions : List Function) where
       (count + r.0, omega (arith, r.1), then_closes (machine functions) count r.0 [] [] s u (standing.Stopped why place) path r.2)
   first_runs count least n k s u (Err Stuck) Q few path r = tt
 
+  -- the same, where the stretch makes a step
+  pub later_runs : {A : Type 0} (count n k : ℕ) (s u : State) (x : Result A Halt) (Q : A → State → Type 0) → count + n ≤ k → 1 ≤ count
+      → Stretch (machine functions) count [] s u → Runs functions 0 n u x Q → Runs functions 1 k s x Q
+  later_runs count n k s u (Ok v) Q few some path r =
+      (count + r.0, r.1, omega arith, omega (arith, r.3), then_stretch (machine functions) count r.0 [] [] s u r.1 path r.4, r.5)
+  later_runs count n k s u (Err (Stopped why place)) Q few some path r =
+      (count + r.0, omega (arith, r.1), then_closes (machine functions) count r.0 [] [] s u (standing.Stopped why place) path r.2)
+  later_runs count n k s u (Err Stuck) Q few some path r = tt
+
   -- one evaluation and then another
   pub then_runs : {A B : Type 0} (least m n k : ℕ) (s : State) (x : Result A Halt) (f : A → Result B Halt) (Q : A → State → Type 0) (R : B → State → Type 0)
       → m + n ≤ k → Runs functions 0 m s x Q → ((v : A) (u : State) → Q v u → Runs functions least n u (f v) R) → Runs functions least k s (given x f) R

@@ -1,5 +1,5 @@
 -- What a statement of the source writes, its core code writes.
-use Rattle.std.proofs.Common.{◌≡◌, ◌⊎◌, inl, inr, ℕ, zero, suc, ◌+◌, ◌≤◌, ◌<◌, ◌==◌, List, [], ◌∷◌, append-nil, length, length-set, refl, sym, ◌∙◌, ap, subst, arith}
+use Rattle.std.proofs.Common.{◌≡◌, ◌⊎◌, inl, inr, ℕ, zero, suc, ◌^◌, ◌+◌, ◌≤◌, ◌<◌, ◌==◌, List, [], ◌∷◌, append-nil, length, length-set, refl, sym, ◌∙◌, ap, subst, arith}
 use Rattle.std.specs.Prelude.{Bool, true, false, if◌then◌else◌, slice_index, slice_set, Option, Some, None, Result, Ok, Err}
 use Rattle.std.proofs.lemmas.List.{get_or-set_same, get_or-set_other}
 use Rattle.ckc_base.specs.declared.arithmetic.Width.{Width}
@@ -8,7 +8,7 @@ use Rattle.ckc_base.specs.Traces.{Event}
 use Rattle.ckc_base.specs.LongEvents.{Stored}
 use Rattle.ckc_base.specs.Steps.{Move, Goes, Halts}
 use Rattle.ckc_base.specs.Matching.{Stretch}
-use Rattle.ckc_base.specs.Memory.{Memory, data_end, kept_part, memory_with, with_bytes, width_bytes}
+use Rattle.ckc_base.specs.Memory.{Memory, kept_part, memory_with, with_bytes, width_bytes}
 use Rattle.ckc_base.specs.Actions.{World, with_value, stores, stores_in}
 use Rattle.ckc_base.specs.Activations.{Values, with_written}
 use Rattle.ckc_base.proofs.Runs.{Matched, no_step, then_stretch, then_closes}
@@ -18,19 +18,21 @@ use Rattle.ckc_source.specs.declared.outcome.Halt.TheVariants.{Stopped, Stuck}
 use Rattle.ckc_source.specs.declared.outcome.Place.{Place}
 use Rattle.ckc_source.specs.declared.outcome.Place.TheVariants as place
 use Rattle.ckc_source.specs.Code as source
-use Rattle.ckc_source.specs.Blocks.{Block, stored, first_place}
+use Rattle.ckc_source.specs.Blocks.{Block, stored}
 use Rattle.ckc_source.specs.States.{Work, Rest}
 use Rattle.ckc_source.specs.States as S
-use Rattle.ckc_source.specs.Steps.{at_work, writes, with_blocks, and_moves, comes_to}
-use Rattle.ckc_core.specs.Code.{Expr, Const, Code, Store, Function}
+use Rattle.ckc_source.specs.Steps.{at_work, allowed, writes, with_blocks, and_moves, comes_to}
+use Rattle.ckc_core.specs.Code.{Expr, Local, Code, Set, Store, Function}
 use Rattle.ckc_core.specs.Meaning.{value_of, nodes, core_step, goes_by}
 use Rattle.ckc_core.specs.Meaning as C
-use Rattle.ckc_checks.specs.IntegerForm.{IsIntegerTarget}
-use Rattle.ckc_checks.specs.Inserted.{fixed_place, kept_in, written, statements}
+use Rattle.ckc_checks.specs.Compilable.{IsCompilableTarget}
+use Rattle.ckc_checks.specs.Inserted.{operand, place_at, target_count, kept_in, written, written_there, statements}
 use Rattle.ckc_inserted.proofs.Running.{machine, Runs, at, by_set, step_by}
-use Rattle.ckc_inserted.proofs.Bytes.{stored_there}
+use Rattle.ckc_inserted.proofs.Flat.{stored_same}
 use Rattle.ckc_inserted.proofs.Values.{Agree, low_value}
-use Rattle.ckc_inserted.proofs.Exprs.{written_same}
+use Rattle.ckc_inserted.proofs.Bounded.{AreSmall}
+use Rattle.ckc_inserted.proofs.Exprs.{Below, written_same, place_nodes}
+use Rattle.ckc_inserted.proofs.Aiming.{IsAt}
 use Rattle.ckc_inserted.proofs.Relation.{Stands, Behind, SameCallers, SameWorld, SameState, Related}
 
 -- ---- locals
@@ -61,29 +63,45 @@ agree_set n locals l after x v count less agree there other y h =
     same (suc k) e =
         other y (inr (omega arith)) h ∙ agree y h ∙ ap Some (sym (get_or-set_other locals x y v 0 (λ q. omega arith)))
 
--- where a target is
-abbrev pub place_of : source.Target → Place
-place_of source.Nothing = place.Nowhere
-place_of (source.Variable x width) = place.Local x width
-place_of (source.Memory width access p i) = place.Memory (fixed_place access p) width None
+small_set : (xs : List ℕ) (i v : ℕ) → i < length xs → AreSmall xs → v < 2 ^ 32 → AreSmall (slice_set xs i v)
+small_set xs i v less h small y =
+    elim (below_or_from y i) [
+      | inl below ↦ subst (λ (k : ℕ). k < 2 ^ 32) (sym (get_or-set_other xs i y v 0 (λ e. omega arith))) (h y)
+      | inr p ↦ from p.0 p.1
+    ]
+  where
+    from : (k : ℕ) → y ≡ i + k → slice_index (slice_set xs i v) y < 2 ^ 32
+    from zero e =
+        let e' : y ≡ i = omega arith in
+        subst (λ (k : ℕ). k < 2 ^ 32) (sym (ap (slice_index (slice_set xs i v)) e' ∙ get_or-set_same xs i v 0 less)) small
+    from (suc k) e = subst (λ (k : ℕ). k < 2 ^ 32) (sym (get_or-set_other xs i y v 0 (λ q. omega arith))) (h y)
+
+kept_small : (width : Width) (n : ℕ) → n < 2 ^ 32 → kept_part width n < 2 ^ 32
+kept_small Byte n h = omega arith
+kept_small Word n h = h
+
+-- in how many steps a value is written
+abbrev pub write_steps : source.Target → ℕ → ℕ
+write_steps (source.Memory width access p i) t = 6 + nodes (operand p t) + nodes (operand i (t + 1))
+write_steps target t = 4
 
 -- only a target writes
 abbrev pub least_of : source.Target → ℕ
 least_of source.Nothing = 0
 least_of target = 1
 
-module _ (functions : List source.Function) (core : List Function) (limit : ℕ) (in_region : limit ≤ data_end) where
+module _ (functions : List source.Function) (core : List Function) where
   -- The parts of a state, with this work behind the statements in front, and of the core state that is the same.
   pub record Ready (s : S.State) (work : List Work) (looped : Bool) (ds : List C.Caller) (world : World) (rest : C.Rest) (l : Values) : Type 0 where
     pub behind : Behind functions s.frame.function.locals looped work rest
     pub callers : SameCallers functions s.callers ds
-    pub outside : SameWorld functions limit s world
+    pub outside : SameWorld functions s world
     pub count : length s.frame.locals ≡ s.frame.function.locals
     pub agree : Agree s.frame.function.locals s.frame.locals l
-    pub result : s.frame.function.result ≡ None
+    pub small : AreSmall s.frame.locals
 
   abbrev pub Same : S.State → C.State → Type 0
-  Same s u = SameState functions limit s u
+  Same s u = SameState functions s u
 
   pub same_state : (s : S.State) (work : List Work) (looped : Bool) (ds : List C.Caller) (world : World) (rest : C.Rest) (l : Values) (code : source.Code)
       → Ready s work looped ds world rest l → Stands functions s.frame.function.locals looped (length work) code
@@ -99,17 +117,17 @@ module _ (functions : List source.Function) (core : List Function) (limit : ℕ)
       behind = r.behind;
       count = r.count;
       agree = r.agree;
-      result = r.result;
+      small = r.small;
     };
     callers = r.callers;
-    world = record { bytes = r.outside.bytes; apart = r.outside.apart; input = r.outside.input };
+    world = record { memory = r.outside.memory; input = r.outside.input; bytes = r.outside.bytes };
   }
 
-  pub related : (s : S.State) (u : C.State) → Same s u → Related functions core limit s u
+  pub related : (s : S.State) (u : C.State) → Same s u → Related functions core s u
   related s u h = record { count = 0; to = u; few = omega arith; path = no_step (machine core) u; same = h }
 
   abbrev pub Matches : S.State → C.State → ℕ → Move Event S.State → Type 0
-  Matches s u most move = Matched (machine core) (Related functions core limit) (λ _. 0) s u most move
+  Matches s u most move = Matched (machine core) (Related functions core) (λ _. 0) s u most move
 
   -- Core code comes, in so many steps and with nothing seen, to what the source has written.
   abbrev pub Written : (least most : ℕ) → C.State → Result S.State Halt → Type 0
@@ -135,9 +153,9 @@ module _ (functions : List source.Function) (core : List Function) (limit : ℕ)
       inr (c + m.0, omega (arith, m.1), m.2, then_closes (machine core) c m.0 [] events u w standing path m.3)
 
   pub then_matched : {A : Type 0} (m n k : ℕ) (s : S.State) (u : C.State) (x : Result A Halt) (f : A → Move Event S.State) (Q : A → C.State → Type 0)
-      → m + n ≤ k → Runs core 0 m u x Q → ((v : A) (w : C.State) → Q v w → Matches s w n (f v)) → Matches s u k (and_moves x f)
+      → m + n ≤ k → Runs core 0 m u x Q → ((v : A) (w : C.State) → x ≡ Ok v → Q v w → Matches s w n (f v)) → Matches s u k (and_moves x f)
   then_matched m n k s u (Ok v) f Q few r next =
-      first_matched r.0 n k s u r.1 (f v) (omega (arith, r.3)) r.4 (next v r.1 r.5)
+      first_matched r.0 n k s u r.1 (f v) (omega (arith, r.3)) r.4 (next v r.1 refl r.5)
   then_matched m n k s u (Err (Stopped why place)) f Q few r next = inr (r.0, omega (arith, r.1), tt, r.2)
   then_matched m n k s u (Err Stuck) f Q few r next = inl refl
 
@@ -166,41 +184,42 @@ module _ (functions : List source.Function) (core : List Function) (limit : ℕ)
 
   -- ---- writes
 
-  store_step : (ds : List C.Caller) (world : World) (width : Width) (a n : ℕ) (e : Expr) (next : Code) (rest : C.Rest) (l : Values) (memory : Memory)
-      → value_of l world.memory e ≡ Some n → memory_with width world.memory a n ≡ Some memory
-      → Stretch (machine core) (1 + nodes e + 1) [] (at ds world (Store width (Const a) e next) rest l) (at ds (record world { memory = memory }) next rest l)
+  store_step : (ds : List C.Caller) (world : World) (width : Width) (a n : ℕ) (d e : Expr) (next : Code) (rest : C.Rest) (l : Values) (memory : Memory)
+      → value_of l world.memory d ≡ Some a → value_of l world.memory e ≡ Some n → memory_with width world.memory a n ≡ Some memory
+      → Stretch (machine core) (nodes d + nodes e + 1) [] (at ds world (Store width d e next) rest l) (at ds (record world { memory = memory }) next rest l)
   unfolding core_step
-  store_step ds world width a n e next rest l memory h k =
-      let u = at ds world (Store width (Const a) e next) rest l in
+  store_step ds world width a n d e next rest l memory g h k =
+      let u = at ds world (Store width d e next) rest l in
       let w = at ds (record world { memory = memory }) next rest l in
       step_by core (Stored a width (kept_part width n) ∷ []) u w
-      (ap (λ o. goes_by u next (with_value o (stores world width a))) h
+      (ap (λ o. goes_by u next (with_value o (λ p. with_value (value_of l world.memory e) (stores world width p)))) g
+      ∙ ap (λ o. goes_by u next (with_value o (stores world width a))) h
       ∙ ap (λ m. goes_by u next (stores_in world (Stored a width (kept_part width n)) m)) k)
 
   -- a store in both
   pub stores_same : (s : S.State) (work : List Work) (looped : Bool) (ds : List C.Caller) (world : World) (rest : C.Rest) (l : Values) (code : source.Code)
-      (width : Width) (a n : ℕ) (e : Expr) → Ready s work looped ds world rest l → Stands functions s.frame.function.locals looped (length work) code
-      → value_of l world.memory e ≡ Some n → (o : Option (List Block)) → stored width a n s.blocks ≡ o
-      → Written 1 (nodes e + 2) (at ds world (Store width (Const a) e (statements s.frame.function.locals code)) rest l)
+      (width : Width) (a n : ℕ) (d e : Expr) → Ready s work looped ds world rest l → Stands functions s.frame.function.locals looped (length work) code
+      → value_of l world.memory d ≡ Some a → value_of l world.memory e ≡ Some n → (o : Option (List Block)) → stored width a n s.blocks ≡ o
+      → Written 1 (nodes d + nodes e + 1) (at ds world (Store width d e (statements s.frame.function.locals code)) rest l)
       (with_blocks (at_work s (Rest code ∷ work)) o)
-  stores_same s work looped ds world rest l code width a n e r st h None k = tt
-  stores_same s work looped ds world rest l code width a n e r st h (Some bs) k =
+  stores_same s work looped ds world rest l code width a n d e r st g h None k = tt
+  stores_same s work looped ds world rest l code width a n d e r st g h (Some bs) k =
       let memory = with_bytes world.memory (width_bytes width) a n in
-      let p = stored_there width a n first_place limit s.blocks bs world.memory r.outside.apart (omega arith) in_region r.outside.bytes k in
+      let p = stored_same width a n s.next s.blocks bs world.memory r.outside.memory k in
       let t = s.frame.function.locals in
       let good : Ready (record s { blocks = bs }) work looped ds (record world { memory = memory }) rest l = record {
         behind = r.behind;
         callers = r.callers;
-        outside = record { bytes = p.1; apart = p.2; input = r.outside.input };
+        outside = record { memory = p.1; input = r.outside.input; bytes = r.outside.bytes };
         count = r.count;
         agree = r.agree;
-        result = r.result;
+        small = r.small;
       } in (
-        1 + nodes e + 1,
+        nodes d + nodes e + 1,
         at ds (record world { memory = memory }) (statements t code) rest l,
         omega arith,
         omega arith,
-        store_step ds world width a n e (statements t code) rest l memory h p.0,
+        store_step ds world width a n d e (statements t code) rest l memory g h p.0,
         same_state (record s { blocks = bs }) work looped ds (record world { memory = memory }) rest l code good st,
       )
 
@@ -217,33 +236,34 @@ module _ (functions : List source.Function) (core : List Function) (limit : ℕ)
   kept_nodes Word is_byte e = omega arith
 
   pub set_local : (s : S.State) (work : List Work) (looped : Bool) (ds : List C.Caller) (world : World) (rest : C.Rest) (l after : Values) (x v : ℕ)
-      → Ready s work looped ds world rest l → x < s.frame.function.locals → after x ≡ Some v
+      → Ready s work looped ds world rest l → x < s.frame.function.locals → v < 2 ^ 32 → after x ≡ Some v
       → ((y : ℕ) → (y < x) ⊎ (x < y) → y < s.frame.function.locals → after y ≡ l y)
       → Ready (record s { frame = record s.frame { locals = slice_set s.frame.locals x v } }) work looped ds world rest after
-  set_local s work looped ds world rest l after x v r less there other = record {
+  set_local s work looped ds world rest l after x v r less small there other = record {
     behind = r.behind;
     callers = r.callers;
-    outside = record { bytes = r.outside.bytes; apart = r.outside.apart; input = r.outside.input };
+    outside = record { memory = r.outside.memory; input = r.outside.input; bytes = r.outside.bytes };
     count = length-set s.frame.locals x v ∙ r.count;
     agree = agree_set s.frame.function.locals s.frame.locals l after x v r.count less r.agree there other;
-    result = r.result;
+    small = small_set s.frame.locals x v (omega (arith, r.count)) r.small small;
   }
 
-  -- a value is written to a target in both
-  pub writes_same : (s : S.State) (work : List Work) (looped : Bool) (ds : List C.Caller) (world : World) (rest : C.Rest) (l : Values) (code : source.Code)
-      (target : source.Target) (is_byte : Bool) (e : Expr) (n : ℕ) → Ready s work looped ds world rest l → Stands functions s.frame.function.locals looped (length work) code
-      → IsIntegerTarget s.frame.function.locals target → value_of l world.memory e ≡ Some n → (is_byte ≡ true → n < 256)
-      → Written (least_of target) (nodes e + 4) (at ds world (written target is_byte e (statements s.frame.function.locals code)) rest l)
-      (writes (place_of target) n (at_work s (Rest code ∷ work)))
-  writes_same s work looped ds world rest l code source.Nothing is_byte e n r st h v b =
-      let u = at ds world (statements s.frame.function.locals code) rest l in
-      (0, u, omega arith, omega arith, no_step (machine core) u, same_state s work looped ds world rest l code r st)
-  writes_same s work looped ds world rest l code (source.Variable x width) is_byte e n r st h v b =
+  -- fewer steps are asked for
+  pub more_steps : (least m k : ℕ) (u : C.State) (r : Result S.State Halt) → m ≤ k → Written least m u r → Written least k u r
+  more_steps least m k u (Ok s) few w = (w.0, w.1, w.2, omega (arith, w.3), w.4, w.5)
+  more_steps least m k u (Err Stuck) few w = tt
+  more_steps least m k u (Err (Stopped why at)) few w = w
+
+  set_same : (s : S.State) (work : List Work) (looped : Bool) (ds : List C.Caller) (world : World) (rest : C.Rest) (l : Values) (code : source.Code) (x : ℕ) (width : Width)
+      (is_byte : Bool) (e : Expr) (n : ℕ) → Ready s work looped ds world rest l → Stands functions s.frame.function.locals looped (length work) code
+      → x < s.frame.function.locals → value_of l world.memory e ≡ Some n → n < 2 ^ 32 → (is_byte ≡ true → n < 256)
+      → Written 1 (4 + nodes e) (at ds world (Set x (kept_in width is_byte e) (statements s.frame.function.locals code)) rest l) (writes (place.Local x width) n (at_work s (Rest code ∷ work)))
+  set_same s work looped ds world rest l code x width is_byte e n r st h v small b =
       let t = s.frame.function.locals in
       let k = kept_in width is_byte e in
       let after = with_written l x (kept_part width n) in
       let s2 : S.State = record s { frame = record s.frame { locals = slice_set s.frame.locals x (kept_part width n) } } in
-      let good = set_local s work looped ds world rest l after x (kept_part width n) r h (written_same l x (kept_part width n))
+      let good = set_local s work looped ds world rest l after x (kept_part width n) r h (kept_small width n small) (written_same l x (kept_part width n))
       (λ y other less. written_other l x (kept_part width n) y other) in (
         nodes k + 1,
         at ds world (statements t code) rest after,
@@ -252,11 +272,63 @@ module _ (functions : List source.Function) (core : List Function) (limit : ℕ)
         by_set core ds world x k (statements t code) rest l (kept_part width n) (kept_value l world.memory width is_byte e n v b),
         same_state s2 work looped ds world rest after code good st,
       )
-  writes_same s work looped ds world rest l code (source.Memory width access p i) is_byte e n r st h v b =
-      let a = fixed_place access p in
-      more (stored width a n s.blocks) (stores_same s work looped ds world rest l code width a n e r st v (stored width a n s.blocks) refl)
-    where
-      more : (o : Option (List Block)) → Written 1 (nodes e + 2) (at ds world (Store width (Const (fixed_place access p)) e (statements s.frame.function.locals code)) rest l) (with_blocks (at_work s (Rest code ∷ work)) o)
-          → Written 1 (nodes e + 4) (at ds world (Store width (Const (fixed_place access p)) e (statements s.frame.function.locals code)) rest l) (with_blocks (at_work s (Rest code ∷ work)) o)
-      more None w = tt
-      more (Some bs) w = (w.0, w.1, w.2, omega (arith, w.3), w.4, w.5)
+
+  memory_same : (s : S.State) (work : List Work) (looped : Bool) (ds : List C.Caller) (world : World) (rest : C.Rest) (l : Values) (code : source.Code) (width : Width) (a n : ℕ) (d e : Expr) (to : Place)
+      → Ready s work looped ds world rest l → Stands functions s.frame.function.locals looped (length work) code → to ≡ place.Memory a width None
+      → value_of l world.memory d ≡ Some a → value_of l world.memory e ≡ Some n
+      → Written 1 (nodes d + nodes e + 1) (at ds world (Store width d e (statements s.frame.function.locals code)) rest l) (writes to n (at_work s (Rest code ∷ work)))
+  memory_same s work looped ds world rest l code width a n d e to r st is g h =
+      subst (λ to. Written 1 (nodes d + nodes e + 1) (at ds world (Store width d e (statements s.frame.function.locals code)) rest l) (writes to n (at_work s (Rest code ∷ work)))) (sym is)
+      (stores_same s work looped ds world rest l code width a n d e r st g h (stored width a n s.blocks) refl)
+
+  -- a value is written to a target in both
+  pub writes_same : (s : S.State) (work : List Work) (looped : Bool) (ds : List C.Caller) (world : World) (rest : C.Rest) (l : Values) (code : source.Code)
+      (target : source.Target) (t : ℕ) (to : Place) (is_byte : Bool) (e : Expr) (n : ℕ) → Ready s work looped ds world rest l → Stands functions s.frame.function.locals looped (length work) code
+      → IsCompilableTarget s.frame.function.locals target → IsAt core ds world target t l to → value_of l world.memory e ≡ Some n → n < 2 ^ 32 → (is_byte ≡ true → n < 256)
+      → Written (least_of target) (write_steps target t + nodes e) (at ds world (written target t is_byte e (statements s.frame.function.locals code)) rest l)
+      (writes to n (at_work s (Rest code ∷ work)))
+  writes_same s work looped ds world rest l code source.Nothing t to is_byte e n r st h is v small b =
+      let u = at ds world (statements s.frame.function.locals code) rest l in
+      subst (λ to. Written 0 (4 + nodes e) u (writes to n (at_work s (Rest code ∷ work)))) (sym is)
+      (0, u, omega arith, omega arith, no_step (machine core) u, same_state s work looped ds world rest l code r st)
+  writes_same s work looped ds world rest l code (source.Variable x width) t to is_byte e n r st h is v small b =
+      subst (λ to. Written 1 (4 + nodes e) (at ds world (Set x (kept_in width is_byte e) (statements s.frame.function.locals code)) rest l) (writes to n (at_work s (Rest code ∷ work)))) (sym is)
+      (set_same s work looped ds world rest l code x width is_byte e n r st h v small b)
+  writes_same s work looped ds world rest l code (source.Memory width access p i) t to is_byte e n r st h is v small b =
+      let d = place_at access (operand p t) (operand i (t + 1)) in
+      more_steps 1 (nodes d + nodes e + 1) (write_steps (source.Memory width access p i) t + nodes e) (at ds world (Store width d e (statements s.frame.function.locals code)) rest l)
+      (writes to n (at_work s (Rest code ∷ work))) (omega (arith, place_nodes access (operand p t) (operand i (t + 1))))
+      (memory_same s work looped ds world rest l code width is.0 n d e to r st is.1 (is.3 l (λ z less. refl)) v)
+
+  -- The place of a target is in the temporary t.
+  abbrev pub IsThere : source.Target → ℕ → Values → Place → Type 0
+  IsThere source.Nothing t l to = to ≡ place.Nowhere
+  IsThere (source.Variable x width) t l to = to ≡ place.Local x width
+  IsThere (source.Memory width access p i) t l to = (a : ℕ) × (to ≡ place.Memory a width None) × (l t ≡ Some a)
+
+  pub allowed_there : (target : source.Target) (t : ℕ) (l : Values) (to : Place) (n : ℕ) → IsThere target t l to → allowed to n ≡ Ok to
+  allowed_there source.Nothing t l to n is = subst (λ to. allowed to n ≡ Ok to) (sym is) refl
+  allowed_there (source.Variable x width) t l to n is = subst (λ to. allowed to n ≡ Ok to) (sym is) refl
+  allowed_there (source.Memory width access p i) t l to n is = subst (λ to. allowed to n ≡ Ok to) (sym is.1) refl
+
+  pub there_later : (target : source.Target) (t : ℕ) (before l : Values) (to : Place) → IsThere target t before to → Below (t + target_count target) l before → IsThere target t l to
+  there_later source.Nothing t before l to is below = is
+  there_later (source.Variable x width) t before l to is below = is
+  there_later (source.Memory width access p i) t before l to is below = (is.0, is.1, below t (omega arith) ∙ is.2)
+
+  -- a value is written to a target in both, whose place is in the temporary t
+  pub there_same : (s : S.State) (work : List Work) (looped : Bool) (ds : List C.Caller) (world : World) (rest : C.Rest) (l : Values) (code : source.Code)
+      (target : source.Target) (t : ℕ) (to : Place) (e : Expr) (n : ℕ) → Ready s work looped ds world rest l → Stands functions s.frame.function.locals looped (length work) code
+      → IsCompilableTarget s.frame.function.locals target → IsThere target t l to → value_of l world.memory e ≡ Some n → n < 2 ^ 32
+      → Written (least_of target) (4 + nodes e) (at ds world (written_there target t e (statements s.frame.function.locals code)) rest l) (writes to n (at_work s (Rest code ∷ work)))
+  there_same s work looped ds world rest l code source.Nothing t to e n r st h is v small =
+      let u = at ds world (statements s.frame.function.locals code) rest l in
+      subst (λ to. Written 0 (4 + nodes e) u (writes to n (at_work s (Rest code ∷ work)))) (sym is)
+      (0, u, omega arith, omega arith, no_step (machine core) u, same_state s work looped ds world rest l code r st)
+  there_same s work looped ds world rest l code (source.Variable x width) t to e n r st h is v small =
+      subst (λ to. Written 1 (4 + nodes e) (at ds world (Set x (kept_in width false e) (statements s.frame.function.locals code)) rest l) (writes to n (at_work s (Rest code ∷ work)))) (sym is)
+      (set_same s work looped ds world rest l code x width false e n r st h v small (λ b. absurd cc))
+  there_same s work looped ds world rest l code (source.Memory width access p i) t to e n r st h is v small =
+      more_steps 1 (1 + nodes e + 1) (4 + nodes e) (at ds world (Store width (Local t) e (statements s.frame.function.locals code)) rest l)
+      (writes to n (at_work s (Rest code ∷ work))) (omega arith)
+      (memory_same s work looped ds world rest l code width is.0 n (Local t) e to r st is.1 is.2 v)

@@ -1,17 +1,26 @@
 //! How deep expressions are and how many nodes there are, up to 2^64 - 1.
 ghost use Rattle.std.specs.Prelude.{◌≡◌, ◌+◌, map};
-ghost use Rattle.ckc_source.specs.Code.{expr_of, right_of, code_of};
-ghost use Rattle.ckc_checks.specs.IntegerForm.{depth, expr_nodes, exprs_nodes, right_nodes, code_nodes};
+ghost use Rattle.ckc_source.specs.Code.{expr_of, target_of, right_of, code_of};
+ghost use Rattle.ckc_checks.specs.Compilable.{depth, access_nodes, expr_nodes, exprs_nodes, target_nodes, right_nodes, code_nodes};
 ghost use Rattle.ckc_integer.specs.Capped.{capped};
 
-use ckc_source::{ExprTree, RightTree, StmtTree};
+use ckc_source::{ExprTree, RightTree, StmtTree, TargetTree, Through};
 
 /// How many nodes the longest path down an expression has.
 pub fn depth(e: &ExprTree) -> u64
     ensures { result ≡ capped (depth (expr_of e.now)) }
 {
     match e {
-        ExprTree::Binary(_, _, _, a, b) | ExprTree::And(a, b) | ExprTree::Or(a, b) => {
+        ExprTree::Load(_, _, a, b)
+        | ExprTree::Member(_, _, _, a, b)
+        | ExprTree::Address(_, _, a, b)
+        | ExprTree::Moved(_, a, b)
+        | ExprTree::Added(_, a, b)
+        | ExprTree::Tested(_, _, _, a, b)
+        | ExprTree::Trusted(_, _, a, b)
+        | ExprTree::Binary(_, _, _, a, b)
+        | ExprTree::And(a, b)
+        | ExprTree::Or(a, b) => {
             let left = depth(a.get());
             let right = depth(b.get());
             left.max(right).saturating_add(1)
@@ -22,19 +31,21 @@ pub fn depth(e: &ExprTree) -> u64
             let two = depth(b.get());
             condition.max(one.max(two)).saturating_add(1)
         }
-        ExprTree::Narrow(inner) => depth(inner.get()).saturating_add(1),
+        ExprTree::Narrow(inner) | ExprTree::Bare(inner) => depth(inner.get()).saturating_add(1),
         ExprTree::Number(_)
         | ExprTree::Local(_)
         | ExprTree::Limited(_, _)
-        | ExprTree::Array(_, _)
-        | ExprTree::Load(_, _, _, _)
-        | ExprTree::Member(_, _, _, _, _)
-        | ExprTree::Address(_, _, _, _)
-        | ExprTree::Moved(_, _, _)
-        | ExprTree::Added(_, _, _)
-        | ExprTree::Bare(_)
-        | ExprTree::Tested(_, _, _, _, _)
-        | ExprTree::Trusted(_, _, _, _) => 1,
+        | ExprTree::Array(_, _) => 1,
+    }
+}
+
+/// How many nodes an access counts for, beside its pointer and its index.
+fn access_nodes(through: Through) -> u64
+    ensures { result ≡ access_nodes through }
+{
+    match through {
+        Through::Named => 1,
+        Through::Raw | Through::One | Through::Array | Through::Terminated => 2,
     }
 }
 
@@ -43,7 +54,21 @@ fn expr_nodes(e: &ExprTree) -> u64
     ensures { result ≡ capped (expr_nodes (expr_of e.now)) }
 {
     match e {
-        ExprTree::Binary(_, _, _, a, b) | ExprTree::And(a, b) | ExprTree::Or(a, b) => {
+        ExprTree::Load(_, access, a, b)
+        | ExprTree::Member(_, _, access, a, b)
+        | ExprTree::Address(_, access, a, b) => {
+            let left = expr_nodes(a.get());
+            let right = expr_nodes(b.get());
+            left.saturating_add(right)
+                .saturating_add(access_nodes(access.through))
+        }
+        ExprTree::Moved(_, a, b)
+        | ExprTree::Added(_, a, b)
+        | ExprTree::Tested(_, _, _, a, b)
+        | ExprTree::Trusted(_, _, a, b)
+        | ExprTree::Binary(_, _, _, a, b)
+        | ExprTree::And(a, b)
+        | ExprTree::Or(a, b) => {
             let left = expr_nodes(a.get());
             let right = expr_nodes(b.get());
             left.saturating_add(right).saturating_add(1)
@@ -56,19 +81,13 @@ fn expr_nodes(e: &ExprTree) -> u64
                 .saturating_add(one.saturating_add(two))
                 .saturating_add(1)
         }
-        ExprTree::Narrow(inner) => expr_nodes(inner.get()).saturating_add(1),
+        ExprTree::Narrow(inner) | ExprTree::Bare(inner) => {
+            expr_nodes(inner.get()).saturating_add(1)
+        }
         ExprTree::Number(_)
         | ExprTree::Local(_)
         | ExprTree::Limited(_, _)
-        | ExprTree::Array(_, _)
-        | ExprTree::Load(_, _, _, _)
-        | ExprTree::Member(_, _, _, _, _)
-        | ExprTree::Address(_, _, _, _)
-        | ExprTree::Moved(_, _, _)
-        | ExprTree::Added(_, _, _)
-        | ExprTree::Bare(_)
-        | ExprTree::Tested(_, _, _, _, _)
-        | ExprTree::Trusted(_, _, _, _) => 1,
+        | ExprTree::Array(_, _) => 1,
     }
 }
 
@@ -91,8 +110,23 @@ fn right_nodes(right: &RightTree) -> u64
     ensures { result ≡ capped (right_nodes (right_of right.now)) }
 {
     match right {
-        RightTree::Value(e) => expr_nodes(e.get()),
-        RightTree::Fresh(_, _) => 0,
+        RightTree::Value(e) | RightTree::Fresh(_, e) => expr_nodes(e.get()),
+    }
+}
+
+/// How many nodes a target has.
+fn target_nodes(target: &TargetTree) -> u64
+    ensures { result ≡ capped (target_nodes (target_of target.now)) }
+{
+    match target {
+        TargetTree::Memory(_, access, p, i) => {
+            let pointer = expr_nodes(p.get());
+            let index = expr_nodes(i.get());
+            pointer
+                .saturating_add(index)
+                .saturating_add(access_nodes(access.through))
+        }
+        TargetTree::Nothing | TargetTree::Local(_, _) => 0,
     }
 }
 
@@ -105,10 +139,14 @@ pub fn code_nodes(stmts: &[StmtTree]) -> u64
     while i > 0 {
         i -= 1;
         let here = match &stmts[i] {
-            StmtTree::Assign(_, a) => right_nodes(&a.get().right),
-            StmtTree::Put(_, _, e) | StmtTree::Return(_, e) | StmtTree::Check(_, e) => {
-                expr_nodes(e.get())
+            StmtTree::Assign(_, a) => {
+                target_nodes(&a.get().target).saturating_add(right_nodes(&a.get().right))
             }
+            StmtTree::Put(_, target, e) => {
+                target_nodes(target.get()).saturating_add(expr_nodes(e.get()))
+            }
+            StmtTree::Get(_, target) => target_nodes(target.get()),
+            StmtTree::Return(_, e) | StmtTree::Check(_, e) => expr_nodes(e.get()),
             StmtTree::Call(_, _, _, es) => exprs_nodes(es.as_slice()),
             StmtTree::If(_, e, one, two) | StmtTree::Loop(_, e, one, two) => {
                 let condition = expr_nodes(e.get());
@@ -116,8 +154,7 @@ pub fn code_nodes(stmts: &[StmtTree]) -> u64
                 let second = code_nodes(two.as_slice());
                 condition.saturating_add(first.saturating_add(second))
             }
-            StmtTree::Bundle(_, _) | StmtTree::Get(_, _) => 0,
-            StmtTree::Break | StmtTree::Continue => 0,
+            StmtTree::Bundle(_, _) | StmtTree::Break | StmtTree::Continue => 0,
         };
         count = here.saturating_add(count).saturating_add(1);
     }

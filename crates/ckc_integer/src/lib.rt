@@ -1,5 +1,4 @@
-//! Whether a program is one of integers, laid out and small: the condition under which it can be
-//! compiled.
+//! Whether a program can be compiled: its names exist, its numbers fit, and it is laid out and small.
 #![tactic(auto)]
 
 mod counts;
@@ -8,4 +7,4 @@ mod objects;
 mod program;
 mod statements;
 
-pub use program::is_integer_program;
+pub use program::is_compilable;

@@ -1,8 +1,8 @@
-//! Functions and programs of integers.
+//! Functions and programs that can be compiled.
 ghost use Rattle.std.specs.Prelude.{◌≡◌, ◌↔◌, ◌≤◌, All, map, sum_by, IsTrue};
 ghost use Rattle.ckc_source.specs.Code.{function_of, program_of};
 ghost use Rattle.ckc_source.specs.LaidOut.{IsLaidOut};
-ghost use Rattle.ckc_checks.specs.IntegerForm.{IsIntegerFunction, IsIntegerProgram, function_nodes, program_nodes};
+ghost use Rattle.ckc_checks.specs.Compilable.{IsCompilableFunction, IsCompilable, function_nodes, program_nodes};
 ghost use Rattle.ckc_integer.specs.Capped.{capped};
 
 use crate::counts::code_nodes;
@@ -11,18 +11,17 @@ use crate::statements::{has_params, is_code};
 use ckc_source::{FunctionTree, Program};
 
 fn is_function(f: &FunctionTree, funcs: &[FunctionTree]) -> bool
-    ensures { IsTrue result ↔ IsIntegerFunction (map function_of funcs.now) (function_of f.now) }
+    ensures { IsTrue result ↔ IsCompilableFunction (map function_of funcs.now) (function_of f.now) }
 {
     f.params <= f.locals
         && f.locals <= 255
         && code_nodes(f.body.as_slice()) <= 6000
         && is_code(f.body.as_slice(), funcs, f.locals, false)
-        && f.result.is_none()
 }
 
 fn are_functions(funcs: &[FunctionTree]) -> bool
     ensures { IsTrue result ↔
-        All (IsIntegerFunction (map function_of funcs.now)) (map function_of funcs.now) }
+        All (IsCompilableFunction (map function_of funcs.now)) (map function_of funcs.now) }
 {
     let mut good = true;
     let mut i = funcs.len();
@@ -49,7 +48,7 @@ fn nodes(funcs: &[FunctionTree]) -> u64
 }
 
 fn is_form(p: &Program) -> bool
-    ensures { IsTrue result ↔ IsIntegerProgram (program_of p.now) }
+    ensures { IsTrue result ↔ IsCompilable (program_of p.now) }
 {
     let funcs = p.functions.as_slice();
     begin_low(p.objects.as_slice())
@@ -64,9 +63,9 @@ fn is_laid_out(p: &Program) -> bool
     lie_apart(p.objects.as_slice())
 }
 
-/// Whether a program is one of integers, has its objects laid out, and has at most so many nodes. It takes no memory.
-pub fn is_integer_program(p: &Program, most: u32) -> bool
-    ensures { IsTrue result ↔ (IsIntegerProgram (program_of p.now)
+/// Whether a program can be compiled, has its objects laid out, and has at most so many nodes. It takes no memory.
+pub fn is_compilable(p: &Program, most: u32) -> bool
+    ensures { IsTrue result ↔ (IsCompilable (program_of p.now)
         × IsLaidOut (program_of p.now) × (program_nodes (program_of p.now) ≤ most)) }
 {
     is_form(p) && is_laid_out(p) && nodes(p.functions.as_slice()) <= u64::from(most)

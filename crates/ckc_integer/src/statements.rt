@@ -1,7 +1,7 @@
-//! Statements of programs of integers.
+//! Statements of programs that can be compiled.
 ghost use Rattle.std.specs.Prelude.{◌↔◌, map, slice_get, All, IfSome, IsTrue};
 ghost use Rattle.ckc_source.specs.Code.{code_of, expr_of, function_of};
-ghost use Rattle.ckc_checks.specs.IntegerForm.{HasParams, IsIntegerPart, IsIntegerKept, IsIntegerCode};
+ghost use Rattle.ckc_checks.specs.Compilable.{HasParams, IsCompilablePart, IsCompilableKept, IsCompilableCode};
 
 use crate::exprs::{is_kept, is_part, is_place, is_right, is_target};
 use ckc_source::{ExprTree, FunctionTree, Kept, StmtTree};
@@ -17,7 +17,7 @@ pub fn has_params(funcs: &[FunctionTree], callee: u32, count: usize) -> bool
 }
 
 fn are_parts(es: &[ExprTree], locals: u32) -> bool
-    ensures { IsTrue result ↔ All (IsIntegerPart locals) (map expr_of es.now) }
+    ensures { IsTrue result ↔ All (IsCompilablePart locals) (map expr_of es.now) }
 {
     let mut good = true;
     let mut i = es.len();
@@ -29,7 +29,7 @@ fn are_parts(es: &[ExprTree], locals: u32) -> bool
 }
 
 fn is_kept_where(kept: &Option<Kept>, locals: u32) -> bool
-    ensures { IsTrue result ↔ IfSome kept.now (IsIntegerKept locals) }
+    ensures { IsTrue result ↔ IfSome kept.now (IsCompilableKept locals) }
 {
     match kept {
         Some(kept) => is_kept(*kept, locals),
@@ -37,10 +37,10 @@ fn is_kept_where(kept: &Option<Kept>, locals: u32) -> bool
     }
 }
 
-/// Whether statements are those of a program of integers, in a loop's body or not.
+/// Whether statements can be compiled, in a loop's body or not.
 pub fn is_code(stmts: &[StmtTree], funcs: &[FunctionTree], locals: u32, looped: bool) -> bool
     ensures { IsTrue result ↔
-        IsIntegerCode (map function_of funcs.now) locals looped (code_of stmts.now) }
+        IsCompilableCode (map function_of funcs.now) locals looped (code_of stmts.now) }
 {
     let mut good = true;
     let mut i = stmts.len();

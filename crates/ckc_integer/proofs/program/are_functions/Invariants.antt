@@ -1,13 +1,13 @@
 use Rattle.std.proofs.Common.{◌≤◌, drop, map, length}
 use Rattle.std.specs.Prelude.{◌↔◌, All, IsTrue}
 use Rattle.ckc_source.specs.Code.{function_of}
-use Rattle.ckc_checks.specs.IntegerForm.{IsIntegerFunction}
+use Rattle.ckc_checks.specs.Compilable.{IsCompilableFunction}
 use Rattle.ckc_integer.proofs.program.are_functions.Given as goal
 
 abbrev pub invariant-loop-i : goal.invariant-loop-i
 invariant-loop-i l = record {
   within : l.i ≤ length l.funcs;
-  judged : IsTrue l.good ↔ All (IsIntegerFunction (map function_of l.funcs)) (map function_of (drop l.i l.funcs));
+  judged : IsTrue l.good ↔ All (IsCompilableFunction (map function_of l.funcs)) (map function_of (drop l.i l.funcs));
 }
 
 abbrev pub decreases-loop-i : goal.decreases-loop-i

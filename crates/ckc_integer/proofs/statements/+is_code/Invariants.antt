@@ -1,7 +1,7 @@
 use Rattle.std.proofs.Common.{◌≤◌, drop, map, length}
 use Rattle.std.specs.Prelude.{◌↔◌, IsTrue}
 use Rattle.ckc_source.specs.Code.{code_of, function_of}
-use Rattle.ckc_checks.specs.IntegerForm.{IsIntegerCode}
+use Rattle.ckc_checks.specs.Compilable.{IsCompilableCode}
 use Rattle.ckc_integer.proofs.statements.+is_code.Given as goal
 
 abbrev pub decreases-is_code : goal.decreases-is_code
@@ -10,7 +10,7 @@ decreases-is_code l = goal.size-is_code l
 abbrev pub invariant-loop-i : goal.invariant-loop-i
 invariant-loop-i l = record {
   within : l.i ≤ length l.stmts;
-  judged : IsTrue l.good ↔ IsIntegerCode (map function_of l.funcs) l.locals l.looped (code_of (drop l.i l.stmts));
+  judged : IsTrue l.good ↔ IsCompilableCode (map function_of l.funcs) l.locals l.looped (code_of (drop l.i l.stmts));
 }
 
 abbrev pub decreases-loop-i : goal.decreases-loop-i

@@ -1,0 +1,205 @@
+-- Programs that can be compiled: names exist, numbers fit, functions and expressions are small. No checked pointer to an
+-- array is moved, accessed or tested in them, and no bundle stands in them.
+use Rattle.std.specs.Prelude.{◌≡◌, ℕ, ◌+◌, ◌≤◌, ◌<◌, ◌^◌, max, Bool, true, false, IsTrue, List, [], ◌∷◌, length, slice_get, sum_by, Option, Some, None, All, IfSome}
+use Rattle.ckc_base.specs.Memory.{data_start}
+use Rattle.ckc_core.specs.WellFormed.{IsPlace}
+use Rattle.ckc_source.specs.declared.expr.Access.{Access}
+use Rattle.ckc_source.specs.declared.expr.Shift.{Shift}
+use Rattle.ckc_source.specs.declared.expr.Through.{Through}
+use Rattle.ckc_source.specs.declared.expr.Through.TheVariants.{Named, Raw, One, Array as Arrays, Terminated}
+use Rattle.ckc_source.specs.declared.program.Object.{Object}
+use Rattle.ckc_source.specs.declared.stmt.Kept.{Kept}
+use Rattle.ckc_source.specs.declared.stmt.Kept.TheVariants as kept
+use Rattle.ckc_source.specs.Code.{Expr, Number, Local, Limited, Array, Load, Member, Address, Moved, Added, Binary, And, Or, Choice, Narrow, Bare, Tested, Trusted, Target, Nothing, Variable, Memory, Right, Value, Fresh, Code, End, Assign, Bundle, Get, Put, Call, If, Loop, Break, Continue, Return, Check, Function, Program}
+
+-- ---- measures
+
+-- how many nodes the longest path down an expression has
+abbrev pub depth : Expr → ℕ
+depth (Load width access p i) = 1 + max (depth p) (depth i)
+depth (Member to count access p i) = 1 + max (depth p) (depth i)
+depth (Address bytes access p i) = 1 + max (depth p) (depth i)
+depth (Moved shift p i) = 1 + max (depth p) (depth i)
+depth (Added shift i p) = 1 + max (depth i) (depth p)
+depth (Binary operation is_signed at a b) = 1 + max (depth a) (depth b)
+depth (And a b) = 1 + max (depth a) (depth b)
+depth (Or a b) = 1 + max (depth a) (depth b)
+depth (Choice c a b) = 1 + max (depth c) (max (depth a) (depth b))
+depth (Narrow e) = 1 + depth e
+depth (Bare p) = 1 + depth p
+depth (Tested size form at p k) = 1 + max (depth p) (depth k)
+depth (Trusted to form p k) = 1 + max (depth p) (depth k)
+depth _ = 1
+
+-- how many nodes an access counts for, beside its pointer and its index
+abbrev pub access_nodes : Through → ℕ
+access_nodes Named = 1
+access_nodes _ = 2
+
+-- how many nodes an expression has
+abbrev pub expr_nodes : Expr → ℕ
+expr_nodes (Load width access p i) = access_nodes access.through + expr_nodes p + expr_nodes i
+expr_nodes (Member to count access p i) = access_nodes access.through + expr_nodes p + expr_nodes i
+expr_nodes (Address bytes access p i) = access_nodes access.through + expr_nodes p + expr_nodes i
+expr_nodes (Moved shift p i) = 1 + expr_nodes p + expr_nodes i
+expr_nodes (Added shift i p) = 1 + expr_nodes i + expr_nodes p
+expr_nodes (Binary operation is_signed at a b) = 1 + expr_nodes a + expr_nodes b
+expr_nodes (And a b) = 1 + expr_nodes a + expr_nodes b
+expr_nodes (Or a b) = 1 + expr_nodes a + expr_nodes b
+expr_nodes (Choice c a b) = 1 + expr_nodes c + expr_nodes a + expr_nodes b
+expr_nodes (Narrow e) = 1 + expr_nodes e
+expr_nodes (Bare p) = 1 + expr_nodes p
+expr_nodes (Tested size form at p k) = 1 + expr_nodes p + expr_nodes k
+expr_nodes (Trusted to form p k) = 1 + expr_nodes p + expr_nodes k
+expr_nodes _ = 1
+
+abbrev pub exprs_nodes : List Expr → ℕ
+exprs_nodes [] = 0
+exprs_nodes (e ∷ es) = expr_nodes e + exprs_nodes es
+
+abbrev pub target_nodes : Target → ℕ
+target_nodes (Memory width access p i) = access_nodes access.through + expr_nodes p + expr_nodes i
+target_nodes _ = 0
+
+abbrev pub right_nodes : Right → ℕ
+right_nodes (Value e) = expr_nodes e
+right_nodes (Fresh to e) = expr_nodes e
+
+abbrev pub code_nodes : Code → ℕ
+code_nodes End = 0
+code_nodes (Assign spot target right rest) = 1 + target_nodes target + right_nodes right + code_nodes rest
+code_nodes (Bundle spot assigns rest) = 1 + code_nodes rest
+code_nodes (Get spot target rest) = 1 + target_nodes target + code_nodes rest
+code_nodes (Put spot target e rest) = 1 + target_nodes target + expr_nodes e + code_nodes rest
+code_nodes (Call spot target callee es rest) = 1 + exprs_nodes es + code_nodes rest
+code_nodes (If spot e one two rest) = 1 + expr_nodes e + code_nodes one + code_nodes two + code_nodes rest
+code_nodes (Loop spot e body step rest) = 1 + expr_nodes e + code_nodes body + code_nodes step + code_nodes rest
+code_nodes (Break rest) = 1 + code_nodes rest
+code_nodes (Continue rest) = 1 + code_nodes rest
+code_nodes (Return spot e rest) = 1 + expr_nodes e + code_nodes rest
+code_nodes (Check spot e rest) = 1 + expr_nodes e + code_nodes rest
+
+-- a function and each of its locals are nodes too
+abbrev pub function_nodes : Function → ℕ
+function_nodes f = 1 + f.locals + code_nodes f.body
+
+abbrev pub program_nodes : Program → ℕ
+program_nodes p = sum_by function_nodes p.functions
+
+-- ---- expressions
+
+abbrev pub IsZero : Expr → Type 0
+IsZero (Number n) = n ≡ 0
+IsZero _ = ⊥
+
+-- the ways to judge an access; `_Ptr` has one element
+abbrev pub IsJudged : Through → Expr → Type 0
+IsJudged Named i = Unit {0}
+IsJudged Raw i = Unit {0}
+IsJudged One i = IsZero i
+IsJudged Arrays i = ⊥
+IsJudged Terminated i = ⊥
+
+-- an access at an index
+abbrev pub IsAccess : Access → Expr → Type 0
+IsAccess access i = IsPlace access.at × (access.size < 2 ^ 32) × (access.offset < 2 ^ 32) × IsJudged access.through i
+
+abbrev pub IsShift : Shift → Type 0
+IsShift shift = (shift.checked ≡ false) × (shift.size < 2 ^ 32)
+
+-- an expression over so many locals
+abbrev pub IsCompilableExpr : ℕ → Expr → Type 0
+IsCompilableExpr locals (Number n) = n < 2 ^ 32
+IsCompilableExpr locals (Local x) = x < locals
+IsCompilableExpr locals (Limited x limits) = x < locals
+IsCompilableExpr locals (Array at bytes) = at < 2 ^ 32
+IsCompilableExpr locals (Load width access p i) =
+    IsAccess access i × IsCompilableExpr locals p × IsCompilableExpr locals i
+IsCompilableExpr locals (Member to count access p i) =
+    IsAccess access i × IsCompilableExpr locals p × IsCompilableExpr locals i
+IsCompilableExpr locals (Address bytes access p i) =
+    IsAccess access i × IsCompilableExpr locals p × IsCompilableExpr locals i
+IsCompilableExpr locals (Moved shift p i) = IsShift shift × IsCompilableExpr locals p × IsCompilableExpr locals i
+IsCompilableExpr locals (Added shift i p) = IsShift shift × IsCompilableExpr locals i × IsCompilableExpr locals p
+IsCompilableExpr locals (Binary operation is_signed at a b) =
+    IsPlace at × IsCompilableExpr locals a × IsCompilableExpr locals b
+IsCompilableExpr locals (And a b) = IsCompilableExpr locals a × IsCompilableExpr locals b
+IsCompilableExpr locals (Or a b) = IsCompilableExpr locals a × IsCompilableExpr locals b
+IsCompilableExpr locals (Choice c a b) =
+    IsCompilableExpr locals c × IsCompilableExpr locals a × IsCompilableExpr locals b
+IsCompilableExpr locals (Narrow e) = IsCompilableExpr locals e
+IsCompilableExpr locals (Bare p) = IsCompilableExpr locals p
+IsCompilableExpr locals (Tested size form at p k) = ⊥
+IsCompilableExpr locals (Trusted to form p k) = IsCompilableExpr locals p × IsCompilableExpr locals k
+
+-- an expression in a statement, which is at most 200 deep
+abbrev pub IsCompilablePart : ℕ → Expr → Type 0
+IsCompilablePart locals e = IsCompilableExpr locals e × (depth e ≤ 200)
+
+abbrev pub IsCompilableTarget : ℕ → Target → Type 0
+IsCompilableTarget locals Nothing = Unit {0}
+IsCompilableTarget locals (Variable x width) = x < locals
+IsCompilableTarget locals (Memory width access p i) =
+    IsAccess access i × IsCompilablePart locals p × IsCompilablePart locals i
+
+abbrev pub IsCompilableRight : ℕ → Right → Type 0
+IsCompilableRight locals (Value e) = IsCompilablePart locals e
+IsCompilableRight locals (Fresh to e) = IsCompilablePart locals e × (to.size < 2 ^ 32)
+
+abbrev pub IsCompilableKept : ℕ → Kept → Type 0
+IsCompilableKept locals (kept.Local x width) = x < locals
+IsCompilableKept locals (kept.Static a width) = a < 2 ^ 32
+
+-- ---- statements
+
+-- the function is there and has so many parameters
+abbrev pub HasParams : ℕ → Option Function → Type 0
+HasParams count (Some f) = f.params ≡ count
+HasParams count None = ⊥
+
+-- Calls have as many arguments as the function has parameters, and `break` and `continue` stand only where the flag says
+-- that it is the body of a loop.
+abbrev pub IsCompilableCode : List Function → ℕ → Bool → Code → Type 0
+IsCompilableCode functions locals looped End = Unit {0}
+IsCompilableCode functions locals looped (Assign spot target right rest) =
+    IsCompilableTarget locals target × IsCompilableRight locals right × IsCompilableCode functions locals looped rest
+IsCompilableCode functions locals looped (Get spot target rest) =
+    IsCompilableTarget locals target × IsCompilableCode functions locals looped rest
+IsCompilableCode functions locals looped (Put spot target e rest) =
+    IsCompilableTarget locals target × IsCompilablePart locals e × IsCompilableCode functions locals looped rest
+IsCompilableCode functions locals looped (Call spot target callee es rest) =
+    IfSome target (IsCompilableKept locals) × HasParams (length es) (slice_get functions callee)
+    × All (IsCompilablePart locals) es × IsPlace spot.at × IsCompilableCode functions locals looped rest
+IsCompilableCode functions locals looped (If spot e one two rest) =
+    IsCompilablePart locals e × IsCompilableCode functions locals looped one × IsCompilableCode functions locals looped two
+    × IsCompilableCode functions locals looped rest
+IsCompilableCode functions locals looped (Loop spot e body step rest) =
+    IsCompilablePart locals e × IsCompilableCode functions locals true body × IsCompilableCode functions locals false step
+    × IsCompilableCode functions locals looped rest
+IsCompilableCode functions locals looped (Break rest) = IsTrue looped × IsCompilableCode functions locals looped rest
+IsCompilableCode functions locals looped (Continue rest) = IsTrue looped × IsCompilableCode functions locals looped rest
+IsCompilableCode functions locals looped (Return spot e rest) =
+    IsCompilablePart locals e × IsCompilableCode functions locals looped rest
+IsCompilableCode functions locals looped (Check spot e rest) =
+    IsPlace spot.at × IsCompilablePart locals e × IsCompilableCode functions locals looped rest
+IsCompilableCode functions locals looped _ = ⊥
+
+-- ---- functions and programs
+
+-- a function of at most 255 locals and 6,000 nodes
+pub record IsCompilableFunction (functions : List Function) (f : Function) : Type 0 where
+  pub params : f.params ≤ f.locals
+  pub locals : f.locals ≤ 255
+  pub nodes : code_nodes f.body ≤ 6000
+  pub body : IsCompilableCode functions f.locals false f.body
+
+-- the first bytes of an object end within the first 4 MiB of the data region
+abbrev pub BeginsLow : Object → Type 0
+BeginsLow o = o.at + length o.initial ≤ data_start + 4194304
+
+-- A program that can be compiled: at most 512 functions, and `main` is there and has no parameters.
+pub record IsCompilable (p : Program) : Type 0 where
+  pub objects : All BeginsLow p.objects
+  pub functions : All (IsCompilableFunction p.functions) p.functions
+  pub few : length p.functions ≤ 512
+  pub main : HasParams 0 (slice_get p.functions p.main)

@@ -1,0 +1,101 @@
+-- Where a target is, is found before the value that goes to it.
+use Rattle.std.proofs.Common.{◌≡◌, ℕ, ◌^◌, ◌+◌, ◌≤◌, ◌<◌, List, refl, sym, ◌∙◌, ap, subst, arith}
+use Rattle.std.specs.Prelude.{Bool, true, false, if◌then◌else◌, Some, None, Ok, Err}
+use Rattle.ckc_base.specs.declared.places.Pos.{Pos}
+use Rattle.ckc_base.specs.Actions.{World}
+use Rattle.ckc_base.specs.Activations.{Values}
+use Rattle.ckc_base.proofs.Runs.{no_step}
+use Rattle.ckc_source.specs.declared.expr.Through.{Through}
+use Rattle.ckc_source.specs.declared.expr.Through.TheVariants.{Named, Raw, One, Array, Terminated}
+use Rattle.ckc_source.specs.declared.outcome.Range.{Range}
+use Rattle.ckc_source.specs.declared.outcome.Halt.TheVariants.{Stuck}
+use Rattle.ckc_source.specs.declared.outcome.Place.{Place}
+use Rattle.ckc_source.specs.declared.outcome.Place.TheVariants as place
+use Rattle.ckc_source.specs.Code as source
+use Rattle.ckc_source.specs.Blocks.{lies_in}
+use Rattle.ckc_source.specs.Eval.{Store, given, element, place_in}
+use Rattle.ckc_source.specs.Steps.{terminator_at, aims_at, aimed, allowed}
+use Rattle.ckc_core.specs.Code.{Code, Function}
+use Rattle.ckc_core.specs.Meaning.{Rest, Caller, value_of, nodes}
+use Rattle.ckc_checks.specs.Compilable.{IsJudged, IsCompilableTarget}
+use Rattle.ckc_checks.specs.Inserted.{operand, place_at, null_check, aim_code, target_count}
+use Rattle.ckc_inserted.proofs.Running.{machine, at}
+use Rattle.ckc_inserted.proofs.Values.{Agree, Sees}
+use Rattle.ckc_inserted.proofs.Exprs.{Below, Comes, operand_steps, then_comes, pair_comes, operand_comes, Reached, null_comes, zero_index}
+
+-- in how many steps the place of a target is found
+abbrev pub aim_steps : source.Target → ℕ → ℕ
+aim_steps (source.Memory width access p i) t = operand_steps p t + (operand_steps i (t + 1) + (nodes (operand p t) + 1))
+aim_steps target t = 0
+
+no_terminator : (through : Through) (index : source.Expr) (range : Range) (a : ℕ) (spot : Pos) → IsJudged through index → terminator_at through range a spot ≡ None
+no_terminator Named index range a spot h = refl
+no_terminator Raw index range a spot h = refl
+no_terminator One index range a spot h = refl
+no_terminator Array index range a spot h = absurd h
+no_terminator Terminated index range a spot h = absurd h
+
+module _ (functions : List Function) (callers : List Caller) (world : World) where
+  -- The target is at this place, as long as the locals up to t + 1 stay.
+  abbrev pub IsAt : source.Target → ℕ → Values → Place → Type 0
+  IsAt source.Nothing t l to = to ≡ place.Nowhere
+  IsAt (source.Variable x width) t l to = to ≡ place.Local x width
+  IsAt (source.Memory width access p i) t l to =
+      (a : ℕ) × (to ≡ place.Memory a width None) × (a < 2 ^ 32)
+      × ((later : Values) → Below (t + 2) later l → value_of later world.memory (place_at access (operand p t) (operand i (t + 1))) ≡ Some a)
+
+  abbrev pub Aimed : source.Target → ℕ → Values → Place → Values → Type 0
+  Aimed target t before to l = Below t l before × IsAt target t l to
+
+  module _ (n : ℕ) (s : Store) (sees : Sees n s world.memory) where
+    pub aim_comes : (target : source.Target) (t : ℕ) (more : Code) (rest : Rest) (l : Values) → n ≤ t → IsCompilableTarget n target → Agree n s.locals l
+        → Comes functions callers world 0 (aim_steps target t) (at callers world (aim_code target t more) rest l) (aimed s target) more rest (Aimed target t l)
+    aim_comes source.Nothing t more rest l le h agree =
+        (0, at callers world more rest l, omega arith, omega arith, no_step (machine functions) (at callers world more rest l), (l, refl, ((λ x less. refl), refl)))
+    aim_comes (source.Variable x width) t more rest l le h agree =
+        (0, at callers world more rest l, omega arith, omega arith, no_step (machine functions) (at callers world more rest l), (l, refl, ((λ x less. refl), refl)))
+    aim_comes (source.Memory width access p i) t more rest l le h agree =
+        let a = operand p t in
+        let b = operand i (t + 1) in
+        let judged = h.0 in
+        let pointer = h.1 in
+        let index = h.2 in
+        let good = Aimed (source.Memory width access p i) t l in
+        pair_comes functions callers world n s sees p i t 0 (nodes a + 1) (aim_steps (source.Memory width access p i) t) (null_check access a more) more rest l
+        (λ v k. given (element access v k.number) (aims_at s width access v.range)) good
+        (operand_comes functions callers world n s sees p) (operand_comes functions callers world n s sees i) le pointer.0 index.0 agree (omega arith)
+        (λ x y l2 both.
+        then_comes functions callers world 0 (nodes a + 1) 0 (nodes a + 1) (at callers world (null_check access a more) rest l2) (element access x y.number) (aims_at s width access x.range) more rest
+        (Reached functions callers world n s sees access access.through a b x y l2) (λ to u. (l' : Values) × (u ≡ at callers world more rest l') × good to l') (omega arith)
+        (null_comes functions callers world n s sees access access.through i a b more rest l2 x y judged.3 (both.1 l2 (λ z less. refl)) both.3 both.4
+        (λ z. zero_index functions callers world n s sees i (t + 1) y.number l2 z (both.2 l2 (λ z less. refl))))
+        (λ q l3 r.
+        by x.range q l3 (no_terminator access.through i x.range q access.at judged.3) (λ z less. r.0 z ∙ both.0 z less)
+        (λ later below. r.1 later (both.1 later (λ z less. below z less ∙ r.0 z)) (both.2 later (λ z less. below z less ∙ r.0 z)))
+        (lies_in width (place_in q access.offset) s.blocks)))
+      where
+        by : (range : Range) (q : ℕ) (l3 : Values) → terminator_at access.through range q access.at ≡ None → Below t l3 l
+            → ((later : Values) → Below (t + 2) later l3 → value_of later world.memory (place_at access (operand p t) (operand i (t + 1))) ≡ Some (place_in q access.offset)) → (here : Bool)
+            → Comes functions callers world 0 0 (at callers world more rest l3)
+            (if here then Ok (place.Memory (place_in q access.offset) width (terminator_at access.through range q access.at)) else Err Stuck) more rest (Aimed (source.Memory width access p i) t l)
+        by range q l3 e below value true = (
+          0,
+          at callers world more rest l3,
+          omega arith,
+          omega arith,
+          no_step (machine functions) (at callers world more rest l3),
+          (l3, refl, (below, (place_in q access.offset, ap (λ o. place.Memory (place_in q access.offset) width o) e, omega arith, value))),
+        )
+        by range q l3 e below value false = tt
+
+  -- a value may be written there
+  pub allowed_at : (target : source.Target) (t : ℕ) (l : Values) (to : Place) (n : ℕ) → IsAt target t l to → allowed to n ≡ Ok to
+  allowed_at source.Nothing t l to n is = subst (λ to. allowed to n ≡ Ok to) (sym is) refl
+  allowed_at (source.Variable x width) t l to n is = subst (λ to. allowed to n ≡ Ok to) (sym is) refl
+  allowed_at (source.Memory width access p i) t l to n is = subst (λ to. allowed to n ≡ Ok to) (sym is.1) refl
+
+  -- the target is at its place later too
+  pub at_later : (target : source.Target) (t : ℕ) (before l : Values) (to : Place) → IsAt target t before to → Below (t + target_count target) l before → IsAt target t l to
+  at_later source.Nothing t before l to is below = is
+  at_later (source.Variable x width) t before l to is below = is
+  at_later (source.Memory width access p i) t before l to is below = (is.0, is.1, is.2, λ later same. is.3 later (λ z less. same z less ∙ below z less))

@@ -1,0 +1,253 @@
+-- Values are words, where the locals and what is loaded are.
+use Rattle.std.proofs.Common.{◌≡◌, ℕ, zero, suc, ◌/◌, ◌%◌, ◌^◌, ◌≤◌, ◌<◌, ◌==◌, List, ◌∷◌, refl, sym, subst, arith}
+use Rattle.std.specs.Prelude.{if◌then◌else◌, Bool, true, false, ◌&&◌, slice_index, Option, Some, None, Result, Ok, Err, ℤ, pos, negsuc, neg_ℤ, ◌≤ℤ◌, ◌<ℤ◌, int_div, int_rem}
+use Rattle.std.specs.Int.{int_shr}
+use Rattle.std.proofs.lemmas.Int.{ints}
+use Rattle.std.proofs.lemmas.Bool.{eqb-true}
+use Rattle.std.proofs.lemmas.Nat.{and_le_l, or_lt, xor_lt}
+use Rattle.std.proofs.Math.Nat.{div-le_self}
+use Rattle.ckc_base.specs.declared.arithmetic.Width.{Width}
+use Rattle.ckc_base.specs.declared.arithmetic.Width.TheVariants as width
+use Rattle.ckc_base.specs.declared.arithmetic.BinOp.{BinOp}
+use Rattle.ckc_base.specs.declared.arithmetic.BinOp.TheVariants.{Add, Sub, Mul, DivS, DivU, RemS, RemU, And, Or, Xor, Shl, ShrS, ShrU, LtS, LtU, Eq, Ne}
+use Rattle.ckc_base.specs.declared.places.Pos.{Pos}
+use Rattle.ckc_base.specs.declared.runtime_checks.Check.TheVariants.{Divide}
+use Rattle.ckc_base.specs.Words.{signed, word_of, flag, applied}
+use Rattle.ckc_source.specs.declared.expr.Access.{Access}
+use Rattle.ckc_source.specs.declared.expr.Shift.{Shift}
+use Rattle.ckc_source.specs.declared.expr.Count.{Count}
+use Rattle.ckc_source.specs.declared.expr.Pointee.{Pointee}
+use Rattle.ckc_source.specs.declared.expr.Operation.{Operation}
+use Rattle.ckc_source.specs.declared.expr.Operation.TheVariants as operation
+use Rattle.ckc_source.specs.declared.outcome.Value.{Value}
+use Rattle.ckc_source.specs.declared.outcome.Halt.{Halt}
+use Rattle.ckc_source.specs.declared.outcome.Halt.TheVariants.{Stopped, Stuck}
+use Rattle.ckc_source.specs.declared.program.Shape.{Shape}
+use Rattle.ckc_source.specs.Code as source
+use Rattle.ckc_source.specs.Blocks.{Block, loaded}
+use Rattle.ckc_source.specs.Runs.{is_true}
+use Rattle.ckc_source.specs.Words.{exact, operator, computed, divides, truth, elements_behind}
+use Rattle.ckc_source.specs.Eval.{Store, given, given_both, given_some, plain, ranged, spanned, stops, reads, reads_within, end_address, element, place_in, loads, counted, loads_pointer, moves, moves_checked, operates, trusts, evaluated}
+use Rattle.ckc_checks.specs.Compilable.{IsCompilableExpr}
+
+-- ---- operations on words
+
+flag_word : (b : Bool) → flag b < 2 ^ 32
+flag_word true = omega arith
+flag_word false = omega arith
+
+if_word : (b : Bool) (x y : ℕ) → x < 2 ^ 32 → y < 2 ^ 32 → (if b then x else y) < 2 ^ 32
+if_word true x y h k = h
+if_word false x y h k = k
+
+-- a signed number of 32 bits has a word; 2 ^ 31 too, the quotient of the least one by -1
+natural_word : (n : ℕ) → n < 2 ^ 32 → word_of (pos n) < 2 ^ 32
+natural_word n h = grind (arith, ints)
+
+negative_word : (n : ℕ) → n ≤ 2 ^ 31 → word_of (neg_ℤ (pos n)) < 2 ^ 32
+negative_word zero h = omega arith
+negative_word (suc n) h = grind (arith, ints)
+
+pos_below : (a : ℕ) → pos a <ℤ pos (2 ^ 31) → a < 2 ^ 31
+pos_below a h = grind (arith, ints)
+
+neg_below : (a : ℕ) → neg_ℤ (pos (2 ^ 31)) ≤ℤ negsuc a → suc a ≤ 2 ^ 31
+neg_below a h = grind (arith, ints)
+
+rest_le : (a b : ℕ) → a % b ≤ a
+rest_le a zero = omega arith
+rest_le a (suc b) = omega arith
+
+quotient_of : (x y : ℤ) → neg_ℤ (pos (2 ^ 31)) ≤ℤ x → x <ℤ pos (2 ^ 31) → word_of (int_div x y) < 2 ^ 32
+quotient_of (pos a) (pos b) low high = natural_word (a / b) (omega (arith, div-le_self a b, pos_below a high))
+quotient_of (pos a) (negsuc b) low high = negative_word (a / suc b) (omega (arith, div-le_self a (suc b), pos_below a high))
+quotient_of (negsuc a) (pos b) low high = negative_word (suc a / b) (omega (arith, div-le_self (suc a) b, neg_below a low))
+quotient_of (negsuc a) (negsuc b) low high = natural_word (suc a / suc b) (omega (arith, div-le_self (suc a) (suc b), neg_below a low))
+
+signed_low : (a : ℕ) → a < 2 ^ 32 → neg_ℤ (pos (2 ^ 31)) ≤ℤ signed a
+signed_low a h = grind (arith, ints)
+
+signed_high : (a : ℕ) → a < 2 ^ 32 → signed a <ℤ pos (2 ^ 31)
+signed_high a h = grind (arith, ints)
+
+quotient_word : (a b : ℕ) → a < 2 ^ 32 → a / b < 2 ^ 32
+quotient_word a b h = omega (arith, div-le_self a b)
+
+rest_word : (a b : ℕ) → a < 2 ^ 32 → a % b < 2 ^ 32
+rest_word a b h = omega (arith, rest_le a b)
+
+rest_of : (x y : ℤ) → neg_ℤ (pos (2 ^ 31)) ≤ℤ x → x <ℤ pos (2 ^ 31) → word_of (int_rem x y) < 2 ^ 32
+rest_of (pos a) (pos b) low high = natural_word (a % b) (omega (arith, rest_le a b, pos_below a high))
+rest_of (pos a) (negsuc b) low high = natural_word (a % suc b) (omega (arith, rest_le a (suc b), pos_below a high))
+rest_of (negsuc a) (pos b) low high = negative_word (suc a % b) (omega (arith, rest_le (suc a) b, neg_below a low))
+rest_of (negsuc a) (negsuc b) low high = negative_word (suc a % suc b) (omega (arith, rest_le (suc a) (suc b), neg_below a low))
+
+shifted_of : (x : ℤ) (k : ℕ) → neg_ℤ (pos (2 ^ 31)) ≤ℤ x → x <ℤ pos (2 ^ 31) → word_of (int_shr x k) < 2 ^ 32
+shifted_of (pos a) k low high = natural_word (a / 2 ^ k) (omega (arith, div-le_self a (2 ^ k), pos_below a high))
+shifted_of (negsuc a) k low high = omega arith
+
+pub applied_word : (op : BinOp) (x y : ℕ) → x < 2 ^ 32 → y < 2 ^ 32 → applied op x y < 2 ^ 32
+applied_word Add x y h k = omega arith
+applied_word Sub x y h k = omega arith
+applied_word Mul x y h k = omega arith
+applied_word DivS x y h k = if_word (y == 0) _ _ (omega arith) (quotient_of (signed x) (signed y) (signed_low x h) (signed_high x h))
+applied_word DivU x y h k = if_word (y == 0) _ _ (omega arith) (quotient_word x y h)
+applied_word RemS x y h k = if_word (y == 0) _ _ h (rest_of (signed x) (signed y) (signed_low x h) (signed_high x h))
+applied_word RemU x y h k = if_word (y == 0) _ _ h (rest_word x y h)
+applied_word And x y h k = omega (arith, and_le_l x y)
+applied_word Or x y h k = or_lt 32 x y h k
+applied_word Xor x y h k = xor_lt 32 x y h k
+applied_word Shl x y h k = omega arith
+applied_word ShrS x y h k = shifted_of (signed x) (y % 32) (signed_low x h) (signed_high x h)
+applied_word ShrU x y h k = quotient_word x (2 ^ (y % 32)) h
+applied_word LtS x y h k = flag_word _
+applied_word LtU x y h k = flag_word _
+applied_word Eq x y h k = flag_word _
+applied_word Ne x y h k = flag_word _
+
+-- ---- what an evaluation gives
+
+-- a number, where there is a value
+abbrev pub Gives : ℕ → Result Value Halt → Type 0
+Gives n (Ok v) = v.number ≡ n
+Gives n (Err Stuck) = Unit {0}
+Gives n (Err (Stopped why at)) = ⊥
+
+-- a word, where there is a value
+abbrev pub GivesWord : Result Value Halt → Type 0
+GivesWord (Ok v) = v.number < 2 ^ 32
+GivesWord (Err h) = Unit {0}
+
+pub zero_of : (n : ℕ) → (n == 0) ≡ true → 0 ≡ n
+zero_of n e = sym (eqb-true n 0 e)
+
+-- a pointer that is read has its number
+pub reads_number : (shapes : List Shape) (blocks : List Block) (to : Pointee) (n : ℕ) (low high : ℤ) → Gives n (reads shapes blocks to n low high)
+reads_number shapes blocks to n low high = by (n == 0) refl
+  where
+    true_or_not : (low high : ℕ) (good : Bool) → Gives n (if good then ranged n low high else Err Stuck)
+    true_or_not low high true = refl
+    true_or_not low high false = tt
+
+    inside : (low high : ℤ) → Gives n (reads_within shapes blocks to n low high)
+    inside (pos low) (pos high) = true_or_not low high (is_true shapes blocks to n low high)
+    inside (pos low) (negsuc high) = tt
+    inside (negsuc low) high = tt
+
+    by : (zero : Bool) → (n == 0) ≡ zero → Gives n (if zero then plain 0 else reads_within shapes blocks to n low high)
+    by true e = zero_of n e
+    by false e = inside low high
+
+gives_word : (n : ℕ) (r : Result Value Halt) → Gives n r → n < 2 ^ 32 → GivesWord r
+gives_word n (Ok v) e h = subst (λ (k : ℕ). k < 2 ^ 32) (sym e) h
+gives_word n (Err Stuck) e h = tt
+gives_word n (Err (Stopped why at)) e h = tt
+
+both_word : (r q : Result Value Halt) (f : Value → Value → Result Value Halt) → GivesWord r → GivesWord q
+    → ((v w : Value) → v.number < 2 ^ 32 → w.number < 2 ^ 32 → GivesWord (f v w)) → GivesWord (given_both r q f)
+both_word (Ok v) (Ok w) f x y h = h v w x y
+both_word (Ok v) (Err e) f x y h = tt
+both_word (Err e) q f x y h = tt
+
+given_word : {A : Type 0} (r : Result A Halt) (f : A → Result Value Halt) → ((v : A) → GivesWord (f v)) → GivesWord (given r f)
+given_word (Ok v) f h = h v
+given_word (Err e) f h = tt
+
+shift_word : (back : Bool) (a b : ℕ) → applied (if back then Sub else Add) a b < 2 ^ 32
+shift_word true a b = omega arith
+shift_word false a b = omega arith
+
+moves_word : (shift : Shift) (v : Value) (k : ℕ) (checked : Bool) → checked ≡ false
+    → GivesWord (if checked then moves_checked shift v k else plain (applied (if shift.back then Sub else Add) v.number (applied Mul shift.size k)))
+moves_word shift v k false e = shift_word shift.back v.number (applied Mul shift.size k)
+moves_word shift v k true e = absurd cc
+
+computed_word : (o : Operation) (s : Bool) (a b : ℕ) → a < 2 ^ 32 → b < 2 ^ 32 → computed o s a b < 2 ^ 32
+computed_word operation.Le s a b h k = flag_word _
+computed_word operation.Gt s a b h k = applied_word (operator operation.Lt s) b a k h
+computed_word operation.Ge s a b h k = flag_word _
+computed_word o s a b h k = applied_word (operator o s) a b h k
+
+operates_word : (o : Operation) (s : Bool) (at : Pos) (a b : ℕ) → a < 2 ^ 32 → b < 2 ^ 32 → GivesWord (operates o s at a b)
+operates_word o s at a b h k = by (divides o && (b == 0))
+  where
+    by : (none : Bool) → GivesWord (if none then stops Divide at else plain (computed o s a b))
+    by true = tt
+    by false = computed_word o s a b h k
+
+choice_word : (zero : Bool) (r q : Result Value Halt) → GivesWord r → GivesWord q → GivesWord (if zero then q else r)
+choice_word true r q x y = y
+choice_word false r q x y = x
+
+-- each number of a list is a word
+abbrev pub AreSmall : List ℕ → Type 0
+AreSmall vs = (i : ℕ) → slice_index vs i < 2 ^ 32
+
+pub small_cons : (v : ℕ) (vs : List ℕ) → v < 2 ^ 32 → AreSmall vs → AreSmall (v ∷ vs)
+small_cons v vs h k zero = h
+small_cons v vs h k (suc i) = k i
+
+module _ (n : ℕ) (s : Store) (loads_word : (w : Width) (a m : ℕ) → loaded w a s.blocks ≡ Some m → m < 2 ^ 32) (local_word : (x : ℕ) → x < n → slice_index s.locals x < 2 ^ 32) where
+  loaded_plain : (w : Width) (a : ℕ) (o : Option ℕ) → loaded w a s.blocks ≡ o → GivesWord (given_some o plain)
+  loaded_plain w a (Some m) e = loads_word w a m e
+  loaded_plain w a None e = tt
+
+  loaded_pointer : (to : Pointee) (count : Count) (begin a : ℕ) (o : Option ℕ) → loaded width.Word a s.blocks ≡ o
+      → GivesWord (given_some o (λ n. given (counted s begin count) (λ m. reads s.shapes s.blocks to n (pos n) (elements_behind n to.size m))))
+  loaded_pointer to count begin a (Some k) e =
+      given_word (counted s begin count) (λ m. reads s.shapes s.blocks to k (pos k) (elements_behind k to.size m))
+      (λ m. gives_word k _ (reads_number s.shapes s.blocks to k (pos k) (elements_behind k to.size m)) (loads_word width.Word a k e))
+  loaded_pointer to count begin a None e = tt
+
+  accessed_word : (access : Access) (r q : Result Value Halt) (go : ℕ → Result Value Halt) → ((a : ℕ) → GivesWord (go a))
+      → GivesWord (given_both r q (λ v k. given (element access v k.number) go))
+  accessed_word access (Ok v) (Ok k) go h = given_word (element access v k.number) go h
+  accessed_word access (Ok v) (Err e) go h = tt
+  accessed_word access (Err e) q go h = tt
+
+  -- the value of an expression is a word
+  pub evaluated_word : (e : source.Expr) → IsCompilableExpr n e → GivesWord (evaluated s e)
+  evaluated_word (source.Number m) h = h
+  evaluated_word (source.Local x) h = local_word x h
+  evaluated_word (source.Limited x limits) h =
+      let m = slice_index s.locals x in
+      let size = limits.to.size in
+      gives_word m _ (reads_number s.shapes s.blocks limits.to m (end_address s.locals size m limits.lower) (end_address s.locals size m limits.upper)) (local_word x h)
+  evaluated_word (source.Array at bytes) h = h
+  evaluated_word (source.Load w access p i) h =
+      accessed_word access (evaluated s p) (evaluated s i) (λ a. loads s w (place_in a access.offset))
+      (λ a. loaded_plain w (place_in a access.offset) (loaded w (place_in a access.offset) s.blocks) refl)
+  evaluated_word (source.Member to count access p i) h =
+      accessed_word access (evaluated s p) (evaluated s i) (λ a. loads_pointer s to count a (place_in a access.offset))
+      (λ a. loaded_pointer to count a (place_in a access.offset) (loaded width.Word (place_in a access.offset) s.blocks) refl)
+  evaluated_word (source.Address bytes access p i) h =
+      accessed_word access (evaluated s p) (evaluated s i) (λ a. spanned (place_in a access.offset) bytes) (λ a. omega arith)
+  evaluated_word (source.Moved shift p i) h =
+      let unchecked = h.0 in
+      both_word (evaluated s p) (evaluated s i) (λ v k. moves shift v k.number) (evaluated_word p h.1) (evaluated_word i h.2)
+      (λ v k x y. moves_word shift v k.number shift.checked unchecked.0)
+  evaluated_word (source.Added shift i p) h =
+      let unchecked = h.0 in
+      both_word (evaluated s i) (evaluated s p) (λ k v. moves shift v k.number) (evaluated_word i h.1) (evaluated_word p h.2)
+      (λ k v x y. moves_word shift v k.number shift.checked unchecked.0)
+  evaluated_word (source.Binary o signs at a b) h =
+      both_word (evaluated s a) (evaluated s b) (λ x y. operates o signs at x.number y.number) (evaluated_word a h.1) (evaluated_word b h.2)
+      (λ v w x y. operates_word o signs at v.number w.number x y)
+  evaluated_word (source.And a b) h =
+      given_word (evaluated s a) (λ x. if x.number == 0 then plain 0 else given (evaluated s b) (λ y. plain (truth y.number)))
+      (λ x. choice_word (x.number == 0) (given (evaluated s b) (λ y. plain (truth y.number))) (plain 0) (given_word (evaluated s b) (λ y. plain (truth y.number)) (λ y. flag_word _)) (omega arith))
+  evaluated_word (source.Or a b) h =
+      given_word (evaluated s a) (λ x. if x.number == 0 then given (evaluated s b) (λ y. plain (truth y.number)) else plain 1)
+      (λ x. choice_word (x.number == 0) (plain 1) (given (evaluated s b) (λ y. plain (truth y.number))) (omega arith) (given_word (evaluated s b) (λ y. plain (truth y.number)) (λ y. flag_word _)))
+  evaluated_word (source.Choice c a b) h =
+      given_word (evaluated s c) (λ x. if x.number == 0 then evaluated s b else evaluated s a) (λ x. choice_word (x.number == 0) (evaluated s a) (evaluated s b) (evaluated_word a h.1) (evaluated_word b h.2))
+  evaluated_word (source.Narrow e) h = given_word (evaluated s e) (λ v. plain (v.number % 256)) (λ v. omega arith)
+  evaluated_word (source.Bare p) h = bare (evaluated s p) (evaluated_word p h)
+    where
+      bare : (r : Result Value Halt) → GivesWord r → GivesWord (given r (λ v. plain v.number))
+      bare (Ok v) x = x
+      bare (Err e) x = tt
+  evaluated_word (source.Tested size how at p k) h = absurd h
+  evaluated_word (source.Trusted to how p k) h =
+      both_word (evaluated s p) (evaluated s k) (λ v c. trusts s to how v.number c.number) (evaluated_word p h.0) (evaluated_word k h.1)
+      (λ v c x y. gives_word v.number _ (reads_number s.shapes s.blocks to v.number (pos v.number) (elements_behind v.number to.size (exact how c.number))) x)
