@@ -1,4 +1,4 @@
--- A text of assembly has one answer: its parts, or its first fault.
+-- A text of assembly has one answer at most: its parts, or its first fault.
 use Rattle.std.proofs.Common.{◌≡◌, ℕ, ◌<◌, ◌≤◌, ℤ, pos, List, [], ◌∷◌, length, map, Option, Some, None, refl, sym, ap, ◌∙◌, ◌⊎◌, inl, inr, ⊎_elim, arith, subst}
 use Rattle.std.specs.List.{slice_get}
 use Rattle.std.specs.Option.{option_map}
@@ -13,12 +13,15 @@ use Rattle.ckc_asm.specs.declared.items.Operand.{Operand}
 use Rattle.ckc_asm.specs.declared.items.Operand.TheVariants.{Nothing, Number, Named}
 use Rattle.ckc_lines.specs.Assembled.{distance, AreParts}
 use Rattle.ckc_asm.specs.Cut.{Word, cut, lines_of}
-use Rattle.ckc_asm.specs.Items.{Statement, reading}
+use Rattle.ckc_asm.specs.Items.{Statement}
+use Rattle.ckc_asm.specs.Found.{reading}
 use Rattle.ckc_asm.specs.Program as program
 use Rattle.ckc_asm.specs.Program.{width_of, size_of, offset_of, address_of, HasLabel, IsLabelAt, IsWordOf, IsValue, IsBytes, no_place, of_word, IsEntry, IsEntryOf, Enters, bytes_at, IsImage, AreSingle, AreStatements, AsmOf}
 use Rattle.ckc_asm.specs.Faults as faults
-use Rattle.ckc_asm.specs.Faults.{longest_text, place_of, readings, ReadsEntry, IsFirst, NoneHas, HasNoForm, HasOldLabel, NamesNothing, HasNoWord, IsNoImage, AreFormed, IsAt, IsLabel, IsOperand, WholeFault, NumberFault, NameFault, LabelFault, FormFault, IsFirstFault}
+use Rattle.ckc_base.specs.Places.{longest_text}
+use Rattle.ckc_asm.specs.Faults.{place_of, HasEntry, IsFirst, NoneHas, HasNoForm, HasOldLabel, NamesNothing, HasNoWord, IsNoImage, AreFormed, IsAt, IsLabel, IsOperand, WholeFault, NumberFault, NameFault, LabelFault, FormFault, IsFirstFault}
 use Rattle.ckc_asm.specs.Outcome.{AreFaults}
+use Rattle.ckc_asm.proofs.Grammatical.{reading_found, reading_made, lines_made}
 use Rattle.ckc_asm.proofs.Shaped.{named_shape}
 use Rattle.ckc_lines.proofs.Cases.{order}
 use Rattle.ckc_lines.proofs.WholePieces.{pieces_once}
@@ -64,19 +67,41 @@ somes_once (x ∷ a) (y ∷ b) e =
     ap (λ h. h ∷ a) head ∙ ap (λ t. y ∷ t) (somes_once a b tail)
 
 statements_once : (text : List ℕ) (a b : List Statement) → AreStatements text a → AreStatements text b → a ≡ b
-statements_once text a b e f = somes_once a b (sym e ∙ f)
+statements_once text a b e f = somes_once a b (sym (lines_made (lines_of text) a e) ∙ lines_made (lines_of text) b f)
+
+-- the line of a statement
+pub line_of : (text : List ℕ) (statements : List Statement) → AreStatements text statements → (k : ℕ) (s : Statement) → slice_get statements k ≡ Some s
+    → (line : List ℕ) × (slice_get (lines_of text) k ≡ Some line) × (reading line ≡ Some s)
+line_of text statements form k s at = go (slice_get (lines_of text) k) refl
+  where
+    there : option_map reading (slice_get (lines_of text) k) ≡ Some (Some s)
+    there =
+        sym (slice_get-map reading (lines_of text) k) ∙ ap (λ l. slice_get l k) (lines_made (lines_of text) statements form)
+        ∙ slice_get-map (λ (t : Statement). Some t) statements k ∙ ap (option_map (λ (t : Statement). Some t)) at
+
+    go : (o : Option (List ℕ)) → slice_get (lines_of text) k ≡ o → (line : List ℕ) × (slice_get (lines_of text) k ≡ Some line) × (reading line ≡ Some s)
+    go None e = absurd (let z : None ≡ Some (Some s) = sym (ap (option_map reading) e) ∙ there in cc)
+    go (Some line) e = (line, e, same_Some (reading line) (Some s) (sym (ap (option_map reading) e) ∙ there))
 
 -- the k-th line is the k-th statement's
-line_is : (text : List ℕ) (statements : List Statement) (k : ℕ) (line : Option Statement) → AreStatements text statements → slice_get (readings text) k ≡ Some line
-    → (s : Statement) × (slice_get statements k ≡ Some s) × (line ≡ Some s)
+line_is : (text : List ℕ) (statements : List Statement) (k : ℕ) (line : List ℕ) → AreStatements text statements → slice_get (lines_of text) k ≡ Some line
+    → (s : Statement) × (slice_get statements k ≡ Some s) × (reading line ≡ Some s)
 line_is text statements k line form at = go (slice_get statements k) refl
   where
-    there : option_map (λ (s : Statement). Some s) (slice_get statements k) ≡ Some line
-    there = sym (slice_get-map (λ (s : Statement). Some s) statements k) ∙ sym (ap (λ l. slice_get l k) form) ∙ at
+    there : option_map (λ (s : Statement). Some s) (slice_get statements k) ≡ Some (reading line)
+    there =
+        sym (slice_get-map (λ (s : Statement). Some s) statements k) ∙ sym (ap (λ l. slice_get l k) (lines_made (lines_of text) statements form))
+        ∙ slice_get-map reading (lines_of text) k ∙ ap (option_map reading) at
 
-    go : (o : Option Statement) → slice_get statements k ≡ o → (s : Statement) × (slice_get statements k ≡ Some s) × (line ≡ Some s)
-    go None e = absurd (let z : None ≡ Some line = sym (ap (option_map (λ (s : Statement). Some s)) e) ∙ there in cc)
-    go (Some s) e = (s, e, sym (same_Some (Some s) line (sym (ap (option_map (λ (s : Statement). Some s)) e) ∙ there)))
+    go : (o : Option Statement) → slice_get statements k ≡ o → (s : Statement) × (slice_get statements k ≡ Some s) × (reading line ≡ Some s)
+    go None e = absurd (let z : None ≡ Some (reading line) = sym (ap (option_map (λ (s : Statement). Some s)) e) ∙ there in cc)
+    go (Some s) e = (s, e, sym (same_Some (Some s) (reading line) (sym (ap (option_map (λ (s : Statement). Some s)) e) ∙ there)))
+
+-- a line that is a `.entry` has no other statement
+entry_is : (line : List ℕ) (s : Statement) → reading line ≡ Some s → HasEntry line → IsEntry s.item.form
+entry_is line s e h =
+    let P : Statement → Type 0 = λ t. IsEntry t.item.form in
+    subst P (same_Some h.0 s (sym (reading_made line h.0 h.1) ∙ e)) h.2
 
 -- ---- words
 
@@ -154,7 +179,7 @@ entry_of_once statements name Nothing z y single p q = absurd p
 entry_of_once statements name (Number n) z y single p q = p ∙ sym q
 entry_of_once statements name Named z y single p q = p.2 ∙ ap (λ n. pos n) (label_once statements name p.0 q.0 single p.1 q.1) ∙ sym q.2
 
-enters_once : (statements : List Statement) (z y : ℤ) → AreSingle statements → Enters statements z → Enters statements y → z ≡ y
+pub enters_once : (statements : List Statement) (z y : ℤ) → AreSingle statements → Enters statements z → Enters statements y → z ≡ y
 enters_once statements z y single (program.first n e) (program.first m f) = e ∙ sym f
 enters_once statements z y single (program.first n e) (program.there k s at is f) = absurd (n k s at is)
 enters_once statements z y single (program.there k s at is f) (program.first n e) = absurd (n k s at is)
@@ -202,7 +227,7 @@ label_fault_once statements code code' place place' (inr f) (inr g) = name_once 
 
 form_once : (text : List ℕ) (code code' : ℕ) (place place' : Pos) → FormFault text code place → FormFault text code' place' → AreFaults code place code' place'
 form_once text code code' place place' f g =
-    faults_of code code' 801 place place' f.3 g.3 (f.4 ∙ ap faults.line_front (first_once (HasNoForm (readings text)) (readings text) f.0 g.0 f.1 g.1 f.2 g.2) ∙ sym g.4)
+    faults_of code code' 801 place place' f.3 g.3 (f.4 ∙ ap faults.line_front (first_once (HasNoForm (lines_of text)) (lines_of text) f.0 g.0 f.1 g.1 f.2 g.2) ∙ sym g.4)
 
 form_not : (text : List ℕ) (statements : List Statement) (code : ℕ) (place : Pos) → FormFault text code place → AreFormed text statements → ⊥
 form_not text statements code place f g = g.entries f.0 f.1 f.2.stands f.2.holds
@@ -225,12 +250,12 @@ fault_once text code code' place place' (faults.in_whole h s g f) (faults.in_who
 form_or : (text : List ℕ) (statements : List Statement) (code : ℕ) (place : Pos) → AreStatements text statements → AreSingle statements → FormFault text code place → ⊥
 form_or text statements code place form single f = go f.2.holds
   where
-    go : HasNoForm (readings text) f.0 f.1 → ⊥
-    go (inl none) = let l = line_is text statements f.0 f.1 form f.2.stands in let z : None ≡ Some l.0 = sym none ∙ l.2 in cc
+    go : HasNoForm (lines_of text) f.0 f.1 → ⊥
+    go (inl none) = let l = line_is text statements f.0 f.1 form f.2.stands in none l.0 (reading_found f.1 l.0 l.2)
     go (inr w) =
         let l = line_is text statements f.0 f.1 form f.2.stands in
         let m = line_is text statements w.0 w.1 form w.3 in
-        let e : w.0 ≡ f.0 = single.entries w.0 f.0 m.0 l.0 m.1 l.1 (subst (λ r. ReadsEntry r) m.2 w.4) (subst (λ r. ReadsEntry r) l.2 w.5) in
+        let e : w.0 ≡ f.0 = single.entries w.0 f.0 m.0 l.0 m.1 l.1 (entry_is w.1 m.0 m.2 w.4) (entry_is f.1 l.0 l.2 w.5) in
         omega (arith, e, w.2)
 
 label_or : (statements : List Statement) → AreSingle statements → NoneHas (HasOldLabel statements) statements
@@ -287,21 +312,9 @@ label_fault_or statements entry code' code initial place shaped single image pro
     names (inl f) = has_not (NamesNothing statements) IsOperand statements place f.0 (name_or statements (pos entry) code initial shaped single image)
     names (inr h) = numbers h.1
 
--- the line of a statement
-pub line_of : (text : List ℕ) (statements : List Statement) → AreStatements text statements → (k : ℕ) (s : Statement) → slice_get statements k ≡ Some s
-    → (line : List ℕ) × (reading line ≡ Some s)
-line_of text statements form k s at = go (slice_get (lines_of text) k) refl
-  where
-    there : option_map reading (slice_get (lines_of text) k) ≡ Some (Some s)
-    there = sym (slice_get-map reading (lines_of text) k) ∙ ap (λ l. slice_get l k) form ∙ slice_get-map (λ (t : Statement). Some t) statements k ∙ ap (option_map (λ (t : Statement). Some t)) at
-
-    go : (o : Option (List ℕ)) → slice_get (lines_of text) k ≡ o → (line : List ℕ) × (reading line ≡ Some s)
-    go None e = absurd (let z : None ≡ Some (Some s) = sym (ap (option_map reading) e) ∙ there in cc)
-    go (Some line) e = (line, same_Some (reading line) (Some s) (sym (ap (option_map reading) e) ∙ there))
-
 shaped_in : (text : List ℕ) (statements : List Statement) → AreStatements text statements → (k : ℕ) (s : Statement) → slice_get statements k ≡ Some s
     → s.item.operand ≡ Named → (size_of s ≡ 4) ⊎ IsEntry s.item.form
-shaped_in text statements form k s at named = let l = line_of text statements form k s at in named_shape (cut 1 l.0) s l.1 named
+shaped_in text statements form k s at named = let l = line_of text statements form k s at in named_shape (cut 1 l.0) s l.2 named
 
 pub parts_or_fault : (text : List ℕ) (entry : ℕ) (code initial : List ℕ) (number : ℕ) (place : Pos) → length text ≤ longest_text
     → AsmOf text entry code initial → IsFirstFault text number place → ⊥

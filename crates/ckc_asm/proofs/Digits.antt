@@ -9,7 +9,8 @@ use Rattle.std.proofs.lemmas.Bool.Decides.{nat_tests}
 use Rattle.std.proofs.lemmas.List.{take_all, drop_all}
 use Rattle.std.proofs.lemmas.List.Folds.{list_all_more, list_all_at}
 use Rattle.std.proofs.lemmas.Int.Digits.{digits_value_more}
-use Rattle.ckc_asm.specs.Numerals.{numeral_of, is_numeral, beyond}
+use Rattle.ckc_asm.specs.Numerals.{numeral_of, is_numeral}
+use Rattle.ckc_asm.specs.Spelled.{beyond}
 
 -- a product of a capped number is capped alike
 pub capped_more : (most v r d : ℕ) → 1 ≤ r → min (min v most * r + d) most ≡ min (v * r + d) most

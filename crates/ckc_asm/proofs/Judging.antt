@@ -11,24 +11,28 @@ use Rattle.std.proofs.lemmas.Option.{same_Some, slice_get-map}
 use Rattle.ckc_base.specs.declared.places.Pos.{Pos}
 use Rattle.ckc_image.specs.declared.parts.Parts.{Parts}
 use Rattle.ckc_image.specs.Image.{IsProper}
-use Rattle.ckc_asm.specs.declared.fault.AsmFault.{AsmFault}
-use Rattle.ckc_asm.specs.declared.fault.AsmFault.TheVariants as fault
+use Rattle.ckc_base.specs.declared.fault.Fault.{Fault}
+use Rattle.ckc_base.specs.declared.fault.Fault.TheVariants as fault
 use Rattle.ckc_asm.specs.declared.items.Form.{Form}
 use Rattle.ckc_asm.specs.declared.items.Form.TheVariants as form
 use Rattle.ckc_asm.specs.Cut.{lines_of}
-use Rattle.ckc_asm.specs.Items.{Statement, reading}
+use Rattle.ckc_asm.specs.Items.{Statement}
+use Rattle.ckc_asm.specs.Found.{reading}
 use Rattle.ckc_asm.specs.Program.{width_of, size_of, Enters, IsImage, AreSingle, AsmOf, data_bytes}
-use Rattle.ckc_asm.specs.Faults.{longest_text, NoneHas, HasNoForm, HasOldLabel, IsNoImage, no_code, bad_entry, LabelFault, IsFirstFault, in_whole}
-use Rattle.ckc_asm.specs.Outcome.{IfRefused, AnswersParts, AnswersFault}
-use Rattle.ckc_asm.proofs.Answer.{parts_once, fault_once, parts_or_fault}
-use Rattle.ckc_asm.specs.Reading.{AreRead, IsWhole, IsNoProgram, readings_in}
+use Rattle.ckc_base.specs.Phases.{Answers, viewed}
+use Rattle.ckc_base.specs.Places.{longest_text}
+use Rattle.ckc_asm.specs.Faults.{IsFirst, NoneHas, HasOldLabel, IsNoImage, no_code, bad_entry, LabelFault, IsFirstFault, in_form, in_whole}
+use Rattle.ckc_asm.specs.Phase.{assembling, parts_in}
+use Rattle.ckc_asm.specs.Outcome.{IfRefused}
+use Rattle.ckc_asm.proofs.Grammatical.{lines_found, first_no_form, none_no_form}
+use Rattle.ckc_asm.specs.Reading.{IsUnread, IsFormFault, AreRead, IsWhole, IsNoProgram, readings_in}
 use Rattle.ckc_lines.proofs.Cases.{bool_cases, order}
 
-refused_weaker : (e : AsmFault) (P Q : ℕ → Pos → Type 0) → ((code : ℕ) (place : Pos) → P code place → Q code place) → IfRefused e P → IfRefused e Q
+pub refused_weaker : (e : Fault) (P Q : ℕ → Pos → Type 0) → ((code : ℕ) (place : Pos) → P code place → Q code place) → IfRefused e P → IfRefused e Q
 refused_weaker (fault.Refused r) P Q f h = f r.code r.pos h
 refused_weaker fault.Memory P Q f h = h
 
-pub err_weaker : {T : Type 0} (r : Result T AsmFault) (P Q : ℕ → Pos → Type 0) → ((code : ℕ) (place : Pos) → P code place → Q code place)
+pub err_weaker : {T : Type 0} (r : Result T Fault) (P Q : ℕ → Pos → Type 0) → ((code : ℕ) (place : Pos) → P code place → Q code place)
     → IfErr r (λ e. IfRefused e P) → IfErr r (λ e. IfRefused e Q)
 err_weaker (Ok x) P Q f h = h
 err_weaker (Err e) P Q f h = refused_weaker e P Q f h
@@ -68,7 +72,7 @@ code_words statements code h = ap (λ n. n % 4) h.whole ∙ (sizes statements).0
 pub code_fits : (statements : List Statement) (code : List ℕ) → length statements ≤ 262145 → IsWhole statements code → length code ≤ 16773120
 code_fits statements code l h = omega (arith, h.whole, (sizes statements).1)
 
-pub image_of : (statements : List Statement) (entry given : ℤ) (code initial : List ℕ) (r : Result Parts AsmFault) → given ≡ entry → IsWhole statements code → Enters statements entry
+pub image_of : (statements : List Statement) (entry given : ℤ) (code initial : List ℕ) (r : Result Parts Fault) → given ≡ entry → IsWhole statements code → Enters statements entry
     → initial ≡ flat_map (λ s. data_bytes s.item.form) statements → IfOk r (λ p. (given ≡ pos p.entry) × (p.code ≡ code) × (p.initial ≡ initial))
     → IfOk r (λ p. IsImage statements (pos p.entry) p.code p.initial)
 image_of statements entry given code initial (Err e) is whole enters bytes h = h
@@ -144,22 +148,7 @@ are_single lines statements read none = record {
 
 -- ---- each answer
 
-pub answer_parts : (text : List ℕ) (r : Result Parts AsmFault) → IfOk r (λ p. (length text ≤ longest_text) × AsmOf text p.entry p.code p.initial)
-    → IfErr r (λ e. IfRefused e (λ code place. IsFirstFault text code place)) → (entry : ℕ) (code initial : List ℕ) → length text ≤ longest_text
-    → AsmOf text entry code initial → AnswersParts r entry code initial
-answer_parts text (Ok p) sound refused entry code initial h asm =
-    let same = parts_once text p.entry entry p.code code p.initial initial sound.1 asm in (same.entry_is, same.code_is, same.initial_is)
-answer_parts text (Err fault.Memory) sound refused entry code initial h asm = tt
-answer_parts text (Err (fault.Refused r)) sound refused entry code initial h asm = parts_or_fault text entry code initial r.code r.pos h asm refused
-
-pub answer_fault : (text : List ℕ) (r : Result Parts AsmFault) → IfOk r (λ p. (length text ≤ longest_text) × AsmOf text p.entry p.code p.initial)
-    → IfErr r (λ e. IfRefused e (λ code place. IsFirstFault text code place)) → (code : ℕ) (place : Pos) → IsFirstFault text code place → AnswersFault r code place
-answer_fault text (Ok p) sound refused code place bad = parts_or_fault text p.entry p.code p.initial code place sound.0 sound.1 bad
-answer_fault text (Err fault.Memory) sound refused code place bad = tt
-answer_fault text (Err (fault.Refused r)) sound refused code place bad =
-    let same = fault_once text r.code code r.pos place refused bad in (same.code_is, same.place_is)
-
-pub asm_of : (text : List ℕ) (lines : List (Bor (List ℕ))) (statements : List Statement) (r : Result Parts AsmFault) → map (λ l. l.now) lines ≡ lines_of text
+pub asm_of : (text : List ℕ) (lines : List (Bor (List ℕ))) (statements : List Statement) (r : Result Parts Fault) → map (λ l. l.now) lines ≡ lines_of text
     → length text ≤ longest_text → AreRead (readings_in lines) statements → IfOk r (λ p. NoneHas (HasOldLabel statements) statements)
     → IfOk r (λ p. IsImage statements (pos p.entry) p.code p.initial) → IfOk r (λ p. IsProper p.entry p.code p.initial)
     → IfOk r (λ p. (length text ≤ longest_text) × AsmOf text p.entry p.code p.initial)
@@ -168,7 +157,7 @@ asm_of text lines statements (Ok p) same h read none image proper = (
   h,
   record {
     statements = statements;
-    form = sym (ap (map reading) same) ∙ read.form;
+    form = lines_found (lines_of text) statements (sym (ap (map reading) same) ∙ read.form);
     single = are_single (readings_in lines) statements read none;
     image = image;
     proper = proper;
@@ -180,7 +169,20 @@ pub whole_fault : (text : List ℕ) (lines : List (Bor (List ℕ))) (statements 
 whole_fault text lines statements code place same h read bad =
     in_whole h statements
     (record {
-      form = sym (ap (map reading) same) ∙ read.form;
-      entries = subst (λ (l : List (List ℕ)). NoneHas (HasNoForm (map reading l)) (map reading l)) same read.entries;
+      form = lines_found (lines_of text) statements (sym (ap (map reading) same) ∙ read.form);
+      entries = none_no_form (lines_of text) (subst (λ (l : List (List ℕ)). NoneHas (IsUnread (map reading l)) (map reading l)) same read.entries);
     })
     bad
+
+pub form_fault : (text : List ℕ) (lines : List (Bor (List ℕ))) (code : ℕ) (place : Pos) → map (λ l. l.now) lines ≡ lines_of text
+    → length text ≤ longest_text → IsFormFault (readings_in lines) code place → IsFirstFault text code place
+form_fault text lines code place same h bad =
+    let first = subst (λ (l : List (List ℕ)). IsFirst (IsUnread (map reading l)) (map reading l) bad.0 bad.1) same bad.2 in
+    let line = first_no_form (lines_of text) bad.0 bad.1 first in
+    in_form h (bad.0, line.0, line.1, bad.3, bad.4)
+
+pub answers_of : (text : List ℕ) (r : Result Parts Fault) → IfOk r (λ p. (length text ≤ longest_text) × AsmOf text p.entry p.code p.initial)
+    → IfErr r (λ e. IfRefused e (λ code place. IsFirstFault text code place)) → Answers assembling text (viewed parts_in r)
+answers_of text (Ok p) sound refused = sound
+answers_of text (Err fault.Memory) sound refused = tt
+answers_of text (Err (fault.Refused r)) sound refused = refused

@@ -12,7 +12,7 @@ use Rattle.ckc_rv.specs.declared.instructions.RegOp.{RegOp}
 use Rattle.ckc_rv.specs.declared.instructions.RegOp.TheVariants.{Add, Sub, Sll, Slt, Sltu, Xor, Srl, Sra, Or, And, Mul, Mulh, Mulhsu, Mulhu, Div, Divu, Rem, Remu}
 use Rattle.ckc_asm.specs.declared.items.Kind.TheVariants as kind
 use Rattle.ckc_asm.specs.Names.{branch_name, load_name, store_name, imm_name, reg_name}
-use Rattle.ckc_asm.specs.Items.{kind_of}
+use Rattle.ckc_asm.specs.Found.{kind_of}
 use Rattle.ckc_asm.proofs.Words.{IsRun}
 
 pub branch_kind : (op : BranchOp) → (kind_of (branch_name op) ≡ Some (kind.Branch op)) × IsRun (branch_name op)

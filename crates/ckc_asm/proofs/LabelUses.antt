@@ -6,8 +6,8 @@ use Rattle.std.proofs.lemmas.List.Sums.{sum_by-take-le}
 use Rattle.std.proofs.lemmas.Grind.{flat_map-append}
 use Rattle.std.proofs.lemmas.Option.{same_Some, slice_get_within, get_or_from_slice_get}
 use Rattle.ckc_image.specs.Image.{word_bytes}
-use Rattle.ckc_asm.specs.declared.fault.AsmFault.{AsmFault}
-use Rattle.ckc_asm.specs.declared.fault.AsmFault.TheVariants as fault
+use Rattle.ckc_base.specs.declared.fault.Fault.{Fault}
+use Rattle.ckc_base.specs.declared.fault.Fault.TheVariants as fault
 use Rattle.ckc_asm.specs.declared.items.Form.{Form}
 use Rattle.ckc_asm.specs.declared.items.Form.TheVariants as form
 use Rattle.ckc_asm.specs.declared.items.Operand.{Operand}
@@ -86,7 +86,7 @@ value_same at statements address name (Number n) z y exact v w = v ∙ sym w
 value_same at statements address name Named z y exact v w =
     v.2 ∙ ap (λ t. distance address t) (same_Some v.0 w.0 (sym v.1 ∙ exact.complete name w.0 w.1)) ∙ sym w.2
 
-four_bytes : (n : ℕ) → length (word_bytes n) ≡ 4
+pub four_bytes : (n : ℕ) → length (word_bytes n) ≡ 4
 four_bytes n = refl
 
 pub stands_length : (at : List ℕ → Option ℕ) (address : ℕ) (s : Statement) (bytes : List ℕ) → StandsFor at address s bytes → length bytes ≡ size_of s
@@ -131,28 +131,33 @@ offset_before statements j k s there h =
     let same : sum_by size_of (take (j + 1) (take k statements)) ≡ offset_of statements (j + 1) = ap (sum_by size_of) (take-take (j + 1) k statements (omega arith)) in
     omega (arith, offset_more statements j s there, part, same)
 
+pub words_next : (statements : List Statement) (k : ℕ) (s : Statement) (code bytes new : List ℕ) → slice_get statements k ≡ Some s → new ≡ code ++ bytes
+    → length bytes ≡ size_of s → IsBytes statements (address_of statements k) s bytes → (HasNoWord statements k s → ⊥)
+    → AreWordsBelow statements k code → AreWordsBelow statements (k + 1) new
+words_next statements k s code bytes new here e len is_bytes word below = record {
+  whole = ap length e ∙ length-append code bytes ∙ (omega (arith, offset_more statements k s here, below.whole, len));
+  each = λ j t l there. ⊎_elim
+      (λ (b : j < k).
+      let same : bytes_at statements j t new ≡ bytes_at statements j t code =
+      ap (λ c. bytes_at statements j t c) e ∙ kept (size_of t) (offset_of statements j) code bytes (omega (arith, offset_before statements j k t there b, below.whole)) in
+      rw same (below.each j t b there))
+      (λ (is : j ≡ k).
+      let is_s : s ≡ t = same_Some s t (sym here ∙ (ap (slice_get statements) (sym is) ∙ there)) in
+      let now : bytes_at statements k s new ≡ bytes =
+      ap (λ c. bytes_at statements k s c) e ∙ ap (take (size_of s)) (drop_at code bytes (offset_of statements k) below.whole) ∙ take_all (size_of s) bytes (omega (arith, len)) in
+      let P : Statement → Type 0 = λ u. IsBytes statements (address_of statements j) u (bytes_at statements j u new) in
+      let Q : ℕ → Type 0 = λ i. IsBytes statements (address_of statements i) s (bytes_at statements i s new) in
+      subst P is_s (subst Q (sym is) (rw now is_bytes)))
+      (last_or_before j k l);
+  none = none_more (HasNoWord statements) statements k s here word below.none;
+}
+
 pub words_more : (at : List ℕ → Option ℕ) (statements : List Statement) (k : ℕ) (s : Statement) (code bytes new : List ℕ) (address : ℕ) → IsExact at statements → slice_get statements k ≡ Some s
     → address ≡ address_of statements k → new ≡ code ++ bytes → StandsFor at address s bytes → AreWordsBelow statements k code → AreWordsBelow statements (k + 1) new
 words_more at statements k s code bytes new address exact here place e stands0 below =
     let stands : StandsFor at (address_of statements k) s bytes = subst (λ (a : ℕ). StandsFor at a s bytes) place stands0 in
-    let len = stands_length at (address_of statements k) s bytes stands in
-    record {
-      whole = ap length e ∙ length-append code bytes ∙ (omega (arith, offset_more statements k s here, below.whole, len));
-      each = λ j t l there. ⊎_elim
-          (λ (b : j < k).
-          let same : bytes_at statements j t new ≡ bytes_at statements j t code =
-          ap (λ c. bytes_at statements j t c) e ∙ kept (size_of t) (offset_of statements j) code bytes (omega (arith, offset_before statements j k t there b, below.whole)) in
-          rw same (below.each j t b there))
-          (λ (is : j ≡ k).
-          let is_s : s ≡ t = same_Some s t (sym here ∙ (ap (slice_get statements) (sym is) ∙ there)) in
-          let now : bytes_at statements k s new ≡ bytes =
-          ap (λ c. bytes_at statements k s c) e ∙ ap (take (size_of s)) (drop_at code bytes (offset_of statements k) below.whole) ∙ take_all (size_of s) bytes (omega (arith, len)) in
-          let P : Statement → Type 0 = λ u. IsBytes statements (address_of statements j) u (bytes_at statements j u new) in
-          let Q : ℕ → Type 0 = λ i. IsBytes statements (address_of statements i) s (bytes_at statements i s new) in
-          subst P is_s (subst Q (sym is) (rw now (stands_bytes at statements (address_of statements k) s bytes exact stands))))
-          (last_or_before j k l);
-      none = none_more (HasNoWord statements) statements k s here (stands_word at statements k s bytes exact stands) below.none;
-    }
+    words_next statements k s code bytes new here e (stands_length at (address_of statements k) s bytes stands)
+    (stands_bytes at statements (address_of statements k) s bytes exact stands) (stands_word at statements k s bytes exact stands) below
 
 pub words_all : (statements : List Statement) (k : ℕ) (code : List ℕ) → length statements ≤ k → AreWordsBelow statements k code → IsWhole statements code × NoneHas (HasNoWord statements) statements
 words_all statements k code h below = (
@@ -163,7 +168,7 @@ words_all statements k code h below = (
   none_all (HasNoWord statements) statements k h below.none,
 )
 
-pub no_word : (at : List ℕ → Option ℕ) (statements : List Statement) (k : ℕ) (s : Statement) (address : ℕ) (e : AsmFault) → IsExact at statements → slice_get statements k ≡ Some s
+pub no_word : (at : List ℕ → Option ℕ) (statements : List Statement) (k : ℕ) (s : Statement) (address : ℕ) (e : Fault) → IsExact at statements → slice_get statements k ≡ Some s
     → address ≡ address_of statements k
     → IfRefused e (λ code place. (code ≡ 804) × (place ≡ record { line = k + 1; col = s.operand.col }) × LacksWord at address s)
     → NoneBelow (HasNoWord statements) statements k → IfRefused e (λ code place. IsAt (HasNoWord statements) IsOperand statements place × (code ≡ 804))

@@ -8,8 +8,8 @@ use Rattle.std.proofs.lemmas.Option.{same_Some, slice_get_within, slice_get-get_
 use Rattle.std.proofs.lemmas.Slice.Eq.{bytes_eq-Decides}
 use Rattle.ckc_asm.specs.declared.items.Form.{Form}
 use Rattle.ckc_asm.specs.declared.items.Form.TheVariants as form
-use Rattle.ckc_asm.specs.declared.fault.AsmFault.{AsmFault}
-use Rattle.ckc_asm.specs.declared.fault.AsmFault.TheVariants as fault
+use Rattle.ckc_base.specs.declared.fault.Fault.{Fault}
+use Rattle.ckc_base.specs.declared.fault.Fault.TheVariants as fault
 use Rattle.ckc_asm.specs.declared.spots.Spot as spots
 use Rattle.ckc_asm.specs.declared.statements.Row as kept
 use Rattle.ckc_asm.specs.Cut.{Word}
@@ -154,7 +154,7 @@ row_at rows k row h e =
 pub row_label : (row : kept.Row) (label : spots.Spot) → row.label ≡ Some label → (statement_in row).label ≡ Some (word_of label)
 row_label row label e = ap (option_map word_of) e
 
-pub old_label : (at : List ℕ → Option ℕ) (statements : List Statement) (k : ℕ) (s : Statement) (w : Word) (e : AsmFault) → slice_get statements k ≡ Some s → s.label ≡ Some w
+pub old_label : (at : List ℕ → Option ℕ) (statements : List Statement) (k : ℕ) (s : Statement) (w : Word) (e : Fault) → slice_get statements k ≡ Some s → s.label ≡ Some w
     → IfRefused e (λ code place. (code ≡ 803) × (place ≡ record { line = k + 1; col = w.col }) × IsSome (at w.text))
     → AreLabelsBelow at statements k → IfRefused e (λ code place. IsAt (HasOldLabel statements) IsLabel statements place × (code ≡ 803))
 old_label at statements k s w (fault.Refused r) here label h below = ((k, s, w, labels_stop at statements k s w here label h.2 below, label, h.1), h.0)

@@ -2,6 +2,8 @@ pub mod Words
 pub mod Numbers
 pub mod KindNames
 pub mod Spelling
+pub mod Grammatical
+pub mod Exactness
 pub mod Cutting
 pub mod Digits
 pub mod DataBytes

@@ -11,7 +11,9 @@ use Rattle.std.proofs.lemmas.Bool.{cases_lt, lt-ltb}
 use Rattle.std.proofs.lemmas.Bool.Decides.{nat_tests}
 use Rattle.ckc_rv.specs.Table.{IsSigned}
 use Rattle.ckc_asm.specs.Names.{register, hex_digit, hex, hexadecimal}
-use Rattle.ckc_asm.specs.Numerals.{is_numeral, numeral_of, is_hexadecimal, number_of, register_of, byte_of, is_letter, is_name}
+use Rattle.ckc_asm.specs.Numerals.{is_numeral, numeral_of, is_hexadecimal, number_of, register_of, byte_of}
+use Rattle.ckc_asm.specs.Spelled.{is_letter, is_name}
+use Rattle.ckc_asm.specs.Spelled as spelled
 use Rattle.ckc_asm.proofs.Words.{is_plain, IsRun}
 
 -- a digit is a plain byte
@@ -194,3 +196,9 @@ begins_no_name (b ∷ w) n = rw (digit_letter b n.1.0) (middle_false _ _)
 -- a decimal number is no name
 pub decimal_no_name : (n : ℕ) → n < 2 ^ 64 → is_name (decimal n) ≡ false
 decimal_no_name n h = begins_no_name (decimal n) (decimal_is_IsNumeral n h).0
+
+-- a number is no name
+pub number_no_name : (w : List ℕ) (z : ℤ) → spelled.IsNumber w z → is_name w ≡ false
+number_no_name w z (spelled.plain n s e) = begins_no_name w s.0
+number_no_name w z (spelled.negative digits n is s e) = ap is_name is ∙ middle_false _ _
+number_no_name w z (spelled.hexadecimal digits n is s e) = ap is_name is ∙ middle_false _ _

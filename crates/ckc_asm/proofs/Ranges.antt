@@ -52,4 +52,4 @@ pub words_by_range : (text : List ℕ) (statements : List Statement) (k : ℕ) (
     → ((word : ℕ) × IsWordOf s.item.form z word) ↔ IsInRange s.item.form z
 words_by_range text statements k s z form at four =
     let l = line_of text statements form k s at in
-    (λ w. in_range s.item.form z w.0 w.1, λ h. has_word s.item.form z (registers_fit (cut 1 l.0) s l.1) four h)
+    (λ w. in_range s.item.form z w.0 w.1, λ h. has_word s.item.form z (registers_fit (cut 1 l.0) s l.2) four h)

@@ -6,19 +6,20 @@ use Rattle.std.specs.List.{slice_get}
 use Rattle.std.specs.Option.{option_map}
 use Rattle.std.proofs.lemmas.List.{map-append, length-map, take_more, take_all}
 use Rattle.std.proofs.lemmas.Option.{same_Some, slice_get_within, slice_get-get_or, slice_get-map, get_or_from_slice_get}
-use Rattle.ckc_asm.specs.declared.fault.AsmFault.{AsmFault}
-use Rattle.ckc_asm.specs.declared.fault.AsmFault.TheVariants as fault
-use Rattle.ckc_asm.specs.Items.{Statement, reading}
+use Rattle.ckc_base.specs.declared.fault.Fault.{Fault}
+use Rattle.ckc_base.specs.declared.fault.Fault.TheVariants as fault
+use Rattle.ckc_asm.specs.Items.{Statement}
+use Rattle.ckc_asm.specs.Found.{reading}
 use Rattle.ckc_asm.specs.Outcome.{IfRefused}
 use Rattle.ckc_asm.specs.Program.{IsEntry}
-use Rattle.ckc_asm.specs.Faults.{IsFirst, HasNoForm, ReadsEntry}
-use Rattle.ckc_asm.specs.Reading.{HasTarget, HaveTargets, AreRead, IsRefusedLine, IsFormFault, readings_in}
+use Rattle.ckc_asm.specs.Faults.{IsFirst}
+use Rattle.ckc_asm.specs.Reading.{ReadsEntry, IsUnread, HasTarget, HaveTargets, AreRead, IsRefusedLine, IsFormFault, readings_in}
 use Rattle.ckc_lines.proofs.Cases.{bool_cases, last_or_before}
 
 -- the first k lines have these statements; whether one is `.entry`
 pub record AreRowsBelow (lines : List (Option Statement)) (k : ℕ) (entered : Bool) (statements : List Statement) : Type 0 where
   pub form : take k lines ≡ map (λ s. Some s) statements
-  pub none : (j : ℕ) (line : Option Statement) → j < k → slice_get lines j ≡ Some line → HasNoForm lines j line → ⊥
+  pub none : (j : ℕ) (line : Option Statement) → j < k → slice_get lines j ≡ Some line → IsUnread lines j line → ⊥
   pub targets : HaveTargets statements
   pub some_entry : entered ≡ true → (j : ℕ) × (line : Option Statement) × (j < k) × (slice_get lines j ≡ Some line) × ReadsEntry line
   pub no_entry : entered ≡ false → (j : ℕ) (line : Option Statement) → j < k → slice_get lines j ≡ Some line → ReadsEntry line → ⊥
@@ -74,7 +75,7 @@ rows_more lines k entered next statements s at once target now below = record {
         (λ (f : entered ≡ false). below.no_entry f i earlier l there reads)
         (bool_cases entered)
 
-    here : (line : Option Statement) → Some s ≡ line → (j : ℕ) → j ≡ k → HasNoForm lines j line → ⊥
+    here : (line : Option Statement) → Some s ≡ line → (j : ℕ) → j ≡ k → IsUnread lines j line → ⊥
     here line is j e bad = ⊎_elim
         (λ (n : line ≡ None). let z : Some s ≡ None = is ∙ n in cc)
         (λ w. not_early w.0 w.1 (omega (arith, w.2)) w.3 w.4 (subst (λ l. ReadsEntry l) (sym is) w.5))
@@ -82,7 +83,7 @@ rows_more lines k entered next statements s at once target now below = record {
 
 -- a line that is refused is the first with a fault of form
 pub rows_stop : (lines : List (Option Statement)) (k : ℕ) (entered : Bool) (statements : List Statement) (line : Option Statement) → slice_get lines k ≡ Some line
-    → IsRefusedLine entered line → AreRowsBelow lines k entered statements → IsFirst (HasNoForm lines) lines k line
+    → IsRefusedLine entered line → AreRowsBelow lines k entered statements → IsFirst (IsUnread lines) lines k line
 rows_stop lines k entered statements line at refused below = record {
   stands = at;
   holds = ⊎_elim (λ (n : line ≡ None). inl n) (λ w. let e = below.some_entry w.0 in inr (e.0, e.1, e.2, e.3, e.4, w.1)) refused;
@@ -110,7 +111,7 @@ pub lines_more : (lines : List (Bor (List ℕ))) (k : ℕ) (line : Bor (List ℕ
 lines_more lines k line entered next statements given s h read now e below =
     rw e (rows_more (readings_in lines) k entered next statements s (reading_at lines k line h ∙ ap Some read.0) read.2 read.1 now below)
 
-pub lines_stop : (lines : List (Bor (List ℕ))) (k : ℕ) (line : Bor (List ℕ)) (entered : Bool) (statements : List Statement) (e : AsmFault) → k < length lines
+pub lines_stop : (lines : List (Bor (List ℕ))) (k : ℕ) (line : Bor (List ℕ)) (entered : Bool) (statements : List Statement) (e : Fault) → k < length lines
     → IfRefused e (λ code place. (code ≡ 801) × (place ≡ record { line = k + 1; col = 1 }) × IsRefusedLine entered (reading (get_or lines k line).now))
     → AreRowsBelow (readings_in lines) k entered statements → IfRefused e (λ code place. IsFormFault (readings_in lines) code place)
 lines_stop lines k line entered statements (fault.Refused r) h bad below =

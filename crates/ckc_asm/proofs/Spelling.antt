@@ -11,15 +11,17 @@ use Rattle.std.proofs.lemmas.Slice.Eq.{bytes_eq-Decides}
 use Rattle.ckc_asm.specs.declared.items.Kind.{Kind}
 use Rattle.ckc_asm.specs.declared.items.Kind.TheVariants as kind
 use Rattle.ckc_asm.specs.Names.{register}
-use Rattle.ckc_asm.specs.Numerals.{is_numeral, numeral_of, beyond, is_hexadecimal, number_of, short_register, long_number, long_register, register_of, byte_of}
-use Rattle.ckc_asm.specs.Items.{kind_name, kinds, kind_of}
+use Rattle.ckc_asm.specs.Numerals.{is_numeral, numeral_of, is_hexadecimal, number_of, short_register, long_number, long_register, register_of, byte_of}
+use Rattle.ckc_asm.specs.Spelled.{beyond}
+use Rattle.ckc_asm.specs.Items.{kind_name}
+use Rattle.ckc_asm.specs.Found.{kinds, kind_of}
 use Rattle.ckc_asm.specs.Spelled.{IsRegister, Spells, IsNumber, plain, negative, hexadecimal, IsByte, IsKind}
 use Rattle.ckc_asm.proofs.Numbers.{is_numeral_from, first_digit, no_x, register_back}
 use Rattle.ckc_asm.proofs.KindNames.{branch_kind, load_kind, store_kind, imm_kind, reg_kind}
 
 -- ---- tests and options
 
-both : (a b : Bool) → (a && b) ≡ true → (a ≡ true) × (b ≡ true)
+pub both : (a b : Bool) → (a && b) ≡ true → (a ≡ true) × (b ≡ true)
 both true b e = (refl, e)
 both false b e = absurd cc
 
@@ -27,7 +29,7 @@ when : {A : Type 0} (b : Bool) (x y : A) → cond b (Some x) None ≡ Some y →
 when true x y e = (refl, cc)
 when false x y e = absurd cc
 
-mapped : {A B : Type 0} (f : A → B) (o : Option A) (y : B) → option_map f o ≡ Some y → (x : A) × (o ≡ Some x) × (y ≡ f x)
+pub mapped : {A B : Type 0} (f : A → B) (o : Option A) (y : B) → option_map f o ≡ Some y → (x : A) × (o ≡ Some x) × (y ≡ f x)
 mapped f None y e = absurd cc
 mapped f (Some x) y e = (x, refl, cc)
 

@@ -8,7 +8,8 @@ use Rattle.ckc_asm.specs.declared.items.Item.{Item}
 use Rattle.ckc_asm.specs.declared.spots.Spot as spots
 use Rattle.ckc_asm.specs.Cut.{Word}
 use Rattle.ckc_asm.specs.Rows.{word_of, texts_of}
-use Rattle.ckc_asm.specs.Items.{texts, item_of, statement_with, no_word, operand_index}
+use Rattle.ckc_asm.specs.Items.{texts, no_word, operand_index}
+use Rattle.ckc_asm.specs.Found.{item_of, statement_with}
 
 pub texts_same : (words : List spots.Spot) → texts (map word_of words) ≡ texts_of words
 texts_same words = map-map (λ (w : Word). w.text) word_of words

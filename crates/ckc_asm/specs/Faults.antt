@@ -1,22 +1,17 @@
 -- The first fault of a text of assembly. The codes are judged in the order E201, E801, E803, E802, E804, E805, and
 -- each at the first line where it holds. Lines and statements are counted from 0 here.
-use Rattle.std.specs.Prelude.{◌≡◌, ◌⊎◌, ℕ, ◌+◌, ◌<◌, ◌≤◌, ℤ, pos, List, length, map, slice_get, Option, Some, None, sum_by}
+use Rattle.std.specs.Prelude.{◌≡◌, ◌⊎◌, ℕ, ◌+◌, ◌<◌, ◌≤◌, ℤ, pos, List, length, slice_get, Some, sum_by}
 use Rattle.std.specs.List.{flat_map}
 use Rattle.ckc_base.specs.declared.places.Pos.{Pos}
+use Rattle.ckc_base.specs.Places.{start, longest_text}
 use Rattle.ckc_image.specs.Image.{EntryFits}
 use Rattle.ckc_asm.specs.declared.items.Operand.TheVariants.{Named}
 use Rattle.ckc_asm.specs.Cut.{Word, lines_of}
-use Rattle.ckc_asm.specs.Items.{Statement, reading}
+use Rattle.ckc_asm.specs.Items.{Statement}
+use Rattle.ckc_asm.specs.Grammar.{HasStatement}
 use Rattle.ckc_asm.specs.Program.{size_of, address_of, HasLabel, IsLabelAt, IsWordOf, IsValue, data_bytes, IsEntry, Enters, AreStatements}
 
--- the bytes that a text may have
-abbrev pub longest_text : ℕ
-longest_text = 262144
-
 -- ---- places
-
-abbrev pub front : Pos
-front = record { line = 1; col = 1 }
 
 abbrev pub line_front : ℕ → Pos
 line_front k = record { line = k + 1; col = 1 }
@@ -37,24 +32,21 @@ NoneHas {A} P xs = (k : ℕ) (x : A) → slice_get xs k ≡ Some x → P k x →
 
 -- ---- E801: a line of no form, or a second `.entry`
 
-abbrev pub readings : List ℕ → List (Option Statement)
-readings text = map reading (lines_of text)
+-- the line is a `.entry`
+abbrev pub HasEntry : List ℕ → Type 0
+HasEntry line = (s : Statement) × HasStatement line s × IsEntry s.item.form
 
-abbrev pub ReadsEntry : Option Statement → Type 0
-ReadsEntry None = ⊥
-ReadsEntry (Some s) = IsEntry s.item.form
-
-abbrev pub IsSecondEntry : List (Option Statement) → ℕ → Option Statement → Type 0
+abbrev pub IsSecondEntry : List (List ℕ) → ℕ → List ℕ → Type 0
 IsSecondEntry lines k line =
-    (j : ℕ) × (earlier : Option Statement) × (j < k) × (slice_get lines j ≡ Some earlier) × ReadsEntry earlier × ReadsEntry line
+    (j : ℕ) × (earlier : List ℕ) × (j < k) × (slice_get lines j ≡ Some earlier) × HasEntry earlier × HasEntry line
 
-abbrev pub HasNoForm : List (Option Statement) → ℕ → Option Statement → Type 0
-HasNoForm lines k line = (line ≡ None) ⊎ IsSecondEntry lines k line
+abbrev pub HasNoForm : List (List ℕ) → ℕ → List ℕ → Type 0
+HasNoForm lines k line = ((s : Statement) → ¬ HasStatement line s) ⊎ IsSecondEntry lines k line
 
 -- each line has a statement, and `.entry` stands once at most
 pub record AreFormed (text : List ℕ) (statements : List Statement) : Type 0 where
   pub form : AreStatements text statements
-  pub entries : NoneHas (HasNoForm (readings text)) (readings text)
+  pub entries : NoneHas (HasNoForm (lines_of text)) (lines_of text)
 
 -- ---- E803: a label a second time
 
@@ -98,7 +90,7 @@ IsOperand s w = s.operand ≡ w
 
 -- E805
 abbrev pub WholeFault : List Statement → ℕ → Pos → Type 0
-WholeFault statements code place = IsNoImage statements × (code ≡ 805) × (place ≡ front)
+WholeFault statements code place = IsNoImage statements × (code ≡ 805) × (place ≡ start)
 
 -- E804, or where it does not hold E805
 abbrev pub NumberFault : List Statement → ℕ → Pos → Type 0
@@ -121,10 +113,10 @@ LabelFault statements code place =
 -- E801
 abbrev pub FormFault : List ℕ → ℕ → Pos → Type 0
 FormFault text code place =
-    (k : ℕ) × (line : Option Statement) × IsFirst (HasNoForm (readings text)) (readings text) k line × (code ≡ 801) × (place ≡ line_front k)
+    (k : ℕ) × (line : List ℕ) × IsFirst (HasNoForm (lines_of text)) (lines_of text) k line × (code ≡ 801) × (place ≡ line_front k)
 
 -- the first fault of a text: its code and its place
 pub data IsFirstFault (text : List ℕ) (code : ℕ) (place : Pos) : Type 0 where
-  too_long : longest_text < length text → code ≡ 201 → place ≡ front → IsFirstFault text code place
+  too_long : longest_text < length text → code ≡ 201 → place ≡ start → IsFirstFault text code place
   in_form : length text ≤ longest_text → FormFault text code place → IsFirstFault text code place
   in_whole : length text ≤ longest_text → (statements : List Statement) → AreFormed text statements → LabelFault statements code place → IsFirstFault text code place

@@ -1,17 +1,14 @@
--- Registers, numbers, names and bytes as words.
-use Rattle.std.specs.Prelude.{ℕ, ◌+◌, ◌-◌, ◌*◌, ◌^◌, min, Bool, ◌&&◌, ◌||◌, ◌==◌, nat_lt, nat_le, if◌then◌else◌, ℤ, pos, neg_ℤ, List, length, drop, slice_index, Option, Some, None}
+-- Registers, numbers and bytes as a reader finds them in words.
+use Rattle.std.specs.Prelude.{ℕ, ◌+◌, ◌-◌, ◌*◌, min, Bool, ◌&&◌, ◌==◌, nat_lt, nat_le, if◌then◌else◌, ℤ, pos, neg_ℤ, List, length, drop, slice_index, Option, Some, None}
 use Rattle.std.specs.List.{list_all}
 use Rattle.std.specs.Option.{option_map}
 use Rattle.std.specs.Char.{is_digit}
 use Rattle.std.specs.Str.Parse.{digits_value}
+use Rattle.ckc_asm.specs.Spelled.{beyond}
 
 -- one digit or more
 abbrev pub is_numeral : ℕ → List ℕ → Bool
 is_numeral radix w = nat_lt 0 (length w) && list_all (λ b. is_digit b radix) w
-
--- a number that is out of every range of assembly
-abbrev pub beyond : ℕ
-beyond = 2 ^ 40
 
 -- what the digits stand for; from 2 ^ 40 on, that
 abbrev pub numeral_of : ℕ → List ℕ → Option ℕ
@@ -44,14 +41,6 @@ long_register w =
 abbrev pub register_of : List ℕ → Option ℕ
 register_of w =
     if length w == 2 then short_register w else (if length w == 3 then long_register w else None)
-
--- a letter or `_`
-abbrev pub is_letter : ℕ → Bool
-is_letter b = (nat_le 97 b && nat_le b 122) || (nat_le 65 b && nat_le b 90) || b == 95
-
--- letters, digits and `_`, not begun by a digit
-abbrev pub is_name : List ℕ → Bool
-is_name w = nat_lt 0 (length w) && is_letter (slice_index w 0) && list_all (λ b. is_letter b || is_digit b 10) w
 
 -- two hexadecimal digits
 abbrev pub byte_of : List ℕ → Option ℕ

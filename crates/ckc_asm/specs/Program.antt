@@ -1,5 +1,5 @@
 -- What a text of assembly stands for: entry, code and initial bytes.
-use Rattle.std.specs.Prelude.{◌≡◌, ℕ, ◌+◌, ◌^◌, ◌<◌, ℤ, pos, List, [], length, map, take, drop, slice_get, Some, sum_by}
+use Rattle.std.specs.Prelude.{◌≡◌, ℕ, ◌+◌, ◌^◌, ◌<◌, ℤ, pos, List, [], length, take, drop, slice_get, Some, sum_by}
 use Rattle.std.specs.List.{flat_map}
 use Rattle.ckc_rv.specs.declared.instructions.Instr.TheVariants as instr
 use Rattle.ckc_rv.specs.Table.{Decodes}
@@ -10,7 +10,8 @@ use Rattle.ckc_asm.specs.declared.items.Operand.{Operand}
 use Rattle.ckc_asm.specs.declared.items.Operand.TheVariants.{Nothing, Number, Named}
 use Rattle.ckc_lines.specs.Assembled.{distance}
 use Rattle.ckc_asm.specs.Cut.{Word, lines_of}
-use Rattle.ckc_asm.specs.Items.{Statement, reading}
+use Rattle.ckc_asm.specs.Items.{Statement}
+use Rattle.ckc_asm.specs.Grammar.{HaveStatements}
 
 -- ---- places
 
@@ -112,7 +113,7 @@ pub record AreSingle (statements : List Statement) : Type 0 where
 
 -- each line of the text has a statement
 abbrev pub AreStatements : List ℕ → List Statement → Type 0
-AreStatements text statements = map reading (lines_of text) ≡ map (λ s. Some s) statements
+AreStatements text statements = HaveStatements (lines_of text) statements
 
 -- The text is assembly of these parts.
 pub record AsmOf (text : List ℕ) (entry : ℕ) (code initial : List ℕ) : Type 0 where

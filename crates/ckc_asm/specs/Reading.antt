@@ -1,5 +1,5 @@
 -- What the passes over a text of assembly have found.
-use Rattle.std.specs.Prelude.{◌≡◌, ◌⊎◌, ℕ, ℤ, pos, Bool, true, List, [], length, map, slice_get, Option, Some, None, sum_by, bytes_eq}
+use Rattle.std.specs.Prelude.{◌≡◌, ◌⊎◌, ℕ, ◌<◌, ℤ, pos, Bool, true, List, [], length, map, slice_get, Option, Some, None, sum_by, bytes_eq}
 use Rattle.std.specs.Borrow.{Bor}
 use Rattle.std.specs.HashMap.{HashMap, get_by}
 use Rattle.ckc_base.specs.declared.places.Pos.{Pos}
@@ -8,14 +8,27 @@ use Rattle.ckc_asm.specs.declared.items.Item.{Item}
 use Rattle.ckc_asm.specs.declared.items.Operand.{Operand}
 use Rattle.ckc_asm.specs.declared.items.Operand.TheVariants.{Nothing, Number, Named}
 use Rattle.ckc_lines.specs.Assembled.{distance}
-use Rattle.ckc_asm.specs.Items.{Statement, reading}
+use Rattle.ckc_asm.specs.Items.{Statement}
+use Rattle.ckc_asm.specs.Found.{reading}
 use Rattle.ckc_asm.specs.Program.{size_of, address_of, IsLabelAt, IsWordOf, IsBytes, IsEntry, bytes_at}
-use Rattle.ckc_asm.specs.Faults.{IsFirst, NoneHas, HasNoForm, ReadsEntry, line_front}
+use Rattle.ckc_asm.specs.Faults.{IsFirst, NoneHas, line_front}
 
 -- ---- the lines
 
 abbrev pub readings_in : List (Bor (List ℕ)) → List (Option Statement)
 readings_in lines = map reading (map (λ l. l.now) lines)
+
+abbrev pub ReadsEntry : Option Statement → Type 0
+ReadsEntry None = ⊥
+ReadsEntry (Some s) = IsEntry s.item.form
+
+abbrev pub ReadsSecond : List (Option Statement) → ℕ → Option Statement → Type 0
+ReadsSecond lines k line =
+    (j : ℕ) × (earlier : Option Statement) × (j < k) × (slice_get lines j ≡ Some earlier) × ReadsEntry earlier × ReadsEntry line
+
+-- a line has no statement, or a second `.entry`
+abbrev pub IsUnread : List (Option Statement) → ℕ → Option Statement → Type 0
+IsUnread lines k line = (line ≡ None) ⊎ ReadsSecond lines k line
 
 -- what `.entry` says is a number or a label
 abbrev pub HasTarget : Item → Type 0
@@ -27,13 +40,13 @@ HaveTargets statements = (k : ℕ) (s : Statement) → slice_get statements k �
 -- The lines have these statements, and no line has a fault of form.
 pub record AreRead (lines : List (Option Statement)) (statements : List Statement) : Type 0 where
   pub form : lines ≡ map (λ s. Some s) statements
-  pub entries : NoneHas (HasNoForm lines) lines
+  pub entries : NoneHas (IsUnread lines) lines
   pub targets : HaveTargets statements
 
 -- the first line with a fault of form
 abbrev pub IsFormFault : List (Option Statement) → ℕ → Pos → Type 0
 IsFormFault lines code place =
-    (k : ℕ) × (line : Option Statement) × IsFirst (HasNoForm lines) lines k line × (code ≡ 801) × (place ≡ line_front k)
+    (k : ℕ) × (line : Option Statement) × IsFirst (IsUnread lines) lines k line × (code ≡ 801) × (place ≡ line_front k)
 
 -- the line has no statement, or a second `.entry`
 abbrev pub IsRefusedLine : Bool → Option Statement → Type 0

@@ -1,37 +1,45 @@
 //! The code of statements.
 ghost use Rattle.std.specs.Prelude.{◌≡◌, ℕ, ◌+◌, ◌^◌, ◌<◌, ◌≤◌, List, ◌++◌, length, None, Some, OnOk, IfOk, IfErr, IsSome, IsTrue};
+ghost use Rattle.ckc_base.specs.Places.{longest_text};
 ghost use Rattle.ckc_asm.specs.declared.items.Operand.TheVariants as operands;
-ghost use Rattle.ckc_asm.specs.Faults.{longest_text, NamesNothing, HasNoWord, NoneHas, IsAt, IsOperand};
+ghost use Rattle.ckc_asm.specs.Faults.{NamesNothing, HasNoWord, NoneHas, IsAt, IsOperand};
 ghost use Rattle.ckc_asm.specs.Outcome.{IfRefused};
 ghost use Rattle.ckc_asm.specs.Reading.{known, IsExact, IsWhole, ValueIs, StandsFor, LacksWord};
 ghost use Rattle.ckc_asm.specs.Rows.{statement_in, statements_in};
 
 use crate::encoding::word_of;
-use crate::fault::AsmFault;
 use crate::items::Operand;
-use crate::labels::{Labels, refused, width_of};
+use crate::labels::{Labels, width_of};
 use crate::statements::Row;
+use ckc_base::{Fault, Pos, refused};
 use ckc_lines::CODE;
 use std::alloc::Global;
 
 /// That each label that an item names stands somewhere.
-pub fn check_names(rows: &[Row], labels: &Labels) -> Result<(), AsmFault>
+pub fn check_names(rows: &[Row], labels: &Labels) -> Result<(), Fault>
     requires few { length rows.now ≤ longest_text + 1 }
     requires exact { IsExact (known labels.now) (statements_in rows.now) }
-    ensures names { OnOk result (NoneHas (NamesNothing (statements_in rows.now)) (statements_in rows.now)) }
-    ensures fault { IfErr result (λ e. IfRefused e (λ code place. IsAt (NamesNothing (statements_in rows.now)) IsOperand (statements_in rows.now) place × (code ≡ 802))) }
+    ensures names { OnOk result (NoneHas (NamesNothing (statements_in rows.now))
+        (statements_in rows.now)) }
+    ensures fault { IfErr result (λ e. IfRefused e
+        (λ code place. IsAt (NamesNothing (statements_in rows.now)) IsOperand
+        (statements_in rows.now) place × (code ≡ 802))) }
 {
     for (k, row) in rows.iter().enumerate() {
         if is_unknown(row, labels) {
-            return Err(refused(802, k as u32 + 1, row.operand.col));
+            let line = k as u32 + 1;
+            let col = row.operand.col;
+            return Err(refused(802, Pos { line, col }));
         }
     }
     Ok(())
 }
 
 fn is_unknown(row: &Row, labels: &Labels) -> bool
-    ensures unknown { IsTrue result → (row.now.item.operand ≡ operands.Named) × (known labels.now row.now.operand.text.now ≡ None) }
-    ensures known { row.now.item.operand ≡ operands.Named → known labels.now row.now.operand.text.now ≡ None → IsTrue result }
+    ensures unknown { IsTrue result → (row.now.item.operand ≡ operands.Named)
+        × (known labels.now row.now.operand.text.now ≡ None) }
+    ensures known { row.now.item.operand ≡ operands.Named
+        → known labels.now row.now.operand.text.now ≡ None → IsTrue result }
 {
     match row.item.operand {
         Operand::Named => labels.get(&row.operand.text).is_none(),
@@ -40,12 +48,15 @@ fn is_unknown(row: &Row, labels: &Labels) -> bool
 }
 
 /// The code of statements, or the first of which the number is out of range.
-pub fn code_of(alloc: Global, rows: &[Row], labels: &Labels) -> Result<Vec<u8>, AsmFault>
+pub fn code_of(alloc: Global, rows: &[Row], labels: &Labels) -> Result<Vec<u8>, Fault>
     requires few { length rows.now ≤ longest_text + 1 }
     requires exact { IsExact (known labels.now) (statements_in rows.now) }
     requires named { NoneHas (NamesNothing (statements_in rows.now)) (statements_in rows.now) }
-    ensures code { IfOk result (λ code. IsWhole (statements_in rows.now) code.items × NoneHas (HasNoWord (statements_in rows.now)) (statements_in rows.now)) }
-    ensures fault { IfErr result (λ e. IfRefused e (λ code place. IsAt (HasNoWord (statements_in rows.now)) IsOperand (statements_in rows.now) place × (code ≡ 804))) }
+    ensures code { IfOk result (λ code. IsWhole (statements_in rows.now) code.items
+        × NoneHas (HasNoWord (statements_in rows.now)) (statements_in rows.now)) }
+    ensures fault { IfErr result (λ e. IfRefused e
+        (λ code place. IsAt (HasNoWord (statements_in rows.now)) IsOperand
+        (statements_in rows.now) place × (code ≡ 804))) }
 {
     let mut code = Vec::new(alloc);
     let mut address = CODE;
@@ -62,10 +73,14 @@ fn put_statement(
     labels: &Labels,
     address: u32,
     line: u32,
-) -> Result<(), AsmFault>
-    requires { row.now.item.operand ≡ operands.Named → IsSome (known labels.now row.now.operand.text.now) }
-    ensures ok { OnOk result ((bytes : List ℕ) × (code.new.items ≡ code.old.items ++ bytes) × StandsFor (known labels.now) address (statement_in row.now) bytes) }
-    ensures fault { IfErr result (λ e. IfRefused e (λ code place. (code ≡ 804) × (place ≡ (record { line = line; col = row.now.operand.col })) × LacksWord (known labels.now) address (statement_in row.now))) }
+) -> Result<(), Fault>
+    requires { row.now.item.operand ≡ operands.Named
+        → IsSome (known labels.now row.now.operand.text.now) }
+    ensures ok { OnOk result ((bytes : List ℕ) × (code.new.items ≡ code.old.items ++ bytes)
+        × StandsFor (known labels.now) address (statement_in row.now) bytes) }
+    ensures fault { IfErr result (λ e. IfRefused e
+        (λ code place. (code ≡ 804) × (place ≡ (record { line = line; col = row.now.operand.col }))
+        × LacksWord (known labels.now) address (statement_in row.now))) }
 {
     if width_of(&row.item.form) == 0 {
         return Ok(());
@@ -76,14 +91,19 @@ fn put_statement(
             code.extend_from_slice(&word.to_le_bytes())?;
             Ok(())
         }
-        None => Err(refused(804, line, row.operand.col)),
+        None => {
+            let col = row.operand.col;
+            Err(refused(804, Pos { line, col }))
+        }
     }
 }
 
 /// The number of an item: its own, or how far its label is.
 fn value_of(row: &Row, labels: &Labels, address: u32) -> i64
-    requires { row.now.item.operand ≡ operands.Named → IsSome (known labels.now row.now.operand.text.now) }
-    ensures { ValueIs (known labels.now) address row.now.operand.text.now row.now.item.operand result }
+    requires { row.now.item.operand ≡ operands.Named
+        → IsSome (known labels.now row.now.operand.text.now) }
+    ensures { ValueIs (known labels.now) address row.now.operand.text.now row.now.item.operand
+        result }
 {
     match row.item.operand {
         Operand::Nothing => 0,

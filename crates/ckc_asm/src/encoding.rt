@@ -9,7 +9,8 @@ use ckc_rv::{Instr, encode, in_range};
 
 /// The word of an item with this number or distance, where one has it.
 pub fn word_of(form: &Form, value: i64) -> Option<u32>
-    ensures { MatchOption result ((word : ℕ) → IsWordOf form.now value word → ⊥) (λ word. IsWordOf form.now value word) }
+    ensures { MatchOption result ((word : ℕ) → IsWordOf form.now value word → ⊥)
+        (λ word. IsWordOf form.now value word) }
 {
     match *form {
         Form::Lui(rd) => match natural(value) {
@@ -54,7 +55,8 @@ pub fn word_of(form: &Form, value: i64) -> Option<u32>
 }
 
 fn fence_word(value: i64) -> Option<u32>
-    ensures { MatchOption result ((word : ℕ) → IsWordOf form.Fence value word → ⊥) (λ word. IsWordOf form.Fence value word) }
+    ensures { MatchOption result ((word : ℕ) → IsWordOf form.Fence value word → ⊥)
+        (λ word. IsWordOf form.Fence value word) }
 {
     if 0 <= value && value < 256 {
         encoded(Instr::Fence(value as u8))
@@ -72,7 +74,8 @@ fn encoded(i: Instr) -> Option<u32>
 
 /// A number of at most 32 bits, without a sign.
 fn natural(value: i64) -> Option<u32>
-    ensures { MatchOption result ((n : ℕ) → value ≡ pos n → n < 2 ^ 32 → ⊥) (λ n. (value ≡ pos n) × (n < 2 ^ 32)) }
+    ensures { MatchOption result ((n : ℕ) → value ≡ pos n → n < 2 ^ 32 → ⊥)
+        (λ n. (value ≡ pos n) × (n < 2 ^ 32)) }
 {
     if 0 <= value && value < 0x1_0000_0000 {
         Some(value as u32)

@@ -4,24 +4,25 @@ ghost use Rattle.std.specs.List.{flat_map};
 ghost use Rattle.ckc_image.specs.Image.{IsProper, EntryFits};
 ghost use Rattle.ckc_asm.specs.declared.items.Operand.TheVariants as operands;
 ghost use Rattle.ckc_asm.specs.Program.{data_bytes, Enters};
-ghost use Rattle.ckc_asm.specs.Faults.{front, NamesNothing, NoneHas};
+ghost use Rattle.ckc_base.specs.Places.{start};
+ghost use Rattle.ckc_asm.specs.Faults.{NamesNothing, NoneHas};
 ghost use Rattle.ckc_asm.specs.Outcome.{IfRefused};
 ghost use Rattle.ckc_asm.specs.Reading.{known, HaveTargets, IsExact, IsNoProgram, EntryIs};
 ghost use Rattle.ckc_asm.specs.Rows.{statements_in};
 
 use crate::code::target_of;
-use crate::fault::AsmFault;
 use crate::items::{Form, Operand};
-use crate::labels::{Labels, refused};
+use crate::labels::Labels;
 use crate::statements::{Row, is_entry};
-use ckc_base::Seq;
+use ckc_base::{Fault, START, Seq, refused};
 use ckc_image::Parts;
 use ckc_lines::CODE;
 use std::alloc::{AllocError, Global};
 
 /// The initial bytes of statements.
 pub fn data_of(alloc: Global, rows: &[Row]) -> Result<Vec<u8>, AllocError>
-    ensures bytes { IfOk result (λ found. found.items ≡ flat_map (λ s. data_bytes s.item.form) (statements_in rows.now)) }
+    ensures bytes { IfOk result (λ found. found.items ≡ flat_map
+        (λ s. data_bytes s.item.form) (statements_in rows.now)) }
     ensures few { IfOk result (λ found. length found.items ≤ 16 * length rows.now) }
 {
     let mut found = Vec::new(alloc);
@@ -50,7 +51,8 @@ pub fn entry_of(rows: &[Row], labels: &Labels) -> i64
 
 fn entry_value(row: &Row, labels: &Labels) -> i64
     requires target { row.now.item.operand ≡ operands.Nothing → ⊥ }
-    requires named { row.now.item.operand ≡ operands.Named → IsSome (known labels.now row.now.operand.text.now) }
+    requires named { row.now.item.operand ≡ operands.Named
+        → IsSome (known labels.now row.now.operand.text.now) }
     ensures { EntryIs (known labels.now) row.now.operand.text.now row.now.item.operand result }
 {
     match row.item.operand {
@@ -61,13 +63,16 @@ fn entry_value(row: &Row, labels: &Labels) -> i64
 }
 
 /// The parts with this entry, or E805.
-pub fn parts_of(entry: i64, code: Vec<u8>, initial: Vec<u8>) -> Result<Parts, AsmFault>
+pub fn parts_of(entry: i64, code: Vec<u8>, initial: Vec<u8>) -> Result<Parts, Fault>
     requires words { length code.items % 4 ≡ 0 }
     requires code_fits { length code.items ≤ 16773120 }
     requires initial_fits { length initial.items ≤ 16777216 }
-    ensures parts { IfOk result (λ p. (entry ≡ pos p.entry) × (p.code ≡ code.items) × (p.initial ≡ initial.items)) }
+    ensures parts { IfOk result (λ p. (entry ≡ pos p.entry) × (p.code ≡ code.items)
+        × (p.initial ≡ initial.items)) }
     ensures proper { IfOk result (λ p. IsProper p.entry p.code p.initial) }
-    ensures fault { IfErr result (λ e. IfRefused e (λ number place. (number ≡ 805) × (place ≡ front) × IsNoProgram entry (length code.items))) }
+    ensures fault { IfErr result (λ e. IfRefused e
+        (λ number place. (number ≡ 805) × (place ≡ start)
+        × IsNoProgram entry (length code.items))) }
 {
     match entry_place(entry, code.len()) {
         Some(place) => Ok(Parts {
@@ -75,13 +80,14 @@ pub fn parts_of(entry: i64, code: Vec<u8>, initial: Vec<u8>) -> Result<Parts, As
             code: Seq::from_vec(code),
             initial: Seq::from_vec(initial),
         }),
-        None => Err(refused(805, 1, 1)),
+        None => Err(refused(805, START)),
     }
 }
 
 fn entry_place(entry: i64, len: usize) -> Option<u32>
     requires { len ≤ 16773120 }
-    ensures { MatchOption result (IsNoProgram entry len) (λ place. (entry ≡ pos place) × (0 < len) × EntryFits place len) }
+    ensures { MatchOption result (IsNoProgram entry len)
+        (λ place. (entry ≡ pos place) × (0 < len) × EntryFits place len) }
 {
     if len == 0 || entry < 0x1000 || entry >= 0x1000 + len as i64 {
         return None;

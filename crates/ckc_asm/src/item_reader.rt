@@ -4,7 +4,8 @@ ghost use Rattle.std.specs.Option.{option_map};
 ghost use Rattle.ckc_asm.specs.Rows.{texts_of};
 ghost use Rattle.ckc_asm.specs.Program.{IsEntry};
 ghost use Rattle.ckc_asm.specs.Reading.{HasTarget};
-ghost use Rattle.ckc_asm.specs.Items.{item, item_of, item_with, number_operand, target_of, one_register, two_registers, three_registers, from_base, just, alone, data_of, bytes_of};
+ghost use Rattle.ckc_asm.specs.Items.{item};
+ghost use Rattle.ckc_asm.specs.Found.{item_of, item_with, number_operand, target_of, one_register, two_registers, three_registers, from_base, just, alone, data_of, bytes_of};
 ghost use Rattle.ckc_asm.specs.declared.items.Form.{Form};
 ghost use Rattle.ckc_asm.specs.declared.items.Form.TheVariants as form;
 ghost use Rattle.ckc_asm.specs.declared.items.Operand.{Operand};
@@ -17,7 +18,7 @@ use crate::shapes::{based, one, three, two};
 use crate::spots::Spot;
 
 /// The item of words. No word is no item.
-#[tactic(auto, unfolding(crate::specs::Items::item_of))]
+#[tactic(auto, unfolding(crate::specs::Found::item_of))]
 pub fn item_of(words: &[Spot]) -> Option<Item>
     ensures item { result ≡ item_of (texts_of words.now) }
     ensures target { IfSome result (λ i. HasTarget i) }
@@ -29,7 +30,7 @@ pub fn item_of(words: &[Spot]) -> Option<Item>
     item_with(kind, &words[1..])
 }
 
-#[tactic(auto, unfolding(crate::specs::Items::item_with))]
+#[tactic(auto, unfolding(crate::specs::Found::item_with))]
 fn item_with(kind: Kind, words: &[Spot]) -> Option<Item>
     ensures item { result ≡ item_with kind (texts_of words.now) }
     ensures target { IfSome result (λ i. HasTarget i) }
@@ -144,7 +145,9 @@ fn alone(form: Form, words: &[Spot]) -> Option<Item>
 
 /// A register and a word.
 fn one_register<'a>(words: &[Spot<'a>]) -> Option<(u8, &'a [u8])>
-    ensures { (f : ℕ → Form) (last : List ℕ → Option Operand) → one_register (texts_of words.now) f last ≡ option_and_then (λ r. option_map (item (f r.0)) (last r.1.now)) result }
+    ensures { (f : ℕ → Form) (last : List ℕ → Option Operand)
+        → one_register (texts_of words.now) f last ≡ option_and_then
+        (λ r. option_map (item (f r.0)) (last r.1.now)) result }
 {
     let (a, last) = two(words)?;
     let rd = register_of(a)?;
@@ -153,7 +156,9 @@ fn one_register<'a>(words: &[Spot<'a>]) -> Option<(u8, &'a [u8])>
 
 /// Two registers and a word.
 fn two_registers<'a>(words: &[Spot<'a>]) -> Option<(u8, u8, &'a [u8])>
-    ensures { (f : ℕ → ℕ → Form) (last : List ℕ → Option Operand) → two_registers (texts_of words.now) f last ≡ option_and_then (λ r. option_map (item (f r.0 r.1)) (last r.2.now)) result }
+    ensures { (f : ℕ → ℕ → Form) (last : List ℕ → Option Operand)
+        → two_registers (texts_of words.now) f last ≡ option_and_then
+        (λ r. option_map (item (f r.0 r.1)) (last r.2.now)) result }
 {
     let (a, b, last) = three(words)?;
     let first = register_of(a)?;
@@ -162,7 +167,8 @@ fn two_registers<'a>(words: &[Spot<'a>]) -> Option<(u8, u8, &'a [u8])>
 }
 
 fn three_registers(words: &[Spot]) -> Option<(u8, u8, u8)>
-    ensures { (f : ℕ → ℕ → ℕ → Form) → three_registers (texts_of words.now) f ≡ option_map (λ r. item (f r.0 r.1 r.2) operands.Nothing) result }
+    ensures { (f : ℕ → ℕ → ℕ → Form) → three_registers (texts_of words.now) f ≡ option_map
+        (λ r. item (f r.0 r.1 r.2) operands.Nothing) result }
 {
     let (a, b, last) = three(words)?;
     let first = register_of(a)?;
@@ -173,7 +179,8 @@ fn three_registers(words: &[Spot]) -> Option<(u8, u8, u8)>
 
 /// A register, and an offset from another.
 fn from_base(words: &[Spot]) -> Option<(u8, i64, u8)>
-    ensures { (f : ℕ → ℕ → Form) → from_base (texts_of words.now) f ≡ option_map (λ r. item (f r.0 r.2) (operands.Number r.1)) result }
+    ensures { (f : ℕ → ℕ → Form) → from_base (texts_of words.now) f ≡ option_map
+        (λ r. item (f r.0 r.2) (operands.Number r.1)) result }
 {
     let (a, b, last) = based(words)?;
     let first = register_of(a)?;

@@ -1,17 +1,17 @@
 //! Where the labels of a text stand.
 ghost use Rattle.std.specs.Prelude.{◌≡◌, ℕ, ◌+◌, ◌<◌, ◌≤◌, ℤ, Bool, List, length, if◌then◌else◌, bytes_eq, Option, None, Some, OnOk, IfOk, IfErr, IfSome, IsSome, IsTrue};
+ghost use Rattle.ckc_base.specs.Places.{longest_text};
 ghost use Rattle.ckc_asm.specs.declared.items.Operand.TheVariants as operands;
 ghost use Rattle.ckc_asm.specs.Program.{width_of};
-ghost use Rattle.ckc_asm.specs.Faults.{longest_text, HasOldLabel, NamesNothing, NoneHas, IsAt, IsLabel, IsOperand};
+ghost use Rattle.ckc_asm.specs.Faults.{HasOldLabel, NamesNothing, NoneHas, IsAt, IsLabel, IsOperand};
 ghost use Rattle.ckc_asm.specs.Outcome.{IfRefused};
 ghost use Rattle.ckc_asm.specs.Reading.{known, IsExact, ValueIs};
 ghost use Rattle.ckc_asm.specs.Rows.{statement_in, statements_in};
 
-use crate::fault::AsmFault;
 use crate::items::{Form, Operand};
 use crate::spots::Spot;
 use crate::statements::Row;
-use ckc_base::{Pos, Refusal};
+use ckc_base::{Fault, Pos, refused};
 use ckc_lines::CODE;
 use indexmap::IndexMap;
 use std::alloc::Global;
@@ -20,10 +20,13 @@ use std::alloc::Global;
 pub type Labels<'a> = IndexMap<&'a [u8], u32>;
 
 /// The labels of statements, or the first label that stands a second time.
-pub fn labels_of<'a>(alloc: Global, rows: &[Row<'a>]) -> Result<Labels<'a>, AsmFault>
+pub fn labels_of<'a>(alloc: Global, rows: &[Row<'a>]) -> Result<Labels<'a>, Fault>
     requires { length rows.now ≤ longest_text + 1 }
-    ensures labels { IfOk result (λ labels. IsExact (known labels) (statements_in rows.now) × NoneHas (HasOldLabel (statements_in rows.now)) (statements_in rows.now)) }
-    ensures fault { IfErr result (λ e. IfRefused e (λ code place. IsAt (HasOldLabel (statements_in rows.now)) IsLabel (statements_in rows.now) place × (code ≡ 803))) }
+    ensures labels { IfOk result (λ labels. IsExact (known labels) (statements_in rows.now)
+        × NoneHas (HasOldLabel (statements_in rows.now)) (statements_in rows.now)) }
+    ensures fault { IfErr result (λ e. IfRefused e
+        (λ code place. IsAt (HasOldLabel (statements_in rows.now)) IsLabel
+        (statements_in rows.now) place × (code ≡ 803))) }
 {
     let mut labels = IndexMap::new(alloc);
     let mut address = CODE;
@@ -41,26 +44,21 @@ fn put_label<'a>(
     label: Spot<'a>,
     address: u32,
     line: u32,
-) -> Result<(), AsmFault>
+) -> Result<(), Fault>
     ensures fresh { OnOk result (known labels.old label.entry.text.now ≡ None) }
-    ensures next { OnOk result ((name : List ℕ) → known labels.new name ≡ (if bytes_eq label.entry.text.now name then Some address else known labels.old name)) }
-    ensures fault { IfErr result (λ e. IfRefused e (λ code place. (code ≡ 803) × (place ≡ (record { line = line; col = label.entry.col })) × IsSome (known labels.old label.entry.text.now))) }
+    ensures next { OnOk result ((name : List ℕ)
+        → known labels.new name ≡ (if bytes_eq label.entry.text.now name then Some address else
+        known labels.old name)) }
+    ensures fault { IfErr result (λ e. IfRefused e
+        (λ code place. (code ≡ 803) × (place ≡ (record { line = line; col = label.entry.col }))
+        × IsSome (known labels.old label.entry.text.now))) }
 {
     if labels.get(&label.text).is_some() {
-        return Err(refused(803, line, label.col));
+        let col = label.col;
+        return Err(refused(803, Pos { line, col }));
     }
     labels.insert(label.text, address)?;
     Ok(())
-}
-
-/// A refusal with its place.
-pub fn refused(code: u16, line: u32, col: u32) -> AsmFault
-    ensures { result ≡ AsmFault.Refused (record { code = code; pos = record { line = line; col = col } }) }
-{
-    AsmFault::Refused(Refusal {
-        code,
-        pos: Pos { line, col },
-    })
 }
 
 /// How many bytes of code an item takes.

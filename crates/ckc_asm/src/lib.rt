@@ -3,7 +3,6 @@
 
 mod code;
 mod encoding;
-mod fault;
 mod image;
 mod item_reader;
 mod items;
@@ -17,7 +16,6 @@ mod shapes;
 mod spots;
 mod statements;
 
-pub use fault::AsmFault;
-pub use laws::{one_answer, words_by_range, words_by_spelling};
+pub use laws::{codes, is_exact, words_by_range};
 pub use names::{branch_name, imm_name, load_name, reg_name, store_name};
 pub use reader::read_asm;

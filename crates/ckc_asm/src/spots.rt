@@ -1,8 +1,8 @@
 //! The words of a line.
 ghost use Rattle.std.specs.Prelude.{◌≡◌, ◌+◌, ◌<◌, ◌≤◌, ℕ, false, ◌∷◌, length, take, drop, map, slice_index, IfOk};
 ghost use Rattle.std.specs.List.{prefix_len};
+ghost use Rattle.ckc_base.specs.Places.{longest_text};
 ghost use Rattle.ckc_asm.specs.Cut.{is_blank, is_mark, is_hash, is_word_byte, cut};
-ghost use Rattle.ckc_asm.specs.Faults.{longest_text};
 ghost use Rattle.ckc_asm.specs.Rows.{word_of};
 
 use std::alloc::{AllocError, Global};
@@ -44,7 +44,9 @@ fn word_len(rest: &[u8]) -> usize
     requires some { 0 < length rest.now }
     requires no_hash { is_hash (slice_index rest.now 0) ≡ false }
     requires no_blank { is_blank (slice_index rest.now 0) ≡ false }
-    ensures word { (col : ℕ) → cut col rest.now ≡ (record { col = col; text = take result rest.now }) ∷ cut (col + result) (drop result rest.now) }
+    ensures word { (col : ℕ) → cut col rest.now ≡
+        (record { col = col; text = take result rest.now }) ∷ cut (col + result)
+        (drop result rest.now) }
     ensures some { 0 < result }
     ensures within { result ≤ length rest.now }
 {

@@ -2,21 +2,21 @@
 ghost use Rattle.std.specs.Prelude.{◌≡◌, ◌⊎◌, ℕ, ◌+◌, ◌≤◌, ◌↔◌, List, length, map, slice_get, Some, unwrap_or, IsTrue, IfOk, IfErr, IfSome};
 ghost use Rattle.std.specs.Borrow.{Bor};
 ghost use Rattle.std.specs.Option.{option_map};
+ghost use Rattle.ckc_base.specs.Places.{longest_text};
 ghost use Rattle.ckc_asm.specs.Cut.{lines_of};
-ghost use Rattle.ckc_asm.specs.Items.{reading, statement_of, statement_with, no_word, operand_index};
+ghost use Rattle.ckc_asm.specs.Items.{no_word, operand_index};
+ghost use Rattle.ckc_asm.specs.Found.{reading, statement_of, statement_with};
 ghost use Rattle.ckc_asm.specs.Program.{IsEntry};
-ghost use Rattle.ckc_asm.specs.Faults.{longest_text};
 ghost use Rattle.ckc_asm.specs.Outcome.{IfRefused};
 ghost use Rattle.ckc_asm.specs.Reading.{readings_in, HasTarget, AreRead, IsFormFault, IsRefusedLine};
 ghost use Rattle.ckc_asm.specs.Rows.{word_of, statement_in, statements_in};
 
-use crate::fault::AsmFault;
 use crate::item_reader::item_of;
 use crate::items::{Form, Item};
 use crate::numerals::is_name;
 use crate::shapes::is_sign;
 use crate::spots::{Spot, words_of};
-use ckc_base::{Pos, Refusal};
+use ckc_base::{Fault, Pos, refused};
 use std::alloc::{AllocError, Global};
 
 /// A line: its label, its item, and the word of the item's number or label.
@@ -35,11 +35,14 @@ pub fn lines_of<'a>(alloc: Global, text: &'a [u8]) -> Result<Vec<&'a [u8]>, Allo
 }
 
 /// The statements of lines, or the first line without one or with a second `.entry`.
-pub fn rows_of<'a>(alloc: Global, lines: &[&'a [u8]]) -> Result<Vec<Row<'a>>, AsmFault>
-    requires short { (k : ℕ) (line : Bor (List ℕ)) → slice_get lines.now k ≡ Some line → length line.now ≤ longest_text }
+pub fn rows_of<'a>(alloc: Global, lines: &[&'a [u8]]) -> Result<Vec<Row<'a>>, Fault>
+    requires short { (k : ℕ) (line : Bor (List ℕ)) → slice_get lines.now k ≡ Some line
+        → length line.now ≤ longest_text }
     requires few { length lines.now ≤ longest_text + 1 }
-    ensures rows { IfOk result (λ rows. AreRead (readings_in lines.now) (statements_in rows.items)) }
-    ensures fault { IfErr result (λ e. IfRefused e (λ code place. IsFormFault (readings_in lines.now) code place)) }
+    ensures rows { IfOk result (λ rows. AreRead (readings_in lines.now)
+        (statements_in rows.items)) }
+    ensures fault { IfErr result (λ e. IfRefused e
+        (λ code place. IsFormFault (readings_in lines.now) code place)) }
 {
     let mut rows = Vec::new(alloc);
     let mut entered = false;
@@ -58,15 +61,13 @@ fn has_entered(entered: bool, form: &Form) -> bool
 }
 
 /// The statement of a line, which is refused where it has none, or a second `.entry`.
-fn next_row<'a>(
-    alloc: Global,
-    line: &'a [u8],
-    number: u32,
-    entered: bool,
-) -> Result<Row<'a>, AsmFault>
+fn next_row<'a>(alloc: Global, line: &'a [u8], number: u32, entered: bool) -> Result<Row<'a>, Fault>
     requires { length line.now ≤ longest_text }
-    ensures row { IfOk result (λ row. (reading line.now ≡ Some (statement_in row)) × HasTarget row.item × (IsTrue entered → IsEntry row.item.form → ⊥)) }
-    ensures fault { IfErr result (λ e. IfRefused e (λ code place. (code ≡ 801) × (place ≡ (record { line = number; col = 1 })) × IsRefusedLine entered (reading line.now))) }
+    ensures row { IfOk result (λ row. (reading line.now ≡ Some (statement_in row))
+        × HasTarget row.item × (IsTrue entered → IsEntry row.item.form → ⊥)) }
+    ensures fault { IfErr result (λ e. IfRefused e
+        (λ code place. (code ≡ 801) × (place ≡ (record { line = number; col = 1 }))
+        × IsRefusedLine entered (reading line.now))) }
 {
     match row_of(alloc, line)? {
         Some(row) => {
@@ -79,13 +80,17 @@ fn next_row<'a>(
     }
 }
 
-fn no_form(line: u32) -> AsmFault
-    ensures { result ≡ AsmFault.Refused (record { code = 801; pos = record { line = line; col = 1 } }) }
+fn no_form(line: u32) -> Fault
+    ensures { result ≡ Fault.Refused (record {
+      code = 801;
+      pos = record {
+        line = line;
+        col =
+            1;
+      };
+    }) }
 {
-    AsmFault::Refused(Refusal {
-        code: 801,
-        pos: Pos { line, col: 1 },
-    })
+    refused(801, Pos { line, col: 1 })
 }
 
 /// The statement of a line, where its form is right.
@@ -98,7 +103,7 @@ fn row_of<'a>(alloc: Global, line: &'a [u8]) -> Result<Option<Row<'a>>, AllocErr
     Ok(statement_of(words.as_slice()))
 }
 
-#[tactic(auto, unfolding(crate::specs::Items::statement_of))]
+#[tactic(auto, unfolding(crate::specs::Found::statement_of))]
 fn statement_of<'a>(words: &[Spot<'a>]) -> Option<Row<'a>>
     ensures row { option_map statement_in result ≡ statement_of (map word_of words.now) }
     ensures target { IfSome result (λ r. HasTarget r.item) }
@@ -115,7 +120,8 @@ fn statement_of<'a>(words: &[Spot<'a>]) -> Option<Row<'a>>
 }
 
 fn statement_with<'a>(label: Option<Spot<'a>>, words: &[Spot<'a>]) -> Option<Row<'a>>
-    ensures row { option_map statement_in result ≡ statement_with (option_map word_of label.entry) (map word_of words.now) }
+    ensures row { option_map statement_in result ≡ statement_with (option_map word_of label.entry)
+        (map word_of words.now) }
     ensures target { IfSome result (λ r. HasTarget r.item) }
 {
     match item_of(words) {

@@ -17,9 +17,11 @@ use Rattle.ckc_rv.specs.Decoded.{decoded}
 use Rattle.ckc_rv.proofs.Rows.{decoded_law}
 use Rattle.ckc_listing.specs.Listing.{text_of, instr_or_word, word_line, data_line, word_lines, data_lines, entry_text, listing}
 use Rattle.ckc_asm.specs.Cut.{lines_of}
-use Rattle.ckc_asm.specs.Items.{Statement, item, reading}
+use Rattle.ckc_asm.specs.Items.{Statement, item}
+use Rattle.ckc_asm.specs.Found.{reading}
 use Rattle.ckc_image.specs.Image.{word_bytes, IsProper, four_at, word_at}
 use Rattle.ckc_asm.specs.Program.{width_of, size_of, offset_of, address_of, IsBytes, IsValue, IsWordOf, data_bytes, IsEntry, IsImage, AreSingle, AsmOf, bytes_at, IsEntryOf, no_place, of_word, there}
+use Rattle.ckc_asm.proofs.Grammatical.{lines_found}
 use Rattle.ckc_asm.proofs.Words.{not_feed, Reads}
 use Rattle.ckc_listing.proofs.ReadBack.{IsPlainValue, LineOf, instr_line, word_line as plain_word_line, data_reads, entry_reads, empty_reads}
 
@@ -164,9 +166,10 @@ asm_of_listed entry first rest code initial e blank l proper =
     subst P (append-nil code) (subst Q (append-nil initial) (append_lists l.lists (last_line blank))) in
     record {
       statements = s ∷ ss;
-      form =
-          ap (map reading) (split_text (first ∷ rest) (e.clean, clean_of_lists l.lists))
-          ∙ ap (λ o. o ∷ map reading (rest ++ [] ∷ [])) e.reads ∙ ap (λ x. Some s ∷ x) (form_of_lists lists);
+      form = lines_found (lines_of (text_of (first ∷ rest))) (s ∷ ss) (
+        ap (map reading) (split_text (first ∷ rest) (e.clean, clean_of_lists l.lists))
+        ∙ ap (λ o. o ∷ map reading (rest ++ [] ∷ [])) e.reads ∙ ap (λ x. Some s ∷ x) (form_of_lists lists)
+      );
       single = single_of s e.unlabelled lists;
       image = image_of s entry e.item_is lists;
       proper = proper;

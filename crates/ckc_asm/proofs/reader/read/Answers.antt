@@ -1,9 +1,11 @@
 use Rattle.std.proofs.Common.{◌≡◌, ℕ, List, length, map, ap, ◌∙◌, arith}
 use Rattle.std.specs.Borrow.{Bor}
+use Rattle.std.proofs.lemmas.Result.{err_from_is_err_and}
 use Rattle.ckc_asm.specs.Cut.{lines_of}
 use Rattle.ckc_asm.specs.Faults.{LabelFault, IsFirstFault}
+use Rattle.ckc_asm.specs.Reading.{readings_in, IsFormFault}
 use Rattle.ckc_asm.specs.Rows.{statements_in}
-use Rattle.ckc_asm.proofs.Judging.{err_weaker, lines_short, lines_few, read_few, asm_of, whole_fault}
+use Rattle.ckc_asm.proofs.Judging.{refused_weaker, err_weaker, lines_short, lines_few, read_few, asm_of, whole_fault, form_fault}
 use Rattle.ckc_asm.proofs.LabelsBelow.{rows_size}
 use Rattle.ckc_asm.proofs.reader.read.Goals as goal
 
@@ -35,3 +37,10 @@ returns-clause-fault c =
     err_weaker c.judged.result (λ code place. LabelFault s code place) (λ code place. IsFirstFault c.args.text.now code place)
     (λ code place h. whole_fault c.args.text.now c.as_slice.result.now s code place (same _ _ c.args.text.now c.as_slice.ensures.value c.in_ok-lines.ensures) c.if-text-gt-LONGEST_TEXT.false
     (rw c.as_slice-2.ensures.value c.in_ok-rows.ensures.rows) h) c.judged.ensures.fault
+
+pub returns-in_err-rows-clause-fault : goal.returns-in_err-rows-clause-fault
+returns-in_err-rows-clause-fault c =
+    let p = err_from_is_err_and c.from_residual-in_err-rows.result c.from_residual-in_err-rows.ensures.1 in
+    rw (p.1, p.2) (refused_weaker _ (λ code place. IsFormFault (readings_in c.as_slice.result.now) code place) (λ code place. IsFirstFault c.args.text.now code place)
+    (λ code place h. form_fault c.args.text.now c.as_slice.result.now code place (same _ _ c.args.text.now c.as_slice.ensures.value c.in_ok-lines.ensures) c.if-text-gt-LONGEST_TEXT.false h)
+    c.in_err-rows.ensures.fault)
