@@ -1,0 +1,390 @@
+-- What an expression stands for at a point, and what it makes known as a condition.
+use Rattle.std.specs.Prelude.{ℕ, ◌+◌, ◌^◌, ◌==◌, Bool, true, false, not, ◌&&◌, ◌||◌, if◌then◌else◌, ℤ, pos, neg_ℤ, ◌+ℤ◌, ◌-ℤ◌, int_lt, Option, None, Some, is_some, List, [], ◌∷◌, ◌++◌, slice_get}
+use Rattle.std.specs.Ordering.{int_eq}
+use Rattle.ckc_types.specs.declared.types.Kind.{Kind}
+use Rattle.ckc_types.specs.declared.types.Kind.TheVariants as kind
+use Rattle.ckc_types.specs.declared.types.CType.{CType}
+use Rattle.ckc_linear.specs.declared.facts.Fact.{Fact}
+use Rattle.ckc_linear.specs.declared.forms.Base.{Base}
+use Rattle.ckc_linear.specs.declared.forms.Base.TheVariants as base
+use Rattle.ckc_linear.specs.declared.forms.Form.{Form}
+use Rattle.ckc_syntax.specs.declared.tree.Name.{Name}
+use Rattle.ckc_syntax.specs.declared.tree.Name.TheVariants as name
+use Rattle.ckc_syntax.specs.declared.tree.TreeOp.{TreeOp}
+use Rattle.ckc_syntax.specs.declared.tree.TreeOp.TheVariants as op
+use Rattle.ckc_syntax.specs.declared.tree.Limits.{Limits-F}
+use Rattle.ckc_syntax.specs.declared.tree.Node.{Node, Node-F, fold-Node}
+use Rattle.ckc_syntax.specs.declared.tree.Expr.{Expr, Expr-F, fold-Expr}
+use Rattle.ckc_typed.specs.declared.environment.Constant.{Constant}
+use Rattle.ckc_typed.specs.declared.typed.Note.{Note}
+use Rattle.ckc_typed.specs.declared.typed.StaticObject.{StaticObject}
+use Rattle.ckc_typed.specs.Types.{type_written, is_integer, is_pointer, is_unsigned, kind_of}
+use Rattle.ckc_typed.specs.Constants.{size_of, negated, value_of}
+use Rattle.ckc_typed.specs.Operands.{same_element}
+use Rattle.ckc_points.specs.declared.frame.Bounds.{Bounds}
+use Rattle.ckc_points.specs.declared.frame.Bounds.TheVariants as bounds
+use Rattle.ckc_points.specs.declared.frame.Local.{Local}
+use Rattle.ckc_points.specs.declared.frame.Frame.{Frame}
+use Rattle.ckc_points.specs.declared.point.Interval.{Interval}
+use Rattle.ckc_points.specs.declared.values.Step.{Step}
+use Rattle.ckc_points.specs.Shown.{Known, is_within, is_shown}
+use Rattle.ckc_points.specs.Frames.{local_at, variable}
+use Rattle.ckc_points.specs.Flow.{State, range_of, with_fact}
+
+-- The number of an integer form is within 2^40: a thousand numbers of 32 bits sum to less.
+abbrev pub is_small : ℤ → Bool
+is_small n = is_within (2 ^ 40) n
+
+abbrev pub constant_form : ℤ → Form
+constant_form n = record { base = None; var = 0; add = n }
+
+-- `f + c`
+abbrev pub moved_form : Option Form → ℤ → Option Form
+moved_form None c = None
+moved_form (Some f) c = if is_small f.add && is_small c then Some (record f { add = f.add +ℤ c }) else None
+
+abbrev pub below : Form → Interval → Fact
+below f r = record { x = f.var; y = 0; c = pos r.high -ℤ f.add }
+
+abbrev pub above : Form → Interval → Fact
+above f r = record { x = 0; y = f.var; c = f.add -ℤ r.low }
+
+abbrev pub within_interval : Known → Form → Option Interval → Option Form
+within_interval facts f None = None
+within_interval facts f (Some r) =
+    if is_small f.add && (is_shown facts (below f r) && is_shown facts (above f r)) then Some f else None
+
+-- The form of a value in an integer type, where the facts entail that the exact one lies in the type's range: `n - 1` is
+-- a form of `int` where they show -2,147,483,648 <= n - 1, and no form without that.
+abbrev pub in_type : Known → CType → Option Form → Option Form
+in_type facts t None = None
+in_type facts t (Some f) = within_interval facts f (range_of t)
+
+-- `p + k`: at most one of the two has a variable.
+abbrev pub sum_of_forms : Option Form → Option Form → Option Form
+sum_of_forms None g = None
+sum_of_forms (Some f) None = None
+sum_of_forms (Some f) (Some g) =
+    if g.var == 0 then moved_form (Some f) g.add
+    else (if f.var == 0 then moved_form (Some (record f { var = g.var })) g.add else None)
+
+abbrev pub negative_form : Form → Option Form
+negative_form g = if (g.var == 0) && is_small g.add then Some (constant_form (neg_ℤ g.add)) else None
+
+abbrev pub negative_of : Option Form → Option Form
+negative_of None = None
+negative_of (Some g) = negative_form g
+
+-- `p - k`: k has no variable.
+abbrev pub difference_of_forms : Option Form → Option Form → Option Form
+difference_of_forms f g = sum_of_forms f (negative_of g)
+
+-- What is said of an expression. The last four are functions of what is known at a point: the form of an integer, the
+-- place of a pointer whose base is a local pointer or a static array, the place of what `*p` and `p[e]` read, and the
+-- point on the true or the false side of a condition.
+pub record View : Type 0 where
+  pub ctype : CType
+  pub number : Option Constant
+  pub is_zero : Bool
+  pub variable : Option Form
+  pub behind : Option Kind
+  pub form : Known → Option Form
+  pub place : Known → Option Form
+  pub target : Known → Option Form
+  pub side : Bool → State → State
+
+-- the same of a node, whose type its expression notes
+pub record NodeView : Type 0 where
+  pub number : Option Constant
+  pub is_zero : Bool
+  pub variable : Option Form
+  pub behind : Option Kind
+  pub linear : CType → Known → Option Form
+  pub place : CType → Known → Option Form
+  pub target : Known → Option Form
+  pub side : Bool → State → State
+
+-- a node with what is said of its parts
+abbrev pub NodeOfViews : Type 0
+NodeOfViews = Node-F Name Note (Unit {0}) NodeView View
+
+abbrev pub number_of_node : Frame → NodeOfViews → Option Constant
+number_of_node frame (Node-F.Number n unsigned) = Some (record { word = n; unsigned = unsigned })
+number_of_node frame (Node-F.Size t) = Some (record { word = size_of frame.structs (type_written t); unsigned = true })
+number_of_node frame (Node-F.Un o e) = negated o e.number
+number_of_node frame _ = None
+
+abbrev pub is_zero_node : {A L M E : Type 0} → Node-F Name A L M E → Bool
+is_zero_node (Node-F.Number n unsigned) = n == 0
+is_zero_node _ = false
+
+abbrev pub variable_of_node : {A L M E : Type 0} → Frame → Node-F Name A L M E → Option Form
+variable_of_node frame (Node-F.Name n) = variable frame n
+variable_of_node frame _ = None
+
+-- the kind of the pointer that an expression reads through
+abbrev pub behind_node : NodeOfViews → Option Kind
+behind_node (Node-F.Un op.Deref e) = kind_of e.ctype
+behind_node (Node-F.Index e f) = kind_of e.ctype
+behind_node _ = None
+
+abbrev pub sum_step : Option Constant → Option Constant → Option Step
+sum_step c (Some d) = Some (record { left = true; by = value_of d })
+sum_step (Some c) None = Some (record { left = false; by = value_of c })
+sum_step None None = None
+
+abbrev pub difference_step : Option Constant → Option Step
+difference_step (Some d) = Some (record { left = true; by = neg_ℤ (value_of d) })
+difference_step None = None
+
+-- which operand a sum moves, and by which number: `e + c`, `c + e` and `e - c`
+abbrev pub step_of : TreeOp → Option Constant → Option Constant → Option Step
+step_of op.Add c d = sum_step c d
+step_of op.Sub c d = difference_step d
+step_of _ c d = None
+
+abbrev pub form_after : Known → CType → Option Step → View → View → Option Form
+form_after facts t None e f = None
+form_after facts t (Some s) e f = in_type facts t (moved_form (if s.left then e.form facts else f.form facts) s.by)
+
+-- the form of what is no constant
+abbrev pub form_of_node : Frame → NodeOfViews → CType → Known → Option Form
+form_of_node frame (Node-F.Name n) t facts = variable frame n
+form_of_node frame (Node-F.Bin o e f) t facts = form_after facts t (step_of o e.number f.number) e f
+form_of_node frame (Node-F.Cast w e) t facts = in_type facts t (e.form facts)
+form_of_node frame _ t facts = None
+
+abbrev pub constant_or : Option Constant → Option Form → Option Form
+constant_or (Some c) f = Some (constant_form (value_of c))
+constant_or None f = f
+
+-- The integer form of an expression: a constant and a local are themselves, and `e + c`, `c + e`, `e - c` and a
+-- conversion have the form of their parts where the exact result is shown to lie in the type.
+abbrev pub integer_form : CType → Option Constant → Option Form → Option Form
+integer_form t c f = if is_integer t then constant_or c f else None
+
+abbrev pub is_array : Option StaticObject → Bool
+is_array (Some o) = is_some o.array
+is_array None = false
+
+abbrev pub base_form : Base → Form
+base_form b = record { base = Some b; var = 0; add = pos 0 }
+
+abbrev pub named_place : Frame → Name → Option Form
+named_place frame (name.Local k) = Some (base_form (base.Local k))
+named_place frame (name.Static k) = if is_array (slice_get frame.statics k) then Some (base_form (base.Array k)) else None
+named_place frame _ = None
+
+abbrev pub is_raw : Option Kind → Bool
+is_raw (Some kind.Raw) = true
+is_raw _ = false
+
+-- `p + k`, `k + p` and `p - k` on a checked pointer
+abbrev pub binary_place : Known → TreeOp → View → View → Option Form
+binary_place facts op.Add e f =
+    if is_pointer e.ctype then sum_of_forms (e.place facts) (f.form facts) else sum_of_forms (f.place facts) (e.form facts)
+binary_place facts op.Sub e f = difference_of_forms (e.place facts) (f.form facts)
+binary_place facts _ e f = None
+
+abbrev pub unary_place : Known → TreeOp → View → Option Form
+unary_place facts op.Address e = e.target facts
+unary_place facts _ e = None
+
+-- the place of a pointer
+abbrev pub place_of_node : Frame → NodeOfViews → CType → Known → Option Form
+place_of_node frame (Node-F.Name n) t facts = named_place frame n
+place_of_node frame (Node-F.Un o e) t facts = unary_place facts o e
+place_of_node frame (Node-F.Bin o e f) t facts = if is_raw (kind_of t) then None else binary_place facts o e f
+place_of_node frame (Node-F.Cast w e) t facts = if same_element t e.ctype then e.place facts else None
+place_of_node frame _ t facts = None
+
+-- the place of what `*p` and `p[e]` read
+abbrev pub target_of_node : NodeOfViews → Known → Option Form
+target_of_node (Node-F.Un op.Deref e) facts = e.place facts
+target_of_node (Node-F.Index e f) facts = if is_raw (kind_of e.ctype) then None else sum_of_forms (e.place facts) (f.form facts)
+target_of_node _ facts = None
+
+abbrev pub same_base : Option Base → Option Base → Bool
+same_base None None = true
+same_base (Some (base.Local j)) (Some (base.Local k)) = j == k
+same_base (Some (base.Array j)) (Some (base.Array k)) = j == k
+same_base (Some (base.Value j)) (Some (base.Value k)) = j == k
+same_base _ _ = false
+
+abbrev pub same_form : Form → Form → Bool
+same_form f g = same_base f.base g.base && ((f.var == g.var) && int_eq f.add g.add)
+
+abbrev pub is_nt : Option Kind → Bool
+is_nt (Some kind.Nt) = true
+is_nt _ = false
+
+abbrev pub is_upper_of : Bounds → Form → Bool
+is_upper_of bounds.Unknown f = false
+is_upper_of (bounds.Known low high) f = same_form high f
+
+abbrev pub is_upper : Form → Option Local → Bool
+is_upper f None = false
+is_upper f (Some l) = is_nt (kind_of l.ctype) && is_upper_of l.bounds f
+
+abbrev pub upper_local : Frame → Form → Option Base → Option ℕ
+upper_local frame f (Some (base.Local k)) = if is_upper f (local_at frame k) then Some k else None
+upper_local frame f _ = None
+
+-- the local `_Nt_array_ptr` whose declared upper bound is a place
+abbrev pub widened_by : Frame → Option Form → Option ℕ
+widened_by frame None = None
+widened_by frame (Some f) = upper_local frame f f.base
+
+abbrev pub read_place : Option Kind → Option Form → Option Form
+read_place behind f = if is_nt behind then f else None
+
+abbrev pub wider : Option ℕ → State → State
+wider None at = at
+wider (Some k) at = if at.reached then record at { widened = at.widened ++ k ∷ [] } else at
+
+-- A condition that reads through a local `_Nt_array_ptr` at its upper bound widens it by one on its true side: after
+-- `if (s[n])` with `s : count(n)`, the element n may be passed.
+abbrev pub widening : Frame → Option Kind → Option Form → State → State
+widening frame behind f at = wider (widened_by frame (read_place behind f)) at
+
+abbrev pub widening_side : Frame → Option Kind → (Known → Option Form) → Bool → State → State
+widening_side frame behind target true at = widening frame behind (target at.facts) at
+widening_side frame behind target false at = at
+
+-- x <= y, of forms with one base or none
+abbrev pub at_most : Form → Form → Fact
+at_most x y = record { x = x.var; y = y.var; c = y.add -ℤ x.add }
+
+-- x < y
+abbrev pub at_less : Form → Form → Fact
+at_less x y = record { x = x.var; y = y.var; c = (y.add -ℤ x.add) -ℤ pos 1 }
+
+abbrev pub with_most : Form → Form → Known → Known
+with_most x y facts = if is_small x.add && is_small y.add then with_fact (at_most x y) facts else facts
+
+abbrev pub with_less : Form → Form → Known → Known
+with_less x y facts = if is_small x.add && is_small y.add then with_fact (at_less x y) facts else facts
+
+-- What a comparison says on its true side: `i < n` that i - n <= -1, `i == n` that i - n <= 0 and n - i <= 0, `!=`
+-- nothing.
+abbrev pub said : TreeOp → Form → Form → Known → Known
+said op.Lt x y facts = with_less x y facts
+said op.Le x y facts = with_most x y facts
+said op.Gt x y facts = with_less y x facts
+said op.Ge x y facts = with_most y x facts
+said op.Eq x y facts = with_most y x (with_most x y facts)
+said _ x y facts = facts
+
+-- the comparison that holds where another one does not
+abbrev pub opposite : TreeOp → TreeOp
+opposite op.Lt = op.Ge
+opposite op.Le = op.Gt
+opposite op.Gt = op.Le
+opposite op.Ge = op.Lt
+opposite op.Eq = op.Ne
+opposite op.Ne = op.Eq
+opposite o = o
+
+abbrev pub holding : TreeOp → Bool → TreeOp
+holding o true = o
+holding o false = opposite o
+
+abbrev pub is_comparison : TreeOp → Bool
+is_comparison op.Lt = true
+is_comparison op.Le = true
+is_comparison op.Gt = true
+is_comparison op.Ge = true
+is_comparison op.Eq = true
+is_comparison op.Ne = true
+is_comparison _ = false
+
+abbrev pub constant_operand : Bool → ℤ → Option Form
+constant_operand unsigned n = if unsigned && int_lt n (pos 0) then None else Some (constant_form n)
+
+abbrev pub operand_of : Bool → View → Option Constant → Option Form
+operand_of unsigned e (Some c) = constant_operand unsigned (value_of c)
+operand_of unsigned e None = if unsigned && not (is_unsigned e.ctype) then None else e.variable
+
+-- An operand of a comparison that gives facts: a local or a constant, where it compares as `int`, and an `unsigned`
+-- local or a constant that is not negative, where it compares as `unsigned`.
+abbrev pub operand : Bool → View → Option Form
+operand unsigned e = operand_of unsigned e e.number
+
+abbrev pub compares_unsigned : View → View → Bool
+compares_unsigned e f = is_unsigned e.ctype || is_unsigned f.ctype
+
+-- `e != 0` widens as e does.
+abbrev pub nonzero_side : Frame → TreeOp → View → View → Bool → State → State
+nonzero_side frame op.Ne e f side at = if f.is_zero then widening_side frame e.behind e.target side at else at
+nonzero_side frame _ e f side at = at
+
+abbrev pub by_operands : Frame → TreeOp → View → View → Bool → Option Form → Option Form → State → State
+by_operands frame o e f side (Some x) (Some y) at =
+    if at.reached then record at { facts = said (holding o side) x y at.facts } else at
+by_operands frame o e f side _ _ at = nonzero_side frame o e f side at
+
+abbrev pub comparison_side : Frame → TreeOp → View → View → Bool → State → State
+comparison_side frame o e f side at =
+    if is_comparison o
+    then by_operands frame o e f side (operand (compares_unsigned e f) e) (operand (compares_unsigned e f) f) at
+    else at
+
+-- The point at which the right operand of `&&` and of `||` is evaluated. `||` hands on no widening of its operands.
+abbrev pub narrowed : State → State → State
+narrowed at after = record after { widened = at.widened }
+
+abbrev pub and_side : View → View → Bool → State → State
+and_side e f true at = f.side true (e.side true at)
+and_side e f false at = at
+
+abbrev pub or_side : View → View → Bool → State → State
+or_side e f true at = at
+or_side e f false at = narrowed at (f.side false (narrowed at (e.side false at)))
+
+abbrev pub binary_side : Frame → TreeOp → View → View → Bool → State → State
+binary_side frame op.AndThen e f side at = and_side e f side at
+binary_side frame op.OrElse e f side at = or_side e f side at
+binary_side frame o e f side at = comparison_side frame o e f side at
+
+-- What holds on the two sides of a condition. `!` exchanges them.
+abbrev pub side_of_node : Frame → NodeOfViews → Bool → State → State
+side_of_node frame (Node-F.Un op.Not e) side at = e.side (not side) at
+side_of_node frame (Node-F.Bin o e f) side at = binary_side frame o e f side at
+side_of_node frame n side at = widening_side frame (behind_node n) (target_of_node n) side at
+
+abbrev pub limits_view : Limits-F Name Note (Unit {0}) NodeView View → Unit {0}
+limits_view l = tt
+
+abbrev pub node_view : Frame → NodeOfViews → NodeView
+node_view frame n = record {
+  number = number_of_node frame n;
+  is_zero = is_zero_node n;
+  variable = variable_of_node frame n;
+  behind = behind_node n;
+  linear = form_of_node frame n;
+  place = place_of_node frame n;
+  target = target_of_node n;
+  side = side_of_node frame n;
+}
+
+-- The integer form of an expression: a constant and a local are themselves, and `e + c`, `c + e`, `e - c` and a
+-- conversion have the form of their parts where the exact result is shown to lie in the type.
+abbrev pub expr_view : Expr-F Name Note (Unit {0}) NodeView View → View
+expr_view e = record {
+  ctype = e.note.ctype;
+  number = e.node.number;
+  is_zero = e.node.is_zero;
+  variable = e.node.variable;
+  behind = e.node.behind;
+  form = λ facts. integer_form e.note.ctype e.node.number (e.node.linear e.note.ctype facts);
+  place = λ facts. if is_pointer e.note.ctype then e.node.place e.note.ctype facts else None;
+  target = e.node.target;
+  side = e.node.side;
+}
+
+abbrev pub view_of_node : Frame → Node Name Note → NodeView
+view_of_node frame = fold-Node Name Note (Unit {0}) NodeView View limits_view (node_view frame) expr_view
+
+-- what is said of an expression of a function
+abbrev pub view : Frame → Expr Name Note → View
+view frame = fold-Expr Name Note (Unit {0}) NodeView View limits_view (node_view frame) expr_view

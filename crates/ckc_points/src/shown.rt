@@ -1,0 +1,37 @@
+//! Whether facts show another one.
+
+ghost use Rattle.std.specs.Prelude.{◌≡◌, ◌+◌, ◌<◌, ◌^◌, IfOk};
+ghost use Rattle.ckc_linear.specs.Facts.{IsWithin};
+ghost use Rattle.ckc_points.specs.Shown.{known, is_within, reaches, is_shown};
+
+use ckc_linear::{Fact, Facts, entails};
+use std::alloc::{AllocError, Global};
+
+/// Whether a number is from `-limit` to `limit`.
+pub fn is_within(limit: u64, n: i64) -> bool
+    requires { limit < 2 ^ 62 }
+    ensures { result ≡ is_within limit n }
+{
+    let most = limit as i64;
+    -most <= n && n <= most
+}
+
+/// Whether a fact follows from others by a chain, for variables that there are and a number within 2^50.
+pub fn is_shown(alloc: Global, facts: &Facts, f: Fact) -> Result<bool, AllocError>
+    ensures { IfOk result (λ b. b ≡ is_shown (known facts.now) f) }
+{
+    if f.x < facts.vars && f.y < facts.vars && is_within(1 << 50, f.c) {
+        return reaches(alloc, facts, f);
+    }
+    Ok(false)
+}
+
+fn reaches(alloc: Global, facts: &Facts, f: Fact) -> Result<bool, AllocError>
+    requires from { f.x < facts.now.vars }
+    requires to { f.y < facts.now.vars }
+    requires number { IsWithin (2 ^ 50) f.c }
+    ensures { IfOk result (λ b. b ≡ reaches (facts.now.vars + 1) facts.now.list f.x f.y f.c) }
+{
+    let mut row = vec![in alloc; 0i64; 2 * facts.vars as usize]?;
+    Ok(entails(facts, f.x, f.y, f.c, &mut row))
+}
