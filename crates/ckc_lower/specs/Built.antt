@@ -1,4 +1,4 @@
--- What the builder of a function is after each part of its code. Private contracts alone speak of it.
+-- What the builder of a function is after each part of its code. It mirrors the code and need not be believed.
 use Rattle.std.specs.Prelude.{ℕ, ◌+◌, max, ◌==◌, ◌&&◌, if◌then◌else◌, Bool, true, false, not, List, [], ◌∷◌, ◌++◌, length, Option, Some, None}
 use Rattle.ckc_base.specs.declared.arithmetic.BinOp.{BinOp}
 use Rattle.ckc_base.specs.declared.arithmetic.BinOp.TheVariants as binary
