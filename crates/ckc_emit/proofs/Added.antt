@@ -16,7 +16,7 @@ use Rattle.ckc_rv.specs.declared.instructions.LoadOp.TheVariants.{Lw}
 use Rattle.ckc_rv.specs.declared.instructions.StoreOp.{StoreOp}
 use Rattle.ckc_rv.specs.declared.instructions.StoreOp.TheVariants.{Sw}
 use Rattle.ckc_rv.specs.declared.instructions.ImmOp.{ImmOp}
-use Rattle.ckc_rv.specs.declared.instructions.ImmOp.TheVariants.{Addi, Slti, Sltiu, Xori, Ori, Andi, Slli, Srli, Srai}
+use Rattle.ckc_rv.specs.declared.instructions.ImmOp.TheVariants.{Addi, Slti, Sltiu, Xori, Ori, Andi, Slli, Srli}
 use Rattle.ckc_rv.specs.declared.instructions.RegOp.{RegOp}
 use Rattle.ckc_rv.specs.declared.instructions.RegOp.TheVariants.{Add, Sub, Sltu, Mul, Divu}
 use Rattle.ckc_rv.specs.declared.instructions.Instr.TheVariants.{Lui, Branch, Load, Store, Imm, Reg, Ecall}

@@ -4,7 +4,6 @@ use Rattle.std.specs.Prelude.{All, pos, nat_lt, int_lt}
 use Rattle.std.specs.List.{slice_get}
 use Rattle.std.proofs.lemmas.List.Elements.{All-get_or, All-nil}
 use Rattle.std.proofs.lemmas.Option.{slice_get_within, get_or_from_slice_get}
-use Rattle.ckc_base.specs.Activations.{Values}
 use Rattle.ckc_base.specs.Memory.{data_start}
 use Rattle.ckc_base.specs.States.{Travels}
 use Rattle.ckc_base.proofs.Travelling.{one_travel, no_travel, then_travels}
@@ -26,14 +25,12 @@ use Rattle.ckc_tac.specs.WellFormed.{IsOperandOver, IsFunctionOver, IsBlockOver}
 use Rattle.ckc_frame.specs.declared.code.Place.{Place}
 use Rattle.ckc_frame.specs.declared.code.Place.TheVariants as place
 use Rattle.ckc_frame.specs.declared.code.PlacedFunc.{PlacedFunc}
-use Rattle.ckc_frame.specs.Places.{number_of, registers_in}
 use Rattle.ckc_frame.specs.WellFormed.{IsPlace, IsPlacedWhole}
 use Rattle.ckc_frame.specs.Meaning.{State, begins, goes_to, branches, registers_of}
 use Rattle.ckc_base.specs.Words.{signed, flag, applied}
 use Rattle.ckc_emit.specs.declared.places.PlacedOperand.{PlacedOperand}
 use Rattle.ckc_emit.specs.Operands.{IsOperand}
 use Rattle.ckc_emit.specs.Lines.{register_of, register_with}
-use Rattle.ckc_emit.specs.CallLines.{place_at}
 use Rattle.ckc_emit.specs.ProgramLines.{label_of, ops_lines, end_lines, operand_at, holding, failing, jump_lines, choice_lines, branch_lines, is_passing, is_passing_block, falls_through}
 use Rattle.ckc_emit.proofs.Local.{Local, state_of}
 use Rattle.ckc_emit.proofs.Steps.{branch_taken, branch_passed}
@@ -43,12 +40,11 @@ use Rattle.ckc_emit.proofs.Asking.{IsSoft, soft_then, places_soft}
 use Rattle.ckc_emit.proofs.Operands.{operand_value, operand_has, operand_word, operand_is, operand_found, left_register, right_register}
 use Rattle.ckc_emit.proofs.Binary.{two_reads}
 use Rattle.ckc_emit.proofs.Relation.{world_kept}
-use Rattle.ckc_emit.proofs.PlaceAt.{home_is, place_is}
 use Rattle.ckc_emit.proofs.Jumping.{far_goes}
 use Rattle.ckc_emit.proofs.Frames.{AreWaiting, IsRelated}
 use Rattle.ckc_emit.proofs.Standing.{block_label, BeginsWith, Stands}
 use Rattle.ckc_emit.proofs.Related.{May, measure, Simulated, Reaches, reaches_simulates, are_waiting_kept}
-use Rattle.ckc_emit.proofs.Tests.{eq_is, eq_of, apart_is, apart_of, not_true, and_first, and_second}
+use Rattle.ckc_emit.proofs.Tests.{eq_of, not_true, and_first, and_second}
 
 -- what holds of all elements holds of each
 pub all_at : {X : Type 0} (P : X → Type 0) (xs : List X) (k : ℕ) (x : X) → All P xs → slice_get xs k ≡ Some x → P x

@@ -1,22 +1,14 @@
 -- Places that are read before an operation.
-use Rattle.std.proofs.Common.{◌≡◌, ◌≢◌, ℕ, ◌+◌, ◌*◌, ◌^◌, ◌<◌, List, [], ◌∷◌, refl, sym, ap, subst, ◌∙◌, arith}
-use Rattle.ckc_base.specs.Words.{applied}
-use Rattle.ckc_base.specs.Products.{high_product}
-use Rattle.ckc_base.specs.declared.arithmetic.BinOp.{BinOp}
-use Rattle.std.specs.Prelude.{Bool, true, false}
-use Rattle.ckc_rv.specs.declared.instructions.Instr.TheVariants.{Reg as RegInstr}
-use Rattle.ckc_rv.specs.Effects.{reg_value}
+use Rattle.std.proofs.Common.{◌≡◌, ◌≢◌, ℕ, ◌+◌, ◌*◌, ◌^◌, ◌<◌, List, [], refl, sym, ap, ◌∙◌, arith}
 use Rattle.ckc_lines.specs.declared.lines.Line.{Line}
-use Rattle.ckc_lines.specs.declared.lines.Line.TheVariants.{Plain}
 use Rattle.ckc_frame.specs.declared.code.Place.{Place}
 use Rattle.ckc_frame.specs.declared.code.Place.TheVariants.{Reg, Slot}
 use Rattle.ckc_frame.specs.WellFormed.{IsPlace}
-use Rattle.ckc_emit.specs.Lines.{register_of, source_of, read_lines, write_lines, apply_lines, bin_lines, high_op, high_lines, load_lines}
+use Rattle.ckc_emit.specs.Lines.{register_of, source_of, read_lines, load_lines}
 use Rattle.ckc_emit.proofs.Local.{Local}
-use Rattle.ckc_emit.proofs.Paths.{Code, Path, stay, followed, loosened}
+use Rattle.ckc_emit.proofs.Paths.{Code, Path, stay, loosened}
 use Rattle.ckc_emit.proofs.FrameWords.{load_sets}
-use Rattle.ckc_emit.proofs.Homes.{HasValue, IsFramed, Keeps, keeps_then, framed_kept, register_is, slot_word, AreFrameStores, Writes, write_after, source_low}
-use Rattle.ckc_emit.proofs.Acting.{apply_sets, plain_sets}
+use Rattle.ckc_emit.proofs.Homes.{HasValue, IsFramed, Keeps, register_is, slot_word}
 
 -- the register of a place that was read into x5, or is a home
 pub left_place : (p : Place) → IsPlace p → (source_of p 5 < 32) × (source_of p 5 ≢ 6) × (source_of p 5 ≢ 7)

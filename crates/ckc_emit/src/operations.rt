@@ -6,7 +6,8 @@ ghost use Rattle.ckc_emit.specs.Operands.{IsOperand};
 ghost use Rattle.ckc_emit.specs.Lines.{const_lines, copy_lines, bin_lines, form_lines, form_of, number_form as number_form_of, near_form as near_form_of, immediate_lines, ending_lines, apply_lines, operation_of, high_lines, data_load_lines, data_store_lines, test_lines, get_lines, put_lines};
 
 use crate::places::{
-    PlacedOperand, put_fetch, put_operand, put_settle, put_take, put_write, register_of_operand, source,
+    PlacedOperand, put_fetch, put_operand, put_settle, put_take, put_write, register_of_operand,
+    source,
 };
 use crate::templates::{immediate, put, put_ask, put_check, put_constant, upper};
 use ckc_base::{BinOp, Check, Pos, Width};

@@ -108,13 +108,7 @@ pub fn register_of_operand(operand: PlacedOperand, scratch: u8) -> u8
 {
     match operand {
         PlacedOperand::At(place) => source(place, scratch),
-        PlacedOperand::Number(n) => {
-            if n == 0 {
-                0
-            } else {
-                scratch
-            }
-        }
+        PlacedOperand::Number(n) => { if n == 0 { 0 } else { scratch } }
     }
 }
 
