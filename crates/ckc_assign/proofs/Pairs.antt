@@ -11,7 +11,7 @@ use Rattle.ckc_base.specs.Activations.{Values}
 use Rattle.ckc_tac.specs.declared.code.TacFunc.{TacFunc}
 use Rattle.ckc_tac.specs.declared.code.TacOp.{TacOp}
 use Rattle.ckc_tac.specs.declared.code.TacOp.TheVariants.{Const, Copy, Bin, High, Load, Store, Check, Call, Get, Put, Alloc}
-use Rattle.ckc_tac.specs.Operations.{outcome_of}
+use Rattle.ckc_tac.specs.Operations.{outcome_of, value_in}
 use Rattle.ckc_tac.specs.WellFormed.{IsOpOver}
 
 -- what holds of all elements holds of each
@@ -58,13 +58,13 @@ module _ (regs : ℕ) where
   pub outcome_below : (functions : List TacFunc) (registers : Values) (world : World) (op : TacOp) → IsOpOver functions regs op → GivesBelow regs (outcome_of registers world op)
   outcome_below functions registers world (Const t n) h = h.0
   outcome_below functions registers world (Copy t a) h = value_below (registers a) _ (λ x. h.0)
-  outcome_below functions registers world (Bin op t a b) h = value_below (registers a) _ (λ x. value_below (registers b) _ (λ y. h.0))
-  outcome_below functions registers world (High is_signed t a b) h = value_below (registers a) _ (λ x. value_below (registers b) _ (λ y. h.0))
-  outcome_below functions registers world (Load width t a) h = value_below (registers a) _ (λ p. value_below (value_at width world.memory p) _ (λ x. h.0))
-  outcome_below functions registers world (Store width a b) h = value_below (registers a) _ (λ p. value_below (registers b) _ (λ v. stores_below world _ (memory_with width world.memory p v)))
-  outcome_below functions registers world (Check check at a) h = value_below (registers a) _ (λ v. if_below (v == 0) (Stops check at) (Done [] world) tt tt)
+  outcome_below functions registers world (Bin op t a b) h = value_below (value_in registers a) _ (λ x. value_below (value_in registers b) _ (λ y. h.0))
+  outcome_below functions registers world (High is_signed t a b) h = value_below (value_in registers a) _ (λ x. value_below (value_in registers b) _ (λ y. h.0))
+  outcome_below functions registers world (Load width t a) h = value_below (value_in registers a) _ (λ p. value_below (value_at width world.memory p) _ (λ x. h.0))
+  outcome_below functions registers world (Store width a b) h = value_below (value_in registers a) _ (λ p. value_below (value_in registers b) _ (λ v. stores_below world _ (memory_with width world.memory p v)))
+  outcome_below functions registers world (Check check at a) h = value_below (value_in registers a) _ (λ v. if_below (v == 0) (Stops check at) (Done [] world) tt tt)
   outcome_below functions registers world (Call target callee arguments at) h = tt
   outcome_below functions registers world (Get t) h = gets_below world.memory t world.input h
-  outcome_below functions registers world (Put a) h = value_below (registers a) _ (λ v. tt)
+  outcome_below functions registers world (Put a) h = value_below (value_in registers a) _ (λ v. tt)
   outcome_below functions registers world (Alloc t a size) h =
-      value_below (registers a) _ (λ n. value_below (value_at Word world.memory data_start) _ (λ place. room_below world t n size place h.0))
+      value_below (value_in registers a) _ (λ n. value_below (value_at Word world.memory data_start) _ (λ place. room_below world t n size place h.0))

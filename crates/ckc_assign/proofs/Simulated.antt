@@ -26,7 +26,7 @@ use Rattle.ckc_tac.specs.declared.code.TacOp.{TacOp}
 use Rattle.ckc_tac.specs.declared.code.TacOp.TheVariants.{Call}
 use Rattle.ckc_tac.specs.declared.code.TacEnd.{TacEnd}
 use Rattle.ckc_tac.specs.declared.code.TacEnd.TheVariants.{Jump, Branch, Return}
-use Rattle.ckc_tac.specs.Operations.{outcome_of, values_in}
+use Rattle.ckc_tac.specs.Operations.{outcome_of, value_in, values_in, compared}
 use Rattle.ckc_tac.specs.Meaning as tac
 use Rattle.ckc_tac.specs.WellFormed.{IsFunctionOver, IsBlockOver, IsOpOver, HasParams}
 use Rattle.ckc_frame.specs.declared.code.PlacedFunc.{PlacedFunc}
@@ -163,8 +163,10 @@ module _ (functions : List TacFunc) (small : All (λ (f : TacFunc). f.regs ≤ 4
 
   ends : (p : Pair) (end : TacEnd) → frame.placed_step placed (lower p) ≡ frame.ends (lower p) end → Matches p (tac.ends (upper p) end)
   ends p (Jump to) step = jumps p to (slice_get p.frame.function.blocks to) refl step
-  ends p (Branch r one two) step = branches p one two (registers_in (slots 0 p.frame.function.regs) p.frame.places r) step
-  ends p (Return r) step = returns p p.callers (registers_in (slots 0 p.frame.function.regs) p.frame.places r) step
+  ends p (Branch comparison a b one two) step =
+      let registers = registers_in (slots 0 p.frame.function.regs) p.frame.places in
+      branches p one two (compared comparison (value_in registers a) (value_in registers b)) step
+  ends p (Return a) step = returns p p.callers (value_in (registers_in (slots 0 p.frame.function.regs) p.frame.places) a) step
 
   -- ---- operations
 

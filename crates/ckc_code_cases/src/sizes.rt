@@ -1,9 +1,9 @@
 //! How many instructions three-address code may be compiled to.
 ghost use Rattle.std.specs.Prelude.{◌≡◌, sum_by, IfSome};
 ghost use Rattle.ckc_base.specs.Sizes.{call_size};
-ghost use Rattle.ckc_tac.specs.Sizes.{op_size, end_size, ops_size, block_size, function_size, program_size};
+ghost use Rattle.ckc_tac.specs.Sizes.{op_size, operand_size, end_size, ops_size, block_size, function_size, program_size};
 
-use ckc_tac::{Tac, TacBlock, TacEnd, TacFunc, TacOp};
+use ckc_tac::{Operand, Tac, TacBlock, TacEnd, TacFunc, TacOp};
 
 fn size_of_op(op: &TacOp) -> Option<u32>
     ensures { IfSome result (λ n. n ≡ op_size op.now) }
@@ -28,12 +28,28 @@ fn size_of_call(count: usize) -> Option<u32>
     Some(64 + 8 * count as u32)
 }
 
+fn size_of_operand(operand: Operand) -> u32
+    ensures { result ≡ operand_size operand }
+{
+    match operand {
+        Operand::Register(_) => 3,
+        Operand::Number(n) => {
+            if n == 0 {
+                0
+            } else {
+                2
+            }
+        }
+    }
+}
+
 fn size_of_end(end: TacEnd) -> u32
     ensures { result ≡ end_size end }
 {
     match end {
         TacEnd::Jump(_) => 2,
-        TacEnd::Branch(_, _, _) | TacEnd::Return(_) => 8,
+        TacEnd::Branch(_, a, b, _, _) => size_of_operand(a) + size_of_operand(b) + 5,
+        TacEnd::Return(_) => 8,
     }
 }
 

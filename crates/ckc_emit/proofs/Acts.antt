@@ -22,7 +22,7 @@ use Rattle.ckc_frame.specs.declared.code.Place.{Place}
 use Rattle.ckc_frame.specs.declared.code.Place.TheVariants as place
 use Rattle.ckc_frame.specs.Places.{number_of}
 use Rattle.ckc_frame.specs.WellFormed.{IsPlace}
-use Rattle.ckc_emit.specs.Lines.{source_of, write_lines, bin_lines, high_lines, const_lines, load_op, store_op, data_load_lines, data_store_lines, copy_lines, register_of}
+use Rattle.ckc_emit.specs.Lines.{source_of, register_with, write_lines, bin_lines, high_lines, const_lines, load_op, store_op, data_load_lines, data_store_lines, copy_lines, register_of}
 use Rattle.ckc_emit.specs.Stores.{data_store}
 use Rattle.ckc_emit.proofs.Local.{Local, memory_of, state_of}
 use Rattle.ckc_emit.proofs.Words.{bytes_put, data_stored}
@@ -33,7 +33,10 @@ use Rattle.ckc_emit.proofs.Homes.{register_is, slot_word, settle_writes, HasValu
 use Rattle.ckc_emit.proofs.Values.{applied_word, high_word}
 use Rattle.ckc_emit.proofs.Acting.{const_writes}
 use Rattle.ckc_emit.proofs.Splits.{moved_none}
-use Rattle.ckc_emit.proofs.Sources.{one_read, two_reads, right_register, sourced_then, bin_writes, high_writes, left_register}
+use Rattle.ckc_emit.specs.declared.places.PlacedOperand.{PlacedOperand}
+use Rattle.ckc_emit.specs.Operands.{IsOperand}
+use Rattle.ckc_emit.proofs.Operands.{operand_value, operand_has, operand_word, left_register, right_register}
+use Rattle.ckc_emit.proofs.Binary.{one_read, two_reads, sourced_then, bin_writes, high_writes}
 use Rattle.ckc_emit.proofs.Regions.{region, value_loaded, value_word, put_small, data_store as data_put}
 use Rattle.ckc_emit.proofs.Relation.{AreBytes, HasWorld, Does, write_does}
 
@@ -41,21 +44,21 @@ module _ (c : Code) (l : Local) (places : Values) (world : World) (framed : IsFr
   pub const_does : (t : Place) (v : ℕ) (rest : List Line) → IsPlace t → v < 2 ^ 32 → Does c 5 (const_lines t v rest) rest l [] (with_written places (number_of t) v) world
   const_does t v rest h fits = write_does c 5 (const_lines t v rest) rest l t v places world framed h fits has whole (const_writes c t v rest l framed h fits)
 
-  pub bin_does : (o : BinOp) (t a b : Place) (x y : ℕ) (rest : List Line) → IsPlace t → IsPlace a → IsPlace b → places (number_of a) ≡ Some x → places (number_of b) ≡ Some y
+  pub bin_does : (o : BinOp) (t : Place) (a b : PlacedOperand) (x y : ℕ) (rest : List Line) → IsPlace t → IsOperand a → IsOperand b → operand_value places a ≡ Some x → operand_value places b ≡ Some y
       → Does c 11 (bin_lines o t a b rest) rest l [] (with_written places (number_of t) (applied o x y)) world
   bin_does o t a b x y rest ht ha hb ea eb =
-      let fx = has.word a x ha ea in
-      let fy = has.word b y hb eb in
+      let fx = operand_word l places has a x ha ea in
+      let fy = operand_word l places has b y hb eb in
       write_does c 11 (bin_lines o t a b rest) rest l t (applied o x y) places world framed ht (applied_word o x y fx fy) has whole
-      (bin_writes c o t a b x y rest l framed ht ha hb (has.has a x ha ea) (has.has b y hb eb) fx fy)
+      (bin_writes c o t a b x y rest l framed ht ha hb (operand_has l places has a x ha ea) (operand_has l places has b y hb eb) fx fy)
 
-  pub high_does : (is_signed : Bool) (t a b : Place) (x y : ℕ) (rest : List Line) → IsPlace t → IsPlace a → IsPlace b → places (number_of a) ≡ Some x → places (number_of b) ≡ Some y
+  pub high_does : (is_signed : Bool) (t : Place) (a b : PlacedOperand) (x y : ℕ) (rest : List Line) → IsPlace t → IsOperand a → IsOperand b → operand_value places a ≡ Some x → operand_value places b ≡ Some y
       → Does c 11 (high_lines is_signed t a b rest) rest l [] (with_written places (number_of t) (high_product is_signed x y)) world
   high_does is_signed t a b x y rest ht ha hb ea eb =
-      let fx = has.word a x ha ea in
-      let fy = has.word b y hb eb in
+      let fx = operand_word l places has a x ha ea in
+      let fy = operand_word l places has b y hb eb in
       write_does c 11 (high_lines is_signed t a b rest) rest l t (high_product is_signed x y) places world framed ht (high_word is_signed x y fx fy) has whole
-      (high_writes c is_signed t a b x y rest l framed ht ha hb (has.has a x ha ea) (has.has b y hb eb) fx fy)
+      (high_writes c is_signed t a b x y rest l framed ht ha hb (operand_has l places has a x ha ea) (operand_has l places has b y hb eb) fx fy)
 
   -- ---- loads of the data region
 
@@ -79,20 +82,20 @@ module _ (c : Code) (l : Local) (places : Values) (world : World) (framed : IsFr
       (set_by c (Load (load_op width) rd ra (pos 0)) rest m rd (load_value (load_op width) v) nonzero
       (λ pc a. load_step c.parts m pc (load_op width) rd ra (pos 0) p v a h i at aligned got))
 
-  pub load_writes : (width : Width) (t a : Place) (p v : ℕ) (rest : List Line) → IsPlace t → IsPlace a → places (number_of a) ≡ Some p → base.value_at width world.memory p ≡ Some v
+  pub load_writes : (width : Width) (t : Place) (a : PlacedOperand) (p v : ℕ) (rest : List Line) → IsPlace t → IsOperand a → operand_value places a ≡ Some p → base.value_at width world.memory p ≡ Some v
       → Writes c 1 7 (data_load_lines width t a rest) rest l t v
   load_writes width t a p v rest ht ha ea there =
-      let mid = line.Plain (Load (load_op width) (source_of t 5) (source_of a 5) (pos 0)) ∷ write_lines t 5 rest in
-      let fits = has.word a p ha ea in
-      let s = one_read c a p mid l framed ha (has.has a p ha ea) fits in
+      let mid = line.Plain (Load (load_op width) (source_of t 5) (register_with a 5) (pos 0)) ∷ write_lines t 5 rest in
+      let fits = operand_word l places has a p ha ea in
+      let s = one_read c a p mid l framed ha (operand_has l places has a p ha ea) fits in
       let after = framed_kept l s.next framed s.keeps in
       let low = source_low c t ht in
       let same : base.value_at width (region s.next.bytes) p ≡ Some v = ap (λ (m : base.Memory). base.value_at width m p) (ap region s.bytes ∙ sym whole.memory) ∙ there in
-      sourced_then c 3 1 4 (data_load_lines width t a rest) mid rest l (source_of a 5) p (source_of a 5) p t v s
+      sourced_then c 3 1 4 (data_load_lines width t a rest) mid rest l (register_with a 5) p (register_with a 5) p t v s
       (write_after c 1 1 mid t v rest s.next after ht
-      (data_sets width (source_of t 5) (source_of a 5) p v (write_lines t 5 rest) s.next low.0 low.1 (left_register c a ha).0 s.left fits same))
+      (data_sets width (source_of t 5) (register_with a 5) p v (write_lines t 5 rest) s.next low.0 low.1 (left_register a ha).0 s.left fits same))
 
-  pub load_does : (width : Width) (t a : Place) (p v : ℕ) (rest : List Line) → IsPlace t → IsPlace a → places (number_of a) ≡ Some p → base.value_at width world.memory p ≡ Some v
+  pub load_does : (width : Width) (t : Place) (a : PlacedOperand) (p v : ℕ) (rest : List Line) → IsPlace t → IsOperand a → operand_value places a ≡ Some p → base.value_at width world.memory p ≡ Some v
       → Does c 7 (data_load_lines width t a rest) rest l [] (with_written places (number_of t) v) world
   load_does width t a p v rest ht ha ea there =
       let here : base.value_at width (region l.bytes) p ≡ Some v = ap (λ (m : base.Memory). base.value_at width m p) (sym whole.memory) ∙ there in
@@ -163,15 +166,15 @@ module _ (c : Code) (l : Local) (places : Values) (world : World) (framed : IsFr
       store_step c.parts m pc (store_op width) ra rb (pos 0) p (bytes_put bytes n p y) m.words a ha hb at multiple low below put
       ∙ ap (λ (event : MachineEvent). Goes (event ∷ []) (state_of c.parts (record m { bytes = bytes_put bytes n p y }) (pc + 4))) same)
 
-  pub store_does : (width : Width) (a b : Place) (p y : ℕ) (now : base.Memory) (rest : List Line) → IsPlace a → IsPlace b → places (number_of a) ≡ Some p → places (number_of b) ≡ Some y
+  pub store_does : (width : Width) (a b : PlacedOperand) (p y : ℕ) (now : base.Memory) (rest : List Line) → IsOperand a → IsOperand b → operand_value places a ≡ Some p → operand_value places b ≡ Some y
       → base.memory_with width world.memory p y ≡ Some now
       → Does c 7 (data_store_lines width a b rest) rest l (Stored p width (base.kept_part width y) ∷ []) places (record world { memory = now })
   store_does width a b p y now rest ha hb ea eb there =
       let n = base.width_bytes width in
-      let i = line.Plain (Store (store_op width) (source_of a 5) (source_of b 6) (pos 0)) in
-      let fp = has.word a p ha ea in
-      let fy = has.word b y hb eb in
-      let s = two_reads c a b p y (i ∷ rest) l framed ha hb (has.has a p ha ea) (has.has b y hb eb) fp fy in
+      let i = line.Plain (Store (store_op width) (register_with a 5) (register_with b 6) (pos 0)) in
+      let fp = operand_word l places has a p ha ea in
+      let fy = operand_word l places has b y hb eb in
+      let s = two_reads c a b p y (i ∷ rest) l framed ha hb (operand_has l places has a p ha ea) (operand_has l places has b y hb eb) fp fy in
       let d = data_put width l.bytes p y now (ap (λ (m : base.Memory). base.memory_with width m p y) (sym whole.memory) ∙ there) in
       let next : Local = record s.next { bytes = bytes_put l.bytes n p y } in
       let event = Wrote p n (y % 256 ^ n) in
@@ -181,7 +184,7 @@ module _ (c : Code) (l : Local) (places : Values) (world : World) (framed : IsFr
         lower = event ∷ [];
         path = loosened c (0 + 1) (6 + 1) 1 7 (data_store_lines width a b rest) rest (event ∷ []) l next (omega arith) (omega arith)
             (followed c 0 6 1 1 (data_store_lines width a b rest) (i ∷ rest) rest [] (event ∷ []) l s.next next s.path
-            (store_path width (source_of a 5) (source_of b 6) p y rest s.next l.bytes s.bytes (left_register c a ha).0 (right_register c b hb) s.left s.right fp d.aligned d.low d.fits));
+            (store_path width (register_with a 5) (register_with b 6) p y rest s.next l.bytes s.bytes (left_register a ha).0 (right_register b hb) s.left s.right fp d.aligned d.low d.fits));
         seen = ap (λ es. es ++ []) (data_seen width p y fy data_is);
         allowed = (inr (data_is, one_or_four width), tt);
         keeps = record { zero = s.keeps.zero; frame = s.keeps.frame; above = s.keeps.above };

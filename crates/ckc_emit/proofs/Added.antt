@@ -1,5 +1,5 @@
 -- What each piece of lines adds.
-use Rattle.std.proofs.Common.{◌≡◌, ℕ, ◌+◌, ◌*◌, ◌^◌, ◌≤◌, ◌<◌, ◌==◌, ◌||◌, nat_lt, if◌then◌else◌, Bool, true, false, List, ◌∷◌, arith}
+use Rattle.std.proofs.Common.{◌≡◌, ℕ, ◌+◌, ◌*◌, ◌%◌, ◌^◌, ◌≤◌, ◌<◌, ◌==◌, ◌||◌, nat_lt, if◌then◌else◌, Bool, true, false, List, ◌∷◌, arith}
 use Rattle.std.specs.Prelude.{ℤ, pos}
 use Rattle.std.proofs.lemmas.Int.{ints}
 use Rattle.std.proofs.lemmas.Bool.Decides.{nat_tests}
@@ -15,17 +15,23 @@ use Rattle.ckc_rv.specs.declared.instructions.LoadOp.{LoadOp}
 use Rattle.ckc_rv.specs.declared.instructions.LoadOp.TheVariants.{Lw}
 use Rattle.ckc_rv.specs.declared.instructions.StoreOp.{StoreOp}
 use Rattle.ckc_rv.specs.declared.instructions.StoreOp.TheVariants.{Sw}
-use Rattle.ckc_rv.specs.declared.instructions.ImmOp.TheVariants.{Addi, Sltiu, Slli, Srli}
+use Rattle.ckc_rv.specs.declared.instructions.ImmOp.{ImmOp}
+use Rattle.ckc_rv.specs.declared.instructions.ImmOp.TheVariants.{Addi, Slti, Sltiu, Xori, Ori, Andi, Slli, Srli}
 use Rattle.ckc_rv.specs.declared.instructions.RegOp.{RegOp}
 use Rattle.ckc_rv.specs.declared.instructions.RegOp.TheVariants.{Add, Sub, Sltu, Mul, Divu}
 use Rattle.ckc_rv.specs.declared.instructions.Instr.TheVariants.{Lui, Branch, Load, Store, Imm, Reg, Ecall}
-use Rattle.ckc_rv.specs.Table.{IsSigned}
+use Rattle.ckc_rv.specs.Table.{IsSigned, IsCount, InRange}
+use Rattle.ckc_emit.specs.declared.places.PlacedOperand.{PlacedOperand}
+use Rattle.ckc_emit.specs.declared.places.PlacedOperand.TheVariants.{At, Number}
+use Rattle.ckc_emit.specs.declared.operations.Form.{Form}
+use Rattle.ckc_emit.specs.declared.operations.Form.TheVariants.{Zero, Immediate, Registers}
+use Rattle.ckc_emit.specs.Operands.{IsOperand}
 use Rattle.ckc_lines.specs.declared.lines.Line.{Line}
 use Rattle.ckc_lines.specs.declared.lines.Line.TheVariants.{Plain}
 use Rattle.ckc_frame.specs.declared.code.Place.{Place}
 use Rattle.ckc_frame.specs.declared.code.Place.TheVariants as place
 use Rattle.ckc_frame.specs.WellFormed.{IsPlace}
-use Rattle.ckc_emit.specs.Lines.{upper_of, lower_of, is_round, both_lines, large_lines, constant_lines, constant_count, move_lines, offset_lines, load_lines, store_lines, ask_lines, stop_lines, check_lines, register_of, source_of, read_lines, write_lines, settle_lines, fetch_lines, const_lines, copy_lines, operation_of, apply_lines, bin_lines, high_op, high_lines, load_op, store_op, data_load_lines, data_store_lines, test_lines, get_lines, put_lines, tests_lines, room_lines, rounded_lines, claim_lines, alloc_lines}
+use Rattle.ckc_emit.specs.Lines.{upper_of, lower_of, is_round, both_lines, large_lines, constant_lines, constant_count, move_lines, offset_lines, load_lines, store_lines, ask_lines, stop_lines, check_lines, register_of, source_of, read_lines, write_lines, settle_lines, fetch_lines, register_with, operand_lines, take_lines, const_lines, copy_lines, operation_of, apply_lines, negated, near_form, number_form, form_of, ending_lines, form_lines, bin_lines, high_op, high_lines, load_op, store_op, data_load_lines, data_store_lines, test_lines, get_lines, put_lines, tests_lines, room_lines, rounded_lines, claim_lines, alloc_lines}
 use Rattle.ckc_emit.proofs.Splits.{upper_small}
 use Rattle.ckc_emit.proofs.Pieces.{Adds, nothing, then_adds, more_adds, plain_adds, either_adds}
 
@@ -45,6 +51,14 @@ register_low k h = grind (arith, nat_tests)
 pub source_low : (q : Place) (scratch : ℕ) → IsPlace q → scratch < 27 → source_of q scratch < 27
 source_low (place.Reg k) scratch h low = register_low k h
 source_low (place.Slot k) scratch h low = low
+
+number_low : (b : Bool) (scratch : ℕ) → scratch < 27 → (if b then 0 else scratch) < 27
+number_low true scratch h = omega arith
+number_low false scratch h = h
+
+pub with_low : (o : PlacedOperand) (scratch : ℕ) → IsOperand o → scratch < 27 → register_with o scratch < 27
+with_low (At q) scratch h low = source_low q scratch h low
+with_low (Number n) scratch h low = number_low (n == 0) scratch low
 
 upper_none : (v : ℕ) → v < 2048 → (upper_of v == 0) ≡ false → ⊥
 unfolding upper_of
@@ -171,6 +185,36 @@ module _ (labels k : ℕ) where
   fetch_adds rd (place.Reg j) ys p h = more_adds labels 3 (omega arith) (move_adds rd (register_of j) ys h (register_low j p))
   fetch_adds rd (place.Slot j) ys p h = loads_add rd 2 (j * 4 + 64) ys h (omega arith)
 
+  -- ---- operands
+
+  number_adds : (b : Bool) (n scratch : ℕ) (ys : List Line) → scratch < 27 → Adding (if b then 0 else 2) (if b then ys else constant_lines scratch n ys) ys
+  number_adds true n scratch ys h = nothing labels k ys
+  number_adds false n scratch ys h = constant_adds scratch n ys h
+
+  -- how many instructions read an operand
+  abbrev pub reading : PlacedOperand → ℕ
+  reading (At q) = 3
+  reading (Number n) = if n == 0 then 0 else 2
+
+  pub operand_adds : (o : PlacedOperand) (scratch : ℕ) (ys : List Line) → scratch < 27 → Adding (reading o) (operand_lines o scratch ys) ys
+  operand_adds (At q) scratch ys h = read_adds q scratch ys h
+  operand_adds (Number n) scratch ys h = number_adds (n == 0) n scratch ys h
+
+  none_or_two : (b : Bool) → (if b then 0 else 2) ≤ 3
+  none_or_two true = omega arith
+  none_or_two false = omega arith
+
+  pub reading_few : (o : PlacedOperand) → reading o ≤ 3
+  reading_few (At q) = omega arith
+  reading_few (Number n) = none_or_two (n == 0)
+
+  three_adds : (o : PlacedOperand) (scratch : ℕ) (ys : List Line) → scratch < 27 → Adding 3 (operand_lines o scratch ys) ys
+  three_adds o scratch ys h = more_adds labels 3 (reading_few o) (operand_adds o scratch ys h)
+
+  pub take_adds : (rd : ℕ) (o : PlacedOperand) (ys : List Line) → IsOperand o → rd < 27 → Adding 3 (take_lines rd o ys) ys
+  take_adds rd (At q) ys p h = fetch_adds rd q ys p h
+  take_adds rd (Number n) ys p h = more_adds labels 3 (omega arith) (constant_adds rd n ys h)
+
   -- ---- operations
 
   pub const_adds : (t : Place) (v : ℕ) (ys : List Line) → IsPlace t → Adding 5 (const_lines t v ys) ys
@@ -204,43 +248,115 @@ module _ (labels k : ℕ) where
   apply_adds op.LtS rd a b ys h i j = one_adds op.LtS rd a b ys h i j
   apply_adds op.LtU rd a b ys h i j = one_adds op.LtU rd a b ys h i j
 
-  pub bin_adds : (o : BinOp) (t a b : Place) (ys : List Line) → IsPlace t → IsPlace a → IsPlace b → Adding 11 (bin_lines o t a b ys) ys
+  no_ending : (ys : List Line) → Adding 1 ys ys
+  no_ending ys = more_adds labels 1 (omega arith) (nothing labels k ys)
+
+  ending_adds : (o : BinOp) (rd rs : ℕ) (ys : List Line) → rd < 27 → rs < 27 → Adding 1 (ending_lines o rd rs ys) ys
+  ending_adds op.Eq rd rs ys h i = plain_adds labels k (Imm Sltiu rd rs (pos 1)) ys (omega arith, omega arith, near_fits 1 (omega arith)) (h, i)
+  ending_adds op.Ne rd rs ys h i = reg_adds Sltu rd 0 rs ys h (omega arith) i
+  ending_adds op.Add rd rs ys h i = no_ending ys
+  ending_adds op.Sub rd rs ys h i = no_ending ys
+  ending_adds op.Mul rd rs ys h i = no_ending ys
+  ending_adds op.DivS rd rs ys h i = no_ending ys
+  ending_adds op.DivU rd rs ys h i = no_ending ys
+  ending_adds op.RemS rd rs ys h i = no_ending ys
+  ending_adds op.RemU rd rs ys h i = no_ending ys
+  ending_adds op.And rd rs ys h i = no_ending ys
+  ending_adds op.Or rd rs ys h i = no_ending ys
+  ending_adds op.Xor rd rs ys h i = no_ending ys
+  ending_adds op.Shl rd rs ys h i = no_ending ys
+  ending_adds op.ShrS rd rs ys h i = no_ending ys
+  ending_adds op.ShrU rd rs ys h i = no_ending ys
+  ending_adds op.LtS rd rs ys h i = no_ending ys
+  ending_adds op.LtU rd rs ys h i = no_ending ys
+
+  -- an immediate fits its instruction
+  abbrev Fits : Form → Type 0
+  Fits Zero = Unit {0}
+  Fits (Immediate i n) = (rd rs : ℕ) → rd < 27 → rs < 27 → InRange (Imm i rd rs (lower_of n))
+  Fits Registers = Unit {0}
+
+  form_adds : (form : Form) (o : BinOp) (rd ra : ℕ) (b : PlacedOperand) (ys : List Line) → Fits form → IsOperand b → rd < 27 → ra < 27 → Adding 5 (form_lines form o rd ra b ys) ys
+  form_adds Zero o rd ra b ys fits p h i = more_adds labels 5 (omega arith) (ending_adds o rd ra ys h i)
+  form_adds (Immediate m n) o rd ra b ys fits p h i =
+      more_adds labels 5 (omega arith) (then_adds labels (plain_adds labels k (Imm m rd ra (lower_of n)) _ (fits rd ra h i) (h, i)) (ending_adds o rd rd ys h h))
+  form_adds Registers o rd ra b ys fits p h i =
+      then_adds labels (three_adds b 6 _ (omega arith)) (apply_adds o rd ra (register_with b 6) ys h i (with_low b 6 p (omega arith)))
+
+  shift_fits : (n : ℕ) → n < 32 → IsCount (lower_of n)
+  unfolding lower_of
+  shift_fits n h = (grind (arith, ints), grind (arith, ints))
+
+  near_form_fits : (b : Bool) (i : ImmOp) (n : ℕ) → ((rd rs : ℕ) → rd < 27 → rs < 27 → InRange (Imm i rd rs (lower_of n))) → Fits (if b then Immediate i n else Registers)
+  near_form_fits true i n h = h
+  near_form_fits false i n h = tt
+
+  test_form_fits : (b : Bool) (form : Form) → Fits form → Fits (if b then Zero else form)
+  test_form_fits true form h = tt
+  test_form_fits false form h = h
+
+  addi_fits : (n : ℕ) → Fits (near_form Addi n)
+  addi_fits n = near_form_fits (upper_of n == 0) Addi n (λ rd rs h i. (omega arith, omega arith, lower_fits n))
+
+  number_fits : (o : BinOp) (n : ℕ) → Fits (number_form o n)
+  number_fits op.Add n = addi_fits n
+  number_fits op.Sub n = addi_fits (negated n)
+  number_fits op.And n = near_form_fits (upper_of n == 0) Andi n (λ rd rs h i. (omega arith, omega arith, lower_fits n))
+  number_fits op.Or n = near_form_fits (upper_of n == 0) Ori n (λ rd rs h i. (omega arith, omega arith, lower_fits n))
+  number_fits op.Xor n = near_form_fits (upper_of n == 0) Xori n (λ rd rs h i. (omega arith, omega arith, lower_fits n))
+  number_fits op.LtS n = near_form_fits (upper_of n == 0) Slti n (λ rd rs h i. (omega arith, omega arith, lower_fits n))
+  number_fits op.LtU n = near_form_fits (upper_of n == 0) Sltiu n (λ rd rs h i. (omega arith, omega arith, lower_fits n))
+  number_fits op.Shl n = λ rd rs h i. (omega arith, omega arith, shift_fits (n % 32) (omega arith))
+  number_fits op.ShrS n = λ rd rs h i. (omega arith, omega arith, shift_fits (n % 32) (omega arith))
+  number_fits op.ShrU n = λ rd rs h i. (omega arith, omega arith, shift_fits (n % 32) (omega arith))
+  number_fits op.Eq n = test_form_fits (n == 0) (near_form Addi (negated n)) (addi_fits (negated n))
+  number_fits op.Ne n = test_form_fits (n == 0) (near_form Addi (negated n)) (addi_fits (negated n))
+  number_fits op.Mul n = tt
+  number_fits op.DivS n = tt
+  number_fits op.DivU n = tt
+  number_fits op.RemS n = tt
+  number_fits op.RemU n = tt
+
+  form_fits : (o : BinOp) (b : PlacedOperand) → Fits (form_of o b)
+  form_fits o (At q) = tt
+  form_fits o (Number n) = number_fits o n
+
+  pub bin_adds : (o : BinOp) (t : Place) (a b : PlacedOperand) (ys : List Line) → IsPlace t → IsOperand a → IsOperand b → Adding 11 (bin_lines o t a b ys) ys
   bin_adds o t a b ys p q r =
-      then_adds labels (read_adds a 5 _ (omega arith))
-      (then_adds labels (read_adds b 6 _ (omega arith))
-      (then_adds labels (apply_adds o (source_of t 5) (source_of a 5) (source_of b 6) _ (source_low t 5 p (omega arith)) (source_low a 5 q (omega arith)) (source_low b 6 r (omega arith)))
-      (write_adds t 5 ys (omega arith))))
-
-  pub high_adds : (s : Bool) (t a b : Place) (ys : List Line) → IsPlace t → IsPlace a → IsPlace b → Adding 11 (high_lines s t a b ys) ys
-  high_adds s t a b ys p q r =
-      more_adds labels 11 (omega arith)
-      (then_adds labels (read_adds a 5 _ (omega arith))
-      (then_adds labels (read_adds b 6 _ (omega arith))
-      (then_adds labels (reg_adds (high_op s) (source_of t 5) (source_of a 5) (source_of b 6) _ (source_low t 5 p (omega arith)) (source_low a 5 q (omega arith)) (source_low b 6 r (omega arith)))
-      (write_adds t 5 ys (omega arith)))))
-
-  pub data_load_adds : (width : Width) (t a : Place) (ys : List Line) → IsPlace t → IsPlace a → Adding 7 (data_load_lines width t a ys) ys
-  data_load_adds width t a ys p q =
-      then_adds labels (read_adds a 5 _ (omega arith))
-      (then_adds labels (load_adds (load_op width) (source_of t 5) (source_of a 5) (pos 0) _ (source_low t 5 p (omega arith)) (source_low a 5 q (omega arith)) (near_fits 0 (omega arith)))
+      then_adds labels (three_adds a 5 _ (omega arith))
+      (then_adds labels (form_adds (form_of o b) o (source_of t 5) (register_with a 5) b _ (form_fits o b) r (source_low t 5 p (omega arith)) (with_low a 5 q (omega arith)))
       (write_adds t 5 ys (omega arith)))
 
-  pub data_store_adds : (width : Width) (a b : Place) (ys : List Line) → IsPlace a → IsPlace b → Adding 7 (data_store_lines width a b ys) ys
-  data_store_adds width a b ys p q =
-      then_adds labels (read_adds a 5 _ (omega arith))
-      (then_adds labels (read_adds b 6 _ (omega arith))
-      (store_adds (store_op width) (source_of a 5) (source_of b 6) (pos 0) ys (source_low a 5 p (omega arith)) (source_low b 6 q (omega arith)) (near_fits 0 (omega arith))))
+  pub high_adds : (s : Bool) (t : Place) (a b : PlacedOperand) (ys : List Line) → IsPlace t → IsOperand a → IsOperand b → Adding 11 (high_lines s t a b ys) ys
+  high_adds s t a b ys p q r =
+      more_adds labels 11 (omega arith)
+      (then_adds labels (three_adds a 5 _ (omega arith))
+      (then_adds labels (three_adds b 6 _ (omega arith))
+      (then_adds labels (reg_adds (high_op s) (source_of t 5) (register_with a 5) (register_with b 6) _ (source_low t 5 p (omega arith)) (with_low a 5 q (omega arith)) (with_low b 6 r (omega arith)))
+      (write_adds t 5 ys (omega arith)))))
 
-  pub test_adds : (check : Check) (at : Pos) (a : Place) (ys : List Line) → IsPlace a → Adding 14 (test_lines check at a ys) ys
+  pub data_load_adds : (width : Width) (t : Place) (a : PlacedOperand) (ys : List Line) → IsPlace t → IsOperand a → Adding 7 (data_load_lines width t a ys) ys
+  data_load_adds width t a ys p q =
+      then_adds labels (three_adds a 5 _ (omega arith))
+      (then_adds labels (load_adds (load_op width) (source_of t 5) (register_with a 5) (pos 0) _ (source_low t 5 p (omega arith)) (with_low a 5 q (omega arith)) (near_fits 0 (omega arith)))
+      (write_adds t 5 ys (omega arith)))
+
+  pub data_store_adds : (width : Width) (a b : PlacedOperand) (ys : List Line) → IsOperand a → IsOperand b → Adding 7 (data_store_lines width a b ys) ys
+  data_store_adds width a b ys p q =
+      then_adds labels (three_adds a 5 _ (omega arith))
+      (then_adds labels (three_adds b 6 _ (omega arith))
+      (store_adds (store_op width) (register_with a 5) (register_with b 6) (pos 0) ys (with_low a 5 p (omega arith)) (with_low b 6 q (omega arith)) (near_fits 0 (omega arith))))
+
+  pub test_adds : (check : Check) (at : Pos) (a : PlacedOperand) (ys : List Line) → IsOperand a → Adding 14 (test_lines check at a ys) ys
   test_adds check at a ys p =
       more_adds labels 14 (omega arith)
-      (then_adds labels (read_adds a 5 _ (omega arith)) (check_adds (source_of a 5) 0 check at ys (source_low a 5 p (omega arith)) (omega arith)))
+      (then_adds labels (three_adds a 5 _ (omega arith)) (check_adds (register_with a 5) 0 check at ys (with_low a 5 p (omega arith)) (omega arith)))
 
   pub get_adds : (t : Place) (ys : List Line) → IsPlace t → Adding 6 (get_lines t ys) ys
   get_adds t ys p = then_adds labels (ask_adds 2 _) (settle_adds t 10 ys p (omega arith))
 
-  pub put_adds : (a : Place) (ys : List Line) → IsPlace a → Adding 7 (put_lines a ys) ys
-  put_adds a ys p = more_adds labels 7 (omega arith) (then_adds labels (fetch_adds 10 a _ p (omega arith)) (ask_adds 1 ys))
+  pub put_adds : (a : PlacedOperand) (ys : List Line) → IsOperand a → Adding 7 (put_lines a ys) ys
+  put_adds a ys p = more_adds labels 7 (omega arith) (then_adds labels (take_adds 10 a _ p (omega arith)) (ask_adds 1 ys))
 
   -- ---- an Alloc
 
@@ -276,9 +392,9 @@ module _ (labels k : ℕ) where
       (then_adds labels (reg_adds Add 5 5 11 _ (omega arith) (omega arith) (omega arith))
       (then_adds labels (addi_adds 5 5 (pos 15) _ (omega arith) (omega arith) (near_fits 15 (omega arith))) (rounded_adds ys))))
 
-  pub alloc_adds : (t a : Place) (size : ℕ) (ys : List Line) → IsPlace t → IsPlace a → Adding 32 (alloc_lines t a size ys) ys
+  pub alloc_adds : (t : Place) (a : PlacedOperand) (size : ℕ) (ys : List Line) → IsPlace t → IsOperand a → Adding 32 (alloc_lines t a size ys) ys
   alloc_adds t a size ys p q =
       more_adds labels 32 (omega arith)
-      (then_adds labels (fetch_adds 5 a _ q (omega arith))
+      (then_adds labels (take_adds 5 a _ q (omega arith))
       (then_adds labels (constant_adds 6 size _ (omega arith))
       (then_adds labels (room_adds _) (then_adds labels (claim_adds _) (settle_adds t 10 ys p (omega arith))))))

@@ -6,17 +6,19 @@ use Rattle.std.proofs.lemmas.List.{take_all}
 use Rattle.std.proofs.lemmas.List.Elements.{All-head, All-tail}
 use Rattle.std.proofs.lemmas.List.Sums.{sum_by-cons, sum_by_more_le}
 use Rattle.ckc_rv.specs.declared.instructions.BranchOp.{BranchOp}
-use Rattle.ckc_rv.specs.declared.instructions.BranchOp.TheVariants.{Beq, Bne}
 use Rattle.ckc_rv.specs.declared.instructions.Instr.TheVariants as instr
 use Rattle.ckc_lines.specs.declared.lines.Line.{Line}
 use Rattle.ckc_tac.specs.declared.code.TacFunc.{TacFunc}
 use Rattle.ckc_tac.specs.declared.code.TacBlock.{TacBlock}
+use Rattle.ckc_tac.specs.declared.code.Comparison.{Comparison}
+use Rattle.ckc_tac.specs.declared.code.Operand.{Operand}
+use Rattle.ckc_tac.specs.declared.code.Operand.TheVariants.{Register, Number}
 use Rattle.ckc_tac.specs.declared.code.TacOp.{TacOp}
 use Rattle.ckc_tac.specs.declared.code.TacOp.TheVariants.{Const, Copy, Bin, High, Load, Store, Check, Call, Get, Put, Alloc}
 use Rattle.ckc_tac.specs.declared.code.TacEnd.{TacEnd}
 use Rattle.ckc_tac.specs.declared.code.TacEnd.TheVariants.{Jump, Branch, Return}
-use Rattle.ckc_tac.specs.WellFormed.{HasParams, IsOpOver, IsEndOver, IsBlockOver, IsFunctionOver}
-use Rattle.ckc_tac.specs.Sizes.{op_size, end_size, ops_size, block_size, function_size}
+use Rattle.ckc_tac.specs.WellFormed.{HasParams, IsOperandOver, IsOpOver, IsEndOver, IsBlockOver, IsFunctionOver}
+use Rattle.ckc_tac.specs.Sizes.{operand_size, op_size, end_size, ops_size, block_size, function_size}
 use Rattle.ckc_frame.specs.declared.code.Place.{Place}
 use Rattle.ckc_frame.specs.declared.code.Placed.{Placed}
 use Rattle.ckc_frame.specs.declared.code.PlacedFunc.{PlacedFunc}
@@ -24,12 +26,14 @@ use Rattle.ckc_frame.specs.Meaning.{is_call, calls_in}
 use Rattle.ckc_frame.specs.Places.{marks_of}
 use Rattle.ckc_frame.specs.WellFormed.{IsPlace, IsPlacedWhole, IsWellFormed}
 use Rattle.ckc_emit.specs.CodeSize.{code_size}
-use Rattle.ckc_emit.specs.Lines.{source_of}
+use Rattle.ckc_emit.specs.declared.places.PlacedOperand.{PlacedOperand}
+use Rattle.ckc_emit.specs.Operands.{IsOperand}
+use Rattle.ckc_emit.specs.Lines.{register_with}
 use Rattle.ckc_emit.specs.CallLines.{place_at}
-use Rattle.ckc_emit.specs.ProgramLines.{label_of, codes_of, homes_of, op_lines, ops_lines, over_lines, jump_lines, branch_lines, falls_through, return_lines, end_lines, block_lines, blocks_lines, function_lines, functions_lines, start_lines, program_lines}
+use Rattle.ckc_emit.specs.ProgramLines.{label_of, codes_of, homes_of, operand_at, op_lines, ops_lines, over_lines, holding, failing, jump_lines, choice_lines, branch_lines, falls_through, return_lines, end_lines, block_lines, blocks_lines, function_lines, functions_lines, start_lines, program_lines}
 use Rattle.ckc_emit.proofs.PlaceAt.{place_is}
 use Rattle.ckc_emit.proofs.Pieces.{Adds, nothing, then_adds, more_adds, plain_adds, far_adds, label_adds, either_adds, numbered_adds}
-use Rattle.ckc_emit.proofs.Added.{near_fits, source_low, lui_adds, branch_adds, near_load_adds, near_store_adds, two_ask_adds, read_adds, fetch_adds, const_adds, copy_adds, bin_adds, high_adds, data_load_adds, data_store_adds, test_adds, get_adds, put_adds, alloc_adds}
+use Rattle.ckc_emit.proofs.Added.{near_fits, with_low, reading, operand_adds, take_adds, lui_adds, branch_adds, near_load_adds, near_store_adds, two_ask_adds, const_adds, copy_adds, bin_adds, high_adds, data_load_adds, data_store_adds, test_adds, get_adds, put_adds, alloc_adds}
 use Rattle.ckc_emit.proofs.AddedCalls.{call_adds}
 use Rattle.ckc_emit.proofs.Turning.{labels_in}
 
@@ -91,6 +95,14 @@ module _ (functions : List PlacedFunc) (placed : All IsPlacedWhole functions) (o
     good : (r : ℕ) → r < f.code.regs → IsPlace (place_at f.homes r)
     good r h = place_is f.homes r (within r h) whole.places
 
+    fine : (o : Operand) → IsOperandOver f.code.regs o → IsOperand (operand_at f.homes o)
+    fine (Register r) h = good r h
+    fine (Number n) h = h
+
+    reading_is : (o : Operand) → reading labels k (operand_at f.homes o) ≡ operand_size o
+    reading_is (Register r) = refl
+    reading_is (Number n) = refl
+
     all_within : (rs : List ℕ) → All (λ r. r < f.code.regs) rs → All (λ r. r < length f.homes) rs
     all_within rs h = λ i d below. within _ (h i d below)
 
@@ -101,11 +113,11 @@ module _ (functions : List PlacedFunc) (placed : All IsPlacedWhole functions) (o
     pub op_adds : (n : ℕ) (op : TacOp) (ys : List Line) → IsOpOver (codes_of functions) f.code.regs op → Adding (op_size op) (op_lines functions f n op ys) ys
     op_adds n (Const t v) ys o = const_adds labels k (place_at f.homes t) v ys (good t o.0)
     op_adds n (Copy t a) ys o = copy_adds labels k (place_at f.homes t) (place_at f.homes a) ys (good t o.0) (good a o.1)
-    op_adds n (Bin b t x y) ys o = bin_adds labels k b (place_at f.homes t) (place_at f.homes x) (place_at f.homes y) ys (good t o.0) (good x o.1) (good y o.2)
-    op_adds n (High s t x y) ys o = high_adds labels k s (place_at f.homes t) (place_at f.homes x) (place_at f.homes y) ys (good t o.0) (good x o.1) (good y o.2)
-    op_adds n (Load width t a) ys o = data_load_adds labels k width (place_at f.homes t) (place_at f.homes a) ys (good t o.0) (good a o.1)
-    op_adds n (Store width a b) ys o = data_store_adds labels k width (place_at f.homes a) (place_at f.homes b) ys (good a o.0) (good b o.1)
-    op_adds n (Check check at a) ys o = test_adds labels k check at (place_at f.homes a) ys (good a o.1)
+    op_adds n (Bin b t x y) ys o = bin_adds labels k b (place_at f.homes t) (operand_at f.homes x) (operand_at f.homes y) ys (good t o.0) (fine x o.1) (fine y o.2)
+    op_adds n (High s t x y) ys o = high_adds labels k s (place_at f.homes t) (operand_at f.homes x) (operand_at f.homes y) ys (good t o.0) (fine x o.1) (fine y o.2)
+    op_adds n (Load width t a) ys o = data_load_adds labels k width (place_at f.homes t) (operand_at f.homes a) ys (good t o.0) (fine a o.1)
+    op_adds n (Store width a b) ys o = data_store_adds labels k width (operand_at f.homes a) (operand_at f.homes b) ys (fine a o.0) (fine b o.1)
+    op_adds n (Check check at a) ys o = test_adds labels k check at (operand_at f.homes a) ys (fine a o.1)
     op_adds n (Call target callee arguments at) ys o =
         let c = callable (codes_of functions) functions callee (length arguments) placed over o.1 in
         let params : homes_of (slice_get functions callee) ≡ c.f.homes = ap homes_of c.is in
@@ -114,8 +126,8 @@ module _ (functions : List PlacedFunc) (placed : All IsPlacedWhole functions) (o
         call_adds labels k f.homes (marks_of (slice_get f.kept n)) (homes_of (slice_get functions callee)) (label_of functions callee) arguments at target ys
         whole.places all (all_within arguments o.2) enough (label_fits functions callee c.below) (target_within target o.0)
     op_adds n (Get t) ys o = get_adds labels k (place_at f.homes t) ys (good t o)
-    op_adds n (Put a) ys o = put_adds labels k (place_at f.homes a) ys (good a o)
-    op_adds n (Alloc t a size) ys o = alloc_adds labels k (place_at f.homes t) (place_at f.homes a) size ys (good t o.0) (good a o.1)
+    op_adds n (Put a) ys o = put_adds labels k (operand_at f.homes a) ys (fine a o)
+    op_adds n (Alloc t a size) ys o = alloc_adds labels k (place_at f.homes t) (operand_at f.homes a) size ys (good t o.0) (fine a o.1)
 
     pub ops_add : (n : ℕ) (ops : List TacOp) (ys : List Line) → All (IsOpOver (codes_of functions) f.code.regs) ops → Adding (ops_size ops) (ops_lines functions f n ops ys) ys
     ops_add n [] ys o = nothing labels k ys
@@ -124,24 +136,35 @@ module _ (functions : List PlacedFunc) (placed : All IsPlacedWhole functions) (o
         (then_adds labels (op_adds n op _ (All-head (IsOpOver (codes_of functions) f.code.regs) op ops o))
         (ops_add (n + is_call op) ops ys (All-tail (IsOpOver (codes_of functions) f.code.regs) op ops o)))
 
-    over_adds : (o : BranchOp) (r label : ℕ) (ys : List Line) → r < 27 → label < labels → Adding 3 (over_lines o r label ys) ys
-    over_adds o r label ys h below = then_adds labels (branch_adds labels k o r 0 3 _ h (omega arith) (omega arith)) (far_adds labels k 0 label ys (omega arith) below)
+    over_adds : (o : BranchOp) (ra rb label : ℕ) (ys : List Line) → ra < 27 → rb < 27 → label < labels → Adding 3 (over_lines o ra rb label ys) ys
+    over_adds o ra rb label ys h i below = then_adds labels (branch_adds labels k o ra rb 3 _ h i (omega arith)) (far_adds labels k 0 label ys (omega arith) below)
 
     jump_adds : (first next b : ℕ) (ys : List Line) → first + b < labels → Adding 2 (jump_lines first next b ys) ys
     jump_adds first next b ys h =
         either_adds labels (b == next) (λ e. more_adds labels 2 (omega arith) (nothing labels k ys)) (λ e. far_adds labels k 0 (first + b) ys (omega arith) h)
 
-    branch_end_adds : (r : Place) (first next one two : ℕ) (ys : List Line) → IsPlace r → first + one < labels → first + two < labels → Adding 8 (branch_lines r first next one two ys) ys
-    branch_end_adds r first next one two ys p h i =
-        then_adds labels (read_adds labels k r 5 _ (omega arith))
-        (either_adds labels (one == next)
-        (λ e. more_adds labels 5 (omega arith) (over_adds Bne (source_of r 5) (first + two) ys (source_low r 5 p (omega arith)) i))
-        (λ e. then_adds labels (over_adds Beq (source_of r 5) (first + one) _ (source_low r 5 p (omega arith)) h) (jump_adds first next two ys i)))
+    choice_adds : (o : Comparison) (ra rb first next one two : ℕ) (ys : List Line) → ra < 27 → rb < 27 → first + one < labels → first + two < labels
+        → Adding 5 (choice_lines o ra rb first next one two ys) ys
+    choice_adds o ra rb first next one two ys low also h i =
+        either_adds labels (one == next)
+        (λ e. more_adds labels 5 (omega arith) (over_adds (holding o) ra rb (first + two) ys low also i))
+        (λ e. then_adds labels (over_adds (failing o) ra rb (first + one) _ low also h) (jump_adds first next two ys i))
 
-    return_adds : (r : Place) (ys : List Line) → IsPlace r → Adding 8 (return_lines r ys) ys
-    return_adds r ys p =
+    branch_end_adds : (o : Comparison) (a b : Operand) (first next one two : ℕ) (ys : List Line) → IsOperandOver f.code.regs a → IsOperandOver f.code.regs b
+        → first + one < labels → first + two < labels
+        → Adding (operand_size a + operand_size b + 5) (branch_lines o (operand_at f.homes a) (operand_at f.homes b) first next one two ys) ys
+    branch_end_adds o a b first next one two ys p q h i =
+        let left = operand_at f.homes a in
+        let right = operand_at f.homes b in
+        more_adds labels (operand_size a + operand_size b + 5) (omega (arith, reading_is a, reading_is b))
+        (then_adds labels (operand_adds labels k left 5 _ (omega arith))
+        (then_adds labels (operand_adds labels k right 6 _ (omega arith))
+        (choice_adds o (register_with left 5) (register_with right 6) first next one two ys (with_low left 5 (fine a p) (omega arith)) (with_low right 6 (fine b q) (omega arith)) h i)))
+
+    return_adds : (a : PlacedOperand) (ys : List Line) → IsOperand a → Adding 8 (return_lines a ys) ys
+    return_adds a ys p =
         more_adds labels 8 (omega arith)
-        (then_adds labels (fetch_adds labels k 10 r _ p (omega arith))
+        (then_adds labels (take_adds labels k 10 a _ p (omega arith))
         (then_adds labels (near_load_adds labels k 1 2 0 _ (omega arith) (omega arith) (omega arith))
         (plain_adds labels k (instr.Jalr 0 1 (pos 0)) ys (omega arith, omega arith, near_fits 0 (omega arith)) (omega arith, omega arith))))
 
@@ -149,11 +172,11 @@ module _ (functions : List PlacedFunc) (placed : All IsPlacedWhole functions) (o
         → Adding (end_size end) (end_lines f first next end ys) ys
     end_adds first next (Jump b) ys o fits =
         either_adds labels (falls_through f.code.blocks next b) (λ e. more_adds labels 2 (omega arith) (nothing labels k ys)) (λ e. far_adds labels k 0 (first + b) ys (omega arith) (omega arith))
-    end_adds first next (Branch r one two) ys o fits =
-        let one_is = o.1 in
-        let two_is = o.2 in
-        branch_end_adds (place_at f.homes r) first next one two ys (good r o.0) (omega arith) (omega arith)
-    end_adds first next (Return r) ys o fits = return_adds (place_at f.homes r) ys (good r o)
+    end_adds first next (Branch c a b one two) ys o fits =
+        let one_is = o.2 in
+        let two_is = o.3 in
+        branch_end_adds c a b first next one two ys o.0 o.1 (omega arith) (omega arith)
+    end_adds first next (Return a) ys o fits = return_adds (operand_at f.homes a) ys (fine a o)
 
   module _ (f : PlacedFunc) (whole : IsPlacedWhole f) where
     pub block_adds : (first b n : ℕ) (block : TacBlock) (ys : List Line) → IsBlockOver (codes_of functions) (length f.code.blocks) f.code.regs block → first + length f.code.blocks ≤ labels
@@ -213,8 +236,8 @@ program_adds p w =
 
 end_big : (end : TacEnd) → 2 ≤ end_size end
 end_big (Jump b) = omega arith
-end_big (Branch r one two) = omega arith
-end_big (Return r) = omega arith
+end_big (Branch c a b one two) = omega arith
+end_big (Return a) = omega arith
 
 blocks_big : (blocks : List TacBlock) → length blocks ≤ sum_by block_size blocks
 blocks_big [] = omega arith

@@ -21,7 +21,10 @@ use Rattle.ckc_emit.proofs.Local.{Local, state_of}
 use Rattle.ckc_emit.proofs.Steps.{set, set_same, set_other, with_x, puts_step, ends_input, gets_step}
 use Rattle.ckc_emit.proofs.Paths.{Code, Path, straight, followed, loosened, Sets}
 use Rattle.ckc_emit.proofs.FrameWords.{constant_sets}
-use Rattle.ckc_emit.proofs.Homes.{register_is, HasValue, HasPlaces, IsFramed, Keeps, keeps_then, framed_kept, settle_writes, fetch_sets}
+use Rattle.ckc_emit.proofs.Homes.{register_is, HasValue, HasPlaces, IsFramed, Keeps, keeps_then, framed_kept, settle_writes}
+use Rattle.ckc_emit.specs.declared.places.PlacedOperand.{PlacedOperand}
+use Rattle.ckc_emit.specs.Operands.{IsOperand}
+use Rattle.ckc_emit.proofs.Operands.{operand_value, operand_has, operand_word, take_sets}
 use Rattle.ckc_emit.proofs.Regions.{region}
 use Rattle.ckc_emit.proofs.Relation.{AreBytes, HasWorld, AreAllowed, Does, write_does}
 
@@ -176,12 +179,12 @@ module _ (c : Code) where
 
     -- ---- output
 
-    pub put_does : (a : Place) (v : ℕ) (rest : List Line) → IsPlace a → places (number_of a) ≡ Some v → Does c 6 (put_lines a rest) rest l (Plain (Put (v % 256)) ∷ []) places world
+    pub put_does : (a : PlacedOperand) (v : ℕ) (rest : List Line) → IsOperand a → operand_value places a ≡ Some v → Does c 6 (put_lines a rest) rest l (Plain (Put (v % 256)) ∷ []) places world
     put_does a v rest ha ea =
         let mid = ask_lines 1 rest in
         let last = line.Plain Ecall ∷ rest in
-        let fits = has.word a v ha ea in
-        let s = fetch_sets c 10 a v mid l framed ha (has.has a v ha ea) fits (omega arith) (omega arith) in
+        let fits = operand_word l places has a v ha ea in
+        let s = take_sets c 10 a v mid l framed ha (operand_has l places has a v ha ea) fits (omega arith) (omega arith) in
         let soft1 = sets_soft 1 3 (put_lines a rest) mid l 10 v (free_below 10 (omega arith) (omega arith) (omega arith)) s in
         let t = constant_sets c 17 1 last s.next (omega arith) (omega arith) (omega arith) (soft1.keeps.zero ∙ framed.zero) in
         let soft2 = sets_soft 1 2 mid last s.next 17 1 seventeen_free t in

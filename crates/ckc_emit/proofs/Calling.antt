@@ -31,7 +31,7 @@ use Rattle.ckc_emit.proofs.Checking.{check_passes, check_stops}
 use Rattle.ckc_emit.proofs.PlaceAt.{home_is, place_is}
 use Rattle.ckc_emit.proofs.Saving.{register_word, Saves, saves, framed_same}
 use Rattle.ckc_emit.proofs.Passing.{HasBelow, IsBelow, HasArguments, PassesAll, passes_all, stores_join}
-use Rattle.ckc_emit.proofs.Leaving.{place_value}
+use Rattle.ckc_emit.proofs.Operands.{place_value}
 use Rattle.ckc_emit.proofs.Tests.{eq_is, or_first, or_second}
 
 -- ---- the values of arguments

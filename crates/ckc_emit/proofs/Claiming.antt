@@ -26,13 +26,16 @@ use Rattle.ckc_lines.specs.declared.lines.Line.TheVariants.{Plain}
 use Rattle.ckc_frame.specs.declared.code.Place.{Place}
 use Rattle.ckc_frame.specs.Places.{number_of}
 use Rattle.ckc_frame.specs.WellFormed.{IsPlace}
-use Rattle.ckc_emit.specs.Lines.{fetch_lines, settle_lines, constant_lines, claim_lines, alloc_lines}
+use Rattle.ckc_emit.specs.declared.places.PlacedOperand.{PlacedOperand}
+use Rattle.ckc_emit.specs.Operands.{IsOperand}
+use Rattle.ckc_emit.proofs.Operands.{operand_value, operand_has, operand_word, take_sets}
+use Rattle.ckc_emit.specs.Lines.{take_lines, settle_lines, constant_lines, claim_lines, alloc_lines}
 use Rattle.ckc_emit.proofs.Local.{Local, state_of}
 use Rattle.ckc_emit.proofs.Words.{bytes_put}
 use Rattle.ckc_emit.proofs.Steps.{imm_step, branch_taken, branch_passed}
 use Rattle.ckc_emit.proofs.Paths.{Code, LinesAt, Path, straight, followed, loosened, Sets, set_by}
 use Rattle.ckc_emit.proofs.FrameWords.{sets_value, constant_sets, move_sets, lui_sets}
-use Rattle.ckc_emit.proofs.Homes.{HasPlaces, IsFramed, framed_kept, fetch_sets, settle_writes, keeps_same}
+use Rattle.ckc_emit.proofs.Homes.{HasPlaces, IsFramed, framed_kept, settle_writes, keeps_same}
 use Rattle.ckc_emit.proofs.Acting.{plain_sets}
 use Rattle.ckc_emit.proofs.Acts.{data_sets, store_path, same_values}
 use Rattle.ckc_emit.proofs.Asking.{IsSoft, free_below, soft_then, sets_soft, before_does, places_soft}
@@ -149,16 +152,16 @@ module _ (c : Code) where
     ready : IsReady next n size h limit
 
   module _ (l : Local) (places : Values) (world : World) (framed : IsFramed l) (has : HasPlaces l places) (whole : HasWorld l world) where
-    readied : (a : Place) (n size h : ℕ) (ys : List Line) → IsPlace a → places (number_of a) ≡ Some n → size < 2 ^ 32 → base.value_at Word world.memory data_start ≡ Some h
-        → Softly 9 (fetch_lines 5 a (constant_lines 6 size (Plain (Lui 8 0x2000) ∷ Plain (Load Lw 11 8 (pos 0)) ∷ Plain (Lui 12 0x3000) ∷ Plain (Imm Addi 10 0 (pos 0)) ∷ ys))) ys l n size h data_end
+    readied : (a : PlacedOperand) (n size h : ℕ) (ys : List Line) → IsOperand a → operand_value places a ≡ Some n → size < 2 ^ 32 → base.value_at Word world.memory data_start ≡ Some h
+        → Softly 9 (take_lines 5 a (constant_lines 6 size (Plain (Lui 8 0x2000) ∷ Plain (Load Lw 11 8 (pos 0)) ∷ Plain (Lui 12 0x3000) ∷ Plain (Imm Addi 10 0 (pos 0)) ∷ ys))) ys l n size h data_end
     readied a n size h ys ha ea fits there =
         let y6 = Plain (Imm Addi 10 0 (pos 0)) ∷ ys in
         let y5 = Plain (Lui 12 0x3000) ∷ y6 in
         let y4 = Plain (Load Lw 11 8 (pos 0)) ∷ y5 in
         let y3 = Plain (Lui 8 0x2000) ∷ y4 in
         let y2 = constant_lines 6 size y3 in
-        let y1 = fetch_lines 5 a y2 in
-        let s1 = fetch_sets c 5 a n y2 l framed ha (has.has a n ha ea) (has.word a n ha ea) (omega arith) (omega arith) in
+        let y1 = take_lines 5 a y2 in
+        let s1 = take_sets c 5 a n y2 l framed ha (operand_has l places has a n ha ea) (operand_word l places has a n ha ea) (omega arith) (omega arith) in
         let f1 = sets_soft c 1 3 y1 y2 l 5 n (free_below 5 (omega arith) (omega arith) (omega arith)) s1 in
         let s2 = constant_sets c 6 size y3 s1.next (omega arith) (omega arith) fits (f1.keeps.zero ∙ framed.zero) in
         let f2 = soft_then l s1.next s2.next f1 (sets_soft c 1 2 y2 y3 s1.next 6 size (free_below 6 (omega arith) (omega arith) (omega arith)) s2) in
@@ -382,12 +385,12 @@ module _ (c : Code) where
     room_word h there = value_word l.bytes Word data_start h whole.small (ap (λ (m : base.Memory). base.value_at Word m data_start) (sym whole.memory) ∙ there)
 
     -- there is no room: the target gets 0
-    pub refused_does : (t a : Place) (n size h : ℕ) (rest : List Line) → IsPlace t → IsPlace a → places (number_of a) ≡ Some n → size < 2 ^ 32 → base.value_at Word world.memory data_start ≡ Some h
+    pub refused_does : (t : Place) (a : PlacedOperand) (n size h : ℕ) (rest : List Line) → IsPlace t → IsOperand a → operand_value places a ≡ Some n → size < 2 ^ 32 → base.value_at Word world.memory data_start ≡ Some h
         → heap_has_room h n size ≡ false → Does c 32 (alloc_lines t a size rest) rest l [] (with_written places (number_of t) 0) world
     refused_does t a n size h rest ht ha ea fits there none =
         let z = settle_lines t 10 rest in
         let s = readied l places world framed has whole a n size h (first z) ha ea fits there in
-        let d = refuses z s.next n size h s.ready (is_taken Bge 0 n) refl (has.word a n ha ea) none in
+        let d = refuses z s.next n size h s.ready (is_taken Bge 0 n) refl (operand_word l places has a n ha ea) none in
         let m = d.next in
         let soft = soft_then l s.next m s.soft d.soft in
         let after = framed_kept l m framed soft.keeps in
@@ -398,14 +401,14 @@ module _ (c : Code) where
         (settle_writes c t 10 0 rest m after ht (omega arith) (omega arith) d.ten (omega arith))))
 
     -- there is room: the target gets the place of the block, and the heap word the place of the next one
-    pub claimed_does : (t a : Place) (n size h : ℕ) (now : base.Memory) (rest : List Line) → IsPlace t → IsPlace a → places (number_of a) ≡ Some n → size < 2 ^ 32 → base.value_at Word world.memory data_start ≡ Some h
+    pub claimed_does : (t : Place) (a : PlacedOperand) (n size h : ℕ) (now : base.Memory) (rest : List Line) → IsPlace t → IsOperand a → operand_value places a ≡ Some n → size < 2 ^ 32 → base.value_at Word world.memory data_start ≡ Some h
         → heap_has_room h n size ≡ true → base.memory_with Word world.memory data_start (next_place h n size) ≡ Some now
         → Does c 32 (alloc_lines t a size rest) rest l (Stored data_start Word (next_place h n size) ∷ []) (with_written places (number_of t) h) (record world { memory = now })
     claimed_does t a n size h now rest ht ha ea fits there some put =
         let z = settle_lines t 10 rest in
         let y = next_place h n size in
         let s = readied l places world framed has whole a n size h (first z) ha ea fits there in
-        let d = admits z s.next n size h s.ready (is_taken Bge 0 n) refl (has.word a n ha ea) some in
+        let d = admits z s.next n size h s.ready (is_taken Bge 0 n) refl (operand_word l places has a n ha ea) some in
         let end = fits_whole h n size some in
         let k = claims_it z d.next n size h end d.five d.six d.eight d.eleven in
         let small : y < 2 ^ 32 = omega (arith, end) in

@@ -1,15 +1,13 @@
 -- The ends of blocks that lead to another block are simulated.
 use Rattle.std.proofs.Common.{◌≡◌, ◌≢◌, ◌⊎◌, inl, inr, ℕ, ◌+◌, ◌*◌, ◌≤◌, ◌<◌, ◌==◌, not, if◌then◌else◌, Bool, true, false, List, [], ◌∷◌, length, map, Option, Some, None, refl, sym, ap, subst, ◌∙◌, arith}
-use Rattle.std.specs.Prelude.{All, pos}
+use Rattle.std.specs.Prelude.{All, pos, nat_lt, int_lt}
 use Rattle.std.specs.List.{slice_get}
 use Rattle.std.proofs.lemmas.List.Elements.{All-get_or, All-nil}
 use Rattle.std.proofs.lemmas.Option.{slice_get_within, get_or_from_slice_get}
-use Rattle.ckc_base.specs.Activations.{Values}
 use Rattle.ckc_base.specs.Memory.{data_start}
 use Rattle.ckc_base.specs.States.{Travels}
 use Rattle.ckc_base.proofs.Travelling.{one_travel, no_travel, then_travels}
 use Rattle.ckc_rv.specs.declared.instructions.BranchOp.{BranchOp}
-use Rattle.ckc_rv.specs.declared.instructions.BranchOp.TheVariants.{Beq, Bne}
 use Rattle.ckc_rv.specs.declared.instructions.Instr.TheVariants.{Branch as BranchInstr}
 use Rattle.ckc_rv.specs.Effects.{moved, is_taken}
 use Rattle.ckc_rv.specs.Detailed.{detailed_system}
@@ -19,44 +17,63 @@ use Rattle.ckc_tac.specs.declared.code.TacBlock.{TacBlock}
 use Rattle.ckc_tac.specs.declared.code.TacOp.{TacOp}
 use Rattle.ckc_tac.specs.declared.code.TacEnd.{TacEnd}
 use Rattle.ckc_tac.specs.declared.code.TacEnd.TheVariants.{Jump, Branch}
-use Rattle.ckc_tac.specs.WellFormed.{IsFunctionOver, IsBlockOver}
+use Rattle.ckc_tac.specs.declared.code.Comparison.{Comparison}
+use Rattle.ckc_tac.specs.declared.code.Comparison.TheVariants.{LtS, LtU, Eq, Ne}
+use Rattle.ckc_tac.specs.declared.code.Operand.{Operand}
+use Rattle.ckc_tac.specs.Operations.{value_in, operation_of, compared}
+use Rattle.ckc_tac.specs.WellFormed.{IsOperandOver, IsFunctionOver, IsBlockOver}
 use Rattle.ckc_frame.specs.declared.code.Place.{Place}
 use Rattle.ckc_frame.specs.declared.code.Place.TheVariants as place
 use Rattle.ckc_frame.specs.declared.code.PlacedFunc.{PlacedFunc}
-use Rattle.ckc_frame.specs.Places.{number_of, registers_in}
 use Rattle.ckc_frame.specs.WellFormed.{IsPlace, IsPlacedWhole}
 use Rattle.ckc_frame.specs.Meaning.{State, begins, goes_to, branches, registers_of}
-use Rattle.ckc_emit.specs.Lines.{register_of, source_of}
-use Rattle.ckc_emit.specs.CallLines.{place_at}
-use Rattle.ckc_emit.specs.ProgramLines.{label_of, ops_lines, end_lines, jump_lines, branch_lines, is_passing, is_passing_block, falls_through}
+use Rattle.ckc_base.specs.Words.{signed, flag, applied}
+use Rattle.ckc_emit.specs.declared.places.PlacedOperand.{PlacedOperand}
+use Rattle.ckc_emit.specs.Operands.{IsOperand}
+use Rattle.ckc_emit.specs.Lines.{register_of, register_with}
+use Rattle.ckc_emit.specs.ProgramLines.{label_of, ops_lines, end_lines, operand_at, holding, failing, jump_lines, choice_lines, branch_lines, is_passing, is_passing_block, falls_through}
 use Rattle.ckc_emit.proofs.Local.{Local, state_of}
 use Rattle.ckc_emit.proofs.Steps.{branch_taken, branch_passed}
 use Rattle.ckc_emit.proofs.Paths.{Code, LinesAt, FarAt}
 use Rattle.ckc_emit.proofs.Homes.{HasValue, framed_kept, keeps_same, register_is}
 use Rattle.ckc_emit.proofs.Asking.{IsSoft, soft_then, places_soft}
-use Rattle.ckc_emit.proofs.Sources.{one_read, left_register}
+use Rattle.ckc_emit.proofs.Operands.{operand_value, operand_has, operand_word, operand_is, operand_found, left_register, right_register}
+use Rattle.ckc_emit.proofs.Binary.{two_reads}
 use Rattle.ckc_emit.proofs.Relation.{world_kept}
-use Rattle.ckc_emit.proofs.PlaceAt.{home_is, place_is}
 use Rattle.ckc_emit.proofs.Jumping.{far_goes}
 use Rattle.ckc_emit.proofs.Frames.{AreWaiting, IsRelated}
 use Rattle.ckc_emit.proofs.Standing.{block_label, BeginsWith, Stands}
 use Rattle.ckc_emit.proofs.Related.{May, measure, Simulated, Reaches, reaches_simulates, are_waiting_kept}
-use Rattle.ckc_emit.proofs.Tests.{eq_is, eq_of, apart_is, apart_of, not_true, and_first, and_second}
+use Rattle.ckc_emit.proofs.Tests.{eq_of, not_true, and_first, and_second}
 
 -- what holds of all elements holds of each
 pub all_at : {X : Type 0} (P : X → Type 0) (xs : List X) (k : ℕ) (x : X) → All P xs → slice_get xs k ≡ Some x → P x
 all_at P xs k x h e = subst P (get_or_from_slice_get xs k x x e) (All-get_or P xs k x (slice_get_within xs k x e) h)
 
--- the value of a register is at its place
-pub place_value : (homes : List Place) (places : Values) (r x : ℕ) → r < length homes → registers_in homes places r ≡ Some x → places (number_of (place_at homes r)) ≡ Some x
-unfolding registers_in
-place_value homes places r x h e = ap places (sym (home_is homes r h)) ∙ e
+flag_is : (b : Bool) → b ≡ not (flag b == 0)
+flag_is true = refl
+flag_is false = refl
 
-beq_is : (x y : ℕ) (b : Bool) → (x == y) ≡ b → is_taken Beq x y ≡ b
-beq_is x y b e = e
+flag_not : (b : Bool) → not b ≡ (flag b == 0)
+flag_not true = refl
+flag_not false = refl
 
-bne_is : (x y : ℕ) (b : Bool) → (x == y) ≡ b → is_taken Bne x y ≡ not b
-bne_is x y b e = ap not e
+flag_unequal : (b : Bool) → b ≡ (flag (not b) == 0)
+flag_unequal true = refl
+flag_unequal false = refl
+
+-- the branches of a comparison, by its value
+holding_is : (o : Comparison) (x y : ℕ) → is_taken (holding o) x y ≡ not (applied (operation_of o) x y == 0)
+holding_is LtS x y = flag_is (int_lt (signed x) (signed y))
+holding_is LtU x y = flag_is (nat_lt x y)
+holding_is Eq x y = flag_is (x == y)
+holding_is Ne x y = flag_is (not (x == y))
+
+failing_is : (o : Comparison) (x y : ℕ) → is_taken (failing o) x y ≡ (applied (operation_of o) x y == 0)
+failing_is LtS x y = flag_not (int_lt (signed x) (signed y))
+failing_is LtU x y = flag_not (nat_lt x y)
+failing_is Eq x y = flag_not (x == y)
+failing_is Ne x y = flag_unequal (x == y)
 
 module _ (functions : List PlacedFunc) (c : Code) where
   -- All of a program stands, and its functions are well formed.
@@ -232,32 +249,35 @@ module _ (functions : List PlacedFunc) (c : Code) where
 
     -- ---- a branch
 
-    module _ (m : Local) (q rs v : ℕ) (low : rs < 32) (holds : m.x rs ≡ v) (zero_is : m.x 0 ≡ 0) where
-      test_is : (o : BranchOp) (b : Bool) → is_taken o v 0 ≡ b → is_taken o (m.x rs) (m.x 0) ≡ b
-      test_is o b e = ap (λ w. is_taken o w (m.x 0)) holds ∙ ap (is_taken o v) zero_is ∙ e
+    module _ (m : Local) (o : Comparison) (q ra rb x y : ℕ) (low_left : ra < 32) (low_right : rb < 32) (left : m.x ra ≡ x) (right : m.x rb ≡ y) where
+      abbrev v : ℕ
+      v = applied (operation_of o) x y
+
+      test_is : (i : BranchOp) (b : Bool) → is_taken i x y ≡ b → is_taken i (m.x ra) (m.x rb) ≡ b
+      test_is i b e = ap (λ w. is_taken i w (m.x rb)) left ∙ ap (is_taken i x) right ∙ e
 
       soft_here : IsSoft m m
       soft_here = record { keeps = keeps_same m; has = λ a w i h. h }
 
       -- the branch is not taken
-      passes_to : (o : BranchOp) (b most : ℕ) (more : List Line) → LinesAt c q (Plain (BranchInstr o rs 0 (pos 12)) ∷ more) → is_taken o v 0 ≡ false
+      passes_to : (i : BranchOp) (b most : ℕ) (more : List Line) → LinesAt c q (Plain (BranchInstr i ra rb (pos 12)) ∷ more) → is_taken i x y ≡ false
           → Comes 0 most m (q + 4) index b → Comes 1 (1 + most) m q index b
-      passes_to o b most more at e k =
+      passes_to i b most more at e k =
           then_comes 1 0 most m m q (q + 4) index b
-          (one_travel (detailed_system c.parts) [] (state_of c.parts m q) (state_of c.parts m (q + 4)) (branch_passed c.parts m q o rs 0 (pos 12) at.0 low (omega arith) (test_is o false e)))
+          (one_travel (detailed_system c.parts) [] (state_of c.parts m q) (state_of c.parts m (q + 4)) (branch_passed c.parts m q i ra rb (pos 12) at.0 low_left low_right (test_is i false e)))
           soft_here refl refl k
 
       over_is : q + 4 ≤ data_start → moved q (pos 12) ≡ q + 12
       over_is h = omega arith
 
       -- the branch is taken
-      leads_to : (o : BranchOp) (b most : ℕ) (more : List Line) → LinesAt c q (Plain (BranchInstr o rs 0 (pos 12)) ∷ more) → is_taken o v 0 ≡ true
+      leads_to : (i : BranchOp) (b most : ℕ) (more : List Line) → LinesAt c q (Plain (BranchInstr i ra rb (pos 12)) ∷ more) → is_taken i x y ≡ true
           → Comes 0 most m (q + 12) index b → Comes 1 (1 + most) m q index b
-      leads_to o b most more at e k =
+      leads_to i b most more at e k =
           let here = at.0.low in
           let aligned = at.0.aligned in
           then_comes 1 0 most m m q (q + 12) index b
-          (one_travel (detailed_system c.parts) [] (state_of c.parts m q) (state_of c.parts m (q + 12)) (branch_taken c.parts m q o rs 0 (pos 12) (q + 12) at.0 low (omega arith) (test_is o true e) (over_is here) (omega arith)))
+          (one_travel (detailed_system c.parts) [] (state_of c.parts m q) (state_of c.parts m (q + 12)) (branch_taken c.parts m q i ra rb (pos 12) (q + 12) at.0 low_left low_right (test_is i true e) (over_is here) (omega arith)))
           soft_here refl refl k
 
       behind_far : (rest : List Line) → LinesAt c (q + 4 + 8) rest → LinesAt c (q + 12) rest
@@ -285,79 +305,97 @@ module _ (functions : List PlacedFunc) (c : Code) where
       jump_to true b block same e at = falls_to b block e (eq_of b next same) at
       jump_to false b block same e at = far_to (q + 12) b at.0
 
-      abbrev tested : Bool → ℕ → ℕ → List Line
-      tested t one two =
-          if t then Plain (BranchInstr Bne rs 0 (pos 12)) ∷ Far 0 (first + two) ∷ behind
-          else (Plain (BranchInstr Beq rs 0 (pos 12)) ∷ Far 0 (first + one) ∷ jump_lines first next two behind)
+      abbrev chosen : Bool → ℕ → ℕ → List Line
+      chosen t one two =
+          if t then Plain (BranchInstr (holding o) ra rb (pos 12)) ∷ Far 0 (first + two) ∷ behind
+          else (Plain (BranchInstr (failing o) ra rb (pos 12)) ∷ Far 0 (first + one) ∷ jump_lines first next two behind)
 
-      to_two : (t : Bool) (one two : ℕ) (block : TacBlock) → slice_get f.code.blocks two ≡ Some block → v ≡ 0 → LinesAt c q (tested t one two) → Comes 1 3 m q index two
+      to_two : (t : Bool) (one two : ℕ) (block : TacBlock) → slice_get f.code.blocks two ≡ Some block → (v == 0) ≡ true → LinesAt c q (chosen t one two) → Comes 1 3 m q index two
       to_two true one two block e none at =
-          passes_to Bne two 2 (Far 0 (first + two) ∷ behind) at (bne_is v 0 true (eq_is v 0 none)) (far_to (q + 4) two at.1.0)
+          passes_to (holding o) two 2 (Far 0 (first + two) ∷ behind) at (holding_is o x y ∙ ap not none) (far_to (q + 4) two at.1.0)
       to_two false one two block e none at =
-          leads_to Beq two 2 (Far 0 (first + one) ∷ jump_lines first next two behind) at (eq_is v 0 none)
+          leads_to (failing o) two 2 (Far 0 (first + one) ∷ jump_lines first next two behind) at (failing_is o x y ∙ none)
           (jump_to (two == next) two block refl e (behind_far (jump_lines first next two behind) at.1.1))
 
-      to_one : (t : Bool) (one two : ℕ) (block : TacBlock) → (one == next) ≡ t → slice_get f.code.blocks one ≡ Some block → v ≢ 0 → LinesAt c q (tested t one two) → Comes 1 3 m q index one
+      to_one : (t : Bool) (one two : ℕ) (block : TacBlock) → (one == next) ≡ t → slice_get f.code.blocks one ≡ Some block → (v == 0) ≡ false → LinesAt c q (chosen t one two) → Comes 1 3 m q index one
       to_one true one two block same e some at =
-          leads_to Bne one 2 (Far 0 (first + two) ∷ behind) at (bne_is v 0 false (apart_is v 0 some)) (falls_to one block e (eq_of one next same) (behind_far behind at.1.1))
+          leads_to (holding o) one 2 (Far 0 (first + two) ∷ behind) at (holding_is o x y ∙ ap not some) (falls_to one block e (eq_of one next same) (behind_far behind at.1.1))
       to_one false one two block same e some at =
-          passes_to Beq one 2 (Far 0 (first + one) ∷ jump_lines first next two behind) at (apart_is v 0 some) (far_to (q + 4) one at.1.0)
+          passes_to (failing o) one 2 (Far 0 (first + one) ∷ jump_lines first next two behind) at (failing_is o x y ∙ some) (far_to (q + 4) one at.1.0)
 
-    module _ (a one two v : ℕ) (within : a < f.code.regs) (there : registers_of s.frame a ≡ Some v) (lines : LinesAt c pc (branch_lines (place_at f.homes a) (label_of functions index + 1) r.at.next one two r.at.behind)) where
-      fit : a < length f.homes
-      fit = omega (arith, r.at.placed.homes)
+    module _ (o : Comparison) (a b : Operand) (one two x y : ℕ) (left_over : IsOperandOver f.code.regs a) (right_over : IsOperandOver f.code.regs b)
+        (left_there : value_in (registers_of s.frame) a ≡ Some x) (right_there : value_in (registers_of s.frame) b ≡ Some y)
+        (lines : LinesAt c pc (branch_lines o (operand_at f.homes a) (operand_at f.homes b) (label_of functions index + 1) r.at.next one two r.at.behind)) where
+      abbrev p : PlacedOperand
+      p = operand_at f.homes a
 
-      abbrev p : Place
-      p = place_at f.homes a
+      abbrev q : PlacedOperand
+      q = operand_at f.homes b
 
-      good_place : IsPlace p
-      good_place = place_is f.homes a fit r.at.placed.places
+      good_left : IsOperand p
+      good_left = operand_is f r.at.placed a left_over
 
-      value_is : s.frame.places (number_of p) ≡ Some v
-      value_is = place_value f.homes s.frame.places a v fit there
+      good_right : IsOperand q
+      good_right = operand_is f r.at.placed b right_over
+
+      left_is : operand_value s.frame.places p ≡ Some x
+      left_is = operand_found f r.at.placed s.frame.places a x left_over left_there
+
+      right_is : operand_value s.frame.places q ≡ Some y
+      right_is = operand_found f r.at.placed s.frame.places b y right_over right_there
 
       abbrev mid : List Line
-      mid = if one == r.at.next then Plain (BranchInstr Bne (source_of p 5) 0 (pos 12)) ∷ Far 0 (label_of functions index + 1 + two) ∷ r.at.behind
-          else (Plain (BranchInstr Beq (source_of p 5) 0 (pos 12)) ∷ Far 0 (label_of functions index + 1 + one) ∷ jump_lines (label_of functions index + 1) r.at.next two r.at.behind)
+      mid = choice_lines o (register_with p 5) (register_with q 6) (label_of functions index + 1) r.at.next one two r.at.behind
 
-      -- the value is read, and then the branch is tested
-      after_read : (b : ℕ) → ((m : Local) (q : ℕ) → m.x (source_of p 5) ≡ v → m.x 0 ≡ 0 → LinesAt c q mid → Comes 1 3 m q index b) → Comes 1 6 l pc index b
-      after_read b on =
-          let read = one_read c p v mid l r.framed good_place (r.has.has p v good_place value_is) (r.has.word p v good_place value_is) in
+      -- the operands are read, and then the branch is tested
+      after_read : (t : ℕ) → ((m : Local) (at : ℕ) → m.x (register_with p 5) ≡ x → m.x (register_with q 6) ≡ y → LinesAt c at mid → Comes 1 3 m at index t) → Comes 1 9 l pc index t
+      after_read t on =
+          let has = r.has in
+          let read = two_reads c p q x y mid l r.framed good_left good_right (operand_has l s.frame.places has p x good_left left_is) (operand_has l s.frame.places has q y good_right right_is)
+          (operand_word l s.frame.places has p x good_left left_is) (operand_word l s.frame.places has q y good_right right_is) in
           let lead = read.path.leads pc lines in
           let soft : IsSoft l read.next = record { keeps = read.keeps; has = read.has } in
-          let k = on read.next lead.to read.left (read.keeps.zero ∙ r.framed.zero) lead.there in
-          comes_loosened (lead.count + 1) (lead.count + 3) 1 6 l pc index b (omega arith) (omega (arith, lead.few))
-          (then_comes lead.count 1 3 l read.next pc lead.to index b lead.travels soft read.bytes read.input k)
+          let k = on read.next lead.to read.left read.right lead.there in
+          comes_loosened (lead.count + 1) (lead.count + 3) 1 9 l pc index t (omega arith) (omega (arith, lead.few))
+          (then_comes lead.count 1 3 l read.next pc lead.to index t lead.travels soft read.bytes read.input k)
 
-      comes_two : (block : TacBlock) → slice_get f.code.blocks two ≡ Some block → v ≡ 0 → Comes 1 6 l pc index two
-      comes_two block e none = after_read two (λ m q holds z at. to_two m q (source_of p 5) v (left_register c p good_place).0 holds z (one == r.at.next) one two block e none at)
+      abbrev value : ℕ
+      value = applied (operation_of o) x y
 
-      comes_one : (block : TacBlock) → slice_get f.code.blocks one ≡ Some block → v ≢ 0 → Comes 1 6 l pc index one
-      comes_one block e some = after_read one (λ m q holds z at. to_one m q (source_of p 5) v (left_register c p good_place).0 holds z (one == r.at.next) one two block refl e some at)
+      comes_two : (block : TacBlock) → slice_get f.code.blocks two ≡ Some block → (value == 0) ≡ true → Comes 1 9 l pc index two
+      comes_two block e none = after_read two (λ m at left right here.
+          to_two m o at (register_with p 5) (register_with q 6) x y (left_register p good_left).0 (right_register q good_right) left right (one == r.at.next) one two block e none here)
 
-      goes_two : (o : Option TacBlock) → slice_get f.code.blocks two ≡ o → v ≡ 0 → Simulated functions c s (state_of c.parts l pc) (goes_to s two o)
+      comes_one : (block : TacBlock) → slice_get f.code.blocks one ≡ Some block → (value == 0) ≡ false → Comes 1 9 l pc index one
+      comes_one block e some = after_read one (λ m at left right here.
+          to_one m o at (register_with p 5) (register_with q 6) x y (left_register p good_left).0 (right_register q good_right) left right (one == r.at.next) one two block refl e some here)
+
+      goes_two : (found : Option TacBlock) → slice_get f.code.blocks two ≡ found → (value == 0) ≡ true → Simulated functions c s (state_of c.parts l pc) (goes_to s two found)
       goes_two (Some block) e none =
           let k = comes_two block e none in
-          reaches_simulates functions c s l pc [] (at_block two block) (comes_reach 1 6 two block (omega arith) e k (inl k.many))
+          reaches_simulates functions c s l pc [] (at_block two block) (comes_reach 1 9 two block (omega arith) e k (inl k.many))
       goes_two None e none = inl refl
 
-      goes_one : (o : Option TacBlock) → slice_get f.code.blocks one ≡ o → v ≢ 0 → Simulated functions c s (state_of c.parts l pc) (goes_to s one o)
+      goes_one : (found : Option TacBlock) → slice_get f.code.blocks one ≡ found → (value == 0) ≡ false → Simulated functions c s (state_of c.parts l pc) (goes_to s one found)
       goes_one (Some block) e some =
           let k = comes_one block e some in
-          reaches_simulates functions c s l pc [] (at_block one block) (comes_reach 1 6 one block (omega arith) e k (inl k.many))
+          reaches_simulates functions c s l pc [] (at_block one block) (comes_reach 1 9 one block (omega arith) e k (inl k.many))
       goes_one None e some = inl refl
 
-      branch_goes : (b : Bool) → (v == 0) ≡ b
-          → Simulated functions c s (state_of c.parts l pc) (if b then goes_to s two (slice_get f.code.blocks two) else goes_to s one (slice_get f.code.blocks one))
-      branch_goes true e = goes_two (slice_get f.code.blocks two) refl (eq_of v 0 e)
-      branch_goes false e = goes_one (slice_get f.code.blocks one) refl (apart_of v 0 e)
+      branch_goes : (t : Bool) → (value == 0) ≡ t
+          → Simulated functions c s (state_of c.parts l pc) (if t then goes_to s two (slice_get f.code.blocks two) else goes_to s one (slice_get f.code.blocks one))
+      branch_goes true e = goes_two (slice_get f.code.blocks two) refl e
+      branch_goes false e = goes_one (slice_get f.code.blocks one) refl e
 
-    branch_by : (a one two : ℕ) (o : Option ℕ) → registers_of s.frame a ≡ o → s.frame.ops ≡ [] → s.frame.end ≡ Branch a one two → a < f.code.regs
-        → Simulated functions c s (state_of c.parts l pc) (branches s one two o)
-    branch_by a one two (Some v) e none end within = branch_goes a one two v within e (ends_at (Branch a one two) none end) (v == 0) refl
-    branch_by a one two None e none end within = inl refl
+    branch_by : (o : Comparison) (a b : Operand) (one two : ℕ) (x y : Option ℕ) → value_in (registers_of s.frame) a ≡ x → value_in (registers_of s.frame) b ≡ y → s.frame.ops ≡ []
+        → s.frame.end ≡ Branch o a b one two → IsOperandOver f.code.regs a → IsOperandOver f.code.regs b
+        → Simulated functions c s (state_of c.parts l pc) (branches s one two (compared o x y))
+    branch_by o a b one two (Some x) (Some y) e g none end left right =
+        branch_goes o a b one two x y left right e g (ends_at (Branch o a b one two) none end) (applied (operation_of o) x y == 0) refl
+    branch_by o a b one two (Some x) None e g none end left right = inl refl
+    branch_by o a b one two None y e g none end left right = inl refl
 
-    pub branch_simulates : (a one two : ℕ) → s.frame.ops ≡ [] → s.frame.end ≡ Branch a one two → a < f.code.regs
-        → Simulated functions c s (state_of c.parts l pc) (branches s one two (registers_of s.frame a))
-    branch_simulates a one two none end within = branch_by a one two (registers_of s.frame a) refl none end within
+    pub branch_simulates : (o : Comparison) (a b : Operand) (one two : ℕ) → s.frame.ops ≡ [] → s.frame.end ≡ Branch o a b one two → IsOperandOver f.code.regs a → IsOperandOver f.code.regs b
+        → Simulated functions c s (state_of c.parts l pc) (branches s one two (compared o (value_in (registers_of s.frame) a) (value_in (registers_of s.frame) b)))
+    branch_simulates o a b one two none end left right =
+        branch_by o a b one two (value_in (registers_of s.frame) a) (value_in (registers_of s.frame) b) refl refl none end left right

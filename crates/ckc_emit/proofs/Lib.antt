@@ -21,6 +21,8 @@ pub mod Homes
 pub mod Values
 pub mod Acting
 pub mod Sources
+pub mod Operands
+pub mod Binary
 pub mod Regions
 pub mod Relation
 pub mod Acts

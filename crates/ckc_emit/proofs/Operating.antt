@@ -85,7 +85,7 @@ module _ (functions : List PlacedFunc) (c : Code) (s : State) (l : Local) (pc : 
       }
 
   outcome_simulates : (o : Outcome) → is_call op ≡ 0
-      → DoesOutcome c functions codes f n r.at.placed.homes r.at.placed.places l s.frame.places s.world r.framed r.has r.world (op_lines functions f n op rest) rest o
+      → DoesOutcome c functions codes f n r.at.placed l s.frame.places s.world r.framed r.has r.world (op_lines functions f n op rest) rest o
       → Simulated functions c s (state_of c.parts l pc) (goes_by s ops o)
   outcome_simulates (Gives events t value world) none d =
       let places = with_written s.frame.places (home f.homes t) value in
@@ -102,4 +102,4 @@ module _ (functions : List PlacedFunc) (c : Code) (s : State) (l : Local) (pc : 
   pub op_simulates : is_call op ≡ 0 → Simulated functions c s (state_of c.parts l pc) (goes_by s ops (outcome_of (registers_of s.frame) s.world op))
   op_simulates none =
       outcome_simulates (outcome_of (registers_of s.frame) s.world op) none
-      (does_op c functions codes f n r.at.placed.homes r.at.placed.places l s.frame.places s.world r.framed r.has r.world op rest (All-head (IsOpOver codes f.code.regs) op ops over))
+      (does_op c functions codes f n r.at.placed l s.frame.places s.world r.framed r.has r.world op rest (All-head (IsOpOver codes f.code.regs) op ops over))

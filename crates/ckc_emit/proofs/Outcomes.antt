@@ -1,6 +1,5 @@
 -- The lines of every operation but a call do what the operation comes to.
 use Rattle.std.proofs.Common.{◌≡◌, ℕ, ◌-◌, ◌%◌, ◌^◌, ◌≤◌, ◌<◌, ◌==◌, if◌then◌else◌, Bool, true, false, List, [], ◌∷◌, length, Option, Some, None, refl, sym, ap, subst, ◌∙◌, arith}
-use Rattle.std.specs.Prelude.{All}
 use Rattle.ckc_base.specs.declared.places.Pos.{Pos}
 use Rattle.ckc_base.specs.declared.runtime_checks.Check.{Check as CheckKind}
 use Rattle.ckc_base.specs.declared.arithmetic.Width.{Width}
@@ -14,20 +13,24 @@ use Rattle.ckc_lines.specs.declared.lines.Line.{Line}
 use Rattle.ckc_tac.specs.declared.code.TacFunc.{TacFunc}
 use Rattle.ckc_tac.specs.declared.code.TacOp.{TacOp}
 use Rattle.ckc_tac.specs.declared.code.TacOp.TheVariants.{Const, Copy, Bin, High, Load, Store, Check, Call, Get, Put, Alloc}
-use Rattle.ckc_tac.specs.Operations.{outcome_of}
-use Rattle.ckc_tac.specs.WellFormed.{IsOpOver}
+use Rattle.ckc_tac.specs.declared.code.Operand.{Operand}
+use Rattle.ckc_tac.specs.Operations.{value_in, outcome_of}
+use Rattle.ckc_tac.specs.WellFormed.{IsOperandOver, IsOpOver}
 use Rattle.ckc_frame.specs.declared.code.Place.{Place}
 use Rattle.ckc_frame.specs.declared.code.PlacedFunc.{PlacedFunc}
 use Rattle.ckc_frame.specs.Places.{number_of, home, registers_in}
-use Rattle.ckc_frame.specs.WellFormed.{IsPlace}
-use Rattle.ckc_emit.specs.Lines.{source_of, check_lines, test_lines}
+use Rattle.ckc_frame.specs.WellFormed.{IsPlace, IsPlacedWhole}
+use Rattle.ckc_emit.specs.Lines.{register_with, check_lines, test_lines}
 use Rattle.ckc_emit.specs.CallLines.{place_at}
-use Rattle.ckc_emit.specs.ProgramLines.{op_lines}
+use Rattle.ckc_emit.specs.ProgramLines.{operand_at, op_lines}
 use Rattle.ckc_emit.proofs.PlaceAt.{home_is, place_is}
 use Rattle.ckc_emit.proofs.Local.{Local}
 use Rattle.ckc_emit.proofs.Paths.{Code, Halting, followed, loosened, then_halting}
 use Rattle.ckc_emit.proofs.Homes.{HasPlaces, IsFramed}
-use Rattle.ckc_emit.proofs.Sources.{one_read, left_register}
+use Rattle.ckc_emit.proofs.Operands.{operand_value, operand_has, operand_word, operand_is, operand_found, left_register}
+use Rattle.ckc_emit.proofs.Binary.{one_read}
+use Rattle.ckc_emit.specs.declared.places.PlacedOperand.{PlacedOperand}
+use Rattle.ckc_emit.specs.Operands.{IsOperand}
 use Rattle.ckc_emit.proofs.Checking.{check_passes, check_stops}
 use Rattle.ckc_emit.proofs.Relation.{HasWorld, Does, world_kept, does_loosened}
 use Rattle.ckc_emit.proofs.Acts.{const_does, copy_does, bin_does, high_does, load_does, store_does}
@@ -37,7 +40,7 @@ use Rattle.ckc_emit.proofs.Tests.{eq_of, apart_of}
 
 -- ---- places of registers
 
-module _ (c : Code) (functions : List PlacedFunc) (codes : List TacFunc) (f : PlacedFunc) (n : ℕ) (regs : length f.homes ≡ f.code.regs) (good : All IsPlace f.homes)
+module _ (c : Code) (functions : List PlacedFunc) (codes : List TacFunc) (f : PlacedFunc) (n : ℕ) (placed : IsPlacedWhole f)
     (l : Local) (places : Values) (world : World) (framed : IsFramed l) (has : HasPlaces l places) (whole : HasWorld l world) where
   -- the lines do what an outcome says
   abbrev pub DoesOutcome : List Line → List Line → Outcome → Type 0
@@ -57,17 +60,26 @@ module _ (c : Code) (functions : List PlacedFunc) (codes : List TacFunc) (f : Pl
   loose_halt most xs standing h d = record { halts = λ pc a. (let r = d.halts pc a in (r.0, omega (arith, r.1), r.2)) }
 
   within : (r : ℕ) → r < f.code.regs → r < length f.homes
-  within r h = omega arith
+  within r h = let homes = placed.homes in omega arith
 
   abbrev at : ℕ → Place
   at r = place_at f.homes r
 
   good_at : (r : ℕ) → r < f.code.regs → IsPlace (at r)
-  good_at r h = place_is f.homes r (within r h) good
+  good_at r h = place_is f.homes r (within r h) placed.places
 
   value_at_place : (r x : ℕ) → r < f.code.regs → registers_in f.homes places r ≡ Some x → places (number_of (at r)) ≡ Some x
   unfolding registers_in
   value_at_place r x h e = ap places (sym (home_is f.homes r (within r h))) ∙ e
+
+  abbrev operand : Operand → PlacedOperand
+  operand o = operand_at f.homes o
+
+  good_operand : (o : Operand) → IsOperandOver f.code.regs o → IsOperand (operand o)
+  good_operand o h = operand_is f placed o h
+
+  value_of : (o : Operand) (x : ℕ) → IsOperandOver f.code.regs o → value_in (registers_in f.homes places) o ≡ Some x → operand_value places (operand o) ≡ Some x
+  value_of o x h e = operand_found f placed places o x h e
 
   -- a target that was written by the number of its place was written at its home
   at_home : (most t v : ℕ) (xs rest : List Line) (upper : List LongEvent) (w : World) → most ≤ 32 → t < f.code.regs
@@ -83,44 +95,44 @@ module _ (c : Code) (functions : List PlacedFunc) (codes : List TacFunc) (f : Pl
       at_home 6 t byte (op_lines functions f n (Get t) rest) rest (Plain (Got (Some byte)) ∷ []) (record world { input = more }) (omega arith) h
       (get_does c l places world framed has whole (at t) byte more rest (good_at t h) e)
 
-  stores_case : (width : Width) (a b p y : ℕ) (rest : List Line) (now : Option base.Memory) → a < f.code.regs → b < f.code.regs → registers_in f.homes places a ≡ Some p → registers_in f.homes places b ≡ Some y
+  stores_case : (width : Width) (a b : Operand) (p y : ℕ) (rest : List Line) (now : Option base.Memory) → IsOperandOver f.code.regs a → IsOperandOver f.code.regs b → value_in (registers_in f.homes places) a ≡ Some p → value_in (registers_in f.homes places) b ≡ Some y
       → base.memory_with width world.memory p y ≡ now → DoesOutcome (op_lines functions f n (Store width a b) rest) rest (stores_in world (Stored p width (base.kept_part width y)) now)
   stores_case width a b p y rest (Some now) ha hb ea eb e =
       loose 7 (op_lines functions f n (Store width a b) rest) rest (Stored p width (base.kept_part width y) ∷ []) places (record world { memory = now }) (omega arith)
-      (store_does c l places world framed has whole width (at a) (at b) p y now rest (good_at a ha) (good_at b hb) (value_at_place a p ha ea) (value_at_place b y hb eb) e)
+      (store_does c l places world framed has whole width (operand a) (operand b) p y now rest (good_operand a ha) (good_operand b hb) (value_of a p ha ea) (value_of b y hb eb) e)
   stores_case width a b p y rest None ha hb ea eb e = tt
 
-  loads_case : (width : Width) (t a p : ℕ) (rest : List Line) → t < f.code.regs → a < f.code.regs → registers_in f.homes places a ≡ Some p
+  loads_case : (width : Width) (t : ℕ) (a : Operand) (p : ℕ) (rest : List Line) → t < f.code.regs → IsOperandOver f.code.regs a → value_in (registers_in f.homes places) a ≡ Some p
       → DoesOutcome (op_lines functions f n (Load width t a) rest) rest (with_value (base.value_at width world.memory p) (λ x. Gives [] t x world))
   loads_case width t a p rest ht ha ea =
       value_case (op_lines functions f n (Load width t a) rest) rest (base.value_at width world.memory p) (λ x. Gives [] t x world) (λ v e.
       at_home 7 t v (op_lines functions f n (Load width t a) rest) rest [] world (omega arith) ht
-      (load_does c l places world framed has whole width (at t) (at a) p v rest (good_at t ht) (good_at a ha) (value_at_place a p ha ea) e))
+      (load_does c l places world framed has whole width (at t) (operand a) p v rest (good_at t ht) (good_operand a ha) (value_of a p ha ea) e))
 
   -- a check passes, or the machine stops
-  checks_case : (k : CheckKind) (where_ : Pos) (a x : ℕ) (rest : List Line) (b : Bool) → a < f.code.regs → registers_in f.homes places a ≡ Some x → where_.line < 2 ^ 32 → where_.col < 2 ^ 32 → (x == 0) ≡ b
+  checks_case : (k : CheckKind) (where_ : Pos) (a : Operand) (x : ℕ) (rest : List Line) (b : Bool) → IsOperandOver f.code.regs a → value_in (registers_in f.homes places) a ≡ Some x → where_.line < 2 ^ 32 → where_.col < 2 ^ 32 → (x == 0) ≡ b
       → DoesOutcome (op_lines functions f n (Check k where_ a) rest) rest (if b then Stops k where_ else Done [] world)
   checks_case k where_ a x rest true ha ea fl fc e =
-      let p = at a in
-      let hp = good_at a ha in
-      let ex = value_at_place a x ha ea in
-      let s = one_read c p x (check_lines (source_of p 5) 0 k where_ rest) l framed hp (has.has p x hp ex) (has.word p x hp ex) in
+      let p = operand a in
+      let hp = good_operand a ha in
+      let ex = value_of a x ha ea in
+      let s = one_read c p x (check_lines (register_with p 5) 0 k where_ rest) l framed hp (operand_has l places has p x hp ex) (operand_word l places has p x hp ex) in
       let z = s.keeps.zero ∙ framed.zero in
       loose_halt 13 (test_lines k where_ p rest) (Stopped k where_) (omega arith)
-      (then_halting c 0 3 10 (test_lines k where_ p rest) (check_lines (source_of p 5) 0 k where_ rest) l s.next (Stopped k where_) s.path
-      (check_stops c (source_of p 5) 0 k where_ rest s.next (left_register c p hp).0 (omega arith) (s.left ∙ eq_of x 0 e ∙ sym z) z fl fc))
+      (then_halting c 0 3 10 (test_lines k where_ p rest) (check_lines (register_with p 5) 0 k where_ rest) l s.next (Stopped k where_) s.path
+      (check_stops c (register_with p 5) 0 k where_ rest s.next (left_register p hp).0 (omega arith) (s.left ∙ eq_of x 0 e ∙ sym z) z fl fc))
   checks_case k where_ a x rest false ha ea fl fc e =
-      let p = at a in
-      let hp = good_at a ha in
-      let ex = value_at_place a x ha ea in
-      let s = one_read c p x (check_lines (source_of p 5) 0 k where_ rest) l framed hp (has.has p x hp ex) (has.word p x hp ex) in
+      let p = operand a in
+      let hp = good_operand a ha in
+      let ex = value_of a x ha ea in
+      let s = one_read c p x (check_lines (register_with p 5) 0 k where_ rest) l framed hp (operand_has l places has p x hp ex) (operand_word l places has p x hp ex) in
       let z = s.keeps.zero ∙ framed.zero in
       record {
         next = s.next;
         lower = [];
         path = loosened c 1 4 1 32 (test_lines k where_ p rest) rest [] l s.next (omega arith) (omega arith)
-            (followed c 0 3 1 1 (test_lines k where_ p rest) (check_lines (source_of p 5) 0 k where_ rest) rest [] [] l s.next s.next s.path
-            (check_passes c (source_of p 5) 0 k where_ rest s.next (left_register c p hp).0 (omega arith) (λ same. apart_of x 0 e (sym s.left ∙ same ∙ z))));
+            (followed c 0 3 1 1 (test_lines k where_ p rest) (check_lines (register_with p 5) 0 k where_ rest) rest [] [] l s.next s.next s.path
+            (check_passes c (register_with p 5) 0 k where_ rest s.next (left_register p hp).0 (omega arith) (λ same. apart_of x 0 e (sym s.left ∙ same ∙ z))));
         seen = refl;
         allowed = tt;
         keeps = s.keeps;
@@ -129,15 +141,15 @@ module _ (c : Code) (functions : List PlacedFunc) (codes : List TacFunc) (f : Pl
       }
 
   -- room is taken on the heap, or there is none
-  claims_case : (t a size count p : ℕ) (rest : List Line) (now : Option base.Memory) → t < f.code.regs → a < f.code.regs → size < 2 ^ 32 → registers_in f.homes places a ≡ Some count
+  claims_case : (t : ℕ) (a : Operand) (size count p : ℕ) (rest : List Line) (now : Option base.Memory) → t < f.code.regs → IsOperandOver f.code.regs a → size < 2 ^ 32 → value_in (registers_in f.homes places) a ≡ Some count
       → base.value_at base_width.Word world.memory base.data_start ≡ Some p → base.heap_has_room p count size ≡ true → base.memory_with base_width.Word world.memory base.data_start (base.next_place p count size) ≡ now
       → DoesOutcome (op_lines functions f n (Alloc t a size) rest) rest (allocates_in world t p (base.next_place p count size) now)
   claims_case t a size count p rest (Some now) ht ha fits e there some put =
       at_home 32 t p (op_lines functions f n (Alloc t a size) rest) rest (Stored base.data_start base_width.Word (base.next_place p count size) ∷ []) (record world { memory = now }) (omega arith) ht
-      (claimed_does c l places world framed has whole (at t) (at a) count size p now rest (good_at t ht) (good_at a ha) (value_at_place a count ha e) fits there some put)
+      (claimed_does c l places world framed has whole (at t) (operand a) count size p now rest (good_at t ht) (good_operand a ha) (value_of a count ha e) fits there some put)
   claims_case t a size count p rest None ht ha fits e there some put = tt
 
-  allocs_case : (t a size count p : ℕ) (rest : List Line) (b : Bool) → t < f.code.regs → a < f.code.regs → size < 2 ^ 32 → registers_in f.homes places a ≡ Some count
+  allocs_case : (t : ℕ) (a : Operand) (size count p : ℕ) (rest : List Line) (b : Bool) → t < f.code.regs → IsOperandOver f.code.regs a → size < 2 ^ 32 → value_in (registers_in f.homes places) a ≡ Some count
       → base.value_at base_width.Word world.memory base.data_start ≡ Some p → base.heap_has_room p count size ≡ b
       → DoesOutcome (op_lines functions f n (Alloc t a size) rest) rest
       (if b then allocates_in world t p (base.next_place p count size) (base.memory_with base_width.Word world.memory base.data_start (base.next_place p count size)) else Gives [] t 0 world)
@@ -145,7 +157,7 @@ module _ (c : Code) (functions : List PlacedFunc) (codes : List TacFunc) (f : Pl
       claims_case t a size count p rest (base.memory_with base_width.Word world.memory base.data_start (base.next_place p count size)) ht ha fits e there some refl
   allocs_case t a size count p rest false ht ha fits e there none =
       at_home 32 t 0 (op_lines functions f n (Alloc t a size) rest) rest [] world (omega arith) ht
-      (refused_does c l places world framed has whole (at t) (at a) count size p rest (good_at t ht) (good_at a ha) (value_at_place a count ha e) fits there none)
+      (refused_does c l places world framed has whole (at t) (operand a) count size p rest (good_at t ht) (good_operand a ha) (value_of a count ha e) fits there none)
 
   -- every operation but a call
   pub does_op : (op : TacOp) (rest : List Line) → IsOpOver codes f.code.regs op → DoesOutcome (op_lines functions f n op rest) rest (outcome_of (registers_in f.homes places) world op)
@@ -155,30 +167,30 @@ module _ (c : Code) (functions : List PlacedFunc) (codes : List TacFunc) (f : Pl
       value_case (op_lines functions f n (Copy t a) rest) rest (registers_in f.homes places a) (λ x. Gives [] t x world) (λ x e.
       at_home 6 t x (op_lines functions f n (Copy t a) rest) rest [] world (omega arith) h.0 (copy_does c l places world framed has whole (at t) (at a) x rest (good_at t h.0) (good_at a h.1) (value_at_place a x h.1 e)))
   does_op (Bin op t a b) rest h =
-      value_case (op_lines functions f n (Bin op t a b) rest) rest (registers_in f.homes places a) _ (λ x ex.
-      value_case (op_lines functions f n (Bin op t a b) rest) rest (registers_in f.homes places b) _ (λ y ey.
+      value_case (op_lines functions f n (Bin op t a b) rest) rest (value_in (registers_in f.homes places) a) _ (λ x ex.
+      value_case (op_lines functions f n (Bin op t a b) rest) rest (value_in (registers_in f.homes places) b) _ (λ y ey.
       at_home 11 t _ (op_lines functions f n (Bin op t a b) rest) rest [] world (omega arith) h.0
-      (bin_does c l places world framed has whole op (at t) (at a) (at b) x y rest (good_at t h.0) (good_at a h.1) (good_at b h.2) (value_at_place a x h.1 ex) (value_at_place b y h.2 ey))))
+      (bin_does c l places world framed has whole op (at t) (operand a) (operand b) x y rest (good_at t h.0) (good_operand a h.1) (good_operand b h.2) (value_of a x h.1 ex) (value_of b y h.2 ey))))
   does_op (High is_signed t a b) rest h =
-      value_case (op_lines functions f n (High is_signed t a b) rest) rest (registers_in f.homes places a) _ (λ x ex.
-      value_case (op_lines functions f n (High is_signed t a b) rest) rest (registers_in f.homes places b) _ (λ y ey.
+      value_case (op_lines functions f n (High is_signed t a b) rest) rest (value_in (registers_in f.homes places) a) _ (λ x ex.
+      value_case (op_lines functions f n (High is_signed t a b) rest) rest (value_in (registers_in f.homes places) b) _ (λ y ey.
       at_home 11 t _ (op_lines functions f n (High is_signed t a b) rest) rest [] world (omega arith) h.0
-      (high_does c l places world framed has whole is_signed (at t) (at a) (at b) x y rest (good_at t h.0) (good_at a h.1) (good_at b h.2) (value_at_place a x h.1 ex) (value_at_place b y h.2 ey))))
+      (high_does c l places world framed has whole is_signed (at t) (operand a) (operand b) x y rest (good_at t h.0) (good_operand a h.1) (good_operand b h.2) (value_of a x h.1 ex) (value_of b y h.2 ey))))
   does_op (Load width t a) rest h =
-      value_case (op_lines functions f n (Load width t a) rest) rest (registers_in f.homes places a) _ (λ p e. loads_case width t a p rest h.0 h.1 e)
+      value_case (op_lines functions f n (Load width t a) rest) rest (value_in (registers_in f.homes places) a) _ (λ p e. loads_case width t a p rest h.0 h.1 e)
   does_op (Store width a b) rest h =
-      value_case (op_lines functions f n (Store width a b) rest) rest (registers_in f.homes places a) _ (λ p ep.
-      value_case (op_lines functions f n (Store width a b) rest) rest (registers_in f.homes places b) _ (λ y ey.
+      value_case (op_lines functions f n (Store width a b) rest) rest (value_in (registers_in f.homes places) a) _ (λ p ep.
+      value_case (op_lines functions f n (Store width a b) rest) rest (value_in (registers_in f.homes places) b) _ (λ y ey.
       stores_case width a b p y rest (base.memory_with width world.memory p y) h.0 h.1 ep ey refl))
   does_op (Check k where_ a) rest h =
-      value_case (op_lines functions f n (Check k where_ a) rest) rest (registers_in f.homes places a) (checks world k where_) (λ x e. checks_case k where_ a x rest (x == 0) h.1 e h.0.0 h.0.1 refl)
+      value_case (op_lines functions f n (Check k where_ a) rest) rest (value_in (registers_in f.homes places) a) (checks world k where_) (λ x e. checks_case k where_ a x rest (x == 0) h.1 e h.0.0 h.0.1 refl)
   does_op (Call target callee arguments where_) rest h = tt
   does_op (Get t) rest h = gets_case t rest world.input h refl
   does_op (Put a) rest h =
-      value_case (op_lines functions f n (Put a) rest) rest (registers_in f.homes places a) _ (λ v e.
+      value_case (op_lines functions f n (Put a) rest) rest (value_in (registers_in f.homes places) a) _ (λ v e.
       loose 6 (op_lines functions f n (Put a) rest) rest (Plain (PutEvent (v % 256)) ∷ []) places world (omega arith)
-      (put_does c l places world framed has whole (at a) v rest (good_at a h) (value_at_place a v h e)))
+      (put_does c l places world framed has whole (operand a) v rest (good_operand a h) (value_of a v h e)))
   does_op (Alloc t a size) rest h =
-      value_case (op_lines functions f n (Alloc t a size) rest) rest (registers_in f.homes places a) (λ count. allocates world t count size) (λ count e.
+      value_case (op_lines functions f n (Alloc t a size) rest) rest (value_in (registers_in f.homes places) a) (λ count. allocates world t count size) (λ count e.
       value_case (op_lines functions f n (Alloc t a size) rest) rest (base.value_at base_width.Word world.memory base.data_start) (allocates_at world t count size) (λ p there.
       allocs_case t a size count p rest (base.heap_has_room p count size) h.0 h.1 h.2 e there refl))

@@ -24,21 +24,28 @@ use Rattle.ckc_frame.specs.declared.code.PlacedFunc.{PlacedFunc}
 use Rattle.ckc_frame.specs.Places.{number_of, home, is_kept_home, marks_of}
 use Rattle.ckc_frame.specs.WellFormed.{IsPlace}
 use Rattle.ckc_frame.specs.Meaning.{Caller, State, registers_of, returns, with_result_at}
-use Rattle.ckc_emit.specs.Lines.{upper_of, offset_of, fetch_lines, load_lines, settle_lines, ask_lines}
+use Rattle.ckc_tac.specs.declared.code.Operand.{Operand}
+use Rattle.ckc_tac.specs.Operations.{value_in}
+use Rattle.ckc_tac.specs.WellFormed.{IsOperandOver}
+use Rattle.ckc_emit.specs.declared.places.PlacedOperand.{PlacedOperand}
+use Rattle.ckc_emit.specs.Operands.{IsOperand}
+use Rattle.ckc_emit.specs.ProgramLines.{operand_at}
+use Rattle.ckc_emit.proofs.Operands.{HasOperand, operand_value, operand_has, operand_word, operand_is, operand_found, take_sets}
+use Rattle.ckc_emit.specs.Lines.{upper_of, offset_of, take_lines, load_lines, settle_lines, ask_lines}
 use Rattle.ckc_emit.specs.CallLines.{place_at, restores_lines, result_lines, back_lines}
 use Rattle.ckc_emit.proofs.Local.{Local, state_of}
 use Rattle.ckc_emit.proofs.Steps.{set, set_other, with_x, reg_step, jalr_step, ends_step}
 use Rattle.ckc_emit.proofs.Paths.{Code, LinesAt, Path, followed, loosened, Sets, set_by}
 use Rattle.ckc_emit.proofs.Splits.{moved_none}
 use Rattle.ckc_emit.proofs.FrameWords.{IsStackWord, sets_value, constant_sets, near_load_sets, lui_sets}
-use Rattle.ckc_emit.proofs.Homes.{HasValue, HasPlaces, IsFramed, AreFrameStores, framed_kept, fetch_sets, settle_writes}
+use Rattle.ckc_emit.proofs.Homes.{HasValue, HasPlaces, IsFramed, AreFrameStores, framed_kept, settle_writes}
 use Rattle.ckc_emit.proofs.Relation.{unseen, world_kept, places_written}
 use Rattle.ckc_emit.proofs.PlaceAt.{home_is, place_is}
 use Rattle.ckc_emit.proofs.Saving.{Restores, restores, framed_same, low_apart}
 use Rattle.ckc_emit.proofs.Jumping.{set_zero}
 use Rattle.ckc_emit.proofs.Frames.{IsWaiting, IsFirst, AreWaiting, IsRelated, lines_of}
 use Rattle.ckc_emit.proofs.Related.{May, Simulated, are_waiting_kept, frame_may}
-use Rattle.ckc_emit.proofs.Leaving.{place_value, IsWhole, ends_at}
+use Rattle.ckc_emit.proofs.Leaving.{IsWhole, ends_at}
 use Rattle.ckc_emit.proofs.Tests.{small_part}
 
 target_within : (homes : List Place) (t : ℕ) → IfSome (Some t) (λ t. t < length homes) → t < length homes
@@ -68,17 +75,17 @@ module _ (c : Code) where
       let d = f.high in
       record { aligned = omega arith; low = omega arith; high = omega arith }
 
-  leaves : (p : Place) (v link pc : ℕ) (rest : List Line) (l : Local) → IsFramed l → IsPlace p → HasValue l p v → v < 2 ^ 32 → l.words (l.x 2) ≡ link → link < 2 ^ 32 → link % 4 ≡ 0
-      → LinesAt c pc (fetch_lines 10 p (load_lines 1 2 0 (Plain (Jalr 0 1 (pos 0)) ∷ rest))) → Leaves l pc v link
+  leaves : (p : PlacedOperand) (v link pc : ℕ) (rest : List Line) (l : Local) → IsFramed l → IsOperand p → HasOperand l p v → v < 2 ^ 32 → l.words (l.x 2) ≡ link → link < 2 ^ 32 → link % 4 ≡ 0
+      → LinesAt c pc (take_lines 10 p (load_lines 1 2 0 (Plain (Jalr 0 1 (pos 0)) ∷ rest))) → Leaves l pc v link
   leaves p v link pc rest l framed hp e fits here short aligned at =
       let y3 = Plain (Jalr 0 1 (pos 0)) ∷ rest in
       let y2 = load_lines 1 2 0 y3 in
-      let s1 = fetch_sets c 10 p v y2 l framed hp e fits (omega arith) (omega arith) in
+      let s1 = take_sets c 10 p v y2 l framed hp e fits (omega arith) (omega arith) in
       let two : s1.next.x 2 ≡ l.x 2 = s1.other 2 (omega arith) (omega arith) in
       let none : s1.next.x 2 + 0 ≡ l.x 2 = omega arith in
       let there : s1.next.words (s1.next.x 2 + 0) ≡ link = ap (λ (f : ℕ → ℕ). f (s1.next.x 2 + 0)) s1.words ∙ ap l.words none ∙ here in
       let s2 = near_load_sets c 1 2 0 link y3 s1.next (omega arith) (omega arith) (omega arith) (omega arith) (return_word l s1.next framed two) there short in
-      let path = followed c 1 3 1 1 (fetch_lines 10 p y2) y2 y3 [] [] l s1.next s2.next s1.path s2.path in
+      let path = followed c 1 3 1 1 (take_lines 10 p y2) y2 y3 [] [] l s1.next s2.next s1.path s2.path in
       let lead = path.leads pc at in
       let m = s2.next in
       let n : Local = with_x m (set m.x 0 (lead.to + 4)) in
@@ -224,33 +231,30 @@ module _ (c : Code) where
   asked_aligned link rest at = at.0.aligned
 
 module _ (functions : List PlacedFunc) (c : Code) (main : ℕ) (whole : IsWhole functions c main) (s : State) (l : Local) (pc : ℕ) (r : IsRelated functions c s l pc)
-    (a : ℕ) (none : s.frame.ops ≡ []) (end : s.frame.end ≡ Return a) (within : a < s.frame.function.code.regs) where
+    (a : Operand) (none : s.frame.ops ≡ []) (end : s.frame.end ≡ Return a) (within : IsOperandOver s.frame.function.code.regs a) where
   abbrev f : PlacedFunc
   f = s.frame.function
 
-  fit : a < length f.homes
-  fit = omega (arith, r.at.placed.homes)
+  abbrev p : PlacedOperand
+  p = operand_at f.homes a
 
-  abbrev p : Place
-  p = place_at f.homes a
+  good_place : IsOperand p
+  good_place = operand_is f r.at.placed a within
 
-  good_place : IsPlace p
-  good_place = place_is f.homes a fit r.at.placed.places
+  value_is : (v : ℕ) → value_in (registers_of s.frame) a ≡ Some v → operand_value s.frame.places p ≡ Some v
+  value_is v e = operand_found f r.at.placed s.frame.places a v within e
 
-  value_is : (v : ℕ) → registers_of s.frame a ≡ Some v → s.frame.places (number_of p) ≡ Some v
-  value_is v e = place_value f.homes s.frame.places a v fit e
+  value_small : (v : ℕ) → value_in (registers_of s.frame) a ≡ Some v → v < 2 ^ 32
+  value_small v e = operand_word l s.frame.places r.has p v good_place (value_is v e)
 
-  value_small : (v : ℕ) → registers_of s.frame a ≡ Some v → v < 2 ^ 32
-  value_small v e = r.has.word p v good_place (value_is v e)
-
-  leaves_for : (v link : ℕ) → registers_of s.frame a ≡ Some v → l.words (l.x 2) ≡ link → link < 2 ^ 32 → link % 4 ≡ 0 → Leaves c l pc v link
+  leaves_for : (v link : ℕ) → value_in (registers_of s.frame) a ≡ Some v → l.words (l.x 2) ≡ link → link < 2 ^ 32 → link % 4 ≡ 0 → Leaves c l pc v link
   leaves_for v link e here short aligned =
-      leaves c p v link pc r.at.behind l r.framed good_place (r.has.has p v good_place (value_is v e)) (value_small v e) here short aligned
+      leaves c p v link pc r.at.behind l r.framed good_place (operand_has l s.frame.places r.has p v good_place (value_is v e)) (value_small v e) here short aligned
       (ends_at functions c main whole s l pc r (Return a) none end)
 
   -- ---- the end of the program
 
-  ends_first : (v : ℕ) → registers_of s.frame a ≡ Some v → IsFirst functions c l.words (l.x 2) → Simulated functions c s (state_of c.parts l pc) (Halts [] (Ended v))
+  ends_first : (v : ℕ) → value_in (registers_of s.frame) a ≡ Some v → IsFirst functions c l.words (l.x 2) → Simulated functions c s (state_of c.parts l pc) (Halts [] (Ended v))
   ends_first v e first =
       let link = l.words (l.x 2) in
       let k = leaves_for v link e refl first.short (asked_aligned c link first.rest first.back) in
@@ -275,7 +279,7 @@ module _ (functions : List PlacedFunc) (c : Code) (main : ℕ) (whole : IsWhole 
   -- ---- to a caller
 
   module _ (caller : Caller) (callers : List Caller) (all : s.callers ≡ caller ∷ callers) (w : IsWaiting functions c l.words (l.x 2) caller) (ws : AreWaiting functions c l.words (l.x 2 + 16384) callers)
-      (v : ℕ) (e : registers_of s.frame a ≡ Some v) where
+      (v : ℕ) (e : value_in (registers_of s.frame) a ≡ Some v) where
     abbrev g : PlacedFunc
     g = caller.frame.function
 
@@ -368,7 +372,7 @@ module _ (functions : List PlacedFunc) (c : Code) (main : ℕ) (whole : IsWhole 
           related = (b.next, lead.to, refl, back_related k.next lead.to k.words k.bytes k.input b lead.there);
         }
 
-  returns_from : (cs : List Caller) (o : Option ℕ) → s.callers ≡ cs → registers_of s.frame a ≡ o → Simulated functions c s (state_of c.parts l pc) (returns s cs o)
+  returns_from : (cs : List Caller) (o : Option ℕ) → s.callers ≡ cs → value_in (registers_of s.frame) a ≡ o → Simulated functions c s (state_of c.parts l pc) (returns s cs o)
   returns_from [] (Some v) all e = ends_first v e (subst (AreWaiting functions c l.words (l.x 2)) all r.callers)
   returns_from (caller ∷ callers) (Some v) all e =
       let w = subst (AreWaiting functions c l.words (l.x 2)) all r.callers in
@@ -376,5 +380,5 @@ module _ (functions : List PlacedFunc) (c : Code) (main : ℕ) (whole : IsWhole 
   returns_from [] None all e = inl refl
   returns_from (caller ∷ callers) None all e = inl refl
 
-  pub return_simulates : Simulated functions c s (state_of c.parts l pc) (returns s s.callers (registers_of s.frame a))
-  return_simulates = returns_from s.callers (registers_of s.frame a) refl refl
+  pub return_simulates : Simulated functions c s (state_of c.parts l pc) (returns s s.callers (value_in (registers_of s.frame) a))
+  return_simulates = returns_from s.callers (value_in (registers_of s.frame) a) refl refl

@@ -35,7 +35,7 @@ module _ (functions : List PlacedFunc) (c : Code) (main : ℕ) (whole : IsWhole 
     ends_by : (end : TacEnd) → s.frame.ops ≡ [] → s.frame.end ≡ end → IsEndOver (length s.frame.function.code.blocks) s.frame.function.code.regs end
         → Simulated functions c s (state_of c.parts l pc) (ends s end)
     ends_by (Jump to) none e over = jump_simulates functions c main whole s l pc r to none e
-    ends_by (Branch a one two) none e over = branch_simulates functions c main whole s l pc r a one two none e over.0
+    ends_by (Branch o a b one two) none e over = branch_simulates functions c main whole s l pc r o a b one two none e over.0 over.1
     ends_by (Return a) none e over = return_simulates functions c main whole s l pc r a none e over
 
     runs_by : (ops : List TacOp) → s.frame.ops ≡ ops → Simulated functions c s (state_of c.parts l pc) (runs functions s ops)

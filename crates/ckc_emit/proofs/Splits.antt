@@ -1,11 +1,11 @@
 -- A word is its upper 20 bits and the signed rest.
-use Rattle.std.proofs.Common.{◌≡◌, ℕ, ◌+◌, ◌*◌, ◌%◌, ◌^◌, ◌<◌, arith}
+use Rattle.std.proofs.Common.{◌≡◌, ℕ, ◌+◌, ◌-◌, ◌*◌, ◌%◌, ◌^◌, ◌<◌, ◌∙◌, ap, arith}
 use Rattle.std.specs.Prelude.{pos}
 use Rattle.std.proofs.lemmas.Int.{ints}
 use Rattle.std.proofs.lemmas.Bool.Decides.{nat_tests}
 use Rattle.ckc_base.specs.Words.{word_of}
 use Rattle.ckc_rv.specs.Effects.{moved}
-use Rattle.ckc_emit.specs.Lines.{upper_of, lower_of}
+use Rattle.ckc_emit.specs.Lines.{upper_of, lower_of, negated}
 
 pub split_word : (v : ℕ) → v < 2 ^ 32 → (upper_of v * 2 ^ 12 + word_of (lower_of v)) % 2 ^ 32 ≡ v
 unfolding upper_of lower_of
@@ -33,3 +33,29 @@ near_word frame offset h k = grind (arith, ints, nat_tests)
 
 pub moved_none : (a : ℕ) → a < 2 ^ 32 → moved a (pos 0) ≡ a
 moved_none a h = omega arith
+
+-- ---- numbers as immediates
+
+pub near_is : (v : ℕ) → v < 2 ^ 32 → upper_of v ≡ 0 → word_of (lower_of v) ≡ v
+unfolding upper_of lower_of
+near_is v h e = grind (arith, ints, nat_tests)
+
+pub negated_small : (n : ℕ) → negated n < 2 ^ 32
+negated_small n = omega arith
+
+pub negated_is : (x n : ℕ) → n < 2 ^ 32 → (x + negated n) % 2 ^ 32 ≡ (x + (2 ^ 32 - n)) % 2 ^ 32
+negated_is x n h = omega arith
+
+small_count : (k : ℕ) → k < 32 → upper_of k ≡ 0
+unfolding upper_of
+small_count k h = omega arith
+
+twice : (n : ℕ) → n % 32 % 32 ≡ n % 32
+twice n = omega arith
+
+below : (n : ℕ) → n % 32 < 32
+below n = omega arith
+
+-- the count of a shift
+pub count_is : (n : ℕ) → word_of (lower_of (n % 32)) % 32 ≡ n % 32
+count_is n = ap (λ k. k % 32) (near_is (n % 32) (omega arith) (small_count (n % 32) (below n))) ∙ twice n

@@ -56,6 +56,12 @@ equal_flag x y h k = grind (arith, nat_tests)
 pub unequal_flag : (x y : ℕ) → x < 2 ^ 32 → y < 2 ^ 32 → nat_lt 0 ((x + (2 ^ 32 - y)) % 2 ^ 32) ≡ not (x == y)
 unequal_flag x y h k = grind (arith, nat_tests)
 
+pub zero_flag : (x : ℕ) → nat_lt x 1 ≡ (x == 0)
+zero_flag x = grind (arith, nat_tests)
+
+pub some_flag : (x : ℕ) → nat_lt 0 x ≡ not (x == 0)
+some_flag x = grind (arith, nat_tests)
+
 quotient_word : (a b : ℕ) → a < 2 ^ 32 → a / b < 2 ^ 32
 quotient_word a b h = omega (arith, div-le_self a b)
 

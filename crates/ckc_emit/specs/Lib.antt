@@ -1,3 +1,4 @@
+pub mod Operands
 pub mod Lines
 pub mod Emitting
 pub mod Stores

@@ -1,6 +1,6 @@
 -- The lines that are emitted for each piece of placed code, each in front of the lines that follow it. The code is
 -- proved against these; what they come to is said of the machine that runs them (specs/Promise.antt).
-use Rattle.std.specs.Prelude.{ℕ, ◌+◌, ◌*◌, ◌/◌, ◌%◌, ◌^◌, ◌==◌, nat_lt, ◌||◌, Bool, true, false, if◌then◌else◌, ℤ, pos, ◌-ℤ◌, List, ◌∷◌}
+use Rattle.std.specs.Prelude.{ℕ, ◌+◌, ◌-◌, ◌*◌, ◌/◌, ◌%◌, ◌^◌, ◌==◌, nat_lt, ◌||◌, Bool, true, false, if◌then◌else◌, ℤ, pos, ◌-ℤ◌, List, ◌∷◌}
 use Rattle.std.specs.Ordering.{int_eq}
 use Rattle.ckc_base.specs.declared.arithmetic.BinOp.{BinOp}
 use Rattle.ckc_base.specs.declared.arithmetic.BinOp.TheVariants as op
@@ -14,7 +14,8 @@ use Rattle.ckc_rv.specs.declared.instructions.LoadOp.{LoadOp}
 use Rattle.ckc_rv.specs.declared.instructions.LoadOp.TheVariants.{Lw, Lbu}
 use Rattle.ckc_rv.specs.declared.instructions.StoreOp.{StoreOp}
 use Rattle.ckc_rv.specs.declared.instructions.StoreOp.TheVariants.{Sb, Sw}
-use Rattle.ckc_rv.specs.declared.instructions.ImmOp.TheVariants.{Addi, Sltiu, Slli, Srli}
+use Rattle.ckc_rv.specs.declared.instructions.ImmOp.{ImmOp}
+use Rattle.ckc_rv.specs.declared.instructions.ImmOp.TheVariants.{Addi, Slti, Sltiu, Xori, Ori, Andi, Slli, Srli, Srai}
 use Rattle.ckc_rv.specs.declared.instructions.RegOp.{RegOp}
 use Rattle.ckc_rv.specs.declared.instructions.RegOp.TheVariants.{Add, Sub, Sll, Slt, Sltu, Xor, Srl, Sra, Or, And, Mul, Mulh, Mulhu, Div, Divu, Rem, Remu}
 use Rattle.ckc_rv.specs.declared.instructions.Instr.{Instr}
@@ -23,6 +24,10 @@ use Rattle.ckc_lines.specs.declared.lines.Line.{Line}
 use Rattle.ckc_lines.specs.declared.lines.Line.TheVariants.{Plain}
 use Rattle.ckc_frame.specs.declared.code.Place.{Place}
 use Rattle.ckc_frame.specs.declared.code.Place.TheVariants as place
+use Rattle.ckc_emit.specs.declared.places.PlacedOperand.{PlacedOperand}
+use Rattle.ckc_emit.specs.declared.places.PlacedOperand.TheVariants.{At, Number}
+use Rattle.ckc_emit.specs.declared.operations.Form.{Form}
+use Rattle.ckc_emit.specs.declared.operations.Form.TheVariants.{Zero, Immediate, Registers}
 
 -- ---- constants
 
@@ -36,6 +41,9 @@ lower_of v = pos ((v + 0x800) % 2 ^ 32 % 0x1000) -ℤ pos 0x800
 
 abbrev pub add_lower_of : ℕ → ℕ → ℕ → Instr
 add_lower_of rd rs v = Imm Addi rd rs (lower_of v)
+
+abbrev pub immediate_of : ImmOp → ℕ → ℕ → ℕ → Instr
+immediate_of op rd rs v = Imm op rd rs (lower_of v)
 
 abbrev pub load_lower_of : ℕ → ℕ → Instr
 load_lower_of rd offset = Load Lw rd 7 (lower_of offset)
@@ -141,6 +149,22 @@ abbrev pub fetch_lines : ℕ → Place → List Line → List Line
 fetch_lines rd (place.Reg k) rest = move_lines rd (register_of k) rest
 fetch_lines rd (place.Slot k) rest = load_lines rd 2 (k * 4 + 64) rest
 
+-- ---- operands
+
+-- the register that has the value of an operand, where a scratch register has that of a slot or a number; 0 is in x0
+abbrev pub register_with : PlacedOperand → ℕ → ℕ
+register_with (At p) scratch = source_of p scratch
+register_with (Number n) scratch = if n == 0 then 0 else scratch
+
+abbrev pub operand_lines : PlacedOperand → ℕ → List Line → List Line
+operand_lines (At p) scratch rest = read_lines p scratch rest
+operand_lines (Number n) scratch rest = if n == 0 then rest else constant_lines scratch n rest
+
+-- a register gets the value of an operand
+abbrev pub take_lines : ℕ → PlacedOperand → List Line → List Line
+take_lines rd (At p) rest = fetch_lines rd p rest
+take_lines rd (Number n) rest = constant_lines rd n rest
+
 -- ---- operations
 
 abbrev pub const_lines : Place → ℕ → List Line → List Line
@@ -175,17 +199,63 @@ apply_lines op.Eq rd a b rest = Plain (Reg Sub rd a b) ∷ Plain (Imm Sltiu rd r
 apply_lines op.Ne rd a b rest = Plain (Reg Sub rd a b) ∷ Plain (Reg Sltu rd 0 rd) ∷ rest
 apply_lines o rd a b rest = Plain (Reg (operation_of o) rd a b) ∷ rest
 
-abbrev pub bin_lines : BinOp → Place → Place → Place → List Line → List Line
+-- the number that is added in place of a difference
+abbrev pub negated : ℕ → ℕ
+negated n = (2 ^ 32 - n) % 2 ^ 32
+
+-- a number as an immediate, if it fits
+abbrev pub near_form : ImmOp → ℕ → Form
+near_form i n = if upper_of n == 0 then Immediate i n else Registers
+
+-- How an operation with a number on its right is done. Shifts are by the number modulo 32, and a comparison with zero
+-- needs no difference.
+abbrev pub number_form : BinOp → ℕ → Form
+number_form op.Add n = near_form Addi n
+number_form op.Sub n = near_form Addi (negated n)
+number_form op.And n = near_form Andi n
+number_form op.Or n = near_form Ori n
+number_form op.Xor n = near_form Xori n
+number_form op.LtS n = near_form Slti n
+number_form op.LtU n = near_form Sltiu n
+number_form op.Shl n = Immediate Slli (n % 32)
+number_form op.ShrS n = Immediate Srai (n % 32)
+number_form op.ShrU n = Immediate Srli (n % 32)
+number_form op.Eq n = if n == 0 then Zero else near_form Addi (negated n)
+number_form op.Ne n = if n == 0 then Zero else near_form Addi (negated n)
+number_form o n = Registers
+
+abbrev pub form_of : BinOp → PlacedOperand → Form
+form_of o (At p) = Registers
+form_of o (Number n) = number_form o n
+
+-- the end of a test for equality: whether a difference is zero, or not
+abbrev pub ending_lines : BinOp → ℕ → ℕ → List Line → List Line
+ending_lines op.Eq rd rs rest = Plain (Imm Sltiu rd rs (pos 1)) ∷ rest
+ending_lines op.Ne rd rs rest = Plain (Reg Sltu rd 0 rs) ∷ rest
+ending_lines o rd rs rest = rest
+
+-- an operation with an immediate
+abbrev pub immediate_lines : ImmOp → ℕ → BinOp → ℕ → ℕ → List Line → List Line
+immediate_lines i n o rd ra rest = Plain (immediate_of i rd ra n) ∷ ending_lines o rd rd rest
+
+-- an operation on a register and an operand
+abbrev pub form_lines : Form → BinOp → ℕ → ℕ → PlacedOperand → List Line → List Line
+form_lines Zero o rd ra b rest = ending_lines o rd ra rest
+form_lines (Immediate i n) o rd ra b rest = immediate_lines i n o rd ra rest
+form_lines Registers o rd ra b rest = operand_lines b 6 (apply_lines o rd ra (register_with b 6) rest)
+
+abbrev pub bin_lines : BinOp → Place → PlacedOperand → PlacedOperand → List Line → List Line
 bin_lines o t a b rest =
-    read_lines a 5 (read_lines b 6 (apply_lines o (source_of t 5) (source_of a 5) (source_of b 6) (write_lines t 5 rest)))
+    operand_lines a 5 (form_lines (form_of o b) o (source_of t 5) (register_with a 5) b (write_lines t 5 rest))
 
 abbrev pub high_op : Bool → RegOp
 high_op true = Mulh
 high_op false = Mulhu
 
-abbrev pub high_lines : Bool → Place → Place → Place → List Line → List Line
+abbrev pub high_lines : Bool → Place → PlacedOperand → PlacedOperand → List Line → List Line
 high_lines is_signed t a b rest =
-    read_lines a 5 (read_lines b 6 (Plain (Reg (high_op is_signed) (source_of t 5) (source_of a 5) (source_of b 6)) ∷ write_lines t 5 rest))
+    operand_lines a 5 (operand_lines b 6
+    (Plain (Reg (high_op is_signed) (source_of t 5) (register_with a 5) (register_with b 6)) ∷ write_lines t 5 rest))
 
 abbrev pub load_op : Width → LoadOp
 load_op Byte = Lbu
@@ -195,20 +265,22 @@ abbrev pub store_op : Width → StoreOp
 store_op Byte = Sb
 store_op Word = Sw
 
-abbrev pub data_load_lines : Width → Place → Place → List Line → List Line
-data_load_lines width t a rest = read_lines a 5 (Plain (Load (load_op width) (source_of t 5) (source_of a 5) (pos 0)) ∷ write_lines t 5 rest)
+abbrev pub data_load_lines : Width → Place → PlacedOperand → List Line → List Line
+data_load_lines width t a rest =
+    operand_lines a 5 (Plain (Load (load_op width) (source_of t 5) (register_with a 5) (pos 0)) ∷ write_lines t 5 rest)
 
-abbrev pub data_store_lines : Width → Place → Place → List Line → List Line
-data_store_lines width a b rest = read_lines a 5 (read_lines b 6 (Plain (Store (store_op width) (source_of a 5) (source_of b 6) (pos 0)) ∷ rest))
+abbrev pub data_store_lines : Width → PlacedOperand → PlacedOperand → List Line → List Line
+data_store_lines width a b rest =
+    operand_lines a 5 (operand_lines b 6 (Plain (Store (store_op width) (register_with a 5) (register_with b 6) (pos 0)) ∷ rest))
 
-abbrev pub test_lines : Check → Pos → Place → List Line → List Line
-test_lines check at a rest = read_lines a 5 (check_lines (source_of a 5) 0 check at rest)
+abbrev pub test_lines : Check → Pos → PlacedOperand → List Line → List Line
+test_lines check at a rest = operand_lines a 5 (check_lines (register_with a 5) 0 check at rest)
 
 abbrev pub get_lines : Place → List Line → List Line
 get_lines t rest = ask_lines 2 (settle_lines t 10 rest)
 
-abbrev pub put_lines : Place → List Line → List Line
-put_lines a rest = fetch_lines 10 a (ask_lines 1 rest)
+abbrev pub put_lines : PlacedOperand → List Line → List Line
+put_lines a rest = take_lines 10 a (ask_lines 1 rest)
 
 -- ---- an Alloc of x5 elements of x6 bytes: x10 is the place of the block, or 0
 
@@ -227,5 +299,5 @@ abbrev pub claim_lines : List Line → List Line
 claim_lines rest =
     Plain (Imm Addi 10 11 (pos 0)) ∷ Plain (Reg Mul 5 5 6) ∷ Plain (Reg Add 5 5 11) ∷ Plain (Imm Addi 5 5 (pos 15)) ∷ rounded_lines rest
 
-abbrev pub alloc_lines : Place → Place → ℕ → List Line → List Line
-alloc_lines t a size rest = fetch_lines 5 a (constant_lines 6 size (room_lines (claim_lines (settle_lines t 10 rest))))
+abbrev pub alloc_lines : Place → PlacedOperand → ℕ → List Line → List Line
+alloc_lines t a size rest = take_lines 5 a (constant_lines 6 size (room_lines (claim_lines (settle_lines t 10 rest))))

@@ -2,13 +2,17 @@
 -- behind it one for each of its blocks.
 use Rattle.std.specs.Prelude.{◌≡◌, ℕ, ◌+◌, ◌<◌, ◌==◌, not, ◌&&◌, if◌then◌else◌, Bool, true, false, List, [], ◌∷◌, length, map, slice_get, slice_index, sum_by, take, Option, Some, None, pos}
 use Rattle.ckc_rv.specs.declared.instructions.BranchOp.{BranchOp}
-use Rattle.ckc_rv.specs.declared.instructions.BranchOp.TheVariants.{Beq, Bne}
+use Rattle.ckc_rv.specs.declared.instructions.BranchOp.TheVariants.{Beq, Bne, Blt, Bge, Bltu, Bgeu}
 use Rattle.ckc_rv.specs.declared.instructions.Instr.TheVariants.{Lui, Jalr, Branch as BranchInstr}
 use Rattle.ckc_lines.specs.declared.lines.Labelled.{Labelled}
 use Rattle.ckc_lines.specs.declared.lines.Line.{Line}
 use Rattle.ckc_lines.specs.declared.lines.Line.TheVariants.{Label, Plain, Far}
 use Rattle.ckc_tac.specs.declared.code.TacFunc.{TacFunc}
 use Rattle.ckc_tac.specs.declared.code.TacBlock.{TacBlock}
+use Rattle.ckc_tac.specs.declared.code.Comparison.{Comparison}
+use Rattle.ckc_tac.specs.declared.code.Comparison.TheVariants.{LtS, LtU, Eq, Ne}
+use Rattle.ckc_tac.specs.declared.code.Operand.{Operand}
+use Rattle.ckc_tac.specs.declared.code.Operand.TheVariants.{Register, Number}
 use Rattle.ckc_tac.specs.declared.code.TacOp.{TacOp}
 use Rattle.ckc_tac.specs.declared.code.TacOp.TheVariants.{Const, Copy, Bin, High, Load, Store, Check, Call, Get, Put, Alloc}
 use Rattle.ckc_tac.specs.declared.code.TacEnd.{TacEnd}
@@ -18,7 +22,9 @@ use Rattle.ckc_frame.specs.declared.code.Placed.{Placed}
 use Rattle.ckc_frame.specs.declared.code.PlacedFunc.{PlacedFunc}
 use Rattle.ckc_frame.specs.Meaning.{is_call, calls_in}
 use Rattle.ckc_frame.specs.Places.{marks_of}
-use Rattle.ckc_emit.specs.Lines.{source_of, read_lines, fetch_lines, load_lines, store_lines, ask_lines, const_lines, copy_lines, bin_lines, high_lines, data_load_lines, data_store_lines, test_lines, get_lines, put_lines, alloc_lines}
+use Rattle.ckc_emit.specs.declared.places.PlacedOperand.{PlacedOperand}
+use Rattle.ckc_emit.specs.declared.places.PlacedOperand.TheVariants as placed
+use Rattle.ckc_emit.specs.Lines.{register_with, operand_lines, take_lines, load_lines, store_lines, ask_lines, const_lines, copy_lines, bin_lines, high_lines, data_load_lines, data_store_lines, test_lines, get_lines, put_lines, alloc_lines}
 use Rattle.ckc_emit.specs.CallLines.{place_at, call_lines, result_lines}
 
 -- ---- labels
@@ -43,20 +49,25 @@ homes_of None = []
 
 -- ---- operations and ends
 
+-- an operand, with the place of its register
+abbrev pub operand_at : List Place → Operand → PlacedOperand
+operand_at homes (Register r) = placed.At (place_at homes r)
+operand_at homes (Number n) = placed.Number n
+
 abbrev pub op_lines : List PlacedFunc → PlacedFunc → (calls_before : ℕ) → TacOp → List Line → List Line
 op_lines functions f n (Const t v) rest = const_lines (place_at f.homes t) v rest
 op_lines functions f n (Copy t a) rest = copy_lines (place_at f.homes t) (place_at f.homes a) rest
-op_lines functions f n (Bin op t a b) rest = bin_lines op (place_at f.homes t) (place_at f.homes a) (place_at f.homes b) rest
-op_lines functions f n (High is_signed t a b) rest = high_lines is_signed (place_at f.homes t) (place_at f.homes a) (place_at f.homes b) rest
-op_lines functions f n (Load width t a) rest = data_load_lines width (place_at f.homes t) (place_at f.homes a) rest
-op_lines functions f n (Store width a b) rest = data_store_lines width (place_at f.homes a) (place_at f.homes b) rest
-op_lines functions f n (Check check at a) rest = test_lines check at (place_at f.homes a) rest
+op_lines functions f n (Bin op t a b) rest = bin_lines op (place_at f.homes t) (operand_at f.homes a) (operand_at f.homes b) rest
+op_lines functions f n (High is_signed t a b) rest = high_lines is_signed (place_at f.homes t) (operand_at f.homes a) (operand_at f.homes b) rest
+op_lines functions f n (Load width t a) rest = data_load_lines width (place_at f.homes t) (operand_at f.homes a) rest
+op_lines functions f n (Store width a b) rest = data_store_lines width (operand_at f.homes a) (operand_at f.homes b) rest
+op_lines functions f n (Check check at a) rest = test_lines check at (operand_at f.homes a) rest
 op_lines functions f n (Call target callee arguments at) rest =
     call_lines f.homes (marks_of (slice_get f.kept n)) (homes_of (slice_get functions callee)) (label_of functions callee) arguments at
     (result_lines f.homes target rest)
 op_lines functions f n (Get t) rest = get_lines (place_at f.homes t) rest
-op_lines functions f n (Put a) rest = put_lines (place_at f.homes a) rest
-op_lines functions f n (Alloc t a size) rest = alloc_lines (place_at f.homes t) (place_at f.homes a) size rest
+op_lines functions f n (Put a) rest = put_lines (operand_at f.homes a) rest
+op_lines functions f n (Alloc t a size) rest = alloc_lines (place_at f.homes t) (operand_at f.homes a) size rest
 
 abbrev pub ops_lines : List PlacedFunc → PlacedFunc → (calls_before : ℕ) → List TacOp → List Line → List Line
 ops_lines functions f n [] rest = rest
@@ -66,15 +77,33 @@ ops_lines functions f n (op ∷ ops) rest = op_lines functions f n op (ops_lines
 abbrev pub jump_lines : (first next b : ℕ) → List Line → List Line
 jump_lines first next b rest = if b == next then rest else Far 0 (first + b) ∷ rest
 
--- a branch over a far jump of two instructions, where a register compares to zero
-abbrev pub over_lines : BranchOp → (r label : ℕ) → List Line → List Line
-over_lines op r label rest = Plain (BranchInstr op r 0 (pos 12)) ∷ Far 0 label ∷ rest
+-- a branch over a far jump of two instructions
+abbrev pub over_lines : BranchOp → (ra rb label : ℕ) → List Line → List Line
+over_lines op ra rb label rest = Plain (BranchInstr op ra rb (pos 12)) ∷ Far 0 label ∷ rest
 
-abbrev pub branch_lines : Place → (first next one two : ℕ) → List Line → List Line
-branch_lines r first next one two rest =
-    read_lines r 5
-    (if one == next then over_lines Bne (source_of r 5) (first + two) rest
-    else over_lines Beq (source_of r 5) (first + one) (jump_lines first next two rest))
+-- the branch that is taken where a comparison holds
+abbrev pub holding : Comparison → BranchOp
+holding LtS = Blt
+holding LtU = Bltu
+holding Eq = Beq
+holding Ne = Bne
+
+-- the branch that is taken where it does not
+abbrev pub failing : Comparison → BranchOp
+failing LtS = Bge
+failing LtU = Bgeu
+failing Eq = Bne
+failing Ne = Beq
+
+-- to one of two blocks by a comparison of two registers
+abbrev pub choice_lines : Comparison → (ra rb first next one two : ℕ) → List Line → List Line
+choice_lines c ra rb first next one two rest =
+    if one == next then over_lines (holding c) ra rb (first + two) rest
+    else over_lines (failing c) ra rb (first + one) (jump_lines first next two rest)
+
+abbrev pub branch_lines : Comparison → PlacedOperand → PlacedOperand → (first next one two : ℕ) → List Line → List Line
+branch_lines c a b first next one two rest =
+    operand_lines a 5 (operand_lines b 6 (choice_lines c (register_with a 5) (register_with b 6) first next one two rest))
 
 -- a block without operations that jumps on
 abbrev pub is_passing_end : TacEnd → Bool
@@ -98,13 +127,13 @@ abbrev pub pass_lines : List TacBlock → (first next b : ℕ) → List Line →
 pass_lines blocks first next b rest = if falls_through blocks next b then rest else Far 0 (first + b) ∷ rest
 
 -- back to the caller, with a value in x10
-abbrev pub return_lines : Place → List Line → List Line
-return_lines r rest = fetch_lines 10 r (load_lines 1 2 0 (Plain (Jalr 0 1 (pos 0)) ∷ rest))
+abbrev pub return_lines : PlacedOperand → List Line → List Line
+return_lines a rest = take_lines 10 a (load_lines 1 2 0 (Plain (Jalr 0 1 (pos 0)) ∷ rest))
 
 abbrev pub end_lines : PlacedFunc → (first next : ℕ) → TacEnd → List Line → List Line
 end_lines f first next (Jump b) rest = pass_lines f.code.blocks first next b rest
-end_lines f first next (Branch r one two) rest = branch_lines (place_at f.homes r) first next one two rest
-end_lines f first next (Return r) rest = return_lines (place_at f.homes r) rest
+end_lines f first next (Branch c a b one two) rest = branch_lines c (operand_at f.homes a) (operand_at f.homes b) first next one two rest
+end_lines f first next (Return a) rest = return_lines (operand_at f.homes a) rest
 
 -- ---- blocks, functions, programs
 

@@ -2,9 +2,10 @@
 ghost use Rattle.std.specs.Prelude.{OnOk};
 ghost use Rattle.ckc_frame.specs.WellFormed.{IsPlace};
 ghost use Rattle.ckc_emit.specs.Emitting.{Emits};
+ghost use Rattle.ckc_emit.specs.Operands.{IsOperand};
 ghost use Rattle.ckc_emit.specs.Lines.{alloc_lines, tests_lines, room_lines, rounded_lines, claim_lines};
 
-use crate::places::{put_fetch, put_settle};
+use crate::places::{PlacedOperand, put_settle, put_take};
 use crate::templates::{put, put_constant};
 use ckc_frame::Place;
 use ckc_lines::Line;
@@ -13,12 +14,17 @@ use std::alloc::AllocError;
 
 /// Sets x10 to the place of a new block of x5 elements of a size and moves the heap word past it; or sets it to 0
 /// where the count is not positive or the block does not fit.
-pub fn put_alloc(out: &mut Vec<Line>, t: Place, a: Place, size: u32) -> Result<(), AllocError>
+pub fn put_alloc(
+    out: &mut Vec<Line>,
+    t: Place,
+    a: PlacedOperand,
+    size: u32,
+) -> Result<(), AllocError>
     requires t { IsPlace t }
-    requires a { IsPlace a }
+    requires a { IsOperand a }
     ensures { OnOk result (Emits out.old.items out.new.items (alloc_lines t a size)) }
 {
-    put_fetch(out, 5, a)?;
+    put_take(out, 5, a)?;
     put_constant(out, 6, size)?;
     put_room(out)?;
     put_claim(out)?;

@@ -1,12 +1,13 @@
 //! The lines of operations, of the ends of blocks, and of functions.
 ghost use Rattle.std.specs.Prelude.{◌≡◌, ◌+◌, ◌≤◌, ◌<◌, ◌^◌, All, IfSome, IfOk, length, map, slice_get, sum_by, OnOk};
-ghost use Rattle.ckc_tac.specs.WellFormed.{HasParams, IsOpOver, IsEndOver, IsBlockOver, IsFunctionOver};
+ghost use Rattle.ckc_tac.specs.WellFormed.{HasParams, IsOperandOver, IsOpOver, IsEndOver, IsBlockOver, IsFunctionOver};
 ghost use Rattle.ckc_frame.specs.Meaning.{is_call as calls_of, calls_in};
 ghost use Rattle.ckc_frame.specs.WellFormed.{IsPlace, IsPlacedWhole, IsWellFormed};
 ghost use Rattle.ckc_frame.specs.Places.{marks_of};
 ghost use Rattle.ckc_emit.specs.Emitting.{Emits};
+ghost use Rattle.ckc_emit.specs.Operands.{IsOperand};
 ghost use Rattle.ckc_emit.specs.CallLines.{place_at, call_lines, result_lines};
-ghost use Rattle.ckc_emit.specs.ProgramLines.{AreLabels, label_of, homes_of, op_lines, ops_lines, jump_lines, branch_lines, is_passing_block, falls_through, end_lines, block_lines, blocks_lines, function_lines, codes_of, return_lines, pass_lines, over_lines};
+ghost use Rattle.ckc_emit.specs.ProgramLines.{AreLabels, label_of, homes_of, operand_at, op_lines, ops_lines, jump_lines, holding as holding_of, failing as failing_of, choice_lines, branch_lines, is_passing_block, falls_through, end_lines, block_lines, blocks_lines, function_lines, codes_of, return_lines, pass_lines, over_lines};
 
 use crate::allocation::put_alloc;
 use crate::calls::{put_call, put_result};
@@ -14,13 +15,13 @@ use crate::operations::{
     put_bin, put_const, put_copy, put_data_load, put_data_store, put_get, put_high, put_put,
     put_test,
 };
-use crate::places::{place_in, put_fetch, put_read, source};
+use crate::places::{PlacedOperand, place_in, put_operand, put_take, register_of_operand};
 use crate::templates::{SP, put, put_load, put_store};
 use ckc_base::Pos;
 use ckc_frame::{Place, Placed, PlacedFunc};
 use ckc_lines::Line;
 use ckc_rv::{BranchOp, Instr};
-use ckc_tac::{TacBlock, TacEnd, TacOp};
+use ckc_tac::{Comparison, Operand, TacBlock, TacEnd, TacOp};
 use std::alloc::AllocError;
 
 /// The place of a register of a function.
@@ -31,6 +32,19 @@ fn home(f: &PlacedFunc, r: u32) -> Place
     ensures place { IsPlace result }
 {
     place_in(f.homes.as_slice(), r as usize)
+}
+
+/// An operand of a function, with the place of its register.
+fn operand(f: &PlacedFunc, o: Operand) -> PlacedOperand
+    requires placed { IsPlacedWhole f.now }
+    requires over { IsOperandOver f.now.code.regs o }
+    ensures is { result ≡ operand_at f.now.homes o }
+    ensures operand { IsOperand result }
+{
+    match o {
+        Operand::Register(r) => PlacedOperand::At(home(f, r)),
+        Operand::Number(n) => PlacedOperand::Number(n),
+    }
 }
 
 /// The lines of an operation; `calls` counts those before it in the function.
@@ -52,14 +66,14 @@ fn put_op(
     match op {
         TacOp::Const(t, v) => put_const(out, home(f, *t), *v),
         TacOp::Copy(t, a) => put_copy(out, home(f, *t), home(f, *a)),
-        TacOp::Bin(op, t, a, b) => put_bin(out, *op, home(f, *t), home(f, *a), home(f, *b)),
-        TacOp::High(s, t, a, b) => put_high(out, *s, home(f, *t), home(f, *a), home(f, *b)),
-        TacOp::Load(width, t, a) => put_data_load(out, *width, home(f, *t), home(f, *a)),
-        TacOp::Store(width, a, b) => put_data_store(out, *width, home(f, *a), home(f, *b)),
-        TacOp::Check(check, at, a) => put_test(out, *check, *at, home(f, *a)),
+        TacOp::Bin(op, t, a, b) => put_bin(out, *op, home(f, *t), operand(f, *a), operand(f, *b)),
+        TacOp::High(s, t, a, b) => put_high(out, *s, home(f, *t), operand(f, *a), operand(f, *b)),
+        TacOp::Load(width, t, a) => put_data_load(out, *width, home(f, *t), operand(f, *a)),
+        TacOp::Store(width, a, b) => put_data_store(out, *width, operand(f, *a), operand(f, *b)),
+        TacOp::Check(check, at, a) => put_test(out, *check, *at, operand(f, *a)),
         TacOp::Get(t) => put_get(out, home(f, *t)),
-        TacOp::Put(a) => put_put(out, home(f, *a)),
-        TacOp::Alloc(t, a, size) => put_alloc(out, home(f, *t), home(f, *a), *size),
+        TacOp::Put(a) => put_put(out, operand(f, *a)),
+        TacOp::Alloc(t, a, size) => put_alloc(out, home(f, *t), operand(f, *a), *size),
         TacOp::Call(t, callee, args, at) => {
             put_whole_call(out, p, labels, f, calls, *t, *callee, args.as_slice(), *at)
         }
@@ -147,17 +161,19 @@ fn put_end(
 {
     match end {
         TacEnd::Jump(b) => put_pass(out, f.code.blocks.as_slice(), first, next, b),
-        TacEnd::Branch(r, one, two) => put_branch(out, home(f, r), first, next, one, two),
-        TacEnd::Return(r) => put_return(out, home(f, r)),
+        TacEnd::Branch(c, a, b, one, two) => {
+            put_branch(out, c, operand(f, a), operand(f, b), first, next, one, two)
+        }
+        TacEnd::Return(a) => put_return(out, operand(f, a)),
     }
 }
 
 /// Goes back to the caller with a value.
-fn put_return(out: &mut Vec<Line>, r: Place) -> Result<(), AllocError>
-    requires { IsPlace r }
-    ensures { OnOk result (Emits out.old.items out.new.items (return_lines r)) }
+fn put_return(out: &mut Vec<Line>, a: PlacedOperand) -> Result<(), AllocError>
+    requires { IsOperand a }
+    ensures { OnOk result (Emits out.old.items out.new.items (return_lines a)) }
 {
-    put_fetch(out, 10, r)?;
+    put_take(out, 10, a)?;
     put_load(out, 1, SP, 0)?;
     put(out, Instr::Jalr(0, 1, 0))
 }
@@ -207,34 +223,80 @@ fn put_jump(out: &mut Vec<Line>, first: u32, next: u32, b: u32) -> Result<(), Al
     Ok(())
 }
 
-/// Goes to a block where a register is not zero, and else to another one.
+/// The branch that is taken where a comparison holds.
+fn holding(c: Comparison) -> BranchOp
+    ensures { result ≡ holding_of c }
+{
+    match c {
+        Comparison::LtS => BranchOp::Blt,
+        Comparison::LtU => BranchOp::Bltu,
+        Comparison::Eq => BranchOp::Beq,
+        Comparison::Ne => BranchOp::Bne,
+    }
+}
+
+/// The branch that is taken where a comparison does not hold.
+fn failing(c: Comparison) -> BranchOp
+    ensures { result ≡ failing_of c }
+{
+    match c {
+        Comparison::LtS => BranchOp::Bge,
+        Comparison::LtU => BranchOp::Bgeu,
+        Comparison::Eq => BranchOp::Bne,
+        Comparison::Ne => BranchOp::Beq,
+    }
+}
+
+/// Goes to a block where a comparison of two operands holds, and else to another one.
 fn put_branch(
     out: &mut Vec<Line>,
-    r: Place,
+    c: Comparison,
+    a: PlacedOperand,
+    b: PlacedOperand,
     first: u32,
     next: u32,
     one: u32,
     two: u32,
 ) -> Result<(), AllocError>
-    requires place { IsPlace r }
+    requires left { IsOperand a }
+    requires right { IsOperand b }
     requires one { first + one < 2 ^ 32 }
     requires two { first + two < 2 ^ 32 }
-    ensures { OnOk result (Emits out.old.items out.new.items (branch_lines r first next one two)) }
+    ensures { OnOk result (Emits out.old.items out.new.items (branch_lines c a b first next one two)) }
 {
-    put_read(out, r, 5)?;
+    put_operand(out, a, 5)?;
+    put_operand(out, b, 6)?;
+    let (ra, rb) = (register_of_operand(a, 5), register_of_operand(b, 6));
+    put_choice(out, c, ra, rb, first, next, one, two)
+}
+
+fn put_choice(
+    out: &mut Vec<Line>,
+    c: Comparison,
+    ra: u8,
+    rb: u8,
+    first: u32,
+    next: u32,
+    one: u32,
+    two: u32,
+) -> Result<(), AllocError>
+    requires one { first + one < 2 ^ 32 }
+    requires two { first + two < 2 ^ 32 }
+    ensures { OnOk result (Emits out.old.items out.new.items (choice_lines c ra rb first next one two)) }
+{
     if one == next {
-        put_over(out, BranchOp::Bne, source(r, 5), first + two)
+        put_over(out, holding(c), ra, rb, first + two)
     } else {
-        put_over(out, BranchOp::Beq, source(r, 5), first + one)?;
+        put_over(out, failing(c), ra, rb, first + one)?;
         put_jump(out, first, next, two)
     }
 }
 
-/// A far jump, and a branch over it where a register compares to zero.
-fn put_over(out: &mut Vec<Line>, op: BranchOp, r: u8, label: u32) -> Result<(), AllocError>
-    ensures { OnOk result (Emits out.old.items out.new.items (over_lines op r label)) }
+/// A far jump, and a branch over it.
+fn put_over(out: &mut Vec<Line>, op: BranchOp, ra: u8, rb: u8, label: u32) -> Result<(), AllocError>
+    ensures { OnOk result (Emits out.old.items out.new.items (over_lines op ra rb label)) }
 {
-    put(out, Instr::Branch(op, r, 0, 12))?;
+    put(out, Instr::Branch(op, ra, rb, 12))?;
     out.push(Line::Far(0, label))?;
     Ok(())
 }

@@ -2,10 +2,14 @@
 ghost use Rattle.std.specs.Prelude.{◌≡◌, OnOk};
 ghost use Rattle.ckc_frame.specs.WellFormed.{IsPlace};
 ghost use Rattle.ckc_emit.specs.Emitting.{Emits};
-ghost use Rattle.ckc_emit.specs.Lines.{const_lines, copy_lines, bin_lines, apply_lines, operation_of, high_lines, data_load_lines, data_store_lines, test_lines, get_lines, put_lines};
+ghost use Rattle.ckc_emit.specs.Operands.{IsOperand};
+ghost use Rattle.ckc_emit.specs.Lines.{const_lines, copy_lines, bin_lines, form_lines, form_of, number_form as number_form_of, near_form as near_form_of, immediate_lines, ending_lines, apply_lines, operation_of, high_lines, data_load_lines, data_store_lines, test_lines, get_lines, put_lines};
 
-use crate::places::{put_fetch, put_read, put_settle, put_write, source};
-use crate::templates::{put, put_ask, put_check, put_constant};
+use crate::places::{
+    PlacedOperand, put_fetch, put_operand, put_settle, put_take, put_write, register_of_operand,
+    source,
+};
+use crate::templates::{immediate, put, put_ask, put_check, put_constant, upper};
 use ckc_base::{BinOp, Check, Pos, Width};
 use ckc_frame::Place;
 use ckc_lines::Line;
@@ -36,23 +40,130 @@ pub fn put_copy(out: &mut Vec<Line>, t: Place, a: Place) -> Result<(), AllocErro
     }
 }
 
-/// A place gets the value of an operation on two others.
+/// How an operation on a register and an operand is done: by the end of a comparison with zero alone, with an immediate,
+/// or on two registers.
+#[derive(Clone, Copy)]
+pub enum Form {
+    Zero,
+    Immediate(ImmOp, u32),
+    Registers,
+}
+
+fn near_form(op: ImmOp, n: u32) -> Form
+    ensures { result ≡ near_form_of op n }
+{
+    if upper(n) == 0 {
+        Form::Immediate(op, n)
+    } else {
+        Form::Registers
+    }
+}
+
+/// The form of an operation with a number on its right.
+fn number_form(op: BinOp, n: u32) -> Form
+    ensures { result ≡ number_form_of op n }
+{
+    match op {
+        BinOp::Add => near_form(ImmOp::Addi, n),
+        BinOp::Sub => near_form(ImmOp::Addi, n.wrapping_neg()),
+        BinOp::And => near_form(ImmOp::Andi, n),
+        BinOp::Or => near_form(ImmOp::Ori, n),
+        BinOp::Xor => near_form(ImmOp::Xori, n),
+        BinOp::LtS => near_form(ImmOp::Slti, n),
+        BinOp::LtU => near_form(ImmOp::Sltiu, n),
+        BinOp::Shl => Form::Immediate(ImmOp::Slli, n % 32),
+        BinOp::ShrS => Form::Immediate(ImmOp::Srai, n % 32),
+        BinOp::ShrU => Form::Immediate(ImmOp::Srli, n % 32),
+        BinOp::Eq => {
+            if n == 0 {
+                Form::Zero
+            } else {
+                near_form(ImmOp::Addi, n.wrapping_neg())
+            }
+        }
+        BinOp::Ne => {
+            if n == 0 {
+                Form::Zero
+            } else {
+                near_form(ImmOp::Addi, n.wrapping_neg())
+            }
+        }
+        BinOp::Mul | BinOp::DivS | BinOp::DivU | BinOp::RemS | BinOp::RemU => Form::Registers,
+    }
+}
+
+fn form_for(op: BinOp, b: PlacedOperand) -> Form
+    ensures { result ≡ form_of op b }
+{
+    match b {
+        PlacedOperand::At(_) => Form::Registers,
+        PlacedOperand::Number(n) => number_form(op, n),
+    }
+}
+
+/// A place gets the value of an operation on two operands.
 pub fn put_bin(
     out: &mut Vec<Line>,
     op: BinOp,
     t: Place,
-    a: Place,
-    b: Place,
+    a: PlacedOperand,
+    b: PlacedOperand,
 ) -> Result<(), AllocError>
     requires t { IsPlace t }
-    requires a { IsPlace a }
-    requires b { IsPlace b }
+    requires a { IsOperand a }
+    requires b { IsOperand b }
     ensures { OnOk result (Emits out.old.items out.new.items (bin_lines op t a b)) }
 {
-    put_read(out, a, 5)?;
-    put_read(out, b, 6)?;
-    put_apply(out, op, source(t, 5), source(a, 5), source(b, 6))?;
+    put_operand(out, a, 5)?;
+    let how = form_for(op, b);
+    put_form(out, how, op, source(t, 5), register_of_operand(a, 5), b)?;
     put_write(out, t, 5)
+}
+
+fn put_form(
+    out: &mut Vec<Line>,
+    form: Form,
+    op: BinOp,
+    rd: u8,
+    ra: u8,
+    b: PlacedOperand,
+) -> Result<(), AllocError>
+    requires { IsOperand b }
+    ensures { OnOk result (Emits out.old.items out.new.items (form_lines form op rd ra b)) }
+{
+    match form {
+        Form::Zero => put_ending(out, op, rd, ra),
+        Form::Immediate(i, n) => put_immediate(out, i, n, op, rd, ra),
+        Form::Registers => {
+            put_operand(out, b, 6)?;
+            put_apply(out, op, rd, ra, register_of_operand(b, 6))
+        }
+    }
+}
+
+fn put_immediate(
+    out: &mut Vec<Line>,
+    i: ImmOp,
+    n: u32,
+    op: BinOp,
+    rd: u8,
+    ra: u8,
+) -> Result<(), AllocError>
+    ensures { OnOk result (Emits out.old.items out.new.items (immediate_lines i n op rd ra)) }
+{
+    put(out, immediate(i, rd, ra, n))?;
+    put_ending(out, op, rd, rd)
+}
+
+/// The end of a test for equality: whether a difference is zero, or not.
+fn put_ending(out: &mut Vec<Line>, op: BinOp, rd: u8, rs: u8) -> Result<(), AllocError>
+    ensures { OnOk result (Emits out.old.items out.new.items (ending_lines op rd rs)) }
+{
+    match op {
+        BinOp::Eq => put(out, Instr::Imm(ImmOp::Sltiu, rd, rs, 1)),
+        BinOp::Ne => put(out, Instr::Reg(RegOp::Sltu, rd, 0, rs)),
+        _ => Ok(()),
+    }
 }
 
 fn put_apply(out: &mut Vec<Line>, op: BinOp, rd: u8, a: u8, b: u8) -> Result<(), AllocError>
@@ -96,76 +207,85 @@ fn operation(op: BinOp) -> RegOp
     }
 }
 
-/// A place gets the upper word of the product of two others.
+/// A place gets the upper word of the product of two operands.
 pub fn put_high(
     out: &mut Vec<Line>,
     signed: bool,
     t: Place,
-    a: Place,
-    b: Place,
+    a: PlacedOperand,
+    b: PlacedOperand,
 ) -> Result<(), AllocError>
     requires t { IsPlace t }
-    requires a { IsPlace a }
-    requires b { IsPlace b }
+    requires a { IsOperand a }
+    requires b { IsOperand b }
     ensures { OnOk result (Emits out.old.items out.new.items (high_lines signed t a b)) }
 {
     let op = if signed { RegOp::Mulh } else { RegOp::Mulhu };
-    put_read(out, a, 5)?;
-    put_read(out, b, 6)?;
-    put(
-        out,
-        Instr::Reg(op, source(t, 5), source(a, 5), source(b, 6)),
-    )?;
+    put_operand(out, a, 5)?;
+    put_operand(out, b, 6)?;
+    let (ra, rb) = (register_of_operand(a, 5), register_of_operand(b, 6));
+    put(out, Instr::Reg(op, source(t, 5), ra, rb))?;
     put_write(out, t, 5)
 }
 
-/// A place gets the value at an address, which another one has.
+/// A place gets the value at an address, which an operand has.
 pub fn put_data_load(
     out: &mut Vec<Line>,
     width: Width,
     t: Place,
-    a: Place,
+    a: PlacedOperand,
 ) -> Result<(), AllocError>
     requires t { IsPlace t }
-    requires a { IsPlace a }
+    requires a { IsOperand a }
     ensures { OnOk result (Emits out.old.items out.new.items (data_load_lines width t a)) }
 {
     let op = match width {
         Width::Byte => LoadOp::Lbu,
         Width::Word => LoadOp::Lw,
     };
-    put_read(out, a, 5)?;
-    put(out, Instr::Load(op, source(t, 5), source(a, 5), 0))?;
+    put_operand(out, a, 5)?;
+    put(
+        out,
+        Instr::Load(op, source(t, 5), register_of_operand(a, 5), 0),
+    )?;
     put_write(out, t, 5)
 }
 
-/// A value is stored at an address; two places have both.
+/// A value is stored at an address; two operands have both.
 pub fn put_data_store(
     out: &mut Vec<Line>,
     width: Width,
-    a: Place,
-    b: Place,
+    a: PlacedOperand,
+    b: PlacedOperand,
 ) -> Result<(), AllocError>
-    requires a { IsPlace a }
-    requires b { IsPlace b }
+    requires a { IsOperand a }
+    requires b { IsOperand b }
     ensures { OnOk result (Emits out.old.items out.new.items (data_store_lines width a b)) }
 {
     let op = match width {
         Width::Byte => StoreOp::Sb,
         Width::Word => StoreOp::Sw,
     };
-    put_read(out, a, 5)?;
-    put_read(out, b, 6)?;
-    put(out, Instr::Store(op, source(a, 5), source(b, 6), 0))
+    put_operand(out, a, 5)?;
+    put_operand(out, b, 6)?;
+    put(
+        out,
+        Instr::Store(op, register_of_operand(a, 5), register_of_operand(b, 6), 0),
+    )
 }
 
-/// The program stops at a check where a place is zero.
-pub fn put_test(out: &mut Vec<Line>, check: Check, at: Pos, a: Place) -> Result<(), AllocError>
-    requires { IsPlace a }
+/// The program stops at a check where an operand is zero.
+pub fn put_test(
+    out: &mut Vec<Line>,
+    check: Check,
+    at: Pos,
+    a: PlacedOperand,
+) -> Result<(), AllocError>
+    requires { IsOperand a }
     ensures { OnOk result (Emits out.old.items out.new.items (test_lines check at a)) }
 {
-    put_read(out, a, 5)?;
-    put_check(out, source(a, 5), 0, check, at)
+    put_operand(out, a, 5)?;
+    put_check(out, register_of_operand(a, 5), 0, check, at)
 }
 
 /// A place gets the next byte of the input, or -1 at its end.
@@ -177,11 +297,11 @@ pub fn put_get(out: &mut Vec<Line>, t: Place) -> Result<(), AllocError>
     put_settle(out, t, 10)
 }
 
-/// The low byte of a place is put.
-pub fn put_put(out: &mut Vec<Line>, a: Place) -> Result<(), AllocError>
-    requires { IsPlace a }
+/// The low byte of an operand is put.
+pub fn put_put(out: &mut Vec<Line>, a: PlacedOperand) -> Result<(), AllocError>
+    requires { IsOperand a }
     ensures { OnOk result (Emits out.old.items out.new.items (put_lines a)) }
 {
-    put_fetch(out, 10, a)?;
+    put_take(out, 10, a)?;
     put_ask(out, 1)
 }

@@ -3,12 +3,20 @@ ghost use Rattle.std.specs.Prelude.{◌≡◌, ◌<◌, length, All, OnOk};
 ghost use Rattle.ckc_frame.specs.WellFormed.{IsPlace};
 ghost use Rattle.ckc_emit.specs.Emitting.{Emits};
 ghost use Rattle.ckc_emit.specs.CallLines.{place_at};
-ghost use Rattle.ckc_emit.specs.Lines.{register_of, offset_of, source_of, read_lines, write_lines, settle_lines, fetch_lines};
+ghost use Rattle.ckc_emit.specs.Lines.{register_of, offset_of, source_of, register_with, read_lines, operand_lines, write_lines, settle_lines, fetch_lines, take_lines};
+ghost use Rattle.ckc_emit.specs.Operands.{IsOperand};
 
-use crate::templates::{SP, put_load, put_move, put_store};
+use crate::templates::{SP, put_constant, put_load, put_move, put_store};
 use ckc_frame::Place;
 use ckc_lines::Line;
 use std::alloc::AllocError;
+
+/// An operand: the place of a register, or a number.
+#[derive(Clone, Copy)]
+pub enum PlacedOperand {
+    At(Place),
+    Number(u32),
+}
 
 /// The place of a register of placed code.
 pub fn place_in(homes: &[Place], r: usize) -> Place
@@ -90,5 +98,48 @@ pub fn put_fetch(out: &mut Vec<Line>, rd: u8, place: Place) -> Result<(), AllocE
     match place {
         Place::Reg(k) => put_move(out, rd, register(k)),
         Place::Slot(_) => put_load(out, rd, SP, offset(place)),
+    }
+}
+
+/// The register in which an operand's value is after `put_operand`.
+pub fn register_of_operand(operand: PlacedOperand, scratch: u8) -> u8
+    requires { IsOperand operand }
+    ensures { result ≡ register_with operand scratch }
+{
+    match operand {
+        PlacedOperand::At(place) => source(place, scratch),
+        PlacedOperand::Number(n) => { if n == 0 { 0 } else { scratch } }
+    }
+}
+
+/// Loads a slot or a number into a scratch register; a register has its value already, and x0 is 0.
+pub fn put_operand(
+    out: &mut Vec<Line>,
+    operand: PlacedOperand,
+    scratch: u8,
+) -> Result<(), AllocError>
+    requires { IsOperand operand }
+    ensures { OnOk result (Emits out.old.items out.new.items (operand_lines operand scratch)) }
+{
+    match operand {
+        PlacedOperand::At(place) => put_read(out, place, scratch),
+        PlacedOperand::Number(n) => {
+            if n == 0 {
+                Ok(())
+            } else {
+                put_constant(out, scratch, n)
+            }
+        }
+    }
+}
+
+/// Reads an operand into any register.
+pub fn put_take(out: &mut Vec<Line>, rd: u8, operand: PlacedOperand) -> Result<(), AllocError>
+    requires { IsOperand operand }
+    ensures { OnOk result (Emits out.old.items out.new.items (take_lines rd operand)) }
+{
+    match operand {
+        PlacedOperand::At(place) => put_fetch(out, rd, place),
+        PlacedOperand::Number(n) => put_constant(out, rd, n),
     }
 }

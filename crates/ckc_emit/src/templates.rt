@@ -2,7 +2,7 @@
 ghost use Rattle.std.specs.Prelude.{◌≡◌, ◌+◌, ◌*◌, ◌^◌, ◌<◌, ◌∷◌, OnOk, pos};
 ghost use Rattle.ckc_lines.specs.declared.lines.Line.TheVariants as line;
 ghost use Rattle.ckc_emit.specs.Emitting.{Emits};
-ghost use Rattle.ckc_emit.specs.Lines.{add_lower_of, load_lower_of, store_lower_of, load_near_of, store_near_of, over_stop_of, upper_of, lower_of, constant_lines, large_lines, both_lines, far_load_lines, far_store_lines, constant_count as count_of, move_lines, load_lines, store_lines, offset_lines, ask_lines, stop_lines, check_lines};
+ghost use Rattle.ckc_emit.specs.Lines.{add_lower_of, immediate_of, load_lower_of, store_lower_of, load_near_of, store_near_of, over_stop_of, upper_of, lower_of, constant_lines, large_lines, both_lines, far_load_lines, far_store_lines, constant_count as count_of, move_lines, load_lines, store_lines, offset_lines, ask_lines, stop_lines, check_lines};
 
 use ckc_base::{Check, Pos, check_number};
 use ckc_lines::Line;
@@ -41,6 +41,13 @@ fn add_lower(rd: u8, rs: u8, v: u32) -> Instr
     ensures { result ≡ add_lower_of rd rs v }
 {
     Instr::Imm(ImmOp::Addi, rd, rs, lower(v))
+}
+
+/// An operation with the signed rest of a word as immediate.
+pub fn immediate(op: ImmOp, rd: u8, rs: u8, v: u32) -> Instr
+    ensures { result ≡ immediate_of op rd rs v }
+{
+    Instr::Imm(op, rd, rs, lower(v))
 }
 
 fn load_lower(rd: u8, offset: u32) -> Instr

@@ -12,8 +12,8 @@ example keeps = record {
   initial = [];
   funcs = record {
     code = example_main;
-    homes = Reg 5 ∷ Slot 0 ∷ Reg 6 ∷ Slot 1 ∷ [];
-    kept = (keeps ∷ false ∷ false ∷ false ∷ []) ∷ [];
+    homes = Reg 5 ∷ Slot 0 ∷ [];
+    kept = (keeps ∷ false ∷ []) ∷ [];
   }
       ∷ record { code = example_callee; homes = Slot 0 ∷ Reg 5 ∷ []; kept = [] } ∷ [];
   main = 0;

@@ -14,7 +14,7 @@ use Rattle.ckc_tac.specs.declared.code.TacOp.{TacOp}
 use Rattle.ckc_tac.specs.declared.code.TacOp.TheVariants.{Call}
 use Rattle.ckc_tac.specs.declared.code.TacEnd.{TacEnd}
 use Rattle.ckc_tac.specs.declared.code.TacEnd.TheVariants.{Jump, Branch, Return}
-use Rattle.ckc_tac.specs.Operations.{outcome_of, values_in}
+use Rattle.ckc_tac.specs.Operations.{outcome_of, value_in, values_in, compared}
 use Rattle.ckc_tac.specs.Meaning.{extra_steps}
 use Rattle.ckc_frame.specs.declared.code.Place.{Place}
 use Rattle.ckc_frame.specs.declared.code.Placed.{Placed}
@@ -142,8 +142,9 @@ operates functions s ops op = goes_by s ops (outcome_of (registers_of s.frame) s
 
 abbrev pub ends : State → TacEnd → Move LongEvent State
 ends s (Jump to) = goes_to s to (slice_get s.frame.function.code.blocks to)
-ends s (Branch r one two) = branches s one two (registers_of s.frame r)
-ends s (Return r) = returns s s.callers (registers_of s.frame r)
+ends s (Branch comparison a b one two) =
+    branches s one two (compared comparison (value_in (registers_of s.frame) a) (value_in (registers_of s.frame) b))
+ends s (Return a) = returns s s.callers (value_in (registers_of s.frame) a)
 
 abbrev pub runs : List PlacedFunc → State → List TacOp → Move LongEvent State
 runs functions s [] = ends s s.frame.end

@@ -1,18 +1,19 @@
 -- What a builder has grows at its end alone.
 use Rattle.std.proofs.Common.{◌≡◌, ℕ, ◌+◌, List, [], ◌∷◌, ◌++◌, length, length-append, append_assoc, append-nil, refl, sym, ◌∙◌, ap, arith}
-use Rattle.std.specs.Prelude.{Option, Some, None}
+use Rattle.std.specs.Prelude.{false, Option, Some, None}
 use Rattle.ckc_base.specs.Follows.{IsPrefix}
 use Rattle.ckc_base.proofs.Following.{prefix_trans}
 use Rattle.ckc_core.specs.Code.{Expr, Const, Local, Load, Bin, High, Code, End, Set, Store, Check, Call, Get, Put, Alloc, If, Loop, Break, Continue, Return}
+use Rattle.ckc_tac.specs.declared.code.Operand.{Operand}
 use Rattle.ckc_tac.specs.declared.code.TacOp.{TacOp}
 use Rattle.ckc_tac.specs.declared.code.TacOp.TheVariants as op
 use Rattle.ckc_tac.specs.declared.code.TacEnd.{TacEnd}
 use Rattle.ckc_tac.specs.declared.code.TacEnd.TheVariants as ends
 use Rattle.ckc_lower.specs.declared.builder.Builder.{Builder}
 use Rattle.ckc_lower.specs.declared.builder.Targets.{Targets}
-use Rattle.ckc_lower.specs.Built.{free_from, target_of, register_of, registers_of, with_op, with_temporary, with_value, with_values, block_count, with_end, stored, used, forked, join_of, entered, step_at, targets_of, built}
+use Rattle.ckc_lower.specs.Built.{free_from, target_of, operand_of, registers_of, with_op, with_temporary, with_value, with_values, block_count, with_end, stored, used, forked, join_of, entered, step_at, targets_of, built, bin_of, free_past, with_register, Test, test_of, branch_of}
 use Rattle.ckc_lower.proofs.Values.{value_ops}
-use Rattle.ckc_lower.proofs.Arguments.{values_ops}
+use Rattle.ckc_lower.proofs.Arguments.{register_ops, values_ops}
 
 -- ---- expressions
 
@@ -29,30 +30,32 @@ in_turn : (old first second all : List TacOp) → all ≡ (old ++ first) ++ seco
 in_turn old first second all e = e ∙ append_assoc old first second
 
 pub value-ops : (e : Expr) (want : Option ℕ) (t : ℕ) (b : Builder) → (with_value e want t b).ops ≡ b.ops ++ value_ops e want t
-value-ops (Const n) want t b = ap (λ x. x ++ op.Const (target_of want t) n ∷ []) (temporary-ops want t b)
+value-ops (Const n) (Some d) t b = refl
+value-ops (Const n) None t b = sym (append-nil b.ops)
 value-ops (Local x) (Some d) t b = refl
 value-ops (Local x) None t b = sym (append-nil b.ops)
 value-ops (Load width a) want t b =
-    let last = op.Load width (target_of want t) (register_of a None t) ∷ [] in
+    let last = op.Load width (target_of want t) (operand_of a None t) ∷ [] in
     in_turn b.ops (value_ops a None t) last (with_value (Load width a) want t b).ops
     (ap (λ x. x ++ last) (temporary-ops want t (with_value a None t b) ∙ value-ops a None t b))
 value-ops (Bin o p q) want t b =
     let u = free_from p t in
-    let last = op.Bin o (target_of want t) (register_of p None t) (register_of q None u) ∷ [] in
+    let last = bin_of o (target_of want t) (operand_of p None t) (operand_of q None u) ∷ [] in
     let first = with_value p None t b in
     in_turn b.ops (value_ops p None t) (value_ops q None u ++ last) (with_value (Bin o p q) want t b).ops
     (in_turn (b.ops ++ value_ops p None t) (value_ops q None u) last (with_value (Bin o p q) want t b).ops
     (ap (λ x. x ++ last) (temporary-ops want t (with_value q None u first) ∙ value-ops q None u first ∙ ap (λ x. x ++ value_ops q None u) (value-ops p None t b))))
 value-ops (High s p q) want t b =
     let u = free_from p t in
-    let last = op.High s (target_of want t) (register_of p None t) (register_of q None u) ∷ [] in
+    let last = op.High s (target_of want t) (operand_of p None t) (operand_of q None u) ∷ [] in
     let first = with_value p None t b in
     in_turn b.ops (value_ops p None t) (value_ops q None u ++ last) (with_value (High s p q) want t b).ops
     (in_turn (b.ops ++ value_ops p None t) (value_ops q None u) last (with_value (High s p q) want t b).ops
     (ap (λ x. x ++ last) (temporary-ops want t (with_value q None u first) ∙ value-ops q None u first ∙ ap (λ x. x ++ value_ops q None u) (value-ops p None t b))))
 
 pub value-blocks : (e : Expr) (want : Option ℕ) (t : ℕ) (b : Builder) → (with_value e want t b).blocks ≡ b.blocks
-value-blocks (Const n) want t b = temporary-blocks want t b
+value-blocks (Const n) (Some d) t b = refl
+value-blocks (Const n) None t b = refl
 value-blocks (Local x) (Some d) t b = refl
 value-blocks (Local x) None t b = refl
 value-blocks (Load width a) want t b = temporary-blocks want t (with_value a None t b) ∙ value-blocks a None t b
@@ -63,37 +66,68 @@ value-blocks (High s p q) want t b =
     temporary-blocks want t (with_value q None (free_from p t) (with_value p None t b))
     ∙ value-blocks q None (free_from p t) (with_value p None t b) ∙ value-blocks p None t b
 
+register-ops : (e : Expr) (t : ℕ) (b : Builder) → (with_register e t b).ops ≡ b.ops ++ register_ops e t
+register-ops (Const n) t b = refl
+register-ops (Local x) t b = value-ops (Local x) None t b
+register-ops (Load width a) t b = value-ops (Load width a) None t b
+register-ops (Bin o p q) t b = value-ops (Bin o p q) None t b
+register-ops (High s p q) t b = value-ops (High s p q) None t b
+
+register-blocks : (e : Expr) (t : ℕ) (b : Builder) → (with_register e t b).blocks ≡ b.blocks
+register-blocks (Const n) t b = refl
+register-blocks (Local x) t b = refl
+register-blocks (Load width a) t b = value-blocks (Load width a) None t b
+register-blocks (Bin o p q) t b = value-blocks (Bin o p q) None t b
+register-blocks (High s p q) t b = value-blocks (High s p q) None t b
+
 pub values-ops : (es : List Expr) (t : ℕ) (b : Builder) → (with_values es t b).ops ≡ b.ops ++ values_ops es t
 values-ops [] t b = sym (append-nil b.ops)
 values-ops (e ∷ es) t b =
-    in_turn b.ops (value_ops e None t) (values_ops es (free_from e t)) (with_values (e ∷ es) t b).ops
-    (values-ops es (free_from e t) (with_value e None t b) ∙ ap (λ x. x ++ values_ops es (free_from e t)) (value-ops e None t b))
+    in_turn b.ops (register_ops e t) (values_ops es (free_past e t)) (with_values (e ∷ es) t b).ops
+    (values-ops es (free_past e t) (with_register e t b) ∙ ap (λ x. x ++ values_ops es (free_past e t)) (register-ops e t b))
 
 pub values-blocks : (es : List Expr) (t : ℕ) (b : Builder) → (with_values es t b).blocks ≡ b.blocks
 values-blocks [] t b = refl
-values-blocks (e ∷ es) t b = values-blocks es (free_from e t) (with_value e None t b) ∙ value-blocks e None t b
+values-blocks (e ∷ es) t b = values-blocks es (free_past e t) (with_register e t b) ∙ register-blocks e t b
 
 -- ---- statements
 
-pub stored-ops : (t : ℕ) (a e : Expr) (o : ℕ → ℕ → TacOp) (b : Builder) → (stored t a e o b).ops
-    ≡ b.ops ++ (value_ops a None t ++ (value_ops e None (free_from a t) ++ o (register_of a None t) (register_of e None (free_from a t)) ∷ []))
+pub stored-ops : (t : ℕ) (a e : Expr) (o : Operand → Operand → TacOp) (b : Builder) → (stored t a e o b).ops
+    ≡ b.ops ++ (value_ops a None t ++ (value_ops e None (free_from a t) ++ o (operand_of a None t) (operand_of e None (free_from a t)) ∷ []))
 stored-ops t a e o b =
     let u = free_from a t in
-    let last = o (register_of a None t) (register_of e None u) ∷ [] in
+    let last = o (operand_of a None t) (operand_of e None u) ∷ [] in
     let first = with_value a None t b in
     in_turn b.ops (value_ops a None t) (value_ops e None u ++ last) (stored t a e o b).ops
     (in_turn (b.ops ++ value_ops a None t) (value_ops e None u) last (stored t a e o b).ops
     (ap (λ x. x ++ last) (value-ops e None u first ∙ ap (λ x. x ++ value_ops e None u) (value-ops a None t b))))
 
-pub stored-blocks : (t : ℕ) (a e : Expr) (o : ℕ → ℕ → TacOp) (b : Builder) → (stored t a e o b).blocks ≡ b.blocks
+pub stored-blocks : (t : ℕ) (a e : Expr) (o : Operand → Operand → TacOp) (b : Builder) → (stored t a e o b).blocks ≡ b.blocks
 stored-blocks t a e o b = value-blocks e None (free_from a t) (with_value a None t b) ∙ value-blocks a None t b
 
-pub used-ops : (t : ℕ) (e : Expr) (o : ℕ → TacOp) (b : Builder) → (used t e o b).ops ≡ b.ops ++ (value_ops e None t ++ o (register_of e None t) ∷ [])
+pub used-ops : (t : ℕ) (e : Expr) (o : Operand → TacOp) (b : Builder) → (used t e o b).ops ≡ b.ops ++ (value_ops e None t ++ o (operand_of e None t) ∷ [])
 used-ops t e o b =
-    in_turn b.ops (value_ops e None t) (o (register_of e None t) ∷ []) (used t e o b).ops (ap (λ x. x ++ o (register_of e None t) ∷ []) (value-ops e None t b))
+    in_turn b.ops (value_ops e None t) (o (operand_of e None t) ∷ []) (used t e o b).ops (ap (λ x. x ++ o (operand_of e None t) ∷ []) (value-ops e None t b))
 
-pub used-blocks : (t : ℕ) (e : Expr) (o : ℕ → TacOp) (b : Builder) → (used t e o b).blocks ≡ b.blocks
+pub used-blocks : (t : ℕ) (e : Expr) (o : Operand → TacOp) (b : Builder) → (used t e o b).blocks ≡ b.blocks
 used-blocks t e o b = value-blocks e None t b
+
+-- the operations of both sides of a test
+abbrev pub test_ops : ℕ → Test → List TacOp
+test_ops t s = value_ops s.left None t ++ value_ops s.right None (free_from s.left t)
+
+-- a builder that has computed both sides of a test
+abbrev pub sides : ℕ → Test → Builder → Builder
+sides t s b = with_value s.right None (free_from s.left t) (with_value s.left None t b)
+
+pub sides-ops : (t : ℕ) (s : Test) (b : Builder) → (sides t s b).ops ≡ b.ops ++ test_ops t s
+sides-ops t s b =
+    let u = free_from s.left t in
+    in_turn b.ops (value_ops s.left None t) (value_ops s.right None u) (sides t s b).ops
+    (value-ops s.right None u (with_value s.left None t b) ∙ ap (λ x. x ++ value_ops s.right None u) (value-ops s.left None t b))
+
+pub sides-blocks : (t : ℕ) (s : Test) (b : Builder) → (sides t s b).blocks ≡ b.blocks
+sides-blocks t s b = value-blocks s.right None (free_from s.left t) (with_value s.left None t b) ∙ value-blocks s.left None t b
 
 -- an ended block is one block more
 pub ended-blocks : (b : Builder) (end : TacEnd) → IsPrefix b.blocks (with_end b end).blocks
@@ -105,7 +139,7 @@ same_blocks b c e = ([], e ∙ sym (append-nil b.blocks))
 -- the blocks that stand before stay the first ones
 pub built-blocks : (t : ℕ) (code : Code) (exit : Option ℕ) (loop : Option Targets) (b : Builder) → IsPrefix b.blocks (built t code exit loop b).blocks
 built-blocks t End (Some to) loop b = ended-blocks b _
-built-blocks t End None loop b = ended-blocks (with_op (with_temporary None t b) (op.Const t 0)) _
+built-blocks t End None loop b = ended-blocks b _
 built-blocks t (Set x e rest) exit loop b =
     let c = with_value e (Some x) t b in
     prefix_trans b.blocks c.blocks (built t rest exit loop c).blocks (same_blocks b c (value-blocks e (Some x) t b)) (built-blocks t rest exit loop c)
@@ -126,12 +160,12 @@ built-blocks t (Alloc x e size rest) exit loop b =
     let c = used t e (λ r. op.Alloc x r size) b in
     prefix_trans b.blocks c.blocks (built t rest exit loop c).blocks (same_blocks b c (used-blocks t e (λ r. op.Alloc x r size) b)) (built-blocks t rest exit loop c)
 built-blocks t (If e one two rest) exit loop b =
-    let v = with_value e None t b in
+    let v = sides t (test_of e false) b in
     let c = forked t e one two b in
     let d = built t one (Some (join_of one two b)) loop c in
     let f = built t two (Some (join_of one two b)) loop d in
     let g = built t rest exit loop f in
-    prefix_trans b.blocks v.blocks g.blocks (same_blocks b v (value-blocks e None t b))
+    prefix_trans b.blocks v.blocks g.blocks (same_blocks b v (sides-blocks t (test_of e false) b))
     (prefix_trans v.blocks c.blocks g.blocks (ended-blocks v _)
     (prefix_trans c.blocks d.blocks g.blocks (built-blocks t one (Some (join_of one two b)) loop c)
     (prefix_trans d.blocks f.blocks g.blocks (built-blocks t two (Some (join_of one two b)) loop d) (built-blocks t rest exit loop f))))
@@ -172,7 +206,7 @@ ended-length b end = length-append b.blocks (record { ops = b.ops; end = end } �
 -- so many blocks are ended as are counted
 pub built-length : (t : ℕ) (code : Code) (exit : Option ℕ) (loop : Option Targets) (b : Builder) → length (built t code exit loop b).blocks ≡ length b.blocks + block_count code
 built-length t End (Some to) loop b = ended-length b _
-built-length t End None loop b = ended-length (with_op (with_temporary None t b) (op.Const t 0)) _
+built-length t End None loop b = ended-length b _
 built-length t (Set x e rest) exit loop b =
     built-length t rest exit loop _ ∙ ap (λ x. length x + block_count rest) (value-blocks e (Some x) t b)
 built-length t (Store width a e rest) exit loop b =
@@ -189,8 +223,9 @@ built-length t (Alloc x e size rest) exit loop b =
 built-length t (If e one two rest) exit loop b =
     let join = Some (join_of one two b) in
     let c = forked t e one two b in
-    let fork : TacEnd = ends.Branch (register_of e None t) (length b.blocks + 1) (length b.blocks + 1 + block_count one) in
-    let first : length c.blocks ≡ length b.blocks + 1 = ended-length (with_value e None t b) fork ∙ ap (λ x. length x + 1) (value-blocks e None t b) in
+    let s = test_of e false in
+    let fork = branch_of s t (length b.blocks + 1) (length b.blocks + 1 + block_count one) in
+    let first : length c.blocks ≡ length b.blocks + 1 = ended-length (sides t s b) fork ∙ ap (λ x. length x + 1) (sides-blocks t s b) in
     let second = built-length t one join loop c in
     let third = built-length t two join loop (built t one join loop c) in
     let fourth = built-length t rest exit loop (built t two join loop (built t one join loop c)) in

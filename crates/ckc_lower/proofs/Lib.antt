@@ -1,6 +1,7 @@
 pub mod Parts
 pub mod Values
 pub mod Arguments
+pub mod Conditions
 pub mod Relation
 pub mod Steps
 pub mod Appending

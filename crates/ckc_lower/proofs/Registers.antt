@@ -1,16 +1,18 @@
 -- How many registers what is built uses.
 use Rattle.std.proofs.Common.{ℕ, ◌+◌, ◌≤◌, List, [], ◌∷◌, length, arith}
-use Rattle.std.specs.Prelude.{Option, Some, None, map, All}
+use Rattle.std.specs.Prelude.{false, Option, Some, None, map, All}
 use Rattle.std.proofs.lemmas.List.Elements.{All-nil, All-cons, All-head, All-tail}
 use Rattle.ckc_core.specs.Code.{Expr, Const, Local, Load, Bin, High, Code, End, Set, Store, Check, Call, Get, Put, Alloc, If, Loop, Break, Continue, Return, Function, Program}
 use Rattle.ckc_core.specs.Limits.{depth, IsShallow, KeepsLimits, IsSmallFunction, IsWithinLimits}
 use Rattle.ckc_tac.specs.declared.code.TacFunc.{TacFunc}
+use Rattle.ckc_tac.specs.declared.code.Operand.{Operand}
 use Rattle.ckc_tac.specs.declared.code.TacOp.{TacOp}
 use Rattle.ckc_tac.specs.declared.code.TacOp.TheVariants as op
 use Rattle.ckc_tac.specs.WellFormed.{HasFewRegisters}
 use Rattle.ckc_lower.specs.declared.builder.Builder.{Builder}
 use Rattle.ckc_lower.specs.declared.builder.Targets.{Targets}
-use Rattle.ckc_lower.specs.Built.{free_from, registers_of, with_op, with_temporary, with_value, with_values, stored, used, forked, join_of, entered, step_at, targets_of, built}
+use Rattle.ckc_lower.specs.Built.{free_from, registers_of, with_op, with_temporary, with_value, with_values, stored, used, forked, join_of, entered, step_at, targets_of, built, free_past, with_register, Test, test_of, tested, block_count}
+use Rattle.ckc_lower.proofs.Conditions.{within}
 use Rattle.ckc_lower.specs.Lowered.{empty, lowered_function, lowered}
 
 -- ---- no register is given back
@@ -20,7 +22,8 @@ temporary-more (Some d) t b = omega arith
 temporary-more None t b = omega arith
 
 pub value-more : (e : Expr) (want : Option ℕ) (t : ℕ) (b : Builder) → b.regs ≤ (with_value e want t b).regs
-value-more (Const n) want t b = temporary-more want t b
+value-more (Const n) (Some d) t b = omega arith
+value-more (Const n) None t b = omega arith
 value-more (Local x) (Some d) t b = omega arith
 value-more (Local x) None t b = omega arith
 value-more (Load width a) want t b = omega (arith, value-more a None t b, temporary-more want t (with_value a None t b))
@@ -33,16 +36,26 @@ value-more (High s p q) want t b =
     let c = with_value p None t b in
     omega (arith, value-more p None t b, value-more q None u c, temporary-more want t (with_value q None u c))
 
+register-more : (e : Expr) (t : ℕ) (b : Builder) → b.regs ≤ (with_register e t b).regs
+register-more (Const n) t b = temporary-more None t b
+register-more (Local x) t b = omega arith
+register-more (Load width a) t b = value-more (Load width a) None t b
+register-more (Bin o p q) t b = value-more (Bin o p q) None t b
+register-more (High s p q) t b = value-more (High s p q) None t b
+
 pub values-more : (es : List Expr) (t : ℕ) (b : Builder) → b.regs ≤ (with_values es t b).regs
 values-more [] t b = omega arith
-values-more (e ∷ es) t b = omega (arith, value-more e None t b, values-more es (free_from e t) (with_value e None t b))
+values-more (e ∷ es) t b = omega (arith, register-more e t b, values-more es (free_past e t) (with_register e t b))
 
-pub stored-more : (t : ℕ) (a e : Expr) (o : ℕ → ℕ → TacOp) (b : Builder) → b.regs ≤ (stored t a e o b).regs
+pub stored-more : (t : ℕ) (a e : Expr) (o : Operand → Operand → TacOp) (b : Builder) → b.regs ≤ (stored t a e o b).regs
 stored-more t a e o b = omega (arith, value-more a None t b, value-more e None (free_from a t) (with_value a None t b))
+
+pub tested-more : (t : ℕ) (s : Test) (one two : ℕ) (b : Builder) → b.regs ≤ (tested t s one two b).regs
+tested-more t s one two b = omega (arith, value-more s.left None t b, value-more s.right None (free_from s.left t) (with_value s.left None t b))
 
 pub built-more : (t : ℕ) (code : Code) (exit : Option ℕ) (loop : Option Targets) (b : Builder) → b.regs ≤ (built t code exit loop b).regs
 built-more t End (Some to) loop b = omega arith
-built-more t End None loop b = temporary-more None t b
+built-more t End None loop b = omega arith
 built-more t (Set x e rest) exit loop b = omega (arith, value-more e (Some x) t b, built-more t rest exit loop (with_value e (Some x) t b))
 built-more t (Store width a e rest) exit loop b =
     omega (arith, stored-more t a e (op.Store width) b, built-more t rest exit loop (stored t a e (op.Store width) b))
@@ -58,7 +71,8 @@ built-more t (If e one two rest) exit loop b =
     let join = Some (join_of one two b) in
     let c = forked t e one two b in
     let d = built t one join loop c in
-    omega (arith, value-more e None t b, built-more t one join loop c, built-more t two join loop d, built-more t rest exit loop (built t two join loop d))
+    let first = tested-more t (test_of e false) (length b.blocks + 1) (length b.blocks + 1 + block_count one) b in
+    omega (arith, first, built-more t one join loop c, built-more t two join loop d, built-more t rest exit loop (built t two join loop d))
 built-more t (Loop body step rest) exit loop b =
     let head = Some (length b.blocks + 1) in
     let c = entered b in
@@ -69,13 +83,6 @@ built-more t (Continue rest) exit loop b = omega arith
 built-more t (Return e rest) exit loop b = value-more e None t b
 
 -- ---- there are few registers
-
-some_depth : (e : Expr) → 1 ≤ depth e
-some_depth (Const n) = omega arith
-some_depth (Local x) = omega arith
-some_depth (Load width a) = omega arith
-some_depth (Bin o p q) = omega arith
-some_depth (High s p q) = omega arith
 
 pub free_at_most : (e : Expr) (t : ℕ) → free_from e t ≤ t + 1
 free_at_most (Const n) t = omega arith
@@ -89,7 +96,8 @@ temporary-few most (Some d) t b h few = few
 temporary-few most None t b h few = omega arith
 
 value-few : (most : ℕ) (e : Expr) (want : Option ℕ) (t : ℕ) (b : Builder) → t + depth e ≤ most → b.regs ≤ most → (with_value e want t b).regs ≤ most
-value-few most (Const n) want t b h few = temporary-few most want t b h few
+value-few most (Const n) (Some d) t b h few = few
+value-few most (Const n) None t b h few = few
 value-few most (Local x) (Some d) t b h few = few
 value-few most (Local x) None t b h few = few
 value-few most (Load width a) want t b h few =
@@ -105,16 +113,37 @@ value-few most (High s p q) want t b h few =
     temporary-few most want t (with_value q None u c) (omega arith)
     (value-few most q None u c (omega (arith, free_at_most p t)) (value-few most p None t b (omega arith) few))
 
+past_at_most : (e : Expr) (t : ℕ) → free_past e t ≤ t + 1
+past_at_most (Const n) t = omega arith
+past_at_most (Local x) t = omega arith
+past_at_most (Load width a) t = omega arith
+past_at_most (Bin o p q) t = omega arith
+past_at_most (High s p q) t = omega arith
+
+register-few : (most : ℕ) (e : Expr) (t : ℕ) (b : Builder) → t + depth e ≤ most → b.regs ≤ most → (with_register e t b).regs ≤ most
+register-few most (Const n) t b h few = temporary-few most None t b h few
+register-few most (Local x) t b h few = few
+register-few most (Load width a) t b h few = value-few most (Load width a) None t b h few
+register-few most (Bin o p q) t b h few = value-few most (Bin o p q) None t b h few
+register-few most (High s p q) t b h few = value-few most (High s p q) None t b h few
+
+tested-few : (e : Expr) (t one two : ℕ) (b : Builder) → t + depth e + 1 ≤ 4064 → b.regs ≤ 4064 → (tested t (test_of e false) one two b).regs ≤ 4064
+tested-few e t one two b h few =
+    let s = test_of e false in
+    let w = within e false in
+    value-few 4064 s.right None (free_from s.left t) (with_value s.left None t b) (omega (arith, w.right_depth, free_at_most s.left t))
+    (value-few 4064 s.left None t b (omega (arith, w.left_depth)) few)
+
 values-few : (es : List Expr) (t : ℕ) (b : Builder) → t + length es ≤ 2255 → All IsShallow es → b.regs ≤ 4064 → (with_values es t b).regs ≤ 4064
 values-few [] t b h all few = few
 values-few (e ∷ es) t b h all few =
     let shallow : depth e ≤ 1000 = All-head IsShallow e es all in
-    values-few es (free_from e t) (with_value e None t b) (omega (arith, free_at_most e t)) (All-tail IsShallow e es all)
-    (value-few 4064 e None t b (omega arith) few)
+    values-few es (free_past e t) (with_register e t b) (omega (arith, past_at_most e t)) (All-tail IsShallow e es all)
+    (register-few 4064 e t b (omega arith) few)
 
 built-few : (t : ℕ) → t ≤ 2000 → (code : Code) (exit : Option ℕ) (loop : Option Targets) (b : Builder) → KeepsLimits code → b.regs ≤ 4064 → (built t code exit loop b).regs ≤ 4064
 built-few t l End (Some to) loop b k few = few
-built-few t l End None loop b k few = temporary-few 4064 None t b (omega arith) few
+built-few t l End None loop b k few = few
 built-few t l (Set x e rest) exit loop b k few =
     built-few t l rest exit loop (with_value e (Some x) t b) k.1 (value-few 4064 e (Some x) t b (omega (arith, k.0)) few)
 built-few t l (Store width a e rest) exit loop b k few =
@@ -135,7 +164,8 @@ built-few t l (If e one two rest) exit loop b k few =
     let c = forked t e one two b in
     let d = built t one join loop c in
     built-few t l rest exit loop (built t two join loop d) k.3
-    (built-few t l two join loop d k.2 (built-few t l one join loop c k.1 (value-few 4064 e None t b (omega (arith, k.0)) few)))
+    (built-few t l two join loop d k.2 (built-few t l one join loop c k.1
+    (tested-few e t (length b.blocks + 1) (length b.blocks + 1 + block_count one) b (omega (arith, k.0)) few)))
 built-few t l (Loop body step rest) exit loop b k few =
     let head = Some (length b.blocks + 1) in
     let c = entered b in

@@ -1,30 +1,32 @@
 -- How states of core code and of its three-address code are related.
 use Rattle.std.proofs.Common.{◌≡◌, ℕ, List, [], ◌∷◌, ◌++◌}
-use Rattle.std.specs.Prelude.{Option, Some, None, slice_get, All}
+use Rattle.std.specs.Prelude.{false, Option, Some, None, slice_get, All}
 use Rattle.ckc_core.specs.Code.{Code, End, Set, Store, Check, Call, Get, Put, Alloc, If, Loop, Break, Continue, Return, Function}
 use Rattle.ckc_core.specs.Meaning.{Rest, Stop, Next, Body, Step}
 use Rattle.ckc_core.specs.Meaning as C
 use Rattle.ckc_core.specs.WellFormed.{IsExprOver}
 use Rattle.ckc_tac.specs.declared.code.TacFunc.{TacFunc}
 use Rattle.ckc_tac.specs.declared.code.TacBlock.{TacBlock}
+use Rattle.ckc_tac.specs.declared.code.Operand.TheVariants.{Number}
 use Rattle.ckc_tac.specs.declared.code.TacOp.{TacOp}
 use Rattle.ckc_tac.specs.declared.code.TacOp.TheVariants as op
 use Rattle.ckc_tac.specs.declared.code.TacEnd.{TacEnd}
 use Rattle.ckc_tac.specs.declared.code.TacEnd.TheVariants as ends
 use Rattle.ckc_tac.specs.Meaning as T
 use Rattle.ckc_lower.specs.declared.builder.Targets.{Targets}
-use Rattle.ckc_lower.specs.Built.{free_from, register_of, registers_of, out_of, step_of}
+use Rattle.ckc_lower.specs.Built.{free_from, operand_of, registers_of, out_of, step_of, test_of, branch_of}
 use Rattle.ckc_lower.proofs.Values.{value_ops, Agree}
 use Rattle.ckc_lower.proofs.Arguments.{values_ops}
+use Rattle.ckc_lower.proofs.Appending.{test_ops}
 
 -- there is a block with the number, and this holds of its operations and its end
 abbrev pub At : List TacBlock → ℕ → (List TacOp → TacEnd → Type 0) → Type 0
 At blocks i P = (block : TacBlock) × (slice_get blocks i ≡ Some block) × P block.ops block.end
 
 -- the end of a list of statements: a jump, or the return of 0
-abbrev pub Leaves : ℕ → List TacOp → TacEnd → Option ℕ → Type 0
-Leaves t ops end (Some to) = (ops ≡ []) × (end ≡ ends.Jump to)
-Leaves t ops end None = (ops ≡ op.Const t 0 ∷ []) × (end ≡ ends.Return t)
+abbrev pub Leaves : List TacOp → TacEnd → Option ℕ → Type 0
+Leaves ops end (Some to) = (ops ≡ []) × (end ≡ ends.Jump to)
+Leaves ops end None = (ops ≡ []) × (end ≡ ends.Return (Number 0))
 
 abbrev pub loop_of : (out step : ℕ) → Option Targets
 loop_of out step = Some (record { out = out; step = step })
@@ -32,15 +34,15 @@ loop_of out step = Some (record { out = out; step = step })
 -- From these operations and this end on the blocks run the code, over t locals: behind it they go to the exit, and out of
 -- the innermost loop where it says.
 abbrev pub Runs : List TacBlock → ℕ → Code → List TacOp → TacEnd → Option ℕ → Option Targets → Type 0
-Runs blocks t End ops end exit loop = Leaves t ops end exit
+Runs blocks t End ops end exit loop = Leaves ops end exit
 Runs blocks t (Set x e rest) ops end exit loop =
     (more : List TacOp) × (ops ≡ value_ops e (Some x) t ++ more) × IsExprOver t e × Runs blocks t rest more end exit loop
 Runs blocks t (Store width a e rest) ops end exit loop =
     (more : List TacOp)
-    × (ops ≡ value_ops a None t ++ (value_ops e None (free_from a t) ++ (op.Store width (register_of a None t) (register_of e None (free_from a t)) ∷ more)))
+    × (ops ≡ value_ops a None t ++ (value_ops e None (free_from a t) ++ (op.Store width (operand_of a None t) (operand_of e None (free_from a t)) ∷ more)))
     × IsExprOver t a × IsExprOver t e × Runs blocks t rest more end exit loop
 Runs blocks t (Check check place e rest) ops end exit loop =
-    (more : List TacOp) × (ops ≡ value_ops e None t ++ (op.Check check place (register_of e None t) ∷ more)) × IsExprOver t e
+    (more : List TacOp) × (ops ≡ value_ops e None t ++ (op.Check check place (operand_of e None t) ∷ more)) × IsExprOver t e
     × Runs blocks t rest more end exit loop
 Runs blocks t (Call target callee es place rest) ops end exit loop =
     (more : List TacOp) × (ops ≡ values_ops es t ++ (op.Call target callee (registers_of es t) place ∷ more)) × All (IsExprOver t) es
@@ -48,13 +50,13 @@ Runs blocks t (Call target callee es place rest) ops end exit loop =
 Runs blocks t (Get x rest) ops end exit loop =
     (more : List TacOp) × (ops ≡ op.Get x ∷ more) × Runs blocks t rest more end exit loop
 Runs blocks t (Put e rest) ops end exit loop =
-    (more : List TacOp) × (ops ≡ value_ops e None t ++ (op.Put (register_of e None t) ∷ more)) × IsExprOver t e
+    (more : List TacOp) × (ops ≡ value_ops e None t ++ (op.Put (operand_of e None t) ∷ more)) × IsExprOver t e
     × Runs blocks t rest more end exit loop
 Runs blocks t (Alloc x e size rest) ops end exit loop =
-    (more : List TacOp) × (ops ≡ value_ops e None t ++ (op.Alloc x (register_of e None t) size ∷ more)) × IsExprOver t e
+    (more : List TacOp) × (ops ≡ value_ops e None t ++ (op.Alloc x (operand_of e None t) size ∷ more)) × IsExprOver t e
     × Runs blocks t rest more end exit loop
 Runs blocks t (If e one two rest) ops end exit loop =
-    (one_at two_at join : ℕ) × (ops ≡ value_ops e None t) × (end ≡ ends.Branch (register_of e None t) one_at two_at) × IsExprOver t e
+    (one_at two_at join : ℕ) × (ops ≡ test_ops t (test_of e false)) × (end ≡ branch_of (test_of e false) t one_at two_at) × IsExprOver t e
     × At blocks one_at (λ ops end. Runs blocks t one ops end (Some join) loop)
     × At blocks two_at (λ ops end. Runs blocks t two ops end (Some join) loop)
     × At blocks join (λ ops end. Runs blocks t rest ops end exit loop)
@@ -66,7 +68,7 @@ Runs blocks t (Loop body step rest) ops end exit loop =
 Runs blocks t (Break rest) ops end exit loop = (ops ≡ []) × (end ≡ ends.Jump (out_of loop))
 Runs blocks t (Continue rest) ops end exit loop = (ops ≡ []) × (end ≡ ends.Jump (step_of loop))
 Runs blocks t (Return e rest) ops end exit loop =
-    (ops ≡ value_ops e None t) × (end ≡ ends.Return (register_of e None t)) × IsExprOver t e
+    (ops ≡ value_ops e None t) × (end ≡ ends.Return (operand_of e None t)) × IsExprOver t e
 
 abbrev pub RunsAt : List TacBlock → ℕ → ℕ → Code → Option ℕ → Option Targets → Type 0
 RunsAt blocks t i code exit loop = At blocks i (λ ops end. Runs blocks t code ops end exit loop)

@@ -1,13 +1,15 @@
 -- The size of what is built is at most that of the code.
 use Rattle.std.proofs.Common.{◌≡◌, ℕ, ◌+◌, ◌≤◌, List, [], ◌∷◌, ◌++◌, length, refl, ◌∙◌, ap, arith}
-use Rattle.std.specs.Prelude.{Bool, Option, Some, None, sum_by, map}
+use Rattle.std.specs.Prelude.{Bool, true, false, ◌&&◌, if◌then◌else◌, Option, Some, None, sum_by, map}
 use Rattle.std.proofs.lemmas.List.Sums.{sum_by-append}
 use Rattle.ckc_base.specs.declared.arithmetic.Width.{Width}
 use Rattle.ckc_base.specs.declared.arithmetic.BinOp.{BinOp}
-use Rattle.ckc_base.specs.Sizes.{const_size, call_size, return_size}
+use Rattle.ckc_base.specs.Sizes.{operation_size, branch_size, const_size, call_size, return_size}
 use Rattle.ckc_core.specs.Code.{Expr, Const, Local, Load, Bin, High, Code, End, Set, Store, Check, Call, Get, Put, Alloc, If, Loop, Break, Continue, Return, Function, Program}
 use Rattle.ckc_core.specs.Sizes.{expr_size, exprs_size, set_size, code_size, function_size, program_size}
 use Rattle.ckc_tac.specs.declared.code.TacBlock.{TacBlock}
+use Rattle.ckc_tac.specs.declared.code.Operand.{Operand}
+use Rattle.ckc_tac.specs.declared.code.Operand.TheVariants.{Number}
 use Rattle.ckc_tac.specs.declared.code.TacOp.{TacOp}
 use Rattle.ckc_tac.specs.declared.code.TacOp.TheVariants as op
 use Rattle.ckc_tac.specs.declared.code.TacEnd.{TacEnd}
@@ -15,8 +17,9 @@ use Rattle.ckc_tac.specs.declared.code.TacEnd.TheVariants as ends
 use Rattle.ckc_tac.specs.Sizes as T
 use Rattle.ckc_lower.specs.declared.builder.Builder.{Builder}
 use Rattle.ckc_lower.specs.declared.builder.Targets.{Targets}
-use Rattle.ckc_lower.specs.Built.{free_from, target_of, register_of, registers_of, with_op, with_temporary, with_value, with_values, block_count, with_end, stored, used, forked, join_of, entered, step_at, targets_of, out_of, step_of, built}
+use Rattle.ckc_lower.specs.Built.{free_from, target_of, operand_of, registers_of, with_op, with_temporary, with_value, with_values, block_count, with_end, stored, used, forked, join_of, entered, step_at, targets_of, out_of, step_of, built, bin_of, is_even, is_number, free_past, with_register, test_of, branch_of, tested}
 use Rattle.ckc_lower.proofs.Arguments.{length-registers_of}
+use Rattle.ckc_lower.proofs.Conditions.{side_size, within}
 use Rattle.ckc_lower.specs.Lowered.{empty, whole, lowered_function, lowered}
 
 -- the size of what a builder has
@@ -46,10 +49,6 @@ abbrev wanted_size : Option ℕ → Expr → ℕ
 wanted_size (Some d) e = set_size e
 wanted_size None e = expr_size e
 
-wanted-const : (want : Option ℕ) (n : ℕ) → wanted_size want (Const n) ≡ expr_size (Const n)
-wanted-const (Some d) n = refl
-wanted-const None n = refl
-
 wanted-load : (want : Option ℕ) (width : Width) (a : Expr) → wanted_size want (Load width a) ≡ expr_size (Load width a)
 wanted-load (Some d) width a = refl
 wanted-load None width a = refl
@@ -62,21 +61,24 @@ wanted-high : (want : Option ℕ) (s : Bool) (p q : Expr) → wanted_size want (
 wanted-high (Some d) s p q = refl
 wanted-high None s p q = refl
 
-size-value : (e : Expr) (want : Option ℕ) (t : ℕ) (b : Builder) → size (with_value e want t b) ≡ size b + wanted_size want e
-size-value (Const n) want t b =
-    let c = with_temporary want t b in
-    let first = size-op c (op.Const (target_of want t) n) in
-    let second = size-temporary want t b in
-    let third = wanted-const want n in
-    omega (arith, first, second, third)
-size-value (Local x) (Some d) t b = size-op b (op.Copy d x)
+either-size : (exchanged : Bool) (o : BinOp) (d : ℕ) (a b : Operand) → T.op_size (if exchanged then op.Bin o d b a else op.Bin o d a b) ≡ operation_size
+either-size true o d a b = refl
+either-size false o d a b = refl
+
+bin-size : (o : BinOp) (d : ℕ) (a b : Operand) → T.op_size (bin_of o d a b) ≡ operation_size
+bin-size o d a b = either-size (is_even o && is_number a) o d a b
+
+size-value : (e : Expr) (want : Option ℕ) (t : ℕ) (b : Builder) → size (with_value e want t b) ≤ size b + wanted_size want e
+size-value (Const n) (Some d) t b = let e = size-op b (op.Const d n) in omega (arith, e)
+size-value (Const n) None t b = omega arith
+size-value (Local x) (Some d) t b = let e = size-op b (op.Copy d x) in omega (arith, e)
 size-value (Local x) None t b = omega arith
 size-value (Load width a) want t b =
     let c = with_value a None t b in
     let d = with_temporary want t c in
     let first = size-value a None t b in
     let second = size-temporary want t c in
-    let third = size-op d (op.Load width (target_of want t) (register_of a None t)) in
+    let third = size-op d (op.Load width (target_of want t) (operand_of a None t)) in
     let fourth = wanted-load want width a in
     omega (arith, first, second, third, fourth)
 size-value (Bin o p q) want t b =
@@ -87,9 +89,11 @@ size-value (Bin o p q) want t b =
     let first = size-value p None t b in
     let second = size-value q None u c in
     let third = size-temporary want t d in
-    let fourth = size-op f (op.Bin o (target_of want t) (register_of p None t) (register_of q None u)) in
+    let last = bin_of o (target_of want t) (operand_of p None t) (operand_of q None u) in
+    let fourth = size-op f last in
     let fifth = wanted-bin want o p q in
-    omega (arith, first, second, third, fourth, fifth)
+    let sixth = bin-size o (target_of want t) (operand_of p None t) (operand_of q None u) in
+    omega (arith, first, second, third, fourth, fifth, sixth)
 size-value (High s p q) want t b =
     let u = free_from p t in
     let c = with_value p None t b in
@@ -98,7 +102,7 @@ size-value (High s p q) want t b =
     let first = size-value p None t b in
     let second = size-value q None u c in
     let third = size-temporary want t d in
-    let fourth = size-op f (op.High s (target_of want t) (register_of p None t) (register_of q None u)) in
+    let fourth = size-op f (op.High s (target_of want t) (operand_of p None t) (operand_of q None u)) in
     let fifth = wanted-high want s p q in
     omega (arith, first, second, third, fourth, fifth)
 
@@ -107,27 +111,56 @@ sum_by-cons f x xs =
     let none : 0 + f x ≡ f x = omega arith in
     sum_by-append f (x ∷ []) xs ∙ ap (λ n. n + sum_by f xs) none
 
-size-values : (es : List Expr) (t : ℕ) (b : Builder) → size (with_values es t b) ≡ size b + exprs_size es
+size-register : (e : Expr) (t : ℕ) (b : Builder) → size (with_register e t b) ≤ size b + expr_size e
+size-register (Const n) t b =
+    let first = size-temporary None t b in
+    let second = size-op (with_temporary None t b) (op.Const t n) in
+    omega (arith, first, second)
+size-register (Local x) t b = omega arith
+size-register (Load width a) t b = size-value (Load width a) None t b
+size-register (Bin o p q) t b = size-value (Bin o p q) None t b
+size-register (High s p q) t b = size-value (High s p q) None t b
+
+-- an expression and what reads its value
+size-side : (e : Expr) (t : ℕ) (b : Builder) → size (with_value e None t b) + T.operand_size (operand_of e None t) ≤ size b + side_size e
+size-side (Const n) t b = omega arith
+size-side (Local x) t b = omega arith
+size-side (Load width a) t b = omega (arith, size-value (Load width a) None t b)
+size-side (Bin o p q) t b = omega (arith, size-value (Bin o p q) None t b)
+size-side (High s p q) t b = omega (arith, size-value (High s p q) None t b)
+
+size-tested : (e : Expr) (t one two : ℕ) (b : Builder) → size (tested t (test_of e false) one two b) ≤ size b + expr_size e + branch_size
+size-tested e t one two b =
+    let s = test_of e false in
+    let u = free_from s.left t in
+    let c = with_value s.left None t b in
+    let first = size-side s.left t b in
+    let second = size-side s.right u c in
+    let third = size-end (with_value s.right None u c) (branch_of s t one two) in
+    let fourth = (within e false).size_few in
+    omega (arith, first, second, third, fourth)
+
+size-values : (es : List Expr) (t : ℕ) (b : Builder) → size (with_values es t b) ≤ size b + exprs_size es
 size-values [] t b = omega arith
 size-values (e ∷ es) t b =
-    let first = size-value e None t b in
-    let second = size-values es (free_from e t) (with_value e None t b) in
+    let first = size-register e t b in
+    let second = size-values es (free_past e t) (with_register e t b) in
     let third = sum_by-cons expr_size e es in
     omega (arith, first, second, third)
 
-size-stored : (t : ℕ) (a e : Expr) (o : ℕ → ℕ → TacOp) (b : Builder) → size (stored t a e o b) ≡ size b + expr_size a + expr_size e + T.op_size (o (register_of a None t) (register_of e None (free_from a t)))
+size-stored : (t : ℕ) (a e : Expr) (o : Operand → Operand → TacOp) (b : Builder) → size (stored t a e o b) ≤ size b + expr_size a + expr_size e + T.op_size (o (operand_of a None t) (operand_of e None (free_from a t)))
 size-stored t a e o b =
     let u = free_from a t in
     let c = with_value a None t b in
     let first = size-value a None t b in
     let second = size-value e None u c in
-    let third = size-op (with_value e None u c) (o (register_of a None t) (register_of e None u)) in
+    let third = size-op (with_value e None u c) (o (operand_of a None t) (operand_of e None u)) in
     omega (arith, first, second, third)
 
-size-used : (t : ℕ) (e : Expr) (o : ℕ → TacOp) (b : Builder) → size (used t e o b) ≡ size b + expr_size e + T.op_size (o (register_of e None t))
+size-used : (t : ℕ) (e : Expr) (o : Operand → TacOp) (b : Builder) → size (used t e o b) ≤ size b + expr_size e + T.op_size (o (operand_of e None t))
 size-used t e o b =
     let first = size-value e None t b in
-    let second = size-op (with_value e None t b) (o (register_of e None t)) in
+    let second = size-op (with_value e None t b) (o (operand_of e None t)) in
     omega (arith, first, second)
 
 -- what the end of the function adds to the jump that is counted for the end of a list
@@ -137,12 +170,7 @@ fall_size None = const_size + return_size
 
 size-built : (t : ℕ) (code : Code) (exit : Option ℕ) (loop : Option Targets) (b : Builder) → size (built t code exit loop b) ≤ size b + code_size code + fall_size exit
 size-built t End (Some to) loop b = let e = size-end b (ends.Jump to) in omega (arith, e)
-size-built t End None loop b =
-    let c = with_temporary None t b in
-    let first = size-temporary None t b in
-    let second = size-op c (op.Const t 0) in
-    let third = size-end (with_op c (op.Const t 0)) (ends.Return t) in
-    omega (arith, first, second, third)
+size-built t End None loop b = let e = size-end b (ends.Return (Number 0)) in omega (arith, e)
 size-built t (Set x e rest) exit loop b =
     let first = size-value e (Some x) t b in
     let second = size-built t rest exit loop (with_value e (Some x) t b) in
@@ -172,23 +200,20 @@ size-built t (Put e rest) exit loop b =
     let second = size-built t rest exit loop (used t e op.Put b) in
     omega (arith, first, second)
 size-built t (Alloc x e size rest) exit loop b =
-    let o : ℕ → TacOp = λ r. op.Alloc x r size in
+    let o : Operand → TacOp = λ r. op.Alloc x r size in
     let first = size-used t e o b in
     let second = size-built t rest exit loop (used t e o b) in
     omega (arith, first, second)
 size-built t (If e one two rest) exit loop b =
     let join = Some (join_of one two b) in
-    let v = with_value e None t b in
-    let fork : TacEnd = ends.Branch (register_of e None t) (length b.blocks + 1) (length b.blocks + 1 + block_count one) in
     let c = forked t e one two b in
     let d = built t one join loop c in
     let f = built t two join loop d in
-    let first = size-value e None t b in
-    let second = size-end v fork in
-    let third = size-built t one join loop c in
-    let fourth = size-built t two join loop d in
-    let fifth = size-built t rest exit loop f in
-    omega (arith, first, second, third, fourth, fifth)
+    let first = size-tested e t (length b.blocks + 1) (length b.blocks + 1 + block_count one) b in
+    let second = size-built t one join loop c in
+    let third = size-built t two join loop d in
+    let fourth = size-built t rest exit loop f in
+    omega (arith, first, second, third, fourth)
 size-built t (Loop body step rest) exit loop b =
     let c = entered b in
     let d = built t body (Some (step_at body b)) (Some (targets_of body step b)) c in
@@ -202,7 +227,7 @@ size-built t (Break rest) exit loop b = let e = size-end b (ends.Jump (out_of lo
 size-built t (Continue rest) exit loop b = let e = size-end b (ends.Jump (step_of loop)) in omega (arith, e)
 size-built t (Return e rest) exit loop b =
     let first = size-value e None t b in
-    let second = size-end (with_value e None t b) (ends.Return (register_of e None t)) in
+    let second = size-end (with_value e None t b) (ends.Return (operand_of e None t)) in
     omega (arith, first, second)
 
 blocks_within : (b : Builder) → sum_by T.block_size b.blocks ≤ size b

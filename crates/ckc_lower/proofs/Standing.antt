@@ -6,17 +6,19 @@ use Rattle.ckc_base.proofs.Following.{prefix_trans}
 use Rattle.ckc_core.specs.Code.{Code, End, Set, Store, Check, Call, Get, Put, Alloc, If, Loop, Break, Continue, Return, Function}
 use Rattle.ckc_core.specs.WellFormed.{IsCodeOver}
 use Rattle.ckc_tac.specs.declared.code.TacBlock.{TacBlock}
+use Rattle.ckc_tac.specs.declared.code.Operand.{Operand}
+use Rattle.ckc_tac.specs.declared.code.Operand.TheVariants.{Number}
 use Rattle.ckc_tac.specs.declared.code.TacOp.{TacOp}
 use Rattle.ckc_tac.specs.declared.code.TacOp.TheVariants as op
 use Rattle.ckc_tac.specs.declared.code.TacEnd.{TacEnd}
 use Rattle.ckc_tac.specs.declared.code.TacEnd.TheVariants as ends
 use Rattle.ckc_lower.specs.declared.builder.Builder.{Builder}
 use Rattle.ckc_lower.specs.declared.builder.Targets.{Targets}
-use Rattle.ckc_lower.specs.Built.{free_from, register_of, registers_of, with_op, with_temporary, with_value, with_values, block_count, with_end, stored, used, forked, join_of, entered, step_at, targets_of, out_of, step_of, built}
+use Rattle.ckc_lower.specs.Built.{free_from, operand_of, registers_of, with_op, with_value, with_values, block_count, with_end, stored, used, forked, join_of, entered, step_at, targets_of, out_of, step_of, built, test_of, branch_of}
 use Rattle.ckc_lower.proofs.Values.{value_ops}
 use Rattle.ckc_lower.proofs.Arguments.{values_ops}
 use Rattle.ckc_lower.proofs.Relation.{Runs, RunsAt}
-use Rattle.ckc_lower.proofs.Appending.{value-ops, value-blocks, values-ops, values-blocks, stored-ops, stored-blocks, used-ops, used-blocks, built-blocks, built-ops, ended-length, built-length}
+use Rattle.ckc_lower.proofs.Appending.{test_ops, sides, sides-ops, sides-blocks, value-ops, value-blocks, values-ops, values-blocks, stored-ops, stored-blocks, used-ops, used-blocks, built-blocks, built-ops, ended-length, built-length}
 
 get_behind : {X : Type 0} (xs ys : List X) (y : X) → slice_get ((xs ++ y ∷ []) ++ ys) (length xs) ≡ Some y
 get_behind [] ys y = refl
@@ -75,9 +77,7 @@ module _ (functions : List Function) (blocks : List TacBlock) (t : ℕ) where
   pub opens : (code : Code) (looped : Bool) (exit : Option ℕ) (loop : Option Targets) (b : Builder) → IsCodeOver functions t looped code
       → IsPrefix (built t code exit loop b).blocks blocks → Opens blocks t code exit loop b
   opens End looped (Some to) loop b w p = closed blocks t End (Some to) loop b b [] (ends.Jump to) refl (no_more b) p (refl, refl)
-  opens End looped None loop b w p =
-      let c = with_op (with_temporary None t b) (op.Const t 0) in
-      closed blocks t End None loop b c (op.Const t 0 ∷ []) (ends.Return t) refl refl p (refl, refl)
+  opens End looped None loop b w p = closed blocks t End None loop b b [] (ends.Return (Number 0)) refl (no_more b) p (refl, refl)
   opens (Set x e rest) looped exit loop b w p =
       let c = with_value e (Some x) t b in
       widened blocks t (Set x e rest) rest exit loop b c (value_ops e (Some x) t) (value-blocks e (Some x) t b) (value-ops e (Some x) t b)
@@ -85,7 +85,7 @@ module _ (functions : List Function) (blocks : List TacBlock) (t : ℕ) where
   opens (Store width a e rest) looped exit loop b w p =
       let c = stored t a e (op.Store width) b in
       let u = free_from a t in
-      let last = op.Store width (register_of a None t) (register_of e None u) in
+      let last = op.Store width (operand_of a None t) (operand_of e None u) in
       widened blocks t (Store width a e rest) rest exit loop b c (value_ops a None t ++ (value_ops e None u ++ last ∷ []))
       (stored-blocks t a e (op.Store width) b) (stored-ops t a e (op.Store width) b)
       (λ more end r. (
@@ -97,7 +97,7 @@ module _ (functions : List Function) (blocks : List TacBlock) (t : ℕ) where
       )) (opens rest looped exit loop c w.2 p)
   opens (Check check place e rest) looped exit loop b w p =
       let c = used t e (op.Check check place) b in
-      let last = op.Check check place (register_of e None t) in
+      let last = op.Check check place (operand_of e None t) in
       widened blocks t (Check check place e rest) rest exit loop b c (value_ops e None t ++ last ∷ [])
       (used-blocks t e (op.Check check place) b) (used-ops t e (op.Check check place) b)
       (λ more end r. (more, append_assoc (value_ops e None t) (last ∷ []) more, w.1, r)) (opens rest looped exit loop c w.2 p)
@@ -113,14 +113,14 @@ module _ (functions : List Function) (blocks : List TacBlock) (t : ℕ) where
       widened blocks t (Get x rest) rest exit loop b c (op.Get x ∷ []) refl refl (λ more end r. (more, refl, r)) (opens rest looped exit loop c w.1 p)
   opens (Put e rest) looped exit loop b w p =
       let c = used t e op.Put b in
-      let last = op.Put (register_of e None t) in
+      let last = op.Put (operand_of e None t) in
       widened blocks t (Put e rest) rest exit loop b c (value_ops e None t ++ last ∷ [])
       (used-blocks t e op.Put b) (used-ops t e op.Put b)
       (λ more end r. (more, append_assoc (value_ops e None t) (last ∷ []) more, w.0, r)) (opens rest looped exit loop c w.1 p)
   opens (Alloc x e size rest) looped exit loop b w p =
-      let o : ℕ → TacOp = λ r. op.Alloc x r size in
+      let o : Operand → TacOp = λ r. op.Alloc x r size in
       let c = used t e o b in
-      let last = op.Alloc x (register_of e None t) size in
+      let last = op.Alloc x (operand_of e None t) size in
       widened blocks t (Alloc x e size rest) rest exit loop b c (value_ops e None t ++ last ∷ [])
       (used-blocks t e o b) (used-ops t e o b)
       (λ more end r. (more, append_assoc (value_ops e None t) (last ∷ []) more, w.1, r)) (opens rest looped exit loop c w.3 p)
@@ -128,8 +128,9 @@ module _ (functions : List Function) (blocks : List TacBlock) (t : ℕ) where
       let one_at = length b.blocks + 1 in
       let two_at = length b.blocks + 1 + block_count one in
       let join = join_of one two b in
-      let v = with_value e None t b in
-      let fork : TacEnd = ends.Branch (register_of e None t) one_at two_at in
+      let s = test_of e false in
+      let v = sides t s b in
+      let fork = branch_of s t one_at two_at in
       let c = forked t e one two b in
       let d = built t one (Some join) loop c in
       let f = built t two (Some join) loop d in
@@ -137,10 +138,10 @@ module _ (functions : List Function) (blocks : List TacBlock) (t : ℕ) where
       let from_f : IsPrefix f.blocks blocks = prefix_trans f.blocks g.blocks blocks (built-blocks t rest exit loop f) p in
       let from_d : IsPrefix d.blocks blocks = prefix_trans d.blocks f.blocks blocks (built-blocks t two (Some join) loop d) from_f in
       let from_c : IsPrefix c.blocks blocks = prefix_trans c.blocks d.blocks blocks (built-blocks t one (Some join) loop c) from_d in
-      let at_c : length c.blocks ≡ one_at = ended-length v fork ∙ ap (λ x. length x + 1) (value-blocks e None t b) in
+      let at_c : length c.blocks ≡ one_at = ended-length v fork ∙ ap (λ x. length x + 1) (sides-blocks t s b) in
       let at_d : length d.blocks ≡ two_at = built-length t one (Some join) loop c ∙ ap (λ n. n + block_count one) at_c in
       let at_f : length f.blocks ≡ join = built-length t two (Some join) loop d ∙ ap (λ n. n + block_count two) at_d in
-      closed blocks t (If e one two rest) exit loop b v (value_ops e None t) fork (value-blocks e None t b) (value-ops e None t b) from_c (
+      closed blocks t (If e one two rest) exit loop b v (test_ops t s) fork (sides-blocks t s b) (sides-ops t s b) from_c (
         one_at,
         two_at,
         join,
@@ -180,4 +181,4 @@ module _ (functions : List Function) (blocks : List TacBlock) (t : ℕ) where
   opens (Continue rest) looped exit loop b w p =
       closed blocks t (Continue rest) exit loop b b [] (ends.Jump (step_of loop)) refl (no_more b) p (refl, refl)
   opens (Return e rest) looped exit loop b w p =
-      closed blocks t (Return e rest) exit loop b (with_value e None t b) (value_ops e None t) (ends.Return (register_of e None t)) (value-blocks e None t b) (value-ops e None t b) p (refl, refl, w.0)
+      closed blocks t (Return e rest) exit loop b (with_value e None t b) (value_ops e None t) (ends.Return (operand_of e None t)) (value-blocks e None t b) (value-ops e None t b) p (refl, refl, w.0)

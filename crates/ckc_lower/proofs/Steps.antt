@@ -17,15 +17,21 @@ use Rattle.ckc_core.specs.Meaning as C
 use Rattle.ckc_core.specs.WellFormed.{IsExprOver}
 use Rattle.ckc_tac.specs.declared.code.TacFunc.{TacFunc}
 use Rattle.ckc_tac.specs.declared.code.TacBlock.{TacBlock}
+use Rattle.ckc_tac.specs.declared.code.Operand.{Operand}
+use Rattle.ckc_tac.specs.declared.code.Operand.TheVariants.{Number}
 use Rattle.ckc_tac.specs.declared.code.TacOp.{TacOp}
 use Rattle.ckc_tac.specs.declared.code.TacOp.TheVariants as op
 use Rattle.ckc_tac.specs.declared.code.TacEnd.{TacEnd}
 use Rattle.ckc_tac.specs.declared.code.TacEnd.TheVariants as ends
+use Rattle.ckc_base.specs.Words.{applied}
+use Rattle.ckc_tac.specs.Operations.{operation_of, value_in, compared}
 use Rattle.ckc_tac.specs.Meaning.{tac_step, tac_system, extra_of}
 use Rattle.ckc_tac.specs.Meaning as T
 use Rattle.ckc_lower.specs.declared.builder.Targets.{Targets}
-use Rattle.ckc_lower.specs.Built.{free_from, register_of, registers_of, out_of, step_of}
-use Rattle.ckc_lower.proofs.Values.{value_ops, free_more, register_below, written_same, written_like, result_like, Agree, at, computes}
+use Rattle.ckc_lower.specs.Built.{free_from, operand_of, registers_of, out_of, step_of, picked, test_of, branch_of}
+use Rattle.ckc_lower.proofs.Values.{value_ops, free_more, operand_stays, written_like, result_like, Agree, at, computes}
+use Rattle.ckc_lower.proofs.Appending.{test_ops}
+use Rattle.ckc_lower.proofs.Conditions.{within, decides, flipped}
 use Rattle.ckc_lower.proofs.Arguments.{length-registers_of, values_ops, computes_all}
 use Rattle.ckc_lower.proofs.Relation.{Leaves, loop_of, Runs, RunsAt, Continues, SameFrame, SameCallers, SameState, SameFunctions}
 
@@ -138,21 +144,21 @@ module _ (functions : List Function) (lowered : List TacFunc) (s : C.State) (blo
       )
 
   -- a statement with one expression, and the operation on its value
-  by_use : (e : Expr) (act : ℕ → Outcome) (make : ℕ → TacOp) (code : Code) (end : TacEnd) (more ops : List TacOp) (registers : Values) (exit : Option ℕ) (loop : Option Targets) (v : Option ℕ)
-      → ((r : ℕ) → extra_of (make r) ≡ 0)
-      → ((r w : ℕ) (after : Values) → after r ≡ Some w → tac_step lowered (point end (make r ∷ more) after) ≡ T.goes_by (point end (make r ∷ more) after) more (act w))
-      → ops ≡ value_ops e None t ++ (make (register_of e None t) ∷ more) → IsExprOver t e
+  by_use : (e : Expr) (act : ℕ → Outcome) (make : Operand → TacOp) (code : Code) (end : TacEnd) (more ops : List TacOp) (registers : Values) (exit : Option ℕ) (loop : Option Targets) (v : Option ℕ)
+      → ((r : Operand) → extra_of (make r) ≡ 0)
+      → ((r : Operand) (w : ℕ) (after : Values) → value_in after r ≡ Some w → tac_step lowered (point end (make r ∷ more) after) ≡ T.goes_by (point end (make r ∷ more) after) more (act w))
+      → ops ≡ value_ops e None t ++ (make (operand_of e None t) ∷ more) → IsExprOver t e
       → Runs blocks t code more end exit loop → Continues blocks t s.frame.rest exit loop → Agree t registers values
       → value_of values s.world.memory e ≡ v
       → Matches (point end ops registers) (4 * (nodes e + 1)) (C.goes_by s code (by_value v act))
   by_use e act make code end more ops registers exit loop None plain step at_ops over r c agree h = inl refl
   by_use e act make code end more ops registers exit loop (Some w) plain step at_ops over r c agree h =
-      let o = make (register_of e None t) in
+      let o = make (operand_of e None t) in
       let p = computes lowered blocks end callers s.world t values e None t w (o ∷ more) registers (le_self t) over agree h in
       let agree_after : Agree t p.after values = λ y less. p.same y less ∙ agree y less in
       by_outcome end (point end ops registers) p.count (4 * (nodes e + 1)) code o more p.after exit loop (act w)
-      (subst (λ o. Stretch (tac_system lowered) p.count [] (point end o registers) (point end (make (register_of e None t) ∷ more) p.after)) (sym at_ops) p.path)
-      (step (register_of e None t) w p.after p.value) (plain (register_of e None t)) (omega (arith, p.few)) r c agree_after
+      (subst (λ o. Stretch (tac_system lowered) p.count [] (point end o registers) (point end (make (operand_of e None t) ∷ more) p.after)) (sym at_ops) p.path)
+      (step (operand_of e None t) w p.after p.value) (plain (operand_of e None t)) (omega (arith, p.few)) r c agree_after
 
   by_store : (width : Width) (a e : Expr) (code : Code) (end : TacEnd) (ops : List TacOp) (registers : Values) (exit : Option ℕ) (loop : Option Targets) (v w : Option ℕ)
       → Runs blocks t (Store width a e code) ops end exit loop → Continues blocks t s.frame.rest exit loop → Agree t registers values
@@ -164,17 +170,17 @@ module _ (functions : List Function) (lowered : List TacFunc) (s : C.State) (blo
   by_store width a e code end ops registers exit loop (Some p) None r c agree h k = inl refl
   by_store width a e code end ops registers exit loop (Some p) (Some x) r c agree h k =
       let b = free_from a t in
-      let i = register_of a None t in
-      let j = register_of e None b in
+      let i = operand_of a None t in
+      let j = operand_of e None b in
       let o = op.Store width i j in
       let first = computes lowered blocks end callers s.world t values a None t p (value_ops e None b ++ (o ∷ r.0)) registers (le_self t) r.2 agree h in
       let agree_first : Agree t first.after values = λ y less. first.same y less ∙ agree y less in
       let second = computes lowered blocks end callers s.world t values e None b x (o ∷ r.0) first.after (free_more a t) r.3 agree_first k in
       let agree_second : Agree t second.after values = λ y less. second.same y (omega (arith, free_more a t)) ∙ agree_first y less in
-      let there : second.after i ≡ Some p = second.same i (register_below a t t (le_self t) r.2) ∙ first.value in
+      let there : value_in second.after i ≡ Some p = operand_stays a t t first.after second.after (le_self t) r.2 second.same ∙ first.value in
       let v = point end (o ∷ r.0) second.after in
       let step : tac_step lowered v ≡ T.goes_by v r.0 (stores s.world width p x) =
-      ap (λ z. T.goes_by v r.0 (by_value z (λ p. by_value (second.after j) (stores s.world width p)))) there
+      ap (λ z. T.goes_by v r.0 (by_value z (λ p. by_value (value_in second.after j) (stores s.world width p)))) there
       ∙ ap (λ z. T.goes_by v r.0 (by_value z (stores s.world width p))) second.value in
       let path = then_stretch (tac_system lowered) first.count second.count [] [] (point end (value_ops a None t ++ (value_ops e None b ++ (o ∷ r.0))) registers)
       (point end (value_ops e None b ++ (o ∷ r.0)) first.after) v first.path second.path in
@@ -202,6 +208,13 @@ module _ (functions : List Function) (lowered : List TacFunc) (s : C.State) (blo
   by_choice false one two code one_at two_at join end u count most after exit loop path e few p q r c agree =
       by_jump end u count most one_at one (Next code s.frame.rest) after (Some join) loop path e few p (join, exit, refl, r, c) agree
 
+  -- a branch whose targets are exchanged where its test is turned
+  goes_picked : (goes : ℕ → Move LongEvent T.State) (turned b : Bool) (one two : ℕ)
+      → (if b then goes (picked turned two one) else goes (picked turned one two)) ≡ (if flipped turned b then goes two else goes one)
+  goes_picked goes false b one two = refl
+  goes_picked goes true true one two = refl
+  goes_picked goes true false one two = refl
+
   by_if : (e : Expr) (one two code : Code) (end : TacEnd) (ops : List TacOp) (registers : Values) (exit : Option ℕ) (loop : Option Targets) (v : Option ℕ)
       → Runs blocks t (If e one two code) ops end exit loop → Continues blocks t s.frame.rest exit loop → Agree t registers values
       → value_of values s.world.memory e ≡ v
@@ -209,15 +222,32 @@ module _ (functions : List Function) (lowered : List TacFunc) (s : C.State) (blo
   unfolding tac_step
   by_if e one two code end ops registers exit loop None r c agree h = inl refl
   by_if e one two code end ops registers exit loop (Some w) r c agree h =
-      let b = register_of e None t in
-      let fork : TacEnd = ends.Branch b r.0 r.1 in
-      let p = computes lowered blocks fork callers s.world t values e None t w [] registers (le_self t) r.5 agree h in
-      let agree_after : Agree t p.after values = λ y less. p.same y less ∙ agree y less in
-      let v = point fork [] p.after in
-      let path : Stretch (tac_system lowered) p.count [] (point fork (value_ops e None t) registers) v =
-      subst (λ o. Stretch (tac_system lowered) p.count [] (point fork o registers) v) (append-nil (value_ops e None t)) p.path in
-      let matched = by_choice (w == 0) one two code r.0 r.1 r.2 fork (point fork (value_ops e None t) registers) p.count (4 * (nodes e + 1)) p.after exit loop
-      path (ap (T.branches v r.0 r.1) p.value) (omega (arith, p.few)) r.6 r.7 r.8 c agree_after in
+      let q = test_of e false in
+      let u = free_from q.left t in
+      let few = within e false in
+      let over = few.over t r.5 in
+      let d = decides values s.world.memory e false w h in
+      let fork = branch_of q t r.0 r.1 in
+      let first = computes lowered blocks fork callers s.world t values q.left None t d.x (value_ops q.right None u ++ []) registers (le_self t) over.0 agree d.left in
+      let agree_first : Agree t first.after values = λ y less. first.same y less ∙ agree y less in
+      let second = computes lowered blocks fork callers s.world t values q.right None u d.y [] first.after (free_more q.left t) over.1 agree_first d.right in
+      let agree_second : Agree t second.after values = λ y less. second.same y (omega (arith, free_more q.left t)) ∙ agree_first y less in
+      let left : value_in second.after (operand_of q.left None t) ≡ Some d.x = operand_stays q.left t t first.after second.after (le_self t) over.0 second.same ∙ first.value in
+      let v = point fork [] second.after in
+      let start = point fork (test_ops t q) registers in
+      let count = first.count + second.count in
+      let both = then_stretch (tac_system lowered) first.count second.count [] [] (point fork (value_ops q.left None t ++ (value_ops q.right None u ++ [])) registers)
+      (point fork (value_ops q.right None u ++ []) first.after) v first.path second.path in
+      let path : Stretch (tac_system lowered) count [] start v =
+      subst (λ o. Stretch (tac_system lowered) count [] (point fork (value_ops q.left None t ++ o) registers) v) (append-nil (value_ops q.right None u)) both in
+      let goes : ℕ → Move LongEvent T.State = λ b. T.goes_to v (slice_get blocks b) in
+      let step : tac_step lowered v ≡ (if w == 0 then goes r.1 else goes r.0) =
+      ap (λ x. T.branches v (picked q.turned r.0 r.1) (picked q.turned r.1 r.0) (compared q.comparison x (value_in second.after (operand_of q.right None u)))) left
+      ∙ ap (λ y. T.branches v (picked q.turned r.0 r.1) (picked q.turned r.1 r.0) (compared q.comparison (Some d.x) y)) second.value
+      ∙ goes_picked goes q.turned (applied (operation_of q.comparison) d.x d.y == 0) r.0 r.1
+      ∙ ap (λ b. if b then goes r.1 else goes r.0) d.fails in
+      let matched = by_choice (w == 0) one two code r.0 r.1 r.2 fork start count (4 * (nodes e + 1)) second.after exit loop
+      path step (omega (arith, first.few, second.few, few.nodes_few)) r.6 r.7 r.8 c agree_second in
       subst (λ n. Matches (point n ops registers) (4 * (nodes e + 1)) (C.branches s one two code (Some w))) (sym r.4)
       (subst (λ o. Matches (point fork o registers) (4 * (nodes e + 1)) (C.branches s one two code (Some w))) (sym r.3) matched)
 
@@ -304,7 +334,7 @@ module _ (functions : List Function) (lowered : List TacFunc) (s : C.State) (blo
   unfolding tac_step
   by_return e code end ops registers exit loop None r agree h = inl refl
   by_return e code end ops registers exit loop (Some w) r agree h =
-      let b = register_of e None t in
+      let b = operand_of e None t in
       let last : TacEnd = ends.Return b in
       let p = computes lowered blocks last callers s.world t values e None t w [] registers (le_self t) r.2 agree h in
       let v = point last [] p.after in
@@ -316,34 +346,31 @@ module _ (functions : List Function) (lowered : List TacFunc) (s : C.State) (blo
       (subst (λ o. Matches (point last o registers) (4 * (nodes e + 1)) (C.returns s s.callers w)) (sym r.0) matched)
 
   -- the end of the function returns 0
-  by_fall : (end : TacEnd) (ops : List TacOp) (registers : Values) → ops ≡ op.Const t 0 ∷ [] → end ≡ ends.Return t
+  by_fall : (end : TacEnd) (ops : List TacOp) (registers : Values) → ops ≡ [] → end ≡ ends.Return (Number 0)
       → Matches (point end ops registers) (4 * (0 + 1)) (C.returns s s.callers 0)
   unfolding tac_step
   by_fall end ops registers at_ops at_end =
-      let last : TacEnd = ends.Return t in
-      let after = with_written registers t 0 in
-      let v = point last [] after in
-      let path : Stretch (tac_system lowered) 1 [] (point last (op.Const t 0 ∷ []) registers) v = one_step (tac_system lowered) [] (point last (op.Const t 0 ∷ []) registers) v refl in
-      let matched = returned s.callers callers (point last (op.Const t 0 ∷ []) registers) v 1 (4 * (0 + 1)) 0 same refl path refl
-      (ap (T.returns v callers) (written_same registers t 0)) (omega arith) in
+      let last : TacEnd = ends.Return (Number 0) in
+      let v = point last [] registers in
+      let matched = returned s.callers callers v v 0 (4 * (0 + 1)) 0 same refl (no_step (tac_system lowered) v) refl refl (omega arith) in
       subst (λ n. Matches (point n ops registers) (4 * (0 + 1)) (C.returns s s.callers 0)) (sym at_end)
       (subst (λ o. Matches (point last o registers) (4 * (0 + 1)) (C.returns s s.callers 0)) (sym at_ops) matched)
 
   by_end : (rest : Rest) (end : TacEnd) (ops : List TacOp) (registers : Values) (exit : Option ℕ) (loop : Option Targets)
-      → Leaves t ops end exit → Continues blocks t rest exit loop → Agree t registers values
+      → Leaves ops end exit → Continues blocks t rest exit loop → Agree t registers values
       → Matches (point end ops registers) (4 * (0 + 1)) (C.ends s rest)
   by_end Stop end ops registers exit loop leave c agree =
-      let l = subst (Leaves t ops end) c.0 leave in
+      let l = subst (Leaves ops end) c.0 leave in
       by_fall end ops registers l.0 l.1
   by_end (Next code after) end ops registers exit loop leave c agree =
-      let l = subst (Leaves t ops end) c.2 leave in
+      let l = subst (Leaves ops end) c.2 leave in
       by_block c.0 code after end ops registers c.1 loop l.0 l.1 c.3 c.4 agree
   by_end (Body body step code after) end ops registers exit loop leave c agree =
-      let l = subst (Leaves t ops end) c.5 leave in
+      let l = subst (Leaves ops end) c.5 leave in
       by_block c.1 step (Step body step code after) end ops registers (Some c.0) None l.0 l.1 c.7.step_runs
       (c.0, c.1, c.2, c.3, c.4, refl, refl, c.7, c.8) agree
   by_end (Step body step code after) end ops registers exit loop leave c agree =
-      let l = subst (Leaves t ops end) c.5 leave in
+      let l = subst (Leaves ops end) c.5 leave in
       by_block c.0 body (Body body step code after) end ops registers (Some c.1) (loop_of c.2 c.1) l.0 l.1 c.7.body_runs
       (c.0, c.1, c.2, c.3, c.4, refl, refl, c.7, c.8) agree
 

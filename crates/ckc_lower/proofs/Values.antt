@@ -1,9 +1,13 @@
 -- Running the operations of an expression gives its value, in the register that is told.
 use Rattle.std.proofs.Common.{◌≡◌, ◌≢◌, ℕ, ◌+◌, ◌≤◌, ◌<◌, ◌==◌, List, [], ◌∷◌, ◌++◌, append_assoc, refl, sym, ◌∙◌, ap, subst, arith}
-use Rattle.std.specs.Prelude.{Option, Some, None, Bool, if◌then◌else◌, option_and_then}
+use Rattle.std.proofs.lemmas.Bool.Decides.{nat_tests}
+use Rattle.std.proofs.lemmas.Nat.{and_comm, or_comm, xor_comm}
+use Rattle.std.proofs.Math.Nat.{mul_comm}
+use Rattle.std.specs.Prelude.{Option, Some, None, Bool, true, false, not, ◌&&◌, ◌%◌, ◌^◌, if◌then◌else◌, option_and_then}
 use Rattle.std.specs.Option.{option_map}
 use Rattle.ckc_base.specs.declared.arithmetic.Width.{Width}
 use Rattle.ckc_base.specs.declared.arithmetic.BinOp.{BinOp}
+use Rattle.ckc_base.specs.declared.arithmetic.BinOp.TheVariants as binary
 use Rattle.ckc_base.specs.Words.{applied}
 use Rattle.ckc_base.specs.Products.{high_product}
 use Rattle.ckc_base.specs.Steps.{Goes}
@@ -17,24 +21,28 @@ use Rattle.ckc_core.specs.Meaning.{value_of, both, nodes}
 use Rattle.ckc_core.specs.WellFormed.{IsExprOver}
 use Rattle.ckc_tac.specs.declared.code.TacFunc.{TacFunc}
 use Rattle.ckc_tac.specs.declared.code.TacBlock.{TacBlock}
+use Rattle.ckc_tac.specs.declared.code.Operand.{Operand}
+use Rattle.ckc_tac.specs.declared.code.Operand.TheVariants.{Register}
 use Rattle.ckc_tac.specs.declared.code.TacOp.{TacOp}
 use Rattle.ckc_tac.specs.declared.code.TacOp.TheVariants as op
 use Rattle.ckc_tac.specs.declared.code.TacEnd.{TacEnd}
+use Rattle.ckc_tac.specs.Operations.{value_in}
 use Rattle.ckc_tac.specs.Meaning.{State, Caller, tac_step, tac_system, extra_of, goes_by}
-use Rattle.ckc_lower.specs.Built.{free_from, target_of, register_of}
+use Rattle.ckc_lower.specs.Built.{free_from, target_of, operand_of, is_even, is_number, bin_of}
 
 -- the operations that compute an expression
 abbrev pub value_ops : Expr → Option ℕ → ℕ → List TacOp
-value_ops (Const n) want t = op.Const (target_of want t) n ∷ []
+value_ops (Const n) (Some d) t = op.Const d n ∷ []
+value_ops (Const n) None t = []
 value_ops (Local x) (Some d) t = op.Copy d x ∷ []
 value_ops (Local x) None t = []
-value_ops (Load width a) want t = value_ops a None t ++ op.Load width (target_of want t) (register_of a None t) ∷ []
+value_ops (Load width a) want t = value_ops a None t ++ op.Load width (target_of want t) (operand_of a None t) ∷ []
 value_ops (Bin o p q) want t =
     value_ops p None t ++ (value_ops q None (free_from p t)
-    ++ op.Bin o (target_of want t) (register_of p None t) (register_of q None (free_from p t)) ∷ [])
+    ++ bin_of o (target_of want t) (operand_of p None t) (operand_of q None (free_from p t)) ∷ [])
 value_ops (High is_signed p q) want t =
     value_ops p None t ++ (value_ops q None (free_from p t)
-    ++ op.High is_signed (target_of want t) (register_of p None t) (register_of q None (free_from p t)) ∷ [])
+    ++ op.High is_signed (target_of want t) (operand_of p None t) (operand_of q None (free_from p t)) ∷ [])
 
 -- ---- numbers of registers
 
@@ -45,13 +53,54 @@ free_more (Load width a) t = omega arith
 free_more (Bin o p q) t = omega arith
 free_more (High s p q) t = omega arith
 
--- the register with the value lies below the temporaries that are free beside it
-pub register_below : (e : Expr) (locals t : ℕ) → locals ≤ t → IsExprOver locals e → register_of e None t < free_from e t
-register_below (Const n) locals t l h = omega arith
-register_below (Local x) locals t l h = omega (arith, h)
-register_below (Load width a) locals t l h = omega arith
-register_below (Bin o p q) locals t l h = omega arith
-register_below (High s p q) locals t l h = omega arith
+-- the value of an expression stays where the registers below the temporaries that are free beside it stay
+pub operand_stays : (e : Expr) (locals t : ℕ) (after later : Values) → locals ≤ t → IsExprOver locals e → ((x : ℕ) → x < free_from e t → later x ≡ after x)
+    → value_in later (operand_of e None t) ≡ value_in after (operand_of e None t)
+operand_stays (Const n) locals t after later l h same = refl
+operand_stays (Local x) locals t after later l h same = same x (omega (arith, h))
+operand_stays (Load width a) locals t after later l h same = same t (omega arith)
+operand_stays (Bin o p q) locals t after later l h same = same t (omega arith)
+operand_stays (High s p q) locals t after later l h same = same t (omega arith)
+
+-- ---- operations
+
+-- what holds of an operation with its operands in either order
+bin_either : (P : TacOp → Type 0) (exchanged : Bool) (o : BinOp) (d : ℕ) (a b : Operand) → (exchanged ≡ true → P (op.Bin o d b a)) → P (op.Bin o d a b)
+    → P (if exchanged then op.Bin o d b a else op.Bin o d a b)
+bin_either P true o d a b h k = h refl
+bin_either P false o d a b h k = k
+
+pub bin_plain : (o : BinOp) (d : ℕ) (a b : Operand) → extra_of (bin_of o d a b) ≡ 0
+bin_plain o d a b = bin_either (λ x. extra_of x ≡ 0) (is_even o && is_number a) o d a b (λ e. refl) refl
+
+even_of : (b c : Bool) → (b && c) ≡ true → b ≡ true
+even_of true c e = refl
+even_of false c e = e
+
+pub unlike : {X : Type 0} → false ≡ true → X
+unlike e = absurd cc
+
+eq_turned : (x y : ℕ) → (x == y) ≡ (y == x)
+eq_turned x y = grind (arith, nat_tests)
+
+pub even_turned : (o : BinOp) (x y : ℕ) → is_even o ≡ true → applied o y x ≡ applied o x y
+even_turned binary.Add x y e = omega arith
+even_turned binary.Mul x y e = ap (λ n. n % 2 ^ 32) (mul_comm y x)
+even_turned binary.And x y e = and_comm y x
+even_turned binary.Or x y e = or_comm y x
+even_turned binary.Xor x y e = xor_comm y x
+even_turned binary.Eq x y e = ap (λ b. if b then 1 else 0) (eq_turned y x)
+even_turned binary.Ne x y e = ap (λ b. if not b then 1 else 0) (eq_turned y x)
+even_turned binary.Sub x y e = unlike e
+even_turned binary.DivS x y e = unlike e
+even_turned binary.DivU x y e = unlike e
+even_turned binary.RemS x y e = unlike e
+even_turned binary.RemU x y e = unlike e
+even_turned binary.Shl x y e = unlike e
+even_turned binary.ShrS x y e = unlike e
+even_turned binary.ShrU x y e = unlike e
+even_turned binary.LtS x y e = unlike e
+even_turned binary.LtU x y e = unlike e
 
 -- ---- values that are written
 
@@ -95,7 +144,7 @@ map_some f None v h = cc
 pub some_same : {X : Type 0} (x y : X) → Some x ≡ Some y → x ≡ y
 some_same x y h = cc
 
-both_some : (f : ℕ → ℕ → ℕ) (o p : Option ℕ) (v : ℕ) → both f o p ≡ Some v → (x y : ℕ) × (o ≡ Some x) × (p ≡ Some y) × (f x y ≡ v)
+pub both_some : (f : ℕ → ℕ → ℕ) (o p : Option ℕ) (v : ℕ) → both f o p ≡ Some v → (x y : ℕ) × (o ≡ Some x) × (p ≡ Some y) × (f x y ≡ v)
 both_some f o p v h =
     let first = and_then_some (λ a. option_map (f a) p) o v h in
     let second = map_some (f first.0) p v first.2 in
@@ -129,21 +178,21 @@ module _ (functions : List TacFunc) (blocks : List TacBlock) (end : TacEnd) (cal
     pub some : least want ≤ count
     pub few : count ≤ nodes e
     pub path : Stretch (tac_system functions) count [] (at (value_ops e want t ++ more) registers) (at more after)
-    pub value : after (register_of e want t) ≡ Some v
+    pub value : value_in after (operand_of e want t) ≡ Some v
     pub same : (x : ℕ) → x < t → after x ≡ with_result registers want v x
 
   -- an operation that gives a value
-  abbrev IsStep : TacOp → List TacOp → Values → ℕ → ℕ → Type 0
+  abbrev pub IsStep : TacOp → List TacOp → Values → ℕ → ℕ → Type 0
   IsStep o more registers d v = tac_step functions (at (o ∷ more) registers) ≡ Goes [] (at more (with_written registers d v))
 
-  one_op : (o : TacOp) (more : List TacOp) (registers : Values) (d v : ℕ) → extra_of o ≡ 0 → IsStep o more registers d v
+  pub one_op : (o : TacOp) (more : List TacOp) (registers : Values) (d v : ℕ) → extra_of o ≡ 0 → IsStep o more registers d v
       → Stretch (tac_system functions) 1 [] (at (o ∷ more) registers) (at more (with_written registers d v))
   one_op o more registers d v plain e =
       let count : extra_of o + 1 ≡ 1 = omega arith in
       subst (λ n. Stretch (tac_system functions) n [] (at (o ∷ more) registers) (at more (with_written registers d v))) count
       (one_step (tac_system functions) [] (at (o ∷ more) registers) (at more (with_written registers d v)) e)
 
-  const_step : (d n : ℕ) (more : List TacOp) (registers : Values) → IsStep (op.Const d n) more registers d n
+  pub const_step : (d n : ℕ) (more : List TacOp) (registers : Values) → IsStep (op.Const d n) more registers d n
   unfolding tac_step
   const_step d n more registers = refl
 
@@ -152,22 +201,30 @@ module _ (functions : List TacFunc) (blocks : List TacBlock) (end : TacEnd) (cal
   copy_step d a v more registers e =
       ap (λ r. goes_by (at (op.Copy d a ∷ more) registers) more (by_value r (λ x. Gives [] d x world))) e
 
-  load_step : (width : Width) (d a p v : ℕ) (more : List TacOp) (registers : Values) → registers a ≡ Some p → value_at width world.memory p ≡ Some v → IsStep (op.Load width d a) more registers d v
+  load_step : (width : Width) (d : ℕ) (a : Operand) (p v : ℕ) (more : List TacOp) (registers : Values) → value_in registers a ≡ Some p → value_at width world.memory p ≡ Some v → IsStep (op.Load width d a) more registers d v
   unfolding tac_step
   load_step width d a p v more registers e h =
       ap (λ r. goes_by (at (op.Load width d a ∷ more) registers) more (by_value r (λ p. by_value (value_at width world.memory p) (λ x. Gives [] d x world)))) e
       ∙ ap (λ r. goes_by (at (op.Load width d a ∷ more) registers) more (by_value r (λ x. Gives [] d x world))) h
 
-  bin_step : (o : BinOp) (d a b x y : ℕ) (more : List TacOp) (registers : Values) → registers a ≡ Some x → registers b ≡ Some y → IsStep (op.Bin o d a b) more registers d (applied o x y)
+  plain_step : (o : BinOp) (d : ℕ) (a b : Operand) (x y : ℕ) (more : List TacOp) (registers : Values) → value_in registers a ≡ Some x → value_in registers b ≡ Some y
+      → IsStep (op.Bin o d a b) more registers d (applied o x y)
   unfolding tac_step
-  bin_step o d a b x y more registers e h =
-      ap (λ r. goes_by (at (op.Bin o d a b ∷ more) registers) more (by_value r (λ x. by_value (registers b) (λ y. Gives [] d (applied o x y) world)))) e
+  plain_step o d a b x y more registers e h =
+      ap (λ r. goes_by (at (op.Bin o d a b ∷ more) registers) more (by_value r (λ x. by_value (value_in registers b) (λ y. Gives [] d (applied o x y) world)))) e
       ∙ ap (λ r. goes_by (at (op.Bin o d a b ∷ more) registers) more (by_value r (λ y. Gives [] d (applied o x y) world))) h
 
-  high_step : (s : Bool) (d a b x y : ℕ) (more : List TacOp) (registers : Values) → registers a ≡ Some x → registers b ≡ Some y → IsStep (op.High s d a b) more registers d (high_product s x y)
+  bin_step : (o : BinOp) (d : ℕ) (a b : Operand) (x y : ℕ) (more : List TacOp) (registers : Values) → value_in registers a ≡ Some x → value_in registers b ≡ Some y
+      → IsStep (bin_of o d a b) more registers d (applied o x y)
+  bin_step o d a b x y more registers e h =
+      bin_either (λ i. IsStep i more registers d (applied o x y)) (is_even o && is_number a) o d a b
+      (λ exchanged. subst (λ v. IsStep (op.Bin o d b a) more registers d v) (even_turned o x y (even_of (is_even o) (is_number a) exchanged)) (plain_step o d b a y x more registers h e))
+      (plain_step o d a b x y more registers e h)
+
+  high_step : (s : Bool) (d : ℕ) (a b : Operand) (x y : ℕ) (more : List TacOp) (registers : Values) → value_in registers a ≡ Some x → value_in registers b ≡ Some y → IsStep (op.High s d a b) more registers d (high_product s x y)
   unfolding tac_step
   high_step s d a b x y more registers e h =
-      ap (λ r. goes_by (at (op.High s d a b ∷ more) registers) more (by_value r (λ x. by_value (registers b) (λ y. Gives [] d (high_product s x y) world)))) e
+      ap (λ r. goes_by (at (op.High s d a b ∷ more) registers) more (by_value r (λ x. by_value (value_in registers b) (λ y. Gives [] d (high_product s x y) world)))) e
       ∙ ap (λ r. goes_by (at (op.High s d a b ∷ more) registers) more (by_value r (λ y. Gives [] d (high_product s x y) world))) h
 
   module _ (locals : ℕ) (values : Values) where
@@ -180,27 +237,27 @@ module _ (functions : List TacFunc) (blocks : List TacBlock) (end : TacEnd) (cal
     agree_after t v registers after l agree same = λ x h. same x (omega arith) ∙ agree x h
 
     -- an operation on two values
-    two : (e p q : Expr) (make : ℕ → ℕ → ℕ → TacOp) (f : ℕ → ℕ → ℕ) → Claim p → Claim q
-        → ((d a b : ℕ) → extra_of (make d a b) ≡ 0)
-        → ((d a b x y : ℕ) (more : List TacOp) (registers : Values) → registers a ≡ Some x → registers b ≡ Some y → IsStep (make d a b) more registers d (f x y))
+    two : (e p q : Expr) (make : ℕ → Operand → Operand → TacOp) (f : ℕ → ℕ → ℕ) → Claim p → Claim q
+        → ((d : ℕ) (a b : Operand) → extra_of (make d a b) ≡ 0)
+        → ((d : ℕ) (a b : Operand) (x y : ℕ) (more : List TacOp) (registers : Values) → value_in registers a ≡ Some x → value_in registers b ≡ Some y → IsStep (make d a b) more registers d (f x y))
         → nodes e ≡ 1 + nodes p + nodes q
         → (want : Option ℕ) (t v : ℕ) (more : List TacOp) (registers : Values)
-        → register_of e want t ≡ target_of want t
-        → value_ops e want t ≡ value_ops p None t ++ (value_ops q None (free_from p t) ++ make (target_of want t) (register_of p None t) (register_of q None (free_from p t)) ∷ [])
+        → operand_of e want t ≡ Register (target_of want t)
+        → value_ops e want t ≡ value_ops p None t ++ (value_ops q None (free_from p t) ++ make (target_of want t) (operand_of p None t) (operand_of q None (free_from p t)) ∷ [])
         → locals ≤ t → IsExprOver locals p → IsExprOver locals q → Agree locals registers values
         → both f (value_of values world.memory p) (value_of values world.memory q) ≡ Some v → Computes e want t v more registers
     two e p q make f claim_p claim_q plain step size want t v more registers reg ops l over_p over_q agree h =
         let found = both_some f (value_of values world.memory p) (value_of values world.memory q) v h in
         let u = free_from p t in
         let d = target_of want t in
-        let a = register_of p None t in
-        let b = register_of q None u in
+        let a = operand_of p None t in
+        let b = operand_of q None u in
         let last = make d a b in
         let first = claim_p None t found.0 (value_ops q None u ++ (last ∷ more)) registers l over_p agree found.2 in
         let agree_first = agree_after t found.0 registers first.after l agree first.same in
         let less : locals ≤ u = omega (arith, free_more p t) in
         let second = claim_q None u found.1 (last ∷ more) first.after less over_q agree_first found.3 in
-        let left : second.after a ≡ Some found.0 = second.same a (register_below p locals t l over_p) ∙ first.value in
+        let left : value_in second.after a ≡ Some found.0 = operand_stays p locals t first.after second.after l over_p second.same ∙ first.value in
         let done : IsStep last more second.after d (f found.0 found.1) = step d a b found.0 found.1 more second.after left second.value in
         let result = with_written second.after d (f found.0 found.1) in
         let regroup : value_ops e want t ++ more ≡ value_ops p None t ++ (value_ops q None u ++ (last ∷ more)) =
@@ -216,7 +273,7 @@ module _ (functions : List TacFunc) (blocks : List TacBlock) (end : TacEnd) (cal
           some = least_one want (first.count + (second.count + 1)) (omega arith);
           few = omega (arith, first.few, second.few, size);
           path = subst (λ x. Stretch (tac_system functions) (first.count + (second.count + 1)) [] (at x registers) (at more result)) (sym regroup) path;
-          value = subst (λ r. result r ≡ Some v) (sym reg) (written_same second.after d (f found.0 found.1) ∙ ap Some found.4);
+          value = subst (λ r. value_in result r ≡ Some v) (sym reg) (written_same second.after d (f found.0 found.1) ∙ ap Some found.4);
           same = λ x below.
               let two_same : second.after x ≡ registers x = second.same x (omega (arith, free_more p t)) ∙ first.same x below in
               target_written second.after want t (f found.0 found.1) x below
@@ -225,17 +282,26 @@ module _ (functions : List TacFunc) (blocks : List TacBlock) (end : TacEnd) (cal
         }
 
     pub computes : (e : Expr) → Claim e
-    computes (Const n) want t v more registers l over agree h =
+    computes (Const n) (Some d) t v more registers l over agree h =
         let same : n ≡ v = some_same n v h in
         record {
           count = 1;
-          after = with_written registers (target_of want t) n;
-          some = least_one want 1 (omega arith);
+          after = with_written registers d n;
+          some = omega arith;
           few = omega arith;
-          path = one_op (op.Const (target_of want t) n) more registers (target_of want t) n refl (const_step (target_of want t) n more registers);
-          value = written_same registers (target_of want t) n ∙ ap Some same;
-          same = λ x below. target_written registers want t n x below ∙ ap (λ w. with_result registers want w x) same;
+          path = one_op (op.Const d n) more registers d n refl (const_step d n more registers);
+          value = written_same registers d n ∙ ap Some same;
+          same = λ x below. ap (λ w. with_written registers d w x) same;
         }
+    computes (Const n) None t v more registers l over agree h = record {
+      count = 0;
+      after = registers;
+      some = omega arith;
+      few = omega arith;
+      path = no_step (tac_system functions) (at more registers);
+      value = h;
+      same = λ x below. refl;
+    }
     computes (Local y) (Some d) t v more registers l over agree h =
         let there : registers y ≡ Some v = agree y over ∙ h in
         record {
@@ -259,7 +325,7 @@ module _ (functions : List TacFunc) (blocks : List TacBlock) (end : TacEnd) (cal
     computes (Load width a) want t v more registers l over agree h =
         let found = and_then_some (value_at width world.memory) (value_of values world.memory a) v h in
         let d = target_of want t in
-        let r = register_of a None t in
+        let r = operand_of a None t in
         let last = op.Load width d r in
         let first = computes a None t found.0 (last ∷ more) registers l over agree found.1 in
         let done : IsStep last more first.after d v = load_step width d r found.0 v more first.after first.value found.2 in
@@ -276,7 +342,7 @@ module _ (functions : List TacFunc) (blocks : List TacBlock) (end : TacEnd) (cal
           same = λ x below. target_written first.after want t v x below ∙ result_like first.after registers want v x (first.same x below);
         }
     computes (Bin o p q) want t v more registers l over agree h =
-        two (Bin o p q) p q (op.Bin o) (applied o) (computes p) (computes q) (λ d a b. refl) (bin_step o) refl
+        two (Bin o p q) p q (bin_of o) (applied o) (computes p) (computes q) (bin_plain o) (bin_step o) refl
         want t v more registers refl refl l over.0 over.1 agree h
     computes (High s p q) want t v more registers l over agree h =
         two (High s p q) p q (op.High s) (high_product s) (computes p) (computes q) (λ d a b. refl) (high_step s) refl

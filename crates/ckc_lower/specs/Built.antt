@@ -1,6 +1,12 @@
--- What the builder of a function is after each part of its code. Private contracts alone speak of it.
-use Rattle.std.specs.Prelude.{ℕ, ◌+◌, max, List, [], ◌∷◌, ◌++◌, length, Option, Some, None}
+-- What the builder of a function is after each part of its code. It mirrors the code and need not be believed.
+use Rattle.std.specs.Prelude.{ℕ, ◌+◌, max, ◌==◌, ◌&&◌, if◌then◌else◌, Bool, true, false, not, List, [], ◌∷◌, ◌++◌, length, Option, Some, None}
+use Rattle.ckc_base.specs.declared.arithmetic.BinOp.{BinOp}
+use Rattle.ckc_base.specs.declared.arithmetic.BinOp.TheVariants as binary
 use Rattle.ckc_core.specs.Code.{Expr, Const, Local, Load, Bin, High, Code, End, Set, Store, Check, Call, Get, Put, Alloc, If, Loop, Break, Continue, Return}
+use Rattle.ckc_tac.specs.declared.code.Comparison.{Comparison}
+use Rattle.ckc_tac.specs.declared.code.Comparison.TheVariants.{LtS, LtU, Eq, Ne}
+use Rattle.ckc_tac.specs.declared.code.Operand.{Operand}
+use Rattle.ckc_tac.specs.declared.code.Operand.TheVariants.{Register, Number}
 use Rattle.ckc_tac.specs.declared.code.TacOp.{TacOp}
 use Rattle.ckc_tac.specs.declared.code.TacOp.TheVariants as op
 use Rattle.ckc_tac.specs.declared.code.TacEnd.{TacEnd}
@@ -12,7 +18,7 @@ use Rattle.ckc_lower.specs.declared.builder.Targets.{Targets}
 
 -- the first temporary that is free beside the value of an expression, which was computed from t on
 abbrev pub free_from : Expr → ℕ → ℕ
-free_from (Const n) t = t + 1
+free_from (Const n) t = t
 free_from (Local x) t = t
 free_from (Load width a) t = t + 1
 free_from (Bin op a b) t = t + 1
@@ -23,14 +29,34 @@ abbrev pub target_of : Option ℕ → ℕ → ℕ
 target_of (Some d) t = d
 target_of None t = t
 
--- the register with the value of an expression
-abbrev pub register_of : Expr → Option ℕ → ℕ → ℕ
-register_of (Const n) want t = target_of want t
-register_of (Local x) (Some d) t = d
-register_of (Local x) None t = x
-register_of (Load width a) want t = target_of want t
-register_of (Bin op a b) want t = target_of want t
-register_of (High is_signed a b) want t = target_of want t
+-- where the value of an expression is
+abbrev pub operand_of : Expr → Option ℕ → ℕ → Operand
+operand_of (Const n) (Some d) t = Register d
+operand_of (Const n) None t = Number n
+operand_of (Local x) (Some d) t = Register d
+operand_of (Local x) None t = Register x
+operand_of (Load width a) want t = Register (target_of want t)
+operand_of (Bin op a b) want t = Register (target_of want t)
+operand_of (High is_signed a b) want t = Register (target_of want t)
+
+-- whether an operation gives the same with its operands exchanged
+abbrev pub is_even : BinOp → Bool
+is_even binary.Add = true
+is_even binary.Mul = true
+is_even binary.And = true
+is_even binary.Or = true
+is_even binary.Xor = true
+is_even binary.Eq = true
+is_even binary.Ne = true
+is_even o = false
+
+abbrev pub is_number : Operand → Bool
+is_number (Register r) = false
+is_number (Number n) = true
+
+-- an operation on two operands; a number comes second where it may
+abbrev pub bin_of : BinOp → ℕ → Operand → Operand → TacOp
+bin_of o d a b = if is_even o && is_number a then op.Bin o d b a else op.Bin o d a b
 
 abbrev pub with_op : Builder → TacOp → Builder
 with_op b o = record b { ops = b.ops ++ o ∷ [] }
@@ -40,28 +66,81 @@ abbrev pub with_temporary : Option ℕ → ℕ → Builder → Builder
 with_temporary (Some d) t b = b
 with_temporary None t b = record b { regs = max b.regs (t + 1) }
 
--- the value of an expression is computed into the wanted register, or into one that `register_of` names
+-- the value of an expression is computed into the wanted register, or to where `operand_of` tells
 abbrev pub with_value : Expr → Option ℕ → ℕ → Builder → Builder
-with_value (Const n) want t b = with_op (with_temporary want t b) (op.Const (target_of want t) n)
+with_value (Const n) (Some d) t b = with_op b (op.Const d n)
+with_value (Const n) None t b = b
 with_value (Local x) (Some d) t b = with_op b (op.Copy d x)
 with_value (Local x) None t b = b
 with_value (Load width a) want t b =
-    with_op (with_temporary want t (with_value a None t b)) (op.Load width (target_of want t) (register_of a None t))
+    with_op (with_temporary want t (with_value a None t b)) (op.Load width (target_of want t) (operand_of a None t))
 with_value (Bin o p q) want t b =
     with_op (with_temporary want t (with_value q None (free_from p t) (with_value p None t b)))
-    (op.Bin o (target_of want t) (register_of p None t) (register_of q None (free_from p t)))
+    (bin_of o (target_of want t) (operand_of p None t) (operand_of q None (free_from p t)))
 with_value (High is_signed p q) want t b =
     with_op (with_temporary want t (with_value q None (free_from p t) (with_value p None t b)))
-    (op.High is_signed (target_of want t) (register_of p None t) (register_of q None (free_from p t)))
+    (op.High is_signed (target_of want t) (operand_of p None t) (operand_of q None (free_from p t)))
+
+-- the register of an argument: that of a local, or the temporary t
+abbrev pub register_of : Expr → ℕ → ℕ
+register_of (Local x) t = x
+register_of e t = t
+
+-- the first temporary that is free beside an argument
+abbrev pub free_past : Expr → ℕ → ℕ
+free_past (Local x) t = t
+free_past e t = t + 1
+
+-- the value of an expression is computed into a register
+abbrev pub with_register : Expr → ℕ → Builder → Builder
+with_register (Const n) t b = with_op (with_temporary None t b) (op.Const t n)
+with_register e t b = with_value e None t b
 
 -- values of several expressions, each in a register of its own
 abbrev pub with_values : List Expr → ℕ → Builder → Builder
 with_values [] t b = b
-with_values (e ∷ es) t b = with_values es (free_from e t) (with_value e None t b)
+with_values (e ∷ es) t b = with_values es (free_past e t) (with_register e t b)
 
 abbrev pub registers_of : List Expr → ℕ → List ℕ
 registers_of [] t = []
-registers_of (e ∷ es) t = register_of e None t ∷ registers_of es (free_from e t)
+registers_of (e ∷ es) t = register_of e t ∷ registers_of es (free_past e t)
+
+-- ---- conditions
+
+-- What a condition compares: it holds where the comparison holds, or where not, if it is turned.
+pub record Test : Type 0 where
+  pub comparison : Comparison
+  pub left : Expr
+  pub right : Expr
+  pub turned : Bool
+
+abbrev pub is_zero : Expr → Bool
+is_zero (Const n) = n == 0
+is_zero e = false
+
+abbrev pub test : Comparison → Expr → Expr → Bool → Test
+test comparison p q turned = record { comparison = comparison; left = p; right = q; turned = turned }
+
+-- the test of an operation, by whether its right side is zero, and the tests of its left side
+abbrev pub test_of_bin : BinOp → Expr → Expr → (zero : Bool) → (Bool → Test) → Bool → Test
+test_of_bin binary.LtS p q zero left turned = test LtS p q turned
+test_of_bin binary.LtU p q zero left turned = test LtU p q turned
+test_of_bin binary.Eq p q true left turned = left (not turned)
+test_of_bin binary.Eq p q false left turned = test Eq p q turned
+test_of_bin binary.Ne p q true left turned = left turned
+test_of_bin binary.Ne p q false left turned = test Ne p q turned
+test_of_bin o p q zero left turned = test Ne (Bin o p q) (Const 0) turned
+
+-- The test of a condition. A comparison is one itself, and a comparison with zero is the test of the other side; any
+-- other value is compared with zero.
+abbrev pub test_of : Expr → (turned : Bool) → Test
+test_of (Bin o p q) turned = test_of_bin o p q (is_zero q) (test_of p) turned
+test_of e turned = test Ne e (Const 0) turned
+
+-- one of two, the second where it is turned
+abbrev pub picked : Bool → ℕ → ℕ → ℕ
+picked false one two = one
+picked true one two = two
 
 -- ---- statements
 
@@ -86,9 +165,9 @@ abbrev pub with_end : Builder → TacEnd → Builder
 with_end b end = record b { blocks = b.blocks ++ record { ops = b.ops; end = end } ∷ []; ops = [] }
 
 -- the end of a list of statements: a jump, or at the end of the function the return of 0
-abbrev pub left : ℕ → Option ℕ → Builder → Builder
-left t (Some to) b = with_end b (ends.Jump to)
-left t None b = with_end (with_op (with_temporary None t b) (op.Const t 0)) (ends.Return t)
+abbrev pub left : Option ℕ → Builder → Builder
+left (Some to) b = with_end b (ends.Jump to)
+left None b = with_end b (ends.Return (Number 0))
 
 abbrev pub out_of : Option Targets → ℕ
 out_of (Some targets) = targets.out
@@ -98,18 +177,26 @@ abbrev pub step_of : Option Targets → ℕ
 step_of (Some targets) = targets.step
 step_of None = 0
 
-abbrev pub stored : ℕ → Expr → Expr → (ℕ → ℕ → TacOp) → Builder → Builder
+abbrev pub stored : ℕ → Expr → Expr → (Operand → Operand → TacOp) → Builder → Builder
 stored t a e o b =
     with_op (with_value e None (free_from a t) (with_value a None t b))
-    (o (register_of a None t) (register_of e None (free_from a t)))
+    (o (operand_of a None t) (operand_of e None (free_from a t)))
 
-abbrev pub used : ℕ → Expr → (ℕ → TacOp) → Builder → Builder
-used t e o b = with_op (with_value e None t b) (o (register_of e None t))
+abbrev pub used : ℕ → Expr → (Operand → TacOp) → Builder → Builder
+used t e o b = with_op (with_value e None t b) (o (operand_of e None t))
+
+-- the branch of a test to one of two blocks
+abbrev pub branch_of : Test → (t one two : ℕ) → TacEnd
+branch_of s t one two =
+    ends.Branch s.comparison (operand_of s.left None t) (operand_of s.right None (free_from s.left t))
+    (picked s.turned one two) (picked s.turned two one)
+
+-- both sides of a test are computed, and the open block ends with its branch
+abbrev pub tested : ℕ → Test → (one two : ℕ) → Builder → Builder
+tested t s one two b = with_end (with_value s.right None (free_from s.left t) (with_value s.left None t b)) (branch_of s t one two)
 
 abbrev pub forked : ℕ → Expr → Code → Code → Builder → Builder
-forked t e one two b =
-    with_end (with_value e None t b)
-    (ends.Branch (register_of e None t) (length b.blocks + 1) (length b.blocks + 1 + block_count one))
+forked t e one two b = tested t (test_of e false) (length b.blocks + 1) (length b.blocks + 1 + block_count one) b
 
 abbrev pub join_of : Code → Code → Builder → ℕ
 join_of one two b = length b.blocks + 1 + block_count one + block_count two
@@ -126,7 +213,7 @@ targets_of body step b = record { out = step_at body b + block_count step; step 
 -- The code is built behind what stands; t is the first temporary, exit the block behind the code, and loop the innermost
 -- loop. What stands behind a Break, a Continue or a Return is never reached and not built.
 abbrev pub built : ℕ → Code → Option ℕ → Option Targets → Builder → Builder
-built t End exit loop b = left t exit b
+built t End exit loop b = left exit b
 built t (Set x e rest) exit loop b = built t rest exit loop (with_value e (Some x) t b)
 built t (Store width a e rest) exit loop b = built t rest exit loop (stored t a e (op.Store width) b)
 built t (Check check at e rest) exit loop b = built t rest exit loop (used t e (op.Check check at) b)
@@ -143,4 +230,4 @@ built t (Loop body step rest) exit loop b =
     (built t body (Some (step_at body b)) (Some (targets_of body step b)) (entered b)))
 built t (Break rest) exit loop b = with_end b (ends.Jump (out_of loop))
 built t (Continue rest) exit loop b = with_end b (ends.Jump (step_of loop))
-built t (Return e rest) exit loop b = with_end (with_value e None t b) (ends.Return (register_of e None t))
+built t (Return e rest) exit loop b = with_end (with_value e None t b) (ends.Return (operand_of e None t))

@@ -1,4 +1,5 @@
--- The three-address code of functions and programs. Private contracts alone speak of it.
+-- The three-address code of functions and programs. It mirrors what `lower` makes and need not be believed: the contract
+-- of `lower` says how this code follows the program.
 use Rattle.std.specs.Prelude.{ℕ, [], map, None}
 use Rattle.ckc_core.specs.Code.{Function, Program}
 use Rattle.ckc_tac.specs.declared.code.Tac.{Tac}

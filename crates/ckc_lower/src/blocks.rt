@@ -1,12 +1,13 @@
-ghost use Rattle.std.specs.Prelude.{◌≡◌, ◌+◌, ◌<◌, ◌≤◌, ◌^◌, map, length, All, IfOk, OnOk};
-ghost use Rattle.ckc_core.specs.Code.{expr_of, code_of};
+ghost use Rattle.std.specs.Prelude.{◌≡◌, ◌+◌, ◌<◌, ◌≤◌, ◌^◌, map, length, All, IfOk, OnOk, false};
+ghost use Rattle.ckc_core.specs.Code.{expr_of, code_of, Const};
 ghost use Rattle.ckc_core.specs.Limits.{depth, IsShallow, KeepsLimits};
-ghost use Rattle.ckc_lower.specs.Built.{register_of, registers_of, with_op, with_value, with_values, with_end, left, out_of, step_of, stored, used, forked, join_of, entered, targets_of, block_count, built};
+ghost use Rattle.ckc_tac.specs.declared.code.Comparison.TheVariants as comparison;
+ghost use Rattle.ckc_lower.specs.Built.{is_zero as is_zero_of, test, test_of, picked as picked_of, tested, registers_of, with_op, with_value, with_values, with_end, left, out_of, step_of, stored, used, forked, join_of, entered, targets_of, block_count, built};
 
-use crate::builder::{Builder, Targets, free_after};
-use ckc_base::{Check, Pos, Seq, Width};
+use crate::builder::{Builder, Targets, free_after, operand, register_after};
+use ckc_base::{BinOp, Check, Pos, Seq, Width};
 use ckc_core::{CoreExpr, CoreStmt};
-use ckc_tac::{TacEnd, TacOp};
+use ckc_tac::{Comparison, Operand, TacEnd, TacOp};
 use std::alloc::{AllocError, Global};
 
 /// A sum; one past 2^32 - 1 is taken for want of memory.
@@ -78,9 +79,9 @@ impl Builder {
         let mut registers = Seq::new(alloc);
         let mut t = locals;
         for e in es {
-            let r = self.value(e, None, t)?;
+            let r = self.register(e, t)?;
             registers.push(r)?;
-            t = free_after(e, t);
+            t = register_after(e, t);
         }
         Ok(registers)
     }
@@ -97,10 +98,10 @@ impl Builder {
         requires value { IsShallow (expr_of e.now) }
         ensures { OnOk result (self.new ≡ stored locals (expr_of a.now) (expr_of e.now) (TacOp.Store width) self.old) }
     {
-        let p = self.value(a, None, locals)?;
-        let v = self.value(e, None, free_after(a, locals))?;
-        self.op(TacOp::Store(width, p, v))?;
-        Ok(())
+        let t = free_after(a, locals);
+        self.value(a, None, locals)?;
+        self.value(e, None, t)?;
+        self.op(TacOp::Store(width, operand(a, locals), operand(e, t)))
     }
 
     fn check(&mut self, check: Check, at: Pos, e: &CoreExpr, locals: u32) -> Result<(), AllocError>
@@ -108,9 +109,8 @@ impl Builder {
         requires value { IsShallow (expr_of e.now) }
         ensures { OnOk result (self.new ≡ used locals (expr_of e.now) (TacOp.Check check at) self.old) }
     {
-        let r = self.value(e, None, locals)?;
-        self.op(TacOp::Check(check, at, r))?;
-        Ok(())
+        self.value(e, None, locals)?;
+        self.op(TacOp::Check(check, at, operand(e, locals)))
     }
 
     fn call(
@@ -138,9 +138,8 @@ impl Builder {
         requires value { IsShallow (expr_of e.now) }
         ensures { OnOk result (self.new ≡ used locals (expr_of e.now) TacOp.Put self.old) }
     {
-        let r = self.value(e, None, locals)?;
-        self.op(TacOp::Put(r))?;
-        Ok(())
+        self.value(e, None, locals)?;
+        self.op(TacOp::Put(operand(e, locals)))
     }
 
     fn allocate(&mut self, x: u32, e: &CoreExpr, size: u32, locals: u32) -> Result<(), AllocError>
@@ -148,9 +147,85 @@ impl Builder {
         requires value { IsShallow (expr_of e.now) }
         ensures { OnOk result (self.new ≡ used locals (expr_of e.now) (λ r. TacOp.Alloc x r size) self.old) }
     {
-        let r = self.value(e, None, locals)?;
-        self.op(TacOp::Alloc(x, r, size))?;
-        Ok(())
+        self.value(e, None, locals)?;
+        self.op(TacOp::Alloc(x, operand(e, locals), size))
+    }
+
+    /// Ends the open block with a branch to one block where a comparison of two expressions holds, else to another one;
+    /// the other way round where it is turned.
+    fn compare(
+        &mut self,
+        alloc: Global,
+        comparison: Comparison,
+        a: &CoreExpr,
+        b: &CoreExpr,
+        turned: bool,
+        one: u32,
+        two: u32,
+        t: u32,
+    ) -> Result<(), AllocError>
+        requires left { t + depth (expr_of a.now) < 2 ^ 32 }
+        requires right { t + 1 + depth (expr_of b.now) < 2 ^ 32 }
+        ensures { OnOk result (self.new ≡ tested t (test comparison (expr_of a.now) (expr_of b.now) turned) one two self.old) }
+    {
+        let u = free_after(a, t);
+        self.value(a, None, t)?;
+        self.value(b, None, u)?;
+        let (first, second) = (picked(turned, one, two), picked(turned, two, one));
+        let (p, q) = (operand(a, t), operand(b, u));
+        self.end(alloc, TacEnd::Branch(comparison, p, q, first, second))
+    }
+
+    /// The same where an expression is not zero.
+    fn compare_zero(
+        &mut self,
+        alloc: Global,
+        e: &CoreExpr,
+        turned: bool,
+        one: u32,
+        two: u32,
+        t: u32,
+    ) -> Result<(), AllocError>
+        requires { t + depth (expr_of e.now) < 2 ^ 32 }
+        ensures { OnOk result (self.new ≡ tested t (test comparison.Ne (expr_of e.now) (Const 0) turned) one two self.old) }
+    {
+        self.value(e, None, t)?;
+        let (first, second) = (picked(turned, one, two), picked(turned, two, one));
+        let zero = Operand::Number(0);
+        self.end(
+            alloc,
+            TacEnd::Branch(Comparison::Ne, operand(e, t), zero, first, second),
+        )
+    }
+
+    /// The same where a condition holds.
+    fn branch(
+        &mut self,
+        alloc: Global,
+        e: &CoreExpr,
+        turned: bool,
+        one: u32,
+        two: u32,
+        t: u32,
+    ) -> Result<(), AllocError>
+        requires { t + depth (expr_of e.now) < 2 ^ 32 }
+        ensures { OnOk result (self.new ≡ tested t (test_of (expr_of e.now) turned) one two self.old) }
+    {
+        match e {
+            CoreExpr::Bin(op, a, b) => {
+                let (a, b) = (a.get(), b.get());
+                match op {
+                    BinOp::LtS => self.compare(alloc, Comparison::LtS, a, b, turned, one, two, t),
+                    BinOp::LtU => self.compare(alloc, Comparison::LtU, a, b, turned, one, two, t),
+                    BinOp::Eq if is_zero(b) => self.branch(alloc, a, !turned, one, two, t),
+                    BinOp::Eq => self.compare(alloc, Comparison::Eq, a, b, turned, one, two, t),
+                    BinOp::Ne if is_zero(b) => self.branch(alloc, a, turned, one, two, t),
+                    BinOp::Ne => self.compare(alloc, Comparison::Ne, a, b, turned, one, two, t),
+                    _ => self.compare_zero(alloc, e, turned, one, two, t),
+                }
+            }
+            _ => self.compare_zero(alloc, e, turned, one, two, t),
+        }
     }
 
     /// Ends the open block with a branch to the blocks of two lists, and tells the block behind both.
@@ -170,8 +245,7 @@ impl Builder {
         let first = self.next_block()?;
         let second = behind(first, one)?;
         let join = behind(second, two)?;
-        let r = self.value(e, None, locals)?;
-        self.end(alloc, TacEnd::Branch(r, first, second))?;
+        self.branch(alloc, e, false, first, second, locals)?;
         Ok(join)
     }
 
@@ -193,18 +267,13 @@ impl Builder {
     }
 
     /// Ends the open block behind the last statement of a list.
-    fn leave(&mut self, alloc: Global, exit: Option<u32>, locals: u32) -> Result<(), AllocError>
-        requires room { locals ≤ 2000 }
-        ensures { OnOk result (self.new ≡ left locals exit self.old) }
+    fn leave(&mut self, alloc: Global, exit: Option<u32>) -> Result<(), AllocError>
+        ensures { OnOk result (self.new ≡ left exit self.old) }
     {
         match exit {
-            Some(to) => self.end(alloc, TacEnd::Jump(to))?,
-            None => {
-                let r = self.zero(locals)?;
-                self.end(alloc, TacEnd::Return(r))?;
-            }
+            Some(to) => self.end(alloc, TacEnd::Jump(to)),
+            None => self.end(alloc, TacEnd::Return(Operand::Number(0))),
         }
-        Ok(())
     }
 }
 
@@ -226,7 +295,7 @@ impl Builder {
         for s in stmts {
             match s {
                 CoreStmt::Set(x, e) => {
-                    let _ = self.value(e, Some(*x), locals)?;
+                    self.value(e, Some(*x), locals)?;
                 }
                 CoreStmt::Store(width, a, e) => self.store(*width, a, e, locals)?,
                 CoreStmt::Check(check, at, e) => self.check(*check, *at, e, locals)?,
@@ -256,14 +325,30 @@ impl Builder {
                     return Ok(());
                 }
                 CoreStmt::Return(e) => {
-                    let r = self.value(e, None, locals)?;
-                    self.end(alloc, TacEnd::Return(r))?;
+                    self.value(e, None, locals)?;
+                    self.end(alloc, TacEnd::Return(operand(e, locals)))?;
                     return Ok(());
                 }
             }
         }
-        self.leave(alloc, exit, locals)?;
+        self.leave(alloc, exit)?;
         Ok(())
+    }
+}
+
+/// One of two numbers, the second where it is turned.
+fn picked(turned: bool, one: u32, two: u32) -> u32
+    ensures { result ≡ picked_of turned one two }
+{
+    if turned { two } else { one }
+}
+
+fn is_zero(e: &CoreExpr) -> bool
+    ensures { result ≡ is_zero_of (expr_of e.now) }
+{
+    match e {
+        CoreExpr::Const(n) => *n == 0,
+        _ => false,
     }
 }
 

@@ -1,11 +1,11 @@
-ghost use Rattle.std.specs.Prelude.{◌≡◌, ◌+◌, ◌<◌, ◌≤◌, ◌^◌, IfOk, OnOk, None};
-ghost use Rattle.ckc_core.specs.Code.{expr_of};
+ghost use Rattle.std.specs.Prelude.{◌≡◌, ℕ, ◌+◌, ◌<◌, ◌≤◌, ◌^◌, IfOk, OnOk, None};
+ghost use Rattle.ckc_core.specs.Code.{expr_of, Const, Local};
 ghost use Rattle.ckc_core.specs.Limits.{depth};
-ghost use Rattle.ckc_lower.specs.Built.{free_from, target_of, register_of, with_op, with_temporary, with_value, with_end};
+ghost use Rattle.ckc_lower.specs.Built.{free_from, operand_of, is_even as is_even_of, bin_of, free_past, register_of, target_of, with_op, with_temporary, with_value, with_register, with_end};
 
-use ckc_base::Seq;
+use ckc_base::{BinOp, Seq};
 use ckc_core::CoreExpr;
-use ckc_tac::{TacBlock, TacEnd, TacOp};
+use ckc_tac::{Operand, TacBlock, TacEnd, TacOp};
 use std::alloc::{AllocError, Global};
 
 /// The blocks of a function that are done, the operations of the one that is open, and how many registers are used.
@@ -29,11 +29,54 @@ pub fn free_after(e: &CoreExpr, t: u32) -> u32
     ensures { result ≡ free_from (expr_of e.now) t }
 {
     match e {
+        CoreExpr::Const(_) | CoreExpr::Local(_) => t,
+        CoreExpr::Load(_, _) | CoreExpr::Bin(_, _, _) | CoreExpr::High(_, _, _) => t + 1,
+    }
+}
+
+/// The same, where the value is in a register.
+pub fn register_after(e: &CoreExpr, t: u32) -> u32
+    requires { t + 1 < 2 ^ 32 }
+    ensures { result ≡ free_past (expr_of e.now) t }
+{
+    match e {
         CoreExpr::Local(_) => t,
-        CoreExpr::Const(_)
-        | CoreExpr::Load(_, _)
-        | CoreExpr::Bin(_, _, _)
-        | CoreExpr::High(_, _, _) => t + 1,
+        _ => t + 1,
+    }
+}
+
+/// Where the value of an expression is: a number and a local stand where they are, other values in the temporary t.
+pub fn operand(e: &CoreExpr, t: u32) -> Operand
+    ensures { result ≡ operand_of (expr_of e.now) None t }
+{
+    match e {
+        CoreExpr::Const(n) => Operand::Number(*n),
+        CoreExpr::Local(x) => Operand::Register(*x),
+        CoreExpr::Load(_, _) | CoreExpr::Bin(_, _, _) | CoreExpr::High(_, _, _) => {
+            Operand::Register(t)
+        }
+    }
+}
+
+/// Whether an operation gives the same with its operands exchanged.
+fn is_even(op: BinOp) -> bool
+    ensures { result ≡ is_even_of op }
+{
+    match op {
+        BinOp::Add | BinOp::Mul | BinOp::And | BinOp::Or | BinOp::Xor | BinOp::Eq | BinOp::Ne =>
+            true,
+        _ => false,
+    }
+}
+
+/// An operation on two operands. A number comes second where it may.
+fn bin(op: BinOp, d: u32, a: Operand, b: Operand) -> TacOp
+    ensures { result ≡ bin_of op d a b }
+{
+    if is_even(op) && matches!(a, Operand::Number(_)) {
+        TacOp::Bin(op, d, b, a)
+    } else {
+        TacOp::Bin(op, d, a, b)
     }
 }
 
@@ -70,56 +113,72 @@ impl Builder {
         }
     }
 
-    /// Computes a value into the wanted register, or into the one that it tells; temporaries from t on are free.
-    pub fn value(&mut self, e: &CoreExpr, want: Option<u32>, t: u32) -> Result<u32, AllocError>
+    /// Computes a value into the wanted register, or to where `operand` tells; temporaries from t on are free.
+    pub fn value(&mut self, e: &CoreExpr, want: Option<u32>, t: u32) -> Result<(), AllocError>
         requires { t + depth (expr_of e.now) < 2 ^ 32 }
-        ensures register { IfOk result (λ r. r ≡ register_of (expr_of e.now) want t) }
-        ensures built { OnOk result (self.new ≡ with_value (expr_of e.now) want t self.old) }
+        ensures { OnOk result (self.new ≡ with_value (expr_of e.now) want t self.old) }
     {
         match e {
-            CoreExpr::Const(n) => {
-                let d = self.target(want, t);
-                self.op(TacOp::Const(d, *n))?;
-                Ok(d)
-            }
-            CoreExpr::Local(x) => match want {
-                Some(d) => {
-                    self.op(TacOp::Copy(d, *x))?;
-                    Ok(d)
-                }
-                None => Ok(*x),
-            },
+            CoreExpr::Const(n) => self.constant(*n, want),
+            CoreExpr::Local(x) => self.copy(*x, want),
             CoreExpr::Load(width, a) => {
-                let p = self.value(a.get(), None, t)?;
+                self.value(a.get(), None, t)?;
                 let d = self.target(want, t);
-                self.op(TacOp::Load(*width, d, p))?;
-                Ok(d)
+                self.op(TacOp::Load(*width, d, operand(a.get(), t)))
             }
             CoreExpr::Bin(op, a, b) => {
-                let p = self.value(a.get(), None, t)?;
-                let q = self.value(b.get(), None, free_after(a.get(), t))?;
+                let u = free_after(a.get(), t);
+                self.value(a.get(), None, t)?;
+                self.value(b.get(), None, u)?;
                 let d = self.target(want, t);
-                self.op(TacOp::Bin(*op, d, p, q))?;
-                Ok(d)
+                self.op(bin(*op, d, operand(a.get(), t), operand(b.get(), u)))
             }
             CoreExpr::High(is_signed, a, b) => {
-                let p = self.value(a.get(), None, t)?;
-                let q = self.value(b.get(), None, free_after(a.get(), t))?;
+                let u = free_after(a.get(), t);
+                self.value(a.get(), None, t)?;
+                self.value(b.get(), None, u)?;
                 let d = self.target(want, t);
-                self.op(TacOp::High(*is_signed, d, p, q))?;
-                Ok(d)
+                let (p, q) = (operand(a.get(), t), operand(b.get(), u));
+                self.op(TacOp::High(*is_signed, d, p, q))
             }
         }
     }
 
-    /// The number 0 in the temporary t.
-    pub fn zero(&mut self, t: u32) -> Result<u32, AllocError>
-        requires { t + 1 < 2 ^ 32 }
-        ensures register { IfOk result (λ r. r ≡ t) }
-        ensures built { OnOk result (self.new ≡ with_op (with_temporary None t self.old) (TacOp.Const t 0)) }
+    fn constant(&mut self, n: u32, want: Option<u32>) -> Result<(), AllocError>
+        ensures { (t : ℕ) → OnOk result (self.new ≡ with_value (Const n) want t self.old) }
     {
-        let d = self.target(None, t);
-        self.op(TacOp::Const(d, 0))?;
-        Ok(d)
+        match want {
+            Some(d) => self.op(TacOp::Const(d, n)),
+            None => Ok(()),
+        }
+    }
+
+    fn copy(&mut self, x: u32, want: Option<u32>) -> Result<(), AllocError>
+        ensures { (t : ℕ) → OnOk result (self.new ≡ with_value (Local x) want t self.old) }
+    {
+        match want {
+            Some(d) => self.op(TacOp::Copy(d, x)),
+            None => Ok(()),
+        }
+    }
+
+    /// Computes a value into a register, and tells which: a local stands where it is, a number too gets a temporary.
+    pub fn register(&mut self, e: &CoreExpr, t: u32) -> Result<u32, AllocError>
+        requires { t + depth (expr_of e.now) < 2 ^ 32 }
+        ensures register { IfOk result (λ r. r ≡ register_of (expr_of e.now) t) }
+        ensures built { OnOk result (self.new ≡ with_register (expr_of e.now) t self.old) }
+    {
+        match e {
+            CoreExpr::Const(n) => {
+                let d = self.target(None, t);
+                self.op(TacOp::Const(d, *n))?;
+                Ok(d)
+            }
+            CoreExpr::Local(x) => Ok(*x),
+            CoreExpr::Load(_, _) | CoreExpr::Bin(_, _, _) | CoreExpr::High(_, _, _) => {
+                self.value(e, None, t)?;
+                Ok(t)
+            }
+        }
     }
 }

@@ -64,10 +64,13 @@ fn program(alloc: Global, c: &Core) -> Result<Tac, AllocError>
 }
 
 /// The three-address code of a program, which follows it step by step, calls, returns and stores included. Temporaries
-/// are used again, and what feeds a branch or a check alone is computed directly in front of it.
+/// are used again. Locals and numbers are read where they stand, and a condition that is a comparison is the branch itself;
+/// what feeds a branch or a check alone is computed directly in front of it.
 pub fn lower(alloc: Global, c: &Core) -> Result<Tac, AllocError>
     requires well_formed { IsWellFormed (program_of c.now) }
     requires limits { IsWithinLimits (program_of c.now) }
+
+    ensures code { IfOk result (λ t. t ≡ lowered (program_of c.now)) }
 
     // for every input, within 4 steps for each step of the core code and one more
     ensures follows { IfOk result (λ t. (input : List ℕ) →

@@ -1,6 +1,5 @@
 -- A program with what it shows, as an example of the meaning.
 use Rattle.std.specs.Prelude.{List, [], ◌∷◌, Some, None}
-use Rattle.ckc_base.specs.declared.arithmetic.BinOp.TheVariants.{Eq}
 use Rattle.ckc_base.specs.declared.arithmetic.Width.TheVariants.{Word}
 use Rattle.ckc_base.specs.declared.places.Pos.{Pos}
 use Rattle.ckc_base.specs.declared.runtime_checks.Check.TheVariants.{Dynamic}
@@ -8,7 +7,9 @@ use Rattle.ckc_base.specs.Traces.{Got, Put as Puts, Standing, Showing}
 use Rattle.ckc_base.specs.LongEvents.{LongEvent, Plain, Stored, Entered, Returned}
 use Rattle.ckc_tac.specs.declared.code.Tac.{Tac}
 use Rattle.ckc_tac.specs.declared.code.TacFunc.{TacFunc}
-use Rattle.ckc_tac.specs.declared.code.TacOp.TheVariants.{Const, Bin, Store, Check, Call, Get, Put}
+use Rattle.ckc_tac.specs.declared.code.Comparison.TheVariants.{Eq}
+use Rattle.ckc_tac.specs.declared.code.Operand.TheVariants.{Register, Number}
+use Rattle.ckc_tac.specs.declared.code.TacOp.TheVariants.{Const, Store, Check, Call, Get, Put}
 use Rattle.ckc_tac.specs.declared.code.TacEnd.TheVariants.{Jump, Branch, Return}
 
 abbrev pub place : Pos
@@ -19,17 +20,17 @@ place = record { line = 3; col = 7 }
 abbrev pub example_main : TacFunc
 example_main = record {
   params = 0;
-  regs = 4;
-  blocks = record { ops = Get 0 ∷ Const 1 65 ∷ Bin Eq 2 0 1 ∷ []; end = Branch 2 1 2 }
-      ∷ record { ops = Call None 1 (0 ∷ []) place ∷ Put 0 ∷ []; end = Return 0 }
-      ∷ record { ops = Check Dynamic place 3 ∷ []; end = Jump 1 } ∷ [];
+  regs = 2;
+  blocks = record { ops = Get 0 ∷ []; end = Branch Eq (Register 0) (Number 65) 1 2 }
+      ∷ record { ops = Call None 1 (0 ∷ []) place ∷ Put (Register 0) ∷ []; end = Return (Register 0) }
+      ∷ record { ops = Check Dynamic place (Register 1) ∷ []; end = Jump 1 } ∷ [];
 }
 
 abbrev pub example_callee : TacFunc
 example_callee = record {
   params = 1;
   regs = 2;
-  blocks = record { ops = Const 1 0x02000008 ∷ Store Word 1 0 ∷ []; end = Return 0 } ∷ [];
+  blocks = record { ops = Const 1 0x02000008 ∷ Store Word (Register 1) (Register 0) ∷ []; end = Return (Register 0) } ∷ [];
 }
 
 abbrev pub example : Tac

@@ -16,7 +16,7 @@ use Rattle.ckc_tac.specs.declared.code.TacOp.{TacOp}
 use Rattle.ckc_tac.specs.declared.code.TacOp.TheVariants.{Call}
 use Rattle.ckc_tac.specs.declared.code.TacEnd.{TacEnd}
 use Rattle.ckc_tac.specs.declared.code.TacEnd.TheVariants.{Jump, Branch, Return}
-use Rattle.ckc_tac.specs.Operations.{outcome_of, values_in}
+use Rattle.ckc_tac.specs.Operations.{outcome_of, value_in, values_in, compared}
 
 -- ---- states
 
@@ -101,8 +101,8 @@ operates functions s ops op = goes_by s ops (outcome_of s.frame.registers s.worl
 
 abbrev pub ends : State → TacEnd → Move LongEvent State
 ends s (Jump to) = goes_to s (slice_get s.frame.blocks to)
-ends s (Branch r one two) = branches s one two (s.frame.registers r)
-ends s (Return r) = returns s s.callers (s.frame.registers r)
+ends s (Branch comparison a b one two) = branches s one two (compared comparison (value_in s.frame.registers a) (value_in s.frame.registers b))
+ends s (Return a) = returns s s.callers (value_in s.frame.registers a)
 
 abbrev pub runs : List TacFunc → State → List TacOp → Move LongEvent State
 runs functions s [] = ends s s.frame.end

@@ -4,6 +4,8 @@ use Rattle.ckc_base.specs.declared.places.Pos.{Pos}
 use Rattle.ckc_tac.specs.declared.code.Tac.{Tac}
 use Rattle.ckc_tac.specs.declared.code.TacFunc.{TacFunc}
 use Rattle.ckc_tac.specs.declared.code.TacBlock.{TacBlock}
+use Rattle.ckc_tac.specs.declared.code.Operand.{Operand}
+use Rattle.ckc_tac.specs.declared.code.Operand.TheVariants.{Register, Number}
 use Rattle.ckc_tac.specs.declared.code.TacOp.{TacOp}
 use Rattle.ckc_tac.specs.declared.code.TacOp.TheVariants.{Const, Copy, Bin, High, Load, Store, Check, Call, Get, Put, Alloc}
 use Rattle.ckc_tac.specs.declared.code.TacEnd.{TacEnd}
@@ -17,28 +19,33 @@ HasParams count None = ⊥
 abbrev pub IsPlace : Pos → Type 0
 IsPlace at = (at.line < 2 ^ 32) × (at.col < 2 ^ 32)
 
+-- the register is one of so many, or the number is a word
+abbrev pub IsOperandOver : ℕ → Operand → Type 0
+IsOperandOver regs (Register r) = r < regs
+IsOperandOver regs (Number n) = n < 2 ^ 32
+
 -- every register is one of so many, every number is a word, and a call names a function that is there, with as many
 -- arguments as it has parameters
 abbrev pub IsOpOver : List TacFunc → ℕ → TacOp → Type 0
 IsOpOver functions regs (Const t n) = (t < regs) × (n < 2 ^ 32)
 IsOpOver functions regs (Copy t a) = (t < regs) × (a < regs)
-IsOpOver functions regs (Bin op t a b) = (t < regs) × (a < regs) × (b < regs)
-IsOpOver functions regs (High is_signed t a b) = (t < regs) × (a < regs) × (b < regs)
-IsOpOver functions regs (Load width t a) = (t < regs) × (a < regs)
-IsOpOver functions regs (Store width a b) = (a < regs) × (b < regs)
-IsOpOver functions regs (Check check at a) = IsPlace at × (a < regs)
+IsOpOver functions regs (Bin op t a b) = (t < regs) × IsOperandOver regs a × IsOperandOver regs b
+IsOpOver functions regs (High is_signed t a b) = (t < regs) × IsOperandOver regs a × IsOperandOver regs b
+IsOpOver functions regs (Load width t a) = (t < regs) × IsOperandOver regs a
+IsOpOver functions regs (Store width a b) = IsOperandOver regs a × IsOperandOver regs b
+IsOpOver functions regs (Check check at a) = IsPlace at × IsOperandOver regs a
 IsOpOver functions regs (Call target callee arguments at) =
     IfSome target (λ t. t < regs) × HasParams (length arguments) (slice_get functions callee)
     × All (λ r. r < regs) arguments × IsPlace at
 IsOpOver functions regs (Get t) = t < regs
-IsOpOver functions regs (Put a) = a < regs
-IsOpOver functions regs (Alloc t a size) = (t < regs) × (a < regs) × (size < 2 ^ 32)
+IsOpOver functions regs (Put a) = IsOperandOver regs a
+IsOpOver functions regs (Alloc t a size) = (t < regs) × IsOperandOver regs a × (size < 2 ^ 32)
 
 -- every block that is named is one of so many
 abbrev pub IsEndOver : (blocks regs : ℕ) → TacEnd → Type 0
 IsEndOver blocks regs (Jump to) = to < blocks
-IsEndOver blocks regs (Branch r one two) = (r < regs) × (one < blocks) × (two < blocks)
-IsEndOver blocks regs (Return r) = r < regs
+IsEndOver blocks regs (Branch comparison a b one two) = IsOperandOver regs a × IsOperandOver regs b × (one < blocks) × (two < blocks)
+IsEndOver blocks regs (Return a) = IsOperandOver regs a
 
 abbrev pub IsBlockOver : List TacFunc → (blocks regs : ℕ) → TacBlock → Type 0
 IsBlockOver functions blocks regs block = All (IsOpOver functions regs) block.ops × IsEndOver blocks regs block.end

@@ -24,33 +24,50 @@ pub struct TacBlock {
     pub end: TacEnd,
 }
 
-/// An operation. A register that is written comes first, then those that are read.
+/// What an operation reads: a register, or a number of the code.
+#[derive(Clone, Copy, Debug, PartialEq, Eq)]
+pub enum Operand {
+    Register(u32),
+    Number(u32),
+}
+
+/// An operation. A register that is written comes first, then what is read.
 ///
 /// - `High` is the upper word of a product, signed where the flag says so.
 /// - `Store` has the address, then the value.
-/// - `Check` stops where its register is zero.
-/// - `Call` has the number of the function, the arguments, and the place at which a call too deep stops.
+/// - `Check` stops where its operand is zero.
+/// - `Call` has the number of the function, the registers of the arguments, and the place at which a call too deep
+///   stops.
 /// - `Alloc` has the count of elements and the size of one.
 #[derive(Drop)]
 pub enum TacOp {
     Const(u32, u32),
     Copy(u32, u32),
-    Bin(BinOp, u32, u32, u32),
-    High(bool, u32, u32, u32),
-    Load(Width, u32, u32),
-    Store(Width, u32, u32),
-    Check(Check, Pos, u32),
+    Bin(BinOp, u32, Operand, Operand),
+    High(bool, u32, Operand, Operand),
+    Load(Width, u32, Operand),
+    Store(Width, Operand, Operand),
+    Check(Check, Pos, Operand),
     Call(Option<u32>, u32, Seq<u32>, Pos),
     Get(u32),
-    Put(u32),
-    Alloc(u32, u32, u32),
+    Put(Operand),
+    Alloc(u32, Operand, u32),
 }
 
-/// The end of a block: control goes to a block, or to the first of two where a register is not zero, else to the
-/// second, or back to the caller with a register's value.
+/// A comparison of two words: less by their signed or unsigned values, equal, or unequal.
+#[derive(Clone, Copy, Debug, PartialEq, Eq)]
+pub enum Comparison {
+    LtS,
+    LtU,
+    Eq,
+    Ne,
+}
+
+/// The end of a block: control goes to a block, or to the first of two where a comparison of two operands holds, else
+/// to the second, or back to the caller with a value.
 #[derive(Clone, Copy, Debug, PartialEq, Eq)]
 pub enum TacEnd {
     Jump(u32),
-    Branch(u32, u32, u32),
-    Return(u32),
+    Branch(Comparison, Operand, Operand, u32, u32),
+    Return(Operand),
 }

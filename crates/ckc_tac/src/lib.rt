@@ -5,4 +5,4 @@
 mod code;
 pub mod laws;
 
-pub use code::{Tac, TacBlock, TacEnd, TacFunc, TacOp};
+pub use code::{Comparison, Operand, Tac, TacBlock, TacEnd, TacFunc, TacOp};

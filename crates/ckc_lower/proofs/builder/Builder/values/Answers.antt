@@ -4,8 +4,8 @@ use Rattle.ckc_core.specs.Limits.{depth, IsShallow}
 use Rattle.ckc_lower.proofs.Parts.{All-mapped_at}
 use Rattle.ckc_lower.proofs.builder.Builder.values.Goals as goal
 
-pub value-requires : goal.value-requires
-value-requires c =
+pub register-requires : goal.register-requires
+register-requires c =
     let shallow : depth (expr_of c.e-item.result) ≤ 1000 =
     All-mapped_at IsShallow expr_of c.args.es.now c.loop-e.e-index c.e-item.result c.loop-e-test.true c.e-item.is c.requires.shallow in
     omega arith
