@@ -1,0 +1,6 @@
+//! Declared bounds: which forms they may have, and what they stand for.
+#![tactic(auto)]
+
+mod limits;
+
+pub use limits::{BAD_LIMITS, Holder, Pieces, bounds_declared};
