@@ -1,6 +1,6 @@
 -- A pointer to one element has the range of that element, so the test of a bounds cast to one element never stops.
-use Rattle.std.proofs.Common.{◌≡◌, ◌⊎◌, inl, inr, ℕ, ◌+◌, ◌*◌, ◌≤◌, ◌==◌, List, refl, sym, ◌∙◌, ap, subst, arith}
-use Rattle.std.specs.Prelude.{Bool, true, false, ◌&&◌, if◌then◌else◌, nat_le, slice_index, Option, Some, None, Result, Ok, Err, ℤ, pos, negsuc, ◌+ℤ◌, ◌*ℤ◌}
+use Rattle.std.proofs.Common.{◌≡◌, ◌⊎◌, inl, inr, ℕ, ◌+◌, ◌*◌, ◌==◌, List, refl, sym, ◌∙◌, ap, subst, arith}
+use Rattle.std.specs.Prelude.{Bool, true, false, ◌&&◌, if◌then◌else◌, nat_le, slice_index, Option, Some, None, Result, Ok, Err, ℤ, pos, ◌+ℤ◌}
 use Rattle.std.proofs.lemmas.Bool.Decides.{nat_tests}
 use Rattle.std.proofs.Math.IntN.{*ℤ-zero, +ℤ_idr, pos-*ℤ-pos}
 use Rattle.ckc_base.specs.declared.arithmetic.Width.TheVariants.{Word}
@@ -13,21 +13,20 @@ use Rattle.ckc_source.specs.declared.expr.Count.TheVariants as counts
 use Rattle.ckc_source.specs.declared.expr.End.{End}
 use Rattle.ckc_source.specs.declared.expr.Integer.{Integer}
 use Rattle.ckc_source.specs.declared.expr.Integer.TheVariants as integer
-use Rattle.ckc_source.specs.declared.expr.Limits.{Limits}
 use Rattle.ckc_source.specs.declared.expr.Pointee.{Pointee}
 use Rattle.ckc_source.specs.declared.expr.Variable.{Variable}
 use Rattle.ckc_source.specs.declared.outcome.Range.{Range}
 use Rattle.ckc_source.specs.declared.outcome.Range.TheVariants.{Without, Within}
 use Rattle.ckc_source.specs.declared.outcome.Value.{Value}
 use Rattle.ckc_source.specs.declared.outcome.Halt.{Halt}
-use Rattle.ckc_source.specs.declared.outcome.Halt.TheVariants.{Stopped, Stuck}
+use Rattle.ckc_source.specs.declared.outcome.Halt.TheVariants.{Stuck}
 use Rattle.ckc_source.specs.declared.program.Shape.{Shape}
 use Rattle.ckc_source.specs.Code as source
 use Rattle.ckc_source.specs.Blocks.{Block, loaded}
 use Rattle.ckc_source.specs.Runs.{is_true}
 use Rattle.ckc_source.specs.Words.{exact, elements_behind}
-use Rattle.ckc_source.specs.Eval.{Store, given, given_both, given_some, plain, ranged, spanned, stops, reads, reads_within, reads_limited, amount, base_address, end_address, element, place_in, counted, loads_pointer, tests, tests_within, trusts, evaluated}
-use Rattle.ckc_checks.specs.Compilable.{IsOwn, IsNone, IsOne, IsFixedEnd, AreSingle, IsSingleCount, IsSingle, IsCompilableExpr}
+use Rattle.ckc_source.specs.Eval.{Store, given, given_both, given_some, plain, ranged, spanned, stops, reads, reads_within, amount, base_address, end_address, element, place_in, counted, loads_pointer, tests, tests_within, trusts, evaluated}
+use Rattle.ckc_checks.specs.Compilable.{IsOwn, IsNone, IsOne, IsFixedEnd, IsSingleCount, IsSingle, IsCompilableExpr}
 use Rattle.ckc_inserted.proofs.Bounded.{Gives, zero_of}
 
 -- a value is null or has the range of one element of a size
