@@ -28,6 +28,7 @@ use Rattle.ckc_checks.specs.Inserted.{is_direct, operated, low_byte, as_truth, i
 pub expr_room_some : (e : source.Expr) → 1 ≤ expr_room e
 expr_room_some (source.Choice c a b) = omega (arith, expr_room_some a)
 expr_room_some (source.Bare p) = omega (arith, expr_room_some p)
+expr_room_some (source.Tested size how at p k) = omega (arith, expr_room_some p)
 expr_room_some (source.Trusted to how p k) = omega (arith, expr_room_some p)
 expr_room_some e = omega arith
 
@@ -93,7 +94,7 @@ module _ (few locals : ℕ) (more : few ≤ locals) where
   direct_over (source.And a b) h = lit< tt
   direct_over (source.Or a b) h = lit< tt
   direct_over (source.Choice c a b) h = lit< tt
-  direct_over (source.Tested size how at p k) h = absurd h
+  direct_over (source.Tested size how at p k) h = direct_over p h.2
 
   by_room : (is_one : Bool) (d : Expr) (r t : ℕ) → IsExprOver locals d → 1 ≤ r → t + (if is_one then 0 else r) ≤ locals → IsExprOver locals (if is_one then d else Local t)
   by_room true d r t h some fits = h
@@ -246,7 +247,7 @@ module _ (few locals : ℕ) (more : few ≤ locals) where
         let left : t + expr_room p ≤ locals = omega arith in
         let right : t + 1 + operand_room k ≤ locals = omega arith in
         expr_over p t (operand_code k (t + 1) rest) h.0 left (operand_step k (t + 1) rest (λ fits. expr_over k (t + 1) rest h.1 fits over) right over)
-    expr_over (source.Tested size how at p k) t rest h fits over = absurd h
+    expr_over (source.Tested size how at p k) t rest h fits over = expr_over p t rest h.2 fits over
 
     operand_code_over : (e : source.Expr) (t : ℕ) (rest : Code) → IsCompilableExpr few e → t + operand_room e ≤ locals → Over rest → Over (operand_code e t rest)
     operand_code_over e t rest h fits over = operand_step e t rest (λ fits. expr_over e t rest h fits over) fits over

@@ -92,6 +92,7 @@ direct_sized (source.Moved shift p i) = omega (arith, shifted_sized shift.back s
 direct_sized (source.Added shift i p) = omega (arith, shifted_sized shift.back shift.size (direct p) (direct i), direct_sized p, direct_sized i)
 direct_sized (source.Narrow e) = omega (arith, direct_sized e)
 direct_sized (source.Bare p) = omega (arith, direct_sized p)
+direct_sized (source.Tested size how at p k) = omega (arith, direct_sized p)
 direct_sized (source.Trusted to how p k) = omega (arith, direct_sized p)
 direct_sized e = omega arith
 
@@ -199,6 +200,7 @@ expr_sized (source.Added shift i p) t rest =
       operand_step i t second (expr_sized i t second),
     )
 expr_sized (source.Bare p) t rest = omega (arith, expr_sized p t rest)
+expr_sized (source.Tested size how at p k) t rest = omega (arith, expr_sized p t rest)
 expr_sized (source.Trusted to how p k) t rest =
     let second = operand_code k (t + 1) rest in
     omega (arith, operand_step k (t + 1) rest (expr_sized k (t + 1) rest), expr_sized p t second)

@@ -75,6 +75,7 @@ direct_depth (source.Added shift i p) = omega (arith, shifted_depth shift.back s
 direct_depth (source.Binary o s at a b) = omega (arith, operated_depth o s (direct a) (direct b), direct_depth a, direct_depth b)
 direct_depth (source.Narrow e) = omega (arith, direct_depth e)
 direct_depth (source.Bare p) = omega (arith, direct_depth p)
+direct_depth (source.Tested size how at p k) = omega (arith, direct_depth p)
 direct_depth (source.Trusted to how p k) = omega (arith, direct_depth p)
 direct_depth e = omega arith
 
@@ -189,6 +190,7 @@ expr_small (source.Added shift i p) t rest h k =
     let second_small = operand_step p (t + 1) after (expr_small p (t + 1) after pointer after_small) after_small in
     operand_step i t second (expr_small i t second index second_small) second_small
 expr_small (source.Bare p) t rest h k = expr_small p t rest (omega arith) k
+expr_small (source.Tested size how at p k) t rest h small = expr_small p t rest (omega arith) small
 expr_small (source.Trusted to how p k) t rest h small =
     let count : form.depth k ≤ 200 = omega arith in
     let second = operand_code k (t + 1) rest in
@@ -218,6 +220,7 @@ expr_room_few (source.Moved shift p i) =
 expr_room_few (source.Added shift i p) =
     omega (arith, by_few (is_direct p) (expr_room p) (form.depth p) (expr_room_few p), by_few (is_direct i) (expr_room i) (form.depth i) (expr_room_few i))
 expr_room_few (source.Bare p) = omega (arith, expr_room_few p)
+expr_room_few (source.Tested size how at p k) = omega (arith, expr_room_few p)
 expr_room_few (source.Trusted to how p k) =
     omega (arith, expr_room_few p, by_few (is_direct k) (expr_room k) (form.depth k) (expr_room_few k))
 expr_room_few (source.Narrow e) = omega (arith, by_few (is_direct e) (expr_room e) (form.depth e) (expr_room_few e))

@@ -1,10 +1,17 @@
 -- Programs that can be compiled: names exist, numbers fit, functions and expressions are small. No checked pointer to an
--- array is moved, accessed or tested in them, and no bundle stands in them.
-use Rattle.std.specs.Prelude.{◌≡◌, ℕ, ◌+◌, ◌≤◌, ◌<◌, ◌^◌, max, Bool, true, false, IsTrue, List, [], ◌∷◌, length, slice_get, sum_by, Option, Some, None, All, IfSome}
+-- array is moved, accessed or tested in them, and no bundle stands in them; what is tested is a pointer to one element.
+use Rattle.std.specs.Prelude.{◌≡◌, ℤ, pos, ℕ, ◌+◌, ◌≤◌, ◌<◌, ◌^◌, max, Bool, true, false, IsTrue, List, [], ◌∷◌, length, slice_get, sum_by, Option, Some, None, All, IfSome}
 use Rattle.ckc_base.specs.Memory.{data_start}
 use Rattle.ckc_core.specs.WellFormed.{IsPlace}
 use Rattle.ckc_source.specs.declared.expr.Access.{Access}
+use Rattle.ckc_source.specs.declared.expr.Base.{Base}
+use Rattle.ckc_source.specs.declared.expr.Base.TheVariants as bases
+use Rattle.ckc_source.specs.declared.expr.Count.{Count}
+use Rattle.ckc_source.specs.declared.expr.Count.TheVariants as counts
+use Rattle.ckc_source.specs.declared.expr.End.{End as LimitsEnd}
+use Rattle.ckc_source.specs.declared.expr.Limits.{Limits}
 use Rattle.ckc_source.specs.declared.expr.Shift.{Shift}
+use Rattle.ckc_source.specs.declared.expr.Variable.{Variable as IntegerLocal}
 use Rattle.ckc_source.specs.declared.expr.Through.{Through}
 use Rattle.ckc_source.specs.declared.expr.Through.TheVariants.{Named, Raw, One, Array as Arrays, Terminated}
 use Rattle.ckc_source.specs.declared.program.Object.{Object}
@@ -88,6 +95,14 @@ program_nodes p = sum_by function_nodes p.functions
 
 -- ---- expressions
 
+abbrev pub IsOwn : Base → Type 0
+IsOwn bases.Own = Unit {0}
+IsOwn _ = ⊥
+
+abbrev pub IsNone : Option IntegerLocal → Type 0
+IsNone None = Unit {0}
+IsNone (Some x) = ⊥
+
 abbrev pub IsZero : Expr → Type 0
 IsZero (Number n) = n ≡ 0
 IsZero _ = ⊥
@@ -106,6 +121,32 @@ IsAccess access i = IsPlace access.at × (access.size < 2 ^ 32) × (access.offse
 
 abbrev pub IsShift : Shift → Type 0
 IsShift shift = (shift.checked ≡ false) × (shift.size < 2 ^ 32)
+
+abbrev pub IsOne : Expr → Type 0
+IsOne (Number n) = n ≡ 1
+IsOne _ = ⊥
+
+-- an end of limits that lies so many elements behind the pointer itself
+abbrev pub IsFixedEnd : LimitsEnd → ℤ → Type 0
+IsFixedEnd e add = IsOwn e.base × IsNone e.variable × (e.add ≡ add)
+
+-- limits of one element of a size
+abbrev pub AreSingle : ℕ → Limits → Type 0
+AreSingle size limits = (limits.to.size ≡ size) × IsFixedEnd limits.lower (pos 0) × IsFixedEnd limits.upper (pos 1)
+
+abbrev pub IsSingleCount : Count → Type 0
+IsSingleCount (counts.Fixed n) = n ≡ pos 1
+IsSingleCount (counts.Member offset form add) = ⊥
+
+-- a pointer to one element of a size, or null
+abbrev pub IsSingle : ℕ → Expr → Type 0
+IsSingle size (Number n) = n ≡ 0
+IsSingle size (Limited x limits) = AreSingle size limits
+IsSingle size (Member to count access p i) = (to.size ≡ size) × IsSingleCount count
+IsSingle size (Address bytes access p i) = bytes ≡ size
+IsSingle size (Tested same form at p k) = same ≡ size
+IsSingle size (Trusted to form p k) = (to.size ≡ size) × IsOne k
+IsSingle size _ = ⊥
 
 -- an expression over so many locals
 abbrev pub IsCompilableExpr : ℕ → Expr → Type 0
@@ -129,7 +170,7 @@ IsCompilableExpr locals (Choice c a b) =
     IsCompilableExpr locals c × IsCompilableExpr locals a × IsCompilableExpr locals b
 IsCompilableExpr locals (Narrow e) = IsCompilableExpr locals e
 IsCompilableExpr locals (Bare p) = IsCompilableExpr locals p
-IsCompilableExpr locals (Tested size form at p k) = ⊥
+IsCompilableExpr locals (Tested size form at p k) = IsOne k × IsSingle size p × IsCompilableExpr locals p
 IsCompilableExpr locals (Trusted to form p k) = IsCompilableExpr locals p × IsCompilableExpr locals k
 
 -- an expression in a statement, which is at most 200 deep

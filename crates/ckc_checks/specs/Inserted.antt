@@ -43,6 +43,7 @@ is_direct (source.Or a b) = false
 is_direct (source.Choice c a b) = false
 is_direct (source.Narrow e) = is_direct e
 is_direct (source.Bare p) = is_direct p
+is_direct (source.Tested size form at p k) = is_direct p
 is_direct (source.Trusted to form p k) = is_direct p && is_direct k
 is_direct _ = true
 
@@ -100,6 +101,7 @@ direct (source.Added shift i p) = shifted shift.back shift.size (direct p) (dire
 direct (source.Binary operation is_signed at a b) = operated operation is_signed (direct a) (direct b)
 direct (source.Narrow e) = low_byte (direct e)
 direct (source.Bare p) = direct p
+direct (source.Tested size form at p k) = direct p
 direct (source.Trusted to form p k) = direct p
 direct _ = Const 0
 
@@ -158,6 +160,7 @@ expr_code (source.Choice c a b) t rest =
     unless_direct c (expr_code c t) (If (operand c t) (expr_code a t End) (expr_code b t End) rest)
 expr_code (source.Narrow e) t rest = unless_direct e (expr_code e t) (Set t (low_byte (operand e t)) rest)
 expr_code (source.Bare p) t rest = expr_code p t rest
+expr_code (source.Tested size form at p k) t rest = expr_code p t rest
 expr_code (source.Trusted to form p k) t rest = expr_code p t (unless_direct k (expr_code k (t + 1)) rest)
 expr_code e t rest = Set t (direct e) rest
 
@@ -197,6 +200,7 @@ expr_room (source.Or a b) = max 1 (max (unless_direct_room a (expr_room a)) (unl
 expr_room (source.Choice c a b) = max (unless_direct_room c (expr_room c)) (max (expr_room a) (expr_room b))
 expr_room (source.Narrow e) = max 1 (unless_direct_room e (expr_room e))
 expr_room (source.Bare p) = expr_room p
+expr_room (source.Tested size form at p k) = expr_room p
 expr_room (source.Trusted to form p k) = max (expr_room p) (1 + unless_direct_room k (expr_room k))
 expr_room _ = 1
 

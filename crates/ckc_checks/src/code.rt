@@ -303,7 +303,9 @@ pub fn expr(
             expr(alloc, p.get(), false, next, code)?;
             expr(alloc, i.get(), false, t, code)?;
         }
-        ExprTree::Bare(p) => expr(alloc, p.get(), true, t, code)?,
+        ExprTree::Bare(p) | ExprTree::Tested(_, _, _, p, _) => {
+            expr(alloc, p.get(), true, t, code)?;
+        }
         ExprTree::Trusted(_, _, p, k) => {
             let next = sum(t, 1)?;
             expr(alloc, k.get(), false, next, code)?;
@@ -354,8 +356,7 @@ pub fn expr(
         ExprTree::Number(_)
         | ExprTree::Local(_)
         | ExprTree::Limited(_, _)
-        | ExprTree::Array(_, _)
-        | ExprTree::Tested(_, _, _, _, _) => {
+        | ExprTree::Array(_, _) => {
             let value = direct(alloc, e)?;
             front(code, CoreStmt::Set(t, value))?;
         }

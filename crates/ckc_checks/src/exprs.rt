@@ -90,12 +90,13 @@ pub fn is_direct(e: &ExprTree) -> bool
         ExprTree::Moved(_, a, b) | ExprTree::Added(_, a, b) | ExprTree::Trusted(_, _, a, b) => {
             is_direct(a.get()) && is_direct(b.get())
         }
-        ExprTree::Narrow(e) | ExprTree::Bare(e) => is_direct(e.get()),
+        ExprTree::Narrow(e) | ExprTree::Bare(e) | ExprTree::Tested(_, _, _, e, _) => {
+            is_direct(e.get())
+        }
         ExprTree::Number(_)
         | ExprTree::Local(_)
         | ExprTree::Limited(_, _)
-        | ExprTree::Array(_, _)
-        | ExprTree::Tested(_, _, _, _, _) => true,
+        | ExprTree::Array(_, _) => true,
     }
 }
 
@@ -308,11 +309,12 @@ pub fn direct(alloc: Global, e: &ExprTree) -> Result<CoreExpr, AllocError>
             let e = direct(alloc, e.get())?;
             low_byte(alloc, e)
         }
-        ExprTree::Bare(p) | ExprTree::Trusted(_, _, p, _) => direct(alloc, p.get()),
-        ExprTree::And(_, _)
-        | ExprTree::Or(_, _)
-        | ExprTree::Choice(_, _, _)
-        | ExprTree::Tested(_, _, _, _, _) => Ok(CoreExpr::Const(0)),
+        ExprTree::Bare(p) | ExprTree::Tested(_, _, _, p, _) | ExprTree::Trusted(_, _, p, _) => {
+            direct(alloc, p.get())
+        }
+        ExprTree::And(_, _) | ExprTree::Or(_, _) | ExprTree::Choice(_, _, _) => {
+            Ok(CoreExpr::Const(0))
+        }
     }
 }
 

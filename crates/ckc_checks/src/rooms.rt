@@ -43,7 +43,7 @@ fn expr_room(e: &ExprTree, always: bool) -> Result<u32, AllocError>
             let value = expr_room(inner.get(), false)?;
             Ok(1u32.max(value))
         }
-        ExprTree::Bare(p) => expr_room(p.get(), true),
+        ExprTree::Bare(p) | ExprTree::Tested(_, _, _, p, _) => expr_room(p.get(), true),
         ExprTree::Trusted(_, _, p, k) => {
             let value = expr_room(p.get(), true)?;
             let count = expr_room(k.get(), false)?;
@@ -53,8 +53,7 @@ fn expr_room(e: &ExprTree, always: bool) -> Result<u32, AllocError>
         ExprTree::Number(_)
         | ExprTree::Local(_)
         | ExprTree::Limited(_, _)
-        | ExprTree::Array(_, _)
-        | ExprTree::Tested(_, _, _, _, _) => Ok(1),
+        | ExprTree::Array(_, _) => Ok(1),
     }
 }
 

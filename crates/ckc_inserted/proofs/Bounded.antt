@@ -1,6 +1,6 @@
 -- Values are words, where the locals and what is loaded are.
 use Rattle.std.proofs.Common.{◌≡◌, ℕ, zero, suc, ◌/◌, ◌%◌, ◌^◌, ◌≤◌, ◌<◌, ◌==◌, List, ◌∷◌, refl, sym, subst, arith}
-use Rattle.std.specs.Prelude.{if◌then◌else◌, Bool, true, false, ◌&&◌, slice_index, Option, Some, None, Result, Ok, Err, ℤ, pos, negsuc, neg_ℤ, ◌≤ℤ◌, ◌<ℤ◌, int_div, int_rem}
+use Rattle.std.specs.Prelude.{nat_le, if◌then◌else◌, Bool, true, false, ◌&&◌, slice_index, Option, Some, None, Result, Ok, Err, ℤ, pos, negsuc, neg_ℤ, ◌≤ℤ◌, ◌<ℤ◌, int_div, int_rem}
 use Rattle.std.specs.Int.{int_shr}
 use Rattle.std.proofs.lemmas.Int.{ints}
 use Rattle.std.proofs.lemmas.Bool.{eqb-true}
@@ -11,7 +11,7 @@ use Rattle.ckc_base.specs.declared.arithmetic.Width.TheVariants as width
 use Rattle.ckc_base.specs.declared.arithmetic.BinOp.{BinOp}
 use Rattle.ckc_base.specs.declared.arithmetic.BinOp.TheVariants.{Add, Sub, Mul, DivS, DivU, RemS, RemU, And, Or, Xor, Shl, ShrS, ShrU, LtS, LtU, Eq, Ne}
 use Rattle.ckc_base.specs.declared.places.Pos.{Pos}
-use Rattle.ckc_base.specs.declared.runtime_checks.Check.TheVariants.{Divide}
+use Rattle.ckc_base.specs.declared.runtime_checks.Check.TheVariants.{Cast, Divide}
 use Rattle.ckc_base.specs.Words.{signed, word_of, flag, applied}
 use Rattle.ckc_source.specs.declared.expr.Access.{Access}
 use Rattle.ckc_source.specs.declared.expr.Shift.{Shift}
@@ -19,6 +19,9 @@ use Rattle.ckc_source.specs.declared.expr.Count.{Count}
 use Rattle.ckc_source.specs.declared.expr.Pointee.{Pointee}
 use Rattle.ckc_source.specs.declared.expr.Operation.{Operation}
 use Rattle.ckc_source.specs.declared.expr.Operation.TheVariants as operation
+use Rattle.ckc_source.specs.declared.expr.Integer.{Integer}
+use Rattle.ckc_source.specs.declared.outcome.Range.{Range}
+use Rattle.ckc_source.specs.declared.outcome.Range.TheVariants.{Without, Within}
 use Rattle.ckc_source.specs.declared.outcome.Value.{Value}
 use Rattle.ckc_source.specs.declared.outcome.Halt.{Halt}
 use Rattle.ckc_source.specs.declared.outcome.Halt.TheVariants.{Stopped, Stuck}
@@ -27,8 +30,8 @@ use Rattle.ckc_source.specs.Code as source
 use Rattle.ckc_source.specs.Blocks.{Block, loaded}
 use Rattle.ckc_source.specs.Runs.{is_true}
 use Rattle.ckc_source.specs.Words.{exact, operator, computed, divides, truth, elements_behind}
-use Rattle.ckc_source.specs.Eval.{Store, given, given_both, given_some, plain, ranged, spanned, stops, reads, reads_within, end_address, element, place_in, loads, counted, loads_pointer, moves, moves_checked, operates, trusts, evaluated}
-use Rattle.ckc_checks.specs.Compilable.{IsCompilableExpr}
+use Rattle.ckc_source.specs.Eval.{Store, given, given_both, given_some, plain, ranged, spanned, stops, reads, reads_within, end_address, element, place_in, loads, counted, loads_pointer, moves, moves_checked, operates, tests, tests_within, trusts, evaluated}
+use Rattle.ckc_checks.specs.Compilable.{IsOne, IsCompilableExpr}
 
 -- ---- operations on words
 
@@ -175,6 +178,22 @@ operates_word o s at a b h k = by (divides o && (b == 0))
     by true = tt
     by false = computed_word o s a b h k
 
+within_word : (range : Range) (at : Pos) (n : ℕ) (upper : ℤ) → n < 2 ^ 32 → GivesWord (tests_within range at n upper)
+within_word (Within low high) at n (pos upper) h = by (nat_le low n && nat_le n upper && nat_le upper high)
+  where
+    by : (good : Bool) → GivesWord (if good then ranged n n upper else stops Cast at)
+    by true = h
+    by false = tt
+within_word (Within low high) at n (negsuc upper) h = tt
+within_word Without at n upper h = tt
+
+tests_word : (size : ℕ) (how : Integer) (at : Pos) (v : Value) (k : ℕ) → v.number < 2 ^ 32 → GivesWord (tests size how at v k)
+tests_word size how at v k h = by (v.number == 0)
+  where
+    by : (zero : Bool) → GivesWord (if zero then plain 0 else tests_within v.range at v.number (elements_behind v.number size (exact how k)))
+    by true = omega arith
+    by false = within_word v.range at v.number (elements_behind v.number size (exact how k)) h
+
 choice_word : (zero : Bool) (r q : Result Value Halt) → GivesWord r → GivesWord q → GivesWord (if zero then q else r)
 choice_word true r q x y = y
 choice_word false r q x y = x
@@ -204,6 +223,10 @@ module _ (n : ℕ) (s : Store) (loads_word : (w : Width) (a m : ℕ) → loaded 
   accessed_word access (Ok v) (Ok k) go h = given_word (element access v k.number) go h
   accessed_word access (Ok v) (Err e) go h = tt
   accessed_word access (Err e) q go h = tt
+
+  one_word : (k : source.Expr) → IsOne k → GivesWord (evaluated s k)
+  one_word (source.Number m) e = subst (λ (m : ℕ). m < 2 ^ 32) (sym e) (omega arith)
+  one_word k e = absurd e
 
   -- the value of an expression is a word
   pub evaluated_word : (e : source.Expr) → IsCompilableExpr n e → GivesWord (evaluated s e)
@@ -247,7 +270,9 @@ module _ (n : ℕ) (s : Store) (loads_word : (w : Width) (a m : ℕ) → loaded 
       bare : (r : Result Value Halt) → GivesWord r → GivesWord (given r (λ v. plain v.number))
       bare (Ok v) x = x
       bare (Err e) x = tt
-  evaluated_word (source.Tested size how at p k) h = absurd h
+  evaluated_word (source.Tested size how at p k) h =
+      both_word (evaluated s p) (evaluated s k) (λ v c. tests size how at v c.number) (evaluated_word p h.2) (one_word k h.0)
+      (λ v c x y. tests_word size how at v c.number x)
   evaluated_word (source.Trusted to how p k) h =
       both_word (evaluated s p) (evaluated s k) (λ v c. trusts s to how v.number c.number) (evaluated_word p h.0) (evaluated_word k h.1)
       (λ v c x y. gives_word v.number _ (reads_number s.shapes s.blocks to v.number (pos v.number) (elements_behind v.number to.size (exact how c.number))) x)

@@ -35,13 +35,14 @@ use Rattle.ckc_source.specs.declared.outcome.Halt.TheVariants.{Stopped, Stuck}
 use Rattle.ckc_source.specs.Code as source
 use Rattle.ckc_source.specs.Blocks.{loaded}
 use Rattle.ckc_source.specs.Words.{exact, as_address, elements_behind, truth, computed, divides}
-use Rattle.ckc_source.specs.Eval.{Store, given, given_both, plain, stops, at_address, element, element_through, place_in, loads, loads_pointer, moves, moves_checked, spanned, operates, trusts, evaluated, all_evaluated}
+use Rattle.ckc_source.specs.Eval.{Store, given, given_both, plain, stops, at_address, element, element_through, place_in, loads, loads_pointer, moves, moves_checked, spanned, operates, tests, trusts, evaluated, all_evaluated}
 use Rattle.ckc_core.specs.Code.{Expr, Const, Local, Load, Bin, Code, End, Set, Check, If, Function}
 use Rattle.ckc_core.specs.Meaning.{Rest, Next, State, Caller, value_of, values_of, both, nodes, all_nodes}
 use Rattle.ckc_checks.specs.Compilable.{IsZero, IsJudged, IsAccess, IsCompilableExpr, IsCompilablePart, access_nodes, expr_nodes, exprs_nodes}
 use Rattle.ckc_checks.specs.Inserted.{is_direct, operated, low_byte, as_truth, is_zero, scaled, shifted, at_offset, element_of, place_at, checks_null, null_check, direct, operand, operation_code, expr_code, operand_code, operands_code, operands}
 use Rattle.ckc_inserted.proofs.Running.{machine, Runs, first_runs, later_runs, then_runs, at, by_set, by_pass, by_fail, by_if, by_end}
 use Rattle.ckc_inserted.proofs.Bounded.{Gives, GivesWord, reads_number, AreSmall, small_cons}
+use Rattle.ckc_inserted.proofs.Single.{behind_one, tested_gives}
 use Rattle.ckc_inserted.proofs.Values.{IsValue, operated_value, low_value, Agree, Sees, word_seen, load_value, pointer_value, at_offset_value, shifted_value, direct_value}
 
 -- ---- values that are written
@@ -130,6 +131,7 @@ direct_nodes (source.Binary operation is_signed place a b) =
     omega (arith, operated_nodes operation is_signed (direct a) (direct b), direct_nodes a, direct_nodes b)
 direct_nodes (source.Narrow e) = omega (arith, direct_nodes e)
 direct_nodes (source.Bare p) = omega (arith, direct_nodes p)
+direct_nodes (source.Tested size how place p k) = omega (arith, direct_nodes p)
 direct_nodes (source.Trusted to how p k) = omega (arith, direct_nodes p)
 direct_nodes e = omega arith
 
@@ -500,6 +502,21 @@ module _ (functions : List Function) (callers : List Caller) (world : World) whe
     bare_put m k st (Err Stuck) t more rest l few c = tt
     bare_put m k st (Err (Stopped why place)) t more rest l few c = (c.0, omega (arith, c.1), c.2)
 
+    -- what gives the number of the value in the temporary t
+    same_put : (m n : ℕ) (st : State) (v : Value) (r : Result Value Halt) (t : ℕ) (more : Code) (rest : Rest) (l : Values) → m ≤ n → Gives v.number r → Comes 1 m st (Ok v) more rest (Put t l)
+        → Comes 1 n st r more rest (Put t l)
+    same_put m n st v (Ok w) t more rest l few g c =
+        let q = c.5 in
+        (c.0, c.1, c.2, omega (arith, c.3), c.4, (q.0, q.1, (q.2.0, q.2.1 ∙ ap Some (sym g))))
+    same_put m n st v (Err Stuck) t more rest l few g c = tt
+    same_put m n st v (Err (Stopped why place)) t more rest l few g c = absurd g
+
+    tested_put : (m k : ℕ) (st : State) (r : Result Value Halt) (f : Value → Result Value Halt) (t : ℕ) (more : Code) (rest : Rest) (l : Values) → m ≤ k
+        → ((v : Value) → r ≡ Ok v → Gives v.number (f v)) → Comes 1 m st r more rest (Put t l) → Comes 1 k st (given r f) more rest (Put t l)
+    tested_put m k st (Ok v) f t more rest l few g c = same_put m k st v (f v) t more rest l few (g v refl) c
+    tested_put m k st (Err Stuck) f t more rest l few g c = tt
+    tested_put m k st (Err (Stopped why place)) f t more rest l few g c = (c.0, omega (arith, c.1), c.2)
+
     -- a number that is in the temporary t already
     kept_number : (m t : ℕ) (more : Code) (rest : Rest) (before l : Values) (r : Result Value Halt) → Gives m r → Below t l before → l t ≡ Some m
         → Comes 0 0 (at callers world more rest l) r more rest (Put t before)
@@ -712,7 +729,11 @@ module _ (functions : List Function) (callers : List Caller) (world : World) whe
     expr_comes (source.Narrow e) t more rest l le h agree = narrow_comes e (operand_from e (expr_comes e)) t more rest l le h agree
     expr_comes (source.Bare p) t more rest l le h agree =
         bare_put (expr_steps p) (expr_steps (source.Bare p)) (at callers world (expr_code p t more) rest l) (evaluated s p) t more rest l (omega arith) (expr_comes p t more rest l le h agree)
-    expr_comes (source.Tested size how place p k) t more rest l le h agree = absurd h
+    expr_comes (source.Tested size how place p k) t more rest l le h agree =
+        subst (λ r. Comes 1 (expr_steps (source.Tested size how place p k)) (at callers world (expr_code p t more) rest l) r more rest (Put t l))
+        (sym (behind_one s k (evaluated s p) (λ v c. tests size how place v c.number) h.0))
+        (tested_put (expr_steps p) (expr_steps (source.Tested size how place p k)) (at callers world (expr_code p t more) rest l) (evaluated s p) (λ v. tests size how place v 1) t more rest l (omega arith)
+        (λ v e. tested_gives n size s how place p v h.1 h.2 e) (expr_comes p t more rest l le h.2 agree))
     expr_comes (source.Trusted to how p k) t more rest l le h agree =
         trusted_comes to how p k (expr_comes p) (operand_from k (expr_comes k)) t more rest l le h agree
 

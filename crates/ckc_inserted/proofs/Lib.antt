@@ -2,6 +2,8 @@ pub mod Running
 pub mod Bytes
 pub mod Flat
 pub mod Bounded
+pub mod Single
+pub mod Exact
 pub mod Values
 pub mod Exprs
 pub mod Aiming

@@ -27,13 +27,14 @@ use Rattle.ckc_source.specs.declared.outcome.Halt.TheVariants.{Stopped, Stuck}
 use Rattle.ckc_source.specs.Code as source
 use Rattle.ckc_source.specs.Blocks.{loaded}
 use Rattle.ckc_source.specs.Words.{exact, width_of, operator, computed, divides, elements_behind}
-use Rattle.ckc_source.specs.Eval.{Store, given, given_both, given_some, plain, stops, reads, end_address, element, element_through, place_in, loads, counted, loads_pointer, moves, moves_checked, spanned, operates, trusts, evaluated}
+use Rattle.ckc_source.specs.Eval.{Store, given, given_both, given_some, plain, stops, reads, end_address, element, element_through, place_in, loads, counted, loads_pointer, moves, moves_checked, spanned, operates, tests, trusts, evaluated}
 use Rattle.ckc_core.specs.Code.{Expr, Const, Bin, Load}
 use Rattle.ckc_core.specs.Meaning.{value_of, both}
 use Rattle.ckc_checks.specs.Compilable.{IsCompilableExpr}
 use Rattle.ckc_checks.specs.Inserted.{is_unchecked, is_direct, operated, low_byte, is_zero, scaled, shifted, at_offset, element_of, place_at, direct}
 use Rattle.ckc_inserted.proofs.Bytes.{and_true, SameBytes, loaded_there}
 use Rattle.ckc_inserted.proofs.Flat.{SameMemory, loaded_word}
+use Rattle.ckc_inserted.proofs.Single.{behind_one, tested_gives}
 use Rattle.ckc_inserted.proofs.Bounded.{Gives, GivesWord, zero_of, reads_number, evaluated_word}
 
 not_true : (p : Bool) → not p ≡ true → p ≡ false
@@ -109,6 +110,12 @@ pub number_value : (n : ℕ) (r : Result Value Halt) (o : Option ℕ) → Gives 
 number_value n (Ok v) o g h = h ∙ ap Some (sym g)
 number_value n (Err Stuck) o g h = tt
 number_value n (Err (Stopped why at)) o g h = g
+
+-- what gives the number of a value that is there
+kept_value : (r : Result Value Halt) (f : Value → Result Value Halt) (o : Option ℕ) → ((v : Value) → r ≡ Ok v → Gives v.number (f v)) → IsValue r o → IsValue (given r f) o
+kept_value (Ok v) f o g h = number_value v.number (f v) o (g v refl) h
+kept_value (Err Stuck) f o g h = tt
+kept_value (Err (Stopped why at)) f o g h = h
 
 bare_value : (r : Result Value Halt) (o : Option ℕ) → IsValue r o → IsValue (given r (λ v. plain v.number)) o
 bare_value (Ok v) o h = h
@@ -277,7 +284,10 @@ direct_value n s memory values (source.Narrow e) sees agree h d =
     narrow_value values memory (direct e) (evaluated s e) (direct_value n s memory values e sees agree h d)
 direct_value n s memory values (source.Bare p) sees agree h d =
     bare_value (evaluated s p) (value_of values memory (direct p)) (direct_value n s memory values p sees agree h d)
-direct_value n s memory values (source.Tested size how at p k) sees agree h d = absurd h
+direct_value n s memory values (source.Tested size how at p k) sees agree h d =
+    subst (λ r. IsValue r (value_of values memory (direct p))) (sym (behind_one s k (evaluated s p) (λ v c. tests size how at v c.number) h.0))
+    (kept_value (evaluated s p) (λ v. tests size how at v 1) (value_of values memory (direct p)) (λ v e. tested_gives n size s how at p v h.1 h.2 e)
+    (direct_value n s memory values p sees agree h.2 d))
 direct_value n s memory values (source.Trusted to how p k) sees agree h d =
     let q = and_true (is_direct p) (is_direct k) d in
     both_values values memory (direct p) (direct k) (direct p) (evaluated s p) (evaluated s k) (λ v c. trusts s to how v.number c.number)

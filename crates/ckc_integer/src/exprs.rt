@@ -2,11 +2,14 @@
 ghost use Rattle.std.specs.Prelude.{◌↔◌, ◌<◌, ◌^◌, IsTrue};
 ghost use Rattle.ckc_core.specs.WellFormed.{IsPlace};
 ghost use Rattle.ckc_source.specs.Code.{expr_of, target_of, right_of};
-ghost use Rattle.ckc_checks.specs.Compilable.{IsZero, IsJudged, IsAccess, IsShift, IsCompilableExpr, IsCompilablePart, IsCompilableTarget, IsCompilableRight, IsCompilableKept};
+ghost use Rattle.ckc_checks.specs.Compilable.{IsOwn, IsNone, IsZero, IsJudged, IsAccess, IsShift, IsOne, IsFixedEnd, AreSingle, IsSingleCount, IsSingle, IsCompilableExpr, IsCompilablePart, IsCompilableTarget, IsCompilableRight, IsCompilableKept};
 
 use crate::counts::depth;
 use ckc_base::Pos;
-use ckc_source::{Access, ExprTree, Kept, RightTree, Shift, TargetTree, Through};
+use ckc_source::{
+    Access, Base, Count, End, ExprTree, Kept, Limits, RightTree, Shift, TargetTree, Through,
+    Variable,
+};
 
 /// Each number of a tree is a word.
 fn is_word(n: u32) -> bool
@@ -44,6 +47,97 @@ fn is_zero(e: &ExprTree) -> bool
         | ExprTree::Bare(_)
         | ExprTree::Tested(_, _, _, _, _)
         | ExprTree::Trusted(_, _, _, _) => false,
+    }
+}
+
+/// Whether an expression is the number 1.
+fn is_one(e: &ExprTree) -> bool
+    ensures { IsTrue result ↔ IsOne (expr_of e.now) }
+{
+    match e {
+        ExprTree::Number(n) => *n == 1,
+        ExprTree::Local(_)
+        | ExprTree::Limited(_, _)
+        | ExprTree::Array(_, _)
+        | ExprTree::Load(_, _, _, _)
+        | ExprTree::Member(_, _, _, _, _)
+        | ExprTree::Address(_, _, _, _)
+        | ExprTree::Moved(_, _, _)
+        | ExprTree::Added(_, _, _)
+        | ExprTree::Binary(_, _, _, _, _)
+        | ExprTree::And(_, _)
+        | ExprTree::Or(_, _)
+        | ExprTree::Choice(_, _, _)
+        | ExprTree::Narrow(_)
+        | ExprTree::Bare(_)
+        | ExprTree::Tested(_, _, _, _, _)
+        | ExprTree::Trusted(_, _, _, _) => false,
+    }
+}
+
+fn is_own(base: Base) -> bool
+    ensures { IsTrue result ↔ IsOwn base }
+{
+    match base {
+        Base::Own => true,
+        Base::Local(_) | Base::Fixed(_) => false,
+    }
+}
+
+fn is_none(variable: Option<Variable>) -> bool
+    ensures { IsTrue result ↔ IsNone variable }
+{
+    match variable {
+        None => true,
+        Some(_) => false,
+    }
+}
+
+/// Whether an end of limits lies so many elements behind the pointer itself.
+fn is_fixed_end(e: End, add: i32) -> bool
+    ensures { IsTrue result ↔ IsFixedEnd e add }
+{
+    is_own(e.base) && is_none(e.variable) && e.add == add
+}
+
+/// Whether limits are those of one element of a size.
+fn are_single(size: u32, limits: &Limits) -> bool
+    ensures { IsTrue result ↔ AreSingle size limits.now }
+{
+    limits.to.size == size && is_fixed_end(limits.lower, 0) && is_fixed_end(limits.upper, 1)
+}
+
+fn is_single_count(count: Count) -> bool
+    ensures { IsTrue result ↔ IsSingleCount count }
+{
+    match count {
+        Count::Fixed(n) => n == 1,
+        Count::Member(_, _, _) => false,
+    }
+}
+
+/// Whether an expression is a pointer to one element of a size, or null.
+fn is_single(size: u32, e: &ExprTree) -> bool
+    ensures { IsTrue result ↔ IsSingle size (expr_of e.now) }
+{
+    match e {
+        ExprTree::Number(n) => *n == 0,
+        ExprTree::Limited(_, limits) => are_single(size, limits.get()),
+        ExprTree::Member(to, count, _, _, _) => to.get().size == size && is_single_count(*count),
+        ExprTree::Address(bytes, _, _, _) => *bytes == size,
+        ExprTree::Tested(same, _, _, _, _) => *same == size,
+        ExprTree::Trusted(to, _, _, k) => to.get().size == size && is_one(k.get()),
+        ExprTree::Local(_)
+        | ExprTree::Array(_, _)
+        | ExprTree::Load(_, _, _, _)
+        | ExprTree::Moved(_, _, _)
+        | ExprTree::Added(_, _, _)
+        | ExprTree::Binary(_, _, _, _, _)
+        | ExprTree::And(_, _)
+        | ExprTree::Or(_, _)
+        | ExprTree::Choice(_, _, _)
+        | ExprTree::Narrow(_)
+        | ExprTree::Bare(_) => false,
     }
 }
 
@@ -98,7 +192,9 @@ fn is_expr(e: &ExprTree, locals: u32) -> bool
             is_expr(c.get(), locals) && is_expr(a.get(), locals) && is_expr(b.get(), locals)
         }
         ExprTree::Narrow(inner) | ExprTree::Bare(inner) => is_expr(inner.get(), locals),
-        ExprTree::Tested(_, _, _, _, _) => false,
+        ExprTree::Tested(size, _, _, p, k) => {
+            is_one(k.get()) && is_single(*size, p.get()) && is_expr(p.get(), locals)
+        }
     }
 }
 
