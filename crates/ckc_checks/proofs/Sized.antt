@@ -278,7 +278,7 @@ result_sized (Some (kept.Local x width.Byte)) t rest = omega arith
 result_sized (Some (kept.Local x width.Word)) t rest = omega arith
 result_sized (Some (kept.Static a w)) t rest = omega arith
 
-statements_sized : (t : ℕ) (code : source.Code) → code_size (statements t code) ≤ 80 * code_nodes code + 2
+statements_sized : (t : ℕ) (code : source.Code) → code_size (statements t code) ≤ 64 * code_nodes code + 2
 statements_sized t source.End = omega arith
 statements_sized t (source.Assign spot target right rest) =
     omega (arith, right_sized target right t (statements t rest), statements_sized t rest)
@@ -317,15 +317,15 @@ zeroed_sized : (x count : ℕ) (rest : Code) → code_size (zeroed x count rest)
 zeroed_sized x zero rest = omega arith
 zeroed_sized x (suc count) rest = omega (arith, zeroed_sized (x + 1) count rest)
 
-function_sized : (f : source.Function) → function_size (function_code f) ≤ 80 * function_nodes f
+function_sized : (f : source.Function) → function_size (function_code f) ≤ 64 * function_nodes f
 function_sized f =
     omega (arith, zeroed_sized f.params (f.locals - f.params) (statements f.locals f.body), statements_sized f.locals f.body)
 
-functions_sized : (fs : List source.Function) → sum_by function_size (map function_code fs) ≤ 80 * sum_by function_nodes fs
+functions_sized : (fs : List source.Function) → sum_by function_size (map function_code fs) ≤ 64 * sum_by function_nodes fs
 functions_sized [] = omega arith
 functions_sized (f ∷ fs) =
     omega (arith, function_sized f, functions_sized fs, sum_by-cons function_size (function_code f) (map function_code fs), sum_by-cons function_nodes f fs)
 
--- the core code has at most 80 instructions for each node
-pub inserted_sized : (p : source.Program) → program_size (inserted p) ≤ 80 * program_nodes p
+-- the core code has at most 64 instructions for each node
+pub inserted_sized : (p : source.Program) → program_size (inserted p) ≤ 64 * program_nodes p
 inserted_sized p = functions_sized p.functions

@@ -171,9 +171,9 @@ pub fn insert(alloc: Global, p: &Program) -> Result<Core, AllocError>
     ensures formed { IfOk result (λ c. IsWellFormed (core_program c)) }
     ensures limits { IfOk result (λ c. IsWithinLimits (core_program c)) }
 
-    // at most 80 instructions for each node
+    // at most 64 instructions for each node
     ensures size { IfOk result (λ c. program_size (core_program c) ≤
-        80 * program_nodes (source_program p.now)) }
+        64 * program_nodes (source_program p.now)) }
     ensures initial { IfOk result (λ c. length c.initial ≤ 4194304) }
 {
     let c = program(alloc, p)?;

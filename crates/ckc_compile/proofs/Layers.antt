@@ -43,5 +43,5 @@ machine_follows a q parts placed emit input bytes =
     (follows_trans (a input) (placed_meaning q input) (machine parts input) 400005 80 (placed input bytes) (emit input (all_bytes input bytes)))
 
 -- a program of so many nodes fits into an image
-pub code_fits : (nodes size : ℕ) → size ≤ 80 * nodes → nodes ≤ 52415 → size + 5 ≤ 4193280
+pub code_fits : (nodes size : ℕ) → size ≤ 64 * nodes → nodes ≤ 65519 → size + 5 ≤ 4193280
 code_fits nodes size h k = omega arith

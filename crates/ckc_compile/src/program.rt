@@ -25,9 +25,9 @@ use ckc_source::Program;
 use ckc_tac::Tac;
 use std::alloc::{AllocError, Global};
 
-/// How many nodes a program may have: each gives at most 80 instructions, the start five, and an image has room for
+/// How many nodes a program may have: each gives at most 64 instructions, the start five, and an image has room for
 /// 4,193,280.
-pub const MOST_NODES: u32 = 52_415;
+pub const MOST_NODES: u32 = 65_519;
 
 /// The three-address code of a program.
 fn lowered(alloc: Global, p: &Program) -> Result<Tac, AllocError>
@@ -35,7 +35,7 @@ fn lowered(alloc: Global, p: &Program) -> Result<Tac, AllocError>
     requires laid { IsLaidOut (program_of p.now) }
     ensures formed { IfOk result IsWellFormedTac }
     ensures few { IfOk result HasFewRegisters }
-    ensures size { IfOk result (λ t. tac_size t ≤ 80 * program_nodes (program_of p.now)) }
+    ensures size { IfOk result (λ t. tac_size t ≤ 64 * program_nodes (program_of p.now)) }
     ensures initial { IfOk result (λ t. length t.initial ≤ 4194304) }
     ensures follows { IfOk result (λ t. (input : List ℕ) → AreBytes input →
         Follows (source (program_of p.now) input) (tac_meaning t input) 400004) }
@@ -50,7 +50,7 @@ fn placed(alloc: Global, p: &Program) -> Result<Placed, AllocError>
     requires form { IsCompilable (program_of p.now) }
     requires laid { IsLaidOut (program_of p.now) }
     ensures whole { IfOk result IsWellFormed }
-    ensures size { IfOk result (λ q. program_size q ≤ 80 * program_nodes (program_of p.now)) }
+    ensures size { IfOk result (λ q. program_size q ≤ 64 * program_nodes (program_of p.now)) }
     ensures initial { IfOk result (λ q. length q.initial ≤ 4194304) }
     ensures follows { IfOk result (λ q. (input : List ℕ) → AreBytes input →
         Follows (source (program_of p.now) input) (placed_meaning q input) 400005) }

@@ -25,5 +25,5 @@ returns-clause-initial c =
 pub returns-clause-size : goal.returns-clause-size
 returns-clause-size c =
     let p = program_of c.args.p.now in
-    let P : core.Program → Type 0 = λ q. program_size q ≤ 80 * program_nodes p in
+    let P : core.Program → Type 0 = λ q. program_size q ≤ 64 * program_nodes p in
     subst P (sym c.in_ok-c.ensures) (inserted_sized p)

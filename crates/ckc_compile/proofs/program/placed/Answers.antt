@@ -13,7 +13,7 @@ pub returns : goal.returns
 returns c = record {
   whole = c.in_ok-q.ensures.whole;
   size =
-      let P : ℕ → Type 0 = λ n. n ≤ 80 * program_nodes (program_of c.args.p.now) in
+      let P : ℕ → Type 0 = λ n. n ≤ 64 * program_nodes (program_of c.args.p.now) in
       subst P (sym c.in_ok-q.ensures.size) c.in_ok-t.ensures.size;
   initial =
       let P : List ℕ → Type 0 = λ l. length l ≤ 4194304 in
