@@ -209,12 +209,32 @@ expr_sized e t rest = omega arith
 operand_sized : (e : source.Expr) (t : ℕ) (rest : Code) → code_size (operand_code e t rest) + 2 * expr_size (operand e t) ≤ 60 * expr_nodes e + code_size rest
 operand_sized e t rest = operand_step e t rest (expr_sized e t rest)
 
+-- an argument, with the eight instructions that pass it
+argument_sized : (e : source.Expr) (t : ℕ) (rest : Code) → code_size (operand_code e t rest) + expr_size (operand e t) + 8 ≤ 64 * expr_nodes e + code_size rest
+argument_sized (source.Load w access p i) t rest = omega (arith, operand_sized (source.Load w access p i) t rest, access_some access.through, expr_nodes_some p, expr_nodes_some i)
+argument_sized (source.Member to count access p i) t rest = omega (arith, operand_sized (source.Member to count access p i) t rest, access_some access.through, expr_nodes_some p, expr_nodes_some i)
+argument_sized (source.Address bytes access p i) t rest = omega (arith, operand_sized (source.Address bytes access p i) t rest, access_some access.through, expr_nodes_some p, expr_nodes_some i)
+argument_sized (source.Moved shift p i) t rest = omega (arith, operand_sized (source.Moved shift p i) t rest, expr_nodes_some p, expr_nodes_some i)
+argument_sized (source.Added shift i p) t rest = omega (arith, operand_sized (source.Added shift i p) t rest, expr_nodes_some p, expr_nodes_some i)
+argument_sized (source.Binary o s at a b) t rest = omega (arith, operand_sized (source.Binary o s at a b) t rest, expr_nodes_some a, expr_nodes_some b)
+argument_sized (source.And a b) t rest = omega (arith, operand_sized (source.And a b) t rest, expr_nodes_some a, expr_nodes_some b)
+argument_sized (source.Or a b) t rest = omega (arith, operand_sized (source.Or a b) t rest, expr_nodes_some a, expr_nodes_some b)
+argument_sized (source.Choice c a b) t rest = omega (arith, operand_sized (source.Choice c a b) t rest, expr_nodes_some c, expr_nodes_some a, expr_nodes_some b)
+argument_sized (source.Narrow e) t rest = omega (arith, operand_sized (source.Narrow e) t rest, expr_nodes_some e)
+argument_sized (source.Bare p) t rest = omega (arith, operand_sized (source.Bare p) t rest, expr_nodes_some p)
+argument_sized (source.Tested size form at p k) t rest = omega (arith, operand_sized (source.Tested size form at p k) t rest, expr_nodes_some p, expr_nodes_some k)
+argument_sized (source.Trusted to form p k) t rest = omega (arith, operand_sized (source.Trusted to form p k) t rest, expr_nodes_some p, expr_nodes_some k)
+argument_sized (source.Number n) t rest = omega arith
+argument_sized (source.Local x) t rest = omega arith
+argument_sized (source.Limited x limits) t rest = omega arith
+argument_sized (source.Array at bytes) t rest = omega arith
+
 operands_sized : (es : List source.Expr) (t : ℕ) (rest : Code)
-    → code_size (operands_code es t rest) + exprs_size (operands es t) + 8 * length (operands es t) ≤ 68 * exprs_nodes es + code_size rest
+    → code_size (operands_code es t rest) + exprs_size (operands es t) + 8 * length (operands es t) ≤ 64 * exprs_nodes es + code_size rest
 operands_sized [] t rest = omega arith
 operands_sized (e ∷ es) t rest =
     let after = operands_code es (t + 1) rest in
-    omega (arith, operand_sized e t after, operands_sized es (t + 1) rest, expr_nodes_some e, sum_by-cons expr_size (operand e t) (operands es (t + 1)))
+    omega (arith, argument_sized e t after, operands_sized es (t + 1) rest, sum_by-cons expr_size (operand e t) (operands es (t + 1)))
 
 -- A value is written behind what finds the place of the target.
 aimed_sized : (target : source.Target) (t n : ℕ) (is_byte : Bool) (value : Expr) (rest inner : Code)

@@ -72,13 +72,14 @@ abbrev pub right_nodes : Right → ℕ
 right_nodes (Value e) = expr_nodes e
 right_nodes (Fresh to e) = expr_nodes e
 
+-- a statement is a node, and a call counts one more
 abbrev pub code_nodes : Code → ℕ
 code_nodes End = 0
 code_nodes (Assign spot target right rest) = 1 + target_nodes target + right_nodes right + code_nodes rest
 code_nodes (Bundle spot assigns rest) = 1 + code_nodes rest
 code_nodes (Get spot target rest) = 1 + target_nodes target + code_nodes rest
 code_nodes (Put spot target e rest) = 1 + target_nodes target + expr_nodes e + code_nodes rest
-code_nodes (Call spot target callee es rest) = 1 + exprs_nodes es + code_nodes rest
+code_nodes (Call spot target callee es rest) = 2 + exprs_nodes es + code_nodes rest
 code_nodes (If spot e one two rest) = 1 + expr_nodes e + code_nodes one + code_nodes two + code_nodes rest
 code_nodes (Loop spot e body step rest) = 1 + expr_nodes e + code_nodes body + code_nodes step + code_nodes rest
 code_nodes (Break rest) = 1 + code_nodes rest

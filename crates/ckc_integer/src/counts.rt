@@ -147,7 +147,7 @@ pub fn code_nodes(stmts: &[StmtTree]) -> u64
             }
             StmtTree::Get(_, target) => target_nodes(target.get()),
             StmtTree::Return(_, e) | StmtTree::Check(_, e) => expr_nodes(e.get()),
-            StmtTree::Call(_, _, _, es) => exprs_nodes(es.as_slice()),
+            StmtTree::Call(_, _, _, es) => exprs_nodes(es.as_slice()).saturating_add(1),
             StmtTree::If(_, e, one, two) | StmtTree::Loop(_, e, one, two) => {
                 let condition = expr_nodes(e.get());
                 let first = code_nodes(one.as_slice());
