@@ -33,13 +33,7 @@ fn size_of_operand(operand: Operand) -> u32
 {
     match operand {
         Operand::Register(_) => 3,
-        Operand::Number(n) => {
-            if n == 0 {
-                0
-            } else {
-                2
-            }
-        }
+        Operand::Number(n) => { if n == 0 { 0 } else { 2 } }
     }
 }
 
