@@ -1,5 +1,5 @@
 -- Members that take part in bounds: those whose bounds name a member, and those that are named.
-use Rattle.std.specs.Prelude.{ℕ, ◌==◌, Bool, true, false, not, ◌&&◌, ◌||◌, if◌then◌else◌, List}
+use Rattle.std.specs.Prelude.{ℕ, ◌==◌, Bool, true, false, not, ◌&&◌, ◌||◌, List}
 use Rattle.std.specs.List.{list_any, list_all}
 use Rattle.ckc_types.specs.declared.types.MemberBounds.{MemberBounds}
 use Rattle.ckc_types.specs.declared.types.MemberBounds.TheVariants as bounds

@@ -1,5 +1,5 @@
 -- Declared bounds at an assignment or a call: what they name is replaced by what it is there.
-use Rattle.std.specs.Prelude.{ℕ, ◌==◌, Bool, if◌then◌else◌, pos, List, [], ◌∷◌, Option, None, Some}
+use Rattle.std.specs.Prelude.{ℕ, ◌==◌, if◌then◌else◌, pos, List, [], ◌∷◌, Option, None, Some}
 use Rattle.ckc_linear.specs.declared.forms.Base.{Base}
 use Rattle.ckc_linear.specs.declared.forms.Form.{Form}
 use Rattle.ckc_points.specs.declared.frame.Bounds.{Bounds}
