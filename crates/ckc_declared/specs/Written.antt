@@ -1,5 +1,5 @@
 -- Declared bounds (Checked C specification 0.9, section 3.1): which forms they may have, and what they stand for.
-use Rattle.std.specs.Prelude.{ℕ, ◌+◌, ◌-◌, ◌^◌, ◌==◌, nat_lt, Bool, true, false, not, ◌&&◌, if◌then◌else◌, ℤ, pos, int_div, Option, None, Some, is_none, slice_get, Ok}
+use Rattle.std.specs.Prelude.{ℕ, ◌+◌, ◌-◌, ◌^◌, ◌==◌, nat_lt, Bool, true, false, ◌&&◌, if◌then◌else◌, ℤ, pos, int_div, Option, None, Some, is_none, slice_get, Ok}
 use Rattle.std.specs.List.{list_any}
 use Rattle.ckc_base.specs.declared.places.Pos.{Pos}
 use Rattle.ckc_base.specs.Outcomes.{Outcome, there_or}

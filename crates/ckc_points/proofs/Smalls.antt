@@ -1,8 +1,7 @@
 -- Facts that stay small.
-use Rattle.std.proofs.Common.{◌≡◌, ℕ, ◌^◌, Bool, List, ℤ, pos, neg_ℤ, ◌≤ℤ◌, true, subst, sym, arith}
+use Rattle.std.proofs.Common.{◌≡◌, ℕ, ◌^◌, List, ℤ, pos, neg_ℤ, true, subst, sym}
 use Rattle.std.specs.Prelude.{int_le}
 use Rattle.std.specs.List.{All, filter}
-use Rattle.std.proofs.lemmas.Int.{ints}
 use Rattle.std.proofs.lemmas.List.Elements.{filter_passes}
 use Rattle.ckc_linear.specs.declared.facts.Fact.{Fact}
 use Rattle.ckc_linear.specs.Facts.{IsWithin, shifted}

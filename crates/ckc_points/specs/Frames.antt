@@ -1,6 +1,5 @@
 -- The locals of a function, as facts and forms number them.
 use Rattle.std.specs.Prelude.{ℕ, ◌+◌, pos, if◌then◌else◌, Option, None, Some, slice_get}
-use Rattle.ckc_types.specs.declared.types.CType.{CType}
 use Rattle.ckc_linear.specs.declared.forms.Form.{Form}
 use Rattle.ckc_syntax.specs.declared.tree.Name.{Name}
 use Rattle.ckc_syntax.specs.declared.tree.Name.TheVariants as name

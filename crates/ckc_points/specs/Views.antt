@@ -1,5 +1,5 @@
 -- What an expression stands for at a point, and what it makes known as a condition.
-use Rattle.std.specs.Prelude.{ℕ, ◌+◌, ◌^◌, ◌==◌, Bool, true, false, not, ◌&&◌, ◌||◌, if◌then◌else◌, ℤ, pos, neg_ℤ, ◌+ℤ◌, ◌-ℤ◌, int_lt, Option, None, Some, is_some, List, [], ◌∷◌, ◌++◌, slice_get}
+use Rattle.std.specs.Prelude.{ℕ, ◌+◌, ◌^◌, ◌==◌, Bool, true, false, not, ◌&&◌, ◌||◌, min, ◌-◌, if◌then◌else◌, ℤ, pos, neg_ℤ, ◌+ℤ◌, ◌-ℤ◌, int_lt, Option, None, Some, is_some, is_none, List, [], ◌∷◌, ◌++◌, slice_get}
 use Rattle.std.specs.Ordering.{int_eq}
 use Rattle.ckc_types.specs.declared.types.Kind.{Kind}
 use Rattle.ckc_types.specs.declared.types.Kind.TheVariants as kind
@@ -12,7 +12,7 @@ use Rattle.ckc_syntax.specs.declared.tree.Name.{Name}
 use Rattle.ckc_syntax.specs.declared.tree.Name.TheVariants as name
 use Rattle.ckc_syntax.specs.declared.tree.TreeOp.{TreeOp}
 use Rattle.ckc_syntax.specs.declared.tree.TreeOp.TheVariants as op
-use Rattle.ckc_syntax.specs.declared.tree.Limits.{Limits-F}
+use Rattle.ckc_syntax.specs.declared.tree.Limits.{Limits, Limits-F, fold-Limits}
 use Rattle.ckc_syntax.specs.declared.tree.Node.{Node, Node-F, fold-Node}
 use Rattle.ckc_syntax.specs.declared.tree.Expr.{Expr, Expr-F, fold-Expr}
 use Rattle.ckc_typed.specs.declared.environment.Constant.{Constant}
@@ -26,7 +26,7 @@ use Rattle.ckc_points.specs.declared.frame.Bounds.TheVariants as bounds
 use Rattle.ckc_points.specs.declared.frame.Local.{Local}
 use Rattle.ckc_points.specs.declared.frame.Frame.{Frame}
 use Rattle.ckc_points.specs.declared.point.Interval.{Interval}
-use Rattle.ckc_points.specs.declared.values.Step.{Step}
+use Rattle.ckc_points.specs.declared.forms.Step.{Step}
 use Rattle.ckc_points.specs.Shown.{Known, is_within, is_shown}
 use Rattle.ckc_points.specs.Frames.{local_at, variable}
 use Rattle.ckc_points.specs.Flow.{State, range_of, with_fact}
@@ -79,8 +79,9 @@ negative_of (Some g) = negative_form g
 abbrev pub difference_of_forms : Option Form → Option Form → Option Form
 difference_of_forms f g = sum_of_forms f (negative_of g)
 
--- What is said of an expression. The last four are functions of what is known at a point: the form of an integer, the
--- place of a pointer whose base is a local pointer or a static array, the place of what `*p` and `p[e]` read, and the
+-- What is said of an expression. `values` is how many pointers in it stand for themselves, so that the first of them has
+-- a number and the others follow in walk order. The last four are functions of what is known at a point: the form of an
+-- integer, the place of a pointer and of what `*p` and `p[e]` read, each by the number of the first value in it, and the
 -- point on the true or the false side of a condition.
 pub record View : Type 0 where
   pub ctype : CType
@@ -88,9 +89,10 @@ pub record View : Type 0 where
   pub is_zero : Bool
   pub variable : Option Form
   pub behind : Option Kind
+  pub values : ℕ
   pub form : Known → Option Form
-  pub place : Known → Option Form
-  pub target : Known → Option Form
+  pub place : ℕ → Known → Option Form
+  pub target : ℕ → Known → Option Form
   pub side : Bool → State → State
 
 -- the same of a node, whose type its expression notes
@@ -99,14 +101,16 @@ pub record NodeView : Type 0 where
   pub is_zero : Bool
   pub variable : Option Form
   pub behind : Option Kind
+  pub stands_alone : Bool
+  pub values : ℕ
   pub linear : CType → Known → Option Form
-  pub place : CType → Known → Option Form
-  pub target : Known → Option Form
+  pub place : CType → ℕ → Known → Option Form
+  pub target : ℕ → Known → Option Form
   pub side : Bool → State → State
 
 -- a node with what is said of its parts
 abbrev pub NodeOfViews : Type 0
-NodeOfViews = Node-F Name Note (Unit {0}) NodeView View
+NodeOfViews = Node-F Name Note ℕ NodeView View
 
 abbrev pub number_of_node : Frame → NodeOfViews → Option Constant
 number_of_node frame (Node-F.Number n unsigned) = Some (record { word = n; unsigned = unsigned })
@@ -179,30 +183,80 @@ abbrev pub is_raw : Option Kind → Bool
 is_raw (Some kind.Raw) = true
 is_raw _ = false
 
+-- a sum of counts, which stays at the last number of 32 bits
+abbrev pub capped : ℕ → ℕ → ℕ
+capped m n = min (m + n) (2 ^ 32 - 1)
+
+abbrev pub values_after : ℕ → List View → ℕ
+values_after n [] = n
+values_after n (e ∷ es) = values_after (capped n e.values) es
+
+abbrev pub values_there : Option ℕ → ℕ
+values_there None = 0
+values_there (Some n) = n
+
+-- how many pointers in the parts of a node stand for themselves
+abbrev pub values_of_node : NodeOfViews → ℕ
+values_of_node (Node-F.Un o e) = e.values
+values_of_node (Node-F.Bin o e f) = capped e.values f.values
+values_of_node (Node-F.Pick e f g) = capped (capped e.values f.values) g.values
+values_of_node (Node-F.Index e f) = capped e.values f.values
+values_of_node (Node-F.Dot e n at) = e.values
+values_of_node (Node-F.Arrow e n at) = e.values
+values_of_node (Node-F.Cast w e) = e.values
+values_of_node (Node-F.Trusted w e l) = capped e.values (values_there l)
+values_of_node (Node-F.Tested w e l) = capped e.values (values_there l)
+values_of_node (Node-F.Call n es) = values_after 0 es
+values_of_node (Node-F.Calloc w e x) = e.values
+values_of_node _ = 0
+
+-- A pointer may stand for itself, unless it is a local, a static array or null.
+abbrev pub stands_alone : {A L M E : Type 0} → Frame → Node-F Name A L M E → Bool
+stands_alone frame (Node-F.Name n) = is_none (named_place frame n)
+stands_alone frame Node-F.Null = false
+stands_alone frame _ = true
+
+abbrev pub with_own : CType → NodeView → ℕ
+with_own t n = if is_pointer t && n.stands_alone then capped n.values 1 else n.values
+
 -- `p + k`, `k + p` and `p - k` on a checked pointer
-abbrev pub binary_place : Known → TreeOp → View → View → Option Form
-binary_place facts op.Add e f =
-    if is_pointer e.ctype then sum_of_forms (e.place facts) (f.form facts) else sum_of_forms (f.place facts) (e.form facts)
-binary_place facts op.Sub e f = difference_of_forms (e.place facts) (f.form facts)
-binary_place facts _ e f = None
+abbrev pub binary_place : ℕ → Known → TreeOp → View → View → Option Form
+binary_place first facts op.Add e f =
+    if is_pointer e.ctype then sum_of_forms (e.place first facts) (f.form facts)
+    else sum_of_forms (f.place (capped first e.values) facts) (e.form facts)
+binary_place first facts op.Sub e f = difference_of_forms (e.place first facts) (f.form facts)
+binary_place first facts _ e f = None
 
-abbrev pub unary_place : Known → TreeOp → View → Option Form
-unary_place facts op.Address e = e.target facts
-unary_place facts _ e = None
+abbrev pub unary_place : ℕ → Known → TreeOp → View → Option Form
+unary_place first facts op.Address e = e.target first facts
+unary_place first facts _ e = None
 
--- the place of a pointer
-abbrev pub place_of_node : Frame → NodeOfViews → CType → Known → Option Form
-place_of_node frame (Node-F.Name n) t facts = named_place frame n
-place_of_node frame (Node-F.Un o e) t facts = unary_place facts o e
-place_of_node frame (Node-F.Bin o e f) t facts = if is_raw (kind_of t) then None else binary_place facts o e f
-place_of_node frame (Node-F.Cast w e) t facts = if same_element t e.ctype then e.place facts else None
-place_of_node frame _ t facts = None
+-- the place of a pointer that does not stand for itself
+abbrev pub place_of_node : Frame → NodeOfViews → CType → ℕ → Known → Option Form
+place_of_node frame (Node-F.Name n) t first facts = named_place frame n
+place_of_node frame (Node-F.Un o e) t first facts = unary_place first facts o e
+place_of_node frame (Node-F.Bin o e f) t first facts = if is_raw (kind_of t) then None else binary_place first facts o e f
+place_of_node frame (Node-F.Cast w e) t first facts = if same_element t e.ctype then e.place first facts else None
+place_of_node frame _ t first facts = None
 
 -- the place of what `*p` and `p[e]` read
-abbrev pub target_of_node : NodeOfViews → Known → Option Form
-target_of_node (Node-F.Un op.Deref e) facts = e.place facts
-target_of_node (Node-F.Index e f) facts = if is_raw (kind_of e.ctype) then None else sum_of_forms (e.place facts) (f.form facts)
-target_of_node _ facts = None
+abbrev pub target_of_node : NodeOfViews → ℕ → Known → Option Form
+target_of_node (Node-F.Un op.Deref e) first facts = e.place first facts
+target_of_node (Node-F.Index e f) first facts =
+    if is_raw (kind_of e.ctype) then None else sum_of_forms (e.place first facts) (f.form facts)
+target_of_node _ first facts = None
+
+abbrev pub own_place : NodeView → ℕ → Option Form
+own_place n first = if n.stands_alone then Some (base_form (base.Value (capped first n.values))) else None
+
+abbrev pub place_or : Option Form → Option Form → Option Form
+place_or (Some f) own = Some f
+place_or None own = own
+
+-- The place of a pointer: `p + 1` is one element behind p. One that has no place by its parts stands for itself, and has
+-- the number behind those of the values in its parts. Null has none.
+abbrev pub pointer_place : CType → NodeView → ℕ → Known → Option Form
+pointer_place t n first facts = if is_pointer t then place_or (n.place t first facts) (own_place n first) else None
 
 abbrev pub same_base : Option Base → Option Base → Bool
 same_base None None = true
@@ -315,7 +369,7 @@ compares_unsigned e f = is_unsigned e.ctype || is_unsigned f.ctype
 
 -- `e != 0` widens as e does.
 abbrev pub nonzero_side : Frame → TreeOp → View → View → Bool → State → State
-nonzero_side frame op.Ne e f side at = if f.is_zero then widening_side frame e.behind e.target side at else at
+nonzero_side frame op.Ne e f side at = if f.is_zero then widening_side frame e.behind (e.target 0) side at else at
 nonzero_side frame _ e f side at = at
 
 abbrev pub by_operands : Frame → TreeOp → View → View → Bool → Option Form → Option Form → State → State
@@ -350,10 +404,13 @@ binary_side frame o e f side at = comparison_side frame o e f side at
 abbrev pub side_of_node : Frame → NodeOfViews → Bool → State → State
 side_of_node frame (Node-F.Un op.Not e) side at = e.side (not side) at
 side_of_node frame (Node-F.Bin o e f) side at = binary_side frame o e f side at
-side_of_node frame n side at = widening_side frame (behind_node n) (target_of_node n) side at
+side_of_node frame n side at = widening_side frame (behind_node n) (target_of_node n 0) side at
 
-abbrev pub limits_view : Limits-F Name Note (Unit {0}) NodeView View → Unit {0}
-limits_view l = tt
+abbrev pub limits_view : Limits-F Name Note ℕ NodeView View → ℕ
+limits_view (Limits-F.Count e at) = e.values
+limits_view (Limits-F.ByteCount e at) = e.values
+limits_view (Limits-F.Between e f at) = capped e.values f.values
+limits_view (Limits-F.Unknown at) = 0
 
 abbrev pub node_view : Frame → NodeOfViews → NodeView
 node_view frame n = record {
@@ -361,6 +418,8 @@ node_view frame n = record {
   is_zero = is_zero_node n;
   variable = variable_of_node frame n;
   behind = behind_node n;
+  stands_alone = stands_alone frame n;
+  values = values_of_node n;
   linear = form_of_node frame n;
   place = place_of_node frame n;
   target = target_of_node n;
@@ -369,22 +428,26 @@ node_view frame n = record {
 
 -- The integer form of an expression: a constant and a local are themselves, and `e + c`, `c + e`, `e - c` and a
 -- conversion have the form of their parts where the exact result is shown to lie in the type.
-abbrev pub expr_view : Expr-F Name Note (Unit {0}) NodeView View → View
+abbrev pub expr_view : Expr-F Name Note ℕ NodeView View → View
 expr_view e = record {
   ctype = e.note.ctype;
   number = e.node.number;
   is_zero = e.node.is_zero;
   variable = e.node.variable;
   behind = e.node.behind;
+  values = with_own e.note.ctype e.node;
   form = λ facts. integer_form e.note.ctype e.node.number (e.node.linear e.note.ctype facts);
-  place = λ facts. if is_pointer e.note.ctype then e.node.place e.note.ctype facts else None;
+  place = pointer_place e.note.ctype e.node;
   target = e.node.target;
   side = e.node.side;
 }
 
 abbrev pub view_of_node : Frame → Node Name Note → NodeView
-view_of_node frame = fold-Node Name Note (Unit {0}) NodeView View limits_view (node_view frame) expr_view
+view_of_node frame = fold-Node Name Note ℕ NodeView View limits_view (node_view frame) expr_view
+
+abbrev pub view_of_limits : Frame → Limits Name Note → ℕ
+view_of_limits frame = fold-Limits Name Note ℕ NodeView View limits_view (node_view frame) expr_view
 
 -- what is said of an expression of a function
 abbrev pub view : Frame → Expr Name Note → View
-view frame = fold-Expr Name Note (Unit {0}) NodeView View limits_view (node_view frame) expr_view
+view frame = fold-Expr Name Note ℕ NodeView View limits_view (node_view frame) expr_view

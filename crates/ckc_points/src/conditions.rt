@@ -8,11 +8,11 @@ ghost use Rattle.ckc_points.specs.Frames.{local_at};
 ghost use Rattle.ckc_points.specs.Flow.{state};
 ghost use Rattle.ckc_points.specs.Views.{same_base, same_form, is_upper_of, is_upper, widened_by, read_place, widening, widening_side, at_most, at_less, with_most, with_less, said, opposite, holding, is_comparison, constant_operand, operand, compares_unsigned, nonzero_side, comparison_side, view, view_of_node};
 
+use crate::forms::{constant_form, is_small, number};
 use crate::frame::{Bounds, Frame, Local};
 use crate::locals::{local_at, variable};
 use crate::places::target_of_node;
 use crate::point::{Point, add_fact};
-use crate::values::{constant_form, is_small, number};
 use ckc_base::Seq;
 use ckc_linear::{Base, Fact, Facts, Form};
 use ckc_syntax::{Expr, Name, Node, TreeOp};
@@ -122,10 +122,10 @@ fn read_side(
     at: &mut Point,
 ) -> Result<(), AllocError>
     ensures { let v = view_of_node frame.now node.now in
-        OnOk result (state at.new ≡ widening_side frame.now v.behind v.target side (state at.old)) }
+        OnOk result (state at.new ≡ widening_side frame.now v.behind (v.target 0) side (state at.old)) }
 {
     if side {
-        let place = target_of_node(alloc, frame, &at.facts, node)?;
+        let place = target_of_node(alloc, frame, &at.facts, node, 0)?;
         widen(frame, behind(frame, node), place, at)
     } else {
         Ok(())

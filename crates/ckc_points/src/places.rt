@@ -1,15 +1,17 @@
-//! The places of pointers whose base is a local pointer or a static array.
+//! The places of pointers.
 
-ghost use Rattle.std.specs.Prelude.{◌≡◌, IfOk, slice_get};
+ghost use Rattle.std.specs.Prelude.{◌≡◌, IfOk, map, slice_get};
+ghost use Rattle.std.specs.Option.{option_map};
 ghost use Rattle.ckc_typed.specs.Operands.{same_element};
 ghost use Rattle.ckc_typed.specs.Types.{kind_of};
 ghost use Rattle.ckc_points.specs.Shown.{known};
-ghost use Rattle.ckc_points.specs.Views.{base_form, named_place, is_array, is_raw, view, view_of_node};
+ghost use Rattle.ckc_points.specs.Views.{base_form, named_place, is_array, is_raw, own_place, values_there, values_after, view, view_of_limits, view_of_node};
 
+use crate::forms::{difference_of_forms, form, sum_of_forms};
 use crate::frame::Frame;
-use crate::values::{difference_of_forms, form, sum_of_forms};
+use ckc_base::Boxed;
 use ckc_linear::{Base, Facts, Form};
-use ckc_syntax::{Expr, Name, Node, TreeOp};
+use ckc_syntax::{Expr, Limits, Name, Node, TreeOp};
 use ckc_typed::Note;
 use ckc_typed::types::{is_pointer, kind_of, same_type};
 use ckc_types::{CType, Kind};
@@ -52,6 +54,86 @@ pub fn named_place(frame: &Frame, name: Name) -> Option<Form>
     }
 }
 
+/// Whether a pointer may stand for itself: it is no local, no static array and not null.
+fn stands_alone(frame: &Frame, node: &Node<Name, Note>) -> bool
+    ensures { result ≡ (view_of_node frame.now node.now).stands_alone }
+{
+    match node {
+        Node::Name(n) => named_place(frame, *n).is_none(),
+        Node::Null => false,
+        Node::Number(_, _) | Node::Text(_) | Node::Size(_) | Node::Un(_, _) | Node::Bin(_, _, _) =>
+            true,
+        Node::Index(_, _) | Node::Cast(_, _) | Node::Pick(_, _, _) | Node::Dot(_, _, _) => true,
+        Node::Arrow(_, _, _) | Node::Trusted(_, _, _) | Node::Tested(_, _, _) => true,
+        Node::Call(_, _) | Node::Calloc(_, _, _) => true,
+    }
+}
+
+#[cycle(values)]
+fn values_of_limits(frame: &Frame, limits: &Limits<Name, Note>) -> u32
+    ensures { result ≡ view_of_limits frame.now limits.now }
+{
+    match limits {
+        Limits::Count(e, _) => values(frame, e.get()),
+        Limits::ByteCount(e, _) => values(frame, e.get()),
+        Limits::Between(e, f, _) => values(frame, e.get()).saturating_add(values(frame, f.get())),
+        Limits::Unknown(_) => 0,
+    }
+}
+
+#[cycle(values)]
+fn values_of_bounds(frame: &Frame, bounds: &Option<Boxed<Limits<Name, Note>>>) -> u32
+    ensures { result ≡ values_there (option_map (view_of_limits frame.now) bounds.now) }
+{
+    match bounds {
+        Some(limits) => values_of_limits(frame, limits.get()),
+        None => 0,
+    }
+}
+
+#[cycle(values)]
+fn values_of_all(frame: &Frame, es: &[Expr<Name, Note>]) -> u32
+    ensures { result ≡ values_after 0 (map (view frame.now) es.now) }
+{
+    let mut n = 0u32;
+    for e in es {
+        n = n.saturating_add(values(frame, e));
+    }
+    n
+}
+
+#[cycle(values)]
+fn values_of_node(frame: &Frame, node: &Node<Name, Note>) -> u32
+    ensures { result ≡ (view_of_node frame.now node.now).values }
+{
+    match node {
+        Node::Un(_, e) | Node::Dot(e, _, _) | Node::Arrow(e, _, _) => values(frame, e.get()),
+        Node::Cast(_, e) | Node::Calloc(_, e, _) => values(frame, e.get()),
+        Node::Bin(_, e, f) => values(frame, e.get()).saturating_add(values(frame, f.get())),
+        Node::Index(e, f) => values(frame, e.get()).saturating_add(values(frame, f.get())),
+        Node::Pick(e, f, g) => values(frame, e.get())
+            .saturating_add(values(frame, f.get()))
+            .saturating_add(values(frame, g.get())),
+        Node::Trusted(_, e, l) => values(frame, e.get()).saturating_add(values_of_bounds(frame, l)),
+        Node::Tested(_, e, l) => values(frame, e.get()).saturating_add(values_of_bounds(frame, l)),
+        Node::Call(_, es) => values_of_all(frame, es.as_slice()),
+        Node::Number(_, _) | Node::Text(_) | Node::Null | Node::Size(_) | Node::Name(_) => 0,
+    }
+}
+
+/// How many pointers in an expression may stand for themselves, it among them.
+#[cycle(values)]
+pub fn values(frame: &Frame, e: &Expr<Name, Note>) -> u32
+    ensures { result ≡ (view frame.now e.now).values }
+{
+    let n = values_of_node(frame, &e.node);
+    if is_pointer(&e.note.ctype) && stands_alone(frame, &e.node) {
+        n.saturating_add(1)
+    } else {
+        n
+    }
+}
+
 /// Whether a type is an unchecked pointer.
 pub fn is_raw(t: &CType) -> bool
     ensures { result ≡ is_raw (kind_of t.now) }
@@ -79,12 +161,14 @@ fn place_of_node(
     facts: &Facts,
     node: &Node<Name, Note>,
     t: &CType,
+    first: u32,
 ) -> Result<Option<Form>, AllocError>
-    ensures { IfOk result (λ f. f ≡ (view_of_node frame.now node.now).place t.now (known facts.now)) }
+    ensures { IfOk result (λ f.
+        f ≡ (view_of_node frame.now node.now).place t.now first (known facts.now)) }
 {
     match node {
         Node::Name(n) => Ok(named_place(frame, *n)),
-        Node::Un(TreeOp::Address, e) => target(alloc, frame, facts, e.get()),
+        Node::Un(TreeOp::Address, e) => target(alloc, frame, facts, e.get(), first),
         Node::Bin(op, e, f) => {
             if is_raw(t) {
                 return Ok(None);
@@ -92,17 +176,18 @@ fn place_of_node(
             match op {
                 TreeOp::Add => {
                     if is_pointer(&e.get().note.ctype) {
-                        let p = place(alloc, frame, facts, e.get())?;
+                        let p = place(alloc, frame, facts, e.get(), first)?;
                         let k = form(alloc, frame, facts, f.get())?;
                         Ok(sum_of_forms(p, k))
                     } else {
                         let k = form(alloc, frame, facts, e.get())?;
-                        let p = place(alloc, frame, facts, f.get())?;
+                        let behind = first.saturating_add(values(frame, e.get()));
+                        let p = place(alloc, frame, facts, f.get(), behind)?;
                         Ok(sum_of_forms(p, k))
                     }
                 }
                 TreeOp::Sub => {
-                    let p = place(alloc, frame, facts, e.get())?;
+                    let p = place(alloc, frame, facts, e.get(), first)?;
                     let k = form(alloc, frame, facts, f.get())?;
                     Ok(difference_of_forms(p, k))
                 }
@@ -111,7 +196,7 @@ fn place_of_node(
         }
         Node::Cast(_, e) => {
             if same_element(t, &e.get().note.ctype) {
-                place(alloc, frame, facts, e.get())
+                place(alloc, frame, facts, e.get(), first)
             } else {
                 Ok(None)
             }
@@ -127,39 +212,56 @@ fn place_of_node(
     }
 }
 
-/// The place of a pointer, where its base is a local pointer or a static array: of `p + 1` one element behind p.
+fn own_place(frame: &Frame, node: &Node<Name, Note>, first: u32) -> Option<Form>
+    ensures { result ≡ own_place (view_of_node frame.now node.now) first }
+{
+    if stands_alone(frame, node) {
+        Some(base_form(Base::Value(first.saturating_add(values_of_node(frame, node)))))
+    } else {
+        None
+    }
+}
+
+/// The place of a pointer, by the number of the first value in it: of `p + 1` one element behind p. One that has no place
+/// by its parts stands for itself.
 #[cycle(place)]
 pub fn place(
     alloc: Global,
     frame: &Frame,
     facts: &Facts,
     e: &Expr<Name, Note>,
+    first: u32,
 ) -> Result<Option<Form>, AllocError>
-    ensures { IfOk result (λ f. f ≡ (view frame.now e.now).place (known facts.now)) }
+    ensures { IfOk result (λ f. f ≡ (view frame.now e.now).place first (known facts.now)) }
 {
-    if is_pointer(&e.note.ctype) {
-        place_of_node(alloc, frame, facts, &e.node, &e.note.ctype)
-    } else {
-        Ok(None)
+    if !is_pointer(&e.note.ctype) {
+        return Ok(None);
+    }
+    let named = place_of_node(alloc, frame, facts, &e.node, &e.note.ctype, first)?;
+    match named {
+        Some(f) => Ok(Some(f)),
+        None => Ok(own_place(frame, &e.node, first)),
     }
 }
 
+/// The place of what a node reads, by the number of the first value in it.
 #[cycle(place)]
 pub fn target_of_node(
     alloc: Global,
     frame: &Frame,
     facts: &Facts,
     node: &Node<Name, Note>,
+    first: u32,
 ) -> Result<Option<Form>, AllocError>
-    ensures { IfOk result (λ f. f ≡ (view_of_node frame.now node.now).target (known facts.now)) }
+    ensures { IfOk result (λ f. f ≡ (view_of_node frame.now node.now).target first (known facts.now)) }
 {
     match node {
-        Node::Un(TreeOp::Deref, e) => place(alloc, frame, facts, e.get()),
+        Node::Un(TreeOp::Deref, e) => place(alloc, frame, facts, e.get(), first),
         Node::Index(e, f) => {
             if is_raw(&e.get().note.ctype) {
                 return Ok(None);
             }
-            let p = place(alloc, frame, facts, e.get())?;
+            let p = place(alloc, frame, facts, e.get(), first)?;
             let k = form(alloc, frame, facts, f.get())?;
             Ok(sum_of_forms(p, k))
         }
@@ -172,15 +274,16 @@ pub fn target_of_node(
     }
 }
 
-/// The place of what `*p` and `p[e]` read.
+/// The place of what `*p` and `p[e]` read, by the number of the first value in them.
 #[cycle(place)]
 pub fn target(
     alloc: Global,
     frame: &Frame,
     facts: &Facts,
     e: &Expr<Name, Note>,
+    first: u32,
 ) -> Result<Option<Form>, AllocError>
-    ensures { IfOk result (λ f. f ≡ (view frame.now e.now).target (known facts.now)) }
+    ensures { IfOk result (λ f. f ≡ (view frame.now e.now).target first (known facts.now)) }
 {
-    target_of_node(alloc, frame, facts, &e.node)
+    target_of_node(alloc, frame, facts, &e.node, first)
 }

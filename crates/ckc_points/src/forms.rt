@@ -26,6 +26,7 @@ pub struct Step {
     pub by: i64,
 }
 
+/// Whether a number may be that of a form: it is within 2^40.
 pub fn is_small(n: i64) -> bool
     ensures { result ≡ is_small n }
 {
@@ -44,6 +45,7 @@ fn negated(op: TreeOp, c: Option<Constant>) -> Option<Constant>
     }
 }
 
+/// The number that is the negative of a constant's.
 pub fn negative_value(c: Constant) -> i64
     ensures { result ≡ neg_ℤ (value_of c) }
 {

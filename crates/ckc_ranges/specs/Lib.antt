@@ -1,0 +1,5 @@
+pub mod Replaced
+pub mod Contained
+pub mod Rows
+pub mod Members
+pub mod Bundles
