@@ -137,8 +137,10 @@ impl<'a> Block<'a> {
     /// Stores the lowest bytes of a number at an address.
     pub fn store(&mut self, width: Width, a: u32, n: u32)
         requires { has width a (view self.old) ≡ true }
-        ensures { view self.new ≡ record (view self.old) { bytes = with_number width
-            self.old.bytes.items (a - self.old.base) n } }
+        ensures { view self.new ≡ record (view self.old) {
+          bytes = with_number width
+              self.old.bytes.items (a - self.old.base) n;
+        } }
     {
         let i = (a - self.base) as usize;
         put_number(width, self.bytes.as_mut_slice(), i, n);

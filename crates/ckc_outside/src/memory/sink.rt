@@ -67,7 +67,7 @@ impl<'a> Sink for MemSink<'a> {
         ensures after { written_of self.new ≡ (if is_listed (plan_of self.old).listed
             (plan_of self.old).calls
             then written_of self.old else take (room_of self.old)
-                (written_of self.old ++ piece.now)) }
+            (written_of self.old ++ piece.now)) }
     {
         if self.plan.fails() {
             return Err(Failed);

@@ -77,7 +77,7 @@ impl<'a> Store for MemStore<'a> {
         // one.
         ensures fails { has_failed result
             ≡ (is_listed (plan_of self.old).listed (plan_of self.old).calls || is_none (map.get
-                (files_of self.old) name.now)) }
+            (files_of self.old) name.now)) }
         ensures plan { plan_of self.new ≡ after_call (plan_of self.old) (has_failed result) }
     {
         if self.plan.fails() {
