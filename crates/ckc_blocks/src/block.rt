@@ -137,7 +137,10 @@ impl<'a> Block<'a> {
     /// Stores the lowest bytes of a number at an address.
     pub fn store(&mut self, width: Width, a: u32, n: u32)
         requires { has width a (view self.old) ≡ true }
-        ensures { view self.new ≡ record (view self.old) { bytes = with_number width self.old.bytes.items (a - self.old.base) n } }
+        ensures { view self.new ≡ record (view self.old) {
+          bytes = with_number width
+              self.old.bytes.items (a - self.old.base) n;
+        } }
     {
         let i = (a - self.base) as usize;
         put_number(width, self.bytes.as_mut_slice(), i, n);
@@ -220,7 +223,8 @@ impl<'a> Block<'a> {
 
     /// Whether a span lies in a member of an element of the block.
     fn is_in_members(&self, to: &Pointee, s: Span, members: &[MemberRun]) -> bool
-        ensures { result ≡ list_any (is_in_member to.now s.number s.low s.high (view self.now)) members.now }
+        ensures { result ≡ list_any (is_in_member to.now s.number s.low s.high
+            (view self.now)) members.now }
     {
         for m in members {
             if self.is_in_member(to, s, m) {

@@ -32,7 +32,8 @@ pub struct Blocks<'a> {
 
 /// The index of the last block that begins at an address or before it.
 fn last_at(blocks: &[Block], a: u32) -> Option<usize>
-    ensures { MatchOption result (BeginsBehind a (map view blocks.now)) (λ i. (i < length blocks.now) × IsLast a (map view blocks.now) i) }
+    ensures { MatchOption result (BeginsBehind a (map view blocks.now))
+        (λ i. (i < length blocks.now) × IsLast a (map view blocks.now) i) }
 {
     let mut low = 0;
     let mut high = blocks.len();
@@ -116,7 +117,8 @@ impl<'a> Blocks<'a> {
     /// Stores the lowest bytes of a number at an address, where the access is aligned and lies in one block; says
     /// whether it did.
     pub fn store(&mut self, width: Width, a: u32, n: u32) -> bool
-        ensures stored { stored width a n (blocks_of self.old) ≡ (if result then Some (blocks_of self.new) else None) }
+        ensures stored { stored width a n (blocks_of self.old) ≡ (if result then Some
+            (blocks_of self.new) else None) }
         ensures refused { MatchBool result ⊤ (blocks_of self.new ≡ blocks_of self.old) }
         ensures next { next_of self.new ≡ next_of self.old }
         ensures shapes { shapes_of self.new ≡ shapes_of self.old }
@@ -132,7 +134,8 @@ impl<'a> Blocks<'a> {
 
     /// The index of the block in which an access lies, where it is aligned and there is one.
     fn holder(&self, width: Width, a: u32) -> Option<usize>
-        ensures { MatchOption result (lies_in width a (blocks_of self.now) ≡ false) (λ i. (i < vec_len self.now.blocks) × IsHolder width a (blocks_of self.now) i) }
+        ensures { MatchOption result (lies_in width a (blocks_of self.now) ≡ false)
+            (λ i. (i < vec_len self.now.blocks) × IsHolder width a (blocks_of self.now) i) }
     {
         if !is_aligned(width, a) {
             return None;
@@ -151,7 +154,8 @@ impl<'a> Blocks<'a> {
 
     /// Whether some run has a span.
     fn is_true(&self, to: &Pointee, s: Span) -> bool
-        ensures { result ≡ is_true (shapes_of self.now) (blocks_of self.now) to.now s.number s.low s.high }
+        ensures { result ≡ is_true (shapes_of self.now)
+            (blocks_of self.now) to.now s.number s.low s.high }
     {
         match last_at(self.blocks.as_slice(), s.low) {
             Some(i) => self.blocks[i].is_in(self.shapes, to, s),
@@ -180,7 +184,8 @@ impl<'a> Blocks<'a> {
 
     /// The same, for a pointer that is not null. No block ends past the last word.
     fn read_within(&self, to: &Pointee, n: u32, low: u128, high: u128) -> Result<Value, Halt>
-        ensures { result ≡ (if is_true (shapes_of self.now) (blocks_of self.now) to.now n low high then ranged n low high else Err Halt.Stuck) }
+        ensures { result ≡ (if is_true (shapes_of self.now)
+            (blocks_of self.now) to.now n low high then ranged n low high else Err Halt.Stuck) }
     {
         if low > LAST_WORD {
             return Err(Halt::Stuck);
@@ -224,8 +229,10 @@ impl<'a> Blocks<'a> {
     /// Adds a block of so many zero elements at the place of the next one.
     pub fn add(&mut self, alloc: Global, to: &'a Pointee, count: u32) -> Result<(), AllocError>
         requires { heap_has_room (next_of self.old) count to.now.size ≡ true }
-        ensures blocks { OnOk result (blocks_of self.new ≡ blocks_of self.old ++ fresh to.now (next_of self.old) count ∷ []) }
-        ensures next { OnOk result (next_of self.new ≡ next_place (next_of self.old) count to.now.size) }
+        ensures blocks { OnOk result (blocks_of self.new ≡ blocks_of self.old ++ fresh to.now
+            (next_of self.old) count ∷ []) }
+        ensures next { OnOk result (next_of self.new ≡ next_place
+            (next_of self.old) count to.now.size) }
         ensures shapes { shapes_of self.new ≡ shapes_of self.old }
     {
         let size = u64::from(count) * u64::from(to.size);
@@ -246,7 +253,8 @@ impl<'a> Blocks<'a> {
         requires base { block.base ≡ next_of self.old }
         requires end { end_of (view block) + 1 ≤ next }
         requires below { next ≤ 0x03000008 }
-        ensures blocks { OnOk result (blocks_of self.new ≡ blocks_of self.old ++ view block.entry ∷ []) }
+        ensures blocks { OnOk result (blocks_of self.new ≡ blocks_of self.old ++ view block.entry ∷
+            []) }
         ensures next { OnOk result (next_of self.new ≡ next) }
         ensures shapes { shapes_of self.new ≡ shapes_of self.old }
     {
@@ -261,10 +269,12 @@ impl<'a> Blocks<'a> {
         shapes: &'a Seq<Shape>,
         objects: &'a [Object],
     ) -> Result<Blocks<'a>, AllocError>
-        requires apart { AreApart first_place (map block_of objects.now) (place_behind first_place (map block_of objects.now)) }
+        requires apart { AreApart first_place (map block_of objects.now) (place_behind first_place
+            (map block_of objects.now)) }
         requires below { place_behind first_place (map block_of objects.now) ≤ 0x03000000 }
         ensures blocks { IfOk result (λ b. blocks_of b ≡ map block_of objects.now) }
-        ensures next { IfOk result (λ b. next_of b ≡ place_behind first_place (map block_of objects.now)) }
+        ensures next { IfOk result (λ b. next_of b ≡ place_behind first_place
+            (map block_of objects.now)) }
         ensures shapes { IfOk result (λ b. shapes_of b ≡ shapes.now) }
     {
         let mut blocks = Vec::new(alloc);

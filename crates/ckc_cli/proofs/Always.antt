@@ -15,7 +15,7 @@ use Rattle.ckc_cli.specs.Causes.{Holds, StoreIsFine, Given}
 use Rattle.ckc_source.specs.Code.{Program}
 use Rattle.ckc_cli.specs.Interpreting.{ShowsAs}
 use Rattle.ckc_build.proofs.Programs.{meanings_exact}
-use Rattle.ckc_cli.proofs.Assembling.{fault_once}
+use Rattle.ckc_asm.proofs.Exactness.{assembling_exact}
 use Rattle.ckc_cli.proofs.OneTask.{one_bad, not_Refuses_IsBad, not_Refuses_Keeps, not_Refuses_Lists, not_Refuses_Executes, not_IsBad_Keeps, not_IsBad_Lists, not_IsBad_Executes, not_Keeps_Lists, not_Keeps_Executes, not_Lists_Executes, not_Refuses_Means, not_IsBad_Means, not_Keeps_Means, not_Lists_Means, not_Executes_Means}
 use Rattle.ckc_cli.proofs.Wording.{reads_once}
 use Rattle.ckc_cli.proofs.Statuses as by
@@ -23,7 +23,7 @@ use Rattle.ckc_cli.proofs.Statuses.{not_shown, not_meant, by_usage, by_store, by
 
 refuses_once : (command : Command) (bytes : List ℕ) (fault other : Refusal) → Refuses command bytes fault → Refuses command bytes other → fault ≡ other
 refuses_once (Build text image) bytes fault other p q = meanings_exact.refused_once bytes fault other p q
-refuses_once (Assemble text image) bytes fault other p q = fault_once bytes fault other p q
+refuses_once (Assemble text image) bytes fault other p q = assembling_exact.refused_once bytes fault other p q
 refuses_once (Exec text limit) bytes fault other p q = meanings_exact.refused_once bytes fault other p q
 refuses_once (Interp text limit) bytes fault other p q = meanings_exact.refused_once bytes fault other p q
 refuses_once (Run image limit) bytes fault other p q = absurd p

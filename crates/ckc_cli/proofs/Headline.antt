@@ -10,9 +10,9 @@ use Rattle.ckc_rv.specs.Machine.{Parts, machine, machine_system, first_state}
 use Rattle.ckc_machine.specs.declared.observed.Observed.{Observed}
 use Rattle.ckc_machine.specs.declared.observed.Observed.TheVariants as observed
 use Rattle.ckc_machine.specs.declared.observed.FaultKind.{FaultKind}
-use Rattle.ckc_machine.specs.Points.{got_byte, taken}
-use Rattle.ckc_machine.specs.Runs.{Says, Printed, kind_number}
-use Rattle.ckc_machine.specs.Runs as runs
+use Rattle.ckc_outside.specs.Given.{got_byte, taken, Printed}
+use Rattle.ckc_machine.specs.Runs.{Says, kind_number}
+use Rattle.ckc_outside.specs.Given as given_bytes
 use Rattle.ckc_source.specs.Code.{Program}
 use Rattle.ckc_source.specs.LaidOut.{AreBytes}
 use Rattle.ckc_source.specs.Source.{source}
@@ -111,7 +111,7 @@ says_stopped observed.WriteFault check at s = absurd s
 
 -- ---- inputs
 
-bytes_alone : (more : List ℕ) → runs.AreBytes more → AreBytes (more ++ [])
+bytes_alone : (more : List ℕ) → given_bytes.AreBytes more → AreBytes (more ++ [])
 bytes_alone [] h = tt
 bytes_alone (b ∷ more) h = (h.0, bytes_alone more h.1)
 

@@ -9,7 +9,7 @@ use Rattle.ckc_build.specs.Built.{IsImage}
 use Rattle.ckc_cli.specs.Commands.{BadBytes, longest_image, Refuses, IsBad, Keeps, Lists, Executes, Means}
 use Rattle.ckc_source.specs.Code.{Program}
 use Rattle.ckc_build.proofs.Programs.{meanings_exact}
-use Rattle.ckc_cli.proofs.Assembling.{never_both}
+use Rattle.ckc_asm.proofs.Exactness.{assembling_exact}
 
 -- an image is no longer than the longest
 image_short : (bytes : List ℕ) (parts : Parts) → IsImage bytes parts → length bytes ≤ longest_image
@@ -48,7 +48,7 @@ not_Refuses_IsBad (Show name) bytes fault k p q = p
 
 pub not_Refuses_Keeps : (command : Command) (bytes : List ℕ) (fault : Refusal) (place image : List ℕ) → Refuses command bytes fault → Keeps command bytes place image → ⊥
 not_Refuses_Keeps (Build text target) bytes fault place image p q = meanings_exact.never_both bytes q.1.1.program fault q.1.1.means p
-not_Refuses_Keeps (Assemble text target) bytes fault place image p q = never_both bytes q.1.0 fault q.1.1 p
+not_Refuses_Keeps (Assemble text target) bytes fault place image p q = assembling_exact.never_both bytes q.1.0 fault q.1.1 p
 not_Refuses_Keeps (Exec text most) bytes fault place image p q = q.1.1
 not_Refuses_Keeps (Interp text most) bytes fault place image p q = q.1.1
 not_Refuses_Keeps (Run name most) bytes fault place image p q = p

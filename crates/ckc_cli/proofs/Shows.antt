@@ -7,8 +7,9 @@ use Rattle.ckc_rv.specs.Machine.{Parts, machine}
 use Rattle.ckc_machine.specs.declared.observed.Observed.{Observed}
 use Rattle.ckc_machine.specs.declared.observed.Observed.TheVariants as observed
 use Rattle.ckc_machine.specs.declared.machine.Machine.{Machine}
-use Rattle.ckc_machine.specs.Points.{since, taken}
-use Rattle.ckc_machine.specs.Runs.{Says, Printed, Took, OverAny, IsAt, AsksNothing, Arrives, Runs, answer_of}
+use Rattle.ckc_outside.specs.Given.{taken, Printed, Took, OverAny}
+use Rattle.ckc_machine.specs.Points.{since}
+use Rattle.ckc_machine.specs.Runs.{Says, IsAt, AsksNothing, Arrives, Runs, answer_of}
 use Rattle.ckc_cli.specs.Running.{Seen, Shown, ShownOver, Ran, fed}
 
 -- from the start on, all of the trace is since

@@ -7,7 +7,7 @@ use Rattle.ckc_outside.specs.Outside.{Files, Rose}
 use Rattle.ckc_rv.specs.Machine.{Parts}
 use Rattle.ckc_machine.specs.declared.observed.Observed.{Observed}
 use Rattle.ckc_machine.specs.declared.observed.Observed.TheVariants as observed
-use Rattle.ckc_machine.specs.Runs.{Printed}
+use Rattle.ckc_outside.specs.Given.{Printed}
 use Rattle.ckc_cli.specs.declared.status.Status.{Status}
 use Rattle.ckc_cli.specs.declared.status.Status.TheVariants as status
 use Rattle.ckc_cli.specs.Words.{Command, Build, Assemble, Exec, Interp, Run, Show, Reads}

@@ -4,12 +4,10 @@ use Rattle.ckc_base.specs.Traces.{Standing, Stuck, output}
 use Rattle.ckc_base.specs.Follows.{IsPrefix}
 use Rattle.ckc_rv.specs.Machine.{Parts}
 use Rattle.ckc_machine.specs.declared.observed.Observed.{Observed}
-use Rattle.ckc_machine.specs.Points.{taken}
-use Rattle.ckc_machine.specs.Runs.{Printed, OverAny}
+use Rattle.ckc_outside.specs.Given.{taken, Printed, OverAny, WhereTold}
 use Rattle.ckc_source.specs.Code.{Program}
 use Rattle.ckc_source.specs.LaidOut.{AreBytes}
 use Rattle.ckc_source.specs.Source.{source}
-use Rattle.ckc_interp.specs.Outsides.{WhereTold}
 use Rattle.ckc_build.specs.Meanings.{HasMeaning}
 use Rattle.ckc_build.specs.Built.{Built}
 use Rattle.ckc_cli.specs.declared.status.Status.{Status}

@@ -12,7 +12,7 @@ use Rattle.ckc_cli.specs.declared.status.Status.TheVariants as status
 use Rattle.ckc_cli.specs.Words.{Command, Reads}
 use Rattle.ckc_machine.specs.declared.observed.Observed.{Observed}
 use Rattle.ckc_machine.specs.declared.observed.Observed.TheVariants as observed
-use Rattle.ckc_machine.specs.Runs.{Printed}
+use Rattle.ckc_outside.specs.Given.{Printed}
 use Rattle.ckc_cli.specs.Running.{Seen, Ran, Ends, Listed, ListedFront, status_of}
 use Rattle.ckc_cli.specs.Commands.{name_of, Refuses, IsBad, Keeps, Lists, Executes, Means}
 use Rattle.ckc_cli.specs.Interpreting.{ShowsAs, IsMeant}

@@ -6,7 +6,7 @@ use Rattle.ckc_source.specs.Code.{Program}
 use Rattle.ckc_source.specs.Source.{source}
 use Rattle.ckc_interp.specs.declared.seen.Seen as seens
 use Rattle.ckc_interp.specs.declared.seen.Seen.TheVariants as seen
-use Rattle.ckc_interp.specs.Outsides.{OverAny, WhereTold}
+use Rattle.ckc_outside.specs.Given.{OverAny, WhereTold}
 use Rattle.ckc_interp.specs.Runs.{Interprets}
 use Rattle.ckc_build.specs.Meanings.{HasMeaning}
 use Rattle.ckc_cli.specs.declared.status.Status.{Status}

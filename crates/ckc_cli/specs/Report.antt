@@ -1,6 +1,7 @@
 -- The exit status and the line of each status.
-use Rattle.std.specs.Prelude.{ℕ, zero, suc, ◌+◌, ◌/◌, ◌%◌, ◌^◌, nat_lt, if◌then◌else◌, List, [], ◌∷◌, ◌++◌, codes, Option, None, Some}
+use Rattle.std.specs.Prelude.{ℕ, ◌+◌, ◌%◌, List, [], ◌∷◌, ◌++◌, codes, Option, None, Some}
 use Rattle.std.specs.Fmt.{decimal}
+use Rattle.ckc_asm.specs.Names.{hex}
 use Rattle.ckc_base.specs.declared.places.Pos.{Pos}
 use Rattle.ckc_base.specs.Checks.{number_of, name_of}
 use Rattle.ckc_machine.specs.declared.observed.FaultKind.{FaultKind}
@@ -37,15 +38,6 @@ kind_name Call = codes "call"
 -- a line and a column, as 9:14
 abbrev pub place : Pos → List ℕ
 place at = decimal at.line ++ codes ":" ++ decimal at.col
-
--- the lower-case hexadecimal digit of a number below 16
-abbrev pub hex_digit : ℕ → ℕ
-hex_digit d = if nat_lt d 10 then 48 + d else 87 + d
-
--- so many of the lowest hexadecimal digits, the highest first
-abbrev pub hex : ℕ → ℕ → List ℕ
-hex zero n = []
-hex (suc count) n = hex_digit (n / 16 ^ count % 16) ∷ hex count n
 
 -- where unchecked code first ran, if it did
 abbrev pub since_words : Option Pos → List ℕ

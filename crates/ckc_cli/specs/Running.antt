@@ -5,8 +5,8 @@ use Rattle.ckc_outside.specs.Outside.{Rose}
 use Rattle.ckc_rv.specs.Machine.{Parts, machine}
 use Rattle.ckc_machine.specs.declared.observed.Observed.{Observed}
 use Rattle.ckc_machine.specs.declared.observed.Observed.TheVariants as observed
-use Rattle.ckc_machine.specs.Points.{taken}
-use Rattle.ckc_machine.specs.Runs.{Says, Printed, Took, AsksNothing, OverAny, FailsToGet, FailsToPut}
+use Rattle.ckc_outside.specs.Given.{taken, Printed, Took, OverAny}
+use Rattle.ckc_machine.specs.Runs.{Says, AsksNothing, FailsToGet, FailsToPut}
 use Rattle.ckc_image.specs.Image.{FirstBad}
 use Rattle.ckc_build.specs.Built.{IsImage}
 use Rattle.ckc_cli.specs.declared.status.Status.{Status}

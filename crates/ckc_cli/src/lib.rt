@@ -3,7 +3,6 @@
 
 mod assembly;
 mod commands;
-mod line;
 mod reporting;
 mod run;
 mod status;
@@ -11,7 +10,6 @@ mod top;
 mod words;
 
 pub use ckc_machine::FaultKind;
-pub use line::Line;
 pub use reporting::report;
 pub use status::Status;
 pub use top::ccc;

@@ -45,7 +45,8 @@ fn spanned(a: u32, bytes: u32) -> Result<Value, Halt>
 
 /// The address that an access goes to, with the range of so many bytes.
 fn address_at(bytes: u32, access: Access, p: Value, i: Value) -> Result<Value, Halt>
-    ensures { result ≡ given (element access p i.number) (λ a. spanned (place_in a access.offset) bytes) }
+    ensures { result ≡ given (element access p i.number)
+        (λ a. spanned (place_in a access.offset) bytes) }
 {
     let a = element(access, p, i.number)?;
     spanned(place_in(a, access.offset), bytes)
@@ -140,7 +141,8 @@ impl<'r, 'a> Reader<'r, 'a> {
 
     /// What a load through a pointer at an index gives.
     fn load_at(&self, width: Width, access: Access, p: Value, i: Value) -> Result<Value, Halt>
-        ensures { result ≡ given (element access p i.number) (λ a. loads (store_of self.now) width (place_in a access.offset)) }
+        ensures { result ≡ given (element access p i.number)
+            (λ a. loads (store_of self.now) width (place_in a access.offset)) }
     {
         let a = element(access, p, i.number)?;
         self.load(width, place_in(a, access.offset))
@@ -155,7 +157,8 @@ impl<'r, 'a> Reader<'r, 'a> {
         p: Value,
         i: Value,
     ) -> Result<Value, Halt>
-        ensures { result ≡ given (element access p i.number) (λ a. loads_pointer (store_of self.now) to.now count a (place_in a access.offset)) }
+        ensures { result ≡ given (element access p i.number)
+            (λ a. loads_pointer (store_of self.now) to.now count a (place_in a access.offset)) }
     {
         let a = element(access, p, i.number)?;
         self.load_pointer(to, count, a, place_in(a, access.offset))

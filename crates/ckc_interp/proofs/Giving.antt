@@ -1,33 +1,18 @@
 -- What a source gave, and what may be left behind it.
 use Rattle.std.proofs.Common.{◌≡◌, inl, inr, ℕ, List, [], ◌∷◌, ◌++◌, Option, Some, None, Bool, IsTrue, Ok, slice_get, drop, refl, sym, ap, subst, ◌∙◌, append_assoc}
-use Rattle.ckc_outside.specs.Outside.{one_more, GivesNext}
-use Rattle.ckc_interp.specs.Outsides.{after_answers, Gave, OverAny, WhereTold}
-use Rattle.ckc_interp.specs.Turns.{MayBeLeft, Took, Fed}
-
-pub no_answer : (n : ℕ) → n ≡ after_answers n []
-unfolding after_answers
-no_answer n = refl
-
-pub one_answer : (n byte : ℕ) → one_more n ≡ after_answers n (byte ∷ [])
-unfolding after_answers
-one_answer n byte = refl
-
-answers_join : (n : ℕ) (more then : List ℕ) → after_answers (after_answers n more) then ≡ after_answers n (more ++ then)
-unfolding after_answers
-answers_join n [] then = refl
-answers_join n (byte ∷ more) then = answers_join (one_more n) more then
+use Rattle.ckc_outside.specs.Outside.{GivesNext}
+use Rattle.ckc_outside.specs.Given.{Gave, Took, OverAny, WhereTold}
+use Rattle.ckc_outside.proofs.Giving.{both_none, gave_nothing, gave_both}
+use Rattle.ckc_interp.specs.Turns.{MayBeLeft, Fed}
 
 -- a source that was not asked
 pub not_asked : (ended : Bool) (answers : ℕ) (told : Option (List ℕ)) (Holds : List ℕ → List ℕ → Type 0) → ((rest : List ℕ) → Holds rest rest) → Fed ended ended answers answers told told Holds
 not_asked ended answers told Holds h =
-    ([], record { count = no_answer answers; none = λ t. refl; stays = λ t. t }, λ before e. (before, e, refl), λ rest may. h rest)
+    ([], gave_nothing ended answers, λ before e. (before, e, refl), λ rest may. h rest)
 
 pub fed_so : (ended ended' : Bool) (answers answers' : ℕ) (told told' : Option (List ℕ)) (One Other : List ℕ → List ℕ → Type 0) → Fed ended ended' answers answers' told told' One
     → ((left left' : List ℕ) → One left left' → Other left left') → Fed ended ended' answers answers' told told' Other
 fed_so ended ended' answers answers' told told' One Other o h = (o.0, o.1, o.2, λ rest may. h (o.0 ++ rest) rest (o.3 rest may))
-
-both_none : (more then : List ℕ) → more ≡ [] → then ≡ [] → more ++ then ≡ []
-both_none more then e f = ap (λ l. l ++ then) e ∙ f
 
 same_behind : (more one two : List ℕ) → more ++ one ≡ more ++ two → one ≡ two
 same_behind [] one two e = e
@@ -61,11 +46,7 @@ fed_then ended midway ended' answers between answers' told mid told' First Then 
     let more = f.0 in
     let then = t.0 in (
       more ++ then,
-      record {
-        count = t.1.count ∙ ap (λ n. after_answers n then) f.1.count ∙ answers_join answers more then;
-        none = λ e. both_none more then (f.1.none e) (t.1.none (f.1.stays e));
-        stays = λ e. t.1.stays (f.1.stays e);
-      },
+      gave_both ended midway ended' answers between answers' more then f.1 t.1,
       took_both told mid told' more then f.2 t.2,
       λ rest may. subst (λ l. Both l rest) (sym (append_assoc more then rest))
           (h (more ++ (then ++ rest)) (then ++ rest) rest

@@ -1,4 +1,3 @@
 pub mod Views
 pub mod Turns
-pub mod Outsides
 pub mod Runs

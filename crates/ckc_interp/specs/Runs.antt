@@ -9,7 +9,7 @@ use Rattle.ckc_source.specs.States.{Work, Rest, State, settled}
 use Rattle.ckc_source.specs.Source.{source, source_system, first_state, place_after, unchecked_since}
 use Rattle.ckc_interp.specs.declared.seen.Seen.{Seen}
 use Rattle.ckc_interp.specs.declared.seen.Seen.TheVariants as seen
-use Rattle.ckc_interp.specs.Outsides.{taken, Printed, PrintedFront}
+use Rattle.ckc_outside.specs.Given.{taken, Printed, PrintedFront}
 
 -- the next step of a state is a `getchar`
 pub record AsksToGet (s : State) : Type 0 where

@@ -16,7 +16,7 @@ use Rattle.ckc_source.specs.declared.outcome.Value.{Value}
 use Rattle.ckc_source.specs.declared.program.Shape.{Shape}
 use Rattle.ckc_source.specs.Source.{by_mode}
 use Rattle.ckc_source.specs.declared.outcome.Halt.TheVariants as halt
-use Rattle.ckc_interp.specs.Outsides.{taken, Printed, PrintedFront, Gave, MayCome}
+use Rattle.ckc_outside.specs.Given.{taken, Took, Printed, PrintedFront, Gave, MayCome}
 use Rattle.ckc_interp.specs.Runs.{AsksToGet, AsksToPut}
 use Rattle.ckc_interp.specs.declared.seen.Seen.{Seen}
 use Rattle.ckc_interp.specs.declared.seen.Seen.TheVariants as seen
@@ -169,10 +169,6 @@ Steps p s u blame blame' written written' (Some seen.Memory) = (written' ≡ wri
 -- what may be left behind the bytes that a source gave: what may come behind them, or what it tells
 abbrev pub MayBeLeft : Bool → Option (List ℕ) → List ℕ → List ℕ → Type 0
 MayBeLeft ended told more rest = MayCome ended rest ⊎ (told ≡ Some (more ++ rest))
-
--- the bytes that a source gave, where it tells what is left
-abbrev pub Took : Option (List ℕ) → Option (List ℕ) → List ℕ → Type 0
-Took told told' more = (before : List ℕ) → told ≡ Some before → (after : List ℕ) × (told' ≡ Some after) × (before ≡ more ++ after)
 
 -- The source gave some bytes, and whatever may be left behind them, something holds of what was left before and then.
 abbrev pub Fed : Bool → Bool → ℕ → ℕ → Option (List ℕ) → Option (List ℕ) → (List ℕ → List ℕ → Type 0) → Type 0

@@ -61,7 +61,8 @@ fn evaluate_all(
     reader: Reader,
     all: &[ExprTree],
 ) -> Result<Result<Vec<u32>, Halt>, AllocError>
-    ensures { IfOk result (λ done. all_evaluated (stores.store_of reader.entry) (map expr_of all.now) ≡ values_as done) }
+    ensures { IfOk result (λ done. all_evaluated (stores.store_of reader.entry)
+        (map expr_of all.now) ≡ values_as done) }
 {
     let mut numbers = Vec::new(alloc);
     for e in all {
@@ -120,7 +121,8 @@ impl<'a> Run<'a> {
 
     /// Where the next step stands, of which the work is in front.
     fn spot(&self, front: Option<Work>) -> Spot
-        ensures { result ≡ spot_with self.now.frame.function.now.end (option_map work_of front.entry) }
+        ensures { result ≡ spot_with self.now.frame.function.now.end
+            (option_map work_of front.entry) }
     {
         let end = self.frame.function.end;
         match front {
@@ -138,10 +140,13 @@ impl<'a> Run<'a> {
         marks: &mut Marks,
     ) -> Result<Turn, AllocError>
         requires { shapes_of self.old.blocks ≡ program.now.shapes }
-        ensures moves { IfOk result (λ turn. asked_next (program_of program.entry.now) (core_of self.old) (settled (core_of self.old).frame.work) ≡ turn_asks turn (core_of self.new)) }
+        ensures moves { IfOk result (λ turn. asked_next (program_of program.entry.now)
+            (core_of self.old) (settled (core_of self.old).frame.work) ≡ turn_asks turn
+            (core_of self.new)) }
         ensures shapes { shapes_of self.new.blocks ≡ shapes_of self.old.blocks }
         ensures at { IfOk result (λ turn. marks.new.at ≡ (spot_of (core_of self.old)).at) }
-        ensures blame { IfOk result (λ turn. marks.new.blame ≡ noted marks.old.blame (spot_of (core_of self.old))) }
+        ensures blame { IfOk result (λ turn. marks.new.blame ≡ noted marks.old.blame (spot_of
+            (core_of self.old))) }
     {
         settle(&mut self.frame.work)?;
         let front = take_front(&mut self.frame.work);
@@ -157,7 +162,8 @@ impl<'a> Run<'a> {
 
     /// Puts statements in front of what comes next.
     fn next(&mut self, code: &'a [StmtTree]) -> Result<(), AllocError>
-        ensures state { OnOk result (core_of self.new ≡ at_work (core_of self.old) (Rest (code_of code.entry.now) ∷ (core_of self.old).frame.work)) }
+        ensures state { OnOk result (core_of self.new ≡ at_work (core_of self.old) (Rest
+            (code_of code.entry.now) ∷ (core_of self.old).frame.work)) }
         ensures shapes { shapes_of self.new.blocks ≡ shapes_of self.old.blocks }
     {
         push_rest(&mut self.frame.work, code)?;
@@ -172,7 +178,9 @@ impl<'a> Run<'a> {
         code: &'a [StmtTree],
     ) -> Result<Turn, AllocError>
         requires { shapes_of self.old.blocks ≡ program.now.shapes }
-        ensures moves { IfOk result (λ turn. asked (program_of program.entry.now) (core_of self.old) (core_of self.old).frame.work (code_of code.entry.now) ≡ turn_asks turn (core_of self.new)) }
+        ensures moves { IfOk result (λ turn. asked (program_of program.entry.now) (core_of self.old)
+            (core_of self.old).frame.work (code_of code.entry.now) ≡ turn_asks turn
+            (core_of self.new)) }
         ensures shapes { shapes_of self.new.blocks ≡ shapes_of self.old.blocks }
     {
         let Some((first, rest)) = code.split_first() else {
@@ -211,7 +219,10 @@ impl<'a> Run<'a> {
         a: &'a Assign,
         rest: &'a [StmtTree],
     ) -> Result<Turn, AllocError>
-        ensures moves { IfOk result (λ turn. Does (comes_to [] (bundled (shapes_of self.old.blocks) (at_work (core_of self.old) (Rest (code_of rest.entry.now) ∷ (core_of self.old).frame.work)) (assign_of a.entry.now ∷ []))) ≡ turn_asks turn (core_of self.new)) }
+        ensures moves { IfOk result (λ turn. Does (comes_to [] (bundled (shapes_of self.old.blocks)
+            (at_work (core_of self.old) (Rest (code_of rest.entry.now) ∷
+            (core_of self.old).frame.work)) (assign_of a.entry.now ∷ []))) ≡ turn_asks turn
+            (core_of self.new)) }
         ensures shapes { shapes_of self.new.blocks ≡ shapes_of self.old.blocks }
     {
         self.next(rest)?;
@@ -225,7 +236,10 @@ impl<'a> Run<'a> {
         assigns: &'a [Assign],
         rest: &'a [StmtTree],
     ) -> Result<Turn, AllocError>
-        ensures moves { IfOk result (λ turn. Does (comes_to [] (bundled (shapes_of self.old.blocks) (at_work (core_of self.old) (Rest (code_of rest.entry.now) ∷ (core_of self.old).frame.work)) (map assign_of assigns.entry.now))) ≡ turn_asks turn (core_of self.new)) }
+        ensures moves { IfOk result (λ turn. Does (comes_to [] (bundled (shapes_of self.old.blocks)
+            (at_work (core_of self.old) (Rest (code_of rest.entry.now) ∷
+            (core_of self.old).frame.work)) (map assign_of assigns.entry.now))) ≡ turn_asks turn
+            (core_of self.new)) }
         ensures shapes { shapes_of self.new.blocks ≡ shapes_of self.old.blocks }
     {
         self.next(rest)?;
@@ -234,7 +248,10 @@ impl<'a> Run<'a> {
     }
 
     fn act_get(&mut self, target: &TargetTree, rest: &'a [StmtTree]) -> Result<Turn, AllocError>
-        ensures moves { IfOk result (λ turn. gets_at (at_work (core_of self.old) (Rest (code_of rest.entry.now) ∷ (core_of self.old).frame.work)) (aimed (store_of (shapes_of self.old.blocks) (core_of self.old)) (target_of target.now)) ≡ turn_asks turn (core_of self.new)) }
+        ensures moves { IfOk result (λ turn. gets_at (at_work (core_of self.old) (Rest
+            (code_of rest.entry.now) ∷ (core_of self.old).frame.work)) (aimed (store_of
+            (shapes_of self.old.blocks) (core_of self.old)) (target_of target.now)) ≡ turn_asks turn
+            (core_of self.new)) }
         ensures shapes { shapes_of self.new.blocks ≡ shapes_of self.old.blocks }
     {
         match self.reader().aim(target) {
@@ -252,7 +269,11 @@ impl<'a> Run<'a> {
         e: &ExprTree,
         rest: &'a [StmtTree],
     ) -> Result<Turn, AllocError>
-        ensures moves { IfOk result (λ turn. puts_at (at_work (core_of self.old) (Rest (code_of rest.entry.now) ∷ (core_of self.old).frame.work)) (aimed (store_of (shapes_of self.old.blocks) (core_of self.old)) (target_of target.now)) (evaluated (store_of (shapes_of self.old.blocks) (core_of self.old)) (expr_of e.now)) ≡ turn_asks turn (core_of self.new)) }
+        ensures moves { IfOk result (λ turn. puts_at (at_work (core_of self.old) (Rest
+            (code_of rest.entry.now) ∷ (core_of self.old).frame.work)) (aimed (store_of
+            (shapes_of self.old.blocks) (core_of self.old)) (target_of target.now)) (evaluated
+            (store_of (shapes_of self.old.blocks) (core_of self.old))
+            (expr_of e.now)) ≡ turn_asks turn (core_of self.new)) }
         ensures shapes { shapes_of self.new.blocks ≡ shapes_of self.old.blocks }
     {
         let to = match self.reader().aim(target) {
@@ -275,8 +296,12 @@ impl<'a> Run<'a> {
         two: &'a [StmtTree],
         rest: &'a [StmtTree],
     ) -> Result<Turn, AllocError>
-        ensures moves { IfOk result (λ turn. Does (and_moves (evaluated (store_of (shapes_of self.old.blocks) (core_of self.old)) (expr_of e.now))
-            (λ v. Goes [] (at_work (core_of self.old) (Rest (if v.number == 0 then code_of two.entry.now else code_of one.entry.now) ∷ Rest (code_of rest.entry.now) ∷ (core_of self.old).frame.work)))) ≡ turn_asks turn (core_of self.new)) }
+        ensures moves { IfOk result (λ turn. Does (and_moves (evaluated (store_of
+            (shapes_of self.old.blocks) (core_of self.old)) (expr_of e.now))
+            (λ v. Goes [] (at_work (core_of self.old) (Rest
+            (if v.number == 0 then code_of two.entry.now else code_of one.entry.now) ∷ Rest
+            (code_of rest.entry.now) ∷ (core_of self.old).frame.work)))) ≡ turn_asks turn
+            (core_of self.new)) }
         ensures shapes { shapes_of self.new.blocks ≡ shapes_of self.old.blocks }
     {
         match self.reader().evaluate(e) {
@@ -300,9 +325,12 @@ impl<'a> Run<'a> {
         rest: &'a [StmtTree],
         code: &'a [StmtTree],
     ) -> Result<Turn, AllocError>
-        ensures moves { IfOk result (λ turn. Does (and_moves (evaluated (store_of (shapes_of self.old.blocks) (core_of self.old)) (expr_of e.now))
-            (λ v. Goes [] (at_work (core_of self.old) (if v.number == 0 then Rest (code_of rest.entry.now) ∷ (core_of self.old).frame.work
-            else Rest (code_of body.entry.now) ∷ states.Turn (code_of code.entry.now) ∷ (core_of self.old).frame.work)))) ≡ turn_asks turn (core_of self.new)) }
+        ensures moves { IfOk result (λ turn. Does (and_moves (evaluated (store_of
+            (shapes_of self.old.blocks) (core_of self.old)) (expr_of e.now))
+            (λ v. Goes [] (at_work (core_of self.old) (if v.number == 0 then Rest
+            (code_of rest.entry.now) ∷ (core_of self.old).frame.work
+            else Rest (code_of body.entry.now) ∷ states.Turn (code_of code.entry.now) ∷
+            (core_of self.old).frame.work)))) ≡ turn_asks turn (core_of self.new)) }
         ensures shapes { shapes_of self.new.blocks ≡ shapes_of self.old.blocks }
     {
         match self.reader().evaluate(e) {
@@ -320,8 +348,11 @@ impl<'a> Run<'a> {
     }
 
     fn act_check(&mut self, at: Pos, e: &ExprTree, rest: &'a [StmtTree]) -> Result<Turn, AllocError>
-        ensures moves { IfOk result (λ turn. Does (and_moves (evaluated (store_of (shapes_of self.old.blocks) (core_of self.old)) (expr_of e.now))
-            (λ v. if v.number == 0 then Halts [] (standing.Stopped Check.Dynamic at) else Goes [] (at_work (core_of self.old) (Rest (code_of rest.entry.now) ∷ (core_of self.old).frame.work)))) ≡ turn_asks turn (core_of self.new)) }
+        ensures moves { IfOk result (λ turn. Does (and_moves (evaluated (store_of
+            (shapes_of self.old.blocks) (core_of self.old)) (expr_of e.now))
+            (λ v. if v.number == 0 then Halts [] (standing.Stopped Check.Dynamic at) else Goes []
+            (at_work (core_of self.old) (Rest (code_of rest.entry.now) ∷
+            (core_of self.old).frame.work)))) ≡ turn_asks turn (core_of self.new)) }
         ensures shapes { shapes_of self.new.blocks ≡ shapes_of self.old.blocks }
     {
         match self.reader().evaluate(e) {
@@ -337,7 +368,10 @@ impl<'a> Run<'a> {
     }
 
     fn act_return(&mut self, e: &ExprTree) -> Turn
-        ensures moves { Does (and_moves (evaluated (store_of (shapes_of self.old.blocks) (core_of self.old)) (expr_of e.now)) (λ v. returns (shapes_of self.old.blocks) (core_of self.old) (core_of self.old).callers v.number)) ≡ turn_asks result (core_of self.new) }
+        ensures moves { Does (and_moves (evaluated (store_of (shapes_of self.old.blocks)
+            (core_of self.old)) (expr_of e.now))
+            (λ v. returns (shapes_of self.old.blocks) (core_of self.old)
+            (core_of self.old).callers v.number)) ≡ turn_asks result (core_of self.new) }
         ensures shapes { shapes_of self.new.blocks ≡ shapes_of self.old.blocks }
     {
         match self.reader().evaluate(e) {
@@ -356,8 +390,11 @@ impl<'a> Run<'a> {
         arguments: &'a [ExprTree],
         rest: &'a [StmtTree],
     ) -> Result<Turn, AllocError>
-        ensures moves { IfOk result (λ turn. Does (and_moves (all_evaluated (store_of (shapes_of self.old.blocks) (core_of self.old)) (map expr_of arguments.entry.now))
-            (calls (map function_of program.entry.now.functions) (at_work (core_of self.old) (Rest (code_of rest.entry.now) ∷ (core_of self.old).frame.work)) target callee at)) ≡ turn_asks turn (core_of self.new)) }
+        ensures moves { IfOk result (λ turn. Does (and_moves (all_evaluated (store_of
+            (shapes_of self.old.blocks) (core_of self.old)) (map expr_of arguments.entry.now))
+            (calls (map function_of program.entry.now.functions) (at_work (core_of self.old) (Rest
+            (code_of rest.entry.now) ∷ (core_of self.old).frame.work)) target callee at)) ≡
+            turn_asks turn (core_of self.new)) }
         ensures shapes { shapes_of self.new.blocks ≡ shapes_of self.old.blocks }
     {
         match evaluate_all(alloc, self.reader(), arguments)? {
@@ -379,7 +416,9 @@ impl<'a> Run<'a> {
         callee: u32,
         values: Vec<u32>,
     ) -> Result<Turn, AllocError>
-        ensures moves { IfOk result (λ turn. Does (calls (map function_of program.entry.now.functions) (core_of self.old) target callee at values.items) ≡ turn_asks turn (core_of self.new)) }
+        ensures moves { IfOk result (λ turn. Does (calls
+            (map function_of program.entry.now.functions)
+            (core_of self.old) target callee at values.items) ≡ turn_asks turn (core_of self.new)) }
         ensures shapes { shapes_of self.new.blocks ≡ shapes_of self.old.blocks }
     {
         if self.callers.len() >= MOST_CALLS - 1 {
@@ -397,7 +436,15 @@ impl<'a> Run<'a> {
 
     /// The innermost call waits for another one.
     fn suspend(&mut self, frame: Frame<'a>, target: Option<Kept>) -> Result<(), AllocError>
-        ensures state { OnOk result (core_of self.new ≡ record (core_of self.old) { frame = frame_of frame.entry; callers = record { frame = frame_of self.old.frame; target = target } ∷ (core_of self.old).callers }) }
+        ensures state { OnOk result (core_of self.new ≡ record
+            (core_of self.old) {
+              frame = frame_of frame.entry;
+              callers = record {
+                frame = frame_of
+                    self.old.frame;
+                target = target;
+              } ∷ (core_of self.old).callers;
+            }) }
         ensures shapes { shapes_of self.new.blocks ≡ shapes_of self.old.blocks }
     {
         let waits = mem::replace(&mut self.frame, frame);
@@ -410,7 +457,8 @@ impl<'a> Run<'a> {
 
     /// A call returns a value.
     fn give_back(&mut self, n: u32) -> Turn
-        ensures moves { Does (returns (shapes_of self.old.blocks) (core_of self.old) (core_of self.old).callers n) ≡ turn_asks result (core_of self.new) }
+        ensures moves { Does (returns (shapes_of self.old.blocks) (core_of self.old)
+            (core_of self.old).callers n) ≡ turn_asks result (core_of self.new) }
         ensures shapes { shapes_of self.new.blocks ≡ shapes_of self.old.blocks }
     {
         match self.callers.pop() {
@@ -436,7 +484,8 @@ impl<'a> Run<'a> {
         target: Option<Kept>,
         n: u32,
     ) -> Result<(), Halt>
-        ensures done { hands (shapes_of self.old.blocks) (core_of self.old) (option_copied limits.entry) entry.now target n ≡ reached result (core_of self.new) }
+        ensures done { hands (shapes_of self.old.blocks) (core_of self.old)
+            (option_copied limits.entry) entry.now target n ≡ reached result (core_of self.new) }
         ensures shapes { shapes_of self.new.blocks ≡ shapes_of self.old.blocks }
     {
         match target {
@@ -450,7 +499,8 @@ impl<'a> Run<'a> {
 
     /// The result of a call, read with the values that its parameters had at its entry.
     fn read_result(&self, limits: Option<&Limits>, entry: &[u32], n: u32) -> Result<u32, Halt>
-        ensures { reads_result (shapes_of self.now.blocks) (core_of self.now) (option_copied limits.entry) entry.now n ≡ result }
+        ensures { reads_result (shapes_of self.now.blocks) (core_of self.now)
+            (option_copied limits.entry) entry.now n ≡ result }
     {
         match limits {
             None => Ok(n),

@@ -88,7 +88,12 @@ impl<'a> Run<'a> {
 
     /// The place of a block of so many elements, or null where there is no room for one.
     fn allocate(&mut self, alloc: Global, to: &'a Pointee, count: u32) -> Result<u32, AllocError>
-        ensures done { IfOk result (λ n. allocated (core_of self.old) to.entry.now count ≡ record { number = n; state = core_of self.new }) }
+        ensures done { IfOk result (λ n. allocated
+            (core_of self.old) to.entry.now count ≡ record {
+              number = n;
+              state = core_of
+                  self.new;
+            }) }
         ensures shapes { shapes_of self.new.blocks ≡ shapes_of self.old.blocks }
     {
         if !self.blocks.has_room(to, count) {
@@ -101,7 +106,8 @@ impl<'a> Run<'a> {
 
     /// The value of the right side of an assignment.
     fn draw(&mut self, alloc: Global, right: &'a RightTree) -> Result<Result<u32, Halt>, AllocError>
-        ensures done { IfOk result (λ n. drawn (shapes_of self.old.blocks) (core_of self.old) (right_of right.entry.now) ≡ drawn_as n (core_of self.new)) }
+        ensures done { IfOk result (λ n. drawn (shapes_of self.old.blocks) (core_of self.old)
+            (right_of right.entry.now) ≡ drawn_as n (core_of self.new)) }
         ensures shapes { shapes_of self.new.blocks ≡ shapes_of self.old.blocks }
     {
         match right {
@@ -125,7 +131,8 @@ impl<'a> Run<'a> {
         alloc: Global,
         a: &'a Assign,
     ) -> Result<Result<(Place, u32), Halt>, AllocError>
-        ensures done { IfOk result (λ w. planned_one (shapes_of self.old.blocks) (core_of self.old) (assign_of a.entry.now) ≡ planned_one_as w (core_of self.new)) }
+        ensures done { IfOk result (λ w. planned_one (shapes_of self.old.blocks) (core_of self.old)
+            (assign_of a.entry.now) ≡ planned_one_as w (core_of self.new)) }
         ensures shapes { shapes_of self.new.blocks ≡ shapes_of self.old.blocks }
     {
         let to = match self.reader().aim(&a.target) {
@@ -143,7 +150,8 @@ impl<'a> Run<'a> {
 
     /// One assignment.
     pub fn assign(&mut self, alloc: Global, a: &'a Assign) -> Result<Result<(), Halt>, AllocError>
-        ensures done { IfOk result (λ done. bundled (shapes_of self.old.blocks) (core_of self.old) (assign_of a.entry.now ∷ []) ≡ reached done (core_of self.new)) }
+        ensures done { IfOk result (λ done. bundled (shapes_of self.old.blocks) (core_of self.old)
+            (assign_of a.entry.now ∷ []) ≡ reached done (core_of self.new)) }
         ensures shapes { shapes_of self.new.blocks ≡ shapes_of self.old.blocks }
     {
         match self.plan_one(alloc, a)? {
@@ -161,7 +169,9 @@ impl<'a> Run<'a> {
         writes: &mut Vec<(Place, u32)>,
     ) -> Result<Result<(), Halt>, AllocError>
         requires { writes.old.items ≡ [] }
-        ensures done { IfOk result (λ done. planned (shapes_of self.old.blocks) (core_of self.old) (map assign_of assigns.entry.now) ≡ planned_as done writes.new.items (core_of self.new)) }
+        ensures done { IfOk result (λ done. planned (shapes_of self.old.blocks) (core_of self.old)
+            (map assign_of assigns.entry.now) ≡ planned_as done writes.new.items
+            (core_of self.new)) }
         ensures shapes { shapes_of self.new.blocks ≡ shapes_of self.old.blocks }
     {
         for a in assigns {
@@ -191,7 +201,8 @@ impl<'a> Run<'a> {
         alloc: Global,
         assigns: &'a [Assign],
     ) -> Result<Result<(), Halt>, AllocError>
-        ensures done { IfOk result (λ done. bundled (shapes_of self.old.blocks) (core_of self.old) (map assign_of assigns.entry.now) ≡ reached done (core_of self.new)) }
+        ensures done { IfOk result (λ done. bundled (shapes_of self.old.blocks) (core_of self.old)
+            (map assign_of assigns.entry.now) ≡ reached done (core_of self.new)) }
         ensures shapes { shapes_of self.new.blocks ≡ shapes_of self.old.blocks }
     {
         let mut writes = Vec::new(alloc);

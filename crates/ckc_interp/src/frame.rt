@@ -42,7 +42,8 @@ fn first_locals(
     function: &FunctionTree,
     values: &[u32],
 ) -> Result<Vec<u32>, AllocError>
-    ensures { IfOk result (λ locals. locals.items ≡ values.now ++ replicate (function.now.locals - length values.now) 0) }
+    ensures { IfOk result (λ locals. locals.items ≡ values.now ++ replicate
+        (function.now.locals - length values.now) 0) }
 {
     let mut locals = Vec::from_slice(alloc, values)?;
     let count = (function.locals as usize).saturating_sub(values.len());
@@ -57,7 +58,8 @@ pub fn enter<'a>(
     function: &'a FunctionTree,
     values: Vec<u32>,
 ) -> Result<Frame<'a>, AllocError>
-    ensures { IfOk result (λ f. frame_of f ≡ entered (function_of function.entry.now) values.items) }
+    ensures { IfOk result (λ f. frame_of f ≡ entered
+        (function_of function.entry.now) values.items) }
 {
     let locals = first_locals(alloc, function, values.as_slice())?;
     let mut work = Vec::new(alloc);

@@ -1,6 +1,6 @@
 //! Whole runs.
 
-ghost use Rattle.std.specs.Prelude.{◌≡◌, ◌≢◌, ◌%◌, ◌^◌, ◌≤◌, [], ◌∷◌, map, slice_get, None, Some, IfOk, ℕ, List};
+ghost use Rattle.std.specs.Prelude.{◌≡◌, ◌≢◌, ◌%◌, ◌^◌, ◌<◌, ◌≤◌, [], ◌∷◌, map, slice_get, None, Some, IfOk, ℕ, List};
 ghost use Rattle.ckc_outside.specs.Outside.{Rose};
 ghost use Rattle.ckc_source.specs.Code.{function_of, program_of};
 ghost use Rattle.ckc_source.specs.LaidOut.{IsLaidOut};
@@ -8,7 +8,7 @@ ghost use Rattle.ckc_source.specs.Source.{no_function, function_at, first_state}
 ghost use Rattle.ckc_source.specs.Steps.{writes_allowed};
 ghost use Rattle.ckc_blocks.specs.Views.{shapes_of};
 ghost use Rattle.ckc_interp.specs.Views.{core_of, state_of};
-ghost use Rattle.ckc_interp.specs.Outsides.{OverAny, WhereTold};
+ghost use Rattle.ckc_outside.specs.Given.{OverAny, WhereTold};
 ghost use Rattle.ckc_interp.specs.Runs.{Interprets};
 ghost use Rattle.ckc_interp.specs.Turns.{seen_of, Wrote, PutsAs, GetsAs, Fed, Steps};
 
@@ -35,7 +35,8 @@ fn seen_of(why: Halt, marks: Marks) -> Seen
 impl<'a> Run<'a> {
     /// A value that comes with an event is written, or the run halts.
     fn wrote(&mut self, to: Place, n: u32, marks: Marks) -> Option<Seen>
-        ensures done { Wrote (writes_allowed to n (core_of self.old)) (core_of self.new) marks.at marks.blame result }
+        ensures done { Wrote (writes_allowed to n (core_of self.old))
+            (core_of self.new) marks.at marks.blame result }
         ensures shapes { shapes_of self.new.blocks ≡ shapes_of self.old.blocks }
     {
         match self.write_allowed(to, n) {
@@ -46,9 +47,11 @@ impl<'a> Run<'a> {
 
     /// Puts the lowest byte of a word and writes it.
     fn put<O: Sink>(&mut self, to: Place, n: u32, marks: Marks, out: &mut O) -> Option<Seen>
-        ensures puts { PutsAs (core_of self.old) to n (core_of self.new) marks.at marks.blame (O.written out.old) (O.written out.new) result }
+        ensures puts { PutsAs (core_of self.old) to n (core_of self.new) marks.at marks.blame
+            (O.written out.old) (O.written out.new) result }
         ensures shapes { shapes_of self.new.blocks ≡ shapes_of self.old.blocks }
-        ensures write_fault { result ≡ Some Seen.WriteFault → Rose (O.faults out.old) (O.faults out.new) }
+        ensures write_fault { result ≡ Some Seen.WriteFault
+            → Rose (O.faults out.old) (O.faults out.new) }
         ensures read_fault { result ≢ Some Seen.ReadFault }
         ensures out_counts { O.faults out.old ≤ O.faults out.new }
     {
@@ -61,15 +64,18 @@ impl<'a> Run<'a> {
 
     /// Gets a byte, or -1 at the end, and writes it.
     fn get<S: Source>(&mut self, to: Place, marks: Marks, input: &mut S) -> Option<Seen>
-        ensures gets { Fed (S.ended input.old) (S.ended input.new) (S.answers input.old) (S.answers input.new) (S.left input.old) (S.left input.new)
-            (λ left left'. GetsAs (core_of self.old) to (core_of self.new) marks.at marks.blame left left' result) }
+        ensures gets { Fed (S.ended input.old) (S.ended input.new) (S.answers input.old)
+            (S.answers input.new) (S.left input.old) (S.left input.new)
+            (λ left left'. GetsAs (core_of self.old) to
+            (core_of self.new) marks.at marks.blame left left' result) }
         ensures shapes { shapes_of self.new.blocks ≡ shapes_of self.old.blocks }
-        ensures read_fault { result ≡ Some Seen.ReadFault → Rose (S.faults input.old) (S.faults input.new) }
+        ensures read_fault { result ≡ Some Seen.ReadFault
+            → Rose (S.faults input.old) (S.faults input.new) }
         ensures write_fault { result ≢ Some Seen.WriteFault }
         ensures input_counts { S.faults input.old ≤ S.faults input.new }
     {
         match input.next() {
-            Ok(Some(byte)) => self.wrote(to, u32::from(byte), marks),
+            Ok(Some(byte)) => self.wrote(to, word_of(byte), marks),
             Ok(None) => self.wrote(to, u32::MAX, marks),
             Err(_) => Some(Seen::ReadFault),
         }
@@ -85,12 +91,16 @@ impl<'a> Run<'a> {
         out: &mut O,
     ) -> Option<Seen>
         requires { shapes_of self.old.blocks ≡ program.now.shapes }
-        ensures steps { Fed (S.ended input.old) (S.ended input.new) (S.answers input.old) (S.answers input.new) (S.left input.old) (S.left input.new)
-            (λ left left'. Steps (program_of program.entry.now) (state_of self.old left) (state_of self.new left') marks.old.blame marks.new.blame
+        ensures steps { Fed (S.ended input.old) (S.ended input.new) (S.answers input.old)
+            (S.answers input.new) (S.left input.old) (S.left input.new)
+            (λ left left'. Steps (program_of program.entry.now) (state_of self.old left)
+            (state_of self.new left') marks.old.blame marks.new.blame
             (O.written out.old) (O.written out.new) result) }
         ensures shapes { shapes_of self.new.blocks ≡ shapes_of self.old.blocks }
-        ensures read_fault { result ≡ Some Seen.ReadFault → Rose (S.faults input.old) (S.faults input.new) }
-        ensures write_fault { result ≡ Some Seen.WriteFault → Rose (O.faults out.old) (O.faults out.new) }
+        ensures read_fault { result ≡ Some Seen.ReadFault
+            → Rose (S.faults input.old) (S.faults input.new) }
+        ensures write_fault { result ≡ Some Seen.WriteFault
+            → Rose (O.faults out.old) (O.faults out.new) }
         ensures input_counts { S.faults input.old ≤ S.faults input.new }
         ensures out_counts { O.faults out.old ≤ O.faults out.new }
     {
@@ -115,10 +125,14 @@ impl<'a> Run<'a> {
     ) -> Seen
         requires shapes { shapes_of self.old.blocks ≡ program.now.shapes }
         requires start { core_of self.old ≡ first_state (program_of program.now) [] }
-        ensures runs { Fed (S.ended input.old) (S.ended input.new) (S.answers input.old) (S.answers input.new) (S.left input.old) (S.left input.new)
-            (Interprets (program_of program.entry.now) limit (O.written out.old) (O.written out.new) result) }
-        ensures read_fault { result ≡ Seen.ReadFault → Rose (S.faults input.old) (S.faults input.new) }
-        ensures write_fault { result ≡ Seen.WriteFault → Rose (O.faults out.old) (O.faults out.new) }
+        ensures runs { Fed (S.ended input.old) (S.ended input.new) (S.answers input.old)
+            (S.answers input.new) (S.left input.old) (S.left input.new)
+            (Interprets (program_of program.entry.now) limit (O.written out.old)
+            (O.written out.new) result) }
+        ensures read_fault { result ≡ Seen.ReadFault
+            → Rose (S.faults input.old) (S.faults input.new) }
+        ensures write_fault { result ≡ Seen.WriteFault
+            → Rose (O.faults out.old) (O.faults out.new) }
         ensures input_counts { S.faults input.old ≤ S.faults input.new }
         ensures out_counts { O.faults out.old ≤ O.faults out.new }
     {
@@ -152,6 +166,14 @@ fn no_function(alloc: Global) -> FunctionTree
     }
 }
 
+/// A byte as a word.
+fn word_of(byte: u8) -> u32
+    ensures same { result ≡ byte }
+    ensures small { byte < 256 }
+{
+    u32::from(byte)
+}
+
 /// The function with a number, where there is one.
 fn function_at<'a>(
     functions: &'a [FunctionTree],
@@ -159,7 +181,8 @@ fn function_at<'a>(
     none: &'a FunctionTree,
 ) -> &'a FunctionTree
     requires { function_of none.now ≡ no_function }
-    ensures { function_of result.now ≡ function_at (slice_get (map function_of functions.entry.now) number) }
+    ensures { function_of result.now ≡ function_at (slice_get
+        (map function_of functions.entry.now) number) }
 {
     match functions.get(number as usize) {
         Some(function) => function,
@@ -170,7 +193,8 @@ fn function_at<'a>(
 /// A run at its start.
 fn start<'a>(alloc: Global, p: &'a Program, main: &'a FunctionTree) -> Result<Run<'a>, AllocError>
     requires laid_out { IsLaidOut (program_of p.now) }
-    requires main { function_of main.now ≡ function_at (slice_get (map function_of p.now.functions) p.now.main) }
+    requires main { function_of main.now ≡ function_at (slice_get
+        (map function_of p.now.functions) p.now.main) }
     ensures state { IfOk result (λ r. core_of r ≡ first_state (program_of p.entry.now) []) }
     ensures shapes { IfOk result (λ r. shapes_of r.blocks ≡ p.entry.now.shapes) }
 {
@@ -193,8 +217,10 @@ fn run_from<'a, S: Source, O: Sink>(
     out: &mut O,
 ) -> Seen
     requires laid_out { IsLaidOut (program_of p.now) }
-    requires main { function_of main.now ≡ function_at (slice_get (map function_of p.now.functions) p.now.main) }
-    ensures runs { Fed (S.ended input.old) (S.ended input.new) (S.answers input.old) (S.answers input.new) (S.left input.old) (S.left input.new)
+    requires main { function_of main.now ≡ function_at (slice_get
+        (map function_of p.now.functions) p.now.main) }
+    ensures runs { Fed (S.ended input.old) (S.ended input.new) (S.answers input.old)
+        (S.answers input.new) (S.left input.old) (S.left input.new)
         (Interprets (program_of p.entry.now) limit (O.written out.old) (O.written out.new) result) }
     ensures read_fault { result ≡ Seen.ReadFault → Rose (S.faults input.old) (S.faults input.new) }
     ensures write_fault { result ≡ Seen.WriteFault → Rose (O.faults out.old) (O.faults out.new) }
@@ -219,10 +245,12 @@ pub fn interp<S: Source, O: Sink>(
     requires { IsLaidOut (program_of p.now) }
 
     // With the input that a source tells, the answer is how the program stands.
-    ensures exact { WhereTold (S.left input.old) (S.left input.new) (Interprets (program_of p.now) limit (O.written out.old) (O.written out.new) result) }
+    ensures exact { WhereTold (S.left input.old) (S.left input.new) (Interprets
+        (program_of p.now) limit (O.written out.old) (O.written out.new) result) }
 
     // Over any source, whatever may come behind the bytes that it gave, the same holds of the input with both.
-    ensures any { OverAny (S.ended input.old) (S.ended input.new) (S.answers input.old) (S.answers input.new)
+    ensures any { OverAny (S.ended input.old) (S.ended input.new) (S.answers input.old)
+        (S.answers input.new)
         (Interprets (program_of p.now) limit (O.written out.old) (O.written out.new) result) }
 
     // A fault of an object is answered only where its count rose.

@@ -83,7 +83,8 @@ fn step_of(code: &[StmtTree]) -> Option<&[StmtTree]>
 
 /// Puts statements in front of the work.
 pub fn push_rest<'a>(work: &mut Vec<Work<'a>>, code: &'a [StmtTree]) -> Result<(), AllocError>
-    ensures { OnOk result (next_of_call work.new.items ≡ states.Rest (code_of code.entry.now) ∷ next_of_call work.old.items) }
+    ensures { OnOk result (next_of_call work.new.items ≡ states.Rest
+        (code_of code.entry.now) ∷ next_of_call work.old.items) }
 {
     work.push(Work::Rest(code))?;
     Ok(())
@@ -91,7 +92,8 @@ pub fn push_rest<'a>(work: &mut Vec<Work<'a>>, code: &'a [StmtTree]) -> Result<(
 
 /// Puts a loop, of which a turn runs, in front of the work.
 pub fn push_turn<'a>(work: &mut Vec<Work<'a>>, code: &'a [StmtTree]) -> Result<(), AllocError>
-    ensures { OnOk result (next_of_call work.new.items ≡ states.Turn (code_of code.entry.now) ∷ next_of_call work.old.items) }
+    ensures { OnOk result (next_of_call work.new.items ≡ states.Turn
+        (code_of code.entry.now) ∷ next_of_call work.old.items) }
 {
     work.push(Work::Turn(code))?;
     Ok(())
@@ -99,7 +101,8 @@ pub fn push_turn<'a>(work: &mut Vec<Work<'a>>, code: &'a [StmtTree]) -> Result<(
 
 /// Takes what is in front of the work, where there is anything.
 pub fn take_front<'a>(work: &mut Vec<Work<'a>>) -> Option<Work<'a>>
-    ensures front { MatchOption result (next_of_call work.old.items ≡ []) (λ w. next_of_call work.old.items ≡ work_of w ∷ next_of_call work.new.items) }
+    ensures front { MatchOption result (next_of_call work.old.items ≡ [])
+        (λ w. next_of_call work.old.items ≡ work_of w ∷ next_of_call work.new.items) }
     ensures empty { IfNone result (next_of_call work.new.items ≡ []) }
     ensures shorter { OnSome result (vec_len work.new < vec_len work.old) }
 {
@@ -112,7 +115,8 @@ pub fn take_front<'a>(work: &mut Vec<Work<'a>>) -> Option<Work<'a>>
 /// Statements begin, or how they are left.
 fn begin<'a>(code: &'a [StmtTree], work: &mut Vec<Work<'a>>) -> Result<Option<Leaving>, AllocError>
     ensures left { IfOk result (λ how. when_left how (next_of_call work.new.items)
-        ≡ begun (code_of code.entry.now) (λ how. resumed how (next_of_call work.old.items)) (next_of_call work.old.items)) }
+        ≡ begun (code_of code.entry.now) (λ how. resumed how (next_of_call work.old.items))
+        (next_of_call work.old.items)) }
     ensures same { IfOk result (λ how. OnSome how (vec_len work.new ≤ vec_len work.old)) }
 {
     match leaving_in(code) {
@@ -126,7 +130,8 @@ fn begin<'a>(code: &'a [StmtTree], work: &mut Vec<Work<'a>>) -> Result<Option<Le
 
 /// A turn of the loop in front of the statements is done.
 fn turn<'a>(code: &'a [StmtTree], work: &mut Vec<Work<'a>>) -> Result<(), AllocError>
-    ensures { OnOk result (next_of_call work.new.items ≡ turned (code_of code.entry.now) (next_of_call work.old.items)) }
+    ensures { OnOk result (next_of_call work.new.items ≡ turned (code_of code.entry.now)
+        (next_of_call work.old.items)) }
 {
     match step_of(code) {
         Some(step) => {
@@ -143,7 +148,8 @@ fn leave<'a>(
     front: Work<'a>,
     work: &mut Vec<Work<'a>>,
 ) -> Result<Option<Leaving>, AllocError>
-    ensures left { IfOk result (λ left. when_left left (next_of_call work.new.items) ≡ resumed (leaving_of how) (work_of front.entry ∷ next_of_call work.old.items)) }
+    ensures left { IfOk result (λ left. when_left left (next_of_call work.new.items) ≡ resumed
+        (leaving_of how) (work_of front.entry ∷ next_of_call work.old.items)) }
     ensures same { IfOk result (λ left. OnSome left (vec_len work.new ≤ vec_len work.old)) }
 {
     match (how, front) {

@@ -167,9 +167,9 @@ asm_of_listed entry first rest code initial e blank l proper =
     record {
       statements = s ∷ ss;
       form = lines_found (lines_of (text_of (first ∷ rest))) (s ∷ ss) (
-        ap (map reading) (split_text (first ∷ rest) (e.clean, clean_of_lists l.lists))
-        ∙ ap (λ o. o ∷ map reading (rest ++ [] ∷ [])) e.reads ∙ ap (λ x. Some s ∷ x) (form_of_lists lists)
-      );
+          ap (map reading) (split_text (first ∷ rest) (e.clean, clean_of_lists l.lists))
+          ∙ ap (λ o. o ∷ map reading (rest ++ [] ∷ [])) e.reads ∙ ap (λ x. Some s ∷ x) (form_of_lists lists)
+          );
       single = single_of s e.unlabelled lists;
       image = image_of s entry e.item_is lists;
       proper = proper;

@@ -1,4 +1,4 @@
-//! The listing of the parts of an image: the one text that assembly has for them.
+//! The listing of the parts of an image: the one text that assembly has for them. Its short lines serve other texts too.
 #![tactic(auto)]
 
 mod lister;
@@ -6,3 +6,4 @@ mod text_line;
 mod texts;
 
 pub use lister::list;
+pub use text_line::TextLine;

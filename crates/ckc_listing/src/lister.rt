@@ -14,8 +14,10 @@ pub fn list<O: Sink>(entry: u32, code: &[u8], initial: &[u8], out: &mut O) -> Re
     requires { IsProper entry code.now initial.now }
     ensures counts { O.faults out.old ≤ O.faults out.new }
     ensures failed { OnErr result (Rose (O.faults out.old) (O.faults out.new)) }
-    ensures told { (bytes : List ℕ) → O.written out.old ≡ Some bytes → Puts bytes (listing entry code.now initial.now) result (O.written out.new) }
-    ensures pieces { PutsPieces (length (listing_lines entry code.now initial.now)) result (O.puts out.old) (O.puts out.new) }
+    ensures told { (bytes : List ℕ) → O.written out.old ≡ Some bytes
+        → Puts bytes (listing entry code.now initial.now) result (O.written out.new) }
+    ensures pieces { PutsPieces (length (listing_lines entry code.now initial.now)) result
+        (O.puts out.old) (O.puts out.new) }
     ensures reads_back { AsmOf (listing entry code.now initial.now) entry code.now initial.now }
 {
     put_line(&entry_line(entry), out)?;

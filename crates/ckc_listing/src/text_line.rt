@@ -5,12 +5,12 @@ ghost use Rattle.ckc_asm.specs.Names.{hex, hex_digit, register};
 use std::marker::Model;
 
 /// How many bytes a line may have.
-const ROOM: usize = 64;
+const ROOM: usize = 80;
 
 /// A short line of text, which takes no memory.
 #[derive(Drop)]
 pub struct TextLine {
-    room: [u8; 64],
+    room: [u8; 80],
     len: usize,
 }
 
@@ -21,7 +21,7 @@ impl Model for TextLine {
 
     ghost view = { λ l. take l.len l.room };
 
-    ghost invariant = { λ l. l.len ≤ 64 };
+    ghost invariant = { λ l. l.len ≤ 80 };
 }
 
 impl TextLine {
@@ -44,7 +44,7 @@ impl TextLine {
 
     /// Adds a byte.
     pub fn push(&mut self, byte: u8)
-        requires { length self.old < 64 }
+        requires { length self.old < 80 }
         ensures { self.new ≡ self.old ++ byte ∷ [] }
     {
         self.room[self.len] = byte;
@@ -53,7 +53,7 @@ impl TextLine {
 
     /// Adds a text.
     pub fn push_text(&mut self, text: &[u8])
-        requires { length self.old + length text.now ≤ 64 }
+        requires { length self.old + length text.now ≤ 80 }
         ensures { self.new ≡ self.old ++ text.now }
     {
         for byte in text {
@@ -63,7 +63,7 @@ impl TextLine {
 
     /// Adds a number in decimal.
     pub fn push_decimal(&mut self, n: u32)
-        requires { length self.old + length (decimal n) ≤ 64 }
+        requires { length self.old + length (decimal n) ≤ 80 }
         ensures { self.new ≡ self.old ++ decimal n }
     {
         if n >= 10 {
@@ -87,7 +87,7 @@ impl TextLine {
     /// Adds a number as two hexadecimal digits.
     #[tactic(auto, unfolding(ckc_asm::specs::Names::hex))]
     pub fn push_hex_2(&mut self, n: u32)
-        requires { length self.old + 2 ≤ 64 }
+        requires { length self.old + 2 ≤ 80 }
         ensures text { self.new ≡ self.old ++ hex 2 n }
         ensures length { length self.new ≡ length self.old + 2 }
     {
@@ -98,7 +98,7 @@ impl TextLine {
     /// Adds a number as five hexadecimal digits.
     #[tactic(auto, unfolding(ckc_asm::specs::Names::hex))]
     pub fn push_hex_5(&mut self, n: u32)
-        requires { length self.old + 5 ≤ 64 }
+        requires { length self.old + 5 ≤ 80 }
         ensures text { self.new ≡ self.old ++ hex 5 n }
         ensures length { length self.new ≡ length self.old + 5 }
     {
@@ -111,7 +111,7 @@ impl TextLine {
     /// Adds a number as eight hexadecimal digits.
     #[tactic(auto, unfolding(ckc_asm::specs::Names::hex))]
     pub fn push_hex_8(&mut self, n: u32)
-        requires { length self.old + 8 ≤ 64 }
+        requires { length self.old + 8 ≤ 80 }
         ensures text { self.new ≡ self.old ++ hex 8 n }
         ensures length { length self.new ≡ length self.old + 8 }
     {

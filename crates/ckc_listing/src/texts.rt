@@ -150,7 +150,8 @@ fn jump_line(rd: u8, offset: i32) -> TextLine
 
 fn branch_line(op: BranchOp, rs1: u8, rs2: u8, offset: i32) -> TextLine
     requires { (rs1 < 32) × (rs2 < 32) }
-    ensures text { result ≡ named (branch_name op) (three (register rs1) (register rs2) (signed_decimal offset)) }
+    ensures text { result ≡ named (branch_name op) (three (register rs1) (register rs2)
+        (signed_decimal offset)) }
     ensures length { length result ≤ 40 }
 {
     let mut line = begun(branch_name(op));
@@ -176,7 +177,8 @@ fn memory_line(name: &str, first: u8, base: u8, offset: i32) -> TextLine
 
 fn imm_line(op: ImmOp, rd: u8, rs1: u8, immediate: i32) -> TextLine
     requires { (rd < 32) × (rs1 < 32) }
-    ensures text { result ≡ named (imm_name op) (three (register rd) (register rs1) (signed_decimal immediate)) }
+    ensures text { result ≡ named (imm_name op) (three (register rd) (register rs1)
+        (signed_decimal immediate)) }
     ensures length { length result ≤ 40 }
 {
     let mut line = begun(imm_name(op));
@@ -188,7 +190,8 @@ fn imm_line(op: ImmOp, rd: u8, rs1: u8, immediate: i32) -> TextLine
 
 fn reg_line(op: RegOp, rd: u8, rs1: u8, rs2: u8) -> TextLine
     requires { (rd < 32) × (rs1 < 32) × (rs2 < 32) }
-    ensures text { result ≡ named (reg_name op) (three (register rd) (register rs1) (register rs2)) }
+    ensures text { result ≡ named (reg_name op) (three (register rd) (register rs1)
+        (register rs2)) }
     ensures length { length result ≤ 40 }
 {
     let mut line = begun(reg_name(op));

@@ -1,39 +1,20 @@
 -- What a source gave, and what may come behind it.
 use Rattle.std.proofs.Common.{◌≡◌, ℕ, List, [], ◌∷◌, ◌++◌, Option, Some, Bool, refl, sym, ap, subst, ◌∙◌, append_assoc}
-use Rattle.ckc_outside.specs.Outside.{one_more}
+pub use Rattle.ckc_outside.proofs.Giving.{no_answer, one_answer}
+use Rattle.ckc_outside.proofs.Giving.{both_none, gave_nothing, gave_both}
 use Rattle.ckc_rv.specs.Machine.{Parts}
 use Rattle.ckc_machine.specs.declared.observed.Observed.{Observed}
 use Rattle.ckc_machine.specs.declared.machine.Machine.{Machine}
 use Rattle.ckc_machine.specs.Points.{state_at}
-use Rattle.ckc_machine.specs.Runs.{after_answers, AreBytes, OverAny, IsAt, AsksFor, Arrives, Runs}
-
-pub no_answer : (n : ℕ) → n ≡ after_answers n []
-unfolding after_answers
-no_answer n = refl
-
-pub one_answer : (n byte : ℕ) → one_more n ≡ after_answers n (byte ∷ [])
-unfolding after_answers
-one_answer n byte = refl
-
-answers_join : (n : ℕ) (more then : List ℕ) → after_answers (after_answers n more) then ≡ after_answers n (more ++ then)
-unfolding after_answers
-answers_join n [] then = refl
-answers_join n (byte ∷ more) then = answers_join (one_more n) more then
+use Rattle.ckc_machine.specs.Runs.{OverAny, IsAt, AsksFor, Arrives, Runs}
 
 -- a source that was not asked
 pub not_asked : (ended : Bool) (answers : ℕ) (Holds : List ℕ → List ℕ → Type 0) → ((rest : List ℕ) → Holds rest rest) → OverAny ended ended answers answers Holds
-not_asked ended answers Holds h = ([], record { count = no_answer answers; bytes = tt; none = λ t. refl; stays = λ t. t }, λ rest may. h rest)
+not_asked ended answers Holds h = ([], gave_nothing ended answers, λ rest may. h rest)
 
 pub given_so : (ended ended' : Bool) (answers answers' : ℕ) (One Other : List ℕ → List ℕ → Type 0) → OverAny ended ended' answers answers' One
     → ((left left' : List ℕ) → One left left' → Other left left') → OverAny ended ended' answers answers' Other
 given_so ended ended' answers answers' One Other o h = (o.0, o.1, λ rest may. h (o.0 ++ rest) rest (o.2 rest may))
-
-all_given : (more then : List ℕ) → AreBytes more → AreBytes then → AreBytes (more ++ then)
-all_given [] then m t = t
-all_given (byte ∷ more) then m t = (m.0, all_given more then m.1 t)
-
-both_none : (more then : List ℕ) → more ≡ [] → then ≡ [] → more ++ then ≡ []
-both_none more then e f = ap (λ l. l ++ then) e ∙ f
 
 -- what was given first, and what was given then
 pub given_then : (ended midway ended' : Bool) (answers between answers' : ℕ) (First Then Both : List ℕ → List ℕ → Type 0)
@@ -43,12 +24,7 @@ given_then ended midway ended' answers between answers' First Then Both f t h =
     let more = f.0 in
     let then = t.0 in (
       more ++ then,
-      record {
-        count = t.1.count ∙ ap (λ n. after_answers n then) f.1.count ∙ answers_join answers more then;
-        bytes = all_given more then f.1.bytes t.1.bytes;
-        none = λ e. both_none more then (f.1.none e) (t.1.none (f.1.stays e));
-        stays = λ e. t.1.stays (f.1.stays e);
-      },
+      gave_both ended midway ended' answers between answers' more then f.1 t.1,
       λ rest may. subst (λ l. Both l rest) (sym (append_assoc more then rest))
           (h (more ++ (then ++ rest)) (then ++ rest) rest (f.2 (then ++ rest) (λ e. both_none then rest (t.1.none e) (may (t.1.stays e)))) (t.2 rest may)),
     )

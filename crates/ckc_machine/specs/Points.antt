@@ -1,8 +1,8 @@
 -- Where the machine of an image stands after so many instructions.
-use Rattle.std.specs.Prelude.{ℕ, zero, suc, List, [], ◌∷◌, length, drop, Some, None}
-use Rattle.std.specs.List.{flat_map}
-use Rattle.ckc_base.specs.Traces.{Event, Got, Put}
+use Rattle.std.specs.Prelude.{ℕ, zero, suc, List, length, drop}
+use Rattle.ckc_base.specs.Traces.{Event}
 use Rattle.ckc_base.specs.Steps.{Move, Goes, Halts}
+pub use Rattle.ckc_outside.specs.Given.{got_byte, taken}
 use Rattle.ckc_rv.specs.Machine.{Parts, State, machine_step, first_state, machine}
 
 -- the state that a move leads to; a halt keeps it
@@ -19,13 +19,3 @@ state_at parts input (suc k) = next_state (state_at parts input k) (machine_step
 -- the events of instructions k + 1 to j
 abbrev pub since : Parts → List ℕ → ℕ → ℕ → List Event
 since parts input k j = drop (length (machine parts input k).trace) (machine parts input j).trace
-
--- the byte that an event takes from the input
-abbrev pub got_byte : Event → List ℕ
-got_byte (Got (Some byte)) = byte ∷ []
-got_byte (Got None) = []
-got_byte (Put byte) = []
-
--- the bytes that a trace takes, in order
-abbrev pub taken : List Event → List ℕ
-taken trace = flat_map got_byte trace

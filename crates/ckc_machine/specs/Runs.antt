@@ -1,8 +1,9 @@
 -- What a machine is, and what a run of it does.
-use Rattle.std.specs.Prelude.{◌≡◌, ℕ, suc, ◌+◌, ◌≤◌, ◌<◌, true, List, [], ◌∷◌, ◌++◌, length, take, ◌⊎◌, Bool, IsTrue, Option, Some, option_and_then}
+use Rattle.std.specs.Prelude.{◌≡◌, ℕ, suc, ◌+◌, ◌≤◌, ◌<◌, true, List, [], ◌∷◌, length, ◌⊎◌, Option, Some, option_and_then}
 use Rattle.ckc_base.specs.Traces.{Event, Got, Put, Standing, output}
 use Rattle.ckc_base.specs.Traces as standings
-use Rattle.ckc_outside.specs.Outside.{Rose, one_more}
+use Rattle.ckc_outside.specs.Outside.{Rose}
+pub use Rattle.ckc_outside.specs.Given.{AreBytes, Gave, MayCome, OverAny, Took, Printed, PrintedFront}
 use Rattle.ckc_rv.specs.declared.instructions.Instr.TheVariants.{Ecall}
 use Rattle.ckc_rv.specs.Decoded.{decoded}
 use Rattle.ckc_rv.specs.Machine.{Parts, State, is_code, loaded, register, machine}
@@ -69,46 +70,6 @@ ArePuts (Got byte ∷ trace) = ⊥
 -- What is left before and after is what the source tells; or nothing is asked for, and it is the same.
 abbrev pub IsFed : Option (List ℕ) → Option (List ℕ) → Type 0 → Option (List ℕ) → Option (List ℕ) → Type 0
 IsFed told told' silent left left' = ((left ≡ told) × (left' ≡ told')) ⊎ (silent × (left' ≡ left))
-
--- a count of the bytes that a source gave, after these, one by one
-unfoldable pub after_answers : ℕ → List ℕ → ℕ
-after_answers n [] = n
-after_answers n (byte ∷ more) = after_answers (one_more n) more
-
--- each number is a byte
-abbrev pub AreBytes : List ℕ → Type 0
-AreBytes [] = Unit {0}
-AreBytes (b ∷ bytes) = (b < 256) × AreBytes bytes
-
--- What a source gave: as many numbers as it counted, each a byte, and none where it had ended. Where it had ended it
--- stays so.
-pub record Gave (ended ended' : Bool) (answers answers' : ℕ) (more : List ℕ) : Type 0 where
-  pub count : answers' ≡ after_answers answers more
-  pub bytes : AreBytes more
-  pub none : IsTrue ended → more ≡ []
-  pub stays : IsTrue ended → IsTrue ended'
-
--- what may come behind the bytes that a source gave: anything, and nothing where it has ended
-abbrev pub MayCome : Bool → List ℕ → Type 0
-MayCome ended rest = IsTrue ended → rest ≡ []
-
--- The source gave some bytes, and whatever may come behind them, something holds of what was left before, which is the
--- bytes and what may come, and of what is left then.
-abbrev pub OverAny : Bool → Bool → ℕ → ℕ → (List ℕ → List ℕ → Type 0) → Type 0
-OverAny ended ended' answers answers' Holds =
-    (more : List ℕ) × Gave ended ended' answers answers' more × ((rest : List ℕ) → MayCome ended' rest → Holds (more ++ rest) rest)
-
--- where what was written is told, these bytes came after it
-abbrev pub Printed : Option (List ℕ) → Option (List ℕ) → List ℕ → Type 0
-Printed old new bytes = (before : List ℕ) → old ≡ Some before → new ≡ Some (before ++ bytes)
-
--- where what was written is told, a front of these bytes came after it, of at least so many
-abbrev pub PrintedFront : Option (List ℕ) → Option (List ℕ) → ℕ → List ℕ → Type 0
-PrintedFront old new least bytes = (before : List ℕ) → old ≡ Some before → (n : ℕ) × (least ≤ n) × (new ≡ Some (before ++ take n bytes))
-
--- where what is left is told, these bytes were taken from it
-abbrev pub Took : Option (List ℕ) → Option (List ℕ) → List ℕ → Type 0
-Took old new bytes = (before : List ℕ) → old ≡ Some before → (after : List ℕ) × (new ≡ Some after) × (before ≡ bytes ++ after)
 
 -- The run went on to limit instructions more: the machine is there, and what was put and taken is what came since.
 pub record Arrives (parts : Parts) (input : List ℕ) (k limit : ℕ) (m : Machine) (left left' written written' : Option (List ℕ)) : Type 0 where

@@ -1,4 +1,5 @@
 pub mod Outside
+pub mod Given
 pub mod Memory
 pub mod MemSource
 pub mod MemSink

@@ -45,7 +45,8 @@ pub trait Source {
     fn next(&mut self) -> Result<Option<u8>, Failed>
         ensures counts { faults self.old ≤ faults self.new }
         ensures failed { OnErr result (Rose (faults self.old) (faults self.new)) }
-        ensures told { (bytes : List ℕ) → left self.old ≡ Some bytes → GivesNext bytes result (left self.new) }
+        ensures told { (bytes : List ℕ) → left self.old ≡ Some bytes
+            → GivesNext bytes result (left self.new) }
         ensures end { result ≡ Ok None → IsTrue (ended self.new) }
         ensures stays { IsTrue (ended self.old) → IsTrue (ended self.new) }
         ensures nothing { IsTrue (ended self.old) → GivesNothing result }
@@ -67,7 +68,8 @@ pub trait Sink {
     fn put(&mut self, piece: &[u8]) -> Result<(), Failed>
         ensures counts { faults self.old ≤ faults self.new }
         ensures failed { OnErr result (Rose (faults self.old) (faults self.new)) }
-        ensures told { (bytes : List ℕ) → written self.old ≡ Some bytes → Puts bytes piece.now result (written self.new) }
+        ensures told { (bytes : List ℕ) → written self.old ≡ Some bytes
+            → Puts bytes piece.now result (written self.new) }
         ensures once { puts self.new ≡ one_more (puts self.old) };
 }
 
@@ -81,12 +83,15 @@ pub trait Store {
     /// The bytes under a name, where they are at most `limit` many. A missing name is a fault.
     fn fetch(&mut self, alloc: Global, name: &str, limit: u64) -> Result<Fetched, StoreError>
         ensures counts { (seen self.old).faults ≤ (seen self.new).faults }
-        ensures failed { IsErrOf result StoreError.Failed → Rose (seen self.old).faults (seen self.new).faults }
+        ensures failed { IsErrOf result StoreError.Failed
+            → Rose (seen self.old).faults (seen self.new).faults }
         ensures within { IsWithin limit result }
         ensures unchanged { (seen self.new).files ≡ (seen self.old).files }
-        ensures told { (here : Files) → (seen self.old).files ≡ Some here → GivesFile (map.get here name.now) limit result }
+        ensures told { (here : Files) → (seen self.old).files ≡ Some here
+            → GivesFile (map.get here name.now) limit result }
         ensures steady { IsTrue (seen self.old).steady → IsTrue (seen self.new).steady }
-        ensures lacks { (here : Files) → IsTrue (seen self.old).steady → (seen self.old).files ≡ Some here
+        ensures lacks { (here : Files) → IsTrue (seen self.old).steady
+            → (seen self.old).files ≡ Some here
             → IsErrOf result StoreError.Failed → map.get here name.now ≡ None }
         ensures unkept { (seen self.new).keeps ≡ (seen self.old).keeps }
         ensures undone { (seen self.new).kept ≡ (seen self.old).kept };
@@ -94,9 +99,12 @@ pub trait Store {
     /// Puts bytes under a name, in place of what was there. After an `Err` that name may hold anything.
     fn keep(&mut self, name: &str, bytes: &[u8]) -> Result<(), StoreError>
         ensures counts { (seen self.old).faults ≤ (seen self.new).faults }
-        ensures failed { IsErrOf result StoreError.Failed → Rose (seen self.old).faults (seen self.new).faults }
-        ensures told { (here : Files) → (seen self.old).files ≡ Some here → Keeps here name.now bytes.now result (seen self.new).files }
-        ensures steady { IsTrue (seen self.old).steady → IsTrue (seen self.new).steady × (result ≢ Err StoreError.Failed) }
+        ensures failed { IsErrOf result StoreError.Failed
+            → Rose (seen self.old).faults (seen self.new).faults }
+        ensures told { (here : Files) → (seen self.old).files ≡ Some here
+            → Keeps here name.now bytes.now result (seen self.new).files }
+        ensures steady { IsTrue (seen self.old).steady → IsTrue (seen self.new).steady
+            × (result ≢ Err StoreError.Failed) }
         ensures once { (seen self.new).keeps ≡ one_more (seen self.old).keeps }
         ensures done { (seen self.new).kept ≡ after_keep result (seen self.old).kept };
 }

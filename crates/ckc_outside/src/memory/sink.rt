@@ -54,16 +54,20 @@ impl<'a> Sink for MemSink<'a> {
     fn put(&mut self, piece: &[u8]) -> Result<(), Failed>
         ensures counts { (plan_of self.old).faults ≤ (plan_of self.new).faults }
         ensures failed { OnErr result (Rose (plan_of self.old).faults (plan_of self.new).faults) }
-        ensures told { (bytes : List ℕ) → Some (written_of self.old) ≡ Some bytes → Puts bytes piece.now result (Some (written_of self.new)) }
+        ensures told { (bytes : List ℕ) → Some (written_of self.old) ≡ Some bytes
+            → Puts bytes piece.now result (Some (written_of self.new)) }
         ensures once { (plan_of self.new).calls ≡ one_more (plan_of self.old).calls }
         // A call fails exactly where it is listed or the piece does not fit, and then the count of faults goes up
         // by one.
-        ensures fails { is_err result ≡ (is_listed (plan_of self.old).listed (plan_of self.old).calls || overflows self.old piece.now) }
+        ensures fails { is_err result ≡ (is_listed (plan_of self.old).listed
+            (plan_of self.old).calls || overflows self.old piece.now) }
         ensures plan { plan_of self.new ≡ after_call (plan_of self.old) (is_err result) }
         ensures room { room_of self.new ≡ room_of self.old }
         // A listed call appends nothing, and a piece that does not fit appends what fits.
-        ensures after { written_of self.new ≡ (if is_listed (plan_of self.old).listed (plan_of self.old).calls
-            then written_of self.old else take (room_of self.old) (written_of self.old ++ piece.now)) }
+        ensures after { written_of self.new ≡ (if is_listed (plan_of self.old).listed
+            (plan_of self.old).calls
+            then written_of self.old else take (room_of self.old)
+            (written_of self.old ++ piece.now)) }
     {
         if self.plan.fails() {
             return Err(Failed);

@@ -43,13 +43,15 @@ impl<'a> Source for MemSource<'a> {
     fn next(&mut self) -> Result<Option<u8>, Failed>
         ensures counts { (plan_of self.old).faults ≤ (plan_of self.new).faults }
         ensures failed { OnErr result (Rose (plan_of self.old).faults (plan_of self.new).faults) }
-        ensures told { (bytes : List ℕ) → Some (left_of self.old) ≡ Some bytes → GivesNext bytes result (Some (left_of self.new)) }
+        ensures told { (bytes : List ℕ) → Some (left_of self.old) ≡ Some bytes
+            → GivesNext bytes result (Some (left_of self.new)) }
         ensures end { result ≡ Ok None → IsTrue (has_ended self.new) }
         ensures stays { IsTrue (has_ended self.old) → IsTrue (has_ended self.new) }
         ensures nothing { IsTrue (has_ended self.old) → GivesNothing result }
         ensures answered { self.new.answers ≡ after_next result self.old.answers }
         // A call fails exactly where it is listed, and then the count of faults goes up by one.
-        ensures fails { is_err result ≡ is_listed (plan_of self.old).listed (plan_of self.old).calls }
+        ensures fails { is_err result ≡ is_listed (plan_of self.old).listed
+            (plan_of self.old).calls }
         ensures plan { plan_of self.new ≡ after_call (plan_of self.old) (is_err result) }
     {
         if self.plan.fails() {

@@ -42,7 +42,8 @@ impl<'a> MemStore<'a> {
 
     /// Puts a file there. This is no counted call.
     pub fn set(&mut self, name: &str, bytes: &[u8]) -> Result<(), AllocError>
-        ensures ok { OnOk result (files_of self.new ≡ map.insert (files_of self.old) name.now bytes.now) }
+        ensures ok { OnOk result (files_of self.new ≡ map.insert
+            (files_of self.old) name.now bytes.now) }
         ensures err { OnErr result (files_of self.new ≡ files_of self.old) }
         ensures plan { plan_of self.new ≡ plan_of self.old }
         ensures keeps { (seen_of self.new).keeps ≡ (seen_of self.old).keeps }
@@ -60,19 +61,23 @@ impl<'a> Store for MemStore<'a> {
 
     fn fetch(&mut self, alloc: Global, name: &str, limit: u64) -> Result<Fetched, StoreError>
         ensures counts { (plan_of self.old).faults ≤ (plan_of self.new).faults }
-        ensures failed { IsErrOf result StoreError.Failed → Rose (plan_of self.old).faults (plan_of self.new).faults }
+        ensures failed { IsErrOf result StoreError.Failed
+            → Rose (plan_of self.old).faults (plan_of self.new).faults }
         ensures within { IsWithin limit result }
         ensures unchanged { Some (files_of self.new) ≡ Some (files_of self.old) }
-        ensures told { (here : Files) → Some (files_of self.old) ≡ Some here → GivesFile (map.get here name.now) limit result }
+        ensures told { (here : Files) → Some (files_of self.old) ≡ Some here
+            → GivesFile (map.get here name.now) limit result }
         ensures steady { IsTrue (is_steady self.old) → IsTrue (is_steady self.new) }
-        ensures lacks { (here : Files) → IsTrue (is_steady self.old) → Some (files_of self.old) ≡ Some here
+        ensures lacks { (here : Files) → IsTrue (is_steady self.old)
+            → Some (files_of self.old) ≡ Some here
             → IsErrOf result StoreError.Failed → map.get here name.now ≡ None }
         ensures unkept { (seen_of self.new).keeps ≡ (seen_of self.old).keeps }
         ensures undone { (seen_of self.new).kept ≡ (seen_of self.old).kept }
         // A call fails exactly where it is listed or the name is missing, and then the count of faults goes up by
         // one.
         ensures fails { has_failed result
-            ≡ (is_listed (plan_of self.old).listed (plan_of self.old).calls || is_none (map.get (files_of self.old) name.now)) }
+            ≡ (is_listed (plan_of self.old).listed (plan_of self.old).calls || is_none (map.get
+            (files_of self.old) name.now)) }
         ensures plan { plan_of self.new ≡ after_call (plan_of self.old) (has_failed result) }
     {
         if self.plan.fails() {
@@ -93,15 +98,18 @@ impl<'a> Store for MemStore<'a> {
 
     fn keep(&mut self, name: &str, bytes: &[u8]) -> Result<(), StoreError>
         ensures counts { (plan_of self.old).faults ≤ (plan_of self.new).faults }
-        ensures failed { IsErrOf result StoreError.Failed → Rose (plan_of self.old).faults (plan_of self.new).faults }
+        ensures failed { IsErrOf result StoreError.Failed
+            → Rose (plan_of self.old).faults (plan_of self.new).faults }
         ensures told { (here : Files) → Some (files_of self.old) ≡ Some here
             → Keeps here name.now bytes.now result (Some (files_of self.new)) }
-        ensures steady { IsTrue (is_steady self.old) → IsTrue (is_steady self.new) × (result ≢ Err StoreError.Failed) }
+        ensures steady { IsTrue (is_steady self.old) → IsTrue (is_steady self.new)
+            × (result ≢ Err StoreError.Failed) }
         ensures once { (seen_of self.new).keeps ≡ one_more (seen_of self.old).keeps }
         ensures done { (seen_of self.new).kept ≡ after_keep result (seen_of self.old).kept }
         // A call fails exactly where it is listed, and then the count of faults goes up by one. Any `Err` changes
         // nothing here.
-        ensures fails { has_failed result ≡ is_listed (plan_of self.old).listed (plan_of self.old).calls }
+        ensures fails { has_failed result ≡ is_listed (plan_of self.old).listed
+            (plan_of self.old).calls }
         ensures plan { plan_of self.new ≡ after_call (plan_of self.old) (has_failed result) }
         ensures err { OnErr result (files_of self.new ≡ files_of self.old) }
     {

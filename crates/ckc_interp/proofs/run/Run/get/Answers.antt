@@ -3,7 +3,8 @@ use Rattle.ckc_outside.specs.Outside.{GivesNext, GivesNothing, after_next}
 use Rattle.ckc_source.specs.Steps.{writes_allowed}
 use Rattle.ckc_interp.specs.Turns.{Wrote}
 use Rattle.ckc_interp.specs.Views.{core_of}
-use Rattle.ckc_interp.proofs.Giving.{no_answer, one_answer, first_of, none_of, left_none}
+use Rattle.ckc_outside.proofs.Giving.{no_answer, one_answer}
+use Rattle.ckc_interp.proofs.Giving.{first_of, none_of, left_none}
 use Rattle.ckc_interp.proofs.run.Run.get.Goals as goal
 
 pub returns-in-Ok-Some-clause-gets : goal.returns-in-Ok-Some-clause-gets
@@ -13,13 +14,14 @@ returns-in-Ok-Some-clause-gets g c =
       byte ∷ [],
       record {
         count = subst (λ (o : Option ℕ). g.S.Source.answers c.next.new.self ≡ after_next (Ok o) (g.S.Source.answers c.args.input.now)) some c.in-Ok-Some.ensures.answered ∙ one_answer _ byte;
+        bytes = (c.word_of.ensures.small, tt);
         none = λ t. absurd (subst (λ (o : Option ℕ). GivesNothing (Ok o)) some (c.in-Ok-Some.ensures.nothing t));
         stays = c.next.ensures.stays;
       },
       λ before e.
           let told = subst (λ (o : Option ℕ). GivesNext before (Ok o) (g.S.Source.left c.next.new.self)) some (c.in-Ok-Some.ensures.told before e) in
           (drop 1 before, told.1, first_of before byte told.0),
-      λ rest may. inl (byte, refl, subst (λ (n : ℕ). Wrote (writes_allowed c.args.to n (core_of c.args.self.now)) (core_of c.wrote.new.self) c.args.marks.at c.args.marks.blame c.wrote.result) c.from.ensures c.wrote.ensures.done),
+      λ rest may. inl (byte, refl, subst (λ (n : ℕ). Wrote (writes_allowed c.args.to n (core_of c.args.self.now)) (core_of c.wrote.new.self) c.args.marks.at c.args.marks.blame c.wrote.result) c.word_of.ensures.same c.wrote.ensures.done),
     )
 
 pub returns-in-Ok-None-clause-gets : goal.returns-in-Ok-None-clause-gets
@@ -29,6 +31,7 @@ returns-in-Ok-None-clause-gets g c =
       [],
       record {
         count = subst (λ (o : Option ℕ). g.S.Source.answers c.next.new.self ≡ after_next (Ok o) (g.S.Source.answers c.args.input.now)) none c.in-Ok-None.ensures.answered ∙ no_answer _;
+        bytes = tt;
         none = λ t. refl;
         stays = c.next.ensures.stays;
       },
@@ -43,7 +46,7 @@ returns-in-Ok-None-clause-gets g c =
 pub returns-in-Err-clause-gets : goal.returns-in-Err-clause-gets
 returns-in-Err-clause-gets g c = (
   [],
-  record { count = c.in-Err.ensures.answered ∙ no_answer _; none = λ t. refl; stays = c.next.ensures.stays },
+  record { count = c.in-Err.ensures.answered ∙ no_answer _; bytes = tt; none = λ t. refl; stays = c.next.ensures.stays },
   λ before e. (before, c.in-Err.ensures.told before e, refl),
   λ rest may. inr (inr (refl, refl)),
 )

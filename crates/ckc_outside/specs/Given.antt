@@ -1,8 +1,10 @@
 -- What a source gave and a sink was given in a run.
-use Rattle.std.specs.Prelude.{◌≡◌, ℕ, ◌≤◌, List, [], ◌∷◌, ◌++◌, take, Bool, IsTrue, Option, Some, None}
+use Rattle.std.specs.Prelude.{◌≡◌, ℕ, ◌≤◌, ◌<◌, List, [], ◌∷◌, ◌++◌, take, Bool, IsTrue, Option, Some, None}
 use Rattle.std.specs.List.{flat_map}
 use Rattle.ckc_base.specs.Traces.{Event, Got, Put}
 use Rattle.ckc_outside.specs.Outside.{one_more}
+
+-- ---- what was taken
 
 -- the byte that an event takes from the input
 abbrev pub got_byte : Event → List ℕ
@@ -14,14 +16,31 @@ got_byte (Put byte) = []
 abbrev pub taken : List Event → List ℕ
 taken trace = flat_map got_byte trace
 
+-- where what is left is told, these bytes were taken from it
+abbrev pub Took : Option (List ℕ) → Option (List ℕ) → List ℕ → Type 0
+Took old new bytes = (before : List ℕ) → old ≡ Some before → (after : List ℕ) × (new ≡ Some after) × (before ≡ bytes ++ after)
+
+-- where what is left is told, something holds of what was left before and of what is left then
+abbrev pub WhereTold : Option (List ℕ) → Option (List ℕ) → (List ℕ → List ℕ → Type 0) → Type 0
+WhereTold told told' Holds = (before : List ℕ) → told ≡ Some before → (after : List ℕ) × (told' ≡ Some after) × Holds before after
+
+-- ---- what a source gave, whether it tells what is left or not
+
 -- a count of the bytes that a source gave, after these, one by one
 unfoldable pub after_answers : ℕ → List ℕ → ℕ
 after_answers n [] = n
 after_answers n (byte ∷ more) = after_answers (one_more n) more
 
--- What a source gave: as many bytes as it counted, and none where it had ended. Where it had ended it stays so.
+-- each number is a byte
+abbrev pub AreBytes : List ℕ → Type 0
+AreBytes [] = Unit {0}
+AreBytes (b ∷ bytes) = (b < 256) × AreBytes bytes
+
+-- What a source gave: as many numbers as it counted, each a byte, and none where it had ended. Where it had ended it
+-- stays so.
 pub record Gave (ended ended' : Bool) (answers answers' : ℕ) (more : List ℕ) : Type 0 where
   pub count : answers' ≡ after_answers answers more
+  pub bytes : AreBytes more
   pub none : IsTrue ended → more ≡ []
   pub stays : IsTrue ended → IsTrue ended'
 
@@ -35,9 +54,7 @@ abbrev pub OverAny : Bool → Bool → ℕ → ℕ → (List ℕ → List ℕ �
 OverAny ended ended' answers answers' Holds =
     (more : List ℕ) × Gave ended ended' answers answers' more × ((rest : List ℕ) → MayCome ended' rest → Holds (more ++ rest) rest)
 
--- where what is left is told, something holds of what was left before and of what is left then
-abbrev pub WhereTold : Option (List ℕ) → Option (List ℕ) → (List ℕ → List ℕ → Type 0) → Type 0
-WhereTold told told' Holds = (before : List ℕ) → told ≡ Some before → (after : List ℕ) × (told' ≡ Some after) × Holds before after
+-- ---- what was put
 
 -- where what was written is told, these bytes came after it
 abbrev pub Printed : Option (List ℕ) → Option (List ℕ) → List ℕ → Type 0
