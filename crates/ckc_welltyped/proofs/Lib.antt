@@ -16,3 +16,4 @@ mod DepthKept
 mod SmallKept
 mod ByParts
 mod Exactly
+mod FormKept

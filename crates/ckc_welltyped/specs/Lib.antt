@@ -5,3 +5,4 @@ pub mod Statements
 pub mod Texts
 pub mod Parts
 pub mod Given
+pub mod Productions

@@ -24,6 +24,7 @@ ghost use Rattle.ckc_welltyped.specs.Parts.{LimitsParts, ExprByParts, StmtByPart
 ghost use Rattle.ckc_welltyped.specs.Declarations.{WellTypedBare, WellTypedLocal, WellTypedStatic};
 ghost use Rattle.ckc_welltyped.specs.Statements.{WellTypedStmt};
 ghost use Rattle.ckc_welltyped.specs.Given.{GivesExactly};
+ghost use Rattle.ckc_welltyped.specs.Productions.{given_tree};
 ghost use Rattle.ckc_welltyped.specs.Texts.{TypedAs, WellTypedItem};
 
 /// A text becomes a typed text exactly where this is well typed, and is the text without its notes.
@@ -95,4 +96,10 @@ pub fn counts_stay()
     ensures depths { (t : NamedText) (p : Typed) → named_typed t ≡ Ok p →
         map depth_of_item p.tree.items ≡ map depth_of_item t.tree.items }
     ensures small { (t : NamedText) (p : Typed) → named_typed t ≡ Ok p → Small t.tree → Small p.tree }
+{}
+
+/// The grammar gives the tree of a typed text just where it gives the tree of the text: calls stand in the same places,
+/// and so do the parts of bundles, of `for` and of structures.
+pub fn form_stays()
+    ensures form { (t : NamedText) (p : Typed) → named_typed t ≡ Ok p → given_tree p.tree ≡ given_tree t.tree }
 {}

@@ -6,6 +6,7 @@
 mod laws;
 
 pub use laws::{
-    counts_stay, declarations_exactly, expressions_by_parts, expressions_exactly, items_exactly,
-    one_typed_text, same_tree, statements_by_parts, statements_exactly, texts_exactly,
+    counts_stay, declarations_exactly, expressions_by_parts, expressions_exactly, form_stays,
+    items_exactly, one_typed_text, same_tree, statements_by_parts, statements_exactly,
+    texts_exactly,
 };
