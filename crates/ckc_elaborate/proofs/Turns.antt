@@ -1,9 +1,9 @@
 -- Loops over lists: what is done, and what the rest will give.
-use Rattle.std.proofs.Common.{◌≡◌, ◌<◌, ◌≤◌, ℕ, zero, suc, ◌+◌, List, [], ◌∷◌, ◌++◌, length, map, drop, get_or, drop-cons, add-one, add_assoc, refl, sym, ap, ◌∙◌, append_assoc, append-nil, arith}
+use Rattle.std.proofs.Common.{◌≡◌, ◌<◌, ◌≤◌, ℕ, zero, suc, ◌+◌, List, [], ◌∷◌, ◌++◌, length, map, drop, get_or, drop-cons, add-one, refl, sym, ap, ◌∙◌, append_assoc, append-nil, arith}
 use Rattle.std.specs.Prelude.{Option, Some, None, Result, Ok, Err, OnOk, slice_get}
 use Rattle.std.specs.List.{flat_map}
 use Rattle.std.proofs.lemmas.List.{drop_all, map-append}
-use Rattle.ckc_elaborate.specs.Lists.{beside, total}
+use Rattle.ckc_elaborate.specs.Lists.{beside, numbered}
 
 -- ---- one list beside another
 
@@ -49,13 +49,35 @@ on_ok (Err e) f a = tt
 pub map_more : {X Y : Type 0} (g : X → Y) (all new : List X) (x : X) (y : Y) → new ≡ all ++ x ∷ [] → g x ≡ y → map g new ≡ map g all ++ y ∷ []
 map_more g all new x y e q = ap (map g) e ∙ map-append g all (x ∷ []) ∙ ap (λ z. map g all ++ z ∷ []) q
 
--- ---- a sum
+-- ---- a list in which each element has a number
 
-module _ {X : Type 0} (f : X → ℕ) (xs : List X) (i n m whole : ℕ) (kept : n + total (map f (drop i xs)) ≡ whole) where
-  pub total_more : (x : X) → i < length xs → x ≡ get_or xs i x → m ≡ n + f x → m + total (map f (drop (i + 1) xs)) ≡ whole
-  total_more x h e q =
-      ap (λ k. k + total (map f (drop (i + 1) xs))) q ∙ add_assoc n (f x) (total (map f (drop (i + 1) xs)))
-      ∙ ap (λ k. n + k) (rw (add-one, drop-cons xs i x) (ap (λ y. f y + total (map f (drop (suc i) xs))) e)) ∙ kept
+module _ {X Y C : Type 0} (h : Y → X) (make : ℕ → X → List C) (counts : X → ℕ) (ys : List Y) (i k : ℕ) where
+  pub numbered_turn : (y : Y) → i < length ys → y ≡ get_or ys i y → numbered make counts k (map h (drop i ys)) ≡ make k (h y) ++ numbered make counts (k + counts (h y)) (map h (drop (i + 1) ys))
+  numbered_turn y l e =
+      rw (add-one, drop-cons ys i y) (ap (λ z. make k (h z) ++ numbered make counts (k + counts (h z)) (map h (drop (suc i) ys))) (sym e))
 
-  pub total_end : length xs ≤ i → n ≡ whole
-  total_end h = omega (arith, kept, ap (λ d. total (map f d)) (drop_all i xs h))
+  module _ (whole done more : List C) (kept : done ++ numbered make counts k (map h (drop i ys)) ≡ whole) where
+    pub numbered_more : (y : Y) (next : ℕ) → i < length ys → y ≡ get_or ys i y → next ≡ k + counts (h y) → more ≡ done ++ make k (h y) → more ++ numbered make counts next (map h (drop (i + 1) ys)) ≡ whole
+    numbered_more y next l e n m =
+        ap (λ d. d ++ numbered make counts next (map h (drop (i + 1) ys))) m
+        ∙ append_assoc done (make k (h y)) (numbered make counts next (map h (drop (i + 1) ys)))
+        ∙ ap (λ j. done ++ (make k (h y) ++ numbered make counts j (map h (drop (i + 1) ys)))) n
+        ∙ ap (λ d. done ++ d) (sym (numbered_turn y l e)) ∙ kept
+
+    pub numbered_end : length ys ≤ i → done ≡ whole
+    numbered_end l = sym (append-nil done) ∙ ap (λ d. done ++ numbered make counts k (map h d)) (sym (drop_all i ys l)) ∙ kept
+
+-- the same, where the elements are as they stand
+module _ {X C : Type 0} (make : ℕ → X → List C) (counts : X → ℕ) where
+  map_same : (xs : List X) → map (λ x. x) xs ≡ xs
+  map_same [] = refl
+  map_same (x ∷ xs) = ap (λ r. x ∷ r) (map_same xs)
+
+  module _ (xs : List X) (i k : ℕ) (whole done more : List C) (kept : done ++ numbered make counts k (drop i xs) ≡ whole) where
+    pub plain_more : (x : X) (next : ℕ) → i < length xs → x ≡ get_or xs i x → next ≡ k + counts x → more ≡ done ++ make k x → more ++ numbered make counts next (drop (i + 1) xs) ≡ whole
+    plain_more x next l e n m =
+        ap (λ r. more ++ numbered make counts next r) (sym (map_same (drop (i + 1) xs)))
+        ∙ numbered_more (λ y. y) make counts xs i k whole done more (ap (λ r. done ++ numbered make counts k r) (map_same (drop i xs)) ∙ kept) x next l e n m
+
+    pub plain_end : length xs ≤ i → done ≡ whole
+    plain_end l = sym (append-nil done) ∙ ap (λ d. done ++ numbered make counts k d) (sym (drop_all i xs l)) ∙ kept

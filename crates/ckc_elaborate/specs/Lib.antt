@@ -1,8 +1,13 @@
 pub mod Lists
 pub mod Names
-pub mod Expressions
+pub mod Variables
+pub mod Literals
+pub mod Steps
+pub mod Made
+pub mod Results
 pub mod Statements
 pub mod Functions
 pub mod Objects
+pub mod Shapes
 pub mod Elaborated
 pub mod Sound

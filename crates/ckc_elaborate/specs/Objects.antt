@@ -1,5 +1,5 @@
 -- Static objects and string literals as objects of a program (ISO C11, 6.2.4).
-use Rattle.std.specs.Prelude.{Bool, true, List, [], ◌∷◌, Option, None, Some, is_none}
+use Rattle.std.specs.Prelude.{ℕ, Bool, true, List, [], ◌∷◌, length, Option, None, Some, is_none}
 use Rattle.std.specs.List.{flat_map}
 use Rattle.ckc_types.specs.declared.types.Structs.{Structs}
 use Rattle.ckc_syntax.specs.declared.tree.Item.TheVariants as item
@@ -35,3 +35,7 @@ run_in _ = []
 -- the declared objects come first, in the order of the text
 abbrev pub objects_elaborated : Typed → List Object
 objects_elaborated p = beside (object_elaborated p.layout) (flat_map run_in p.tree.items) p.statics
+
+-- how many objects are declared
+abbrev pub count_declared : List NotedItem → ℕ
+count_declared items = length (flat_map run_in items)

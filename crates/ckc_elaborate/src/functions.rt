@@ -1,18 +1,20 @@
 //! Functions.
 
-ghost use Rattle.std.specs.Prelude.{◌≡◌, ◌++◌, IfOk, OnOk, map};
-ghost use Rattle.std.specs.List.{flat_map};
+ghost use Rattle.std.specs.Prelude.{◌≡◌, ◌+◌, ◌++◌, IfOk, OnOk, map};
 ghost use Rattle.ckc_source.specs.Code.{function_of};
-ghost use Rattle.ckc_elaborate.specs.Functions.{function_elaborated, functions_in};
+ghost use Rattle.ckc_elaborate.specs.Objects.{count_declared};
+ghost use Rattle.ckc_elaborate.specs.Functions.{function_elaborated, functions_in, functions_elaborated};
 
-use crate::locals::in_stmt;
-use crate::names::number;
+use crate::literals::{in_head, in_item};
+use crate::results::result_limits;
 use crate::statements::stmt;
+use crate::variables::variables_of;
 use ckc_base::Seq;
 use ckc_source::{FunctionTree, Spot};
 use ckc_syntax::{Head, Item, Name, Stmt};
 use ckc_typed::types::type_written;
 use ckc_typed::{Note, Typed};
+use ckc_values::numbers::{number, sum};
 use std::alloc::{AllocError, Global};
 
 fn function(
@@ -20,13 +22,17 @@ fn function(
     typed: &Typed,
     h: &Head<Name, Note>,
     body: &Stmt<Name, Note>,
+    first: u32,
 ) -> Result<FunctionTree, AllocError>
-    ensures { IfOk result (λ f. function_of f ≡ function_elaborated typed.now h.now body.now) }
+    ensures { IfOk result (λ f. function_of f ≡ function_elaborated typed.now first h.now body.now) }
 {
+    let variables = variables_of(alloc, h, body)?;
     let params = number(h.params.len())?;
-    let locals = in_stmt(body, params)?;
+    let locals = number(variables.len())?;
     let gives = type_written(alloc, &h.result)?;
-    let all = stmt(alloc, typed, body, &gives)?;
+    let next = in_head(h, first)?;
+    let all = stmt(alloc, typed, variables.as_slice(), body, &gives, next)?;
+    let result = result_limits(alloc, typed, variables.as_slice(), &gives, &h.bounds)?;
     Ok(FunctionTree {
         end: Spot {
             at: h.pos,
@@ -35,7 +41,7 @@ fn function(
         params,
         locals,
         body: all,
-        result: None,
+        result,
     })
 }
 
@@ -43,13 +49,15 @@ fn add(
     alloc: Global,
     typed: &Typed,
     item: &Item<Name, Note>,
+    first: u32,
     all: &mut Seq<FunctionTree>,
 ) -> Result<(), AllocError>
-    ensures { OnOk result (map function_of all.new ≡ map function_of all.old ++ functions_in typed.now item.now) }
+    ensures { OnOk result (map function_of all.new
+        ≡ map function_of all.old ++ functions_in typed.now first item.now) }
 {
     match item {
         Item::Function(h, body) => {
-            let made = function(alloc, typed, h.get(), body.get())?;
+            let made = function(alloc, typed, h.get(), body.get(), first)?;
             all.push(made)
         }
         Item::Directive(_) | Item::Tag(_, _) | Item::Struct(_, _, _) => Ok(()),
@@ -57,14 +65,29 @@ fn add(
     }
 }
 
+/// How many objects are declared.
+fn declared(items: &[Item<Name, Note>]) -> Result<u32, AllocError>
+    ensures { IfOk result (λ n. n ≡ count_declared items.now) }
+{
+    let mut n = 0;
+    for item in items {
+        if let Item::Static(_) = item {
+            n = sum(n, 1)?;
+        }
+    }
+    Ok(n)
+}
+
 /// The functions with a body, in the order of the text.
 pub fn functions(alloc: Global, typed: &Typed) -> Result<Seq<FunctionTree>, AllocError>
-    ensures { IfOk result (λ fs. map function_of fs ≡ flat_map (functions_in typed.now) typed.now.tree.items) }
+    ensures { IfOk result (λ fs. map function_of fs ≡ functions_elaborated typed.now) }
 {
     let mut all = Seq::new(alloc);
     let items = typed.tree.items.as_slice();
+    let mut next = declared(items)?;
     for item in items {
-        add(alloc, typed, item, &mut all)?;
+        add(alloc, typed, item, next, &mut all)?;
+        next = in_item(item, next)?;
     }
     Ok(all)
 }

@@ -9,6 +9,9 @@ ghost use Rattle.ckc_typing.specs.Phase.{typing};
 ghost use Rattle.ckc_source.specs.LaidOut.{IsLaidOut};
 ghost use Rattle.ckc_elaborate.specs.Names.{number_of};
 ghost use Rattle.ckc_elaborate.specs.Elaborated.{elaborated};
+ghost use Rattle.ckc_typed.specs.Trees.{NotedItem};
+ghost use Rattle.ckc_typed.specs.Statics.{strings_of_item};
+ghost use Rattle.ckc_elaborate.specs.Functions.{literals_of_item};
 ghost use Rattle.ckc_elaborate.specs.Sound.{IsDefined, BeginAsBytes};
 
 /// The types phase keeps which functions are defined, and the number of `main`.
@@ -29,4 +32,9 @@ pub fn functions_are_there()
 pub fn objects_are_laid_out()
     ensures laid_out { (p : Typed) → LieApart p.layout p.statics →
         BeginAsBytes p.layout p.statics → IsLaidOut (elaborated p) }
+{}
+
+/// As many string literals are counted in an item as make blocks.
+pub fn literals_are_counted()
+    ensures counted { (i : NotedItem) → literals_of_item i ≡ length (strings_of_item i) }
 {}

@@ -1,23 +1,23 @@
 //! From the typed tree of a text to its program: the plain functions, statements and expressions of which the meaning
-//! of a text is said. What each part of a text means stands in `specs/`.
-//!
-//! It covers the texts over integers alone: no structures, pointers, arrays, bounds, strings and bundles.
+//! of a text is said. What each part of a text means stands in `specs/`, and what expressions mean in `ckc_values`.
 #![tactic(auto)]
 
 ghost use Rattle.std.specs.Prelude.{◌≡◌, IfOk};
 ghost use Rattle.ckc_source.specs.Code.{program_of};
 ghost use Rattle.ckc_elaborate.specs.Elaborated.{elaborated};
 
-mod expressions;
+mod destinations;
 mod functions;
 pub mod laws;
-mod locals;
+mod literals;
 mod names;
 mod objects;
-mod operators;
+mod results;
+mod shapes;
 mod statements;
+mod steps;
+mod variables;
 
-use ckc_base::Seq;
 use ckc_source::Program;
 use ckc_syntax::Name;
 use ckc_typed::Typed;
@@ -29,10 +29,11 @@ pub fn elaborate(alloc: Global, typed: &Typed) -> Result<Program, AllocError>
 {
     let main = names::number_of(typed.tree.items.as_slice(), Name::Function(typed.main))?;
     let objects = objects::objects(alloc, typed)?;
+    let shapes = shapes::shapes(alloc, &typed.layout)?;
     let functions = functions::functions(alloc, typed)?;
     Ok(Program {
         objects,
-        shapes: Seq::new(alloc),
+        shapes,
         functions,
         main,
     })

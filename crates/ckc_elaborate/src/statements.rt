@@ -1,173 +1,98 @@
 //! Statements.
 
-ghost use Rattle.std.specs.Prelude.{◌≡◌, [], ◌∷◌, ◌++◌, IfOk, map};
-ghost use Rattle.std.specs.List.{flat_map};
+ghost use Rattle.std.specs.Prelude.{◌≡◌, [], ◌∷◌, ◌+◌, ◌++◌, IfOk, OnOk, map};
 ghost use Rattle.std.specs.Option.{option_map};
-ghost use Rattle.ckc_source.specs.Code.{expr_of, stmt_of};
-ghost use Rattle.ckc_elaborate.specs.Names.{number_of, params_of, destination_of, target_at, kept_at};
-ghost use Rattle.ckc_elaborate.specs.Expressions.{arguments};
-ghost use Rattle.ckc_elaborate.specs.Statements.{spot, assignment, called, assigned, started, declared, held, act_elaborated, stmt_elaborated};
+ghost use Rattle.ckc_source.specs.Code.{stmt_of, assign_of};
+ghost use Rattle.ckc_values.specs.Expressions.{literals_of};
+ghost use Rattle.ckc_elaborate.specs.Steps.{destination_of, assigned};
+ghost use Rattle.ckc_elaborate.specs.Statements.{part_of, part_of_act, assign, all_assigns, code_if, stmt_elaborated, stmts_elaborated};
 
-use crate::expressions::{arguments, boxed, condition, first_of, returned};
-use crate::names::{
-    Destination, destination_for, destination_of, kept_at, number_of, params_of, target_at,
-};
-use crate::operators::outside;
-use ckc_base::{Boxed, Mode, Pos, Seq};
-use ckc_source::{Assign, ExprTree, RightTree, Spot, StmtTree};
-use ckc_syntax::{Act, Decl, Expr, Init, Name, Node, Stmt};
-use ckc_typed::types::type_written;
-use ckc_typed::{Note, Typed};
+use crate::destinations::{destination_of, is_terminated_at, target_of};
+use crate::literals::{in_part, in_stmt, in_value};
+use crate::steps::{alone, assigned, condition, declared, returned, right_of};
+use ckc_base::{Boxed, Seq};
+use ckc_source::{Assign, Spot, StmtTree};
+use ckc_syntax::{Act, Expr, Name, Stmt};
+use ckc_typed::{Note, Typed, Variable};
 use ckc_types::CType;
+use ckc_values::expressions::value;
+use ckc_values::literals::in_expr;
 use std::alloc::{AllocError, Global};
-
-/// The assignment of a value.
-fn assignment(
-    alloc: Global,
-    s: Spot,
-    to: Destination,
-    value: Boxed<ExprTree>,
-) -> Result<StmtTree, AllocError>
-    ensures { IfOk result (λ t. stmt_of t ≡ assignment s to (expr_of value)) }
-{
-    let target = target_at(alloc, to)?;
-    let assign = Boxed::new(
-        alloc,
-        Assign {
-            target,
-            right: RightTree::Value(value),
-        },
-    )?;
-    Ok(StmtTree::Assign(s, assign))
-}
-
-fn text_call(
-    alloc: Global,
-    typed: &Typed,
-    s: Spot,
-    to: Destination,
-    k: u32,
-    es: &[Expr<Name, Note>],
-    at: Pos,
-) -> Result<StmtTree, AllocError>
-    ensures { IfOk result (λ t. stmt_of t ≡ called typed.now s to (Name.Function k) es.now at) }
-{
-    let items = typed.tree.items.as_slice();
-    let callee = number_of(items, Name::Function(k))?;
-    let values = arguments(alloc, typed, params_of(items, Name::Function(k)), es)?;
-    let entry = Spot { at, mode: s.mode };
-    Ok(StmtTree::Call(entry, kept_at(to), callee, values))
-}
-
-/// A call, of which the result goes to a destination.
-fn called(
-    alloc: Global,
-    typed: &Typed,
-    s: Spot,
-    to: Destination,
-    n: Name,
-    es: &[Expr<Name, Note>],
-    at: Pos,
-) -> Result<StmtTree, AllocError>
-    ensures { IfOk result (λ t. stmt_of t ≡ called typed.now s to n es.now at) }
-{
-    match n {
-        Name::Function(k) => text_call(alloc, typed, s, to, k, es, at),
-        Name::Getchar => {
-            let target = target_at(alloc, to)?;
-            let target = Boxed::new(alloc, target)?;
-            Ok(StmtTree::Get(s, target))
-        }
-        Name::Putchar => {
-            let value = first_of(alloc, typed, es)?;
-            let target = target_at(alloc, to)?;
-            let target = Boxed::new(alloc, target)?;
-            Ok(StmtTree::Put(s, target, value))
-        }
-        Name::Local(_) | Name::Static(_) | Name::Tag(_) | Name::Member(_) => {
-            let value = Boxed::new(alloc, outside())?;
-            assignment(alloc, s, to, value)
-        }
-    }
-}
-
-/// The value of an expression, or the result of a call, goes to a destination.
-fn assigned(
-    alloc: Global,
-    typed: &Typed,
-    s: Spot,
-    to: Destination,
-    e: &Expr<Name, Note>,
-) -> Result<StmtTree, AllocError>
-    ensures { IfOk result (λ t. stmt_of t ≡ assigned typed.now s to e.now) }
-{
-    match &e.node {
-        Node::Call(n, es) => called(alloc, typed, s, to, *n, es.as_slice(), e.pos),
-        _ => {
-            let value = boxed(alloc, typed, e)?;
-            assignment(alloc, s, to, value)
-        }
-    }
-}
-
-fn started(
-    alloc: Global,
-    typed: &Typed,
-    s: Spot,
-    to: Destination,
-    init: &Init<Name, Note>,
-) -> Result<StmtTree, AllocError>
-    ensures { IfOk result (λ t. stmt_of t ≡ started typed.now s to init.now) }
-{
-    match init {
-        Init::Nothing => {
-            let value = Boxed::new(alloc, ExprTree::Number(0))?;
-            assignment(alloc, s, to, value)
-        }
-        Init::One(e) => assigned(alloc, typed, s, to, e.get()),
-        Init::Many(_) => {
-            let value = Boxed::new(alloc, outside())?;
-            assignment(alloc, s, to, value)
-        }
-    }
-}
-
-fn declared(
-    alloc: Global,
-    typed: &Typed,
-    s: Spot,
-    d: &Decl<Name, Note>,
-) -> Result<StmtTree, AllocError>
-    ensures { IfOk result (λ t. stmt_of t ≡ declared typed.now s d.now) }
-{
-    let written = type_written(alloc, &d.ctype)?;
-    let to = destination_for(typed, &written, d.pos, d.name);
-    started(alloc, typed, s, to, &d.init)
-}
 
 fn assign(
     alloc: Global,
     typed: &Typed,
+    locals: &[Variable],
     s: Spot,
     e: &Expr<Name, Note>,
     f: &Expr<Name, Note>,
+    first: u32,
 ) -> Result<StmtTree, AllocError>
-    ensures { IfOk result (λ t. stmt_of t ≡ assigned typed.now s (destination_of typed.now e.now) f.now) }
+    ensures { IfOk result (λ t. stmt_of t
+        ≡ assigned typed.now locals.now s (destination_of typed.now locals.now first e.now)
+        (first + literals_of e.now) f.now) }
 {
-    assigned(alloc, typed, s, destination_of(typed, e), f)
+    let to = destination_of(alloc, typed, locals, e, first)?;
+    let next = in_expr(e, first)?;
+    assigned(alloc, typed, locals, s, to, f, next)
 }
 
-/// A call that is a statement, at the called name.
-fn alone(
+/// One assignment of a bundle.
+fn bundled(
     alloc: Global,
     typed: &Typed,
-    mode: Mode,
+    locals: &[Variable],
     e: &Expr<Name, Note>,
-) -> Result<StmtTree, AllocError>
-    ensures { IfOk result (λ t. stmt_of t ≡ assigned typed.now (spot e.now.pos mode) Destination.Nowhere e.now) }
+    f: &Expr<Name, Note>,
+    first: u32,
+) -> Result<Assign, AllocError>
+    ensures { IfOk result (λ a. assign_of a ≡ assign typed.now locals.now first e.now f.now) }
 {
-    let s = Spot { at: e.pos, mode };
-    assigned(alloc, typed, s, Destination::Nowhere, e)
+    let target = target_of(alloc, typed, locals, e, first)?;
+    let next = in_expr(e, first)?;
+    let right = right_of(alloc, typed, locals, is_terminated_at(e), f, next)?;
+    Ok(Assign { target, right })
+}
+
+/// Adds what a statement assigns in a bundle.
+fn add_assign(
+    alloc: Global,
+    typed: &Typed,
+    locals: &[Variable],
+    s: &Act<Name, Note>,
+    first: u32,
+    all: &mut Seq<Assign>,
+) -> Result<(), AllocError>
+    ensures { OnOk result (map assign_of all.new
+        ≡ map assign_of all.old ++ (part_of_act s.now).assigns typed.now locals.now first) }
+{
+    match s {
+        Act::Assign(e, f) => {
+            let made = bundled(alloc, typed, locals, e.get(), f.get(), first)?;
+            all.push(made)
+        }
+        _ => Ok(()),
+    }
+}
+
+/// The assignments of a bundle.
+fn assigns(
+    alloc: Global,
+    typed: &Typed,
+    locals: &[Variable],
+    ss: &[Stmt<Name, Note>],
+    first: u32,
+) -> Result<Seq<Assign>, AllocError>
+    ensures { IfOk result (λ all. map assign_of all
+        ≡ all_assigns (map part_of ss.now) typed.now locals.now first) }
+{
+    let mut all = Seq::new(alloc);
+    let mut next = first;
+    for s in ss {
+        add_assign(alloc, typed, locals, &s.body, next, &mut all)?;
+        next = in_stmt(s, next)?;
+    }
+    Ok(all)
 }
 
 /// Statements, and one more behind them.
@@ -191,53 +116,66 @@ fn one(alloc: Global, s: StmtTree) -> Result<Seq<StmtTree>, AllocError>
 fn act(
     alloc: Global,
     typed: &Typed,
+    locals: &[Variable],
     body: &Act<Name, Note>,
     s: Spot,
     gives: &CType,
+    first: u32,
 ) -> Result<Seq<StmtTree>, AllocError>
-    ensures { IfOk result (λ all. map stmt_of all ≡ act_elaborated typed.now gives.now body.now s.at s.mode) }
+    ensures { IfOk result (λ all. map stmt_of all
+        ≡ (part_of_act body.now).code s.at s.mode typed.now locals.now gives.now first) }
 {
     match body {
-        Act::Block(_, ss) => stmts(alloc, typed, ss.as_slice(), gives),
-        Act::Empty | Act::Bundle(_) => Ok(Seq::new(alloc)),
+        Act::Block(_, ss) => stmts(alloc, typed, locals, ss.as_slice(), gives, first),
+        Act::Empty => Ok(Seq::new(alloc)),
+        Act::Bundle(ss) => {
+            let made = assigns(alloc, typed, locals, ss.as_slice(), first)?;
+            one(alloc, StmtTree::Bundle(s, made))
+        }
         Act::Local(d) => {
-            let made = declared(alloc, typed, s, d.get())?;
+            let made = declared(alloc, typed, locals, s, d.get(), first)?;
             one(alloc, made)
         }
         Act::Assign(e, f) => {
-            let made = assign(alloc, typed, s, e.get(), f.get())?;
+            let made = assign(alloc, typed, locals, s, e.get(), f.get(), first)?;
             one(alloc, made)
         }
         Act::Call(e) => {
-            let made = alone(alloc, typed, s.mode, e.get())?;
+            let made = alone(alloc, typed, locals, s.mode, e.get(), first)?;
             one(alloc, made)
         }
         Act::If(e, chosen, other) => {
-            let test = boxed(alloc, typed, e.get())?;
-            let yes = stmt(alloc, typed, chosen.get(), gives)?;
-            let no = part(alloc, typed, other, gives)?;
+            let test = value(alloc, typed, locals, e.get(), first)?;
+            let second = in_expr(e.get(), first)?;
+            let yes = stmt(alloc, typed, locals, chosen.get(), gives, second)?;
+            let third = in_stmt(chosen.get(), second)?;
+            let no = part(alloc, typed, locals, other, gives, third)?;
             one(alloc, StmtTree::If(s, test, yes, no))
         }
         Act::While(e, body) => {
-            let test = boxed(alloc, typed, e.get())?;
-            let turn = stmt(alloc, typed, body.get(), gives)?;
+            let test = value(alloc, typed, locals, e.get(), first)?;
+            let second = in_expr(e.get(), first)?;
+            let turn = stmt(alloc, typed, locals, body.get(), gives, second)?;
             one(alloc, StmtTree::Loop(s, test, turn, Seq::new(alloc)))
         }
-        Act::For(first, e, step, body) => {
-            let first = part(alloc, typed, first, gives)?;
-            let test = condition(alloc, typed, e)?;
-            let turn = stmt(alloc, typed, body.get(), gives)?;
-            let step = part(alloc, typed, step, gives)?;
-            behind(first, StmtTree::Loop(s, test, turn, step))
+        Act::For(start, e, step, body) => {
+            let begin = part(alloc, typed, locals, start, gives, first)?;
+            let second = in_part(start, first)?;
+            let test = condition(alloc, typed, locals, e, second)?;
+            let third = in_value(e, second)?;
+            let after = part(alloc, typed, locals, step, gives, third)?;
+            let fourth = in_part(step, third)?;
+            let turn = stmt(alloc, typed, locals, body.get(), gives, fourth)?;
+            behind(begin, StmtTree::Loop(s, test, turn, after))
         }
         Act::Return(e) => {
-            let value = returned(alloc, typed, gives, e)?;
-            one(alloc, StmtTree::Return(s, value))
+            let made = returned(alloc, typed, locals, gives, e, first)?;
+            one(alloc, StmtTree::Return(s, made))
         }
         Act::Break => one(alloc, StmtTree::Break),
         Act::Continue => one(alloc, StmtTree::Continue),
         Act::Check(e) => {
-            let test = boxed(alloc, typed, e.get())?;
+            let test = value(alloc, typed, locals, e.get(), first)?;
             one(alloc, StmtTree::Check(s, test))
         }
     }
@@ -248,30 +186,38 @@ fn act(
 pub fn stmt(
     alloc: Global,
     typed: &Typed,
+    locals: &[Variable],
     s: &Stmt<Name, Note>,
     gives: &CType,
+    first: u32,
 ) -> Result<Seq<StmtTree>, AllocError>
-    ensures { IfOk result (λ all. map stmt_of all ≡ stmt_elaborated typed.now gives.now s.now) }
+    ensures { IfOk result (λ all. map stmt_of all
+        ≡ stmt_elaborated typed.now locals.now gives.now first s.now) }
 {
     let spot = Spot {
         at: s.pos,
         mode: s.note.mode,
     };
-    act(alloc, typed, &s.body, spot, gives)
+    act(alloc, typed, locals, &s.body, spot, gives, first)
 }
 
 #[cycle(stmt)]
 fn stmts(
     alloc: Global,
     typed: &Typed,
+    locals: &[Variable],
     ss: &[Stmt<Name, Note>],
     gives: &CType,
+    first: u32,
 ) -> Result<Seq<StmtTree>, AllocError>
-    ensures { IfOk result (λ all. map stmt_of all ≡ flat_map (stmt_elaborated typed.now gives.now) ss.now) }
+    ensures { IfOk result (λ all. map stmt_of all
+        ≡ stmts_elaborated typed.now locals.now gives.now first ss.now) }
 {
     let mut all: Vec<StmtTree> = Vec::new(alloc);
+    let mut next = first;
     for s in ss {
-        let made = stmt(alloc, typed, s, gives)?;
+        let made = stmt(alloc, typed, locals, s, gives, next)?;
+        next = in_stmt(s, next)?;
         let mut more = made.into_vec();
         all.append(&mut more)?;
     }
@@ -282,13 +228,16 @@ fn stmts(
 fn part(
     alloc: Global,
     typed: &Typed,
+    locals: &[Variable],
     s: &Option<Boxed<Stmt<Name, Note>>>,
     gives: &CType,
+    first: u32,
 ) -> Result<Seq<StmtTree>, AllocError>
-    ensures { IfOk result (λ all. map stmt_of all ≡ held (option_map (stmt_elaborated typed.now gives.now) s.now)) }
+    ensures { IfOk result (λ all. map stmt_of all
+        ≡ code_if (option_map part_of s.now) typed.now locals.now gives.now first) }
 {
     match s {
         None => Ok(Seq::new(alloc)),
-        Some(s) => stmt(alloc, typed, s.get(), gives),
+        Some(s) => stmt(alloc, typed, locals, s.get(), gives, first),
     }
 }

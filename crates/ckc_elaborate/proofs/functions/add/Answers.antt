@@ -7,9 +7,9 @@ use Rattle.ckc_elaborate.proofs.functions.add.Goals as goal
 pub returns-in_ok-made-in-Function : goal.returns-in_ok-made-in-Function
 returns-in_ok-made-in-Function c =
     on_ok c.push.result
-    (λ e. map_more function_of c.args.all.now c.push.new.self c.in_ok-made-in-Function.made (function_elaborated c.args.typed.now c.in-Function.h c.in-Function.body) e
+    (λ e. map_more function_of c.args.all.now c.push.new.self c.in_ok-made-in-Function.made (function_elaborated c.args.typed.now c.args.first c.in-Function.h c.in-Function.body) e
     (c.in_ok-made-in-Function.ensures
-    ∙ ap (λ h. function_elaborated c.args.typed.now h c.get-in-Function.result.now) c.get.ensures
-    ∙ ap (function_elaborated c.args.typed.now c.in-Function.h) c.get-in-Function.ensures)
-    ∙ ap (λ i. map function_of c.args.all.now ++ functions_in c.args.typed.now i) (sym c.in-Function.is))
+    ∙ ap (λ h. function_elaborated c.args.typed.now c.args.first h c.get-in-Function.result.now) c.get.ensures
+    ∙ ap (function_elaborated c.args.typed.now c.args.first c.in-Function.h) c.get-in-Function.ensures)
+    ∙ ap (λ i. map function_of c.args.all.now ++ functions_in c.args.typed.now c.args.first i) (sym c.in-Function.is))
     c.push.ensures.ok

@@ -1,8 +1,10 @@
 use Rattle.std.proofs.Common.{◌≡◌, ◌++◌, map, drop}
-use Rattle.std.specs.List.{flat_map}
 use Rattle.ckc_source.specs.Code.{function_of}
-use Rattle.ckc_elaborate.specs.Functions.{functions_in}
+use Rattle.ckc_elaborate.specs.Lists.{numbered}
+use Rattle.ckc_elaborate.specs.Functions.{functions_in, functions_elaborated, literals_of_item}
 use Rattle.ckc_elaborate.proofs.functions.functions.Given as goal
 
 abbrev pub invariant-loop-item : goal.invariant-loop-item
-invariant-loop-item l = map function_of l.all ++ flat_map (functions_in l.typed) (drop l.item-index l.items) ≡ flat_map (functions_in l.typed) l.items
+invariant-loop-item l =
+    map function_of l.all ++ numbered (functions_in l.typed) literals_of_item l.next (drop l.item-index l.items)
+    ≡ functions_elaborated l.typed
