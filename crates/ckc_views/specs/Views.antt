@@ -1,10 +1,8 @@
 -- What an expression stands for at a point, and what it makes known as a condition.
-use Rattle.std.specs.Prelude.{ℕ, ◌+◌, ◌^◌, ◌==◌, Bool, true, false, not, ◌&&◌, ◌||◌, min, ◌-◌, if◌then◌else◌, ℤ, pos, neg_ℤ, ◌+ℤ◌, ◌-ℤ◌, int_lt, Option, None, Some, is_some, is_none, List, [], ◌∷◌, ◌++◌, slice_get}
-use Rattle.std.specs.Ordering.{int_eq}
+use Rattle.std.specs.Prelude.{ℕ, ◌+◌, ◌^◌, ◌==◌, Bool, true, false, not, ◌&&◌, ◌||◌, min, ◌-◌, if◌then◌else◌, ℤ, pos, neg_ℤ, int_lt, Option, None, Some, is_some, is_none, List, [], ◌∷◌, ◌++◌, slice_get}
 use Rattle.ckc_types.specs.declared.types.Kind.{Kind}
 use Rattle.ckc_types.specs.declared.types.Kind.TheVariants as kind
 use Rattle.ckc_types.specs.declared.types.CType.{CType}
-use Rattle.ckc_linear.specs.declared.facts.Fact.{Fact}
 use Rattle.ckc_linear.specs.declared.forms.Base.{Base}
 use Rattle.ckc_linear.specs.declared.forms.Base.TheVariants as base
 use Rattle.ckc_linear.specs.declared.forms.Form.{Form}
@@ -25,59 +23,11 @@ use Rattle.ckc_points.specs.declared.frame.Bounds.{Bounds}
 use Rattle.ckc_points.specs.declared.frame.Bounds.TheVariants as bounds
 use Rattle.ckc_points.specs.declared.frame.Local.{Local}
 use Rattle.ckc_points.specs.declared.frame.Frame.{Frame}
-use Rattle.ckc_points.specs.declared.point.Interval.{Interval}
-use Rattle.ckc_points.specs.declared.forms.Step.{Step}
-use Rattle.ckc_points.specs.Shown.{Known, is_within, is_shown}
+use Rattle.ckc_views.specs.declared.forms.Step.{Step}
+use Rattle.ckc_points.specs.Shown.{Known}
 use Rattle.ckc_points.specs.Frames.{local_at, variable}
-use Rattle.ckc_points.specs.Flow.{State, range_of, with_fact}
-
--- The number of an integer form is within 2^40: a thousand numbers of 32 bits sum to less.
-abbrev pub is_small : ℤ → Bool
-is_small n = is_within (2 ^ 40) n
-
-abbrev pub constant_form : ℤ → Form
-constant_form n = record { base = None; var = 0; add = n }
-
--- `f + c`
-abbrev pub moved_form : Option Form → ℤ → Option Form
-moved_form None c = None
-moved_form (Some f) c = if is_small f.add && is_small c then Some (record f { add = f.add +ℤ c }) else None
-
-abbrev pub below : Form → Interval → Fact
-below f r = record { x = f.var; y = 0; c = pos r.high -ℤ f.add }
-
-abbrev pub above : Form → Interval → Fact
-above f r = record { x = 0; y = f.var; c = f.add -ℤ r.low }
-
-abbrev pub within_interval : Known → Form → Option Interval → Option Form
-within_interval facts f None = None
-within_interval facts f (Some r) =
-    if is_small f.add && (is_shown facts (below f r) && is_shown facts (above f r)) then Some f else None
-
--- The form of a value in an integer type, where the facts entail that the exact one lies in the type's range: `n - 1` is
--- a form of `int` where they show -2,147,483,648 <= n - 1, and no form without that.
-abbrev pub in_type : Known → CType → Option Form → Option Form
-in_type facts t None = None
-in_type facts t (Some f) = within_interval facts f (range_of t)
-
--- `p + k`: at most one of the two has a variable.
-abbrev pub sum_of_forms : Option Form → Option Form → Option Form
-sum_of_forms None g = None
-sum_of_forms (Some f) None = None
-sum_of_forms (Some f) (Some g) =
-    if g.var == 0 then moved_form (Some f) g.add
-    else (if f.var == 0 then moved_form (Some (record f { var = g.var })) g.add else None)
-
-abbrev pub negative_form : Form → Option Form
-negative_form g = if (g.var == 0) && is_small g.add then Some (constant_form (neg_ℤ g.add)) else None
-
-abbrev pub negative_of : Option Form → Option Form
-negative_of None = None
-negative_of (Some g) = negative_form g
-
--- `p - k`: k has no variable.
-abbrev pub difference_of_forms : Option Form → Option Form → Option Form
-difference_of_forms f g = sum_of_forms f (negative_of g)
+use Rattle.ckc_points.specs.Flow.{State}
+use Rattle.ckc_points.specs.Forms.{constant_form, moved_form, in_type, sum_of_forms, difference_of_forms, base_form, same_form, with_most, with_less}
 
 -- What is said of an expression. `values` is how many pointers in it stand for themselves, so that the first of them has
 -- a number and the others follow in walk order. The last four are functions of what is known at a point: the form of an
@@ -171,9 +121,6 @@ abbrev pub is_array : Option StaticObject → Bool
 is_array (Some o) = is_some o.array
 is_array None = false
 
-abbrev pub base_form : Base → Form
-base_form b = record { base = Some b; var = 0; add = pos 0 }
-
 abbrev pub named_place : Frame → Name → Option Form
 named_place frame (name.Local k) = Some (base_form (base.Local k))
 named_place frame (name.Static k) = if is_array (slice_get frame.statics k) then Some (base_form (base.Array k)) else None
@@ -258,16 +205,6 @@ place_or None own = own
 abbrev pub pointer_place : CType → NodeView → ℕ → Known → Option Form
 pointer_place t n first facts = if is_pointer t then place_or (n.place t first facts) (own_place n first) else None
 
-abbrev pub same_base : Option Base → Option Base → Bool
-same_base None None = true
-same_base (Some (base.Local j)) (Some (base.Local k)) = j == k
-same_base (Some (base.Array j)) (Some (base.Array k)) = j == k
-same_base (Some (base.Value j)) (Some (base.Value k)) = j == k
-same_base _ _ = false
-
-abbrev pub same_form : Form → Form → Bool
-same_form f g = same_base f.base g.base && ((f.var == g.var) && int_eq f.add g.add)
-
 abbrev pub is_nt : Option Kind → Bool
 is_nt (Some kind.Nt) = true
 is_nt _ = false
@@ -304,20 +241,6 @@ widening frame behind f at = wider (widened_by frame (read_place behind f)) at
 abbrev pub widening_side : Frame → Option Kind → (Known → Option Form) → Bool → State → State
 widening_side frame behind target true at = widening frame behind (target at.facts) at
 widening_side frame behind target false at = at
-
--- x <= y, of forms with one base or none
-abbrev pub at_most : Form → Form → Fact
-at_most x y = record { x = x.var; y = y.var; c = y.add -ℤ x.add }
-
--- x < y
-abbrev pub at_less : Form → Form → Fact
-at_less x y = record { x = x.var; y = y.var; c = (y.add -ℤ x.add) -ℤ pos 1 }
-
-abbrev pub with_most : Form → Form → Known → Known
-with_most x y facts = if is_small x.add && is_small y.add then with_fact (at_most x y) facts else facts
-
-abbrev pub with_less : Form → Form → Known → Known
-with_less x y facts = if is_small x.add && is_small y.add then with_fact (at_less x y) facts else facts
 
 -- What a comparison says on its true side: `i < n` that i - n <= -1, `i == n` that i - n <= 0 and n - i <= 0, `!=`
 -- nothing.

@@ -2,31 +2,19 @@
 
 ghost use Rattle.std.specs.Prelude.{◌≡◌, IfOk, map, slice_get};
 ghost use Rattle.std.specs.Option.{option_map};
-ghost use Rattle.ckc_typed.specs.Operands.{same_element};
 ghost use Rattle.ckc_typed.specs.Types.{kind_of};
 ghost use Rattle.ckc_points.specs.Shown.{known};
-ghost use Rattle.ckc_points.specs.Views.{base_form, named_place, is_array, is_raw, own_place, values_there, values_after, view, view_of_limits, view_of_node};
+ghost use Rattle.ckc_views.specs.Views.{named_place, is_array, is_raw, own_place, values_there, values_after, view, view_of_limits, view_of_node};
 
-use crate::forms::{difference_of_forms, form, sum_of_forms};
-use crate::frame::Frame;
+use crate::forms::form;
 use ckc_base::Boxed;
 use ckc_linear::{Base, Facts, Form};
+use ckc_points::{Frame, base_form, difference_of_forms, same_element, sum_of_forms};
 use ckc_syntax::{Expr, Limits, Name, Node, TreeOp};
 use ckc_typed::Note;
-use ckc_typed::types::{is_pointer, kind_of, same_type};
+use ckc_typed::types::{is_pointer, kind_of};
 use ckc_types::{CType, Kind};
 use std::alloc::{AllocError, Global};
-
-/// The place at a base itself.
-pub fn base_form(base: Base) -> Form
-    ensures { result ≡ base_form base }
-{
-    Form {
-        base: Some(base),
-        var: 0,
-        add: 0,
-    }
-}
 
 fn is_array(frame: &Frame, k: u32) -> bool
     ensures { result ≡ is_array (slice_get frame.now.statics k) }
@@ -141,16 +129,6 @@ pub fn is_raw(t: &CType) -> bool
     match kind_of(t) {
         Some(Kind::Raw) => true,
         Some(Kind::One | Kind::Arr | Kind::Nt) | None => false,
-    }
-}
-
-/// Whether two types are pointers to one type.
-pub fn same_element(t: &CType, u: &CType) -> bool
-    ensures { result ≡ same_element t.now u.now }
-{
-    match (t, u) {
-        (CType::Pointer(_, a), CType::Pointer(_, b)) => same_type(a.get(), b.get()),
-        _ => false,
     }
 }
 
