@@ -5,7 +5,8 @@ ghost use Rattle.ckc_typed.specs.Types.{kind_of};
 ghost use Rattle.ckc_points.specs.Shown.{known};
 ghost use Rattle.ckc_points.specs.Frames.{local_at};
 ghost use Rattle.ckc_points.specs.Flow.{state};
-ghost use Rattle.ckc_views.specs.Views.{is_upper_of, is_upper, widened_by, read_place, widening, widening_side, said, opposite, holding, is_comparison, constant_operand, operand, compares_unsigned, nonzero_side, comparison_side, view, view_of_node};
+ghost use Rattle.ckc_views.specs.Conditions.{is_upper_of, is_upper, widened_by, read_place, widening, widening_side, said, opposite, holding, is_comparison, constant_operand, operand, compares_unsigned, nonzero_side, comparison_side};
+ghost use Rattle.ckc_views.specs.Views.{view, view_of_node};
 
 use crate::forms::number;
 use crate::places::target_of_node;
@@ -79,7 +80,8 @@ fn widen(
     }
 }
 
-fn behind(frame: &Frame, node: &Node<Name, Note>) -> Option<Kind>
+/// The kind of the pointer that a node reads through.
+pub fn behind(frame: &Frame, node: &Node<Name, Note>) -> Option<Kind>
     ensures { result ≡ (view_of_node frame.now node.now).behind }
 {
     match node {

@@ -3,7 +3,8 @@
 ghost use Rattle.std.specs.Prelude.{◌≡◌, IfOk};
 ghost use Rattle.ckc_typed.specs.Constants.{negated};
 ghost use Rattle.ckc_points.specs.Shown.{known};
-ghost use Rattle.ckc_views.specs.Views.{sum_step, difference_step, step_of, view, view_of_node};
+ghost use Rattle.ckc_views.specs.Integers.{sum_step, difference_step, step_of};
+ghost use Rattle.ckc_views.specs.Views.{view, view_of_node};
 
 use ckc_base::{BinOp, apply};
 use ckc_linear::{Facts, Form};
@@ -16,7 +17,7 @@ use ckc_types::CType;
 use std::alloc::{AllocError, Global};
 
 /// Which operand a sum moves, and by which number.
-#[derive(Clone, Copy, Debug, PartialEq, Eq)]
+#[derive(Clone, Copy)]
 pub struct Step {
     pub left: bool,
     pub by: i64,

@@ -4,7 +4,9 @@ ghost use Rattle.std.specs.Prelude.{◌≡◌, IfOk, map, slice_get};
 ghost use Rattle.std.specs.Option.{option_map};
 ghost use Rattle.ckc_typed.specs.Types.{kind_of};
 ghost use Rattle.ckc_points.specs.Shown.{known};
-ghost use Rattle.ckc_views.specs.Views.{named_place, is_array, is_raw, own_place, values_there, values_after, view, view_of_limits, view_of_node};
+ghost use Rattle.ckc_views.specs.Places.{named_place, is_array, own_place, values_there, values_after};
+ghost use Rattle.ckc_views.specs.Parts.{is_raw};
+ghost use Rattle.ckc_views.specs.Views.{view, view_of_limits, view_of_node};
 
 use crate::forms::form;
 use ckc_base::Boxed;
@@ -59,7 +61,7 @@ fn stands_alone(frame: &Frame, node: &Node<Name, Note>) -> bool
 
 #[cycle(values)]
 fn values_of_limits(frame: &Frame, limits: &Limits<Name, Note>) -> u32
-    ensures { result ≡ view_of_limits frame.now limits.now }
+    ensures { result ≡ (view_of_limits frame.now limits.now).values }
 {
     match limits {
         Limits::Count(e, _) => values(frame, e.get()),
@@ -90,8 +92,9 @@ fn values_of_all(frame: &Frame, es: &[Expr<Name, Note>]) -> u32
     n
 }
 
+/// How many pointers in the parts of a node may stand for themselves.
 #[cycle(values)]
-fn values_of_node(frame: &Frame, node: &Node<Name, Note>) -> u32
+pub fn values_of_node(frame: &Frame, node: &Node<Name, Note>) -> u32
     ensures { result ≡ (view_of_node frame.now node.now).values }
 {
     match node {
@@ -122,14 +125,21 @@ pub fn values(frame: &Frame, e: &Expr<Name, Note>) -> u32
     }
 }
 
+/// Whether a kind is that of an unchecked pointer.
+pub fn is_raw_kind(kind: Option<Kind>) -> bool
+    ensures { result ≡ is_raw kind }
+{
+    match kind {
+        Some(Kind::Raw) => true,
+        Some(Kind::One | Kind::Arr | Kind::Nt) | None => false,
+    }
+}
+
 /// Whether a type is an unchecked pointer.
 pub fn is_raw(t: &CType) -> bool
     ensures { result ≡ is_raw (kind_of t.now) }
 {
-    match kind_of(t) {
-        Some(Kind::Raw) => true,
-        Some(Kind::One | Kind::Arr | Kind::Nt) | None => false,
-    }
+    is_raw_kind(kind_of(t))
 }
 
 #[cycle(place)]

@@ -1,5 +1,6 @@
 use Rattle.std.proofs.Common.{◌≡◌, map, drop}
-use Rattle.ckc_views.specs.Views.{values_after, view}
+use Rattle.ckc_views.specs.Places.{values_after}
+use Rattle.ckc_views.specs.Views.{view}
 use Rattle.ckc_views.proofs.places.+values.Given as goal
 
 -- the values so far, and those of the expressions that are left, are all
