@@ -434,7 +434,8 @@ fn takes_bounds(t: &CType, length: Length) -> bool
     }
 }
 
-fn bounds_by_type(base: Base, t: &CType) -> Bounds
+/// The bounds of a pointer where none are written, by its type.
+pub fn bounds_by_type(base: Base, t: &CType) -> Bounds
     ensures { result ≡ bounds_by_type base t.now }
 {
     match kind_of(t) {
