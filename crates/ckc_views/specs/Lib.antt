@@ -5,4 +5,5 @@ pub mod Conditions
 pub mod Fresh
 pub mod Arguments
 pub mod Ranges
+pub mod Judged
 pub mod Views

@@ -16,15 +16,20 @@ use Rattle.ckc_points.specs.Frames.{variable}
 use Rattle.ckc_points.specs.Flow.{State}
 use Rattle.ckc_views.specs.declared.variables.Own.{Own}
 use Rattle.ckc_views.specs.declared.variables.Member.{Member}
+use Rattle.ckc_base.specs.declared.places.Refusal.{Refusal}
+use Rattle.ckc_base.specs.Outcomes.{Outcome}
+use Rattle.ckc_typed.specs.Trees.{NotedLimits, NotedNode, NotedExpr}
 
 -- What is said of the limits of a bounds cast: how many pointers in them stand for themselves, their fresh variables, the
--- type of the amount that they count, its form by the size of an element, and their judgement.
+-- type of the amount that they count, its form by the size of an element, and, by that size and the first fresh variable,
+-- their judgement.
 pub record LimitsView : Type 0 where
   pub values : ℕ
   pub fresh : List CType
   pub fresh_count : ℕ
   pub counted : Option CType
   pub amount : ℕ → Known → Option Form
+  pub judged : ℕ → ℕ → State → Outcome NotedLimits
 
 -- What is said of an expression. `values` is how many pointers in it stand for themselves, so that the first of them has
 -- a number and the others follow in walk order; `fresh` are the types of its fresh variables, in walk order too, of which
@@ -32,7 +37,9 @@ pub record LimitsView : Type 0 where
 -- that it reads through, `allocates` that it is a `calloc`. The last are functions of what is known at a point: the form
 -- of an integer, the place of a pointer and of what `*p` and `p[e]` read, each by the number of the first value in it,
 -- the point on the true or the false side of a condition, the range of a pointer, by the numbers of the first value and
--- the first fresh variable in it, and the range of the address of it, by the address's own numbers too.
+-- the first fresh variable in it, the range of the address of it, by the address's own numbers too, and its judgement, by its first fresh variable: the
+-- expression with the range of each pointer in it noted, or its first fault. `operand` is the same for the operand of
+-- `&`, where `*` and `[` are no access, and `no_address` that it has no address.
 pub record View : Type 0 where
   pub pos : Pos
   pub ctype : CType
@@ -52,6 +59,9 @@ pub record View : Type 0 where
   pub side : Bool → State → State
   pub range : ℕ → ℕ → State → Range
   pub address : Own → ℕ → ℕ → State → Range
+  pub no_address : Bool
+  pub judged : ℕ → State → Outcome NotedExpr
+  pub operand : ℕ → State → Outcome NotedExpr
 
 -- the same of a node, whose type its expression notes
 pub record NodeView : Type 0 where
@@ -73,6 +83,10 @@ pub record NodeView : Type 0 where
   pub side : Bool → State → State
   pub range : CType → Own → ℕ → ℕ → State → Range
   pub address : Own → ℕ → ℕ → State → Range
+  pub no_address : Bool
+  pub judged : CType → ℕ → State → Outcome NotedNode
+  pub fault : Pos → ℕ → State → Option Refusal
+  pub operand_fault : Pos → ℕ → State → Option Refusal
 
 -- a node with what is said of its parts
 abbrev pub NodeOfViews : Type 0

@@ -14,9 +14,10 @@ use Rattle.ckc_points.specs.Forms.{elements}
 use Rattle.ckc_views.specs.Parts.{LimitsView, View, NodeView, NodeOfViews, LimitsOfViews, capped, with_last}
 use Rattle.ckc_views.specs.Integers.{number_of_node, is_zero_node, null_node, variable_of_node, form_of_node, integer_form}
 use Rattle.ckc_views.specs.Places.{values_of_node, stands_alone, with_own, place_of_node, target_of_node, pointer_place}
-use Rattle.ckc_views.specs.Conditions.{behind_node, side_of_node}
+use Rattle.ckc_views.specs.Conditions.{behind_node, operand, side_of_node}
 use Rattle.ckc_views.specs.Fresh.{member_of_node, own_fresh_of_node, fresh_of_node, count_of_node, with_own_fresh}
 use Rattle.ckc_views.specs.Ranges.{range_of_node, range_of_address, pointer_range}
+use Rattle.ckc_views.specs.Judged.{limits_judged, node_judged, has_none_of_node, fault_of_node, operand_fault_of_node, expr_judged, operand_judged}
 
 abbrev pub limits_values : LimitsOfViews → ℕ
 limits_values (Limits-F.Count e at) = e.values
@@ -54,6 +55,7 @@ limits_view l = record {
   fresh_count = limits_count l;
   counted = limits_counted l;
   amount = limits_amount l;
+  judged = limits_judged l;
 }
 
 abbrev pub allocates_node : {A L M E : Type 0} → Node-F Name A L M E → Bool
@@ -80,6 +82,10 @@ node_view frame n = record {
   side = side_of_node frame n;
   range = range_of_node frame n;
   address = range_of_address n;
+  no_address = has_none_of_node frame n;
+  judged = node_judged frame n;
+  fault = fault_of_node frame n;
+  operand_fault = operand_fault_of_node frame n;
 }
 
 -- The integer form of an expression: a constant and a local are themselves, and `e + c`, `c + e`, `e - c` and a
@@ -104,6 +110,9 @@ expr_view e = record {
   side = e.node.side;
   range = pointer_range e.note.ctype e.node;
   address = e.node.address;
+  no_address = e.node.no_address;
+  judged = expr_judged e.node e.pos e.note;
+  operand = operand_judged e.node e.pos e.note;
 }
 
 abbrev pub view_of_node : Frame → Node Name Note → NodeView

@@ -270,7 +270,7 @@ fn comparison_side(
 }
 
 /// Puts the widened locals back to what they were.
-fn narrow(alloc: Global, wide: &[u32], at: &mut Point) -> Result<(), AllocError>
+pub fn narrow(alloc: Global, wide: &[u32], at: &mut Point) -> Result<(), AllocError>
     ensures { OnOk result (state at.new ≡ record (state at.old) { widened = wide.now }) }
 {
     at.widened = Seq::from_slice(alloc, wide)?;
