@@ -1,0 +1,11 @@
+pub mod Frames
+pub mod Sequels
+pub mod Turns
+pub mod Lists
+pub mod Coded
+pub mod CodedTexts
+pub mod CodedViews
+pub mod WholeBodies
+pub mod CodedStores
+pub mod LocalsJoined
+pub mod Blocks

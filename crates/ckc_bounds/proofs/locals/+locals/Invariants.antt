@@ -1,0 +1,8 @@
+use Rattle.std.proofs.Common.{◌≡◌, map, drop}
+use Rattle.ckc_bounds.specs.Declarations.{with_all}
+use Rattle.ckc_bounds.specs.Paths.{all_declared, path}
+use Rattle.ckc_bounds.proofs.locals.+locals.Given as goal
+
+-- what is left gives what the whole gives
+abbrev pub invariant-add_stmts-loop-s : goal.invariant-add_stmts-loop-s
+invariant-add_stmts-loop-s l = with_all l.frame l.bounded l.fn.all (all_declared (map path l.ss)) ≡ with_all l.frame l.bounded l.all (all_declared (map path (drop l.s-index l.ss)))

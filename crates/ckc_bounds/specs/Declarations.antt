@@ -1,0 +1,147 @@
+-- What declarations say of bounds to the expressions of a text.
+use Rattle.std.specs.Prelude.{ℕ, zero, suc, ◌<◌, ◌≤◌, ◌==◌, Bool, true, false, if◌then◌else◌, List, [], ◌∷◌, ◌++◌, map, length, Option, None, Some, Ok, Err}
+use Rattle.std.proofs.Common.{zero-le, suc-le-suc}
+use Rattle.ckc_base.specs.Outcomes.{Outcome, bind}
+use Rattle.ckc_types.specs.declared.types.CType.{CType}
+use Rattle.ckc_syntax.specs.declared.tree.Name.{Name}
+use Rattle.ckc_syntax.specs.declared.tree.Name.TheVariants as name
+use Rattle.ckc_syntax.specs.declared.tree.Length.TheVariants as lengths
+use Rattle.ckc_syntax.specs.declared.tree.Item.TheVariants as item
+use Rattle.ckc_typed.specs.Trees.{NotedDecl, NotedHead, NotedItem, NotedLimits}
+use Rattle.ckc_typed.specs.Types.{type_written}
+use Rattle.ckc_points.specs.declared.frame.Bounds.{Bounds}
+use Rattle.ckc_points.specs.declared.frame.Bounds.TheVariants as bounds
+use Rattle.ckc_points.specs.declared.frame.Local.{Local}
+use Rattle.ckc_points.specs.declared.frame.HeadBounds.{HeadBounds}
+use Rattle.ckc_points.specs.declared.frame.Frame.{Frame}
+use Rattle.ckc_declared.specs.declared.limits.Holder.{Holder}
+use Rattle.ckc_declared.specs.declared.limits.Holder.TheVariants as holder
+use Rattle.ckc_declared.specs.Written.{bounds_declared}
+
+-- What a declared name is to its bounds: a local, or else an object of file scope.
+abbrev pub holder_of : Name → Holder
+holder_of (name.Local k) = holder.Local k
+holder_of _ = holder.Static
+
+-- what the members of the structure that a name means are to their bounds
+abbrev pub member_holder : Name → Holder
+member_holder (name.Tag k) = holder.Member k
+member_holder _ = holder.Static
+
+-- the bounds of a declaration, or E603
+abbrev pub decl_bounds : Frame → Holder → NotedDecl → Outcome Bounds
+decl_bounds frame h d = bounds_declared frame h (type_written d.ctype) d.length d.bounds
+
+-- the bounds of a declaration that is judged where it stands, or E603
+abbrev pub bounds_there : Frame → NotedDecl → Outcome Bounds
+bounds_there frame d = decl_bounds frame (holder_of d.name) d
+
+-- the bounds of the result of a function, or E603
+abbrev pub result_bounds : Frame → NotedHead → Outcome Bounds
+result_bounds frame h = bounds_declared frame holder.Result (type_written h.result) lengths.Plain h.bounds
+
+-- Parts are judged from the first to the last.
+abbrev pub each : {A : Type 0} → List (Outcome A) → Outcome (Unit {0})
+each [] = Ok tt
+each (o ∷ os) = bind o (λ a. each os)
+
+-- E603 of parameters, and of the result
+abbrev pub head_judged : Frame → NotedHead → Outcome Bounds
+head_judged frame h = bind (each (map (bounds_there frame) h.params)) (λ u. result_bounds frame h)
+
+-- Bounds that are refused are unknown to what is judged before them.
+abbrev pub known_or_not : Outcome Bounds → Bounds
+known_or_not (Ok b) = b
+known_or_not (Err r) = bounds.Unknown
+
+-- a variable of whose bounds nothing is known
+abbrev pub bare : CType → Local
+bare t = record { ctype = t; bounds = bounds.Unknown }
+
+-- a local by its type alone, or with its bounds
+abbrev pub local_made : Frame → Bool → ℕ → NotedDecl → Local
+local_made frame false k d = bare (type_written d.ctype)
+local_made frame true k d = record { ctype = type_written d.ctype; bounds = known_or_not (decl_bounds frame (holder.Local k) d) }
+
+-- Locals are numbered in the order of their declarations, each by its place behind those before it.
+abbrev pub with_all : Frame → Bool → List Local → List NotedDecl → List Local
+with_all frame bounded ls [] = ls
+with_all frame bounded ls (d ∷ ds) = with_all frame bounded (ls ++ local_made frame bounded (length ls) d ∷ []) ds
+
+-- the first of some locals, at most so many
+abbrev pub first_of : ℕ → List Local → List Local
+first_of zero ls = []
+first_of (suc n) [] = []
+first_of (suc n) (l ∷ ls) = l ∷ first_of n ls
+
+first_of_short : (n : ℕ) (ls : List Local) → length (first_of n ls) ≤ n
+first_of_short zero ls = zero-le
+first_of_short (suc n) [] = zero-le
+first_of_short (suc n) (l ∷ ls) = suc-le-suc (first_of_short n ls)
+
+-- The variables of a frame are fewer than 1,024, as in each function that keeps the limits of a text. What is beyond is
+-- cut off.
+unfoldable pub few_of : List Local → List Local
+few_of ls = first_of 1023 ls
+
+pub few_of_few : (ls : List Local) → length (few_of ls) < 1024
+unfolding few_of
+few_of_few ls = suc-le-suc (first_of_short 1023 ls)
+
+abbrev pub with_locals : Frame → List Local → Frame
+with_locals frame ls = record frame { locals = few_of ls; few = few_of_few ls }
+
+-- what holds for the whole text, without the locals of a function
+abbrev pub text_of : Frame → Frame
+text_of frame = with_locals frame []
+
+-- the types of what is declared
+abbrev pub types_in : Frame → List NotedDecl → Frame
+types_in frame ds = with_locals frame (with_all frame false [] ds)
+
+-- The bounds of locals name one another, so that the types of all of them are known first.
+abbrev pub declared_in : Frame → List NotedDecl → List Local
+declared_in frame ds = with_all (types_in frame ds) true [] ds
+
+-- A head is judged with its parameters as the locals.
+abbrev pub head_bounds : Frame → NotedHead → HeadBounds
+head_bounds frame h = record {
+  params = declared_in frame h.params;
+  result = type_written h.result;
+  bounds = known_or_not (result_bounds (types_in frame h.params) h);
+}
+
+abbrev pub is_function_at : Name → ℕ → Bool
+is_function_at (name.Function k) n = k == n
+is_function_at _ n = false
+
+-- Functions are numbered in the order in which their first heads stand. The other heads of a function are the same.
+abbrev pub with_head : Frame → List HeadBounds → NotedHead → List HeadBounds
+with_head frame heads h = if is_function_at h.name (length heads) then heads ++ head_bounds frame h ∷ [] else heads
+
+abbrev pub with_item : Frame → List HeadBounds → NotedItem → List HeadBounds
+with_item frame heads (item.Proto h) = with_head frame heads h
+with_item frame heads (item.Function h body) = with_head frame heads h
+with_item frame heads _ = heads
+
+-- the heads of functions by their numbers, behind some that are known
+abbrev pub heads_from : Frame → List HeadBounds → List NotedItem → List HeadBounds
+heads_from frame heads [] = heads
+heads_from frame heads (i ∷ is) = heads_from frame (with_item frame heads i) is
+
+abbrev pub object_bounds_in : Frame → NotedDecl → Option NotedLimits → Option Bounds
+object_bounds_in frame d None = None
+object_bounds_in frame d (Some l) = Some (known_or_not (decl_bounds frame holder.Static d))
+
+-- the bounds that are written at an object of file scope
+abbrev pub object_bounds : Frame → NotedDecl → Option Bounds
+object_bounds frame d = object_bounds_in frame d d.bounds
+
+abbrev pub with_object : Frame → NotedItem → List (Option Bounds) → List (Option Bounds)
+with_object frame (item.Static d) rest = object_bounds frame d ∷ rest
+with_object frame _ rest = rest
+
+-- the objects of file scope in the order of the text, as they are numbered
+abbrev pub objects_of : Frame → List NotedItem → List (Option Bounds)
+objects_of frame [] = []
+objects_of frame (i ∷ is) = with_object frame i (objects_of frame is)

@@ -1,0 +1,155 @@
+//! What declarations say of bounds to the expressions of a text.
+
+ghost use Rattle.std.specs.Prelude.{◌≡◌, map, IfOk, OnOk};
+ghost use Rattle.ckc_base.specs.Outcomes.{Outcome, AnswersOutcome};
+ghost use Rattle.ckc_points.specs.declared.frame.Bounds.{Bounds};
+ghost use Rattle.ckc_bounds.specs.Declarations.{holder_of, member_holder, decl_bounds, bounds_there, result_bounds, each, head_judged, known_or_not, with_locals, text_of};
+
+use ckc_base::{Fault, Seq};
+use ckc_declared::{Holder, bounds_declared};
+use ckc_points::{Bounds, Frame, Local};
+use ckc_syntax::{Decl, Head, Length, Name};
+use ckc_typed::Note;
+use ckc_typed::types::type_written;
+use std::alloc::{AllocError, Global};
+
+/// What a declared name is to its bounds: a local, or else an object of file scope.
+pub fn holder_of(name: Name) -> Holder
+    ensures { result ≡ holder_of name }
+{
+    match name {
+        Name::Local(k) => Holder::Local(k),
+        _ => Holder::Static,
+    }
+}
+
+/// What the members of the structure that a name means are to their bounds.
+pub fn member_holder(name: Name) -> Holder
+    ensures { result ≡ member_holder name }
+{
+    match name {
+        Name::Tag(k) => Holder::Member(k),
+        _ => Holder::Static,
+    }
+}
+
+/// The bounds of a declaration, or E603.
+pub fn decl_bounds(
+    alloc: Global,
+    frame: &Frame,
+    holder: Holder,
+    d: &Decl<Name, Note>,
+) -> Result<Bounds, Fault>
+    ensures { AnswersOutcome result (decl_bounds frame.now holder d.now) }
+{
+    let t = type_written(alloc, &d.ctype)?;
+    bounds_declared(alloc, frame, holder, &t, d.length, &d.bounds)
+}
+
+/// The bounds of a declaration where it stands, or E603.
+pub fn bounds_there(alloc: Global, frame: &Frame, d: &Decl<Name, Note>) -> Result<Bounds, Fault>
+    ensures { AnswersOutcome result (bounds_there frame.now d.now) }
+{
+    decl_bounds(alloc, frame, holder_of(d.name), d)
+}
+
+/// The bounds of the result of a function, or E603.
+pub fn result_bounds(alloc: Global, frame: &Frame, h: &Head<Name, Note>) -> Result<Bounds, Fault>
+    ensures { AnswersOutcome result (result_bounds frame.now h.now) }
+{
+    let t = type_written(alloc, &h.result)?;
+    bounds_declared(
+        alloc,
+        frame,
+        Holder::Result,
+        &t,
+        Length::Plain,
+        &h.bounds,
+    )
+}
+
+/// Bounds that are refused are unknown.
+fn known_or_not(bounds: Result<Bounds, Fault>) -> Result<Bounds, AllocError>
+    ensures { (o : Outcome Bounds) → AnswersOutcome bounds o → IfOk result (λ b. b ≡ known_or_not o) }
+{
+    match bounds {
+        Ok(b) => Ok(b),
+        Err(Fault::Refused(_)) => Ok(Bounds::Unknown),
+        Err(Fault::Memory) => Err(AllocError),
+    }
+}
+
+/// The bounds of a declaration. Those that are refused are unknown.
+pub fn known_bounds(
+    alloc: Global,
+    frame: &Frame,
+    holder: Holder,
+    d: &Decl<Name, Note>,
+) -> Result<Bounds, AllocError>
+    ensures { IfOk result (λ b. b ≡ known_or_not (decl_bounds frame.now holder d.now)) }
+{
+    let bounds = decl_bounds(alloc, frame, holder, d);
+    known_or_not(bounds)
+}
+
+/// The bounds of the result of a function. Those that are refused are unknown.
+pub fn known_result(
+    alloc: Global,
+    frame: &Frame,
+    h: &Head<Name, Note>,
+) -> Result<Bounds, AllocError>
+    ensures { IfOk result (λ b. b ≡ known_or_not (result_bounds frame.now h.now)) }
+{
+    let bounds = result_bounds(alloc, frame, h);
+    known_or_not(bounds)
+}
+
+/// Judges the bounds of the members of a structure.
+pub fn members_fit(
+    alloc: Global,
+    frame: &Frame,
+    holder: Holder,
+    ds: &[Decl<Name, Note>],
+) -> Result<(), Fault>
+    ensures { AnswersOutcome result (each (map (decl_bounds frame.now holder) ds.now)) }
+{
+    for d in ds {
+        decl_bounds(alloc, frame, holder, d)?;
+    }
+    Ok(())
+}
+
+fn params_fit(alloc: Global, frame: &Frame, ds: &[Decl<Name, Note>]) -> Result<(), Fault>
+    ensures { AnswersOutcome result (each (map (bounds_there frame.now) ds.now)) }
+{
+    for d in ds {
+        bounds_there(alloc, frame, d)?;
+    }
+    Ok(())
+}
+
+/// Judges the bounds of parameters, and those of the result.
+pub fn head_fits(alloc: Global, frame: &Frame, h: &Head<Name, Note>) -> Result<Bounds, Fault>
+    ensures { AnswersOutcome result (head_judged frame.now h.now) }
+{
+    params_fit(alloc, frame, h.params.as_slice())?;
+    result_bounds(alloc, frame, h)
+}
+
+/// Takes the locals out of a frame.
+pub fn clear(alloc: Global, frame: &mut Frame)
+    ensures { frame.new ≡ text_of frame.old }
+{
+    frame.locals = Seq::new(alloc);
+}
+
+/// Puts locals into a frame in place of those that are there: fewer than 1,024, as in an accepted text.
+pub fn set_locals(frame: &mut Frame, locals: Seq<Local>) -> Result<(), AllocError>
+    ensures { OnOk result (frame.new ≡ with_locals frame.old locals) }
+{
+    if locals.len() >= 1024 {
+        return Err(AllocError);
+    }
+    frame.locals = locals;
+    Ok(())
+}
