@@ -1,5 +1,5 @@
 -- Declared bounds (Checked C specification 0.9, section 3.1): which forms they may have, and what they stand for.
-use Rattle.std.specs.Prelude.{ℕ, ◌+◌, ◌-◌, ◌^◌, ◌==◌, nat_lt, Bool, true, false, ◌&&◌, if◌then◌else◌, ℤ, pos, int_div, Option, None, Some, is_none, slice_get, Ok}
+use Rattle.std.specs.Prelude.{ℕ, ◌+◌, ◌-◌, ◌^◌, ◌==◌, nat_lt, Bool, true, false, ◌&&◌, if◌then◌else◌, ℤ, pos, Option, None, Some, is_none, slice_get, Ok}
 use Rattle.std.specs.List.{list_any}
 use Rattle.ckc_base.specs.declared.places.Pos.{Pos}
 use Rattle.ckc_base.specs.Outcomes.{Outcome, there_or}
@@ -25,7 +25,7 @@ use Rattle.ckc_typed.specs.Trees.{NotedLimits, NotedNode, NotedExpr}
 use Rattle.ckc_typed.specs.Types.{is_integer, element_of, kind_of, same_type}
 use Rattle.ckc_typed.specs.Environment.{kind_of_array}
 use Rattle.ckc_typed.specs.Constants.{size_of}
-use Rattle.ckc_typed.specs.Amounts.{variable_in, number_in, negative, fixed, sum_amount, amount, is_multiple}
+use Rattle.ckc_typed.specs.Amounts.{variable_in, number_in, negative, fixed, sum_amount, amount}
 use Rattle.ckc_typed.specs.Operands.{same_element}
 use Rattle.ckc_points.specs.declared.frame.Bounds.{Bounds}
 use Rattle.ckc_points.specs.declared.frame.Bounds.TheVariants as bounds
@@ -36,7 +36,7 @@ use Rattle.ckc_declared.specs.declared.limits.Holder.TheVariants as holder
 use Rattle.ckc_declared.specs.declared.limits.Pieces.{Pieces}
 use Rattle.ckc_points.specs.Shown.{is_within}
 use Rattle.ckc_points.specs.Frames.{local_at, variable}
-use Rattle.ckc_points.specs.Views.{constant_form, moved_form, sum_of_forms, base_form}
+use Rattle.ckc_points.specs.Forms.{constant_form, moved_form, sum_of_forms, base_form, elements}
 
 -- E603
 abbrev pub bad_limits : ℕ
@@ -74,15 +74,6 @@ amount_with frame h (Some n) c = moved_form (variable_for frame h n) c
 abbrev pub amount_form : Frame → Holder → Option Amount → Option Form
 amount_form frame h None = None
 amount_form frame h (Some a) = if is_within (2 ^ 24) a.number then amount_with frame h a.variable a.number else None
-
-abbrev pub elements_of : ℕ → Form → Option Form
-elements_of size f =
-    if (f.var == 0) && is_multiple f.add size then Some (constant_form (int_div f.add (pos size))) else None
-
--- how many elements so many bytes are
-abbrev pub elements : ℕ → Option Form → Option Form
-elements size None = None
-elements size (Some f) = if size == 1 then Some f else elements_of size f
 
 -- from the value itself so many elements up
 abbrev pub counted : Base → Option Form → Option Bounds

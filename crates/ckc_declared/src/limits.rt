@@ -7,14 +7,15 @@ ghost use Rattle.ckc_syntax.specs.declared.tree.Node.{out-Node};
 ghost use Rattle.ckc_points.specs.Frames.{local_at};
 ghost use Rattle.ckc_typed.specs.Types.{element_of};
 ghost use Rattle.ckc_typed.specs.Constants.{size_of};
-ghost use Rattle.ckc_typed.specs.Amounts.{variable_in, number_in, negative, fixed, moved, or_amount, sum_amount, is_multiple};
-ghost use Rattle.ckc_declared.specs.Written.{own, is_integer_member, member_variable, variable_for, amount_with, amount_form, elements_of, elements, counted, is_checked, local_base, is_element, array_base, named_base, named_pieces, negative_amount, sum_pieces, node_pieces, bound_with, bound, known_between, takes_ends, bounds_written, takes_bounds, bounds_by_type, place_of_limits, bounds_taken, bounds_declared};
+ghost use Rattle.ckc_typed.specs.Amounts.{variable_in, number_in, negative, fixed, moved, or_amount, sum_amount};
+ghost use Rattle.ckc_points.specs.Forms.{elements};
+ghost use Rattle.ckc_declared.specs.Written.{own, is_integer_member, member_variable, variable_for, amount_with, amount_form, counted, is_checked, local_base, is_element, array_base, named_base, named_pieces, negative_amount, sum_pieces, node_pieces, bound_with, bound, known_between, takes_ends, bounds_written, takes_bounds, bounds_by_type, place_of_limits, bounds_taken, bounds_declared};
 
 use ckc_base::{Boxed, Fault, Pos, refused};
 use ckc_linear::{Base, Form};
 use ckc_points::{
-    Bounds, Frame, base_form, constant_form, is_within, local_at, moved_form, negative_value,
-    same_element, sum_of_forms, variable,
+    Bounds, Frame, base_form, constant_form, elements, is_within, local_at, moved_form,
+    negative_value, same_element, sum_of_forms, variable,
 };
 use ckc_syntax::{Expr, Length, Limits, Name, Node, TreeOp};
 use ckc_typed::amounts::amount;
@@ -109,38 +110,6 @@ fn amount_form(frame: &Frame, holder: Holder, amount: Option<Amount>) -> Option<
                 amount_with(frame, holder, a.variable, a.number)
             } else {
                 None
-            }
-        }
-        None => None,
-    }
-}
-
-fn is_multiple(c: i64, size: u32) -> bool
-    ensures { result ≡ is_multiple c size }
-{
-    size > 0 && c % i64::from(size) == 0
-}
-
-fn elements_of(size: u32, f: Form) -> Option<Form>
-    ensures { result ≡ elements_of size f }
-{
-    if f.var == 0 && is_multiple(f.add, size) {
-        Some(constant_form(f.add / i64::from(size)))
-    } else {
-        None
-    }
-}
-
-/// How many elements of a size so many bytes are.
-fn elements(size: u32, bytes: Option<Form>) -> Option<Form>
-    ensures { result ≡ elements size bytes }
-{
-    match bytes {
-        Some(f) => {
-            if size == 1 {
-                Some(f)
-            } else {
-                elements_of(size, f)
             }
         }
         None => None,
@@ -465,7 +434,8 @@ fn takes_bounds(t: &CType, length: Length) -> bool
     }
 }
 
-fn bounds_by_type(base: Base, t: &CType) -> Bounds
+/// The bounds of a pointer where none are written, by its type.
+pub fn bounds_by_type(base: Base, t: &CType) -> Bounds
     ensures { result ≡ bounds_by_type base t.now }
 {
     match kind_of(t) {

@@ -1,4 +1,4 @@
 pub mod Shown
 pub mod Frames
 pub mod Flow
-pub mod Views
+pub mod Forms

@@ -1,48 +1,26 @@
-//! The integers and the places that expressions stand for.
+//! Forms of integers and of addresses, and the facts that their order is.
 
-ghost use Rattle.std.specs.Prelude.{◌≡◌, ◌&&◌, ◌^◌, IfOk, neg_ℤ};
+ghost use Rattle.std.specs.Prelude.{◌≡◌, ◌&&◌, ◌^◌, IfOk, OnOk, neg_ℤ};
 ghost use Rattle.ckc_linear.specs.Facts.{IsWithin};
-ghost use Rattle.ckc_typed.specs.Constants.{negated, value_of};
+ghost use Rattle.ckc_typed.specs.Constants.{value_of};
+ghost use Rattle.ckc_typed.specs.Amounts.{is_multiple};
+ghost use Rattle.ckc_typed.specs.Operands.{same_element};
 ghost use Rattle.ckc_points.specs.Shown.{known, is_shown};
-ghost use Rattle.ckc_points.specs.Views.{is_small, constant_form, moved_form, in_type, below, above, within_interval, sum_of_forms, negative_of, difference_of_forms, sum_step, difference_step, step_of, view, view_of_node};
+ghost use Rattle.ckc_points.specs.Forms.{is_small, constant_form, moved_form, in_type, below, above, within_interval, sum_of_forms, negative_of, difference_of_forms, base_form, same_base, same_form, at_most, at_less, with_most, with_less, elements_of, elements};
 
-use crate::frame::Frame;
-use crate::locals::variable;
-use crate::point::{Interval, range_of};
+use crate::point::{Interval, add_fact, range_of};
 use crate::shown::{is_shown, is_within};
-use ckc_base::{BinOp, apply};
-use ckc_linear::{Fact, Facts, Form};
-use ckc_syntax::{Expr, Name, Node, TreeOp};
-use ckc_typed::constants::{size_of, value_of};
-use ckc_typed::types::{is_integer, type_written};
-use ckc_typed::{Constant, Note};
+use ckc_linear::{Base, Fact, Facts, Form};
+use ckc_typed::Constant;
+use ckc_typed::types::same_type;
 use ckc_types::CType;
 use std::alloc::{AllocError, Global};
-
-/// Which operand a sum moves, and by which number.
-#[derive(Clone, Copy, Debug, PartialEq, Eq)]
-pub struct Step {
-    pub left: bool,
-    pub by: i64,
-}
 
 /// Whether a number may be that of a form: it is within 2^40.
 pub fn is_small(n: i64) -> bool
     ensures { result ≡ is_small n }
 {
     is_within(1 << 40, n)
-}
-
-fn negated(op: TreeOp, c: Option<Constant>) -> Option<Constant>
-    ensures { result ≡ negated op c }
-{
-    match (op, c) {
-        (TreeOp::Minus, Some(c)) => Some(Constant {
-            word: apply(BinOp::Sub, 0, c.word),
-            unsigned: c.unsigned,
-        }),
-        _ => None,
-    }
 }
 
 /// The number that is the negative of a constant's.
@@ -64,6 +42,27 @@ pub fn constant_form(n: i64) -> Form
         base: None,
         var: 0,
         add: n,
+    }
+}
+
+/// The place at a base itself.
+pub fn base_form(base: Base) -> Form
+    ensures { result ≡ base_form base }
+{
+    Form {
+        base: Some(base),
+        var: 0,
+        add: 0,
+    }
+}
+
+/// Whether two types are pointers to one type.
+pub fn same_element(t: &CType, u: &CType) -> bool
+    ensures { result ≡ same_element t.now u.now }
+{
+    match (t, u) {
+        (CType::Pointer(_, a), CType::Pointer(_, b)) => same_type(a.get(), b.get()),
+        _ => false,
     }
 }
 
@@ -196,160 +195,102 @@ pub fn difference_of_forms(form: Option<Form>, by: Option<Form>) -> Option<Form>
     sum_of_forms(form, negative_of(by))
 }
 
-#[cycle(number)]
-fn number_of_node(
-    alloc: Global,
-    frame: &Frame,
-    node: &Node<Name, Note>,
-) -> Result<Option<Constant>, AllocError>
-    ensures { IfOk result (λ c. c ≡ (view_of_node frame.now node.now).number) }
+/// Whether two bases are the same, or there is none twice.
+pub fn same_base(b: Option<Base>, c: Option<Base>) -> bool
+    ensures { result ≡ same_base b c }
 {
-    match node {
-        Node::Number(n, unsigned) => Ok(Some(Constant {
-            word: *n,
-            unsigned: *unsigned,
-        })),
-        Node::Size(t) => {
-            let written = type_written(alloc, t)?;
-            Ok(Some(Constant {
-                word: size_of(&frame.structs, &written),
-                unsigned: true,
-            }))
-        }
-        Node::Un(op, e) => {
-            let c = number(alloc, frame, e.get())?;
-            Ok(negated(*op, c))
-        }
-        Node::Text(_) | Node::Null | Node::Name(_) | Node::Bin(_, _, _) => Ok(None),
-        Node::Pick(_, _, _) | Node::Index(_, _) | Node::Dot(_, _, _) | Node::Arrow(_, _, _) => Ok(
-            None,
-        ),
-        Node::Cast(_, _) | Node::Trusted(_, _, _) | Node::Tested(_, _, _) => Ok(None),
-        Node::Call(_, _) | Node::Calloc(_, _, _) => Ok(None),
+    match (b, c) {
+        (None, None) => true,
+        (Some(Base::Local(j)), Some(Base::Local(k))) => j == k,
+        (Some(Base::Array(j)), Some(Base::Array(k))) => j == k,
+        (Some(Base::Value(j)), Some(Base::Value(k))) => j == k,
+        _ => false,
     }
 }
 
-/// The constant that an expression is.
-#[cycle(number)]
-pub fn number(
-    alloc: Global,
-    frame: &Frame,
-    e: &Expr<Name, Note>,
-) -> Result<Option<Constant>, AllocError>
-    ensures { IfOk result (λ c. c ≡ (view frame.now e.now).number) }
+/// Whether two forms are the same.
+pub fn same_form(f: &Form, g: &Form) -> bool
+    ensures { result ≡ same_form f.now g.now }
 {
-    number_of_node(alloc, frame, &e.node)
+    same_base(f.base, g.base) && f.var == g.var && f.add == g.add
 }
 
-fn sum_step(c: Option<Constant>, d: Option<Constant>) -> Option<Step>
-    ensures { result ≡ sum_step c d }
+/// That `x <= y`, of forms with one base or none.
+pub fn at_most(x: Form, y: Form) -> Fact
+    requires left { IsWithin (2 ^ 40) x.add }
+    requires right { IsWithin (2 ^ 40) y.add }
+    ensures value { result ≡ at_most x y }
+    ensures small { IsWithin (2 ^ 41) result.c }
 {
-    match (c, d) {
-        (_, Some(d)) => Some(Step {
-            left: true,
-            by: value_of(d),
-        }),
-        (Some(c), None) => Some(Step {
-            left: false,
-            by: value_of(c),
-        }),
-        (None, None) => None,
+    Fact {
+        x: x.var,
+        y: y.var,
+        c: y.add - x.add,
     }
 }
 
-fn difference_step(d: Option<Constant>) -> Option<Step>
-    ensures { result ≡ difference_step d }
+fn at_less(x: Form, y: Form) -> Fact
+    requires left { IsWithin (2 ^ 40) x.add }
+    requires right { IsWithin (2 ^ 40) y.add }
+    ensures { result ≡ at_less x y }
 {
-    match d {
-        Some(d) => Some(Step {
-            left: true,
-            by: negative_value(d),
-        }),
-        None => None,
+    let f = at_most(x, y);
+    Fact {
+        x: f.x,
+        y: f.y,
+        c: f.c - 1,
     }
 }
 
-fn step_of(
-    alloc: Global,
-    frame: &Frame,
-    op: TreeOp,
-    e: &Expr<Name, Note>,
-    f: &Expr<Name, Note>,
-) -> Result<Option<Step>, AllocError>
-    ensures { IfOk result (λ s. s ≡ step_of op (view frame.now e.now).number (view frame.now f.now).number) }
+/// Adds that `x <= y`, of forms with one base or none.
+pub fn add_most(x: Form, y: Form, facts: &mut Facts) -> Result<(), AllocError>
+    ensures { OnOk result (known facts.new ≡ with_most x y (known facts.old)) }
 {
-    match op {
-        TreeOp::Add => {
-            let c = number(alloc, frame, e)?;
-            let d = number(alloc, frame, f)?;
-            Ok(sum_step(c, d))
-        }
-        TreeOp::Sub => {
-            let d = number(alloc, frame, f)?;
-            Ok(difference_step(d))
-        }
-        _ => Ok(None),
+    if is_small(x.add) && is_small(y.add) {
+        return add_fact(facts, at_most(x, y));
+    }
+    Ok(())
+}
+
+/// Adds that `x < y`, of forms with one base or none.
+pub fn add_less(x: Form, y: Form, facts: &mut Facts) -> Result<(), AllocError>
+    ensures { OnOk result (known facts.new ≡ with_less x y (known facts.old)) }
+{
+    if is_small(x.add) && is_small(y.add) {
+        return add_fact(facts, at_less(x, y));
+    }
+    Ok(())
+}
+
+/// Whether a number is a multiple of a size.
+pub fn is_multiple(c: i64, size: u32) -> bool
+    ensures { result ≡ is_multiple c size }
+{
+    size > 0 && c % i64::from(size) == 0
+}
+
+fn elements_of(size: u32, f: Form) -> Option<Form>
+    ensures { result ≡ elements_of size f }
+{
+    if f.var == 0 && is_multiple(f.add, size) {
+        Some(constant_form(f.add / i64::from(size)))
+    } else {
+        None
     }
 }
 
-#[cycle(form)]
-fn linear(
-    alloc: Global,
-    frame: &Frame,
-    facts: &Facts,
-    node: &Node<Name, Note>,
-    t: &CType,
-) -> Result<Option<Form>, AllocError>
-    ensures { IfOk result (λ f. f ≡ (view_of_node frame.now node.now).linear t.now (known facts.now)) }
+/// How many elements of a size so many bytes are.
+pub fn elements(size: u32, bytes: Option<Form>) -> Option<Form>
+    ensures { result ≡ elements size bytes }
 {
-    match node {
-        Node::Name(n) => Ok(variable(frame, *n)),
-        Node::Bin(op, e, f) => {
-            let step = step_of(alloc, frame, *op, e.get(), f.get())?;
-            match step {
-                Some(Step { left: true, by }) => {
-                    let x = form(alloc, frame, facts, e.get())?;
-                    in_type(alloc, facts, t, moved_form(x, by))
-                }
-                Some(Step { left: false, by }) => {
-                    let x = form(alloc, frame, facts, f.get())?;
-                    in_type(alloc, facts, t, moved_form(x, by))
-                }
-                None => Ok(None),
+    match bytes {
+        Some(f) => {
+            if size == 1 {
+                Some(f)
+            } else {
+                elements_of(size, f)
             }
         }
-        Node::Cast(_, e) => {
-            let x = form(alloc, frame, facts, e.get())?;
-            in_type(alloc, facts, t, x)
-        }
-        Node::Number(_, _) | Node::Text(_) | Node::Null | Node::Size(_) | Node::Un(_, _) => Ok(
-            None,
-        ),
-        Node::Pick(_, _, _) | Node::Index(_, _) | Node::Dot(_, _, _) | Node::Arrow(_, _, _) => Ok(
-            None,
-        ),
-        Node::Trusted(_, _, _) | Node::Tested(_, _, _) => Ok(None),
-        Node::Call(_, _) | Node::Calloc(_, _, _) => Ok(None),
-    }
-}
-
-/// The integer form of an expression under facts: a constant and a local are themselves, and `e + c`, `c + e`, `e - c`
-/// and a conversion have the form of their parts where the exact result is shown to lie in the type.
-#[cycle(form)]
-pub fn form(
-    alloc: Global,
-    frame: &Frame,
-    facts: &Facts,
-    e: &Expr<Name, Note>,
-) -> Result<Option<Form>, AllocError>
-    ensures { IfOk result (λ f. f ≡ (view frame.now e.now).form (known facts.now)) }
-{
-    if !is_integer(&e.note.ctype) {
-        return Ok(None);
-    }
-    let c = number(alloc, frame, e)?;
-    match c {
-        Some(c) => Ok(Some(constant_form(value_of(c)))),
-        None => linear(alloc, frame, facts, &e.node, &e.note.ctype),
+        None => None,
     }
 }

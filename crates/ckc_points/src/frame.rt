@@ -22,11 +22,33 @@ pub struct Local {
     pub bounds: Bounds,
 }
 
-/// The structures and the static objects of a text, by their numbers, and the locals of one function by theirs, of which
-/// there are fewer than 1,024. In facts and forms local k is variable k + 1.
+/// What a function's head says of bounds: its parameters, which are its first locals, the type of its result, and the
+/// declared bounds of the result, in which `Base::Value(0)` is the result itself.
+pub struct HeadBounds {
+    pub params: Seq<Local>,
+    pub result: CType,
+    pub bounds: Bounds,
+}
+
+impl Drop for HeadBounds {
+    fn drop(self) {
+        let HeadBounds {
+            params: _params,
+            result: _result,
+            bounds: _bounds,
+        } = self;
+    }
+}
+
+/// What expressions are judged by: the structures and the static objects of a text by their numbers, of each object of
+/// file scope the bounds that are written, in which `Base::Value(0)` is its value, the heads of the functions by their
+/// numbers, and the variables of one function by theirs: its parameters and locals, then its fresh variables, fewer than
+/// 1,024 in all. In facts and forms local k is variable k + 1.
 pub struct Frame {
     pub structs: Structs,
     pub statics: Seq<StaticObject>,
+    pub objects: Seq<Option<Bounds>>,
+    pub heads: Seq<HeadBounds>,
     pub locals: Seq<Local>,
     ghost few: { length locals < 1024 },
 }
@@ -36,6 +58,8 @@ impl Drop for Frame {
         let Frame {
             structs: _structs,
             statics: _statics,
+            objects: _objects,
+            heads: _heads,
             locals: _locals,
         } = self;
     }

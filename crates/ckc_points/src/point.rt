@@ -34,6 +34,30 @@ impl Drop for Point {
     }
 }
 
+/// A copy of facts.
+pub fn copied_facts(alloc: Global, facts: &Facts) -> Result<Facts, AllocError>
+    ensures { IfOk result (λ f. known f ≡ known facts.now) }
+{
+    let list = Seq::from_slice(alloc, facts.list.as_slice())?;
+    Ok(Facts {
+        vars: facts.vars,
+        list,
+    })
+}
+
+/// A copy of a point.
+pub fn copied(alloc: Global, at: &Point) -> Result<Point, AllocError>
+    ensures { IfOk result (λ p. state p ≡ state at.now) }
+{
+    let facts = copied_facts(alloc, &at.facts)?;
+    let widened = Seq::from_slice(alloc, at.widened.as_slice())?;
+    Ok(Point {
+        reached: at.reached,
+        facts,
+        widened,
+    })
+}
+
 /// The least and the greatest number of an integer type.
 #[derive(Clone, Copy, Debug, PartialEq, Eq)]
 pub struct Interval {

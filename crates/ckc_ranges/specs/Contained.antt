@@ -8,7 +8,7 @@ use Rattle.ckc_points.specs.declared.frame.Bounds.{Bounds}
 use Rattle.ckc_points.specs.declared.frame.Bounds.TheVariants as bounds
 use Rattle.ckc_points.specs.Shown.{Known, is_shown}
 use Rattle.ckc_points.specs.Flow.{with_fact}
-use Rattle.ckc_points.specs.Views.{is_small, same_base, at_most, with_most, with_less}
+use Rattle.ckc_points.specs.Forms.{is_small, same_base, at_most, with_most, with_less}
 use Rattle.ckc_ranges.specs.declared.containment.Ends.{Ends}
 
 -- `f <= g`, of forms with one base

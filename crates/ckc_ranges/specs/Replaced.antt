@@ -4,7 +4,7 @@ use Rattle.ckc_linear.specs.declared.forms.Base.{Base}
 use Rattle.ckc_linear.specs.declared.forms.Form.{Form}
 use Rattle.ckc_points.specs.declared.frame.Bounds.{Bounds}
 use Rattle.ckc_points.specs.declared.frame.Bounds.TheVariants as bounds
-use Rattle.ckc_points.specs.Views.{same_base, sum_of_forms, moved_form, base_form}
+use Rattle.ckc_points.specs.Forms.{same_base, sum_of_forms, moved_form, base_form}
 use Rattle.ckc_ranges.specs.declared.replacements.BaseBy.{BaseBy}
 use Rattle.ckc_ranges.specs.declared.replacements.VariableBy.{VariableBy}
 use Rattle.ckc_ranges.specs.declared.containment.Ends.{Ends}

@@ -12,7 +12,7 @@ use Rattle.ckc_points.specs.declared.frame.Bounds.TheVariants as bounds
 use Rattle.ckc_points.specs.declared.frame.Local.{Local}
 use Rattle.ckc_points.specs.declared.frame.Frame.{Frame}
 use Rattle.ckc_points.specs.Frames.{local_at}
-use Rattle.ckc_points.specs.Views.{base_form, constant_form, moved_form}
+use Rattle.ckc_points.specs.Forms.{base_form, constant_form, moved_form}
 use Rattle.ckc_ranges.specs.declared.containment.Ends.{Ends}
 
 -- from a base so many elements up: of a string of n bytes (self, self + n), of `count(k)` in a cast (self, self + k)

@@ -2,31 +2,21 @@
 
 ghost use Rattle.std.specs.Prelude.{◌≡◌, IfOk, map, slice_get};
 ghost use Rattle.std.specs.Option.{option_map};
-ghost use Rattle.ckc_typed.specs.Operands.{same_element};
 ghost use Rattle.ckc_typed.specs.Types.{kind_of};
 ghost use Rattle.ckc_points.specs.Shown.{known};
-ghost use Rattle.ckc_points.specs.Views.{base_form, named_place, is_array, is_raw, own_place, values_there, values_after, view, view_of_limits, view_of_node};
+ghost use Rattle.ckc_views.specs.Places.{named_place, is_array, own_place, values_there, values_after};
+ghost use Rattle.ckc_views.specs.Parts.{is_raw};
+ghost use Rattle.ckc_views.specs.Views.{view, view_of_limits, view_of_node};
 
-use crate::forms::{difference_of_forms, form, sum_of_forms};
-use crate::frame::Frame;
+use crate::forms::form;
 use ckc_base::Boxed;
 use ckc_linear::{Base, Facts, Form};
+use ckc_points::{Frame, base_form, difference_of_forms, same_element, sum_of_forms};
 use ckc_syntax::{Expr, Limits, Name, Node, TreeOp};
 use ckc_typed::Note;
-use ckc_typed::types::{is_pointer, kind_of, same_type};
+use ckc_typed::types::{is_pointer, kind_of};
 use ckc_types::{CType, Kind};
 use std::alloc::{AllocError, Global};
-
-/// The place at a base itself.
-pub fn base_form(base: Base) -> Form
-    ensures { result ≡ base_form base }
-{
-    Form {
-        base: Some(base),
-        var: 0,
-        add: 0,
-    }
-}
 
 fn is_array(frame: &Frame, k: u32) -> bool
     ensures { result ≡ is_array (slice_get frame.now.statics k) }
@@ -71,7 +61,7 @@ fn stands_alone(frame: &Frame, node: &Node<Name, Note>) -> bool
 
 #[cycle(values)]
 fn values_of_limits(frame: &Frame, limits: &Limits<Name, Note>) -> u32
-    ensures { result ≡ view_of_limits frame.now limits.now }
+    ensures { result ≡ (view_of_limits frame.now limits.now).values }
 {
     match limits {
         Limits::Count(e, _) => values(frame, e.get()),
@@ -102,8 +92,9 @@ fn values_of_all(frame: &Frame, es: &[Expr<Name, Note>]) -> u32
     n
 }
 
+/// How many pointers in the parts of a node may stand for themselves.
 #[cycle(values)]
-fn values_of_node(frame: &Frame, node: &Node<Name, Note>) -> u32
+pub fn values_of_node(frame: &Frame, node: &Node<Name, Note>) -> u32
     ensures { result ≡ (view_of_node frame.now node.now).values }
 {
     match node {
@@ -134,24 +125,21 @@ pub fn values(frame: &Frame, e: &Expr<Name, Note>) -> u32
     }
 }
 
-/// Whether a type is an unchecked pointer.
-pub fn is_raw(t: &CType) -> bool
-    ensures { result ≡ is_raw (kind_of t.now) }
+/// Whether a kind is that of an unchecked pointer.
+pub fn is_raw_kind(kind: Option<Kind>) -> bool
+    ensures { result ≡ is_raw kind }
 {
-    match kind_of(t) {
+    match kind {
         Some(Kind::Raw) => true,
         Some(Kind::One | Kind::Arr | Kind::Nt) | None => false,
     }
 }
 
-/// Whether two types are pointers to one type.
-pub fn same_element(t: &CType, u: &CType) -> bool
-    ensures { result ≡ same_element t.now u.now }
+/// Whether a type is an unchecked pointer.
+pub fn is_raw(t: &CType) -> bool
+    ensures { result ≡ is_raw (kind_of t.now) }
 {
-    match (t, u) {
-        (CType::Pointer(_, a), CType::Pointer(_, b)) => same_type(a.get(), b.get()),
-        _ => false,
-    }
+    is_raw_kind(kind_of(t))
 }
 
 #[cycle(place)]

@@ -1,6 +1,7 @@
 use Rattle.std.proofs.Common.{◌≡◌, map, drop}
-use Rattle.ckc_points.specs.Views.{values_after, view}
-use Rattle.ckc_points.proofs.places.+values.Given as goal
+use Rattle.ckc_views.specs.Places.{values_after}
+use Rattle.ckc_views.specs.Views.{view}
+use Rattle.ckc_views.proofs.places.+values.Given as goal
 
 -- the values so far, and those of the expressions that are left, are all
 abbrev pub invariant-values_of_all-loop-e : goal.invariant-values_of_all-loop-e

@@ -1,46 +1,26 @@
 //! What conditions make known on their two sides.
 
-ghost use Rattle.std.specs.Prelude.{◌≡◌, ◌^◌, IfOk, OnOk};
-ghost use Rattle.ckc_linear.specs.Facts.{IsWithin};
+ghost use Rattle.std.specs.Prelude.{◌≡◌, IfOk, OnOk};
 ghost use Rattle.ckc_typed.specs.Types.{kind_of};
 ghost use Rattle.ckc_points.specs.Shown.{known};
 ghost use Rattle.ckc_points.specs.Frames.{local_at};
 ghost use Rattle.ckc_points.specs.Flow.{state};
-ghost use Rattle.ckc_points.specs.Views.{same_base, same_form, is_upper_of, is_upper, widened_by, read_place, widening, widening_side, at_most, at_less, with_most, with_less, said, opposite, holding, is_comparison, constant_operand, operand, compares_unsigned, nonzero_side, comparison_side, view, view_of_node};
+ghost use Rattle.ckc_views.specs.Conditions.{is_upper_of, is_upper, widened_by, read_place, widening, widening_side, said, opposite, holding, is_comparison, constant_operand, operand, compares_unsigned, nonzero_side, comparison_side};
+ghost use Rattle.ckc_views.specs.Views.{view, view_of_node};
 
-use crate::forms::{constant_form, is_small, number};
-use crate::frame::{Bounds, Frame, Local};
-use crate::locals::{local_at, variable};
+use crate::forms::number;
 use crate::places::target_of_node;
-use crate::point::{Point, add_fact};
 use ckc_base::Seq;
-use ckc_linear::{Base, Fact, Facts, Form};
+use ckc_linear::{Base, Facts, Form};
+use ckc_points::{
+    Bounds, Frame, Local, Point, add_less, add_most, constant_form, local_at, same_form, variable,
+};
 use ckc_syntax::{Expr, Name, Node, TreeOp};
 use ckc_typed::Note;
 use ckc_typed::constants::value_of;
 use ckc_typed::types::{is_unsigned, kind_of};
 use ckc_types::Kind;
 use std::alloc::{AllocError, Global};
-
-/// Whether two bases are the same, or there is none twice.
-pub fn same_base(b: Option<Base>, c: Option<Base>) -> bool
-    ensures { result ≡ same_base b c }
-{
-    match (b, c) {
-        (None, None) => true,
-        (Some(Base::Local(j)), Some(Base::Local(k))) => j == k,
-        (Some(Base::Array(j)), Some(Base::Array(k))) => j == k,
-        (Some(Base::Value(j)), Some(Base::Value(k))) => j == k,
-        _ => false,
-    }
-}
-
-/// Whether two forms are the same.
-pub fn same_form(f: &Form, g: &Form) -> bool
-    ensures { result ≡ same_form f.now g.now }
-{
-    same_base(f.base, g.base) && f.var == g.var && f.add == g.add
-}
 
 fn is_upper_of(bounds: &Bounds, f: &Form) -> bool
     ensures { result ≡ is_upper_of bounds.now f.now }
@@ -100,7 +80,8 @@ fn widen(
     }
 }
 
-fn behind(frame: &Frame, node: &Node<Name, Note>) -> Option<Kind>
+/// The kind of the pointer that a node reads through.
+pub fn behind(frame: &Frame, node: &Node<Name, Note>) -> Option<Kind>
     ensures { result ≡ (view_of_node frame.now node.now).behind }
 {
     match node {
@@ -130,53 +111,6 @@ fn read_side(
     } else {
         Ok(())
     }
-}
-
-/// That `x <= y`, of forms with one base or none.
-pub fn at_most(x: Form, y: Form) -> Fact
-    requires left { IsWithin (2 ^ 40) x.add }
-    requires right { IsWithin (2 ^ 40) y.add }
-    ensures value { result ≡ at_most x y }
-    ensures small { IsWithin (2 ^ 41) result.c }
-{
-    Fact {
-        x: x.var,
-        y: y.var,
-        c: y.add - x.add,
-    }
-}
-
-fn at_less(x: Form, y: Form) -> Fact
-    requires left { IsWithin (2 ^ 40) x.add }
-    requires right { IsWithin (2 ^ 40) y.add }
-    ensures { result ≡ at_less x y }
-{
-    let f = at_most(x, y);
-    Fact {
-        x: f.x,
-        y: f.y,
-        c: f.c - 1,
-    }
-}
-
-/// Adds that `x <= y`, of forms with one base or none.
-pub fn add_most(x: Form, y: Form, facts: &mut Facts) -> Result<(), AllocError>
-    ensures { OnOk result (known facts.new ≡ with_most x y (known facts.old)) }
-{
-    if is_small(x.add) && is_small(y.add) {
-        return add_fact(facts, at_most(x, y));
-    }
-    Ok(())
-}
-
-/// Adds that `x < y`, of forms with one base or none.
-pub fn add_less(x: Form, y: Form, facts: &mut Facts) -> Result<(), AllocError>
-    ensures { OnOk result (known facts.new ≡ with_less x y (known facts.old)) }
-{
-    if is_small(x.add) && is_small(y.add) {
-        return add_fact(facts, at_less(x, y));
-    }
-    Ok(())
 }
 
 /// Adds what a comparison says that holds.
@@ -336,7 +270,7 @@ fn comparison_side(
 }
 
 /// Puts the widened locals back to what they were.
-fn narrow(alloc: Global, wide: &[u32], at: &mut Point) -> Result<(), AllocError>
+pub fn narrow(alloc: Global, wide: &[u32], at: &mut Point) -> Result<(), AllocError>
     ensures { OnOk result (state at.new ≡ record (state at.old) { widened = wide.now }) }
 {
     at.widened = Seq::from_slice(alloc, wide)?;

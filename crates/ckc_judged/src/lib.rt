@@ -1,0 +1,10 @@
+//! The judgement of expressions: the range of each pointer is noted, or the first fault found.
+#![tactic(auto)]
+
+mod arguments;
+mod expressions;
+mod faults;
+
+pub use arguments::point_for;
+pub use expressions::judge;
+pub use faults::{BAD_AMOUNT, NOT_CONTAINED, UNKNOWN_BOUNDS};

@@ -1,0 +1,7 @@
+use Rattle.std.proofs.Common.{◌≡◌, ◌++◌, map, drop}
+use Rattle.ckc_stores.specs.Stores.{placed, members_assigned}
+use Rattle.ckc_stores.proofs.faults.members_assigned.Given as goal
+
+-- those so far, and those of the assignments that are left, are all
+abbrev pub invariant-loop-p : goal.invariant-loop-p
+invariant-loop-p l = l.all.items ++ members_assigned l.frame (map placed (drop l.p-index l.ps)) ≡ members_assigned l.frame (map placed l.ps)

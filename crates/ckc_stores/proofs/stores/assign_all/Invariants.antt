@@ -1,0 +1,11 @@
+use Rattle.std.proofs.Common.{◌≡◌, map, drop}
+use Rattle.ckc_points.specs.Shown.{known}
+use Rattle.ckc_points.specs.Flow.{state}
+use Rattle.ckc_stores.specs.Stores.{placed, after}
+use Rattle.ckc_stores.proofs.stores.assign_all.Given as goal
+
+-- what is left leads to the whole
+abbrev pub invariant-loop-p : goal.invariant-loop-p
+invariant-loop-p l =
+    after l.frame (known l.before) (map placed (drop l.p-index l.ps)) (state l.at)
+    ≡ after l.frame (known l.before) (map placed l.ps) (state l.fn.at)

@@ -1,0 +1,14 @@
+//! What initialisations, assignments, bundles and returns owe at a point: each pointer that they touch is contained in the
+//! bounds that it must have.
+#![tactic(auto)]
+
+mod faults;
+mod placed;
+mod replacing;
+mod stores;
+mod targets;
+mod values;
+
+pub use faults::LOST_BOUNDS;
+pub use stores::{initialised, returned, stored};
+pub use values::NOT_CONTAINED;

@@ -1,0 +1,201 @@
+//! What a pointer becomes, and whether the bounds that it must have contain it.
+
+ghost use Rattle.std.specs.Prelude.{◌≡◌, ◌&&◌, not, IfOk};
+ghost use Rattle.ckc_typed.specs.Types.{kind_of};
+ghost use Rattle.ckc_points.specs.Shown.{known};
+ghost use Rattle.ckc_points.specs.Flow.{state};
+ghost use Rattle.ckc_views.specs.Parts.{is_nt};
+ghost use Rattle.ckc_views.specs.Judged.{extended_by};
+ghost use Rattle.ckc_stores.specs.Values.{value, narrow, one_less, received_range, has_element, range_received, new_value, same_value, holds};
+
+use ckc_base::Seq;
+use ckc_linear::Facts;
+use ckc_points::{Bounds, Frame, Point, copied_facts, moved_form};
+use ckc_ranges::{BaseBy, Ends, VariableBy, extend, is_contained, range_of_local, replaced_bounds};
+use ckc_syntax::{Expr, Name};
+use ckc_typed::types::kind_of;
+use ckc_typed::{Note, Range};
+use ckc_types::{CType, Kind};
+use ckc_views::{allocates, is_null, range};
+use std::alloc::{AllocError, Global};
+
+/// E602: a target is not contained in its bounds.
+pub const NOT_CONTAINED: u16 = 602;
+
+/// The number of the first value in an expression that stands for itself, and the local that is its first fresh variable.
+#[derive(Clone, Copy, Debug, PartialEq, Eq)]
+pub struct Numbered {
+    pub value: u32,
+    pub fresh: u32,
+}
+
+/// A new value: whether it is null, its range, and the facts that its containment is judged by.
+pub struct Value {
+    pub null: bool,
+    pub range: Range,
+    pub facts: Facts,
+}
+
+impl Drop for Value {
+    fn drop(self) {
+        let Value {
+            null: _null,
+            range: _range,
+            facts: _facts,
+        } = self;
+    }
+}
+
+fn narrow(alloc: Global, at: &Point) -> Result<Point, AllocError>
+    ensures { IfOk result (λ p. state p ≡ narrow (state at.now)) }
+{
+    let facts = copied_facts(alloc, &at.facts)?;
+    Ok(Point {
+        reached: at.reached,
+        facts,
+        widened: Seq::new(alloc),
+    })
+}
+
+fn is_nt(t: &CType) -> bool
+    ensures { result ≡ is_nt (kind_of t.now) }
+{
+    kind_of(t) == Some(Kind::Nt)
+}
+
+fn one_less(range: Range) -> Range
+    ensures { result ≡ one_less range }
+{
+    match range {
+        Range::Known(low, high) => match moved_form(Some(high), -1) {
+            Some(high) => Range::Known(low, high),
+            None => Range::Missing,
+        },
+        Range::Missing => Range::Missing,
+        Range::Any => Range::Any,
+    }
+}
+
+fn received_range(t: &CType, allocates: bool, found: Range) -> Range
+    ensures { result ≡ received_range t.now allocates found }
+{
+    if allocates && is_nt(t) {
+        one_less(found)
+    } else {
+        found
+    }
+}
+
+fn has_element(t: &CType, allocates: bool) -> bool
+    ensures { result ≡ has_element t.now allocates }
+{
+    allocates && !is_nt(t)
+}
+
+/// The facts, and what a range makes known beside them; `narrow` is the range as it is without widening.
+fn extended_by(
+    alloc: Global,
+    found: Range,
+    narrow: Range,
+    allocated: bool,
+    facts: &Facts,
+) -> Result<Facts, AllocError>
+    ensures { IfOk result (λ all. known all
+        ≡ extended_by found narrow allocated (known facts.now)) }
+{
+    let mut all = copied_facts(alloc, facts)?;
+    match (found, narrow) {
+        (Range::Known(low, high), Range::Known(_, last)) => {
+            extend(Ends { low, high }, last, allocated, &mut all)?;
+            Ok(all)
+        }
+        _ => Ok(all),
+    }
+}
+
+fn range_received(
+    alloc: Global,
+    frame: &Frame,
+    t: &CType,
+    e: &Expr<Name, Note>,
+    from: Numbered,
+    at: &Point,
+) -> Result<Range, AllocError>
+    ensures { IfOk result (λ r. r ≡ range_received frame.now t.now e.now from (state at.now)) }
+{
+    let found = range(alloc, frame, at, e, from.value, from.fresh)?;
+    Ok(received_range(t, allocates(frame, e), found))
+}
+
+fn range_without_widening(
+    alloc: Global,
+    frame: &Frame,
+    t: &CType,
+    e: &Expr<Name, Note>,
+    from: Numbered,
+    at: &Point,
+) -> Result<Range, AllocError>
+    ensures { IfOk result (λ r. r
+        ≡ range_received frame.now t.now e.now from (narrow (state at.now))) }
+{
+    let bare = narrow(alloc, at)?;
+    range_received(alloc, frame, t, e, from, &bare)
+}
+
+/// What goes to a place of a type.
+#[tactic(auto, unfolding(crate::specs::Values::new_value))]
+pub fn new_value(
+    alloc: Global,
+    frame: &Frame,
+    t: &CType,
+    e: &Expr<Name, Note>,
+    from: Numbered,
+    at: &Point,
+) -> Result<Value, AllocError>
+    ensures { IfOk result (λ v. value v ≡ new_value frame.now t.now e.now from (state at.now)) }
+{
+    let range = range_received(alloc, frame, t, e, from, at)?;
+    let narrow = range_without_widening(alloc, frame, t, e, from, at)?;
+    let facts = extended_by(
+        alloc,
+        range,
+        narrow,
+        has_element(t, allocates(frame, e)),
+        &at.facts,
+    )?;
+    Ok(Value {
+        null: is_null(frame, e),
+        range,
+        facts,
+    })
+}
+
+/// What a local pointer is that keeps its value.
+#[tactic(auto, unfolding(crate::specs::Values::same_value))]
+pub fn same_value(alloc: Global, frame: &Frame, k: u32, at: &Point) -> Result<Value, AllocError>
+    ensures { IfOk result (λ v. value v ≡ same_value frame.now k (state at.now)) }
+{
+    let range = range_of_local(frame, k, at.widened.as_slice());
+    let narrow = range_of_local(frame, k, &[]);
+    let facts = extended_by(alloc, range, narrow, false, &at.facts)?;
+    Ok(Value {
+        null: false,
+        range,
+        facts,
+    })
+}
+
+/// Whether bounds contain a value once what they name is replaced.
+#[tactic(auto, unfolding(crate::specs::Values::holds))]
+pub fn holds(
+    alloc: Global,
+    v: &Value,
+    bounds: &Bounds,
+    bases: &[BaseBy],
+    variables: &[VariableBy],
+) -> Result<bool, AllocError>
+    ensures { IfOk result (λ b. b ≡ holds (value v.now) bounds.now bases.now variables.now) }
+{
+    let limits = replaced_bounds(bases, variables, bounds);
+    is_contained(alloc, &v.facts, bounds, v.null, v.range, limits)
+}
