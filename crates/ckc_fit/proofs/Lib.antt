@@ -1,0 +1,5 @@
+pub mod Gives
+pub mod NodesKept
+pub mod ItemsKept
+pub mod Numbered
+pub mod Ordered
