@@ -3,3 +3,4 @@ pub mod NodesKept
 pub mod ItemsKept
 pub mod Numbered
 pub mod Ordered
+pub mod LocalsCounted

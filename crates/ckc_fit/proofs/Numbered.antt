@@ -72,6 +72,12 @@ all_more [] before = ([], sym (append-nil before.statics))
 all_more (i ∷ is) before =
     grows_trans before.statics (noted before i).statics (fold noted (noted before i) is).statics (noted_more before i) (all_more is (noted before i))
 
+pub counts-append : (k : ℕ) (ns ms : List ℕ) → CountsFrom k ns → CountsFrom (k + length ns) ms → CountsFrom k (ns ++ ms)
+counts-append k [] ms p q = let e : k + 0 ≡ k = omega arith in subst (λ n. CountsFrom n ms) e q
+counts-append k (n ∷ ns) ms p q =
+    let e : k + suc (length ns) ≡ k + 1 + length ns = omega arith in
+    (p.0, counts-append (k + 1) ns ms p.1 (subst (λ n. CountsFrom n ms) e q))
+
 -- what holds of the items holds of the items of the text
 pub with_main : (tree : Tree) (P : List NamedItem → Type 0) → Gives P (all_named (names_of tree) tree.items) → Gives (λ (n : NamedText). P n.tree.items) (text_named tree)
 with_main tree P h =
@@ -94,7 +100,7 @@ none before i j e f =
     let g : length (noted before i).statics ≡ length before.statics = ap length f in
     record { numbers = []; are = e; counted = tt; grown = omega (arith, g) }
 
-decl_name : (names : Names) (within outside : Scopes) (n : Name) (d : Decl) → Gives (λ e. e.name ≡ n) (decl_named names within outside n d)
+pub decl_name : (names : Names) (within outside : Scopes) (n : Name) (d : Decl) → Gives (λ e. e.name ≡ n) (decl_named names within outside n d)
 decl_name names within outside n d =
     bound (λ t. Unit {0}) (λ e. e.name ≡ n) _ _ (anything (type_named names d.ctype)) (λ t u.
     bound (λ b. Unit {0}) (λ e. e.name ≡ n) _ _ (anything (bounds_named names within d.bounds)) (λ b v.
@@ -143,12 +149,6 @@ module _ (names : Names) (all : List Item) where
       none before (item.Function h body) (item.Function g b.0) refl refl)))
 
   -- ---- all items
-
-  counts-append : (k : ℕ) (ns ms : List ℕ) → CountsFrom k ns → CountsFrom (k + length ns) ms → CountsFrom k (ns ++ ms)
-  counts-append k [] ms p q = let e : k + 0 ≡ k = omega arith in subst (λ n. CountsFrom n ms) e q
-  counts-append k (n ∷ ns) ms p q =
-      let e : k + suc (length ns) ≡ k + 1 + length ns = omega arith in
-      (p.0, counts-append (k + 1) ns ms p.1 (subst (λ n. CountsFrom n ms) e q))
 
   items_numbered : (is : List Item) (before : Names) → (fold noted before is).statics ≡ names.statics
       → Gives (λ (p : List NamedItem × Names). CountsFrom (length before.statics) (static_numbers p.0)) (items_named names all is before)
