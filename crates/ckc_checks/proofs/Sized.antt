@@ -17,7 +17,7 @@ use Rattle.ckc_source.specs.Code as source
 use Rattle.ckc_source.specs.Words.{divides}
 use Rattle.ckc_core.specs.Code.{Expr, Const, Local, Load, Bin, Code, End, Set, Check}
 use Rattle.ckc_core.specs.Sizes.{expr_size, exprs_size, set_size, code_size, function_size, program_size}
-use Rattle.ckc_checks.specs.Compilable.{access_nodes, expr_nodes, exprs_nodes, target_nodes, right_nodes, code_nodes, function_nodes, program_nodes}
+use Rattle.ckc_checks.specs.Compilable.{access_nodes, index_nodes, expr_nodes, exprs_nodes, target_nodes, right_nodes, code_nodes, function_nodes, program_nodes}
 use Rattle.ckc_checks.specs.Inserted.{is_direct, operated, low_byte, as_truth, is_zero, scaled, shifted, at_offset, element_of, place_at, checks_null, null_check, direct, operand, operation_code, expr_code, operand_code, operands_code, operands, is_narrow, aim_code, target_count, written, fixed, written_there, right_assigned, result_in, result_kept, statements, zeroed, function_code, inserted}
 
 access_some : (through : Through) → 1 ≤ access_nodes through
@@ -72,9 +72,31 @@ element_sized One size a i = omega arith
 element_sized Array size a i = omega arith
 element_sized Terminated size a i = omega arith
 
+const_element_sized : (through : Through) (size : ℕ) (a : Expr) (n : ℕ) → expr_size (element_of through size a (Const n)) + 27 ≤ 27 * access_nodes through + expr_size a
+const_element_sized Named size a n = omega arith
+const_element_sized Raw size a n = by (n == 0)
+  where
+    by : (zero : Bool) → expr_size (if zero then a else Bin binary.Add a (scaled size (Const n))) + 27 ≤ 54 + expr_size a
+    by true = omega arith
+    by false = omega arith
+const_element_sized One size a n = omega arith
+const_element_sized Array size a n = omega arith
+const_element_sized Terminated size a n = omega arith
+
 place_sized : (access : Access) (a i : Expr) → expr_size (place_at access a i) + 11 ≤ 27 * access_nodes access.through + expr_size a + expr_size i
 place_sized access a i =
     omega (arith, at_offset_sized access.offset (element_of access.through access.size a i), element_sized access.through access.size a i)
+
+-- the same at a number
+const_place_sized : (access : Access) (a : Expr) (n : ℕ) → expr_size (place_at access a (Const n)) + 11 ≤ 27 * access_nodes access.through + expr_size a
+const_place_sized access a n =
+    omega (arith, at_offset_sized access.offset (element_of access.through access.size a (Const n)), const_element_sized access.through access.size a n)
+
+-- the place of an access at an operand
+operand_place_sized : (access : Access) (a : Expr) (i : source.Expr) (t : ℕ)
+    → expr_size (place_at access a (operand i t)) + 11 ≤ 27 * access_nodes access.through + expr_size a + index_nodes i (expr_size (operand i t))
+operand_place_sized access a (source.Number n) t = omega (arith, const_place_sized access a n)
+operand_place_sized access a i t = place_sized access a (operand i t)
 
 null_sized : (access : Access) (a : Expr) (rest : Code) → code_size (null_check access a rest) ≤ 14 + expr_size a + code_size rest
 null_sized access a rest = by (checks_null access.through)
@@ -83,11 +105,16 @@ null_sized access a rest = by (checks_null access.through)
     by true = omega arith
     by false = omega arith
 
+direct_place_sized : (access : Access) (a : Expr) (i : source.Expr) → expr_size (direct i) ≤ 27 * expr_nodes i
+    → expr_size (place_at access a (direct i)) + 11 ≤ 27 * access_nodes access.through + expr_size a + 27 * index_nodes i (expr_nodes i)
+direct_place_sized access a (source.Number n) h = omega (arith, const_place_sized access a n)
+direct_place_sized access a i h = omega (arith, place_sized access a (direct i), h)
+
 direct_sized : (e : source.Expr) → expr_size (direct e) ≤ 27 * expr_nodes e
 direct_sized (source.Binary o s at a b) = omega (arith, operated_sized o s (direct a) (direct b), direct_sized a, direct_sized b)
-direct_sized (source.Load w access p i) = omega (arith, place_sized access (direct p) (direct i), direct_sized p, direct_sized i)
-direct_sized (source.Member to count access p i) = omega (arith, place_sized access (direct p) (direct i), direct_sized p, direct_sized i)
-direct_sized (source.Address bytes access p i) = omega (arith, place_sized access (direct p) (direct i), direct_sized p, direct_sized i)
+direct_sized (source.Load w access p i) = omega (arith, direct_place_sized access (direct p) i (direct_sized i), direct_sized p)
+direct_sized (source.Member to count access p i) = omega (arith, direct_place_sized access (direct p) i (direct_sized i), direct_sized p)
+direct_sized (source.Address bytes access p i) = omega (arith, direct_place_sized access (direct p) i (direct_sized i), direct_sized p)
 direct_sized (source.Moved shift p i) = omega (arith, shifted_sized shift.back shift.size (direct p) (direct i), direct_sized p, direct_sized i)
 direct_sized (source.Added shift i p) = omega (arith, shifted_sized shift.back shift.size (direct p) (direct i), direct_sized p, direct_sized i)
 direct_sized (source.Narrow e) = omega (arith, direct_sized e)
@@ -105,6 +132,12 @@ by_two false x y d t n h k = omega arith
 operand_step : (e : source.Expr) (t : ℕ) (rest : Code) → code_size (expr_code e t rest) ≤ 60 * expr_nodes e + code_size rest
     → code_size (operand_code e t rest) + 2 * expr_size (operand e t) ≤ 60 * expr_nodes e + code_size rest
 operand_step e t rest h = by_two (is_direct e) (expr_code e t rest) rest (direct e) t (expr_nodes e) h (direct_sized e)
+
+-- the code in front of an index
+index_step : (i : source.Expr) (t : ℕ) (rest : Code) → code_size (operand_code i t rest) + 2 * expr_size (operand i t) ≤ 60 * expr_nodes i + code_size rest
+    → code_size (operand_code i t rest) + 2 * index_nodes i (expr_size (operand i t)) ≤ 60 * index_nodes i (expr_nodes i) + code_size rest
+index_step (source.Number n) t rest h = omega arith
+index_step i t rest h = h
 
 check_by : (is_one : Bool) (at : Pos) (b : Expr) (rest : Code) → code_size (if is_one then Check check.Divide at b rest else rest) ≤ 14 + expr_size b + code_size rest
 check_by true at b rest = omega arith
@@ -147,9 +180,9 @@ expr_sized (source.Load w access p i) t rest =
     omega (
       arith,
       null_sized access (operand p t) (Set t value rest),
-      place_sized access (operand p t) (operand i (t + 1)),
+      operand_place_sized access (operand p t) i (t + 1),
       access_some access.through,
-      operand_step i (t + 1) after (expr_sized i (t + 1) after),
+      index_step i (t + 1) after (operand_step i (t + 1) after (expr_sized i (t + 1) after)),
       operand_step p t second (expr_sized p t second),
     )
 expr_sized (source.Member to count access p i) t rest =
@@ -159,9 +192,9 @@ expr_sized (source.Member to count access p i) t rest =
     omega (
       arith,
       null_sized access (operand p t) (Set t value rest),
-      place_sized access (operand p t) (operand i (t + 1)),
+      operand_place_sized access (operand p t) i (t + 1),
       access_some access.through,
-      operand_step i (t + 1) after (expr_sized i (t + 1) after),
+      index_step i (t + 1) after (operand_step i (t + 1) after (expr_sized i (t + 1) after)),
       operand_step p t second (expr_sized p t second),
     )
 expr_sized (source.Address bytes access p i) t rest =
@@ -172,9 +205,9 @@ expr_sized (source.Address bytes access p i) t rest =
       arith,
       null_sized access (operand p t) (Set t value rest),
       set_sized value,
-      place_sized access (operand p t) (operand i (t + 1)),
+      operand_place_sized access (operand p t) i (t + 1),
       access_some access.through,
-      operand_step i (t + 1) after (expr_sized i (t + 1) after),
+      index_step i (t + 1) after (operand_step i (t + 1) after (expr_sized i (t + 1) after)),
       operand_step p t second (expr_sized p t second),
     )
 expr_sized (source.Moved shift p i) t rest =
@@ -211,9 +244,9 @@ operand_sized e t rest = operand_step e t rest (expr_sized e t rest)
 
 -- an argument, with the eight instructions that pass it
 argument_sized : (e : source.Expr) (t : ℕ) (rest : Code) → code_size (operand_code e t rest) + expr_size (operand e t) + 8 ≤ 64 * expr_nodes e + code_size rest
-argument_sized (source.Load w access p i) t rest = omega (arith, operand_sized (source.Load w access p i) t rest, access_some access.through, expr_nodes_some p, expr_nodes_some i)
-argument_sized (source.Member to count access p i) t rest = omega (arith, operand_sized (source.Member to count access p i) t rest, access_some access.through, expr_nodes_some p, expr_nodes_some i)
-argument_sized (source.Address bytes access p i) t rest = omega (arith, operand_sized (source.Address bytes access p i) t rest, access_some access.through, expr_nodes_some p, expr_nodes_some i)
+argument_sized (source.Load w access p i) t rest = omega (arith, operand_sized (source.Load w access p i) t rest, access_some access.through, expr_nodes_some p)
+argument_sized (source.Member to count access p i) t rest = omega (arith, operand_sized (source.Member to count access p i) t rest, access_some access.through, expr_nodes_some p)
+argument_sized (source.Address bytes access p i) t rest = omega (arith, operand_sized (source.Address bytes access p i) t rest, access_some access.through, expr_nodes_some p)
 argument_sized (source.Moved shift p i) t rest = omega (arith, operand_sized (source.Moved shift p i) t rest, expr_nodes_some p, expr_nodes_some i)
 argument_sized (source.Added shift i p) t rest = omega (arith, operand_sized (source.Added shift i p) t rest, expr_nodes_some p, expr_nodes_some i)
 argument_sized (source.Binary o s at a b) t rest = omega (arith, operand_sized (source.Binary o s at a b) t rest, expr_nodes_some a, expr_nodes_some b)
@@ -250,8 +283,8 @@ aimed_sized (source.Memory w access p i) t n is_byte value rest inner h =
     omega (
       arith,
       null_sized access (operand p t) inner,
-      place_sized access (operand p t) (operand i (t + 1)),
-      operand_sized i (t + 1) after,
+      operand_place_sized access (operand p t) i (t + 1),
+      index_step i (t + 1) after (operand_sized i (t + 1) after),
       operand_sized p t second,
     )
 
@@ -277,8 +310,8 @@ there_sized (source.Memory w access p i) t n u rest inner h =
       arith,
       null_sized access (operand p t) set,
       set_sized place,
-      place_sized access (operand p t) (operand i (t + 1)),
-      operand_sized i (t + 1) after,
+      operand_place_sized access (operand p t) i (t + 1),
+      index_step i (t + 1) after (operand_sized i (t + 1) after),
       operand_sized p t second,
     )
 

@@ -43,11 +43,16 @@ abbrev pub access_nodes : Through → ℕ
 access_nodes Named = 1
 access_nodes _ = 2
 
+-- an index counts for nothing where it is a number
+abbrev pub index_nodes : Expr → ℕ → ℕ
+index_nodes (Number n) count = 0
+index_nodes i count = count
+
 -- how many nodes an expression has
 abbrev pub expr_nodes : Expr → ℕ
-expr_nodes (Load width access p i) = access_nodes access.through + expr_nodes p + expr_nodes i
-expr_nodes (Member to count access p i) = access_nodes access.through + expr_nodes p + expr_nodes i
-expr_nodes (Address bytes access p i) = access_nodes access.through + expr_nodes p + expr_nodes i
+expr_nodes (Load width access p i) = access_nodes access.through + expr_nodes p + index_nodes i (expr_nodes i)
+expr_nodes (Member to count access p i) = access_nodes access.through + expr_nodes p + index_nodes i (expr_nodes i)
+expr_nodes (Address bytes access p i) = access_nodes access.through + expr_nodes p + index_nodes i (expr_nodes i)
 expr_nodes (Moved shift p i) = 1 + expr_nodes p + expr_nodes i
 expr_nodes (Added shift i p) = 1 + expr_nodes i + expr_nodes p
 expr_nodes (Binary operation is_signed at a b) = 1 + expr_nodes a + expr_nodes b
@@ -65,7 +70,7 @@ exprs_nodes [] = 0
 exprs_nodes (e ∷ es) = expr_nodes e + exprs_nodes es
 
 abbrev pub target_nodes : Target → ℕ
-target_nodes (Memory width access p i) = access_nodes access.through + expr_nodes p + expr_nodes i
+target_nodes (Memory width access p i) = access_nodes access.through + expr_nodes p + index_nodes i (expr_nodes i)
 target_nodes _ = 0
 
 abbrev pub right_nodes : Right → ℕ

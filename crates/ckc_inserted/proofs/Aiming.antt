@@ -21,11 +21,11 @@ use Rattle.ckc_checks.specs.Compilable.{IsJudged, IsCompilableTarget}
 use Rattle.ckc_checks.specs.Inserted.{operand, place_at, null_check, aim_code, target_count}
 use Rattle.ckc_inserted.proofs.Running.{machine, at}
 use Rattle.ckc_inserted.proofs.Values.{Agree, Sees}
-use Rattle.ckc_inserted.proofs.Exprs.{Below, Comes, operand_steps, then_comes, pair_comes, operand_comes, Reached, null_comes, zero_index}
+use Rattle.ckc_inserted.proofs.Exprs.{Below, Comes, operand_steps, index_steps, then_comes, pair_comes, operand_comes, index_comes, Reached, null_comes, zero_index}
 
 -- in how many steps the place of a target is found
 abbrev pub aim_steps : source.Target → ℕ → ℕ
-aim_steps (source.Memory width access p i) t = operand_steps p t + (operand_steps i (t + 1) + (nodes (operand p t) + 1))
+aim_steps (source.Memory width access p i) t = operand_steps p t + (index_steps i (t + 1) + (nodes (operand p t) + 1))
 aim_steps target t = 0
 
 no_terminator : (through : Through) (index : source.Expr) (range : Range) (a : ℕ) (spot : Pos) → IsJudged through index → terminator_at through range a spot ≡ None
@@ -61,9 +61,9 @@ module _ (functions : List Function) (callers : List Caller) (world : World) whe
         let pointer = h.1 in
         let index = h.2 in
         let good = Aimed (source.Memory width access p i) t l in
-        pair_comes functions callers world n s sees p i t 0 (nodes a + 1) (aim_steps (source.Memory width access p i) t) (null_check access a more) more rest l
+        pair_comes functions callers world n s sees p i (index_steps i) t 0 (nodes a + 1) (aim_steps (source.Memory width access p i) t) (null_check access a more) more rest l
         (λ v k. given (element access v k.number) (aims_at s width access v.range)) good
-        (operand_comes functions callers world n s sees p) (operand_comes functions callers world n s sees i) le pointer.0 index.0 agree (omega arith)
+        (operand_comes functions callers world n s sees p) (index_comes functions callers world n s sees i) le pointer.0 index.0 agree (omega arith)
         (λ x y l2 both.
         then_comes functions callers world 0 (nodes a + 1) 0 (nodes a + 1) (at callers world (null_check access a more) rest l2) (element access x y.number) (aims_at s width access x.range) more rest
         (Reached functions callers world n s sees access access.through a b x y l2) (λ to u. (l' : Values) × (u ≡ at callers world more rest l') × good to l') (omega arith)

@@ -25,7 +25,7 @@ use Rattle.ckc_checks.specs.Compilable.{target_nodes, expr_nodes, IsCompilableEx
 use Rattle.ckc_checks.specs.Inserted.{place_at, low_byte, operand, operand_used, operand_code, aim_code, target_count, is_narrow, written, fixed, taken, written_there, assigned, right_assigned, statements}
 use Rattle.ckc_inserted.proofs.Running.{machine, at, by_set, step_by}
 use Rattle.ckc_inserted.proofs.Flat.{allocated_same}
-use Rattle.ckc_inserted.proofs.Exprs.{Below, operand_nodes, place_nodes, core_some, some_access, written_same, written_below}
+use Rattle.ckc_inserted.proofs.Exprs.{Below, operand_nodes, index_few, operand_place_nodes, core_some, some_access, written_same, written_below}
 use Rattle.ckc_inserted.proofs.Aiming.{IsAt, aim_steps, at_later}
 use Rattle.ckc_inserted.proofs.Relation.{Stands}
 use Rattle.ckc_inserted.proofs.Writing.{Ready, first_matched, then_written, least_of, write_steps, IsThere, allowed_there, there_later, there_same}
@@ -35,7 +35,7 @@ pub aim_write_steps : (target : source.Target) (t : ℕ) → aim_steps target t 
 aim_write_steps source.Nothing t = omega arith
 aim_write_steps (source.Variable x width) t = omega arith
 aim_write_steps (source.Memory width access p i) t =
-    omega (arith, operand_nodes p t, operand_nodes i (t + 1), core_some (operand p t), core_some (operand i (t + 1)), some_access access.through)
+    omega (arith, operand_nodes p t, index_few i (t + 1), core_some (operand p t), some_access access.through)
 
 -- in how many steps a place goes to a temporary
 abbrev fixed_steps : source.Target → ℕ → ℕ
@@ -46,7 +46,7 @@ aim_fixed_steps : (target : source.Target) (t : ℕ) → aim_steps target t + fi
 aim_fixed_steps source.Nothing t = omega arith
 aim_fixed_steps (source.Variable x width) t = omega arith
 aim_fixed_steps (source.Memory width access p i) t =
-    omega (arith, place_nodes access (operand p t) (operand i (t + 1)), operand_nodes p t, operand_nodes i (t + 1), core_some (operand p t), core_some (operand i (t + 1)), some_access access.through)
+    omega (arith, operand_place_nodes access (operand p t) i (t + 1), operand_nodes p t, index_few i (t + 1), core_some (operand p t), some_access access.through)
 
 module _ (p : source.Program) (all : All (IsCompilableFunction p.functions) p.functions)
     (s : S.State) (work : List Work) (looped : Bool) (ds : List C.Caller) (world : World) (rest : C.Rest) where

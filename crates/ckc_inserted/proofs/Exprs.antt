@@ -38,7 +38,7 @@ use Rattle.ckc_source.specs.Words.{exact, as_address, elements_behind, truth, co
 use Rattle.ckc_source.specs.Eval.{Store, given, given_both, plain, stops, at_address, element, element_through, place_in, loads, loads_pointer, moves, moves_checked, spanned, operates, tests, trusts, evaluated, all_evaluated}
 use Rattle.ckc_core.specs.Code.{Expr, Const, Local, Load, Bin, Code, End, Set, Check, If, Function}
 use Rattle.ckc_core.specs.Meaning.{Rest, Next, State, Caller, value_of, values_of, both, nodes, all_nodes}
-use Rattle.ckc_checks.specs.Compilable.{IsZero, IsJudged, IsAccess, IsCompilableExpr, IsCompilablePart, access_nodes, expr_nodes, exprs_nodes}
+use Rattle.ckc_checks.specs.Compilable.{IsZero, IsJudged, IsAccess, IsCompilableExpr, IsCompilablePart, access_nodes, index_nodes, expr_nodes, exprs_nodes}
 use Rattle.ckc_checks.specs.Inserted.{is_direct, operated, low_byte, as_truth, is_zero, scaled, shifted, at_offset, element_of, place_at, checks_null, null_check, direct, operand, operation_code, expr_code, operand_code, operands_code, operands}
 use Rattle.ckc_inserted.proofs.Running.{machine, Runs, first_runs, later_runs, then_runs, at, by_set, by_pass, by_fail, by_if, by_end}
 use Rattle.ckc_inserted.proofs.Bounded.{Gives, GivesWord, reads_number, AreSmall, small_cons}
@@ -101,6 +101,29 @@ pub place_nodes : (access : Access) (a i : Expr) → nodes (place_at access a i)
 place_nodes access a i =
     omega (arith, at_offset_nodes access.offset (element_of access.through access.size a i), element_nodes access.through access.size a i)
 
+const_element_nodes : (through : Through) (size : ℕ) (a : Expr) (n : ℕ) → nodes (element_of through size a (Const n)) ≤ 2 + nodes a
+const_element_nodes Named size a n = omega arith
+const_element_nodes Raw size a n = by (n == 0)
+  where
+    by : (none : Bool) → nodes (if none then a else Bin binary.Add a (scaled size (Const n))) ≤ 2 + nodes a
+    by true = omega arith
+    by false = omega arith
+const_element_nodes One size a n = omega arith
+const_element_nodes Array size a n = omega arith
+const_element_nodes Terminated size a n = omega arith
+
+-- the place of an access at an operand
+pub operand_place_nodes : (access : Access) (a : Expr) (i : source.Expr) (t : ℕ) → nodes (place_at access a (operand i t)) ≤ 5 + nodes a + index_nodes i (nodes (operand i t))
+operand_place_nodes access a (source.Number n) t =
+    omega (arith, at_offset_nodes access.offset (element_of access.through access.size a (Const n)), const_element_nodes access.through access.size a n)
+operand_place_nodes access a i t = place_nodes access a (operand i t)
+
+direct_place_nodes : (access : Access) (a : Expr) (i : source.Expr) → nodes (direct i) ≤ 6 * expr_nodes i
+    → nodes (place_at access a (direct i)) ≤ 5 + nodes a + 6 * index_nodes i (expr_nodes i)
+direct_place_nodes access a (source.Number n) h =
+    omega (arith, at_offset_nodes access.offset (element_of access.through access.size a (Const n)), const_element_nodes access.through access.size a n)
+direct_place_nodes access a i h = omega (arith, place_nodes access a (direct i), h)
+
 pub some_access : (through : Through) → 1 ≤ access_nodes through
 some_access Named = omega arith
 some_access Raw = omega arith
@@ -120,11 +143,11 @@ core_some e = omega arith
 
 direct_nodes : (e : source.Expr) → nodes (direct e) ≤ 6 * expr_nodes e
 direct_nodes (source.Load w access p i) =
-    omega (arith, place_nodes access (direct p) (direct i), some_access access.through, direct_nodes p, direct_nodes i)
+    omega (arith, direct_place_nodes access (direct p) i (direct_nodes i), some_access access.through, direct_nodes p)
 direct_nodes (source.Member to count access p i) =
-    omega (arith, place_nodes access (direct p) (direct i), some_access access.through, direct_nodes p, direct_nodes i)
+    omega (arith, direct_place_nodes access (direct p) i (direct_nodes i), some_access access.through, direct_nodes p)
 direct_nodes (source.Address bytes access p i) =
-    omega (arith, place_nodes access (direct p) (direct i), some_access access.through, direct_nodes p, direct_nodes i)
+    omega (arith, direct_place_nodes access (direct p) i (direct_nodes i), some_access access.through, direct_nodes p)
 direct_nodes (source.Moved shift p i) = omega (arith, shifted_nodes shift.back shift.size (direct p) (direct i), direct_nodes p, direct_nodes i)
 direct_nodes (source.Added shift i p) = omega (arith, shifted_nodes shift.back shift.size (direct p) (direct i), direct_nodes p, direct_nodes i)
 direct_nodes (source.Binary operation is_signed place a b) =
@@ -157,6 +180,14 @@ expr_steps e = 14 * expr_nodes e - 2
 
 abbrev pub operand_steps : source.Expr → ℕ → ℕ
 operand_steps e t = 14 * expr_nodes e - 2 * nodes (operand e t)
+
+-- an index that is a number takes none
+abbrev pub index_steps : source.Expr → ℕ → ℕ
+index_steps i t = index_nodes i (operand_steps i t)
+
+pub index_few : (i : source.Expr) (t : ℕ) → index_steps i t + 2 * index_nodes i (nodes (operand i t)) ≤ 14 * index_nodes i (expr_nodes i)
+index_few (source.Number n) t = omega arith
+index_few i t = omega (arith, operand_nodes i t)
 
 abbrev pub operands_steps : List source.Expr → ℕ → ℕ
 operands_steps es t = 14 * exprs_nodes es - 2 * all_nodes (operands es t)
@@ -248,9 +279,15 @@ module _ (functions : List Function) (callers : List Caller) (world : World) whe
     Claim e = (t : ℕ) (more : Code) (rest : Rest) (l : Values) → n ≤ t → IsCompilableExpr n e → Agree n s.locals l
         → Comes 1 (expr_steps e) (at callers world (expr_code e t more) rest l) (evaluated s e) more rest (Put t l)
 
+    abbrev OperandIn : (ℕ → ℕ) → source.Expr → Type 0
+    OperandIn steps e = (t : ℕ) (more : Code) (rest : Rest) (l : Values) → n ≤ t → IsCompilableExpr n e → Agree n s.locals l
+        → Comes 0 (steps t) (at callers world (operand_code e t more) rest l) (evaluated s e) more rest (Held (operand e t) t l)
+
     abbrev OperandClaim : source.Expr → Type 0
-    OperandClaim e = (t : ℕ) (more : Code) (rest : Rest) (l : Values) → n ≤ t → IsCompilableExpr n e → Agree n s.locals l
-        → Comes 0 (operand_steps e t) (at callers world (operand_code e t more) rest l) (evaluated s e) more rest (Held (operand e t) t l)
+    OperandClaim e = OperandIn (operand_steps e) e
+
+    abbrev IndexClaim : source.Expr → Type 0
+    IndexClaim i = OperandIn (index_steps i) i
 
     pub agree_below : (t : ℕ) (l before : Values) → n ≤ t → Below t l before → Agree n s.locals before → Agree n s.locals l
     agree_below t l before le below agree x h = below x (omega arith) ∙ agree x h
@@ -286,6 +323,10 @@ module _ (functions : List Function) (callers : List Caller) (world : World) whe
     operand_from : (e : source.Expr) → Claim e → OperandClaim e
     operand_from e claim t more rest l le h agree = operand_by e claim t more rest l le h agree (is_direct e) refl
 
+    index_from : (i : source.Expr) → OperandClaim i → IndexClaim i
+    index_from (source.Number k) claim t more rest l le h agree = here (source.Number k) t 0 more rest l (plain k) (λ later below. refl) h
+    index_from i claim t more rest l le h agree = claim t more rest l le h agree
+
     leaf : (e : source.Expr) (t : ℕ) (more : Code) (rest : Rest) (l : Values) → IsCompilableExpr n e → Agree n s.locals l → is_direct e ≡ true
         → Comes 1 (expr_steps e) (at callers world (Set t (direct e) more) rest l) (evaluated s e) more rest (Put t l)
     leaf e t more rest l h agree d =
@@ -312,20 +353,20 @@ module _ (functions : List Function) (callers : List Caller) (world : World) whe
         Below t l before × ((later : Values) → Below (t + 2) later l → value_of later world.memory a ≡ Some x.number)
         × ((later : Values) → Below (t + 2) later l → value_of later world.memory b ≡ Some y.number) × (x.number < 2 ^ 32) × (y.number < 2 ^ 32)
 
-    pub pair_comes : {A : Type 0} (a b : source.Expr) (t least m k : ℕ) (last more : Code) (rest : Rest) (l : Values) (f : Value → Value → Result A Halt) (R : A → Values → Type 0)
-        → OperandClaim a → OperandClaim b → n ≤ t → IsCompilableExpr n a → IsCompilableExpr n b → Agree n s.locals l → operand_steps a t + (operand_steps b (t + 1) + m) ≤ k
+    pub pair_comes : {A : Type 0} (a b : source.Expr) (second_steps : ℕ → ℕ) (t least m k : ℕ) (last more : Code) (rest : Rest) (l : Values) (f : Value → Value → Result A Halt) (R : A → Values → Type 0)
+        → OperandClaim a → OperandIn second_steps b → n ≤ t → IsCompilableExpr n a → IsCompilableExpr n b → Agree n s.locals l → operand_steps a t + (second_steps (t + 1) + m) ≤ k
         → ((x y : Value) (l2 : Values) → Both (operand a t) (operand b (t + 1)) t l x y l2 → Comes least m (at callers world last rest l2) (f x y) more rest R)
         → Comes least k (at callers world (operand_code a t (operand_code b (t + 1) last)) rest l) (given_both (evaluated s a) (evaluated s b) f) more rest R
-    pair_comes {A} a b t least m k last more rest l f R claim_a claim_b le ha hb agree few next =
+    pair_comes {A} a b second_steps t least m k last more rest l f R claim_a claim_b le ha hb agree few next =
         let p = operand a t in
         let q = operand b (t + 1) in
         let second = operand_code b (t + 1) last in
-        then_comes least (operand_steps a t) (operand_steps b (t + 1) + m) k (at callers world (operand_code a t second) rest l) (evaluated s a)
+        then_comes least (operand_steps a t) (second_steps (t + 1) + m) k (at callers world (operand_code a t second) rest l) (evaluated s a)
         (λ x. given (evaluated s b) (λ y. f x y)) second rest (Held p t l)
         (λ v u. (l' : Values) × (u ≡ at callers world more rest l') × R v l') few
         (claim_a t second rest l le ha agree)
         (λ x l1 held.
-        then_comes least (operand_steps b (t + 1)) m (operand_steps b (t + 1) + m)
+        then_comes least (second_steps (t + 1)) m (second_steps (t + 1) + m)
         (at callers world second rest l1) (evaluated s b) (λ y. f x y) last rest (Held q (t + 1) l1)
         (λ v u. (l' : Values) × (u ≡ at callers world more rest l') × R v l') (omega arith)
         (claim_b (t + 1) last rest l1 (omega arith) hb (agree_below t l1 l le held.0 agree))
@@ -346,7 +387,7 @@ module _ (functions : List Function) (callers : List Caller) (world : World) whe
         let p = operand a t in
         let q = operand b (t + 1) in
         let o = operated operation is_signed p q in
-        pair_comes a b t 1 ((nodes q + 1) + (nodes o + 1)) (expr_steps (source.Binary operation is_signed place a b))
+        pair_comes a b (operand_steps b) t 1 ((nodes q + 1) + (nodes o + 1)) (expr_steps (source.Binary operation is_signed place a b))
         (operation_code operation is_signed place p q t more) more rest l (λ x y. operates operation is_signed place x.number y.number) (Put t l) claim_a claim_b le h.1 h.2 agree
         (binary_steps (nodes p) (nodes q) (expr_nodes a) (expr_nodes b) (nodes o) (operand_nodes a t) (operand_nodes b (t + 1)) (some_node a) (some_node b) (operated_nodes operation is_signed p q))
         (λ x y l2 b.
@@ -434,25 +475,25 @@ module _ (functions : List Function) (callers : List Caller) (world : World) whe
     null_comes access Array index a i next rest l x y h value small few zero = absurd h
     null_comes access Terminated index a i next rest l x y h value small few zero = absurd h
 
-    access_steps : (np ni nv ep ei c : ℕ) → np ≤ 6 * ep → ni ≤ 6 * ei → 1 ≤ np → 1 ≤ ni → 1 ≤ c → nv ≤ 6 + np + ni
-        → (14 * ep - 2 * np) + ((14 * ei - 2 * ni) + ((np + 1) + (nv + 1))) ≤ 14 * (c + ep + ei) - 2
-    access_steps np ni nv ep ei c h k i j one l = omega arith
+    access_steps : (np ni nv ep ei si c : ℕ) → np ≤ 6 * ep → si + 2 * ni ≤ 14 * ei → 1 ≤ np → 1 ≤ c → nv ≤ 6 + np + ni
+        → (14 * ep - 2 * np) + (si + ((np + 1) + (nv + 1))) ≤ 14 * (c + ep + ei) - 2
+    access_steps np ni nv ep ei si c h k i one l = omega arith
 
     -- a value that is got from where an access goes to
     access_comes : (access : Access) (p i : source.Expr) (t : ℕ) (value : Expr) (go : ℕ → Result Value Halt) (more : Code) (rest : Rest) (l : Values)
-        → OperandClaim p → OperandClaim i → n ≤ t → IsAccess access i → IsCompilableExpr n p → IsCompilableExpr n i → Agree n s.locals l
-        → nodes value ≤ 6 + nodes (operand p t) + nodes (operand i (t + 1))
+        → OperandClaim p → IndexClaim i → n ≤ t → IsAccess access i → IsCompilableExpr n p → IsCompilableExpr n i → Agree n s.locals l
+        → nodes value ≤ 6 + nodes (operand p t) + index_nodes i (nodes (operand i (t + 1)))
         → ((x : ℕ) (later : Values) → value_of later world.memory (place_at access (operand p t) (operand i (t + 1))) ≡ Some (place_in x access.offset) → IsValue (go x) (value_of later world.memory value))
-        → Comes 1 (14 * (access_nodes access.through + expr_nodes p + expr_nodes i) - 2)
+        → Comes 1 (14 * (access_nodes access.through + expr_nodes p + index_nodes i (expr_nodes i)) - 2)
         (at callers world (operand_code p t (operand_code i (t + 1) (null_check access (operand p t) (Set t value more)))) rest l)
         (given_both (evaluated s p) (evaluated s i) (λ v k. given (element access v k.number) go)) more rest (Put t l)
     access_comes access p i t value go more rest l claim_p claim_i le h hp hi agree few next =
         let a = operand p t in
         let b = operand i (t + 1) in
         let set = Set t value more in
-        pair_comes p i t 1 ((nodes a + 1) + (nodes value + 1)) (14 * (access_nodes access.through + expr_nodes p + expr_nodes i) - 2)
+        pair_comes p i (index_steps i) t 1 ((nodes a + 1) + (nodes value + 1)) (14 * (access_nodes access.through + expr_nodes p + index_nodes i (expr_nodes i)) - 2)
         (null_check access a set) more rest l (λ v k. given (element access v k.number) go) (Put t l) claim_p claim_i le hp hi agree
-        (access_steps (nodes a) (nodes b) (nodes value) (expr_nodes p) (expr_nodes i) (access_nodes access.through) (operand_nodes p t) (operand_nodes i (t + 1)) (core_some a) (core_some b) (some_access access.through) few)
+        (access_steps (nodes a) (index_nodes i (nodes b)) (nodes value) (expr_nodes p) (index_nodes i (expr_nodes i)) (index_steps i (t + 1)) (access_nodes access.through) (operand_nodes p t) (index_few i (t + 1)) (core_some a) (some_access access.through) few)
         (λ x y l2 both.
         then_comes 1 (nodes a + 1) (nodes value + 1) ((nodes a + 1) + (nodes value + 1)) (at callers world (null_check access a set) rest l2) (element access x y.number) go set rest
         (Reached access access.through a b x y l2) (λ v u. (l' : Values) × (u ≡ at callers world more rest l') × Put t l v l') (omega arith)
@@ -480,7 +521,7 @@ module _ (functions : List Function) (callers : List Caller) (world : World) whe
         let b = operand i (t + 1) in
         let value = shifted shift.back shift.size a b in
         let unchecked = h.0 in
-        pair_comes p i t 1 (nodes value + 1) (expr_steps (source.Moved shift p i)) (Set t value more) more rest l (λ v k. moves shift v k.number) (Put t l) claim_p claim_i le h.1 h.2 agree
+        pair_comes p i (operand_steps i) t 1 (nodes value + 1) (expr_steps (source.Moved shift p i)) (Set t value more) more rest l (λ v k. moves shift v k.number) (Put t l) claim_p claim_i le h.1 h.2 agree
         (shift_steps (nodes a) (nodes b) (nodes value) (expr_nodes p) (expr_nodes i) (operand_nodes p t) (operand_nodes i (t + 1)) (core_some a) (core_some b) (shifted_nodes shift.back shift.size a b))
         (λ x y l2 both. move_comes shift x y.number t value more rest l2 l shift.checked unchecked.0 both.0
         (shifted_value l2 world.memory shift.back shift.size a b x.number y.number (both.1 l2 (λ z less. refl)) (both.2 l2 (λ z less. refl)) both.3 both.4))
@@ -491,7 +532,7 @@ module _ (functions : List Function) (callers : List Caller) (world : World) whe
         let b = operand i t in
         let value = shifted shift.back shift.size a b in
         let unchecked = h.0 in
-        pair_comes i p t 1 (nodes value + 1) (expr_steps (source.Added shift i p)) (Set t value more) more rest l (λ k v. moves shift v k.number) (Put t l) claim_i claim_p le h.1 h.2 agree
+        pair_comes i p (operand_steps p) t 1 (nodes value + 1) (expr_steps (source.Added shift i p)) (Set t value more) more rest l (λ k v. moves shift v k.number) (Put t l) claim_i claim_p le h.1 h.2 agree
         (shift_steps (nodes b) (nodes a) (nodes value) (expr_nodes i) (expr_nodes p) (operand_nodes i t) (operand_nodes p (t + 1)) (core_some b) (core_some a) (omega (arith, shifted_nodes shift.back shift.size a b)))
         (λ y x l2 both. move_comes shift x y.number t value more rest l2 l shift.checked unchecked.0 both.0
         (shifted_value l2 world.memory shift.back shift.size a b x.number y.number (both.2 l2 (λ z less. refl)) (both.1 l2 (λ z less. refl)) both.4 both.3))
@@ -680,26 +721,26 @@ module _ (functions : List Function) (callers : List Caller) (world : World) whe
         (λ y l2 held. set_put (low_byte q) t more rest l l2 (record { number = y.number % 256; range = Without }) (nodes q + 3) (omega arith)
         held.0 (low_value l2 world.memory q y.number (held_value q t l l2 y held)))
 
-    load_comes : (width : Width) (access : Access) (p i : source.Expr) → OperandClaim p → OperandClaim i → Claim (source.Load width access p i)
+    load_comes : (width : Width) (access : Access) (p i : source.Expr) → OperandClaim p → IndexClaim i → Claim (source.Load width access p i)
     load_comes width access p i claim_p claim_i t more rest l le h agree =
         let place = place_at access (operand p t) (operand i (t + 1)) in
         access_comes access p i t (Load width place) (λ a. loads s width (place_in a access.offset)) more rest l claim_p claim_i le h.0 h.1 h.2 agree
-        (omega (arith, place_nodes access (operand p t) (operand i (t + 1))))
+        (omega (arith, operand_place_nodes access (operand p t) i (t + 1)))
         (λ x later e. subst (λ o. IsValue (loads s width (place_in x access.offset)) (option_and_then (value_at width world.memory) o)) (sym e)
         (load_value s world.memory width (place_in x access.offset) sees.same.bytes (loaded width (place_in x access.offset) s.blocks) refl))
 
-    member_comes : (to : Pointee) (count : Count) (access : Access) (p i : source.Expr) → OperandClaim p → OperandClaim i → Claim (source.Member to count access p i)
+    member_comes : (to : Pointee) (count : Count) (access : Access) (p i : source.Expr) → OperandClaim p → IndexClaim i → Claim (source.Member to count access p i)
     member_comes to count access p i claim_p claim_i t more rest l le h agree =
         let place = place_at access (operand p t) (operand i (t + 1)) in
         access_comes access p i t (Load Word place) (λ a. loads_pointer s to count a (place_in a access.offset)) more rest l claim_p claim_i le h.0 h.1 h.2 agree
-        (omega (arith, place_nodes access (operand p t) (operand i (t + 1))))
+        (omega (arith, operand_place_nodes access (operand p t) i (t + 1)))
         (λ x later e. subst (λ o. IsValue (loads_pointer s to count x (place_in x access.offset)) (option_and_then (value_at Word world.memory) o)) (sym e)
         (pointer_value s world.memory to count x (place_in x access.offset) sees.same.bytes (loaded Word (place_in x access.offset) s.blocks) refl))
 
-    address_comes : (bytes : ℕ) (access : Access) (p i : source.Expr) → OperandClaim p → OperandClaim i → Claim (source.Address bytes access p i)
+    address_comes : (bytes : ℕ) (access : Access) (p i : source.Expr) → OperandClaim p → IndexClaim i → Claim (source.Address bytes access p i)
     address_comes bytes access p i claim_p claim_i t more rest l le h agree =
         access_comes access p i t (place_at access (operand p t) (operand i (t + 1))) (λ a. spanned (place_in a access.offset) bytes) more rest l claim_p claim_i le h.0 h.1 h.2 agree
-        (omega (arith, place_nodes access (operand p t) (operand i (t + 1)))) (λ x later e. e)
+        (omega (arith, operand_place_nodes access (operand p t) i (t + 1))) (λ x later e. e)
 
     limited_leaf : (x : ℕ) (limits : Limits) → Claim (source.Limited x limits)
     limited_leaf x limits t more rest l le h agree = leaf (source.Limited x limits) t more rest l h agree refl
@@ -711,11 +752,11 @@ module _ (functions : List Function) (callers : List Caller) (world : World) whe
     expr_comes (source.Limited x limits) t more rest l le h agree = limited_leaf x limits t more rest l le h agree
     expr_comes (source.Array a bytes) t more rest l le h agree = leaf (source.Array a bytes) t more rest l h agree refl
     expr_comes (source.Load width access p i) t more rest l le h agree =
-        load_comes width access p i (operand_from p (expr_comes p)) (operand_from i (expr_comes i)) t more rest l le h agree
+        load_comes width access p i (operand_from p (expr_comes p)) (index_from i (operand_from i (expr_comes i))) t more rest l le h agree
     expr_comes (source.Member to count access p i) t more rest l le h agree =
-        member_comes to count access p i (operand_from p (expr_comes p)) (operand_from i (expr_comes i)) t more rest l le h agree
+        member_comes to count access p i (operand_from p (expr_comes p)) (index_from i (operand_from i (expr_comes i))) t more rest l le h agree
     expr_comes (source.Address bytes access p i) t more rest l le h agree =
-        address_comes bytes access p i (operand_from p (expr_comes p)) (operand_from i (expr_comes i)) t more rest l le h agree
+        address_comes bytes access p i (operand_from p (expr_comes p)) (index_from i (operand_from i (expr_comes i))) t more rest l le h agree
     expr_comes (source.Moved shift p i) t more rest l le h agree =
         moved_comes shift p i (operand_from p (expr_comes p)) (operand_from i (expr_comes i)) t more rest l le h agree
     expr_comes (source.Added shift i p) t more rest l le h agree =
@@ -740,6 +781,9 @@ module _ (functions : List Function) (callers : List Caller) (world : World) whe
     -- an operand has the value of its expression
     pub operand_comes : (e : source.Expr) → OperandClaim e
     operand_comes e = operand_from e (expr_comes e)
+
+    pub index_comes : (i : source.Expr) → IndexClaim i
+    index_comes i = index_from i (operand_comes i)
 
     -- The operands of a call have these values, which are words, as long as the locals up to theirs stay.
     abbrev pub AllHeld : List source.Expr → ℕ → Values → List ℕ → Values → Type 0

@@ -25,13 +25,13 @@ use Rattle.ckc_source.specs.Steps.{at_work, allowed, writes, with_blocks, and_mo
 use Rattle.ckc_core.specs.Code.{Expr, Local, Code, Set, Store, Function}
 use Rattle.ckc_core.specs.Meaning.{value_of, nodes, core_step, goes_by}
 use Rattle.ckc_core.specs.Meaning as C
-use Rattle.ckc_checks.specs.Compilable.{IsCompilableTarget}
+use Rattle.ckc_checks.specs.Compilable.{index_nodes, IsCompilableTarget}
 use Rattle.ckc_checks.specs.Inserted.{operand, place_at, target_count, kept_in, written, written_there, statements}
 use Rattle.ckc_inserted.proofs.Running.{machine, Runs, at, by_set, step_by}
 use Rattle.ckc_inserted.proofs.Flat.{stored_same}
 use Rattle.ckc_inserted.proofs.Values.{Agree, low_value}
 use Rattle.ckc_inserted.proofs.Bounded.{AreSmall}
-use Rattle.ckc_inserted.proofs.Exprs.{Below, written_same, place_nodes}
+use Rattle.ckc_inserted.proofs.Exprs.{Below, written_same, operand_place_nodes}
 use Rattle.ckc_inserted.proofs.Aiming.{IsAt}
 use Rattle.ckc_inserted.proofs.Relation.{Stands, Behind, SameCallers, SameWorld, SameState, Related}
 
@@ -82,7 +82,7 @@ kept_small Word n h = h
 
 -- in how many steps a value is written
 abbrev pub write_steps : source.Target → ℕ → ℕ
-write_steps (source.Memory width access p i) t = 6 + nodes (operand p t) + nodes (operand i (t + 1))
+write_steps (source.Memory width access p i) t = 6 + nodes (operand p t) + index_nodes i (nodes (operand i (t + 1)))
 write_steps target t = 4
 
 -- only a target writes
@@ -297,7 +297,7 @@ module _ (functions : List source.Function) (core : List Function) where
   writes_same s work looped ds world rest l code (source.Memory width access p i) t to is_byte e n r st h is v small b =
       let d = place_at access (operand p t) (operand i (t + 1)) in
       more_steps 1 (nodes d + nodes e + 1) (write_steps (source.Memory width access p i) t + nodes e) (at ds world (Store width d e (statements s.frame.function.locals code)) rest l)
-      (writes to n (at_work s (Rest code ∷ work))) (omega (arith, place_nodes access (operand p t) (operand i (t + 1))))
+      (writes to n (at_work s (Rest code ∷ work))) (omega (arith, operand_place_nodes access (operand p t) i (t + 1)))
       (memory_same s work looped ds world rest l code width is.0 n d e to r st is.1 (is.3 l (λ z less. refl)) v)
 
   -- The place of a target is in the temporary t.
