@@ -1,6 +1,7 @@
--- Programs that can be compiled: names exist, numbers fit, functions and expressions are small. No checked pointer to an
--- array is moved, accessed or tested in them, and no bundle stands in them; what is tested is a pointer to one element.
-use Rattle.std.specs.Prelude.{◌≡◌, ℤ, pos, ℕ, ◌+◌, ◌≤◌, ◌<◌, ◌^◌, max, Bool, true, false, IsTrue, List, [], ◌∷◌, length, slice_get, sum_by, Option, Some, None, All, IfSome}
+-- Programs that can be compiled: names exist, numbers fit, functions and expressions are small. What is
+-- accessed by its range is a named array, or one that is moved, and what is tested is a pointer to one element. No access
+-- goes through a pointer to a null-terminated array, and no bundle stands in them.
+use Rattle.std.specs.Prelude.{◌≡◌, ℤ, pos, ℕ, ◌+◌, ◌≤◌, ◌<◌, ◌^◌, ◌==◌, if◌then◌else◌, max, Bool, true, false, IsTrue, List, [], ◌∷◌, length, slice_get, sum_by, Option, Some, None, All, IfSome}
 use Rattle.ckc_base.specs.Memory.{data_start}
 use Rattle.ckc_core.specs.WellFormed.{IsPlace}
 use Rattle.ckc_source.specs.declared.expr.Access.{Access}
@@ -38,10 +39,23 @@ depth (Tested size form at p k) = 1 + max (depth p) (depth k)
 depth (Trusted to form p k) = 1 + max (depth p) (depth k)
 depth _ = 1
 
--- how many nodes an access counts for, beside its pointer and its index
-abbrev pub access_nodes : Through → ℕ
-access_nodes Named = 1
-access_nodes _ = 2
+-- how many nodes an access counts for that is judged by the range of its pointer: the first element needs no arithmetic
+abbrev pub element_nodes : Expr → ℕ
+element_nodes (Number n) = if n == 0 then 4 else 6
+element_nodes _ = 6
+
+-- how many nodes an access at an index counts for, beside its pointer and its index
+abbrev pub access_nodes : Through → Expr → ℕ
+access_nodes Named i = 1
+access_nodes Raw i = 2
+access_nodes One i = 2
+access_nodes Arrays i = element_nodes i
+access_nodes Terminated i = element_nodes i
+
+-- how many nodes pointer arithmetic counts for, by whether it is checked
+abbrev pub shift_nodes : Bool → ℕ
+shift_nodes true = 3
+shift_nodes false = 1
 
 -- an index counts for nothing where it is a number
 abbrev pub index_nodes : Expr → ℕ → ℕ
@@ -50,11 +64,11 @@ index_nodes i count = count
 
 -- how many nodes an expression has
 abbrev pub expr_nodes : Expr → ℕ
-expr_nodes (Load width access p i) = access_nodes access.through + expr_nodes p + index_nodes i (expr_nodes i)
-expr_nodes (Member to count access p i) = access_nodes access.through + expr_nodes p + index_nodes i (expr_nodes i)
-expr_nodes (Address bytes access p i) = access_nodes access.through + expr_nodes p + index_nodes i (expr_nodes i)
-expr_nodes (Moved shift p i) = 1 + expr_nodes p + expr_nodes i
-expr_nodes (Added shift i p) = 1 + expr_nodes i + expr_nodes p
+expr_nodes (Load width access p i) = access_nodes access.through i + expr_nodes p + index_nodes i (expr_nodes i)
+expr_nodes (Member to count access p i) = access_nodes access.through i + expr_nodes p + index_nodes i (expr_nodes i)
+expr_nodes (Address bytes access p i) = access_nodes access.through i + expr_nodes p + index_nodes i (expr_nodes i)
+expr_nodes (Moved shift p i) = shift_nodes shift.checked + expr_nodes p + expr_nodes i
+expr_nodes (Added shift i p) = shift_nodes shift.checked + expr_nodes i + expr_nodes p
 expr_nodes (Binary operation is_signed at a b) = 1 + expr_nodes a + expr_nodes b
 expr_nodes (And a b) = 1 + expr_nodes a + expr_nodes b
 expr_nodes (Or a b) = 1 + expr_nodes a + expr_nodes b
@@ -70,7 +84,7 @@ exprs_nodes [] = 0
 exprs_nodes (e ∷ es) = expr_nodes e + exprs_nodes es
 
 abbrev pub target_nodes : Target → ℕ
-target_nodes (Memory width access p i) = access_nodes access.through + expr_nodes p + index_nodes i (expr_nodes i)
+target_nodes (Memory width access p i) = access_nodes access.through i + expr_nodes p + index_nodes i (expr_nodes i)
 target_nodes _ = 0
 
 abbrev pub right_nodes : Right → ℕ
@@ -113,20 +127,32 @@ abbrev pub IsZero : Expr → Type 0
 IsZero (Number n) = n ≡ 0
 IsZero _ = ⊥
 
--- the ways to judge an access; `_Ptr` has one element
-abbrev pub IsJudged : Through → Expr → Type 0
-IsJudged Named i = Unit {0}
-IsJudged Raw i = Unit {0}
-IsJudged One i = IsZero i
-IsJudged Arrays i = ⊥
-IsJudged Terminated i = ⊥
+-- a pointer of which the range is tested: a named array, or one that is moved
+abbrev pub IsRanged : Expr → Type 0
+IsRanged (Array at bytes) = at + bytes < 2 ^ 32
+IsRanged (Moved shift p i) = IsTrue shift.checked × IsRanged p
+IsRanged (Added shift i p) = IsTrue shift.checked × IsRanged p
+IsRanged _ = ⊥
 
--- an access at an index
-abbrev pub IsAccess : Access → Expr → Type 0
-IsAccess access i = IsPlace access.at × (access.size < 2 ^ 32) × (access.offset < 2 ^ 32) × IsJudged access.through i
+-- the ways to judge an access to elements of a size, through a pointer at an index; `_Ptr` has one element
+abbrev pub IsJudged : Through → ℕ → Expr → Expr → Type 0
+IsJudged Named size p i = Unit {0}
+IsJudged Raw size p i = Unit {0}
+IsJudged One size p i = IsZero i
+IsJudged Arrays size p i = (1 ≤ size) × (size < 2 ^ 31) × IsRanged p
+IsJudged Terminated size p i = ⊥
+
+-- an access through a pointer at an index
+abbrev pub IsAccess : Access → Expr → Expr → Type 0
+IsAccess access p i =
+    IsPlace access.at × (access.size < 2 ^ 32) × (access.offset < 2 ^ 32) × IsJudged access.through access.size p i
+
+abbrev pub IsChecked : Bool → Shift → Type 0
+IsChecked false shift = Unit {0}
+IsChecked true shift = IsPlace shift.at × (1 ≤ shift.size) × (shift.size < 2 ^ 31)
 
 abbrev pub IsShift : Shift → Type 0
-IsShift shift = (shift.checked ≡ false) × (shift.size < 2 ^ 32)
+IsShift shift = (shift.size < 2 ^ 32) × IsChecked shift.checked shift
 
 abbrev pub IsOne : Expr → Type 0
 IsOne (Number n) = n ≡ 1
@@ -161,11 +187,11 @@ IsCompilableExpr locals (Local x) = x < locals
 IsCompilableExpr locals (Limited x limits) = x < locals
 IsCompilableExpr locals (Array at bytes) = at < 2 ^ 32
 IsCompilableExpr locals (Load width access p i) =
-    IsAccess access i × IsCompilableExpr locals p × IsCompilableExpr locals i
+    IsAccess access p i × IsCompilableExpr locals p × IsCompilableExpr locals i
 IsCompilableExpr locals (Member to count access p i) =
-    IsAccess access i × IsCompilableExpr locals p × IsCompilableExpr locals i
+    IsAccess access p i × IsCompilableExpr locals p × IsCompilableExpr locals i
 IsCompilableExpr locals (Address bytes access p i) =
-    IsAccess access i × IsCompilableExpr locals p × IsCompilableExpr locals i
+    IsAccess access p i × IsCompilableExpr locals p × IsCompilableExpr locals i
 IsCompilableExpr locals (Moved shift p i) = IsShift shift × IsCompilableExpr locals p × IsCompilableExpr locals i
 IsCompilableExpr locals (Added shift i p) = IsShift shift × IsCompilableExpr locals i × IsCompilableExpr locals p
 IsCompilableExpr locals (Binary operation is_signed at a b) =
@@ -187,7 +213,7 @@ abbrev pub IsCompilableTarget : ℕ → Target → Type 0
 IsCompilableTarget locals Nothing = Unit {0}
 IsCompilableTarget locals (Variable x width) = x < locals
 IsCompilableTarget locals (Memory width access p i) =
-    IsAccess access i × IsCompilablePart locals p × IsCompilablePart locals i
+    IsAccess access p i × IsCompilablePart locals p × IsCompilablePart locals i
 
 abbrev pub IsCompilableRight : ℕ → Right → Type 0
 IsCompilableRight locals (Value e) = IsCompilablePart locals e

@@ -5,6 +5,9 @@ pub mod Bounded
 pub mod Single
 pub mod Exact
 pub mod Values
+pub mod Ranges
+pub mod Counts
+pub mod Coming
 pub mod Exprs
 pub mod Aiming
 pub mod Relation

@@ -1,8 +1,8 @@
 //! Expressions of programs that can be compiled.
-ghost use Rattle.std.specs.Prelude.{◌↔◌, ◌<◌, ◌^◌, IsTrue};
+ghost use Rattle.std.specs.Prelude.{◌↔◌, ◌+◌, ◌≤◌, ◌<◌, ◌^◌, IsTrue};
 ghost use Rattle.ckc_core.specs.WellFormed.{IsPlace};
 ghost use Rattle.ckc_source.specs.Code.{expr_of, target_of, right_of};
-ghost use Rattle.ckc_checks.specs.Compilable.{IsOwn, IsNone, IsZero, IsJudged, IsAccess, IsShift, IsOne, IsFixedEnd, AreSingle, IsSingleCount, IsSingle, IsCompilableExpr, IsCompilablePart, IsCompilableTarget, IsCompilableRight, IsCompilableKept};
+ghost use Rattle.ckc_checks.specs.Compilable.{IsOwn, IsNone, IsZero, IsRanged, IsJudged, IsAccess, IsChecked, IsShift, IsOne, IsFixedEnd, AreSingle, IsSingleCount, IsSingle, IsCompilableExpr, IsCompilablePart, IsCompilableTarget, IsCompilableRight, IsCompilableKept};
 
 use crate::counts::depth;
 use ckc_base::Pos;
@@ -141,30 +141,81 @@ fn is_single(size: u32, e: &ExprTree) -> bool
     }
 }
 
-/// Whether an access at an index is judged in a way that can be compiled.
-fn is_judged(through: Through, i: &ExprTree) -> bool
-    ensures { IsTrue result ↔ IsJudged through (expr_of i.now) }
+/// Whether a sum is a word.
+fn is_sum(a: u32, b: u32) -> bool
+    ensures { IsTrue result ↔ (a + b < 2 ^ 32) }
+{
+    u64::from(a) + u64::from(b) <= 0xFFFF_FFFF
+}
+
+/// Whether the range of a pointer can be tested.
+fn is_ranged(p: &ExprTree) -> bool
+    ensures { IsTrue result ↔ IsRanged (expr_of p.now) }
+{
+    match p {
+        ExprTree::Array(at, bytes) => is_sum(*at, *bytes),
+        ExprTree::Moved(shift, p, _) | ExprTree::Added(shift, _, p) => {
+            shift.checked && is_ranged(p.get())
+        }
+        ExprTree::Number(_)
+        | ExprTree::Local(_)
+        | ExprTree::Limited(_, _)
+        | ExprTree::Load(_, _, _, _)
+        | ExprTree::Member(_, _, _, _, _)
+        | ExprTree::Address(_, _, _, _)
+        | ExprTree::Binary(_, _, _, _, _)
+        | ExprTree::And(_, _)
+        | ExprTree::Or(_, _)
+        | ExprTree::Choice(_, _, _)
+        | ExprTree::Narrow(_)
+        | ExprTree::Bare(_)
+        | ExprTree::Tested(_, _, _, _, _)
+        | ExprTree::Trusted(_, _, _, _) => false,
+    }
+}
+
+/// Whether elements have a size of which the places can be tested.
+fn is_size(size: u32) -> bool
+    ensures { IsTrue result ↔ ((1 ≤ size) × (size < 2 ^ 31)) }
+{
+    1 <= size && size < 0x8000_0000
+}
+
+/// Whether an access to elements of a size is judged in a way that can be compiled.
+fn is_judged(through: Through, size: u32, p: &ExprTree, i: &ExprTree) -> bool
+    ensures { IsTrue result ↔ IsJudged through size (expr_of p.now) (expr_of i.now) }
 {
     match through {
         Through::Named | Through::Raw => true,
         Through::One => is_zero(i),
-        Through::Array | Through::Terminated => false,
+        Through::Array => is_size(size) && is_ranged(p),
+        Through::Terminated => false,
     }
 }
 
-fn is_access(access: Access, i: &ExprTree) -> bool
-    ensures { IsTrue result ↔ IsAccess access (expr_of i.now) }
+fn is_access(access: Access, p: &ExprTree, i: &ExprTree) -> bool
+    ensures { IsTrue result ↔ IsAccess access (expr_of p.now) (expr_of i.now) }
 {
     is_place(access.at)
         && is_word(access.size)
         && is_word(access.offset)
-        && is_judged(access.through, i)
+        && is_judged(access.through, access.size, p, i)
+}
+
+/// Whether pointer arithmetic that is checked, where the flag says so, can be tested.
+fn is_checked(checked: bool, shift: Shift) -> bool
+    ensures { IsTrue result ↔ IsChecked checked shift }
+{
+    match checked {
+        true => is_place(shift.at) && is_size(shift.size),
+        false => true,
+    }
 }
 
 fn is_shift(shift: Shift) -> bool
     ensures { IsTrue result ↔ IsShift shift }
 {
-    !shift.checked && is_word(shift.size)
+    is_word(shift.size) && is_checked(shift.checked, shift)
 }
 
 /// Whether an expression can be compiled, over so many locals.
@@ -177,7 +228,9 @@ fn is_expr(e: &ExprTree, locals: u32) -> bool
         ExprTree::Load(_, access, p, i)
         | ExprTree::Member(_, _, access, p, i)
         | ExprTree::Address(_, access, p, i) => {
-            is_access(*access, i.get()) && is_expr(p.get(), locals) && is_expr(i.get(), locals)
+            is_access(*access, p.get(), i.get())
+                && is_expr(p.get(), locals)
+                && is_expr(i.get(), locals)
         }
         ExprTree::Moved(shift, a, b) | ExprTree::Added(shift, a, b) => {
             is_shift(*shift) && is_expr(a.get(), locals) && is_expr(b.get(), locals)
@@ -213,7 +266,9 @@ pub fn is_target(target: &TargetTree, locals: u32) -> bool
         TargetTree::Nothing => true,
         TargetTree::Local(x, _) => *x < locals,
         TargetTree::Memory(_, access, p, i) => {
-            is_access(*access, i.get()) && is_part(p.get(), locals) && is_part(i.get(), locals)
+            is_access(*access, p.get(), i.get())
+                && is_part(p.get(), locals)
+                && is_part(i.get(), locals)
         }
     }
 }

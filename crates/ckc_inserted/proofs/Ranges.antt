@@ -1,0 +1,163 @@
+-- The tests of checked pointers to arrays: what they give in core code, and the ranges that they test.
+use Rattle.std.proofs.Common.{◌≡◌, ℕ, ◌^◌, ◌+◌, ◌≤◌, ◌<◌, ◌==◌, refl, sym, ◌∙◌, ap, arith}
+use Rattle.std.specs.Prelude.{ℤ, pos, ◌-ℤ◌, ◌*ℤ◌, nat_lt, nat_le, bit_and, not, ◌&&◌, Bool, true, false, if◌then◌else◌, Option, Some, None, Result, Ok, Err}
+use Rattle.std.proofs.lemmas.Bool.Decides.{nat_tests}
+use Rattle.ckc_base.specs.declared.arithmetic.BinOp.TheVariants as binary
+use Rattle.ckc_base.specs.declared.runtime_checks.Check.TheVariants as check
+use Rattle.ckc_base.specs.Products.{high_product}
+use Rattle.ckc_base.specs.Words.{flag, applied}
+use Rattle.ckc_base.specs.Memory.{Memory}
+use Rattle.ckc_base.specs.Activations.{Values}
+use Rattle.ckc_source.specs.declared.expr.Integer.{Integer}
+use Rattle.ckc_source.specs.declared.expr.Shift.{Shift}
+use Rattle.ckc_source.specs.declared.outcome.Range.{Range}
+use Rattle.ckc_source.specs.declared.outcome.Range.TheVariants.{Without, Within}
+use Rattle.ckc_source.specs.declared.outcome.Value.{Value}
+use Rattle.ckc_source.specs.declared.outcome.Halt.{Halt}
+use Rattle.ckc_source.specs.Code as source
+use Rattle.ckc_source.specs.Words.{exact, as_address, elements_behind}
+use Rattle.ckc_source.specs.Eval.{Store, given, given_both, stops, plain, at_address, moves, moves_checked, moved_exactly, evaluated}
+use Rattle.ckc_core.specs.Code.{Expr, Local}
+use Rattle.ckc_core.specs.Meaning.{value_of, both}
+use Rattle.ckc_checks.specs.Compilable.{IsRanged}
+use Rattle.ckc_checks.specs.Inserted.{shifted, reads_signed, exact_test, range_end, range_test}
+use Rattle.ckc_inserted.proofs.Exact.{carries, borrows, exact_ahead, exact_back}
+use Rattle.ckc_inserted.proofs.Values.{Agree, shifted_value}
+
+pub flag_zero : (b : Bool) → (flag b == 0) ≡ not b
+flag_zero true = refl
+flag_zero false = refl
+
+-- ---- exact places
+
+-- an address that is moved by so many elements, in words and exactly
+abbrev pub moved_word : Bool → (size k v : ℕ) → ℕ
+moved_word back size k v = applied (if back then binary.Sub else binary.Add) v (applied binary.Mul size k)
+
+abbrev pub moved_place : Bool → ℕ → ℤ → ℕ → ℤ
+moved_place back size z v = if back then pos v -ℤ (pos size *ℤ z) else elements_behind v size z
+
+abbrev pub cancels : Bool → Integer → (size k v : ℕ) → Bool
+cancels back form size k v =
+    if back then borrows (high_product (reads_signed form) size k) v (moved_word true size k v)
+    else carries (high_product (reads_signed form) size k) v (moved_word false size k v)
+
+pub exact_place : (back : Bool) (form : Integer) (size k v : ℕ) → 1 ≤ size → size < 2 ^ 31 → k < 2 ^ 32 → v < 2 ^ 32
+    → as_address (moved_place back size (exact form k) v) ≡ (if cancels back form size k v then Some (moved_word back size k v) else None)
+exact_place true form size k v one small h j = exact_back form size k v one small h j
+exact_place false form size k v one small h j = exact_ahead form size k v one small h j
+
+module _ (l : Values) (memory : Memory) where
+  abbrev value : Expr → Option ℕ
+  value e = value_of l memory e
+
+  pub exact_value : (back : Bool) (form : Integer) (size k v u : ℕ) (i : Expr) → l u ≡ Some v → value i ≡ Some k → v < 2 ^ 32 → k < 2 ^ 32
+      → value (exact_test back (reads_signed form) size (Local u) i) ≡ Some (flag (cancels back form size k v))
+  exact_value true form size k v u i h j small few =
+      let there = value (shifted true size (Local u) i) in
+      let high = high_product (reads_signed form) in
+      ap (λ o. both (applied binary.Eq) (both (applied binary.Add) (both high (Some size) o) (both (applied binary.LtU) (l u) there)) (Some 0)) j
+      ∙ ap (λ o. both (applied binary.Eq) (both (applied binary.Add) (Some (high size k)) (both (applied binary.LtU) o there)) (Some 0)) h
+      ∙ ap (λ o. both (applied binary.Eq) (both (applied binary.Add) (Some (high size k)) (both (applied binary.LtU) (Some v) o)) (Some 0))
+      (shifted_value l memory true size (Local u) i v k h j small few)
+  exact_value false form size k v u i h j small few =
+      let there = value (shifted false size (Local u) i) in
+      let high = high_product (reads_signed form) in
+      ap (λ o. both (applied binary.Eq) (both (applied binary.Add) (both high (Some size) o) (both (applied binary.LtU) there (l u))) (Some 0)) j
+      ∙ ap (λ o. both (applied binary.Eq) (both (applied binary.Add) (Some (high size k)) (both (applied binary.LtU) there o)) (Some 0)) h
+      ∙ ap (λ o. both (applied binary.Eq) (both (applied binary.Add) (Some (high size k)) (both (applied binary.LtU) o (Some v))) (Some 0))
+      (shifted_value l memory false size (Local u) i v k h j small few)
+
+-- ---- ranges
+
+le_is : (a b : ℕ) → nat_le a b ≡ not (nat_lt b a)
+le_is a b = by (nat_lt b a) refl
+  where
+    by : (more : Bool) → nat_lt b a ≡ more → nat_le a b ≡ not more
+    by true e = grind (arith, nat_tests)
+    by false e = grind (arith, nat_tests)
+
+-- both tests, as words
+pub both_tests : (a b : Bool) → (bit_and (flag a) (flag b) == 0) ≡ not (a && b)
+both_tests true true = refl
+both_tests true false = refl
+both_tests false true = refl
+both_tests false false = refl
+
+at_most_word : (a b : ℕ) → applied binary.Eq (applied binary.LtU b a) 0 ≡ flag (nat_le a b)
+at_most_word a b = ap flag (flag_zero (nat_lt b a) ∙ sym (le_is a b))
+
+-- an address is below an upper bound, or at it where that counts too
+abbrev pub is_under : Bool → ℕ → ℕ → Bool
+is_under last q high = if last then nat_le q high else nat_lt q high
+
+pub range_value : (l : Values) (memory : Memory) (last : Bool) (p : source.Expr) (t q low high : ℕ) → l t ≡ Some q
+    → value_of l memory (range_end false p) ≡ Some low → value_of l memory (range_end true p) ≡ Some high
+    → value_of l memory (range_test last p (Local t)) ≡ Some (bit_and (flag (nat_le low q)) (flag (is_under last q high)))
+range_value l memory false p t q low high h i j =
+    let bottom = value_of l memory (range_end false p) in
+    let top = value_of l memory (range_end true p) in
+    ap (λ o. both (applied binary.And) (both (applied binary.Eq) (both (applied binary.LtU) o bottom) (Some 0)) (both (applied binary.LtU) o top)) h
+    ∙ ap (λ o. both (applied binary.And) (both (applied binary.Eq) (both (applied binary.LtU) (Some q) o) (Some 0)) (both (applied binary.LtU) (Some q) top)) i
+    ∙ ap (λ o. both (applied binary.And) (Some (applied binary.Eq (applied binary.LtU q low) 0)) (both (applied binary.LtU) (Some q) o)) j
+    ∙ ap (λ m. Some (bit_and m (flag (nat_lt q high)))) (at_most_word low q)
+range_value l memory true p t q low high h i j =
+    let bottom = value_of l memory (range_end false p) in
+    let top = value_of l memory (range_end true p) in
+    ap (λ o. both (applied binary.And) (both (applied binary.Eq) (both (applied binary.LtU) o bottom) (Some 0)) (both (applied binary.Eq) (both (applied binary.LtU) top o) (Some 0))) h
+    ∙ ap (λ o. both (applied binary.And) (both (applied binary.Eq) (both (applied binary.LtU) (Some q) o) (Some 0)) (both (applied binary.Eq) (both (applied binary.LtU) top (Some q)) (Some 0))) i
+    ∙ ap (λ o. both (applied binary.And) (Some (applied binary.Eq (applied binary.LtU q low) 0)) (both (applied binary.Eq) (both (applied binary.LtU) o (Some q)) (Some 0))) j
+    ∙ ap (λ m. Some (bit_and m (applied binary.Eq (applied binary.LtU high q) 0))) (at_most_word low q)
+    ∙ ap (λ m. Some (bit_and (flag (nat_le low q)) m)) (at_most_word q high)
+
+abbrev range_in : Result Value Halt → Range
+range_in (Ok v) = v.range
+range_in (Err h) = Without
+
+-- what is moved has the range of what it was, which is not null
+moved_range : (shift : Shift) (r q : Result Value Halt) (x : Value) → shift.checked ≡ true → given_both r q (λ v k. moves shift v k.number) ≡ Ok x
+    → (v : Value) × (r ≡ Ok v) × ((v.number == 0) ≡ false) × (x.range ≡ v.range)
+moved_range shift (Ok v) (Ok k) x checked e = let known = from shift.checked checked e in (v, refl, known.0, known.1)
+  where
+    there : (o : Option ℕ) → given (at_address o shift.at) (λ a. Ok (record { number = a; range = v.range })) ≡ Ok x → x.range ≡ v.range
+    there (Some a) e = sym (ap range_in e)
+    there None e = absurd cc
+
+    by : (zero : Bool) → (v.number == 0) ≡ zero
+        → (if zero then stops check.Arith shift.at
+        else given (at_address (as_address (moved_exactly shift v.number (exact shift.index k.number))) shift.at) (λ a. Ok (record { number = a; range = v.range }))) ≡ Ok x
+        → ((v.number == 0) ≡ false) × (x.range ≡ v.range)
+    by true z e = absurd cc
+    by false z e = (z, there (as_address (moved_exactly shift v.number (exact shift.index k.number))) e)
+
+    from : (c : Bool) → c ≡ true
+        → (if c then moves_checked shift v k.number else plain (applied (if shift.back then binary.Sub else binary.Add) v.number (applied binary.Mul shift.size k.number))) ≡ Ok x
+        → ((v.number == 0) ≡ false) × (x.range ≡ v.range)
+    from true c e = by (v.number == 0) refl e
+    from false c e = absurd cc
+moved_range shift (Ok v) (Err h) x checked e = absurd cc
+moved_range shift (Err h) q x checked e = absurd cc
+
+turned : (r q : Result Value Halt) (f : Value → Value → Result Value Halt) (x : Value) → given_both q r (λ k v. f v k) ≡ Ok x → given_both r q f ≡ Ok x
+turned (Ok v) (Ok k) f x e = e
+turned (Ok v) (Err h) f x e = absurd cc
+turned (Err h) (Ok k) f x e = absurd cc
+turned (Err h) (Err i) f x e = absurd cc
+
+-- The ends of the range of a value that is not null are these, wherever the locals are those of the source.
+abbrev pub HasRange : ℕ → Store → Memory → source.Expr → Value → Type 0
+HasRange n s memory p x =
+    (low high : ℕ) × (x.range ≡ Within low high) × ((l : Values) → Agree n s.locals l → value_of l memory (range_end false p) ≡ Some low)
+    × ((l : Values) → Agree n s.locals l → value_of l memory (range_end true p) ≡ Some high)
+
+pub range_known : (n : ℕ) (s : Store) (memory : Memory) (p : source.Expr) (x : Value) → IsRanged p → evaluated s p ≡ Ok x → (x.number == 0) ≡ false → HasRange n s memory p x
+range_known n s memory (source.Array at bytes) x h e z = (at, at + bytes, sym (ap range_in e), (λ l agree. refl), (λ l agree. refl))
+range_known n s memory (source.Moved shift p i) x h e z =
+    let m = moved_range shift (evaluated s p) (evaluated s i) x h.0 e in
+    let r = range_known n s memory p m.0 h.1 m.1 m.2 in
+    (r.0, r.1, m.3 ∙ r.2, r.3, r.4)
+range_known n s memory (source.Added shift i p) x h e z =
+    let m = moved_range shift (evaluated s p) (evaluated s i) x h.0 (turned (evaluated s p) (evaluated s i) (λ v k. moves shift v k.number) x e) in
+    let r = range_known n s memory p m.0 h.1 m.1 m.2 in
+    (r.0, r.1, m.3 ∙ r.2, r.3, r.4)
+range_known n s memory p x h e z = absurd h
