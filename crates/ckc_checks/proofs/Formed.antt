@@ -1,6 +1,6 @@
 -- What is inserted names only what is there.
 use Rattle.std.proofs.Common.{◌≡◌, ℕ, zero, suc, ◌+◌, ◌-◌, ◌≤◌, ◌<◌, List, [], ◌∷◌, length, refl, sym, ◌∙◌, ap, subst, arith, lit<}
-use Rattle.std.specs.Prelude.{◌^◌, ◌==◌, Bool, true, false, if◌then◌else◌, Option, Some, None, slice_get, map, All, IfSome}
+use Rattle.std.specs.Prelude.{ℤ, pos, negsuc, ◌^◌, ◌==◌, Bool, true, false, if◌then◌else◌, Option, Some, None, slice_get, map, All, IfSome}
 use Rattle.std.specs.Option.{option_map}
 use Rattle.std.proofs.lemmas.Option.{slice_get-map}
 use Rattle.std.proofs.lemmas.List.Elements.{All-nil, All-cons, All-head, All-tail, All-map, All-weaker}
@@ -10,7 +10,11 @@ use Rattle.ckc_base.specs.declared.places.Pos.{Pos}
 use Rattle.ckc_base.specs.declared.runtime_checks.Check.TheVariants as check
 use Rattle.ckc_base.specs.declared.arithmetic.BinOp.TheVariants as binary
 use Rattle.ckc_source.specs.declared.expr.Access.{Access}
+use Rattle.ckc_source.specs.declared.expr.Base.{Base}
+use Rattle.ckc_source.specs.declared.expr.Base.TheVariants as bases
+use Rattle.ckc_source.specs.declared.expr.End.{End as LimitsEnd}
 use Rattle.ckc_source.specs.declared.expr.Shift.{Shift}
+use Rattle.ckc_source.specs.declared.expr.Variable.{Variable}
 use Rattle.ckc_source.specs.declared.expr.Through.{Through}
 use Rattle.ckc_source.specs.declared.expr.Through.TheVariants.{Named, Raw, One, Array, Terminated}
 use Rattle.ckc_source.specs.declared.expr.Operation.{Operation}
@@ -18,12 +22,14 @@ use Rattle.ckc_source.specs.declared.expr.Operation.TheVariants.{Le, Gt, Ge}
 use Rattle.ckc_source.specs.declared.stmt.Kept.{Kept}
 use Rattle.ckc_source.specs.declared.stmt.Kept.TheVariants as kept
 use Rattle.ckc_source.specs.Code as source
+use Rattle.std.proofs.lemmas.Int.{ints}
+use Rattle.ckc_base.specs.Words.{word_of}
 use Rattle.ckc_source.specs.Words.{divides}
 use Rattle.ckc_core.specs.Code.{Expr, Const, Local, Load, Bin, High, Code, End, Set, Check, Function}
 use Rattle.ckc_core.specs.WellFormed.{IsExprOver, IsCodeOver, IsFunctionOver, IsWellFormed, HasParams, IsPlace}
 use Rattle.ckc_checks.specs.Compilable as form
-use Rattle.ckc_checks.specs.Compilable.{IsJudged, IsRanged, IsAccess, IsChecked, IsCompilableExpr, IsCompilablePart, IsCompilableTarget, IsCompilableRight, IsCompilableKept, IsCompilableCode, IsCompilableFunction, IsCompilable}
-use Rattle.ckc_checks.specs.Inserted.{is_direct, operated, low_byte, as_truth, is_zero, scaled, shifted, at_offset, element_of, place_at, held, put_if, room_if, keeps_index, is_bounded, reads_signed, exact_test, unless_zero, exact_code, moved_code, range_end, below_or_at, upper_test, range_test, element_code, bounded_code, judged, pointer_at, index_at, reached_code, reached_place, reached_room, direct, operand, operation_code, expr_code, operand_code, operands_code, operands, expr_room, operand_room, operands_room, is_narrow, kept_in, aim_code, target_count, written, fixed, written_there, right_assigned, target_room, aimed_room, assigned_room, result_in, result_kept, statements, room, zeroed, function_code, inserted}
+use Rattle.ckc_checks.specs.Compilable.{IsBase, IsVariable, IsSmall, IsEnd, IsJudged, IsRanged, IsAccess, IsChecked, IsCompilableExpr, IsCompilablePart, IsCompilableTarget, IsCompilableRight, IsCompilableKept, IsCompilableCode, IsCompilableFunction, IsCompilable}
+use Rattle.ckc_checks.specs.Inserted.{is_direct, operated, low_byte, as_truth, is_zero, scaled, shifted, at_offset, element_of, place_at, held, put_if, room_if, keeps_index, is_bounded, reads_signed, exact_test, unless_zero, exact_code, moved_code, base_at, amount_at, end_at, range_end, below_or_at, upper_test, range_test, element_code, bounded_code, judged, pointer_at, index_at, reached_code, reached_place, reached_room, direct, operand, operation_code, expr_code, operand_code, operands_code, operands, expr_room, operand_room, operands_room, is_narrow, kept_in, aim_code, target_count, written, fixed, written_there, right_assigned, target_room, aimed_room, assigned_room, result_in, result_kept, statements, room, zeroed, function_code, inserted}
 
 -- an expression needs a temporary for its value
 pub expr_room_some : (e : source.Expr) → 1 ≤ expr_room e
@@ -41,6 +47,10 @@ checked_place shift false h e = absurd cc
 pub length-operands : (es : List source.Expr) (t : ℕ) → length (operands es t) ≡ length es
 length-operands [] t = refl
 length-operands (e ∷ es) t = ap suc (length-operands es (t + 1))
+
+small_word : (add : ℤ) → IsSmall add → word_of add < 2 ^ 32
+small_word (pos n) h = let less : n < 2 ^ 31 = grind (arith, ints) in omega (arith, ints)
+small_word (negsuc n) h = omega (arith, ints)
 
 module _ (few locals : ℕ) (more : few ≤ locals) where
   operated_over : (o : Operation) (s : Bool) (a b : Expr) → IsExprOver locals a → IsExprOver locals b → IsExprOver locals (operated o s a b)
@@ -79,7 +89,7 @@ module _ (few locals : ℕ) (more : few ≤ locals) where
   element_over Array size a i h x y = x
   element_over Terminated size a i h x y = x
 
-  place_over : (access : Access) (pointer index : source.Expr) (a i : Expr) → IsAccess access pointer index → IsExprOver locals a → IsExprOver locals i → IsExprOver locals (place_at access a i)
+  place_over : (access : Access) (pointer index : source.Expr) (a i : Expr) → IsAccess few access pointer index → IsExprOver locals a → IsExprOver locals i → IsExprOver locals (place_at access a i)
   place_over access pointer index a i h x y =
       at_offset_over access.offset (element_of access.through access.size a i) h.2 (element_over access.through access.size a i h.1 x y)
 
@@ -113,7 +123,7 @@ module _ (few locals : ℕ) (more : few ≤ locals) where
   held_over true e t h fits = omega (arith, expr_room_some e)
   held_over false e t h fits = operand_over e t h fits
 
-  reached_place_over : (access : Access) (p i : source.Expr) (t : ℕ) → IsAccess access p i → IsCompilableExpr few p → IsCompilableExpr few i
+  reached_place_over : (access : Access) (p i : source.Expr) (t : ℕ) → IsAccess few access p i → IsCompilableExpr few p → IsCompilableExpr few i
       → t + reached_room (is_bounded access.through) p i (expr_room p) (expr_room i) ≤ locals → IsExprOver locals (reached_place access p i t)
   reached_place_over access p i t h hp hi fits =
       let checked = is_bounded access.through in
@@ -125,7 +135,21 @@ module _ (few locals : ℕ) (more : few ≤ locals) where
   exact_over true signs size a i h x y = (((h, y), (x, shifted_over true size a i h x y)), lit< tt)
   exact_over false signs size a i h x y = (((h, y), (shifted_over false size a i h x y, x)), lit< tt)
 
-  range_end_over : (upper : Bool) (p : source.Expr) → IsRanged p → IsCompilableExpr few p → IsExprOver locals (range_end upper p)
+  base_over : (x : ℕ) (b : Base) → x < few → IsBase few b → IsExprOver locals (base_at x b)
+  base_over x bases.Own h k = omega arith
+  base_over x (bases.Local y) h k = omega (arith, k)
+  base_over x (bases.Fixed a) h k = k
+
+  amount_over : (variable : Option Variable) (add : ℤ) → IsVariable few variable → IsSmall add → IsExprOver locals (amount_at variable add)
+  amount_over None add h small = small_word add small
+  amount_over (Some v) add h small = at_offset_over (word_of add) (Local v.local) (small_word add small) (omega (arith, h))
+
+  end_over : (x size : ℕ) (e : LimitsEnd) → x < few → size < 2 ^ 32 → IsEnd few e → IsExprOver locals (end_at x size e)
+  end_over x size e h k is = shifted_over false size (base_at x e.base) (amount_at e.variable e.add) k (base_over x e.base h is.0) (amount_over e.variable e.add is.1 is.2)
+
+  range_end_over : (upper : Bool) (p : source.Expr) → IsRanged few p → IsCompilableExpr few p → IsExprOver locals (range_end upper p)
+  range_end_over true (source.Limited x limits) h k = end_over x limits.to.size limits.upper k h.0 h.2
+  range_end_over false (source.Limited x limits) h k = end_over x limits.to.size limits.lower k h.0 h.1
   range_end_over true (source.Array at bytes) h k = h
   range_end_over false (source.Array at bytes) h k = k
   range_end_over upper (source.Moved shift p i) h k = range_end_over upper p h.1 k.1
@@ -136,7 +160,7 @@ module _ (few locals : ℕ) (more : few ≤ locals) where
   upper_over true a high x y = ((y, x), lit< tt)
   upper_over false a high x y = (x, y)
 
-  range_over : (last : Bool) (p : source.Expr) (a : Expr) → IsRanged p → IsCompilableExpr few p → IsExprOver locals a → IsExprOver locals (range_test last p a)
+  range_over : (last : Bool) (p : source.Expr) (a : Expr) → IsRanged few p → IsCompilableExpr few p → IsExprOver locals a → IsExprOver locals (range_test last p a)
   range_over last p a h k x =
       (((x, range_end_over false p h k), lit< tt), upper_over last a (range_end true p) x (range_end_over true p h k))
 
@@ -183,7 +207,7 @@ module _ (few locals : ℕ) (more : few ≤ locals) where
     by_zero true x y h k = h
     by_zero false x y h k = k
 
-    bounded_over : (last : Bool) (access : Access) (p : source.Expr) (i : Expr) (t : ℕ) (rest : Code) → IsPlace access.at → access.size < 2 ^ 32 → IsRanged p → IsCompilableExpr few p
+    bounded_over : (last : Bool) (access : Access) (p : source.Expr) (i : Expr) (t : ℕ) (rest : Code) → IsPlace access.at → access.size < 2 ^ 32 → IsRanged few p → IsCompilableExpr few p
         → t < locals → IsExprOver locals i → Over rest → Over (bounded_code last access p i t rest)
     bounded_over last access p i t rest at size ranged h below y over =
         let within : Over (Check check.Bounds access.at (range_test last p (Local t)) rest) = (at, range_over last p (Local t) ranged h below, over) in
@@ -191,15 +215,15 @@ module _ (few locals : ℕ) (more : few ≤ locals) where
         (below, shifted_over false access.size (Local t) i size below y, within) in
         (at, below, by_zero (is_zero i) _ _ within (at, exact_over false (reads_signed access.index) access.size (Local t) i size below y, there))
 
-    judged_over : (through : Through) (access : Access) (p index : source.Expr) (a i : Expr) (t : ℕ) (rest : Code) → IsPlace access.at → access.size < 2 ^ 32 → IsJudged through access.size p index
+    judged_over : (through : Through) (access : Access) (p index : source.Expr) (a i : Expr) (t : ℕ) (rest : Code) → IsPlace access.at → access.size < 2 ^ 32 → IsJudged few through access.size p index
         → IsCompilableExpr few p → t < locals → IsExprOver locals a → IsExprOver locals i → Over rest → Over (judged through access p a i t rest)
     judged_over Named access p index a i t rest at size h k below x y over = over
     judged_over Raw access p index a i t rest at size h k below x y over = over
     judged_over One access p index a i t rest at size h k below x y over = (at, x, over)
     judged_over Array access p index a i t rest at size h k below x y over = bounded_over false access p i t rest at size h.2 k below y over
-    judged_over Terminated access p index a i t rest at size h k below x y over = absurd h
+    judged_over Terminated access p index a i t rest at size h k below x y over = bounded_over true access p i t rest at size h.2 k below y over
 
-    reached_over : (access : Access) (p i : source.Expr) (t : ℕ) (rest : Code) → IsAccess access p i → IsCompilableExpr few p → IsCompilableExpr few i
+    reached_over : (access : Access) (p i : source.Expr) (t : ℕ) (rest : Code) → IsAccess few access p i → IsCompilableExpr few p → IsCompilableExpr few i
         → ((rest : Code) → t + expr_room p ≤ locals → Over rest → Over (expr_code p t rest))
         → ((rest : Code) → t + 1 + expr_room i ≤ locals → Over rest → Over (expr_code i (t + 1) rest))
         → t + reached_room (is_bounded access.through) p i (expr_room p) (expr_room i) ≤ locals → Over rest

@@ -1,7 +1,7 @@
 -- Programs that can be compiled: names exist, numbers fit, functions and expressions are small. What is
--- accessed by its range is a named array, or one that is moved, and what is tested is a pointer to one element. No access
--- goes through a pointer to a null-terminated array, and no bundle stands in them.
-use Rattle.std.specs.Prelude.{◌≡◌, ℤ, pos, ℕ, ◌+◌, ◌≤◌, ◌<◌, ◌^◌, ◌==◌, if◌then◌else◌, max, Bool, true, false, IsTrue, List, [], ◌∷◌, length, slice_get, sum_by, Option, Some, None, All, IfSome}
+-- accessed by its range is a local with limits, a named array or one of these moved, and what is tested is a pointer to
+-- one element. Nothing is written through a pointer to a null-terminated array, and no bundle stands in them.
+use Rattle.std.specs.Prelude.{◌≡◌, ℤ, pos, neg_ℤ, ◌≤ℤ◌, ◌<ℤ◌, ℕ, ◌+◌, ◌≤◌, ◌<◌, ◌^◌, ◌==◌, if◌then◌else◌, max, Bool, true, false, IsTrue, List, [], ◌∷◌, length, slice_get, sum_by, Option, Some, None, All, IfSome}
 use Rattle.ckc_base.specs.Memory.{data_start}
 use Rattle.ckc_core.specs.WellFormed.{IsPlace}
 use Rattle.ckc_source.specs.declared.expr.Access.{Access}
@@ -127,25 +127,50 @@ abbrev pub IsZero : Expr → Type 0
 IsZero (Number n) = n ≡ 0
 IsZero _ = ⊥
 
--- a pointer of which the range is tested: a named array, or one that is moved
-abbrev pub IsRanged : Expr → Type 0
-IsRanged (Array at bytes) = at + bytes < 2 ^ 32
-IsRanged (Moved shift p i) = IsTrue shift.checked × IsRanged p
-IsRanged (Added shift i p) = IsTrue shift.checked × IsRanged p
-IsRanged _ = ⊥
+-- an end of limits over so many locals; its number is one of 32 bits
+abbrev pub IsBase : ℕ → Base → Type 0
+IsBase locals bases.Own = Unit {0}
+IsBase locals (bases.Local x) = x < locals
+IsBase locals (bases.Fixed a) = a < 2 ^ 32
+
+abbrev pub IsVariable : ℕ → Option IntegerLocal → Type 0
+IsVariable locals None = Unit {0}
+IsVariable locals (Some x) = x.local < locals
+
+abbrev pub IsSmall : ℤ → Type 0
+IsSmall n = (neg_ℤ (pos (2 ^ 31)) ≤ℤ n) × (n <ℤ pos (2 ^ 31))
+
+abbrev pub IsEnd : ℕ → LimitsEnd → Type 0
+IsEnd locals e = IsBase locals e.base × IsVariable locals e.variable × IsSmall e.add
+
+abbrev pub AreEnds : ℕ → Limits → Type 0
+AreEnds locals limits = (limits.to.size < 2 ^ 32) × IsEnd locals limits.lower × IsEnd locals limits.upper
+
+-- a pointer of which the range is tested: a local with limits, a named array, or one of these moved
+abbrev pub IsRanged : ℕ → Expr → Type 0
+IsRanged locals (Limited x limits) = AreEnds locals limits
+IsRanged locals (Array at bytes) = at + bytes < 2 ^ 32
+IsRanged locals (Moved shift p i) = IsTrue shift.checked × IsRanged locals p
+IsRanged locals (Added shift i p) = IsTrue shift.checked × IsRanged locals p
+IsRanged locals _ = ⊥
 
 -- the ways to judge an access to elements of a size, through a pointer at an index; `_Ptr` has one element
-abbrev pub IsJudged : Through → ℕ → Expr → Expr → Type 0
-IsJudged Named size p i = Unit {0}
-IsJudged Raw size p i = Unit {0}
-IsJudged One size p i = IsZero i
-IsJudged Arrays size p i = (1 ≤ size) × (size < 2 ^ 31) × IsRanged p
-IsJudged Terminated size p i = ⊥
+abbrev pub IsJudged : ℕ → Through → ℕ → Expr → Expr → Type 0
+IsJudged locals Named size p i = Unit {0}
+IsJudged locals Raw size p i = Unit {0}
+IsJudged locals One size p i = IsZero i
+IsJudged locals Arrays size p i = (1 ≤ size) × (size < 2 ^ 31) × IsRanged locals p
+IsJudged locals Terminated size p i = (1 ≤ size) × (size < 2 ^ 31) × IsRanged locals p
+
+-- nothing is written through a pointer to a null-terminated array
+abbrev pub IsWritable : Through → Type 0
+IsWritable Terminated = ⊥
+IsWritable _ = Unit {0}
 
 -- an access through a pointer at an index
-abbrev pub IsAccess : Access → Expr → Expr → Type 0
-IsAccess access p i =
-    IsPlace access.at × (access.size < 2 ^ 32) × (access.offset < 2 ^ 32) × IsJudged access.through access.size p i
+abbrev pub IsAccess : ℕ → Access → Expr → Expr → Type 0
+IsAccess locals access p i =
+    IsPlace access.at × (access.size < 2 ^ 32) × (access.offset < 2 ^ 32) × IsJudged locals access.through access.size p i
 
 abbrev pub IsChecked : Bool → Shift → Type 0
 IsChecked false shift = Unit {0}
@@ -187,11 +212,11 @@ IsCompilableExpr locals (Local x) = x < locals
 IsCompilableExpr locals (Limited x limits) = x < locals
 IsCompilableExpr locals (Array at bytes) = at < 2 ^ 32
 IsCompilableExpr locals (Load width access p i) =
-    IsAccess access p i × IsCompilableExpr locals p × IsCompilableExpr locals i
+    IsAccess locals access p i × IsCompilableExpr locals p × IsCompilableExpr locals i
 IsCompilableExpr locals (Member to count access p i) =
-    IsAccess access p i × IsCompilableExpr locals p × IsCompilableExpr locals i
+    IsAccess locals access p i × IsCompilableExpr locals p × IsCompilableExpr locals i
 IsCompilableExpr locals (Address bytes access p i) =
-    IsAccess access p i × IsCompilableExpr locals p × IsCompilableExpr locals i
+    IsAccess locals access p i × IsCompilableExpr locals p × IsCompilableExpr locals i
 IsCompilableExpr locals (Moved shift p i) = IsShift shift × IsCompilableExpr locals p × IsCompilableExpr locals i
 IsCompilableExpr locals (Added shift i p) = IsShift shift × IsCompilableExpr locals i × IsCompilableExpr locals p
 IsCompilableExpr locals (Binary operation is_signed at a b) =
@@ -213,7 +238,7 @@ abbrev pub IsCompilableTarget : ℕ → Target → Type 0
 IsCompilableTarget locals Nothing = Unit {0}
 IsCompilableTarget locals (Variable x width) = x < locals
 IsCompilableTarget locals (Memory width access p i) =
-    IsAccess access p i × IsCompilablePart locals p × IsCompilablePart locals i
+    IsAccess locals access p i × IsCompilablePart locals p × IsCompilablePart locals i × IsWritable access.through
 
 abbrev pub IsCompilableRight : ℕ → Right → Type 0
 IsCompilableRight locals (Value e) = IsCompilablePart locals e

@@ -17,7 +17,7 @@ use Rattle.ckc_source.specs.Eval.{Store, given, element, place_in}
 use Rattle.ckc_source.specs.Steps.{terminator_at, aims_at, aimed, allowed}
 use Rattle.ckc_core.specs.Code.{Code, Function}
 use Rattle.ckc_core.specs.Meaning.{Rest, Caller, value_of}
-use Rattle.ckc_checks.specs.Compilable.{IsJudged, IsCompilableTarget}
+use Rattle.ckc_checks.specs.Compilable.{IsWritable, IsCompilableTarget}
 use Rattle.ckc_checks.specs.Inserted.{held, keeps_index, is_bounded, judged, reached_place, aim_code, target_count}
 use Rattle.ckc_inserted.proofs.Running.{machine, at}
 use Rattle.ckc_inserted.proofs.Values.{Agree, Sees}
@@ -31,12 +31,12 @@ aim_steps (source.Memory width access p i) t =
     held_steps (is_bounded access.through) p t + (index_steps (keeps_index (is_bounded access.through) i) i (t + 1) + judged_steps access.through p i t)
 aim_steps target t = 0
 
-no_terminator : (through : Through) (size : ℕ) (p index : source.Expr) (range : Range) (a : ℕ) (spot : Pos) → IsJudged through size p index → terminator_at through range a spot ≡ None
-no_terminator Named size p index range a spot h = refl
-no_terminator Raw size p index range a spot h = refl
-no_terminator One size p index range a spot h = refl
-no_terminator Array size p index range a spot h = refl
-no_terminator Terminated size p index range a spot h = absurd h
+no_terminator : (through : Through) (range : Range) (a : ℕ) (spot : Pos) → IsWritable through → terminator_at through range a spot ≡ None
+no_terminator Named range a spot h = refl
+no_terminator Raw range a spot h = refl
+no_terminator One range a spot h = refl
+no_terminator Array range a spot h = refl
+no_terminator Terminated range a spot h = absurd h
 
 module _ (functions : List Function) (callers : List Caller) (world : World) where
   -- The target is at this place, as long as the locals up to t + 1 stay.
@@ -74,9 +74,9 @@ module _ (functions : List Function) (callers : List Caller) (world : World) whe
         (λ x y l2 both eq_p eq_i.
         then_comes functions callers world 0 ju 0 ju (at callers world judge rest l2) (element access x y.number) (aims_at s width access x.range) more rest
         (Placed functions callers world n s sees access access.through a b t l) (λ to u. (l' : Values) × (u ≡ at callers world more rest l') × good to l') (omega arith)
-        (judged_comes functions callers world n s sees access access.through p i t more rest l l2 x y le (agree_below functions callers world n s sees t l2 l le both.0 agree) judged.3 both eq_p)
+        (judged_comes functions callers world n s sees access access.through p i t more rest l l2 x y le (agree_below functions callers world n s sees t l2 l le both.0 agree) judged.3 pointer.0 both eq_p)
         (λ q l3 r.
-        by x.range q l3 (no_terminator access.through access.size p i x.range q access.at judged.3) r.0 r.1 (lies_in width (place_in q access.offset) s.blocks)))
+        by x.range q l3 (no_terminator access.through x.range q access.at h.3) r.0 r.1 (lies_in width (place_in q access.offset) s.blocks)))
       where
         by : (range : Range) (q : ℕ) (l3 : Values) → terminator_at access.through range q access.at ≡ None → Below t l3 l
             → ((later : Values) → Below (t + 2) later l3 → value_of later world.memory (reached_place access p i t) ≡ Some (place_in q access.offset)) → (here : Bool)

@@ -211,28 +211,28 @@ module _ (functions : List Function) (callers : List Caller) (world : World) whe
         )
 
     -- the checks of an access to an element of an array
-    bounded_comes : (access : Access) (p index : source.Expr) (t : ℕ) (next : Code) (rest : Rest) (l : Values) (x y : Value) → n ≤ t → Agree n s.locals l → 1 ≤ access.size → access.size < 2 ^ 31 → IsRanged p
+    bounded_comes : (last : Bool) (access : Access) (p index : source.Expr) (t : ℕ) (next : Code) (rest : Rest) (l : Values) (x y : Value) → n ≤ t → Agree n s.locals l → 1 ≤ access.size → access.size < 2 ^ 31 → IsRanged n p → IsCompilableExpr n p
         → x.number < 2 ^ 32 → y.number < 2 ^ 32 → l t ≡ Some x.number → value_of l world.memory (held (keeps_index true index) index (t + 1)) ≡ Some y.number → evaluated s p ≡ Ok x
-        → Comes functions callers world 0 (14 * element_nodes index - 20) (at callers world (bounded_code false access p (held (keeps_index true index) index (t + 1)) t next) rest l)
-        (given (exact_element access x y.number) (in_range false x.range access.at)) next rest (AtElement t l)
-    bounded_comes access p index t next rest l x y le agree some small ranged low few h j eq = by (x.number == 0) refl
+        → Comes functions callers world 0 (14 * element_nodes index - 20) (at callers world (bounded_code last access p (held (keeps_index true index) index (t + 1)) t next) rest l)
+        (given (exact_element access x y.number) (in_range last x.range access.at)) next rest (AtElement t l)
+    bounded_comes last access p index t next rest l x y le agree some small ranged hp low few h j eq = by (x.number == 0) refl
       where
         by : (none : Bool) → (x.number == 0) ≡ none
-            → Comes functions callers world 0 (14 * element_nodes index - 20) (at callers world (Check check.Null access.at (Local t) (element_code access (held (keeps_index true index) index (t + 1)) t (Check check.Bounds access.at (range_test false p (Local t)) next))) rest l)
-            (given (if none then stops check.Null access.at else (at_address (as_address (elements_behind x.number access.size (exact access.index y.number))) access.at)) (in_range false x.range access.at)) next rest (AtElement t l)
-        by true z = (2, omega (arith, elements_some index), by_fail functions callers world check.Null access.at (Local t) (element_code access (held (keeps_index true index) index (t + 1)) t (Check check.Bounds access.at (range_test false p (Local t)) next)) rest l x.number h z)
+            → Comes functions callers world 0 (14 * element_nodes index - 20) (at callers world (Check check.Null access.at (Local t) (element_code access (held (keeps_index true index) index (t + 1)) t (Check check.Bounds access.at (range_test last p (Local t)) next))) rest l)
+            (given (if none then stops check.Null access.at else (at_address (as_address (elements_behind x.number access.size (exact access.index y.number))) access.at)) (in_range last x.range access.at)) next rest (AtElement t l)
+        by true z = (2, omega (arith, elements_some index), by_fail functions callers world check.Null access.at (Local t) (element_code access (held (keeps_index true index) index (t + 1)) t (Check check.Bounds access.at (range_test last p (Local t)) next)) rest l x.number h z)
         by false z =
-            let ends = range_known n s world.memory p x ranged eq z in
-            first_runs functions 2 0 (14 * element_nodes index - 22) (14 * element_nodes index - 20) (at callers world (Check check.Null access.at (Local t) (element_code access (held (keeps_index true index) index (t + 1)) t (Check check.Bounds access.at (range_test false p (Local t)) next))) rest l) (at callers world (element_code access (held (keeps_index true index) index (t + 1)) t (Check check.Bounds access.at (range_test false p (Local t)) next)) rest l)
-            (given (at_address (as_address (elements_behind x.number access.size (exact access.index y.number))) access.at) (in_range false x.range access.at)) (λ v u. (l' : Values) × (u ≡ at callers world next rest l') × AtElement t l v l') (omega (arith, elements_some index))
-            (by_pass functions callers world check.Null access.at (Local t) (element_code access (held (keeps_index true index) index (t + 1)) t (Check check.Bounds access.at (range_test false p (Local t)) next)) rest l x.number h z)
-            (then_comes functions callers world 0 (14 * element_nodes index - 46) 24 (14 * element_nodes index - 22) (at callers world (element_code access (held (keeps_index true index) index (t + 1)) t (Check check.Bounds access.at (range_test false p (Local t)) next)) rest l) (at_address (as_address (elements_behind x.number access.size (exact access.index y.number))) access.at) (in_range false x.range access.at) (Check check.Bounds access.at (range_test false p (Local t)) next) rest (AtElement t l)
+            let ends = range_known n s world.memory sees p x ranged hp eq z in
+            first_runs functions 2 0 (14 * element_nodes index - 22) (14 * element_nodes index - 20) (at callers world (Check check.Null access.at (Local t) (element_code access (held (keeps_index true index) index (t + 1)) t (Check check.Bounds access.at (range_test last p (Local t)) next))) rest l) (at callers world (element_code access (held (keeps_index true index) index (t + 1)) t (Check check.Bounds access.at (range_test last p (Local t)) next)) rest l)
+            (given (at_address (as_address (elements_behind x.number access.size (exact access.index y.number))) access.at) (in_range last x.range access.at)) (λ v u. (l' : Values) × (u ≡ at callers world next rest l') × AtElement t l v l') (omega (arith, elements_some index))
+            (by_pass functions callers world check.Null access.at (Local t) (element_code access (held (keeps_index true index) index (t + 1)) t (Check check.Bounds access.at (range_test last p (Local t)) next)) rest l x.number h z)
+            (then_comes functions callers world 0 (14 * element_nodes index - 46) 24 (14 * element_nodes index - 22) (at callers world (element_code access (held (keeps_index true index) index (t + 1)) t (Check check.Bounds access.at (range_test last p (Local t)) next)) rest l) (at_address (as_address (elements_behind x.number access.size (exact access.index y.number))) access.at) (in_range last x.range access.at) (Check check.Bounds access.at (range_test last p (Local t)) next) rest (AtElement t l)
             (λ v u. (l' : Values) × (u ≡ at callers world next rest l') × AtElement t l v l') (omega (arith, elements_some index))
-            (element_comes access index t (Check check.Bounds access.at (range_test false p (Local t)) next) rest l x.number y.number some small low few h j)
+            (element_comes access index t (Check check.Bounds access.at (range_test last p (Local t)) next) rest l x.number y.number some small low few h j)
             (λ q l1 g.
             let agree1 = agree_below functions callers world n s sees t l1 l le g.0 agree in
-            then_also 24 0 24 (at callers world (Check check.Bounds access.at (range_test false p (Local t)) next) rest l1) (in_range false x.range access.at q) next next rest (λ a l'. (l' ≡ l1) × (a ≡ q)) (AtElement t l) (omega arith)
-            (within_comes false p t q ends.0 ends.1 x.range access.at next rest l1 ends.2 g.1 (ends.3 l1 agree1) (ends.4 l1 agree1))
+            then_also 24 0 24 (at callers world (Check check.Bounds access.at (range_test last p (Local t)) next) rest l1) (in_range last x.range access.at q) next next rest (λ a l'. (l' ≡ l1) × (a ≡ q)) (AtElement t l) (omega arith)
+            (within_comes last p t q ends.0 ends.1 x.range access.at next rest l1 ends.2 g.1 (ends.3 l1 agree1) (ends.4 l1 agree1))
             (λ a l' e.
             subst (λ (m : Values). Comes functions callers world 0 0 (at callers world next rest m) (Ok a) next rest (AtElement t l)) (sym e.0)
             (subst (λ (b : ℕ). Comes functions callers world 0 0 (at callers world next rest l1) (Ok b) next rest (AtElement t l)) (sym e.1)
@@ -240,11 +240,11 @@ module _ (functions : List Function) (callers : List Caller) (world : World) whe
 
     -- the checks of an access
     pub judged_comes : (access : Access) (through : Through) (p index : source.Expr) (t : ℕ) (next : Code) (rest : Rest) (before l : Values) (x y : Value) → n ≤ t → Agree n s.locals l
-        → IsJudged through access.size p index → Both functions callers world n s sees (held (is_bounded through) p t) (held (keeps_index (is_bounded through) index) index (t + 1)) t before x y l → evaluated s p ≡ Ok x
+        → IsJudged n through access.size p index → IsCompilableExpr n p → Both functions callers world n s sees (held (is_bounded through) p t) (held (keeps_index (is_bounded through) index) index (t + 1)) t before x y l → evaluated s p ≡ Ok x
         → Comes functions callers world 0 (judged_steps through p index t)
         (at callers world (judged through access p (held (is_bounded through) p t) (held (keeps_index (is_bounded through) index) index (t + 1)) t next) rest l) (element_through through access x y.number) next rest
         (Placed access through (held (is_bounded through) p t) (held (keeps_index (is_bounded through) index) index (t + 1)) t before)
-    judged_comes access Named p index t next rest before l x y le agree h both eq = (
+    judged_comes access Named p index t next rest before l x y le agree h hp both eq = (
       0,
       at callers world next rest l,
       omega arith,
@@ -252,7 +252,7 @@ module _ (functions : List Function) (callers : List Caller) (world : World) whe
       no_step (machine functions) (at callers world next rest l),
       (l, refl, (both.0, (λ later below. at_offset_value later world.memory access.offset (operand p t) x.number (both.1 later below) both.3))),
     )
-    judged_comes access Raw p index t next rest before l x y le agree h both eq = (
+    judged_comes access Raw p index t next rest before l x y le agree h hp both eq = (
       0,
       at callers world next rest l,
       omega arith,
@@ -269,7 +269,7 @@ module _ (functions : List Function) (callers : List Caller) (world : World) whe
         ),
       ),
     )
-    judged_comes access One p index t next rest before l x y le agree h both eq = by (x.number == 0) refl
+    judged_comes access One p index t next rest before l x y le agree h hp both eq = by (x.number == 0) refl
       where
         value : value_of l world.memory (operand p t) ≡ Some x.number
         value = both.1 l (λ z less. refl)
@@ -292,11 +292,11 @@ module _ (functions : List Function) (callers : List Caller) (world : World) whe
               by_pass functions callers world check.Null access.at (operand p t) next rest l x.number value z,
               (l, refl, (both.0, (λ later below. at_offset_value later world.memory access.offset (operand p t) x.number (both.1 later below) both.3))),
             )
-    judged_comes access Array p index t next rest before l x y le agree h both eq =
+    judged_comes access Array p index t next rest before l x y le agree h hp both eq =
         then_also (14 * element_nodes index - 20) 0 (14 * element_nodes index - 20)
         (at callers world (bounded_code false access p (held (keeps_index true index) index (t + 1)) t next) rest l) (element_through Array access x y.number) next next rest
         (AtElement t l) (Placed access Array (Local t) (held (keeps_index true index) index (t + 1)) t before) (omega arith)
-        (bounded_comes access p index t next rest l x y le agree h.0 h.1 h.2 both.3 both.4 (both.1 l (λ z less. refl)) (both.2 l (λ z less. refl)) eq)
+        (bounded_comes false access p index t next rest l x y le agree h.0 h.1 h.2 hp both.3 both.4 (both.1 l (λ z less. refl)) (both.2 l (λ z less. refl)) eq)
         (λ q l1 g. (
           0,
           at callers world next rest l1,
@@ -305,7 +305,19 @@ module _ (functions : List Function) (callers : List Caller) (world : World) whe
           no_step (machine functions) (at callers world next rest l1),
           (l1, refl, ((λ z less. g.0 z less ∙ both.0 z less), (λ later below. at_offset_value later world.memory access.offset (Local t) q (below t (omega arith) ∙ g.1) g.2))),
         ))
-    judged_comes access Terminated p index t next rest before l x y le agree h both eq = absurd h
+    judged_comes access Terminated p index t next rest before l x y le agree h hp both eq =
+        then_also (14 * element_nodes index - 20) 0 (14 * element_nodes index - 20)
+        (at callers world (bounded_code true access p (held (keeps_index true index) index (t + 1)) t next) rest l) (element_through Terminated access x y.number) next next rest
+        (AtElement t l) (Placed access Terminated (Local t) (held (keeps_index true index) index (t + 1)) t before) (omega arith)
+        (bounded_comes true access p index t next rest l x y le agree h.0 h.1 h.2 hp both.3 both.4 (both.1 l (λ z less. refl)) (both.2 l (λ z less. refl)) eq)
+        (λ q l1 g. (
+          0,
+          at callers world next rest l1,
+          omega arith,
+          omega arith,
+          no_step (machine functions) (at callers world next rest l1),
+          (l1, refl, ((λ z less. g.0 z less ∙ both.0 z less), (λ later below. at_offset_value later world.memory access.offset (Local t) q (below t (omega arith) ∙ g.1) g.2))),
+        ))
 
     access_steps : (np ep si ki ei nv ju c : ℕ) → np ≤ 6 * ep → si + 2 * ki ≤ 14 * ei → ju + 13 ≤ np + 14 * c → nv ≤ 6 + np + ki
         → (14 * ep - 2 * np) + (si + (ju + (nv + 1))) ≤ 14 * (c + ep + ei) - 2
@@ -313,7 +325,7 @@ module _ (functions : List Function) (callers : List Caller) (world : World) whe
 
     -- a value that is got from where an access goes to
     access_comes : (access : Access) (p i : source.Expr) (t : ℕ) (value : Expr) (go : ℕ → Result Value Halt) (more : Code) (rest : Rest) (l : Values)
-        → HeldIn functions callers world n s sees (held_steps (is_bounded access.through) p) (is_bounded access.through) p → IndexClaim functions callers world n s sees (is_bounded access.through) i → n ≤ t → IsAccess access p i → IsCompilableExpr n p → IsCompilableExpr n i → Agree n s.locals l
+        → HeldIn functions callers world n s sees (held_steps (is_bounded access.through) p) (is_bounded access.through) p → IndexClaim functions callers world n s sees (is_bounded access.through) i → n ≤ t → IsAccess n access p i → IsCompilableExpr n p → IsCompilableExpr n i → Agree n s.locals l
         → nodes value ≤ 6 + nodes (pointer_at access p t) + index_nodes i (nodes (index_at access i (t + 1)))
         → ((x : ℕ) (later : Values) → value_of later world.memory (reached_place access p i t) ≡ Some (place_in x access.offset) → IsValue (go x) (value_of later world.memory value))
         → Comes functions callers world 1 (14 * (access_nodes access.through i + expr_nodes p + index_nodes i (expr_nodes i)) - 2)
@@ -334,7 +346,7 @@ module _ (functions : List Function) (callers : List Caller) (world : World) whe
         (λ x y l2 both eq_p eq_i.
         then_comes functions callers world 1 ju (nodes value + 1) (ju + (nodes value + 1)) (at callers world judge rest l2) (element access x y.number) go set rest
         (Placed access access.through a b t l) (λ v u. (l' : Values) × (u ≡ at callers world more rest l') × Put functions callers world t l v l') (omega arith)
-        (judged_comes access access.through p i t set rest l l2 x y le (agree_below functions callers world n s sees t l2 l le both.0 agree) h.3 both eq_p)
+        (judged_comes access access.through p i t set rest l l2 x y le (agree_below functions callers world n s sees t l2 l le both.0 agree) h.3 hp both eq_p)
         (λ q l3 r.
         weaken functions callers world n s sees (nodes value + 1) t (at callers world set rest l3) (go q) l3 l more rest r.0
         (set_value functions callers world value t more rest l3 (go q) (nodes value + 1) (omega arith) (next q l3 (r.1 l3 (λ z less. refl))))))

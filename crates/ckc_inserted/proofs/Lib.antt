@@ -5,6 +5,8 @@ pub mod Bounded
 pub mod Single
 pub mod Exact
 pub mod Values
+pub mod True
+pub mod Ends
 pub mod Ranges
 pub mod Counts
 pub mod Coming

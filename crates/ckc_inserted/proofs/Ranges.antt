@@ -1,12 +1,12 @@
 -- The tests of checked pointers to arrays: what they give in core code, and the ranges that they test.
 use Rattle.std.proofs.Common.{◌≡◌, ℕ, ◌^◌, ◌+◌, ◌≤◌, ◌<◌, ◌==◌, refl, sym, ◌∙◌, ap, arith}
-use Rattle.std.specs.Prelude.{ℤ, pos, ◌-ℤ◌, ◌*ℤ◌, nat_lt, nat_le, bit_and, not, ◌&&◌, Bool, true, false, if◌then◌else◌, Option, Some, None, Result, Ok, Err}
+use Rattle.std.specs.Prelude.{ℤ, pos, negsuc, slice_index, ◌-ℤ◌, ◌*ℤ◌, nat_lt, nat_le, bit_and, not, ◌&&◌, Bool, true, false, if◌then◌else◌, Option, Some, None, Result, Ok, Err}
 use Rattle.std.proofs.lemmas.Bool.Decides.{nat_tests}
 use Rattle.ckc_base.specs.declared.arithmetic.BinOp.TheVariants as binary
 use Rattle.ckc_base.specs.declared.runtime_checks.Check.TheVariants as check
 use Rattle.ckc_base.specs.Products.{high_product}
 use Rattle.ckc_base.specs.Words.{flag, applied}
-use Rattle.ckc_base.specs.Memory.{Memory}
+use Rattle.ckc_base.specs.Memory.{Memory, data_end}
 use Rattle.ckc_base.specs.Activations.{Values}
 use Rattle.ckc_source.specs.declared.expr.Integer.{Integer}
 use Rattle.ckc_source.specs.declared.expr.Shift.{Shift}
@@ -14,15 +14,21 @@ use Rattle.ckc_source.specs.declared.outcome.Range.{Range}
 use Rattle.ckc_source.specs.declared.outcome.Range.TheVariants.{Without, Within}
 use Rattle.ckc_source.specs.declared.outcome.Value.{Value}
 use Rattle.ckc_source.specs.declared.outcome.Halt.{Halt}
+use Rattle.ckc_source.specs.declared.outcome.Halt.TheVariants.{Stuck}
+use Rattle.ckc_source.specs.declared.expr.Limits.{Limits}
+use Rattle.ckc_source.specs.Blocks.{first_place}
+use Rattle.ckc_source.specs.Runs.{is_true}
 use Rattle.ckc_source.specs.Code as source
 use Rattle.ckc_source.specs.Words.{exact, as_address, elements_behind}
-use Rattle.ckc_source.specs.Eval.{Store, given, given_both, stops, plain, at_address, moves, moves_checked, moved_exactly, evaluated}
+use Rattle.ckc_source.specs.Eval.{Store, given, given_both, stops, plain, end_address, ranged, reads_within, at_address, moves, moves_checked, moved_exactly, evaluated}
 use Rattle.ckc_core.specs.Code.{Expr, Local}
 use Rattle.ckc_core.specs.Meaning.{value_of, both}
-use Rattle.ckc_checks.specs.Compilable.{IsRanged}
+use Rattle.ckc_checks.specs.Compilable.{AreEnds, IsRanged, IsCompilableExpr}
 use Rattle.ckc_checks.specs.Inserted.{shifted, reads_signed, exact_test, range_end, range_test}
 use Rattle.ckc_inserted.proofs.Exact.{carries, borrows, exact_ahead, exact_back}
-use Rattle.ckc_inserted.proofs.Values.{Agree, shifted_value}
+use Rattle.ckc_inserted.proofs.Values.{Agree, Sees, shifted_value}
+use Rattle.ckc_inserted.proofs.True.{true_ends}
+use Rattle.ckc_inserted.proofs.Ends.{end_value}
 
 pub flag_zero : (b : Bool) → (flag b == 0) ≡ not b
 flag_zero true = refl
@@ -150,14 +156,46 @@ HasRange n s memory p x =
     (low high : ℕ) × (x.range ≡ Within low high) × ((l : Values) → Agree n s.locals l → value_of l memory (range_end false p) ≡ Some low)
     × ((l : Values) → Agree n s.locals l → value_of l memory (range_end true p) ≡ Some high)
 
-pub range_known : (n : ℕ) (s : Store) (memory : Memory) (p : source.Expr) (x : Value) → IsRanged p → evaluated s p ≡ Ok x → (x.number == 0) ≡ false → HasRange n s memory p x
-range_known n s memory (source.Array at bytes) x h e z = (at, at + bytes, sym (ap range_in e), (λ l agree. refl), (λ l agree. refl))
-range_known n s memory (source.Moved shift p i) x h e z =
+-- a local with limits that is read has its range, which is one of words
+limited_known : (n : ℕ) (s : Store) (memory : Memory) → Sees n s memory → (x : ℕ) (limits : Limits) (v : Value) → x < n → AreEnds n limits → evaluated s (source.Limited x limits) ≡ Ok v
+    → (v.number == 0) ≡ false → HasRange n s memory (source.Limited x limits) v
+limited_known n s memory sees x limits v less ends e z =
+    start (slice_index s.locals x == 0) (end_address s.locals limits.to.size (slice_index s.locals x) limits.lower) (end_address s.locals limits.to.size (slice_index s.locals x) limits.upper) refl refl e
+  where
+    found : (low high : ℕ) → end_address s.locals limits.to.size (slice_index s.locals x) limits.lower ≡ pos low → end_address s.locals limits.to.size (slice_index s.locals x) limits.upper ≡ pos high
+        → (good : Bool) → is_true s.shapes s.blocks limits.to (slice_index s.locals x) low high ≡ good
+        → (if good then ranged (slice_index s.locals x) low high else Err Stuck) ≡ Ok v → HasRange n s memory (source.Limited x limits) v
+    found low high lower upper true good e =
+        let within = true_ends s.shapes limits.to (slice_index s.locals x) low high first_place (data_end + 1) s.blocks sees.same.within good in
+        let low_word : low < 2 ^ 32 = omega (arith, within) in
+        let high_word : high < 2 ^ 32 = omega (arith, within) in (
+          low,
+          high,
+          sym (ap range_in e),
+          (λ l agree. end_value n s.locals l memory agree sees.small x limits.to.size limits.lower low less ends.1 lower low_word),
+          (λ l agree. end_value n s.locals l memory agree sees.small x limits.to.size limits.upper high less ends.2 upper high_word),
+        )
+    found low high lower upper false good e = absurd cc
+
+    start : (zero : Bool) (low high : ℤ) → end_address s.locals limits.to.size (slice_index s.locals x) limits.lower ≡ low → end_address s.locals limits.to.size (slice_index s.locals x) limits.upper ≡ high
+        → (if zero then plain 0 else reads_within s.shapes s.blocks limits.to (slice_index s.locals x) low high) ≡ Ok v → HasRange n s memory (source.Limited x limits) v
+    start true low high lower upper e =
+        let none : 0 ≡ v.number = ap (λ (r : Result Value Halt). elim r [ Ok w ↦ w.number | Err h ↦ 0 ]) e in
+        absurd (let wrong : true ≡ false = ap (λ k. k == 0) none ∙ z in cc)
+    start false (pos low) (pos high) lower upper e = found low high lower upper (is_true s.shapes s.blocks limits.to (slice_index s.locals x) low high) refl e
+    start false (pos low) (negsuc high) lower upper e = absurd cc
+    start false (negsuc low) high lower upper e = absurd cc
+
+pub range_known : (n : ℕ) (s : Store) (memory : Memory) → Sees n s memory → (p : source.Expr) (x : Value) → IsRanged n p → IsCompilableExpr n p → evaluated s p ≡ Ok x → (x.number == 0) ≡ false
+    → HasRange n s memory p x
+range_known n s memory sees (source.Limited y limits) x h c e z = limited_known n s memory sees y limits x c h e z
+range_known n s memory sees (source.Array at bytes) x h c e z = (at, at + bytes, sym (ap range_in e), (λ l agree. refl), (λ l agree. refl))
+range_known n s memory sees (source.Moved shift p i) x h c e z =
     let m = moved_range shift (evaluated s p) (evaluated s i) x h.0 e in
-    let r = range_known n s memory p m.0 h.1 m.1 m.2 in
+    let r = range_known n s memory sees p m.0 h.1 c.1 m.1 m.2 in
     (r.0, r.1, m.3 ∙ r.2, r.3, r.4)
-range_known n s memory (source.Added shift i p) x h e z =
+range_known n s memory sees (source.Added shift i p) x h c e z =
     let m = moved_range shift (evaluated s p) (evaluated s i) x h.0 (turned (evaluated s p) (evaluated s i) (λ v k. moves shift v k.number) x e) in
-    let r = range_known n s memory p m.0 h.1 m.1 m.2 in
+    let r = range_known n s memory sees p m.0 h.1 c.2 m.1 m.2 in
     (r.0, r.1, m.3 ∙ r.2, r.3, r.4)
-range_known n s memory p x h e z = absurd h
+range_known n s memory sees p x h c e z = absurd h

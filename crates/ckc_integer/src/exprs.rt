@@ -2,7 +2,7 @@
 ghost use Rattle.std.specs.Prelude.{◌↔◌, ◌+◌, ◌≤◌, ◌<◌, ◌^◌, IsTrue};
 ghost use Rattle.ckc_core.specs.WellFormed.{IsPlace};
 ghost use Rattle.ckc_source.specs.Code.{expr_of, target_of, right_of};
-ghost use Rattle.ckc_checks.specs.Compilable.{IsOwn, IsNone, IsZero, IsRanged, IsJudged, IsAccess, IsChecked, IsShift, IsOne, IsFixedEnd, AreSingle, IsSingleCount, IsSingle, IsCompilableExpr, IsCompilablePart, IsCompilableTarget, IsCompilableRight, IsCompilableKept};
+ghost use Rattle.ckc_checks.specs.Compilable.{IsOwn, IsNone, IsZero, IsBase, IsVariable, IsSmall, IsEnd, AreEnds, IsRanged, IsJudged, IsWritable, IsAccess, IsChecked, IsShift, IsOne, IsFixedEnd, AreSingle, IsSingleCount, IsSingle, IsCompilableExpr, IsCompilablePart, IsCompilableTarget, IsCompilableRight, IsCompilableKept};
 
 use crate::counts::depth;
 use ckc_base::Pos;
@@ -148,18 +148,58 @@ fn is_sum(a: u32, b: u32) -> bool
     u64::from(a) + u64::from(b) <= 0xFFFF_FFFF
 }
 
+fn is_base(base: Base, locals: u32) -> bool
+    ensures { IsTrue result ↔ IsBase locals base }
+{
+    match base {
+        Base::Own => true,
+        Base::Local(x) => x < locals,
+        Base::Fixed(a) => is_word(a),
+    }
+}
+
+fn is_variable(variable: Option<Variable>, locals: u32) -> bool
+    ensures { IsTrue result ↔ IsVariable locals variable }
+{
+    match variable {
+        None => true,
+        Some(x) => x.local < locals,
+    }
+}
+
+/// Each number of limits is one of 32 bits.
+fn is_small(n: i32) -> bool
+    ensures { IsTrue result ↔ IsSmall n }
+{
+    i32::MIN <= n && n <= i32::MAX
+}
+
+/// Whether an end of limits can be computed.
+fn is_end(e: End, locals: u32) -> bool
+    ensures { IsTrue result ↔ IsEnd locals e }
+{
+    is_base(e.base, locals) && is_variable(e.variable, locals) && is_small(e.add)
+}
+
+/// Whether both ends of limits can be computed.
+fn are_ends(limits: &Limits, locals: u32) -> bool
+    ensures { IsTrue result ↔ AreEnds locals limits.now }
+{
+    is_word(limits.to.size) && is_end(limits.lower, locals) && is_end(limits.upper, locals)
+}
+
 /// Whether the range of a pointer can be tested.
-fn is_ranged(p: &ExprTree) -> bool
-    ensures { IsTrue result ↔ IsRanged (expr_of p.now) }
+fn is_ranged(p: &ExprTree, locals: u32) -> bool
+    ensures { IsTrue result ↔ IsRanged locals (expr_of p.now) }
 {
     match p {
+        ExprTree::Limited(_, limits) => are_ends(limits.get(), locals),
         ExprTree::Array(at, bytes) => is_sum(*at, *bytes),
         ExprTree::Moved(shift, p, _) | ExprTree::Added(shift, _, p) => {
-            shift.checked && is_ranged(p.get())
+            shift.checked && is_ranged(p.get(), locals)
         }
         ExprTree::Number(_)
         | ExprTree::Local(_)
-        | ExprTree::Limited(_, _)
         | ExprTree::Load(_, _, _, _)
         | ExprTree::Member(_, _, _, _, _)
         | ExprTree::Address(_, _, _, _)
@@ -182,24 +222,33 @@ fn is_size(size: u32) -> bool
 }
 
 /// Whether an access to elements of a size is judged in a way that can be compiled.
-fn is_judged(through: Through, size: u32, p: &ExprTree, i: &ExprTree) -> bool
-    ensures { IsTrue result ↔ IsJudged through size (expr_of p.now) (expr_of i.now) }
+fn is_judged(through: Through, size: u32, p: &ExprTree, i: &ExprTree, locals: u32) -> bool
+    ensures { IsTrue result ↔ IsJudged locals through size (expr_of p.now) (expr_of i.now) }
 {
     match through {
         Through::Named | Through::Raw => true,
         Through::One => is_zero(i),
-        Through::Array => is_size(size) && is_ranged(p),
-        Through::Terminated => false,
+        Through::Array | Through::Terminated => is_size(size) && is_ranged(p, locals),
     }
 }
 
-fn is_access(access: Access, p: &ExprTree, i: &ExprTree) -> bool
-    ensures { IsTrue result ↔ IsAccess access (expr_of p.now) (expr_of i.now) }
+/// Whether something may be written through a pointer.
+fn is_writable(through: Through) -> bool
+    ensures { IsTrue result ↔ IsWritable through }
+{
+    match through {
+        Through::Terminated => false,
+        Through::Named | Through::Raw | Through::One | Through::Array => true,
+    }
+}
+
+fn is_access(access: Access, p: &ExprTree, i: &ExprTree, locals: u32) -> bool
+    ensures { IsTrue result ↔ IsAccess locals access (expr_of p.now) (expr_of i.now) }
 {
     is_place(access.at)
         && is_word(access.size)
         && is_word(access.offset)
-        && is_judged(access.through, access.size, p, i)
+        && is_judged(access.through, access.size, p, i, locals)
 }
 
 /// Whether pointer arithmetic that is checked, where the flag says so, can be tested.
@@ -228,7 +277,7 @@ fn is_expr(e: &ExprTree, locals: u32) -> bool
         ExprTree::Load(_, access, p, i)
         | ExprTree::Member(_, _, access, p, i)
         | ExprTree::Address(_, access, p, i) => {
-            is_access(*access, p.get(), i.get())
+            is_access(*access, p.get(), i.get(), locals)
                 && is_expr(p.get(), locals)
                 && is_expr(i.get(), locals)
         }
@@ -266,9 +315,10 @@ pub fn is_target(target: &TargetTree, locals: u32) -> bool
         TargetTree::Nothing => true,
         TargetTree::Local(x, _) => *x < locals,
         TargetTree::Memory(_, access, p, i) => {
-            is_access(*access, p.get(), i.get())
+            is_access(*access, p.get(), i.get(), locals)
                 && is_part(p.get(), locals)
                 && is_part(i.get(), locals)
+                && is_writable(access.through)
         }
     }
 }
