@@ -10,6 +10,9 @@ use Rattle.ckc_base.specs.declared.places.Pos.{Pos}
 use Rattle.ckc_base.specs.declared.runtime_checks.Check.TheVariants as check
 use Rattle.ckc_base.specs.declared.arithmetic.BinOp.TheVariants as binary
 use Rattle.ckc_source.specs.declared.expr.Access.{Access}
+use Rattle.ckc_source.specs.Eval.{place_in}
+use Rattle.ckc_source.specs.declared.expr.Count.{Count}
+use Rattle.ckc_source.specs.declared.expr.Count.TheVariants as counts
 use Rattle.ckc_source.specs.declared.expr.Base.{Base}
 use Rattle.ckc_source.specs.declared.expr.Base.TheVariants as bases
 use Rattle.ckc_source.specs.declared.expr.End.{End as LimitsEnd}
@@ -28,8 +31,8 @@ use Rattle.ckc_source.specs.Words.{divides}
 use Rattle.ckc_core.specs.Code.{Expr, Const, Local, Load, Bin, High, Code, End, Set, Check, Function}
 use Rattle.ckc_core.specs.WellFormed.{IsExprOver, IsCodeOver, IsFunctionOver, IsWellFormed, HasParams, IsPlace}
 use Rattle.ckc_checks.specs.Compilable as form
-use Rattle.ckc_checks.specs.Compilable.{IsBase, IsVariable, IsSmall, IsEnd, IsJudged, IsRanged, IsAccess, IsChecked, IsCompilableExpr, IsCompilablePart, IsCompilableTarget, IsCompilableRight, IsCompilableKept, IsCompilableCode, IsCompilableFunction, IsCompilable}
-use Rattle.ckc_checks.specs.Inserted.{is_direct, operated, low_byte, as_truth, is_zero, scaled, shifted, at_offset, element_of, place_at, held, put_if, room_if, keeps_index, is_bounded, reads_signed, exact_test, unless_zero, exact_code, moved_code, base_at, amount_at, end_at, range_end, below_or_at, upper_test, range_test, element_code, bounded_code, judged, pointer_at, index_at, reached_code, reached_place, reached_room, direct, operand, operation_code, expr_code, operand_code, operands_code, operands, expr_room, operand_room, operands_room, is_narrow, kept_in, aim_code, target_count, written, fixed, written_there, right_assigned, target_room, aimed_room, assigned_room, result_in, result_kept, statements, room, zeroed, function_code, inserted}
+use Rattle.ckc_checks.specs.Compilable.{IsBase, IsVariable, IsSmall, IsEnd, IsFixed, IsJudged, IsRanged, IsAccess, IsChecked, IsCompilableExpr, IsCompilablePart, IsCompilableTarget, IsCompilableRight, IsCompilableKept, IsCompilableCode, IsCompilableFunction, IsCompilable}
+use Rattle.ckc_checks.specs.Inserted.{is_direct, operated, low_byte, as_truth, is_zero, scaled, shifted, at_offset, element_of, place_at, held, put_if, room_if, keeps_index, is_bounded, reads_signed, exact_test, unless_zero, exact_code, moved_code, base_at, amount_at, end_at, static_place, counted_end, range_end, below_or_at, upper_test, range_test, element_code, bounded_code, judged, pointer_at, index_at, reached_code, reached_place, reached_room, direct, operand, operation_code, expr_code, operand_code, operands_code, operands, expr_room, operand_room, operands_room, is_narrow, kept_in, aim_code, target_count, written, fixed, written_there, right_assigned, target_room, aimed_room, assigned_room, result_in, result_kept, statements, room, zeroed, function_code, inserted}
 
 -- an expression needs a temporary for its value
 pub expr_room_some : (e : source.Expr) → 1 ≤ expr_room e
@@ -147,9 +150,20 @@ module _ (few locals : ℕ) (more : few ≤ locals) where
   end_over : (x size : ℕ) (e : LimitsEnd) → x < few → size < 2 ^ 32 → IsEnd few e → IsExprOver locals (end_at x size e)
   end_over x size e h k is = shifted_over false size (base_at x e.base) (amount_at e.variable e.add) k (base_over x e.base h is.0) (amount_over e.variable e.add is.1 is.2)
 
+  counted_over : (upper : Bool) (size : ℕ) (count : Count) (e : Expr) → size < 2 ^ 32 → IsExprOver locals e → IsFixed count → IsExprOver locals (counted_end upper size count e)
+  counted_over true size (counts.Fixed n) e h x small = shifted_over false size e (Const (word_of n)) h x (small_word n small)
+  counted_over false size (counts.Fixed n) e h x small = x
+  counted_over upper size (counts.Member offset form add) e h x small = absurd small
+
   range_end_over : (upper : Bool) (p : source.Expr) → IsRanged few p → IsCompilableExpr few p → IsExprOver locals (range_end upper p)
   range_end_over true (source.Limited x limits) h k = end_over x limits.to.size limits.upper k h.0 h.2
   range_end_over false (source.Limited x limits) h k = end_over x limits.to.size limits.lower k h.0 h.1
+  range_end_over upper (source.Member to count access (source.Number a) i) h k =
+      counted_over upper to.size count (Load width.Word (Const (place_in a access.offset))) h.1 (omega arith) h.2
+  range_end_over true (source.Address bytes access (source.Number a) i) h k = h.1
+  range_end_over false (source.Address bytes access (source.Number a) i) h k = omega arith
+  range_end_over upper (source.Member to count access p i) h k = absurd h.0
+  range_end_over upper (source.Address bytes access p i) h k = absurd h.0
   range_end_over true (source.Array at bytes) h k = h
   range_end_over false (source.Array at bytes) h k = k
   range_end_over upper (source.Moved shift p i) h k = range_end_over upper p h.1 k.1

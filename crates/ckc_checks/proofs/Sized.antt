@@ -6,6 +6,8 @@ use Rattle.ckc_base.specs.declared.arithmetic.Width.TheVariants as width
 use Rattle.ckc_base.specs.declared.arithmetic.BinOp.TheVariants as binary
 use Rattle.ckc_base.specs.declared.places.Pos.{Pos}
 use Rattle.ckc_source.specs.declared.expr.Access.{Access}
+use Rattle.ckc_source.specs.declared.expr.Count.{Count}
+use Rattle.ckc_source.specs.declared.expr.Count.TheVariants as counts
 use Rattle.ckc_source.specs.declared.expr.Base.{Base}
 use Rattle.ckc_source.specs.declared.expr.Base.TheVariants as bases
 use Rattle.ckc_source.specs.declared.expr.End.{End as LimitsEnd}
@@ -24,7 +26,7 @@ use Rattle.ckc_source.specs.Words.{divides}
 use Rattle.ckc_core.specs.Code.{Expr, Const, Local, Load, Bin, High, Code, End, Set, Check}
 use Rattle.ckc_core.specs.Sizes.{expr_size, exprs_size, set_size, code_size, function_size, program_size}
 use Rattle.ckc_checks.specs.Compilable.{element_nodes, access_nodes, shift_nodes, index_nodes, expr_nodes, exprs_nodes, target_nodes, right_nodes, code_nodes, function_nodes, program_nodes}
-use Rattle.ckc_checks.specs.Inserted.{is_direct, operated, low_byte, as_truth, is_zero, scaled, shifted, at_offset, element_of, place_at, held, put_if, is_number, keeps_index, is_bounded, reads_signed, exact_test, unless_zero, exact_code, moved_code, base_at, amount_at, end_at, range_end, below_or_at, upper_test, range_test, element_code, bounded_code, judged, pointer_at, index_at, reached_code, reached_place, direct, operand, operation_code, expr_code, operand_code, operands_code, operands, is_narrow, aim_code, target_count, written, fixed, written_there, right_assigned, result_in, result_kept, statements, zeroed, function_code, inserted}
+use Rattle.ckc_checks.specs.Inserted.{is_direct, operated, low_byte, as_truth, is_zero, scaled, shifted, at_offset, element_of, place_at, held, put_if, is_number, keeps_index, is_bounded, reads_signed, exact_test, unless_zero, exact_code, moved_code, base_at, amount_at, end_at, static_place, counted_end, range_end, below_or_at, upper_test, range_test, element_code, bounded_code, judged, pointer_at, index_at, reached_code, reached_place, direct, operand, operation_code, expr_code, operand_code, operands_code, operands, is_narrow, aim_code, target_count, written, fixed, written_there, right_assigned, result_in, result_kept, statements, zeroed, function_code, inserted}
 
 element_some : (zero : Bool) → 4 ≤ (if zero then 4 else 6)
 element_some true = omega arith
@@ -171,8 +173,14 @@ end_sized : (x size : ℕ) (e : LimitsEnd) → expr_size (end_at x size e) ≤ 4
 end_sized x size e =
     omega (arith, shifted_sized false size (base_at x e.base) (amount_at e.variable e.add), base_sized x e.base, amount_sized e.variable e.add)
 
+counted_sized : (upper : Bool) (size : ℕ) (count : Count) (a : ℕ) → expr_size (counted_end upper size count (Load width.Word (Const a))) ≤ 48
+counted_sized true size (counts.Fixed n) a = omega (arith, shifted_sized false size (Load width.Word (Const a)) (Const (word_of n)))
+counted_sized false size (counts.Fixed n) a = omega arith
+counted_sized upper size (counts.Member offset form add) a = omega arith
+
 range_end_sized : (upper : Bool) (p : source.Expr) → expr_size (range_end upper p) ≤ 48
 range_end_sized upper (source.Limited x limits) = end_sized x limits.to.size (if upper then limits.upper else limits.lower)
+range_end_sized upper (source.Member to count access p i) = counted_sized upper to.size count (static_place access p)
 range_end_sized upper (source.Moved shift p i) = range_end_sized upper p
 range_end_sized upper (source.Added shift i p) = range_end_sized upper p
 range_end_sized upper p = omega arith

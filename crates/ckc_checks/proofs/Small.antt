@@ -6,6 +6,8 @@ use Rattle.ckc_base.specs.declared.arithmetic.Width.TheVariants as width
 use Rattle.ckc_base.specs.declared.places.Pos.{Pos}
 use Rattle.ckc_base.specs.declared.arithmetic.BinOp.TheVariants as binary
 use Rattle.ckc_source.specs.declared.expr.Access.{Access}
+use Rattle.ckc_source.specs.declared.expr.Count.{Count}
+use Rattle.ckc_source.specs.declared.expr.Count.TheVariants as counts
 use Rattle.ckc_source.specs.declared.expr.Base.{Base}
 use Rattle.ckc_source.specs.declared.expr.Base.TheVariants as bases
 use Rattle.ckc_source.specs.declared.expr.End.{End as LimitsEnd}
@@ -25,7 +27,7 @@ use Rattle.ckc_core.specs.Code.{Expr, Const, Local, Load, Bin, High, Code, End, 
 use Rattle.ckc_core.specs.Limits.{depth, IsShallow, KeepsLimits, IsSmallFunction, IsWithinLimits}
 use Rattle.ckc_checks.specs.Compilable as form
 use Rattle.ckc_checks.specs.Compilable.{IsCompilablePart, IsCompilableTarget, IsCompilableRight, IsCompilableCode, IsCompilableFunction, IsCompilable}
-use Rattle.ckc_checks.specs.Inserted.{is_direct, operated, low_byte, as_truth, is_zero, scaled, shifted, at_offset, element_of, place_at, held, put_if, room_if, keeps_index, is_bounded, reads_signed, exact_test, unless_zero, exact_code, moved_code, base_at, amount_at, end_at, range_end, below_or_at, upper_test, range_test, element_code, bounded_code, judged, pointer_at, index_at, reached_code, reached_place, direct, operand, operation_code, expr_code, operand_code, operands_code, operands, expr_room, operand_room, operands_room, is_narrow, aim_code, target_count, written, fixed, written_there, right_assigned, aimed_room, assigned_room, result_kept, statements, room, zeroed, function_code, inserted}
+use Rattle.ckc_checks.specs.Inserted.{is_direct, operated, low_byte, as_truth, is_zero, scaled, shifted, at_offset, element_of, place_at, held, put_if, room_if, keeps_index, is_bounded, reads_signed, exact_test, unless_zero, exact_code, moved_code, base_at, amount_at, end_at, static_place, counted_end, range_end, below_or_at, upper_test, range_test, element_code, bounded_code, judged, pointer_at, index_at, reached_code, reached_place, direct, operand, operation_code, expr_code, operand_code, operands_code, operands, expr_room, operand_room, operands_room, is_narrow, aim_code, target_count, written, fixed, written_there, right_assigned, aimed_room, assigned_room, result_kept, statements, room, zeroed, function_code, inserted}
 use Rattle.ckc_checks.proofs.Formed.{length-operands}
 
 -- ---- expressions
@@ -81,8 +83,14 @@ end_depth : (x size : ℕ) (e : LimitsEnd) → depth (end_at x size e) ≤ 4
 end_depth x size e =
     omega (arith, shifted_depth false size (base_at x e.base) (amount_at e.variable e.add), base_depth x e.base, amount_depth e.variable e.add)
 
+counted_depth : (upper : Bool) (size : ℕ) (count : Count) (a : ℕ) → depth (counted_end upper size count (Load width.Word (Const a))) ≤ 4
+counted_depth true size (counts.Fixed n) a = omega (arith, shifted_depth false size (Load width.Word (Const a)) (Const (word_of n)))
+counted_depth false size (counts.Fixed n) a = omega arith
+counted_depth upper size (counts.Member offset form add) a = omega arith
+
 range_end_depth : (upper : Bool) (p : source.Expr) → depth (range_end upper p) ≤ 4
 range_end_depth upper (source.Limited x limits) = end_depth x limits.to.size (if upper then limits.upper else limits.lower)
+range_end_depth upper (source.Member to count access p i) = counted_depth upper to.size count (static_place access p)
 range_end_depth upper (source.Moved shift p i) = range_end_depth upper p
 range_end_depth upper (source.Added shift i p) = range_end_depth upper p
 range_end_depth upper p = omega arith

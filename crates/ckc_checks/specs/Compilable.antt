@@ -1,9 +1,10 @@
 -- Programs that can be compiled: names exist, numbers fit, functions and expressions are small. What is
--- accessed by its range is a local with limits, a named array or one of these moved, and what is tested is a pointer to
--- one element. Nothing is written through a pointer to a null-terminated array, and no bundle stands in them.
+-- accessed by its range comes of a local with limits or of a static object, and what is tested is a pointer to one
+-- element. Nothing is written through a pointer to a null-terminated array, and no bundle stands in them.
 use Rattle.std.specs.Prelude.{◌≡◌, ℤ, pos, neg_ℤ, ◌≤ℤ◌, ◌<ℤ◌, ℕ, ◌+◌, ◌≤◌, ◌<◌, ◌^◌, ◌==◌, if◌then◌else◌, max, Bool, true, false, IsTrue, List, [], ◌∷◌, length, slice_get, sum_by, Option, Some, None, All, IfSome}
 use Rattle.ckc_base.specs.Memory.{data_start}
 use Rattle.ckc_core.specs.WellFormed.{IsPlace}
+use Rattle.ckc_source.specs.Eval.{place_in}
 use Rattle.ckc_source.specs.declared.expr.Access.{Access}
 use Rattle.ckc_source.specs.declared.expr.Base.{Base}
 use Rattle.ckc_source.specs.declared.expr.Base.TheVariants as bases
@@ -146,10 +147,31 @@ IsEnd locals e = IsBase locals e.base × IsVariable locals e.variable × IsSmall
 abbrev pub AreEnds : ℕ → Limits → Type 0
 AreEnds locals limits = (limits.to.size < 2 ^ 32) × IsEnd locals limits.lower × IsEnd locals limits.upper
 
--- a pointer of which the range is tested: a local with limits, a named array, or one of these moved
+-- a static object at its place
+abbrev pub IsNamed : Through → Type 0
+IsNamed Named = Unit {0}
+IsNamed _ = ⊥
+
+abbrev pub IsStatic : Access → Expr → Type 0
+IsStatic access (Number a) = IsNamed access.through
+IsStatic access _ = ⊥
+
+-- so many bytes from there on end at an address
+abbrev pub EndsLow : Access → ℕ → Expr → Type 0
+EndsLow access bytes (Number a) = place_in a access.offset + bytes < 2 ^ 32
+EndsLow access bytes _ = ⊥
+
+abbrev pub IsFixed : Count → Type 0
+IsFixed (counts.Fixed n) = IsSmall n
+IsFixed (counts.Member offset form add) = ⊥
+
+-- a pointer of which the range is tested: a local with limits, a named array, a static pointer with a fixed count, the
+-- address of a static object, or one of these moved
 abbrev pub IsRanged : ℕ → Expr → Type 0
 IsRanged locals (Limited x limits) = AreEnds locals limits
 IsRanged locals (Array at bytes) = at + bytes < 2 ^ 32
+IsRanged locals (Member to count access p i) = IsStatic access p × (to.size < 2 ^ 32) × IsFixed count
+IsRanged locals (Address bytes access p i) = IsStatic access p × EndsLow access bytes p
 IsRanged locals (Moved shift p i) = IsTrue shift.checked × IsRanged locals p
 IsRanged locals (Added shift i p) = IsTrue shift.checked × IsRanged locals p
 IsRanged locals _ = ⊥

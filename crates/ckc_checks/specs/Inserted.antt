@@ -11,6 +11,8 @@ use Rattle.ckc_base.specs.Words.{word_of, applied}
 use Rattle.ckc_source.specs.declared.expr.Access.{Access}
 use Rattle.ckc_source.specs.declared.expr.Through.{Through}
 use Rattle.ckc_source.specs.declared.expr.Through.TheVariants.{Named, Raw, One, Array, Terminated}
+use Rattle.ckc_source.specs.declared.expr.Count.{Count}
+use Rattle.ckc_source.specs.declared.expr.Count.TheVariants as counts
 use Rattle.ckc_source.specs.declared.expr.Base.{Base}
 use Rattle.ckc_source.specs.declared.expr.Base.TheVariants as bases
 use Rattle.ckc_source.specs.declared.expr.End.{End as LimitsEnd}
@@ -192,11 +194,25 @@ amount_at (Some v) add = at_offset (word_of add) (Local v.local)
 abbrev pub end_at : ℕ → ℕ → LimitsEnd → Expr
 end_at x size e = shifted false size (base_at x e.base) (amount_at e.variable e.add)
 
--- An end of the range of a pointer, the upper one where the flag says so: of a local with limits or of a named array.
--- Pointer arithmetic keeps it.
+-- the place of an access to a static object
+abbrev pub static_place : Access → source.Expr → ℕ
+static_place access (source.Number a) = place_in a access.offset
+static_place access _ = 0
+
+-- an end of the range of a static pointer, which is read from memory again
+abbrev pub counted_end : Bool → ℕ → Count → Expr → Expr
+counted_end upper size (counts.Fixed n) e = if upper then shifted false size e (Const (word_of n)) else e
+counted_end upper size (counts.Member offset form add) e = Const 0
+
+-- An end of the range of a pointer, the upper one where the flag says so: of a local with limits, of a named array, of a
+-- static pointer, or of the address of a static object. Pointer arithmetic keeps it.
 abbrev pub range_end : Bool → source.Expr → Expr
 range_end upper (source.Limited x limits) = end_at x limits.to.size (if upper then limits.upper else limits.lower)
 range_end upper (source.Array at bytes) = Const (if upper then at + bytes else at)
+range_end upper (source.Member to count access p i) =
+    counted_end upper to.size count (Load width.Word (Const (static_place access p)))
+range_end upper (source.Address bytes access p i) =
+    Const (if upper then static_place access p + bytes else static_place access p)
 range_end upper (source.Moved shift p i) = range_end upper p
 range_end upper (source.Added shift i p) = range_end upper p
 range_end upper _ = Const 0

@@ -4,12 +4,13 @@ ghost use Rattle.std.specs.Prelude.{◌≡◌, true, IfOk, if◌then◌else◌};
 ghost use Rattle.ckc_core.specs.Code.{Expr, expr_of};
 ghost use Rattle.ckc_source.specs.Code.{expr_of as source_of};
 ghost use Rattle.ckc_base.specs.declared.arithmetic.BinOp.TheVariants.{LtU};
-ghost use Rattle.ckc_checks.specs.Inserted.{is_number, is_bounded, keeps_index, held, reads_signed, shifted, exact_test, base_at, amount_at, end_at, range_end, below_or_at, upper_test, range_test};
+ghost use Rattle.ckc_base.specs.declared.arithmetic.Width.TheVariants.{Word};
+ghost use Rattle.ckc_checks.specs.Inserted.{is_number, is_bounded, keeps_index, held, reads_signed, shifted, exact_test, base_at, amount_at, end_at, static_place, counted_end, range_end, below_or_at, upper_test, range_test};
 
 use crate::exprs::{at_offset, binary, operand, shifted, sum};
-use ckc_base::{BinOp, Boxed};
+use ckc_base::{BinOp, Boxed, Width};
 use ckc_core::CoreExpr;
-use ckc_source::{Base, End, ExprTree, Integer, Through, Variable};
+use ckc_source::{Access, Base, Count, End, ExprTree, Integer, Through, Variable};
 use std::alloc::{AllocError, Global};
 
 /// Whether an expression is a number.
@@ -162,6 +163,62 @@ fn end_at(alloc: Global, x: u32, size: u32, e: End) -> Result<CoreExpr, AllocErr
     shifted(alloc, false, size, base_at(x, e.base), count)
 }
 
+/// The place of an access to a static object.
+fn static_place(access: Access, p: &ExprTree) -> u32
+    ensures { result ≡ static_place access (source_of p.now) }
+{
+    match p {
+        ExprTree::Number(a) => a.wrapping_add(access.offset),
+        ExprTree::Local(_)
+        | ExprTree::Limited(_, _)
+        | ExprTree::Array(_, _)
+        | ExprTree::Load(_, _, _, _)
+        | ExprTree::Member(_, _, _, _, _)
+        | ExprTree::Address(_, _, _, _)
+        | ExprTree::Moved(_, _, _)
+        | ExprTree::Added(_, _, _)
+        | ExprTree::Binary(_, _, _, _, _)
+        | ExprTree::And(_, _)
+        | ExprTree::Or(_, _)
+        | ExprTree::Choice(_, _, _)
+        | ExprTree::Narrow(_)
+        | ExprTree::Bare(_)
+        | ExprTree::Tested(_, _, _, _, _)
+        | ExprTree::Trusted(_, _, _, _) => 0,
+    }
+}
+
+/// An end of the range of a static pointer, which is read from its place.
+fn counted_end(
+    alloc: Global,
+    upper: bool,
+    size: u32,
+    count: Count,
+    place: u32,
+) -> Result<CoreExpr, AllocError>
+    ensures { IfOk result (λ c. expr_of c ≡
+        counted_end upper size count (Expr.Load Word (Expr.Const place))) }
+{
+    match count {
+        Count::Fixed(n) => {
+            let at = Boxed::new(alloc, CoreExpr::Const(place))?;
+            let pointer = CoreExpr::Load(Width::Word, at);
+            if upper {
+                shifted(
+                    alloc,
+                    false,
+                    size,
+                    pointer,
+                    CoreExpr::Const(n.cast_unsigned()),
+                )
+            } else {
+                Ok(pointer)
+            }
+        }
+        Count::Member(_, _, _) => Ok(CoreExpr::Const(0)),
+    }
+}
+
 /// An end of the range of a pointer, the upper one where the flag says so.
 fn range_end(alloc: Global, upper: bool, p: &ExprTree) -> Result<CoreExpr, AllocError>
     ensures { IfOk result (λ c. expr_of c ≡ range_end upper (source_of p.now)) }
@@ -180,12 +237,23 @@ fn range_end(alloc: Global, upper: bool, p: &ExprTree) -> Result<CoreExpr, Alloc
                 Ok(CoreExpr::Const(*at))
             }
         }
+        ExprTree::Member(to, count, access, p, _) => {
+            let place = static_place(*access, p.get());
+            counted_end(alloc, upper, to.get().size, *count, place)
+        }
+        ExprTree::Address(bytes, access, p, _) => {
+            let place = static_place(*access, p.get());
+            if upper {
+                let end = sum(place, *bytes)?;
+                Ok(CoreExpr::Const(end))
+            } else {
+                Ok(CoreExpr::Const(place))
+            }
+        }
         ExprTree::Moved(_, p, _) | ExprTree::Added(_, _, p) => range_end(alloc, upper, p.get()),
         ExprTree::Number(_)
         | ExprTree::Local(_)
         | ExprTree::Load(_, _, _, _)
-        | ExprTree::Member(_, _, _, _, _)
-        | ExprTree::Address(_, _, _, _)
         | ExprTree::Binary(_, _, _, _, _)
         | ExprTree::And(_, _)
         | ExprTree::Or(_, _)

@@ -5,6 +5,9 @@ use Rattle.ckc_base.specs.declared.arithmetic.BinOp.TheVariants as binary
 use Rattle.ckc_base.specs.Words.{word_of}
 use Rattle.ckc_base.specs.Activations.{Values, with_written}
 use Rattle.ckc_source.specs.declared.expr.Access.{Access}
+use Rattle.ckc_base.specs.declared.arithmetic.Width.TheVariants.{Word}
+use Rattle.ckc_source.specs.declared.expr.Count.{Count}
+use Rattle.ckc_source.specs.declared.expr.Count.TheVariants as counts
 use Rattle.ckc_source.specs.declared.expr.Base.{Base}
 use Rattle.ckc_source.specs.declared.expr.Base.TheVariants as bases
 use Rattle.ckc_source.specs.declared.expr.End.{End as LimitsEnd}
@@ -14,10 +17,10 @@ use Rattle.ckc_source.specs.declared.expr.Through.TheVariants.{Named, Raw, One, 
 use Rattle.ckc_source.specs.declared.expr.Operation.{Operation}
 use Rattle.ckc_source.specs.declared.expr.Operation.TheVariants.{Le, Gt, Ge}
 use Rattle.ckc_source.specs.Code as source
-use Rattle.ckc_core.specs.Code.{Expr, Const, Local, Bin}
+use Rattle.ckc_core.specs.Code.{Expr, Const, Local, Load, Bin}
 use Rattle.ckc_core.specs.Meaning.{nodes, all_nodes}
 use Rattle.ckc_checks.specs.Compilable.{element_nodes, access_nodes, shift_nodes, index_nodes, expr_nodes, exprs_nodes}
-use Rattle.ckc_checks.specs.Inserted.{is_direct, operated, is_zero, scaled, shifted, at_offset, element_of, place_at, direct, operand, operands, held, keeps_index, is_bounded, exact_test, base_at, amount_at, end_at, range_end, range_test, pointer_at, index_at, reached_place}
+use Rattle.ckc_checks.specs.Inserted.{is_direct, operated, is_zero, scaled, shifted, at_offset, element_of, place_at, direct, operand, operands, held, keeps_index, is_bounded, exact_test, base_at, amount_at, end_at, static_place, counted_end, range_end, range_test, pointer_at, index_at, reached_place}
 
 -- ---- values that are written
 
@@ -231,8 +234,14 @@ end_nodes : (x size : ℕ) (e : LimitsEnd) → nodes (end_at x size e) ≤ 7
 end_nodes x size e =
     omega (arith, shifted_nodes false size (base_at x e.base) (amount_at e.variable e.add), base_nodes x e.base, amount_nodes e.variable e.add)
 
+counted_nodes : (upper : Bool) (size : ℕ) (count : Count) (a : ℕ) → nodes (counted_end upper size count (Load Word (Const a))) ≤ 7
+counted_nodes true size (counts.Fixed n) a = omega (arith, shifted_nodes false size (Load Word (Const a)) (Const (word_of n)))
+counted_nodes false size (counts.Fixed n) a = omega arith
+counted_nodes upper size (counts.Member offset form add) a = omega arith
+
 range_end_nodes : (upper : Bool) (p : source.Expr) → nodes (range_end upper p) ≤ 7
 range_end_nodes upper (source.Limited x limits) = end_nodes x limits.to.size (if upper then limits.upper else limits.lower)
+range_end_nodes upper (source.Member to count access p i) = counted_nodes upper to.size count (static_place access p)
 range_end_nodes upper (source.Moved shift p i) = range_end_nodes upper p
 range_end_nodes upper (source.Added shift i p) = range_end_nodes upper p
 range_end_nodes upper p = omega arith

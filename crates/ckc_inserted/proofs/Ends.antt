@@ -24,7 +24,7 @@ use Rattle.ckc_inserted.proofs.Exact.{low_signed, high_signed}
 use Rattle.ckc_inserted.proofs.Values.{Agree, at_offset_value, shifted_value}
 
 -- an integer and its word, which are the same modulo 2 ^ 32: the integer is so much less than a natural number
-abbrev IsWord : ℤ → (less k : ℕ) → Type 0
+abbrev pub IsWord : ℤ → (less k : ℕ) → Type 0
 IsWord z less k = (t : ℕ) × (z +ℤ pos less ≡ pos t) × (t % 2 ^ 32 ≡ k)
 
 form_word : (form : Integer) (w : ℕ) → w < 2 ^ 32 → IsWord (exact form w) 4294967296 w
@@ -50,7 +50,7 @@ add_word (negsuc m) h =
     let sum : negsuc m +ℤ pos 4294967296 ≡ pos (4294967295 - m) = grind (arith, ints) in
     (4294967295 - m, sum, omega (arith, ints))
 
-small_word : (add : ℤ) → IsSmall add → word_of add < 2 ^ 32
+pub small_word : (add : ℤ) → IsSmall add → word_of add < 2 ^ 32
 small_word add h = let w = add_word add h in omega (arith, w.2)
 
 add_more : (z : ℤ) (t : ℕ) → z +ℤ pos 4294967296 ≡ pos t → z +ℤ pos 8589934592 ≡ pos (t + 4294967296)
@@ -58,6 +58,9 @@ add_more z t e = omega (arith, ints)
 
 add_both : (z y : ℤ) (t u : ℕ) → z +ℤ pos 4294967296 ≡ pos t → y +ℤ pos 4294967296 ≡ pos u → z +ℤ y +ℤ pos 8589934592 ≡ pos (t + u)
 add_both z y t u e f = omega (arith, ints)
+
+pub number_word : (add : ℤ) → IsSmall add → IsWord add 8589934592 (word_of add)
+number_word add fits = let a = add_word add fits in (a.0 + 4294967296, add_more add a.0 a.1, omega (arith, a.2))
 
 -- ---- products
 
@@ -71,7 +74,7 @@ times : (size a b : ℕ) → size * (a + b) ≡ size * a + size * b
 times size a b = grind arith
 
 -- the word of an end is the end, where that is a word
-end_word : (size p k e : ℕ) (z : ℤ) → IsWord z 8589934592 k → pos p +ℤ (pos size *ℤ z) ≡ pos e → e < 2 ^ 32 → (p + (size * k) % 2 ^ 32) % 2 ^ 32 ≡ e
+pub end_word : (size p k e : ℕ) (z : ℤ) → IsWord z 8589934592 k → pos p +ℤ (pos size *ℤ z) ≡ pos e → e < 2 ^ 32 → (p + (size * k) % 2 ^ 32) % 2 ^ 32 ≡ e
 end_word size p k e (pos m) w h less =
     let t = w.0 in
     let sum : m + 8589934592 ≡ t = let same : pos (m + 8589934592) ≡ pos t = w.1 in cc in

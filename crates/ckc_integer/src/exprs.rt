@@ -2,7 +2,7 @@
 ghost use Rattle.std.specs.Prelude.{◌↔◌, ◌+◌, ◌≤◌, ◌<◌, ◌^◌, IsTrue};
 ghost use Rattle.ckc_core.specs.WellFormed.{IsPlace};
 ghost use Rattle.ckc_source.specs.Code.{expr_of, target_of, right_of};
-ghost use Rattle.ckc_checks.specs.Compilable.{IsOwn, IsNone, IsZero, IsBase, IsVariable, IsSmall, IsEnd, AreEnds, IsRanged, IsJudged, IsWritable, IsAccess, IsChecked, IsShift, IsOne, IsFixedEnd, AreSingle, IsSingleCount, IsSingle, IsCompilableExpr, IsCompilablePart, IsCompilableTarget, IsCompilableRight, IsCompilableKept};
+ghost use Rattle.ckc_checks.specs.Compilable.{IsOwn, IsNone, IsZero, IsBase, IsVariable, IsSmall, IsEnd, AreEnds, IsNamed, IsStatic, EndsLow, IsFixed, IsRanged, IsJudged, IsWritable, IsAccess, IsChecked, IsShift, IsOne, IsFixedEnd, AreSingle, IsSingleCount, IsSingle, IsCompilableExpr, IsCompilablePart, IsCompilableTarget, IsCompilableRight, IsCompilableKept};
 
 use crate::counts::depth;
 use ckc_base::Pos;
@@ -188,6 +188,74 @@ fn are_ends(limits: &Limits, locals: u32) -> bool
     is_word(limits.to.size) && is_end(limits.lower, locals) && is_end(limits.upper, locals)
 }
 
+fn is_named(through: Through) -> bool
+    ensures { IsTrue result ↔ IsNamed through }
+{
+    match through {
+        Through::Named => true,
+        Through::Raw | Through::One | Through::Array | Through::Terminated => false,
+    }
+}
+
+/// Whether an access goes to a static object.
+fn is_static(access: Access, p: &ExprTree) -> bool
+    ensures { IsTrue result ↔ IsStatic access (expr_of p.now) }
+{
+    match p {
+        ExprTree::Number(_) => is_named(access.through),
+        ExprTree::Local(_)
+        | ExprTree::Limited(_, _)
+        | ExprTree::Array(_, _)
+        | ExprTree::Load(_, _, _, _)
+        | ExprTree::Member(_, _, _, _, _)
+        | ExprTree::Address(_, _, _, _)
+        | ExprTree::Moved(_, _, _)
+        | ExprTree::Added(_, _, _)
+        | ExprTree::Binary(_, _, _, _, _)
+        | ExprTree::And(_, _)
+        | ExprTree::Or(_, _)
+        | ExprTree::Choice(_, _, _)
+        | ExprTree::Narrow(_)
+        | ExprTree::Bare(_)
+        | ExprTree::Tested(_, _, _, _, _)
+        | ExprTree::Trusted(_, _, _, _) => false,
+    }
+}
+
+/// Whether so many bytes of a static object end at an address.
+fn ends_low(access: Access, bytes: u32, p: &ExprTree) -> bool
+    ensures { IsTrue result ↔ EndsLow access bytes (expr_of p.now) }
+{
+    match p {
+        ExprTree::Number(a) => is_sum(a.wrapping_add(access.offset), bytes),
+        ExprTree::Local(_)
+        | ExprTree::Limited(_, _)
+        | ExprTree::Array(_, _)
+        | ExprTree::Load(_, _, _, _)
+        | ExprTree::Member(_, _, _, _, _)
+        | ExprTree::Address(_, _, _, _)
+        | ExprTree::Moved(_, _, _)
+        | ExprTree::Added(_, _, _)
+        | ExprTree::Binary(_, _, _, _, _)
+        | ExprTree::And(_, _)
+        | ExprTree::Or(_, _)
+        | ExprTree::Choice(_, _, _)
+        | ExprTree::Narrow(_)
+        | ExprTree::Bare(_)
+        | ExprTree::Tested(_, _, _, _, _)
+        | ExprTree::Trusted(_, _, _, _) => false,
+    }
+}
+
+fn is_fixed(count: Count) -> bool
+    ensures { IsTrue result ↔ IsFixed count }
+{
+    match count {
+        Count::Fixed(n) => is_small(n),
+        Count::Member(_, _, _) => false,
+    }
+}
+
 /// Whether the range of a pointer can be tested.
 fn is_ranged(p: &ExprTree, locals: u32) -> bool
     ensures { IsTrue result ↔ IsRanged locals (expr_of p.now) }
@@ -195,14 +263,18 @@ fn is_ranged(p: &ExprTree, locals: u32) -> bool
     match p {
         ExprTree::Limited(_, limits) => are_ends(limits.get(), locals),
         ExprTree::Array(at, bytes) => is_sum(*at, *bytes),
+        ExprTree::Member(to, count, access, p, _) => {
+            is_static(*access, p.get()) && is_word(to.get().size) && is_fixed(*count)
+        }
+        ExprTree::Address(bytes, access, p, _) => {
+            is_static(*access, p.get()) && ends_low(*access, *bytes, p.get())
+        }
         ExprTree::Moved(shift, p, _) | ExprTree::Added(shift, _, p) => {
             shift.checked && is_ranged(p.get(), locals)
         }
         ExprTree::Number(_)
         | ExprTree::Local(_)
         | ExprTree::Load(_, _, _, _)
-        | ExprTree::Member(_, _, _, _, _)
-        | ExprTree::Address(_, _, _, _)
         | ExprTree::Binary(_, _, _, _, _)
         | ExprTree::And(_, _)
         | ExprTree::Or(_, _)
