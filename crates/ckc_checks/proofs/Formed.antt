@@ -28,11 +28,11 @@ use Rattle.ckc_source.specs.Code as source
 use Rattle.std.proofs.lemmas.Int.{ints}
 use Rattle.ckc_base.specs.Words.{word_of}
 use Rattle.ckc_source.specs.Words.{divides}
-use Rattle.ckc_core.specs.Code.{Expr, Const, Local, Load, Bin, High, Code, End, Set, Check, Function}
+use Rattle.ckc_core.specs.Code.{Expr, Const, Local, Load, Bin, Code, End, Set, Check, Function}
 use Rattle.ckc_core.specs.WellFormed.{IsExprOver, IsCodeOver, IsFunctionOver, IsWellFormed, HasParams, IsPlace}
 use Rattle.ckc_checks.specs.Compilable as form
 use Rattle.ckc_checks.specs.Compilable.{IsBase, IsVariable, IsSmall, IsEnd, IsFixed, IsJudged, IsRanged, IsAccess, IsChecked, IsCompilableExpr, IsCompilablePart, IsCompilableTarget, IsCompilableRight, IsCompilableKept, IsCompilableCode, IsCompilableFunction, IsCompilable}
-use Rattle.ckc_checks.specs.Inserted.{is_direct, operated, low_byte, as_truth, is_zero, scaled, shifted, at_offset, element_of, place_at, held, put_if, room_if, keeps_index, is_bounded, reads_signed, exact_test, unless_zero, exact_code, moved_code, base_at, amount_at, end_at, static_place, counted_end, range_end, below_or_at, upper_test, range_test, element_code, bounded_code, judged, pointer_at, index_at, reached_code, reached_place, reached_room, direct, operand, operation_code, expr_code, operand_code, operands_code, operands, expr_room, operand_room, operands_room, is_narrow, kept_in, aim_code, target_count, written, fixed, written_there, right_assigned, target_room, aimed_room, assigned_room, result_in, result_kept, statements, room, zeroed, function_code, inserted}
+use Rattle.ckc_checks.specs.Inserted.{is_direct, operated, low_byte, as_truth, is_zero, scaled, shifted, at_offset, element_of, place_at, held, put_if, room_if, keeps_index, is_bounded, reads_signed, exact_test, exact_code, base_at, amount_at, end_at, counted_end, range_end, upper_test, range_test, bounded_code, judged, pointer_at, index_at, reached_code, reached_place, reached_room, direct, operand, operation_code, expr_code, operand_code, operands_code, operands, expr_room, operand_room, operands_room, is_narrow, kept_in, aim_code, target_count, written, fixed, written_there, right_assigned, target_room, aimed_room, assigned_room, result_in, result_kept, statements, room, zeroed, function_code, inserted}
 
 -- an expression needs a temporary for its value
 pub expr_room_some : (e : source.Expr) → 1 ≤ expr_room e

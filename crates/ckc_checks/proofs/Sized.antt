@@ -23,10 +23,10 @@ use Rattle.ckc_source.specs.declared.stmt.Kept.TheVariants as kept
 use Rattle.ckc_source.specs.Code as source
 use Rattle.ckc_base.specs.Words.{word_of}
 use Rattle.ckc_source.specs.Words.{divides}
-use Rattle.ckc_core.specs.Code.{Expr, Const, Local, Load, Bin, High, Code, End, Set, Check}
+use Rattle.ckc_core.specs.Code.{Expr, Const, Local, Load, Bin, Code, End, Set, Check}
 use Rattle.ckc_core.specs.Sizes.{expr_size, exprs_size, set_size, code_size, function_size, program_size}
 use Rattle.ckc_checks.specs.Compilable.{element_nodes, access_nodes, shift_nodes, index_nodes, expr_nodes, exprs_nodes, target_nodes, right_nodes, code_nodes, function_nodes, program_nodes}
-use Rattle.ckc_checks.specs.Inserted.{is_direct, operated, low_byte, as_truth, is_zero, scaled, shifted, at_offset, element_of, place_at, held, put_if, is_number, keeps_index, is_bounded, reads_signed, exact_test, unless_zero, exact_code, moved_code, base_at, amount_at, end_at, static_place, counted_end, range_end, below_or_at, upper_test, range_test, element_code, bounded_code, judged, pointer_at, index_at, reached_code, reached_place, direct, operand, operation_code, expr_code, operand_code, operands_code, operands, is_narrow, aim_code, target_count, written, fixed, written_there, right_assigned, result_in, result_kept, statements, zeroed, function_code, inserted}
+use Rattle.ckc_checks.specs.Inserted.{is_direct, operated, low_byte, as_truth, is_zero, scaled, shifted, at_offset, element_of, place_at, held, put_if, keeps_index, is_bounded, reads_signed, exact_test, exact_code, moved_code, base_at, amount_at, end_at, static_place, counted_end, range_end, range_test, element_code, bounded_code, judged, reached_place, direct, operand, operation_code, expr_code, operand_code, operands_code, operands, is_narrow, aim_code, target_count, written, fixed, written_there, right_assigned, result_in, result_kept, statements, zeroed, function_code, inserted}
 
 element_some : (zero : Bool) → 4 ≤ (if zero then 4 else 6)
 element_some true = omega arith

@@ -18,7 +18,6 @@ use Rattle.ckc_source.specs.declared.expr.Base.TheVariants as bases
 use Rattle.ckc_source.specs.declared.expr.End.{End as LimitsEnd}
 use Rattle.ckc_source.specs.declared.expr.Integer.{Integer}
 use Rattle.ckc_source.specs.declared.expr.Integer.TheVariants as integer
-use Rattle.ckc_source.specs.declared.expr.Limits.{Limits}
 use Rattle.ckc_source.specs.declared.expr.Shift.{Shift}
 use Rattle.ckc_source.specs.declared.expr.Variable.{Variable}
 use Rattle.ckc_source.specs.declared.expr.Operation.{Operation}
