@@ -27,7 +27,7 @@ use Rattle.ckc_source.specs.Blocks.{first_place, loaded}
 use Rattle.ckc_source.specs.Runs.{is_true}
 use Rattle.ckc_source.specs.Code as source
 use Rattle.ckc_source.specs.Words.{exact, as_address, elements_behind}
-use Rattle.ckc_source.specs.Eval.{Store, given, given_both, stops, plain, end_address, ranged, reads, reads_within, given_some, spanned, element, element_through, place_in, counted, loads_pointer, at_address, moves, moves_checked, moved_exactly, evaluated}
+use Rattle.ckc_source.specs.Eval.{Store, given, given_both, stops, plain, end_address, ranged, reads, reads_within, given_some, spanned, element, element_through, place_in, loads_pointer, at_address, moves, moves_checked, moved_exactly, evaluated}
 use Rattle.ckc_core.specs.Code.{Expr, Const, Local, Load}
 use Rattle.ckc_core.specs.Meaning.{value_of, both}
 use Rattle.ckc_checks.specs.Compilable.{AreEnds, IsNamed, IsFixed, IsRanged, IsCompilableExpr}
