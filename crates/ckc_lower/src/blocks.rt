@@ -157,7 +157,9 @@ impl Builder {
         requires room { locals ≤ 2000 }
         requires address { IsShallow (expr_of a.now) }
         requires value { IsShallow (expr_of e.now) }
-        ensures { OnOk result (self.new ≡ stored locals (expr_of a.now) (expr_of e.now) (TacOp.Store width) self.old) }
+        ensures { OnOk result
+            (self.new ≡ stored locals (expr_of a.now) (expr_of e.now) (TacOp.Store width)
+            self.old) }
     {
         let t = free_after(a, locals);
         self.value(a, None, locals)?;
@@ -168,7 +170,8 @@ impl Builder {
     fn check(&mut self, check: Check, at: Pos, e: &CoreExpr, locals: u32) -> Result<(), AllocError>
         requires room { locals ≤ 2000 }
         requires value { IsShallow (expr_of e.now) }
-        ensures { OnOk result (self.new ≡ used locals (expr_of e.now) (TacOp.Check check at) self.old) }
+        ensures { OnOk result
+            (self.new ≡ used locals (expr_of e.now) (TacOp.Check check at) self.old) }
     {
         self.value(e, None, locals)?;
         self.op(TacOp::Check(check, at, operand(e, locals)))
@@ -206,7 +209,8 @@ impl Builder {
     fn allocate(&mut self, x: u32, e: &CoreExpr, size: u32, locals: u32) -> Result<(), AllocError>
         requires room { locals ≤ 2000 }
         requires value { IsShallow (expr_of e.now) }
-        ensures { OnOk result (self.new ≡ used locals (expr_of e.now) (λ r. TacOp.Alloc x r size) self.old) }
+        ensures { OnOk result
+            (self.new ≡ used locals (expr_of e.now) (λ r. TacOp.Alloc x r size) self.old) }
     {
         self.value(e, None, locals)?;
         self.op(TacOp::Alloc(x, operand(e, locals), size))
@@ -227,7 +231,9 @@ impl Builder {
     ) -> Result<(), AllocError>
         requires left { t + depth (expr_of a.now) < 2 ^ 32 }
         requires right { t + 1 + depth (expr_of b.now) < 2 ^ 32 }
-        ensures { OnOk result (self.new ≡ tested t (test comparison (expr_of a.now) (expr_of b.now) turned) one two self.old) }
+        ensures { OnOk result
+            (self.new ≡ tested t (test comparison (expr_of a.now) (expr_of b.now) turned) one two
+            self.old) }
     {
         let u = free_after(a, t);
         self.value(a, None, t)?;
@@ -248,7 +254,9 @@ impl Builder {
         t: u32,
     ) -> Result<(), AllocError>
         requires { t + depth (expr_of e.now) < 2 ^ 32 }
-        ensures { OnOk result (self.new ≡ tested t (test comparison.Ne (expr_of e.now) (Const 0) turned) one two self.old) }
+        ensures { OnOk result
+            (self.new ≡ tested t (test comparison.Ne (expr_of e.now) (Const 0) turned) one two
+            self.old) }
     {
         self.value(e, None, t)?;
         let (first, second) = (picked(turned, one, two), picked(turned, two, one));
@@ -270,7 +278,8 @@ impl Builder {
         t: u32,
     ) -> Result<(), AllocError>
         requires { t + depth (expr_of e.now) < 2 ^ 32 }
-        ensures { OnOk result (self.new ≡ tested t (test_of (expr_of e.now) turned) one two self.old) }
+        ensures { OnOk result
+            (self.new ≡ tested t (test_of (expr_of e.now) turned) one two self.old) }
     {
         match e {
             CoreExpr::Bin(op, a, b) => {
@@ -388,7 +397,8 @@ impl Builder {
     ) -> Result<(), AllocError>
         requires room { locals ≤ 2000 }
         requires limits { KeepsLimits (code_of stmts.now) }
-        ensures { OnOk result (self.new ≡ built locals is_fresh (code_of stmts.now) exit loop_at self.old) }
+        ensures { OnOk result
+            (self.new ≡ built locals is_fresh (code_of stmts.now) exit loop_at self.old) }
     {
         let mut fresh = is_fresh;
         for (i, s) in stmts.iter().enumerate() {
