@@ -4,3 +4,4 @@ pub mod ItemsKept
 pub mod Numbered
 pub mod Ordered
 pub mod LocalsCounted
+pub mod MembersDiffer

@@ -106,7 +106,7 @@ decl_name names within outside n d =
     bound (λ b. Unit {0}) (λ e. e.name ≡ n) _ _ (anything (bounds_named names within d.bounds)) (λ b v.
     bound (λ i. Unit {0}) (λ e. e.name ≡ n) _ _ (anything (init_named names outside d.init)) (λ i w. refl)))
 
-not_taken : {A : Type 0} (P : A → Type 0) (b : Bool) (pos : Pos) (a : A) → (b ≡ false → P a) → Gives P (unless_taken b pos a)
+pub not_taken : {A : Type 0} (P : A → Type 0) (b : Bool) (pos : Pos) (a : A) → (b ≡ false → P a) → Gives P (unless_taken b pos a)
 not_taken P true pos a h = tt
 not_taken P false pos a h = h refl
 

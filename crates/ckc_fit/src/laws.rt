@@ -6,6 +6,7 @@ ghost use Rattle.ckc_resolve.specs.Trees.{Tree};
 ghost use Rattle.ckc_resolve.specs.Phase.{naming};
 ghost use Rattle.ckc_welltyped.specs.Productions.{given_tree};
 ghost use Rattle.ckc_fit.specs.Locals.{item_locals};
+ghost use Rattle.ckc_fit.specs.Members.{item_members, AreDifferent};
 ghost use Rattle.ckc_fit.specs.Numbers.{static_numbers, CountsFrom, function_numbers, tag_numbers, CountsUp};
 
 /// The grammar gives a tree whose names are resolved just where it gives the tree of the spellings: calls stand in the
@@ -35,4 +36,10 @@ pub fn functions_and_tags_are_numbered()
 pub fn locals_are_numbered()
     ensures counted { (t : Tree) (n : NamedText) →
         naming.Makes t n → All (λ i. CountsFrom 0 (item_locals i)) n.tree.items }
+{}
+
+/// The members of one structure have different numbers.
+pub fn members_differ()
+    ensures differ { (t : Tree) (n : NamedText) →
+        naming.Makes t n → All (λ i. AreDifferent (item_members i)) n.tree.items }
 {}

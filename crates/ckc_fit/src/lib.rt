@@ -5,5 +5,6 @@
 mod laws;
 
 pub use laws::{
-    functions_and_tags_are_numbered, locals_are_numbered, names_keep_form, statics_are_numbered,
+    functions_and_tags_are_numbered, locals_are_numbered, members_differ, names_keep_form,
+    statics_are_numbered,
 };
