@@ -25,7 +25,8 @@ pub fn assign(alloc: Global, t: &Tac) -> Result<Placed, AllocError>
     ensures whole { IfOk result (λ p. frame.IsWellFormed p) }
     ensures apart { IfOk result (λ p. All AreApart p.funcs) }
     ensures size { IfOk result (λ p. frame.program_size p ≡ tac_size t.now) }
-    ensures follows { IfOk result (λ p. (input : List ℕ) → Follows (tac_detail t.now input) (placed_detail p input) 1) }
+    ensures follows { IfOk result
+        (λ p. (input : List ℕ) → Follows (tac_detail t.now input) (placed_detail p input) 1) }
 {
     placed(alloc, t)
 }

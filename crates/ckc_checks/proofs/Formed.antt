@@ -1,6 +1,6 @@
 -- What is inserted names only what is there.
 use Rattle.std.proofs.Common.{◌≡◌, ℕ, zero, suc, ◌+◌, ◌-◌, ◌≤◌, ◌<◌, List, [], ◌∷◌, length, refl, sym, ◌∙◌, ap, subst, arith, lit<}
-use Rattle.std.specs.Prelude.{◌^◌, ◌==◌, Bool, true, false, if◌then◌else◌, Option, Some, None, slice_get, map, All, IfSome}
+use Rattle.std.specs.Prelude.{ℤ, pos, negsuc, ◌^◌, ◌==◌, Bool, true, false, if◌then◌else◌, Option, Some, None, slice_get, map, All, IfSome}
 use Rattle.std.specs.Option.{option_map}
 use Rattle.std.proofs.lemmas.Option.{slice_get-map}
 use Rattle.std.proofs.lemmas.List.Elements.{All-nil, All-cons, All-head, All-tail, All-map, All-weaker}
@@ -10,6 +10,14 @@ use Rattle.ckc_base.specs.declared.places.Pos.{Pos}
 use Rattle.ckc_base.specs.declared.runtime_checks.Check.TheVariants as check
 use Rattle.ckc_base.specs.declared.arithmetic.BinOp.TheVariants as binary
 use Rattle.ckc_source.specs.declared.expr.Access.{Access}
+use Rattle.ckc_source.specs.Eval.{place_in}
+use Rattle.ckc_source.specs.declared.expr.Count.{Count}
+use Rattle.ckc_source.specs.declared.expr.Count.TheVariants as counts
+use Rattle.ckc_source.specs.declared.expr.Base.{Base}
+use Rattle.ckc_source.specs.declared.expr.Base.TheVariants as bases
+use Rattle.ckc_source.specs.declared.expr.End.{End as LimitsEnd}
+use Rattle.ckc_source.specs.declared.expr.Shift.{Shift}
+use Rattle.ckc_source.specs.declared.expr.Variable.{Variable}
 use Rattle.ckc_source.specs.declared.expr.Through.{Through}
 use Rattle.ckc_source.specs.declared.expr.Through.TheVariants.{Named, Raw, One, Array, Terminated}
 use Rattle.ckc_source.specs.declared.expr.Operation.{Operation}
@@ -17,12 +25,14 @@ use Rattle.ckc_source.specs.declared.expr.Operation.TheVariants.{Le, Gt, Ge}
 use Rattle.ckc_source.specs.declared.stmt.Kept.{Kept}
 use Rattle.ckc_source.specs.declared.stmt.Kept.TheVariants as kept
 use Rattle.ckc_source.specs.Code as source
+use Rattle.std.proofs.lemmas.Int.{ints}
+use Rattle.ckc_base.specs.Words.{word_of}
 use Rattle.ckc_source.specs.Words.{divides}
 use Rattle.ckc_core.specs.Code.{Expr, Const, Local, Load, Bin, Code, End, Set, Check, Function}
 use Rattle.ckc_core.specs.WellFormed.{IsExprOver, IsCodeOver, IsFunctionOver, IsWellFormed, HasParams, IsPlace}
 use Rattle.ckc_checks.specs.Compilable as form
-use Rattle.ckc_checks.specs.Compilable.{IsAccess, IsCompilableExpr, IsCompilablePart, IsCompilableTarget, IsCompilableRight, IsCompilableKept, IsCompilableCode, IsCompilableFunction, IsCompilable}
-use Rattle.ckc_checks.specs.Inserted.{is_direct, operated, low_byte, as_truth, is_zero, scaled, shifted, at_offset, element_of, place_at, checks_null, null_check, direct, operand, operation_code, expr_code, operand_code, operands_code, operands, expr_room, operand_room, operands_room, is_narrow, kept_in, aim_code, target_count, written, fixed, written_there, right_assigned, target_room, aimed_room, assigned_room, result_in, result_kept, statements, room, zeroed, function_code, inserted}
+use Rattle.ckc_checks.specs.Compilable.{IsBase, IsVariable, IsSmall, IsEnd, IsFixed, IsJudged, IsRanged, IsAccess, IsChecked, IsCompilableExpr, IsCompilablePart, IsCompilableTarget, IsCompilableRight, IsCompilableKept, IsCompilableCode, IsCompilableFunction, IsCompilable}
+use Rattle.ckc_checks.specs.Inserted.{is_direct, operated, low_byte, as_truth, is_zero, scaled, shifted, at_offset, element_of, place_at, held, put_if, room_if, keeps_index, is_bounded, reads_signed, exact_test, exact_code, base_at, amount_at, end_at, counted_end, range_end, upper_test, range_test, bounded_code, judged, pointer_at, index_at, reached_code, reached_place, reached_room, direct, operand, operation_code, expr_code, operand_code, operands_code, operands, expr_room, operand_room, operands_room, is_narrow, kept_in, aim_code, target_count, written, fixed, written_there, right_assigned, target_room, aimed_room, assigned_room, result_in, result_kept, statements, room, zeroed, function_code, inserted}
 
 -- an expression needs a temporary for its value
 pub expr_room_some : (e : source.Expr) → 1 ≤ expr_room e
@@ -32,9 +42,18 @@ expr_room_some (source.Tested size how at p k) = omega (arith, expr_room_some p)
 expr_room_some (source.Trusted to how p k) = omega (arith, expr_room_some p)
 expr_room_some e = omega arith
 
+-- checked arithmetic has a place
+checked_place : (shift : Shift) (checked : Bool) → IsChecked checked shift → checked ≡ true → IsPlace shift.at
+checked_place shift true h e = h.0
+checked_place shift false h e = absurd cc
+
 pub length-operands : (es : List source.Expr) (t : ℕ) → length (operands es t) ≡ length es
 length-operands [] t = refl
 length-operands (e ∷ es) t = ap suc (length-operands es (t + 1))
+
+small_word : (add : ℤ) → IsSmall add → word_of add < 2 ^ 32
+small_word (pos n) h = let less : n < 2 ^ 31 = grind (arith, ints) in omega (arith, ints)
+small_word (negsuc n) h = omega (arith, ints)
 
 module _ (few locals : ℕ) (more : few ≤ locals) where
   operated_over : (o : Operation) (s : Bool) (a b : Expr) → IsExprOver locals a → IsExprOver locals b → IsExprOver locals (operated o s a b)
@@ -73,8 +92,8 @@ module _ (few locals : ℕ) (more : few ≤ locals) where
   element_over Array size a i h x y = x
   element_over Terminated size a i h x y = x
 
-  place_over : (access : Access) (index : source.Expr) (a i : Expr) → IsAccess access index → IsExprOver locals a → IsExprOver locals i → IsExprOver locals (place_at access a i)
-  place_over access index a i h x y =
+  place_over : (access : Access) (pointer index : source.Expr) (a i : Expr) → IsAccess few access pointer index → IsExprOver locals a → IsExprOver locals i → IsExprOver locals (place_at access a i)
+  place_over access pointer index a i h x y =
       at_offset_over access.offset (element_of access.through access.size a i) h.2 (element_over access.through access.size a i h.1 x y)
 
   direct_over : (e : source.Expr) → IsCompilableExpr few e → IsExprOver locals (direct e)
@@ -82,11 +101,11 @@ module _ (few locals : ℕ) (more : few ≤ locals) where
   direct_over (source.Local x) h = omega arith
   direct_over (source.Limited x limits) h = omega arith
   direct_over (source.Array at bytes) h = h
-  direct_over (source.Load w access p i) h = place_over access i (direct p) (direct i) h.0 (direct_over p h.1) (direct_over i h.2)
-  direct_over (source.Member to count access p i) h = place_over access i (direct p) (direct i) h.0 (direct_over p h.1) (direct_over i h.2)
-  direct_over (source.Address bytes access p i) h = place_over access i (direct p) (direct i) h.0 (direct_over p h.1) (direct_over i h.2)
-  direct_over (source.Moved shift p i) h = let s = h.0 in shifted_over shift.back shift.size (direct p) (direct i) s.1 (direct_over p h.1) (direct_over i h.2)
-  direct_over (source.Added shift i p) h = let s = h.0 in shifted_over shift.back shift.size (direct p) (direct i) s.1 (direct_over p h.2) (direct_over i h.1)
+  direct_over (source.Load w access p i) h = place_over access p i (direct p) (direct i) h.0 (direct_over p h.1) (direct_over i h.2)
+  direct_over (source.Member to count access p i) h = place_over access p i (direct p) (direct i) h.0 (direct_over p h.1) (direct_over i h.2)
+  direct_over (source.Address bytes access p i) h = place_over access p i (direct p) (direct i) h.0 (direct_over p h.1) (direct_over i h.2)
+  direct_over (source.Moved shift p i) h = let s = h.0 in shifted_over shift.back shift.size (direct p) (direct i) s.0 (direct_over p h.1) (direct_over i h.2)
+  direct_over (source.Added shift i p) h = let s = h.0 in shifted_over shift.back shift.size (direct p) (direct i) s.0 (direct_over p h.2) (direct_over i h.1)
   direct_over (source.Bare p) h = direct_over p h
   direct_over (source.Trusted to how p k) h = direct_over p h.0
   direct_over (source.Binary o s at a b) h = operated_over o s (direct a) (direct b) (direct_over a h.1) (direct_over b h.2)
@@ -102,6 +121,62 @@ module _ (few locals : ℕ) (more : few ≤ locals) where
 
   operand_over : (e : source.Expr) (t : ℕ) → IsCompilableExpr few e → t + operand_room e ≤ locals → IsExprOver locals (operand e t)
   operand_over e t h fits = by_room (is_direct e) (direct e) (expr_room e) t (direct_over e h) (expr_room_some e) fits
+
+  held_over : (always : Bool) (e : source.Expr) (t : ℕ) → IsCompilableExpr few e → t + room_if always e (expr_room e) ≤ locals → IsExprOver locals (held always e t)
+  held_over true e t h fits = omega (arith, expr_room_some e)
+  held_over false e t h fits = operand_over e t h fits
+
+  reached_place_over : (access : Access) (p i : source.Expr) (t : ℕ) → IsAccess few access p i → IsCompilableExpr few p → IsCompilableExpr few i
+      → t + reached_room (is_bounded access.through) p i (expr_room p) (expr_room i) ≤ locals → IsExprOver locals (reached_place access p i t)
+  reached_place_over access p i t h hp hi fits =
+      let checked = is_bounded access.through in
+      place_over access p i (pointer_at access p t) (index_at access i (t + 1)) h (held_over checked p t hp (omega arith)) (held_over (keeps_index checked i) i (t + 1) hi (omega arith))
+
+  -- ---- ranges
+
+  exact_over : (back signs : Bool) (size : ℕ) (a i : Expr) → size < 2 ^ 32 → IsExprOver locals a → IsExprOver locals i → IsExprOver locals (exact_test back signs size a i)
+  exact_over true signs size a i h x y = (((h, y), (x, shifted_over true size a i h x y)), lit< tt)
+  exact_over false signs size a i h x y = (((h, y), (shifted_over false size a i h x y, x)), lit< tt)
+
+  base_over : (x : ℕ) (b : Base) → x < few → IsBase few b → IsExprOver locals (base_at x b)
+  base_over x bases.Own h k = omega arith
+  base_over x (bases.Local y) h k = omega (arith, k)
+  base_over x (bases.Fixed a) h k = k
+
+  amount_over : (variable : Option Variable) (add : ℤ) → IsVariable few variable → IsSmall add → IsExprOver locals (amount_at variable add)
+  amount_over None add h small = small_word add small
+  amount_over (Some v) add h small = at_offset_over (word_of add) (Local v.local) (small_word add small) (omega (arith, h))
+
+  end_over : (x size : ℕ) (e : LimitsEnd) → x < few → size < 2 ^ 32 → IsEnd few e → IsExprOver locals (end_at x size e)
+  end_over x size e h k is = shifted_over false size (base_at x e.base) (amount_at e.variable e.add) k (base_over x e.base h is.0) (amount_over e.variable e.add is.1 is.2)
+
+  counted_over : (upper : Bool) (size : ℕ) (count : Count) (e : Expr) → size < 2 ^ 32 → IsExprOver locals e → IsFixed count → IsExprOver locals (counted_end upper size count e)
+  counted_over true size (counts.Fixed n) e h x small = shifted_over false size e (Const (word_of n)) h x (small_word n small)
+  counted_over false size (counts.Fixed n) e h x small = x
+  counted_over upper size (counts.Member offset form add) e h x small = absurd small
+
+  range_end_over : (upper : Bool) (p : source.Expr) → IsRanged few p → IsCompilableExpr few p → IsExprOver locals (range_end upper p)
+  range_end_over true (source.Limited x limits) h k = end_over x limits.to.size limits.upper k h.0 h.2
+  range_end_over false (source.Limited x limits) h k = end_over x limits.to.size limits.lower k h.0 h.1
+  range_end_over upper (source.Member to count access (source.Number a) i) h k =
+      counted_over upper to.size count (Load width.Word (Const (place_in a access.offset))) h.1 (omega arith) h.2
+  range_end_over true (source.Address bytes access (source.Number a) i) h k = h.1
+  range_end_over false (source.Address bytes access (source.Number a) i) h k = omega arith
+  range_end_over upper (source.Member to count access p i) h k = absurd h.0
+  range_end_over upper (source.Address bytes access p i) h k = absurd h.0
+  range_end_over true (source.Array at bytes) h k = h
+  range_end_over false (source.Array at bytes) h k = k
+  range_end_over upper (source.Moved shift p i) h k = range_end_over upper p h.1 k.1
+  range_end_over upper (source.Added shift i p) h k = range_end_over upper p h.1 k.2
+  range_end_over upper p h k = absurd h
+
+  upper_over : (last : Bool) (a high : Expr) → IsExprOver locals a → IsExprOver locals high → IsExprOver locals (upper_test last a high)
+  upper_over true a high x y = ((y, x), lit< tt)
+  upper_over false a high x y = (x, y)
+
+  range_over : (last : Bool) (p : source.Expr) (a : Expr) → IsRanged few p → IsCompilableExpr few p → IsExprOver locals a → IsExprOver locals (range_test last p a)
+  range_over last p a h k x =
+      (((x, range_end_over false p h k), lit< tt), upper_over last a (range_end true p) x (range_end_over true p h k))
 
   operands_over : (es : List source.Expr) (t : ℕ) → All (IsCompilablePart few) es → t + operands_room es ≤ locals → All (IsExprOver locals) (operands es t)
   operands_over [] t h fits = All-nil (IsExprOver locals)
@@ -137,21 +212,50 @@ module _ (few locals : ℕ) (more : few ≤ locals) where
     truth_over : (e : source.Expr) (t : ℕ) → IsCompilableExpr few e → t < locals → t + operand_room e ≤ locals → Over (Set t (as_truth (operand e t)) End)
     truth_over e t h below fits = (below, (operand_over e t h fits, lit< tt), tt)
 
-    null_over : (access : Access) (a : Expr) (rest : Code) → IsPlace access.at → IsExprOver locals a → Over rest → Over (null_check access a rest)
-    null_over access a rest at x over = by (checks_null access.through)
-      where
-        by : (one : Bool) → Over (if one then Check check.Null access.at a rest else rest)
-        by true = (at, x, over)
-        by false = over
+    put_over : (always : Bool) (e : source.Expr) (t : ℕ) (rest : Code) → ((rest : Code) → t + expr_room e ≤ locals → Over rest → Over (expr_code e t rest))
+        → t + room_if always e (expr_room e) ≤ locals → Over rest → Over (put_if always e (expr_code e t) rest)
+    put_over true e t rest h fits over = h rest fits over
+    put_over false e t rest h fits over = operand_step e t rest (λ fits. h rest fits over) fits over
 
-    -- the code of two operands in front
-    pair_over : (a b : source.Expr) (t : ℕ) (after : Code) → ((rest : Code) → t + expr_room a ≤ locals → Over rest → Over (expr_code a t rest))
-        → ((rest : Code) → t + 1 + expr_room b ≤ locals → Over rest → Over (expr_code b (t + 1) rest))
-        → t + operand_room a ≤ locals → t + 1 + operand_room b ≤ locals → Over after → Over (operand_code a t (operand_code b (t + 1) after))
-    pair_over a b t after on_a on_b left right over =
-        let second = operand_code b (t + 1) after in
-        let second_over = operand_step b (t + 1) after (λ fits. on_b after fits over) right over in
-        operand_step a t second (λ fits. on_a second fits second_over) left second_over
+    by_zero : (zero : Bool) (x y : Code) → Over x → Over y → Over (if zero then x else y)
+    by_zero true x y h k = h
+    by_zero false x y h k = k
+
+    bounded_over : (last : Bool) (access : Access) (p : source.Expr) (i : Expr) (t : ℕ) (rest : Code) → IsPlace access.at → access.size < 2 ^ 32 → IsRanged few p → IsCompilableExpr few p
+        → t < locals → IsExprOver locals i → Over rest → Over (bounded_code last access p i t rest)
+    bounded_over last access p i t rest at size ranged h below y over =
+        let within : Over (Check check.Bounds access.at (range_test last p (Local t)) rest) = (at, range_over last p (Local t) ranged h below, over) in
+        let there : Over (Set t (shifted false access.size (Local t) i) (Check check.Bounds access.at (range_test last p (Local t)) rest)) =
+        (below, shifted_over false access.size (Local t) i size below y, within) in
+        (at, below, by_zero (is_zero i) _ _ within (at, exact_over false (reads_signed access.index) access.size (Local t) i size below y, there))
+
+    judged_over : (through : Through) (access : Access) (p index : source.Expr) (a i : Expr) (t : ℕ) (rest : Code) → IsPlace access.at → access.size < 2 ^ 32 → IsJudged few through access.size p index
+        → IsCompilableExpr few p → t < locals → IsExprOver locals a → IsExprOver locals i → Over rest → Over (judged through access p a i t rest)
+    judged_over Named access p index a i t rest at size h k below x y over = over
+    judged_over Raw access p index a i t rest at size h k below x y over = over
+    judged_over One access p index a i t rest at size h k below x y over = (at, x, over)
+    judged_over Array access p index a i t rest at size h k below x y over = bounded_over false access p i t rest at size h.2 k below y over
+    judged_over Terminated access p index a i t rest at size h k below x y over = bounded_over true access p i t rest at size h.2 k below y over
+
+    reached_over : (access : Access) (p i : source.Expr) (t : ℕ) (rest : Code) → IsAccess few access p i → IsCompilableExpr few p → IsCompilableExpr few i
+        → ((rest : Code) → t + expr_room p ≤ locals → Over rest → Over (expr_code p t rest))
+        → ((rest : Code) → t + 1 + expr_room i ≤ locals → Over rest → Over (expr_code i (t + 1) rest))
+        → t + reached_room (is_bounded access.through) p i (expr_room p) (expr_room i) ≤ locals → Over rest
+        → Over (reached_code access p i (expr_code p t) (expr_code i (t + 1)) t rest)
+    reached_over access p i t rest h hp hi on_p on_i fits over =
+        let checked = is_bounded access.through in
+        let left : t + room_if checked p (expr_room p) ≤ locals = omega arith in
+        let right : t + 1 + room_if (keeps_index checked i) i (expr_room i) ≤ locals = omega arith in
+        put_over checked p t _ on_p left (put_over (keeps_index checked i) i (t + 1) _ on_i right
+        (judged_over access.through access p i (pointer_at access p t) (index_at access i (t + 1)) t rest h.0 h.1 h.3 hp (omega arith)
+        (held_over checked p t hp left) (held_over (keeps_index checked i) i (t + 1) hi right) over))
+
+    moved_over : (shift : Shift) (checked : Bool) (a i : Expr) (t : ℕ) (rest : Code) → shift.size < 2 ^ 32 → (checked ≡ true → IsPlace shift.at) → t < locals → IsExprOver locals a → IsExprOver locals i
+        → Over rest → Over (let there = Set t (shifted shift.back shift.size a i) rest in if checked then exact_code shift a i there else there)
+    moved_over shift true a i t rest size at below x y over =
+        let there : Over (Set t (shifted shift.back shift.size a i) rest) = (below, shifted_over shift.back shift.size a i size x y, over) in
+        (at refl, x, by_zero (is_zero i) _ _ there (at refl, exact_over shift.back (reads_signed shift.index) shift.size a i size x y, there))
+    moved_over shift false a i t rest size at below x y over = (below, shifted_over shift.back shift.size a i size x y, over)
 
     expr_over : (e : source.Expr) (t : ℕ) (rest : Code) → IsCompilableExpr few e → t + expr_room e ≤ locals → Over rest → Over (expr_code e t rest)
     expr_over (source.Binary o s at a b) t rest h fits over =
@@ -203,45 +307,33 @@ module _ (few locals : ℕ) (more : few ≤ locals) where
     expr_over (source.Limited x limits) t rest h fits over = (omega arith, omega arith, over)
     expr_over (source.Array at bytes) t rest h fits over = (omega arith, h, over)
     expr_over (source.Load w access p i) t rest h fits over =
-        let left : t + operand_room p ≤ locals = omega arith in
-        let right : t + 1 + operand_room i ≤ locals = omega arith in
-        let below : t < locals = omega arith in
-        let pointer = operand_over p t h.1 left in
-        let place = place_over access i (operand p t) (operand i (t + 1)) h.0 pointer (operand_over i (t + 1) h.2 right) in
-        pair_over p i t _ (λ rest fits over. expr_over p t rest h.1 fits over) (λ rest fits over. expr_over i (t + 1) rest h.2 fits over) left right
-        (null_over access (operand p t) (Set t (Load w (place_at access (operand p t) (operand i (t + 1)))) rest) h.0.0 pointer (below, place, over))
+        reached_over access p i t (Set t (Load w (reached_place access p i t)) rest) h.0 h.1 h.2
+        (λ rest fits over. expr_over p t rest h.1 fits over) (λ rest fits over. expr_over i (t + 1) rest h.2 fits over) fits
+        (omega arith, reached_place_over access p i t h.0 h.1 h.2 fits, over)
     expr_over (source.Member to count access p i) t rest h fits over =
-        let left : t + operand_room p ≤ locals = omega arith in
-        let right : t + 1 + operand_room i ≤ locals = omega arith in
-        let below : t < locals = omega arith in
-        let pointer = operand_over p t h.1 left in
-        let place = place_over access i (operand p t) (operand i (t + 1)) h.0 pointer (operand_over i (t + 1) h.2 right) in
-        pair_over p i t _ (λ rest fits over. expr_over p t rest h.1 fits over) (λ rest fits over. expr_over i (t + 1) rest h.2 fits over) left right
-        (null_over access (operand p t) (Set t (Load width.Word (place_at access (operand p t) (operand i (t + 1)))) rest) h.0.0 pointer (below, place, over))
+        reached_over access p i t (Set t (Load width.Word (reached_place access p i t)) rest) h.0 h.1 h.2
+        (λ rest fits over. expr_over p t rest h.1 fits over) (λ rest fits over. expr_over i (t + 1) rest h.2 fits over) fits
+        (omega arith, reached_place_over access p i t h.0 h.1 h.2 fits, over)
     expr_over (source.Address bytes access p i) t rest h fits over =
-        let left : t + operand_room p ≤ locals = omega arith in
-        let right : t + 1 + operand_room i ≤ locals = omega arith in
-        let below : t < locals = omega arith in
-        let pointer = operand_over p t h.1 left in
-        let place = place_over access i (operand p t) (operand i (t + 1)) h.0 pointer (operand_over i (t + 1) h.2 right) in
-        pair_over p i t _ (λ rest fits over. expr_over p t rest h.1 fits over) (λ rest fits over. expr_over i (t + 1) rest h.2 fits over) left right
-        (null_over access (operand p t) (Set t (place_at access (operand p t) (operand i (t + 1))) rest) h.0.0 pointer (below, place, over))
+        reached_over access p i t (Set t (reached_place access p i t) rest) h.0 h.1 h.2
+        (λ rest fits over. expr_over p t rest h.1 fits over) (λ rest fits over. expr_over i (t + 1) rest h.2 fits over) fits
+        (omega arith, reached_place_over access p i t h.0 h.1 h.2 fits, over)
     expr_over (source.Moved shift p i) t rest h fits over =
         let s = h.0 in
-        let left : t + operand_room p ≤ locals = omega arith in
-        let right : t + 1 + operand_room i ≤ locals = omega arith in
-        let below : t < locals = omega arith in
-        let value = shifted_over shift.back shift.size (operand p t) (operand i (t + 1)) s.1 (operand_over p t h.1 left) (operand_over i (t + 1) h.2 right) in
-        pair_over p i t (Set t (shifted shift.back shift.size (operand p t) (operand i (t + 1))) rest)
-        (λ rest fits over. expr_over p t rest h.1 fits over) (λ rest fits over. expr_over i (t + 1) rest h.2 fits over) left right (below, value, over)
+        let left : t + room_if shift.checked p (expr_room p) ≤ locals = omega arith in
+        let right : t + 1 + room_if (keeps_index shift.checked i) i (expr_room i) ≤ locals = omega arith in
+        put_over shift.checked p t _ (λ rest fits over. expr_over p t rest h.1 fits over) left
+        (put_over (keeps_index shift.checked i) i (t + 1) _ (λ rest fits over. expr_over i (t + 1) rest h.2 fits over) right
+        (moved_over shift shift.checked (held shift.checked p t) (held (keeps_index shift.checked i) i (t + 1)) t rest s.0 (checked_place shift shift.checked s.1) (omega arith)
+        (held_over shift.checked p t h.1 left) (held_over (keeps_index shift.checked i) i (t + 1) h.2 right) over))
     expr_over (source.Added shift i p) t rest h fits over =
         let s = h.0 in
-        let left : t + operand_room i ≤ locals = omega arith in
-        let right : t + 1 + operand_room p ≤ locals = omega arith in
-        let below : t < locals = omega arith in
-        let value = shifted_over shift.back shift.size (operand p (t + 1)) (operand i t) s.1 (operand_over p (t + 1) h.2 right) (operand_over i t h.1 left) in
-        pair_over i p t (Set t (shifted shift.back shift.size (operand p (t + 1)) (operand i t)) rest)
-        (λ rest fits over. expr_over i t rest h.1 fits over) (λ rest fits over. expr_over p (t + 1) rest h.2 fits over) left right (below, value, over)
+        let left : t + room_if (keeps_index shift.checked i) i (expr_room i) ≤ locals = omega arith in
+        let right : t + 1 + room_if shift.checked p (expr_room p) ≤ locals = omega arith in
+        put_over (keeps_index shift.checked i) i t _ (λ rest fits over. expr_over i t rest h.1 fits over) left
+        (put_over shift.checked p (t + 1) _ (λ rest fits over. expr_over p (t + 1) rest h.2 fits over) right
+        (moved_over shift shift.checked (held shift.checked p (t + 1)) (held (keeps_index shift.checked i) i t) t rest s.0 (checked_place shift shift.checked s.1) (omega arith)
+        (held_over shift.checked p (t + 1) h.2 right) (held_over (keeps_index shift.checked i) i t h.1 left) over))
     expr_over (source.Bare p) t rest h fits over = expr_over p t rest h fits over
     expr_over (source.Trusted to how p k) t rest h fits over =
         let left : t + expr_room p ≤ locals = omega arith in
@@ -262,35 +354,26 @@ module _ (few locals : ℕ) (more : few ≤ locals) where
     aim_over source.Nothing rest h fits over = over
     aim_over (source.Variable y w) rest h fits over = over
     aim_over (source.Memory w access p i) rest h fits over =
-        let at = h.0 in
         let pointer = h.1 in
         let index = h.2 in
-        let left : few + operand_room p ≤ locals = omega arith in
-        let right : few + 1 + operand_room i ≤ locals = omega arith in
-        operand_code_over p few _ pointer.0 left
-        (operand_code_over i (few + 1) _ index.0 right (null_over access (operand p few) rest at.0 (operand_over p few pointer.0 left) over))
+        reached_over access p i few rest h.0 pointer.0 index.0 (λ rest fits over. expr_over p few rest pointer.0 fits over)
+        (λ rest fits over. expr_over i (few + 1) rest index.0 fits over) fits over
 
     written_over : (target : source.Target) (is_byte : Bool) (e : Expr) (rest : Code) → IsCompilableTarget few target → few + target_room target ≤ locals → IsExprOver locals e → Over rest → Over (written target few is_byte e rest)
     written_over source.Nothing is_byte e rest h fits x over = over
     written_over (source.Variable y w) is_byte e rest h fits x over = (omega arith, kept_over w is_byte e x, over)
     written_over (source.Memory w access p i) is_byte e rest h fits x over =
-        let at = h.0 in
         let pointer = h.1 in
         let index = h.2 in
-        let left : few + operand_room p ≤ locals = omega arith in
-        let right : few + 1 + operand_room i ≤ locals = omega arith in
-        (place_over access i (operand p few) (operand i (few + 1)) at (operand_over p few pointer.0 left) (operand_over i (few + 1) index.0 right), x, over)
+        (reached_place_over access p i few h.0 pointer.0 index.0 fits, x, over)
 
     fixed_over : (target : source.Target) (rest : Code) → IsCompilableTarget few target → few + target_room target ≤ locals → Over rest → Over (fixed target few rest)
     fixed_over source.Nothing rest h fits over = over
     fixed_over (source.Variable y w) rest h fits over = over
     fixed_over (source.Memory w access p i) rest h fits over =
-        let at = h.0 in
         let pointer = h.1 in
         let index = h.2 in
-        let left : few + operand_room p ≤ locals = omega arith in
-        let right : few + 1 + operand_room i ≤ locals = omega arith in
-        (omega arith, place_over access i (operand p few) (operand i (few + 1)) at (operand_over p few pointer.0 left) (operand_over i (few + 1) index.0 right), over)
+        (omega arith, reached_place_over access p i few h.0 pointer.0 index.0 fits, over)
 
     there_over : (target : source.Target) (e : Expr) (rest : Code) → IsCompilableTarget few target → few + target_room target ≤ locals → IsExprOver locals e → Over rest → Over (written_there target few e rest)
     there_over source.Nothing e rest h fits x over = over

@@ -1,11 +1,18 @@
 -- The size of what is inserted is bounded by the nodes of the program.
 use Rattle.std.proofs.Common.{ℕ, zero, suc, ◌+◌, ◌-◌, ◌*◌, ◌≤◌, List, [], ◌∷◌, length, arith}
-use Rattle.std.specs.Prelude.{Bool, true, false, ◌==◌, if◌then◌else◌, Option, Some, None, map, sum_by}
+use Rattle.std.specs.Prelude.{ℤ, Bool, true, false, ◌==◌, if◌then◌else◌, Option, Some, None, map, sum_by}
 use Rattle.std.proofs.lemmas.List.Sums.{sum_by-cons}
 use Rattle.ckc_base.specs.declared.arithmetic.Width.TheVariants as width
 use Rattle.ckc_base.specs.declared.arithmetic.BinOp.TheVariants as binary
 use Rattle.ckc_base.specs.declared.places.Pos.{Pos}
 use Rattle.ckc_source.specs.declared.expr.Access.{Access}
+use Rattle.ckc_source.specs.declared.expr.Count.{Count}
+use Rattle.ckc_source.specs.declared.expr.Count.TheVariants as counts
+use Rattle.ckc_source.specs.declared.expr.Base.{Base}
+use Rattle.ckc_source.specs.declared.expr.Base.TheVariants as bases
+use Rattle.ckc_source.specs.declared.expr.End.{End as LimitsEnd}
+use Rattle.ckc_source.specs.declared.expr.Shift.{Shift}
+use Rattle.ckc_source.specs.declared.expr.Variable.{Variable}
 use Rattle.ckc_source.specs.declared.expr.Through.{Through}
 use Rattle.ckc_source.specs.declared.expr.Through.TheVariants.{Named, Raw, One, Array, Terminated}
 use Rattle.ckc_base.specs.declared.runtime_checks.Check.TheVariants as check
@@ -14,24 +21,39 @@ use Rattle.ckc_source.specs.declared.expr.Operation.TheVariants.{Le}
 use Rattle.ckc_source.specs.declared.stmt.Kept.{Kept}
 use Rattle.ckc_source.specs.declared.stmt.Kept.TheVariants as kept
 use Rattle.ckc_source.specs.Code as source
+use Rattle.ckc_base.specs.Words.{word_of}
 use Rattle.ckc_source.specs.Words.{divides}
 use Rattle.ckc_core.specs.Code.{Expr, Const, Local, Load, Bin, Code, End, Set, Check}
 use Rattle.ckc_core.specs.Sizes.{expr_size, exprs_size, set_size, code_size, function_size, program_size}
-use Rattle.ckc_checks.specs.Compilable.{access_nodes, expr_nodes, exprs_nodes, target_nodes, right_nodes, code_nodes, function_nodes, program_nodes}
-use Rattle.ckc_checks.specs.Inserted.{is_direct, operated, low_byte, as_truth, is_zero, scaled, shifted, at_offset, element_of, place_at, checks_null, null_check, direct, operand, operation_code, expr_code, operand_code, operands_code, operands, is_narrow, aim_code, target_count, written, fixed, written_there, right_assigned, result_in, result_kept, statements, zeroed, function_code, inserted}
+use Rattle.ckc_checks.specs.Compilable.{element_nodes, access_nodes, shift_nodes, index_nodes, expr_nodes, exprs_nodes, target_nodes, right_nodes, code_nodes, function_nodes, program_nodes}
+use Rattle.ckc_checks.specs.Inserted.{is_direct, operated, low_byte, as_truth, is_zero, scaled, shifted, at_offset, element_of, place_at, held, put_if, keeps_index, is_bounded, reads_signed, exact_test, exact_code, moved_code, base_at, amount_at, end_at, static_place, counted_end, range_end, range_test, element_code, bounded_code, judged, reached_place, direct, operand, operation_code, expr_code, operand_code, operands_code, operands, is_narrow, aim_code, target_count, written, fixed, written_there, right_assigned, result_in, result_kept, statements, zeroed, function_code, inserted}
 
-access_some : (through : Through) → 1 ≤ access_nodes through
-access_some Named = omega arith
-access_some Raw = omega arith
-access_some One = omega arith
-access_some Array = omega arith
-access_some Terminated = omega arith
+element_some : (zero : Bool) → 4 ≤ (if zero then 4 else 6)
+element_some true = omega arith
+element_some false = omega arith
+
+elements_some : (i : source.Expr) → 4 ≤ element_nodes i
+elements_some (source.Number n) = element_some (n == 0)
+elements_some i = omega arith
+
+access_some : (through : Through) (i : source.Expr) → 1 ≤ access_nodes through i
+access_some Named i = omega arith
+access_some Raw i = omega arith
+access_some One i = omega arith
+access_some Array i = omega (arith, elements_some i)
+access_some Terminated i = omega (arith, elements_some i)
+
+shift_some : (checked : Bool) → 1 ≤ shift_nodes checked
+shift_some true = omega arith
+shift_some false = omega arith
 
 -- an expression has a node
 expr_nodes_some : (e : source.Expr) → 1 ≤ expr_nodes e
 expr_nodes_some (source.Load w access p i) = omega (arith, expr_nodes_some p)
 expr_nodes_some (source.Member to count access p i) = omega (arith, expr_nodes_some p)
 expr_nodes_some (source.Address bytes access p i) = omega (arith, expr_nodes_some p)
+expr_nodes_some (source.Moved shift p i) = omega (arith, expr_nodes_some p)
+expr_nodes_some (source.Added shift i p) = omega (arith, expr_nodes_some p)
 expr_nodes_some e = omega arith
 
 set_sized : (e : Expr) → set_size e ≤ 6 + expr_size e
@@ -65,31 +87,45 @@ at_offset_sized offset e = by (offset == 0)
     by true = omega arith
     by false = omega arith
 
-element_sized : (through : Through) (size : ℕ) (a i : Expr) → expr_size (element_of through size a i) + 27 ≤ 27 * access_nodes through + expr_size a + expr_size i
-element_sized Named size a i = omega arith
-element_sized Raw size a i = omega (arith, shifted_sized false size a i)
-element_sized One size a i = omega arith
-element_sized Array size a i = omega arith
-element_sized Terminated size a i = omega arith
+element_sized : (through : Through) (k : source.Expr) (size : ℕ) (a i : Expr) → expr_size (element_of through size a i) + 27 ≤ 27 * access_nodes through k + expr_size a + expr_size i
+element_sized Named k size a i = omega arith
+element_sized Raw k size a i = omega (arith, shifted_sized false size a i)
+element_sized One k size a i = omega arith
+element_sized Array k size a i = omega (arith, elements_some k)
+element_sized Terminated k size a i = omega (arith, elements_some k)
 
-place_sized : (access : Access) (a i : Expr) → expr_size (place_at access a i) + 11 ≤ 27 * access_nodes access.through + expr_size a + expr_size i
-place_sized access a i =
-    omega (arith, at_offset_sized access.offset (element_of access.through access.size a i), element_sized access.through access.size a i)
-
-null_sized : (access : Access) (a : Expr) (rest : Code) → code_size (null_check access a rest) ≤ 14 + expr_size a + code_size rest
-null_sized access a rest = by (checks_null access.through)
+const_element_sized : (through : Through) (k : source.Expr) (size : ℕ) (a : Expr) (n : ℕ) → expr_size (element_of through size a (Const n)) + 27 ≤ 27 * access_nodes through k + expr_size a
+const_element_sized Named k size a n = omega arith
+const_element_sized Raw k size a n = by (n == 0)
   where
-    by : (one : Bool) → code_size (if one then Check check.Null access.at a rest else rest) ≤ 14 + expr_size a + code_size rest
+    by : (zero : Bool) → expr_size (if zero then a else Bin binary.Add a (scaled size (Const n))) + 27 ≤ 54 + expr_size a
     by true = omega arith
     by false = omega arith
+const_element_sized One k size a n = omega arith
+const_element_sized Array k size a n = omega (arith, elements_some k)
+const_element_sized Terminated k size a n = omega (arith, elements_some k)
+
+place_sized : (access : Access) (k : source.Expr) (a i : Expr) → expr_size (place_at access a i) + 11 ≤ 27 * access_nodes access.through k + expr_size a + expr_size i
+place_sized access k a i =
+    omega (arith, at_offset_sized access.offset (element_of access.through access.size a i), element_sized access.through k access.size a i)
+
+-- the same at a number
+const_place_sized : (access : Access) (k : source.Expr) (a : Expr) (n : ℕ) → expr_size (place_at access a (Const n)) + 11 ≤ 27 * access_nodes access.through k + expr_size a
+const_place_sized access k a n =
+    omega (arith, at_offset_sized access.offset (element_of access.through access.size a (Const n)), const_element_sized access.through k access.size a n)
+
+direct_place_sized : (access : Access) (a : Expr) (i : source.Expr) → expr_size (direct i) ≤ 27 * expr_nodes i
+    → expr_size (place_at access a (direct i)) + 11 ≤ 27 * access_nodes access.through i + expr_size a + 27 * index_nodes i (expr_nodes i)
+direct_place_sized access a (source.Number n) h = omega (arith, const_place_sized access (source.Number n) a n)
+direct_place_sized access a i h = omega (arith, place_sized access i a (direct i), h)
 
 direct_sized : (e : source.Expr) → expr_size (direct e) ≤ 27 * expr_nodes e
 direct_sized (source.Binary o s at a b) = omega (arith, operated_sized o s (direct a) (direct b), direct_sized a, direct_sized b)
-direct_sized (source.Load w access p i) = omega (arith, place_sized access (direct p) (direct i), direct_sized p, direct_sized i)
-direct_sized (source.Member to count access p i) = omega (arith, place_sized access (direct p) (direct i), direct_sized p, direct_sized i)
-direct_sized (source.Address bytes access p i) = omega (arith, place_sized access (direct p) (direct i), direct_sized p, direct_sized i)
-direct_sized (source.Moved shift p i) = omega (arith, shifted_sized shift.back shift.size (direct p) (direct i), direct_sized p, direct_sized i)
-direct_sized (source.Added shift i p) = omega (arith, shifted_sized shift.back shift.size (direct p) (direct i), direct_sized p, direct_sized i)
+direct_sized (source.Load w access p i) = omega (arith, direct_place_sized access (direct p) i (direct_sized i), direct_sized p)
+direct_sized (source.Member to count access p i) = omega (arith, direct_place_sized access (direct p) i (direct_sized i), direct_sized p)
+direct_sized (source.Address bytes access p i) = omega (arith, direct_place_sized access (direct p) i (direct_sized i), direct_sized p)
+direct_sized (source.Moved shift p i) = omega (arith, shift_some shift.checked, shifted_sized shift.back shift.size (direct p) (direct i), direct_sized p, direct_sized i)
+direct_sized (source.Added shift i p) = omega (arith, shift_some shift.checked, shifted_sized shift.back shift.size (direct p) (direct i), direct_sized p, direct_sized i)
 direct_sized (source.Narrow e) = omega (arith, direct_sized e)
 direct_sized (source.Bare p) = omega (arith, direct_sized p)
 direct_sized (source.Tested size how at p k) = omega (arith, direct_sized p)
@@ -106,6 +142,12 @@ operand_step : (e : source.Expr) (t : ℕ) (rest : Code) → code_size (expr_cod
     → code_size (operand_code e t rest) + 2 * expr_size (operand e t) ≤ 60 * expr_nodes e + code_size rest
 operand_step e t rest h = by_two (is_direct e) (expr_code e t rest) rest (direct e) t (expr_nodes e) h (direct_sized e)
 
+-- the code in front of an index
+index_step : (i : source.Expr) (t : ℕ) (rest : Code) → code_size (operand_code i t rest) + 2 * expr_size (operand i t) ≤ 60 * expr_nodes i + code_size rest
+    → code_size (operand_code i t rest) + 2 * index_nodes i (expr_size (operand i t)) ≤ 60 * index_nodes i (expr_nodes i) + code_size rest
+index_step (source.Number n) t rest h = omega arith
+index_step i t rest h = h
+
 check_by : (is_one : Bool) (at : Pos) (b : Expr) (rest : Code) → code_size (if is_one then Check check.Divide at b rest else rest) ≤ 14 + expr_size b + code_size rest
 check_by true at b rest = omega arith
 check_by false at b rest = omega arith
@@ -115,6 +157,155 @@ operation_sized : (o : Operation) (s : Bool) (at : Pos) (a b : Expr) (t : ℕ) (
 operation_sized o s at a b t rest =
     let value = operated o s a b in
     omega (arith, check_by (divides o) at b (Set t value rest), set_sized value, operated_sized o s a b)
+
+-- ---- accesses and pointer arithmetic
+
+base_sized : (x : ℕ) (b : Base) → expr_size (base_at x b) ≤ 5
+base_sized x bases.Own = omega arith
+base_sized x (bases.Local y) = omega arith
+base_sized x (bases.Fixed a) = omega arith
+
+amount_sized : (v : Option Variable) (add : ℤ) → expr_size (amount_at v add) ≤ 16
+amount_sized None add = omega arith
+amount_sized (Some v) add = omega (arith, at_offset_sized (word_of add) (Local v.local))
+
+end_sized : (x size : ℕ) (e : LimitsEnd) → expr_size (end_at x size e) ≤ 48
+end_sized x size e =
+    omega (arith, shifted_sized false size (base_at x e.base) (amount_at e.variable e.add), base_sized x e.base, amount_sized e.variable e.add)
+
+counted_sized : (upper : Bool) (size : ℕ) (count : Count) (a : ℕ) → expr_size (counted_end upper size count (Load width.Word (Const a))) ≤ 48
+counted_sized true size (counts.Fixed n) a = omega (arith, shifted_sized false size (Load width.Word (Const a)) (Const (word_of n)))
+counted_sized false size (counts.Fixed n) a = omega arith
+counted_sized upper size (counts.Member offset form add) a = omega arith
+
+range_end_sized : (upper : Bool) (p : source.Expr) → expr_size (range_end upper p) ≤ 48
+range_end_sized upper (source.Limited x limits) = end_sized x limits.to.size (if upper then limits.upper else limits.lower)
+range_end_sized upper (source.Member to count access p i) = counted_sized upper to.size count (static_place access p)
+range_end_sized upper (source.Moved shift p i) = range_end_sized upper p
+range_end_sized upper (source.Added shift i p) = range_end_sized upper p
+range_end_sized upper p = omega arith
+
+range_sized : (last : Bool) (p : source.Expr) (t : ℕ) → expr_size (range_test last p (Local t)) ≤ 161
+range_sized true p t = omega (arith, range_end_sized false p, range_end_sized true p)
+range_sized false p t = omega (arith, range_end_sized false p, range_end_sized true p)
+
+exact_sized : (back signs : Bool) (size : ℕ) (a i : Expr) → expr_size (exact_test back signs size a i) ≤ 81 + 2 * expr_size a + 2 * expr_size i
+exact_sized true signs size a i = omega (arith, shifted_sized true size a i)
+exact_sized false signs size a i = omega (arith, shifted_sized false size a i)
+
+-- an operand, where it goes to a temporary in any case or not
+put_sized : (always : Bool) (e : source.Expr) (t : ℕ) (rest : Code) → code_size (expr_code e t rest) ≤ 60 * expr_nodes e + code_size rest
+    → code_size (put_if always e (expr_code e t) rest) + 2 * expr_size (held always e t) ≤ 60 * expr_nodes e + code_size rest
+put_sized true e t rest h = omega (arith, h)
+put_sized false e t rest h = operand_step e t rest h
+
+-- the index of a checked access or move
+index_sized : (i : source.Expr) (t : ℕ) (rest : Code) → code_size (expr_code i t rest) ≤ 60 * expr_nodes i + code_size rest
+    → code_size (put_if (keeps_index true i) i (expr_code i t) rest) ≤ 60 * index_nodes i (expr_nodes i) + code_size rest
+index_sized (source.Number n) t rest h = omega arith
+index_sized i t rest h = h
+
+index_small : (i : source.Expr) (t : ℕ) → expr_size (held (keeps_index true i) i t) ≤ 5
+index_small (source.Number n) t = omega arith
+index_small i t = omega arith
+
+counted_index : (i : source.Expr) → index_nodes i (expr_nodes i) ≤ expr_nodes i
+counted_index (source.Number n) = omega arith
+counted_index i = omega arith
+
+step_by : (zero : Bool) (access : Access) (i : Expr) (t : ℕ) (rest : Code) → expr_size i ≤ 5
+    → code_size (if zero then rest else Check check.Arith access.at (exact_test false (reads_signed access.index) access.size (Local t) i) (Set t (shifted false access.size (Local t) i) rest)) + 212
+    ≤ 60 * (if zero then 4 else 6) + code_size rest
+step_by true access i t rest h = omega arith
+step_by false access i t rest h =
+    omega (arith, exact_sized false (reads_signed access.index) access.size (Local t) i, shifted_sized false access.size (Local t) i, set_sized (shifted false access.size (Local t) i), h)
+
+step_sized : (access : Access) (i : source.Expr) (u t : ℕ) (rest : Code)
+    → code_size (element_code access (held (keeps_index true i) i u) t rest) + 212 ≤ 60 * element_nodes i + code_size rest
+step_sized access (source.Number n) u t rest = step_by (n == 0) access (Const n) t rest (omega arith)
+step_sized access i u t rest = step_by false access (Local u) t rest (omega arith)
+
+bounded_sized : (last : Bool) (access : Access) (p i : source.Expr) (t : ℕ) (inner : Code) → ((rest : Code) → code_size (expr_code p t rest) ≤ 60 * expr_nodes p + code_size rest)
+    → ((rest : Code) → code_size (expr_code i (t + 1) rest) ≤ 60 * expr_nodes i + code_size rest)
+    → code_size (expr_code p t (put_if (keeps_index true i) i (expr_code i (t + 1)) (bounded_code last access p (held (keeps_index true i) i (t + 1)) t inner)))
+    + expr_size (at_offset access.offset (Local t)) + 7 ≤ 60 * (element_nodes i + expr_nodes p + index_nodes i (expr_nodes i)) + code_size inner
+bounded_sized last access p i t inner on_p on_i =
+    let k = held (keeps_index true i) i (t + 1) in
+    let within = Check check.Bounds access.at (range_test last p (Local t)) inner in
+    let judge = bounded_code last access p k t inner in
+    let second = put_if (keeps_index true i) i (expr_code i (t + 1)) judge in
+    omega (
+      arith,
+      on_p second,
+      index_sized i (t + 1) judge (on_i judge),
+      step_sized access i (t + 1) t within,
+      range_sized last p t,
+      at_offset_sized access.offset (Local t),
+    )
+
+raw_sized : (size : ℕ) (a : Expr) (i : source.Expr) (t : ℕ) → expr_size (shifted false size a (operand i t)) ≤ 27 + expr_size a + index_nodes i (expr_size (operand i t))
+raw_sized size a (source.Number n) t = by (n == 0)
+  where
+    by : (zero : Bool) → expr_size (if zero then a else Bin binary.Add a (scaled size (Const n))) ≤ 27 + expr_size a + 0
+    by true = omega arith
+    by false = omega arith
+raw_sized size a i t = shifted_sized false size a (operand i t)
+
+-- what finds an access, and its place
+reached_sized : (through : Through) (access : Access) (p i : source.Expr) (t : ℕ) (inner : Code) → ((rest : Code) → code_size (expr_code p t rest) ≤ 60 * expr_nodes p + code_size rest)
+    → ((rest : Code) → code_size (expr_code i (t + 1) rest) ≤ 60 * expr_nodes i + code_size rest)
+    → code_size (put_if (is_bounded through) p (expr_code p t) (put_if (keeps_index (is_bounded through) i) i (expr_code i (t + 1))
+    (judged through access p (held (is_bounded through) p t) (held (keeps_index (is_bounded through) i) i (t + 1)) t inner)))
+    + expr_size (at_offset access.offset (element_of through access.size (held (is_bounded through) p t) (held (keeps_index (is_bounded through) i) i (t + 1)))) + 7
+    ≤ 60 * (access_nodes through i + expr_nodes p + index_nodes i (expr_nodes i)) + code_size inner
+reached_sized Named access p i t inner on_p on_i =
+    let second = operand_code i (t + 1) inner in
+    omega (
+      arith,
+      at_offset_sized access.offset (operand p t),
+      operand_step p t second (on_p second),
+      index_step i (t + 1) inner (operand_step i (t + 1) inner (on_i inner)),
+    )
+reached_sized Raw access p i t inner on_p on_i =
+    let second = operand_code i (t + 1) inner in
+    omega (
+      arith,
+      at_offset_sized access.offset (shifted false access.size (operand p t) (operand i (t + 1))),
+      raw_sized access.size (operand p t) i (t + 1),
+      operand_step p t second (on_p second),
+      index_step i (t + 1) inner (operand_step i (t + 1) inner (on_i inner)),
+    )
+reached_sized One access p i t inner on_p on_i =
+    let judge = Check check.Null access.at (operand p t) inner in
+    let second = operand_code i (t + 1) judge in
+    omega (
+      arith,
+      at_offset_sized access.offset (operand p t),
+      operand_step p t second (on_p second),
+      index_step i (t + 1) judge (operand_step i (t + 1) judge (on_i judge)),
+    )
+reached_sized Array access p i t inner on_p on_i = bounded_sized false access p i t inner on_p on_i
+reached_sized Terminated access p i t inner on_p on_i = bounded_sized true access p i t inner on_p on_i
+
+-- what moves a pointer that is an operand, by an index that is another one
+moved_by : (zero : Bool) (shift : Shift) (a : ℕ) (i : Expr) (t : ℕ) (rest : Code) → expr_size i ≤ 5
+    → code_size (Check check.Arith shift.at (Local a) (if zero then Set t (shifted shift.back shift.size (Local a) i) rest
+    else Check check.Arith shift.at (exact_test shift.back (reads_signed shift.index) shift.size (Local a) i) (Set t (shifted shift.back shift.size (Local a) i) rest))) ≤ 157 + code_size rest
+moved_by true shift a i t rest h =
+    omega (arith, shifted_sized shift.back shift.size (Local a) i, set_sized (shifted shift.back shift.size (Local a) i), h)
+moved_by false shift a i t rest h =
+    omega (arith, exact_sized shift.back (reads_signed shift.index) shift.size (Local a) i, shifted_sized shift.back shift.size (Local a) i, set_sized (shifted shift.back shift.size (Local a) i), h)
+
+-- pointer arithmetic, its pointer in front of its index or behind it
+moved_sized : (shift : Shift) (checked : Bool) (p i : source.Expr) (u v t : ℕ) (rest : Code)
+    → code_size (let there = Set t (shifted shift.back shift.size (held checked p u) (held (keeps_index checked i) i v)) rest in
+    if checked then exact_code shift (held checked p u) (held (keeps_index checked i) i v) there else there)
+    ≤ 60 * shift_nodes checked - 20 + expr_size (held checked p u) + expr_size (held (keeps_index checked i) i v) + code_size rest
+moved_sized shift true p i u v t rest =
+    omega (arith, moved_by (is_zero (held (keeps_index true i) i v)) shift u (held (keeps_index true i) i v) t rest (index_small i v))
+moved_sized shift false p i u v t rest =
+    let value = shifted shift.back shift.size (operand p u) (operand i v) in
+    omega (arith, shifted_sized shift.back shift.size (operand p u) (operand i v), set_sized value)
 
 expr_sized : (e : source.Expr) (t : ℕ) (rest : Code) → code_size (expr_code e t rest) ≤ 60 * expr_nodes e + code_size rest
 expr_sized (source.Binary o s at a b) t rest =
@@ -141,63 +332,47 @@ expr_sized (source.Narrow e) t rest =
     let after = Set t (low_byte (operand e t)) rest in
     omega (arith, operand_step e t after (expr_sized e t after))
 expr_sized (source.Load w access p i) t rest =
-    let value = Load w (place_at access (operand p t) (operand i (t + 1))) in
-    let after = null_check access (operand p t) (Set t value rest) in
-    let second = operand_code i (t + 1) after in
+    let value = Load w (reached_place access p i t) in
     omega (
       arith,
-      null_sized access (operand p t) (Set t value rest),
-      place_sized access (operand p t) (operand i (t + 1)),
-      access_some access.through,
-      operand_step i (t + 1) after (expr_sized i (t + 1) after),
-      operand_step p t second (expr_sized p t second),
+      reached_sized access.through access p i t (Set t value rest) (λ rest. expr_sized p t rest) (λ rest. expr_sized i (t + 1) rest),
     )
 expr_sized (source.Member to count access p i) t rest =
-    let value = Load width.Word (place_at access (operand p t) (operand i (t + 1))) in
-    let after = null_check access (operand p t) (Set t value rest) in
-    let second = operand_code i (t + 1) after in
+    let value = Load width.Word (reached_place access p i t) in
     omega (
       arith,
-      null_sized access (operand p t) (Set t value rest),
-      place_sized access (operand p t) (operand i (t + 1)),
-      access_some access.through,
-      operand_step i (t + 1) after (expr_sized i (t + 1) after),
-      operand_step p t second (expr_sized p t second),
+      reached_sized access.through access p i t (Set t value rest) (λ rest. expr_sized p t rest) (λ rest. expr_sized i (t + 1) rest),
     )
 expr_sized (source.Address bytes access p i) t rest =
-    let value = place_at access (operand p t) (operand i (t + 1)) in
-    let after = null_check access (operand p t) (Set t value rest) in
-    let second = operand_code i (t + 1) after in
+    let value = reached_place access p i t in
     omega (
       arith,
-      null_sized access (operand p t) (Set t value rest),
       set_sized value,
-      place_sized access (operand p t) (operand i (t + 1)),
-      access_some access.through,
-      operand_step i (t + 1) after (expr_sized i (t + 1) after),
-      operand_step p t second (expr_sized p t second),
+      reached_sized access.through access p i t (Set t value rest) (λ rest. expr_sized p t rest) (λ rest. expr_sized i (t + 1) rest),
     )
 expr_sized (source.Moved shift p i) t rest =
-    let value = shifted shift.back shift.size (operand p t) (operand i (t + 1)) in
-    let after = Set t value rest in
-    let second = operand_code i (t + 1) after in
+    let b = shift.checked in
+    let k = keeps_index b i in
+    let after = moved_code shift (held b p t) (held k i (t + 1)) t rest in
+    let second = put_if k i (expr_code i (t + 1)) after in
     omega (
       arith,
-      set_sized value,
-      shifted_sized shift.back shift.size (operand p t) (operand i (t + 1)),
-      operand_step i (t + 1) after (expr_sized i (t + 1) after),
-      operand_step p t second (expr_sized p t second),
+      shift_some b,
+      moved_sized shift b p i t (t + 1) t rest,
+      put_sized k i (t + 1) after (expr_sized i (t + 1) after),
+      put_sized b p t second (expr_sized p t second),
     )
 expr_sized (source.Added shift i p) t rest =
-    let value = shifted shift.back shift.size (operand p (t + 1)) (operand i t) in
-    let after = Set t value rest in
-    let second = operand_code p (t + 1) after in
+    let b = shift.checked in
+    let k = keeps_index b i in
+    let after = moved_code shift (held b p (t + 1)) (held k i t) t rest in
+    let second = put_if b p (expr_code p (t + 1)) after in
     omega (
       arith,
-      set_sized value,
-      shifted_sized shift.back shift.size (operand p (t + 1)) (operand i t),
-      operand_step p (t + 1) after (expr_sized p (t + 1) after),
-      operand_step i t second (expr_sized i t second),
+      shift_some b,
+      moved_sized shift b p i (t + 1) t t rest,
+      put_sized b p (t + 1) after (expr_sized p (t + 1) after),
+      put_sized k i t second (expr_sized i t second),
     )
 expr_sized (source.Bare p) t rest = omega (arith, expr_sized p t rest)
 expr_sized (source.Tested size how at p k) t rest = omega (arith, expr_sized p t rest)
@@ -211,11 +386,11 @@ operand_sized e t rest = operand_step e t rest (expr_sized e t rest)
 
 -- an argument, with the eight instructions that pass it
 argument_sized : (e : source.Expr) (t : ℕ) (rest : Code) → code_size (operand_code e t rest) + expr_size (operand e t) + 8 ≤ 64 * expr_nodes e + code_size rest
-argument_sized (source.Load w access p i) t rest = omega (arith, operand_sized (source.Load w access p i) t rest, access_some access.through, expr_nodes_some p, expr_nodes_some i)
-argument_sized (source.Member to count access p i) t rest = omega (arith, operand_sized (source.Member to count access p i) t rest, access_some access.through, expr_nodes_some p, expr_nodes_some i)
-argument_sized (source.Address bytes access p i) t rest = omega (arith, operand_sized (source.Address bytes access p i) t rest, access_some access.through, expr_nodes_some p, expr_nodes_some i)
-argument_sized (source.Moved shift p i) t rest = omega (arith, operand_sized (source.Moved shift p i) t rest, expr_nodes_some p, expr_nodes_some i)
-argument_sized (source.Added shift i p) t rest = omega (arith, operand_sized (source.Added shift i p) t rest, expr_nodes_some p, expr_nodes_some i)
+argument_sized (source.Load w access p i) t rest = omega (arith, operand_sized (source.Load w access p i) t rest, access_some access.through i, expr_nodes_some p)
+argument_sized (source.Member to count access p i) t rest = omega (arith, operand_sized (source.Member to count access p i) t rest, access_some access.through i, expr_nodes_some p)
+argument_sized (source.Address bytes access p i) t rest = omega (arith, operand_sized (source.Address bytes access p i) t rest, access_some access.through i, expr_nodes_some p)
+argument_sized (source.Moved shift p i) t rest = omega (arith, shift_some shift.checked, operand_sized (source.Moved shift p i) t rest, expr_nodes_some p, expr_nodes_some i)
+argument_sized (source.Added shift i p) t rest = omega (arith, shift_some shift.checked, operand_sized (source.Added shift i p) t rest, expr_nodes_some p, expr_nodes_some i)
 argument_sized (source.Binary o s at a b) t rest = omega (arith, operand_sized (source.Binary o s at a b) t rest, expr_nodes_some a, expr_nodes_some b)
 argument_sized (source.And a b) t rest = omega (arith, operand_sized (source.And a b) t rest, expr_nodes_some a, expr_nodes_some b)
 argument_sized (source.Or a b) t rest = omega (arith, operand_sized (source.Or a b) t rest, expr_nodes_some a, expr_nodes_some b)
@@ -245,15 +420,7 @@ aimed_sized (source.Variable x width.Word) t n is_byte value rest inner h = omeg
 aimed_sized (source.Variable x width.Byte) t n true value rest inner h = omega (arith, set_sized value)
 aimed_sized (source.Variable x width.Byte) t n false value rest inner h = omega arith
 aimed_sized (source.Memory w access p i) t n is_byte value rest inner h =
-    let after = null_check access (operand p t) inner in
-    let second = operand_code i (t + 1) after in
-    omega (
-      arith,
-      null_sized access (operand p t) inner,
-      place_sized access (operand p t) (operand i (t + 1)),
-      operand_sized i (t + 1) after,
-      operand_sized p t second,
-    )
+    omega (arith, reached_sized access.through access p i t inner (λ rest. expr_sized p t rest) (λ rest. expr_sized i (t + 1) rest), h)
 
 assigned_sized : (target : source.Target) (e : source.Expr) (t : ℕ) (rest : Code)
     → code_size (aim_code target t (operand_code e (t + target_count target) (written target t (is_narrow e) (operand e (t + target_count target)) rest)))
@@ -269,17 +436,13 @@ there_sized source.Nothing t n u rest inner h = omega arith
 there_sized (source.Variable x width.Word) t n u rest inner h = omega arith
 there_sized (source.Variable x width.Byte) t n u rest inner h = omega arith
 there_sized (source.Memory w access p i) t n u rest inner h =
-    let place = place_at access (operand p t) (operand i (t + 1)) in
+    let place = reached_place access p i t in
     let set = Set t place inner in
-    let after = null_check access (operand p t) set in
-    let second = operand_code i (t + 1) after in
     omega (
       arith,
-      null_sized access (operand p t) set,
       set_sized place,
-      place_sized access (operand p t) (operand i (t + 1)),
-      operand_sized i (t + 1) after,
-      operand_sized p t second,
+      reached_sized access.through access p i t set (λ rest. expr_sized p t rest) (λ rest. expr_sized i (t + 1) rest),
+      h,
     )
 
 right_sized : (target : source.Target) (right : source.Right) (t : ℕ) (rest : Code)

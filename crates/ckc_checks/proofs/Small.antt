@@ -1,11 +1,18 @@
 -- What is inserted keeps the limits of core code.
 use Rattle.std.proofs.Common.{ℕ, zero, suc, ◌+◌, ◌-◌, ◌*◌, ◌≤◌, List, [], ◌∷◌, length, arith}
-use Rattle.std.specs.Prelude.{Bool, true, false, ◌==◌, if◌then◌else◌, max, Option, Some, None, slice_get, All}
+use Rattle.std.specs.Prelude.{ℤ, Bool, true, false, ◌==◌, if◌then◌else◌, max, Option, Some, None, slice_get, All}
 use Rattle.std.proofs.lemmas.List.Elements.{All-nil, All-cons, All-head, All-tail, All-map, All-weaker}
 use Rattle.ckc_base.specs.declared.arithmetic.Width.TheVariants as width
 use Rattle.ckc_base.specs.declared.places.Pos.{Pos}
 use Rattle.ckc_base.specs.declared.arithmetic.BinOp.TheVariants as binary
 use Rattle.ckc_source.specs.declared.expr.Access.{Access}
+use Rattle.ckc_source.specs.declared.expr.Count.{Count}
+use Rattle.ckc_source.specs.declared.expr.Count.TheVariants as counts
+use Rattle.ckc_source.specs.declared.expr.Base.{Base}
+use Rattle.ckc_source.specs.declared.expr.Base.TheVariants as bases
+use Rattle.ckc_source.specs.declared.expr.End.{End as LimitsEnd}
+use Rattle.ckc_source.specs.declared.expr.Shift.{Shift}
+use Rattle.ckc_source.specs.declared.expr.Variable.{Variable}
 use Rattle.ckc_source.specs.declared.expr.Through.{Through}
 use Rattle.ckc_source.specs.declared.expr.Through.TheVariants.{Named, Raw, One, Array, Terminated}
 use Rattle.ckc_base.specs.declared.runtime_checks.Check.TheVariants as check
@@ -14,12 +21,13 @@ use Rattle.ckc_source.specs.declared.expr.Operation.TheVariants.{Le}
 use Rattle.ckc_source.specs.declared.stmt.Kept.{Kept}
 use Rattle.ckc_source.specs.declared.stmt.Kept.TheVariants as kept
 use Rattle.ckc_source.specs.Code as source
+use Rattle.ckc_base.specs.Words.{word_of}
 use Rattle.ckc_source.specs.Words.{divides}
 use Rattle.ckc_core.specs.Code.{Expr, Const, Local, Load, Bin, Code, End, Set, Check}
 use Rattle.ckc_core.specs.Limits.{depth, IsShallow, KeepsLimits, IsSmallFunction, IsWithinLimits}
 use Rattle.ckc_checks.specs.Compilable as form
 use Rattle.ckc_checks.specs.Compilable.{IsCompilablePart, IsCompilableTarget, IsCompilableRight, IsCompilableCode, IsCompilableFunction, IsCompilable}
-use Rattle.ckc_checks.specs.Inserted.{is_direct, operated, low_byte, as_truth, is_zero, scaled, shifted, at_offset, element_of, place_at, checks_null, null_check, direct, operand, operation_code, expr_code, operand_code, operands_code, operands, expr_room, operand_room, operands_room, is_narrow, aim_code, target_count, written, fixed, written_there, right_assigned, aimed_room, assigned_room, result_kept, statements, room, zeroed, function_code, inserted}
+use Rattle.ckc_checks.specs.Inserted.{is_direct, operated, low_byte, as_truth, is_zero, scaled, shifted, at_offset, element_of, place_at, held, put_if, room_if, keeps_index, is_bounded, reads_signed, exact_test, exact_code, base_at, amount_at, end_at, static_place, counted_end, range_end, range_test, bounded_code, judged, pointer_at, index_at, reached_code, reached_place, direct, operand, operation_code, expr_code, operand_code, operands_code, operands, expr_room, operand_room, operands_room, is_narrow, aim_code, target_count, written, fixed, written_there, right_assigned, aimed_room, assigned_room, result_kept, statements, room, zeroed, function_code, inserted}
 use Rattle.ckc_checks.proofs.Formed.{length-operands}
 
 -- ---- expressions
@@ -62,6 +70,39 @@ place_depth : (access : Access) (a i : Expr) → depth (place_at access a i) ≤
 place_depth access a i =
     omega (arith, at_offset_depth access.offset (element_of access.through access.size a i), element_depth access.through access.size a i)
 
+base_depth : (x : ℕ) (b : Base) → depth (base_at x b) ≤ 1
+base_depth x bases.Own = omega arith
+base_depth x (bases.Local y) = omega arith
+base_depth x (bases.Fixed a) = omega arith
+
+amount_depth : (v : Option Variable) (add : ℤ) → depth (amount_at v add) ≤ 2
+amount_depth None add = omega arith
+amount_depth (Some v) add = omega (arith, at_offset_depth (word_of add) (Local v.local))
+
+end_depth : (x size : ℕ) (e : LimitsEnd) → depth (end_at x size e) ≤ 4
+end_depth x size e =
+    omega (arith, shifted_depth false size (base_at x e.base) (amount_at e.variable e.add), base_depth x e.base, amount_depth e.variable e.add)
+
+counted_depth : (upper : Bool) (size : ℕ) (count : Count) (a : ℕ) → depth (counted_end upper size count (Load width.Word (Const a))) ≤ 4
+counted_depth true size (counts.Fixed n) a = omega (arith, shifted_depth false size (Load width.Word (Const a)) (Const (word_of n)))
+counted_depth false size (counts.Fixed n) a = omega arith
+counted_depth upper size (counts.Member offset form add) a = omega arith
+
+range_end_depth : (upper : Bool) (p : source.Expr) → depth (range_end upper p) ≤ 4
+range_end_depth upper (source.Limited x limits) = end_depth x limits.to.size (if upper then limits.upper else limits.lower)
+range_end_depth upper (source.Member to count access p i) = counted_depth upper to.size count (static_place access p)
+range_end_depth upper (source.Moved shift p i) = range_end_depth upper p
+range_end_depth upper (source.Added shift i p) = range_end_depth upper p
+range_end_depth upper p = omega arith
+
+exact_depth : (back signs : Bool) (size : ℕ) (a i : Expr) → depth (exact_test back signs size a i) ≤ 5 + max (depth a) (max 1 (depth i))
+exact_depth true signs size a i = omega (arith, shifted_depth true size a i)
+exact_depth false signs size a i = omega (arith, shifted_depth false size a i)
+
+range_depth : (last : Bool) (p : source.Expr) (t : ℕ) → depth (range_test last p (Local t)) ≤ 1000
+range_depth true p t = omega (arith, range_end_depth false p, range_end_depth true p)
+range_depth false p t = omega (arith, range_end_depth false p, range_end_depth true p)
+
 some_depth : (e : source.Expr) → 1 ≤ form.depth e
 some_depth (source.Number n) = omega arith
 some_depth e = omega arith
@@ -86,6 +127,10 @@ by_depth false d t h = omega arith
 operand_depth : (e : source.Expr) (t : ℕ) → form.depth e ≤ 200 → depth (operand e t) ≤ 800
 operand_depth e t h = by_depth (is_direct e) (direct e) t (omega (arith, direct_depth e))
 
+held_depth : (always : Bool) (e : source.Expr) (t : ℕ) → form.depth e ≤ 200 → depth (held always e t) ≤ 800
+held_depth true e t h = omega arith
+held_depth false e t h = operand_depth e t h
+
 by_few : (is_one : Bool) (r n : ℕ) → r ≤ n → (if is_one then 0 else r) ≤ n
 by_few true r n h = omega arith
 by_few false r n h = h
@@ -104,19 +149,49 @@ operation_small o s at a b t rest x y k =
     let divisor : depth b ≤ 1000 = omega arith in
     unless_small (divides o) (Set t value rest) (Check check.Divide at b (Set t value rest)) (value_small, k) (divisor, (value_small, k))
 
-null_small : (access : Access) (a : Expr) (rest : Code) → depth a ≤ 800 → KeepsLimits rest → KeepsLimits (null_check access a rest)
-null_small access a rest h k = unless_small (checks_null access.through) rest (Check check.Null access.at a rest) k (omega arith, k)
+put_small : (always : Bool) (e : source.Expr) (t : ℕ) (rest : Code) → ((rest : Code) → KeepsLimits rest → KeepsLimits (expr_code e t rest)) → KeepsLimits rest
+    → KeepsLimits (put_if always e (expr_code e t) rest)
+put_small true e t rest h k = h rest k
+put_small false e t rest h k = operand_step e t rest (h rest k) k
 
--- a value behind an access whose pointer and index are operands
-reached_small : (p i : source.Expr) (t : ℕ) (access : Access) (value : Expr) (rest : Code) → form.depth p ≤ 200 → form.depth i ≤ 200 → depth value ≤ 1000 → KeepsLimits rest
+bounded_small : (last : Bool) (access : Access) (p : source.Expr) (i : Expr) (t : ℕ) (rest : Code) → depth i ≤ 800 → KeepsLimits rest → KeepsLimits (bounded_code last access p i t rest)
+bounded_small last access p i t rest h k =
+    let within : KeepsLimits (Check check.Bounds access.at (range_test last p (Local t)) rest) = (range_depth last p t, k) in
+    let step : depth (shifted false access.size (Local t) i) ≤ 1000 = omega (arith, shifted_depth false access.size (Local t) i) in
+    let exact : depth (exact_test false (reads_signed access.index) access.size (Local t) i) ≤ 1000 =
+    omega (arith, exact_depth false (reads_signed access.index) access.size (Local t) i) in
+    (omega arith, unless_small (is_zero i) _ _ (exact, (step, within)) within)
+
+judged_small : (through : Through) (access : Access) (p : source.Expr) (a i : Expr) (t : ℕ) (rest : Code) → depth a ≤ 800 → depth i ≤ 800 → KeepsLimits rest
+    → KeepsLimits (judged through access p a i t rest)
+judged_small Named access p a i t rest x y k = k
+judged_small Raw access p a i t rest x y k = k
+judged_small One access p a i t rest x y k = (omega arith, k)
+judged_small Array access p a i t rest x y k = bounded_small false access p i t rest y k
+judged_small Terminated access p a i t rest x y k = bounded_small true access p i t rest y k
+
+-- what finds an access, and then the rest
+reached_small : (p i : source.Expr) (t : ℕ) (access : Access) (rest : Code) → form.depth p ≤ 200 → form.depth i ≤ 200 → KeepsLimits rest
     → ((rest : Code) → KeepsLimits rest → KeepsLimits (expr_code p t rest)) → ((rest : Code) → KeepsLimits rest → KeepsLimits (expr_code i (t + 1) rest))
-    → KeepsLimits (operand_code p t (operand_code i (t + 1) (null_check access (operand p t) (Set t value rest))))
-reached_small p i t access value rest pointer index small k on_p on_i =
-    let after = null_check access (operand p t) (Set t value rest) in
-    let after_small = null_small access (operand p t) (Set t value rest) (operand_depth p t pointer) (small, k) in
-    let second = operand_code i (t + 1) after in
-    let second_small = operand_step i (t + 1) after (on_i after after_small) after_small in
-    operand_step p t second (on_p second second_small) second_small
+    → KeepsLimits (reached_code access p i (expr_code p t) (expr_code i (t + 1)) t rest)
+reached_small p i t access rest pointer index k on_p on_i =
+    let checked = is_bounded access.through in
+    put_small checked p t _ on_p (put_small (keeps_index checked i) i (t + 1) _ on_i
+    (judged_small access.through access p (pointer_at access p t) (index_at access i (t + 1)) t rest (held_depth checked p t pointer) (held_depth (keeps_index checked i) i (t + 1) index) k))
+
+reached_depth : (access : Access) (p i : source.Expr) (t : ℕ) → form.depth p ≤ 200 → form.depth i ≤ 200 → depth (reached_place access p i t) ≤ 900
+reached_depth access p i t pointer index =
+    let checked = is_bounded access.through in
+    omega (arith, place_depth access (pointer_at access p t) (index_at access i (t + 1)), held_depth checked p t pointer, held_depth (keeps_index checked i) i (t + 1) index)
+
+moved_small : (shift : Shift) (checked : Bool) (a i : Expr) (t : ℕ) (rest : Code) → depth a ≤ 800 → depth i ≤ 800 → KeepsLimits rest
+    → KeepsLimits (let there = Set t (shifted shift.back shift.size a i) rest in if checked then exact_code shift a i there else there)
+moved_small shift true a i t rest x y k =
+    let step : depth (shifted shift.back shift.size a i) ≤ 1000 = omega (arith, shifted_depth shift.back shift.size a i) in
+    let exact : depth (exact_test shift.back (reads_signed shift.index) shift.size a i) ≤ 1000 =
+    omega (arith, exact_depth shift.back (reads_signed shift.index) shift.size a i) in
+    (omega arith, unless_small (is_zero i) _ _ (exact, (step, k)) (step, k))
+moved_small shift false a i t rest x y k = (omega (arith, shifted_depth shift.back shift.size a i), k)
 
 expr_small : (e : source.Expr) (t : ℕ) (rest : Code) → form.depth e ≤ 200 → KeepsLimits rest → KeepsLimits (expr_code e t rest)
 expr_small (source.Binary o s at a b) t rest h k =
@@ -158,37 +233,28 @@ expr_small (source.Narrow e) t rest h k =
 expr_small (source.Load w access p i) t rest h k =
     let pointer : form.depth p ≤ 200 = omega arith in
     let index : form.depth i ≤ 200 = omega arith in
-    let value = Load w (place_at access (operand p t) (operand i (t + 1))) in
-    let value_small : depth value ≤ 1000 = omega (arith, place_depth access (operand p t) (operand i (t + 1)), operand_depth p t pointer, operand_depth i (t + 1) index) in
-    reached_small p i t access value rest pointer index value_small k (λ rest k. expr_small p t rest pointer k) (λ rest k. expr_small i (t + 1) rest index k)
+    reached_small p i t access (Set t (Load w (reached_place access p i t)) rest) pointer index (omega (arith, reached_depth access p i t pointer index), k)
+    (λ rest k. expr_small p t rest pointer k) (λ rest k. expr_small i (t + 1) rest index k)
 expr_small (source.Member to count access p i) t rest h k =
     let pointer : form.depth p ≤ 200 = omega arith in
     let index : form.depth i ≤ 200 = omega arith in
-    let value = Load width.Word (place_at access (operand p t) (operand i (t + 1))) in
-    let value_small : depth value ≤ 1000 = omega (arith, place_depth access (operand p t) (operand i (t + 1)), operand_depth p t pointer, operand_depth i (t + 1) index) in
-    reached_small p i t access value rest pointer index value_small k (λ rest k. expr_small p t rest pointer k) (λ rest k. expr_small i (t + 1) rest index k)
+    reached_small p i t access (Set t (Load width.Word (reached_place access p i t)) rest) pointer index (omega (arith, reached_depth access p i t pointer index), k)
+    (λ rest k. expr_small p t rest pointer k) (λ rest k. expr_small i (t + 1) rest index k)
 expr_small (source.Address bytes access p i) t rest h k =
     let pointer : form.depth p ≤ 200 = omega arith in
     let index : form.depth i ≤ 200 = omega arith in
-    let value = place_at access (operand p t) (operand i (t + 1)) in
-    let value_small : depth value ≤ 1000 = omega (arith, place_depth access (operand p t) (operand i (t + 1)), operand_depth p t pointer, operand_depth i (t + 1) index) in
-    reached_small p i t access value rest pointer index value_small k (λ rest k. expr_small p t rest pointer k) (λ rest k. expr_small i (t + 1) rest index k)
+    reached_small p i t access (Set t (reached_place access p i t) rest) pointer index (omega (arith, reached_depth access p i t pointer index), k)
+    (λ rest k. expr_small p t rest pointer k) (λ rest k. expr_small i (t + 1) rest index k)
 expr_small (source.Moved shift p i) t rest h k =
     let pointer : form.depth p ≤ 200 = omega arith in
     let index : form.depth i ≤ 200 = omega arith in
-    let after = Set t (shifted shift.back shift.size (operand p t) (operand i (t + 1))) rest in
-    let after_small : KeepsLimits after = (omega (arith, shifted_depth shift.back shift.size (operand p t) (operand i (t + 1)), operand_depth p t pointer, operand_depth i (t + 1) index), k) in
-    let second = operand_code i (t + 1) after in
-    let second_small = operand_step i (t + 1) after (expr_small i (t + 1) after index after_small) after_small in
-    operand_step p t second (expr_small p t second pointer second_small) second_small
+    put_small shift.checked p t _ (λ rest k. expr_small p t rest pointer k) (put_small (keeps_index shift.checked i) i (t + 1) _ (λ rest k. expr_small i (t + 1) rest index k)
+    (moved_small shift shift.checked (held shift.checked p t) (held (keeps_index shift.checked i) i (t + 1)) t rest (held_depth shift.checked p t pointer) (held_depth (keeps_index shift.checked i) i (t + 1) index) k))
 expr_small (source.Added shift i p) t rest h k =
     let pointer : form.depth p ≤ 200 = omega arith in
     let index : form.depth i ≤ 200 = omega arith in
-    let after = Set t (shifted shift.back shift.size (operand p (t + 1)) (operand i t)) rest in
-    let after_small : KeepsLimits after = (omega (arith, shifted_depth shift.back shift.size (operand p (t + 1)) (operand i t), operand_depth p (t + 1) pointer, operand_depth i t index), k) in
-    let second = operand_code p (t + 1) after in
-    let second_small = operand_step p (t + 1) after (expr_small p (t + 1) after pointer after_small) after_small in
-    operand_step i t second (expr_small i t second index second_small) second_small
+    put_small (keeps_index shift.checked i) i t _ (λ rest k. expr_small i t rest index k) (put_small shift.checked p (t + 1) _ (λ rest k. expr_small p (t + 1) rest pointer k)
+    (moved_small shift shift.checked (held shift.checked p (t + 1)) (held (keeps_index shift.checked i) i t) t rest (held_depth shift.checked p (t + 1) pointer) (held_depth (keeps_index shift.checked i) i t index) k))
 expr_small (source.Bare p) t rest h k = expr_small p t rest (omega arith) k
 expr_small (source.Tested size how at p k) t rest h small = expr_small p t rest (omega arith) small
 expr_small (source.Trusted to how p k) t rest h small =
@@ -200,6 +266,10 @@ expr_small e t rest h k = (omega arith, k)
 operand_small : (e : source.Expr) (t : ℕ) (rest : Code) → form.depth e ≤ 200 → KeepsLimits rest → KeepsLimits (operand_code e t rest)
 operand_small e t rest h k = operand_step e t rest (expr_small e t rest h k) k
 
+if_few : (always : Bool) (e : source.Expr) (n : ℕ) → expr_room e ≤ n → room_if always e (expr_room e) ≤ n
+if_few true e n h = h
+if_few false e n h = by_few (is_direct e) (expr_room e) n h
+
 expr_room_few : (e : source.Expr) → expr_room e ≤ form.depth e
 expr_room_few (source.Binary o s at a b) =
     omega (arith, by_few (is_direct a) (expr_room a) (form.depth a) (expr_room_few a), by_few (is_direct b) (expr_room b) (form.depth b) (expr_room_few b))
@@ -210,15 +280,18 @@ expr_room_few (source.Or a b) =
 expr_room_few (source.Choice c a b) =
     omega (arith, by_few (is_direct c) (expr_room c) (form.depth c) (expr_room_few c), expr_room_few a, expr_room_few b)
 expr_room_few (source.Load w access p i) =
-    omega (arith, by_few (is_direct p) (expr_room p) (form.depth p) (expr_room_few p), by_few (is_direct i) (expr_room i) (form.depth i) (expr_room_few i))
+    let checked = is_bounded access.through in
+    omega (arith, if_few checked p (form.depth p) (expr_room_few p), if_few (keeps_index checked i) i (form.depth i) (expr_room_few i))
 expr_room_few (source.Member to count access p i) =
-    omega (arith, by_few (is_direct p) (expr_room p) (form.depth p) (expr_room_few p), by_few (is_direct i) (expr_room i) (form.depth i) (expr_room_few i))
+    let checked = is_bounded access.through in
+    omega (arith, if_few checked p (form.depth p) (expr_room_few p), if_few (keeps_index checked i) i (form.depth i) (expr_room_few i))
 expr_room_few (source.Address bytes access p i) =
-    omega (arith, by_few (is_direct p) (expr_room p) (form.depth p) (expr_room_few p), by_few (is_direct i) (expr_room i) (form.depth i) (expr_room_few i))
+    let checked = is_bounded access.through in
+    omega (arith, if_few checked p (form.depth p) (expr_room_few p), if_few (keeps_index checked i) i (form.depth i) (expr_room_few i))
 expr_room_few (source.Moved shift p i) =
-    omega (arith, by_few (is_direct p) (expr_room p) (form.depth p) (expr_room_few p), by_few (is_direct i) (expr_room i) (form.depth i) (expr_room_few i))
+    omega (arith, if_few shift.checked p (form.depth p) (expr_room_few p), if_few (keeps_index shift.checked i) i (form.depth i) (expr_room_few i))
 expr_room_few (source.Added shift i p) =
-    omega (arith, by_few (is_direct p) (expr_room p) (form.depth p) (expr_room_few p), by_few (is_direct i) (expr_room i) (form.depth i) (expr_room_few i))
+    omega (arith, if_few shift.checked p (form.depth p) (expr_room_few p), if_few (keeps_index shift.checked i) i (form.depth i) (expr_room_few i))
 expr_room_few (source.Bare p) = omega (arith, expr_room_few p)
 expr_room_few (source.Tested size how at p k) = omega (arith, expr_room_few p)
 expr_room_few (source.Trusted to how p k) =
@@ -256,9 +329,7 @@ aim_small few t (source.Variable x w) rest h k = k
 aim_small few t (source.Memory w access p i) rest h k =
     let pointer = h.1 in
     let index = h.2 in
-    let after_small = null_small access (operand p t) rest (operand_depth p t pointer.1) k in
-    let after = null_check access (operand p t) rest in
-    operand_small p t (operand_code i (t + 1) after) pointer.1 (operand_small i (t + 1) after index.1 after_small)
+    reached_small p i t access rest pointer.1 index.1 k (λ rest k. expr_small p t rest pointer.1 k) (λ rest k. expr_small i (t + 1) rest index.1 k)
 
 written_small : (few t : ℕ) (target : source.Target) (is_byte : Bool) (e : Expr) (rest : Code) → IsCompilableTarget few target → depth e ≤ 900 → KeepsLimits rest → KeepsLimits (written target t is_byte e rest)
 written_small few t source.Nothing is_byte e rest s h k = k
@@ -268,7 +339,7 @@ written_small few t (source.Variable x width.Byte) false e rest s h k = (omega a
 written_small few t (source.Memory w access p i) is_byte e rest s h k =
     let pointer = s.1 in
     let index = s.2 in
-    (omega (arith, place_depth access (operand p t) (operand i (t + 1)), operand_depth p t pointer.1, operand_depth i (t + 1) index.1), omega arith, k)
+    (omega (arith, reached_depth access p i t pointer.1 index.1), omega arith, k)
 
 fixed_small : (few t : ℕ) (target : source.Target) (rest : Code) → IsCompilableTarget few target → KeepsLimits rest → KeepsLimits (fixed target t rest)
 fixed_small few t source.Nothing rest s k = k
@@ -276,7 +347,7 @@ fixed_small few t (source.Variable x w) rest s k = k
 fixed_small few t (source.Memory w access p i) rest s k =
     let pointer = s.1 in
     let index = s.2 in
-    (omega (arith, place_depth access (operand p t) (operand i (t + 1)), operand_depth p t pointer.1, operand_depth i (t + 1) index.1), k)
+    (omega (arith, reached_depth access p i t pointer.1 index.1), k)
 
 there_small : (few t : ℕ) (target : source.Target) (e : Expr) (rest : Code) → depth e ≤ 900 → KeepsLimits rest → KeepsLimits (written_there target t e rest)
 there_small few t source.Nothing e rest h k = k
@@ -313,7 +384,8 @@ aimed_room_few few r (source.Variable x w) h k = omega arith
 aimed_room_few few r (source.Memory w access p i) h k =
     let pointer = h.1 in
     let index = h.2 in
-    omega (arith, operand_room_few p pointer.1, operand_room_few i index.1)
+    let checked = is_bounded access.through in
+    omega (arith, if_few checked p 200 (omega (arith, expr_room_few p)), if_few (keeps_index checked i) i 200 (omega (arith, expr_room_few i)))
 
 right_room_few : (few : ℕ) (target : source.Target) (right : source.Right) → IsCompilableTarget few target → IsCompilableRight few right → assigned_room target right ≤ 202
 right_room_few few source.Nothing (source.Value e) s h = omega (arith, expr_room_few e)

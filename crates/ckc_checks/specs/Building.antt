@@ -6,7 +6,7 @@ use Rattle.ckc_core.specs.declared.code.CoreStmt.{CoreStmt}
 use Rattle.ckc_core.specs.Code.{Local, Code, End, Get, Put, Call, If, Loop, Break, Return, Check, code_of}
 use Rattle.ckc_source.specs.declared.stmt.Kept.{Kept}
 use Rattle.ckc_source.specs.Code as source
-use Rattle.ckc_checks.specs.Inserted.{expr_code, expr_room, operand_room, operand_code, operand, operands_code, operands, operand_used, low_byte, aim_code, target_count, written, result_in, result_kept}
+use Rattle.ckc_checks.specs.Inserted.{put_if, room_if, expr_code, expr_room, operand_code, operand, operands_code, operands, operand_used, low_byte, aim_code, target_count, written, result_in, result_kept}
 
 -- the code of statements from the last one to the first
 unfoldable pub behind : List CoreStmt → Code
@@ -14,8 +14,7 @@ behind statements = code_of (reverse statements)
 
 -- the code of an expression, where the flag says so also that of a direct one
 abbrev pub expr_code_if : Bool → source.Expr → ℕ → Code → Code
-expr_code_if true e t rest = expr_code e t rest
-expr_code_if false e t rest = operand_code e t rest
+expr_code_if always e t rest = put_if always e (expr_code e t) rest
 
 abbrev pub put_code : source.Target → source.Expr → ℕ → Code → Code
 put_code target e t rest =
@@ -43,5 +42,4 @@ check_code at e t rest = operand_code e t (Check check.Dynamic at (operand e t) 
 
 -- how many temporaries that needs
 abbrev pub expr_room_if : Bool → source.Expr → ℕ
-expr_room_if true e = expr_room e
-expr_room_if false e = operand_room e
+expr_room_if always e = room_if always e (expr_room e)

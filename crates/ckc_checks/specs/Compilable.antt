@@ -1,8 +1,10 @@
--- Programs that can be compiled: names exist, numbers fit, functions and expressions are small. No checked pointer to an
--- array is moved, accessed or tested in them, and no bundle stands in them; what is tested is a pointer to one element.
-use Rattle.std.specs.Prelude.{◌≡◌, ℤ, pos, ℕ, ◌+◌, ◌≤◌, ◌<◌, ◌^◌, max, Bool, true, false, IsTrue, List, [], ◌∷◌, length, slice_get, sum_by, Option, Some, None, All, IfSome}
+-- Programs that can be compiled: names exist, numbers fit, functions and expressions are small. What is
+-- accessed by its range comes of a local with limits or of a static object, and what is tested is a pointer to one
+-- element. Nothing is written through a pointer to a null-terminated array, and no bundle stands in them.
+use Rattle.std.specs.Prelude.{◌≡◌, ℤ, pos, neg_ℤ, ◌≤ℤ◌, ◌<ℤ◌, ℕ, ◌+◌, ◌≤◌, ◌<◌, ◌^◌, ◌==◌, if◌then◌else◌, max, Bool, true, false, IsTrue, List, [], ◌∷◌, length, slice_get, sum_by, Option, Some, None, All, IfSome}
 use Rattle.ckc_base.specs.Memory.{data_start}
 use Rattle.ckc_core.specs.WellFormed.{IsPlace}
+use Rattle.ckc_source.specs.Eval.{place_in}
 use Rattle.ckc_source.specs.declared.expr.Access.{Access}
 use Rattle.ckc_source.specs.declared.expr.Base.{Base}
 use Rattle.ckc_source.specs.declared.expr.Base.TheVariants as bases
@@ -38,18 +40,36 @@ depth (Tested size form at p k) = 1 + max (depth p) (depth k)
 depth (Trusted to form p k) = 1 + max (depth p) (depth k)
 depth _ = 1
 
--- how many nodes an access counts for, beside its pointer and its index
-abbrev pub access_nodes : Through → ℕ
-access_nodes Named = 1
-access_nodes _ = 2
+-- how many nodes an access counts for that is judged by the range of its pointer: the first element needs no arithmetic
+abbrev pub element_nodes : Expr → ℕ
+element_nodes (Number n) = if n == 0 then 4 else 6
+element_nodes _ = 6
+
+-- how many nodes an access at an index counts for, beside its pointer and its index
+abbrev pub access_nodes : Through → Expr → ℕ
+access_nodes Named i = 1
+access_nodes Raw i = 2
+access_nodes One i = 2
+access_nodes Arrays i = element_nodes i
+access_nodes Terminated i = element_nodes i
+
+-- how many nodes pointer arithmetic counts for, by whether it is checked
+abbrev pub shift_nodes : Bool → ℕ
+shift_nodes true = 3
+shift_nodes false = 1
+
+-- an index counts for nothing where it is a number
+abbrev pub index_nodes : Expr → ℕ → ℕ
+index_nodes (Number n) count = 0
+index_nodes i count = count
 
 -- how many nodes an expression has
 abbrev pub expr_nodes : Expr → ℕ
-expr_nodes (Load width access p i) = access_nodes access.through + expr_nodes p + expr_nodes i
-expr_nodes (Member to count access p i) = access_nodes access.through + expr_nodes p + expr_nodes i
-expr_nodes (Address bytes access p i) = access_nodes access.through + expr_nodes p + expr_nodes i
-expr_nodes (Moved shift p i) = 1 + expr_nodes p + expr_nodes i
-expr_nodes (Added shift i p) = 1 + expr_nodes i + expr_nodes p
+expr_nodes (Load width access p i) = access_nodes access.through i + expr_nodes p + index_nodes i (expr_nodes i)
+expr_nodes (Member to count access p i) = access_nodes access.through i + expr_nodes p + index_nodes i (expr_nodes i)
+expr_nodes (Address bytes access p i) = access_nodes access.through i + expr_nodes p + index_nodes i (expr_nodes i)
+expr_nodes (Moved shift p i) = shift_nodes shift.checked + expr_nodes p + expr_nodes i
+expr_nodes (Added shift i p) = shift_nodes shift.checked + expr_nodes i + expr_nodes p
 expr_nodes (Binary operation is_signed at a b) = 1 + expr_nodes a + expr_nodes b
 expr_nodes (And a b) = 1 + expr_nodes a + expr_nodes b
 expr_nodes (Or a b) = 1 + expr_nodes a + expr_nodes b
@@ -65,7 +85,7 @@ exprs_nodes [] = 0
 exprs_nodes (e ∷ es) = expr_nodes e + exprs_nodes es
 
 abbrev pub target_nodes : Target → ℕ
-target_nodes (Memory width access p i) = access_nodes access.through + expr_nodes p + expr_nodes i
+target_nodes (Memory width access p i) = access_nodes access.through i + expr_nodes p + index_nodes i (expr_nodes i)
 target_nodes _ = 0
 
 abbrev pub right_nodes : Right → ℕ
@@ -108,20 +128,78 @@ abbrev pub IsZero : Expr → Type 0
 IsZero (Number n) = n ≡ 0
 IsZero _ = ⊥
 
--- the ways to judge an access; `_Ptr` has one element
-abbrev pub IsJudged : Through → Expr → Type 0
-IsJudged Named i = Unit {0}
-IsJudged Raw i = Unit {0}
-IsJudged One i = IsZero i
-IsJudged Arrays i = ⊥
-IsJudged Terminated i = ⊥
+-- an end of limits over so many locals; its number is one of 32 bits
+abbrev pub IsBase : ℕ → Base → Type 0
+IsBase locals bases.Own = Unit {0}
+IsBase locals (bases.Local x) = x < locals
+IsBase locals (bases.Fixed a) = a < 2 ^ 32
 
--- an access at an index
-abbrev pub IsAccess : Access → Expr → Type 0
-IsAccess access i = IsPlace access.at × (access.size < 2 ^ 32) × (access.offset < 2 ^ 32) × IsJudged access.through i
+abbrev pub IsVariable : ℕ → Option IntegerLocal → Type 0
+IsVariable locals None = Unit {0}
+IsVariable locals (Some x) = x.local < locals
+
+abbrev pub IsSmall : ℤ → Type 0
+IsSmall n = (neg_ℤ (pos (2 ^ 31)) ≤ℤ n) × (n <ℤ pos (2 ^ 31))
+
+abbrev pub IsEnd : ℕ → LimitsEnd → Type 0
+IsEnd locals e = IsBase locals e.base × IsVariable locals e.variable × IsSmall e.add
+
+abbrev pub AreEnds : ℕ → Limits → Type 0
+AreEnds locals limits = (limits.to.size < 2 ^ 32) × IsEnd locals limits.lower × IsEnd locals limits.upper
+
+-- a static object at its place
+abbrev pub IsNamed : Through → Type 0
+IsNamed Named = Unit {0}
+IsNamed _ = ⊥
+
+abbrev pub IsStatic : Access → Expr → Type 0
+IsStatic access (Number a) = IsNamed access.through
+IsStatic access _ = ⊥
+
+-- so many bytes from there on end at an address
+abbrev pub EndsLow : Access → ℕ → Expr → Type 0
+EndsLow access bytes (Number a) = place_in a access.offset + bytes < 2 ^ 32
+EndsLow access bytes _ = ⊥
+
+abbrev pub IsFixed : Count → Type 0
+IsFixed (counts.Fixed n) = IsSmall n
+IsFixed (counts.Member offset form add) = ⊥
+
+-- a pointer of which the range is tested: a local with limits, a named array, a static pointer with a fixed count, the
+-- address of a static object, or one of these moved
+abbrev pub IsRanged : ℕ → Expr → Type 0
+IsRanged locals (Limited x limits) = AreEnds locals limits
+IsRanged locals (Array at bytes) = at + bytes < 2 ^ 32
+IsRanged locals (Member to count access p i) = IsStatic access p × (to.size < 2 ^ 32) × IsFixed count
+IsRanged locals (Address bytes access p i) = IsStatic access p × EndsLow access bytes p
+IsRanged locals (Moved shift p i) = IsTrue shift.checked × IsRanged locals p
+IsRanged locals (Added shift i p) = IsTrue shift.checked × IsRanged locals p
+IsRanged locals _ = ⊥
+
+-- the ways to judge an access to elements of a size, through a pointer at an index; `_Ptr` has one element
+abbrev pub IsJudged : ℕ → Through → ℕ → Expr → Expr → Type 0
+IsJudged locals Named size p i = Unit {0}
+IsJudged locals Raw size p i = Unit {0}
+IsJudged locals One size p i = IsZero i
+IsJudged locals Arrays size p i = (1 ≤ size) × (size < 2 ^ 31) × IsRanged locals p
+IsJudged locals Terminated size p i = (1 ≤ size) × (size < 2 ^ 31) × IsRanged locals p
+
+-- nothing is written through a pointer to a null-terminated array
+abbrev pub IsWritable : Through → Type 0
+IsWritable Terminated = ⊥
+IsWritable _ = Unit {0}
+
+-- an access through a pointer at an index
+abbrev pub IsAccess : ℕ → Access → Expr → Expr → Type 0
+IsAccess locals access p i =
+    IsPlace access.at × (access.size < 2 ^ 32) × (access.offset < 2 ^ 32) × IsJudged locals access.through access.size p i
+
+abbrev pub IsChecked : Bool → Shift → Type 0
+IsChecked false shift = Unit {0}
+IsChecked true shift = IsPlace shift.at × (1 ≤ shift.size) × (shift.size < 2 ^ 31)
 
 abbrev pub IsShift : Shift → Type 0
-IsShift shift = (shift.checked ≡ false) × (shift.size < 2 ^ 32)
+IsShift shift = (shift.size < 2 ^ 32) × IsChecked shift.checked shift
 
 abbrev pub IsOne : Expr → Type 0
 IsOne (Number n) = n ≡ 1
@@ -156,11 +234,11 @@ IsCompilableExpr locals (Local x) = x < locals
 IsCompilableExpr locals (Limited x limits) = x < locals
 IsCompilableExpr locals (Array at bytes) = at < 2 ^ 32
 IsCompilableExpr locals (Load width access p i) =
-    IsAccess access i × IsCompilableExpr locals p × IsCompilableExpr locals i
+    IsAccess locals access p i × IsCompilableExpr locals p × IsCompilableExpr locals i
 IsCompilableExpr locals (Member to count access p i) =
-    IsAccess access i × IsCompilableExpr locals p × IsCompilableExpr locals i
+    IsAccess locals access p i × IsCompilableExpr locals p × IsCompilableExpr locals i
 IsCompilableExpr locals (Address bytes access p i) =
-    IsAccess access i × IsCompilableExpr locals p × IsCompilableExpr locals i
+    IsAccess locals access p i × IsCompilableExpr locals p × IsCompilableExpr locals i
 IsCompilableExpr locals (Moved shift p i) = IsShift shift × IsCompilableExpr locals p × IsCompilableExpr locals i
 IsCompilableExpr locals (Added shift i p) = IsShift shift × IsCompilableExpr locals i × IsCompilableExpr locals p
 IsCompilableExpr locals (Binary operation is_signed at a b) =
@@ -182,7 +260,7 @@ abbrev pub IsCompilableTarget : ℕ → Target → Type 0
 IsCompilableTarget locals Nothing = Unit {0}
 IsCompilableTarget locals (Variable x width) = x < locals
 IsCompilableTarget locals (Memory width access p i) =
-    IsAccess access i × IsCompilablePart locals p × IsCompilablePart locals i
+    IsAccess locals access p i × IsCompilablePart locals p × IsCompilablePart locals i × IsWritable access.through
 
 abbrev pub IsCompilableRight : ℕ → Right → Type 0
 IsCompilableRight locals (Value e) = IsCompilablePart locals e

@@ -1,16 +1,25 @@
 -- The core code of a source program. It mirrors what `insert` makes and need not be believed: the
 -- contract of `insert` says how core code follows the program.
-use Rattle.std.specs.Prelude.{ℕ, zero, suc, ◌+◌, ◌-◌, ◌/◌, ◌%◌, max, Bool, true, false, not, ◌&&◌, ◌==◌, if◌then◌else◌, List, [], ◌∷◌, ◌++◌, map, length, replicate, Option, Some, None}
+use Rattle.std.specs.Prelude.{ℕ, zero, suc, ℤ, ◌+◌, ◌-◌, ◌/◌, ◌%◌, max, Bool, true, false, not, ◌&&◌, ◌==◌, if◌then◌else◌, List, [], ◌∷◌, ◌++◌, map, length, replicate, Option, Some, None}
 use Rattle.ckc_base.specs.declared.arithmetic.BinOp.TheVariants as binary
 use Rattle.ckc_base.specs.declared.arithmetic.Width.{Width}
 use Rattle.ckc_base.specs.declared.arithmetic.Width.TheVariants as width
 use Rattle.ckc_base.specs.declared.places.Pos.{Pos}
 use Rattle.ckc_base.specs.declared.runtime_checks.Check.TheVariants as check
 use Rattle.ckc_base.specs.Memory.{data_start}
-use Rattle.ckc_base.specs.Words.{applied}
+use Rattle.ckc_base.specs.Words.{word_of, applied}
 use Rattle.ckc_source.specs.declared.expr.Access.{Access}
 use Rattle.ckc_source.specs.declared.expr.Through.{Through}
-use Rattle.ckc_source.specs.declared.expr.Through.TheVariants.{Named, Raw, One}
+use Rattle.ckc_source.specs.declared.expr.Through.TheVariants.{Named, Raw, One, Array, Terminated}
+use Rattle.ckc_source.specs.declared.expr.Count.{Count}
+use Rattle.ckc_source.specs.declared.expr.Count.TheVariants as counts
+use Rattle.ckc_source.specs.declared.expr.Base.{Base}
+use Rattle.ckc_source.specs.declared.expr.Base.TheVariants as bases
+use Rattle.ckc_source.specs.declared.expr.End.{End as LimitsEnd}
+use Rattle.ckc_source.specs.declared.expr.Integer.{Integer}
+use Rattle.ckc_source.specs.declared.expr.Integer.TheVariants as integer
+use Rattle.ckc_source.specs.declared.expr.Shift.{Shift}
+use Rattle.ckc_source.specs.declared.expr.Variable.{Variable}
 use Rattle.ckc_source.specs.declared.expr.Operation.{Operation}
 use Rattle.ckc_source.specs.declared.expr.Operation.TheVariants.{Lt, Le, Gt, Ge}
 use Rattle.ckc_source.specs.declared.program.Object.{Object}
@@ -20,7 +29,7 @@ use Rattle.ckc_source.specs.Code as source
 use Rattle.ckc_source.specs.Blocks.{block_of, place_behind, first_place}
 use Rattle.ckc_source.specs.Eval.{place_in}
 use Rattle.ckc_source.specs.Words.{operator, divides}
-use Rattle.ckc_core.specs.Code.{Expr, Const, Local, Load, Bin, Code, End, Set, Store, Check, Call, Get, Put, Alloc, If, Loop, Break, Continue, Return, Function, Program}
+use Rattle.ckc_core.specs.Code.{Expr, Const, Local, Load, Bin, High, Code, End, Set, Store, Check, Call, Get, Put, Alloc, If, Loop, Break, Continue, Return, Function, Program}
 
 -- ---- expressions
 
@@ -35,8 +44,8 @@ abbrev pub is_direct : source.Expr → Bool
 is_direct (source.Load width access p i) = is_unchecked access.through && (is_direct p && is_direct i)
 is_direct (source.Member to count access p i) = is_unchecked access.through && (is_direct p && is_direct i)
 is_direct (source.Address bytes access p i) = is_unchecked access.through && (is_direct p && is_direct i)
-is_direct (source.Moved shift p i) = is_direct p && is_direct i
-is_direct (source.Added shift i p) = is_direct i && is_direct p
+is_direct (source.Moved shift p i) = not shift.checked && (is_direct p && is_direct i)
+is_direct (source.Added shift i p) = not shift.checked && (is_direct i && is_direct p)
 is_direct (source.Binary operation is_signed at a b) = not (divides operation) && is_direct a && is_direct b
 is_direct (source.And a b) = false
 is_direct (source.Or a b) = false
@@ -113,6 +122,21 @@ operand e t = if is_direct e then direct e else Local t
 abbrev pub unless_direct : source.Expr → (Code → Code) → Code → Code
 unless_direct e code rest = if is_direct e then rest else code rest
 
+-- an operand that goes to the temporary t in any case, where the flag says so
+abbrev pub held : Bool → source.Expr → ℕ → Expr
+held always e t = if always then Local t else operand e t
+
+abbrev pub put_if : Bool → source.Expr → (Code → Code) → Code → Code
+put_if always e code rest = if always then code rest else unless_direct e code rest
+
+abbrev pub is_number : source.Expr → Bool
+is_number (source.Number n) = true
+is_number _ = false
+
+-- an index that goes to a temporary in any case, where the flag says so, but for a number
+abbrev pub keeps_index : Bool → source.Expr → Bool
+keeps_index checked i = checked && not (is_number i)
+
 -- a division or remainder stops at a divisor of zero
 abbrev pub divide_check : Operation → Pos → Expr → Code → Code
 divide_check operation at b rest = if divides operation then Check check.Divide at b rest else rest
@@ -121,32 +145,139 @@ divide_check operation at b rest = if divides operation then Check check.Divide 
 abbrev pub operation_code : Operation → Bool → Pos → Expr → Expr → ℕ → Code → Code
 operation_code operation is_signed at a b t rest = divide_check operation at b (Set t (operated operation is_signed a b) rest)
 
-abbrev pub checks_null : Through → Bool
-checks_null One = true
-checks_null _ = false
+-- ---- checked pointers to arrays
 
--- an access through a checked pointer stops at null
-abbrev pub null_check : Access → Expr → Code → Code
-null_check access a rest = if checks_null access.through then Check check.Null access.at a rest else rest
+-- an access that is judged by the range of its pointer
+abbrev pub is_bounded : Through → Bool
+is_bounded Array = true
+is_bounded Terminated = true
+is_bounded _ = false
+
+abbrev pub reads_signed : Integer → Bool
+reads_signed integer.Int = true
+reads_signed _ = false
+
+-- The address so many elements further on, or back, is one where the upper word of the product and the carry or borrow
+-- cancel.
+abbrev pub exact_test : (back is_signed : Bool) → ℕ → Expr → Expr → Expr
+exact_test back is_signed size a i =
+    Bin binary.Eq (Bin binary.Add (High is_signed (Const size) i)
+    (if back then Bin binary.LtU a (shifted back size a i) else Bin binary.LtU (shifted back size a i) a)) (Const 0)
+
+-- a test that an index needs unless it is the number 0
+abbrev pub unless_zero : Expr → (Code → Code) → Code → Code
+unless_zero i code rest = if is_zero i then rest else code rest
+
+-- The checks of pointer arithmetic: null stops, and an address that is none.
+abbrev pub exact_code : Shift → Expr → Expr → Code → Code
+exact_code shift a i rest =
+    Check check.Arith shift.at a (unless_zero i
+    (Check check.Arith shift.at (exact_test shift.back (reads_signed shift.index) shift.size a i)) rest)
+
+-- where pointer arithmetic leads, in the temporary t
+abbrev pub moved_code : Shift → Expr → Expr → ℕ → Code → Code
+moved_code shift a i t rest =
+    let there = Set t (shifted shift.back shift.size a i) rest in
+    if shift.checked then exact_code shift a i there else there
+
+-- the ends of the limits of the local x
+abbrev pub base_at : ℕ → Base → Expr
+base_at x bases.Own = Local x
+base_at x (bases.Local y) = Local y
+base_at x (bases.Fixed a) = Const a
+
+abbrev pub amount_at : Option Variable → ℤ → Expr
+amount_at None add = Const (word_of add)
+amount_at (Some v) add = at_offset (word_of add) (Local v.local)
+
+abbrev pub end_at : ℕ → ℕ → LimitsEnd → Expr
+end_at x size e = shifted false size (base_at x e.base) (amount_at e.variable e.add)
+
+-- the place of an access to a static object
+abbrev pub static_place : Access → source.Expr → ℕ
+static_place access (source.Number a) = place_in a access.offset
+static_place access _ = 0
+
+-- an end of the range of a static pointer, which is read from memory again
+abbrev pub counted_end : Bool → ℕ → Count → Expr → Expr
+counted_end upper size (counts.Fixed n) e = if upper then shifted false size e (Const (word_of n)) else e
+counted_end upper size (counts.Member offset form add) e = Const 0
+
+-- An end of the range of a pointer, the upper one where the flag says so: of a local with limits, of a named array, of a
+-- static pointer, or of the address of a static object. Pointer arithmetic keeps it.
+abbrev pub range_end : Bool → source.Expr → Expr
+range_end upper (source.Limited x limits) = end_at x limits.to.size (if upper then limits.upper else limits.lower)
+range_end upper (source.Array at bytes) = Const (if upper then at + bytes else at)
+range_end upper (source.Member to count access p i) =
+    counted_end upper to.size count (Load width.Word (Const (static_place access p)))
+range_end upper (source.Address bytes access p i) =
+    Const (if upper then static_place access p + bytes else static_place access p)
+range_end upper (source.Moved shift p i) = range_end upper p
+range_end upper (source.Added shift i p) = range_end upper p
+range_end upper _ = Const 0
+
+abbrev pub below_or_at : Expr → Expr → Expr
+below_or_at a b = Bin binary.Eq (Bin binary.LtU b a) (Const 0)
+
+-- whether an address lies in a range, of which the upper bound counts too where the flag says so
+abbrev pub upper_test : Bool → Expr → Expr → Expr
+upper_test last a high = if last then below_or_at a high else Bin binary.LtU a high
+
+abbrev pub range_test : Bool → source.Expr → Expr → Expr
+range_test last p a = Bin binary.And (below_or_at (range_end false p) a) (upper_test last a (range_end true p))
+
+-- The element at an index goes to the temporary t, which has the pointer. An address that is none stops.
+abbrev pub element_code : Access → Expr → ℕ → Code → Code
+element_code access i t rest =
+    unless_zero i (λ rest. Check check.Arith access.at (exact_test false (reads_signed access.index) access.size (Local t) i)
+    (Set t (shifted false access.size (Local t) i) rest)) rest
+
+-- an access through a checked pointer, which is in the temporary t, to an element of an array
+abbrev pub bounded_code : Bool → Access → source.Expr → Expr → ℕ → Code → Code
+bounded_code last access p i t rest =
+    Check check.Null access.at (Local t) (element_code access i t
+    (Check check.Bounds access.at (range_test last p (Local t)) rest))
+
+-- The checks of an access. Behind those of an access to an element of an array the temporary t has the element.
+abbrev pub judged : Through → Access → source.Expr → (a i : Expr) → ℕ → Code → Code
+judged Named access p a i t rest = rest
+judged Raw access p a i t rest = rest
+judged One access p a i t rest = Check check.Null access.at a rest
+judged Array access p a i t rest = bounded_code false access p i t rest
+judged Terminated access p a i t rest = bounded_code true access p i t rest
+
+-- the pointer and the index of an access
+abbrev pub pointer_at : Access → source.Expr → ℕ → Expr
+pointer_at access p t = held (is_bounded access.through) p t
+
+abbrev pub index_at : Access → source.Expr → ℕ → Expr
+index_at access i u = held (keeps_index (is_bounded access.through) i) i u
+
+-- what finds the pointer and the index of an access, and its checks
+abbrev pub reached_code : Access → (p i : source.Expr) → (on_p on_i : Code → Code) → ℕ → Code → Code
+reached_code access p i on_p on_i t rest =
+    put_if (is_bounded access.through) p on_p (put_if (keeps_index (is_bounded access.through) i) i on_i
+    (judged access.through access p (pointer_at access p t) (index_at access i (t + 1)) t rest))
+
+-- the place of an access, behind that
+abbrev pub reached_place : Access → (p i : source.Expr) → ℕ → Expr
+reached_place access p i t = place_at access (pointer_at access p t) (index_at access i (t + 1))
 
 -- The value of an expression goes to the local t, and then comes the rest. Of the locals only those from t on are
 -- written. The code of the operands is made of `expr_code e t` behind `unless_direct e`.
 abbrev pub expr_code : source.Expr → ℕ → Code → Code
 expr_code (source.Load width access p i) t rest =
-    unless_direct p (expr_code p t) (unless_direct i (expr_code i (t + 1))
-    (null_check access (operand p t) (Set t (Load width (place_at access (operand p t) (operand i (t + 1)))) rest)))
+    reached_code access p i (expr_code p t) (expr_code i (t + 1)) t (Set t (Load width (reached_place access p i t)) rest)
 expr_code (source.Member to count access p i) t rest =
-    unless_direct p (expr_code p t) (unless_direct i (expr_code i (t + 1))
-    (null_check access (operand p t) (Set t (Load width.Word (place_at access (operand p t) (operand i (t + 1)))) rest)))
+    reached_code access p i (expr_code p t) (expr_code i (t + 1)) t (Set t (Load width.Word (reached_place access p i t)) rest)
 expr_code (source.Address bytes access p i) t rest =
-    unless_direct p (expr_code p t) (unless_direct i (expr_code i (t + 1))
-    (null_check access (operand p t) (Set t (place_at access (operand p t) (operand i (t + 1))) rest)))
+    reached_code access p i (expr_code p t) (expr_code i (t + 1)) t (Set t (reached_place access p i t) rest)
 expr_code (source.Moved shift p i) t rest =
-    unless_direct p (expr_code p t) (unless_direct i (expr_code i (t + 1))
-    (Set t (shifted shift.back shift.size (operand p t) (operand i (t + 1))) rest))
+    put_if shift.checked p (expr_code p t) (put_if (keeps_index shift.checked i) i (expr_code i (t + 1))
+    (moved_code shift (held shift.checked p t) (held (keeps_index shift.checked i) i (t + 1)) t rest))
 expr_code (source.Added shift i p) t rest =
-    unless_direct i (expr_code i t) (unless_direct p (expr_code p (t + 1))
-    (Set t (shifted shift.back shift.size (operand p (t + 1)) (operand i t)) rest))
+    put_if (keeps_index shift.checked i) i (expr_code i t) (put_if shift.checked p (expr_code p (t + 1))
+    (moved_code shift (held shift.checked p (t + 1)) (held (keeps_index shift.checked i) i t) t rest))
 expr_code (source.Binary operation is_signed at a b) t rest =
     unless_direct a (expr_code a t) (unless_direct b (expr_code b (t + 1))
     (operation_code operation is_signed at (operand a t) (operand b (t + 1)) t rest))
@@ -181,18 +312,21 @@ operands (e ∷ es) t = operand e t ∷ operands es (t + 1)
 abbrev pub unless_direct_room : source.Expr → ℕ → ℕ
 unless_direct_room e room = if is_direct e then 0 else room
 
+-- the same, where it writes them in any case where the flag says so
+abbrev pub room_if : Bool → source.Expr → ℕ → ℕ
+room_if always e room = if always then room else unless_direct_room e room
+
+abbrev pub reached_room : Bool → (p i : source.Expr) → (on_p on_i : ℕ) → ℕ
+reached_room checked p i on_p on_i = max (room_if checked p on_p) (1 + room_if (keeps_index checked i) i on_i)
+
 -- how many locals from t on `expr_code` may write
 abbrev pub expr_room : source.Expr → ℕ
-expr_room (source.Load width access p i) =
-    max (unless_direct_room p (expr_room p)) (1 + unless_direct_room i (expr_room i))
-expr_room (source.Member to count access p i) =
-    max (unless_direct_room p (expr_room p)) (1 + unless_direct_room i (expr_room i))
-expr_room (source.Address bytes access p i) =
-    max (unless_direct_room p (expr_room p)) (1 + unless_direct_room i (expr_room i))
-expr_room (source.Moved shift p i) =
-    max (unless_direct_room p (expr_room p)) (1 + unless_direct_room i (expr_room i))
+expr_room (source.Load width access p i) = reached_room (is_bounded access.through) p i (expr_room p) (expr_room i)
+expr_room (source.Member to count access p i) = reached_room (is_bounded access.through) p i (expr_room p) (expr_room i)
+expr_room (source.Address bytes access p i) = reached_room (is_bounded access.through) p i (expr_room p) (expr_room i)
+expr_room (source.Moved shift p i) = reached_room shift.checked p i (expr_room p) (expr_room i)
 expr_room (source.Added shift i p) =
-    max (unless_direct_room i (expr_room i)) (1 + unless_direct_room p (expr_room p))
+    max (room_if (keeps_index shift.checked i) i (expr_room i)) (1 + room_if shift.checked p (expr_room p))
 expr_room (source.Binary operation is_signed at a b) =
     max (unless_direct_room a (expr_room a)) (1 + unless_direct_room b (expr_room b))
 expr_room (source.And a b) = max 1 (max (unless_direct_room a (expr_room a)) (unless_direct_room b (expr_room b)))
@@ -225,7 +359,7 @@ kept_in width.Word is_byte e = e
 -- what finds the place of a target in memory
 abbrev pub aim_code : source.Target → ℕ → Code → Code
 aim_code (source.Memory width access p i) t rest =
-    operand_code p t (operand_code i (t + 1) (null_check access (operand p t) rest))
+    reached_code access p i (expr_code p t) (expr_code i (t + 1)) t rest
 aim_code _ t rest = rest
 
 -- how many temporaries keep the place of a target
@@ -237,7 +371,7 @@ target_count _ = 0
 abbrev pub written : source.Target → ℕ → Bool → Expr → Code → Code
 written source.Nothing t is_byte e rest = rest
 written (source.Variable x width) t is_byte e rest = Set x (kept_in width is_byte e) rest
-written (source.Memory width access p i) t is_byte e rest = Store width (place_at access (operand p t) (operand i (t + 1))) e rest
+written (source.Memory width access p i) t is_byte e rest = Store width (reached_place access p i t) e rest
 
 -- an operand in front of what uses it, in a temporary
 abbrev pub operand_used : source.Expr → ℕ → (Expr → Code) → Code
@@ -255,7 +389,7 @@ taken e size u rest = operand_used e u (λ count. Alloc u count size rest)
 
 -- the place of a target in memory goes to the temporary t
 abbrev pub fixed : source.Target → ℕ → Code → Code
-fixed (source.Memory width access p i) t rest = Set t (place_at access (operand p t) (operand i (t + 1))) rest
+fixed (source.Memory width access p i) t rest = Set t (reached_place access p i t) rest
 fixed _ t rest = rest
 
 -- a value that a target keeps whose place is in the temporary t
@@ -309,7 +443,7 @@ statements t (source.Check spot e rest) =
 
 -- how many temporaries finding the place of a target needs
 abbrev pub target_room : source.Target → ℕ
-target_room (source.Memory width access p i) = max (operand_room p) (1 + operand_room i)
+target_room (source.Memory width access p i) = reached_room (is_bounded access.through) p i (expr_room p) (expr_room i)
 target_room _ = 0
 
 -- how many temporaries a target and so many for its value need

@@ -1,15 +1,17 @@
 //! The code of expressions, built from its end: lists of statements stand from the last one to the first.
 
-ghost use Rattle.std.specs.Prelude.{◌≡◌, [], IfOk, OnOk};
+ghost use Rattle.std.specs.Prelude.{◌≡◌, true, [], IfOk, OnOk};
 ghost use Rattle.ckc_core.specs.Code.{Expr, Code, code_of, stmt_of, expr_of};
 ghost use Rattle.ckc_source.specs.Code.{expr_of as source_of};
-ghost use Rattle.ckc_checks.specs.Inserted.{as_truth, low_byte, divide_check, operated, operation_code, checks_null, null_check, shifted, place_at, operand};
+ghost use Rattle.ckc_checks.specs.Inserted.{as_truth, low_byte, divide_check, operated, operation_code, held, is_bounded, keeps_index, exact_code, moved_code, element_code, bounded_code, judged, place_at, operand};
 ghost use Rattle.ckc_checks.specs.Building.{behind, expr_code_if};
 
 use crate::exprs::{
-    as_truth, direct, divides, is_direct, load, low_byte, operand, operated, place_at, shifted, sum,
+    as_truth, direct, divides, is_direct, is_zero, low_byte, operand, operated, place_at, shifted,
+    sum,
 };
-use ckc_base::{Check, Pos, Seq, Width};
+use crate::ranges::{exact_test, held, is_bounded, keeps_index, range_test, reads_signed};
+use ckc_base::{Boxed, Check, Pos, Seq, Width};
 use ckc_core::{CoreExpr, CoreStmt};
 use ckc_source::{Access, ExprTree, Operation, Shift, Through};
 use std::alloc::{AllocError, Global};
@@ -147,31 +149,80 @@ fn narrow(alloc: Global, e: &ExprTree, t: u32, code: &mut Seq<CoreStmt>) -> Resu
     Ok(())
 }
 
-fn checks_null(through: Through) -> bool
-    ensures { result ≡ checks_null through }
-{
-    match through {
-        Through::One => true,
-        Through::Named | Through::Raw | Through::Array | Through::Terminated => false,
-    }
-}
-
-/// Puts the check for null in front, where an access goes through a checked pointer that is in t.
-pub fn check_null(
+/// Puts the step from a checked pointer in t to its element at an index in front.
+fn element(
     alloc: Global,
     access: Access,
-    p: &ExprTree,
+    i: &ExprTree,
     t: u32,
+    next: u32,
     code: &mut Seq<CoreStmt>,
 ) -> Result<(), AllocError>
-    ensures { OnOk result (behind code.new ≡
-        null_check access (operand (source_of p.now) t) (behind code.old)) }
+    ensures { OnOk result (behind code.new ≡ element_code access
+        (held (keeps_index true (source_of i.now)) (source_of i.now) next) t (behind code.old)) }
 {
-    if checks_null(access.through) {
-        let pointer = operand(alloc, p, t)?;
-        front(code, CoreStmt::Check(Check::Null, access.at, pointer))?;
+    let index = held(alloc, keeps_index(true, i), i, next)?;
+    if is_zero(&index) {
+        return Ok(());
     }
+    let there = shifted(alloc, false, access.size, CoreExpr::Local(t), index)?;
+    front(code, CoreStmt::Set(t, there))?;
+    let is_signed = reads_signed(access.index);
+    let exact = exact_test(alloc, false, is_signed, access.size, t, i, next)?;
+    front(code, CoreStmt::Check(Check::Arith, access.at, exact))?;
     Ok(())
+}
+
+/// Puts the checks of an access to an element of an array in front, through a checked pointer that is in t.
+fn bounded(
+    alloc: Global,
+    last: bool,
+    access: Access,
+    p: &ExprTree,
+    i: &ExprTree,
+    t: u32,
+    next: u32,
+    code: &mut Seq<CoreStmt>,
+) -> Result<(), AllocError>
+    ensures { OnOk result (behind code.new ≡ bounded_code last access (source_of p.now)
+        (held (keeps_index true (source_of i.now)) (source_of i.now) next) t (behind code.old)) }
+{
+    let within = range_test(alloc, last, p, t)?;
+    front(code, CoreStmt::Check(Check::Bounds, access.at, within))?;
+    element(alloc, access, i, t, next, code)?;
+    front(
+        code,
+        CoreStmt::Check(Check::Null, access.at, CoreExpr::Local(t)),
+    )?;
+    Ok(())
+}
+
+/// Puts the checks of an access in front, of which the pointer is in t and the index in the temporary `next`.
+pub fn judge(
+    alloc: Global,
+    through: Through,
+    access: Access,
+    p: &ExprTree,
+    i: &ExprTree,
+    t: u32,
+    next: u32,
+    code: &mut Seq<CoreStmt>,
+) -> Result<(), AllocError>
+    ensures { OnOk result (behind code.new ≡ judged through access (source_of p.now)
+        (held (is_bounded through) (source_of p.now) t)
+        (held (keeps_index (is_bounded through) (source_of i.now)) (source_of i.now) next) t
+        (behind code.old)) }
+{
+    match through {
+        Through::Named | Through::Raw => Ok(()),
+        Through::One => {
+            let pointer = operand(alloc, p, t)?;
+            front(code, CoreStmt::Check(Check::Null, access.at, pointer))?;
+            Ok(())
+        }
+        Through::Array => bounded(alloc, false, access, p, i, t, next, code),
+        Through::Terminated => bounded(alloc, true, access, p, i, t, next, code),
+    }
 }
 
 /// The place that an access goes to, of which the pointer is in t and the index in the temporary `next`.
@@ -184,10 +235,12 @@ pub fn place(
     next: u32,
 ) -> Result<CoreExpr, AllocError>
     ensures { IfOk result (λ c. expr_of c ≡
-        place_at access (operand (source_of p.now) t) (operand (source_of i.now) next)) }
+        place_at access (held (is_bounded access.through) (source_of p.now) t)
+        (held (keeps_index (is_bounded access.through) (source_of i.now)) (source_of i.now) next)) }
 {
-    let pointer = operand(alloc, p, t)?;
-    let index = operand(alloc, i, next)?;
+    let checked = is_bounded(access.through);
+    let pointer = held(alloc, checked, p, t)?;
+    let index = held(alloc, keeps_index(checked, i), i, next)?;
     place_at(alloc, access, pointer, index)
 }
 
@@ -202,15 +255,18 @@ fn load_place(
     next: u32,
     code: &mut Seq<CoreStmt>,
 ) -> Result<(), AllocError>
-    ensures { OnOk result (behind code.new ≡ null_check access (operand (source_of p.now) t)
-        (Code.Set t (Expr.Load width (place_at access (operand (source_of p.now) t)
-        (operand (source_of i.now) next))) (behind code.old))) }
+    ensures { OnOk result (behind code.new ≡ judged access.through access (source_of p.now)
+        (held (is_bounded access.through) (source_of p.now) t)
+        (held (keeps_index (is_bounded access.through) (source_of i.now)) (source_of i.now) next) t
+        (Code.Set t (Expr.Load width (place_at access
+        (held (is_bounded access.through) (source_of p.now) t)
+        (held (keeps_index (is_bounded access.through) (source_of i.now)) (source_of i.now) next)))
+        (behind code.old))) }
 {
-    let pointer = operand(alloc, p, t)?;
-    let index = operand(alloc, i, next)?;
-    let value = load(alloc, width, access, pointer, index)?;
+    let to = place(alloc, access, p, i, t, next)?;
+    let value = CoreExpr::Load(width, Boxed::new(alloc, to)?);
     front(code, CoreStmt::Set(t, value))?;
-    check_null(alloc, access, p, t, code)?;
+    judge(alloc, access.through, access, p, i, t, next, code)?;
     Ok(())
 }
 
@@ -224,18 +280,48 @@ fn address(
     next: u32,
     code: &mut Seq<CoreStmt>,
 ) -> Result<(), AllocError>
-    ensures { OnOk result (behind code.new ≡ null_check access (operand (source_of p.now) t)
-        (Code.Set t (place_at access (operand (source_of p.now) t)
-        (operand (source_of i.now) next)) (behind code.old))) }
+    ensures { OnOk result (behind code.new ≡ judged access.through access (source_of p.now)
+        (held (is_bounded access.through) (source_of p.now) t)
+        (held (keeps_index (is_bounded access.through) (source_of i.now)) (source_of i.now) next) t
+        (Code.Set t (place_at access (held (is_bounded access.through) (source_of p.now) t)
+        (held (keeps_index (is_bounded access.through) (source_of i.now)) (source_of i.now) next))
+        (behind code.old))) }
 {
     let value = place(alloc, access, p, i, t, next)?;
     front(code, CoreStmt::Set(t, value))?;
-    check_null(alloc, access, p, t, code)?;
+    judge(alloc, access.through, access, p, i, t, next, code)?;
     Ok(())
 }
 
-/// Puts a statement in front that sets t to a pointer that is moved. It is in the one temporary and the index in
-/// the other.
+/// Puts the checks of arithmetic on a checked pointer in front. It is in the one temporary and the index in the other.
+fn check_exact(
+    alloc: Global,
+    shift: Shift,
+    of_pointer: u32,
+    i: &ExprTree,
+    of_index: u32,
+    code: &mut Seq<CoreStmt>,
+) -> Result<(), AllocError>
+    ensures { OnOk result (behind code.new ≡ exact_code shift (Expr.Local of_pointer)
+        (held (keeps_index true (source_of i.now)) (source_of i.now) of_index) (behind code.old)) }
+{
+    let index = held(alloc, keeps_index(true, i), i, of_index)?;
+    if !is_zero(&index) {
+        let is_signed = reads_signed(shift.index);
+        let exact = exact_test(
+            alloc, shift.back, is_signed, shift.size, of_pointer, i, of_index,
+        )?;
+        front(code, CoreStmt::Check(Check::Arith, shift.at, exact))?;
+    }
+    front(
+        code,
+        CoreStmt::Check(Check::Arith, shift.at, CoreExpr::Local(of_pointer)),
+    )?;
+    Ok(())
+}
+
+/// Puts a statement in front that sets t to a pointer that is moved, with its checks. It is in the one temporary and
+/// the index in the other.
 fn shift(
     alloc: Global,
     shift: Shift,
@@ -246,14 +332,18 @@ fn shift(
     t: u32,
     code: &mut Seq<CoreStmt>,
 ) -> Result<(), AllocError>
-    ensures { OnOk result (behind code.new ≡ Code.Set t (shifted shift.back shift.size
-        (operand (source_of p.now) of_pointer) (operand (source_of i.now) of_index))
+    ensures { OnOk result (behind code.new ≡ moved_code shift
+        (held shift.checked (source_of p.now) of_pointer)
+        (held (keeps_index shift.checked (source_of i.now)) (source_of i.now) of_index) t
         (behind code.old)) }
 {
-    let pointer = operand(alloc, p, of_pointer)?;
-    let index = operand(alloc, i, of_index)?;
+    let pointer = held(alloc, shift.checked, p, of_pointer)?;
+    let index = held(alloc, keeps_index(shift.checked, i), i, of_index)?;
     let value = shifted(alloc, shift.back, shift.size, pointer, index)?;
     front(code, CoreStmt::Set(t, value))?;
+    if shift.checked {
+        check_exact(alloc, shift, of_pointer, i, of_index, code)?;
+    }
     Ok(())
 }
 
@@ -276,32 +366,41 @@ pub fn expr(
         ExprTree::Load(width, access, p, i) => {
             let next = sum(t, 1)?;
             load_place(alloc, *width, *access, p.get(), i.get(), t, next, code)?;
-            expr(alloc, i.get(), false, next, code)?;
-            expr(alloc, p.get(), false, t, code)?;
+            let checked = is_bounded(access.through);
+            expr(alloc, i.get(), keeps_index(checked, i.get()), next, code)?;
+            expr(alloc, p.get(), checked, t, code)?;
         }
         ExprTree::Member(_, _, access, p, i) => {
             let next = sum(t, 1)?;
             load_place(alloc, Width::Word, *access, p.get(), i.get(), t, next, code)?;
-            expr(alloc, i.get(), false, next, code)?;
-            expr(alloc, p.get(), false, t, code)?;
+            let checked = is_bounded(access.through);
+            expr(alloc, i.get(), keeps_index(checked, i.get()), next, code)?;
+            expr(alloc, p.get(), checked, t, code)?;
         }
         ExprTree::Address(_, access, p, i) => {
             let next = sum(t, 1)?;
             address(alloc, *access, p.get(), i.get(), t, next, code)?;
-            expr(alloc, i.get(), false, next, code)?;
-            expr(alloc, p.get(), false, t, code)?;
+            let checked = is_bounded(access.through);
+            expr(alloc, i.get(), keeps_index(checked, i.get()), next, code)?;
+            expr(alloc, p.get(), checked, t, code)?;
         }
         ExprTree::Moved(how, p, i) => {
             let next = sum(t, 1)?;
             shift(alloc, *how, p.get(), t, i.get(), next, t, code)?;
-            expr(alloc, i.get(), false, next, code)?;
-            expr(alloc, p.get(), false, t, code)?;
+            expr(
+                alloc,
+                i.get(),
+                keeps_index(how.checked, i.get()),
+                next,
+                code,
+            )?;
+            expr(alloc, p.get(), how.checked, t, code)?;
         }
         ExprTree::Added(how, i, p) => {
             let next = sum(t, 1)?;
             shift(alloc, *how, p.get(), next, i.get(), t, t, code)?;
-            expr(alloc, p.get(), false, next, code)?;
-            expr(alloc, i.get(), false, t, code)?;
+            expr(alloc, p.get(), how.checked, next, code)?;
+            expr(alloc, i.get(), keeps_index(how.checked, i.get()), t, code)?;
         }
         ExprTree::Bare(p) | ExprTree::Tested(_, _, _, p, _) => {
             expr(alloc, p.get(), true, t, code)?;

@@ -87,9 +87,10 @@ pub fn is_direct(e: &ExprTree) -> bool
         | ExprTree::Address(_, access, p, i) => {
             is_unchecked(access.through) && (is_direct(p.get()) && is_direct(i.get()))
         }
-        ExprTree::Moved(_, a, b) | ExprTree::Added(_, a, b) | ExprTree::Trusted(_, _, a, b) => {
-            is_direct(a.get()) && is_direct(b.get())
+        ExprTree::Moved(shift, a, b) | ExprTree::Added(shift, a, b) => {
+            !shift.checked && (is_direct(a.get()) && is_direct(b.get()))
         }
+        ExprTree::Trusted(_, _, a, b) => is_direct(a.get()) && is_direct(b.get()),
         ExprTree::Narrow(e) | ExprTree::Bare(e) | ExprTree::Tested(_, _, _, e, _) => {
             is_direct(e.get())
         }
@@ -101,7 +102,7 @@ pub fn is_direct(e: &ExprTree) -> bool
 }
 
 /// An operation on two words.
-fn binary(alloc: Global, op: BinOp, a: CoreExpr, b: CoreExpr) -> Result<CoreExpr, AllocError>
+pub fn binary(alloc: Global, op: BinOp, a: CoreExpr, b: CoreExpr) -> Result<CoreExpr, AllocError>
     ensures { IfOk result (λ c. expr_of c ≡ Expr.Bin op (expr_of a) (expr_of b)) }
 {
     let a = Boxed::new(alloc, a)?;
@@ -149,7 +150,7 @@ pub fn as_truth(alloc: Global, e: CoreExpr) -> Result<CoreExpr, AllocError>
 }
 
 /// Whether an expression is the constant zero.
-fn is_zero(e: &CoreExpr) -> bool
+pub fn is_zero(e: &CoreExpr) -> bool
     ensures { result ≡ is_zero (expr_of e.now) }
 {
     match e {
@@ -216,7 +217,7 @@ pub fn shifted(
 }
 
 /// An address so many bytes further on.
-fn at_offset(alloc: Global, offset: u32, e: CoreExpr) -> Result<CoreExpr, AllocError>
+pub fn at_offset(alloc: Global, offset: u32, e: CoreExpr) -> Result<CoreExpr, AllocError>
     ensures { IfOk result (λ c. expr_of c ≡ at_offset offset (expr_of e)) }
 {
     match e {
@@ -258,7 +259,7 @@ pub fn place_at(
 }
 
 /// What memory has where an access goes to.
-pub fn load(
+fn load(
     alloc: Global,
     width: Width,
     access: Access,

@@ -4,6 +4,7 @@
 mod code;
 mod exprs;
 mod program;
+mod ranges;
 mod rooms;
 mod statements;
 

@@ -6,6 +6,7 @@ ghost use Rattle.ckc_checks.specs.Inserted.{expr_room, operand_room, operands_ro
 ghost use Rattle.ckc_checks.specs.Building.{expr_room_if};
 
 use crate::exprs::{is_direct, sum};
+use crate::ranges::{is_bounded, keeps_index};
 use ckc_source::{Assign, ExprTree, RightTree, StmtTree, TargetTree};
 use std::alloc::AllocError;
 
@@ -17,12 +18,28 @@ fn expr_room(e: &ExprTree, always: bool) -> Result<u32, AllocError>
         return Ok(0);
     }
     match e {
-        ExprTree::Load(_, _, a, b)
-        | ExprTree::Member(_, _, _, a, b)
-        | ExprTree::Address(_, _, a, b)
-        | ExprTree::Moved(_, a, b)
-        | ExprTree::Added(_, a, b)
-        | ExprTree::Binary(_, _, _, a, b) => {
+        ExprTree::Load(_, access, p, i)
+        | ExprTree::Member(_, _, access, p, i)
+        | ExprTree::Address(_, access, p, i) => {
+            let checked = is_bounded(access.through);
+            let left = expr_room(p.get(), checked)?;
+            let right = expr_room(i.get(), keeps_index(checked, i.get()))?;
+            let right = sum(1, right)?;
+            Ok(left.max(right))
+        }
+        ExprTree::Moved(shift, p, i) => {
+            let left = expr_room(p.get(), shift.checked)?;
+            let right = expr_room(i.get(), keeps_index(shift.checked, i.get()))?;
+            let right = sum(1, right)?;
+            Ok(left.max(right))
+        }
+        ExprTree::Added(shift, i, p) => {
+            let left = expr_room(i.get(), keeps_index(shift.checked, i.get()))?;
+            let right = expr_room(p.get(), shift.checked)?;
+            let right = sum(1, right)?;
+            Ok(left.max(right))
+        }
+        ExprTree::Binary(_, _, _, a, b) => {
             let left = expr_room(a.get(), false)?;
             let right = expr_room(b.get(), false)?;
             let right = sum(1, right)?;
@@ -87,9 +104,10 @@ fn target_room(target: &TargetTree) -> Result<u32, AllocError>
     ensures { IfOk result (λ n. n ≡ target_room (target_of target.now)) }
 {
     match target {
-        TargetTree::Memory(_, _, p, i) => {
-            let pointer = expr_room(p.get(), false)?;
-            let index = expr_room(i.get(), false)?;
+        TargetTree::Memory(_, access, p, i) => {
+            let checked = is_bounded(access.through);
+            let pointer = expr_room(p.get(), checked)?;
+            let index = expr_room(i.get(), keeps_index(checked, i.get()))?;
             let index = sum(1, index)?;
             Ok(pointer.max(index))
         }

@@ -306,7 +306,8 @@ fn sum_pieces(
     e: &Expr<Name, Note>,
     k: &Expr<Name, Note>,
 ) -> Result<Option<Pieces>, AllocError>
-    ensures { IfOk result (λ p. p ≡ sum_pieces structs.now op (out-Node Name Note e.now.node) k.now) }
+    ensures { IfOk result
+        (λ p. p ≡ sum_pieces structs.now op (out-Node Name Note e.now.node) k.now) }
 {
     match (op, &e.node) {
         (TreeOp::Add, Node::Name(n)) => {
@@ -401,7 +402,8 @@ fn bounds_written(
     t: &CType,
     limits: &Limits<Name, Note>,
 ) -> Result<Option<Bounds>, AllocError>
-    ensures { IfOk result (λ b. b ≡ bounds_written frame.now holder t.now (out-Limits Name Note limits.now)) }
+    ensures { IfOk result
+        (λ b. b ≡ bounds_written frame.now holder t.now (out-Limits Name Note limits.now)) }
 {
     match limits {
         Limits::Count(e, _) => {

@@ -125,7 +125,8 @@ pub fn destination_of(
     e: &Expr<Name, Note>,
     first: u32,
 ) -> Result<Destination, AllocError>
-    ensures { IfOk result (λ d. destination_made d ≡ destination_of typed.now locals.now first e.now) }
+    ensures { IfOk result
+        (λ d. destination_made d ≡ destination_of typed.now locals.now first e.now) }
 {
     let target = target_of(alloc, typed, locals, e, first)?;
     let target = Boxed::new(alloc, target)?;

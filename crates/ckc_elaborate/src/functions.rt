@@ -24,7 +24,8 @@ fn function(
     body: &Stmt<Name, Note>,
     first: u32,
 ) -> Result<FunctionTree, AllocError>
-    ensures { IfOk result (λ f. function_of f ≡ function_elaborated typed.now first h.now body.now) }
+    ensures { IfOk result
+        (λ f. function_of f ≡ function_elaborated typed.now first h.now body.now) }
 {
     let variables = variables_of(alloc, h, body)?;
     let params = number(h.params.len())?;

@@ -42,7 +42,8 @@ fn object(
     is_run: Option<&bool>,
     o: &StaticObject,
 ) -> Result<Object, AllocError>
-    ensures { IfOk result (λ p. p ≡ object_elaborated structs.now (option_copied is_run.entry) o.now) }
+    ensures { IfOk result
+        (λ p. p ≡ object_elaborated structs.now (option_copied is_run.entry) o.now) }
 {
     let initial = Seq::from_slice(alloc, o.initial.as_slice())?;
     let element = copied(alloc, &o.element)?;

@@ -165,7 +165,8 @@ fn near(
     locals: &[ckc_typed::Variable],
     e: &Expr<Name, Note>,
 ) -> Result<Option<End>, AllocError>
-    ensures { IfOk result (λ r. r ≡ bound_form typed.now locals.now (out-Node Name Note e.now.node)) }
+    ensures { IfOk result
+        (λ r. r ≡ bound_form typed.now locals.now (out-Node Name Note e.now.node)) }
 {
     match &e.node {
         Node::Bin(op, d, f) => {
@@ -221,7 +222,8 @@ fn limits_written(
     t: &CType,
     l: &ckc_syntax::Limits<Name, Note>,
 ) -> Result<Option<Limits>, AllocError>
-    ensures { IfOk result (λ r. r ≡ limits_form typed.now locals.now t.now (out-Limits Name Note l.now)) }
+    ensures { IfOk result
+        (λ r. r ≡ limits_form typed.now locals.now t.now (out-Limits Name Note l.now)) }
 {
     match l {
         ckc_syntax::Limits::Between(e, f, _) => {

@@ -55,7 +55,8 @@ pub fn right_of(
     e: &Expr<Name, Note>,
     first: u32,
 ) -> Result<RightTree, AllocError>
-    ensures { IfOk result (λ r. code.right_of r ≡ right_of typed.now locals.now first terminated e.now) }
+    ensures { IfOk result
+        (λ r. code.right_of r ≡ right_of typed.now locals.now first terminated e.now) }
 {
     match &e.node {
         Node::Calloc(w, n, _) => {
@@ -235,7 +236,8 @@ pub fn assigned(
     e: &Expr<Name, Note>,
     first: u32,
 ) -> Result<StmtTree, AllocError>
-    ensures { IfOk result (λ t. stmt_of t ≡ assigned typed.now locals.now s (destination_made to) first e.now) }
+    ensures { IfOk result
+        (λ t. stmt_of t ≡ assigned typed.now locals.now s (destination_made to) first e.now) }
 {
     match &e.node {
         Node::Call(n, es) => {

@@ -61,7 +61,8 @@ fn put_op(
     requires placed { IsPlacedWhole f.now }
     requires over { IsOpOver (codes_of p.now.funcs) f.now.code.regs op.now }
     requires counted { calls + calls_of op.now ≤ length f.now.kept }
-    ensures { OnOk result (Emits out.old.items out.new.items (op_lines p.now.funcs f.now calls op.now)) }
+    ensures { OnOk result
+        (Emits out.old.items out.new.items (op_lines p.now.funcs f.now calls op.now)) }
 {
     match op {
         TacOp::Const(t, v) => put_const(out, home(f, *t), *v),
@@ -100,7 +101,8 @@ fn put_whole_call(
     requires arguments { All (λ r. r < f.now.code.regs) args.now }
     requires counted { calls < length f.now.kept }
     ensures { OnOk result (Emits out.old.items out.new.items
-        (λ rest. call_lines f.now.homes (marks_of (slice_get f.now.kept calls)) (homes_of (slice_get p.now.funcs callee)) (label_of p.now.funcs callee) args.now at
+        (λ rest. call_lines f.now.homes (marks_of (slice_get f.now.kept calls))
+        (homes_of (slice_get p.now.funcs callee)) (label_of p.now.funcs callee) args.now at
         (result_lines f.now.homes target rest))) }
 {
     let homes = f.homes.as_slice();
@@ -134,7 +136,8 @@ fn put_ops(
     requires placed { IsPlacedWhole f.now }
     requires over { All (IsOpOver (codes_of p.now.funcs) f.now.code.regs) ops.now }
     requires counted { before + sum_by calls_of ops.now ≤ length f.now.kept }
-    ensures lines { OnOk result (Emits out.old.items out.new.items (ops_lines p.now.funcs f.now before ops.now)) }
+    ensures lines { OnOk result
+        (Emits out.old.items out.new.items (ops_lines p.now.funcs f.now before ops.now)) }
     ensures calls { IfOk result (λ n. n ≡ before + sum_by calls_of ops.now) }
 {
     let _rows = f.kept.len();
@@ -262,7 +265,8 @@ fn put_branch(
     requires right { IsOperand b }
     requires one { first + one < 2 ^ 32 }
     requires two { first + two < 2 ^ 32 }
-    ensures { OnOk result (Emits out.old.items out.new.items (branch_lines c a b first next one two)) }
+    ensures { OnOk result
+        (Emits out.old.items out.new.items (branch_lines c a b first next one two)) }
 {
     put_operand(out, a, 5)?;
     put_operand(out, b, 6)?;
@@ -282,7 +286,8 @@ fn put_choice(
 ) -> Result<(), AllocError>
     requires one { first + one < 2 ^ 32 }
     requires two { first + two < 2 ^ 32 }
-    ensures { OnOk result (Emits out.old.items out.new.items (choice_lines c ra rb first next one two)) }
+    ensures { OnOk result
+        (Emits out.old.items out.new.items (choice_lines c ra rb first next one two)) }
 {
     if one == next {
         put_over(out, holding(c), ra, rb, first + two)
@@ -315,11 +320,14 @@ fn put_block(
     requires whole { IsWellFormed p.now }
     requires labelled { AreLabels p.now.funcs labels.now }
     requires placed { IsPlacedWhole f.now }
-    requires over { IsBlockOver (codes_of p.now.funcs) (length f.now.code.blocks) f.now.code.regs block.now }
+    requires over { IsBlockOver (codes_of p.now.funcs) (length f.now.code.blocks) f.now.code.regs
+        block.now }
     requires counted { before + calls_in block.now ≤ length f.now.kept }
     requires within { b < length f.now.code.blocks }
     requires fits { first + length f.now.code.blocks < 2 ^ 32 }
-    ensures lines { OnOk result (Emits out.old.items out.new.items (block_lines p.now.funcs f.now first b before block.now)) }
+    ensures lines { OnOk result
+        (Emits out.old.items out.new.items
+        (block_lines p.now.funcs f.now first b before block.now)) }
     ensures calls { IfOk result (λ n. n ≡ before + calls_in block.now) }
 {
     out.push(Line::Label(first + b))?;
@@ -341,7 +349,9 @@ fn put_blocks(
     requires placed { IsPlacedWhole f.now }
     requires over { IsFunctionOver (codes_of p.now.funcs) f.now.code }
     requires fits { first + length f.now.code.blocks < 2 ^ 32 }
-    ensures { OnOk result (Emits out.old.items out.new.items (blocks_lines p.now.funcs f.now first 0 0 f.now.code.blocks)) }
+    ensures { OnOk result
+        (Emits out.old.items out.new.items
+        (blocks_lines p.now.funcs f.now first 0 0 f.now.code.blocks)) }
 {
     let mut calls = 0;
     let mut b = 0;
@@ -365,7 +375,8 @@ pub fn put_function(
     requires placed { IsPlacedWhole f.now }
     requires over { IsFunctionOver (codes_of p.now.funcs) f.now.code }
     requires fits { label + 1 + length f.now.code.blocks < 2 ^ 32 }
-    ensures { OnOk result (Emits out.old.items out.new.items (function_lines p.now.funcs f.now label)) }
+    ensures { OnOk result
+        (Emits out.old.items out.new.items (function_lines p.now.funcs f.now label)) }
 {
     out.push(Line::Label(label))?;
     put_store(out, 1, SP, 0)?;

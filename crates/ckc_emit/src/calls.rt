@@ -18,7 +18,8 @@ const FRAME: u8 = 8;
 /// Marks the register of a place, if it is one.
 fn mark(found: &mut [bool; 12], place: Place)
     requires { IsPlace place }
-    ensures { (k : ℕ) → k < 12 → slice_index_or found.new k false ≡ (slice_index_or found.old k false || number_of place == k) }
+    ensures { (k : ℕ) → k < 12 → slice_index_or found.new k false
+        ≡ (slice_index_or found.old k false || number_of place == k) }
 {
     if let Place::Reg(k) = place {
         found[k as usize] = true;
@@ -43,7 +44,8 @@ fn kept_homes(homes: &[Place], row: &[bool]) -> [bool; 12]
 fn saved_homes(kept: &[bool; 12], homes: &[Place], args: &[u32]) -> [bool; 12]
     requires places { All IsPlace homes.now }
     requires within { All (λ r. r < length homes.now) args.now }
-    ensures { (k : ℕ) → k < 12 → slice_index_or result k false ≡ (slice_index_or kept.now k false || is_argument_home k homes.now args.now) }
+    ensures { (k : ℕ) → k < 12 → slice_index_or result k false
+        ≡ (slice_index_or kept.now k false || is_argument_home k homes.now args.now) }
 {
     let mut found = *kept;
     for r in args {
@@ -55,7 +57,8 @@ fn saved_homes(kept: &[bool; 12], homes: &[Place], args: &[u32]) -> [bool; 12]
 /// Saves a register in the frame if it is marked.
 fn put_save(out: &mut Vec<Line>, marked: &[bool; 12], k: u8) -> Result<(), AllocError>
     requires { k < 12 }
-    ensures { OnOk result (Emits out.old.items out.new.items (save_lines (slice_index_or marked.now k false) k)) }
+    ensures { OnOk result
+        (Emits out.old.items out.new.items (save_lines (slice_index_or marked.now k false) k)) }
 {
     if marked[k as usize] {
         put_store(out, register(k), SP, offset(Place::Reg(k)))
@@ -66,7 +69,9 @@ fn put_save(out: &mut Vec<Line>, marked: &[bool; 12], k: u8) -> Result<(), Alloc
 
 /// Saves the registers that are marked in the frame.
 fn put_saves(out: &mut Vec<Line>, marked: &[bool; 12]) -> Result<(), AllocError>
-    ensures { OnOk result (Emits out.old.items out.new.items (saves_lines (λ k. slice_index_or marked.now k false) 12 0)) }
+    ensures { OnOk result
+        (Emits out.old.items out.new.items
+        (saves_lines (λ k. slice_index_or marked.now k false) 12 0)) }
 {
     for k in 0..12u8 {
         put_save(out, marked, k)?;
@@ -77,7 +82,8 @@ fn put_saves(out: &mut Vec<Line>, marked: &[bool; 12]) -> Result<(), AllocError>
 /// Restores a register from the frame if it is marked.
 fn put_restore(out: &mut Vec<Line>, marked: &[bool; 12], k: u8) -> Result<(), AllocError>
     requires { k < 12 }
-    ensures { OnOk result (Emits out.old.items out.new.items (restore_lines (slice_index_or marked.now k false) k)) }
+    ensures { OnOk result
+        (Emits out.old.items out.new.items (restore_lines (slice_index_or marked.now k false) k)) }
 {
     if marked[k as usize] {
         put_load(out, register(k), SP, offset(Place::Reg(k)))
@@ -88,7 +94,9 @@ fn put_restore(out: &mut Vec<Line>, marked: &[bool; 12], k: u8) -> Result<(), Al
 
 /// Restores the registers that are marked from the frame.
 fn put_restores(out: &mut Vec<Line>, marked: &[bool; 12]) -> Result<(), AllocError>
-    ensures { OnOk result (Emits out.old.items out.new.items (restores_lines (λ k. slice_index_or marked.now k false) 12 0)) }
+    ensures { OnOk result
+        (Emits out.old.items out.new.items
+        (restores_lines (λ k. slice_index_or marked.now k false) 12 0)) }
 {
     for k in 0..12u8 {
         put_restore(out, marked, k)?;
@@ -117,7 +125,8 @@ fn put_arguments(
     requires within { All (λ r. r < length homes.now) args.now }
     requires params { All IsPlace params.now }
     requires enough { length args.now ≤ length params.now }
-    ensures { OnOk result (Emits out.old.items out.new.items (arguments_lines homes.now args.now 0 params.now)) }
+    ensures { OnOk result
+        (Emits out.old.items out.new.items (arguments_lines homes.now args.now 0 params.now)) }
 {
     let mut i = args.len();
     while i > 0 {
@@ -163,7 +172,9 @@ pub fn put_call(
     requires within { All (λ r. r < length homes.now) args.now }
     requires params { All IsPlace params.now }
     requires enough { length args.now ≤ length params.now }
-    ensures { OnOk result (Emits out.old.items out.new.items (call_lines homes.now row.now params.now label args.now at)) }
+    ensures { OnOk result
+        (Emits out.old.items out.new.items
+        (call_lines homes.now row.now params.now label args.now at)) }
 {
     let kept = kept_homes(homes, row);
     let saved = saved_homes(&kept, homes, args);

@@ -80,7 +80,8 @@ fn put_functions(out: &mut Vec<Line>, p: &Placed, labels: &[u32]) -> Result<(), 
     requires whole { IsWellFormed p.now }
     requires labelled { AreLabels p.now.funcs labels.now }
     requires fits { label_of p.now.funcs (length p.now.funcs) < 2 ^ 32 }
-    ensures { OnOk result (Emits out.old.items out.new.items (functions_lines p.now.funcs 1 p.now.funcs)) }
+    ensures { OnOk result
+        (Emits out.old.items out.new.items (functions_lines p.now.funcs 1 p.now.funcs)) }
 {
     let mut label = 1;
     for f in p.funcs.as_slice() {

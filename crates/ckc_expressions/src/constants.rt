@@ -13,7 +13,8 @@ use std::alloc::{AllocError, Global};
 
 /// A number, a character, a string, `NULL` or `EOF` (ISO C11, 6.4.4 and 6.4.5).
 pub fn constant<'a>(reader: &mut Reader<'a>, alloc: Global) -> Result<Expression<'a>, Stop>
-    ensures parses { Parses (λ x. expr x) (g.n g.constant) (ahead reader.old) result (ahead reader.new) }
+    ensures parses { Parses (λ x. expr x) (g.n g.constant) (ahead reader.old) result
+        (ahead reader.new) }
     ensures fewer { remaining reader.new ≤ remaining reader.old }
 {
     match reader.kind() {
@@ -26,7 +27,8 @@ pub fn constant<'a>(reader: &mut Reader<'a>, alloc: Global) -> Result<Expression
 
 /// A number or a character.
 fn literal<'a>(reader: &mut Reader<'a>, alloc: Global) -> Result<Expression<'a>, Stop>
-    ensures reads { Reads (g.right g.Literal) (Makes g.Literal (λ x. expr x)) (ahead reader.old) result (ahead reader.new) }
+    ensures reads { Reads (g.right g.Literal) (Makes g.Literal (λ x. expr x)) (ahead reader.old)
+        result (ahead reader.new) }
     ensures fewer { remaining reader.new ≤ remaining reader.old }
 {
     let token = reader.take_any(Class::Literal)?;
@@ -43,7 +45,8 @@ fn literal<'a>(reader: &mut Reader<'a>, alloc: Global) -> Result<Expression<'a>,
 
 /// A string, by its bytes.
 fn string<'a>(reader: &mut Reader<'a>, alloc: Global) -> Result<Expression<'a>, Stop>
-    ensures reads { Reads (g.right g.String) (Makes g.String (λ x. expr x)) (ahead reader.old) result (ahead reader.new) }
+    ensures reads { Reads (g.right g.String) (Makes g.String (λ x. expr x)) (ahead reader.old)
+        result (ahead reader.new) }
     ensures fewer { remaining reader.new ≤ remaining reader.old }
 {
     let token = reader.take(Kind::Text)?;
@@ -61,7 +64,8 @@ fn string<'a>(reader: &mut Reader<'a>, alloc: Global) -> Result<Expression<'a>, 
 
 /// `NULL`.
 fn null<'a>(reader: &mut Reader<'a>, alloc: Global) -> Result<Expression<'a>, Stop>
-    ensures reads { Reads (g.right g.Null) (Makes g.Null (λ x. expr x)) (ahead reader.old) result (ahead reader.new) }
+    ensures reads { Reads (g.right g.Null) (Makes g.Null (λ x. expr x)) (ahead reader.old) result
+        (ahead reader.new) }
     ensures fewer { remaining reader.new ≤ remaining reader.old }
 {
     let token = reader.take(Kind::Null)?;
@@ -78,7 +82,8 @@ fn null<'a>(reader: &mut Reader<'a>, alloc: Global) -> Result<Expression<'a>, St
 
 /// `EOF`, which is -1.
 fn end_of_file<'a>(reader: &mut Reader<'a>, alloc: Global) -> Result<Expression<'a>, Stop>
-    ensures reads { Reads (g.right g.Eof) (Makes g.Eof (λ x. expr x)) (ahead reader.old) result (ahead reader.new) }
+    ensures reads { Reads (g.right g.Eof) (Makes g.Eof (λ x. expr x)) (ahead reader.old) result
+        (ahead reader.new) }
     ensures fewer { remaining reader.new ≤ remaining reader.old }
 {
     let token = reader.take(Kind::Eof)?;
@@ -95,7 +100,9 @@ fn end_of_file<'a>(reader: &mut Reader<'a>, alloc: Global) -> Result<Expression<
 
 /// A name as an expression.
 pub fn name_operand<'a>(reader: &mut Reader<'a>, alloc: Global) -> Result<Expression<'a>, Stop>
-    ensures reads { Reads (g.t g.name ∷ []) (λ x vs. (token : Value) × (vs ≡ token ∷ []) × (x ≡ named (as_token token))) (ahead reader.old) result (ahead reader.new) }
+    ensures reads { Reads (g.t g.name ∷ [])
+        (λ x vs. (token : Value) × (vs ≡ token ∷ []) × (x ≡ named (as_token token)))
+        (ahead reader.old) result (ahead reader.new) }
     ensures fewer { remaining reader.new ≤ remaining reader.old }
 {
     let token = reader.take_any(Class::Name)?;
@@ -105,7 +112,8 @@ pub fn name_operand<'a>(reader: &mut Reader<'a>, alloc: Global) -> Result<Expres
 
 /// `sizeof` a type (ISO C11, 6.5.3.4).
 pub fn size_of<'a>(reader: &mut Reader<'a>, alloc: Global) -> Result<Expression<'a>, Stop>
-    ensures reads { Reads (g.right g.Sizeof) (Makes g.Sizeof (λ x. expr x)) (ahead reader.old) result (ahead reader.new) }
+    ensures reads { Reads (g.right g.Sizeof) (Makes g.Sizeof (λ x. expr x)) (ahead reader.old)
+        result (ahead reader.new) }
     ensures fewer { remaining reader.new ≤ remaining reader.old }
 {
     let keyword = reader.take(Kind::Sizeof)?;

@@ -23,7 +23,8 @@ use std::alloc::{AllocError, Global};
 /// An expression (ISO C11, 6.5.15).
 #[cycle(expr)]
 pub fn expr<'a>(reader: &mut Reader<'a>, alloc: Global) -> Result<Expression<'a>, Stop>
-    ensures parses { Parses (λ x. expr x) (g.n g.expr) (ahead reader.old) result (ahead reader.new) }
+    ensures parses { Parses (λ x. expr x) (g.n g.expr) (ahead reader.old) result
+        (ahead reader.new) }
     ensures fewer { remaining reader.new ≤ remaining reader.old }
 {
     let operand = unary(reader, alloc)?;
@@ -39,7 +40,8 @@ pub fn expr_rest<'a>(
     alloc: Global,
     before: Seq<Step<'a>>,
 ) -> Result<Rest<'a>, Stop>
-    ensures gives { Gives (λ v. record { steps = before.entry ++ as_steps v; arms = as_arms v }) (g.n g.expr_rest) (ahead reader.old) result (ahead reader.new) }
+    ensures gives { Gives (λ v. record { steps = before.entry ++ as_steps v; arms = as_arms v })
+        (g.n g.expr_rest) (ahead reader.old) result (ahead reader.new) }
     ensures fewer { remaining reader.new ≤ remaining reader.old }
 {
     let steps = tail(reader, alloc, before)?;
@@ -54,7 +56,8 @@ fn tail<'a>(
     alloc: Global,
     before: Seq<Step<'a>>,
 ) -> Result<Seq<Step<'a>>, Stop>
-    ensures gives { Gives (λ v. before.entry ++ as_steps v) (g.n g.tail) (ahead reader.old) result (ahead reader.new) }
+    ensures gives { Gives (λ v. before.entry ++ as_steps v) (g.n g.tail) (ahead reader.old) result
+        (ahead reader.new) }
     ensures fewer { remaining reader.new ≤ remaining reader.old }
 {
     let mut steps = before;
@@ -73,7 +76,8 @@ fn tail<'a>(
 /// The arms of `? :`, where a `?` is next (ISO C11, 6.5.15).
 #[cycle(expr)]
 fn choice<'a>(reader: &mut Reader<'a>, alloc: Global) -> Result<Option<Arms<'a>>, Stop>
-    ensures parses { Parses (λ x. arms x) (g.n g.choice) (ahead reader.old) result (ahead reader.new) }
+    ensures parses { Parses (λ x. arms x) (g.n g.choice) (ahead reader.old) result
+        (ahead reader.new) }
     ensures fewer { remaining reader.new ≤ remaining reader.old }
 {
     if let Kind::Question = reader.kind() {
@@ -93,7 +97,8 @@ fn choice<'a>(reader: &mut Reader<'a>, alloc: Global) -> Result<Option<Arms<'a>>
 /// An operand of binary operators (ISO C11, 6.5.3).
 #[cycle(expr)]
 pub fn unary<'a>(reader: &mut Reader<'a>, alloc: Global) -> Result<Expression<'a>, Stop>
-    ensures parses { Parses (λ x. expr x) (g.n g.unary) (ahead reader.old) result (ahead reader.new) }
+    ensures parses { Parses (λ x. expr x) (g.n g.unary) (ahead reader.old) result
+        (ahead reader.new) }
     ensures fewer { remaining reader.new ≤ remaining reader.old }
 {
     if is_name(reader.kind()) {
@@ -106,7 +111,8 @@ pub fn unary<'a>(reader: &mut Reader<'a>, alloc: Global) -> Result<Expression<'a
 /// An operand that begins with a name.
 #[cycle(expr)]
 fn named<'a>(reader: &mut Reader<'a>, alloc: Global) -> Result<Expression<'a>, Stop>
-    ensures reads { Reads (g.right g.Named) (Makes g.Named (λ x. expr x)) (ahead reader.old) result (ahead reader.new) }
+    ensures reads { Reads (g.right g.Named) (Makes g.Named (λ x. expr x)) (ahead reader.old) result
+        (ahead reader.new) }
     ensures fewer { remaining reader.new ≤ remaining reader.old }
 {
     let name = name_operand(reader, alloc)?;
@@ -116,7 +122,8 @@ fn named<'a>(reader: &mut Reader<'a>, alloc: Global) -> Result<Expression<'a>, S
 /// An operand that begins with no name.
 #[cycle(expr)]
 pub fn first<'a>(reader: &mut Reader<'a>, alloc: Global) -> Result<Expression<'a>, Stop>
-    ensures parses { Parses (λ x. expr x) (g.n g.first) (ahead reader.old) result (ahead reader.new) }
+    ensures parses { Parses (λ x. expr x) (g.n g.first) (ahead reader.old) result
+        (ahead reader.new) }
     ensures fewer { remaining reader.new ≤ remaining reader.old }
 {
     if is_sign(reader.kind()) {
@@ -132,7 +139,8 @@ pub fn first<'a>(reader: &mut Reader<'a>, alloc: Global) -> Result<Expression<'a
 /// A sign before its operand (ISO C11, 6.5.3).
 #[cycle(expr)]
 fn signed<'a>(reader: &mut Reader<'a>, alloc: Global) -> Result<Expression<'a>, Stop>
-    ensures reads { Reads (g.right g.Signed) (Makes g.Signed (λ x. expr x)) (ahead reader.old) result (ahead reader.new) }
+    ensures reads { Reads (g.right g.Signed) (Makes g.Signed (λ x. expr x)) (ahead reader.old)
+        result (ahead reader.new) }
     ensures fewer { remaining reader.new ≤ remaining reader.old }
 {
     let sign = reader.take_any(Class::Sign)?;
@@ -151,7 +159,8 @@ fn signed<'a>(reader: &mut Reader<'a>, alloc: Global) -> Result<Expression<'a>, 
 /// A cast or an expression in parentheses.
 #[cycle(expr)]
 fn round<'a>(reader: &mut Reader<'a>, alloc: Global) -> Result<Expression<'a>, Stop>
-    ensures reads { Reads (g.right g.Round) (Makes g.Round (λ x. expr x)) (ahead reader.old) result (ahead reader.new) }
+    ensures reads { Reads (g.right g.Round) (Makes g.Round (λ x. expr x)) (ahead reader.old) result
+        (ahead reader.new) }
     ensures fewer { remaining reader.new ≤ remaining reader.old }
 {
     let mark = reader.take(Kind::RoundOpen)?;
@@ -165,7 +174,8 @@ fn round<'a>(reader: &mut Reader<'a>, alloc: Global) -> Result<Expression<'a>, S
 /// A cast behind its `(`, which is its place (ISO C11, 6.5.4).
 #[cycle(expr)]
 fn cast<'a>(reader: &mut Reader<'a>, alloc: Global, pos: Pos) -> Result<Expression<'a>, Stop>
-    ensures reads { Reads (g.right g.Cast) (λ x vs. as_expr_behind (made g.Cast vs) pos ≡ x) (ahead reader.old) result (ahead reader.new) }
+    ensures reads { Reads (g.right g.Cast) (λ x vs. as_expr_behind (made g.Cast vs) pos ≡ x)
+        (ahead reader.old) result (ahead reader.new) }
     ensures fewer { remaining reader.new ≤ remaining reader.old }
 {
     let ctype = type_name(reader, alloc)?;
@@ -185,7 +195,9 @@ fn cast<'a>(reader: &mut Reader<'a>, alloc: Global, pos: Pos) -> Result<Expressi
 /// An expression in parentheses behind its `(`, with what stands behind it.
 #[cycle(expr)]
 fn paren<'a>(reader: &mut Reader<'a>, alloc: Global) -> Result<Expression<'a>, Stop>
-    ensures reads { Reads (g.right g.Paren) (λ x vs. (pos : Pos) → as_expr_behind (made g.Paren vs) pos ≡ x) (ahead reader.old) result (ahead reader.new) }
+    ensures reads { Reads (g.right g.Paren)
+        (λ x vs. (pos : Pos) → as_expr_behind (made g.Paren vs) pos ≡ x) (ahead reader.old) result
+        (ahead reader.new) }
     ensures fewer { remaining reader.new ≤ remaining reader.old }
 {
     let inner = expr(reader, alloc)?;
@@ -196,7 +208,8 @@ fn paren<'a>(reader: &mut Reader<'a>, alloc: Global) -> Result<Expression<'a>, S
 /// A constant or a bounds cast, with what stands behind it.
 #[cycle(expr)]
 fn postfix<'a>(reader: &mut Reader<'a>, alloc: Global) -> Result<Expression<'a>, Stop>
-    ensures reads { Reads (g.right g.Postfix) (Makes g.Postfix (λ x. expr x)) (ahead reader.old) result (ahead reader.new) }
+    ensures reads { Reads (g.right g.Postfix) (Makes g.Postfix (λ x. expr x)) (ahead reader.old)
+        result (ahead reader.new) }
     ensures fewer { remaining reader.new ≤ remaining reader.old }
 {
     let operand = primary(reader, alloc)?;
@@ -210,7 +223,8 @@ pub fn posts<'a>(
     alloc: Global,
     base: Expression<'a>,
 ) -> Result<Expression<'a>, Stop>
-    ensures gives { Gives (λ v. posted base.entry (as_posts v)) (g.n g.posts) (ahead reader.old) result (ahead reader.new) }
+    ensures gives { Gives (λ v. posted base.entry (as_posts v)) (g.n g.posts) (ahead reader.old)
+        result (ahead reader.new) }
     ensures fewer { remaining reader.new ≤ remaining reader.old }
 {
     let mut whole = base;
@@ -227,8 +241,10 @@ pub fn post<'a>(
     alloc: Global,
     base: Expression<'a>,
 ) -> Result<Expression<'a>, Stop>
-    ensures gives { Gives (λ v. posted base.entry (as_post v ∷ [])) (g.n g.post) (ahead reader.old) result (ahead reader.new) }
-    ensures fewer { MatchResult result (λ x. remaining reader.new < remaining reader.old) (λ e. remaining reader.new ≤ remaining reader.old) }
+    ensures gives { Gives (λ v. posted base.entry (as_post v ∷ [])) (g.n g.post) (ahead reader.old)
+        result (ahead reader.new) }
+    ensures fewer { MatchResult result (λ x. remaining reader.new < remaining reader.old)
+        (λ e. remaining reader.new ≤ remaining reader.old) }
 {
     match reader.kind() {
         Kind::SquareOpen => index(reader, alloc, base),
@@ -245,8 +261,11 @@ fn index<'a>(
     alloc: Global,
     base: Expression<'a>,
 ) -> Result<Expression<'a>, Stop>
-    ensures reads { Reads (g.right g.Index) (λ x vs. posted base.entry (as_post (made g.Index vs) ∷ []) ≡ x) (ahead reader.old) result (ahead reader.new) }
-    ensures fewer { MatchResult result (λ x. remaining reader.new < remaining reader.old) (λ e. remaining reader.new ≤ remaining reader.old) }
+    ensures reads { Reads (g.right g.Index)
+        (λ x vs. posted base.entry (as_post (made g.Index vs) ∷ []) ≡ x) (ahead reader.old) result
+        (ahead reader.new) }
+    ensures fewer { MatchResult result (λ x. remaining reader.new < remaining reader.old)
+        (λ e. remaining reader.new ≤ remaining reader.old) }
 {
     let open = reader.take(Kind::SquareOpen)?;
     let index = expr(reader, alloc)?;
@@ -268,8 +287,11 @@ fn dot<'a>(
     alloc: Global,
     base: Expression<'a>,
 ) -> Result<Expression<'a>, Stop>
-    ensures reads { Reads (g.right g.Dot) (λ x vs. posted base.entry (as_post (made g.Dot vs) ∷ []) ≡ x) (ahead reader.old) result (ahead reader.new) }
-    ensures fewer { MatchResult result (λ x. remaining reader.new < remaining reader.old) (λ e. remaining reader.new ≤ remaining reader.old) }
+    ensures reads { Reads (g.right g.Dot)
+        (λ x vs. posted base.entry (as_post (made g.Dot vs) ∷ []) ≡ x) (ahead reader.old) result
+        (ahead reader.new) }
+    ensures fewer { MatchResult result (λ x. remaining reader.new < remaining reader.old)
+        (λ e. remaining reader.new ≤ remaining reader.old) }
 {
     let mark = reader.take(Kind::Dot)?;
     let name = reader.take_any(Class::Name)?;
@@ -290,8 +312,11 @@ fn arrow<'a>(
     alloc: Global,
     base: Expression<'a>,
 ) -> Result<Expression<'a>, Stop>
-    ensures reads { Reads (g.right g.Arrow) (λ x vs. posted base.entry (as_post (made g.Arrow vs) ∷ []) ≡ x) (ahead reader.old) result (ahead reader.new) }
-    ensures fewer { MatchResult result (λ x. remaining reader.new < remaining reader.old) (λ e. remaining reader.new ≤ remaining reader.old) }
+    ensures reads { Reads (g.right g.Arrow)
+        (λ x vs. posted base.entry (as_post (made g.Arrow vs) ∷ []) ≡ x) (ahead reader.old) result
+        (ahead reader.new) }
+    ensures fewer { MatchResult result (λ x. remaining reader.new < remaining reader.old)
+        (λ e. remaining reader.new ≤ remaining reader.old) }
 {
     let mark = reader.take(Kind::Arrow)?;
     let name = reader.take_any(Class::Name)?;
@@ -309,7 +334,8 @@ fn arrow<'a>(
 /// A constant or a bounds cast.
 #[cycle(expr)]
 fn primary<'a>(reader: &mut Reader<'a>, alloc: Global) -> Result<Expression<'a>, Stop>
-    ensures parses { Parses (λ x. expr x) (g.n g.primary) (ahead reader.old) result (ahead reader.new) }
+    ensures parses { Parses (λ x. expr x) (g.n g.primary) (ahead reader.old) result
+        (ahead reader.new) }
     ensures fewer { remaining reader.new ≤ remaining reader.old }
 {
     match reader.kind() {
@@ -327,7 +353,8 @@ fn bounds_cast<'a>(
     word: Kind,
 ) -> Result<Expression<'a>, Stop>
     requires { word ≢ Kind.End }
-    ensures reads { Reads (cast_by word) (λ x vs. IsCast word x vs) (ahead reader.old) result (ahead reader.new) }
+    ensures reads { Reads (cast_by word) (λ x vs. IsCast word x vs) (ahead reader.old) result
+        (ahead reader.new) }
     ensures fewer { remaining reader.new ≤ remaining reader.old }
 {
     let keyword = reader.take(word)?;
@@ -340,7 +367,8 @@ fn bounds_cast<'a>(
 
 /// The type of a bounds cast in `<` and `>`, with the `(` behind it.
 fn cast_type<'a>(reader: &mut Reader<'a>, alloc: Global) -> Result<CType<'a>, Stop>
-    ensures reads { Reads (cast_type) (λ x vs. IsSecond (type_tree x) vs) (ahead reader.old) result (ahead reader.new) }
+    ensures reads { Reads (cast_type) (λ x vs. IsSecond (type_tree x) vs) (ahead reader.old) result
+        (ahead reader.new) }
     ensures fewer { remaining reader.new ≤ remaining reader.old }
 {
     let open = reader.take(Kind::Less)?;
@@ -353,7 +381,8 @@ fn cast_type<'a>(reader: &mut Reader<'a>, alloc: Global) -> Result<CType<'a>, St
 /// The bounds of a bounds cast, where some are given, and its `)`.
 #[cycle(expr)]
 fn cast_limits<'a>(reader: &mut Reader<'a>, alloc: Global) -> Result<Option<Bounds<'a>>, Stop>
-    ensures parses { Parses (λ x. declared_limits x) (g.n g.cast_limits) (ahead reader.old) result (ahead reader.new) }
+    ensures parses { Parses (λ x. declared_limits x) (g.n g.cast_limits) (ahead reader.old) result
+        (ahead reader.new) }
     ensures fewer { remaining reader.new ≤ remaining reader.old }
 {
     if let Kind::Comma = reader.kind() {
@@ -369,7 +398,8 @@ fn cast_limits<'a>(reader: &mut Reader<'a>, alloc: Global) -> Result<Option<Boun
 /// A bounds expression (Checked C specification 0.9, section 3.1).
 #[cycle(expr)]
 pub fn limits<'a>(reader: &mut Reader<'a>, alloc: Global) -> Result<Bounds<'a>, Stop>
-    ensures parses { Parses (λ x. limits x) (g.n g.limits) (ahead reader.old) result (ahead reader.new) }
+    ensures parses { Parses (λ x. limits x) (g.n g.limits) (ahead reader.old) result
+        (ahead reader.new) }
     ensures fewer { remaining reader.new ≤ remaining reader.old }
 {
     match reader.kind() {
@@ -383,7 +413,8 @@ pub fn limits<'a>(reader: &mut Reader<'a>, alloc: Global) -> Result<Bounds<'a>, 
 #[cycle(expr)]
 fn sized<'a>(reader: &mut Reader<'a>, alloc: Global, word: Kind) -> Result<Bounds<'a>, Stop>
     requires { word ≢ Kind.End }
-    ensures reads { Reads (sized word) (λ x vs. IsSized word x vs) (ahead reader.old) result (ahead reader.new) }
+    ensures reads { Reads (sized word) (λ x vs. IsSized word x vs) (ahead reader.old) result
+        (ahead reader.new) }
     ensures fewer { remaining reader.new ≤ remaining reader.old }
 {
     let keyword = reader.take(word)?;
@@ -397,7 +428,8 @@ fn sized<'a>(reader: &mut Reader<'a>, alloc: Global, word: Kind) -> Result<Bound
 /// `bounds(e, f)` or `bounds(unknown)`.
 #[cycle(expr)]
 fn bounds<'a>(reader: &mut Reader<'a>, alloc: Global) -> Result<Bounds<'a>, Stop>
-    ensures reads { Reads (g.right g.BoundsOf) (Makes g.BoundsOf (λ x. limits x)) (ahead reader.old) result (ahead reader.new) }
+    ensures reads { Reads (g.right g.BoundsOf) (Makes g.BoundsOf (λ x. limits x)) (ahead reader.old)
+        result (ahead reader.new) }
     ensures fewer { remaining reader.new ≤ remaining reader.old }
 {
     let keyword = reader.take(Kind::Bounds)?;
@@ -411,7 +443,8 @@ fn bounds<'a>(reader: &mut Reader<'a>, alloc: Global) -> Result<Bounds<'a>, Stop
 
 /// `unknown` and its `)` behind `bounds (`.
 fn unknown<'a>(reader: &mut Reader<'a>, alloc: Global, pos: Pos) -> Result<Bounds<'a>, Stop>
-    ensures reads { Reads (g.k Kind.Unknown ∷ g.k Kind.RoundClose ∷ []) (λ x vs. x ≡ bounds.Unknown pos) (ahead reader.old) result (ahead reader.new) }
+    ensures reads { Reads (g.k Kind.Unknown ∷ g.k Kind.RoundClose ∷ [])
+        (λ x vs. x ≡ bounds.Unknown pos) (ahead reader.old) result (ahead reader.new) }
     ensures fewer { remaining reader.new ≤ remaining reader.old }
 {
     let word = reader.take(Kind::Unknown)?;
@@ -423,7 +456,10 @@ fn unknown<'a>(reader: &mut Reader<'a>, alloc: Global, pos: Pos) -> Result<Bound
 /// Two bounds behind `bounds (`, whose place is given.
 #[cycle(expr)]
 fn between<'a>(reader: &mut Reader<'a>, alloc: Global, pos: Pos) -> Result<Bounds<'a>, Stop>
-    ensures gives { is_unknown_alone (ahead reader.old) ≡ false → Answered (λ x. (v : Value) × Takes (g.n g.bounds_rest ∷ []) (ahead reader.old) (v ∷ []) (ahead reader.new) × IsBetween pos x v) (g.n g.bounds_rest ∷ []) (ahead reader.old) result (ahead reader.new) }
+    ensures gives { is_unknown_alone (ahead reader.old) ≡ false
+        → Answered (λ x. (v : Value)
+        × Takes (g.n g.bounds_rest ∷ []) (ahead reader.old) (v ∷ []) (ahead reader.new)
+        × IsBetween pos x v) (g.n g.bounds_rest ∷ []) (ahead reader.old) result (ahead reader.new) }
     ensures fewer { remaining reader.new ≤ remaining reader.old }
 {
     let lower = expr(reader, alloc)?;

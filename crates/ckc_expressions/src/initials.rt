@@ -20,7 +20,8 @@ pub fn declared_limits<'a>(
     reader: &mut Reader<'a>,
     alloc: Global,
 ) -> Result<Option<Bounds<'a>>, Stop>
-    ensures gives { Gives (λ y. v.as_declared_limits y) (g.n g.declared_limits) (ahead reader.old) result (ahead reader.new) }
+    ensures gives { Gives (λ y. v.as_declared_limits y) (g.n g.declared_limits) (ahead reader.old)
+        result (ahead reader.new) }
     ensures fewer { remaining reader.new ≤ remaining reader.old }
 {
     match reader.kind() {
@@ -31,7 +32,9 @@ pub fn declared_limits<'a>(
 
 /// `:` and bounds.
 fn some_limits<'a>(reader: &mut Reader<'a>, alloc: Global) -> Result<Option<Bounds<'a>>, Stop>
-    ensures reads { Reads (g.right g.DeclaredLimits) (λ x vs. v.as_declared_limits (v.made g.DeclaredLimits vs) ≡ x) (ahead reader.old) result (ahead reader.new) }
+    ensures reads { Reads (g.right g.DeclaredLimits)
+        (λ x vs. v.as_declared_limits (v.made g.DeclaredLimits vs) ≡ x) (ahead reader.old) result
+        (ahead reader.new) }
     ensures fewer { remaining reader.new ≤ remaining reader.old }
 {
     let colon = reader.take(Kind::Colon)?;
@@ -41,7 +44,8 @@ fn some_limits<'a>(reader: &mut Reader<'a>, alloc: Global) -> Result<Option<Boun
 
 /// What a declared name is: an array, or none.
 pub fn array<'a>(reader: &mut Reader<'a>) -> Result<Length, Stop>
-    ensures gives { Gives (λ y. v.as_length y) (g.n g.array) (ahead reader.old) result (ahead reader.new) }
+    ensures gives { Gives (λ y. v.as_length y) (g.n g.array) (ahead reader.old) result
+        (ahead reader.new) }
 {
     match reader.kind() {
         Kind::SquareOpen => raw_array(reader),
@@ -53,7 +57,8 @@ pub fn array<'a>(reader: &mut Reader<'a>) -> Result<Length, Stop>
 
 /// `[n]`.
 fn raw_array<'a>(reader: &mut Reader<'a>) -> Result<Length, Stop>
-    ensures reads { Reads (g.right g.RawArray) (λ x vs. v.as_length (v.made g.RawArray vs) ≡ x) (ahead reader.old) result (ahead reader.new) }
+    ensures reads { Reads (g.right g.RawArray) (λ x vs. v.as_length (v.made g.RawArray vs) ≡ x)
+        (ahead reader.old) result (ahead reader.new) }
 {
     let open = reader.take(Kind::SquareOpen)?;
     let size = size(reader)?;
@@ -63,7 +68,9 @@ fn raw_array<'a>(reader: &mut Reader<'a>) -> Result<Length, Stop>
 
 /// `_Checked [n]`.
 fn checked_array<'a>(reader: &mut Reader<'a>) -> Result<Length, Stop>
-    ensures reads { Reads (g.right g.CheckedArray) (λ x vs. v.as_length (v.made g.CheckedArray vs) ≡ x) (ahead reader.old) result (ahead reader.new) }
+    ensures reads { Reads (g.right g.CheckedArray)
+        (λ x vs. v.as_length (v.made g.CheckedArray vs) ≡ x) (ahead reader.old) result
+        (ahead reader.new) }
 {
     let word = reader.take(Kind::Checked)?;
     let open = reader.take(Kind::SquareOpen)?;
@@ -74,7 +81,8 @@ fn checked_array<'a>(reader: &mut Reader<'a>) -> Result<Length, Stop>
 
 /// `_Nt_checked [n]`.
 fn nt_array<'a>(reader: &mut Reader<'a>) -> Result<Length, Stop>
-    ensures reads { Reads (g.right g.NtArray) (λ x vs. v.as_length (v.made g.NtArray vs) ≡ x) (ahead reader.old) result (ahead reader.new) }
+    ensures reads { Reads (g.right g.NtArray) (λ x vs. v.as_length (v.made g.NtArray vs) ≡ x)
+        (ahead reader.old) result (ahead reader.new) }
 {
     let word = reader.take(Kind::NtChecked)?;
     let open = reader.take(Kind::SquareOpen)?;
@@ -85,7 +93,8 @@ fn nt_array<'a>(reader: &mut Reader<'a>) -> Result<Length, Stop>
 
 /// The number in the brackets of an array, where there is one.
 fn size<'a>(reader: &mut Reader<'a>) -> Result<Option<u32>, Stop>
-    ensures gives { Gives (λ y. v.as_size y) (g.n g.size) (ahead reader.old) result (ahead reader.new) }
+    ensures gives { Gives (λ y. v.as_size y) (g.n g.size) (ahead reader.old) result
+        (ahead reader.new) }
 {
     match reader.kind() {
         Kind::Number => some_size(reader),
@@ -95,7 +104,8 @@ fn size<'a>(reader: &mut Reader<'a>) -> Result<Option<u32>, Stop>
 
 /// The number in the brackets of an array.
 fn some_size<'a>(reader: &mut Reader<'a>) -> Result<Option<u32>, Stop>
-    ensures reads { Reads (g.right g.Size) (λ x vs. v.as_size (v.made g.Size vs) ≡ x) (ahead reader.old) result (ahead reader.new) }
+    ensures reads { Reads (g.right g.Size) (λ x vs. v.as_size (v.made g.Size vs) ≡ x)
+        (ahead reader.old) result (ahead reader.new) }
 {
     let number = reader.take(Kind::Number)?;
     Ok(Some(number_of(number.kind)))
@@ -103,7 +113,8 @@ fn some_size<'a>(reader: &mut Reader<'a>) -> Result<Option<u32>, Stop>
 
 /// What a static begins as.
 pub fn initial<'a>(reader: &mut Reader<'a>, alloc: Global) -> Result<Init<Spelling<'a>, ()>, Stop>
-    ensures gives { Gives (λ y. v.as_init y) (g.n g.initial) (ahead reader.old) result (ahead reader.new) }
+    ensures gives { Gives (λ y. v.as_init y) (g.n g.initial) (ahead reader.old) result
+        (ahead reader.new) }
 {
     match reader.kind() {
         Kind::Equals => some_initial(reader, alloc),
@@ -113,7 +124,8 @@ pub fn initial<'a>(reader: &mut Reader<'a>, alloc: Global) -> Result<Init<Spelli
 
 /// `=` and an initialiser.
 fn some_initial<'a>(reader: &mut Reader<'a>, alloc: Global) -> Result<Init<Spelling<'a>, ()>, Stop>
-    ensures reads { Reads (g.right g.Initial) (λ x vs. v.as_init (v.made g.Initial vs) ≡ x) (ahead reader.old) result (ahead reader.new) }
+    ensures reads { Reads (g.right g.Initial) (λ x vs. v.as_init (v.made g.Initial vs) ≡ x)
+        (ahead reader.old) result (ahead reader.new) }
 {
     let equals = reader.take(Kind::Equals)?;
     let init = initializer(reader, alloc)?;
@@ -122,7 +134,8 @@ fn some_initial<'a>(reader: &mut Reader<'a>, alloc: Global) -> Result<Init<Spell
 
 /// An initialiser: a list in braces, or one expression.
 fn initializer<'a>(reader: &mut Reader<'a>, alloc: Global) -> Result<Init<Spelling<'a>, ()>, Stop>
-    ensures gives { Gives (λ y. v.as_init y) (g.n g.initializer) (ahead reader.old) result (ahead reader.new) }
+    ensures gives { Gives (λ y. v.as_init y) (g.n g.initializer) (ahead reader.old) result
+        (ahead reader.new) }
 {
     match reader.kind() {
         Kind::CurlyOpen => list_initial(reader, alloc),
@@ -132,7 +145,8 @@ fn initializer<'a>(reader: &mut Reader<'a>, alloc: Global) -> Result<Init<Spelli
 
 /// One expression.
 fn one_initial<'a>(reader: &mut Reader<'a>, alloc: Global) -> Result<Init<Spelling<'a>, ()>, Stop>
-    ensures reads { Reads (g.right g.OneInitial) (λ x vs. v.as_init (v.made g.OneInitial vs) ≡ x) (ahead reader.old) result (ahead reader.new) }
+    ensures reads { Reads (g.right g.OneInitial) (λ x vs. v.as_init (v.made g.OneInitial vs) ≡ x)
+        (ahead reader.old) result (ahead reader.new) }
 {
     let value = expr(reader, alloc)?;
     Ok(Init::One(value))
@@ -140,7 +154,8 @@ fn one_initial<'a>(reader: &mut Reader<'a>, alloc: Global) -> Result<Init<Spelli
 
 /// A list in braces.
 fn list_initial<'a>(reader: &mut Reader<'a>, alloc: Global) -> Result<Init<Spelling<'a>, ()>, Stop>
-    ensures reads { Reads (g.right g.ListInitial) (λ x vs. v.as_init (v.made g.ListInitial vs) ≡ x) (ahead reader.old) result (ahead reader.new) }
+    ensures reads { Reads (g.right g.ListInitial) (λ x vs. v.as_init (v.made g.ListInitial vs) ≡ x)
+        (ahead reader.old) result (ahead reader.new) }
 {
     let open = reader.take(Kind::CurlyOpen)?;
     let first = expr(reader, alloc)?;
@@ -153,7 +168,8 @@ pub fn local_initial<'a>(
     reader: &mut Reader<'a>,
     alloc: Global,
 ) -> Result<Init<Spelling<'a>, ()>, Stop>
-    ensures gives { Gives (λ y. v.as_init y) (g.n g.local_initial) (ahead reader.old) result (ahead reader.new) }
+    ensures gives { Gives (λ y. v.as_init y) (g.n g.local_initial) (ahead reader.old) result
+        (ahead reader.new) }
     ensures fewer { remaining reader.new ≤ remaining reader.old }
 {
     match reader.kind() {
@@ -164,7 +180,9 @@ pub fn local_initial<'a>(
 
 /// `=` and a value.
 fn some_value<'a>(reader: &mut Reader<'a>, alloc: Global) -> Result<Init<Spelling<'a>, ()>, Stop>
-    ensures reads { Reads (g.right g.LocalInitial) (λ x vs. v.as_init (v.made g.LocalInitial vs) ≡ x) (ahead reader.old) result (ahead reader.new) }
+    ensures reads { Reads (g.right g.LocalInitial)
+        (λ x vs. v.as_init (v.made g.LocalInitial vs) ≡ x) (ahead reader.old) result
+        (ahead reader.new) }
     ensures fewer { remaining reader.new ≤ remaining reader.old }
 {
     let equals = reader.take(Kind::Equals)?;
@@ -178,7 +196,8 @@ fn list_rest<'a>(
     alloc: Global,
     first: Expression<'a>,
 ) -> Result<Seq<Expr<Spelling<'a>, ()>>, Stop>
-    ensures gives { Gives (λ y. first.entry ∷ v.as_exprs y) (g.n g.list_rest) (ahead reader.old) result (ahead reader.new) }
+    ensures gives { Gives (λ y. first.entry ∷ v.as_exprs y) (g.n g.list_rest) (ahead reader.old)
+        result (ahead reader.new) }
 {
     let mut all = one_of(alloc, first)?;
     'list: while let Kind::Comma = reader.kind() {

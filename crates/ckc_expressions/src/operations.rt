@@ -9,8 +9,10 @@ use ckc_syntax::TreeOp;
 
 /// A binary operator.
 pub fn operation<'a>(reader: &mut Reader<'a>) -> Result<Operation, Stop>
-    ensures parses { Parses (λ x. operator x.op x.pos) (g.n g.operation) (ahead reader.old) result (ahead reader.new) }
-    ensures fewer { MatchResult result (λ x. remaining reader.new < remaining reader.old) (λ e. remaining reader.new ≤ remaining reader.old) }
+    ensures parses { Parses (λ x. operator x.op x.pos) (g.n g.operation) (ahead reader.old) result
+        (ahead reader.new) }
+    ensures fewer { MatchResult result (λ x. remaining reader.new < remaining reader.old)
+        (λ e. remaining reader.new ≤ remaining reader.old) }
 {
     match reader.kind() {
         Kind::Less => less(reader),
@@ -20,8 +22,11 @@ pub fn operation<'a>(reader: &mut Reader<'a>) -> Result<Operation, Stop>
 
 /// `<`.
 fn less<'a>(reader: &mut Reader<'a>) -> Result<Operation, Stop>
-    ensures reads { Reads (g.right g.LessOperation) (Makes g.LessOperation (λ x. operator x.op x.pos)) (ahead reader.old) result (ahead reader.new) }
-    ensures fewer { MatchResult result (λ x. remaining reader.new < remaining reader.old) (λ e. remaining reader.new ≤ remaining reader.old) }
+    ensures reads { Reads (g.right g.LessOperation)
+        (Makes g.LessOperation (λ x. operator x.op x.pos)) (ahead reader.old) result
+        (ahead reader.new) }
+    ensures fewer { MatchResult result (λ x. remaining reader.new < remaining reader.old)
+        (λ e. remaining reader.new ≤ remaining reader.old) }
 {
     let mark = reader.take(Kind::Less)?;
     Ok(Operation {
@@ -32,8 +37,10 @@ fn less<'a>(reader: &mut Reader<'a>) -> Result<Operation, Stop>
 
 /// A binary operator but `<`.
 pub fn operation_but_less<'a>(reader: &mut Reader<'a>) -> Result<Operation, Stop>
-    ensures parses { Parses (λ x. operator x.op x.pos) (g.n g.operation_but_less) (ahead reader.old) result (ahead reader.new) }
-    ensures fewer { MatchResult result (λ x. remaining reader.new < remaining reader.old) (λ e. remaining reader.new ≤ remaining reader.old) }
+    ensures parses { Parses (λ x. operator x.op x.pos) (g.n g.operation_but_less) (ahead reader.old)
+        result (ahead reader.new) }
+    ensures fewer { MatchResult result (λ x. remaining reader.new < remaining reader.old)
+        (λ e. remaining reader.new ≤ remaining reader.old) }
 {
     if is_greater(reader.kind()) {
         greater(reader)
@@ -44,8 +51,10 @@ pub fn operation_but_less<'a>(reader: &mut Reader<'a>) -> Result<Operation, Stop
 
 /// A binary operator but `<`, `>` and `>>`.
 fn plain_operation<'a>(reader: &mut Reader<'a>) -> Result<Operation, Stop>
-    ensures reads { Reads (g.right g.Operator) (Makes g.Operator (λ x. operator x.op x.pos)) (ahead reader.old) result (ahead reader.new) }
-    ensures fewer { MatchResult result (λ x. remaining reader.new < remaining reader.old) (λ e. remaining reader.new ≤ remaining reader.old) }
+    ensures reads { Reads (g.right g.Operator) (Makes g.Operator (λ x. operator x.op x.pos))
+        (ahead reader.old) result (ahead reader.new) }
+    ensures fewer { MatchResult result (λ x. remaining reader.new < remaining reader.old)
+        (λ e. remaining reader.new ≤ remaining reader.old) }
 {
     let mark = reader.take_any(Class::Operator)?;
     Ok(Operation {
@@ -56,8 +65,10 @@ fn plain_operation<'a>(reader: &mut Reader<'a>) -> Result<Operation, Stop>
 
 /// `>` or `>>`.
 fn greater<'a>(reader: &mut Reader<'a>) -> Result<Operation, Stop>
-    ensures reads { Reads (g.right g.Greater) (Makes g.Greater (λ x. operator x.op x.pos)) (ahead reader.old) result (ahead reader.new) }
-    ensures fewer { MatchResult result (λ x. remaining reader.new < remaining reader.old) (λ e. remaining reader.new ≤ remaining reader.old) }
+    ensures reads { Reads (g.right g.Greater) (Makes g.Greater (λ x. operator x.op x.pos))
+        (ahead reader.old) result (ahead reader.new) }
+    ensures fewer { MatchResult result (λ x. remaining reader.new < remaining reader.old)
+        (λ e. remaining reader.new ≤ remaining reader.old) }
 {
     let mark = reader.take_any(Class::Greater)?;
     let is_shift = second(reader)?;
@@ -69,7 +80,8 @@ fn greater<'a>(reader: &mut Reader<'a>) -> Result<Operation, Stop>
 
 /// Whether a `>` stands directly behind a `>`, which is then taken.
 fn second<'a>(reader: &mut Reader<'a>) -> Result<bool, Stop>
-    ensures parses { Parses (λ x. second x) (g.n g.second) (ahead reader.old) result (ahead reader.new) }
+    ensures parses { Parses (λ x. second x) (g.n g.second) (ahead reader.old) result
+        (ahead reader.new) }
     ensures fewer { remaining reader.new ≤ remaining reader.old }
 {
     if let Kind::GreaterNext = reader.kind() {

@@ -16,7 +16,8 @@ pub fn starred<'a>(
     alloc: Global,
     base: CType<'a>,
 ) -> Result<CType<'a>, Stop>
-    ensures gives { Gives (λ v. starred base.entry (as_stars v)) (g.n g.stars) (ahead reader.old) result (ahead reader.new) }
+    ensures gives { Gives (λ v. starred base.entry (as_stars v)) (g.n g.stars) (ahead reader.old)
+        result (ahead reader.new) }
     ensures fewer { remaining reader.new ≤ remaining reader.old }
 {
     let mut ctype = base;
@@ -30,7 +31,8 @@ pub fn starred<'a>(
 /// A type: a base with stars behind it.
 #[cycle(types)]
 pub fn type_name<'a>(reader: &mut Reader<'a>, alloc: Global) -> Result<CType<'a>, Stop>
-    ensures parses { Parses (λ x. type_tree x) (g.n g.type_name) (ahead reader.old) result (ahead reader.new) }
+    ensures parses { Parses (λ x. type_tree x) (g.n g.type_name) (ahead reader.old) result
+        (ahead reader.new) }
     ensures fewer { remaining reader.new ≤ remaining reader.old }
 {
     let base = base(reader, alloc)?;
@@ -40,7 +42,8 @@ pub fn type_name<'a>(reader: &mut Reader<'a>, alloc: Global) -> Result<CType<'a>
 /// The base of a type: a structure, or one that is not.
 #[cycle(types)]
 pub fn base<'a>(reader: &mut Reader<'a>, alloc: Global) -> Result<CType<'a>, Stop>
-    ensures parses { Parses (λ x. type_tree x) (g.n g.base) (ahead reader.old) result (ahead reader.new) }
+    ensures parses { Parses (λ x. type_tree x) (g.n g.base) (ahead reader.old) result
+        (ahead reader.new) }
     ensures fewer { remaining reader.new ≤ remaining reader.old }
 {
     match reader.kind() {
@@ -51,7 +54,8 @@ pub fn base<'a>(reader: &mut Reader<'a>, alloc: Global) -> Result<CType<'a>, Sto
 
 /// A structure by its tag.
 fn struct_base<'a>(reader: &mut Reader<'a>, alloc: Global) -> Result<CType<'a>, Stop>
-    ensures reads { Reads (g.right g.StructBase) (Makes g.StructBase (λ x. type_tree x)) (ahead reader.old) result (ahead reader.new) }
+    ensures reads { Reads (g.right g.StructBase) (Makes g.StructBase (λ x. type_tree x))
+        (ahead reader.old) result (ahead reader.new) }
     ensures fewer { remaining reader.new ≤ remaining reader.old }
 {
     let keyword = reader.take(Kind::Struct)?;
@@ -63,7 +67,8 @@ fn struct_base<'a>(reader: &mut Reader<'a>, alloc: Global) -> Result<CType<'a>, 
 /// The base of a type that is no structure.
 #[cycle(types)]
 pub fn scalar<'a>(reader: &mut Reader<'a>, alloc: Global) -> Result<CType<'a>, Stop>
-    ensures parses { Parses (λ x. type_tree x) (g.n g.scalar) (ahead reader.old) result (ahead reader.new) }
+    ensures parses { Parses (λ x. type_tree x) (g.n g.scalar) (ahead reader.old) result
+        (ahead reader.new) }
     ensures fewer { remaining reader.new ≤ remaining reader.old }
 {
     match reader.kind() {
@@ -79,7 +84,8 @@ pub fn scalar<'a>(reader: &mut Reader<'a>, alloc: Global) -> Result<CType<'a>, S
 
 /// `int`.
 fn int_base<'a>(reader: &mut Reader<'a>, alloc: Global) -> Result<CType<'a>, Stop>
-    ensures reads { Reads (g.right g.Int) (Makes g.Int (λ x. type_tree x)) (ahead reader.old) result (ahead reader.new) }
+    ensures reads { Reads (g.right g.Int) (Makes g.Int (λ x. type_tree x)) (ahead reader.old) result
+        (ahead reader.new) }
     ensures fewer { remaining reader.new ≤ remaining reader.old }
 {
     let keyword = reader.take(Kind::Int)?;
@@ -89,7 +95,8 @@ fn int_base<'a>(reader: &mut Reader<'a>, alloc: Global) -> Result<CType<'a>, Sto
 
 /// `char`.
 fn char_base<'a>(reader: &mut Reader<'a>, alloc: Global) -> Result<CType<'a>, Stop>
-    ensures reads { Reads (g.right g.Char) (Makes g.Char (λ x. type_tree x)) (ahead reader.old) result (ahead reader.new) }
+    ensures reads { Reads (g.right g.Char) (Makes g.Char (λ x. type_tree x)) (ahead reader.old)
+        result (ahead reader.new) }
     ensures fewer { remaining reader.new ≤ remaining reader.old }
 {
     let keyword = reader.take(Kind::Char)?;
@@ -99,7 +106,8 @@ fn char_base<'a>(reader: &mut Reader<'a>, alloc: Global) -> Result<CType<'a>, St
 
 /// `unsigned` or `unsigned int`.
 fn unsigned_base<'a>(reader: &mut Reader<'a>, alloc: Global) -> Result<CType<'a>, Stop>
-    ensures reads { Reads (g.right g.Unsigned) (Makes g.Unsigned (λ x. type_tree x)) (ahead reader.old) result (ahead reader.new) }
+    ensures reads { Reads (g.right g.Unsigned) (Makes g.Unsigned (λ x. type_tree x))
+        (ahead reader.old) result (ahead reader.new) }
     ensures fewer { remaining reader.new ≤ remaining reader.old }
 {
     let keyword = reader.take(Kind::Unsigned)?;
@@ -110,7 +118,8 @@ fn unsigned_base<'a>(reader: &mut Reader<'a>, alloc: Global) -> Result<CType<'a>
 
 /// The `int` that may stand behind `unsigned`.
 fn unsigned_rest<'a>(reader: &mut Reader<'a>) -> Result<(), Stop>
-    ensures parses { Parses (λ x. nothing) (g.n g.unsigned_rest) (ahead reader.old) result (ahead reader.new) }
+    ensures parses { Parses (λ x. nothing) (g.n g.unsigned_rest) (ahead reader.old) result
+        (ahead reader.new) }
     ensures fewer { remaining reader.new ≤ remaining reader.old }
 {
     if let Kind::Int = reader.kind() {
@@ -122,7 +131,8 @@ fn unsigned_rest<'a>(reader: &mut Reader<'a>) -> Result<(), Stop>
 /// `_Ptr<T>`.
 #[cycle(types)]
 fn one_pointer<'a>(reader: &mut Reader<'a>, alloc: Global) -> Result<CType<'a>, Stop>
-    ensures reads { Reads (g.right g.OnePointer) (Makes g.OnePointer (λ x. type_tree x)) (ahead reader.old) result (ahead reader.new) }
+    ensures reads { Reads (g.right g.OnePointer) (Makes g.OnePointer (λ x. type_tree x))
+        (ahead reader.old) result (ahead reader.new) }
     ensures fewer { remaining reader.new ≤ remaining reader.old }
 {
     let inner = pointed(reader, alloc, Kind::Ptr)?;
@@ -133,7 +143,8 @@ fn one_pointer<'a>(reader: &mut Reader<'a>, alloc: Global) -> Result<CType<'a>, 
 /// `_Array_ptr<T>`.
 #[cycle(types)]
 fn array_pointer<'a>(reader: &mut Reader<'a>, alloc: Global) -> Result<CType<'a>, Stop>
-    ensures reads { Reads (g.right g.ArrayPointer) (Makes g.ArrayPointer (λ x. type_tree x)) (ahead reader.old) result (ahead reader.new) }
+    ensures reads { Reads (g.right g.ArrayPointer) (Makes g.ArrayPointer (λ x. type_tree x))
+        (ahead reader.old) result (ahead reader.new) }
     ensures fewer { remaining reader.new ≤ remaining reader.old }
 {
     let inner = pointed(reader, alloc, Kind::ArrayPtr)?;
@@ -144,7 +155,8 @@ fn array_pointer<'a>(reader: &mut Reader<'a>, alloc: Global) -> Result<CType<'a>
 /// `_Nt_array_ptr<T>`.
 #[cycle(types)]
 fn nt_pointer<'a>(reader: &mut Reader<'a>, alloc: Global) -> Result<CType<'a>, Stop>
-    ensures reads { Reads (g.right g.NtPointer) (Makes g.NtPointer (λ x. type_tree x)) (ahead reader.old) result (ahead reader.new) }
+    ensures reads { Reads (g.right g.NtPointer) (Makes g.NtPointer (λ x. type_tree x))
+        (ahead reader.old) result (ahead reader.new) }
     ensures fewer { remaining reader.new ≤ remaining reader.old }
 {
     let inner = pointed(reader, alloc, Kind::NtArrayPtr)?;
@@ -156,7 +168,8 @@ fn nt_pointer<'a>(reader: &mut Reader<'a>, alloc: Global) -> Result<CType<'a>, S
 #[cycle(types)]
 fn pointed<'a>(reader: &mut Reader<'a>, alloc: Global, keyword: Kind) -> Result<CType<'a>, Stop>
     requires { keyword ≢ Kind.End }
-    ensures reads { Reads (pointed keyword) (λ x vs. IsThird (type_tree x) vs) (ahead reader.old) result (ahead reader.new) }
+    ensures reads { Reads (pointed keyword) (λ x vs. IsThird (type_tree x) vs) (ahead reader.old)
+        result (ahead reader.new) }
     ensures fewer { remaining reader.new ≤ remaining reader.old }
 {
     let word = reader.take(keyword)?;

@@ -20,7 +20,8 @@ use std::alloc::{AllocError, Global};
 
 /// The right side of an assignment, or what a local begins as: an expression or a call.
 pub fn value<'a>(reader: &mut Reader<'a>, alloc: Global) -> Result<Expression<'a>, Stop>
-    ensures gives { Gives (λ y. v.as_expr y) (g.n g.value) (ahead reader.old) result (ahead reader.new) }
+    ensures gives { Gives (λ y. v.as_expr y) (g.n g.value) (ahead reader.old) result
+        (ahead reader.new) }
     ensures fewer { remaining reader.new ≤ remaining reader.old }
 {
     match reader.kind() {
@@ -36,7 +37,8 @@ pub fn value<'a>(reader: &mut Reader<'a>, alloc: Global) -> Result<Expression<'a
 
 /// A value that begins with `calloc`.
 fn calloc_first<'a>(reader: &mut Reader<'a>, alloc: Global) -> Result<Expression<'a>, Stop>
-    ensures reads { Reads (g.right g.CallocValue) (λ x vs. v.as_expr (v.made g.CallocValue vs) ≡ x) (ahead reader.old) result (ahead reader.new) }
+    ensures reads { Reads (g.right g.CallocValue) (λ x vs. v.as_expr (v.made g.CallocValue vs) ≡ x)
+        (ahead reader.old) result (ahead reader.new) }
     ensures fewer { remaining reader.new ≤ remaining reader.old }
 {
     let name = reader.take(Kind::Calloc)?;
@@ -45,7 +47,8 @@ fn calloc_first<'a>(reader: &mut Reader<'a>, alloc: Global) -> Result<Expression
 
 /// A value that begins with another name.
 fn name_first<'a>(reader: &mut Reader<'a>, alloc: Global) -> Result<Expression<'a>, Stop>
-    ensures reads { Reads (g.right g.NamedValue) (λ x vs. v.as_expr (v.made g.NamedValue vs) ≡ x) (ahead reader.old) result (ahead reader.new) }
+    ensures reads { Reads (g.right g.NamedValue) (λ x vs. v.as_expr (v.made g.NamedValue vs) ≡ x)
+        (ahead reader.old) result (ahead reader.new) }
     ensures fewer { remaining reader.new ≤ remaining reader.old }
 {
     let name = reader.take_any(Class::NameButCalloc)?;
@@ -54,7 +57,8 @@ fn name_first<'a>(reader: &mut Reader<'a>, alloc: Global) -> Result<Expression<'
 
 /// A value that begins with no name.
 fn other_value<'a>(reader: &mut Reader<'a>, alloc: Global) -> Result<Expression<'a>, Stop>
-    ensures reads { Reads (g.right g.Value) (λ x vs. v.as_expr (v.made g.Value vs) ≡ x) (ahead reader.old) result (ahead reader.new) }
+    ensures reads { Reads (g.right g.Value) (λ x vs. v.as_expr (v.made g.Value vs) ≡ x)
+        (ahead reader.old) result (ahead reader.new) }
     ensures fewer { remaining reader.new ≤ remaining reader.old }
 {
     let operand = first(reader, alloc)?;
@@ -69,7 +73,8 @@ fn named_value<'a>(
     alloc: Global,
     name: Token<'a>,
 ) -> Result<Expression<'a>, Stop>
-    ensures gives { Gives (λ y. v.as_expr_of_name y (spelled name.entry)) (g.n g.named_value) (ahead reader.old) result (ahead reader.new) }
+    ensures gives { Gives (λ y. v.as_expr_of_name y (spelled name.entry)) (g.n g.named_value)
+        (ahead reader.old) result (ahead reader.new) }
     ensures fewer { remaining reader.new ≤ remaining reader.old }
 {
     match reader.kind() {
@@ -84,7 +89,9 @@ fn call_value<'a>(
     alloc: Global,
     name: Token<'a>,
 ) -> Result<Expression<'a>, Stop>
-    ensures reads { Reads (g.right g.CallValue) (λ x vs. v.as_expr_of_name (v.made g.CallValue vs) (spelled name.entry) ≡ x) (ahead reader.old) result (ahead reader.new) }
+    ensures reads { Reads (g.right g.CallValue)
+        (λ x vs. v.as_expr_of_name (v.made g.CallValue vs) (spelled name.entry) ≡ x)
+        (ahead reader.old) result (ahead reader.new) }
     ensures fewer { remaining reader.new ≤ remaining reader.old }
 {
     let open = reader.take(Kind::RoundOpen)?;
@@ -99,7 +106,9 @@ fn calloc_call<'a>(
     alloc: Global,
     name: Token<'a>,
 ) -> Result<Expression<'a>, Stop>
-    ensures reads { Reads (g.right g.CallocCall) (λ x vs. v.as_expr_of_name (v.made g.CallocCall vs) (spelled name.entry) ≡ x) (ahead reader.old) result (ahead reader.new) }
+    ensures reads { Reads (g.right g.CallocCall)
+        (λ x vs. v.as_expr_of_name (v.made g.CallocCall vs) (spelled name.entry) ≡ x)
+        (ahead reader.old) result (ahead reader.new) }
     ensures fewer { remaining reader.new ≤ remaining reader.old }
 {
     let open = reader.take(Kind::RoundOpen)?;
@@ -114,7 +123,9 @@ fn name_expr<'a>(
     alloc: Global,
     name: Token<'a>,
 ) -> Result<Expression<'a>, Stop>
-    ensures reads { Reads (g.right g.ExprValue) (λ x vs. v.as_expr_of_name (v.made g.ExprValue vs) (spelled name.entry) ≡ x) (ahead reader.old) result (ahead reader.new) }
+    ensures reads { Reads (g.right g.ExprValue)
+        (λ x vs. v.as_expr_of_name (v.made g.ExprValue vs) (spelled name.entry) ≡ x)
+        (ahead reader.old) result (ahead reader.new) }
     ensures fewer { remaining reader.new ≤ remaining reader.old }
 {
     let start = named(alloc, name)?;
@@ -130,7 +141,8 @@ fn calloc_value<'a>(
     alloc: Global,
     name: Token<'a>,
 ) -> Result<Expression<'a>, Stop>
-    ensures gives { Gives (λ y. v.as_expr_of_name y (spelled name.entry)) (g.n g.calloc_value) (ahead reader.old) result (ahead reader.new) }
+    ensures gives { Gives (λ y. v.as_expr_of_name y (spelled name.entry)) (g.n g.calloc_value)
+        (ahead reader.old) result (ahead reader.new) }
     ensures fewer { remaining reader.new ≤ remaining reader.old }
 {
     match reader.kind() {
@@ -146,7 +158,9 @@ fn calloc_less<'a>(
     alloc: Global,
     name: Token<'a>,
 ) -> Result<Expression<'a>, Stop>
-    ensures reads { Reads (g.right g.CallocLess) (λ x vs. v.as_expr_of_name (v.made g.CallocLess vs) (spelled name.entry) ≡ x) (ahead reader.old) result (ahead reader.new) }
+    ensures reads { Reads (g.right g.CallocLess)
+        (λ x vs. v.as_expr_of_name (v.made g.CallocLess vs) (spelled name.entry) ≡ x)
+        (ahead reader.old) result (ahead reader.new) }
     ensures fewer { remaining reader.new ≤ remaining reader.old }
 {
     let mark = reader.take(Kind::Less)?;
@@ -160,7 +174,9 @@ fn behind_less<'a>(
     name: Token<'a>,
     mark: Token<'a>,
 ) -> Result<Expression<'a>, Stop>
-    ensures gives { Gives (λ y. v.as_expr_of_less y (spelled name.entry) (v.place (v.token (spelled mark.entry)))) (g.n g.less) (ahead reader.old) result (ahead reader.new) }
+    ensures gives { Gives
+        (λ y. v.as_expr_of_less y (spelled name.entry) (v.place (v.token (spelled mark.entry))))
+        (g.n g.less) (ahead reader.old) result (ahead reader.new) }
     ensures fewer { remaining reader.new ≤ remaining reader.old }
 {
     match reader.kind() {
@@ -182,7 +198,9 @@ fn less_type<'a>(
     name: Token<'a>,
     mark: Token<'a>,
 ) -> Result<Expression<'a>, Stop>
-    ensures reads { Reads (g.right g.LessType) (λ x vs. v.as_expr_of_less (v.made g.LessType vs) (spelled name.entry) (v.place (v.token (spelled mark.entry))) ≡ x) (ahead reader.old) result (ahead reader.new) }
+    ensures reads { Reads (g.right g.LessType)
+        (λ x vs. v.as_expr_of_less (v.made g.LessType vs) (spelled name.entry)
+        (v.place (v.token (spelled mark.entry))) ≡ x) (ahead reader.old) result (ahead reader.new) }
     ensures fewer { remaining reader.new ≤ remaining reader.old }
 {
     allocation(reader, alloc, name)
@@ -195,7 +213,9 @@ fn less_operand<'a>(
     name: Token<'a>,
     mark: Token<'a>,
 ) -> Result<Expression<'a>, Stop>
-    ensures reads { Reads (g.right g.LessOperand) (λ x vs. v.as_expr_of_less (v.made g.LessOperand vs) (spelled name.entry) (v.place (v.token (spelled mark.entry))) ≡ x) (ahead reader.old) result (ahead reader.new) }
+    ensures reads { Reads (g.right g.LessOperand)
+        (λ x vs. v.as_expr_of_less (v.made g.LessOperand vs) (spelled name.entry)
+        (v.place (v.token (spelled mark.entry))) ≡ x) (ahead reader.old) result (ahead reader.new) }
     ensures fewer { remaining reader.new ≤ remaining reader.old }
 {
     let start = named(alloc, name)?;
@@ -218,7 +238,8 @@ pub fn arguments<'a>(
     reader: &mut Reader<'a>,
     alloc: Global,
 ) -> Result<Seq<Expr<Spelling<'a>, ()>>, Stop>
-    ensures gives { Gives (λ y. v.as_exprs y) (g.n g.arguments) (ahead reader.old) result (ahead reader.new) }
+    ensures gives { Gives (λ y. v.as_exprs y) (g.n g.arguments) (ahead reader.old) result
+        (ahead reader.new) }
     ensures fewer { remaining reader.new ≤ remaining reader.old }
 {
     match reader.kind() {
@@ -232,7 +253,8 @@ fn no_arguments<'a>(
     reader: &mut Reader<'a>,
     alloc: Global,
 ) -> Result<Seq<Expr<Spelling<'a>, ()>>, Stop>
-    ensures reads { Reads (g.right g.NoArguments) (λ x vs. v.as_exprs (v.made g.NoArguments vs) ≡ x) (ahead reader.old) result (ahead reader.new) }
+    ensures reads { Reads (g.right g.NoArguments) (λ x vs. v.as_exprs (v.made g.NoArguments vs) ≡ x)
+        (ahead reader.old) result (ahead reader.new) }
     ensures fewer { remaining reader.new ≤ remaining reader.old }
 {
     let close = reader.take(Kind::RoundClose)?;
@@ -244,7 +266,8 @@ fn some_arguments<'a>(
     reader: &mut Reader<'a>,
     alloc: Global,
 ) -> Result<Seq<Expr<Spelling<'a>, ()>>, Stop>
-    ensures reads { Reads (g.right g.Arguments) (λ x vs. v.as_exprs (v.made g.Arguments vs) ≡ x) (ahead reader.old) result (ahead reader.new) }
+    ensures reads { Reads (g.right g.Arguments) (λ x vs. v.as_exprs (v.made g.Arguments vs) ≡ x)
+        (ahead reader.old) result (ahead reader.new) }
     ensures fewer { remaining reader.new ≤ remaining reader.old }
 {
     let first = expr(reader, alloc)?;
@@ -257,7 +280,8 @@ fn more_arguments<'a>(
     alloc: Global,
     first: Expression<'a>,
 ) -> Result<Seq<Expr<Spelling<'a>, ()>>, Stop>
-    ensures gives { Gives (λ y. first.entry ∷ v.as_exprs y) (g.n g.more_arguments) (ahead reader.old) result (ahead reader.new) }
+    ensures gives { Gives (λ y. first.entry ∷ v.as_exprs y) (g.n g.more_arguments)
+        (ahead reader.old) result (ahead reader.new) }
     ensures fewer { remaining reader.new ≤ remaining reader.old }
 {
     let mut all = one(alloc, first.into_inner())?;
@@ -276,7 +300,8 @@ pub fn allocation<'a>(
     alloc: Global,
     name: Token<'a>,
 ) -> Result<Expression<'a>, Stop>
-    ensures gives { Gives (λ y. v.as_expr_of_name y (spelled name.entry)) (g.n g.allocation) (ahead reader.old) result (ahead reader.new) }
+    ensures gives { Gives (λ y. v.as_expr_of_name y (spelled name.entry)) (g.n g.allocation)
+        (ahead reader.old) result (ahead reader.new) }
     ensures fewer { remaining reader.new ≤ remaining reader.old }
 {
     let ctype = allocated_type(reader, alloc)?;
@@ -288,7 +313,8 @@ pub fn allocation<'a>(
 
 /// The type behind `calloc <`, with the `>` and the `(` behind it.
 fn allocated_type<'a>(reader: &mut Reader<'a>, alloc: Global) -> Result<CType<'a>, Stop>
-    ensures reads { Reads allocated_type (λ x vs. IsLead (v.type_tree x) vs) (ahead reader.old) result (ahead reader.new) }
+    ensures reads { Reads allocated_type (λ x vs. IsLead (v.type_tree x) vs) (ahead reader.old)
+        result (ahead reader.new) }
     ensures fewer { remaining reader.new ≤ remaining reader.old }
 {
     let ctype = type_name(reader, alloc)?;
@@ -299,7 +325,8 @@ fn allocated_type<'a>(reader: &mut Reader<'a>, alloc: Global) -> Result<CType<'a
 
 /// The `sizeof` of a type as the last argument of `calloc`, with the `,` before it and the `)` behind it.
 fn allocated_size<'a>(reader: &mut Reader<'a>, alloc: Global) -> Result<CType<'a>, Stop>
-    ensures reads { Reads allocated_size (λ x vs. IsFourth (v.type_tree x) vs) (ahead reader.old) result (ahead reader.new) }
+    ensures reads { Reads allocated_size (λ x vs. IsFourth (v.type_tree x) vs) (ahead reader.old)
+        result (ahead reader.new) }
     ensures fewer { remaining reader.new ≤ remaining reader.old }
 {
     let comma = reader.take(Kind::Comma)?;
@@ -319,7 +346,8 @@ fn allocation_at<'a>(
     other: CType<'a>,
     pos: Pos,
 ) -> Result<Expression<'a>, AllocError>
-    ensures { IfOk result (λ e. e ≡ trees.expr_at (node.Calloc ctype.entry count.entry other.entry) pos) }
+    ensures { IfOk result
+        (λ e. e ≡ trees.expr_at (node.Calloc ctype.entry count.entry other.entry) pos) }
 {
     expression(
         alloc,
@@ -330,7 +358,8 @@ fn allocation_at<'a>(
 
 /// An assignment (ISO C11, 6.5.16).
 pub fn assign<'a>(reader: &mut Reader<'a>, alloc: Global) -> Result<Statement<'a>, Stop>
-    ensures gives { Gives (λ y. v.as_stmt y) (g.n g.assign) (ahead reader.old) result (ahead reader.new) }
+    ensures gives { Gives (λ y. v.as_stmt y) (g.n g.assign) (ahead reader.old) result
+        (ahead reader.new) }
     ensures fewer { remaining reader.new ≤ remaining reader.old }
 {
     let target = unary(reader, alloc)?;

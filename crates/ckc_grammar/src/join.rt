@@ -71,7 +71,8 @@ pub struct Chain<'a> {
 
 /// Joins operands to the left at the operators that are as tight as this, and leaves the others.
 fn joined_at<'a>(alloc: Global, tightness: u32, chain: Chain<'a>) -> Result<Chain<'a>, AllocError>
-    ensures { IfOk result (λ c. (c.first, c.steps) ≡ joined_at tightness chain.entry.first chain.entry.steps) }
+    ensures { IfOk result
+        (λ c. (c.first, c.steps) ≡ joined_at tightness chain.entry.first chain.entry.steps) }
 {
     let Chain { first, steps } = chain;
     let mut operand = first;
@@ -98,7 +99,9 @@ fn join_last<'a>(
     step: Step<'a>,
 ) -> Result<Expression<'a>, AllocError>
     requires { level step.op ≡ tightness }
-    ensures { IfOk result (λ f. (ss : List Step) → attached tightness f links.new ss ≡ attached tightness first.entry links.old (step.entry ∷ ss)) }
+    ensures { IfOk result
+        (λ f. (ss : List Step) → attached tightness f links.new ss
+        ≡ attached tightness first.entry links.old (step.entry ∷ ss)) }
 {
     let Step {
         op,

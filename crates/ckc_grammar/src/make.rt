@@ -116,7 +116,9 @@ pub fn declaration<'a>(
     bounds: Option<Bounds<'a>>,
     init: Init<Spelling<'a>, ()>,
 ) -> Result<Declaration<'a>, AllocError>
-    ensures { IfOk result (λ whole. whole ≡ v.declared ctype.entry (spelled name.entry) length bounds.entry init.entry) }
+    ensures { IfOk result
+        (λ whole. whole ≡ v.declared ctype.entry (spelled name.entry) length bounds.entry
+        init.entry) }
 {
     Boxed::new(
         alloc,
@@ -153,7 +155,17 @@ pub fn function<'a>(
     bounds: Option<Bounds<'a>>,
     body: Option<Statement<'a>>,
 ) -> Result<Seq<Item<Spelling<'a>, ()>>, AllocError>
-    ensures { IfOk result (λ all. all ≡ trees.function_of (record { mode = mode; result = result_type.entry; name = (spelled name.entry).text; params = params.entry; bounds = bounds.entry; pos = (spelled name.entry).pos }) body.entry ∷ []) }
+    ensures { IfOk result
+        (λ all. all ≡ trees.function_of
+        (record {
+          mode = mode;
+          result = result_type.entry;
+          name = (spelled name.entry).text;
+          params
+              = params.entry;
+          bounds = bounds.entry;
+          pos = (spelled name.entry).pos;
+        }) body.entry ∷ []) }
 {
     let head = head(alloc, mode, result_type, name, params, bounds)?;
     match body {
@@ -171,7 +183,16 @@ fn head<'a>(
     params: Seq<Decl<Spelling<'a>, ()>>,
     bounds: Option<Bounds<'a>>,
 ) -> Result<Boxed<Head<Spelling<'a>, ()>>, AllocError>
-    ensures { IfOk result (λ head. head ≡ record { mode = mode; result = result_type.entry; name = (spelled name.entry).text; params = params.entry; bounds = bounds.entry; pos = (spelled name.entry).pos }) }
+    ensures { IfOk result
+        (λ head. head ≡ record {
+          mode = mode;
+          result = result_type.entry;
+          name = (spelled name.entry).text;
+          params =
+              params.entry;
+          bounds = bounds.entry;
+          pos = (spelled name.entry).pos;
+        }) }
 {
     Boxed::new(
         alloc,

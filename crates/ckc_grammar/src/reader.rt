@@ -148,7 +148,8 @@ impl<'a> Reader<'a> {
         ensures taken { MatchOption result (ahead self.old ≡ [])
             (λ x. ahead self.old ≡ record { kind = kind_of (ahead self.old); token = spelled x } ∷ ahead self.new) }
         ensures end { IsNone result → ahead self.new ≡ ahead self.old }
-        ensures fewer { MatchOption result (remaining self.new ≤ remaining self.old) (λ x. remaining self.new < remaining self.old) }
+        ensures fewer { MatchOption result (remaining self.new ≤ remaining self.old)
+            (λ x. remaining self.new < remaining self.old) }
     {
         match self.rest {
             [] => None,
@@ -167,8 +168,10 @@ impl<'a> Reader<'a> {
     /// Takes a token of a kind.
     pub fn take(&mut self, kind: Kind) -> Result<Token<'a>, Stop>
         requires { kind ≢ Kind.End }
-        ensures parses { Parses (λ x. token (spelled x)) (t (one kind)) (ahead self.old) result (ahead self.new) }
-        ensures fewer { MatchResult result (λ x. remaining self.new < remaining self.old) (λ e. remaining self.new ≤ remaining self.old) }
+        ensures parses { Parses (λ x. token (spelled x)) (t (one kind)) (ahead self.old) result
+            (ahead self.new) }
+        ensures fewer { MatchResult result (λ x. remaining self.new < remaining self.old)
+            (λ e. remaining self.new ≤ remaining self.old) }
     {
         if self.kind() != kind {
             return Err(Stop::Syntax);
@@ -181,8 +184,10 @@ impl<'a> Reader<'a> {
 
     /// Takes a token of a class.
     pub fn take_any(&mut self, class: Class) -> Result<Token<'a>, Stop>
-        ensures parses { Parses (λ x. token (spelled x)) (t (terminal class)) (ahead self.old) result (ahead self.new) }
-        ensures fewer { MatchResult result (λ x. remaining self.new < remaining self.old) (λ e. remaining self.new ≤ remaining self.old) }
+        ensures parses { Parses (λ x. token (spelled x)) (t (terminal class)) (ahead self.old)
+            result (ahead self.new) }
+        ensures fewer { MatchResult result (λ x. remaining self.new < remaining self.old)
+            (λ e. remaining self.new ≤ remaining self.old) }
     {
         if !is_of(class, self.kind()) {
             return Err(Stop::Syntax);

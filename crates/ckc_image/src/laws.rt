@@ -5,7 +5,8 @@ ghost use Rattle.ckc_image.specs.Image.{ImageOf, FirstBad};
 
 /// What was written reads back: an image has no bad part, and it has one set of parts.
 pub fn write_then_read()
-    ensures good { (bytes code initial : List ℕ) (entry k : ℕ) → ImageOf bytes entry code initial → ¬ FirstBad bytes k }
+    ensures good { (bytes code initial : List ℕ) (entry k : ℕ) → ImageOf bytes entry code initial
+        → ¬ FirstBad bytes k }
     ensures parts { (bytes code initial code' initial' : List ℕ) (entry entry' : ℕ)
         → ImageOf bytes entry code initial → ImageOf bytes entry' code' initial'
         → (entry ≡ entry') × (code ≡ code') × (initial ≡ initial') }

@@ -25,9 +25,11 @@ pub struct BadImage(pub u8);
 impl<'a> View<'a> {
     /// The parts of an image, lent out of its bytes.
     pub fn read(bytes: &'a [u8]) -> Result<View<'a>, BadImage>
-        ensures parts { MatchResult result (λ v. ImageOf bytes.now v.entry v.code.now v.initial.now) (λ e. FirstBad bytes.now e.0) }
+        ensures parts { MatchResult result (λ v. ImageOf bytes.now v.entry v.code.now v.initial.now)
+            (λ e. FirstBad bytes.now e.0) }
         ensures found { (entry : ℕ) (code initial : List ℕ) → ImageOf bytes.now entry code initial
-            → IsOkAnd result (λ v. (v.entry ≡ entry) × (v.code.now ≡ code) × (v.initial.now ≡ initial)) }
+            → IsOkAnd result (λ v. (v.entry ≡ entry) × (v.code.now ≡ code)
+            × (v.initial.now ≡ initial)) }
         ensures refused { (k : ℕ) → FirstBad bytes.now k → IsErrAnd result (λ e. e.0 ≡ k) }
     {
         if bytes.len() < 4 || four_bytes(bytes, 0) != MAGIC {

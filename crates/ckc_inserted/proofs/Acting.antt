@@ -32,8 +32,10 @@ use Rattle.ckc_checks.specs.Inserted.{low_byte, operand, operand_used, operand_c
 use Rattle.ckc_inserted.proofs.Running.{machine, at, by_pass, by_fail, by_if, step_by}
 use Rattle.ckc_inserted.proofs.Values.{Sees, low_value}
 use Rattle.ckc_inserted.proofs.Aiming.{IsAt, Aimed, aim_steps, aim_comes, allowed_at, at_later}
-use Rattle.ckc_inserted.proofs.Exprs.{Below, Comes, Held, AllHeld, expr_steps, operand_steps, operands_steps, operand_nodes, operands_nodes, operands_count, written_same, written_below, expr_comes, operand_comes, operands_comes}
-use Rattle.ckc_inserted.proofs.Exprs as X
+use Rattle.ckc_inserted.proofs.Counts.{expr_steps, operand_steps, operands_steps, operand_nodes, operands_nodes, operands_count, written_same, written_below}
+use Rattle.ckc_inserted.proofs.Coming.{Below, Comes, Held}
+use Rattle.ckc_inserted.proofs.Exprs.{AllHeld, expr_comes, operand_comes, operands_comes}
+use Rattle.ckc_inserted.proofs.Coming as X
 use Rattle.ckc_inserted.proofs.Relation.{Stands}
 use Rattle.ckc_inserted.proofs.Writing.{Ready, Same, same_state, related, Matches, Written, then_matched, then_written, then_comes_to, least_of, write_steps, writes_same}
 use Rattle.ckc_inserted.proofs.Entering.{called, returned}

@@ -16,24 +16,27 @@ use Rattle.ckc_source.specs.Blocks.{lies_in}
 use Rattle.ckc_source.specs.Eval.{Store, given, element, place_in}
 use Rattle.ckc_source.specs.Steps.{terminator_at, aims_at, aimed, allowed}
 use Rattle.ckc_core.specs.Code.{Code, Function}
-use Rattle.ckc_core.specs.Meaning.{Rest, Caller, value_of, nodes}
-use Rattle.ckc_checks.specs.Compilable.{IsJudged, IsCompilableTarget}
-use Rattle.ckc_checks.specs.Inserted.{operand, place_at, null_check, aim_code, target_count}
+use Rattle.ckc_core.specs.Meaning.{Rest, Caller, value_of}
+use Rattle.ckc_checks.specs.Compilable.{IsWritable, IsCompilableTarget}
+use Rattle.ckc_checks.specs.Inserted.{held, keeps_index, is_bounded, judged, reached_place, aim_code, target_count}
 use Rattle.ckc_inserted.proofs.Running.{machine, at}
 use Rattle.ckc_inserted.proofs.Values.{Agree, Sees}
-use Rattle.ckc_inserted.proofs.Exprs.{Below, Comes, operand_steps, then_comes, pair_comes, operand_comes, Reached, null_comes, zero_index}
+use Rattle.ckc_inserted.proofs.Coming.{Below, Comes, then_comes, agree_below, pair_comes}
+use Rattle.ckc_inserted.proofs.Exprs.{held_comes, index_comes, Placed, judged_comes}
+use Rattle.ckc_inserted.proofs.Counts.{held_steps, index_steps, judged_steps}
 
 -- in how many steps the place of a target is found
 abbrev pub aim_steps : source.Target → ℕ → ℕ
-aim_steps (source.Memory width access p i) t = operand_steps p t + (operand_steps i (t + 1) + (nodes (operand p t) + 1))
+aim_steps (source.Memory width access p i) t =
+    held_steps (is_bounded access.through) p t + (index_steps (keeps_index (is_bounded access.through) i) i (t + 1) + judged_steps access.through p i t)
 aim_steps target t = 0
 
-no_terminator : (through : Through) (index : source.Expr) (range : Range) (a : ℕ) (spot : Pos) → IsJudged through index → terminator_at through range a spot ≡ None
-no_terminator Named index range a spot h = refl
-no_terminator Raw index range a spot h = refl
-no_terminator One index range a spot h = refl
-no_terminator Array index range a spot h = absurd h
-no_terminator Terminated index range a spot h = absurd h
+no_terminator : (through : Through) (range : Range) (a : ℕ) (spot : Pos) → IsWritable through → terminator_at through range a spot ≡ None
+no_terminator Named range a spot h = refl
+no_terminator Raw range a spot h = refl
+no_terminator One range a spot h = refl
+no_terminator Array range a spot h = refl
+no_terminator Terminated range a spot h = absurd h
 
 module _ (functions : List Function) (callers : List Caller) (world : World) where
   -- The target is at this place, as long as the locals up to t + 1 stay.
@@ -42,7 +45,7 @@ module _ (functions : List Function) (callers : List Caller) (world : World) whe
   IsAt (source.Variable x width) t l to = to ≡ place.Local x width
   IsAt (source.Memory width access p i) t l to =
       (a : ℕ) × (to ≡ place.Memory a width None) × (a < 2 ^ 32)
-      × ((later : Values) → Below (t + 2) later l → value_of later world.memory (place_at access (operand p t) (operand i (t + 1))) ≡ Some a)
+      × ((later : Values) → Below (t + 2) later l → value_of later world.memory (reached_place access p i t) ≡ Some a)
 
   abbrev pub Aimed : source.Target → ℕ → Values → Place → Values → Type 0
   Aimed target t before to l = Below t l before × IsAt target t l to
@@ -55,27 +58,28 @@ module _ (functions : List Function) (callers : List Caller) (world : World) whe
     aim_comes (source.Variable x width) t more rest l le h agree =
         (0, at callers world more rest l, omega arith, omega arith, no_step (machine functions) (at callers world more rest l), (l, refl, ((λ x less. refl), refl)))
     aim_comes (source.Memory width access p i) t more rest l le h agree =
-        let a = operand p t in
-        let b = operand i (t + 1) in
+        let checked = is_bounded access.through in
+        let keeps = keeps_index checked i in
+        let a = held checked p t in
+        let b = held keeps i (t + 1) in
+        let ju = judged_steps access.through p i t in
+        let judge = judged access.through access p a b t more in
         let judged = h.0 in
         let pointer = h.1 in
         let index = h.2 in
         let good = Aimed (source.Memory width access p i) t l in
-        pair_comes functions callers world n s sees p i t 0 (nodes a + 1) (aim_steps (source.Memory width access p i) t) (null_check access a more) more rest l
+        pair_comes functions callers world n s sees checked keeps p i (held_steps checked p) (index_steps keeps i) t 0 ju (aim_steps (source.Memory width access p i) t) judge more rest l
         (λ v k. given (element access v k.number) (aims_at s width access v.range)) good
-        (operand_comes functions callers world n s sees p) (operand_comes functions callers world n s sees i) le pointer.0 index.0 agree (omega arith)
-        (λ x y l2 both.
-        then_comes functions callers world 0 (nodes a + 1) 0 (nodes a + 1) (at callers world (null_check access a more) rest l2) (element access x y.number) (aims_at s width access x.range) more rest
-        (Reached functions callers world n s sees access access.through a b x y l2) (λ to u. (l' : Values) × (u ≡ at callers world more rest l') × good to l') (omega arith)
-        (null_comes functions callers world n s sees access access.through i a b more rest l2 x y judged.3 (both.1 l2 (λ z less. refl)) both.3 both.4
-        (λ z. zero_index functions callers world n s sees i (t + 1) y.number l2 z (both.2 l2 (λ z less. refl))))
+        (held_comes functions callers world n s sees checked p) (index_comes functions callers world n s sees checked i) le pointer.0 index.0 agree (omega arith)
+        (λ x y l2 both eq_p eq_i.
+        then_comes functions callers world 0 ju 0 ju (at callers world judge rest l2) (element access x y.number) (aims_at s width access x.range) more rest
+        (Placed functions callers world n s sees access access.through a b t l) (λ to u. (l' : Values) × (u ≡ at callers world more rest l') × good to l') (omega arith)
+        (judged_comes functions callers world n s sees access access.through p i t more rest l l2 x y le (agree_below functions callers world n s sees t l2 l le both.0 agree) judged.3 pointer.0 both eq_p)
         (λ q l3 r.
-        by x.range q l3 (no_terminator access.through i x.range q access.at judged.3) (λ z less. r.0 z ∙ both.0 z less)
-        (λ later below. r.1 later (both.1 later (λ z less. below z less ∙ r.0 z)) (both.2 later (λ z less. below z less ∙ r.0 z)))
-        (lies_in width (place_in q access.offset) s.blocks)))
+        by x.range q l3 (no_terminator access.through x.range q access.at h.3) r.0 r.1 (lies_in width (place_in q access.offset) s.blocks)))
       where
         by : (range : Range) (q : ℕ) (l3 : Values) → terminator_at access.through range q access.at ≡ None → Below t l3 l
-            → ((later : Values) → Below (t + 2) later l3 → value_of later world.memory (place_at access (operand p t) (operand i (t + 1))) ≡ Some (place_in q access.offset)) → (here : Bool)
+            → ((later : Values) → Below (t + 2) later l3 → value_of later world.memory (reached_place access p i t) ≡ Some (place_in q access.offset)) → (here : Bool)
             → Comes functions callers world 0 0 (at callers world more rest l3)
             (if here then Ok (place.Memory (place_in q access.offset) width (terminator_at access.through range q access.at)) else Err Stuck) more rest (Aimed (source.Memory width access p i) t l)
         by range q l3 e below value true = (

@@ -22,10 +22,11 @@ use Rattle.ckc_core.specs.Code.{Expr, Local, Code, Alloc, Get, Put, Function}
 use Rattle.ckc_core.specs.Meaning.{value_of, nodes, core_step, goes_by}
 use Rattle.ckc_core.specs.Meaning as C
 use Rattle.ckc_checks.specs.Compilable.{target_nodes, expr_nodes, IsCompilableExpr, IsCompilableTarget, IsCompilableFunction}
-use Rattle.ckc_checks.specs.Inserted.{place_at, low_byte, operand, operand_used, operand_code, aim_code, target_count, is_narrow, written, fixed, taken, written_there, assigned, right_assigned, statements}
+use Rattle.ckc_checks.specs.Inserted.{keeps_index, is_bounded, reached_place, low_byte, operand, operand_used, operand_code, aim_code, target_count, is_narrow, written, fixed, taken, written_there, assigned, right_assigned, statements}
 use Rattle.ckc_inserted.proofs.Running.{machine, at, by_set, step_by}
 use Rattle.ckc_inserted.proofs.Flat.{allocated_same}
-use Rattle.ckc_inserted.proofs.Exprs.{Below, operand_nodes, place_nodes, core_some, some_access, written_same, written_below}
+use Rattle.ckc_inserted.proofs.Counts.{operand_nodes, held_nodes, index_few, reached_nodes, judged_few, written_same, written_below}
+use Rattle.ckc_inserted.proofs.Coming.{Below}
 use Rattle.ckc_inserted.proofs.Aiming.{IsAt, aim_steps, at_later}
 use Rattle.ckc_inserted.proofs.Relation.{Stands}
 use Rattle.ckc_inserted.proofs.Writing.{Ready, first_matched, then_written, least_of, write_steps, IsThere, allowed_there, there_later, there_same}
@@ -35,18 +36,20 @@ pub aim_write_steps : (target : source.Target) (t : ℕ) → aim_steps target t 
 aim_write_steps source.Nothing t = omega arith
 aim_write_steps (source.Variable x width) t = omega arith
 aim_write_steps (source.Memory width access p i) t =
-    omega (arith, operand_nodes p t, operand_nodes i (t + 1), core_some (operand p t), core_some (operand i (t + 1)), some_access access.through)
+    let checked = is_bounded access.through in
+    omega (arith, held_nodes checked p t, index_few (keeps_index checked i) i (t + 1), judged_few access.through p i t)
 
 -- in how many steps a place goes to a temporary
 abbrev fixed_steps : source.Target → ℕ → ℕ
-fixed_steps (source.Memory width access p i) t = nodes (place_at access (operand p t) (operand i (t + 1))) + 1
+fixed_steps (source.Memory width access p i) t = nodes (reached_place access p i t) + 1
 fixed_steps target t = 0
 
 aim_fixed_steps : (target : source.Target) (t : ℕ) → aim_steps target t + fixed_steps target t ≤ 14 * target_nodes target + 10
 aim_fixed_steps source.Nothing t = omega arith
 aim_fixed_steps (source.Variable x width) t = omega arith
 aim_fixed_steps (source.Memory width access p i) t =
-    omega (arith, place_nodes access (operand p t) (operand i (t + 1)), operand_nodes p t, operand_nodes i (t + 1), core_some (operand p t), core_some (operand i (t + 1)), some_access access.through)
+    let checked = is_bounded access.through in
+    omega (arith, reached_nodes access p i t, held_nodes checked p t, index_few (keeps_index checked i) i (t + 1), judged_few access.through p i t)
 
 module _ (p : source.Program) (all : All (IsCompilableFunction p.functions) p.functions)
     (s : S.State) (work : List Work) (looped : Bool) (ds : List C.Caller) (world : World) (rest : C.Rest) where
@@ -130,7 +133,7 @@ module _ (p : source.Program) (all : All (IsCompilableFunction p.functions) p.fu
   fixed_meets (source.Variable x width) to more n k move l r is few next =
       first_matched p.functions core 0 n k s (here more l) (here more l) move (omega arith) (no_step (machine core) (here more l)) (next l r is)
   fixed_meets (source.Memory width access a i) to more n k move l r is few next =
-      let d = place_at access (operand a t) (operand i (t + 1)) in
+      let d = reached_place access a i t in
       let after = with_written l t is.0 in
       first_matched p.functions core (nodes d + 1) n k s (here (fixed (source.Memory width access a i) t more) l) (here more after) move few
       (by_set core ds world t d more rest l is.0 (is.3 l (λ z less. refl)))

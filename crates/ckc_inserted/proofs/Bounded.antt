@@ -1,9 +1,10 @@
 -- Values are words, where the locals and what is loaded are.
 use Rattle.std.proofs.Common.{◌≡◌, ℕ, zero, suc, ◌/◌, ◌%◌, ◌^◌, ◌≤◌, ◌<◌, ◌==◌, List, ◌∷◌, refl, sym, subst, arith}
-use Rattle.std.specs.Prelude.{nat_le, if◌then◌else◌, Bool, true, false, ◌&&◌, slice_index, Option, Some, None, Result, Ok, Err, ℤ, pos, negsuc, neg_ℤ, ◌≤ℤ◌, ◌<ℤ◌, int_div, int_rem}
+use Rattle.std.specs.Prelude.{nat_lt, nat_le, if◌then◌else◌, Bool, true, false, ◌&&◌, slice_index, Option, Some, None, Result, Ok, Err, ℤ, pos, negsuc, neg_ℤ, ◌≤ℤ◌, ◌<ℤ◌, int_div, int_rem}
 use Rattle.std.specs.Int.{int_shr}
 use Rattle.std.proofs.lemmas.Int.{ints}
 use Rattle.std.proofs.lemmas.Bool.{eqb-true}
+use Rattle.std.proofs.lemmas.Bool.Decides.{nat_tests}
 use Rattle.std.proofs.lemmas.Nat.{and_le_l, or_lt, xor_lt}
 use Rattle.std.proofs.Math.Nat.{div-le_self}
 use Rattle.ckc_base.specs.declared.arithmetic.Width.{Width}
@@ -11,7 +12,7 @@ use Rattle.ckc_base.specs.declared.arithmetic.Width.TheVariants as width
 use Rattle.ckc_base.specs.declared.arithmetic.BinOp.{BinOp}
 use Rattle.ckc_base.specs.declared.arithmetic.BinOp.TheVariants.{Add, Sub, Mul, DivS, DivU, RemS, RemU, And, Or, Xor, Shl, ShrS, ShrU, LtS, LtU, Eq, Ne}
 use Rattle.ckc_base.specs.declared.places.Pos.{Pos}
-use Rattle.ckc_base.specs.declared.runtime_checks.Check.TheVariants.{Cast, Divide}
+use Rattle.ckc_base.specs.declared.runtime_checks.Check.TheVariants.{Arith, Cast, Divide}
 use Rattle.ckc_base.specs.Words.{signed, word_of, flag, applied}
 use Rattle.ckc_source.specs.declared.expr.Access.{Access}
 use Rattle.ckc_source.specs.declared.expr.Shift.{Shift}
@@ -29,8 +30,8 @@ use Rattle.ckc_source.specs.declared.program.Shape.{Shape}
 use Rattle.ckc_source.specs.Code as source
 use Rattle.ckc_source.specs.Blocks.{Block, loaded}
 use Rattle.ckc_source.specs.Runs.{is_true}
-use Rattle.ckc_source.specs.Words.{exact, operator, computed, divides, truth, elements_behind}
-use Rattle.ckc_source.specs.Eval.{Store, given, given_both, given_some, plain, ranged, spanned, stops, reads, reads_within, end_address, element, place_in, loads, counted, loads_pointer, moves, moves_checked, operates, tests, tests_within, trusts, evaluated}
+use Rattle.ckc_source.specs.Words.{exact, as_address, operator, computed, divides, truth, elements_behind}
+use Rattle.ckc_source.specs.Eval.{Store, given, given_both, given_some, plain, ranged, spanned, stops, reads, reads_within, end_address, at_address, element, place_in, loads, counted, loads_pointer, moves, moves_checked, moved_exactly, operates, tests, tests_within, trusts, evaluated}
 use Rattle.ckc_checks.specs.Compilable.{IsOne, IsCompilableExpr}
 
 -- ---- operations on words
@@ -160,10 +161,22 @@ shift_word : (back : Bool) (a b : ℕ) → applied (if back then Sub else Add) a
 shift_word true a b = omega arith
 shift_word false a b = omega arith
 
-moves_word : (shift : Shift) (v : Value) (k : ℕ) (checked : Bool) → checked ≡ false
+address_word : (z : ℤ) (place : Pos) (range : Range) → GivesWord (given (at_address (as_address z) place) (λ a. Ok (record { number = a; range = range })))
+address_word (pos a) place range = by (nat_lt a (2 ^ 32)) refl
+  where
+    by : (less : Bool) → nat_lt a (2 ^ 32) ≡ less → GivesWord (given (at_address (if less then Some a else None) place) (λ a. Ok (record { number = a; range = range })))
+    by true e = grind (arith, nat_tests)
+    by false e = tt
+address_word (negsuc a) place range = tt
+
+moves_word : (shift : Shift) (v : Value) (k : ℕ) (checked : Bool)
     → GivesWord (if checked then moves_checked shift v k else plain (applied (if shift.back then Sub else Add) v.number (applied Mul shift.size k)))
-moves_word shift v k false e = shift_word shift.back v.number (applied Mul shift.size k)
-moves_word shift v k true e = absurd cc
+moves_word shift v k false = shift_word shift.back v.number (applied Mul shift.size k)
+moves_word shift v k true = by (v.number == 0)
+  where
+    by : (zero : Bool) → GivesWord (if zero then stops Arith shift.at else given (at_address (as_address (moved_exactly shift v.number (exact shift.index k))) shift.at) (λ a. Ok (record { number = a; range = v.range })))
+    by true = tt
+    by false = address_word (moved_exactly shift v.number (exact shift.index k)) shift.at v.range
 
 computed_word : (o : Operation) (s : Bool) (a b : ℕ) → a < 2 ^ 32 → b < 2 ^ 32 → computed o s a b < 2 ^ 32
 computed_word operation.Le s a b h k = flag_word _
@@ -246,13 +259,11 @@ module _ (n : ℕ) (s : Store) (loads_word : (w : Width) (a m : ℕ) → loaded 
   evaluated_word (source.Address bytes access p i) h =
       accessed_word access (evaluated s p) (evaluated s i) (λ a. spanned (place_in a access.offset) bytes) (λ a. omega arith)
   evaluated_word (source.Moved shift p i) h =
-      let unchecked = h.0 in
       both_word (evaluated s p) (evaluated s i) (λ v k. moves shift v k.number) (evaluated_word p h.1) (evaluated_word i h.2)
-      (λ v k x y. moves_word shift v k.number shift.checked unchecked.0)
+      (λ v k x y. moves_word shift v k.number shift.checked)
   evaluated_word (source.Added shift i p) h =
-      let unchecked = h.0 in
       both_word (evaluated s i) (evaluated s p) (λ k v. moves shift v k.number) (evaluated_word i h.1) (evaluated_word p h.2)
-      (λ k v x y. moves_word shift v k.number shift.checked unchecked.0)
+      (λ k v x y. moves_word shift v k.number shift.checked)
   evaluated_word (source.Binary o signs at a b) h =
       both_word (evaluated s a) (evaluated s b) (λ x y. operates o signs at x.number y.number) (evaluated_word a h.1) (evaluated_word b h.2)
       (λ v w x y. operates_word o signs at v.number w.number x y)

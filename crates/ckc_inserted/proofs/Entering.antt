@@ -39,7 +39,7 @@ use Rattle.ckc_checks.specs.Inserted.{low_byte, statements, result_in, result_ke
 use Rattle.ckc_inserted.proofs.Running.{machine, at, by_set, step_by, halt_by}
 use Rattle.ckc_inserted.proofs.Values.{Agree, low_value}
 use Rattle.ckc_inserted.proofs.Bounded.{Gives, reads_number, AreSmall}
-use Rattle.ckc_inserted.proofs.Exprs.{written_same}
+use Rattle.ckc_inserted.proofs.Counts.{written_same}
 use Rattle.ckc_inserted.proofs.Relation.{Stands, SameCaller, SameCallers, SameWorld, Related}
 use Rattle.ckc_inserted.proofs.Writing.{written_other, Ready, same_state, Matches, Written, then_written, stores_same, set_local}
 

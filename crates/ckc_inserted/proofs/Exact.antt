@@ -13,6 +13,7 @@ use Rattle.ckc_base.specs.Words.{signed, word_of, flag, applied}
 use Rattle.ckc_source.specs.declared.expr.Integer.{Integer}
 use Rattle.ckc_source.specs.declared.expr.Integer.TheVariants as integer
 use Rattle.ckc_source.specs.Words.{exact, as_address}
+use Rattle.ckc_checks.specs.Inserted.{reads_signed}
 
 -- forward by a product that is not negative
 ahead_carries : (v p : ℕ) → v < 2 ^ 32 → p ≤ 18446744065119617025 → (carry : Bool) → nat_lt ((v + p % 2 ^ 32) % 2 ^ 32) v ≡ carry
@@ -47,10 +48,10 @@ product_small a b h k = let p : a * b ≤ 4294967295 * 4294967295 = product_belo
 half_product : (a b : ℕ) → a < 2 ^ 31 → b ≤ 2 ^ 31 → a * b ≤ 4611686018427387904
 half_product a b h k = let p : a * b ≤ 2147483648 * 2147483648 = product_below a b 2147483648 (omega arith) (omega arith) in omega arith
 
-low_signed : (i : ℕ) → i < 2 ^ 31 → signed i ≡ pos i
+pub low_signed : (i : ℕ) → i < 2 ^ 31 → signed i ≡ pos i
 low_signed i h = grind (arith, ints)
 
-high_signed : (i : ℕ) → 2 ^ 31 ≤ i → i < 2 ^ 32 → signed i ≡ negsuc (4294967295 - i)
+pub high_signed : (i : ℕ) → 2 ^ 31 ≤ i → i < 2 ^ 32 → signed i ≡ negsuc (4294967295 - i)
 high_signed i h k = grind (arith, ints)
 
 shifted_pos : (n : ℕ) → n / 2 ^ 32 < 2 ^ 32 → word_of (int_shr (pos n) 32) ≡ n / 2 ^ 32
@@ -146,10 +147,6 @@ falls_back v q r size h k one e =
     ∙ chosen (nat_lt (v + q) (2 ^ 32)) (borrows (2 ^ 32 - 1 - (q - 1) / 2 ^ 32) v sum) (v + q) sum (back_carries v q r size h k one e (nat_lt v sum) refl) (sum_back_negative v q r size h e)
 
 -- ---- products of words
-
-abbrev pub reads_signed : Integer → Bool
-reads_signed integer.Int = true
-reads_signed _ = false
 
 negative_part : (size i : ℕ) → 2 ^ 31 ≤ i → i < 2 ^ 32 → size * i + size * suc (4294967295 - i) ≡ size * 2 ^ 32
 negative_part size i h k =

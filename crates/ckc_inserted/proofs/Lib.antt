@@ -5,6 +5,11 @@ pub mod Bounded
 pub mod Single
 pub mod Exact
 pub mod Values
+pub mod True
+pub mod Ends
+pub mod Ranges
+pub mod Counts
+pub mod Coming
 pub mod Exprs
 pub mod Aiming
 pub mod Relation

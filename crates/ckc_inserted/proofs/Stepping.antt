@@ -18,7 +18,7 @@ use Rattle.ckc_core.specs.Meaning as C
 use Rattle.ckc_checks.specs.Compilable.{IsCompilableFunction, expr_nodes}
 use Rattle.ckc_checks.specs.Inserted.{operand, statements}
 use Rattle.ckc_inserted.proofs.Running.{machine, at, by_if, by_end, by_loop, step_by}
-use Rattle.ckc_inserted.proofs.Exprs.{operand_nodes}
+use Rattle.ckc_inserted.proofs.Counts.{operand_nodes}
 use Rattle.ckc_inserted.proofs.Relation.{turn_code, Stands}
 use Rattle.ckc_inserted.proofs.Writing.{same_state, first_matched}
 use Rattle.ckc_inserted.proofs.Acting.{core_of, Meets, IsReady, most_of, lands, uses, call_meets, if_meets, check_meets, return_meets}

@@ -152,7 +152,7 @@ module _ (locals : Values) (memory : Memory) where
           h ∙ ap Some (sym one ∙ ap (λ n. applied binary.Mul n k) (one_of size z))
       by false z = ap (λ o. both (applied binary.Mul) (Some size) o) h
 
-  zero_value : (e : Expr) → is_zero e ≡ true → value e ≡ Some 0
+  pub zero_value : (e : Expr) → is_zero e ≡ true → value e ≡ Some 0
   zero_value (Const n) z = ap Some (sym (zero_of n z))
   zero_value e z = absurd cc
 
@@ -160,7 +160,7 @@ module _ (locals : Values) (memory : Memory) where
   moved_by_none true p h = omega arith
   moved_by_none false p h = omega arith
 
-  none_moved : (back : Bool) (p size : ℕ) → p < 2 ^ 32 → applied (if back then binary.Sub else binary.Add) p (applied binary.Mul size 0) ≡ p
+  pub none_moved : (back : Bool) (p size : ℕ) → p < 2 ^ 32 → applied (if back then binary.Sub else binary.Add) p (applied binary.Mul size 0) ≡ p
   none_moved back p size h =
       ap (λ n. applied (if back then binary.Sub else binary.Add) p (n % 2 ^ 32)) (none_times size) ∙ moved_by_none back p h
 
@@ -260,17 +260,17 @@ direct_value n s memory values (source.Address bytes access p i) sees agree h d 
     (direct_value n s memory values p sees agree h.1 q.0) (direct_value n s memory values i sees agree h.2 q.1) (word_seen n s memory sees p h.1) (word_seen n s memory sees i h.2)
     (λ x e. e)
 direct_value n s memory values (source.Moved shift p i) sees agree h d =
-    let q = and_true (is_direct p) (is_direct i) d in
-    let unchecked = h.0 in
+    let u = and_true (not shift.checked) (is_direct p && is_direct i) d in
+    let q = and_true (is_direct p) (is_direct i) u.1 in
     both_values values memory (direct p) (direct i) (shifted shift.back shift.size (direct p) (direct i)) (evaluated s p) (evaluated s i) (λ v k. moves shift v k.number)
     (direct_value n s memory values p sees agree h.1 q.0) (direct_value n s memory values i sees agree h.2 q.1) (word_seen n s memory sees p h.1) (word_seen n s memory sees i h.2)
-    (λ v k x y small few. moves_value values memory shift v k.number (shifted shift.back shift.size (direct p) (direct i)) shift.checked unchecked.0 (shifted_value values memory shift.back shift.size (direct p) (direct i) v.number k.number x y small few))
+    (λ v k x y small few. moves_value values memory shift v k.number (shifted shift.back shift.size (direct p) (direct i)) shift.checked (not_true shift.checked u.0) (shifted_value values memory shift.back shift.size (direct p) (direct i) v.number k.number x y small few))
 direct_value n s memory values (source.Added shift i p) sees agree h d =
-    let q = and_true (is_direct i) (is_direct p) d in
-    let unchecked = h.0 in
+    let u = and_true (not shift.checked) (is_direct i && is_direct p) d in
+    let q = and_true (is_direct i) (is_direct p) u.1 in
     both_values values memory (direct i) (direct p) (shifted shift.back shift.size (direct p) (direct i)) (evaluated s i) (evaluated s p) (λ k v. moves shift v k.number)
     (direct_value n s memory values i sees agree h.1 q.0) (direct_value n s memory values p sees agree h.2 q.1) (word_seen n s memory sees i h.1) (word_seen n s memory sees p h.2)
-    (λ k v y x few small. moves_value values memory shift v k.number (shifted shift.back shift.size (direct p) (direct i)) shift.checked unchecked.0 (shifted_value values memory shift.back shift.size (direct p) (direct i) v.number k.number x y small few))
+    (λ k v y x few small. moves_value values memory shift v k.number (shifted shift.back shift.size (direct p) (direct i)) shift.checked (not_true shift.checked u.0) (shifted_value values memory shift.back shift.size (direct p) (direct i) v.number k.number x y small few))
 direct_value n s memory values (source.Binary operation is_signed place a b) sees agree h d =
     let p = and_true (not (divides operation) && is_direct a) (is_direct b) d in
     let q = and_true (not (divides operation)) (is_direct a) p.0 in

@@ -1,7 +1,7 @@
 //! How deep expressions are and how many nodes there are, up to 2^64 - 1.
 ghost use Rattle.std.specs.Prelude.{◌≡◌, ◌+◌, map};
 ghost use Rattle.ckc_source.specs.Code.{expr_of, target_of, right_of, code_of};
-ghost use Rattle.ckc_checks.specs.Compilable.{depth, access_nodes, expr_nodes, exprs_nodes, target_nodes, right_nodes, code_nodes};
+ghost use Rattle.ckc_checks.specs.Compilable.{depth, element_nodes, access_nodes, shift_nodes, index_nodes, expr_nodes, exprs_nodes, target_nodes, right_nodes, code_nodes};
 ghost use Rattle.ckc_integer.specs.Capped.{capped};
 
 use ckc_source::{ExprTree, RightTree, StmtTree, TargetTree, Through};
@@ -39,17 +39,79 @@ pub fn depth(e: &ExprTree) -> u64
     }
 }
 
-/// How many nodes an access counts for, beside its pointer and its index.
-fn access_nodes(through: Through) -> u64
-    ensures { result ≡ access_nodes through }
+/// How many nodes an access counts for that is judged by the range of its pointer.
+fn element_nodes(i: &ExprTree) -> u64
+    ensures { result ≡ element_nodes (expr_of i.now) }
+{
+    match i {
+        ExprTree::Number(n) => { if *n == 0 { 4 } else { 6 } }
+        ExprTree::Local(_)
+        | ExprTree::Limited(_, _)
+        | ExprTree::Array(_, _)
+        | ExprTree::Load(_, _, _, _)
+        | ExprTree::Member(_, _, _, _, _)
+        | ExprTree::Address(_, _, _, _)
+        | ExprTree::Moved(_, _, _)
+        | ExprTree::Added(_, _, _)
+        | ExprTree::Binary(_, _, _, _, _)
+        | ExprTree::And(_, _)
+        | ExprTree::Or(_, _)
+        | ExprTree::Choice(_, _, _)
+        | ExprTree::Narrow(_)
+        | ExprTree::Bare(_)
+        | ExprTree::Tested(_, _, _, _, _)
+        | ExprTree::Trusted(_, _, _, _) => 6,
+    }
+}
+
+/// How many nodes an access at an index counts for, beside its pointer and its index.
+fn access_nodes(through: Through, i: &ExprTree) -> u64
+    ensures { result ≡ access_nodes through (expr_of i.now) }
 {
     match through {
         Through::Named => 1,
-        Through::Raw | Through::One | Through::Array | Through::Terminated => 2,
+        Through::Raw | Through::One => 2,
+        Through::Array | Through::Terminated => element_nodes(i),
+    }
+}
+
+/// How many nodes pointer arithmetic counts for, by whether it is checked.
+fn shift_nodes(checked: bool) -> u64
+    ensures { result ≡ shift_nodes checked }
+{
+    match checked {
+        true => 3,
+        false => 1,
+    }
+}
+
+/// How many nodes an index counts for, which has so many: a number counts for nothing.
+fn index_nodes(i: &ExprTree, count: u64) -> u64
+    ensures { result ≡ index_nodes (expr_of i.now) count }
+{
+    match i {
+        ExprTree::Number(_) => 0,
+        ExprTree::Local(_)
+        | ExprTree::Limited(_, _)
+        | ExprTree::Array(_, _)
+        | ExprTree::Load(_, _, _, _)
+        | ExprTree::Member(_, _, _, _, _)
+        | ExprTree::Address(_, _, _, _)
+        | ExprTree::Moved(_, _, _)
+        | ExprTree::Added(_, _, _)
+        | ExprTree::Binary(_, _, _, _, _)
+        | ExprTree::And(_, _)
+        | ExprTree::Or(_, _)
+        | ExprTree::Choice(_, _, _)
+        | ExprTree::Narrow(_)
+        | ExprTree::Bare(_)
+        | ExprTree::Tested(_, _, _, _, _)
+        | ExprTree::Trusted(_, _, _, _) => count,
     }
 }
 
 /// How many nodes an expression has.
+#[tactic(auto, using(crate::proofs::Indexes::index_capped))]
 fn expr_nodes(e: &ExprTree) -> u64
     ensures { result ≡ capped (expr_nodes (expr_of e.now)) }
 {
@@ -58,13 +120,17 @@ fn expr_nodes(e: &ExprTree) -> u64
         | ExprTree::Member(_, _, access, a, b)
         | ExprTree::Address(_, access, a, b) => {
             let left = expr_nodes(a.get());
+            let right = index_nodes(b.get(), expr_nodes(b.get()));
+            left.saturating_add(right)
+                .saturating_add(access_nodes(access.through, b.get()))
+        }
+        ExprTree::Moved(shift, a, b) | ExprTree::Added(shift, a, b) => {
+            let left = expr_nodes(a.get());
             let right = expr_nodes(b.get());
             left.saturating_add(right)
-                .saturating_add(access_nodes(access.through))
+                .saturating_add(shift_nodes(shift.checked))
         }
-        ExprTree::Moved(_, a, b)
-        | ExprTree::Added(_, a, b)
-        | ExprTree::Tested(_, _, _, a, b)
+        ExprTree::Tested(_, _, _, a, b)
         | ExprTree::Trusted(_, _, a, b)
         | ExprTree::Binary(_, _, _, a, b)
         | ExprTree::And(a, b)
@@ -115,16 +181,17 @@ fn right_nodes(right: &RightTree) -> u64
 }
 
 /// How many nodes a target has.
+#[tactic(auto, using(crate::proofs::Indexes::index_capped))]
 fn target_nodes(target: &TargetTree) -> u64
     ensures { result ≡ capped (target_nodes (target_of target.now)) }
 {
     match target {
         TargetTree::Memory(_, access, p, i) => {
             let pointer = expr_nodes(p.get());
-            let index = expr_nodes(i.get());
+            let index = index_nodes(i.get(), expr_nodes(i.get()));
             pointer
                 .saturating_add(index)
-                .saturating_add(access_nodes(access.through))
+                .saturating_add(access_nodes(access.through, i.get()))
         }
         TargetTree::Nothing | TargetTree::Local(_, _) => 0,
     }

@@ -1,8 +1,8 @@
 //! Expressions of programs that can be compiled.
-ghost use Rattle.std.specs.Prelude.{◌↔◌, ◌<◌, ◌^◌, IsTrue};
+ghost use Rattle.std.specs.Prelude.{◌↔◌, ◌+◌, ◌≤◌, ◌<◌, ◌^◌, IsTrue};
 ghost use Rattle.ckc_core.specs.WellFormed.{IsPlace};
 ghost use Rattle.ckc_source.specs.Code.{expr_of, target_of, right_of};
-ghost use Rattle.ckc_checks.specs.Compilable.{IsOwn, IsNone, IsZero, IsJudged, IsAccess, IsShift, IsOne, IsFixedEnd, AreSingle, IsSingleCount, IsSingle, IsCompilableExpr, IsCompilablePart, IsCompilableTarget, IsCompilableRight, IsCompilableKept};
+ghost use Rattle.ckc_checks.specs.Compilable.{IsOwn, IsNone, IsZero, IsBase, IsVariable, IsSmall, IsEnd, AreEnds, IsNamed, IsStatic, EndsLow, IsFixed, IsRanged, IsJudged, IsWritable, IsAccess, IsChecked, IsShift, IsOne, IsFixedEnd, AreSingle, IsSingleCount, IsSingle, IsCompilableExpr, IsCompilablePart, IsCompilableTarget, IsCompilableRight, IsCompilableKept};
 
 use crate::counts::depth;
 use ckc_base::Pos;
@@ -141,30 +141,202 @@ fn is_single(size: u32, e: &ExprTree) -> bool
     }
 }
 
-/// Whether an access at an index is judged in a way that can be compiled.
-fn is_judged(through: Through, i: &ExprTree) -> bool
-    ensures { IsTrue result ↔ IsJudged through (expr_of i.now) }
+/// Whether a sum is a word.
+fn is_sum(a: u32, b: u32) -> bool
+    ensures { IsTrue result ↔ (a + b < 2 ^ 32) }
+{
+    u64::from(a) + u64::from(b) <= 0xFFFF_FFFF
+}
+
+fn is_base(base: Base, locals: u32) -> bool
+    ensures { IsTrue result ↔ IsBase locals base }
+{
+    match base {
+        Base::Own => true,
+        Base::Local(x) => x < locals,
+        Base::Fixed(a) => is_word(a),
+    }
+}
+
+fn is_variable(variable: Option<Variable>, locals: u32) -> bool
+    ensures { IsTrue result ↔ IsVariable locals variable }
+{
+    match variable {
+        None => true,
+        Some(x) => x.local < locals,
+    }
+}
+
+/// Each number of limits is one of 32 bits.
+fn is_small(n: i32) -> bool
+    ensures { IsTrue result ↔ IsSmall n }
+{
+    i32::MIN <= n && n <= i32::MAX
+}
+
+/// Whether an end of limits can be computed.
+fn is_end(e: End, locals: u32) -> bool
+    ensures { IsTrue result ↔ IsEnd locals e }
+{
+    is_base(e.base, locals) && is_variable(e.variable, locals) && is_small(e.add)
+}
+
+/// Whether both ends of limits can be computed.
+fn are_ends(limits: &Limits, locals: u32) -> bool
+    ensures { IsTrue result ↔ AreEnds locals limits.now }
+{
+    is_word(limits.to.size) && is_end(limits.lower, locals) && is_end(limits.upper, locals)
+}
+
+fn is_named(through: Through) -> bool
+    ensures { IsTrue result ↔ IsNamed through }
+{
+    match through {
+        Through::Named => true,
+        Through::Raw | Through::One | Through::Array | Through::Terminated => false,
+    }
+}
+
+/// Whether an access goes to a static object.
+fn is_static(access: Access, p: &ExprTree) -> bool
+    ensures { IsTrue result ↔ IsStatic access (expr_of p.now) }
+{
+    match p {
+        ExprTree::Number(_) => is_named(access.through),
+        ExprTree::Local(_)
+        | ExprTree::Limited(_, _)
+        | ExprTree::Array(_, _)
+        | ExprTree::Load(_, _, _, _)
+        | ExprTree::Member(_, _, _, _, _)
+        | ExprTree::Address(_, _, _, _)
+        | ExprTree::Moved(_, _, _)
+        | ExprTree::Added(_, _, _)
+        | ExprTree::Binary(_, _, _, _, _)
+        | ExprTree::And(_, _)
+        | ExprTree::Or(_, _)
+        | ExprTree::Choice(_, _, _)
+        | ExprTree::Narrow(_)
+        | ExprTree::Bare(_)
+        | ExprTree::Tested(_, _, _, _, _)
+        | ExprTree::Trusted(_, _, _, _) => false,
+    }
+}
+
+/// Whether so many bytes of a static object end at an address.
+fn ends_low(access: Access, bytes: u32, p: &ExprTree) -> bool
+    ensures { IsTrue result ↔ EndsLow access bytes (expr_of p.now) }
+{
+    match p {
+        ExprTree::Number(a) => is_sum(a.wrapping_add(access.offset), bytes),
+        ExprTree::Local(_)
+        | ExprTree::Limited(_, _)
+        | ExprTree::Array(_, _)
+        | ExprTree::Load(_, _, _, _)
+        | ExprTree::Member(_, _, _, _, _)
+        | ExprTree::Address(_, _, _, _)
+        | ExprTree::Moved(_, _, _)
+        | ExprTree::Added(_, _, _)
+        | ExprTree::Binary(_, _, _, _, _)
+        | ExprTree::And(_, _)
+        | ExprTree::Or(_, _)
+        | ExprTree::Choice(_, _, _)
+        | ExprTree::Narrow(_)
+        | ExprTree::Bare(_)
+        | ExprTree::Tested(_, _, _, _, _)
+        | ExprTree::Trusted(_, _, _, _) => false,
+    }
+}
+
+fn is_fixed(count: Count) -> bool
+    ensures { IsTrue result ↔ IsFixed count }
+{
+    match count {
+        Count::Fixed(n) => is_small(n),
+        Count::Member(_, _, _) => false,
+    }
+}
+
+/// Whether the range of a pointer can be tested.
+fn is_ranged(p: &ExprTree, locals: u32) -> bool
+    ensures { IsTrue result ↔ IsRanged locals (expr_of p.now) }
+{
+    match p {
+        ExprTree::Limited(_, limits) => are_ends(limits.get(), locals),
+        ExprTree::Array(at, bytes) => is_sum(*at, *bytes),
+        ExprTree::Member(to, count, access, p, _) => {
+            is_static(*access, p.get()) && is_word(to.get().size) && is_fixed(*count)
+        }
+        ExprTree::Address(bytes, access, p, _) => {
+            is_static(*access, p.get()) && ends_low(*access, *bytes, p.get())
+        }
+        ExprTree::Moved(shift, p, _) | ExprTree::Added(shift, _, p) => {
+            shift.checked && is_ranged(p.get(), locals)
+        }
+        ExprTree::Number(_)
+        | ExprTree::Local(_)
+        | ExprTree::Load(_, _, _, _)
+        | ExprTree::Binary(_, _, _, _, _)
+        | ExprTree::And(_, _)
+        | ExprTree::Or(_, _)
+        | ExprTree::Choice(_, _, _)
+        | ExprTree::Narrow(_)
+        | ExprTree::Bare(_)
+        | ExprTree::Tested(_, _, _, _, _)
+        | ExprTree::Trusted(_, _, _, _) => false,
+    }
+}
+
+/// Whether elements have a size of which the places can be tested.
+fn is_size(size: u32) -> bool
+    ensures { IsTrue result ↔ ((1 ≤ size) × (size < 2 ^ 31)) }
+{
+    1 <= size && size < 0x8000_0000
+}
+
+/// Whether an access to elements of a size is judged in a way that can be compiled.
+fn is_judged(through: Through, size: u32, p: &ExprTree, i: &ExprTree, locals: u32) -> bool
+    ensures { IsTrue result ↔ IsJudged locals through size (expr_of p.now) (expr_of i.now) }
 {
     match through {
         Through::Named | Through::Raw => true,
         Through::One => is_zero(i),
-        Through::Array | Through::Terminated => false,
+        Through::Array | Through::Terminated => is_size(size) && is_ranged(p, locals),
     }
 }
 
-fn is_access(access: Access, i: &ExprTree) -> bool
-    ensures { IsTrue result ↔ IsAccess access (expr_of i.now) }
+/// Whether something may be written through a pointer.
+fn is_writable(through: Through) -> bool
+    ensures { IsTrue result ↔ IsWritable through }
+{
+    match through {
+        Through::Terminated => false,
+        Through::Named | Through::Raw | Through::One | Through::Array => true,
+    }
+}
+
+fn is_access(access: Access, p: &ExprTree, i: &ExprTree, locals: u32) -> bool
+    ensures { IsTrue result ↔ IsAccess locals access (expr_of p.now) (expr_of i.now) }
 {
     is_place(access.at)
         && is_word(access.size)
         && is_word(access.offset)
-        && is_judged(access.through, i)
+        && is_judged(access.through, access.size, p, i, locals)
+}
+
+/// Whether pointer arithmetic that is checked, where the flag says so, can be tested.
+fn is_checked(checked: bool, shift: Shift) -> bool
+    ensures { IsTrue result ↔ IsChecked checked shift }
+{
+    match checked {
+        true => is_place(shift.at) && is_size(shift.size),
+        false => true,
+    }
 }
 
 fn is_shift(shift: Shift) -> bool
     ensures { IsTrue result ↔ IsShift shift }
 {
-    !shift.checked && is_word(shift.size)
+    is_word(shift.size) && is_checked(shift.checked, shift)
 }
 
 /// Whether an expression can be compiled, over so many locals.
@@ -177,7 +349,9 @@ fn is_expr(e: &ExprTree, locals: u32) -> bool
         ExprTree::Load(_, access, p, i)
         | ExprTree::Member(_, _, access, p, i)
         | ExprTree::Address(_, access, p, i) => {
-            is_access(*access, i.get()) && is_expr(p.get(), locals) && is_expr(i.get(), locals)
+            is_access(*access, p.get(), i.get(), locals)
+                && is_expr(p.get(), locals)
+                && is_expr(i.get(), locals)
         }
         ExprTree::Moved(shift, a, b) | ExprTree::Added(shift, a, b) => {
             is_shift(*shift) && is_expr(a.get(), locals) && is_expr(b.get(), locals)
@@ -213,7 +387,10 @@ pub fn is_target(target: &TargetTree, locals: u32) -> bool
         TargetTree::Nothing => true,
         TargetTree::Local(x, _) => *x < locals,
         TargetTree::Memory(_, access, p, i) => {
-            is_access(*access, i.get()) && is_part(p.get(), locals) && is_part(i.get(), locals)
+            is_access(*access, p.get(), i.get(), locals)
+                && is_part(p.get(), locals)
+                && is_part(i.get(), locals)
+                && is_writable(access.through)
         }
     }
 }

@@ -160,7 +160,8 @@ fn judge_all(
     es: &[Expr<Name, Note>],
     first_fresh: u32,
 ) -> Result<Seq<Expr<Name, Note>>, Fault>
-    ensures { AnswersOutcome result (all_judged (map (view frame.now) es.now) first_fresh (state at.now)) }
+    ensures { AnswersOutcome result
+        (all_judged (map (view frame.now) es.now) first_fresh (state at.now)) }
 {
     let mut all = Seq::new(alloc);
     let mut next = first_fresh;

@@ -91,7 +91,8 @@ fn access_fault(
     pos: Pos,
     first_fresh: u32,
 ) -> Result<Option<Refusal>, AllocError>
-    ensures { IfOk result (λ r. r ≡ access_fault (view frame.now e.now) pos first_fresh (state at.now)) }
+    ensures { IfOk result
+        (λ r. r ≡ access_fault (view frame.now e.now) pos first_fresh (state at.now)) }
 {
     if !is_counted(&e.note.ctype) {
         return Ok(None);

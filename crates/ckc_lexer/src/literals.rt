@@ -70,7 +70,8 @@ fn text_len(text: &[u8]) -> Option<usize>
     requires some { 0 < length text.now }
     requires quote { slice_index text.now 0 ≡ 34 }
     ensures { MatchOption result
-        ((m : ℕ) (values : List ℕ) → m ≤ length text.now → IsLiteral 34 (take m text.now) values → ⊥)
+        ((m : ℕ) (values : List ℕ) → m ≤ length text.now → IsLiteral 34 (take m text.now) values
+        → ⊥)
         (λ n. (values : List ℕ) × IsOnlyLiteral 34 text.now n values) }
 {
     let mut len = 1;

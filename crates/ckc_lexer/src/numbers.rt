@@ -75,8 +75,10 @@ fn value_of(radix: u64, digits: &[u8]) -> Option<u32>
     requires low { 0 < radix }
     requires high { radix ≤ 16 }
     ensures { MatchOption result
-        (0 < length digits.now → AllBytes (is_digit_in radix) digits.now → value_in radix digits.now < 4294967296 → ⊥)
-        (λ n. (0 < length digits.now) × AllBytes (is_digit_in radix) digits.now × (n ≡ value_in radix digits.now)) }
+        (0 < length digits.now → AllBytes (is_digit_in radix) digits.now
+        → value_in radix digits.now < 4294967296 → ⊥)
+        (λ n. (0 < length digits.now) × AllBytes (is_digit_in radix) digits.now
+        × (n ≡ value_in radix digits.now)) }
 {
     if digits.is_empty() {
         return None;

@@ -19,6 +19,7 @@ pub fn others_hold()
 
 /// A shifted fact is true where `x` has grown by `c`.
 pub fn shifted_hold()
-    ensures { (f : Fact) (x : ℕ) (c : ℤ) (before after : ℕ → ℤ) → ((v : ℕ) → v ≢ x → after v ≡ before v) →
+    ensures { (f : Fact) (x : ℕ) (c : ℤ) (before after : ℕ → ℤ)
+        → ((v : ℕ) → v ≢ x → after v ≡ before v) →
         after x ≡ before x +ℤ c → Satisfies before f → Satisfies after (shifted x c f) }
 {}

@@ -19,7 +19,8 @@ const FAR: u8 = 26;
 /// The parts of labelled code: each line at the sum of the sizes before it, with the distance to its label.
 pub fn assemble(alloc: Global, l: &Labelled) -> Result<Parts, AllocError>
     requires { CanAssemble l.now.lines l.now.start l.now.initial }
-    ensures { IfOk result (λ p. Assembled l.now.lines l.now.start l.now.initial p.entry p.code p.initial) }
+    ensures { IfOk result
+        (λ p. Assembled l.now.lines l.now.start l.now.initial p.entry p.code p.initial) }
 {
     let lines = l.lines.as_slice();
     let places = places_of(alloc, lines)?;
@@ -39,8 +40,11 @@ fn code_of(
     places: &IndexMap<u32, u32>,
 ) -> Result<Vec<u8>, AllocError>
     requires fits { sum_by size_of lines.now ≤ 16773120 }
-    requires each { (k : ℕ) (line : Line) → slice_get lines.now k ≡ Some line → CanEncode (λ label. get nat_eq places.now label) (address_of lines.now k) line }
-    ensures { IfOk result (λ code. IsCodeBelow (λ label. get nat_eq places.now label) lines.now (length lines.now) code.items) }
+    requires each { (k : ℕ) (line : Line) → slice_get lines.now k ≡ Some line
+        → CanEncode (λ label. get nat_eq places.now label) (address_of lines.now k) line }
+    ensures { IfOk result
+        (λ code. IsCodeBelow (λ label. get nat_eq places.now label) lines.now (length lines.now)
+        code.items) }
 {
     let mut code = Vec::new(alloc);
     let mut address = CODE;
@@ -59,7 +63,9 @@ fn put_line(
 ) -> Result<(), AllocError>
     requires low { address < 2 ^ 25 }
     requires can { CanEncode (λ label. get nat_eq places.now label) address line }
-    ensures { OnOk result ((bytes : List ℕ) × (code.new.items ≡ code.old.items ++ bytes) × Encodes (λ label. get nat_eq places.now label) address line bytes) }
+    ensures { OnOk result
+        ((bytes : List ℕ) × (code.new.items ≡ code.old.items ++ bytes)
+        × Encodes (λ label. get nat_eq places.now label) address line bytes) }
 {
     match line {
         Line::Label(_) => Ok(()),
@@ -87,7 +93,9 @@ fn offset_to(address: u32, target: u32) -> i32
 /// AUIPC adds the upper 20 bits of the distance, rounded to the nearest; JALR the rest, from -2048 to 2047.
 fn put_far(code: &mut Vec<u8>, rd: u8, address: u32, target: u32) -> Result<(), AllocError>
     requires { rd < 32 }
-    ensures { OnOk result ((bytes : List ℕ) × (code.new.items ≡ code.old.items ++ bytes) × IsFar rd address target bytes × (length bytes ≡ 8)) }
+    ensures { OnOk result
+        ((bytes : List ℕ) × (code.new.items ≡ code.old.items ++ bytes)
+        × IsFar rd address target bytes × (length bytes ≡ 8)) }
 {
     let rounded = target.wrapping_sub(address).wrapping_add(0x800);
     put(code, &Instr::Auipc(FAR, rounded / 0x1000))?;
@@ -100,7 +108,9 @@ fn put_far(code: &mut Vec<u8>, rd: u8, address: u32, target: u32) -> Result<(), 
 
 fn put(code: &mut Vec<u8>, i: &Instr) -> Result<(), AllocError>
     requires { InRange i.now }
-    ensures { OnOk result ((bytes : List ℕ) × (code.new.items ≡ code.old.items ++ bytes) × IsWord i.now bytes × (length bytes ≡ 4)) }
+    ensures { OnOk result
+        ((bytes : List ℕ) × (code.new.items ≡ code.old.items ++ bytes) × IsWord i.now bytes
+        × (length bytes ≡ 4)) }
 {
     code.extend_from_slice(&encode(i).to_le_bytes())?;
     Ok(())

@@ -13,7 +13,8 @@ pub const CODE: u32 = 0x1000;
 /// The address of each label.
 pub fn places_of(alloc: Global, lines: &[Line]) -> Result<IndexMap<u32, u32>, AllocError>
     requires { sum_by size_of lines.now ≤ 16773120 }
-    ensures { IfOk result (λ m. KnowsPlaces (λ label. get nat_eq m label) lines.now (length lines.now)) }
+    ensures { IfOk result
+        (λ m. KnowsPlaces (λ label. get nat_eq m label) lines.now (length lines.now)) }
 {
     let mut places = IndexMap::new(alloc);
     let mut address = CODE;

@@ -1,6 +1,6 @@
 -- What a builder has grows at its end alone.
-use Rattle.std.proofs.Common.{◌≡◌, ℕ, ◌+◌, List, [], ◌∷◌, ◌++◌, length, length-append, append_assoc, append-nil, refl, sym, ◌∙◌, ap, arith}
-use Rattle.std.specs.Prelude.{false, Option, Some, None}
+use Rattle.std.proofs.Common.{◌≡◌, ℕ, ◌+◌, ◌≤◌, ◌<◌, List, [], ◌∷◌, ◌++◌, length, length-append, append_assoc, append-nil, refl, sym, ◌∙◌, ap, arith}
+use Rattle.std.specs.Prelude.{Bool, true, false, not, if◌then◌else◌, Option, Some, None, IfSome}
 use Rattle.ckc_base.specs.Follows.{IsPrefix}
 use Rattle.ckc_base.proofs.Following.{prefix_trans}
 use Rattle.ckc_core.specs.Code.{Expr, Const, Local, Load, Bin, High, Code, End, Set, Store, Check, Call, Get, Put, Alloc, If, Loop, Break, Continue, Return}
@@ -8,10 +8,9 @@ use Rattle.ckc_tac.specs.declared.code.Operand.{Operand}
 use Rattle.ckc_tac.specs.declared.code.TacOp.{TacOp}
 use Rattle.ckc_tac.specs.declared.code.TacOp.TheVariants as op
 use Rattle.ckc_tac.specs.declared.code.TacEnd.{TacEnd}
-use Rattle.ckc_tac.specs.declared.code.TacEnd.TheVariants as ends
 use Rattle.ckc_lower.specs.declared.builder.Builder.{Builder}
 use Rattle.ckc_lower.specs.declared.builder.Targets.{Targets}
-use Rattle.ckc_lower.specs.Built.{free_from, target_of, operand_of, registers_of, with_op, with_temporary, with_value, with_values, block_count, with_end, stored, used, forked, join_of, entered, step_at, targets_of, built, bin_of, free_past, with_register, Test, test_of, branch_of}
+use Rattle.ckc_lower.specs.Built.{free_from, target_of, operand_of, registers_of, with_op, with_temporary, with_value, with_values, passes, goal, block_count, body_count, with_end, with_jump, left, stored, used, one_at, two_at, forked, join_of, entered, targets_of, out_of, step_of, built, bin_of, free_past, with_register, Test, test_of, branch_of}
 use Rattle.ckc_lower.proofs.Values.{value_ops}
 use Rattle.ckc_lower.proofs.Arguments.{register_ops, values_ops}
 
@@ -136,108 +135,224 @@ ended-blocks b end = (record { ops = b.ops; end = end } ∷ [], refl)
 pub same_blocks : (b c : Builder) → c.blocks ≡ b.blocks → IsPrefix b.blocks c.blocks
 same_blocks b c e = ([], e ∙ sym (append-nil b.blocks))
 
+pub jump-blocks : (fresh : Bool) (to : ℕ) (b : Builder) → IsPrefix b.blocks (with_jump fresh to b).blocks
+jump-blocks true to b = same_blocks b b refl
+jump-blocks false to b = ended-blocks b _
+
+left-blocks : (fresh : Bool) (exit : Option ℕ) (b : Builder) → IsPrefix b.blocks (left fresh exit b).blocks
+left-blocks fresh (Some to) b = jump-blocks fresh to b
+left-blocks fresh None b = ended-blocks b _
+
 -- the blocks that stand before stay the first ones
-pub built-blocks : (t : ℕ) (code : Code) (exit : Option ℕ) (loop : Option Targets) (b : Builder) → IsPrefix b.blocks (built t code exit loop b).blocks
-built-blocks t End (Some to) loop b = ended-blocks b _
-built-blocks t End None loop b = ended-blocks b _
-built-blocks t (Set x e rest) exit loop b =
+pub built-blocks : (t : ℕ) (fresh : Bool) (code : Code) (exit : Option ℕ) (loop : Option Targets) (b : Builder) → IsPrefix b.blocks (built t fresh code exit loop b).blocks
+built-blocks t fresh End exit loop b = left-blocks fresh exit b
+built-blocks t fresh (Set x e rest) exit loop b =
     let c = with_value e (Some x) t b in
-    prefix_trans b.blocks c.blocks (built t rest exit loop c).blocks (same_blocks b c (value-blocks e (Some x) t b)) (built-blocks t rest exit loop c)
-built-blocks t (Store width a e rest) exit loop b =
+    prefix_trans b.blocks c.blocks (built t false rest exit loop c).blocks (same_blocks b c (value-blocks e (Some x) t b)) (built-blocks t false rest exit loop c)
+built-blocks t fresh (Store width a e rest) exit loop b =
     let c = stored t a e (op.Store width) b in
-    prefix_trans b.blocks c.blocks (built t rest exit loop c).blocks (same_blocks b c (stored-blocks t a e (op.Store width) b)) (built-blocks t rest exit loop c)
-built-blocks t (Check check place e rest) exit loop b =
+    prefix_trans b.blocks c.blocks (built t false rest exit loop c).blocks (same_blocks b c (stored-blocks t a e (op.Store width) b)) (built-blocks t false rest exit loop c)
+built-blocks t fresh (Check check place e rest) exit loop b =
     let c = used t e (op.Check check place) b in
-    prefix_trans b.blocks c.blocks (built t rest exit loop c).blocks (same_blocks b c (used-blocks t e (op.Check check place) b)) (built-blocks t rest exit loop c)
-built-blocks t (Call target i es place rest) exit loop b =
+    prefix_trans b.blocks c.blocks (built t false rest exit loop c).blocks (same_blocks b c (used-blocks t e (op.Check check place) b)) (built-blocks t false rest exit loop c)
+built-blocks t fresh (Call target i es place rest) exit loop b =
     let c = with_op (with_values es t b) (op.Call target i (registers_of es t) place) in
-    prefix_trans b.blocks c.blocks (built t rest exit loop c).blocks (same_blocks b c (values-blocks es t b)) (built-blocks t rest exit loop c)
-built-blocks t (Get x rest) exit loop b = built-blocks t rest exit loop (with_op b (op.Get x))
-built-blocks t (Put e rest) exit loop b =
+    prefix_trans b.blocks c.blocks (built t false rest exit loop c).blocks (same_blocks b c (values-blocks es t b)) (built-blocks t false rest exit loop c)
+built-blocks t fresh (Get x rest) exit loop b = built-blocks t false rest exit loop (with_op b (op.Get x))
+built-blocks t fresh (Put e rest) exit loop b =
     let c = used t e op.Put b in
-    prefix_trans b.blocks c.blocks (built t rest exit loop c).blocks (same_blocks b c (used-blocks t e op.Put b)) (built-blocks t rest exit loop c)
-built-blocks t (Alloc x e size rest) exit loop b =
+    prefix_trans b.blocks c.blocks (built t false rest exit loop c).blocks (same_blocks b c (used-blocks t e op.Put b)) (built-blocks t false rest exit loop c)
+built-blocks t fresh (Alloc x e size rest) exit loop b =
     let c = used t e (λ r. op.Alloc x r size) b in
-    prefix_trans b.blocks c.blocks (built t rest exit loop c).blocks (same_blocks b c (used-blocks t e (λ r. op.Alloc x r size) b)) (built-blocks t rest exit loop c)
-built-blocks t (If e one two rest) exit loop b =
+    prefix_trans b.blocks c.blocks (built t false rest exit loop c).blocks (same_blocks b c (used-blocks t e (λ r. op.Alloc x r size) b)) (built-blocks t false rest exit loop c)
+built-blocks t fresh (If e one two rest) exit loop b =
+    let join = join_of one two rest exit loop b in
     let v = sides t (test_of e false) b in
-    let c = forked t e one two b in
-    let d = built t one (Some (join_of one two b)) loop c in
-    let f = built t two (Some (join_of one two b)) loop d in
-    let g = built t rest exit loop f in
+    let c = forked t e one two join loop b in
+    let d = built t true one (Some join) loop c in
+    let f = built t true two (Some join) loop d in
+    let g = built t true rest exit loop f in
     prefix_trans b.blocks v.blocks g.blocks (same_blocks b v (sides-blocks t (test_of e false) b))
     (prefix_trans v.blocks c.blocks g.blocks (ended-blocks v _)
-    (prefix_trans c.blocks d.blocks g.blocks (built-blocks t one (Some (join_of one two b)) loop c)
-    (prefix_trans d.blocks f.blocks g.blocks (built-blocks t two (Some (join_of one two b)) loop d) (built-blocks t rest exit loop f))))
-built-blocks t (Loop body step rest) exit loop b =
-    let c = entered b in
-    let d = built t body (Some (step_at body b)) (Some (targets_of body step b)) c in
-    let f = built t step (Some (length b.blocks + 1)) None d in
-    let g = built t rest exit loop f in
-    prefix_trans b.blocks c.blocks g.blocks (ended-blocks b _)
-    (prefix_trans c.blocks d.blocks g.blocks (built-blocks t body (Some (step_at body b)) (Some (targets_of body step b)) c)
-    (prefix_trans d.blocks f.blocks g.blocks (built-blocks t step (Some (length b.blocks + 1)) None d) (built-blocks t rest exit loop f)))
-built-blocks t (Break rest) exit loop b = ended-blocks b _
-built-blocks t (Continue rest) exit loop b = ended-blocks b _
-built-blocks t (Return e rest) exit loop b =
+    (prefix_trans c.blocks d.blocks g.blocks (built-blocks t true one (Some join) loop c)
+    (prefix_trans d.blocks f.blocks g.blocks (built-blocks t true two (Some join) loop d) (built-blocks t true rest exit loop f))))
+built-blocks t fresh (Loop body step rest) exit loop b =
+    let c = entered fresh b in
+    let head = length c.blocks in
+    let here = targets_of body step rest exit loop head in
+    let d = built t (not (passes body)) body (Some here.step) (Some here) c in
+    let f = built t true step (Some head) None d in
+    let g = built t true rest exit loop f in
+    prefix_trans b.blocks c.blocks g.blocks (jump-blocks fresh _ b)
+    (prefix_trans c.blocks d.blocks g.blocks (built-blocks t (not (passes body)) body (Some here.step) (Some here) c)
+    (prefix_trans d.blocks f.blocks g.blocks (built-blocks t true step (Some head) None d) (built-blocks t true rest exit loop f)))
+built-blocks t fresh (Break rest) exit loop b = jump-blocks fresh _ b
+built-blocks t fresh (Continue rest) exit loop b = jump-blocks fresh _ b
+built-blocks t fresh (Return e rest) exit loop b =
     let v = with_value e None t b in
-    prefix_trans b.blocks v.blocks (built t (Return e rest) exit loop b).blocks (same_blocks b v (value-blocks e None t b)) (ended-blocks v _)
+    prefix_trans b.blocks v.blocks (built t fresh (Return e rest) exit loop b).blocks (same_blocks b v (value-blocks e None t b)) (ended-blocks v _)
+
+-- a fresh block has no operations
+abbrev pub IsEmptyWhere : (fresh : Bool) → Builder → Type 0
+IsEmptyWhere true b = b.ops ≡ []
+IsEmptyWhere false b = Unit {0}
+
+pub jump-ops : (fresh : Bool) (to : ℕ) (b : Builder) → IsEmptyWhere fresh b → (with_jump fresh to b).ops ≡ []
+jump-ops true to b h = h
+jump-ops false to b h = refl
+
+left-ops : (fresh : Bool) (exit : Option ℕ) (b : Builder) → IsEmptyWhere fresh b → (left fresh exit b).ops ≡ []
+left-ops fresh (Some to) b h = jump-ops fresh to b h
+left-ops fresh None b h = refl
+
+pub empty_where : (fresh : Bool) (b : Builder) → b.ops ≡ [] → IsEmptyWhere fresh b
+empty_where true b h = h
+empty_where false b h = tt
 
 -- behind built code a block is open that has no operations
-pub built-ops : (t : ℕ) (code : Code) (exit : Option ℕ) (loop : Option Targets) (b : Builder) → (built t code exit loop b).ops ≡ []
-built-ops t End (Some to) loop b = refl
-built-ops t End None loop b = refl
-built-ops t (Set x e rest) exit loop b = built-ops t rest exit loop _
-built-ops t (Store width a e rest) exit loop b = built-ops t rest exit loop _
-built-ops t (Check check place e rest) exit loop b = built-ops t rest exit loop _
-built-ops t (Call target i es place rest) exit loop b = built-ops t rest exit loop _
-built-ops t (Get x rest) exit loop b = built-ops t rest exit loop _
-built-ops t (Put e rest) exit loop b = built-ops t rest exit loop _
-built-ops t (Alloc x e size rest) exit loop b = built-ops t rest exit loop _
-built-ops t (If e one two rest) exit loop b = built-ops t rest exit loop _
-built-ops t (Loop body step rest) exit loop b = built-ops t rest exit loop _
-built-ops t (Break rest) exit loop b = refl
-built-ops t (Continue rest) exit loop b = refl
-built-ops t (Return e rest) exit loop b = refl
+pub built-ops : (t : ℕ) (fresh : Bool) (code : Code) (exit : Option ℕ) (loop : Option Targets) (b : Builder) → IsEmptyWhere fresh b → (built t fresh code exit loop b).ops ≡ []
+built-ops t fresh End exit loop b h = left-ops fresh exit b h
+built-ops t fresh (Set x e rest) exit loop b h = built-ops t false rest exit loop _ tt
+built-ops t fresh (Store width a e rest) exit loop b h = built-ops t false rest exit loop _ tt
+built-ops t fresh (Check check place e rest) exit loop b h = built-ops t false rest exit loop _ tt
+built-ops t fresh (Call target i es place rest) exit loop b h = built-ops t false rest exit loop _ tt
+built-ops t fresh (Get x rest) exit loop b h = built-ops t false rest exit loop _ tt
+built-ops t fresh (Put e rest) exit loop b h = built-ops t false rest exit loop _ tt
+built-ops t fresh (Alloc x e size rest) exit loop b h = built-ops t false rest exit loop _ tt
+built-ops t fresh (If e one two rest) exit loop b h =
+    let join = Some (join_of one two rest exit loop b) in
+    built-ops t true rest exit loop _ (built-ops t true two join loop _ (built-ops t true one join loop _ refl))
+built-ops t fresh (Loop body step rest) exit loop b h =
+    let c = entered fresh b in
+    let head = length c.blocks in
+    let here = targets_of body step rest exit loop head in
+    let first = not (passes body) in
+    built-ops t true rest exit loop _ (built-ops t true step (Some head) None _
+    (built-ops t first body (Some here.step) (Some here) c (empty_where first c (jump-ops fresh _ b h))))
+built-ops t fresh (Break rest) exit loop b h = jump-ops fresh _ b h
+built-ops t fresh (Continue rest) exit loop b h = jump-ops fresh _ b h
+built-ops t fresh (Return e rest) exit loop b h = refl
 
 pub ended-length : (b : Builder) (end : TacEnd) → length (with_end b end).blocks ≡ length b.blocks + 1
 ended-length b end = length-append b.blocks (record { ops = b.ops; end = end } ∷ [])
 
+abbrev pub is_some : Option ℕ → Bool
+is_some (Some to) = true
+is_some None = false
+
+left-length : (fresh : Bool) (exit : Option ℕ) (b : Builder) → length (left fresh exit b).blocks ≡ length b.blocks + block_count fresh (is_some exit) End
+left-length true (Some to) b = omega arith
+left-length true None b = ended-length b _
+left-length false (Some to) b = ended-length b _
+left-length false None b = ended-length b _
+
+pub jump-length : (fresh : Bool) (to : ℕ) (b : Builder) → length (with_jump fresh to b).blocks ≡ length b.blocks + (if fresh then 0 else 1)
+jump-length true to b = omega arith
+jump-length false to b = ended-length b _
+
 -- so many blocks are ended as are counted
-pub built-length : (t : ℕ) (code : Code) (exit : Option ℕ) (loop : Option Targets) (b : Builder) → length (built t code exit loop b).blocks ≡ length b.blocks + block_count code
-built-length t End (Some to) loop b = ended-length b _
-built-length t End None loop b = ended-length b _
-built-length t (Set x e rest) exit loop b =
-    built-length t rest exit loop _ ∙ ap (λ x. length x + block_count rest) (value-blocks e (Some x) t b)
-built-length t (Store width a e rest) exit loop b =
-    built-length t rest exit loop _ ∙ ap (λ x. length x + block_count rest) (stored-blocks t a e (op.Store width) b)
-built-length t (Check check place e rest) exit loop b =
-    built-length t rest exit loop _ ∙ ap (λ x. length x + block_count rest) (used-blocks t e (op.Check check place) b)
-built-length t (Call target i es place rest) exit loop b =
-    built-length t rest exit loop _ ∙ ap (λ x. length x + block_count rest) (values-blocks es t b)
-built-length t (Get x rest) exit loop b = built-length t rest exit loop _
-built-length t (Put e rest) exit loop b =
-    built-length t rest exit loop _ ∙ ap (λ x. length x + block_count rest) (used-blocks t e op.Put b)
-built-length t (Alloc x e size rest) exit loop b =
-    built-length t rest exit loop _ ∙ ap (λ x. length x + block_count rest) (used-blocks t e (λ r. op.Alloc x r size) b)
-built-length t (If e one two rest) exit loop b =
-    let join = Some (join_of one two b) in
-    let c = forked t e one two b in
+pub built-length : (t : ℕ) (fresh : Bool) (code : Code) (exit : Option ℕ) (loop : Option Targets) (b : Builder)
+    → length (built t fresh code exit loop b).blocks ≡ length b.blocks + block_count fresh (is_some exit) code
+built-length t fresh End exit loop b = left-length fresh exit b
+built-length t fresh (Set x e rest) exit loop b =
+    built-length t false rest exit loop _ ∙ ap (λ x. length x + block_count false (is_some exit) rest) (value-blocks e (Some x) t b)
+built-length t fresh (Store width a e rest) exit loop b =
+    built-length t false rest exit loop _ ∙ ap (λ x. length x + block_count false (is_some exit) rest) (stored-blocks t a e (op.Store width) b)
+built-length t fresh (Check check place e rest) exit loop b =
+    built-length t false rest exit loop _ ∙ ap (λ x. length x + block_count false (is_some exit) rest) (used-blocks t e (op.Check check place) b)
+built-length t fresh (Call target i es place rest) exit loop b =
+    built-length t false rest exit loop _ ∙ ap (λ x. length x + block_count false (is_some exit) rest) (values-blocks es t b)
+built-length t fresh (Get x rest) exit loop b = built-length t false rest exit loop _
+built-length t fresh (Put e rest) exit loop b =
+    built-length t false rest exit loop _ ∙ ap (λ x. length x + block_count false (is_some exit) rest) (used-blocks t e op.Put b)
+built-length t fresh (Alloc x e size rest) exit loop b =
+    built-length t false rest exit loop _ ∙ ap (λ x. length x + block_count false (is_some exit) rest) (used-blocks t e (λ r. op.Alloc x r size) b)
+built-length t fresh (If e one two rest) exit loop b =
+    let join = join_of one two rest exit loop b in
+    let c = forked t e one two join loop b in
     let s = test_of e false in
-    let fork = branch_of s t (length b.blocks + 1) (length b.blocks + 1 + block_count one) in
+    let fork = branch_of s t (goal one (one_at b) (Some join) loop) (goal two (two_at one b) (Some join) loop) in
     let first : length c.blocks ≡ length b.blocks + 1 = ended-length (sides t s b) fork ∙ ap (λ x. length x + 1) (sides-blocks t s b) in
-    let second = built-length t one join loop c in
-    let third = built-length t two join loop (built t one join loop c) in
-    let fourth = built-length t rest exit loop (built t two join loop (built t one join loop c)) in
+    let d = built t true one (Some join) loop c in
+    let second = built-length t true one (Some join) loop c in
+    let third = built-length t true two (Some join) loop d in
+    let fourth = built-length t true rest exit loop (built t true two (Some join) loop d) in
     omega (arith, first, second, third, fourth)
-built-length t (Loop body step rest) exit loop b =
-    let c = entered b in
-    let d = built t body (Some (step_at body b)) (Some (targets_of body step b)) c in
-    let first = ended-length b (ends.Jump (length b.blocks + 1)) in
-    let second = built-length t body (Some (step_at body b)) (Some (targets_of body step b)) c in
-    let third = built-length t step (Some (length b.blocks + 1)) None d in
-    let fourth = built-length t rest exit loop (built t step (Some (length b.blocks + 1)) None d) in
+built-length t fresh (Loop body step rest) exit loop b =
+    let c = entered fresh b in
+    let head = length c.blocks in
+    let here = targets_of body step rest exit loop head in
+    let d = built t (not (passes body)) body (Some here.step) (Some here) c in
+    let first = jump-length fresh (length b.blocks + 1) b in
+    let second = built-length t (not (passes body)) body (Some here.step) (Some here) c in
+    let third = built-length t true step (Some head) None d in
+    let fourth = built-length t true rest exit loop (built t true step (Some head) None d) in
     omega (arith, first, second, third, fourth)
-built-length t (Break rest) exit loop b = ended-length b _
-built-length t (Continue rest) exit loop b = ended-length b _
-built-length t (Return e rest) exit loop b = ended-length (with_value e None t b) _ ∙ ap (λ x. length x + 1) (value-blocks e None t b)
+built-length t fresh (Break rest) exit loop b = jump-length fresh _ b
+built-length t fresh (Continue rest) exit loop b = jump-length fresh _ b
+built-length t fresh (Return e rest) exit loop b = ended-length (with_value e None t b) _ ∙ ap (λ x. length x + 1) (value-blocks e None t b)
+
+-- ---- where control leads
+
+pub some_blocks : (behind : Bool) (code : Code) → 1 ≤ block_count false behind code
+some_blocks behind End = omega arith
+some_blocks behind (Set x e rest) = some_blocks behind rest
+some_blocks behind (Store width a e rest) = some_blocks behind rest
+some_blocks behind (Check check place e rest) = some_blocks behind rest
+some_blocks behind (Call target i es place rest) = some_blocks behind rest
+some_blocks behind (Get x rest) = some_blocks behind rest
+some_blocks behind (Put e rest) = some_blocks behind rest
+some_blocks behind (Alloc x e size rest) = some_blocks behind rest
+some_blocks behind (If e one two rest) = omega arith
+some_blocks behind (Loop body step rest) = omega arith
+some_blocks behind (Break rest) = omega arith
+some_blocks behind (Continue rest) = omega arith
+some_blocks behind (Return e rest) = omega arith
+
+pub body_some : (body : Code) → 1 ≤ body_count body
+body_some End = omega arith
+body_some (Set x e rest) = some_blocks true rest
+body_some (Store width a e rest) = some_blocks true rest
+body_some (Check check place e rest) = some_blocks true rest
+body_some (Call target i es place rest) = some_blocks true rest
+body_some (Get x rest) = some_blocks true rest
+body_some (Put e rest) = some_blocks true rest
+body_some (Alloc x e size rest) = some_blocks true rest
+body_some (If e one two rest) = omega arith
+body_some (Loop body step rest) = omega (arith, body_some body)
+body_some (Break rest) = omega arith
+body_some (Continue rest) = omega arith
+body_some (Return e rest) = omega arith
+
+module _ (blocks : ℕ) where
+  abbrev pub IsLoopGood : Option Targets → Type 0
+  IsLoopGood loop = IfSome loop (λ l. (l.out < blocks) × (l.step < blocks))
+
+  abbrev pub IsExitGood : Option ℕ → Type 0
+  IsExitGood exit = IfSome exit (λ to. to < blocks)
+
+  pub out_good : (loop : Option Targets) → 0 < blocks → IsLoopGood loop → out_of loop < blocks
+  out_good (Some l) some h = h.0
+  out_good None some h = some
+
+  pub step_good : (loop : Option Targets) → 0 < blocks → IsLoopGood loop → step_of loop < blocks
+  step_good (Some l) some h = h.1
+  step_good None some h = some
+
+  -- Control leads to one of so many blocks, where those that the code ends are among them.
+  pub goal_good : (code : Code) (at : ℕ) (exit : Option ℕ) (loop : Option Targets) → at + block_count true (is_some exit) code ≤ blocks
+      → IsExitGood exit → IsLoopGood loop → 0 < blocks → goal code at exit loop < blocks
+  goal_good End at (Some to) loop room x l some = x
+  goal_good End at None loop room x l some = omega arith
+  goal_good (Set y e rest) at exit loop room x l some = omega (arith, some_blocks (is_some exit) rest)
+  goal_good (Store width a e rest) at exit loop room x l some = omega (arith, some_blocks (is_some exit) rest)
+  goal_good (Check check place e rest) at exit loop room x l some = omega (arith, some_blocks (is_some exit) rest)
+  goal_good (Call target i es place rest) at exit loop room x l some = omega (arith, some_blocks (is_some exit) rest)
+  goal_good (Get y rest) at exit loop room x l some = omega (arith, some_blocks (is_some exit) rest)
+  goal_good (Put e rest) at exit loop room x l some = omega (arith, some_blocks (is_some exit) rest)
+  goal_good (Alloc y e size rest) at exit loop room x l some = omega (arith, some_blocks (is_some exit) rest)
+  goal_good (If e one two rest) at exit loop room x l some = omega arith
+  goal_good (Loop body step rest) at exit loop room x l some = omega (arith, body_some body)
+  goal_good (Break rest) at exit loop room x l some = out_good loop some l
+  goal_good (Continue rest) at exit loop room x l some = step_good loop some l
+  goal_good (Return e rest) at exit loop room x l some = omega arith

@@ -1,6 +1,6 @@
 -- What is built names only what is there.
 use Rattle.std.proofs.Common.{◌≡◌, ℕ, ◌+◌, ◌≤◌, ◌<◌, List, [], ◌∷◌, length, refl, sym, ◌∙◌, ap, subst, arith}
-use Rattle.std.specs.Prelude.{Bool, true, false, ◌&&◌, if◌then◌else◌, Option, Some, None, slice_get, map, All, IfSome}
+use Rattle.std.specs.Prelude.{Bool, true, false, not, ◌&&◌, if◌then◌else◌, Option, Some, None, slice_get, map, All, IfSome}
 use Rattle.std.specs.Option.{option_map}
 use Rattle.std.proofs.lemmas.Option.{slice_get-map}
 use Rattle.std.proofs.lemmas.List.Elements.{All-nil, All-cons, All-head, All-tail, All-push, All-map, All-weaker}
@@ -17,27 +17,13 @@ use Rattle.ckc_tac.specs.declared.code.TacEnd.TheVariants as ends
 use Rattle.ckc_tac.specs.WellFormed as T
 use Rattle.ckc_lower.specs.declared.builder.Builder.{Builder}
 use Rattle.ckc_lower.specs.declared.builder.Targets.{Targets}
-use Rattle.ckc_lower.specs.Built.{free_from, target_of, operand_of, registers_of, with_op, with_temporary, with_value, with_values, block_count, with_end, stored, used, forked, join_of, entered, step_at, targets_of, out_of, step_of, built, bin_of, is_even, is_number, register_of, free_past, with_register, test_of, picked, branch_of}
+use Rattle.ckc_lower.specs.Built.{free_from, target_of, operand_of, registers_of, with_op, with_temporary, with_value, with_values, block_count, body_count, with_end, with_jump, left, passes, goal, stored, used, one_at, two_at, behind_at, forked, join_of, entered, step_at, out_at, targets_of, out_of, step_of, built, bin_of, is_even, is_number, register_of, free_past, with_register, test_of, picked, branch_of}
 use Rattle.ckc_lower.proofs.Arguments.{length-registers_of}
 use Rattle.ckc_lower.specs.Lowered.{empty, whole, lowered_function, lowered}
 use Rattle.ckc_lower.proofs.Conditions.{within}
-use Rattle.ckc_lower.proofs.Appending.{sides-blocks, ended-length, built-length}
+use Rattle.ckc_lower.proofs.Appending.{sides-blocks, ended-length, jump-length, built-length, is_some, body_some, IsExitGood, IsLoopGood, out_good, step_good, goal_good}
+use Rattle.ckc_lower.proofs.Standing.{function_some}
 use Rattle.ckc_lower.proofs.Registers.{temporary-more, value-more, values-more, built-more}
-
-some_blocks : (code : Code) → 1 ≤ block_count code
-some_blocks End = omega arith
-some_blocks (Set x e rest) = some_blocks rest
-some_blocks (Store width a e rest) = some_blocks rest
-some_blocks (Check check place e rest) = some_blocks rest
-some_blocks (Call target i es place rest) = some_blocks rest
-some_blocks (Get x rest) = some_blocks rest
-some_blocks (Put e rest) = some_blocks rest
-some_blocks (Alloc x e size rest) = some_blocks rest
-some_blocks (If e one two rest) = omega arith
-some_blocks (Loop body step rest) = omega arith
-some_blocks (Break rest) = omega arith
-some_blocks (Continue rest) = omega arith
-some_blocks (Return e rest) = omega arith
 
 module _ (functions : List Function) (t blocks regs : ℕ) (room : t ≤ regs) where
   abbrev lowered_all : List TacFunc
@@ -147,19 +133,13 @@ module _ (functions : List Function) (t blocks regs : ℕ) (room : t ≤ regs) w
   params_good count same (Some f) e h = h ∙ sym e
   params_good count same None e h = h
 
-  abbrev IsLoopGood : Option Targets → Type 0
-  IsLoopGood loop = IfSome loop (λ l. (l.out < blocks) × (l.step < blocks))
+  good_jump : (fresh : Bool) (to : ℕ) (b : Builder) → IsGood b → to < blocks → IsGood (with_jump fresh to b)
+  good_jump true to b g h = g
+  good_jump false to b g h = good_end b (ends.Jump to) g h
 
-  abbrev IsExitGood : Option ℕ → Type 0
-  IsExitGood exit = IfSome exit (λ to. to < blocks)
-
-  out_good : (loop : Option Targets) → 0 < blocks → IsLoopGood loop → out_of loop < blocks
-  out_good (Some l) some h = h.0
-  out_good None some h = some
-
-  step_good : (loop : Option Targets) → 0 < blocks → IsLoopGood loop → step_of loop < blocks
-  step_good (Some l) some h = h.1
-  step_good None some h = some
+  good_left : (fresh : Bool) (exit : Option ℕ) (b : Builder) → IsGood b → IsExitGood blocks exit → IsGood (left fresh exit b)
+  good_left fresh (Some to) b g x = good_jump fresh to b g x
+  good_left fresh None b g x = good_end b (ends.Return (Number 0)) g (omega arith)
 
   good_used : (e : Expr) (o : Operand → TacOp) (b : Builder) → IsExprOver t e → (with_value e None t b).regs ≤ regs → IsGood b
       → ((r : Operand) → T.IsOperandOver regs r → T.IsOpOver lowered_all regs (o r)) → IsGood (used t e o b)
@@ -170,118 +150,129 @@ module _ (functions : List Function) (t blocks regs : ℕ) (room : t ≤ regs) w
   picked_good false one two h i = h
   picked_good true one two h i = i
 
-  good_built : (code : Code) (looped : Bool) (exit : Option ℕ) (loop : Option Targets) (b : Builder) → IsCodeOver functions t looped code
-      → (built t code exit loop b).regs ≤ regs → length (built t code exit loop b).blocks ≤ blocks → IsExitGood exit → IsLoopGood loop → 0 < blocks
-      → IsGood b → IsGood (built t code exit loop b)
-  good_built End looped (Some to) loop b w few short x l some g = good_end b (ends.Jump to) g x
-  good_built End looped None loop b w few short x l some g = good_end b (ends.Return (Number 0)) g (omega arith)
-  good_built (Set y e rest) looped exit loop b w few short x l some g =
+  good_built : (code : Code) (looped fresh : Bool) (exit : Option ℕ) (loop : Option Targets) (b : Builder) → IsCodeOver functions t looped code
+      → (built t fresh code exit loop b).regs ≤ regs → length (built t fresh code exit loop b).blocks ≤ blocks → IsExitGood blocks exit → IsLoopGood blocks loop → 0 < blocks
+      → IsGood b → IsGood (built t fresh code exit loop b)
+  good_built End looped fresh exit loop b w few short x l some g = good_left fresh exit b g x
+  good_built (Set y e rest) looped fresh exit loop b w few short x l some g =
       let c = with_value e (Some y) t b in
       let wanted : y < regs = omega (arith, w.0) in
-      good_built rest looped exit loop c w.2 few short x l some
-      (good_value e (Some y) t b w.1 wanted (omega (arith, built-more t rest exit loop c)) g)
-  good_built (Store width a e rest) looped exit loop b w few short x l some g =
+      good_built rest looped false exit loop c w.2 few short x l some
+      (good_value e (Some y) t b w.1 wanted (omega (arith, built-more t false rest exit loop c)) g)
+  good_built (Store width a e rest) looped fresh exit loop b w few short x l some g =
       let u = free_from a t in
       let first = with_value a None t b in
       let second = with_value e None u first in
       let c = stored t a e (op.Store width) b in
-      let few_second : second.regs ≤ regs = omega (arith, built-more t rest exit loop c) in
+      let few_second : second.regs ≤ regs = omega (arith, built-more t false rest exit loop c) in
       let few_first : first.regs ≤ regs = omega (arith, value-more e None u first) in
-      good_built rest looped exit loop c w.2 few short x l some
+      good_built rest looped false exit loop c w.2 few short x l some
       (good_op second (op.Store width (operand_of a None t) (operand_of e None u))
       (good_value e None u first w.1 tt few_second (good_value a None t b w.0 tt few_first g))
       (operand_good a None t b w.0 tt few_first, operand_good e None u first w.1 tt few_second))
-  good_built (Check check place e rest) looped exit loop b w few short x l some g =
+  good_built (Check check place e rest) looped fresh exit loop b w few short x l some g =
       let o : Operand → TacOp = op.Check check place in
       let c = used t e o b in
-      good_built rest looped exit loop c w.2 few short x l some
-      (good_used e o b w.1 (omega (arith, built-more t rest exit loop c)) g (λ r h. (w.0, h)))
-  good_built (Call target i es place rest) looped exit loop b w few short x l some g =
+      good_built rest looped false exit loop c w.2 few short x l some
+      (good_used e o b w.1 (omega (arith, built-more t false rest exit loop c)) g (λ r h. (w.0, h)))
+  good_built (Call target i es place rest) looped fresh exit loop b w few short x l some g =
       let o = op.Call target i (registers_of es t) place in
       let v = with_values es t b in
       let c = with_op v o in
-      let good = good_values es t b w.2 (omega (arith, built-more t rest exit loop c)) g in
+      let good = good_values es t b w.2 (omega (arith, built-more t false rest exit loop c)) g in
       let params : T.HasParams (length (registers_of es t)) (slice_get lowered_all i) =
       subst (T.HasParams (length (registers_of es t))) (sym (slice_get-map lowered_function functions i))
       (params_good (length es) (length (registers_of es t)) (slice_get functions i) (length-registers_of es t) w.1) in
-      good_built rest looped exit loop c w.4 few short x l some
+      good_built rest looped false exit loop c w.4 few short x l some
       (good_op v o good.0 (target_within target w.0, params, good.1, w.3))
     where
       target_within : (target : Option ℕ) → IfSome target (λ y. y < t) → IfSome target (λ y. y < regs)
       target_within (Some y) h = omega (arith, h)
       target_within None h = tt
-  good_built (Get y rest) looped exit loop b w few short x l some g =
+  good_built (Get y rest) looped fresh exit loop b w few short x l some g =
       let wanted : y < regs = omega (arith, w.0) in
-      good_built rest looped exit loop (with_op b (op.Get y)) w.1 few short x l some (good_op b (op.Get y) g wanted)
-  good_built (Put e rest) looped exit loop b w few short x l some g =
+      good_built rest looped false exit loop (with_op b (op.Get y)) w.1 few short x l some (good_op b (op.Get y) g wanted)
+  good_built (Put e rest) looped fresh exit loop b w few short x l some g =
       let c = used t e op.Put b in
-      good_built rest looped exit loop c w.1 few short x l some
-      (good_used e op.Put b w.0 (omega (arith, built-more t rest exit loop c)) g (λ r h. h))
-  good_built (Alloc y e size rest) looped exit loop b w few short x l some g =
+      good_built rest looped false exit loop c w.1 few short x l some
+      (good_used e op.Put b w.0 (omega (arith, built-more t false rest exit loop c)) g (λ r h. h))
+  good_built (Alloc y e size rest) looped fresh exit loop b w few short x l some g =
       let o : Operand → TacOp = λ r. op.Alloc y r size in
       let c = used t e o b in
       let wanted : y < regs = omega (arith, w.0) in
-      good_built rest looped exit loop c w.3 few short x l some
-      (good_used e o b w.1 (omega (arith, built-more t rest exit loop c)) g (λ r h. (wanted, h, w.2)))
-  good_built (If e one two rest) looped exit loop b w few short x l some g =
-      let one_at = length b.blocks + 1 in
-      let two_at = length b.blocks + 1 + block_count one in
-      let join = join_of one two b in
+      good_built rest looped false exit loop c w.3 few short x l some
+      (good_used e o b w.1 (omega (arith, built-more t false rest exit loop c)) g (λ r h. (wanted, h, w.2)))
+  good_built (If e one two rest) looped fresh exit loop b w few short x l some g =
+      let first = one_at b in
+      let second = two_at one b in
+      let third = behind_at one two b in
+      let join = join_of one two rest exit loop b in
+      let to_one = goal one first (Some join) loop in
+      let to_two = goal two second (Some join) loop in
       let s = test_of e false in
       let u = free_from s.left t in
       let over = (within e false).over t w.0 in
       let first_side = with_value s.left None t b in
       let v = with_value s.right None u first_side in
-      let fork = branch_of s t one_at two_at in
-      let c = forked t e one two b in
-      let d = built t one (Some join) loop c in
-      let f = built t two (Some join) loop d in
-      let at_c : length c.blocks ≡ one_at = ended-length v fork ∙ ap (λ n. length n + 1) (sides-blocks t s b) in
-      let at_d : length d.blocks ≡ length c.blocks + block_count one = built-length t one (Some join) loop c in
-      let at_f : length f.blocks ≡ length d.blocks + block_count two = built-length t two (Some join) loop d in
-      let at_g : length (built t rest exit loop f).blocks ≡ length f.blocks + block_count rest = built-length t rest exit loop f in
-      let few_f : f.regs ≤ regs = omega (arith, built-more t rest exit loop f) in
-      let few_d : d.regs ≤ regs = omega (arith, built-more t two (Some join) loop d) in
-      let few_c : v.regs ≤ regs = omega (arith, built-more t one (Some join) loop c) in
+      let fork = branch_of s t to_one to_two in
+      let c = forked t e one two join loop b in
+      let d = built t true one (Some join) loop c in
+      let f = built t true two (Some join) loop d in
+      let at_c : length c.blocks ≡ first = ended-length v fork ∙ ap (λ n. length n + 1) (sides-blocks t s b) in
+      let at_d : length d.blocks ≡ length c.blocks + block_count true true one = built-length t true one (Some join) loop c in
+      let at_f : length f.blocks ≡ length d.blocks + block_count true true two = built-length t true two (Some join) loop d in
+      let at_g : length (built t true rest exit loop f).blocks ≡ length f.blocks + block_count true (is_some exit) rest = built-length t true rest exit loop f in
+      let few_f : f.regs ≤ regs = omega (arith, built-more t true rest exit loop f) in
+      let few_d : d.regs ≤ regs = omega (arith, built-more t true two (Some join) loop d) in
+      let few_c : v.regs ≤ regs = omega (arith, built-more t true one (Some join) loop c) in
       let few_left : first_side.regs ≤ regs = omega (arith, value-more s.right None u first_side) in
-      let first : one_at < blocks = omega (arith, some_blocks one, some_blocks rest) in
-      let second : two_at < blocks = omega (arith, some_blocks two, some_blocks rest) in
-      let third : join < blocks = omega (arith, some_blocks rest) in
-      good_built rest looped exit loop f w.3 few short x l some
-      (good_built two looped (Some join) loop d w.2 few_f (omega (arith, some_blocks rest)) third l some
-      (good_built one looped (Some join) loop c w.1 few_d (omega (arith, some_blocks rest)) third l some
+      let y : join < blocks = goal_good blocks rest third exit loop (omega arith) x l some in
+      let good_one : to_one < blocks = goal_good blocks one first (Some join) loop (omega arith) y l some in
+      let good_two : to_two < blocks = goal_good blocks two second (Some join) loop (omega arith) y l some in
+      good_built rest looped true exit loop f w.3 few short x l some
+      (good_built two looped true (Some join) loop d w.2 few_f (omega arith) y l some
+      (good_built one looped true (Some join) loop c w.1 few_d (omega arith) y l some
       (good_end v fork (good_value s.right None u first_side over.1 tt few_c (good_value s.left None t b over.0 tt few_left g))
-      (operand_good s.left None t b over.0 tt few_left, operand_good s.right None u first_side over.1 tt few_c, picked_good s.turned one_at two_at first second, picked_good s.turned two_at one_at second first))))
-  good_built (Loop body step rest) looped exit loop b w few short x l some g =
-      let head = length b.blocks + 1 in
-      let at = step_at body b in
-      let targets = targets_of body step b in
-      let c = entered b in
-      let d = built t body (Some at) (Some targets) c in
-      let f = built t step (Some head) None d in
-      let at_c : length c.blocks ≡ head = ended-length b (ends.Jump head) in
-      let at_d : length d.blocks ≡ length c.blocks + block_count body = built-length t body (Some at) (Some targets) c in
-      let at_f : length f.blocks ≡ length d.blocks + block_count step = built-length t step (Some head) None d in
-      let at_g : length (built t rest exit loop f).blocks ≡ length f.blocks + block_count rest = built-length t rest exit loop f in
-      let few_f : f.regs ≤ regs = omega (arith, built-more t rest exit loop f) in
-      let few_d : d.regs ≤ regs = omega (arith, built-more t step (Some head) None d) in
-      let first : head < blocks = omega (arith, some_blocks body, some_blocks rest) in
-      let second : at < blocks = omega (arith, some_blocks step, some_blocks rest) in
-      let third : targets.out < blocks = omega (arith, some_blocks rest) in
-      good_built rest looped exit loop f w.2 few short x l some
-      (good_built step false (Some head) None d w.1 few_f (omega (arith, some_blocks rest)) first tt some
-      (good_built body true (Some at) (Some targets) c w.0 few_d (omega (arith, some_blocks rest)) second (third, second) some
-      (good_end b (ends.Jump head) g first)))
-  good_built (Break rest) looped exit loop b w few short x l some g = good_end b (ends.Jump (out_of loop)) g (out_good loop some l)
-  good_built (Continue rest) looped exit loop b w few short x l some g = good_end b (ends.Jump (step_of loop)) g (step_good loop some l)
-  good_built (Return e rest) looped exit loop b w few short x l some g =
+      (operand_good s.left None t b over.0 tt few_left, operand_good s.right None u first_side over.1 tt few_c, picked_good s.turned to_one to_two good_one good_two, picked_good s.turned to_two to_one good_two good_one))))
+  good_built (Loop body step rest) looped fresh exit loop b w few short x l some g =
+      let c = entered fresh b in
+      let head = length c.blocks in
+      let second = step_at body head in
+      let third = out_at body step head in
+      let targets = targets_of body step rest exit loop head in
+      let first = not (passes body) in
+      let d = built t first body (Some targets.step) (Some targets) c in
+      let f = built t true step (Some head) None d in
+      let at_c : length c.blocks ≡ length b.blocks + (if fresh then 0 else 1) = jump-length fresh (length b.blocks + 1) b in
+      let at_d : length d.blocks ≡ length c.blocks + body_count body = built-length t first body (Some targets.step) (Some targets) c in
+      let at_f : length f.blocks ≡ length d.blocks + block_count true true step = built-length t true step (Some head) None d in
+      let at_g : length (built t true rest exit loop f).blocks ≡ length f.blocks + block_count true (is_some exit) rest = built-length t true rest exit loop f in
+      let one : 1 ≤ body_count body = body_some body in
+      let few_f : f.regs ≤ regs = omega (arith, built-more t true rest exit loop f) in
+      let few_d : d.regs ≤ regs = omega (arith, built-more t true step (Some head) None d) in
+      let y : head < blocks = omega arith in
+      let out : targets.out < blocks = goal_good blocks rest third exit loop (omega arith) x l some in
+      let next : targets.step < blocks = goal_good blocks step second (Some head) None (omega arith) y tt some in
+      good_built rest looped true exit loop f w.2 few short x l some
+      (good_built step false true (Some head) None d w.1 few_f (omega arith) y tt some
+      (good_built body true first (Some targets.step) (Some targets) c w.0 few_d (omega arith) next (out, next) some
+      (entering fresh g y)))
+    where
+      entering : (fresh : Bool) → IsGood b → length (entered fresh b).blocks < blocks → IsGood (entered fresh b)
+      entering true g y = g
+      entering false g y =
+          let e : length (entered false b).blocks ≡ length b.blocks + 1 = ended-length b (ends.Jump (length b.blocks + 1)) in
+          good_end b (ends.Jump (length b.blocks + 1)) g (omega arith)
+  good_built (Break rest) looped fresh exit loop b w few short x l some g = good_jump fresh (out_of loop) b g (out_good blocks loop some l)
+  good_built (Continue rest) looped fresh exit loop b w few short x l some g = good_jump fresh (step_of loop) b g (step_good blocks loop some l)
+  good_built (Return e rest) looped fresh exit loop b w few short x l some g =
       good_end (with_value e None t b) (ends.Return (operand_of e None t)) (good_value e None t b w.0 tt few g) (operand_good e None t b w.0 tt few)
 
-  blocks_of_good : (code : Code) (b : Builder) → IsCodeOver functions t false code → (built t code None None b).regs ≤ regs
-      → length (built t code None None b).blocks ≤ blocks → 0 < blocks → b.blocks ≡ [] → b.ops ≡ []
-      → All (T.IsBlockOver lowered_all blocks regs) (built t code None None b).blocks
+  blocks_of_good : (code : Code) (b : Builder) → IsCodeOver functions t false code → (built t true code None None b).regs ≤ regs
+      → length (built t true code None None b).blocks ≤ blocks → 0 < blocks → b.blocks ≡ [] → b.ops ≡ []
+      → All (T.IsBlockOver lowered_all blocks regs) (built t true code None None b).blocks
   blocks_of_good code b w few short some no_blocks no_ops =
-      (good_built code false None None b w few short tt tt some (record {
+      (good_built code false true None None b w few short tt tt some (record {
         blocks_good = subst (All (T.IsBlockOver lowered_all blocks regs)) (sym no_blocks) (All-nil (T.IsBlockOver lowered_all blocks regs));
         ops_good = subst (All (T.IsOpOver lowered_all regs)) (sym no_ops) (All-nil (T.IsOpOver lowered_all regs));
       })).blocks_good
@@ -289,9 +280,8 @@ module _ (functions : List Function) (t blocks regs : ℕ) (room : t ≤ regs) w
 function_formed : (functions : List Function) (f : Function) → IsFunctionOver functions f → T.IsFunctionOver (map lowered_function functions) (lowered_function f)
 function_formed functions f w =
     let b = whole f in
-    let more : f.locals ≤ b.regs = built-more f.locals f.body None None (empty f.locals) in
-    let count : length b.blocks ≡ 0 + block_count f.body = built-length f.locals f.body None None (empty f.locals) in
-    let some : 0 < length b.blocks = omega (arith, some_blocks f.body) in (
+    let more : f.locals ≤ b.regs = built-more f.locals true f.body None None (empty f.locals) in
+    let some : 0 < length b.blocks = function_some functions f w in (
       omega (arith, w.0),
       some,
       blocks_of_good functions f.locals (length b.blocks) b.regs more f.body (empty f.locals) w.1 (omega arith) (omega arith) some refl refl,

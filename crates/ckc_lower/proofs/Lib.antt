@@ -6,6 +6,8 @@ pub mod Relation
 pub mod Steps
 pub mod Appending
 pub mod Standing
+pub mod Onward
+pub mod Falling
 pub mod Follows
 pub mod Sized
 pub mod Registers

@@ -1,6 +1,6 @@
 -- How many registers what is built uses.
 use Rattle.std.proofs.Common.{ℕ, ◌+◌, ◌≤◌, List, [], ◌∷◌, length, arith}
-use Rattle.std.specs.Prelude.{false, Option, Some, None, map, All}
+use Rattle.std.specs.Prelude.{Bool, true, false, not, Option, Some, None, map, All}
 use Rattle.std.proofs.lemmas.List.Elements.{All-nil, All-cons, All-head, All-tail}
 use Rattle.ckc_core.specs.Code.{Expr, Const, Local, Load, Bin, High, Code, End, Set, Store, Check, Call, Get, Put, Alloc, If, Loop, Break, Continue, Return, Function, Program}
 use Rattle.ckc_core.specs.Limits.{depth, IsShallow, KeepsLimits, IsSmallFunction, IsWithinLimits}
@@ -11,7 +11,7 @@ use Rattle.ckc_tac.specs.declared.code.TacOp.TheVariants as op
 use Rattle.ckc_tac.specs.WellFormed.{HasFewRegisters}
 use Rattle.ckc_lower.specs.declared.builder.Builder.{Builder}
 use Rattle.ckc_lower.specs.declared.builder.Targets.{Targets}
-use Rattle.ckc_lower.specs.Built.{free_from, registers_of, with_op, with_temporary, with_value, with_values, stored, used, forked, join_of, entered, step_at, targets_of, built, free_past, with_register, Test, test_of, tested, block_count}
+use Rattle.ckc_lower.specs.Built.{free_from, registers_of, with_op, with_temporary, with_value, with_values, with_jump, left, out_of, step_of, passes, goal, stored, used, one_at, two_at, forked, join_of, entered, targets_of, built, free_past, with_register, Test, test_of, tested}
 use Rattle.ckc_lower.proofs.Conditions.{within}
 use Rattle.ckc_lower.specs.Lowered.{empty, lowered_function, lowered}
 
@@ -53,34 +53,43 @@ stored-more t a e o b = omega (arith, value-more a None t b, value-more e None (
 pub tested-more : (t : ℕ) (s : Test) (one two : ℕ) (b : Builder) → b.regs ≤ (tested t s one two b).regs
 tested-more t s one two b = omega (arith, value-more s.left None t b, value-more s.right None (free_from s.left t) (with_value s.left None t b))
 
-pub built-more : (t : ℕ) (code : Code) (exit : Option ℕ) (loop : Option Targets) (b : Builder) → b.regs ≤ (built t code exit loop b).regs
-built-more t End (Some to) loop b = omega arith
-built-more t End None loop b = omega arith
-built-more t (Set x e rest) exit loop b = omega (arith, value-more e (Some x) t b, built-more t rest exit loop (with_value e (Some x) t b))
-built-more t (Store width a e rest) exit loop b =
-    omega (arith, stored-more t a e (op.Store width) b, built-more t rest exit loop (stored t a e (op.Store width) b))
-built-more t (Check check place e rest) exit loop b =
-    omega (arith, value-more e None t b, built-more t rest exit loop (used t e (op.Check check place) b))
-built-more t (Call target i es place rest) exit loop b =
-    omega (arith, values-more es t b, built-more t rest exit loop (with_op (with_values es t b) (op.Call target i (registers_of es t) place)))
-built-more t (Get x rest) exit loop b = built-more t rest exit loop (with_op b (op.Get x))
-built-more t (Put e rest) exit loop b = omega (arith, value-more e None t b, built-more t rest exit loop (used t e op.Put b))
-built-more t (Alloc x e size rest) exit loop b =
-    omega (arith, value-more e None t b, built-more t rest exit loop (used t e (λ r. op.Alloc x r size) b))
-built-more t (If e one two rest) exit loop b =
-    let join = Some (join_of one two b) in
-    let c = forked t e one two b in
-    let d = built t one join loop c in
-    let first = tested-more t (test_of e false) (length b.blocks + 1) (length b.blocks + 1 + block_count one) b in
-    omega (arith, first, built-more t one join loop c, built-more t two join loop d, built-more t rest exit loop (built t two join loop d))
-built-more t (Loop body step rest) exit loop b =
-    let head = Some (length b.blocks + 1) in
-    let c = entered b in
-    let d = built t body (Some (step_at body b)) (Some (targets_of body step b)) c in
-    omega (arith, built-more t body (Some (step_at body b)) (Some (targets_of body step b)) c, built-more t step head None d, built-more t rest exit loop (built t step head None d))
-built-more t (Break rest) exit loop b = omega arith
-built-more t (Continue rest) exit loop b = omega arith
-built-more t (Return e rest) exit loop b = value-more e None t b
+jump-more : (fresh : Bool) (to : ℕ) (b : Builder) → b.regs ≤ (with_jump fresh to b).regs
+jump-more true to b = omega arith
+jump-more false to b = omega arith
+
+left-more : (fresh : Bool) (exit : Option ℕ) (b : Builder) → b.regs ≤ (left fresh exit b).regs
+left-more fresh (Some to) b = jump-more fresh to b
+left-more fresh None b = omega arith
+
+pub built-more : (t : ℕ) (fresh : Bool) (code : Code) (exit : Option ℕ) (loop : Option Targets) (b : Builder) → b.regs ≤ (built t fresh code exit loop b).regs
+built-more t fresh End exit loop b = left-more fresh exit b
+built-more t fresh (Set x e rest) exit loop b = omega (arith, value-more e (Some x) t b, built-more t false rest exit loop (with_value e (Some x) t b))
+built-more t fresh (Store width a e rest) exit loop b =
+    omega (arith, stored-more t a e (op.Store width) b, built-more t false rest exit loop (stored t a e (op.Store width) b))
+built-more t fresh (Check check place e rest) exit loop b =
+    omega (arith, value-more e None t b, built-more t false rest exit loop (used t e (op.Check check place) b))
+built-more t fresh (Call target i es place rest) exit loop b =
+    omega (arith, values-more es t b, built-more t false rest exit loop (with_op (with_values es t b) (op.Call target i (registers_of es t) place)))
+built-more t fresh (Get x rest) exit loop b = built-more t false rest exit loop (with_op b (op.Get x))
+built-more t fresh (Put e rest) exit loop b = omega (arith, value-more e None t b, built-more t false rest exit loop (used t e op.Put b))
+built-more t fresh (Alloc x e size rest) exit loop b =
+    omega (arith, value-more e None t b, built-more t false rest exit loop (used t e (λ r. op.Alloc x r size) b))
+built-more t fresh (If e one two rest) exit loop b =
+    let join = join_of one two rest exit loop b in
+    let c = forked t e one two join loop b in
+    let d = built t true one (Some join) loop c in
+    let first = tested-more t (test_of e false) (goal one (one_at b) (Some join) loop) (goal two (two_at one b) (Some join) loop) b in
+    omega (arith, first, built-more t true one (Some join) loop c, built-more t true two (Some join) loop d, built-more t true rest exit loop (built t true two (Some join) loop d))
+built-more t fresh (Loop body step rest) exit loop b =
+    let c = entered fresh b in
+    let head = length c.blocks in
+    let here = targets_of body step rest exit loop head in
+    let first = not (passes body) in
+    let d = built t first body (Some here.step) (Some here) c in
+    omega (arith, jump-more fresh (length b.blocks + 1) b, built-more t first body (Some here.step) (Some here) c, built-more t true step (Some head) None d, built-more t true rest exit loop (built t true step (Some head) None d))
+built-more t fresh (Break rest) exit loop b = jump-more fresh (out_of loop) b
+built-more t fresh (Continue rest) exit loop b = jump-more fresh (step_of loop) b
+built-more t fresh (Return e rest) exit loop b = value-more e None t b
 
 -- ---- there are few registers
 
@@ -141,47 +150,57 @@ values-few (e ∷ es) t b h all few =
     values-few es (free_past e t) (with_register e t b) (omega (arith, past_at_most e t)) (All-tail IsShallow e es all)
     (register-few 4064 e t b (omega arith) few)
 
-built-few : (t : ℕ) → t ≤ 2000 → (code : Code) (exit : Option ℕ) (loop : Option Targets) (b : Builder) → KeepsLimits code → b.regs ≤ 4064 → (built t code exit loop b).regs ≤ 4064
-built-few t l End (Some to) loop b k few = few
-built-few t l End None loop b k few = few
-built-few t l (Set x e rest) exit loop b k few =
-    built-few t l rest exit loop (with_value e (Some x) t b) k.1 (value-few 4064 e (Some x) t b (omega (arith, k.0)) few)
-built-few t l (Store width a e rest) exit loop b k few =
-    built-few t l rest exit loop (stored t a e (op.Store width) b) k.2
+jump-few : (fresh : Bool) (to most : ℕ) (b : Builder) → b.regs ≤ most → (with_jump fresh to b).regs ≤ most
+jump-few true to most b few = few
+jump-few false to most b few = few
+
+left-few : (fresh : Bool) (exit : Option ℕ) (most : ℕ) (b : Builder) → b.regs ≤ most → (left fresh exit b).regs ≤ most
+left-few fresh (Some to) most b few = jump-few fresh to most b few
+left-few fresh None most b few = few
+
+built-few : (t : ℕ) → t ≤ 2000 → (fresh : Bool) (code : Code) (exit : Option ℕ) (loop : Option Targets) (b : Builder) → KeepsLimits code → b.regs ≤ 4064
+    → (built t fresh code exit loop b).regs ≤ 4064
+built-few t l fresh End exit loop b k few = left-few fresh exit 4064 b few
+built-few t l fresh (Set x e rest) exit loop b k few =
+    built-few t l false rest exit loop (with_value e (Some x) t b) k.1 (value-few 4064 e (Some x) t b (omega (arith, k.0)) few)
+built-few t l fresh (Store width a e rest) exit loop b k few =
+    built-few t l false rest exit loop (stored t a e (op.Store width) b) k.2
     (value-few 4064 e None (free_from a t) (with_value a None t b) (omega (arith, k.1, free_at_most a t)) (value-few 4064 a None t b (omega (arith, k.0)) few))
-built-few t l (Check check place e rest) exit loop b k few =
-    built-few t l rest exit loop (used t e (op.Check check place) b) k.1 (value-few 4064 e None t b (omega (arith, k.0)) few)
-built-few t l (Call target i es place rest) exit loop b k few =
-    built-few t l rest exit loop (with_op (with_values es t b) (op.Call target i (registers_of es t) place)) k.2
+built-few t l fresh (Check check place e rest) exit loop b k few =
+    built-few t l false rest exit loop (used t e (op.Check check place) b) k.1 (value-few 4064 e None t b (omega (arith, k.0)) few)
+built-few t l fresh (Call target i es place rest) exit loop b k few =
+    built-few t l false rest exit loop (with_op (with_values es t b) (op.Call target i (registers_of es t) place)) k.2
     (values-few es t b (omega (arith, k.0)) k.1 few)
-built-few t l (Get x rest) exit loop b k few = built-few t l rest exit loop (with_op b (op.Get x)) k few
-built-few t l (Put e rest) exit loop b k few =
-    built-few t l rest exit loop (used t e op.Put b) k.1 (value-few 4064 e None t b (omega (arith, k.0)) few)
-built-few t l (Alloc x e size rest) exit loop b k few =
-    built-few t l rest exit loop (used t e (λ r. op.Alloc x r size) b) k.1 (value-few 4064 e None t b (omega (arith, k.0)) few)
-built-few t l (If e one two rest) exit loop b k few =
-    let join = Some (join_of one two b) in
-    let c = forked t e one two b in
-    let d = built t one join loop c in
-    built-few t l rest exit loop (built t two join loop d) k.3
-    (built-few t l two join loop d k.2 (built-few t l one join loop c k.1
-    (tested-few e t (length b.blocks + 1) (length b.blocks + 1 + block_count one) b (omega (arith, k.0)) few)))
-built-few t l (Loop body step rest) exit loop b k few =
-    let head = Some (length b.blocks + 1) in
-    let c = entered b in
-    let d = built t body (Some (step_at body b)) (Some (targets_of body step b)) c in
-    built-few t l rest exit loop (built t step head None d) k.2
-    (built-few t l step head None d k.1 (built-few t l body (Some (step_at body b)) (Some (targets_of body step b)) c k.0 few))
-built-few t l (Break rest) exit loop b k few = few
-built-few t l (Continue rest) exit loop b k few = few
-built-few t l (Return e rest) exit loop b k few = value-few 4064 e None t b (omega (arith, k.0)) few
+built-few t l fresh (Get x rest) exit loop b k few = built-few t l false rest exit loop (with_op b (op.Get x)) k few
+built-few t l fresh (Put e rest) exit loop b k few =
+    built-few t l false rest exit loop (used t e op.Put b) k.1 (value-few 4064 e None t b (omega (arith, k.0)) few)
+built-few t l fresh (Alloc x e size rest) exit loop b k few =
+    built-few t l false rest exit loop (used t e (λ r. op.Alloc x r size) b) k.1 (value-few 4064 e None t b (omega (arith, k.0)) few)
+built-few t l fresh (If e one two rest) exit loop b k few =
+    let join = join_of one two rest exit loop b in
+    let c = forked t e one two join loop b in
+    let d = built t true one (Some join) loop c in
+    built-few t l true rest exit loop (built t true two (Some join) loop d) k.3
+    (built-few t l true two (Some join) loop d k.2 (built-few t l true one (Some join) loop c k.1
+    (tested-few e t (goal one (one_at b) (Some join) loop) (goal two (two_at one b) (Some join) loop) b (omega (arith, k.0)) few)))
+built-few t l fresh (Loop body step rest) exit loop b k few =
+    let c = entered fresh b in
+    let head = length c.blocks in
+    let here = targets_of body step rest exit loop head in
+    let first = not (passes body) in
+    let d = built t first body (Some here.step) (Some here) c in
+    built-few t l true rest exit loop (built t true step (Some head) None d) k.2
+    (built-few t l true step (Some head) None d k.1 (built-few t l first body (Some here.step) (Some here) c k.0 (jump-few fresh (length b.blocks + 1) 4064 b few)))
+built-few t l fresh (Break rest) exit loop b k few = jump-few fresh (out_of loop) 4064 b few
+built-few t l fresh (Continue rest) exit loop b k few = jump-few fresh (step_of loop) 4064 b few
+built-few t l fresh (Return e rest) exit loop b k few = value-few 4064 e None t b (omega (arith, k.0)) few
 
 few_each : (fs : List Function) → All IsSmallFunction fs → All (λ (g : TacFunc). g.regs ≤ 4064) (map lowered_function fs)
 few_each [] all = All-nil (λ (g : TacFunc). g.regs ≤ 4064)
 few_each (f ∷ fs) all =
     let small = All-head IsSmallFunction f fs all in
     All-cons (λ (g : TacFunc). g.regs ≤ 4064) (lowered_function f) (map lowered_function fs)
-    (built-few f.locals small.0 f.body None None (empty f.locals) small.1 (omega (arith, small.0)))
+    (built-few f.locals small.0 true f.body None None (empty f.locals) small.1 (omega (arith, small.0)))
     (few_each fs (All-tail IsSmallFunction f fs all))
 
 -- each function of a program within the limits has few registers

@@ -1,10 +1,10 @@
 -- The size of what is built is at most that of the code.
 use Rattle.std.proofs.Common.{◌≡◌, ℕ, ◌+◌, ◌≤◌, List, [], ◌∷◌, ◌++◌, length, refl, ◌∙◌, ap, arith}
-use Rattle.std.specs.Prelude.{Bool, true, false, ◌&&◌, if◌then◌else◌, Option, Some, None, sum_by, map}
+use Rattle.std.specs.Prelude.{Bool, true, false, not, ◌&&◌, if◌then◌else◌, Option, Some, None, sum_by, map}
 use Rattle.std.proofs.lemmas.List.Sums.{sum_by-append}
 use Rattle.ckc_base.specs.declared.arithmetic.Width.{Width}
 use Rattle.ckc_base.specs.declared.arithmetic.BinOp.{BinOp}
-use Rattle.ckc_base.specs.Sizes.{operation_size, branch_size, const_size, call_size, return_size}
+use Rattle.ckc_base.specs.Sizes.{operation_size, branch_size, const_size, call_size, jump_size, return_size}
 use Rattle.ckc_core.specs.Code.{Expr, Const, Local, Load, Bin, High, Code, End, Set, Store, Check, Call, Get, Put, Alloc, If, Loop, Break, Continue, Return, Function, Program}
 use Rattle.ckc_core.specs.Sizes.{expr_size, exprs_size, set_size, code_size, function_size, program_size}
 use Rattle.ckc_tac.specs.declared.code.TacBlock.{TacBlock}
@@ -17,7 +17,7 @@ use Rattle.ckc_tac.specs.declared.code.TacEnd.TheVariants as ends
 use Rattle.ckc_tac.specs.Sizes as T
 use Rattle.ckc_lower.specs.declared.builder.Builder.{Builder}
 use Rattle.ckc_lower.specs.declared.builder.Targets.{Targets}
-use Rattle.ckc_lower.specs.Built.{free_from, target_of, operand_of, registers_of, with_op, with_temporary, with_value, with_values, block_count, with_end, stored, used, forked, join_of, entered, step_at, targets_of, out_of, step_of, built, bin_of, is_even, is_number, free_past, with_register, test_of, branch_of, tested}
+use Rattle.ckc_lower.specs.Built.{free_from, target_of, operand_of, registers_of, with_op, with_temporary, with_value, with_values, with_end, with_jump, left, passes, goal, stored, used, one_at, two_at, forked, join_of, entered, targets_of, out_of, step_of, built, bin_of, is_even, is_number, free_past, with_register, test_of, branch_of, tested}
 use Rattle.ckc_lower.proofs.Arguments.{length-registers_of}
 use Rattle.ckc_lower.proofs.Conditions.{side_size, within}
 use Rattle.ckc_lower.specs.Lowered.{empty, whole, lowered_function, lowered}
@@ -168,64 +168,74 @@ abbrev fall_size : Option ℕ → ℕ
 fall_size (Some to) = 0
 fall_size None = const_size + return_size
 
-size-built : (t : ℕ) (code : Code) (exit : Option ℕ) (loop : Option Targets) (b : Builder) → size (built t code exit loop b) ≤ size b + code_size code + fall_size exit
-size-built t End (Some to) loop b = let e = size-end b (ends.Jump to) in omega (arith, e)
-size-built t End None loop b = let e = size-end b (ends.Return (Number 0)) in omega (arith, e)
-size-built t (Set x e rest) exit loop b =
+size-jump : (fresh : Bool) (to : ℕ) (b : Builder) → size (with_jump fresh to b) ≤ size b + jump_size
+size-jump true to b = omega arith
+size-jump false to b = omega (arith, size-end b (ends.Jump to))
+
+size-left : (fresh : Bool) (exit : Option ℕ) (b : Builder) → size (left fresh exit b) ≤ size b + jump_size + fall_size exit
+size-left fresh (Some to) b = omega (arith, size-jump fresh to b)
+size-left fresh None b = omega (arith, size-end b (ends.Return (Number 0)))
+
+size-built : (t : ℕ) (fresh : Bool) (code : Code) (exit : Option ℕ) (loop : Option Targets) (b : Builder) → size (built t fresh code exit loop b) ≤ size b + code_size code + fall_size exit
+size-built t fresh End exit loop b = size-left fresh exit b
+size-built t fresh (Set x e rest) exit loop b =
     let first = size-value e (Some x) t b in
-    let second = size-built t rest exit loop (with_value e (Some x) t b) in
+    let second = size-built t false rest exit loop (with_value e (Some x) t b) in
     omega (arith, first, second)
-size-built t (Store width a e rest) exit loop b =
+size-built t fresh (Store width a e rest) exit loop b =
     let first = size-stored t a e (op.Store width) b in
-    let second = size-built t rest exit loop (stored t a e (op.Store width) b) in
+    let second = size-built t false rest exit loop (stored t a e (op.Store width) b) in
     omega (arith, first, second)
-size-built t (Check check place e rest) exit loop b =
+size-built t fresh (Check check place e rest) exit loop b =
     let first = size-used t e (op.Check check place) b in
-    let second = size-built t rest exit loop (used t e (op.Check check place) b) in
+    let second = size-built t false rest exit loop (used t e (op.Check check place) b) in
     omega (arith, first, second)
-size-built t (Call target i es place rest) exit loop b =
+size-built t fresh (Call target i es place rest) exit loop b =
     let o = op.Call target i (registers_of es t) place in
     let c = with_values es t b in
     let first = size-values es t b in
     let second = size-op c o in
-    let third = size-built t rest exit loop (with_op c o) in
+    let third = size-built t false rest exit loop (with_op c o) in
     let fourth : T.op_size o ≡ call_size (length es) = ap call_size (length-registers_of es t) in
     omega (arith, first, second, third, fourth)
-size-built t (Get x rest) exit loop b =
+size-built t fresh (Get x rest) exit loop b =
     let first = size-op b (op.Get x) in
-    let second = size-built t rest exit loop (with_op b (op.Get x)) in
+    let second = size-built t false rest exit loop (with_op b (op.Get x)) in
     omega (arith, first, second)
-size-built t (Put e rest) exit loop b =
+size-built t fresh (Put e rest) exit loop b =
     let first = size-used t e op.Put b in
-    let second = size-built t rest exit loop (used t e op.Put b) in
+    let second = size-built t false rest exit loop (used t e op.Put b) in
     omega (arith, first, second)
-size-built t (Alloc x e size rest) exit loop b =
+size-built t fresh (Alloc x e size rest) exit loop b =
     let o : Operand → TacOp = λ r. op.Alloc x r size in
     let first = size-used t e o b in
-    let second = size-built t rest exit loop (used t e o b) in
+    let second = size-built t false rest exit loop (used t e o b) in
     omega (arith, first, second)
-size-built t (If e one two rest) exit loop b =
-    let join = Some (join_of one two b) in
-    let c = forked t e one two b in
-    let d = built t one join loop c in
-    let f = built t two join loop d in
-    let first = size-tested e t (length b.blocks + 1) (length b.blocks + 1 + block_count one) b in
-    let second = size-built t one join loop c in
-    let third = size-built t two join loop d in
-    let fourth = size-built t rest exit loop f in
+size-built t fresh (If e one two rest) exit loop b =
+    let join = join_of one two rest exit loop b in
+    let c = forked t e one two join loop b in
+    let d = built t true one (Some join) loop c in
+    let f = built t true two (Some join) loop d in
+    let first = size-tested e t (goal one (one_at b) (Some join) loop) (goal two (two_at one b) (Some join) loop) b in
+    let second = size-built t true one (Some join) loop c in
+    let third = size-built t true two (Some join) loop d in
+    let fourth = size-built t true rest exit loop f in
     omega (arith, first, second, third, fourth)
-size-built t (Loop body step rest) exit loop b =
-    let c = entered b in
-    let d = built t body (Some (step_at body b)) (Some (targets_of body step b)) c in
-    let f = built t step (Some (length b.blocks + 1)) None d in
-    let first = size-end b (ends.Jump (length b.blocks + 1)) in
-    let second = size-built t body (Some (step_at body b)) (Some (targets_of body step b)) c in
-    let third = size-built t step (Some (length b.blocks + 1)) None d in
-    let fourth = size-built t rest exit loop f in
+size-built t fresh (Loop body step rest) exit loop b =
+    let c = entered fresh b in
+    let head = length c.blocks in
+    let here = targets_of body step rest exit loop head in
+    let inner = not (passes body) in
+    let d = built t inner body (Some here.step) (Some here) c in
+    let f = built t true step (Some head) None d in
+    let first = size-jump fresh (length b.blocks + 1) b in
+    let second = size-built t inner body (Some here.step) (Some here) c in
+    let third = size-built t true step (Some head) None d in
+    let fourth = size-built t true rest exit loop f in
     omega (arith, first, second, third, fourth)
-size-built t (Break rest) exit loop b = let e = size-end b (ends.Jump (out_of loop)) in omega (arith, e)
-size-built t (Continue rest) exit loop b = let e = size-end b (ends.Jump (step_of loop)) in omega (arith, e)
-size-built t (Return e rest) exit loop b =
+size-built t fresh (Break rest) exit loop b = omega (arith, size-jump fresh (out_of loop) b)
+size-built t fresh (Continue rest) exit loop b = omega (arith, size-jump fresh (step_of loop) b)
+size-built t fresh (Return e rest) exit loop b =
     let first = size-value e None t b in
     let second = size-end (with_value e None t b) (ends.Return (operand_of e None t)) in
     omega (arith, first, second)
@@ -240,7 +250,7 @@ size-empty locals = refl
 
 lowered_function_size : (f : Function) → T.function_size (lowered_function f) ≤ function_size f
 lowered_function_size f =
-    let first = size-built f.locals f.body None None (empty f.locals) in
+    let first = size-built f.locals true f.body None None (empty f.locals) in
     let second = blocks_within (whole f) in
     let third = size-empty f.locals in
     omega (arith, first, second, third)

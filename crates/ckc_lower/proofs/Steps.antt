@@ -1,5 +1,5 @@
 -- Each step of core code is matched by steps of its three-address code.
-use Rattle.std.proofs.Common.{◌≡◌, inl, inr, ℕ, ◌+◌, ◌*◌, ◌≤◌, ◌==◌, List, [], ◌∷◌, ◌++◌, append-nil, length, refl, sym, ◌∙◌, ap, subst, arith}
+use Rattle.std.proofs.Common.{◌≡◌, inl, inr, ℕ, ◌+◌, ◌*◌, ◌≤◌, ◌<◌, ◌⊎◌, ◌==◌, List, [], ◌∷◌, ◌++◌, append-nil, length, refl, sym, ◌∙◌, ap, subst, arith}
 use Rattle.std.specs.Prelude.{Bool, true, false, if◌then◌else◌, Option, Some, None, slice_get}
 use Rattle.ckc_base.specs.declared.places.Pos.{Pos}
 use Rattle.ckc_base.specs.declared.arithmetic.Width.{Width}
@@ -10,7 +10,7 @@ use Rattle.ckc_base.specs.Steps.{Move, Halts}
 use Rattle.ckc_base.specs.Matching.{Stretch, Closes}
 use Rattle.ckc_base.specs.Actions.{Outcome, Gives, Done, Stops, Lost, with_value as by_value, stores, checks, gets, puts, allocates}
 use Rattle.ckc_base.specs.Activations.{Values, with_written, with_result, first_values, has_room}
-use Rattle.ckc_base.proofs.Runs.{Matched, one_step, one_halt, no_step, then_stretch, then_closes}
+use Rattle.ckc_base.proofs.Runs.{one_step, one_halt, no_step, then_stretch, then_closes}
 use Rattle.ckc_core.specs.Code.{Expr, Code, End, Set, Store, Check, Call, Get, Put, Alloc, If, Loop, Break, Continue, Return, Function}
 use Rattle.ckc_core.specs.Meaning.{Rest, Stop, Next, Body, Step, value_of, values_of, nodes, all_nodes}
 use Rattle.ckc_core.specs.Meaning as C
@@ -33,7 +33,8 @@ use Rattle.ckc_lower.proofs.Values.{value_ops, free_more, operand_stays, written
 use Rattle.ckc_lower.proofs.Appending.{test_ops}
 use Rattle.ckc_lower.proofs.Conditions.{within, decides, flipped}
 use Rattle.ckc_lower.proofs.Arguments.{length-registers_of, values_ops, computes_all}
-use Rattle.ckc_lower.proofs.Relation.{Leaves, loop_of, Runs, RunsAt, Continues, SameFrame, SameCallers, SameState, SameFunctions}
+use Rattle.ckc_lower.proofs.Falling.{MatchedBelow}
+use Rattle.ckc_lower.proofs.Relation.{IsThere, BeginsAt, Leaves, loop_of, Runs, RunsAt, LeadsTo, PassesTo, Stands, StandsAt, Continues, lead, pend, turns_of, SameFrame, SameCallers, SameState, left_of, SameFunctions}
 
 same_count : (cs : List C.Caller) (ds : List T.Caller) → SameCallers cs ds → length cs ≡ length ds
 same_count [] [] h = refl
@@ -44,7 +45,15 @@ same_count (c ∷ cs) (d ∷ ds) h = let e : length cs ≡ length ds = same_coun
 le_self : (n : ℕ) → n ≤ n
 le_self n = omega arith
 
-module _ (functions : List Function) (lowered : List TacFunc) (s : C.State) (blocks : List TacBlock) (callers : List T.Caller) (t : ℕ) (same : SameCallers s.callers callers) where
+some_block : (a b : TacBlock) → Some a ≡ Some b → a ≡ b
+some_block a b e = cc
+
+-- at most so many steps are made before code is run
+turns_few : {A B : Type 0} (code : Code) (rest : Rest) (x : A ⊎ B) → turns_of code rest x ≤ lead code + (1 + pend rest)
+turns_few {A} {B} code rest (inl a) = omega arith
+turns_few {A} {B} code rest (inr b) = omega arith
+
+module _ (functions : List Function) (lowered : List TacFunc) (s : C.State) (blocks : List TacBlock) (callers : List T.Caller) (t : ℕ) (same : SameCallers s.callers callers) (remaining : ℕ) where
   abbrev values : Values
   values = s.frame.locals
 
@@ -53,13 +62,13 @@ module _ (functions : List Function) (lowered : List TacFunc) (s : C.State) (blo
   point end ops registers = at lowered blocks end callers s.world ops registers
 
   abbrev Matches : T.State → ℕ → Move LongEvent C.State → Type 0
-  Matches u most move = Matched (tac_system lowered) SameState (λ _. 0) s u most move
+  Matches u most move = MatchedBelow (tac_system lowered) SameState left_of remaining u most move
 
   next_frame : (code : Code) (rest : Rest) (locals : Values) (g : T.Frame) (exit : Option ℕ) (loop : Option Targets)
       → Runs g.blocks t code g.ops g.end exit loop → Continues g.blocks t rest exit loop → Agree t g.registers locals
       → SameFrame (record { code = code; rest = rest; locals = locals }) g
   next_frame code rest locals g exit loop r c a =
-      record { locals = t; exit = exit; loop_at = loop; runs = r; continues = c; agree = a }
+      record { locals = t; exit = exit; loop_at = loop; stands = inl r; continues = c; agree = a }
 
   -- an outcome that an operation comes to, behind some steps
   by_outcome : (end : TacEnd) (u : T.State) (count most : ℕ) (code : Code) (o : TacOp) (more : List TacOp) (after : Values) (exit : Option ℕ) (loop : Option Targets) (out : Outcome)
@@ -74,14 +83,14 @@ module _ (functions : List Function) (lowered : List TacFunc) (s : C.State) (blo
       let last : Stretch (tac_system lowered) 1 events v w = subst (λ n. Stretch (tac_system lowered) n events v w) one (one_step (tac_system lowered) events v w e) in (
         count + 1,
         w,
-        few,
-        inl (omega arith),
-        then_stretch (tac_system lowered) count 1 [] events u v w path last,
         record {
           frame = next_frame code s.frame.rest (with_written values x value) w.frame exit loop r c (λ y less. written_like after values x value y (agree y less));
           callers = same;
           world = refl;
         },
+        few,
+        inl (omega arith),
+        then_stretch (tac_system lowered) count 1 [] events u v w path last,
       )
   by_outcome end u count most code o more after exit loop (Done events world) path e plain few r c agree =
       let one : extra_of o + 1 ≡ 1 = omega arith in
@@ -90,10 +99,10 @@ module _ (functions : List Function) (lowered : List TacFunc) (s : C.State) (blo
       let last : Stretch (tac_system lowered) 1 events v w = subst (λ n. Stretch (tac_system lowered) n events v w) one (one_step (tac_system lowered) events v w e) in (
         count + 1,
         w,
+        record { frame = next_frame code s.frame.rest values w.frame exit loop r c agree; callers = same; world = refl },
         few,
         inl (omega arith),
         then_stretch (tac_system lowered) count 1 [] events u v w path last,
-        record { frame = next_frame code s.frame.rest values w.frame exit loop r c agree; callers = same; world = refl },
       )
   by_outcome end u count most code o more after exit loop (Stops check place) path e plain few r c agree =
       let one : extra_of o + 1 ≡ 1 = omega arith in
@@ -102,11 +111,39 @@ module _ (functions : List Function) (lowered : List TacFunc) (s : C.State) (blo
       inr (count + 1, few, tt, then_closes (tac_system lowered) count 1 [] [] u v (Stopped check place) path last)
   by_outcome end u count most code o more after exit loop Lost path e plain few r c agree = inl refl
 
+  -- ---- jumps
+
+  -- code that is led to stands where the block begins
+  from_own : (to : ℕ) (code : Code) (ops : List TacOp) (end : TacEnd) (exit : Option ℕ) (loop : Option Targets)
+      → RunsAt blocks t to code exit loop → BeginsAt blocks to ops end → Runs blocks t code ops end exit loop
+  from_own to code ops end exit loop r g =
+      let is : r.0 ≡ g.0 = some_block r.0 g.0 (sym r.1 ∙ g.1) in
+      let first : Runs blocks t code g.0.ops g.0.end exit loop = subst (λ (b : TacBlock). Runs blocks t code b.ops b.end exit loop) is r.2 in
+      subst (λ o. Runs blocks t code o end exit loop) (sym g.2) (subst (λ n. Runs blocks t code g.0.ops n exit loop) (sym g.3) first)
+
+  begun : (to : ℕ) (code : Code) (ops : List TacOp) (end : TacEnd) (exit : Option ℕ) (loop : Option Targets)
+      → LeadsTo blocks t to code exit loop → BeginsAt blocks to ops end → Stands blocks t code ops end exit loop
+  begun to End ops end (Some e) loop l g = inr (to, l.0, g)
+  begun to (Break rest) ops end exit loop l g = inr (to, l.0, g)
+  begun to (Continue rest) ops end exit loop l g = inr (to, l.0, g)
+  begun to code ops end exit loop l g = inl (from_own to code ops end exit loop l g)
+
+  there_of : (to : ℕ) (code : Code) (exit : Option ℕ) (loop : Option Targets) → LeadsTo blocks t to code exit loop → IsThere blocks to
+  there_of to End (Some e) loop l = l.1
+  there_of to (Break rest) exit loop l = l.1
+  there_of to (Continue rest) exit loop l = l.1
+  there_of to code exit loop l = (l.0, l.1)
+
+  arrives : (to : ℕ) (code : Code) (exit : Option ℕ) (loop : Option Targets) → LeadsTo blocks t to code exit loop → StandsAt blocks t to code exit loop
+  arrives to code exit loop l =
+      let there = there_of to code exit loop l in
+      (there.0, there.1, begun to code there.0.ops there.0.end exit loop l (there.0, there.1, refl, refl))
+
   -- a jump to where the code stands
   by_jump : (end : TacEnd) (u : T.State) (count most to : ℕ) (code : Code) (rest : Rest) (after : Values) (exit : Option ℕ) (loop : Option Targets)
       → Stretch (tac_system lowered) count [] u (point end [] after)
       → tac_step lowered (point end [] after) ≡ T.goes_to (point end [] after) (slice_get blocks to) → count + 1 ≤ most
-      → RunsAt blocks t to code exit loop → Continues blocks t rest exit loop → Agree t after values
+      → StandsAt blocks t to code exit loop → Continues blocks t rest exit loop → Agree t after values
       → Matches u most (C.goes_to s code rest)
   by_jump end u count most to code rest after exit loop path e few r c agree =
       let v = point end [] after in
@@ -114,11 +151,69 @@ module _ (functions : List Function) (lowered : List TacFunc) (s : C.State) (blo
       let last = one_step (tac_system lowered) [] v w (e ∙ ap (T.goes_to v) r.1) in (
         count + 1,
         w,
+        record {
+          frame = record { locals = t; exit = exit; loop_at = loop; stands = r.2; continues = c; agree = agree };
+          callers = same;
+          world = refl;
+        },
         few,
         inl (omega arith),
         then_stretch (tac_system lowered) count 1 [] [] u v w path last,
-        record { frame = next_frame code rest values w.frame exit loop r.2 c agree; callers = same; world = refl },
       )
+
+  -- no step, where the code stands here already
+  by_none : (code : Code) (rest : Rest) (end : TacEnd) (ops : List TacOp) (registers : Values) (exit : Option ℕ) (loop : Option Targets) (most : ℕ)
+      → (st : Stands blocks t code ops end exit loop) → Continues blocks t rest exit loop → Agree t registers values
+      → turns_of code rest st < remaining
+      → Matches (point end ops registers) most (C.goes_to s code rest)
+  by_none code rest end ops registers exit loop most st c agree falls =
+      let u = point end ops registers in (
+        0,
+        u,
+        record {
+          frame = record { locals = t; exit = exit; loop_at = loop; stands = st; continues = c; agree = agree };
+          callers = same;
+          world = refl;
+        },
+        omega arith,
+        inr falls,
+        no_step (tac_system lowered) u,
+      )
+
+  -- a block that only jumps
+  by_block : (to : ℕ) (code : Code) (rest : Rest) (end : TacEnd) (ops : List TacOp) (registers : Values) (exit : Option ℕ) (loop : Option Targets)
+      → ops ≡ [] → end ≡ ends.Jump to → StandsAt blocks t to code exit loop → Continues blocks t rest exit loop → Agree t registers values
+      → Matches (point end ops registers) (4 * (0 + 1)) (C.goes_to s code rest)
+  unfolding tac_step
+  by_block to code rest end ops registers exit loop at_ops at_end r c agree =
+      let v = point (ends.Jump to) [] registers in
+      let matched = by_jump (ends.Jump to) v 0 (4 * (0 + 1)) to code rest registers exit loop (no_step (tac_system lowered) v) refl (omega arith) r c agree in
+      subst (λ n. Matches (point n ops registers) (4 * (0 + 1)) (C.goes_to s code rest)) (sym at_end)
+      (subst (λ o. Matches (point (ends.Jump to) o registers) (4 * (0 + 1)) (C.goes_to s code rest)) (sym at_ops) matched)
+
+  -- The next block is jumped to, or it begins here and less than so many steps remain.
+  abbrev Comes : TacEnd → List TacOp → (to most : ℕ) → Type 0
+  Comes end ops to most = ((ops ≡ []) × (end ≡ ends.Jump to)) ⊎ (BeginsAt blocks to ops end × (most ≤ remaining))
+
+  by_come : (to most : ℕ) (code : Code) (rest : Rest) (end : TacEnd) (ops : List TacOp) (registers : Values) (exit : Option ℕ) (loop : Option Targets)
+      → Comes end ops to most → LeadsTo blocks t to code exit loop → Continues blocks t rest exit loop → Agree t registers values
+      → lead code + (1 + pend rest) < most
+      → Matches (point end ops registers) (4 * (0 + 1)) (C.goes_to s code rest)
+  by_come to most code rest end ops registers exit loop (inl h) l c agree less =
+      by_block to code rest end ops registers exit loop h.0 h.1 (arrives to code exit loop l) c agree
+  by_come to most code rest end ops registers exit loop (inr h) l c agree less =
+      let st = begun to code ops end exit loop l h.0 in
+      by_none code rest end ops registers exit loop (4 * (0 + 1)) st c agree (omega (arith, turns_few code rest st, h.1))
+
+  -- the same to a block of the code's own
+  by_come_own : (to most : ℕ) (code : Code) (rest : Rest) (end : TacEnd) (ops : List TacOp) (registers : Values) (exit : Option ℕ) (loop : Option Targets)
+      → Comes end ops to most → RunsAt blocks t to code exit loop → Continues blocks t rest exit loop → Agree t registers values
+      → lead code < most
+      → Matches (point end ops registers) (4 * (0 + 1)) (C.goes_to s code rest)
+  by_come_own to most code rest end ops registers exit loop (inl h) r c agree less =
+      by_block to code rest end ops registers exit loop h.0 h.1 (r.0, r.1, inl r.2) c agree
+  by_come_own to most code rest end ops registers exit loop (inr h) r c agree less =
+      by_none code rest end ops registers exit loop (4 * (0 + 1)) (inl (from_own to code ops end exit loop r h.0)) c agree (omega (arith, h.1))
 
   -- ---- statements
 
@@ -132,15 +227,15 @@ module _ (functions : List Function) (lowered : List TacFunc) (s : C.State) (blo
       let u = point end r.0 p.after in (
         p.count,
         u,
-        omega (arith, p.few),
-        inl p.some,
-        subst (λ o. Stretch (tac_system lowered) p.count [] (point end o registers) u) (sym r.1) p.path,
         record {
           frame = next_frame code s.frame.rest (with_written values x w) u.frame exit loop r.3 c
               (λ y less. p.same y less ∙ written_like registers values x w y (agree y less));
           callers = same;
           world = refl;
         },
+        omega (arith, p.few),
+        inl p.some,
+        subst (λ o. Stretch (tac_system lowered) p.count [] (point end o registers) u) (sym r.1) p.path,
       )
 
   -- a statement with one expression, and the operation on its value
@@ -200,13 +295,13 @@ module _ (functions : List Function) (lowered : List TacFunc) (s : C.State) (blo
   by_choice : (zero : Bool) (one two code : Code) (one_at two_at join : ℕ) (end : TacEnd) (u : T.State) (count most : ℕ) (after : Values) (exit : Option ℕ) (loop : Option Targets)
       → Stretch (tac_system lowered) count [] u (point end [] after)
       → tac_step lowered (point end [] after) ≡ (if zero then T.goes_to (point end [] after) (slice_get blocks two_at) else T.goes_to (point end [] after) (slice_get blocks one_at))
-      → count + 1 ≤ most → RunsAt blocks t one_at one (Some join) loop → RunsAt blocks t two_at two (Some join) loop
-      → RunsAt blocks t join code exit loop → Continues blocks t s.frame.rest exit loop → Agree t after values
+      → count + 1 ≤ most → LeadsTo blocks t one_at one (Some join) loop → LeadsTo blocks t two_at two (Some join) loop
+      → LeadsTo blocks t join code exit loop → Continues blocks t s.frame.rest exit loop → Agree t after values
       → Matches u most (if zero then C.goes_to s two (Next code s.frame.rest) else C.goes_to s one (Next code s.frame.rest))
   by_choice true one two code one_at two_at join end u count most after exit loop path e few p q r c agree =
-      by_jump end u count most two_at two (Next code s.frame.rest) after (Some join) loop path e few q (join, exit, refl, r, c) agree
+      by_jump end u count most two_at two (Next code s.frame.rest) after (Some join) loop path e few (arrives two_at two (Some join) loop q) (join, exit, refl, r, c) agree
   by_choice false one two code one_at two_at join end u count most after exit loop path e few p q r c agree =
-      by_jump end u count most one_at one (Next code s.frame.rest) after (Some join) loop path e few p (join, exit, refl, r, c) agree
+      by_jump end u count most one_at one (Next code s.frame.rest) after (Some join) loop path e few (arrives one_at one (Some join) loop p) (join, exit, refl, r, c) agree
 
   -- a branch whose targets are exchanged where its test is turned
   goes_picked : (goes : ℕ → Move LongEvent T.State) (turned b : Bool) (one two : ℕ)
@@ -251,44 +346,38 @@ module _ (functions : List Function) (lowered : List TacFunc) (s : C.State) (blo
       subst (λ n. Matches (point n ops registers) (4 * (nodes e + 1)) (C.branches s one two code (Some w))) (sym r.4)
       (subst (λ o. Matches (point fork o registers) (4 * (nodes e + 1)) (C.branches s one two code (Some w))) (sym r.3) matched)
 
-  -- a block that only jumps
-  by_block : (to : ℕ) (code : Code) (rest : Rest) (end : TacEnd) (ops : List TacOp) (registers : Values) (exit : Option ℕ) (loop : Option Targets)
-      → ops ≡ [] → end ≡ ends.Jump to → RunsAt blocks t to code exit loop → Continues blocks t rest exit loop → Agree t registers values
-      → Matches (point end ops registers) (4 * (0 + 1)) (C.goes_to s code rest)
-  unfolding tac_step
-  by_block to code rest end ops registers exit loop at_ops at_end r c agree =
-      let v = point (ends.Jump to) [] registers in
-      let matched = by_jump (ends.Jump to) v 0 (4 * (0 + 1)) to code rest registers exit loop (no_step (tac_system lowered) v) refl (omega arith) r c agree in
-      subst (λ n. Matches (point n ops registers) (4 * (0 + 1)) (C.goes_to s code rest)) (sym at_end)
-      (subst (λ o. Matches (point (ends.Jump to) o registers) (4 * (0 + 1)) (C.goes_to s code rest)) (sym at_ops) matched)
-
   by_loop : (body step code : Code) (end : TacEnd) (ops : List TacOp) (registers : Values) (exit : Option ℕ) (loop : Option Targets)
-      → Runs blocks t (Loop body step code) ops end exit loop → Continues blocks t s.frame.rest exit loop → Agree t registers values
+      → Runs blocks t (Loop body step code) ops end exit loop → lead (Loop body step code) ≤ remaining
+      → Continues blocks t s.frame.rest exit loop → Agree t registers values
       → Matches (point end ops registers) (4 * (0 + 1)) (C.goes_to s body (Body body step code s.frame.rest))
-  by_loop body step code end ops registers exit loop r c agree =
-      by_block r.0 body (Body body step code s.frame.rest) end ops registers (Some r.1) (loop_of r.2 r.1) r.3 r.4 r.5
-      (r.0, r.1, r.2, exit, loop, refl, refl, record { body_runs = r.5; step_runs = r.6; behind = r.7 }, c) agree
+  by_loop body step code end ops registers exit loop r few c agree =
+      by_come_own r.0 (1 + lead body) body (Body body step code s.frame.rest) end ops registers (Some r.1) (loop_of r.2 r.1) (come r.3) r.4
+      (r.0, r.1, r.2, exit, loop, refl, refl, record { body_runs = r.4; step_runs = r.5; behind = r.6 }, c) agree (omega arith)
+    where
+      come : {A : Type 0} → A ⊎ BeginsAt blocks r.0 ops end → A ⊎ (BeginsAt blocks r.0 ops end × (1 + lead body ≤ remaining))
+      come {A} (inl h) = inl h
+      come {A} (inr h) = inr (h, few)
 
-  by_break : (rest : Rest) (end : TacEnd) (ops : List TacOp) (registers : Values) (exit : Option ℕ) (loop : Option Targets)
-      → ops ≡ [] → end ≡ ends.Jump (out_of loop) → Continues blocks t rest exit loop → Agree t registers values
+  by_break : (rest : Rest) (most : ℕ) (end : TacEnd) (ops : List TacOp) (registers : Values) (exit : Option ℕ) (loop : Option Targets)
+      → Comes end ops (out_of loop) most → pend rest < most → Continues blocks t rest exit loop → Agree t registers values
       → Matches (point end ops registers) (4 * (0 + 1)) (C.breaks s rest)
-  by_break Stop end ops registers exit loop at_ops at_end c agree = inl refl
-  by_break (Next code after) end ops registers exit loop at_ops at_end c agree =
-      by_break after end ops registers c.1 loop at_ops at_end c.4 agree
-  by_break (Body body step code after) end ops registers exit loop at_ops at_end c agree =
-      by_block c.2 code after end ops registers c.3 c.4 at_ops (at_end ∙ ap (λ l. ends.Jump (out_of l)) c.6) c.7.behind c.8 agree
-  by_break (Step body step code after) end ops registers exit loop at_ops at_end c agree = inl refl
+  by_break Stop most end ops registers exit loop h less c agree = inl refl
+  by_break (Next code after) most end ops registers exit loop h less c agree =
+      by_break after most end ops registers c.1 loop h (omega arith) c.4 agree
+  by_break (Body body step code after) most end ops registers exit loop h less c agree =
+      by_come c.2 most code after end ops registers c.3 c.4 (subst (λ l. Comes end ops (out_of l) most) c.6 h) c.7.behind c.8 agree (omega arith)
+  by_break (Step body step code after) most end ops registers exit loop h less c agree = inl refl
 
-  by_continue : (rest : Rest) (end : TacEnd) (ops : List TacOp) (registers : Values) (exit : Option ℕ) (loop : Option Targets)
-      → ops ≡ [] → end ≡ ends.Jump (step_of loop) → Continues blocks t rest exit loop → Agree t registers values
+  by_continue : (rest : Rest) (most : ℕ) (end : TacEnd) (ops : List TacOp) (registers : Values) (exit : Option ℕ) (loop : Option Targets)
+      → Comes end ops (step_of loop) most → pend rest < most → Continues blocks t rest exit loop → Agree t registers values
       → Matches (point end ops registers) (4 * (0 + 1)) (C.continues s rest)
-  by_continue Stop end ops registers exit loop at_ops at_end c agree = inl refl
-  by_continue (Next code after) end ops registers exit loop at_ops at_end c agree =
-      by_continue after end ops registers c.1 loop at_ops at_end c.4 agree
-  by_continue (Body body step code after) end ops registers exit loop at_ops at_end c agree =
-      by_block c.1 step (Step body step code after) end ops registers (Some c.0) None at_ops (at_end ∙ ap (λ l. ends.Jump (step_of l)) c.6)
-      c.7.step_runs (c.0, c.1, c.2, c.3, c.4, refl, refl, c.7, c.8) agree
-  by_continue (Step body step code after) end ops registers exit loop at_ops at_end c agree = inl refl
+  by_continue Stop most end ops registers exit loop h less c agree = inl refl
+  by_continue (Next code after) most end ops registers exit loop h less c agree =
+      by_continue after most end ops registers c.1 loop h (omega arith) c.4 agree
+  by_continue (Body body step code after) most end ops registers exit loop h less c agree =
+      by_come c.1 most step (Step body step code after) end ops registers (Some c.0) None (subst (λ l. Comes end ops (step_of l) most) c.6 h)
+      c.7.step_runs (c.0, c.1, c.2, c.3, c.4, refl, refl, c.7, c.8) agree (omega arith)
+  by_continue (Step body step code after) most end ops registers exit loop h less c agree = inl refl
 
   -- ---- returns
 
@@ -308,15 +397,12 @@ module _ (functions : List Function) (lowered : List TacFunc) (s : C.State) (blo
       let f = h.0 in (
         count + 1,
         x,
-        few,
-        inl (omega arith),
-        then_stretch (tac_system lowered) count 1 [] (Returned ∷ []) u v x path last,
         record {
           frame = record {
             locals = f.locals;
             exit = f.exit;
             loop_at = f.loop_at;
-            runs = f.runs;
+            stands = f.stands;
             continues = f.continues;
             agree = λ y less.
                 result_like d.frame.registers c.frame.locals d.target value y (f.agree y less)
@@ -325,6 +411,9 @@ module _ (functions : List Function) (lowered : List TacFunc) (s : C.State) (blo
           callers = h.2;
           world = sym w;
         },
+        few,
+        inl (omega arith),
+        then_stretch (tac_system lowered) count 1 [] (Returned ∷ []) u v x path last,
       )
 
   by_return : (e : Expr) (code : Code) (end : TacEnd) (ops : List TacOp) (registers : Values) (exit : Option ℕ) (loop : Option Targets) (v : Option ℕ)
@@ -356,23 +445,35 @@ module _ (functions : List Function) (lowered : List TacFunc) (s : C.State) (blo
       subst (λ n. Matches (point n ops registers) (4 * (0 + 1)) (C.returns s s.callers 0)) (sym at_end)
       (subst (λ o. Matches (point last o registers) (4 * (0 + 1)) (C.returns s s.callers 0)) (sym at_ops) matched)
 
-  by_end : (rest : Rest) (end : TacEnd) (ops : List TacOp) (registers : Values) (exit : Option ℕ) (loop : Option Targets)
-      → Leaves ops end exit → Continues blocks t rest exit loop → Agree t registers values
+  -- where the end of a list leads that is left for the exit
+  comes_end : (exit : Option ℕ) (to most : ℕ) (end : TacEnd) (ops : List TacOp) (loop : Option Targets) → exit ≡ Some to
+      → (st : Stands blocks t End ops end exit loop) → turns_of End s.frame.rest st ≤ remaining → most ≡ 1 + pend s.frame.rest → Comes end ops to most
+  comes_end exit to most end ops loop e (inl leave) few is = inl (subst (Leaves ops end) e leave)
+  comes_end exit to most end ops loop e (inr p) few is =
+      let passes : p.0 ≡ to = subst (λ x. PassesTo End x loop p.0) e p.1 in
+      inr (subst (λ i. BeginsAt blocks i ops end) passes p.2, omega arith)
+
+  by_end : (rest : Rest) → rest ≡ s.frame.rest → (end : TacEnd) (ops : List TacOp) (registers : Values) (exit : Option ℕ) (loop : Option Targets)
+      → (st : Stands blocks t End ops end exit loop) → turns_of End s.frame.rest st ≤ remaining
+      → Continues blocks t rest exit loop → Agree t registers values
       → Matches (point end ops registers) (4 * (0 + 1)) (C.ends s rest)
-  by_end Stop end ops registers exit loop leave c agree =
-      let l = subst (Leaves ops end) c.0 leave in
-      by_fall end ops registers l.0 l.1
-  by_end (Next code after) end ops registers exit loop leave c agree =
-      let l = subst (Leaves ops end) c.2 leave in
-      by_block c.0 code after end ops registers c.1 loop l.0 l.1 c.3 c.4 agree
-  by_end (Body body step code after) end ops registers exit loop leave c agree =
-      let l = subst (Leaves ops end) c.5 leave in
-      by_block c.1 step (Step body step code after) end ops registers (Some c.0) None l.0 l.1 c.7.step_runs
-      (c.0, c.1, c.2, c.3, c.4, refl, refl, c.7, c.8) agree
-  by_end (Step body step code after) end ops registers exit loop leave c agree =
-      let l = subst (Leaves ops end) c.5 leave in
-      by_block c.0 body (Body body step code after) end ops registers (Some c.1) (loop_of c.2 c.1) l.0 l.1 c.7.body_runs
-      (c.0, c.1, c.2, c.3, c.4, refl, refl, c.7, c.8) agree
+  by_end Stop is end ops registers exit loop st few c agree =
+      stopped (subst (λ x. Stands blocks t End ops end x loop) c.0 st)
+    where
+      stopped : Stands blocks t End ops end None loop → Matches (point end ops registers) (4 * (0 + 1)) (C.returns s s.callers 0)
+      stopped (inl leave) = by_fall end ops registers leave.0 leave.1
+      stopped (inr p) = absurd p.1
+  by_end (Next code after) is end ops registers exit loop st few c agree =
+      by_come c.0 (1 + pend (Next code after)) code after end ops registers c.1 loop
+      (comes_end exit c.0 (1 + pend (Next code after)) end ops loop c.2 st few (ap (λ r. 1 + pend r) is)) c.3 c.4 agree (omega arith)
+  by_end (Body body step code after) is end ops registers exit loop st few c agree =
+      by_come c.1 (1 + pend (Body body step code after)) step (Step body step code after) end ops registers (Some c.0) None
+      (comes_end exit c.1 (1 + pend (Body body step code after)) end ops loop c.5 st few (ap (λ r. 1 + pend r) is)) c.7.step_runs
+      (c.0, c.1, c.2, c.3, c.4, refl, refl, c.7, c.8) agree (omega arith)
+  by_end (Step body step code after) is end ops registers exit loop st few c agree =
+      by_come_own c.0 (1 + pend (Step body step code after)) body (Body body step code after) end ops registers (Some c.1) (loop_of c.2 c.1)
+      (comes_end exit c.0 (1 + pend (Step body step code after)) end ops loop c.5 st few (ap (λ r. 1 + pend r) is)) c.7.body_runs
+      (c.0, c.1, c.2, c.3, c.4, refl, refl, c.7, c.8) agree (omega arith)
 
   -- ---- calls
 
@@ -400,14 +501,14 @@ module _ (functions : List Function) (lowered : List TacFunc) (s : C.State) (blo
         (e ∙ ap (T.enters v more target vs) found.1 ∙ ap (T.enters_block v more target vs g.blocks) found.2.1) in (
           count + (extra_of o + 1),
           w,
-          few,
-          inl (omega arith),
-          then_stretch (tac_system lowered) count (extra_of o + 1) [] (Entered ∷ []) u v w path last,
           record {
-            frame = record { locals = f.locals; exit = None; loop_at = None; runs = found.2.2; continues = (refl, refl); agree = λ y less. refl };
+            frame = record { locals = f.locals; exit = None; loop_at = None; stands = inl found.2.2; continues = (refl, refl); agree = λ y less. refl };
             callers = (next_frame code s.frame.rest values (record v.frame { ops = more }) exit loop r c agree, refl, same);
             world = refl;
           },
+          few,
+          inl (omega arith),
+          then_stretch (tac_system lowered) count (extra_of o + 1) [] (Entered ∷ []) u v w path last,
         )
 
     -- the test of the depth
@@ -452,34 +553,55 @@ module _ (functions : List Function) (lowered : List TacFunc) (s : C.State) (blo
 
     -- ---- all steps
 
-    pub steps : (code : Code) (end : TacEnd) (ops : List TacOp) (registers : Values) (exit : Option ℕ) (loop : Option Targets)
-        → Runs blocks t code ops end exit loop → Continues blocks t s.frame.rest exit loop → Agree t registers values
+    own_steps : (code : Code) (end : TacEnd) (ops : List TacOp) (registers : Values) (exit : Option ℕ) (loop : Option Targets)
+        → Runs blocks t code ops end exit loop → lead code ≤ remaining → Continues blocks t s.frame.rest exit loop → Agree t registers values
         → Matches (point end ops registers) (4 * (C.extra_steps code + 1)) (C.runs functions s code)
     unfolding tac_step
-    steps End end ops registers exit loop r c agree = by_end s.frame.rest end ops registers exit loop r c agree
-    steps (Set x e code) end ops registers exit loop r c agree =
+    own_steps End end ops registers exit loop r few c agree = by_end s.frame.rest refl end ops registers exit loop (inl r) few c agree
+    own_steps (Set x e code) end ops registers exit loop r few c agree =
         by_set x e code end ops registers exit loop (value_of values s.world.memory e) r c agree refl
-    steps (Store width a e code) end ops registers exit loop r c agree =
+    own_steps (Store width a e code) end ops registers exit loop r few c agree =
         by_store width a e code end ops registers exit loop (value_of values s.world.memory a) (value_of values s.world.memory e) r c agree refl refl
-    steps (Check check place e code) end ops registers exit loop r c agree =
+    own_steps (Check check place e code) end ops registers exit loop r few c agree =
         by_use e (checks s.world check place) (op.Check check place) code end r.0 ops registers exit loop (value_of values s.world.memory e)
         (λ q. refl) (λ q w after h. ap (λ z. T.goes_by (point end (op.Check check place q ∷ r.0) after) r.0 (by_value z (checks s.world check place))) h)
         r.1 r.2 r.3 c agree refl
-    steps (Call target i es place code) end ops registers exit loop r c agree =
+    own_steps (Call target i es place code) end ops registers exit loop r few c agree =
         by_call target i es place code end ops registers exit loop (values_of values s.world.memory es) r c agree refl
-    steps (Get x code) end ops registers exit loop r c agree = by_get x code end ops registers exit loop r c agree
-    steps (Put e code) end ops registers exit loop r c agree =
+    own_steps (Get x code) end ops registers exit loop r few c agree = by_get x code end ops registers exit loop r c agree
+    own_steps (Put e code) end ops registers exit loop r few c agree =
         by_use e (puts s.world) op.Put code end r.0 ops registers exit loop (value_of values s.world.memory e)
         (λ q. refl) (λ q w after h. ap (λ z. T.goes_by (point end (op.Put q ∷ r.0) after) r.0 (by_value z (puts s.world))) h)
         r.1 r.2 r.3 c agree refl
-    steps (Alloc x e size code) end ops registers exit loop r c agree =
+    own_steps (Alloc x e size code) end ops registers exit loop r few c agree =
         by_use e (λ n. allocates s.world x n size) (λ q. op.Alloc x q size) code end r.0 ops registers exit loop (value_of values s.world.memory e)
         (λ q. refl) (λ q w after h. ap (λ z. T.goes_by (point end (op.Alloc x q size ∷ r.0) after) r.0 (by_value z (λ n. allocates s.world x n size))) h)
         r.1 r.2 r.3 c agree refl
-    steps (If e one two code) end ops registers exit loop r c agree =
+    own_steps (If e one two code) end ops registers exit loop r few c agree =
         by_if e one two code end ops registers exit loop (value_of values s.world.memory e) r c agree refl
-    steps (Loop body step code) end ops registers exit loop r c agree = by_loop body step code end ops registers exit loop r c agree
-    steps (Break code) end ops registers exit loop r c agree = by_break s.frame.rest end ops registers exit loop r.0 r.1 c agree
-    steps (Continue code) end ops registers exit loop r c agree = by_continue s.frame.rest end ops registers exit loop r.0 r.1 c agree
-    steps (Return e code) end ops registers exit loop r c agree =
+    own_steps (Loop body step code) end ops registers exit loop r few c agree = by_loop body step code end ops registers exit loop r few c agree
+    own_steps (Break code) end ops registers exit loop r few c agree =
+        by_break s.frame.rest (1 + pend s.frame.rest) end ops registers exit loop (inl r) (omega arith) c agree
+    own_steps (Continue code) end ops registers exit loop r few c agree =
+        by_continue s.frame.rest (1 + pend s.frame.rest) end ops registers exit loop (inl r) (omega arith) c agree
+    own_steps (Return e code) end ops registers exit loop r few c agree =
         by_return e code end ops registers exit loop (value_of values s.world.memory e) r agree refl
+
+    -- code that passes to the block that begins here
+    passing_steps : (code : Code) (end : TacEnd) (ops : List TacOp) (registers : Values) (exit : Option ℕ) (loop : Option Targets)
+        → (p : (to : ℕ) × PassesTo code exit loop to × BeginsAt blocks to ops end) → 1 + pend s.frame.rest ≤ remaining
+        → Continues blocks t s.frame.rest exit loop → Agree t registers values
+        → Matches (point end ops registers) (4 * (C.extra_steps code + 1)) (C.runs functions s code)
+    passing_steps End end ops registers exit loop p few c agree = by_end s.frame.rest refl end ops registers exit loop (inr p) few c agree
+    passing_steps (Break code) end ops registers exit loop p few c agree =
+        by_break s.frame.rest (1 + pend s.frame.rest) end ops registers exit loop (inr (subst (λ i. BeginsAt blocks i ops end) p.1 p.2, few)) (omega arith) c agree
+    passing_steps (Continue code) end ops registers exit loop p few c agree =
+        by_continue s.frame.rest (1 + pend s.frame.rest) end ops registers exit loop (inr (subst (λ i. BeginsAt blocks i ops end) p.1 p.2, few)) (omega arith) c agree
+    passing_steps code end ops registers exit loop p few c agree = absurd p.1
+
+    pub steps : (code : Code) (end : TacEnd) (ops : List TacOp) (registers : Values) (exit : Option ℕ) (loop : Option Targets)
+        → (st : Stands blocks t code ops end exit loop) → turns_of code s.frame.rest st ≤ remaining
+        → Continues blocks t s.frame.rest exit loop → Agree t registers values
+        → Matches (point end ops registers) (4 * (C.extra_steps code + 1)) (C.runs functions s code)
+    steps code end ops registers exit loop (inl r) few c agree = own_steps code end ops registers exit loop r few c agree
+    steps code end ops registers exit loop (inr p) few c agree = passing_steps code end ops registers exit loop p few c agree

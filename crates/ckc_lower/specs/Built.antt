@@ -144,30 +144,12 @@ picked true one two = two
 
 -- ---- statements
 
--- how many blocks the code ends
-abbrev pub block_count : Code → ℕ
-block_count End = 1
-block_count (Set x e rest) = block_count rest
-block_count (Store width a e rest) = block_count rest
-block_count (Check check at e rest) = block_count rest
-block_count (Call target callee es at rest) = block_count rest
-block_count (Get x rest) = block_count rest
-block_count (Put e rest) = block_count rest
-block_count (Alloc x e size rest) = block_count rest
-block_count (If e one two rest) = 1 + block_count one + block_count two + block_count rest
-block_count (Loop body step rest) = 1 + block_count body + block_count step + block_count rest
-block_count (Break rest) = 1
-block_count (Continue rest) = 1
-block_count (Return e rest) = 1
-
--- the open block is done and has this end
-abbrev pub with_end : Builder → TacEnd → Builder
-with_end b end = record b { blocks = b.blocks ++ record { ops = b.ops; end = end } ∷ []; ops = [] }
-
--- the end of a list of statements: a jump, or at the end of the function the return of 0
-abbrev pub left : Option ℕ → Builder → Builder
-left (Some to) b = with_end b (ends.Jump to)
-left None b = with_end b (ends.Return (Number 0))
+-- whether the code goes on to what comes behind it, or out of it, before it does anything
+abbrev pub passes : Code → Bool
+passes End = true
+passes (Break rest) = true
+passes (Continue rest) = true
+passes code = false
 
 abbrev pub out_of : Option Targets → ℕ
 out_of (Some targets) = targets.out
@@ -176,6 +158,49 @@ out_of None = 0
 abbrev pub step_of : Option Targets → ℕ
 step_of (Some targets) = targets.step
 step_of None = 0
+
+-- Where control goes that is to run the code: to the block where the code stands, or to where the code goes on at once.
+abbrev pub goal : Code → (at : ℕ) → Option ℕ → Option Targets → ℕ
+goal End at (Some to) loop = to
+goal End at None loop = at
+goal (Break rest) at exit loop = out_of loop
+goal (Continue rest) at exit loop = step_of loop
+goal code at exit loop = at
+
+-- How many blocks the code ends. A fresh one is open, with no operation, where no control comes to it in another way
+-- than for this code: code that passes makes no block of it. The flag tells whether a block comes behind the code.
+abbrev pub block_count : (fresh behind : Bool) → Code → ℕ
+block_count true true End = 0
+block_count true false End = 1
+block_count false behind End = 1
+block_count fresh behind (Set x e rest) = block_count false behind rest
+block_count fresh behind (Store width a e rest) = block_count false behind rest
+block_count fresh behind (Check check at e rest) = block_count false behind rest
+block_count fresh behind (Call target callee es at rest) = block_count false behind rest
+block_count fresh behind (Get x rest) = block_count false behind rest
+block_count fresh behind (Put e rest) = block_count false behind rest
+block_count fresh behind (Alloc x e size rest) = block_count false behind rest
+block_count fresh behind (If e one two rest) =
+    1 + block_count true true one + block_count true true two + block_count true behind rest
+block_count fresh behind (Loop body step rest) =
+    (if fresh then 0 else 1) + block_count (not (passes body)) true body + block_count true true step + block_count true behind rest
+block_count fresh behind (Break rest) = if fresh then 0 else 1
+block_count fresh behind (Continue rest) = if fresh then 0 else 1
+block_count fresh behind (Return e rest) = 1
+
+-- the open block is done and has this end
+abbrev pub with_end : Builder → TacEnd → Builder
+with_end b end = record b { blocks = b.blocks ++ record { ops = b.ops; end = end } ∷ []; ops = [] }
+
+-- a jump ends the open block, unless that is fresh
+abbrev pub with_jump : (fresh : Bool) → ℕ → Builder → Builder
+with_jump true to b = b
+with_jump false to b = with_end b (ends.Jump to)
+
+-- the end of a list of statements: a jump, or at the end of the function the return of 0
+abbrev pub left : (fresh : Bool) → Option ℕ → Builder → Builder
+left fresh (Some to) b = with_jump fresh to b
+left fresh None b = with_end b (ends.Return (Number 0))
 
 abbrev pub stored : ℕ → Expr → Expr → (Operand → Operand → TacOp) → Builder → Builder
 stored t a e o b =
@@ -195,39 +220,66 @@ branch_of s t one two =
 abbrev pub tested : ℕ → Test → (one two : ℕ) → Builder → Builder
 tested t s one two b = with_end (with_value s.right None (free_from s.left t) (with_value s.left None t b)) (branch_of s t one two)
 
-abbrev pub forked : ℕ → Expr → Code → Code → Builder → Builder
-forked t e one two b = tested t (test_of e false) (length b.blocks + 1) (length b.blocks + 1 + block_count one) b
+-- where the two parts of an If stand, and what comes behind it
+abbrev pub one_at : Builder → ℕ
+one_at b = length b.blocks + 1
 
-abbrev pub join_of : Code → Code → Builder → ℕ
-join_of one two b = length b.blocks + 1 + block_count one + block_count two
+abbrev pub two_at : Code → Builder → ℕ
+two_at one b = one_at b + block_count true true one
 
-abbrev pub entered : Builder → Builder
-entered b = with_end b (ends.Jump (length b.blocks + 1))
+abbrev pub behind_at : (one two : Code) → Builder → ℕ
+behind_at one two b = two_at one b + block_count true true two
 
-abbrev pub step_at : Code → Builder → ℕ
-step_at body b = length b.blocks + 1 + block_count body
+-- where the parts go on
+abbrev pub join_of : (one two rest : Code) → Option ℕ → Option Targets → Builder → ℕ
+join_of one two rest exit loop b = goal rest (behind_at one two b) exit loop
 
-abbrev pub targets_of : Code → Code → Builder → Targets
-targets_of body step b = record { out = step_at body b + block_count step; step = step_at body b }
+abbrev pub forked : ℕ → Expr → (one two : Code) → (join : ℕ) → Option Targets → Builder → Builder
+forked t e one two join loop b =
+    tested t (test_of e false) (goal one (one_at b) (Some join) loop) (goal two (two_at one b) (Some join) loop) b
 
--- The code is built behind what stands; t is the first temporary, exit the block behind the code, and loop the innermost
--- loop. What stands behind a Break, a Continue or a Return is never reached and not built.
-abbrev pub built : ℕ → Code → Option ℕ → Option Targets → Builder → Builder
-built t End exit loop b = left exit b
-built t (Set x e rest) exit loop b = built t rest exit loop (with_value e (Some x) t b)
-built t (Store width a e rest) exit loop b = built t rest exit loop (stored t a e (op.Store width) b)
-built t (Check check at e rest) exit loop b = built t rest exit loop (used t e (op.Check check at) b)
-built t (Call target callee es at rest) exit loop b =
-    built t rest exit loop (with_op (with_values es t b) (op.Call target callee (registers_of es t) at))
-built t (Get x rest) exit loop b = built t rest exit loop (with_op b (op.Get x))
-built t (Put e rest) exit loop b = built t rest exit loop (used t e op.Put b)
-built t (Alloc x e size rest) exit loop b = built t rest exit loop (used t e (λ r. op.Alloc x r size) b)
-built t (If e one two rest) exit loop b =
-    built t rest exit loop (built t two (Some (join_of one two b)) loop
-    (built t one (Some (join_of one two b)) loop (forked t e one two b)))
-built t (Loop body step rest) exit loop b =
-    built t rest exit loop (built t step (Some (length b.blocks + 1)) None
-    (built t body (Some (step_at body b)) (Some (targets_of body step b)) (entered b)))
-built t (Break rest) exit loop b = with_end b (ends.Jump (out_of loop))
-built t (Continue rest) exit loop b = with_end b (ends.Jump (step_of loop))
-built t (Return e rest) exit loop b = with_end (with_value e None t b) (ends.Return (operand_of e None t))
+-- A loop begins in a block of its own: the open one, if it is fresh, else the next one.
+abbrev pub entered : (fresh : Bool) → Builder → Builder
+entered fresh b = with_jump fresh (length b.blocks + 1) b
+
+-- the body of a loop has a block of its own in any case
+abbrev pub body_count : Code → ℕ
+body_count body = block_count (not (passes body)) true body
+
+abbrev pub step_at : Code → (head : ℕ) → ℕ
+step_at body head = head + body_count body
+
+abbrev pub out_at : (body step : Code) → (head : ℕ) → ℕ
+out_at body step head = step_at body head + block_count true true step
+
+abbrev pub targets_of : (body step rest : Code) → Option ℕ → Option Targets → (head : ℕ) → Targets
+targets_of body step rest exit loop head = record {
+  out = goal rest (out_at body step head) exit loop;
+  step = goal step (step_at body head) (Some head) None;
+}
+
+-- The code is built behind what stands; fresh tells whether the open block is, t is the first temporary, exit the block
+-- behind the code, and loop the innermost loop. What stands behind a Break, a Continue or a Return is never reached and
+-- not built.
+abbrev pub built : ℕ → (fresh : Bool) → Code → Option ℕ → Option Targets → Builder → Builder
+built t fresh End exit loop b = left fresh exit b
+built t fresh (Set x e rest) exit loop b = built t false rest exit loop (with_value e (Some x) t b)
+built t fresh (Store width a e rest) exit loop b = built t false rest exit loop (stored t a e (op.Store width) b)
+built t fresh (Check check at e rest) exit loop b = built t false rest exit loop (used t e (op.Check check at) b)
+built t fresh (Call target callee es at rest) exit loop b =
+    built t false rest exit loop (with_op (with_values es t b) (op.Call target callee (registers_of es t) at))
+built t fresh (Get x rest) exit loop b = built t false rest exit loop (with_op b (op.Get x))
+built t fresh (Put e rest) exit loop b = built t false rest exit loop (used t e op.Put b)
+built t fresh (Alloc x e size rest) exit loop b = built t false rest exit loop (used t e (λ r. op.Alloc x r size) b)
+built t fresh (If e one two rest) exit loop b =
+    let join = join_of one two rest exit loop b in
+    built t true rest exit loop (built t true two (Some join) loop
+    (built t true one (Some join) loop (forked t e one two join loop b)))
+built t fresh (Loop body step rest) exit loop b =
+    let head = length (entered fresh b).blocks in
+    let here = targets_of body step rest exit loop head in
+    built t true rest exit loop (built t true step (Some head) None
+    (built t (not (passes body)) body (Some here.step) (Some here) (entered fresh b)))
+built t fresh (Break rest) exit loop b = with_jump fresh (out_of loop) b
+built t fresh (Continue rest) exit loop b = with_jump fresh (step_of loop) b
+built t fresh (Return e rest) exit loop b = with_end (with_value e None t b) (ends.Return (operand_of e None t))

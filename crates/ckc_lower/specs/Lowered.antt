@@ -1,6 +1,6 @@
 -- The three-address code of functions and programs. It mirrors what `lower` makes and need not be believed: the contract
 -- of `lower` says how this code follows the program.
-use Rattle.std.specs.Prelude.{ℕ, [], map, None}
+use Rattle.std.specs.Prelude.{ℕ, [], map, None, true}
 use Rattle.ckc_core.specs.Code.{Function, Program}
 use Rattle.ckc_tac.specs.declared.code.Tac.{Tac}
 use Rattle.ckc_tac.specs.declared.code.TacFunc.{TacFunc}
@@ -12,7 +12,7 @@ abbrev pub empty : ℕ → Builder
 empty locals = record { blocks = []; ops = []; regs = locals }
 
 abbrev pub whole : Function → Builder
-whole f = built f.locals f.body None None (empty f.locals)
+whole f = built f.locals true f.body None None (empty f.locals)
 
 abbrev pub lowered_function : Function → TacFunc
 lowered_function f = record { params = f.params; regs = (whole f).regs; blocks = (whole f).blocks }

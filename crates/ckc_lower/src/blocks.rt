@@ -1,8 +1,8 @@
-ghost use Rattle.std.specs.Prelude.{◌≡◌, ◌+◌, ◌<◌, ◌≤◌, ◌^◌, map, length, All, IfOk, OnOk, false};
+ghost use Rattle.std.specs.Prelude.{◌≡◌, ◌+◌, ◌<◌, ◌≤◌, ◌^◌, map, length, drop, All, IfOk, OnOk, true, false, if◌then◌else◌};
 ghost use Rattle.ckc_core.specs.Code.{expr_of, code_of, Const};
 ghost use Rattle.ckc_core.specs.Limits.{depth, IsShallow, KeepsLimits};
 ghost use Rattle.ckc_tac.specs.declared.code.Comparison.TheVariants as comparison;
-ghost use Rattle.ckc_lower.specs.Built.{is_zero as is_zero_of, test, test_of, picked as picked_of, tested, registers_of, with_op, with_value, with_values, with_end, left, out_of, step_of, stored, used, forked, join_of, entered, targets_of, block_count, built};
+ghost use Rattle.ckc_lower.specs.Built.{is_zero as is_zero_of, test, test_of, picked as picked_of, tested, registers_of, with_op, with_value, with_values, with_end, with_jump, left, out_of, step_of, stored, used, passes, goal as goal_of, forked, join_of, entered, step_at, targets_of, block_count, built};
 
 use crate::builder::{Builder, Targets, free_after, operand, register_after};
 use ckc_base::{BinOp, Check, Pos, Seq, Width};
@@ -20,36 +20,89 @@ fn sum(a: u32, b: u32) -> Result<u32, AllocError>
     }
 }
 
-/// How many blocks the statements end.
-fn count_blocks(stmts: &[CoreStmt]) -> Result<u32, AllocError>
-    ensures { IfOk result (λ n. n ≡ block_count (code_of stmts.now)) }
+/// Whether the statements go on to what comes behind them, or out of them, before they do anything.
+fn is_passing(stmts: &[CoreStmt]) -> bool
+    ensures { result ≡ passes (code_of stmts.now) }
 {
-    let mut count = 1;
+    matches!(stmts, [] | [CoreStmt::Break, ..] | [CoreStmt::Continue, ..])
+}
+
+/// Where control goes that is to run the statements: to the block where they stand, or to where they go on at once.
+fn goal(stmts: &[CoreStmt], at: u32, exit: Option<u32>, loop_at: Option<Targets>) -> u32
+    ensures { result ≡ goal_of (code_of stmts.now) at exit loop_at }
+{
+    match stmts {
+        [] => exit.unwrap_or(at),
+        [CoreStmt::Break, ..] => out_target(loop_at),
+        [CoreStmt::Continue, ..] => step_target(loop_at),
+        _ => at,
+    }
+}
+
+/// How many blocks the statements end, behind which a block comes. Where the open block is fresh, statements that pass
+/// make no block of it.
+fn count_blocks(stmts: &[CoreStmt], is_fresh: bool) -> Result<u32, AllocError>
+    ensures { IfOk result (λ n. n ≡ block_count is_fresh true (code_of stmts.now)) }
+{
+    let mut count = 0;
+    let mut fresh = is_fresh;
     for s in stmts {
         match s {
-            CoreStmt::If(_, one, two) | CoreStmt::Loop(one, two) => {
+            CoreStmt::If(_, one, two) => {
                 count = sum(count, 1)?;
-                count = sum(count, count_blocks(one.as_slice())?)?;
-                count = sum(count, count_blocks(two.as_slice())?)?;
+                count = sum(count, count_blocks(one.as_slice(), true)?)?;
+                count = sum(count, count_blocks(two.as_slice(), true)?)?;
+                fresh = true;
             }
-            CoreStmt::Break | CoreStmt::Continue | CoreStmt::Return(_) => return Ok(count),
+            CoreStmt::Loop(body, step) => {
+                count = sum(count, last_block(fresh))?;
+                let first = !is_passing(body.as_slice());
+                count = sum(count, count_blocks(body.as_slice(), first)?)?;
+                count = sum(count, count_blocks(step.as_slice(), true)?)?;
+                fresh = true;
+            }
+            CoreStmt::Break | CoreStmt::Continue => return sum(count, last_block(fresh)),
+            CoreStmt::Return(_) => return sum(count, 1),
             CoreStmt::Set(_, _)
             | CoreStmt::Store(_, _, _)
             | CoreStmt::Check(_, _, _)
             | CoreStmt::Call(_, _, _, _)
             | CoreStmt::Get(_)
             | CoreStmt::Put(_)
-            | CoreStmt::Alloc(_, _, _) => {}
+            | CoreStmt::Alloc(_, _, _) => fresh = false,
         }
     }
-    Ok(count)
+    sum(count, last_block(fresh))
+}
+
+/// How many blocks a jump ends.
+fn last_block(is_fresh: bool) -> u32
+    ensures { result ≡ (if is_fresh then 0 else 1) }
+{
+    if is_fresh { 0 } else { 1 }
+}
+
+/// The statements behind the one at a place.
+fn after(stmts: &[CoreStmt], i: usize) -> &[CoreStmt]
+    requires { i < length stmts.now }
+    ensures { result.now ≡ drop (i + 1) stmts.now }
+{
+    &stmts[i + 1..]
 }
 
 /// The number of the block behind those of the statements, which begin at a block.
 fn behind(at: u32, stmts: &[CoreStmt]) -> Result<u32, AllocError>
-    ensures { IfOk result (λ n. n ≡ at + block_count (code_of stmts.now)) }
+    ensures { IfOk result (λ n. n ≡ at + block_count true true (code_of stmts.now)) }
 {
-    let count = count_blocks(stmts)?;
+    let count = count_blocks(stmts, true)?;
+    sum(at, count)
+}
+
+/// The same for the body of a loop.
+fn behind_body(at: u32, body: &[CoreStmt]) -> Result<u32, AllocError>
+    ensures { IfOk result (λ n. n ≡ step_at (code_of body.now) at) }
+{
+    let count = count_blocks(body, !is_passing(body))?;
     sum(at, count)
 }
 
@@ -58,8 +111,16 @@ impl Builder {
     fn next_block(&self) -> Result<u32, AllocError>
         ensures { IfOk result (λ n. n ≡ length self.now.blocks + 1) }
     {
+        let here = self.open_block()?;
+        sum(here, 1)
+    }
+
+    /// The number of the open block.
+    fn open_block(&self) -> Result<u32, AllocError>
+        ensures { IfOk result (λ n. n ≡ length self.now.blocks) }
+    {
         match u32::try_from(self.blocks.len()) {
-            Ok(n) => sum(n, 1),
+            Ok(n) => Ok(n),
             Err(_) => Err(AllocError),
         }
     }
@@ -96,7 +157,9 @@ impl Builder {
         requires room { locals ≤ 2000 }
         requires address { IsShallow (expr_of a.now) }
         requires value { IsShallow (expr_of e.now) }
-        ensures { OnOk result (self.new ≡ stored locals (expr_of a.now) (expr_of e.now) (TacOp.Store width) self.old) }
+        ensures { OnOk result
+            (self.new ≡ stored locals (expr_of a.now) (expr_of e.now) (TacOp.Store width)
+            self.old) }
     {
         let t = free_after(a, locals);
         self.value(a, None, locals)?;
@@ -107,7 +170,8 @@ impl Builder {
     fn check(&mut self, check: Check, at: Pos, e: &CoreExpr, locals: u32) -> Result<(), AllocError>
         requires room { locals ≤ 2000 }
         requires value { IsShallow (expr_of e.now) }
-        ensures { OnOk result (self.new ≡ used locals (expr_of e.now) (TacOp.Check check at) self.old) }
+        ensures { OnOk result
+            (self.new ≡ used locals (expr_of e.now) (TacOp.Check check at) self.old) }
     {
         self.value(e, None, locals)?;
         self.op(TacOp::Check(check, at, operand(e, locals)))
@@ -145,7 +209,8 @@ impl Builder {
     fn allocate(&mut self, x: u32, e: &CoreExpr, size: u32, locals: u32) -> Result<(), AllocError>
         requires room { locals ≤ 2000 }
         requires value { IsShallow (expr_of e.now) }
-        ensures { OnOk result (self.new ≡ used locals (expr_of e.now) (λ r. TacOp.Alloc x r size) self.old) }
+        ensures { OnOk result
+            (self.new ≡ used locals (expr_of e.now) (λ r. TacOp.Alloc x r size) self.old) }
     {
         self.value(e, None, locals)?;
         self.op(TacOp::Alloc(x, operand(e, locals), size))
@@ -166,7 +231,9 @@ impl Builder {
     ) -> Result<(), AllocError>
         requires left { t + depth (expr_of a.now) < 2 ^ 32 }
         requires right { t + 1 + depth (expr_of b.now) < 2 ^ 32 }
-        ensures { OnOk result (self.new ≡ tested t (test comparison (expr_of a.now) (expr_of b.now) turned) one two self.old) }
+        ensures { OnOk result
+            (self.new ≡ tested t (test comparison (expr_of a.now) (expr_of b.now) turned) one two
+            self.old) }
     {
         let u = free_after(a, t);
         self.value(a, None, t)?;
@@ -187,7 +254,9 @@ impl Builder {
         t: u32,
     ) -> Result<(), AllocError>
         requires { t + depth (expr_of e.now) < 2 ^ 32 }
-        ensures { OnOk result (self.new ≡ tested t (test comparison.Ne (expr_of e.now) (Const 0) turned) one two self.old) }
+        ensures { OnOk result
+            (self.new ≡ tested t (test comparison.Ne (expr_of e.now) (Const 0) turned) one two
+            self.old) }
     {
         self.value(e, None, t)?;
         let (first, second) = (picked(turned, one, two), picked(turned, two, one));
@@ -209,7 +278,8 @@ impl Builder {
         t: u32,
     ) -> Result<(), AllocError>
         requires { t + depth (expr_of e.now) < 2 ^ 32 }
-        ensures { OnOk result (self.new ≡ tested t (test_of (expr_of e.now) turned) one two self.old) }
+        ensures { OnOk result
+            (self.new ≡ tested t (test_of (expr_of e.now) turned) one two self.old) }
     {
         match e {
             CoreExpr::Bin(op, a, b) => {
@@ -228,100 +298,161 @@ impl Builder {
         }
     }
 
-    /// Ends the open block with a branch to the blocks of two lists, and tells the block behind both.
+    /// Ends the open block with a branch to where two lists lead, and tells where both go on: to the rest, behind them.
     fn fork(
         &mut self,
         alloc: Global,
         e: &CoreExpr,
         one: &[CoreStmt],
         two: &[CoreStmt],
+        rest: &[CoreStmt],
+        exit: Option<u32>,
+        loop_at: Option<Targets>,
         locals: u32,
     ) -> Result<u32, AllocError>
         requires room { locals ≤ 2000 }
         requires value { IsShallow (expr_of e.now) }
-        ensures join { IfOk result (λ j. j ≡ join_of (code_of one.now) (code_of two.now) self.old) }
-        ensures built { OnOk result (self.new ≡ forked locals (expr_of e.now) (code_of one.now) (code_of two.now) self.old) }
+        ensures join { IfOk result (λ j.
+            j ≡ join_of (code_of one.now) (code_of two.now) (code_of rest.now) exit loop_at self.old) }
+        ensures built { IfOk result (λ j.
+            self.new ≡ forked locals (expr_of e.now) (code_of one.now) (code_of two.now) j loop_at self.old) }
     {
         let first = self.next_block()?;
         let second = behind(first, one)?;
-        let join = behind(second, two)?;
-        self.branch(alloc, e, false, first, second, locals)?;
+        let join = goal(rest, behind(second, two)?, exit, loop_at);
+        let to_one = goal(one, first, Some(join), loop_at);
+        let to_two = goal(two, second, Some(join), loop_at);
+        self.branch(alloc, e, false, to_one, to_two, locals)?;
         Ok(join)
     }
 
-    /// Ends the open block with a jump to the body of a loop, and tells where its step begins and what is behind it.
-    fn enter(
-        &mut self,
-        alloc: Global,
-        body: &[CoreStmt],
-        step: &[CoreStmt],
-    ) -> Result<Targets, AllocError>
-        ensures targets { IfOk result (λ t. t ≡ targets_of (code_of body.now) (code_of step.now) self.old) }
-        ensures built { OnOk result (self.new ≡ entered self.old) }
+    /// Opens a block where a loop begins, which the open one is if it is fresh, and tells its number.
+    fn enter(&mut self, alloc: Global, is_fresh: bool) -> Result<u32, AllocError>
+        ensures head { IfOk result (λ n. n ≡ length self.new.blocks) }
+        ensures built { OnOk result (self.new ≡ entered is_fresh self.old) }
     {
-        let head = self.next_block()?;
-        let step_at = behind(head, body)?;
-        let out = behind(step_at, step)?;
-        self.end(alloc, TacEnd::Jump(head))?;
-        Ok(Targets { out, step: step_at })
+        if is_fresh {
+            self.open_block()
+        } else {
+            let head = self.next_block()?;
+            self.end(alloc, TacEnd::Jump(head))?;
+            Ok(head)
+        }
+    }
+
+    /// Ends the open block with a jump, unless it is fresh.
+    fn jump(&mut self, alloc: Global, is_fresh: bool, to: u32) -> Result<(), AllocError>
+        ensures { OnOk result (self.new ≡ with_jump is_fresh to self.old) }
+    {
+        if is_fresh {
+            Ok(())
+        } else {
+            self.end(alloc, TacEnd::Jump(to))
+        }
     }
 
     /// Ends the open block behind the last statement of a list.
-    fn leave(&mut self, alloc: Global, exit: Option<u32>) -> Result<(), AllocError>
-        ensures { OnOk result (self.new ≡ left exit self.old) }
+    fn leave(&mut self, alloc: Global, is_fresh: bool, exit: Option<u32>) -> Result<(), AllocError>
+        ensures { OnOk result (self.new ≡ left is_fresh exit self.old) }
     {
         match exit {
-            Some(to) => self.end(alloc, TacEnd::Jump(to)),
+            Some(to) => self.jump(alloc, is_fresh, to),
             None => self.end(alloc, TacEnd::Return(Operand::Number(0))),
         }
     }
 }
 
+/// Where a loop that begins at a block is left, and where its step leads.
+fn targets(
+    head: u32,
+    body: &[CoreStmt],
+    step: &[CoreStmt],
+    rest: &[CoreStmt],
+    exit: Option<u32>,
+    loop_at: Option<Targets>,
+) -> Result<Targets, AllocError>
+    ensures { IfOk result (λ t.
+        t ≡ targets_of (code_of body.now) (code_of step.now) (code_of rest.now) exit loop_at head) }
+{
+    let step_at = behind_body(head, body)?;
+    let out_at = behind(step_at, step)?;
+    Ok(Targets {
+        out: goal(rest, out_at, exit, loop_at),
+        step: goal(step, step_at, Some(head), None),
+    })
+}
+
 impl Builder {
-    /// Builds the statements behind what stands, up to the end of their last block. `locals` is the first temporary,
-    /// `exit` the block behind the statements, where there is one, and `loop_at` the innermost loop.
+    /// Builds the statements behind what stands, up to the end of their last block; `is_fresh` tells whether the open
+    /// block has no operation, and no other control comes to it. `locals` is the first temporary, `exit` the block
+    /// behind the statements, where there is one, and `loop_at` the innermost loop.
     pub fn code(
         &mut self,
         alloc: Global,
         stmts: &[CoreStmt],
+        is_fresh: bool,
         exit: Option<u32>,
         loop_at: Option<Targets>,
         locals: u32,
     ) -> Result<(), AllocError>
         requires room { locals ≤ 2000 }
         requires limits { KeepsLimits (code_of stmts.now) }
-        ensures { OnOk result (self.new ≡ built locals (code_of stmts.now) exit loop_at self.old) }
+        ensures { OnOk result
+            (self.new ≡ built locals is_fresh (code_of stmts.now) exit loop_at self.old) }
     {
-        for s in stmts {
+        let mut fresh = is_fresh;
+        for (i, s) in stmts.iter().enumerate() {
             match s {
                 CoreStmt::Set(x, e) => {
                     self.value(e, Some(*x), locals)?;
+                    fresh = false;
                 }
-                CoreStmt::Store(width, a, e) => self.store(*width, a, e, locals)?,
-                CoreStmt::Check(check, at, e) => self.check(*check, *at, e, locals)?,
+                CoreStmt::Store(width, a, e) => {
+                    self.store(*width, a, e, locals)?;
+                    fresh = false;
+                }
+                CoreStmt::Check(check, at, e) => {
+                    self.check(*check, *at, e, locals)?;
+                    fresh = false;
+                }
                 CoreStmt::Call(target, callee, es, at) => {
                     self.call(alloc, *target, *callee, es.as_slice(), *at, locals)?;
+                    fresh = false;
                 }
-                CoreStmt::Get(x) => self.op(TacOp::Get(*x))?,
-                CoreStmt::Put(e) => self.put(e, locals)?,
-                CoreStmt::Alloc(x, e, size) => self.allocate(*x, e, *size, locals)?,
+                CoreStmt::Get(x) => {
+                    self.op(TacOp::Get(*x))?;
+                    fresh = false;
+                }
+                CoreStmt::Put(e) => {
+                    self.put(e, locals)?;
+                    fresh = false;
+                }
+                CoreStmt::Alloc(x, e, size) => {
+                    self.allocate(*x, e, *size, locals)?;
+                    fresh = false;
+                }
                 CoreStmt::If(e, one, two) => {
-                    let join = self.fork(alloc, e, one.as_slice(), two.as_slice(), locals)?;
-                    self.code(alloc, one.as_slice(), Some(join), loop_at, locals)?;
-                    self.code(alloc, two.as_slice(), Some(join), loop_at, locals)?;
+                    let (one, two, rest) = (one.as_slice(), two.as_slice(), after(stmts, i));
+                    let join = self.fork(alloc, e, one, two, rest, exit, loop_at, locals)?;
+                    self.code(alloc, one, true, Some(join), loop_at, locals)?;
+                    self.code(alloc, two, true, Some(join), loop_at, locals)?;
+                    fresh = true;
                 }
                 CoreStmt::Loop(body, step) => {
-                    let head = self.next_block()?;
-                    let here = self.enter(alloc, body.as_slice(), step.as_slice())?;
-                    self.code(alloc, body.as_slice(), Some(here.step), Some(here), locals)?;
-                    self.code(alloc, step.as_slice(), Some(head), None, locals)?;
+                    let (body, step, rest) = (body.as_slice(), step.as_slice(), after(stmts, i));
+                    let head = self.enter(alloc, fresh)?;
+                    let here = targets(head, body, step, rest, exit, loop_at)?;
+                    let first = !is_passing(body);
+                    self.code(alloc, body, first, Some(here.step), Some(here), locals)?;
+                    self.code(alloc, step, true, Some(head), None, locals)?;
+                    fresh = true;
                 }
                 CoreStmt::Break => {
-                    self.end(alloc, TacEnd::Jump(out_target(loop_at)))?;
+                    self.jump(alloc, fresh, out_target(loop_at))?;
                     return Ok(());
                 }
                 CoreStmt::Continue => {
-                    self.end(alloc, TacEnd::Jump(step_target(loop_at)))?;
+                    self.jump(alloc, fresh, step_target(loop_at))?;
                     return Ok(());
                 }
                 CoreStmt::Return(e) => {
@@ -331,7 +462,7 @@ impl Builder {
                 }
             }
         }
-        self.leave(alloc, exit)?;
+        self.leave(alloc, fresh, exit)?;
         Ok(())
     }
 }

@@ -25,7 +25,7 @@ fn function(alloc: Global, f: &CoreFunc) -> Result<TacFunc, AllocError>
         ops: Seq::new(alloc),
         regs: f.locals,
     };
-    builder.code(alloc, f.body.as_slice(), None, None, f.locals)?;
+    builder.code(alloc, f.body.as_slice(), true, None, None, f.locals)?;
     let Builder {
         blocks,
         ops: _ops,

@@ -42,7 +42,9 @@ impl<'a> Machine<'a> {
 
     /// The machine of an image before its first instruction. It takes all the memory that the machine needs.
     pub fn load(alloc: Global, view: View<'a>) -> Result<Machine<'a>, AllocError>
-        ensures start { IfOk result (λ m. (parts : Parts) (input : List ℕ) → parts.entry ≡ view.entry.entry → parts.code ≡ view.entry.code.now
+        ensures start { IfOk result
+            (λ m. (parts : Parts) (input : List ℕ) → parts.entry ≡ view.entry.entry → parts.code
+            ≡ view.entry.code.now
             → parts.initial ≡ view.entry.initial.now → IsAt parts input 0 m (Some input)) }
         ensures going { IfOk result (λ m. answer_of m ≡ Observed.Going) }
     {
@@ -59,27 +61,38 @@ impl<'a> Machine<'a> {
     /// with no call of the objects.
     pub fn run<S: Source, O: Sink>(&mut self, limit: u64, input: &mut S, out: &mut O) -> Observed
         ensures answer { answer_of self.new ≡ result }
-        ensures settled { answer_of self.old ≢ Observed.Going → (self.new ≡ self.old) × (input.new ≡ input.old) × (out.new ≡ out.old) }
+        ensures settled { answer_of self.old ≢ Observed.Going → (self.new ≡ self.old)
+            × (input.new ≡ input.old) × (out.new ≡ out.old) }
 
         // From k of any parts and input on, the run goes on to k + limit, or a fault of an object ends it before.
-        ensures exact { (parts : Parts) (given : List ℕ) (k : ℕ) → IsAt parts given k self.old (S.left input.old)
-            → Runs parts given k limit self.new (S.left input.old) (S.left input.new) (O.written out.old) (O.written out.new)
+        ensures exact { (parts : Parts) (given : List ℕ) (k : ℕ)
+            → IsAt parts given k self.old (S.left input.old)
+            → Runs parts given k limit self.new (S.left input.old) (S.left input.new)
+            (O.written out.old) (O.written out.new)
             (S.faults input.old) (S.faults input.new) (O.faults out.old) (O.faults out.new) result }
 
         // Where none of those instructions asks for a byte, the same holds over any source, which is left as it is.
-        ensures silent { (parts : Parts) (given : List ℕ) (k : ℕ) (left : Option (List ℕ)) → IsAt parts given k self.old left → AsksNothing parts given k limit
-            → (input.new ≡ input.old) × Runs parts given k limit self.new left left (O.written out.old) (O.written out.new)
+        ensures silent { (parts : Parts) (given : List ℕ) (k : ℕ) (left : Option (List ℕ))
+            → IsAt parts given k self.old left → AsksNothing parts given k limit
+            → (input.new ≡ input.old)
+            × Runs parts given k limit self.new left left (O.written out.old)
+            (O.written out.new)
             (S.faults input.old) (S.faults input.new) (O.faults out.old) (O.faults out.new) result }
 
         // Over any source, whatever may come behind the bytes that it gave, the same holds of the input with both.
-        ensures any { OverAny (S.ended input.old) (S.ended input.new) (S.answers input.old) (S.answers input.new)
-            (λ left left'. (parts : Parts) (given : List ℕ) (k : ℕ) → IsAt parts given k self.old (Some left)
-            → Runs parts given k limit self.new (Some left) (Some left') (O.written out.old) (O.written out.new)
+        ensures any { OverAny (S.ended input.old) (S.ended input.new) (S.answers input.old)
+            (S.answers input.new)
+            (λ left left'. (parts : Parts) (given : List ℕ) (k : ℕ)
+            → IsAt parts given k self.old (Some left)
+            → Runs parts given k limit self.new (Some left) (Some left') (O.written out.old)
+            (O.written out.new)
             (S.faults input.old) (S.faults input.new) (O.faults out.old) (O.faults out.new) result) }
 
         // A fault of an object is first answered only where its count rose.
-        ensures read_fault { answer_of self.old ≡ Observed.Going → result ≡ Observed.ReadFault → Rose (S.faults input.old) (S.faults input.new) }
-        ensures write_fault { answer_of self.old ≡ Observed.Going → result ≡ Observed.WriteFault → Rose (O.faults out.old) (O.faults out.new) }
+        ensures read_fault { answer_of self.old ≡ Observed.Going → result ≡ Observed.ReadFault
+            → Rose (S.faults input.old) (S.faults input.new) }
+        ensures write_fault { answer_of self.old ≡ Observed.Going → result ≡ Observed.WriteFault
+            → Rose (O.faults out.old) (O.faults out.new) }
         ensures input_counts { S.faults input.old ≤ S.faults input.new }
         ensures out_counts { O.faults out.old ≤ O.faults out.new }
     {
@@ -107,18 +120,26 @@ impl<'a> Machine<'a> {
     #[inline(always)]
     fn step<S: Source, O: Sink>(&mut self, input: &mut S, out: &mut O)
         requires { answer_of self.old ≡ Observed.Going }
-        ensures exact { (parts : Parts) (given : List ℕ) (k : ℕ) (left left' : Option (List ℕ)) → IsAt parts given k self.old left
-            → IsFed (S.left input.old) (S.left input.new) (¬ AsksFor parts (state_at parts given k) 2) left left'
+        ensures exact { (parts : Parts) (given : List ℕ) (k : ℕ) (left left' : Option (List ℕ))
+            → IsAt parts given k self.old left
+            → IsFed (S.left input.old) (S.left input.new)
+            (¬ AsksFor parts (state_at parts given k) 2) left left'
             → Runs parts given k 1 self.new left left' (O.written out.old) (O.written out.new)
             (S.faults input.old) (S.faults input.new) (O.faults out.old) (O.faults out.new) (answer_of self.new) }
-        ensures any { OverAny (S.ended input.old) (S.ended input.new) (S.answers input.old) (S.answers input.new)
-            (λ left left'. (parts : Parts) (given : List ℕ) (k : ℕ) → IsAt parts given k self.old (Some left)
-            → Runs parts given k 1 self.new (Some left) (Some left') (O.written out.old) (O.written out.new)
+        ensures any { OverAny (S.ended input.old) (S.ended input.new) (S.answers input.old)
+            (S.answers input.new)
+            (λ left left'. (parts : Parts) (given : List ℕ) (k : ℕ)
+            → IsAt parts given k self.old (Some left)
+            → Runs parts given k 1 self.new (Some left) (Some left') (O.written out.old)
+            (O.written out.new)
             (S.faults input.old) (S.faults input.new) (O.faults out.old) (O.faults out.new) (answer_of self.new)) }
-        ensures silent { (parts : Parts) (given : List ℕ) (k : ℕ) (left : Option (List ℕ)) → IsAt parts given k self.old left
+        ensures silent { (parts : Parts) (given : List ℕ) (k : ℕ) (left : Option (List ℕ))
+            → IsAt parts given k self.old left
             → ¬ AsksFor parts (state_at parts given k) 2 → input.new ≡ input.old }
-        ensures read_fault { answer_of self.new ≡ Observed.ReadFault → Rose (S.faults input.old) (S.faults input.new) }
-        ensures write_fault { answer_of self.new ≡ Observed.WriteFault → Rose (O.faults out.old) (O.faults out.new) }
+        ensures read_fault { answer_of self.new ≡ Observed.ReadFault
+            → Rose (S.faults input.old) (S.faults input.new) }
+        ensures write_fault { answer_of self.new ≡ Observed.WriteFault
+            → Rose (O.faults out.old) (O.faults out.new) }
         ensures input_counts { S.faults input.old ≤ S.faults input.new }
         ensures out_counts { O.faults out.old ≤ O.faults out.new }
     {
@@ -134,11 +155,14 @@ impl<'a> Machine<'a> {
     /// Puts a byte and goes on.
     fn put<O: Sink>(&mut self, byte: u8, out: &mut O)
         requires { answer_of self.old ≡ Observed.Going }
-        ensures exact { (parts : Parts) (given : List ℕ) (k : ℕ) (left : Option (List ℕ)) (faults : ℕ) → IsAt parts given k self.old left
+        ensures exact { (parts : Parts) (given : List ℕ) (k : ℕ) (left : Option (List ℕ))
+            (faults : ℕ) → IsAt parts given k self.old left
             → AsksFor parts (state_at parts given k) 1 → byte ≡ slice_index self.old.regs.x 10 % 256
-            → Runs parts given k 1 self.new left left (O.written out.old) (O.written out.new) faults faults (O.faults out.old) (O.faults out.new) (answer_of self.new) }
+            → Runs parts given k 1 self.new left left (O.written out.old) (O.written out.new) faults
+            faults (O.faults out.old) (O.faults out.new) (answer_of self.new) }
         ensures read_fault { answer_of self.new ≢ Observed.ReadFault }
-        ensures write_fault { answer_of self.new ≡ Observed.WriteFault → Rose (O.faults out.old) (O.faults out.new) }
+        ensures write_fault { answer_of self.new ≡ Observed.WriteFault
+            → Rose (O.faults out.old) (O.faults out.new) }
         ensures out_counts { O.faults out.old ≤ O.faults out.new }
     {
         match out.put(&[byte]) {
@@ -150,14 +174,20 @@ impl<'a> Machine<'a> {
     /// Gets a byte, or -1 at the end, into x10, and goes on.
     fn get<S: Source>(&mut self, input: &mut S)
         requires { answer_of self.old ≡ Observed.Going }
-        ensures exact { (parts : Parts) (given : List ℕ) (k : ℕ) (written : Option (List ℕ)) (faults : ℕ) → IsAt parts given k self.old (S.left input.old)
+        ensures exact { (parts : Parts) (given : List ℕ) (k : ℕ) (written : Option (List ℕ))
+            (faults : ℕ) → IsAt parts given k self.old (S.left input.old)
             → AsksFor parts (state_at parts given k) 2
-            → Runs parts given k 1 self.new (S.left input.old) (S.left input.new) written written (S.faults input.old) (S.faults input.new) faults faults (answer_of self.new) }
-        ensures any { OverAny (S.ended input.old) (S.ended input.new) (S.answers input.old) (S.answers input.new)
-            (λ left left'. (parts : Parts) (given : List ℕ) (k : ℕ) (written : Option (List ℕ)) (faults : ℕ) → IsAt parts given k self.old (Some left)
+            → Runs parts given k 1 self.new (S.left input.old) (S.left input.new) written written
+            (S.faults input.old) (S.faults input.new) faults faults (answer_of self.new) }
+        ensures any { OverAny (S.ended input.old) (S.ended input.new) (S.answers input.old)
+            (S.answers input.new)
+            (λ left left'. (parts : Parts) (given : List ℕ) (k : ℕ) (written : Option (List ℕ))
+            (faults : ℕ) → IsAt parts given k self.old (Some left)
             → AsksFor parts (state_at parts given k) 2
-            → Runs parts given k 1 self.new (Some left) (Some left') written written (S.faults input.old) (S.faults input.new) faults faults (answer_of self.new)) }
-        ensures read_fault { answer_of self.new ≡ Observed.ReadFault → Rose (S.faults input.old) (S.faults input.new) }
+            → Runs parts given k 1 self.new (Some left) (Some left') written written
+            (S.faults input.old) (S.faults input.new) faults faults (answer_of self.new)) }
+        ensures read_fault { answer_of self.new ≡ Observed.ReadFault
+            → Rose (S.faults input.old) (S.faults input.new) }
         ensures write_fault { answer_of self.new ≢ Observed.WriteFault }
         ensures input_counts { S.faults input.old ≤ S.faults input.new }
     {
@@ -175,7 +205,8 @@ impl<'a> Machine<'a> {
         requires start { data_start ≤ a }
         requires end { a < memory_end }
         ensures state { (input : List ℕ) → let s = state_of self.old input in
-            state_of self.new input ≡ record (next_with s 0 0) { memory = stored s.memory (store_bytes op) a value } }
+            state_of self.new input
+            ≡ record (next_with s 0 0) { memory = stored s.memory (store_bytes op) a value } }
         ensures code { self.new.memory.code.now ≡ self.old.memory.code.now }
         ensures answer { answer_of self.new ≡ answer_of self.old }
     {
@@ -214,7 +245,8 @@ impl<'a> Machine<'a> {
     /// What the next instruction asks.
     #[inline(always)]
     fn turn(&self) -> Turn
-        ensures { (parts : Parts) (input : List ℕ) → parts.code ≡ self.now.memory.code.now → Turns parts (state_of self.now input) result }
+        ensures { (parts : Parts) (input : List ℕ) → parts.code ≡ self.now.memory.code.now
+            → Turns parts (state_of self.now input) result }
     {
         let Some(word) = self.memory.fetch(self.pc) else {
             return self.fault(FaultKind::Fetch);
@@ -229,7 +261,9 @@ impl<'a> Machine<'a> {
     #[inline(always)]
     fn turn_by(&self, out: Outcome) -> Turn
         requires { NamesRegister out }
-        ensures { (input : List ℕ) → TurnsBy out (state_of self.now input) (by_outcome (state_of self.now input) out) result }
+        ensures { (input : List ℕ)
+            → TurnsBy out (state_of self.now input) (by_outcome (state_of self.now input) out)
+            result }
     {
         match out {
             Outcome::Next(rd, value, pc) => Turn::Next(rd, value, pc),
@@ -245,7 +279,9 @@ impl<'a> Machine<'a> {
     #[inline(always)]
     fn load_turn(&self, op: LoadOp, rd: u8, a: u32) -> Turn
         requires { rd < 32 }
-        ensures { (input : List ℕ) → TurnsBy (outcome.Load op rd a) (state_of self.now input) (by_outcome (state_of self.now input) (outcome.Load op rd a)) result }
+        ensures { (input : List ℕ)
+            → TurnsBy (outcome.Load op rd a) (state_of self.now input)
+            (by_outcome (state_of self.now input) (outcome.Load op rd a)) result }
     {
         match op {
             LoadOp::Lb => self.load_as(LoadOp::Lb, rd, a),
@@ -260,7 +296,9 @@ impl<'a> Machine<'a> {
     #[inline(always)]
     fn load_as(&self, op: LoadOp, rd: u8, a: u32) -> Turn
         requires { rd < 32 }
-        ensures { (input : List ℕ) → TurnsBy (outcome.Load op rd a) (state_of self.now input) (by_outcome (state_of self.now input) (outcome.Load op rd a)) result }
+        ensures { (input : List ℕ)
+            → TurnsBy (outcome.Load op rd a) (state_of self.now input)
+            (by_outcome (state_of self.now input) (outcome.Load op rd a)) result }
     {
         if a % load_size(op) != 0 {
             return self.fault(FaultKind::Align);
@@ -274,7 +312,9 @@ impl<'a> Machine<'a> {
     /// A store, to the data region or the stack alone. Each operation has its own code, as with loads.
     #[inline(always)]
     fn store_turn(&self, op: StoreOp, a: u32, value: u32) -> Turn
-        ensures { (input : List ℕ) → TurnsBy (outcome.Store op a value) (state_of self.now input) (by_outcome (state_of self.now input) (outcome.Store op a value)) result }
+        ensures { (input : List ℕ)
+            → TurnsBy (outcome.Store op a value) (state_of self.now input)
+            (by_outcome (state_of self.now input) (outcome.Store op a value)) result }
     {
         match op {
             StoreOp::Sb => self.store_turn_as(StoreOp::Sb, a, value),
@@ -286,7 +326,9 @@ impl<'a> Machine<'a> {
     /// A store by one operation. A misaligned address is a fault before an unmapped one.
     #[inline(always)]
     fn store_turn_as(&self, op: StoreOp, a: u32, value: u32) -> Turn
-        ensures { (input : List ℕ) → TurnsBy (outcome.Store op a value) (state_of self.now input) (by_outcome (state_of self.now input) (outcome.Store op a value)) result }
+        ensures { (input : List ℕ)
+            → TurnsBy (outcome.Store op a value) (state_of self.now input)
+            (by_outcome (state_of self.now input) (outcome.Store op a value)) result }
     {
         if a % store_size(op) != 0 {
             self.fault(FaultKind::Align)
@@ -299,7 +341,9 @@ impl<'a> Machine<'a> {
 
     /// An environment call: its number is in x17.
     fn call(&self) -> Turn
-        ensures { (input : List ℕ) → TurnsBy outcome.Call (state_of self.now input) (calls (state_of self.now input)) result }
+        ensures { (input : List ℕ)
+            → TurnsBy outcome.Call (state_of self.now input) (calls (state_of self.now input))
+            result }
     {
         let x = &self.regs.x;
         match x[17] {

@@ -79,7 +79,9 @@ impl<'a> Memory<'a> {
         requires words { length code.now % 4 ≡ 0 }
         requires code_fits { length code.now ≤ 16773120 }
         requires initial_fits { length initial.now ≤ 16777216 }
-        ensures flat { IfOk result (λ m. (parts : Parts) → parts.code ≡ code.now → parts.initial ≡ initial.now → memory_of m ≡ flat parts) }
+        ensures flat { IfOk result
+            (λ m. (parts : Parts) → parts.code ≡ code.now → parts.initial ≡ initial.now
+            → memory_of m ≡ flat parts) }
         ensures code { IfOk result (λ m. m.code.now ≡ code.now) }
     {
         let mut statics = Region::new(alloc)?;
@@ -95,7 +97,8 @@ impl<'a> Memory<'a> {
     /// The word at an address of the code, where an instruction lies there.
     #[inline(always)]
     pub fn fetch(&self, pc: u32) -> Option<u32>
-        ensures { (parts : Parts) → parts.code ≡ self.now.code.now → MatchOption result (is_code parts pc ≡ false)
+        ensures { (parts : Parts) → parts.code ≡ self.now.code.now
+            → MatchOption result (is_code parts pc ≡ false)
             (λ w. (is_code parts pc ≡ true) × (loaded (memory_of self.now) 4 pc ≡ Some w)) }
     {
         if pc < CODE_START {
@@ -128,7 +131,8 @@ impl<'a> Memory<'a> {
     #[inline(always)]
     fn word(&self, a: u32) -> Option<u32>
         requires { a % 4 ≡ 0 }
-        ensures { MatchOption result (IsUnmapped (memory_of self.now) a) (λ w. Holds (memory_of self.now) a w) }
+        ensures { MatchOption result (IsUnmapped (memory_of self.now) a)
+            (λ w. Holds (memory_of self.now) a w) }
     {
         if a >= DATA_START {
             if a < MEMORY_END {
@@ -152,7 +156,8 @@ impl<'a> Memory<'a> {
     #[inline(always)]
     pub fn load(&self, op: LoadOp, a: u32) -> Option<u32>
         requires { a % load_bytes op ≡ 0 }
-        ensures { result ≡ option_map (load_value op) (loaded (memory_of self.now) (load_bytes op) a) }
+        ensures { result ≡ option_map (load_value op)
+            (loaded (memory_of self.now) (load_bytes op) a) }
     {
         match self.word(a - a % 4) {
             Some(word) => Some(loaded_part(op, word, a % 4)),

@@ -42,7 +42,8 @@ impl Region {
     pub fn put(&mut self, at: usize, word: u32)
         requires { at < 4194304 }
         ensures here { slice_index self.new.words.items at ≡ word }
-        ensures others { (j : ℕ) → j ≢ at → slice_index self.new.words.items j ≡ slice_index self.old.words.items j }
+        ensures others { (j : ℕ) → j ≢ at → slice_index self.new.words.items j
+            ≡ slice_index self.old.words.items j }
     {
         if at >= self.words.len() {
             self.reach(at);
@@ -57,7 +58,8 @@ impl Region {
         requires within { at < 4194304 }
         requires behind { vec_len self.old.words ≤ at }
         ensures reached { at < vec_len self.new.words }
-        ensures same { (j : ℕ) → slice_index self.new.words.items j ≡ slice_index self.old.words.items j }
+        ensures same { (j : ℕ) → slice_index self.new.words.items j
+            ≡ slice_index self.old.words.items j }
     {
         let end = (at / PART_WORDS + 1) * PART_WORDS;
         let _grown = self.words.resize(end, 0);

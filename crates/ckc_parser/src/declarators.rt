@@ -21,7 +21,8 @@ fn slot<'a>(
     alloc: Global,
     base: &CType<'a>,
 ) -> Result<Declaration<'a>, Stop>
-    ensures gives { Gives (λ y. v.as_decl_of_base y base.now) (g.n g.slot) (ahead reader.old) result (ahead reader.new) }
+    ensures gives { Gives (λ y. v.as_decl_of_base y base.now) (g.n g.slot) (ahead reader.old) result
+        (ahead reader.new) }
 {
     let copy = copied(alloc, base.get())?;
     let ctype = starred(reader, alloc, copy)?;
@@ -38,7 +39,8 @@ fn slots<'a>(
     base: &CType<'a>,
     first: Declaration<'a>,
 ) -> Result<Seq<Decl<Spelling<'a>, ()>>, Stop>
-    ensures gives { Gives (λ y. first.entry ∷ v.as_decls_of_base y base.now) (g.n g.slots) (ahead reader.old) result (ahead reader.new) }
+    ensures gives { Gives (λ y. first.entry ∷ v.as_decls_of_base y base.now) (g.n g.slots)
+        (ahead reader.old) result (ahead reader.new) }
 {
     let mut all = one(alloc, first.into_inner())?;
     'list: while let Kind::Comma = reader.kind() {
@@ -55,7 +57,8 @@ pub fn member<'a>(
     reader: &mut Reader<'a>,
     alloc: Global,
 ) -> Result<Seq<Decl<Spelling<'a>, ()>>, Stop>
-    ensures gives { Gives (λ y. v.as_decls y) (g.n g.member) (ahead reader.old) result (ahead reader.new) }
+    ensures gives { Gives (λ y. v.as_decls y) (g.n g.member) (ahead reader.old) result
+        (ahead reader.new) }
 {
     let base = base(reader, alloc)?;
     let first = slot(reader, alloc, &base)?;
@@ -69,7 +72,8 @@ pub fn object_rest<'a>(
     ctype: CType<'a>,
     name: Token<'a>,
 ) -> Result<Declaration<'a>, Stop>
-    ensures gives { Gives (λ y. v.as_decl_of_name y ctype.entry (spelled name.entry)) (g.n g.object_rest) (ahead reader.old) result (ahead reader.new) }
+    ensures gives { Gives (λ y. v.as_decl_of_name y ctype.entry (spelled name.entry))
+        (g.n g.object_rest) (ahead reader.old) result (ahead reader.new) }
 {
     let length = array(reader)?;
     let bounds = declared_limits(reader, alloc)?;
@@ -84,7 +88,8 @@ fn object<'a>(
     alloc: Global,
     base: &CType<'a>,
 ) -> Result<Declaration<'a>, Stop>
-    ensures gives { Gives (λ y. v.as_decl_of_base y base.now) (g.n g.object) (ahead reader.old) result (ahead reader.new) }
+    ensures gives { Gives (λ y. v.as_decl_of_base y base.now) (g.n g.object) (ahead reader.old)
+        result (ahead reader.new) }
 {
     let copy = copied(alloc, base.get())?;
     let ctype = starred(reader, alloc, copy)?;
@@ -100,7 +105,9 @@ pub fn objects<'a>(
     base: &CType<'a>,
     first: Declaration<'a>,
 ) -> Result<Seq<Item<Spelling<'a>, ()>>, Stop>
-    ensures gives { Gives (λ y. item.Static first.entry ∷ trees.statics (v.as_decls_of_base y base.now)) (g.n g.objects) (ahead reader.old) result (ahead reader.new) }
+    ensures gives { Gives
+        (λ y. item.Static first.entry ∷ trees.statics (v.as_decls_of_base y base.now))
+        (g.n g.objects) (ahead reader.old) result (ahead reader.new) }
 {
     let mut all = one(alloc, Item::Static(first))?;
     'list: while let Kind::Comma = reader.kind() {
@@ -118,7 +125,8 @@ pub fn local<'a>(
     alloc: Global,
     base: &CType<'a>,
 ) -> Result<Declaration<'a>, Stop>
-    ensures gives { Gives (λ y. v.as_decl_of_base y base.now) (g.n g.local) (ahead reader.old) result (ahead reader.new) }
+    ensures gives { Gives (λ y. v.as_decl_of_base y base.now) (g.n g.local) (ahead reader.old)
+        result (ahead reader.new) }
     ensures fewer { remaining reader.new ≤ remaining reader.old }
 {
     let copy = copied(alloc, base.get())?;
@@ -137,7 +145,9 @@ fn more_locals<'a>(
     base: &CType<'a>,
     first: Declaration<'a>,
 ) -> Result<Seq<Stmt<Spelling<'a>, ()>>, Stop>
-    ensures gives { Gives (λ y. trees.local_of first.entry ∷ trees.locals (v.as_decls_of_base y base.now)) (g.n g.more_locals) (ahead reader.old) result (ahead reader.new) }
+    ensures gives { Gives
+        (λ y. trees.local_of first.entry ∷ trees.locals (v.as_decls_of_base y base.now))
+        (g.n g.more_locals) (ahead reader.old) result (ahead reader.new) }
     ensures fewer { remaining reader.new ≤ remaining reader.old }
 {
     let mut all = one(alloc, local_of(first))?;
@@ -155,7 +165,8 @@ pub fn locals<'a>(
     reader: &mut Reader<'a>,
     alloc: Global,
 ) -> Result<Seq<Stmt<Spelling<'a>, ()>>, Stop>
-    ensures gives { Gives (λ y. trees.locals (v.as_decls y)) (g.n g.locals) (ahead reader.old) result (ahead reader.new) }
+    ensures gives { Gives (λ y. trees.locals (v.as_decls y)) (g.n g.locals) (ahead reader.old)
+        result (ahead reader.new) }
     ensures fewer { remaining reader.new ≤ remaining reader.old }
 {
     let base = base(reader, alloc)?;
@@ -165,7 +176,8 @@ pub fn locals<'a>(
 
 /// A parameter.
 fn param<'a>(reader: &mut Reader<'a>, alloc: Global) -> Result<Declaration<'a>, Stop>
-    ensures gives { Gives (λ y. v.as_decl y) (g.n g.param) (ahead reader.old) result (ahead reader.new) }
+    ensures gives { Gives (λ y. v.as_decl y) (g.n g.param) (ahead reader.old) result
+        (ahead reader.new) }
 {
     let base = base(reader, alloc)?;
     slot(reader, alloc, &base)
@@ -177,7 +189,8 @@ fn more_params<'a>(
     alloc: Global,
     first: Declaration<'a>,
 ) -> Result<Seq<Decl<Spelling<'a>, ()>>, Stop>
-    ensures gives { Gives (λ y. first.entry ∷ v.as_decls y) (g.n g.more_params) (ahead reader.old) result (ahead reader.new) }
+    ensures gives { Gives (λ y. first.entry ∷ v.as_decls y) (g.n g.more_params) (ahead reader.old)
+        result (ahead reader.new) }
 {
     let mut all = one(alloc, first.into_inner())?;
     'list: while let Kind::Comma = reader.kind() {
@@ -194,7 +207,8 @@ pub fn params<'a>(
     reader: &mut Reader<'a>,
     alloc: Global,
 ) -> Result<Seq<Decl<Spelling<'a>, ()>>, Stop>
-    ensures gives { Gives (λ y. v.as_decls y) (g.n g.params) (ahead reader.old) result (ahead reader.new) }
+    ensures gives { Gives (λ y. v.as_decls y) (g.n g.params) (ahead reader.old) result
+        (ahead reader.new) }
 {
     match reader.kind() {
         Kind::RoundClose => no_params(reader, alloc),
@@ -208,7 +222,8 @@ fn no_params<'a>(
     reader: &mut Reader<'a>,
     alloc: Global,
 ) -> Result<Seq<Decl<Spelling<'a>, ()>>, Stop>
-    ensures reads { Reads (g.right g.NoParams) (λ x vs. v.as_decls (v.made g.NoParams vs) ≡ x) (ahead reader.old) result (ahead reader.new) }
+    ensures reads { Reads (g.right g.NoParams) (λ x vs. v.as_decls (v.made g.NoParams vs) ≡ x)
+        (ahead reader.old) result (ahead reader.new) }
 {
     let close = reader.take(Kind::RoundClose)?;
     Ok(Seq::new(alloc))
@@ -219,7 +234,8 @@ fn void_params<'a>(
     reader: &mut Reader<'a>,
     alloc: Global,
 ) -> Result<Seq<Decl<Spelling<'a>, ()>>, Stop>
-    ensures reads { Reads (g.right g.VoidParams) (λ x vs. v.as_decls (v.made g.VoidParams vs) ≡ x) (ahead reader.old) result (ahead reader.new) }
+    ensures reads { Reads (g.right g.VoidParams) (λ x vs. v.as_decls (v.made g.VoidParams vs) ≡ x)
+        (ahead reader.old) result (ahead reader.new) }
 {
     let word = reader.take(Kind::Void)?;
     let close = reader.take(Kind::RoundClose)?;
@@ -231,7 +247,8 @@ fn some_params<'a>(
     reader: &mut Reader<'a>,
     alloc: Global,
 ) -> Result<Seq<Decl<Spelling<'a>, ()>>, Stop>
-    ensures reads { Reads (g.right g.Params) (λ x vs. v.as_decls (v.made g.Params vs) ≡ x) (ahead reader.old) result (ahead reader.new) }
+    ensures reads { Reads (g.right g.Params) (λ x vs. v.as_decls (v.made g.Params vs) ≡ x)
+        (ahead reader.old) result (ahead reader.new) }
 {
     let first = param(reader, alloc)?;
     more_params(reader, alloc, first)
@@ -243,7 +260,8 @@ pub fn members<'a>(
     alloc: Global,
     first: Seq<Decl<Spelling<'a>, ()>>,
 ) -> Result<Seq<Decl<Spelling<'a>, ()>>, Stop>
-    ensures gives { Gives (λ y. first.entry ++ v.as_decls y) (g.n g.members) (ahead reader.old) result (ahead reader.new) }
+    ensures gives { Gives (λ y. first.entry ++ v.as_decls y) (g.n g.members) (ahead reader.old)
+        result (ahead reader.new) }
 {
     let mut all = first;
     'list: while begins_type(reader.kind()) {

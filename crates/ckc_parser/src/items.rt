@@ -28,7 +28,9 @@ fn head<'a>(
     result_type: CType<'a>,
     name: Token<'a>,
 ) -> Result<Seq<Item<Spelling<'a>, ()>>, Stop>
-    ensures gives { Gives (λ y. v.as_item_of_head y mode result_type.entry (spelled name.entry) ∷ []) (g.n g.head) (ahead reader.old) result (ahead reader.new) }
+    ensures gives { Gives
+        (λ y. v.as_item_of_head y mode result_type.entry (spelled name.entry) ∷ []) (g.n g.head)
+        (ahead reader.old) result (ahead reader.new) }
 {
     let open = reader.take(Kind::RoundOpen)?;
     let params = params(reader, alloc)?;
@@ -40,7 +42,8 @@ fn head<'a>(
 
 /// The body of a function, or `;` of a prototype.
 fn body<'a>(reader: &mut Reader<'a>, alloc: Global) -> Result<Option<Statement<'a>>, Stop>
-    ensures gives { Gives (λ y. v.as_part y) (g.n g.body) (ahead reader.old) result (ahead reader.new) }
+    ensures gives { Gives (λ y. v.as_part y) (g.n g.body) (ahead reader.old) result
+        (ahead reader.new) }
 {
     match reader.kind() {
         Kind::Semicolon => no_body(reader),
@@ -50,7 +53,8 @@ fn body<'a>(reader: &mut Reader<'a>, alloc: Global) -> Result<Option<Statement<'
 
 /// `;`.
 fn no_body<'a>(reader: &mut Reader<'a>) -> Result<Option<Statement<'a>>, Stop>
-    ensures reads { Reads (g.right g.Prototype) (λ x vs. v.as_part (v.made g.Prototype vs) ≡ x) (ahead reader.old) result (ahead reader.new) }
+    ensures reads { Reads (g.right g.Prototype) (λ x vs. v.as_part (v.made g.Prototype vs) ≡ x)
+        (ahead reader.old) result (ahead reader.new) }
 {
     let end = reader.take(Kind::Semicolon)?;
     Ok(None)
@@ -58,7 +62,8 @@ fn no_body<'a>(reader: &mut Reader<'a>) -> Result<Option<Statement<'a>>, Stop>
 
 /// A body.
 fn some_body<'a>(reader: &mut Reader<'a>, alloc: Global) -> Result<Option<Statement<'a>>, Stop>
-    ensures reads { Reads (g.right g.Body) (λ x vs. v.as_part (v.made g.Body vs) ≡ x) (ahead reader.old) result (ahead reader.new) }
+    ensures reads { Reads (g.right g.Body) (λ x vs. v.as_part (v.made g.Body vs) ≡ x)
+        (ahead reader.old) result (ahead reader.new) }
 {
     let open = reader.take(Kind::CurlyOpen)?;
     let all = block_items(reader, alloc)?;
@@ -68,7 +73,8 @@ fn some_body<'a>(reader: &mut Reader<'a>, alloc: Global) -> Result<Option<Statem
 
 /// The type of a result.
 fn result_type<'a>(reader: &mut Reader<'a>, alloc: Global) -> Result<CType<'a>, Stop>
-    ensures gives { Gives (λ y. v.as_type y) (g.n g.result_type) (ahead reader.old) result (ahead reader.new) }
+    ensures gives { Gives (λ y. v.as_type y) (g.n g.result_type) (ahead reader.old) result
+        (ahead reader.new) }
 {
     match reader.kind() {
         Kind::Void => void_result(reader, alloc),
@@ -78,7 +84,8 @@ fn result_type<'a>(reader: &mut Reader<'a>, alloc: Global) -> Result<CType<'a>, 
 
 /// `void`.
 fn void_result<'a>(reader: &mut Reader<'a>, alloc: Global) -> Result<CType<'a>, Stop>
-    ensures reads { Reads (g.right g.VoidResult) (λ x vs. v.as_type (v.made g.VoidResult vs) ≡ x) (ahead reader.old) result (ahead reader.new) }
+    ensures reads { Reads (g.right g.VoidResult) (λ x vs. v.as_type (v.made g.VoidResult vs) ≡ x)
+        (ahead reader.old) result (ahead reader.new) }
 {
     let word = reader.take(Kind::Void)?;
     let whole = Boxed::new(alloc, TypeTree::Void)?;
@@ -87,7 +94,8 @@ fn void_result<'a>(reader: &mut Reader<'a>, alloc: Global) -> Result<CType<'a>, 
 
 /// A type that is not `void`.
 fn other_result<'a>(reader: &mut Reader<'a>, alloc: Global) -> Result<CType<'a>, Stop>
-    ensures reads { Reads (g.right g.OtherResult) (λ x vs. v.as_type (v.made g.OtherResult vs) ≡ x) (ahead reader.old) result (ahead reader.new) }
+    ensures reads { Reads (g.right g.OtherResult) (λ x vs. v.as_type (v.made g.OtherResult vs) ≡ x)
+        (ahead reader.old) result (ahead reader.new) }
 {
     type_name(reader, alloc)
 }
@@ -98,7 +106,8 @@ fn structure<'a>(
     alloc: Global,
     name: Token<'a>,
 ) -> Result<Seq<Item<Spelling<'a>, ()>>, Stop>
-    ensures gives { Gives (λ y. v.as_items_of_name y (spelled name.entry)) (g.n g.structure) (ahead reader.old) result (ahead reader.new) }
+    ensures gives { Gives (λ y. v.as_items_of_name y (spelled name.entry)) (g.n g.structure)
+        (ahead reader.old) result (ahead reader.new) }
 {
     match reader.kind() {
         Kind::Semicolon => tag(reader, alloc, name),
@@ -113,7 +122,9 @@ fn tag<'a>(
     alloc: Global,
     name: Token<'a>,
 ) -> Result<Seq<Item<Spelling<'a>, ()>>, Stop>
-    ensures reads { Reads (g.right g.Tag) (λ x vs. v.as_items_of_name (v.made g.Tag vs) (spelled name.entry) ≡ x) (ahead reader.old) result (ahead reader.new) }
+    ensures reads { Reads (g.right g.Tag)
+        (λ x vs. v.as_items_of_name (v.made g.Tag vs) (spelled name.entry) ≡ x) (ahead reader.old)
+        result (ahead reader.new) }
 {
     let end = reader.take(Kind::Semicolon)?;
     let all = one(alloc, Item::Tag(Spelling::new(name.text), name.pos))?;
@@ -126,7 +137,9 @@ fn struct_members<'a>(
     alloc: Global,
     name: Token<'a>,
 ) -> Result<Seq<Item<Spelling<'a>, ()>>, Stop>
-    ensures reads { Reads (g.right g.Members) (λ x vs. v.as_items_of_name (v.made g.Members vs) (spelled name.entry) ≡ x) (ahead reader.old) result (ahead reader.new) }
+    ensures reads { Reads (g.right g.Members)
+        (λ x vs. v.as_items_of_name (v.made g.Members vs) (spelled name.entry) ≡ x)
+        (ahead reader.old) result (ahead reader.new) }
 {
     let open = reader.take(Kind::CurlyOpen)?;
     let first = member(reader, alloc)?;
@@ -146,7 +159,9 @@ fn structured<'a>(
     alloc: Global,
     name: Token<'a>,
 ) -> Result<Seq<Item<Spelling<'a>, ()>>, Stop>
-    ensures reads { Reads (g.right g.Structured) (λ x vs. v.as_items_of_name (v.made g.Structured vs) (spelled name.entry) ≡ x) (ahead reader.old) result (ahead reader.new) }
+    ensures reads { Reads (g.right g.Structured)
+        (λ x vs. v.as_items_of_name (v.made g.Structured vs) (spelled name.entry) ≡ x)
+        (ahead reader.old) result (ahead reader.new) }
 {
     let base = struct_type(alloc, name)?;
     declarators(reader, alloc, base)
@@ -158,7 +173,8 @@ fn declarators<'a>(
     alloc: Global,
     base: CType<'a>,
 ) -> Result<Seq<Item<Spelling<'a>, ()>>, Stop>
-    ensures gives { Gives (λ y. v.as_items_of_base y base.entry) (g.n g.declarators) (ahead reader.old) result (ahead reader.new) }
+    ensures gives { Gives (λ y. v.as_items_of_base y base.entry) (g.n g.declarators)
+        (ahead reader.old) result (ahead reader.new) }
 {
     let copy = copied(alloc, base.get())?;
     let ctype = starred(reader, alloc, copy)?;
@@ -174,7 +190,9 @@ fn declarator<'a>(
     ctype: CType<'a>,
     name: Token<'a>,
 ) -> Result<Seq<Item<Spelling<'a>, ()>>, Stop>
-    ensures gives { Gives (λ y. v.as_items_of_declarator y base.now ctype.entry (spelled name.entry)) (g.n g.declarator) (ahead reader.old) result (ahead reader.new) }
+    ensures gives { Gives
+        (λ y. v.as_items_of_declarator y base.now ctype.entry (spelled name.entry))
+        (g.n g.declarator) (ahead reader.old) result (ahead reader.new) }
 {
     match reader.kind() {
         Kind::RoundOpen => headed(reader, alloc, base, ctype, name),
@@ -190,7 +208,9 @@ fn headed<'a>(
     ctype: CType<'a>,
     name: Token<'a>,
 ) -> Result<Seq<Item<Spelling<'a>, ()>>, Stop>
-    ensures reads { Reads (g.right g.Headed) (λ x vs. v.as_items_of_declarator (v.made g.Headed vs) base.now ctype.entry (spelled name.entry) ≡ x) (ahead reader.old) result (ahead reader.new) }
+    ensures reads { Reads (g.right g.Headed)
+        (λ x vs. v.as_items_of_declarator (v.made g.Headed vs) base.now ctype.entry
+        (spelled name.entry) ≡ x) (ahead reader.old) result (ahead reader.new) }
 {
     head(reader, alloc, None, ctype, name)
 }
@@ -203,7 +223,9 @@ fn statics<'a>(
     ctype: CType<'a>,
     name: Token<'a>,
 ) -> Result<Seq<Item<Spelling<'a>, ()>>, Stop>
-    ensures reads { Reads (g.right g.Objects) (λ x vs. v.as_items_of_declarator (v.made g.Objects vs) base.now ctype.entry (spelled name.entry) ≡ x) (ahead reader.old) result (ahead reader.new) }
+    ensures reads { Reads (g.right g.Objects)
+        (λ x vs. v.as_items_of_declarator (v.made g.Objects vs) base.now ctype.entry
+        (spelled name.entry) ≡ x) (ahead reader.old) result (ahead reader.new) }
 {
     let first = object_rest(reader, alloc, ctype, name)?;
     objects(reader, alloc, base, first)
@@ -211,7 +233,8 @@ fn statics<'a>(
 
 /// A head with a mode, a function without a result, or what is declared with a base that is no structure.
 fn declared<'a>(reader: &mut Reader<'a>, alloc: Global) -> Result<Seq<Item<Spelling<'a>, ()>>, Stop>
-    ensures gives { Gives (λ y. v.as_items y) (g.n g.declared) (ahead reader.old) result (ahead reader.new) }
+    ensures gives { Gives (λ y. v.as_items y) (g.n g.declared) (ahead reader.old) result
+        (ahead reader.new) }
 {
     match reader.kind() {
         Kind::Checked => moded(reader, alloc),
@@ -223,7 +246,8 @@ fn declared<'a>(reader: &mut Reader<'a>, alloc: Global) -> Result<Seq<Item<Spell
 
 /// A function or a prototype with a mode.
 fn moded<'a>(reader: &mut Reader<'a>, alloc: Global) -> Result<Seq<Item<Spelling<'a>, ()>>, Stop>
-    ensures reads { Reads (g.right g.Moded) (λ x vs. v.as_items (v.made g.Moded vs) ≡ x) (ahead reader.old) result (ahead reader.new) }
+    ensures reads { Reads (g.right g.Moded) (λ x vs. v.as_items (v.made g.Moded vs) ≡ x)
+        (ahead reader.old) result (ahead reader.new) }
 {
     let mode = mode(reader)?;
     let ctype = result_type(reader, alloc)?;
@@ -233,7 +257,8 @@ fn moded<'a>(reader: &mut Reader<'a>, alloc: Global) -> Result<Seq<Item<Spelling
 
 /// A function or a prototype without a result.
 fn voided<'a>(reader: &mut Reader<'a>, alloc: Global) -> Result<Seq<Item<Spelling<'a>, ()>>, Stop>
-    ensures reads { Reads (g.right g.Voided) (λ x vs. v.as_items (v.made g.Voided vs) ≡ x) (ahead reader.old) result (ahead reader.new) }
+    ensures reads { Reads (g.right g.Voided) (λ x vs. v.as_items (v.made g.Voided vs) ≡ x)
+        (ahead reader.old) result (ahead reader.new) }
 {
     let word = reader.take(Kind::Void)?;
     let name = reader.take_any(Class::Name)?;
@@ -243,7 +268,8 @@ fn voided<'a>(reader: &mut Reader<'a>, alloc: Global) -> Result<Seq<Item<Spellin
 
 /// What is declared with a base that is no structure.
 fn based<'a>(reader: &mut Reader<'a>, alloc: Global) -> Result<Seq<Item<Spelling<'a>, ()>>, Stop>
-    ensures reads { Reads (g.right g.Based) (λ x vs. v.as_items (v.made g.Based vs) ≡ x) (ahead reader.old) result (ahead reader.new) }
+    ensures reads { Reads (g.right g.Based) (λ x vs. v.as_items (v.made g.Based vs) ≡ x)
+        (ahead reader.old) result (ahead reader.new) }
 {
     let base = scalar(reader, alloc)?;
     declarators(reader, alloc, base)
@@ -254,7 +280,8 @@ fn declaration<'a>(
     reader: &mut Reader<'a>,
     alloc: Global,
 ) -> Result<Seq<Item<Spelling<'a>, ()>>, Stop>
-    ensures gives { Gives (λ y. v.as_items y) (g.n g.declaration) (ahead reader.old) result (ahead reader.new) }
+    ensures gives { Gives (λ y. v.as_items y) (g.n g.declaration) (ahead reader.old) result
+        (ahead reader.new) }
 {
     match reader.kind() {
         Kind::Struct => static_struct(reader, alloc),
@@ -267,7 +294,9 @@ fn static_struct<'a>(
     reader: &mut Reader<'a>,
     alloc: Global,
 ) -> Result<Seq<Item<Spelling<'a>, ()>>, Stop>
-    ensures reads { Reads (g.right g.StaticStruct) (λ x vs. v.as_items (v.made g.StaticStruct vs) ≡ x) (ahead reader.old) result (ahead reader.new) }
+    ensures reads { Reads (g.right g.StaticStruct)
+        (λ x vs. v.as_items (v.made g.StaticStruct vs) ≡ x) (ahead reader.old) result
+        (ahead reader.new) }
 {
     let word = reader.take(Kind::Struct)?;
     let name = reader.take_any(Class::Name)?;
@@ -280,7 +309,8 @@ fn static_other<'a>(
     reader: &mut Reader<'a>,
     alloc: Global,
 ) -> Result<Seq<Item<Spelling<'a>, ()>>, Stop>
-    ensures reads { Reads (g.right g.StaticOther) (λ x vs. v.as_items (v.made g.StaticOther vs) ≡ x) (ahead reader.old) result (ahead reader.new) }
+    ensures reads { Reads (g.right g.StaticOther) (λ x vs. v.as_items (v.made g.StaticOther vs) ≡ x)
+        (ahead reader.old) result (ahead reader.new) }
 {
     declared(reader, alloc)
 }
@@ -290,7 +320,9 @@ fn directive<'a>(
     reader: &mut Reader<'a>,
     alloc: Global,
 ) -> Result<Seq<Item<Spelling<'a>, ()>>, Stop>
-    ensures reads { Reads (g.k Kind.Directive ∷ []) (λ x vs. (y : v.Value) → v.as_items (v.made g.Directive (vs ++ y ∷ [])) ≡ x ++ v.as_items y) (ahead reader.old) result (ahead reader.new) }
+    ensures reads { Reads (g.k Kind.Directive ∷ [])
+        (λ x vs. (y : v.Value) → v.as_items (v.made g.Directive (vs ++ y ∷ [])) ≡ x ++ v.as_items y)
+        (ahead reader.old) result (ahead reader.new) }
     ensures fewer { IfOk result (λ x. remaining reader.new < remaining reader.old) }
 {
     let token = reader.take(Kind::Directive)?;
@@ -303,7 +335,9 @@ fn struct_item<'a>(
     reader: &mut Reader<'a>,
     alloc: Global,
 ) -> Result<Seq<Item<Spelling<'a>, ()>>, Stop>
-    ensures reads { Reads (g.k Kind.Struct ∷ g.t g.name ∷ g.n g.structure ∷ []) (λ x vs. (y : v.Value) → v.as_items (v.made g.Structure (vs ++ y ∷ [])) ≡ x ++ v.as_items y) (ahead reader.old) result (ahead reader.new) }
+    ensures reads { Reads (g.k Kind.Struct ∷ g.t g.name ∷ g.n g.structure ∷ [])
+        (λ x vs. (y : v.Value) → v.as_items (v.made g.Structure (vs ++ y ∷ [])) ≡ x ++ v.as_items y)
+        (ahead reader.old) result (ahead reader.new) }
     ensures fewer { IfOk result (λ x. remaining reader.new < remaining reader.old) }
 {
     let word = reader.take(Kind::Struct)?;
@@ -317,7 +351,9 @@ fn static_item<'a>(
     reader: &mut Reader<'a>,
     alloc: Global,
 ) -> Result<Seq<Item<Spelling<'a>, ()>>, Stop>
-    ensures reads { Reads (g.k Kind.Static ∷ g.n g.declaration ∷ []) (λ x vs. (y : v.Value) → v.as_items (v.made g.Static (vs ++ y ∷ [])) ≡ x ++ v.as_items y) (ahead reader.old) result (ahead reader.new) }
+    ensures reads { Reads (g.k Kind.Static ∷ g.n g.declaration ∷ [])
+        (λ x vs. (y : v.Value) → v.as_items (v.made g.Static (vs ++ y ∷ [])) ≡ x ++ v.as_items y)
+        (ahead reader.old) result (ahead reader.new) }
     ensures fewer { IfOk result (λ x. remaining reader.new < remaining reader.old) }
 {
     let word = reader.take(Kind::Static)?;
@@ -330,7 +366,9 @@ fn declared_item<'a>(
     reader: &mut Reader<'a>,
     alloc: Global,
 ) -> Result<Seq<Item<Spelling<'a>, ()>>, Stop>
-    ensures reads { Reads (g.n g.declared ∷ []) (λ x vs. (y : v.Value) → v.as_items (v.made g.Declaration (vs ++ y ∷ [])) ≡ x ++ v.as_items y) (ahead reader.old) result (ahead reader.new) }
+    ensures reads { Reads (g.n g.declared ∷ [])
+        (λ x vs. (y : v.Value) → v.as_items (v.made g.Declaration (vs ++ y ∷ []))
+        ≡ x ++ v.as_items y) (ahead reader.old) result (ahead reader.new) }
     ensures fewer { IfOk result (λ x. remaining reader.new < remaining reader.old) }
 {
     let all = declared(reader, alloc)?;
@@ -340,7 +378,8 @@ fn declared_item<'a>(
 /// One item of a text, where there is one more.
 fn item<'a>(reader: &mut Reader<'a>, alloc: Global) -> Result<Seq<Item<Spelling<'a>, ()>>, Stop>
     requires more { has_more (kind_of (ahead reader.now)) ≡ true }
-    ensures turns { Answered (λ x. IsItem (ahead reader.old) x (ahead reader.new)) (g.n g.items ∷ []) (ahead reader.old) result (ahead reader.new) }
+    ensures turns { Answered (λ x. IsItem (ahead reader.old) x (ahead reader.new))
+        (g.n g.items ∷ []) (ahead reader.old) result (ahead reader.new) }
     ensures fewer { IfOk result (λ x. remaining reader.new < remaining reader.old) }
 {
     match reader.kind() {
@@ -356,7 +395,8 @@ pub fn items<'a>(
     reader: &mut Reader<'a>,
     alloc: Global,
 ) -> Result<Seq<Item<Spelling<'a>, ()>>, Stop>
-    ensures gives { Gives (λ y. v.as_items y) (g.n g.items) (ahead reader.old) result (ahead reader.new) }
+    ensures gives { Gives (λ y. v.as_items y) (g.n g.items) (ahead reader.old) result
+        (ahead reader.new) }
 {
     let mut all = Seq::new(alloc);
     'list: while reader.goes_on() {

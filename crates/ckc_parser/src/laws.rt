@@ -22,5 +22,6 @@ pub fn codes()
 
 /// What tokens derive for a part is a value of that part: none that stands in for a value of another part occurs.
 pub fn values_have_shapes()
-    ensures { (p : Part) (xs : List Sign) (next : Kind) (x : Value) → Derives (n p ∷ []) xs next (x ∷ []) → has_shape (shape_of p) x ≡ true }
+    ensures { (p : Part) (xs : List Sign) (next : Kind) (x : Value)
+        → Derives (n p ∷ []) xs next (x ∷ []) → has_shape (shape_of p) x ≡ true }
 {}

@@ -20,7 +20,8 @@ use std::alloc::Global;
 /// A statement (ISO C11, 6.8).
 #[cycle(stmt)]
 pub fn stmt<'a>(reader: &mut Reader<'a>, alloc: Global) -> Result<Statement<'a>, Stop>
-    ensures gives { Gives (λ y. v.as_stmt y) (g.n g.stmt) (ahead reader.old) result (ahead reader.new) }
+    ensures gives { Gives (λ y. v.as_stmt y) (g.n g.stmt) (ahead reader.old) result
+        (ahead reader.new) }
     ensures fewer { remaining reader.new ≤ remaining reader.old }
 {
     match reader.kind() {
@@ -49,7 +50,8 @@ pub fn stmt<'a>(reader: &mut Reader<'a>, alloc: Global) -> Result<Statement<'a>,
 /// A block with a mode.
 #[cycle(stmt)]
 fn moded_block<'a>(reader: &mut Reader<'a>, alloc: Global) -> Result<Statement<'a>, Stop>
-    ensures reads { Reads (g.right g.ModedBlock) (λ x vs. v.as_stmt (v.made g.ModedBlock vs) ≡ x) (ahead reader.old) result (ahead reader.new) }
+    ensures reads { Reads (g.right g.ModedBlock) (λ x vs. v.as_stmt (v.made g.ModedBlock vs) ≡ x)
+        (ahead reader.old) result (ahead reader.new) }
     ensures fewer { remaining reader.new ≤ remaining reader.old }
 {
     let mode = mode(reader)?;
@@ -62,7 +64,8 @@ fn moded_block<'a>(reader: &mut Reader<'a>, alloc: Global) -> Result<Statement<'
 /// A block (ISO C11, 6.8.2).
 #[cycle(stmt)]
 fn block<'a>(reader: &mut Reader<'a>, alloc: Global) -> Result<Statement<'a>, Stop>
-    ensures reads { Reads (g.right g.Block) (λ x vs. v.as_stmt (v.made g.Block vs) ≡ x) (ahead reader.old) result (ahead reader.new) }
+    ensures reads { Reads (g.right g.Block) (λ x vs. v.as_stmt (v.made g.Block vs) ≡ x)
+        (ahead reader.old) result (ahead reader.new) }
     ensures fewer { remaining reader.new ≤ remaining reader.old }
 {
     let open = reader.take(Kind::CurlyOpen)?;
@@ -73,7 +76,8 @@ fn block<'a>(reader: &mut Reader<'a>, alloc: Global) -> Result<Statement<'a>, St
 
 /// The empty statement.
 fn empty_stmt<'a>(reader: &mut Reader<'a>, alloc: Global) -> Result<Statement<'a>, Stop>
-    ensures reads { Reads (g.right g.Empty) (λ x vs. v.as_stmt (v.made g.Empty vs) ≡ x) (ahead reader.old) result (ahead reader.new) }
+    ensures reads { Reads (g.right g.Empty) (λ x vs. v.as_stmt (v.made g.Empty vs) ≡ x)
+        (ahead reader.old) result (ahead reader.new) }
     ensures fewer { remaining reader.new ≤ remaining reader.old }
 {
     let mark = reader.take(Kind::Semicolon)?;
@@ -84,7 +88,8 @@ fn empty_stmt<'a>(reader: &mut Reader<'a>, alloc: Global) -> Result<Statement<'a
 /// `if` (ISO C11, 6.8.4.1).
 #[cycle(stmt)]
 fn if_stmt<'a>(reader: &mut Reader<'a>, alloc: Global) -> Result<Statement<'a>, Stop>
-    ensures reads { Reads (g.right g.If) (λ x vs. v.as_stmt (v.made g.If vs) ≡ x) (ahead reader.old) result (ahead reader.new) }
+    ensures reads { Reads (g.right g.If) (λ x vs. v.as_stmt (v.made g.If vs) ≡ x) (ahead reader.old)
+        result (ahead reader.new) }
     ensures fewer { remaining reader.new ≤ remaining reader.old }
 {
     let mark = reader.take(Kind::If)?;
@@ -100,7 +105,8 @@ fn if_stmt<'a>(reader: &mut Reader<'a>, alloc: Global) -> Result<Statement<'a>, 
 /// The `else` of the nearest `if`, where there is one.
 #[cycle(stmt)]
 fn otherwise<'a>(reader: &mut Reader<'a>, alloc: Global) -> Result<Option<Statement<'a>>, Stop>
-    ensures gives { Gives (λ y. v.as_part y) (g.n g.otherwise) (ahead reader.old) result (ahead reader.new) }
+    ensures gives { Gives (λ y. v.as_part y) (g.n g.otherwise) (ahead reader.old) result
+        (ahead reader.new) }
     ensures fewer { remaining reader.new ≤ remaining reader.old }
 {
     match reader.kind() {
@@ -112,7 +118,8 @@ fn otherwise<'a>(reader: &mut Reader<'a>, alloc: Global) -> Result<Option<Statem
 /// `else` and its statement.
 #[cycle(stmt)]
 fn else_part<'a>(reader: &mut Reader<'a>, alloc: Global) -> Result<Option<Statement<'a>>, Stop>
-    ensures reads { Reads (g.right g.Else) (λ x vs. v.as_part (v.made g.Else vs) ≡ x) (ahead reader.old) result (ahead reader.new) }
+    ensures reads { Reads (g.right g.Else) (λ x vs. v.as_part (v.made g.Else vs) ≡ x)
+        (ahead reader.old) result (ahead reader.new) }
     ensures fewer { remaining reader.new ≤ remaining reader.old }
 {
     let mark = reader.take(Kind::Else)?;
@@ -123,7 +130,8 @@ fn else_part<'a>(reader: &mut Reader<'a>, alloc: Global) -> Result<Option<Statem
 /// `while` (ISO C11, 6.8.5.1).
 #[cycle(stmt)]
 fn while_stmt<'a>(reader: &mut Reader<'a>, alloc: Global) -> Result<Statement<'a>, Stop>
-    ensures reads { Reads (g.right g.While) (λ x vs. v.as_stmt (v.made g.While vs) ≡ x) (ahead reader.old) result (ahead reader.new) }
+    ensures reads { Reads (g.right g.While) (λ x vs. v.as_stmt (v.made g.While vs) ≡ x)
+        (ahead reader.old) result (ahead reader.new) }
     ensures fewer { remaining reader.new ≤ remaining reader.old }
 {
     let mark = reader.take(Kind::While)?;
@@ -138,7 +146,8 @@ fn while_stmt<'a>(reader: &mut Reader<'a>, alloc: Global) -> Result<Statement<'a
 /// `for` (ISO C11, 6.8.5.3).
 #[cycle(stmt)]
 fn for_stmt<'a>(reader: &mut Reader<'a>, alloc: Global) -> Result<Statement<'a>, Stop>
-    ensures reads { Reads (g.right g.For) (λ x vs. v.as_stmt (v.made g.For vs) ≡ x) (ahead reader.old) result (ahead reader.new) }
+    ensures reads { Reads (g.right g.For) (λ x vs. v.as_stmt (v.made g.For vs) ≡ x)
+        (ahead reader.old) result (ahead reader.new) }
     ensures fewer { remaining reader.new ≤ remaining reader.old }
 {
     let mark = reader.take(Kind::For)?;
@@ -153,7 +162,8 @@ fn for_stmt<'a>(reader: &mut Reader<'a>, alloc: Global) -> Result<Statement<'a>,
 
 /// `return` (ISO C11, 6.8.6.4).
 fn return_stmt<'a>(reader: &mut Reader<'a>, alloc: Global) -> Result<Statement<'a>, Stop>
-    ensures reads { Reads (g.right g.Return) (λ x vs. v.as_stmt (v.made g.Return vs) ≡ x) (ahead reader.old) result (ahead reader.new) }
+    ensures reads { Reads (g.right g.Return) (λ x vs. v.as_stmt (v.made g.Return vs) ≡ x)
+        (ahead reader.old) result (ahead reader.new) }
     ensures fewer { remaining reader.new ≤ remaining reader.old }
 {
     let mark = reader.take(Kind::Return)?;
@@ -164,7 +174,8 @@ fn return_stmt<'a>(reader: &mut Reader<'a>, alloc: Global) -> Result<Statement<'
 
 /// `break`.
 fn break_stmt<'a>(reader: &mut Reader<'a>, alloc: Global) -> Result<Statement<'a>, Stop>
-    ensures reads { Reads (g.right g.Break) (λ x vs. v.as_stmt (v.made g.Break vs) ≡ x) (ahead reader.old) result (ahead reader.new) }
+    ensures reads { Reads (g.right g.Break) (λ x vs. v.as_stmt (v.made g.Break vs) ≡ x)
+        (ahead reader.old) result (ahead reader.new) }
     ensures fewer { remaining reader.new ≤ remaining reader.old }
 {
     let mark = reader.take(Kind::Break)?;
@@ -175,7 +186,8 @@ fn break_stmt<'a>(reader: &mut Reader<'a>, alloc: Global) -> Result<Statement<'a
 
 /// `continue`.
 fn continue_stmt<'a>(reader: &mut Reader<'a>, alloc: Global) -> Result<Statement<'a>, Stop>
-    ensures reads { Reads (g.right g.Continue) (λ x vs. v.as_stmt (v.made g.Continue vs) ≡ x) (ahead reader.old) result (ahead reader.new) }
+    ensures reads { Reads (g.right g.Continue) (λ x vs. v.as_stmt (v.made g.Continue vs) ≡ x)
+        (ahead reader.old) result (ahead reader.new) }
     ensures fewer { remaining reader.new ≤ remaining reader.old }
 {
     let mark = reader.take(Kind::Continue)?;
@@ -186,7 +198,8 @@ fn continue_stmt<'a>(reader: &mut Reader<'a>, alloc: Global) -> Result<Statement
 
 /// `_Dynamic_check`.
 fn check_stmt<'a>(reader: &mut Reader<'a>, alloc: Global) -> Result<Statement<'a>, Stop>
-    ensures reads { Reads (g.right g.Check) (λ x vs. v.as_stmt (v.made g.Check vs) ≡ x) (ahead reader.old) result (ahead reader.new) }
+    ensures reads { Reads (g.right g.Check) (λ x vs. v.as_stmt (v.made g.Check vs) ≡ x)
+        (ahead reader.old) result (ahead reader.new) }
     ensures fewer { remaining reader.new ≤ remaining reader.old }
 {
     let mark = reader.take(Kind::Check)?;
@@ -200,7 +213,8 @@ fn check_stmt<'a>(reader: &mut Reader<'a>, alloc: Global) -> Result<Statement<'a
 
 /// An assignment whose target begins with no name.
 fn assign_stmt<'a>(reader: &mut Reader<'a>, alloc: Global) -> Result<Statement<'a>, Stop>
-    ensures reads { Reads (g.right g.AssignStmt) (λ x vs. v.as_stmt (v.made g.AssignStmt vs) ≡ x) (ahead reader.old) result (ahead reader.new) }
+    ensures reads { Reads (g.right g.AssignStmt) (λ x vs. v.as_stmt (v.made g.AssignStmt vs) ≡ x)
+        (ahead reader.old) result (ahead reader.new) }
     ensures fewer { remaining reader.new ≤ remaining reader.old }
 {
     let target = first(reader, alloc)?;
@@ -213,7 +227,8 @@ fn assign_stmt<'a>(reader: &mut Reader<'a>, alloc: Global) -> Result<Statement<'
 
 /// A call or an assignment that begins with a name but `calloc`.
 fn name_first_stmt<'a>(reader: &mut Reader<'a>, alloc: Global) -> Result<Statement<'a>, Stop>
-    ensures reads { Reads (g.right g.NamedStmt) (λ x vs. v.as_stmt (v.made g.NamedStmt vs) ≡ x) (ahead reader.old) result (ahead reader.new) }
+    ensures reads { Reads (g.right g.NamedStmt) (λ x vs. v.as_stmt (v.made g.NamedStmt vs) ≡ x)
+        (ahead reader.old) result (ahead reader.new) }
     ensures fewer { remaining reader.new ≤ remaining reader.old }
 {
     let name = reader.take_any(Class::NameButCalloc)?;
@@ -222,7 +237,8 @@ fn name_first_stmt<'a>(reader: &mut Reader<'a>, alloc: Global) -> Result<Stateme
 
 /// A call or an assignment that begins with `calloc`.
 fn calloc_first_stmt<'a>(reader: &mut Reader<'a>, alloc: Global) -> Result<Statement<'a>, Stop>
-    ensures reads { Reads (g.right g.CallocStmt) (λ x vs. v.as_stmt (v.made g.CallocStmt vs) ≡ x) (ahead reader.old) result (ahead reader.new) }
+    ensures reads { Reads (g.right g.CallocStmt) (λ x vs. v.as_stmt (v.made g.CallocStmt vs) ≡ x)
+        (ahead reader.old) result (ahead reader.new) }
     ensures fewer { remaining reader.new ≤ remaining reader.old }
 {
     let name = reader.take(Kind::Calloc)?;
@@ -235,7 +251,8 @@ fn named_stmt<'a>(
     alloc: Global,
     name: Token<'a>,
 ) -> Result<Statement<'a>, Stop>
-    ensures gives { Gives (λ y. v.as_stmt_of_name y (spelled name.entry)) (g.n g.named_stmt) (ahead reader.old) result (ahead reader.new) }
+    ensures gives { Gives (λ y. v.as_stmt_of_name y (spelled name.entry)) (g.n g.named_stmt)
+        (ahead reader.old) result (ahead reader.new) }
     ensures fewer { remaining reader.new ≤ remaining reader.old }
 {
     match reader.kind() {
@@ -250,7 +267,9 @@ fn call_stmt<'a>(
     alloc: Global,
     name: Token<'a>,
 ) -> Result<Statement<'a>, Stop>
-    ensures reads { Reads (g.right g.CallStmt) (λ x vs. v.as_stmt_of_name (v.made g.CallStmt vs) (spelled name.entry) ≡ x) (ahead reader.old) result (ahead reader.new) }
+    ensures reads { Reads (g.right g.CallStmt)
+        (λ x vs. v.as_stmt_of_name (v.made g.CallStmt vs) (spelled name.entry) ≡ x)
+        (ahead reader.old) result (ahead reader.new) }
     ensures fewer { remaining reader.new ≤ remaining reader.old }
 {
     let open = reader.take(Kind::RoundOpen)?;
@@ -267,7 +286,9 @@ fn named_assign<'a>(
     alloc: Global,
     name: Token<'a>,
 ) -> Result<Statement<'a>, Stop>
-    ensures reads { Reads (g.right g.NamedAssign) (λ x vs. v.as_stmt_of_name (v.made g.NamedAssign vs) (spelled name.entry) ≡ x) (ahead reader.old) result (ahead reader.new) }
+    ensures reads { Reads (g.right g.NamedAssign)
+        (λ x vs. v.as_stmt_of_name (v.made g.NamedAssign vs) (spelled name.entry) ≡ x)
+        (ahead reader.old) result (ahead reader.new) }
     ensures fewer { remaining reader.new ≤ remaining reader.old }
 {
     let start = named(alloc, name)?;
@@ -285,7 +306,8 @@ fn calloc_stmt<'a>(
     alloc: Global,
     name: Token<'a>,
 ) -> Result<Statement<'a>, Stop>
-    ensures gives { Gives (λ y. v.as_stmt_of_name y (spelled name.entry)) (g.n g.calloc_stmt) (ahead reader.old) result (ahead reader.new) }
+    ensures gives { Gives (λ y. v.as_stmt_of_name y (spelled name.entry)) (g.n g.calloc_stmt)
+        (ahead reader.old) result (ahead reader.new) }
     ensures fewer { remaining reader.new ≤ remaining reader.old }
 {
     match reader.kind() {
@@ -300,7 +322,9 @@ fn calloc_type_stmt<'a>(
     alloc: Global,
     name: Token<'a>,
 ) -> Result<Statement<'a>, Stop>
-    ensures reads { Reads (g.right g.CallocTypeStmt) (λ x vs. v.as_stmt_of_name (v.made g.CallocTypeStmt vs) (spelled name.entry) ≡ x) (ahead reader.old) result (ahead reader.new) }
+    ensures reads { Reads (g.right g.CallocTypeStmt)
+        (λ x vs. v.as_stmt_of_name (v.made g.CallocTypeStmt vs) (spelled name.entry) ≡ x)
+        (ahead reader.old) result (ahead reader.new) }
     ensures fewer { remaining reader.new ≤ remaining reader.old }
 {
     let mark = reader.take(Kind::Less)?;
@@ -316,7 +340,9 @@ fn calloc_name_stmt<'a>(
     alloc: Global,
     name: Token<'a>,
 ) -> Result<Statement<'a>, Stop>
-    ensures reads { Reads (g.right g.CallocNameStmt) (λ x vs. v.as_stmt_of_name (v.made g.CallocNameStmt vs) (spelled name.entry) ≡ x) (ahead reader.old) result (ahead reader.new) }
+    ensures reads { Reads (g.right g.CallocNameStmt)
+        (λ x vs. v.as_stmt_of_name (v.made g.CallocNameStmt vs) (spelled name.entry) ≡ x)
+        (ahead reader.old) result (ahead reader.new) }
     ensures fewer { remaining reader.new ≤ remaining reader.old }
 {
     named_stmt(reader, alloc, name)
@@ -324,7 +350,8 @@ fn calloc_name_stmt<'a>(
 
 /// An expression that may be left out, and the `;` behind it.
 fn condition<'a>(reader: &mut Reader<'a>, alloc: Global) -> Result<Option<Expression<'a>>, Stop>
-    ensures gives { Gives (λ y. v.as_value y) (g.n g.condition) (ahead reader.old) result (ahead reader.new) }
+    ensures gives { Gives (λ y. v.as_value y) (g.n g.condition) (ahead reader.old) result
+        (ahead reader.new) }
     ensures fewer { remaining reader.new ≤ remaining reader.old }
 {
     match reader.kind() {
@@ -335,7 +362,8 @@ fn condition<'a>(reader: &mut Reader<'a>, alloc: Global) -> Result<Option<Expres
 
 /// `;`.
 fn no_condition<'a>(reader: &mut Reader<'a>) -> Result<Option<Expression<'a>>, Stop>
-    ensures reads { Reads (g.right g.NoCondition) (λ x vs. v.as_value (v.made g.NoCondition vs) ≡ x) (ahead reader.old) result (ahead reader.new) }
+    ensures reads { Reads (g.right g.NoCondition) (λ x vs. v.as_value (v.made g.NoCondition vs) ≡ x)
+        (ahead reader.old) result (ahead reader.new) }
     ensures fewer { remaining reader.new ≤ remaining reader.old }
 {
     let end = reader.take(Kind::Semicolon)?;
@@ -347,7 +375,8 @@ fn some_condition<'a>(
     reader: &mut Reader<'a>,
     alloc: Global,
 ) -> Result<Option<Expression<'a>>, Stop>
-    ensures reads { Reads (g.right g.Condition) (λ x vs. v.as_value (v.made g.Condition vs) ≡ x) (ahead reader.old) result (ahead reader.new) }
+    ensures reads { Reads (g.right g.Condition) (λ x vs. v.as_value (v.made g.Condition vs) ≡ x)
+        (ahead reader.old) result (ahead reader.new) }
     ensures fewer { remaining reader.new ≤ remaining reader.old }
 {
     let value = expr(reader, alloc)?;
@@ -357,7 +386,8 @@ fn some_condition<'a>(
 
 /// What a `for` begins with, and the `;` behind it.
 fn for_start<'a>(reader: &mut Reader<'a>, alloc: Global) -> Result<Option<Statement<'a>>, Stop>
-    ensures gives { Gives (λ y. v.as_part y) (g.n g.for_start) (ahead reader.old) result (ahead reader.new) }
+    ensures gives { Gives (λ y. v.as_part y) (g.n g.for_start) (ahead reader.old) result
+        (ahead reader.new) }
     ensures fewer { remaining reader.new ≤ remaining reader.old }
 {
     match reader.kind() {
@@ -375,7 +405,8 @@ fn for_start<'a>(reader: &mut Reader<'a>, alloc: Global) -> Result<Option<Statem
 
 /// `;`.
 fn no_start<'a>(reader: &mut Reader<'a>) -> Result<Option<Statement<'a>>, Stop>
-    ensures reads { Reads (g.right g.NoStart) (λ x vs. v.as_part (v.made g.NoStart vs) ≡ x) (ahead reader.old) result (ahead reader.new) }
+    ensures reads { Reads (g.right g.NoStart) (λ x vs. v.as_part (v.made g.NoStart vs) ≡ x)
+        (ahead reader.old) result (ahead reader.new) }
     ensures fewer { remaining reader.new ≤ remaining reader.old }
 {
     let end = reader.take(Kind::Semicolon)?;
@@ -384,7 +415,8 @@ fn no_start<'a>(reader: &mut Reader<'a>) -> Result<Option<Statement<'a>>, Stop>
 
 /// A local.
 fn local_start<'a>(reader: &mut Reader<'a>, alloc: Global) -> Result<Option<Statement<'a>>, Stop>
-    ensures reads { Reads (g.right g.LocalStart) (λ x vs. v.as_part (v.made g.LocalStart vs) ≡ x) (ahead reader.old) result (ahead reader.new) }
+    ensures reads { Reads (g.right g.LocalStart) (λ x vs. v.as_part (v.made g.LocalStart vs) ≡ x)
+        (ahead reader.old) result (ahead reader.new) }
     ensures fewer { remaining reader.new ≤ remaining reader.old }
 {
     let base = base(reader, alloc)?;
@@ -396,7 +428,8 @@ fn local_start<'a>(reader: &mut Reader<'a>, alloc: Global) -> Result<Option<Stat
 
 /// An assignment.
 fn assign_start<'a>(reader: &mut Reader<'a>, alloc: Global) -> Result<Option<Statement<'a>>, Stop>
-    ensures reads { Reads (g.right g.AssignStart) (λ x vs. v.as_part (v.made g.AssignStart vs) ≡ x) (ahead reader.old) result (ahead reader.new) }
+    ensures reads { Reads (g.right g.AssignStart) (λ x vs. v.as_part (v.made g.AssignStart vs) ≡ x)
+        (ahead reader.old) result (ahead reader.new) }
     ensures fewer { remaining reader.new ≤ remaining reader.old }
 {
     let first = assign(reader, alloc)?;
@@ -406,7 +439,8 @@ fn assign_start<'a>(reader: &mut Reader<'a>, alloc: Global) -> Result<Option<Sta
 
 /// The step of a `for`, and the `)` behind it.
 fn for_step<'a>(reader: &mut Reader<'a>, alloc: Global) -> Result<Option<Statement<'a>>, Stop>
-    ensures gives { Gives (λ y. v.as_part y) (g.n g.for_step) (ahead reader.old) result (ahead reader.new) }
+    ensures gives { Gives (λ y. v.as_part y) (g.n g.for_step) (ahead reader.old) result
+        (ahead reader.new) }
     ensures fewer { remaining reader.new ≤ remaining reader.old }
 {
     match reader.kind() {
@@ -417,7 +451,8 @@ fn for_step<'a>(reader: &mut Reader<'a>, alloc: Global) -> Result<Option<Stateme
 
 /// `)`.
 fn no_step<'a>(reader: &mut Reader<'a>) -> Result<Option<Statement<'a>>, Stop>
-    ensures reads { Reads (g.right g.NoStep) (λ x vs. v.as_part (v.made g.NoStep vs) ≡ x) (ahead reader.old) result (ahead reader.new) }
+    ensures reads { Reads (g.right g.NoStep) (λ x vs. v.as_part (v.made g.NoStep vs) ≡ x)
+        (ahead reader.old) result (ahead reader.new) }
     ensures fewer { remaining reader.new ≤ remaining reader.old }
 {
     let end = reader.take(Kind::RoundClose)?;
@@ -426,7 +461,8 @@ fn no_step<'a>(reader: &mut Reader<'a>) -> Result<Option<Statement<'a>>, Stop>
 
 /// An assignment.
 fn assign_step<'a>(reader: &mut Reader<'a>, alloc: Global) -> Result<Option<Statement<'a>>, Stop>
-    ensures reads { Reads (g.right g.AssignStep) (λ x vs. v.as_part (v.made g.AssignStep vs) ≡ x) (ahead reader.old) result (ahead reader.new) }
+    ensures reads { Reads (g.right g.AssignStep) (λ x vs. v.as_part (v.made g.AssignStep vs) ≡ x)
+        (ahead reader.old) result (ahead reader.new) }
     ensures fewer { remaining reader.new ≤ remaining reader.old }
 {
     let step = assign(reader, alloc)?;
@@ -436,7 +472,8 @@ fn assign_step<'a>(reader: &mut Reader<'a>, alloc: Global) -> Result<Option<Stat
 
 /// `_Bundled`.
 fn bundle<'a>(reader: &mut Reader<'a>, alloc: Global) -> Result<Statement<'a>, Stop>
-    ensures reads { Reads (g.right g.Bundle) (λ x vs. v.as_stmt (v.made g.Bundle vs) ≡ x) (ahead reader.old) result (ahead reader.new) }
+    ensures reads { Reads (g.right g.Bundle) (λ x vs. v.as_stmt (v.made g.Bundle vs) ≡ x)
+        (ahead reader.old) result (ahead reader.new) }
     ensures fewer { remaining reader.new ≤ remaining reader.old }
 {
     let mark = reader.take(Kind::Bundled)?;
@@ -452,7 +489,8 @@ fn bundle<'a>(reader: &mut Reader<'a>, alloc: Global) -> Result<Statement<'a>, S
 
 /// A mode with its place.
 pub fn mode<'a>(reader: &mut Reader<'a>) -> Result<(Mode, Pos), Stop>
-    ensures gives { Gives (λ y. (v.as_mode y, v.place y)) (g.n g.mode) (ahead reader.old) result (ahead reader.new) }
+    ensures gives { Gives (λ y. (v.as_mode y, v.place y)) (g.n g.mode) (ahead reader.old) result
+        (ahead reader.new) }
     ensures fewer { remaining reader.new ≤ remaining reader.old }
 {
     match reader.kind() {
@@ -463,7 +501,9 @@ pub fn mode<'a>(reader: &mut Reader<'a>) -> Result<(Mode, Pos), Stop>
 
 /// `_Checked`.
 fn checked_mode<'a>(reader: &mut Reader<'a>) -> Result<(Mode, Pos), Stop>
-    ensures reads { Reads (g.right g.CheckedMode) (λ x vs. (v.as_mode (v.made g.CheckedMode vs), v.place (v.made g.CheckedMode vs)) ≡ x) (ahead reader.old) result (ahead reader.new) }
+    ensures reads { Reads (g.right g.CheckedMode)
+        (λ x vs. (v.as_mode (v.made g.CheckedMode vs), v.place (v.made g.CheckedMode vs)) ≡ x)
+        (ahead reader.old) result (ahead reader.new) }
     ensures fewer { remaining reader.new ≤ remaining reader.old }
 {
     let mark = reader.take(Kind::Checked)?;
@@ -472,7 +512,9 @@ fn checked_mode<'a>(reader: &mut Reader<'a>) -> Result<(Mode, Pos), Stop>
 
 /// `_Unchecked`.
 fn unchecked_mode<'a>(reader: &mut Reader<'a>) -> Result<(Mode, Pos), Stop>
-    ensures reads { Reads (g.right g.UncheckedMode) (λ x vs. (v.as_mode (v.made g.UncheckedMode vs), v.place (v.made g.UncheckedMode vs)) ≡ x) (ahead reader.old) result (ahead reader.new) }
+    ensures reads { Reads (g.right g.UncheckedMode)
+        (λ x vs. (v.as_mode (v.made g.UncheckedMode vs), v.place (v.made g.UncheckedMode vs)) ≡ x)
+        (ahead reader.old) result (ahead reader.new) }
     ensures fewer { remaining reader.new ≤ remaining reader.old }
 {
     let mark = reader.take(Kind::Unchecked)?;
@@ -486,7 +528,8 @@ fn assigns<'a>(
     first: Statement<'a>,
     second: Statement<'a>,
 ) -> Result<Seq<Stmt<Spelling<'a>, ()>>, Stop>
-    ensures gives { Gives (λ y. first.entry ∷ second.entry ∷ v.as_stmts y) (g.n g.assigns) (ahead reader.old) result (ahead reader.new) }
+    ensures gives { Gives (λ y. first.entry ∷ second.entry ∷ v.as_stmts y) (g.n g.assigns)
+        (ahead reader.old) result (ahead reader.new) }
     ensures fewer { remaining reader.new ≤ remaining reader.old }
 {
     let mut all = two(alloc, first, second)?;
@@ -505,7 +548,8 @@ pub fn block_items<'a>(
     reader: &mut Reader<'a>,
     alloc: Global,
 ) -> Result<Seq<Stmt<Spelling<'a>, ()>>, Stop>
-    ensures gives { Gives (λ y. v.as_stmts y) (g.n g.block_items) (ahead reader.old) result (ahead reader.new) }
+    ensures gives { Gives (λ y. v.as_stmts y) (g.n g.block_items) (ahead reader.old) result
+        (ahead reader.new) }
     ensures fewer { remaining reader.new ≤ remaining reader.old }
 {
     let mut all = Seq::new(alloc);

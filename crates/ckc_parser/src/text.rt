@@ -37,7 +37,8 @@ pub fn parse<'a>(
 
 /// A whole text.
 fn text<'a>(reader: &mut Reader<'a>, alloc: Global) -> Result<Tree<Spelling<'a>, ()>, Stop>
-    ensures parses { Parses (λ x. tree x) (g.n g.text) (ahead reader.old) result (ahead reader.new) }
+    ensures parses { Parses (λ x. tree x) (g.n g.text) (ahead reader.old) result
+        (ahead reader.new) }
 {
     let items = items(reader, alloc)?;
     Ok(Tree { items })

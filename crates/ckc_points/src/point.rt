@@ -201,7 +201,8 @@ fn move_facts(facts: &mut Facts, x: u32, f: Form)
 
 /// Forgets what is known of a variable, but for the range of its type.
 fn lose(x: u32, t: &CType, facts: &mut Facts) -> Result<(), AllocError>
-    ensures { OnOk result (known facts.new ≡ with_range x (range_of t.now) (forgotten x (known facts.old))) }
+    ensures { OnOk result
+        (known facts.new ≡ with_range x (range_of t.now) (forgotten x (known facts.old))) }
 {
     forget(facts, x);
     add_range(facts, x, t)
@@ -209,7 +210,8 @@ fn lose(x: u32, t: &CType, facts: &mut Facts) -> Result<(), AllocError>
 
 /// What an assignment to an integer variable makes known and forgets.
 fn assign_facts(x: u32, t: &CType, form: Option<Form>, facts: &mut Facts) -> Result<(), AllocError>
-    ensures { OnOk result (known facts.new ≡ assigned_facts x (range_of t.now) form (known facts.old)) }
+    ensures { OnOk result
+        (known facts.new ≡ assigned_facts x (range_of t.now) form (known facts.old)) }
 {
     match form {
         Some(f) => {

@@ -21,7 +21,8 @@ pub fn local<'a>(
     scopes: &mut Scopes<'a>,
     decl: &Boxed<Decl<Spelling<'a>, ()>>,
 ) -> Result<Act<Name, ()>, Fault>
-    ensures { StepsOutcome result scopes.new (bind (local_named names.now scopes.old decl.now) (λ p. Ok (act.Local p.0, p.1))) }
+    ensures { StepsOutcome result scopes.new
+        (bind (local_named names.now scopes.old decl.now) (λ p. Ok (act.Local p.0, p.1))) }
 {
     let local = named_local(alloc, names, scopes, decl.get())?;
     let boxed = Boxed::new(alloc, local)?;
@@ -35,7 +36,8 @@ pub fn call<'a>(
     scopes: &Scopes<'a>,
     e: &Boxed<Expr<Spelling<'a>, ()>>,
 ) -> Result<Act<Name, ()>, Fault>
-    ensures { StepsOutcome result scopes.now (bind (expr_named names.now scopes.now e.now) (λ a. Ok (act.Call a, scopes.now))) }
+    ensures { StepsOutcome result scopes.now
+        (bind (expr_named names.now scopes.now e.now) (λ a. Ok (act.Call a, scopes.now))) }
 {
     let call = boxed_expr(alloc, names, scopes, e.get())?;
     Ok(Act::Call(call))
@@ -48,7 +50,8 @@ pub fn result<'a>(
     scopes: &Scopes<'a>,
     e: &Option<Boxed<Expr<Spelling<'a>, ()>>>,
 ) -> Result<Act<Name, ()>, Fault>
-    ensures { StepsOutcome result scopes.now (bind (maybe_named names.now scopes.now e.now) (λ a. Ok (act.Return a, scopes.now))) }
+    ensures { StepsOutcome result scopes.now
+        (bind (maybe_named names.now scopes.now e.now) (λ a. Ok (act.Return a, scopes.now))) }
 {
     let value = maybe_expr(alloc, names, scopes, e)?;
     Ok(Act::Return(value))
@@ -61,7 +64,8 @@ pub fn check<'a>(
     scopes: &Scopes<'a>,
     e: &Boxed<Expr<Spelling<'a>, ()>>,
 ) -> Result<Act<Name, ()>, Fault>
-    ensures { StepsOutcome result scopes.now (bind (expr_named names.now scopes.now e.now) (λ a. Ok (act.Check a, scopes.now))) }
+    ensures { StepsOutcome result scopes.now
+        (bind (expr_named names.now scopes.now e.now) (λ a. Ok (act.Check a, scopes.now))) }
 {
     let condition = boxed_expr(alloc, names, scopes, e.get())?;
     Ok(Act::Check(condition))

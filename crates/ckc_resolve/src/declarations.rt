@@ -84,7 +84,8 @@ fn own_bounds<'a>(
     scopes: &mut Scopes<'a>,
     decl: &Decl<Spelling<'a>, ()>,
 ) -> Result<Option<Boxed<Limits<Name, ()>>>, Fault>
-    ensures bounds { AnswersOutcome result (bounds_named names.now (with_local scopes.old decl.now.name) decl.now.bounds) }
+    ensures bounds { AnswersOutcome result
+        (bounds_named names.now (with_local scopes.old decl.now.name) decl.now.bounds) }
     ensures kept { OnOk result (scopes.new ≡ scopes.old) }
 {
     scopes.declare(&decl.name)?;

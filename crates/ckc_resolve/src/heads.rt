@@ -62,7 +62,8 @@ fn members_in_turn<'a>(
     before: &mut Spellings<'a>,
     decls: &[Decl<Spelling<'a>, ()>],
 ) -> Result<Seq<Decl<Name, ()>>, Fault>
-    ensures { StepsOutcome result before.new (members_named names.now all.now decls.now before.old) }
+    ensures { StepsOutcome result before.new
+        (members_named names.now all.now decls.now before.old) }
 {
     let mut out = Seq::new(alloc);
     for decl in decls {

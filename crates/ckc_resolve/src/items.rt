@@ -250,7 +250,8 @@ fn items_in_turn<'a>(
     items: &[Item<Spelling<'a>, ()>],
 ) -> Result<Seq<Item<Name, ()>>, Fault>
     requires { bodies.now ≡ bodies_from 0 items.now }
-    ensures { StepsOutcome result before.new (items_named names.now items.now items.now before.old) }
+    ensures { StepsOutcome result before.new
+        (items_named names.now items.now items.now before.old) }
 {
     let mut out = Seq::new(alloc);
     for item in items {

@@ -20,5 +20,6 @@ pub fn codes()
 
 /// A text whose names are right declares the function `main`, and its number is that of `main`.
 pub fn declares_main()
-    ensures declared { (t : Tree) (n : NamedText) → naming.Makes t n → place_of_main t ≡ Some n.main }
+    ensures declared { (t : Tree) (n : NamedText) → naming.Makes t n → place_of_main t
+        ≡ Some n.main }
 {}

@@ -29,7 +29,8 @@ pub fn name<'a>(
     s: &Spelling<'a>,
     pos: Pos,
 ) -> Result<Node<Name, ()>, Fault>
-    ensures { AnswersOutcome result (bind (meaning_named names.now scopes.now s.now pos) (λ n. Ok (node.Name n))) }
+    ensures { AnswersOutcome result
+        (bind (meaning_named names.now scopes.now s.now pos) (λ n. Ok (node.Name n))) }
 {
     let n = named_meaning(names, scopes, s, pos)?;
     Ok(Node::Name(n))
@@ -42,7 +43,8 @@ pub fn dot<'a>(
     s: &Spelling<'a>,
     at: Pos,
 ) -> Result<Node<Name, ()>, Fault>
-    ensures { AnswersOutcome result (bind (member_named names.now s.now at) (λ m. Ok (node.Dot e m at))) }
+    ensures { AnswersOutcome result
+        (bind (member_named names.now s.now at) (λ m. Ok (node.Dot e m at))) }
 {
     let member = named_member(names, s, at)?;
     Ok(Node::Dot(e, member, at))
@@ -55,7 +57,8 @@ pub fn arrow<'a>(
     s: &Spelling<'a>,
     at: Pos,
 ) -> Result<Node<Name, ()>, Fault>
-    ensures { AnswersOutcome result (bind (member_named names.now s.now at) (λ m. Ok (node.Arrow e m at))) }
+    ensures { AnswersOutcome result
+        (bind (member_named names.now s.now at) (λ m. Ok (node.Arrow e m at))) }
 {
     let member = named_member(names, s, at)?;
     Ok(Node::Arrow(e, member, at))
@@ -81,7 +84,8 @@ pub fn call<'a>(
     pos: Pos,
     args: Seq<Expr<Name, ()>>,
 ) -> Result<Node<Name, ()>, Fault>
-    ensures { AnswersOutcome result (bind (meaning_named names.now scopes.now s.now pos) (λ n. Ok (node.Call n args))) }
+    ensures { AnswersOutcome result
+        (bind (meaning_named names.now scopes.now s.now pos) (λ n. Ok (node.Call n args))) }
 {
     let called = named_meaning(names, scopes, s, pos)?;
     Ok(Node::Call(called, args))
@@ -95,7 +99,8 @@ pub fn allocation<'a>(
     e: Boxed<Expr<Name, ()>>,
     t: &TypeTree<Spelling<'a>>,
 ) -> Result<Node<Name, ()>, Fault>
-    ensures { AnswersOutcome result (bind (type_named names.now t.now) (λ u. Ok (node.Calloc of e u))) }
+    ensures { AnswersOutcome result
+        (bind (type_named names.now t.now) (λ u. Ok (node.Calloc of e u))) }
 {
     let size = named_type(alloc, names, t)?;
     Ok(Node::Calloc(of, e, size))

@@ -77,7 +77,8 @@ impl<'a> Scopes<'a> {
 
     /// Takes the last declaration back.
     pub fn withdraw(&mut self)
-        ensures { (before : Scopes) (s : List ℕ) → self.old ≡ with_local before s → self.new ≡ before }
+        ensures { (before : Scopes) (s : List ℕ) → self.old ≡ with_local before s → self.new
+            ≡ before }
     {
         let len = self.visible.len();
         self.visible.truncate(len.saturating_sub(1));
@@ -100,7 +101,8 @@ impl<'a> Scopes<'a> {
 
     /// Ends a scope, so that what was visible at its mark is visible again.
     pub fn close(&mut self, mark: Mark)
-        ensures { (outer : Scopes) → mark.len ≡ length outer.visible → mark.base ≡ outer.base → self.new ≡ closed outer self.old }
+        ensures { (outer : Scopes) → mark.len ≡ length outer.visible → mark.base ≡ outer.base
+            → self.new ≡ closed outer self.old }
     {
         self.visible.truncate(mark.len);
         self.base = mark.base;

@@ -14,5 +14,6 @@ pub fn decoded_by_rows()
 
 /// The machine with its stores shown is the machine: without the stores both show the same.
 pub fn details_leave_the_machine()
-    ensures { (parts : Parts) (input : List ℕ) (k : ℕ) → narrowed outside_events (detailed_machine parts input k) ≡ machine parts input k }
+    ensures { (parts : Parts) (input : List ℕ) (k : ℕ)
+        → narrowed outside_events (detailed_machine parts input k) ≡ machine parts input k }
 {}

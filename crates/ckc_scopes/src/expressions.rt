@@ -64,7 +64,8 @@ fn own_fits(
     pos: Pos,
     items: &[Item<Name, Note>],
 ) -> Result<(), Refusal>
-    ensures { result ≡ verdict items.now (map (spot note.now.mode pos) (value note.now.ctype ∷ (within node.now).own)) }
+    ensures { result ≡ verdict items.now
+        (map (spot note.now.mode pos) (value note.now.ctype ∷ (within node.now).own)) }
 {
     if note.mode == Mode::Unchecked {
         return Ok(());

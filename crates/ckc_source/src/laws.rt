@@ -12,18 +12,22 @@ ghost use Rattle.ckc_source.specs.Example.{line_one, null_example, null_shows, n
 
 /// What a program shows begins with what it showed before, and once it has ended, stopped or is stuck it stays as it is.
 pub fn source_goes_on()
-    ensures begins { (p : Program) (input : List ℕ) (n k : ℕ) → n ≤ k → IsPrefix (source p input n).trace (source p input k).trace }
-    ensures stays { (p : Program) (input : List ℕ) (n k : ℕ) → n ≤ k → (source p input n).standing ≢ Going → source p input k ≡ source p input n }
+    ensures begins { (p : Program) (input : List ℕ) (n k : ℕ) → n ≤ k
+        → IsPrefix (source p input n).trace (source p input k).trace }
+    ensures stays { (p : Program) (input : List ℕ) (n k : ℕ) → n ≤ k
+        → (source p input n).standing ≢ Going → source p input k ≡ source p input n }
 {}
 
 /// Each state of a run is orderly, where the static objects and the string literals lie apart and begin as bytes.
 pub fn states_are_orderly()
-    ensures { (p : Program) (input : List ℕ) (n : ℕ) → IsLaidOut p → IsOrderly (state_at (source_system p) (first_state p input) n) }
+    ensures { (p : Program) (input : List ℕ) (n : ℕ) → IsLaidOut p
+        → IsOrderly (state_at (source_system p) (first_state p input) n) }
 {}
 
 /// Where unchecked code ran first is known from the step on at which it did, and does not change.
 pub fn blame_stays()
-    ensures { (p : Program) (input : List ℕ) (n k : ℕ) (at : Pos) → n ≤ k → unchecked_since p input n ≡ Some at → unchecked_since p input k ≡ Some at }
+    ensures { (p : Program) (input : List ℕ) (n k : ℕ) (at : Pos) → n ≤ k
+        → unchecked_since p input n ≡ Some at → unchecked_since p input k ≡ Some at }
 {}
 
 /// What the first program of specs/Example.antt shows: it puts a byte, and stops where it reads through null, in

@@ -159,7 +159,10 @@ fn many_fit(
     room: usize,
     es: &[Expr<Name, Note>],
 ) -> Result<bool, AllocError>
-    ensures { IfOk result (λ b. b ≡ (not plain && (is_scalar t.now && (nat_le (length es.now) room && list_all (is_start structs.now t.now) es.now)))) }
+    ensures { IfOk result
+        (λ b. b ≡ (not plain &&
+        (is_scalar t.now && (nat_le (length es.now) room && list_all (is_start structs.now t.now)
+        es.now)))) }
 {
     if plain || !is_scalar(t) || es.len() > room {
         return Ok(false);
@@ -191,7 +194,8 @@ pub fn count_fits(
     t: &CType,
     d: &Decl<Name, Note>,
 ) -> Result<bool, AllocError>
-    ensures { t.now ≡ type_written d.now.ctype → IfOk result (λ b. b ≡ count_fits structs.now d.now (count_of d.now)) }
+    ensures { t.now ≡ type_written d.now.ctype
+        → IfOk result (λ b. b ≡ count_fits structs.now d.now (count_of d.now)) }
 {
     match count_of(d) {
         None => Ok(false),

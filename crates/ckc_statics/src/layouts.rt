@@ -43,7 +43,8 @@ fn bounds_by(
     size: u32,
     limits: &Limits<Name, ()>,
 ) -> Result<MemberBounds, AllocError>
-    ensures { IfOk result (λ b. b ≡ bounds_by structs.now size (out-Limits Name (Unit {0}) limits.now)) }
+    ensures { IfOk result
+        (λ b. b ≡ bounds_by structs.now size (out-Limits Name (Unit {0}) limits.now)) }
 {
     if let Limits::Unknown(_) = limits {
         return Ok(MemberBounds::Unknown);
@@ -173,7 +174,9 @@ fn put_item(
     shapes: &mut Vec<StructShape>,
     item: &Item<Name, ()>,
 ) -> Result<(), AllocError>
-    ensures { OnOk result (shapes.new.items ≡ with_struct (member_by (option_copied known.entry)) shapes.old.items item.now) }
+    ensures { OnOk result
+        (shapes.new.items ≡ with_struct (member_by (option_copied known.entry)) shapes.old.items
+        item.now) }
 {
     match item {
         Item::Struct(n, members, _) => {
@@ -205,7 +208,8 @@ fn structs_with(
     known: Option<&Structs>,
     items: &[Item<Name, ()>],
 ) -> Result<Structs, AllocError>
-    ensures { IfOk result (λ s. s ≡ structs_with (member_by (option_copied known.entry)) items.now) }
+    ensures { IfOk result
+        (λ s. s ≡ structs_with (member_by (option_copied known.entry)) items.now) }
 {
     let mut shapes = empty_shapes(alloc, tag_count(items))?;
     let count = items.len();

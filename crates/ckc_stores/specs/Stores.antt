@@ -30,15 +30,12 @@ use Rattle.ckc_ranges.specs.declared.replacements.VariableBy.{VariableBy}
 use Rattle.ckc_ranges.specs.Members.{may_be_assigned_alone, may_be_assigned_with}
 use Rattle.ckc_views.specs.declared.variables.Member.{Member}
 use Rattle.ckc_views.specs.Parts.{capped}
+use Rattle.ckc_views.specs.Judged.{not_contained}
 use Rattle.ckc_views.specs.Views.{view}
 use Rattle.ckc_stores.specs.declared.values.Numbered.{Numbered}
 use Rattle.ckc_stores.specs.declared.placed.Placed as places
 use Rattle.ckc_stores.specs.Targets.{local_of, member_variable, memory_bounds}
 use Rattle.ckc_stores.specs.Values.{Value, new_value, same_value, holds}
-
--- E602: a target is not contained in its bounds
-abbrev pub not_contained : ℕ
-not_contained = 602
 
 -- E604: another pointer is not contained in its bounds, or what the bounds of the result name is assigned
 abbrev pub lost_bounds : ℕ

@@ -13,9 +13,10 @@ use Rattle.ckc_points.specs.Forms.{moved_form}
 use Rattle.ckc_ranges.specs.declared.replacements.BaseBy.{BaseBy}
 use Rattle.ckc_ranges.specs.declared.replacements.VariableBy.{VariableBy}
 use Rattle.ckc_ranges.specs.Replaced.{replaced_bounds}
-use Rattle.ckc_ranges.specs.Contained.{extended, is_contained}
+use Rattle.ckc_ranges.specs.Contained.{is_contained}
 use Rattle.ckc_ranges.specs.Rows.{range_moved, range_of_local}
 use Rattle.ckc_views.specs.Parts.{is_nt}
+use Rattle.ckc_views.specs.Judged.{extended_by}
 use Rattle.ckc_views.specs.Views.{view}
 use Rattle.ckc_stores.specs.declared.values.Numbered.{Numbered}
 use Rattle.ckc_stores.specs.declared.values.Value as values
@@ -37,30 +38,25 @@ abbrev pub one_less : Range → Range
 one_less (range.Known low high) = range_moved low (moved_form (Some high) (negsuc 0))
 one_less r = r
 
--- `calloc` to an `_Nt_array_ptr` gives one element less, since the last one ends the text.
+-- `calloc` to an `_Nt_array_ptr` gives one element less, since the last one stays zero.
 abbrev pub received_range : CType → Bool → Range → Range
 received_range t allocates r = if allocates && is_nt (kind_of t) then one_less r else r
 
--- whether there is an element for certain, since a `calloc` of none stops
+-- whether there is an element for certain: a `calloc` of none gives null, which needs none
 abbrev pub has_element : CType → Bool → Bool
 has_element t allocates = allocates && not (is_nt (kind_of t))
-
--- What a range makes known beside the facts of the point, for its own containment alone. Its upper end counts as it is
--- without widening where it is to be no less than the lower one.
-abbrev pub with_range_facts : Range → Range → Bool → Known → Known
-with_range_facts (range.Known low high) (range.Known first last) allocated facts =
-    extended (record { low = low; high = high }) last allocated facts
-with_range_facts _ _ allocated facts = facts
 
 abbrev pub range_received : Frame → CType → NotedExpr → Numbered → State → Range
 range_received frame t e n at = received_range t (view frame e).allocates ((view frame e).range n.value n.fresh at)
 
--- An expression whose value goes to a place of type t: its own values and fresh variables are numbered from n on.
+-- An expression whose value goes to a place of type t: its own values and fresh variables are numbered from n on. Its
+-- range makes more known beside the facts of the point, for its own containment alone; there its upper end counts as it is
+-- without widening where it is to be no less than the lower one.
 unfoldable pub new_value : Frame → CType → NotedExpr → Numbered → State → Value
 new_value frame t e n at = record {
   null = (view frame e).null;
   range = range_received frame t e n at;
-  facts = with_range_facts (range_received frame t e n at) (range_received frame t e n (narrow at)) (has_element t (view frame e).allocates) at.facts;
+  facts = extended_by (range_received frame t e n at) (range_received frame t e n (narrow at)) (has_element t (view frame e).allocates) at.facts;
 }
 
 -- a local pointer that keeps its value
@@ -68,7 +64,7 @@ unfoldable pub same_value : Frame → ℕ → State → Value
 same_value frame k at = record {
   null = false;
   range = range_of_local frame k at.widened;
-  facts = with_range_facts (range_of_local frame k at.widened) (range_of_local frame k []) false at.facts;
+  facts = extended_by (range_of_local frame k at.widened) (range_of_local frame k []) false at.facts;
 }
 
 -- Whether bounds contain a value once what they name is replaced.

@@ -125,7 +125,8 @@ pub fn holds_by(
     v: &Value,
     bounds: &Bounds,
 ) -> Result<bool, AllocError>
-    ensures { IfOk result (λ b. b ≡ holds_by frame.now (map placed ps.now) (value v.now) bounds.now) }
+    ensures { IfOk result
+        (λ b. b ≡ holds_by frame.now (map placed ps.now) (value v.now) bounds.now) }
 {
     let bs = bases(alloc, frame, &v.facts, ps)?;
     let vs = variables(alloc, frame, &v.facts, ps)?;

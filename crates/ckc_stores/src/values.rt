@@ -5,7 +5,8 @@ ghost use Rattle.ckc_typed.specs.Types.{kind_of};
 ghost use Rattle.ckc_points.specs.Shown.{known};
 ghost use Rattle.ckc_points.specs.Flow.{state};
 ghost use Rattle.ckc_views.specs.Parts.{is_nt};
-ghost use Rattle.ckc_stores.specs.Values.{value, narrow, one_less, received_range, has_element, with_range_facts, range_received, new_value, same_value, holds};
+ghost use Rattle.ckc_views.specs.Judged.{extended_by};
+ghost use Rattle.ckc_stores.specs.Values.{value, narrow, one_less, received_range, has_element, range_received, new_value, same_value, holds};
 
 use ckc_base::Seq;
 use ckc_linear::Facts;
@@ -92,7 +93,7 @@ fn has_element(t: &CType, allocates: bool) -> bool
 }
 
 /// The facts, and what a range makes known beside them; `narrow` is the range as it is without widening.
-fn with_range_facts(
+fn extended_by(
     alloc: Global,
     found: Range,
     narrow: Range,
@@ -100,7 +101,7 @@ fn with_range_facts(
     facts: &Facts,
 ) -> Result<Facts, AllocError>
     ensures { IfOk result (λ all. known all
-        ≡ with_range_facts found narrow allocated (known facts.now)) }
+        ≡ extended_by found narrow allocated (known facts.now)) }
 {
     let mut all = copied_facts(alloc, facts)?;
     match (found, narrow) {
@@ -155,7 +156,7 @@ pub fn new_value(
 {
     let range = range_received(alloc, frame, t, e, from, at)?;
     let narrow = range_without_widening(alloc, frame, t, e, from, at)?;
-    let facts = with_range_facts(
+    let facts = extended_by(
         alloc,
         range,
         narrow,
@@ -176,7 +177,7 @@ pub fn same_value(alloc: Global, frame: &Frame, k: u32, at: &Point) -> Result<Va
 {
     let range = range_of_local(frame, k, at.widened.as_slice());
     let narrow = range_of_local(frame, k, &[]);
-    let facts = with_range_facts(alloc, range, narrow, false, &at.facts)?;
+    let facts = extended_by(alloc, range, narrow, false, &at.facts)?;
     Ok(Value {
         null: false,
         range,

@@ -94,7 +94,8 @@ fn depth_fits<N, A>(item: &Item<N, A>, pos: Pos) -> Result<(), Refusal>
 
 /// Judges the counts of a function, of which `ms` are the marks.
 fn function_fits(tally: Tally, pos: Pos) -> Result<(), Refusal>
-    ensures { (ms : List Mark) → tally ≡ tallied nothing ms → Judges result (faults_of_function ms pos) }
+    ensures { (ms : List Mark) → tally ≡ tallied nothing ms
+        → Judges result (faults_of_function ms pos) }
 {
     at_most(NODES, tally.nodes, TOO_MANY_NODES, pos)?;
     at_most(LOCALS, tally.locals, TOO_MANY_LOCALS, pos)

@@ -19,7 +19,8 @@ pub struct Piece {
 /// those of the characters that it has in front.
 pub fn string_bytes(alloc: Global, spelling: &str) -> Result<Bytes, AllocError>
     ensures value { IfOk result (λ bytes. bytes ≡ decoded spelling.now) }
-    ensures literal { (values : List ℕ) → IsLiteral 34 spelling.now values → IfOk result (λ bytes. bytes ≡ values) }
+    ensures literal { (values : List ℕ) → IsLiteral 34 spelling.now values
+        → IfOk result (λ bytes. bytes ≡ values) }
 {
     let text = spelling.as_bytes();
     let mut bytes = Bytes::new(alloc);
@@ -65,7 +66,8 @@ fn is_plain(quote: u8, b: u8) -> bool
 fn escape_at(text: &[u8]) -> Option<Piece>
     requires some { 0 < length text.now }
     requires backslash { slice_index text.now 0 ≡ 92 }
-    ensures { MatchOption result (NoFront IsEscape text.now) (λ p. Longest IsEscape text.now p.len p.value) }
+    ensures { MatchOption result (NoFront IsEscape text.now)
+        (λ p. Longest IsEscape text.now p.len p.value) }
 {
     if text.len() < 2 {
         return None;

@@ -10,5 +10,6 @@ ghost use Rattle.ckc_tac.specs.Example.{example, example_shows};
 pub fn example_runs()
     ensures goes_on { tac_detail example (65 ∷ []) 8 ≡ example_shows Going }
     ensures ends { tac_detail example (65 ∷ []) 9 ≡ example_shows (Ended 65) }
-    ensures stuck { tac_detail example [] 3 ≡ record { trace = Plain (Got None) ∷ []; standing = Stuck } }
+    ensures stuck { tac_detail example [] 3
+        ≡ record { trace = Plain (Got None) ∷ []; standing = Stuck } }
 {}

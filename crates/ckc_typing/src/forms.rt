@@ -43,7 +43,9 @@ pub fn assignment(
     e: Boxed<Expr<Name, Note>>,
     f: Boxed<Expr<Name, Note>>,
 ) -> Result<Stmt<Name, Note>, Fault>
-    ensures { AnswersOutcome result (bind (target_fits globals.now variables.now pos e f) (λ u. Ok (stated mode pos (act.Assign e f)))) }
+    ensures { AnswersOutcome result
+        (bind (target_fits globals.now variables.now pos e f)
+        (λ u. Ok (stated mode pos (act.Assign e f)))) }
 {
     target_fits(globals, variables, pos, e.get(), f.get())?;
     Ok(stated(mode, pos, Act::Assign(e, f)))
@@ -70,7 +72,8 @@ pub fn branches(
     s: Boxed<Stmt<Name, Note>>,
     other: Option<Boxed<Stmt<Name, Note>>>,
 ) -> Result<Stmt<Name, Note>, Fault>
-    ensures { AnswersOutcome result (bind (scalar_fits pos e) (λ u. Ok (stated mode pos (act.If e s other)))) }
+    ensures { AnswersOutcome result
+        (bind (scalar_fits pos e) (λ u. Ok (stated mode pos (act.If e s other)))) }
 {
     scalar_fits(pos, e.get())?;
     Ok(stated(mode, pos, Act::If(e, s, other)))
@@ -83,7 +86,8 @@ pub fn repetition(
     e: Boxed<Expr<Name, Note>>,
     body: Boxed<Stmt<Name, Note>>,
 ) -> Result<Stmt<Name, Note>, Fault>
-    ensures { AnswersOutcome result (bind (scalar_fits pos e) (λ u. Ok (stated mode pos (act.While e body)))) }
+    ensures { AnswersOutcome result
+        (bind (scalar_fits pos e) (λ u. Ok (stated mode pos (act.While e body)))) }
 {
     scalar_fits(pos, e.get())?;
     Ok(stated(mode, pos, Act::While(e, body)))
@@ -91,7 +95,8 @@ pub fn repetition(
 
 /// A `_Dynamic_check`.
 pub fn check(mode: Mode, pos: Pos, e: Boxed<Expr<Name, Note>>) -> Result<Stmt<Name, Note>, Fault>
-    ensures { AnswersOutcome result (bind (scalar_fits pos e) (λ u. Ok (stated mode pos (act.Check e)))) }
+    ensures { AnswersOutcome result
+        (bind (scalar_fits pos e) (λ u. Ok (stated mode pos (act.Check e)))) }
 {
     scalar_fits(pos, e.get())?;
     Ok(stated(mode, pos, Act::Check(e)))
@@ -116,7 +121,8 @@ pub fn counting(
     step: Option<Boxed<Stmt<Name, Note>>>,
     body: Boxed<Stmt<Name, Note>>,
 ) -> Result<Stmt<Name, Note>, Fault>
-    ensures { AnswersOutcome result (bind (scalar_there_fits pos e) (λ u. Ok (stated mode pos (act.For start e step body)))) }
+    ensures { AnswersOutcome result
+        (bind (scalar_there_fits pos e) (λ u. Ok (stated mode pos (act.For start e step body)))) }
 {
     scalar_there_fits(pos, &e)?;
     Ok(stated(mode, pos, Act::For(start, e, step, body)))
@@ -143,7 +149,8 @@ pub fn returned(
     pos: Pos,
     e: Option<Boxed<Expr<Name, Note>>>,
 ) -> Result<Stmt<Name, Note>, Fault>
-    ensures { AnswersOutcome result (bind (result_fits result_type.now pos e) (λ u. Ok (stated mode pos (act.Return e)))) }
+    ensures { AnswersOutcome result
+        (bind (result_fits result_type.now pos e) (λ u. Ok (stated mode pos (act.Return e)))) }
 {
     result_fits(result_type, pos, &e)?;
     Ok(stated(mode, pos, Act::Return(e)))

@@ -62,7 +62,8 @@ fn made_head(
     params: Seq<Decl<Name, Note>>,
     bounds: Option<Boxed<Limits<Name, Note>>>,
 ) -> Result<Head<Name, Note>, Fault>
-    ensures { AnswersOutcome result (bind (result_allowed h.now) (λ u. Ok (head_with h.now params bounds))) }
+    ensures { AnswersOutcome result
+        (bind (result_allowed h.now) (λ u. Ok (head_with h.now params bounds))) }
 {
     result_allowed(alloc, h)?;
     let made = head_with(alloc, h, params, bounds)?;
@@ -127,7 +128,8 @@ fn typed_struct(
     pragma: Mode,
     members: &[Decl<Name, ()>],
 ) -> Result<Seq<Decl<Name, Note>>, Fault>
-    ensures { AnswersOutcome result (bares_typed globals.now (map variable_declared members.now) pragma members.now) }
+    ensures { AnswersOutcome result
+        (bares_typed globals.now (map variable_declared members.now) pragma members.now) }
 {
     let seen = variables_declared(alloc, members)?;
     typed_bares(alloc, globals, seen.as_slice(), pragma, members)
@@ -139,7 +141,8 @@ fn typed_object(
     pragma: Mode,
     d: &Decl<Name, ()>,
 ) -> Result<Item<Name, Note>, Fault>
-    ensures { AnswersOutcome result (bind (static_typed globals.now pragma d.now) (λ n. Ok (item.Static n))) }
+    ensures { AnswersOutcome result
+        (bind (static_typed globals.now pragma d.now) (λ n. Ok (item.Static n))) }
 {
     let typed = typed_static(alloc, globals, pragma, d)?;
     let boxed = Boxed::new(alloc, typed)?;

@@ -30,5 +30,8 @@ pub fn statics_lie_apart()
 /// Static object k is the one that is declared as k-th, and is named k, where the objects are numbered in the order of
 /// the text.
 pub fn statics_are_named()
-    ensures named { (t : NamedText) (p : Typed) → typing.Makes t p → AreNumbered 0 (objects_declared p.tree.items) → (k : ℕ) (d : NotedDecl) → slice_get (objects_declared p.tree.items) k ≡ Some d → (d.name ≡ name.Static k) × ((at : ℕ) × (slice_get p.statics k ≡ Some (record (object_of p.layout d) { at = at }))) }
+    ensures named { (t : NamedText) (p : Typed) → typing.Makes t p
+        → AreNumbered 0 (objects_declared p.tree.items) → (k : ℕ) (d : NotedDecl)
+        → slice_get (objects_declared p.tree.items) k ≡ Some d → (d.name ≡ name.Static k)
+        × ((at : ℕ) × (slice_get p.statics k ≡ Some (record (object_of p.layout d) { at = at }))) }
 {}

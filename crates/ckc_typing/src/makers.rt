@@ -36,7 +36,8 @@ fn typed_name(
     n: Name,
     pos: Pos,
 ) -> Result<CType, Fault>
-    ensures { AnswersOutcome result (there_or bad_operands pos (type_of_name globals.now variables.now n)) }
+    ensures { AnswersOutcome result
+        (there_or bad_operands pos (type_of_name globals.now variables.now n)) }
 {
     let found = type_of_name(alloc, globals, variables, n)?;
     match found {
@@ -63,7 +64,8 @@ pub fn text(alloc: Global, mode: Mode, pos: Pos, bytes: &Bytes) -> Result<Expr<N
 
 /// `NULL`.
 pub fn null(alloc: Global, mode: Mode, pos: Pos) -> Result<Expr<Name, Note>, Fault>
-    ensures { AnswersOutcome result (Ok (noted mode pos node.Null (ctype.Pointer kind.One ctype.Void))) }
+    ensures { AnswersOutcome result
+        (Ok (noted mode pos node.Null (ctype.Pointer kind.One ctype.Void))) }
 {
     let t = null_type(alloc)?;
     Ok(noted(mode, pos, Node::Null, t))
@@ -78,7 +80,9 @@ pub fn name(
     pos: Pos,
     n: Name,
 ) -> Result<Expr<Name, Note>, Fault>
-    ensures { AnswersOutcome result (bind (there_or bad_operands pos (type_of_name globals.now variables.now n)) (λ t. Ok (noted mode pos (node.Name n) t))) }
+    ensures { AnswersOutcome result
+        (bind (there_or bad_operands pos (type_of_name globals.now variables.now n))
+        (λ t. Ok (noted mode pos (node.Name n) t))) }
 {
     let t = typed_name(alloc, globals, variables, n, pos)?;
     Ok(noted(mode, pos, Node::Name(n), t))
@@ -93,7 +97,8 @@ pub fn unary(
     op: TreeOp,
     e: Boxed<Expr<Name, Note>>,
 ) -> Result<Expr<Name, Note>, Fault>
-    ensures { AnswersOutcome result (bind (unary_typed globals.now mode op e pos) (λ t. Ok (noted mode pos (node.Un op e) t))) }
+    ensures { AnswersOutcome result
+        (bind (unary_typed globals.now mode op e pos) (λ t. Ok (noted mode pos (node.Un op e) t))) }
 {
     let t = unary_typed(alloc, globals, mode, op, e.get(), pos)?;
     Ok(noted(mode, pos, Node::Un(op, e), t))
@@ -108,7 +113,8 @@ pub fn binary(
     e: Boxed<Expr<Name, Note>>,
     f: Boxed<Expr<Name, Note>>,
 ) -> Result<Expr<Name, Note>, Fault>
-    ensures { AnswersOutcome result (bind (binary_typed op e f pos) (λ t. Ok (noted mode pos (node.Bin op e f) t))) }
+    ensures { AnswersOutcome result
+        (bind (binary_typed op e f pos) (λ t. Ok (noted mode pos (node.Bin op e f) t))) }
 {
     let t = binary_typed(alloc, op, e.get(), f.get(), pos)?;
     Ok(noted(mode, pos, Node::Bin(op, e, f), t))
@@ -122,7 +128,8 @@ pub fn choice(
     f: Boxed<Expr<Name, Note>>,
     g: Boxed<Expr<Name, Note>>,
 ) -> Result<Expr<Name, Note>, Fault>
-    ensures { AnswersOutcome result (bind (choice_typed e f g pos) (λ t. Ok (noted mode pos (node.Pick e f g) t))) }
+    ensures { AnswersOutcome result
+        (bind (choice_typed e f g pos) (λ t. Ok (noted mode pos (node.Pick e f g) t))) }
 {
     let t = choice_typed(e.get(), f.get(), g.get(), pos)?;
     Ok(noted(mode, pos, Node::Pick(e, f, g), t))
@@ -136,7 +143,8 @@ pub fn index(
     e: Boxed<Expr<Name, Note>>,
     f: Boxed<Expr<Name, Note>>,
 ) -> Result<Expr<Name, Note>, Fault>
-    ensures { AnswersOutcome result (bind (index_typed e f pos) (λ t. Ok (noted mode pos (node.Index e f) t))) }
+    ensures { AnswersOutcome result
+        (bind (index_typed e f pos) (λ t. Ok (noted mode pos (node.Index e f) t))) }
 {
     let t = index_typed(alloc, e.get(), f.get(), pos)?;
     Ok(noted(mode, pos, Node::Index(e, f), t))
@@ -152,7 +160,8 @@ pub fn dot(
     n: Name,
     at: Pos,
 ) -> Result<Expr<Name, Note>, Fault>
-    ensures { AnswersOutcome result (bind (dot_typed globals.now e n pos) (λ t. Ok (noted mode pos (node.Dot e n at) t))) }
+    ensures { AnswersOutcome result
+        (bind (dot_typed globals.now e n pos) (λ t. Ok (noted mode pos (node.Dot e n at) t))) }
 {
     let t = dot_typed(alloc, globals, e.get(), n, pos)?;
     Ok(noted(mode, pos, Node::Dot(e, n, at), t))
@@ -168,7 +177,8 @@ pub fn arrow(
     n: Name,
     at: Pos,
 ) -> Result<Expr<Name, Note>, Fault>
-    ensures { AnswersOutcome result (bind (arrow_typed globals.now e n pos) (λ t. Ok (noted mode pos (node.Arrow e n at) t))) }
+    ensures { AnswersOutcome result
+        (bind (arrow_typed globals.now e n pos) (λ t. Ok (noted mode pos (node.Arrow e n at) t))) }
 {
     let t = arrow_typed(alloc, globals, e.get(), n, pos)?;
     Ok(noted(mode, pos, Node::Arrow(e, n, at), t))
@@ -182,7 +192,9 @@ pub fn cast(
     w: &TypeTree<Name>,
     e: Boxed<Expr<Name, Note>>,
 ) -> Result<Expr<Name, Note>, Fault>
-    ensures { AnswersOutcome result (bind (cast_typed (type_written w.now) e pos) (λ t. Ok (noted mode pos (node.Cast w.now e) t))) }
+    ensures { AnswersOutcome result
+        (bind (cast_typed (type_written w.now) e pos)
+        (λ t. Ok (noted mode pos (node.Cast w.now e) t))) }
 {
     let to = type_written(alloc, w)?;
     let t = cast_typed(to, e.get(), pos)?;
@@ -197,7 +209,9 @@ pub fn sizeof(
     pos: Pos,
     w: &TypeTree<Name>,
 ) -> Result<Expr<Name, Note>, Fault>
-    ensures { AnswersOutcome result (bind (there_or bad_operands pos (size_type (type_written w.now))) (λ t. Ok (noted mode pos (node.Size w.now) t))) }
+    ensures { AnswersOutcome result
+        (bind (there_or bad_operands pos (size_type (type_written w.now)))
+        (λ t. Ok (noted mode pos (node.Size w.now) t))) }
 {
     let of = type_written(alloc, w)?;
     let t = size_typed(&of, pos)?;
@@ -214,7 +228,9 @@ pub fn trusted(
     e: Boxed<Expr<Name, Note>>,
     limits: Option<Boxed<Limits<Name, Note>>>,
 ) -> Result<Expr<Name, Note>, Fault>
-    ensures { AnswersOutcome result (bind (trusted_typed (type_written w.now) e limits pos) (λ t. Ok (noted mode pos (node.Trusted w.now e limits) t))) }
+    ensures { AnswersOutcome result
+        (bind (trusted_typed (type_written w.now) e limits pos)
+        (λ t. Ok (noted mode pos (node.Trusted w.now e limits) t))) }
 {
     let to = type_written(alloc, w)?;
     let t = trusted_typed(to, e.get(), &limits, pos)?;
@@ -231,7 +247,9 @@ pub fn tested(
     e: Boxed<Expr<Name, Note>>,
     limits: Option<Boxed<Limits<Name, Note>>>,
 ) -> Result<Expr<Name, Note>, Fault>
-    ensures { AnswersOutcome result (bind (tested_typed (type_written w.now) e limits pos) (λ t. Ok (noted mode pos (node.Tested w.now e limits) t))) }
+    ensures { AnswersOutcome result
+        (bind (tested_typed (type_written w.now) e limits pos)
+        (λ t. Ok (noted mode pos (node.Tested w.now e limits) t))) }
 {
     let to = type_written(alloc, w)?;
     let t = tested_typed(to, e.get(), &limits, pos)?;
@@ -248,7 +266,8 @@ pub fn call(
     n: Name,
     args: Seq<Expr<Name, Note>>,
 ) -> Result<Expr<Name, Note>, Fault>
-    ensures { AnswersOutcome result (bind (call_typed globals.now n args pos) (λ t. Ok (noted mode pos (node.Call n args) t))) }
+    ensures { AnswersOutcome result
+        (bind (call_typed globals.now n args pos) (λ t. Ok (noted mode pos (node.Call n args) t))) }
 {
     let t = call_typed(alloc, globals, n, args.as_slice(), pos)?;
     Ok(noted(mode, pos, Node::Call(n, args), t))
@@ -261,7 +280,8 @@ fn allocated(
     e: &Expr<Name, Note>,
     x: &TypeTree<Name>,
 ) -> Result<CType, Fault>
-    ensures { AnswersOutcome result (allocation_typed (type_written w.now) e.now (type_written x.now) pos) }
+    ensures { AnswersOutcome result
+        (allocation_typed (type_written w.now) e.now (type_written x.now) pos) }
 {
     let to = type_written(alloc, w)?;
     let size = type_written(alloc, x)?;
@@ -277,7 +297,9 @@ pub fn allocation(
     e: Boxed<Expr<Name, Note>>,
     x: &TypeTree<Name>,
 ) -> Result<Expr<Name, Note>, Fault>
-    ensures { AnswersOutcome result (bind (allocation_typed (type_written w.now) e (type_written x.now) pos) (λ t. Ok (noted mode pos (node.Calloc w.now e x.now) t))) }
+    ensures { AnswersOutcome result
+        (bind (allocation_typed (type_written w.now) e (type_written x.now) pos)
+        (λ t. Ok (noted mode pos (node.Calloc w.now e x.now) t))) }
 {
     let t = allocated(alloc, pos, w, e.get(), x)?;
     let of = copied_type(alloc, w)?;

@@ -62,7 +62,8 @@ fn operation_typed(
     e: &Expr<Name, Note>,
     pos: Pos,
 ) -> Result<CType, Fault>
-    ensures { AnswersOutcome result (in_row (is_void e.now.note.ctype) pos (unary_type op e.now.note.ctype)) }
+    ensures { AnswersOutcome result
+        (in_row (is_void e.now.note.ctype) pos (unary_type op e.now.note.ctype)) }
 {
     let t = operands::unary_type(alloc, op, &e.note.ctype)?;
     in_row(is_void(&e.note.ctype), pos, t)

@@ -33,7 +33,9 @@ fn boxed_local(
     pos: Pos,
     d: &Decl<Name, ()>,
 ) -> Result<Stmt<Name, Note>, Fault>
-    ensures { AnswersOutcome result (bind (local_typed globals.now frame.now.variables mode d.now) (λ n. Ok (stated mode pos (act.Local n)))) }
+    ensures { AnswersOutcome result
+        (bind (local_typed globals.now frame.now.variables mode d.now)
+        (λ n. Ok (stated mode pos (act.Local n)))) }
 {
     let typed = typed_local(alloc, globals, frame.variables.as_slice(), mode, d)?;
     let boxed = Boxed::new(alloc, typed)?;
@@ -50,7 +52,8 @@ fn typed_act(
     body: &Act<Name, ()>,
     pos: Pos,
 ) -> Result<Stmt<Name, Note>, Fault>
-    ensures { AnswersOutcome result (act_typed globals.now frame.now.variables frame.now.result body.now mode looped pos) }
+    ensures { AnswersOutcome result
+        (act_typed globals.now frame.now.variables frame.now.result body.now mode looped pos) }
 {
     let variables = frame.variables.as_slice();
     match body {
@@ -121,7 +124,8 @@ pub fn typed_stmt(
     looped: bool,
     s: &Stmt<Name, ()>,
 ) -> Result<Stmt<Name, Note>, Fault>
-    ensures { AnswersOutcome result (stmt_typed globals.now frame.now.variables frame.now.result s.now mode looped) }
+    ensures { AnswersOutcome result
+        (stmt_typed globals.now frame.now.variables frame.now.result s.now mode looped) }
 {
     typed_act(alloc, globals, frame, mode, looped, &s.body, s.pos)
 }
@@ -136,7 +140,8 @@ pub fn boxed_stmt(
     looped: bool,
     s: &Stmt<Name, ()>,
 ) -> Result<Boxed<Stmt<Name, Note>>, Fault>
-    ensures { AnswersOutcome result (stmt_typed globals.now frame.now.variables frame.now.result s.now mode looped) }
+    ensures { AnswersOutcome result
+        (stmt_typed globals.now frame.now.variables frame.now.result s.now mode looped) }
 {
     let typed = typed_stmt(alloc, globals, frame, mode, looped, s)?;
     let boxed = Boxed::new(alloc, typed)?;
@@ -153,7 +158,9 @@ fn typed_stmts(
     looped: bool,
     ss: &[Stmt<Name, ()>],
 ) -> Result<Seq<Stmt<Name, Note>>, Fault>
-    ensures { AnswersOutcome result (all_in mode looped (map (stmt_typed globals.now frame.now.variables frame.now.result) ss.now)) }
+    ensures { AnswersOutcome result
+        (all_in mode looped (map (stmt_typed globals.now frame.now.variables frame.now.result)
+        ss.now)) }
 {
     let mut all = Seq::new(alloc);
     for s in ss {
@@ -173,7 +180,9 @@ fn typed_part(
     looped: bool,
     part: &Option<Boxed<Stmt<Name, ()>>>,
 ) -> Result<Option<Boxed<Stmt<Name, Note>>>, Fault>
-    ensures { AnswersOutcome result (part_in mode looped (option_map (stmt_typed globals.now frame.now.variables frame.now.result) part.now)) }
+    ensures { AnswersOutcome result
+        (part_in mode looped (option_map
+        (stmt_typed globals.now frame.now.variables frame.now.result) part.now)) }
 {
     match part {
         None => Ok(None),

@@ -116,7 +116,9 @@ fn trusted(
     pointer: Boxed<ExprTree>,
     count: Boxed<ExprTree>,
 ) -> Result<ExprTree, AllocError>
-    ensures { IfOk result (λ e. expr_of e ≡ Trusted (pointee_of typed.now.layout t.now) form (expr_of pointer) (expr_of count)) }
+    ensures { IfOk result
+        (λ e. expr_of e ≡ Trusted (pointee_of typed.now.layout t.now) form (expr_of pointer)
+        (expr_of count)) }
 {
     let to = pointee_of(alloc, &typed.layout, t)?;
     let to = Boxed::new(alloc, to)?;
@@ -133,7 +135,9 @@ fn target(
     e: &Expr<Name, Note>,
     first: u32,
 ) -> Result<Placed, AllocError>
-    ensures { IfOk result (λ w. place_of w ≡ target_place typed.now.layout e.now.note.ctype at (expr_elaborated typed.now locals.now first e.now)) }
+    ensures { IfOk result
+        (λ w. place_of w ≡ target_place typed.now.layout e.now.note.ctype at
+        (expr_elaborated typed.now locals.now first e.now)) }
 {
     let pointer = value(alloc, typed, locals, e, first)?;
     target_place(alloc, &typed.layout, &e.note.ctype, at, pointer)
@@ -150,7 +154,8 @@ fn node_place(
     at: Pos,
     first: u32,
 ) -> Result<Placed, AllocError>
-    ensures { IfOk result (λ w. place_of w ≡ (part_of_node node.now).place note.now at typed.now locals.now first) }
+    ensures { IfOk result
+        (λ w. place_of w ≡ (part_of_node node.now).place note.now at typed.now locals.now first) }
 {
     match node {
         Node::Name(n) => name_place(alloc, typed, &note.ctype, at, *n),
@@ -188,7 +193,8 @@ fn node_address(
     at: Pos,
     first: u32,
 ) -> Result<ExprTree, AllocError>
-    ensures { IfOk result (λ t. expr_of t ≡ (part_of_node node.now).address note.now at typed.now locals.now first) }
+    ensures { IfOk result
+        (λ t. expr_of t ≡ (part_of_node node.now).address note.now at typed.now locals.now first) }
 {
     match node {
         Node::Un(TreeOp::Deref, e) => {
@@ -222,7 +228,8 @@ fn unary_value(
     at: Pos,
     first: u32,
 ) -> Result<ExprTree, AllocError>
-    ensures { IfOk result (λ t. expr_of t ≡ unary_value op (part_of e.now) note.now at typed.now locals.now first) }
+    ensures { IfOk result
+        (λ t. expr_of t ≡ unary_value op (part_of e.now) note.now at typed.now locals.now first) }
 {
     match op {
         TreeOp::Address => { node_address(alloc, typed, locals, &e.node, &e.note, e.pos, first) }
@@ -253,7 +260,9 @@ fn elements(
     size: u32,
     first: u32,
 ) -> Result<Boxed<ExprTree>, AllocError>
-    ensures { IfOk result (λ t. expr_of t ≡ elements_if (option_map part_of_limits l.now) size typed.now locals.now first) }
+    ensures { IfOk result
+        (λ t. expr_of t ≡ elements_if (option_map part_of_limits l.now) size typed.now locals.now
+        first) }
 {
     match l {
         None => Boxed::new(alloc, ExprTree::Number(1)),
@@ -270,7 +279,8 @@ fn elements_of(
     size: u32,
     first: u32,
 ) -> Result<Boxed<ExprTree>, AllocError>
-    ensures { IfOk result (λ t. expr_of t ≡ (part_of_limits l.now).elements size typed.now locals.now first) }
+    ensures { IfOk result
+        (λ t. expr_of t ≡ (part_of_limits l.now).elements size typed.now locals.now first) }
 {
     match l {
         Limits::Count(e, _) => value(alloc, typed, locals, e.get(), first),
@@ -311,7 +321,8 @@ fn node_value(
     at: Pos,
     first: u32,
 ) -> Result<ExprTree, AllocError>
-    ensures { IfOk result (λ t. expr_of t ≡ (part_of_node node.now).value note.now at typed.now locals.now first) }
+    ensures { IfOk result
+        (λ t. expr_of t ≡ (part_of_node node.now).value note.now at typed.now locals.now first) }
 {
     match node {
         Node::Number(n, _) => Ok(ExprTree::Number(*n)),

@@ -152,7 +152,8 @@ fn sum_of(
     e: Boxed<ExprTree>,
     f: Boxed<ExprTree>,
 ) -> ExprTree
-    ensures { expr_of result ≡ of_operands structs.now TreeOp.Add t.now u.now at (expr_of e) (expr_of f) }
+    ensures { expr_of result
+        ≡ of_operands structs.now TreeOp.Add t.now u.now at (expr_of e) (expr_of f) }
 {
     if is_pointer(t) {
         ExprTree::Moved(shift(structs, t, u, at, false), e, f)
@@ -172,7 +173,9 @@ fn difference_of(
     e: Boxed<ExprTree>,
     f: Boxed<ExprTree>,
 ) -> Result<ExprTree, AllocError>
-    ensures { IfOk result (λ d. expr_of d ≡ of_operands structs.now TreeOp.Sub t.now u.now at (expr_of e) (expr_of f)) }
+    ensures { IfOk result
+        (λ d. expr_of d ≡ of_operands structs.now TreeOp.Sub t.now u.now at (expr_of e)
+        (expr_of f)) }
 {
     if is_pointer(t) {
         if is_pointer(u) {
@@ -196,7 +199,8 @@ pub fn of_operands(
     e: Boxed<ExprTree>,
     f: Boxed<ExprTree>,
 ) -> Result<ExprTree, AllocError>
-    ensures { IfOk result (λ d. expr_of d ≡ of_operands structs.now op t.now u.now at (expr_of e) (expr_of f)) }
+    ensures { IfOk result
+        (λ d. expr_of d ≡ of_operands structs.now op t.now u.now at (expr_of e) (expr_of f)) }
 {
     match op {
         TreeOp::Add => Ok(sum_of(structs, t, u, at, e, f)),

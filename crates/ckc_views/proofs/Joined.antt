@@ -1,5 +1,5 @@
 -- Lists that are made in steps.
-use Rattle.std.proofs.Common.{◌≡◌, List, [], ◌∷◌, ◌++◌, refl, sym, append_assoc}
+use Rattle.std.proofs.Common.{◌≡◌, List, [], ◌∷◌, ◌++◌, refl, append_assoc}
 use Rattle.std.specs.Prelude.{Option, None, Some}
 use Rattle.ckc_views.specs.Parts.{with_last, with_first}
 

@@ -12,7 +12,6 @@ use Rattle.ckc_typed.specs.declared.environment.Constant.{Constant}
 use Rattle.ckc_typed.specs.declared.typed.Note.{Note}
 use Rattle.ckc_typed.specs.declared.typed.Range.{Range}
 use Rattle.ckc_points.specs.Shown.{Known}
-use Rattle.ckc_points.specs.Frames.{variable}
 use Rattle.ckc_points.specs.Flow.{State}
 use Rattle.ckc_views.specs.declared.variables.Own.{Own}
 use Rattle.ckc_views.specs.declared.variables.Member.{Member}

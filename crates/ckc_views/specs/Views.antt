@@ -9,12 +9,11 @@ use Rattle.ckc_syntax.specs.declared.tree.Expr.{Expr, Expr-F, fold-Expr}
 use Rattle.ckc_typed.specs.declared.typed.Note.{Note}
 use Rattle.ckc_points.specs.declared.frame.Frame.{Frame}
 use Rattle.ckc_points.specs.Shown.{Known}
-use Rattle.ckc_points.specs.Frames.{variable}
 use Rattle.ckc_points.specs.Forms.{elements}
 use Rattle.ckc_views.specs.Parts.{LimitsView, View, NodeView, NodeOfViews, LimitsOfViews, capped, with_last}
 use Rattle.ckc_views.specs.Integers.{number_of_node, is_zero_node, null_node, variable_of_node, form_of_node, integer_form}
 use Rattle.ckc_views.specs.Places.{values_of_node, stands_alone, with_own, place_of_node, target_of_node, pointer_place}
-use Rattle.ckc_views.specs.Conditions.{behind_node, operand, side_of_node}
+use Rattle.ckc_views.specs.Conditions.{behind_node, side_of_node}
 use Rattle.ckc_views.specs.Fresh.{member_of_node, own_fresh_of_node, fresh_of_node, count_of_node, with_own_fresh}
 use Rattle.ckc_views.specs.Ranges.{range_of_node, range_of_address, pointer_range}
 use Rattle.ckc_views.specs.Judged.{limits_judged, node_judged, has_none_of_node, fault_of_node, operand_fault_of_node, expr_judged, operand_judged}

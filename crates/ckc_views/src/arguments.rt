@@ -77,7 +77,8 @@ fn variable_by(
     n: u32,
     value: Option<Form>,
 ) -> Result<Option<VariableBy>, AllocError>
-    ensures { IfOk result (λ v. v ≡ variable_by (known facts.now) (slice_get params.now n) n value) }
+    ensures { IfOk result
+        (λ v. v ≡ variable_by (known facts.now) (slice_get params.now n) n value) }
 {
     match params.get(n as usize) {
         Some(p) => {

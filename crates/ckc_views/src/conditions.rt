@@ -285,7 +285,8 @@ fn side_of_node(
     side: bool,
     at: &mut Point,
 ) -> Result<(), AllocError>
-    ensures { OnOk result (state at.new ≡ (view_of_node frame.now node.now).side side (state at.old)) }
+    ensures { OnOk result
+        (state at.new ≡ (view_of_node frame.now node.now).side side (state at.old)) }
 {
     match node {
         Node::Un(TreeOp::Not, e) => to_side(alloc, frame, e.get(), !side, at),

@@ -115,7 +115,8 @@ fn step_of(
     e: &Expr<Name, Note>,
     f: &Expr<Name, Note>,
 ) -> Result<Option<Step>, AllocError>
-    ensures { IfOk result (λ s. s ≡ step_of op (view frame.now e.now).number (view frame.now f.now).number) }
+    ensures { IfOk result
+        (λ s. s ≡ step_of op (view frame.now e.now).number (view frame.now f.now).number) }
 {
     match op {
         TreeOp::Add => {
@@ -139,7 +140,8 @@ fn linear(
     node: &Node<Name, Note>,
     t: &CType,
 ) -> Result<Option<Form>, AllocError>
-    ensures { IfOk result (λ f. f ≡ (view_of_node frame.now node.now).linear t.now (known facts.now)) }
+    ensures { IfOk result
+        (λ f. f ≡ (view_of_node frame.now node.now).linear t.now (known facts.now)) }
 {
     match node {
         Node::Name(n) => Ok(variable(frame, *n)),

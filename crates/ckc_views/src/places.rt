@@ -241,7 +241,8 @@ pub fn target_of_node(
     node: &Node<Name, Note>,
     first: u32,
 ) -> Result<Option<Form>, AllocError>
-    ensures { IfOk result (λ f. f ≡ (view_of_node frame.now node.now).target first (known facts.now)) }
+    ensures { IfOk result
+        (λ f. f ≡ (view_of_node frame.now node.now).target first (known facts.now)) }
 {
     match node {
         Node::Un(TreeOp::Deref, e) => place(alloc, frame, facts, e.get(), first),

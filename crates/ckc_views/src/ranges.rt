@@ -401,7 +401,8 @@ pub fn range(
     first_value: u32,
     first_fresh: u32,
 ) -> Result<Range, AllocError>
-    ensures { IfOk result (λ r. r ≡ (view frame.now e.now).range first_value first_fresh (state at.now)) }
+    ensures { IfOk result
+        (λ r. r ≡ (view frame.now e.now).range first_value first_fresh (state at.now)) }
 {
     if is_null_node(frame, &e.node) {
         return Ok(Range::Any);

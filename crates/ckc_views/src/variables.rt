@@ -172,7 +172,8 @@ fn counted(
     frame: &Frame,
     limits: &Option<Boxed<Limits<Name, Note>>>,
 ) -> Result<Option<CType>, AllocError>
-    ensures { IfOk result (λ t. t ≡ counted_there (option_map (view_of_limits frame.now) limits.now)) }
+    ensures { IfOk result
+        (λ t. t ≡ counted_there (option_map (view_of_limits frame.now) limits.now)) }
 {
     match limits {
         Some(l) => match l.get() {
@@ -342,7 +343,8 @@ fn add_of_bounds(
     bounds: &Option<Boxed<Limits<Name, Note>>>,
     all: &mut Seq<CType>,
 ) -> Result<(), AllocError>
-    ensures { OnOk result (all.new ≡ all.old ++ fresh_there (option_map (view_of_limits frame.now) bounds.now)) }
+    ensures { OnOk result
+        (all.new ≡ all.old ++ fresh_there (option_map (view_of_limits frame.now) bounds.now)) }
 {
     match bounds {
         Some(limits) => add_of_limits(alloc, frame, limits.get(), all),

@@ -39,7 +39,8 @@ pub fn one_typed_text()
 
 /// The tree of a typed text without its notes is the tree of the text, and the number of `main` is that of the text.
 pub fn same_tree()
-    ensures tree { (t : NamedText) (p : Typed) → named_typed t ≡ Ok p → without_notes p.tree ≡ t.tree }
+    ensures tree { (t : NamedText) (p : Typed) → named_typed t ≡ Ok p → without_notes p.tree
+        ≡ t.tree }
     ensures main { (t : NamedText) (p : Typed) → named_typed t ≡ Ok p → p.main ≡ t.main }
 {}
 
@@ -63,7 +64,8 @@ pub fn declarations_exactly()
 
 /// So do the statements of a function, in a mode, and in a loop or outside.
 pub fn statements_exactly()
-    ensures statements { (g : Globals) (v : List Variable) (result : CType) (m : Mode) (looped : Bool) →
+    ensures statements { (g : Globals) (v : List Variable) (result : CType) (m : Mode)
+        (looped : Bool) →
         GivesExactly (λ s. stmt_typed g v result s m looped) bare_stmt (λ n. WellTypedStmt g v result n m looped) }
 {}
 
@@ -84,7 +86,8 @@ pub fn expressions_by_parts()
 
 /// A statement is well typed exactly where it has its row, in which its direct parts are well typed, and its note.
 pub fn statements_by_parts()
-    ensures statements { (g : Globals) (v : List Variable) (result : CType) (s : NotedStmt) (m : Mode) (looped : Bool) →
+    ensures statements { (g : Globals) (v : List Variable) (result : CType) (s : NotedStmt)
+        (m : Mode) (looped : Bool) →
         WellTypedStmt g v result s m looped ↔ StmtByParts g v result s m looped }
 {}
 
@@ -95,11 +98,13 @@ pub fn counts_stay()
         map marks_of_item p.tree.items ≡ map marks_of_item t.tree.items }
     ensures depths { (t : NamedText) (p : Typed) → named_typed t ≡ Ok p →
         map depth_of_item p.tree.items ≡ map depth_of_item t.tree.items }
-    ensures small { (t : NamedText) (p : Typed) → named_typed t ≡ Ok p → Small t.tree → Small p.tree }
+    ensures small { (t : NamedText) (p : Typed) → named_typed t ≡ Ok p → Small t.tree
+        → Small p.tree }
 {}
 
 /// The grammar gives the tree of a typed text just where it gives the tree of the text: calls stand in the same places,
 /// and so do the parts of bundles, of `for` and of structures.
 pub fn form_stays()
-    ensures form { (t : NamedText) (p : Typed) → named_typed t ≡ Ok p → given_tree p.tree ≡ given_tree t.tree }
+    ensures form { (t : NamedText) (p : Typed) → named_typed t ≡ Ok p → given_tree p.tree
+        ≡ given_tree t.tree }
 {}

@@ -7,8 +7,8 @@ use Rattle.ckc_lower.proofs.builder.Builder.+code.Given as goal
 abbrev pub decreases-code : goal.decreases-code
 decreases-code l = goal.size-code l
 
-abbrev pub invariant-loop-s : goal.invariant-loop-s
-invariant-loop-s l = record {
-  limits : KeepsLimits (code_of (drop l.s-index l.stmts));
-  built : built l.locals (code_of (drop l.s-index l.stmts)) l.exit l.loop_at l.self ≡ built l.locals (code_of l.stmts) l.exit l.loop_at l.initial.self;
+abbrev pub invariant-loop-i : goal.invariant-loop-i
+invariant-loop-i l = record {
+  limits : KeepsLimits (code_of (drop l.i l.stmts));
+  built : built l.locals l.fresh (code_of (drop l.i l.stmts)) l.exit l.loop_at l.self ≡ built l.locals l.is_fresh (code_of l.stmts) l.exit l.loop_at l.initial.self;
 }

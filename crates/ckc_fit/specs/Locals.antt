@@ -1,0 +1,52 @@
+-- How the locals of a function are numbered.
+use Rattle.std.specs.Prelude.{ℕ, List, [], ◌∷◌, ◌++◌, Option, None, Some}
+use Rattle.std.specs.List.{flat_map}
+use Rattle.ckc_syntax.specs.declared.tree.Name.{Name}
+use Rattle.ckc_syntax.specs.declared.tree.Name.TheVariants as name
+use Rattle.ckc_syntax.specs.declared.tree.Item.TheVariants as item
+use Rattle.ckc_syntax.specs.declared.tree.Act.{Act-F}
+use Rattle.ckc_syntax.specs.declared.tree.Stmt.{Stmt-F, fold-Stmt}
+use Rattle.ckc_resolve.specs.Trees.{NamedDecl, NamedHead, NamedStmt, NamedItem}
+
+abbrev pub local_in : Name → List ℕ
+local_in (name.Local n) = n ∷ []
+local_in n = []
+
+abbrev pub decl_local : NamedDecl → List ℕ
+decl_local d = local_in d.name
+
+abbrev pub part_locals : Option (List ℕ) → List ℕ
+part_locals None = []
+part_locals (Some ns) = ns
+
+-- The numbers of the locals that a statement declares, as they come in the text; those of the step of a `for`, which can
+-- have none, behind those of its body.
+abbrev pub act_locals : Act-F Name (Unit {0}) (List ℕ) (List ℕ) → List ℕ
+act_locals (Act-F.Block mode ss) = flat_map (λ s. s) ss
+act_locals Act-F.Empty = []
+act_locals (Act-F.Local d) = decl_local d
+act_locals (Act-F.Assign e f) = []
+act_locals (Act-F.Call e) = []
+act_locals (Act-F.If e s t) = s ++ part_locals t
+act_locals (Act-F.While e s) = s
+act_locals (Act-F.For first e step body) = part_locals first ++ (body ++ part_locals step)
+act_locals (Act-F.Return e) = []
+act_locals Act-F.Break = []
+act_locals Act-F.Continue = []
+act_locals (Act-F.Check e) = []
+act_locals (Act-F.Bundle ss) = flat_map (λ s. s) ss
+
+abbrev pub locals_in : Stmt-F Name (Unit {0}) (List ℕ) (List ℕ) → List ℕ
+locals_in s = s.body
+
+abbrev pub stmt_locals : NamedStmt → List ℕ
+stmt_locals = fold-Stmt Name (Unit {0}) (List ℕ) (List ℕ) act_locals locals_in
+
+abbrev pub head_locals : NamedHead → List ℕ
+head_locals h = flat_map decl_local h.params
+
+-- the numbers of the parameters and then of the other locals of a function
+abbrev pub item_locals : NamedItem → List ℕ
+item_locals (item.Proto h) = head_locals h
+item_locals (item.Function h body) = head_locals h ++ stmt_locals body
+item_locals i = []
