@@ -1,2 +1,3 @@
 pub mod Integer
+pub mod Supported
 pub mod Phase
