@@ -1,4 +1,4 @@
-//! Whether a text keeps to objects and single pointers.
+//! Whether a text keeps to the part of the language that is built so far.
 
 ghost use Rattle.std.specs.Prelude.{◌≡◌, IfErr, unwrap_or};
 ghost use Rattle.ckc_base.specs.declared.fault.Fault.TheVariants.{Memory};
@@ -6,12 +6,14 @@ ghost use Rattle.ckc_base.specs.Phases.{Exact, viewed};
 ghost use Rattle.ckc_forms.specs.Phase.{supporting};
 ghost use Rattle.ckc_forms.specs.Supported.{type_supported, is_single, length_supported, op_supported, limits_supported, node_supported, expr_supported, value_supported, exprs_supported, init_supported, decl_supported, decls_supported, act_supported, stmt_supported, part_supported, stmts_supported, head_supported, item_supported, items_supported, mode_behind};
 
-use crate::integer::NOT_BUILT;
 use ckc_base::{Boxed, Fault, Mode, START, refused};
 use ckc_syntax::{
     Act, Decl, Directive, Expr, Head, Init, Item, Length, Limits, NamedText, Node, Stmt, TreeOp,
     TypeTree,
 };
+
+/// E100: a text is of no form that is built so far.
+pub const NOT_BUILT: u16 = 100;
 
 fn is_supported_type<N>(ctype: &TypeTree<N>) -> bool
     ensures { result ≡ type_supported ctype.now }
@@ -275,9 +277,8 @@ fn are_supported_items<N, A>(items: &[Item<N, A>]) -> bool
     true
 }
 
-/// Whether a text keeps to objects and single pointers: it has no `_Array_ptr`, `_Nt_array_ptr` and checked array, no
-/// bounds, string and bundle, no bounds cast but to `_Ptr`, and no `&` in a checked scope. Every other text is refused
-/// with E100 at 1:1. It takes no memory.
+/// Whether a text keeps to the part of the language that is built so far. Every other text is refused with E100 at 1:1.
+/// It takes no memory.
 pub fn supported(text: &NamedText) -> Result<(), Fault>
     // Ok where the text keeps to it, a refusal for exactly every other one.
     ensures exact { Exact supporting text.now (viewed (λ _. text.now) result) }
