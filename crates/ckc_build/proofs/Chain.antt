@@ -17,11 +17,15 @@ use Rattle.ckc_parser.specs.Phase.{parsing}
 use Rattle.ckc_parser.specs.Text.{SpelledTree}
 use Rattle.ckc_parser.proofs.Once.{parsing_exact}
 use Rattle.ckc_resolve.specs.Phase.{naming, text_named}
-use Rattle.ckc_forms.specs.Phase.{integers}
-use Rattle.ckc_forms.proofs.Judged.{integers_exact}
+use Rattle.ckc_forms.specs.Phase.{supporting}
+use Rattle.ckc_forms.proofs.Judged.{supporting_exact}
 use Rattle.ckc_typed.specs.declared.typed.Typed.{Typed}
 use Rattle.ckc_typed.specs.Texts.{named_typed}
 use Rattle.ckc_typing.specs.Phase.{typing}
+use Rattle.ckc_scopes.specs.Phase.{scoping}
+use Rattle.ckc_scopes.proofs.Firsts.{scoping_exact}
+use Rattle.ckc_bounds.specs.Phase.{bounding}
+use Rattle.ckc_bounds.specs.Texts.{text_judged}
 use Rattle.ckc_build.specs.Meanings.{reading, judging_tree, judging}
 
 -- ---- the phases are exact
@@ -32,12 +36,33 @@ naming_exact = phase_by_exact text_named
 typing_exact : IsExact typing
 typing_exact = phase_by_exact named_typed
 
--- the tree with its types
+bounding_exact : IsExact bounding
+bounding_exact = phase_by_exact text_judged
+
+-- what comes behind the types, behind the form, behind the names and behind the limits
+abbrev ranging : Phase Typed Typed
+ranging = scoping >=> bounding
+
+ranging_exact : IsExact ranging
+ranging_exact = then_exact scoping bounding scoping_exact bounding_exact
+
+abbrev from_form : Phase NamedText Typed
+from_form = typing >=> ranging
+
+from_form_exact : IsExact from_form
+from_form_exact = then_exact typing ranging typing_exact ranging_exact
+
+abbrev from_names : Phase NamedText Typed
+from_names = supporting >=> from_form
+
+from_names_exact : IsExact from_names
+from_names_exact = then_exact supporting from_form supporting_exact from_form_exact
+
 abbrev later : Phase SpelledTree Typed
-later = naming >=> integers >=> typing
+later = naming >=> from_names
 
 later_exact : IsExact later
-later_exact = then_exact naming (integers >=> typing) naming_exact (then_exact integers typing integers_exact typing_exact)
+later_exact = then_exact naming from_names naming_exact from_names_exact
 
 reading_exact : IsExact reading
 reading_exact = then_exact lexing parsing lexing_exact parsing_exact
@@ -99,7 +124,7 @@ pub judge_goes : (text : List ℕ) (tokens : Tokens) → Exact lexing text (Ok t
     → Exact judging_tree tree answer → Exact judging text answer
 judge_goes = read_goes judging_tree judging_tree_exact
 
--- ---- the tree with its types
+-- ---- the tree with its types and ranges
 
 module _ (tree : SpelledTree) where
   pub fits_ends : (e : Fault) → Exact limiting tree (Err e) → Exact judging_tree tree (Err e)
@@ -108,21 +133,31 @@ module _ (tree : SpelledTree) where
   pub fits_goes : Exact limiting tree (Ok tree) → (answer : Result Typed Fault) → Exact later tree answer → Exact judging_tree tree answer
   fits_goes small answer x = exact_on limiting later limiting_exact later_exact tree tree answer small x
 
-  pub ends_typed : (answer : Result Typed Fault) (e other : Fault) → answer ≡ Err e → e ≡ other → Answers later tree (Err other) → Exact later tree answer
-  ends_typed answer e other is same a =
-      subst (λ r. Exact later tree r) (sym (is ∙ ap (λ x. Err x) same)) (exact_of later later_exact tree (Err other) a)
-
-  pub naming_ends : (e : Fault) → Exact naming tree (Err e) → Answers later tree (Err e)
-  naming_ends e x = err_first naming (integers >=> typing) tree e x.answers
+  pub naming_ends : (e : Fault) → Exact naming tree (Err e) → Exact later tree (Err e)
+  naming_ends e x = exact_err naming from_names naming_exact from_names_exact tree e x
 
   module _ (named : NamedText) (is_named : Exact naming tree (Ok named)) where
-    from_named : (answer : Result Typed Fault) → Answers (integers >=> typing) named answer → Answers later tree answer
-    from_named answer a = answers_on naming (integers >=> typing) naming_exact (then_exact integers typing integers_exact typing_exact) tree named answer is_named.answers a
+    naming_goes : (answer : Result Typed Fault) → Exact from_names named answer → Exact later tree answer
+    naming_goes answer x = exact_on naming from_names naming_exact from_names_exact tree named answer is_named x
 
-    pub integers_ends : (e : Fault) → Exact integers named (Err e) → Answers later tree (Err e)
-    integers_ends e x = from_named (Err e) (err_first integers typing named e x.answers)
+    pub supporting_ends : (e : Fault) → Exact supporting named (Err e) → Exact later tree (Err e)
+    supporting_ends e x = naming_goes (Err e) (exact_err supporting from_form supporting_exact from_form_exact named e x)
 
-    pub typing_ends : Exact integers named (Ok named) → (answer : Result Typed Fault) → Exact typing named answer → Exact later tree answer
-    typing_ends passed answer x =
-        exact_of later later_exact tree answer
-        (from_named answer (answers_on integers typing integers_exact typing_exact named named answer passed.answers x.answers))
+    module _ (keeps : Exact supporting named (Ok named)) where
+      supporting_goes : (answer : Result Typed Fault) → Exact from_form named answer → Exact later tree answer
+      supporting_goes answer x = naming_goes answer (exact_on supporting from_form supporting_exact from_form_exact named named answer keeps x)
+
+      pub typing_ends : (e : Fault) → Exact typing named (Err e) → Exact later tree (Err e)
+      typing_ends e x = supporting_goes (Err e) (exact_err typing ranging typing_exact ranging_exact named e x)
+
+      pub typing_goes : (text : Typed) → Exact typing named (Ok text) → (answer : Result Typed Fault) → Exact ranging text answer → Exact later tree answer
+      typing_goes text typed answer x = supporting_goes answer (exact_on typing ranging typing_exact ranging_exact named text answer typed x)
+
+-- ---- the text with its ranges
+
+module _ (text : Typed) where
+  pub scoping_ends : (e : Fault) → Exact scoping text (Err e) → Exact ranging text (Err e)
+  scoping_ends e x = exact_err scoping bounding scoping_exact bounding_exact text e x
+
+  pub scoping_goes : (scoped : Typed) → Exact scoping text (Ok scoped) → (answer : Result Typed Fault) → Exact bounding scoped answer → Exact ranging text answer
+  scoping_goes scoped is_scoped answer x = exact_on scoping bounding scoping_exact bounding_exact text scoped answer is_scoped x

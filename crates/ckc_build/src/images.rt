@@ -24,8 +24,8 @@ pub fn build(alloc: Global, text: &[u8]) -> Result<Vec<u8>, Fault>
     match program(alloc, text) {
         Err(fault) => Err(fault),
         Ok(p) => {
-            // The program of a text over integers always has the form, so this is never answered. That is tested and
-            // not proved.
+            // The program of a text that is let through always has the form, so this is never answered. That is tested
+            // and not proved.
             if !is_compilable(&p, MOST_NODES) {
                 return Err(Fault::Memory);
             }
@@ -37,7 +37,7 @@ pub fn build(alloc: Global, text: &[u8]) -> Result<Vec<u8>, Fault>
     }
 }
 
-/// An image of a program of integers.
+/// An image of a program.
 fn image_of(alloc: Global, p: &Program) -> Result<Vec<u8>, AllocError>
     requires form { IsCompilable (program_of p.now) }
     requires laid { IsLaidOut (program_of p.now) }

@@ -1,30 +1,30 @@
 -- Equations for lists of parts.
 use Rattle.std.proofs.Common.{rules, refl, ◌≡◌, ◌<◌, ◌+◌, ℕ, suc, length, Bool, ◌&&◌, List, [], ◌∷◌, get_or, drop, ap, sym, ◌∙◌, drop-cons, add-one}
 use Rattle.std.specs.List.{list_all}
-use Rattle.std.specs.Prelude.{map, Option}
+use Rattle.std.specs.Prelude.{map, Option, unwrap_or}
 use Rattle.ckc_base.specs.declared.arithmetic.Mode.{Mode}
 use Rattle.ckc_syntax.specs.declared.tree.Node.{the_lemmas as expr_lemmas}
 use Rattle.ckc_syntax.specs.declared.tree.Node.TheVariants as nodes
 use Rattle.ckc_syntax.specs.declared.tree.Expr.{Expr}
 use Rattle.ckc_syntax.specs.declared.tree.Stmt.{Stmt, the_lemmas as stmt_lemmas}
 use Rattle.ckc_syntax.specs.declared.tree.Act.TheVariants as act
-use Rattle.ckc_forms.specs.Integer.{all_of, integer_node, integer_expr, integer_act, integer_stmt}
+use Rattle.ckc_forms.specs.Supported.{InMode, all_in, node_supported, expr_supported, exprs_supported, act_supported, stmt_supported, stmts_supported}
 
-all_is : {X : Type 0} (f : X → Bool) (xs : List X) → all_of (map f xs) ≡ list_all f xs
-all_is f [] = refl
-all_is f (x ∷ xs) = ap (λ b. f x && b) (all_is f xs)
+all_is : {X : Type 0} (f : X → InMode) (mode : Mode) (xs : List X) → all_in mode (map f xs) ≡ list_all (λ x. f x mode) xs
+all_is f mode [] = refl
+all_is f mode (x ∷ xs) = ap (λ b. f x mode && b) (all_is f mode xs)
 
-all_of_call : {N A : Type 0} (n : N) (es : List (Expr N A)) → integer_node (nodes.Call n es) ≡ all_of (map integer_expr es)
-all_of_call n es = search (rules, expr_lemmas)
+all_of_call : {N A : Type 0} (n : N) (es : List (Expr N A)) (mode : Mode) → node_supported (nodes.Call n es) mode ≡ all_in mode (map expr_supported es)
+all_of_call n es mode = search (rules, expr_lemmas)
 
-pub integer_call : {N A : Type 0} (n : N) (es : List (Expr N A)) → integer_node (nodes.Call n es) ≡ list_all integer_expr es
-integer_call n es = all_of_call n es ∙ all_is integer_expr es
+pub call_supported : {N A : Type 0} (n : N) (es : List (Expr N A)) (mode : Mode) → node_supported (nodes.Call n es) mode ≡ exprs_supported es mode
+call_supported n es mode = all_of_call n es mode ∙ all_is expr_supported mode es
 
-all_of_block : {N A : Type 0} (m : Option Mode) (ss : List (Stmt N A)) → integer_act (act.Block m ss) ≡ all_of (map integer_stmt ss)
-all_of_block m ss = search (rules, stmt_lemmas)
+all_of_block : {N A : Type 0} (m : Option Mode) (ss : List (Stmt N A)) (mode : Mode) → act_supported (act.Block m ss) mode ≡ all_in (unwrap_or m mode) (map stmt_supported ss)
+all_of_block m ss mode = search (rules, stmt_lemmas)
 
-pub integer_block : {N A : Type 0} (m : Option Mode) (ss : List (Stmt N A)) → integer_act (act.Block m ss) ≡ list_all integer_stmt ss
-integer_block m ss = all_of_block m ss ∙ all_is integer_stmt ss
+pub block_supported : {N A : Type 0} (m : Option Mode) (ss : List (Stmt N A)) (mode : Mode) → act_supported (act.Block m ss) mode ≡ stmts_supported ss (unwrap_or m mode)
+block_supported m ss mode = all_of_block m ss mode ∙ all_is stmt_supported (unwrap_or m mode) ss
 
 -- one turn of a loop over parts
 pub all_turn : {X : Type 0} (f : X → Bool) (xs : List X) (i : ℕ) (x : X) → i < length xs → x ≡ get_or xs i x →

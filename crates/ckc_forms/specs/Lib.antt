@@ -1,2 +1,2 @@
-pub mod Integer
+pub mod Supported
 pub mod Phase

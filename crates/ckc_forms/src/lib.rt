@@ -1,8 +1,9 @@
-//! Which texts are built so far, beside those of the first form: the texts over integers alone.
+//! The part of the language that is built so far: objects and single pointers. Other texts are refused behind their
+//! names.
 #![tactic(auto)]
 
-mod integer;
 mod laws;
+mod texts;
 
-pub use integer::{NOT_BUILT, integers};
 pub use laws::{codes, is_exact};
+pub use texts::{NOT_BUILT, supported};

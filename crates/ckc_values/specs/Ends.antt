@@ -33,19 +33,20 @@ end_behind base x c = record { base = base; variable = x; add = c }
 abbrev pub limits_between : Structs → CType → End → End → Limits
 limits_between structs t lower upper = record { to = pointee_of structs t; lower = lower; upper = upper }
 
-abbrev pub base_at : Typed → Option bases.Base → Base
-base_at p (Some (at.Local k)) = Local k
-base_at p (Some (at.Array k)) = Fixed (address_of p k)
-base_at p (Some (at.Value k)) = Own
-base_at p None = Own
+-- what a form of the range of local own lies at: at that local it is the pointer itself
+abbrev pub base_at : Typed → ℕ → Option bases.Base → Base
+base_at p own (Some (at.Local k)) = if k == own then Own else Local k
+base_at p own (Some (at.Array k)) = Fixed (address_of p k)
+base_at p own (Some (at.Value k)) = Own
+base_at p own None = Own
 
 -- Variable 0 is the number zero, and variable k + 1 is local k.
 abbrev pub variable_at : List variables.Variable → ℕ → Option Variable
 variable_at locals x = if x == 0 then None else Some (local_variable locals (x - 1))
 
-abbrev pub end_at : Typed → List variables.Variable → Form → End
-end_at p locals f = end_behind (base_at p f.base) (variable_at locals f.var) f.add
+abbrev pub end_at : Typed → List variables.Variable → ℕ → Form → End
+end_at p locals own f = end_behind (base_at p own f.base) (variable_at locals f.var) f.add
 
--- the range from a form up to another, for a pointer of a type
-abbrev pub limits_at : Typed → List variables.Variable → CType → Form → Form → Limits
-limits_at p locals t l u = limits_between p.layout t (end_at p locals l) (end_at p locals u)
+-- the range of a local pointer of a type, from a form up to another
+abbrev pub limits_at : Typed → List variables.Variable → CType → ℕ → Form → Form → Limits
+limits_at p locals t own l u = limits_between p.layout t (end_at p locals own l) (end_at p locals own u)

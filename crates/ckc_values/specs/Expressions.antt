@@ -33,7 +33,7 @@ use Rattle.ckc_values.specs.Places.{Place, place_through, object_place, name_pla
 
 -- A pointer with a known range is read within it.
 abbrev pub local_in : Typed → List Variable → CType → ℕ → Range → Expr
-local_in p locals t k (range.Known l u) = Limited k (limits_at p locals t l u)
+local_in p locals t k (range.Known l u) = Limited k (limits_at p locals t k l u)
 local_in p locals t k range.Missing = Local k
 local_in p locals t k range.Any = Local k
 

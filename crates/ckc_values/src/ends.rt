@@ -47,11 +47,12 @@ pub fn limits_between(
     Ok(Limits { to, lower, upper })
 }
 
-fn base_at(typed: &Typed, base: Option<ckc_linear::Base>) -> Base
-    ensures { result ≡ base_at typed.now base }
+/// What a form of the range of a local lies at; at the local itself it is the pointer's own value.
+fn base_at(typed: &Typed, own: u32, base: Option<ckc_linear::Base>) -> Base
+    ensures { result ≡ base_at typed.now own base }
 {
     match base {
-        Some(ckc_linear::Base::Local(k)) => Base::Local(k),
+        Some(ckc_linear::Base::Local(k)) => { if k == own { Base::Own } else { Base::Local(k) } }
         Some(ckc_linear::Base::Array(k)) => Base::Fixed(address_of(typed, k)),
         Some(ckc_linear::Base::Value(_)) => Base::Own,
         None => Base::Own,
@@ -68,29 +69,35 @@ fn variable_at(locals: &[ckc_typed::Variable], x: u32) -> Option<Variable>
     }
 }
 
-fn end_at(typed: &Typed, locals: &[ckc_typed::Variable], f: Form) -> Result<End, AllocError>
-    ensures { IfOk result (λ e. e ≡ end_at typed.now locals.now f) }
+fn end_at(
+    typed: &Typed,
+    locals: &[ckc_typed::Variable],
+    own: u32,
+    f: Form,
+) -> Result<End, AllocError>
+    ensures { IfOk result (λ e. e ≡ end_at typed.now locals.now own f) }
 {
     let add = elements(f.add)?;
     Ok(End {
-        base: base_at(typed, f.base),
+        base: base_at(typed, own, f.base),
         variable: variable_at(locals, f.var),
         add,
     })
 }
 
-/// The range from a form up to another, for a pointer of a type.
+/// The range of a local pointer of a type, from a form up to another.
 pub fn limits_at(
     alloc: Global,
     typed: &Typed,
     locals: &[ckc_typed::Variable],
     t: &CType,
+    own: u32,
     l: Form,
     u: Form,
 ) -> Result<Limits, AllocError>
-    ensures { IfOk result (λ r. r ≡ limits_at typed.now locals.now t.now l u) }
+    ensures { IfOk result (λ r. r ≡ limits_at typed.now locals.now t.now own l u) }
 {
-    let lower = end_at(typed, locals, l)?;
-    let upper = end_at(typed, locals, u)?;
+    let lower = end_at(typed, locals, own, l)?;
+    let upper = end_at(typed, locals, own, u)?;
     limits_between(alloc, &typed.layout, t, lower, upper)
 }

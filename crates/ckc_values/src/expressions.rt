@@ -40,7 +40,7 @@ fn local_in(
 {
     match range {
         Range::Known(l, u) => {
-            let limits = limits_at(alloc, typed, locals, t, l, u)?;
+            let limits = limits_at(alloc, typed, locals, t, k, l, u)?;
             let limits = Boxed::new(alloc, limits)?;
             Ok(ExprTree::Limited(k, limits))
         }
