@@ -9,3 +9,5 @@ pub mod WholeBodies
 pub mod CodedStores
 pub mod LocalsJoined
 pub mod Blocks
+pub mod WholeFunctions
+pub mod WholeTexts
