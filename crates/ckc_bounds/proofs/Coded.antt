@@ -1,11 +1,11 @@
 -- Which codes the refusals of the bounds phase have: of outcomes, and of statements.
-use Rattle.std.proofs.Common.{◌≡◌, ◌⊎◌, inl, inr, ◌∙◌, sym, ap, subst, refl, ℕ, List, [], ◌∷◌, map, Bool, true, false}
+use Rattle.std.proofs.Common.{◌≡◌, inl, inr, ◌∙◌, sym, ap, subst, refl, ℕ, List, [], ◌∷◌, map, Bool, true, false}
 use Rattle.std.specs.Prelude.{Ok, Err, Option, Some, None, not}
 use Rattle.ckc_base.specs.declared.places.Pos.{Pos}
 use Rattle.ckc_base.specs.Outcomes.{Outcome, bind, unless, in_order, in_turn, there_or}
 use Rattle.ckc_syntax.specs.declared.tree.Name.{Name}
 use Rattle.ckc_syntax.specs.declared.tree.Init.TheVariants as init
-use Rattle.ckc_syntax.specs.declared.tree.Act.{Act-F, map-Act, ind-Act, roll-Act, fold-roll-Act}
+use Rattle.ckc_syntax.specs.declared.tree.Act.{Act-F, map-Act, roll-Act, fold-roll-Act}
 use Rattle.ckc_syntax.specs.declared.tree.Stmt.{Stmt-F, map-Stmt, ind-Stmt, roll-Stmt, fold-roll-Stmt}
 use Rattle.ckc_typed.specs.declared.typed.Note.{Note}
 use Rattle.ckc_typed.specs.Types.{type_written}
@@ -20,8 +20,8 @@ use Rattle.ckc_syntax.specs.declared.tree.Length.TheVariants as lengths
 use Rattle.ckc_syntax.specs.declared.tree.Act.TheVariants as act
 use Rattle.ckc_declared.specs.Written.{bounds_declared, bounds_taken, bad_limits, place_of_limits}
 use Rattle.ckc_ranges.specs.Bundles.{is_bundle}
-use Rattle.ckc_bounds.specs.Declarations.{decl_bounds, bounds_there, result_bounds, holder_of, each, head_judged}
-use Rattle.ckc_bounds.specs.Paths.{Here, value_judged, values_judged, maybe_judged, init_judged, starts_within, declared_here, stated, gone, decl_judged, all_judged, parts_judged, bundle_judged, sides_judged, behind_stores, is_returned, not_contained, bad_bundle, branched, for_started, loop_head, to_step, Path, ActPath, act_path, stmt_path, path_of_act, path, there_assigned}
+use Rattle.ckc_bounds.specs.Declarations.{decl_bounds, bounds_there, holder_of, each, head_judged}
+use Rattle.ckc_bounds.specs.Paths.{Here, value_judged, maybe_judged, init_judged, starts_within, declared_here, stated, gone, decl_judged, all_judged, parts_judged, bundle_judged, sides_judged, behind_stores, is_returned, not_contained, bad_bundle, branched, for_started, Path, ActPath, act_path, stmt_path, path_of_act, path}
 use Rattle.ckc_bounds.specs.Phase.{IsBoundsCode}
 
 abbrev pub HasCode : {A : Type 0} → Outcome A → Type 0

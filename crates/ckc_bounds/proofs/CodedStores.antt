@@ -1,12 +1,11 @@
 -- Which codes the refusals of the bounds phase have: of assignments.
-use Rattle.std.proofs.Common.{◌≡◌, ◌⊎◌, inl, inr, refl, ℕ, List}
+use Rattle.std.proofs.Common.{◌≡◌, inl, inr, refl, ℕ, List}
 use Rattle.std.specs.Prelude.{Ok, Err}
 use Rattle.ckc_base.specs.declared.places.Refusal.{Refusal}
 use Rattle.ckc_base.specs.Outcomes.{Outcome}
 use Rattle.ckc_typed.specs.Trees.{NotedStmt}
 use Rattle.ckc_points.specs.declared.frame.HeadBounds.{HeadBounds}
 use Rattle.ckc_points.specs.declared.frame.Frame.{Frame}
-use Rattle.ckc_points.specs.Flow.{State}
 use Rattle.ckc_stores.specs.Stores.{stores_of, stored}
 use Rattle.ckc_stores.proofs.Coded.{IsStoreCode, stored_coded}
 use Rattle.ckc_bounds.specs.Paths.{Here, behind_stores}

@@ -1,8 +1,8 @@
 -- Which codes the refusals of the bounds phase have: of items and of whole texts.
 use Rattle.std.proofs.Common.{◌≡◌, subst, ℕ, List}
-use Rattle.std.specs.Prelude.{Ok, Err}
+use Rattle.std.specs.Prelude.{Err}
 use Rattle.ckc_base.specs.declared.places.Refusal.{Refusal}
-use Rattle.ckc_base.specs.Outcomes.{Outcome, bind}
+use Rattle.ckc_base.specs.Outcomes.{Outcome}
 use Rattle.ckc_syntax.specs.declared.tree.Item.TheVariants as item
 use Rattle.ckc_typed.specs.declared.typed.Typed.{Typed}
 use Rattle.ckc_typed.specs.Trees.{NotedDecl, NotedExpr, NotedHead, NotedItem, NotedStmt}
@@ -11,7 +11,7 @@ use Rattle.ckc_points.specs.declared.frame.Frame.{Frame}
 use Rattle.ckc_bounds.specs.Declarations.{decl_bounds, member_holder, types_in, head_bounds}
 use Rattle.ckc_bounds.specs.Paths.{Here, value_judged, behind_stores}
 use Rattle.ckc_bounds.specs.Frames.{text_frame, function_frame, begin_of}
-use Rattle.ckc_bounds.specs.Texts.{outside, object_judged, body_judged, item_judged, items_judged, text_judged}
+use Rattle.ckc_bounds.specs.Texts.{outside, object_judged, body_judged, item_judged, text_judged}
 use Rattle.ckc_bounds.specs.Phase.{bounding, IsBoundsCode}
 use Rattle.ckc_bounds.proofs.Coded.{HasCode, bound, listed, each_coded, decl_coded, there_bounds_coded, head_coded, init_coded, stmt_coded}
 

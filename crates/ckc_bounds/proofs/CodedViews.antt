@@ -1,19 +1,18 @@
 -- Which codes the refusals of the bounds phase have: of expressions.
-use Rattle.std.proofs.Common.{◌≡◌, ◌⊎◌, inl, inr, ◌∙◌, sym, ap, subst, refl, ℕ, List, [], ◌∷◌, map, Bool, true, false, if◌then◌else◌}
-use Rattle.std.specs.Prelude.{Ok, Err, Option, Some, None, not, slice_get}
-use Rattle.std.specs.Option.{option_map}
+use Rattle.std.proofs.Common.{◌≡◌, inl, inr, ◌∙◌, sym, ap, subst, refl, ℕ, List, [], ◌∷◌, map, Bool, true, false, if◌then◌else◌}
+use Rattle.std.specs.Prelude.{Ok, Option, Some, None, not, slice_get}
 use Rattle.ckc_base.specs.declared.places.Pos.{Pos}
 use Rattle.ckc_base.specs.declared.places.Refusal.{Refusal}
-use Rattle.ckc_base.specs.Outcomes.{Outcome, bind, unless}
+use Rattle.ckc_base.specs.Outcomes.{Outcome}
 use Rattle.ckc_types.specs.declared.types.CType.{CType}
 use Rattle.ckc_syntax.specs.declared.tree.Name.{Name}
 use Rattle.ckc_syntax.specs.declared.tree.Name.TheVariants as name
 use Rattle.ckc_syntax.specs.declared.tree.TreeOp.{TreeOp}
 use Rattle.ckc_syntax.specs.declared.tree.TreeOp.TheVariants as op
-use Rattle.ckc_syntax.specs.declared.tree.Limits.{Limits, Limits-F, map-Limits, ind-Limits, roll-Limits, fold-roll-Limits}
+use Rattle.ckc_syntax.specs.declared.tree.Limits.{Limits-F, map-Limits, roll-Limits, fold-roll-Limits}
 use Rattle.ckc_syntax.specs.declared.tree.Limits.TheVariants as limits
-use Rattle.ckc_syntax.specs.declared.tree.Node.{Node, Node-F, map-Node, roll-Node, fold-roll-Node}
-use Rattle.ckc_syntax.specs.declared.tree.Expr.{Expr, Expr-F, map-Expr, ind-Expr, roll-Expr, fold-roll-Expr}
+use Rattle.ckc_syntax.specs.declared.tree.Node.{Node-F, map-Node, roll-Node, fold-roll-Node}
+use Rattle.ckc_syntax.specs.declared.tree.Expr.{Expr-F, map-Expr, ind-Expr, roll-Expr, fold-roll-Expr}
 use Rattle.ckc_typed.specs.declared.typed.Note.{Note}
 use Rattle.ckc_typed.specs.Trees.{NotedLimits, NotedNode, NotedExpr}
 use Rattle.ckc_points.specs.declared.frame.HeadBounds.{HeadBounds}
