@@ -146,7 +146,8 @@ pub fn local(
     d: &Decl<Name, Note>,
     walk: &mut Walk,
 ) -> Result<Stmt<Name, Note>, Fault>
-    ensures { StepsOutcome result (here walk.new) (local_judged frame.now at note d.now (here walk.old)) }
+    ensures { StepsOutcome result (here walk.new)
+        (local_judged frame.now at note d.now (here walk.old)) }
 {
     let judged = judge_decl(alloc, frame, d, walk)?;
     let boxed = Boxed::new(alloc, judged)?;
@@ -163,7 +164,8 @@ pub fn sides(
     f: &Expr<Name, Note>,
     walk: &mut Walk,
 ) -> Result<Stmt<Name, Note>, Fault>
-    ensures { StepsOutcome result (here walk.new) (sides_judged frame.now at note e.now f.now (here walk.old)) }
+    ensures { StepsOutcome result (here walk.new)
+        (sides_judged frame.now at note e.now f.now (here walk.old)) }
 {
     let e = boxed_value(alloc, frame, e, walk)?;
     let f = boxed_value(alloc, frame, f, walk)?;
@@ -179,7 +181,8 @@ pub fn pass_stores(
     first: u32,
     walk: &mut Walk,
 ) -> Result<(), Fault>
-    ensures { Threads result (here walk.new) (behind_stores frame.now head.now ss.now first (here walk.old)) }
+    ensures { Threads result (here walk.new)
+        (behind_stores frame.now head.now ss.now first (here walk.old)) }
 {
     stored(
         alloc,
@@ -203,7 +206,8 @@ pub fn assignment(
     f: &Expr<Name, Note>,
     walk: &mut Walk,
 ) -> Result<Stmt<Name, Note>, Fault>
-    ensures { StepsOutcome result (here walk.new) (assign_judged frame.now head.now at note e.now f.now (here walk.old)) }
+    ensures { StepsOutcome result (here walk.new)
+        (assign_judged frame.now head.now at note e.now f.now (here walk.old)) }
 {
     let first = walk.next;
     let s = sides(alloc, frame, at, note, e, f, walk)?;
@@ -220,7 +224,8 @@ pub fn call(
     e: &Expr<Name, Note>,
     walk: &mut Walk,
 ) -> Result<Stmt<Name, Note>, Fault>
-    ensures { StepsOutcome result (here walk.new) (call_judged frame.now at note e.now (here walk.old)) }
+    ensures { StepsOutcome result (here walk.new)
+        (call_judged frame.now at note e.now (here walk.old)) }
 {
     let e = boxed_value(alloc, frame, e, walk)?;
     Ok(stated(at, note, Act::Call(e)))
@@ -235,7 +240,8 @@ pub fn check(
     e: &Expr<Name, Note>,
     walk: &mut Walk,
 ) -> Result<Stmt<Name, Note>, Fault>
-    ensures { StepsOutcome result (here walk.new) (check_judged frame.now at note e.now (here walk.old)) }
+    ensures { StepsOutcome result (here walk.new)
+        (check_judged frame.now at note e.now (here walk.old)) }
 {
     let e = boxed_value(alloc, frame, e, walk)?;
     take_side(alloc, frame, e.get(), true, &mut walk.at)?;
@@ -259,7 +265,8 @@ pub fn jump(
     body: Act<Name, Note>,
     walk: &mut Walk,
 ) -> Result<Stmt<Name, Note>, Fault>
-    ensures { StepsOutcome result (here walk.new) (Ok (stated at note body, gone frame.now (here walk.old))) }
+    ensures { StepsOutcome result (here walk.new)
+        (Ok (stated at note body, gone frame.now (here walk.old))) }
 {
     leave(alloc, frame, walk)?;
     Ok(stated(at, note, body))
@@ -291,7 +298,8 @@ pub fn result(
     e: &Option<Boxed<Expr<Name, Note>>>,
     walk: &mut Walk,
 ) -> Result<Stmt<Name, Note>, Fault>
-    ensures { StepsOutcome result (here walk.new) (return_judged frame.now head.now at note e.now (here walk.old)) }
+    ensures { StepsOutcome result (here walk.new)
+        (return_judged frame.now head.now at note e.now (here walk.old)) }
 {
     let first = walk.next;
     let e = maybe_value(alloc, frame, e, walk)?;

@@ -78,13 +78,10 @@ fn scope_of(alloc: Global, params: &[Decl<Name, Note>]) -> Result<Seq<u32>, Allo
     Ok(seen)
 }
 
-fn begin(
-    alloc: Global,
-    frame: &Frame,
-    h: &Head<Name, Note>,
-    next: u32,
-) -> Result<Walk, AllocError>
-    ensures { IfOk result (λ w. here w ≡ record { seen = flat_map name_seen h.now.params; at = entry frame.now; next = next }) }
+fn begin(alloc: Global, frame: &Frame, h: &Head<Name, Note>, next: u32) -> Result<Walk, AllocError>
+    ensures { IfOk result
+        (λ w. here w ≡ record
+        { seen = flat_map name_seen h.now.params; at = entry frame.now; next = next }) }
 {
     let seen = scope_of(alloc, h.params.as_slice())?;
     let at = entry(alloc, frame)?;

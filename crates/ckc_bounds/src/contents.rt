@@ -39,9 +39,12 @@ fn add_target(e: &Expr<Name, Note>, all: &mut Seq<u32>) -> Result<(), AllocError
 
 #[cycle(contents)]
 fn add_act(act: &Act<Name, Note>, all: &mut Contents) -> Result<(), AllocError>
-    ensures assigned { OnOk result (all.new.assigned ≡ all.old.assigned ++ (path_of_act act.now).assigned) }
-    ensures breaks { OnOk result (all.new.breaks ≡ (all.old.breaks || (path_of_act act.now).breaks)) }
-    ensures continues { OnOk result (all.new.continues ≡ (all.old.continues || (path_of_act act.now).continues)) }
+    ensures assigned { OnOk result
+        (all.new.assigned ≡ all.old.assigned ++ (path_of_act act.now).assigned) }
+    ensures breaks { OnOk result
+        (all.new.breaks ≡ (all.old.breaks || (path_of_act act.now).breaks)) }
+    ensures continues { OnOk result
+        (all.new.continues ≡ (all.old.continues || (path_of_act act.now).continues)) }
 {
     match act {
         Act::Block(_, ss) | Act::Bundle(ss) => add_stmts(ss.as_slice(), all),
@@ -84,16 +87,20 @@ fn add_act(act: &Act<Name, Note>, all: &mut Contents) -> Result<(), AllocError>
 pub fn add_stmt(s: &Stmt<Name, Note>, all: &mut Contents) -> Result<(), AllocError>
     ensures assigned { OnOk result (all.new.assigned ≡ all.old.assigned ++ (path s.now).assigned) }
     ensures breaks { OnOk result (all.new.breaks ≡ (all.old.breaks || (path s.now).breaks)) }
-    ensures continues { OnOk result (all.new.continues ≡ (all.old.continues || (path s.now).continues)) }
+    ensures continues { OnOk result
+        (all.new.continues ≡ (all.old.continues || (path s.now).continues)) }
 {
     add_act(&s.body, all)
 }
 
 #[cycle(contents)]
 fn add_stmts(ss: &[Stmt<Name, Note>], all: &mut Contents) -> Result<(), AllocError>
-    ensures assigned { OnOk result (all.new.assigned ≡ all.old.assigned ++ all_assigned (map path ss.now)) }
-    ensures breaks { OnOk result (all.new.breaks ≡ (all.old.breaks || some_break (map path ss.now))) }
-    ensures continues { OnOk result (all.new.continues ≡ (all.old.continues || some_continue (map path ss.now))) }
+    ensures assigned { OnOk result
+        (all.new.assigned ≡ all.old.assigned ++ all_assigned (map path ss.now)) }
+    ensures breaks { OnOk result
+        (all.new.breaks ≡ (all.old.breaks || some_break (map path ss.now))) }
+    ensures continues { OnOk result
+        (all.new.continues ≡ (all.old.continues || some_continue (map path ss.now))) }
 {
     for s in ss {
         add_stmt(s, all)?;
@@ -103,10 +110,16 @@ fn add_stmts(ss: &[Stmt<Name, Note>], all: &mut Contents) -> Result<(), AllocErr
 
 /// Adds the same of a statement that may be left out.
 #[cycle(contents)]
-pub fn add_part(part: &Option<Boxed<Stmt<Name, Note>>>, all: &mut Contents) -> Result<(), AllocError>
-    ensures assigned { OnOk result (all.new.assigned ≡ all.old.assigned ++ there_assigned (option_map path part.now)) }
-    ensures breaks { OnOk result (all.new.breaks ≡ (all.old.breaks || there_breaks (option_map path part.now))) }
-    ensures continues { OnOk result (all.new.continues ≡ (all.old.continues || there_continues (option_map path part.now))) }
+pub fn add_part(
+    part: &Option<Boxed<Stmt<Name, Note>>>,
+    all: &mut Contents,
+) -> Result<(), AllocError>
+    ensures assigned { OnOk result
+        (all.new.assigned ≡ all.old.assigned ++ there_assigned (option_map path part.now)) }
+    ensures breaks { OnOk result
+        (all.new.breaks ≡ (all.old.breaks || there_breaks (option_map path part.now))) }
+    ensures continues { OnOk result
+        (all.new.continues ≡ (all.old.continues || there_continues (option_map path part.now))) }
 {
     match part {
         None => Ok(()),

@@ -164,10 +164,7 @@ fn boxed_expr(alloc: Global, e: &Expr<Name, Note>) -> Result<Boxed<Expr<Name, No
 }
 
 #[cycle(copied)]
-fn copied_exprs(
-    alloc: Global,
-    es: &[Expr<Name, Note>],
-) -> Result<Seq<Expr<Name, Note>>, AllocError>
+fn copied_exprs(alloc: Global, es: &[Expr<Name, Note>]) -> Result<Seq<Expr<Name, Note>>, AllocError>
     ensures { IfOk result (λ cs. cs ≡ es.now) }
 {
     let mut all = Seq::new(alloc);

@@ -58,19 +58,13 @@ pub fn result_bounds(alloc: Global, frame: &Frame, h: &Head<Name, Note>) -> Resu
     ensures { AnswersOutcome result (result_bounds frame.now h.now) }
 {
     let t = type_written(alloc, &h.result)?;
-    bounds_declared(
-        alloc,
-        frame,
-        Holder::Result,
-        &t,
-        Length::Plain,
-        &h.bounds,
-    )
+    bounds_declared(alloc, frame, Holder::Result, &t, Length::Plain, &h.bounds)
 }
 
 /// Bounds that are refused are unknown.
 fn known_or_not(bounds: Result<Bounds, Fault>) -> Result<Bounds, AllocError>
-    ensures { (o : Outcome Bounds) → AnswersOutcome bounds o → IfOk result (λ b. b ≡ known_or_not o) }
+    ensures { (o : Outcome Bounds) → AnswersOutcome bounds o
+        → IfOk result (λ b. b ≡ known_or_not o) }
 {
     match bounds {
         Ok(b) => Ok(b),

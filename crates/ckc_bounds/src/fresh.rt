@@ -156,7 +156,8 @@ fn add_part(
     part: &Option<Boxed<Stmt<Name, Note>>>,
     all: &mut Seq<Local>,
 ) -> Result<(), AllocError>
-    ensures { OnOk result (all.new ≡ all.old ++ map bare (there_fresh frame.now (option_map path part.now))) }
+    ensures { OnOk result
+        (all.new ≡ all.old ++ map bare (there_fresh frame.now (option_map path part.now))) }
 {
     match part {
         None => Ok(()),

@@ -29,7 +29,8 @@ pub fn set_types(
 
 /// What a head says of bounds, in a frame with its parameters as the locals.
 fn head_in(alloc: Global, frame: &Frame, h: &Head<Name, Note>) -> Result<HeadBounds, AllocError>
-    ensures { (text : Frame) → frame.now ≡ types_in text h.now.params → IfOk result (λ r. r ≡ head_bounds text h.now) }
+    ensures { (text : Frame) → frame.now ≡ types_in text h.now.params
+        → IfOk result (λ r. r ≡ head_bounds text h.now) }
 {
     let mut params = Seq::new(alloc);
     add_params(alloc, frame, true, h.params.as_slice(), &mut params)?;

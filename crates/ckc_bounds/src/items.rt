@@ -25,7 +25,9 @@ fn judge_struct(
     ms: &[Decl<Name, Note>],
     at: Pos,
 ) -> Result<Item<Name, Note>, Fault>
-    ensures judged { AnswersOutcome result (bind (members_judged (text_of frame.old) (member_holder n) ms.now) (λ u. Ok (item.Struct n ms.now at))) }
+    ensures judged { AnswersOutcome result
+        (bind (members_judged (text_of frame.old) (member_holder n) ms.now)
+        (λ u. Ok (item.Struct n ms.now at))) }
     ensures kept { OnOk result (text_of frame.new ≡ text_of frame.old) }
 {
     clear(alloc, frame);
@@ -45,11 +47,7 @@ fn outside(alloc: Global, frame: &Frame) -> Result<Walk, AllocError>
     })
 }
 
-fn judge_decl(
-    alloc: Global,
-    frame: &Frame,
-    d: &Decl<Name, Note>,
-) -> Result<Decl<Name, Note>, Fault>
+fn judge_decl(alloc: Global, frame: &Frame, d: &Decl<Name, Note>) -> Result<Decl<Name, Note>, Fault>
     ensures { AnswersOutcome result (object_judged frame.now d.now) }
 {
     bounds_there(alloc, frame, d)?;
@@ -64,7 +62,8 @@ fn judge_object(
     frame: &mut Frame,
     d: &Decl<Name, Note>,
 ) -> Result<Item<Name, Note>, Fault>
-    ensures judged { AnswersOutcome result (bind (object_judged (text_of frame.old) d.now) (λ e. Ok (item.Static e))) }
+    ensures judged { AnswersOutcome result
+        (bind (object_judged (text_of frame.old) d.now) (λ e. Ok (item.Static e))) }
     ensures kept { OnOk result (text_of frame.new ≡ text_of frame.old) }
 {
     clear(alloc, frame);
@@ -92,7 +91,8 @@ fn judge_proto(
     frame: &mut Frame,
     h: &Head<Name, Note>,
 ) -> Result<Item<Name, Note>, Fault>
-    ensures judged { AnswersOutcome result (bind (head_kept (text_of frame.old) h.now) (λ g. Ok (item.Proto g))) }
+    ensures judged { AnswersOutcome result
+        (bind (head_kept (text_of frame.old) h.now) (λ g. Ok (item.Proto g))) }
     ensures kept { OnOk result (text_of frame.new ≡ text_of frame.old) }
 {
     let head = judge_head(alloc, frame, h)?;

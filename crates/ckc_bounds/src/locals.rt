@@ -44,7 +44,8 @@ fn add_local(
     d: &Decl<Name, Note>,
     all: &mut Seq<Local>,
 ) -> Result<(), AllocError>
-    ensures { OnOk result (all.new ≡ all.old ++ local_made frame.now bounded (length all.old) d.now ∷ []) }
+    ensures { OnOk result
+        (all.new ≡ all.old ++ local_made frame.now bounded (length all.old) d.now ∷ []) }
 {
     let count = all.len();
     if count >= 1024 {
@@ -79,7 +80,8 @@ fn add_act(
     act: &Act<Name, Note>,
     all: &mut Seq<Local>,
 ) -> Result<(), AllocError>
-    ensures { OnOk result (all.new ≡ with_all frame.now bounded all.old (path_of_act act.now).declared) }
+    ensures { OnOk result
+        (all.new ≡ with_all frame.now bounded all.old (path_of_act act.now).declared) }
 {
     match act {
         Act::Block(_, ss) | Act::Bundle(ss) => add_stmts(alloc, frame, bounded, ss.as_slice(), all),
@@ -122,7 +124,8 @@ fn add_stmts(
     ss: &[Stmt<Name, Note>],
     all: &mut Seq<Local>,
 ) -> Result<(), AllocError>
-    ensures { OnOk result (all.new ≡ with_all frame.now bounded all.old (all_declared (map path ss.now))) }
+    ensures { OnOk result
+        (all.new ≡ with_all frame.now bounded all.old (all_declared (map path ss.now))) }
 {
     for s in ss {
         add_stmt(alloc, frame, bounded, s, all)?;
@@ -138,7 +141,8 @@ fn add_part(
     part: &Option<Boxed<Stmt<Name, Note>>>,
     all: &mut Seq<Local>,
 ) -> Result<(), AllocError>
-    ensures { OnOk result (all.new ≡ with_all frame.now bounded all.old (there_declared (option_map path part.now))) }
+    ensures { OnOk result
+        (all.new ≡ with_all frame.now bounded all.old (there_declared (option_map path part.now))) }
 {
     match part {
         None => Ok(()),

@@ -56,7 +56,8 @@ pub fn judge_branch(
     e: &Expr<Name, Note>,
     walk: &mut Walk,
 ) -> Result<Branch, Fault>
-    ensures { StepsOutcome (viewed branch result) (here walk.new) (branched frame.now left e.now (here walk.old)) }
+    ensures { StepsOutcome (viewed branch result) (here walk.new)
+        (branched frame.now left e.now (here walk.old)) }
 {
     let condition = boxed_value(alloc, frame, e, walk)?;
     let other = other_side(alloc, frame, left, condition.get(), &walk.at)?;
@@ -74,7 +75,8 @@ pub fn turn(walk: &mut Walk, other: Point) -> Point
 
 /// Joins the end of one branch with that of the other.
 pub fn join_ends(alloc: Global, end: Point, walk: &mut Walk) -> Result<(), AllocError>
-    ensures { OnOk result (here walk.new ≡ record (here walk.old) { at = joined (state end) (here walk.old).at }) }
+    ensures { OnOk result
+        (here walk.new ≡ record (here walk.old) { at = joined (state end) (here walk.old).at }) }
 {
     let other = replace(&mut walk.at, end);
     join(alloc, &mut walk.at, other)
@@ -166,7 +168,8 @@ fn judge_start(
     e: &Option<Boxed<Expr<Name, Note>>>,
     walk: &mut Walk,
 ) -> Result<Start, Fault>
-    ensures { StepsOutcome (viewed start result) (here walk.new) (for_started frame.now left continued e.now (here walk.old)) }
+    ensures { StepsOutcome (viewed start result) (here walk.new)
+        (for_started frame.now left continued e.now (here walk.old)) }
 {
     let condition = maybe_value(alloc, frame, e, walk)?;
     let other = maybe_other(alloc, frame, left, &condition, &walk.at)?;
@@ -188,7 +191,8 @@ pub fn enter_for(
     step: &Option<Boxed<Stmt<Name, Note>>>,
     walk: &mut Walk,
 ) -> Result<Start, Fault>
-    ensures { let b = path s.now in let ks = b.assigned ++ there_assigned (option_map path step.now) in
+    ensures { let b = path s.now in let ks = b.assigned ++ there_assigned (option_map path step.now)
+        in
         StepsOutcome (viewed start result) (here walk.new) (for_started frame.now b.breaks b.continues e.now (loop_head frame.now ks (here walk.old))) }
 {
     let mut contents = contents_of(alloc, s)?;

@@ -6,7 +6,9 @@ ghost use Rattle.ckc_base.specs.Outcomes.{StepsOutcome};
 ghost use Rattle.ckc_bounds.specs.Paths.{all_judged, part_judged, parts_judged, bundle_judged, path, path_of_act};
 ghost use Rattle.ckc_bounds.specs.Walks.{here};
 
-use crate::acts::{assignment, call, check, close, jump, local, pass_stores, result, sides, stated};
+use crate::acts::{
+    assignment, call, check, close, jump, local, pass_stores, result, sides, stated,
+};
 use crate::copies::copied_note;
 use crate::loops::{Branch, Start, enter_for, enter_while, join_ends, judge_branch, to_step, turn};
 use crate::walk::Walk;
@@ -25,7 +27,8 @@ fn judge_side(
     s: &Stmt<Name, Note>,
     walk: &mut Walk,
 ) -> Result<Stmt<Name, Note>, Fault>
-    ensures { StepsOutcome result (here walk.new) ((path s.now).part frame.now bundle (here walk.old)) }
+    ensures { StepsOutcome result (here walk.new)
+        ((path s.now).part frame.now bundle (here walk.old)) }
 {
     match &s.body {
         Act::Assign(e, f) => {
@@ -43,7 +46,8 @@ fn judge_sides(
     ss: &[Stmt<Name, Note>],
     walk: &mut Walk,
 ) -> Result<Seq<Stmt<Name, Note>>, Fault>
-    ensures { StepsOutcome result (here walk.new) (parts_judged frame.now bundle (map path ss.now) (here walk.old)) }
+    ensures { StepsOutcome result (here walk.new)
+        (parts_judged frame.now bundle (map path ss.now) (here walk.old)) }
 {
     let mut all = Seq::new(alloc);
     for s in ss {
@@ -64,7 +68,8 @@ fn judge_bundle(
     ss: &[Stmt<Name, Note>],
     walk: &mut Walk,
 ) -> Result<Stmt<Name, Note>, Fault>
-    ensures { StepsOutcome result (here walk.new) (bundle_judged frame.now head.now at note (map path ss.now) (here walk.old)) }
+    ensures { StepsOutcome result (here walk.new)
+        (bundle_judged frame.now head.now at note (map path ss.now) (here walk.old)) }
 {
     let first = walk.next;
     let all = judge_sides(alloc, frame, at, ss, walk)?;
@@ -86,7 +91,8 @@ fn judge_act(
     note: Note,
     walk: &mut Walk,
 ) -> Result<Stmt<Name, Note>, Fault>
-    ensures { StepsOutcome result (here walk.new) ((path_of_act act.now).judged frame.now head.now at note (here walk.old)) }
+    ensures { StepsOutcome result (here walk.new)
+        ((path_of_act act.now).judged frame.now head.now at note (here walk.old)) }
 {
     match act {
         Act::Block(m, ss) => {
@@ -108,8 +114,7 @@ fn judge_act(
             Ok(stated(at, note, Act::If(condition, s, t)))
         }
         Act::While(e, s) => {
-            let Branch { condition, other } =
-                enter_while(alloc, frame, e.get(), s.get(), walk)?;
+            let Branch { condition, other } = enter_while(alloc, frame, e.get(), s.get(), walk)?;
             let s = boxed_stmt(alloc, frame, head, s.get(), walk)?;
             walk.at = other;
             Ok(stated(at, note, Act::While(condition, s)))
@@ -146,7 +151,8 @@ pub fn judge_stmt(
     s: &Stmt<Name, Note>,
     walk: &mut Walk,
 ) -> Result<Stmt<Name, Note>, Fault>
-    ensures { StepsOutcome result (here walk.new) ((path s.now).judged frame.now head.now (here walk.old)) }
+    ensures { StepsOutcome result (here walk.new)
+        ((path s.now).judged frame.now head.now (here walk.old)) }
 {
     let note = copied_note(alloc, &s.note)?;
     judge_act(alloc, frame, head, &s.body, s.pos, note, walk)
@@ -161,7 +167,8 @@ fn boxed_stmt(
     s: &Stmt<Name, Note>,
     walk: &mut Walk,
 ) -> Result<Boxed<Stmt<Name, Note>>, Fault>
-    ensures { StepsOutcome result (here walk.new) ((path s.now).judged frame.now head.now (here walk.old)) }
+    ensures { StepsOutcome result (here walk.new)
+        ((path s.now).judged frame.now head.now (here walk.old)) }
 {
     let judged = judge_stmt(alloc, frame, head, s, walk)?;
     let boxed = Boxed::new(alloc, judged)?;
@@ -177,7 +184,8 @@ fn judge_stmts(
     ss: &[Stmt<Name, Note>],
     walk: &mut Walk,
 ) -> Result<Seq<Stmt<Name, Note>>, Fault>
-    ensures { StepsOutcome result (here walk.new) (all_judged frame.now head.now (map path ss.now) (here walk.old)) }
+    ensures { StepsOutcome result (here walk.new)
+        (all_judged frame.now head.now (map path ss.now) (here walk.old)) }
 {
     let mut all = Seq::new(alloc);
     for s in ss {
@@ -196,7 +204,8 @@ fn judge_part(
     part: &Option<Boxed<Stmt<Name, Note>>>,
     walk: &mut Walk,
 ) -> Result<Option<Boxed<Stmt<Name, Note>>>, Fault>
-    ensures { StepsOutcome result (here walk.new) (part_judged frame.now head.now (option_map path part.now) (here walk.old)) }
+    ensures { StepsOutcome result (here walk.new)
+        (part_judged frame.now head.now (option_map path part.now) (here walk.old)) }
 {
     match part {
         None => Ok(None),

@@ -7,10 +7,10 @@ ghost use Rattle.ckc_bounds.specs.Paths.{side_of, value_judged, values_judged, m
 ghost use Rattle.ckc_bounds.specs.Walks.{here};
 
 use ckc_base::{Boxed, Fault, Seq};
+use ckc_judged::judge;
 use ckc_points::{Frame, Point};
 use ckc_syntax::{Expr, Init, Name};
 use ckc_typed::Note;
-use ckc_judged::judge;
 use ckc_views::{count_fresh, to_side};
 use std::alloc::{AllocError, Global};
 

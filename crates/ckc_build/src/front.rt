@@ -39,7 +39,8 @@ fn judged<'a>(alloc: Global, tree: Tree<Spelling<'a>, ()>) -> Result<Typed, Faul
 
 /// The tree with what its names mean, its types and the ranges of its pointers.
 fn typed<'a>(alloc: Global, tree: Tree<Spelling<'a>, ()>) -> Result<Typed, Fault>
-    ensures exact { Exact (naming >=> supporting >=> typing >=> scoping >=> bounding) tree.entry result }
+    ensures exact { Exact (naming >=> supporting >=> typing >=> scoping >=> bounding) tree.entry
+        result }
 {
     let named = resolve(alloc, tree)?;
     supported(&named)?;

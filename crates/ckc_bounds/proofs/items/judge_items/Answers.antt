@@ -25,8 +25,8 @@ returns-in_err-judged-clause-judged c =
 pub loop-item-preserved : goal.loop-item-preserved
 loop-item-preserved c = record {
   judged =
-    turn_done (item_judged (text_of c.args.frame.now)) c.args.items.now c.loop-item.item-index _ _ c.loop-item.invariant.judged c.item-item.result c.in_ok-judged.judged _ c.loop-item-test.true c.item-item.is
-    (ap (λ (t : Frame). item_judged t c.item-item.result) (sym c.loop-item.invariant.kept) ∙ c.in_ok-judged.ensures.judged) c.in_ok-push.ensures.ok;
+      turn_done (item_judged (text_of c.args.frame.now)) c.args.items.now c.loop-item.item-index _ _ c.loop-item.invariant.judged c.item-item.result c.in_ok-judged.judged _ c.loop-item-test.true c.item-item.is
+      (ap (λ (t : Frame). item_judged t c.item-item.result) (sym c.loop-item.invariant.kept) ∙ c.in_ok-judged.ensures.judged) c.in_ok-push.ensures.ok;
   kept = c.in_ok-judged.ensures.kept ∙ c.loop-item.invariant.kept;
 }
 
