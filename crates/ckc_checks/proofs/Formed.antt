@@ -31,8 +31,8 @@ use Rattle.ckc_source.specs.Words.{divides}
 use Rattle.ckc_core.specs.Code.{Expr, Const, Local, Load, Bin, Code, End, Set, Check, Function}
 use Rattle.ckc_core.specs.WellFormed.{IsExprOver, IsCodeOver, IsFunctionOver, IsWellFormed, HasParams, IsPlace}
 use Rattle.ckc_checks.specs.Compilable as form
-use Rattle.ckc_checks.specs.Compilable.{IsBase, IsVariable, IsSmall, IsEnd, IsFixed, IsJudged, IsRanged, IsAccess, IsChecked, IsCompilableExpr, IsCompilablePart, IsCompilableTarget, IsCompilableRight, IsCompilableKept, IsCompilableCode, IsCompilableFunction, IsCompilable}
-use Rattle.ckc_checks.specs.Inserted.{is_direct, operated, low_byte, as_truth, is_zero, scaled, shifted, at_offset, element_of, place_at, held, put_if, room_if, keeps_index, is_bounded, reads_signed, exact_test, exact_code, base_at, amount_at, end_at, counted_end, range_end, upper_test, range_test, bounded_code, judged, pointer_at, index_at, reached_code, reached_place, reached_room, direct, operand, operation_code, expr_code, operand_code, operands_code, operands, expr_room, operand_room, operands_room, is_narrow, kept_in, aim_code, target_count, written, fixed, written_there, right_assigned, target_room, aimed_room, assigned_room, result_in, result_kept, statements, room, zeroed, function_code, inserted}
+use Rattle.ckc_checks.specs.Compilable.{IsBase, IsVariable, IsSmall, IsEnd, IsFixed, IsJudged, IsRanged, IsAccess, IsChecked, IsCompilableExpr, IsCompilablePart, IsCompilableTarget, IsCompilableRight, IsCompilableAssign, IsCompilableKept, IsCompilableCode, IsCompilableFunction, IsCompilable}
+use Rattle.ckc_checks.specs.Inserted.{is_direct, operated, low_byte, as_truth, is_zero, scaled, shifted, at_offset, element_of, place_at, held, put_if, room_if, keeps_index, is_bounded, reads_signed, exact_test, exact_code, base_at, amount_at, end_at, counted_end, range_end, upper_test, range_test, bounded_code, judged, pointer_at, index_at, reached_code, reached_place, reached_room, direct, operand, operation_code, expr_code, operand_code, operands_code, operands, expr_room, operand_room, operands_room, is_narrow, kept_in, aim_code, target_count, written, fixed, written_there, right_assigned, valued, behind_planned, plans_code, writes_code, bundle_code, target_room, aimed_room, assigned_room, valued_room, bundle_room, result_in, result_kept, statements, room, zeroed, function_code, inserted}
 
 -- an expression needs a temporary for its value
 pub expr_room_some : (e : source.Expr) → 1 ≤ expr_room e
@@ -350,14 +350,14 @@ module _ (few locals : ℕ) (more : few ≤ locals) where
         operand_code_over e t (operands_code es (t + 1) rest) (All-head (IsCompilablePart few) e es h).0 (omega arith)
         (operands_code_over es (t + 1) rest (All-tail (IsCompilablePart few) e es h) (omega arith) over)
 
-    aim_over : (target : source.Target) (rest : Code) → IsCompilableTarget few target → few + target_room target ≤ locals → Over rest → Over (aim_code target few rest)
-    aim_over source.Nothing rest h fits over = over
-    aim_over (source.Variable y w) rest h fits over = over
-    aim_over (source.Memory w access p i) rest h fits over =
+    aim_over : (target : source.Target) (t : ℕ) (rest : Code) → IsCompilableTarget few target → t + target_room target ≤ locals → Over rest → Over (aim_code target t rest)
+    aim_over source.Nothing t rest h fits over = over
+    aim_over (source.Variable y w) t rest h fits over = over
+    aim_over (source.Memory w access p i) t rest h fits over =
         let pointer = h.1 in
         let index = h.2 in
-        reached_over access p i few rest h.0 pointer.0 index.0 (λ rest fits over. expr_over p few rest pointer.0 fits over)
-        (λ rest fits over. expr_over i (few + 1) rest index.0 fits over) fits over
+        reached_over access p i t rest h.0 pointer.0 index.0 (λ rest fits over. expr_over p t rest pointer.0 fits over)
+        (λ rest fits over. expr_over i (t + 1) rest index.0 fits over) fits over
 
     written_over : (target : source.Target) (is_byte : Bool) (e : Expr) (rest : Code) → IsCompilableTarget few target → few + target_room target ≤ locals → IsExprOver locals e → Over rest → Over (written target few is_byte e rest)
     written_over source.Nothing is_byte e rest h fits x over = over
@@ -367,18 +367,18 @@ module _ (few locals : ℕ) (more : few ≤ locals) where
         let index = h.2 in
         (reached_place_over access p i few h.0 pointer.0 index.0 fits, x, over)
 
-    fixed_over : (target : source.Target) (rest : Code) → IsCompilableTarget few target → few + target_room target ≤ locals → Over rest → Over (fixed target few rest)
-    fixed_over source.Nothing rest h fits over = over
-    fixed_over (source.Variable y w) rest h fits over = over
-    fixed_over (source.Memory w access p i) rest h fits over =
+    fixed_over : (target : source.Target) (t : ℕ) (rest : Code) → IsCompilableTarget few target → t + target_room target ≤ locals → Over rest → Over (fixed target t rest)
+    fixed_over source.Nothing t rest h fits over = over
+    fixed_over (source.Variable y w) t rest h fits over = over
+    fixed_over (source.Memory w access p i) t rest h fits over =
         let pointer = h.1 in
         let index = h.2 in
-        (omega arith, reached_place_over access p i few h.0 pointer.0 index.0 fits, over)
+        (omega arith, reached_place_over access p i t h.0 pointer.0 index.0 fits, over)
 
-    there_over : (target : source.Target) (e : Expr) (rest : Code) → IsCompilableTarget few target → few + target_room target ≤ locals → IsExprOver locals e → Over rest → Over (written_there target few e rest)
-    there_over source.Nothing e rest h fits x over = over
-    there_over (source.Variable y w) e rest h fits x over = (omega arith, kept_over w false e x, over)
-    there_over (source.Memory w access p i) e rest h fits x over = (omega arith, x, over)
+    there_over : (target : source.Target) (t : ℕ) (e : Expr) (rest : Code) → IsCompilableTarget few target → t + target_room target ≤ locals → IsExprOver locals e → Over rest → Over (written_there target t e rest)
+    there_over source.Nothing t e rest h fits x over = over
+    there_over (source.Variable y w) t e rest h fits x over = (omega arith, kept_over w false e x, over)
+    there_over (source.Memory w access p i) t e rest h fits x over = (omega arith, x, over)
 
     assigned_over : (target : source.Target) (e : source.Expr) (rest : Code) → IsCompilableTarget few target → IsCompilableExpr few e → few + aimed_room target (operand_room e) ≤ locals → Over rest
         → Over (aim_code target few (operand_code e (few + target_count target) (written target few (is_narrow e) (operand e (few + target_count target)) rest)))
@@ -386,7 +386,7 @@ module _ (few locals : ℕ) (more : few ≤ locals) where
         let u = few + target_count target in
         let aims : few + target_room target ≤ locals = omega arith in
         let inner : u + operand_room e ≤ locals = omega arith in
-        aim_over target _ h aims
+        aim_over target few _ h aims
         (operand_code_over e u _ x inner (written_over target (is_narrow e) (operand e u) rest h aims (operand_over e u x inner) over))
 
     right_over : (target : source.Target) (right : source.Right) (rest : Code) → IsCompilableTarget few target → IsCompilableRight few right → few + assigned_room target right ≤ locals → Over rest → Over (right_assigned target right few rest)
@@ -399,8 +399,35 @@ module _ (few locals : ℕ) (more : few ≤ locals) where
         let aims : few + target_room target ≤ locals = omega arith in
         let inner : u + operand_room e ≤ locals = omega arith in
         let below : u < locals = omega arith in
-        aim_over target _ h aims (fixed_over target _ h aims
-        (operand_code_over e u _ part.0 inner (below, operand_over e u part.0 inner, x.1, there_over target (Local u) rest h aims below over)))
+        aim_over target few _ h aims (fixed_over target few _ h aims
+        (operand_code_over e u _ part.0 inner (below, operand_over e u part.0 inner, x.1, there_over target few (Local u) rest h aims below over)))
+
+    valued_over : (right : source.Right) (u : ℕ) (rest : Code) → IsCompilableRight few right → u + valued_room right ≤ locals → Over rest → Over (valued right u rest)
+    valued_over (source.Value e) u rest x fits over = expr_over e u rest x.0 fits over
+    valued_over (source.Fresh to e) u rest x fits over =
+        let part = x.0 in
+        let inner : u + operand_room e ≤ locals = omega arith in
+        operand_code_over e u _ part.0 inner (omega arith, operand_over e u part.0 inner, x.1, over)
+
+    plans_over : (assigns : List (source.Target × source.Right)) (t : ℕ) (rest : Code) → All (IsCompilableAssign few) assigns → t + bundle_room assigns ≤ locals → Over rest → Over (plans_code assigns t rest)
+    plans_over [] t rest h fits over = over
+    plans_over (a ∷ assigns) t rest h fits over =
+        let one = All-head (IsCompilableAssign few) a assigns h in
+        let aims : t + target_room a.0 ≤ locals = omega arith in
+        let inner : t + target_count a.0 + valued_room a.1 ≤ locals = omega arith in
+        aim_over a.0 t _ one.0 aims (fixed_over a.0 t _ one.0 aims (valued_over a.1 (t + target_count a.0) _ one.1 inner
+        (plans_over assigns (behind_planned a.0 t) rest (All-tail (IsCompilableAssign few) a assigns h) (omega arith) over)))
+
+    writes_over : (assigns : List (source.Target × source.Right)) (t : ℕ) (rest : Code) → All (IsCompilableAssign few) assigns → t + bundle_room assigns ≤ locals → Over rest → Over (writes_code assigns t rest)
+    writes_over [] t rest h fits over = over
+    writes_over (a ∷ assigns) t rest h fits over =
+        let one = All-head (IsCompilableAssign few) a assigns h in
+        let aims : t + target_room a.0 ≤ locals = omega arith in
+        there_over a.0 t (Local (t + target_count a.0)) _ one.0 aims (omega arith)
+        (writes_over assigns (behind_planned a.0 t) rest (All-tail (IsCompilableAssign few) a assigns h) (omega arith) over)
+
+    bundle_over : (assigns : List (source.Target × source.Right)) (t : ℕ) (rest : Code) → All (IsCompilableAssign few) assigns → t + bundle_room assigns ≤ locals → Over rest → Over (bundle_code assigns t rest)
+    bundle_over assigns t rest h fits over = plans_over assigns t (writes_code assigns t rest) h fits (writes_over assigns t rest h fits over)
 
     result_below : (target : Option Kept) → IfSome target (IsCompilableKept few) → few < locals → IfSome (result_in target few) (λ x. x < locals)
     result_below None h below = tt
@@ -429,19 +456,21 @@ module _ (functions : List source.Function) (few locals : ℕ) (more : few ≤ l
   statements_over source.End looped h fits = tt
   statements_over (source.Assign spot target right rest) looped h fits =
       right_over few locals more all_code looped target right (statements few rest) h.0 h.1 (omega arith) (statements_over rest looped h.2 (omega arith))
-  statements_over (source.Bundle spot assigns rest) looped h fits = absurd h
+  statements_over (source.Bundle spot assigns rest) looped h fits =
+      let all = h.0 in
+      bundle_over few locals more all_code looped assigns few (statements few rest) all.2 (omega arith) (statements_over rest looped h.1 (omega arith))
   statements_over (source.Get spot target rest) looped h fits =
       let u = few + target_count target in
       let aims : few + target_room target ≤ locals = omega arith in
       let below : u < locals = omega arith in
-      aim_over few locals more all_code looped target _ h.0 aims
+      aim_over few locals more all_code looped target few _ h.0 aims
       (below, written_over few locals more all_code looped target false (Local u) (statements few rest) h.0 aims below (statements_over rest looped h.1 (omega arith)))
   statements_over (source.Put spot target e rest) looped h fits =
       let u = few + target_count target in
       let aims : few + target_room target ≤ locals = omega arith in
       let inner : u + operand_room e ≤ locals = omega arith in
       let x = operand_over few locals more e u h.1.0 inner in
-      aim_over few locals more all_code looped target _ h.0 aims
+      aim_over few locals more all_code looped target few _ h.0 aims
       (operand_code_over few locals more all_code looped e u _ h.1.0 inner
       (x, written_over few locals more all_code looped target true (low_byte (operand e u)) (statements few rest) h.0 aims (x, lit< tt) (statements_over rest looped h.2 (omega arith))))
   statements_over (source.Call spot target callee es rest) looped h fits =

@@ -25,8 +25,8 @@ use Rattle.ckc_base.specs.Words.{word_of}
 use Rattle.ckc_source.specs.Words.{divides}
 use Rattle.ckc_core.specs.Code.{Expr, Const, Local, Load, Bin, Code, End, Set, Check}
 use Rattle.ckc_core.specs.Sizes.{expr_size, exprs_size, set_size, code_size, function_size, program_size}
-use Rattle.ckc_checks.specs.Compilable.{element_nodes, access_nodes, shift_nodes, index_nodes, expr_nodes, exprs_nodes, target_nodes, right_nodes, code_nodes, function_nodes, program_nodes}
-use Rattle.ckc_checks.specs.Inserted.{is_direct, operated, low_byte, as_truth, is_zero, scaled, shifted, at_offset, element_of, place_at, held, put_if, keeps_index, is_bounded, reads_signed, exact_test, exact_code, moved_code, base_at, amount_at, end_at, static_place, counted_end, range_end, range_test, element_code, bounded_code, judged, reached_place, direct, operand, operation_code, expr_code, operand_code, operands_code, operands, is_narrow, aim_code, target_count, written, fixed, written_there, right_assigned, result_in, result_kept, statements, zeroed, function_code, inserted}
+use Rattle.ckc_checks.specs.Compilable.{element_nodes, access_nodes, shift_nodes, index_nodes, expr_nodes, exprs_nodes, target_nodes, right_nodes, assigns_nodes, code_nodes, function_nodes, program_nodes}
+use Rattle.ckc_checks.specs.Inserted.{is_direct, operated, low_byte, as_truth, is_zero, scaled, shifted, at_offset, element_of, place_at, held, put_if, keeps_index, is_bounded, reads_signed, exact_test, exact_code, moved_code, base_at, amount_at, end_at, static_place, counted_end, range_end, range_test, element_code, bounded_code, judged, reached_place, direct, operand, operation_code, expr_code, operand_code, operands_code, operands, is_narrow, aim_code, target_count, written, fixed, written_there, right_assigned, valued, behind_planned, plans_code, writes_code, result_in, result_kept, statements, zeroed, function_code, inserted}
 
 element_some : (zero : Bool) → 4 ≤ (if zero then 4 else 6)
 element_some true = omega arith
@@ -455,6 +455,39 @@ right_sized target (source.Fresh to e) t rest =
     let alloc = Code.Alloc u (operand e u) to.size (written_there target t (Local u) rest) in
     omega (arith, there_sized target t (60 * expr_nodes e + 32) u rest (operand_code e u alloc) (omega (arith, operand_sized e u alloc)))
 
+-- the place and the value of an assignment in a bundle, and the write
+aim_fixed_sized : (target : source.Target) (t u : ℕ) (inner rest : Code)
+    → code_size (aim_code target t (fixed target t inner)) + code_size (written_there target t (Local u) rest) ≤ 22 + 60 * target_nodes target + code_size inner + code_size rest
+aim_fixed_sized source.Nothing t u inner rest = omega arith
+aim_fixed_sized (source.Variable x width.Word) t u inner rest = omega arith
+aim_fixed_sized (source.Variable x width.Byte) t u inner rest = omega arith
+aim_fixed_sized (source.Memory w access p i) t u inner rest =
+    let place = reached_place access p i t in
+    let set = Set t place inner in
+    omega (
+      arith,
+      set_sized place,
+      reached_sized access.through access p i t set (λ rest. expr_sized p t rest) (λ rest. expr_sized i (t + 1) rest),
+    )
+
+valued_sized : (right : source.Right) (u : ℕ) (rest : Code) → code_size (valued right u rest) ≤ 42 + 60 * right_nodes right + code_size rest
+valued_sized (source.Value e) u rest = omega (arith, expr_sized e u rest)
+valued_sized (source.Fresh to e) u rest = omega (arith, operand_sized e u (Code.Alloc u (operand e u) to.size rest))
+
+bundle_sized : (assigns : List (source.Target × source.Right)) (t : ℕ) (inner rest : Code)
+    → code_size (plans_code assigns t inner) + code_size (writes_code assigns t rest) ≤ 64 * assigns_nodes assigns + code_size inner + code_size rest
+bundle_sized [] t inner rest = omega arith
+bundle_sized (a ∷ assigns) t inner rest =
+    let next = behind_planned a.0 t in
+    let u = t + target_count a.0 in
+    let plans = plans_code assigns next inner in
+    omega (
+      arith,
+      aim_fixed_sized a.0 t u (valued a.1 u plans) (writes_code assigns next rest),
+      valued_sized a.1 u plans,
+      bundle_sized assigns next inner rest,
+    )
+
 result_sized : (target : Option Kept) (t : ℕ) (rest : Code) → code_size (result_kept target t rest) ≤ 16 + code_size rest
 result_sized None t rest = omega arith
 result_sized (Some (kept.Local x width.Byte)) t rest = omega arith
@@ -465,7 +498,9 @@ statements_sized : (t : ℕ) (code : source.Code) → code_size (statements t co
 statements_sized t source.End = omega arith
 statements_sized t (source.Assign spot target right rest) =
     omega (arith, right_sized target right t (statements t rest), statements_sized t rest)
-statements_sized t (source.Bundle spot assigns rest) = omega (arith, statements_sized t rest)
+statements_sized t (source.Bundle spot assigns rest) =
+    let writes = writes_code assigns t (statements t rest) in
+    omega (arith, bundle_sized assigns t writes (statements t rest), statements_sized t rest)
 statements_sized t (source.Get spot target rest) =
     let u = t + target_count target in
     let after = written target t false (Local u) (statements t rest) in

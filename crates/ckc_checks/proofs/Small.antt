@@ -26,8 +26,8 @@ use Rattle.ckc_source.specs.Words.{divides}
 use Rattle.ckc_core.specs.Code.{Expr, Const, Local, Load, Bin, Code, End, Set, Check}
 use Rattle.ckc_core.specs.Limits.{depth, IsShallow, KeepsLimits, IsSmallFunction, IsWithinLimits}
 use Rattle.ckc_checks.specs.Compilable as form
-use Rattle.ckc_checks.specs.Compilable.{IsCompilablePart, IsCompilableTarget, IsCompilableRight, IsCompilableCode, IsCompilableFunction, IsCompilable}
-use Rattle.ckc_checks.specs.Inserted.{is_direct, operated, low_byte, as_truth, is_zero, scaled, shifted, at_offset, element_of, place_at, held, put_if, room_if, keeps_index, is_bounded, reads_signed, exact_test, exact_code, base_at, amount_at, end_at, static_place, counted_end, range_end, range_test, bounded_code, judged, pointer_at, index_at, reached_code, reached_place, direct, operand, operation_code, expr_code, operand_code, operands_code, operands, expr_room, operand_room, operands_room, is_narrow, aim_code, target_count, written, fixed, written_there, right_assigned, aimed_room, assigned_room, result_kept, statements, room, zeroed, function_code, inserted}
+use Rattle.ckc_checks.specs.Compilable.{IsCompilablePart, IsCompilableTarget, IsCompilableRight, IsCompilableAssign, IsCompilableCode, IsCompilableFunction, IsCompilable}
+use Rattle.ckc_checks.specs.Inserted.{is_direct, operated, low_byte, as_truth, is_zero, scaled, shifted, at_offset, element_of, place_at, held, put_if, room_if, keeps_index, is_bounded, reads_signed, exact_test, exact_code, base_at, amount_at, end_at, static_place, counted_end, range_end, range_test, bounded_code, judged, pointer_at, index_at, reached_code, reached_place, direct, operand, operation_code, expr_code, operand_code, operands_code, operands, expr_room, operand_room, operands_room, is_narrow, aim_code, target_count, written, fixed, written_there, right_assigned, valued, behind_planned, plans_code, writes_code, aimed_room, assigned_room, valued_room, bundle_room, result_kept, statements, room, zeroed, function_code, inserted}
 use Rattle.ckc_checks.proofs.Formed.{length-operands}
 
 -- ---- expressions
@@ -372,6 +372,24 @@ right_small few t target (source.Fresh to e) rest s h k =
     let last = there_small few t target (Local u) rest (omega arith) k in
     aim_small few t target _ s (fixed_small few t target _ s (operand_small e u _ part.1 (omega (arith, operand_depth e u part.1), last)))
 
+valued_small : (few u : ℕ) (right : source.Right) (rest : Code) → IsCompilableRight few right → KeepsLimits rest → KeepsLimits (valued right u rest)
+valued_small few u (source.Value e) rest h k = expr_small e u rest h.1 k
+valued_small few u (source.Fresh to e) rest h k =
+    let part = h.0 in
+    operand_small e u _ part.1 (omega (arith, operand_depth e u part.1), k)
+
+plans_small : (few t : ℕ) (assigns : List (source.Target × source.Right)) (rest : Code) → All (IsCompilableAssign few) assigns → KeepsLimits rest → KeepsLimits (plans_code assigns t rest)
+plans_small few t [] rest h k = k
+plans_small few t (a ∷ assigns) rest h k =
+    let one = All-head (IsCompilableAssign few) a assigns h in
+    aim_small few t a.0 _ one.0 (fixed_small few t a.0 _ one.0 (valued_small few (t + target_count a.0) a.1 _ one.1
+    (plans_small few (behind_planned a.0 t) assigns rest (All-tail (IsCompilableAssign few) a assigns h) k)))
+
+writes_small : (few t : ℕ) (assigns : List (source.Target × source.Right)) (rest : Code) → KeepsLimits rest → KeepsLimits (writes_code assigns t rest)
+writes_small few t [] rest k = k
+writes_small few t (a ∷ assigns) rest k =
+    there_small few t a.0 (Local (t + target_count a.0)) _ (omega arith) (writes_small few (behind_planned a.0 t) assigns rest k)
+
 result_small : (target : Option Kept) (t : ℕ) (rest : Code) → KeepsLimits rest → KeepsLimits (result_kept target t rest)
 result_small None t rest k = k
 result_small (Some (kept.Local x width.Byte)) t rest k = (omega arith, k)
@@ -395,11 +413,35 @@ right_room_few few target (source.Fresh to e) s h =
     let part = h.0 in
     aimed_room_few few (max 1 (operand_room e)) target s (omega (arith, operand_room_few e part.1))
 
+valued_few : (few : ℕ) (right : source.Right) → IsCompilableRight few right → valued_room right ≤ 200
+valued_few few (source.Value e) h = omega (arith, expr_room_few e)
+valued_few few (source.Fresh to e) h =
+    let part = h.0 in
+    omega (arith, operand_room_few e part.1)
+
+count_few : (target : source.Target) → target_count target ≤ 4
+count_few source.Nothing = omega arith
+count_few (source.Variable x w) = omega arith
+count_few (source.Memory w access p i) = omega arith
+
+bundle_few : (few : ℕ) (assigns : List (source.Target × source.Right)) → All (IsCompilableAssign few) assigns → bundle_room assigns ≤ 202 + 5 * length assigns
+bundle_few few [] h = omega arith
+bundle_few few (a ∷ assigns) h =
+    let one = All-head (IsCompilableAssign few) a assigns h in
+    omega (
+      arith,
+      aimed_room_few few (valued_room a.1) a.0 one.0 (valued_few few a.1 one.1),
+      count_few a.0,
+      bundle_few few assigns (All-tail (IsCompilableAssign few) a assigns h),
+    )
+
 module _ (functions : List source.Function) (few : ℕ) (call_few : (n i : ℕ) → form.HasParams n (slice_get functions i) → n ≤ 255) where
   statements_small : (code : source.Code) (looped : Bool) → IsCompilableCode functions few looped code → KeepsLimits (statements few code)
   statements_small source.End looped h = tt
   statements_small (source.Assign spot target right rest) looped h = right_small few few target right (statements few rest) h.0 h.1 (statements_small rest looped h.2)
-  statements_small (source.Bundle spot assigns rest) looped h = absurd h
+  statements_small (source.Bundle spot assigns rest) looped h =
+      let all = h.0 in
+      plans_small few few assigns (writes_code assigns few (statements few rest)) all.2 (writes_small few few assigns (statements few rest) (statements_small rest looped h.1))
   statements_small (source.Get spot target rest) looped h =
       aim_small few few target _ h.0 (written_small few few target false (Local (few + target_count target)) (statements few rest) h.0 (omega arith) (statements_small rest looped h.1))
   statements_small (source.Put spot target e rest) looped h =
@@ -431,7 +473,9 @@ module _ (functions : List source.Function) (few : ℕ) (call_few : (n i : ℕ) 
   room_few : (code : source.Code) (looped : Bool) → IsCompilableCode functions few looped code → room code ≤ 455
   room_few source.End looped h = omega arith
   room_few (source.Assign spot target right rest) looped h = omega (arith, right_room_few few target right h.0 h.1, room_few rest looped h.2)
-  room_few (source.Bundle spot assigns rest) looped h = absurd h
+  room_few (source.Bundle spot assigns rest) looped h =
+      let all = h.0 in
+      omega (arith, bundle_few few assigns all.2, all.1, room_few rest looped h.1)
   room_few (source.Get spot target rest) looped h = omega (arith, aimed_room_few few 1 target h.0 (omega arith), room_few rest looped h.1)
   room_few (source.Put spot target e rest) looped h =
       omega (arith, aimed_room_few few (operand_room e) target h.0 (operand_room_few e h.1.1), room_few rest looped h.2)

@@ -1,6 +1,6 @@
 -- Programs that can be compiled: names exist, numbers fit, functions and expressions are small. What is
 -- accessed by its range comes of a local with limits or of a static object, and what is tested is a pointer to one
--- element. Nothing is written through a pointer to a null-terminated array, and no bundle stands in them.
+-- element. Nothing is written through a pointer to a null-terminated array.
 use Rattle.std.specs.Prelude.{◌≡◌, ℤ, pos, neg_ℤ, ◌≤ℤ◌, ◌<ℤ◌, ℕ, ◌+◌, ◌≤◌, ◌<◌, ◌^◌, ◌==◌, if◌then◌else◌, max, Bool, true, false, IsTrue, List, [], ◌∷◌, length, slice_get, sum_by, Option, Some, None, All, IfSome}
 use Rattle.ckc_base.specs.Memory.{data_start}
 use Rattle.ckc_core.specs.WellFormed.{IsPlace}
@@ -92,11 +92,16 @@ abbrev pub right_nodes : Right → ℕ
 right_nodes (Value e) = expr_nodes e
 right_nodes (Fresh to e) = expr_nodes e
 
+-- each assignment of a bundle is a node too
+abbrev pub assigns_nodes : List (Target × Right) → ℕ
+assigns_nodes [] = 0
+assigns_nodes (a ∷ assigns) = 1 + target_nodes a.0 + right_nodes a.1 + assigns_nodes assigns
+
 -- a statement is a node, and a call counts one more
 abbrev pub code_nodes : Code → ℕ
 code_nodes End = 0
 code_nodes (Assign spot target right rest) = 1 + target_nodes target + right_nodes right + code_nodes rest
-code_nodes (Bundle spot assigns rest) = 1 + code_nodes rest
+code_nodes (Bundle spot assigns rest) = 1 + assigns_nodes assigns + code_nodes rest
 code_nodes (Get spot target rest) = 1 + target_nodes target + code_nodes rest
 code_nodes (Put spot target e rest) = 1 + target_nodes target + expr_nodes e + code_nodes rest
 code_nodes (Call spot target callee es rest) = 2 + exprs_nodes es + code_nodes rest
@@ -266,6 +271,15 @@ abbrev pub IsCompilableRight : ℕ → Right → Type 0
 IsCompilableRight locals (Value e) = IsCompilablePart locals e
 IsCompilableRight locals (Fresh to e) = IsCompilablePart locals e × (to.size < 2 ^ 32)
 
+-- an assignment of a bundle
+abbrev pub IsCompilableAssign : ℕ → Target × Right → Type 0
+IsCompilableAssign locals a = IsCompilableTarget locals a.0 × IsCompilableRight locals a.1
+
+-- a bundle has at least one and at most eight
+abbrev pub IsCompilableBundle : ℕ → List (Target × Right) → Type 0
+IsCompilableBundle locals assigns =
+    (1 ≤ length assigns) × (length assigns ≤ 8) × All (IsCompilableAssign locals) assigns
+
 abbrev pub IsCompilableKept : ℕ → Kept → Type 0
 IsCompilableKept locals (kept.Local x width) = x < locals
 IsCompilableKept locals (kept.Static a width) = a < 2 ^ 32
@@ -283,6 +297,8 @@ abbrev pub IsCompilableCode : List Function → ℕ → Bool → Code → Type 0
 IsCompilableCode functions locals looped End = Unit {0}
 IsCompilableCode functions locals looped (Assign spot target right rest) =
     IsCompilableTarget locals target × IsCompilableRight locals right × IsCompilableCode functions locals looped rest
+IsCompilableCode functions locals looped (Bundle spot assigns rest) =
+    IsCompilableBundle locals assigns × IsCompilableCode functions locals looped rest
 IsCompilableCode functions locals looped (Get spot target rest) =
     IsCompilableTarget locals target × IsCompilableCode functions locals looped rest
 IsCompilableCode functions locals looped (Put spot target e rest) =
@@ -302,7 +318,6 @@ IsCompilableCode functions locals looped (Return spot e rest) =
     IsCompilablePart locals e × IsCompilableCode functions locals looped rest
 IsCompilableCode functions locals looped (Check spot e rest) =
     IsPlace spot.at × IsCompilablePart locals e × IsCompilableCode functions locals looped rest
-IsCompilableCode functions locals looped _ = ⊥
 
 -- ---- functions and programs
 

@@ -405,6 +405,36 @@ right_assigned target (source.Fresh to e) t rest =
     aim_code target t (fixed target t (taken e to.size (t + target_count target)
     (written_there target t (Local (t + target_count target)) rest)))
 
+-- ---- bundles
+
+-- The value of a right side goes to the local u.
+abbrev pub valued : source.Right → ℕ → Code → Code
+valued (source.Value e) u rest = expr_code e u rest
+valued (source.Fresh to e) u rest = taken e to.size u rest
+
+-- The place of a target and the value that goes there are found, and both are kept in temporaries from t on.
+abbrev pub planned_code : source.Target → source.Right → ℕ → Code → Code
+planned_code target right t rest = aim_code target t (fixed target t (valued right (t + target_count target) rest))
+
+-- the temporaries behind those
+abbrev pub behind_planned : source.Target → ℕ → ℕ
+behind_planned target t = t + target_count target + 1
+
+abbrev pub plans_code : List (source.Target × source.Right) → ℕ → Code → Code
+plans_code [] t rest = rest
+plans_code (a ∷ assigns) t rest = planned_code a.0 a.1 t (plans_code assigns (behind_planned a.0 t) rest)
+
+abbrev pub writes_code : List (source.Target × source.Right) → ℕ → Code → Code
+writes_code [] t rest = rest
+writes_code (a ∷ assigns) t rest =
+    written_there a.0 t (Local (t + target_count a.0)) (writes_code assigns (behind_planned a.0 t) rest)
+
+-- All places and values are found before the first of them is written.
+abbrev pub bundle_code : List (source.Target × source.Right) → ℕ → Code → Code
+bundle_code assigns t rest = plans_code assigns t (writes_code assigns t rest)
+
+-- ---- calls
+
 -- where a call puts its result
 abbrev pub result_in : Option Kept → ℕ → Option ℕ
 result_in None t = None
@@ -418,11 +448,13 @@ result_kept (Some (kept.Local x width.Byte)) t rest = Set x (low_byte (Local x))
 result_kept (Some (kept.Local x width.Word)) t rest = rest
 result_kept (Some (kept.Static a width)) t rest = Store width (Const a) (Local t) rest
 
+-- ---- lists of statements
+
 -- Statements, where t is the first temporary.
 abbrev pub statements : ℕ → source.Code → Code
 statements t source.End = End
 statements t (source.Assign spot target right rest) = right_assigned target right t (statements t rest)
-statements t (source.Bundle spot assigns rest) = statements t rest
+statements t (source.Bundle spot assigns rest) = bundle_code assigns t (statements t rest)
 statements t (source.Get spot target rest) =
     aim_code target t (Get (t + target_count target)
     (written target t false (Local (t + target_count target)) (statements t rest)))
@@ -455,11 +487,20 @@ assigned_room source.Nothing (source.Value e) = expr_room e
 assigned_room target (source.Value e) = aimed_room target (operand_room e)
 assigned_room target (source.Fresh to e) = aimed_room target (max 1 (operand_room e))
 
+abbrev pub valued_room : source.Right → ℕ
+valued_room (source.Value e) = expr_room e
+valued_room (source.Fresh to e) = max 1 (operand_room e)
+
+-- how many temporaries the assignments of a bundle need
+abbrev pub bundle_room : List (source.Target × source.Right) → ℕ
+bundle_room [] = 0
+bundle_room (a ∷ assigns) = max (aimed_room a.0 (valued_room a.1)) (behind_planned a.0 (bundle_room assigns))
+
 -- how many temporaries statements need
 abbrev pub room : source.Code → ℕ
 room source.End = 0
 room (source.Assign spot target right rest) = max (assigned_room target right) (room rest)
-room (source.Bundle spot assigns rest) = room rest
+room (source.Bundle spot assigns rest) = max (bundle_room assigns) (room rest)
 room (source.Get spot target rest) = max (aimed_room target 1) (room rest)
 room (source.Put spot target e rest) = max (aimed_room target (operand_room e)) (room rest)
 room (source.Call spot target callee es rest) = max (max 1 (operands_room es)) (room rest)

@@ -1,8 +1,8 @@
 //! How many temporaries code needs.
 
 ghost use Rattle.std.specs.Prelude.{◌≡◌, ◌+◌, max, map, IfOk, if◌then◌else◌};
-ghost use Rattle.ckc_source.specs.Code.{code_of, expr_of, target_of, right_of};
-ghost use Rattle.ckc_checks.specs.Inserted.{expr_room, operand_room, operands_room, target_count, target_room, aimed_room, assigned_room, room};
+ghost use Rattle.ckc_source.specs.Code.{code_of, expr_of, target_of, right_of, assign_of};
+ghost use Rattle.ckc_checks.specs.Inserted.{expr_room, operand_room, operands_room, target_count, target_room, aimed_room, assigned_room, valued_room, bundle_room, room};
 ghost use Rattle.ckc_checks.specs.Building.{expr_room_if};
 
 use crate::exprs::{is_direct, sum};
@@ -143,6 +143,36 @@ fn assigned_room(a: &Assign) -> Result<u32, AllocError>
     }
 }
 
+/// How many temporaries the value of a right side needs.
+fn valued_room(right: &RightTree) -> Result<u32, AllocError>
+    ensures { IfOk result (λ n. n ≡ valued_room (right_of right.now)) }
+{
+    match right {
+        RightTree::Value(e) => expr_room(e.get(), true),
+        RightTree::Fresh(_, e) => {
+            let count = expr_room(e.get(), false)?;
+            Ok(1u32.max(count))
+        }
+    }
+}
+
+/// How many temporaries the assignments of a bundle need.
+fn bundle_room(all: &[Assign]) -> Result<u32, AllocError>
+    ensures { IfOk result (λ n. n ≡ bundle_room (map assign_of all.now)) }
+{
+    let mut most = 0u32;
+    let mut i = all.len();
+    while i > 0 {
+        i -= 1;
+        let behind = sum(most, target_count(&all[i].target))?;
+        let behind = sum(behind, 1)?;
+        let value = valued_room(&all[i].right)?;
+        let here = aimed_room(&all[i].target, value)?;
+        most = here.max(behind);
+    }
+    Ok(most)
+}
+
 /// How many temporaries statements need.
 pub fn room(stmts: &[StmtTree]) -> Result<u32, AllocError>
     ensures { IfOk result (λ n. n ≡ room (code_of stmts.now)) }
@@ -153,6 +183,7 @@ pub fn room(stmts: &[StmtTree]) -> Result<u32, AllocError>
         i -= 1;
         match &stmts[i] {
             StmtTree::Assign(_, a) => most = assigned_room(a.get())?.max(most),
+            StmtTree::Bundle(_, all) => most = bundle_room(all.as_slice())?.max(most),
             StmtTree::Get(_, target) => most = aimed_room(target.get(), 1)?.max(most),
             StmtTree::Put(_, target, e) => {
                 let value = expr_room(e.get(), false)?;
@@ -171,7 +202,7 @@ pub fn room(stmts: &[StmtTree]) -> Result<u32, AllocError>
                 let second = room(two.as_slice())?;
                 most = condition.max(first.max(second.max(most)));
             }
-            StmtTree::Bundle(_, _) | StmtTree::Break | StmtTree::Continue => {}
+            StmtTree::Break | StmtTree::Continue => {}
         }
     }
     Ok(most)

@@ -2,8 +2,8 @@
 
 ghost use Rattle.std.specs.Prelude.{◌≡◌, ◌+◌, true, false, map, IfOk, OnOk};
 ghost use Rattle.ckc_core.specs.Code.{Expr, Code, code_of, expr_of};
-ghost use Rattle.ckc_source.specs.Code.{expr_of as source_of, target_of, right_of, code_of as source_code};
-ghost use Rattle.ckc_checks.specs.Inserted.{low_byte, operand, operands, operands_code, is_narrow, kept_in, aim_code, target_count, written, operand_used, assigned, taken, fixed, written_there, right_assigned, result_in, result_kept, statements};
+ghost use Rattle.ckc_source.specs.Code.{expr_of as source_of, target_of, right_of, assign_of, code_of as source_code};
+ghost use Rattle.ckc_checks.specs.Inserted.{low_byte, operand, operands, operands_code, is_narrow, kept_in, aim_code, target_count, written, operand_used, assigned, taken, fixed, written_there, right_assigned, valued, planned_code, behind_planned, plans_code, writes_code, bundle_code, result_in, result_kept, statements};
 ghost use Rattle.ckc_checks.specs.Building.{behind, expr_code_if, get_code, put_code, call_code, branch_code, loop_code, return_code, check_code};
 
 use crate::code::{expr, fork, front, in_order, judge, nothing, place};
@@ -211,6 +211,84 @@ fn assign(alloc: Global, a: &Assign, t: u32, code: &mut Seq<CoreStmt>) -> Result
             Ok(())
         }
     }
+}
+
+/// Puts the code in front that puts the value of a right side into u.
+fn value(
+    alloc: Global,
+    right: &RightTree,
+    u: u32,
+    code: &mut Seq<CoreStmt>,
+) -> Result<(), AllocError>
+    ensures { OnOk result (behind code.new ≡ valued (right_of right.now) u (behind code.old)) }
+{
+    match right {
+        RightTree::Value(e) => expr(alloc, e.get(), true, u, code),
+        RightTree::Fresh(to, e) => take(alloc, e.get(), to.get().size, u, code),
+    }
+}
+
+/// Puts the code in front that keeps the place of a target and the value that goes there in temporaries from t on.
+fn plan(alloc: Global, a: &Assign, t: u32, code: &mut Seq<CoreStmt>) -> Result<(), AllocError>
+    ensures { OnOk result (behind code.new ≡
+        planned_code (target_of a.now.target) (right_of a.now.right) t (behind code.old)) }
+{
+    let u = sum(t, target_count(&a.target))?;
+    value(alloc, &a.right, u, code)?;
+    fix(alloc, &a.target, t, code)?;
+    aim(alloc, &a.target, t, code)?;
+    Ok(())
+}
+
+/// The temporaries behind those of an assignment that has them from t on.
+fn behind_planned(target: &TargetTree, t: u32) -> Result<u32, AllocError>
+    ensures { IfOk result (λ n. n ≡ behind_planned (target_of target.now) t) }
+{
+    let u = sum(t, target_count(target))?;
+    sum(u, 1)
+}
+
+/// Puts the code in front that keeps places and values of assignments in temporaries from t on.
+fn plans(alloc: Global, all: &[Assign], t: u32, code: &mut Seq<CoreStmt>) -> Result<(), AllocError>
+    ensures { OnOk result (behind code.new ≡
+        plans_code (map assign_of all.now) t (behind code.old)) }
+{
+    match all.split_first() {
+        None => Ok(()),
+        Some((a, rest)) => {
+            let next = behind_planned(&a.target, t)?;
+            plans(alloc, rest, next, code)?;
+            plan(alloc, a, t, code)?;
+            Ok(())
+        }
+    }
+}
+
+/// Puts the code in front that writes values to their places, both in temporaries from t on.
+fn writes(alloc: Global, all: &[Assign], t: u32, code: &mut Seq<CoreStmt>) -> Result<(), AllocError>
+    ensures { OnOk result (behind code.new ≡
+        writes_code (map assign_of all.now) t (behind code.old)) }
+{
+    match all.split_first() {
+        None => Ok(()),
+        Some((a, rest)) => {
+            let next = behind_planned(&a.target, t)?;
+            writes(alloc, rest, next, code)?;
+            let u = sum(t, target_count(&a.target))?;
+            write_there(alloc, &a.target, t, CoreExpr::Local(u), code)?;
+            Ok(())
+        }
+    }
+}
+
+/// Puts the code of a bundle in front.
+fn bundle(alloc: Global, all: &[Assign], t: u32, code: &mut Seq<CoreStmt>) -> Result<(), AllocError>
+    ensures { OnOk result (behind code.new ≡
+        bundle_code (map assign_of all.now) t (behind code.old)) }
+{
+    writes(alloc, all, t, code)?;
+    plans(alloc, all, t, code)?;
+    Ok(())
 }
 
 /// Puts the code in front that gets a byte.
@@ -451,7 +529,7 @@ pub fn statements(
         i -= 1;
         match &stmts[i] {
             StmtTree::Assign(_, a) => assign(alloc, a.get(), t, code)?,
-            StmtTree::Bundle(_, _) => {}
+            StmtTree::Bundle(_, all) => bundle(alloc, all.as_slice(), t, code)?,
             StmtTree::Get(_, target) => get(alloc, target.get(), t, code)?,
             StmtTree::Put(_, target, e) => put(alloc, target.get(), e.get(), t, code)?,
             StmtTree::Call(spot, target, callee, es) => {

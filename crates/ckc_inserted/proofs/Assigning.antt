@@ -40,7 +40,7 @@ aim_write_steps (source.Memory width access p i) t =
     omega (arith, held_nodes checked p t, index_few (keeps_index checked i) i (t + 1), judged_few access.through p i t)
 
 -- in how many steps a place goes to a temporary
-abbrev fixed_steps : source.Target → ℕ → ℕ
+abbrev pub fixed_steps : source.Target → ℕ → ℕ
 fixed_steps (source.Memory width access p i) t = nodes (reached_place access p i t) + 1
 fixed_steps target t = 0
 
@@ -139,7 +139,7 @@ module _ (p : source.Program) (all : All (IsCompilableFunction p.functions) p.fu
       (by_set core ds world t d more rest l is.0 (is.3 l (λ z less. refl)))
       (next after (ready_below p all s work looped ds world rest l after r (λ x less. written_below l t is.0 x less)) (is.0, is.1, written_same l t is.0))
 
-  alloc_goes : (u n size next : ℕ) (e : Expr) (more : Code) (l : Values) → value_of l world.memory e ≡ Some n → value_at Word world.memory data_start ≡ Some next
+  pub alloc_goes : (u n size next : ℕ) (e : Expr) (more : Code) (l : Values) → value_of l world.memory e ≡ Some n → value_at Word world.memory data_start ≡ Some next
       → core_step core (here (Alloc u e size more) l) ≡ goes_by (here (Alloc u e size more) l) more (allocates_at world u n size next)
   unfolding core_step
   alloc_goes u n size next e more l h k =

@@ -18,6 +18,7 @@ pub mod Writing
 pub mod Entering
 pub mod Acting
 pub mod Assigning
+pub mod Bundling
 pub mod Stepping
 pub mod Starting
 pub mod Follows

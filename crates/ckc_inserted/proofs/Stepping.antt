@@ -22,6 +22,7 @@ use Rattle.ckc_inserted.proofs.Counts.{operand_nodes}
 use Rattle.ckc_inserted.proofs.Relation.{turn_code, Stands}
 use Rattle.ckc_inserted.proofs.Writing.{same_state, first_matched}
 use Rattle.ckc_inserted.proofs.Acting.{core_of, Meets, IsReady, most_of, lands, uses, call_meets, if_meets, check_meets, return_meets}
+use Rattle.ckc_inserted.proofs.Bundling.{bundle_meets}
 use Rattle.ckc_inserted.proofs.Assigning.{assign_meets, fresh_meets, get_target_meets, put_target_meets}
 
 module _ (p : source.Program) (all : All (IsCompilableFunction p.functions) p.functions) where
@@ -104,7 +105,10 @@ module _ (p : source.Program) (all : All (IsCompilableFunction p.functions) p.fu
         let part = right.0 in
         fresh_meets p all s work looped ds world rest target to e code (most_of (source.Assign spot target (source.Fresh to e) code)) l r h.form.0 part.0
         (record { form = h.form.2; few = omega (arith, h.few) }) (omega arith)
-    acts_meets (source.Bundle spot assigns code) rest l r h = absurd h.form
+    acts_meets (source.Bundle spot assigns code) rest l r h =
+        let fit = h.form.0 in
+        bundle_meets p all work looped ds rest code assigns (most_of (source.Bundle spot assigns code)) s world l r fit.0 fit.2
+        (record { form = h.form.1; few = omega (arith, h.few) }) (omega arith)
     acts_meets (source.Get spot target code) rest l r h =
         get_target_meets p all s work looped ds world rest target code (most_of (source.Get spot target code)) l r h.form.0
         (record { form = h.form.1; few = omega (arith, h.few) }) (omega arith)

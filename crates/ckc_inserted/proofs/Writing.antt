@@ -77,7 +77,7 @@ small_set xs i v less h small y =
         subst (λ (k : ℕ). k < 2 ^ 32) (sym (ap (slice_index (slice_set xs i v)) e' ∙ get_or-set_same xs i v 0 less)) small
     from (suc k) e = subst (λ (k : ℕ). k < 2 ^ 32) (sym (get_or-set_other xs i y v 0 (λ q. omega arith))) (h y)
 
-kept_small : (width : Width) (n : ℕ) → n < 2 ^ 32 → kept_part width n < 2 ^ 32
+pub kept_small : (width : Width) (n : ℕ) → n < 2 ^ 32 → kept_part width n < 2 ^ 32
 kept_small Byte n h = omega arith
 kept_small Word n h = h
 
@@ -185,7 +185,7 @@ module _ (functions : List source.Function) (core : List Function) where
 
   -- ---- writes
 
-  store_step : (ds : List C.Caller) (world : World) (width : Width) (a n : ℕ) (d e : Expr) (next : Code) (rest : C.Rest) (l : Values) (memory : Memory)
+  pub store_step : (ds : List C.Caller) (world : World) (width : Width) (a n : ℕ) (d e : Expr) (next : Code) (rest : C.Rest) (l : Values) (memory : Memory)
       → value_of l world.memory d ≡ Some a → value_of l world.memory e ≡ Some n → memory_with width world.memory a n ≡ Some memory
       → Stretch (machine core) (nodes d + nodes e + 1) [] (at ds world (Store width d e next) rest l) (at ds (record world { memory = memory }) next rest l)
   unfolding core_step
@@ -225,13 +225,13 @@ module _ (functions : List source.Function) (core : List Function) where
       )
 
   -- a value as it is kept in a local
-  kept_value : (l : Values) (memory : Memory) (width : Width) (is_byte : Bool) (e : Expr) (n : ℕ) → value_of l memory e ≡ Some n → (is_byte ≡ true → n < 256)
+  pub kept_value : (l : Values) (memory : Memory) (width : Width) (is_byte : Bool) (e : Expr) (n : ℕ) → value_of l memory e ≡ Some n → (is_byte ≡ true → n < 256)
       → value_of l memory (kept_in width is_byte e) ≡ Some (kept_part width n)
   kept_value l memory Byte true e n h b = let less : n < 256 = b refl in h ∙ ap Some (omega arith)
   kept_value l memory Byte false e n h b = low_value l memory e n h
   kept_value l memory Word is_byte e n h b = h
 
-  kept_nodes : (width : Width) (is_byte : Bool) (e : Expr) → nodes (kept_in width is_byte e) ≤ nodes e + 2
+  pub kept_nodes : (width : Width) (is_byte : Bool) (e : Expr) → nodes (kept_in width is_byte e) ≤ nodes e + 2
   kept_nodes Byte true e = omega arith
   kept_nodes Byte false e = omega arith
   kept_nodes Word is_byte e = omega arith

@@ -1,10 +1,10 @@
 //! How deep expressions are and how many nodes there are, up to 2^64 - 1.
 ghost use Rattle.std.specs.Prelude.{◌≡◌, ◌+◌, map};
-ghost use Rattle.ckc_source.specs.Code.{expr_of, target_of, right_of, code_of};
-ghost use Rattle.ckc_checks.specs.Compilable.{depth, element_nodes, access_nodes, shift_nodes, index_nodes, expr_nodes, exprs_nodes, target_nodes, right_nodes, code_nodes};
+ghost use Rattle.ckc_source.specs.Code.{expr_of, target_of, right_of, assign_of, code_of};
+ghost use Rattle.ckc_checks.specs.Compilable.{depth, element_nodes, access_nodes, shift_nodes, index_nodes, expr_nodes, exprs_nodes, target_nodes, right_nodes, assigns_nodes, code_nodes};
 ghost use Rattle.ckc_integer.specs.Capped.{capped};
 
-use ckc_source::{ExprTree, RightTree, StmtTree, TargetTree, Through};
+use ckc_source::{Assign, ExprTree, RightTree, StmtTree, TargetTree, Through};
 
 /// How many nodes the longest path down an expression has.
 pub fn depth(e: &ExprTree) -> u64
@@ -197,6 +197,20 @@ fn target_nodes(target: &TargetTree) -> u64
     }
 }
 
+/// How many nodes the assignments of a bundle have.
+fn assigns_nodes(all: &[Assign]) -> u64
+    ensures { result ≡ capped (assigns_nodes (map assign_of all.now)) }
+{
+    let mut count = 0u64;
+    let mut i = all.len();
+    while i > 0 {
+        i -= 1;
+        let here = target_nodes(&all[i].target).saturating_add(right_nodes(&all[i].right));
+        count = here.saturating_add(count).saturating_add(1);
+    }
+    count
+}
+
 /// How many nodes statements have.
 pub fn code_nodes(stmts: &[StmtTree]) -> u64
     ensures { result ≡ capped (code_nodes (code_of stmts.now)) }
@@ -221,7 +235,8 @@ pub fn code_nodes(stmts: &[StmtTree]) -> u64
                 let second = code_nodes(two.as_slice());
                 condition.saturating_add(first.saturating_add(second))
             }
-            StmtTree::Bundle(_, _) | StmtTree::Break | StmtTree::Continue => 0,
+            StmtTree::Bundle(_, all) => assigns_nodes(all.as_slice()),
+            StmtTree::Break | StmtTree::Continue => 0,
         };
         count = here.saturating_add(count).saturating_add(1);
     }

@@ -1,10 +1,10 @@
 //! Statements of programs that can be compiled.
 ghost use Rattle.std.specs.Prelude.{◌↔◌, map, slice_get, All, IfSome, IsTrue};
-ghost use Rattle.ckc_source.specs.Code.{code_of, expr_of, function_of};
-ghost use Rattle.ckc_checks.specs.Compilable.{HasParams, IsCompilablePart, IsCompilableKept, IsCompilableCode};
+ghost use Rattle.ckc_source.specs.Code.{code_of, expr_of, assign_of, function_of};
+ghost use Rattle.ckc_checks.specs.Compilable.{HasParams, IsCompilablePart, IsCompilableAssign, IsCompilableBundle, IsCompilableKept, IsCompilableCode};
 
 use crate::exprs::{is_kept, is_part, is_place, is_right, is_target};
-use ckc_source::{ExprTree, FunctionTree, Kept, StmtTree};
+use ckc_source::{Assign, ExprTree, FunctionTree, Kept, StmtTree};
 
 /// Whether the function is there and has so many parameters.
 pub fn has_params(funcs: &[FunctionTree], callee: u32, count: usize) -> bool
@@ -26,6 +26,32 @@ fn are_parts(es: &[ExprTree], locals: u32) -> bool
         good = is_part(&es[i], locals) && good;
     }
     good
+}
+
+/// Whether an assignment of a bundle can be compiled.
+fn is_assign(a: &Assign, locals: u32) -> bool
+    ensures { IsTrue result ↔ IsCompilableAssign locals (assign_of a.now) }
+{
+    is_target(&a.target, locals) && is_right(&a.right, locals)
+}
+
+fn are_assigns(all: &[Assign], locals: u32) -> bool
+    ensures { IsTrue result ↔ All (IsCompilableAssign locals) (map assign_of all.now) }
+{
+    let mut good = true;
+    let mut i = all.len();
+    while i > 0 {
+        i -= 1;
+        good = is_assign(&all[i], locals) && good;
+    }
+    good
+}
+
+/// Whether the assignments of a bundle can be compiled: one to eight.
+fn is_bundle(all: &[Assign], locals: u32) -> bool
+    ensures { IsTrue result ↔ IsCompilableBundle locals (map assign_of all.now) }
+{
+    1 <= all.len() && all.len() <= 8 && are_assigns(all, locals)
 }
 
 fn is_kept_where(kept: &Option<Kept>, locals: u32) -> bool
@@ -72,7 +98,7 @@ pub fn is_code(stmts: &[StmtTree], funcs: &[FunctionTree], locals: u32, looped: 
             StmtTree::Break | StmtTree::Continue => looped,
             StmtTree::Return(_, e) => is_part(e.get(), locals),
             StmtTree::Check(spot, e) => is_place(spot.at) && is_part(e.get(), locals),
-            StmtTree::Bundle(_, _) => false,
+            StmtTree::Bundle(_, all) => is_bundle(all.as_slice(), locals),
         };
         good = here && good;
     }
