@@ -28,11 +28,11 @@ use Rattle.ckc_source.specs.Code as source
 use Rattle.std.proofs.lemmas.Int.{ints}
 use Rattle.ckc_base.specs.Words.{word_of}
 use Rattle.ckc_source.specs.Words.{divides}
-use Rattle.ckc_core.specs.Code.{Expr, Const, Local, Load, Bin, Code, End, Set, Check, Function}
+use Rattle.ckc_core.specs.Code.{Expr, Const, Local, Load, Bin, Code, End, Set, Store, Check, Function}
 use Rattle.ckc_core.specs.WellFormed.{IsExprOver, IsCodeOver, IsFunctionOver, IsWellFormed, HasParams, IsPlace}
 use Rattle.ckc_checks.specs.Compilable as form
 use Rattle.ckc_checks.specs.Compilable.{IsBase, IsVariable, IsSmall, IsEnd, IsFixed, IsJudged, IsRanged, IsAccess, IsChecked, IsCompilableExpr, IsCompilablePart, IsCompilableTarget, IsCompilableRight, IsCompilableAssign, IsCompilableKept, IsCompilableCode, IsCompilableFunction, IsCompilable}
-use Rattle.ckc_checks.specs.Inserted.{is_direct, operated, low_byte, as_truth, is_zero, scaled, shifted, at_offset, element_of, place_at, held, put_if, room_if, keeps_index, is_bounded, reads_signed, exact_test, exact_code, base_at, amount_at, end_at, counted_end, range_end, upper_test, range_test, bounded_code, judged, pointer_at, index_at, reached_code, reached_place, reached_room, direct, operand, operation_code, expr_code, operand_code, operands_code, operands, expr_room, operand_room, operands_room, is_narrow, kept_in, aim_code, target_count, written, fixed, written_there, right_assigned, valued, behind_planned, plans_code, writes_code, bundle_code, target_room, aimed_room, assigned_room, valued_room, bundle_room, result_in, result_kept, statements, room, zeroed, function_code, inserted}
+use Rattle.ckc_checks.specs.Inserted.{is_direct, operated, low_byte, as_truth, is_zero, scaled, shifted, at_offset, element_of, place_at, held, put_if, room_if, keeps_index, is_bounded, reads_signed, exact_test, exact_code, base_at, amount_at, end_at, counted_end, range_end, upper_test, range_test, bounded_code, judged, pointer_at, index_at, reached_code, reached_place, reached_room, direct, operand, operation_code, expr_code, operand_code, operands_code, operands, expr_room, operand_room, operands_room, is_narrow, kept_in, marked, aim_code, target_count, guarded, stored_code, written, fixed, allowed_code, written_there, right_assigned, valued, behind_planned, plans_code, writes_code, bundle_code, target_room, guard_room, aimed_room, assigned_room, valued_room, bundle_room, result_in, result_kept, statements, room, zeroed, function_code, inserted}
 
 -- an expression needs a temporary for its value
 pub expr_room_some : (e : source.Expr) → 1 ≤ expr_room e
@@ -350,22 +350,57 @@ module _ (few locals : ℕ) (more : few ≤ locals) where
         operand_code_over e t (operands_code es (t + 1) rest) (All-head (IsCompilablePart few) e es h).0 (omega arith)
         (operands_code_over es (t + 1) rest (All-tail (IsCompilablePart few) e es h) (omega arith) over)
 
-    aim_over : (target : source.Target) (t : ℕ) (rest : Code) → IsCompilableTarget few target → t + target_room target ≤ locals → Over rest → Over (aim_code target t rest)
-    aim_over source.Nothing t rest h fits over = over
-    aim_over (source.Variable y w) t rest h fits over = over
-    aim_over (source.Memory w access p i) t rest h fits over =
-        let pointer = h.1 in
-        let index = h.2 in
-        reached_over access p i t rest h.0 pointer.0 index.0 (λ rest fits over. expr_over p t rest pointer.0 fits over)
-        (λ rest fits over. expr_over i (t + 1) rest index.0 fits over) fits over
+    marked_over : (through : Through) (size : ℕ) (p i : source.Expr) (t : ℕ) (rest : Code) → IsJudged few through size p i → IsCompilableExpr few p → t + 1 < locals → Over rest → Over (marked through p t rest)
+    marked_over Named size p i t rest h x below over = over
+    marked_over Raw size p i t rest h x below over = over
+    marked_over One size p i t rest h x below over = over
+    marked_over Array size p i t rest h x below over = over
+    marked_over Terminated size p i t rest h x below over = (below, (omega arith, range_end_over true p h.2 x), over)
 
-    written_over : (target : source.Target) (is_byte : Bool) (e : Expr) (rest : Code) → IsCompilableTarget few target → few + target_room target ≤ locals → IsExprOver locals e → Over rest → Over (written target few is_byte e rest)
-    written_over source.Nothing is_byte e rest h fits x over = over
-    written_over (source.Variable y w) is_byte e rest h fits x over = (omega arith, kept_over w is_byte e x, over)
-    written_over (source.Memory w access p i) is_byte e rest h fits x over =
+    aim_over : (target : source.Target) (t : ℕ) (rest : Code) → IsCompilableTarget few target → t + target_room target ≤ locals → t + target_count target ≤ locals → Over rest → Over (aim_code target t rest)
+    aim_over source.Nothing t rest h fits keeps over = over
+    aim_over (source.Variable y w) t rest h fits keeps over = over
+    aim_over (source.Memory w access p i) t rest h fits keeps over =
         let pointer = h.1 in
         let index = h.2 in
-        (reached_place_over access p i few h.0 pointer.0 index.0 fits, x, over)
+        let way = h.0 in
+        reached_over access p i t _ h.0 pointer.0 index.0 (λ rest fits over. expr_over p t rest pointer.0 fits over)
+        (λ rest fits over. expr_over i (t + 1) rest index.0 fits over) fits
+        (marked_over access.through access.size p i t rest way.3 pointer.0 (omega arith) over)
+
+    guarded_over : (through : Through) (at : Pos) (w : Width) (is_byte : Bool) (t u : ℕ) (rest : Code) → IsPlace at → t + 1 < locals → u < locals → Over rest → Over (guarded through at w is_byte t u rest)
+    guarded_over Named at w is_byte t u rest place below value over = over
+    guarded_over Raw at w is_byte t u rest place below value over = over
+    guarded_over One at w is_byte t u rest place below value over = over
+    guarded_over Array at w is_byte t u rest place below value over = over
+    guarded_over Terminated at w is_byte t u rest place below value over = (place, (below, (kept_over w is_byte (Local u) value, lit< tt)), over)
+
+    stored_over : (through : Through) (at : Pos) (w : Width) (is_byte : Bool) (t u : ℕ) (to e : Expr) (rest : Code) → IsPlace at → t + 1 < locals → u < locals → IsExprOver locals to → IsExprOver locals e → Over rest
+        → Over (stored_code through at w is_byte t u to e rest)
+    stored_over Named at w is_byte t u to e rest place below value x y over = (x, y, over)
+    stored_over Raw at w is_byte t u to e rest place below value x y over = (x, y, over)
+    stored_over One at w is_byte t u to e rest place below value x y over = (x, y, over)
+    stored_over Array at w is_byte t u to e rest place below value x y over = (x, y, over)
+    stored_over Terminated at w is_byte t u to e rest place below value x y over =
+        (value, y, guarded_over Terminated at w is_byte t u (Store w to (Local u) rest) place below value (x, value, over))
+
+    written_over : (target : source.Target) (is_byte : Bool) (e : Expr) (rest : Code) → IsCompilableTarget few target → few + target_room target ≤ locals → few + (target_count target + guard_room target) ≤ locals
+        → IsExprOver locals e → Over rest → Over (written target few is_byte e rest)
+    written_over source.Nothing is_byte e rest h fits keeps x over = over
+    written_over (source.Variable y w) is_byte e rest h fits keeps x over = (omega arith, kept_over w is_byte e x, over)
+    written_over (source.Memory w access p i) is_byte e rest h fits keeps x over =
+        let pointer = h.1 in
+        let index = h.2 in
+        let way = h.0 in
+        stored_over access.through access.at w is_byte few (few + target_count (source.Memory w access p i)) _ e rest way.0 (omega arith) (omega arith)
+        (reached_place_over access p i few h.0 pointer.0 index.0 fits) x over
+
+    allowed_over : (target : source.Target) (t : ℕ) (rest : Code) → IsCompilableTarget few target → t + (target_count target + guard_room target) ≤ locals → Over rest → Over (allowed_code target t rest)
+    allowed_over source.Nothing t rest h keeps over = over
+    allowed_over (source.Variable y w) t rest h keeps over = over
+    allowed_over (source.Memory w access p i) t rest h keeps over =
+        let way = h.0 in
+        guarded_over access.through access.at w false t (t + target_count (source.Memory w access p i)) rest way.0 (omega arith) (omega arith) over
 
     fixed_over : (target : source.Target) (t : ℕ) (rest : Code) → IsCompilableTarget few target → t + target_room target ≤ locals → Over rest → Over (fixed target t rest)
     fixed_over source.Nothing t rest h fits over = over
@@ -385,9 +420,10 @@ module _ (few locals : ℕ) (more : few ≤ locals) where
     assigned_over target e rest h x fits over =
         let u = few + target_count target in
         let aims : few + target_room target ≤ locals = omega arith in
+        let keeps : few + (target_count target + guard_room target) ≤ locals = omega arith in
         let inner : u + operand_room e ≤ locals = omega arith in
-        aim_over target few _ h aims
-        (operand_code_over e u _ x inner (written_over target (is_narrow e) (operand e u) rest h aims (operand_over e u x inner) over))
+        aim_over target few _ h aims (omega arith)
+        (operand_code_over e u _ x inner (written_over target (is_narrow e) (operand e u) rest h aims keeps (operand_over e u x inner) over))
 
     right_over : (target : source.Target) (right : source.Right) (rest : Code) → IsCompilableTarget few target → IsCompilableRight few right → few + assigned_room target right ≤ locals → Over rest → Over (right_assigned target right few rest)
     right_over source.Nothing (source.Value e) rest h x fits over = expr_over e few rest x.0 fits over
@@ -399,8 +435,9 @@ module _ (few locals : ℕ) (more : few ≤ locals) where
         let aims : few + target_room target ≤ locals = omega arith in
         let inner : u + operand_room e ≤ locals = omega arith in
         let below : u < locals = omega arith in
-        aim_over target few _ h aims (fixed_over target few _ h aims
-        (operand_code_over e u _ part.0 inner (below, operand_over e u part.0 inner, x.1, there_over target few (Local u) rest h aims below over)))
+        let keeps : few + (target_count target + guard_room target) ≤ locals = omega arith in
+        aim_over target few _ h aims (omega arith) (fixed_over target few _ h aims
+        (operand_code_over e u _ part.0 inner (below, operand_over e u part.0 inner, x.1, allowed_over target few _ h keeps (there_over target few (Local u) rest h aims below over))))
 
     valued_over : (right : source.Right) (u : ℕ) (rest : Code) → IsCompilableRight few right → u + valued_room right ≤ locals → Over rest → Over (valued right u rest)
     valued_over (source.Value e) u rest x fits over = expr_over e u rest x.0 fits over
@@ -415,8 +452,9 @@ module _ (few locals : ℕ) (more : few ≤ locals) where
         let one = All-head (IsCompilableAssign few) a assigns h in
         let aims : t + target_room a.0 ≤ locals = omega arith in
         let inner : t + target_count a.0 + valued_room a.1 ≤ locals = omega arith in
-        aim_over a.0 t _ one.0 aims (fixed_over a.0 t _ one.0 aims (valued_over a.1 (t + target_count a.0) _ one.1 inner
-        (plans_over assigns (behind_planned a.0 t) rest (All-tail (IsCompilableAssign few) a assigns h) (omega arith) over)))
+        let keeps : t + (target_count a.0 + guard_room a.0) ≤ locals = omega arith in
+        aim_over a.0 t _ one.0 aims (omega arith) (fixed_over a.0 t _ one.0 aims (valued_over a.1 (t + target_count a.0) _ one.1 inner (allowed_over a.0 t _ one.0 keeps
+        (plans_over assigns (behind_planned a.0 t) rest (All-tail (IsCompilableAssign few) a assigns h) (omega arith) over))))
 
     writes_over : (assigns : List (source.Target × source.Right)) (t : ℕ) (rest : Code) → All (IsCompilableAssign few) assigns → t + bundle_room assigns ≤ locals → Over rest → Over (writes_code assigns t rest)
     writes_over [] t rest h fits over = over
@@ -463,16 +501,18 @@ module _ (functions : List source.Function) (few locals : ℕ) (more : few ≤ l
       let u = few + target_count target in
       let aims : few + target_room target ≤ locals = omega arith in
       let below : u < locals = omega arith in
-      aim_over few locals more all_code looped target few _ h.0 aims
-      (below, written_over few locals more all_code looped target false (Local u) (statements few rest) h.0 aims below (statements_over rest looped h.1 (omega arith)))
+      let keeps : few + (target_count target + guard_room target) ≤ locals = omega arith in
+      aim_over few locals more all_code looped target few _ h.0 aims (omega arith)
+      (below, written_over few locals more all_code looped target false (Local u) (statements few rest) h.0 aims keeps below (statements_over rest looped h.1 (omega arith)))
   statements_over (source.Put spot target e rest) looped h fits =
       let u = few + target_count target in
       let aims : few + target_room target ≤ locals = omega arith in
       let inner : u + operand_room e ≤ locals = omega arith in
       let x = operand_over few locals more e u h.1.0 inner in
-      aim_over few locals more all_code looped target few _ h.0 aims
+      let keeps : few + (target_count target + guard_room target) ≤ locals = omega arith in
+      aim_over few locals more all_code looped target few _ h.0 aims (omega arith)
       (operand_code_over few locals more all_code looped e u _ h.1.0 inner
-      (x, written_over few locals more all_code looped target true (low_byte (operand e u)) (statements few rest) h.0 aims (x, lit< tt) (statements_over rest looped h.2 (omega arith))))
+      (x, written_over few locals more all_code looped target true (low_byte (operand e u)) (statements few rest) h.0 aims keeps (x, lit< tt) (statements_over rest looped h.2 (omega arith))))
   statements_over (source.Call spot target callee es rest) looped h fits =
       let inner : few + operands_room es ≤ locals = omega arith in
       let below : few < locals = omega arith in

@@ -2,6 +2,7 @@
 use Rattle.std.proofs.Common.{ℕ, zero, suc, ◌+◌, ◌-◌, ◌*◌, ◌≤◌, List, [], ◌∷◌, length, arith}
 use Rattle.std.specs.Prelude.{ℤ, Bool, true, false, ◌==◌, if◌then◌else◌, Option, Some, None, map, sum_by}
 use Rattle.std.proofs.lemmas.List.Sums.{sum_by-cons}
+use Rattle.ckc_base.specs.declared.arithmetic.Width.{Width}
 use Rattle.ckc_base.specs.declared.arithmetic.Width.TheVariants as width
 use Rattle.ckc_base.specs.declared.arithmetic.BinOp.TheVariants as binary
 use Rattle.ckc_base.specs.declared.places.Pos.{Pos}
@@ -23,10 +24,10 @@ use Rattle.ckc_source.specs.declared.stmt.Kept.TheVariants as kept
 use Rattle.ckc_source.specs.Code as source
 use Rattle.ckc_base.specs.Words.{word_of}
 use Rattle.ckc_source.specs.Words.{divides}
-use Rattle.ckc_core.specs.Code.{Expr, Const, Local, Load, Bin, Code, End, Set, Check}
+use Rattle.ckc_core.specs.Code.{Expr, Const, Local, Load, Bin, Code, End, Set, Store, Check}
 use Rattle.ckc_core.specs.Sizes.{expr_size, exprs_size, set_size, code_size, function_size, program_size}
-use Rattle.ckc_checks.specs.Compilable.{element_nodes, access_nodes, shift_nodes, index_nodes, expr_nodes, exprs_nodes, target_nodes, right_nodes, assigns_nodes, code_nodes, function_nodes, program_nodes}
-use Rattle.ckc_checks.specs.Inserted.{is_direct, operated, low_byte, as_truth, is_zero, scaled, shifted, at_offset, element_of, place_at, held, put_if, keeps_index, is_bounded, reads_signed, exact_test, exact_code, moved_code, base_at, amount_at, end_at, static_place, counted_end, range_end, range_test, element_code, bounded_code, judged, reached_place, direct, operand, operation_code, expr_code, operand_code, operands_code, operands, is_narrow, aim_code, target_count, written, fixed, written_there, right_assigned, valued, behind_planned, plans_code, writes_code, result_in, result_kept, statements, zeroed, function_code, inserted}
+use Rattle.ckc_checks.specs.Compilable.{element_nodes, access_nodes, shift_nodes, index_nodes, expr_nodes, exprs_nodes, guard_nodes, target_nodes, right_nodes, assigns_nodes, code_nodes, function_nodes, program_nodes}
+use Rattle.ckc_checks.specs.Inserted.{is_direct, operated, low_byte, as_truth, is_zero, scaled, shifted, at_offset, element_of, place_at, held, put_if, keeps_index, is_bounded, reads_signed, exact_test, exact_code, moved_code, base_at, amount_at, end_at, static_place, counted_end, range_end, range_test, element_code, bounded_code, judged, reached_place, direct, operand, operation_code, expr_code, operand_code, operands_code, operands, is_narrow, kept_in, marked, aim_code, target_count, guarded, stored_code, written, fixed, allowed_code, written_there, right_assigned, valued, behind_planned, plans_code, writes_code, result_in, result_kept, statements, zeroed, function_code, inserted}
 
 element_some : (zero : Bool) → 4 ≤ (if zero then 4 else 6)
 element_some true = omega arith
@@ -411,6 +412,59 @@ operands_sized (e ∷ es) t rest =
     let after = operands_code es (t + 1) rest in
     omega (arith, argument_sized e t after, operands_sized es (t + 1) rest, sum_by-cons expr_size (operand e t) (operands es (t + 1)))
 
+-- ---- where zero alone may be written
+
+abbrev mark_size : Through → ℕ
+mark_size Terminated = 80
+mark_size _ = 0
+
+abbrev guard_size : Through → ℕ
+guard_size Terminated = 100
+guard_size _ = 0
+
+guard_sized : (through : Through) → mark_size through + guard_size through ≤ 60 * guard_nodes through
+guard_sized Terminated = omega arith
+guard_sized Named = omega arith
+guard_sized Raw = omega arith
+guard_sized One = omega arith
+guard_sized Array = omega arith
+
+marked_sized : (through : Through) (p : source.Expr) (t : ℕ) (rest : Code) → code_size (marked through p t rest) ≤ mark_size through + code_size rest
+marked_sized Terminated p t rest = omega (arith, range_end_sized true p)
+marked_sized Named p t rest = omega arith
+marked_sized Raw p t rest = omega arith
+marked_sized One p t rest = omega arith
+marked_sized Array p t rest = omega arith
+
+kept_sized : (w : Width) (is_byte : Bool) (u : ℕ) → expr_size (kept_in w is_byte (Local u)) ≤ 16
+kept_sized width.Word is_byte u = omega arith
+kept_sized width.Byte true u = omega arith
+kept_sized width.Byte false u = omega arith
+
+guarded_sized : (through : Through) (at : Pos) (w : Width) (is_byte : Bool) (t u : ℕ) (rest : Code) → code_size (guarded through at w is_byte t u rest) ≤ guard_size through + code_size rest
+guarded_sized Terminated at w is_byte t u rest = omega (arith, kept_sized w is_byte u)
+guarded_sized Named at w is_byte t u rest = omega arith
+guarded_sized Raw at w is_byte t u rest = omega arith
+guarded_sized One at w is_byte t u rest = omega arith
+guarded_sized Array at w is_byte t u rest = omega arith
+
+stored_sized : (through : Through) (at : Pos) (w : Width) (is_byte : Bool) (t u : ℕ) (to e : Expr) (rest : Code)
+    → code_size (stored_code through at w is_byte t u to e rest) ≤ 7 + expr_size to + expr_size e + guard_size through + code_size rest
+stored_sized Terminated at w is_byte t u to e rest = omega (arith, set_sized e, kept_sized w is_byte u)
+stored_sized Named at w is_byte t u to e rest = omega arith
+stored_sized Raw at w is_byte t u to e rest = omega arith
+stored_sized One at w is_byte t u to e rest = omega arith
+stored_sized Array at w is_byte t u to e rest = omega arith
+
+abbrev allow_size : source.Target → ℕ
+allow_size (source.Memory w access p i) = guard_size access.through
+allow_size _ = 0
+
+allowed_sized : (target : source.Target) (t : ℕ) (rest : Code) → code_size (allowed_code target t rest) ≤ allow_size target + code_size rest
+allowed_sized source.Nothing t rest = omega arith
+allowed_sized (source.Variable x w) t rest = omega arith
+allowed_sized (source.Memory w access p i) t rest = guarded_sized access.through access.at w false t (t + target_count (source.Memory w access p i)) rest
+
 -- A value is written behind what finds the place of the target.
 aimed_sized : (target : source.Target) (t n : ℕ) (is_byte : Bool) (value : Expr) (rest inner : Code)
     → code_size inner + expr_size value ≤ n + code_size (written target t is_byte value rest)
@@ -420,7 +474,15 @@ aimed_sized (source.Variable x width.Word) t n is_byte value rest inner h = omeg
 aimed_sized (source.Variable x width.Byte) t n true value rest inner h = omega (arith, set_sized value)
 aimed_sized (source.Variable x width.Byte) t n false value rest inner h = omega arith
 aimed_sized (source.Memory w access p i) t n is_byte value rest inner h =
-    omega (arith, reached_sized access.through access p i t inner (λ rest. expr_sized p t rest) (λ rest. expr_sized i (t + 1) rest), h)
+    let last = marked access.through p t inner in
+    omega (
+      arith,
+      reached_sized access.through access p i t last (λ rest. expr_sized p t rest) (λ rest. expr_sized i (t + 1) rest),
+      marked_sized access.through p t inner,
+      guard_sized access.through,
+      stored_sized access.through access.at w is_byte t (t + target_count (source.Memory w access p i)) (reached_place access p i t) value rest,
+      h,
+    )
 
 assigned_sized : (target : source.Target) (e : source.Expr) (t : ℕ) (rest : Code)
     → code_size (aim_code target t (operand_code e (t + target_count target) (written target t (is_narrow e) (operand e (t + target_count target)) rest)))
@@ -430,7 +492,7 @@ assigned_sized target e t rest =
     let after = written target t (is_narrow e) (operand e u) rest in
     aimed_sized target t (60 * expr_nodes e) (is_narrow e) (operand e u) rest (operand_code e u after) (omega (arith, operand_sized e u after))
 
-there_sized : (target : source.Target) (t n u : ℕ) (rest inner : Code) → code_size inner ≤ n + code_size (written_there target t (Local u) rest)
+there_sized : (target : source.Target) (t n u : ℕ) (rest inner : Code) → code_size inner ≤ n + code_size (allowed_code target t (written_there target t (Local u) rest))
     → code_size (aim_code target t (fixed target t inner)) ≤ 22 + 60 * target_nodes target + n + code_size rest
 there_sized source.Nothing t n u rest inner h = omega arith
 there_sized (source.Variable x width.Word) t n u rest inner h = omega arith
@@ -438,10 +500,14 @@ there_sized (source.Variable x width.Byte) t n u rest inner h = omega arith
 there_sized (source.Memory w access p i) t n u rest inner h =
     let place = reached_place access p i t in
     let set = Set t place inner in
+    let last = marked access.through p t set in
     omega (
       arith,
       set_sized place,
-      reached_sized access.through access p i t set (λ rest. expr_sized p t rest) (λ rest. expr_sized i (t + 1) rest),
+      reached_sized access.through access p i t last (λ rest. expr_sized p t rest) (λ rest. expr_sized i (t + 1) rest),
+      marked_sized access.through p t set,
+      guard_sized access.through,
+      guarded_sized access.through access.at w false t (t + target_count (source.Memory w access p i)) (Store w (Local t) (Local u) rest),
       h,
     )
 
@@ -452,22 +518,25 @@ right_sized (source.Variable x w) (source.Value e) t rest = omega (arith, assign
 right_sized (source.Memory w access p i) (source.Value e) t rest = omega (arith, assigned_sized (source.Memory w access p i) e t rest)
 right_sized target (source.Fresh to e) t rest =
     let u = t + target_count target in
-    let alloc = Code.Alloc u (operand e u) to.size (written_there target t (Local u) rest) in
+    let alloc = Code.Alloc u (operand e u) to.size (allowed_code target t (written_there target t (Local u) rest)) in
     omega (arith, there_sized target t (60 * expr_nodes e + 32) u rest (operand_code e u alloc) (omega (arith, operand_sized e u alloc)))
 
 -- the place and the value of an assignment in a bundle, and the write
 aim_fixed_sized : (target : source.Target) (t u : ℕ) (inner rest : Code)
-    → code_size (aim_code target t (fixed target t inner)) + code_size (written_there target t (Local u) rest) ≤ 22 + 60 * target_nodes target + code_size inner + code_size rest
+    → code_size (aim_code target t (fixed target t inner)) + allow_size target + code_size (written_there target t (Local u) rest) ≤ 22 + 60 * target_nodes target + code_size inner + code_size rest
 aim_fixed_sized source.Nothing t u inner rest = omega arith
 aim_fixed_sized (source.Variable x width.Word) t u inner rest = omega arith
 aim_fixed_sized (source.Variable x width.Byte) t u inner rest = omega arith
 aim_fixed_sized (source.Memory w access p i) t u inner rest =
     let place = reached_place access p i t in
     let set = Set t place inner in
+    let last = marked access.through p t set in
     omega (
       arith,
       set_sized place,
-      reached_sized access.through access p i t set (λ rest. expr_sized p t rest) (λ rest. expr_sized i (t + 1) rest),
+      reached_sized access.through access p i t last (λ rest. expr_sized p t rest) (λ rest. expr_sized i (t + 1) rest),
+      marked_sized access.through p t set,
+      guard_sized access.through,
     )
 
 valued_sized : (right : source.Right) (u : ℕ) (rest : Code) → code_size (valued right u rest) ≤ 42 + 60 * right_nodes right + code_size rest
@@ -481,10 +550,12 @@ bundle_sized (a ∷ assigns) t inner rest =
     let next = behind_planned a.0 t in
     let u = t + target_count a.0 in
     let plans = plans_code assigns next inner in
+    let last = allowed_code a.0 t plans in
     omega (
       arith,
-      aim_fixed_sized a.0 t u (valued a.1 u plans) (writes_code assigns next rest),
-      valued_sized a.1 u plans,
+      aim_fixed_sized a.0 t u (valued a.1 u last) (writes_code assigns next rest),
+      valued_sized a.1 u last,
+      allowed_sized a.0 t plans,
       bundle_sized assigns next inner rest,
     )
 

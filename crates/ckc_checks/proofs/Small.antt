@@ -2,6 +2,7 @@
 use Rattle.std.proofs.Common.{ℕ, zero, suc, ◌+◌, ◌-◌, ◌*◌, ◌≤◌, List, [], ◌∷◌, length, arith}
 use Rattle.std.specs.Prelude.{ℤ, Bool, true, false, ◌==◌, if◌then◌else◌, max, Option, Some, None, slice_get, All}
 use Rattle.std.proofs.lemmas.List.Elements.{All-nil, All-cons, All-head, All-tail, All-map, All-weaker}
+use Rattle.ckc_base.specs.declared.arithmetic.Width.{Width}
 use Rattle.ckc_base.specs.declared.arithmetic.Width.TheVariants as width
 use Rattle.ckc_base.specs.declared.places.Pos.{Pos}
 use Rattle.ckc_base.specs.declared.arithmetic.BinOp.TheVariants as binary
@@ -23,11 +24,11 @@ use Rattle.ckc_source.specs.declared.stmt.Kept.TheVariants as kept
 use Rattle.ckc_source.specs.Code as source
 use Rattle.ckc_base.specs.Words.{word_of}
 use Rattle.ckc_source.specs.Words.{divides}
-use Rattle.ckc_core.specs.Code.{Expr, Const, Local, Load, Bin, Code, End, Set, Check}
+use Rattle.ckc_core.specs.Code.{Expr, Const, Local, Load, Bin, Code, End, Set, Store, Check}
 use Rattle.ckc_core.specs.Limits.{depth, IsShallow, KeepsLimits, IsSmallFunction, IsWithinLimits}
 use Rattle.ckc_checks.specs.Compilable as form
 use Rattle.ckc_checks.specs.Compilable.{IsCompilablePart, IsCompilableTarget, IsCompilableRight, IsCompilableAssign, IsCompilableCode, IsCompilableFunction, IsCompilable}
-use Rattle.ckc_checks.specs.Inserted.{is_direct, operated, low_byte, as_truth, is_zero, scaled, shifted, at_offset, element_of, place_at, held, put_if, room_if, keeps_index, is_bounded, reads_signed, exact_test, exact_code, base_at, amount_at, end_at, static_place, counted_end, range_end, range_test, bounded_code, judged, pointer_at, index_at, reached_code, reached_place, direct, operand, operation_code, expr_code, operand_code, operands_code, operands, expr_room, operand_room, operands_room, is_narrow, aim_code, target_count, written, fixed, written_there, right_assigned, valued, behind_planned, plans_code, writes_code, aimed_room, assigned_room, valued_room, bundle_room, result_kept, statements, room, zeroed, function_code, inserted}
+use Rattle.ckc_checks.specs.Inserted.{is_direct, operated, low_byte, as_truth, is_zero, scaled, shifted, at_offset, element_of, place_at, held, put_if, room_if, keeps_index, is_bounded, reads_signed, exact_test, exact_code, base_at, amount_at, end_at, static_place, counted_end, range_end, range_test, bounded_code, judged, pointer_at, index_at, reached_code, reached_place, direct, operand, operation_code, expr_code, operand_code, operands_code, operands, expr_room, operand_room, operands_room, is_narrow, marked, aim_code, target_count, guarded, stored_code, written, fixed, allowed_code, written_there, right_assigned, valued, behind_planned, plans_code, writes_code, aimed_room, assigned_room, valued_room, bundle_room, result_kept, statements, room, zeroed, function_code, inserted}
 use Rattle.ckc_checks.proofs.Formed.{length-operands}
 
 -- ---- expressions
@@ -322,6 +323,13 @@ module _ (few : ℕ) where
 
 -- ---- statements
 
+marked_small : (through : Through) (p : source.Expr) (t : ℕ) (rest : Code) → KeepsLimits rest → KeepsLimits (marked through p t rest)
+marked_small Named p t rest k = k
+marked_small Raw p t rest k = k
+marked_small One p t rest k = k
+marked_small Array p t rest k = k
+marked_small Terminated p t rest k = (omega (arith, range_end_depth true p), k)
+
 -- the place of a target is found, and then a value is written
 aim_small : (few t : ℕ) (target : source.Target) (rest : Code) → IsCompilableTarget few target → KeepsLimits rest → KeepsLimits (aim_code target t rest)
 aim_small few t source.Nothing rest h k = k
@@ -329,7 +337,28 @@ aim_small few t (source.Variable x w) rest h k = k
 aim_small few t (source.Memory w access p i) rest h k =
     let pointer = h.1 in
     let index = h.2 in
-    reached_small p i t access rest pointer.1 index.1 k (λ rest k. expr_small p t rest pointer.1 k) (λ rest k. expr_small i (t + 1) rest index.1 k)
+    reached_small p i t access _ pointer.1 index.1 (marked_small access.through p t rest k) (λ rest k. expr_small p t rest pointer.1 k) (λ rest k. expr_small i (t + 1) rest index.1 k)
+
+guarded_small : (through : Through) (at : Pos) (w : Width) (is_byte : Bool) (t u : ℕ) (rest : Code) → KeepsLimits rest → KeepsLimits (guarded through at w is_byte t u rest)
+guarded_small Named at w is_byte t u rest k = k
+guarded_small Raw at w is_byte t u rest k = k
+guarded_small One at w is_byte t u rest k = k
+guarded_small Array at w is_byte t u rest k = k
+guarded_small Terminated at width.Word is_byte t u rest k = (omega arith, k)
+guarded_small Terminated at width.Byte true t u rest k = (omega arith, k)
+guarded_small Terminated at width.Byte false t u rest k = (omega arith, k)
+
+stored_small : (through : Through) (at : Pos) (w : Width) (is_byte : Bool) (t u : ℕ) (to e : Expr) (rest : Code) → depth to ≤ 1000 → depth e ≤ 1000 → KeepsLimits rest → KeepsLimits (stored_code through at w is_byte t u to e rest)
+stored_small Named at w is_byte t u to e rest x y k = (x, y, k)
+stored_small Raw at w is_byte t u to e rest x y k = (x, y, k)
+stored_small One at w is_byte t u to e rest x y k = (x, y, k)
+stored_small Array at w is_byte t u to e rest x y k = (x, y, k)
+stored_small Terminated at w is_byte t u to e rest x y k = (y, guarded_small Terminated at w is_byte t u (Store w to (Local u) rest) (x, omega arith, k))
+
+allowed_small : (t : ℕ) (target : source.Target) (rest : Code) → KeepsLimits rest → KeepsLimits (allowed_code target t rest)
+allowed_small t source.Nothing rest k = k
+allowed_small t (source.Variable x w) rest k = k
+allowed_small t (source.Memory w access p i) rest k = guarded_small access.through access.at w false t (t + target_count (source.Memory w access p i)) rest k
 
 written_small : (few t : ℕ) (target : source.Target) (is_byte : Bool) (e : Expr) (rest : Code) → IsCompilableTarget few target → depth e ≤ 900 → KeepsLimits rest → KeepsLimits (written target t is_byte e rest)
 written_small few t source.Nothing is_byte e rest s h k = k
@@ -339,7 +368,7 @@ written_small few t (source.Variable x width.Byte) false e rest s h k = (omega a
 written_small few t (source.Memory w access p i) is_byte e rest s h k =
     let pointer = s.1 in
     let index = s.2 in
-    (omega (arith, reached_depth access p i t pointer.1 index.1), omega arith, k)
+    stored_small access.through access.at w is_byte t (t + target_count (source.Memory w access p i)) _ e rest (omega (arith, reached_depth access p i t pointer.1 index.1)) (omega arith) k
 
 fixed_small : (few t : ℕ) (target : source.Target) (rest : Code) → IsCompilableTarget few target → KeepsLimits rest → KeepsLimits (fixed target t rest)
 fixed_small few t source.Nothing rest s k = k
@@ -370,7 +399,7 @@ right_small few t target (source.Fresh to e) rest s h k =
     let u = t + target_count target in
     let part = h.0 in
     let last = there_small few t target (Local u) rest (omega arith) k in
-    aim_small few t target _ s (fixed_small few t target _ s (operand_small e u _ part.1 (omega (arith, operand_depth e u part.1), last)))
+    aim_small few t target _ s (fixed_small few t target _ s (operand_small e u _ part.1 (omega (arith, operand_depth e u part.1), allowed_small t target _ last)))
 
 valued_small : (few u : ℕ) (right : source.Right) (rest : Code) → IsCompilableRight few right → KeepsLimits rest → KeepsLimits (valued right u rest)
 valued_small few u (source.Value e) rest h k = expr_small e u rest h.1 k
@@ -382,8 +411,8 @@ plans_small : (few t : ℕ) (assigns : List (source.Target × source.Right)) (re
 plans_small few t [] rest h k = k
 plans_small few t (a ∷ assigns) rest h k =
     let one = All-head (IsCompilableAssign few) a assigns h in
-    aim_small few t a.0 _ one.0 (fixed_small few t a.0 _ one.0 (valued_small few (t + target_count a.0) a.1 _ one.1
-    (plans_small few (behind_planned a.0 t) assigns rest (All-tail (IsCompilableAssign few) a assigns h) k)))
+    aim_small few t a.0 _ one.0 (fixed_small few t a.0 _ one.0 (valued_small few (t + target_count a.0) a.1 _ one.1 (allowed_small t a.0 _
+    (plans_small few (behind_planned a.0 t) assigns rest (All-tail (IsCompilableAssign few) a assigns h) k))))
 
 writes_small : (few t : ℕ) (assigns : List (source.Target × source.Right)) (rest : Code) → KeepsLimits rest → KeepsLimits (writes_code assigns t rest)
 writes_small few t [] rest k = k
@@ -396,7 +425,7 @@ result_small (Some (kept.Local x width.Byte)) t rest k = (omega arith, k)
 result_small (Some (kept.Local x width.Word)) t rest k = k
 result_small (Some (kept.Static a w)) t rest k = (omega arith, omega arith, k)
 
-aimed_room_few : (few r : ℕ) (target : source.Target) → IsCompilableTarget few target → r ≤ 200 → aimed_room target r ≤ 202
+aimed_room_few : (few r : ℕ) (target : source.Target) → IsCompilableTarget few target → r ≤ 200 → aimed_room target r ≤ 204
 aimed_room_few few r source.Nothing h k = omega arith
 aimed_room_few few r (source.Variable x w) h k = omega arith
 aimed_room_few few r (source.Memory w access p i) h k =
@@ -405,7 +434,7 @@ aimed_room_few few r (source.Memory w access p i) h k =
     let checked = is_bounded access.through in
     omega (arith, if_few checked p 200 (omega (arith, expr_room_few p)), if_few (keeps_index checked i) i 200 (omega (arith, expr_room_few i)))
 
-right_room_few : (few : ℕ) (target : source.Target) (right : source.Right) → IsCompilableTarget few target → IsCompilableRight few right → assigned_room target right ≤ 202
+right_room_few : (few : ℕ) (target : source.Target) (right : source.Right) → IsCompilableTarget few target → IsCompilableRight few right → assigned_room target right ≤ 204
 right_room_few few source.Nothing (source.Value e) s h = omega (arith, expr_room_few e)
 right_room_few few (source.Variable x w) (source.Value e) s h = aimed_room_few few (operand_room e) (source.Variable x w) s (operand_room_few e h.1)
 right_room_few few (source.Memory w access p i) (source.Value e) s h = aimed_room_few few (operand_room e) (source.Memory w access p i) s (operand_room_few e h.1)
@@ -424,7 +453,7 @@ count_few source.Nothing = omega arith
 count_few (source.Variable x w) = omega arith
 count_few (source.Memory w access p i) = omega arith
 
-bundle_few : (few : ℕ) (assigns : List (source.Target × source.Right)) → All (IsCompilableAssign few) assigns → bundle_room assigns ≤ 202 + 5 * length assigns
+bundle_few : (few : ℕ) (assigns : List (source.Target × source.Right)) → All (IsCompilableAssign few) assigns → bundle_room assigns ≤ 204 + 5 * length assigns
 bundle_few few [] h = omega arith
 bundle_few few (a ∷ assigns) h =
     let one = All-head (IsCompilableAssign few) a assigns h in

@@ -1,6 +1,6 @@
 -- Programs that can be compiled: names exist, numbers fit, functions and expressions are small. What is
 -- accessed by its range comes of a local with limits or of a static object, and what is tested is a pointer to one
--- element. Nothing is written through a pointer to a null-terminated array.
+-- element.
 use Rattle.std.specs.Prelude.{◌≡◌, ℤ, pos, neg_ℤ, ◌≤ℤ◌, ◌<ℤ◌, ℕ, ◌+◌, ◌≤◌, ◌<◌, ◌^◌, ◌==◌, if◌then◌else◌, max, Bool, true, false, IsTrue, List, [], ◌∷◌, length, slice_get, sum_by, Option, Some, None, All, IfSome}
 use Rattle.ckc_base.specs.Memory.{data_start}
 use Rattle.ckc_core.specs.WellFormed.{IsPlace}
@@ -84,8 +84,14 @@ abbrev pub exprs_nodes : List Expr → ℕ
 exprs_nodes [] = 0
 exprs_nodes (e ∷ es) = expr_nodes e + exprs_nodes es
 
+-- where zero alone may be written
+abbrev pub guard_nodes : Through → ℕ
+guard_nodes Terminated = 3
+guard_nodes _ = 0
+
 abbrev pub target_nodes : Target → ℕ
-target_nodes (Memory width access p i) = access_nodes access.through i + expr_nodes p + index_nodes i (expr_nodes i)
+target_nodes (Memory width access p i) =
+    guard_nodes access.through + access_nodes access.through i + expr_nodes p + index_nodes i (expr_nodes i)
 target_nodes _ = 0
 
 abbrev pub right_nodes : Right → ℕ
@@ -189,11 +195,6 @@ IsJudged locals One size p i = IsZero i
 IsJudged locals Arrays size p i = (1 ≤ size) × (size < 2 ^ 31) × IsRanged locals p
 IsJudged locals Terminated size p i = (1 ≤ size) × (size < 2 ^ 31) × IsRanged locals p
 
--- nothing is written through a pointer to a null-terminated array
-abbrev pub IsWritable : Through → Type 0
-IsWritable Terminated = ⊥
-IsWritable _ = Unit {0}
-
 -- an access through a pointer at an index
 abbrev pub IsAccess : ℕ → Access → Expr → Expr → Type 0
 IsAccess locals access p i =
@@ -265,7 +266,7 @@ abbrev pub IsCompilableTarget : ℕ → Target → Type 0
 IsCompilableTarget locals Nothing = Unit {0}
 IsCompilableTarget locals (Variable x width) = x < locals
 IsCompilableTarget locals (Memory width access p i) =
-    IsAccess locals access p i × IsCompilablePart locals p × IsCompilablePart locals i × IsWritable access.through
+    IsAccess locals access p i × IsCompilablePart locals p × IsCompilablePart locals i
 
 abbrev pub IsCompilableRight : ℕ → Right → Type 0
 IsCompilableRight locals (Value e) = IsCompilablePart locals e

@@ -356,10 +356,20 @@ abbrev pub kept_in : Width → Bool → Expr → Expr
 kept_in width.Byte is_byte e = if is_byte then e else low_byte e
 kept_in width.Word is_byte e = e
 
+-- whether the element in the temporary t is not at the upper bound of its pointer
+abbrev pub below_end : source.Expr → ℕ → Expr
+below_end p t = Bin binary.Ne (Local t) (range_end true p)
+
+-- Through a pointer to a null-terminated array zero alone may be written at the upper bound. Whether an element is below
+-- it goes to t + 1, where nothing is read any more that found the element.
+abbrev pub marked : Through → source.Expr → ℕ → Code → Code
+marked Terminated p t rest = Set (t + 1) (below_end p t) rest
+marked _ p t rest = rest
+
 -- what finds the place of a target in memory
 abbrev pub aim_code : source.Target → ℕ → Code → Code
 aim_code (source.Memory width access p i) t rest =
-    reached_code access p i (expr_code p t) (expr_code i (t + 1)) t rest
+    reached_code access p i (expr_code p t) (expr_code i (t + 1)) t (marked access.through p t rest)
 aim_code _ t rest = rest
 
 -- how many temporaries keep the place of a target
@@ -367,11 +377,24 @@ abbrev pub target_count : source.Target → ℕ
 target_count (source.Memory width access p i) = 2
 target_count _ = 0
 
+-- the check of the value in the temporary u, by whether it is a byte already
+abbrev pub guarded : Through → Pos → Width → Bool → (t u : ℕ) → Code → Code
+guarded Terminated at width is_byte t u rest =
+    Check check.Terminator at (Bin binary.Or (Local (t + 1)) (Bin binary.Eq (kept_in width is_byte (Local u)) (Const 0))) rest
+guarded _ at width is_byte t u rest = rest
+
+-- A value is stored at a place, behind its check.
+abbrev pub stored_code : Through → Pos → Width → Bool → (t u : ℕ) → (to e : Expr) → Code → Code
+stored_code Terminated at width is_byte t u to e rest =
+    Set u e (guarded Terminated at width is_byte t u (Store width to (Local u) rest))
+stored_code _ at width is_byte t u to e rest = Store width to e rest
+
 -- A value that a target keeps whose place is found in the temporaries from t on, by whether it is a byte already.
 abbrev pub written : source.Target → ℕ → Bool → Expr → Code → Code
 written source.Nothing t is_byte e rest = rest
 written (source.Variable x width) t is_byte e rest = Set x (kept_in width is_byte e) rest
-written (source.Memory width access p i) t is_byte e rest = Store width (reached_place access p i t) e rest
+written (source.Memory width access p i) t is_byte e rest =
+    stored_code access.through access.at width is_byte t (t + target_count (source.Memory width access p i)) (reached_place access p i t) e rest
 
 -- an operand in front of what uses it, in a temporary
 abbrev pub operand_used : source.Expr → ℕ → (Expr → Code) → Code
@@ -392,6 +415,12 @@ abbrev pub fixed : source.Target → ℕ → Code → Code
 fixed (source.Memory width access p i) t rest = Set t (reached_place access p i t) rest
 fixed _ t rest = rest
 
+-- the check of the value behind the temporaries of a target
+abbrev pub allowed_code : source.Target → ℕ → Code → Code
+allowed_code (source.Memory width access p i) t rest =
+    guarded access.through access.at width false t (t + target_count (source.Memory width access p i)) rest
+allowed_code _ t rest = rest
+
 -- a value that a target keeps whose place is in the temporary t
 abbrev pub written_there : source.Target → ℕ → Expr → Code → Code
 written_there source.Nothing t e rest = rest
@@ -403,7 +432,7 @@ abbrev pub right_assigned : source.Target → source.Right → ℕ → Code → 
 right_assigned target (source.Value e) t rest = assigned target e t rest
 right_assigned target (source.Fresh to e) t rest =
     aim_code target t (fixed target t (taken e to.size (t + target_count target)
-    (written_there target t (Local (t + target_count target)) rest)))
+    (allowed_code target t (written_there target t (Local (t + target_count target)) rest))))
 
 -- ---- bundles
 
@@ -414,7 +443,8 @@ valued (source.Fresh to e) u rest = taken e to.size u rest
 
 -- The place of a target and the value that goes there are found, and both are kept in temporaries from t on.
 abbrev pub planned_code : source.Target → source.Right → ℕ → Code → Code
-planned_code target right t rest = aim_code target t (fixed target t (valued right (t + target_count target) rest))
+planned_code target right t rest =
+    aim_code target t (fixed target t (valued right (t + target_count target) (allowed_code target t rest)))
 
 -- the temporaries behind those
 abbrev pub behind_planned : source.Target → ℕ → ℕ
@@ -478,9 +508,14 @@ abbrev pub target_room : source.Target → ℕ
 target_room (source.Memory width access p i) = reached_room (is_bounded access.through) p i (expr_room p) (expr_room i)
 target_room _ = 0
 
+-- a value that is stored may go to a temporary first
+abbrev pub guard_room : source.Target → ℕ
+guard_room (source.Memory width access p i) = 1
+guard_room _ = 0
+
 -- how many temporaries a target and so many for its value need
 abbrev pub aimed_room : source.Target → ℕ → ℕ
-aimed_room target room = max (target_room target) (target_count target + room)
+aimed_room target room = max (target_room target) (target_count target + max (guard_room target) room)
 
 abbrev pub assigned_room : source.Target → source.Right → ℕ
 assigned_room source.Nothing (source.Value e) = expr_room e

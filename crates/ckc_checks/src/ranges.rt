@@ -220,7 +220,7 @@ fn counted_end(
 }
 
 /// An end of the range of a pointer, the upper one where the flag says so.
-fn range_end(alloc: Global, upper: bool, p: &ExprTree) -> Result<CoreExpr, AllocError>
+pub fn range_end(alloc: Global, upper: bool, p: &ExprTree) -> Result<CoreExpr, AllocError>
     ensures { IfOk result (λ c. expr_of c ≡ range_end upper (source_of p.now)) }
 {
     match p {

@@ -2,7 +2,7 @@
 
 ghost use Rattle.std.specs.Prelude.{◌≡◌, ◌+◌, max, map, IfOk, if◌then◌else◌};
 ghost use Rattle.ckc_source.specs.Code.{code_of, expr_of, target_of, right_of, assign_of};
-ghost use Rattle.ckc_checks.specs.Inserted.{expr_room, operand_room, operands_room, target_count, target_room, aimed_room, assigned_room, valued_room, bundle_room, room};
+ghost use Rattle.ckc_checks.specs.Inserted.{expr_room, operand_room, operands_room, target_count, target_room, guard_room, aimed_room, assigned_room, valued_room, bundle_room, room};
 ghost use Rattle.ckc_checks.specs.Building.{expr_room_if};
 
 use crate::exprs::{is_direct, sum};
@@ -115,12 +115,22 @@ fn target_room(target: &TargetTree) -> Result<u32, AllocError>
     }
 }
 
+/// How many temporaries a value that is stored needs in any case.
+fn guard_room(target: &TargetTree) -> u32
+    ensures { result ≡ guard_room (target_of target.now) }
+{
+    match target {
+        TargetTree::Memory(_, _, _, _) => 1,
+        TargetTree::Nothing | TargetTree::Local(_, _) => 0,
+    }
+}
+
 /// How many temporaries a target and so many for its value need.
 fn aimed_room(target: &TargetTree, room: u32) -> Result<u32, AllocError>
     ensures { IfOk result (λ n. n ≡ aimed_room (target_of target.now) room) }
 {
     let place = target_room(target)?;
-    let value = sum(target_count(target), room)?;
+    let value = sum(target_count(target), guard_room(target).max(room))?;
     Ok(place.max(value))
 }
 

@@ -3,16 +3,16 @@
 ghost use Rattle.std.specs.Prelude.{◌≡◌, ◌+◌, true, false, map, IfOk, OnOk};
 ghost use Rattle.ckc_core.specs.Code.{Expr, Code, code_of, expr_of};
 ghost use Rattle.ckc_source.specs.Code.{expr_of as source_of, target_of, right_of, assign_of, code_of as source_code};
-ghost use Rattle.ckc_checks.specs.Inserted.{low_byte, operand, operands, operands_code, is_narrow, kept_in, aim_code, target_count, written, operand_used, assigned, taken, fixed, written_there, right_assigned, valued, planned_code, behind_planned, plans_code, writes_code, bundle_code, result_in, result_kept, statements};
+ghost use Rattle.ckc_checks.specs.Inserted.{low_byte, operand, operands, operands_code, is_narrow, kept_in, marked, aim_code, target_count, guarded, stored_code, written, operand_used, assigned, taken, fixed, allowed_code, written_there, right_assigned, valued, planned_code, behind_planned, plans_code, writes_code, bundle_code, result_in, result_kept, statements};
 ghost use Rattle.ckc_checks.specs.Building.{behind, expr_code_if, get_code, put_code, call_code, branch_code, loop_code, return_code, check_code};
 
 use crate::code::{expr, fork, front, in_order, judge, nothing, place};
-use crate::exprs::{low_byte, operand, sum};
-use crate::ranges::{is_bounded, keeps_index};
+use crate::exprs::{binary, low_byte, operand, sum};
+use crate::ranges::{is_bounded, keeps_index, range_end};
 use crate::rooms::target_count;
-use ckc_base::{Check, Pos, Seq, Width};
+use ckc_base::{BinOp, Check, Pos, Seq, Width};
 use ckc_core::{CoreExpr, CoreStmt};
-use ckc_source::{Assign, ExprTree, Kept, RightTree, StmtTree, TargetTree};
+use ckc_source::{Access, Assign, ExprTree, Kept, RightTree, StmtTree, TargetTree, Through};
 use std::alloc::{AllocError, Global};
 
 /// Whether a value is a byte by its form.
@@ -50,6 +50,71 @@ fn kept_in(alloc: Global, width: Width, is_byte: bool, e: CoreExpr) -> Result<Co
     }
 }
 
+/// Puts the check of the value in u in front, where zero alone may be written to the element in t, by whether the value
+/// is a byte already.
+fn guard(
+    alloc: Global,
+    through: Through,
+    at: Pos,
+    width: Width,
+    is_byte: bool,
+    t: u32,
+    u: u32,
+    code: &mut Seq<CoreStmt>,
+) -> Result<(), AllocError>
+    ensures { OnOk result (behind code.new ≡ guarded through at width is_byte t u (behind code.old)) }
+{
+    match through {
+        Through::Named | Through::Raw | Through::One | Through::Array => Ok(()),
+        Through::Terminated => {
+            let value = kept_in(alloc, width, is_byte, CoreExpr::Local(u))?;
+            let zero = binary(alloc, BinOp::Eq, value, CoreExpr::Const(0))?;
+            let mark = CoreExpr::Local(sum(t, 1)?);
+            let good = binary(alloc, BinOp::Or, mark, zero)?;
+            front(code, CoreStmt::Check(Check::Terminator, at, good))?;
+            Ok(())
+        }
+    }
+}
+
+/// Puts a statement in front that stores a value, behind its check, in which it is in u.
+fn store(
+    alloc: Global,
+    access: Access,
+    width: Width,
+    is_byte: bool,
+    t: u32,
+    u: u32,
+    to: CoreExpr,
+    value: CoreExpr,
+    code: &mut Seq<CoreStmt>,
+) -> Result<(), AllocError>
+    ensures { OnOk result (behind code.new ≡ stored_code access.through access.at width is_byte t u
+        (expr_of to) (expr_of value) (behind code.old)) }
+{
+    match access.through {
+        Through::Named | Through::Raw | Through::One | Through::Array => {
+            front(code, CoreStmt::Store(width, to, value))?;
+            Ok(())
+        }
+        Through::Terminated => {
+            front(code, CoreStmt::Store(width, to, CoreExpr::Local(u)))?;
+            guard(
+                alloc,
+                Through::Terminated,
+                access.at,
+                width,
+                is_byte,
+                t,
+                u,
+                code,
+            )?;
+            front(code, CoreStmt::Set(u, value))?;
+            Ok(())
+        }
+    }
+}
+
 /// Puts a statement in front that writes a value to a target whose place is found in the temporaries from t on, by
 /// whether it is a byte already.
 fn write(
@@ -73,7 +138,30 @@ fn write(
         TargetTree::Memory(width, access, p, i) => {
             let next = sum(t, 1)?;
             let to = place(alloc, *access, p.get(), i.get(), t, next)?;
-            front(code, CoreStmt::Store(*width, to, value))?;
+            let u = sum(t, target_count(target))?;
+            store(alloc, *access, *width, is_byte, t, u, to, value, code)?;
+            Ok(())
+        }
+    }
+}
+
+/// Puts a statement in front that says in t + 1 whether the element in t is below the upper bound of its pointer, where
+/// zero alone may be written there.
+fn mark(
+    alloc: Global,
+    through: Through,
+    p: &ExprTree,
+    t: u32,
+    code: &mut Seq<CoreStmt>,
+) -> Result<(), AllocError>
+    ensures { OnOk result (behind code.new ≡ marked through (source_of p.now) t (behind code.old)) }
+{
+    match through {
+        Through::Named | Through::Raw | Through::One | Through::Array => Ok(()),
+        Through::Terminated => {
+            let end = range_end(alloc, true, p)?;
+            let below = binary(alloc, BinOp::Ne, CoreExpr::Local(t), end)?;
+            front(code, CoreStmt::Set(sum(t, 1)?, below))?;
             Ok(())
         }
     }
@@ -91,6 +179,7 @@ fn aim(
     match target {
         TargetTree::Nothing | TargetTree::Local(_, _) => Ok(()),
         TargetTree::Memory(_, access, p, i) => {
+            mark(alloc, access.through, p.get(), t, code)?;
             let next = sum(t, 1)?;
             judge(
                 alloc,
@@ -154,6 +243,25 @@ fn fix(
     }
 }
 
+/// Puts the check of the value behind the temporaries of a target in front.
+fn allow(
+    alloc: Global,
+    target: &TargetTree,
+    t: u32,
+    code: &mut Seq<CoreStmt>,
+) -> Result<(), AllocError>
+    ensures { OnOk result (behind code.new ≡
+        allowed_code (target_of target.now) t (behind code.old)) }
+{
+    match target {
+        TargetTree::Nothing | TargetTree::Local(_, _) => Ok(()),
+        TargetTree::Memory(width, access, _, _) => {
+            let u = sum(t, target_count(target))?;
+            guard(alloc, access.through, access.at, *width, false, t, u, code)
+        }
+    }
+}
+
 /// Puts a statement in front that writes a value to a target whose place is in the temporary t.
 fn write_there(
     alloc: Global,
@@ -205,6 +313,7 @@ fn assign(alloc: Global, a: &Assign, t: u32, code: &mut Seq<CoreStmt>) -> Result
         RightTree::Fresh(to, e) => {
             let u = sum(t, target_count(&a.target))?;
             write_there(alloc, &a.target, t, CoreExpr::Local(u), code)?;
+            allow(alloc, &a.target, t, code)?;
             take(alloc, e.get(), to.get().size, u, code)?;
             fix(alloc, &a.target, t, code)?;
             aim(alloc, &a.target, t, code)?;
@@ -234,6 +343,7 @@ fn plan(alloc: Global, a: &Assign, t: u32, code: &mut Seq<CoreStmt>) -> Result<(
         planned_code (target_of a.now.target) (right_of a.now.right) t (behind code.old)) }
 {
     let u = sum(t, target_count(&a.target))?;
+    allow(alloc, &a.target, t, code)?;
     value(alloc, &a.right, u, code)?;
     fix(alloc, &a.target, t, code)?;
     aim(alloc, &a.target, t, code)?;

@@ -31,7 +31,7 @@ use Rattle.ckc_checks.specs.Compilable.{IsCompilableExpr, IsCompilablePart, IsCo
 use Rattle.ckc_checks.specs.Inserted.{low_byte, operand, operand_used, operand_code, aim_code, target_count, expr_code, operands_code, operands, is_narrow, written, result_in, result_kept, statements, function_code}
 use Rattle.ckc_inserted.proofs.Running.{machine, at, by_pass, by_fail, by_if, step_by}
 use Rattle.ckc_inserted.proofs.Values.{Sees, low_value}
-use Rattle.ckc_inserted.proofs.Aiming.{IsAt, Aimed, aim_steps, aim_comes, allowed_at, at_later}
+use Rattle.ckc_inserted.proofs.Aiming.{IsAt, Aimed, aim_steps, aim_comes, at_later}
 use Rattle.ckc_inserted.proofs.Counts.{expr_steps, operand_steps, operands_steps, operand_nodes, operands_nodes, operands_count, written_same, written_below}
 use Rattle.ckc_inserted.proofs.Coming.{Below, Comes, Held}
 use Rattle.ckc_inserted.proofs.Exprs.{AllHeld, expr_comes, operand_comes, operands_comes}
@@ -190,10 +190,8 @@ module _ (p : source.Program) (all : All (IsCompilableFunction p.functions) p.fu
     event_written c s2 world2 u events target to code is_byte e n k after one few same ready good ht is v small b path =
         let s3 = at_work s2 (Rest code ∷ work) in
         let w = at ds world2 (written target t is_byte e (statements s2.frame.function.locals code)) rest after in
-        let allows : writes_allowed to n s3 ≡ writes to n s3 = ap (λ a. given a (λ to. writes to n s3)) (allowed_at core ds world2 target t after to n is) in
-        subst (λ x. Meets s u k (comes_to events x)) (sym allows)
-        (then_written p.functions core c (least_of target) (write_steps target t + nodes e) k s events u w (writes to n s3) few one path
-        (writes_same p.functions core s2 work looped ds world2 rest after code target t to is_byte e n ready good ht is v small b))
+        then_written p.functions core c (least_of target) (write_steps target t + nodes e) k s events u w (writes_allowed to n s3) few one path
+        (writes_same p.functions core s2 work looped ds world2 rest after code target t to is_byte e n ready good (omega arith) ht is v small b)
 
     -- ---- input and output
 

@@ -1,12 +1,10 @@
 -- Where a target is, is found before the value that goes to it.
-use Rattle.std.proofs.Common.{◌≡◌, ℕ, ◌^◌, ◌+◌, ◌≤◌, ◌<◌, List, refl, sym, ◌∙◌, ap, subst, arith}
-use Rattle.std.specs.Prelude.{Bool, true, false, if◌then◌else◌, Some, None, Ok, Err}
+use Rattle.std.proofs.Common.{◌≡◌, ℕ, ◌^◌, ◌+◌, ◌≤◌, ◌<◌, List, refl, ◌∙◌, arith}
+use Rattle.std.specs.Prelude.{Bool, true, false, if◌then◌else◌, Option, Some, Ok, Err}
 use Rattle.ckc_base.specs.declared.places.Pos.{Pos}
 use Rattle.ckc_base.specs.Actions.{World}
 use Rattle.ckc_base.specs.Activations.{Values}
 use Rattle.ckc_base.proofs.Runs.{no_step}
-use Rattle.ckc_source.specs.declared.expr.Through.{Through}
-use Rattle.ckc_source.specs.declared.expr.Through.TheVariants.{Named, Raw, One, Array, Terminated}
 use Rattle.ckc_source.specs.declared.outcome.Range.{Range}
 use Rattle.ckc_source.specs.declared.outcome.Halt.TheVariants.{Stuck}
 use Rattle.ckc_source.specs.declared.outcome.Place.{Place}
@@ -14,37 +12,31 @@ use Rattle.ckc_source.specs.declared.outcome.Place.TheVariants as place
 use Rattle.ckc_source.specs.Code as source
 use Rattle.ckc_source.specs.Blocks.{lies_in}
 use Rattle.ckc_source.specs.Eval.{Store, given, element, place_in}
-use Rattle.ckc_source.specs.Steps.{terminator_at, aims_at, aimed, allowed}
+use Rattle.ckc_source.specs.Steps.{terminator_at, aims_at, aimed}
 use Rattle.ckc_core.specs.Code.{Code, Function}
 use Rattle.ckc_core.specs.Meaning.{Rest, Caller, value_of}
-use Rattle.ckc_checks.specs.Compilable.{IsWritable, IsCompilableTarget}
-use Rattle.ckc_checks.specs.Inserted.{held, keeps_index, is_bounded, judged, reached_place, aim_code, target_count}
+use Rattle.ckc_checks.specs.Compilable.{IsCompilableTarget}
+use Rattle.ckc_checks.specs.Inserted.{held, keeps_index, is_bounded, judged, marked, reached_place, aim_code, target_count}
 use Rattle.ckc_inserted.proofs.Running.{machine, at}
 use Rattle.ckc_inserted.proofs.Values.{Agree, Sees}
-use Rattle.ckc_inserted.proofs.Coming.{Below, Comes, then_comes, agree_below, pair_comes}
+use Rattle.ckc_inserted.proofs.Coming.{Below, Comes, then_comes, agree_below, known, pair_comes}
 use Rattle.ckc_inserted.proofs.Exprs.{held_comes, index_comes, Placed, judged_comes}
 use Rattle.ckc_inserted.proofs.Counts.{held_steps, index_steps, judged_steps}
+use Rattle.ckc_inserted.proofs.Guarding.{mark_steps, IsMarked, marked_later, Marks, mark_comes}
 
 -- in how many steps the place of a target is found
 abbrev pub aim_steps : source.Target → ℕ → ℕ
 aim_steps (source.Memory width access p i) t =
-    held_steps (is_bounded access.through) p t + (index_steps (keeps_index (is_bounded access.through) i) i (t + 1) + judged_steps access.through p i t)
+    held_steps (is_bounded access.through) p t + (index_steps (keeps_index (is_bounded access.through) i) i (t + 1) + (judged_steps access.through p i t + mark_steps access.through p t))
 aim_steps target t = 0
 
-no_terminator : (through : Through) (range : Range) (a : ℕ) (spot : Pos) → IsWritable through → terminator_at through range a spot ≡ None
-no_terminator Named range a spot h = refl
-no_terminator Raw range a spot h = refl
-no_terminator One range a spot h = refl
-no_terminator Array range a spot h = refl
-no_terminator Terminated range a spot h = absurd h
-
 module _ (functions : List Function) (callers : List Caller) (world : World) where
-  -- The target is at this place, as long as the locals up to t + 1 stay.
+  -- The target is at this place, as long as the locals up to t + 1 stay. Behind its element it is marked.
   abbrev pub IsAt : source.Target → ℕ → Values → Place → Type 0
   IsAt source.Nothing t l to = to ≡ place.Nowhere
   IsAt (source.Variable x width) t l to = to ≡ place.Local x width
   IsAt (source.Memory width access p i) t l to =
-      (a : ℕ) × (to ≡ place.Memory a width None) × (a < 2 ^ 32)
+      (a : ℕ) × (zero_alone : Option Pos) × (to ≡ place.Memory a width zero_alone) × (a < 2 ^ 32) × IsMarked access.through access.at t l zero_alone
       × ((later : Values) → Below (t + 2) later l → value_of later world.memory (reached_place access p i t) ≡ Some a)
 
   abbrev pub Aimed : source.Target → ℕ → Values → Place → Values → Type 0
@@ -63,43 +55,46 @@ module _ (functions : List Function) (callers : List Caller) (world : World) whe
         let a = held checked p t in
         let b = held keeps i (t + 1) in
         let ju = judged_steps access.through p i t in
-        let judge = judged access.through access p a b t more in
+        let mark = mark_steps access.through p t in
+        let last = marked access.through p t more in
+        let judge = judged access.through access p a b t last in
         let judged = h.0 in
         let pointer = h.1 in
         let index = h.2 in
         let good = Aimed (source.Memory width access p i) t l in
-        pair_comes functions callers world n s sees checked keeps p i (held_steps checked p) (index_steps keeps i) t 0 ju (aim_steps (source.Memory width access p i) t) judge more rest l
+        pair_comes functions callers world n s sees checked keeps p i (held_steps checked p) (index_steps keeps i) t 0 (ju + mark) (aim_steps (source.Memory width access p i) t) judge more rest l
         (λ v k. given (element access v k.number) (aims_at s width access v.range)) good
         (held_comes functions callers world n s sees checked p) (index_comes functions callers world n s sees checked i) le pointer.0 index.0 agree (omega arith)
         (λ x y l2 both eq_p eq_i.
-        then_comes functions callers world 0 ju 0 ju (at callers world judge rest l2) (element access x y.number) (aims_at s width access x.range) more rest
-        (Placed functions callers world n s sees access access.through a b t l) (λ to u. (l' : Values) × (u ≡ at callers world more rest l') × good to l') (omega arith)
-        (judged_comes functions callers world n s sees access access.through p i t more rest l l2 x y le (agree_below functions callers world n s sees t l2 l le both.0 agree) judged.3 pointer.0 both eq_p)
+        let agree2 = agree_below functions callers world n s sees t l2 l le both.0 agree in
+        let place_of = Placed functions callers world n s sees access access.through a b t l in
+        let start = at callers world judge rest l2 in
+        then_comes functions callers world 0 ju mark (ju + mark) start (element access x y.number) (aims_at s width access x.range) last rest
+        (λ q l3. place_of q l3 × (element access x y.number ≡ Ok q)) (λ to u. (l' : Values) × (u ≡ at callers world more rest l') × good to l') (omega arith)
+        (known functions callers world n s sees 0 ju start (element access x y.number) last rest place_of
+        (judged_comes functions callers world n s sees access access.through p i t last rest l l2 x y le agree2 judged.3 pointer.0 both eq_p))
         (λ q l3 r.
-        by x.range q l3 (no_terminator access.through x.range q access.at h.3) r.0 r.1 (lies_in width (place_in q access.offset) s.blocks)))
+        let here = r.0 in
+        by x.range q l3
+        (mark_comes functions callers world n s sees access.through access p i t more rest l l3 x y q le (agree_below functions callers world n s sees t l3 l le here.0 agree) judged.3 pointer.0 eq_p r.1 here)
+        (lies_in width (place_in q access.offset) s.blocks)))
       where
-        by : (range : Range) (q : ℕ) (l3 : Values) → terminator_at access.through range q access.at ≡ None → Below t l3 l
-            → ((later : Values) → Below (t + 2) later l3 → value_of later world.memory (reached_place access p i t) ≡ Some (place_in q access.offset)) → (here : Bool)
-            → Comes functions callers world 0 0 (at callers world more rest l3)
+        by : (range : Range) (q : ℕ) (l3 : Values) → Marks functions callers world n s sees access.through access p i t more rest l l3 range q → (here : Bool)
+            → Comes functions callers world 0 (mark_steps access.through p t) (at callers world (marked access.through p t more) rest l3)
             (if here then Ok (place.Memory (place_in q access.offset) width (terminator_at access.through range q access.at)) else Err Stuck) more rest (Aimed (source.Memory width access p i) t l)
-        by range q l3 e below value true = (
-          0,
-          at callers world more rest l3,
+        by range q l3 m true = (
+          m.0,
+          at callers world more rest m.1,
           omega arith,
-          omega arith,
-          no_step (machine functions) (at callers world more rest l3),
-          (l3, refl, (below, (place_in q access.offset, ap (λ o. place.Memory (place_in q access.offset) width o) e, omega arith, value))),
+          m.2,
+          m.3,
+          (m.1, refl, (m.4, (place_in q access.offset, terminator_at access.through range q access.at, refl, omega arith, m.5, m.6))),
         )
-        by range q l3 e below value false = tt
-
-  -- a value may be written there
-  pub allowed_at : (target : source.Target) (t : ℕ) (l : Values) (to : Place) (n : ℕ) → IsAt target t l to → allowed to n ≡ Ok to
-  allowed_at source.Nothing t l to n is = subst (λ to. allowed to n ≡ Ok to) (sym is) refl
-  allowed_at (source.Variable x width) t l to n is = subst (λ to. allowed to n ≡ Ok to) (sym is) refl
-  allowed_at (source.Memory width access p i) t l to n is = subst (λ to. allowed to n ≡ Ok to) (sym is.1) refl
+        by range q l3 m false = tt
 
   -- the target is at its place later too
   pub at_later : (target : source.Target) (t : ℕ) (before l : Values) (to : Place) → IsAt target t before to → Below (t + target_count target) l before → IsAt target t l to
   at_later source.Nothing t before l to is below = is
   at_later (source.Variable x width) t before l to is below = is
-  at_later (source.Memory width access p i) t before l to is below = (is.0, is.1, is.2, λ later same. is.3 later (λ z less. same z less ∙ below z less))
+  at_later (source.Memory width access p i) t before l to is below =
+      (is.0, is.1, is.2, is.3, marked_later access.through access.at t before l is.1 is.4 (below (t + 1) (omega arith)), λ later same. is.5 later (λ z less. same z less ∙ below z less))

@@ -2,12 +2,13 @@
 use Rattle.std.proofs.Common.{◌≡◌, inr, ℕ, ◌^◌, ◌+◌, ◌*◌, ◌≤◌, ◌<◌, List, [], ◌∷◌, ◌++◌, length, refl, sym, ◌∙◌, ap, subst, arith}
 use Rattle.std.specs.Prelude.{Bool, true, false, if◌then◌else◌, slice_set, Option, Some, None, Result, Ok, Err, All}
 use Rattle.std.proofs.lemmas.List.Elements.{All-head, All-tail}
+use Rattle.ckc_base.specs.declared.places.Pos.{Pos}
 use Rattle.ckc_base.specs.declared.arithmetic.Width.TheVariants.{Word}
 use Rattle.ckc_base.specs.Traces as standing
 use Rattle.ckc_base.specs.LongEvents.{Stored}
 use Rattle.ckc_base.specs.Matching.{Stretch}
-use Rattle.ckc_base.specs.Memory.{kept_part, memory_with, with_bytes, width_bytes, data_start, heap_has_room, next_place}
-use Rattle.ckc_base.specs.Actions.{World, Gives, allocates_in}
+use Rattle.ckc_base.specs.Memory.{kept_part, value_at, memory_with, with_bytes, width_bytes, data_start, heap_has_room, next_place}
+use Rattle.ckc_base.specs.Actions.{World, Gives, with_value, allocates, allocates_at, allocates_in}
 use Rattle.ckc_base.specs.Activations.{Values, with_written}
 use Rattle.ckc_base.proofs.Runs.{no_step, then_stretch, then_closes}
 use Rattle.ckc_source.specs.declared.expr.Pointee.{Pointee}
@@ -16,6 +17,7 @@ use Rattle.ckc_source.specs.declared.outcome.Value.{Value}
 use Rattle.ckc_source.specs.declared.outcome.Halt.{Halt}
 use Rattle.ckc_source.specs.declared.outcome.Halt.TheVariants.{Stopped, Stuck}
 use Rattle.ckc_source.specs.declared.outcome.Place.{Place}
+use Rattle.ckc_source.specs.declared.outcome.Place.TheVariants as place
 use Rattle.ckc_source.specs.Code as source
 use Rattle.ckc_source.specs.Blocks.{Block, stored, fresh}
 use Rattle.ckc_source.specs.Eval.{Store, given, evaluated}
@@ -23,10 +25,10 @@ use Rattle.ckc_source.specs.States.{Work, Rest}
 use Rattle.ckc_source.specs.States as S
 use Rattle.ckc_source.specs.Steps.{store_of, aimed, allowed, writes, with_blocks, Write, all_written, Drawn, allocated, drawn, Planned, and_then_written, planned, bundled, at_work, and_moves, comes_to}
 use Rattle.ckc_core.specs.Code.{Expr, Local, Code, Set, Store as StoreTo, Alloc, Function}
-use Rattle.ckc_core.specs.Meaning.{value_of, nodes}
+use Rattle.ckc_core.specs.Meaning.{value_of, nodes, core_step, goes_by}
 use Rattle.ckc_core.specs.Meaning as C
 use Rattle.ckc_checks.specs.Compilable.{target_nodes, right_nodes, assigns_nodes, expr_nodes, IsCompilableExpr, IsCompilableTarget, IsCompilableRight, IsCompilableAssign, IsCompilableFunction}
-use Rattle.ckc_checks.specs.Inserted.{keeps_index, is_bounded, reached_place, operand, expr_code, aim_code, target_count, fixed, taken, kept_in, written_there, valued, planned_code, behind_planned, plans_code, writes_code, bundle_code, statements}
+use Rattle.ckc_checks.specs.Inserted.{keeps_index, is_bounded, reached_place, operand, expr_code, aim_code, target_count, guarded, fixed, allowed_code, taken, kept_in, written_there, valued, planned_code, behind_planned, plans_code, writes_code, bundle_code, statements}
 use Rattle.ckc_inserted.proofs.Running.{machine, Runs, then_runs, at, by_set, step_by}
 use Rattle.ckc_inserted.proofs.Flat.{allocated_same, stored_same}
 use Rattle.ckc_inserted.proofs.Values.{Sees, word_seen}
@@ -37,9 +39,9 @@ use Rattle.ckc_inserted.proofs.Coming as X
 use Rattle.ckc_inserted.proofs.Aiming.{IsAt, Aimed, aim_steps, aim_comes}
 use Rattle.ckc_inserted.proofs.Exprs.{expr_comes, operand_comes}
 use Rattle.ckc_inserted.proofs.Relation.{Stands}
-use Rattle.ckc_inserted.proofs.Writing.{Written, same_state, then_comes_to, written_other, set_local, store_step, kept_value, kept_nodes, kept_small, IsThere, allowed_there, there_later}
+use Rattle.ckc_inserted.proofs.Guarding.{check_steps, guard_few, check_few, IsMarked, marked_later, kept_value, kept_nodes, allows_any, guard_runs}
+use Rattle.ckc_inserted.proofs.Writing.{Written, same_state, then_comes_to, longer_written, written_other, set_local, store_step, kept_small}
 use Rattle.ckc_inserted.proofs.Acting.{core_of, Meets, IsReady, ready_below}
-use Rattle.ckc_inserted.proofs.Assigning.{fixed_steps, alloc_goes}
 
 -- ---- running on
 
@@ -85,12 +87,24 @@ module _ (functions : List Function) where
 
 -- ---- steps
 
-aim_fixed_few : (target : source.Target) (t : ℕ) → aim_steps target t + fixed_steps target t ≤ 14 * target_nodes target
-aim_fixed_few source.Nothing t = omega arith
-aim_fixed_few (source.Variable x width) t = omega arith
-aim_fixed_few (source.Memory width access p i) t =
+-- in how many steps a place goes to a temporary
+abbrev fixed_steps : source.Target → ℕ → ℕ
+fixed_steps (source.Memory width access p i) t = nodes (reached_place access p i t) + 1
+fixed_steps target t = 0
+
+abbrev place_steps : source.Target → ℕ → ℕ
+place_steps target t = aim_steps target t + fixed_steps target t
+
+abbrev allow_steps : source.Target → ℕ
+allow_steps (source.Memory width access p i) = check_steps access.through
+allow_steps target = 0
+
+place_few : (target : source.Target) (t : ℕ) → place_steps target t + allow_steps target ≤ 14 * target_nodes target
+place_few source.Nothing t = omega arith
+place_few (source.Variable x width) t = omega arith
+place_few (source.Memory width access p i) t =
     let checked = is_bounded access.through in
-    omega (arith, reached_nodes access p i t, held_nodes checked p t, index_few (keeps_index checked i) i (t + 1), judged_few access.through p i t)
+    omega (arith, reached_nodes access p i t, held_nodes checked p t, index_few (keeps_index checked i) i (t + 1), judged_few access.through p i t, guard_few access.through p t, check_few access.through)
 
 -- in how many steps places and values are found
 abbrev plan_steps : List (source.Target × source.Right) → ℕ
@@ -123,8 +137,34 @@ module _ (p : source.Program) (all : All (IsCompilableFunction p.functions) p.fu
   abbrev IsReadyAt : S.State → World → Values → Type 0
   IsReadyAt s world l = IsReady p all s work looped ds world rest l
 
+  -- The place of a target is in the temporary t. The mark is behind it.
   abbrev IsPlaced : source.Target → ℕ → Values → Place → Type 0
-  IsPlaced target t l to = IsThere p.functions core target t l to
+  IsPlaced source.Nothing t l to = to ≡ place.Nowhere
+  IsPlaced (source.Variable x width) t l to = to ≡ place.Local x width
+  IsPlaced (source.Memory width access i j) t l to =
+      (a : ℕ) × (zero_alone : Option Pos) × (to ≡ place.Memory a width zero_alone) × IsMarked access.through access.at t l zero_alone × (l t ≡ Some a)
+
+  placed_later : (target : source.Target) (t : ℕ) (before l : Values) (to : Place) → IsPlaced target t before to → l t ≡ before t → l (t + 1) ≡ before (t + 1) → IsPlaced target t l to
+  placed_later source.Nothing t before l to is same next = is
+  placed_later (source.Variable x width) t before l to is same next = is
+  placed_later (source.Memory width access i j) t before l to is same next =
+      (is.0, is.1, is.2, marked_later access.through access.at t before l is.1 is.3 next, same ∙ is.4)
+
+  -- the same, where the temporaries of the target stay
+  placed_below : (target : source.Target) (t : ℕ) (before l : Values) (to : Place) → IsPlaced target t before to → Below (t + target_count target) l before → IsPlaced target t l to
+  placed_below source.Nothing t before l to is below = is
+  placed_below (source.Variable x width) t before l to is below = is
+  placed_below (source.Memory width access i j) t before l to is below =
+      placed_later (source.Memory width access i j) t before l to is (below t (omega arith)) (below (t + 1) (omega arith))
+
+  -- the value behind the temporaries of a target is one that may be written there
+  allowed_runs : (target : source.Target) (t value : ℕ) (to : Place) (more : Code) (world : World) (l : Values) → IsPlaced target t l to → l (t + target_count target) ≡ Some value
+      → Runs core 0 (allow_steps target) (at ds world (allowed_code target t more) rest l) (allowed to value) (λ into w. (into ≡ to) × (w ≡ at ds world more rest l))
+  allowed_runs source.Nothing t value to more world l is v = allows_any core ds world rest to value 0 more l (ap (λ to. allowed to value) is ∙ ap Ok (sym is))
+  allowed_runs (source.Variable x width) t value to more world l is v = allows_any core ds world rest to value 0 more l (ap (λ to. allowed to value) is ∙ ap Ok (sym is))
+  allowed_runs (source.Memory width access i j) t value to more world l is v =
+      subst (λ to. Runs core 0 (check_steps access.through) (at ds world (guarded access.through access.at width false t (t + 2) more) rest l) (allowed to value) (λ into w. (into ≡ to) × (w ≡ at ds world more rest l))) (sym is.2)
+      (guard_runs core ds world rest access.through access.at width false t (t + 2) is.0 value is.1 more l is.3 v (λ b. absurd cc))
 
   -- what is to be written is in temporaries from t on
   abbrev AreThere : List (source.Target × source.Right) → ℕ → Values → List Write → Type 0
@@ -198,22 +238,28 @@ module _ (p : source.Program) (all : All (IsCompilableFunction p.functions) p.fu
           here more last,
           omega arith,
           omega arith,
-          by_set core ds world t d more rest after is.0 (is.3 after (λ z less. refl)),
+          by_set core ds world t d more rest after is.0 (is.5 after (λ z less. refl)),
           record {
             after = last;
             is = refl;
             ready = ready_below p all s work looped ds world rest after last ready (λ x less. written_below after t is.0 x (omega arith));
-            there = (is.0, is.1, written_same after t is.0);
+            there = (
+              is.0,
+              is.1,
+              is.2,
+              marked_later access.through access.at t after last is.1 is.4 (written_other after t is.0 (t + 1) (inr (omega arith))),
+              written_same after t is.0,
+            );
             below = λ x less. written_below after t is.0 x less ∙ below x less;
           },
         )
 
     places : (target : source.Target) (t : ℕ) (more : Code) → n ≤ t → IsCompilableTarget n target
-        → Runs core 0 (14 * target_nodes target) (here (aim_code target t (fixed target t more)) l) (aimed st target) (Placed s world target t l more)
+        → Runs core 0 (place_steps target t) (here (aim_code target t (fixed target t more)) l) (aimed st target) (Placed s world target t l more)
     places target t more le h =
         let start = here (aim_code target t (fixed target t more)) l in
-        last_runs core 0 0 (aim_steps target t) (fixed_steps target t) (14 * target_nodes target) start (aimed st target)
-        (λ to u. (after : Values) × (u ≡ here (fixed target t more) after) × Aimed core ds world target t l to after) (Placed s world target t l more) (aim_fixed_few target t)
+        last_runs core 0 0 (aim_steps target t) (fixed_steps target t) (place_steps target t) start (aimed st target)
+        (λ to u. (after : Values) × (u ≡ here (fixed target t more) after) × Aimed core ds world target t l to after) (Placed s world target t l more) (omega arith)
         (aim_comes core ds world n st sees target t (fixed target t more) rest l le h r.agree)
         (λ to u q.
         subst (λ u. (count : ℕ) × (w : C.State) × (0 ≤ count) × (count ≤ fixed_steps target t) × Stretch (machine core) count [] u w × Placed s world target t l more to w) (sym q.1)
@@ -250,6 +296,13 @@ module _ (p : source.Program) (all : All (IsCompilableFunction p.functions) p.fu
           },
         )))
 
+    alloc_goes : (u n size next : ℕ) (e : Expr) (more : Code) (l : Values) → value_of l world.memory e ≡ Some n → value_at Word world.memory data_start ≡ Some next
+        → core_step core (here (Alloc u e size more) l) ≡ goes_by (here (Alloc u e size more) l) more (allocates_at world u n size next)
+    unfolding core_step
+    alloc_goes u n size next e more l h k =
+        ap (λ o. goes_by (here (Alloc u e size more) l) more (with_value o (λ n. allocates world u n size))) h
+        ∙ ap (λ o. goes_by (here (Alloc u e size more) l) more (with_value o (allocates_at world u n size))) k
+
     -- a block is taken in both, or there is no room in both
     alloc_draws : (u number : ℕ) (pointee : Pointee) (e : Expr) (more : Code) (before after : Values) → n ≤ u → IsReadyAt s world after → Below u after before → value_of after world.memory e ≡ Some number
         → (count : ℕ) × (w : C.State) × (1 ≤ count) × (count ≤ nodes e + 1) × Stretch (machine core) count [] (here (Alloc u e pointee.size more) after) w
@@ -265,13 +318,13 @@ module _ (p : source.Program) (all : All (IsCompilableFunction p.functions) p.fu
             let later = next_place s.next number pointee.size in
             let world2 : World = record world { memory = with_bytes world.memory 4 data_start later } in
             let last = with_written after u s.next in
-            let goes = alloc_goes p all s work looped ds world rest u number pointee.size s.next e more after value ready.outside.memory.word in (
+            let goes = alloc_goes u number pointee.size s.next e more after value ready.outside.memory.word in (
               nodes e + 1,
               at ds world2 more rest last,
               omega arith,
               omega arith,
               step_by core (Stored data_start Word later ∷ []) now (at ds world2 more rest last)
-                  (goes ∙ ap (λ b. C.goes_by now more (if b then allocates_in world u s.next later (memory_with Word world.memory data_start later) else Gives [] u 0 world)) room),
+                  (goes ∙ ap (λ b. goes_by now more (if b then allocates_in world u s.next later (memory_with Word world.memory data_start later) else Gives [] u 0 world)) room),
               record {
                 blocks = s.blocks ++ fresh pointee s.next number ∷ [];
                 next = later;
@@ -296,13 +349,13 @@ module _ (p : source.Program) (all : All (IsCompilableFunction p.functions) p.fu
             let now = here (Alloc u e pointee.size more) after in
             let later = next_place s.next number pointee.size in
             let last = with_written after u 0 in
-            let goes = alloc_goes p all s work looped ds world rest u number pointee.size s.next e more after value ready.outside.memory.word in (
+            let goes = alloc_goes u number pointee.size s.next e more after value ready.outside.memory.word in (
               nodes e + 1,
               here more last,
               omega arith,
               omega arith,
               step_by core [] now (here more last)
-                  (goes ∙ ap (λ b. C.goes_by now more (if b then allocates_in world u s.next later (memory_with Word world.memory data_start later) else Gives [] u 0 world)) room),
+                  (goes ∙ ap (λ b. goes_by now more (if b then allocates_in world u s.next later (memory_with Word world.memory data_start later) else Gives [] u 0 world)) room),
               record {
                 blocks = s.blocks;
                 next = s.next;
@@ -344,16 +397,11 @@ module _ (p : source.Program) (all : All (IsCompilableFunction p.functions) p.fu
   are_later [] t before l (w ∷ ws) h same = h
   are_later (a ∷ assigns) t before l [] h same = h
   are_later (a ∷ assigns) t before l (w ∷ ws) h same = (
-    placed_same a.0 h.0,
+    placed_later a.0 t before l w.0 h.0 (same t (omega arith)) (same (t + 1) (omega arith)),
     same (t + target_count a.0) (omega arith) ∙ h.1,
     h.2,
     are_later assigns (behind_planned a.0 t) before l ws h.3 (λ x more. same x (omega arith)),
   )
-    where
-      placed_same : (target : source.Target) → IsPlaced target t before w.0 → IsPlaced target t l w.0
-      placed_same source.Nothing is = is
-      placed_same (source.Variable x width) is = is
-      placed_same (source.Memory width access i j) is = (is.0, is.1, same t (omega arith) ∙ is.2)
 
   -- an assignment, where those behind it are known to be found
   plan_runs : (a : source.Target × source.Right) (assigns : List (source.Target × source.Right)) (t m k : ℕ) (inner more : Code) (s : S.State) (world : World) (l : Values) → IsReadyAt s world l
@@ -363,26 +411,34 @@ module _ (p : source.Program) (all : All (IsCompilableFunction p.functions) p.fu
       → Runs core 1 k (at ds world (planned_code a.0 a.1 t inner) rest l) (planned p.shapes (then_code s) (a ∷ assigns)) (Plans s (a ∷ assigns) t l more)
   plan_runs a assigns t m k inner more s world l r le h few tail =
       let u = t + target_count a.0 in
-      let find = valued a.1 u inner in
+      let last = allowed_code a.0 t inner in
+      let find = valued a.1 u last in
       let n = 14 * right_nodes a.1 + 1 in
-      let behind : Place → Drawn → Result Planned Halt = λ to d. given (allowed to d.number) (λ to. given (planned p.shapes d.state assigns) (λ plan. Ok (and_then_written to d.number plan))) in
-      then_runs core 1 (14 * target_nodes a.0) (n + m) k (at ds world (planned_code a.0 a.1 t inner) rest l) (aimed (store_of p.shapes s) a.0)
-      (λ to. given (drawn p.shapes (then_code s) a.1) (behind to)) (Placed s world a.0 t l find) (Plans s (a ∷ assigns) t l more) (omega arith)
+      let g = allow_steps a.0 in
+      let goal = Plans s (a ∷ assigns) t l more in
+      let then_plans : Drawn → Place → Result Planned Halt = λ d to. given (planned p.shapes d.state assigns) (λ plan. Ok (and_then_written to d.number plan)) in
+      let behind : Place → Drawn → Result Planned Halt = λ to d. given (allowed to d.number) (then_plans d) in
+      then_runs core 1 (place_steps a.0 t) (n + (g + m)) k (at ds world (planned_code a.0 a.1 t inner) rest l) (aimed (store_of p.shapes s) a.0)
+      (λ to. given (drawn p.shapes (then_code s) a.1) (behind to)) (Placed s world a.0 t l find) goal (omega (arith, place_few a.0 t))
       (places s world l r a.0 t find le h.0)
       (λ to u1 q.
-      subst (λ u1. Runs core 1 (n + m) u1 (given (drawn p.shapes (then_code s) a.1) (behind to)) (Plans s (a ∷ assigns) t l more)) (sym q.is)
-      (first_then core 1 n m (n + m) (at ds world find rest q.after) (drawn p.shapes (then_code s) a.1) (behind to) (Draws s u q.after inner) (Plans s (a ∷ assigns) t l more) (omega arith)
-      (draws s world q.after q.ready a.1 u inner (omega arith) h.1)
+      subst (λ u1. Runs core 1 (n + (g + m)) u1 (given (drawn p.shapes (then_code s) a.1) (behind to)) goal) (sym q.is)
+      (first_then core 1 n (g + m) (n + (g + m)) (at ds world find rest q.after) (drawn p.shapes (then_code s) a.1) (behind to) (Draws s u q.after last) goal (omega arith)
+      (draws s world q.after q.ready a.1 u last (omega arith) h.1)
       (λ d u2 drew.
-      let there = there_later p.functions core a.0 t q.after drew.after to q.there drew.below in
+      let there = placed_below a.0 t q.after drew.after to q.there drew.below in
       let s2 = in_memory s drew.blocks drew.next in
-      subst (λ u2. Runs core 0 m u2 (behind to d) (Plans s (a ∷ assigns) t l more)) (sym drew.is)
-      (subst (λ b. Runs core 0 m (at ds drew.world inner rest drew.after) (given b (λ to. given (planned p.shapes d.state assigns) (λ plan. Ok (and_then_written to d.number plan)))) (Plans s (a ∷ assigns) t l more))
-      (sym (allowed_there p.functions core a.0 t drew.after to d.number there))
-      (subst (λ (x : S.State). Runs core 0 m (at ds drew.world inner rest drew.after) (given (planned p.shapes x assigns) (λ plan. Ok (and_then_written to d.number plan))) (Plans s (a ∷ assigns) t l more)) (sym drew.state)
-      (made_runs core 0 m m (at ds drew.world inner rest drew.after) (planned p.shapes (then_code s2) assigns) (and_then_written to d.number) (Plans s (a ∷ assigns) t l more) (omega arith)
-      (last_runs core 0 0 m 0 m (at ds drew.world inner rest drew.after) (planned p.shapes (then_code s2) assigns) (Plans s2 assigns (behind_planned a.0 t) drew.after more)
-      (λ plan. Plans s (a ∷ assigns) t l more (and_then_written to d.number plan)) (omega arith) (tail drew.blocks drew.next drew.world drew.after drew.ready)
+      let now = at ds drew.world inner rest drew.after in
+      subst (λ u2. Runs core 0 (g + m) u2 (behind to d) goal) (sym drew.is)
+      (then_runs core 0 g m (g + m) (at ds drew.world last rest drew.after) (allowed to d.number) (then_plans d) (λ into w. (into ≡ to) × (w ≡ now)) goal (omega arith)
+      (allowed_runs a.0 t d.number to inner drew.world drew.after there drew.value)
+      (λ into u3 same.
+      subst (λ u3. Runs core 0 m u3 (then_plans d into) goal) (sym same.1)
+      (subst (λ into. Runs core 0 m now (then_plans d into) goal) (sym same.0)
+      (subst (λ (x : S.State). Runs core 0 m now (given (planned p.shapes x assigns) (λ plan. Ok (and_then_written to d.number plan))) goal) (sym drew.state)
+      (made_runs core 0 m m now (planned p.shapes (then_code s2) assigns) (and_then_written to d.number) goal (omega arith)
+      (last_runs core 0 0 m 0 m now (planned p.shapes (then_code s2) assigns) (Plans s2 assigns (behind_planned a.0 t) drew.after more)
+      (λ plan. goal (and_then_written to d.number plan)) (omega arith) (tail drew.blocks drew.next drew.world drew.after drew.ready)
       (λ plan w got. (
         0,
         w,
@@ -398,14 +454,14 @@ module _ (p : source.Program) (all : All (IsCompilableFunction p.functions) p.fu
           state = got.state;
           ready = got.ready;
           there = (
-            there_later p.functions core a.0 t drew.after got.after to there (λ x less. got.below x (omega arith)),
+            placed_below a.0 t drew.after got.after to there (λ x less. got.below x (omega arith)),
             got.below u (omega arith) ∙ drew.value,
             drew.small,
             got.there,
           );
           below = λ x less. got.below x (omega arith) ∙ drew.below x (omega arith) ∙ q.below x less;
         },
-      )))))))))
+      )))))))))))
 
   plans_runs : (assigns : List (source.Target × source.Right)) (t : ℕ) (more : Code) (s : S.State) (world : World) (l : Values) → IsReadyAt s world l → s.frame.function.locals ≤ t
       → All (IsCompilableAssign s.frame.function.locals) assigns
@@ -428,10 +484,7 @@ module _ (p : source.Program) (all : All (IsCompilableFunction p.functions) p.fu
   -- ---- writes
 
   first_written : (c m k : ℕ) (u w : C.State) (x : Result S.State Halt) → c + m ≤ k → Stretch (machine core) c [] u w → Written p.functions core 0 m w x → Written p.functions core 0 k u x
-  first_written c m k u w (Ok s) few path h =
-      (c + h.0, h.1, omega arith, omega (arith, h.3), then_stretch (machine core) c h.0 [] [] u w h.1 path h.4, h.5)
-  first_written c m k u w (Err Stuck) few path h = tt
-  first_written c m k u w (Err (Stopped why place)) few path h = h
+  first_written c m k u w x few path h = longer_written p.functions core c 0 m k u w x few (omega arith) path h
 
   -- a state with other locals and other blocks
   abbrev wrote : S.State → List ℕ → List Block → S.State
@@ -456,14 +509,14 @@ module _ (p : source.Program) (all : All (IsCompilableFunction p.functions) p.fu
       let ready = set_local p.functions core s work looped ds world rest l after x (kept_part width value) r h (kept_small width value small) (written_same l x (kept_part width value))
       (λ y other less. written_other l x (kept_part width value) y other) in
       subst (λ to. Written p.functions core 0 (5 + m) now (given (writes to value (then_code s)) f)) (sym is)
-      (first_written (nodes k + 1) m (5 + m) now (at ds world more rest after) (f (then_code (wrote s (slice_set s.frame.locals x (kept_part width value)) s.blocks))) (omega (arith, kept_nodes p.functions core width false q))
-      (by_set core ds world x k more rest l (kept_part width value) (kept_value p.functions core l world.memory width false q value v (λ b. absurd cc)))
+      (first_written (nodes k + 1) m (5 + m) now (at ds world more rest after) (f (then_code (wrote s (slice_set s.frame.locals x (kept_part width value)) s.blocks))) (omega (arith, kept_nodes width false q))
+      (by_set core ds world x k more rest l (kept_part width value) (kept_value l world.memory width false q value v (λ b. absurd cc)))
       (next (slice_set s.frame.locals x (kept_part width value)) s.blocks world after
       (record { behind = ready.behind; callers = ready.callers; outside = record { memory = ready.outside.memory; input = ready.outside.input; bytes = ready.outside.bytes }; count = ready.count; agree = ready.agree; small = ready.small })
       (λ y more. written_other l x (kept_part width value) y (inr (omega (arith, h))))))
   written_then s world l (source.Memory width access i j) t to value m more f r le h is v small next =
       let now = at ds world (StoreTo width (Local t) (Local (t + target_count (source.Memory width access i j))) more) rest l in
-      subst (λ to. Written p.functions core 0 (5 + m) now (given (writes to value (then_code s)) f)) (sym is.1)
+      subst (λ to. Written p.functions core 0 (5 + m) now (given (writes to value (then_code s)) f)) (sym is.2)
       (by (stored width is.0 value s.blocks) refl)
     where
       by : (o : Option (List Block)) → stored width is.0 value s.blocks ≡ o
@@ -476,7 +529,7 @@ module _ (p : source.Program) (all : All (IsCompilableFunction p.functions) p.fu
           let world2 : World = record world { memory = memory } in
           let same = stored_same width is.0 value s.next s.blocks bs world.memory r.outside.memory found in
           first_written 3 m (5 + m) now (at ds world2 more rest l) (f (then_code (wrote s s.frame.locals bs))) (omega arith)
-          (store_step p.functions core ds world width is.0 value (Local t) q more rest l memory is.2 v same.0)
+          (store_step p.functions core ds world width is.0 value (Local t) q more rest l memory is.4 v same.0)
           (next s.frame.locals bs world2 l
           (record { behind = r.behind; callers = r.callers; outside = record { memory = same.1; input = r.outside.input; bytes = r.outside.bytes }; count = r.count; agree = r.agree; small = r.small })
           (λ x less. refl))

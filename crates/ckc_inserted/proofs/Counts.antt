@@ -239,7 +239,7 @@ counted_nodes true size (counts.Fixed n) a = omega (arith, shifted_nodes false s
 counted_nodes false size (counts.Fixed n) a = omega arith
 counted_nodes upper size (counts.Member offset form add) a = omega arith
 
-range_end_nodes : (upper : Bool) (p : source.Expr) → nodes (range_end upper p) ≤ 7
+pub range_end_nodes : (upper : Bool) (p : source.Expr) → nodes (range_end upper p) ≤ 7
 range_end_nodes upper (source.Limited x limits) = end_nodes x limits.to.size (if upper then limits.upper else limits.lower)
 range_end_nodes upper (source.Member to count access p i) = counted_nodes upper to.size count (static_place access p)
 range_end_nodes upper (source.Moved shift p i) = range_end_nodes upper p

@@ -41,7 +41,7 @@ use Rattle.ckc_inserted.proofs.Values.{Agree, low_value}
 use Rattle.ckc_inserted.proofs.Bounded.{Gives, reads_number, AreSmall}
 use Rattle.ckc_inserted.proofs.Counts.{written_same}
 use Rattle.ckc_inserted.proofs.Relation.{Stands, SameCaller, SameCallers, SameWorld, Related}
-use Rattle.ckc_inserted.proofs.Writing.{written_other, Ready, same_state, Matches, Written, then_written, stores_same, set_local}
+use Rattle.ckc_inserted.proofs.Writing.{written_other, Ready, same_state, Matches, Written, then_written, stores_same, set_local, any_written}
 
 -- what holds of each element holds of one that stands somewhere
 pub all_got : {X : Type 0} (P : X → Type 0) (xs : List X) (i : ℕ) (x : X) → All P xs → slice_get xs i ≡ Some x → P x
@@ -203,11 +203,6 @@ module _ (functions : List source.Function) (all : All (IsCompilableFunction fun
 
   -- ---- returns
 
-  wider : (least most k : ℕ) (u : C.State) (r : Result S.State Halt) → most ≤ k → Written functions core least most u r → Written functions core 0 k u r
-  wider least most k u (Ok s) few w = (w.0, w.1, omega arith, omega (arith, w.3), w.4, w.5)
-  wider least most k u (Err Stuck) few w = tt
-  wider least most k u (Err (Stopped why at)) few w = w
-
   -- what is done with the result of a call, once it is returned
   kept_same : (s : S.State) (work : List Work) (looped : Bool) (ds : List C.Caller) (world : World) (rest : C.Rest) (l : Values) (code : source.Code) (shapes : List Shape) (entry : List ℕ) (n : ℕ) → n < 2 ^ 32
       → Ready functions core s work looped ds world rest l → Stands functions s.frame.function.locals looped (length work) code
@@ -251,7 +246,7 @@ module _ (functions : List source.Function) (all : All (IsCompilableFunction fun
         agree = λ y less. written_other l t n y (inl less) ∙ r.agree y less;
         small = r.small;
       } in
-      wider 1 3 8 (at ds world (Store width (Const a) (Local t) (statements t code)) rest one) (with_blocks (at_work s (Rest code ∷ work)) (stored width a n s.blocks)) (omega arith)
+      any_written functions core 1 3 8 (at ds world (Store width (Const a) (Local t) (statements t code)) rest one) (with_blocks (at_work s (Rest code ∷ work)) (stored width a n s.blocks)) (omega arith)
       (stores_same functions core s work looped ds world rest one code width a n (Const a) (Local t) ready st refl (written_same l t n) (stored width a n s.blocks) refl)
 
   -- what has the limits of a result is the result, or nothing is asked

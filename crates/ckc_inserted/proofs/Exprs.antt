@@ -39,7 +39,7 @@ use Rattle.ckc_source.specs.Eval.{Store, given, given_both, plain, stops, at_add
 use Rattle.ckc_core.specs.Code.{Expr, Const, Local, Load, Code, End, Set, Check, If, Function}
 use Rattle.ckc_core.specs.Meaning.{Rest, Next, State, Caller, value_of, values_of, both, nodes, all_nodes}
 use Rattle.ckc_checks.specs.Compilable.{IsZero, IsJudged, IsAccess, IsCompilableExpr, IsCompilablePart, IsRanged, IsChecked, element_nodes, access_nodes, shift_nodes, index_nodes, expr_nodes, exprs_nodes}
-use Rattle.ckc_checks.specs.Inserted.{operated, low_byte, as_truth, is_zero, shifted, at_offset, element_of, held, keeps_index, is_bounded, reads_signed, exact_test, unless_zero, exact_code, moved_code, range_end, range_test, element_code, bounded_code, judged, pointer_at, index_at, reached_code, reached_place, operand, operation_code, expr_code, operand_code, operands_code, operands}
+use Rattle.ckc_checks.specs.Inserted.{operated, low_byte, as_truth, is_zero, shifted, element_of, held, keeps_index, is_bounded, reads_signed, exact_test, unless_zero, exact_code, moved_code, range_end, range_test, element_code, bounded_code, judged, pointer_at, index_at, reached_code, reached_place, operand, operation_code, expr_code, operand_code, operands_code, operands}
 use Rattle.ckc_inserted.proofs.Running.{machine, first_runs, at, by_set, by_pass, by_fail, by_if, by_end}
 use Rattle.ckc_inserted.proofs.Bounded.{Gives, reads_number, AreSmall, small_cons}
 use Rattle.ckc_inserted.proofs.Single.{behind_one, tested_gives}
@@ -96,10 +96,10 @@ module _ (functions : List Function) (callers : List Caller) (world : World) whe
     zero_index (source.Number m) t y l z e = let same : m ≡ y = cc in sym same ∙ z
     zero_index i t y l z e = absurd z
 
-    -- Where an access goes to is known functions callers world n s sees, as long as the locals up to t + 1 stay.
+    -- The element that an access goes to is known, as long as the locals up to t + 1 stay.
     abbrev pub Placed : Access → Through → Expr → Expr → ℕ → Values → ℕ → Values → Type 0
     Placed access through a i t before q l =
-        Below t l before × ((later : Values) → Below (t + 2) later l → value_of later world.memory (at_offset access.offset (element_of through access.size a i)) ≡ Some (place_in q access.offset))
+        Below t l before × ((later : Values) → Below (t + 2) later l → value_of later world.memory (element_of through access.size a i) ≡ Some q) × (q < 2 ^ 32)
 
     -- what comes of one evaluation comes in a few steps more
     then_also : {A : Type 0} (m k j : ℕ) (st : State) (r : Result A Halt) (last more : Code) (rest : Rest) (P R : A → Values → Type 0) → m + k ≤ j → Comes functions callers world 0 m st r last rest P
@@ -250,7 +250,7 @@ module _ (functions : List Function) (callers : List Caller) (world : World) whe
       omega arith,
       omega arith,
       no_step (machine functions) (at callers world next rest l),
-      (l, refl, (both.0, (λ later below. at_offset_value later world.memory access.offset (operand p t) x.number (both.1 later below) both.3))),
+      (l, refl, (both.0, both.1, both.3)),
     )
     judged_comes access Raw p index t next rest before l x y le agree h hp both eq = (
       0,
@@ -263,9 +263,8 @@ module _ (functions : List Function) (callers : List Caller) (world : World) whe
         refl,
         (
           both.0,
-          (λ later below.
-              at_offset_value later world.memory access.offset (shifted false access.size (operand p t) (operand index (t + 1))) (applied binary.Add x.number (applied binary.Mul access.size y.number))
-              (shifted_value later world.memory false access.size (operand p t) (operand index (t + 1)) x.number y.number (both.1 later below) (both.2 later below) both.3 both.4) (omega arith)),
+          (λ later below. shifted_value later world.memory false access.size (operand p t) (operand index (t + 1)) x.number y.number (both.1 later below) (both.2 later below) both.3 both.4),
+          omega arith,
         ),
       ),
     )
@@ -290,7 +289,7 @@ module _ (functions : List Function) (callers : List Caller) (world : World) whe
               omega arith,
               omega arith,
               by_pass functions callers world check.Null access.at (operand p t) next rest l x.number value z,
-              (l, refl, (both.0, (λ later below. at_offset_value later world.memory access.offset (operand p t) x.number (both.1 later below) both.3))),
+              (l, refl, (both.0, both.1, both.3)),
             )
     judged_comes access Array p index t next rest before l x y le agree h hp both eq =
         then_also (14 * element_nodes index - 20) 0 (14 * element_nodes index - 20)
@@ -303,7 +302,7 @@ module _ (functions : List Function) (callers : List Caller) (world : World) whe
           omega arith,
           omega arith,
           no_step (machine functions) (at callers world next rest l1),
-          (l1, refl, ((λ z less. g.0 z less ∙ both.0 z less), (λ later below. at_offset_value later world.memory access.offset (Local t) q (below t (omega arith) ∙ g.1) g.2))),
+          (l1, refl, ((λ z less. g.0 z less ∙ both.0 z less), (λ later below. below t (omega arith) ∙ g.1), g.2)),
         ))
     judged_comes access Terminated p index t next rest before l x y le agree h hp both eq =
         then_also (14 * element_nodes index - 20) 0 (14 * element_nodes index - 20)
@@ -316,7 +315,7 @@ module _ (functions : List Function) (callers : List Caller) (world : World) whe
           omega arith,
           omega arith,
           no_step (machine functions) (at callers world next rest l1),
-          (l1, refl, ((λ z less. g.0 z less ∙ both.0 z less), (λ later below. at_offset_value later world.memory access.offset (Local t) q (below t (omega arith) ∙ g.1) g.2))),
+          (l1, refl, ((λ z less. g.0 z less ∙ both.0 z less), (λ later below. below t (omega arith) ∙ g.1), g.2)),
         ))
 
     access_steps : (np ep si ki ei nv ju c : ℕ) → np ≤ 6 * ep → si + 2 * ki ≤ 14 * ei → ju + 13 ≤ np + 14 * c → nv ≤ 6 + np + ki
@@ -349,7 +348,8 @@ module _ (functions : List Function) (callers : List Caller) (world : World) whe
         (judged_comes access access.through p i t set rest l l2 x y le (agree_below functions callers world n s sees t l2 l le both.0 agree) h.3 hp both eq_p)
         (λ q l3 r.
         weaken functions callers world n s sees (nodes value + 1) t (at callers world set rest l3) (go q) l3 l more rest r.0
-        (set_value functions callers world value t more rest l3 (go q) (nodes value + 1) (omega arith) (next q l3 (r.1 l3 (λ z less. refl))))))
+        (set_value functions callers world value t more rest l3 (go q) (nodes value + 1) (omega arith)
+        (next q l3 (at_offset_value l3 world.memory access.offset (element_of access.through access.size a b) q (r.1 l3 (λ z less. refl)) r.2)))))
 
     -- ---- pointer arithmetic
 

@@ -11,6 +11,7 @@ pub mod Ranges
 pub mod Counts
 pub mod Coming
 pub mod Exprs
+pub mod Guarding
 pub mod Aiming
 pub mod Relation
 pub mod Settling

@@ -1,6 +1,7 @@
 -- Each step of the source is matched by its core code.
 use Rattle.std.proofs.Common.{inl, ℕ, ◌+◌, ◌*◌, ◌≤◌, ◌==◌, List, [], ◌∷◌, length, refl, arith}
 use Rattle.std.specs.Prelude.{Bool, true, false, if◌then◌else◌, All}
+use Rattle.std.proofs.lemmas.List.Elements.{All-nil, All-cons}
 use Rattle.ckc_base.specs.Steps.{Goes}
 use Rattle.ckc_base.specs.Matching.{Stretch}
 use Rattle.ckc_base.specs.Actions.{World}
@@ -15,7 +16,7 @@ use Rattle.ckc_source.specs.Steps.{store_of, at_work, and_moves, acts}
 use Rattle.ckc_core.specs.Code.{Code, End, If, Break, Loop}
 use Rattle.ckc_core.specs.Meaning.{Stop, Next, Body, Step, value_of, nodes, core_step}
 use Rattle.ckc_core.specs.Meaning as C
-use Rattle.ckc_checks.specs.Compilable.{IsCompilableFunction, expr_nodes}
+use Rattle.ckc_checks.specs.Compilable.{IsCompilableAssign, IsCompilableFunction, expr_nodes}
 use Rattle.ckc_checks.specs.Inserted.{operand, statements}
 use Rattle.ckc_inserted.proofs.Running.{machine, at, by_if, by_end, by_loop, step_by}
 use Rattle.ckc_inserted.proofs.Counts.{operand_nodes}
@@ -23,7 +24,7 @@ use Rattle.ckc_inserted.proofs.Relation.{turn_code, Stands}
 use Rattle.ckc_inserted.proofs.Writing.{same_state, first_matched}
 use Rattle.ckc_inserted.proofs.Acting.{core_of, Meets, IsReady, most_of, lands, uses, call_meets, if_meets, check_meets, return_meets}
 use Rattle.ckc_inserted.proofs.Bundling.{bundle_meets}
-use Rattle.ckc_inserted.proofs.Assigning.{assign_meets, fresh_meets, get_target_meets, put_target_meets}
+use Rattle.ckc_inserted.proofs.Assigning.{assign_meets, get_target_meets, put_target_meets}
 
 module _ (p : source.Program) (all : All (IsCompilableFunction p.functions) p.functions) where
   module _ (s : S.State) (work : List Work) (looped : Bool) (ds : List C.Caller) (world : World) where
@@ -102,8 +103,8 @@ module _ (p : source.Program) (all : All (IsCompilableFunction p.functions) p.fu
         (record { form = h.form.2; few = omega (arith, h.few) }) (omega arith)
     acts_meets (source.Assign spot target (source.Fresh to e) code) rest l r h =
         let right = h.form.1 in
-        let part = right.0 in
-        fresh_meets p all s work looped ds world rest target to e code (most_of (source.Assign spot target (source.Fresh to e) code)) l r h.form.0 part.0
+        bundle_meets p all work looped ds rest code ((target, source.Fresh to e) ∷ []) (most_of (source.Assign spot target (source.Fresh to e) code)) s world l r (omega arith)
+        (All-cons (IsCompilableAssign t) (target, source.Fresh to e) [] (h.form.0, right) (All-nil (IsCompilableAssign t)))
         (record { form = h.form.2; few = omega (arith, h.few) }) (omega arith)
     acts_meets (source.Bundle spot assigns code) rest l r h =
         let fit = h.form.0 in

@@ -4,15 +4,19 @@ use Rattle.std.specs.Prelude.{Bool, true, false, if◌then◌else◌, slice_inde
 use Rattle.std.proofs.lemmas.List.{get_or-set_same, get_or-set_other}
 use Rattle.ckc_base.specs.declared.arithmetic.Width.{Width}
 use Rattle.ckc_base.specs.declared.arithmetic.Width.TheVariants.{Byte, Word}
+use Rattle.ckc_base.specs.declared.places.Pos.{Pos}
 use Rattle.ckc_base.specs.Traces.{Event}
+use Rattle.ckc_base.specs.Traces as standing
 use Rattle.ckc_base.specs.LongEvents.{Stored}
 use Rattle.ckc_base.specs.Steps.{Move, Goes, Halts}
-use Rattle.ckc_base.specs.Matching.{Stretch}
+use Rattle.ckc_base.specs.Matching.{Stretch, Closes}
 use Rattle.ckc_base.specs.Memory.{Memory, kept_part, memory_with, with_bytes, width_bytes}
 use Rattle.ckc_base.specs.Actions.{World, with_value, stores, stores_in}
 use Rattle.ckc_base.specs.Activations.{Values, with_written}
 use Rattle.ckc_base.proofs.Runs.{Matched, no_step, then_stretch, then_closes}
 use Rattle.ckc_base.proofs.Travelling.{below_or_from}
+use Rattle.ckc_source.specs.declared.expr.Through.{Through}
+use Rattle.ckc_source.specs.declared.expr.Through.TheVariants.{Named, Raw, One, Array, Terminated}
 use Rattle.ckc_source.specs.declared.outcome.Halt.{Halt}
 use Rattle.ckc_source.specs.declared.outcome.Halt.TheVariants.{Stopped, Stuck}
 use Rattle.ckc_source.specs.declared.outcome.Place.{Place}
@@ -21,18 +25,20 @@ use Rattle.ckc_source.specs.Code as source
 use Rattle.ckc_source.specs.Blocks.{Block, stored}
 use Rattle.ckc_source.specs.States.{Work, Rest}
 use Rattle.ckc_source.specs.States as S
-use Rattle.ckc_source.specs.Steps.{at_work, allowed, writes, with_blocks, and_moves, comes_to}
+use Rattle.ckc_source.specs.Eval.{given}
+use Rattle.ckc_source.specs.Steps.{at_work, allowed, writes, writes_allowed, with_blocks, and_moves, comes_to}
 use Rattle.ckc_core.specs.Code.{Expr, Local, Code, Set, Store, Function}
 use Rattle.ckc_core.specs.Meaning.{value_of, nodes, core_step, goes_by}
 use Rattle.ckc_core.specs.Meaning as C
 use Rattle.ckc_checks.specs.Compilable.{index_nodes, IsCompilableTarget}
-use Rattle.ckc_checks.specs.Inserted.{pointer_at, index_at, reached_place, target_count, kept_in, written, written_there, statements}
+use Rattle.ckc_checks.specs.Inserted.{pointer_at, index_at, reached_place, kept_in, guarded, stored_code, written, statements}
 use Rattle.ckc_inserted.proofs.Running.{machine, Runs, at, by_set, step_by}
 use Rattle.ckc_inserted.proofs.Flat.{stored_same}
-use Rattle.ckc_inserted.proofs.Values.{Agree, low_value}
+use Rattle.ckc_inserted.proofs.Values.{Agree}
 use Rattle.ckc_inserted.proofs.Bounded.{AreSmall}
-use Rattle.ckc_inserted.proofs.Counts.{written_same, reached_nodes}
+use Rattle.ckc_inserted.proofs.Counts.{written_same, written_below, reached_nodes}
 use Rattle.ckc_inserted.proofs.Coming.{Below}
+use Rattle.ckc_inserted.proofs.Guarding.{guard_steps, IsMarked, marked_later, kept_value, kept_nodes, guard_runs}
 use Rattle.ckc_inserted.proofs.Aiming.{IsAt}
 use Rattle.ckc_inserted.proofs.Relation.{Stands, Behind, SameCallers, SameWorld, SameState, Related}
 
@@ -83,7 +89,7 @@ kept_small Word n h = h
 
 -- in how many steps a value is written
 abbrev pub write_steps : source.Target → ℕ → ℕ
-write_steps (source.Memory width access p i) t = 6 + nodes (pointer_at access p t) + index_nodes i (nodes (index_at access i (t + 1)))
+write_steps (source.Memory width access p i) t = guard_steps access.through + 6 + nodes (pointer_at access p t) + index_nodes i (nodes (index_at access i (t + 1)))
 write_steps target t = 4
 
 -- only a target writes
@@ -135,7 +141,7 @@ module _ (functions : List source.Function) (core : List Function) where
   Written least most u (Ok s) =
       (count : ℕ) × (w : C.State) × (least ≤ count) × (count ≤ most) × Stretch (machine core) count [] u w × Same s w
   Written least most u (Err Stuck) = Unit {0}
-  Written least most u (Err (Stopped why at)) = ⊥
+  Written least most u (Err (Stopped why at)) = (count : ℕ) × (count ≤ most) × Closes (machine core) count [] u (standing.Stopped why at)
 
   -- ---- composition
 
@@ -172,7 +178,13 @@ module _ (functions : List source.Function) (core : List Function) where
     related t h.1 h.5,
   )
   then_written c least n k s events u w (Err Stuck) few some path h = inl refl
-  then_written c least n k s events u w (Err (Stopped why at)) few some path h = absurd h
+  then_written c least n k s events u w (Err (Stopped why at)) few some path h =
+      inr (
+        c + h.0,
+        omega (arith, h.1),
+        tt,
+        subst (λ es. Closes (machine core) (c + h.0) es u (standing.Stopped why at)) (append-nil events) (then_closes (machine core) c h.0 events [] u w (standing.Stopped why at) path h.2),
+      )
 
   -- what is written behind an evaluation
   pub then_comes_to : {A : Type 0} (first least m n k : ℕ) (s : S.State) (u : C.State) (x : Result A Halt) (g : A → Result S.State Halt) (Q : A → C.State → Type 0)
@@ -224,18 +236,6 @@ module _ (functions : List source.Function) (core : List Function) where
         same_state (record s { blocks = bs }) work looped ds (record world { memory = memory }) rest l code good st,
       )
 
-  -- a value as it is kept in a local
-  pub kept_value : (l : Values) (memory : Memory) (width : Width) (is_byte : Bool) (e : Expr) (n : ℕ) → value_of l memory e ≡ Some n → (is_byte ≡ true → n < 256)
-      → value_of l memory (kept_in width is_byte e) ≡ Some (kept_part width n)
-  kept_value l memory Byte true e n h b = let less : n < 256 = b refl in h ∙ ap Some (omega arith)
-  kept_value l memory Byte false e n h b = low_value l memory e n h
-  kept_value l memory Word is_byte e n h b = h
-
-  pub kept_nodes : (width : Width) (is_byte : Bool) (e : Expr) → nodes (kept_in width is_byte e) ≤ nodes e + 2
-  kept_nodes Byte true e = omega arith
-  kept_nodes Byte false e = omega arith
-  kept_nodes Word is_byte e = omega arith
-
   pub set_local : (s : S.State) (work : List Work) (looped : Bool) (ds : List C.Caller) (world : World) (rest : C.Rest) (l after : Values) (x v : ℕ)
       → Ready s work looped ds world rest l → x < s.frame.function.locals → v < 2 ^ 32 → after x ≡ Some v
       → ((y : ℕ) → (y < x) ⊎ (x < y) → y < s.frame.function.locals → after y ≡ l y)
@@ -253,7 +253,22 @@ module _ (functions : List source.Function) (core : List Function) where
   pub more_steps : (least m k : ℕ) (u : C.State) (r : Result S.State Halt) → m ≤ k → Written least m u r → Written least k u r
   more_steps least m k u (Ok s) few w = (w.0, w.1, w.2, omega (arith, w.3), w.4, w.5)
   more_steps least m k u (Err Stuck) few w = tt
-  more_steps least m k u (Err (Stopped why at)) few w = w
+  more_steps least m k u (Err (Stopped why at)) few w = (w.0, omega (arith, w.1), w.2)
+
+  -- a stretch in front that is as long as is asked
+  pub longer_written : (c least m k : ℕ) (u w : C.State) (x : Result S.State Halt) → c + m ≤ k → least ≤ c → Stretch (machine core) c [] u w → Written 0 m w x → Written least k u x
+  longer_written c least m k u w (Ok s) few some path h =
+      (c + h.0, h.1, omega arith, omega (arith, h.3), then_stretch (machine core) c h.0 [] [] u w h.1 path h.4, h.5)
+  longer_written c least m k u w (Err Stuck) few some path h = tt
+  longer_written c least m k u w (Err (Stopped why at)) few some path h =
+      (c + h.0, omega (arith, h.1), then_closes (machine core) c h.0 [] [] u w (standing.Stopped why at) path h.2)
+
+  -- an evaluation in front
+  pub runs_written : {A : Type 0} (m n k : ℕ) (u : C.State) (x : Result A Halt) (f : A → Result S.State Halt) (Q : A → C.State → Type 0) → m + n ≤ k → Runs core 0 m u x Q
+      → ((v : A) (w : C.State) → Q v w → Written 0 n w (f v)) → Written 0 k u (given x f)
+  runs_written m n k u (Ok v) f Q few r next = longer_written r.0 0 n k u r.1 (f v) (omega (arith, r.3)) (omega arith) r.4 (next v r.1 r.5)
+  runs_written m n k u (Err Stuck) f Q few r next = tt
+  runs_written m n k u (Err (Stopped why at)) f Q few r next = (r.0, omega (arith, r.1), r.2)
 
   set_same : (s : S.State) (work : List Work) (looped : Bool) (ds : List C.Caller) (world : World) (rest : C.Rest) (l : Values) (code : source.Code) (x : ℕ) (width : Width)
       (is_byte : Bool) (e : Expr) (n : ℕ) → Ready s work looped ds world rest l → Stands functions s.frame.function.locals looped (length work) code
@@ -274,62 +289,78 @@ module _ (functions : List source.Function) (core : List Function) where
         same_state s2 work looped ds world rest after code good st,
       )
 
-  memory_same : (s : S.State) (work : List Work) (looped : Bool) (ds : List C.Caller) (world : World) (rest : C.Rest) (l : Values) (code : source.Code) (width : Width) (a n : ℕ) (d e : Expr) (to : Place)
-      → Ready s work looped ds world rest l → Stands functions s.frame.function.locals looped (length work) code → to ≡ place.Memory a width None
-      → value_of l world.memory d ≡ Some a → value_of l world.memory e ≡ Some n
-      → Written 1 (nodes d + nodes e + 1) (at ds world (Store width d e (statements s.frame.function.locals code)) rest l) (writes to n (at_work s (Rest code ∷ work)))
-  memory_same s work looped ds world rest l code width a n d e to r st is g h =
-      subst (λ to. Written 1 (nodes d + nodes e + 1) (at ds world (Store width d e (statements s.frame.function.locals code)) rest l) (writes to n (at_work s (Rest code ∷ work)))) (sym is)
-      (stores_same s work looped ds world rest l code width a n d e r st g h (stored width a n s.blocks) refl)
+  pub any_written : (least m k : ℕ) (u : C.State) (x : Result S.State Halt) → m ≤ k → Written least m u x → Written 0 k u x
+  any_written least m k u (Ok s) few w = (w.0, w.1, omega arith, omega (arith, w.3), w.4, w.5)
+  any_written least m k u (Err Stuck) few w = tt
+  any_written least m k u (Err (Stopped why at)) few w = (w.0, omega (arith, w.1), w.2)
+
+  -- any value may be stored there
+  plain_stored : (s : S.State) (work : List Work) (looped : Bool) (ds : List C.Caller) (world : World) (rest : C.Rest) (l : Values) (code : source.Code) (width : Width) (a n k : ℕ) (zero_alone : Option Pos) (d e : Expr)
+      → Ready s work looped ds world rest l → Stands functions s.frame.function.locals looped (length work) code → zero_alone ≡ None
+      → value_of l world.memory d ≡ Some a → value_of l world.memory e ≡ Some n → nodes d + nodes e + 1 ≤ k
+      → Written 1 k (at ds world (Store width d e (statements s.frame.function.locals code)) rest l) (writes_allowed (place.Memory a width zero_alone) n (at_work s (Rest code ∷ work)))
+  plain_stored s work looped ds world rest l code width a n k zero_alone d e r st is g h few =
+      let u = at ds world (Store width d e (statements s.frame.function.locals code)) rest l in
+      let s1 = at_work s (Rest code ∷ work) in
+      subst (λ z. Written 1 k u (writes_allowed (place.Memory a width z) n s1)) (sym is)
+      (more_steps 1 (nodes d + nodes e + 1) k u (writes (place.Memory a width None) n s1) few (stores_same s work looped ds world rest l code width a n d e r st g h (stored width a n s.blocks) refl))
+
+  -- a value is stored in both, behind its check
+  stored_written : (through : Through) (s : S.State) (work : List Work) (looped : Bool) (ds : List C.Caller) (world : World) (rest : C.Rest) (l : Values) (code : source.Code) (spot : Pos) (width : Width) (is_byte : Bool)
+      (t a n : ℕ) (zero_alone : Option Pos) (d e : Expr) → Ready s work looped ds world rest l → Stands functions s.frame.function.locals looped (length work) code → s.frame.function.locals ≤ t
+      → IsMarked through spot t l zero_alone → ((later : Values) → Below (t + 2) later l → value_of later world.memory d ≡ Some a) → value_of l world.memory e ≡ Some n → (is_byte ≡ true → n < 256)
+      → Written 1 (guard_steps through + (nodes d + nodes e + 1)) (at ds world (stored_code through spot width is_byte t (t + 2) d e (statements s.frame.function.locals code)) rest l)
+      (writes_allowed (place.Memory a width zero_alone) n (at_work s (Rest code ∷ work)))
+  stored_written Terminated s work looped ds world rest l code spot width is_byte t a n zero_alone d e r st le is g h small =
+      let u = t + 2 in
+      let s1 = at_work s (Rest code ∷ work) in
+      let to = place.Memory a width zero_alone in
+      let store = Store width d (Local u) (statements s.frame.function.locals code) in
+      let check = guarded Terminated spot width is_byte t u store in
+      let after = with_written l u n in
+      let ready : Ready s work looped ds world rest after = record {
+        behind = r.behind;
+        callers = r.callers;
+        outside = r.outside;
+        count = r.count;
+        agree = λ x less. written_below l u n x (omega arith) ∙ r.agree x less;
+        small = r.small;
+      } in
+      longer_written (nodes e + 1) 1 (10 + (nodes d + 2)) (12 + (nodes d + nodes e + 1)) (at ds world (Set u e check) rest l) (at ds world check rest after) (writes_allowed to n s1) (omega arith) (omega arith)
+      (by_set core ds world u e check rest l n h)
+      (runs_written 10 (nodes d + 2) (10 + (nodes d + 2)) (at ds world check rest after) (allowed to n) (λ into. writes into n s1) (λ into w. (into ≡ to) × (w ≡ at ds world store rest after)) (omega arith)
+      (guard_runs core ds world rest Terminated spot width is_byte t u a n zero_alone store after (marked_later Terminated spot t l after zero_alone is (written_below l u n (t + 1) (omega arith))) (written_same l u n) small)
+      (λ into w q.
+      subst (λ w. Written 0 (nodes d + 2) w (writes into n s1)) (sym q.1)
+      (subst (λ into. Written 0 (nodes d + 2) (at ds world store rest after) (writes into n s1)) (sym q.0)
+      (any_written 1 (nodes d + 1 + 1) (nodes d + 2) (at ds world store rest after) (writes to n s1) (omega arith)
+      (stores_same s work looped ds world rest after code width a n d (Local u) ready st (g after (λ z less. written_below l u n z less)) (written_same l u n) (stored width a n s.blocks) refl)))))
+  stored_written Named s work looped ds world rest l code spot width is_byte t a n zero_alone d e r st le is g h small =
+      plain_stored s work looped ds world rest l code width a n (0 + (nodes d + nodes e + 1)) zero_alone d e r st is (g l (λ z less. refl)) h (omega arith)
+  stored_written Raw s work looped ds world rest l code spot width is_byte t a n zero_alone d e r st le is g h small =
+      plain_stored s work looped ds world rest l code width a n (0 + (nodes d + nodes e + 1)) zero_alone d e r st is (g l (λ z less. refl)) h (omega arith)
+  stored_written One s work looped ds world rest l code spot width is_byte t a n zero_alone d e r st le is g h small =
+      plain_stored s work looped ds world rest l code width a n (0 + (nodes d + nodes e + 1)) zero_alone d e r st is (g l (λ z less. refl)) h (omega arith)
+  stored_written Array s work looped ds world rest l code spot width is_byte t a n zero_alone d e r st le is g h small =
+      plain_stored s work looped ds world rest l code width a n (0 + (nodes d + nodes e + 1)) zero_alone d e r st is (g l (λ z less. refl)) h (omega arith)
 
   -- a value is written to a target in both
   pub writes_same : (s : S.State) (work : List Work) (looped : Bool) (ds : List C.Caller) (world : World) (rest : C.Rest) (l : Values) (code : source.Code)
-      (target : source.Target) (t : ℕ) (to : Place) (is_byte : Bool) (e : Expr) (n : ℕ) → Ready s work looped ds world rest l → Stands functions s.frame.function.locals looped (length work) code
+      (target : source.Target) (t : ℕ) (to : Place) (is_byte : Bool) (e : Expr) (n : ℕ) → Ready s work looped ds world rest l → Stands functions s.frame.function.locals looped (length work) code → s.frame.function.locals ≤ t
       → IsCompilableTarget s.frame.function.locals target → IsAt core ds world target t l to → value_of l world.memory e ≡ Some n → n < 2 ^ 32 → (is_byte ≡ true → n < 256)
       → Written (least_of target) (write_steps target t + nodes e) (at ds world (written target t is_byte e (statements s.frame.function.locals code)) rest l)
-      (writes to n (at_work s (Rest code ∷ work)))
-  writes_same s work looped ds world rest l code source.Nothing t to is_byte e n r st h is v small b =
+      (writes_allowed to n (at_work s (Rest code ∷ work)))
+  writes_same s work looped ds world rest l code source.Nothing t to is_byte e n r st le h is v small b =
       let u = at ds world (statements s.frame.function.locals code) rest l in
-      subst (λ to. Written 0 (4 + nodes e) u (writes to n (at_work s (Rest code ∷ work)))) (sym is)
+      subst (λ to. Written 0 (4 + nodes e) u (writes_allowed to n (at_work s (Rest code ∷ work)))) (sym is)
       (0, u, omega arith, omega arith, no_step (machine core) u, same_state s work looped ds world rest l code r st)
-  writes_same s work looped ds world rest l code (source.Variable x width) t to is_byte e n r st h is v small b =
-      subst (λ to. Written 1 (4 + nodes e) (at ds world (Set x (kept_in width is_byte e) (statements s.frame.function.locals code)) rest l) (writes to n (at_work s (Rest code ∷ work)))) (sym is)
+  writes_same s work looped ds world rest l code (source.Variable x width) t to is_byte e n r st le h is v small b =
+      subst (λ to. Written 1 (4 + nodes e) (at ds world (Set x (kept_in width is_byte e) (statements s.frame.function.locals code)) rest l) (writes_allowed to n (at_work s (Rest code ∷ work)))) (sym is)
       (set_same s work looped ds world rest l code x width is_byte e n r st h v small b)
-  writes_same s work looped ds world rest l code (source.Memory width access p i) t to is_byte e n r st h is v small b =
+  writes_same s work looped ds world rest l code (source.Memory width access p i) t to is_byte e n r st le h is v small b =
       let d = reached_place access p i t in
-      more_steps 1 (nodes d + nodes e + 1) (write_steps (source.Memory width access p i) t + nodes e) (at ds world (Store width d e (statements s.frame.function.locals code)) rest l)
-      (writes to n (at_work s (Rest code ∷ work))) (omega (arith, reached_nodes access p i t))
-      (memory_same s work looped ds world rest l code width is.0 n d e to r st is.1 (is.3 l (λ z less. refl)) v)
-
-  -- The place of a target is in the temporary t.
-  abbrev pub IsThere : source.Target → ℕ → Values → Place → Type 0
-  IsThere source.Nothing t l to = to ≡ place.Nowhere
-  IsThere (source.Variable x width) t l to = to ≡ place.Local x width
-  IsThere (source.Memory width access p i) t l to = (a : ℕ) × (to ≡ place.Memory a width None) × (l t ≡ Some a)
-
-  pub allowed_there : (target : source.Target) (t : ℕ) (l : Values) (to : Place) (n : ℕ) → IsThere target t l to → allowed to n ≡ Ok to
-  allowed_there source.Nothing t l to n is = subst (λ to. allowed to n ≡ Ok to) (sym is) refl
-  allowed_there (source.Variable x width) t l to n is = subst (λ to. allowed to n ≡ Ok to) (sym is) refl
-  allowed_there (source.Memory width access p i) t l to n is = subst (λ to. allowed to n ≡ Ok to) (sym is.1) refl
-
-  pub there_later : (target : source.Target) (t : ℕ) (before l : Values) (to : Place) → IsThere target t before to → Below (t + target_count target) l before → IsThere target t l to
-  there_later source.Nothing t before l to is below = is
-  there_later (source.Variable x width) t before l to is below = is
-  there_later (source.Memory width access p i) t before l to is below = (is.0, is.1, below t (omega arith) ∙ is.2)
-
-  -- a value is written to a target in both, whose place is in the temporary t
-  pub there_same : (s : S.State) (work : List Work) (looped : Bool) (ds : List C.Caller) (world : World) (rest : C.Rest) (l : Values) (code : source.Code)
-      (target : source.Target) (t : ℕ) (to : Place) (e : Expr) (n : ℕ) → Ready s work looped ds world rest l → Stands functions s.frame.function.locals looped (length work) code
-      → IsCompilableTarget s.frame.function.locals target → IsThere target t l to → value_of l world.memory e ≡ Some n → n < 2 ^ 32
-      → Written (least_of target) (4 + nodes e) (at ds world (written_there target t e (statements s.frame.function.locals code)) rest l) (writes to n (at_work s (Rest code ∷ work)))
-  there_same s work looped ds world rest l code source.Nothing t to e n r st h is v small =
-      let u = at ds world (statements s.frame.function.locals code) rest l in
-      subst (λ to. Written 0 (4 + nodes e) u (writes to n (at_work s (Rest code ∷ work)))) (sym is)
-      (0, u, omega arith, omega arith, no_step (machine core) u, same_state s work looped ds world rest l code r st)
-  there_same s work looped ds world rest l code (source.Variable x width) t to e n r st h is v small =
-      subst (λ to. Written 1 (4 + nodes e) (at ds world (Set x (kept_in width false e) (statements s.frame.function.locals code)) rest l) (writes to n (at_work s (Rest code ∷ work)))) (sym is)
-      (set_same s work looped ds world rest l code x width false e n r st h v small (λ b. absurd cc))
-  there_same s work looped ds world rest l code (source.Memory width access p i) t to e n r st h is v small =
-      more_steps 1 (1 + nodes e + 1) (4 + nodes e) (at ds world (Store width (Local t) e (statements s.frame.function.locals code)) rest l)
-      (writes to n (at_work s (Rest code ∷ work))) (omega arith)
-      (memory_same s work looped ds world rest l code width is.0 n (Local t) e to r st is.1 is.2 v)
+      let u = at ds world (written (source.Memory width access p i) t is_byte e (statements s.frame.function.locals code)) rest l in
+      subst (λ to. Written 1 (write_steps (source.Memory width access p i) t + nodes e) u (writes_allowed to n (at_work s (Rest code ∷ work)))) (sym is.2)
+      (more_steps 1 (guard_steps access.through + (nodes d + nodes e + 1)) (write_steps (source.Memory width access p i) t + nodes e) u
+      (writes_allowed (place.Memory is.0 width is.1) n (at_work s (Rest code ∷ work))) (omega (arith, reached_nodes access p i t))
+      (stored_written access.through s work looped ds world rest l code access.at width is_byte t is.0 n is.1 d e r st le is.4 is.5 v b))

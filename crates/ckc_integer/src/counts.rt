@@ -1,7 +1,7 @@
 //! How deep expressions are and how many nodes there are, up to 2^64 - 1.
 ghost use Rattle.std.specs.Prelude.{◌≡◌, ◌+◌, map};
 ghost use Rattle.ckc_source.specs.Code.{expr_of, target_of, right_of, assign_of, code_of};
-ghost use Rattle.ckc_checks.specs.Compilable.{depth, element_nodes, access_nodes, shift_nodes, index_nodes, expr_nodes, exprs_nodes, target_nodes, right_nodes, assigns_nodes, code_nodes};
+ghost use Rattle.ckc_checks.specs.Compilable.{depth, element_nodes, access_nodes, shift_nodes, index_nodes, expr_nodes, exprs_nodes, guard_nodes, target_nodes, right_nodes, assigns_nodes, code_nodes};
 ghost use Rattle.ckc_integer.specs.Capped.{capped};
 
 use ckc_source::{Assign, ExprTree, RightTree, StmtTree, TargetTree, Through};
@@ -180,6 +180,16 @@ fn right_nodes(right: &RightTree) -> u64
     }
 }
 
+/// How many nodes the check counts for where zero alone may be written.
+fn guard_nodes(through: Through) -> u64
+    ensures { result ≡ guard_nodes through }
+{
+    match through {
+        Through::Named | Through::Raw | Through::One | Through::Array => 0,
+        Through::Terminated => 3,
+    }
+}
+
 /// How many nodes a target has.
 #[tactic(auto, using(crate::proofs::Indexes::index_capped))]
 fn target_nodes(target: &TargetTree) -> u64
@@ -192,6 +202,7 @@ fn target_nodes(target: &TargetTree) -> u64
             pointer
                 .saturating_add(index)
                 .saturating_add(access_nodes(access.through, i.get()))
+                .saturating_add(guard_nodes(access.through))
         }
         TargetTree::Nothing | TargetTree::Local(_, _) => 0,
     }

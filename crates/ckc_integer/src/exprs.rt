@@ -2,7 +2,7 @@
 ghost use Rattle.std.specs.Prelude.{◌↔◌, ◌+◌, ◌≤◌, ◌<◌, ◌^◌, IsTrue};
 ghost use Rattle.ckc_core.specs.WellFormed.{IsPlace};
 ghost use Rattle.ckc_source.specs.Code.{expr_of, target_of, right_of};
-ghost use Rattle.ckc_checks.specs.Compilable.{IsOwn, IsNone, IsZero, IsBase, IsVariable, IsSmall, IsEnd, AreEnds, IsNamed, IsStatic, EndsLow, IsFixed, IsRanged, IsJudged, IsWritable, IsAccess, IsChecked, IsShift, IsOne, IsFixedEnd, AreSingle, IsSingleCount, IsSingle, IsCompilableExpr, IsCompilablePart, IsCompilableTarget, IsCompilableRight, IsCompilableKept};
+ghost use Rattle.ckc_checks.specs.Compilable.{IsOwn, IsNone, IsZero, IsBase, IsVariable, IsSmall, IsEnd, AreEnds, IsNamed, IsStatic, EndsLow, IsFixed, IsRanged, IsJudged, IsAccess, IsChecked, IsShift, IsOne, IsFixedEnd, AreSingle, IsSingleCount, IsSingle, IsCompilableExpr, IsCompilablePart, IsCompilableTarget, IsCompilableRight, IsCompilableKept};
 
 use crate::counts::depth;
 use ckc_base::Pos;
@@ -304,16 +304,6 @@ fn is_judged(through: Through, size: u32, p: &ExprTree, i: &ExprTree, locals: u3
     }
 }
 
-/// Whether something may be written through a pointer.
-fn is_writable(through: Through) -> bool
-    ensures { IsTrue result ↔ IsWritable through }
-{
-    match through {
-        Through::Terminated => false,
-        Through::Named | Through::Raw | Through::One | Through::Array => true,
-    }
-}
-
 fn is_access(access: Access, p: &ExprTree, i: &ExprTree, locals: u32) -> bool
     ensures { IsTrue result ↔ IsAccess locals access (expr_of p.now) (expr_of i.now) }
 {
@@ -390,7 +380,6 @@ pub fn is_target(target: &TargetTree, locals: u32) -> bool
             is_access(*access, p.get(), i.get(), locals)
                 && is_part(p.get(), locals)
                 && is_part(i.get(), locals)
-                && is_writable(access.through)
         }
     }
 }
