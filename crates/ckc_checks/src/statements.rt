@@ -6,9 +6,8 @@ ghost use Rattle.ckc_source.specs.Code.{expr_of as source_of, target_of, right_o
 ghost use Rattle.ckc_checks.specs.Inserted.{low_byte, operand, operands, operands_code, is_narrow, kept_in, aim_code, target_count, written, operand_used, assigned, taken, fixed, written_there, right_assigned, result_in, result_kept, statements};
 ghost use Rattle.ckc_checks.specs.Building.{behind, expr_code_if, get_code, put_code, call_code, branch_code, loop_code, return_code, check_code};
 
-use crate::code::{expr, fork, front, in_order, judge, nothing, place};
+use crate::code::{expr, fork, front, in_order, nothing, place, reach};
 use crate::exprs::{low_byte, operand, sum};
-use crate::ranges::{is_bounded, keeps_index};
 use crate::rooms::target_count;
 use ckc_base::{Check, Pos, Seq, Width};
 use ckc_core::{CoreExpr, CoreStmt};
@@ -71,8 +70,7 @@ fn write(
             Ok(())
         }
         TargetTree::Memory(width, access, p, i) => {
-            let next = sum(t, 1)?;
-            let to = place(alloc, *access, p.get(), i.get(), t, next)?;
+            let to = place(alloc, *access, p.get(), i.get(), t)?;
             front(code, CoreStmt::Store(*width, to, value))?;
             Ok(())
         }
@@ -91,20 +89,7 @@ fn aim(
     match target {
         TargetTree::Nothing | TargetTree::Local(_, _) => Ok(()),
         TargetTree::Memory(_, access, p, i) => {
-            let next = sum(t, 1)?;
-            judge(
-                alloc,
-                access.through,
-                *access,
-                p.get(),
-                i.get(),
-                t,
-                next,
-                code,
-            )?;
-            let checked = is_bounded(access.through);
-            expr(alloc, i.get(), keeps_index(checked, i.get()), next, code)?;
-            expr(alloc, p.get(), checked, t, code)?;
+            reach(alloc, *access, p.get(), i.get(), t, code)?;
             Ok(())
         }
     }
@@ -146,8 +131,7 @@ fn fix(
     match target {
         TargetTree::Nothing | TargetTree::Local(_, _) => Ok(()),
         TargetTree::Memory(_, access, p, i) => {
-            let next = sum(t, 1)?;
-            let to = place(alloc, *access, p.get(), i.get(), t, next)?;
+            let to = place(alloc, *access, p.get(), i.get(), t)?;
             front(code, CoreStmt::Set(t, to))?;
             Ok(())
         }

@@ -13,22 +13,22 @@ use Rattle.ckc_source.specs.declared.outcome.Place.{Place}
 use Rattle.ckc_source.specs.declared.outcome.Place.TheVariants as place
 use Rattle.ckc_source.specs.Code as source
 use Rattle.ckc_source.specs.Blocks.{lies_in}
-use Rattle.ckc_source.specs.Eval.{Store, given, element, place_in}
+use Rattle.ckc_source.specs.Eval.{Store, place_in}
 use Rattle.ckc_source.specs.Steps.{terminator_at, aims_at, aimed, allowed}
 use Rattle.ckc_core.specs.Code.{Code, Function}
 use Rattle.ckc_core.specs.Meaning.{Rest, Caller, value_of}
 use Rattle.ckc_checks.specs.Compilable.{IsWritable, IsCompilableTarget}
-use Rattle.ckc_checks.specs.Inserted.{held, keeps_index, is_bounded, judged, reached_place, aim_code, target_count}
+use Rattle.ckc_checks.specs.Inserted.{reached_place, aim_code, target_count}
 use Rattle.ckc_inserted.proofs.Running.{machine, at}
 use Rattle.ckc_inserted.proofs.Values.{Agree, Sees}
-use Rattle.ckc_inserted.proofs.Coming.{Below, Comes, then_comes, agree_below, pair_comes}
-use Rattle.ckc_inserted.proofs.Exprs.{held_comes, index_comes, Placed, judged_comes}
-use Rattle.ckc_inserted.proofs.Counts.{held_steps, index_steps, judged_steps}
+use Rattle.ckc_inserted.proofs.Coming.{Below, Comes}
+use Rattle.ckc_inserted.proofs.Judging.{place_value}
+use Rattle.ckc_inserted.proofs.Exprs.{reach_comes}
+use Rattle.ckc_inserted.proofs.Counts.{found_steps}
 
 -- in how many steps the place of a target is found
 abbrev pub aim_steps : source.Target → ℕ → ℕ
-aim_steps (source.Memory width access p i) t =
-    held_steps (is_bounded access.through) p t + (index_steps (keeps_index (is_bounded access.through) i) i (t + 1) + judged_steps access.through p i t)
+aim_steps (source.Memory width access p i) t = found_steps access p i t
 aim_steps target t = 0
 
 no_terminator : (through : Through) (range : Range) (a : ℕ) (spot : Pos) → IsWritable through → terminator_at through range a spot ≡ None
@@ -58,25 +58,12 @@ module _ (functions : List Function) (callers : List Caller) (world : World) whe
     aim_comes (source.Variable x width) t more rest l le h agree =
         (0, at callers world more rest l, omega arith, omega arith, no_step (machine functions) (at callers world more rest l), (l, refl, ((λ x less. refl), refl)))
     aim_comes (source.Memory width access p i) t more rest l le h agree =
-        let checked = is_bounded access.through in
-        let keeps = keeps_index checked i in
-        let a = held checked p t in
-        let b = held keeps i (t + 1) in
-        let ju = judged_steps access.through p i t in
-        let judge = judged access.through access p a b t more in
-        let judged = h.0 in
         let pointer = h.1 in
         let index = h.2 in
-        let good = Aimed (source.Memory width access p i) t l in
-        pair_comes functions callers world n s sees checked keeps p i (held_steps checked p) (index_steps keeps i) t 0 ju (aim_steps (source.Memory width access p i) t) judge more rest l
-        (λ v k. given (element access v k.number) (aims_at s width access v.range)) good
-        (held_comes functions callers world n s sees checked p) (index_comes functions callers world n s sees checked i) le pointer.0 index.0 agree (omega arith)
-        (λ x y l2 both eq_p eq_i.
-        then_comes functions callers world 0 ju 0 ju (at callers world judge rest l2) (element access x y.number) (aims_at s width access x.range) more rest
-        (Placed functions callers world n s sees access access.through a b t l) (λ to u. (l' : Values) × (u ≡ at callers world more rest l') × good to l') (omega arith)
-        (judged_comes functions callers world n s sees access access.through p i t more rest l l2 x y le (agree_below functions callers world n s sees t l2 l le both.0 agree) judged.3 pointer.0 both eq_p)
-        (λ q l3 r.
-        by x.range q l3 (no_terminator access.through x.range q access.at h.3) r.0 r.1 (lies_in width (place_in q access.offset) s.blocks)))
+        reach_comes functions callers world n s sees access p i t 0 0 (aim_steps (source.Memory width access p i) t) more more rest l (λ v a. aims_at s width access v.range a) (Aimed (source.Memory width access p i) t l)
+        le h.0 pointer.0 index.0 agree (omega arith)
+        (λ x q l3 r eq.
+        by x.range q l3 (no_terminator access.through x.range q access.at h.3) r.0 (λ later below. place_value functions callers world n s sees access p i t q l l3 later r below) (lies_in width (place_in q access.offset) s.blocks))
       where
         by : (range : Range) (q : ℕ) (l3 : Values) → terminator_at access.through range q access.at ≡ None → Below t l3 l
             → ((later : Values) → Below (t + 2) later l3 → value_of later world.memory (reached_place access p i t) ≡ Some (place_in q access.offset)) → (here : Bool)
@@ -102,4 +89,4 @@ module _ (functions : List Function) (callers : List Caller) (world : World) whe
   pub at_later : (target : source.Target) (t : ℕ) (before l : Values) (to : Place) → IsAt target t before to → Below (t + target_count target) l before → IsAt target t l to
   at_later source.Nothing t before l to is below = is
   at_later (source.Variable x width) t before l to is below = is
-  at_later (source.Memory width access p i) t before l to is below = (is.0, is.1, is.2, λ later same. is.3 later (λ z less. same z less ∙ below z less))
+  at_later (source.Memory width access p i) t before l to is below = (is.0, is.1, is.2, λ later same. is.3 later (λ z less. same z less ∙ below z (omega arith)))

@@ -22,10 +22,10 @@ use Rattle.ckc_core.specs.Code.{Expr, Local, Code, Alloc, Get, Put, Function}
 use Rattle.ckc_core.specs.Meaning.{value_of, nodes, core_step, goes_by}
 use Rattle.ckc_core.specs.Meaning as C
 use Rattle.ckc_checks.specs.Compilable.{target_nodes, expr_nodes, IsCompilableExpr, IsCompilableTarget, IsCompilableFunction}
-use Rattle.ckc_checks.specs.Inserted.{keeps_index, is_bounded, reached_place, low_byte, operand, operand_used, operand_code, aim_code, target_count, is_narrow, written, fixed, taken, written_there, assigned, right_assigned, statements}
+use Rattle.ckc_checks.specs.Inserted.{reached_place, low_byte, operand, operand_used, operand_code, aim_code, target_count, is_narrow, written, fixed, taken, written_there, assigned, right_assigned, statements}
 use Rattle.ckc_inserted.proofs.Running.{machine, at, by_set, step_by}
 use Rattle.ckc_inserted.proofs.Flat.{allocated_same}
-use Rattle.ckc_inserted.proofs.Counts.{operand_nodes, held_nodes, index_few, reached_nodes, judged_few, written_same, written_below}
+use Rattle.ckc_inserted.proofs.Counts.{operand_nodes, found_few, written_same, written_below}
 use Rattle.ckc_inserted.proofs.Coming.{Below}
 use Rattle.ckc_inserted.proofs.Aiming.{IsAt, aim_steps, at_later}
 use Rattle.ckc_inserted.proofs.Relation.{Stands}
@@ -35,9 +35,7 @@ use Rattle.ckc_inserted.proofs.Acting.{core_of, Meets, IsReady, ready_below, use
 pub aim_write_steps : (target : source.Target) (t : ℕ) → aim_steps target t + write_steps target t ≤ 14 * target_nodes target + 10
 aim_write_steps source.Nothing t = omega arith
 aim_write_steps (source.Variable x width) t = omega arith
-aim_write_steps (source.Memory width access p i) t =
-    let checked = is_bounded access.through in
-    omega (arith, held_nodes checked p t, index_few (keeps_index checked i) i (t + 1), judged_few access.through p i t)
+aim_write_steps (source.Memory width access p i) t = omega (arith, found_few access p i t)
 
 -- in how many steps a place goes to a temporary
 abbrev fixed_steps : source.Target → ℕ → ℕ
@@ -47,9 +45,7 @@ fixed_steps target t = 0
 aim_fixed_steps : (target : source.Target) (t : ℕ) → aim_steps target t + fixed_steps target t ≤ 14 * target_nodes target + 10
 aim_fixed_steps source.Nothing t = omega arith
 aim_fixed_steps (source.Variable x width) t = omega arith
-aim_fixed_steps (source.Memory width access p i) t =
-    let checked = is_bounded access.through in
-    omega (arith, reached_nodes access p i t, held_nodes checked p t, index_few (keeps_index checked i) i (t + 1), judged_few access.through p i t)
+aim_fixed_steps (source.Memory width access p i) t = omega (arith, found_few access p i t)
 
 module _ (p : source.Program) (all : All (IsCompilableFunction p.functions) p.functions)
     (s : S.State) (work : List Work) (looped : Bool) (ds : List C.Caller) (world : World) (rest : C.Rest) where

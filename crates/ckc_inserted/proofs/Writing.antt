@@ -25,13 +25,13 @@ use Rattle.ckc_source.specs.Steps.{at_work, allowed, writes, with_blocks, and_mo
 use Rattle.ckc_core.specs.Code.{Expr, Local, Code, Set, Store, Function}
 use Rattle.ckc_core.specs.Meaning.{value_of, nodes, core_step, goes_by}
 use Rattle.ckc_core.specs.Meaning as C
-use Rattle.ckc_checks.specs.Compilable.{index_nodes, IsCompilableTarget}
-use Rattle.ckc_checks.specs.Inserted.{pointer_at, index_at, reached_place, target_count, kept_in, written, written_there, statements}
+use Rattle.ckc_checks.specs.Compilable.{IsCompilableTarget}
+use Rattle.ckc_checks.specs.Inserted.{reached_place, target_count, kept_in, written, written_there, statements}
 use Rattle.ckc_inserted.proofs.Running.{machine, Runs, at, by_set, step_by}
 use Rattle.ckc_inserted.proofs.Flat.{stored_same}
 use Rattle.ckc_inserted.proofs.Values.{Agree, low_value}
 use Rattle.ckc_inserted.proofs.Bounded.{AreSmall}
-use Rattle.ckc_inserted.proofs.Counts.{written_same, reached_nodes}
+use Rattle.ckc_inserted.proofs.Counts.{written_same}
 use Rattle.ckc_inserted.proofs.Coming.{Below}
 use Rattle.ckc_inserted.proofs.Aiming.{IsAt}
 use Rattle.ckc_inserted.proofs.Relation.{Stands, Behind, SameCallers, SameWorld, SameState, Related}
@@ -83,7 +83,7 @@ kept_small Word n h = h
 
 -- in how many steps a value is written
 abbrev pub write_steps : source.Target → ℕ → ℕ
-write_steps (source.Memory width access p i) t = 6 + nodes (pointer_at access p t) + index_nodes i (nodes (index_at access i (t + 1)))
+write_steps (source.Memory width access p i) t = 1 + nodes (reached_place access p i t)
 write_steps target t = 4
 
 -- only a target writes
@@ -298,7 +298,7 @@ module _ (functions : List source.Function) (core : List Function) where
   writes_same s work looped ds world rest l code (source.Memory width access p i) t to is_byte e n r st h is v small b =
       let d = reached_place access p i t in
       more_steps 1 (nodes d + nodes e + 1) (write_steps (source.Memory width access p i) t + nodes e) (at ds world (Store width d e (statements s.frame.function.locals code)) rest l)
-      (writes to n (at_work s (Rest code ∷ work))) (omega (arith, reached_nodes access p i t))
+      (writes to n (at_work s (Rest code ∷ work))) (omega arith)
       (memory_same s work looped ds world rest l code width is.0 n d e to r st is.1 (is.3 l (λ z less. refl)) v)
 
   -- The place of a target is in the temporary t.
