@@ -1,6 +1,6 @@
 -- What is inserted names only what is there.
 use Rattle.std.proofs.Common.{◌≡◌, ℕ, zero, suc, ◌+◌, ◌-◌, ◌≤◌, ◌<◌, List, [], ◌∷◌, length, refl, sym, ◌∙◌, ap, subst, arith, lit<}
-use Rattle.std.specs.Prelude.{ℤ, pos, negsuc, ◌^◌, ◌==◌, Bool, true, false, if◌then◌else◌, Option, Some, None, slice_get, map, All, IfSome}
+use Rattle.std.specs.Prelude.{ℤ, pos, negsuc, ◌^◌, ◌==◌, Bool, true, false, not, ◌||◌, max, if◌then◌else◌, Option, Some, None, slice_get, map, All, IfSome}
 use Rattle.std.specs.Option.{option_map}
 use Rattle.std.proofs.lemmas.Option.{slice_get-map}
 use Rattle.std.proofs.lemmas.List.Elements.{All-nil, All-cons, All-head, All-tail, All-map, All-weaker}
@@ -10,7 +10,6 @@ use Rattle.ckc_base.specs.declared.places.Pos.{Pos}
 use Rattle.ckc_base.specs.declared.runtime_checks.Check.TheVariants as check
 use Rattle.ckc_base.specs.declared.arithmetic.BinOp.TheVariants as binary
 use Rattle.ckc_source.specs.declared.expr.Access.{Access}
-use Rattle.ckc_source.specs.Eval.{place_in}
 use Rattle.ckc_source.specs.declared.expr.Count.{Count}
 use Rattle.ckc_source.specs.declared.expr.Count.TheVariants as counts
 use Rattle.ckc_source.specs.declared.expr.Base.{Base}
@@ -27,20 +26,21 @@ use Rattle.ckc_source.specs.declared.stmt.Kept.TheVariants as kept
 use Rattle.ckc_source.specs.Code as source
 use Rattle.std.proofs.lemmas.Int.{ints}
 use Rattle.ckc_base.specs.Words.{word_of}
-use Rattle.ckc_source.specs.Words.{divides}
+use Rattle.ckc_source.specs.Words.{divides, width_of}
 use Rattle.ckc_core.specs.Code.{Expr, Const, Local, Load, Bin, Code, End, Set, Store, Check, Function}
+use Rattle.ckc_source.specs.declared.expr.Integer.{Integer}
+use Rattle.ckc_source.specs.declared.expr.Integer.TheVariants as integer
+use Rattle.ckc_source.specs.declared.expr.Limits.{Limits}
+use Rattle.ckc_source.specs.declared.expr.Pointee.{Pointee}
 use Rattle.ckc_core.specs.WellFormed.{IsExprOver, IsCodeOver, IsFunctionOver, IsWellFormed, HasParams, IsPlace}
+use Rattle.ckc_checks.proofs.Needs.{far_one, range_more, range_far, value_room_some, Has, judged_has, moved_has, added_has, choice_has}
 use Rattle.ckc_checks.specs.Compilable as form
-use Rattle.ckc_checks.specs.Compilable.{IsBase, IsVariable, IsSmall, IsEnd, IsFixed, IsJudged, IsRanged, IsAccess, IsChecked, IsCompilableExpr, IsCompilablePart, IsCompilableTarget, IsCompilableRight, IsCompilableAssign, IsCompilableKept, IsCompilableCode, IsCompilableFunction, IsCompilable}
-use Rattle.ckc_checks.specs.Inserted.{is_direct, operated, low_byte, as_truth, is_zero, scaled, shifted, at_offset, element_of, place_at, held, put_if, room_if, keeps_index, is_bounded, reads_signed, exact_test, exact_code, base_at, amount_at, end_at, counted_end, range_end, upper_test, range_test, bounded_code, judged, pointer_at, index_at, reached_code, reached_place, reached_room, direct, operand, operation_code, expr_code, operand_code, operands_code, operands, expr_room, operand_room, operands_room, is_narrow, kept_in, marked, aim_code, target_count, guarded, stored_code, written, fixed, allowed_code, written_there, right_assigned, valued, behind_planned, plans_code, writes_code, bundle_code, target_room, guard_room, aimed_room, assigned_room, valued_room, bundle_room, result_in, result_kept, statements, room, zeroed, function_code, inserted}
+use Rattle.ckc_checks.specs.Compilable.{IsBase, IsVariable, IsSmall, IsEnd, IsJudged, IsRanged, IsAccess, IsChecked, IsCompilableExpr, IsCompilablePart, IsCompilableTarget, IsCompilableRight, IsCompilableAssign, IsCompilableKept, IsCompilableCode, IsCompilableFunction, IsCompilable, AreEnds, IsCount, IsBounded, HasRange, IsCast}
+use Rattle.ckc_checks.specs.Inserted.{is_direct, operated, low_byte, as_truth, is_zero, scaled, shifted, at_offset, element_of, place_at, held, put_if, room_if, keeps_index, is_bounded, reads_signed, exact_test, exact_code, base_at, amount_at, end_at, counted_end, range_end, upper_test, range_test, bounded_code, judged, pointer_at, index_at, reached_place, direct, operand, operation_code, expr_code, operand_code, operands_code, operands, expr_room, operand_room, operands_room, is_narrow, kept_in, marked, aim_code, target_count, guarded, stored_code, written, fixed, allowed_code, written_there, right_assigned, valued, behind_planned, plans_code, writes_code, bundle_code, target_room, guard_room, aimed_room, assigned_room, valued_room, bundle_room, result_in, result_kept, statements, room, zeroed, function_code, inserted, static_place, is_ranged, takes_range, casts_one, index_far, index_in, held_test, bounds_test, reached_element, access_room, value_room, with_range, no_range, length_at, pointer_code, is_natural, cast_test, tested_code, trusted_range, moved_range, value_code, access_code}
 
 -- an expression needs a temporary for its value
 pub expr_room_some : (e : source.Expr) → 1 ≤ expr_room e
-expr_room_some (source.Choice c a b) = omega (arith, expr_room_some a)
-expr_room_some (source.Bare p) = omega (arith, expr_room_some p)
-expr_room_some (source.Tested size how at p k) = omega (arith, expr_room_some p)
-expr_room_some (source.Trusted to how p k) = omega (arith, expr_room_some p)
-expr_room_some e = omega arith
+expr_room_some e = value_room_some false e
 
 -- checked arithmetic has a place
 checked_place : (shift : Shift) (checked : Bool) → IsChecked checked shift → checked ≡ true → IsPlace shift.at
@@ -113,7 +113,7 @@ module _ (few locals : ℕ) (more : few ≤ locals) where
   direct_over (source.And a b) h = lit< tt
   direct_over (source.Or a b) h = lit< tt
   direct_over (source.Choice c a b) h = lit< tt
-  direct_over (source.Tested size how at p k) h = direct_over p h.2
+  direct_over (source.Tested size how at p k) h = direct_over p h.1
 
   by_room : (is_one : Bool) (d : Expr) (r t : ℕ) → IsExprOver locals d → 1 ≤ r → t + (if is_one then 0 else r) ≤ locals → IsExprOver locals (if is_one then d else Local t)
   by_room true d r t h some fits = h
@@ -122,15 +122,21 @@ module _ (few locals : ℕ) (more : few ≤ locals) where
   operand_over : (e : source.Expr) (t : ℕ) → IsCompilableExpr few e → t + operand_room e ≤ locals → IsExprOver locals (operand e t)
   operand_over e t h fits = by_room (is_direct e) (direct e) (expr_room e) t (direct_over e h) (expr_room_some e) fits
 
-  held_over : (always : Bool) (e : source.Expr) (t : ℕ) → IsCompilableExpr few e → t + room_if always e (expr_room e) ≤ locals → IsExprOver locals (held always e t)
-  held_over true e t h fits = omega (arith, expr_room_some e)
-  held_over false e t h fits = operand_over e t h fits
+  held_over : (r always : Bool) (e : source.Expr) (t : ℕ) → IsCompilableExpr few e → t + room_if always e (value_room r e) ≤ locals → IsExprOver locals (held always e t)
+  held_over r true e t h fits = omega (arith, value_room_some r e, far_one r)
+  held_over r false e t h fits = by_room (is_direct e) (direct e) (value_room r e) t (direct_over e h) (omega (arith, value_room_some r e, far_one r)) fits
+
+  reached_element_over : (access : Access) (p i : source.Expr) (t : ℕ) → IsAccess few access p i → IsCompilableExpr few p → IsCompilableExpr few i
+      → t + access_room access p i ≤ locals → IsExprOver locals (reached_element access p i t)
+  reached_element_over access p i t h hp hi fits =
+      let checked = is_bounded access.through in
+      element_over access.through access.size (pointer_at access p t) (index_at access i (index_in access p t)) h.1
+      (held_over (takes_range access.through p) checked p t hp (omega arith)) (held_over false (keeps_index checked i) i (index_in access p t) hi (omega arith))
 
   reached_place_over : (access : Access) (p i : source.Expr) (t : ℕ) → IsAccess few access p i → IsCompilableExpr few p → IsCompilableExpr few i
-      → t + reached_room (is_bounded access.through) p i (expr_room p) (expr_room i) ≤ locals → IsExprOver locals (reached_place access p i t)
+      → t + access_room access p i ≤ locals → IsExprOver locals (reached_place access p i t)
   reached_place_over access p i t h hp hi fits =
-      let checked = is_bounded access.through in
-      place_over access p i (pointer_at access p t) (index_at access i (t + 1)) h (held_over checked p t hp (omega arith)) (held_over (keeps_index checked i) i (t + 1) hi (omega arith))
+      at_offset_over access.offset (reached_element access p i t) h.2 (reached_element_over access p i t h hp hi fits)
 
   -- ---- ranges
 
@@ -150,24 +156,27 @@ module _ (few locals : ℕ) (more : few ≤ locals) where
   end_over : (x size : ℕ) (e : LimitsEnd) → x < few → size < 2 ^ 32 → IsEnd few e → IsExprOver locals (end_at x size e)
   end_over x size e h k is = shifted_over false size (base_at x e.base) (amount_at e.variable e.add) k (base_over x e.base h is.0) (amount_over e.variable e.add is.1 is.2)
 
-  counted_over : (upper : Bool) (size : ℕ) (count : Count) (e : Expr) → size < 2 ^ 32 → IsExprOver locals e → IsFixed count → IsExprOver locals (counted_end upper size count e)
+  counted_over : (upper : Bool) (size : ℕ) (count : Count) (e : Expr) → size < 2 ^ 32 → IsExprOver locals e → IsCount count → IsExprOver locals (counted_end upper size count e)
   counted_over true size (counts.Fixed n) e h x small = shifted_over false size e (Const (word_of n)) h x (small_word n small)
   counted_over false size (counts.Fixed n) e h x small = x
-  counted_over upper size (counts.Member offset form add) e h x small = absurd small
+  counted_over upper size (counts.Member offset form add) e h x small = lit< tt
+
+  static_word : (access : Access) (p : source.Expr) → static_place access p < 2 ^ 32
+  static_word access (source.Number a) = omega arith
+  static_word access p = lit< tt
 
   range_end_over : (upper : Bool) (p : source.Expr) → IsRanged few p → IsCompilableExpr few p → IsExprOver locals (range_end upper p)
   range_end_over true (source.Limited x limits) h k = end_over x limits.to.size limits.upper k h.0 h.2
   range_end_over false (source.Limited x limits) h k = end_over x limits.to.size limits.lower k h.0 h.1
-  range_end_over upper (source.Member to count access (source.Number a) i) h k =
-      counted_over upper to.size count (Load width.Word (Const (place_in a access.offset))) h.1 (omega arith) h.2
-  range_end_over true (source.Address bytes access (source.Number a) i) h k = h.1
-  range_end_over false (source.Address bytes access (source.Number a) i) h k = omega arith
-  range_end_over upper (source.Member to count access p i) h k = absurd h.0
-  range_end_over upper (source.Address bytes access p i) h k = absurd h.0
+  range_end_over upper (source.Member to count access p i) h k =
+      counted_over upper to.size count (Load width.Word (Const (static_place access p))) h.0 (static_word access p) h.1
+  range_end_over true (source.Address bytes access (source.Number a) i) h k = h
+  range_end_over false (source.Address bytes access p i) h k = static_word access p
+  range_end_over true (source.Address bytes access p i) h k = absurd h
   range_end_over true (source.Array at bytes) h k = h
   range_end_over false (source.Array at bytes) h k = k
-  range_end_over upper (source.Moved shift p i) h k = range_end_over upper p h.1 k.1
-  range_end_over upper (source.Added shift i p) h k = range_end_over upper p h.1 k.2
+  range_end_over upper (source.Moved shift p i) h k = range_end_over upper p h k.1
+  range_end_over upper (source.Added shift i p) h k = range_end_over upper p h k.2
   range_end_over upper p h k = absurd h
 
   upper_over : (last : Bool) (a high : Expr) → IsExprOver locals a → IsExprOver locals high → IsExprOver locals (upper_test last a high)
@@ -177,6 +186,30 @@ module _ (few locals : ℕ) (more : few ≤ locals) where
   range_over : (last : Bool) (p : source.Expr) (a : Expr) → IsRanged few p → IsCompilableExpr few p → IsExprOver locals a → IsExprOver locals (range_test last p a)
   range_over last p a h k x =
       (((x, range_end_over false p h k), lit< tt), upper_over last a (range_end true p) x (range_end_over true p h k))
+
+  held_test_over : (last : Bool) (t : ℕ) → t + 3 ≤ locals → IsExprOver locals (held_test last t)
+  held_test_over last t fits =
+      (((omega arith, omega arith), lit< tt), upper_over last (Bin binary.Sub (Local t) (Local (t + 1))) (Local (t + 2)) (omega arith, omega arith) (omega arith))
+
+  bounds_over : (last b : Bool) (p : source.Expr) (t : ℕ) → IsBounded few b p → IsCompilableExpr few p → t + index_far (not b) ≤ locals
+      → IsExprOver locals (if b then range_test last p (Local t) else held_test last t)
+  bounds_over last true p t h k fits = range_over last p (Local t) h k (omega arith)
+  bounds_over last false p t h k fits = held_test_over last t fits
+
+  length_over : (size : ℕ) (count : Count) (u : ℕ) → size < 2 ^ 32 → u < locals → IsCount count → IsExprOver locals (length_at size count u)
+  length_over size (counts.Fixed n) u h below is = omega arith
+  length_over size (counts.Member offset form add) u h below is =
+      let member = Load (width_of form) (at_offset offset (Local u)) in
+      scaled_over size (at_offset (word_of add) member) h (at_offset_over (word_of add) member (small_word add is.1) (at_offset_over offset (Local u) is.0 below))
+
+  natural_over : (form : Integer) (k : Expr) → IsExprOver locals k → IsExprOver locals (is_natural form k)
+  natural_over integer.Int k h = (h, lit< tt)
+  natural_over integer.Unsigned k h = lit< tt
+  natural_over integer.Char k h = lit< tt
+
+  cast_over : (size : ℕ) (form : Integer) (k : Expr) (t : ℕ) → size < 2 ^ 31 → IsExprOver locals k → t + 3 ≤ locals → IsExprOver locals (cast_test size form k t)
+  cast_over size form k t small h fits =
+      (held_test_over true t fits, (natural_over form k h, ((((omega arith, (omega arith, omega arith)), omega arith), h), lit< tt)))
 
   operands_over : (es : List source.Expr) (t : ℕ) → All (IsCompilablePart few) es → t + operands_room es ≤ locals → All (IsExprOver locals) (operands es t)
   operands_over [] t h fits = All-nil (IsExprOver locals)
@@ -212,43 +245,71 @@ module _ (few locals : ℕ) (more : few ≤ locals) where
     truth_over : (e : source.Expr) (t : ℕ) → IsCompilableExpr few e → t < locals → t + operand_room e ≤ locals → Over (Set t (as_truth (operand e t)) End)
     truth_over e t h below fits = (below, (operand_over e t h fits, lit< tt), tt)
 
-    put_over : (always : Bool) (e : source.Expr) (t : ℕ) (rest : Code) → ((rest : Code) → t + expr_room e ≤ locals → Over rest → Over (expr_code e t rest))
-        → t + room_if always e (expr_room e) ≤ locals → Over rest → Over (put_if always e (expr_code e t) rest)
-    put_over true e t rest h fits over = h rest fits over
-    put_over false e t rest h fits over = operand_step e t rest (λ fits. h rest fits over) fits over
+    put_over : (r always : Bool) (e : source.Expr) (t : ℕ) (rest : Code) → ((rest : Code) → t + value_room r e ≤ locals → Over rest → Over (value_code r e t rest))
+        → t + room_if always e (value_room r e) ≤ locals → Over rest → Over (put_if always e (value_code r e t) rest)
+    put_over r true e t rest h fits over = h rest fits over
+    put_over r false e t rest h fits over = unless_over (is_direct e) (value_room r e) t (value_code r e t rest) rest (λ fits. h rest fits over) over fits
 
     by_zero : (zero : Bool) (x y : Code) → Over x → Over y → Over (if zero then x else y)
     by_zero true x y h k = h
     by_zero false x y h k = k
 
-    bounded_over : (last : Bool) (access : Access) (p : source.Expr) (i : Expr) (t : ℕ) (rest : Code) → IsPlace access.at → access.size < 2 ^ 32 → IsRanged few p → IsCompilableExpr few p
-        → t < locals → IsExprOver locals i → Over rest → Over (bounded_code last access p i t rest)
-    bounded_over last access p i t rest at size ranged h below y over =
-        let within : Over (Check check.Bounds access.at (range_test last p (Local t)) rest) = (at, range_over last p (Local t) ranged h below, over) in
-        let there : Over (Set t (shifted false access.size (Local t) i) (Check check.Bounds access.at (range_test last p (Local t)) rest)) =
+    bounded_over : (last : Bool) (access : Access) (p : source.Expr) (i : Expr) (t : ℕ) (rest : Code) → IsPlace access.at → access.size < 2 ^ 32 → IsBounded few (is_ranged p) p → IsCompilableExpr few p
+        → t + index_far (not (is_ranged p)) ≤ locals → IsExprOver locals i → Over rest → Over (bounded_code last access p i t rest)
+    bounded_over last access p i t rest at size bounded h fits y over =
+        let below : t < locals = omega (arith, far_one (not (is_ranged p))) in
+        let within : Over (Check check.Bounds access.at (bounds_test last p t) rest) = (at, bounds_over last (is_ranged p) p t bounded h fits, over) in
+        let there : Over (Set t (shifted false access.size (Local t) i) (Check check.Bounds access.at (bounds_test last p t) rest)) =
         (below, shifted_over false access.size (Local t) i size below y, within) in
         (at, below, by_zero (is_zero i) _ _ within (at, exact_over false (reads_signed access.index) access.size (Local t) i size below y, there))
 
     judged_over : (through : Through) (access : Access) (p index : source.Expr) (a i : Expr) (t : ℕ) (rest : Code) → IsPlace access.at → access.size < 2 ^ 32 → IsJudged few through access.size p index
-        → IsCompilableExpr few p → t < locals → IsExprOver locals a → IsExprOver locals i → Over rest → Over (judged through access p a i t rest)
-    judged_over Named access p index a i t rest at size h k below x y over = over
-    judged_over Raw access p index a i t rest at size h k below x y over = over
-    judged_over One access p index a i t rest at size h k below x y over = (at, x, over)
-    judged_over Array access p index a i t rest at size h k below x y over = bounded_over false access p i t rest at size h.2 k below y over
-    judged_over Terminated access p index a i t rest at size h k below x y over = bounded_over true access p i t rest at size h.2 k below y over
+        → IsCompilableExpr few p → t + index_far (takes_range through p) ≤ locals → IsExprOver locals a → IsExprOver locals i → Over rest → Over (judged through access p a i t rest)
+    judged_over Named access p index a i t rest at size h k fits x y over = over
+    judged_over Raw access p index a i t rest at size h k fits x y over = over
+    judged_over One access p index a i t rest at size h k fits x y over = (at, x, over)
+    judged_over Array access p index a i t rest at size h k fits x y over = bounded_over false access p i t rest at size h.2 k fits y over
+    judged_over Terminated access p index a i t rest at size h k fits x y over = bounded_over true access p i t rest at size h.2 k fits y over
 
     reached_over : (access : Access) (p i : source.Expr) (t : ℕ) (rest : Code) → IsAccess few access p i → IsCompilableExpr few p → IsCompilableExpr few i
-        → ((rest : Code) → t + expr_room p ≤ locals → Over rest → Over (expr_code p t rest))
-        → ((rest : Code) → t + 1 + expr_room i ≤ locals → Over rest → Over (expr_code i (t + 1) rest))
-        → t + reached_room (is_bounded access.through) p i (expr_room p) (expr_room i) ≤ locals → Over rest
-        → Over (reached_code access p i (expr_code p t) (expr_code i (t + 1)) t rest)
+        → ((rest : Code) → t + value_room (takes_range access.through p) p ≤ locals → Over rest → Over (value_code (takes_range access.through p) p t rest))
+        → ((rest : Code) → index_in access p t + value_room false i ≤ locals → Over rest → Over (value_code false i (index_in access p t) rest))
+        → t + access_room access p i ≤ locals → Over rest → Over (access_code access p i t rest)
     reached_over access p i t rest h hp hi on_p on_i fits over =
         let checked = is_bounded access.through in
-        let left : t + room_if checked p (expr_room p) ≤ locals = omega arith in
-        let right : t + 1 + room_if (keeps_index checked i) i (expr_room i) ≤ locals = omega arith in
-        put_over checked p t _ on_p left (put_over (keeps_index checked i) i (t + 1) _ on_i right
-        (judged_over access.through access p i (pointer_at access p t) (index_at access i (t + 1)) t rest h.0 h.1 h.3 hp (omega arith)
-        (held_over checked p t hp left) (held_over (keeps_index checked i) i (t + 1) hi right) over))
+        let far = takes_range access.through p in
+        let u = index_in access p t in
+        let left : t + room_if checked p (value_room far p) ≤ locals = omega arith in
+        let right : u + room_if (keeps_index checked i) i (value_room false i) ≤ locals = omega arith in
+        put_over far checked p t _ on_p left (put_over false (keeps_index checked i) i u _ on_i right
+        (judged_over access.through access p i (pointer_at access p t) (index_at access i u) t rest h.0 h.1 h.3 hp (omega arith)
+        (held_over far checked p t hp left) (held_over false (keeps_index checked i) i u hi right) over))
+
+    with_range_over : (r : Bool) (t : ℕ) (low length : Expr) (rest : Code) → t + index_far r ≤ locals → IsExprOver locals low → IsExprOver locals length → Over rest → Over (with_range r t low length rest)
+    with_range_over true t low size rest fits x y over = (omega arith, x, (omega arith, y, over))
+    with_range_over false t low size rest fits x y over = over
+
+    no_range_over : (r : Bool) (t : ℕ) (rest : Code) → t + index_far r ≤ locals → Over rest → Over (no_range r t rest)
+    no_range_over r t rest fits over = with_range_over r t (Const 0) (Const 0) rest fits (lit< tt) (lit< tt) over
+
+    pointer_over : (r : Bool) (size : ℕ) (count : Count) (offset : ℕ) (element place : Expr) (t : ℕ) (rest : Code) → t + index_far r ≤ locals → offset < 2 ^ 32
+        → (r ≡ true → (size < 2 ^ 32) × IsCount count) → IsExprOver locals element → IsExprOver locals place → Over rest → Over (pointer_code r size count offset element place t rest)
+    pointer_over true size count offset element place t rest fits small is x y over =
+        let has = is refl in
+        let last : Over (Set (t + 1) (Local t) rest) = (omega arith, omega arith, over) in
+        let length : Over (Set (t + 2) (length_at size count (t + 1)) (Set (t + 1) (Local t) rest)) =
+        (omega arith, length_over size count (t + 1) has.0 (omega arith) has.1, last) in
+        (omega arith, x, (omega arith, at_offset_over offset (Local (t + 1)) small (omega arith), length))
+    pointer_over false size count offset element place t rest fits small is x y over = (omega arith, y, over)
+
+    tested_over : (size : ℕ) (form : Integer) (at : Pos) (k : Expr) (t : ℕ) (rest : Code) → IsPlace at → size < 2 ^ 31 → IsExprOver locals k → t + 3 ≤ locals → Over rest → Over (tested_code size form at k t rest)
+    tested_over size form at k t rest place small h fits over =
+        let test : IsExprOver locals (Bin binary.Or (Bin binary.Eq (Local t) (Const 0)) (cast_test size form k t)) = ((omega arith, lit< tt), cast_over size form k t small h fits) in
+        (place, test, (omega arith, scaled_over size k (omega arith) h, (omega arith, omega arith, over)))
+
+    trusted_over : (r : Bool) (size : ℕ) (k : Expr) (t : ℕ) (rest : Code) → t + index_far r ≤ locals → (r ≡ true → size < 2 ^ 32) → IsExprOver locals k → Over rest → Over (trusted_range r size k t rest)
+    trusted_over true size k t rest fits small h over = (omega arith, scaled_over size k (small refl) h, (omega arith, omega arith, over))
+    trusted_over false size k t rest fits small h over = over
 
     moved_over : (shift : Shift) (checked : Bool) (a i : Expr) (t : ℕ) (rest : Code) → shift.size < 2 ^ 32 → (checked ≡ true → IsPlace shift.at) → t < locals → IsExprOver locals a → IsExprOver locals i
         → Over rest → Over (let there = Set t (shifted shift.back shift.size a i) rest in if checked then exact_code shift a i there else there)
@@ -257,89 +318,207 @@ module _ (few locals : ℕ) (more : few ≤ locals) where
         (at refl, x, by_zero (is_zero i) _ _ there (at refl, exact_over shift.back (reads_signed shift.index) shift.size a i size x y, there))
     moved_over shift false a i t rest size at below x y over = (below, shifted_over shift.back shift.size a i size x y, over)
 
-    expr_over : (e : source.Expr) (t : ℕ) (rest : Code) → IsCompilableExpr few e → t + expr_room e ≤ locals → Over rest → Over (expr_code e t rest)
-    expr_over (source.Binary o s at a b) t rest h fits over =
-        let after = operation_code o s at (operand a t) (operand b (t + 1)) t rest in
+    moved_range_over : (r checked : Bool) (p : source.Expr) (t : ℕ) (rest : Code) → t + 1 + room_if (r || checked) p (value_room r p) ≤ locals → Over rest → Over (moved_range r t rest)
+    moved_range_over true checked p t rest fits over =
+        let three = value_room_some true p in
+        (omega arith, omega arith, (omega arith, omega arith, over))
+    moved_range_over false checked p t rest fits over = over
+
+    -- a bounds cast that is tested
+    cast_value_over : (size : ℕ) (how : Integer) (at : Pos) (p k : source.Expr) (t : ℕ) (rest : Code) → IsPlace at → size < 2 ^ 31 → IsCompilableExpr few k
+        → ((rest : Code) → t + value_room true p ≤ locals → Over rest → Over (value_code true p t rest))
+        → ((rest : Code) → t + 3 + value_room false k ≤ locals → Over rest → Over (value_code false k (t + 3) rest))
+        → t + max (value_room true p) (3 + room_if (keeps_index true k) k (value_room false k)) ≤ locals → Over rest
+        → Over (value_code true p t (put_if (keeps_index true k) k (value_code false k (t + 3)) (tested_code size how at (held (keeps_index true k) k (t + 3)) t rest)))
+    cast_value_over size how at p k t rest place small hk on_p on_k fits over =
+        let keeps = keeps_index true k in
+        let right : t + 3 + room_if keeps k (value_room false k) ≤ locals = omega arith in
+        on_p _ (omega arith) (put_over false keeps k (t + 3) _ on_k right
+        (tested_over size how at (held keeps k (t + 3)) t rest place small (held_over false keeps k (t + 3) hk right) (omega (arith, value_room_some true p)) over))
+
+    limited_over : (r : Bool) (x : ℕ) (limits : Limits) (t : ℕ) (rest : Code) → x < few → Has few r (source.Limited x limits) → t + index_far r ≤ locals → Over rest
+        → Over (with_range r t (end_at x limits.to.size limits.lower) (Bin binary.Sub (end_at x limits.to.size limits.upper) (Local (t + 1))) rest)
+    limited_over true x limits t rest below h fits over =
+        (omega arith, end_over x limits.to.size limits.lower below h.0 h.1, (omega arith, (end_over x limits.to.size limits.upper below h.0 h.2, omega arith), over))
+    limited_over false x limits t rest below h fits over = over
+
+    bytes_over : (r : Bool) (t at bytes : ℕ) (low : Expr) (rest : Code) → IsExprOver locals low → (r ≡ true → bytes < 2 ^ 32) → t + index_far r ≤ locals → Over rest → Over (with_range r t low (Const bytes) rest)
+    bytes_over true t at bytes low rest x h fits over = (omega arith, x, (omega arith, h refl, over))
+    bytes_over false t at bytes low rest x h fits over = over
+
+    array_bytes : (r : Bool) (at bytes : ℕ) → Has few r (source.Array at bytes) → r ≡ true → bytes < 2 ^ 32
+    array_bytes true at bytes h e = h
+    array_bytes false at bytes h e = absurd cc
+
+    address_bytes : (r : Bool) (bytes : ℕ) (access : Access) (p i : source.Expr) → Has few r (source.Address bytes access p i) → r ≡ true → bytes < 2 ^ 32
+    address_bytes true bytes access p i h e = h
+    address_bytes false bytes access p i h e = absurd cc
+
+    member_numbers : (r : Bool) (to : Pointee) (count : Count) (access : Access) (p i : source.Expr) → Has few r (source.Member to count access p i) → r ≡ true → (to.size < 2 ^ 32) × IsCount count
+    member_numbers true to count access p i h e = h
+    member_numbers false to count access p i h e = absurd cc
+
+    trusted_size : (r : Bool) (to : Pointee) (how : Integer) (p k : source.Expr) → Has few r (source.Trusted to how p k) → r ≡ true → to.size < 2 ^ 32
+    trusted_size true to how p k h e = h
+    trusted_size false to how p k h e = absurd cc
+
+    cast_by_over : (one : Bool) (size : ℕ) (how : Integer) (at : Pos) (p k : source.Expr) (t : ℕ) (rest : Code) → IsCast few one size at p → IsCompilableExpr few k
+        → ((rest : Code) → t + value_room false p ≤ locals → Over rest → Over (value_code false p t rest))
+        → (HasRange few p → (rest : Code) → t + value_room true p ≤ locals → Over rest → Over (value_code true p t rest))
+        → ((rest : Code) → t + 3 + value_room false k ≤ locals → Over rest → Over (value_code false k (t + 3) rest))
+        → t + (if one then value_room false p else max (value_room true p) (3 + room_if (keeps_index true k) k (value_room false k))) ≤ locals → Over rest
+        → Over (if one then value_code false p t rest
+        else value_code true p t (put_if (keeps_index true k) k (value_code false k (t + 3)) (tested_code size how at (held (keeps_index true k) k (t + 3)) t rest)))
+    cast_by_over true size how at p k t rest c hk plain on_p on_k fits over = plain rest fits over
+    cast_by_over false size how at p k t rest c hk plain on_p on_k fits over = cast_value_over size how at p k t rest c.0 c.1.1 hk (on_p c.2) on_k fits over
+
+    -- the code of a value, with its range where the flag says so
+    value_over : (r : Bool) (e : source.Expr) (t : ℕ) (rest : Code) → IsCompilableExpr few e → Has few r e → t + value_room r e ≤ locals → Over rest → Over (value_code r e t rest)
+    value_over r (source.Binary o s at a b) t rest h has fits over =
+        let least = range_more r (max (operand_room a) (1 + operand_room b)) in
+        let last = no_range_over r t rest (omega (arith, value_room_some r (source.Binary o s at a b))) over in
+        let after = operation_code o s at (operand a t) (operand b (t + 1)) t (no_range r t rest) in
         let second = operand_code b (t + 1) after in
         let left : t + operand_room a ≤ locals = omega arith in
         let right : t + 1 + operand_room b ≤ locals = omega arith in
         let below : t < locals = omega arith in
-        let after_over = operation_over o s at (operand a t) (operand b (t + 1)) t rest h.0 (operand_over a t h.1 left) (operand_over b (t + 1) h.2 right) below over in
-        operand_step a t second (λ fits. expr_over a t second h.1 fits (operand_step b (t + 1) after (λ fits. expr_over b (t + 1) after h.2 fits after_over) right after_over)) left
-        (operand_step b (t + 1) after (λ fits. expr_over b (t + 1) after h.2 fits after_over) right after_over)
-    expr_over (source.And a b) t rest h fits over =
+        let after_over = operation_over o s at (operand a t) (operand b (t + 1)) t (no_range r t rest) h.0 (operand_over a t h.1 left) (operand_over b (t + 1) h.2 right) below last in
+        operand_step a t second (λ fits. value_over false a t second h.1 tt fits (operand_step b (t + 1) after (λ fits. value_over false b (t + 1) after h.2 tt fits after_over) right after_over)) left
+        (operand_step b (t + 1) after (λ fits. value_over false b (t + 1) after h.2 tt fits after_over) right after_over)
+    value_over r (source.And a b) t rest h has fits over =
+        let least = range_more r (max 1 (max (operand_room a) (operand_room b))) in
+        let last = no_range_over r t rest (omega (arith, value_room_some r (source.And a b))) over in
         let set = Set t (as_truth (operand b t)) End in
         let left : t + operand_room a ≤ locals = omega arith in
         let right : t + operand_room b ≤ locals = omega arith in
         let below : t < locals = omega arith in
         let set_over = truth_over b t h.1 below right in
-        let one = operand_step b t set (λ fits. expr_over b t set h.1 fits set_over) right set_over in
+        let one = operand_step b t set (λ fits. value_over false b t set h.1 tt fits set_over) right set_over in
         let zero_over : Over (Set t (Const 0) End) = (below, lit< tt, tt) in
-        let after = Code.If (operand a t) (operand_code b t set) (Set t (Const 0) End) rest in
-        let after_over : Over after = (operand_over a t h.0 left, one, zero_over, over) in
-        operand_step a t after (λ fits. expr_over a t after h.0 fits after_over) left after_over
-    expr_over (source.Or a b) t rest h fits over =
+        let after = Code.If (operand a t) (operand_code b t set) (Set t (Const 0) End) (no_range r t rest) in
+        let after_over : Over after = (operand_over a t h.0 left, one, zero_over, last) in
+        operand_step a t after (λ fits. value_over false a t after h.0 tt fits after_over) left after_over
+    value_over r (source.Or a b) t rest h has fits over =
+        let least = range_more r (max 1 (max (operand_room a) (operand_room b))) in
+        let last = no_range_over r t rest (omega (arith, value_room_some r (source.Or a b))) over in
         let set = Set t (as_truth (operand b t)) End in
         let left : t + operand_room a ≤ locals = omega arith in
         let right : t + operand_room b ≤ locals = omega arith in
         let below : t < locals = omega arith in
         let set_over = truth_over b t h.1 below right in
-        let two = operand_step b t set (λ fits. expr_over b t set h.1 fits set_over) right set_over in
+        let two = operand_step b t set (λ fits. value_over false b t set h.1 tt fits set_over) right set_over in
         let one_over : Over (Set t (Const 1) End) = (below, lit< tt, tt) in
-        let after = Code.If (operand a t) (Set t (Const 1) End) (operand_code b t set) rest in
-        let after_over : Over after = (operand_over a t h.0 left, one_over, two, over) in
-        operand_step a t after (λ fits. expr_over a t after h.0 fits after_over) left after_over
-    expr_over (source.Choice c a b) t rest h fits over =
+        let after = Code.If (operand a t) (Set t (Const 1) End) (operand_code b t set) (no_range r t rest) in
+        let after_over : Over after = (operand_over a t h.0 left, one_over, two, last) in
+        operand_step a t after (λ fits. value_over false a t after h.0 tt fits after_over) left after_over
+    value_over r (source.Choice c a b) t rest h has fits over =
+        let parts = choice_has few r c a b has in
         let first : t + operand_room c ≤ locals = omega arith in
-        let second : t + expr_room a ≤ locals = omega arith in
-        let third : t + expr_room b ≤ locals = omega arith in
-        let after = Code.If (operand c t) (expr_code a t End) (expr_code b t End) rest in
-        let after_over : Over after = (operand_over c t h.0 first, expr_over a t End h.1 second tt, expr_over b t End h.2 third tt, over) in
-        operand_step c t after (λ fits. expr_over c t after h.0 fits after_over) first after_over
-    expr_over (source.Narrow e) t rest h fits over =
+        let second : t + value_room r a ≤ locals = omega arith in
+        let third : t + value_room r b ≤ locals = omega arith in
+        let after = Code.If (operand c t) (value_code r a t End) (value_code r b t End) rest in
+        let after_over : Over after = (operand_over c t h.0 first, value_over r a t End h.1 parts.0 second tt, value_over r b t End h.2 parts.1 third tt, over) in
+        operand_step c t after (λ fits. value_over false c t after h.0 tt fits after_over) first after_over
+    value_over r (source.Narrow e) t rest h has fits over =
+        let least = range_more r (max 1 (operand_room e)) in
+        let last = no_range_over r t rest (omega (arith, value_room_some r (source.Narrow e))) over in
         let inner : t + operand_room e ≤ locals = omega arith in
         let below : t < locals = omega arith in
-        let after = Set t (low_byte (operand e t)) rest in
-        let after_over : Over after = (below, (operand_over e t h inner, lit< tt), over) in
-        operand_step e t after (λ fits. expr_over e t after h fits after_over) inner after_over
-    expr_over (source.Number n) t rest h fits over = (omega arith, h, over)
-    expr_over (source.Local x) t rest h fits over = (omega arith, omega arith, over)
-    expr_over (source.Limited x limits) t rest h fits over = (omega arith, omega arith, over)
-    expr_over (source.Array at bytes) t rest h fits over = (omega arith, h, over)
-    expr_over (source.Load w access p i) t rest h fits over =
-        reached_over access p i t (Set t (Load w (reached_place access p i t)) rest) h.0 h.1 h.2
-        (λ rest fits over. expr_over p t rest h.1 fits over) (λ rest fits over. expr_over i (t + 1) rest h.2 fits over) fits
-        (omega arith, reached_place_over access p i t h.0 h.1 h.2 fits, over)
-    expr_over (source.Member to count access p i) t rest h fits over =
-        reached_over access p i t (Set t (Load width.Word (reached_place access p i t)) rest) h.0 h.1 h.2
-        (λ rest fits over. expr_over p t rest h.1 fits over) (λ rest fits over. expr_over i (t + 1) rest h.2 fits over) fits
-        (omega arith, reached_place_over access p i t h.0 h.1 h.2 fits, over)
-    expr_over (source.Address bytes access p i) t rest h fits over =
-        reached_over access p i t (Set t (reached_place access p i t) rest) h.0 h.1 h.2
-        (λ rest fits over. expr_over p t rest h.1 fits over) (λ rest fits over. expr_over i (t + 1) rest h.2 fits over) fits
-        (omega arith, reached_place_over access p i t h.0 h.1 h.2 fits, over)
-    expr_over (source.Moved shift p i) t rest h fits over =
+        let after = Set t (low_byte (operand e t)) (no_range r t rest) in
+        let after_over : Over after = (below, (operand_over e t h inner, lit< tt), last) in
+        operand_step e t after (λ fits. value_over false e t after h tt fits after_over) inner after_over
+    value_over r (source.Number n) t rest h has fits over =
+        let far = range_far r 1 (omega arith) in
+        (omega (arith, far_one r), h, no_range_over r t rest (omega arith) over)
+    value_over r (source.Local x) t rest h has fits over =
+        let far = range_far r 1 (omega arith) in
+        (omega (arith, far_one r), omega arith, no_range_over r t rest (omega arith) over)
+    value_over r (source.Limited x limits) t rest h has fits over =
+        let far = range_far r 1 (omega arith) in
+        (omega (arith, far_one r), omega arith, limited_over r x limits t rest h has (omega arith) over)
+    value_over r (source.Array at bytes) t rest h has fits over =
+        let far = range_far r 1 (omega arith) in
+        (omega (arith, far_one r), h, bytes_over r t at bytes (Const at) rest h (array_bytes r at bytes has) (omega arith) over)
+    value_over r (source.Load w access p i) t rest h has fits over =
+        let least = range_more r (access_room access p i) in
+        let far : t + index_far r ≤ locals = omega (arith, value_room_some r (source.Load w access p i)) in
+        let inner : t + access_room access p i ≤ locals = omega arith in
+        reached_over access p i t (Set t (Load w (reached_place access p i t)) (no_range r t rest)) h.0 h.1 h.2
+        (λ rest fits over. value_over (takes_range access.through p) p t rest h.1 (judged_has few access.through access.size p i h.0.3) fits over)
+        (λ rest fits over. value_over false i (index_in access p t) rest h.2 tt fits over) inner
+        (omega (arith, far_one r), reached_place_over access p i t h.0 h.1 h.2 inner, no_range_over r t rest far over)
+    value_over r (source.Member to count access p i) t rest h has fits over =
+        let least = range_more r (access_room access p i) in
+        let far : t + index_far r ≤ locals = omega (arith, value_room_some r (source.Member to count access p i)) in
+        let inner : t + access_room access p i ≤ locals = omega arith in
+        let offset : access.offset < 2 ^ 32 = h.0.2 in
+        reached_over access p i t (pointer_code r to.size count access.offset (reached_element access p i t) (reached_place access p i t) t rest) h.0 h.1 h.2
+        (λ rest fits over. value_over (takes_range access.through p) p t rest h.1 (judged_has few access.through access.size p i h.0.3) fits over)
+        (λ rest fits over. value_over false i (index_in access p t) rest h.2 tt fits over) inner
+        (pointer_over r to.size count access.offset (reached_element access p i t) (reached_place access p i t) t rest far offset (member_numbers r to count access p i has)
+        (reached_element_over access p i t h.0 h.1 h.2 inner) (reached_place_over access p i t h.0 h.1 h.2 inner) over)
+    value_over r (source.Address bytes access p i) t rest h has fits over =
+        let least = range_more r (access_room access p i) in
+        let far : t + index_far r ≤ locals = omega (arith, value_room_some r (source.Address bytes access p i)) in
+        let inner : t + access_room access p i ≤ locals = omega arith in
+        reached_over access p i t (Set t (reached_place access p i t) (with_range r t (Local t) (Const bytes) rest)) h.0 h.1 h.2
+        (λ rest fits over. value_over (takes_range access.through p) p t rest h.1 (judged_has few access.through access.size p i h.0.3) fits over)
+        (λ rest fits over. value_over false i (index_in access p t) rest h.2 tt fits over) inner (
+          omega (arith, far_one r),
+          reached_place_over access p i t h.0 h.1 h.2 inner,
+          bytes_over r t 0 bytes (Local t) rest (omega (arith, far_one r)) (address_bytes r bytes access p i has) far over,
+        )
+    value_over r (source.Moved shift p i) t rest h has fits over =
         let s = h.0 in
-        let left : t + room_if shift.checked p (expr_room p) ≤ locals = omega arith in
-        let right : t + 1 + room_if (keeps_index shift.checked i) i (expr_room i) ≤ locals = omega arith in
-        put_over shift.checked p t _ (λ rest fits over. expr_over p t rest h.1 fits over) left
-        (put_over (keeps_index shift.checked i) i (t + 1) _ (λ rest fits over. expr_over i (t + 1) rest h.2 fits over) right
-        (moved_over shift shift.checked (held shift.checked p t) (held (keeps_index shift.checked i) i (t + 1)) t rest s.0 (checked_place shift shift.checked s.1) (omega arith)
-        (held_over shift.checked p t h.1 left) (held_over (keeps_index shift.checked i) i (t + 1) h.2 right) over))
-    expr_over (source.Added shift i p) t rest h fits over =
+        let holds = r || shift.checked in
+        let keeps = keeps_index shift.checked i in
+        let u = t + index_far r in
+        let left : t + room_if holds p (value_room r p) ≤ locals = omega arith in
+        let right : u + room_if keeps i (value_room false i) ≤ locals = omega arith in
+        put_over r holds p t _ (λ rest fits over. value_over r p t rest h.1 (moved_has few r shift p i has) fits over) left
+        (put_over false keeps i u _ (λ rest fits over. value_over false i u rest h.2 tt fits over) right
+        (moved_over shift shift.checked (held holds p t) (held keeps i u) t rest s.0 (checked_place shift shift.checked s.1) (omega (arith, far_one r))
+        (held_over r holds p t h.1 left) (held_over false keeps i u h.2 right) over))
+    value_over r (source.Added shift i p) t rest h has fits over =
         let s = h.0 in
-        let left : t + room_if (keeps_index shift.checked i) i (expr_room i) ≤ locals = omega arith in
-        let right : t + 1 + room_if shift.checked p (expr_room p) ≤ locals = omega arith in
-        put_over (keeps_index shift.checked i) i t _ (λ rest fits over. expr_over i t rest h.1 fits over) left
-        (put_over shift.checked p (t + 1) _ (λ rest fits over. expr_over p (t + 1) rest h.2 fits over) right
-        (moved_over shift shift.checked (held shift.checked p (t + 1)) (held (keeps_index shift.checked i) i t) t rest s.0 (checked_place shift shift.checked s.1) (omega arith)
-        (held_over shift.checked p (t + 1) h.2 right) (held_over (keeps_index shift.checked i) i t h.1 left) over))
-    expr_over (source.Bare p) t rest h fits over = expr_over p t rest h fits over
-    expr_over (source.Trusted to how p k) t rest h fits over =
-        let left : t + expr_room p ≤ locals = omega arith in
+        let holds = r || shift.checked in
+        let keeps = keeps_index shift.checked i in
+        let far : t + index_far r ≤ locals = omega (arith, value_room_some r (source.Added shift i p)) in
+        let left : t + room_if keeps i (value_room false i) ≤ locals = omega arith in
+        let right : t + 1 + room_if holds p (value_room r p) ≤ locals = omega arith in
+        let last = moved_range_over r shift.checked p t rest right over in
+        put_over false keeps i t _ (λ rest fits over. value_over false i t rest h.1 tt fits over) left
+        (put_over r holds p (t + 1) _ (λ rest fits over. value_over r p (t + 1) rest h.2 (added_has few r shift i p has) fits over) right
+        (moved_over shift shift.checked (held holds p (t + 1)) (held keeps i t) t (moved_range r t rest) s.0 (checked_place shift shift.checked s.1) (omega (arith, far_one r))
+        (held_over r holds p (t + 1) h.2 right) (held_over false keeps i t h.1 left) last))
+    value_over r (source.Bare p) t rest h has fits over =
+        let least = range_more r (value_room false p) in
+        let far : t + index_far r ≤ locals = omega (arith, value_room_some r (source.Bare p)) in
+        value_over false p t (no_range r t rest) h tt (omega arith) (no_range_over r t rest far over)
+    value_over r (source.Trusted to how p k) t rest h has fits over =
+        let least = range_more r (max (value_room false p) (1 + operand_room k)) in
+        let far : t + index_far r ≤ locals = omega (arith, value_room_some r (source.Trusted to how p k)) in
+        let left : t + value_room false p ≤ locals = omega arith in
         let right : t + 1 + operand_room k ≤ locals = omega arith in
-        expr_over p t (operand_code k (t + 1) rest) h.0 left (operand_step k (t + 1) rest (λ fits. expr_over k (t + 1) rest h.1 fits over) right over)
-    expr_over (source.Tested size how at p k) t rest h fits over = expr_over p t rest h.2 fits over
+        let last = trusted_over r to.size (operand k (t + 1)) t rest far (trusted_size r to how p k has) (operand_over k (t + 1) h.1 right) over in
+        let second = trusted_range r to.size (operand k (t + 1)) t rest in
+        value_over false p t (operand_code k (t + 1) second) h.0 tt left (operand_step k (t + 1) second (λ fits. value_over false k (t + 1) second h.1 tt fits last) right last)
+    value_over true (source.Tested size how at p k) t rest h has fits over =
+        cast_value_over size how at p k t rest has.0 has.1.1 h.2 (λ rest fits over. value_over true p t rest h.1 has.2 fits over)
+        (λ rest fits over. value_over false k (t + 3) rest h.2 tt fits over) fits over
+    value_over false (source.Tested size how at p k) t rest h has fits over =
+        cast_by_over (casts_one size p k) size how at p k t rest h.0 h.2 (λ rest fits over. value_over false p t rest h.1 tt fits over)
+        (λ has rest fits over. value_over true p t rest h.1 has fits over) (λ rest fits over. value_over false k (t + 3) rest h.2 tt fits over) fits over
+
+    expr_over : (e : source.Expr) (t : ℕ) (rest : Code) → IsCompilableExpr few e → t + expr_room e ≤ locals → Over rest → Over (expr_code e t rest)
+    expr_over e t rest h fits over = value_over false e t rest h tt fits over
+
+    -- what finds the place of an access
+    access_over : (access : Access) (p i : source.Expr) (t : ℕ) (rest : Code) → IsAccess few access p i → IsCompilableExpr few p → IsCompilableExpr few i
+        → t + access_room access p i ≤ locals → Over rest → Over (access_code access p i t rest)
+    access_over access p i t rest h hp hi fits over =
+        reached_over access p i t rest h hp hi (λ rest fits over. value_over (takes_range access.through p) p t rest hp (judged_has few access.through access.size p i h.3) fits over)
+        (λ rest fits over. value_over false i (index_in access p t) rest hi tt fits over) fits over
 
     operand_code_over : (e : source.Expr) (t : ℕ) (rest : Code) → IsCompilableExpr few e → t + operand_room e ≤ locals → Over rest → Over (operand_code e t rest)
     operand_code_over e t rest h fits over = operand_step e t rest (λ fits. expr_over e t rest h fits over) fits over
@@ -350,12 +529,17 @@ module _ (few locals : ℕ) (more : few ≤ locals) where
         operand_code_over e t (operands_code es (t + 1) rest) (All-head (IsCompilablePart few) e es h).0 (omega arith)
         (operands_code_over es (t + 1) rest (All-tail (IsCompilablePart few) e es h) (omega arith) over)
 
-    marked_over : (through : Through) (size : ℕ) (p i : source.Expr) (t : ℕ) (rest : Code) → IsJudged few through size p i → IsCompilableExpr few p → t + 1 < locals → Over rest → Over (marked through p t rest)
+    below_end_over : (b : Bool) (p : source.Expr) (t : ℕ) → IsBounded few b p → IsCompilableExpr few p → t + 2 < locals
+        → IsExprOver locals (if b then Bin binary.Ne (Local t) (range_end true p) else Bin binary.Ne (Bin binary.Sub (Local t) (Local (t + 1))) (Local (t + 2)))
+    below_end_over true p t h x below = (omega arith, range_end_over true p h x)
+    below_end_over false p t h x below = ((omega arith, omega arith), below)
+
+    marked_over : (through : Through) (size : ℕ) (p i : source.Expr) (t : ℕ) (rest : Code) → IsJudged few through size p i → IsCompilableExpr few p → t + 2 < locals → Over rest → Over (marked through p t rest)
     marked_over Named size p i t rest h x below over = over
     marked_over Raw size p i t rest h x below over = over
     marked_over One size p i t rest h x below over = over
     marked_over Array size p i t rest h x below over = over
-    marked_over Terminated size p i t rest h x below over = (below, (omega arith, range_end_over true p h.2 x), over)
+    marked_over Terminated size p i t rest h x below over = (omega arith, below_end_over (is_ranged p) p t h.2 x below, over)
 
     aim_over : (target : source.Target) (t : ℕ) (rest : Code) → IsCompilableTarget few target → t + target_room target ≤ locals → t + target_count target ≤ locals → Over rest → Over (aim_code target t rest)
     aim_over source.Nothing t rest h fits keeps over = over
@@ -364,8 +548,7 @@ module _ (few locals : ℕ) (more : few ≤ locals) where
         let pointer = h.1 in
         let index = h.2 in
         let way = h.0 in
-        reached_over access p i t _ h.0 pointer.0 index.0 (λ rest fits over. expr_over p t rest pointer.0 fits over)
-        (λ rest fits over. expr_over i (t + 1) rest index.0 fits over) fits
+        access_over access p i t _ h.0 pointer.0 index.0 fits
         (marked_over access.through access.size p i t rest way.3 pointer.0 (omega arith) over)
 
     guarded_over : (through : Through) (at : Pos) (w : Width) (is_byte : Bool) (t u : ℕ) (rest : Code) → IsPlace at → t + 1 < locals → u < locals → Over rest → Over (guarded through at w is_byte t u rest)
@@ -408,12 +591,12 @@ module _ (few locals : ℕ) (more : few ≤ locals) where
     fixed_over (source.Memory w access p i) t rest h fits over =
         let pointer = h.1 in
         let index = h.2 in
-        (omega arith, reached_place_over access p i t h.0 pointer.0 index.0 fits, over)
+        (omega (arith, far_one (takes_range access.through p)), reached_place_over access p i t h.0 pointer.0 index.0 fits, over)
 
     there_over : (target : source.Target) (t : ℕ) (e : Expr) (rest : Code) → IsCompilableTarget few target → t + target_room target ≤ locals → IsExprOver locals e → Over rest → Over (written_there target t e rest)
     there_over source.Nothing t e rest h fits x over = over
     there_over (source.Variable y w) t e rest h fits x over = (omega arith, kept_over w false e x, over)
-    there_over (source.Memory w access p i) t e rest h fits x over = (omega arith, x, over)
+    there_over (source.Memory w access p i) t e rest h fits x over = (omega (arith, far_one (takes_range access.through p)), x, over)
 
     assigned_over : (target : source.Target) (e : source.Expr) (rest : Code) → IsCompilableTarget few target → IsCompilableExpr few e → few + aimed_room target (operand_room e) ≤ locals → Over rest
         → Over (aim_code target few (operand_code e (few + target_count target) (written target few (is_narrow e) (operand e (few + target_count target)) rest)))

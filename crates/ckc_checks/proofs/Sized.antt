@@ -1,8 +1,7 @@
--- The size of what is inserted is bounded by the nodes of the program.
-use Rattle.std.proofs.Common.{ℕ, zero, suc, ◌+◌, ◌-◌, ◌*◌, ◌≤◌, List, [], ◌∷◌, length, arith}
-use Rattle.std.specs.Prelude.{ℤ, Bool, true, false, ◌==◌, if◌then◌else◌, Option, Some, None, map, sum_by}
+-- The size of the core code of expressions is bounded by their nodes.
+use Rattle.std.proofs.Common.{◌≡◌, refl, ℕ, ◌+◌, ◌-◌, ◌*◌, ◌≤◌, List, [], ◌∷◌, length, arith}
+use Rattle.std.specs.Prelude.{ℤ, Bool, true, false, not, ◌&&◌, ◌||◌, ◌==◌, if◌then◌else◌, Option, Some, None}
 use Rattle.std.proofs.lemmas.List.Sums.{sum_by-cons}
-use Rattle.ckc_base.specs.declared.arithmetic.Width.{Width}
 use Rattle.ckc_base.specs.declared.arithmetic.Width.TheVariants as width
 use Rattle.ckc_base.specs.declared.arithmetic.BinOp.TheVariants as binary
 use Rattle.ckc_base.specs.declared.places.Pos.{Pos}
@@ -19,45 +18,56 @@ use Rattle.ckc_source.specs.declared.expr.Through.TheVariants.{Named, Raw, One, 
 use Rattle.ckc_base.specs.declared.runtime_checks.Check.TheVariants as check
 use Rattle.ckc_source.specs.declared.expr.Operation.{Operation}
 use Rattle.ckc_source.specs.declared.expr.Operation.TheVariants.{Le}
-use Rattle.ckc_source.specs.declared.stmt.Kept.{Kept}
-use Rattle.ckc_source.specs.declared.stmt.Kept.TheVariants as kept
 use Rattle.ckc_source.specs.Code as source
 use Rattle.ckc_base.specs.Words.{word_of}
-use Rattle.ckc_source.specs.Words.{divides}
-use Rattle.ckc_core.specs.Code.{Expr, Const, Local, Load, Bin, Code, End, Set, Store, Check}
-use Rattle.ckc_core.specs.Sizes.{expr_size, exprs_size, set_size, code_size, function_size, program_size}
-use Rattle.ckc_checks.specs.Compilable.{element_nodes, access_nodes, shift_nodes, index_nodes, expr_nodes, exprs_nodes, guard_nodes, target_nodes, right_nodes, assigns_nodes, code_nodes, function_nodes, program_nodes}
-use Rattle.ckc_checks.specs.Inserted.{is_direct, operated, low_byte, as_truth, is_zero, scaled, shifted, at_offset, element_of, place_at, held, put_if, keeps_index, is_bounded, reads_signed, exact_test, exact_code, moved_code, base_at, amount_at, end_at, static_place, counted_end, range_end, range_test, element_code, bounded_code, judged, reached_place, direct, operand, operation_code, expr_code, operand_code, operands_code, operands, is_narrow, kept_in, marked, aim_code, target_count, guarded, stored_code, written, fixed, allowed_code, written_there, right_assigned, valued, behind_planned, plans_code, writes_code, result_in, result_kept, statements, zeroed, function_code, inserted}
+use Rattle.ckc_source.specs.Words.{divides, width_of}
+use Rattle.ckc_core.specs.Code.{Expr, Const, Local, Load, Bin, Code, End, Set, Check}
+use Rattle.ckc_core.specs.Sizes.{expr_size, exprs_size, set_size, code_size}
+use Rattle.ckc_checks.specs.Compilable.{element_nodes, access_nodes, shift_nodes, index_nodes, expr_nodes, exprs_nodes, range_nodes, value_nodes}
+use Rattle.ckc_checks.specs.Inserted.{is_direct, operated, low_byte, as_truth, is_zero, scaled, shifted, at_offset, element_of, place_at, held, put_if, keeps_index, is_bounded, reads_signed, exact_test, exact_code, moved_code, base_at, amount_at, end_at, static_place, counted_end, range_end, range_test, element_code, bounded_code, judged, reached_place, direct, operand, operation_code, expr_code, operand_code, operands_code, operands, is_ranged, takes_range, casts_one, index_far, index_in, held_test, bounds_test, reached_element, access_code, value_code, with_range, no_range, length_at, pointer_code, is_natural, tested_code, trusted_range, moved_range}
+use Rattle.ckc_source.specs.declared.expr.Integer.{Integer}
+use Rattle.ckc_source.specs.declared.expr.Integer.TheVariants as integer
+use Rattle.ckc_source.specs.declared.expr.Limits.{Limits}
 
-element_some : (zero : Bool) → 4 ≤ (if zero then 4 else 6)
-element_some true = omega arith
-element_some false = omega arith
+element_some : (zero : Bool) (n m : ℕ) → n ≤ m → n ≤ (if zero then n else m)
+element_some true n m h = omega arith
+element_some false n m h = h
 
-elements_some : (i : source.Expr) → 4 ≤ element_nodes i
-elements_some (source.Number n) = element_some (n == 0)
-elements_some i = omega arith
+elements_some : (far : Bool) (i : source.Expr) → 3 ≤ element_nodes far i
+elements_some false (source.Number n) = omega (arith, element_some (n == 0) 4 6 (omega arith))
+elements_some true (source.Number n) = element_some (n == 0) 3 5 (omega arith)
+elements_some false i = omega arith
+elements_some true i = omega arith
 
-access_some : (through : Through) (i : source.Expr) → 1 ≤ access_nodes through i
-access_some Named i = omega arith
-access_some Raw i = omega arith
-access_some One i = omega arith
-access_some Array i = omega (arith, elements_some i)
-access_some Terminated i = omega (arith, elements_some i)
+access_some : (through : Through) (p i : source.Expr) → 1 ≤ access_nodes through p i
+access_some Named p i = omega arith
+access_some Raw p i = omega arith
+access_some One p i = omega arith
+access_some Array p i = omega (arith, elements_some (not (is_ranged p)) i)
+access_some Terminated p i = omega (arith, elements_some (not (is_ranged p)) i)
 
 shift_some : (checked : Bool) → 1 ≤ shift_nodes checked
 shift_some true = omega arith
 shift_some false = omega arith
 
 -- an expression has a node
-expr_nodes_some : (e : source.Expr) → 1 ≤ expr_nodes e
-expr_nodes_some (source.Load w access p i) = omega (arith, expr_nodes_some p)
-expr_nodes_some (source.Member to count access p i) = omega (arith, expr_nodes_some p)
-expr_nodes_some (source.Address bytes access p i) = omega (arith, expr_nodes_some p)
-expr_nodes_some (source.Moved shift p i) = omega (arith, expr_nodes_some p)
-expr_nodes_some (source.Added shift i p) = omega (arith, expr_nodes_some p)
-expr_nodes_some e = omega arith
+value_nodes_some : (r : Bool) (e : source.Expr) → 1 ≤ value_nodes r e
+value_nodes_some r (source.Load w access p i) = omega (arith, access_some access.through p i)
+value_nodes_some r (source.Member to count access p i) = omega (arith, access_some access.through p i)
+value_nodes_some r (source.Address bytes access p i) = omega (arith, access_some access.through p i)
+value_nodes_some r (source.Moved shift p i) = omega (arith, shift_some shift.checked)
+value_nodes_some r (source.Added shift i p) = omega (arith, shift_some shift.checked)
+value_nodes_some r (source.Tested size how at p k) = by (not r && casts_one size p k)
+  where
+    by : (one : Bool) → 1 ≤ (if one then 1 + value_nodes false p + value_nodes false k else 5 + value_nodes true p + index_nodes k (value_nodes false k))
+    by true = omega arith
+    by false = omega arith
+value_nodes_some r e = omega arith
 
-set_sized : (e : Expr) → set_size e ≤ 6 + expr_size e
+expr_nodes_some : (e : source.Expr) → 1 ≤ expr_nodes e
+expr_nodes_some e = value_nodes_some false e
+
+pub set_sized : (e : Expr) → set_size e ≤ 6 + expr_size e
 set_sized (Local x) = omega arith
 set_sized e = omega arith
 
@@ -88,50 +98,60 @@ at_offset_sized offset e = by (offset == 0)
     by true = omega arith
     by false = omega arith
 
-element_sized : (through : Through) (k : source.Expr) (size : ℕ) (a i : Expr) → expr_size (element_of through size a i) + 27 ≤ 27 * access_nodes through k + expr_size a + expr_size i
-element_sized Named k size a i = omega arith
-element_sized Raw k size a i = omega (arith, shifted_sized false size a i)
-element_sized One k size a i = omega arith
-element_sized Array k size a i = omega (arith, elements_some k)
-element_sized Terminated k size a i = omega (arith, elements_some k)
+element_sized : (through : Through) (p k : source.Expr) (size : ℕ) (a i : Expr) → expr_size (element_of through size a i) + 27 ≤ 27 * access_nodes through p k + expr_size a + expr_size i
+element_sized Named p k size a i = omega arith
+element_sized Raw p k size a i = omega (arith, shifted_sized false size a i)
+element_sized One p k size a i = omega arith
+element_sized Array p k size a i = omega (arith, elements_some (not (is_ranged p)) k)
+element_sized Terminated p k size a i = omega (arith, elements_some (not (is_ranged p)) k)
 
-const_element_sized : (through : Through) (k : source.Expr) (size : ℕ) (a : Expr) (n : ℕ) → expr_size (element_of through size a (Const n)) + 27 ≤ 27 * access_nodes through k + expr_size a
-const_element_sized Named k size a n = omega arith
-const_element_sized Raw k size a n = by (n == 0)
+const_element_sized : (through : Through) (p k : source.Expr) (size : ℕ) (a : Expr) (n : ℕ) → expr_size (element_of through size a (Const n)) + 27 ≤ 27 * access_nodes through p k + expr_size a
+const_element_sized Named p k size a n = omega arith
+const_element_sized Raw p k size a n = by (n == 0)
   where
     by : (zero : Bool) → expr_size (if zero then a else Bin binary.Add a (scaled size (Const n))) + 27 ≤ 54 + expr_size a
     by true = omega arith
     by false = omega arith
-const_element_sized One k size a n = omega arith
-const_element_sized Array k size a n = omega (arith, elements_some k)
-const_element_sized Terminated k size a n = omega (arith, elements_some k)
+const_element_sized One p k size a n = omega arith
+const_element_sized Array p k size a n = omega (arith, elements_some (not (is_ranged p)) k)
+const_element_sized Terminated p k size a n = omega (arith, elements_some (not (is_ranged p)) k)
 
-place_sized : (access : Access) (k : source.Expr) (a i : Expr) → expr_size (place_at access a i) + 11 ≤ 27 * access_nodes access.through k + expr_size a + expr_size i
-place_sized access k a i =
-    omega (arith, at_offset_sized access.offset (element_of access.through access.size a i), element_sized access.through k access.size a i)
+place_sized : (access : Access) (p k : source.Expr) (a i : Expr) → expr_size (place_at access a i) + 11 ≤ 27 * access_nodes access.through p k + expr_size a + expr_size i
+place_sized access p k a i =
+    omega (arith, at_offset_sized access.offset (element_of access.through access.size a i), element_sized access.through p k access.size a i)
 
 -- the same at a number
-const_place_sized : (access : Access) (k : source.Expr) (a : Expr) (n : ℕ) → expr_size (place_at access a (Const n)) + 11 ≤ 27 * access_nodes access.through k + expr_size a
-const_place_sized access k a n =
-    omega (arith, at_offset_sized access.offset (element_of access.through access.size a (Const n)), const_element_sized access.through k access.size a n)
+const_place_sized : (access : Access) (p k : source.Expr) (a : Expr) (n : ℕ) → expr_size (place_at access a (Const n)) + 11 ≤ 27 * access_nodes access.through p k + expr_size a
+const_place_sized access p k a n =
+    omega (arith, at_offset_sized access.offset (element_of access.through access.size a (Const n)), const_element_sized access.through p k access.size a n)
 
-direct_place_sized : (access : Access) (a : Expr) (i : source.Expr) → expr_size (direct i) ≤ 27 * expr_nodes i
-    → expr_size (place_at access a (direct i)) + 11 ≤ 27 * access_nodes access.through i + expr_size a + 27 * index_nodes i (expr_nodes i)
-direct_place_sized access a (source.Number n) h = omega (arith, const_place_sized access (source.Number n) a n)
-direct_place_sized access a i h = omega (arith, place_sized access i a (direct i), h)
+direct_place_sized : (access : Access) (p : source.Expr) (a : Expr) (i : source.Expr) → expr_size (direct i) ≤ 27 * expr_nodes i
+    → expr_size (place_at access a (direct i)) + 11 ≤ 27 * access_nodes access.through p i + expr_size a + 27 * index_nodes i (expr_nodes i)
+direct_place_sized access p a (source.Number n) h = omega (arith, const_place_sized access p (source.Number n) a n)
+direct_place_sized access p a i h = omega (arith, place_sized access p i a (direct i), h)
 
-direct_sized : (e : source.Expr) → expr_size (direct e) ≤ 27 * expr_nodes e
-direct_sized (source.Binary o s at a b) = omega (arith, operated_sized o s (direct a) (direct b), direct_sized a, direct_sized b)
-direct_sized (source.Load w access p i) = omega (arith, direct_place_sized access (direct p) i (direct_sized i), direct_sized p)
-direct_sized (source.Member to count access p i) = omega (arith, direct_place_sized access (direct p) i (direct_sized i), direct_sized p)
-direct_sized (source.Address bytes access p i) = omega (arith, direct_place_sized access (direct p) i (direct_sized i), direct_sized p)
-direct_sized (source.Moved shift p i) = omega (arith, shift_some shift.checked, shifted_sized shift.back shift.size (direct p) (direct i), direct_sized p, direct_sized i)
-direct_sized (source.Added shift i p) = omega (arith, shift_some shift.checked, shifted_sized shift.back shift.size (direct p) (direct i), direct_sized p, direct_sized i)
-direct_sized (source.Narrow e) = omega (arith, direct_sized e)
-direct_sized (source.Bare p) = omega (arith, direct_sized p)
-direct_sized (source.Tested size how at p k) = omega (arith, direct_sized p)
-direct_sized (source.Trusted to how p k) = omega (arith, direct_sized p)
-direct_sized e = omega arith
+cast_direct : (one : Bool) (p k : source.Expr) → expr_size (direct p) ≤ 27 * value_nodes false p → expr_size (direct p) ≤ 27 * value_nodes true p
+    → expr_size (direct p) ≤ 27 * (if one then 1 + value_nodes false p + value_nodes false k else 5 + value_nodes true p + index_nodes k (value_nodes false k))
+cast_direct true p k plain ranged = omega (arith, plain)
+cast_direct false p k plain ranged = omega (arith, ranged)
+
+direct_sized : (r : Bool) (e : source.Expr) → expr_size (direct e) ≤ 27 * value_nodes r e
+direct_sized r (source.Binary o s at a b) = omega (arith, operated_sized o s (direct a) (direct b), direct_sized false a, direct_sized false b)
+direct_sized r (source.Load w access p i) =
+    omega (arith, direct_place_sized access p (direct p) i (direct_sized false i), direct_sized (takes_range access.through p) p)
+direct_sized r (source.Member to count access p i) =
+    omega (arith, direct_place_sized access p (direct p) i (direct_sized false i), direct_sized (takes_range access.through p) p)
+direct_sized r (source.Address bytes access p i) =
+    omega (arith, direct_place_sized access p (direct p) i (direct_sized false i), direct_sized (takes_range access.through p) p)
+direct_sized r (source.Moved shift p i) =
+    omega (arith, shift_some shift.checked, shifted_sized shift.back shift.size (direct p) (direct i), direct_sized r p, direct_sized false i)
+direct_sized r (source.Added shift i p) =
+    omega (arith, shift_some shift.checked, shifted_sized shift.back shift.size (direct p) (direct i), direct_sized r p, direct_sized false i)
+direct_sized r (source.Narrow e) = omega (arith, direct_sized false e)
+direct_sized r (source.Bare p) = omega (arith, direct_sized false p)
+direct_sized r (source.Tested size how at p k) = cast_direct (not r && casts_one size p k) p k (direct_sized false p) (direct_sized true p)
+direct_sized r (source.Trusted to how p k) = omega (arith, direct_sized false p)
+direct_sized r e = omega arith
 
 -- the code in front of an operand and twice the operand
 by_two : (is_one : Bool) (x y : Code) (d : Expr) (t n : ℕ) → code_size x ≤ 60 * n + code_size y → expr_size d ≤ 27 * n
@@ -141,7 +161,7 @@ by_two false x y d t n h k = omega arith
 
 operand_step : (e : source.Expr) (t : ℕ) (rest : Code) → code_size (expr_code e t rest) ≤ 60 * expr_nodes e + code_size rest
     → code_size (operand_code e t rest) + 2 * expr_size (operand e t) ≤ 60 * expr_nodes e + code_size rest
-operand_step e t rest h = by_two (is_direct e) (expr_code e t rest) rest (direct e) t (expr_nodes e) h (direct_sized e)
+operand_step e t rest h = by_two (is_direct e) (expr_code e t rest) rest (direct e) t (expr_nodes e) h (direct_sized false e)
 
 -- the code in front of an index
 index_step : (i : source.Expr) (t : ℕ) (rest : Code) → code_size (operand_code i t rest) + 2 * expr_size (operand i t) ≤ 60 * expr_nodes i + code_size rest
@@ -179,7 +199,7 @@ counted_sized true size (counts.Fixed n) a = omega (arith, shifted_sized false s
 counted_sized false size (counts.Fixed n) a = omega arith
 counted_sized upper size (counts.Member offset form add) a = omega arith
 
-range_end_sized : (upper : Bool) (p : source.Expr) → expr_size (range_end upper p) ≤ 48
+pub range_end_sized : (upper : Bool) (p : source.Expr) → expr_size (range_end upper p) ≤ 48
 range_end_sized upper (source.Limited x limits) = end_sized x limits.to.size (if upper then limits.upper else limits.lower)
 range_end_sized upper (source.Member to count access p i) = counted_sized upper to.size count (static_place access p)
 range_end_sized upper (source.Moved shift p i) = range_end_sized upper p
@@ -190,15 +210,28 @@ range_sized : (last : Bool) (p : source.Expr) (t : ℕ) → expr_size (range_tes
 range_sized true p t = omega (arith, range_end_sized false p, range_end_sized true p)
 range_sized false p t = omega (arith, range_end_sized false p, range_end_sized true p)
 
+held_test_sized : (last : Bool) (t : ℕ) → expr_size (held_test last t) ≤ 76
+held_test_sized true t = omega arith
+held_test_sized false t = omega arith
+
+-- how much the test of a range may take, by whether the range is a value
+abbrev test_size : Bool → ℕ
+test_size true = 76
+test_size false = 161
+
+bounds_sized : (last b : Bool) (p : source.Expr) (t : ℕ) → expr_size (if b then range_test last p (Local t) else held_test last t) ≤ test_size (not b)
+bounds_sized last true p t = range_sized last p t
+bounds_sized last false p t = held_test_sized last t
+
 exact_sized : (back signs : Bool) (size : ℕ) (a i : Expr) → expr_size (exact_test back signs size a i) ≤ 81 + 2 * expr_size a + 2 * expr_size i
 exact_sized true signs size a i = omega (arith, shifted_sized true size a i)
 exact_sized false signs size a i = omega (arith, shifted_sized false size a i)
 
 -- an operand, where it goes to a temporary in any case or not
-put_sized : (always : Bool) (e : source.Expr) (t : ℕ) (rest : Code) → code_size (expr_code e t rest) ≤ 60 * expr_nodes e + code_size rest
-    → code_size (put_if always e (expr_code e t) rest) + 2 * expr_size (held always e t) ≤ 60 * expr_nodes e + code_size rest
-put_sized true e t rest h = omega (arith, h)
-put_sized false e t rest h = operand_step e t rest h
+put_sized : (r always : Bool) (e : source.Expr) (t : ℕ) (rest : Code) → code_size (value_code r e t rest) ≤ 60 * value_nodes r e + code_size rest
+    → code_size (put_if always e (value_code r e t) rest) + 2 * expr_size (held always e t) ≤ 60 * value_nodes r e + code_size rest
+put_sized r true e t rest h = omega (arith, h)
+put_sized r false e t rest h = by_two (is_direct e) (value_code r e t rest) rest (direct e) t (value_nodes r e) h (direct_sized r e)
 
 -- the index of a checked access or move
 index_sized : (i : source.Expr) (t : ℕ) (rest : Code) → code_size (expr_code i t rest) ≤ 60 * expr_nodes i + code_size rest
@@ -214,34 +247,53 @@ counted_index : (i : source.Expr) → index_nodes i (expr_nodes i) ≤ expr_node
 counted_index (source.Number n) = omega arith
 counted_index i = omega arith
 
-step_by : (zero : Bool) (access : Access) (i : Expr) (t : ℕ) (rest : Code) → expr_size i ≤ 5
-    → code_size (if zero then rest else Check check.Arith access.at (exact_test false (reads_signed access.index) access.size (Local t) i) (Set t (shifted false access.size (Local t) i) rest)) + 212
-    ≤ 60 * (if zero then 4 else 6) + code_size rest
-step_by true access i t rest h = omega arith
-step_by false access i t rest h =
-    omega (arith, exact_sized false (reads_signed access.index) access.size (Local t) i, shifted_sized false access.size (Local t) i, set_sized (shifted false access.size (Local t) i), h)
+set_shifted : (size t : ℕ) (i : Expr) → is_zero i ≡ false → set_size (shifted false size (Local t) i) ≤ 27 + expr_size i
+set_shifted size t i e = by (is_zero i) e
+  where
+    by : (zero : Bool) → zero ≡ false → set_size (if zero then Local t else Bin binary.Add (Local t) (scaled size i)) ≤ 27 + expr_size i
+    by true e = absurd cc
+    by false e = omega (arith, scaled_sized size i)
 
-step_sized : (access : Access) (i : source.Expr) (u t : ℕ) (rest : Code)
-    → code_size (element_code access (held (keeps_index true i) i u) t rest) + 212 ≤ 60 * element_nodes i + code_size rest
-step_sized access (source.Number n) u t rest = step_by (n == 0) access (Const n) t rest (omega arith)
-step_sized access i u t rest = step_by false access (Local u) t rest (omega arith)
+step_by : (zero : Bool) (access : Access) (i : Expr) (t : ℕ) (rest : Code) → is_zero i ≡ zero → expr_size i ≤ 5
+    → code_size (if zero then rest else Check check.Arith access.at (exact_test false (reads_signed access.index) access.size (Local t) i) (Set t (shifted false access.size (Local t) i) rest))
+    ≤ (if zero then 0 else 137) + code_size rest
+step_by true access i t rest e h = omega arith
+step_by false access i t rest e h =
+    omega (arith, exact_sized false (reads_signed access.index) access.size (Local t) i, set_shifted access.size t i e, h)
 
-bounded_sized : (last : Bool) (access : Access) (p i : source.Expr) (t : ℕ) (inner : Code) → ((rest : Code) → code_size (expr_code p t rest) ≤ 60 * expr_nodes p + code_size rest)
-    → ((rest : Code) → code_size (expr_code i (t + 1) rest) ≤ 60 * expr_nodes i + code_size rest)
-    → code_size (expr_code p t (put_if (keeps_index true i) i (expr_code i (t + 1)) (bounded_code last access p (held (keeps_index true i) i (t + 1)) t inner)))
-    + expr_size (at_offset access.offset (Local t)) + 7 ≤ 60 * (element_nodes i + expr_nodes p + index_nodes i (expr_nodes i)) + code_size inner
-bounded_sized last access p i t inner on_p on_i =
-    let k = held (keeps_index true i) i (t + 1) in
-    let within = Check check.Bounds access.at (range_test last p (Local t)) inner in
+step_few : (far zero : Bool) → (if zero then 0 else 137) + 62 + test_size far ≤ 60 * (if far then (if zero then 3 else 5) else (if zero then 4 else 6))
+step_few true true = omega arith
+step_few true false = omega arith
+step_few false true = omega arith
+step_few false false = omega arith
+
+number_nodes : (far : Bool) (n : ℕ) → element_nodes far (source.Number n) ≡ (if far then (if n == 0 then 3 else 5) else (if n == 0 then 4 else 6))
+number_nodes true n = refl
+number_nodes false n = refl
+
+step_sized : (far : Bool) (access : Access) (i : source.Expr) (u t : ℕ) (rest : Code)
+    → code_size (element_code access (held (keeps_index true i) i u) t rest) + 62 + test_size far ≤ 60 * element_nodes far i + code_size rest
+step_sized far access (source.Number n) u t rest =
+    omega (arith, step_by (n == 0) access (Const n) t rest refl (omega arith), step_few far (n == 0), number_nodes far n)
+step_sized true access i u t rest = omega (arith, step_by false access (Local u) t rest refl (omega arith))
+step_sized false access i u t rest = omega (arith, step_by false access (Local u) t rest refl (omega arith))
+
+bounded_sized : (last : Bool) (access : Access) (p i : source.Expr) (t u : ℕ) (inner : Code)
+    → ((rest : Code) → code_size (value_code (not (is_ranged p)) p t rest) ≤ 60 * value_nodes (not (is_ranged p)) p + code_size rest)
+    → ((rest : Code) → code_size (value_code false i u rest) ≤ 60 * value_nodes false i + code_size rest)
+    → code_size (value_code (not (is_ranged p)) p t (put_if (keeps_index true i) i (value_code false i u) (bounded_code last access p (held (keeps_index true i) i u) t inner)))
+    + 34 ≤ 60 * (element_nodes (not (is_ranged p)) i + value_nodes (not (is_ranged p)) p + index_nodes i (expr_nodes i)) + code_size inner
+bounded_sized last access p i t u inner on_p on_i =
+    let k = held (keeps_index true i) i u in
+    let within = Check check.Bounds access.at (bounds_test last p t) inner in
     let judge = bounded_code last access p k t inner in
-    let second = put_if (keeps_index true i) i (expr_code i (t + 1)) judge in
+    let second = put_if (keeps_index true i) i (value_code false i u) judge in
     omega (
       arith,
       on_p second,
-      index_sized i (t + 1) judge (on_i judge),
-      step_sized access i (t + 1) t within,
-      range_sized last p t,
-      at_offset_sized access.offset (Local t),
+      index_sized i u judge (on_i judge),
+      step_sized (not (is_ranged p)) access i u t within,
+      bounds_sized last (is_ranged p) p t,
     )
 
 raw_sized : (size : ℕ) (a : Expr) (i : source.Expr) (t : ℕ) → expr_size (shifted false size a (operand i t)) ≤ 27 + expr_size a + index_nodes i (expr_size (operand i t))
@@ -253,143 +305,269 @@ raw_sized size a (source.Number n) t = by (n == 0)
 raw_sized size a i t = shifted_sized false size a (operand i t)
 
 -- what finds an access, and its place
-reached_sized : (through : Through) (access : Access) (p i : source.Expr) (t : ℕ) (inner : Code) → ((rest : Code) → code_size (expr_code p t rest) ≤ 60 * expr_nodes p + code_size rest)
-    → ((rest : Code) → code_size (expr_code i (t + 1) rest) ≤ 60 * expr_nodes i + code_size rest)
-    → code_size (put_if (is_bounded through) p (expr_code p t) (put_if (keeps_index (is_bounded through) i) i (expr_code i (t + 1))
-    (judged through access p (held (is_bounded through) p t) (held (keeps_index (is_bounded through) i) i (t + 1)) t inner)))
-    + expr_size (at_offset access.offset (element_of through access.size (held (is_bounded through) p t) (held (keeps_index (is_bounded through) i) i (t + 1)))) + 7
-    ≤ 60 * (access_nodes through i + expr_nodes p + index_nodes i (expr_nodes i)) + code_size inner
-reached_sized Named access p i t inner on_p on_i =
-    let second = operand_code i (t + 1) inner in
+reached_sized : (through : Through) (access : Access) (p i : source.Expr) (t u : ℕ) (inner : Code)
+    → ((rest : Code) → code_size (value_code (takes_range through p) p t rest) ≤ 60 * value_nodes (takes_range through p) p + code_size rest)
+    → ((rest : Code) → code_size (value_code false i u rest) ≤ 60 * value_nodes false i + code_size rest)
+    → code_size (put_if (is_bounded through) p (value_code (takes_range through p) p t) (put_if (keeps_index (is_bounded through) i) i (value_code false i u)
+    (judged through access p (held (is_bounded through) p t) (held (keeps_index (is_bounded through) i) i u) t inner)))
+    + expr_size (element_of through access.size (held (is_bounded through) p t) (held (keeps_index (is_bounded through) i) i u)) + 34
+    ≤ 60 * (access_nodes through p i + value_nodes (takes_range through p) p + index_nodes i (expr_nodes i)) + code_size inner
+reached_sized Named access p i t u inner on_p on_i =
+    let second = operand_code i u inner in
     omega (
       arith,
-      at_offset_sized access.offset (operand p t),
       operand_step p t second (on_p second),
-      index_step i (t + 1) inner (operand_step i (t + 1) inner (on_i inner)),
+      index_step i u inner (operand_step i u inner (on_i inner)),
     )
-reached_sized Raw access p i t inner on_p on_i =
-    let second = operand_code i (t + 1) inner in
+reached_sized Raw access p i t u inner on_p on_i =
+    let second = operand_code i u inner in
     omega (
       arith,
-      at_offset_sized access.offset (shifted false access.size (operand p t) (operand i (t + 1))),
-      raw_sized access.size (operand p t) i (t + 1),
+      raw_sized access.size (operand p t) i u,
       operand_step p t second (on_p second),
-      index_step i (t + 1) inner (operand_step i (t + 1) inner (on_i inner)),
+      index_step i u inner (operand_step i u inner (on_i inner)),
     )
-reached_sized One access p i t inner on_p on_i =
+reached_sized One access p i t u inner on_p on_i =
     let judge = Check check.Null access.at (operand p t) inner in
-    let second = operand_code i (t + 1) judge in
+    let second = operand_code i u judge in
     omega (
       arith,
-      at_offset_sized access.offset (operand p t),
       operand_step p t second (on_p second),
-      index_step i (t + 1) judge (operand_step i (t + 1) judge (on_i judge)),
+      index_step i u judge (operand_step i u judge (on_i judge)),
     )
-reached_sized Array access p i t inner on_p on_i = bounded_sized false access p i t inner on_p on_i
-reached_sized Terminated access p i t inner on_p on_i = bounded_sized true access p i t inner on_p on_i
+reached_sized Array access p i t u inner on_p on_i = omega (arith, bounded_sized false access p i t u inner on_p on_i)
+reached_sized Terminated access p i t u inner on_p on_i = omega (arith, bounded_sized true access p i t u inner on_p on_i)
+
+-- ---- ranges that are values
+
+with_range_sized : (r : Bool) (t n : ℕ) (low length : Expr) (rest : Code) → set_size low + set_size length ≤ n → n ≤ 60 → code_size (with_range r t low length rest) ≤ n * range_nodes r + code_size rest
+with_range_sized true t n low length rest h k = omega arith
+with_range_sized false t n low length rest h k = omega arith
+
+no_range_sized : (r : Bool) (t : ℕ) (rest : Code) → code_size (no_range r t rest) ≤ 60 * range_nodes r + code_size rest
+no_range_sized true t rest = omega arith
+no_range_sized false t rest = omega arith
+
+set_scaled : (size : ℕ) (e : Expr) → set_size (scaled size e) ≤ 16 + expr_size e
+set_scaled size (Const n) = omega arith
+set_scaled size e = by (size == 1)
+  where
+    by : (one : Bool) → set_size (if one then e else Bin binary.Mul (Const size) e) ≤ 16 + expr_size e
+    by true = omega (arith, set_sized e)
+    by false = omega arith
+
+length_sized : (size : ℕ) (count : Count) (u : ℕ) → set_size (length_at size count u) ≤ 55
+length_sized size (counts.Fixed n) u = omega arith
+length_sized size (counts.Member offset how add) u =
+    let place = at_offset offset (Local u) in
+    let member = Load (width_of how) place in
+    omega (arith, set_scaled size (at_offset (word_of add) member), at_offset_sized (word_of add) member, at_offset_sized offset (Local u))
+
+pointer_sized : (r : Bool) (size : ℕ) (count : Count) (offset : ℕ) (element : Expr) (t : ℕ) (rest : Code)
+    → code_size (pointer_code r size count offset element (at_offset offset element) t rest) ≤ 60 * range_nodes r + 34 + expr_size element + code_size rest
+pointer_sized true size count offset element t rest =
+    omega (arith, set_sized element, length_sized size count (t + 1), at_offset_sized offset (Local (t + 1)))
+pointer_sized false size count offset element t rest = omega (arith, at_offset_sized offset element)
+
+natural_sized : (how : Integer) (k : Expr) → expr_size (is_natural how k) ≤ 16 + expr_size k
+natural_sized integer.Int k = omega arith
+natural_sized integer.Unsigned k = omega arith
+natural_sized integer.Char k = omega arith
+
+tested_sized : (size : ℕ) (how : Integer) (at : Pos) (k : Expr) (t : ℕ) (rest : Code) → expr_size k ≤ 5 → code_size (tested_code size how at k t rest) ≤ 300 + code_size rest
+tested_sized size how at k t rest h = omega (arith, natural_sized how k, scaled_sized size k, set_sized (scaled size k))
+
+trusted_sized : (r : Bool) (size : ℕ) (k : Expr) (t : ℕ) (rest : Code) → code_size (trusted_range r size k t rest) ≤ 60 * range_nodes r + expr_size k + code_size rest
+trusted_sized true size k t rest = omega (arith, scaled_sized size k, set_sized (scaled size k))
+trusted_sized false size k t rest = omega arith
 
 -- what moves a pointer that is an operand, by an index that is another one
-moved_by : (zero : Bool) (shift : Shift) (a : ℕ) (i : Expr) (t : ℕ) (rest : Code) → expr_size i ≤ 5
-    → code_size (Check check.Arith shift.at (Local a) (if zero then Set t (shifted shift.back shift.size (Local a) i) rest
-    else Check check.Arith shift.at (exact_test shift.back (reads_signed shift.index) shift.size (Local a) i) (Set t (shifted shift.back shift.size (Local a) i) rest))) ≤ 157 + code_size rest
-moved_by true shift a i t rest h =
-    omega (arith, shifted_sized shift.back shift.size (Local a) i, set_sized (shifted shift.back shift.size (Local a) i), h)
-moved_by false shift a i t rest h =
-    omega (arith, exact_sized shift.back (reads_signed shift.index) shift.size (Local a) i, shifted_sized shift.back shift.size (Local a) i, set_sized (shifted shift.back shift.size (Local a) i), h)
+moved_by : (zero : Bool) (shift : Shift) (a i : Expr) (t : ℕ) (rest : Code) → expr_size a ≡ 0 → expr_size i ≤ 5
+    → code_size (Check check.Arith shift.at a (if zero then Set t (shifted shift.back shift.size a i) rest
+    else Check check.Arith shift.at (exact_test shift.back (reads_signed shift.index) shift.size a i) (Set t (shifted shift.back shift.size a i) rest))) ≤ 157 + code_size rest
+moved_by true shift a i t rest none h =
+    omega (arith, shifted_sized shift.back shift.size a i, set_sized (shifted shift.back shift.size a i), h)
+moved_by false shift a i t rest none h =
+    omega (arith, exact_sized shift.back (reads_signed shift.index) shift.size a i, shifted_sized shift.back shift.size a i, set_sized (shifted shift.back shift.size a i), h)
 
 -- pointer arithmetic, its pointer in front of its index or behind it
-moved_sized : (shift : Shift) (checked : Bool) (p i : source.Expr) (u v t : ℕ) (rest : Code)
-    → code_size (let there = Set t (shifted shift.back shift.size (held checked p u) (held (keeps_index checked i) i v)) rest in
-    if checked then exact_code shift (held checked p u) (held (keeps_index checked i) i v) there else there)
-    ≤ 60 * shift_nodes checked - 20 + expr_size (held checked p u) + expr_size (held (keeps_index checked i) i v) + code_size rest
-moved_sized shift true p i u v t rest =
-    omega (arith, moved_by (is_zero (held (keeps_index true i) i v)) shift u (held (keeps_index true i) i v) t rest (index_small i v))
-moved_sized shift false p i u v t rest =
-    let value = shifted shift.back shift.size (operand p u) (operand i v) in
-    omega (arith, shifted_sized shift.back shift.size (operand p u) (operand i v), set_sized value)
+moved_sized : (shift : Shift) (checked : Bool) (a : Expr) (i : source.Expr) (v t : ℕ) (rest : Code) → (checked ≡ true → expr_size a ≡ 0)
+    → code_size (let there = Set t (shifted shift.back shift.size a (held (keeps_index checked i) i v)) rest in
+    if checked then exact_code shift a (held (keeps_index checked i) i v) there else there)
+    ≤ 60 * shift_nodes checked - 20 + expr_size a + expr_size (held (keeps_index checked i) i v) + code_size rest
+moved_sized shift true a i v t rest none =
+    omega (arith, moved_by (is_zero (held (keeps_index true i) i v)) shift a (held (keeps_index true i) i v) t rest (none refl) (index_small i v))
+moved_sized shift false a i v t rest none =
+    let value = shifted shift.back shift.size a (operand i v) in
+    omega (arith, shifted_sized shift.back shift.size a (operand i v), set_sized value)
 
-expr_sized : (e : source.Expr) (t : ℕ) (rest : Code) → code_size (expr_code e t rest) ≤ 60 * expr_nodes e + code_size rest
-expr_sized (source.Binary o s at a b) t rest =
-    let after = operation_code o s at (operand a t) (operand b (t + 1)) t rest in
+held_none : (r checked : Bool) (p : source.Expr) (u : ℕ) → checked ≡ true → expr_size (held (r || checked) p u) ≡ 0
+held_none true checked p u e = refl
+held_none false true p u e = refl
+held_none false false p u e = absurd cc
+
+moved_range_sized : (r : Bool) (t : ℕ) (rest : Code) → code_size (moved_range r t rest) ≤ 60 * range_nodes r + code_size rest
+moved_range_sized true t rest = omega arith
+moved_range_sized false t rest = omega arith
+
+limits_sized : (r : Bool) (x : ℕ) (limits : Limits) (t : ℕ) (rest : Code)
+    → code_size (with_range r t (end_at x limits.to.size limits.lower) (Bin binary.Sub (end_at x limits.to.size limits.upper) (Local (t + 1))) rest) ≤ 54 + 60 * range_nodes r + code_size rest
+limits_sized true x limits t rest =
+    omega (arith, end_sized x limits.to.size limits.lower, end_sized x limits.to.size limits.upper, set_sized (end_at x limits.to.size limits.lower))
+limits_sized false x limits t rest = omega arith
+
+bytes_sized : (r : Bool) (t bytes : ℕ) (low : Expr) (rest : Code) → set_size low ≤ 6 → code_size (with_range r t low (Const bytes) rest) ≤ 60 * range_nodes r + code_size rest
+bytes_sized true t bytes low rest h = omega arith
+bytes_sized false t bytes low rest h = omega arith
+
+cast_sized : (one : Bool) (size : ℕ) (how : Integer) (at : Pos) (p k : source.Expr) (t : ℕ) (rest : Code)
+    → ((rest : Code) → code_size (value_code false p t rest) ≤ 60 * value_nodes false p + code_size rest)
+    → ((rest : Code) → code_size (value_code true p t rest) ≤ 60 * value_nodes true p + code_size rest)
+    → ((rest : Code) → code_size (value_code false k (t + 3) rest) ≤ 60 * value_nodes false k + code_size rest)
+    → code_size (if one then value_code false p t rest
+    else value_code true p t (put_if (keeps_index true k) k (value_code false k (t + 3)) (tested_code size how at (held (keeps_index true k) k (t + 3)) t rest)))
+    ≤ 60 * (if one then 1 + value_nodes false p + value_nodes false k else 5 + value_nodes true p + index_nodes k (value_nodes false k)) + code_size rest
+cast_sized true size how at p k t rest plain on_p on_k = omega (arith, plain rest)
+cast_sized false size how at p k t rest plain on_p on_k =
+    let u = t + 3 in
+    let last = tested_code size how at (held (keeps_index true k) k u) t rest in
+    let second = put_if (keeps_index true k) k (value_code false k u) last in
+    omega (arith, tested_sized size how at (held (keeps_index true k) k u) t rest (index_small k u), index_sized k u last (on_k last), on_p second)
+
+value_sized : (r : Bool) (e : source.Expr) (t : ℕ) (rest : Code) → code_size (value_code r e t rest) ≤ 60 * value_nodes r e + code_size rest
+value_sized r (source.Binary o s at a b) t rest =
+    let last = no_range r t rest in
+    let after = operation_code o s at (operand a t) (operand b (t + 1)) t last in
     let second = operand_code b (t + 1) after in
     omega (
       arith,
-      operation_sized o s at (operand a t) (operand b (t + 1)) t rest,
-      operand_step b (t + 1) after (expr_sized b (t + 1) after),
-      operand_step a t second (expr_sized a t second),
+      no_range_sized r t rest,
+      operation_sized o s at (operand a t) (operand b (t + 1)) t last,
+      operand_step b (t + 1) after (value_sized false b (t + 1) after),
+      operand_step a t second (value_sized false a t second),
     )
-expr_sized (source.And a b) t rest =
+value_sized r (source.And a b) t rest =
     let set = Set t (as_truth (operand b t)) End in
-    let after = Code.If (operand a t) (operand_code b t set) (Set t (Const 0) End) rest in
-    omega (arith, operand_step b t set (expr_sized b t set), operand_step a t after (expr_sized a t after))
-expr_sized (source.Or a b) t rest =
+    let after = Code.If (operand a t) (operand_code b t set) (Set t (Const 0) End) (no_range r t rest) in
+    omega (arith, no_range_sized r t rest, operand_step b t set (value_sized false b t set), operand_step a t after (value_sized false a t after))
+value_sized r (source.Or a b) t rest =
     let set = Set t (as_truth (operand b t)) End in
-    let after = Code.If (operand a t) (Set t (Const 1) End) (operand_code b t set) rest in
-    omega (arith, operand_step b t set (expr_sized b t set), operand_step a t after (expr_sized a t after))
-expr_sized (source.Choice c a b) t rest =
-    let after = Code.If (operand c t) (expr_code a t End) (expr_code b t End) rest in
-    omega (arith, expr_sized a t End, expr_sized b t End, operand_step c t after (expr_sized c t after))
-expr_sized (source.Narrow e) t rest =
-    let after = Set t (low_byte (operand e t)) rest in
-    omega (arith, operand_step e t after (expr_sized e t after))
-expr_sized (source.Load w access p i) t rest =
-    let value = Load w (reached_place access p i t) in
+    let after = Code.If (operand a t) (Set t (Const 1) End) (operand_code b t set) (no_range r t rest) in
+    omega (arith, no_range_sized r t rest, operand_step b t set (value_sized false b t set), operand_step a t after (value_sized false a t after))
+value_sized r (source.Choice c a b) t rest =
+    let after = Code.If (operand c t) (value_code r a t End) (value_code r b t End) rest in
+    omega (arith, value_sized r a t End, value_sized r b t End, operand_step c t after (value_sized false c t after))
+value_sized r (source.Narrow e) t rest =
+    let after = Set t (low_byte (operand e t)) (no_range r t rest) in
+    omega (arith, no_range_sized r t rest, operand_step e t after (value_sized false e t after))
+value_sized r (source.Load w access p i) t rest =
+    let u = index_in access p t in
+    let element = reached_element access p i t in
+    let inner = Set t (Load w (reached_place access p i t)) (no_range r t rest) in
     omega (
       arith,
-      reached_sized access.through access p i t (Set t value rest) (λ rest. expr_sized p t rest) (λ rest. expr_sized i (t + 1) rest),
+      no_range_sized r t rest,
+      at_offset_sized access.offset element,
+      reached_sized access.through access p i t u inner (λ rest. value_sized (takes_range access.through p) p t rest) (λ rest. value_sized false i u rest),
     )
-expr_sized (source.Member to count access p i) t rest =
-    let value = Load width.Word (reached_place access p i t) in
+value_sized r (source.Member to count access p i) t rest =
+    let u = index_in access p t in
+    let element = reached_element access p i t in
+    let inner = pointer_code r to.size count access.offset element (reached_place access p i t) t rest in
     omega (
       arith,
-      reached_sized access.through access p i t (Set t value rest) (λ rest. expr_sized p t rest) (λ rest. expr_sized i (t + 1) rest),
+      pointer_sized r to.size count access.offset element t rest,
+      reached_sized access.through access p i t u inner (λ rest. value_sized (takes_range access.through p) p t rest) (λ rest. value_sized false i u rest),
     )
-expr_sized (source.Address bytes access p i) t rest =
-    let value = reached_place access p i t in
+value_sized r (source.Address bytes access p i) t rest =
+    let u = index_in access p t in
+    let element = reached_element access p i t in
+    let place = reached_place access p i t in
+    let inner = Set t place (with_range r t (Local t) (Const bytes) rest) in
     omega (
       arith,
-      set_sized value,
-      reached_sized access.through access p i t (Set t value rest) (λ rest. expr_sized p t rest) (λ rest. expr_sized i (t + 1) rest),
+      set_sized place,
+      at_offset_sized access.offset element,
+      bytes_sized r t bytes (Local t) rest (omega arith),
+      reached_sized access.through access p i t u inner (λ rest. value_sized (takes_range access.through p) p t rest) (λ rest. value_sized false i u rest),
     )
-expr_sized (source.Moved shift p i) t rest =
+value_sized r (source.Moved shift p i) t rest =
     let b = shift.checked in
+    let holds = r || b in
     let k = keeps_index b i in
-    let after = moved_code shift (held b p t) (held k i (t + 1)) t rest in
-    let second = put_if k i (expr_code i (t + 1)) after in
+    let u = t + index_far r in
+    let a = held holds p t in
+    let after = moved_code shift a (held k i u) t rest in
+    let second = put_if k i (value_code false i u) after in
     omega (
       arith,
       shift_some b,
-      moved_sized shift b p i t (t + 1) t rest,
-      put_sized k i (t + 1) after (expr_sized i (t + 1) after),
-      put_sized b p t second (expr_sized p t second),
+      moved_sized shift b a i u t rest (held_none r b p t),
+      put_sized false k i u after (value_sized false i u after),
+      put_sized r holds p t second (value_sized r p t second),
     )
-expr_sized (source.Added shift i p) t rest =
+value_sized r (source.Added shift i p) t rest =
     let b = shift.checked in
+    let holds = r || b in
     let k = keeps_index b i in
-    let after = moved_code shift (held b p (t + 1)) (held k i t) t rest in
-    let second = put_if b p (expr_code p (t + 1)) after in
+    let a = held holds p (t + 1) in
+    let last = moved_range r t rest in
+    let after = moved_code shift a (held k i t) t last in
+    let second = put_if holds p (value_code r p (t + 1)) after in
     omega (
       arith,
       shift_some b,
-      moved_sized shift b p i (t + 1) t t rest,
-      put_sized b p (t + 1) after (expr_sized p (t + 1) after),
-      put_sized k i t second (expr_sized i t second),
+      moved_range_sized r t rest,
+      moved_sized shift b a i t t last (held_none r b p (t + 1)),
+      put_sized r holds p (t + 1) after (value_sized r p (t + 1) after),
+      put_sized false k i t second (value_sized false i t second),
     )
-expr_sized (source.Bare p) t rest = omega (arith, expr_sized p t rest)
-expr_sized (source.Tested size how at p k) t rest = omega (arith, expr_sized p t rest)
-expr_sized (source.Trusted to how p k) t rest =
-    let second = operand_code k (t + 1) rest in
-    omega (arith, operand_step k (t + 1) rest (expr_sized k (t + 1) rest), expr_sized p t second)
-expr_sized e t rest = omega arith
+value_sized r (source.Bare p) t rest = omega (arith, no_range_sized r t rest, value_sized false p t (no_range r t rest))
+value_sized r (source.Tested size how at p k) t rest =
+    cast_sized (not r && casts_one size p k) size how at p k t rest (λ rest. value_sized false p t rest) (λ rest. value_sized true p t rest) (λ rest. value_sized false k (t + 3) rest)
+value_sized r (source.Trusted to how p k) t rest =
+    let last = trusted_range r to.size (operand k (t + 1)) t rest in
+    let second = operand_code k (t + 1) last in
+    omega (
+      arith,
+      trusted_sized r to.size (operand k (t + 1)) t rest,
+      operand_step k (t + 1) last (value_sized false k (t + 1) last),
+      value_sized false p t second,
+    )
+value_sized r (source.Number n) t rest = omega (arith, no_range_sized r t rest)
+value_sized r (source.Local x) t rest = omega (arith, no_range_sized r t rest)
+value_sized r (source.Limited x limits) t rest = omega (arith, limits_sized r x limits t rest)
+value_sized r (source.Array at bytes) t rest = omega (arith, bytes_sized r t bytes (Const at) rest (omega arith))
 
-operand_sized : (e : source.Expr) (t : ℕ) (rest : Code) → code_size (operand_code e t rest) + 2 * expr_size (operand e t) ≤ 60 * expr_nodes e + code_size rest
+pub expr_sized : (e : source.Expr) (t : ℕ) (rest : Code) → code_size (expr_code e t rest) ≤ 60 * expr_nodes e + code_size rest
+expr_sized e t rest = value_sized false e t rest
+
+-- what finds the place of an access, and the place
+pub access_sized : (access : Access) (p i : source.Expr) (t : ℕ) (inner : Code)
+    → code_size (access_code access p i t inner) + expr_size (reached_place access p i t) + 7
+    ≤ 60 * (access_nodes access.through p i + value_nodes (takes_range access.through p) p + index_nodes i (expr_nodes i)) + code_size inner
+access_sized access p i t inner =
+    let u = index_in access p t in
+    omega (
+      arith,
+      at_offset_sized access.offset (reached_element access p i t),
+      reached_sized access.through access p i t u inner (λ rest. value_sized (takes_range access.through p) p t rest) (λ rest. value_sized false i u rest),
+    )
+
+pub operand_sized : (e : source.Expr) (t : ℕ) (rest : Code) → code_size (operand_code e t rest) + 2 * expr_size (operand e t) ≤ 60 * expr_nodes e + code_size rest
 operand_sized e t rest = operand_step e t rest (expr_sized e t rest)
+
+cast_some : (one : Bool) (p k : source.Expr) → 2 ≤ (if one then 1 + value_nodes false p + value_nodes false k else 5 + value_nodes true p + index_nodes k (value_nodes false k))
+cast_some true p k = omega (arith, expr_nodes_some p)
+cast_some false p k = omega arith
 
 -- an argument, with the eight instructions that pass it
 argument_sized : (e : source.Expr) (t : ℕ) (rest : Code) → code_size (operand_code e t rest) + expr_size (operand e t) + 8 ≤ 64 * expr_nodes e + code_size rest
-argument_sized (source.Load w access p i) t rest = omega (arith, operand_sized (source.Load w access p i) t rest, access_some access.through i, expr_nodes_some p)
-argument_sized (source.Member to count access p i) t rest = omega (arith, operand_sized (source.Member to count access p i) t rest, access_some access.through i, expr_nodes_some p)
-argument_sized (source.Address bytes access p i) t rest = omega (arith, operand_sized (source.Address bytes access p i) t rest, access_some access.through i, expr_nodes_some p)
+argument_sized (source.Load w access p i) t rest = omega (arith, operand_sized (source.Load w access p i) t rest, access_some access.through p i, value_nodes_some (takes_range access.through p) p)
+argument_sized (source.Member to count access p i) t rest =
+    omega (arith, operand_sized (source.Member to count access p i) t rest, access_some access.through p i, value_nodes_some (takes_range access.through p) p)
+argument_sized (source.Address bytes access p i) t rest =
+    omega (arith, operand_sized (source.Address bytes access p i) t rest, access_some access.through p i, value_nodes_some (takes_range access.through p) p)
 argument_sized (source.Moved shift p i) t rest = omega (arith, shift_some shift.checked, operand_sized (source.Moved shift p i) t rest, expr_nodes_some p, expr_nodes_some i)
 argument_sized (source.Added shift i p) t rest = omega (arith, shift_some shift.checked, operand_sized (source.Added shift i p) t rest, expr_nodes_some p, expr_nodes_some i)
 argument_sized (source.Binary o s at a b) t rest = omega (arith, operand_sized (source.Binary o s at a b) t rest, expr_nodes_some a, expr_nodes_some b)
@@ -398,223 +576,17 @@ argument_sized (source.Or a b) t rest = omega (arith, operand_sized (source.Or a
 argument_sized (source.Choice c a b) t rest = omega (arith, operand_sized (source.Choice c a b) t rest, expr_nodes_some c, expr_nodes_some a, expr_nodes_some b)
 argument_sized (source.Narrow e) t rest = omega (arith, operand_sized (source.Narrow e) t rest, expr_nodes_some e)
 argument_sized (source.Bare p) t rest = omega (arith, operand_sized (source.Bare p) t rest, expr_nodes_some p)
-argument_sized (source.Tested size form at p k) t rest = omega (arith, operand_sized (source.Tested size form at p k) t rest, expr_nodes_some p, expr_nodes_some k)
+argument_sized (source.Tested size how at p k) t rest =
+    omega (arith, operand_sized (source.Tested size how at p k) t rest, cast_some (casts_one size p k) p k)
 argument_sized (source.Trusted to form p k) t rest = omega (arith, operand_sized (source.Trusted to form p k) t rest, expr_nodes_some p, expr_nodes_some k)
 argument_sized (source.Number n) t rest = omega arith
 argument_sized (source.Local x) t rest = omega arith
 argument_sized (source.Limited x limits) t rest = omega arith
 argument_sized (source.Array at bytes) t rest = omega arith
 
-operands_sized : (es : List source.Expr) (t : ℕ) (rest : Code)
+pub operands_sized : (es : List source.Expr) (t : ℕ) (rest : Code)
     → code_size (operands_code es t rest) + exprs_size (operands es t) + 8 * length (operands es t) ≤ 64 * exprs_nodes es + code_size rest
 operands_sized [] t rest = omega arith
 operands_sized (e ∷ es) t rest =
     let after = operands_code es (t + 1) rest in
     omega (arith, argument_sized e t after, operands_sized es (t + 1) rest, sum_by-cons expr_size (operand e t) (operands es (t + 1)))
-
--- ---- where zero alone may be written
-
-abbrev mark_size : Through → ℕ
-mark_size Terminated = 80
-mark_size _ = 0
-
-abbrev guard_size : Through → ℕ
-guard_size Terminated = 100
-guard_size _ = 0
-
-guard_sized : (through : Through) → mark_size through + guard_size through ≤ 60 * guard_nodes through
-guard_sized Terminated = omega arith
-guard_sized Named = omega arith
-guard_sized Raw = omega arith
-guard_sized One = omega arith
-guard_sized Array = omega arith
-
-marked_sized : (through : Through) (p : source.Expr) (t : ℕ) (rest : Code) → code_size (marked through p t rest) ≤ mark_size through + code_size rest
-marked_sized Terminated p t rest = omega (arith, range_end_sized true p)
-marked_sized Named p t rest = omega arith
-marked_sized Raw p t rest = omega arith
-marked_sized One p t rest = omega arith
-marked_sized Array p t rest = omega arith
-
-kept_sized : (w : Width) (is_byte : Bool) (u : ℕ) → expr_size (kept_in w is_byte (Local u)) ≤ 16
-kept_sized width.Word is_byte u = omega arith
-kept_sized width.Byte true u = omega arith
-kept_sized width.Byte false u = omega arith
-
-guarded_sized : (through : Through) (at : Pos) (w : Width) (is_byte : Bool) (t u : ℕ) (rest : Code) → code_size (guarded through at w is_byte t u rest) ≤ guard_size through + code_size rest
-guarded_sized Terminated at w is_byte t u rest = omega (arith, kept_sized w is_byte u)
-guarded_sized Named at w is_byte t u rest = omega arith
-guarded_sized Raw at w is_byte t u rest = omega arith
-guarded_sized One at w is_byte t u rest = omega arith
-guarded_sized Array at w is_byte t u rest = omega arith
-
-stored_sized : (through : Through) (at : Pos) (w : Width) (is_byte : Bool) (t u : ℕ) (to e : Expr) (rest : Code)
-    → code_size (stored_code through at w is_byte t u to e rest) ≤ 7 + expr_size to + expr_size e + guard_size through + code_size rest
-stored_sized Terminated at w is_byte t u to e rest = omega (arith, set_sized e, kept_sized w is_byte u)
-stored_sized Named at w is_byte t u to e rest = omega arith
-stored_sized Raw at w is_byte t u to e rest = omega arith
-stored_sized One at w is_byte t u to e rest = omega arith
-stored_sized Array at w is_byte t u to e rest = omega arith
-
-abbrev allow_size : source.Target → ℕ
-allow_size (source.Memory w access p i) = guard_size access.through
-allow_size _ = 0
-
-allowed_sized : (target : source.Target) (t : ℕ) (rest : Code) → code_size (allowed_code target t rest) ≤ allow_size target + code_size rest
-allowed_sized source.Nothing t rest = omega arith
-allowed_sized (source.Variable x w) t rest = omega arith
-allowed_sized (source.Memory w access p i) t rest = guarded_sized access.through access.at w false t (t + target_count (source.Memory w access p i)) rest
-
--- A value is written behind what finds the place of the target.
-aimed_sized : (target : source.Target) (t n : ℕ) (is_byte : Bool) (value : Expr) (rest inner : Code)
-    → code_size inner + expr_size value ≤ n + code_size (written target t is_byte value rest)
-    → code_size (aim_code target t inner) ≤ 22 + 60 * target_nodes target + n + code_size rest
-aimed_sized source.Nothing t n is_byte value rest inner h = omega arith
-aimed_sized (source.Variable x width.Word) t n is_byte value rest inner h = omega (arith, set_sized value)
-aimed_sized (source.Variable x width.Byte) t n true value rest inner h = omega (arith, set_sized value)
-aimed_sized (source.Variable x width.Byte) t n false value rest inner h = omega arith
-aimed_sized (source.Memory w access p i) t n is_byte value rest inner h =
-    let last = marked access.through p t inner in
-    omega (
-      arith,
-      reached_sized access.through access p i t last (λ rest. expr_sized p t rest) (λ rest. expr_sized i (t + 1) rest),
-      marked_sized access.through p t inner,
-      guard_sized access.through,
-      stored_sized access.through access.at w is_byte t (t + target_count (source.Memory w access p i)) (reached_place access p i t) value rest,
-      h,
-    )
-
-assigned_sized : (target : source.Target) (e : source.Expr) (t : ℕ) (rest : Code)
-    → code_size (aim_code target t (operand_code e (t + target_count target) (written target t (is_narrow e) (operand e (t + target_count target)) rest)))
-    ≤ 22 + 60 * target_nodes target + 60 * expr_nodes e + code_size rest
-assigned_sized target e t rest =
-    let u = t + target_count target in
-    let after = written target t (is_narrow e) (operand e u) rest in
-    aimed_sized target t (60 * expr_nodes e) (is_narrow e) (operand e u) rest (operand_code e u after) (omega (arith, operand_sized e u after))
-
-there_sized : (target : source.Target) (t n u : ℕ) (rest inner : Code) → code_size inner ≤ n + code_size (allowed_code target t (written_there target t (Local u) rest))
-    → code_size (aim_code target t (fixed target t inner)) ≤ 22 + 60 * target_nodes target + n + code_size rest
-there_sized source.Nothing t n u rest inner h = omega arith
-there_sized (source.Variable x width.Word) t n u rest inner h = omega arith
-there_sized (source.Variable x width.Byte) t n u rest inner h = omega arith
-there_sized (source.Memory w access p i) t n u rest inner h =
-    let place = reached_place access p i t in
-    let set = Set t place inner in
-    let last = marked access.through p t set in
-    omega (
-      arith,
-      set_sized place,
-      reached_sized access.through access p i t last (λ rest. expr_sized p t rest) (λ rest. expr_sized i (t + 1) rest),
-      marked_sized access.through p t set,
-      guard_sized access.through,
-      guarded_sized access.through access.at w false t (t + target_count (source.Memory w access p i)) (Store w (Local t) (Local u) rest),
-      h,
-    )
-
-right_sized : (target : source.Target) (right : source.Right) (t : ℕ) (rest : Code)
-    → code_size (right_assigned target right t rest) ≤ 54 + 60 * target_nodes target + 60 * right_nodes right + code_size rest
-right_sized source.Nothing (source.Value e) t rest = omega (arith, expr_sized e t rest)
-right_sized (source.Variable x w) (source.Value e) t rest = omega (arith, assigned_sized (source.Variable x w) e t rest)
-right_sized (source.Memory w access p i) (source.Value e) t rest = omega (arith, assigned_sized (source.Memory w access p i) e t rest)
-right_sized target (source.Fresh to e) t rest =
-    let u = t + target_count target in
-    let alloc = Code.Alloc u (operand e u) to.size (allowed_code target t (written_there target t (Local u) rest)) in
-    omega (arith, there_sized target t (60 * expr_nodes e + 32) u rest (operand_code e u alloc) (omega (arith, operand_sized e u alloc)))
-
--- the place and the value of an assignment in a bundle, and the write
-aim_fixed_sized : (target : source.Target) (t u : ℕ) (inner rest : Code)
-    → code_size (aim_code target t (fixed target t inner)) + allow_size target + code_size (written_there target t (Local u) rest) ≤ 22 + 60 * target_nodes target + code_size inner + code_size rest
-aim_fixed_sized source.Nothing t u inner rest = omega arith
-aim_fixed_sized (source.Variable x width.Word) t u inner rest = omega arith
-aim_fixed_sized (source.Variable x width.Byte) t u inner rest = omega arith
-aim_fixed_sized (source.Memory w access p i) t u inner rest =
-    let place = reached_place access p i t in
-    let set = Set t place inner in
-    let last = marked access.through p t set in
-    omega (
-      arith,
-      set_sized place,
-      reached_sized access.through access p i t last (λ rest. expr_sized p t rest) (λ rest. expr_sized i (t + 1) rest),
-      marked_sized access.through p t set,
-      guard_sized access.through,
-    )
-
-valued_sized : (right : source.Right) (u : ℕ) (rest : Code) → code_size (valued right u rest) ≤ 42 + 60 * right_nodes right + code_size rest
-valued_sized (source.Value e) u rest = omega (arith, expr_sized e u rest)
-valued_sized (source.Fresh to e) u rest = omega (arith, operand_sized e u (Code.Alloc u (operand e u) to.size rest))
-
-bundle_sized : (assigns : List (source.Target × source.Right)) (t : ℕ) (inner rest : Code)
-    → code_size (plans_code assigns t inner) + code_size (writes_code assigns t rest) ≤ 64 * assigns_nodes assigns + code_size inner + code_size rest
-bundle_sized [] t inner rest = omega arith
-bundle_sized (a ∷ assigns) t inner rest =
-    let next = behind_planned a.0 t in
-    let u = t + target_count a.0 in
-    let plans = plans_code assigns next inner in
-    let last = allowed_code a.0 t plans in
-    omega (
-      arith,
-      aim_fixed_sized a.0 t u (valued a.1 u last) (writes_code assigns next rest),
-      valued_sized a.1 u last,
-      allowed_sized a.0 t plans,
-      bundle_sized assigns next inner rest,
-    )
-
-result_sized : (target : Option Kept) (t : ℕ) (rest : Code) → code_size (result_kept target t rest) ≤ 16 + code_size rest
-result_sized None t rest = omega arith
-result_sized (Some (kept.Local x width.Byte)) t rest = omega arith
-result_sized (Some (kept.Local x width.Word)) t rest = omega arith
-result_sized (Some (kept.Static a w)) t rest = omega arith
-
-statements_sized : (t : ℕ) (code : source.Code) → code_size (statements t code) ≤ 64 * code_nodes code + 2
-statements_sized t source.End = omega arith
-statements_sized t (source.Assign spot target right rest) =
-    omega (arith, right_sized target right t (statements t rest), statements_sized t rest)
-statements_sized t (source.Bundle spot assigns rest) =
-    let writes = writes_code assigns t (statements t rest) in
-    omega (arith, bundle_sized assigns t writes (statements t rest), statements_sized t rest)
-statements_sized t (source.Get spot target rest) =
-    let u = t + target_count target in
-    let after = written target t false (Local u) (statements t rest) in
-    omega (arith, aimed_sized target t 6 false (Local u) (statements t rest) (Code.Get u after) (omega arith), statements_sized t rest)
-statements_sized t (source.Put spot target e rest) =
-    let u = t + target_count target in
-    let after = written target t true (low_byte (operand e u)) (statements t rest) in
-    let put = Code.Put (operand e u) after in
-    omega (
-      arith,
-      aimed_sized target t (60 * expr_nodes e + 23) true (low_byte (operand e u)) (statements t rest) (operand_code e u put) (omega (arith, operand_sized e u put)),
-      statements_sized t rest,
-    )
-statements_sized t (source.Call spot target callee es rest) =
-    let after = result_kept target t (statements t rest) in
-    let call = Code.Call (result_in target t) callee (operands es t) spot.at after in
-    omega (arith, operands_sized es t call, result_sized target t (statements t rest), statements_sized t rest)
-statements_sized t (source.If spot e one two rest) =
-    let after = Code.If (operand e t) (statements t one) (statements t two) (statements t rest) in
-    omega (arith, operand_sized e t after, statements_sized t one, statements_sized t two, statements_sized t rest)
-statements_sized t (source.Loop spot e body step rest) =
-    let after = Code.If (operand e t) End (Code.Break End) (statements t body) in
-    omega (arith, operand_sized e t after, statements_sized t body, statements_sized t step, statements_sized t rest)
-statements_sized t (source.Break rest) = omega (arith, statements_sized t rest)
-statements_sized t (source.Continue rest) = omega (arith, statements_sized t rest)
-statements_sized t (source.Return spot e rest) =
-    omega (arith, operand_sized e t (Code.Return (operand e t) (statements t rest)), statements_sized t rest)
-statements_sized t (source.Check spot e rest) =
-    omega (arith, operand_sized e t (Check check.Dynamic spot.at (operand e t) (statements t rest)), statements_sized t rest)
-
-zeroed_sized : (x count : ℕ) (rest : Code) → code_size (zeroed x count rest) ≤ 5 * count + code_size rest
-zeroed_sized x zero rest = omega arith
-zeroed_sized x (suc count) rest = omega (arith, zeroed_sized (x + 1) count rest)
-
-function_sized : (f : source.Function) → function_size (function_code f) ≤ 64 * function_nodes f
-function_sized f =
-    omega (arith, zeroed_sized f.params (f.locals - f.params) (statements f.locals f.body), statements_sized f.locals f.body)
-
-functions_sized : (fs : List source.Function) → sum_by function_size (map function_code fs) ≤ 64 * sum_by function_nodes fs
-functions_sized [] = omega arith
-functions_sized (f ∷ fs) =
-    omega (arith, function_sized f, functions_sized fs, sum_by-cons function_size (function_code f) (map function_code fs), sum_by-cons function_nodes f fs)
-
--- the core code has at most 64 instructions for each node
-pub inserted_sized : (p : source.Program) → program_size (inserted p) ≤ 64 * program_nodes p
-inserted_sized p = functions_sized p.functions

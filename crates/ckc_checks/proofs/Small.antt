@@ -1,6 +1,6 @@
 -- What is inserted keeps the limits of core code.
 use Rattle.std.proofs.Common.{ℕ, zero, suc, ◌+◌, ◌-◌, ◌*◌, ◌≤◌, List, [], ◌∷◌, length, arith}
-use Rattle.std.specs.Prelude.{ℤ, Bool, true, false, ◌==◌, if◌then◌else◌, max, Option, Some, None, slice_get, All}
+use Rattle.std.specs.Prelude.{ℤ, Bool, true, false, not, ◌&&◌, ◌||◌, ◌==◌, if◌then◌else◌, max, Option, Some, None, slice_get, All}
 use Rattle.std.proofs.lemmas.List.Elements.{All-nil, All-cons, All-head, All-tail, All-map, All-weaker}
 use Rattle.ckc_base.specs.declared.arithmetic.Width.{Width}
 use Rattle.ckc_base.specs.declared.arithmetic.Width.TheVariants as width
@@ -23,12 +23,15 @@ use Rattle.ckc_source.specs.declared.stmt.Kept.{Kept}
 use Rattle.ckc_source.specs.declared.stmt.Kept.TheVariants as kept
 use Rattle.ckc_source.specs.Code as source
 use Rattle.ckc_base.specs.Words.{word_of}
-use Rattle.ckc_source.specs.Words.{divides}
+use Rattle.ckc_source.specs.Words.{divides, width_of}
 use Rattle.ckc_core.specs.Code.{Expr, Const, Local, Load, Bin, Code, End, Set, Store, Check}
 use Rattle.ckc_core.specs.Limits.{depth, IsShallow, KeepsLimits, IsSmallFunction, IsWithinLimits}
 use Rattle.ckc_checks.specs.Compilable as form
 use Rattle.ckc_checks.specs.Compilable.{IsCompilablePart, IsCompilableTarget, IsCompilableRight, IsCompilableAssign, IsCompilableCode, IsCompilableFunction, IsCompilable}
-use Rattle.ckc_checks.specs.Inserted.{is_direct, operated, low_byte, as_truth, is_zero, scaled, shifted, at_offset, element_of, place_at, held, put_if, room_if, keeps_index, is_bounded, reads_signed, exact_test, exact_code, base_at, amount_at, end_at, static_place, counted_end, range_end, range_test, bounded_code, judged, pointer_at, index_at, reached_code, reached_place, direct, operand, operation_code, expr_code, operand_code, operands_code, operands, expr_room, operand_room, operands_room, is_narrow, marked, aim_code, target_count, guarded, stored_code, written, fixed, allowed_code, written_there, right_assigned, valued, behind_planned, plans_code, writes_code, aimed_room, assigned_room, valued_room, bundle_room, result_kept, statements, room, zeroed, function_code, inserted}
+use Rattle.ckc_checks.specs.Inserted.{is_direct, operated, low_byte, as_truth, is_zero, scaled, shifted, at_offset, element_of, place_at, held, put_if, room_if, keeps_index, is_bounded, reads_signed, exact_test, exact_code, base_at, amount_at, end_at, static_place, counted_end, range_end, range_test, bounded_code, judged, pointer_at, index_at, reached_place, direct, operand, operation_code, expr_code, operand_code, operands_code, operands, operand_room, operands_room, is_narrow, marked, aim_code, target_count, guarded, stored_code, written, fixed, allowed_code, written_there, right_assigned, valued, behind_planned, plans_code, writes_code, aimed_room, assigned_room, valued_room, bundle_room, result_kept, statements, room, zeroed, function_code, inserted, is_ranged, takes_range, casts_one, index_far, index_in, held_test, bounds_test, reached_element, access_code, access_room, value_room, range_room, value_code, with_range, no_range, length_at, pointer_code, is_natural, cast_test, tested_code, trusted_range, moved_range}
+use Rattle.ckc_source.specs.declared.expr.Integer.{Integer}
+use Rattle.ckc_source.specs.declared.expr.Integer.TheVariants as integer
+use Rattle.ckc_source.specs.declared.expr.Limits.{Limits}
 use Rattle.ckc_checks.proofs.Formed.{length-operands}
 
 -- ---- expressions
@@ -104,6 +107,29 @@ range_depth : (last : Bool) (p : source.Expr) (t : ℕ) → depth (range_test la
 range_depth true p t = omega (arith, range_end_depth false p, range_end_depth true p)
 range_depth false p t = omega (arith, range_end_depth false p, range_end_depth true p)
 
+held_test_depth : (last : Bool) (t : ℕ) → depth (held_test last t) ≤ 1000
+held_test_depth true t = omega arith
+held_test_depth false t = omega arith
+
+bounds_depth : (last b : Bool) (p : source.Expr) (t : ℕ) → depth (if b then range_test last p (Local t) else held_test last t) ≤ 1000
+bounds_depth last true p t = range_depth last p t
+bounds_depth last false p t = held_test_depth last t
+
+length_depth : (size : ℕ) (count : Count) (u : ℕ) → depth (length_at size count u) ≤ 1000
+length_depth size (counts.Fixed n) u = omega arith
+length_depth size (counts.Member offset how add) u =
+    let place = at_offset offset (Local u) in
+    let member = Load (width_of how) place in
+    omega (arith, scaled_depth size (at_offset (word_of add) member), at_offset_depth (word_of add) member, at_offset_depth offset (Local u))
+
+natural_depth : (how : Integer) (k : Expr) → depth (is_natural how k) ≤ 1 + max 1 (depth k)
+natural_depth integer.Int k = omega arith
+natural_depth integer.Unsigned k = omega arith
+natural_depth integer.Char k = omega arith
+
+cast_depth : (size : ℕ) (how : Integer) (k : Expr) (t : ℕ) → depth k ≤ 800 → depth (Bin binary.Or (Bin binary.Eq (Local t) (Const 0)) (cast_test size how k t)) ≤ 1000
+cast_depth size how k t h = omega (arith, natural_depth how k)
+
 some_depth : (e : source.Expr) → 1 ≤ form.depth e
 some_depth (source.Number n) = omega arith
 some_depth e = omega arith
@@ -150,14 +176,14 @@ operation_small o s at a b t rest x y k =
     let divisor : depth b ≤ 1000 = omega arith in
     unless_small (divides o) (Set t value rest) (Check check.Divide at b (Set t value rest)) (value_small, k) (divisor, (value_small, k))
 
-put_small : (always : Bool) (e : source.Expr) (t : ℕ) (rest : Code) → ((rest : Code) → KeepsLimits rest → KeepsLimits (expr_code e t rest)) → KeepsLimits rest
-    → KeepsLimits (put_if always e (expr_code e t) rest)
-put_small true e t rest h k = h rest k
-put_small false e t rest h k = operand_step e t rest (h rest k) k
+put_small : (r always : Bool) (e : source.Expr) (t : ℕ) (rest : Code) → ((rest : Code) → KeepsLimits rest → KeepsLimits (value_code r e t rest)) → KeepsLimits rest
+    → KeepsLimits (put_if always e (value_code r e t) rest)
+put_small r true e t rest h k = h rest k
+put_small r false e t rest h k = unless_small (is_direct e) (value_code r e t rest) rest (h rest k) k
 
 bounded_small : (last : Bool) (access : Access) (p : source.Expr) (i : Expr) (t : ℕ) (rest : Code) → depth i ≤ 800 → KeepsLimits rest → KeepsLimits (bounded_code last access p i t rest)
 bounded_small last access p i t rest h k =
-    let within : KeepsLimits (Check check.Bounds access.at (range_test last p (Local t)) rest) = (range_depth last p t, k) in
+    let within : KeepsLimits (Check check.Bounds access.at (bounds_test last p t) rest) = (bounds_depth last (is_ranged p) p t, k) in
     let step : depth (shifted false access.size (Local t) i) ≤ 1000 = omega (arith, shifted_depth false access.size (Local t) i) in
     let exact : depth (exact_test false (reads_signed access.index) access.size (Local t) i) ≤ 1000 =
     omega (arith, exact_depth false (reads_signed access.index) access.size (Local t) i) in
@@ -173,17 +199,44 @@ judged_small Terminated access p a i t rest x y k = bounded_small true access p 
 
 -- what finds an access, and then the rest
 reached_small : (p i : source.Expr) (t : ℕ) (access : Access) (rest : Code) → form.depth p ≤ 200 → form.depth i ≤ 200 → KeepsLimits rest
-    → ((rest : Code) → KeepsLimits rest → KeepsLimits (expr_code p t rest)) → ((rest : Code) → KeepsLimits rest → KeepsLimits (expr_code i (t + 1) rest))
-    → KeepsLimits (reached_code access p i (expr_code p t) (expr_code i (t + 1)) t rest)
+    → ((rest : Code) → KeepsLimits rest → KeepsLimits (value_code (takes_range access.through p) p t rest))
+    → ((rest : Code) → KeepsLimits rest → KeepsLimits (value_code false i (index_in access p t) rest))
+    → KeepsLimits (access_code access p i t rest)
 reached_small p i t access rest pointer index k on_p on_i =
     let checked = is_bounded access.through in
-    put_small checked p t _ on_p (put_small (keeps_index checked i) i (t + 1) _ on_i
-    (judged_small access.through access p (pointer_at access p t) (index_at access i (t + 1)) t rest (held_depth checked p t pointer) (held_depth (keeps_index checked i) i (t + 1) index) k))
+    let u = index_in access p t in
+    put_small (takes_range access.through p) checked p t _ on_p (put_small false (keeps_index checked i) i u _ on_i
+    (judged_small access.through access p (pointer_at access p t) (index_at access i u) t rest (held_depth checked p t pointer) (held_depth (keeps_index checked i) i u index) k))
+
+element_reached : (access : Access) (p i : source.Expr) (t : ℕ) → form.depth p ≤ 200 → form.depth i ≤ 200 → depth (reached_element access p i t) ≤ 850
+element_reached access p i t pointer index =
+    let checked = is_bounded access.through in
+    let u = index_in access p t in
+    omega (arith, element_depth access.through access.size (pointer_at access p t) (index_at access i u), held_depth checked p t pointer, held_depth (keeps_index checked i) i u index)
 
 reached_depth : (access : Access) (p i : source.Expr) (t : ℕ) → form.depth p ≤ 200 → form.depth i ≤ 200 → depth (reached_place access p i t) ≤ 900
 reached_depth access p i t pointer index =
-    let checked = is_bounded access.through in
-    omega (arith, place_depth access (pointer_at access p t) (index_at access i (t + 1)), held_depth checked p t pointer, held_depth (keeps_index checked i) i (t + 1) index)
+    omega (arith, at_offset_depth access.offset (reached_element access p i t), element_reached access p i t pointer index)
+
+with_range_small : (r : Bool) (t : ℕ) (low length : Expr) (rest : Code) → depth low ≤ 1000 → depth length ≤ 1000 → KeepsLimits rest → KeepsLimits (with_range r t low length rest)
+with_range_small true t low size rest x y k = (x, (y, k))
+with_range_small false t low size rest x y k = k
+
+no_range_small : (r : Bool) (t : ℕ) (rest : Code) → KeepsLimits rest → KeepsLimits (no_range r t rest)
+no_range_small r t rest k = with_range_small r t (Const 0) (Const 0) rest (omega arith) (omega arith) k
+
+pointer_small : (r : Bool) (size : ℕ) (count : Count) (offset : ℕ) (element place : Expr) (t : ℕ) (rest : Code) → depth element ≤ 850 → depth place ≤ 900 → KeepsLimits rest
+    → KeepsLimits (pointer_code r size count offset element place t rest)
+pointer_small true size count offset element place t rest x y k =
+    (omega arith, (omega (arith, at_offset_depth offset (Local (t + 1))), (length_depth size count (t + 1), (omega arith, k))))
+pointer_small false size count offset element place t rest x y k = (omega arith, k)
+
+trusted_small : (r : Bool) (size : ℕ) (c : Expr) (t : ℕ) (rest : Code) → depth c ≤ 800 → KeepsLimits rest → KeepsLimits (trusted_range r size c t rest)
+trusted_small true size c t rest h k = (omega (arith, scaled_depth size c), (omega arith, k))
+trusted_small false size c t rest h k = k
+
+tested_small : (size : ℕ) (how : Integer) (at : Pos) (c : Expr) (t : ℕ) (rest : Code) → depth c ≤ 800 → KeepsLimits rest → KeepsLimits (tested_code size how at c t rest)
+tested_small size how at c t rest h k = (cast_depth size how c t h, (omega (arith, scaled_depth size c), (omega arith, k)))
 
 moved_small : (shift : Shift) (checked : Bool) (a i : Expr) (t : ℕ) (rest : Code) → depth a ≤ 800 → depth i ≤ 800 → KeepsLimits rest
     → KeepsLimits (let there = Set t (shifted shift.back shift.size a i) rest in if checked then exact_code shift a i there else there)
@@ -194,114 +247,182 @@ moved_small shift true a i t rest x y k =
     (omega arith, unless_small (is_zero i) _ _ (exact, (step, k)) (step, k))
 moved_small shift false a i t rest x y k = (omega (arith, shifted_depth shift.back shift.size a i), k)
 
-expr_small : (e : source.Expr) (t : ℕ) (rest : Code) → form.depth e ≤ 200 → KeepsLimits rest → KeepsLimits (expr_code e t rest)
-expr_small (source.Binary o s at a b) t rest h k =
+limits_small : (r : Bool) (x : ℕ) (limits : Limits) (t : ℕ) (rest : Code) → KeepsLimits rest
+    → KeepsLimits (with_range r t (end_at x limits.to.size limits.lower) (Bin binary.Sub (end_at x limits.to.size limits.upper) (Local (t + 1))) rest)
+limits_small r x limits t rest k =
+    with_range_small r t (end_at x limits.to.size limits.lower) (Bin binary.Sub (end_at x limits.to.size limits.upper) (Local (t + 1))) rest
+    (omega (arith, end_depth x limits.to.size limits.lower)) (omega (arith, end_depth x limits.to.size limits.upper)) k
+
+cast_small : (one : Bool) (size : ℕ) (how : Integer) (at : Pos) (p c : source.Expr) (t : ℕ) (rest : Code) → form.depth c ≤ 200
+    → ((rest : Code) → KeepsLimits rest → KeepsLimits (value_code false p t rest)) → ((rest : Code) → KeepsLimits rest → KeepsLimits (value_code true p t rest))
+    → ((rest : Code) → KeepsLimits rest → KeepsLimits (value_code false c (t + 3) rest)) → KeepsLimits rest
+    → KeepsLimits (if one then value_code false p t rest
+    else value_code true p t (put_if (keeps_index true c) c (value_code false c (t + 3)) (tested_code size how at (held (keeps_index true c) c (t + 3)) t rest)))
+cast_small true size how at p c t rest count plain on_p on_c k = plain rest k
+cast_small false size how at p c t rest count plain on_p on_c k =
+    let keeps = keeps_index true c in
+    on_p _ (put_small false keeps c (t + 3) _ on_c (tested_small size how at (held keeps c (t + 3)) t rest (held_depth keeps c (t + 3) count) k))
+
+value_small : (r : Bool) (e : source.Expr) (t : ℕ) (rest : Code) → form.depth e ≤ 200 → KeepsLimits rest → KeepsLimits (value_code r e t rest)
+value_small r (source.Binary o s at a b) t rest h k =
     let left : form.depth a ≤ 200 = omega arith in
     let right : form.depth b ≤ 200 = omega arith in
-    let after = operation_code o s at (operand a t) (operand b (t + 1)) t rest in
-    let after_small = operation_small o s at (operand a t) (operand b (t + 1)) t rest (operand_depth a t left) (operand_depth b (t + 1) right) k in
+    let last = no_range r t rest in
+    let after = operation_code o s at (operand a t) (operand b (t + 1)) t last in
+    let after_small = operation_small o s at (operand a t) (operand b (t + 1)) t last (operand_depth a t left) (operand_depth b (t + 1) right) (no_range_small r t rest k) in
     let second = operand_code b (t + 1) after in
-    let second_small = operand_step b (t + 1) after (expr_small b (t + 1) after right after_small) after_small in
-    operand_step a t second (expr_small a t second left second_small) second_small
-expr_small (source.And a b) t rest h k =
+    let second_small = operand_step b (t + 1) after (value_small false b (t + 1) after right after_small) after_small in
+    operand_step a t second (value_small false a t second left second_small) second_small
+value_small r (source.And a b) t rest h k =
     let left : form.depth a ≤ 200 = omega arith in
     let right : form.depth b ≤ 200 = omega arith in
     let set = Set t (as_truth (operand b t)) End in
     let set_small : KeepsLimits set = (omega (arith, operand_depth b t right), tt) in
-    let after = Code.If (operand a t) (operand_code b t set) (Set t (Const 0) End) rest in
-    let after_small : KeepsLimits after = (omega (arith, operand_depth a t left), operand_step b t set (expr_small b t set right set_small) set_small, (omega arith, tt), k) in
-    operand_step a t after (expr_small a t after left after_small) after_small
-expr_small (source.Or a b) t rest h k =
+    let after = Code.If (operand a t) (operand_code b t set) (Set t (Const 0) End) (no_range r t rest) in
+    let after_small : KeepsLimits after =
+    (omega (arith, operand_depth a t left), operand_step b t set (value_small false b t set right set_small) set_small, (omega arith, tt), no_range_small r t rest k) in
+    operand_step a t after (value_small false a t after left after_small) after_small
+value_small r (source.Or a b) t rest h k =
     let left : form.depth a ≤ 200 = omega arith in
     let right : form.depth b ≤ 200 = omega arith in
     let set = Set t (as_truth (operand b t)) End in
     let set_small : KeepsLimits set = (omega (arith, operand_depth b t right), tt) in
-    let after = Code.If (operand a t) (Set t (Const 1) End) (operand_code b t set) rest in
-    let after_small : KeepsLimits after = (omega (arith, operand_depth a t left), (omega arith, tt), operand_step b t set (expr_small b t set right set_small) set_small, k) in
-    operand_step a t after (expr_small a t after left after_small) after_small
-expr_small (source.Choice c a b) t rest h k =
+    let after = Code.If (operand a t) (Set t (Const 1) End) (operand_code b t set) (no_range r t rest) in
+    let after_small : KeepsLimits after =
+    (omega (arith, operand_depth a t left), (omega arith, tt), operand_step b t set (value_small false b t set right set_small) set_small, no_range_small r t rest k) in
+    operand_step a t after (value_small false a t after left after_small) after_small
+value_small r (source.Choice c a b) t rest h k =
     let first : form.depth c ≤ 200 = omega arith in
     let second : form.depth a ≤ 200 = omega arith in
     let third : form.depth b ≤ 200 = omega arith in
-    let after = Code.If (operand c t) (expr_code a t End) (expr_code b t End) rest in
-    let after_small : KeepsLimits after = (omega (arith, operand_depth c t first), expr_small a t End second tt, expr_small b t End third tt, k) in
-    operand_step c t after (expr_small c t after first after_small) after_small
-expr_small (source.Narrow e) t rest h k =
+    let after = Code.If (operand c t) (value_code r a t End) (value_code r b t End) rest in
+    let after_small : KeepsLimits after = (omega (arith, operand_depth c t first), value_small r a t End second tt, value_small r b t End third tt, k) in
+    operand_step c t after (value_small false c t after first after_small) after_small
+value_small r (source.Narrow e) t rest h k =
     let inner : form.depth e ≤ 200 = omega arith in
-    let after = Set t (low_byte (operand e t)) rest in
-    let after_small : KeepsLimits after = (omega (arith, operand_depth e t inner), k) in
-    operand_step e t after (expr_small e t after inner after_small) after_small
-expr_small (source.Load w access p i) t rest h k =
+    let after = Set t (low_byte (operand e t)) (no_range r t rest) in
+    let after_small : KeepsLimits after = (omega (arith, operand_depth e t inner), no_range_small r t rest k) in
+    operand_step e t after (value_small false e t after inner after_small) after_small
+value_small r (source.Load w access p i) t rest h k =
     let pointer : form.depth p ≤ 200 = omega arith in
     let index : form.depth i ≤ 200 = omega arith in
-    reached_small p i t access (Set t (Load w (reached_place access p i t)) rest) pointer index (omega (arith, reached_depth access p i t pointer index), k)
-    (λ rest k. expr_small p t rest pointer k) (λ rest k. expr_small i (t + 1) rest index k)
-expr_small (source.Member to count access p i) t rest h k =
+    reached_small p i t access (Set t (Load w (reached_place access p i t)) (no_range r t rest)) pointer index
+    (omega (arith, reached_depth access p i t pointer index), no_range_small r t rest k)
+    (λ rest k. value_small (takes_range access.through p) p t rest pointer k) (λ rest k. value_small false i (index_in access p t) rest index k)
+value_small r (source.Member to count access p i) t rest h k =
     let pointer : form.depth p ≤ 200 = omega arith in
     let index : form.depth i ≤ 200 = omega arith in
-    reached_small p i t access (Set t (Load width.Word (reached_place access p i t)) rest) pointer index (omega (arith, reached_depth access p i t pointer index), k)
-    (λ rest k. expr_small p t rest pointer k) (λ rest k. expr_small i (t + 1) rest index k)
-expr_small (source.Address bytes access p i) t rest h k =
+    let element = reached_element access p i t in
+    let place = reached_place access p i t in
+    reached_small p i t access (pointer_code r to.size count access.offset element place t rest) pointer index
+    (pointer_small r to.size count access.offset element place t rest (element_reached access p i t pointer index) (reached_depth access p i t pointer index) k)
+    (λ rest k. value_small (takes_range access.through p) p t rest pointer k) (λ rest k. value_small false i (index_in access p t) rest index k)
+value_small r (source.Address bytes access p i) t rest h k =
     let pointer : form.depth p ≤ 200 = omega arith in
     let index : form.depth i ≤ 200 = omega arith in
-    reached_small p i t access (Set t (reached_place access p i t) rest) pointer index (omega (arith, reached_depth access p i t pointer index), k)
-    (λ rest k. expr_small p t rest pointer k) (λ rest k. expr_small i (t + 1) rest index k)
-expr_small (source.Moved shift p i) t rest h k =
+    reached_small p i t access (Set t (reached_place access p i t) (with_range r t (Local t) (Const bytes) rest)) pointer index
+    (omega (arith, reached_depth access p i t pointer index), with_range_small r t (Local t) (Const bytes) rest (omega arith) (omega arith) k)
+    (λ rest k. value_small (takes_range access.through p) p t rest pointer k) (λ rest k. value_small false i (index_in access p t) rest index k)
+value_small r (source.Moved shift p i) t rest h k =
     let pointer : form.depth p ≤ 200 = omega arith in
     let index : form.depth i ≤ 200 = omega arith in
-    put_small shift.checked p t _ (λ rest k. expr_small p t rest pointer k) (put_small (keeps_index shift.checked i) i (t + 1) _ (λ rest k. expr_small i (t + 1) rest index k)
-    (moved_small shift shift.checked (held shift.checked p t) (held (keeps_index shift.checked i) i (t + 1)) t rest (held_depth shift.checked p t pointer) (held_depth (keeps_index shift.checked i) i (t + 1) index) k))
-expr_small (source.Added shift i p) t rest h k =
+    let holds = r || shift.checked in
+    let keeps = keeps_index shift.checked i in
+    let u = t + index_far r in
+    put_small r holds p t _ (λ rest k. value_small r p t rest pointer k) (put_small false keeps i u _ (λ rest k. value_small false i u rest index k)
+    (moved_small shift shift.checked (held holds p t) (held keeps i u) t rest (held_depth holds p t pointer) (held_depth keeps i u index) k))
+value_small r (source.Added shift i p) t rest h k =
     let pointer : form.depth p ≤ 200 = omega arith in
     let index : form.depth i ≤ 200 = omega arith in
-    put_small (keeps_index shift.checked i) i t _ (λ rest k. expr_small i t rest index k) (put_small shift.checked p (t + 1) _ (λ rest k. expr_small p (t + 1) rest pointer k)
-    (moved_small shift shift.checked (held shift.checked p (t + 1)) (held (keeps_index shift.checked i) i t) t rest (held_depth shift.checked p (t + 1) pointer) (held_depth (keeps_index shift.checked i) i t index) k))
-expr_small (source.Bare p) t rest h k = expr_small p t rest (omega arith) k
-expr_small (source.Tested size how at p k) t rest h small = expr_small p t rest (omega arith) small
-expr_small (source.Trusted to how p k) t rest h small =
-    let count : form.depth k ≤ 200 = omega arith in
-    let second = operand_code k (t + 1) rest in
-    expr_small p t second (omega arith) (operand_step k (t + 1) rest (expr_small k (t + 1) rest count small) small)
-expr_small e t rest h k = (omega arith, k)
+    let holds = r || shift.checked in
+    let keeps = keeps_index shift.checked i in
+    put_small false keeps i t _ (λ rest k. value_small false i t rest index k) (put_small r holds p (t + 1) _ (λ rest k. value_small r p (t + 1) rest pointer k)
+    (moved_small shift shift.checked (held holds p (t + 1)) (held keeps i t) t (moved_range r t rest) (held_depth holds p (t + 1) pointer) (held_depth keeps i t index)
+    (with_range_small r t (Local (t + 2)) (Local (t + 3)) rest (omega arith) (omega arith) k)))
+value_small r (source.Bare p) t rest h k = value_small false p t (no_range r t rest) (omega arith) (no_range_small r t rest k)
+value_small r (source.Tested size how at p c) t rest h small =
+    let pointer : form.depth p ≤ 200 = omega arith in
+    let count : form.depth c ≤ 200 = omega arith in
+    cast_small (not r && casts_one size p c) size how at p c t rest count (λ rest k. value_small false p t rest pointer k) (λ rest k. value_small true p t rest pointer k)
+    (λ rest k. value_small false c (t + 3) rest count k) small
+value_small r (source.Trusted to how p c) t rest h small =
+    let count : form.depth c ≤ 200 = omega arith in
+    let last = trusted_range r to.size (operand c (t + 1)) t rest in
+    let last_small = trusted_small r to.size (operand c (t + 1)) t rest (operand_depth c (t + 1) count) small in
+    let second = operand_code c (t + 1) last in
+    value_small false p t second (omega arith) (operand_step c (t + 1) last (value_small false c (t + 1) last count last_small) last_small)
+value_small r (source.Number n) t rest h k = (omega arith, no_range_small r t rest k)
+value_small r (source.Local x) t rest h k = (omega arith, no_range_small r t rest k)
+value_small r (source.Limited x limits) t rest h k = (omega arith, limits_small r x limits t rest k)
+value_small r (source.Array at bytes) t rest h k = (omega arith, with_range_small r t (Const at) (Const bytes) rest (omega arith) (omega arith) k)
+
+expr_small : (e : source.Expr) (t : ℕ) (rest : Code) → form.depth e ≤ 200 → KeepsLimits rest → KeepsLimits (expr_code e t rest)
+expr_small e t rest h k = value_small false e t rest h k
 
 operand_small : (e : source.Expr) (t : ℕ) (rest : Code) → form.depth e ≤ 200 → KeepsLimits rest → KeepsLimits (operand_code e t rest)
 operand_small e t rest h k = operand_step e t rest (expr_small e t rest h k) k
 
-if_few : (always : Bool) (e : source.Expr) (n : ℕ) → expr_room e ≤ n → room_if always e (expr_room e) ≤ n
-if_few true e n h = h
-if_few false e n h = by_few (is_direct e) (expr_room e) n h
+if_few : (always : Bool) (e : source.Expr) (room n : ℕ) → room ≤ n → room_if always e room ≤ n
+if_few true e room n h = h
+if_few false e room n h = by_few (is_direct e) room n h
 
-expr_room_few : (e : source.Expr) → expr_room e ≤ form.depth e
-expr_room_few (source.Binary o s at a b) =
-    omega (arith, by_few (is_direct a) (expr_room a) (form.depth a) (expr_room_few a), by_few (is_direct b) (expr_room b) (form.depth b) (expr_room_few b))
-expr_room_few (source.And a b) =
-    omega (arith, by_few (is_direct a) (expr_room a) (form.depth a) (expr_room_few a), by_few (is_direct b) (expr_room b) (form.depth b) (expr_room_few b))
-expr_room_few (source.Or a b) =
-    omega (arith, by_few (is_direct a) (expr_room a) (form.depth a) (expr_room_few a), by_few (is_direct b) (expr_room b) (form.depth b) (expr_room_few b))
-expr_room_few (source.Choice c a b) =
-    omega (arith, by_few (is_direct c) (expr_room c) (form.depth c) (expr_room_few c), expr_room_few a, expr_room_few b)
-expr_room_few (source.Load w access p i) =
-    let checked = is_bounded access.through in
-    omega (arith, if_few checked p (form.depth p) (expr_room_few p), if_few (keeps_index checked i) i (form.depth i) (expr_room_few i))
-expr_room_few (source.Member to count access p i) =
-    let checked = is_bounded access.through in
-    omega (arith, if_few checked p (form.depth p) (expr_room_few p), if_few (keeps_index checked i) i (form.depth i) (expr_room_few i))
-expr_room_few (source.Address bytes access p i) =
-    let checked = is_bounded access.through in
-    omega (arith, if_few checked p (form.depth p) (expr_room_few p), if_few (keeps_index checked i) i (form.depth i) (expr_room_few i))
-expr_room_few (source.Moved shift p i) =
-    omega (arith, if_few shift.checked p (form.depth p) (expr_room_few p), if_few (keeps_index shift.checked i) i (form.depth i) (expr_room_few i))
-expr_room_few (source.Added shift i p) =
-    omega (arith, if_few shift.checked p (form.depth p) (expr_room_few p), if_few (keeps_index shift.checked i) i (form.depth i) (expr_room_few i))
-expr_room_few (source.Bare p) = omega (arith, expr_room_few p)
-expr_room_few (source.Tested size how at p k) = omega (arith, expr_room_few p)
-expr_room_few (source.Trusted to how p k) =
-    omega (arith, expr_room_few p, by_few (is_direct k) (expr_room k) (form.depth k) (expr_room_few k))
-expr_room_few (source.Narrow e) = omega (arith, by_few (is_direct e) (expr_room e) (form.depth e) (expr_room_few e))
-expr_room_few e = omega arith
+far_few : (r : Bool) → index_far r ≤ 3
+far_few true = omega arith
+far_few false = omega arith
 
-operand_room_few : (e : source.Expr) → form.depth e ≤ 200 → operand_room e ≤ 200
-operand_room_few e h = let least = by_few (is_direct e) (expr_room e) (form.depth e) (expr_room_few e) in omega arith
+range_few : (r : Bool) (n m : ℕ) → n ≤ 3 * m → 1 ≤ m → range_room r n ≤ 3 * m
+range_few true n m h some = omega arith
+range_few false n m h some = h
+
+access_few : (access : Access) (p i : source.Expr) → value_room (takes_range access.through p) p ≤ 3 * form.depth p → value_room false i ≤ 3 * form.depth i
+    → access_room access p i ≤ 3 * (1 + max (form.depth p) (form.depth i))
+access_few access p i on_p on_i =
+    let checked = is_bounded access.through in
+    let far = takes_range access.through p in
+    omega (arith, far_few far, if_few checked p (value_room far p) (3 * form.depth p) on_p, if_few (keeps_index checked i) i (value_room false i) (3 * form.depth i) on_i)
+
+cast_few : (one : Bool) (p k : source.Expr) → value_room false p ≤ 3 * form.depth p → value_room true p ≤ 3 * form.depth p → value_room false k ≤ 3 * form.depth k
+    → (if one then value_room false p else max (value_room true p) (3 + room_if (keeps_index true k) k (value_room false k))) ≤ 3 * (1 + max (form.depth p) (form.depth k))
+cast_few true p k plain ranged count = omega (arith, plain)
+cast_few false p k plain ranged count = omega (arith, ranged, if_few (keeps_index true k) k (value_room false k) (3 * form.depth k) count)
+
+value_room_few : (r : Bool) (e : source.Expr) → value_room r e ≤ 3 * form.depth e
+value_room_few r (source.Binary o s at a b) =
+    range_few r _ (form.depth (source.Binary o s at a b))
+    (omega (arith, by_few (is_direct a) (value_room false a) (3 * form.depth a) (value_room_few false a), by_few (is_direct b) (value_room false b) (3 * form.depth b) (value_room_few false b))) (omega arith)
+value_room_few r (source.And a b) =
+    range_few r _ (form.depth (source.And a b))
+    (omega (arith, by_few (is_direct a) (value_room false a) (3 * form.depth a) (value_room_few false a), by_few (is_direct b) (value_room false b) (3 * form.depth b) (value_room_few false b))) (omega arith)
+value_room_few r (source.Or a b) =
+    range_few r _ (form.depth (source.Or a b))
+    (omega (arith, by_few (is_direct a) (value_room false a) (3 * form.depth a) (value_room_few false a), by_few (is_direct b) (value_room false b) (3 * form.depth b) (value_room_few false b))) (omega arith)
+value_room_few r (source.Choice c a b) =
+    omega (arith, by_few (is_direct c) (value_room false c) (3 * form.depth c) (value_room_few false c), value_room_few r a, value_room_few r b)
+value_room_few r (source.Load w access p i) = range_few r (access_room access p i) (1 + max (form.depth p) (form.depth i)) (access_few access p i (value_room_few (takes_range access.through p) p) (value_room_few false i)) (omega arith)
+value_room_few r (source.Member to count access p i) = range_few r (access_room access p i) (1 + max (form.depth p) (form.depth i)) (access_few access p i (value_room_few (takes_range access.through p) p) (value_room_few false i)) (omega arith)
+value_room_few r (source.Address bytes access p i) = range_few r (access_room access p i) (1 + max (form.depth p) (form.depth i)) (access_few access p i (value_room_few (takes_range access.through p) p) (value_room_few false i)) (omega arith)
+value_room_few r (source.Moved shift p i) =
+    let holds = r || shift.checked in
+    let keeps = keeps_index shift.checked i in
+    omega (arith, far_few r, if_few holds p (value_room r p) (3 * form.depth p) (value_room_few r p), if_few keeps i (value_room false i) (3 * form.depth i) (value_room_few false i))
+value_room_few r (source.Added shift i p) =
+    let holds = r || shift.checked in
+    let keeps = keeps_index shift.checked i in
+    omega (arith, if_few holds p (value_room r p) (3 * form.depth p) (value_room_few r p), if_few keeps i (value_room false i) (3 * form.depth i) (value_room_few false i))
+value_room_few r (source.Bare p) = range_few r (value_room false p) (1 + form.depth p) (omega (arith, value_room_few false p)) (omega arith)
+value_room_few r (source.Tested size how at p k) =
+    cast_few (not r && casts_one size p k) p k (value_room_few false p) (value_room_few true p) (value_room_few false k)
+value_room_few r (source.Trusted to how p k) =
+    range_few r _ (1 + max (form.depth p) (form.depth k))
+    (omega (arith, value_room_few false p, by_few (is_direct k) (value_room false k) (3 * form.depth k) (value_room_few false k))) (omega arith)
+value_room_few r (source.Narrow e) = range_few r _ (1 + form.depth e) (omega (arith, by_few (is_direct e) (value_room false e) (3 * form.depth e) (value_room_few false e))) (omega arith)
+value_room_few r (source.Number n) = range_few r 1 1 (omega arith) (omega arith)
+value_room_few r (source.Local x) = range_few r 1 1 (omega arith) (omega arith)
+value_room_few r (source.Limited x limits) = range_few r 1 1 (omega arith) (omega arith)
+value_room_few r (source.Array at bytes) = range_few r 1 1 (omega arith) (omega arith)
+
+operand_room_few : (e : source.Expr) → form.depth e ≤ 200 → operand_room e ≤ 600
+operand_room_few e h = let least = by_few (is_direct e) (value_room false e) (3 * form.depth e) (value_room_few false e) in omega arith
 
 module _ (few : ℕ) where
   operands_code_small : (es : List source.Expr) (t : ℕ) (rest : Code) → All (IsCompilablePart few) es → KeepsLimits rest → KeepsLimits (operands_code es t rest)
@@ -316,19 +437,24 @@ module _ (few : ℕ) where
       All-cons IsShallow (operand e t) (operands es (t + 1)) (omega (arith, operand_depth e t (All-head (IsCompilablePart few) e es h).1))
       (operands_small es (t + 1) (All-tail (IsCompilablePart few) e es h))
 
-  operands_room_few : (es : List source.Expr) → All (IsCompilablePart few) es → operands_room es ≤ length es + 200
+  operands_room_few : (es : List source.Expr) → All (IsCompilablePart few) es → operands_room es ≤ length es + 600
   operands_room_few [] h = omega arith
   operands_room_few (e ∷ es) h =
       omega (arith, operand_room_few e (All-head (IsCompilablePart few) e es h).1, operands_room_few es (All-tail (IsCompilablePart few) e es h))
 
 -- ---- statements
 
+below_end_depth : (b : Bool) (p : source.Expr) (t : ℕ)
+    → depth (if b then Bin binary.Ne (Local t) (range_end true p) else Bin binary.Ne (Bin binary.Sub (Local t) (Local (t + 1))) (Local (t + 2))) ≤ 1000
+below_end_depth true p t = omega (arith, range_end_depth true p)
+below_end_depth false p t = omega arith
+
 marked_small : (through : Through) (p : source.Expr) (t : ℕ) (rest : Code) → KeepsLimits rest → KeepsLimits (marked through p t rest)
 marked_small Named p t rest k = k
 marked_small Raw p t rest k = k
 marked_small One p t rest k = k
 marked_small Array p t rest k = k
-marked_small Terminated p t rest k = (omega (arith, range_end_depth true p), k)
+marked_small Terminated p t rest k = (below_end_depth (is_ranged p) p t, k)
 
 -- the place of a target is found, and then a value is written
 aim_small : (few t : ℕ) (target : source.Target) (rest : Code) → IsCompilableTarget few target → KeepsLimits rest → KeepsLimits (aim_code target t rest)
@@ -337,7 +463,8 @@ aim_small few t (source.Variable x w) rest h k = k
 aim_small few t (source.Memory w access p i) rest h k =
     let pointer = h.1 in
     let index = h.2 in
-    reached_small p i t access _ pointer.1 index.1 (marked_small access.through p t rest k) (λ rest k. expr_small p t rest pointer.1 k) (λ rest k. expr_small i (t + 1) rest index.1 k)
+    reached_small p i t access _ pointer.1 index.1 (marked_small access.through p t rest k) (λ rest k. value_small (takes_range access.through p) p t rest pointer.1 k)
+    (λ rest k. value_small false i (index_in access p t) rest index.1 k)
 
 guarded_small : (through : Through) (at : Pos) (w : Width) (is_byte : Bool) (t u : ℕ) (rest : Code) → KeepsLimits rest → KeepsLimits (guarded through at w is_byte t u rest)
 guarded_small Named at w is_byte t u rest k = k
@@ -425,25 +552,24 @@ result_small (Some (kept.Local x width.Byte)) t rest k = (omega arith, k)
 result_small (Some (kept.Local x width.Word)) t rest k = k
 result_small (Some (kept.Static a w)) t rest k = (omega arith, omega arith, k)
 
-aimed_room_few : (few r : ℕ) (target : source.Target) → IsCompilableTarget few target → r ≤ 200 → aimed_room target r ≤ 204
+aimed_room_few : (few r : ℕ) (target : source.Target) → IsCompilableTarget few target → r ≤ 600 → aimed_room target r ≤ 603
 aimed_room_few few r source.Nothing h k = omega arith
 aimed_room_few few r (source.Variable x w) h k = omega arith
 aimed_room_few few r (source.Memory w access p i) h k =
     let pointer = h.1 in
     let index = h.2 in
-    let checked = is_bounded access.through in
-    omega (arith, if_few checked p 200 (omega (arith, expr_room_few p)), if_few (keeps_index checked i) i 200 (omega (arith, expr_room_few i)))
+    omega (arith, access_few access p i (value_room_few (takes_range access.through p) p) (value_room_few false i), pointer.1, index.1)
 
-right_room_few : (few : ℕ) (target : source.Target) (right : source.Right) → IsCompilableTarget few target → IsCompilableRight few right → assigned_room target right ≤ 204
-right_room_few few source.Nothing (source.Value e) s h = omega (arith, expr_room_few e)
+right_room_few : (few : ℕ) (target : source.Target) (right : source.Right) → IsCompilableTarget few target → IsCompilableRight few right → assigned_room target right ≤ 603
+right_room_few few source.Nothing (source.Value e) s h = omega (arith, value_room_few false e, h.1)
 right_room_few few (source.Variable x w) (source.Value e) s h = aimed_room_few few (operand_room e) (source.Variable x w) s (operand_room_few e h.1)
 right_room_few few (source.Memory w access p i) (source.Value e) s h = aimed_room_few few (operand_room e) (source.Memory w access p i) s (operand_room_few e h.1)
 right_room_few few target (source.Fresh to e) s h =
     let part = h.0 in
     aimed_room_few few (max 1 (operand_room e)) target s (omega (arith, operand_room_few e part.1))
 
-valued_few : (few : ℕ) (right : source.Right) → IsCompilableRight few right → valued_room right ≤ 200
-valued_few few (source.Value e) h = omega (arith, expr_room_few e)
+valued_few : (few : ℕ) (right : source.Right) → IsCompilableRight few right → valued_room right ≤ 600
+valued_few few (source.Value e) h = omega (arith, value_room_few false e, h.1)
 valued_few few (source.Fresh to e) h =
     let part = h.0 in
     omega (arith, operand_room_few e part.1)
@@ -453,7 +579,7 @@ count_few source.Nothing = omega arith
 count_few (source.Variable x w) = omega arith
 count_few (source.Memory w access p i) = omega arith
 
-bundle_few : (few : ℕ) (assigns : List (source.Target × source.Right)) → All (IsCompilableAssign few) assigns → bundle_room assigns ≤ 204 + 5 * length assigns
+bundle_few : (few : ℕ) (assigns : List (source.Target × source.Right)) → All (IsCompilableAssign few) assigns → bundle_room assigns ≤ 603 + 5 * length assigns
 bundle_few few [] h = omega arith
 bundle_few few (a ∷ assigns) h =
     let one = All-head (IsCompilableAssign few) a assigns h in
@@ -499,7 +625,7 @@ module _ (functions : List source.Function) (few : ℕ) (call_few : (n i : ℕ) 
   statements_small (source.Check spot e rest) looped h =
       operand_small e few _ h.1.1 (omega (arith, operand_depth e few h.1.1), statements_small rest looped h.2)
 
-  room_few : (code : source.Code) (looped : Bool) → IsCompilableCode functions few looped code → room code ≤ 455
+  room_few : (code : source.Code) (looped : Bool) → IsCompilableCode functions few looped code → room code ≤ 855
   room_few source.End looped h = omega arith
   room_few (source.Assign spot target right rest) looped h = omega (arith, right_room_few few target right h.0 h.1, room_few rest looped h.2)
   room_few (source.Bundle spot assigns rest) looped h =

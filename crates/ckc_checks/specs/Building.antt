@@ -6,13 +6,16 @@ use Rattle.ckc_core.specs.declared.code.CoreStmt.{CoreStmt}
 use Rattle.ckc_core.specs.Code.{Local, Code, End, Get, Put, Call, If, Loop, Break, Return, Check, code_of}
 use Rattle.ckc_source.specs.declared.stmt.Kept.{Kept}
 use Rattle.ckc_source.specs.Code as source
-use Rattle.ckc_checks.specs.Inserted.{put_if, room_if, expr_code, expr_room, operand_code, operand, operands_code, operands, operand_used, low_byte, aim_code, target_count, written, result_in, result_kept}
+use Rattle.ckc_checks.specs.Inserted.{put_if, room_if, value_code, value_room, expr_code, operand_code, operand, operands_code, operands, operand_used, low_byte, aim_code, target_count, written, result_in, result_kept}
 
 -- the code of statements from the last one to the first
 unfoldable pub behind : List CoreStmt → Code
 behind statements = code_of (reverse statements)
 
 -- the code of an expression, where the flag says so also that of a direct one
+abbrev pub value_code_if : Bool → Bool → source.Expr → ℕ → Code → Code
+value_code_if ranged always e t rest = put_if always e (value_code ranged e t) rest
+
 abbrev pub expr_code_if : Bool → source.Expr → ℕ → Code → Code
 expr_code_if always e t rest = put_if always e (expr_code e t) rest
 
@@ -41,5 +44,5 @@ abbrev pub check_code : Pos → source.Expr → ℕ → Code → Code
 check_code at e t rest = operand_code e t (Check check.Dynamic at (operand e t) rest)
 
 -- how many temporaries that needs
-abbrev pub expr_room_if : Bool → source.Expr → ℕ
-expr_room_if always e = room_if always e (expr_room e)
+abbrev pub value_room_if : Bool → Bool → source.Expr → ℕ
+value_room_if ranged always e = room_if always e (value_room ranged e)

@@ -1,10 +1,9 @@
--- Programs that can be compiled: names exist, numbers fit, functions and expressions are small. What is
--- accessed by its range comes of a local with limits or of a static object, and what is tested is a pointer to one
--- element.
-use Rattle.std.specs.Prelude.{◌≡◌, ℤ, pos, neg_ℤ, ◌≤ℤ◌, ◌<ℤ◌, ℕ, ◌+◌, ◌≤◌, ◌<◌, ◌^◌, ◌==◌, if◌then◌else◌, max, Bool, true, false, IsTrue, List, [], ◌∷◌, length, slice_get, sum_by, Option, Some, None, All, IfSome}
+-- Programs that can be compiled: names exist, numbers fit, functions and expressions are small.
+use Rattle.std.specs.Prelude.{◌≡◌, ℤ, pos, neg_ℤ, ◌≤ℤ◌, ◌<ℤ◌, ℕ, ◌+◌, ◌≤◌, ◌<◌, ◌^◌, ◌==◌, if◌then◌else◌, max, Bool, true, false, not, ◌&&◌, IsTrue, List, [], ◌∷◌, length, slice_get, sum_by, Option, Some, None, All, IfSome}
 use Rattle.ckc_base.specs.Memory.{data_start}
 use Rattle.ckc_core.specs.WellFormed.{IsPlace}
 use Rattle.ckc_source.specs.Eval.{place_in}
+use Rattle.ckc_base.specs.declared.places.Pos.{Pos}
 use Rattle.ckc_source.specs.declared.expr.Access.{Access}
 use Rattle.ckc_source.specs.declared.expr.Base.{Base}
 use Rattle.ckc_source.specs.declared.expr.Base.TheVariants as bases
@@ -19,6 +18,7 @@ use Rattle.ckc_source.specs.declared.expr.Through.TheVariants.{Named, Raw, One, 
 use Rattle.ckc_source.specs.declared.program.Object.{Object}
 use Rattle.ckc_source.specs.declared.stmt.Kept.{Kept}
 use Rattle.ckc_source.specs.declared.stmt.Kept.TheVariants as kept
+use Rattle.ckc_checks.specs.Inserted.{is_ranged, takes_range, casts_one}
 use Rattle.ckc_source.specs.Code.{Expr, Number, Local, Limited, Array, Load, Member, Address, Moved, Added, Binary, And, Or, Choice, Narrow, Bare, Tested, Trusted, Target, Nothing, Variable, Memory, Right, Value, Fresh, Code, End, Assign, Bundle, Get, Put, Call, If, Loop, Break, Continue, Return, Check, Function, Program}
 
 -- ---- measures
@@ -40,18 +40,21 @@ depth (Tested size form at p k) = 1 + max (depth p) (depth k)
 depth (Trusted to form p k) = 1 + max (depth p) (depth k)
 depth _ = 1
 
--- how many nodes an access counts for that is judged by the range of its pointer: the first element needs no arithmetic
-abbrev pub element_nodes : Expr → ℕ
-element_nodes (Number n) = if n == 0 then 4 else 6
-element_nodes _ = 6
+-- How many nodes an access counts for that is judged by the range of its pointer, by whether the range is a value: the
+-- first element needs no arithmetic.
+abbrev pub element_nodes : Bool → Expr → ℕ
+element_nodes false (Number n) = if n == 0 then 4 else 6
+element_nodes false _ = 6
+element_nodes true (Number n) = if n == 0 then 3 else 5
+element_nodes true _ = 5
 
--- how many nodes an access at an index counts for, beside its pointer and its index
-abbrev pub access_nodes : Through → Expr → ℕ
-access_nodes Named i = 1
-access_nodes Raw i = 2
-access_nodes One i = 2
-access_nodes Arrays i = element_nodes i
-access_nodes Terminated i = element_nodes i
+-- how many nodes an access through a pointer at an index counts for, beside these
+abbrev pub access_nodes : Through → (p i : Expr) → ℕ
+access_nodes Named p i = 1
+access_nodes Raw p i = 2
+access_nodes One p i = 2
+access_nodes Arrays p i = element_nodes (not (is_ranged p)) i
+access_nodes Terminated p i = element_nodes (not (is_ranged p)) i
 
 -- how many nodes pointer arithmetic counts for, by whether it is checked
 abbrev pub shift_nodes : Bool → ℕ
@@ -63,22 +66,39 @@ abbrev pub index_nodes : Expr → ℕ → ℕ
 index_nodes (Number n) count = 0
 index_nodes i count = count
 
--- how many nodes an expression has
+-- a range that is a value counts for one more
+abbrev pub range_nodes : Bool → ℕ
+range_nodes true = 1
+range_nodes false = 0
+
+-- how many nodes an expression has, by whether its range is a value
+abbrev pub value_nodes : Bool → Expr → ℕ
+value_nodes ranged (Load width access p i) =
+    range_nodes ranged + access_nodes access.through p i + value_nodes (takes_range access.through p) p
+    + index_nodes i (value_nodes false i)
+value_nodes ranged (Member to count access p i) =
+    range_nodes ranged + access_nodes access.through p i + value_nodes (takes_range access.through p) p
+    + index_nodes i (value_nodes false i)
+value_nodes ranged (Address bytes access p i) =
+    range_nodes ranged + access_nodes access.through p i + value_nodes (takes_range access.through p) p
+    + index_nodes i (value_nodes false i)
+value_nodes ranged (Moved shift p i) = shift_nodes shift.checked + value_nodes ranged p + value_nodes false i
+value_nodes ranged (Added shift i p) =
+    range_nodes ranged + shift_nodes shift.checked + value_nodes false i + value_nodes ranged p
+value_nodes ranged (Binary operation is_signed at a b) = range_nodes ranged + 1 + value_nodes false a + value_nodes false b
+value_nodes ranged (And a b) = range_nodes ranged + 1 + value_nodes false a + value_nodes false b
+value_nodes ranged (Or a b) = range_nodes ranged + 1 + value_nodes false a + value_nodes false b
+value_nodes ranged (Choice c a b) = 1 + value_nodes false c + value_nodes ranged a + value_nodes ranged b
+value_nodes ranged (Narrow e) = range_nodes ranged + 1 + value_nodes false e
+value_nodes ranged (Bare p) = range_nodes ranged + 1 + value_nodes false p
+value_nodes ranged (Tested size form at p k) =
+    if not ranged && casts_one size p k then 1 + value_nodes false p + value_nodes false k
+    else 5 + value_nodes true p + index_nodes k (value_nodes false k)
+value_nodes ranged (Trusted to form p k) = range_nodes ranged + 1 + value_nodes false p + value_nodes false k
+value_nodes ranged _ = range_nodes ranged + 1
+
 abbrev pub expr_nodes : Expr → ℕ
-expr_nodes (Load width access p i) = access_nodes access.through i + expr_nodes p + index_nodes i (expr_nodes i)
-expr_nodes (Member to count access p i) = access_nodes access.through i + expr_nodes p + index_nodes i (expr_nodes i)
-expr_nodes (Address bytes access p i) = access_nodes access.through i + expr_nodes p + index_nodes i (expr_nodes i)
-expr_nodes (Moved shift p i) = shift_nodes shift.checked + expr_nodes p + expr_nodes i
-expr_nodes (Added shift i p) = shift_nodes shift.checked + expr_nodes i + expr_nodes p
-expr_nodes (Binary operation is_signed at a b) = 1 + expr_nodes a + expr_nodes b
-expr_nodes (And a b) = 1 + expr_nodes a + expr_nodes b
-expr_nodes (Or a b) = 1 + expr_nodes a + expr_nodes b
-expr_nodes (Choice c a b) = 1 + expr_nodes c + expr_nodes a + expr_nodes b
-expr_nodes (Narrow e) = 1 + expr_nodes e
-expr_nodes (Bare p) = 1 + expr_nodes p
-expr_nodes (Tested size form at p k) = 1 + expr_nodes p + expr_nodes k
-expr_nodes (Trusted to form p k) = 1 + expr_nodes p + expr_nodes k
-expr_nodes _ = 1
+expr_nodes = value_nodes false
 
 abbrev pub exprs_nodes : List Expr → ℕ
 exprs_nodes [] = 0
@@ -91,7 +111,7 @@ guard_nodes _ = 0
 
 abbrev pub target_nodes : Target → ℕ
 target_nodes (Memory width access p i) =
-    guard_nodes access.through + access_nodes access.through i + expr_nodes p + index_nodes i (expr_nodes i)
+    guard_nodes access.through + access_nodes access.through p i + value_nodes (takes_range access.through p) p + index_nodes i (expr_nodes i)
 target_nodes _ = 0
 
 abbrev pub right_nodes : Right → ℕ
@@ -127,14 +147,6 @@ program_nodes p = sum_by function_nodes p.functions
 
 -- ---- expressions
 
-abbrev pub IsOwn : Base → Type 0
-IsOwn bases.Own = Unit {0}
-IsOwn _ = ⊥
-
-abbrev pub IsNone : Option IntegerLocal → Type 0
-IsNone None = Unit {0}
-IsNone (Some x) = ⊥
-
 abbrev pub IsZero : Expr → Type 0
 IsZero (Number n) = n ≡ 0
 IsZero _ = ⊥
@@ -158,42 +170,54 @@ IsEnd locals e = IsBase locals e.base × IsVariable locals e.variable × IsSmall
 abbrev pub AreEnds : ℕ → Limits → Type 0
 AreEnds locals limits = (limits.to.size < 2 ^ 32) × IsEnd locals limits.lower × IsEnd locals limits.upper
 
--- a static object at its place
-abbrev pub IsNamed : Through → Type 0
-IsNamed Named = Unit {0}
-IsNamed _ = ⊥
-
-abbrev pub IsStatic : Access → Expr → Type 0
-IsStatic access (Number a) = IsNamed access.through
-IsStatic access _ = ⊥
-
 -- so many bytes from there on end at an address
 abbrev pub EndsLow : Access → ℕ → Expr → Type 0
 EndsLow access bytes (Number a) = place_in a access.offset + bytes < 2 ^ 32
 EndsLow access bytes _ = ⊥
 
-abbrev pub IsFixed : Count → Type 0
-IsFixed (counts.Fixed n) = IsSmall n
-IsFixed (counts.Member offset form add) = ⊥
+-- the numbers of a count
+abbrev pub IsCount : Count → Type 0
+IsCount (counts.Fixed n) = IsSmall n
+IsCount (counts.Member offset form add) = (offset < 2 ^ 32) × IsSmall add
 
--- a pointer of which the range is tested: a local with limits, a named array, a static pointer with a fixed count, the
--- address of a static object, or one of these moved
+-- the numbers of a range that is computed where it is tested
 abbrev pub IsRanged : ℕ → Expr → Type 0
 IsRanged locals (Limited x limits) = AreEnds locals limits
 IsRanged locals (Array at bytes) = at + bytes < 2 ^ 32
-IsRanged locals (Member to count access p i) = IsStatic access p × (to.size < 2 ^ 32) × IsFixed count
-IsRanged locals (Address bytes access p i) = IsStatic access p × EndsLow access bytes p
-IsRanged locals (Moved shift p i) = IsTrue shift.checked × IsRanged locals p
-IsRanged locals (Added shift i p) = IsTrue shift.checked × IsRanged locals p
+IsRanged locals (Member to count access p i) = (to.size < 2 ^ 32) × IsCount count
+IsRanged locals (Address bytes access p i) = EndsLow access bytes p
+IsRanged locals (Moved shift p i) = IsRanged locals p
+IsRanged locals (Added shift i p) = IsRanged locals p
 IsRanged locals _ = ⊥
+
+abbrev pub IsTestedSize : ℕ → Type 0
+IsTestedSize size = (1 ≤ size) × (size < 2 ^ 31)
+
+-- the numbers of a range that is a value
+abbrev pub HasRange : ℕ → Expr → Type 0
+HasRange locals (Limited x limits) = AreEnds locals limits
+HasRange locals (Array at bytes) = bytes < 2 ^ 32
+HasRange locals (Member to count access p i) = (to.size < 2 ^ 32) × IsCount count
+HasRange locals (Address bytes access p i) = bytes < 2 ^ 32
+HasRange locals (Moved shift p i) = HasRange locals p
+HasRange locals (Added shift i p) = HasRange locals p
+HasRange locals (Choice c a b) = HasRange locals a × HasRange locals b
+HasRange locals (Tested size form at p k) = IsPlace at × IsTestedSize size × HasRange locals p
+HasRange locals (Trusted to form p k) = to.size < 2 ^ 32
+HasRange locals _ = Unit {0}
+
+-- a pointer of which the range is tested
+abbrev pub IsBounded : ℕ → Bool → Expr → Type 0
+IsBounded locals true p = IsRanged locals p
+IsBounded locals false p = HasRange locals p
 
 -- the ways to judge an access to elements of a size, through a pointer at an index; `_Ptr` has one element
 abbrev pub IsJudged : ℕ → Through → ℕ → Expr → Expr → Type 0
 IsJudged locals Named size p i = Unit {0}
 IsJudged locals Raw size p i = Unit {0}
 IsJudged locals One size p i = IsZero i
-IsJudged locals Arrays size p i = (1 ≤ size) × (size < 2 ^ 31) × IsRanged locals p
-IsJudged locals Terminated size p i = (1 ≤ size) × (size < 2 ^ 31) × IsRanged locals p
+IsJudged locals Arrays size p i = (1 ≤ size) × (size < 2 ^ 31) × IsBounded locals (is_ranged p) p
+IsJudged locals Terminated size p i = (1 ≤ size) × (size < 2 ^ 31) × IsBounded locals (is_ranged p) p
 
 -- an access through a pointer at an index
 abbrev pub IsAccess : ℕ → Access → Expr → Expr → Type 0
@@ -207,31 +231,10 @@ IsChecked true shift = IsPlace shift.at × (1 ≤ shift.size) × (shift.size < 2
 abbrev pub IsShift : Shift → Type 0
 IsShift shift = (shift.size < 2 ^ 32) × IsChecked shift.checked shift
 
-abbrev pub IsOne : Expr → Type 0
-IsOne (Number n) = n ≡ 1
-IsOne _ = ⊥
-
--- an end of limits that lies so many elements behind the pointer itself
-abbrev pub IsFixedEnd : LimitsEnd → ℤ → Type 0
-IsFixedEnd e add = IsOwn e.base × IsNone e.variable × (e.add ≡ add)
-
--- limits of one element of a size
-abbrev pub AreSingle : ℕ → Limits → Type 0
-AreSingle size limits = (limits.to.size ≡ size) × IsFixedEnd limits.lower (pos 0) × IsFixedEnd limits.upper (pos 1)
-
-abbrev pub IsSingleCount : Count → Type 0
-IsSingleCount (counts.Fixed n) = n ≡ pos 1
-IsSingleCount (counts.Member offset form add) = ⊥
-
--- a pointer to one element of a size, or null
-abbrev pub IsSingle : ℕ → Expr → Type 0
-IsSingle size (Number n) = n ≡ 0
-IsSingle size (Limited x limits) = AreSingle size limits
-IsSingle size (Member to count access p i) = (to.size ≡ size) × IsSingleCount count
-IsSingle size (Address bytes access p i) = bytes ≡ size
-IsSingle size (Tested same form at p k) = same ≡ size
-IsSingle size (Trusted to form p k) = (to.size ≡ size) × IsOne k
-IsSingle size _ = ⊥
+-- a bounds cast that is tested, where the flag does not say that it needs no test
+abbrev pub IsCast : ℕ → Bool → ℕ → Pos → Expr → Type 0
+IsCast locals true size at p = Unit {0}
+IsCast locals false size at p = IsPlace at × IsTestedSize size × HasRange locals p
 
 -- an expression over so many locals
 abbrev pub IsCompilableExpr : ℕ → Expr → Type 0
@@ -255,7 +258,8 @@ IsCompilableExpr locals (Choice c a b) =
     IsCompilableExpr locals c × IsCompilableExpr locals a × IsCompilableExpr locals b
 IsCompilableExpr locals (Narrow e) = IsCompilableExpr locals e
 IsCompilableExpr locals (Bare p) = IsCompilableExpr locals p
-IsCompilableExpr locals (Tested size form at p k) = IsOne k × IsSingle size p × IsCompilableExpr locals p
+IsCompilableExpr locals (Tested size form at p k) =
+    IsCast locals (casts_one size p k) size at p × IsCompilableExpr locals p × IsCompilableExpr locals k
 IsCompilableExpr locals (Trusted to form p k) = IsCompilableExpr locals p × IsCompilableExpr locals k
 
 -- an expression in a statement, which is at most 200 deep

@@ -1,6 +1,7 @@
 -- The core code of a source program. It mirrors what `insert` makes and need not be believed: the
 -- contract of `insert` says how core code follows the program.
-use Rattle.std.specs.Prelude.{ℕ, zero, suc, ℤ, ◌+◌, ◌-◌, ◌/◌, ◌%◌, max, Bool, true, false, not, ◌&&◌, ◌==◌, if◌then◌else◌, List, [], ◌∷◌, ◌++◌, map, length, replicate, Option, Some, None}
+use Rattle.std.specs.Prelude.{ℕ, zero, suc, ℤ, pos, ◌+◌, ◌-◌, ◌/◌, ◌%◌, max, Bool, true, false, not, ◌&&◌, ◌||◌, ◌==◌, if◌then◌else◌, List, [], ◌∷◌, ◌++◌, map, length, replicate, Option, Some, None}
+use Rattle.std.specs.Ordering.{int_eq}
 use Rattle.ckc_base.specs.declared.arithmetic.BinOp.TheVariants as binary
 use Rattle.ckc_base.specs.declared.arithmetic.Width.{Width}
 use Rattle.ckc_base.specs.declared.arithmetic.Width.TheVariants as width
@@ -18,6 +19,7 @@ use Rattle.ckc_source.specs.declared.expr.Base.TheVariants as bases
 use Rattle.ckc_source.specs.declared.expr.End.{End as LimitsEnd}
 use Rattle.ckc_source.specs.declared.expr.Integer.{Integer}
 use Rattle.ckc_source.specs.declared.expr.Integer.TheVariants as integer
+use Rattle.ckc_source.specs.declared.expr.Limits.{Limits}
 use Rattle.ckc_source.specs.declared.expr.Shift.{Shift}
 use Rattle.ckc_source.specs.declared.expr.Variable.{Variable}
 use Rattle.ckc_source.specs.declared.expr.Operation.{Operation}
@@ -28,7 +30,7 @@ use Rattle.ckc_source.specs.declared.stmt.Kept.TheVariants as kept
 use Rattle.ckc_source.specs.Code as source
 use Rattle.ckc_source.specs.Blocks.{block_of, place_behind, first_place}
 use Rattle.ckc_source.specs.Eval.{place_in}
-use Rattle.ckc_source.specs.Words.{operator, divides}
+use Rattle.ckc_source.specs.Words.{width_of, operator, divides}
 use Rattle.ckc_core.specs.Code.{Expr, Const, Local, Load, Bin, High, Code, End, Set, Store, Check, Call, Get, Put, Alloc, If, Loop, Break, Continue, Return, Function, Program}
 
 -- ---- expressions
@@ -38,6 +40,51 @@ abbrev pub is_unchecked : Through → Bool
 is_unchecked Named = true
 is_unchecked Raw = true
 is_unchecked _ = false
+
+-- an access to a static object
+abbrev pub is_named : Through → Bool
+is_named Named = true
+is_named _ = false
+
+-- ---- casts to one element
+
+abbrev pub is_one : source.Expr → Bool
+is_one (source.Number n) = n == 1
+is_one _ = false
+
+abbrev pub is_own : Base → Bool
+is_own bases.Own = true
+is_own _ = false
+
+abbrev pub is_absent : Option Variable → Bool
+is_absent None = true
+is_absent (Some x) = false
+
+-- an end of limits that lies so many elements behind the pointer itself
+abbrev pub is_fixed_end : LimitsEnd → ℤ → Bool
+is_fixed_end e add = is_own e.base && (is_absent e.variable && int_eq e.add add)
+
+-- limits of one element of a size
+abbrev pub are_single : ℕ → Limits → Bool
+are_single size limits = (limits.to.size == size) && (is_fixed_end limits.lower (pos 0) && is_fixed_end limits.upper (pos 1))
+
+abbrev pub is_single_count : Count → Bool
+is_single_count (counts.Fixed n) = int_eq n (pos 1)
+is_single_count (counts.Member offset form add) = false
+
+-- a pointer to one element of a size, or null
+abbrev pub is_single : ℕ → source.Expr → Bool
+is_single size (source.Number n) = n == 0
+is_single size (source.Limited x limits) = are_single size limits
+is_single size (source.Member to count access p i) = (to.size == size) && is_single_count count
+is_single size (source.Address bytes access p i) = bytes == size
+is_single size (source.Tested same form at p k) = (same == size) && is_one k
+is_single size (source.Trusted to form p k) = (to.size == size) && is_one k
+is_single size _ = false
+
+-- A bounds cast of a pointer to one element, to one element of the same size, has no test.
+abbrev pub casts_one : ℕ → (p k : source.Expr) → Bool
+casts_one size p k = is_one k && is_single size p
 
 -- A direct expression is one expression of core code: it has no division, no remainder, no branch and no check.
 abbrev pub is_direct : source.Expr → Bool
@@ -52,7 +99,7 @@ is_direct (source.Or a b) = false
 is_direct (source.Choice c a b) = false
 is_direct (source.Narrow e) = is_direct e
 is_direct (source.Bare p) = is_direct p
-is_direct (source.Tested size form at p k) = is_direct p
+is_direct (source.Tested size form at p k) = casts_one size p k && is_direct p
 is_direct (source.Trusted to form p k) = is_direct p && is_direct k
 is_direct _ = true
 
@@ -147,11 +194,40 @@ operation_code operation is_signed at a b t rest = divide_check operation at b (
 
 -- ---- checked pointers to arrays
 
+-- a static object at its place
+abbrev pub is_static : Access → source.Expr → Bool
+is_static access (source.Number a) = is_named access.through
+is_static access _ = false
+
+abbrev pub is_fixed : Count → Bool
+is_fixed (counts.Fixed n) = true
+is_fixed (counts.Member offset form add) = false
+
+-- A pointer whose range is computed where it is tested: a local with limits, a named array, a static pointer with a
+-- fixed count, the address of a static object, or one of these moved.
+abbrev pub is_ranged : source.Expr → Bool
+is_ranged (source.Limited x limits) = true
+is_ranged (source.Array at bytes) = true
+is_ranged (source.Member to count access p i) = is_static access p && is_fixed count
+is_ranged (source.Address bytes access p i) = is_static access p
+is_ranged (source.Moved shift p i) = shift.checked && is_ranged p
+is_ranged (source.Added shift i p) = shift.checked && is_ranged p
+is_ranged _ = false
+
 -- an access that is judged by the range of its pointer
 abbrev pub is_bounded : Through → Bool
 is_bounded Array = true
 is_bounded Terminated = true
 is_bounded _ = false
+
+-- The range of any other pointer goes to the two temporaries behind it: its lower bound, and how many bytes it has.
+abbrev pub takes_range : Through → source.Expr → Bool
+takes_range through p = is_bounded through && not (is_ranged p)
+
+-- how far behind its pointer an index is
+abbrev pub index_far : Bool → ℕ
+index_far true = 3
+index_far false = 1
 
 abbrev pub reads_signed : Integer → Bool
 reads_signed integer.Int = true
@@ -226,6 +302,15 @@ upper_test last a high = if last then below_or_at a high else Bin binary.LtU a h
 abbrev pub range_test : Bool → source.Expr → Expr → Expr
 range_test last p a = Bin binary.And (below_or_at (range_end false p) a) (upper_test last a (range_end true p))
 
+-- the same for a range in the two temporaries behind the address
+abbrev pub held_test : Bool → ℕ → Expr
+held_test last t =
+    Bin binary.And (below_or_at (Local (t + 1)) (Local t))
+    (upper_test last (Bin binary.Sub (Local t) (Local (t + 1))) (Local (t + 2)))
+
+abbrev pub bounds_test : Bool → source.Expr → ℕ → Expr
+bounds_test last p t = if is_ranged p then range_test last p (Local t) else held_test last t
+
 -- The element at an index goes to the temporary t, which has the pointer. An address that is none stops.
 abbrev pub element_code : Access → Expr → ℕ → Code → Code
 element_code access i t rest =
@@ -236,7 +321,7 @@ element_code access i t rest =
 abbrev pub bounded_code : Bool → Access → source.Expr → Expr → ℕ → Code → Code
 bounded_code last access p i t rest =
     Check check.Null access.at (Local t) (element_code access i t
-    (Check check.Bounds access.at (range_test last p (Local t)) rest))
+    (Check check.Bounds access.at (bounds_test last p t) rest))
 
 -- The checks of an access. Behind those of an access to an element of an array the temporary t has the element.
 abbrev pub judged : Through → Access → source.Expr → (a i : Expr) → ℕ → Code → Code
@@ -253,47 +338,131 @@ pointer_at access p t = held (is_bounded access.through) p t
 abbrev pub index_at : Access → source.Expr → ℕ → Expr
 index_at access i u = held (keeps_index (is_bounded access.through) i) i u
 
+-- the temporary that an index may go to
+abbrev pub index_in : Access → source.Expr → ℕ → ℕ
+index_in access p t = t + index_far (takes_range access.through p)
+
 -- what finds the pointer and the index of an access, and its checks
 abbrev pub reached_code : Access → (p i : source.Expr) → (on_p on_i : Code → Code) → ℕ → Code → Code
 reached_code access p i on_p on_i t rest =
     put_if (is_bounded access.through) p on_p (put_if (keeps_index (is_bounded access.through) i) i on_i
-    (judged access.through access p (pointer_at access p t) (index_at access i (t + 1)) t rest))
+    (judged access.through access p (pointer_at access p t) (index_at access i (index_in access p t)) t rest))
 
--- the place of an access, behind that
+-- the element of an access, behind that, and its place
+abbrev pub reached_element : Access → (p i : source.Expr) → ℕ → Expr
+reached_element access p i t =
+    element_of access.through access.size (pointer_at access p t) (index_at access i (index_in access p t))
+
 abbrev pub reached_place : Access → (p i : source.Expr) → ℕ → Expr
-reached_place access p i t = place_at access (pointer_at access p t) (index_at access i (t + 1))
+reached_place access p i t = at_offset access.offset (reached_element access p i t)
 
--- The value of an expression goes to the local t, and then comes the rest. Of the locals only those from t on are
--- written. The code of the operands is made of `expr_code e t` behind `unless_direct e`.
+-- ---- ranges that are values
+
+-- a range goes to the two temporaries behind t, where the flag says so
+abbrev pub with_range : Bool → ℕ → Expr → Expr → Code → Code
+with_range true t low length rest = Set (t + 1) low (Set (t + 2) length rest)
+with_range false t low length rest = rest
+
+-- a value without a range, which nothing is accessed through
+abbrev pub no_range : Bool → ℕ → Code → Code
+no_range ranged t rest = with_range ranged t (Const 0) (Const 0) rest
+
+-- how many bytes so many elements have that a member says, of the structure whose begin is in the temporary u
+abbrev pub length_at : ℕ → Count → ℕ → Expr
+length_at size (counts.Fixed n) u = Const (applied binary.Mul size (word_of n))
+length_at size (counts.Member offset form add) u =
+    scaled size (at_offset (word_of add) (Load (width_of form) (at_offset offset (Local u))))
+
+-- A pointer in memory goes to t. Its range begins there, and its structure at the element.
+abbrev pub pointer_code : Bool → ℕ → Count → ℕ → (element place : Expr) → ℕ → Code → Code
+pointer_code true size count offset element place t rest =
+    Set (t + 1) element (Set t (Load width.Word (at_offset offset (Local (t + 1))))
+    (Set (t + 2) (length_at size count (t + 1)) (Set (t + 1) (Local t) rest)))
+pointer_code false size count offset element place t rest = Set t (Load width.Word place) rest
+
+-- whether a count is not negative
+abbrev pub is_natural : Integer → Expr → Expr
+is_natural integer.Int k = Bin binary.LtU k (Const 2147483648)
+is_natural _ k = Const 1
+
+-- Whether the bounds of a cast lie in the range of the pointer in t: the pointer is not below it, and so many elements
+-- of a size behind the pointer are not above it.
+abbrev pub cast_test : ℕ → Integer → Expr → ℕ → Expr
+cast_test size form k t =
+    Bin binary.And (held_test true t) (Bin binary.And (is_natural form k)
+    (below_or_at k (Bin binary.DivU (Bin binary.Sub (Local (t + 2)) (Bin binary.Sub (Local t) (Local (t + 1)))) (Const size))))
+
+-- A bounds cast that is tested, to so many elements: null stays null.
+abbrev pub tested_code : ℕ → Integer → Pos → Expr → ℕ → Code → Code
+tested_code size form at k t rest =
+    Check check.Cast at (Bin binary.Or (Bin binary.Eq (Local t) (Const 0)) (cast_test size form k t))
+    (Set (t + 2) (scaled size k) (Set (t + 1) (Local t) rest))
+
+-- The range of a bounds cast that is trusted, to so many elements.
+abbrev pub trusted_range : Bool → ℕ → Expr → ℕ → Code → Code
+trusted_range true size k t rest = Set (t + 2) (scaled size k) (Set (t + 1) (Local t) rest)
+trusted_range false size k t rest = rest
+
+-- A pointer that was added to an index is in t, and its range is one temporary further on.
+abbrev pub moved_range : Bool → ℕ → Code → Code
+moved_range ranged t rest = with_range ranged t (Local (t + 2)) (Local (t + 3)) rest
+
+-- The value of an expression goes to the local t, and where the flag says so its range behind it; then comes the rest. Of
+-- the locals only those from t on are written. The code of the operands is made of `expr_code e t` behind
+-- `unless_direct e`.
+abbrev pub value_code : Bool → source.Expr → ℕ → Code → Code
+value_code ranged (source.Limited x limits) t rest =
+    Set t (Local x) (with_range ranged t (end_at x limits.to.size limits.lower)
+    (Bin binary.Sub (end_at x limits.to.size limits.upper) (Local (t + 1))) rest)
+value_code ranged (source.Array at bytes) t rest = Set t (Const at) (with_range ranged t (Const at) (Const bytes) rest)
+value_code ranged (source.Load width access p i) t rest =
+    reached_code access p i (value_code (takes_range access.through p) p t) (value_code false i (index_in access p t)) t
+    (Set t (Load width (reached_place access p i t)) (no_range ranged t rest))
+value_code ranged (source.Member to count access p i) t rest =
+    reached_code access p i (value_code (takes_range access.through p) p t) (value_code false i (index_in access p t)) t
+    (pointer_code ranged to.size count access.offset (reached_element access p i t) (reached_place access p i t) t rest)
+value_code ranged (source.Address bytes access p i) t rest =
+    reached_code access p i (value_code (takes_range access.through p) p t) (value_code false i (index_in access p t)) t
+    (Set t (reached_place access p i t) (with_range ranged t (Local t) (Const bytes) rest))
+value_code ranged (source.Moved shift p i) t rest =
+    put_if (ranged || shift.checked) p (value_code ranged p t)
+    (put_if (keeps_index shift.checked i) i (value_code false i (t + index_far ranged))
+    (moved_code shift (held (ranged || shift.checked) p t) (held (keeps_index shift.checked i) i (t + index_far ranged)) t rest))
+value_code ranged (source.Added shift i p) t rest =
+    put_if (keeps_index shift.checked i) i (value_code false i t)
+    (put_if (ranged || shift.checked) p (value_code ranged p (t + 1))
+    (moved_code shift (held (ranged || shift.checked) p (t + 1)) (held (keeps_index shift.checked i) i t) t
+    (moved_range ranged t rest)))
+value_code ranged (source.Binary operation is_signed at a b) t rest =
+    unless_direct a (value_code false a t) (unless_direct b (value_code false b (t + 1))
+    (operation_code operation is_signed at (operand a t) (operand b (t + 1)) t (no_range ranged t rest)))
+value_code ranged (source.And a b) t rest =
+    unless_direct a (value_code false a t) (If (operand a t)
+    (unless_direct b (value_code false b t) (Set t (as_truth (operand b t)) End)) (Set t (Const 0) End) (no_range ranged t rest))
+value_code ranged (source.Or a b) t rest =
+    unless_direct a (value_code false a t) (If (operand a t)
+    (Set t (Const 1) End) (unless_direct b (value_code false b t) (Set t (as_truth (operand b t)) End)) (no_range ranged t rest))
+value_code ranged (source.Choice c a b) t rest =
+    unless_direct c (value_code false c t) (If (operand c t) (value_code ranged a t End) (value_code ranged b t End) rest)
+value_code ranged (source.Narrow e) t rest =
+    unless_direct e (value_code false e t) (Set t (low_byte (operand e t)) (no_range ranged t rest))
+value_code ranged (source.Bare p) t rest = value_code false p t (no_range ranged t rest)
+value_code ranged (source.Tested size form at p k) t rest =
+    if not ranged && casts_one size p k then value_code false p t rest
+    else value_code true p t (put_if (keeps_index true k) k (value_code false k (t + 3))
+    (tested_code size form at (held (keeps_index true k) k (t + 3)) t rest))
+value_code ranged (source.Trusted to form p k) t rest =
+    value_code false p t (unless_direct k (value_code false k (t + 1))
+    (trusted_range ranged to.size (operand k (t + 1)) t rest))
+value_code ranged e t rest = Set t (direct e) (no_range ranged t rest)
+
 abbrev pub expr_code : source.Expr → ℕ → Code → Code
-expr_code (source.Load width access p i) t rest =
-    reached_code access p i (expr_code p t) (expr_code i (t + 1)) t (Set t (Load width (reached_place access p i t)) rest)
-expr_code (source.Member to count access p i) t rest =
-    reached_code access p i (expr_code p t) (expr_code i (t + 1)) t (Set t (Load width.Word (reached_place access p i t)) rest)
-expr_code (source.Address bytes access p i) t rest =
-    reached_code access p i (expr_code p t) (expr_code i (t + 1)) t (Set t (reached_place access p i t) rest)
-expr_code (source.Moved shift p i) t rest =
-    put_if shift.checked p (expr_code p t) (put_if (keeps_index shift.checked i) i (expr_code i (t + 1))
-    (moved_code shift (held shift.checked p t) (held (keeps_index shift.checked i) i (t + 1)) t rest))
-expr_code (source.Added shift i p) t rest =
-    put_if (keeps_index shift.checked i) i (expr_code i t) (put_if shift.checked p (expr_code p (t + 1))
-    (moved_code shift (held shift.checked p (t + 1)) (held (keeps_index shift.checked i) i t) t rest))
-expr_code (source.Binary operation is_signed at a b) t rest =
-    unless_direct a (expr_code a t) (unless_direct b (expr_code b (t + 1))
-    (operation_code operation is_signed at (operand a t) (operand b (t + 1)) t rest))
-expr_code (source.And a b) t rest =
-    unless_direct a (expr_code a t) (If (operand a t)
-    (unless_direct b (expr_code b t) (Set t (as_truth (operand b t)) End)) (Set t (Const 0) End) rest)
-expr_code (source.Or a b) t rest =
-    unless_direct a (expr_code a t) (If (operand a t)
-    (Set t (Const 1) End) (unless_direct b (expr_code b t) (Set t (as_truth (operand b t)) End)) rest)
-expr_code (source.Choice c a b) t rest =
-    unless_direct c (expr_code c t) (If (operand c t) (expr_code a t End) (expr_code b t End) rest)
-expr_code (source.Narrow e) t rest = unless_direct e (expr_code e t) (Set t (low_byte (operand e t)) rest)
-expr_code (source.Bare p) t rest = expr_code p t rest
-expr_code (source.Tested size form at p k) t rest = expr_code p t rest
-expr_code (source.Trusted to form p k) t rest = expr_code p t (unless_direct k (expr_code k (t + 1)) rest)
-expr_code e t rest = Set t (direct e) rest
+expr_code = value_code false
+
+-- what finds the place of an access
+abbrev pub access_code : Access → (p i : source.Expr) → ℕ → Code → Code
+access_code access p i t rest =
+    reached_code access p i (value_code (takes_range access.through p) p t) (expr_code i (index_in access p t)) t rest
 
 -- what an operand needs in front of it
 abbrev pub operand_code : source.Expr → ℕ → Code → Code
@@ -316,27 +485,56 @@ unless_direct_room e room = if is_direct e then 0 else room
 abbrev pub room_if : Bool → source.Expr → ℕ → ℕ
 room_if always e room = if always then room else unless_direct_room e room
 
-abbrev pub reached_room : Bool → (p i : source.Expr) → (on_p on_i : ℕ) → ℕ
-reached_room checked p i on_p on_i = max (room_if checked p on_p) (1 + room_if (keeps_index checked i) i on_i)
+abbrev pub reached_room : (far : ℕ) → Bool → (p i : source.Expr) → (on_p on_i : ℕ) → ℕ
+reached_room far checked p i on_p on_i = max (room_if checked p on_p) (far + room_if (keeps_index checked i) i on_i)
 
--- how many locals from t on `expr_code` may write
+-- a value with its range needs three
+abbrev pub range_room : Bool → ℕ → ℕ
+range_room true room = max 3 room
+range_room false room = room
+
+-- how many locals from t on `value_code` may write
+abbrev pub value_room : Bool → source.Expr → ℕ
+value_room ranged (source.Load width access p i) =
+    range_room ranged (reached_room (index_far (takes_range access.through p)) (is_bounded access.through) p i
+    (value_room (takes_range access.through p) p) (value_room false i))
+value_room ranged (source.Member to count access p i) =
+    range_room ranged (reached_room (index_far (takes_range access.through p)) (is_bounded access.through) p i
+    (value_room (takes_range access.through p) p) (value_room false i))
+value_room ranged (source.Address bytes access p i) =
+    range_room ranged (reached_room (index_far (takes_range access.through p)) (is_bounded access.through) p i
+    (value_room (takes_range access.through p) p) (value_room false i))
+value_room ranged (source.Moved shift p i) =
+    max (room_if (ranged || shift.checked) p (value_room ranged p))
+    (index_far ranged + room_if (keeps_index shift.checked i) i (value_room false i))
+value_room ranged (source.Added shift i p) =
+    max (room_if (keeps_index shift.checked i) i (value_room false i))
+    (1 + room_if (ranged || shift.checked) p (value_room ranged p))
+value_room ranged (source.Binary operation is_signed at a b) =
+    range_room ranged (max (unless_direct_room a (value_room false a)) (1 + unless_direct_room b (value_room false b)))
+value_room ranged (source.And a b) =
+    range_room ranged (max 1 (max (unless_direct_room a (value_room false a)) (unless_direct_room b (value_room false b))))
+value_room ranged (source.Or a b) =
+    range_room ranged (max 1 (max (unless_direct_room a (value_room false a)) (unless_direct_room b (value_room false b))))
+value_room ranged (source.Choice c a b) =
+    max (unless_direct_room c (value_room false c)) (max (value_room ranged a) (value_room ranged b))
+value_room ranged (source.Narrow e) = range_room ranged (max 1 (unless_direct_room e (value_room false e)))
+value_room ranged (source.Bare p) = range_room ranged (value_room false p)
+value_room ranged (source.Tested size form at p k) =
+    if not ranged && casts_one size p k then value_room false p
+    else max (value_room true p) (3 + room_if (keeps_index true k) k (value_room false k))
+value_room ranged (source.Trusted to form p k) =
+    range_room ranged (max (value_room false p) (1 + unless_direct_room k (value_room false k)))
+value_room ranged _ = range_room ranged 1
+
 abbrev pub expr_room : source.Expr → ℕ
-expr_room (source.Load width access p i) = reached_room (is_bounded access.through) p i (expr_room p) (expr_room i)
-expr_room (source.Member to count access p i) = reached_room (is_bounded access.through) p i (expr_room p) (expr_room i)
-expr_room (source.Address bytes access p i) = reached_room (is_bounded access.through) p i (expr_room p) (expr_room i)
-expr_room (source.Moved shift p i) = reached_room shift.checked p i (expr_room p) (expr_room i)
-expr_room (source.Added shift i p) =
-    max (room_if (keeps_index shift.checked i) i (expr_room i)) (1 + room_if shift.checked p (expr_room p))
-expr_room (source.Binary operation is_signed at a b) =
-    max (unless_direct_room a (expr_room a)) (1 + unless_direct_room b (expr_room b))
-expr_room (source.And a b) = max 1 (max (unless_direct_room a (expr_room a)) (unless_direct_room b (expr_room b)))
-expr_room (source.Or a b) = max 1 (max (unless_direct_room a (expr_room a)) (unless_direct_room b (expr_room b)))
-expr_room (source.Choice c a b) = max (unless_direct_room c (expr_room c)) (max (expr_room a) (expr_room b))
-expr_room (source.Narrow e) = max 1 (unless_direct_room e (expr_room e))
-expr_room (source.Bare p) = expr_room p
-expr_room (source.Tested size form at p k) = expr_room p
-expr_room (source.Trusted to form p k) = max (expr_room p) (1 + unless_direct_room k (expr_room k))
-expr_room _ = 1
+expr_room = value_room false
+
+-- how many locals from t on finding the place of an access may write
+abbrev pub access_room : Access → (p i : source.Expr) → ℕ
+access_room access p i =
+    reached_room (index_far (takes_range access.through p)) (is_bounded access.through) p i
+    (value_room (takes_range access.through p) p) (expr_room i)
 
 abbrev pub operand_room : source.Expr → ℕ
 operand_room e = unless_direct_room e (expr_room e)
@@ -358,7 +556,9 @@ kept_in width.Word is_byte e = e
 
 -- whether the element in the temporary t is not at the upper bound of its pointer
 abbrev pub below_end : source.Expr → ℕ → Expr
-below_end p t = Bin binary.Ne (Local t) (range_end true p)
+below_end p t =
+    if is_ranged p then Bin binary.Ne (Local t) (range_end true p)
+    else Bin binary.Ne (Bin binary.Sub (Local t) (Local (t + 1))) (Local (t + 2))
 
 -- Through a pointer to a null-terminated array zero alone may be written at the upper bound. Whether an element is below
 -- it goes to t + 1, where nothing is read any more that found the element.
@@ -368,13 +568,12 @@ marked _ p t rest = rest
 
 -- what finds the place of a target in memory
 abbrev pub aim_code : source.Target → ℕ → Code → Code
-aim_code (source.Memory width access p i) t rest =
-    reached_code access p i (expr_code p t) (expr_code i (t + 1)) t (marked access.through p t rest)
+aim_code (source.Memory width access p i) t rest = access_code access p i t (marked access.through p t rest)
 aim_code _ t rest = rest
 
 -- how many temporaries keep the place of a target
 abbrev pub target_count : source.Target → ℕ
-target_count (source.Memory width access p i) = 2
+target_count (source.Memory width access p i) = 3
 target_count _ = 0
 
 -- the check of the value in the temporary u, by whether it is a byte already
@@ -505,7 +704,7 @@ statements t (source.Check spot e rest) =
 
 -- how many temporaries finding the place of a target needs
 abbrev pub target_room : source.Target → ℕ
-target_room (source.Memory width access p i) = reached_room (is_bounded access.through) p i (expr_room p) (expr_room i)
+target_room (source.Memory width access p i) = access_room access p i
 target_room _ = 0
 
 -- a value that is stored may go to a temporary first

@@ -1,3 +1,3 @@
-pub mod Compilable
 pub mod Inserted
+pub mod Compilable
 pub mod Building

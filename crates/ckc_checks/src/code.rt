@@ -1,19 +1,26 @@
 //! The code of expressions, built from its end: lists of statements stand from the last one to the first.
 
-ghost use Rattle.std.specs.Prelude.{◌≡◌, true, [], IfOk, OnOk};
+ghost use Rattle.std.specs.Prelude.{◌≡◌, ◌+◌, ◌||◌, true, [], IfOk, OnOk};
 ghost use Rattle.ckc_core.specs.Code.{Expr, Code, code_of, stmt_of, expr_of};
 ghost use Rattle.ckc_source.specs.Code.{expr_of as source_of};
-ghost use Rattle.ckc_checks.specs.Inserted.{as_truth, low_byte, divide_check, operated, operation_code, held, is_bounded, keeps_index, exact_code, moved_code, element_code, bounded_code, judged, place_at, operand};
-ghost use Rattle.ckc_checks.specs.Building.{behind, expr_code_if};
+ghost use Rattle.ckc_base.specs.declared.arithmetic.BinOp.TheVariants.{Sub};
+ghost use Rattle.ckc_base.specs.declared.arithmetic.Width.TheVariants.{Word};
+ghost use Rattle.ckc_checks.specs.Inserted.{as_truth, at_offset, low_byte, divide_check, operated, operation_code, held, is_bounded, keeps_index, exact_code, moved_code, element_code, bounded_code, judged, place_at, operand, pointer_at, index_at, index_in, reached_element, reached_place, with_range, no_range, length_at, pointer_code, tested_code, trusted_range, moved_range, end_at, access_code};
+ghost use Rattle.ckc_checks.specs.Building.{behind, value_code_if, expr_code_if};
 
+use crate::casts::casts_one;
 use crate::exprs::{
-    as_truth, direct, divides, is_direct, is_zero, low_byte, operand, operated, place_at, shifted,
-    sum,
+    as_truth, at_offset, binary, direct, divides, element_of, is_direct, is_zero, low_byte,
+    operand, operated, scaled, shifted, sum,
 };
-use crate::ranges::{exact_test, held, is_bounded, keeps_index, range_test, reads_signed};
-use ckc_base::{Boxed, Check, Pos, Seq, Width};
+use crate::lengths::{cast_passes, length_at};
+use crate::ranges::{
+    bounds_test, end_at, exact_test, held, index_far, index_in, is_bounded, keeps_index,
+    reads_signed, takes_range,
+};
+use ckc_base::{BinOp, Boxed, Check, Pos, Seq, Width};
 use ckc_core::{CoreExpr, CoreStmt};
-use ckc_source::{Access, ExprTree, Operation, Shift, Through};
+use ckc_source::{Access, Count, ExprTree, Integer, Limits, Operation, Shift, Through};
 use std::alloc::{AllocError, Global};
 
 /// An empty list of statements.
@@ -150,7 +157,7 @@ fn narrow(alloc: Global, e: &ExprTree, t: u32, code: &mut Seq<CoreStmt>) -> Resu
 }
 
 /// Puts the step from a checked pointer in t to its element at an index in front.
-fn element(
+fn step(
     alloc: Global,
     access: Access,
     i: &ExprTree,
@@ -187,9 +194,9 @@ fn bounded(
     ensures { OnOk result (behind code.new ≡ bounded_code last access (source_of p.now)
         (held (keeps_index true (source_of i.now)) (source_of i.now) next) t (behind code.old)) }
 {
-    let within = range_test(alloc, last, p, t)?;
+    let within = bounds_test(alloc, last, p, t)?;
     front(code, CoreStmt::Check(Check::Bounds, access.at, within))?;
-    element(alloc, access, i, t, next, code)?;
+    step(alloc, access, i, t, next, code)?;
     front(
         code,
         CoreStmt::Check(Check::Null, access.at, CoreExpr::Local(t)),
@@ -225,23 +232,88 @@ pub fn judge(
     }
 }
 
-/// The place that an access goes to, of which the pointer is in t and the index in the temporary `next`.
+/// The element that an access goes to, of which the pointer is in t.
+fn element(
+    alloc: Global,
+    access: Access,
+    p: &ExprTree,
+    i: &ExprTree,
+    t: u32,
+) -> Result<CoreExpr, AllocError>
+    ensures { IfOk result (λ c. expr_of c ≡
+        reached_element access (source_of p.now) (source_of i.now) t) }
+{
+    let next = index_in(access, p, t)?;
+    let checked = is_bounded(access.through);
+    let pointer = held(alloc, checked, p, t)?;
+    let index = held(alloc, keeps_index(checked, i), i, next)?;
+    element_of(alloc, access.through, access.size, pointer, index)
+}
+
+/// The place that an access goes to, of which the pointer is in t.
 pub fn place(
     alloc: Global,
     access: Access,
     p: &ExprTree,
     i: &ExprTree,
     t: u32,
-    next: u32,
 ) -> Result<CoreExpr, AllocError>
     ensures { IfOk result (λ c. expr_of c ≡
-        place_at access (held (is_bounded access.through) (source_of p.now) t)
-        (held (keeps_index (is_bounded access.through) (source_of i.now)) (source_of i.now) next)) }
+        reached_place access (source_of p.now) (source_of i.now) t) }
 {
-    let checked = is_bounded(access.through);
-    let pointer = held(alloc, checked, p, t)?;
-    let index = held(alloc, keeps_index(checked, i), i, next)?;
-    place_at(alloc, access, pointer, index)
+    let to = element(alloc, access, p, i, t)?;
+    at_offset(alloc, access.offset, to)
+}
+
+/// Puts statements in front that set the two temporaries behind t to a range, where the flag says so.
+fn with_range(
+    ranged: bool,
+    t: u32,
+    low: CoreExpr,
+    length: CoreExpr,
+    code: &mut Seq<CoreStmt>,
+) -> Result<(), AllocError>
+    ensures { OnOk result (behind code.new ≡
+        with_range ranged t (expr_of low) (expr_of length) (behind code.old)) }
+{
+    if ranged {
+        let first = sum(t, 1)?;
+        let second = sum(t, 2)?;
+        front(code, CoreStmt::Set(second, length))?;
+        front(code, CoreStmt::Set(first, low))?;
+    }
+    Ok(())
+}
+
+/// The same for a value without a range.
+fn no_range(ranged: bool, t: u32, code: &mut Seq<CoreStmt>) -> Result<(), AllocError>
+    ensures { OnOk result (behind code.new ≡ no_range ranged t (behind code.old)) }
+{
+    with_range(ranged, t, CoreExpr::Const(0), CoreExpr::Const(0), code)?;
+    Ok(())
+}
+
+/// Puts statements in front that set t to a local, and those behind it to the range that limits say.
+fn limited(
+    alloc: Global,
+    ranged: bool,
+    x: u32,
+    limits: &Limits,
+    t: u32,
+    code: &mut Seq<CoreStmt>,
+) -> Result<(), AllocError>
+    ensures { OnOk result (behind code.new ≡ Code.Set t (Expr.Local x)
+        (with_range ranged t (end_at x limits.now.to.size limits.now.lower)
+        (Expr.Bin Sub (end_at x limits.now.to.size limits.now.upper) (Expr.Local (t + 1)))
+        (behind code.old))) }
+{
+    let first = sum(t, 1)?;
+    let low = end_at(alloc, x, limits.to.size, limits.lower)?;
+    let high = end_at(alloc, x, limits.to.size, limits.upper)?;
+    let length = binary(alloc, BinOp::Sub, high, CoreExpr::Local(first))?;
+    with_range(ranged, t, low, length, code)?;
+    front(code, CoreStmt::Set(t, CoreExpr::Local(x)))?;
+    Ok(())
 }
 
 /// Puts a statement in front that loads where an access goes to into t.
@@ -252,44 +324,146 @@ fn load_place(
     p: &ExprTree,
     i: &ExprTree,
     t: u32,
-    next: u32,
     code: &mut Seq<CoreStmt>,
 ) -> Result<(), AllocError>
-    ensures { OnOk result (behind code.new ≡ judged access.through access (source_of p.now)
-        (held (is_bounded access.through) (source_of p.now) t)
-        (held (keeps_index (is_bounded access.through) (source_of i.now)) (source_of i.now) next) t
-        (Code.Set t (Expr.Load width (place_at access
-        (held (is_bounded access.through) (source_of p.now) t)
-        (held (keeps_index (is_bounded access.through) (source_of i.now)) (source_of i.now) next)))
-        (behind code.old))) }
+    ensures { OnOk result (behind code.new ≡ Code.Set t (Expr.Load width
+        (reached_place access (source_of p.now) (source_of i.now) t)) (behind code.old)) }
 {
-    let to = place(alloc, access, p, i, t, next)?;
+    let to = place(alloc, access, p, i, t)?;
     let value = CoreExpr::Load(width, Boxed::new(alloc, to)?);
     front(code, CoreStmt::Set(t, value))?;
-    judge(alloc, access.through, access, p, i, t, next, code)?;
     Ok(())
 }
 
-/// Puts a statement in front that sets t to where an access goes to.
-fn address(
+/// Puts statements in front that load a pointer into t from an offset behind the address in `first`, and its range.
+fn counted(
     alloc: Global,
+    size: u32,
+    count: Count,
+    offset: u32,
+    t: u32,
+    first: u32,
+    code: &mut Seq<CoreStmt>,
+) -> Result<(), AllocError>
+    ensures { OnOk result (behind code.new ≡ Code.Set t (Expr.Load Word
+        (at_offset offset (Expr.Local first))) (Code.Set (t + 2) (length_at size count first)
+        (Code.Set first (Expr.Local t) (behind code.old)))) }
+{
+    front(code, CoreStmt::Set(first, CoreExpr::Local(t)))?;
+    let length = length_at(alloc, size, count, first)?;
+    front(code, CoreStmt::Set(sum(t, 2)?, length))?;
+    let to = at_offset(alloc, offset, CoreExpr::Local(first))?;
+    let value = CoreExpr::Load(Width::Word, Boxed::new(alloc, to)?);
+    front(code, CoreStmt::Set(t, value))?;
+    Ok(())
+}
+
+/// Puts statements in front that load a pointer with a count of elements from where an access goes to.
+fn pointer(
+    alloc: Global,
+    ranged: bool,
+    size: u32,
+    count: Count,
     access: Access,
     p: &ExprTree,
     i: &ExprTree,
     t: u32,
+    code: &mut Seq<CoreStmt>,
+) -> Result<(), AllocError>
+    ensures { OnOk result (behind code.new ≡ pointer_code ranged size count access.offset
+        (reached_element access (source_of p.now) (source_of i.now) t)
+        (reached_place access (source_of p.now) (source_of i.now) t) t (behind code.old)) }
+{
+    if ranged {
+        let first = sum(t, 1)?;
+        counted(alloc, size, count, access.offset, t, first, code)?;
+        let to = element(alloc, access, p, i, t)?;
+        front(code, CoreStmt::Set(first, to))?;
+        Ok(())
+    } else {
+        load_place(alloc, Width::Word, access, p, i, t, code)
+    }
+}
+
+/// Puts statements in front that set t to where an access goes to, with a range of so many bytes.
+fn address(
+    alloc: Global,
+    ranged: bool,
+    bytes: u32,
+    access: Access,
+    p: &ExprTree,
+    i: &ExprTree,
+    t: u32,
+    code: &mut Seq<CoreStmt>,
+) -> Result<(), AllocError>
+    ensures { OnOk result (behind code.new ≡ Code.Set t
+        (reached_place access (source_of p.now) (source_of i.now) t)
+        (with_range ranged t (Expr.Local t) (Expr.Const bytes) (behind code.old))) }
+{
+    with_range(ranged, t, CoreExpr::Local(t), CoreExpr::Const(bytes), code)?;
+    let to = place(alloc, access, p, i, t)?;
+    front(code, CoreStmt::Set(t, to))?;
+    Ok(())
+}
+
+/// Puts a bounds cast of the pointer in t in front, with its test and the count in the temporary `next`.
+fn test(
+    alloc: Global,
+    size: u32,
+    form: Integer,
+    at: Pos,
+    k: &ExprTree,
+    t: u32,
     next: u32,
     code: &mut Seq<CoreStmt>,
 ) -> Result<(), AllocError>
-    ensures { OnOk result (behind code.new ≡ judged access.through access (source_of p.now)
-        (held (is_bounded access.through) (source_of p.now) t)
-        (held (keeps_index (is_bounded access.through) (source_of i.now)) (source_of i.now) next) t
-        (Code.Set t (place_at access (held (is_bounded access.through) (source_of p.now) t)
-        (held (keeps_index (is_bounded access.through) (source_of i.now)) (source_of i.now) next))
-        (behind code.old))) }
+    ensures { OnOk result (behind code.new ≡ tested_code size form at
+        (held (keeps_index true (source_of k.now)) (source_of k.now) next) t (behind code.old)) }
 {
-    let value = place(alloc, access, p, i, t, next)?;
-    front(code, CoreStmt::Set(t, value))?;
-    judge(alloc, access.through, access, p, i, t, next, code)?;
+    let count = held(alloc, keeps_index(true, k), k, next)?;
+    let length = scaled(alloc, size, count)?;
+    front(code, CoreStmt::Set(sum(t, 1)?, CoreExpr::Local(t)))?;
+    front(code, CoreStmt::Set(sum(t, 2)?, length))?;
+    let passes = cast_passes(alloc, size, form, k, t, next)?;
+    front(code, CoreStmt::Check(Check::Cast, at, passes))?;
+    Ok(())
+}
+
+/// Puts the range of a trusted bounds cast of the pointer in t in front, with the count in the temporary `next`.
+fn trust(
+    alloc: Global,
+    ranged: bool,
+    size: u32,
+    k: &ExprTree,
+    t: u32,
+    next: u32,
+    code: &mut Seq<CoreStmt>,
+) -> Result<(), AllocError>
+    ensures { OnOk result (behind code.new ≡ trusted_range ranged size
+        (operand (source_of k.now) next) t (behind code.old)) }
+{
+    if ranged {
+        let count = operand(alloc, k, next)?;
+        let length = scaled(alloc, size, count)?;
+        front(code, CoreStmt::Set(sum(t, 1)?, CoreExpr::Local(t)))?;
+        front(code, CoreStmt::Set(sum(t, 2)?, length))?;
+    }
+    Ok(())
+}
+
+/// Puts statements in front that move a range, where the flag says so, from one temporary further on to those behind t.
+fn moved_range(ranged: bool, t: u32, code: &mut Seq<CoreStmt>) -> Result<(), AllocError>
+    ensures { OnOk result (behind code.new ≡ moved_range ranged t (behind code.old)) }
+{
+    let low = sum(t, 2)?;
+    let length = sum(t, 3)?;
+    with_range(
+        ranged,
+        t,
+        CoreExpr::Local(low),
+        CoreExpr::Local(length),
+        code,
+    )?;
     Ok(())
 }
 
@@ -325,6 +499,7 @@ fn check_exact(
 fn shift(
     alloc: Global,
     shift: Shift,
+    ranged: bool,
     p: &ExprTree,
     of_pointer: u32,
     i: &ExprTree,
@@ -333,11 +508,11 @@ fn shift(
     code: &mut Seq<CoreStmt>,
 ) -> Result<(), AllocError>
     ensures { OnOk result (behind code.new ≡ moved_code shift
-        (held shift.checked (source_of p.now) of_pointer)
+        (held (ranged || shift.checked) (source_of p.now) of_pointer)
         (held (keeps_index shift.checked (source_of i.now)) (source_of i.now) of_index) t
         (behind code.old)) }
 {
-    let pointer = held(alloc, shift.checked, p, of_pointer)?;
+    let pointer = held(alloc, ranged || shift.checked, p, of_pointer)?;
     let index = held(alloc, keeps_index(shift.checked, i), i, of_index)?;
     let value = shifted(alloc, shift.back, shift.size, pointer, index)?;
     front(code, CoreStmt::Set(t, value))?;
@@ -347,71 +522,149 @@ fn shift(
     Ok(())
 }
 
-/// Puts the code in front that writes the value of an expression to the local t. A direct expression has such code
-/// only where the flag says so.
-pub fn expr(
+/// Puts the checks of an access in front, of which the pointer is in t.
+fn judge_access(
+    alloc: Global,
+    access: Access,
+    p: &ExprTree,
+    i: &ExprTree,
+    t: u32,
+    code: &mut Seq<CoreStmt>,
+) -> Result<(), AllocError>
+    ensures { OnOk result (behind code.new ≡ judged access.through access (source_of p.now)
+        (pointer_at access (source_of p.now) t)
+        (index_at access (source_of i.now) (index_in access (source_of p.now) t)) t
+        (behind code.old)) }
+{
+    let next = index_in(access, p, t)?;
+    judge(alloc, access.through, access, p, i, t, next, code)?;
+    Ok(())
+}
+
+/// Puts the code in front that writes the value of an expression to the local t, and where the first flag says so its
+/// range to the two locals behind it. A direct expression has such code only where the second flag says so.
+pub fn value(
     alloc: Global,
     e: &ExprTree,
+    ranged: bool,
     always: bool,
     t: u32,
     code: &mut Seq<CoreStmt>,
 ) -> Result<(), AllocError>
     ensures { OnOk result (behind code.new ≡
-        expr_code_if always (source_of e.now) t (behind code.old)) }
+        value_code_if ranged always (source_of e.now) t (behind code.old)) }
 {
     if !always && is_direct(e) {
         return Ok(());
     }
     match e {
         ExprTree::Load(width, access, p, i) => {
-            let next = sum(t, 1)?;
-            load_place(alloc, *width, *access, p.get(), i.get(), t, next, code)?;
+            no_range(ranged, t, code)?;
+            load_place(alloc, *width, *access, p.get(), i.get(), t, code)?;
+            judge_access(alloc, *access, p.get(), i.get(), t, code)?;
+            let next = index_in(*access, p.get(), t)?;
             let checked = is_bounded(access.through);
-            expr(alloc, i.get(), keeps_index(checked, i.get()), next, code)?;
-            expr(alloc, p.get(), checked, t, code)?;
-        }
-        ExprTree::Member(_, _, access, p, i) => {
-            let next = sum(t, 1)?;
-            load_place(alloc, Width::Word, *access, p.get(), i.get(), t, next, code)?;
-            let checked = is_bounded(access.through);
-            expr(alloc, i.get(), keeps_index(checked, i.get()), next, code)?;
-            expr(alloc, p.get(), checked, t, code)?;
-        }
-        ExprTree::Address(_, access, p, i) => {
-            let next = sum(t, 1)?;
-            address(alloc, *access, p.get(), i.get(), t, next, code)?;
-            let checked = is_bounded(access.through);
-            expr(alloc, i.get(), keeps_index(checked, i.get()), next, code)?;
-            expr(alloc, p.get(), checked, t, code)?;
-        }
-        ExprTree::Moved(how, p, i) => {
-            let next = sum(t, 1)?;
-            shift(alloc, *how, p.get(), t, i.get(), next, t, code)?;
-            expr(
+            value(
                 alloc,
                 i.get(),
-                keeps_index(how.checked, i.get()),
+                false,
+                keeps_index(checked, i.get()),
                 next,
                 code,
             )?;
-            expr(alloc, p.get(), how.checked, t, code)?;
+            let far = takes_range(access.through, p.get());
+            value(alloc, p.get(), far, checked, t, code)?;
+        }
+        ExprTree::Member(to, count, access, p, i) => {
+            let size = to.get().size;
+            pointer(
+                alloc,
+                ranged,
+                size,
+                *count,
+                *access,
+                p.get(),
+                i.get(),
+                t,
+                code,
+            )?;
+            judge_access(alloc, *access, p.get(), i.get(), t, code)?;
+            let next = index_in(*access, p.get(), t)?;
+            let checked = is_bounded(access.through);
+            value(
+                alloc,
+                i.get(),
+                false,
+                keeps_index(checked, i.get()),
+                next,
+                code,
+            )?;
+            let far = takes_range(access.through, p.get());
+            value(alloc, p.get(), far, checked, t, code)?;
+        }
+        ExprTree::Address(bytes, access, p, i) => {
+            address(alloc, ranged, *bytes, *access, p.get(), i.get(), t, code)?;
+            judge_access(alloc, *access, p.get(), i.get(), t, code)?;
+            let next = index_in(*access, p.get(), t)?;
+            let checked = is_bounded(access.through);
+            value(
+                alloc,
+                i.get(),
+                false,
+                keeps_index(checked, i.get()),
+                next,
+                code,
+            )?;
+            let far = takes_range(access.through, p.get());
+            value(alloc, p.get(), far, checked, t, code)?;
+        }
+        ExprTree::Moved(how, p, i) => {
+            let next = sum(t, index_far(ranged))?;
+            let holds = ranged || how.checked;
+            let keeps = keeps_index(how.checked, i.get());
+            shift(alloc, *how, ranged, p.get(), t, i.get(), next, t, code)?;
+            value(alloc, i.get(), false, keeps, next, code)?;
+            value(alloc, p.get(), ranged, holds, t, code)?;
         }
         ExprTree::Added(how, i, p) => {
             let next = sum(t, 1)?;
-            shift(alloc, *how, p.get(), next, i.get(), t, t, code)?;
-            expr(alloc, p.get(), how.checked, next, code)?;
-            expr(alloc, i.get(), keeps_index(how.checked, i.get()), t, code)?;
+            let holds = ranged || how.checked;
+            let keeps = keeps_index(how.checked, i.get());
+            moved_range(ranged, t, code)?;
+            shift(alloc, *how, ranged, p.get(), next, i.get(), t, t, code)?;
+            value(alloc, p.get(), ranged, holds, next, code)?;
+            value(alloc, i.get(), false, keeps, t, code)?;
         }
-        ExprTree::Bare(p) | ExprTree::Tested(_, _, _, p, _) => {
-            expr(alloc, p.get(), true, t, code)?;
+        ExprTree::Bare(p) => {
+            no_range(ranged, t, code)?;
+            value(alloc, p.get(), false, true, t, code)?;
         }
-        ExprTree::Trusted(_, _, p, k) => {
+        ExprTree::Tested(size, form, at, p, k) => {
+            if !ranged && casts_one(*size, p.get(), k.get()) {
+                value(alloc, p.get(), false, true, t, code)?;
+            } else {
+                let next = sum(t, 3)?;
+                test(alloc, *size, *form, *at, k.get(), t, next, code)?;
+                value(
+                    alloc,
+                    k.get(),
+                    false,
+                    keeps_index(true, k.get()),
+                    next,
+                    code,
+                )?;
+                value(alloc, p.get(), true, true, t, code)?;
+            }
+        }
+        ExprTree::Trusted(to, _, p, k) => {
             let next = sum(t, 1)?;
-            expr(alloc, k.get(), false, next, code)?;
-            expr(alloc, p.get(), true, t, code)?;
+            trust(alloc, ranged, to.get().size, k.get(), t, next, code)?;
+            value(alloc, k.get(), false, false, next, code)?;
+            value(alloc, p.get(), false, true, t, code)?;
         }
         ExprTree::Binary(operation, is_signed, at, a, b) => {
             let next = sum(t, 1)?;
+            no_range(ranged, t, code)?;
             operate(
                 alloc,
                 *operation,
@@ -423,42 +676,90 @@ pub fn expr(
                 next,
                 code,
             )?;
-            expr(alloc, b.get(), false, next, code)?;
-            expr(alloc, a.get(), false, t, code)?;
+            value(alloc, b.get(), false, false, next, code)?;
+            value(alloc, a.get(), false, false, t, code)?;
         }
         ExprTree::And(a, b) => {
+            no_range(ranged, t, code)?;
             let mut one = truth_alone(alloc, b.get(), t)?;
-            expr(alloc, b.get(), false, t, &mut one)?;
+            value(alloc, b.get(), false, false, t, &mut one)?;
             let two = set_alone(alloc, t, CoreExpr::Const(0))?;
             fork(alloc, a.get(), t, one, two, code)?;
-            expr(alloc, a.get(), false, t, code)?;
+            value(alloc, a.get(), false, false, t, code)?;
         }
         ExprTree::Or(a, b) => {
+            no_range(ranged, t, code)?;
             let one = set_alone(alloc, t, CoreExpr::Const(1))?;
             let mut two = truth_alone(alloc, b.get(), t)?;
-            expr(alloc, b.get(), false, t, &mut two)?;
+            value(alloc, b.get(), false, false, t, &mut two)?;
             fork(alloc, a.get(), t, one, two, code)?;
-            expr(alloc, a.get(), false, t, code)?;
+            value(alloc, a.get(), false, false, t, code)?;
         }
         ExprTree::Choice(c, a, b) => {
             let mut one = nothing(alloc);
-            expr(alloc, a.get(), true, t, &mut one)?;
+            value(alloc, a.get(), ranged, true, t, &mut one)?;
             let mut two = nothing(alloc);
-            expr(alloc, b.get(), true, t, &mut two)?;
+            value(alloc, b.get(), ranged, true, t, &mut two)?;
             fork(alloc, c.get(), t, one, two, code)?;
-            expr(alloc, c.get(), false, t, code)?;
+            value(alloc, c.get(), false, false, t, code)?;
         }
         ExprTree::Narrow(inner) => {
+            no_range(ranged, t, code)?;
             narrow(alloc, inner.get(), t, code)?;
-            expr(alloc, inner.get(), false, t, code)?;
+            value(alloc, inner.get(), false, false, t, code)?;
         }
-        ExprTree::Number(_)
-        | ExprTree::Local(_)
-        | ExprTree::Limited(_, _)
-        | ExprTree::Array(_, _) => {
-            let value = direct(alloc, e)?;
-            front(code, CoreStmt::Set(t, value))?;
+        ExprTree::Limited(x, limits) => limited(alloc, ranged, *x, limits.get(), t, code)?,
+        ExprTree::Array(at, bytes) => {
+            with_range(
+                ranged,
+                t,
+                CoreExpr::Const(*at),
+                CoreExpr::Const(*bytes),
+                code,
+            )?;
+            front(code, CoreStmt::Set(t, CoreExpr::Const(*at)))?;
+        }
+        ExprTree::Number(_) | ExprTree::Local(_) => {
+            no_range(ranged, t, code)?;
+            let here = direct(alloc, e)?;
+            front(code, CoreStmt::Set(t, here))?;
         }
     }
+    Ok(())
+}
+
+/// The same for the value alone.
+pub fn expr(
+    alloc: Global,
+    e: &ExprTree,
+    always: bool,
+    t: u32,
+    code: &mut Seq<CoreStmt>,
+) -> Result<(), AllocError>
+    ensures { OnOk result (behind code.new ≡
+        expr_code_if always (source_of e.now) t (behind code.old)) }
+{
+    value(alloc, e, false, always, t, code)?;
+    Ok(())
+}
+
+/// Puts the code in front that finds the place of an access.
+pub fn reach(
+    alloc: Global,
+    access: Access,
+    p: &ExprTree,
+    i: &ExprTree,
+    t: u32,
+    code: &mut Seq<CoreStmt>,
+) -> Result<(), AllocError>
+    ensures { OnOk result (behind code.new ≡
+        access_code access (source_of p.now) (source_of i.now) t (behind code.old)) }
+{
+    judge_access(alloc, access, p, i, t, code)?;
+    let next = index_in(access, p, t)?;
+    let checked = is_bounded(access.through);
+    value(alloc, i, false, keeps_index(checked, i), next, code)?;
+    let far = takes_range(access.through, p);
+    value(alloc, p, far, checked, t, code)?;
     Ok(())
 }

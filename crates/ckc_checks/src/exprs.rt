@@ -7,6 +7,7 @@ ghost use Rattle.ckc_base.specs.declared.arithmetic.Width.TheVariants.{Word};
 ghost use Rattle.ckc_source.specs.Words.{operator, divides};
 ghost use Rattle.ckc_checks.specs.Inserted.{is_unchecked, is_direct, operated, low_byte, as_truth, is_zero, scaled, shifted, at_offset, element_of, place_at, direct, operand};
 
+use crate::casts::casts_one;
 use ckc_base::{BinOp, Boxed, Width};
 use ckc_core::CoreExpr;
 use ckc_source::{Access, ExprTree, Operation, Through};
@@ -91,9 +92,10 @@ pub fn is_direct(e: &ExprTree) -> bool
             !shift.checked && (is_direct(a.get()) && is_direct(b.get()))
         }
         ExprTree::Trusted(_, _, a, b) => is_direct(a.get()) && is_direct(b.get()),
-        ExprTree::Narrow(e) | ExprTree::Bare(e) | ExprTree::Tested(_, _, _, e, _) => {
-            is_direct(e.get())
+        ExprTree::Tested(size, _, _, p, k) => {
+            casts_one(*size, p.get(), k.get()) && is_direct(p.get())
         }
+        ExprTree::Narrow(e) | ExprTree::Bare(e) => is_direct(e.get()),
         ExprTree::Number(_)
         | ExprTree::Local(_)
         | ExprTree::Limited(_, _)
@@ -181,7 +183,7 @@ fn with_constant(
 }
 
 /// So many elements of a size.
-fn scaled(alloc: Global, size: u32, e: CoreExpr) -> Result<CoreExpr, AllocError>
+pub fn scaled(alloc: Global, size: u32, e: CoreExpr) -> Result<CoreExpr, AllocError>
     ensures { IfOk result (λ c. expr_of c ≡ scaled size (expr_of e)) }
 {
     match e {
@@ -230,7 +232,7 @@ pub fn at_offset(alloc: Global, offset: u32, e: CoreExpr) -> Result<CoreExpr, Al
 }
 
 /// The element that an access goes to, through a pointer at an index.
-fn element_of(
+pub fn element_of(
     alloc: Global,
     through: Through,
     size: u32,

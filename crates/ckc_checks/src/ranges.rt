@@ -3,9 +3,9 @@
 ghost use Rattle.std.specs.Prelude.{◌≡◌, true, IfOk, if◌then◌else◌};
 ghost use Rattle.ckc_core.specs.Code.{Expr, expr_of};
 ghost use Rattle.ckc_source.specs.Code.{expr_of as source_of};
-ghost use Rattle.ckc_base.specs.declared.arithmetic.BinOp.TheVariants.{LtU};
+ghost use Rattle.ckc_base.specs.declared.arithmetic.BinOp.TheVariants.{LtU, Sub};
 ghost use Rattle.ckc_base.specs.declared.arithmetic.Width.TheVariants.{Word};
-ghost use Rattle.ckc_checks.specs.Inserted.{is_number, is_bounded, keeps_index, held, reads_signed, shifted, exact_test, base_at, amount_at, end_at, static_place, counted_end, range_end, below_or_at, upper_test, range_test};
+ghost use Rattle.ckc_checks.specs.Inserted.{below_end, is_number, is_bounded, keeps_index, held, reads_signed, shifted, exact_test, base_at, amount_at, end_at, static_place, counted_end, range_end, below_or_at, upper_test, range_test, is_named, is_static, is_fixed, is_ranged, takes_range, index_far, index_in, held_test, bounds_test};
 
 use crate::exprs::{at_offset, binary, operand, shifted, sum};
 use ckc_base::{BinOp, Boxed, Width};
@@ -46,6 +46,98 @@ pub fn is_bounded(through: Through) -> bool
         Through::Array | Through::Terminated => true,
         Through::Named | Through::Raw | Through::One => false,
     }
+}
+
+fn is_named(through: Through) -> bool
+    ensures { result ≡ is_named through }
+{
+    match through {
+        Through::Named => true,
+        Through::Raw | Through::One | Through::Array | Through::Terminated => false,
+    }
+}
+
+/// Whether an access goes to a static object.
+fn is_static(access: Access, p: &ExprTree) -> bool
+    ensures { result ≡ is_static access (source_of p.now) }
+{
+    match p {
+        ExprTree::Number(_) => is_named(access.through),
+        ExprTree::Local(_)
+        | ExprTree::Limited(_, _)
+        | ExprTree::Array(_, _)
+        | ExprTree::Load(_, _, _, _)
+        | ExprTree::Member(_, _, _, _, _)
+        | ExprTree::Address(_, _, _, _)
+        | ExprTree::Moved(_, _, _)
+        | ExprTree::Added(_, _, _)
+        | ExprTree::Binary(_, _, _, _, _)
+        | ExprTree::And(_, _)
+        | ExprTree::Or(_, _)
+        | ExprTree::Choice(_, _, _)
+        | ExprTree::Narrow(_)
+        | ExprTree::Bare(_)
+        | ExprTree::Tested(_, _, _, _, _)
+        | ExprTree::Trusted(_, _, _, _) => false,
+    }
+}
+
+fn is_fixed(count: Count) -> bool
+    ensures { result ≡ is_fixed count }
+{
+    match count {
+        Count::Fixed(_) => true,
+        Count::Member(_, _, _) => false,
+    }
+}
+
+/// Whether the range of a pointer is computed where it is tested.
+pub fn is_ranged(p: &ExprTree) -> bool
+    ensures { result ≡ is_ranged (source_of p.now) }
+{
+    match p {
+        ExprTree::Limited(_, _) | ExprTree::Array(_, _) => true,
+        ExprTree::Member(_, count, access, p, _) => is_static(*access, p.get()) && is_fixed(*count),
+        ExprTree::Address(_, access, p, _) => is_static(*access, p.get()),
+        ExprTree::Moved(shift, p, _) | ExprTree::Added(shift, _, p) => {
+            shift.checked && is_ranged(p.get())
+        }
+        ExprTree::Number(_)
+        | ExprTree::Local(_)
+        | ExprTree::Load(_, _, _, _)
+        | ExprTree::Binary(_, _, _, _, _)
+        | ExprTree::And(_, _)
+        | ExprTree::Or(_, _)
+        | ExprTree::Choice(_, _, _)
+        | ExprTree::Narrow(_)
+        | ExprTree::Bare(_)
+        | ExprTree::Tested(_, _, _, _, _)
+        | ExprTree::Trusted(_, _, _, _) => false,
+    }
+}
+
+/// Whether the range of the pointer of an access goes to temporaries.
+pub fn takes_range(through: Through, p: &ExprTree) -> bool
+    ensures { result ≡ takes_range through (source_of p.now) }
+{
+    is_bounded(through) && !is_ranged(p)
+}
+
+/// How far behind its pointer an index is.
+pub fn index_far(ranged: bool) -> u32
+    ensures { result ≡ index_far ranged }
+{
+    match ranged {
+        true => 3,
+        false => 1,
+    }
+}
+
+/// The temporary that the index of an access may go to, of which the pointer is in t.
+pub fn index_in(access: Access, p: &ExprTree, t: u32) -> Result<u32, AllocError>
+    ensures { IfOk result (λ n. n ≡ index_in access (source_of p.now) t) }
+{
+    sum(t, index_far(takes_range(access.through, p)))
 }
 
 /// Whether an index goes to a temporary although it may stand where it is.
@@ -156,7 +248,7 @@ fn amount_at(alloc: Global, variable: Option<Variable>, add: i32) -> Result<Core
 }
 
 /// An end of the limits of a local.
-fn end_at(alloc: Global, x: u32, size: u32, e: End) -> Result<CoreExpr, AllocError>
+pub fn end_at(alloc: Global, x: u32, size: u32, e: End) -> Result<CoreExpr, AllocError>
     ensures { IfOk result (λ c. expr_of c ≡ end_at x size e) }
 {
     let count = amount_at(alloc, e.variable, e.add)?;
@@ -220,7 +312,7 @@ fn counted_end(
 }
 
 /// An end of the range of a pointer, the upper one where the flag says so.
-pub fn range_end(alloc: Global, upper: bool, p: &ExprTree) -> Result<CoreExpr, AllocError>
+fn range_end(alloc: Global, upper: bool, p: &ExprTree) -> Result<CoreExpr, AllocError>
     ensures { IfOk result (λ c. expr_of c ≡ range_end upper (source_of p.now)) }
 {
     match p {
@@ -266,7 +358,7 @@ pub fn range_end(alloc: Global, upper: bool, p: &ExprTree) -> Result<CoreExpr, A
 }
 
 /// Whether an address is at most another one.
-fn below_or_at(alloc: Global, a: CoreExpr, b: CoreExpr) -> Result<CoreExpr, AllocError>
+pub fn below_or_at(alloc: Global, a: CoreExpr, b: CoreExpr) -> Result<CoreExpr, AllocError>
     ensures { IfOk result (λ c. expr_of c ≡ below_or_at (expr_of a) (expr_of b)) }
 {
     let above = binary(alloc, BinOp::LtU, b, a)?;
@@ -290,7 +382,7 @@ fn upper_test(
 }
 
 /// Whether the address in a temporary lies in the range of a pointer.
-pub fn range_test(alloc: Global, last: bool, p: &ExprTree, t: u32) -> Result<CoreExpr, AllocError>
+fn range_test(alloc: Global, last: bool, p: &ExprTree, t: u32) -> Result<CoreExpr, AllocError>
     ensures { IfOk result (λ c. expr_of c ≡ range_test last (source_of p.now) (Expr.Local t)) }
 {
     let low = range_end(alloc, false, p)?;
@@ -298,4 +390,49 @@ pub fn range_test(alloc: Global, last: bool, p: &ExprTree, t: u32) -> Result<Cor
     let high = range_end(alloc, true, p)?;
     let below = upper_test(alloc, last, CoreExpr::Local(t), high)?;
     binary(alloc, BinOp::And, above, below)
+}
+
+/// How far the address in a temporary is behind a lower bound in another one.
+pub fn from_low(alloc: Global, t: u32, low: u32) -> Result<CoreExpr, AllocError>
+    ensures { IfOk result (λ c. expr_of c ≡ Expr.Bin Sub (Expr.Local t) (Expr.Local low)) }
+{
+    binary(alloc, BinOp::Sub, CoreExpr::Local(t), CoreExpr::Local(low))
+}
+
+/// Whether the address in a temporary lies in the range in the two behind it.
+pub fn held_test(alloc: Global, last: bool, t: u32) -> Result<CoreExpr, AllocError>
+    ensures { IfOk result (λ c. expr_of c ≡ held_test last t) }
+{
+    let low = sum(t, 1)?;
+    let length = sum(t, 2)?;
+    let above = below_or_at(alloc, CoreExpr::Local(low), CoreExpr::Local(t))?;
+    let from = from_low(alloc, t, low)?;
+    let below = upper_test(alloc, last, from, CoreExpr::Local(length))?;
+    binary(alloc, BinOp::And, above, below)
+}
+
+/// Whether the address in a temporary lies in the range of a pointer.
+pub fn bounds_test(alloc: Global, last: bool, p: &ExprTree, t: u32) -> Result<CoreExpr, AllocError>
+    ensures { IfOk result (λ c. expr_of c ≡ bounds_test last (source_of p.now) t) }
+{
+    if is_ranged(p) {
+        range_test(alloc, last, p, t)
+    } else {
+        held_test(alloc, last, t)
+    }
+}
+
+/// Whether the element in a temporary is not at the upper bound of its pointer.
+pub fn below_end(alloc: Global, p: &ExprTree, t: u32) -> Result<CoreExpr, AllocError>
+    ensures { IfOk result (λ c. expr_of c ≡ below_end (source_of p.now) t) }
+{
+    if is_ranged(p) {
+        let end = range_end(alloc, true, p)?;
+        binary(alloc, BinOp::Ne, CoreExpr::Local(t), end)
+    } else {
+        let low = sum(t, 1)?;
+        let length = sum(t, 2)?;
+        let from = from_low(alloc, t, low)?;
+        binary(alloc, BinOp::Ne, from, CoreExpr::Local(length))
+    }
 }

@@ -1,18 +1,30 @@
 //! How many temporaries code needs.
 
-ghost use Rattle.std.specs.Prelude.{◌≡◌, ◌+◌, max, map, IfOk, if◌then◌else◌};
+ghost use Rattle.std.specs.Prelude.{◌≡◌, ◌+◌, max, map, IfOk, if◌then◌else◌, false};
 ghost use Rattle.ckc_source.specs.Code.{code_of, expr_of, target_of, right_of, assign_of};
-ghost use Rattle.ckc_checks.specs.Inserted.{expr_room, operand_room, operands_room, target_count, target_room, guard_room, aimed_room, assigned_room, valued_room, bundle_room, room};
-ghost use Rattle.ckc_checks.specs.Building.{expr_room_if};
+ghost use Rattle.ckc_checks.specs.Inserted.{expr_room, operand_room, operands_room, target_count, target_room, guard_room, aimed_room, assigned_room, valued_room, bundle_room, room, range_room};
+ghost use Rattle.ckc_checks.specs.Building.{value_room_if};
 
+use crate::casts::casts_one;
 use crate::exprs::{is_direct, sum};
-use crate::ranges::{is_bounded, keeps_index};
+use crate::ranges::{index_far, is_bounded, keeps_index, takes_range};
 use ckc_source::{Assign, ExprTree, RightTree, StmtTree, TargetTree};
 use std::alloc::AllocError;
 
-/// How many temporaries the code of an expression needs; that of a direct one has none unless the flag says so.
-fn expr_room(e: &ExprTree, always: bool) -> Result<u32, AllocError>
-    ensures { IfOk result (λ n. n ≡ expr_room_if always (expr_of e.now)) }
+/// A value with its range needs three.
+fn range_room(ranged: bool, room: u32) -> u32
+    ensures { result ≡ range_room ranged room }
+{
+    match ranged {
+        true => 3u32.max(room),
+        false => room,
+    }
+}
+
+/// How many temporaries the code of an expression needs, with its range where the first flag says so; that of a direct
+/// one has none unless the second flag says so.
+fn value_room(e: &ExprTree, ranged: bool, always: bool) -> Result<u32, AllocError>
+    ensures { IfOk result (λ n. n ≡ value_room_if ranged always (expr_of e.now)) }
 {
     if !always && is_direct(e) {
         return Ok(0);
@@ -22,56 +34,77 @@ fn expr_room(e: &ExprTree, always: bool) -> Result<u32, AllocError>
         | ExprTree::Member(_, _, access, p, i)
         | ExprTree::Address(_, access, p, i) => {
             let checked = is_bounded(access.through);
-            let left = expr_room(p.get(), checked)?;
-            let right = expr_room(i.get(), keeps_index(checked, i.get()))?;
-            let right = sum(1, right)?;
-            Ok(left.max(right))
+            let far = takes_range(access.through, p.get());
+            let left = value_room(p.get(), far, checked)?;
+            let right = value_room(i.get(), false, keeps_index(checked, i.get()))?;
+            let right = sum(index_far(far), right)?;
+            Ok(range_room(ranged, left.max(right)))
         }
         ExprTree::Moved(shift, p, i) => {
-            let left = expr_room(p.get(), shift.checked)?;
-            let right = expr_room(i.get(), keeps_index(shift.checked, i.get()))?;
-            let right = sum(1, right)?;
+            let left = value_room(p.get(), ranged, ranged || shift.checked)?;
+            let right = value_room(i.get(), false, keeps_index(shift.checked, i.get()))?;
+            let right = sum(index_far(ranged), right)?;
             Ok(left.max(right))
         }
         ExprTree::Added(shift, i, p) => {
-            let left = expr_room(i.get(), keeps_index(shift.checked, i.get()))?;
-            let right = expr_room(p.get(), shift.checked)?;
+            let left = value_room(i.get(), false, keeps_index(shift.checked, i.get()))?;
+            let right = value_room(p.get(), ranged, ranged || shift.checked)?;
             let right = sum(1, right)?;
             Ok(left.max(right))
         }
         ExprTree::Binary(_, _, _, a, b) => {
-            let left = expr_room(a.get(), false)?;
-            let right = expr_room(b.get(), false)?;
+            let left = value_room(a.get(), false, false)?;
+            let right = value_room(b.get(), false, false)?;
             let right = sum(1, right)?;
-            Ok(left.max(right))
+            Ok(range_room(ranged, left.max(right)))
         }
         ExprTree::And(a, b) | ExprTree::Or(a, b) => {
-            let left = expr_room(a.get(), false)?;
-            let right = expr_room(b.get(), false)?;
-            Ok(1u32.max(left.max(right)))
+            let left = value_room(a.get(), false, false)?;
+            let right = value_room(b.get(), false, false)?;
+            Ok(range_room(ranged, 1u32.max(left.max(right))))
         }
         ExprTree::Choice(c, a, b) => {
-            let condition = expr_room(c.get(), false)?;
-            let one = expr_room(a.get(), true)?;
-            let two = expr_room(b.get(), true)?;
+            let condition = value_room(c.get(), false, false)?;
+            let one = value_room(a.get(), ranged, true)?;
+            let two = value_room(b.get(), ranged, true)?;
             Ok(condition.max(one.max(two)))
         }
         ExprTree::Narrow(inner) => {
-            let value = expr_room(inner.get(), false)?;
-            Ok(1u32.max(value))
+            let value = value_room(inner.get(), false, false)?;
+            Ok(range_room(ranged, 1u32.max(value)))
         }
-        ExprTree::Bare(p) | ExprTree::Tested(_, _, _, p, _) => expr_room(p.get(), true),
+        ExprTree::Bare(p) => {
+            let value = value_room(p.get(), false, true)?;
+            Ok(range_room(ranged, value))
+        }
+        ExprTree::Tested(size, _, _, p, k) => {
+            if !ranged && casts_one(*size, p.get(), k.get()) {
+                value_room(p.get(), false, true)
+            } else {
+                let value = value_room(p.get(), true, true)?;
+                let count = value_room(k.get(), false, keeps_index(true, k.get()))?;
+                let count = sum(3, count)?;
+                Ok(value.max(count))
+            }
+        }
         ExprTree::Trusted(_, _, p, k) => {
-            let value = expr_room(p.get(), true)?;
-            let count = expr_room(k.get(), false)?;
+            let value = value_room(p.get(), false, true)?;
+            let count = value_room(k.get(), false, false)?;
             let count = sum(1, count)?;
-            Ok(value.max(count))
+            Ok(range_room(ranged, value.max(count)))
         }
         ExprTree::Number(_)
         | ExprTree::Local(_)
         | ExprTree::Limited(_, _)
-        | ExprTree::Array(_, _) => Ok(1),
+        | ExprTree::Array(_, _) => Ok(range_room(ranged, 1)),
     }
+}
+
+/// The same for the value alone.
+fn expr_room(e: &ExprTree, always: bool) -> Result<u32, AllocError>
+    ensures { IfOk result (λ n. n ≡ value_room_if false always (expr_of e.now)) }
+{
+    value_room(e, false, always)
 }
 
 /// How many temporaries the operands of a call need.
@@ -94,7 +127,7 @@ pub fn target_count(target: &TargetTree) -> u32
     ensures { result ≡ target_count (target_of target.now) }
 {
     match target {
-        TargetTree::Memory(_, _, _, _) => 2,
+        TargetTree::Memory(_, _, _, _) => 3,
         TargetTree::Nothing | TargetTree::Local(_, _) => 0,
     }
 }
@@ -106,9 +139,10 @@ fn target_room(target: &TargetTree) -> Result<u32, AllocError>
     match target {
         TargetTree::Memory(_, access, p, i) => {
             let checked = is_bounded(access.through);
-            let pointer = expr_room(p.get(), checked)?;
+            let far = takes_range(access.through, p.get());
+            let pointer = value_room(p.get(), far, checked)?;
             let index = expr_room(i.get(), keeps_index(checked, i.get()))?;
-            let index = sum(1, index)?;
+            let index = sum(index_far(far), index)?;
             Ok(pointer.max(index))
         }
         TargetTree::Nothing | TargetTree::Local(_, _) => Ok(0),

@@ -6,9 +6,9 @@ ghost use Rattle.ckc_source.specs.Code.{expr_of as source_of, target_of, right_o
 ghost use Rattle.ckc_checks.specs.Inserted.{low_byte, operand, operands, operands_code, is_narrow, kept_in, marked, aim_code, target_count, guarded, stored_code, written, operand_used, assigned, taken, fixed, allowed_code, written_there, right_assigned, valued, planned_code, behind_planned, plans_code, writes_code, bundle_code, result_in, result_kept, statements};
 ghost use Rattle.ckc_checks.specs.Building.{behind, expr_code_if, get_code, put_code, call_code, branch_code, loop_code, return_code, check_code};
 
-use crate::code::{expr, fork, front, in_order, judge, nothing, place};
+use crate::code::{expr, fork, front, in_order, nothing, place, reach};
 use crate::exprs::{binary, low_byte, operand, sum};
-use crate::ranges::{is_bounded, keeps_index, range_end};
+use crate::ranges::below_end;
 use crate::rooms::target_count;
 use ckc_base::{BinOp, Check, Pos, Seq, Width};
 use ckc_core::{CoreExpr, CoreStmt};
@@ -136,8 +136,7 @@ fn write(
             Ok(())
         }
         TargetTree::Memory(width, access, p, i) => {
-            let next = sum(t, 1)?;
-            let to = place(alloc, *access, p.get(), i.get(), t, next)?;
+            let to = place(alloc, *access, p.get(), i.get(), t)?;
             let u = sum(t, target_count(target))?;
             store(alloc, *access, *width, is_byte, t, u, to, value, code)?;
             Ok(())
@@ -159,8 +158,7 @@ fn mark(
     match through {
         Through::Named | Through::Raw | Through::One | Through::Array => Ok(()),
         Through::Terminated => {
-            let end = range_end(alloc, true, p)?;
-            let below = binary(alloc, BinOp::Ne, CoreExpr::Local(t), end)?;
+            let below = below_end(alloc, p, t)?;
             front(code, CoreStmt::Set(sum(t, 1)?, below))?;
             Ok(())
         }
@@ -180,20 +178,7 @@ fn aim(
         TargetTree::Nothing | TargetTree::Local(_, _) => Ok(()),
         TargetTree::Memory(_, access, p, i) => {
             mark(alloc, access.through, p.get(), t, code)?;
-            let next = sum(t, 1)?;
-            judge(
-                alloc,
-                access.through,
-                *access,
-                p.get(),
-                i.get(),
-                t,
-                next,
-                code,
-            )?;
-            let checked = is_bounded(access.through);
-            expr(alloc, i.get(), keeps_index(checked, i.get()), next, code)?;
-            expr(alloc, p.get(), checked, t, code)?;
+            reach(alloc, *access, p.get(), i.get(), t, code)?;
             Ok(())
         }
     }
@@ -235,8 +220,7 @@ fn fix(
     match target {
         TargetTree::Nothing | TargetTree::Local(_, _) => Ok(()),
         TargetTree::Memory(_, access, p, i) => {
-            let next = sum(t, 1)?;
-            let to = place(alloc, *access, p.get(), i.get(), t, next)?;
+            let to = place(alloc, *access, p.get(), i.get(), t)?;
             front(code, CoreStmt::Set(t, to))?;
             Ok(())
         }

@@ -11,23 +11,22 @@ use Rattle.ckc_source.specs.declared.outcome.Place.{Place}
 use Rattle.ckc_source.specs.declared.outcome.Place.TheVariants as place
 use Rattle.ckc_source.specs.Code as source
 use Rattle.ckc_source.specs.Blocks.{lies_in}
-use Rattle.ckc_source.specs.Eval.{Store, given, element, place_in}
+use Rattle.ckc_source.specs.Eval.{Store, place_in}
 use Rattle.ckc_source.specs.Steps.{terminator_at, aims_at, aimed}
 use Rattle.ckc_core.specs.Code.{Code, Function}
 use Rattle.ckc_core.specs.Meaning.{Rest, Caller, value_of}
 use Rattle.ckc_checks.specs.Compilable.{IsCompilableTarget}
-use Rattle.ckc_checks.specs.Inserted.{held, keeps_index, is_bounded, judged, marked, reached_place, aim_code, target_count}
+use Rattle.ckc_checks.specs.Inserted.{marked, reached_place, aim_code, target_count}
 use Rattle.ckc_inserted.proofs.Running.{machine, at}
 use Rattle.ckc_inserted.proofs.Values.{Agree, Sees}
-use Rattle.ckc_inserted.proofs.Coming.{Below, Comes, then_comes, agree_below, known, pair_comes}
-use Rattle.ckc_inserted.proofs.Exprs.{held_comes, index_comes, Placed, judged_comes}
-use Rattle.ckc_inserted.proofs.Counts.{held_steps, index_steps, judged_steps}
+use Rattle.ckc_inserted.proofs.Coming.{Below, Comes}
+use Rattle.ckc_inserted.proofs.Exprs.{reach_ended}
+use Rattle.ckc_inserted.proofs.Counts.{found_steps}
 use Rattle.ckc_inserted.proofs.Guarding.{mark_steps, IsMarked, marked_later, Marks, mark_comes}
 
 -- in how many steps the place of a target is found
 abbrev pub aim_steps : source.Target → ℕ → ℕ
-aim_steps (source.Memory width access p i) t =
-    held_steps (is_bounded access.through) p t + (index_steps (keeps_index (is_bounded access.through) i) i (t + 1) + (judged_steps access.through p i t + mark_steps access.through p t))
+aim_steps (source.Memory width access p i) t = found_steps access p i t + mark_steps access.through p t
 aim_steps target t = 0
 
 module _ (functions : List Function) (callers : List Caller) (world : World) where
@@ -50,34 +49,13 @@ module _ (functions : List Function) (callers : List Caller) (world : World) whe
     aim_comes (source.Variable x width) t more rest l le h agree =
         (0, at callers world more rest l, omega arith, omega arith, no_step (machine functions) (at callers world more rest l), (l, refl, ((λ x less. refl), refl)))
     aim_comes (source.Memory width access p i) t more rest l le h agree =
-        let checked = is_bounded access.through in
-        let keeps = keeps_index checked i in
-        let a = held checked p t in
-        let b = held keeps i (t + 1) in
-        let ju = judged_steps access.through p i t in
-        let mark = mark_steps access.through p t in
         let last = marked access.through p t more in
-        let judge = judged access.through access p a b t last in
-        let judged = h.0 in
         let pointer = h.1 in
         let index = h.2 in
-        let good = Aimed (source.Memory width access p i) t l in
-        pair_comes functions callers world n s sees checked keeps p i (held_steps checked p) (index_steps keeps i) t 0 (ju + mark) (aim_steps (source.Memory width access p i) t) judge more rest l
-        (λ v k. given (element access v k.number) (aims_at s width access v.range)) good
-        (held_comes functions callers world n s sees checked p) (index_comes functions callers world n s sees checked i) le pointer.0 index.0 agree (omega arith)
-        (λ x y l2 both eq_p eq_i.
-        let agree2 = agree_below functions callers world n s sees t l2 l le both.0 agree in
-        let place_of = Placed functions callers world n s sees access access.through a b t l in
-        let start = at callers world judge rest l2 in
-        then_comes functions callers world 0 ju mark (ju + mark) start (element access x y.number) (aims_at s width access x.range) last rest
-        (λ q l3. place_of q l3 × (element access x y.number ≡ Ok q)) (λ to u. (l' : Values) × (u ≡ at callers world more rest l') × good to l') (omega arith)
-        (known functions callers world n s sees 0 ju start (element access x y.number) last rest place_of
-        (judged_comes functions callers world n s sees access access.through p i t last rest l l2 x y le agree2 judged.3 pointer.0 both eq_p))
-        (λ q l3 r.
-        let here = r.0 in
-        by x.range q l3
-        (mark_comes functions callers world n s sees access.through access p i t more rest l l3 x y q le (agree_below functions callers world n s sees t l3 l le here.0 agree) judged.3 pointer.0 eq_p r.1 here)
-        (lies_in width (place_in q access.offset) s.blocks)))
+        reach_ended functions callers world n s sees access p i t 0 (mark_steps access.through p t) (aim_steps (source.Memory width access p i) t) last more rest l (λ v a. aims_at s width access v.range a)
+        (Aimed (source.Memory width access p i) t l) le h.0 pointer.0 index.0 agree (omega arith)
+        (λ x q l3 r end.
+        by x.range q l3 (mark_comes functions callers world n s sees access.through access p i t more rest l l3 x.range q r end) (lies_in width (place_in q access.offset) s.blocks))
       where
         by : (range : Range) (q : ℕ) (l3 : Values) → Marks functions callers world n s sees access.through access p i t more rest l l3 range q → (here : Bool)
             → Comes functions callers world 0 (mark_steps access.through p t) (at callers world (marked access.through p t more) rest l3)
@@ -97,4 +75,4 @@ module _ (functions : List Function) (callers : List Caller) (world : World) whe
   at_later source.Nothing t before l to is below = is
   at_later (source.Variable x width) t before l to is below = is
   at_later (source.Memory width access p i) t before l to is below =
-      (is.0, is.1, is.2, is.3, marked_later access.through access.at t before l is.1 is.4 (below (t + 1) (omega arith)), λ later same. is.5 later (λ z less. same z less ∙ below z less))
+      (is.0, is.1, is.2, is.3, marked_later access.through access.at t before l is.1 is.4 (below (t + 1) (omega arith)), λ later same. is.5 later (λ z less. same z less ∙ below z (omega arith)))

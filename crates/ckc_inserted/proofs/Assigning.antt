@@ -17,9 +17,9 @@ use Rattle.ckc_core.specs.Code.{Local, Code, Get, Put, Function}
 use Rattle.ckc_core.specs.Meaning.{value_of, nodes, core_step, goes_by}
 use Rattle.ckc_core.specs.Meaning as C
 use Rattle.ckc_checks.specs.Compilable.{target_nodes, expr_nodes, IsCompilableExpr, IsCompilableTarget, IsCompilableFunction}
-use Rattle.ckc_checks.specs.Inserted.{keeps_index, is_bounded, low_byte, operand, operand_used, operand_code, aim_code, target_count, is_narrow, written, assigned, statements}
+use Rattle.ckc_checks.specs.Inserted.{low_byte, operand, operand_used, operand_code, aim_code, target_count, is_narrow, written, assigned, statements}
 use Rattle.ckc_inserted.proofs.Running.{machine, at}
-use Rattle.ckc_inserted.proofs.Counts.{operand_nodes, held_nodes, index_few, judged_few}
+use Rattle.ckc_inserted.proofs.Counts.{operand_nodes, found_few}
 use Rattle.ckc_inserted.proofs.Guarding.{guard_few}
 use Rattle.ckc_inserted.proofs.Aiming.{IsAt, aim_steps, at_later}
 use Rattle.ckc_inserted.proofs.Relation.{Stands}
@@ -29,9 +29,7 @@ use Rattle.ckc_inserted.proofs.Acting.{core_of, Meets, IsReady, uses_at, aims, b
 pub aim_write_steps : (target : source.Target) (t : ℕ) → aim_steps target t + write_steps target t ≤ 14 * target_nodes target + 10
 aim_write_steps source.Nothing t = omega arith
 aim_write_steps (source.Variable x width) t = omega arith
-aim_write_steps (source.Memory width access p i) t =
-    let checked = is_bounded access.through in
-    omega (arith, held_nodes checked p t, index_few (keeps_index checked i) i (t + 1), judged_few access.through p i t, guard_few access.through p t)
+aim_write_steps (source.Memory width access p i) t = omega (arith, found_few access p i t, guard_few access.through p t)
 
 module _ (p : source.Program) (all : All (IsCompilableFunction p.functions) p.functions)
     (s : S.State) (work : List Work) (looped : Bool) (ds : List C.Caller) (world : World) (rest : C.Rest) where

@@ -32,7 +32,7 @@ use Rattle.ckc_source.specs.Blocks.{Block, loaded}
 use Rattle.ckc_source.specs.Runs.{is_true}
 use Rattle.ckc_source.specs.Words.{exact, as_address, operator, computed, divides, truth, elements_behind}
 use Rattle.ckc_source.specs.Eval.{Store, given, given_both, given_some, plain, ranged, spanned, stops, reads, reads_within, end_address, at_address, element, place_in, loads, counted, loads_pointer, moves, moves_checked, moved_exactly, operates, tests, tests_within, trusts, evaluated}
-use Rattle.ckc_checks.specs.Compilable.{IsOne, IsCompilableExpr}
+use Rattle.ckc_checks.specs.Compilable.{IsCompilableExpr}
 
 -- ---- operations on words
 
@@ -237,10 +237,6 @@ module _ (n : ℕ) (s : Store) (loads_word : (w : Width) (a m : ℕ) → loaded 
   accessed_word access (Ok v) (Err e) go h = tt
   accessed_word access (Err e) q go h = tt
 
-  one_word : (k : source.Expr) → IsOne k → GivesWord (evaluated s k)
-  one_word (source.Number m) e = subst (λ (m : ℕ). m < 2 ^ 32) (sym e) (omega arith)
-  one_word k e = absurd e
-
   -- the value of an expression is a word
   pub evaluated_word : (e : source.Expr) → IsCompilableExpr n e → GivesWord (evaluated s e)
   evaluated_word (source.Number m) h = h
@@ -282,7 +278,7 @@ module _ (n : ℕ) (s : Store) (loads_word : (w : Width) (a m : ℕ) → loaded 
       bare (Ok v) x = x
       bare (Err e) x = tt
   evaluated_word (source.Tested size how at p k) h =
-      both_word (evaluated s p) (evaluated s k) (λ v c. tests size how at v c.number) (evaluated_word p h.2) (one_word k h.0)
+      both_word (evaluated s p) (evaluated s k) (λ v c. tests size how at v c.number) (evaluated_word p h.1) (evaluated_word k h.2)
       (λ v c x y. tests_word size how at v c.number x)
   evaluated_word (source.Trusted to how p k) h =
       both_word (evaluated s p) (evaluated s k) (λ v c. trusts s to how v.number c.number) (evaluated_word p h.0) (evaluated_word k h.1)

@@ -28,12 +28,12 @@ use Rattle.ckc_core.specs.Code.{Expr, Local, Code, Set, Store as StoreTo, Alloc,
 use Rattle.ckc_core.specs.Meaning.{value_of, nodes, core_step, goes_by}
 use Rattle.ckc_core.specs.Meaning as C
 use Rattle.ckc_checks.specs.Compilable.{target_nodes, right_nodes, assigns_nodes, expr_nodes, IsCompilableExpr, IsCompilableTarget, IsCompilableRight, IsCompilableAssign, IsCompilableFunction}
-use Rattle.ckc_checks.specs.Inserted.{keeps_index, is_bounded, reached_place, operand, expr_code, aim_code, target_count, guarded, fixed, allowed_code, taken, kept_in, written_there, valued, planned_code, behind_planned, plans_code, writes_code, bundle_code, statements}
+use Rattle.ckc_checks.specs.Inserted.{reached_place, operand, expr_code, aim_code, target_count, guarded, fixed, allowed_code, taken, kept_in, written_there, valued, planned_code, behind_planned, plans_code, writes_code, bundle_code, statements}
 use Rattle.ckc_inserted.proofs.Running.{machine, Runs, then_runs, at, by_set, step_by}
 use Rattle.ckc_inserted.proofs.Flat.{allocated_same, stored_same}
 use Rattle.ckc_inserted.proofs.Values.{Sees, word_seen}
 use Rattle.ckc_inserted.proofs.Bounded.{GivesWord}
-use Rattle.ckc_inserted.proofs.Counts.{expr_steps, operand_steps, operand_nodes, held_nodes, index_few, reached_nodes, judged_few, written_same, written_below}
+use Rattle.ckc_inserted.proofs.Counts.{expr_steps, operand_steps, operand_nodes, found_few, written_same, written_below}
 use Rattle.ckc_inserted.proofs.Coming.{Below, Held, known}
 use Rattle.ckc_inserted.proofs.Coming as X
 use Rattle.ckc_inserted.proofs.Aiming.{IsAt, Aimed, aim_steps, aim_comes}
@@ -102,9 +102,7 @@ allow_steps target = 0
 place_few : (target : source.Target) (t : ℕ) → place_steps target t + allow_steps target ≤ 14 * target_nodes target
 place_few source.Nothing t = omega arith
 place_few (source.Variable x width) t = omega arith
-place_few (source.Memory width access p i) t =
-    let checked = is_bounded access.through in
-    omega (arith, reached_nodes access p i t, held_nodes checked p t, index_few (keeps_index checked i) i (t + 1), judged_few access.through p i t, guard_few access.through p t, check_few access.through)
+place_few (source.Memory width access p i) t = omega (arith, found_few access p i t, guard_few access.through p t, check_few access.through)
 
 -- in how many steps places and values are found
 abbrev plan_steps : List (source.Target × source.Right) → ℕ
@@ -163,8 +161,8 @@ module _ (p : source.Program) (all : All (IsCompilableFunction p.functions) p.fu
   allowed_runs source.Nothing t value to more world l is v = allows_any core ds world rest to value 0 more l (ap (λ to. allowed to value) is ∙ ap Ok (sym is))
   allowed_runs (source.Variable x width) t value to more world l is v = allows_any core ds world rest to value 0 more l (ap (λ to. allowed to value) is ∙ ap Ok (sym is))
   allowed_runs (source.Memory width access i j) t value to more world l is v =
-      subst (λ to. Runs core 0 (check_steps access.through) (at ds world (guarded access.through access.at width false t (t + 2) more) rest l) (allowed to value) (λ into w. (into ≡ to) × (w ≡ at ds world more rest l))) (sym is.2)
-      (guard_runs core ds world rest access.through access.at width false t (t + 2) is.0 value is.1 more l is.3 v (λ b. absurd cc))
+      subst (λ to. Runs core 0 (check_steps access.through) (at ds world (guarded access.through access.at width false t (t + target_count (source.Memory width access i j)) more) rest l) (allowed to value) (λ into w. (into ≡ to) × (w ≡ at ds world more rest l))) (sym is.2)
+      (guard_runs core ds world rest access.through access.at width false t (t + target_count (source.Memory width access i j)) is.0 value is.1 more l is.3 v (λ b. absurd cc))
 
   -- what is to be written is in temporaries from t on
   abbrev AreThere : List (source.Target × source.Right) → ℕ → Values → List Write → Type 0

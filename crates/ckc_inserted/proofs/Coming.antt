@@ -7,7 +7,8 @@ use Rattle.ckc_base.specs.Actions.{World}
 use Rattle.ckc_base.specs.Activations.{Values, with_written}
 use Rattle.ckc_base.proofs.Runs.{no_step}
 use Rattle.ckc_source.specs.declared.expr.Operation.{Operation}
-use Rattle.ckc_source.specs.declared.outcome.Range.TheVariants.{Without}
+use Rattle.ckc_source.specs.declared.outcome.Range.{Range}
+use Rattle.ckc_source.specs.declared.outcome.Range.TheVariants.{Without, Within}
 use Rattle.ckc_source.specs.declared.outcome.Value.{Value}
 use Rattle.ckc_source.specs.declared.outcome.Halt.{Halt}
 use Rattle.ckc_source.specs.declared.outcome.Halt.TheVariants.{Stopped, Stuck}
@@ -16,18 +17,38 @@ use Rattle.ckc_source.specs.Words.{computed}
 use Rattle.ckc_source.specs.Eval.{Store, given, given_both, plain, stops, evaluated}
 use Rattle.ckc_core.specs.Code.{Expr, Local, Code, Set, Check, Function}
 use Rattle.ckc_core.specs.Meaning.{Rest, State, Caller, value_of, nodes}
-use Rattle.ckc_checks.specs.Compilable.{IsCompilableExpr, expr_nodes}
-use Rattle.ckc_checks.specs.Inserted.{is_direct, operated, held, put_if, keeps_index, direct, expr_code}
+use Rattle.ckc_checks.specs.Compilable.{IsCompilableExpr, HasRange, expr_nodes}
+use Rattle.ckc_checks.specs.Inserted.{is_direct, operated, held, put_if, keeps_index, direct, value_code, expr_code}
 use Rattle.ckc_inserted.proofs.Running.{machine, Runs, first_runs, later_runs, then_runs, at, by_set, by_pass, by_fail}
 use Rattle.ckc_inserted.proofs.Bounded.{GivesWord}
 use Rattle.ckc_inserted.proofs.Values.{IsValue, operated_value, Agree, Sees, word_seen, direct_value}
-use Rattle.ckc_inserted.proofs.Counts.{written_same, written_below, some_node, direct_nodes, expr_steps, held_steps, operand_steps, index_steps}
+use Rattle.ckc_inserted.proofs.Counts.{written_same, written_below, some_node, direct_nodes, value_steps, expr_steps, held_steps, operand_steps, index_steps}
 
 -- ---- running
 
 -- the locals below t are as they were
 abbrev pub Below : ℕ → Values → Values → Type 0
 Below t after before = (x : ℕ) → x < t → after x ≡ before x
+
+-- the locals but for t are as they were
+abbrev pub Only : ℕ → Values → Values → Type 0
+Only t after before = (x : ℕ) → (x == t) ≡ false → after x ≡ before x
+
+pub only_below : (t : ℕ) (after before : Values) → Only t after before → Below t after before
+only_below t after before h x less = h x (let e : (x == t) ≡ false = grind arith in e)
+
+pub only_behind : (t k : ℕ) (after before : Values) → Only t after before → 1 ≤ k → after (t + k) ≡ before (t + k)
+only_behind t k after before h more = h (t + k) (let e : (t + k == t) ≡ false = grind arith in e)
+
+-- A range as words: its lower bound, and how many bytes it has.
+abbrev pub IsRangeOf : Range → (low length : ℕ) → Type 0
+IsRangeOf (Within a b) low length = (a ≡ low) × (b ≡ low + length)
+IsRangeOf Without low length = Unit {0}
+
+-- a range is in the two temporaries behind t
+abbrev pub HasAt : Range → ℕ → Values → Type 0
+HasAt range t l =
+    (low length : ℕ) × (l (t + 1) ≡ Some low) × (l (t + 2) ≡ Some length) × (low < 2 ^ 32) × (length < 2 ^ 32) × IsRangeOf range low length
 
 module _ (functions : List Function) (callers : List Caller) (world : World) where
   -- a stretch to code of the same call, with other locals, or a stop, as the evaluation says
@@ -56,6 +77,10 @@ module _ (functions : List Function) (callers : List Caller) (world : World) whe
   -- the value of the expression is in the temporary t
   abbrev pub Put : ℕ → Values → Value → Values → Type 0
   Put t before v l = Below t l before × (l t ≡ Some v.number)
+
+  -- the same, and its range behind it
+  abbrev pub PutRange : ℕ → Values → Value → Values → Type 0
+  PutRange t before v l = Below t l before × (l t ≡ Some v.number) × HasAt v.range t l
 
   -- The operand has this value, which is a word, as long as the locals up to t stay.
   abbrev pub Held : Expr → ℕ → Values → Value → Values → Type 0
@@ -109,6 +134,10 @@ module _ (functions : List Function) (callers : List Caller) (world : World) whe
     abbrev pub Claim : source.Expr → Type 0
     Claim e = (t : ℕ) (more : Code) (rest : Rest) (l : Values) → n ≤ t → IsCompilableExpr n e → Agree n s.locals l
         → Comes 1 (expr_steps e) (at callers world (expr_code e t more) rest l) (evaluated s e) more rest (Put t l)
+
+    abbrev pub RangeClaim : source.Expr → Type 0
+    RangeClaim e = (t : ℕ) (more : Code) (rest : Rest) (l : Values) → n ≤ t → IsCompilableExpr n e → HasRange n e → Agree n s.locals l
+        → Comes 1 (value_steps true e) (at callers world (value_code true e t more) rest l) (evaluated s e) more rest (PutRange t l)
 
     -- an operand in so many steps, in a temporary in any case where the flag says so
     abbrev pub HeldIn : (ℕ → ℕ) → Bool → source.Expr → Type 0

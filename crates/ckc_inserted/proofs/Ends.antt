@@ -62,6 +62,15 @@ add_both z y t u e f = omega (arith, ints)
 pub number_word : (add : ℤ) → IsSmall add → IsWord add 8589934592 (word_of add)
 number_word add fits = let a = add_word add fits in (a.0 + 4294967296, add_more add a.0 a.1, omega (arith, a.2))
 
+pub exact_word : (form : Integer) (w : ℕ) → w < 2 ^ 32 → IsWord (exact form w) 8589934592 w
+exact_word form w h = let f = form_word form w h in (f.0 + 4294967296, add_more (exact form w) f.0 f.1, omega (arith, f.2))
+
+pub member_word : (form : Integer) (w : ℕ) (add : ℤ) → w < 2 ^ 32 → IsSmall add → IsWord (exact form w +ℤ add) 8589934592 (applied binary.Add w (word_of add))
+member_word form w add h fits =
+    let f = form_word form w h in
+    let a = add_word add fits in
+    (f.0 + a.0, add_both (exact form w) add f.0 a.0 f.1 a.1, omega (arith, f.2, a.2))
+
 -- ---- products
 
 over : (size k d : ℕ) → size * (k + 4294967296 * d) ≡ size * k + 4294967296 * (size * d)
@@ -134,3 +143,14 @@ module _ (n : ℕ) (locals : List ℕ) (l : Values) (memory : Memory) (agree : A
       let p = base_address locals (slice_index locals x) e.base in
       shifted_value l memory false size (base_at x e.base) (amount_at e.variable e.add) p m.0 b.0 m.1 b.1 m.2
       ∙ ap Some (end_word size p m.0 a (amount locals e.variable e.add) m.3 ends less)
+
+  -- such an end has a word in any case
+  pub any_end : (x size : ℕ) (e : End) → x < n → IsEnd n e → (k : ℕ) × (value_of l memory (end_at x size e) ≡ Some k) × (k < 2 ^ 32)
+  any_end x size e h is =
+      let b = base_value x e.base h is.0 in
+      let m = amount_value e.variable e.add is.1 is.2 in
+      let p = base_address locals (slice_index locals x) e.base in (
+        applied binary.Add p (applied binary.Mul size m.0),
+        shifted_value l memory false size (base_at x e.base) (amount_at e.variable e.add) p m.0 b.0 m.1 b.1 m.2,
+        omega arith,
+      )

@@ -160,7 +160,7 @@ some_product (suc size) m h = omega arith
 product_low : (size i : ℕ) → size < 2 ^ 31 → i < 2 ^ 31 → signed size *ℤ signed i ≡ pos (size * i)
 product_low size i h k = ap (λ z. z *ℤ signed i) (low_signed size h) ∙ ap (λ z. pos size *ℤ z) (low_signed i k) ∙ pos-*ℤ-pos size i
 
-product_high : (size i : ℕ) → 1 ≤ size → size < 2 ^ 31 → 2 ^ 31 ≤ i → i < 2 ^ 32 → pos size *ℤ signed i ≡ negsuc (size * suc (4294967295 - i) - 1)
+pub product_high : (size i : ℕ) → 1 ≤ size → size < 2 ^ 31 → 2 ^ 31 ≤ i → i < 2 ^ 32 → pos size *ℤ signed i ≡ negsuc (size * suc (4294967295 - i) - 1)
 product_high size i one h k l =
     ap (λ z. pos size *ℤ z) (high_signed i k l) ∙ pos-*ℤ-negsuc size (4294967295 - i) ∙ neg_pos (size * suc (4294967295 - i)) (some_product size (4294967295 - i) one)
 

@@ -1,5 +1,5 @@
 -- Through a pointer to a null-terminated array zero alone is written at the upper bound.
-use Rattle.std.proofs.Common.{◌≡◌, ℕ, ◌+◌, ◌*◌, ◌≤◌, ◌<◌, ◌==◌, List, [], refl, sym, ◌∙◌, ap, subst, arith}
+use Rattle.std.proofs.Common.{◌≡◌, ℕ, ◌^◌, ◌+◌, ◌*◌, ◌≤◌, ◌<◌, ◌==◌, List, [], refl, sym, ◌∙◌, ap, subst, arith}
 use Rattle.std.specs.Prelude.{Bool, true, false, not, if◌then◌else◌, Option, Some, None, Ok}
 use Rattle.ckc_base.specs.declared.arithmetic.BinOp.TheVariants as binary
 use Rattle.ckc_base.specs.declared.arithmetic.Width.{Width}
@@ -16,24 +16,22 @@ use Rattle.ckc_source.specs.declared.expr.Access.{Access}
 use Rattle.ckc_source.specs.declared.expr.Through.{Through}
 use Rattle.ckc_source.specs.declared.expr.Through.TheVariants.{Named, Raw, One, Array, Terminated}
 use Rattle.ckc_source.specs.declared.outcome.Range.{Range}
-use Rattle.ckc_source.specs.declared.outcome.Range.TheVariants.{Within}
-use Rattle.ckc_source.specs.declared.outcome.Value.{Value}
+use Rattle.ckc_source.specs.declared.outcome.Range.TheVariants.{Within, Without}
 use Rattle.ckc_source.specs.declared.outcome.Place.{Place}
 use Rattle.ckc_source.specs.declared.outcome.Place.TheVariants as place
 use Rattle.ckc_source.specs.Code as source
-use Rattle.ckc_source.specs.Words.{exact, as_address, elements_behind}
-use Rattle.ckc_source.specs.Eval.{Store, given, stops, at_address, in_range, element_through, place_in, evaluated}
+use Rattle.ckc_source.specs.Eval.{Store, stops, place_in}
 use Rattle.ckc_source.specs.Steps.{terminator_at, refuses, allowed}
 use Rattle.ckc_core.specs.Code.{Expr, Const, Local, Bin, Code, Check, Function}
-use Rattle.ckc_core.specs.Meaning.{Rest, Caller, both, value_of, nodes}
-use Rattle.ckc_checks.specs.Compilable.{guard_nodes, IsJudged, IsCompilableExpr}
-use Rattle.ckc_checks.specs.Inserted.{at_offset, element_of, held, keeps_index, is_bounded, range_end, kept_in, below_end, marked, guarded}
+use Rattle.ckc_core.specs.Meaning.{Rest, Caller, value_of, nodes}
+use Rattle.ckc_checks.specs.Compilable.{guard_nodes}
+use Rattle.ckc_checks.specs.Inserted.{at_offset, element_of, held, keeps_index, is_bounded, is_ranged, takes_range, index_far, kept_in, below_end, marked, guarded}
 use Rattle.ckc_inserted.proofs.Running.{machine, Runs, at, by_set, by_pass, by_fail}
-use Rattle.ckc_inserted.proofs.Values.{Agree, Sees, low_value, at_offset_value}
-use Rattle.ckc_inserted.proofs.Ranges.{range_known}
+use Rattle.ckc_inserted.proofs.Values.{Sees, low_value, at_offset_value}
 use Rattle.ckc_inserted.proofs.Counts.{written_same, written_below, range_end_nodes}
 use Rattle.ckc_inserted.proofs.Coming.{Below}
-use Rattle.ckc_inserted.proofs.Exprs.{Placed}
+use Rattle.ckc_inserted.proofs.Ending.{both_some, end_test}
+use Rattle.ckc_inserted.proofs.Judging.{Ended}
 
 -- ---- steps
 
@@ -51,8 +49,12 @@ abbrev pub guard_steps : Through → ℕ
 guard_steps Terminated = 12
 guard_steps _ = 0
 
+below_end_nodes : (b : Bool) (p : source.Expr) (t : ℕ) → nodes (end_test b p t) ≤ 9
+below_end_nodes true p t = omega (arith, range_end_nodes true p)
+below_end_nodes false p t = omega arith
+
 pub guard_few : (through : Through) (p : source.Expr) (t : ℕ) → mark_steps through p t + guard_steps through ≤ 14 * guard_nodes through
-guard_few Terminated p t = omega (arith, range_end_nodes true p)
+guard_few Terminated p t = omega (arith, below_end_nodes (is_ranged p) p t)
 guard_few Named p t = omega arith
 guard_few Raw p t = omega arith
 guard_few One p t = omega arith
@@ -84,60 +86,45 @@ marked_later Raw spot t before l zero_alone is same = is
 marked_later One spot t before l zero_alone is same = is
 marked_later Array spot t before l zero_alone is same = is
 
--- an element that is reached through a checked pointer is none of null
-not_null : (access : Access) (x : Value) (k q : ℕ) → element_through Terminated access x k ≡ Ok q → (x.number == 0) ≡ false
-not_null access x k q e = by (x.number == 0) refl e
-  where
-    by : (zero : Bool) → (x.number == 0) ≡ zero
-        → given (if zero then stops check.Null access.at else at_address (as_address (elements_behind x.number access.size (exact access.index k))) access.at) (in_range true x.range access.at) ≡ Ok q
-        → (x.number == 0) ≡ false
-    by true z e = absurd cc
-    by false z e = z
-
-both_some : (f : ℕ → ℕ → ℕ) (o p : Option ℕ) (a b : ℕ) → o ≡ Some a → p ≡ Some b → both f o p ≡ Some (f a b)
-both_some f o p a b e g = ap (λ o. both f o p) e ∙ ap (λ p. both f (Some a) p) g
-
 module _ (functions : List Function) (callers : List Caller) (world : World) (n : ℕ) (s : Store) (sees : Sees n s world.memory) where
+  -- the element that an access goes to
+  abbrev element_at : Through → Access → (p index : source.Expr) → ℕ → Expr
+  element_at through access p index t =
+      element_of through access.size (held (is_bounded through) p t) (held (keeps_index (is_bounded through) index) index (t + index_far (takes_range through p)))
+
   -- what finds a target comes to its mark, and to where its place is known
   abbrev pub Marks : (through : Through) (access : Access) (p index : source.Expr) (t : ℕ) (more : Code) (rest : Rest) (before l : Values) (range : Range) (q : ℕ) → Type 0
   Marks through access p index t more rest before l range q =
       (count : ℕ) × (after : Values) × (count ≤ mark_steps through p t) × Stretch (machine functions) count [] (at callers world (marked through p t more) rest l) (at callers world more rest after)
       × Below t after before × IsMarked through access.at t after (terminator_at through range q access.at)
-      × ((later : Values) → Below (t + 2) later after
-      → value_of later world.memory (at_offset access.offset (element_of through access.size (held (is_bounded through) p t) (held (keeps_index (is_bounded through) index) index (t + 1)))) ≡ Some (place_in q access.offset))
+      × ((later : Values) → Below (t + 2) later after → value_of later world.memory (at_offset access.offset (element_at through access p index t)) ≡ Some (place_in q access.offset))
 
-  pub mark_comes : (through : Through) (access : Access) (p index : source.Expr) (t : ℕ) (more : Code) (rest : Rest) (before l : Values) (x y : Value) (q : ℕ) → n ≤ t → Agree n s.locals l
-      → IsJudged n through access.size p index → IsCompilableExpr n p → evaluated s p ≡ Ok x → element_through through access x y.number ≡ Ok q
-      → Placed functions callers world n s sees access through (held (is_bounded through) p t) (held (keeps_index (is_bounded through) index) index (t + 1)) t before q l
-      → Marks through access p index t more rest before l x.range q
-  mark_comes Named access p index t more rest before l x y q le agree h hp eq found r =
-      (0, l, omega arith, no_step (machine functions) (at callers world more rest l), r.0, refl, λ later below. at_offset_value later world.memory access.offset (element_of Named access.size (held false p t) (held (keeps_index false index) index (t + 1))) q (r.1 later below) r.2)
-  mark_comes Raw access p index t more rest before l x y q le agree h hp eq found r =
-      (0, l, omega arith, no_step (machine functions) (at callers world more rest l), r.0, refl, λ later below. at_offset_value later world.memory access.offset (element_of Raw access.size (held false p t) (held (keeps_index false index) index (t + 1))) q (r.1 later below) r.2)
-  mark_comes One access p index t more rest before l x y q le agree h hp eq found r =
-      (0, l, omega arith, no_step (machine functions) (at callers world more rest l), r.0, refl, λ later below. at_offset_value later world.memory access.offset (element_of One access.size (held false p t) (held (keeps_index false index) index (t + 1))) q (r.1 later below) r.2)
-  mark_comes Array access p index t more rest before l x y q le agree h hp eq found r =
-      (0, l, omega arith, no_step (machine functions) (at callers world more rest l), r.0, refl, λ later below. at_offset_value later world.memory access.offset (element_of Array access.size (held true p t) (held (keeps_index true index) index (t + 1))) q (r.1 later below) r.2)
-  mark_comes Terminated access p index t more rest before l x y q le agree h hp eq found r =
-      let known = range_known n s world.memory sees p x h.2 hp eq (not_null access x y.number q found) in
-      subst (λ range. Marks Terminated access p index t more rest before l range q) (sym known.2)
-      (by known.0 known.1 (both_some (applied binary.Ne) (l t) (value_of l world.memory (range_end true p)) q known.1 (r.1 l (λ z less. refl)) (known.4 l agree)) (q == known.1) refl)
+  pub mark_comes : (through : Through) (access : Access) (p index : source.Expr) (t : ℕ) (more : Code) (rest : Rest) (before l : Values) (range : Range) (q : ℕ)
+      → Below t l before × ((later : Values) → Below (t + 2) later l → value_of later world.memory (element_at through access p index t) ≡ Some q) × (q < 2 ^ 32)
+      → Ended functions callers world n s sees through p t range q l → Marks through access p index t more rest before l range q
+  mark_comes Named access p index t more rest before l range q r end =
+      (0, l, omega arith, no_step (machine functions) (at callers world more rest l), r.0, refl, λ later below. at_offset_value later world.memory access.offset (element_at Named access p index t) q (r.1 later below) r.2)
+  mark_comes Raw access p index t more rest before l range q r end =
+      (0, l, omega arith, no_step (machine functions) (at callers world more rest l), r.0, refl, λ later below. at_offset_value later world.memory access.offset (element_at Raw access p index t) q (r.1 later below) r.2)
+  mark_comes One access p index t more rest before l range q r end =
+      (0, l, omega arith, no_step (machine functions) (at callers world more rest l), r.0, refl, λ later below. at_offset_value later world.memory access.offset (element_at One access p index t) q (r.1 later below) r.2)
+  mark_comes Array access p index t more rest before l range q r end =
+      (0, l, omega arith, no_step (machine functions) (at callers world more rest l), r.0, refl, λ later below. at_offset_value later world.memory access.offset (element_at Array access p index t) q (r.1 later below) r.2)
+  mark_comes Terminated access p index t more rest before l Without q r end = absurd end
+  mark_comes Terminated access p index t more rest before l (Within low high) q r end = by (q == high) refl
     where
-      at_end : (high : ℕ) (here : Bool) → (q == high) ≡ here → value_of l world.memory (below_end p t) ≡ Some (applied binary.Ne q high) → value_of l world.memory (below_end p t) ≡ Some (flag (not here))
-      at_end high here e v = v ∙ ap (λ b. Some (flag (not b))) e
-
       marks : (here : Bool) → IsMarked Terminated access.at t (with_written l (t + 1) (flag (not here))) (if here then Some access.at else None)
       marks true = (refl, written_same l (t + 1) 0)
       marks false = written_same l (t + 1) 1
 
-      by : (low high : ℕ) → value_of l world.memory (below_end p t) ≡ Some (applied binary.Ne q high) → (here : Bool) → (q == high) ≡ here → Marks Terminated access p index t more rest before l (Within low high) q
-      by low high v here e =
+      by : (here : Bool) → (q == high) ≡ here → Marks Terminated access p index t more rest before l (Within low high) q
+      by here e =
           let mark = flag (not here) in
           let after = with_written l (t + 1) mark in (
             nodes (below_end p t) + 1,
             after,
             omega arith,
-            by_set functions callers world (t + 1) (below_end p t) more rest l mark (at_end high here e v),
+            by_set functions callers world (t + 1) (below_end p t) more rest l mark (end ∙ ap (λ b. Some (flag (not b))) e),
             (λ z less. written_below l (t + 1) mark z (omega arith) ∙ r.0 z less),
             subst (λ b. IsMarked Terminated access.at t after (if b then Some access.at else None)) (sym e) (marks here),
             (λ later below. at_offset_value later world.memory access.offset (Local t) q (below t (omega arith) ∙ written_below l (t + 1) mark t (omega arith) ∙ r.1 l (λ z less. refl)) r.2),

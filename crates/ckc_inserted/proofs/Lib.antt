@@ -8,8 +8,13 @@ pub mod Values
 pub mod True
 pub mod Ends
 pub mod Ranges
+pub mod Casts
 pub mod Counts
 pub mod Coming
+pub mod Ending
+pub mod Judging
+pub mod Moving
+pub mod Ranging
 pub mod Exprs
 pub mod Guarding
 pub mod Aiming

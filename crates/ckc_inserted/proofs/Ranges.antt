@@ -30,13 +30,13 @@ use Rattle.ckc_source.specs.Words.{exact, as_address, elements_behind}
 use Rattle.ckc_source.specs.Eval.{Store, given, given_both, stops, plain, end_address, ranged, reads, reads_within, given_some, spanned, element, element_through, place_in, loads_pointer, at_address, moves, moves_checked, moved_exactly, evaluated}
 use Rattle.ckc_core.specs.Code.{Expr, Const, Local, Load}
 use Rattle.ckc_core.specs.Meaning.{value_of, both}
-use Rattle.ckc_checks.specs.Compilable.{AreEnds, IsNamed, IsFixed, IsRanged, IsCompilableExpr}
-use Rattle.ckc_checks.specs.Inserted.{shifted, reads_signed, exact_test, range_end, range_test}
+use Rattle.ckc_checks.specs.Compilable.{AreEnds, IsCount, IsRanged, IsCompilableExpr}
+use Rattle.ckc_checks.specs.Inserted.{shifted, reads_signed, exact_test, is_named, is_fixed, is_ranged, range_end, range_test, held_test}
 use Rattle.ckc_inserted.proofs.Exact.{carries, borrows, exact_ahead, exact_back}
 use Rattle.ckc_inserted.proofs.Values.{Agree, Sees, shifted_value}
 use Rattle.ckc_inserted.proofs.True.{true_ends}
 use Rattle.ckc_inserted.proofs.Ends.{number_word, small_word, end_word, end_value}
-use Rattle.ckc_inserted.proofs.Bytes.{loaded_there}
+use Rattle.ckc_inserted.proofs.Bytes.{and_true, loaded_there}
 use Rattle.ckc_inserted.proofs.Flat.{loaded_word}
 
 pub flag_zero : (b : Bool) → (flag b == 0) ≡ not b
@@ -99,7 +99,7 @@ both_tests true false = refl
 both_tests false true = refl
 both_tests false false = refl
 
-at_most_word : (a b : ℕ) → applied binary.Eq (applied binary.LtU b a) 0 ≡ flag (nat_le a b)
+pub at_most_word : (a b : ℕ) → applied binary.Eq (applied binary.LtU b a) 0 ≡ flag (nat_le a b)
 at_most_word a b = ap flag (flag_zero (nat_lt b a) ∙ sym (le_is a b))
 
 -- an address is below an upper bound, or at it where that counts too
@@ -125,7 +125,50 @@ range_value l memory true p t q low high h i j =
     ∙ ap (λ m. Some (bit_and m (applied binary.Eq (applied binary.LtU high q) 0))) (at_most_word low q)
     ∙ ap (λ m. Some (bit_and (flag (nat_le low q)) m)) (at_most_word q high)
 
-abbrev range_in : Result Value Halt → Range
+-- an address is as far from the lower bound as the length says
+pub under_moved : (last : Bool) (q low length : ℕ) → q < 2 ^ 32 → low < 2 ^ 32 → (nat_le low q && is_under last (applied binary.Sub q low) length) ≡ (nat_le low q && is_under last q (low + length))
+under_moved last q low length small few = by (nat_le low q) refl
+  where
+    below : low ≤ q → nat_lt (applied binary.Sub q low) length ≡ nat_lt q (low + length)
+    below h = from (nat_lt q (low + length)) refl
+      where
+        from : (b : Bool) → nat_lt q (low + length) ≡ b → nat_lt (applied binary.Sub q low) length ≡ b
+        from true e = grind (arith, nat_tests)
+        from false e = grind (arith, nat_tests)
+
+    up_to : low ≤ q → nat_le (applied binary.Sub q low) length ≡ nat_le q (low + length)
+    up_to h = from (nat_le q (low + length)) refl
+      where
+        from : (b : Bool) → nat_le q (low + length) ≡ b → nat_le (applied binary.Sub q low) length ≡ b
+        from true e = grind (arith, nat_tests)
+        from false e = grind (arith, nat_tests)
+
+    under : (last : Bool) → low ≤ q → is_under last (applied binary.Sub q low) length ≡ is_under last q (low + length)
+    under true h = up_to h
+    under false h = below h
+
+    by : (in_order : Bool) → nat_le low q ≡ in_order → (in_order && is_under last (applied binary.Sub q low) length) ≡ (in_order && is_under last q (low + length))
+    by true e = under last (let le : low ≤ q = grind (arith, nat_tests) in le)
+    by false e = refl
+
+-- the test of a range that is in temporaries
+pub held_value_of : (l : Values) (memory : Memory) (last : Bool) (t q low length : ℕ) → l t ≡ Some q → l (t + 1) ≡ Some low → l (t + 2) ≡ Some length
+    → value_of l memory (held_test last t) ≡ Some (bit_and (flag (nat_le low q)) (flag (is_under last (applied binary.Sub q low) length)))
+held_value_of l memory false t q low length h i j =
+    let d = applied binary.Sub q low in
+    ap (λ o. both (applied binary.And) (both (applied binary.Eq) (both (applied binary.LtU) o (l (t + 1))) (Some 0)) (both (applied binary.LtU) (both (applied binary.Sub) o (l (t + 1))) (l (t + 2)))) h
+    ∙ ap (λ o. both (applied binary.And) (both (applied binary.Eq) (both (applied binary.LtU) (Some q) o) (Some 0)) (both (applied binary.LtU) (both (applied binary.Sub) (Some q) o) (l (t + 2)))) i
+    ∙ ap (λ o. both (applied binary.And) (Some (applied binary.Eq (applied binary.LtU q low) 0)) (both (applied binary.LtU) (Some d) o)) j
+    ∙ ap (λ m. Some (bit_and m (flag (nat_lt d length)))) (at_most_word low q)
+held_value_of l memory true t q low length h i j =
+    let d = applied binary.Sub q low in
+    ap (λ o. both (applied binary.And) (both (applied binary.Eq) (both (applied binary.LtU) o (l (t + 1))) (Some 0)) (both (applied binary.Eq) (both (applied binary.LtU) (l (t + 2)) (both (applied binary.Sub) o (l (t + 1)))) (Some 0))) h
+    ∙ ap (λ o. both (applied binary.And) (both (applied binary.Eq) (both (applied binary.LtU) (Some q) o) (Some 0)) (both (applied binary.Eq) (both (applied binary.LtU) (l (t + 2)) (both (applied binary.Sub) (Some q) o)) (Some 0))) i
+    ∙ ap (λ o. both (applied binary.And) (Some (applied binary.Eq (applied binary.LtU q low) 0)) (both (applied binary.Eq) (both (applied binary.LtU) o (Some d)) (Some 0))) j
+    ∙ ap (λ m. Some (bit_and m (applied binary.Eq (applied binary.LtU length d) 0))) (at_most_word low q)
+    ∙ ap (λ m. Some (bit_and (flag (nat_le low q)) m)) (at_most_word d length)
+
+abbrev pub range_in : Result Value Halt → Range
 range_in (Ok v) = v.range
 range_in (Err h) = Without
 
@@ -166,19 +209,19 @@ HasRange n s memory p x =
     × ((l : Values) → Agree n s.locals l → value_of l memory (range_end true p) ≡ Some high)
 
 -- A pointer with limits that is read, and is not null, has its range, which is one of words.
-read_range : (n : ℕ) (s : Store) (memory : Memory) → Sees n s memory → (to : Pointee) (m : ℕ) (from to_end : ℤ) (v : Value) → reads s.shapes s.blocks to m from to_end ≡ Ok v → (v.number == 0) ≡ false
-    → (low high : ℕ) × (v.range ≡ Within low high) × (from ≡ pos low) × (to_end ≡ pos high) × (low < 2 ^ 32) × (high < 2 ^ 32)
+pub read_range : (n : ℕ) (s : Store) (memory : Memory) → Sees n s memory → (to : Pointee) (m : ℕ) (from to_end : ℤ) (v : Value) → reads s.shapes s.blocks to m from to_end ≡ Ok v → (v.number == 0) ≡ false
+    → (low high : ℕ) × (v.range ≡ Within low high) × (from ≡ pos low) × (to_end ≡ pos high) × (low < 2 ^ 32) × (high < 2 ^ 32) × (low ≤ high)
 read_range n s memory sees to m from to_end v e z = start (m == 0) from to_end e
   where
     found : (low high : ℕ) (good : Bool) → is_true s.shapes s.blocks to m low high ≡ good → (if good then ranged m low high else Err Stuck) ≡ Ok v
-        → (l h : ℕ) × (v.range ≡ Within l h) × (pos low ≡ pos l) × (pos high ≡ pos h) × (l < 2 ^ 32) × (h < 2 ^ 32)
+        → (l h : ℕ) × (v.range ≡ Within l h) × (pos low ≡ pos l) × (pos high ≡ pos h) × (l < 2 ^ 32) × (h < 2 ^ 32) × (l ≤ h)
     found low high true good e =
         let within = true_ends s.shapes to m low high first_place (data_end + 1) s.blocks sees.same.within good in
-        (low, high, sym (ap range_in e), refl, refl, omega (arith, within), omega (arith, within))
+        (low, high, sym (ap range_in e), refl, refl, omega (arith, within), omega (arith, within), within.0)
     found low high false good e = absurd cc
 
     start : (zero : Bool) (low high : ℤ) → (if zero then plain 0 else reads_within s.shapes s.blocks to m low high) ≡ Ok v
-        → (l h : ℕ) × (v.range ≡ Within l h) × (low ≡ pos l) × (high ≡ pos h) × (l < 2 ^ 32) × (h < 2 ^ 32)
+        → (l h : ℕ) × (v.range ≡ Within l h) × (low ≡ pos l) × (high ≡ pos h) × (l < 2 ^ 32) × (h < 2 ^ 32) × (l ≤ h)
     start true low high e =
         let none : 0 ≡ v.number = ap (λ (r : Result Value Halt). elim r [ Ok w ↦ w.number | Err h ↦ 0 ]) e in
         absurd (let wrong : true ≡ false = ap (λ k. k == 0) none ∙ z in cc)
@@ -200,15 +243,15 @@ limited_known n s memory sees x limits v less ends e z =
 
 -- ---- static objects
 
-named_element : (through : Through) → IsNamed through → (access : Access) (v : Value) (k : ℕ) → element_through through access v k ≡ Ok v.number
+named_element : (through : Through) → is_named through ≡ true → (access : Access) (v : Value) (k : ℕ) → element_through through access v k ≡ Ok v.number
 named_element Named h access v k = refl
-named_element Raw h access v k = absurd h
-named_element One h access v k = absurd h
-named_element Array h access v k = absurd h
-named_element Terminated h access v k = absurd h
+named_element Raw h access v k = absurd cc
+named_element One h access v k = absurd cc
+named_element Array h access v k = absurd cc
+named_element Terminated h access v k = absurd cc
 
 -- what is at a static object, whatever the index
-named_access : (access : Access) (v : Value) (r : Result Value Halt) (go : ℕ → Result Value Halt) (x : Value) → IsNamed access.through
+named_access : (access : Access) (v : Value) (r : Result Value Halt) (go : ℕ → Result Value Halt) (x : Value) → is_named access.through ≡ true
     → given_both (Ok v) r (λ v k. given (element access v k.number) go) ≡ Ok x → go v.number ≡ Ok x
 named_access access v (Ok k) go x h e = sym (ap (λ q. given q go) (named_element access.through h access v k.number)) ∙ e
 named_access access v (Err why) go x h e = absurd cc
@@ -218,11 +261,11 @@ some_loaded : (o : Option ℕ) (f : ℕ → Result Value Halt) (x : Value) → g
 some_loaded (Some m) f x e = (m, refl, e)
 some_loaded None f x e = absurd cc
 
-static_known : (n : ℕ) (s : Store) (memory : Memory) → Sees n s memory → (to : Pointee) (count : Count) (access : Access) (a : ℕ) (i : source.Expr) (x : Value) → IsNamed access.through
-    → to.size < 2 ^ 32 → IsFixed count → evaluated s (source.Member to count access (source.Number a) i) ≡ Ok x → (x.number == 0) ≡ false
+static_known : (n : ℕ) (s : Store) (memory : Memory) → Sees n s memory → (to : Pointee) (count : Count) (access : Access) (a : ℕ) (i : source.Expr) (x : Value) → is_named access.through ≡ true
+    → to.size < 2 ^ 32 → IsCount count → is_fixed count ≡ true → evaluated s (source.Member to count access (source.Number a) i) ≡ Ok x → (x.number == 0) ≡ false
     → HasRange n s memory (source.Member to count access (source.Number a) i) x
-static_known n s memory sees to (counts.Member offset form add) access a i x named size fits e z = absurd fits
-static_known n s memory sees to (counts.Fixed k) access a i x named size fits e z =
+static_known n s memory sees to (counts.Member offset form add) access a i x named size fits fixed e z = absurd cc
+static_known n s memory sees to (counts.Fixed k) access a i x named size fits fixed e z =
     let place = place_in a access.offset in
     let count = counts.Fixed k in
     let read = named_access access (record { number = a; range = Without }) (evaluated s i) (λ a. loads_pointer s to count a (place_in a access.offset)) x named e in
@@ -241,27 +284,31 @@ static_known n s memory sees to (counts.Fixed k) access a i x named size fits e 
           ∙ ap Some (end_word to.size m (word_of k) r.1 k (number_word k fits) r.4 r.6)),
     )
 
-address_known : (n : ℕ) (s : Store) (memory : Memory) (bytes : ℕ) (access : Access) (a : ℕ) (i : source.Expr) (x : Value) → IsNamed access.through
+address_known : (n : ℕ) (s : Store) (memory : Memory) (bytes : ℕ) (access : Access) (a : ℕ) (i : source.Expr) (x : Value) → is_named access.through ≡ true
     → evaluated s (source.Address bytes access (source.Number a) i) ≡ Ok x → HasRange n s memory (source.Address bytes access (source.Number a) i) x
 address_known n s memory bytes access a i x named e =
     let place = place_in a access.offset in
     let got = named_access access (record { number = a; range = Without }) (evaluated s i) (λ a. spanned (place_in a access.offset) bytes) x named e in
     (place, place + bytes, sym (ap range_in got), (λ l agree. refl), (λ l agree. refl))
 
-pub range_known : (n : ℕ) (s : Store) (memory : Memory) → Sees n s memory → (p : source.Expr) (x : Value) → IsRanged n p → IsCompilableExpr n p → evaluated s p ≡ Ok x → (x.number == 0) ≡ false
-    → HasRange n s memory p x
-range_known n s memory sees (source.Limited y limits) x h c e z = limited_known n s memory sees y limits x c h e z
-range_known n s memory sees (source.Member to count access (source.Number a) i) x h c e z = static_known n s memory sees to count access a i x h.0 h.1 h.2 e z
-range_known n s memory sees (source.Member to count access p i) x h c e z = absurd h.0
-range_known n s memory sees (source.Address bytes access (source.Number a) i) x h c e z = address_known n s memory bytes access a i x h.0 e
-range_known n s memory sees (source.Address bytes access p i) x h c e z = absurd h.0
-range_known n s memory sees (source.Array at bytes) x h c e z = (at, at + bytes, sym (ap range_in e), (λ l agree. refl), (λ l agree. refl))
-range_known n s memory sees (source.Moved shift p i) x h c e z =
-    let m = moved_range shift (evaluated s p) (evaluated s i) x h.0 e in
-    let r = range_known n s memory sees p m.0 h.1 c.1 m.1 m.2 in
+pub range_known : (n : ℕ) (s : Store) (memory : Memory) → Sees n s memory → (p : source.Expr) (x : Value) → is_ranged p ≡ true → IsRanged n p → IsCompilableExpr n p → evaluated s p ≡ Ok x
+    → (x.number == 0) ≡ false → HasRange n s memory p x
+range_known n s memory sees (source.Limited y limits) x b h c e z = limited_known n s memory sees y limits x c h e z
+range_known n s memory sees (source.Member to count access (source.Number a) i) x b h c e z =
+    let q = and_true (is_named access.through) (is_fixed count) b in
+    static_known n s memory sees to count access a i x q.0 h.0 h.1 q.1 e z
+range_known n s memory sees (source.Member to count access p i) x b h c e z = absurd cc
+range_known n s memory sees (source.Address bytes access (source.Number a) i) x b h c e z = address_known n s memory bytes access a i x b e
+range_known n s memory sees (source.Address bytes access p i) x b h c e z = absurd cc
+range_known n s memory sees (source.Array at bytes) x b h c e z = (at, at + bytes, sym (ap range_in e), (λ l agree. refl), (λ l agree. refl))
+range_known n s memory sees (source.Moved shift p i) x b h c e z =
+    let q = and_true shift.checked (is_ranged p) b in
+    let m = moved_range shift (evaluated s p) (evaluated s i) x q.0 e in
+    let r = range_known n s memory sees p m.0 q.1 h c.1 m.1 m.2 in
     (r.0, r.1, m.3 ∙ r.2, r.3, r.4)
-range_known n s memory sees (source.Added shift i p) x h c e z =
-    let m = moved_range shift (evaluated s p) (evaluated s i) x h.0 (turned (evaluated s p) (evaluated s i) (λ v k. moves shift v k.number) x e) in
-    let r = range_known n s memory sees p m.0 h.1 c.2 m.1 m.2 in
+range_known n s memory sees (source.Added shift i p) x b h c e z =
+    let q = and_true shift.checked (is_ranged p) b in
+    let m = moved_range shift (evaluated s p) (evaluated s i) x q.0 (turned (evaluated s p) (evaluated s i) (λ v k. moves shift v k.number) x e) in
+    let r = range_known n s memory sees p m.0 q.1 h c.2 m.1 m.2 in
     (r.0, r.1, m.3 ∙ r.2, r.3, r.4)
-range_known n s memory sees p x h c e z = absurd h
+range_known n s memory sees p x b h c e z = absurd cc

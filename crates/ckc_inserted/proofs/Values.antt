@@ -31,7 +31,7 @@ use Rattle.ckc_source.specs.Eval.{Store, given, given_both, given_some, plain, s
 use Rattle.ckc_core.specs.Code.{Expr, Const, Bin, Load}
 use Rattle.ckc_core.specs.Meaning.{value_of, both}
 use Rattle.ckc_checks.specs.Compilable.{IsCompilableExpr}
-use Rattle.ckc_checks.specs.Inserted.{is_unchecked, is_direct, operated, low_byte, is_zero, scaled, shifted, at_offset, element_of, place_at, direct}
+use Rattle.ckc_checks.specs.Inserted.{is_one, is_single, casts_one, is_unchecked, is_direct, operated, low_byte, is_zero, scaled, shifted, at_offset, element_of, place_at, direct}
 use Rattle.ckc_inserted.proofs.Bytes.{and_true, SameBytes, loaded_there}
 use Rattle.ckc_inserted.proofs.Flat.{SameMemory, loaded_word}
 use Rattle.ckc_inserted.proofs.Single.{behind_one, tested_gives}
@@ -142,7 +142,7 @@ module _ (locals : Values) (memory : Memory) where
       by true z = let zero : 0 ≡ offset = zero_of offset z in h ∙ ap Some (omega arith)
       by false z = ap (λ o. both (applied binary.Add) o (Some offset)) h
 
-  scaled_value : (size : ℕ) (e : Expr) (k : ℕ) → value e ≡ Some k → k < 2 ^ 32 → value (scaled size e) ≡ Some (applied binary.Mul size k)
+  pub scaled_value : (size : ℕ) (e : Expr) (k : ℕ) → value e ≡ Some k → k < 2 ^ 32 → value (scaled size e) ≡ Some (applied binary.Mul size k)
   scaled_value size (Const n) k h small = ap (λ o. option_map (λ m. applied binary.Mul size m) o) h
   scaled_value size e k h small = by (size == 1) refl
     where
@@ -285,9 +285,11 @@ direct_value n s memory values (source.Narrow e) sees agree h d =
 direct_value n s memory values (source.Bare p) sees agree h d =
     bare_value (evaluated s p) (value_of values memory (direct p)) (direct_value n s memory values p sees agree h d)
 direct_value n s memory values (source.Tested size how at p k) sees agree h d =
-    subst (λ r. IsValue r (value_of values memory (direct p))) (sym (behind_one s k (evaluated s p) (λ v c. tests size how at v c.number) h.0))
-    (kept_value (evaluated s p) (λ v. tests size how at v 1) (value_of values memory (direct p)) (λ v e. tested_gives n size s how at p v h.1 h.2 e)
-    (direct_value n s memory values p sees agree h.2 d))
+    let u = and_true (casts_one size p k) (is_direct p) d in
+    let q = and_true (is_one k) (is_single size p) u.0 in
+    subst (λ r. IsValue r (value_of values memory (direct p))) (sym (behind_one s k (evaluated s p) (λ v c. tests size how at v c.number) q.0))
+    (kept_value (evaluated s p) (λ v. tests size how at v 1) (value_of values memory (direct p)) (λ v e. tested_gives size s how at p v q.1 e)
+    (direct_value n s memory values p sees agree h.1 u.1))
 direct_value n s memory values (source.Trusted to how p k) sees agree h d =
     let q = and_true (is_direct p) (is_direct k) d in
     both_values values memory (direct p) (direct k) (direct p) (evaluated s p) (evaluated s k) (λ v c. trusts s to how v.number c.number)

@@ -30,13 +30,13 @@ use Rattle.ckc_source.specs.Steps.{at_work, allowed, writes, writes_allowed, wit
 use Rattle.ckc_core.specs.Code.{Expr, Local, Code, Set, Store, Function}
 use Rattle.ckc_core.specs.Meaning.{value_of, nodes, core_step, goes_by}
 use Rattle.ckc_core.specs.Meaning as C
-use Rattle.ckc_checks.specs.Compilable.{index_nodes, IsCompilableTarget}
-use Rattle.ckc_checks.specs.Inserted.{pointer_at, index_at, reached_place, kept_in, guarded, stored_code, written, statements}
+use Rattle.ckc_checks.specs.Compilable.{IsCompilableTarget}
+use Rattle.ckc_checks.specs.Inserted.{reached_place, target_count, kept_in, guarded, stored_code, written, statements}
 use Rattle.ckc_inserted.proofs.Running.{machine, Runs, at, by_set, step_by}
 use Rattle.ckc_inserted.proofs.Flat.{stored_same}
 use Rattle.ckc_inserted.proofs.Values.{Agree}
 use Rattle.ckc_inserted.proofs.Bounded.{AreSmall}
-use Rattle.ckc_inserted.proofs.Counts.{written_same, written_below, reached_nodes}
+use Rattle.ckc_inserted.proofs.Counts.{written_same, written_below}
 use Rattle.ckc_inserted.proofs.Coming.{Below}
 use Rattle.ckc_inserted.proofs.Guarding.{guard_steps, IsMarked, marked_later, kept_value, kept_nodes, guard_runs}
 use Rattle.ckc_inserted.proofs.Aiming.{IsAt}
@@ -89,7 +89,7 @@ kept_small Word n h = h
 
 -- in how many steps a value is written
 abbrev pub write_steps : source.Target → ℕ → ℕ
-write_steps (source.Memory width access p i) t = guard_steps access.through + 6 + nodes (pointer_at access p t) + index_nodes i (nodes (index_at access i (t + 1)))
+write_steps (source.Memory width access p i) t = guard_steps access.through + 1 + nodes (reached_place access p i t)
 write_steps target t = 4
 
 -- only a target writes
@@ -307,12 +307,11 @@ module _ (functions : List source.Function) (core : List Function) where
 
   -- a value is stored in both, behind its check
   stored_written : (through : Through) (s : S.State) (work : List Work) (looped : Bool) (ds : List C.Caller) (world : World) (rest : C.Rest) (l : Values) (code : source.Code) (spot : Pos) (width : Width) (is_byte : Bool)
-      (t a n : ℕ) (zero_alone : Option Pos) (d e : Expr) → Ready s work looped ds world rest l → Stands functions s.frame.function.locals looped (length work) code → s.frame.function.locals ≤ t
+      (t u a n : ℕ) (zero_alone : Option Pos) (d e : Expr) → Ready s work looped ds world rest l → Stands functions s.frame.function.locals looped (length work) code → s.frame.function.locals ≤ t → t + 2 ≤ u
       → IsMarked through spot t l zero_alone → ((later : Values) → Below (t + 2) later l → value_of later world.memory d ≡ Some a) → value_of l world.memory e ≡ Some n → (is_byte ≡ true → n < 256)
-      → Written 1 (guard_steps through + (nodes d + nodes e + 1)) (at ds world (stored_code through spot width is_byte t (t + 2) d e (statements s.frame.function.locals code)) rest l)
+      → Written 1 (guard_steps through + (nodes d + nodes e + 1)) (at ds world (stored_code through spot width is_byte t u d e (statements s.frame.function.locals code)) rest l)
       (writes_allowed (place.Memory a width zero_alone) n (at_work s (Rest code ∷ work)))
-  stored_written Terminated s work looped ds world rest l code spot width is_byte t a n zero_alone d e r st le is g h small =
-      let u = t + 2 in
+  stored_written Terminated s work looped ds world rest l code spot width is_byte t u a n zero_alone d e r st le far is g h small =
       let s1 = at_work s (Rest code ∷ work) in
       let to = place.Memory a width zero_alone in
       let store = Store width d (Local u) (statements s.frame.function.locals code) in
@@ -334,14 +333,14 @@ module _ (functions : List source.Function) (core : List Function) where
       subst (λ w. Written 0 (nodes d + 2) w (writes into n s1)) (sym q.1)
       (subst (λ into. Written 0 (nodes d + 2) (at ds world store rest after) (writes into n s1)) (sym q.0)
       (any_written 1 (nodes d + 1 + 1) (nodes d + 2) (at ds world store rest after) (writes to n s1) (omega arith)
-      (stores_same s work looped ds world rest after code width a n d (Local u) ready st (g after (λ z less. written_below l u n z less)) (written_same l u n) (stored width a n s.blocks) refl)))))
-  stored_written Named s work looped ds world rest l code spot width is_byte t a n zero_alone d e r st le is g h small =
+      (stores_same s work looped ds world rest after code width a n d (Local u) ready st (g after (λ z less. written_below l u n z (omega arith))) (written_same l u n) (stored width a n s.blocks) refl)))))
+  stored_written Named s work looped ds world rest l code spot width is_byte t u a n zero_alone d e r st le far is g h small =
       plain_stored s work looped ds world rest l code width a n (0 + (nodes d + nodes e + 1)) zero_alone d e r st is (g l (λ z less. refl)) h (omega arith)
-  stored_written Raw s work looped ds world rest l code spot width is_byte t a n zero_alone d e r st le is g h small =
+  stored_written Raw s work looped ds world rest l code spot width is_byte t u a n zero_alone d e r st le far is g h small =
       plain_stored s work looped ds world rest l code width a n (0 + (nodes d + nodes e + 1)) zero_alone d e r st is (g l (λ z less. refl)) h (omega arith)
-  stored_written One s work looped ds world rest l code spot width is_byte t a n zero_alone d e r st le is g h small =
+  stored_written One s work looped ds world rest l code spot width is_byte t u a n zero_alone d e r st le far is g h small =
       plain_stored s work looped ds world rest l code width a n (0 + (nodes d + nodes e + 1)) zero_alone d e r st is (g l (λ z less. refl)) h (omega arith)
-  stored_written Array s work looped ds world rest l code spot width is_byte t a n zero_alone d e r st le is g h small =
+  stored_written Array s work looped ds world rest l code spot width is_byte t u a n zero_alone d e r st le far is g h small =
       plain_stored s work looped ds world rest l code width a n (0 + (nodes d + nodes e + 1)) zero_alone d e r st is (g l (λ z less. refl)) h (omega arith)
 
   -- a value is written to a target in both
@@ -362,5 +361,5 @@ module _ (functions : List source.Function) (core : List Function) where
       let u = at ds world (written (source.Memory width access p i) t is_byte e (statements s.frame.function.locals code)) rest l in
       subst (λ to. Written 1 (write_steps (source.Memory width access p i) t + nodes e) u (writes_allowed to n (at_work s (Rest code ∷ work)))) (sym is.2)
       (more_steps 1 (guard_steps access.through + (nodes d + nodes e + 1)) (write_steps (source.Memory width access p i) t + nodes e) u
-      (writes_allowed (place.Memory is.0 width is.1) n (at_work s (Rest code ∷ work))) (omega (arith, reached_nodes access p i t))
-      (stored_written access.through s work looped ds world rest l code access.at width is_byte t is.0 n is.1 d e r st le is.4 is.5 v b))
+      (writes_allowed (place.Memory is.0 width is.1) n (at_work s (Rest code ∷ work))) (omega arith)
+      (stored_written access.through s work looped ds world rest l code access.at width is_byte t (t + target_count (source.Memory width access p i)) is.0 n is.1 d e r st le (omega arith) is.4 is.5 v b))

@@ -1,9 +1,10 @@
 //! How deep expressions are and how many nodes there are, up to 2^64 - 1.
 ghost use Rattle.std.specs.Prelude.{◌≡◌, ◌+◌, map};
 ghost use Rattle.ckc_source.specs.Code.{expr_of, target_of, right_of, assign_of, code_of};
-ghost use Rattle.ckc_checks.specs.Compilable.{depth, element_nodes, access_nodes, shift_nodes, index_nodes, expr_nodes, exprs_nodes, guard_nodes, target_nodes, right_nodes, assigns_nodes, code_nodes};
+ghost use Rattle.ckc_checks.specs.Compilable.{depth, element_nodes, access_nodes, shift_nodes, index_nodes, expr_nodes, exprs_nodes, guard_nodes, target_nodes, right_nodes, assigns_nodes, code_nodes, range_nodes, value_nodes};
 ghost use Rattle.ckc_integer.specs.Capped.{capped};
 
+use ckc_checks::{casts_one, is_ranged, takes_range};
 use ckc_source::{Assign, ExprTree, RightTree, StmtTree, TargetTree, Through};
 
 /// How many nodes the longest path down an expression has.
@@ -39,12 +40,12 @@ pub fn depth(e: &ExprTree) -> u64
     }
 }
 
-/// How many nodes an access counts for that is judged by the range of its pointer.
-fn element_nodes(i: &ExprTree) -> u64
-    ensures { result ≡ element_nodes (expr_of i.now) }
+/// How many nodes an access counts for that is judged by the range of its pointer, by whether the range is a value.
+fn element_nodes(far: bool, i: &ExprTree) -> u64
+    ensures { result ≡ element_nodes far (expr_of i.now) }
 {
-    match i {
-        ExprTree::Number(n) => { if *n == 0 { 4 } else { 6 } }
+    let first = match i {
+        ExprTree::Number(n) => *n == 0,
         ExprTree::Local(_)
         | ExprTree::Limited(_, _)
         | ExprTree::Array(_, _)
@@ -60,18 +61,24 @@ fn element_nodes(i: &ExprTree) -> u64
         | ExprTree::Narrow(_)
         | ExprTree::Bare(_)
         | ExprTree::Tested(_, _, _, _, _)
-        | ExprTree::Trusted(_, _, _, _) => 6,
+        | ExprTree::Trusted(_, _, _, _) => false,
+    };
+    match (far, first) {
+        (false, true) => 4,
+        (false, false) => 6,
+        (true, true) => 3,
+        (true, false) => 5,
     }
 }
 
-/// How many nodes an access at an index counts for, beside its pointer and its index.
-fn access_nodes(through: Through, i: &ExprTree) -> u64
-    ensures { result ≡ access_nodes through (expr_of i.now) }
+/// How many nodes an access through a pointer at an index counts for, beside these.
+fn access_nodes(through: Through, p: &ExprTree, i: &ExprTree) -> u64
+    ensures { result ≡ access_nodes through (expr_of p.now) (expr_of i.now) }
 {
     match through {
         Through::Named => 1,
         Through::Raw | Through::One => 2,
-        Through::Array | Through::Terminated => element_nodes(i),
+        Through::Array | Through::Terminated => element_nodes(!is_ranged(p), i),
     }
 }
 
@@ -110,51 +117,97 @@ fn index_nodes(i: &ExprTree, count: u64) -> u64
     }
 }
 
-/// How many nodes an expression has.
+/// How many nodes the range of a value counts for, where it is a value.
+fn range_nodes(ranged: bool) -> u64
+    ensures { result ≡ range_nodes ranged }
+{
+    match ranged {
+        true => 1,
+        false => 0,
+    }
+}
+
+/// How many nodes an access has whose pointer and index have so many.
+fn place_nodes(through: Through, p: &ExprTree, i: &ExprTree, pointer: u64, index: u64) -> u64
+    ensures { result ≡ capped (access_nodes through (expr_of p.now) (expr_of i.now)
+        + pointer + index_nodes (expr_of i.now) index) }
+{
+    pointer
+        .saturating_add(index_nodes(i, index))
+        .saturating_add(access_nodes(through, p, i))
+}
+
+/// How many nodes an expression has, by whether its range is a value.
 #[tactic(auto, using(crate::proofs::Indexes::index_capped))]
-fn expr_nodes(e: &ExprTree) -> u64
-    ensures { result ≡ capped (expr_nodes (expr_of e.now)) }
+fn value_nodes(e: &ExprTree, ranged: bool) -> u64
+    ensures { result ≡ capped (value_nodes ranged (expr_of e.now)) }
 {
     match e {
         ExprTree::Load(_, access, a, b)
         | ExprTree::Member(_, _, access, a, b)
         | ExprTree::Address(_, access, a, b) => {
-            let left = expr_nodes(a.get());
-            let right = index_nodes(b.get(), expr_nodes(b.get()));
-            left.saturating_add(right)
-                .saturating_add(access_nodes(access.through, b.get()))
+            let left = value_nodes(a.get(), takes_range(access.through, a.get()));
+            let right = value_nodes(b.get(), false);
+            let place = place_nodes(access.through, a.get(), b.get(), left, right);
+            place.saturating_add(range_nodes(ranged))
         }
-        ExprTree::Moved(shift, a, b) | ExprTree::Added(shift, a, b) => {
-            let left = expr_nodes(a.get());
-            let right = expr_nodes(b.get());
+        ExprTree::Moved(shift, p, i) => {
+            let left = value_nodes(p.get(), ranged);
+            let right = value_nodes(i.get(), false);
             left.saturating_add(right)
                 .saturating_add(shift_nodes(shift.checked))
         }
-        ExprTree::Tested(_, _, _, a, b)
-        | ExprTree::Trusted(_, _, a, b)
+        ExprTree::Added(shift, i, p) => {
+            let left = value_nodes(i.get(), false);
+            let right = value_nodes(p.get(), ranged);
+            left.saturating_add(right)
+                .saturating_add(shift_nodes(shift.checked))
+                .saturating_add(range_nodes(ranged))
+        }
+        ExprTree::Tested(size, _, _, p, k) => {
+            if !ranged && casts_one(*size, p.get(), k.get()) {
+                let left = value_nodes(p.get(), false);
+                let right = value_nodes(k.get(), false);
+                left.saturating_add(right).saturating_add(1)
+            } else {
+                let left = value_nodes(p.get(), true);
+                let right = index_nodes(k.get(), value_nodes(k.get(), false));
+                left.saturating_add(right).saturating_add(5)
+            }
+        }
+        ExprTree::Trusted(_, _, a, b)
         | ExprTree::Binary(_, _, _, a, b)
         | ExprTree::And(a, b)
         | ExprTree::Or(a, b) => {
-            let left = expr_nodes(a.get());
-            let right = expr_nodes(b.get());
-            left.saturating_add(right).saturating_add(1)
+            let left = value_nodes(a.get(), false);
+            let right = value_nodes(b.get(), false);
+            left.saturating_add(right)
+                .saturating_add(1)
+                .saturating_add(range_nodes(ranged))
         }
         ExprTree::Choice(c, a, b) => {
-            let condition = expr_nodes(c.get());
-            let one = expr_nodes(a.get());
-            let two = expr_nodes(b.get());
+            let condition = value_nodes(c.get(), false);
+            let one = value_nodes(a.get(), ranged);
+            let two = value_nodes(b.get(), ranged);
             condition
                 .saturating_add(one.saturating_add(two))
                 .saturating_add(1)
         }
-        ExprTree::Narrow(inner) | ExprTree::Bare(inner) => {
-            expr_nodes(inner.get()).saturating_add(1)
-        }
+        ExprTree::Narrow(inner) | ExprTree::Bare(inner) => value_nodes(inner.get(), false)
+            .saturating_add(1)
+            .saturating_add(range_nodes(ranged)),
         ExprTree::Number(_)
         | ExprTree::Local(_)
         | ExprTree::Limited(_, _)
-        | ExprTree::Array(_, _) => 1,
+        | ExprTree::Array(_, _) => 1u64.saturating_add(range_nodes(ranged)),
     }
+}
+
+/// How many nodes an expression has.
+fn expr_nodes(e: &ExprTree) -> u64
+    ensures { result ≡ capped (expr_nodes (expr_of e.now)) }
+{
+    value_nodes(e, false)
 }
 
 /// How many nodes expressions have.
@@ -197,12 +250,10 @@ fn target_nodes(target: &TargetTree) -> u64
 {
     match target {
         TargetTree::Memory(_, access, p, i) => {
-            let pointer = expr_nodes(p.get());
-            let index = index_nodes(i.get(), expr_nodes(i.get()));
-            pointer
-                .saturating_add(index)
-                .saturating_add(access_nodes(access.through, i.get()))
-                .saturating_add(guard_nodes(access.through))
+            let pointer = value_nodes(p.get(), takes_range(access.through, p.get()));
+            let index = expr_nodes(i.get());
+            let place = place_nodes(access.through, p.get(), i.get(), pointer, index);
+            place.saturating_add(guard_nodes(access.through))
         }
         TargetTree::Nothing | TargetTree::Local(_, _) => 0,
     }

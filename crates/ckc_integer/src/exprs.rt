@@ -2,10 +2,11 @@
 ghost use Rattle.std.specs.Prelude.{◌↔◌, ◌+◌, ◌≤◌, ◌<◌, ◌^◌, IsTrue};
 ghost use Rattle.ckc_core.specs.WellFormed.{IsPlace};
 ghost use Rattle.ckc_source.specs.Code.{expr_of, target_of, right_of};
-ghost use Rattle.ckc_checks.specs.Compilable.{IsOwn, IsNone, IsZero, IsBase, IsVariable, IsSmall, IsEnd, AreEnds, IsNamed, IsStatic, EndsLow, IsFixed, IsRanged, IsJudged, IsAccess, IsChecked, IsShift, IsOne, IsFixedEnd, AreSingle, IsSingleCount, IsSingle, IsCompilableExpr, IsCompilablePart, IsCompilableTarget, IsCompilableRight, IsCompilableKept};
+ghost use Rattle.ckc_checks.specs.Compilable.{IsZero, IsBase, IsVariable, IsSmall, IsEnd, AreEnds, EndsLow, IsCount, IsRanged, HasRange, IsBounded, IsCast, IsJudged, IsAccess, IsChecked, IsShift, IsCompilableExpr, IsCompilablePart, IsCompilableTarget, IsCompilableRight, IsCompilableKept};
 
 use crate::counts::depth;
 use ckc_base::Pos;
+use ckc_checks::{casts_one, is_ranged};
 use ckc_source::{
     Access, Base, Count, End, ExprTree, Kept, Limits, RightTree, Shift, TargetTree, Through,
     Variable,
@@ -47,97 +48,6 @@ fn is_zero(e: &ExprTree) -> bool
         | ExprTree::Bare(_)
         | ExprTree::Tested(_, _, _, _, _)
         | ExprTree::Trusted(_, _, _, _) => false,
-    }
-}
-
-/// Whether an expression is the number 1.
-fn is_one(e: &ExprTree) -> bool
-    ensures { IsTrue result ↔ IsOne (expr_of e.now) }
-{
-    match e {
-        ExprTree::Number(n) => *n == 1,
-        ExprTree::Local(_)
-        | ExprTree::Limited(_, _)
-        | ExprTree::Array(_, _)
-        | ExprTree::Load(_, _, _, _)
-        | ExprTree::Member(_, _, _, _, _)
-        | ExprTree::Address(_, _, _, _)
-        | ExprTree::Moved(_, _, _)
-        | ExprTree::Added(_, _, _)
-        | ExprTree::Binary(_, _, _, _, _)
-        | ExprTree::And(_, _)
-        | ExprTree::Or(_, _)
-        | ExprTree::Choice(_, _, _)
-        | ExprTree::Narrow(_)
-        | ExprTree::Bare(_)
-        | ExprTree::Tested(_, _, _, _, _)
-        | ExprTree::Trusted(_, _, _, _) => false,
-    }
-}
-
-fn is_own(base: Base) -> bool
-    ensures { IsTrue result ↔ IsOwn base }
-{
-    match base {
-        Base::Own => true,
-        Base::Local(_) | Base::Fixed(_) => false,
-    }
-}
-
-fn is_none(variable: Option<Variable>) -> bool
-    ensures { IsTrue result ↔ IsNone variable }
-{
-    match variable {
-        None => true,
-        Some(_) => false,
-    }
-}
-
-/// Whether an end of limits lies so many elements behind the pointer itself.
-fn is_fixed_end(e: End, add: i32) -> bool
-    ensures { IsTrue result ↔ IsFixedEnd e add }
-{
-    is_own(e.base) && is_none(e.variable) && e.add == add
-}
-
-/// Whether limits are those of one element of a size.
-fn are_single(size: u32, limits: &Limits) -> bool
-    ensures { IsTrue result ↔ AreSingle size limits.now }
-{
-    limits.to.size == size && is_fixed_end(limits.lower, 0) && is_fixed_end(limits.upper, 1)
-}
-
-fn is_single_count(count: Count) -> bool
-    ensures { IsTrue result ↔ IsSingleCount count }
-{
-    match count {
-        Count::Fixed(n) => n == 1,
-        Count::Member(_, _, _) => false,
-    }
-}
-
-/// Whether an expression is a pointer to one element of a size, or null.
-fn is_single(size: u32, e: &ExprTree) -> bool
-    ensures { IsTrue result ↔ IsSingle size (expr_of e.now) }
-{
-    match e {
-        ExprTree::Number(n) => *n == 0,
-        ExprTree::Limited(_, limits) => are_single(size, limits.get()),
-        ExprTree::Member(to, count, _, _, _) => to.get().size == size && is_single_count(*count),
-        ExprTree::Address(bytes, _, _, _) => *bytes == size,
-        ExprTree::Tested(same, _, _, _, _) => *same == size,
-        ExprTree::Trusted(to, _, _, k) => to.get().size == size && is_one(k.get()),
-        ExprTree::Local(_)
-        | ExprTree::Array(_, _)
-        | ExprTree::Load(_, _, _, _)
-        | ExprTree::Moved(_, _, _)
-        | ExprTree::Added(_, _, _)
-        | ExprTree::Binary(_, _, _, _, _)
-        | ExprTree::And(_, _)
-        | ExprTree::Or(_, _)
-        | ExprTree::Choice(_, _, _)
-        | ExprTree::Narrow(_)
-        | ExprTree::Bare(_) => false,
     }
 }
 
@@ -188,40 +98,6 @@ fn are_ends(limits: &Limits, locals: u32) -> bool
     is_word(limits.to.size) && is_end(limits.lower, locals) && is_end(limits.upper, locals)
 }
 
-fn is_named(through: Through) -> bool
-    ensures { IsTrue result ↔ IsNamed through }
-{
-    match through {
-        Through::Named => true,
-        Through::Raw | Through::One | Through::Array | Through::Terminated => false,
-    }
-}
-
-/// Whether an access goes to a static object.
-fn is_static(access: Access, p: &ExprTree) -> bool
-    ensures { IsTrue result ↔ IsStatic access (expr_of p.now) }
-{
-    match p {
-        ExprTree::Number(_) => is_named(access.through),
-        ExprTree::Local(_)
-        | ExprTree::Limited(_, _)
-        | ExprTree::Array(_, _)
-        | ExprTree::Load(_, _, _, _)
-        | ExprTree::Member(_, _, _, _, _)
-        | ExprTree::Address(_, _, _, _)
-        | ExprTree::Moved(_, _, _)
-        | ExprTree::Added(_, _, _)
-        | ExprTree::Binary(_, _, _, _, _)
-        | ExprTree::And(_, _)
-        | ExprTree::Or(_, _)
-        | ExprTree::Choice(_, _, _)
-        | ExprTree::Narrow(_)
-        | ExprTree::Bare(_)
-        | ExprTree::Tested(_, _, _, _, _)
-        | ExprTree::Trusted(_, _, _, _) => false,
-    }
-}
-
 /// Whether so many bytes of a static object end at an address.
 fn ends_low(access: Access, bytes: u32, p: &ExprTree) -> bool
     ensures { IsTrue result ↔ EndsLow access bytes (expr_of p.now) }
@@ -247,31 +123,26 @@ fn ends_low(access: Access, bytes: u32, p: &ExprTree) -> bool
     }
 }
 
-fn is_fixed(count: Count) -> bool
-    ensures { IsTrue result ↔ IsFixed count }
+/// Whether the numbers of a count fit.
+fn is_count(count: Count) -> bool
+    ensures { IsTrue result ↔ IsCount count }
 {
     match count {
         Count::Fixed(n) => is_small(n),
-        Count::Member(_, _, _) => false,
+        Count::Member(offset, _, add) => is_word(offset) && is_small(add),
     }
 }
 
-/// Whether the range of a pointer can be tested.
-fn is_ranged(p: &ExprTree, locals: u32) -> bool
+/// Whether the numbers of a range fit that is computed where it is tested.
+fn can_compute(p: &ExprTree, locals: u32) -> bool
     ensures { IsTrue result ↔ IsRanged locals (expr_of p.now) }
 {
     match p {
         ExprTree::Limited(_, limits) => are_ends(limits.get(), locals),
         ExprTree::Array(at, bytes) => is_sum(*at, *bytes),
-        ExprTree::Member(to, count, access, p, _) => {
-            is_static(*access, p.get()) && is_word(to.get().size) && is_fixed(*count)
-        }
-        ExprTree::Address(bytes, access, p, _) => {
-            is_static(*access, p.get()) && ends_low(*access, *bytes, p.get())
-        }
-        ExprTree::Moved(shift, p, _) | ExprTree::Added(shift, _, p) => {
-            shift.checked && is_ranged(p.get(), locals)
-        }
+        ExprTree::Member(to, count, _, _, _) => is_word(to.get().size) && is_count(*count),
+        ExprTree::Address(bytes, access, p, _) => ends_low(*access, *bytes, p.get()),
+        ExprTree::Moved(_, p, _) | ExprTree::Added(_, _, p) => can_compute(p.get(), locals),
         ExprTree::Number(_)
         | ExprTree::Local(_)
         | ExprTree::Load(_, _, _, _)
@@ -293,6 +164,51 @@ fn is_size(size: u32) -> bool
     1 <= size && size < 0x8000_0000
 }
 
+/// Whether the numbers of a range fit that is a value.
+fn has_range(p: &ExprTree, locals: u32) -> bool
+    ensures { IsTrue result ↔ HasRange locals (expr_of p.now) }
+{
+    match p {
+        ExprTree::Limited(_, limits) => are_ends(limits.get(), locals),
+        ExprTree::Array(_, bytes) | ExprTree::Address(bytes, _, _, _) => is_word(*bytes),
+        ExprTree::Member(to, count, _, _, _) => is_word(to.get().size) && is_count(*count),
+        ExprTree::Moved(_, p, _) | ExprTree::Added(_, _, p) => has_range(p.get(), locals),
+        ExprTree::Choice(_, a, b) => has_range(a.get(), locals) && has_range(b.get(), locals),
+        ExprTree::Tested(size, _, at, p, _) => {
+            is_place(*at) && is_size(*size) && has_range(p.get(), locals)
+        }
+        ExprTree::Trusted(to, _, _, _) => is_word(to.get().size),
+        ExprTree::Number(_)
+        | ExprTree::Local(_)
+        | ExprTree::Load(_, _, _, _)
+        | ExprTree::Binary(_, _, _, _, _)
+        | ExprTree::And(_, _)
+        | ExprTree::Or(_, _)
+        | ExprTree::Narrow(_)
+        | ExprTree::Bare(_) => true,
+    }
+}
+
+/// Whether the numbers of the range of a pointer fit, by whether it is computed where it is tested.
+fn is_bounded(ranged: bool, p: &ExprTree, locals: u32) -> bool
+    ensures { IsTrue result ↔ IsBounded locals ranged (expr_of p.now) }
+{
+    match ranged {
+        true => can_compute(p, locals),
+        false => has_range(p, locals),
+    }
+}
+
+/// Whether a bounds cast can be compiled, by whether it needs no test.
+fn is_cast(one: bool, size: u32, at: Pos, p: &ExprTree, locals: u32) -> bool
+    ensures { IsTrue result ↔ IsCast locals one size at (expr_of p.now) }
+{
+    match one {
+        true => true,
+        false => is_place(at) && is_size(size) && has_range(p, locals),
+    }
+}
+
 /// Whether an access to elements of a size is judged in a way that can be compiled.
 fn is_judged(through: Through, size: u32, p: &ExprTree, i: &ExprTree, locals: u32) -> bool
     ensures { IsTrue result ↔ IsJudged locals through size (expr_of p.now) (expr_of i.now) }
@@ -300,7 +216,9 @@ fn is_judged(through: Through, size: u32, p: &ExprTree, i: &ExprTree, locals: u3
     match through {
         Through::Named | Through::Raw => true,
         Through::One => is_zero(i),
-        Through::Array | Through::Terminated => is_size(size) && is_ranged(p, locals),
+        Through::Array | Through::Terminated => {
+            is_size(size) && is_bounded(is_ranged(p), p, locals)
+        }
     }
 }
 
@@ -356,8 +274,15 @@ fn is_expr(e: &ExprTree, locals: u32) -> bool
             is_expr(c.get(), locals) && is_expr(a.get(), locals) && is_expr(b.get(), locals)
         }
         ExprTree::Narrow(inner) | ExprTree::Bare(inner) => is_expr(inner.get(), locals),
-        ExprTree::Tested(size, _, _, p, k) => {
-            is_one(k.get()) && is_single(*size, p.get()) && is_expr(p.get(), locals)
+        ExprTree::Tested(size, _, at, p, k) => {
+            is_cast(
+                casts_one(*size, p.get(), k.get()),
+                *size,
+                *at,
+                p.get(),
+                locals,
+            ) && is_expr(p.get(), locals)
+                && is_expr(k.get(), locals)
         }
     }
 }

@@ -8,7 +8,7 @@ use Rattle.ckc_checks.specs.Compilable.{program_nodes}
 use Rattle.ckc_checks.proofs.Formed.{inserted_formed}
 use Rattle.ckc_checks.proofs.Image.{first_bytes_length}
 use Rattle.ckc_checks.proofs.Small.{inserted_small}
-use Rattle.ckc_checks.proofs.Sized.{inserted_sized}
+use Rattle.ckc_checks.proofs.SizedCode.{inserted_sized}
 use Rattle.ckc_checks.proofs.program.insert.Goals as goal
 
 pub returns-clause-formed : goal.returns-clause-formed
