@@ -17,8 +17,6 @@ use Rattle.ckc_parser.specs.Phase.{parsing}
 use Rattle.ckc_parser.specs.Text.{SpelledTree}
 use Rattle.ckc_parser.proofs.Once.{parsing_exact}
 use Rattle.ckc_resolve.specs.Phase.{naming, text_named}
-use Rattle.ckc_forms.specs.Phase.{supporting}
-use Rattle.ckc_forms.proofs.Judged.{supporting_exact}
 use Rattle.ckc_typed.specs.declared.typed.Typed.{Typed}
 use Rattle.ckc_typed.specs.Texts.{named_typed}
 use Rattle.ckc_typing.specs.Phase.{typing}
@@ -39,24 +37,18 @@ typing_exact = phase_by_exact named_typed
 bounding_exact : IsExact bounding
 bounding_exact = phase_by_exact text_judged
 
--- what comes behind the types, behind the form, behind the names and behind the limits
-abbrev ranging : Phase Typed Typed
+-- what comes behind the types, behind the names and behind the limits
+abbrev pub ranging : Phase Typed Typed
 ranging = scoping >=> bounding
 
 ranging_exact : IsExact ranging
 ranging_exact = then_exact scoping bounding scoping_exact bounding_exact
 
-abbrev from_form : Phase NamedText Typed
-from_form = typing >=> ranging
-
-from_form_exact : IsExact from_form
-from_form_exact = then_exact typing ranging typing_exact ranging_exact
-
 abbrev from_names : Phase NamedText Typed
-from_names = supporting >=> from_form
+from_names = typing >=> ranging
 
 from_names_exact : IsExact from_names
-from_names_exact = then_exact supporting from_form supporting_exact from_form_exact
+from_names_exact = then_exact typing ranging typing_exact ranging_exact
 
 abbrev later : Phase SpelledTree Typed
 later = naming >=> from_names
@@ -140,18 +132,11 @@ module _ (tree : SpelledTree) where
     naming_goes : (answer : Result Typed Fault) → Exact from_names named answer → Exact later tree answer
     naming_goes answer x = exact_on naming from_names naming_exact from_names_exact tree named answer is_named x
 
-    pub supporting_ends : (e : Fault) → Exact supporting named (Err e) → Exact later tree (Err e)
-    supporting_ends e x = naming_goes (Err e) (exact_err supporting from_form supporting_exact from_form_exact named e x)
+    pub typing_ends : (e : Fault) → Exact typing named (Err e) → Exact later tree (Err e)
+    typing_ends e x = naming_goes (Err e) (exact_err typing ranging typing_exact ranging_exact named e x)
 
-    module _ (keeps : Exact supporting named (Ok named)) where
-      supporting_goes : (answer : Result Typed Fault) → Exact from_form named answer → Exact later tree answer
-      supporting_goes answer x = naming_goes answer (exact_on supporting from_form supporting_exact from_form_exact named named answer keeps x)
-
-      pub typing_ends : (e : Fault) → Exact typing named (Err e) → Exact later tree (Err e)
-      typing_ends e x = supporting_goes (Err e) (exact_err typing ranging typing_exact ranging_exact named e x)
-
-      pub typing_goes : (text : Typed) → Exact typing named (Ok text) → (answer : Result Typed Fault) → Exact ranging text answer → Exact later tree answer
-      typing_goes text typed answer x = supporting_goes answer (exact_on typing ranging typing_exact ranging_exact named text answer typed x)
+    pub typing_goes : (text : Typed) → Exact typing named (Ok text) → (answer : Result Typed Fault) → Exact ranging text answer → Exact later tree answer
+    typing_goes text typed answer x = naming_goes answer (exact_on typing ranging typing_exact ranging_exact named text answer typed x)
 
 -- ---- the text with its ranges
 

@@ -8,7 +8,6 @@ use Rattle.ckc_lexer.specs.Phase.{lexing}
 use Rattle.ckc_parser.specs.Phase.{parsing}
 use Rattle.ckc_parser.specs.Text.{SpelledTree}
 use Rattle.ckc_resolve.specs.Phase.{naming}
-use Rattle.ckc_forms.specs.Phase.{supporting}
 use Rattle.ckc_source.specs.Code.{Program}
 use Rattle.ckc_typed.specs.declared.typed.Typed.{Typed}
 use Rattle.ckc_typing.specs.Phase.{typing}
@@ -22,7 +21,7 @@ reading = lexing >=> parsing
 
 -- the phases that judge a tree, in their order
 abbrev pub judging_tree : Phase SpelledTree Typed
-judging_tree = limiting >=> naming >=> supporting >=> typing >=> scoping >=> bounding
+judging_tree = limiting >=> naming >=> typing >=> scoping >=> bounding
 
 -- a text with its types and the ranges of its pointers
 abbrev pub judging : Phase (List ℕ) Typed

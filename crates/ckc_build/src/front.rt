@@ -1,7 +1,6 @@
 //! From a text to the text with its types and the ranges of its pointers, phase by phase.
 ghost use Rattle.ckc_base.specs.Phases.{◌>=>◌, Exact};
 ghost use Rattle.ckc_resolve.specs.Phase.{naming};
-ghost use Rattle.ckc_forms.specs.Phase.{supporting};
 ghost use Rattle.ckc_typing.specs.Phase.{typing};
 ghost use Rattle.ckc_scopes.specs.Phase.{scoping};
 ghost use Rattle.ckc_bounds.specs.Phase.{bounding};
@@ -9,7 +8,6 @@ ghost use Rattle.ckc_build.specs.Meanings.{judging, judging_tree};
 
 use ckc_base::Fault;
 use ckc_bounds::bounds;
-use ckc_forms::supported;
 use ckc_lexer::{end_of, lex};
 use ckc_parser::parse;
 use ckc_resolve::resolve;
@@ -39,11 +37,9 @@ fn judged<'a>(alloc: Global, tree: Tree<Spelling<'a>, ()>) -> Result<Typed, Faul
 
 /// The tree with what its names mean, its types and the ranges of its pointers.
 fn typed<'a>(alloc: Global, tree: Tree<Spelling<'a>, ()>) -> Result<Typed, Fault>
-    ensures exact { Exact (naming >=> supporting >=> typing >=> scoping >=> bounding) tree.entry
-        result }
+    ensures exact { Exact (naming >=> typing >=> scoping >=> bounding) tree.entry result }
 {
     let named = resolve(alloc, tree)?;
-    supported(&named)?;
     let text = type_of(alloc, named)?;
     with_ranges(alloc, text)
 }

@@ -1,2 +1,0 @@
-mod Alls
-pub mod Judged

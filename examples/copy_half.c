@@ -1,0 +1,54 @@
+/* copy.c half converted: `append` takes the buffer with its length, and stops where a name does not fit. `main` still
+   writes the name by a plain pointer, and keeps its length below 64 by itself. */
+#include <stdchecked.h>
+
+char name nt_checked[64];
+char greeting nt_checked[17];
+char end nt_checked[8] = "!\n";
+
+/* copies a text into a buffer from a place on; the place behind the copy */
+checked int append(nt_array_ptr<char> to : count(size), int size, int at, nt_array_ptr<char> from) {
+  int n = 0;
+  nt_array_ptr<char> bytes : count(n) = from;
+  while (bytes[n]) {
+    to[at + n] = bytes[n];
+    n = n + 1;
+  }
+  to[at + n] = 0;
+  return at + n;
+}
+
+checked void print(nt_array_ptr<char> text) {
+  int n = 0;
+  nt_array_ptr<char> bytes : count(n) = text;
+  while (bytes[n]) {
+    putchar(bytes[n]);
+    n = n + 1;
+  }
+}
+
+checked void greet(void) {
+  int at;
+  at = append(greeting, 16, 0, "Hello ");
+  at = append(greeting, 16, at, name);
+  print(greeting);
+  print(end);
+}
+
+int main(void) {
+  int byte = getchar();
+  int used = 0;
+  char *to = (char *)name;
+  while (byte != EOF) {
+    if (byte == '\n') {
+      to[used] = 0;
+      greet();
+      used = 0;
+    } else if (used < 63) {
+      to[used] = byte;
+      used = used + 1;
+    }
+    byte = getchar();
+  }
+  return 0;
+}
