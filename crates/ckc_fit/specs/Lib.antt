@@ -1,3 +1,8 @@
 pub mod Numbers
 pub mod Locals
 pub mod Members
+pub mod Tests
+pub mod Visible
+pub mod Placeless
+pub mod Bodies
+pub mod Fit

@@ -5,6 +5,7 @@
 mod laws;
 
 pub use laws::{
-    functions_and_tags_are_numbered, locals_are_numbered, members_differ, names_keep_form,
+    fits_later_phases, functions_and_tags_are_numbered, functions_have_bodies, has_main,
+    locals_are_numbered, members_differ, names_are_visible, names_keep_form, small_stays,
     statics_are_numbered,
 };

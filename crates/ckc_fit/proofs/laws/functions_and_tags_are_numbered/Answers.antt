@@ -1,4 +1,4 @@
-use Rattle.ckc_fit.proofs.Ordered.{functions_count, tags_count}
+use Rattle.ckc_fit.proofs.Numbered.{functions_count, tags_count}
 use Rattle.ckc_fit.proofs.laws.functions_and_tags_are_numbered.Goals as goal
 
 pub returns : goal.returns

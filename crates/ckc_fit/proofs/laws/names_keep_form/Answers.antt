@@ -1,4 +1,4 @@
-use Rattle.ckc_fit.proofs.ItemsKept.{form_kept}
+use Rattle.ckc_fit.proofs.FormKept.{form_kept}
 use Rattle.ckc_fit.proofs.laws.names_keep_form.Goals as goal
 
 pub returns : goal.returns
