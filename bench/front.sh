@@ -3,7 +3,9 @@
 # `gcc -fsyntax-only`, on ten files of 262,144 bytes, each with much of one kind (front/text.awk): `interp` goes through
 # lexer, parser, size limits, names and types to the program that the file means, which then ends at once. A file that
 # is refused says so in its row. Then files of 131,072 and 262,144 bytes, with 8 and 16 functions of some 985 nodes:
-# `interp`, and `build`, which compiles the file and writes its image too. The times are to grow as the size does.
+# `interp`, and `build`, which compiles the file and writes its image too. The times are to grow as the size does. At last files
+# that make the judgement of bounds work: 16 functions of 100 locals, with 100 facts that lead from the first to the last, by
+# which 1 and 50 assignments are judged.
 . "$(dirname "$0")/workspace.sh"
 
 # The milliseconds of processor time that a call of a command takes, which ends in a status of those given:
@@ -44,4 +46,24 @@ for half in 2 1; do
   text $((262144 / half)) $((16 / half))
   row "front, $((262144 / half)) bytes" "$(average 0 "$top/ccc" interp "$work/text")" "ms a file"
   row "build, $((262144 / half)) bytes" "$(average 0 "$top/ccc" build "$work/text" "$work/image")" "ms a file"
+done
+
+facts() { # assignments
+  for ((f = 0; f < 16; f++)); do
+    echo "int f$f(int a0) {"
+    for ((k = 1; k < 100; k++)); do echo "  int a$k = a0;"; done
+    echo "  _Array_ptr<int> p : count(a0) = NULL;"
+    echo "  _Array_ptr<int> q : count(a99) = NULL;"
+    echo "  while (a0 < 9) {"
+    echo "    _Dynamic_check(a0 >= 0);"
+    for ((k = 1; k < 100; k++)); do echo "    _Dynamic_check(a$((k - 1)) <= a$k);"; done
+    for ((k = 0; k < $1; k++)); do echo "    p = q;"; done
+    echo "  }"
+    echo "  return a0; }"
+  done
+  echo "int main(void) { return 0; }"
+}
+for count in 1 50; do
+  facts "$count" > "$work/text"
+  row "bounds, chains of 100 facts, $((16 * count)) assignments" "$(average 0 "$top/ccc" interp "$work/text")" "ms a file"
 done
