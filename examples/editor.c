@@ -1,5 +1,5 @@
 /* A line editor, in plain C. `a text` adds a line, `d 2` deletes line 2, `c 2 5 x` changes its byte 5 to x, `p` prints all
-   lines. A byte that the line does not have is changed all the same: `c 1 24 !` changes what lies behind line 1. */
+   lines. A byte that a line does not have is changed all the same: after `a one line` and `a two`, `c 1 49 T` hits `two`. */
 #include <stdlib.h>
 
 struct line {

@@ -1,5 +1,5 @@
 /* editor.c converted, every line of it in a checked scope. A structure says how long the text of its line is, and a byte
-   that the line does not have is not changed: `c 1 24 !` stops at the check `bounds`. */
+   that the line does not have is not changed: `c 1 49 T` stops at the check `bounds`. */
 #include <stdlib.h>
 #include <stdchecked.h>
 

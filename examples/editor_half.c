@@ -1,5 +1,5 @@
 /* editor.c half converted: the list of lines has checked pointers, and so has the buffer. The texts of the lines are plain
-   pointers still, so `c 1 24 !` changes what lies behind line 1. */
+   pointers still, so `c 1 49 T` hits line 2 here too. */
 #include <stdlib.h>
 #include <stdchecked.h>
 
