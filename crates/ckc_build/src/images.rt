@@ -4,7 +4,7 @@ ghost use Rattle.ckc_base.specs.Phases.{Answers, viewed};
 ghost use Rattle.ckc_image.specs.declared.parts.Parts as parts;
 ghost use Rattle.ckc_source.specs.Code.{program_of};
 ghost use Rattle.ckc_source.specs.LaidOut.{IsLaidOut};
-ghost use Rattle.ckc_checks.specs.Compilable.{IsCompilable, program_nodes};
+ghost use Rattle.ckc_operands.specs.Compilable.{IsCompilable, program_nodes};
 ghost use Rattle.ckc_compile.specs.Compiled.{FollowsSource, machine_parts};
 ghost use Rattle.ckc_build.specs.Built.{IsImage, building, bytes_of};
 

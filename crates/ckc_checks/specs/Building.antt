@@ -3,14 +3,25 @@ use Rattle.std.specs.Prelude.{ℕ, ◌+◌, Bool, true, false, List, reverse, Op
 use Rattle.ckc_base.specs.declared.places.Pos.{Pos}
 use Rattle.ckc_base.specs.declared.runtime_checks.Check.TheVariants as check
 use Rattle.ckc_core.specs.declared.code.CoreStmt.{CoreStmt}
-use Rattle.ckc_core.specs.Code.{Local, Code, End, Get, Put, Call, If, Loop, Break, Return, Check, code_of}
+use Rattle.ckc_core.specs.Code.{Const, Local, Load, Code, End, Set, Get, Put, Call, If, Loop, Break, Return, Check, code_of}
 use Rattle.ckc_source.specs.declared.stmt.Kept.{Kept}
 use Rattle.ckc_source.specs.Code as source
-use Rattle.ckc_checks.specs.Inserted.{put_if, room_if, value_code, value_room, expr_code, operand_code, operand, operands_code, operands, operand_used, low_byte, aim_code, target_count, written, result_in, result_kept}
+use Rattle.ckc_operands.specs.Operands.{operand, low_byte}
+use Rattle.ckc_checks.specs.Inserted.{put_if, room_if, reached_element, reached_place, with_range, no_range, pointer_code, value_code, value_room, expr_code, operand_code, operands_code, operands, operand_used, aim_code, target_count, written, result_in, result_kept}
 
 -- the code of statements from the last one to the first
 unfoldable pub behind : List CoreStmt → Code
 behind statements = code_of (reverse statements)
+
+-- what gives the value of an access, behind its pointer, its index and its checks
+abbrev pub reached_value : Bool → source.Expr → ℕ → Code → Code
+reached_value ranged (source.Load width access p i) t rest =
+    Set t (Load width (reached_place access p i t)) (no_range ranged t rest)
+reached_value ranged (source.Member to count access p i) t rest =
+    pointer_code ranged to.size count access.offset (reached_element access p i t) (reached_place access p i t) t rest
+reached_value ranged (source.Address bytes access p i) t rest =
+    Set t (reached_place access p i t) (with_range ranged t (Local t) (Const bytes) rest)
+reached_value ranged e t rest = rest
 
 -- the code of an expression, where the flag says so also that of a direct one
 abbrev pub value_code_if : Bool → Bool → source.Expr → ℕ → Code → Code

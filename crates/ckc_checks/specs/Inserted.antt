@@ -1,188 +1,37 @@
 -- The core code of a source program. It mirrors what `insert` makes and need not be believed: the
 -- contract of `insert` says how core code follows the program.
-use Rattle.std.specs.Prelude.{ℕ, zero, suc, ℤ, pos, ◌+◌, ◌-◌, ◌/◌, ◌%◌, max, Bool, true, false, not, ◌&&◌, ◌||◌, ◌==◌, if◌then◌else◌, List, [], ◌∷◌, ◌++◌, map, length, replicate, Option, Some, None}
-use Rattle.std.specs.Ordering.{int_eq}
+use Rattle.std.specs.Prelude.{ℕ, zero, suc, ◌+◌, ◌-◌, ◌/◌, ◌%◌, max, Bool, true, false, not, ◌&&◌, ◌||◌, if◌then◌else◌, List, [], ◌∷◌, ◌++◌, map, length, replicate, Option, Some, None}
 use Rattle.ckc_base.specs.declared.arithmetic.BinOp.TheVariants as binary
 use Rattle.ckc_base.specs.declared.arithmetic.Width.{Width}
 use Rattle.ckc_base.specs.declared.arithmetic.Width.TheVariants as width
 use Rattle.ckc_base.specs.declared.places.Pos.{Pos}
 use Rattle.ckc_base.specs.declared.runtime_checks.Check.TheVariants as check
 use Rattle.ckc_base.specs.Memory.{data_start}
-use Rattle.ckc_base.specs.Words.{word_of, applied}
 use Rattle.ckc_source.specs.declared.expr.Access.{Access}
 use Rattle.ckc_source.specs.declared.expr.Through.{Through}
 use Rattle.ckc_source.specs.declared.expr.Through.TheVariants.{Named, Raw, One, Array, Terminated}
 use Rattle.ckc_source.specs.declared.expr.Count.{Count}
-use Rattle.ckc_source.specs.declared.expr.Count.TheVariants as counts
-use Rattle.ckc_source.specs.declared.expr.Base.{Base}
-use Rattle.ckc_source.specs.declared.expr.Base.TheVariants as bases
-use Rattle.ckc_source.specs.declared.expr.End.{End as LimitsEnd}
 use Rattle.ckc_source.specs.declared.expr.Integer.{Integer}
-use Rattle.ckc_source.specs.declared.expr.Integer.TheVariants as integer
-use Rattle.ckc_source.specs.declared.expr.Limits.{Limits}
 use Rattle.ckc_source.specs.declared.expr.Shift.{Shift}
-use Rattle.ckc_source.specs.declared.expr.Variable.{Variable}
 use Rattle.ckc_source.specs.declared.expr.Operation.{Operation}
-use Rattle.ckc_source.specs.declared.expr.Operation.TheVariants.{Lt, Le, Gt, Ge}
 use Rattle.ckc_source.specs.declared.program.Object.{Object}
 use Rattle.ckc_source.specs.declared.stmt.Kept.{Kept}
 use Rattle.ckc_source.specs.declared.stmt.Kept.TheVariants as kept
 use Rattle.ckc_source.specs.Code as source
 use Rattle.ckc_source.specs.Blocks.{block_of, place_behind, first_place}
-use Rattle.ckc_source.specs.Eval.{place_in}
-use Rattle.ckc_source.specs.Words.{width_of, operator, divides}
-use Rattle.ckc_core.specs.Code.{Expr, Const, Local, Load, Bin, High, Code, End, Set, Store, Check, Call, Get, Put, Alloc, If, Loop, Break, Continue, Return, Function, Program}
+use Rattle.ckc_source.specs.Words.{divides}
+use Rattle.ckc_core.specs.Code.{Expr, Const, Local, Load, Bin, Code, End, Set, Store, Check, Call, Get, Put, Alloc, If, Loop, Break, Continue, Return, Function, Program}
+use Rattle.ckc_operands.specs.Operands.{casts_one, is_direct, operated, low_byte, as_truth, is_zero, scaled, shifted, at_offset, element_of, direct, operand, held, keeps_index}
+use Rattle.ckc_operands.specs.Pointers.{is_bounded, takes_range, index_far, index_in, reads_signed, exact_test, end_at, bounds_test, below_end, length_at, cast_test}
 
 -- ---- expressions
-
--- an access that has no checks
-abbrev pub is_unchecked : Through → Bool
-is_unchecked Named = true
-is_unchecked Raw = true
-is_unchecked _ = false
-
--- an access to a static object
-abbrev pub is_named : Through → Bool
-is_named Named = true
-is_named _ = false
-
--- ---- casts to one element
-
-abbrev pub is_one : source.Expr → Bool
-is_one (source.Number n) = n == 1
-is_one _ = false
-
-abbrev pub is_own : Base → Bool
-is_own bases.Own = true
-is_own _ = false
-
-abbrev pub is_absent : Option Variable → Bool
-is_absent None = true
-is_absent (Some x) = false
-
--- an end of limits that lies so many elements behind the pointer itself
-abbrev pub is_fixed_end : LimitsEnd → ℤ → Bool
-is_fixed_end e add = is_own e.base && (is_absent e.variable && int_eq e.add add)
-
--- limits of one element of a size
-abbrev pub are_single : ℕ → Limits → Bool
-are_single size limits = (limits.to.size == size) && (is_fixed_end limits.lower (pos 0) && is_fixed_end limits.upper (pos 1))
-
-abbrev pub is_single_count : Count → Bool
-is_single_count (counts.Fixed n) = int_eq n (pos 1)
-is_single_count (counts.Member offset form add) = false
-
--- a pointer to one element of a size, or null
-abbrev pub is_single : ℕ → source.Expr → Bool
-is_single size (source.Number n) = n == 0
-is_single size (source.Limited x limits) = are_single size limits
-is_single size (source.Member to count access p i) = (to.size == size) && is_single_count count
-is_single size (source.Address bytes access p i) = bytes == size
-is_single size (source.Tested same form at p k) = (same == size) && is_one k
-is_single size (source.Trusted to form p k) = (to.size == size) && is_one k
-is_single size _ = false
-
--- A bounds cast of a pointer to one element, to one element of the same size, has no test.
-abbrev pub casts_one : ℕ → (p k : source.Expr) → Bool
-casts_one size p k = is_one k && is_single size p
-
--- A direct expression is one expression of core code: it has no division, no remainder, no branch and no check.
-abbrev pub is_direct : source.Expr → Bool
-is_direct (source.Load width access p i) = is_unchecked access.through && (is_direct p && is_direct i)
-is_direct (source.Member to count access p i) = is_unchecked access.through && (is_direct p && is_direct i)
-is_direct (source.Address bytes access p i) = is_unchecked access.through && (is_direct p && is_direct i)
-is_direct (source.Moved shift p i) = not shift.checked && (is_direct p && is_direct i)
-is_direct (source.Added shift i p) = not shift.checked && (is_direct i && is_direct p)
-is_direct (source.Binary operation is_signed at a b) = not (divides operation) && is_direct a && is_direct b
-is_direct (source.And a b) = false
-is_direct (source.Or a b) = false
-is_direct (source.Choice c a b) = false
-is_direct (source.Narrow e) = is_direct e
-is_direct (source.Bare p) = is_direct p
-is_direct (source.Tested size form at p k) = casts_one size p k && is_direct p
-is_direct (source.Trusted to form p k) = is_direct p && is_direct k
-is_direct _ = true
-
--- a > b is b < a, and a <= b is where a > b is not
-abbrev pub operated : Operation → Bool → Expr → Expr → Expr
-operated Le is_signed a b = Bin binary.Eq (Bin (operator Lt is_signed) b a) (Const 0)
-operated Gt is_signed a b = Bin (operator Lt is_signed) b a
-operated Ge is_signed a b = Bin binary.Eq (Bin (operator Lt is_signed) a b) (Const 0)
-operated operation is_signed a b = Bin (operator operation is_signed) a b
-
-abbrev pub low_byte : Expr → Expr
-low_byte e = Bin binary.And e (Const 255)
-
-abbrev pub as_truth : Expr → Expr
-as_truth e = Bin binary.Ne e (Const 0)
-
-abbrev pub is_zero : Expr → Bool
-is_zero (Const n) = n == 0
-is_zero _ = false
-
--- so many elements of a size
-abbrev pub scaled : ℕ → Expr → Expr
-scaled size (Const n) = Const (applied binary.Mul size n)
-scaled size e = if size == 1 then e else Bin binary.Mul (Const size) e
-
--- an address so many elements of a size further on, or back
-abbrev pub shifted : Bool → ℕ → Expr → Expr → Expr
-shifted back size a i = if is_zero i then a else Bin (if back then binary.Sub else binary.Add) a (scaled size i)
-
--- an address so many bytes further on
-abbrev pub at_offset : ℕ → Expr → Expr
-at_offset offset (Const n) = Const (place_in n offset)
-at_offset offset e = if offset == 0 then e else Bin binary.Add e (Const offset)
-
--- the element that an access goes to, through a pointer at an index
-abbrev pub element_of : Through → ℕ → Expr → Expr → Expr
-element_of Raw size a i = shifted false size a i
-element_of _ size a i = a
-
--- the place that an access goes to
-abbrev pub place_at : Access → Expr → Expr → Expr
-place_at access a i = at_offset access.offset (element_of access.through access.size a i)
-
--- the core expression of a direct expression
-abbrev pub direct : source.Expr → Expr
-direct (source.Number n) = Const n
-direct (source.Local x) = Local x
-direct (source.Limited x limits) = Local x
-direct (source.Array at bytes) = Const at
-direct (source.Load width access p i) = Load width (place_at access (direct p) (direct i))
-direct (source.Member to count access p i) = Load width.Word (place_at access (direct p) (direct i))
-direct (source.Address bytes access p i) = place_at access (direct p) (direct i)
-direct (source.Moved shift p i) = shifted shift.back shift.size (direct p) (direct i)
-direct (source.Added shift i p) = shifted shift.back shift.size (direct p) (direct i)
-direct (source.Binary operation is_signed at a b) = operated operation is_signed (direct a) (direct b)
-direct (source.Narrow e) = low_byte (direct e)
-direct (source.Bare p) = direct p
-direct (source.Tested size form at p k) = direct p
-direct (source.Trusted to form p k) = direct p
-direct _ = Const 0
-
--- where the value of an expression is: where it stands, or in the temporary t
-abbrev pub operand : source.Expr → ℕ → Expr
-operand e t = if is_direct e then direct e else Local t
 
 -- what puts the value of an expression into a temporary stands in front only where it is not direct
 abbrev pub unless_direct : source.Expr → (Code → Code) → Code → Code
 unless_direct e code rest = if is_direct e then rest else code rest
 
--- an operand that goes to the temporary t in any case, where the flag says so
-abbrev pub held : Bool → source.Expr → ℕ → Expr
-held always e t = if always then Local t else operand e t
-
 abbrev pub put_if : Bool → source.Expr → (Code → Code) → Code → Code
 put_if always e code rest = if always then code rest else unless_direct e code rest
-
-abbrev pub is_number : source.Expr → Bool
-is_number (source.Number n) = true
-is_number _ = false
-
--- an index that goes to a temporary in any case, where the flag says so, but for a number
-abbrev pub keeps_index : Bool → source.Expr → Bool
-keeps_index checked i = checked && not (is_number i)
 
 -- a division or remainder stops at a divisor of zero
 abbrev pub divide_check : Operation → Pos → Expr → Code → Code
@@ -193,52 +42,6 @@ abbrev pub operation_code : Operation → Bool → Pos → Expr → Expr → ℕ
 operation_code operation is_signed at a b t rest = divide_check operation at b (Set t (operated operation is_signed a b) rest)
 
 -- ---- checked pointers to arrays
-
--- a static object at its place
-abbrev pub is_static : Access → source.Expr → Bool
-is_static access (source.Number a) = is_named access.through
-is_static access _ = false
-
-abbrev pub is_fixed : Count → Bool
-is_fixed (counts.Fixed n) = true
-is_fixed (counts.Member offset form add) = false
-
--- A pointer whose range is computed where it is tested: a local with limits, a named array, a static pointer with a
--- fixed count, the address of a static object, or one of these moved.
-abbrev pub is_ranged : source.Expr → Bool
-is_ranged (source.Limited x limits) = true
-is_ranged (source.Array at bytes) = true
-is_ranged (source.Member to count access p i) = is_static access p && is_fixed count
-is_ranged (source.Address bytes access p i) = is_static access p
-is_ranged (source.Moved shift p i) = shift.checked && is_ranged p
-is_ranged (source.Added shift i p) = shift.checked && is_ranged p
-is_ranged _ = false
-
--- an access that is judged by the range of its pointer
-abbrev pub is_bounded : Through → Bool
-is_bounded Array = true
-is_bounded Terminated = true
-is_bounded _ = false
-
--- The range of any other pointer goes to the two temporaries behind it: its lower bound, and how many bytes it has.
-abbrev pub takes_range : Through → source.Expr → Bool
-takes_range through p = is_bounded through && not (is_ranged p)
-
--- how far behind its pointer an index is
-abbrev pub index_far : Bool → ℕ
-index_far true = 3
-index_far false = 1
-
-abbrev pub reads_signed : Integer → Bool
-reads_signed integer.Int = true
-reads_signed _ = false
-
--- The address so many elements further on, or back, is one where the upper word of the product and the carry or borrow
--- cancel.
-abbrev pub exact_test : (back is_signed : Bool) → ℕ → Expr → Expr → Expr
-exact_test back is_signed size a i =
-    Bin binary.Eq (Bin binary.Add (High is_signed (Const size) i)
-    (if back then Bin binary.LtU a (shifted back size a i) else Bin binary.LtU (shifted back size a i) a)) (Const 0)
 
 -- a test that an index needs unless it is the number 0
 abbrev pub unless_zero : Expr → (Code → Code) → Code → Code
@@ -255,61 +58,6 @@ abbrev pub moved_code : Shift → Expr → Expr → ℕ → Code → Code
 moved_code shift a i t rest =
     let there = Set t (shifted shift.back shift.size a i) rest in
     if shift.checked then exact_code shift a i there else there
-
--- the ends of the limits of the local x
-abbrev pub base_at : ℕ → Base → Expr
-base_at x bases.Own = Local x
-base_at x (bases.Local y) = Local y
-base_at x (bases.Fixed a) = Const a
-
-abbrev pub amount_at : Option Variable → ℤ → Expr
-amount_at None add = Const (word_of add)
-amount_at (Some v) add = at_offset (word_of add) (Local v.local)
-
-abbrev pub end_at : ℕ → ℕ → LimitsEnd → Expr
-end_at x size e = shifted false size (base_at x e.base) (amount_at e.variable e.add)
-
--- the place of an access to a static object
-abbrev pub static_place : Access → source.Expr → ℕ
-static_place access (source.Number a) = place_in a access.offset
-static_place access _ = 0
-
--- an end of the range of a static pointer, which is read from memory again
-abbrev pub counted_end : Bool → ℕ → Count → Expr → Expr
-counted_end upper size (counts.Fixed n) e = if upper then shifted false size e (Const (word_of n)) else e
-counted_end upper size (counts.Member offset form add) e = Const 0
-
--- An end of the range of a pointer, the upper one where the flag says so: of a local with limits, of a named array, of a
--- static pointer, or of the address of a static object. Pointer arithmetic keeps it.
-abbrev pub range_end : Bool → source.Expr → Expr
-range_end upper (source.Limited x limits) = end_at x limits.to.size (if upper then limits.upper else limits.lower)
-range_end upper (source.Array at bytes) = Const (if upper then at + bytes else at)
-range_end upper (source.Member to count access p i) =
-    counted_end upper to.size count (Load width.Word (Const (static_place access p)))
-range_end upper (source.Address bytes access p i) =
-    Const (if upper then static_place access p + bytes else static_place access p)
-range_end upper (source.Moved shift p i) = range_end upper p
-range_end upper (source.Added shift i p) = range_end upper p
-range_end upper _ = Const 0
-
-abbrev pub below_or_at : Expr → Expr → Expr
-below_or_at a b = Bin binary.Eq (Bin binary.LtU b a) (Const 0)
-
--- whether an address lies in a range, of which the upper bound counts too where the flag says so
-abbrev pub upper_test : Bool → Expr → Expr → Expr
-upper_test last a high = if last then below_or_at a high else Bin binary.LtU a high
-
-abbrev pub range_test : Bool → source.Expr → Expr → Expr
-range_test last p a = Bin binary.And (below_or_at (range_end false p) a) (upper_test last a (range_end true p))
-
--- the same for a range in the two temporaries behind the address
-abbrev pub held_test : Bool → ℕ → Expr
-held_test last t =
-    Bin binary.And (below_or_at (Local (t + 1)) (Local t))
-    (upper_test last (Bin binary.Sub (Local t) (Local (t + 1))) (Local (t + 2)))
-
-abbrev pub bounds_test : Bool → source.Expr → ℕ → Expr
-bounds_test last p t = if is_ranged p then range_test last p (Local t) else held_test last t
 
 -- The element at an index goes to the temporary t, which has the pointer. An address that is none stops.
 abbrev pub element_code : Access → Expr → ℕ → Code → Code
@@ -338,10 +86,6 @@ pointer_at access p t = held (is_bounded access.through) p t
 abbrev pub index_at : Access → source.Expr → ℕ → Expr
 index_at access i u = held (keeps_index (is_bounded access.through) i) i u
 
--- the temporary that an index may go to
-abbrev pub index_in : Access → source.Expr → ℕ → ℕ
-index_in access p t = t + index_far (takes_range access.through p)
-
 -- what finds the pointer and the index of an access, and its checks
 abbrev pub reached_code : Access → (p i : source.Expr) → (on_p on_i : Code → Code) → ℕ → Code → Code
 reached_code access p i on_p on_i t rest =
@@ -367,30 +111,12 @@ with_range false t low length rest = rest
 abbrev pub no_range : Bool → ℕ → Code → Code
 no_range ranged t rest = with_range ranged t (Const 0) (Const 0) rest
 
--- how many bytes so many elements have that a member says, of the structure whose begin is in the temporary u
-abbrev pub length_at : ℕ → Count → ℕ → Expr
-length_at size (counts.Fixed n) u = Const (applied binary.Mul size (word_of n))
-length_at size (counts.Member offset form add) u =
-    scaled size (at_offset (word_of add) (Load (width_of form) (at_offset offset (Local u))))
-
 -- A pointer in memory goes to t. Its range begins there, and its structure at the element.
 abbrev pub pointer_code : Bool → ℕ → Count → ℕ → (element place : Expr) → ℕ → Code → Code
 pointer_code true size count offset element place t rest =
     Set (t + 1) element (Set t (Load width.Word (at_offset offset (Local (t + 1))))
     (Set (t + 2) (length_at size count (t + 1)) (Set (t + 1) (Local t) rest)))
 pointer_code false size count offset element place t rest = Set t (Load width.Word place) rest
-
--- whether a count is not negative
-abbrev pub is_natural : Integer → Expr → Expr
-is_natural integer.Int k = Bin binary.LtU k (Const 2147483648)
-is_natural _ k = Const 1
-
--- Whether the bounds of a cast lie in the range of the pointer in t: the pointer is not below it, and so many elements
--- of a size behind the pointer are not above it.
-abbrev pub cast_test : ℕ → Integer → Expr → ℕ → Expr
-cast_test size form k t =
-    Bin binary.And (held_test true t) (Bin binary.And (is_natural form k)
-    (below_or_at k (Bin binary.DivU (Bin binary.Sub (Local (t + 2)) (Bin binary.Sub (Local t) (Local (t + 1)))) (Const size))))
 
 -- A bounds cast that is tested, to so many elements: null stays null.
 abbrev pub tested_code : ℕ → Integer → Pos → Expr → ℕ → Code → Code
@@ -553,12 +279,6 @@ is_narrow _ = false
 abbrev pub kept_in : Width → Bool → Expr → Expr
 kept_in width.Byte is_byte e = if is_byte then e else low_byte e
 kept_in width.Word is_byte e = e
-
--- whether the element in the temporary t is not at the upper bound of its pointer
-abbrev pub below_end : source.Expr → ℕ → Expr
-below_end p t =
-    if is_ranged p then Bin binary.Ne (Local t) (range_end true p)
-    else Bin binary.Ne (Bin binary.Sub (Local t) (Local (t + 1))) (Local (t + 2))
 
 -- Through a pointer to a null-terminated array zero alone may be written at the upper bound. Whether an element is below
 -- it goes to t + 1, where nothing is read any more that found the element.

@@ -1,3 +1,2 @@
-pub mod Inserted
-pub mod Compilable
 pub mod Building
+pub mod Inserted

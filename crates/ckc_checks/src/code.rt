@@ -5,21 +5,18 @@ ghost use Rattle.ckc_core.specs.Code.{Expr, Code, code_of, stmt_of, expr_of};
 ghost use Rattle.ckc_source.specs.Code.{expr_of as source_of};
 ghost use Rattle.ckc_base.specs.declared.arithmetic.BinOp.TheVariants.{Sub};
 ghost use Rattle.ckc_base.specs.declared.arithmetic.Width.TheVariants.{Word};
-ghost use Rattle.ckc_checks.specs.Inserted.{as_truth, at_offset, low_byte, divide_check, operated, operation_code, held, is_bounded, keeps_index, exact_code, moved_code, element_code, bounded_code, judged, place_at, operand, pointer_at, index_at, index_in, reached_element, reached_place, with_range, no_range, length_at, pointer_code, tested_code, trusted_range, moved_range, end_at, access_code};
-ghost use Rattle.ckc_checks.specs.Building.{behind, value_code_if, expr_code_if};
+ghost use Rattle.ckc_operands.specs.Operands.{as_truth, at_offset, low_byte, operated, held, keeps_index, place_at, operand};
+ghost use Rattle.ckc_operands.specs.Pointers.{is_bounded, index_in, length_at, end_at};
+ghost use Rattle.ckc_checks.specs.Inserted.{divide_check, operation_code, exact_code, moved_code, element_code, bounded_code, judged, pointer_at, index_at, reached_element, reached_place, with_range, no_range, pointer_code, tested_code, trusted_range, moved_range, access_code};
+ghost use Rattle.ckc_checks.specs.Building.{behind, reached_value, value_code_if, expr_code_if};
 
-use crate::casts::casts_one;
-use crate::exprs::{
-    as_truth, at_offset, binary, direct, divides, element_of, is_direct, is_zero, low_byte,
-    operand, operated, scaled, shifted, sum,
-};
-use crate::lengths::{cast_passes, length_at};
-use crate::ranges::{
-    bounds_test, end_at, exact_test, held, index_far, index_in, is_bounded, keeps_index,
-    reads_signed, takes_range,
-};
 use ckc_base::{BinOp, Boxed, Check, Pos, Seq, Width};
 use ckc_core::{CoreExpr, CoreStmt};
+use ckc_operands::{
+    as_truth, at_offset, binary, bounds_test, cast_passes, casts_one, direct, divides, element_of,
+    end_at, exact_test, held, index_far, index_in, is_bounded, is_direct, is_zero, keeps_index,
+    length_at, low_byte, operand, operated, reads_signed, scaled, shifted, sum, takes_range,
+};
 use ckc_source::{Access, Count, ExprTree, Integer, Limits, Operation, Shift, Through};
 use std::alloc::{AllocError, Global};
 
@@ -541,6 +538,57 @@ fn judge_access(
     Ok(())
 }
 
+/// Puts the code in front that has the value of an access once its pointer and its index are found and judged.
+fn reached(
+    alloc: Global,
+    ranged: bool,
+    e: &ExprTree,
+    t: u32,
+    code: &mut Seq<CoreStmt>,
+) -> Result<(), AllocError>
+    ensures { OnOk result (behind code.new ≡
+        reached_value ranged (source_of e.now) t (behind code.old)) }
+{
+    match e {
+        ExprTree::Load(width, access, p, i) => {
+            no_range(ranged, t, code)?;
+            load_place(alloc, *width, *access, p.get(), i.get(), t, code)?;
+        }
+        ExprTree::Member(to, count, access, p, i) => {
+            let size = to.get().size;
+            pointer(
+                alloc,
+                ranged,
+                size,
+                *count,
+                *access,
+                p.get(),
+                i.get(),
+                t,
+                code,
+            )?;
+        }
+        ExprTree::Address(bytes, access, p, i) => {
+            address(alloc, ranged, *bytes, *access, p.get(), i.get(), t, code)?;
+        }
+        ExprTree::Number(_)
+        | ExprTree::Local(_)
+        | ExprTree::Limited(_, _)
+        | ExprTree::Array(_, _)
+        | ExprTree::Moved(_, _, _)
+        | ExprTree::Added(_, _, _)
+        | ExprTree::Binary(_, _, _, _, _)
+        | ExprTree::And(_, _)
+        | ExprTree::Or(_, _)
+        | ExprTree::Choice(_, _, _)
+        | ExprTree::Narrow(_)
+        | ExprTree::Bare(_)
+        | ExprTree::Tested(_, _, _, _, _)
+        | ExprTree::Trusted(_, _, _, _) => {}
+    }
+    Ok(())
+}
+
 /// Puts the code in front that writes the value of an expression to the local t, and where the first flag says so its
 /// range to the two locals behind it. A direct expression has such code only where the second flag says so.
 pub fn value(
@@ -558,52 +606,10 @@ pub fn value(
         return Ok(());
     }
     match e {
-        ExprTree::Load(width, access, p, i) => {
-            no_range(ranged, t, code)?;
-            load_place(alloc, *width, *access, p.get(), i.get(), t, code)?;
-            judge_access(alloc, *access, p.get(), i.get(), t, code)?;
-            let next = index_in(*access, p.get(), t)?;
-            let checked = is_bounded(access.through);
-            value(
-                alloc,
-                i.get(),
-                false,
-                keeps_index(checked, i.get()),
-                next,
-                code,
-            )?;
-            let far = takes_range(access.through, p.get());
-            value(alloc, p.get(), far, checked, t, code)?;
-        }
-        ExprTree::Member(to, count, access, p, i) => {
-            let size = to.get().size;
-            pointer(
-                alloc,
-                ranged,
-                size,
-                *count,
-                *access,
-                p.get(),
-                i.get(),
-                t,
-                code,
-            )?;
-            judge_access(alloc, *access, p.get(), i.get(), t, code)?;
-            let next = index_in(*access, p.get(), t)?;
-            let checked = is_bounded(access.through);
-            value(
-                alloc,
-                i.get(),
-                false,
-                keeps_index(checked, i.get()),
-                next,
-                code,
-            )?;
-            let far = takes_range(access.through, p.get());
-            value(alloc, p.get(), far, checked, t, code)?;
-        }
-        ExprTree::Address(bytes, access, p, i) => {
-            address(alloc, ranged, *bytes, *access, p.get(), i.get(), t, code)?;
+        ExprTree::Load(_, access, p, i)
+        | ExprTree::Member(_, _, access, p, i)
+        | ExprTree::Address(_, access, p, i) => {
+            reached(alloc, ranged, e, t, code)?;
             judge_access(alloc, *access, p.get(), i.get(), t, code)?;
             let next = index_in(*access, p.get(), t)?;
             let checked = is_bounded(access.through);

@@ -6,7 +6,7 @@ ghost use Rattle.ckc_core.specs.Code.{function_of as core_function, program_of a
 ghost use Rattle.ckc_core.specs.Limits.{IsWithinLimits};
 ghost use Rattle.ckc_core.specs.Sizes.{program_size};
 ghost use Rattle.ckc_core.specs.WellFormed.{IsWellFormed};
-ghost use Rattle.ckc_checks.specs.Compilable.{IsCompilable, program_nodes};
+ghost use Rattle.ckc_operands.specs.Compilable.{IsCompilable, program_nodes};
 ghost use Rattle.ckc_source.specs.LaidOut.{IsLaidOut};
 ghost use Rattle.ckc_source.specs.Blocks.{block_of, end_of, place_behind, first_place};
 ghost use Rattle.ckc_source.specs.Code.{function_of as source_function, program_of as source_program};
@@ -14,11 +14,11 @@ ghost use Rattle.ckc_checks.specs.Inserted.{zeroed, function_code, image, word_b
 ghost use Rattle.ckc_checks.specs.Building.{behind};
 
 use crate::code::{front, in_order, nothing};
-use crate::exprs::sum;
 use crate::rooms::room;
 use crate::statements::statements;
 use ckc_base::{Bytes, Seq};
 use ckc_core::{Core, CoreExpr, CoreFunc, CoreStmt};
+use ckc_operands::sum;
 use ckc_source::{FunctionTree, Object, Program};
 use std::alloc::{AllocError, Global};
 

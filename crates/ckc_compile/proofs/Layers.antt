@@ -6,7 +6,7 @@ use Rattle.ckc_base.proofs.Following.{follows_trans}
 use Rattle.ckc_source.specs.Code as source
 use Rattle.ckc_source.specs.LaidOut.{AreBytes, IsLaidOut}
 use Rattle.ckc_source.specs.Source.{source}
-use Rattle.ckc_checks.specs.Compilable.{IsCompilable}
+use Rattle.ckc_operands.specs.Compilable.{IsCompilable}
 use Rattle.ckc_checks.specs.Inserted.{inserted}
 use Rattle.ckc_inserted.proofs.Follows.{core_follows}
 use Rattle.ckc_core.specs.Code as core

@@ -4,7 +4,7 @@ ghost use Rattle.ckc_base.specs.Follows.{Follows};
 ghost use Rattle.ckc_source.specs.Code.{program_of};
 ghost use Rattle.ckc_source.specs.LaidOut.{AreBytes, IsLaidOut};
 ghost use Rattle.ckc_source.specs.Source.{source};
-ghost use Rattle.ckc_checks.specs.Compilable.{IsCompilable, program_nodes};
+ghost use Rattle.ckc_operands.specs.Compilable.{IsCompilable, program_nodes};
 ghost use Rattle.ckc_tac.specs.Meaning.{tac_meaning};
 ghost use Rattle.ckc_tac.specs.Sizes.{program_size as tac_size};
 ghost use Rattle.ckc_tac.specs.WellFormed.{IsWellFormed as IsWellFormedTac, HasFewRegisters};

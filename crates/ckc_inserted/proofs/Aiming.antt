@@ -15,7 +15,7 @@ use Rattle.ckc_source.specs.Eval.{Store, place_in}
 use Rattle.ckc_source.specs.Steps.{terminator_at, aims_at, aimed}
 use Rattle.ckc_core.specs.Code.{Code, Function}
 use Rattle.ckc_core.specs.Meaning.{Rest, Caller, value_of}
-use Rattle.ckc_checks.specs.Compilable.{IsCompilableTarget}
+use Rattle.ckc_operands.specs.Compilable.{IsCompilableTarget}
 use Rattle.ckc_checks.specs.Inserted.{marked, reached_place, aim_code, target_count}
 use Rattle.ckc_inserted.proofs.Running.{machine, at}
 use Rattle.ckc_inserted.proofs.Values.{Agree, Sees}

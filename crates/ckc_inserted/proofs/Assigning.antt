@@ -16,8 +16,9 @@ use Rattle.ckc_source.specs.Steps.{store_of, aimed, allowed, writes, Drawn, draw
 use Rattle.ckc_core.specs.Code.{Local, Code, Get, Put, Function}
 use Rattle.ckc_core.specs.Meaning.{value_of, nodes, core_step, goes_by}
 use Rattle.ckc_core.specs.Meaning as C
-use Rattle.ckc_checks.specs.Compilable.{target_nodes, expr_nodes, IsCompilableExpr, IsCompilableTarget, IsCompilableFunction}
-use Rattle.ckc_checks.specs.Inserted.{low_byte, operand, operand_used, operand_code, aim_code, target_count, is_narrow, written, assigned, statements}
+use Rattle.ckc_operands.specs.Compilable.{target_nodes, expr_nodes, IsCompilableExpr, IsCompilableTarget, IsCompilableFunction}
+use Rattle.ckc_operands.specs.Operands.{low_byte, operand}
+use Rattle.ckc_checks.specs.Inserted.{operand_used, operand_code, aim_code, target_count, is_narrow, written, assigned, statements}
 use Rattle.ckc_inserted.proofs.Running.{machine, at}
 use Rattle.ckc_inserted.proofs.Counts.{operand_nodes, found_few}
 use Rattle.ckc_inserted.proofs.Guarding.{guard_few}

@@ -32,7 +32,7 @@ use Rattle.ckc_source.specs.Blocks.{Block, loaded}
 use Rattle.ckc_source.specs.Runs.{is_true}
 use Rattle.ckc_source.specs.Words.{exact, as_address, operator, computed, divides, truth, elements_behind}
 use Rattle.ckc_source.specs.Eval.{Store, given, given_both, given_some, plain, ranged, spanned, stops, reads, reads_within, end_address, at_address, element, place_in, loads, counted, loads_pointer, moves, moves_checked, moved_exactly, operates, tests, tests_within, trusts, evaluated}
-use Rattle.ckc_checks.specs.Compilable.{IsCompilableExpr}
+use Rattle.ckc_operands.specs.Compilable.{IsCompilableExpr}
 
 -- ---- operations on words
 

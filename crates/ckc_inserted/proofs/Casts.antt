@@ -18,7 +18,7 @@ use Rattle.ckc_source.specs.Words.{exact, elements_behind}
 use Rattle.ckc_source.specs.Eval.{ranged, stops, tests_within}
 use Rattle.ckc_core.specs.Code.{Expr, Const, Local, Bin}
 use Rattle.ckc_core.specs.Meaning.{value_of, both}
-use Rattle.ckc_checks.specs.Inserted.{is_natural, held_test, cast_test}
+use Rattle.ckc_operands.specs.Pointers.{is_natural, held_test, cast_test}
 use Rattle.ckc_inserted.proofs.Exact.{low_signed, product_high}
 use Rattle.ckc_inserted.proofs.Ranges.{at_most_word, held_value_of}
 

@@ -17,8 +17,9 @@ use Rattle.ckc_source.specs.Words.{computed}
 use Rattle.ckc_source.specs.Eval.{Store, given, given_both, plain, stops, evaluated}
 use Rattle.ckc_core.specs.Code.{Expr, Local, Code, Set, Check, Function}
 use Rattle.ckc_core.specs.Meaning.{Rest, State, Caller, value_of, nodes}
-use Rattle.ckc_checks.specs.Compilable.{IsCompilableExpr, HasRange, expr_nodes}
-use Rattle.ckc_checks.specs.Inserted.{is_direct, operated, held, put_if, keeps_index, direct, value_code, expr_code}
+use Rattle.ckc_operands.specs.Compilable.{IsCompilableExpr, HasRange, expr_nodes}
+use Rattle.ckc_operands.specs.Operands.{is_direct, operated, held, keeps_index, direct}
+use Rattle.ckc_checks.specs.Inserted.{put_if, value_code, expr_code}
 use Rattle.ckc_inserted.proofs.Running.{machine, Runs, first_runs, later_runs, then_runs, at, by_set, by_pass, by_fail}
 use Rattle.ckc_inserted.proofs.Bounded.{GivesWord}
 use Rattle.ckc_inserted.proofs.Values.{IsValue, operated_value, Agree, Sees, word_seen, direct_value}

@@ -22,8 +22,10 @@ use Rattle.ckc_source.specs.Words.{width_of}
 use Rattle.ckc_source.specs.Code as source
 use Rattle.ckc_core.specs.Code.{Expr, Const, Local, Load, Bin}
 use Rattle.ckc_core.specs.Meaning.{nodes, all_nodes}
-use Rattle.ckc_checks.specs.Compilable.{element_nodes, access_nodes, shift_nodes, index_nodes, value_nodes, expr_nodes, exprs_nodes}
-use Rattle.ckc_checks.specs.Inserted.{is_direct, operated, is_zero, scaled, shifted, at_offset, element_of, place_at, direct, operand, operands, held, keeps_index, is_bounded, exact_test, base_at, amount_at, end_at, static_place, counted_end, range_end, range_test, is_ranged, takes_range, casts_one, index_in, held_test, length_at, is_natural, cast_test, pointer_at, index_at, reached_element, reached_place}
+use Rattle.ckc_operands.specs.Compilable.{element_nodes, access_nodes, shift_nodes, index_nodes, value_nodes, expr_nodes, exprs_nodes}
+use Rattle.ckc_operands.specs.Operands.{is_direct, operated, is_zero, scaled, shifted, at_offset, element_of, place_at, direct, operand, held, keeps_index, casts_one}
+use Rattle.ckc_operands.specs.Pointers.{is_bounded, exact_test, base_at, amount_at, end_at, static_place, counted_end, range_end, range_test, is_ranged, takes_range, index_in, held_test, length_at, is_natural, cast_test}
+use Rattle.ckc_checks.specs.Inserted.{operands, pointer_at, index_at, reached_element, reached_place}
 
 -- ---- values that are written
 

@@ -34,8 +34,9 @@ use Rattle.ckc_source.specs.Steps.{at_work, writes, with_blocks, kept_place, han
 use Rattle.ckc_core.specs.Code.{Const, Local, Code, Set, Store, Function}
 use Rattle.ckc_core.specs.Meaning.{Stop, core_step, nodes, extra_steps}
 use Rattle.ckc_core.specs.Meaning as C
-use Rattle.ckc_checks.specs.Compilable.{HasParams, IsCompilableFunction, IsCompilableKept}
-use Rattle.ckc_checks.specs.Inserted.{low_byte, statements, result_in, result_kept, zeroed, function_code}
+use Rattle.ckc_operands.specs.Compilable.{HasParams, IsCompilableFunction, IsCompilableKept}
+use Rattle.ckc_operands.specs.Operands.{low_byte}
+use Rattle.ckc_checks.specs.Inserted.{statements, result_in, result_kept, zeroed, function_code}
 use Rattle.ckc_inserted.proofs.Running.{machine, at, by_set, step_by, halt_by}
 use Rattle.ckc_inserted.proofs.Values.{Agree, low_value}
 use Rattle.ckc_inserted.proofs.Bounded.{Gives, reads_number, AreSmall}

@@ -18,8 +18,9 @@ use Rattle.ckc_source.specs.Words.{truth, divides}
 use Rattle.ckc_source.specs.Eval.{Store, given, given_both, plain, element, place_in, loads, operates, tests, evaluated, all_evaluated}
 use Rattle.ckc_core.specs.Code.{Code, Function}
 use Rattle.ckc_core.specs.Meaning.{Rest, State, Caller, value_of, values_of, nodes, all_nodes}
-use Rattle.ckc_checks.specs.Compilable.{IsAccess, IsCompilableExpr, IsCompilablePart, IsCast, index_nodes, value_nodes, expr_nodes, exprs_nodes}
-use Rattle.ckc_checks.specs.Inserted.{held, put_if, keeps_index, is_one, is_single, casts_one, tested_code, no_range, value_code, access_code, operand, expr_code, operand_code, operands_code, operands}
+use Rattle.ckc_operands.specs.Compilable.{IsAccess, IsCompilableExpr, IsCompilablePart, IsCast, index_nodes, value_nodes, expr_nodes, exprs_nodes}
+use Rattle.ckc_operands.specs.Operands.{held, keeps_index, is_one, is_single, casts_one, operand}
+use Rattle.ckc_checks.specs.Inserted.{put_if, tested_code, no_range, value_code, access_code, expr_code, operand_code, operands_code, operands}
 use Rattle.ckc_inserted.proofs.Running.{machine, at}
 use Rattle.ckc_inserted.proofs.Bounded.{AreSmall, small_cons}
 use Rattle.ckc_inserted.proofs.Single.{behind_one, tested_gives}

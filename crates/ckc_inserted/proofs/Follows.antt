@@ -22,7 +22,7 @@ use Rattle.ckc_source.specs.Source as upper
 use Rattle.ckc_core.specs.Code.{Code, End, Function}
 use Rattle.ckc_core.specs.Meaning.{Stop, Body, core_step, core_system, core_meaning, core_detail, body_of}
 use Rattle.ckc_core.specs.Meaning as C
-use Rattle.ckc_checks.specs.Compilable.{IsCompilableFunction, IsCompilable, HasParams}
+use Rattle.ckc_operands.specs.Compilable.{IsCompilableFunction, IsCompilable, HasParams}
 use Rattle.ckc_checks.specs.Inserted.{statements, function_code, inserted}
 use Rattle.ckc_inserted.proofs.Running.{machine, at}
 use Rattle.ckc_inserted.proofs.Values.{Agree}

@@ -27,8 +27,10 @@ use Rattle.ckc_source.specs.Words.{exact, as_address, elements_behind, divides}
 use Rattle.ckc_source.specs.Eval.{Store, given, given_both, ranged, stops, at_address, element, element_through, place_in, in_range, exact_element, operates, tests, evaluated}
 use Rattle.ckc_core.specs.Code.{Expr, Local, Code, Set, Check, Function}
 use Rattle.ckc_core.specs.Meaning.{Rest, State, Caller, value_of, both, nodes}
-use Rattle.ckc_checks.specs.Compilable.{IsZero, IsJudged, IsAccess, IsCompilableExpr, IsRanged, IsBounded, HasRange, element_nodes, value_nodes, expr_nodes}
-use Rattle.ckc_checks.specs.Inserted.{below_end, operated, is_zero, shifted, element_of, held, put_if, keeps_index, is_bounded, is_ranged, takes_range, index_far, held_test, reached_element, value_code, access_code, reads_signed, exact_test, range_test, element_code, judged, reached_place, operand, operation_code, expr_code}
+use Rattle.ckc_operands.specs.Compilable.{IsZero, IsJudged, IsAccess, IsCompilableExpr, IsRanged, IsBounded, HasRange, element_nodes, value_nodes, expr_nodes}
+use Rattle.ckc_operands.specs.Operands.{operated, is_zero, shifted, element_of, held, keeps_index, operand}
+use Rattle.ckc_operands.specs.Pointers.{below_end, is_bounded, is_ranged, takes_range, index_far, held_test, reads_signed, exact_test, range_test}
+use Rattle.ckc_checks.specs.Inserted.{put_if, reached_element, value_code, access_code, element_code, judged, reached_place, operation_code, expr_code}
 use Rattle.ckc_inserted.proofs.Running.{machine, first_runs, at, by_set, by_pass, by_fail}
 use Rattle.ckc_inserted.proofs.Bounded.{GivesWord}
 use Rattle.ckc_inserted.proofs.Values.{IsValue, Agree, Sees, word_seen, at_offset_value, zero_value, shifted_value}

@@ -30,8 +30,10 @@ use Rattle.ckc_source.specs.Words.{exact, as_address, elements_behind, truth}
 use Rattle.ckc_source.specs.Eval.{Store, given, plain, stops, at_address, place_in, loads, loads_pointer, moves, moves_checked, moved_exactly, spanned, trusts, evaluated}
 use Rattle.ckc_core.specs.Code.{Expr, Const, Local, Load, Code, End, Set, Check, If, Function}
 use Rattle.ckc_core.specs.Meaning.{Rest, Next, State, Caller, value_of, both, nodes}
-use Rattle.ckc_checks.specs.Compilable.{IsCompilableExpr, IsChecked, shift_nodes, value_nodes, expr_nodes}
-use Rattle.ckc_checks.specs.Inserted.{low_byte, as_truth, is_zero, shifted, held, keeps_index, value_code, reads_signed, exact_test, unless_zero, exact_code, moved_code, reached_place, operand, expr_code, operand_code}
+use Rattle.ckc_operands.specs.Compilable.{IsCompilableExpr, IsChecked, shift_nodes, value_nodes, expr_nodes}
+use Rattle.ckc_operands.specs.Operands.{low_byte, as_truth, is_zero, shifted, held, keeps_index, operand}
+use Rattle.ckc_operands.specs.Pointers.{reads_signed, exact_test}
+use Rattle.ckc_checks.specs.Inserted.{value_code, unless_zero, exact_code, moved_code, reached_place, expr_code, operand_code}
 use Rattle.ckc_inserted.proofs.Running.{machine, first_runs, at, by_set, by_pass, by_fail, by_if, by_end}
 use Rattle.ckc_inserted.proofs.Bounded.{Gives, reads_number}
 use Rattle.ckc_inserted.proofs.Values.{IsValue, low_value, Agree, Sees, load_value, pointer_value, none_moved, shifted_value}

@@ -30,8 +30,9 @@ use Rattle.ckc_source.specs.Words.{exact, as_address, elements_behind}
 use Rattle.ckc_source.specs.Eval.{Store, given, given_both, stops, plain, end_address, ranged, reads, reads_within, given_some, spanned, element, element_through, place_in, loads_pointer, at_address, moves, moves_checked, moved_exactly, evaluated}
 use Rattle.ckc_core.specs.Code.{Expr, Const, Local, Load}
 use Rattle.ckc_core.specs.Meaning.{value_of, both}
-use Rattle.ckc_checks.specs.Compilable.{AreEnds, IsCount, IsRanged, IsCompilableExpr}
-use Rattle.ckc_checks.specs.Inserted.{shifted, reads_signed, exact_test, is_named, is_fixed, is_ranged, range_end, range_test, held_test}
+use Rattle.ckc_operands.specs.Compilable.{AreEnds, IsCount, IsRanged, IsCompilableExpr}
+use Rattle.ckc_operands.specs.Operands.{shifted, is_named}
+use Rattle.ckc_operands.specs.Pointers.{reads_signed, exact_test, is_fixed, is_ranged, range_end, range_test, held_test}
 use Rattle.ckc_inserted.proofs.Exact.{carries, borrows, exact_ahead, exact_back}
 use Rattle.ckc_inserted.proofs.Values.{Agree, Sees, shifted_value}
 use Rattle.ckc_inserted.proofs.True.{true_ends}

@@ -28,8 +28,10 @@ use Rattle.ckc_source.specs.Words.{exact, width_of, elements_behind}
 use Rattle.ckc_source.specs.Eval.{Store, given, given_both, given_some, counted, reads, reads_within, ranged, tests_within, end_address, plain, stops, place_in, loads_pointer, moves, spanned, tests, trusts, evaluated}
 use Rattle.ckc_core.specs.Code.{Expr, Const, Local, Load, Bin, Code, Set, Check, Function}
 use Rattle.ckc_core.specs.Meaning.{Rest, State, Caller, value_of, both, nodes}
-use Rattle.ckc_checks.specs.Compilable.{IsSmall, IsCount, IsCompilableExpr, HasRange, index_nodes, value_nodes, expr_nodes}
-use Rattle.ckc_checks.specs.Inserted.{scaled, at_offset, held, put_if, keeps_index, end_at, length_at, cast_test, tested_code, no_range, reached_element, value_code, moved_code, reached_place, operand, expr_code, operand_code}
+use Rattle.ckc_operands.specs.Compilable.{IsSmall, IsCount, IsCompilableExpr, HasRange, index_nodes, value_nodes, expr_nodes}
+use Rattle.ckc_operands.specs.Operands.{scaled, at_offset, held, keeps_index, operand}
+use Rattle.ckc_operands.specs.Pointers.{end_at, length_at, cast_test}
+use Rattle.ckc_checks.specs.Inserted.{put_if, tested_code, no_range, reached_element, value_code, moved_code, reached_place, expr_code, operand_code}
 use Rattle.ckc_inserted.proofs.Running.{machine, first_runs, later_runs, at, by_set, by_pass, by_fail}
 use Rattle.ckc_inserted.proofs.Bounded.{Gives, zero_of, reads_number}
 use Rattle.ckc_inserted.proofs.Values.{Agree, Sees, at_offset_value, scaled_value, direct_value}

@@ -11,8 +11,9 @@ use Rattle.ckc_source.specs.States as S
 use Rattle.ckc_core.specs.Code.{Code, End, If, Break, Function}
 use Rattle.ckc_core.specs.Meaning.{Stop, Next, Body, Step}
 use Rattle.ckc_core.specs.Meaning as C
-use Rattle.ckc_checks.specs.Compilable.{IsCompilableCode, IsCompilableKept, code_nodes}
-use Rattle.ckc_checks.specs.Inserted.{operand, operand_code, statements, result_in, result_kept}
+use Rattle.ckc_operands.specs.Compilable.{IsCompilableCode, IsCompilableKept, code_nodes}
+use Rattle.ckc_operands.specs.Operands.{operand}
+use Rattle.ckc_checks.specs.Inserted.{operand_code, statements, result_in, result_kept}
 use Rattle.ckc_inserted.proofs.Running.{machine}
 use Rattle.ckc_inserted.proofs.Flat.{SameMemory}
 use Rattle.ckc_inserted.proofs.Values.{Agree}

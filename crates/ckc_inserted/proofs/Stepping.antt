@@ -16,8 +16,9 @@ use Rattle.ckc_source.specs.Steps.{store_of, at_work, and_moves, acts}
 use Rattle.ckc_core.specs.Code.{Code, End, If, Break, Loop}
 use Rattle.ckc_core.specs.Meaning.{Stop, Next, Body, Step, value_of, nodes, core_step}
 use Rattle.ckc_core.specs.Meaning as C
-use Rattle.ckc_checks.specs.Compilable.{IsCompilableAssign, IsCompilableFunction, expr_nodes}
-use Rattle.ckc_checks.specs.Inserted.{operand, statements}
+use Rattle.ckc_operands.specs.Compilable.{IsCompilableAssign, IsCompilableFunction, expr_nodes}
+use Rattle.ckc_operands.specs.Operands.{operand}
+use Rattle.ckc_checks.specs.Inserted.{statements}
 use Rattle.ckc_inserted.proofs.Running.{machine, at, by_if, by_end, by_loop, step_by}
 use Rattle.ckc_inserted.proofs.Counts.{operand_nodes}
 use Rattle.ckc_inserted.proofs.Relation.{turn_code, Stands}

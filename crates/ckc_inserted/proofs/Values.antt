@@ -30,8 +30,8 @@ use Rattle.ckc_source.specs.Words.{exact, width_of, operator, computed, divides,
 use Rattle.ckc_source.specs.Eval.{Store, given, given_both, given_some, plain, stops, reads, end_address, element, element_through, place_in, loads, counted, loads_pointer, moves, moves_checked, spanned, operates, tests, trusts, evaluated}
 use Rattle.ckc_core.specs.Code.{Expr, Const, Bin, Load}
 use Rattle.ckc_core.specs.Meaning.{value_of, both}
-use Rattle.ckc_checks.specs.Compilable.{IsCompilableExpr}
-use Rattle.ckc_checks.specs.Inserted.{is_one, is_single, casts_one, is_unchecked, is_direct, operated, low_byte, is_zero, scaled, shifted, at_offset, element_of, place_at, direct}
+use Rattle.ckc_operands.specs.Compilable.{IsCompilableExpr}
+use Rattle.ckc_operands.specs.Operands.{is_one, is_single, casts_one, is_unchecked, is_direct, operated, low_byte, is_zero, scaled, shifted, at_offset, element_of, place_at, direct}
 use Rattle.ckc_inserted.proofs.Bytes.{and_true, SameBytes, loaded_there}
 use Rattle.ckc_inserted.proofs.Flat.{SameMemory, loaded_word}
 use Rattle.ckc_inserted.proofs.Single.{behind_one, tested_gives}

@@ -1,7 +1,7 @@
 //! The law of inserted checks, as the contract of a function that does nothing.
 ghost use Rattle.ckc_source.specs.Code.{Program};
 ghost use Rattle.ckc_source.specs.LaidOut.{IsLaidOut};
-ghost use Rattle.ckc_checks.specs.Compilable.{IsCompilable};
+ghost use Rattle.ckc_operands.specs.Compilable.{IsCompilable};
 ghost use Rattle.ckc_inserted.specs.Followed.{IsFollowedByCore};
 
 /// The core code of a program follows the program, with any input of bytes: it reads and puts the same bytes, and ends

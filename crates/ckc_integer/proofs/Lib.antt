@@ -1,3 +1,4 @@
 pub mod Indexes
 pub mod Judged
 pub mod Laid
+pub mod Numeric

@@ -1,10 +1,10 @@
 //! How deep expressions are and how many nodes there are, up to 2^64 - 1.
 ghost use Rattle.std.specs.Prelude.{◌≡◌, ◌+◌, map};
 ghost use Rattle.ckc_source.specs.Code.{expr_of, target_of, right_of, assign_of, code_of};
-ghost use Rattle.ckc_checks.specs.Compilable.{depth, element_nodes, access_nodes, shift_nodes, index_nodes, expr_nodes, exprs_nodes, guard_nodes, target_nodes, right_nodes, assigns_nodes, code_nodes, range_nodes, value_nodes};
+ghost use Rattle.ckc_operands.specs.Compilable.{depth, element_nodes, access_nodes, shift_nodes, index_nodes, expr_nodes, exprs_nodes, guard_nodes, target_nodes, right_nodes, assigns_nodes, code_nodes, range_nodes, value_nodes};
 ghost use Rattle.ckc_integer.specs.Capped.{capped};
 
-use ckc_checks::{casts_one, is_ranged, takes_range};
+use ckc_operands::{casts_one, is_number, is_ranged, is_this, number, takes_range};
 use ckc_source::{Assign, ExprTree, RightTree, StmtTree, TargetTree, Through};
 
 /// How many nodes the longest path down an expression has.
@@ -41,28 +41,11 @@ pub fn depth(e: &ExprTree) -> u64
 }
 
 /// How many nodes an access counts for that is judged by the range of its pointer, by whether the range is a value.
+#[tactic(auto, using(crate::proofs::Indexes::elements_by))]
 fn element_nodes(far: bool, i: &ExprTree) -> u64
     ensures { result ≡ element_nodes far (expr_of i.now) }
 {
-    let first = match i {
-        ExprTree::Number(n) => *n == 0,
-        ExprTree::Local(_)
-        | ExprTree::Limited(_, _)
-        | ExprTree::Array(_, _)
-        | ExprTree::Load(_, _, _, _)
-        | ExprTree::Member(_, _, _, _, _)
-        | ExprTree::Address(_, _, _, _)
-        | ExprTree::Moved(_, _, _)
-        | ExprTree::Added(_, _, _)
-        | ExprTree::Binary(_, _, _, _, _)
-        | ExprTree::And(_, _)
-        | ExprTree::Or(_, _)
-        | ExprTree::Choice(_, _, _)
-        | ExprTree::Narrow(_)
-        | ExprTree::Bare(_)
-        | ExprTree::Tested(_, _, _, _, _)
-        | ExprTree::Trusted(_, _, _, _) => false,
-    };
+    let first = is_this(0, number(i));
     match (far, first) {
         (false, true) => 4,
         (false, false) => 6,
@@ -93,28 +76,11 @@ fn shift_nodes(checked: bool) -> u64
 }
 
 /// How many nodes an index counts for, which has so many: a number counts for nothing.
+#[tactic(auto, using(crate::proofs::Indexes::index_by))]
 fn index_nodes(i: &ExprTree, count: u64) -> u64
     ensures { result ≡ index_nodes (expr_of i.now) count }
 {
-    match i {
-        ExprTree::Number(_) => 0,
-        ExprTree::Local(_)
-        | ExprTree::Limited(_, _)
-        | ExprTree::Array(_, _)
-        | ExprTree::Load(_, _, _, _)
-        | ExprTree::Member(_, _, _, _, _)
-        | ExprTree::Address(_, _, _, _)
-        | ExprTree::Moved(_, _, _)
-        | ExprTree::Added(_, _, _)
-        | ExprTree::Binary(_, _, _, _, _)
-        | ExprTree::And(_, _)
-        | ExprTree::Or(_, _)
-        | ExprTree::Choice(_, _, _)
-        | ExprTree::Narrow(_)
-        | ExprTree::Bare(_)
-        | ExprTree::Tested(_, _, _, _, _)
-        | ExprTree::Trusted(_, _, _, _) => count,
-    }
+    if is_number(i) { 0 } else { count }
 }
 
 /// How many nodes the range of a value counts for, where it is a value.

@@ -2,11 +2,11 @@
 ghost use Rattle.std.specs.Prelude.{◌↔◌, ◌+◌, ◌≤◌, ◌<◌, ◌^◌, IsTrue};
 ghost use Rattle.ckc_core.specs.WellFormed.{IsPlace};
 ghost use Rattle.ckc_source.specs.Code.{expr_of, target_of, right_of};
-ghost use Rattle.ckc_checks.specs.Compilable.{IsZero, IsBase, IsVariable, IsSmall, IsEnd, AreEnds, EndsLow, IsCount, IsRanged, HasRange, IsBounded, IsCast, IsJudged, IsAccess, IsChecked, IsShift, IsCompilableExpr, IsCompilablePart, IsCompilableTarget, IsCompilableRight, IsCompilableKept};
+ghost use Rattle.ckc_operands.specs.Compilable.{IsZero, IsBase, IsVariable, IsSmall, IsEnd, AreEnds, EndsLow, IsCount, IsRanged, HasRange, IsBounded, IsCast, IsJudged, IsAccess, IsChecked, IsShift, IsCompilableExpr, IsCompilablePart, IsCompilableTarget, IsCompilableRight, IsCompilableKept};
 
 use crate::counts::depth;
 use ckc_base::Pos;
-use ckc_checks::{casts_one, is_ranged};
+use ckc_operands::{casts_one, is_number, is_ranged, is_this, number, static_place};
 use ckc_source::{
     Access, Base, Count, End, ExprTree, Kept, Limits, RightTree, Shift, TargetTree, Through,
     Variable,
@@ -27,28 +27,11 @@ pub fn is_place(at: Pos) -> bool
 }
 
 /// Whether an expression is the number 0.
+#[tactic(auto, using(crate::proofs::Numeric::zero_by))]
 fn is_zero(e: &ExprTree) -> bool
     ensures { IsTrue result ↔ IsZero (expr_of e.now) }
 {
-    match e {
-        ExprTree::Number(n) => *n == 0,
-        ExprTree::Local(_)
-        | ExprTree::Limited(_, _)
-        | ExprTree::Array(_, _)
-        | ExprTree::Load(_, _, _, _)
-        | ExprTree::Member(_, _, _, _, _)
-        | ExprTree::Address(_, _, _, _)
-        | ExprTree::Moved(_, _, _)
-        | ExprTree::Added(_, _, _)
-        | ExprTree::Binary(_, _, _, _, _)
-        | ExprTree::And(_, _)
-        | ExprTree::Or(_, _)
-        | ExprTree::Choice(_, _, _)
-        | ExprTree::Narrow(_)
-        | ExprTree::Bare(_)
-        | ExprTree::Tested(_, _, _, _, _)
-        | ExprTree::Trusted(_, _, _, _) => false,
-    }
+    is_this(0, number(e))
 }
 
 /// Whether a sum is a word.
@@ -99,28 +82,11 @@ fn are_ends(limits: &Limits, locals: u32) -> bool
 }
 
 /// Whether so many bytes of a static object end at an address.
+#[tactic(auto, using(crate::proofs::Numeric::ends_by))]
 fn ends_low(access: Access, bytes: u32, p: &ExprTree) -> bool
     ensures { IsTrue result ↔ EndsLow access bytes (expr_of p.now) }
 {
-    match p {
-        ExprTree::Number(a) => is_sum(a.wrapping_add(access.offset), bytes),
-        ExprTree::Local(_)
-        | ExprTree::Limited(_, _)
-        | ExprTree::Array(_, _)
-        | ExprTree::Load(_, _, _, _)
-        | ExprTree::Member(_, _, _, _, _)
-        | ExprTree::Address(_, _, _, _)
-        | ExprTree::Moved(_, _, _)
-        | ExprTree::Added(_, _, _)
-        | ExprTree::Binary(_, _, _, _, _)
-        | ExprTree::And(_, _)
-        | ExprTree::Or(_, _)
-        | ExprTree::Choice(_, _, _)
-        | ExprTree::Narrow(_)
-        | ExprTree::Bare(_)
-        | ExprTree::Tested(_, _, _, _, _)
-        | ExprTree::Trusted(_, _, _, _) => false,
-    }
+    is_number(p) && is_sum(static_place(access, p), bytes)
 }
 
 /// Whether the numbers of a count fit.

@@ -1,7 +1,7 @@
 //! How the objects of a program lie.
 ghost use Rattle.std.specs.Prelude.{◌≡◌, ◌↔◌, ◌*◌, ◌<◌, ◌≤◌, All, IsTrue, MatchOption, max, length};
 ghost use Rattle.ckc_base.specs.Memory.{data_end};
-ghost use Rattle.ckc_checks.specs.Compilable.{BeginsLow};
+ghost use Rattle.ckc_operands.specs.Compilable.{BeginsLow};
 ghost use Rattle.ckc_source.specs.Blocks.{block_of, end_of};
 ghost use Rattle.ckc_source.specs.LaidOut.{AreBytes};
 ghost use Rattle.ckc_integer.specs.Laid.{AreLaidOut};

@@ -2,7 +2,7 @@
 ghost use Rattle.std.specs.Prelude.{◌≡◌, ◌↔◌, ◌≤◌, All, map, sum_by, IsTrue};
 ghost use Rattle.ckc_source.specs.Code.{function_of, program_of};
 ghost use Rattle.ckc_source.specs.LaidOut.{IsLaidOut};
-ghost use Rattle.ckc_checks.specs.Compilable.{IsCompilableFunction, IsCompilable, function_nodes, program_nodes};
+ghost use Rattle.ckc_operands.specs.Compilable.{IsCompilableFunction, IsCompilable, function_nodes, program_nodes};
 ghost use Rattle.ckc_integer.specs.Capped.{capped};
 
 use crate::counts::code_nodes;

@@ -1,7 +1,7 @@
 //! Statements of programs that can be compiled.
 ghost use Rattle.std.specs.Prelude.{◌↔◌, map, slice_get, All, IfSome, IsTrue};
 ghost use Rattle.ckc_source.specs.Code.{code_of, expr_of, assign_of, function_of};
-ghost use Rattle.ckc_checks.specs.Compilable.{HasParams, IsCompilablePart, IsCompilableAssign, IsCompilableBundle, IsCompilableKept, IsCompilableCode};
+ghost use Rattle.ckc_operands.specs.Compilable.{HasParams, IsCompilablePart, IsCompilableAssign, IsCompilableBundle, IsCompilableKept, IsCompilableCode};
 
 use crate::exprs::{is_kept, is_part, is_place, is_right, is_target};
 use ckc_source::{Assign, ExprTree, FunctionTree, Kept, StmtTree};

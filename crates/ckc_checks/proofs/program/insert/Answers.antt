@@ -4,7 +4,7 @@ use Rattle.ckc_core.specs.Limits.{IsWithinLimits}
 use Rattle.ckc_core.specs.Sizes.{program_size}
 use Rattle.ckc_core.specs.WellFormed.{IsWellFormed}
 use Rattle.ckc_source.specs.Code.{program_of}
-use Rattle.ckc_checks.specs.Compilable.{program_nodes}
+use Rattle.ckc_operands.specs.Compilable.{program_nodes}
 use Rattle.ckc_checks.proofs.Formed.{inserted_formed}
 use Rattle.ckc_checks.proofs.Image.{first_bytes_length}
 use Rattle.ckc_checks.proofs.Small.{inserted_small}

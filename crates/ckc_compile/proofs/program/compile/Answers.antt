@@ -1,7 +1,7 @@
 use Rattle.std.proofs.Common.{arith}
 use Rattle.ckc_source.specs.Code.{program_of}
 use Rattle.ckc_source.specs.Source.{source}
-use Rattle.ckc_checks.specs.Compilable.{program_nodes}
+use Rattle.ckc_operands.specs.Compilable.{program_nodes}
 use Rattle.ckc_frame.specs.WellFormed.{program_size}
 use Rattle.ckc_compile.specs.Compiled.{machine_parts}
 use Rattle.ckc_compile.proofs.Layers.{machine_follows, code_fits}

@@ -1,7 +1,7 @@
 use Rattle.std.proofs.Common.{ℕ, ◌≤◌, ◌*◌, List, length, sym, subst, ap}
 use Rattle.ckc_source.specs.Code.{program_of}
 use Rattle.ckc_source.specs.Source.{source}
-use Rattle.ckc_checks.specs.Compilable.{program_nodes}
+use Rattle.ckc_operands.specs.Compilable.{program_nodes}
 use Rattle.ckc_tac.specs.declared.code.Tac.{Tac}
 use Rattle.ckc_compile.proofs.Layers.{placed_follows}
 use Rattle.ckc_compile.proofs.program.placed.Goals as goal

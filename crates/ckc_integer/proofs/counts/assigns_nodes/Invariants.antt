@@ -1,6 +1,6 @@
 use Rattle.std.proofs.Common.{◌≡◌, ◌≤◌, drop, map, length}
 use Rattle.ckc_source.specs.Code.{assign_of}
-use Rattle.ckc_checks.specs.Compilable.{assigns_nodes}
+use Rattle.ckc_operands.specs.Compilable.{assigns_nodes}
 use Rattle.ckc_integer.specs.Capped.{capped}
 use Rattle.ckc_integer.proofs.counts.assigns_nodes.Given as goal
 

@@ -1,5 +1,5 @@
 use Rattle.std.proofs.Common.{◌-◌, drop, arith}
-use Rattle.ckc_checks.specs.Compilable.{BeginsLow}
+use Rattle.ckc_operands.specs.Compilable.{BeginsLow}
 use Rattle.ckc_integer.proofs.Judged.{front, and_good, and_bad}
 use Rattle.ckc_integer.proofs.objects.begin_low.Goals as goal
 

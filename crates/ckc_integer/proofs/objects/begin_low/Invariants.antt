@@ -1,6 +1,6 @@
 use Rattle.std.proofs.Common.{◌≤◌, drop, length}
 use Rattle.std.specs.Prelude.{◌↔◌, All, IsTrue}
-use Rattle.ckc_checks.specs.Compilable.{BeginsLow}
+use Rattle.ckc_operands.specs.Compilable.{BeginsLow}
 use Rattle.ckc_integer.proofs.objects.begin_low.Given as goal
 
 abbrev pub invariant-loop-i : goal.invariant-loop-i

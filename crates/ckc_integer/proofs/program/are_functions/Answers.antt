@@ -1,6 +1,6 @@
 use Rattle.std.proofs.Common.{◌-◌, drop, map, ap, arith}
 use Rattle.ckc_source.specs.Code.{function_of}
-use Rattle.ckc_checks.specs.Compilable.{IsCompilableFunction}
+use Rattle.ckc_operands.specs.Compilable.{IsCompilableFunction}
 use Rattle.ckc_integer.proofs.Judged.{front, and_good, and_bad}
 use Rattle.ckc_integer.proofs.program.are_functions.Goals as goal
 

@@ -1,7 +1,7 @@
 use Rattle.std.proofs.Common.{◌≤◌, drop, map, length}
 use Rattle.std.specs.Prelude.{◌↔◌, All, IsTrue}
 use Rattle.ckc_source.specs.Code.{function_of}
-use Rattle.ckc_checks.specs.Compilable.{IsCompilableFunction}
+use Rattle.ckc_operands.specs.Compilable.{IsCompilableFunction}
 use Rattle.ckc_integer.proofs.program.are_functions.Given as goal
 
 abbrev pub invariant-loop-i : goal.invariant-loop-i

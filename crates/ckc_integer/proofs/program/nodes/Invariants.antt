@@ -1,7 +1,7 @@
 use Rattle.std.proofs.Common.{◌≡◌, ◌≤◌, drop, map, length}
 use Rattle.std.specs.Prelude.{sum_by}
 use Rattle.ckc_source.specs.Code.{function_of}
-use Rattle.ckc_checks.specs.Compilable.{function_nodes}
+use Rattle.ckc_operands.specs.Compilable.{function_nodes}
 use Rattle.ckc_integer.specs.Capped.{capped}
 use Rattle.ckc_integer.proofs.program.nodes.Given as goal
 

@@ -1,7 +1,7 @@
 use Rattle.std.proofs.Common.{◌≤◌, drop, map, length}
 use Rattle.std.specs.Prelude.{◌↔◌, IsTrue}
 use Rattle.ckc_source.specs.Code.{code_of, function_of}
-use Rattle.ckc_checks.specs.Compilable.{IsCompilableCode}
+use Rattle.ckc_operands.specs.Compilable.{IsCompilableCode}
 use Rattle.ckc_integer.proofs.statements.+is_code.Given as goal
 
 abbrev pub decreases-is_code : goal.decreases-is_code

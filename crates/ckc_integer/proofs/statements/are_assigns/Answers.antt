@@ -1,7 +1,7 @@
 use Rattle.std.proofs.Common.{◌≡◌, ℕ, ◌-◌, drop, map, ap, subst, arith}
 use Rattle.std.specs.Prelude.{◌↔◌, All, IsTrue}
 use Rattle.ckc_source.specs.Code.{assign_of}
-use Rattle.ckc_checks.specs.Compilable.{IsCompilableAssign}
+use Rattle.ckc_operands.specs.Compilable.{IsCompilableAssign}
 use Rattle.ckc_integer.proofs.Judged.{front, and_good, and_bad}
 use Rattle.ckc_integer.proofs.statements.are_assigns.Goals as goal
 

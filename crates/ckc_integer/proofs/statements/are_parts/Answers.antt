@@ -1,6 +1,6 @@
 use Rattle.std.proofs.Common.{◌-◌, drop, map, ap, arith}
 use Rattle.ckc_source.specs.Code.{expr_of}
-use Rattle.ckc_checks.specs.Compilable.{IsCompilablePart}
+use Rattle.ckc_operands.specs.Compilable.{IsCompilablePart}
 use Rattle.ckc_integer.proofs.Judged.{front, and_good, and_bad}
 use Rattle.ckc_integer.proofs.statements.are_parts.Goals as goal
 

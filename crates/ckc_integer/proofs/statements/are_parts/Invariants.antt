@@ -1,7 +1,7 @@
 use Rattle.std.proofs.Common.{◌≤◌, drop, map, length}
 use Rattle.std.specs.Prelude.{◌↔◌, All, IsTrue}
 use Rattle.ckc_source.specs.Code.{expr_of}
-use Rattle.ckc_checks.specs.Compilable.{IsCompilablePart}
+use Rattle.ckc_operands.specs.Compilable.{IsCompilablePart}
 use Rattle.ckc_integer.proofs.statements.are_parts.Given as goal
 
 abbrev pub invariant-loop-i : goal.invariant-loop-i

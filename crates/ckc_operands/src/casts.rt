@@ -2,33 +2,17 @@
 
 ghost use Rattle.std.specs.Prelude.{◌≡◌};
 ghost use Rattle.ckc_source.specs.Code.{expr_of as source_of};
-ghost use Rattle.ckc_checks.specs.Inserted.{is_one, is_own, is_absent, is_fixed_end, are_single, is_single_count, is_single, casts_one};
+ghost use Rattle.ckc_operands.specs.Operands.{is_one, is_own, is_absent, is_fixed_end, are_single, is_single_count, is_single, casts_one};
 
+use crate::numbers::{is_this, number};
 use ckc_source::{Base, Count, End, ExprTree, Limits, Variable};
 
 /// Whether an expression is the number 1.
+#[tactic(auto, using(crate::proofs::Numeric::one_by))]
 fn is_one(e: &ExprTree) -> bool
     ensures { result ≡ is_one (source_of e.now) }
 {
-    match e {
-        ExprTree::Number(n) => *n == 1,
-        ExprTree::Local(_)
-        | ExprTree::Limited(_, _)
-        | ExprTree::Array(_, _)
-        | ExprTree::Load(_, _, _, _)
-        | ExprTree::Member(_, _, _, _, _)
-        | ExprTree::Address(_, _, _, _)
-        | ExprTree::Moved(_, _, _)
-        | ExprTree::Added(_, _, _)
-        | ExprTree::Binary(_, _, _, _, _)
-        | ExprTree::And(_, _)
-        | ExprTree::Or(_, _)
-        | ExprTree::Choice(_, _, _)
-        | ExprTree::Narrow(_)
-        | ExprTree::Bare(_)
-        | ExprTree::Tested(_, _, _, _, _)
-        | ExprTree::Trusted(_, _, _, _) => false,
-    }
+    is_this(1, number(e))
 }
 
 fn is_own(base: Base) -> bool

@@ -5,7 +5,7 @@ ghost use Rattle.ckc_core.specs.Code.{Expr, expr_of};
 ghost use Rattle.ckc_source.specs.Code.{expr_of as source_of};
 ghost use Rattle.ckc_base.specs.declared.arithmetic.Width.TheVariants.{Word};
 ghost use Rattle.ckc_source.specs.Words.{operator, divides};
-ghost use Rattle.ckc_checks.specs.Inserted.{is_unchecked, is_direct, operated, low_byte, as_truth, is_zero, scaled, shifted, at_offset, element_of, place_at, direct, operand};
+ghost use Rattle.ckc_operands.specs.Operands.{is_unchecked, is_direct, operated, low_byte, as_truth, is_zero, scaled, shifted, at_offset, element_of, place_at, direct, operand};
 
 use crate::casts::casts_one;
 use ckc_base::{BinOp, Boxed, Width};

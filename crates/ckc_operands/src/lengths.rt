@@ -5,7 +5,8 @@ ghost use Rattle.ckc_core.specs.Code.{Expr, expr_of};
 ghost use Rattle.ckc_source.specs.Code.{expr_of as source_of};
 ghost use Rattle.ckc_source.specs.Words.{width_of};
 ghost use Rattle.ckc_base.specs.declared.arithmetic.BinOp.TheVariants.{Sub, DivU, And, Or, Eq};
-ghost use Rattle.ckc_checks.specs.Inserted.{keeps_index, held, below_or_at, length_at, is_natural, cast_test};
+ghost use Rattle.ckc_operands.specs.Operands.{keeps_index, held};
+ghost use Rattle.ckc_operands.specs.Pointers.{below_or_at, length_at, is_natural, cast_test};
 
 use crate::exprs::{at_offset, binary, scaled, sum};
 use crate::ranges::{below_or_at, from_low, held, held_test, keeps_index};

@@ -5,38 +5,15 @@ ghost use Rattle.ckc_core.specs.Code.{Expr, expr_of};
 ghost use Rattle.ckc_source.specs.Code.{expr_of as source_of};
 ghost use Rattle.ckc_base.specs.declared.arithmetic.BinOp.TheVariants.{LtU, Sub};
 ghost use Rattle.ckc_base.specs.declared.arithmetic.Width.TheVariants.{Word};
-ghost use Rattle.ckc_checks.specs.Inserted.{below_end, is_number, is_bounded, keeps_index, held, reads_signed, shifted, exact_test, base_at, amount_at, end_at, static_place, counted_end, range_end, below_or_at, upper_test, range_test, is_named, is_static, is_fixed, is_ranged, takes_range, index_far, index_in, held_test, bounds_test};
+ghost use Rattle.ckc_operands.specs.Operands.{keeps_index, held, shifted, is_named};
+ghost use Rattle.ckc_operands.specs.Pointers.{below_end, is_bounded, reads_signed, exact_test, base_at, amount_at, end_at, static_place, counted_end, range_end, below_or_at, upper_test, range_test, is_static, is_fixed, is_ranged, takes_range, index_far, index_in, held_test, bounds_test};
 
 use crate::exprs::{at_offset, binary, operand, shifted, sum};
+use crate::numbers::{is_number, number};
 use ckc_base::{BinOp, Boxed, Width};
 use ckc_core::CoreExpr;
 use ckc_source::{Access, Base, Count, End, ExprTree, Integer, Through, Variable};
 use std::alloc::{AllocError, Global};
-
-/// Whether an expression is a number.
-fn is_number(e: &ExprTree) -> bool
-    ensures { result ≡ is_number (source_of e.now) }
-{
-    match e {
-        ExprTree::Number(_) => true,
-        ExprTree::Local(_)
-        | ExprTree::Limited(_, _)
-        | ExprTree::Array(_, _)
-        | ExprTree::Load(_, _, _, _)
-        | ExprTree::Member(_, _, _, _, _)
-        | ExprTree::Address(_, _, _, _)
-        | ExprTree::Moved(_, _, _)
-        | ExprTree::Added(_, _, _)
-        | ExprTree::Binary(_, _, _, _, _)
-        | ExprTree::And(_, _)
-        | ExprTree::Or(_, _)
-        | ExprTree::Choice(_, _, _)
-        | ExprTree::Narrow(_)
-        | ExprTree::Bare(_)
-        | ExprTree::Tested(_, _, _, _, _)
-        | ExprTree::Trusted(_, _, _, _) => false,
-    }
-}
 
 /// Whether an access is judged by the range of its pointer.
 pub fn is_bounded(through: Through) -> bool
@@ -58,28 +35,11 @@ fn is_named(through: Through) -> bool
 }
 
 /// Whether an access goes to a static object.
+#[tactic(auto, using(crate::proofs::Numeric::static_by))]
 fn is_static(access: Access, p: &ExprTree) -> bool
     ensures { result ≡ is_static access (source_of p.now) }
 {
-    match p {
-        ExprTree::Number(_) => is_named(access.through),
-        ExprTree::Local(_)
-        | ExprTree::Limited(_, _)
-        | ExprTree::Array(_, _)
-        | ExprTree::Load(_, _, _, _)
-        | ExprTree::Member(_, _, _, _, _)
-        | ExprTree::Address(_, _, _, _)
-        | ExprTree::Moved(_, _, _)
-        | ExprTree::Added(_, _, _)
-        | ExprTree::Binary(_, _, _, _, _)
-        | ExprTree::And(_, _)
-        | ExprTree::Or(_, _)
-        | ExprTree::Choice(_, _, _)
-        | ExprTree::Narrow(_)
-        | ExprTree::Bare(_)
-        | ExprTree::Tested(_, _, _, _, _)
-        | ExprTree::Trusted(_, _, _, _) => false,
-    }
+    is_number(p) && is_named(access.through)
 }
 
 fn is_fixed(count: Count) -> bool
@@ -256,27 +216,13 @@ pub fn end_at(alloc: Global, x: u32, size: u32, e: End) -> Result<CoreExpr, Allo
 }
 
 /// The place of an access to a static object.
-fn static_place(access: Access, p: &ExprTree) -> u32
+#[tactic(auto, using(crate::proofs::Numeric::static_place_some, crate::proofs::Numeric::static_place_none))]
+pub fn static_place(access: Access, p: &ExprTree) -> u32
     ensures { result ≡ static_place access (source_of p.now) }
 {
-    match p {
-        ExprTree::Number(a) => a.wrapping_add(access.offset),
-        ExprTree::Local(_)
-        | ExprTree::Limited(_, _)
-        | ExprTree::Array(_, _)
-        | ExprTree::Load(_, _, _, _)
-        | ExprTree::Member(_, _, _, _, _)
-        | ExprTree::Address(_, _, _, _)
-        | ExprTree::Moved(_, _, _)
-        | ExprTree::Added(_, _, _)
-        | ExprTree::Binary(_, _, _, _, _)
-        | ExprTree::And(_, _)
-        | ExprTree::Or(_, _)
-        | ExprTree::Choice(_, _, _)
-        | ExprTree::Narrow(_)
-        | ExprTree::Bare(_)
-        | ExprTree::Tested(_, _, _, _, _)
-        | ExprTree::Trusted(_, _, _, _) => 0,
+    match number(p) {
+        Some(a) => a.wrapping_add(access.offset),
+        None => 0,
     }
 }
 

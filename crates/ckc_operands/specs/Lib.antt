@@ -1,0 +1,3 @@
+pub mod Compilable
+pub mod Operands
+pub mod Pointers

@@ -1,0 +1,53 @@
+//! Numbers that stand in expressions.
+
+ghost use Rattle.std.specs.Prelude.{◌≡◌};
+ghost use Rattle.ckc_source.specs.Code.{expr_of as source_of};
+ghost use Rattle.ckc_operands.specs.Operands.{number_of, is_this, is_number};
+
+use ckc_source::ExprTree;
+
+/// The number that an expression is.
+pub fn number(e: &ExprTree) -> Option<u32>
+    ensures { result ≡ number_of (source_of e.now) }
+{
+    match e {
+        ExprTree::Number(n) => Some(*n),
+        ExprTree::Local(_)
+        | ExprTree::Limited(_, _)
+        | ExprTree::Array(_, _)
+        | ExprTree::Load(_, _, _, _)
+        | ExprTree::Member(_, _, _, _, _)
+        | ExprTree::Address(_, _, _, _)
+        | ExprTree::Moved(_, _, _)
+        | ExprTree::Added(_, _, _)
+        | ExprTree::Binary(_, _, _, _, _)
+        | ExprTree::And(_, _)
+        | ExprTree::Or(_, _)
+        | ExprTree::Choice(_, _, _)
+        | ExprTree::Narrow(_)
+        | ExprTree::Bare(_)
+        | ExprTree::Tested(_, _, _, _, _)
+        | ExprTree::Trusted(_, _, _, _) => None,
+    }
+}
+
+/// Whether there is a number, and it is so much.
+pub fn is_this(k: u32, number: Option<u32>) -> bool
+    ensures { result ≡ is_this k number }
+{
+    match number {
+        Some(n) => n == k,
+        None => false,
+    }
+}
+
+/// Whether an expression is a number.
+#[tactic(auto, using(crate::proofs::Numeric::is_some, crate::proofs::Numeric::is_none))]
+pub fn is_number(e: &ExprTree) -> bool
+    ensures { result ≡ is_number (source_of e.now) }
+{
+    match number(e) {
+        Some(_) => true,
+        None => false,
+    }
+}
