@@ -6,3 +6,4 @@ pub mod Needs
 pub mod Sized
 pub mod SizedCode
 pub mod Small
+pub mod Weighed

@@ -1,4 +1,4 @@
--- The size of the core code of expressions is bounded by their nodes.
+-- The size of the core code of expressions is at most what they weigh.
 use Rattle.std.proofs.Common.{◌≡◌, refl, ℕ, ◌+◌, ◌-◌, ◌*◌, ◌≤◌, List, [], ◌∷◌, length, arith}
 use Rattle.std.specs.Prelude.{ℤ, Bool, true, false, not, ◌&&◌, ◌||◌, ◌==◌, if◌then◌else◌, Option, Some, None}
 use Rattle.std.proofs.lemmas.List.Sums.{sum_by-cons}
@@ -23,7 +23,8 @@ use Rattle.ckc_base.specs.Words.{word_of}
 use Rattle.ckc_source.specs.Words.{divides, width_of}
 use Rattle.ckc_core.specs.Code.{Expr, Const, Local, Load, Bin, Code, End, Set, Check}
 use Rattle.ckc_core.specs.Sizes.{expr_size, exprs_size, set_size, code_size}
-use Rattle.ckc_operands.specs.Compilable.{element_nodes, access_nodes, shift_nodes, index_nodes, expr_nodes, exprs_nodes, range_nodes, value_nodes}
+use Rattle.ckc_operands.specs.Compilable.{element_nodes, access_nodes, shift_nodes, index_nodes, range_nodes}
+use Rattle.ckc_operands.specs.Weights.{value_weight, expr_weight, access_weight, arguments_weight}
 use Rattle.ckc_operands.specs.Operands.{is_direct, operated, low_byte, as_truth, is_zero, scaled, shifted, at_offset, element_of, place_at, held, keeps_index, direct, operand, casts_one}
 use Rattle.ckc_operands.specs.Pointers.{is_bounded, reads_signed, exact_test, base_at, amount_at, end_at, static_place, counted_end, range_end, range_test, is_ranged, takes_range, index_far, index_in, held_test, bounds_test, length_at, is_natural}
 use Rattle.ckc_checks.specs.Inserted.{put_if, exact_code, moved_code, element_code, bounded_code, judged, reached_place, operation_code, expr_code, operand_code, operands_code, operands, reached_element, access_code, value_code, with_range, no_range, pointer_code, tested_code, trusted_range, moved_range}
@@ -41,33 +42,9 @@ elements_some true (source.Number n) = element_some (n == 0) 3 5 (omega arith)
 elements_some false i = omega arith
 elements_some true i = omega arith
 
-access_some : (through : Through) (p i : source.Expr) → 1 ≤ access_nodes through p i
-access_some Named p i = omega arith
-access_some Raw p i = omega arith
-access_some One p i = omega arith
-access_some Array p i = omega (arith, elements_some (not (is_ranged p)) i)
-access_some Terminated p i = omega (arith, elements_some (not (is_ranged p)) i)
-
 shift_some : (checked : Bool) → 1 ≤ shift_nodes checked
 shift_some true = omega arith
 shift_some false = omega arith
-
--- an expression has a node
-value_nodes_some : (r : Bool) (e : source.Expr) → 1 ≤ value_nodes r e
-value_nodes_some r (source.Load w access p i) = omega (arith, access_some access.through p i)
-value_nodes_some r (source.Member to count access p i) = omega (arith, access_some access.through p i)
-value_nodes_some r (source.Address bytes access p i) = omega (arith, access_some access.through p i)
-value_nodes_some r (source.Moved shift p i) = omega (arith, shift_some shift.checked)
-value_nodes_some r (source.Added shift i p) = omega (arith, shift_some shift.checked)
-value_nodes_some r (source.Tested size how at p k) = by (not r && casts_one size p k)
-  where
-    by : (one : Bool) → 1 ≤ (if one then 1 + value_nodes false p + value_nodes false k else 5 + value_nodes true p + index_nodes k (value_nodes false k))
-    by true = omega arith
-    by false = omega arith
-value_nodes_some r e = omega arith
-
-expr_nodes_some : (e : source.Expr) → 1 ≤ expr_nodes e
-expr_nodes_some e = value_nodes_some false e
 
 pub set_sized : (e : Expr) → set_size e ≤ 6 + expr_size e
 set_sized (Local x) = omega arith
@@ -100,44 +77,45 @@ at_offset_sized offset e = by (offset == 0)
     by true = omega arith
     by false = omega arith
 
-element_sized : (through : Through) (p k : source.Expr) (size : ℕ) (a i : Expr) → expr_size (element_of through size a i) + 27 ≤ 27 * access_nodes through p k + expr_size a + expr_size i
+element_sized : (through : Through) (p k : source.Expr) (size : ℕ) (a i : Expr) → 2 * expr_size (element_of through size a i) + 46 ≤ 60 * access_nodes through p k + 2 * expr_size a + 2 * expr_size i
 element_sized Named p k size a i = omega arith
 element_sized Raw p k size a i = omega (arith, shifted_sized false size a i)
 element_sized One p k size a i = omega arith
 element_sized Array p k size a i = omega (arith, elements_some (not (is_ranged p)) k)
 element_sized Terminated p k size a i = omega (arith, elements_some (not (is_ranged p)) k)
 
-const_element_sized : (through : Through) (p k : source.Expr) (size : ℕ) (a : Expr) (n : ℕ) → expr_size (element_of through size a (Const n)) + 27 ≤ 27 * access_nodes through p k + expr_size a
+const_element_sized : (through : Through) (p k : source.Expr) (size : ℕ) (a : Expr) (n : ℕ) → 2 * expr_size (element_of through size a (Const n)) + 46 ≤ 60 * access_nodes through p k + 2 * expr_size a
 const_element_sized Named p k size a n = omega arith
 const_element_sized Raw p k size a n = by (n == 0)
   where
-    by : (zero : Bool) → expr_size (if zero then a else Bin binary.Add a (scaled size (Const n))) + 27 ≤ 54 + expr_size a
+    by : (zero : Bool) → 2 * expr_size (if zero then a else Bin binary.Add a (scaled size (Const n))) + 46 ≤ 120 + 2 * expr_size a
     by true = omega arith
     by false = omega arith
 const_element_sized One p k size a n = omega arith
 const_element_sized Array p k size a n = omega (arith, elements_some (not (is_ranged p)) k)
 const_element_sized Terminated p k size a n = omega (arith, elements_some (not (is_ranged p)) k)
 
-place_sized : (access : Access) (p k : source.Expr) (a i : Expr) → expr_size (place_at access a i) + 11 ≤ 27 * access_nodes access.through p k + expr_size a + expr_size i
+place_sized : (access : Access) (p k : source.Expr) (a i : Expr) → 2 * expr_size (place_at access a i) + 14 ≤ 60 * access_nodes access.through p k + 2 * expr_size a + 2 * expr_size i
 place_sized access p k a i =
     omega (arith, at_offset_sized access.offset (element_of access.through access.size a i), element_sized access.through p k access.size a i)
 
 -- the same at a number
-const_place_sized : (access : Access) (p k : source.Expr) (a : Expr) (n : ℕ) → expr_size (place_at access a (Const n)) + 11 ≤ 27 * access_nodes access.through p k + expr_size a
+const_place_sized : (access : Access) (p k : source.Expr) (a : Expr) (n : ℕ) → 2 * expr_size (place_at access a (Const n)) + 14 ≤ 60 * access_nodes access.through p k + 2 * expr_size a
 const_place_sized access p k a n =
     omega (arith, at_offset_sized access.offset (element_of access.through access.size a (Const n)), const_element_sized access.through p k access.size a n)
 
-direct_place_sized : (access : Access) (p : source.Expr) (a : Expr) (i : source.Expr) → expr_size (direct i) ≤ 27 * expr_nodes i
-    → expr_size (place_at access a (direct i)) + 11 ≤ 27 * access_nodes access.through p i + expr_size a + 27 * index_nodes i (expr_nodes i)
+direct_place_sized : (access : Access) (p : source.Expr) (a : Expr) (i : source.Expr) → 2 * expr_size (direct i) ≤ expr_weight i
+    → 2 * expr_size (place_at access a (direct i)) + 14 ≤ 60 * access_nodes access.through p i + 2 * expr_size a + index_nodes i (expr_weight i)
 direct_place_sized access p a (source.Number n) h = omega (arith, const_place_sized access p (source.Number n) a n)
 direct_place_sized access p a i h = omega (arith, place_sized access p i a (direct i), h)
 
-cast_direct : (one : Bool) (p k : source.Expr) → expr_size (direct p) ≤ 27 * value_nodes false p → expr_size (direct p) ≤ 27 * value_nodes true p
-    → expr_size (direct p) ≤ 27 * (if one then 1 + value_nodes false p + value_nodes false k else 5 + value_nodes true p + index_nodes k (value_nodes false k))
+cast_direct : (one : Bool) (p k : source.Expr) → 2 * expr_size (direct p) ≤ value_weight false p → 2 * expr_size (direct p) ≤ value_weight true p
+    → 2 * expr_size (direct p) ≤ (if one then 60 + value_weight false p + value_weight false k else 244 + value_weight true p + index_nodes k (value_weight false k))
 cast_direct true p k plain ranged = omega (arith, plain)
 cast_direct false p k plain ranged = omega (arith, ranged)
 
-direct_sized : (r : Bool) (e : source.Expr) → expr_size (direct e) ≤ 27 * value_nodes r e
+-- twice an expression that is direct
+direct_sized : (r : Bool) (e : source.Expr) → 2 * expr_size (direct e) ≤ value_weight r e
 direct_sized r (source.Binary o s at a b) = omega (arith, operated_sized o s (direct a) (direct b), direct_sized false a, direct_sized false b)
 direct_sized r (source.Load w access p i) =
     omega (arith, direct_place_sized access p (direct p) i (direct_sized false i), direct_sized (takes_range access.through p) p)
@@ -156,18 +134,18 @@ direct_sized r (source.Trusted to how p k) = omega (arith, direct_sized false p)
 direct_sized r e = omega arith
 
 -- the code in front of an operand and twice the operand
-by_two : (is_one : Bool) (x y : Code) (d : Expr) (t n : ℕ) → code_size x ≤ 60 * n + code_size y → expr_size d ≤ 27 * n
-    → code_size (if is_one then y else x) + 2 * expr_size (if is_one then d else Local t) ≤ 60 * n + code_size y
+by_two : (is_one : Bool) (x y : Code) (d : Expr) (t n : ℕ) → code_size x ≤ n + code_size y → 2 * expr_size d ≤ n
+    → code_size (if is_one then y else x) + 2 * expr_size (if is_one then d else Local t) ≤ n + code_size y
 by_two true x y d t n h k = omega arith
 by_two false x y d t n h k = omega arith
 
-operand_step : (e : source.Expr) (t : ℕ) (rest : Code) → code_size (expr_code e t rest) ≤ 60 * expr_nodes e + code_size rest
-    → code_size (operand_code e t rest) + 2 * expr_size (operand e t) ≤ 60 * expr_nodes e + code_size rest
-operand_step e t rest h = by_two (is_direct e) (expr_code e t rest) rest (direct e) t (expr_nodes e) h (direct_sized false e)
+operand_step : (e : source.Expr) (t : ℕ) (rest : Code) → code_size (expr_code e t rest) ≤ expr_weight e + code_size rest
+    → code_size (operand_code e t rest) + 2 * expr_size (operand e t) ≤ expr_weight e + code_size rest
+operand_step e t rest h = by_two (is_direct e) (expr_code e t rest) rest (direct e) t (expr_weight e) h (direct_sized false e)
 
 -- the code in front of an index
-index_step : (i : source.Expr) (t : ℕ) (rest : Code) → code_size (operand_code i t rest) + 2 * expr_size (operand i t) ≤ 60 * expr_nodes i + code_size rest
-    → code_size (operand_code i t rest) + 2 * index_nodes i (expr_size (operand i t)) ≤ 60 * index_nodes i (expr_nodes i) + code_size rest
+index_step : (i : source.Expr) (t : ℕ) (rest : Code) → code_size (operand_code i t rest) + 2 * expr_size (operand i t) ≤ expr_weight i + code_size rest
+    → code_size (operand_code i t rest) + 2 * index_nodes i (expr_size (operand i t)) ≤ index_nodes i (expr_weight i) + code_size rest
 index_step (source.Number n) t rest h = omega arith
 index_step i t rest h = h
 
@@ -230,24 +208,20 @@ exact_sized true signs size a i = omega (arith, shifted_sized true size a i)
 exact_sized false signs size a i = omega (arith, shifted_sized false size a i)
 
 -- an operand, where it goes to a temporary in any case or not
-put_sized : (r always : Bool) (e : source.Expr) (t : ℕ) (rest : Code) → code_size (value_code r e t rest) ≤ 60 * value_nodes r e + code_size rest
-    → code_size (put_if always e (value_code r e t) rest) + 2 * expr_size (held always e t) ≤ 60 * value_nodes r e + code_size rest
+put_sized : (r always : Bool) (e : source.Expr) (t : ℕ) (rest : Code) → code_size (value_code r e t rest) ≤ value_weight r e + code_size rest
+    → code_size (put_if always e (value_code r e t) rest) + 2 * expr_size (held always e t) ≤ value_weight r e + code_size rest
 put_sized r true e t rest h = omega (arith, h)
-put_sized r false e t rest h = by_two (is_direct e) (value_code r e t rest) rest (direct e) t (value_nodes r e) h (direct_sized r e)
+put_sized r false e t rest h = by_two (is_direct e) (value_code r e t rest) rest (direct e) t (value_weight r e) h (direct_sized r e)
 
 -- the index of a checked access or move
-index_sized : (i : source.Expr) (t : ℕ) (rest : Code) → code_size (expr_code i t rest) ≤ 60 * expr_nodes i + code_size rest
-    → code_size (put_if (keeps_index true i) i (expr_code i t) rest) ≤ 60 * index_nodes i (expr_nodes i) + code_size rest
+index_sized : (i : source.Expr) (t : ℕ) (rest : Code) → code_size (expr_code i t rest) ≤ expr_weight i + code_size rest
+    → code_size (put_if (keeps_index true i) i (expr_code i t) rest) ≤ index_nodes i (expr_weight i) + code_size rest
 index_sized (source.Number n) t rest h = omega arith
 index_sized i t rest h = h
 
 index_small : (i : source.Expr) (t : ℕ) → expr_size (held (keeps_index true i) i t) ≤ 5
 index_small (source.Number n) t = omega arith
 index_small i t = omega arith
-
-counted_index : (i : source.Expr) → index_nodes i (expr_nodes i) ≤ expr_nodes i
-counted_index (source.Number n) = omega arith
-counted_index i = omega arith
 
 set_shifted : (size t : ℕ) (i : Expr) → is_zero i ≡ false → set_size (shifted false size (Local t) i) ≤ 27 + expr_size i
 set_shifted size t i e = by (is_zero i) e
@@ -281,10 +255,10 @@ step_sized true access i u t rest = omega (arith, step_by false access (Local u)
 step_sized false access i u t rest = omega (arith, step_by false access (Local u) t rest refl (omega arith))
 
 bounded_sized : (last : Bool) (access : Access) (p i : source.Expr) (t u : ℕ) (inner : Code)
-    → ((rest : Code) → code_size (value_code (not (is_ranged p)) p t rest) ≤ 60 * value_nodes (not (is_ranged p)) p + code_size rest)
-    → ((rest : Code) → code_size (value_code false i u rest) ≤ 60 * value_nodes false i + code_size rest)
+    → ((rest : Code) → code_size (value_code (not (is_ranged p)) p t rest) ≤ value_weight (not (is_ranged p)) p + code_size rest)
+    → ((rest : Code) → code_size (value_code false i u rest) ≤ value_weight false i + code_size rest)
     → code_size (value_code (not (is_ranged p)) p t (put_if (keeps_index true i) i (value_code false i u) (bounded_code last access p (held (keeps_index true i) i u) t inner)))
-    + 34 ≤ 60 * (element_nodes (not (is_ranged p)) i + value_nodes (not (is_ranged p)) p + index_nodes i (expr_nodes i)) + code_size inner
+    + 34 ≤ 60 * element_nodes (not (is_ranged p)) i + value_weight (not (is_ranged p)) p + index_nodes i (expr_weight i) + code_size inner
 bounded_sized last access p i t u inner on_p on_i =
     let k = held (keeps_index true i) i u in
     let within = Check check.Bounds access.at (bounds_test last p t) inner in
@@ -308,12 +282,12 @@ raw_sized size a i t = shifted_sized false size a (operand i t)
 
 -- what finds an access, and its place
 reached_sized : (through : Through) (access : Access) (p i : source.Expr) (t u : ℕ) (inner : Code)
-    → ((rest : Code) → code_size (value_code (takes_range through p) p t rest) ≤ 60 * value_nodes (takes_range through p) p + code_size rest)
-    → ((rest : Code) → code_size (value_code false i u rest) ≤ 60 * value_nodes false i + code_size rest)
+    → ((rest : Code) → code_size (value_code (takes_range through p) p t rest) ≤ value_weight (takes_range through p) p + code_size rest)
+    → ((rest : Code) → code_size (value_code false i u rest) ≤ value_weight false i + code_size rest)
     → code_size (put_if (is_bounded through) p (value_code (takes_range through p) p t) (put_if (keeps_index (is_bounded through) i) i (value_code false i u)
     (judged through access p (held (is_bounded through) p t) (held (keeps_index (is_bounded through) i) i u) t inner)))
     + expr_size (element_of through access.size (held (is_bounded through) p t) (held (keeps_index (is_bounded through) i) i u)) + 34
-    ≤ 60 * (access_nodes through p i + value_nodes (takes_range through p) p + index_nodes i (expr_nodes i)) + code_size inner
+    ≤ 60 * access_nodes through p i + value_weight (takes_range through p) p + index_nodes i (expr_weight i) + code_size inner
 reached_sized Named access p i t u inner on_p on_i =
     let second = operand_code i u inner in
     omega (
@@ -371,13 +345,19 @@ pointer_sized true size count offset element t rest =
     omega (arith, set_sized element, length_sized size count (t + 1), at_offset_sized offset (Local (t + 1)))
 pointer_sized false size count offset element t rest = omega (arith, at_offset_sized offset element)
 
-natural_sized : (how : Integer) (k : Expr) → expr_size (is_natural how k) ≤ 16 + expr_size k
-natural_sized integer.Int k = omega arith
-natural_sized integer.Unsigned k = omega arith
-natural_sized integer.Char k = omega arith
+-- how many instructions a count has that is a number or in a temporary, with its scaled one
+count_sized : (size : ℕ) (how : Integer) (k : source.Expr) (u : ℕ)
+    → expr_size (is_natural how (held (keeps_index true k) k u)) + expr_size (held (keeps_index true k) k u) + set_size (scaled size (held (keeps_index true k) k u)) ≤ 34
+count_sized size integer.Int (source.Number n) u = omega arith
+count_sized size integer.Unsigned (source.Number n) u = omega arith
+count_sized size integer.Char (source.Number n) u = omega arith
+count_sized size integer.Int k u = omega (arith, set_scaled size (Local u))
+count_sized size integer.Unsigned k u = omega (arith, set_scaled size (Local u))
+count_sized size integer.Char k u = omega (arith, set_scaled size (Local u))
 
-tested_sized : (size : ℕ) (how : Integer) (at : Pos) (k : Expr) (t : ℕ) (rest : Code) → expr_size k ≤ 5 → code_size (tested_code size how at k t rest) ≤ 300 + code_size rest
-tested_sized size how at k t rest h = omega (arith, natural_sized how k, scaled_sized size k, set_sized (scaled size k))
+tested_sized : (size : ℕ) (how : Integer) (at : Pos) (k : source.Expr) (u t : ℕ) (rest : Code)
+    → code_size (tested_code size how at (held (keeps_index true k) k u) t rest) ≤ 244 + code_size rest
+tested_sized size how at k u t rest = omega (arith, count_sized size how k u)
 
 trusted_sized : (r : Bool) (size : ℕ) (k : Expr) (t : ℕ) (rest : Code) → code_size (trusted_range r size k t rest) ≤ 60 * range_nodes r + expr_size k + code_size rest
 trusted_sized true size k t rest = omega (arith, scaled_sized size k, set_sized (scaled size k))
@@ -413,7 +393,7 @@ moved_range_sized true t rest = omega arith
 moved_range_sized false t rest = omega arith
 
 limits_sized : (r : Bool) (x : ℕ) (limits : Limits) (t : ℕ) (rest : Code)
-    → code_size (with_range r t (end_at x limits.to.size limits.lower) (Bin binary.Sub (end_at x limits.to.size limits.upper) (Local (t + 1))) rest) ≤ 54 + 60 * range_nodes r + code_size rest
+    → code_size (with_range r t (end_at x limits.to.size limits.lower) (Bin binary.Sub (end_at x limits.to.size limits.upper) (Local (t + 1))) rest) ≤ 4 + 110 * range_nodes r + code_size rest
 limits_sized true x limits t rest =
     omega (arith, end_sized x limits.to.size limits.lower, end_sized x limits.to.size limits.upper, set_sized (end_at x limits.to.size limits.lower))
 limits_sized false x limits t rest = omega arith
@@ -423,20 +403,20 @@ bytes_sized true t bytes low rest h = omega arith
 bytes_sized false t bytes low rest h = omega arith
 
 cast_sized : (one : Bool) (size : ℕ) (how : Integer) (at : Pos) (p k : source.Expr) (t : ℕ) (rest : Code)
-    → ((rest : Code) → code_size (value_code false p t rest) ≤ 60 * value_nodes false p + code_size rest)
-    → ((rest : Code) → code_size (value_code true p t rest) ≤ 60 * value_nodes true p + code_size rest)
-    → ((rest : Code) → code_size (value_code false k (t + 3) rest) ≤ 60 * value_nodes false k + code_size rest)
+    → ((rest : Code) → code_size (value_code false p t rest) ≤ value_weight false p + code_size rest)
+    → ((rest : Code) → code_size (value_code true p t rest) ≤ value_weight true p + code_size rest)
+    → ((rest : Code) → code_size (value_code false k (t + 3) rest) ≤ value_weight false k + code_size rest)
     → code_size (if one then value_code false p t rest
     else value_code true p t (put_if (keeps_index true k) k (value_code false k (t + 3)) (tested_code size how at (held (keeps_index true k) k (t + 3)) t rest)))
-    ≤ 60 * (if one then 1 + value_nodes false p + value_nodes false k else 5 + value_nodes true p + index_nodes k (value_nodes false k)) + code_size rest
+    ≤ (if one then 60 + value_weight false p + value_weight false k else 244 + value_weight true p + index_nodes k (value_weight false k)) + code_size rest
 cast_sized true size how at p k t rest plain on_p on_k = omega (arith, plain rest)
 cast_sized false size how at p k t rest plain on_p on_k =
     let u = t + 3 in
     let last = tested_code size how at (held (keeps_index true k) k u) t rest in
     let second = put_if (keeps_index true k) k (value_code false k u) last in
-    omega (arith, tested_sized size how at (held (keeps_index true k) k u) t rest (index_small k u), index_sized k u last (on_k last), on_p second)
+    omega (arith, tested_sized size how at k u t rest, index_sized k u last (on_k last), on_p second)
 
-value_sized : (r : Bool) (e : source.Expr) (t : ℕ) (rest : Code) → code_size (value_code r e t rest) ≤ 60 * value_nodes r e + code_size rest
+value_sized : (r : Bool) (e : source.Expr) (t : ℕ) (rest : Code) → code_size (value_code r e t rest) ≤ value_weight r e + code_size rest
 value_sized r (source.Binary o s at a b) t rest =
     let last = no_range r t rest in
     let after = operation_code o s at (operand a t) (operand b (t + 1)) t last in
@@ -541,13 +521,13 @@ value_sized r (source.Local x) t rest = omega (arith, no_range_sized r t rest)
 value_sized r (source.Limited x limits) t rest = omega (arith, limits_sized r x limits t rest)
 value_sized r (source.Array at bytes) t rest = omega (arith, bytes_sized r t bytes (Const at) rest (omega arith))
 
-pub expr_sized : (e : source.Expr) (t : ℕ) (rest : Code) → code_size (expr_code e t rest) ≤ 60 * expr_nodes e + code_size rest
+pub expr_sized : (e : source.Expr) (t : ℕ) (rest : Code) → code_size (expr_code e t rest) ≤ expr_weight e + code_size rest
 expr_sized e t rest = value_sized false e t rest
 
 -- what finds the place of an access, and the place
 pub access_sized : (access : Access) (p i : source.Expr) (t : ℕ) (inner : Code)
     → code_size (access_code access p i t inner) + expr_size (reached_place access p i t) + 7
-    ≤ 60 * (access_nodes access.through p i + value_nodes (takes_range access.through p) p + index_nodes i (expr_nodes i)) + code_size inner
+    ≤ access_weight access p i + code_size inner
 access_sized access p i t inner =
     let u = index_in access p t in
     omega (
@@ -556,39 +536,12 @@ access_sized access p i t inner =
       reached_sized access.through access p i t u inner (λ rest. value_sized (takes_range access.through p) p t rest) (λ rest. value_sized false i u rest),
     )
 
-pub operand_sized : (e : source.Expr) (t : ℕ) (rest : Code) → code_size (operand_code e t rest) + 2 * expr_size (operand e t) ≤ 60 * expr_nodes e + code_size rest
+pub operand_sized : (e : source.Expr) (t : ℕ) (rest : Code) → code_size (operand_code e t rest) + 2 * expr_size (operand e t) ≤ expr_weight e + code_size rest
 operand_sized e t rest = operand_step e t rest (expr_sized e t rest)
 
-cast_some : (one : Bool) (p k : source.Expr) → 2 ≤ (if one then 1 + value_nodes false p + value_nodes false k else 5 + value_nodes true p + index_nodes k (value_nodes false k))
-cast_some true p k = omega (arith, expr_nodes_some p)
-cast_some false p k = omega arith
-
--- an argument, with the eight instructions that pass it
-argument_sized : (e : source.Expr) (t : ℕ) (rest : Code) → code_size (operand_code e t rest) + expr_size (operand e t) + 8 ≤ 64 * expr_nodes e + code_size rest
-argument_sized (source.Load w access p i) t rest = omega (arith, operand_sized (source.Load w access p i) t rest, access_some access.through p i, value_nodes_some (takes_range access.through p) p)
-argument_sized (source.Member to count access p i) t rest =
-    omega (arith, operand_sized (source.Member to count access p i) t rest, access_some access.through p i, value_nodes_some (takes_range access.through p) p)
-argument_sized (source.Address bytes access p i) t rest =
-    omega (arith, operand_sized (source.Address bytes access p i) t rest, access_some access.through p i, value_nodes_some (takes_range access.through p) p)
-argument_sized (source.Moved shift p i) t rest = omega (arith, shift_some shift.checked, operand_sized (source.Moved shift p i) t rest, expr_nodes_some p, expr_nodes_some i)
-argument_sized (source.Added shift i p) t rest = omega (arith, shift_some shift.checked, operand_sized (source.Added shift i p) t rest, expr_nodes_some p, expr_nodes_some i)
-argument_sized (source.Binary o s at a b) t rest = omega (arith, operand_sized (source.Binary o s at a b) t rest, expr_nodes_some a, expr_nodes_some b)
-argument_sized (source.And a b) t rest = omega (arith, operand_sized (source.And a b) t rest, expr_nodes_some a, expr_nodes_some b)
-argument_sized (source.Or a b) t rest = omega (arith, operand_sized (source.Or a b) t rest, expr_nodes_some a, expr_nodes_some b)
-argument_sized (source.Choice c a b) t rest = omega (arith, operand_sized (source.Choice c a b) t rest, expr_nodes_some c, expr_nodes_some a, expr_nodes_some b)
-argument_sized (source.Narrow e) t rest = omega (arith, operand_sized (source.Narrow e) t rest, expr_nodes_some e)
-argument_sized (source.Bare p) t rest = omega (arith, operand_sized (source.Bare p) t rest, expr_nodes_some p)
-argument_sized (source.Tested size how at p k) t rest =
-    omega (arith, operand_sized (source.Tested size how at p k) t rest, cast_some (casts_one size p k) p k)
-argument_sized (source.Trusted to form p k) t rest = omega (arith, operand_sized (source.Trusted to form p k) t rest, expr_nodes_some p, expr_nodes_some k)
-argument_sized (source.Number n) t rest = omega arith
-argument_sized (source.Local x) t rest = omega arith
-argument_sized (source.Limited x limits) t rest = omega arith
-argument_sized (source.Array at bytes) t rest = omega arith
-
-pub operands_sized : (es : List source.Expr) (t : ℕ) (rest : Code)
-    → code_size (operands_code es t rest) + exprs_size (operands es t) + 8 * length (operands es t) ≤ 64 * exprs_nodes es + code_size rest
-operands_sized [] t rest = omega arith
-operands_sized (e ∷ es) t rest =
+pub arguments_sized : (es : List source.Expr) (t : ℕ) (rest : Code)
+    → code_size (operands_code es t rest) + exprs_size (operands es t) + 8 * length (operands es t) ≤ arguments_weight es + code_size rest
+arguments_sized [] t rest = omega arith
+arguments_sized (e ∷ es) t rest =
     let after = operands_code es (t + 1) rest in
-    omega (arith, argument_sized e t after, operands_sized es (t + 1) rest, sum_by-cons expr_size (operand e t) (operands es (t + 1)))
+    omega (arith, operand_sized e t after, arguments_sized es (t + 1) rest, sum_by-cons expr_size (operand e t) (operands es (t + 1)))

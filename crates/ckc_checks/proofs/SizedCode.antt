@@ -1,4 +1,4 @@
--- The size of the core code of statements is bounded by their nodes, and so that of a program.
+-- The size of the core code of statements is at most what they weigh, and so that of a program.
 use Rattle.std.proofs.Common.{ℕ, zero, suc, ◌+◌, ◌-◌, ◌*◌, ◌≤◌, List, [], ◌∷◌, arith}
 use Rattle.std.specs.Prelude.{Bool, true, false, if◌then◌else◌, Option, Some, None, map, sum_by}
 use Rattle.std.proofs.lemmas.List.Sums.{sum_by-cons}
@@ -14,11 +14,12 @@ use Rattle.ckc_source.specs.declared.stmt.Kept.TheVariants as kept
 use Rattle.ckc_source.specs.Code as source
 use Rattle.ckc_core.specs.Code.{Expr, Local, Bin, Code, End, Set, Store, Check}
 use Rattle.ckc_core.specs.Sizes.{expr_size, code_size, function_size, program_size}
-use Rattle.ckc_operands.specs.Compilable.{expr_nodes, guard_nodes, target_nodes, right_nodes, assigns_nodes, code_nodes, function_nodes, program_nodes}
+use Rattle.ckc_operands.specs.Compilable.{guard_nodes}
+use Rattle.ckc_operands.specs.Weights.{expr_weight, target_weight, right_weight, assigns_weight, code_weight, function_weight, program_weight}
 use Rattle.ckc_operands.specs.Operands.{low_byte, operand}
 use Rattle.ckc_operands.specs.Pointers.{below_end, range_end, is_ranged}
 use Rattle.ckc_checks.specs.Inserted.{reached_place, operand_code, operands, is_narrow, kept_in, marked, aim_code, target_count, guarded, stored_code, written, fixed, allowed_code, written_there, right_assigned, valued, behind_planned, plans_code, writes_code, result_in, result_kept, statements, zeroed, function_code, inserted}
-use Rattle.ckc_checks.proofs.Sized.{set_sized, range_end_sized, expr_sized, access_sized, operand_sized, operands_sized}
+use Rattle.ckc_checks.proofs.Sized.{set_sized, range_end_sized, expr_sized, access_sized, operand_sized, arguments_sized}
 
 -- ---- where zero alone may be written
 
@@ -81,7 +82,7 @@ allowed_sized (source.Memory w access p i) t rest = guarded_sized access.through
 -- A value is written behind what finds the place of the target.
 aimed_sized : (target : source.Target) (t n : ℕ) (is_byte : Bool) (value : Expr) (rest inner : Code)
     → code_size inner + expr_size value ≤ n + code_size (written target t is_byte value rest)
-    → code_size (aim_code target t inner) ≤ 22 + 60 * target_nodes target + n + code_size rest
+    → code_size (aim_code target t inner) ≤ 22 + target_weight target + n + code_size rest
 aimed_sized source.Nothing t n is_byte value rest inner h = omega arith
 aimed_sized (source.Variable x width.Word) t n is_byte value rest inner h = omega (arith, set_sized value)
 aimed_sized (source.Variable x width.Byte) t n true value rest inner h = omega (arith, set_sized value)
@@ -99,14 +100,14 @@ aimed_sized (source.Memory w access p i) t n is_byte value rest inner h =
 
 assigned_sized : (target : source.Target) (e : source.Expr) (t : ℕ) (rest : Code)
     → code_size (aim_code target t (operand_code e (t + target_count target) (written target t (is_narrow e) (operand e (t + target_count target)) rest)))
-    ≤ 22 + 60 * target_nodes target + 60 * expr_nodes e + code_size rest
+    ≤ 22 + target_weight target + expr_weight e + code_size rest
 assigned_sized target e t rest =
     let u = t + target_count target in
     let after = written target t (is_narrow e) (operand e u) rest in
-    aimed_sized target t (60 * expr_nodes e) (is_narrow e) (operand e u) rest (operand_code e u after) (omega (arith, operand_sized e u after))
+    aimed_sized target t (expr_weight e) (is_narrow e) (operand e u) rest (operand_code e u after) (omega (arith, operand_sized e u after))
 
 there_sized : (target : source.Target) (t n u : ℕ) (rest inner : Code) → code_size inner ≤ n + code_size (allowed_code target t (written_there target t (Local u) rest))
-    → code_size (aim_code target t (fixed target t inner)) ≤ 22 + 60 * target_nodes target + n + code_size rest
+    → code_size (aim_code target t (fixed target t inner)) ≤ 22 + target_weight target + n + code_size rest
 there_sized source.Nothing t n u rest inner h = omega arith
 there_sized (source.Variable x width.Word) t n u rest inner h = omega arith
 there_sized (source.Variable x width.Byte) t n u rest inner h = omega arith
@@ -125,18 +126,18 @@ there_sized (source.Memory w access p i) t n u rest inner h =
     )
 
 right_sized : (target : source.Target) (right : source.Right) (t : ℕ) (rest : Code)
-    → code_size (right_assigned target right t rest) ≤ 54 + 60 * target_nodes target + 60 * right_nodes right + code_size rest
+    → code_size (right_assigned target right t rest) ≤ 54 + target_weight target + right_weight right + code_size rest
 right_sized source.Nothing (source.Value e) t rest = omega (arith, expr_sized e t rest)
 right_sized (source.Variable x w) (source.Value e) t rest = omega (arith, assigned_sized (source.Variable x w) e t rest)
 right_sized (source.Memory w access p i) (source.Value e) t rest = omega (arith, assigned_sized (source.Memory w access p i) e t rest)
 right_sized target (source.Fresh to e) t rest =
     let u = t + target_count target in
     let alloc = Code.Alloc u (operand e u) to.size (allowed_code target t (written_there target t (Local u) rest)) in
-    omega (arith, there_sized target t (60 * expr_nodes e + 32) u rest (operand_code e u alloc) (omega (arith, operand_sized e u alloc)))
+    omega (arith, there_sized target t (expr_weight e + 32) u rest (operand_code e u alloc) (omega (arith, operand_sized e u alloc)))
 
 -- the place and the value of an assignment in a bundle, and the write
 aim_fixed_sized : (target : source.Target) (t u : ℕ) (inner rest : Code)
-    → code_size (aim_code target t (fixed target t inner)) + allow_size target + code_size (written_there target t (Local u) rest) ≤ 22 + 60 * target_nodes target + code_size inner + code_size rest
+    → code_size (aim_code target t (fixed target t inner)) + allow_size target + code_size (written_there target t (Local u) rest) ≤ 22 + target_weight target + code_size inner + code_size rest
 aim_fixed_sized source.Nothing t u inner rest = omega arith
 aim_fixed_sized (source.Variable x width.Word) t u inner rest = omega arith
 aim_fixed_sized (source.Variable x width.Byte) t u inner rest = omega arith
@@ -152,12 +153,12 @@ aim_fixed_sized (source.Memory w access p i) t u inner rest =
       guard_sized access.through,
     )
 
-valued_sized : (right : source.Right) (u : ℕ) (rest : Code) → code_size (valued right u rest) ≤ 42 + 60 * right_nodes right + code_size rest
+valued_sized : (right : source.Right) (u : ℕ) (rest : Code) → code_size (valued right u rest) ≤ 42 + right_weight right + code_size rest
 valued_sized (source.Value e) u rest = omega (arith, expr_sized e u rest)
 valued_sized (source.Fresh to e) u rest = omega (arith, operand_sized e u (Code.Alloc u (operand e u) to.size rest))
 
 bundle_sized : (assigns : List (source.Target × source.Right)) (t : ℕ) (inner rest : Code)
-    → code_size (plans_code assigns t inner) + code_size (writes_code assigns t rest) ≤ 64 * assigns_nodes assigns + code_size inner + code_size rest
+    → code_size (plans_code assigns t inner) + code_size (writes_code assigns t rest) ≤ assigns_weight assigns + code_size inner + code_size rest
 bundle_sized [] t inner rest = omega arith
 bundle_sized (a ∷ assigns) t inner rest =
     let next = behind_planned a.0 t in
@@ -178,7 +179,7 @@ result_sized (Some (kept.Local x width.Byte)) t rest = omega arith
 result_sized (Some (kept.Local x width.Word)) t rest = omega arith
 result_sized (Some (kept.Static a w)) t rest = omega arith
 
-statements_sized : (t : ℕ) (code : source.Code) → code_size (statements t code) ≤ 64 * code_nodes code + 2
+statements_sized : (t : ℕ) (code : source.Code) → code_size (statements t code) ≤ code_weight code + 2
 statements_sized t source.End = omega arith
 statements_sized t (source.Assign spot target right rest) =
     omega (arith, right_sized target right t (statements t rest), statements_sized t rest)
@@ -195,13 +196,13 @@ statements_sized t (source.Put spot target e rest) =
     let put = Code.Put (operand e u) after in
     omega (
       arith,
-      aimed_sized target t (60 * expr_nodes e + 23) true (low_byte (operand e u)) (statements t rest) (operand_code e u put) (omega (arith, operand_sized e u put)),
+      aimed_sized target t (expr_weight e + 23) true (low_byte (operand e u)) (statements t rest) (operand_code e u put) (omega (arith, operand_sized e u put)),
       statements_sized t rest,
     )
 statements_sized t (source.Call spot target callee es rest) =
     let after = result_kept target t (statements t rest) in
     let call = Code.Call (result_in target t) callee (operands es t) spot.at after in
-    omega (arith, operands_sized es t call, result_sized target t (statements t rest), statements_sized t rest)
+    omega (arith, arguments_sized es t call, result_sized target t (statements t rest), statements_sized t rest)
 statements_sized t (source.If spot e one two rest) =
     let after = Code.If (operand e t) (statements t one) (statements t two) (statements t rest) in
     omega (arith, operand_sized e t after, statements_sized t one, statements_sized t two, statements_sized t rest)
@@ -219,15 +220,15 @@ zeroed_sized : (x count : ℕ) (rest : Code) → code_size (zeroed x count rest)
 zeroed_sized x zero rest = omega arith
 zeroed_sized x (suc count) rest = omega (arith, zeroed_sized (x + 1) count rest)
 
-function_sized : (f : source.Function) → function_size (function_code f) ≤ 64 * function_nodes f
+function_sized : (f : source.Function) → function_size (function_code f) ≤ function_weight f
 function_sized f =
     omega (arith, zeroed_sized f.params (f.locals - f.params) (statements f.locals f.body), statements_sized f.locals f.body)
 
-functions_sized : (fs : List source.Function) → sum_by function_size (map function_code fs) ≤ 64 * sum_by function_nodes fs
+functions_sized : (fs : List source.Function) → sum_by function_size (map function_code fs) ≤ sum_by function_weight fs
 functions_sized [] = omega arith
 functions_sized (f ∷ fs) =
-    omega (arith, function_sized f, functions_sized fs, sum_by-cons function_size (function_code f) (map function_code fs), sum_by-cons function_nodes f fs)
+    omega (arith, function_sized f, functions_sized fs, sum_by-cons function_size (function_code f) (map function_code fs), sum_by-cons function_weight f fs)
 
--- the core code has at most 64 instructions for each node
-pub inserted_sized : (p : source.Program) → program_size (inserted p) ≤ 64 * program_nodes p
-inserted_sized p = functions_sized p.functions
+-- the core code has at most as many instructions as the program weighs
+pub inserted_weighed : (p : source.Program) → program_size (inserted p) ≤ program_weight p
+inserted_weighed p = functions_sized p.functions

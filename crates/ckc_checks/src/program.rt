@@ -7,6 +7,7 @@ ghost use Rattle.ckc_core.specs.Limits.{IsWithinLimits};
 ghost use Rattle.ckc_core.specs.Sizes.{program_size};
 ghost use Rattle.ckc_core.specs.WellFormed.{IsWellFormed};
 ghost use Rattle.ckc_operands.specs.Compilable.{IsCompilable, program_nodes};
+ghost use Rattle.ckc_operands.specs.Weights.{program_weight};
 ghost use Rattle.ckc_source.specs.LaidOut.{IsLaidOut};
 ghost use Rattle.ckc_source.specs.Blocks.{block_of, end_of, place_behind, first_place};
 ghost use Rattle.ckc_source.specs.Code.{function_of as source_function, program_of as source_program};
@@ -175,6 +176,10 @@ pub fn insert(alloc: Global, p: &Program) -> Result<Core, AllocError>
     // at most 64 instructions for each node
     ensures size { IfOk result (λ c. program_size (core_program c) ≤
         64 * program_nodes (source_program p.now)) }
+
+    // at most as many as the program weighs
+    ensures weight { IfOk result (λ c. program_size (core_program c) ≤
+        program_weight (source_program p.now)) }
     ensures initial { IfOk result (λ c. length c.initial ≤ 4194304) }
 {
     let c = program(alloc, p)?;

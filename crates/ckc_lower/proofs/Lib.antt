@@ -12,3 +12,4 @@ pub mod Follows
 pub mod Sized
 pub mod Registers
 pub mod Formed
+pub mod Idle

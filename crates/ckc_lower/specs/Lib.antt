@@ -1,2 +1,4 @@
 pub mod Built
 pub mod Lowered
+pub mod Idle
+pub mod Loops

@@ -2,12 +2,14 @@ ghost use Rattle.std.specs.Prelude.{◌≡◌, ◌≤◌, List, ℕ, IfOk, map, 
 ghost use Rattle.ckc_base.specs.Follows.{Follows};
 ghost use Rattle.ckc_core.specs.Code.{function_of, program_of};
 ghost use Rattle.ckc_core.specs.Limits.{IsSmallFunction, IsWithinLimits};
+ghost use Rattle.ckc_lower.specs.Loops.{idle_loops};
 ghost use Rattle.ckc_core.specs.Meaning.{core_detail};
 ghost use Rattle.ckc_core.specs.Sizes.{program_size as core_size};
 ghost use Rattle.ckc_core.specs.WellFormed.{IsWellFormed};
 ghost use Rattle.ckc_tac.specs.Meaning.{tac_detail};
 ghost use Rattle.ckc_tac.specs.Sizes.{program_size as tac_size};
 ghost use Rattle.ckc_tac.specs.WellFormed.{IsWellFormed as IsWellFormedTac, HasFewRegisters};
+ghost use Rattle.ckc_lower.specs.Idle.{idle_blocks};
 ghost use Rattle.ckc_lower.specs.Lowered.{lowered_function, lowered};
 
 use crate::builder::Builder;
@@ -78,6 +80,9 @@ pub fn lower(alloc: Global, c: &Core) -> Result<Tac, AllocError>
     ensures formed { IfOk result (λ t. IsWellFormedTac t) }
     ensures few_registers { IfOk result HasFewRegisters }
     ensures size { IfOk result (λ t. tac_size t ≤ core_size (program_of c.now)) }
+
+    // no jump to a block that only jumps: only a loop that does nothing has one
+    ensures jumps { IfOk result (λ t. idle_blocks t ≤ idle_loops (program_of c.now)) }
     ensures initial { IfOk result (λ t. t.initial ≡ c.now.initial) }
     ensures main { IfOk result (λ t. t.main ≡ c.now.main) }
 {

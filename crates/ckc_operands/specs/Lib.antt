@@ -1,3 +1,4 @@
 pub mod Compilable
 pub mod Operands
 pub mod Pointers
+pub mod Weights

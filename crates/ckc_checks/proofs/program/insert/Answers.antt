@@ -5,10 +5,12 @@ use Rattle.ckc_core.specs.Sizes.{program_size}
 use Rattle.ckc_core.specs.WellFormed.{IsWellFormed}
 use Rattle.ckc_source.specs.Code.{program_of}
 use Rattle.ckc_operands.specs.Compilable.{program_nodes}
+use Rattle.ckc_operands.specs.Weights.{program_weight}
 use Rattle.ckc_checks.proofs.Formed.{inserted_formed}
 use Rattle.ckc_checks.proofs.Image.{first_bytes_length}
 use Rattle.ckc_checks.proofs.Small.{inserted_small}
-use Rattle.ckc_checks.proofs.SizedCode.{inserted_sized}
+use Rattle.ckc_checks.proofs.SizedCode.{inserted_weighed}
+use Rattle.ckc_checks.proofs.Weighed.{inserted_sized}
 use Rattle.ckc_checks.proofs.program.insert.Goals as goal
 
 pub returns-clause-formed : goal.returns-clause-formed
@@ -27,3 +29,9 @@ returns-clause-size c =
     let p = program_of c.args.p.now in
     let P : core.Program → Type 0 = λ q. program_size q ≤ 64 * program_nodes p in
     subst P (sym c.in_ok-c.ensures) (inserted_sized p)
+
+pub returns-clause-weight : goal.returns-clause-weight
+returns-clause-weight c =
+    let p = program_of c.args.p.now in
+    let P : core.Program → Type 0 = λ q. program_size q ≤ program_weight p in
+    subst P (sym c.in_ok-c.ensures) (inserted_weighed p)

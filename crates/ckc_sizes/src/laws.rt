@@ -1,0 +1,12 @@
+//! What follows from the definitions alone, each the contract of a function that does nothing.
+
+ghost use Rattle.std.specs.Prelude.{◌*◌, ◌≤◌};
+ghost use Rattle.ckc_elaborate.specs.Elaborated.{elaborated};
+ghost use Rattle.ckc_operands.specs.Weights.{program_weight};
+ghost use Rattle.ckc_sizes.specs.Nodes.{text_nodes};
+ghost use Rattle.ckc_typed.specs.declared.typed.Typed.{Typed};
+
+/// The program of a text weighs at most 250 instructions for each node of the text.
+pub fn programs_are_small()
+    ensures { (p : Typed) → program_weight (elaborated p) ≤ 250 * text_nodes p }
+{}
