@@ -1,19 +1,31 @@
 -- Which codes the refusals of the bounds phase have: of items and of whole texts.
-use Rattle.std.proofs.Common.{◌≡◌, subst, ℕ, List}
+use Rattle.std.proofs.Common.{◌≡◌, subst, ℕ, List, [], ◌∷◌, map}
 use Rattle.std.specs.Prelude.{Err}
 use Rattle.ckc_base.specs.declared.places.Refusal.{Refusal}
 use Rattle.ckc_base.specs.Outcomes.{Outcome}
 use Rattle.ckc_syntax.specs.declared.tree.Item.TheVariants as item
+use Rattle.ckc_syntax.specs.declared.tree.Length.TheVariants as lengths
+use Rattle.ckc_declared.specs.declared.limits.Holder.TheVariants as holder
+use Rattle.ckc_typed.specs.Types.{type_written}
 use Rattle.ckc_typed.specs.declared.typed.Typed.{Typed}
 use Rattle.ckc_typed.specs.Trees.{NotedDecl, NotedExpr, NotedHead, NotedItem, NotedStmt}
 use Rattle.ckc_points.specs.declared.frame.HeadBounds.{HeadBounds}
 use Rattle.ckc_points.specs.declared.frame.Frame.{Frame}
-use Rattle.ckc_bounds.specs.Declarations.{decl_bounds, member_holder, types_in, head_bounds}
-use Rattle.ckc_bounds.specs.Paths.{Here, value_judged, behind_stores}
+use Rattle.ckc_statements.specs.DeclBounds.{decl_bounds, bounds_there}
+use Rattle.ckc_bounds.specs.Declarations.{each, head_judged, member_holder, types_in, head_bounds}
+use Rattle.ckc_statements.specs.Paths.{Here, value_judged, behind_stores}
 use Rattle.ckc_bounds.specs.Frames.{text_frame, function_frame, begin_of}
 use Rattle.ckc_bounds.specs.Texts.{outside, object_judged, body_judged, item_judged, text_judged}
-use Rattle.ckc_bounds.specs.Phase.{bounding, IsBoundsCode}
-use Rattle.ckc_bounds.proofs.Coded.{HasCode, bound, listed, each_coded, decl_coded, there_bounds_coded, head_coded, init_coded, stmt_coded}
+use Rattle.ckc_bounds.specs.Phase.{bounding}
+use Rattle.ckc_statements.specs.Codes.{IsBoundsCode}
+use Rattle.ckc_statements.proofs.Coded.{HasCode, bound, listed, declared_coded, decl_coded, there_bounds_coded, init_coded, stmt_coded}
+
+each_coded : {X A : Type 0} (f : X → Outcome A) → ((x : X) → HasCode (f x)) → (xs : List X) → HasCode (each (map f xs))
+each_coded f h [] = tt
+each_coded f h (x ∷ xs) = bound (f x) _ (h x) (λ a. each_coded f h xs)
+
+head_coded : (frame : Frame) (h : NotedHead) → HasCode (head_judged frame h)
+head_coded frame h = bound _ _ (each_coded (bounds_there frame) (there_bounds_coded frame) h.params) (λ u. declared_coded frame holder.Result (type_written h.result) lengths.Plain h.bounds)
 
 code_of : {A : Type 0} (o : Outcome A) (r : Refusal) → HasCode o → o ≡ Err r → IsBoundsCode r.code
 code_of {A} o r h e = subst (λ (x : Outcome A). HasCode x) e h

@@ -1,13 +1,8 @@
 pub mod Frames
-pub mod Sequels
 pub mod Turns
 pub mod Lists
-pub mod Coded
 pub mod CodedTexts
-pub mod CodedViews
 pub mod WholeBodies
-pub mod CodedStores
 pub mod LocalsJoined
-pub mod Blocks
 pub mod WholeFunctions
 pub mod WholeTexts

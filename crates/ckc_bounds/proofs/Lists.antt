@@ -1,9 +1,10 @@
 -- Lists of locals and of what is judged, joined part by part.
-use Rattle.std.proofs.Common.{◌≡◌, ◌∙◌, ◌<◌, ◌≤◌, ℕ, suc, ◌+◌, Bool, List, [], ◌∷◌, ◌++◌, length, map, drop, get_or, drop-cons, add-one, refl, ap, sym, append_assoc, append-nil, length-append, arith}
-use Rattle.std.specs.Prelude.{Ok, Err, ◌||◌}
+use Rattle.std.proofs.Common.{◌≡◌, ◌∙◌, ◌<◌, ◌≤◌, ℕ, suc, ◌+◌, Bool, List, [], ◌∷◌, ◌++◌, length, map, drop, get_or, drop-cons, add-one, refl, ap, sym, append_assoc, length-append, arith}
+use Rattle.std.specs.Prelude.{Ok, Err, replicate}
+use Rattle.std.proofs.Math.ListN.{replicate-append-replicate}
 use Rattle.std.proofs.lemmas.List.{drop_all}
 use Rattle.ckc_base.specs.declared.places.Refusal.{Refusal}
-use Rattle.ckc_base.specs.Outcomes.{Outcome, bind, in_turn}
+use Rattle.ckc_base.specs.Outcomes.{Outcome, bind}
 use Rattle.ckc_typed.specs.Trees.{NotedDecl}
 use Rattle.ckc_points.specs.declared.frame.Local.{Local}
 use Rattle.ckc_points.specs.declared.frame.Frame.{Frame}
@@ -37,14 +38,6 @@ module _ {X A : Type 0} (f : X → Outcome A) (xs : List X) (i : ℕ) (x : X) (h
 pub each_end : {X A : Type 0} (f : X → Outcome A) (xs : List X) (i : ℕ) (whole : Outcome (Unit {0})) → whole ≡ each (map f (drop i xs)) → length xs ≤ i → whole ≡ Ok tt
 each_end f xs i whole kept h = kept ∙ ap (λ l. each (map f l)) (drop_all i xs h)
 
--- parts that are seen by a function first
-abbrev in_front : {A S : Type 0} → (S → Outcome (List A × S)) → A × S → Outcome (List A × S)
-in_front f q = bind (f q.1) (λ r. Ok (q.0 ∷ r.0, r.1))
-
-turned_on : {A S : Type 0} (o : Outcome (A × S)) (f g : S → Outcome (List A × S)) → ((s : S) → f s ≡ g s) → bind o (in_front f) ≡ bind o (in_front g)
-turned_on {A} {S} (Ok q) f g h = ap (λ (o : Outcome (List A × S)). bind {B = List A × S} o (λ r. Ok (q.0 ∷ r.0, r.1))) (h q.1)
-turned_on (Err r) f g h = refl
-
-pub turned_by : {X Y A S : Type 0} (p : X → Y) (g : Y → S → Outcome (A × S)) (xs : List X) (s : S) → in_turn (map g (map p xs)) s ≡ in_turn (map (λ x. g (p x)) xs) s
-turned_by p g [] s = refl
-turned_by p g (x ∷ xs) s = turned_on (g (p x) s) (in_turn (map g (map p xs))) (in_turn (map (λ y. g (p y)) xs)) (λ t. turned_by p g xs t)
+-- one more of the same behind a list
+pub one_more : {A : Type 0} (xs : List A) (n : ℕ) (a : A) → (xs ++ replicate n a) ++ a ∷ [] ≡ xs ++ replicate (n + 1) a
+one_more xs n a = append_assoc xs (replicate n a) (a ∷ []) ∙ ap (λ ys. xs ++ ys) (replicate-append-replicate n 1 a)

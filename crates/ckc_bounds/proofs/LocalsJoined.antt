@@ -1,5 +1,5 @@
 -- The locals of the parts of a statement, one part after another.
-use Rattle.std.proofs.Common.{◌≡◌, ◌∙◌, ◌<◌, ℕ, suc, ◌+◌, Bool, List, [], ◌∷◌, ◌++◌, map, length, drop, get_or, drop-cons, add-one, rules, sym, ap, subst}
+use Rattle.std.proofs.Common.{◌≡◌, ◌∙◌, ◌<◌, ℕ, suc, ◌+◌, Bool, List, ◌++◌, map, length, drop, get_or, drop-cons, add-one, rules, sym, ap, subst}
 use Rattle.std.specs.Prelude.{Option, Result, OnOk}
 use Rattle.std.specs.Option.{option_map}
 use Rattle.ckc_syntax.specs.declared.tree.Act.{the_lemmas}
@@ -8,7 +8,7 @@ use Rattle.ckc_typed.specs.Trees.{NotedAct, NotedExpr, NotedStmt}
 use Rattle.ckc_points.specs.declared.frame.Local.{Local}
 use Rattle.ckc_points.specs.declared.frame.Frame.{Frame}
 use Rattle.ckc_bounds.specs.Declarations.{with_all}
-use Rattle.ckc_bounds.specs.Paths.{all_declared, there_declared, path, path_of_act}
+use Rattle.ckc_statements.specs.Paths.{all_declared, there_declared, path, path_of_act}
 use Rattle.ckc_bounds.proofs.Lists.{with_all_append}
 
 module _ (frame : Frame) (bounded : Bool) (old : List Local) where

@@ -1,5 +1,4 @@
 -- The bounds phase: what it makes of a typed text, and for which first error it refuses it.
-use Rattle.std.specs.Prelude.{◌≡◌, ◌⊎◌, ℕ}
 use Rattle.ckc_base.specs.Phases.{Phase}
 use Rattle.ckc_base.specs.Outcomes.{phase_by}
 use Rattle.ckc_typed.specs.declared.typed.Typed.{Typed}
@@ -8,7 +7,3 @@ use Rattle.ckc_bounds.specs.Texts.{text_judged}
 -- The same text, with the range of each pointer that is an expression in it.
 abbrev pub bounding : Phase Typed Typed
 bounding = phase_by text_judged
-
--- E601 to E607
-abbrev pub IsBoundsCode : ℕ → Type 0
-IsBoundsCode code = (code ≡ 601) ⊎ (code ≡ 602) ⊎ (code ≡ 603) ⊎ (code ≡ 604) ⊎ (code ≡ 605) ⊎ (code ≡ 606) ⊎ (code ≡ 607)

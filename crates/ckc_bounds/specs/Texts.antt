@@ -1,5 +1,5 @@
 -- A whole text with its bounds judged: what it becomes, and its first error. Items are judged in the order of the text.
-use Rattle.std.specs.Prelude.{List, [], map, Ok}
+use Rattle.std.specs.Prelude.{false, List, [], map, Ok}
 use Rattle.ckc_base.specs.Outcomes.{Outcome, bind, in_order}
 use Rattle.ckc_syntax.specs.declared.tree.Item.TheVariants as item
 use Rattle.ckc_typed.specs.declared.typed.Typed.{Typed}
@@ -7,8 +7,9 @@ use Rattle.ckc_typed.specs.Trees.{NotedDecl, NotedHead, NotedStmt, NotedItem}
 use Rattle.ckc_points.specs.declared.frame.Frame.{Frame}
 use Rattle.ckc_points.specs.Flow.{entry}
 use Rattle.ckc_declared.specs.declared.limits.Holder.{Holder}
-use Rattle.ckc_bounds.specs.Declarations.{decl_bounds, bounds_there, each, head_judged, member_holder, types_in, head_bounds}
-use Rattle.ckc_bounds.specs.Paths.{Here, init_judged, path}
+use Rattle.ckc_statements.specs.DeclBounds.{decl_bounds, bounds_there}
+use Rattle.ckc_bounds.specs.Declarations.{each, head_judged, member_holder, types_in, head_bounds}
+use Rattle.ckc_statements.specs.Paths.{Here, init_judged, path}
 use Rattle.ckc_bounds.specs.Frames.{text_frame, function_frame, begin_of}
 
 -- E603 of members
@@ -17,7 +18,7 @@ members_judged frame h ds = each (map (decl_bounds frame h) ds)
 
 -- An initialiser of an object is judged as at the begin of a function without locals.
 abbrev pub outside : Frame → Here
-outside frame = record { seen = []; at = entry frame; next = 0 }
+outside frame = record { seen = []; at = entry frame; next = 0; counting = false }
 
 -- an object of file scope: E603, then its initialiser
 abbrev pub object_judged : Frame → NotedDecl → Outcome NotedDecl

@@ -1,24 +1,22 @@
 //! The bodies of functions.
 
-ghost use Rattle.std.specs.Prelude.{◌≡◌, [], flat_map, length, IfOk, OnOk};
+ghost use Rattle.std.specs.Prelude.{◌≡◌, [], ◌++◌, flat_map, length, replicate, IfOk, OnOk};
 ghost use Rattle.ckc_base.specs.Outcomes.{AnswersOutcome};
-ghost use Rattle.ckc_points.specs.Flow.{entry};
 ghost use Rattle.ckc_bounds.specs.Declarations.{text_of, with_all};
-ghost use Rattle.ckc_bounds.specs.Frames.{all_of, function_frame, name_seen, begin_of};
+ghost use Rattle.ckc_bounds.specs.Frames.{all_of, name_seen, begin_in, counted, fresh_needed, nameless, with_nameless, locals_frame, first_fresh, frame_by};
 ghost use Rattle.ckc_bounds.specs.Texts.{body_judged};
-ghost use Rattle.ckc_bounds.specs.Walks.{here};
+ghost use Rattle.ckc_statements.specs.Walks.{here};
 
-use crate::contents::add_name;
 use crate::declared::{clear, set_locals};
-use crate::fresh;
 use crate::heads::head_bounds;
 use crate::locals::{add_params, add_stmt};
-use crate::statements::judge_stmt;
-use crate::walk::Walk;
 use ckc_base::{Fault, Seq};
-use ckc_points::{Frame, Local, entry};
+use ckc_points::{Bounds, Frame, HeadBounds, Local, entry};
+use ckc_statements::{Walk, add_name, judge_stmt, may_need};
 use ckc_syntax::{Decl, Head, Name, Stmt};
 use ckc_typed::Note;
+use ckc_types::CType;
+use core::mem::replace;
 use std::alloc::{AllocError, Global};
 
 /// The parameters and the locals of a function, by their types alone or with their bounds.
@@ -47,23 +45,23 @@ fn count(all: &[Local]) -> Result<u32, AllocError>
     Ok(all.len() as u32)
 }
 
-/// Makes the variables of a function the locals of a frame, and gives the number of the first fresh one.
+/// Makes the parameters and the locals of a function the locals of a frame, and gives the number of the first fresh
+/// variable.
 #[tactic(auto, using(crate::proofs::Lists::with_all_length))]
-fn set_function(
+fn set_variables(
     alloc: Global,
     frame: &mut Frame,
     h: &Head<Name, Note>,
     body: &Stmt<Name, Note>,
 ) -> Result<u32, AllocError>
-    ensures first { IfOk result (λ n. n ≡ length (all_of h.now body.now)) }
-    ensures frame { OnOk result (frame.new ≡ function_frame (text_of frame.old) h.now body.now) }
+    ensures first { IfOk result (λ n. n ≡ first_fresh h.now body.now) }
+    ensures frame { OnOk result (frame.new ≡ locals_frame (text_of frame.old) h.now body.now) }
 {
     clear(alloc, frame);
     let bare = variables(alloc, frame, false, h, body)?;
     set_locals(frame, bare)?;
-    let mut all = variables(alloc, frame, true, h, body)?;
+    let all = variables(alloc, frame, true, h, body)?;
     let first = count(all.as_slice())?;
-    fresh::add_stmt(alloc, frame, body, &mut all)?;
     set_locals(frame, all)?;
     Ok(first)
 }
@@ -78,14 +76,100 @@ fn scope_of(alloc: Global, params: &[Decl<Name, Note>]) -> Result<Seq<u32>, Allo
     Ok(seen)
 }
 
-fn begin(alloc: Global, frame: &Frame, h: &Head<Name, Note>, next: u32) -> Result<Walk, AllocError>
-    ensures { IfOk result
-        (λ w. here w ≡ record
-        { seen = flat_map name_seen h.now.params; at = entry frame.now; next = next }) }
+fn begin(
+    alloc: Global,
+    frame: &Frame,
+    counting: bool,
+    h: &Head<Name, Note>,
+    next: u32,
+) -> Result<Walk, AllocError>
+    ensures { IfOk result (λ w. here w ≡ begin_in frame.now counting h.now next) }
 {
     let seen = scope_of(alloc, h.params.as_slice())?;
     let at = entry(alloc, frame)?;
-    Ok(Walk { seen, at, next })
+    Ok(Walk {
+        seen,
+        at,
+        next,
+        counting,
+    })
+}
+
+/// How many fresh variables a walk through a function needs, of which the first has the given number.
+fn counted(
+    alloc: Global,
+    frame: &Frame,
+    head: &HeadBounds,
+    h: &Head<Name, Note>,
+    body: &Stmt<Name, Note>,
+    first: u32,
+) -> Result<u32, AllocError>
+    ensures { IfOk result (λ n. n ≡ counted frame.now head.now h.now body.now first) }
+{
+    let mut walk = begin(alloc, frame, true, h, first)?;
+    match judge_stmt(alloc, frame, head, body, &mut walk) {
+        Ok(_) => Ok(walk.next.saturating_sub(first)),
+        Err(Fault::Refused(_)) => Ok(0),
+        Err(Fault::Memory) => Err(AllocError),
+    }
+}
+
+/// How many fresh variables a function needs, in a frame of its parameters and locals.
+fn fresh_needed(
+    alloc: Global,
+    frame: &Frame,
+    head: &HeadBounds,
+    h: &Head<Name, Note>,
+    body: &Stmt<Name, Note>,
+    first: u32,
+) -> Result<u32, AllocError>
+    ensures { IfOk result (λ n. n ≡ fresh_needed frame.now head.now h.now body.now first) }
+{
+    if may_need(frame, body) {
+        counted(alloc, frame, head, h, body, first)
+    } else {
+        Ok(0)
+    }
+}
+
+#[tactic(auto, using(crate::proofs::Lists::one_more))]
+fn add_nameless(all: &mut Seq<Local>, n: u32) -> Result<(), AllocError>
+    ensures { OnOk result (all.new ≡ all.old ++ replicate n nameless) }
+{
+    for _k in 0..n {
+        all.push(Local {
+            ctype: CType::Void,
+            bounds: Bounds::Unknown,
+        })?;
+    }
+    Ok(())
+}
+
+/// Puts so many fresh variables behind the locals of a frame.
+fn set_fresh(alloc: Global, frame: &mut Frame, n: u32) -> Result<(), AllocError>
+    ensures { OnOk result (frame.new ≡ with_nameless n frame.old) }
+{
+    let mut all = replace(&mut frame.locals, Seq::new(alloc));
+    add_nameless(&mut all, n)?;
+    set_locals(frame, all)
+}
+
+/// Makes the variables of a function the locals of a frame, and gives the number of the first fresh one.
+fn set_function(
+    alloc: Global,
+    frame: &mut Frame,
+    head: &HeadBounds,
+    h: &Head<Name, Note>,
+    body: &Stmt<Name, Note>,
+) -> Result<u32, AllocError>
+    ensures first { IfOk result (λ n. n ≡ first_fresh h.now body.now) }
+    ensures frame { OnOk result
+        (frame.new ≡ frame_by (text_of frame.old) head.now h.now body.now) }
+{
+    let first = set_variables(alloc, frame, h, body)?;
+    let n = fresh_needed(alloc, frame, head, h, body, first)?;
+    set_fresh(alloc, frame, n)?;
+    Ok(first)
 }
 
 /// Judges the body of a function, and notes the ranges in it.
@@ -99,8 +183,8 @@ pub fn judge_body(
     ensures kept { OnOk result (text_of frame.new ≡ text_of frame.old) }
 {
     let head = head_bounds(alloc, frame, h)?;
-    let first = set_function(alloc, frame, h, body)?;
-    let mut walk = begin(alloc, frame, h, first)?;
+    let first = set_function(alloc, frame, &head, h, body)?;
+    let mut walk = begin(alloc, frame, false, h, first)?;
     let judged = judge_stmt(alloc, frame, &head, body, &mut walk)?;
     Ok(judged)
 }

@@ -3,25 +3,17 @@
 ghost use Rattle.std.specs.Prelude.{◌≡◌, map, IfOk, OnOk};
 ghost use Rattle.ckc_base.specs.Outcomes.{Outcome, AnswersOutcome};
 ghost use Rattle.ckc_points.specs.declared.frame.Bounds.{Bounds};
-ghost use Rattle.ckc_bounds.specs.Declarations.{holder_of, member_holder, decl_bounds, bounds_there, result_bounds, each, head_judged, known_or_not, with_locals, text_of};
+ghost use Rattle.ckc_statements.specs.DeclBounds.{decl_bounds, bounds_there};
+ghost use Rattle.ckc_bounds.specs.Declarations.{member_holder, result_bounds, each, head_judged, known_or_not, with_locals, text_of};
 
 use ckc_base::{Fault, Seq};
 use ckc_declared::{Holder, bounds_declared};
 use ckc_points::{Bounds, Frame, Local};
+use ckc_statements::{bounds_there, decl_bounds};
 use ckc_syntax::{Decl, Head, Length, Name};
 use ckc_typed::Note;
 use ckc_typed::types::type_written;
 use std::alloc::{AllocError, Global};
-
-/// What a declared name is to its bounds: a local, or else an object of file scope.
-pub fn holder_of(name: Name) -> Holder
-    ensures { result ≡ holder_of name }
-{
-    match name {
-        Name::Local(k) => Holder::Local(k),
-        _ => Holder::Static,
-    }
-}
 
 /// What the members of the structure that a name means are to their bounds.
 pub fn member_holder(name: Name) -> Holder
@@ -31,26 +23,6 @@ pub fn member_holder(name: Name) -> Holder
         Name::Tag(k) => Holder::Member(k),
         _ => Holder::Static,
     }
-}
-
-/// The bounds of a declaration, or E603.
-pub fn decl_bounds(
-    alloc: Global,
-    frame: &Frame,
-    holder: Holder,
-    d: &Decl<Name, Note>,
-) -> Result<Bounds, Fault>
-    ensures { AnswersOutcome result (decl_bounds frame.now holder d.now) }
-{
-    let t = type_written(alloc, &d.ctype)?;
-    bounds_declared(alloc, frame, holder, &t, d.length, &d.bounds)
-}
-
-/// The bounds of a declaration where it stands, or E603.
-pub fn bounds_there(alloc: Global, frame: &Frame, d: &Decl<Name, Note>) -> Result<Bounds, Fault>
-    ensures { AnswersOutcome result (bounds_there frame.now d.now) }
-{
-    decl_bounds(alloc, frame, holder_of(d.name), d)
 }
 
 /// The bounds of the result of a function, or E603.

@@ -5,15 +5,14 @@ ghost use Rattle.ckc_base.specs.Outcomes.{AnswersOutcome, bind};
 ghost use Rattle.ckc_syntax.specs.declared.tree.Item.TheVariants as item;
 ghost use Rattle.ckc_bounds.specs.Declarations.{member_holder, text_of};
 ghost use Rattle.ckc_bounds.specs.Texts.{members_judged, outside, object_judged, head_kept, function_judged, item_judged, items_judged};
-ghost use Rattle.ckc_bounds.specs.Walks.{here};
+ghost use Rattle.ckc_statements.specs.Walks.{here};
 
 use crate::bodies::judge_body;
-use crate::copies::{boxed_head, copied_decls, decl_with};
-use crate::declared::{bounds_there, clear, head_fits, member_holder, members_fit};
+use crate::declared::{clear, head_fits, member_holder, members_fit};
 use crate::heads::set_types;
-use crate::walk::{Walk, judge_init};
 use ckc_base::{Boxed, Fault, Pos, Seq};
 use ckc_points::{Frame, entry};
+use ckc_statements::{Walk, bounds_there, boxed_head, copied_decls, decl_with, judge_init};
 use ckc_syntax::{Decl, Head, Item, Name, Stmt};
 use ckc_typed::Note;
 use std::alloc::{AllocError, Global};
@@ -44,6 +43,7 @@ fn outside(alloc: Global, frame: &Frame) -> Result<Walk, AllocError>
         seen: Seq::new(alloc),
         at,
         next: 0,
+        counting: false,
     })
 }
 

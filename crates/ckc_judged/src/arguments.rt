@@ -9,12 +9,13 @@ ghost use Rattle.ckc_views.specs.Views.{view};
 
 use crate::faults::NOT_CONTAINED;
 use ckc_base::{Refusal, Seq};
+use ckc_extents::{add_fresh_ranges, fresh_behind, is_null, range};
 use ckc_linear::Facts;
 use ckc_points::{Bounds, Frame, HeadBounds, Local, Point, copied};
 use ckc_ranges::{Ends, extend, is_contained, replaced_bounds};
 use ckc_syntax::{Expr, Name};
 use ckc_typed::{Note, Range};
-use ckc_views::{bases_by, count_fresh, is_null, range, values, variables_by};
+use ckc_views::{bases_by, values, variables_by};
 use std::alloc::{AllocError, Global};
 
 /// Adds what also holds of a range, by the one without widening.
@@ -60,6 +61,7 @@ pub fn point_for(
     let found = range(alloc, frame, at, e, first_value, first_fresh)?;
     let mut narrow = without_widening(alloc, at)?;
     let before = range(alloc, frame, &narrow, e, first_value, first_fresh)?;
+    add_fresh_ranges(alloc, frame, at, e, first_fresh, &mut narrow.facts)?;
     extend_by(found, before, allocated, &mut narrow.facts)?;
     Ok(narrow)
 }
@@ -148,7 +150,7 @@ fn arguments_fault(
         }
         n = n.saturating_add(1);
         value = value.saturating_add(values(frame, e));
-        fresh = fresh.saturating_add(count_fresh(frame, e));
+        fresh = fresh_behind(alloc, frame, at, e, fresh)?;
     }
     Ok(None)
 }

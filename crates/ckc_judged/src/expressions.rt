@@ -6,44 +6,21 @@ ghost use Rattle.std.specs.Option.{option_map};
 ghost use Rattle.ckc_base.specs.Outcomes.{AnswersOutcome, bind};
 ghost use Rattle.ckc_syntax.specs.declared.tree.Node.TheVariants as node;
 ghost use Rattle.ckc_points.specs.Flow.{state};
-ghost use Rattle.ckc_views.specs.Judged.{right_point, noted_range, expr_made, by_fault, there_judged, all_judged};
+ghost use Rattle.ckc_views.specs.Judged.{noted_range, expr_made, by_fault, there_judged, all_judged};
+ghost use Rattle.ckc_views.specs.Conditions.{right_point};
 ghost use Rattle.ckc_views.specs.Views.{view, view_of_limits, view_of_node};
 
 use crate::faults::{BAD_AMOUNT, counts_bytes, fault_of_node, operand_fault_of_node};
 use ckc_base::{Boxed, Bytes, Fault, Refusal, Seq, refused};
-use ckc_points::{Frame, Point, copied};
+use ckc_extents::{element_size, fresh_behind, range};
+use ckc_points::{Frame, Point};
 use ckc_rules::copies::copied_type;
 use ckc_syntax::{Expr, Limits, Name, Node, TreeOp};
 use ckc_typed::types::{copied as copied_ctype, is_integer, is_pointer};
 use ckc_typed::{Note, Range};
 use ckc_types::CType;
-use ckc_views::{count_fresh, element_size, narrow, range, to_side};
+use ckc_views::right_point;
 use std::alloc::{AllocError, Global};
-
-/// The point at which the right operand of an operator is judged: behind `&&` and `||` a side of the left one.
-fn right_point(
-    alloc: Global,
-    frame: &Frame,
-    op: TreeOp,
-    e: &Expr<Name, Note>,
-    at: &Point,
-) -> Result<Point, AllocError>
-    ensures { IfOk result (λ p. state p ≡ right_point op (view frame.now e.now) (state at.now)) }
-{
-    let mut right = copied(alloc, at)?;
-    match op {
-        TreeOp::AndThen => {
-            to_side(alloc, frame, e, true, &mut right)?;
-            Ok(right)
-        }
-        TreeOp::OrElse => {
-            to_side(alloc, frame, e, false, &mut right)?;
-            narrow(alloc, at.widened.as_slice(), &mut right)?;
-            Ok(right)
-        }
-        _ => Ok(right),
-    }
-}
 
 fn noted_range(alloc: Global, note: &Note, range: Range) -> Result<Note, AllocError>
     ensures { IfOk result (λ n. n ≡ noted_range note.now range) }
@@ -122,7 +99,7 @@ fn judge_limits(
         }
         Limits::Between(e, f, pos) => {
             let _low = boxed(alloc, frame, at, e.get(), first_fresh)?;
-            let next = first_fresh.saturating_add(count_fresh(frame, e.get()));
+            let next = fresh_behind(alloc, frame, at, e.get(), first_fresh)?;
             let _high = boxed(alloc, frame, at, f.get(), next)?;
             Err(refused(BAD_AMOUNT, *pos))
         }
@@ -168,7 +145,7 @@ fn judge_all(
     for e in es {
         let judged = judge_as(alloc, frame, at, e, false, next)?;
         all.push(judged)?;
-        next = next.saturating_add(count_fresh(frame, e));
+        next = fresh_behind(alloc, frame, at, e, next)?;
     }
     Ok(all)
 }
@@ -219,22 +196,22 @@ fn judge_node(
             Ok(Node::Un(*op, e))
         }
         Node::Bin(op, e, f) => {
-            let next = first_fresh.saturating_add(count_fresh(frame, e.get()));
+            let next = fresh_behind(alloc, frame, at, e.get(), first_fresh)?;
             let right = right_point(alloc, frame, *op, e.get(), at)?;
             let e = boxed(alloc, frame, at, e.get(), first_fresh)?;
             let f = boxed(alloc, frame, &right, f.get(), next)?;
             Ok(Node::Bin(*op, e, f))
         }
         Node::Pick(e, f, g) => {
-            let next = first_fresh.saturating_add(count_fresh(frame, e.get()));
-            let last = next.saturating_add(count_fresh(frame, f.get()));
+            let next = fresh_behind(alloc, frame, at, e.get(), first_fresh)?;
+            let last = fresh_behind(alloc, frame, at, f.get(), next)?;
             let e = boxed(alloc, frame, at, e.get(), first_fresh)?;
             let f = boxed(alloc, frame, at, f.get(), next)?;
             let g = boxed(alloc, frame, at, g.get(), last)?;
             Ok(Node::Pick(e, f, g))
         }
         Node::Index(e, f) => {
-            let next = first_fresh.saturating_add(count_fresh(frame, e.get()));
+            let next = fresh_behind(alloc, frame, at, e.get(), first_fresh)?;
             let e = boxed(alloc, frame, at, e.get(), first_fresh)?;
             let f = boxed(alloc, frame, at, f.get(), next)?;
             Ok(Node::Index(e, f))
@@ -257,14 +234,14 @@ fn judge_node(
             Ok(Node::Size(w))
         }
         Node::Trusted(w, e, l) => {
-            let next = first_fresh.saturating_add(count_fresh(frame, e.get()));
+            let next = fresh_behind(alloc, frame, at, e.get(), first_fresh)?;
             let e = boxed(alloc, frame, at, e.get(), first_fresh)?;
             let l = judge_bounds(alloc, frame, at, l, element_size(&frame.structs, t), next)?;
             let w = copied_type(alloc, w)?;
             Ok(Node::Trusted(w, e, l))
         }
         Node::Tested(w, e, l) => {
-            let next = first_fresh.saturating_add(count_fresh(frame, e.get()));
+            let next = fresh_behind(alloc, frame, at, e.get(), first_fresh)?;
             let e = boxed(alloc, frame, at, e.get(), first_fresh)?;
             let l = judge_bounds(alloc, frame, at, l, element_size(&frame.structs, t), next)?;
             let w = copied_type(alloc, w)?;

@@ -8,6 +8,7 @@ ghost use Rattle.ckc_views.specs.Views.{view, view_of_node};
 
 use crate::arguments::call_fault;
 use ckc_base::{Pos, Refusal};
+use ckc_extents::range;
 use ckc_points::{Frame, Point, is_multiple};
 use ckc_ranges::{NO_ADDRESS, has_no_address};
 use ckc_syntax::{Expr, Name, Node, TreeOp};
@@ -15,7 +16,7 @@ use ckc_typed::constants::value_of;
 use ckc_typed::types::{is_integer, kind_of};
 use ckc_typed::{Constant, Note, Range};
 use ckc_types::{CType, Kind, Structs};
-use ckc_views::{Member, member_of_node, number, range};
+use ckc_views::{Member, member_of_node, number};
 use std::alloc::{AllocError, Global};
 
 /// E601: an access or a tested cast with unknown bounds.

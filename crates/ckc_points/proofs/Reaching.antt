@@ -1,12 +1,12 @@
 -- The search for a chain finds one exactly where there is one.
-use Rattle.std.proofs.Common.{◌≡◌, ◌⊎◌, inl, inr, ⊎_elim, ap, sym, refl, ◌∙◌, ℕ, zero, suc, ◌+◌, ◌≤◌, Bool, true, false, List, [], ◌∷◌, length, ℤ, pos, ◌-ℤ◌, ◌≤ℤ◌, arith, rules}
-use Rattle.std.specs.Prelude.{◌==◌, ◌&&◌, ◌||◌, int_le, IsTrue, ◌↔◌}
+use Rattle.std.proofs.Common.{◌≡◌, ◌⊎◌, inl, inr, ⊎_elim, ap, sym, refl, ◌∙◌, ℕ, zero, suc, ◌+◌, ◌^◌, ◌<◌, ◌≤◌, Bool, true, false, List, [], ◌∷◌, length, ℤ, pos, ◌-ℤ◌, ◌≤ℤ◌, arith, rules}
+use Rattle.std.specs.Prelude.{◌==◌, nat_lt, ◌&&◌, ◌||◌, int_le, IsTrue, ◌↔◌}
 use Rattle.std.specs.List.{Contains, list_any}
 use Rattle.std.proofs.lemmas.Int.{ints}
 use Rattle.std.proofs.lemmas.List.Folds.{list_any_at}
 use Rattle.ckc_linear.specs.declared.facts.Fact.{Fact}
 use Rattle.ckc_linear.specs.Chains.{Leads, total, Chain}
-use Rattle.ckc_points.specs.Shown.{reaches}
+use Rattle.ckc_points.specs.Shown.{Known, is_within, reaches, is_shown}
 
 or_cases : (a b : Bool) → (a || b) ≡ true → (a ≡ true) ⊎ (b ≡ true)
 or_cases true b h = inl refl
@@ -92,6 +92,16 @@ chain_is vars facts x y c b h = same_truth b (reaches (vars + 1) facts x y c)
 
 pub chain_is_at : (vars : ℕ) (facts : List Fact) (x y : ℕ) (c d : ℤ) (b : Bool) → (IsTrue b ↔ Chain vars facts x y d) → d ≡ c → b ≡ reaches (vars + 1) facts x y c
 chain_is_at vars facts x y c d b h same = chain_is vars facts x y d b h ∙ ap (reaches (vars + 1) facts x y) same
+
+-- the empty chain
+less_by : (a b : ℕ) → a < b → nat_lt a b ≡ true
+less_by a b h = grind (arith, rules)
+
+pub shown_at_once : (facts : Known) (f : Fact) → f.x < facts.vars → f.y < facts.vars → is_within (2 ^ 50) f.c ≡ true → f.x ≡ f.y → int_le (pos 0) f.c ≡ true → is_shown facts f ≡ true
+shown_at_once facts f p q w e h =
+    and_both (nat_lt f.x facts.vars) _ (less_by f.x facts.vars p)
+    (and_both (nat_lt f.y facts.vars) _ (less_by f.y facts.vars q)
+    (and_both (is_within (2 ^ 50) f.c) _ w (by_walk (facts.vars + 1) facts.list f.x f.y f.c [] e (omega arith) (most_by (pos 0) f.c h))))
 
 -- a chain is what the search finds
 pub chain_found : (vars : ℕ) (facts : List Fact) (x y : ℕ) (c : ℤ) → IsTrue (reaches (vars + 1) facts x y c) ↔ Chain vars facts x y c

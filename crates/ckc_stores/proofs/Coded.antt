@@ -93,5 +93,5 @@ code_of (Some s) at r h e = let same : s ≡ r = cc in let P : Refusal → Type 
 pub stored_coded : (frame : Frame) (result : Bounds) (scope : List ℕ) (ss : List Store) (fresh : ℕ) (at : State) (r : Refusal) → stored frame result scope ss fresh at ≡ Err r → IsStoreCode r.code
 unfolding stored_placed
 stored_coded frame result scope ss fresh at r e =
-    let ps = numbered frame 0 fresh ss in
+    let ps = numbered frame at 0 fresh ss in
     code_of (first_fault frame result scope ps at) (after frame at.facts ps at) r (coded_fault frame result scope ps at) e

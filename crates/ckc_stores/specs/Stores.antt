@@ -29,7 +29,7 @@ use Rattle.ckc_ranges.specs.declared.replacements.BaseBy.{BaseBy}
 use Rattle.ckc_ranges.specs.declared.replacements.VariableBy.{VariableBy}
 use Rattle.ckc_ranges.specs.Members.{may_be_assigned_alone, may_be_assigned_with}
 use Rattle.ckc_views.specs.declared.variables.Member.{Member}
-use Rattle.ckc_views.specs.Parts.{capped}
+use Rattle.ckc_views.specs.Parts.{capped, fresh_behind}
 use Rattle.ckc_views.specs.Judged.{not_contained}
 use Rattle.ckc_views.specs.Views.{view}
 use Rattle.ckc_stores.specs.declared.values.Numbered.{Numbered}
@@ -70,21 +70,17 @@ pub record Placed : Type 0 where
 abbrev pub placed : places.Placed → Placed
 placed p = record { target = p.target.now; right = p.right.now; pos = p.pos; from = p.from }
 
--- the number behind those of the fresh variables of an expression
-abbrev pub fresh_behind : Frame → NotedExpr → ℕ → ℕ
-fresh_behind frame e x = capped x (view frame e).fresh_count
-
--- Right sides number their values one after another, and all expressions their fresh variables.
-abbrev pub numbered : Frame → ℕ → ℕ → List Store → List Placed
-numbered frame value fresh [] = []
-numbered frame value fresh (s ∷ ss) =
+-- Right sides number their values one after another, and all expressions the fresh variables that they need at a point.
+abbrev pub numbered : Frame → State → ℕ → ℕ → List Store → List Placed
+numbered frame at value fresh [] = []
+numbered frame at value fresh (s ∷ ss) =
     record {
       target = s.target;
       right = s.right;
       pos = s.pos;
-      from = record { value = value; fresh = fresh_behind frame s.target fresh };
-    } ∷ numbered frame (capped value (view frame s.right).values)
-    (fresh_behind frame s.right (fresh_behind frame s.target fresh)) ss
+      from = record { value = value; fresh = fresh_behind (view frame s.target) fresh at };
+    } ∷ numbered frame at (capped value (view frame s.right).values)
+    (fresh_behind (view frame s.right) (fresh_behind (view frame s.target) fresh at) at) ss
 
 -- the form of what a target gets
 abbrev pub received : Frame → Known → Placed → Option Form
@@ -257,7 +253,11 @@ stored_placed frame result scope ps at = unless_refused (first_fault frame resul
 -- its bounds, E604 where another pointer is not and where the bounds of the result lose what they name, E605 where a
 -- member that takes part in bounds is not assigned as it must be. All right sides stand in old values.
 abbrev pub stored : Frame → Bounds → List ℕ → List Store → ℕ → State → Outcome State
-stored frame result scope ss fresh at = stored_placed frame result scope (numbered frame 0 fresh ss) at
+stored frame result scope ss fresh at = stored_placed frame result scope (numbered frame at 0 fresh ss) at
+
+-- The point after assignments whatever they owe.
+abbrev pub passed : Frame → List Store → ℕ → State → State
+passed frame ss fresh at = after frame at.facts (numbered frame at 0 fresh ss) at
 
 -- whether a value that goes to a place of type t is contained in bounds that begin at its own place, for the base b
 unfoldable pub holds_from : Frame → CType → Base → NotedExpr → Numbered → State → Bounds → Bool

@@ -15,7 +15,8 @@ use Rattle.ckc_ranges.specs.declared.replacements.VariableBy.{VariableBy}
 use Rattle.ckc_ranges.specs.Replaced.{replaced_bounds}
 use Rattle.ckc_ranges.specs.Contained.{is_contained}
 use Rattle.ckc_ranges.specs.Rows.{range_moved, range_of_local}
-use Rattle.ckc_views.specs.Parts.{is_nt}
+use Rattle.ckc_views.specs.Parts.{capped, is_nt}
+use Rattle.ckc_views.specs.Fresh.{with_types}
 use Rattle.ckc_views.specs.Judged.{extended_by}
 use Rattle.ckc_views.specs.Views.{view}
 use Rattle.ckc_stores.specs.declared.values.Numbered.{Numbered}
@@ -50,13 +51,14 @@ abbrev pub range_received : Frame → CType → NotedExpr → Numbered → State
 range_received frame t e n at = received_range t (view frame e).allocates ((view frame e).range n.value n.fresh at)
 
 -- An expression whose value goes to a place of type t: its own values and fresh variables are numbered from n on. Its
--- range makes more known beside the facts of the point, for its own containment alone; there its upper end counts as it is
--- without widening where it is to be no less than the lower one.
+-- range and the types of its fresh variables make more known beside the facts of the point, for its own containment alone;
+-- there its upper end counts as it is without widening where it is to be no less than the lower one.
 unfoldable pub new_value : Frame → CType → NotedExpr → Numbered → State → Value
 new_value frame t e n at = record {
   null = (view frame e).null;
   range = range_received frame t e n at;
-  facts = extended_by (range_received frame t e n at) (range_received frame t e n (narrow at)) (has_element t (view frame e).allocates) at.facts;
+  facts = extended_by (range_received frame t e n at) (range_received frame t e n (narrow at)) (has_element t (view frame e).allocates)
+      (with_types (capped n.fresh 1) ((view frame e).fresh at) at.facts);
 }
 
 -- a local pointer that keeps its value

@@ -10,5 +10,5 @@ mod targets;
 mod values;
 
 pub use faults::LOST_BOUNDS;
-pub use stores::{initialised, returned, stored};
+pub use stores::{initialised, pass, returned, stored};
 pub use values::NOT_CONTAINED;

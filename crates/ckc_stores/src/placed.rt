@@ -1,14 +1,16 @@
 //! Assignments whose values and fresh variables are numbered.
 
 ghost use Rattle.std.specs.Prelude.{◌≡◌, map, IfOk};
-ghost use Rattle.ckc_stores.specs.Stores.{placed, fresh_behind, numbered, stores_of};
+ghost use Rattle.ckc_points.specs.Flow.{state};
+ghost use Rattle.ckc_stores.specs.Stores.{placed, numbered, stores_of};
 
 use crate::values::Numbered;
 use ckc_base::Pos;
-use ckc_points::Frame;
+use ckc_extents::fresh_behind;
+use ckc_points::{Frame, Point};
 use ckc_syntax::{Act, Expr, Name, Stmt};
 use ckc_typed::Note;
-use ckc_views::{count_fresh, values};
+use ckc_views::values;
 use std::alloc::{AllocError, Global};
 
 /// An assignment with the place of its `=`, whose right side numbers its values and its fresh variables from the given
@@ -21,21 +23,16 @@ pub struct Placed<'a> {
     pub from: Numbered,
 }
 
-fn fresh_behind(frame: &Frame, e: &Expr<Name, Note>, x: u32) -> u32
-    ensures { result ≡ fresh_behind frame.now e.now x }
-{
-    x.saturating_add(count_fresh(frame, e))
-}
-
 /// The assignments among statements, of which the first numbers its fresh variables from the given one on.
 pub fn numbered<'a>(
     alloc: Global,
     frame: &Frame,
     ss: &'a [Stmt<Name, Note>],
     first_fresh: u32,
+    at: &Point,
 ) -> Result<Vec<Placed<'a>>, AllocError>
     ensures { IfOk result (λ ps. map placed ps.items
-        ≡ numbered frame.now 0 first_fresh (stores_of ss.now)) }
+        ≡ numbered frame.now (state at.now) 0 first_fresh (stores_of ss.now)) }
 {
     let mut ps = Vec::new(alloc);
     let mut from = Numbered {
@@ -44,7 +41,7 @@ pub fn numbered<'a>(
     };
     for s in ss {
         if let Act::Assign(e, f) = &s.body {
-            from.fresh = fresh_behind(frame, e.get(), from.fresh);
+            from.fresh = fresh_behind(alloc, frame, at, e.get(), from.fresh)?;
             ps.push(Placed {
                 target: e.get(),
                 right: f.get(),
@@ -52,7 +49,7 @@ pub fn numbered<'a>(
                 from,
             })?;
             from.value = from.value.saturating_add(values(frame, f.get()));
-            from.fresh = fresh_behind(frame, f.get(), from.fresh);
+            from.fresh = fresh_behind(alloc, frame, at, f.get(), from.fresh)?;
         }
     }
     Ok(ps)

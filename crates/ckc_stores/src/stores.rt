@@ -4,7 +4,7 @@ ghost use Rattle.std.specs.Prelude.{◌≡◌, map, IfOk, OnOk};
 ghost use Rattle.ckc_points.specs.Shown.{known};
 ghost use Rattle.ckc_points.specs.Flow.{state};
 ghost use Rattle.ckc_stores.specs.Targets.{local_of};
-ghost use Rattle.ckc_stores.specs.Stores.{Threads, placed, stores_of, assigned_local, received, after, stored_placed, stored, holds_from, initialised, returned};
+ghost use Rattle.ckc_stores.specs.Stores.{Threads, placed, stores_of, assigned_local, received, after, stored_placed, stored, passed, holds_from, initialised, returned};
 
 use crate::faults::first_fault;
 use crate::placed::{Placed, numbered};
@@ -112,8 +112,23 @@ pub fn stored(
     ensures { Threads result (state at.new)
         (stored frame.now bounds.now scope.now (stores_of ss.now) first_fresh (state at.old)) }
 {
-    let ps = numbered(alloc, frame, ss, first_fresh)?;
+    let ps = numbered(alloc, frame, ss, first_fresh, at)?;
     stored_placed(alloc, frame, bounds, scope, ps.as_slice(), at)
+}
+
+/// Goes on to the point after an assignment, or after those of a bundle, whatever they owe.
+pub fn pass(
+    alloc: Global,
+    frame: &Frame,
+    ss: &[Stmt<Name, Note>],
+    first_fresh: u32,
+    at: &mut Point,
+) -> Result<(), AllocError>
+    ensures { OnOk result
+        (state at.new ≡ passed frame.now (stores_of ss.now) first_fresh (state at.old)) }
+{
+    let ps = numbered(alloc, frame, ss, first_fresh, at)?;
+    go_on(alloc, frame, ps.as_slice(), at)
 }
 
 #[tactic(auto, unfolding(crate::specs::Stores::holds_from))]

@@ -1,6 +1,6 @@
 //! What a pointer becomes, and whether the bounds that it must have contain it.
 
-ghost use Rattle.std.specs.Prelude.{◌≡◌, ◌&&◌, not, IfOk};
+ghost use Rattle.std.specs.Prelude.{◌≡◌, ◌&&◌, not, IfOk, OnOk};
 ghost use Rattle.ckc_typed.specs.Types.{kind_of};
 ghost use Rattle.ckc_points.specs.Shown.{known};
 ghost use Rattle.ckc_points.specs.Flow.{state};
@@ -9,6 +9,7 @@ ghost use Rattle.ckc_views.specs.Judged.{extended_by};
 ghost use Rattle.ckc_stores.specs.Values.{value, narrow, one_less, received_range, has_element, range_received, new_value, same_value, holds};
 
 use ckc_base::Seq;
+use ckc_extents::{add_fresh_ranges, allocates, is_null, range};
 use ckc_linear::Facts;
 use ckc_points::{Bounds, Frame, Point, copied_facts, moved_form};
 use ckc_ranges::{BaseBy, Ends, VariableBy, extend, is_contained, range_of_local, replaced_bounds};
@@ -16,7 +17,6 @@ use ckc_syntax::{Expr, Name};
 use ckc_typed::types::kind_of;
 use ckc_typed::{Note, Range};
 use ckc_types::{CType, Kind};
-use ckc_views::{allocates, is_null, range};
 use std::alloc::{AllocError, Global};
 
 /// E602: a target is not contained in its bounds.
@@ -92,24 +92,21 @@ fn has_element(t: &CType, allocates: bool) -> bool
     allocates && !is_nt(t)
 }
 
-/// The facts, and what a range makes known beside them; `narrow` is the range as it is without widening.
-fn extended_by(
-    alloc: Global,
+/// Adds what a range makes known; `narrow` is the range as it is without widening.
+fn extend_by(
     found: Range,
     narrow: Range,
     allocated: bool,
-    facts: &Facts,
-) -> Result<Facts, AllocError>
-    ensures { IfOk result (λ all. known all
-        ≡ extended_by found narrow allocated (known facts.now)) }
+    facts: &mut Facts,
+) -> Result<(), AllocError>
+    ensures { OnOk result (known facts.new
+        ≡ extended_by found narrow allocated (known facts.old)) }
 {
-    let mut all = copied_facts(alloc, facts)?;
     match (found, narrow) {
         (Range::Known(low, high), Range::Known(_, last)) => {
-            extend(Ends { low, high }, last, allocated, &mut all)?;
-            Ok(all)
+            extend(Ends { low, high }, last, allocated, facts)
         }
-        _ => Ok(all),
+        _ => Ok(()),
     }
 }
 
@@ -156,13 +153,10 @@ pub fn new_value(
 {
     let range = range_received(alloc, frame, t, e, from, at)?;
     let narrow = range_without_widening(alloc, frame, t, e, from, at)?;
-    let facts = extended_by(
-        alloc,
-        range,
-        narrow,
-        has_element(t, allocates(frame, e)),
-        &at.facts,
-    )?;
+    let mut facts = copied_facts(alloc, &at.facts)?;
+    add_fresh_ranges(alloc, frame, at, e, from.fresh, &mut facts)?;
+    let allocated = has_element(t, allocates(frame, e));
+    extend_by(range, narrow, allocated, &mut facts)?;
     Ok(Value {
         null: is_null(frame, e),
         range,
@@ -177,7 +171,8 @@ pub fn same_value(alloc: Global, frame: &Frame, k: u32, at: &Point) -> Result<Va
 {
     let range = range_of_local(frame, k, at.widened.as_slice());
     let narrow = range_of_local(frame, k, &[]);
-    let facts = extended_by(alloc, range, narrow, false, &at.facts)?;
+    let mut facts = copied_facts(alloc, &at.facts)?;
+    extend_by(range, narrow, false, &mut facts)?;
     Ok(Value {
         null: false,
         range,

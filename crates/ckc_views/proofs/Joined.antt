@@ -3,13 +3,6 @@ use Rattle.std.proofs.Common.{◌≡◌, List, [], ◌∷◌, ◌++◌, refl, ap
 use Rattle.std.specs.Prelude.{Option, None, Some}
 use Rattle.ckc_views.specs.Parts.{with_last, with_first}
 
-pub joined : {A : Type 0} (xs ys zs : List A) → (xs ++ ys) ++ zs ≡ xs ++ (ys ++ zs)
-joined xs ys zs = append_assoc xs ys zs
-
 pub last_first : {A : Type 0} (xs : List A) (o : Option A) (zs : List A) → with_last xs o ++ zs ≡ xs ++ with_first o zs
 last_first xs None zs = refl
 last_first xs (Some a) zs = append_assoc xs (a ∷ []) zs
-
-pub joined_last : {A : Type 0} (xs ys : List A) (o : Option A) → with_last (xs ++ ys) o ≡ xs ++ with_last ys o
-joined_last xs ys None = refl
-joined_last xs ys (Some a) = append_assoc xs ys (a ∷ [])

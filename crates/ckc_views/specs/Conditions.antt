@@ -128,6 +128,12 @@ comparison_side frame o e f side at =
 abbrev pub narrowed : State → State → State
 narrowed at after = record after { widened = at.widened }
 
+-- The right operand of `&&` and `||` stands on a side of the left one.
+abbrev pub right_point : TreeOp → View → State → State
+right_point op.AndThen e at = e.side true at
+right_point op.OrElse e at = narrowed at (e.side false at)
+right_point _ e at = at
+
 abbrev pub and_side : View → View → Bool → State → State
 and_side e f true at = f.side true (e.side true at)
 and_side e f false at = at

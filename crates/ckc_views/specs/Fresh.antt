@@ -1,4 +1,4 @@
--- Fresh variables: the numbers that ranges name and that no local holds.
+-- Fresh variables: the numbers that ranges name and that no local holds. An expression has one where it needs it.
 use Rattle.std.specs.Prelude.{ℕ, ◌==◌, Bool, true, false, if◌then◌else◌, pos, Option, None, Some, is_some, List, [], ◌∷◌, ◌++◌, find}
 use Rattle.ckc_types.specs.declared.types.Kind.{Kind}
 use Rattle.ckc_types.specs.declared.types.Kind.TheVariants as kind
@@ -12,10 +12,16 @@ use Rattle.ckc_types.specs.Layout.{members_of}
 use Rattle.ckc_linear.specs.declared.forms.Form.{Form}
 use Rattle.ckc_syntax.specs.declared.tree.Name.{Name}
 use Rattle.ckc_syntax.specs.declared.tree.Name.TheVariants as name
+use Rattle.ckc_syntax.specs.declared.tree.TreeOp.{TreeOp}
 use Rattle.ckc_syntax.specs.declared.tree.Node.{Node-F}
 use Rattle.ckc_typed.specs.Types.{kind_of, element_of}
+use Rattle.ckc_typed.specs.Constants.{size_of}
 use Rattle.ckc_views.specs.declared.variables.Member.{Member}
+use Rattle.ckc_points.specs.Shown.{Known}
+use Rattle.ckc_points.specs.Flow.{State, range_of, with_range}
+use Rattle.ckc_points.specs.Forms.{in_type}
 use Rattle.ckc_views.specs.Parts.{LimitsView, View, NodeView, NodeOfViews, capped}
+use Rattle.ckc_views.specs.Conditions.{right_point}
 
 -- The member of a structure that a node is, by the structure's tag and its own number.
 abbrev pub member_in : Name → CType-F CType → Option Member
@@ -59,65 +65,88 @@ abbrev pub counted_there : Option LimitsView → Option CType
 counted_there None = None
 counted_there (Some l) = l.counted
 
--- An expression that may need a fresh variable has one, whether it uses it or not: a checked pointer that is a member
--- whose bounds name a member (what that one is then), a bounds cast with an amount (the amount), and a `calloc` (the
--- count).
-abbrev pub own_fresh_of_node : Structs → NodeOfViews → CType → Option CType
-own_fresh_of_node structs (Node-F.Dot e n at) t = member_fresh structs t (member_of_node (Node-F.Dot e n at))
-own_fresh_of_node structs (Node-F.Arrow e n at) t = member_fresh structs t (member_of_node (Node-F.Arrow e n at))
-own_fresh_of_node structs (Node-F.Trusted w e l) t = counted_there l
-own_fresh_of_node structs (Node-F.Tested w e l) t = counted_there l
-own_fresh_of_node structs (Node-F.Calloc w e x) t = Some ctype.Int
-own_fresh_of_node structs _ t = None
+-- The type of the fresh variable that an expression may need: a checked pointer that is a member whose bounds name a
+-- member (what that one is then), a bounds cast with an amount (the amount), and a `calloc` (the count).
+abbrev pub may_need_of_node : Structs → NodeOfViews → CType → Option CType
+may_need_of_node structs (Node-F.Dot e n spot) t = member_fresh structs t (member_of_node (Node-F.Dot e n spot))
+may_need_of_node structs (Node-F.Arrow e n spot) t = member_fresh structs t (member_of_node (Node-F.Arrow e n spot))
+may_need_of_node structs (Node-F.Trusted w e l) t = counted_there l
+may_need_of_node structs (Node-F.Tested w e l) t = counted_there l
+may_need_of_node structs (Node-F.Calloc w e x) t = Some ctype.Int
+may_need_of_node structs _ t = None
 
-abbrev pub fresh_there : Option LimitsView → List CType
-fresh_there None = []
-fresh_there (Some l) = l.fresh
+abbrev pub amount_there : Structs → CType → Option LimitsView → Known → Option Form
+amount_there structs t None facts = None
+amount_there structs t (Some l) facts = l.amount (size_of structs (element_of t)) facts
 
-abbrev pub all_fresh : List View → List CType
-all_fresh [] = []
-all_fresh (e ∷ es) = e.fresh ++ all_fresh es
+-- An amount that has a form needs no fresh variable.
+abbrev pub has_form_of_node : Structs → NodeOfViews → CType → Known → Bool
+has_form_of_node structs (Node-F.Trusted w e l) t facts = is_some (amount_there structs t l facts)
+has_form_of_node structs (Node-F.Tested w e l) t facts = is_some (amount_there structs t l facts)
+has_form_of_node structs (Node-F.Calloc w e x) t facts = is_some (in_type facts ctype.Int (e.form facts))
+has_form_of_node structs _ t facts = false
 
--- the fresh variables of the parts of a node
-abbrev pub fresh_of_node : NodeOfViews → List CType
-fresh_of_node (Node-F.Un o e) = e.fresh
-fresh_of_node (Node-F.Bin o e f) = e.fresh ++ f.fresh
-fresh_of_node (Node-F.Pick e f g) = (e.fresh ++ f.fresh) ++ g.fresh
-fresh_of_node (Node-F.Index e f) = e.fresh ++ f.fresh
-fresh_of_node (Node-F.Dot e n at) = e.fresh
-fresh_of_node (Node-F.Arrow e n at) = e.fresh
-fresh_of_node (Node-F.Cast w e) = e.fresh
-fresh_of_node (Node-F.Trusted w e l) = e.fresh ++ fresh_there l
-fresh_of_node (Node-F.Tested w e l) = e.fresh ++ fresh_there l
-fresh_of_node (Node-F.Call n es) = all_fresh es
-fresh_of_node (Node-F.Calloc w e x) = e.fresh
-fresh_of_node _ = []
+-- the type of the fresh variable that an expression itself needs
+abbrev pub own_fresh : CType → NodeView → Known → Option CType
+own_fresh t n facts = if n.has_form t facts then None else n.may_need t
 
-abbrev pub fresh_after : ℕ → List View → ℕ
-fresh_after n [] = n
-fresh_after n (e ∷ es) = fresh_after (capped n e.fresh_count) es
+-- how many expressions may need one
+abbrev pub most_after : ℕ → List View → ℕ
+most_after n [] = n
+most_after n (e ∷ es) = most_after (capped n e.most_fresh) es
 
-abbrev pub count_there : Option LimitsView → ℕ
-count_there None = 0
-count_there (Some l) = l.fresh_count
+abbrev pub most_there : Option LimitsView → ℕ
+most_there None = 0
+most_there (Some l) = l.most_fresh
 
--- how many they are
-abbrev pub count_of_node : NodeOfViews → ℕ
-count_of_node (Node-F.Un o e) = e.fresh_count
-count_of_node (Node-F.Bin o e f) = capped e.fresh_count f.fresh_count
-count_of_node (Node-F.Pick e f g) = capped (capped e.fresh_count f.fresh_count) g.fresh_count
-count_of_node (Node-F.Index e f) = capped e.fresh_count f.fresh_count
-count_of_node (Node-F.Dot e n at) = e.fresh_count
-count_of_node (Node-F.Arrow e n at) = e.fresh_count
-count_of_node (Node-F.Cast w e) = e.fresh_count
-count_of_node (Node-F.Trusted w e l) = capped e.fresh_count (count_there l)
-count_of_node (Node-F.Tested w e l) = capped e.fresh_count (count_there l)
-count_of_node (Node-F.Call n es) = fresh_after 0 es
-count_of_node (Node-F.Calloc w e x) = e.fresh_count
-count_of_node _ = 0
+abbrev pub most_of_node : NodeOfViews → ℕ
+most_of_node (Node-F.Un o e) = e.most_fresh
+most_of_node (Node-F.Bin o e f) = capped e.most_fresh f.most_fresh
+most_of_node (Node-F.Pick e f g) = capped (capped e.most_fresh f.most_fresh) g.most_fresh
+most_of_node (Node-F.Index e f) = capped e.most_fresh f.most_fresh
+most_of_node (Node-F.Dot e n spot) = e.most_fresh
+most_of_node (Node-F.Arrow e n spot) = e.most_fresh
+most_of_node (Node-F.Cast w e) = e.most_fresh
+most_of_node (Node-F.Trusted w e l) = capped e.most_fresh (most_there l)
+most_of_node (Node-F.Tested w e l) = capped e.most_fresh (most_there l)
+most_of_node (Node-F.Call n es) = most_after 0 es
+most_of_node (Node-F.Calloc w e x) = e.most_fresh
+most_of_node _ = 0
 
-abbrev pub with_own_fresh : CType → NodeView → ℕ
-with_own_fresh t n = if is_some (n.own_fresh t) then capped n.fresh_count 1 else n.fresh_count
+abbrev pub with_own_most : CType → NodeView → ℕ
+with_own_most t n = if is_some (n.may_need t) then capped n.most_fresh 1 else n.most_fresh
+
+abbrev pub fresh_there : Option LimitsView → State → List CType
+fresh_there None at = []
+fresh_there (Some l) at = l.fresh at
+
+abbrev pub all_fresh : List View → State → List CType
+all_fresh [] at = []
+all_fresh (e ∷ es) at = e.fresh at ++ all_fresh es at
+
+-- A right operand needs what it needs at its own point. Where none of its parts may need one, there is no need to look.
+abbrev pub right_fresh : TreeOp → View → View → State → List CType
+right_fresh o e f at = if f.most_fresh == 0 then [] else f.fresh (right_point o e at)
+
+-- the fresh variables that the parts of a node need at a point, by their types and in walk order
+abbrev pub fresh_of_node : NodeOfViews → State → List CType
+fresh_of_node (Node-F.Un o e) at = e.fresh at
+fresh_of_node (Node-F.Bin o e f) at = e.fresh at ++ right_fresh o e f at
+fresh_of_node (Node-F.Pick e f g) at = (e.fresh at ++ f.fresh at) ++ g.fresh at
+fresh_of_node (Node-F.Index e f) at = e.fresh at ++ f.fresh at
+fresh_of_node (Node-F.Dot e n spot) at = e.fresh at
+fresh_of_node (Node-F.Arrow e n spot) at = e.fresh at
+fresh_of_node (Node-F.Cast w e) at = e.fresh at
+fresh_of_node (Node-F.Trusted w e l) at = e.fresh at ++ fresh_there l at
+fresh_of_node (Node-F.Tested w e l) at = e.fresh at ++ fresh_there l at
+fresh_of_node (Node-F.Call n es) at = all_fresh es at
+fresh_of_node (Node-F.Calloc w e x) at = e.fresh at
+fresh_of_node _ at = []
+
+-- the ranges of the types of fresh variables, of which the first is variable x
+abbrev pub with_types : ℕ → List CType → Known → Known
+with_types x [] facts = facts
+with_types x (t ∷ ts) facts = with_types (capped x 1) ts (with_range x (range_of t) facts)
 
 -- the form of a fresh variable, by its number among the locals
 abbrev pub fresh_form : ℕ → Form

@@ -35,9 +35,9 @@ use Rattle.ckc_base.specs.Outcomes.{Outcome, bind, unless, refused}
 use Rattle.ckc_typed.specs.Trees.{NotedLimits, NotedNode, NotedExpr}
 use Rattle.ckc_ranges.specs.Contained.{extended, is_contained}
 use Rattle.ckc_ranges.specs.Members.{has_no_address}
-use Rattle.ckc_views.specs.Parts.{LimitsView, View, NodeView, NodeOfViews, LimitsOfViews, capped}
-use Rattle.ckc_views.specs.Conditions.{narrowed}
-use Rattle.ckc_views.specs.Fresh.{member_of_node}
+use Rattle.ckc_views.specs.Parts.{LimitsView, View, NodeView, NodeOfViews, LimitsOfViews, capped, fresh_behind}
+use Rattle.ckc_views.specs.Conditions.{right_point}
+use Rattle.ckc_views.specs.Fresh.{member_of_node, with_types}
 use Rattle.ckc_views.specs.Arguments.{bases_by, variables_by}
 use Rattle.ckc_views.specs.Ranges.{pointer_range}
 
@@ -72,7 +72,7 @@ limits_judged (Limits-F.Count e pos) size fresh at =
 limits_judged (Limits-F.ByteCount e pos) size fresh at =
     bind (e.judged fresh at) (λ a. unless (not (counts_bytes size e)) bad_limits pos (Ok (limits.ByteCount a pos)))
 limits_judged (Limits-F.Between e f pos) size fresh at =
-    bind (e.judged fresh at) (λ a. bind (f.judged (capped fresh e.fresh_count) at) (λ b. refused bad_limits pos))
+    bind (e.judged fresh at) (λ a. bind (f.judged (fresh_behind e fresh at) at) (λ b. refused bad_limits pos))
 limits_judged (Limits-F.Unknown pos) size fresh at = refused bad_limits pos
 
 abbrev pub there_judged : Option LimitsView → ℕ → ℕ → State → Outcome (Option NotedLimits)
@@ -82,13 +82,7 @@ there_judged (Some l) size fresh at = bind (l.judged size fresh at) (λ k. Ok (S
 abbrev pub all_judged : List View → ℕ → State → Outcome (List NotedExpr)
 all_judged [] fresh at = Ok []
 all_judged (e ∷ es) fresh at =
-    bind (e.judged fresh at) (λ a. bind (all_judged es (capped fresh e.fresh_count) at) (λ rest. Ok (a ∷ rest)))
-
--- The right operand of `&&` and `||` stands on a side of the left one.
-abbrev pub right_point : TreeOp → View → State → State
-right_point op.AndThen e at = e.side true at
-right_point op.OrElse e at = narrowed at (e.side false at)
-right_point _ e at = at
+    bind (e.judged fresh at) (λ a. bind (all_judged es (fresh_behind e fresh at) at) (λ rest. Ok (a ∷ rest)))
 
 abbrev pub unary_judged : TreeOp → View → ℕ → State → Outcome NotedExpr
 unary_judged op.Address e fresh at = e.operand fresh at
@@ -102,20 +96,20 @@ node_judged frame Node-F.Null t fresh at = Ok node.Null
 node_judged frame (Node-F.Name n) t fresh at = Ok (node.Name n)
 node_judged frame (Node-F.Un o e) t fresh at = bind (unary_judged o e fresh at) (λ a. Ok (node.Un o a))
 node_judged frame (Node-F.Bin o e f) t fresh at =
-    bind (e.judged fresh at) (λ a. bind (f.judged (capped fresh e.fresh_count) (right_point o e at)) (λ b. Ok (node.Bin o a b)))
+    bind (e.judged fresh at) (λ a. bind (f.judged (fresh_behind e fresh at) (right_point o e at)) (λ b. Ok (node.Bin o a b)))
 node_judged frame (Node-F.Pick e f g) t fresh at =
-    bind (e.judged fresh at) (λ a. bind (f.judged (capped fresh e.fresh_count) at) (λ b.
-    bind (g.judged (capped (capped fresh e.fresh_count) f.fresh_count) at) (λ c. Ok (node.Pick a b c))))
+    bind (e.judged fresh at) (λ a. bind (f.judged (fresh_behind e fresh at) at) (λ b.
+    bind (g.judged (fresh_behind f (fresh_behind e fresh at) at) at) (λ c. Ok (node.Pick a b c))))
 node_judged frame (Node-F.Index e f) t fresh at =
-    bind (e.judged fresh at) (λ a. bind (f.judged (capped fresh e.fresh_count) at) (λ b. Ok (node.Index a b)))
+    bind (e.judged fresh at) (λ a. bind (f.judged (fresh_behind e fresh at) at) (λ b. Ok (node.Index a b)))
 node_judged frame (Node-F.Dot e n spot) t fresh at = bind (e.judged fresh at) (λ a. Ok (node.Dot a n spot))
 node_judged frame (Node-F.Arrow e n spot) t fresh at = bind (e.judged fresh at) (λ a. Ok (node.Arrow a n spot))
 node_judged frame (Node-F.Cast w e) t fresh at = bind (e.judged fresh at) (λ a. Ok (node.Cast w a))
 node_judged frame (Node-F.Size w) t fresh at = Ok (node.Size w)
 node_judged frame (Node-F.Trusted w e l) t fresh at =
-    bind (e.judged fresh at) (λ a. bind (there_judged l (size_of frame.structs (element_of t)) (capped fresh e.fresh_count) at) (λ k. Ok (node.Trusted w a k)))
+    bind (e.judged fresh at) (λ a. bind (there_judged l (size_of frame.structs (element_of t)) (fresh_behind e fresh at) at) (λ k. Ok (node.Trusted w a k)))
 node_judged frame (Node-F.Tested w e l) t fresh at =
-    bind (e.judged fresh at) (λ a. bind (there_judged l (size_of frame.structs (element_of t)) (capped fresh e.fresh_count) at) (λ k. Ok (node.Tested w a k)))
+    bind (e.judged fresh at) (λ a. bind (there_judged l (size_of frame.structs (element_of t)) (fresh_behind e fresh at) at) (λ k. Ok (node.Tested w a k)))
 node_judged frame (Node-F.Call n es) t fresh at = bind (all_judged es fresh at) (λ args. Ok (node.Call n args))
 node_judged frame (Node-F.Calloc w e x) t fresh at = bind (e.judged fresh at) (λ a. Ok (node.Calloc w a x))
 
@@ -153,11 +147,12 @@ abbrev pub extended_by : Range → Range → Bool → Known → Known
 extended_by (range.Known l u) (range.Known k before) allocated facts = extended (record { low = l; high = u }) before allocated facts
 extended_by _ _ allocated facts = facts
 
--- What is known where a new value is judged that is to be contained: beside the facts of the point that its range is in
--- order without widening, has at most 16,777,216 elements, and one of an allocation.
+-- What is known where a new value is judged that is to be contained: beside the facts of the point the ranges of the types
+-- of its fresh variables, and that its range is in order without widening, has at most 16,777,216 elements, and one of an
+-- allocation.
 abbrev pub facts_for : View → ℕ → ℕ → Bool → State → Known
 facts_for e first fresh allocated at =
-    extended_by (e.range first fresh at) (e.range first fresh (record at { widened = [] })) allocated at.facts
+    extended_by (e.range first fresh at) (e.range first fresh (record at { widened = [] })) allocated (with_types (capped fresh 1) (e.fresh at) at.facts)
 
 abbrev pub contained_in : Bounds → Bool → Range → Known → (Known → List BaseBy) → (Known → List VariableBy) → Bool
 contained_in b null r facts bases variables = is_contained facts b null r (replaced_bounds (bases facts) (variables facts) b)
@@ -172,7 +167,7 @@ abbrev pub arguments_fault : (Known → List BaseBy) → (Known → List Variabl
 arguments_fault bases variables params n [] first fresh at = None
 arguments_fault bases variables params n (e ∷ es) first fresh at =
     if is_argument (slice_get params n) e first fresh at bases variables
-    then arguments_fault bases variables params (capped n 1) es (capped first e.values) (capped fresh e.fresh_count) at
+    then arguments_fault bases variables params (capped n 1) es (capped first e.values) (fresh_behind e fresh at) at
     else Some (record { code = not_contained; pos = e.pos })
 
 abbrev pub head_fault : Option HeadBounds → List View → ℕ → State → Option Refusal

@@ -30,7 +30,7 @@ use Rattle.ckc_ranges.specs.Replaced.{replaced_bounds}
 use Rattle.ckc_ranges.specs.Rows.{range_from, range_of_ends, range_of_local, range_of_array}
 use Rattle.ckc_views.specs.declared.variables.Own.{Own}
 use Rattle.ckc_views.specs.declared.variables.Member.{Member}
-use Rattle.ckc_views.specs.Parts.{LimitsView, View, NodeView, NodeOfViews, capped, is_raw}
+use Rattle.ckc_views.specs.Parts.{LimitsView, View, NodeView, NodeOfViews, capped, next_behind, fresh_behind, is_raw}
 use Rattle.ckc_views.specs.Fresh.{member_of_node, member_bounds, is_checked, fresh_form}
 use Rattle.ckc_views.specs.Arguments.{bases_by, variables_by, own_by}
 
@@ -80,7 +80,7 @@ range_of_name frame _ t own widened = range.Missing
 abbrev pub range_of_operand : View → View → ℕ → ℕ → State → Range
 range_of_operand e f first fresh at =
     if is_pointer e.ctype then e.range first fresh at
-    else f.range (capped first e.values) (capped fresh e.fresh_count) at
+    else f.range (capped first e.values) (fresh_behind e fresh at) at
 
 abbrev pub range_of_unary : TreeOp → View → CType → Own → ℕ → ℕ → State → Range
 range_of_unary op.Deref e t own first fresh at = range_by_type (kind_of t) own.value
@@ -140,11 +140,11 @@ range_of_address (Node-F.Arrow e n spot) own first fresh at = if is_raw (kind_of
 range_of_address (Node-F.Dot e n spot) own first fresh at = if is_raw e.behind then range.Missing else range_of_one own.value
 range_of_address _ own first fresh at = range_of_one own.value
 
-abbrev pub own_numbers : NodeView → ℕ → ℕ → Own
-own_numbers n first fresh = record { value = capped first n.values; fresh = capped fresh n.fresh_count }
+abbrev pub own_numbers : NodeView → ℕ → ℕ → State → Own
+own_numbers n first fresh at = record { value = capped first n.values; fresh = next_behind fresh (n.fresh at) }
 
 -- The range of a pointer. Null may be used for any; what is no pointer has none.
 abbrev pub pointer_range : CType → NodeView → ℕ → ℕ → State → Range
 pointer_range t n first fresh at =
     if n.null then range.Any
-    else (if is_pointer t then n.range t (own_numbers n first fresh) first fresh at else range.Missing)
+    else (if is_pointer t then n.range t (own_numbers n first fresh at) first fresh at else range.Missing)

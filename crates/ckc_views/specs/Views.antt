@@ -9,12 +9,13 @@ use Rattle.ckc_syntax.specs.declared.tree.Expr.{Expr, Expr-F, fold-Expr}
 use Rattle.ckc_typed.specs.declared.typed.Note.{Note}
 use Rattle.ckc_points.specs.declared.frame.Frame.{Frame}
 use Rattle.ckc_points.specs.Shown.{Known}
+use Rattle.ckc_points.specs.Flow.{State}
 use Rattle.ckc_points.specs.Forms.{elements}
 use Rattle.ckc_views.specs.Parts.{LimitsView, View, NodeView, NodeOfViews, LimitsOfViews, capped, with_last}
 use Rattle.ckc_views.specs.Integers.{number_of_node, is_zero_node, null_node, variable_of_node, form_of_node, integer_form}
 use Rattle.ckc_views.specs.Places.{values_of_node, stands_alone, with_own, place_of_node, target_of_node, pointer_place}
 use Rattle.ckc_views.specs.Conditions.{behind_node, side_of_node}
-use Rattle.ckc_views.specs.Fresh.{member_of_node, own_fresh_of_node, fresh_of_node, count_of_node, with_own_fresh}
+use Rattle.ckc_views.specs.Fresh.{member_of_node, may_need_of_node, has_form_of_node, own_fresh, fresh_of_node, most_of_node, with_own_most}
 use Rattle.ckc_views.specs.Ranges.{range_of_node, range_of_address, pointer_range}
 use Rattle.ckc_views.specs.Judged.{limits_judged, node_judged, has_none_of_node, fault_of_node, operand_fault_of_node, expr_judged, operand_judged}
 
@@ -24,17 +25,17 @@ limits_values (Limits-F.ByteCount e at) = e.values
 limits_values (Limits-F.Between e f at) = capped e.values f.values
 limits_values (Limits-F.Unknown at) = 0
 
-abbrev pub limits_fresh : LimitsOfViews → List CType
-limits_fresh (Limits-F.Count e at) = e.fresh
-limits_fresh (Limits-F.ByteCount e at) = e.fresh
-limits_fresh (Limits-F.Between e f at) = e.fresh ++ f.fresh
-limits_fresh (Limits-F.Unknown at) = []
+abbrev pub limits_most : LimitsOfViews → ℕ
+limits_most (Limits-F.Count e pos) = e.most_fresh
+limits_most (Limits-F.ByteCount e pos) = e.most_fresh
+limits_most (Limits-F.Between e f pos) = capped e.most_fresh f.most_fresh
+limits_most (Limits-F.Unknown pos) = 0
 
-abbrev pub limits_count : LimitsOfViews → ℕ
-limits_count (Limits-F.Count e at) = e.fresh_count
-limits_count (Limits-F.ByteCount e at) = e.fresh_count
-limits_count (Limits-F.Between e f at) = capped e.fresh_count f.fresh_count
-limits_count (Limits-F.Unknown at) = 0
+abbrev pub limits_fresh : LimitsOfViews → State → List CType
+limits_fresh (Limits-F.Count e pos) at = e.fresh at
+limits_fresh (Limits-F.ByteCount e pos) at = e.fresh at
+limits_fresh (Limits-F.Between e f pos) at = e.fresh at ++ f.fresh at
+limits_fresh (Limits-F.Unknown pos) at = []
 
 abbrev pub limits_counted : LimitsOfViews → Option CType
 limits_counted (Limits-F.Count e at) = Some e.ctype
@@ -50,8 +51,8 @@ limits_amount _ size facts = None
 abbrev pub limits_view : LimitsOfViews → LimitsView
 limits_view l = record {
   values = limits_values l;
+  most_fresh = limits_most l;
   fresh = limits_fresh l;
-  fresh_count = limits_count l;
   counted = limits_counted l;
   amount = limits_amount l;
   judged = limits_judged l;
@@ -72,9 +73,10 @@ node_view frame n = record {
   allocates = allocates_node n;
   stands_alone = stands_alone frame n;
   values = values_of_node n;
+  most_fresh = most_of_node n;
   fresh = fresh_of_node n;
-  fresh_count = count_of_node n;
-  own_fresh = own_fresh_of_node frame.structs n;
+  may_need = may_need_of_node frame.structs n;
+  has_form = has_form_of_node frame.structs n;
   linear = form_of_node frame n;
   place = place_of_node frame n;
   target = target_of_node n;
@@ -101,8 +103,8 @@ expr_view e = record {
   member = e.node.member;
   allocates = e.node.allocates;
   values = with_own e.note.ctype e.node;
-  fresh = with_last e.node.fresh (e.node.own_fresh e.note.ctype);
-  fresh_count = with_own_fresh e.note.ctype e.node;
+  most_fresh = with_own_most e.note.ctype e.node;
+  fresh = λ at. with_last (e.node.fresh at) (own_fresh e.note.ctype e.node at.facts);
   form = λ facts. integer_form e.note.ctype e.node.number (e.node.linear e.note.ctype facts);
   place = pointer_place e.note.ctype e.node;
   target = e.node.target;

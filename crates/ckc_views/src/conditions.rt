@@ -5,7 +5,7 @@ ghost use Rattle.ckc_typed.specs.Types.{kind_of};
 ghost use Rattle.ckc_points.specs.Shown.{known};
 ghost use Rattle.ckc_points.specs.Frames.{local_at};
 ghost use Rattle.ckc_points.specs.Flow.{state};
-ghost use Rattle.ckc_views.specs.Conditions.{is_upper_of, is_upper, widened_by, read_place, widening, widening_side, said, opposite, holding, is_comparison, constant_operand, operand, compares_unsigned, nonzero_side, comparison_side};
+ghost use Rattle.ckc_views.specs.Conditions.{is_upper_of, is_upper, widened_by, read_place, widening, widening_side, said, opposite, holding, is_comparison, constant_operand, operand, compares_unsigned, nonzero_side, comparison_side, right_point};
 ghost use Rattle.ckc_views.specs.Views.{view, view_of_node};
 
 use crate::forms::number;
@@ -13,7 +13,8 @@ use crate::places::target_of_node;
 use ckc_base::Seq;
 use ckc_linear::{Base, Facts, Form};
 use ckc_points::{
-    Bounds, Frame, Local, Point, add_less, add_most, constant_form, local_at, same_form, variable,
+    Bounds, Frame, Local, Point, add_less, add_most, constant_form, copied, local_at, same_form,
+    variable,
 };
 use ckc_syntax::{Expr, Name, Node, TreeOp};
 use ckc_typed::Note;
@@ -275,6 +276,31 @@ pub fn narrow(alloc: Global, wide: &[u32], at: &mut Point) -> Result<(), AllocEr
 {
     at.widened = Seq::from_slice(alloc, wide)?;
     Ok(())
+}
+
+/// The point at which the right operand of an operator is judged: behind `&&` and `||` a side of the left one.
+pub fn right_point(
+    alloc: Global,
+    frame: &Frame,
+    op: TreeOp,
+    e: &Expr<Name, Note>,
+    at: &Point,
+) -> Result<Point, AllocError>
+    ensures { IfOk result (λ p. state p ≡ right_point op (view frame.now e.now) (state at.now)) }
+{
+    let mut right = copied(alloc, at)?;
+    match op {
+        TreeOp::AndThen => {
+            to_side(alloc, frame, e, true, &mut right)?;
+            Ok(right)
+        }
+        TreeOp::OrElse => {
+            to_side(alloc, frame, e, false, &mut right)?;
+            narrow(alloc, at.widened.as_slice(), &mut right)?;
+            Ok(right)
+        }
+        _ => Ok(right),
+    }
 }
 
 #[cycle(side)]

@@ -1,15 +1,14 @@
-//! The fresh variables of expressions.
+//! The fresh variables that expressions may need.
 
-ghost use Rattle.std.specs.Prelude.{◌≡◌, ◌==◌, ◌++◌, find, map, is_some, IfOk, OnOk};
+ghost use Rattle.std.specs.Prelude.{◌≡◌, ◌==◌, find, map, is_some, IfOk};
 ghost use Rattle.std.specs.Option.{option_copied, option_map};
 ghost use Rattle.ckc_types.specs.declared.types.CType.{out-CType};
 ghost use Rattle.ckc_types.specs.Layout.{members_of};
 ghost use Rattle.ckc_typed.specs.Types.{kind_of, element_of};
-ghost use Rattle.ckc_views.specs.Fresh.{member_in, shape_of, member_bounds, type_of_shape, named_type, is_checked, member_fresh, counted_there, fresh_there, count_there, all_fresh, fresh_after, fresh_form};
+ghost use Rattle.ckc_views.specs.Fresh.{member_in, shape_of, member_bounds, type_of_shape, named_type, is_checked, member_fresh, counted_there, most_there, most_after, fresh_form};
 ghost use Rattle.ckc_views.specs.Views.{view, view_of_limits, view_of_node};
 
-use crate::arguments::add_some;
-use ckc_base::{Boxed, Seq};
+use ckc_base::Boxed;
 use ckc_linear::Form;
 use ckc_points::Frame;
 use ckc_syntax::{Expr, Limits, Name, Node};
@@ -126,7 +125,7 @@ fn named_type(alloc: Global, structs: &Structs, m: Member) -> Result<Option<CTyp
     }
 }
 
-fn member_needs_fresh(structs: &Structs, t: &CType, member: Option<Member>) -> bool
+fn member_may_need(structs: &Structs, t: &CType, member: Option<Member>) -> bool
     ensures { result ≡ is_some (member_fresh structs.now t.now member) }
 {
     match member {
@@ -191,12 +190,12 @@ fn counted(
     }
 }
 
-fn needs_fresh(frame: &Frame, node: &Node<Name, Note>, t: &CType) -> bool
-    ensures { result ≡ is_some ((view_of_node frame.now node.now).own_fresh t.now) }
+fn may_need(frame: &Frame, node: &Node<Name, Note>, t: &CType) -> bool
+    ensures { result ≡ is_some ((view_of_node frame.now node.now).may_need t.now) }
 {
     match node {
-        Node::Dot(_, _, _) => member_needs_fresh(&frame.structs, t, member_of_node(frame, node)),
-        Node::Arrow(_, _, _) => member_needs_fresh(&frame.structs, t, member_of_node(frame, node)),
+        Node::Dot(_, _, _) => member_may_need(&frame.structs, t, member_of_node(frame, node)),
+        Node::Arrow(_, _, _) => member_may_need(&frame.structs, t, member_of_node(frame, node)),
         Node::Trusted(_, _, l) => counts(frame, l),
         Node::Tested(_, _, l) => counts(frame, l),
         Node::Calloc(_, _, _) => true,
@@ -206,13 +205,14 @@ fn needs_fresh(frame: &Frame, node: &Node<Name, Note>, t: &CType) -> bool
     }
 }
 
-fn own_fresh(
+/// The type of the fresh variable that a node may need.
+pub fn type_needed(
     alloc: Global,
     frame: &Frame,
     node: &Node<Name, Note>,
     t: &CType,
 ) -> Result<Option<CType>, AllocError>
-    ensures { IfOk result (λ u. u ≡ (view_of_node frame.now node.now).own_fresh t.now) }
+    ensures { IfOk result (λ u. u ≡ (view_of_node frame.now node.now).may_need t.now) }
 {
     match node {
         Node::Dot(_, _, _) => member_fresh(alloc, &frame.structs, t, member_of_node(frame, node)),
@@ -228,76 +228,76 @@ fn own_fresh(
     }
 }
 
-#[cycle(count_fresh)]
-fn count_of_limits(frame: &Frame, limits: &Limits<Name, Note>) -> u32
-    ensures { result ≡ (view_of_limits frame.now limits.now).fresh_count }
+#[cycle(most_fresh)]
+fn most_of_limits(frame: &Frame, limits: &Limits<Name, Note>) -> u32
+    ensures { result ≡ (view_of_limits frame.now limits.now).most_fresh }
 {
     match limits {
-        Limits::Count(e, _) => count_fresh(frame, e.get()),
-        Limits::ByteCount(e, _) => count_fresh(frame, e.get()),
+        Limits::Count(e, _) => most_fresh(frame, e.get()),
+        Limits::ByteCount(e, _) => most_fresh(frame, e.get()),
         Limits::Between(e, f, _) => {
-            count_fresh(frame, e.get()).saturating_add(count_fresh(frame, f.get()))
+            most_fresh(frame, e.get()).saturating_add(most_fresh(frame, f.get()))
         }
         Limits::Unknown(_) => 0,
     }
 }
 
-#[cycle(count_fresh)]
-fn count_of_bounds(frame: &Frame, bounds: &Option<Boxed<Limits<Name, Note>>>) -> u32
-    ensures { result ≡ count_there (option_map (view_of_limits frame.now) bounds.now) }
+#[cycle(most_fresh)]
+fn most_of_bounds(frame: &Frame, bounds: &Option<Boxed<Limits<Name, Note>>>) -> u32
+    ensures { result ≡ most_there (option_map (view_of_limits frame.now) bounds.now) }
 {
     match bounds {
-        Some(limits) => count_of_limits(frame, limits.get()),
+        Some(limits) => most_of_limits(frame, limits.get()),
         None => 0,
     }
 }
 
-#[cycle(count_fresh)]
-fn count_of_all(frame: &Frame, es: &[Expr<Name, Note>]) -> u32
-    ensures { result ≡ fresh_after 0 (map (view frame.now) es.now) }
+#[cycle(most_fresh)]
+fn most_of_all(frame: &Frame, es: &[Expr<Name, Note>]) -> u32
+    ensures { result ≡ most_after 0 (map (view frame.now) es.now) }
 {
     let mut n = 0u32;
     for e in es {
-        n = n.saturating_add(count_fresh(frame, e));
+        n = n.saturating_add(most_fresh(frame, e));
     }
     n
 }
 
-/// How many fresh variables the parts of a node have.
-#[cycle(count_fresh)]
-pub fn count_of_node(frame: &Frame, node: &Node<Name, Note>) -> u32
-    ensures { result ≡ (view_of_node frame.now node.now).fresh_count }
+/// How many fresh variables the parts of a node may need.
+#[cycle(most_fresh)]
+pub fn most_of_node(frame: &Frame, node: &Node<Name, Note>) -> u32
+    ensures { result ≡ (view_of_node frame.now node.now).most_fresh }
 {
     match node {
-        Node::Un(_, e) | Node::Dot(e, _, _) | Node::Arrow(e, _, _) => count_fresh(frame, e.get()),
-        Node::Cast(_, e) | Node::Calloc(_, e, _) => count_fresh(frame, e.get()),
+        Node::Un(_, e) | Node::Dot(e, _, _) | Node::Arrow(e, _, _) => most_fresh(frame, e.get()),
+        Node::Cast(_, e) | Node::Calloc(_, e, _) => most_fresh(frame, e.get()),
         Node::Bin(_, e, f) => {
-            count_fresh(frame, e.get()).saturating_add(count_fresh(frame, f.get()))
+            most_fresh(frame, e.get()).saturating_add(most_fresh(frame, f.get()))
         }
         Node::Index(e, f) => {
-            count_fresh(frame, e.get()).saturating_add(count_fresh(frame, f.get()))
+            most_fresh(frame, e.get()).saturating_add(most_fresh(frame, f.get()))
         }
-        Node::Pick(e, f, g) => count_fresh(frame, e.get())
-            .saturating_add(count_fresh(frame, f.get()))
-            .saturating_add(count_fresh(frame, g.get())),
+        Node::Pick(e, f, g) => most_fresh(frame, e.get())
+            .saturating_add(most_fresh(frame, f.get()))
+            .saturating_add(most_fresh(frame, g.get())),
         Node::Trusted(_, e, l) => {
-            count_fresh(frame, e.get()).saturating_add(count_of_bounds(frame, l))
+            most_fresh(frame, e.get()).saturating_add(most_of_bounds(frame, l))
         }
         Node::Tested(_, e, l) => {
-            count_fresh(frame, e.get()).saturating_add(count_of_bounds(frame, l))
+            most_fresh(frame, e.get()).saturating_add(most_of_bounds(frame, l))
         }
-        Node::Call(_, es) => count_of_all(frame, es.as_slice()),
+        Node::Call(_, es) => most_of_all(frame, es.as_slice()),
         Node::Number(_, _) | Node::Text(_) | Node::Null | Node::Size(_) | Node::Name(_) => 0,
     }
 }
 
-/// How many fresh variables an expression has.
-#[cycle(count_fresh)]
-pub fn count_fresh(frame: &Frame, e: &Expr<Name, Note>) -> u32
-    ensures { result ≡ (view frame.now e.now).fresh_count }
+/// How many fresh variables an expression may need.
+#[cycle(most_fresh)]
+pub fn most_fresh(frame: &Frame, e: &Expr<Name, Note>) -> u32
+    ensures { result ≡ (view frame.now e.now).most_fresh }
 {
-    let n = count_of_node(frame, &e.node);
-    if needs_fresh(frame, &e.node, &e.note.ctype) {
+    let n = most_of_node(frame, &e.node);
+    if may_need(frame, &e.node, &e.note.ctype) {
         n.saturating_add(1)
     } else {
         n
@@ -313,123 +313,4 @@ pub fn fresh_form(k: u32) -> Form
         var: k.saturating_add(1),
         add: 0,
     }
-}
-
-#[cycle(add_fresh)]
-#[tactic(auto, using(crate::proofs::Joined::joined))]
-fn add_of_limits(
-    alloc: Global,
-    frame: &Frame,
-    limits: &Limits<Name, Note>,
-    all: &mut Seq<CType>,
-) -> Result<(), AllocError>
-    ensures { OnOk result (all.new ≡ all.old ++ (view_of_limits frame.now limits.now).fresh) }
-{
-    match limits {
-        Limits::Count(e, _) => add_fresh(alloc, frame, e.get(), all),
-        Limits::ByteCount(e, _) => add_fresh(alloc, frame, e.get(), all),
-        Limits::Between(e, f, _) => {
-            add_fresh(alloc, frame, e.get(), all)?;
-            add_fresh(alloc, frame, f.get(), all)
-        }
-        Limits::Unknown(_) => Ok(()),
-    }
-}
-
-#[cycle(add_fresh)]
-fn add_of_bounds(
-    alloc: Global,
-    frame: &Frame,
-    bounds: &Option<Boxed<Limits<Name, Note>>>,
-    all: &mut Seq<CType>,
-) -> Result<(), AllocError>
-    ensures { OnOk result
-        (all.new ≡ all.old ++ fresh_there (option_map (view_of_limits frame.now) bounds.now)) }
-{
-    match bounds {
-        Some(limits) => add_of_limits(alloc, frame, limits.get(), all),
-        None => Ok(()),
-    }
-}
-
-#[cycle(add_fresh)]
-#[tactic(auto, using(crate::proofs::Joined::joined))]
-fn add_of_all(
-    alloc: Global,
-    frame: &Frame,
-    es: &[Expr<Name, Note>],
-    all: &mut Seq<CType>,
-) -> Result<(), AllocError>
-    ensures { OnOk result (all.new ≡ all.old ++ all_fresh (map (view frame.now) es.now)) }
-{
-    for e in es {
-        add_fresh(alloc, frame, e, all)?;
-    }
-    Ok(())
-}
-
-#[cycle(add_fresh)]
-#[tactic(auto, using(crate::proofs::Joined::joined))]
-fn add_of_node(
-    alloc: Global,
-    frame: &Frame,
-    node: &Node<Name, Note>,
-    all: &mut Seq<CType>,
-) -> Result<(), AllocError>
-    ensures { OnOk result (all.new ≡ all.old ++ (view_of_node frame.now node.now).fresh) }
-{
-    match node {
-        Node::Un(_, e) | Node::Dot(e, _, _) | Node::Arrow(e, _, _) => {
-            add_fresh(alloc, frame, e.get(), all)
-        }
-        Node::Cast(_, e) | Node::Calloc(_, e, _) => add_fresh(alloc, frame, e.get(), all),
-        Node::Bin(_, e, f) => {
-            add_fresh(alloc, frame, e.get(), all)?;
-            add_fresh(alloc, frame, f.get(), all)
-        }
-        Node::Index(e, f) => {
-            add_fresh(alloc, frame, e.get(), all)?;
-            add_fresh(alloc, frame, f.get(), all)
-        }
-        Node::Pick(e, f, g) => {
-            add_fresh(alloc, frame, e.get(), all)?;
-            add_fresh(alloc, frame, f.get(), all)?;
-            add_fresh(alloc, frame, g.get(), all)
-        }
-        Node::Trusted(_, e, l) => {
-            add_fresh(alloc, frame, e.get(), all)?;
-            add_of_bounds(alloc, frame, l, all)
-        }
-        Node::Tested(_, e, l) => {
-            add_fresh(alloc, frame, e.get(), all)?;
-            add_of_bounds(alloc, frame, l, all)
-        }
-        Node::Call(_, es) => add_of_all(alloc, frame, es.as_slice(), all),
-        Node::Number(_, _) | Node::Text(_) | Node::Null | Node::Size(_) | Node::Name(_) => Ok(()),
-    }
-}
-
-/// Adds the types of the fresh variables of an expression, in walk order.
-#[cycle(add_fresh)]
-#[tactic(auto, using(crate::proofs::Joined::joined, crate::proofs::Joined::joined_last))]
-pub fn add_fresh(
-    alloc: Global,
-    frame: &Frame,
-    e: &Expr<Name, Note>,
-    all: &mut Seq<CType>,
-) -> Result<(), AllocError>
-    ensures { OnOk result (all.new ≡ all.old ++ (view frame.now e.now).fresh) }
-{
-    add_of_node(alloc, frame, &e.node, all)?;
-    let own = own_fresh(alloc, frame, &e.node, &e.note.ctype)?;
-    add_some(all, own)
-}
-
-/// The types of the fresh variables of an expression, in walk order.
-pub fn fresh(alloc: Global, frame: &Frame, e: &Expr<Name, Note>) -> Result<Seq<CType>, AllocError>
-    ensures { IfOk result (λ ts. ts ≡ (view frame.now e.now).fresh) }
-{
-    let mut all = Seq::new(alloc);
-    add_fresh(alloc, frame, e, &mut all)?;
-    Ok(all)
 }

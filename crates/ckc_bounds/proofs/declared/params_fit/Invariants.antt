@@ -1,5 +1,6 @@
 use Rattle.std.proofs.Common.{◌≡◌, map, drop}
-use Rattle.ckc_bounds.specs.Declarations.{bounds_there, each}
+use Rattle.ckc_statements.specs.DeclBounds.{bounds_there}
+use Rattle.ckc_bounds.specs.Declarations.{each}
 use Rattle.ckc_bounds.proofs.declared.params_fit.Given as goal
 
 -- what is left gives what the whole gives

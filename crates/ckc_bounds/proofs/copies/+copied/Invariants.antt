@@ -1,5 +1,0 @@
-use Rattle.std.proofs.Common.{◌≡◌, take}
-use Rattle.ckc_bounds.proofs.copies.+copied.Given as goal
-
-abbrev pub invariant-copied_exprs-loop-e : goal.invariant-copied_exprs-loop-e
-invariant-copied_exprs-loop-e l = l.all ≡ take l.e-index l.es

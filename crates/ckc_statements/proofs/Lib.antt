@@ -1,0 +1,5 @@
+pub mod Sequels
+pub mod Coded
+pub mod CodedViews
+pub mod CodedStores
+pub mod Blocks

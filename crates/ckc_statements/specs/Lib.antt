@@ -1,0 +1,4 @@
+pub mod DeclBounds
+pub mod Paths
+pub mod Walks
+pub mod Codes

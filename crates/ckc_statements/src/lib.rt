@@ -1,0 +1,18 @@
+//! Statements: what is judged on the way through them, and what is known behind them.
+#![tactic(auto)]
+
+mod acts;
+mod contents;
+mod copies;
+mod declared;
+mod loops;
+mod needs;
+mod statements;
+mod walk;
+
+pub use contents::add_name;
+pub use copies::{boxed_head, copied_decls, decl_with};
+pub use declared::{bounds_there, decl_bounds};
+pub use needs::may_need;
+pub use statements::judge_stmt;
+pub use walk::{Walk, judge_init};
