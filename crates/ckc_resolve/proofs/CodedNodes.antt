@@ -4,13 +4,13 @@ use Rattle.std.specs.Prelude.{Option, Some, None}
 use Rattle.ckc_base.specs.declared.places.Pos.{Pos}
 use Rattle.ckc_base.specs.Outcomes.{Outcome, bind, in_order}
 use Rattle.ckc_syntax.specs.declared.tree.TypeTree.{TypeTree-F, map-TypeTree, ind-TypeTree, roll-TypeTree, fold-roll-TypeTree}
-use Rattle.ckc_syntax.specs.declared.tree.Limits.{Limits-F, map-Limits, ind-Limits, roll-Limits, fold-roll-Limits}
-use Rattle.ckc_syntax.specs.declared.tree.Node.{Node-F, map-Node, roll-Node, fold-roll-Node}
-use Rattle.ckc_syntax.specs.declared.tree.Expr.{Expr-F, map-Expr, ind-Expr, roll-Expr, fold-roll-Expr}
+use Rattle.ckc_syntax.specs.declared.tree.Limits.{Limits-F}
+use Rattle.ckc_syntax.specs.declared.tree.Node.{Node-F}
+use Rattle.ckc_syntax.proofs.Layers.{Steps, Property, LimitsLayer, NodeLayer, ExprLayer, limits_made, node_made, expr_made, each_limits, each_expr}
 use Rattle.ckc_resolve.specs.declared.names.Names.{Names}
 use Rattle.ckc_resolve.specs.declared.scopes.Scopes.{Scopes}
 use Rattle.ckc_resolve.specs.Spellings.{Spelling}
-use Rattle.ckc_resolve.specs.Trees.{TypeTree, Limits, Node, Expr, NamedType, NamedNode}
+use Rattle.ckc_resolve.specs.Trees.{TypeTree, Limits, Expr, NamedType}
 use Rattle.ckc_resolve.specs.Types.{type_parts, type_named}
 use Rattle.ckc_resolve.specs.Expressions.{OfLimits, OfNode, OfExpr, limits_parts, node_parts, expr_parts, limits_named, node_named, expr_named, exprs_named, bounds_named, maybe_named}
 use Rattle.ckc_resolve.specs.Meanings.{tag_of, member_of, meaning_of}
@@ -50,49 +50,19 @@ module _ (names : Names) where
   type_codes = ind-TypeTree Spelling TypeCoded type_by
 
   module _ (scopes : Scopes) where
-    abbrev LimitsCoded : Limits → Type 0
-    LimitsCoded l = HasCode (limits_named names scopes l)
+    abbrev naming : Steps Spelling (Unit {0}) OfLimits OfNode OfExpr
+    naming = record { limits = limits_parts; node = node_parts names scopes; expr = expr_parts }
 
-    abbrev NodeCoded : Node → Type 0
-    NodeCoded n = (pos : Pos) → HasCode (node_named names scopes n pos)
+    abbrev coded : Property Spelling (Unit {0}) OfLimits OfNode OfExpr
+    coded = record { limits = λ l o. HasCode o; node = λ n o. (pos : Pos) → HasCode (o pos); expr = λ e o. HasCode o }
 
-    abbrev ExprCoded : Expr → Type 0
-    ExprCoded e = HasCode (expr_named names scopes e)
-
-    abbrev KeptLimits : Type 0
-    KeptLimits = (l : Limits) × LimitsCoded l
-
-    abbrev KeptNode : Type 0
-    KeptNode = (n : Node) × NodeCoded n
-
-    abbrev KeptExpr : Type 0
-    KeptExpr = (e : Expr) × ExprCoded e
-
-    abbrev inner_limits : Limits-F Spelling (Unit {0}) KeptLimits KeptNode KeptExpr → Limits-F Spelling (Unit {0}) Limits Node Expr
-    inner_limits = map-Limits Spelling (Unit {0}) KeptLimits KeptNode KeptExpr Limits Node Expr (λ e. e.0) (λ e. e.0) (λ e. e.0)
-
-    abbrev inner_node : Node-F Spelling (Unit {0}) KeptLimits KeptNode KeptExpr → Node-F Spelling (Unit {0}) Limits Node Expr
-    inner_node = map-Node Spelling (Unit {0}) KeptLimits KeptNode KeptExpr Limits Node Expr (λ e. e.0) (λ e. e.0) (λ e. e.0)
-
-    abbrev inner_expr : Expr-F Spelling (Unit {0}) KeptLimits KeptNode KeptExpr → Expr-F Spelling (Unit {0}) Limits Node Expr
-    inner_expr = map-Expr Spelling (Unit {0}) KeptLimits KeptNode KeptExpr Limits Node Expr (λ e. e.0) (λ e. e.0) (λ e. e.0)
-
-    abbrev limits_inside : Limits-F Spelling (Unit {0}) Limits Node Expr → Limits-F Spelling (Unit {0}) OfLimits OfNode OfExpr
-    limits_inside = map-Limits Spelling (Unit {0}) Limits Node Expr OfLimits OfNode OfExpr (limits_named names scopes) (node_named names scopes) (expr_named names scopes)
-
-    abbrev node_inside : Node-F Spelling (Unit {0}) Limits Node Expr → Node-F Spelling (Unit {0}) OfLimits OfNode OfExpr
-    node_inside = map-Node Spelling (Unit {0}) Limits Node Expr OfLimits OfNode OfExpr (limits_named names scopes) (node_named names scopes) (expr_named names scopes)
-
-    abbrev expr_inside : Expr-F Spelling (Unit {0}) Limits Node Expr → Expr-F Spelling (Unit {0}) OfLimits OfNode OfExpr
-    expr_inside = map-Expr Spelling (Unit {0}) Limits Node Expr OfLimits OfNode OfExpr (limits_named names scopes) (node_named names scopes) (expr_named names scopes)
-
-    limits_step : (y : Limits-F Spelling (Unit {0}) KeptLimits KeptNode KeptExpr) → HasCode (limits_parts (limits_inside (inner_limits y)))
+    limits_step : (y : LimitsLayer naming coded) → HasCode (limits_made naming coded y)
     limits_step (Limits-F.Count k pos) = bound _ _ k.1 (λ a. tt)
     limits_step (Limits-F.ByteCount k pos) = bound _ _ k.1 (λ a. tt)
     limits_step (Limits-F.Between k j pos) = bound _ _ k.1 (λ a. bound _ _ j.1 (λ b. tt))
     limits_step (Limits-F.Unknown pos) = tt
 
-    node_step : (y : Node-F Spelling (Unit {0}) KeptLimits KeptNode KeptExpr) (pos : Pos) → HasCode (node_parts names scopes (node_inside (inner_node y)) pos)
+    node_step : (y : NodeLayer naming coded) (pos : Pos) → HasCode (node_made naming coded y pos)
     node_step (Node-F.Number n unsigned) pos = tt
     node_step (Node-F.Text bytes) pos = tt
     node_step Node-F.Null pos = tt
@@ -112,29 +82,14 @@ module _ (names : Names) where
     node_step (Node-F.Call s ks) pos = bound _ _ (listed_parts (expr_named names scopes) ks) (λ args. bound _ _ (there (meaning_of names scopes s) pos) (λ n. tt))
     node_step (Node-F.Calloc t k u) pos = bound _ _ (type_codes t) (λ v. bound _ _ k.1 (λ a. bound _ _ (type_codes u) (λ w. tt)))
 
-    limits_by : (x : Limits-F Spelling (Unit {0}) Limits Node Expr) (y : Limits-F Spelling (Unit {0}) KeptLimits KeptNode KeptExpr) → inner_limits y ≡ x → LimitsCoded (roll-Limits Spelling (Unit {0}) x)
-    limits_by x y is =
-        subst (λ (o : OfLimits). HasCode o)
-        (sym (fold-roll-Limits Spelling (Unit {0}) OfLimits OfNode OfExpr limits_parts (node_parts names scopes) expr_parts x ∙ ap (λ z. limits_parts (limits_inside z)) (sym is)))
-        (limits_step y)
-
-    node_by : (x : Node-F Spelling (Unit {0}) Limits Node Expr) (y : Node-F Spelling (Unit {0}) KeptLimits KeptNode KeptExpr) → inner_node y ≡ x → NodeCoded (roll-Node Spelling (Unit {0}) x)
-    node_by x y is pos =
-        subst (λ (o : Outcome NamedNode). HasCode o)
-        (sym (ap (λ f. f pos) (fold-roll-Node Spelling (Unit {0}) OfLimits OfNode OfExpr limits_parts (node_parts names scopes) expr_parts x) ∙ ap (λ z. node_parts names scopes (node_inside z) pos) (sym is)))
-        (node_step y pos)
-
-    expr_by : (x : Expr-F Spelling (Unit {0}) Limits Node Expr) (y : Expr-F Spelling (Unit {0}) KeptLimits KeptNode KeptExpr) → inner_expr y ≡ x → ExprCoded (roll-Expr Spelling (Unit {0}) x)
-    expr_by x y is =
-        subst (λ (o : OfExpr). HasCode o)
-        (sym (fold-roll-Expr Spelling (Unit {0}) OfLimits OfNode OfExpr limits_parts (node_parts names scopes) expr_parts x ∙ ap (λ z. expr_parts (expr_inside z)) (sym is)))
-        (bound _ _ (y.node.1 y.pos) (λ n. tt))
+    expr_step : (y : ExprLayer naming coded) → HasCode (expr_made naming coded y)
+    expr_step y = bound _ _ (y.node.1 y.pos) (λ n. tt)
 
     limits_codes : (l : Limits) → HasCode (limits_named names scopes l)
-    limits_codes = ind-Limits Spelling (Unit {0}) LimitsCoded NodeCoded ExprCoded limits_by node_by expr_by
+    limits_codes = each_limits naming coded limits_step node_step expr_step
 
     pub expr_codes : (e : Expr) → HasCode (expr_named names scopes e)
-    expr_codes = ind-Expr Spelling (Unit {0}) LimitsCoded NodeCoded ExprCoded limits_by node_by expr_by
+    expr_codes = each_expr naming coded limits_step node_step expr_step
 
     pub exprs_codes : (es : List Expr) → HasCode (exprs_named names scopes es)
     exprs_codes es = listed (expr_named names scopes) expr_codes es

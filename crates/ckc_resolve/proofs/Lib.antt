@@ -6,6 +6,4 @@ pub mod Ends
 pub mod Indexing
 pub mod MainDeclared
 pub mod Search
-pub mod Sequels
 pub mod Tables
-pub mod Turns

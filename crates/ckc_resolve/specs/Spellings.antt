@@ -2,9 +2,7 @@
 use Rattle.std.specs.Prelude.{ℕ, Bool, List, [], ◌∷◌, ◌++◌, if◌then◌else◌, Option}
 use Rattle.std.specs.List.{list_any, position, position_or_len}
 use Rattle.std.specs.Str.{bytes_eq}
-
-abbrev pub Spelling : Type 0
-Spelling = List ℕ
+pub use Rattle.ckc_syntax.specs.Trees.{Spelling}
 
 abbrev pub is_among : List Spelling → Spelling → Bool
 is_among ss s = list_any (bytes_eq s) ss

@@ -13,3 +13,6 @@ pub mod SameLists
 pub mod SameTypes
 pub mod SameNodes
 pub mod SameHeads
+pub mod Layers
+pub mod Turns
+pub mod Sequels

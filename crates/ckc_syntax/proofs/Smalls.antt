@@ -54,50 +54,27 @@ counts_is b t (m ∷ ms) h =
     let c = count_by-cons b m ms in
     one (b m) t (count_by b (m ∷ ms)) (count_by b ms) (λ t. counts b t ms) h c (counts_is b (raised t) ms (omega arith)) (counts_is b t ms h)
 
+-- a part of the tally that counts the marks of a kind
+module _ (b : Mark → Bool) (part : Tally → ℕ) (counts_mark : (t : Tally) (m : Mark) → part (counted t m) ≡ cond (b m) (raised (part t)) (part t)) where
+  part_count : (t : Tally) (ms : List Mark) → part (tallied t ms) ≡ counts b (part t) ms
+  unfolding counts
+  part_count t [] = refl
+  part_count t (m ∷ ms) = part_count (counted t m) ms ∙ ap (λ n. counts b n ms) (counts_mark t m)
+
 nodes_count : (t : Tally) (ms : List Mark) → (tallied t ms).nodes ≡ counts is_node t.nodes ms
-unfolding counts
-nodes_count t [] = refl
-nodes_count t (node ∷ ms) = nodes_count (counted t node) ms
-nodes_count t (local ∷ ms) = nodes_count (counted t local) ms
-nodes_count t (text ∷ ms) = nodes_count (counted t text) ms
-nodes_count t (function ∷ ms) = nodes_count (counted t function) ms
-nodes_count t (static ∷ ms) = nodes_count (counted t static) ms
+nodes_count = part_count is_node (λ t. t.nodes) (λ t m. elim m as (λ m. (counted t m).nodes ≡ cond (is_node m) (raised t.nodes) t.nodes) [ node ↦ refl | local ↦ refl | text ↦ refl | function ↦ refl | static ↦ refl ])
 
 locals_count : (t : Tally) (ms : List Mark) → (tallied t ms).locals ≡ counts is_local t.locals ms
-unfolding counts
-locals_count t [] = refl
-locals_count t (node ∷ ms) = locals_count (counted t node) ms
-locals_count t (local ∷ ms) = locals_count (counted t local) ms
-locals_count t (text ∷ ms) = locals_count (counted t text) ms
-locals_count t (function ∷ ms) = locals_count (counted t function) ms
-locals_count t (static ∷ ms) = locals_count (counted t static) ms
+locals_count = part_count is_local (λ t. t.locals) (λ t m. elim m as (λ m. (counted t m).locals ≡ cond (is_local m) (raised t.locals) t.locals) [ node ↦ refl | local ↦ refl | text ↦ refl | function ↦ refl | static ↦ refl ])
 
 texts_count : (t : Tally) (ms : List Mark) → (tallied t ms).texts ≡ counts is_text t.texts ms
-unfolding counts
-texts_count t [] = refl
-texts_count t (node ∷ ms) = texts_count (counted t node) ms
-texts_count t (local ∷ ms) = texts_count (counted t local) ms
-texts_count t (text ∷ ms) = texts_count (counted t text) ms
-texts_count t (function ∷ ms) = texts_count (counted t function) ms
-texts_count t (static ∷ ms) = texts_count (counted t static) ms
+texts_count = part_count is_text (λ t. t.texts) (λ t m. elim m as (λ m. (counted t m).texts ≡ cond (is_text m) (raised t.texts) t.texts) [ node ↦ refl | local ↦ refl | text ↦ refl | function ↦ refl | static ↦ refl ])
 
 functions_count : (t : Tally) (ms : List Mark) → (tallied t ms).functions ≡ counts is_function t.functions ms
-unfolding counts
-functions_count t [] = refl
-functions_count t (node ∷ ms) = functions_count (counted t node) ms
-functions_count t (local ∷ ms) = functions_count (counted t local) ms
-functions_count t (text ∷ ms) = functions_count (counted t text) ms
-functions_count t (function ∷ ms) = functions_count (counted t function) ms
-functions_count t (static ∷ ms) = functions_count (counted t static) ms
+functions_count = part_count is_function (λ t. t.functions) (λ t m. elim m as (λ m. (counted t m).functions ≡ cond (is_function m) (raised t.functions) t.functions) [ node ↦ refl | local ↦ refl | text ↦ refl | function ↦ refl | static ↦ refl ])
 
 statics_count : (t : Tally) (ms : List Mark) → (tallied t ms).statics ≡ counts is_static t.statics ms
-unfolding counts
-statics_count t [] = refl
-statics_count t (node ∷ ms) = statics_count (counted t node) ms
-statics_count t (local ∷ ms) = statics_count (counted t local) ms
-statics_count t (text ∷ ms) = statics_count (counted t text) ms
-statics_count t (function ∷ ms) = statics_count (counted t function) ms
-statics_count t (static ∷ ms) = statics_count (counted t static) ms
+statics_count = part_count is_static (λ t. t.statics) (λ t m. elim m as (λ m. (counted t m).statics ≡ cond (is_static m) (raised t.statics) t.statics) [ node ↦ refl | local ↦ refl | text ↦ refl | function ↦ refl | static ↦ refl ])
 
 -- a count that stands still is over a small limit just where the number is
 same_over : (limit n code : ℕ) (pos : Pos) → limit < 2 ^ 32 - 1 → over limit (min n (2 ^ 32 - 1)) code pos ≡ over limit n code pos

@@ -12,3 +12,4 @@ pub mod Spelled
 pub mod Tally
 pub mod Same
 pub mod Placeless
+pub mod Trees

@@ -9,7 +9,7 @@ use Rattle.ckc_syntax.specs.declared.tree.Expr.{Expr-F, fold-Expr, roll-Expr}
 use Rattle.ckc_syntax.specs.declared.tree.Init.TheVariants as init
 use Rattle.ckc_syntax.specs.declared.tree.Length.{Length}
 use Rattle.ckc_syntax.specs.declared.tree.Length.TheVariants as len
-use Rattle.ckc_syntax.specs.Same.{Spelling, TypeTree, Limits, Node, Expr, Init, Decl, Head}
+use Rattle.ckc_syntax.specs.Trees.{Spelling, TypeTree, Limits, Node, Expr, Init, Decl, Head}
 
 abbrev pub type_at_start : TypeTree-F Spelling TypeTree → TypeTree-F Spelling TypeTree
 type_at_start (TypeTree-F.Struct s pos) = TypeTree-F.Struct s start

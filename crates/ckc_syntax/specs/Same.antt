@@ -13,37 +13,7 @@ use Rattle.ckc_syntax.specs.declared.tree.TypeTree.{TypeTree-F, fold-TypeTree, o
 use Rattle.ckc_syntax.specs.declared.tree.Limits.{Limits-F, fold-Limits, out-Limits}
 use Rattle.ckc_syntax.specs.declared.tree.Node.{Node-F, fold-Node, out-Node}
 use Rattle.ckc_syntax.specs.declared.tree.Expr.{Expr-F, fold-Expr, out-Expr}
-use Rattle.ckc_syntax.specs.declared.tree.TypeTree as types
-use Rattle.ckc_syntax.specs.declared.tree.Limits as limits
-use Rattle.ckc_syntax.specs.declared.tree.Node as nodes
-use Rattle.ckc_syntax.specs.declared.tree.Expr as exprs
-use Rattle.ckc_syntax.specs.declared.tree.Init as inits
-use Rattle.ckc_syntax.specs.declared.tree.Decl as decls
-use Rattle.ckc_syntax.specs.declared.tree.Head as heads
-
-abbrev pub Spelling : Type 0
-Spelling = List ℕ
-
-abbrev pub TypeTree : Type 0
-TypeTree = types.TypeTree Spelling
-
-abbrev pub Limits : Type 0
-Limits = limits.Limits Spelling (Unit {0})
-
-abbrev pub Node : Type 0
-Node = nodes.Node Spelling (Unit {0})
-
-abbrev pub Expr : Type 0
-Expr = exprs.Expr Spelling (Unit {0})
-
-abbrev pub Init : Type 0
-Init = inits.Init Spelling (Unit {0})
-
-abbrev pub Decl : Type 0
-Decl = decls.Decl Spelling (Unit {0})
-
-abbrev pub Head : Type 0
-Head = heads.Head Spelling (Unit {0})
+use Rattle.ckc_syntax.specs.Trees.{Spelling, TypeTree, Limits, Node, Expr, Init, Decl, Head}
 
 -- lists of one length whose parts pass in pairs, each by the test of the first
 abbrev pub pass_all : {A : Type 0} → List (A → Bool) → List A → Bool

@@ -1,5 +1,6 @@
 ghost use Rattle.std.specs.Prelude.{◌≡◌, ◌↔◌, IsTrue};
-ghost use Rattle.ckc_syntax.specs.Same.{Head, same_head};
+ghost use Rattle.ckc_syntax.specs.Same.{same_head};
+ghost use Rattle.ckc_syntax.specs.Trees.{Head};
 ghost use Rattle.ckc_syntax.specs.Placeless.{placeless_head};
 
 /// Heads are the same but for their places just where they are equal without them.

@@ -1,6 +1,5 @@
-use Rattle.std.proofs.lemmas.Result.{err_from_is_err_and}
 use Rattle.ckc_resolve.specs.Expressions.{expr_named, exprs_named}
-use Rattle.ckc_resolve.proofs.Turns.{begin, stops, turn_fault, turn_done, turn_end}
+use Rattle.ckc_syntax.proofs.Turns.{begin, turn_stops, turn_done, turn_end}
 use Rattle.ckc_resolve.proofs.expressions.+expr.Goals as goal
 
 pub named_exprs-loop-e-init : goal.named_exprs-loop-e-init
@@ -8,10 +7,7 @@ named_exprs-loop-e-init t c = begin (exprs_named c.args.names.now c.args.scopes.
 
 pub named_exprs-returns-in_err-named : goal.named_exprs-returns-in_err-named
 named_exprs-returns-in_err-named t c =
-    let f = expr_named c.args.names.now c.args.scopes.now in
-    let p = err_from_is_err_and c.from_residual.result c.from_residual.ensures.1 in
-    stops (f c.e-item.result) (exprs_named c.args.names.now c.args.scopes.now c.args.es.now) c.from_residual.result p.0 c.in_err-named.field-0.0 p.1 p.2 c.in_err-named.ensures
-    (turn_fault f c.args.es.now c.loop-e.e-index _ _ c.loop-e.invariant c.e-item.result c.loop-e-test.true c.e-item.is)
+    turn_stops (expr_named c.args.names.now c.args.scopes.now) c.args.es.now c.loop-e.e-index _ _ c.loop-e.invariant c.e-item.result c.loop-e-test.true c.e-item.is c.from_residual.result c.in_err-named.field-0.0 c.from_residual.ensures.1 c.in_err-named.ensures
 
 pub named_exprs-loop-e-preserved : goal.named_exprs-loop-e-preserved
 named_exprs-loop-e-preserved t c =

@@ -1,6 +1,5 @@
-use Rattle.std.proofs.lemmas.Result.{err_from_is_err_and}
 use Rattle.ckc_resolve.specs.Heads.{param_named, params_named}
-use Rattle.ckc_resolve.proofs.Sequels.{begin, stops, turn_fault, turn_done, turn_end}
+use Rattle.ckc_syntax.proofs.Sequels.{begin, turn_stops, turn_done, turn_end}
 use Rattle.ckc_resolve.proofs.heads.named_params.Goals as goal
 
 pub loop-decl-init : goal.loop-decl-init
@@ -8,10 +7,7 @@ loop-decl-init c = begin (params_named c.args.names.now c.args.all.now c.args.de
 
 pub returns-in_err-named : goal.returns-in_err-named
 returns-in_err-named c =
-    let f = param_named c.args.names.now c.args.all.now in
-    let p = err_from_is_err_and c.from_residual.result c.from_residual.ensures.1 in
-    stops (f c.decl-item.result c.loop-decl.before) _ (params_named c.args.names.now c.args.all.now c.args.decls.now c.args.before.now) _ c.from_residual.result p.0 c.in_err-named.field-0.0 p.1 p.2 c.in_err-named.ensures
-    (turn_fault f c.args.decls.now c.loop-decl.decl-index c.loop-decl.before _ _ c.loop-decl.invariant c.decl-item.result c.loop-decl-test.true c.decl-item.is)
+    turn_stops (param_named c.args.names.now c.args.all.now) c.args.decls.now c.loop-decl.decl-index c.loop-decl.before _ _ c.loop-decl.invariant c.decl-item.result c.loop-decl-test.true c.decl-item.is _ _ c.from_residual.result c.in_err-named.field-0.0 c.from_residual.ensures.1 c.in_err-named.ensures
 
 pub loop-decl-preserved : goal.loop-decl-preserved
 loop-decl-preserved c =

@@ -1,6 +1,5 @@
-use Rattle.std.proofs.lemmas.Result.{err_from_is_err_and}
 use Rattle.ckc_resolve.specs.Items.{item_in_turn, items_named}
-use Rattle.ckc_resolve.proofs.Sequels.{begin, stops, turn_fault, turn_done, turn_end}
+use Rattle.ckc_syntax.proofs.Sequels.{begin, turn_stops, turn_done, turn_end}
 use Rattle.ckc_resolve.proofs.items.items_in_turn.Goals as goal
 
 pub loop-item-init : goal.loop-item-init
@@ -8,10 +7,7 @@ loop-item-init c = begin (items_named c.args.names.now c.args.items.now c.args.i
 
 pub returns-in_err-named : goal.returns-in_err-named
 returns-in_err-named c =
-    let f = item_in_turn c.args.names.now c.args.items.now in
-    let p = err_from_is_err_and c.from_residual.result c.from_residual.ensures.1 in
-    stops (f c.item-item.result c.loop-item.before) _ (items_named c.args.names.now c.args.items.now c.args.items.now c.args.before.now) _ c.from_residual.result p.0 c.in_err-named.field-0.0 p.1 p.2 c.in_err-named.ensures
-    (turn_fault f c.args.items.now c.loop-item.item-index c.loop-item.before _ _ c.loop-item.invariant c.item-item.result c.loop-item-test.true c.item-item.is)
+    turn_stops (item_in_turn c.args.names.now c.args.items.now) c.args.items.now c.loop-item.item-index c.loop-item.before _ _ c.loop-item.invariant c.item-item.result c.loop-item-test.true c.item-item.is _ _ c.from_residual.result c.in_err-named.field-0.0 c.from_residual.ensures.1 c.in_err-named.ensures
 
 pub loop-item-preserved : goal.loop-item-preserved
 loop-item-preserved c =

@@ -1,6 +1,7 @@
 -- Loops that judge the parts of a list in turn.
 use Rattle.std.proofs.Common.{◌≡◌, ◌<◌, ◌≤◌, ℕ, suc, ◌+◌, List, [], ◌∷◌, ◌++◌, length, map, drop, get_or, drop-cons, add-one, refl, sym, ap, ◌∙◌, subst, append_assoc, append-nil}
-use Rattle.std.specs.Prelude.{Result, Ok, Err}
+use Rattle.std.specs.Prelude.{Result, Ok, Err, IsErrAnd}
+use Rattle.std.proofs.lemmas.Result.{err_from_is_err_and}
 use Rattle.std.proofs.lemmas.List.{drop_all}
 use Rattle.ckc_base.specs.declared.places.Refusal.{Refusal}
 use Rattle.ckc_base.specs.declared.fault.Fault.{Fault}
@@ -36,6 +37,10 @@ module _ {X A : Type 0} (f : X → Outcome A) (xs : List X) (i : ℕ) where
   module _ (whole : Outcome (List A)) (done : List A) (kept : whole ≡ ahead done (judged f xs i)) where
     pub turn_fault : (x : X) → i < length xs → x ≡ get_or xs i x → (r : Refusal) → f x ≡ Err r → whole ≡ Err r
     turn_fault x h e r q = kept ∙ ap (ahead done) (turn x h e ∙ ap (λ o. bind o (λ a. bind (judged f xs (i + 1)) (λ rest. Ok (a ∷ rest)))) q)
+
+    pub turn_stops : (x : X) → i < length xs → x ≡ get_or xs i x → (r : Result (List A) Fault) (y : Fault) → IsErrAnd r (λ z. z ≡ y) → AnswersOutcome {A = A} (Err y) (f x) → AnswersOutcome r whole
+    turn_stops x h e r y is a =
+        let p = err_from_is_err_and r is in stops (f x) whole r p.0 y p.1 p.2 a (turn_fault x h e)
 
     pub turn_done : (x : X) (a : A) (more : List A) → i < length xs → x ≡ get_or xs i x → f x ≡ Ok a → more ≡ done ++ a ∷ [] → whole ≡ ahead more (judged f xs (i + 1))
     turn_done x a more h e q m =

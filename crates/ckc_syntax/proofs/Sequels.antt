@@ -1,6 +1,7 @@
 -- Loops that judge the parts of a list in turn, each by what the ones before it leave.
 use Rattle.std.proofs.Common.{◌≡◌, ◌<◌, ◌≤◌, ℕ, suc, ◌+◌, List, [], ◌∷◌, ◌++◌, length, map, drop, get_or, drop-cons, add-one, refl, sym, ap, ◌∙◌, subst, append_assoc, append-nil}
-use Rattle.std.specs.Prelude.{Result, Ok, Err}
+use Rattle.std.specs.Prelude.{Result, Ok, Err, IsErrAnd}
+use Rattle.std.proofs.lemmas.Result.{err_from_is_err_and}
 use Rattle.std.proofs.lemmas.List.{drop_all}
 use Rattle.ckc_base.specs.declared.places.Refusal.{Refusal}
 use Rattle.ckc_base.specs.declared.fault.Fault.{Fault}
@@ -42,6 +43,10 @@ module _ {X A S : Type 0} (f : X → S → Outcome (A × S)) (xs : List X) (i : 
   module _ (whole : Outcome (List A × S)) (done : List A) (kept : whole ≡ behind done (left f xs i s)) where
     pub turn_fault : (x : X) → i < length xs → x ≡ get_or xs i x → (r : Refusal) → f x s ≡ Err r → whole ≡ Err r
     turn_fault x h e r q = kept ∙ ap (behind done) (turn x h e ∙ ap (λ o. bind o rest_behind) q)
+
+    pub turn_stops : (x : X) → i < length xs → x ≡ get_or xs i x → (now new : S) (r : Result (List A) Fault) (y : Fault) → IsErrAnd r (λ z. z ≡ y) → StepsOutcome {A = A} (Err y) now (f x s) → StepsOutcome r new whole
+    turn_stops x h e now new r y is a =
+        let p = err_from_is_err_and r is in stops (f x s) now whole new r p.0 y p.1 p.2 a (turn_fault x h e)
 
     pub turn_done : (x : X) (a : A) (t : S) (more : List A) → i < length xs → x ≡ get_or xs i x → f x s ≡ Ok (a, t) → more ≡ done ++ a ∷ [] → whole ≡ behind more (left f xs (i + 1) t)
     turn_done x a t more h e q m =
