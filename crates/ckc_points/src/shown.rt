@@ -2,7 +2,8 @@
 
 ghost use Rattle.std.specs.Prelude.{◌≡◌, ◌+◌, ◌<◌, ◌^◌, IfOk};
 ghost use Rattle.ckc_linear.specs.Facts.{IsWithin};
-ghost use Rattle.ckc_points.specs.Shown.{known, is_within, reaches, is_shown};
+ghost use Rattle.ckc_points.specs.Shown.{known, is_within, reaches, is_shown, is_shown_by};
+ghost use Rattle.std.specs.List.{list_any};
 
 use ckc_linear::{Fact, Facts, entails};
 use std::alloc::{AllocError, Global};
@@ -21,13 +22,29 @@ pub fn is_shown(alloc: Global, facts: &Facts, f: Fact) -> Result<bool, AllocErro
     ensures { IfOk result (λ b. b ≡ is_shown (known facts.now) f) }
 {
     if f.x < facts.vars && f.y < facts.vars && is_within(1 << 50, f.c) {
-        // The empty chain needs no search.
+        // The empty chain and a single fact need no search.
         if f.x == f.y && f.c >= 0 {
+            return Ok(true);
+        }
+        if stands(facts, f) {
             return Ok(true);
         }
         return reaches(alloc, facts, f);
     }
     Ok(false)
+}
+
+/// Whether a fact stands among others, with its number or a smaller one.
+fn stands(facts: &Facts, f: Fact) -> bool
+    ensures { result ≡ list_any (is_shown_by f) facts.now.list }
+{
+    facts.list.as_slice().iter().any(|g| is_shown_by(f, *g))
+}
+
+fn is_shown_by(f: Fact, g: Fact) -> bool
+    ensures { result ≡ is_shown_by f g }
+{
+    g.x == f.x && g.y == f.y && g.c <= f.c
 }
 
 fn reaches(alloc: Global, facts: &Facts, f: Fact) -> Result<bool, AllocError>

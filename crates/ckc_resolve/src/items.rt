@@ -2,9 +2,8 @@
 
 ghost use Rattle.std.specs.Prelude.{◌≡◌, Ok};
 ghost use Rattle.std.specs.List.{list_any};
-ghost use Rattle.ckc_resolve.specs.Bodies.{has_body, bodies_from, defines_at};
 ghost use Rattle.ckc_base.specs.Outcomes.{AnswersOutcome, StepsOutcome};
-ghost use Rattle.ckc_resolve.specs.Items.{name_of_tag, is_taken_static, is_taken_function, defines, if_defined, structure_named, static_named, proto_named, function_named, item_named, item_in_turn, items_named, all_named};
+ghost use Rattle.ckc_resolve.specs.Items.{name_of_tag, is_taken_static, is_taken_function, defines, defines_at, if_defined, structure_named, static_named, proto_named, function_named, item_named, item_in_turn, items_named, all_named};
 
 use crate::bodies::named_body;
 use crate::declarations::named_decl;
@@ -14,7 +13,7 @@ use crate::refusals::{DECLARED_TWICE, UNDEFINED};
 use crate::scopes::{Scopes, is_reserved};
 use ckc_base::{Boxed, Fault, Pos, Seq, refused};
 use ckc_syntax::{Decl, Head, Item, Name, Spelling, Stmt, same_head};
-use std::alloc::Global;
+use std::alloc::{AllocError, Global};
 
 fn name_of_tag<'a>(names: &Names<'a>, s: &Spelling<'a>) -> Name
     ensures { result ≡ name_of_tag names.now s.now }
@@ -45,27 +44,31 @@ fn defines<'a>(head: &Head<Spelling<'a>, ()>, item: &Item<Spelling<'a>, ()>) -> 
     }
 }
 
-fn has_body<'a>(item: &Item<Spelling<'a>, ()>) -> bool
-    ensures { result ≡ has_body item.now }
-{
-    match item {
-        Item::Function(_, _) => true,
-        Item::Directive(_) | Item::Tag(_, _) | Item::Struct(_, _, _) => false,
-        Item::Static(_) | Item::Proto(_) => false,
-    }
-}
-
-/// The places of the functions with a body. They are few, so a prototype is compared with few.
-fn bodies_of<'a>(alloc: Global, items: &[Item<Spelling<'a>, ()>]) -> Result<Seq<usize>, Fault>
-    ensures { AnswersOutcome result (Ok (bodies_from 0 items.now)) }
-{
-    let mut places = Seq::new(alloc);
+/// For each function, by its number, the place of an item with its body, or 0 where it has none. It is a first guess, on
+/// which no answer depends: without it each prototype would walk through all items.
+fn guesses<'a>(
+    alloc: Global,
+    names: &Names<'a>,
+    items: &[Item<Spelling<'a>, ()>],
+) -> Result<Vec<usize>, AllocError> {
+    let mut places = vec![in alloc; 0usize; names.functions.len()]?;
     for place in 0..items.len() {
-        if has_body(&items[place]) {
-            places.push(place)?;
+        if let Item::Function(head, _) = &items[place] {
+            let number = names.functions.number(&head.get().name) as usize;
+            if number < places.len() {
+                places[number] = place;
+            }
         }
     }
     Ok(places)
+}
+
+/// The guess for a name.
+fn guess<'a>(names: &Names<'a>, guesses: &[usize], s: &Spelling<'a>) -> usize {
+    match guesses.get(names.functions.number(s) as usize) {
+        Some(place) => *place,
+        None => 0,
+    }
 }
 
 fn defines_at<'a>(
@@ -81,16 +84,22 @@ fn defines_at<'a>(
     }
 }
 
+/// Whether a function with a body has the head. The place that is guessed is tried first.
 fn is_defined<'a>(
     all: &[Item<Spelling<'a>, ()>],
-    bodies: &[usize],
+    guess: usize,
     head: &Head<Spelling<'a>, ()>,
 ) -> bool
-    requires { bodies.now ≡ bodies_from 0 all.now }
     ensures { result ≡ list_any (defines head.now) all.now }
 {
-    for place in bodies {
-        if defines_at(all, head, *place) {
+    defines_at(all, head, guess) || has_definition(all, head)
+}
+
+fn has_definition<'a>(all: &[Item<Spelling<'a>, ()>], head: &Head<Spelling<'a>, ()>) -> bool
+    ensures { result ≡ list_any (defines head.now) all.now }
+{
+    for item in all {
+        if defines(head, item) {
             return true;
         }
     }
@@ -99,14 +108,13 @@ fn is_defined<'a>(
 
 fn defined_proto<'a>(
     all: &[Item<Spelling<'a>, ()>],
-    bodies: &[usize],
+    guess: usize,
     head: &Head<Spelling<'a>, ()>,
     named: Boxed<Head<Name, ()>>,
 ) -> Result<Item<Name, ()>, Fault>
-    requires { bodies.now ≡ bodies_from 0 all.now }
     ensures { AnswersOutcome result (if_defined all.now head.now (Item.Proto named)) }
 {
-    if !is_defined(all, bodies, head) {
+    if !is_defined(all, guess, head) {
         return Err(refused(UNDEFINED, head.pos));
     }
     Ok(Item::Proto(named))
@@ -152,11 +160,10 @@ fn named_proto<'a>(
     alloc: Global,
     names: &Names<'a>,
     all: &[Item<Spelling<'a>, ()>],
-    bodies: &[usize],
+    guesses: &[usize],
     before: &Names<'a>,
     head: &Head<Spelling<'a>, ()>,
 ) -> Result<Item<Name, ()>, Fault>
-    requires { bodies.now ≡ bodies_from 0 all.now }
     ensures { AnswersOutcome result (proto_named names.now all.now before.now head.now) }
 {
     let mut body = Scopes::new(alloc);
@@ -165,7 +172,7 @@ fn named_proto<'a>(
     if is_taken_function(before, &head.name) {
         return Err(refused(DECLARED_TWICE, head.pos));
     }
-    defined_proto(all, bodies, head, boxed)
+    defined_proto(all, guess(names, guesses, &head.name), head, boxed)
 }
 
 fn named_function<'a>(
@@ -191,11 +198,10 @@ fn named_item<'a>(
     alloc: Global,
     names: &Names<'a>,
     all: &[Item<Spelling<'a>, ()>],
-    bodies: &[usize],
+    guesses: &[usize],
     before: &Names<'a>,
     item: &Item<Spelling<'a>, ()>,
 ) -> Result<Item<Name, ()>, Fault>
-    requires { bodies.now ≡ bodies_from 0 all.now }
     ensures { AnswersOutcome result (item_named names.now all.now before.now item.now) }
 {
     match item {
@@ -205,7 +211,7 @@ fn named_item<'a>(
             named_structure(alloc, names, before, s, members.as_slice(), *pos)
         }
         Item::Static(decl) => named_static(alloc, names, before, decl.get()),
-        Item::Proto(head) => named_proto(alloc, names, all, bodies, before, head.get()),
+        Item::Proto(head) => named_proto(alloc, names, all, guesses, before, head.get()),
         Item::Function(head, body) => {
             named_function(alloc, names, before, head.get(), body.get())
         }
@@ -216,14 +222,13 @@ fn item_in_turn<'a>(
     alloc: Global,
     names: &Names<'a>,
     all: &[Item<Spelling<'a>, ()>],
-    bodies: &[usize],
+    guesses: &[usize],
     before: &mut Names<'a>,
     item: &Item<Spelling<'a>, ()>,
 ) -> Result<Item<Name, ()>, Fault>
-    requires { bodies.now ≡ bodies_from 0 all.now }
     ensures { StepsOutcome result before.new (item_in_turn names.now all.now item.now before.old) }
 {
-    let named = named_item(alloc, names, all, bodies, before, item)?;
+    let named = named_item(alloc, names, all, guesses, before, item)?;
     before.note(item)?;
     Ok(named)
 }
@@ -236,26 +241,25 @@ pub fn named_items<'a>(
 ) -> Result<Seq<Item<Name, ()>>, Fault>
     ensures { AnswersOutcome result (all_named names.now items.now) }
 {
-    let bodies = bodies_of(alloc, items)?;
+    let places = guesses(alloc, names, items)?;
     let mut before = Names::new(alloc);
-    let named = items_in_turn(alloc, names, bodies.as_slice(), &mut before, items)?;
+    let named = items_in_turn(alloc, names, places.as_slice(), &mut before, items)?;
     Ok(named)
 }
 
 fn items_in_turn<'a>(
     alloc: Global,
     names: &Names<'a>,
-    bodies: &[usize],
+    guesses: &[usize],
     before: &mut Names<'a>,
     items: &[Item<Spelling<'a>, ()>],
 ) -> Result<Seq<Item<Name, ()>>, Fault>
-    requires { bodies.now ≡ bodies_from 0 items.now }
     ensures { StepsOutcome result before.new
         (items_named names.now items.now items.now before.old) }
 {
     let mut out = Seq::new(alloc);
     for item in items {
-        let named = item_in_turn(alloc, names, items, bodies, before, item)?;
+        let named = item_in_turn(alloc, names, items, guesses, before, item)?;
         out.push(named)?;
     }
     Ok(out)

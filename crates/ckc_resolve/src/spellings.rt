@@ -1,4 +1,4 @@
-ghost use Rattle.std.specs.Prelude.{◌≡◌, [], OnOk, Ok};
+ghost use Rattle.std.specs.Prelude.{◌≡◌, [], length, OnOk, Ok};
 ghost use Rattle.ckc_base.specs.Outcomes.{AnswersOutcome};
 ghost use Rattle.ckc_resolve.specs.Spellings.{is_among, with_spelling, place_of, number_of};
 
@@ -57,6 +57,13 @@ impl<'a> Spellings<'a> {
         }
         self.set.insert(s.as_str())?;
         Ok(())
+    }
+
+    /// How many spellings there are.
+    pub fn len(&self) -> usize
+        ensures { result ≡ length self.now }
+    {
+        self.set.len()
     }
 
     /// Whether a spelling is there.
