@@ -25,27 +25,11 @@ greatest_same bare f g each (x ∷ xs) = ap (λ z. max z (greatest (map f (map b
 module _ {N A : Type 0} where
   limits_agree : (x : Limits-F N A ℕ ℕ ℕ) → limits_depth (limits_noteless x) ≡ limits_depth x
   limits_agree (Limits-F.Count e at) = refl
-  limits_agree (Limits-F.ByteCount e at) = refl
-  limits_agree (Limits-F.Between e f at) = refl
-  limits_agree (Limits-F.Unknown at) = refl
+  limits_agree _ = refl
 
   nodes_agree : (x : Node-F N A ℕ ℕ ℕ) → node_depth (node_noteless x) ≡ node_depth x
   nodes_agree (Node-F.Number n u) = refl
-  nodes_agree (Node-F.Text s) = refl
-  nodes_agree Node-F.Null = refl
-  nodes_agree (Node-F.Name n) = refl
-  nodes_agree (Node-F.Un o e) = refl
-  nodes_agree (Node-F.Bin o e f) = refl
-  nodes_agree (Node-F.Pick e f g) = refl
-  nodes_agree (Node-F.Index e f) = refl
-  nodes_agree (Node-F.Dot e n at) = refl
-  nodes_agree (Node-F.Arrow e n at) = refl
-  nodes_agree (Node-F.Cast t e) = refl
-  nodes_agree (Node-F.Size t) = refl
-  nodes_agree (Node-F.Trusted t e l) = refl
-  nodes_agree (Node-F.Tested t e l) = refl
-  nodes_agree (Node-F.Call n es) = refl
-  nodes_agree (Node-F.Calloc t e u) = refl
+  nodes_agree _ = refl
 
   pub of_limits : (l : Limits N A) → depth_of_limits (bare_limits l) ≡ depth_of_limits l
   of_limits = limits_folds N A ℕ ℕ ℕ limits_depth node_depth expr_depth limits_depth node_depth expr_depth limits_agree nodes_agree (λ x. refl)

@@ -42,27 +42,11 @@ bare_out d = search (rules, the_lemmas)
 module _ {N A : Type 0} where
   limits_agree : (x : Limits-F N A Bool Bool Bool) → limits_callless (limits_noteless x) ≡ limits_callless x
   limits_agree (Limits-F.Count e at) = refl
-  limits_agree (Limits-F.ByteCount e at) = refl
-  limits_agree (Limits-F.Between e f at) = refl
-  limits_agree (Limits-F.Unknown at) = refl
+  limits_agree _ = refl
 
   nodes_agree : (x : Node-F N A Bool Bool Bool) → node_callless (node_noteless x) ≡ node_callless x
   nodes_agree (Node-F.Number n u) = refl
-  nodes_agree (Node-F.Text s) = refl
-  nodes_agree Node-F.Null = refl
-  nodes_agree (Node-F.Name n) = refl
-  nodes_agree (Node-F.Un o e) = refl
-  nodes_agree (Node-F.Bin o e f) = refl
-  nodes_agree (Node-F.Pick e f g) = refl
-  nodes_agree (Node-F.Index e f) = refl
-  nodes_agree (Node-F.Dot e n at) = refl
-  nodes_agree (Node-F.Arrow e n at) = refl
-  nodes_agree (Node-F.Cast t e) = refl
-  nodes_agree (Node-F.Size t) = refl
-  nodes_agree (Node-F.Trusted t e l) = refl
-  nodes_agree (Node-F.Tested t e l) = refl
-  nodes_agree (Node-F.Call n es) = refl
-  nodes_agree (Node-F.Calloc t e u) = refl
+  nodes_agree _ = refl
 
   of_limits : (l : Limits N A) → callless_limits (bare_limits l) ≡ callless_limits l
   of_limits = limits_folds N A Bool Bool Bool limits_callless node_callless expr_callless limits_callless node_callless expr_callless limits_agree nodes_agree (λ x. refl)
@@ -79,22 +63,9 @@ module _ {N A : Type 0} where
   of_value (Some e) = of_expr e
 
   form_same : (d : Node-F N A (Limits N A) (Node N A) (Expr N A)) → call_form (bared_node N A d) ≡ call_form d
-  form_same (Node-F.Number n u) = refl
-  form_same (Node-F.Text s) = refl
-  form_same Node-F.Null = refl
-  form_same (Node-F.Name n) = refl
-  form_same (Node-F.Un o e) = refl
-  form_same (Node-F.Bin o e f) = refl
-  form_same (Node-F.Pick e f g) = refl
-  form_same (Node-F.Index e f) = refl
-  form_same (Node-F.Dot e n at) = refl
-  form_same (Node-F.Arrow e n at) = refl
-  form_same (Node-F.Cast t e) = refl
-  form_same (Node-F.Size t) = refl
-  form_same (Node-F.Trusted t e l) = refl
-  form_same (Node-F.Tested t e l) = refl
   form_same (Node-F.Call n es) = all_same bare_expr callless_expr callless_expr of_expr es
   form_same (Node-F.Calloc t e u) = of_expr e
+  form_same _ = refl
 
   node_back : (n : Node N A) → roll-Node N A (out-Node N A n) ≡ n
   node_back n = search (rules, the_lemmas)

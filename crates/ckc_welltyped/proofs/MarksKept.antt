@@ -27,27 +27,11 @@ joined_same bare f g each (x ∷ xs) = ap (λ z. z ++ flat_map f (map bare xs)) 
 module _ {N A : Type 0} where
   limits_agree : (x : Limits-F N A (List Mark) (List Mark) (List Mark)) → limits_marks (limits_noteless x) ≡ limits_marks x
   limits_agree (Limits-F.Count e at) = refl
-  limits_agree (Limits-F.ByteCount e at) = refl
-  limits_agree (Limits-F.Between e f at) = refl
-  limits_agree (Limits-F.Unknown at) = refl
+  limits_agree _ = refl
 
   nodes_agree : (x : Node-F N A (List Mark) (List Mark) (List Mark)) → node_marks (node_noteless x) ≡ node_marks x
   nodes_agree (Node-F.Number n u) = refl
-  nodes_agree (Node-F.Text s) = refl
-  nodes_agree Node-F.Null = refl
-  nodes_agree (Node-F.Name n) = refl
-  nodes_agree (Node-F.Un o e) = refl
-  nodes_agree (Node-F.Bin o e f) = refl
-  nodes_agree (Node-F.Pick e f g) = refl
-  nodes_agree (Node-F.Index e f) = refl
-  nodes_agree (Node-F.Dot e n at) = refl
-  nodes_agree (Node-F.Arrow e n at) = refl
-  nodes_agree (Node-F.Cast t e) = refl
-  nodes_agree (Node-F.Size t) = refl
-  nodes_agree (Node-F.Trusted t e l) = refl
-  nodes_agree (Node-F.Tested t e l) = refl
-  nodes_agree (Node-F.Call n es) = refl
-  nodes_agree (Node-F.Calloc t e u) = refl
+  nodes_agree _ = refl
 
   pub of_limits : (l : Limits N A) → marks_of_limits (bare_limits l) ≡ marks_of_limits l
   of_limits = limits_folds N A (List Mark) (List Mark) (List Mark) limits_marks node_marks expr_marks limits_marks node_marks expr_marks limits_agree nodes_agree (λ x. refl)

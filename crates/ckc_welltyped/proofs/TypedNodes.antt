@@ -9,10 +9,12 @@ use Rattle.ckc_types.specs.declared.types.CType.{CType}
 use Rattle.ckc_types.specs.declared.types.CType.TheVariants as ctype
 use Rattle.ckc_types.specs.declared.types.Kind.TheVariants as kind
 use Rattle.ckc_syntax.specs.declared.tree.Name.{Name}
-use Rattle.ckc_syntax.specs.declared.tree.Limits.{Limits-F, map-Limits, ind-Limits, roll-Limits, fold-roll-Limits}
-use Rattle.ckc_syntax.specs.declared.tree.Node.{Node-F, map-Node, out-Node, roll-Node, fold-roll-Node}
+use Rattle.ckc_syntax.specs.declared.tree.Limits.{Limits-F, roll-Limits}
+use Rattle.ckc_syntax.specs.declared.tree.Node.{Node-F, out-Node, roll-Node}
 use Rattle.ckc_syntax.specs.declared.tree.Node.TheVariants as node
-use Rattle.ckc_syntax.specs.declared.tree.Expr.{Expr-F, map-Expr, ind-Expr, roll-Expr, fold-roll-Expr}
+use Rattle.ckc_syntax.specs.declared.tree.Expr.{roll-Expr}
+use Rattle.ckc_syntax.proofs.Layers as kept
+use Rattle.ckc_syntax.proofs.Layers.{Steps, Property, inner_limits, inner_node, inner_expr, limits_made, node_made, expr_made, each_limits, each_expr}
 use Rattle.ckc_typed.specs.declared.environment.Globals.{Globals}
 use Rattle.ckc_typed.specs.declared.environment.Variable.{Variable}
 use Rattle.ckc_typed.specs.declared.typed.Note.{Note}
@@ -40,41 +42,21 @@ module _ (globals : Globals) (variables : List Variable) (mode : Mode) where
   abbrev GivesExpr : NotedExpr → Expr → Type 0
   GivesExpr a e = (bare_expr a ≡ e) × WellTypedExpr globals variables mode a
 
-  abbrev LimitsGive : Limits → Type 0
-  LimitsGive l = (k : NotedLimits) → limits_typed globals variables mode l ≡ Ok k → GivesLimits k l
+  abbrev typing : Steps Name (Unit {0}) OfLimits OfNode OfExpr
+  typing = record { limits = limits_parts; node = node_parts globals variables mode; expr = expr_parts }
 
-  abbrev NodeGives : Node → Type 0
-  NodeGives n = (at : Pos) (a : NotedExpr) → node_typed globals variables mode n at ≡ Ok a → GivesNode a n at
-
-  abbrev ExprGives : Expr → Type 0
-  ExprGives e = (a : NotedExpr) → expr_typed globals variables mode e ≡ Ok a → GivesExpr a e
+  abbrev gives : Property Name (Unit {0}) OfLimits OfNode OfExpr
+  gives = record {
+    limits = λ l o. (k : NotedLimits) → o ≡ Ok k → GivesLimits k l;
+    node = λ n o. (at : Pos) (a : NotedExpr) → o at ≡ Ok a → GivesNode a n at;
+    expr = λ e o. (a : NotedExpr) → o ≡ Ok a → GivesExpr a e;
+  }
 
   abbrev KeptLimits : Type 0
-  KeptLimits = (l : Limits) × LimitsGive l
-
-  abbrev KeptNode : Type 0
-  KeptNode = (n : Node) × NodeGives n
+  KeptLimits = kept.KeptLimits typing gives
 
   abbrev KeptExpr : Type 0
-  KeptExpr = (e : Expr) × ExprGives e
-
-  abbrev inner_limits : Limits-F Name (Unit {0}) KeptLimits KeptNode KeptExpr → Limits-F Name (Unit {0}) Limits Node Expr
-  inner_limits = map-Limits Name (Unit {0}) KeptLimits KeptNode KeptExpr Limits Node Expr (λ e. e.0) (λ e. e.0) (λ e. e.0)
-
-  abbrev inner_node : Node-F Name (Unit {0}) KeptLimits KeptNode KeptExpr → Node-F Name (Unit {0}) Limits Node Expr
-  inner_node = map-Node Name (Unit {0}) KeptLimits KeptNode KeptExpr Limits Node Expr (λ e. e.0) (λ e. e.0) (λ e. e.0)
-
-  abbrev inner_expr : Expr-F Name (Unit {0}) KeptLimits KeptNode KeptExpr → Expr-F Name (Unit {0}) Limits Node Expr
-  inner_expr = map-Expr Name (Unit {0}) KeptLimits KeptNode KeptExpr Limits Node Expr (λ e. e.0) (λ e. e.0) (λ e. e.0)
-
-  abbrev judged_limits : Limits-F Name (Unit {0}) Limits Node Expr → Limits-F Name (Unit {0}) OfLimits OfNode OfExpr
-  judged_limits = map-Limits Name (Unit {0}) Limits Node Expr OfLimits OfNode OfExpr (limits_typed globals variables mode) (node_typed globals variables mode) (expr_typed globals variables mode)
-
-  abbrev judged_node : Node-F Name (Unit {0}) Limits Node Expr → Node-F Name (Unit {0}) OfLimits OfNode OfExpr
-  judged_node = map-Node Name (Unit {0}) Limits Node Expr OfLimits OfNode OfExpr (limits_typed globals variables mode) (node_typed globals variables mode) (expr_typed globals variables mode)
-
-  abbrev judged_expr : Expr-F Name (Unit {0}) Limits Node Expr → Expr-F Name (Unit {0}) OfLimits OfNode OfExpr
-  judged_expr = map-Expr Name (Unit {0}) Limits Node Expr OfLimits OfNode OfExpr (limits_typed globals variables mode) (node_typed globals variables mode) (expr_typed globals variables mode)
+  KeptExpr = kept.KeptExpr typing gives
 
   abbrev FitL : Type 0
   FitL = FitLimits globals variables mode
@@ -118,7 +100,7 @@ module _ (globals : Globals) (variables : List Variable) (mode : Mode) where
             (subst (λ n. HasType globals variables mode n m.ctype) (sym (ap (out-Node Name Note) (sym (node_rolled d)) ∙ node_out d)) m.row)),
       )
 
-  limits_step : (y : Limits-F Name (Unit {0}) KeptLimits KeptNode KeptExpr) (k : NotedLimits) → limits_parts (judged_limits (inner_limits y)) ≡ Ok k → MadeLimits (inner_limits y) k
+  limits_step : (y : kept.LimitsLayer typing gives) (k : NotedLimits) → limits_made typing gives y ≡ Ok k → MadeLimits (inner_limits typing gives y) k
   limits_step (Limits-F.Count j at) k h =
       let a = made_of (expr_typed globals variables mode j.0) _ k h in let g = j.1 a.0 a.1 in
       record { layer = Limits-F.Count (a.0, g.1) at; bare = ap (λ e. Limits-F.Count e at) g.0; same = sym (ok_same _ k a.2) }
@@ -151,7 +133,7 @@ module _ (globals : Globals) (variables : List Variable) (mode : Mode) where
   abbrev there_of : Option KeptLimits → Outcome (Option NotedLimits)
   there_of l = if_there (option_map (limits_typed globals variables mode) (option_map (λ (k : KeptLimits). k.0) l))
 
-  node_step : (y : Node-F Name (Unit {0}) KeptLimits KeptNode KeptExpr) (at : Pos) (r : NotedExpr) → node_parts globals variables mode (judged_node (inner_node y)) at ≡ Ok r → Made (inner_node y) at r
+  node_step : (y : kept.NodeLayer typing gives) (at : Pos) (r : NotedExpr) → node_made typing gives y at ≡ Ok r → Made (inner_node typing gives y) at r
   node_step (Node-F.Number n u) at r h = record { layer = Node-F.Number n u; bare = refl; ctype = number_type u; row = refl; same = sym (ok_same _ r h) }
   node_step (Node-F.Text s) at r h = record { layer = Node-F.Text s; bare = refl; ctype = string_type mode; row = refl; same = sym (ok_same _ r h) }
   node_step Node-F.Null at r h = record { layer = Node-F.Null; bare = refl; ctype = ctype.Pointer kind.One ctype.Void; row = refl; same = sym (ok_same _ r h) }
@@ -260,26 +242,22 @@ module _ (globals : Globals) (variables : List Variable) (mode : Mode) where
       let t = made_of (allocation_typed (type_written w) a.0 (type_written x) at) _ r a.2 in
       record { layer = Node-F.Calloc w (a.0, g.1) x; bare = ap (λ e. Node-F.Calloc w e x) g.0; ctype = t.0; row = (allocation_is (type_written w) a.0 (type_written x) at t.0).0 t.1; same = sym (ok_same _ r t.2) }
 
-  limits_by : (x : Limits-F Name (Unit {0}) Limits Node Expr) (y : Limits-F Name (Unit {0}) KeptLimits KeptNode KeptExpr) → inner_limits y ≡ x → LimitsGive (roll-Limits Name (Unit {0}) x)
-  limits_by x y is k h =
-      limits_given x k (subst (λ z. MadeLimits z k) is (limits_step y k
-      (ap (λ z. limits_parts (judged_limits z)) is ∙ sym (fold-roll-Limits Name (Unit {0}) OfLimits OfNode OfExpr limits_parts (node_parts globals variables mode) expr_parts x) ∙ h)))
-
-  node_by : (x : Node-F Name (Unit {0}) Limits Node Expr) (y : Node-F Name (Unit {0}) KeptLimits KeptNode KeptExpr) → inner_node y ≡ x → NodeGives (roll-Node Name (Unit {0}) x)
-  node_by x y is at r h =
-      node_given x at r (subst (λ z. Made z at r) is (node_step y at r
-      (ap (λ z. node_parts globals variables mode (judged_node z) at) is ∙ ap (λ f. f at) (sym (fold-roll-Node Name (Unit {0}) OfLimits OfNode OfExpr limits_parts (node_parts globals variables mode) expr_parts x)) ∙ h)))
-
   abbrev placed_expr : Node → Pos → Expr
   placed_expr n at = record { node = n; pos = at; note = tt }
 
-  expr_by : (x : Expr-F Name (Unit {0}) Limits Node Expr) (y : Expr-F Name (Unit {0}) KeptLimits KeptNode KeptExpr) → inner_expr y ≡ x → ExprGives (roll-Expr Name (Unit {0}) x)
-  expr_by x y is r h =
-      let g = y.node.1 y.pos r (ap (λ z. expr_parts (judged_expr z)) is ∙ sym (fold-roll-Expr Name (Unit {0}) OfLimits OfNode OfExpr limits_parts (node_parts globals variables mode) expr_parts x) ∙ h) in
-      (bare_expr_is Name Note r ∙ ap (λ n. placed_expr n r.pos) g.0 ∙ ap (λ p. placed_expr y.node.0 p) g.1 ∙ ap (roll-Expr Name (Unit {0})) is, g.2)
+  expr_step : (y : kept.ExprLayer typing gives) (r : NotedExpr) → expr_made typing gives y ≡ Ok r → GivesExpr r (roll-Expr Name (Unit {0}) (inner_expr typing gives y))
+  expr_step y r h =
+      let g = y.node.1 y.pos r h in
+      (bare_expr_is Name Note r ∙ ap (λ n. placed_expr n r.pos) g.0 ∙ ap (λ p. placed_expr y.node.0 p) g.1, g.2)
+
+  limits_given_by : (y : kept.LimitsLayer typing gives) (k : NotedLimits) → limits_made typing gives y ≡ Ok k → GivesLimits k (roll-Limits Name (Unit {0}) (inner_limits typing gives y))
+  limits_given_by y k h = limits_given (inner_limits typing gives y) k (limits_step y k h)
+
+  node_given_by : (y : kept.NodeLayer typing gives) (at : Pos) (r : NotedExpr) → node_made typing gives y at ≡ Ok r → GivesNode r (roll-Node Name (Unit {0}) (inner_node typing gives y)) at
+  node_given_by y at r h = node_given (inner_node typing gives y) at r (node_step y at r h)
 
   pub limits_give : (l : Limits) (k : NotedLimits) → limits_typed globals variables mode l ≡ Ok k → (bare_limits k ≡ l) × WellTypedLimits globals variables mode k
-  limits_give = ind-Limits Name (Unit {0}) LimitsGive NodeGives ExprGives limits_by node_by expr_by
+  limits_give = each_limits typing gives limits_given_by node_given_by expr_step
 
   pub expr_gives : (e : Expr) (a : NotedExpr) → expr_typed globals variables mode e ≡ Ok a → (bare_expr a ≡ e) × WellTypedExpr globals variables mode a
-  expr_gives = ind-Expr Name (Unit {0}) LimitsGive NodeGives ExprGives limits_by node_by expr_by
+  expr_gives = each_expr typing gives limits_given_by node_given_by expr_step
