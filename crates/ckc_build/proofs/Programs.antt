@@ -1,11 +1,12 @@
 -- The program that a text means.
-use Rattle.std.proofs.Common.{◌≡◌, ℕ, List, Result, Ok, Err, IfOk, sym, ap}
+use Rattle.std.proofs.Common.{◌≡◌, ℕ, ◌+◌, ◌*◌, ◌≤◌, List, length, Result, Ok, Err, IfOk, sym, ap}
 use Rattle.ckc_base.specs.declared.fault.Fault.{Fault}
 use Rattle.ckc_base.specs.declared.fault.Fault.TheVariants as fault
 use Rattle.ckc_base.specs.Phases.{IsExact, Answers, Exact}
 use Rattle.ckc_base.proofs.Phases.{then_exact, exact_of, phase_by_exact}
 use Rattle.ckc_source.specs.Code.{Program}
 use Rattle.ckc_typed.specs.declared.typed.Typed.{Typed}
+use Rattle.ckc_operands.specs.Weights.{program_weight}
 use Rattle.ckc_elaborate.specs.Elaborated.{elaborated}
 use Rattle.ckc_image.specs.declared.parts.Parts as parts
 use Rattle.ckc_compile.specs.Compiled.{FollowsSource, machine_parts}
@@ -43,5 +44,5 @@ module _ (text : List ℕ) where
   refused_of fault.Memory x = tt
 
   pub built_of : (p : Program) (image : List ℕ) → Exact meanings text (Ok p)
-      → ((made : parts.Parts) × FollowsSource p made × IsImage image (machine_parts made)) → building.Makes text image
-  built_of p image x q = (machine_parts q.0, record { program = p; means = x.answers; follows = q.1 }, q.2)
+      → ((made : parts.Parts) × FollowsSource p made × (length made.code ≤ 4 * (program_weight p + 5)) × IsImage image (machine_parts made)) → building.Makes text image
+  built_of p image x q = (machine_parts q.0, record { program = p; means = x.answers; follows = q.1; small = q.2 }, q.3)

@@ -1,16 +1,18 @@
 //! From a text to the bytes of its image.
-ghost use Rattle.std.specs.Prelude.{◌≤◌, IfOk};
+ghost use Rattle.std.specs.Prelude.{◌+◌, ◌*◌, ◌≤◌, length, IfOk};
 ghost use Rattle.ckc_base.specs.Phases.{Answers, viewed};
 ghost use Rattle.ckc_image.specs.declared.parts.Parts as parts;
 ghost use Rattle.ckc_source.specs.Code.{program_of};
 ghost use Rattle.ckc_source.specs.LaidOut.{IsLaidOut};
-ghost use Rattle.ckc_operands.specs.Compilable.{IsCompilable, program_nodes};
+ghost use Rattle.ckc_operands.specs.Compilable.{IsCompilable};
+ghost use Rattle.ckc_operands.specs.Weights.{program_weight};
 ghost use Rattle.ckc_compile.specs.Compiled.{FollowsSource, machine_parts};
 ghost use Rattle.ckc_build.specs.Built.{IsImage, building, bytes_of};
 
+use crate::laws::programs_fit;
 use crate::meanings::program;
 use ckc_base::Fault;
-use ckc_compile::{MOST_NODES, compile};
+use ckc_compile::compile;
 use ckc_image::write;
 use ckc_integer::is_compilable;
 use ckc_source::Program;
@@ -26,9 +28,10 @@ pub fn build(alloc: Global, text: &[u8]) -> Result<Vec<u8>, Fault>
         Ok(p) => {
             // The program of a text that is let through always has the form, so this is never answered. That is tested
             // and not proved.
-            if !is_compilable(&p, MOST_NODES) {
+            if !is_compilable(&p) {
                 return Err(Fault::Memory);
             }
+            programs_fit();
             match image_of(alloc, &p) {
                 Err(_) => Err(Fault::Memory),
                 Ok(image) => Ok(image),
@@ -41,8 +44,9 @@ pub fn build(alloc: Global, text: &[u8]) -> Result<Vec<u8>, Fault>
 fn image_of(alloc: Global, p: &Program) -> Result<Vec<u8>, AllocError>
     requires form { IsCompilable (program_of p.now) }
     requires laid { IsLaidOut (program_of p.now) }
-    requires small { program_nodes (program_of p.now) ≤ MOST_NODES }
+    requires small { program_weight (program_of p.now) ≤ 4193275 }
     ensures { IfOk result (λ image. (made : parts.Parts) × FollowsSource (program_of p.now) made
+        × (length made.code ≤ 4 * (program_weight (program_of p.now) + 5))
         × IsImage image.items (machine_parts made)) }
 {
     match compile(alloc, p) {

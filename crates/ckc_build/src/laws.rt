@@ -1,8 +1,14 @@
 //! What holds of the definitions, each the contract of a function that does nothing.
-ghost use Rattle.std.specs.Prelude.{◌≡◌, List, ℕ};
+ghost use Rattle.std.specs.Prelude.{◌≡◌, ◌≤◌, List, ℕ};
 ghost use Rattle.ckc_base.specs.Phases.{IsExact};
 ghost use Rattle.ckc_parser.specs.Text.{SpelledTree};
-ghost use Rattle.ckc_build.specs.Meanings.{judging, reading};
+ghost use Rattle.ckc_source.specs.Code.{Program};
+ghost use Rattle.ckc_operands.specs.Weights.{program_weight};
+ghost use Rattle.ckc_build.specs.Meanings.{HasMeaning, judging, reading};
+
+use ckc_fit::small_stays;
+use ckc_sizes::{marks_stay, programs_are_small};
+use ckc_welltyped::counts_stay;
 
 /// A text is judged, with one outcome of its types, or it has one first error.
 pub fn judging_is_exact()
@@ -14,3 +20,14 @@ pub fn one_tree()
     ensures { (text : List ℕ) (a b : SpelledTree) →
         reading.Makes text a → reading.Makes text b → a ≡ b }
 {}
+
+/// The program of a text that has a meaning weighs no more than an image has room for: the size limits of texts see to
+/// it. So `build` refuses no such text for the size of its program.
+pub fn programs_fit()
+    ensures { (text : List ℕ) (p : Program) → HasMeaning text p → program_weight p ≤ 4193275 }
+{
+    small_stays();
+    counts_stay();
+    marks_stay();
+    programs_are_small();
+}

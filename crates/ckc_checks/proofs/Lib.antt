@@ -1,5 +1,6 @@
 pub mod Backward
 pub mod BlockLengths
+pub mod Busy
 pub mod Formed
 pub mod Image
 pub mod Needs

@@ -4,6 +4,7 @@ ghost use Rattle.std.specs.Prelude.{◌≡◌, ◌+◌, ◌*◌, ◌++◌, ◌�
 ghost use Rattle.ckc_base.specs.Memory.{data_start};
 ghost use Rattle.ckc_core.specs.Code.{function_of as core_function, program_of as core_program};
 ghost use Rattle.ckc_core.specs.Limits.{IsWithinLimits};
+ghost use Rattle.ckc_core.specs.Loops.{idle_loops};
 ghost use Rattle.ckc_core.specs.Sizes.{program_size};
 ghost use Rattle.ckc_core.specs.WellFormed.{IsWellFormed};
 ghost use Rattle.ckc_operands.specs.Compilable.{IsCompilable, program_nodes};
@@ -180,6 +181,9 @@ pub fn insert(alloc: Global, p: &Program) -> Result<Core, AllocError>
     // at most as many as the program weighs
     ensures weight { IfOk result (λ c. program_size (core_program c) ≤
         program_weight (source_program p.now)) }
+
+    // each loop does something in its body
+    ensures loops { IfOk result (λ c. idle_loops (core_program c) ≡ 0) }
     ensures initial { IfOk result (λ c. length c.initial ≤ 4194304) }
 {
     let c = program(alloc, p)?;

@@ -1,5 +1,5 @@
 -- How the promises of the layers join.
-use Rattle.std.proofs.Common.{◌≡◌, ℕ, ◌+◌, ◌*◌, ◌≤◌, List, sym, subst, arith, lit≤}
+use Rattle.std.proofs.Common.{◌≡◌, ℕ, ◌+◌, ◌≤◌, List, sym, subst, arith, lit≤}
 use Rattle.ckc_base.specs.Traces.{Event, Showing}
 use Rattle.ckc_base.specs.Follows.{Follows}
 use Rattle.ckc_base.proofs.Following.{follows_trans}
@@ -42,6 +42,6 @@ machine_follows a q parts placed emit input bytes =
     follows_within (a input) (machine parts input) 32000480 33554432 (lit≤ tt)
     (follows_trans (a input) (placed_meaning q input) (machine parts input) 400005 80 (placed input bytes) (emit input (all_bytes input bytes)))
 
--- a program of so many nodes fits into an image
-pub code_fits : (nodes size : ℕ) → size ≤ 64 * nodes → nodes ≤ 65519 → size + 5 ≤ 4193280
-code_fits nodes size h k = omega arith
+-- a program that weighs so much fits into an image
+pub code_fits : (weight size : ℕ) → size ≤ weight → weight ≤ 4193275 → size + 5 ≤ 4193280
+code_fits weight size h k = omega arith

@@ -4,4 +4,4 @@
 
 mod program;
 
-pub use program::{MOST_NODES, compile};
+pub use program::compile;

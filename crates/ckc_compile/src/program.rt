@@ -1,10 +1,11 @@
 //! The layers, one after another.
-ghost use Rattle.std.specs.Prelude.{◌≡◌, ℕ, ◌*◌, ◌≤◌, List, length, IfOk};
+ghost use Rattle.std.specs.Prelude.{◌≡◌, ℕ, ◌+◌, ◌*◌, ◌≤◌, List, length, IfOk};
 ghost use Rattle.ckc_base.specs.Follows.{Follows};
 ghost use Rattle.ckc_source.specs.Code.{program_of};
 ghost use Rattle.ckc_source.specs.LaidOut.{AreBytes, IsLaidOut};
 ghost use Rattle.ckc_source.specs.Source.{source};
-ghost use Rattle.ckc_operands.specs.Compilable.{IsCompilable, program_nodes};
+ghost use Rattle.ckc_operands.specs.Compilable.{IsCompilable};
+ghost use Rattle.ckc_operands.specs.Weights.{program_weight};
 ghost use Rattle.ckc_tac.specs.Meaning.{tac_meaning};
 ghost use Rattle.ckc_tac.specs.Sizes.{program_size as tac_size};
 ghost use Rattle.ckc_tac.specs.WellFormed.{IsWellFormed as IsWellFormedTac, HasFewRegisters};
@@ -25,17 +26,13 @@ use ckc_source::Program;
 use ckc_tac::Tac;
 use std::alloc::{AllocError, Global};
 
-/// How many nodes a program may have: each gives at most 64 instructions, the start five, and an image has room for
-/// 4,193,280.
-pub const MOST_NODES: u32 = 65_519;
-
 /// The three-address code of a program.
 fn lowered(alloc: Global, p: &Program) -> Result<Tac, AllocError>
     requires form { IsCompilable (program_of p.now) }
     requires laid { IsLaidOut (program_of p.now) }
     ensures formed { IfOk result IsWellFormedTac }
     ensures few { IfOk result HasFewRegisters }
-    ensures size { IfOk result (λ t. tac_size t ≤ 64 * program_nodes (program_of p.now)) }
+    ensures size { IfOk result (λ t. tac_size t ≤ program_weight (program_of p.now)) }
     ensures initial { IfOk result (λ t. length t.initial ≤ 4194304) }
     ensures follows { IfOk result (λ t. (input : List ℕ) → AreBytes input →
         Follows (source (program_of p.now) input) (tac_meaning t input) 400004) }
@@ -50,7 +47,7 @@ fn placed(alloc: Global, p: &Program) -> Result<Placed, AllocError>
     requires form { IsCompilable (program_of p.now) }
     requires laid { IsLaidOut (program_of p.now) }
     ensures whole { IfOk result IsWellFormed }
-    ensures size { IfOk result (λ q. program_size q ≤ 64 * program_nodes (program_of p.now)) }
+    ensures size { IfOk result (λ q. program_size q ≤ program_weight (program_of p.now)) }
     ensures initial { IfOk result (λ q. length q.initial ≤ 4194304) }
     ensures follows { IfOk result (λ q. (input : List ℕ) → AreBytes input →
         Follows (source (program_of p.now) input) (placed_meaning q input) 400005) }
@@ -65,7 +62,8 @@ fn assembled(alloc: Global, q: &Placed) -> Result<Parts, AllocError>
     requires whole { IsWellFormed q.now }
     requires fits { code_size q.now ≤ 4193280 }
     requires initial { length q.now.initial ≤ 16777216 }
-    ensures { IfOk result (λ parts. FollowsPlaced q.now (machine_parts parts)) }
+    ensures follows { IfOk result (λ parts. FollowsPlaced q.now (machine_parts parts)) }
+    ensures size { IfOk result (λ parts. length parts.code ≤ 4 * code_size q.now) }
 {
     let l = emit(alloc, q)?;
     let parts = assemble(alloc, &l)?;
@@ -78,8 +76,13 @@ fn assembled(alloc: Global, q: &Placed) -> Result<Parts, AllocError>
 pub fn compile(alloc: Global, p: &Program) -> Result<Parts, AllocError>
     requires form { IsCompilable (program_of p.now) }
     requires laid { IsLaidOut (program_of p.now) }
-    requires small { program_nodes (program_of p.now) ≤ MOST_NODES }
+    // an image has room for 4,193,280 instructions, of which the start takes five
+    requires small { program_weight (program_of p.now) ≤ 4193275 }
     ensures follows { IfOk result (FollowsSource (program_of p.now)) }
+
+    // an instruction has four bytes, and the start is five
+    ensures size { IfOk result (λ parts. length parts.code ≤
+        4 * (program_weight (program_of p.now) + 5)) }
 {
     let q = placed(alloc, p)?;
     let parts = assembled(alloc, &q)?;

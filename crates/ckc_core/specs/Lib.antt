@@ -4,3 +4,4 @@ pub mod WellFormed
 pub mod Limits
 pub mod Sizes
 pub mod Example
+pub mod Loops

@@ -1,9 +1,8 @@
 //! Functions and programs that can be compiled.
-ghost use Rattle.std.specs.Prelude.{◌≡◌, ◌↔◌, ◌≤◌, All, map, sum_by, IsTrue};
+ghost use Rattle.std.specs.Prelude.{◌↔◌, All, map, IsTrue};
 ghost use Rattle.ckc_source.specs.Code.{function_of, program_of};
 ghost use Rattle.ckc_source.specs.LaidOut.{IsLaidOut};
-ghost use Rattle.ckc_operands.specs.Compilable.{IsCompilableFunction, IsCompilable, function_nodes, program_nodes};
-ghost use Rattle.ckc_integer.specs.Capped.{capped};
+ghost use Rattle.ckc_operands.specs.Compilable.{IsCompilableFunction, IsCompilable};
 
 use crate::counts::code_nodes;
 use crate::objects::{begin_low, lie_apart};
@@ -32,21 +31,6 @@ fn are_functions(funcs: &[FunctionTree]) -> bool
     good
 }
 
-/// How many nodes functions have, up to 2^64 - 1.
-fn nodes(funcs: &[FunctionTree]) -> u64
-    ensures { result ≡ capped (sum_by function_nodes (map function_of funcs.now)) }
-{
-    let mut count = 0u64;
-    let mut i = funcs.len();
-    while i > 0 {
-        i -= 1;
-        let f = &funcs[i];
-        let here = code_nodes(f.body.as_slice()).saturating_add(u64::from(f.locals));
-        count = here.saturating_add(count).saturating_add(1);
-    }
-    count
-}
-
 fn is_form(p: &Program) -> bool
     ensures { IsTrue result ↔ IsCompilable (program_of p.now) }
 {
@@ -63,10 +47,9 @@ fn is_laid_out(p: &Program) -> bool
     lie_apart(p.objects.as_slice())
 }
 
-/// Whether a program can be compiled, has its objects laid out, and has at most so many nodes. It takes no memory.
-pub fn is_compilable(p: &Program, most: u32) -> bool
-    ensures { IsTrue result ↔ (IsCompilable (program_of p.now)
-        × IsLaidOut (program_of p.now) × (program_nodes (program_of p.now) ≤ most)) }
+/// Whether a program can be compiled and has its objects laid out. It takes no memory.
+pub fn is_compilable(p: &Program) -> bool
+    ensures { IsTrue result ↔ (IsCompilable (program_of p.now) × IsLaidOut (program_of p.now)) }
 {
-    is_form(p) && is_laid_out(p) && nodes(p.functions.as_slice()) <= u64::from(most)
+    is_form(p) && is_laid_out(p)
 }

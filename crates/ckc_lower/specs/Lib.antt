@@ -1,4 +1,3 @@
 pub mod Built
 pub mod Lowered
 pub mod Idle
-pub mod Loops

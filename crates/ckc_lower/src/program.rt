@@ -2,7 +2,7 @@ ghost use Rattle.std.specs.Prelude.{◌≡◌, ◌≤◌, List, ℕ, IfOk, map, 
 ghost use Rattle.ckc_base.specs.Follows.{Follows};
 ghost use Rattle.ckc_core.specs.Code.{function_of, program_of};
 ghost use Rattle.ckc_core.specs.Limits.{IsSmallFunction, IsWithinLimits};
-ghost use Rattle.ckc_lower.specs.Loops.{idle_loops};
+ghost use Rattle.ckc_core.specs.Loops.{idle_loops};
 ghost use Rattle.ckc_core.specs.Meaning.{core_detail};
 ghost use Rattle.ckc_core.specs.Sizes.{program_size as core_size};
 ghost use Rattle.ckc_core.specs.WellFormed.{IsWellFormed};

@@ -4,3 +4,6 @@ pub mod Values
 pub mod Steps
 pub mod Statements
 pub mod Programs
+pub mod KeptExprs
+pub mod KeptStmts
+pub mod KeptTexts

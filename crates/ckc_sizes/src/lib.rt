@@ -3,4 +3,4 @@
 
 mod laws;
 
-pub use laws::programs_are_small;
+pub use laws::{marks_stay, programs_are_small};

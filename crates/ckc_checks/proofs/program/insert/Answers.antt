@@ -1,11 +1,13 @@
-use Rattle.std.proofs.Common.{◌*◌, ◌≤◌, length, sym, subst}
+use Rattle.std.proofs.Common.{◌≡◌, ◌*◌, ◌≤◌, length, sym, subst}
 use Rattle.ckc_core.specs.Code as core
 use Rattle.ckc_core.specs.Limits.{IsWithinLimits}
+use Rattle.ckc_core.specs.Loops.{idle_loops}
 use Rattle.ckc_core.specs.Sizes.{program_size}
 use Rattle.ckc_core.specs.WellFormed.{IsWellFormed}
 use Rattle.ckc_source.specs.Code.{program_of}
 use Rattle.ckc_operands.specs.Compilable.{program_nodes}
 use Rattle.ckc_operands.specs.Weights.{program_weight}
+use Rattle.ckc_checks.proofs.Busy.{inserted_busy}
 use Rattle.ckc_checks.proofs.Formed.{inserted_formed}
 use Rattle.ckc_checks.proofs.Image.{first_bytes_length}
 use Rattle.ckc_checks.proofs.Small.{inserted_small}
@@ -35,3 +37,8 @@ returns-clause-weight c =
     let p = program_of c.args.p.now in
     let P : core.Program → Type 0 = λ q. program_size q ≤ program_weight p in
     subst P (sym c.in_ok-c.ensures) (inserted_weighed p)
+
+pub returns-clause-loops : goal.returns-clause-loops
+returns-clause-loops c =
+    let P : core.Program → Type 0 = λ q. idle_loops q ≡ 0 in
+    subst P (sym c.in_ok-c.ensures) (inserted_busy (program_of c.args.p.now))

@@ -1,3 +1,4 @@
+use Rattle.std.proofs.Common.{arith}
 use Rattle.ckc_compile.specs.Compiled.{machine_parts}
 use Rattle.ckc_compile.proofs.program.assembled.Goals as goal
 
@@ -8,4 +9,7 @@ pub assemble-requires : goal.assemble-requires
 assemble-requires c = c.in_ok-l.ensures.can
 
 pub returns : goal.returns
-returns c = c.in_ok-l.ensures.follows (machine_parts c.in_ok-parts.parts) c.in_ok-parts.ensures
+returns c = record {
+  follows = c.in_ok-l.ensures.follows (machine_parts c.in_ok-parts.parts) c.in_ok-parts.ensures;
+  size = omega (arith, c.in_ok-parts.ensures.whole, c.in_ok-l.ensures.size);
+}

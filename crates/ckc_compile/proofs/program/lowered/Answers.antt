@@ -11,7 +11,7 @@ pub returns : goal.returns
 returns c = record {
   formed = c.in_ok-t.ensures.formed;
   few = c.in_ok-t.ensures.few_registers;
-  size = omega (arith, c.in_ok-t.ensures.size, c.in_ok-c.ensures.size);
+  size = omega (arith, c.in_ok-t.ensures.size, c.in_ok-c.ensures.weight);
   initial = let P : List ℕ → Type 0 = λ l. length l ≤ 4194304 in subst P (sym c.in_ok-t.ensures.initial) c.in_ok-c.ensures.initial;
   follows = lowered_follows (program_of c.args.p.now) (core.program_of c.in_ok-c.c) c.in_ok-t.t c.requires.form c.requires.laid
       c.in_ok-c.ensures.code c.in_ok-t.ensures.follows;

@@ -1,7 +1,7 @@
-use Rattle.std.proofs.Common.{ℕ, ◌≤◌, ◌*◌, List, length, sym, subst, ap}
+use Rattle.std.proofs.Common.{ℕ, ◌≤◌, List, length, sym, subst, ap}
 use Rattle.ckc_source.specs.Code.{program_of}
 use Rattle.ckc_source.specs.Source.{source}
-use Rattle.ckc_operands.specs.Compilable.{program_nodes}
+use Rattle.ckc_operands.specs.Weights.{program_weight}
 use Rattle.ckc_tac.specs.declared.code.Tac.{Tac}
 use Rattle.ckc_compile.proofs.Layers.{placed_follows}
 use Rattle.ckc_compile.proofs.program.placed.Goals as goal
@@ -13,7 +13,7 @@ pub returns : goal.returns
 returns c = record {
   whole = c.in_ok-q.ensures.whole;
   size =
-      let P : ℕ → Type 0 = λ n. n ≤ 64 * program_nodes (program_of c.args.p.now) in
+      let P : ℕ → Type 0 = λ n. n ≤ program_weight (program_of c.args.p.now) in
       subst P (sym c.in_ok-q.ensures.size) c.in_ok-t.ensures.size;
   initial =
       let P : List ℕ → Type 0 = λ l. length l ≤ 4194304 in

@@ -1,7 +1,7 @@
 use Rattle.std.proofs.Common.{ℕ, ◌≤◌, List, sym, subst}
 use Rattle.ckc_base.specs.Follows.{Follows}
 use Rattle.ckc_core.specs.Code.{program_of}
-use Rattle.ckc_lower.specs.Loops.{idle_loops}
+use Rattle.ckc_core.specs.Loops.{idle_loops}
 use Rattle.ckc_core.specs.Meaning.{core_detail}
 use Rattle.ckc_core.specs.Sizes.{program_size as core_size}
 use Rattle.ckc_tac.specs.declared.code.Tac.{Tac}
