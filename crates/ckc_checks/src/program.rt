@@ -165,8 +165,9 @@ fn program(alloc: Global, p: &Program) -> Result<Core, AllocError>
 
 /// The core code of a program that can be compiled, with all checks written out: before each division the test of the
 /// divisor, before each access through a checked pointer the tests for null and, where it points to an array, of its
-/// place and its bounds, the tests of checked pointer arithmetic, the dynamic checks, and the depth of calls. The
-/// temporaries of a function stand behind its locals.
+/// place and its bounds, before a write at the upper bound of an `_Nt_array_ptr` that only zero goes there, the tests of
+/// checked pointer arithmetic, the dynamic checks, and the depth of calls. The temporaries of a function stand behind its
+/// locals.
 pub fn insert(alloc: Global, p: &Program) -> Result<Core, AllocError>
     requires form { IsCompilable (source_program p.now) }
     requires laid { IsLaidOut (source_program p.now) }
