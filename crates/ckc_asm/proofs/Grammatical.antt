@@ -1,5 +1,5 @@
 -- What a reader finds in a line is what the grammar says of it.
-use Rattle.std.proofs.Common.{◌≡◌, ℕ, ◌≤◌, ℤ, Bool, true, false, cond, ◌&&◌, nat_le, List, [], ◌∷◌, length, map, Option, Some, None, refl, sym, ap, subst, ◌∙◌, inl, inr, arith}
+use Rattle.std.proofs.Common.{◌≡◌, ◌↔◌, ℕ, ◌≤◌, ℤ, Bool, true, false, cond, ◌&&◌, nat_le, List, [], ◌∷◌, length, map, Option, Some, None, refl, sym, ap, subst, ◌∙◌, inl, inr, arith}
 use Rattle.std.specs.Prelude.{codes, option_and_then, unwrap_or}
 use Rattle.std.specs.List.{slice_get}
 use Rattle.std.specs.Option.{option_map}
@@ -257,70 +257,41 @@ data_made words i h =
 
 -- ---- items
 
-words_found : (k : Kind) (words : List (List ℕ)) (i : Item) → item_with k words ≡ Some i → HasWords k words i
+words_are : (k : Kind) (words : List (List ℕ)) (i : Item) → (item_with k words ≡ Some i) ↔ HasWords k words i
 unfolding item_with HasWords
-words_found kind.Lui words i e = one_of words i (λ rd. form.Lui rd) number_operand IsPlain plain_found e
-words_found kind.Auipc words i e = one_of words i (λ rd. form.Auipc rd) number_operand IsPlain plain_found e
-words_found kind.Jal words i e = one_of words i (λ rd. form.Jal rd) target_of IsTarget target_found e
-words_found kind.Jalr words i e = base_of words i (λ rd rs1. form.Jalr rd rs1) e
-words_found (kind.Branch op) words i e = two_of words i (λ rs1 rs2. form.Branch op rs1 rs2) target_of IsTarget target_found e
-words_found (kind.Load op) words i e = base_of words i (λ rd rs1. form.Load op rd rs1) e
-words_found (kind.Store op) words i e = base_of words i (λ rs2 rs1. form.Store op rs1 rs2) e
-words_found (kind.Imm op) words i e = two_of words i (λ rd rs1. form.Imm op rd rs1) number_operand IsPlain plain_found e
-words_found (kind.Reg op) words i e = three_of words i (λ rd rs1 rs2. form.Reg op rd rs1 rs2) e
-words_found kind.Fence words i e = word_of words i form.Fence number_operand IsPlain plain_found e
-words_found kind.Ecall words i e = nothing_of words form.Ecall i e
-words_found kind.Ebreak words i e = nothing_of words form.Ebreak i e
-words_found kind.Word words i e = word_of words i form.Word number_operand IsPlain plain_found e
-words_found kind.Entry words i e = word_of words i form.Entry target_of IsTarget target_found e
-words_found kind.Data words i e = data_found words i e
-
-words_made : (k : Kind) (words : List (List ℕ)) (i : Item) → HasWords k words i → item_with k words ≡ Some i
-unfolding item_with HasWords
-words_made kind.Lui words i h = one_made words i (λ rd. form.Lui rd) number_operand IsPlain plain_made h
-words_made kind.Auipc words i h = one_made words i (λ rd. form.Auipc rd) number_operand IsPlain plain_made h
-words_made kind.Jal words i h = one_made words i (λ rd. form.Jal rd) target_of IsTarget target_made h
-words_made kind.Jalr words i h = base_made words i (λ rd rs1. form.Jalr rd rs1) h
-words_made (kind.Branch op) words i h = two_made words i (λ rs1 rs2. form.Branch op rs1 rs2) target_of IsTarget target_made h
-words_made (kind.Load op) words i h = base_made words i (λ rd rs1. form.Load op rd rs1) h
-words_made (kind.Store op) words i h = base_made words i (λ rs2 rs1. form.Store op rs1 rs2) h
-words_made (kind.Imm op) words i h = two_made words i (λ rd rs1. form.Imm op rd rs1) number_operand IsPlain plain_made h
-words_made (kind.Reg op) words i h = three_made words i (λ rd rs1 rs2. form.Reg op rd rs1 rs2) h
-words_made kind.Fence words i h = word_made words i form.Fence number_operand IsPlain plain_made h
-words_made kind.Ecall words i h = nothing_made words form.Ecall i h
-words_made kind.Ebreak words i h = nothing_made words form.Ebreak i h
-words_made kind.Word words i h = word_made words i form.Word number_operand IsPlain plain_made h
-words_made kind.Entry words i h = word_made words i form.Entry target_of IsTarget target_made h
-words_made kind.Data words i h = data_made words i h
+words_are kind.Lui words i = (one_of words i (λ rd. form.Lui rd) number_operand IsPlain plain_found, one_made words i (λ rd. form.Lui rd) number_operand IsPlain plain_made)
+words_are kind.Auipc words i = (one_of words i (λ rd. form.Auipc rd) number_operand IsPlain plain_found, one_made words i (λ rd. form.Auipc rd) number_operand IsPlain plain_made)
+words_are kind.Jal words i = (one_of words i (λ rd. form.Jal rd) target_of IsTarget target_found, one_made words i (λ rd. form.Jal rd) target_of IsTarget target_made)
+words_are kind.Jalr words i = (base_of words i (λ rd rs1. form.Jalr rd rs1), base_made words i (λ rd rs1. form.Jalr rd rs1))
+words_are (kind.Branch op) words i = (two_of words i (λ rs1 rs2. form.Branch op rs1 rs2) target_of IsTarget target_found, two_made words i (λ rs1 rs2. form.Branch op rs1 rs2) target_of IsTarget target_made)
+words_are (kind.Load op) words i = (base_of words i (λ rd rs1. form.Load op rd rs1), base_made words i (λ rd rs1. form.Load op rd rs1))
+words_are (kind.Store op) words i = (base_of words i (λ rs2 rs1. form.Store op rs1 rs2), base_made words i (λ rs2 rs1. form.Store op rs1 rs2))
+words_are (kind.Imm op) words i = (two_of words i (λ rd rs1. form.Imm op rd rs1) number_operand IsPlain plain_found, two_made words i (λ rd rs1. form.Imm op rd rs1) number_operand IsPlain plain_made)
+words_are (kind.Reg op) words i = (three_of words i (λ rd rs1 rs2. form.Reg op rd rs1 rs2), three_made words i (λ rd rs1 rs2. form.Reg op rd rs1 rs2))
+words_are kind.Fence words i = (word_of words i form.Fence number_operand IsPlain plain_found, word_made words i form.Fence number_operand IsPlain plain_made)
+words_are kind.Ecall words i = (nothing_of words form.Ecall i, nothing_made words form.Ecall i)
+words_are kind.Ebreak words i = (nothing_of words form.Ebreak i, nothing_made words form.Ebreak i)
+words_are kind.Word words i = (word_of words i form.Word number_operand IsPlain plain_found, word_made words i form.Word number_operand IsPlain plain_made)
+words_are kind.Entry words i = (word_of words i form.Entry target_of IsTarget target_found, word_made words i form.Entry target_of IsTarget target_made)
+words_are kind.Data words i = (data_found words i, data_made words i)
 
 item_found : (words : List (List ℕ)) (i : Item) → item_of words ≡ Some i → IsItem words i
 unfolding item_of
 item_found [] i e = sym (same_Some (item form.Nothing Nothing) i e)
 item_found (name ∷ words) i e =
     let x = bound _ (kind_of name) i e in
-    (x.0, (spelling.named_kinds name x.0).0 x.1, words_found x.0 words i x.2)
+    (x.0, (spelling.named_kinds name x.0).0 x.1, (words_are x.0 words i).0 x.2)
 
 item_made : (words : List (List ℕ)) (i : Item) → IsItem words i → item_of words ≡ Some i
 unfolding item_of
 item_made [] i h = ap (λ (j : Item). Some j) (sym h)
-item_made (name ∷ words) i h = ap (option_and_then (λ (k : Kind). item_with k words)) ((spelling.named_kinds name h.0).1 h.1) ∙ words_made h.0 words i h.2
+item_made (name ∷ words) i h = ap (option_and_then (λ (k : Kind). item_with k words)) ((spelling.named_kinds name h.0).1 h.1) ∙ (words_are h.0 words i).1 h.2
 
 -- what `.entry` says is a number or a label
 entry_words : (k : Kind) (words : List (List ℕ)) (i : Item) → HasWords k words i → IsEntry i.form → i.operand ≡ Nothing → ⊥
 unfolding HasWords
-entry_words kind.Lui words i h is none = let P : Item → Type 0 = λ j. IsEntry j.form in subst P h.is is
-entry_words kind.Auipc words i h is none = let P : Item → Type 0 = λ j. IsEntry j.form in subst P h.is is
-entry_words kind.Jal words i h is none = let P : Item → Type 0 = λ j. IsEntry j.form in subst P h.is is
-entry_words kind.Jalr words i h is none = let P : Item → Type 0 = λ j. IsEntry j.form in subst P h.is is
-entry_words (kind.Branch op) words i h is none = let P : Item → Type 0 = λ j. IsEntry j.form in subst P h.is is
-entry_words (kind.Load op) words i h is none = let P : Item → Type 0 = λ j. IsEntry j.form in subst P h.is is
-entry_words (kind.Store op) words i h is none = let P : Item → Type 0 = λ j. IsEntry j.form in subst P h.is is
-entry_words (kind.Imm op) words i h is none = let P : Item → Type 0 = λ j. IsEntry j.form in subst P h.is is
-entry_words (kind.Reg op) words i h is none = let P : Item → Type 0 = λ j. IsEntry j.form in subst P h.is is
-entry_words kind.Fence words i h is none = let P : Item → Type 0 = λ j. IsEntry j.form in subst P h.is is
 entry_words kind.Ecall words i h is none = let P : Item → Type 0 = λ j. IsEntry j.form in subst P h.1 is
 entry_words kind.Ebreak words i h is none = let P : Item → Type 0 = λ j. IsEntry j.form in subst P h.1 is
-entry_words kind.Word words i h is none = let P : Item → Type 0 = λ j. IsEntry j.form in subst P h.is is
 entry_words kind.Entry words i h is none = given h.last
   where
     none_is : h.o ≡ Nothing
@@ -329,7 +300,7 @@ entry_words kind.Entry words i h is none = given h.last
     given : IsTarget h.w h.o → ⊥
     given (inl t) = let z : Named ≡ Nothing = sym t.1 ∙ none_is in cc
     given (inr t) = let z : Number t.0 ≡ Nothing = sym t.2 ∙ none_is in cc
-entry_words kind.Data words i h is none = let P : Item → Type 0 = λ j. IsEntry j.form in subst P h.is is
+entry_words _ words i h is none = let P : Item → Type 0 = λ j. IsEntry j.form in subst P h.is is
 
 entry_item : (words : List (List ℕ)) (i : Item) → IsItem words i → IsEntry i.form → i.operand ≡ Nothing → ⊥
 entry_item [] i h is none = let P : Item → Type 0 = λ j. IsEntry j.form in subst P h is

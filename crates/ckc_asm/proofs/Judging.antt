@@ -41,21 +41,9 @@ err_weaker (Err e) P Q f h = refused_weaker e P Q f h
 
 pub width_is : (f : Form) → (width_of f ≡ 0) ⊎ (width_of f ≡ 4)
 width_is form.Nothing = inl refl
-width_is (form.Lui rd) = inr refl
-width_is (form.Auipc rd) = inr refl
-width_is (form.Jal rd) = inr refl
-width_is (form.Jalr rd rs1) = inr refl
-width_is (form.Branch op rs1 rs2) = inr refl
-width_is (form.Load op rd rs1) = inr refl
-width_is (form.Store op rs1 rs2) = inr refl
-width_is (form.Imm op rd rs1) = inr refl
-width_is (form.Reg op rd rs1 rs2) = inr refl
-width_is form.Fence = inr refl
-width_is form.Ecall = inr refl
-width_is form.Ebreak = inr refl
-width_is form.Word = inr refl
 width_is form.Entry = inl refl
 width_is (form.Data bytes) = inl refl
+width_is _ = inr refl
 
 pub sizes : (statements : List Statement) → (sum_by size_of statements % 4 ≡ 0) × (sum_by size_of statements ≤ 4 * length statements)
 sizes [] = (refl, omega arith)

@@ -29,21 +29,7 @@ offset_more statements k s at =
 
 pub width_small : (f : Form) → width_of f ≤ 4
 width_small form.Nothing = omega arith
-width_small (form.Lui rd) = omega arith
-width_small (form.Auipc rd) = omega arith
-width_small (form.Jal rd) = omega arith
-width_small (form.Jalr rd rs1) = omega arith
-width_small (form.Branch op rs1 rs2) = omega arith
-width_small (form.Load op rd rs1) = omega arith
-width_small (form.Store op rs1 rs2) = omega arith
-width_small (form.Imm op rd rs1) = omega arith
-width_small (form.Reg op rd rs1 rs2) = omega arith
-width_small form.Fence = omega arith
-width_small form.Ecall = omega arith
-width_small form.Ebreak = omega arith
-width_small form.Word = omega arith
-width_small form.Entry = omega arith
-width_small (form.Data bytes) = omega arith
+width_small _ = omega arith
 
 -- ---- labels
 
