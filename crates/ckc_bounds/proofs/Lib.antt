@@ -1,5 +1,4 @@
 pub mod Frames
-pub mod Turns
 pub mod Lists
 pub mod CodedTexts
 pub mod WholeBodies

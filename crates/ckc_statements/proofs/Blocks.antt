@@ -12,7 +12,7 @@ use Rattle.ckc_typed.specs.Trees.{NotedAct, NotedStmt}
 use Rattle.ckc_points.specs.declared.frame.HeadBounds.{HeadBounds}
 use Rattle.ckc_points.specs.declared.frame.Frame.{Frame}
 use Rattle.ckc_statements.specs.Paths.{Here, all_judged, block_judged, stated, closed, path, path_of_act}
-use Rattle.ckc_statements.proofs.Sequels.{stops}
+use Rattle.ckc_syntax.proofs.Sequels.{stops}
 
 module _ (frame : Frame) (head : HeadBounds) (at : Pos) (note : Note) (here : Here) where
   abbrev becomes : NotedAct → Outcome (NotedStmt × Here)

@@ -1,4 +1,4 @@
-pub mod Sequels
+pub mod Mapped
 pub mod Coded
 pub mod CodedViews
 pub mod CodedStores

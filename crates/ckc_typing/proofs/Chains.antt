@@ -3,7 +3,7 @@ use Rattle.std.proofs.Common.{◌≡◌, Ok, Err, Result, ap, sym, ◌∙◌, su
 use Rattle.ckc_base.specs.declared.fault.Fault.{Fault}
 use Rattle.ckc_base.specs.Outcomes.{Outcome, bind}
 use Rattle.ckc_base.specs.Outcomes.{AnswersOutcome}
-use Rattle.ckc_typing.proofs.Turns.{stops}
+use Rattle.ckc_syntax.proofs.Turns.{stops}
 
 -- a step of a chain that fails
 pub fails : {A B : Type 0} (o o' : Outcome A) (k : A → Outcome B) (whole : Outcome B) (r : Result B Fault) (y x : Fault) → whole ≡ bind o k → o ≡ o' → r ≡ Err y → y ≡ x → AnswersOutcome {A = A} (Err x) o' → AnswersOutcome r whole

@@ -8,7 +8,7 @@ use Rattle.ckc_typed.specs.declared.environment.Globals.{Globals}
 use Rattle.ckc_base.specs.Outcomes.{Outcome, bind}
 use Rattle.ckc_typed.specs.Trees.{Item, NotedItem}
 use Rattle.ckc_typed.specs.Texts.{item_typed, items_typed, pragma_after}
-use Rattle.ckc_typing.proofs.Turns.{ahead}
+use Rattle.ckc_syntax.proofs.Turns.{ahead}
 
 module _ (globals : Globals) (pragma : Mode) (xs : List Item) (i : ℕ) where
   abbrev rest_after : Item → NotedItem → Outcome (List NotedItem)

@@ -1,5 +1,4 @@
 pub mod Nodes
-pub mod Turns
 pub mod Chains
 pub mod Acts
 pub mod Scopes

@@ -11,7 +11,7 @@ use Rattle.ckc_typed.specs.Constants.{size_of}
 use Rattle.ckc_typed.specs.Statics.{placed, begin_behind, end_of_block, end_of_blocks, LAST_END}
 use Rattle.ckc_base.specs.Places.{start}
 use Rattle.ckc_typing.specs.Placing.{placed_behind}
-use Rattle.ckc_typing.proofs.Turns.{ahead}
+use Rattle.ckc_syntax.proofs.Turns.{ahead}
 
 is_less : (a b : ℕ) → a < b → nat_lt a b ≡ true
 is_less a b h = grind (arith, nat_tests)

@@ -4,7 +4,8 @@ use Rattle.ckc_base.specs.Outcomes.{Outcome, in_turn}
 use Rattle.ckc_typed.specs.Trees.{NotedStmt}
 use Rattle.ckc_statements.specs.Paths.{Here, Path, path, all_judged}
 use Rattle.ckc_statements.specs.Walks.{here}
-use Rattle.ckc_statements.proofs.Sequels.{begin, turned_by, stops, turn_fault, turn_done, turn_end}
+use Rattle.ckc_syntax.proofs.Sequels.{begin, stops, turn_fault, turn_done, turn_end}
+use Rattle.ckc_statements.proofs.Mapped.{turned_by}
 use Rattle.ckc_statements.proofs.Blocks.{block_goes, block_stops}
 use Rattle.ckc_statements.proofs.statements.+stmt.Goals as goal
 

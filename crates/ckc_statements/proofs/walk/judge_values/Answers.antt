@@ -1,7 +1,7 @@
 use Rattle.std.proofs.lemmas.Result.{err_from_is_err_and}
 use Rattle.ckc_statements.specs.Paths.{value_judged, values_judged}
 use Rattle.ckc_statements.specs.Walks.{here}
-use Rattle.ckc_statements.proofs.Sequels.{begin, stops, turn_fault, turn_done, turn_end}
+use Rattle.ckc_syntax.proofs.Sequels.{begin, stops, turn_fault, turn_done, turn_end}
 use Rattle.ckc_statements.proofs.walk.judge_values.Goals as goal
 
 pub loop-e-init : goal.loop-e-init
