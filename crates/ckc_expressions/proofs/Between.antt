@@ -14,7 +14,7 @@ use Rattle.ckc_grammar.specs.Reading as T
 use Rattle.ckc_grammar.specs.Forms.{alone, is_unknown_alone}
 use Rattle.ckc_grammar.proofs.Theory.{one_rule}
 use Rattle.ckc_grammar.proofs.Steps.{also, then_stops, here_stops, by_rule, stop_rule}
-use Rattle.ckc_grammar.proofs.Defaults.{default_unknown_rest}
+use Rattle.ckc_grammar.proofs.Defaults.{usual}
 use Rattle.ckc_grammar.proofs.Others.{named, unnamed}
 
 alone_yes : (q r : Kind) → q ≡ kind.Unknown → r ≡ kind.RoundClose → alone q r ≡ true
@@ -160,7 +160,7 @@ opened_by a q u f (unknown h) first =
     let y = naming a q u (ap is_name h) first in
     let word = is_unknown h y.first in
     let pk : pick g.bounds_rest (kind_of a) ≡ Some g.Unknown = ap (λ z. pick g.bounds_rest z) h in
-    let upk = default_unknown_rest (kind_of y.mid) (λ e. not_close h f y.first e) in
+    let upk = usual g.unknown_rest (kind_of y.mid) (λ e. not_close h f y.first e) in
     record {
       taken = λ r c e d b x. (
         made g.Unknown (y.word ∷ made g.UnknownName (y.posts ∷ r ∷ c ∷ e ∷ d ∷ []) ∷ []),
@@ -193,7 +193,7 @@ shut_by_start a b f (name h) d =
 shut_by_start a b f (unknown h) d =
     let y = shut_named a b (ap is_name h) d in
     let pk : pick g.bounds_rest (kind_of a) ≡ Some g.Unknown = ap (λ z. pick g.bounds_rest z) h in
-    let upk = default_unknown_rest (kind_of y.1) (λ e. not_close h f y.2 e) in
+    let upk = usual g.unknown_rest (kind_of y.1) (λ e. not_close h f y.2 e) in
     stop_rule g.Unknown pk (then_stops (is_unknown h y.2) (stop_rule g.UnknownName upk (here_stops _ y.3)))
 
 halt_by : (a b : List Sign) → is_unknown_alone a ≡ false → Halt (n g.unary) (n g.expr_rest ∷ []) a b → Stops (n g.bounds_rest ∷ []) a b

@@ -1,3 +1,4 @@
 pub mod Between
 pub mod Callocs
+pub mod Exits
 pub mod Postfix

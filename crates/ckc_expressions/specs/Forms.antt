@@ -1,23 +1,39 @@
 -- What functions give that read a part of a production.
-use Rattle.std.specs.Prelude.{Bool, true, false, ◌≡◌, ◌||◌, List, [], ◌∷◌, Option}
+use Rattle.std.specs.Prelude.{◌≡◌, ℕ, List, [], ◌∷◌, Option, Result}
 use Rattle.ckc_grammar.specs.declared.kind.Kind.{Kind}
 use Rattle.ckc_grammar.specs.declared.kind.Kind.TheVariants as kind
-use Rattle.ckc_grammar.specs.Kinds.{is_operator}
-use Rattle.ckc_grammar.specs.Grammar.{Symbol, t, n, k, greater, is_greater, type_name, expr, bounds_cast}
+use Rattle.ckc_grammar.specs.Grammar.{Symbol, Part, t, n, k, greater, type_name, expr, bounds_cast, size}
 use Rattle.ckc_base.specs.declared.places.Pos.{Pos}
 use Rattle.ckc_syntax.specs.declared.tree.Node.TheVariants as node
 use Rattle.ckc_syntax.specs.declared.tree.Limits.TheVariants as bounds
 use Rattle.ckc_grammar.specs.Trees.{TypeTree, Expr, Limits, expr_at}
 use Rattle.ckc_grammar.specs.Derives.{Sign}
-use Rattle.ckc_grammar.specs.Reading.{kind_of}
-use Rattle.ckc_grammar.specs.Values.{Value, place, type_of, operand_of, limits_of, as_expr, as_limits_at}
+use Rattle.ckc_grammar.specs.Reading.{Takes}
+use Rattle.ckc_grammar.specs.declared.parts.Stop.{Stop}
+use Rattle.ckc_grammar.specs.Marked.{Answered}
+use Rattle.ckc_grammar.specs.Values.{Value, place, type_of, operand_of, limits_of, as_expr, as_size, as_limits_at}
 
--- a checked pointer type: its keyword, and the type in `<` and `>`
-abbrev pub pointed : Kind → List Symbol
-pointed word = k word ∷ k kind.Less ∷ n type_name ∷ t greater ∷ []
+-- Some symbols are taken with values of which the result tells those that count.
+abbrev pub Tells : {X A : Type 0} → List Symbol → (X → A → List Value) → List Sign → Result X Stop → List Sign → Type 0
+Tells {A = A} ss values old r new = Answered (λ x. (a : A) × Takes ss old (values x a) new) ss old r new
 
-abbrev pub IsThird : Value → List Value → Type 0
-IsThird x vs = (a : Value) × (b : Value) × (c : Value) × (vs ≡ a ∷ b ∷ x ∷ c ∷ [])
+-- a type in `<` and `>`, a part in parentheses, and the values of these
+abbrev pub in_angles : List Symbol
+in_angles = k kind.Less ∷ n type_name ∷ t greater ∷ []
+
+abbrev pub in_parentheses : Part → List Symbol
+in_parentheses p = k kind.RoundOpen ∷ n p ∷ k kind.RoundClose ∷ []
+
+abbrev pub enclosed : Value → Value × Value → List Value
+enclosed x marks = marks.0 ∷ x ∷ marks.1 ∷ []
+
+-- the size of an array in brackets, and the place of the `[`
+abbrev pub in_brackets : List Symbol
+in_brackets = k kind.SquareOpen ∷ n size ∷ k kind.SquareClose ∷ []
+
+abbrev pub Bracketed : List Sign → Result (Option ℕ × Pos) Stop → List Sign → Type 0
+Bracketed old r new =
+    Answered (λ x. (a : Value) × (s : Value) × (b : Value) × Takes in_brackets old (a ∷ s ∷ b ∷ []) new × ((as_size s, place a) ≡ x)) in_brackets old r new
 
 -- the type of a bounds cast in `<` and `>`, with the `(` behind it
 abbrev pub cast_type : List Symbol

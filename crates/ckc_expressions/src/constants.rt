@@ -5,10 +5,9 @@ ghost use Rattle.ckc_grammar.specs.Trees.{literal};
 ghost use Rattle.ckc_grammar.specs.Values.{Value, expr, named, as_token};
 ghost use Rattle.ckc_grammar.specs.Marked.{ahead, remaining, Parses, Reads, Makes};
 
-use crate::types::type_name;
-use ckc_base::Boxed;
-use ckc_grammar::{Class, Expression, Kind, Reader, Stop};
-use ckc_syntax::{Expr, Node, Spelling, Token, TokenKind, string_bytes};
+use crate::types::type_in_parentheses;
+use ckc_grammar::{Class, Expression, Kind, Reader, Stop, expression};
+use ckc_syntax::{Node, Spelling, Token, TokenKind, string_bytes};
 use std::alloc::{AllocError, Global};
 
 /// A number, a character, a string, `NULL` or `EOF` (ISO C11, 6.4.4 and 6.4.5).
@@ -32,14 +31,7 @@ fn literal<'a>(reader: &mut Reader<'a>, alloc: Global) -> Result<Expression<'a>,
     ensures fewer { remaining reader.new ≤ remaining reader.old }
 {
     let token = reader.take_any(Class::Literal)?;
-    let whole = Boxed::new(
-        alloc,
-        Expr {
-            node: literal_node(token.kind),
-            pos: token.pos,
-            note: (),
-        },
-    )?;
+    let whole = expression(alloc, literal_node(token.kind), token.pos)?;
     Ok(whole)
 }
 
@@ -51,14 +43,7 @@ fn string<'a>(reader: &mut Reader<'a>, alloc: Global) -> Result<Expression<'a>, 
 {
     let token = reader.take(Kind::Text)?;
     let bytes = string_bytes(alloc, token.text)?;
-    let whole = Boxed::new(
-        alloc,
-        Expr {
-            node: Node::Text(bytes),
-            pos: token.pos,
-            note: (),
-        },
-    )?;
+    let whole = expression(alloc, Node::Text(bytes), token.pos)?;
     Ok(whole)
 }
 
@@ -69,14 +54,7 @@ fn null<'a>(reader: &mut Reader<'a>, alloc: Global) -> Result<Expression<'a>, St
     ensures fewer { remaining reader.new ≤ remaining reader.old }
 {
     let token = reader.take(Kind::Null)?;
-    let whole = Boxed::new(
-        alloc,
-        Expr {
-            node: Node::Null,
-            pos: token.pos,
-            note: (),
-        },
-    )?;
+    let whole = expression(alloc, Node::Null, token.pos)?;
     Ok(whole)
 }
 
@@ -87,14 +65,7 @@ fn end_of_file<'a>(reader: &mut Reader<'a>, alloc: Global) -> Result<Expression<
     ensures fewer { remaining reader.new ≤ remaining reader.old }
 {
     let token = reader.take(Kind::Eof)?;
-    let whole = Boxed::new(
-        alloc,
-        Expr {
-            node: Node::Number(u32::MAX, false),
-            pos: token.pos,
-            note: (),
-        },
-    )?;
+    let whole = expression(alloc, Node::Number(u32::MAX, false), token.pos)?;
     Ok(whole)
 }
 
@@ -117,17 +88,8 @@ pub fn size_of<'a>(reader: &mut Reader<'a>, alloc: Global) -> Result<Expression<
     ensures fewer { remaining reader.new ≤ remaining reader.old }
 {
     let keyword = reader.take(Kind::Sizeof)?;
-    let open = reader.take(Kind::RoundOpen)?;
-    let ctype = type_name(reader, alloc)?;
-    let close = reader.take(Kind::RoundClose)?;
-    let whole = Boxed::new(
-        alloc,
-        Expr {
-            node: Node::Size(ctype.into_inner()),
-            pos: keyword.pos,
-            note: (),
-        },
-    )?;
+    let ctype = type_in_parentheses(reader, alloc)?;
+    let whole = expression(alloc, Node::Size(ctype.into_inner()), keyword.pos)?;
     Ok(whole)
 }
 
@@ -146,12 +108,5 @@ fn literal_node<'a>(kind: TokenKind) -> Node<Spelling<'a>, ()>
 pub fn named<'a>(alloc: Global, name: Token<'a>) -> Result<Expression<'a>, AllocError>
     ensures { IfOk result (λ e. e ≡ named (spelled name.entry)) }
 {
-    Boxed::new(
-        alloc,
-        Expr {
-            node: Node::Name(Spelling::new(name.text)),
-            pos: name.pos,
-            note: (),
-        },
-    )
+    expression(alloc, Node::Name(Spelling::new(name.text)), name.pos)
 }

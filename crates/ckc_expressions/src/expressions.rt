@@ -6,16 +6,16 @@ ghost use Rattle.ckc_grammar.specs.Trees.{posted};
 ghost use Rattle.ckc_grammar.specs.Values.{Value, expr, arms, limits, declared_limits, type_tree, made, as_steps, as_arms, as_post, as_posts, as_expr_behind};
 ghost use Rattle.ckc_grammar.specs.Marked.{ahead, remaining, Answered, Parses, Gives, Reads, Makes};
 ghost use Rattle.ckc_grammar.specs.Forms.{is_unknown_alone};
-ghost use Rattle.ckc_expressions.specs.Forms.{cast_by, IsCast, cast_type, IsSecond, sized, IsSized, IsBetween, cast_of, sized_of};
+ghost use Rattle.ckc_expressions.specs.Forms.{Tells, in_parentheses, enclosed, cast_by, IsCast, cast_type, IsSecond, sized, IsSized, IsBetween, cast_of, sized_of};
 ghost use Rattle.ckc_grammar.specs.Reading.{Takes};
 
 use crate::constants::{constant, name_operand, size_of};
 use crate::operations::operation;
-use crate::types::type_name;
+use crate::types::{type_in_angles, type_name};
 use ckc_base::{Boxed, Pos, Seq};
 use ckc_grammar::{
     Arms, Bounds, CType, Class, Expression, Kind, Reader, Rest, Step, Stop, begins_post,
-    begins_step, begins_type, is_name, is_sign, sign_op, token_kind, whole,
+    begins_step, begins_type, expression, is_name, is_sign, sign_op, token_kind, whole,
 };
 use ckc_syntax::{Expr, Limits, Node, Spelling};
 use std::alloc::{AllocError, Global};
@@ -145,13 +145,10 @@ fn signed<'a>(reader: &mut Reader<'a>, alloc: Global) -> Result<Expression<'a>, 
 {
     let sign = reader.take_any(Class::Sign)?;
     let operand = unary(reader, alloc)?;
-    let whole = Boxed::new(
+    let whole = expression(
         alloc,
-        Expr {
-            node: Node::Un(sign_op(token_kind(&sign)), operand),
-            pos: sign.pos,
-            note: (),
-        },
+        Node::Un(sign_op(token_kind(&sign)), operand),
+        sign.pos,
     )?;
     Ok(whole)
 }
@@ -181,14 +178,7 @@ fn cast<'a>(reader: &mut Reader<'a>, alloc: Global, pos: Pos) -> Result<Expressi
     let ctype = type_name(reader, alloc)?;
     let close = reader.take(Kind::RoundClose)?;
     let operand = unary(reader, alloc)?;
-    let whole = Boxed::new(
-        alloc,
-        Expr {
-            node: Node::Cast(ctype.into_inner(), operand),
-            pos: pos,
-            note: (),
-        },
-    )?;
+    let whole = expression(alloc, Node::Cast(ctype.into_inner(), operand), pos)?;
     Ok(whole)
 }
 
@@ -270,14 +260,7 @@ fn index<'a>(
     let open = reader.take(Kind::SquareOpen)?;
     let index = expr(reader, alloc)?;
     let close = reader.take(Kind::SquareClose)?;
-    let whole = Boxed::new(
-        alloc,
-        Expr {
-            node: Node::Index(base, index),
-            pos: open.pos,
-            note: (),
-        },
-    )?;
+    let whole = expression(alloc, Node::Index(base, index), open.pos)?;
     Ok(whole)
 }
 
@@ -295,13 +278,10 @@ fn dot<'a>(
 {
     let mark = reader.take(Kind::Dot)?;
     let name = reader.take_any(Class::Name)?;
-    let whole = Boxed::new(
+    let whole = expression(
         alloc,
-        Expr {
-            node: Node::Dot(base, Spelling::new(name.text), name.pos),
-            pos: mark.pos,
-            note: (),
-        },
+        Node::Dot(base, Spelling::new(name.text), name.pos),
+        mark.pos,
     )?;
     Ok(whole)
 }
@@ -320,13 +300,10 @@ fn arrow<'a>(
 {
     let mark = reader.take(Kind::Arrow)?;
     let name = reader.take_any(Class::Name)?;
-    let whole = Boxed::new(
+    let whole = expression(
         alloc,
-        Expr {
-            node: Node::Arrow(base, Spelling::new(name.text), name.pos),
-            pos: mark.pos,
-            note: (),
-        },
+        Node::Arrow(base, Spelling::new(name.text), name.pos),
+        mark.pos,
     )?;
     Ok(whole)
 }
@@ -371,9 +348,7 @@ fn cast_type<'a>(reader: &mut Reader<'a>, alloc: Global) -> Result<CType<'a>, St
         (ahead reader.new) }
     ensures fewer { remaining reader.new ≤ remaining reader.old }
 {
-    let open = reader.take(Kind::Less)?;
-    let ctype = type_name(reader, alloc)?;
-    let close = reader.take_any(Class::Greater)?;
+    let ctype = type_in_angles(reader, alloc)?;
     let round = reader.take(Kind::RoundOpen)?;
     Ok(ctype)
 }
@@ -409,6 +384,19 @@ pub fn limits<'a>(reader: &mut Reader<'a>, alloc: Global) -> Result<Bounds<'a>, 
     }
 }
 
+/// An expression in parentheses.
+#[cycle(expr)]
+pub fn in_parentheses<'a>(reader: &mut Reader<'a>, alloc: Global) -> Result<Expression<'a>, Stop>
+    ensures tells { Tells (in_parentheses g.expr) (λ x. enclosed (expr x)) (ahead reader.old) result
+        (ahead reader.new) }
+    ensures fewer { remaining reader.new ≤ remaining reader.old }
+{
+    let open = reader.take(Kind::RoundOpen)?;
+    let inner = expr(reader, alloc)?;
+    let close = reader.take(Kind::RoundClose)?;
+    Ok(inner)
+}
+
 /// `count(e)` or `byte_count(e)`.
 #[cycle(expr)]
 fn sized<'a>(reader: &mut Reader<'a>, alloc: Global, word: Kind) -> Result<Bounds<'a>, Stop>
@@ -418,9 +406,7 @@ fn sized<'a>(reader: &mut Reader<'a>, alloc: Global, word: Kind) -> Result<Bound
     ensures fewer { remaining reader.new ≤ remaining reader.old }
 {
     let keyword = reader.take(word)?;
-    let open = reader.take(Kind::RoundOpen)?;
-    let amount = expr(reader, alloc)?;
-    let close = reader.take(Kind::RoundClose)?;
+    let amount = in_parentheses(reader, alloc)?;
     let whole = sized_limits(alloc, word, amount, keyword.pos)?;
     Ok(whole)
 }

@@ -5,10 +5,11 @@ ghost use Rattle.ckc_grammar.specs.Grammar as g;
 ghost use Rattle.ckc_grammar.specs.Trees as trees;
 ghost use Rattle.ckc_grammar.specs.Values as v;
 ghost use Rattle.ckc_grammar.specs.Marked.{ahead, remaining, Gives, Reads};
+ghost use Rattle.ckc_expressions.specs.Forms.{Bracketed};
 
 use crate::expressions::{expr, limits};
 use crate::values::value;
-use ckc_base::Seq;
+use ckc_base::{Pos, Seq};
 use ckc_grammar::{
     Bounds, Expression, Kind, Reader, Stop, add, declaration, number_of, one, one_of,
 };
@@ -60,10 +61,18 @@ fn raw_array<'a>(reader: &mut Reader<'a>) -> Result<Length, Stop>
     ensures reads { Reads (g.right g.RawArray) (λ x vs. v.as_length (v.made g.RawArray vs) ≡ x)
         (ahead reader.old) result (ahead reader.new) }
 {
+    let size = in_brackets(reader)?;
+    Ok(Length::Raw(size.0, size.1))
+}
+
+/// The size of an array in brackets, and the place of the `[`.
+fn in_brackets<'a>(reader: &mut Reader<'a>) -> Result<(Option<u32>, Pos), Stop>
+    ensures reads { Bracketed (ahead reader.old) result (ahead reader.new) }
+{
     let open = reader.take(Kind::SquareOpen)?;
     let size = size(reader)?;
     let close = reader.take(Kind::SquareClose)?;
-    Ok(Length::Raw(size, open.pos))
+    Ok((size, open.pos))
 }
 
 /// `_Checked [n]`.
@@ -73,10 +82,8 @@ fn checked_array<'a>(reader: &mut Reader<'a>) -> Result<Length, Stop>
         (ahead reader.new) }
 {
     let word = reader.take(Kind::Checked)?;
-    let open = reader.take(Kind::SquareOpen)?;
-    let size = size(reader)?;
-    let close = reader.take(Kind::SquareClose)?;
-    Ok(Length::Checked(size))
+    let size = in_brackets(reader)?;
+    Ok(Length::Checked(size.0))
 }
 
 /// `_Nt_checked [n]`.
@@ -85,10 +92,8 @@ fn nt_array<'a>(reader: &mut Reader<'a>) -> Result<Length, Stop>
         (ahead reader.old) result (ahead reader.new) }
 {
     let word = reader.take(Kind::NtChecked)?;
-    let open = reader.take(Kind::SquareOpen)?;
-    let size = size(reader)?;
-    let close = reader.take(Kind::SquareClose)?;
-    Ok(Length::Nt(size))
+    let size = in_brackets(reader)?;
+    Ok(Length::Nt(size.0))
 }
 
 /// The number in the brackets of an array, where there is one.

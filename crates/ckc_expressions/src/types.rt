@@ -1,9 +1,9 @@
-ghost use Rattle.std.specs.Prelude.{◌≢◌, ◌≤◌, length, IfOk};
+ghost use Rattle.std.specs.Prelude.{◌≤◌, length, IfOk};
 ghost use Rattle.ckc_grammar.specs.Grammar as g;
 ghost use Rattle.ckc_grammar.specs.Trees.{starred};
 ghost use Rattle.ckc_grammar.specs.Values.{nothing, type_tree, as_stars};
 ghost use Rattle.ckc_grammar.specs.Marked.{ahead, remaining, Parses, Gives, Reads, Makes};
-ghost use Rattle.ckc_expressions.specs.Forms.{pointed, IsThird};
+ghost use Rattle.ckc_expressions.specs.Forms.{Tells, in_angles, in_parentheses, enclosed};
 
 use ckc_base::Boxed;
 use ckc_grammar::{CType, Class, Kind, Reader, Stop};
@@ -135,7 +135,8 @@ fn one_pointer<'a>(reader: &mut Reader<'a>, alloc: Global) -> Result<CType<'a>, 
         (ahead reader.old) result (ahead reader.new) }
     ensures fewer { remaining reader.new ≤ remaining reader.old }
 {
-    let inner = pointed(reader, alloc, Kind::Ptr)?;
+    let word = reader.take(Kind::Ptr)?;
+    let inner = type_in_angles(reader, alloc)?;
     let base = Boxed::new(alloc, TypeTree::One(inner))?;
     Ok(base)
 }
@@ -147,7 +148,8 @@ fn array_pointer<'a>(reader: &mut Reader<'a>, alloc: Global) -> Result<CType<'a>
         (ahead reader.old) result (ahead reader.new) }
     ensures fewer { remaining reader.new ≤ remaining reader.old }
 {
-    let inner = pointed(reader, alloc, Kind::ArrayPtr)?;
+    let word = reader.take(Kind::ArrayPtr)?;
+    let inner = type_in_angles(reader, alloc)?;
     let base = Boxed::new(alloc, TypeTree::Arr(inner))?;
     Ok(base)
 }
@@ -159,22 +161,33 @@ fn nt_pointer<'a>(reader: &mut Reader<'a>, alloc: Global) -> Result<CType<'a>, S
         (ahead reader.old) result (ahead reader.new) }
     ensures fewer { remaining reader.new ≤ remaining reader.old }
 {
-    let inner = pointed(reader, alloc, Kind::NtArrayPtr)?;
+    let word = reader.take(Kind::NtArrayPtr)?;
+    let inner = type_in_angles(reader, alloc)?;
     let base = Boxed::new(alloc, TypeTree::Nt(inner))?;
     Ok(base)
 }
 
-/// The type that a checked pointer points to, behind its keyword.
+/// A type in `<` and `>`.
 #[cycle(types)]
-fn pointed<'a>(reader: &mut Reader<'a>, alloc: Global, keyword: Kind) -> Result<CType<'a>, Stop>
-    requires { keyword ≢ Kind.End }
-    ensures reads { Reads (pointed keyword) (λ x vs. IsThird (type_tree x) vs) (ahead reader.old)
-        result (ahead reader.new) }
+pub fn type_in_angles<'a>(reader: &mut Reader<'a>, alloc: Global) -> Result<CType<'a>, Stop>
+    ensures tells { Tells in_angles (λ x. enclosed (type_tree x)) (ahead reader.old) result
+        (ahead reader.new) }
     ensures fewer { remaining reader.new ≤ remaining reader.old }
 {
-    let word = reader.take(keyword)?;
     let open = reader.take(Kind::Less)?;
     let inner = type_name(reader, alloc)?;
     let close = reader.take_any(Class::Greater)?;
+    Ok(inner)
+}
+
+/// A type in parentheses.
+pub fn type_in_parentheses<'a>(reader: &mut Reader<'a>, alloc: Global) -> Result<CType<'a>, Stop>
+    ensures tells { Tells (in_parentheses g.type_name) (λ x. enclosed (type_tree x))
+        (ahead reader.old) result (ahead reader.new) }
+    ensures fewer { remaining reader.new ≤ remaining reader.old }
+{
+    let open = reader.take(Kind::RoundOpen)?;
+    let inner = type_name(reader, alloc)?;
+    let close = reader.take(Kind::RoundClose)?;
     Ok(inner)
 }

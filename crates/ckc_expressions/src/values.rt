@@ -9,11 +9,11 @@ ghost use Rattle.ckc_grammar.specs.Marked.{ahead, remaining, Answered, Gives, Re
 
 use crate::constants::named;
 use crate::expressions::{expr, expr_rest, first, posts, unary};
-use crate::types::type_name;
+use crate::types::{type_in_parentheses, type_name};
 use ckc_base::{Pos, Seq};
 use ckc_grammar::{
-    CType, Class, Expression, Kind, Reader, Statement, Step, Stop, called, expression, one,
-    statement, whole,
+    CType, Class, Expression, Kind, Reader, Statement, Step, Stop, begins_type, called, expression,
+    is_name, one, statement, whole,
 };
 use ckc_syntax::{Act, Expr, Node, Spelling, Token, TreeOp};
 use std::alloc::{AllocError, Global};
@@ -24,14 +24,13 @@ pub fn value<'a>(reader: &mut Reader<'a>, alloc: Global) -> Result<Expression<'a
         (ahead reader.new) }
     ensures fewer { remaining reader.new ≤ remaining reader.old }
 {
-    match reader.kind() {
-        Kind::Calloc => calloc_first(reader, alloc),
-        Kind::Name => name_first(reader, alloc),
-        Kind::Count => name_first(reader, alloc),
-        Kind::ByteCount => name_first(reader, alloc),
-        Kind::Bounds => name_first(reader, alloc),
-        Kind::Unknown => name_first(reader, alloc),
-        _ => other_value(reader, alloc),
+    if let Kind::Calloc = reader.kind() {
+        return calloc_first(reader, alloc);
+    }
+    if is_name(reader.kind()) {
+        name_first(reader, alloc)
+    } else {
+        other_value(reader, alloc)
     }
 }
 
@@ -179,31 +178,11 @@ fn behind_less<'a>(
         (g.n g.less) (ahead reader.old) result (ahead reader.new) }
     ensures fewer { remaining reader.new ≤ remaining reader.old }
 {
-    match reader.kind() {
-        Kind::Int => less_type(reader, alloc, name, mark),
-        Kind::Unsigned => less_type(reader, alloc, name, mark),
-        Kind::Char => less_type(reader, alloc, name, mark),
-        Kind::Struct => less_type(reader, alloc, name, mark),
-        Kind::Ptr => less_type(reader, alloc, name, mark),
-        Kind::ArrayPtr => less_type(reader, alloc, name, mark),
-        Kind::NtArrayPtr => less_type(reader, alloc, name, mark),
-        _ => less_operand(reader, alloc, name, mark),
+    if begins_type(reader.kind()) {
+        allocation(reader, alloc, name)
+    } else {
+        less_operand(reader, alloc, name, mark)
     }
-}
-
-/// A call with a type, behind its `<`.
-fn less_type<'a>(
-    reader: &mut Reader<'a>,
-    alloc: Global,
-    name: Token<'a>,
-    mark: Token<'a>,
-) -> Result<Expression<'a>, Stop>
-    ensures reads { Reads (g.right g.LessType)
-        (λ x vs. v.as_expr_of_less (v.made g.LessType vs) (spelled name.entry)
-        (v.place (v.token (spelled mark.entry))) ≡ x) (ahead reader.old) result (ahead reader.new) }
-    ensures fewer { remaining reader.new ≤ remaining reader.old }
-{
-    allocation(reader, alloc, name)
 }
 
 /// An operand of `<` with what follows it.
@@ -331,9 +310,7 @@ fn allocated_size<'a>(reader: &mut Reader<'a>, alloc: Global) -> Result<CType<'a
 {
     let comma = reader.take(Kind::Comma)?;
     let word = reader.take(Kind::Sizeof)?;
-    let round = reader.take(Kind::RoundOpen)?;
-    let ctype = type_name(reader, alloc)?;
-    let end = reader.take(Kind::RoundClose)?;
+    let ctype = type_in_parentheses(reader, alloc)?;
     let last = reader.take(Kind::RoundClose)?;
     Ok(ctype)
 }

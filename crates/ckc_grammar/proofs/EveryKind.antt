@@ -1,5 +1,5 @@
 -- The list of all kinds.
-use Rattle.std.proofs.Common.{◌≡◌, List, [], ◌∷◌, ◌<◌, refl, get_or, length, lit<}
+use Rattle.std.proofs.Common.{◌≡◌, List, [], ◌∷◌, refl, get_or}
 use Rattle.ckc_grammar.specs.declared.kind.Kind.{Kind}
 use Rattle.ckc_grammar.specs.declared.kind.Kind.TheVariants as kind
 use Rattle.ckc_grammar.specs.Kinds.{number}
@@ -79,76 +79,3 @@ kind_at kind.EqualsEquals = refl
 kind_at kind.NotEquals = refl
 kind_at kind.AndAnd = refl
 kind_at kind.BarBar = refl
-
-pub kind_low : (c : Kind) → number c < length all_kinds
-kind_low kind.End = lit< tt
-kind_low kind.Name = lit< tt
-kind_low kind.Calloc = lit< tt
-kind_low kind.Count = lit< tt
-kind_low kind.ByteCount = lit< tt
-kind_low kind.Bounds = lit< tt
-kind_low kind.Unknown = lit< tt
-kind_low kind.Number = lit< tt
-kind_low kind.Character = lit< tt
-kind_low kind.Text = lit< tt
-kind_low kind.Directive = lit< tt
-kind_low kind.Other = lit< tt
-kind_low kind.Int = lit< tt
-kind_low kind.Unsigned = lit< tt
-kind_low kind.Char = lit< tt
-kind_low kind.Void = lit< tt
-kind_low kind.Struct = lit< tt
-kind_low kind.Static = lit< tt
-kind_low kind.If = lit< tt
-kind_low kind.Else = lit< tt
-kind_low kind.While = lit< tt
-kind_low kind.For = lit< tt
-kind_low kind.Return = lit< tt
-kind_low kind.Break = lit< tt
-kind_low kind.Continue = lit< tt
-kind_low kind.Sizeof = lit< tt
-kind_low kind.Null = lit< tt
-kind_low kind.Eof = lit< tt
-kind_low kind.Ptr = lit< tt
-kind_low kind.ArrayPtr = lit< tt
-kind_low kind.NtArrayPtr = lit< tt
-kind_low kind.Checked = lit< tt
-kind_low kind.Unchecked = lit< tt
-kind_low kind.NtChecked = lit< tt
-kind_low kind.Bundled = lit< tt
-kind_low kind.Check = lit< tt
-kind_low kind.Tested = lit< tt
-kind_low kind.Trusted = lit< tt
-kind_low kind.RoundOpen = lit< tt
-kind_low kind.RoundClose = lit< tt
-kind_low kind.CurlyOpen = lit< tt
-kind_low kind.CurlyClose = lit< tt
-kind_low kind.SquareOpen = lit< tt
-kind_low kind.SquareClose = lit< tt
-kind_low kind.Less = lit< tt
-kind_low kind.Greater = lit< tt
-kind_low kind.GreaterNext = lit< tt
-kind_low kind.Comma = lit< tt
-kind_low kind.Semicolon = lit< tt
-kind_low kind.Colon = lit< tt
-kind_low kind.Question = lit< tt
-kind_low kind.Equals = lit< tt
-kind_low kind.Dot = lit< tt
-kind_low kind.Arrow = lit< tt
-kind_low kind.Plus = lit< tt
-kind_low kind.Minus = lit< tt
-kind_low kind.Star = lit< tt
-kind_low kind.Slash = lit< tt
-kind_low kind.Percent = lit< tt
-kind_low kind.Ampersand = lit< tt
-kind_low kind.Bar = lit< tt
-kind_low kind.Caret = lit< tt
-kind_low kind.Tilde = lit< tt
-kind_low kind.Exclamation = lit< tt
-kind_low kind.ShiftLeft = lit< tt
-kind_low kind.LessEquals = lit< tt
-kind_low kind.GreaterEquals = lit< tt
-kind_low kind.EqualsEquals = lit< tt
-kind_low kind.NotEquals = lit< tt
-kind_low kind.AndAnd = lit< tt
-kind_low kind.BarBar = lit< tt

@@ -1,5 +1,5 @@
 -- The list of all parts.
-use Rattle.std.proofs.Common.{◌≡◌, ℕ, List, [], ◌∷◌, ◌<◌, refl, get_or, length, lit<}
+use Rattle.std.proofs.Common.{◌≡◌, ℕ, List, [], ◌∷◌, refl, get_or}
 use Rattle.ckc_grammar.specs.Grammar.{Part, Rule}
 use Rattle.ckc_grammar.specs.Grammar as g
 
@@ -156,78 +156,3 @@ part_at g.primary = refl
 part_at g.bounds_cast = refl
 part_at g.cast_limits = refl
 part_at g.constant = refl
-
-pub part_low : (p : Part) → part_number p < length all_parts
-part_low g.text = lit< tt
-part_low g.items = lit< tt
-part_low g.structure = lit< tt
-part_low g.declaration = lit< tt
-part_low g.declared = lit< tt
-part_low g.declarators = lit< tt
-part_low g.declarator = lit< tt
-part_low g.objects = lit< tt
-part_low g.object = lit< tt
-part_low g.object_rest = lit< tt
-part_low g.array = lit< tt
-part_low g.size = lit< tt
-part_low g.initial = lit< tt
-part_low g.initializer = lit< tt
-part_low g.list_rest = lit< tt
-part_low g.list_more = lit< tt
-part_low g.head = lit< tt
-part_low g.body = lit< tt
-part_low g.params = lit< tt
-part_low g.more_params = lit< tt
-part_low g.param = lit< tt
-part_low g.mode = lit< tt
-part_low g.result_type = lit< tt
-part_low g.members = lit< tt
-part_low g.member = lit< tt
-part_low g.slot = lit< tt
-part_low g.slots = lit< tt
-part_low g.declared_limits = lit< tt
-part_low g.base = lit< tt
-part_low g.scalar = lit< tt
-part_low g.unsigned_rest = lit< tt
-part_low g.type_name = lit< tt
-part_low g.stars = lit< tt
-part_low g.limits = lit< tt
-part_low g.bounds_rest = lit< tt
-part_low g.unknown_rest = lit< tt
-part_low g.block_items = lit< tt
-part_low g.locals = lit< tt
-part_low g.more_locals = lit< tt
-part_low g.local = lit< tt
-part_low g.local_initial = lit< tt
-part_low g.value = lit< tt
-part_low g.named_value = lit< tt
-part_low g.calloc_value = lit< tt
-part_low g.less = lit< tt
-part_low g.arguments = lit< tt
-part_low g.more_arguments = lit< tt
-part_low g.allocation = lit< tt
-part_low g.assign = lit< tt
-part_low g.stmt = lit< tt
-part_low g.calloc_stmt = lit< tt
-part_low g.named_stmt = lit< tt
-part_low g.otherwise = lit< tt
-part_low g.condition = lit< tt
-part_low g.for_start = lit< tt
-part_low g.for_step = lit< tt
-part_low g.assigns = lit< tt
-part_low g.expr = lit< tt
-part_low g.expr_rest = lit< tt
-part_low g.choice = lit< tt
-part_low g.tail = lit< tt
-part_low g.operation = lit< tt
-part_low g.operation_but_less = lit< tt
-part_low g.second = lit< tt
-part_low g.unary = lit< tt
-part_low g.first = lit< tt
-part_low g.round = lit< tt
-part_low g.posts = lit< tt
-part_low g.post = lit< tt
-part_low g.primary = lit< tt
-part_low g.bounds_cast = lit< tt
-part_low g.cast_limits = lit< tt
-part_low g.constant = lit< tt

@@ -1,4 +1,5 @@
 pub mod Choices
+pub mod Decided
 pub mod Defaults
 pub mod EveryKind
 pub mod EveryPart

@@ -1,17 +1,13 @@
 -- Lists that grow by what is read, and equations between values.
 use Rattle.std.proofs.Common.{◌≡◌, List, [], ◌∷◌, ◌++◌, true, refl, sym, ap, subst, ◌∙◌, append_assoc}
-use Rattle.std.specs.Prelude.{Some, Result}
+use Rattle.std.specs.Prelude.{Some}
 use Rattle.ckc_grammar.specs.declared.kind.Kind.{Kind}
-use Rattle.ckc_grammar.specs.declared.parts.Stop.{Stop}
 use Rattle.ckc_grammar.specs.Grammar.{Part, Symbol, n, Rule, right, allowed}
-use Rattle.ckc_grammar.specs.Grammar as g
-use Rattle.ckc_grammar.specs.Trees.{Item}
-use Rattle.ckc_grammar.specs.Values.{Value, made, as_items}
+use Rattle.ckc_grammar.specs.Values.{Value, made}
 use Rattle.ckc_grammar.specs.Derives.{Sign}
 use Rattle.ckc_grammar.specs.Reading.{kind_of, pick, Takes, Stops}
-use Rattle.ckc_grammar.specs.Marked.{Answered, Reads}
 use Rattle.ckc_grammar.proofs.Onward.{Onward}
-use Rattle.ckc_grammar.proofs.Steps.{also_all, then_all, here_all, by_rule, stop_rule, turned}
+use Rattle.ckc_grammar.proofs.Steps.{also_all, then_all, by_rule, stop_rule}
 
 pub same2 : {A B C : Type 0} (f : A → B → C) {a b : A} {c d : B} → a ≡ b → c ≡ d → f a c ≡ f b d
 same2 f {b = b} {c = c} e h = ap (λ x. f x c) e ∙ ap (λ y. f b y) h

@@ -1,14 +1,14 @@
 -- What the tables of the grammar owe, computed for every production and every kind.
-use Rattle.std.proofs.Common.{arith, suc, zero, ◌≡◌, ℕ, List, [], ◌∷◌, Bool, true, false, ◌&&◌, ◌||◌, refl, get_or, sym, ap, subst, ◌∙◌, Option, None, Some, not, ◌==◌, length, ◌<◌}
+use Rattle.std.proofs.Common.{arith, suc, zero, ◌≡◌, ℕ, List, [], ◌∷◌, Bool, true, false, ◌&&◌, ◌||◌, refl, get_or, sym, ap, subst, ◌∙◌, Option, None, Some, not, ◌==◌}
 use Rattle.ckc_grammar.specs.declared.kind.Kind.{Kind}
 use Rattle.ckc_grammar.specs.declared.kind.Kind.TheVariants as kind
 use Rattle.ckc_grammar.specs.Grammar.{Terminal, one, name, greater, sign, operator, literal, name_but_calloc, name_but_unknown, Part, Symbol, t, n, Rule, left, right, fits, allowed, not_else, is_name, is_greater}
 use Rattle.ckc_grammar.specs.Grammar as g
 use Rattle.ckc_grammar.specs.Kinds.{number, kind_of_token}
 use Rattle.ckc_grammar.proofs.Sets.{begins, follows, empty}
-use Rattle.ckc_grammar.proofs.EveryKind.{all_kinds, kind_at, kind_low}
-use Rattle.ckc_grammar.proofs.EveryRule.{all_rules, rule_number, rule_at, rule_low}
-use Rattle.ckc_grammar.proofs.EveryPart.{all_parts, part_number, part_at, part_low}
+use Rattle.ckc_grammar.proofs.EveryKind.{all_kinds, kind_at}
+use Rattle.ckc_grammar.proofs.EveryRule.{all_rules, rule_number, rule_at}
+use Rattle.ckc_grammar.proofs.EveryPart.{all_parts, part_number, part_at}
 use Rattle.std.proofs.lemmas.Bool.Decides.{nat_tests}
 use Rattle.ckc_grammar.proofs.Spellings.{spelled, sample_kind}
 use Rattle.ckc_grammar.specs.Reading.{pick}
@@ -76,11 +76,11 @@ owes r c =
     && implies (not_else c) (allowed r c)
     && implies (picks (pick (left r) c) r) (opens (right r) c)
 
-abbrev all : {X : Type 0} → (X → Bool) → List X → Bool
+abbrev pub all : {X : Type 0} → (X → Bool) → List X → Bool
 all f [] = true
 all f (x ∷ xs) = f x && all f xs
 
-checked : all (λ r. all (λ c. owes r c) all_kinds) all_rules ≡ true
+checked : all (λ r. all (owes r) all_kinds) all_rules ≡ true
 checked = refl
 
 abbrev is_part : Option Rule → Part → Bool
@@ -105,23 +105,27 @@ pub implied : (a b : Bool) → implies a b ≡ true → a ≡ true → b ≡ tru
 implied true b e h = e
 implied false b e h = cc
 
-all_at : {X : Type 0} (f : X → Bool) (xs : List X) (i : ℕ) (d : X) → all f xs ≡ true → i < length xs → f (get_or xs i d) ≡ true
-all_at f [] i d e h = absurd (omega arith)
-all_at f (x ∷ xs) zero d e h = (and_true (f x) (all f xs) e).0
-all_at f (x ∷ xs) (suc i) d e h = all_at f xs i d (and_true (f x) (all f xs) e).1 (omega arith)
+at_or : {X : Type 0} (f : X → Bool) (xs : List X) (i : ℕ) (d : X) → all f xs ≡ true → f d ≡ true → f (get_or xs i d) ≡ true
+at_or f [] i d e h = h
+at_or f (x ∷ xs) zero d e h = (and_true (f x) (all f xs) e).0
+at_or f (x ∷ xs) (suc i) d e h = at_or f xs i d (and_true (f x) (all f xs) e).1 h
 
-all_kind : (f : Kind → Bool) → all f all_kinds ≡ true → (c : Kind) → f c ≡ true
-all_kind f e c = subst (λ d. f d ≡ true) (kind_at c) (all_at f all_kinds (number c) kind.End e (kind_low c))
+pub all_kind : (f : Kind → Bool) → all f all_kinds ≡ true → (c : Kind) → f c ≡ true
+all_kind f e c = subst (λ q. f q ≡ true) (kind_at c) (at_or f all_kinds (number c) kind.End e (and_true _ _ e).0)
+
+pub all_part : (f : Part → Bool) → all f all_parts ≡ true → (p : Part) → f p ≡ true
+all_part f e p = subst (λ q. f q ≡ true) (part_at p) (at_or f all_parts (part_number p) g.text e (and_true _ _ e).0)
+
+all_rule : (f : Rule → Bool) → all f all_rules ≡ true → (r : Rule) → f r ≡ true
+all_rule f e r = subst (λ q. f q ≡ true) (rule_at r) (at_or f all_rules (rule_number r) g.Text e (and_true _ _ e).0)
 
 pub same_number : (a b : ℕ) → (a == b) ≡ true → a ≡ b
 same_number a b e = grind (arith, nat_tests)
 
 pub owed : (r : Rule) (c : Kind) → owes r c ≡ true
-owed r c =
-    let e = all_at (λ r. all (λ c. owes r c) all_kinds) all_rules (rule_number r) g.Text checked (rule_low r) in
-    all_kind (owes r) (subst (λ q. all (λ c. owes q c) all_kinds ≡ true) (rule_at r) e) c
+owed r c = all_kind (owes r) (all_rule (λ r. all (owes r) all_kinds) checked r) c
 
-picks_is : (o : Option Rule) (r : Rule) → picks o r ≡ true → o ≡ Some r
+pub picks_is : (o : Option Rule) (r : Rule) → picks o r ≡ true → o ≡ Some r
 picks_is None r e = cc
 picks_is (Some q) r e =
     let h = same_number (rule_number q) (rule_number r) e in
@@ -158,8 +162,7 @@ allowed_owed r c h =
 
 pub pick_left : (p : Part) (c : Kind) (r : Rule) → pick p c ≡ Some r → left r ≡ p
 pick_left p c r e =
-    let all_of = all_at (λ p. all (λ c. is_part (pick p c) p) all_kinds) all_parts (part_number p) g.text chosen (part_low p) in
-    let h = all_kind (λ c. is_part (pick p c) p) (subst (λ q. all (λ c. is_part (pick q c) q) all_kinds ≡ true) (part_at p) all_of) c in
+    let h = all_kind (λ c. is_part (pick p c) p) (all_part (λ p. all (λ c. is_part (pick p c) p) all_kinds) chosen p) c in
     let k : is_part (Some r) p ≡ true = subst (λ o. is_part o p ≡ true) e h in
     let m = same_number (part_number (left r)) (part_number p) k in
     sym (part_at (left r)) ∙ ap (λ i. get_or all_parts i g.text) m ∙ part_at p

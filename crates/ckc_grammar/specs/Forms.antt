@@ -1,16 +1,11 @@
 -- Sets of kinds.
-use Rattle.std.specs.Prelude.{Bool, true, false, ◌≡◌, ◌||◌, List, [], ◌∷◌, Option}
+use Rattle.std.specs.Prelude.{Bool, true, false, ◌||◌, List, [], ◌∷◌}
 use Rattle.ckc_grammar.specs.declared.kind.Kind.{Kind}
 use Rattle.ckc_grammar.specs.declared.kind.Kind.TheVariants as kind
 use Rattle.ckc_grammar.specs.Kinds.{is_operator}
-use Rattle.ckc_grammar.specs.Grammar.{Symbol, t, n, k, greater, is_greater, type_name, expr, bounds_cast}
-use Rattle.ckc_base.specs.declared.places.Pos.{Pos}
-use Rattle.ckc_syntax.specs.declared.tree.Node.TheVariants as node
-use Rattle.ckc_syntax.specs.declared.tree.Limits.TheVariants as bounds
-use Rattle.ckc_grammar.specs.Trees.{TypeTree, Expr, Limits, expr_at}
+use Rattle.ckc_grammar.specs.Grammar.{is_greater}
 use Rattle.ckc_grammar.specs.Derives.{Sign}
 use Rattle.ckc_grammar.specs.Reading.{kind_of}
-use Rattle.ckc_grammar.specs.Values.{Value, place, type_of, operand_of, limits_of, as_expr, as_limits_at}
 
 -- the kinds that begin an operator between operands
 abbrev pub begins_step : Kind → Bool

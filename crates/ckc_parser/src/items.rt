@@ -78,7 +78,7 @@ fn result_type<'a>(reader: &mut Reader<'a>, alloc: Global) -> Result<CType<'a>, 
 {
     match reader.kind() {
         Kind::Void => void_result(reader, alloc),
-        _ => other_result(reader, alloc),
+        _ => type_name(reader, alloc),
     }
 }
 
@@ -90,14 +90,6 @@ fn void_result<'a>(reader: &mut Reader<'a>, alloc: Global) -> Result<CType<'a>, 
     let word = reader.take(Kind::Void)?;
     let whole = Boxed::new(alloc, TypeTree::Void)?;
     Ok(whole)
-}
-
-/// A type that is not `void`.
-fn other_result<'a>(reader: &mut Reader<'a>, alloc: Global) -> Result<CType<'a>, Stop>
-    ensures reads { Reads (g.right g.OtherResult) (λ x vs. v.as_type (v.made g.OtherResult vs) ≡ x)
-        (ahead reader.old) result (ahead reader.new) }
-{
-    type_name(reader, alloc)
 }
 
 /// What goes on behind `struct` and a name.
@@ -195,24 +187,9 @@ fn declarator<'a>(
         (g.n g.declarator) (ahead reader.old) result (ahead reader.new) }
 {
     match reader.kind() {
-        Kind::RoundOpen => headed(reader, alloc, base, ctype, name),
+        Kind::RoundOpen => head(reader, alloc, None, ctype, name),
         _ => statics(reader, alloc, base, ctype, name),
     }
-}
-
-/// A function or a prototype.
-fn headed<'a>(
-    reader: &mut Reader<'a>,
-    alloc: Global,
-    base: &CType<'a>,
-    ctype: CType<'a>,
-    name: Token<'a>,
-) -> Result<Seq<Item<Spelling<'a>, ()>>, Stop>
-    ensures reads { Reads (g.right g.Headed)
-        (λ x vs. v.as_items_of_declarator (v.made g.Headed vs) base.now ctype.entry
-        (spelled name.entry) ≡ x) (ahead reader.old) result (ahead reader.new) }
-{
-    head(reader, alloc, None, ctype, name)
 }
 
 /// Statics.
@@ -285,7 +262,7 @@ fn declaration<'a>(
 {
     match reader.kind() {
         Kind::Struct => static_struct(reader, alloc),
-        _ => static_other(reader, alloc),
+        _ => declared(reader, alloc),
     }
 }
 
@@ -302,17 +279,6 @@ fn static_struct<'a>(
     let name = reader.take_any(Class::Name)?;
     let base = struct_type(alloc, name)?;
     declarators(reader, alloc, base)
-}
-
-/// What is declared otherwise.
-fn static_other<'a>(
-    reader: &mut Reader<'a>,
-    alloc: Global,
-) -> Result<Seq<Item<Spelling<'a>, ()>>, Stop>
-    ensures reads { Reads (g.right g.StaticOther) (λ x vs. v.as_items (v.made g.StaticOther vs) ≡ x)
-        (ahead reader.old) result (ahead reader.new) }
-{
-    declared(reader, alloc)
 }
 
 /// A directive.

@@ -9,7 +9,9 @@ ghost use Rattle.ckc_grammar.specs.Marked.{ahead, remaining, Answered, Gives, Re
 
 use crate::declarators::{local, locals};
 use ckc_base::{Boxed, Mode, Pos, Seq};
-use ckc_expressions::{allocation, arguments, assign, base, expr, first, named, posts, value};
+use ckc_expressions::{
+    allocation, arguments, assign, base, expr, first, in_parentheses, named, posts, value,
+};
 use ckc_grammar::{
     Class, Expression, Kind, Reader, Statement, Stop, add, append, begins_type, called, local_of,
     statement, two,
@@ -93,9 +95,7 @@ fn if_stmt<'a>(reader: &mut Reader<'a>, alloc: Global) -> Result<Statement<'a>, 
     ensures fewer { remaining reader.new ≤ remaining reader.old }
 {
     let mark = reader.take(Kind::If)?;
-    let open = reader.take(Kind::RoundOpen)?;
-    let condition = expr(reader, alloc)?;
-    let close = reader.take(Kind::RoundClose)?;
+    let condition = in_parentheses(reader, alloc)?;
     let body = stmt(reader, alloc)?;
     let other = otherwise(reader, alloc)?;
     let whole = statement(alloc, Act::If(condition, body, other), mark.pos)?;
@@ -135,9 +135,7 @@ fn while_stmt<'a>(reader: &mut Reader<'a>, alloc: Global) -> Result<Statement<'a
     ensures fewer { remaining reader.new ≤ remaining reader.old }
 {
     let mark = reader.take(Kind::While)?;
-    let open = reader.take(Kind::RoundOpen)?;
-    let condition = expr(reader, alloc)?;
-    let close = reader.take(Kind::RoundClose)?;
+    let condition = in_parentheses(reader, alloc)?;
     let body = stmt(reader, alloc)?;
     let whole = statement(alloc, Act::While(condition, body), mark.pos)?;
     Ok(whole)
@@ -203,9 +201,7 @@ fn check_stmt<'a>(reader: &mut Reader<'a>, alloc: Global) -> Result<Statement<'a
     ensures fewer { remaining reader.new ≤ remaining reader.old }
 {
     let mark = reader.take(Kind::Check)?;
-    let open = reader.take(Kind::RoundOpen)?;
-    let condition = expr(reader, alloc)?;
-    let close = reader.take(Kind::RoundClose)?;
+    let condition = in_parentheses(reader, alloc)?;
     let end = reader.take(Kind::Semicolon)?;
     let whole = statement(alloc, Act::Check(condition), mark.pos)?;
     Ok(whole)
@@ -312,7 +308,7 @@ fn calloc_stmt<'a>(
 {
     match reader.kind() {
         Kind::Less => calloc_type_stmt(reader, alloc, name),
-        _ => calloc_name_stmt(reader, alloc, name),
+        _ => named_stmt(reader, alloc, name),
     }
 }
 
@@ -332,20 +328,6 @@ fn calloc_type_stmt<'a>(
     let end = reader.take(Kind::Semicolon)?;
     let whole = statement(alloc, Act::Call(call), name.pos)?;
     Ok(whole)
-}
-
-/// A call or an assignment behind the name `calloc`.
-fn calloc_name_stmt<'a>(
-    reader: &mut Reader<'a>,
-    alloc: Global,
-    name: Token<'a>,
-) -> Result<Statement<'a>, Stop>
-    ensures reads { Reads (g.right g.CallocNameStmt)
-        (λ x vs. v.as_stmt_of_name (v.made g.CallocNameStmt vs) (spelled name.entry) ≡ x)
-        (ahead reader.old) result (ahead reader.new) }
-    ensures fewer { remaining reader.new ≤ remaining reader.old }
-{
-    named_stmt(reader, alloc, name)
 }
 
 /// An expression that may be left out, and the `;` behind it.
@@ -390,16 +372,13 @@ fn for_start<'a>(reader: &mut Reader<'a>, alloc: Global) -> Result<Option<Statem
         (ahead reader.new) }
     ensures fewer { remaining reader.new ≤ remaining reader.old }
 {
-    match reader.kind() {
-        Kind::Semicolon => no_start(reader),
-        Kind::Int => local_start(reader, alloc),
-        Kind::Unsigned => local_start(reader, alloc),
-        Kind::Char => local_start(reader, alloc),
-        Kind::Struct => local_start(reader, alloc),
-        Kind::Ptr => local_start(reader, alloc),
-        Kind::ArrayPtr => local_start(reader, alloc),
-        Kind::NtArrayPtr => local_start(reader, alloc),
-        _ => assign_start(reader, alloc),
+    if let Kind::Semicolon = reader.kind() {
+        return no_start(reader);
+    }
+    if begins_type(reader.kind()) {
+        local_start(reader, alloc)
+    } else {
+        assign_start(reader, alloc)
     }
 }
 

@@ -6,7 +6,7 @@ use Rattle.ckc_grammar.specs.Values.{Value, made}
 use Rattle.ckc_grammar.specs.Values as v
 use Rattle.ckc_grammar.specs.Marked.{ahead}
 use Rattle.ckc_grammar.proofs.Steps.{chosen}
-use Rattle.ckc_grammar.proofs.Defaults.{default_constant}
+use Rattle.ckc_grammar.proofs.Defaults.{usual}
 use Rattle.ckc_expressions.proofs.constants.constant.Goals as goal
 
 pub returns-in-Text-clause-parses : goal.returns-in-Text-clause-parses
@@ -23,4 +23,4 @@ returns-in-Eof-clause-parses c =
 
 pub returns-in_default-clause-parses : goal.returns-in_default-clause-parses
 returns-in_default-clause-parses c =
-    chosen (λ x. v.expr x) g.constant g.Literal _ _ c.literal.result (default_constant (kind_of (ahead c.args.reader.now)) (λ e. c.in_default.not-Text (c.kind.ensures ∙ e)) (λ e. c.in_default.not-Null (c.kind.ensures ∙ e)) (λ e. c.in_default.not-Eof (c.kind.ensures ∙ e))) (λ k. refl) c.literal.ensures.reads
+    chosen (λ x. v.expr x) g.constant g.Literal _ _ c.literal.result (usual g.constant (kind_of (ahead c.args.reader.now)) (λ e. c.in_default.not-Text (c.kind.ensures ∙ e)) (λ e. c.in_default.not-Null (c.kind.ensures ∙ e)) (λ e. c.in_default.not-Eof (c.kind.ensures ∙ e))) (λ k. refl) c.literal.ensures.reads

@@ -1,16 +1,13 @@
 use Rattle.std.proofs.Common.{◌∷◌, [], refl}
-use Rattle.std.proofs.lemmas.Result.{err_from_is_err_and}
 use Rattle.ckc_syntax.specs.Spelled.{spelled}
 use Rattle.ckc_grammar.specs.Values.{Value, made}
 use Rattle.ckc_grammar.specs.Values as v
 use Rattle.ckc_grammar.specs.Marked.{ahead}
-use Rattle.ckc_grammar.proofs.Steps.{exit}
+use Rattle.ckc_expressions.proofs.Exits.{exit}
 use Rattle.ckc_expressions.proofs.constants.name_operand.Goals as goal
 
 pub returns-in_err-token-clause-reads : goal.returns-in_err-token-clause-reads
-returns-in_err-token-clause-reads c =
-    let p = err_from_is_err_and c.from_residual.result c.from_residual.ensures.1 in
-    exit _ _ _ (ahead c.args.reader.now) _ _ p.1 p.2 c.in_err-token.ensures.parses (λ d. d)
+returns-in_err-token-clause-reads c = exit _ _ _ c.from_residual.ensures.1 c.in_err-token.ensures.parses (λ d. d)
 
 pub returns-clause-reads : goal.returns-clause-reads
 returns-clause-reads c =

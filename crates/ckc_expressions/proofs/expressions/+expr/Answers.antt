@@ -1,5 +1,4 @@
 use Rattle.std.proofs.Common.{◌≡◌, ◌∷◌, ◌∙◌, ◌++◌, [], refl, sym, ap, arith, subst}
-use Rattle.std.proofs.lemmas.Result.{err_from_is_err_and}
 use Rattle.ckc_syntax.specs.Spelled.{spelled}
 use Rattle.ckc_syntax.specs.declared.tree.Node.TheVariants as node
 use Rattle.ckc_grammar.specs.Grammar.{k}
@@ -11,64 +10,49 @@ use Rattle.ckc_grammar.specs.Trees as trees
 use Rattle.ckc_grammar.specs.Values.{Value, made}
 use Rattle.ckc_grammar.specs.Values as v
 use Rattle.ckc_grammar.specs.Marked.{ahead}
-use Rattle.ckc_grammar.proofs.Steps.{also, also_all, then_stops, then_all, here_stops, here_all, by_rule, stop_rule, no_rule, exit, turned, chosen, chosen_as}
+use Rattle.ckc_grammar.proofs.Steps.{also, also_all, then_stops, then_all, here_stops, here_all, by_rule, stop_rule, no_rule, turned, chosen, chosen_as}
+use Rattle.ckc_expressions.proofs.Exits.{exit}
 use Rattle.ckc_grammar.proofs.Onward.{at_start, one_turn, last_turn, stop_turn}
 use Rattle.std.proofs.Common.{append_assoc, append-nil}
 use Rattle.ckc_grammar.specs.Grammar.{is_name}
 use Rattle.ckc_grammar.specs.Forms.{begins_step, begins_type, begins_post}
 use Rattle.ckc_expressions.proofs.Postfix.{posted_one}
-use Rattle.ckc_grammar.proofs.Defaults.{default_choice, default_post, default_primary, default_cast_limits, default_limits}
+use Rattle.ckc_grammar.proofs.Defaults.{usual}
 use Rattle.ckc_grammar.proofs.Others.{named, unnamed, signed, postfixed, cast, paren, more_steps, no_steps, more_posts, no_posts}
 use Rattle.ckc_expressions.proofs.Between.{halt_of, lead_of, unknown_taken, unknown_stopped}
 use Rattle.ckc_expressions.proofs.expressions.+expr.Goals as goal
 
 pub expr-returns-in_err-operand-clause-parses : goal.expr-returns-in_err-operand-clause-parses
-expr-returns-in_err-operand-clause-parses t c =
-    let p = err_from_is_err_and c.from_residual.result c.from_residual.ensures.1 in
-    exit _ _ _ (ahead c.args.reader.now) _ _ p.1 p.2 c.in_err-operand.ensures.parses (λ d. stop_rule g.Expr refl (here_stops _ d))
+expr-returns-in_err-operand-clause-parses t c = exit _ _ _ c.from_residual.ensures.1 c.in_err-operand.ensures.parses (λ d. stop_rule g.Expr refl (here_stops _ d))
 
 pub expr-returns-in_err-rest-clause-parses : goal.expr-returns-in_err-rest-clause-parses
-expr-returns-in_err-rest-clause-parses t c =
-    let p = err_from_is_err_and c.from_residual-in_err-rest.result c.from_residual-in_err-rest.ensures.1 in
-    exit _ _ _ (ahead c.args.reader.now) _ _ p.1 p.2 c.in_err-rest.ensures.gives (λ d. stop_rule g.Expr refl (then_stops c.in_ok-operand.ensures.parses (d)))
+expr-returns-in_err-rest-clause-parses t c = exit _ _ _ c.from_residual-in_err-rest.ensures.1 c.in_err-rest.ensures.gives (λ d. stop_rule g.Expr refl (then_stops c.in_ok-operand.ensures.parses d))
 
 pub expr-returns-clause-parses : goal.expr-returns-clause-parses
 expr-returns-clause-parses t c =
     by_rule g.Expr refl refl (ap (λ z. v.expr (v.whole c.in_ok-operand.operand (z ++ v.as_steps c.in_ok-rest.ensures.gives.0) (v.as_arms c.in_ok-rest.ensures.gives.0))) (sym c.new.ensures) ∙ ap (λ r. v.expr (v.whole c.in_ok-operand.operand r.steps r.arms)) c.in_ok-rest.ensures.gives.2 ∙ ap (λ x. v.expr x) (sym c.in_ok-joined.ensures)) (also c.in_ok-operand.ensures.parses c.in_ok-rest.ensures.gives.1)
 
 pub expr_rest-returns-in_err-steps-clause-gives : goal.expr_rest-returns-in_err-steps-clause-gives
-expr_rest-returns-in_err-steps-clause-gives t c =
-    let p = err_from_is_err_and c.from_residual.result c.from_residual.ensures.1 in
-    exit _ _ _ (ahead c.args.reader.now) _ _ p.1 p.2 c.in_err-steps.ensures.gives (λ d. stop_rule g.ExprRest refl (here_stops _ d))
+expr_rest-returns-in_err-steps-clause-gives t c = exit _ _ _ c.from_residual.ensures.1 c.in_err-steps.ensures.gives (λ d. stop_rule g.ExprRest refl (here_stops _ d))
 
 pub expr_rest-returns-in_err-arms-clause-gives : goal.expr_rest-returns-in_err-arms-clause-gives
-expr_rest-returns-in_err-arms-clause-gives t c =
-    let p = err_from_is_err_and c.from_residual-in_err-arms.result c.from_residual-in_err-arms.ensures.1 in
-    exit _ _ _ (ahead c.args.reader.now) _ _ p.1 p.2 c.in_err-arms.ensures.parses (λ d. stop_rule g.ExprRest refl (then_stops c.in_ok-steps.ensures.gives.1 (d)))
+expr_rest-returns-in_err-arms-clause-gives t c = exit _ _ _ c.from_residual-in_err-arms.ensures.1 c.in_err-arms.ensures.parses (λ d. stop_rule g.ExprRest refl (then_stops c.in_ok-steps.ensures.gives.1 d))
 
 pub expr_rest-returns-clause-gives : goal.expr_rest-returns-clause-gives
 expr_rest-returns-clause-gives t c =
     (v.rest (v.as_steps c.in_ok-steps.ensures.gives.0) c.in_ok-arms.arms, by_rule g.ExprRest refl refl refl (also c.in_ok-steps.ensures.gives.1 c.in_ok-arms.ensures.parses), ap (λ z. record { steps = z; arms = c.in_ok-arms.arms }) c.in_ok-steps.ensures.gives.2)
 
 pub choice-returns-in_err-mark-clause-parses : goal.choice-returns-in_err-mark-clause-parses
-choice-returns-in_err-mark-clause-parses t c =
-    let p = err_from_is_err_and c.from_residual.result c.from_residual.ensures.1 in
-    exit _ _ _ (ahead c.args.reader.now) _ _ p.1 p.2 c.in_err-mark.ensures.parses (λ d. stop_rule g.Choice (ap (λ k. pick g.choice k) (sym c.in-Question.ensures)) (here_stops _ d))
+choice-returns-in_err-mark-clause-parses t c = exit _ _ _ c.from_residual.ensures.1 c.in_err-mark.ensures.parses (λ d. stop_rule g.Choice (ap (λ k. pick g.choice k) (sym c.in-Question.ensures)) (here_stops _ d))
 
 pub choice-returns-in_err-yes-clause-parses : goal.choice-returns-in_err-yes-clause-parses
-choice-returns-in_err-yes-clause-parses t c =
-    let p = err_from_is_err_and c.from_residual-in_err-yes.result c.from_residual-in_err-yes.ensures.1 in
-    exit _ _ _ (ahead c.args.reader.now) _ _ p.1 p.2 c.in_err-yes.ensures.parses (λ d. stop_rule g.Choice (ap (λ k. pick g.choice k) (sym c.in-Question.ensures)) (then_stops c.in_ok-mark.ensures.parses (here_stops _ d)))
+choice-returns-in_err-yes-clause-parses t c = exit _ _ _ c.from_residual-in_err-yes.ensures.1 c.in_err-yes.ensures.parses (λ d. stop_rule g.Choice (ap (λ k. pick g.choice k) (sym c.in-Question.ensures)) (then_stops c.in_ok-mark.ensures.parses (here_stops _ d)))
 
 pub choice-returns-in_err-colon-clause-parses : goal.choice-returns-in_err-colon-clause-parses
-choice-returns-in_err-colon-clause-parses t c =
-    let p = err_from_is_err_and c.from_residual-in_err-colon.result c.from_residual-in_err-colon.ensures.1 in
-    exit _ _ _ (ahead c.args.reader.now) _ _ p.1 p.2 c.in_err-colon.ensures.parses (λ d. stop_rule g.Choice (ap (λ k. pick g.choice k) (sym c.in-Question.ensures)) (then_stops c.in_ok-mark.ensures.parses (then_stops c.in_ok-yes.ensures.parses (here_stops _ d))))
+choice-returns-in_err-colon-clause-parses t c = exit _ _ _ c.from_residual-in_err-colon.ensures.1 c.in_err-colon.ensures.parses (λ d. stop_rule g.Choice (ap (λ k. pick g.choice k) (sym c.in-Question.ensures)) (then_stops c.in_ok-mark.ensures.parses (then_stops c.in_ok-yes.ensures.parses (here_stops _ d))))
 
 pub choice-returns-in_err-no-clause-parses : goal.choice-returns-in_err-no-clause-parses
-choice-returns-in_err-no-clause-parses t c =
-    let p = err_from_is_err_and c.from_residual-in_err-no.result c.from_residual-in_err-no.ensures.1 in
-    exit _ _ _ (ahead c.args.reader.now) _ _ p.1 p.2 c.in_err-no.ensures.parses (λ d. stop_rule g.Choice (ap (λ k. pick g.choice k) (sym c.in-Question.ensures)) (then_stops c.in_ok-mark.ensures.parses (then_stops c.in_ok-yes.ensures.parses (then_stops c.in_ok-colon.ensures.parses (d)))))
+choice-returns-in_err-no-clause-parses t c = exit _ _ _ c.from_residual-in_err-no.ensures.1 c.in_err-no.ensures.parses (λ d. stop_rule g.Choice (ap (λ k. pick g.choice k) (sym c.in-Question.ensures)) (then_stops c.in_ok-mark.ensures.parses (then_stops c.in_ok-yes.ensures.parses (then_stops c.in_ok-colon.ensures.parses d))))
 
 pub choice-returns-in-Question-clause-parses : goal.choice-returns-in-Question-clause-parses
 choice-returns-in-Question-clause-parses t c =
@@ -76,7 +60,7 @@ choice-returns-in-Question-clause-parses t c =
 
 pub choice-returns-clause-parses : goal.choice-returns-clause-parses
 choice-returns-clause-parses t c =
-    by_rule g.NoChoice (default_choice (kind_of (ahead c.args.reader.now)) (λ e. c.in_default.not-Question (c.kind.ensures ∙ e))) refl refl (done refl)
+    by_rule g.NoChoice (usual g.choice (kind_of (ahead c.args.reader.now)) (λ e. c.in_default.not-Question (c.kind.ensures ∙ e))) refl refl (done refl)
 
 pub unary-returns-then-is_name-clause-parses : goal.unary-returns-then-is_name-clause-parses
 unary-returns-then-is_name-clause-parses t c =
@@ -88,9 +72,7 @@ unary-returns-else-is_name-clause-parses t c =
     turned _ _ _ _ _ _ _ c.first.result (λ x h. by_rule g.Unnamed pk refl refl h) (λ d. stop_rule g.Unnamed pk d) c.first.ensures.parses
 
 pub named-returns-in_err-name-clause-reads : goal.named-returns-in_err-name-clause-reads
-named-returns-in_err-name-clause-reads t c =
-    let p = err_from_is_err_and c.from_residual.result c.from_residual.ensures.1 in
-    exit _ _ _ (ahead c.args.reader.now) _ _ p.1 p.2 c.in_err-name.ensures.reads (λ d. here_all _ d)
+named-returns-in_err-name-clause-reads t c = exit _ _ _ c.from_residual.ensures.1 c.in_err-name.ensures.reads (λ d. here_all _ d)
 
 pub named-returns-clause-reads : goal.named-returns-clause-reads
 named-returns-clause-reads t c =
@@ -113,23 +95,17 @@ first-returns-in_default-clause-parses t c =
     chosen (λ x. v.expr x) g.first g.Postfix _ _ c.postfix.result (postfixed (kind_of (ahead c.args.reader.now)) (ap is_sign (sym c.kind.ensures) ∙ sym c.is_sign.ensures ∙ c.if-is_sign.false) (λ e. c.in_default.not-RoundOpen (c.kind-2.ensures ∙ e)) (λ e. c.in_default.not-Sizeof (c.kind-2.ensures ∙ e))) (λ k. refl) c.postfix.ensures.reads
 
 pub signed-returns-in_err-sign-clause-reads : goal.signed-returns-in_err-sign-clause-reads
-signed-returns-in_err-sign-clause-reads t c =
-    let p = err_from_is_err_and c.from_residual.result c.from_residual.ensures.1 in
-    exit _ _ _ (ahead c.args.reader.now) _ _ p.1 p.2 c.in_err-sign.ensures.parses (λ d. here_stops _ d)
+signed-returns-in_err-sign-clause-reads t c = exit _ _ _ c.from_residual.ensures.1 c.in_err-sign.ensures.parses (λ d. here_stops _ d)
 
 pub signed-returns-in_err-operand-clause-reads : goal.signed-returns-in_err-operand-clause-reads
-signed-returns-in_err-operand-clause-reads t c =
-    let p = err_from_is_err_and c.from_residual-in_err-operand.result c.from_residual-in_err-operand.ensures.1 in
-    exit _ _ _ (ahead c.args.reader.now) _ _ p.1 p.2 c.in_err-operand.ensures.parses (λ d. then_stops c.in_ok-sign.ensures.parses (d))
+signed-returns-in_err-operand-clause-reads t c = exit _ _ _ c.from_residual-in_err-operand.ensures.1 c.in_err-operand.ensures.parses (λ d. then_stops c.in_ok-sign.ensures.parses d)
 
 pub signed-returns-clause-reads : goal.signed-returns-clause-reads
 signed-returns-clause-reads t c =
     (v.token (spelled c.in_ok-sign.sign) ∷ v.expr c.in_ok-operand.operand ∷ [], (also c.in_ok-sign.ensures.parses c.in_ok-operand.ensures.parses), ap (λ o. v.expr (expr_at (node.Un o c.in_ok-operand.operand) c.in_ok-sign.sign.pos)) (sym (c.sign_op.ensures ∙ ap sign_op c.token_kind.ensures)) ∙ ap (λ x. v.expr x) (sym c.in_ok-whole.ensures))
 
 pub round-returns-in_err-mark-clause-reads : goal.round-returns-in_err-mark-clause-reads
-round-returns-in_err-mark-clause-reads t c =
-    let p = err_from_is_err_and c.from_residual.result c.from_residual.ensures.1 in
-    exit _ _ _ (ahead c.args.reader.now) _ _ p.1 p.2 c.in_err-mark.ensures.parses (λ d. here_stops _ d)
+round-returns-in_err-mark-clause-reads t c = exit _ _ _ c.from_residual.ensures.1 c.in_err-mark.ensures.parses (λ d. here_stops _ d)
 
 pub round-returns-then-begins_type-clause-reads : goal.round-returns-then-begins_type-clause-reads
 round-returns-then-begins_type-clause-reads t c =
@@ -142,42 +118,30 @@ round-returns-else-begins_type-clause-reads t c =
     turned _ _ _ _ _ _ _ c.paren.result (λ x h. (v.token (spelled c.in_ok-mark.mark) ∷ made g.Paren h.0 ∷ [], also c.in_ok-mark.ensures.parses (by_rule g.Paren pk refl refl h.1), ap (λ x. v.expr x) (h.2 c.in_ok-mark.mark.pos))) (λ d. then_stops c.in_ok-mark.ensures.parses (stop_rule g.Paren pk d)) c.paren.ensures.reads
 
 pub cast-returns-in_err-ctype-clause-reads : goal.cast-returns-in_err-ctype-clause-reads
-cast-returns-in_err-ctype-clause-reads t c =
-    let p = err_from_is_err_and c.from_residual.result c.from_residual.ensures.1 in
-    exit _ _ _ (ahead c.args.reader.now) _ _ p.1 p.2 c.in_err-ctype.ensures.parses (λ d. here_stops _ d)
+cast-returns-in_err-ctype-clause-reads t c = exit _ _ _ c.from_residual.ensures.1 c.in_err-ctype.ensures.parses (λ d. here_stops _ d)
 
 pub cast-returns-in_err-close-clause-reads : goal.cast-returns-in_err-close-clause-reads
-cast-returns-in_err-close-clause-reads t c =
-    let p = err_from_is_err_and c.from_residual-in_err-close.result c.from_residual-in_err-close.ensures.1 in
-    exit _ _ _ (ahead c.args.reader.now) _ _ p.1 p.2 c.in_err-close.ensures.parses (λ d. then_stops c.in_ok-ctype.ensures.parses (here_stops _ d))
+cast-returns-in_err-close-clause-reads t c = exit _ _ _ c.from_residual-in_err-close.ensures.1 c.in_err-close.ensures.parses (λ d. then_stops c.in_ok-ctype.ensures.parses (here_stops _ d))
 
 pub cast-returns-in_err-operand-clause-reads : goal.cast-returns-in_err-operand-clause-reads
-cast-returns-in_err-operand-clause-reads t c =
-    let p = err_from_is_err_and c.from_residual-in_err-operand.result c.from_residual-in_err-operand.ensures.1 in
-    exit _ _ _ (ahead c.args.reader.now) _ _ p.1 p.2 c.in_err-operand.ensures.parses (λ d. then_stops c.in_ok-ctype.ensures.parses (then_stops c.in_ok-close.ensures.parses (d)))
+cast-returns-in_err-operand-clause-reads t c = exit _ _ _ c.from_residual-in_err-operand.ensures.1 c.in_err-operand.ensures.parses (λ d. then_stops c.in_ok-ctype.ensures.parses (then_stops c.in_ok-close.ensures.parses d))
 
 pub cast-returns-clause-reads : goal.cast-returns-clause-reads
 cast-returns-clause-reads t c =
     (v.type_tree c.in_ok-ctype.ctype ∷ v.token (spelled c.in_ok-close.close) ∷ v.expr c.in_ok-operand.operand ∷ [], (also c.in_ok-ctype.ensures.parses (also c.in_ok-close.ensures.parses c.in_ok-operand.ensures.parses)), ap (λ z. expr_at (node.Cast z c.in_ok-operand.operand) c.args.pos) (sym c.into_inner.ensures) ∙ sym c.in_ok-whole.ensures)
 
 pub paren-returns-in_err-inner-clause-reads : goal.paren-returns-in_err-inner-clause-reads
-paren-returns-in_err-inner-clause-reads t c =
-    let p = err_from_is_err_and c.from_residual.result c.from_residual.ensures.1 in
-    exit _ _ _ (ahead c.args.reader.now) _ _ p.1 p.2 c.in_err-inner.ensures.parses (λ d. here_stops _ d)
+paren-returns-in_err-inner-clause-reads t c = exit _ _ _ c.from_residual.ensures.1 c.in_err-inner.ensures.parses (λ d. here_stops _ d)
 
 pub paren-returns-in_err-close-clause-reads : goal.paren-returns-in_err-close-clause-reads
-paren-returns-in_err-close-clause-reads t c =
-    let p = err_from_is_err_and c.from_residual-in_err-close.result c.from_residual-in_err-close.ensures.1 in
-    exit _ _ _ (ahead c.args.reader.now) _ _ p.1 p.2 c.in_err-close.ensures.parses (λ d. then_stops c.in_ok-inner.ensures.parses (here_stops _ d))
+paren-returns-in_err-close-clause-reads t c = exit _ _ _ c.from_residual-in_err-close.ensures.1 c.in_err-close.ensures.parses (λ d. then_stops c.in_ok-inner.ensures.parses (here_stops _ d))
 
 pub paren-returns-clause-reads : goal.paren-returns-clause-reads
 paren-returns-clause-reads t c =
     turned _ _ _ _ _ _ _ c.posts.result (λ x h. (v.expr c.in_ok-inner.inner ∷ v.token (spelled c.in_ok-close.close) ∷ h.0 ∷ [], (also c.in_ok-inner.ensures.parses (also c.in_ok-close.ensures.parses h.1)), λ pos. h.2)) (λ d. then_stops c.in_ok-inner.ensures.parses (then_stops c.in_ok-close.ensures.parses (d))) c.posts.ensures.gives
 
 pub postfix-returns-in_err-operand-clause-reads : goal.postfix-returns-in_err-operand-clause-reads
-postfix-returns-in_err-operand-clause-reads t c =
-    let p = err_from_is_err_and c.from_residual.result c.from_residual.ensures.1 in
-    exit _ _ _ (ahead c.args.reader.now) _ _ p.1 p.2 c.in_err-operand.ensures.parses (λ d. here_stops _ d)
+postfix-returns-in_err-operand-clause-reads t c = exit _ _ _ c.from_residual.ensures.1 c.in_err-operand.ensures.parses (λ d. here_stops _ d)
 
 pub postfix-returns-clause-reads : goal.postfix-returns-clause-reads
 postfix-returns-clause-reads t c =
@@ -197,22 +161,16 @@ post-returns-in-Arrow-clause-gives t c =
 
 pub post-returns : goal.post-returns
 post-returns t c =
-    record { gives = no_rule (default_post (kind_of (ahead c.args.reader.now)) (λ e. c.in_default.not-SquareOpen (c.kind.ensures ∙ e)) (λ e. c.in_default.not-Dot (c.kind.ensures ∙ e)) (λ e. c.in_default.not-Arrow (c.kind.ensures ∙ e))); fewer = omega arith }
+    record { gives = no_rule (usual g.post (kind_of (ahead c.args.reader.now)) (λ e. c.in_default.not-SquareOpen (c.kind.ensures ∙ e)) (λ e. c.in_default.not-Dot (c.kind.ensures ∙ e)) (λ e. c.in_default.not-Arrow (c.kind.ensures ∙ e))); fewer = omega arith }
 
 pub index-returns-in_err-open-clause-reads : goal.index-returns-in_err-open-clause-reads
-index-returns-in_err-open-clause-reads t c =
-    let p = err_from_is_err_and c.from_residual.result c.from_residual.ensures.1 in
-    exit _ _ _ (ahead c.args.reader.now) _ _ p.1 p.2 c.in_err-open.ensures.parses (λ d. here_stops _ d)
+index-returns-in_err-open-clause-reads t c = exit _ _ _ c.from_residual.ensures.1 c.in_err-open.ensures.parses (λ d. here_stops _ d)
 
 pub index-returns-in_err-index-clause-reads : goal.index-returns-in_err-index-clause-reads
-index-returns-in_err-index-clause-reads t c =
-    let p = err_from_is_err_and c.from_residual-in_err-index.result c.from_residual-in_err-index.ensures.1 in
-    exit _ _ _ (ahead c.args.reader.now) _ _ p.1 p.2 c.in_err-index.ensures.parses (λ d. then_stops c.in_ok-open.ensures.parses (here_stops _ d))
+index-returns-in_err-index-clause-reads t c = exit _ _ _ c.from_residual-in_err-index.ensures.1 c.in_err-index.ensures.parses (λ d. then_stops c.in_ok-open.ensures.parses (here_stops _ d))
 
 pub index-returns-in_err-close-clause-reads : goal.index-returns-in_err-close-clause-reads
-index-returns-in_err-close-clause-reads t c =
-    let p = err_from_is_err_and c.from_residual-in_err-close.result c.from_residual-in_err-close.ensures.1 in
-    exit _ _ _ (ahead c.args.reader.now) _ _ p.1 p.2 c.in_err-close.ensures.parses (λ d. then_stops c.in_ok-open.ensures.parses (then_stops c.in_ok-index.ensures.parses (d)))
+index-returns-in_err-close-clause-reads t c = exit _ _ _ c.from_residual-in_err-close.ensures.1 c.in_err-close.ensures.parses (λ d. then_stops c.in_ok-open.ensures.parses (then_stops c.in_ok-index.ensures.parses d))
 
 pub index-returns-clause-reads : goal.index-returns-clause-reads
 index-returns-clause-reads t c =
@@ -230,60 +188,44 @@ primary-returns-in-Trusted-clause-parses t c =
 
 pub primary-returns-in_default-clause-parses : goal.primary-returns-in_default-clause-parses
 primary-returns-in_default-clause-parses t c =
-    let pk = (default_primary (kind_of (ahead c.args.reader.now)) (λ e. c.in_default.not-Tested (c.kind.ensures ∙ e)) (λ e. c.in_default.not-Trusted (c.kind.ensures ∙ e))) in
+    let pk = (usual g.primary (kind_of (ahead c.args.reader.now)) (λ e. c.in_default.not-Tested (c.kind.ensures ∙ e)) (λ e. c.in_default.not-Trusted (c.kind.ensures ∙ e))) in
     turned _ _ _ _ _ _ _ c.constant.result (λ x h. by_rule g.Constant pk refl refl h) (λ d. stop_rule g.Constant pk d) c.constant.ensures.parses
 
 pub bounds_cast-returns-in_err-keyword-clause-reads : goal.bounds_cast-returns-in_err-keyword-clause-reads
-bounds_cast-returns-in_err-keyword-clause-reads t c =
-    let p = err_from_is_err_and c.from_residual.result c.from_residual.ensures.1 in
-    exit _ _ _ (ahead c.args.reader.now) _ _ p.1 p.2 c.in_err-keyword.ensures.parses (λ d. here_stops _ d)
+bounds_cast-returns-in_err-keyword-clause-reads t c = exit _ _ _ c.from_residual.ensures.1 c.in_err-keyword.ensures.parses (λ d. here_stops _ d)
 
 pub bounds_cast-returns-in_err-ctype-clause-reads : goal.bounds_cast-returns-in_err-ctype-clause-reads
-bounds_cast-returns-in_err-ctype-clause-reads t c =
-    let p = err_from_is_err_and c.from_residual-in_err-ctype.result c.from_residual-in_err-ctype.ensures.1 in
-    exit _ _ _ (ahead c.args.reader.now) _ _ p.1 p.2 c.in_err-ctype.ensures.reads (λ d. then_stops c.in_ok-keyword.ensures.parses (stop_rule g.BoundsCast refl (here_all _ d)))
+bounds_cast-returns-in_err-ctype-clause-reads t c = exit _ _ _ c.from_residual-in_err-ctype.ensures.1 c.in_err-ctype.ensures.reads (λ d. then_stops c.in_ok-keyword.ensures.parses (stop_rule g.BoundsCast refl (here_all _ d)))
 
 pub bounds_cast-returns-in_err-operand-clause-reads : goal.bounds_cast-returns-in_err-operand-clause-reads
-bounds_cast-returns-in_err-operand-clause-reads t c =
-    let p = err_from_is_err_and c.from_residual-in_err-operand.result c.from_residual-in_err-operand.ensures.1 in
-    exit _ _ _ (ahead c.args.reader.now) _ _ p.1 p.2 c.in_err-operand.ensures.parses (λ d. then_stops c.in_ok-keyword.ensures.parses (stop_rule g.BoundsCast refl (then_all c.in_ok-ctype.ensures.reads.1 (here_stops _ d))))
+bounds_cast-returns-in_err-operand-clause-reads t c = exit _ _ _ c.from_residual-in_err-operand.ensures.1 c.in_err-operand.ensures.parses (λ d. then_stops c.in_ok-keyword.ensures.parses (stop_rule g.BoundsCast refl (then_all c.in_ok-ctype.ensures.reads.1 (here_stops _ d))))
 
 pub bounds_cast-returns-in_err-limits-clause-reads : goal.bounds_cast-returns-in_err-limits-clause-reads
-bounds_cast-returns-in_err-limits-clause-reads t c =
-    let p = err_from_is_err_and c.from_residual-in_err-limits.result c.from_residual-in_err-limits.ensures.1 in
-    exit _ _ _ (ahead c.args.reader.now) _ _ p.1 p.2 c.in_err-limits.ensures.parses (λ d. then_stops c.in_ok-keyword.ensures.parses (stop_rule g.BoundsCast refl (then_all c.in_ok-ctype.ensures.reads.1 (then_stops c.in_ok-operand.ensures.parses (d)))))
+bounds_cast-returns-in_err-limits-clause-reads t c = exit _ _ _ c.from_residual-in_err-limits.ensures.1 c.in_err-limits.ensures.parses (λ d. then_stops c.in_ok-keyword.ensures.parses (stop_rule g.BoundsCast refl (then_all c.in_ok-ctype.ensures.reads.1 (then_stops c.in_ok-operand.ensures.parses d))))
 
 pub bounds_cast-returns-clause-reads : goal.bounds_cast-returns-clause-reads
 bounds_cast-returns-clause-reads t c =
     (v.token (spelled c.in_ok-keyword.keyword) ∷ v.cast c.in_ok-ctype.ctype c.in_ok-operand.operand c.in_ok-limits.limits ∷ [], also c.in_ok-keyword.ensures.parses (by_rule g.BoundsCast refl refl (ap (λ vs. made g.BoundsCast (vs ++ v.expr c.in_ok-operand.operand ∷ v.declared_limits c.in_ok-limits.limits ∷ [])) c.in_ok-ctype.ensures.reads.2.3) (also_all c.in_ok-ctype.ensures.reads.1 (also c.in_ok-operand.ensures.parses c.in_ok-limits.ensures.parses))), (v.token (spelled c.in_ok-keyword.keyword), v.cast c.in_ok-ctype.ctype c.in_ok-operand.operand c.in_ok-limits.limits, refl, sym c.in_ok-whole.ensures))
 
 pub cast_limits-returns-in_err-comma-clause-parses : goal.cast_limits-returns-in_err-comma-clause-parses
-cast_limits-returns-in_err-comma-clause-parses t c =
-    let p = err_from_is_err_and c.from_residual.result c.from_residual.ensures.1 in
-    exit _ _ _ (ahead c.args.reader.now) _ _ p.1 p.2 c.in_err-comma.ensures.parses (λ d. stop_rule g.CastLimits (ap (λ k. pick g.cast_limits k) (sym c.in-Comma.ensures)) (here_stops _ d))
+cast_limits-returns-in_err-comma-clause-parses t c = exit _ _ _ c.from_residual.ensures.1 c.in_err-comma.ensures.parses (λ d. stop_rule g.CastLimits (ap (λ k. pick g.cast_limits k) (sym c.in-Comma.ensures)) (here_stops _ d))
 
 pub cast_limits-returns-in_err-limits-clause-parses : goal.cast_limits-returns-in_err-limits-clause-parses
-cast_limits-returns-in_err-limits-clause-parses t c =
-    let p = err_from_is_err_and c.from_residual-in_err-limits.result c.from_residual-in_err-limits.ensures.1 in
-    exit _ _ _ (ahead c.args.reader.now) _ _ p.1 p.2 c.in_err-limits.ensures.parses (λ d. stop_rule g.CastLimits (ap (λ k. pick g.cast_limits k) (sym c.in-Comma.ensures)) (then_stops c.in_ok-comma.ensures.parses (here_stops _ d)))
+cast_limits-returns-in_err-limits-clause-parses t c = exit _ _ _ c.from_residual-in_err-limits.ensures.1 c.in_err-limits.ensures.parses (λ d. stop_rule g.CastLimits (ap (λ k. pick g.cast_limits k) (sym c.in-Comma.ensures)) (then_stops c.in_ok-comma.ensures.parses (here_stops _ d)))
 
 pub cast_limits-returns-in_err-close-clause-parses : goal.cast_limits-returns-in_err-close-clause-parses
-cast_limits-returns-in_err-close-clause-parses t c =
-    let p = err_from_is_err_and c.from_residual-in_err-close.result c.from_residual-in_err-close.ensures.1 in
-    exit _ _ _ (ahead c.args.reader.now) _ _ p.1 p.2 c.in_err-close.ensures.parses (λ d. stop_rule g.CastLimits (ap (λ k. pick g.cast_limits k) (sym c.in-Comma.ensures)) (then_stops c.in_ok-comma.ensures.parses (then_stops c.in_ok-limits.ensures.parses (d))))
+cast_limits-returns-in_err-close-clause-parses t c = exit _ _ _ c.from_residual-in_err-close.ensures.1 c.in_err-close.ensures.parses (λ d. stop_rule g.CastLimits (ap (λ k. pick g.cast_limits k) (sym c.in-Comma.ensures)) (then_stops c.in_ok-comma.ensures.parses (then_stops c.in_ok-limits.ensures.parses d)))
 
 pub cast_limits-returns-in-Comma-clause-parses : goal.cast_limits-returns-in-Comma-clause-parses
 cast_limits-returns-in-Comma-clause-parses t c =
     by_rule g.CastLimits (ap (λ k. pick g.cast_limits k) (sym c.in-Comma.ensures)) refl refl (also c.in_ok-comma.ensures.parses (also c.in_ok-limits.ensures.parses c.in_ok-close.ensures.parses))
 
 pub cast_limits-returns-in_err-end-clause-parses : goal.cast_limits-returns-in_err-end-clause-parses
-cast_limits-returns-in_err-end-clause-parses t c =
-    let p = err_from_is_err_and c.from_residual-in_err-end.result c.from_residual-in_err-end.ensures.1 in
-    exit _ _ _ (ahead c.args.reader.now) _ _ p.1 p.2 c.in_err-end.ensures.parses (λ d. stop_rule g.NoCastLimits (default_cast_limits (kind_of (ahead c.args.reader.now)) (λ e. c.in_default.not-Comma (c.kind.ensures ∙ e))) d)
+cast_limits-returns-in_err-end-clause-parses t c = exit _ _ _ c.from_residual-in_err-end.ensures.1 c.in_err-end.ensures.parses (λ d. stop_rule g.NoCastLimits (usual g.cast_limits (kind_of (ahead c.args.reader.now)) (λ e. c.in_default.not-Comma (c.kind.ensures ∙ e))) d)
 
 pub cast_limits-returns-clause-parses : goal.cast_limits-returns-clause-parses
 cast_limits-returns-clause-parses t c =
-    by_rule g.NoCastLimits (default_cast_limits (kind_of (ahead c.args.reader.now)) (λ e. c.in_default.not-Comma (c.kind.ensures ∙ e))) refl refl c.in_ok-end.ensures.parses
+    by_rule g.NoCastLimits (usual g.cast_limits (kind_of (ahead c.args.reader.now)) (λ e. c.in_default.not-Comma (c.kind.ensures ∙ e))) refl refl c.in_ok-end.ensures.parses
 
 pub limits-returns-in-Count-clause-parses : goal.limits-returns-in-Count-clause-parses
 limits-returns-in-Count-clause-parses t c =
@@ -297,49 +239,45 @@ limits-returns-in-ByteCount-clause-parses t c =
 
 pub limits-returns-in_default-clause-parses : goal.limits-returns-in_default-clause-parses
 limits-returns-in_default-clause-parses t c =
-    chosen (λ x. v.limits x) g.limits g.BoundsOf _ _ c.bounds.result (default_limits (kind_of (ahead c.args.reader.now)) (λ e. c.in_default.not-Count (c.kind.ensures ∙ e)) (λ e. c.in_default.not-ByteCount (c.kind.ensures ∙ e))) (λ k. refl) c.bounds.ensures.reads
+    chosen (λ x. v.limits x) g.limits g.BoundsOf _ _ c.bounds.result (usual g.limits (kind_of (ahead c.args.reader.now)) (λ e. c.in_default.not-Count (c.kind.ensures ∙ e)) (λ e. c.in_default.not-ByteCount (c.kind.ensures ∙ e))) (λ k. refl) c.bounds.ensures.reads
 
 pub sized-returns-in_err-keyword-clause-reads : goal.sized-returns-in_err-keyword-clause-reads
-sized-returns-in_err-keyword-clause-reads t c =
-    let p = err_from_is_err_and c.from_residual.result c.from_residual.ensures.1 in
-    exit _ _ _ (ahead c.args.reader.now) _ _ p.1 p.2 c.in_err-keyword.ensures.parses (λ d. here_stops _ d)
-
-pub sized-returns-in_err-open-clause-reads : goal.sized-returns-in_err-open-clause-reads
-sized-returns-in_err-open-clause-reads t c =
-    let p = err_from_is_err_and c.from_residual-in_err-open.result c.from_residual-in_err-open.ensures.1 in
-    exit _ _ _ (ahead c.args.reader.now) _ _ p.1 p.2 c.in_err-open.ensures.parses (λ d. then_stops c.in_ok-keyword.ensures.parses (here_stops _ d))
+sized-returns-in_err-keyword-clause-reads t c = exit _ _ _ c.from_residual.ensures.1 c.in_err-keyword.ensures.parses (λ d. here_stops _ d)
 
 pub sized-returns-in_err-amount-clause-reads : goal.sized-returns-in_err-amount-clause-reads
-sized-returns-in_err-amount-clause-reads t c =
-    let p = err_from_is_err_and c.from_residual-in_err-amount.result c.from_residual-in_err-amount.ensures.1 in
-    exit _ _ _ (ahead c.args.reader.now) _ _ p.1 p.2 c.in_err-amount.ensures.parses (λ d. then_stops c.in_ok-keyword.ensures.parses (then_stops c.in_ok-open.ensures.parses (here_stops _ d)))
-
-pub sized-returns-in_err-close-clause-reads : goal.sized-returns-in_err-close-clause-reads
-sized-returns-in_err-close-clause-reads t c =
-    let p = err_from_is_err_and c.from_residual-in_err-close.result c.from_residual-in_err-close.ensures.1 in
-    exit _ _ _ (ahead c.args.reader.now) _ _ p.1 p.2 c.in_err-close.ensures.parses (λ d. then_stops c.in_ok-keyword.ensures.parses (then_stops c.in_ok-open.ensures.parses (then_stops c.in_ok-amount.ensures.parses (d))))
+sized-returns-in_err-amount-clause-reads t c = exit _ _ _ c.from_residual-in_err-amount.ensures.1 c.in_err-amount.ensures.tells (λ d. then_stops c.in_ok-keyword.ensures.parses d)
 
 pub sized-returns-clause-reads : goal.sized-returns-clause-reads
 sized-returns-clause-reads t c =
-    (v.token (spelled c.in_ok-keyword.keyword) ∷ v.token (spelled c.in_ok-open.open) ∷ v.expr c.in_ok-amount.amount ∷ v.token (spelled c.in_ok-close.close) ∷ [], (also c.in_ok-keyword.ensures.parses (also c.in_ok-open.ensures.parses (also c.in_ok-amount.ensures.parses c.in_ok-close.ensures.parses))), (v.token (spelled c.in_ok-keyword.keyword), v.token (spelled c.in_ok-open.open), v.expr c.in_ok-amount.amount, v.token (spelled c.in_ok-close.close), refl, sym c.in_ok-whole.ensures))
+    let marks = c.in_ok-amount.ensures.tells.0 in
+    (v.token (spelled c.in_ok-keyword.keyword) ∷ marks.0 ∷ v.expr c.in_ok-amount.amount ∷ marks.1 ∷ [], also c.in_ok-keyword.ensures.parses c.in_ok-amount.ensures.tells.1, (v.token (spelled c.in_ok-keyword.keyword), marks.0, v.expr c.in_ok-amount.amount, marks.1, refl, sym c.in_ok-whole.ensures))
+
+pub in_parentheses-returns-in_err-open-clause-tells : goal.in_parentheses-returns-in_err-open-clause-tells
+in_parentheses-returns-in_err-open-clause-tells t c = exit _ _ _ c.from_residual.ensures.1 c.in_err-open.ensures.parses (λ d. here_stops _ d)
+
+pub in_parentheses-returns-in_err-inner-clause-tells : goal.in_parentheses-returns-in_err-inner-clause-tells
+in_parentheses-returns-in_err-inner-clause-tells t c = exit _ _ _ c.from_residual-in_err-inner.ensures.1 c.in_err-inner.ensures.parses (λ d. then_stops c.in_ok-open.ensures.parses (here_stops _ d))
+
+pub in_parentheses-returns-in_err-close-clause-tells : goal.in_parentheses-returns-in_err-close-clause-tells
+in_parentheses-returns-in_err-close-clause-tells t c = exit _ _ _ c.from_residual-in_err-close.ensures.1 c.in_err-close.ensures.parses (λ d. then_stops c.in_ok-open.ensures.parses (then_stops c.in_ok-inner.ensures.parses d))
+
+pub in_parentheses-returns-clause-tells : goal.in_parentheses-returns-clause-tells
+in_parentheses-returns-clause-tells t c =
+    ((v.token (spelled c.in_ok-open.open), v.token (spelled c.in_ok-close.close)), also c.in_ok-open.ensures.parses (also c.in_ok-inner.ensures.parses c.in_ok-close.ensures.parses))
 
 pub tail-steps-init : goal.tail-steps-init
 tail-steps-init t c =
     record { onward = at_start _ _ _ (λ x. refl); fewer = omega arith }
 
 pub tail-returns-in_err-operation-clause-gives : goal.tail-returns-in_err-operation-clause-gives
-tail-returns-in_err-operation-clause-gives t c =
-    let p = err_from_is_err_and c.from_residual.result c.from_residual.ensures.1 in
-    exit _ _ _ (ahead c.args.reader.now) _ _ p.1 p.2 c.in_err-operation.ensures.parses (λ d. stop_turn (λ x w. c.args.before ++ v.as_steps w ≡ c.steps.steps ++ v.as_steps x) g.tail g.Step (ahead c.args.reader.now) (ahead c.steps.reader) _ (more_steps (kind_of (ahead c.steps.reader)) (ap begins_step (sym c.kind.ensures) ∙ sym c.begins_step.ensures ∙ c.steps-test.true)) (here_stops _ d) c.steps.invariant.onward)
+tail-returns-in_err-operation-clause-gives t c = exit _ _ _ c.from_residual.ensures.1 c.in_err-operation.ensures.parses (λ d. stop_turn (λ x w. c.args.before ++ v.as_steps w ≡ c.steps.steps ++ v.as_steps x) g.tail g.Step (ahead c.args.reader.now) (ahead c.steps.reader) _ (more_steps (kind_of (ahead c.steps.reader)) (ap begins_step (sym c.kind.ensures) ∙ sym c.begins_step.ensures ∙ c.steps-test.true)) (here_stops _ d) c.steps.invariant.onward)
 
 pub tail-returns-in_err-operation-clause-fewer : goal.tail-returns-in_err-operation-clause-fewer
 tail-returns-in_err-operation-clause-fewer t c =
     omega (arith, c.in_err-operation.ensures.fewer, c.steps.invariant.fewer)
 
 pub tail-returns-in_err-operand-clause-gives : goal.tail-returns-in_err-operand-clause-gives
-tail-returns-in_err-operand-clause-gives t c =
-    let p = err_from_is_err_and c.from_residual-in_err-operand.result c.from_residual-in_err-operand.ensures.1 in
-    exit _ _ _ (ahead c.args.reader.now) _ _ p.1 p.2 c.in_err-operand.ensures.parses (λ d. stop_turn (λ x w. c.args.before ++ v.as_steps w ≡ c.steps.steps ++ v.as_steps x) g.tail g.Step (ahead c.args.reader.now) (ahead c.steps.reader) _ (more_steps (kind_of (ahead c.steps.reader)) (ap begins_step (sym c.kind.ensures) ∙ sym c.begins_step.ensures ∙ c.steps-test.true)) (then_stops c.in_ok-operation.ensures.parses (here_stops _ d)) c.steps.invariant.onward)
+tail-returns-in_err-operand-clause-gives t c = exit _ _ _ c.from_residual-in_err-operand.ensures.1 c.in_err-operand.ensures.parses (λ d. stop_turn (λ x w. c.args.before ++ v.as_steps w ≡ c.steps.steps ++ v.as_steps x) g.tail g.Step (ahead c.args.reader.now) (ahead c.steps.reader) _ (more_steps (kind_of (ahead c.steps.reader)) (ap begins_step (sym c.kind.ensures) ∙ sym c.begins_step.ensures ∙ c.steps-test.true)) (then_stops c.in_ok-operation.ensures.parses (here_stops _ d)) c.steps.invariant.onward)
 
 pub tail-returns-in_err-operand-clause-fewer : goal.tail-returns-in_err-operand-clause-fewer
 tail-returns-in_err-operand-clause-fewer t c =
@@ -376,9 +314,7 @@ posts-posts-init t c =
     record { onward = at_start _ _ _ (λ x. refl); fewer = omega arith }
 
 pub posts-returns-in_err-whole-clause-gives : goal.posts-returns-in_err-whole-clause-gives
-posts-returns-in_err-whole-clause-gives t c =
-    let p = err_from_is_err_and c.from_residual.result c.from_residual.ensures.1 in
-    exit _ _ _ (ahead c.args.reader.now) _ _ p.1 p.2 c.in_err-whole.ensures.gives (λ d. stop_turn (λ x w. trees.posted c.args.base (v.as_posts w) ≡ trees.posted c.posts.whole (v.as_posts x)) g.posts g.Posts (ahead c.args.reader.now) (ahead c.posts.reader) _ (more_posts (kind_of (ahead c.posts.reader)) (ap begins_post (sym c.kind.ensures) ∙ sym c.begins_post.ensures ∙ c.posts-test.true)) (here_stops _ d) c.posts.invariant.onward)
+posts-returns-in_err-whole-clause-gives t c = exit _ _ _ c.from_residual.ensures.1 c.in_err-whole.ensures.gives (λ d. stop_turn (λ x w. trees.posted c.args.base (v.as_posts w) ≡ trees.posted c.posts.whole (v.as_posts x)) g.posts g.Posts (ahead c.args.reader.now) (ahead c.posts.reader) _ (more_posts (kind_of (ahead c.posts.reader)) (ap begins_post (sym c.kind.ensures) ∙ sym c.begins_post.ensures ∙ c.posts-test.true)) (here_stops _ d) c.posts.invariant.onward)
 
 pub posts-returns-in_err-whole-clause-fewer : goal.posts-returns-in_err-whole-clause-fewer
 posts-returns-in_err-whole-clause-fewer t c =
@@ -406,34 +342,26 @@ posts-returns-clause-fewer t c =
     c.posts.invariant.fewer
 
 pub bounds-returns-in_err-keyword-clause-reads : goal.bounds-returns-in_err-keyword-clause-reads
-bounds-returns-in_err-keyword-clause-reads t c =
-    let p = err_from_is_err_and c.from_residual.result c.from_residual.ensures.1 in
-    exit _ _ _ (ahead c.args.reader.now) _ _ p.1 p.2 c.in_err-keyword.ensures.parses (λ d. here_stops _ d)
+bounds-returns-in_err-keyword-clause-reads t c = exit _ _ _ c.from_residual.ensures.1 c.in_err-keyword.ensures.parses (λ d. here_stops _ d)
 
 pub bounds-returns-in_err-open-clause-reads : goal.bounds-returns-in_err-open-clause-reads
-bounds-returns-in_err-open-clause-reads t c =
-    let p = err_from_is_err_and c.from_residual-in_err-open.result c.from_residual-in_err-open.ensures.1 in
-    exit _ _ _ (ahead c.args.reader.now) _ _ p.1 p.2 c.in_err-open.ensures.parses (λ d. then_stops c.in_ok-keyword.ensures.parses (here_stops _ d))
+bounds-returns-in_err-open-clause-reads t c = exit _ _ _ c.from_residual-in_err-open.ensures.1 c.in_err-open.ensures.parses (λ d. then_stops c.in_ok-keyword.ensures.parses (here_stops _ d))
 
 pub between-returns-in_err-lower-clause-gives : goal.between-returns-in_err-lower-clause-gives
 between-returns-in_err-lower-clause-gives t c =
-    λ al. let p = err_from_is_err_and c.from_residual.result c.from_residual.ensures.1 in
-    exit _ _ _ (ahead c.args.reader.now) _ _ p.1 p.2 c.in_err-lower.ensures.parses (λ d. halt_of (ahead c.args.reader.now) _ al d)
+    λ al. exit _ _ _ c.from_residual.ensures.1 c.in_err-lower.ensures.parses (λ d. halt_of (ahead c.args.reader.now) _ al d)
 
 pub between-returns-in_err-comma-clause-gives : goal.between-returns-in_err-comma-clause-gives
 between-returns-in_err-comma-clause-gives t c =
-    λ al. let p = err_from_is_err_and c.from_residual-in_err-comma.result c.from_residual-in_err-comma.ensures.1 in
-    exit _ _ _ (ahead c.args.reader.now) _ _ p.1 p.2 c.in_err-comma.ensures.parses (λ d. (lead_of (ahead c.args.reader.now) (ahead c.expr.new.reader) (v.expr c.in_ok-lower.lower) al c.in_ok-lower.ensures.parses).stopped _ (here_stops _ d))
+    λ al. exit _ _ _ c.from_residual-in_err-comma.ensures.1 c.in_err-comma.ensures.parses (λ d. (lead_of (ahead c.args.reader.now) (ahead c.expr.new.reader) (v.expr c.in_ok-lower.lower) al c.in_ok-lower.ensures.parses).stopped _ (here_stops _ d))
 
 pub between-returns-in_err-upper-clause-gives : goal.between-returns-in_err-upper-clause-gives
 between-returns-in_err-upper-clause-gives t c =
-    λ al. let p = err_from_is_err_and c.from_residual-in_err-upper.result c.from_residual-in_err-upper.ensures.1 in
-    exit _ _ _ (ahead c.args.reader.now) _ _ p.1 p.2 c.in_err-upper.ensures.parses (λ d. (lead_of (ahead c.args.reader.now) (ahead c.expr.new.reader) (v.expr c.in_ok-lower.lower) al c.in_ok-lower.ensures.parses).stopped _ (then_stops c.in_ok-comma.ensures.parses (here_stops _ d)))
+    λ al. exit _ _ _ c.from_residual-in_err-upper.ensures.1 c.in_err-upper.ensures.parses (λ d. (lead_of (ahead c.args.reader.now) (ahead c.expr.new.reader) (v.expr c.in_ok-lower.lower) al c.in_ok-lower.ensures.parses).stopped _ (then_stops c.in_ok-comma.ensures.parses (here_stops _ d)))
 
 pub between-returns-in_err-close-clause-gives : goal.between-returns-in_err-close-clause-gives
 between-returns-in_err-close-clause-gives t c =
-    λ al. let p = err_from_is_err_and c.from_residual-in_err-close.result c.from_residual-in_err-close.ensures.1 in
-    exit _ _ _ (ahead c.args.reader.now) _ _ p.1 p.2 c.in_err-close.ensures.parses (λ d. (lead_of (ahead c.args.reader.now) (ahead c.expr.new.reader) (v.expr c.in_ok-lower.lower) al c.in_ok-lower.ensures.parses).stopped _ (then_stops c.in_ok-comma.ensures.parses (then_stops c.in_ok-upper.ensures.parses d)))
+    λ al. exit _ _ _ c.from_residual-in_err-close.ensures.1 c.in_err-close.ensures.parses (λ d. (lead_of (ahead c.args.reader.now) (ahead c.expr.new.reader) (v.expr c.in_ok-lower.lower) al c.in_ok-lower.ensures.parses).stopped _ (then_stops c.in_ok-comma.ensures.parses (then_stops c.in_ok-upper.ensures.parses d)))
 
 pub between-returns-clause-gives : goal.between-returns-clause-gives
 between-returns-clause-gives t c =

@@ -34,6 +34,9 @@ decreases-expr_rest l = 32 * remaining l.reader.now + 12
 abbrev pub decreases-first : goal.decreases-first
 decreases-first l = 32 * remaining l.reader.now + 18
 
+abbrev pub decreases-in_parentheses : goal.decreases-in_parentheses
+decreases-in_parentheses l = 32 * remaining l.reader.now + 1
+
 abbrev pub decreases-index : goal.decreases-index
 decreases-index l = 32 * remaining l.reader.now + 3
 

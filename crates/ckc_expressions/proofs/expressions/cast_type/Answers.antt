@@ -1,32 +1,18 @@
 use Rattle.std.proofs.Common.{◌∷◌, [], refl}
-use Rattle.std.proofs.lemmas.Result.{err_from_is_err_and}
 use Rattle.ckc_syntax.specs.Spelled.{spelled}
-use Rattle.ckc_grammar.specs.Values.{Value, made}
 use Rattle.ckc_grammar.specs.Values as v
 use Rattle.ckc_grammar.specs.Marked.{ahead}
-use Rattle.ckc_grammar.proofs.Steps.{also, then_stops, here_stops, exit}
+use Rattle.ckc_grammar.proofs.Steps.{also_all, then_all, here_all}
+use Rattle.ckc_expressions.proofs.Exits.{exit}
 use Rattle.ckc_expressions.proofs.expressions.cast_type.Goals as goal
 
-pub returns-in_err-open-clause-reads : goal.returns-in_err-open-clause-reads
-returns-in_err-open-clause-reads c =
-    let p = err_from_is_err_and c.from_residual.result c.from_residual.ensures.1 in
-    exit _ _ _ (ahead c.args.reader.now) _ _ p.1 p.2 c.in_err-open.ensures.parses (λ d. here_stops _ d)
-
 pub returns-in_err-ctype-clause-reads : goal.returns-in_err-ctype-clause-reads
-returns-in_err-ctype-clause-reads c =
-    let p = err_from_is_err_and c.from_residual-in_err-ctype.result c.from_residual-in_err-ctype.ensures.1 in
-    exit _ _ _ (ahead c.args.reader.now) _ _ p.1 p.2 c.in_err-ctype.ensures.parses (λ d. then_stops c.in_ok-open.ensures.parses (here_stops _ d))
-
-pub returns-in_err-close-clause-reads : goal.returns-in_err-close-clause-reads
-returns-in_err-close-clause-reads c =
-    let p = err_from_is_err_and c.from_residual-in_err-close.result c.from_residual-in_err-close.ensures.1 in
-    exit _ _ _ (ahead c.args.reader.now) _ _ p.1 p.2 c.in_err-close.ensures.parses (λ d. then_stops c.in_ok-open.ensures.parses (then_stops c.in_ok-ctype.ensures.parses (here_stops _ d)))
+returns-in_err-ctype-clause-reads c = exit _ _ _ c.from_residual.ensures.1 c.in_err-ctype.ensures.tells (λ d. here_all _ d)
 
 pub returns-in_err-round-clause-reads : goal.returns-in_err-round-clause-reads
-returns-in_err-round-clause-reads c =
-    let p = err_from_is_err_and c.from_residual-in_err-round.result c.from_residual-in_err-round.ensures.1 in
-    exit _ _ _ (ahead c.args.reader.now) _ _ p.1 p.2 c.in_err-round.ensures.parses (λ d. then_stops c.in_ok-open.ensures.parses (then_stops c.in_ok-ctype.ensures.parses (then_stops c.in_ok-close.ensures.parses (d))))
+returns-in_err-round-clause-reads c = exit _ _ _ c.from_residual-in_err-round.ensures.1 c.in_err-round.ensures.parses (λ d. then_all c.in_ok-ctype.ensures.tells.1 d)
 
 pub returns-clause-reads : goal.returns-clause-reads
 returns-clause-reads c =
-    (v.token (spelled c.in_ok-open.open) ∷ v.type_tree c.in_ok-ctype.ctype ∷ v.token (spelled c.in_ok-close.close) ∷ v.token (spelled c.in_ok-round.round) ∷ [], (also c.in_ok-open.ensures.parses (also c.in_ok-ctype.ensures.parses (also c.in_ok-close.ensures.parses c.in_ok-round.ensures.parses))), (v.token (spelled c.in_ok-open.open), v.token (spelled c.in_ok-close.close), v.token (spelled c.in_ok-round.round), refl))
+    let marks = c.in_ok-ctype.ensures.tells.0 in
+    (marks.0 ∷ v.type_tree c.in_ok-ctype.ctype ∷ marks.1 ∷ v.token (spelled c.in_ok-round.round) ∷ [], also_all c.in_ok-ctype.ensures.tells.1 c.in_ok-round.ensures.parses, (marks.0, marks.1, v.token (spelled c.in_ok-round.round), refl))

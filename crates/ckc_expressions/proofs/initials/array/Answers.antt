@@ -6,7 +6,7 @@ use Rattle.ckc_grammar.specs.Reading.{pick, kind_of, done}
 use Rattle.ckc_grammar.proofs.Steps.{chosen_as, by_rule}
 use Rattle.ckc_grammar.specs.Grammar as g
 use Rattle.ckc_grammar.specs.Values as v
-use Rattle.ckc_grammar.proofs.Choices as o
+use Rattle.ckc_grammar.proofs.Defaults as d
 use Rattle.ckc_expressions.proofs.initials.array.Goals as goal
 
 pub returns-in-SquareOpen : goal.returns-in-SquareOpen
@@ -30,5 +30,5 @@ returns-in-NtChecked c = record {
 pub returns-in_default : goal.returns-in_default
 returns-in_default c = record {
   gives =
-      (made g.NoArray [], by_rule g.NoArray (o.other_array (kind_of (ahead c.args.reader.now)) (λ e. c.in_default.not-SquareOpen (c.kind.ensures ∙ e)) (λ e. c.in_default.not-Checked (c.kind.ensures ∙ e)) (λ e. c.in_default.not-NtChecked (c.kind.ensures ∙ e))) refl refl (done refl), refl);
+      (made g.NoArray [], by_rule g.NoArray (d.usual g.array (kind_of (ahead c.args.reader.now)) (λ e. c.in_default.not-SquareOpen (c.kind.ensures ∙ e)) (λ e. c.in_default.not-Checked (c.kind.ensures ∙ e)) (λ e. c.in_default.not-NtChecked (c.kind.ensures ∙ e))) refl refl (done refl), refl);
 }

@@ -6,7 +6,7 @@ use Rattle.ckc_grammar.specs.Reading.{pick, kind_of, done}
 use Rattle.ckc_grammar.proofs.Steps.{chosen_as, by_rule}
 use Rattle.ckc_grammar.specs.Grammar as g
 use Rattle.ckc_grammar.specs.Values as v
-use Rattle.ckc_grammar.proofs.Choices as o
+use Rattle.ckc_grammar.proofs.Defaults as d
 use Rattle.ckc_expressions.proofs.initials.declared_limits.Goals as goal
 
 pub returns-in-Colon-clause-gives : goal.returns-in-Colon-clause-gives
@@ -14,4 +14,4 @@ returns-in-Colon-clause-gives c =
     chosen_as (λ y. v.as_declared_limits y) (λ x vs. v.as_declared_limits (made g.DeclaredLimits vs) ≡ x) g.declared_limits g.DeclaredLimits _ _ c.some_limits.result (ap (λ k. pick g.declared_limits k) (sym c.in-Colon.ensures)) (λ k. refl) (λ x vs h. h) c.some_limits.ensures.reads
 
 pub returns-in_default-clause-gives : goal.returns-in_default-clause-gives
-returns-in_default-clause-gives c = (made g.NoLimits [], by_rule g.NoLimits (o.other_declared_limits (kind_of (ahead c.args.reader.now)) (λ e. c.in_default.not-Colon (c.kind.ensures ∙ e))) refl refl (done refl), refl)
+returns-in_default-clause-gives c = (made g.NoLimits [], by_rule g.NoLimits (d.usual g.declared_limits (kind_of (ahead c.args.reader.now)) (λ e. c.in_default.not-Colon (c.kind.ensures ∙ e))) refl refl (done refl), refl)

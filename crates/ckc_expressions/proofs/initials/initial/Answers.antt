@@ -6,7 +6,7 @@ use Rattle.ckc_grammar.specs.Reading.{pick, kind_of, done}
 use Rattle.ckc_grammar.proofs.Steps.{chosen_as, by_rule}
 use Rattle.ckc_grammar.specs.Grammar as g
 use Rattle.ckc_grammar.specs.Values as v
-use Rattle.ckc_grammar.proofs.Choices as o
+use Rattle.ckc_grammar.proofs.Defaults as d
 use Rattle.ckc_expressions.proofs.initials.initial.Goals as goal
 
 pub returns-in-Equals : goal.returns-in-Equals
@@ -18,5 +18,5 @@ returns-in-Equals c = record {
 pub returns-in_default : goal.returns-in_default
 returns-in_default c = record {
   gives =
-      (made g.NoInitial [], by_rule g.NoInitial (o.other_initial (kind_of (ahead c.args.reader.now)) (λ e. c.in_default.not-Equals (c.kind.ensures ∙ e))) refl refl (done refl), refl);
+      (made g.NoInitial [], by_rule g.NoInitial (d.usual g.initial (kind_of (ahead c.args.reader.now)) (λ e. c.in_default.not-Equals (c.kind.ensures ∙ e))) refl refl (done refl), refl);
 }

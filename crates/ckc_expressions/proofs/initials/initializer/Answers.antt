@@ -6,7 +6,7 @@ use Rattle.ckc_grammar.specs.Reading.{pick, kind_of}
 use Rattle.ckc_grammar.proofs.Steps.{chosen_as}
 use Rattle.ckc_grammar.specs.Grammar as g
 use Rattle.ckc_grammar.specs.Values as v
-use Rattle.ckc_grammar.proofs.Choices as o
+use Rattle.ckc_grammar.proofs.Defaults as d
 use Rattle.ckc_expressions.proofs.initials.initializer.Goals as goal
 
 pub returns-in-CurlyOpen : goal.returns-in-CurlyOpen
@@ -18,5 +18,5 @@ returns-in-CurlyOpen c = record {
 pub returns-in_default : goal.returns-in_default
 returns-in_default c = record {
   gives =
-      chosen_as (λ y. v.as_init y) (λ x vs. v.as_init (made g.OneInitial vs) ≡ x) g.initializer g.OneInitial _ _ c.one_initial.result (o.other_initializer (kind_of (ahead c.args.reader.now)) (λ e. c.in_default.not-CurlyOpen (c.kind.ensures ∙ e))) (λ k. refl) (λ x vs h. h) c.one_initial.ensures.reads;
+      chosen_as (λ y. v.as_init y) (λ x vs. v.as_init (made g.OneInitial vs) ≡ x) g.initializer g.OneInitial _ _ c.one_initial.result (d.usual g.initializer (kind_of (ahead c.args.reader.now)) (λ e. c.in_default.not-CurlyOpen (c.kind.ensures ∙ e))) (λ k. refl) (λ x vs h. h) c.one_initial.ensures.reads;
 }

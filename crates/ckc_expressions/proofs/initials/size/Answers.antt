@@ -6,7 +6,7 @@ use Rattle.ckc_grammar.specs.Reading.{pick, kind_of, done}
 use Rattle.ckc_grammar.proofs.Steps.{chosen_as, by_rule}
 use Rattle.ckc_grammar.specs.Grammar as g
 use Rattle.ckc_grammar.specs.Values as v
-use Rattle.ckc_grammar.proofs.Choices as o
+use Rattle.ckc_grammar.proofs.Defaults as d
 use Rattle.ckc_expressions.proofs.initials.size.Goals as goal
 
 pub returns-in-Number : goal.returns-in-Number
@@ -18,5 +18,5 @@ returns-in-Number c = record {
 pub returns-in_default : goal.returns-in_default
 returns-in_default c = record {
   gives =
-      (made g.NoSize [], by_rule g.NoSize (o.other_size (kind_of (ahead c.args.reader.now)) (λ e. c.in_default.not-Number (c.kind.ensures ∙ e))) refl refl (done refl), refl);
+      (made g.NoSize [], by_rule g.NoSize (d.usual g.size (kind_of (ahead c.args.reader.now)) (λ e. c.in_default.not-Number (c.kind.ensures ∙ e))) refl refl (done refl), refl);
 }

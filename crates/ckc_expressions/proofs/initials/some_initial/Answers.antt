@@ -1,24 +1,16 @@
 use Rattle.std.proofs.Common.{◌∷◌, []}
-use Rattle.std.proofs.lemmas.Result.{err_from_is_err_and}
 use Rattle.ckc_syntax.specs.Spelled.{spelled}
 use Rattle.ckc_grammar.specs.Marked.{ahead}
-use Rattle.ckc_grammar.proofs.Steps.{also, then_stops, here_stops, exit}
+use Rattle.ckc_grammar.proofs.Steps.{also, then_stops, here_stops}
+use Rattle.ckc_expressions.proofs.Exits.{exit}
 use Rattle.ckc_grammar.specs.Values as v
 use Rattle.ckc_expressions.proofs.initials.some_initial.Goals as goal
 
 pub returns-in_err-equals : goal.returns-in_err-equals
-returns-in_err-equals c = record {
-  reads =
-      let p = err_from_is_err_and c.from_residual.result c.from_residual.ensures.1 in
-      exit _ _ _ (ahead c.args.reader.now) _ _ p.1 p.2 c.in_err-equals.ensures.parses (λ d. here_stops _ d);
-}
+returns-in_err-equals c = record { reads = exit _ _ _ c.from_residual.ensures.1 c.in_err-equals.ensures.parses (λ d. here_stops _ d) }
 
 pub returns-in_err-init : goal.returns-in_err-init
-returns-in_err-init c = record {
-  reads =
-      let p = err_from_is_err_and c.from_residual-in_err-init.result c.from_residual-in_err-init.ensures.1 in
-      exit _ _ _ (ahead c.args.reader.now) _ _ p.1 p.2 c.in_err-init.ensures.gives (λ d. then_stops c.in_ok-equals.ensures.parses (d));
-}
+returns-in_err-init c = record { reads = exit _ _ _ c.from_residual-in_err-init.ensures.1 c.in_err-init.ensures.gives (λ d. then_stops c.in_ok-equals.ensures.parses d) }
 
 pub returns : goal.returns
 returns c = record {

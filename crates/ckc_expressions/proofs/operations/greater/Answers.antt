@@ -1,21 +1,17 @@
 use Rattle.std.proofs.Common.{◌∷◌, [], sym, ap}
-use Rattle.std.proofs.lemmas.Result.{err_from_is_err_and}
 use Rattle.ckc_syntax.specs.Spelled.{spelled}
 use Rattle.ckc_grammar.specs.Values.{Value, made}
 use Rattle.ckc_grammar.specs.Values as v
 use Rattle.ckc_grammar.specs.Marked.{ahead}
-use Rattle.ckc_grammar.proofs.Steps.{also, then_stops, here_stops, exit}
+use Rattle.ckc_grammar.proofs.Steps.{also, then_stops, here_stops}
+use Rattle.ckc_expressions.proofs.Exits.{exit}
 use Rattle.ckc_expressions.proofs.operations.greater.Goals as goal
 
 pub returns-in_err-mark-clause-reads : goal.returns-in_err-mark-clause-reads
-returns-in_err-mark-clause-reads c =
-    let p = err_from_is_err_and c.from_residual.result c.from_residual.ensures.1 in
-    exit _ _ _ (ahead c.args.reader.now) _ _ p.1 p.2 c.in_err-mark.ensures.parses (λ d. here_stops _ d)
+returns-in_err-mark-clause-reads c = exit _ _ _ c.from_residual.ensures.1 c.in_err-mark.ensures.parses (λ d. here_stops _ d)
 
 pub returns-in_err-is_shift-clause-reads : goal.returns-in_err-is_shift-clause-reads
-returns-in_err-is_shift-clause-reads c =
-    let p = err_from_is_err_and c.from_residual-in_err-is_shift.result c.from_residual-in_err-is_shift.ensures.1 in
-    exit _ _ _ (ahead c.args.reader.now) _ _ p.1 p.2 c.in_err-is_shift.ensures.parses (λ d. then_stops c.in_ok-mark.ensures.parses (d))
+returns-in_err-is_shift-clause-reads c = exit _ _ _ c.from_residual-in_err-is_shift.ensures.1 c.in_err-is_shift.ensures.parses (λ d. then_stops c.in_ok-mark.ensures.parses d)
 
 pub returns-clause-reads : goal.returns-clause-reads
 returns-clause-reads c =

@@ -6,7 +6,7 @@ use Rattle.ckc_grammar.specs.Values.{Value, made}
 use Rattle.ckc_grammar.specs.Values as v
 use Rattle.ckc_grammar.specs.Marked.{ahead}
 use Rattle.ckc_grammar.proofs.Steps.{by_rule, stop_rule, turned, chosen}
-use Rattle.ckc_grammar.proofs.Defaults.{default_operation}
+use Rattle.ckc_grammar.proofs.Defaults.{usual}
 use Rattle.ckc_expressions.proofs.operations.operation.Goals as goal
 
 pub returns-in-Less-clause-parses : goal.returns-in-Less-clause-parses
@@ -15,5 +15,5 @@ returns-in-Less-clause-parses c =
 
 pub returns-in_default-clause-parses : goal.returns-in_default-clause-parses
 returns-in_default-clause-parses c =
-    let pk = (default_operation (kind_of (ahead c.args.reader.now)) (λ e. c.in_default.not-Less (c.kind.ensures ∙ e))) in
+    let pk = (usual g.operation (kind_of (ahead c.args.reader.now)) (λ e. c.in_default.not-Less (c.kind.ensures ∙ e))) in
     turned _ _ _ _ _ _ _ c.operation_but_less.result (λ x h. by_rule g.OtherOperation pk refl refl h) (λ d. stop_rule g.OtherOperation pk d) c.operation_but_less.ensures.parses

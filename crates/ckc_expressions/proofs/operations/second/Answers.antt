@@ -4,7 +4,7 @@ use Rattle.ckc_grammar.specs.Grammar as g
 use Rattle.ckc_grammar.specs.Reading.{kind_of, pick, done}
 use Rattle.ckc_grammar.specs.Marked.{ahead}
 use Rattle.ckc_grammar.proofs.Steps.{by_rule}
-use Rattle.ckc_grammar.proofs.Defaults.{default_second}
+use Rattle.ckc_grammar.proofs.Defaults.{usual}
 use Rattle.ckc_expressions.proofs.operations.second.Goals as goal
 
 pub returns-in-GreaterNext-clause-parses : goal.returns-in-GreaterNext-clause-parses
@@ -13,4 +13,4 @@ returns-in-GreaterNext-clause-parses c =
 
 pub returns : goal.returns
 returns c =
-    record { parses = by_rule g.NoSecond (default_second (kind_of (ahead c.args.reader.now)) (λ e. c.in_default.not-GreaterNext (c.kind.ensures ∙ e))) refl refl (done refl); fewer = omega arith }
+    record { parses = by_rule g.NoSecond (usual g.second (kind_of (ahead c.args.reader.now)) (λ e. c.in_default.not-GreaterNext (c.kind.ensures ∙ e))) refl refl (done refl); fewer = omega arith }

@@ -1,5 +1,4 @@
 use Rattle.std.proofs.Common.{◌∷◌, ◌∙◌, [], refl, sym, ap}
-use Rattle.std.proofs.lemmas.Result.{err_from_is_err_and}
 use Rattle.ckc_syntax.specs.Spelled.{spelled}
 use Rattle.ckc_grammar.specs.Grammar.{k}
 use Rattle.ckc_grammar.specs.Grammar as g
@@ -7,14 +6,13 @@ use Rattle.ckc_grammar.specs.Reading.{kind_of, pick}
 use Rattle.ckc_grammar.specs.Values.{Value, made}
 use Rattle.ckc_grammar.specs.Values as v
 use Rattle.ckc_grammar.specs.Marked.{ahead}
-use Rattle.ckc_grammar.proofs.Steps.{also, then_stops, here_stops, by_rule, stop_rule, no_rule, exit, turned, chosen}
-use Rattle.ckc_grammar.proofs.Defaults.{default_base, default_scalar}
+use Rattle.ckc_grammar.proofs.Steps.{also, then_stops, here_stops, by_rule, stop_rule, no_rule, turned, chosen}
+use Rattle.ckc_expressions.proofs.Exits.{exit}
+use Rattle.ckc_grammar.proofs.Defaults.{usual}
 use Rattle.ckc_expressions.proofs.types.+types.Goals as goal
 
 pub type_name-returns-in_err-base-clause-parses : goal.type_name-returns-in_err-base-clause-parses
-type_name-returns-in_err-base-clause-parses t c =
-    let p = err_from_is_err_and c.from_residual.result c.from_residual.ensures.1 in
-    exit _ _ _ (ahead c.args.reader.now) _ _ p.1 p.2 c.in_err-base.ensures.parses (λ d. stop_rule g.TypeName refl (here_stops _ d))
+type_name-returns-in_err-base-clause-parses t c = exit _ _ _ c.from_residual.ensures.1 c.in_err-base.ensures.parses (λ d. stop_rule g.TypeName refl (here_stops _ d))
 
 pub type_name-returns-clause-parses : goal.type_name-returns-clause-parses
 type_name-returns-clause-parses t c =
@@ -26,7 +24,7 @@ base-returns-in-Struct-clause-parses t c =
 
 pub base-returns-in_default-clause-parses : goal.base-returns-in_default-clause-parses
 base-returns-in_default-clause-parses t c =
-    let pk = (default_base (kind_of (ahead c.args.reader.now)) (λ e. c.in_default.not-Struct (c.kind.ensures ∙ e))) in
+    let pk = (usual g.base (kind_of (ahead c.args.reader.now)) (λ e. c.in_default.not-Struct (c.kind.ensures ∙ e))) in
     turned _ _ _ _ _ _ _ c.scalar.result (λ x h. by_rule g.Scalar pk refl refl h) (λ d. stop_rule g.Scalar pk d) c.scalar.ensures.parses
 
 pub scalar-returns-in-Int-clause-parses : goal.scalar-returns-in-Int-clause-parses
@@ -55,55 +53,47 @@ scalar-returns-in-NtArrayPtr-clause-parses t c =
 
 pub scalar-returns-in_default-clause-parses : goal.scalar-returns-in_default-clause-parses
 scalar-returns-in_default-clause-parses t c =
-    no_rule (default_scalar (kind_of (ahead c.args.reader.now)) (λ e. c.in_default.not-Int (c.kind.ensures ∙ e)) (λ e. c.in_default.not-Unsigned (c.kind.ensures ∙ e)) (λ e. c.in_default.not-Char (c.kind.ensures ∙ e)) (λ e. c.in_default.not-Ptr (c.kind.ensures ∙ e)) (λ e. c.in_default.not-ArrayPtr (c.kind.ensures ∙ e)) (λ e. c.in_default.not-NtArrayPtr (c.kind.ensures ∙ e)))
+    no_rule (usual g.scalar (kind_of (ahead c.args.reader.now)) (λ e. c.in_default.not-Int (c.kind.ensures ∙ e)) (λ e. c.in_default.not-Unsigned (c.kind.ensures ∙ e)) (λ e. c.in_default.not-Char (c.kind.ensures ∙ e)) (λ e. c.in_default.not-Ptr (c.kind.ensures ∙ e)) (λ e. c.in_default.not-ArrayPtr (c.kind.ensures ∙ e)) (λ e. c.in_default.not-NtArrayPtr (c.kind.ensures ∙ e)))
+
+pub one_pointer-returns-in_err-word-clause-reads : goal.one_pointer-returns-in_err-word-clause-reads
+one_pointer-returns-in_err-word-clause-reads t c = exit _ _ _ c.from_residual.ensures.1 c.in_err-word.ensures.parses (λ d. here_stops _ d)
 
 pub one_pointer-returns-in_err-inner-clause-reads : goal.one_pointer-returns-in_err-inner-clause-reads
-one_pointer-returns-in_err-inner-clause-reads t c =
-    let p = err_from_is_err_and c.from_residual.result c.from_residual.ensures.1 in
-    exit _ _ _ (ahead c.args.reader.now) _ _ p.1 p.2 c.in_err-inner.ensures.reads (λ d. d)
+one_pointer-returns-in_err-inner-clause-reads t c = exit _ _ _ c.from_residual-in_err-inner.ensures.1 c.in_err-inner.ensures.tells (λ d. then_stops c.in_ok-word.ensures.parses d)
 
 pub one_pointer-returns-clause-reads : goal.one_pointer-returns-clause-reads
 one_pointer-returns-clause-reads t c =
-    (c.in_ok-inner.ensures.reads.0, c.in_ok-inner.ensures.reads.1, ap (λ z. made g.OnePointer z) c.in_ok-inner.ensures.reads.2.3 ∙ ap (λ x. v.type_tree x) (sym c.in_ok-base.ensures))
+    (v.token (spelled c.in_ok-word.word) ∷ c.in_ok-inner.ensures.tells.0.0 ∷ v.type_tree c.in_ok-inner.inner ∷ c.in_ok-inner.ensures.tells.0.1 ∷ [], also c.in_ok-word.ensures.parses c.in_ok-inner.ensures.tells.1, ap (λ x. v.type_tree x) (sym c.in_ok-base.ensures))
+
+pub array_pointer-returns-in_err-word-clause-reads : goal.array_pointer-returns-in_err-word-clause-reads
+array_pointer-returns-in_err-word-clause-reads t c = exit _ _ _ c.from_residual.ensures.1 c.in_err-word.ensures.parses (λ d. here_stops _ d)
 
 pub array_pointer-returns-in_err-inner-clause-reads : goal.array_pointer-returns-in_err-inner-clause-reads
-array_pointer-returns-in_err-inner-clause-reads t c =
-    let p = err_from_is_err_and c.from_residual.result c.from_residual.ensures.1 in
-    exit _ _ _ (ahead c.args.reader.now) _ _ p.1 p.2 c.in_err-inner.ensures.reads (λ d. d)
+array_pointer-returns-in_err-inner-clause-reads t c = exit _ _ _ c.from_residual-in_err-inner.ensures.1 c.in_err-inner.ensures.tells (λ d. then_stops c.in_ok-word.ensures.parses d)
 
 pub array_pointer-returns-clause-reads : goal.array_pointer-returns-clause-reads
 array_pointer-returns-clause-reads t c =
-    (c.in_ok-inner.ensures.reads.0, c.in_ok-inner.ensures.reads.1, ap (λ z. made g.ArrayPointer z) c.in_ok-inner.ensures.reads.2.3 ∙ ap (λ x. v.type_tree x) (sym c.in_ok-base.ensures))
+    (v.token (spelled c.in_ok-word.word) ∷ c.in_ok-inner.ensures.tells.0.0 ∷ v.type_tree c.in_ok-inner.inner ∷ c.in_ok-inner.ensures.tells.0.1 ∷ [], also c.in_ok-word.ensures.parses c.in_ok-inner.ensures.tells.1, ap (λ x. v.type_tree x) (sym c.in_ok-base.ensures))
+
+pub nt_pointer-returns-in_err-word-clause-reads : goal.nt_pointer-returns-in_err-word-clause-reads
+nt_pointer-returns-in_err-word-clause-reads t c = exit _ _ _ c.from_residual.ensures.1 c.in_err-word.ensures.parses (λ d. here_stops _ d)
 
 pub nt_pointer-returns-in_err-inner-clause-reads : goal.nt_pointer-returns-in_err-inner-clause-reads
-nt_pointer-returns-in_err-inner-clause-reads t c =
-    let p = err_from_is_err_and c.from_residual.result c.from_residual.ensures.1 in
-    exit _ _ _ (ahead c.args.reader.now) _ _ p.1 p.2 c.in_err-inner.ensures.reads (λ d. d)
+nt_pointer-returns-in_err-inner-clause-reads t c = exit _ _ _ c.from_residual-in_err-inner.ensures.1 c.in_err-inner.ensures.tells (λ d. then_stops c.in_ok-word.ensures.parses d)
 
 pub nt_pointer-returns-clause-reads : goal.nt_pointer-returns-clause-reads
 nt_pointer-returns-clause-reads t c =
-    (c.in_ok-inner.ensures.reads.0, c.in_ok-inner.ensures.reads.1, ap (λ z. made g.NtPointer z) c.in_ok-inner.ensures.reads.2.3 ∙ ap (λ x. v.type_tree x) (sym c.in_ok-base.ensures))
+    (v.token (spelled c.in_ok-word.word) ∷ c.in_ok-inner.ensures.tells.0.0 ∷ v.type_tree c.in_ok-inner.inner ∷ c.in_ok-inner.ensures.tells.0.1 ∷ [], also c.in_ok-word.ensures.parses c.in_ok-inner.ensures.tells.1, ap (λ x. v.type_tree x) (sym c.in_ok-base.ensures))
 
-pub pointed-returns-in_err-word-clause-reads : goal.pointed-returns-in_err-word-clause-reads
-pointed-returns-in_err-word-clause-reads t c =
-    let p = err_from_is_err_and c.from_residual.result c.from_residual.ensures.1 in
-    exit _ _ _ (ahead c.args.reader.now) _ _ p.1 p.2 c.in_err-word.ensures.parses (λ d. here_stops _ d)
+pub type_in_angles-returns-in_err-open-clause-tells : goal.type_in_angles-returns-in_err-open-clause-tells
+type_in_angles-returns-in_err-open-clause-tells t c = exit _ _ _ c.from_residual.ensures.1 c.in_err-open.ensures.parses (λ d. here_stops _ d)
 
-pub pointed-returns-in_err-open-clause-reads : goal.pointed-returns-in_err-open-clause-reads
-pointed-returns-in_err-open-clause-reads t c =
-    let p = err_from_is_err_and c.from_residual-in_err-open.result c.from_residual-in_err-open.ensures.1 in
-    exit _ _ _ (ahead c.args.reader.now) _ _ p.1 p.2 c.in_err-open.ensures.parses (λ d. then_stops c.in_ok-word.ensures.parses (here_stops _ d))
+pub type_in_angles-returns-in_err-inner-clause-tells : goal.type_in_angles-returns-in_err-inner-clause-tells
+type_in_angles-returns-in_err-inner-clause-tells t c = exit _ _ _ c.from_residual-in_err-inner.ensures.1 c.in_err-inner.ensures.parses (λ d. then_stops c.in_ok-open.ensures.parses (here_stops _ d))
 
-pub pointed-returns-in_err-inner-clause-reads : goal.pointed-returns-in_err-inner-clause-reads
-pointed-returns-in_err-inner-clause-reads t c =
-    let p = err_from_is_err_and c.from_residual-in_err-inner.result c.from_residual-in_err-inner.ensures.1 in
-    exit _ _ _ (ahead c.args.reader.now) _ _ p.1 p.2 c.in_err-inner.ensures.parses (λ d. then_stops c.in_ok-word.ensures.parses (then_stops c.in_ok-open.ensures.parses (here_stops _ d)))
+pub type_in_angles-returns-in_err-close-clause-tells : goal.type_in_angles-returns-in_err-close-clause-tells
+type_in_angles-returns-in_err-close-clause-tells t c = exit _ _ _ c.from_residual-in_err-close.ensures.1 c.in_err-close.ensures.parses (λ d. then_stops c.in_ok-open.ensures.parses (then_stops c.in_ok-inner.ensures.parses d))
 
-pub pointed-returns-in_err-close-clause-reads : goal.pointed-returns-in_err-close-clause-reads
-pointed-returns-in_err-close-clause-reads t c =
-    let p = err_from_is_err_and c.from_residual-in_err-close.result c.from_residual-in_err-close.ensures.1 in
-    exit _ _ _ (ahead c.args.reader.now) _ _ p.1 p.2 c.in_err-close.ensures.parses (λ d. then_stops c.in_ok-word.ensures.parses (then_stops c.in_ok-open.ensures.parses (then_stops c.in_ok-inner.ensures.parses (d))))
-
-pub pointed-returns-clause-reads : goal.pointed-returns-clause-reads
-pointed-returns-clause-reads t c =
-    (v.token (spelled c.in_ok-word.word) ∷ v.token (spelled c.in_ok-open.open) ∷ v.type_tree c.in_ok-inner.inner ∷ v.token (spelled c.in_ok-close.close) ∷ [], (also c.in_ok-word.ensures.parses (also c.in_ok-open.ensures.parses (also c.in_ok-inner.ensures.parses c.in_ok-close.ensures.parses))), (v.token (spelled c.in_ok-word.word), v.token (spelled c.in_ok-open.open), v.token (spelled c.in_ok-close.close), refl))
+pub type_in_angles-returns-clause-tells : goal.type_in_angles-returns-clause-tells
+type_in_angles-returns-clause-tells t c =
+    ((v.token (spelled c.in_ok-open.open), v.token (spelled c.in_ok-close.close)), also c.in_ok-open.ensures.parses (also c.in_ok-inner.ensures.parses c.in_ok-close.ensures.parses))

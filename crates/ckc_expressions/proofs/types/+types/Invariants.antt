@@ -15,8 +15,8 @@ decreases-nt_pointer l = 8 * remaining l.reader.now + 2
 abbrev pub decreases-one_pointer : goal.decreases-one_pointer
 decreases-one_pointer l = 8 * remaining l.reader.now + 2
 
-abbrev pub decreases-pointed : goal.decreases-pointed
-decreases-pointed l = 8 * remaining l.reader.now + 1
+abbrev pub decreases-type_in_angles : goal.decreases-type_in_angles
+decreases-type_in_angles l = 8 * remaining l.reader.now + 1
 
 abbrev pub decreases-scalar : goal.decreases-scalar
 decreases-scalar l = 8 * remaining l.reader.now + 3

@@ -8,7 +8,7 @@ use Rattle.ckc_grammar.specs.Trees.{starred}
 use Rattle.ckc_grammar.specs.Values.{token, as_stars}
 use Rattle.ckc_grammar.specs.Marked.{ahead}
 use Rattle.ckc_grammar.proofs.Onward.{one_turn, last_turn}
-use Rattle.ckc_grammar.proofs.Defaults.{default_stars}
+use Rattle.ckc_grammar.proofs.Defaults.{usual}
 use Rattle.ckc_expressions.proofs.types.starred.Goals as goal
 
 pub stars-preserved : goal.stars-preserved
@@ -23,4 +23,4 @@ stars-preserved c = record {
 pub returns-clause-gives : goal.returns-clause-gives
 returns-clause-gives c =
     last_turn (λ v w. starred c.args.base (as_stars w) ≡ starred c.stars.ctype (as_stars v)) g.stars g.NoStars (ahead c.args.reader.now) (ahead c.stars.reader) (ahead c.stars.reader) []
-    (default_stars (kind_of (ahead c.stars.reader)) (λ e. c.in_default.not-Star (c.kind.ensures ∙ e))) (λ k. refl) (done refl) c.stars.invariant.onward
+    (usual g.stars (kind_of (ahead c.stars.reader)) (λ e. c.in_default.not-Star (c.kind.ensures ∙ e))) (λ k. refl) (done refl) c.stars.invariant.onward

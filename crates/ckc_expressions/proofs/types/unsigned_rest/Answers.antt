@@ -4,7 +4,7 @@ use Rattle.ckc_grammar.specs.Grammar as g
 use Rattle.ckc_grammar.specs.Reading.{kind_of, pick, done}
 use Rattle.ckc_grammar.specs.Marked.{ahead}
 use Rattle.ckc_grammar.proofs.Steps.{by_rule}
-use Rattle.ckc_grammar.proofs.Defaults.{default_unsigned_rest}
+use Rattle.ckc_grammar.proofs.Defaults.{usual}
 use Rattle.ckc_expressions.proofs.types.unsigned_rest.Goals as goal
 
 pub returns-in_ok-keyword-clause-parses : goal.returns-in_ok-keyword-clause-parses
@@ -13,4 +13,4 @@ returns-in_ok-keyword-clause-parses c =
 
 pub returns-in_default : goal.returns-in_default
 returns-in_default c =
-    record { parses = by_rule g.UnsignedAlone (default_unsigned_rest (kind_of (ahead c.args.reader.now)) (λ e. c.in_default.not-Int (c.kind.ensures ∙ e))) refl refl (done refl); fewer = omega arith }
+    record { parses = by_rule g.UnsignedAlone (usual g.unsigned_rest (kind_of (ahead c.args.reader.now)) (λ e. c.in_default.not-Int (c.kind.ensures ∙ e))) refl refl (done refl); fewer = omega arith }

@@ -1,25 +1,19 @@
 use Rattle.std.proofs.Common.{refl, ◌∷◌, []}
-use Rattle.std.proofs.lemmas.Result.{err_from_is_err_and}
 use Rattle.ckc_syntax.specs.Spelled.{spelled}
 use Rattle.ckc_grammar.specs.Marked.{ahead}
-use Rattle.ckc_grammar.proofs.Steps.{also, then_stops, here_stops, exit}
+use Rattle.ckc_grammar.proofs.Steps.{also, then_stops, here_stops}
+use Rattle.ckc_expressions.proofs.Exits.{exit}
 use Rattle.ckc_grammar.specs.Values as v
 use Rattle.ckc_expressions.proofs.values.allocated_type.Goals as goal
 
 pub returns-in_err-ctype-clause-reads : goal.returns-in_err-ctype-clause-reads
-returns-in_err-ctype-clause-reads c =
-    let p = err_from_is_err_and c.from_residual.result c.from_residual.ensures.1 in
-    exit _ _ _ (ahead c.args.reader.now) _ _ p.1 p.2 c.in_err-ctype.ensures.parses (λ d. here_stops _ d)
+returns-in_err-ctype-clause-reads c = exit _ _ _ c.from_residual.ensures.1 c.in_err-ctype.ensures.parses (λ d. here_stops _ d)
 
 pub returns-in_err-close-clause-reads : goal.returns-in_err-close-clause-reads
-returns-in_err-close-clause-reads c =
-    let p = err_from_is_err_and c.from_residual-in_err-close.result c.from_residual-in_err-close.ensures.1 in
-    exit _ _ _ (ahead c.args.reader.now) _ _ p.1 p.2 c.in_err-close.ensures.parses (λ d. then_stops c.in_ok-ctype.ensures.parses (here_stops _ d))
+returns-in_err-close-clause-reads c = exit _ _ _ c.from_residual-in_err-close.ensures.1 c.in_err-close.ensures.parses (λ d. then_stops c.in_ok-ctype.ensures.parses (here_stops _ d))
 
 pub returns-in_err-open-clause-reads : goal.returns-in_err-open-clause-reads
-returns-in_err-open-clause-reads c =
-    let p = err_from_is_err_and c.from_residual-in_err-open.result c.from_residual-in_err-open.ensures.1 in
-    exit _ _ _ (ahead c.args.reader.now) _ _ p.1 p.2 c.in_err-open.ensures.parses (λ d. then_stops c.in_ok-ctype.ensures.parses (then_stops c.in_ok-close.ensures.parses (d)))
+returns-in_err-open-clause-reads c = exit _ _ _ c.from_residual-in_err-open.ensures.1 c.in_err-open.ensures.parses (λ d. then_stops c.in_ok-ctype.ensures.parses (then_stops c.in_ok-close.ensures.parses d))
 
 pub returns-clause-reads : goal.returns-clause-reads
 returns-clause-reads c =

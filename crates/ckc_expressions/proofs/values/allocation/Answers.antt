@@ -1,28 +1,22 @@
 use Rattle.std.proofs.Common.{refl, sym, ◌∙◌, ◌∷◌, [], ◌++◌}
-use Rattle.std.proofs.lemmas.Result.{err_from_is_err_and}
 use Rattle.ckc_syntax.specs.Spelled.{spelled}
 use Rattle.ckc_grammar.specs.Values.{made}
 use Rattle.ckc_grammar.specs.Marked.{ahead}
-use Rattle.ckc_grammar.proofs.Steps.{also, also_all, then_stops, then_all, here_stops, here_all, exit, by_rule, stop_rule}
+use Rattle.ckc_grammar.proofs.Steps.{also, also_all, then_stops, then_all, here_stops, here_all, by_rule, stop_rule}
+use Rattle.ckc_expressions.proofs.Exits.{exit}
 use Rattle.ckc_grammar.proofs.Lists.{same2}
 use Rattle.ckc_grammar.specs.Grammar as g
 use Rattle.ckc_grammar.specs.Values as v
 use Rattle.ckc_expressions.proofs.values.allocation.Goals as goal
 
 pub returns-in_err-ctype-clause-gives : goal.returns-in_err-ctype-clause-gives
-returns-in_err-ctype-clause-gives c =
-    let p = err_from_is_err_and c.from_residual.result c.from_residual.ensures.1 in
-    exit _ _ _ (ahead c.args.reader.now) _ _ p.1 p.2 c.in_err-ctype.ensures.reads (λ d. stop_rule g.Allocation refl (here_all _ d))
+returns-in_err-ctype-clause-gives c = exit _ _ _ c.from_residual.ensures.1 c.in_err-ctype.ensures.reads (λ d. stop_rule g.Allocation refl (here_all _ d))
 
 pub returns-in_err-count-clause-gives : goal.returns-in_err-count-clause-gives
-returns-in_err-count-clause-gives c =
-    let p = err_from_is_err_and c.from_residual-in_err-count.result c.from_residual-in_err-count.ensures.1 in
-    exit _ _ _ (ahead c.args.reader.now) _ _ p.1 p.2 c.in_err-count.ensures.parses (λ d. stop_rule g.Allocation refl (then_all c.in_ok-ctype.ensures.reads.1 (here_stops _ d)))
+returns-in_err-count-clause-gives c = exit _ _ _ c.from_residual-in_err-count.ensures.1 c.in_err-count.ensures.parses (λ d. stop_rule g.Allocation refl (then_all c.in_ok-ctype.ensures.reads.1 (here_stops _ d)))
 
 pub returns-in_err-other-clause-gives : goal.returns-in_err-other-clause-gives
-returns-in_err-other-clause-gives c =
-    let p = err_from_is_err_and c.from_residual-in_err-other.result c.from_residual-in_err-other.ensures.1 in
-    exit _ _ _ (ahead c.args.reader.now) _ _ p.1 p.2 c.in_err-other.ensures.reads (λ d. stop_rule g.Allocation refl (then_all c.in_ok-ctype.ensures.reads.1 (then_stops c.in_ok-count.ensures.parses d)))
+returns-in_err-other-clause-gives c = exit _ _ _ c.from_residual-in_err-other.ensures.1 c.in_err-other.ensures.reads (λ d. stop_rule g.Allocation refl (then_all c.in_ok-ctype.ensures.reads.1 (then_stops c.in_ok-count.ensures.parses d)))
 
 pub returns-clause-gives : goal.returns-clause-gives
 returns-clause-gives c =

@@ -6,7 +6,7 @@ use Rattle.ckc_grammar.specs.Reading.{pick, kind_of}
 use Rattle.ckc_grammar.proofs.Steps.{chosen_as}
 use Rattle.ckc_grammar.specs.Grammar as g
 use Rattle.ckc_grammar.specs.Values as v
-use Rattle.ckc_grammar.proofs.Choices as o
+use Rattle.ckc_grammar.proofs.Defaults as d
 use Rattle.ckc_expressions.proofs.values.arguments.Goals as goal
 
 pub returns-in-RoundClose-clause-gives : goal.returns-in-RoundClose-clause-gives
@@ -15,4 +15,4 @@ returns-in-RoundClose-clause-gives c =
 
 pub returns-in_default-clause-gives : goal.returns-in_default-clause-gives
 returns-in_default-clause-gives c =
-    chosen_as (λ y. v.as_exprs y) (λ x vs. v.as_exprs (made g.Arguments vs) ≡ x) g.arguments g.Arguments _ _ c.some_arguments.result (o.other_arguments (kind_of (ahead c.args.reader.now)) (λ e. c.in_default.not-RoundClose (c.kind.ensures ∙ e))) (λ k. refl) (λ x vs h. h) c.some_arguments.ensures.reads
+    chosen_as (λ y. v.as_exprs y) (λ x vs. v.as_exprs (made g.Arguments vs) ≡ x) g.arguments g.Arguments _ _ c.some_arguments.result (d.usual g.arguments (kind_of (ahead c.args.reader.now)) (λ e. c.in_default.not-RoundClose (c.kind.ensures ∙ e))) (λ k. refl) (λ x vs h. h) c.some_arguments.ensures.reads

@@ -1,9 +1,9 @@
 use Rattle.std.proofs.Common.{refl, sym, ap, ◌∙◌, ◌∷◌, []}
-use Rattle.std.proofs.lemmas.Result.{err_from_is_err_and}
 use Rattle.ckc_syntax.specs.Spelled.{spelled}
 use Rattle.ckc_grammar.specs.Values.{made}
 use Rattle.ckc_grammar.specs.Marked.{ahead}
-use Rattle.ckc_grammar.proofs.Steps.{also, then_stops, here_stops, exit, by_rule, stop_rule}
+use Rattle.ckc_grammar.proofs.Steps.{also, then_stops, here_stops, by_rule, stop_rule}
+use Rattle.ckc_expressions.proofs.Exits.{exit}
 use Rattle.ckc_syntax.specs.declared.tree.Act.TheVariants as act
 use Rattle.ckc_grammar.specs.Grammar as g
 use Rattle.ckc_grammar.specs.Values as v
@@ -11,19 +11,13 @@ use Rattle.ckc_grammar.specs.Trees as trees
 use Rattle.ckc_expressions.proofs.values.assign.Goals as goal
 
 pub returns-in_err-target-clause-gives : goal.returns-in_err-target-clause-gives
-returns-in_err-target-clause-gives c =
-    let p = err_from_is_err_and c.from_residual.result c.from_residual.ensures.1 in
-    exit _ _ _ (ahead c.args.reader.now) _ _ p.1 p.2 c.in_err-target.ensures.parses (λ d. stop_rule g.Assign refl (here_stops _ d))
+returns-in_err-target-clause-gives c = exit _ _ _ c.from_residual.ensures.1 c.in_err-target.ensures.parses (λ d. stop_rule g.Assign refl (here_stops _ d))
 
 pub returns-in_err-equals-clause-gives : goal.returns-in_err-equals-clause-gives
-returns-in_err-equals-clause-gives c =
-    let p = err_from_is_err_and c.from_residual-in_err-equals.result c.from_residual-in_err-equals.ensures.1 in
-    exit _ _ _ (ahead c.args.reader.now) _ _ p.1 p.2 c.in_err-equals.ensures.parses (λ d. stop_rule g.Assign refl (then_stops c.in_ok-target.ensures.parses (here_stops _ d)))
+returns-in_err-equals-clause-gives c = exit _ _ _ c.from_residual-in_err-equals.ensures.1 c.in_err-equals.ensures.parses (λ d. stop_rule g.Assign refl (then_stops c.in_ok-target.ensures.parses (here_stops _ d)))
 
 pub returns-in_err-value-clause-gives : goal.returns-in_err-value-clause-gives
-returns-in_err-value-clause-gives c =
-    let p = err_from_is_err_and c.from_residual-in_err-value.result c.from_residual-in_err-value.ensures.1 in
-    exit _ _ _ (ahead c.args.reader.now) _ _ p.1 p.2 c.in_err-value.ensures.gives (λ d. stop_rule g.Assign refl (then_stops c.in_ok-target.ensures.parses (then_stops c.in_ok-equals.ensures.parses (d))))
+returns-in_err-value-clause-gives c = exit _ _ _ c.from_residual-in_err-value.ensures.1 c.in_err-value.ensures.gives (λ d. stop_rule g.Assign refl (then_stops c.in_ok-target.ensures.parses (then_stops c.in_ok-equals.ensures.parses d)))
 
 pub returns-clause-gives : goal.returns-clause-gives
 returns-clause-gives c =

@@ -1,43 +1,21 @@
-use Rattle.std.proofs.Common.{◌≡◌, refl, sym, ap, ◌∙◌}
+use Rattle.std.proofs.Common.{◌≡◌, not, refl, sym, ap, ◌∙◌, ◌∷◌, []}
 use Rattle.ckc_syntax.specs.Spelled.{spelled}
 use Rattle.ckc_grammar.specs.Values.{made}
-use Rattle.ckc_grammar.specs.Grammar.{k}
+use Rattle.ckc_grammar.specs.Forms.{begins_type}
 use Rattle.ckc_grammar.specs.Marked.{ahead}
 use Rattle.ckc_grammar.specs.Reading.{pick, kind_of}
-use Rattle.ckc_grammar.proofs.Steps.{chosen_as}
+use Rattle.ckc_grammar.proofs.Steps.{chosen_as, turned}
+use Rattle.ckc_grammar.proofs.Decided.{chooses}
 use Rattle.ckc_grammar.specs.Grammar as g
 use Rattle.ckc_grammar.specs.Values as v
-use Rattle.ckc_grammar.proofs.Choices as o
 use Rattle.ckc_expressions.proofs.values.behind_less.Goals as goal
 
-pub returns-in-Int-clause-gives : goal.returns-in-Int-clause-gives
-returns-in-Int-clause-gives c =
-    chosen_as (λ y. v.as_expr_of_less y (spelled c.args.name) (v.place (v.token (spelled c.args.mark)))) (λ x vs. v.as_expr_of_less (made g.LessType vs) (spelled c.args.name) (v.place (v.token (spelled c.args.mark))) ≡ x) g.less g.LessType _ _ c.less_type.result (ap (λ k. pick g.less k) (sym c.in-Int.ensures)) (λ k. refl) (λ x vs h. h) c.less_type.ensures.reads
+pub returns-then-begins_type-clause-gives : goal.returns-then-begins_type-clause-gives
+returns-then-begins_type-clause-gives c =
+    let test = ap begins_type (sym c.kind.ensures) ∙ sym c.begins_type.ensures ∙ c.if-begins_type.true in
+    chosen_as (λ y. v.as_expr_of_less y (spelled c.args.name) (v.place (v.token (spelled c.args.mark)))) (λ x vs. v.as_expr_of_less (made g.LessType vs) (spelled c.args.name) (v.place (v.token (spelled c.args.mark))) ≡ x) g.less g.LessType _ _ c.allocation.result (chooses begins_type g.less g.LessType refl (kind_of (ahead c.args.reader.now)) test) (λ k. refl) (λ x vs h. h) (turned _ _ _ _ _ _ _ c.allocation.result (λ x h. (h.0 ∷ [], h.1, h.2)) (λ d. d) c.allocation.ensures.gives)
 
-pub returns-in-Unsigned-clause-gives : goal.returns-in-Unsigned-clause-gives
-returns-in-Unsigned-clause-gives c =
-    chosen_as (λ y. v.as_expr_of_less y (spelled c.args.name) (v.place (v.token (spelled c.args.mark)))) (λ x vs. v.as_expr_of_less (made g.LessType vs) (spelled c.args.name) (v.place (v.token (spelled c.args.mark))) ≡ x) g.less g.LessType _ _ c.less_type-in-Unsigned.result (ap (λ k. pick g.less k) (sym c.in-Unsigned.ensures)) (λ k. refl) (λ x vs h. h) c.less_type-in-Unsigned.ensures.reads
-
-pub returns-in-Char-clause-gives : goal.returns-in-Char-clause-gives
-returns-in-Char-clause-gives c =
-    chosen_as (λ y. v.as_expr_of_less y (spelled c.args.name) (v.place (v.token (spelled c.args.mark)))) (λ x vs. v.as_expr_of_less (made g.LessType vs) (spelled c.args.name) (v.place (v.token (spelled c.args.mark))) ≡ x) g.less g.LessType _ _ c.less_type-in-Char.result (ap (λ k. pick g.less k) (sym c.in-Char.ensures)) (λ k. refl) (λ x vs h. h) c.less_type-in-Char.ensures.reads
-
-pub returns-in-Struct-clause-gives : goal.returns-in-Struct-clause-gives
-returns-in-Struct-clause-gives c =
-    chosen_as (λ y. v.as_expr_of_less y (spelled c.args.name) (v.place (v.token (spelled c.args.mark)))) (λ x vs. v.as_expr_of_less (made g.LessType vs) (spelled c.args.name) (v.place (v.token (spelled c.args.mark))) ≡ x) g.less g.LessType _ _ c.less_type-in-Struct.result (ap (λ k. pick g.less k) (sym c.in-Struct.ensures)) (λ k. refl) (λ x vs h. h) c.less_type-in-Struct.ensures.reads
-
-pub returns-in-Ptr-clause-gives : goal.returns-in-Ptr-clause-gives
-returns-in-Ptr-clause-gives c =
-    chosen_as (λ y. v.as_expr_of_less y (spelled c.args.name) (v.place (v.token (spelled c.args.mark)))) (λ x vs. v.as_expr_of_less (made g.LessType vs) (spelled c.args.name) (v.place (v.token (spelled c.args.mark))) ≡ x) g.less g.LessType _ _ c.less_type-in-Ptr.result (ap (λ k. pick g.less k) (sym c.in-Ptr.ensures)) (λ k. refl) (λ x vs h. h) c.less_type-in-Ptr.ensures.reads
-
-pub returns-in-ArrayPtr-clause-gives : goal.returns-in-ArrayPtr-clause-gives
-returns-in-ArrayPtr-clause-gives c =
-    chosen_as (λ y. v.as_expr_of_less y (spelled c.args.name) (v.place (v.token (spelled c.args.mark)))) (λ x vs. v.as_expr_of_less (made g.LessType vs) (spelled c.args.name) (v.place (v.token (spelled c.args.mark))) ≡ x) g.less g.LessType _ _ c.less_type-in-ArrayPtr.result (ap (λ k. pick g.less k) (sym c.in-ArrayPtr.ensures)) (λ k. refl) (λ x vs h. h) c.less_type-in-ArrayPtr.ensures.reads
-
-pub returns-in-NtArrayPtr-clause-gives : goal.returns-in-NtArrayPtr-clause-gives
-returns-in-NtArrayPtr-clause-gives c =
-    chosen_as (λ y. v.as_expr_of_less y (spelled c.args.name) (v.place (v.token (spelled c.args.mark)))) (λ x vs. v.as_expr_of_less (made g.LessType vs) (spelled c.args.name) (v.place (v.token (spelled c.args.mark))) ≡ x) g.less g.LessType _ _ c.less_type-in-NtArrayPtr.result (ap (λ k. pick g.less k) (sym c.in-NtArrayPtr.ensures)) (λ k. refl) (λ x vs h. h) c.less_type-in-NtArrayPtr.ensures.reads
-
-pub returns-in_default-clause-gives : goal.returns-in_default-clause-gives
-returns-in_default-clause-gives c =
-    chosen_as (λ y. v.as_expr_of_less y (spelled c.args.name) (v.place (v.token (spelled c.args.mark)))) (λ x vs. v.as_expr_of_less (made g.LessOperand vs) (spelled c.args.name) (v.place (v.token (spelled c.args.mark))) ≡ x) g.less g.LessOperand _ _ c.less_operand.result (o.other_less (kind_of (ahead c.args.reader.now)) (λ e. c.in_default.not-Int (c.kind.ensures ∙ e)) (λ e. c.in_default.not-Unsigned (c.kind.ensures ∙ e)) (λ e. c.in_default.not-Char (c.kind.ensures ∙ e)) (λ e. c.in_default.not-Struct (c.kind.ensures ∙ e)) (λ e. c.in_default.not-Ptr (c.kind.ensures ∙ e)) (λ e. c.in_default.not-ArrayPtr (c.kind.ensures ∙ e)) (λ e. c.in_default.not-NtArrayPtr (c.kind.ensures ∙ e))) (λ k. refl) (λ x vs h. h) c.less_operand.ensures.reads
+pub returns-else-begins_type-clause-gives : goal.returns-else-begins_type-clause-gives
+returns-else-begins_type-clause-gives c =
+    let test = ap begins_type (sym c.kind.ensures) ∙ sym c.begins_type.ensures ∙ c.if-begins_type.false in
+    chosen_as (λ y. v.as_expr_of_less y (spelled c.args.name) (v.place (v.token (spelled c.args.mark)))) (λ x vs. v.as_expr_of_less (made g.LessOperand vs) (spelled c.args.name) (v.place (v.token (spelled c.args.mark))) ≡ x) g.less g.LessOperand _ _ c.less_operand.result (chooses (λ k. not (begins_type k)) g.less g.LessOperand refl (kind_of (ahead c.args.reader.now)) (ap (λ b. not b) test)) (λ k. refl) (λ x vs h. h) c.less_operand.ensures.reads

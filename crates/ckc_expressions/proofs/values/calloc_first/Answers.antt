@@ -1,15 +1,13 @@
 use Rattle.std.proofs.Common.{◌∷◌, []}
-use Rattle.std.proofs.lemmas.Result.{err_from_is_err_and}
 use Rattle.ckc_syntax.specs.Spelled.{spelled}
 use Rattle.ckc_grammar.specs.Marked.{ahead}
-use Rattle.ckc_grammar.proofs.Steps.{also, then_stops, here_stops, exit, turned}
+use Rattle.ckc_grammar.proofs.Steps.{also, then_stops, here_stops, turned}
+use Rattle.ckc_expressions.proofs.Exits.{exit}
 use Rattle.ckc_grammar.specs.Values as v
 use Rattle.ckc_expressions.proofs.values.calloc_first.Goals as goal
 
 pub returns-in_err-name-clause-reads : goal.returns-in_err-name-clause-reads
-returns-in_err-name-clause-reads c =
-    let p = err_from_is_err_and c.from_residual.result c.from_residual.ensures.1 in
-    exit _ _ _ (ahead c.args.reader.now) _ _ p.1 p.2 c.in_err-name.ensures.parses (λ d. here_stops _ d)
+returns-in_err-name-clause-reads c = exit _ _ _ c.from_residual.ensures.1 c.in_err-name.ensures.parses (λ d. here_stops _ d)
 
 pub returns-clause-reads : goal.returns-clause-reads
 returns-clause-reads c =

@@ -1,21 +1,17 @@
 use Rattle.std.proofs.Common.{sym, ◌∙◌, ◌∷◌, [], ◌++◌}
-use Rattle.std.proofs.lemmas.Result.{err_from_is_err_and}
 use Rattle.ckc_grammar.specs.Marked.{ahead}
-use Rattle.ckc_grammar.proofs.Steps.{also, then_stops, here_stops, exit}
+use Rattle.ckc_grammar.proofs.Steps.{also, then_stops, here_stops}
+use Rattle.ckc_expressions.proofs.Exits.{exit}
 use Rattle.ckc_grammar.proofs.Lists.{same2}
 use Rattle.ckc_grammar.specs.Values as v
 use Rattle.ckc_grammar.specs.Trees as trees
 use Rattle.ckc_expressions.proofs.values.name_expr.Goals as goal
 
 pub returns-in_err-operand-clause-reads : goal.returns-in_err-operand-clause-reads
-returns-in_err-operand-clause-reads c =
-    let p = err_from_is_err_and c.from_residual-in_err-operand.result c.from_residual-in_err-operand.ensures.1 in
-    exit _ _ _ (ahead c.args.reader.now) _ _ p.1 p.2 c.in_err-operand.ensures.gives (λ d. here_stops _ d)
+returns-in_err-operand-clause-reads c = exit _ _ _ c.from_residual-in_err-operand.ensures.1 c.in_err-operand.ensures.gives (λ d. here_stops _ d)
 
 pub returns-in_err-rest-clause-reads : goal.returns-in_err-rest-clause-reads
-returns-in_err-rest-clause-reads c =
-    let p = err_from_is_err_and c.from_residual-in_err-rest.result c.from_residual-in_err-rest.ensures.1 in
-    exit _ _ _ (ahead c.args.reader.now) _ _ p.1 p.2 c.in_err-rest.ensures.gives (λ d. then_stops c.in_ok-operand.ensures.gives.1 (d))
+returns-in_err-rest-clause-reads c = exit _ _ _ c.from_residual-in_err-rest.ensures.1 c.in_err-rest.ensures.gives (λ d. then_stops c.in_ok-operand.ensures.gives.1 d)
 
 pub returns-clause-reads : goal.returns-clause-reads
 returns-clause-reads c =

@@ -1,9 +1,8 @@
 use Rattle.std.proofs.Common.{refl, sym, ap, ◌∙◌, ◌∷◌, []}
-use Rattle.std.proofs.lemmas.Result.{err_from_is_err_and}
 use Rattle.ckc_syntax.specs.Spelled.{spelled}
 use Rattle.ckc_grammar.specs.Values.{made}
-use Rattle.ckc_grammar.specs.Marked.{ahead}
-use Rattle.ckc_grammar.proofs.Steps.{also, then_stops, here_stops, exit, by_rule, stop_rule}
+use Rattle.ckc_grammar.proofs.Steps.{also, then_stops, here_stops, by_rule, stop_rule}
+use Rattle.ckc_expressions.proofs.Exits.{exit}
 use Rattle.ckc_grammar.proofs.Lists.{same3}
 use Rattle.ckc_syntax.specs.declared.tree.Length.TheVariants as lengths
 use Rattle.ckc_grammar.specs.Grammar as g
@@ -12,24 +11,16 @@ use Rattle.ckc_grammar.specs.Trees as trees
 use Rattle.ckc_parser.proofs.declarators.local.Goals as goal
 
 pub returns-in_err-ctype-clause-gives : goal.returns-in_err-ctype-clause-gives
-returns-in_err-ctype-clause-gives c =
-    let p = err_from_is_err_and c.from_residual-in_err-ctype.result c.from_residual-in_err-ctype.ensures.1 in
-    exit _ _ _ (ahead c.args.reader.now) _ _ p.1 p.2 c.in_err-ctype.ensures.gives (λ d. stop_rule g.LocalName refl (here_stops _ d))
+returns-in_err-ctype-clause-gives c = exit _ _ _ c.from_residual-in_err-ctype.ensures.1 c.in_err-ctype.ensures.gives (λ d. stop_rule g.LocalName refl (here_stops _ d))
 
 pub returns-in_err-name-clause-gives : goal.returns-in_err-name-clause-gives
-returns-in_err-name-clause-gives c =
-    let p = err_from_is_err_and c.from_residual-in_err-name.result c.from_residual-in_err-name.ensures.1 in
-    exit _ _ _ (ahead c.args.reader.now) _ _ p.1 p.2 c.in_err-name.ensures.parses (λ d. stop_rule g.LocalName refl (then_stops c.in_ok-ctype.ensures.gives.1 (here_stops _ d)))
+returns-in_err-name-clause-gives c = exit _ _ _ c.from_residual-in_err-name.ensures.1 c.in_err-name.ensures.parses (λ d. stop_rule g.LocalName refl (then_stops c.in_ok-ctype.ensures.gives.1 (here_stops _ d)))
 
 pub returns-in_err-bounds-clause-gives : goal.returns-in_err-bounds-clause-gives
-returns-in_err-bounds-clause-gives c =
-    let p = err_from_is_err_and c.from_residual-in_err-bounds.result c.from_residual-in_err-bounds.ensures.1 in
-    exit _ _ _ (ahead c.args.reader.now) _ _ p.1 p.2 c.in_err-bounds.ensures.gives (λ d. stop_rule g.LocalName refl (then_stops c.in_ok-ctype.ensures.gives.1 (then_stops c.in_ok-name.ensures.parses (here_stops _ d))))
+returns-in_err-bounds-clause-gives c = exit _ _ _ c.from_residual-in_err-bounds.ensures.1 c.in_err-bounds.ensures.gives (λ d. stop_rule g.LocalName refl (then_stops c.in_ok-ctype.ensures.gives.1 (then_stops c.in_ok-name.ensures.parses (here_stops _ d))))
 
 pub returns-in_err-init-clause-gives : goal.returns-in_err-init-clause-gives
-returns-in_err-init-clause-gives c =
-    let p = err_from_is_err_and c.from_residual-in_err-init.result c.from_residual-in_err-init.ensures.1 in
-    exit _ _ _ (ahead c.args.reader.now) _ _ p.1 p.2 c.in_err-init.ensures.gives (λ d. stop_rule g.LocalName refl (then_stops c.in_ok-ctype.ensures.gives.1 (then_stops c.in_ok-name.ensures.parses (then_stops c.in_ok-bounds.ensures.gives.1 (d)))))
+returns-in_err-init-clause-gives c = exit _ _ _ c.from_residual-in_err-init.ensures.1 c.in_err-init.ensures.gives (λ d. stop_rule g.LocalName refl (then_stops c.in_ok-ctype.ensures.gives.1 (then_stops c.in_ok-name.ensures.parses (then_stops c.in_ok-bounds.ensures.gives.1 d))))
 
 pub returns-clause-gives : goal.returns-clause-gives
 returns-clause-gives c =

@@ -1,22 +1,17 @@
 use Rattle.std.proofs.Common.{refl, ap, ◌∙◌, ◌∷◌, []}
-use Rattle.std.proofs.lemmas.Result.{err_from_is_err_and}
 use Rattle.ckc_grammar.specs.Values.{made}
-use Rattle.ckc_grammar.specs.Marked.{ahead}
-use Rattle.ckc_grammar.proofs.Steps.{also, then_stops, here_stops, exit, by_rule, stop_rule, turned}
+use Rattle.ckc_grammar.proofs.Steps.{also, then_stops, here_stops, by_rule, stop_rule, turned}
+use Rattle.ckc_expressions.proofs.Exits.{exit}
 use Rattle.ckc_grammar.specs.Grammar as g
 use Rattle.ckc_grammar.specs.Values as v
 use Rattle.ckc_grammar.specs.Trees as trees
 use Rattle.ckc_parser.proofs.declarators.locals.Goals as goal
 
 pub returns-in_err-base-clause-gives : goal.returns-in_err-base-clause-gives
-returns-in_err-base-clause-gives c =
-    let p = err_from_is_err_and c.from_residual.result c.from_residual.ensures.1 in
-    exit _ _ _ (ahead c.args.reader.now) _ _ p.1 p.2 c.in_err-base.ensures.parses (λ d. stop_rule g.Local refl (here_stops _ d))
+returns-in_err-base-clause-gives c = exit _ _ _ c.from_residual.ensures.1 c.in_err-base.ensures.parses (λ d. stop_rule g.Local refl (here_stops _ d))
 
 pub returns-in_err-first-clause-gives : goal.returns-in_err-first-clause-gives
-returns-in_err-first-clause-gives c =
-    let p = err_from_is_err_and c.from_residual-in_err-first.result c.from_residual-in_err-first.ensures.1 in
-    exit _ _ _ (ahead c.args.reader.now) _ _ p.1 p.2 c.in_err-first.ensures.gives (λ d. stop_rule g.Local refl (then_stops c.in_ok-base.ensures.parses (here_stops _ d)))
+returns-in_err-first-clause-gives c = exit _ _ _ c.from_residual-in_err-first.ensures.1 c.in_err-first.ensures.gives (λ d. stop_rule g.Local refl (then_stops c.in_ok-base.ensures.parses (here_stops _ d)))
 
 pub returns-clause-gives : goal.returns-clause-gives
 returns-clause-gives c =

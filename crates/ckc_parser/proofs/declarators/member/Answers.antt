@@ -1,25 +1,16 @@
 use Rattle.std.proofs.Common.{refl, ap, ◌∙◌, ◌∷◌, []}
-use Rattle.std.proofs.lemmas.Result.{err_from_is_err_and}
 use Rattle.ckc_grammar.specs.Values.{made}
-use Rattle.ckc_grammar.specs.Marked.{ahead}
-use Rattle.ckc_grammar.proofs.Steps.{also, then_stops, here_stops, exit, by_rule, stop_rule, turned}
+use Rattle.ckc_grammar.proofs.Steps.{also, then_stops, here_stops, by_rule, stop_rule, turned}
+use Rattle.ckc_expressions.proofs.Exits.{exit}
 use Rattle.ckc_grammar.specs.Grammar as g
 use Rattle.ckc_grammar.specs.Values as v
 use Rattle.ckc_parser.proofs.declarators.member.Goals as goal
 
 pub returns-in_err-base : goal.returns-in_err-base
-returns-in_err-base c = record {
-  gives =
-      let p = err_from_is_err_and c.from_residual.result c.from_residual.ensures.1 in
-      exit _ _ _ (ahead c.args.reader.now) _ _ p.1 p.2 c.in_err-base.ensures.parses (λ d. stop_rule g.Member refl (here_stops _ d));
-}
+returns-in_err-base c = record { gives = exit _ _ _ c.from_residual.ensures.1 c.in_err-base.ensures.parses (λ d. stop_rule g.Member refl (here_stops _ d)) }
 
 pub returns-in_err-first : goal.returns-in_err-first
-returns-in_err-first c = record {
-  gives =
-      let p = err_from_is_err_and c.from_residual-in_err-first.result c.from_residual-in_err-first.ensures.1 in
-      exit _ _ _ (ahead c.args.reader.now) _ _ p.1 p.2 c.in_err-first.ensures.gives (λ d. stop_rule g.Member refl (then_stops c.in_ok-base.ensures.parses (here_stops _ d)));
-}
+returns-in_err-first c = record { gives = exit _ _ _ c.from_residual-in_err-first.ensures.1 c.in_err-first.ensures.gives (λ d. stop_rule g.Member refl (then_stops c.in_ok-base.ensures.parses (here_stops _ d))) }
 
 pub returns : goal.returns
 returns c = record {

@@ -1,10 +1,10 @@
-use Rattle.std.proofs.Common.{◌≡◌, refl, sym, ap, ◌∙◌, ◌∷◌, [], ◌++◌, arith, append-nil}
-use Rattle.std.proofs.lemmas.Result.{err_from_is_err_and}
+use Rattle.std.proofs.Common.{◌≡◌, refl, sym, ap, ◌∙◌, ◌∷◌, [], ◌++◌, append-nil}
 use Rattle.ckc_grammar.specs.Grammar.{k}
 use Rattle.ckc_grammar.specs.Marked.{ahead}
 use Rattle.ckc_grammar.specs.Forms.{begins_type}
 use Rattle.ckc_grammar.specs.Reading.{kind_of, done}
-use Rattle.ckc_grammar.proofs.Steps.{here_stops, exit}
+use Rattle.ckc_grammar.proofs.Steps.{here_stops}
+use Rattle.ckc_expressions.proofs.Exits.{exit}
 use Rattle.ckc_grammar.proofs.Onward.{at_start, one_turn, last_turn, stop_turn}
 use Rattle.ckc_grammar.proofs.Shrinks.{fewer}
 use Rattle.ckc_grammar.proofs.Lists.{next_items}
@@ -17,11 +17,7 @@ pub list-init : goal.list-init
 list-init c = record { onward = at_start (λ y z. c.args.first ++ v.as_decls z ≡ c.args.first ++ v.as_decls y) _ _ (λ y. refl) }
 
 pub returns-in_err-more : goal.returns-in_err-more
-returns-in_err-more c = record {
-  gives =
-      let p = err_from_is_err_and c.from_residual.result c.from_residual.ensures.1 in
-      exit _ _ _ (ahead c.args.reader.now) _ _ p.1 p.2 c.in_err-more.ensures.gives (λ d. stop_turn (λ y z. c.args.first ++ v.as_decls z ≡ c.list.all ++ v.as_decls y) g.members g.MoreMembers _ _ _ (o.at_type (kind_of (ahead c.list.reader)) (ap begins_type (sym c.kind.ensures) ∙ sym c.begins_type.ensures ∙ c.list-test.true)).0 (here_stops _ d) c.list.invariant.onward);
-}
+returns-in_err-more c = record { gives = exit _ _ _ c.from_residual.ensures.1 c.in_err-more.ensures.gives (λ d. stop_turn (λ y z. c.args.first ++ v.as_decls z ≡ c.list.all ++ v.as_decls y) g.members g.MoreMembers _ _ _ (o.at_type (kind_of (ahead c.list.reader)) (ap begins_type (sym c.kind.ensures) ∙ sym c.begins_type.ensures ∙ c.list-test.true)).0 (here_stops _ d) c.list.invariant.onward) }
 
 pub list-preserved : goal.list-preserved
 list-preserved c = record {

@@ -1,17 +1,17 @@
 use Rattle.std.proofs.Common.{◌≡◌, refl, sym, ap, ◌∙◌, ◌∷◌, [], ◌++◌, arith, append-nil}
-use Rattle.std.proofs.lemmas.Result.{err_from_is_err_and}
 use Rattle.ckc_syntax.specs.Spelled.{spelled}
 use Rattle.ckc_grammar.specs.Grammar.{k}
 use Rattle.ckc_grammar.specs.Marked.{ahead}
 use Rattle.ckc_grammar.specs.Reading.{pick, kind_of}
-use Rattle.ckc_grammar.proofs.Steps.{also, then_stops, here_stops, exit}
+use Rattle.ckc_grammar.proofs.Steps.{also, then_stops, here_stops}
+use Rattle.ckc_expressions.proofs.Exits.{exit}
 use Rattle.ckc_grammar.proofs.Onward.{at_start, one_turn, last_turn, stop_turn}
 use Rattle.ckc_grammar.proofs.Lists.{next_item}
 use Rattle.ckc_grammar.specs.declared.kind.Kind.TheVariants as kind
 use Rattle.ckc_grammar.specs.Grammar as g
 use Rattle.ckc_grammar.specs.Values as v
 use Rattle.ckc_grammar.specs.Trees as trees
-use Rattle.ckc_grammar.proofs.Choices as o
+use Rattle.ckc_grammar.proofs.Defaults.{usual}
 use Rattle.ckc_parser.proofs.declarators.more_locals.Goals as goal
 
 pub list-init : goal.list-init
@@ -21,14 +21,10 @@ list-init c = record {
 }
 
 pub returns-in_err-comma-clause-gives : goal.returns-in_err-comma-clause-gives
-returns-in_err-comma-clause-gives c =
-    let p = err_from_is_err_and c.from_residual-in_err-comma.result c.from_residual-in_err-comma.ensures.1 in
-    exit _ _ _ (ahead c.args.reader.now) _ _ p.1 p.2 c.in_err-comma.ensures.parses (λ d. stop_turn (λ y z. (trees.local_of c.args.first ∷ []) ++ trees.locals (v.as_decls_of_base z c.args.base.now) ≡ c.list.all ++ trees.locals (v.as_decls_of_base y c.args.base.now)) g.more_locals g.MoreLocals _ _ _ (ap (λ k. pick g.more_locals k) (sym c.in-Comma.ensures)) (here_stops _ d) c.list.invariant.onward)
+returns-in_err-comma-clause-gives c = exit _ _ _ c.from_residual-in_err-comma.ensures.1 c.in_err-comma.ensures.parses (λ d. stop_turn (λ y z. (trees.local_of c.args.first ∷ []) ++ trees.locals (v.as_decls_of_base z c.args.base.now) ≡ c.list.all ++ trees.locals (v.as_decls_of_base y c.args.base.now)) g.more_locals g.MoreLocals _ _ _ (ap (λ k. pick g.more_locals k) (sym c.in-Comma.ensures)) (here_stops _ d) c.list.invariant.onward)
 
 pub returns-in_err-item-clause-gives : goal.returns-in_err-item-clause-gives
-returns-in_err-item-clause-gives c =
-    let p = err_from_is_err_and c.from_residual-in_err-item.result c.from_residual-in_err-item.ensures.1 in
-    exit _ _ _ (ahead c.args.reader.now) _ _ p.1 p.2 c.in_err-item.ensures.gives (λ d. stop_turn (λ y z. (trees.local_of c.args.first ∷ []) ++ trees.locals (v.as_decls_of_base z c.args.base.now) ≡ c.list.all ++ trees.locals (v.as_decls_of_base y c.args.base.now)) g.more_locals g.MoreLocals _ _ _ (ap (λ k. pick g.more_locals k) (sym c.in-Comma.ensures)) (then_stops c.in_ok-comma.ensures.parses (here_stops _ d)) c.list.invariant.onward)
+returns-in_err-item-clause-gives c = exit _ _ _ c.from_residual-in_err-item.ensures.1 c.in_err-item.ensures.gives (λ d. stop_turn (λ y z. (trees.local_of c.args.first ∷ []) ++ trees.locals (v.as_decls_of_base z c.args.base.now) ≡ c.list.all ++ trees.locals (v.as_decls_of_base y c.args.base.now)) g.more_locals g.MoreLocals _ _ _ (ap (λ k. pick g.more_locals k) (sym c.in-Comma.ensures)) (then_stops c.in_ok-comma.ensures.parses (here_stops _ d)) c.list.invariant.onward)
 
 pub list-preserved : goal.list-preserved
 list-preserved c = record {
@@ -38,11 +34,9 @@ list-preserved c = record {
 }
 
 pub returns-in_err-end-clause-gives : goal.returns-in_err-end-clause-gives
-returns-in_err-end-clause-gives c =
-    let p = err_from_is_err_and c.from_residual-in_err-end.result c.from_residual-in_err-end.ensures.1 in
-    exit _ _ _ (ahead c.args.reader.now) _ _ p.1 p.2 c.in_err-end.ensures.parses (λ d. stop_turn (λ y z. (trees.local_of c.args.first ∷ []) ++ trees.locals (v.as_decls_of_base z c.args.base.now) ≡ c.list.all ++ trees.locals (v.as_decls_of_base y c.args.base.now)) g.more_locals g.NoLocals _ _ _ (o.other_more_locals (kind_of (ahead c.list.reader)) (λ e. c.in_default.not-Comma (c.kind.ensures ∙ e))) d c.list.invariant.onward)
+returns-in_err-end-clause-gives c = exit _ _ _ c.from_residual-in_err-end.ensures.1 c.in_err-end.ensures.parses (λ d. stop_turn (λ y z. (trees.local_of c.args.first ∷ []) ++ trees.locals (v.as_decls_of_base z c.args.base.now) ≡ c.list.all ++ trees.locals (v.as_decls_of_base y c.args.base.now)) g.more_locals g.NoLocals _ _ _ (usual g.more_locals (kind_of (ahead c.list.reader)) (λ e. c.in_default.not-Comma (c.kind.ensures ∙ e))) d c.list.invariant.onward)
 
 pub returns-clause-gives : goal.returns-clause-gives
 returns-clause-gives c =
-    let t = last_turn (λ y z. (trees.local_of c.args.first ∷ []) ++ trees.locals (v.as_decls_of_base z c.args.base.now) ≡ c.list.all ++ trees.locals (v.as_decls_of_base y c.args.base.now)) g.more_locals g.NoLocals _ _ _ (v.token (spelled c.in_ok-end.end) ∷ []) (o.other_more_locals (kind_of (ahead c.list.reader)) (λ e. c.in_default.not-Comma (c.kind.ensures ∙ e))) (λ k. refl) c.in_ok-end.ensures.parses c.list.invariant.onward in
+    let t = last_turn (λ y z. (trees.local_of c.args.first ∷ []) ++ trees.locals (v.as_decls_of_base z c.args.base.now) ≡ c.list.all ++ trees.locals (v.as_decls_of_base y c.args.base.now)) g.more_locals g.NoLocals _ _ _ (v.token (spelled c.in_ok-end.end) ∷ []) (usual g.more_locals (kind_of (ahead c.list.reader)) (λ e. c.in_default.not-Comma (c.kind.ensures ∙ e))) (λ k. refl) c.in_ok-end.ensures.parses c.list.invariant.onward in
     (t.0, t.1, t.2 ∙ append-nil c.list.all)

@@ -6,7 +6,7 @@ use Rattle.ckc_grammar.specs.Reading.{pick, kind_of}
 use Rattle.ckc_grammar.proofs.Steps.{chosen_as}
 use Rattle.ckc_grammar.specs.Grammar as g
 use Rattle.ckc_grammar.specs.Values as v
-use Rattle.ckc_grammar.proofs.Choices as o
+use Rattle.ckc_grammar.proofs.Defaults.{usual}
 use Rattle.ckc_parser.proofs.declarators.params.Goals as goal
 
 pub returns-in-RoundClose : goal.returns-in-RoundClose
@@ -24,5 +24,5 @@ returns-in-Void c = record {
 pub returns-in_default : goal.returns-in_default
 returns-in_default c = record {
   gives =
-      chosen_as (λ y. v.as_decls y) (λ x vs. v.as_decls (made g.Params vs) ≡ x) g.params g.Params _ _ c.some_params.result (o.other_params (kind_of (ahead c.args.reader.now)) (λ e. c.in_default.not-RoundClose (c.kind.ensures ∙ e)) (λ e. c.in_default.not-Void (c.kind.ensures ∙ e))) (λ k. refl) (λ x vs h. h) c.some_params.ensures.reads;
+      chosen_as (λ y. v.as_decls y) (λ x vs. v.as_decls (made g.Params vs) ≡ x) g.params g.Params _ _ c.some_params.result (usual g.params (kind_of (ahead c.args.reader.now)) (λ e. c.in_default.not-RoundClose (c.kind.ensures ∙ e)) (λ e. c.in_default.not-Void (c.kind.ensures ∙ e))) (λ k. refl) (λ x vs h. h) c.some_params.ensures.reads;
 }

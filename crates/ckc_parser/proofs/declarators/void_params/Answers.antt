@@ -1,24 +1,15 @@
 use Rattle.std.proofs.Common.{sym, ◌∷◌, []}
-use Rattle.std.proofs.lemmas.Result.{err_from_is_err_and}
 use Rattle.ckc_syntax.specs.Spelled.{spelled}
-use Rattle.ckc_grammar.specs.Marked.{ahead}
-use Rattle.ckc_grammar.proofs.Steps.{also, then_stops, here_stops, exit}
+use Rattle.ckc_grammar.proofs.Steps.{also, then_stops, here_stops}
+use Rattle.ckc_expressions.proofs.Exits.{exit}
 use Rattle.ckc_grammar.specs.Values as v
 use Rattle.ckc_parser.proofs.declarators.void_params.Goals as goal
 
 pub returns-in_err-word : goal.returns-in_err-word
-returns-in_err-word c = record {
-  reads =
-      let p = err_from_is_err_and c.from_residual.result c.from_residual.ensures.1 in
-      exit _ _ _ (ahead c.args.reader.now) _ _ p.1 p.2 c.in_err-word.ensures.parses (λ d. here_stops _ d);
-}
+returns-in_err-word c = record { reads = exit _ _ _ c.from_residual.ensures.1 c.in_err-word.ensures.parses (λ d. here_stops _ d) }
 
 pub returns-in_err-close : goal.returns-in_err-close
-returns-in_err-close c = record {
-  reads =
-      let p = err_from_is_err_and c.from_residual-in_err-close.result c.from_residual-in_err-close.ensures.1 in
-      exit _ _ _ (ahead c.args.reader.now) _ _ p.1 p.2 c.in_err-close.ensures.parses (λ d. then_stops c.in_ok-word.ensures.parses (d));
-}
+returns-in_err-close c = record { reads = exit _ _ _ c.from_residual-in_err-close.ensures.1 c.in_err-close.ensures.parses (λ d. then_stops c.in_ok-word.ensures.parses d) }
 
 pub returns : goal.returns
 returns c = record {

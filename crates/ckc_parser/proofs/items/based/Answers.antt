@@ -1,16 +1,11 @@
 use Rattle.std.proofs.Common.{◌∷◌, []}
-use Rattle.std.proofs.lemmas.Result.{err_from_is_err_and}
-use Rattle.ckc_grammar.specs.Marked.{ahead}
-use Rattle.ckc_grammar.proofs.Steps.{also, then_stops, here_stops, exit, turned}
+use Rattle.ckc_grammar.proofs.Steps.{also, then_stops, here_stops, turned}
+use Rattle.ckc_expressions.proofs.Exits.{exit}
 use Rattle.ckc_grammar.specs.Values as v
 use Rattle.ckc_parser.proofs.items.based.Goals as goal
 
 pub returns-in_err-base : goal.returns-in_err-base
-returns-in_err-base c = record {
-  reads =
-      let p = err_from_is_err_and c.from_residual.result c.from_residual.ensures.1 in
-      exit _ _ _ (ahead c.args.reader.now) _ _ p.1 p.2 c.in_err-base.ensures.parses (λ d. here_stops _ d);
-}
+returns-in_err-base c = record { reads = exit _ _ _ c.from_residual.ensures.1 c.in_err-base.ensures.parses (λ d. here_stops _ d) }
 
 pub returns : goal.returns
 returns c = record {

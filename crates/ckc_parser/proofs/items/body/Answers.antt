@@ -6,7 +6,7 @@ use Rattle.ckc_grammar.specs.Reading.{pick, kind_of}
 use Rattle.ckc_grammar.proofs.Steps.{chosen_as}
 use Rattle.ckc_grammar.specs.Grammar as g
 use Rattle.ckc_grammar.specs.Values as v
-use Rattle.ckc_grammar.proofs.Choices as o
+use Rattle.ckc_grammar.proofs.Defaults.{usual}
 use Rattle.ckc_parser.proofs.items.body.Goals as goal
 
 pub returns-in-Semicolon : goal.returns-in-Semicolon
@@ -18,5 +18,5 @@ returns-in-Semicolon c = record {
 pub returns-in_default : goal.returns-in_default
 returns-in_default c = record {
   gives =
-      chosen_as (λ y. v.as_part y) (λ x vs. v.as_part (made g.Body vs) ≡ x) g.body g.Body _ _ c.some_body.result (o.other_body (kind_of (ahead c.args.reader.now)) (λ e. c.in_default.not-Semicolon (c.kind.ensures ∙ e))) (λ k. refl) (λ x vs h. h) c.some_body.ensures.reads;
+      chosen_as (λ y. v.as_part y) (λ x vs. v.as_part (made g.Body vs) ≡ x) g.body g.Body _ _ c.some_body.result (usual g.body (kind_of (ahead c.args.reader.now)) (λ e. c.in_default.not-Semicolon (c.kind.ensures ∙ e))) (λ k. refl) (λ x vs h. h) c.some_body.ensures.reads;
 }

@@ -1,23 +1,23 @@
-use Rattle.std.proofs.Common.{◌≡◌, refl, sym, ap, ◌∙◌}
+use Rattle.std.proofs.Common.{◌≡◌, refl, sym, ap, ◌∙◌, ◌∷◌, []}
 use Rattle.ckc_syntax.specs.Spelled.{spelled}
 use Rattle.ckc_grammar.specs.Values.{made}
 use Rattle.ckc_grammar.specs.Grammar.{k}
 use Rattle.ckc_grammar.specs.Marked.{ahead}
 use Rattle.ckc_grammar.specs.Reading.{pick, kind_of}
-use Rattle.ckc_grammar.proofs.Steps.{chosen_as}
+use Rattle.ckc_grammar.proofs.Steps.{chosen_as, turned}
 use Rattle.ckc_grammar.specs.Grammar as g
 use Rattle.ckc_grammar.specs.Values as v
-use Rattle.ckc_grammar.proofs.Choices as o
+use Rattle.ckc_grammar.proofs.Defaults.{usual}
 use Rattle.ckc_parser.proofs.items.declarator.Goals as goal
 
 pub returns-in-RoundOpen : goal.returns-in-RoundOpen
 returns-in-RoundOpen c = record {
   gives =
-      chosen_as (λ y. v.as_items_of_declarator y c.args.base.now c.args.ctype (spelled c.args.name)) (λ x vs. v.as_items_of_declarator (made g.Headed vs) c.args.base.now c.args.ctype (spelled c.args.name) ≡ x) g.declarator g.Headed _ _ c.headed.result (ap (λ k. pick g.declarator k) (sym c.in-RoundOpen.ensures)) (λ k. refl) (λ x vs h. h) c.headed.ensures.reads;
+      chosen_as (λ y. v.as_items_of_declarator y c.args.base.now c.args.ctype (spelled c.args.name)) (λ x vs. v.as_items_of_declarator (made g.Headed vs) c.args.base.now c.args.ctype (spelled c.args.name) ≡ x) g.declarator g.Headed _ _ c.head.result (ap (λ k. pick g.declarator k) (sym c.in-RoundOpen.ensures)) (λ k. refl) (λ x vs h. h) (turned _ _ _ _ _ _ _ c.head.result (λ x h. (h.0 ∷ [], h.1, h.2)) (λ d. d) c.head.ensures.gives);
 }
 
 pub returns-in_default : goal.returns-in_default
 returns-in_default c = record {
   gives =
-      chosen_as (λ y. v.as_items_of_declarator y c.args.base.now c.args.ctype (spelled c.args.name)) (λ x vs. v.as_items_of_declarator (made g.Objects vs) c.args.base.now c.args.ctype (spelled c.args.name) ≡ x) g.declarator g.Objects _ _ c.statics.result (o.other_declarator (kind_of (ahead c.args.reader.now)) (λ e. c.in_default.not-RoundOpen (c.kind.ensures ∙ e))) (λ k. refl) (λ x vs h. h) c.statics.ensures.reads;
+      chosen_as (λ y. v.as_items_of_declarator y c.args.base.now c.args.ctype (spelled c.args.name)) (λ x vs. v.as_items_of_declarator (made g.Objects vs) c.args.base.now c.args.ctype (spelled c.args.name) ≡ x) g.declarator g.Objects _ _ c.statics.result (usual g.declarator (kind_of (ahead c.args.reader.now)) (λ e. c.in_default.not-RoundOpen (c.kind.ensures ∙ e))) (λ k. refl) (λ x vs h. h) c.statics.ensures.reads;
 }

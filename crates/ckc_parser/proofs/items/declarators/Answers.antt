@@ -1,27 +1,18 @@
 use Rattle.std.proofs.Common.{refl, sym, ap, ◌∙◌, ◌∷◌, []}
-use Rattle.std.proofs.lemmas.Result.{err_from_is_err_and}
 use Rattle.ckc_syntax.specs.Spelled.{spelled}
 use Rattle.ckc_grammar.specs.Values.{made}
-use Rattle.ckc_grammar.specs.Marked.{ahead}
-use Rattle.ckc_grammar.proofs.Steps.{also, then_stops, here_stops, exit, by_rule, stop_rule, turned}
+use Rattle.ckc_grammar.proofs.Steps.{also, then_stops, here_stops, by_rule, stop_rule, turned}
+use Rattle.ckc_expressions.proofs.Exits.{exit}
 use Rattle.ckc_grammar.specs.Grammar as g
 use Rattle.ckc_grammar.specs.Values as v
 use Rattle.ckc_grammar.specs.Trees as trees
 use Rattle.ckc_parser.proofs.items.declarators.Goals as goal
 
 pub returns-in_err-ctype : goal.returns-in_err-ctype
-returns-in_err-ctype c = record {
-  gives =
-      let p = err_from_is_err_and c.from_residual-in_err-ctype.result c.from_residual-in_err-ctype.ensures.1 in
-      exit _ _ _ (ahead c.args.reader.now) _ _ p.1 p.2 c.in_err-ctype.ensures.gives (λ d. stop_rule g.Declarators refl (here_stops _ d));
-}
+returns-in_err-ctype c = record { gives = exit _ _ _ c.from_residual-in_err-ctype.ensures.1 c.in_err-ctype.ensures.gives (λ d. stop_rule g.Declarators refl (here_stops _ d)) }
 
 pub returns-in_err-name : goal.returns-in_err-name
-returns-in_err-name c = record {
-  gives =
-      let p = err_from_is_err_and c.from_residual-in_err-name.result c.from_residual-in_err-name.ensures.1 in
-      exit _ _ _ (ahead c.args.reader.now) _ _ p.1 p.2 c.in_err-name.ensures.parses (λ d. stop_rule g.Declarators refl (then_stops c.in_ok-ctype.ensures.gives.1 (here_stops _ d)));
-}
+returns-in_err-name c = record { gives = exit _ _ _ c.from_residual-in_err-name.ensures.1 c.in_err-name.ensures.parses (λ d. stop_rule g.Declarators refl (then_stops c.in_ok-ctype.ensures.gives.1 (here_stops _ d))) }
 
 pub returns : goal.returns
 returns c = record {

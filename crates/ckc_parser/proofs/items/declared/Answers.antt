@@ -6,7 +6,7 @@ use Rattle.ckc_grammar.specs.Reading.{pick, kind_of}
 use Rattle.ckc_grammar.proofs.Steps.{chosen_as}
 use Rattle.ckc_grammar.specs.Grammar as g
 use Rattle.ckc_grammar.specs.Values as v
-use Rattle.ckc_grammar.proofs.Choices as o
+use Rattle.ckc_grammar.proofs.Defaults.{usual}
 use Rattle.ckc_parser.proofs.items.declared.Goals as goal
 
 pub returns-in-Checked : goal.returns-in-Checked
@@ -30,5 +30,5 @@ returns-in-Void c = record {
 pub returns-in_default : goal.returns-in_default
 returns-in_default c = record {
   gives =
-      chosen_as (λ y. v.as_items y) (λ x vs. v.as_items (made g.Based vs) ≡ x) g.declared g.Based _ _ c.based.result (o.other_declared (kind_of (ahead c.args.reader.now)) (λ e. c.in_default.not-Checked (c.kind.ensures ∙ e)) (λ e. c.in_default.not-Unchecked (c.kind.ensures ∙ e)) (λ e. c.in_default.not-Void (c.kind.ensures ∙ e))) (λ k. refl) (λ x vs h. h) c.based.ensures.reads;
+      chosen_as (λ y. v.as_items y) (λ x vs. v.as_items (made g.Based vs) ≡ x) g.declared g.Based _ _ c.based.result (usual g.declared (kind_of (ahead c.args.reader.now)) (λ e. c.in_default.not-Checked (c.kind.ensures ∙ e)) (λ e. c.in_default.not-Unchecked (c.kind.ensures ∙ e)) (λ e. c.in_default.not-Void (c.kind.ensures ∙ e))) (λ k. refl) (λ x vs h. h) c.based.ensures.reads;
 }

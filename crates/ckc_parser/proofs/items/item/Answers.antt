@@ -6,6 +6,7 @@ use Rattle.ckc_parser.proofs.Turns.{item_turn}
 use Rattle.ckc_grammar.specs.declared.kind.Kind.TheVariants as kind
 use Rattle.ckc_grammar.specs.Grammar as g
 use Rattle.ckc_grammar.proofs.Choices as o
+use Rattle.ckc_grammar.proofs.Defaults.{usual}
 use Rattle.ckc_parser.proofs.items.item.Goals as goal
 
 pub returns-in-Directive-clause-turns : goal.returns-in-Directive-clause-turns
@@ -20,5 +21,5 @@ returns-in-Static-clause-turns c = item_turn g.Static (k kind.Static ∷ g.n g.d
 pub returns-in_default-clause-turns : goal.returns-in_default-clause-turns
 returns-in_default-clause-turns c =
     item_turn g.Declaration (g.n g.declared ∷ []) _ _ c.declared_item.result refl
-    (o.other_items (kind_of (ahead c.args.reader.now)) (λ e. c.in_default.not-Directive (c.kind.ensures ∙ e)) (λ e. c.in_default.not-Struct (c.kind.ensures ∙ e)) (λ e. c.in_default.not-Static (c.kind.ensures ∙ e)) (λ e. o.no_end (kind_of (ahead c.args.reader.now)) c.requires.more e))
+    (usual g.items (kind_of (ahead c.args.reader.now)) (λ e. c.in_default.not-Directive (c.kind.ensures ∙ e)) (λ e. c.in_default.not-Struct (c.kind.ensures ∙ e)) (λ e. c.in_default.not-Static (c.kind.ensures ∙ e)) (λ e. o.no_end (kind_of (ahead c.args.reader.now)) c.requires.more e))
     (λ k. refl) c.declared_item.ensures.reads

@@ -1,9 +1,8 @@
-use Rattle.std.proofs.Common.{◌≡◌, refl, sym, ap, ◌∙◌, [], ◌++◌, arith, append-nil}
-use Rattle.std.proofs.lemmas.Result.{err_from_is_err_and}
+use Rattle.std.proofs.Common.{◌≡◌, refl, sym, ap, ◌∙◌, [], ◌++◌, append-nil}
 use Rattle.ckc_grammar.specs.Grammar.{k}
 use Rattle.ckc_grammar.specs.Marked.{ahead}
 use Rattle.ckc_grammar.specs.Reading.{kind_of, done}
-use Rattle.ckc_grammar.proofs.Steps.{exit}
+use Rattle.ckc_expressions.proofs.Exits.{exit}
 use Rattle.ckc_grammar.proofs.Onward.{at_start, one_turn, last_turn}
 use Rattle.ckc_grammar.proofs.Lists.{next_items}
 use Rattle.ckc_grammar.specs.Grammar as g
@@ -15,11 +14,7 @@ pub list-init : goal.list-init
 list-init c = record { onward = at_start (λ y z. v.as_items z ≡ c.new-all.result ++ v.as_items y) _ _ (λ y. ap (λ q. q ++ v.as_items y) (sym c.new-all.ensures)) }
 
 pub returns-in_err-more : goal.returns-in_err-more
-returns-in_err-more c = record {
-  gives =
-      let p = err_from_is_err_and c.from_residual.result c.from_residual.ensures.1 in
-      exit _ _ _ (ahead c.args.reader.now) _ _ p.1 p.2 c.in_err-more.ensures.turns (λ d. c.list.invariant.onward.1 _ d);
-}
+returns-in_err-more c = record { gives = exit _ _ _ c.from_residual.ensures.1 c.in_err-more.ensures.turns (λ d. c.list.invariant.onward.1 _ d) }
 
 pub list-preserved : goal.list-preserved
 list-preserved c = record {

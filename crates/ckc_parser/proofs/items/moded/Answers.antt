@@ -1,33 +1,20 @@
 use Rattle.std.proofs.Common.{◌∙◌, ◌∷◌, []}
 use Rattle.std.specs.Prelude.{Some}
-use Rattle.std.proofs.lemmas.Result.{err_from_is_err_and}
 use Rattle.ckc_syntax.specs.Spelled.{spelled}
-use Rattle.ckc_grammar.specs.Marked.{ahead}
-use Rattle.ckc_grammar.proofs.Steps.{also, then_stops, here_stops, exit, turned}
+use Rattle.ckc_grammar.proofs.Steps.{also, then_stops, here_stops, turned}
+use Rattle.ckc_expressions.proofs.Exits.{exit}
 use Rattle.ckc_grammar.proofs.Lists.{same2}
 use Rattle.ckc_grammar.specs.Values as v
 use Rattle.ckc_parser.proofs.items.moded.Goals as goal
 
 pub returns-in_err-mode : goal.returns-in_err-mode
-returns-in_err-mode c = record {
-  reads =
-      let p = err_from_is_err_and c.from_residual.result c.from_residual.ensures.1 in
-      exit _ _ _ (ahead c.args.reader.now) _ _ p.1 p.2 c.in_err-mode.ensures.gives (λ d. here_stops _ d);
-}
+returns-in_err-mode c = record { reads = exit _ _ _ c.from_residual.ensures.1 c.in_err-mode.ensures.gives (λ d. here_stops _ d) }
 
 pub returns-in_err-ctype : goal.returns-in_err-ctype
-returns-in_err-ctype c = record {
-  reads =
-      let p = err_from_is_err_and c.from_residual-in_err-ctype.result c.from_residual-in_err-ctype.ensures.1 in
-      exit _ _ _ (ahead c.args.reader.now) _ _ p.1 p.2 c.in_err-ctype.ensures.gives (λ d. then_stops c.in_ok-mode.ensures.gives.1 (here_stops _ d));
-}
+returns-in_err-ctype c = record { reads = exit _ _ _ c.from_residual-in_err-ctype.ensures.1 c.in_err-ctype.ensures.gives (λ d. then_stops c.in_ok-mode.ensures.gives.1 (here_stops _ d)) }
 
 pub returns-in_err-name : goal.returns-in_err-name
-returns-in_err-name c = record {
-  reads =
-      let p = err_from_is_err_and c.from_residual-in_err-name.result c.from_residual-in_err-name.ensures.1 in
-      exit _ _ _ (ahead c.args.reader.now) _ _ p.1 p.2 c.in_err-name.ensures.parses (λ d. then_stops c.in_ok-mode.ensures.gives.1 (then_stops c.in_ok-ctype.ensures.gives.1 (here_stops _ d)));
-}
+returns-in_err-name c = record { reads = exit _ _ _ c.from_residual-in_err-name.ensures.1 c.in_err-name.ensures.parses (λ d. then_stops c.in_ok-mode.ensures.gives.1 (then_stops c.in_ok-ctype.ensures.gives.1 (here_stops _ d))) }
 
 pub returns : goal.returns
 returns c = record {

@@ -1,21 +1,16 @@
 use Rattle.std.proofs.Common.{refl, ap, ◌∷◌, [], ◌++◌}
-use Rattle.std.proofs.lemmas.Result.{err_from_is_err_and}
 use Rattle.ckc_syntax.specs.Spelled.{spelled}
-use Rattle.ckc_grammar.specs.Marked.{ahead}
-use Rattle.ckc_grammar.proofs.Steps.{also, then_stops, here_stops, exit}
+use Rattle.ckc_grammar.proofs.Steps.{also, then_stops, here_stops}
+use Rattle.ckc_expressions.proofs.Exits.{exit}
 use Rattle.ckc_grammar.proofs.Shrinks.{fewer}
 use Rattle.ckc_grammar.specs.Values as v
 use Rattle.ckc_parser.proofs.items.static_item.Goals as goal
 
 pub returns-in_err-word-clause-reads : goal.returns-in_err-word-clause-reads
-returns-in_err-word-clause-reads c =
-    let p = err_from_is_err_and c.from_residual.result c.from_residual.ensures.1 in
-    exit _ _ _ (ahead c.args.reader.now) _ _ p.1 p.2 c.in_err-word.ensures.parses (λ d. here_stops _ d)
+returns-in_err-word-clause-reads c = exit _ _ _ c.from_residual.ensures.1 c.in_err-word.ensures.parses (λ d. here_stops _ d)
 
 pub returns-in_err-all-clause-reads : goal.returns-in_err-all-clause-reads
-returns-in_err-all-clause-reads c =
-    let p = err_from_is_err_and c.from_residual-in_err-all.result c.from_residual-in_err-all.ensures.1 in
-    exit _ _ _ (ahead c.args.reader.now) _ _ p.1 p.2 c.in_err-all.ensures.gives (λ d. then_stops c.in_ok-word.ensures.parses (d))
+returns-in_err-all-clause-reads c = exit _ _ _ c.from_residual-in_err-all.ensures.1 c.in_err-all.ensures.gives (λ d. then_stops c.in_ok-word.ensures.parses d)
 
 pub returns-clause-reads : goal.returns-clause-reads
 returns-clause-reads c =

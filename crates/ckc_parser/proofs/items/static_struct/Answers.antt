@@ -1,24 +1,15 @@
 use Rattle.std.proofs.Common.{sym, ap, ◌∙◌, ◌∷◌, []}
-use Rattle.std.proofs.lemmas.Result.{err_from_is_err_and}
 use Rattle.ckc_syntax.specs.Spelled.{spelled}
-use Rattle.ckc_grammar.specs.Marked.{ahead}
-use Rattle.ckc_grammar.proofs.Steps.{also, then_stops, here_stops, exit, turned}
+use Rattle.ckc_grammar.proofs.Steps.{also, then_stops, here_stops, turned}
+use Rattle.ckc_expressions.proofs.Exits.{exit}
 use Rattle.ckc_grammar.specs.Values as v
 use Rattle.ckc_parser.proofs.items.static_struct.Goals as goal
 
 pub returns-in_err-word : goal.returns-in_err-word
-returns-in_err-word c = record {
-  reads =
-      let p = err_from_is_err_and c.from_residual.result c.from_residual.ensures.1 in
-      exit _ _ _ (ahead c.args.reader.now) _ _ p.1 p.2 c.in_err-word.ensures.parses (λ d. here_stops _ d);
-}
+returns-in_err-word c = record { reads = exit _ _ _ c.from_residual.ensures.1 c.in_err-word.ensures.parses (λ d. here_stops _ d) }
 
 pub returns-in_err-name : goal.returns-in_err-name
-returns-in_err-name c = record {
-  reads =
-      let p = err_from_is_err_and c.from_residual-in_err-name.result c.from_residual-in_err-name.ensures.1 in
-      exit _ _ _ (ahead c.args.reader.now) _ _ p.1 p.2 c.in_err-name.ensures.parses (λ d. then_stops c.in_ok-word.ensures.parses (here_stops _ d));
-}
+returns-in_err-name c = record { reads = exit _ _ _ c.from_residual-in_err-name.ensures.1 c.in_err-name.ensures.parses (λ d. then_stops c.in_ok-word.ensures.parses (here_stops _ d)) }
 
 pub returns : goal.returns
 returns c = record {

@@ -1,46 +1,25 @@
 use Rattle.std.proofs.Common.{sym, ap, ◌∙◌, ◌∷◌, [], ◌++◌}
-use Rattle.std.proofs.lemmas.Result.{err_from_is_err_and}
 use Rattle.ckc_syntax.specs.Spelled.{spelled}
-use Rattle.ckc_grammar.specs.Marked.{ahead}
-use Rattle.ckc_grammar.proofs.Steps.{also, then_stops, here_stops, exit}
+use Rattle.ckc_grammar.proofs.Steps.{also, then_stops, here_stops}
+use Rattle.ckc_expressions.proofs.Exits.{exit}
 use Rattle.ckc_syntax.specs.declared.tree.Item.TheVariants as item
 use Rattle.ckc_grammar.specs.Values as v
 use Rattle.ckc_parser.proofs.items.struct_members.Goals as goal
 
 pub returns-in_err-open : goal.returns-in_err-open
-returns-in_err-open c = record {
-  reads =
-      let p = err_from_is_err_and c.from_residual.result c.from_residual.ensures.1 in
-      exit _ _ _ (ahead c.args.reader.now) _ _ p.1 p.2 c.in_err-open.ensures.parses (λ d. here_stops _ d);
-}
+returns-in_err-open c = record { reads = exit _ _ _ c.from_residual.ensures.1 c.in_err-open.ensures.parses (λ d. here_stops _ d) }
 
 pub returns-in_err-first : goal.returns-in_err-first
-returns-in_err-first c = record {
-  reads =
-      let p = err_from_is_err_and c.from_residual-in_err-first.result c.from_residual-in_err-first.ensures.1 in
-      exit _ _ _ (ahead c.args.reader.now) _ _ p.1 p.2 c.in_err-first.ensures.gives (λ d. then_stops c.in_ok-open.ensures.parses (here_stops _ d));
-}
+returns-in_err-first c = record { reads = exit _ _ _ c.from_residual-in_err-first.ensures.1 c.in_err-first.ensures.gives (λ d. then_stops c.in_ok-open.ensures.parses (here_stops _ d)) }
 
 pub returns-in_err-members : goal.returns-in_err-members
-returns-in_err-members c = record {
-  reads =
-      let p = err_from_is_err_and c.from_residual-in_err-members.result c.from_residual-in_err-members.ensures.1 in
-      exit _ _ _ (ahead c.args.reader.now) _ _ p.1 p.2 c.in_err-members.ensures.gives (λ d. then_stops c.in_ok-open.ensures.parses (then_stops c.in_ok-first.ensures.gives.1 (here_stops _ d)));
-}
+returns-in_err-members c = record { reads = exit _ _ _ c.from_residual-in_err-members.ensures.1 c.in_err-members.ensures.gives (λ d. then_stops c.in_ok-open.ensures.parses (then_stops c.in_ok-first.ensures.gives.1 (here_stops _ d))) }
 
 pub returns-in_err-close : goal.returns-in_err-close
-returns-in_err-close c = record {
-  reads =
-      let p = err_from_is_err_and c.from_residual-in_err-close.result c.from_residual-in_err-close.ensures.1 in
-      exit _ _ _ (ahead c.args.reader.now) _ _ p.1 p.2 c.in_err-close.ensures.parses (λ d. then_stops c.in_ok-open.ensures.parses (then_stops c.in_ok-first.ensures.gives.1 (then_stops c.in_ok-members.ensures.gives.1 (here_stops _ d))));
-}
+returns-in_err-close c = record { reads = exit _ _ _ c.from_residual-in_err-close.ensures.1 c.in_err-close.ensures.parses (λ d. then_stops c.in_ok-open.ensures.parses (then_stops c.in_ok-first.ensures.gives.1 (then_stops c.in_ok-members.ensures.gives.1 (here_stops _ d)))) }
 
 pub returns-in_err-end : goal.returns-in_err-end
-returns-in_err-end c = record {
-  reads =
-      let p = err_from_is_err_and c.from_residual-in_err-end.result c.from_residual-in_err-end.ensures.1 in
-      exit _ _ _ (ahead c.args.reader.now) _ _ p.1 p.2 c.in_err-end.ensures.parses (λ d. then_stops c.in_ok-open.ensures.parses (then_stops c.in_ok-first.ensures.gives.1 (then_stops c.in_ok-members.ensures.gives.1 (then_stops c.in_ok-close.ensures.parses (d)))));
-}
+returns-in_err-end c = record { reads = exit _ _ _ c.from_residual-in_err-end.ensures.1 c.in_err-end.ensures.parses (λ d. then_stops c.in_ok-open.ensures.parses (then_stops c.in_ok-first.ensures.gives.1 (then_stops c.in_ok-members.ensures.gives.1 (then_stops c.in_ok-close.ensures.parses d)))) }
 
 pub returns : goal.returns
 returns c = record {

@@ -1,5 +1,4 @@
 use Rattle.std.proofs.Common.{sym, ap, ◌∙◌, ◌∷◌, []}
-use Rattle.ckc_grammar.specs.Marked.{ahead}
 use Rattle.ckc_grammar.proofs.Steps.{turned}
 use Rattle.ckc_grammar.specs.Values as v
 use Rattle.ckc_parser.proofs.items.structured.Goals as goal

@@ -1,13 +1,13 @@
 use Rattle.std.proofs.Common.{◌≡◌, refl, sym, ap, ◌∙◌, ◌∷◌, [], ◌++◌, arith, append-nil}
 use Rattle.std.specs.Prelude.{Some, None}
-use Rattle.std.proofs.lemmas.Result.{err_from_is_err_and}
 use Rattle.ckc_syntax.specs.Spelled.{spelled}
 use Rattle.ckc_grammar.specs.Values.{made}
 use Rattle.ckc_grammar.specs.Grammar.{k}
 use Rattle.ckc_grammar.specs.Marked.{ahead}
 use Rattle.ckc_grammar.specs.Forms.{begins_type}
 use Rattle.ckc_grammar.specs.Reading.{pick, kind_of, done}
-use Rattle.ckc_grammar.proofs.Steps.{also, then_stops, here_stops, exit, chosen_as, by_rule}
+use Rattle.ckc_grammar.proofs.Steps.{also, also_all, then_stops, then_all, here_stops, here_all, chosen_as, by_rule}
+use Rattle.ckc_expressions.proofs.Exits.{exit}
 use Rattle.ckc_grammar.proofs.Onward.{at_start, one_turn, last_turn, stop_turn}
 use Rattle.ckc_grammar.proofs.Shrinks.{fewer}
 use Rattle.ckc_grammar.proofs.Lists.{same2, next_item, next_items}
@@ -16,6 +16,7 @@ use Rattle.ckc_grammar.specs.Grammar as g
 use Rattle.ckc_grammar.specs.Values as v
 use Rattle.ckc_grammar.specs.Trees as trees
 use Rattle.ckc_grammar.proofs.Choices as o
+use Rattle.ckc_grammar.proofs.Defaults.{usual}
 use Rattle.ckc_parser.proofs.statements.+stmt.Goals as goal
 
 pub stmt-returns-in-Checked-clause-gives : goal.stmt-returns-in-Checked-clause-gives
@@ -92,154 +93,96 @@ stmt-returns-in-Unknown-clause-gives t c =
 
 pub stmt-returns-in_default-clause-gives : goal.stmt-returns-in_default-clause-gives
 stmt-returns-in_default-clause-gives t c =
-    chosen_as (λ y. v.as_stmt y) (λ x vs. v.as_stmt (made g.AssignStmt vs) ≡ x) g.stmt g.AssignStmt _ _ c.assign_stmt.result (o.other_stmt (kind_of (ahead c.args.reader.now)) (λ e. c.in_default.not-Checked (c.kind.ensures ∙ e)) (λ e. c.in_default.not-Unchecked (c.kind.ensures ∙ e)) (λ e. c.in_default.not-CurlyOpen (c.kind.ensures ∙ e)) (λ e. c.in_default.not-Semicolon (c.kind.ensures ∙ e)) (λ e. c.in_default.not-If (c.kind.ensures ∙ e)) (λ e. c.in_default.not-While (c.kind.ensures ∙ e)) (λ e. c.in_default.not-For (c.kind.ensures ∙ e)) (λ e. c.in_default.not-Return (c.kind.ensures ∙ e)) (λ e. c.in_default.not-Break (c.kind.ensures ∙ e)) (λ e. c.in_default.not-Continue (c.kind.ensures ∙ e)) (λ e. c.in_default.not-Check (c.kind.ensures ∙ e)) (λ e. c.in_default.not-Bundled (c.kind.ensures ∙ e)) (λ e. c.in_default.not-Calloc (c.kind.ensures ∙ e)) (λ e. c.in_default.not-Name (c.kind.ensures ∙ e)) (λ e. c.in_default.not-Count (c.kind.ensures ∙ e)) (λ e. c.in_default.not-ByteCount (c.kind.ensures ∙ e)) (λ e. c.in_default.not-Bounds (c.kind.ensures ∙ e)) (λ e. c.in_default.not-Unknown (c.kind.ensures ∙ e))) (λ k. refl) (λ x vs h. h) c.assign_stmt.ensures.reads
+    chosen_as (λ y. v.as_stmt y) (λ x vs. v.as_stmt (made g.AssignStmt vs) ≡ x) g.stmt g.AssignStmt _ _ c.assign_stmt.result (usual g.stmt (kind_of (ahead c.args.reader.now)) (λ e. c.in_default.not-Checked (c.kind.ensures ∙ e)) (λ e. c.in_default.not-Unchecked (c.kind.ensures ∙ e)) (λ e. c.in_default.not-CurlyOpen (c.kind.ensures ∙ e)) (λ e. c.in_default.not-Semicolon (c.kind.ensures ∙ e)) (λ e. c.in_default.not-If (c.kind.ensures ∙ e)) (λ e. c.in_default.not-While (c.kind.ensures ∙ e)) (λ e. c.in_default.not-For (c.kind.ensures ∙ e)) (λ e. c.in_default.not-Return (c.kind.ensures ∙ e)) (λ e. c.in_default.not-Break (c.kind.ensures ∙ e)) (λ e. c.in_default.not-Continue (c.kind.ensures ∙ e)) (λ e. c.in_default.not-Check (c.kind.ensures ∙ e)) (λ e. c.in_default.not-Bundled (c.kind.ensures ∙ e)) (λ e. c.in_default.not-Calloc (c.kind.ensures ∙ e)) (λ e. c.in_default.not-Name (c.kind.ensures ∙ e)) (λ e. c.in_default.not-Count (c.kind.ensures ∙ e)) (λ e. c.in_default.not-ByteCount (c.kind.ensures ∙ e)) (λ e. c.in_default.not-Bounds (c.kind.ensures ∙ e)) (λ e. c.in_default.not-Unknown (c.kind.ensures ∙ e))) (λ k. refl) (λ x vs h. h) c.assign_stmt.ensures.reads
 
 pub moded_block-returns-in_err-mode-clause-reads : goal.moded_block-returns-in_err-mode-clause-reads
-moded_block-returns-in_err-mode-clause-reads t c =
-    let p = err_from_is_err_and c.from_residual.result c.from_residual.ensures.1 in
-    exit _ _ _ (ahead c.args.reader.now) _ _ p.1 p.2 c.in_err-mode.ensures.gives (λ d. here_stops _ d)
+moded_block-returns-in_err-mode-clause-reads t c = exit _ _ _ c.from_residual.ensures.1 c.in_err-mode.ensures.gives (λ d. here_stops _ d)
 
 pub moded_block-returns-in_err-open-clause-reads : goal.moded_block-returns-in_err-open-clause-reads
-moded_block-returns-in_err-open-clause-reads t c =
-    let p = err_from_is_err_and c.from_residual-in_err-open.result c.from_residual-in_err-open.ensures.1 in
-    exit _ _ _ (ahead c.args.reader.now) _ _ p.1 p.2 c.in_err-open.ensures.parses (λ d. then_stops c.in_ok-mode.ensures.gives.1 (here_stops _ d))
+moded_block-returns-in_err-open-clause-reads t c = exit _ _ _ c.from_residual-in_err-open.ensures.1 c.in_err-open.ensures.parses (λ d. then_stops c.in_ok-mode.ensures.gives.1 (here_stops _ d))
 
 pub moded_block-returns-in_err-all-clause-reads : goal.moded_block-returns-in_err-all-clause-reads
-moded_block-returns-in_err-all-clause-reads t c =
-    let p = err_from_is_err_and c.from_residual-in_err-all.result c.from_residual-in_err-all.ensures.1 in
-    exit _ _ _ (ahead c.args.reader.now) _ _ p.1 p.2 c.in_err-all.ensures.gives (λ d. then_stops c.in_ok-mode.ensures.gives.1 (then_stops c.in_ok-open.ensures.parses (d)))
+moded_block-returns-in_err-all-clause-reads t c = exit _ _ _ c.from_residual-in_err-all.ensures.1 c.in_err-all.ensures.gives (λ d. then_stops c.in_ok-mode.ensures.gives.1 (then_stops c.in_ok-open.ensures.parses d))
 
 pub moded_block-returns-clause-reads : goal.moded_block-returns-clause-reads
 moded_block-returns-clause-reads t c =
     (c.in_ok-mode.ensures.gives.0 ∷ v.token (spelled c.in_ok-open.open) ∷ c.in_ok-all.ensures.gives.0 ∷ [], (also c.in_ok-mode.ensures.gives.1 (also c.in_ok-open.ensures.parses c.in_ok-all.ensures.gives.1)), same2 (λ z w. trees.stmt_at (act.Block (Some z.0) w) z.1) c.in_ok-mode.ensures.gives.2 c.in_ok-all.ensures.gives.2 ∙ sym c.in_ok-whole.ensures)
 
 pub block-returns-in_err-open-clause-reads : goal.block-returns-in_err-open-clause-reads
-block-returns-in_err-open-clause-reads t c =
-    let p = err_from_is_err_and c.from_residual.result c.from_residual.ensures.1 in
-    exit _ _ _ (ahead c.args.reader.now) _ _ p.1 p.2 c.in_err-open.ensures.parses (λ d. here_stops _ d)
+block-returns-in_err-open-clause-reads t c = exit _ _ _ c.from_residual.ensures.1 c.in_err-open.ensures.parses (λ d. here_stops _ d)
 
 pub block-returns-in_err-all-clause-reads : goal.block-returns-in_err-all-clause-reads
-block-returns-in_err-all-clause-reads t c =
-    let p = err_from_is_err_and c.from_residual-in_err-all.result c.from_residual-in_err-all.ensures.1 in
-    exit _ _ _ (ahead c.args.reader.now) _ _ p.1 p.2 c.in_err-all.ensures.gives (λ d. then_stops c.in_ok-open.ensures.parses (d))
+block-returns-in_err-all-clause-reads t c = exit _ _ _ c.from_residual-in_err-all.ensures.1 c.in_err-all.ensures.gives (λ d. then_stops c.in_ok-open.ensures.parses d)
 
 pub block-returns-clause-reads : goal.block-returns-clause-reads
 block-returns-clause-reads t c =
     (v.token (spelled c.in_ok-open.open) ∷ c.in_ok-all.ensures.gives.0 ∷ [], (also c.in_ok-open.ensures.parses c.in_ok-all.ensures.gives.1), ap (λ z. trees.stmt_at (act.Block None z) c.in_ok-open.open.pos) c.in_ok-all.ensures.gives.2 ∙ sym c.in_ok-whole.ensures)
 
 pub if_stmt-returns-in_err-mark-clause-reads : goal.if_stmt-returns-in_err-mark-clause-reads
-if_stmt-returns-in_err-mark-clause-reads t c =
-    let p = err_from_is_err_and c.from_residual.result c.from_residual.ensures.1 in
-    exit _ _ _ (ahead c.args.reader.now) _ _ p.1 p.2 c.in_err-mark.ensures.parses (λ d. here_stops _ d)
-
-pub if_stmt-returns-in_err-open-clause-reads : goal.if_stmt-returns-in_err-open-clause-reads
-if_stmt-returns-in_err-open-clause-reads t c =
-    let p = err_from_is_err_and c.from_residual-in_err-open.result c.from_residual-in_err-open.ensures.1 in
-    exit _ _ _ (ahead c.args.reader.now) _ _ p.1 p.2 c.in_err-open.ensures.parses (λ d. then_stops c.in_ok-mark.ensures.parses (here_stops _ d))
+if_stmt-returns-in_err-mark-clause-reads t c = exit _ _ _ c.from_residual.ensures.1 c.in_err-mark.ensures.parses (λ d. here_stops _ d)
 
 pub if_stmt-returns-in_err-condition-clause-reads : goal.if_stmt-returns-in_err-condition-clause-reads
-if_stmt-returns-in_err-condition-clause-reads t c =
-    let p = err_from_is_err_and c.from_residual-in_err-condition.result c.from_residual-in_err-condition.ensures.1 in
-    exit _ _ _ (ahead c.args.reader.now) _ _ p.1 p.2 c.in_err-condition.ensures.parses (λ d. then_stops c.in_ok-mark.ensures.parses (then_stops c.in_ok-open.ensures.parses (here_stops _ d)))
-
-pub if_stmt-returns-in_err-close-clause-reads : goal.if_stmt-returns-in_err-close-clause-reads
-if_stmt-returns-in_err-close-clause-reads t c =
-    let p = err_from_is_err_and c.from_residual-in_err-close.result c.from_residual-in_err-close.ensures.1 in
-    exit _ _ _ (ahead c.args.reader.now) _ _ p.1 p.2 c.in_err-close.ensures.parses (λ d. then_stops c.in_ok-mark.ensures.parses (then_stops c.in_ok-open.ensures.parses (then_stops c.in_ok-condition.ensures.parses (here_stops _ d))))
+if_stmt-returns-in_err-condition-clause-reads t c = exit _ _ _ c.from_residual-in_err-condition.ensures.1 c.in_err-condition.ensures.tells (λ d. then_stops c.in_ok-mark.ensures.parses (here_all _ d))
 
 pub if_stmt-returns-in_err-body-clause-reads : goal.if_stmt-returns-in_err-body-clause-reads
-if_stmt-returns-in_err-body-clause-reads t c =
-    let p = err_from_is_err_and c.from_residual-in_err-body.result c.from_residual-in_err-body.ensures.1 in
-    exit _ _ _ (ahead c.args.reader.now) _ _ p.1 p.2 c.in_err-body.ensures.gives (λ d. then_stops c.in_ok-mark.ensures.parses (then_stops c.in_ok-open.ensures.parses (then_stops c.in_ok-condition.ensures.parses (then_stops c.in_ok-close.ensures.parses (here_stops _ d)))))
+if_stmt-returns-in_err-body-clause-reads t c = exit _ _ _ c.from_residual-in_err-body.ensures.1 c.in_err-body.ensures.gives (λ d. then_stops c.in_ok-mark.ensures.parses (then_all c.in_ok-condition.ensures.tells.1 (here_stops _ d)))
 
 pub if_stmt-returns-in_err-other-clause-reads : goal.if_stmt-returns-in_err-other-clause-reads
-if_stmt-returns-in_err-other-clause-reads t c =
-    let p = err_from_is_err_and c.from_residual-in_err-other.result c.from_residual-in_err-other.ensures.1 in
-    exit _ _ _ (ahead c.args.reader.now) _ _ p.1 p.2 c.in_err-other.ensures.gives (λ d. then_stops c.in_ok-mark.ensures.parses (then_stops c.in_ok-open.ensures.parses (then_stops c.in_ok-condition.ensures.parses (then_stops c.in_ok-close.ensures.parses (then_stops c.in_ok-body.ensures.gives.1 (d))))))
+if_stmt-returns-in_err-other-clause-reads t c = exit _ _ _ c.from_residual-in_err-other.ensures.1 c.in_err-other.ensures.gives (λ d. then_stops c.in_ok-mark.ensures.parses (then_all c.in_ok-condition.ensures.tells.1 (then_stops c.in_ok-body.ensures.gives.1 d)))
 
 pub if_stmt-returns-clause-reads : goal.if_stmt-returns-clause-reads
 if_stmt-returns-clause-reads t c =
-    (v.token (spelled c.in_ok-mark.mark) ∷ v.token (spelled c.in_ok-open.open) ∷ v.expr c.in_ok-condition.condition ∷ v.token (spelled c.in_ok-close.close) ∷ c.in_ok-body.ensures.gives.0 ∷ c.in_ok-other.ensures.gives.0 ∷ [], (also c.in_ok-mark.ensures.parses (also c.in_ok-open.ensures.parses (also c.in_ok-condition.ensures.parses (also c.in_ok-close.ensures.parses (also c.in_ok-body.ensures.gives.1 c.in_ok-other.ensures.gives.1))))), same2 (λ z w. trees.stmt_at (act.If c.in_ok-condition.condition z w) c.in_ok-mark.mark.pos) c.in_ok-body.ensures.gives.2 c.in_ok-other.ensures.gives.2 ∙ sym c.in_ok-whole.ensures)
+    let marks = c.in_ok-condition.ensures.tells.0 in
+    (v.token (spelled c.in_ok-mark.mark) ∷ marks.0 ∷ v.expr c.in_ok-condition.condition ∷ marks.1 ∷ c.in_ok-body.ensures.gives.0 ∷ c.in_ok-other.ensures.gives.0 ∷ [], also c.in_ok-mark.ensures.parses (also_all c.in_ok-condition.ensures.tells.1 (also c.in_ok-body.ensures.gives.1 c.in_ok-other.ensures.gives.1)), same2 (λ z w. trees.stmt_at (act.If c.in_ok-condition.condition z w) c.in_ok-mark.mark.pos) c.in_ok-body.ensures.gives.2 c.in_ok-other.ensures.gives.2 ∙ sym c.in_ok-whole.ensures)
 
 pub otherwise-returns-in-Else-clause-gives : goal.otherwise-returns-in-Else-clause-gives
 otherwise-returns-in-Else-clause-gives t c =
     chosen_as (λ y. v.as_part y) (λ x vs. v.as_part (made g.Else vs) ≡ x) g.otherwise g.Else _ _ c.else_part.result (ap (λ k. pick g.otherwise k) (sym c.in-Else.ensures)) (λ k. refl) (λ x vs h. h) c.else_part.ensures.reads
 
 pub otherwise-returns-in_default-clause-gives : goal.otherwise-returns-in_default-clause-gives
-otherwise-returns-in_default-clause-gives t c = (made g.NoElse [], by_rule g.NoElse (o.other_otherwise (kind_of (ahead c.args.reader.now)) (λ e. c.in_default.not-Else (c.kind.ensures ∙ e))) (o.is_not_else (kind_of (ahead c.args.reader.now)) (λ e. c.in_default.not-Else (c.kind.ensures ∙ e))) refl (done refl), refl)
+otherwise-returns-in_default-clause-gives t c = (made g.NoElse [], by_rule g.NoElse (usual g.otherwise (kind_of (ahead c.args.reader.now)) (λ e. c.in_default.not-Else (c.kind.ensures ∙ e))) (o.is_not_else (kind_of (ahead c.args.reader.now)) (λ e. c.in_default.not-Else (c.kind.ensures ∙ e))) refl (done refl), refl)
 
 pub else_part-returns-in_err-mark-clause-reads : goal.else_part-returns-in_err-mark-clause-reads
-else_part-returns-in_err-mark-clause-reads t c =
-    let p = err_from_is_err_and c.from_residual.result c.from_residual.ensures.1 in
-    exit _ _ _ (ahead c.args.reader.now) _ _ p.1 p.2 c.in_err-mark.ensures.parses (λ d. here_stops _ d)
+else_part-returns-in_err-mark-clause-reads t c = exit _ _ _ c.from_residual.ensures.1 c.in_err-mark.ensures.parses (λ d. here_stops _ d)
 
 pub else_part-returns-in_err-body-clause-reads : goal.else_part-returns-in_err-body-clause-reads
-else_part-returns-in_err-body-clause-reads t c =
-    let p = err_from_is_err_and c.from_residual-in_err-body.result c.from_residual-in_err-body.ensures.1 in
-    exit _ _ _ (ahead c.args.reader.now) _ _ p.1 p.2 c.in_err-body.ensures.gives (λ d. then_stops c.in_ok-mark.ensures.parses (d))
+else_part-returns-in_err-body-clause-reads t c = exit _ _ _ c.from_residual-in_err-body.ensures.1 c.in_err-body.ensures.gives (λ d. then_stops c.in_ok-mark.ensures.parses d)
 
 pub else_part-returns-clause-reads : goal.else_part-returns-clause-reads
 else_part-returns-clause-reads t c =
     (v.token (spelled c.in_ok-mark.mark) ∷ c.in_ok-body.ensures.gives.0 ∷ [], (also c.in_ok-mark.ensures.parses c.in_ok-body.ensures.gives.1), ap (λ z. Some z) c.in_ok-body.ensures.gives.2)
 
 pub while_stmt-returns-in_err-mark-clause-reads : goal.while_stmt-returns-in_err-mark-clause-reads
-while_stmt-returns-in_err-mark-clause-reads t c =
-    let p = err_from_is_err_and c.from_residual.result c.from_residual.ensures.1 in
-    exit _ _ _ (ahead c.args.reader.now) _ _ p.1 p.2 c.in_err-mark.ensures.parses (λ d. here_stops _ d)
-
-pub while_stmt-returns-in_err-open-clause-reads : goal.while_stmt-returns-in_err-open-clause-reads
-while_stmt-returns-in_err-open-clause-reads t c =
-    let p = err_from_is_err_and c.from_residual-in_err-open.result c.from_residual-in_err-open.ensures.1 in
-    exit _ _ _ (ahead c.args.reader.now) _ _ p.1 p.2 c.in_err-open.ensures.parses (λ d. then_stops c.in_ok-mark.ensures.parses (here_stops _ d))
+while_stmt-returns-in_err-mark-clause-reads t c = exit _ _ _ c.from_residual.ensures.1 c.in_err-mark.ensures.parses (λ d. here_stops _ d)
 
 pub while_stmt-returns-in_err-condition-clause-reads : goal.while_stmt-returns-in_err-condition-clause-reads
-while_stmt-returns-in_err-condition-clause-reads t c =
-    let p = err_from_is_err_and c.from_residual-in_err-condition.result c.from_residual-in_err-condition.ensures.1 in
-    exit _ _ _ (ahead c.args.reader.now) _ _ p.1 p.2 c.in_err-condition.ensures.parses (λ d. then_stops c.in_ok-mark.ensures.parses (then_stops c.in_ok-open.ensures.parses (here_stops _ d)))
-
-pub while_stmt-returns-in_err-close-clause-reads : goal.while_stmt-returns-in_err-close-clause-reads
-while_stmt-returns-in_err-close-clause-reads t c =
-    let p = err_from_is_err_and c.from_residual-in_err-close.result c.from_residual-in_err-close.ensures.1 in
-    exit _ _ _ (ahead c.args.reader.now) _ _ p.1 p.2 c.in_err-close.ensures.parses (λ d. then_stops c.in_ok-mark.ensures.parses (then_stops c.in_ok-open.ensures.parses (then_stops c.in_ok-condition.ensures.parses (here_stops _ d))))
+while_stmt-returns-in_err-condition-clause-reads t c = exit _ _ _ c.from_residual-in_err-condition.ensures.1 c.in_err-condition.ensures.tells (λ d. then_stops c.in_ok-mark.ensures.parses (here_all _ d))
 
 pub while_stmt-returns-in_err-body-clause-reads : goal.while_stmt-returns-in_err-body-clause-reads
-while_stmt-returns-in_err-body-clause-reads t c =
-    let p = err_from_is_err_and c.from_residual-in_err-body.result c.from_residual-in_err-body.ensures.1 in
-    exit _ _ _ (ahead c.args.reader.now) _ _ p.1 p.2 c.in_err-body.ensures.gives (λ d. then_stops c.in_ok-mark.ensures.parses (then_stops c.in_ok-open.ensures.parses (then_stops c.in_ok-condition.ensures.parses (then_stops c.in_ok-close.ensures.parses (d)))))
+while_stmt-returns-in_err-body-clause-reads t c = exit _ _ _ c.from_residual-in_err-body.ensures.1 c.in_err-body.ensures.gives (λ d. then_stops c.in_ok-mark.ensures.parses (then_all c.in_ok-condition.ensures.tells.1 d))
 
 pub while_stmt-returns-clause-reads : goal.while_stmt-returns-clause-reads
 while_stmt-returns-clause-reads t c =
-    (v.token (spelled c.in_ok-mark.mark) ∷ v.token (spelled c.in_ok-open.open) ∷ v.expr c.in_ok-condition.condition ∷ v.token (spelled c.in_ok-close.close) ∷ c.in_ok-body.ensures.gives.0 ∷ [], (also c.in_ok-mark.ensures.parses (also c.in_ok-open.ensures.parses (also c.in_ok-condition.ensures.parses (also c.in_ok-close.ensures.parses c.in_ok-body.ensures.gives.1)))), ap (λ z. trees.stmt_at (act.While c.in_ok-condition.condition z) c.in_ok-mark.mark.pos) c.in_ok-body.ensures.gives.2 ∙ sym c.in_ok-whole.ensures)
+    let marks = c.in_ok-condition.ensures.tells.0 in
+    (v.token (spelled c.in_ok-mark.mark) ∷ marks.0 ∷ v.expr c.in_ok-condition.condition ∷ marks.1 ∷ c.in_ok-body.ensures.gives.0 ∷ [], also c.in_ok-mark.ensures.parses (also_all c.in_ok-condition.ensures.tells.1 c.in_ok-body.ensures.gives.1), ap (λ z. trees.stmt_at (act.While c.in_ok-condition.condition z) c.in_ok-mark.mark.pos) c.in_ok-body.ensures.gives.2 ∙ sym c.in_ok-whole.ensures)
 
 pub for_stmt-returns-in_err-mark-clause-reads : goal.for_stmt-returns-in_err-mark-clause-reads
-for_stmt-returns-in_err-mark-clause-reads t c =
-    let p = err_from_is_err_and c.from_residual.result c.from_residual.ensures.1 in
-    exit _ _ _ (ahead c.args.reader.now) _ _ p.1 p.2 c.in_err-mark.ensures.parses (λ d. here_stops _ d)
+for_stmt-returns-in_err-mark-clause-reads t c = exit _ _ _ c.from_residual.ensures.1 c.in_err-mark.ensures.parses (λ d. here_stops _ d)
 
 pub for_stmt-returns-in_err-open-clause-reads : goal.for_stmt-returns-in_err-open-clause-reads
-for_stmt-returns-in_err-open-clause-reads t c =
-    let p = err_from_is_err_and c.from_residual-in_err-open.result c.from_residual-in_err-open.ensures.1 in
-    exit _ _ _ (ahead c.args.reader.now) _ _ p.1 p.2 c.in_err-open.ensures.parses (λ d. then_stops c.in_ok-mark.ensures.parses (here_stops _ d))
+for_stmt-returns-in_err-open-clause-reads t c = exit _ _ _ c.from_residual-in_err-open.ensures.1 c.in_err-open.ensures.parses (λ d. then_stops c.in_ok-mark.ensures.parses (here_stops _ d))
 
 pub for_stmt-returns-in_err-start-clause-reads : goal.for_stmt-returns-in_err-start-clause-reads
-for_stmt-returns-in_err-start-clause-reads t c =
-    let p = err_from_is_err_and c.from_residual-in_err-start.result c.from_residual-in_err-start.ensures.1 in
-    exit _ _ _ (ahead c.args.reader.now) _ _ p.1 p.2 c.in_err-start.ensures.gives (λ d. then_stops c.in_ok-mark.ensures.parses (then_stops c.in_ok-open.ensures.parses (here_stops _ d)))
+for_stmt-returns-in_err-start-clause-reads t c = exit _ _ _ c.from_residual-in_err-start.ensures.1 c.in_err-start.ensures.gives (λ d. then_stops c.in_ok-mark.ensures.parses (then_stops c.in_ok-open.ensures.parses (here_stops _ d)))
 
 pub for_stmt-returns-in_err-condition-clause-reads : goal.for_stmt-returns-in_err-condition-clause-reads
-for_stmt-returns-in_err-condition-clause-reads t c =
-    let p = err_from_is_err_and c.from_residual-in_err-condition.result c.from_residual-in_err-condition.ensures.1 in
-    exit _ _ _ (ahead c.args.reader.now) _ _ p.1 p.2 c.in_err-condition.ensures.gives (λ d. then_stops c.in_ok-mark.ensures.parses (then_stops c.in_ok-open.ensures.parses (then_stops c.in_ok-start.ensures.gives.1 (here_stops _ d))))
+for_stmt-returns-in_err-condition-clause-reads t c = exit _ _ _ c.from_residual-in_err-condition.ensures.1 c.in_err-condition.ensures.gives (λ d. then_stops c.in_ok-mark.ensures.parses (then_stops c.in_ok-open.ensures.parses (then_stops c.in_ok-start.ensures.gives.1 (here_stops _ d))))
 
 pub for_stmt-returns-in_err-step-clause-reads : goal.for_stmt-returns-in_err-step-clause-reads
-for_stmt-returns-in_err-step-clause-reads t c =
-    let p = err_from_is_err_and c.from_residual-in_err-step.result c.from_residual-in_err-step.ensures.1 in
-    exit _ _ _ (ahead c.args.reader.now) _ _ p.1 p.2 c.in_err-step.ensures.gives (λ d. then_stops c.in_ok-mark.ensures.parses (then_stops c.in_ok-open.ensures.parses (then_stops c.in_ok-start.ensures.gives.1 (then_stops c.in_ok-condition.ensures.gives.1 (here_stops _ d)))))
+for_stmt-returns-in_err-step-clause-reads t c = exit _ _ _ c.from_residual-in_err-step.ensures.1 c.in_err-step.ensures.gives (λ d. then_stops c.in_ok-mark.ensures.parses (then_stops c.in_ok-open.ensures.parses (then_stops c.in_ok-start.ensures.gives.1 (then_stops c.in_ok-condition.ensures.gives.1 (here_stops _ d)))))
 
 pub for_stmt-returns-in_err-body-clause-reads : goal.for_stmt-returns-in_err-body-clause-reads
-for_stmt-returns-in_err-body-clause-reads t c =
-    let p = err_from_is_err_and c.from_residual-in_err-body.result c.from_residual-in_err-body.ensures.1 in
-    exit _ _ _ (ahead c.args.reader.now) _ _ p.1 p.2 c.in_err-body.ensures.gives (λ d. then_stops c.in_ok-mark.ensures.parses (then_stops c.in_ok-open.ensures.parses (then_stops c.in_ok-start.ensures.gives.1 (then_stops c.in_ok-condition.ensures.gives.1 (then_stops c.in_ok-step.ensures.gives.1 (d))))))
+for_stmt-returns-in_err-body-clause-reads t c = exit _ _ _ c.from_residual-in_err-body.ensures.1 c.in_err-body.ensures.gives (λ d. then_stops c.in_ok-mark.ensures.parses (then_stops c.in_ok-open.ensures.parses (then_stops c.in_ok-start.ensures.gives.1 (then_stops c.in_ok-condition.ensures.gives.1 (then_stops c.in_ok-step.ensures.gives.1 d)))))
 
 pub for_stmt-returns-clause-reads : goal.for_stmt-returns-clause-reads
 for_stmt-returns-clause-reads t c =
@@ -249,19 +192,13 @@ pub block_items-list-init : goal.block_items-list-init
 block_items-list-init t c = record { onward = at_start (λ y z. v.as_stmts z ≡ c.new-all.result ++ v.as_stmts y) _ _ (λ y. ap (λ q. q ++ v.as_stmts y) (sym c.new-all.ensures)); fewer = omega arith }
 
 pub block_items-returns-in_err-more-clause-gives : goal.block_items-returns-in_err-more-clause-gives
-block_items-returns-in_err-more-clause-gives t c =
-    let p = err_from_is_err_and c.from_residual.result c.from_residual.ensures.1 in
-    exit _ _ _ (ahead c.args.reader.now) _ _ p.1 p.2 c.in_err-more.ensures.gives (λ d. stop_turn (λ y z. v.as_stmts z ≡ c.list.all ++ v.as_stmts y) g.block_items g.Locals _ _ _ (o.at_type (kind_of (ahead c.list.reader)) (ap begins_type (sym c.kind.ensures) ∙ sym c.begins_type.ensures ∙ c.if-begins_type.true)).1 (here_stops _ d) c.list.invariant.onward)
+block_items-returns-in_err-more-clause-gives t c = exit _ _ _ c.from_residual.ensures.1 c.in_err-more.ensures.gives (λ d. stop_turn (λ y z. v.as_stmts z ≡ c.list.all ++ v.as_stmts y) g.block_items g.Locals _ _ _ (o.at_type (kind_of (ahead c.list.reader)) (ap begins_type (sym c.kind.ensures) ∙ sym c.begins_type.ensures ∙ c.if-begins_type.true)).1 (here_stops _ d) c.list.invariant.onward)
 
 pub block_items-returns-in_err-item-clause-gives : goal.block_items-returns-in_err-item-clause-gives
-block_items-returns-in_err-item-clause-gives t c =
-    let p = err_from_is_err_and c.from_residual-in_err-item.result c.from_residual-in_err-item.ensures.1 in
-    exit _ _ _ (ahead c.args.reader.now) _ _ p.1 p.2 c.in_err-item.ensures.gives (λ d. stop_turn (λ y z. v.as_stmts z ≡ c.list.all ++ v.as_stmts y) g.block_items g.Stmts _ _ _ (o.no_item (kind_of (ahead c.list.reader)) (sym c.closes.ensures ∙ c.list-test.true) (ap begins_type (sym c.kind.ensures) ∙ sym c.begins_type.ensures ∙ c.if-begins_type.false)) (here_stops _ d) c.list.invariant.onward)
+block_items-returns-in_err-item-clause-gives t c = exit _ _ _ c.from_residual-in_err-item.ensures.1 c.in_err-item.ensures.gives (λ d. stop_turn (λ y z. v.as_stmts z ≡ c.list.all ++ v.as_stmts y) g.block_items g.Stmts _ _ _ (o.no_item (kind_of (ahead c.list.reader)) (sym c.closes.ensures ∙ c.list-test.true) (ap begins_type (sym c.kind.ensures) ∙ sym c.begins_type.ensures ∙ c.if-begins_type.false)) (here_stops _ d) c.list.invariant.onward)
 
 pub block_items-returns-in_err-end-clause-gives : goal.block_items-returns-in_err-end-clause-gives
-block_items-returns-in_err-end-clause-gives t c =
-    let p = err_from_is_err_and c.from_residual-in_err-end.result c.from_residual-in_err-end.ensures.1 in
-    exit _ _ _ (ahead c.args.reader.now) _ _ p.1 p.2 c.in_err-end.ensures.parses (λ d. stop_turn (λ y z. v.as_stmts z ≡ c.list.all ++ v.as_stmts y) g.block_items g.EndBlock _ _ _ (o.at_close (kind_of (ahead c.list.reader)) (sym c.closes.ensures ∙ c.list-test.false)).0 d c.list.invariant.onward)
+block_items-returns-in_err-end-clause-gives t c = exit _ _ _ c.from_residual-in_err-end.ensures.1 c.in_err-end.ensures.parses (λ d. stop_turn (λ y z. v.as_stmts z ≡ c.list.all ++ v.as_stmts y) g.block_items g.EndBlock _ _ _ (o.at_close (kind_of (ahead c.list.reader)) (sym c.closes.ensures ∙ c.list-test.false)).0 d c.list.invariant.onward)
 
 pub block_items-list-preserved-then-begins_type : goal.block_items-list-preserved-then-begins_type
 block_items-list-preserved-then-begins_type t c = record {

@@ -1,10 +1,10 @@
 use Rattle.std.proofs.Common.{◌≡◌, refl, sym, ap, ◌∙◌, ◌∷◌, [], ◌++◌, arith, append-nil}
-use Rattle.std.proofs.lemmas.Result.{err_from_is_err_and}
 use Rattle.ckc_syntax.specs.Spelled.{spelled}
 use Rattle.ckc_grammar.specs.Grammar.{k}
 use Rattle.ckc_grammar.specs.Marked.{ahead}
 use Rattle.ckc_grammar.specs.Reading.{kind_of}
-use Rattle.ckc_grammar.proofs.Steps.{also, then_stops, here_stops, exit}
+use Rattle.ckc_grammar.proofs.Steps.{also, then_stops, here_stops}
+use Rattle.ckc_expressions.proofs.Exits.{exit}
 use Rattle.ckc_grammar.proofs.Onward.{at_start, one_turn, last_turn, stop_turn}
 use Rattle.ckc_grammar.proofs.Lists.{next_item}
 use Rattle.ckc_grammar.specs.declared.kind.Kind.TheVariants as kind
@@ -17,14 +17,10 @@ pub list-init : goal.list-init
 list-init c = record { onward = at_start (λ y z. c.args.first ∷ c.args.second ∷ v.as_stmts z ≡ c.in_ok-all.all ++ v.as_stmts y) _ _ (λ y. ap (λ q. q ++ v.as_stmts y) (sym c.in_ok-all.ensures)); fewer = omega arith }
 
 pub returns-in_err-item-clause-gives : goal.returns-in_err-item-clause-gives
-returns-in_err-item-clause-gives c =
-    let p = err_from_is_err_and c.from_residual-in_err-item.result c.from_residual-in_err-item.ensures.1 in
-    exit _ _ _ (ahead c.args.reader.now) _ _ p.1 p.2 c.in_err-item.ensures.gives (λ d. stop_turn (λ y z. c.args.first ∷ c.args.second ∷ v.as_stmts z ≡ c.list.all ++ v.as_stmts y) g.assigns g.Assigns _ _ _ (o.no_close (kind_of (ahead c.list.reader)) (sym c.closes.ensures ∙ c.list-test.true)) (here_stops _ d) c.list.invariant.onward)
+returns-in_err-item-clause-gives c = exit _ _ _ c.from_residual-in_err-item.ensures.1 c.in_err-item.ensures.gives (λ d. stop_turn (λ y z. c.args.first ∷ c.args.second ∷ v.as_stmts z ≡ c.list.all ++ v.as_stmts y) g.assigns g.Assigns _ _ _ (o.no_close (kind_of (ahead c.list.reader)) (sym c.closes.ensures ∙ c.list-test.true)) (here_stops _ d) c.list.invariant.onward)
 
 pub returns-in_err-mark-clause-gives : goal.returns-in_err-mark-clause-gives
-returns-in_err-mark-clause-gives c =
-    let p = err_from_is_err_and c.from_residual-in_err-mark.result c.from_residual-in_err-mark.ensures.1 in
-    exit _ _ _ (ahead c.args.reader.now) _ _ p.1 p.2 c.in_err-mark.ensures.parses (λ d. stop_turn (λ y z. c.args.first ∷ c.args.second ∷ v.as_stmts z ≡ c.list.all ++ v.as_stmts y) g.assigns g.Assigns _ _ _ (o.no_close (kind_of (ahead c.list.reader)) (sym c.closes.ensures ∙ c.list-test.true)) (then_stops c.in_ok-item.ensures.gives.1 (here_stops _ d)) c.list.invariant.onward)
+returns-in_err-mark-clause-gives c = exit _ _ _ c.from_residual-in_err-mark.ensures.1 c.in_err-mark.ensures.parses (λ d. stop_turn (λ y z. c.args.first ∷ c.args.second ∷ v.as_stmts z ≡ c.list.all ++ v.as_stmts y) g.assigns g.Assigns _ _ _ (o.no_close (kind_of (ahead c.list.reader)) (sym c.closes.ensures ∙ c.list-test.true)) (then_stops c.in_ok-item.ensures.gives.1 (here_stops _ d)) c.list.invariant.onward)
 
 pub list-preserved : goal.list-preserved
 list-preserved c = record {
@@ -33,9 +29,7 @@ list-preserved c = record {
 }
 
 pub returns-in_err-end-clause-gives : goal.returns-in_err-end-clause-gives
-returns-in_err-end-clause-gives c =
-    let p = err_from_is_err_and c.from_residual-in_err-end.result c.from_residual-in_err-end.ensures.1 in
-    exit _ _ _ (ahead c.args.reader.now) _ _ p.1 p.2 c.in_err-end.ensures.parses (λ d. stop_turn (λ y z. c.args.first ∷ c.args.second ∷ v.as_stmts z ≡ c.list.all ++ v.as_stmts y) g.assigns g.EndAssigns _ _ _ (o.at_close (kind_of (ahead c.list.reader)) (sym c.closes.ensures ∙ c.list-test.false)).1 d c.list.invariant.onward)
+returns-in_err-end-clause-gives c = exit _ _ _ c.from_residual-in_err-end.ensures.1 c.in_err-end.ensures.parses (λ d. stop_turn (λ y z. c.args.first ∷ c.args.second ∷ v.as_stmts z ≡ c.list.all ++ v.as_stmts y) g.assigns g.EndAssigns _ _ _ (o.at_close (kind_of (ahead c.list.reader)) (sym c.closes.ensures ∙ c.list-test.false)).1 d c.list.invariant.onward)
 
 pub returns-clause-gives : goal.returns-clause-gives
 returns-clause-gives c =

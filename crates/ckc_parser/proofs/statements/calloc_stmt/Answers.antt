@@ -1,13 +1,13 @@
-use Rattle.std.proofs.Common.{◌≡◌, refl, sym, ap, ◌∙◌}
+use Rattle.std.proofs.Common.{◌≡◌, refl, sym, ap, ◌∙◌, ◌∷◌, []}
 use Rattle.ckc_syntax.specs.Spelled.{spelled}
 use Rattle.ckc_grammar.specs.Values.{made}
 use Rattle.ckc_grammar.specs.Grammar.{k}
 use Rattle.ckc_grammar.specs.Marked.{ahead}
 use Rattle.ckc_grammar.specs.Reading.{pick, kind_of}
-use Rattle.ckc_grammar.proofs.Steps.{chosen_as}
+use Rattle.ckc_grammar.proofs.Steps.{chosen_as, turned}
 use Rattle.ckc_grammar.specs.Grammar as g
 use Rattle.ckc_grammar.specs.Values as v
-use Rattle.ckc_grammar.proofs.Choices as o
+use Rattle.ckc_grammar.proofs.Defaults.{usual}
 use Rattle.ckc_parser.proofs.statements.calloc_stmt.Goals as goal
 
 pub returns-in-Less-clause-gives : goal.returns-in-Less-clause-gives
@@ -16,4 +16,4 @@ returns-in-Less-clause-gives c =
 
 pub returns-in_default-clause-gives : goal.returns-in_default-clause-gives
 returns-in_default-clause-gives c =
-    chosen_as (λ y. v.as_stmt_of_name y (spelled c.args.name)) (λ x vs. v.as_stmt_of_name (made g.CallocNameStmt vs) (spelled c.args.name) ≡ x) g.calloc_stmt g.CallocNameStmt _ _ c.calloc_name_stmt.result (o.other_calloc_stmt (kind_of (ahead c.args.reader.now)) (λ e. c.in_default.not-Less (c.kind.ensures ∙ e))) (λ k. refl) (λ x vs h. h) c.calloc_name_stmt.ensures.reads
+    chosen_as (λ y. v.as_stmt_of_name y (spelled c.args.name)) (λ x vs. v.as_stmt_of_name (made g.CallocNameStmt vs) (spelled c.args.name) ≡ x) g.calloc_stmt g.CallocNameStmt _ _ c.named_stmt.result (usual g.calloc_stmt (kind_of (ahead c.args.reader.now)) (λ e. c.in_default.not-Less (c.kind.ensures ∙ e))) (λ k. refl) (λ x vs h. h) (turned _ _ _ _ _ _ _ c.named_stmt.result (λ x h. (h.0 ∷ [], h.1, h.2)) (λ d. d) c.named_stmt.ensures.gives)

@@ -1,27 +1,20 @@
 use Rattle.std.proofs.Common.{sym, ap, ◌∙◌, ◌∷◌, []}
-use Rattle.std.proofs.lemmas.Result.{err_from_is_err_and}
 use Rattle.ckc_syntax.specs.Spelled.{spelled}
-use Rattle.ckc_grammar.specs.Marked.{ahead}
-use Rattle.ckc_grammar.proofs.Steps.{also, then_stops, here_stops, exit}
+use Rattle.ckc_grammar.proofs.Steps.{also, then_stops, here_stops}
+use Rattle.ckc_expressions.proofs.Exits.{exit}
 use Rattle.ckc_syntax.specs.declared.tree.Act.TheVariants as act
 use Rattle.ckc_grammar.specs.Values as v
 use Rattle.ckc_grammar.specs.Trees as trees
 use Rattle.ckc_parser.proofs.statements.calloc_type_stmt.Goals as goal
 
 pub returns-in_err-mark-clause-reads : goal.returns-in_err-mark-clause-reads
-returns-in_err-mark-clause-reads c =
-    let p = err_from_is_err_and c.from_residual.result c.from_residual.ensures.1 in
-    exit _ _ _ (ahead c.args.reader.now) _ _ p.1 p.2 c.in_err-mark.ensures.parses (λ d. here_stops _ d)
+returns-in_err-mark-clause-reads c = exit _ _ _ c.from_residual.ensures.1 c.in_err-mark.ensures.parses (λ d. here_stops _ d)
 
 pub returns-in_err-call-clause-reads : goal.returns-in_err-call-clause-reads
-returns-in_err-call-clause-reads c =
-    let p = err_from_is_err_and c.from_residual-in_err-call.result c.from_residual-in_err-call.ensures.1 in
-    exit _ _ _ (ahead c.args.reader.now) _ _ p.1 p.2 c.in_err-call.ensures.gives (λ d. then_stops c.in_ok-mark.ensures.parses (here_stops _ d))
+returns-in_err-call-clause-reads c = exit _ _ _ c.from_residual-in_err-call.ensures.1 c.in_err-call.ensures.gives (λ d. then_stops c.in_ok-mark.ensures.parses (here_stops _ d))
 
 pub returns-in_err-end-clause-reads : goal.returns-in_err-end-clause-reads
-returns-in_err-end-clause-reads c =
-    let p = err_from_is_err_and c.from_residual-in_err-end.result c.from_residual-in_err-end.ensures.1 in
-    exit _ _ _ (ahead c.args.reader.now) _ _ p.1 p.2 c.in_err-end.ensures.parses (λ d. then_stops c.in_ok-mark.ensures.parses (then_stops c.in_ok-call.ensures.gives.1 (d)))
+returns-in_err-end-clause-reads c = exit _ _ _ c.from_residual-in_err-end.ensures.1 c.in_err-end.ensures.parses (λ d. then_stops c.in_ok-mark.ensures.parses (then_stops c.in_ok-call.ensures.gives.1 d))
 
 pub returns-clause-reads : goal.returns-clause-reads
 returns-clause-reads c =

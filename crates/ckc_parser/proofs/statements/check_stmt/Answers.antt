@@ -1,36 +1,20 @@
 use Rattle.std.proofs.Common.{sym, ◌∷◌, []}
-use Rattle.std.proofs.lemmas.Result.{err_from_is_err_and}
 use Rattle.ckc_syntax.specs.Spelled.{spelled}
-use Rattle.ckc_grammar.specs.Marked.{ahead}
-use Rattle.ckc_grammar.proofs.Steps.{also, then_stops, here_stops, exit}
+use Rattle.ckc_grammar.proofs.Steps.{also, also_all, then_stops, then_all, here_stops, here_all}
+use Rattle.ckc_expressions.proofs.Exits.{exit}
 use Rattle.ckc_grammar.specs.Values as v
 use Rattle.ckc_parser.proofs.statements.check_stmt.Goals as goal
 
 pub returns-in_err-mark-clause-reads : goal.returns-in_err-mark-clause-reads
-returns-in_err-mark-clause-reads c =
-    let p = err_from_is_err_and c.from_residual.result c.from_residual.ensures.1 in
-    exit _ _ _ (ahead c.args.reader.now) _ _ p.1 p.2 c.in_err-mark.ensures.parses (λ d. here_stops _ d)
-
-pub returns-in_err-open-clause-reads : goal.returns-in_err-open-clause-reads
-returns-in_err-open-clause-reads c =
-    let p = err_from_is_err_and c.from_residual-in_err-open.result c.from_residual-in_err-open.ensures.1 in
-    exit _ _ _ (ahead c.args.reader.now) _ _ p.1 p.2 c.in_err-open.ensures.parses (λ d. then_stops c.in_ok-mark.ensures.parses (here_stops _ d))
+returns-in_err-mark-clause-reads c = exit _ _ _ c.from_residual.ensures.1 c.in_err-mark.ensures.parses (λ d. here_stops _ d)
 
 pub returns-in_err-condition-clause-reads : goal.returns-in_err-condition-clause-reads
-returns-in_err-condition-clause-reads c =
-    let p = err_from_is_err_and c.from_residual-in_err-condition.result c.from_residual-in_err-condition.ensures.1 in
-    exit _ _ _ (ahead c.args.reader.now) _ _ p.1 p.2 c.in_err-condition.ensures.parses (λ d. then_stops c.in_ok-mark.ensures.parses (then_stops c.in_ok-open.ensures.parses (here_stops _ d)))
-
-pub returns-in_err-close-clause-reads : goal.returns-in_err-close-clause-reads
-returns-in_err-close-clause-reads c =
-    let p = err_from_is_err_and c.from_residual-in_err-close.result c.from_residual-in_err-close.ensures.1 in
-    exit _ _ _ (ahead c.args.reader.now) _ _ p.1 p.2 c.in_err-close.ensures.parses (λ d. then_stops c.in_ok-mark.ensures.parses (then_stops c.in_ok-open.ensures.parses (then_stops c.in_ok-condition.ensures.parses (here_stops _ d))))
+returns-in_err-condition-clause-reads c = exit _ _ _ c.from_residual-in_err-condition.ensures.1 c.in_err-condition.ensures.tells (λ d. then_stops c.in_ok-mark.ensures.parses (here_all _ d))
 
 pub returns-in_err-end-clause-reads : goal.returns-in_err-end-clause-reads
-returns-in_err-end-clause-reads c =
-    let p = err_from_is_err_and c.from_residual-in_err-end.result c.from_residual-in_err-end.ensures.1 in
-    exit _ _ _ (ahead c.args.reader.now) _ _ p.1 p.2 c.in_err-end.ensures.parses (λ d. then_stops c.in_ok-mark.ensures.parses (then_stops c.in_ok-open.ensures.parses (then_stops c.in_ok-condition.ensures.parses (then_stops c.in_ok-close.ensures.parses (d)))))
+returns-in_err-end-clause-reads c = exit _ _ _ c.from_residual-in_err-end.ensures.1 c.in_err-end.ensures.parses (λ d. then_stops c.in_ok-mark.ensures.parses (then_all c.in_ok-condition.ensures.tells.1 d))
 
 pub returns-clause-reads : goal.returns-clause-reads
 returns-clause-reads c =
-    (v.token (spelled c.in_ok-mark.mark) ∷ v.token (spelled c.in_ok-open.open) ∷ v.expr c.in_ok-condition.condition ∷ v.token (spelled c.in_ok-close.close) ∷ v.token (spelled c.in_ok-end.end) ∷ [], (also c.in_ok-mark.ensures.parses (also c.in_ok-open.ensures.parses (also c.in_ok-condition.ensures.parses (also c.in_ok-close.ensures.parses c.in_ok-end.ensures.parses)))), sym c.in_ok-whole.ensures)
+    let marks = c.in_ok-condition.ensures.tells.0 in
+    (v.token (spelled c.in_ok-mark.mark) ∷ marks.0 ∷ v.expr c.in_ok-condition.condition ∷ marks.1 ∷ v.token (spelled c.in_ok-end.end) ∷ [], also c.in_ok-mark.ensures.parses (also_all c.in_ok-condition.ensures.tells.1 c.in_ok-end.ensures.parses), sym c.in_ok-whole.ensures)

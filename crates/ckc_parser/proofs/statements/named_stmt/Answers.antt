@@ -7,7 +7,7 @@ use Rattle.ckc_grammar.specs.Reading.{pick, kind_of}
 use Rattle.ckc_grammar.proofs.Steps.{chosen_as}
 use Rattle.ckc_grammar.specs.Grammar as g
 use Rattle.ckc_grammar.specs.Values as v
-use Rattle.ckc_grammar.proofs.Choices as o
+use Rattle.ckc_grammar.proofs.Defaults.{usual}
 use Rattle.ckc_parser.proofs.statements.named_stmt.Goals as goal
 
 pub returns-in-RoundOpen-clause-gives : goal.returns-in-RoundOpen-clause-gives
@@ -16,4 +16,4 @@ returns-in-RoundOpen-clause-gives c =
 
 pub returns-in_default-clause-gives : goal.returns-in_default-clause-gives
 returns-in_default-clause-gives c =
-    chosen_as (λ y. v.as_stmt_of_name y (spelled c.args.name)) (λ x vs. v.as_stmt_of_name (made g.NamedAssign vs) (spelled c.args.name) ≡ x) g.named_stmt g.NamedAssign _ _ c.named_assign.result (o.other_named_stmt (kind_of (ahead c.args.reader.now)) (λ e. c.in_default.not-RoundOpen (c.kind.ensures ∙ e))) (λ k. refl) (λ x vs h. h) c.named_assign.ensures.reads
+    chosen_as (λ y. v.as_stmt_of_name y (spelled c.args.name)) (λ x vs. v.as_stmt_of_name (made g.NamedAssign vs) (spelled c.args.name) ≡ x) g.named_stmt g.NamedAssign _ _ c.named_assign.result (usual g.named_stmt (kind_of (ahead c.args.reader.now)) (λ e. c.in_default.not-RoundOpen (c.kind.ensures ∙ e))) (λ k. refl) (λ x vs h. h) c.named_assign.ensures.reads
