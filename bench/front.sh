@@ -8,6 +8,11 @@
 # which 1 and 50 assignments are judged.
 . "$(dirname "$0")/workspace.sh"
 
+# The program itself; what the launcher takes to see that it is built has a row of its own.
+"$top/ccc" --version > "$work/said" || { cat "$work/said" >&2; exit 1; }
+program=$top/crates/ckc_main/out/ckc_main
+[ -x "$program" ] || "$top/ccc" exec "$top/examples/hello.c" > "$work/said"
+
 # The milliseconds of processor time that a call of a command takes, which ends in a status of those given:
 # `average '0 113' COMMAND..`.
 TIMEFORMAT='%U %S'
@@ -25,7 +30,7 @@ fill() { head -c $(($2 - $(stat -c %s "$1"))) /dev/zero | tr '\0' '\n' >> "$1"; 
 for kind in functions 'long names' objects locals 'nested blocks' 'nested expressions' prototypes calls initialisers structures; do
   awk -v kind="$kind" -v half=1 -f "$top/bench/front/text.awk" > "$work/text.c"
   fill "$work/text.c" 262144
-  ours=$(average '0 113' "$top/ccc" interp "$work/text.c")
+  ours=$(average '0 113' "$program" interp "$work/text.c")
   refused=$(sed -n 's/^refused: \(E[0-9]*\).*/, refused as \1/p' "$work/said")
   peer=$(average 0 gcc -w -fsyntax-only "$work/text.c")
   row "front, $kind$refused" "$ours beside $peer" "ms a file, ccc beside gcc -fsyntax-only"
@@ -44,8 +49,8 @@ text() { # bytes functions
 }
 for half in 2 1; do
   text $((262144 / half)) $((16 / half))
-  row "front, $((262144 / half)) bytes" "$(average 0 "$top/ccc" interp "$work/text")" "ms a file"
-  row "build, $((262144 / half)) bytes" "$(average 0 "$top/ccc" build "$work/text" "$work/image")" "ms a file"
+  row "front, $((262144 / half)) bytes" "$(average 0 "$program" interp "$work/text")" "ms a file"
+  row "build, $((262144 / half)) bytes" "$(average 0 "$program" build "$work/text" "$work/image")" "ms a file"
 done
 
 facts() { # assignments
@@ -65,5 +70,6 @@ facts() { # assignments
 }
 for count in 1 50; do
   facts "$count" > "$work/text"
-  row "bounds, chains of 100 facts, $((16 * count)) assignments" "$(average 0 "$top/ccc" interp "$work/text")" "ms a file"
+  row "bounds, chains of 100 facts, $((16 * count)) assignments" "$(average 0 "$program" interp "$work/text")" "ms a file"
 done
+row "launcher, beside the program" "$(average 0 "$top/ccc" exec "$top/examples/hello.c") beside $(average 0 "$program" exec "$top/examples/hello.c")" "ms a call"
