@@ -8,10 +8,9 @@
 # which 1 and 50 assignments are judged.
 . "$(dirname "$0")/workspace.sh"
 
-# The program itself; what the launcher takes to see that it is built has a row of its own.
-"$top/ccc" --version > "$work/said" || { cat "$work/said" >&2; exit 1; }
+# The program itself, built by the launcher, whose own time has a row at the end.
+"$top/ccc" exec "$top/examples/hello.c" > "$work/said"
 program=$top/crates/ckc_main/out/ckc_main
-[ -x "$program" ] || "$top/ccc" exec "$top/examples/hello.c" > "$work/said"
 
 # The milliseconds of processor time that a call of a command takes, which ends in a status of those given:
 # `average '0 113' COMMAND..`.
