@@ -5,3 +5,6 @@ pub mod Seeing
 pub mod Simulating
 pub mod Listed
 pub mod Phases
+pub mod Turns
+pub mod Sequels
+pub mod WordValues

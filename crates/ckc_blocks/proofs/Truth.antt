@@ -6,7 +6,7 @@ use Rattle.std.specs.List.{list_any}
 use Rattle.ckc_source.specs.declared.expr.Pointee.{Pointee}
 use Rattle.ckc_source.specs.declared.program.Shape.{Shape}
 use Rattle.ckc_source.specs.declared.program.MemberRun.{MemberRun}
-use Rattle.ckc_source.specs.Types.{same_type}
+use Rattle.ckc_types.specs.Same.{same_type}
 use Rattle.ckc_source.specs.Blocks.{Block, end_of}
 use Rattle.ckc_source.specs.Runs.{is_within, is_in_block, is_in_member, is_in_some_element, member_runs, is_in, is_true}
 use Rattle.ckc_blocks.specs.declared.block.Block as held_by

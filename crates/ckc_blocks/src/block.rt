@@ -8,10 +8,9 @@ ghost use Rattle.ckc_types.specs.declared.types.CType.{out-CType};
 ghost use Rattle.ckc_source.specs.Runs.{is_within, is_in_block, is_in_member, is_in, runs_of, runs_in, is_in_some_element};
 ghost use Rattle.ckc_blocks.specs.Held.{view, is_at_element};
 
-use crate::types::same_type;
 use ckc_base::{Seq, Width};
 use ckc_source::{MemberRun, Pointee, Shape};
-use ckc_types::CType;
+use ckc_types::{CType, same_type};
 
 /// A block: its base, the type and the size of an element, how many there are, whether they are a null-terminated
 /// array, whether checked pointers with known limits may point into it, and its bytes.

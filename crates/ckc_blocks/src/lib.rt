@@ -3,6 +3,5 @@
 
 mod block;
 mod blocks;
-mod types;
 
 pub use blocks::Blocks;

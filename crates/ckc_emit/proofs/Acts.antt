@@ -30,7 +30,8 @@ use Rattle.ckc_emit.proofs.Steps.{load_step, store_step}
 use Rattle.ckc_emit.proofs.Paths.{Code, Path, straight, followed, loosened, Sets, set_by}
 use Rattle.ckc_emit.proofs.FrameWords.{sets_value, load_sets}
 use Rattle.ckc_emit.proofs.Homes.{register_is, slot_word, settle_writes, HasValue, HasPlaces, IsFramed, framed_kept, Writes, write_after, source_low, writes_loosened}
-use Rattle.ckc_emit.proofs.Values.{applied_word, high_word}
+use Rattle.ckc_base.proofs.WordValues.{applied_word}
+use Rattle.ckc_emit.proofs.Values.{high_word}
 use Rattle.ckc_emit.proofs.Acting.{const_writes}
 use Rattle.ckc_emit.proofs.Splits.{moved_none}
 use Rattle.ckc_emit.specs.declared.places.PlacedOperand.{PlacedOperand}

@@ -8,7 +8,7 @@ use Rattle.ckc_source.specs.declared.program.MemberRun.{MemberRun}
 use Rattle.ckc_source.specs.declared.program.Shape.{Shape}
 use Rattle.ckc_source.specs.LaidOut.{AreApart}
 use Rattle.ckc_source.specs.Blocks.{Block, end_of}
-use Rattle.ckc_source.specs.Types.{same_type}
+use Rattle.ckc_source.specs.Same.{same_type}
 use Rattle.ckc_source.specs.Runs.{is_within, is_in_block, any_below, is_at, is_in_some_element, is_in_member, member_runs, is_in, is_true}
 use Rattle.ckc_inserted.proofs.Bytes.{and_true, apart_ordered}
 

@@ -1,4 +1,4 @@
-pub mod Types
+pub use Rattle.ckc_types.specs.Same
 pub mod Code
 pub mod Blocks
 pub mod LaidOut

@@ -6,7 +6,7 @@ use Rattle.ckc_types.specs.declared.types.CType.{CType, CType-F, out-CType}
 use Rattle.ckc_source.specs.declared.expr.Pointee.{Pointee}
 use Rattle.ckc_source.specs.declared.program.MemberRun.{MemberRun}
 use Rattle.ckc_source.specs.declared.program.Shape.{Shape}
-use Rattle.ckc_source.specs.Types.{same_type}
+use Rattle.ckc_types.specs.Same.{same_type}
 use Rattle.ckc_source.specs.Blocks.{Block, end_of}
 
 -- The range from low to high, and the pointer n, lie in the run from begin to end: both ends are within it, and all

@@ -3,3 +3,4 @@ pub mod Layout
 pub mod Multiples
 pub mod Places
 pub mod Scalars
+pub mod Same

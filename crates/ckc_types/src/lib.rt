@@ -3,7 +3,9 @@
 
 pub mod laws;
 mod layout;
+mod same;
 mod types;
 
 pub use layout::{align, offset, size};
+pub use same::same_type;
 pub use types::{CType, Kind, MemberBounds, MemberShape, StructShape, Structs};

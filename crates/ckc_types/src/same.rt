@@ -1,9 +1,9 @@
 //! When two types are the same.
 
 ghost use Rattle.std.specs.Prelude.{◌≡◌};
-ghost use Rattle.ckc_source.specs.Types.{same_type};
+ghost use Rattle.ckc_types.specs.Same.{same_type};
 
-use ckc_types::CType;
+use crate::types::CType;
 
 /// Whether two types are the same.
 pub fn same_type(t: &CType, u: &CType) -> bool
