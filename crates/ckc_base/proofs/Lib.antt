@@ -5,6 +5,4 @@ pub mod Seeing
 pub mod Simulating
 pub mod Listed
 pub mod Phases
-pub mod Turns
-pub mod Sequels
 pub mod WordValues

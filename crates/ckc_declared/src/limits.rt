@@ -7,7 +7,7 @@ ghost use Rattle.ckc_syntax.specs.declared.tree.Node.{out-Node};
 ghost use Rattle.ckc_points.specs.Frames.{local_at};
 ghost use Rattle.ckc_typed.specs.Types.{element_of};
 ghost use Rattle.ckc_typed.specs.Constants.{size_of};
-ghost use Rattle.ckc_typed.specs.Amounts.{variable_in, number_in, negative, fixed, moved, or_amount, sum_amount};
+ghost use Rattle.ckc_typed.specs.Amounts.{number_in};
 ghost use Rattle.ckc_points.specs.Forms.{elements};
 ghost use Rattle.ckc_declared.specs.Written.{own, is_integer_member, member_variable, variable_for, amount_with, amount_form, counted, is_checked, local_base, is_element, array_base, named_base, named_pieces, negative_amount, sum_pieces, node_pieces, bound_with, bound, known_between, takes_ends, bounds_written, takes_bounds, bounds_by_type, place_of_limits, bounds_taken, bounds_declared};
 
@@ -15,11 +15,11 @@ use ckc_base::{Boxed, Fault, Pos, refused};
 use ckc_linear::{Base, Form};
 use ckc_points::{
     Bounds, Frame, base_form, constant_form, elements, is_within, local_at, moved_form,
-    negative_value, same_element, sum_of_forms, variable,
+    same_element, sum_of_forms, variable,
 };
 use ckc_syntax::{Expr, Length, Limits, Name, Node, TreeOp};
-use ckc_typed::amounts::amount;
-use ckc_typed::constants::{constant, members_of, size_of, value_of};
+use ckc_typed::amounts::{amount, fixed, negative_in, sum_amount, variable_in};
+use ckc_typed::constants::{members_of, size_of};
 use ckc_typed::types::{element_of, is_integer, kind_of, kind_of_array, same_type};
 use ckc_typed::{Amount, Note};
 use ckc_types::{CType, Kind, Structs};
@@ -187,97 +187,6 @@ fn named_base(frame: &Frame, t: &CType, name: Name) -> Option<Form>
         Name::Local(k) => local_base(frame, t, k),
         Name::Static(k) => array_base(frame, t, k),
         _ => None,
-    }
-}
-
-fn variable_in(e: &Expr<Name, Note>) -> Option<Name>
-    ensures { result ≡ variable_in e.now }
-{
-    match &e.node {
-        Node::Name(n) => Some(*n),
-        _ => None,
-    }
-}
-
-fn number_in(
-    alloc: Global,
-    structs: &Structs,
-    e: &Expr<Name, Note>,
-) -> Result<Option<i64>, AllocError>
-    ensures { IfOk result (λ n. n ≡ number_in structs.now e.now) }
-{
-    let c = constant(alloc, structs, e)?;
-    match c {
-        Some(c) => Ok(Some(value_of(c))),
-        None => Ok(None),
-    }
-}
-
-fn negative_in(
-    alloc: Global,
-    structs: &Structs,
-    e: &Expr<Name, Note>,
-) -> Result<Option<i64>, AllocError>
-    ensures { IfOk result (λ n. n ≡ negative (number_in structs.now e.now)) }
-{
-    let c = constant(alloc, structs, e)?;
-    match c {
-        Some(c) => Ok(Some(negative_value(c))),
-        None => Ok(None),
-    }
-}
-
-fn fixed(number: i64) -> Amount
-    ensures { result ≡ fixed number }
-{
-    Amount {
-        variable: None,
-        number,
-    }
-}
-
-fn moved(variable: Option<Name>, by: Option<i64>) -> Option<Amount>
-    ensures { result ≡ moved variable by }
-{
-    match (variable, by) {
-        (Some(n), Some(number)) => Some(Amount {
-            variable: Some(n),
-            number,
-        }),
-        (Some(_), None) => None,
-        (None, _) => None,
-    }
-}
-
-fn or_amount(amount: Option<Amount>, other: Option<Amount>) -> Option<Amount>
-    ensures { result ≡ or_amount amount other }
-{
-    match amount {
-        None => other,
-        Some(a) => Some(a),
-    }
-}
-
-fn sum_amount(
-    alloc: Global,
-    structs: &Structs,
-    op: TreeOp,
-    e: &Expr<Name, Note>,
-    f: &Expr<Name, Note>,
-) -> Result<Option<Amount>, AllocError>
-    ensures { IfOk result (λ a. a ≡ sum_amount structs.now op e.now f.now) }
-{
-    match op {
-        TreeOp::Add => {
-            let c = number_in(alloc, structs, f)?;
-            let d = number_in(alloc, structs, e)?;
-            Ok(or_amount(moved(variable_in(e), c), moved(variable_in(f), d)))
-        }
-        TreeOp::Sub => {
-            let c = negative_in(alloc, structs, f)?;
-            Ok(moved(variable_in(e), c))
-        }
-        _ => Ok(None),
     }
 }
 

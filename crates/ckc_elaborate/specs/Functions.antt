@@ -8,7 +8,7 @@ use Rattle.ckc_source.specs.Code.{Function}
 use Rattle.ckc_elaborate.specs.Results.{result_limits}
 use Rattle.ckc_elaborate.specs.Lists.{numbered}
 use Rattle.ckc_elaborate.specs.Objects.{count_declared}
-use Rattle.ckc_elaborate.specs.Variables.{variables_of}
+use Rattle.ckc_typed.specs.Environment.{variables_of}
 use Rattle.ckc_elaborate.specs.Literals.{literals_of_bounds, literals_of_decl, literals_of_decls}
 use Rattle.ckc_elaborate.specs.Steps.{spot}
 use Rattle.ckc_elaborate.specs.Statements.{alone, part_of, stmt_elaborated}

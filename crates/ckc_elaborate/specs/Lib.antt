@@ -1,6 +1,5 @@
 pub mod Lists
 pub mod Names
-pub mod Variables
 pub mod Literals
 pub mod Steps
 pub mod Made

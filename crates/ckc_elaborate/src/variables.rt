@@ -1,8 +1,7 @@
 //! The variables that an expression of a function sees.
 
 ghost use Rattle.std.specs.Prelude.{◌≡◌, [], ◌∷◌, ◌++◌, IfOk, OnOk, map};
-ghost use Rattle.ckc_typed.specs.Environment.{joined_variables};
-ghost use Rattle.ckc_elaborate.specs.Variables.{variable_declared, locals_of, locals_of_act, locals_of_part, variables_of};
+ghost use Rattle.ckc_typed.specs.Environment.{joined_variables, variable_declared, locals_of, locals_of_act, locals_of_part, variables_of};
 
 use ckc_base::{Boxed, Seq};
 use ckc_syntax::{Act, Decl, Head, Name, Stmt};

@@ -11,7 +11,7 @@ use Rattle.ckc_frame.specs.declared.code.Place.TheVariants as place
 use Rattle.ckc_frame.specs.Places.{is_kept_home}
 use Rattle.ckc_frame.specs.WellFormed.{IsPlace}
 use Rattle.ckc_emit.specs.Lines.{register_of, offset_of}
-use Rattle.ckc_emit.specs.CallLines.{place_at, is_saved, save_lines, saves_lines, restore_lines, restores_lines, depth_lines, argument_lines, arguments_lines, visit_lines, call_lines, result_lines}
+use Rattle.ckc_emit.specs.CallLines.{place_at, each_lines, is_saved, save_lines, saves_lines, restore_lines, restores_lines, depth_lines, argument_lines, arguments_lines, visit_lines, call_lines, result_lines}
 use Rattle.ckc_emit.proofs.PlaceAt.{place_is}
 use Rattle.ckc_emit.proofs.Pieces.{Adds, nothing, then_adds, more_adds, far_adds, either_adds}
 use Rattle.ckc_emit.proofs.Added.{register_low, lui_adds, reg_adds, move_adds, loads_add, stores_add, near_load_adds, near_store_adds, check_adds, settle_adds}
@@ -27,7 +27,7 @@ module _ (labels k : ℕ) where
       (λ e. more_adds labels 1 (omega arith) (nothing labels k ys))
 
   saves_add : (test : ℕ → Bool) (count j : ℕ) (ys : List Line) → j + count ≤ 12 → Adding count (saves_lines test count j ys) ys
-  unfolding saves_lines
+  unfolding each_lines
   saves_add test zero j ys h = nothing labels k ys
   saves_add test (suc count) j ys h =
       more_adds labels (suc count) (omega arith) (then_adds labels (save_adds (test j) j _ (omega arith)) (saves_add test count (j + 1) ys (omega arith)))
@@ -39,7 +39,7 @@ module _ (labels k : ℕ) where
       (λ e. more_adds labels 1 (omega arith) (nothing labels k ys))
 
   restores_add : (test : ℕ → Bool) (count j : ℕ) (ys : List Line) → j + count ≤ 12 → Adding count (restores_lines test count j ys) ys
-  unfolding restores_lines
+  unfolding each_lines
   restores_add test zero j ys h = nothing labels k ys
   restores_add test (suc count) j ys h =
       more_adds labels (suc count) (omega arith) (then_adds labels (restore_adds (test j) j _ (omega arith)) (restores_add test count (j + 1) ys (omega arith)))

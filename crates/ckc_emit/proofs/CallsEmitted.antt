@@ -7,8 +7,8 @@ use Rattle.ckc_lines.specs.declared.lines.Line.{Line}
 use Rattle.ckc_frame.specs.declared.code.Place.{Place}
 use Rattle.ckc_frame.specs.Places.{is_kept_home}
 use Rattle.ckc_emit.specs.Emitting.{Emits}
-use Rattle.ckc_emit.specs.CallLines.{is_argument_home, is_saved, saves_lines, restores_lines, depth_lines, arguments_lines, visit_lines, call_lines, result_lines}
-use Rattle.ckc_emit.proofs.Looping.{saves_same, restores_same}
+use Rattle.ckc_emit.specs.CallLines.{is_argument_home, is_saved, save_lines, saves_lines, restore_lines, restores_lines, depth_lines, arguments_lines, visit_lines, call_lines, result_lines}
+use Rattle.ckc_emit.proofs.Looping.{each_same}
 
 pub on_ok : {A E : Type 0} (r : Result A E) {P Q : Type 0} → (P → Q) → OnOk r P → OnOk r Q
 on_ok (Ok x) f h = f h
@@ -22,10 +22,10 @@ pub call_emits : {A E : Type 0} (r : Result A E) (homes : List Place) (row : Lis
 call_emits r homes row params label rs at kept saved o p q s t u k m a b c d e =
     on_ok r (λ (f : Emits t u (restores_lines (λ j. get_or kept j false) 12 0)) (rest : List Line).
     let back : List Line = restores_lines (λ j. is_kept_home j homes row) 12 0 rest in
-    let same : restores_lines (λ j. get_or kept j false) 12 0 rest ≡ back = restores_same (λ j. get_or kept j false) (λ j. is_kept_home j homes row) 12 0 rest (λ j h. k j (omega arith)) in
+    let same : restores_lines (λ j. get_or kept j false) 12 0 rest ≡ back = each_same restore_lines (λ j. get_or kept j false) (λ j. is_kept_home j homes row) 12 0 rest (λ j h. k j (omega arith)) in
     let there : List Line = depth_lines at (arguments_lines homes rs 0 params (visit_lines label back)) in
     let first : saves_lines (λ j. get_or saved j false) 12 0 there ≡ saves_lines (is_saved homes row rs) 12 0 there =
-    saves_same (λ j. get_or saved j false) (is_saved homes row rs) 12 0 there (λ j h. m j (omega arith) ∙ ap (λ x. x || is_argument_home j homes rs) (k j (omega arith))) in
+    each_same save_lines (λ j. get_or saved j false) (is_saved homes row rs) 12 0 there (λ j h. m j (omega arith) ∙ ap (λ x. x || is_argument_home j homes rs) (k j (omega arith))) in
     f rest ∙ ap (λ l. t ++ l) same ∙ d back ∙ c (visit_lines label back) ∙ b (arguments_lines homes rs 0 params (visit_lines label back)) ∙ a there ∙ ap (λ l. o ++ l) first) e
 
 -- ---- with the result, and with what is read from lists

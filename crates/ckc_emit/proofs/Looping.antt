@@ -5,7 +5,7 @@ use Rattle.ckc_lines.specs.declared.lines.Line.{Line}
 use Rattle.ckc_frame.specs.declared.code.Place.{Place}
 use Rattle.ckc_frame.specs.Places.{number_of, home, is_kept_home}
 use Rattle.ckc_emit.specs.Emitting.{Emits}
-use Rattle.ckc_emit.specs.CallLines.{place_at, is_argument_home, save_lines, saves_lines, restore_lines, restores_lines, argument_lines, arguments_lines}
+use Rattle.ckc_emit.specs.CallLines.{place_at, is_argument_home, each_lines, argument_lines, arguments_lines}
 use Rattle.ckc_emit.proofs.PlaceAt.{home_is}
 
 or_assoc : (a b c : Bool) → ((a || b) || c) ≡ (a || (b || c))
@@ -83,61 +83,34 @@ kept_done q n homes row found h i = sym (or_false found) ∙ ap (λ b. found || 
 
 -- ---- registers that are saved and restored
 
-saves_more : (test : ℕ → Bool) (k : ℕ) (rest : List Line) → k < 12 → saves_lines test (12 - k) k rest ≡ save_lines (test k) k (saves_lines test (12 - (k + 1)) (k + 1) rest)
-unfolding saves_lines
-saves_more test k rest h =
-    let e : 12 - k ≡ suc (12 - (k + 1)) = omega arith in
-    ap (λ n. saves_lines test n k rest) e
+module _ (line : Bool → ℕ → List Line → List Line) where
+  each_more : (test : ℕ → Bool) (k : ℕ) (rest : List Line) → k < 12 → each_lines line test (12 - k) k rest ≡ line (test k) k (each_lines line test (12 - (k + 1)) (k + 1) rest)
+  unfolding each_lines
+  each_more test k rest h =
+      let e : 12 - k ≡ suc (12 - (k + 1)) = omega arith in
+      ap (λ n. each_lines line test n k rest) e
 
-pub saves_turn : (test : ℕ → Bool) (old out new : List Line) (k : ℕ) → k < 12 → Emits out new (save_lines (test k) k)
-    → ((rest : List Line) → out ++ saves_lines test (12 - k) k rest ≡ old ++ saves_lines test 12 0 rest)
-    → (rest : List Line) → new ++ saves_lines test (12 - (k + 1)) (k + 1) rest ≡ old ++ saves_lines test 12 0 rest
-saves_turn test old out new k h e i rest =
-    e (saves_lines test (12 - (k + 1)) (k + 1) rest) ∙ ap (λ l. out ++ l) (sym (saves_more test k rest h)) ∙ i rest
+  pub each_turn : (test : ℕ → Bool) (old out new : List Line) (k : ℕ) → k < 12 → Emits out new (line (test k) k)
+      → ((rest : List Line) → out ++ each_lines line test (12 - k) k rest ≡ old ++ each_lines line test 12 0 rest)
+      → (rest : List Line) → new ++ each_lines line test (12 - (k + 1)) (k + 1) rest ≡ old ++ each_lines line test 12 0 rest
+  each_turn test old out new k h e i rest =
+      e (each_lines line test (12 - (k + 1)) (k + 1) rest) ∙ ap (λ l. out ++ l) (sym (each_more test k rest h)) ∙ i rest
 
-pub saves_same : (t u : ℕ → Bool) (count k : ℕ) (rest : List Line) → ((j : ℕ) → j < k + count → t j ≡ u j) → saves_lines t count k rest ≡ saves_lines u count k rest
-unfolding saves_lines
-saves_same t u zero k rest h = refl
-saves_same t u (suc count) k rest h =
-    ap (λ b. save_lines b k (saves_lines t count (k + 1) rest)) (h k (omega arith))
-    ∙ ap (λ l. save_lines (u k) k l) (saves_same t u count (k + 1) rest (λ j below. h j (omega arith)))
+  pub each_same : (t u : ℕ → Bool) (count k : ℕ) (rest : List Line) → ((j : ℕ) → j < k + count → t j ≡ u j) → each_lines line t count k rest ≡ each_lines line u count k rest
+  unfolding each_lines
+  each_same t u zero k rest h = refl
+  each_same t u (suc count) k rest h =
+      ap (λ b. line b k (each_lines line t count (k + 1) rest)) (h k (omega arith))
+      ∙ ap (λ l. line (u k) k l) (each_same t u count (k + 1) rest (λ j below. h j (omega arith)))
 
-restores_more : (test : ℕ → Bool) (k : ℕ) (rest : List Line) → k < 12 → restores_lines test (12 - k) k rest ≡ restore_lines (test k) k (restores_lines test (12 - (k + 1)) (k + 1) rest)
-unfolding restores_lines
-restores_more test k rest h =
-    let e : 12 - k ≡ suc (12 - (k + 1)) = omega arith in
-    ap (λ n. restores_lines test n k rest) e
+  -- nothing of them is left
+  each_none : (test : ℕ → Bool) (out rest : List Line) → out ++ each_lines line test 0 12 rest ≡ out ++ rest
+  unfolding each_lines
+  each_none test out rest = refl
 
-pub restores_turn : (test : ℕ → Bool) (old out new : List Line) (k : ℕ) → k < 12 → Emits out new (restore_lines (test k) k)
-    → ((rest : List Line) → out ++ restores_lines test (12 - k) k rest ≡ old ++ restores_lines test 12 0 rest)
-    → (rest : List Line) → new ++ restores_lines test (12 - (k + 1)) (k + 1) rest ≡ old ++ restores_lines test 12 0 rest
-restores_turn test old out new k h e i rest =
-    e (restores_lines test (12 - (k + 1)) (k + 1) rest) ∙ ap (λ l. out ++ l) (sym (restores_more test k rest h)) ∙ i rest
-
-pub restores_same : (t u : ℕ → Bool) (count k : ℕ) (rest : List Line) → ((j : ℕ) → j < k + count → t j ≡ u j) → restores_lines t count k rest ≡ restores_lines u count k rest
-unfolding restores_lines
-restores_same t u zero k rest h = refl
-restores_same t u (suc count) k rest h =
-    ap (λ b. restore_lines b k (restores_lines t count (k + 1) rest)) (h k (omega arith))
-    ∙ ap (λ l. restore_lines (u k) k l) (restores_same t u count (k + 1) rest (λ j below. h j (omega arith)))
-
--- ---- nothing of them is left
-
-saves_none : (test : ℕ → Bool) (out rest : List Line) → out ++ saves_lines test 0 12 rest ≡ out ++ rest
-unfolding saves_lines
-saves_none test out rest = refl
-
-pub saves_done : (test : ℕ → Bool) (old out : List Line) (k : ℕ) → k ≡ 12 → ((rest : List Line) → out ++ saves_lines test (12 - k) k rest ≡ old ++ saves_lines test 12 0 rest) → Emits old out (saves_lines test 12 0)
-saves_done test old out k e i rest =
-    sym (saves_none test out rest) ∙ subst (λ q. out ++ saves_lines test (12 - q) q rest ≡ old ++ saves_lines test 12 0 rest) e (i rest)
-
-restores_none : (test : ℕ → Bool) (out rest : List Line) → out ++ restores_lines test 0 12 rest ≡ out ++ rest
-unfolding restores_lines
-restores_none test out rest = refl
-
-pub restores_done : (test : ℕ → Bool) (old out : List Line) (k : ℕ) → k ≡ 12 → ((rest : List Line) → out ++ restores_lines test (12 - k) k rest ≡ old ++ restores_lines test 12 0 rest) → Emits old out (restores_lines test 12 0)
-restores_done test old out k e i rest =
-    sym (restores_none test out rest) ∙ subst (λ q. out ++ restores_lines test (12 - q) q rest ≡ old ++ restores_lines test 12 0 rest) e (i rest)
+  pub each_done : (test : ℕ → Bool) (old out : List Line) (k : ℕ) → k ≡ 12 → ((rest : List Line) → out ++ each_lines line test (12 - k) k rest ≡ old ++ each_lines line test 12 0 rest) → Emits old out (each_lines line test 12 0)
+  each_done test old out k e i rest =
+      sym (each_none test out rest) ∙ subst (λ q. out ++ each_lines line test (12 - q) q rest ≡ old ++ each_lines line test 12 0 rest) e (i rest)
 
 -- ---- arguments
 

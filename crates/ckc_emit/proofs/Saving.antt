@@ -5,7 +5,7 @@ use Rattle.ckc_rv.specs.Machine.{stack_start, memory_end}
 use Rattle.ckc_rv.specs.Detailed.{MachineEvent, Wrote}
 use Rattle.ckc_lines.specs.declared.lines.Line.{Line}
 use Rattle.ckc_emit.specs.Lines.{register_of, load_lines, store_lines}
-use Rattle.ckc_emit.specs.CallLines.{saves_lines, restores_lines}
+use Rattle.ckc_emit.specs.CallLines.{each_lines, saves_lines, restores_lines}
 use Rattle.ckc_emit.proofs.Local.{Local, changed_same, changed_other}
 use Rattle.ckc_emit.proofs.Paths.{Code, Path, stay, followed, loosened}
 use Rattle.ckc_emit.proofs.FrameWords.{IsStackWord, near_load_part, near_store_puts}
@@ -96,7 +96,7 @@ module _ (c : Code) where
       }
 
   pub restores : (test : ℕ → Bool) (count k : ℕ) (rest : List Line) (l : Local) → k + count ≤ 12 → IsFramed l → Restores test count k (restores_lines test count k rest) rest l
-  unfolding restores_lines
+  unfolding each_lines
   restores test zero k rest l few f = record {
     next = l;
     path = stay c rest l;
@@ -181,7 +181,7 @@ module _ (c : Code) where
       }
 
   pub saves : (test : ℕ → Bool) (count k : ℕ) (rest : List Line) (l : Local) → k + count ≤ 12 → IsFramed l → Saves test count k (saves_lines test count k rest) rest l
-  unfolding saves_lines
+  unfolding each_lines
   saves test zero k rest l few f = record {
     next = l;
     events = [];

@@ -7,6 +7,7 @@ use Rattle.std.proofs.lemmas.Bool.Decides.{nat_tests}
 use Rattle.std.proofs.lemmas.Bool.{cases_lt, cases_eq}
 use Rattle.std.proofs.Math.Path.{fun_ext}
 use Rattle.ckc_rv.specs.Machine.{Parts, Memory, loaded, stored, with_byte, data_start, stack_start, memory_end}
+use Rattle.ckc_rv.proofs.Stored.{with_byte_same, with_byte_other, stored_inside, stored_outside}
 use Rattle.ckc_emit.proofs.Local.{changed, changed_same, changed_other, memory_of, memory_below, memory_data, memory_stack, memory_above}
 use Rattle.ckc_emit.proofs.Tests.{small_part}
 
@@ -75,15 +76,6 @@ loaded_same m n (suc count) a h =
 
 -- ---- stores
 
--- two memories are one where they agree in the data region, the stack and outside
-with_byte_same : (m : Memory) (a byte q : ℕ) → q ≡ a → with_byte m a byte q ≡ Some byte
-unfolding with_byte
-with_byte_same m a byte q e = grind (arith, nat_tests)
-
-with_byte_other : (m : Memory) (a byte q : ℕ) → q ≢ a → with_byte m a byte q ≡ m q
-unfolding with_byte
-with_byte_other m a byte q e = grind (arith, nat_tests)
-
 -- the data region alone depends on its bytes
 off_data : (parts : Parts) (bytes now words : ℕ → ℕ) (q : ℕ) → (q < data_start) ⊎ (stack_start ≤ q) → memory_of parts bytes words q ≡ memory_of parts now words q
 off_data parts bytes now words q (inl p) = memory_below parts bytes words q p ∙ sym (memory_below parts now words q p)
@@ -136,29 +128,6 @@ data_stored parts bytes words (suc count) a value low high =
     ∙ data_byte_put parts (bytes_put bytes count (a + 1) (value / 256)) words a (value % 256) low (omega arith)
 
 -- ---- a word of the stack is stored
-
-byte_next : (value i : ℕ) → i < 3 → byte_at i (value / 256) ≡ byte_at (suc i) value
-byte_next value zero h = omega arith
-byte_next value (suc zero) h = omega arith
-byte_next value (suc (suc zero)) h = omega arith
-byte_next value (suc (suc (suc i))) h = absurd (omega arith)
-
-stored_inside : (n : ℕ) (m : Memory) (a value i : ℕ) → n ≤ 4 → i < n → stored m n a value (a + i) ≡ Some (byte_at i value)
-unfolding stored
-stored_inside zero m a value i fits h = absurd (omega arith)
-stored_inside (suc n) m a value zero fits h = with_byte_same (stored m n (a + 1) (value / 256)) a (value % 256) (a + 0) (omega arith)
-stored_inside (suc n) m a value (suc i) fits h =
-    let on : a + suc i ≡ a + 1 + i = omega arith in
-    with_byte_other (stored m n (a + 1) (value / 256)) a (value % 256) (a + suc i) (omega arith)
-    ∙ ap (stored m n (a + 1) (value / 256)) on ∙ stored_inside n m (a + 1) (value / 256) i (omega arith) (omega arith) ∙ ap Some (byte_next value i (omega arith))
-
-stored_outside : (n : ℕ) (m : Memory) (a value q : ℕ) → (q < a) ⊎ (a + n ≤ q) → stored m n a value q ≡ m q
-unfolding stored
-stored_outside zero m a value q o = refl
-stored_outside (suc n) m a value q o =
-    let apart : q ≢ a = elim o as (λ _. q ≢ a) [ inl p ↦ omega arith | inr p ↦ omega arith ] in
-    let later : (q < a + 1) ⊎ (a + 1 + n ≤ q) = elim o as (λ _. (q < a + 1) ⊎ (a + 1 + n ≤ q)) [ inl p ↦ inl (omega arith) | inr p ↦ inr (omega arith) ] in
-    with_byte_other (stored m n (a + 1) (value / 256)) a (value % 256) q apart ∙ stored_outside n m (a + 1) (value / 256) q later
 
 stack_inside : (parts : Parts) (bytes words : ℕ → ℕ) (a value i q : ℕ) → a % 4 ≡ 0 → stack_start ≤ a → a < memory_end → i < 4 → a + i ≡ q
     → stored (memory_of parts bytes words) 4 a value q ≡ memory_of parts bytes (changed words a value) q

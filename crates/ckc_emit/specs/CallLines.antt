@@ -33,15 +33,18 @@ save_lines b k rest = if b then store_lines (register_of k) 2 (k * 4 + 16) rest 
 abbrev pub restore_lines : Bool → ℕ → List Line → List Line
 restore_lines b k rest = if b then load_lines (register_of k) 2 (k * 4 + 16) rest else rest
 
+-- the lines of so many registers from one on, each by whether a test names it
+unfoldable pub each_lines : (Bool → ℕ → List Line → List Line) → (ℕ → Bool) → (count k : ℕ) → List Line → List Line
+each_lines line test zero k rest = rest
+each_lines line test (suc count) k rest = line (test k) k (each_lines line test count (k + 1) rest)
+
 -- of so many registers from one on, those that a test names are saved
-unfoldable pub saves_lines : (ℕ → Bool) → (count k : ℕ) → List Line → List Line
-saves_lines test zero k rest = rest
-saves_lines test (suc count) k rest = save_lines (test k) k (saves_lines test count (k + 1) rest)
+abbrev pub saves_lines : (ℕ → Bool) → (count k : ℕ) → List Line → List Line
+saves_lines = each_lines save_lines
 
 -- of so many registers from one on, those that a test names are restored
-unfoldable pub restores_lines : (ℕ → Bool) → (count k : ℕ) → List Line → List Line
-restores_lines test zero k rest = rest
-restores_lines test (suc count) k rest = restore_lines (test k) k (restores_lines test count (k + 1) rest)
+abbrev pub restores_lines : (ℕ → Bool) → (count k : ℕ) → List Line → List Line
+restores_lines = each_lines restore_lines
 
 -- stops unless a frame more fits, and sets x8 to it
 abbrev pub depth_lines : Pos → List Line → List Line

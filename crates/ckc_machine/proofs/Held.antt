@@ -10,6 +10,7 @@ use Rattle.ckc_rv.specs.declared.instructions.LoadOp.TheVariants.{Lb, Lh, Lw, Lb
 use Rattle.ckc_rv.specs.declared.instructions.StoreOp.{StoreOp}
 use Rattle.ckc_rv.specs.declared.instructions.StoreOp.TheVariants.{Sb, Sh, Sw}
 use Rattle.ckc_rv.specs.Effects.{load_bytes, store_bytes}
+use Rattle.ckc_rv.proofs.Stored.{stored_inside, stored_outside}
 use Rattle.ckc_machine.specs.Bytes.{byte_of, byte_in, stack_byte, part_of, held, Holds, IsUnmapped, IsChanged, IsMerged}
 
 -- what holds of 0, 1, 2 and 3 holds of each number below 4
@@ -291,37 +292,6 @@ module _ (code statics stack now : List ℕ) (fits : length code ≤ 16773120) (
   }
 
 -- ---- a value is stored
-
-byte_next : (value i : ℕ) → i < 3 → byte_of (value / 256) i ≡ byte_of value (suc i)
-byte_next value zero h = omega arith
-byte_next value (suc zero) h = omega arith
-byte_next value (suc (suc zero)) h = omega arith
-byte_next value (suc (suc (suc i))) h = absurd (omega arith)
-
-with_byte_same : (m : Memory) (a byte q : ℕ) → q ≡ a → with_byte m a byte q ≡ Some byte
-unfolding with_byte
-with_byte_same m a byte q e = grind (arith, nat_tests)
-
-with_byte_other : (m : Memory) (a byte q : ℕ) → q ≢ a → with_byte m a byte q ≡ m q
-unfolding with_byte
-with_byte_other m a byte q e = grind (arith, nat_tests)
-
-stored_inside : (n : ℕ) (m : Memory) (a value i : ℕ) → n ≤ 4 → i < n → stored m n a value (a + i) ≡ Some (byte_of value i)
-unfolding stored
-stored_inside zero m a value i fits h = absurd (omega arith)
-stored_inside (suc n) m a value zero fits h = with_byte_same (stored m n (a + 1) (value / 256)) a (value % 256) (a + 0) (omega arith)
-stored_inside (suc n) m a value (suc i) fits h =
-    let on : a + suc i ≡ a + 1 + i = omega arith in
-    with_byte_other (stored m n (a + 1) (value / 256)) a (value % 256) (a + suc i) (omega arith)
-    ∙ ap (stored m n (a + 1) (value / 256)) on ∙ stored_inside n m (a + 1) (value / 256) i (omega arith) (omega arith) ∙ ap Some (byte_next value i (omega arith))
-
-stored_outside : (n : ℕ) (m : Memory) (a value q : ℕ) → (q < a) ⊎ (a + n ≤ q) → stored m n a value q ≡ m q
-unfolding stored
-stored_outside zero m a value q o = refl
-stored_outside (suc n) m a value q o =
-    let apart : q ≢ a = elim o as (λ _. q ≢ a) [ inl p ↦ omega arith | inr p ↦ omega arith ] in
-    let later : (q < a + 1) ⊎ (a + 1 + n ≤ q) = elim o as (λ _. (q < a + 1) ⊎ (a + 1 + n ≤ q)) [ inl p ↦ inl (omega arith) | inr p ↦ inr (omega arith) ] in
-    with_byte_other (stored m n (a + 1) (value / 256)) a (value % 256) q apart ∙ stored_outside n m (a + 1) (value / 256) q later
 
 -- A word that is put with some bytes of a value is those bytes stored.
 pub put_is_stored : (old new : Memory) (n a word value merged : ℕ) → a % 4 + n ≤ 4 → Holds old (a - a % 4) word → IsMerged word (a % 4) n value merged → IsChanged old new (a - a % 4) merged

@@ -5,3 +5,4 @@ pub mod Points
 pub mod Arrivals
 pub mod Giving
 pub mod Stepping
+pub mod ByOperation

@@ -1,8 +1,7 @@
 //! The locals that a function declares.
 
 ghost use Rattle.std.specs.Prelude.{◌≡◌, [], ◌∷◌, ◌++◌, IfOk, OnOk, map};
-ghost use Rattle.ckc_typed.specs.Environment.{variable_declared, joined_variables, locals_of, variables_of};
-ghost use Rattle.ckc_rules.specs.Parts.{locals_of_act, locals_of_part};
+ghost use Rattle.ckc_typed.specs.Environment.{variable_declared, joined_variables, locals_of, locals_of_act, locals_of_part, variables_of};
 
 use crate::environment::{variable_declared, variables_declared};
 use ckc_base::{Boxed, Seq};

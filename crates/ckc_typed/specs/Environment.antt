@@ -13,13 +13,17 @@ use Rattle.ckc_syntax.specs.declared.tree.Name.TheVariants as name
 use Rattle.ckc_syntax.specs.declared.tree.Length.{Length}
 use Rattle.ckc_syntax.specs.declared.tree.Length.TheVariants as lengths
 use Rattle.ckc_syntax.specs.declared.tree.Item.TheVariants as item
-use Rattle.ckc_syntax.specs.declared.tree.Act.{Act-F}
+use Rattle.ckc_syntax.specs.declared.tree.Head as heads
+use Rattle.ckc_syntax.specs.declared.tree.Decl as decls
+use Rattle.ckc_syntax.specs.declared.tree.Act as acts
+use Rattle.ckc_syntax.specs.declared.tree.Act.{Act-F, fold-Act}
+use Rattle.ckc_syntax.specs.declared.tree.Stmt as statements
 use Rattle.ckc_syntax.specs.declared.tree.Stmt.{Stmt-F, fold-Stmt}
 use Rattle.ckc_typed.specs.declared.environment.Globals.{Globals}
 use Rattle.ckc_typed.specs.declared.environment.Object.{Object}
 use Rattle.ckc_typed.specs.declared.environment.Signature.{Signature}
 use Rattle.ckc_typed.specs.declared.environment.Variable.{Variable}
-use Rattle.ckc_typed.specs.Trees.{Item, Head, Decl, Stmt}
+use Rattle.ckc_typed.specs.Trees.{Item, Head, Decl}
 use Rattle.ckc_typed.specs.Types.{type_written}
 
 abbrev pub same_name : Name → Name → Bool
@@ -42,7 +46,7 @@ kind_of_array (lengths.Nt n) = Some kind.Nt
 abbrev pub object_declared : Decl → Object
 object_declared d = record { name = d.name; element = type_written d.ctype; array = kind_of_array d.length }
 
-abbrev pub variable_declared : Decl → Variable
+abbrev pub variable_declared : {A : Type 0} → decls.Decl Name A → Variable
 variable_declared d = record { name = d.name; ctype = type_written d.ctype }
 
 abbrev pub type_declared : Decl → CType
@@ -81,7 +85,7 @@ abbrev pub joined_variables : List (List Variable) → List Variable
 joined_variables [] = []
 joined_variables (vs ∷ rest) = vs ++ joined_variables rest
 
-abbrev pub act_variables : Act-F Name (Unit {0}) (List Variable) (List Variable) → List Variable
+abbrev pub act_variables : {A : Type 0} → Act-F Name A (List Variable) (List Variable) → List Variable
 act_variables (Act-F.Block m ss) = joined_variables ss
 act_variables Act-F.Empty = []
 act_variables (Act-F.Local d) = variable_declared d ∷ []
@@ -96,18 +100,25 @@ act_variables Act-F.Continue = []
 act_variables (Act-F.Check e) = []
 act_variables (Act-F.Bundle ss) = joined_variables ss
 
-abbrev pub stmt_variables : Stmt-F Name (Unit {0}) (List Variable) (List Variable) → List Variable
+abbrev pub stmt_variables : {A : Type 0} → Stmt-F Name A (List Variable) (List Variable) → List Variable
 stmt_variables s = s.body
 
 -- the locals that a statement declares anywhere in it; a function numbers each of its locals once
-abbrev pub locals_of : Stmt → List Variable
-locals_of = fold-Stmt Name (Unit {0}) (List Variable) (List Variable) act_variables stmt_variables
+abbrev pub locals_of : {A : Type 0} → statements.Stmt Name A → List Variable
+locals_of {A} = fold-Stmt Name A (List Variable) (List Variable) act_variables stmt_variables
 
-abbrev pub params_of : Head → List Variable
+abbrev pub locals_of_act : {A : Type 0} → acts.Act Name A → List Variable
+locals_of_act {A} = fold-Act Name A (List Variable) (List Variable) act_variables stmt_variables
+
+abbrev pub locals_of_part : {A : Type 0} → Option (statements.Stmt Name A) → List Variable
+locals_of_part None = []
+locals_of_part (Some s) = locals_of s
+
+abbrev pub params_of : {A : Type 0} → heads.Head Name A → List Variable
 params_of h = map variable_declared h.params
 
 -- what an expression in a function sees
-abbrev pub variables_of : Head → Stmt → List Variable
+abbrev pub variables_of : {A : Type 0} → heads.Head Name A → statements.Stmt Name A → List Variable
 variables_of h body = params_of h ++ locals_of body
 
 abbrev pub object_named : Globals → Name → Option Object

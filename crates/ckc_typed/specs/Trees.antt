@@ -3,7 +3,6 @@ use Rattle.ckc_syntax.specs.declared.tree.Name.{Name}
 use Rattle.ckc_syntax.specs.declared.tree.Tree as trees
 use Rattle.ckc_syntax.specs.declared.tree.Item as items
 use Rattle.ckc_syntax.specs.declared.tree.Head as heads
-use Rattle.ckc_syntax.specs.declared.tree.TypeTree as types
 use Rattle.ckc_syntax.specs.declared.tree.Decl as decls
 use Rattle.ckc_syntax.specs.declared.tree.Init as inits
 use Rattle.ckc_syntax.specs.declared.tree.Limits as limits
@@ -11,40 +10,8 @@ use Rattle.ckc_syntax.specs.declared.tree.Expr as exprs
 use Rattle.ckc_syntax.specs.declared.tree.Node as nodes
 use Rattle.ckc_syntax.specs.declared.tree.Stmt as statements
 use Rattle.ckc_syntax.specs.declared.tree.Act as acts
+pub use Rattle.ckc_syntax.specs.Trees.{NamedTypeTree as TypeTree, NamedTree as Tree, NamedItem as Item, NamedHead as Head, NamedDecl as Decl, NamedInit as Init, NamedLimits as Limits, NamedExpr as Expr, NamedNode as Node, NamedStmt as Stmt, NamedAct as Act}
 use Rattle.ckc_typed.specs.declared.typed.Note.{Note}
-
-abbrev pub TypeTree : Type 0
-TypeTree = types.TypeTree Name
-
-abbrev pub Tree : Type 0
-Tree = trees.Tree Name (Unit {0})
-
-abbrev pub Item : Type 0
-Item = items.Item Name (Unit {0})
-
-abbrev pub Head : Type 0
-Head = heads.Head Name (Unit {0})
-
-abbrev pub Decl : Type 0
-Decl = decls.Decl Name (Unit {0})
-
-abbrev pub Init : Type 0
-Init = inits.Init Name (Unit {0})
-
-abbrev pub Limits : Type 0
-Limits = limits.Limits Name (Unit {0})
-
-abbrev pub Expr : Type 0
-Expr = exprs.Expr Name (Unit {0})
-
-abbrev pub Node : Type 0
-Node = nodes.Node Name (Unit {0})
-
-abbrev pub Stmt : Type 0
-Stmt = statements.Stmt Name (Unit {0})
-
-abbrev pub Act : Type 0
-Act = acts.Act Name (Unit {0})
 
 abbrev pub NotedTree : Type 0
 NotedTree = trees.Tree Name Note

@@ -12,7 +12,7 @@ use ckc_types::Structs;
 use std::alloc::{AllocError, Global};
 
 /// The name that an expression is.
-fn variable_in<A>(e: &Expr<Name, A>) -> Option<Name>
+pub fn variable_in<A>(e: &Expr<Name, A>) -> Option<Name>
     ensures { result ≡ variable_in e.now }
 {
     match &e.node {
@@ -30,6 +30,7 @@ fn number_of(c: Option<Constant>) -> Option<i64>
     }
 }
 
+/// The number that an expression stands for, where it is a constant.
 fn number_in<A>(
     alloc: Global,
     structs: &Structs,
@@ -60,7 +61,8 @@ fn negative(c: Option<Constant>) -> Option<i64>
     }
 }
 
-fn fixed(number: i64) -> Amount
+/// A number alone.
+pub fn fixed(number: i64) -> Amount
     ensures { result ≡ fixed number }
 {
     Amount {
@@ -91,7 +93,20 @@ fn or_amount(amount: Option<Amount>, other: Option<Amount>) -> Option<Amount>
     }
 }
 
-fn sum_amount<A>(
+/// The negative of the number that an expression stands for, where it is a constant.
+pub fn negative_in<A>(
+    alloc: Global,
+    structs: &Structs,
+    e: &Expr<Name, A>,
+) -> Result<Option<i64>, AllocError>
+    ensures { IfOk result (λ n. n ≡ negative (number_in structs.now e.now)) }
+{
+    let c = constant(alloc, structs, e)?;
+    Ok(negative(c))
+}
+
+/// A sum or difference of a variable and a number.
+pub fn sum_amount<A>(
     alloc: Global,
     structs: &Structs,
     op: TreeOp,
@@ -107,8 +122,8 @@ fn sum_amount<A>(
             Ok(or_amount(moved(variable_in(e), c), moved(variable_in(f), d)))
         }
         TreeOp::Sub => {
-            let c = constant(alloc, structs, f)?;
-            Ok(moved(variable_in(e), negative(c)))
+            let c = negative_in(alloc, structs, f)?;
+            Ok(moved(variable_in(e), c))
         }
         _ => Ok(None),
     }

@@ -11,14 +11,15 @@ use Rattle.ckc_types.specs.declared.types.Kind.TheVariants as kind
 use Rattle.ckc_syntax.specs.declared.tree.Name.{Name}
 use Rattle.ckc_syntax.specs.declared.tree.TreeOp.{TreeOp}
 use Rattle.ckc_syntax.specs.declared.tree.TreeOp.TheVariants as op
-use Rattle.ckc_syntax.specs.declared.tree.Limits.{Limits-F, map-Limits, ind-Limits, roll-Limits, fold-roll-Limits}
-use Rattle.ckc_syntax.specs.declared.tree.Node.{Node-F, map-Node, roll-Node, fold-roll-Node}
-use Rattle.ckc_syntax.specs.declared.tree.Expr.{Expr-F, map-Expr, ind-Expr, roll-Expr, fold-roll-Expr}
+use Rattle.ckc_syntax.specs.declared.tree.Limits.{Limits-F}
+use Rattle.ckc_syntax.specs.declared.tree.Node.{Node-F}
+use Rattle.ckc_syntax.proofs.Layers as kept
+use Rattle.ckc_syntax.proofs.Layers.{Steps, Property, LimitsLayer, NodeLayer, ExprLayer, limits_made, node_made, expr_made, each_limits, each_expr}
 use Rattle.ckc_typed.specs.declared.environment.Globals.{Globals}
 use Rattle.ckc_typed.specs.declared.environment.Signature.{Signature}
 use Rattle.ckc_typed.specs.declared.environment.Variable.{Variable}
 use Rattle.ckc_typed.specs.Codes.{bad_operands, bad_conversion, bad_target, bad_call, no_address, no_loop, no_initialiser, late_statics}
-use Rattle.ckc_typed.specs.Trees.{Limits, Node, Expr, NotedLimits, NotedExpr}
+use Rattle.ckc_typed.specs.Trees.{Limits, Expr, NotedLimits, NotedExpr}
 use Rattle.ckc_typed.specs.Types.{type_written, is_void, is_object_type}
 use Rattle.ckc_typed.specs.Conversions.{is_null, converts, is_bounds_cast, is_tested, is_trusted}
 use Rattle.ckc_typed.specs.Environment.{type_of_name, signature_named}
@@ -152,43 +153,19 @@ call_coded : (globals : Globals) (n : Name) (es : List NotedExpr) (at : Pos) →
 call_coded globals n es at = in_bind (there_or bad_call at (signature_named globals n)) _ (in_there bad_call at (signature_named globals n) is_404) (λ s. result_coded s es at)
 
 module _ (globals : Globals) (variables : List Variable) (mode : Mode) where
-  abbrev LimitsCoded : Limits → Type 0
-  LimitsCoded l = Coded (limits_typed globals variables mode l)
+  abbrev typing : Steps Name (Unit {0}) OfLimits OfNode OfExpr
+  typing = record { limits = limits_parts; node = node_parts globals variables mode; expr = expr_parts }
 
-  abbrev NodeCoded : Node → Type 0
-  NodeCoded n = (at : Pos) → Coded (node_typed globals variables mode n at)
-
-  abbrev ExprCoded : Expr → Type 0
-  ExprCoded e = Coded (expr_typed globals variables mode e)
+  abbrev coded : Property Name (Unit {0}) OfLimits OfNode OfExpr
+  coded = record { limits = λ l o. Coded o; node = λ n o. (at : Pos) → Coded (o at); expr = λ e o. Coded o }
 
   abbrev KeptLimits : Type 0
-  KeptLimits = (l : Limits) × LimitsCoded l
-
-  abbrev KeptNode : Type 0
-  KeptNode = (n : Node) × NodeCoded n
+  KeptLimits = kept.KeptLimits typing coded
 
   abbrev KeptExpr : Type 0
-  KeptExpr = (e : Expr) × ExprCoded e
+  KeptExpr = kept.KeptExpr typing coded
 
-  abbrev inner_limits : Limits-F Name (Unit {0}) KeptLimits KeptNode KeptExpr → Limits-F Name (Unit {0}) Limits Node Expr
-  inner_limits = map-Limits Name (Unit {0}) KeptLimits KeptNode KeptExpr Limits Node Expr (λ e. e.0) (λ e. e.0) (λ e. e.0)
-
-  abbrev inner_node : Node-F Name (Unit {0}) KeptLimits KeptNode KeptExpr → Node-F Name (Unit {0}) Limits Node Expr
-  inner_node = map-Node Name (Unit {0}) KeptLimits KeptNode KeptExpr Limits Node Expr (λ e. e.0) (λ e. e.0) (λ e. e.0)
-
-  abbrev inner_expr : Expr-F Name (Unit {0}) KeptLimits KeptNode KeptExpr → Expr-F Name (Unit {0}) Limits Node Expr
-  inner_expr = map-Expr Name (Unit {0}) KeptLimits KeptNode KeptExpr Limits Node Expr (λ e. e.0) (λ e. e.0) (λ e. e.0)
-
-  abbrev judged_limits : Limits-F Name (Unit {0}) Limits Node Expr → Limits-F Name (Unit {0}) OfLimits OfNode OfExpr
-  judged_limits = map-Limits Name (Unit {0}) Limits Node Expr OfLimits OfNode OfExpr (limits_typed globals variables mode) (node_typed globals variables mode) (expr_typed globals variables mode)
-
-  abbrev judged_node : Node-F Name (Unit {0}) Limits Node Expr → Node-F Name (Unit {0}) OfLimits OfNode OfExpr
-  judged_node = map-Node Name (Unit {0}) Limits Node Expr OfLimits OfNode OfExpr (limits_typed globals variables mode) (node_typed globals variables mode) (expr_typed globals variables mode)
-
-  abbrev judged_expr : Expr-F Name (Unit {0}) Limits Node Expr → Expr-F Name (Unit {0}) OfLimits OfNode OfExpr
-  judged_expr = map-Expr Name (Unit {0}) Limits Node Expr OfLimits OfNode OfExpr (limits_typed globals variables mode) (node_typed globals variables mode) (expr_typed globals variables mode)
-
-  limits_step : (y : Limits-F Name (Unit {0}) KeptLimits KeptNode KeptExpr) → Coded (limits_parts (judged_limits (inner_limits y)))
+  limits_step : (y : LimitsLayer typing coded) → Coded (limits_made typing coded y)
   limits_step (Limits-F.Count k at) = in_bind (expr_typed globals variables mode k.0) _ k.1 (λ a. tt)
   limits_step (Limits-F.ByteCount k at) = in_bind (expr_typed globals variables mode k.0) _ k.1 (λ a. tt)
   limits_step (Limits-F.Between k j at) = in_bind (expr_typed globals variables mode k.0) _ k.1 (λ a. in_bind (expr_typed globals variables mode j.0) _ j.1 (λ b. tt))
@@ -208,7 +185,7 @@ module _ (globals : Globals) (variables : List Variable) (mode : Mode) where
   kept_there None = tt
   kept_there (Some k) = in_bind (limits_typed globals variables mode k.0) _ k.1 (λ a. tt)
 
-  node_step : (y : Node-F Name (Unit {0}) KeptLimits KeptNode KeptExpr) (at : Pos) → Coded (node_parts globals variables mode (judged_node (inner_node y)) at)
+  node_step : (y : NodeLayer typing coded) (at : Pos) → Coded (node_made typing coded y at)
   node_step (Node-F.Number n u) at = tt
   node_step (Node-F.Text s) at = tt
   node_step Node-F.Null at = tt
@@ -248,29 +225,14 @@ module _ (globals : Globals) (variables : List Variable) (mode : Mode) where
       in_bind (expr_typed globals variables mode k.0) _ k.1 (λ a.
       in_bind (allocation_typed (type_written w) a (type_written x) at) _ (allocation_coded (type_written w) a (type_written x) at) (λ t. tt))
 
-  limits_by : (x : Limits-F Name (Unit {0}) Limits Node Expr) (y : Limits-F Name (Unit {0}) KeptLimits KeptNode KeptExpr) → inner_limits y ≡ x → LimitsCoded (roll-Limits Name (Unit {0}) x)
-  limits_by x y is =
-      subst Coded
-      (ap (λ z. limits_parts (judged_limits z)) is ∙ sym (fold-roll-Limits Name (Unit {0}) OfLimits OfNode OfExpr limits_parts (node_parts globals variables mode) expr_parts x))
-      (limits_step y)
-
-  node_by : (x : Node-F Name (Unit {0}) Limits Node Expr) (y : Node-F Name (Unit {0}) KeptLimits KeptNode KeptExpr) → inner_node y ≡ x → NodeCoded (roll-Node Name (Unit {0}) x)
-  node_by x y is at =
-      subst Coded
-      (ap (λ z. node_parts globals variables mode (judged_node z) at) is ∙ ap (λ f. f at) (sym (fold-roll-Node Name (Unit {0}) OfLimits OfNode OfExpr limits_parts (node_parts globals variables mode) expr_parts x)))
-      (node_step y at)
-
-  expr_by : (x : Expr-F Name (Unit {0}) Limits Node Expr) (y : Expr-F Name (Unit {0}) KeptLimits KeptNode KeptExpr) → inner_expr y ≡ x → ExprCoded (roll-Expr Name (Unit {0}) x)
-  expr_by x y is =
-      subst Coded
-      (ap (λ z. expr_parts (judged_expr z)) is ∙ sym (fold-roll-Expr Name (Unit {0}) OfLimits OfNode OfExpr limits_parts (node_parts globals variables mode) expr_parts x))
-      (y.node.1 y.pos)
+  expr_step : (y : ExprLayer typing coded) → Coded (expr_made typing coded y)
+  expr_step y = y.node.1 y.pos
 
   pub limits_coded : (l : Limits) → Coded (limits_typed globals variables mode l)
-  limits_coded = ind-Limits Name (Unit {0}) LimitsCoded NodeCoded ExprCoded limits_by node_by expr_by
+  limits_coded = each_limits typing coded limits_step node_step expr_step
 
   pub expr_coded : (e : Expr) → Coded (expr_typed globals variables mode e)
-  expr_coded = ind-Expr Name (Unit {0}) LimitsCoded NodeCoded ExprCoded limits_by node_by expr_by
+  expr_coded = each_expr typing coded limits_step node_step expr_step
 
   pub exprs_coded : (es : List Expr) → Coded (exprs_typed globals variables mode es)
   exprs_coded = in_each (expr_typed globals variables mode) expr_coded

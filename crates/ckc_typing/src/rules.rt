@@ -1,8 +1,9 @@
 //! What an expression has for a type by the types of its parts, and its own faults.
 
-ghost use Rattle.ckc_typed.specs.Codes.{bad_operands};
+ghost use Rattle.std.specs.Prelude.{not, Ok};
+ghost use Rattle.ckc_typed.specs.Codes.{bad_operands, bad_conversion};
 ghost use Rattle.ckc_typed.specs.Expressions.{in_row, address_typed, unary_typed, binary_typed, choice_typed, index_typed, dot_typed, arrow_typed, cast_typed, tested_typed, trusted_typed, allocation_typed};
-ghost use Rattle.ckc_base.specs.Outcomes.{there_or};
+ghost use Rattle.ckc_base.specs.Outcomes.{there_or, unless};
 ghost use Rattle.ckc_typed.specs.Types.{is_void};
 ghost use Rattle.ckc_typed.specs.Operands.{unary_type, size_type};
 ghost use Rattle.ckc_base.specs.Outcomes.{AnswersOutcome};
@@ -164,17 +165,28 @@ pub fn arrow_typed(
     in_row(is_void(&e.note.ctype), pos, t)
 }
 
+/// The type of a cast: the type is judged first, then the operand.
+fn two_rules(t: CType, fits: bool, converts: bool, pos: Pos) -> Result<CType, Fault>
+    ensures { AnswersOutcome result
+        (unless (not fits) bad_operands pos
+        (unless (not converts) bad_conversion pos (Ok t))) }
+{
+    if !fits {
+        return Err(refused(BAD_OPERANDS, pos));
+    }
+    if !converts {
+        return Err(refused(BAD_CONVERSION, pos));
+    }
+    Ok(t)
+}
+
 /// The type of a cast to a type.
 pub fn cast_typed(t: CType, e: &Expr<Name, Note>, pos: Pos) -> Result<CType, Fault>
     ensures { AnswersOutcome result (cast_typed t e.now pos) }
 {
-    if !is_object_type(&t) {
-        return Err(refused(BAD_OPERANDS, pos));
-    }
-    if !is_cast(&t, &e.note.ctype, is_null(e)) {
-        return Err(refused(BAD_CONVERSION, pos));
-    }
-    Ok(t)
+    let fits = is_object_type(&t);
+    let converts = is_cast(&t, &e.note.ctype, is_null(e));
+    two_rules(t, fits, converts, pos)
 }
 
 /// The type of `sizeof` of a type.
@@ -196,13 +208,9 @@ pub fn tested_typed(
 ) -> Result<CType, Fault>
     ensures { AnswersOutcome result (tested_typed t e.now limits.now pos) }
 {
-    if !is_bounds_cast(&t, limits) {
-        return Err(refused(BAD_OPERANDS, pos));
-    }
-    if !is_tested(&t, e) {
-        return Err(refused(BAD_CONVERSION, pos));
-    }
-    Ok(t)
+    let fits = is_bounds_cast(&t, limits);
+    let converts = is_tested(&t, e);
+    two_rules(t, fits, converts, pos)
 }
 
 /// The type of `_Assume_bounds_cast` to a type.
@@ -214,13 +222,9 @@ pub fn trusted_typed(
 ) -> Result<CType, Fault>
     ensures { AnswersOutcome result (trusted_typed t e.now limits.now pos) }
 {
-    if !is_bounds_cast(&t, limits) {
-        return Err(refused(BAD_OPERANDS, pos));
-    }
-    if !is_trusted(&t, e) {
-        return Err(refused(BAD_CONVERSION, pos));
-    }
-    Ok(t)
+    let fits = is_bounds_cast(&t, limits);
+    let converts = is_trusted(&t, e);
+    two_rules(t, fits, converts, pos)
 }
 
 /// The type of `calloc` of two written types with a count.

@@ -1,6 +1,5 @@
 use Rattle.std.proofs.Common.{◌≡◌, ◌++◌, map, drop}
-use Rattle.ckc_typed.specs.Environment.{joined_variables}
-use Rattle.ckc_elaborate.specs.Variables.{locals_of}
+use Rattle.ckc_typed.specs.Environment.{joined_variables, locals_of}
 use Rattle.ckc_elaborate.proofs.variables.+variables.Given as goal
 
 -- with the locals of the statements that are left, the locals so far are all of them

@@ -1,5 +1,5 @@
 use Rattle.std.proofs.Common.{◌≡◌, take, map}
-use Rattle.ckc_elaborate.specs.Variables.{variable_declared}
+use Rattle.ckc_typed.specs.Environment.{variable_declared}
 use Rattle.ckc_elaborate.proofs.variables.declared.Given as goal
 
 abbrev pub invariant-loop-d : goal.invariant-loop-d

@@ -1,9 +1,10 @@
 use Rattle.std.proofs.Common.{arith, false, slice_index_or}
-use Rattle.ckc_emit.proofs.Looping.{saves_turn, saves_done}
+use Rattle.ckc_emit.specs.CallLines.{save_lines}
+use Rattle.ckc_emit.proofs.Looping.{each_turn, each_done}
 use Rattle.ckc_emit.proofs.calls.put_saves.Goals as goal
 
 pub loop-k-preserved : goal.loop-k-preserved
-loop-k-preserved c = saves_turn (λ j. slice_index_or c.args.marked.now j false) c.args.out.now.items c.loop-k.out.items c.put_save.new.out.items c.loop-k.k (omega arith) c.in_ok-put_save.ensures c.loop-k.invariant
+loop-k-preserved c = each_turn save_lines (λ j. slice_index_or c.args.marked.now j false) c.args.out.now.items c.loop-k.out.items c.put_save.new.out.items c.loop-k.k (omega arith) c.in_ok-put_save.ensures c.loop-k.invariant
 
 pub returns : goal.returns
-returns c = saves_done (λ j. slice_index_or c.args.marked.now j false) c.args.out.now.items c.loop-k.out.items c.loop-k.k (omega arith) c.loop-k.invariant
+returns c = each_done save_lines (λ j. slice_index_or c.args.marked.now j false) c.args.out.now.items c.loop-k.out.items c.loop-k.k (omega arith) c.loop-k.invariant
