@@ -3,9 +3,9 @@
 ghost use Rattle.std.specs.Prelude.{◌≡◌, IfOk};
 
 use ckc_base::{Boxed, Bytes, Seq};
-use ckc_rules::copies::copied_type;
 use ckc_syntax::{Decl, Expr, Head, Init, Limits, Name, Node};
 use ckc_typed::Note;
+use ckc_typed::copies::copied_type;
 use ckc_typed::types::copied;
 use std::alloc::{AllocError, Global};
 

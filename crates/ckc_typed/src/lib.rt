@@ -2,13 +2,18 @@
 //! its value, with the layout of its structures and its static objects.
 //!
 //! What types the parts of a text have, and what it is that a typed tree keeps the rules of checked scopes, stands in
-//! `specs/`. `types`, `constants` and `amounts` compute what written types, constant expressions and amounts stand for.
+//! `specs/`. `types`, `operands`, `conversions`, `literals`, `constants` and `amounts` compute what written types,
+//! operators, casts, literals, constant expressions and amounts stand for.
 #![tactic(auto)]
 
 pub mod amounts;
 pub mod codes;
 pub mod constants;
+pub mod conversions;
+pub mod copies;
 mod environment;
+pub mod literals;
+pub mod operands;
 mod typed;
 pub mod types;
 

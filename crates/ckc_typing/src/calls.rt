@@ -5,10 +5,10 @@ ghost use Rattle.ckc_typed.specs.Expressions.{arguments_typed, result_typed, cal
 ghost use Rattle.ckc_base.specs.Outcomes.{AnswersOutcome};
 
 use ckc_base::{Fault, Pos, refused};
-use ckc_rules::conversions::converts;
-use ckc_rules::lookups::signature_named;
+use ckc_environment::lookups::signature_named;
 use ckc_syntax::{Expr, Name};
 use ckc_typed::codes::{BAD_CALL, BAD_CONVERSION};
+use ckc_typed::conversions::converts;
 use ckc_typed::types::copied;
 use ckc_typed::{Globals, Note, Signature};
 use ckc_types::CType;

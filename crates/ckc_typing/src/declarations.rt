@@ -6,11 +6,11 @@ ghost use Rattle.ckc_base.specs.Outcomes.{AnswersOutcome};
 
 use crate::expressions::{boxed_expr, typed_bounds, typed_exprs};
 use ckc_base::{Boxed, Fault, Mode, Seq, refused};
-use ckc_rules::conversions::converts;
-use ckc_rules::copies::copied_type;
 use ckc_statics::initials::{count_fits, is_element_for, is_plain};
 use ckc_syntax::{Decl, Init, Limits, Name};
 use ckc_typed::codes::{BAD_CONVERSION, BAD_OPERANDS, NO_INITIALISER};
+use ckc_typed::conversions::converts;
+use ckc_typed::copies::copied_type;
 use ckc_typed::types::{is_scalar_type, kind_of, type_written};
 use ckc_typed::{Globals, Note, Variable};
 use ckc_types::{CType, Kind, Structs};

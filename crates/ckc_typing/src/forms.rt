@@ -7,11 +7,11 @@ ghost use Rattle.ckc_typed.specs.Statements.{stated, target_fits, scalar_fits, s
 ghost use Rattle.ckc_base.specs.Outcomes.{AnswersOutcome};
 
 use ckc_base::{Boxed, Fault, Mode, Pos, refused};
-use ckc_rules::conversions::converts;
-use ckc_rules::notes::stated;
-use ckc_rules::targets::{is_result, is_target};
+use ckc_environment::notes::stated;
+use ckc_environment::targets::{is_result, is_target};
 use ckc_syntax::{Act, Expr, Name, Stmt};
 use ckc_typed::codes::{BAD_CONVERSION, BAD_OPERANDS, BAD_TARGET, NO_LOOP};
+use ckc_typed::conversions::converts;
 use ckc_typed::types::{is_scalar, is_void};
 use ckc_typed::{Globals, Note, Variable};
 use ckc_types::CType;

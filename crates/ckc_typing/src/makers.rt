@@ -18,12 +18,12 @@ use crate::rules::{
     size_typed, tested_typed, trusted_typed, unary_typed,
 };
 use ckc_base::{Boxed, Bytes, Fault, Mode, Pos, Seq, refused};
-use ckc_rules::copies::copied_type;
-use ckc_rules::literals::{null_type, number_type, string_type};
-use ckc_rules::lookups::type_of_name;
-use ckc_rules::notes::noted;
+use ckc_environment::lookups::type_of_name;
+use ckc_environment::notes::noted;
 use ckc_syntax::{Expr, Limits, Name, Node, TreeOp, TypeTree};
 use ckc_typed::codes::BAD_OPERANDS;
+use ckc_typed::copies::copied_type;
+use ckc_typed::literals::{null_type, number_type, string_type};
 use ckc_typed::types::type_written;
 use ckc_typed::{Globals, Note, Variable};
 use ckc_types::CType;

@@ -9,15 +9,15 @@ ghost use Rattle.ckc_typed.specs.Operands.{unary_type, size_type};
 ghost use Rattle.ckc_base.specs.Outcomes.{AnswersOutcome};
 
 use ckc_base::{Boxed, Fault, Mode, Pos, refused};
-use ckc_rules::conversions::{is_bounds_cast, is_tested, is_trusted};
-use ckc_rules::operands::is_cast;
-use ckc_rules::targets::{has_address, is_no_allocation};
-use ckc_rules::{lookups, operands};
+use ckc_environment::lookups;
+use ckc_environment::targets::{has_address, is_no_allocation};
 use ckc_syntax::{Expr, Limits, Name, TreeOp};
 use ckc_typed::codes::{BAD_CALL, BAD_CONVERSION, BAD_OPERANDS, NO_ADDRESS};
 use ckc_typed::constants::is_null;
+use ckc_typed::conversions::{is_bounds_cast, is_tested, is_trusted};
+use ckc_typed::operands::is_cast;
 use ckc_typed::types::{copied, is_object_type, is_void};
-use ckc_typed::{Globals, Note};
+use ckc_typed::{Globals, Note, operands};
 use ckc_types::{CType, Kind};
 use std::alloc::Global;
 

@@ -12,7 +12,7 @@ use crate::declarations::typed_local;
 use crate::expressions::{boxed_expr, typed_value};
 use crate::forms;
 use ckc_base::{Boxed, Fault, Mode, Pos, Seq};
-use ckc_rules::notes::stated;
+use ckc_environment::notes::stated;
 use ckc_syntax::{Act, Decl, Name, Stmt};
 use ckc_typed::{Globals, Note, Variable};
 use ckc_types::CType;

@@ -1,6 +1,6 @@
 use Rattle.std.proofs.Common.{◌≡◌, ◌++◌, map, drop}
 use Rattle.ckc_typed.specs.Environment.{joined_variables, locals_of}
-use Rattle.ckc_rules.proofs.locals.+locals.Given as goal
+use Rattle.ckc_environment.proofs.locals.+locals.Given as goal
 
 -- with the locals of the statements that are left, the locals so far are all of them
 abbrev pub invariant-add_stmts-loop-s : goal.invariant-add_stmts-loop-s

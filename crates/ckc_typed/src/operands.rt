@@ -4,11 +4,11 @@ ghost use Rattle.std.specs.Prelude.{◌≡◌, IfOk};
 ghost use Rattle.ckc_typed.specs.Types.{is_void, element_of};
 ghost use Rattle.ckc_typed.specs.Operands.{promoted, common, is_moved, same_element, sign_type, truth_type, target_type, arithmetic_type, shift_type, both_type, sum_type, distance_type, difference_type, is_compared, comparison_type, index_type, choice_type, size_type, is_cast, binary_type, unary_type};
 
-use ckc_syntax::TreeOp;
-use ckc_typed::types::{
+use crate::types::{
     copied, element_of, is_integer, is_object_type, is_pointer, is_scalar, is_unsigned, is_void,
     kind_of, same_type,
 };
+use ckc_syntax::TreeOp;
 use ckc_types::{CType, Kind};
 use std::alloc::{AllocError, Global};
 

@@ -4,12 +4,12 @@ ghost use Rattle.std.specs.Prelude.{◌≡◌};
 ghost use Rattle.ckc_types.specs.declared.types.Kind.{Kind};
 ghost use Rattle.ckc_typed.specs.Conversions.{is_string, is_allocation, kind_converts, kind_is_tested, kinds_allow, takes_string, takes_allocation, takes_pointer, pointer_takes, converts, is_tested, is_trusted, limits_fit_kind, is_bounds_cast};
 
+use crate::Note;
+use crate::constants::is_null;
 use crate::operands::same_element;
+use crate::types::{is_char, is_integer, is_object_type, is_pointer, kind_of};
 use ckc_base::Boxed;
 use ckc_syntax::{Expr, Limits, Name, Node};
-use ckc_typed::Note;
-use ckc_typed::constants::is_null;
-use ckc_typed::types::{is_char, is_integer, is_object_type, is_pointer, kind_of};
 use ckc_types::{CType, Kind};
 
 fn is_string(e: &Expr<Name, Note>) -> bool
