@@ -16,3 +16,4 @@ pub mod SameHeads
 pub mod Layers
 pub mod Turns
 pub mod Sequels
+pub mod Wrapping

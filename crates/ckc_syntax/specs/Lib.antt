@@ -13,3 +13,4 @@ pub mod Tally
 pub mod Same
 pub mod Placeless
 pub mod Trees
+pub mod Pointers

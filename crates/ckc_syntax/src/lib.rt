@@ -7,6 +7,7 @@ mod laws;
 mod limits;
 mod literals;
 mod placeless;
+mod pointers;
 mod same;
 mod tally;
 mod tokens;
@@ -17,6 +18,7 @@ pub use laws::{codes, is_exact};
 pub use limits::{TOO_DEEP, TOO_MANY_ITEMS, TOO_MANY_LOCALS, TOO_MANY_NODES, fits};
 pub use literals::{Piece, piece_at, string_bytes};
 pub use placeless::same_but_for_places;
+pub use pointers::{Pointer, wrapped};
 pub use same::same_head;
 pub use tokens::{Directive, Spelling, Token, TokenKind};
 pub use tree::{

@@ -16,17 +16,33 @@ fn same_name<'a>(s: &Spelling<'a>, t: &Spelling<'a>) -> bool
 fn same_type<'a>(t: &TypeTree<Spelling<'a>>, u: &TypeTree<Spelling<'a>>) -> bool
     ensures { result ≡ same_type t.now u.now }
 {
-    match (t, u) {
-        (TypeTree::Int, TypeTree::Int) => true,
-        (TypeTree::Unsigned, TypeTree::Unsigned) => true,
-        (TypeTree::Char, TypeTree::Char) => true,
-        (TypeTree::Void, TypeTree::Void) => true,
-        (TypeTree::Struct(s, _), TypeTree::Struct(t, _)) => same_name(s, t),
-        (TypeTree::Raw(t, _), TypeTree::Raw(u, _)) => same_type(t.get(), u.get()),
-        (TypeTree::One(t), TypeTree::One(u)) => same_type(t.get(), u.get()),
-        (TypeTree::Arr(t), TypeTree::Arr(u)) => same_type(t.get(), u.get()),
-        (TypeTree::Nt(t), TypeTree::Nt(u)) => same_type(t.get(), u.get()),
-        _ => false,
+    let mut left = t;
+    let mut right = u;
+    'pointers: loop {
+        match (left, right) {
+            (TypeTree::Int, TypeTree::Int) => return true,
+            (TypeTree::Unsigned, TypeTree::Unsigned) => return true,
+            (TypeTree::Char, TypeTree::Char) => return true,
+            (TypeTree::Void, TypeTree::Void) => return true,
+            (TypeTree::Struct(s, _), TypeTree::Struct(t, _)) => return same_name(s, t),
+            (TypeTree::Raw(t, _), TypeTree::Raw(u, _)) => {
+                left = t.get();
+                right = u.get();
+            }
+            (TypeTree::One(t), TypeTree::One(u)) => {
+                left = t.get();
+                right = u.get();
+            }
+            (TypeTree::Arr(t), TypeTree::Arr(u)) => {
+                left = t.get();
+                right = u.get();
+            }
+            (TypeTree::Nt(t), TypeTree::Nt(u)) => {
+                left = t.get();
+                right = u.get();
+            }
+            _ => return false,
+        }
     }
 }
 

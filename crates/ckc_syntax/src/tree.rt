@@ -79,18 +79,21 @@ pub enum TypeTree<N> {
     Nt(Boxed<TypeTree<N>>),
 }
 
+// A loop, so that a long chain of pointers does not run out of stack.
 impl<N: Drop> Drop for TypeTree<N> {
-    fn drop(self) {
-        match self {
-            TypeTree::Int => {}
-            TypeTree::Unsigned => {}
-            TypeTree::Char => {}
-            TypeTree::Void => {}
-            TypeTree::Struct(_tag, _pos) => {}
-            TypeTree::Raw(inner, _pos) => drop(inner.into_inner()),
-            TypeTree::One(inner) => drop(inner.into_inner()),
-            TypeTree::Arr(inner) => drop(inner.into_inner()),
-            TypeTree::Nt(inner) => drop(inner.into_inner()),
+    fn drop(mut self) {
+        loop {
+            match self {
+                TypeTree::Int => return,
+                TypeTree::Unsigned => return,
+                TypeTree::Char => return,
+                TypeTree::Void => return,
+                TypeTree::Struct(_tag, _pos) => return,
+                TypeTree::Raw(inner, _pos) => self = inner.into_inner(),
+                TypeTree::One(inner) => self = inner.into_inner(),
+                TypeTree::Arr(inner) => self = inner.into_inner(),
+                TypeTree::Nt(inner) => self = inner.into_inner(),
+            }
         }
     }
 }

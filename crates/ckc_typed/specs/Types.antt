@@ -1,6 +1,7 @@
 -- Types (ISO C11, 6.2.5; Checked C specification 0.9, section 2): what a written type is, which are the types of
 -- objects, and when two are the same.
-use Rattle.std.specs.Prelude.{◌==◌, Bool, true, false, ◌&&◌, ◌||◌, Option, None, Some, is_some}
+pub use Rattle.ckc_types.specs.Same.{same_kind, same_form, same_parts, same_type}
+use Rattle.std.specs.Prelude.{Bool, true, false, ◌&&◌, ◌||◌, Option, None, Some, is_some}
 use Rattle.ckc_types.specs.declared.types.Kind.{Kind}
 use Rattle.ckc_types.specs.declared.types.Kind.TheVariants as kind
 use Rattle.ckc_types.specs.declared.types.CType.{CType, CType-F, fold-CType, out-CType}
@@ -107,31 +108,17 @@ object_parts (CType-F.Pointer k t) = pointer_parts k t
 abbrev pub integer_object : CType → Option Bool
 integer_object = fold-CType (Option Bool) object_parts
 
+abbrev pub is_terminated : Option Kind → Bool
+is_terminated (Some kind.Nt) = true
+is_terminated _ = false
+
+-- the same of a type in a pointer, where there is one
+abbrev pub within : Option Kind → Option Bool → Option Bool
+within None integer = integer
+within (Some k) integer = pointer_parts k integer
+
 abbrev pub is_object_type : CType → Bool
 is_object_type t = is_some (integer_object t)
 
 abbrev pub is_scalar_type : CType → Bool
 is_scalar_type t = is_scalar t && is_object_type t
-
-abbrev pub same_kind : Kind → Kind → Bool
-same_kind kind.Raw kind.Raw = true
-same_kind kind.One kind.One = true
-same_kind kind.Arr kind.Arr = true
-same_kind kind.Nt kind.Nt = true
-same_kind _ _ = false
-
-abbrev pub same_form : CType-F (CType → Bool) → CType-F CType → Bool
-same_form CType-F.Int CType-F.Int = true
-same_form CType-F.Unsigned CType-F.Unsigned = true
-same_form CType-F.Char CType-F.Char = true
-same_form CType-F.Void CType-F.Void = true
-same_form (CType-F.Struct j) (CType-F.Struct k) = j == k
-same_form (CType-F.Pointer j t) (CType-F.Pointer k u) = same_kind j k && t u
-same_form _ _ = false
-
-abbrev pub same_parts : CType-F (CType → Bool) → CType → Bool
-same_parts t u = same_form t (out-CType u)
-
--- whether two types are the same
-abbrev pub same_type : CType → CType → Bool
-same_type = fold-CType (CType → Bool) same_parts

@@ -2,11 +2,12 @@
 
 ghost use Rattle.std.specs.Prelude.{◌≡◌, IfOk};
 ghost use Rattle.ckc_typed.specs.Environment.{kind_of_array};
-ghost use Rattle.ckc_typed.specs.Types.{type_written, struct_of, is_integer, is_pointer, is_void, is_unsigned, is_char, is_scalar, element_of, kind_of, integer_object, is_object_type, is_scalar_type, same_kind, same_type};
+ghost use Rattle.ckc_typed.specs.Types.{type_written, struct_of, is_integer, is_pointer, is_void, is_unsigned, is_char, is_scalar, element_of, kind_of, integer_object, is_object_type, is_scalar_type, is_terminated, within};
 
-use ckc_base::Boxed;
+use ckc_base::Seq;
 use ckc_syntax::{Length, Name, TypeTree};
-use ckc_types::{CType, Kind};
+pub use ckc_types::same_type;
+use ckc_types::{CType, Kind, wrapped};
 use std::alloc::{AllocError, Global};
 
 fn struct_of(name: Name) -> CType
@@ -20,57 +21,56 @@ fn struct_of(name: Name) -> CType
 }
 
 /// The type that is written.
-#[cycle(written)]
 pub fn type_written(alloc: Global, t: &TypeTree<Name>) -> Result<CType, AllocError>
     ensures { IfOk result (λ u. u ≡ type_written t.now) }
 {
-    match t {
-        TypeTree::Int => Ok(CType::Int),
-        TypeTree::Unsigned => Ok(CType::Unsigned),
-        TypeTree::Char => Ok(CType::Char),
-        TypeTree::Void => Ok(CType::Void),
-        TypeTree::Struct(n, _) => Ok(struct_of(*n)),
-        TypeTree::Raw(inner, _) => {
-            let to = boxed_written(alloc, inner.get())?;
-            Ok(CType::Pointer(Kind::Raw, to))
-        }
-        TypeTree::One(inner) => {
-            let to = boxed_written(alloc, inner.get())?;
-            Ok(CType::Pointer(Kind::One, to))
-        }
-        TypeTree::Arr(inner) => {
-            let to = boxed_written(alloc, inner.get())?;
-            Ok(CType::Pointer(Kind::Arr, to))
-        }
-        TypeTree::Nt(inner) => {
-            let to = boxed_written(alloc, inner.get())?;
-            Ok(CType::Pointer(Kind::Nt, to))
+    let mut kinds = Seq::new(alloc);
+    let mut rest = t;
+    'pointers: loop {
+        match rest {
+            TypeTree::Int => return wrapped(alloc, kinds, CType::Int),
+            TypeTree::Unsigned => return wrapped(alloc, kinds, CType::Unsigned),
+            TypeTree::Char => return wrapped(alloc, kinds, CType::Char),
+            TypeTree::Void => return wrapped(alloc, kinds, CType::Void),
+            TypeTree::Struct(n, _) => return wrapped(alloc, kinds, struct_of(*n)),
+            TypeTree::Raw(inner, _) => {
+                kinds.push(Kind::Raw)?;
+                rest = inner.get();
+            }
+            TypeTree::One(inner) => {
+                kinds.push(Kind::One)?;
+                rest = inner.get();
+            }
+            TypeTree::Arr(inner) => {
+                kinds.push(Kind::Arr)?;
+                rest = inner.get();
+            }
+            TypeTree::Nt(inner) => {
+                kinds.push(Kind::Nt)?;
+                rest = inner.get();
+            }
         }
     }
 }
 
-#[cycle(written)]
-fn boxed_written(alloc: Global, t: &TypeTree<Name>) -> Result<Boxed<CType>, AllocError>
-    ensures { IfOk result (λ u. u ≡ type_written t.now) }
-{
-    let to = type_written(alloc, t)?;
-    Boxed::new(alloc, to)
-}
-
 /// A copy of a type.
+#[tactic(auto, using(ckc_types::proofs::Wrapping::wrapped_push))]
 pub fn copied(alloc: Global, t: &CType) -> Result<CType, AllocError>
     ensures { IfOk result (λ u. u ≡ t.now) }
 {
-    match t {
-        CType::Int => Ok(CType::Int),
-        CType::Unsigned => Ok(CType::Unsigned),
-        CType::Char => Ok(CType::Char),
-        CType::Void => Ok(CType::Void),
-        CType::Struct(tag) => Ok(CType::Struct(*tag)),
-        CType::Pointer(kind, inner) => {
-            let to = copied(alloc, inner.get())?;
-            let boxed = Boxed::new(alloc, to)?;
-            Ok(CType::Pointer(*kind, boxed))
+    let mut kinds = Seq::new(alloc);
+    let mut rest = t;
+    'pointers: loop {
+        match rest {
+            CType::Int => return wrapped(alloc, kinds, CType::Int),
+            CType::Unsigned => return wrapped(alloc, kinds, CType::Unsigned),
+            CType::Char => return wrapped(alloc, kinds, CType::Char),
+            CType::Void => return wrapped(alloc, kinds, CType::Void),
+            CType::Struct(tag) => return wrapped(alloc, kinds, CType::Struct(*tag)),
+            CType::Pointer(kind, inner) => {
+                kinds.push(*kind)?;
+                rest = inner.get();
+            }
         }
     }
 }
@@ -168,23 +168,48 @@ pub fn element_of(alloc: Global, t: &CType) -> Result<CType, AllocError>
     }
 }
 
-/// Whether a type is an integer type; none where it is no type of an object.
+/// Whether a type is an integer type; none where it is no type of an object. Of the pointers around a type that is
+/// none itself only the innermost matters, unless an `_Nt_array_ptr` stands around another pointer.
 fn integer_object(t: &CType) -> Option<bool>
     ensures { result ≡ integer_object t.now }
 {
-    match t {
-        CType::Int | CType::Unsigned | CType::Char => Some(true),
-        CType::Void => None,
-        CType::Struct(_) => Some(false),
-        CType::Pointer(kind, inner) => {
-            let integer = integer_object(inner.get());
-            match (*kind, integer) {
-                (Kind::Nt, Some(true)) => Some(false),
-                (Kind::Nt, Some(false)) | (Kind::Nt, None) => None,
-                (Kind::Raw | Kind::One | Kind::Arr, Some(_)) => Some(false),
-                (Kind::Raw | Kind::One | Kind::Arr, None) => None,
+    let mut around = None;
+    let mut rest = t;
+    'pointers: loop {
+        match rest {
+            CType::Int | CType::Unsigned | CType::Char => return within(around, Some(true)),
+            CType::Void => return within(around, None),
+            CType::Struct(_) => return within(around, Some(false)),
+            CType::Pointer(kind, inner) => {
+                if is_terminated(around) {
+                    return None;
+                }
+                around = Some(*kind);
+                rest = inner.get();
             }
         }
+    }
+}
+
+fn is_terminated(pointer: Option<Kind>) -> bool
+    ensures { result ≡ is_terminated pointer }
+{
+    match pointer {
+        Some(Kind::Nt) => true,
+        Some(Kind::Raw | Kind::One | Kind::Arr) | None => false,
+    }
+}
+
+/// Whether a type in a pointer, where there is one, is an integer type; none where it is no type of an object.
+fn within(around: Option<Kind>, integer: Option<bool>) -> Option<bool>
+    ensures { result ≡ within around integer }
+{
+    match (around, integer) {
+        (None, _) => integer,
+        (Some(Kind::Nt), Some(true)) => Some(false),
+        (Some(Kind::Nt), Some(false) | None) => None,
+        (Some(Kind::Raw | Kind::One | Kind::Arr), Some(_)) => Some(false),
+        (Some(Kind::Raw | Kind::One | Kind::Arr), None) => None,
     }
 }
 
@@ -200,19 +225,4 @@ pub fn is_scalar_type(t: &CType) -> bool
     ensures { result ≡ is_scalar_type t.now }
 {
     is_scalar(t) && is_object_type(t)
-}
-
-/// Whether two types are the same.
-pub fn same_type(t: &CType, u: &CType) -> bool
-    ensures { result ≡ same_type t.now u.now }
-{
-    match (t, u) {
-        (CType::Int, CType::Int) => true,
-        (CType::Unsigned, CType::Unsigned) => true,
-        (CType::Char, CType::Char) => true,
-        (CType::Void, CType::Void) => true,
-        (CType::Struct(j), CType::Struct(k)) => *j == *k,
-        (CType::Pointer(j, a), CType::Pointer(k, b)) => *j == *k && same_type(a.get(), b.get()),
-        _ => false,
-    }
 }

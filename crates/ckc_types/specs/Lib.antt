@@ -1,4 +1,5 @@
 pub mod LaidOut
+pub mod Pointers
 pub mod Layout
 pub mod Multiples
 pub mod Places

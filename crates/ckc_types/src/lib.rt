@@ -3,9 +3,11 @@
 
 pub mod laws;
 mod layout;
+mod pointers;
 mod same;
 mod types;
 
 pub use layout::{align, offset, size};
+pub use pointers::wrapped;
 pub use same::same_type;
 pub use types::{CType, Kind, MemberBounds, MemberShape, StructShape, Structs};

@@ -9,13 +9,23 @@ use crate::types::CType;
 pub fn same_type(t: &CType, u: &CType) -> bool
     ensures { result ≡ same_type t.now u.now }
 {
-    match (t, u) {
-        (CType::Int, CType::Int) => true,
-        (CType::Unsigned, CType::Unsigned) => true,
-        (CType::Char, CType::Char) => true,
-        (CType::Void, CType::Void) => true,
-        (CType::Struct(j), CType::Struct(k)) => *j == *k,
-        (CType::Pointer(j, a), CType::Pointer(k, b)) => *j == *k && same_type(a.get(), b.get()),
-        _ => false,
+    let mut left = t;
+    let mut right = u;
+    'layers: loop {
+        match (left, right) {
+            (CType::Int, CType::Int) => return true,
+            (CType::Unsigned, CType::Unsigned) => return true,
+            (CType::Char, CType::Char) => return true,
+            (CType::Void, CType::Void) => return true,
+            (CType::Struct(j), CType::Struct(k)) => return *j == *k,
+            (CType::Pointer(j, a), CType::Pointer(k, b)) => {
+                if *j != *k {
+                    return false;
+                }
+                left = a.get();
+                right = b.get();
+            }
+            _ => return false,
+        }
     }
 }

@@ -20,16 +20,19 @@ pub enum CType {
     Pointer(Kind, Boxed<CType>),
 }
 
-// Written out, so that an exit over which a type lives has one call.
+// Written out, so that an exit over which a type lives has one call, and a loop, so that a long chain of pointers
+// does not run out of stack.
 impl Drop for CType {
-    fn drop(self) {
-        match self {
-            CType::Int => {}
-            CType::Unsigned => {}
-            CType::Char => {}
-            CType::Void => {}
-            CType::Struct(_tag) => {}
-            CType::Pointer(_kind, to) => drop(to.into_inner()),
+    fn drop(mut self) {
+        loop {
+            match self {
+                CType::Int => return,
+                CType::Unsigned => return,
+                CType::Char => return,
+                CType::Void => return,
+                CType::Struct(_tag) => return,
+                CType::Pointer(_kind, to) => self = to.into_inner(),
+            }
         }
     }
 }
