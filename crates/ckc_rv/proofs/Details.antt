@@ -1,16 +1,16 @@
 -- Without its stores the detailed machine shows what the machine shows.
-use Rattle.std.proofs.Common.{◌≡◌, ℕ, zero, suc, List, [], ◌∷◌, ◌++◌, map, append-nil, refl, sym, ◌∙◌, ap}
+use Rattle.std.proofs.Common.{◌≡◌, ℕ, zero, suc, List, [], ◌∷◌, ◌++◌, map, append-nil, refl, ◌∙◌, ap}
 use Rattle.std.specs.List.{flat_map}
 use Rattle.std.proofs.lemmas.Grind.{flat_map-append}
-use Rattle.ckc_base.specs.Traces.{Event, Standing, Showing, narrowed}
-use Rattle.ckc_base.specs.Steps.{Move, Goes, Halts, System, after, shown, meaning}
+use Rattle.ckc_base.specs.Traces.{Event, Showing, narrowed}
+use Rattle.ckc_base.specs.Steps.{Move, Goes, Halts, after, shown}
 use Rattle.ckc_rv.specs.declared.registers.Outcome.{Outcome}
 use Rattle.ckc_rv.specs.declared.registers.Outcome.TheVariants.{Next, Load, Store, Call, Break, BadTarget}
 use Rattle.ckc_rv.specs.declared.instructions.Instr.{Instr}
 use Rattle.ckc_rv.specs.Effects.{effect_of}
 use Rattle.ckc_rv.specs.Machine.{Parts, State, machine_step, machine_system, first_state, machine}
-use Rattle.ckc_rv.specs.Detailed.{MachineEvent, Outside, Wrote, outside_events, writes_of, writes_by, writes_at, with_writes, detailed_step, detailed_system, detailed_machine}
-use Rattle.std.proofs.Common.{Option, Some, None, option_and_then}
+use Rattle.ckc_rv.specs.Detailed.{MachineEvent, Outside, outside_events, writes_of, writes_by, writes_at, with_writes, detailed_step, detailed_system, detailed_machine}
+use Rattle.std.proofs.Common.{Option, Some, None}
 
 seen_outside : (events : List Event) → flat_map outside_events (map (λ e. Outside e) events) ≡ events
 seen_outside [] = refl

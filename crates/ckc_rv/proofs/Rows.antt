@@ -63,9 +63,12 @@ reg_op_is funct3 funct7 h = grind (arith, nat_tests)
 -- ---- from a row to the decoder
 
 -- the decoder looks at the opcode first
-pub decoded_at : (word opcode : ℕ) → word < 2 ^ 32 → word % 2 ^ 7 ≡ opcode → decoded word ≡ by_opcode opcode word
+pub decoded_by : (word : ℕ) → word < 2 ^ 32 → decoded word ≡ by_opcode (word % 2 ^ 7) word
 unfolding decoded
-decoded_at word opcode below is = grind (arith, nat_tests)
+decoded_by word below = grind (arith, nat_tests)
+
+decoded_at : (word opcode : ℕ) → word < 2 ^ 32 → word % 2 ^ 7 ≡ opcode → decoded word ≡ by_opcode opcode word
+decoded_at word opcode below is = rw is at (decoded_by word below)
 
 -- the fields of a word
 record Fields (word funct7 rs2 rs1 funct3 rd opcode : ℕ) : Type 0 where

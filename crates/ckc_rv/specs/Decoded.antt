@@ -44,11 +44,13 @@ s_immediate word = signed_from (2 ^ 11) (funct7_of word * 2 ^ 5 + rd_of word)
 
 abbrev pub b_offset : ℕ → ℤ
 b_offset word = signed_from (2 ^ 12)
-    (funct7_of word / 2 ^ 6 * 2 ^ 12 + rd_of word % 2 * 2 ^ 11 + funct7_of word % 2 ^ 6 * 2 ^ 5 + rd_of word / 2 * 2)
+    (funct7_of word / 2 ^ 6 * 2 ^ 12 + rd_of word % 2 * 2 ^ 11 + funct7_of word % 2 ^ 6 * 2 ^ 5
+    + rd_of word / 2 * 2)
 
 abbrev pub j_offset : ℕ → ℤ
 j_offset word = signed_from (2 ^ 20)
-    (word / 2 ^ 31 * 2 ^ 20 + word / 2 ^ 12 % 2 ^ 8 * 2 ^ 12 + word / 2 ^ 20 % 2 * 2 ^ 11 + word / 2 ^ 21 % 2 ^ 10 * 2)
+    (word / 2 ^ 31 * 2 ^ 20 + word / 2 ^ 12 % 2 ^ 8 * 2 ^ 12 + word / 2 ^ 20 % 2 * 2 ^ 11
+    + word / 2 ^ 21 % 2 ^ 10 * 2)
 
 -- ---- the operations by their codes
 
@@ -148,23 +150,28 @@ decoded_jalr word =
 
 abbrev pub decoded_branch : ℕ → Option Instr
 decoded_branch word =
-    option_map (λ op. Branch op (rs1_of word) (rs2_of word) (b_offset word)) (branch_op (funct3_of word))
+    option_map (λ op. Branch op (rs1_of word) (rs2_of word) (b_offset word))
+    (branch_op (funct3_of word))
 
 abbrev pub decoded_load : ℕ → Option Instr
 decoded_load word =
-    option_map (λ op. Load op (rd_of word) (rs1_of word) (i_immediate word)) (load_op (funct3_of word))
+    option_map (λ op. Load op (rd_of word) (rs1_of word) (i_immediate word))
+    (load_op (funct3_of word))
 
 abbrev pub decoded_store : ℕ → Option Instr
 decoded_store word =
-    option_map (λ op. Store op (rs1_of word) (rs2_of word) (s_immediate word)) (store_op (funct3_of word))
+    option_map (λ op. Store op (rs1_of word) (rs2_of word) (s_immediate word))
+    (store_op (funct3_of word))
 
 abbrev pub decoded_imm : ℕ → Option Instr
 decoded_imm word =
-    option_map (λ op. Imm op (rd_of word) (rs1_of word) (imm_of op word)) (imm_op (funct3_of word) (funct7_of word))
+    option_map (λ op. Imm op (rd_of word) (rs1_of word) (imm_of op word))
+    (imm_op (funct3_of word) (funct7_of word))
 
 abbrev pub decoded_reg : ℕ → Option Instr
 decoded_reg word =
-    option_map (λ op. Reg op (rd_of word) (rs1_of word) (rs2_of word)) (reg_op (funct3_of word) (funct7_of word))
+    option_map (λ op. Reg op (rd_of word) (rs1_of word) (rs2_of word))
+    (reg_op (funct3_of word) (funct7_of word))
 
 -- with rd, funct3 and rs1 zero, and the bits 31 to 28
 abbrev pub decoded_fence : ℕ → Option Instr

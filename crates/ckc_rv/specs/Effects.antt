@@ -87,13 +87,18 @@ abbrev pub effect_of : Instr → ℕ → List ℕ → Outcome
 effect_of (Lui rd upper) pc x = writes rd (upper * 2 ^ 12) pc
 effect_of (Auipc rd upper) pc x = writes rd ((pc + upper * 2 ^ 12) % 2 ^ 32) pc
 effect_of (Jal rd offset) pc x = jumps rd (following pc) (moved pc offset)
-effect_of (Jalr rd rs1 offset) pc x = let target = moved (slice_index x rs1) offset in jumps rd (following pc) (target - target % 2)
+effect_of (Jalr rd rs1 offset) pc x =
+    let target = moved (slice_index x rs1) offset in jumps rd (following pc) (target - target % 2)
 effect_of (Branch op rs1 rs2 offset) pc x =
-    if is_taken op (slice_index x rs1) (slice_index x rs2) then jumps 0 0 (moved pc offset) else writes 0 0 pc
+    if is_taken op (slice_index x rs1) (slice_index x rs2) then jumps 0 0 (moved pc offset)
+    else writes 0 0 pc
 effect_of (Load op rd rs1 offset) pc x = Loads op rd (moved (slice_index x rs1) offset)
-effect_of (Store op rs1 rs2 offset) pc x = Stores op (moved (slice_index x rs1) offset) (slice_index x rs2)
-effect_of (Imm op rd rs1 immediate) pc x = writes rd (reg_value (reg_form op) (slice_index x rs1) (word_of immediate)) pc
-effect_of (Reg op rd rs1 rs2) pc x = writes rd (reg_value op (slice_index x rs1) (slice_index x rs2)) pc
+effect_of (Store op rs1 rs2 offset) pc x =
+    Stores op (moved (slice_index x rs1) offset) (slice_index x rs2)
+effect_of (Imm op rd rs1 immediate) pc x =
+    writes rd (reg_value (reg_form op) (slice_index x rs1) (word_of immediate)) pc
+effect_of (Reg op rd rs1 rs2) pc x =
+    writes rd (reg_value op (slice_index x rs1) (slice_index x rs2)) pc
 effect_of (Fence sets) pc x = writes 0 0 pc
 effect_of Ecall pc x = Call
 effect_of Ebreak pc x = Break

@@ -2,10 +2,9 @@
 -- faults are this project's (docs/language.md), the effects of instructions those of the table.
 use Rattle.std.specs.Prelude.{ℕ, zero, suc, ◌+◌, ◌-◌, ◌*◌, ◌/◌, ◌%◌, ◌^◌, ◌==◌, nat_lt, not, ◌&&◌, Bool, if◌then◌else◌, List, [], ◌∷◌, length, slice_index, slice_set, replicate, Option, Some, None, option_and_then}
 use Rattle.std.specs.Option.{option_map}
-use Rattle.ckc_base.specs.declared.places.Pos.{Pos}
 use Rattle.ckc_base.specs.declared.runtime_checks.Check.{Check}
 use Rattle.ckc_base.specs.Checks.{check_with}
-use Rattle.ckc_base.specs.Traces.{Event, Got, Put, Standing, Ended, Stopped, Fault, Showing}
+use Rattle.ckc_base.specs.Traces.{Event, Got, Put, Ended, Stopped, Fault, Showing}
 use Rattle.ckc_base.specs.Steps.{Move, Goes, Halts, System, meaning}
 use Rattle.ckc_rv.specs.declared.instructions.LoadOp.{LoadOp}
 use Rattle.ckc_rv.specs.declared.instructions.Instr.{Instr}
@@ -43,7 +42,8 @@ memory_end = 0x04000000
 unfoldable pub flat : Parts → Memory
 flat parts a =
     if nat_lt a code_start then None
-    else if nat_lt a (code_start + length parts.code) then Some (slice_index parts.code (a - code_start))
+    else if nat_lt a (code_start + length parts.code)
+    then Some (slice_index parts.code (a - code_start))
     else if nat_lt a data_start then None
     else if nat_lt a stack_start then Some (slice_index parts.initial (a - data_start))
     else if nat_lt a memory_end then Some 0
@@ -53,7 +53,8 @@ flat parts a =
 unfoldable pub loaded : Memory → ℕ → ℕ → Option ℕ
 loaded memory zero a = Some 0
 loaded memory (suc count) a =
-    option_and_then (λ low. option_map (λ high. low + 256 * high) (loaded memory count (a + 1))) (memory a)
+    option_and_then (λ low. option_map (λ high. low + 256 * high) (loaded memory count (a + 1)))
+    (memory a)
 
 -- the memory with another byte at an address
 unfoldable pub with_byte : Memory → ℕ → ℕ → Memory
@@ -62,7 +63,8 @@ with_byte memory a byte q = if q == a then Some byte else memory q
 -- the memory with the lowest bytes of a number from an address on
 unfoldable pub stored : Memory → ℕ → ℕ → ℕ → Memory
 stored memory zero a value = memory
-stored memory (suc count) a value = with_byte (stored memory count (a + 1) (value / 256)) a (value % 256)
+stored memory (suc count) a value =
+    with_byte (stored memory count (a + 1) (value / 256)) a (value % 256)
 
 -- whether an instruction lies at an address
 abbrev pub is_code : Parts → ℕ → Bool
@@ -106,7 +108,8 @@ gets s (byte ∷ rest) = Goes (Got (Some byte) ∷ []) (record (next_with s 10 b
 
 -- a stop at the check with the number in x10, at the line in x11 and the column in x12
 abbrev pub stops : State → Option Check → Move Event State
-stops s (Some check) = Halts [] (Stopped check (record { line = register s 11; col = register s 12 }))
+stops s (Some check) =
+    Halts [] (Stopped check (record { line = register s 11; col = register s 12 }))
 stops s None = faults 6 s
 
 -- by the number in x17: 0 ends with x10, 1 puts the low byte of x10, 2 gets a byte, 3 stops at a check
@@ -132,7 +135,8 @@ by_outcome s (Load op rd a) =
     if a % load_bytes op == 0 then loads s op rd (loaded s.memory (load_bytes op) a) else faults 2 s
 by_outcome s (Store op a value) =
     if not (a % store_bytes op == 0) then faults 2 s
-    else if is_writable a then Goes [] (record (next_with s 0 0) { memory = stored s.memory (store_bytes op) a value })
+    else if is_writable a
+    then Goes [] (record (next_with s 0 0) { memory = stored s.memory (store_bytes op) a value })
     else faults 4 s
 by_outcome s Call = calls s
 by_outcome s Break = faults 5 s
@@ -146,14 +150,16 @@ executes s None = faults 1 s
 -- the word at the pc is fetched, decoded and executed; a pc outside the code is a fault
 unfoldable pub machine_step : Parts → State → Move Event State
 machine_step parts s =
-    if is_code parts s.pc then executes s (option_and_then decoded (loaded s.memory 4 s.pc)) else faults 0 s
+    if is_code parts s.pc then executes s (option_and_then decoded (loaded s.memory 4 s.pc))
+    else faults 0 s
 
 abbrev pub machine_system : Parts → System Event State
 machine_system parts = record { step = machine_step parts; weight = λ s. 0 }
 
 -- the registers are 0, the pc is the entry, and nothing of the input was taken
 abbrev pub first_state : Parts → List ℕ → State
-first_state parts input = record { x = replicate 32 0; pc = parts.entry; memory = flat parts; input = input }
+first_state parts input =
+    record { x = replicate 32 0; pc = parts.entry; memory = flat parts; input = input }
 
 -- what the machine of an image shows after k instructions
 abbrev pub machine : Parts → List ℕ → ℕ → Showing Event

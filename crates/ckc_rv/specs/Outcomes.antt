@@ -23,13 +23,16 @@ outcome_of word pc x = effect_if (decoded word) pc x
 
 -- the effect of a word whose operation is known
 abbrev pub branch_effect : BranchOp → ℕ → ℕ → List ℕ → Outcome
-branch_effect op word pc x = effect_of (instr.Branch op (rs1_of word) (rs2_of word) (b_offset word)) pc x
+branch_effect op word pc x =
+    effect_of (instr.Branch op (rs1_of word) (rs2_of word) (b_offset word)) pc x
 
 abbrev pub load_effect : LoadOp → ℕ → ℕ → List ℕ → Outcome
-load_effect op word pc x = effect_of (instr.Load op (rd_of word) (rs1_of word) (i_immediate word)) pc x
+load_effect op word pc x =
+    effect_of (instr.Load op (rd_of word) (rs1_of word) (i_immediate word)) pc x
 
 abbrev pub store_effect : StoreOp → ℕ → ℕ → List ℕ → Outcome
-store_effect op word pc x = effect_of (instr.Store op (rs1_of word) (rs2_of word) (s_immediate word)) pc x
+store_effect op word pc x =
+    effect_of (instr.Store op (rs1_of word) (rs2_of word) (s_immediate word)) pc x
 
 abbrev pub imm_effect : ImmOp → ℕ → ℕ → List ℕ → Outcome
 imm_effect op word pc x = effect_of (instr.Imm op (rd_of word) (rs1_of word) (imm_of op word)) pc x

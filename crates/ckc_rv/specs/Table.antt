@@ -58,16 +58,19 @@ r_word funct7 rs2 rs1 funct3 rd opcode =
     funct7 * 2 ^ 25 + rs2 * 2 ^ 20 + rs1 * 2 ^ 15 + funct3 * 2 ^ 12 + rd * 2 ^ 7 + opcode
 
 abbrev pub i_word : ℕ → ℕ → ℕ → ℕ → ℕ → ℕ
-i_word immediate rs1 funct3 rd opcode = immediate * 2 ^ 20 + rs1 * 2 ^ 15 + funct3 * 2 ^ 12 + rd * 2 ^ 7 + opcode
+i_word immediate rs1 funct3 rd opcode =
+    immediate * 2 ^ 20 + rs1 * 2 ^ 15 + funct3 * 2 ^ 12 + rd * 2 ^ 7 + opcode
 
 -- the immediate's bits 11 to 5, and 4 to 0
 abbrev pub s_word : ℕ → ℕ → ℕ → ℕ → ℕ → ℕ
-s_word immediate rs2 rs1 funct3 opcode = r_word (immediate / 2 ^ 5) rs2 rs1 funct3 (immediate % 2 ^ 5) opcode
+s_word immediate rs2 rs1 funct3 opcode =
+    r_word (immediate / 2 ^ 5) rs2 rs1 funct3 (immediate % 2 ^ 5) opcode
 
 -- the offset's bits 12, 10 to 5, and 4 to 1, 11
 abbrev pub b_word : ℕ → ℕ → ℕ → ℕ → ℕ → ℕ
 b_word offset rs2 rs1 funct3 opcode =
-    r_word (offset / 2 ^ 12 * 2 ^ 6 + offset / 2 ^ 5 % 2 ^ 6) rs2 rs1 funct3 (offset % 2 ^ 5 + offset / 2 ^ 11 % 2) opcode
+    r_word (offset / 2 ^ 12 * 2 ^ 6 + offset / 2 ^ 5 % 2 ^ 6) rs2 rs1 funct3
+    (offset % 2 ^ 5 + offset / 2 ^ 11 % 2) opcode
 
 abbrev pub u_word : ℕ → ℕ → ℕ → ℕ
 u_word upper rd opcode = upper * 2 ^ 12 + rd * 2 ^ 7 + opcode
@@ -75,7 +78,8 @@ u_word upper rd opcode = upper * 2 ^ 12 + rd * 2 ^ 7 + opcode
 -- the offset's bits 20, 10 to 1, 11, and 19 to 12
 abbrev pub j_word : ℕ → ℕ → ℕ → ℕ
 j_word offset rd opcode =
-    u_word (offset / 2 ^ 20 * 2 ^ 19 + offset / 2 % 2 ^ 10 * 2 ^ 9 + offset / 2 ^ 11 % 2 * 2 ^ 8 + offset / 2 ^ 12 % 2 ^ 8)
+    u_word (offset / 2 ^ 20 * 2 ^ 19 + offset / 2 % 2 ^ 10 * 2 ^ 9 + offset / 2 ^ 11 % 2 * 2 ^ 8
+    + offset / 2 ^ 12 % 2 ^ 8)
     rd opcode
 
 -- the lowest bits of a signed number

@@ -16,6 +16,7 @@ pub fn decode(word: u32) -> Option<Instr>
 }
 
 /// Splits by opcode. The law of `decoded` is applied once, in `decode`.
+#[tactic(auto, using(crate::proofs::Rows::decoded_by), unfolding(crate::specs::Decoded::by_opcode))]
 fn row_of(word: u32) -> Option<Instr>
     ensures { result ≡ decoded word }
 {

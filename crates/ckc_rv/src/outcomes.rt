@@ -25,6 +25,7 @@ pub fn word_effect(word: u32, pc: u32, regs: &Regs) -> Option<Outcome>
 
 /// Splits by opcode.
 #[inline(always)]
+#[tactic(auto, using(crate::proofs::Rows::decoded_by), unfolding(crate::specs::Decoded::by_opcode))]
 fn outcome_at(word: u32, pc: u32, regs: &Regs) -> Option<Outcome>
     ensures { result ≡ outcome_of word pc regs.now.x }
 {
