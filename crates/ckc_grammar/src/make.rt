@@ -7,8 +7,8 @@ ghost use Rattle.ckc_grammar.specs.Values as v;
 use crate::parts::{Bounds, CType, Declaration, Expression, Statement};
 use ckc_base::{Boxed, Mode, Pos, Seq};
 use ckc_syntax::{
-    Act, Decl, Directive, Expr, Head, Init, Item, Length, Node, Spelling, Stmt, Token, TokenKind,
-    TypeTree,
+    Act, Decl, Directive, Expr, Head, Init, Item, Length, Node, Pointer, Spelling, Stmt, Token,
+    TokenKind, TypeTree, wrapped,
 };
 use std::alloc::{AllocError, Global};
 
@@ -35,18 +35,46 @@ pub fn append<T: Drop>(all: &mut Seq<T>, more: Seq<T>) -> Result<(), AllocError>
 pub fn copied<'a>(alloc: Global, ctype: &TypeTree<Spelling<'a>>) -> Result<CType<'a>, AllocError>
     ensures { IfOk result (λ copy. copy ≡ ctype.now) }
 {
-    let copy = match ctype {
-        TypeTree::Int => TypeTree::Int,
-        TypeTree::Unsigned => TypeTree::Unsigned,
-        TypeTree::Char => TypeTree::Char,
-        TypeTree::Void => TypeTree::Void,
-        TypeTree::Struct(tag, pos) => TypeTree::Struct(Spelling::new(tag.as_str()), *pos),
-        TypeTree::Raw(inner, pos) => TypeTree::Raw(copied(alloc, inner.get())?, *pos),
-        TypeTree::One(inner) => TypeTree::One(copied(alloc, inner.get())?),
-        TypeTree::Arr(inner) => TypeTree::Arr(copied(alloc, inner.get())?),
-        TypeTree::Nt(inner) => TypeTree::Nt(copied(alloc, inner.get())?),
-    };
+    let copy = copied_tree(alloc, ctype)?;
     Boxed::new(alloc, copy)
+}
+
+fn copied_tree<'a>(
+    alloc: Global,
+    t: &TypeTree<Spelling<'a>>,
+) -> Result<TypeTree<Spelling<'a>>, AllocError>
+    ensures { IfOk result (λ copy. copy ≡ t.now) }
+{
+    let mut pointers = Seq::new(alloc);
+    let mut rest = t;
+    'pointers: loop {
+        match rest {
+            TypeTree::Int => return wrapped(alloc, pointers, TypeTree::Int),
+            TypeTree::Unsigned => return wrapped(alloc, pointers, TypeTree::Unsigned),
+            TypeTree::Char => return wrapped(alloc, pointers, TypeTree::Char),
+            TypeTree::Void => return wrapped(alloc, pointers, TypeTree::Void),
+            TypeTree::Struct(tag, pos) => {
+                let base = TypeTree::Struct(Spelling::new(tag.as_str()), *pos);
+                return wrapped(alloc, pointers, base);
+            }
+            TypeTree::Raw(inner, pos) => {
+                pointers.push(Pointer::Raw(*pos))?;
+                rest = inner.get();
+            }
+            TypeTree::One(inner) => {
+                pointers.push(Pointer::One)?;
+                rest = inner.get();
+            }
+            TypeTree::Arr(inner) => {
+                pointers.push(Pointer::Arr)?;
+                rest = inner.get();
+            }
+            TypeTree::Nt(inner) => {
+                pointers.push(Pointer::Nt)?;
+                rest = inner.get();
+            }
+        }
+    }
 }
 
 /// The type of a structure by its tag.

@@ -7,3 +7,4 @@ pub mod Indexing
 pub mod MainDeclared
 pub mod Search
 pub mod Tables
+mod TakenOff

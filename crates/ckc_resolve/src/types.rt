@@ -1,14 +1,27 @@
+ghost use Rattle.std.specs.Prelude.{Ok};
 ghost use Rattle.ckc_base.specs.Outcomes.{AnswersOutcome};
 ghost use Rattle.ckc_resolve.specs.Types.{type_named};
+ghost use Rattle.ckc_syntax.specs.Pointers.{wrapped};
 
 use crate::meanings::named_tag;
 use crate::names::Names;
-use ckc_base::{Boxed, Fault};
-use ckc_syntax::{Name, Spelling, TypeTree};
+use ckc_base::{Fault, Seq};
+use ckc_syntax::{Name, Pointer, Spelling, TypeTree, wrapped};
 use std::alloc::Global;
 
+/// A type in these pointers, the outermost first.
+fn in_pointers(
+    alloc: Global,
+    pointers: Seq<Pointer>,
+    base: TypeTree<Name>,
+) -> Result<TypeTree<Name>, Fault>
+    ensures { AnswersOutcome result (Ok (wrapped pointers base)) }
+{
+    let whole = wrapped(alloc, pointers, base)?;
+    Ok(whole)
+}
+
 /// A type with its tags named.
-#[cycle(types)]
 pub fn named_type<'a>(
     alloc: Global,
     names: &Names<'a>,
@@ -16,43 +29,34 @@ pub fn named_type<'a>(
 ) -> Result<TypeTree<Name>, Fault>
     ensures { AnswersOutcome result (type_named names.now t.now) }
 {
-    match t {
-        TypeTree::Int => Ok(TypeTree::Int),
-        TypeTree::Unsigned => Ok(TypeTree::Unsigned),
-        TypeTree::Char => Ok(TypeTree::Char),
-        TypeTree::Void => Ok(TypeTree::Void),
-        TypeTree::Struct(n, pos) => {
-            let tag = named_tag(names, n, *pos)?;
-            Ok(TypeTree::Struct(tag, *pos))
-        }
-        TypeTree::Raw(u, pos) => {
-            let inner = boxed_type(alloc, names, u)?;
-            Ok(TypeTree::Raw(inner, *pos))
-        }
-        TypeTree::One(u) => {
-            let inner = boxed_type(alloc, names, u)?;
-            Ok(TypeTree::One(inner))
-        }
-        TypeTree::Arr(u) => {
-            let inner = boxed_type(alloc, names, u)?;
-            Ok(TypeTree::Arr(inner))
-        }
-        TypeTree::Nt(u) => {
-            let inner = boxed_type(alloc, names, u)?;
-            Ok(TypeTree::Nt(inner))
+    let mut pointers = Seq::new(alloc);
+    let mut rest = t;
+    'pointers: loop {
+        match rest {
+            TypeTree::Int => return in_pointers(alloc, pointers, TypeTree::Int),
+            TypeTree::Unsigned => return in_pointers(alloc, pointers, TypeTree::Unsigned),
+            TypeTree::Char => return in_pointers(alloc, pointers, TypeTree::Char),
+            TypeTree::Void => return in_pointers(alloc, pointers, TypeTree::Void),
+            TypeTree::Struct(n, pos) => {
+                let tag = named_tag(names, n, *pos)?;
+                return in_pointers(alloc, pointers, TypeTree::Struct(tag, *pos));
+            }
+            TypeTree::Raw(inner, pos) => {
+                pointers.push(Pointer::Raw(*pos))?;
+                rest = inner.get();
+            }
+            TypeTree::One(inner) => {
+                pointers.push(Pointer::One)?;
+                rest = inner.get();
+            }
+            TypeTree::Arr(inner) => {
+                pointers.push(Pointer::Arr)?;
+                rest = inner.get();
+            }
+            TypeTree::Nt(inner) => {
+                pointers.push(Pointer::Nt)?;
+                rest = inner.get();
+            }
         }
     }
-}
-
-#[cycle(types)]
-fn boxed_type<'a>(
-    alloc: Global,
-    names: &Names<'a>,
-    t: &Boxed<TypeTree<Spelling<'a>>>,
-) -> Result<Boxed<TypeTree<Name>>, Fault>
-    ensures { AnswersOutcome result (type_named names.now t.now) }
-{
-    let inner = named_type(alloc, names, t.get())?;
-    let boxed = Boxed::new(alloc, inner)?;
-    Ok(boxed)
 }

@@ -14,23 +14,33 @@ use ckc_types::{CType, Kind};
 pub fn has_raw(t: &CType) -> bool
     ensures { result ≡ has_raw t.now }
 {
-    match t {
-        CType::Int | CType::Unsigned | CType::Char | CType::Void | CType::Struct(_) => false,
-        CType::Pointer(Kind::Raw, _) => true,
-        CType::Pointer(Kind::One | Kind::Arr | Kind::Nt, to) => has_raw(to.get()),
+    let mut rest = t;
+    'pointers: loop {
+        match rest {
+            CType::Int | CType::Unsigned | CType::Char => return false,
+            CType::Void | CType::Struct(_) => return false,
+            CType::Pointer(Kind::Raw, _) => return true,
+            CType::Pointer(Kind::One | Kind::Arr | Kind::Nt, to) => rest = to.get(),
+        }
     }
 }
 
 /// The first `*` of a written type, an inner type's before its own.
+#[tactic(auto, using(crate::proofs::Verdicts::first_append))]
 pub fn first_star<N>(t: &TypeTree<N>) -> Option<Pos>
     ensures { result ≡ first (stars t.now) }
 {
-    match t {
-        TypeTree::Int | TypeTree::Unsigned | TypeTree::Char | TypeTree::Void => None,
-        TypeTree::Struct(_, _) => None,
-        TypeTree::Raw(inner, pos) => first_star(inner.get()).or(Some(*pos)),
-        TypeTree::One(inner) | TypeTree::Arr(inner) | TypeTree::Nt(inner) => {
-            first_star(inner.get())
+    let mut found = None;
+    let mut rest = t;
+    'pointers: loop {
+        match rest {
+            TypeTree::Int | TypeTree::Unsigned | TypeTree::Char | TypeTree::Void => return found,
+            TypeTree::Struct(_, _) => return found,
+            TypeTree::Raw(inner, pos) => {
+                found = Some(*pos);
+                rest = inner.get();
+            }
+            TypeTree::One(inner) | TypeTree::Arr(inner) | TypeTree::Nt(inner) => rest = inner.get(),
         }
     }
 }

@@ -2,44 +2,41 @@
 
 ghost use Rattle.std.specs.Prelude.{◌≡◌, IfOk};
 
-use ckc_base::Boxed;
-use ckc_syntax::{Name, TypeTree};
+use ckc_base::Seq;
+use ckc_syntax::{Name, Pointer, TypeTree, wrapped};
 use std::alloc::{AllocError, Global};
 
 /// A copy of a written type.
-#[cycle(copied)]
 pub fn copied_type(alloc: Global, t: &TypeTree<Name>) -> Result<TypeTree<Name>, AllocError>
     ensures { IfOk result (λ u. u ≡ t.now) }
 {
-    match t {
-        TypeTree::Int => Ok(TypeTree::Int),
-        TypeTree::Unsigned => Ok(TypeTree::Unsigned),
-        TypeTree::Char => Ok(TypeTree::Char),
-        TypeTree::Void => Ok(TypeTree::Void),
-        TypeTree::Struct(n, pos) => Ok(TypeTree::Struct(*n, *pos)),
-        TypeTree::Raw(inner, pos) => {
-            let to = boxed_type(alloc, inner.get())?;
-            Ok(TypeTree::Raw(to, *pos))
-        }
-        TypeTree::One(inner) => {
-            let to = boxed_type(alloc, inner.get())?;
-            Ok(TypeTree::One(to))
-        }
-        TypeTree::Arr(inner) => {
-            let to = boxed_type(alloc, inner.get())?;
-            Ok(TypeTree::Arr(to))
-        }
-        TypeTree::Nt(inner) => {
-            let to = boxed_type(alloc, inner.get())?;
-            Ok(TypeTree::Nt(to))
+    let mut pointers = Seq::new(alloc);
+    let mut rest = t;
+    'pointers: loop {
+        match rest {
+            TypeTree::Int => return wrapped(alloc, pointers, TypeTree::Int),
+            TypeTree::Unsigned => return wrapped(alloc, pointers, TypeTree::Unsigned),
+            TypeTree::Char => return wrapped(alloc, pointers, TypeTree::Char),
+            TypeTree::Void => return wrapped(alloc, pointers, TypeTree::Void),
+            TypeTree::Struct(n, pos) => {
+                return wrapped(alloc, pointers, TypeTree::Struct(*n, *pos));
+            }
+            TypeTree::Raw(inner, pos) => {
+                pointers.push(Pointer::Raw(*pos))?;
+                rest = inner.get();
+            }
+            TypeTree::One(inner) => {
+                pointers.push(Pointer::One)?;
+                rest = inner.get();
+            }
+            TypeTree::Arr(inner) => {
+                pointers.push(Pointer::Arr)?;
+                rest = inner.get();
+            }
+            TypeTree::Nt(inner) => {
+                pointers.push(Pointer::Nt)?;
+                rest = inner.get();
+            }
         }
     }
-}
-
-#[cycle(copied)]
-fn boxed_type(alloc: Global, t: &TypeTree<Name>) -> Result<Boxed<TypeTree<Name>>, AllocError>
-    ensures { IfOk result (λ u. u ≡ t.now) }
-{
-    let to = copied_type(alloc, t)?;
-    Boxed::new(alloc, to)
 }
