@@ -1,6 +1,6 @@
 -- The lines of calls: registers are saved in the frame, the arguments are read from it and written to the homes of the
 -- called function's parameters, in registers and in the frame below.
-use Rattle.std.specs.Prelude.{ℕ, zero, suc, ◌+◌, ◌*◌, ◌==◌, ◌||◌, Bool, false, if◌then◌else◌, List, [], ◌∷◌, slice_get, Option, Some, None}
+use Rattle.std.specs.Prelude.{ℕ, zero, suc, ◌+◌, ◌*◌, ◌==◌, ◌||◌, Bool, false, true, if◌then◌else◌, List, [], ◌∷◌, slice_get, Option, Some, None}
 use Rattle.ckc_base.specs.declared.places.Pos.{Pos}
 use Rattle.ckc_base.specs.declared.runtime_checks.Check.TheVariants.{Depth}
 use Rattle.ckc_rv.specs.declared.instructions.RegOp.TheVariants.{Add}
@@ -33,8 +33,14 @@ save_lines b k rest = if b then store_lines (register_of k) 2 (k * 4 + 16) rest 
 abbrev pub restore_lines : Bool → ℕ → List Line → List Line
 restore_lines b k rest = if b then load_lines (register_of k) 2 (k * 4 + 16) rest else rest
 
+-- a register is saved in the frame, or restored from it, where it is marked
+abbrev pub kept_lines : (restores marked : Bool) → ℕ → List Line → List Line
+kept_lines false = save_lines
+kept_lines true = restore_lines
+
 -- the lines of so many registers from one on, each by whether a test names it
-unfoldable pub each_lines : (Bool → ℕ → List Line → List Line) → (ℕ → Bool) → (count k : ℕ) → List Line → List Line
+unfoldable pub each_lines : (Bool → ℕ → List Line → List Line) → (ℕ → Bool) → (count k : ℕ)
+    → List Line → List Line
 each_lines line test zero k rest = rest
 each_lines line test (suc count) k rest = line (test k) k (each_lines line test count (k + 1) rest)
 
@@ -48,28 +54,34 @@ restores_lines = each_lines restore_lines
 
 -- stops unless a frame more fits, and sets x8 to it
 abbrev pub depth_lines : Pos → List Line → List Line
-depth_lines at rest = Plain (Lui 5 0x3000) ∷ check_lines 2 5 Depth at (Plain (Lui 8 0xFFFFC) ∷ Plain (Reg Add 8 8 2) ∷ rest)
+depth_lines at rest =
+    Plain (Lui 5 0x3000) ∷
+    check_lines 2 5 Depth at (Plain (Lui 8 0xFFFFC) ∷ Plain (Reg Add 8 8 2) ∷ rest)
 
 -- an argument goes from its place in the frame to the place of a parameter, in the frame at x8
 abbrev pub argument_lines : Place → Place → List Line → List Line
 argument_lines from (place.Reg k) rest = load_lines (register_of k) 2 (offset_of from) rest
-argument_lines from (place.Slot k) rest = load_lines 5 2 (offset_of from) (store_lines 5 8 (k * 4 + 64) rest)
+argument_lines from (place.Slot k) rest =
+    load_lines 5 2 (offset_of from) (store_lines 5 8 (k * 4 + 64) rest)
 
 -- the arguments for the parameters from one on, the last first
 abbrev pub arguments_lines : List Place → List ℕ → ℕ → List Place → List Line → List Line
 arguments_lines homes [] k params rest = rest
 arguments_lines homes (r ∷ rs) k params rest =
-    arguments_lines homes rs (k + 1) params (argument_lines (place_at homes r) (place_at params k) rest)
+    arguments_lines homes rs (k + 1) params
+    (argument_lines (place_at homes r) (place_at params k) rest)
 
 -- from the frame of the caller to that below, to the function, and back
 abbrev pub visit_lines : ℕ → List Line → List Line
-visit_lines label rest = move_lines 2 8 (Far 1 label ∷ Plain (Lui 8 4) ∷ Plain (Reg Add 2 2 8) ∷ rest)
+visit_lines label rest =
+    move_lines 2 8 (Far 1 label ∷ Plain (Lui 8 4) ∷ Plain (Reg Add 2 2 8) ∷ rest)
 
 -- the kept registers and those of the arguments
 abbrev pub is_saved : List Place → List Bool → List ℕ → ℕ → Bool
 is_saved homes marks arguments k = is_kept_home k homes marks || is_argument_home k homes arguments
 
-abbrev pub call_lines : List Place → List Bool → List Place → ℕ → List ℕ → Pos → List Line → List Line
+abbrev pub call_lines : List Place → List Bool → List Place → ℕ → List ℕ → Pos → List Line
+    → List Line
 call_lines homes marks params label arguments at rest =
     saves_lines (is_saved homes marks arguments) 12 0
     (depth_lines at (arguments_lines homes arguments 0 params
@@ -83,4 +95,5 @@ result_lines homes (Some t) rest = settle_lines (place_at homes t) 10 rest
 -- what a caller does after its call, before the operations behind it
 abbrev pub back_lines : List Place → List Bool → Option ℕ → List Line → List Line
 back_lines homes marks target rest =
-    Plain (Lui 8 4) ∷ Plain (Reg Add 2 2 8) ∷ restores_lines (λ k. is_kept_home k homes marks) 12 0 (result_lines homes target rest)
+    Plain (Lui 8 4) ∷ Plain (Reg Add 2 2 8) ∷
+    restores_lines (λ k. is_kept_home k homes marks) 12 0 (result_lines homes target rest)

@@ -65,7 +65,8 @@ abbrev pub both_lines : ℕ → ℕ → List Line → List Line
 both_lines rd v rest = Plain (Lui rd (upper_of v)) ∷ Plain (add_lower_of rd rd v) ∷ rest
 
 abbrev pub large_lines : ℕ → ℕ → List Line → List Line
-large_lines rd v rest = if is_round v then Plain (Lui rd (upper_of v)) ∷ rest else both_lines rd v rest
+large_lines rd v rest =
+    if is_round v then Plain (Lui rd (upper_of v)) ∷ rest else both_lines rd v rest
 
 -- a register is set to a word
 abbrev pub constant_lines : ℕ → ℕ → List Line → List Line
@@ -85,18 +86,22 @@ abbrev pub offset_lines : ℕ → ℕ → List Line → List Line
 offset_lines frame offset rest = Plain (Lui 7 (upper_of offset)) ∷ Plain (Reg Add 7 7 frame) ∷ rest
 
 abbrev pub far_load_lines : ℕ → ℕ → ℕ → List Line → List Line
-far_load_lines rd frame offset rest = offset_lines frame offset (Plain (load_lower_of rd offset) ∷ rest)
+far_load_lines rd frame offset rest =
+    offset_lines frame offset (Plain (load_lower_of rd offset) ∷ rest)
 
 abbrev pub load_lines : ℕ → ℕ → ℕ → List Line → List Line
 load_lines rd frame offset rest =
-    if nat_lt offset 2048 then Plain (load_near_of rd frame offset) ∷ rest else far_load_lines rd frame offset rest
+    if nat_lt offset 2048 then Plain (load_near_of rd frame offset) ∷ rest
+    else far_load_lines rd frame offset rest
 
 abbrev pub far_store_lines : ℕ → ℕ → ℕ → List Line → List Line
-far_store_lines rs frame offset rest = offset_lines frame offset (Plain (store_lower_of rs offset) ∷ rest)
+far_store_lines rs frame offset rest =
+    offset_lines frame offset (Plain (store_lower_of rs offset) ∷ rest)
 
 abbrev pub store_lines : ℕ → ℕ → ℕ → List Line → List Line
 store_lines rs frame offset rest =
-    if nat_lt offset 2048 then Plain (store_near_of rs frame offset) ∷ rest else far_store_lines rs frame offset rest
+    if nat_lt offset 2048 then Plain (store_near_of rs frame offset) ∷ rest
+    else far_store_lines rs frame offset rest
 
 -- ---- environment calls and stops
 
@@ -104,11 +109,14 @@ abbrev pub ask_lines : ℕ → List Line → List Line
 ask_lines call rest = constant_lines 17 call (Plain Ecall ∷ rest)
 
 abbrev pub stop_lines : Check → Pos → List Line → List Line
-stop_lines check at rest = constant_lines 10 (number_of check) (constant_lines 11 at.line (constant_lines 12 at.col (ask_lines 3 rest)))
+stop_lines check at rest =
+    constant_lines 10 (number_of check)
+    (constant_lines 11 at.line (constant_lines 12 at.col (ask_lines 3 rest)))
 
 -- a branch over itself and the stop behind it, where two registers differ
 abbrev pub over_stop_of : ℕ → ℕ → Pos → Instr
-over_stop_of rs1 rs2 at = Branch Bne rs1 rs2 (pos ((constant_count at.line + constant_count at.col + 4) * 4))
+over_stop_of rs1 rs2 at =
+    Branch Bne rs1 rs2 (pos ((constant_count at.line + constant_count at.col + 4) * 4))
 
 -- stops unless two registers differ
 abbrev pub check_lines : ℕ → ℕ → Check → Pos → List Line → List Line
@@ -242,11 +250,13 @@ immediate_lines i n o rd ra rest = Plain (immediate_of i rd ra n) ∷ ending_lin
 abbrev pub form_lines : Form → BinOp → ℕ → ℕ → PlacedOperand → List Line → List Line
 form_lines Zero o rd ra b rest = ending_lines o rd ra rest
 form_lines (Immediate i n) o rd ra b rest = immediate_lines i n o rd ra rest
-form_lines Registers o rd ra b rest = operand_lines b 6 (apply_lines o rd ra (register_with b 6) rest)
+form_lines Registers o rd ra b rest =
+    operand_lines b 6 (apply_lines o rd ra (register_with b 6) rest)
 
 abbrev pub bin_lines : BinOp → Place → PlacedOperand → PlacedOperand → List Line → List Line
 bin_lines o t a b rest =
-    operand_lines a 5 (form_lines (form_of o b) o (source_of t 5) (register_with a 5) b (write_lines t 5 rest))
+    operand_lines a 5
+    (form_lines (form_of o b) o (source_of t 5) (register_with a 5) b (write_lines t 5 rest))
 
 abbrev pub high_op : Bool → RegOp
 high_op true = Mulh
@@ -255,7 +265,8 @@ high_op false = Mulhu
 abbrev pub high_lines : Bool → Place → PlacedOperand → PlacedOperand → List Line → List Line
 high_lines is_signed t a b rest =
     operand_lines a 5 (operand_lines b 6
-    (Plain (Reg (high_op is_signed) (source_of t 5) (register_with a 5) (register_with b 6)) ∷ write_lines t 5 rest))
+    (Plain (Reg (high_op is_signed) (source_of t 5) (register_with a 5) (register_with b 6)) ∷
+    write_lines t 5 rest))
 
 abbrev pub load_op : Width → LoadOp
 load_op Byte = Lbu
@@ -267,11 +278,15 @@ store_op Word = Sw
 
 abbrev pub data_load_lines : Width → Place → PlacedOperand → List Line → List Line
 data_load_lines width t a rest =
-    operand_lines a 5 (Plain (Load (load_op width) (source_of t 5) (register_with a 5) (pos 0)) ∷ write_lines t 5 rest)
+    operand_lines a 5
+    (Plain (Load (load_op width) (source_of t 5) (register_with a 5) (pos 0)) ∷
+    write_lines t 5 rest)
 
 abbrev pub data_store_lines : Width → PlacedOperand → PlacedOperand → List Line → List Line
 data_store_lines width a b rest =
-    operand_lines a 5 (operand_lines b 6 (Plain (Store (store_op width) (register_with a 5) (register_with b 6) (pos 0)) ∷ rest))
+    operand_lines a 5
+    (operand_lines b 6
+    (Plain (Store (store_op width) (register_with a 5) (register_with b 6) (pos 0)) ∷ rest))
 
 abbrev pub test_lines : Check → Pos → PlacedOperand → List Line → List Line
 test_lines check at a rest = operand_lines a 5 (check_lines (register_with a 5) 0 check at rest)
@@ -286,18 +301,24 @@ put_lines a rest = take_lines 10 a (ask_lines 1 rest)
 
 abbrev pub tests_lines : List Line → List Line
 tests_lines rest =
-    Plain (Imm Addi 10 0 (pos 0)) ∷ Plain (Branch Bge 0 5 (pos 48)) ∷ Plain (Branch Bltu 12 11 (pos 44))
+    Plain (Imm Addi 10 0 (pos 0)) ∷ Plain (Branch Bge 0 5 (pos 48)) ∷
+    Plain (Branch Bltu 12 11 (pos 44))
     ∷ Plain (Reg Sub 12 12 11) ∷ Plain (Reg Divu 12 12 6) ∷ Plain (Branch Bltu 12 5 (pos 32)) ∷ rest
 
 abbrev pub room_lines : List Line → List Line
-room_lines rest = Plain (Lui 8 0x2000) ∷ Plain (Load Lw 11 8 (pos 0)) ∷ Plain (Lui 12 0x3000) ∷ tests_lines rest
+room_lines rest =
+    Plain (Lui 8 0x2000) ∷ Plain (Load Lw 11 8 (pos 0)) ∷ Plain (Lui 12 0x3000) ∷ tests_lines rest
 
 abbrev pub rounded_lines : List Line → List Line
-rounded_lines rest = Plain (Imm Srli 5 5 (pos 3)) ∷ Plain (Imm Slli 5 5 (pos 3)) ∷ Plain (Store Sw 8 5 (pos 0)) ∷ rest
+rounded_lines rest =
+    Plain (Imm Srli 5 5 (pos 3)) ∷ Plain (Imm Slli 5 5 (pos 3)) ∷
+    Plain (Store Sw 8 5 (pos 0)) ∷ rest
 
 abbrev pub claim_lines : List Line → List Line
 claim_lines rest =
-    Plain (Imm Addi 10 11 (pos 0)) ∷ Plain (Reg Mul 5 5 6) ∷ Plain (Reg Add 5 5 11) ∷ Plain (Imm Addi 5 5 (pos 15)) ∷ rounded_lines rest
+    Plain (Imm Addi 10 11 (pos 0)) ∷ Plain (Reg Mul 5 5 6) ∷ Plain (Reg Add 5 5 11) ∷
+    Plain (Imm Addi 5 5 (pos 15)) ∷ rounded_lines rest
 
 abbrev pub alloc_lines : Place → PlacedOperand → ℕ → List Line → List Line
-alloc_lines t a size rest = take_lines 5 a (constant_lines 6 size (room_lines (claim_lines (settle_lines t 10 rest))))
+alloc_lines t a size rest =
+    take_lines 5 a (constant_lines 6 size (room_lines (claim_lines (settle_lines t 10 rest))))

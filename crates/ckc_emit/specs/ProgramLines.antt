@@ -54,24 +54,33 @@ abbrev pub operand_at : List Place → Operand → PlacedOperand
 operand_at homes (Register r) = placed.At (place_at homes r)
 operand_at homes (Number n) = placed.Number n
 
-abbrev pub op_lines : List PlacedFunc → PlacedFunc → (calls_before : ℕ) → TacOp → List Line → List Line
+abbrev pub op_lines : List PlacedFunc → PlacedFunc → (calls_before : ℕ) → TacOp → List Line
+    → List Line
 op_lines functions f n (Const t v) rest = const_lines (place_at f.homes t) v rest
 op_lines functions f n (Copy t a) rest = copy_lines (place_at f.homes t) (place_at f.homes a) rest
-op_lines functions f n (Bin op t a b) rest = bin_lines op (place_at f.homes t) (operand_at f.homes a) (operand_at f.homes b) rest
-op_lines functions f n (High is_signed t a b) rest = high_lines is_signed (place_at f.homes t) (operand_at f.homes a) (operand_at f.homes b) rest
-op_lines functions f n (Load width t a) rest = data_load_lines width (place_at f.homes t) (operand_at f.homes a) rest
-op_lines functions f n (Store width a b) rest = data_store_lines width (operand_at f.homes a) (operand_at f.homes b) rest
+op_lines functions f n (Bin op t a b) rest =
+    bin_lines op (place_at f.homes t) (operand_at f.homes a) (operand_at f.homes b) rest
+op_lines functions f n (High is_signed t a b) rest =
+    high_lines is_signed (place_at f.homes t) (operand_at f.homes a) (operand_at f.homes b) rest
+op_lines functions f n (Load width t a) rest =
+    data_load_lines width (place_at f.homes t) (operand_at f.homes a) rest
+op_lines functions f n (Store width a b) rest =
+    data_store_lines width (operand_at f.homes a) (operand_at f.homes b) rest
 op_lines functions f n (Check check at a) rest = test_lines check at (operand_at f.homes a) rest
 op_lines functions f n (Call target callee arguments at) rest =
-    call_lines f.homes (marks_of (slice_get f.kept n)) (homes_of (slice_get functions callee)) (label_of functions callee) arguments at
+    call_lines f.homes (marks_of (slice_get f.kept n)) (homes_of (slice_get functions callee))
+    (label_of functions callee) arguments at
     (result_lines f.homes target rest)
 op_lines functions f n (Get t) rest = get_lines (place_at f.homes t) rest
 op_lines functions f n (Put a) rest = put_lines (operand_at f.homes a) rest
-op_lines functions f n (Alloc t a size) rest = alloc_lines (place_at f.homes t) (operand_at f.homes a) size rest
+op_lines functions f n (Alloc t a size) rest =
+    alloc_lines (place_at f.homes t) (operand_at f.homes a) size rest
 
-abbrev pub ops_lines : List PlacedFunc → PlacedFunc → (calls_before : ℕ) → List TacOp → List Line → List Line
+abbrev pub ops_lines : List PlacedFunc → PlacedFunc → (calls_before : ℕ) → List TacOp → List Line
+    → List Line
 ops_lines functions f n [] rest = rest
-ops_lines functions f n (op ∷ ops) rest = op_lines functions f n op (ops_lines functions f (n + is_call op) ops rest)
+ops_lines functions f n (op ∷ ops) rest =
+    op_lines functions f n op (ops_lines functions f (n + is_call op) ops rest)
 
 -- to a block; nothing where it comes next
 abbrev pub jump_lines : (first next b : ℕ) → List Line → List Line
@@ -101,9 +110,12 @@ choice_lines c ra rb first next one two rest =
     if one == next then over_lines (holding c) ra rb (first + two) rest
     else over_lines (failing c) ra rb (first + one) (jump_lines first next two rest)
 
-abbrev pub branch_lines : Comparison → PlacedOperand → PlacedOperand → (first next one two : ℕ) → List Line → List Line
+abbrev pub branch_lines : Comparison → PlacedOperand → PlacedOperand → (first next one two : ℕ)
+    → List Line → List Line
 branch_lines c a b first next one two rest =
-    operand_lines a 5 (operand_lines b 6 (choice_lines c (register_with a 5) (register_with b 6) first next one two rest))
+    operand_lines a 5
+    (operand_lines b 6
+    (choice_lines c (register_with a 5) (register_with b 6) first next one two rest))
 
 -- a block without operations that jumps on
 abbrev pub is_passing_end : TacEnd → Bool
@@ -124,7 +136,8 @@ abbrev pub falls_through : List TacBlock → (next b : ℕ) → Bool
 falls_through blocks next b = b == next && not (is_passing (slice_get blocks b))
 
 abbrev pub pass_lines : List TacBlock → (first next b : ℕ) → List Line → List Line
-pass_lines blocks first next b rest = if falls_through blocks next b then rest else Far 0 (first + b) ∷ rest
+pass_lines blocks first next b rest =
+    if falls_through blocks next b then rest else Far 0 (first + b) ∷ rest
 
 -- back to the caller, with a value in x10
 abbrev pub return_lines : PlacedOperand → List Line → List Line
@@ -132,29 +145,36 @@ return_lines a rest = take_lines 10 a (load_lines 1 2 0 (Plain (Jalr 0 1 (pos 0)
 
 abbrev pub end_lines : PlacedFunc → (first next : ℕ) → TacEnd → List Line → List Line
 end_lines f first next (Jump b) rest = pass_lines f.code.blocks first next b rest
-end_lines f first next (Branch c a b one two) rest = branch_lines c (operand_at f.homes a) (operand_at f.homes b) first next one two rest
+end_lines f first next (Branch c a b one two) rest =
+    branch_lines c (operand_at f.homes a) (operand_at f.homes b) first next one two rest
 end_lines f first next (Return a) rest = return_lines (operand_at f.homes a) rest
 
 -- ---- blocks, functions, programs
 
 -- a block, where so many calls stand before it in the function
-abbrev pub block_lines : List PlacedFunc → PlacedFunc → (first b calls_before : ℕ) → TacBlock → List Line → List Line
+abbrev pub block_lines : List PlacedFunc → PlacedFunc → (first b calls_before : ℕ) → TacBlock
+    → List Line → List Line
 block_lines functions f first b n block rest =
     Label (first + b) ∷ ops_lines functions f n block.ops (end_lines f first (b + 1) block.end rest)
 
 -- the blocks from one on
-abbrev pub blocks_lines : List PlacedFunc → PlacedFunc → (first b calls_before : ℕ) → List TacBlock → List Line → List Line
+abbrev pub blocks_lines : List PlacedFunc → PlacedFunc → (first b calls_before : ℕ) → List TacBlock
+    → List Line → List Line
 blocks_lines functions f first b n [] rest = rest
 blocks_lines functions f first b n (block ∷ blocks) rest =
-    block_lines functions f first b n block (blocks_lines functions f first (b + 1) (n + calls_in block) blocks rest)
+    block_lines functions f first b n block
+    (blocks_lines functions f first (b + 1) (n + calls_in block) blocks rest)
 
 -- a function stores the return address first
 abbrev pub function_lines : List PlacedFunc → PlacedFunc → (label : ℕ) → List Line → List Line
-function_lines functions f label rest = Label label ∷ store_lines 1 2 0 (blocks_lines functions f (label + 1) 0 0 f.code.blocks rest)
+function_lines functions f label rest =
+    Label label ∷ store_lines 1 2 0 (blocks_lines functions f (label + 1) 0 0 f.code.blocks rest)
 
 abbrev pub functions_lines : List PlacedFunc → (label : ℕ) → List PlacedFunc → List Line → List Line
 functions_lines functions label [] rest = rest
-functions_lines functions label (f ∷ fs) rest = function_lines functions f label (functions_lines functions (label + (length f.code.blocks + 1)) fs rest)
+functions_lines functions label (f ∷ fs) rest =
+    function_lines functions f label
+    (functions_lines functions (label + (length f.code.blocks + 1)) fs rest)
 
 -- the first frame, the call of `main`, and the end with what it returns
 abbrev pub start_lines : (main : ℕ) → List Line → List Line

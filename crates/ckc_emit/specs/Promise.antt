@@ -16,21 +16,29 @@ use Rattle.ckc_emit.specs.Stores.{seen_events, may_do}
 
 -- The machine of the parts follows placed code within 80 instructions for each of its steps, with every input.
 abbrev pub FollowsPlaced : Placed → Parts → Type 0
-FollowsPlaced p parts = (input : List ℕ) → All (λ b. b < 256) input → Follows (placed_meaning p input) (machine parts input) 80
+FollowsPlaced p parts =
+    (input : List ℕ) → All (λ b. b < 256) input
+    → Follows (placed_meaning p input) (machine parts input) 80
 
 -- The same with its stores to the data region.
 abbrev pub FollowsStores : Placed → Parts → Type 0
 FollowsStores p parts = (input : List ℕ) → All (λ b. b < 256) input →
-    Follows (λ n. narrowed data_events (placed_detail p input n)) (λ k. narrowed seen_events (detailed_machine parts input k)) 80
+    Follows (λ n. narrowed data_events (placed_detail p input n))
+    (λ k. narrowed seen_events (detailed_machine parts input k)) 80
 
 -- With an input with which placed code is never stuck, the steps of the machine can be listed beside those of placed
 -- code: input, output and the stores to the data region are the same, and every other store lies in the frame of the
 -- innermost active call, or in the next one.
 abbrev pub ListsStores : Placed → Parts → Type 0
-ListsStores p parts = (input : List ℕ) → All (λ b. b < 256) input → ((n : ℕ) → (placed_detail p input n).standing ≢ Stuck) → (k : ℕ) →
-    Listing (placed_system p.funcs) (detailed_system parts) data_events seen_events (λ s event. IsTrue (may_do s event)) (λ s t. Unit {0})
+ListsStores p parts =
+    (input : List ℕ) → All (λ b. b < 256) input
+    → ((n : ℕ) → (placed_detail p input n).standing ≢ Stuck) → (k : ℕ) →
+    Listing (placed_system p.funcs) (detailed_system parts) data_events seen_events
+    (λ s event. IsTrue (may_do s event)) (λ s t. Unit {0})
     (first_state p input) (machine.first_state parts input) k
 
 -- what holds of all parts that labelled lines are assembled to
 abbrev pub WhenAssembled : Labelled → (Parts → Type 0) → Type 0
-WhenAssembled l P = (parts : Parts) → Assembled l.lines l.start l.initial parts.entry parts.code parts.initial → P parts
+WhenAssembled l P =
+    (parts : Parts) → Assembled l.lines l.start l.initial parts.entry parts.code parts.initial
+    → P parts

@@ -9,7 +9,9 @@ use Rattle.ckc_frame.specs.Meaning.{State, active}
 -- a store of a byte or a word into the data region
 abbrev pub data_store : (at count value : ℕ) → List LongEvent
 data_store at count value =
-    if is_data at then (if count == 1 then Stored at Byte value ∷ [] else if count == 4 then Stored at Word value ∷ [] else []) else []
+    if is_data at
+    then (if count == 1 then Stored at Byte value ∷ []
+    else if count == 4 then Stored at Word value ∷ [] else []) else []
 
 -- an event of the machine as placed code shows it
 abbrev pub seen_events : MachineEvent → List LongEvent
@@ -28,7 +30,8 @@ is_in_frame d at count = nat_le (frame_start d) at && nat_le (at + count) (frame
 -- may be active.
 abbrev pub may_store : (d at count : ℕ) → Bool
 may_store d at count =
-    (is_data at && (count == 1 || count == 4)) || is_in_frame d at count || (nat_lt d 1024 && is_in_frame (d + 1) at count)
+    (is_data at && (count == 1 || count == 4)) || is_in_frame d at count
+    || (nat_lt d 1024 && is_in_frame (d + 1) at count)
 
 abbrev pub may_do : State → MachineEvent → Bool
 may_do s (Outside event) = true

@@ -3,7 +3,7 @@ ghost use Rattle.std.specs.Prelude.{◌≡◌, ◌<◌, ◌≤◌, ◌==◌, ◌
 ghost use Rattle.ckc_frame.specs.WellFormed.{IsPlace};
 ghost use Rattle.ckc_frame.specs.Places.{number_of, is_kept_home};
 ghost use Rattle.ckc_emit.specs.Emitting.{Emits};
-ghost use Rattle.ckc_emit.specs.CallLines.{is_argument_home, save_lines, saves_lines, restore_lines, restores_lines, depth_lines, argument_lines, arguments_lines, visit_lines, call_lines, result_lines};
+ghost use Rattle.ckc_emit.specs.CallLines.{is_argument_home, kept_lines, each_lines, depth_lines, argument_lines, arguments_lines, visit_lines, call_lines, result_lines};
 
 use crate::places::{offset, place_in, put_settle, register, source};
 use crate::templates::{SP, put, put_check, put_load, put_move, put_store};
@@ -54,52 +54,35 @@ fn saved_homes(kept: &[bool; 12], homes: &[Place], args: &[u32]) -> [bool; 12]
     found
 }
 
-/// Saves a register in the frame if it is marked.
-fn put_save(out: &mut Vec<Line>, marked: &[bool; 12], k: u8) -> Result<(), AllocError>
+/// Saves a register in the frame if it is marked, or restores it from there.
+fn put_kept(
+    out: &mut Vec<Line>,
+    restores: bool,
+    marked: &[bool; 12],
+    k: u8,
+) -> Result<(), AllocError>
     requires { k < 12 }
-    ensures { OnOk result
-        (Emits out.old.items out.new.items (save_lines (slice_index_or marked.now k false) k)) }
-{
-    if marked[k as usize] {
-        put_store(out, register(k), SP, offset(Place::Reg(k)))
-    } else {
-        Ok(())
-    }
-}
-
-/// Saves the registers that are marked in the frame.
-fn put_saves(out: &mut Vec<Line>, marked: &[bool; 12]) -> Result<(), AllocError>
     ensures { OnOk result
         (Emits out.old.items out.new.items
-        (saves_lines (λ k. slice_index_or marked.now k false) 12 0)) }
+        (kept_lines restores (slice_index_or marked.now k false) k)) }
 {
-    for k in 0..12u8 {
-        put_save(out, marked, k)?;
-    }
-    Ok(())
-}
-
-/// Restores a register from the frame if it is marked.
-fn put_restore(out: &mut Vec<Line>, marked: &[bool; 12], k: u8) -> Result<(), AllocError>
-    requires { k < 12 }
-    ensures { OnOk result
-        (Emits out.old.items out.new.items (restore_lines (slice_index_or marked.now k false) k)) }
-{
-    if marked[k as usize] {
+    if !marked[k as usize] {
+        Ok(())
+    } else if restores {
         put_load(out, register(k), SP, offset(Place::Reg(k)))
     } else {
-        Ok(())
+        put_store(out, register(k), SP, offset(Place::Reg(k)))
     }
 }
 
-/// Restores the registers that are marked from the frame.
-fn put_restores(out: &mut Vec<Line>, marked: &[bool; 12]) -> Result<(), AllocError>
+/// Saves the registers that are marked in the frame, or restores them from there.
+fn put_each(out: &mut Vec<Line>, restores: bool, marked: &[bool; 12]) -> Result<(), AllocError>
     ensures { OnOk result
         (Emits out.old.items out.new.items
-        (restores_lines (λ k. slice_index_or marked.now k false) 12 0)) }
+        (each_lines (kept_lines restores) (λ k. slice_index_or marked.now k false) 12 0)) }
 {
     for k in 0..12u8 {
-        put_restore(out, marked, k)?;
+        put_kept(out, restores, marked, k)?;
     }
     Ok(())
 }
@@ -178,11 +161,11 @@ pub fn put_call(
 {
     let kept = kept_homes(homes, row);
     let saved = saved_homes(&kept, homes, args);
-    put_saves(out, &saved)?;
+    put_each(out, false, &saved)?;
     put_depth(out, at)?;
     put_arguments(out, homes, args, params)?;
     put_visit(out, label)?;
-    put_restores(out, &kept)
+    put_each(out, true, &kept)
 }
 
 /// Writes the result of a call.

@@ -3,7 +3,7 @@ ghost use Rattle.std.specs.Prelude.{◌≡◌, OnOk};
 ghost use Rattle.ckc_frame.specs.WellFormed.{IsPlace};
 ghost use Rattle.ckc_emit.specs.Emitting.{Emits};
 ghost use Rattle.ckc_emit.specs.Operands.{IsOperand};
-ghost use Rattle.ckc_emit.specs.Lines.{const_lines, copy_lines, bin_lines, form_lines, form_of, number_form as number_form_of, near_form as near_form_of, immediate_lines, ending_lines, apply_lines, operation_of, high_lines, data_load_lines, data_store_lines, test_lines, get_lines, put_lines};
+ghost use Rattle.ckc_emit.specs.Lines.{const_lines, copy_lines, bin_lines, form_lines, form_of, number_form as number_form_of, near_form as near_form_of, immediate_lines, ending_lines, apply_lines, operation_of, high_lines, load_op, store_op, data_load_lines, data_store_lines, test_lines, get_lines, put_lines};
 
 use crate::places::{
     PlacedOperand, put_fetch, put_operand, put_settle, put_take, put_write, register_of_operand,
@@ -228,6 +228,16 @@ pub fn put_high(
     put_write(out, t, 5)
 }
 
+/// The load of a byte or of a word.
+fn load_op(width: Width) -> LoadOp
+    ensures { result ≡ load_op width }
+{
+    match width {
+        Width::Byte => LoadOp::Lbu,
+        Width::Word => LoadOp::Lw,
+    }
+}
+
 /// A place gets the value at an address, which an operand has.
 pub fn put_data_load(
     out: &mut Vec<Line>,
@@ -239,16 +249,22 @@ pub fn put_data_load(
     requires a { IsOperand a }
     ensures { OnOk result (Emits out.old.items out.new.items (data_load_lines width t a)) }
 {
-    let op = match width {
-        Width::Byte => LoadOp::Lbu,
-        Width::Word => LoadOp::Lw,
-    };
     put_operand(out, a, 5)?;
     put(
         out,
-        Instr::Load(op, source(t, 5), register_of_operand(a, 5), 0),
+        Instr::Load(load_op(width), source(t, 5), register_of_operand(a, 5), 0),
     )?;
     put_write(out, t, 5)
+}
+
+/// The store of a byte or of a word.
+fn store_op(width: Width) -> StoreOp
+    ensures { result ≡ store_op width }
+{
+    match width {
+        Width::Byte => StoreOp::Sb,
+        Width::Word => StoreOp::Sw,
+    }
 }
 
 /// A value is stored at an address; two operands have both.
@@ -262,16 +278,10 @@ pub fn put_data_store(
     requires b { IsOperand b }
     ensures { OnOk result (Emits out.old.items out.new.items (data_store_lines width a b)) }
 {
-    let op = match width {
-        Width::Byte => StoreOp::Sb,
-        Width::Word => StoreOp::Sw,
-    };
     put_operand(out, a, 5)?;
     put_operand(out, b, 6)?;
-    put(
-        out,
-        Instr::Store(op, register_of_operand(a, 5), register_of_operand(b, 6), 0),
-    )
+    let (ra, rb) = (register_of_operand(a, 5), register_of_operand(b, 6));
+    put(out, Instr::Store(store_op(width), ra, rb, 0))
 }
 
 /// The program stops at a check where an operand is zero.
