@@ -18,7 +18,7 @@ module _
     (named_small : (t : SpelledTree) (n : NamedText) → naming.Makes t n → Small t → Small n.tree)
     (typed_small : (n : NamedText) (p : Typed) → named_typed n ≡ Ok p → Small n.tree → Small p.tree)
     (marks_stay : (p q : Typed) → bounding.Makes p q → marks_of q.tree ≡ marks_of p.tree)
-    (light : (p : Typed) → program_weight (elaborated p) ≤ 250 * text_nodes p) where
+    (light : (p : Typed) → program_weight (elaborated p) ≤ 240 * text_nodes p) where
   pub meaning_fits : (text : List ℕ) (p : Program) → HasMeaning text p → program_weight p ≤ 4193275
   meaning_fits text p made =
       let limited = made.1.2 in

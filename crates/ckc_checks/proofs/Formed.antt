@@ -36,9 +36,9 @@ use Rattle.ckc_core.specs.WellFormed.{IsExprOver, IsCodeOver, IsFunctionOver, Is
 use Rattle.ckc_checks.proofs.Needs.{far_one, range_more, range_far, value_room_some, Has, judged_has, moved_has, added_has, choice_has}
 use Rattle.ckc_operands.specs.Compilable as form
 use Rattle.ckc_operands.specs.Compilable.{IsBase, IsVariable, IsSmall, IsEnd, IsJudged, IsRanged, IsAccess, IsChecked, IsCompilableExpr, IsCompilablePart, IsCompilableTarget, IsCompilableRight, IsCompilableAssign, IsCompilableKept, IsCompilableCode, IsCompilableFunction, IsCompilable, AreEnds, IsCount, IsBounded, HasRange, IsCast}
-use Rattle.ckc_operands.specs.Operands.{is_direct, operated, low_byte, as_truth, is_zero, scaled, shifted, at_offset, element_of, place_at, held, keeps_index, direct, operand, casts_one}
-use Rattle.ckc_operands.specs.Pointers.{is_bounded, reads_signed, exact_test, base_at, amount_at, end_at, counted_end, range_end, upper_test, range_test, static_place, is_ranged, takes_range, index_far, index_in, held_test, bounds_test, length_at, is_natural, cast_test}
-use Rattle.ckc_checks.specs.Inserted.{put_if, room_if, exact_code, bounded_code, judged, pointer_at, index_at, reached_place, operation_code, expr_code, operand_code, operands_code, operands, expr_room, operand_room, operands_room, is_narrow, kept_in, marked, aim_code, target_count, guarded, stored_code, written, fixed, allowed_code, written_there, right_assigned, valued, behind_planned, plans_code, writes_code, bundle_code, target_room, guard_room, aimed_room, assigned_room, valued_room, bundle_room, result_in, result_kept, statements, room, zeroed, function_code, inserted, reached_element, access_room, value_room, with_range, no_range, pointer_code, tested_code, trusted_range, moved_range, value_code, access_code}
+use Rattle.ckc_operands.specs.Operands.{is_direct, operated, low_byte, kept_in, as_truth, is_zero, scaled, shifted, at_offset, element_of, place_at, held, keeps_index, direct, operand, casts_one}
+use Rattle.ckc_operands.specs.Pointers.{is_bounded, reads_signed, exact_test, base_at, amount_at, end_at, counted_end, range_end, upper_test, range_test, static_place, is_ranged, takes_range, index_far, index_in, held_test, bounds_test, length_at, below_or_at, bytes_left, bytes_fit, cast_test}
+use Rattle.ckc_checks.specs.Inserted.{put_if, room_if, exact_code, bounded_code, judged, pointer_at, index_at, reached_place, operation_code, expr_code, operand_code, operands_code, operands, expr_room, operand_room, operands_room, is_narrow, marked, aim_code, target_count, guarded, stored_code, written, fixed, allowed_code, written_there, right_assigned, valued, behind_planned, plans_code, writes_code, bundle_code, target_room, guard_room, aimed_room, assigned_room, valued_room, bundle_room, result_in, result_kept, statements, room, zeroed, function_code, inserted, reached_element, access_room, value_room, with_range, no_range, pointer_code, tested_code, trusted_range, moved_range, value_code, access_code}
 
 -- an expression needs a temporary for its value
 pub expr_room_some : (e : source.Expr) → 1 ≤ expr_room e
@@ -204,14 +204,21 @@ module _ (few locals : ℕ) (more : few ≤ locals) where
       let member = Load (width_of form) (at_offset offset (Local u)) in
       scaled_over size (at_offset (word_of add) member) h (at_offset_over (word_of add) member (small_word add is.1) (at_offset_over offset (Local u) is.0 below))
 
-  natural_over : (form : Integer) (k : Expr) → IsExprOver locals k → IsExprOver locals (is_natural form k)
-  natural_over integer.Int k h = (h, lit< tt)
-  natural_over integer.Unsigned k h = lit< tt
-  natural_over integer.Char k h = lit< tt
+  left_over : (t : ℕ) → t + 3 ≤ locals → IsExprOver locals (bytes_left t)
+  left_over t fits = (omega arith, (omega arith, omega arith))
+
+  bytes_fit_over : (form : Integer) (k : Expr) (t : ℕ) → IsExprOver locals k → t + 3 ≤ locals → IsExprOver locals (bytes_fit form k t)
+  bytes_fit_over integer.Int k t h fits = ((h, lit< tt), ((left_over t fits, h), lit< tt))
+  bytes_fit_over integer.Unsigned k t h fits = ((left_over t fits, h), lit< tt)
+  bytes_fit_over integer.Char k t h fits = ((left_over t fits, h), lit< tt)
+
+  fit_over : (one : Bool) (size : ℕ) (form : Integer) (k : Expr) (t : ℕ) → size < 2 ^ 31 → IsExprOver locals k → t + 3 ≤ locals
+      → IsExprOver locals (if one then bytes_fit form k t else below_or_at k (Bin binary.DivU (bytes_left t) (Const size)))
+  fit_over true size form k t small h fits = bytes_fit_over form k t h fits
+  fit_over false size form k t small h fits = (((left_over t fits, omega arith), h), lit< tt)
 
   cast_over : (size : ℕ) (form : Integer) (k : Expr) (t : ℕ) → size < 2 ^ 31 → IsExprOver locals k → t + 3 ≤ locals → IsExprOver locals (cast_test size form k t)
-  cast_over size form k t small h fits =
-      (held_test_over true t fits, (natural_over form k h, ((((omega arith, (omega arith, omega arith)), omega arith), h), lit< tt)))
+  cast_over size form k t small h fits = (held_test_over true t fits, fit_over (size == 1) size form k t small h fits)
 
   operands_over : (es : List source.Expr) (t : ℕ) → All (IsCompilablePart few) es → t + operands_room es ≤ locals → All (IsExprOver locals) (operands es t)
   operands_over [] t h fits = All-nil (IsExprOver locals)

@@ -26,7 +26,7 @@ use Rattle.ckc_core.specs.Sizes.{expr_size, exprs_size, set_size, code_size}
 use Rattle.ckc_operands.specs.Compilable.{element_nodes, access_nodes, shift_nodes, index_nodes, range_nodes}
 use Rattle.ckc_operands.specs.Weights.{value_weight, expr_weight, access_weight, arguments_weight}
 use Rattle.ckc_operands.specs.Operands.{is_direct, operated, low_byte, as_truth, is_zero, scaled, shifted, at_offset, element_of, place_at, held, keeps_index, direct, operand, casts_one}
-use Rattle.ckc_operands.specs.Pointers.{is_bounded, reads_signed, exact_test, base_at, amount_at, end_at, static_place, counted_end, range_end, range_test, is_ranged, takes_range, index_far, index_in, held_test, bounds_test, length_at, is_natural}
+use Rattle.ckc_operands.specs.Pointers.{is_bounded, reads_signed, exact_test, base_at, amount_at, end_at, static_place, counted_end, range_end, range_test, is_ranged, takes_range, index_far, index_in, held_test, bounds_test, length_at, below_or_at, bytes_left, bytes_fit, elements_fit}
 use Rattle.ckc_checks.specs.Inserted.{put_if, exact_code, moved_code, element_code, bounded_code, judged, reached_place, operation_code, expr_code, operand_code, operands_code, operands, reached_element, access_code, value_code, with_range, no_range, pointer_code, tested_code, trusted_range, moved_range}
 use Rattle.ckc_source.specs.declared.expr.Integer.{Integer}
 use Rattle.ckc_source.specs.declared.expr.Integer.TheVariants as integer
@@ -110,7 +110,7 @@ direct_place_sized access p a (source.Number n) h = omega (arith, const_place_si
 direct_place_sized access p a i h = omega (arith, place_sized access p i a (direct i), h)
 
 cast_direct : (one : Bool) (p k : source.Expr) → 2 * expr_size (direct p) ≤ value_weight false p → 2 * expr_size (direct p) ≤ value_weight true p
-    → 2 * expr_size (direct p) ≤ (if one then 60 + value_weight false p + value_weight false k else 244 + value_weight true p + index_nodes k (value_weight false k))
+    → 2 * expr_size (direct p) ≤ (if one then 60 + value_weight false p + value_weight false k else 225 + value_weight true p + index_nodes k (value_weight false k))
 cast_direct true p k plain ranged = omega (arith, plain)
 cast_direct false p k plain ranged = omega (arith, ranged)
 
@@ -345,19 +345,30 @@ pointer_sized true size count offset element t rest =
     omega (arith, set_sized element, length_sized size count (t + 1), at_offset_sized offset (Local (t + 1)))
 pointer_sized false size count offset element t rest = omega (arith, at_offset_sized offset element)
 
--- how many instructions a count has that is a number or in a temporary, with its scaled one
-count_sized : (size : ℕ) (how : Integer) (k : source.Expr) (u : ℕ)
-    → expr_size (is_natural how (held (keeps_index true k) k u)) + expr_size (held (keeps_index true k) k u) + set_size (scaled size (held (keeps_index true k) k u)) ≤ 34
-count_sized size integer.Int (source.Number n) u = omega arith
-count_sized size integer.Unsigned (source.Number n) u = omega arith
-count_sized size integer.Char (source.Number n) u = omega arith
-count_sized size integer.Int k u = omega (arith, set_scaled size (Local u))
-count_sized size integer.Unsigned k u = omega (arith, set_scaled size (Local u))
-count_sized size integer.Char k u = omega (arith, set_scaled size (Local u))
+number_fits : (one : Bool) (size : ℕ) (how : Integer) (n t : ℕ)
+    → expr_size (if one then bytes_fit how (Const n) t else below_or_at (Const n) (Bin binary.DivU (bytes_left t) (Const size))) ≤ 86
+number_fits true size integer.Int n t = omega arith
+number_fits true size integer.Unsigned n t = omega arith
+number_fits true size integer.Char n t = omega arith
+number_fits false size how n t = omega arith
+
+local_fits : (one : Bool) (size : ℕ) (how : Integer) (u t : ℕ)
+    → expr_size (if one then bytes_fit how (Local u) t else below_or_at (Local u) (Bin binary.DivU (bytes_left t) (Const size)))
+    + set_size (if one then Local u else Bin binary.Mul (Const size) (Local u)) ≤ 91
+local_fits true size integer.Int u t = omega arith
+local_fits true size integer.Unsigned u t = omega arith
+local_fits true size integer.Char u t = omega arith
+local_fits false size how u t = omega arith
+
+-- how many instructions the test of a count has that is a number or in a temporary, with the scaled count
+fits_sized : (size : ℕ) (how : Integer) (k : source.Expr) (u t : ℕ)
+    → expr_size (elements_fit size how (held (keeps_index true k) k u) t) + set_size (scaled size (held (keeps_index true k) k u)) ≤ 91
+fits_sized size how (source.Number n) u t = omega (arith, number_fits (size == 1) size how n t)
+fits_sized size how k u t = local_fits (size == 1) size how u t
 
 tested_sized : (size : ℕ) (how : Integer) (at : Pos) (k : source.Expr) (u t : ℕ) (rest : Code)
-    → code_size (tested_code size how at (held (keeps_index true k) k u) t rest) ≤ 244 + code_size rest
-tested_sized size how at k u t rest = omega (arith, count_sized size how k u)
+    → code_size (tested_code size how at (held (keeps_index true k) k u) t rest) ≤ 225 + code_size rest
+tested_sized size how at k u t rest = omega (arith, fits_sized size how k u t)
 
 trusted_sized : (r : Bool) (size : ℕ) (k : Expr) (t : ℕ) (rest : Code) → code_size (trusted_range r size k t rest) ≤ 60 * range_nodes r + expr_size k + code_size rest
 trusted_sized true size k t rest = omega (arith, scaled_sized size k, set_sized (scaled size k))
@@ -408,7 +419,7 @@ cast_sized : (one : Bool) (size : ℕ) (how : Integer) (at : Pos) (p k : source.
     → ((rest : Code) → code_size (value_code false k (t + 3) rest) ≤ value_weight false k + code_size rest)
     → code_size (if one then value_code false p t rest
     else value_code true p t (put_if (keeps_index true k) k (value_code false k (t + 3)) (tested_code size how at (held (keeps_index true k) k (t + 3)) t rest)))
-    ≤ (if one then 60 + value_weight false p + value_weight false k else 244 + value_weight true p + index_nodes k (value_weight false k)) + code_size rest
+    ≤ (if one then 60 + value_weight false p + value_weight false k else 225 + value_weight true p + index_nodes k (value_weight false k)) + code_size rest
 cast_sized true size how at p k t rest plain on_p on_k = omega (arith, plain rest)
 cast_sized false size how at p k t rest plain on_p on_k =
     let u = t + 3 in

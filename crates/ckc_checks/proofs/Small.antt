@@ -29,7 +29,7 @@ use Rattle.ckc_core.specs.Limits.{depth, IsShallow, KeepsLimits, IsSmallFunction
 use Rattle.ckc_operands.specs.Compilable as form
 use Rattle.ckc_operands.specs.Compilable.{IsCompilablePart, IsCompilableTarget, IsCompilableRight, IsCompilableAssign, IsCompilableCode, IsCompilableFunction, IsCompilable}
 use Rattle.ckc_operands.specs.Operands.{is_direct, operated, low_byte, as_truth, is_zero, scaled, shifted, at_offset, element_of, place_at, held, keeps_index, direct, operand, casts_one}
-use Rattle.ckc_operands.specs.Pointers.{is_bounded, reads_signed, exact_test, base_at, amount_at, end_at, static_place, counted_end, range_end, range_test, is_ranged, takes_range, index_far, index_in, held_test, bounds_test, length_at, is_natural, cast_test}
+use Rattle.ckc_operands.specs.Pointers.{is_bounded, reads_signed, exact_test, base_at, amount_at, end_at, static_place, counted_end, range_end, range_test, is_ranged, takes_range, index_far, index_in, held_test, bounds_test, length_at, below_or_at, bytes_left, bytes_fit, elements_fit, cast_test}
 use Rattle.ckc_checks.specs.Inserted.{put_if, room_if, exact_code, bounded_code, judged, pointer_at, index_at, reached_place, operation_code, expr_code, operand_code, operands_code, operands, operand_room, operands_room, is_narrow, marked, aim_code, target_count, guarded, stored_code, written, fixed, allowed_code, written_there, right_assigned, valued, behind_planned, plans_code, writes_code, aimed_room, assigned_room, valued_room, bundle_room, result_kept, statements, room, zeroed, function_code, inserted, reached_element, access_code, access_room, value_room, range_room, value_code, with_range, no_range, pointer_code, tested_code, trusted_range, moved_range}
 use Rattle.ckc_source.specs.declared.expr.Integer.{Integer}
 use Rattle.ckc_source.specs.declared.expr.Integer.TheVariants as integer
@@ -124,13 +124,20 @@ length_depth size (counts.Member offset how add) u =
     let member = Load (width_of how) place in
     omega (arith, scaled_depth size (at_offset (word_of add) member), at_offset_depth (word_of add) member, at_offset_depth offset (Local u))
 
-natural_depth : (how : Integer) (k : Expr) → depth (is_natural how k) ≤ 1 + max 1 (depth k)
-natural_depth integer.Int k = omega arith
-natural_depth integer.Unsigned k = omega arith
-natural_depth integer.Char k = omega arith
+bytes_depth : (how : Integer) (k : Expr) (t : ℕ) → depth (bytes_fit how k t) ≤ 5 + max 1 (depth k)
+bytes_depth integer.Int k t = omega arith
+bytes_depth integer.Unsigned k t = omega arith
+bytes_depth integer.Char k t = omega arith
+
+fit_depth : (size : ℕ) (how : Integer) (k : Expr) (t : ℕ) → depth (elements_fit size how k t) ≤ 5 + max 1 (depth k)
+fit_depth size how k t = by (size == 1)
+  where
+    by : (one : Bool) → depth (if one then bytes_fit how k t else below_or_at k (Bin binary.DivU (bytes_left t) (Const size))) ≤ 5 + max 1 (depth k)
+    by true = bytes_depth how k t
+    by false = omega arith
 
 cast_depth : (size : ℕ) (how : Integer) (k : Expr) (t : ℕ) → depth k ≤ 800 → depth (Bin binary.Or (Bin binary.Eq (Local t) (Const 0)) (cast_test size how k t)) ≤ 1000
-cast_depth size how k t h = omega (arith, natural_depth how k)
+cast_depth size how k t h = omega (arith, fit_depth size how k t)
 
 some_depth : (e : source.Expr) → 1 ≤ form.depth e
 some_depth (source.Number n) = omega arith

@@ -24,7 +24,7 @@ limits_few true = omega arith
 limits_few false = omega arith
 
 cast_few : (one : Bool) (p k : Expr) → value_weight false p ≤ 60 * value_nodes false p → value_weight true p ≤ 60 * value_nodes true p → value_weight false k ≤ 60 * value_nodes false k
-    → (if one then 60 + value_weight false p + value_weight false k else 244 + value_weight true p + index_nodes k (value_weight false k))
+    → (if one then 60 + value_weight false p + value_weight false k else 225 + value_weight true p + index_nodes k (value_weight false k))
     ≤ 60 * (if one then 1 + value_nodes false p + value_nodes false k else 5 + value_nodes true p + index_nodes k (value_nodes false k))
 cast_few true p k plain ranged count = omega (arith, plain, count)
 cast_few false p k plain ranged count = omega (arith, ranged, index_few k (value_weight false k) (value_nodes false k) count)

@@ -21,8 +21,8 @@ use Rattle.ckc_source.specs.Code as source
 use Rattle.ckc_source.specs.Blocks.{block_of, place_behind, first_place}
 use Rattle.ckc_source.specs.Words.{divides}
 use Rattle.ckc_core.specs.Code.{Expr, Const, Local, Load, Bin, Code, End, Set, Store, Check, Call, Get, Put, Alloc, If, Loop, Break, Continue, Return, Function, Program}
-use Rattle.ckc_operands.specs.Operands.{casts_one, is_direct, operated, low_byte, as_truth, is_zero, scaled, shifted, at_offset, element_of, direct, operand, held, keeps_index}
-use Rattle.ckc_operands.specs.Pointers.{is_bounded, takes_range, index_far, index_in, reads_signed, exact_test, end_at, bounds_test, below_end, length_at, cast_test}
+use Rattle.ckc_operands.specs.Operands.{casts_one, is_direct, operated, low_byte, kept_in, as_truth, is_zero, scaled, shifted, at_offset, element_of, direct, operand, held, keeps_index}
+use Rattle.ckc_operands.specs.Pointers.{is_bounded, takes_range, index_far, index_in, reads_signed, exact_test, end_at, bounds_test, below_end, length_at, cast_test, may_write}
 
 -- ---- expressions
 
@@ -275,11 +275,6 @@ abbrev pub is_narrow : source.Expr → Bool
 is_narrow (source.Narrow e) = true
 is_narrow _ = false
 
--- a value as it is kept in a local of the width, by whether it is a byte already
-abbrev pub kept_in : Width → Bool → Expr → Expr
-kept_in width.Byte is_byte e = if is_byte then e else low_byte e
-kept_in width.Word is_byte e = e
-
 -- Through a pointer to a null-terminated array zero alone may be written at the upper bound. Whether an element is below
 -- it goes to t + 1, where nothing is read any more that found the element.
 abbrev pub marked : Through → source.Expr → ℕ → Code → Code
@@ -299,7 +294,7 @@ target_count _ = 0
 -- the check of the value in the temporary u, by whether it is a byte already
 abbrev pub guarded : Through → Pos → Width → Bool → (t u : ℕ) → Code → Code
 guarded Terminated at width is_byte t u rest =
-    Check check.Terminator at (Bin binary.Or (Local (t + 1)) (Bin binary.Eq (kept_in width is_byte (Local u)) (Const 0))) rest
+    Check check.Terminator at (may_write width is_byte t u) rest
 guarded _ at width is_byte t u rest = rest
 
 -- A value is stored at a place, behind its check.

@@ -15,7 +15,8 @@ use ckc_core::{CoreExpr, CoreStmt};
 use ckc_operands::{
     as_truth, at_offset, binary, bounds_test, cast_passes, casts_one, direct, divides, element_of,
     end_at, exact_test, held, index_far, index_in, is_bounded, is_direct, is_zero, keeps_index,
-    length_at, low_byte, operand, operated, reads_signed, scaled, shifted, sum, takes_range,
+    length_at, low_byte, null_check, operand, operated, reads_signed, scaled, shifted, sum,
+    takes_range,
 };
 use ckc_source::{Access, Count, ExprTree, Integer, Limits, Operation, Shift, Through};
 use std::alloc::{AllocError, Global};
@@ -194,10 +195,7 @@ fn bounded(
     let within = bounds_test(alloc, last, p, t)?;
     front(code, CoreStmt::Check(Check::Bounds, access.at, within))?;
     step(alloc, access, i, t, next, code)?;
-    front(
-        code,
-        CoreStmt::Check(Check::Null, access.at, CoreExpr::Local(t)),
-    )?;
+    front(code, null_check(access.at, CoreExpr::Local(t)))?;
     Ok(())
 }
 
@@ -221,7 +219,7 @@ pub fn judge(
         Through::Named | Through::Raw => Ok(()),
         Through::One => {
             let pointer = operand(alloc, p, t)?;
-            front(code, CoreStmt::Check(Check::Null, access.at, pointer))?;
+            front(code, null_check(access.at, pointer))?;
             Ok(())
         }
         Through::Array => bounded(alloc, false, access, p, i, t, next, code),

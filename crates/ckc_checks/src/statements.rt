@@ -4,14 +4,14 @@ ghost use Rattle.std.specs.Prelude.{◌≡◌, ◌+◌, true, false, map, IfOk, 
 ghost use Rattle.ckc_core.specs.Code.{Expr, Code, code_of, expr_of};
 ghost use Rattle.ckc_source.specs.Code.{expr_of as source_of, target_of, right_of, assign_of, code_of as source_code};
 ghost use Rattle.ckc_operands.specs.Operands.{low_byte, operand};
-ghost use Rattle.ckc_checks.specs.Inserted.{operands, operands_code, is_narrow, kept_in, marked, aim_code, target_count, guarded, stored_code, written, operand_used, assigned, taken, fixed, allowed_code, written_there, right_assigned, valued, planned_code, behind_planned, plans_code, writes_code, bundle_code, result_in, result_kept, statements};
+ghost use Rattle.ckc_checks.specs.Inserted.{operands, operands_code, is_narrow, marked, aim_code, target_count, guarded, stored_code, written, operand_used, assigned, taken, fixed, allowed_code, written_there, right_assigned, valued, planned_code, behind_planned, plans_code, writes_code, bundle_code, result_in, result_kept, statements};
 ghost use Rattle.ckc_checks.specs.Building.{behind, expr_code_if, get_code, put_code, call_code, branch_code, loop_code, return_code, check_code};
 
 use crate::code::{expr, fork, front, in_order, nothing, place, reach};
 use crate::rooms::target_count;
-use ckc_base::{BinOp, Check, Pos, Seq, Width};
+use ckc_base::{Check, Pos, Seq, Width};
 use ckc_core::{CoreExpr, CoreStmt};
-use ckc_operands::{below_end, binary, low_byte, operand, sum};
+use ckc_operands::{below_end, kept_in, low_byte, may_write, operand, sum};
 use ckc_source::{Access, Assign, ExprTree, Kept, RightTree, StmtTree, TargetTree, Through};
 use std::alloc::{AllocError, Global};
 
@@ -40,16 +40,6 @@ fn is_narrow(e: &ExprTree) -> bool
     }
 }
 
-/// A value as it is kept in a local of the width, by whether it is a byte already.
-fn kept_in(alloc: Global, width: Width, is_byte: bool, e: CoreExpr) -> Result<CoreExpr, AllocError>
-    ensures { IfOk result (λ c. expr_of c ≡ kept_in width is_byte (expr_of e)) }
-{
-    match width {
-        Width::Byte => { if is_byte { Ok(e) } else { low_byte(alloc, e) } }
-        Width::Word => Ok(e),
-    }
-}
-
 /// Puts the check of the value in u in front, where zero alone may be written to the element in t, by whether the value
 /// is a byte already.
 fn guard(
@@ -67,11 +57,8 @@ fn guard(
     match through {
         Through::Named | Through::Raw | Through::One | Through::Array => Ok(()),
         Through::Terminated => {
-            let value = kept_in(alloc, width, is_byte, CoreExpr::Local(u))?;
-            let zero = binary(alloc, BinOp::Eq, value, CoreExpr::Const(0))?;
-            let mark = CoreExpr::Local(sum(t, 1)?);
-            let good = binary(alloc, BinOp::Or, mark, zero)?;
-            front(code, CoreStmt::Check(Check::Terminator, at, good))?;
+            let allowed = may_write(alloc, width, is_byte, t, u)?;
+            front(code, CoreStmt::Check(Check::Terminator, at, allowed))?;
             Ok(())
         }
     }

@@ -1,19 +1,14 @@
 -- Values are words, where the locals and what is loaded are.
-use Rattle.std.proofs.Common.{◌≡◌, ℕ, zero, suc, ◌/◌, ◌%◌, ◌^◌, ◌≤◌, ◌<◌, ◌==◌, List, ◌∷◌, refl, sym, subst, arith}
-use Rattle.std.specs.Prelude.{nat_lt, nat_le, if◌then◌else◌, Bool, true, false, ◌&&◌, slice_index, Option, Some, None, Result, Ok, Err, ℤ, pos, negsuc, neg_ℤ, ◌≤ℤ◌, ◌<ℤ◌, int_div, int_rem}
-use Rattle.std.specs.Int.{int_shr}
-use Rattle.std.proofs.lemmas.Int.{ints}
+use Rattle.std.proofs.Common.{◌≡◌, ℕ, zero, suc, ◌%◌, ◌^◌, ◌<◌, ◌==◌, List, ◌∷◌, refl, sym, subst, arith}
+use Rattle.std.specs.Prelude.{nat_lt, nat_le, if◌then◌else◌, Bool, true, false, ◌&&◌, slice_index, Option, Some, None, Result, Ok, Err, ℤ, pos, negsuc}
 use Rattle.std.proofs.lemmas.Bool.{eqb-true}
 use Rattle.std.proofs.lemmas.Bool.Decides.{nat_tests}
-use Rattle.std.proofs.lemmas.Nat.{and_le_l, or_lt, xor_lt}
-use Rattle.std.proofs.Math.Nat.{div-le_self}
 use Rattle.ckc_base.specs.declared.arithmetic.Width.{Width}
 use Rattle.ckc_base.specs.declared.arithmetic.Width.TheVariants as width
-use Rattle.ckc_base.specs.declared.arithmetic.BinOp.{BinOp}
-use Rattle.ckc_base.specs.declared.arithmetic.BinOp.TheVariants.{Add, Sub, Mul, DivS, DivU, RemS, RemU, And, Or, Xor, Shl, ShrS, ShrU, LtS, LtU, Eq, Ne}
+use Rattle.ckc_base.specs.declared.arithmetic.BinOp.TheVariants.{Add, Sub, Mul}
 use Rattle.ckc_base.specs.declared.places.Pos.{Pos}
 use Rattle.ckc_base.specs.declared.runtime_checks.Check.TheVariants.{Arith, Cast, Divide}
-use Rattle.ckc_base.specs.Words.{signed, word_of, flag, applied}
+use Rattle.ckc_base.specs.Words.{flag, applied}
 use Rattle.ckc_base.proofs.WordValues.{applied_word}
 use Rattle.ckc_source.specs.declared.expr.Access.{Access}
 use Rattle.ckc_source.specs.declared.expr.Shift.{Shift}
@@ -103,6 +98,10 @@ moves_word shift v k true = by (v.number == 0)
     by : (zero : Bool) → GivesWord (if zero then stops Arith shift.at else given (at_address (as_address (moved_exactly shift v.number (exact shift.index k))) shift.at) (λ a. Ok (record { number = a; range = v.range })))
     by true = tt
     by false = address_word (moved_exactly shift v.number (exact shift.index k)) shift.at v.range
+
+flag_word : (b : Bool) → flag b < 2 ^ 32
+flag_word true = omega arith
+flag_word false = omega arith
 
 computed_word : (o : Operation) (s : Bool) (a b : ℕ) → a < 2 ^ 32 → b < 2 ^ 32 → computed o s a b < 2 ^ 32
 computed_word operation.Le s a b h k = flag_word _

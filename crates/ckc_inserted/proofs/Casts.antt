@@ -1,10 +1,10 @@
 -- The test of a bounds cast says whether the new bounds lie in the old ones.
 use Rattle.std.proofs.Common.{◌≡◌, ℕ, suc, ◌+◌, ◌-◌, ◌*◌, ◌/◌, ◌^◌, ◌≤◌, ◌<◌, ◌==◌, refl, sym, ◌∙◌, ap, arith}
-use Rattle.std.specs.Prelude.{ℤ, pos, negsuc, ◌+ℤ◌, ◌<ℤ◌, nat_lt, nat_le, bit_and, bit_or, ◌&&◌, ◌||◌, Bool, true, false, if◌then◌else◌, Some, ◌↔◌}
+use Rattle.std.specs.Prelude.{ℤ, pos, negsuc, ◌+ℤ◌, ◌<ℤ◌, nat_lt, nat_le, bit_and, bit_or, ◌&&◌, ◌||◌, Bool, true, false, if◌then◌else◌, Option, Some, ◌↔◌}
 use Rattle.std.proofs.lemmas.Bool.Decides.{nat_tests}
 use Rattle.std.proofs.lemmas.Int.{ints}
 use Rattle.std.proofs.Math.IntN.{pos-*ℤ-pos}
-use Rattle.std.proofs.Math.Nat.{le-div_iff_mul-le}
+use Rattle.std.proofs.Math.Nat.{mul-le-mul_left, le-div_iff_mul-le}
 use Rattle.ckc_base.specs.declared.arithmetic.BinOp.TheVariants as binary
 use Rattle.ckc_base.specs.declared.places.Pos.{Pos}
 use Rattle.ckc_base.specs.declared.runtime_checks.Check.TheVariants.{Cast}
@@ -18,7 +18,7 @@ use Rattle.ckc_source.specs.Words.{exact, elements_behind}
 use Rattle.ckc_source.specs.Eval.{ranged, stops, tests_within}
 use Rattle.ckc_core.specs.Code.{Expr, Const, Local, Bin}
 use Rattle.ckc_core.specs.Meaning.{value_of, both}
-use Rattle.ckc_operands.specs.Pointers.{is_natural, held_test, cast_test}
+use Rattle.ckc_operands.specs.Pointers.{below_or_at, held_test, bytes_left, bytes_fit, elements_fit, cast_test}
 use Rattle.ckc_inserted.proofs.Exact.{low_signed, product_high}
 use Rattle.ckc_inserted.proofs.Ranges.{at_most_word, held_value_of}
 
@@ -49,46 +49,10 @@ fits_in size form k q low length =
     (nat_le low q && nat_le (applied binary.Sub q low) length)
     && (is_small form k && nat_le k (applied binary.Sub length (applied binary.Sub q low) / size))
 
-natural_value : (l : Values) (memory : Memory) (form : Integer) (e : Expr) (k : ℕ) → value_of l memory e ≡ Some k → value_of l memory (is_natural form e) ≡ Some (flag (is_small form k))
-natural_value l memory integer.Int e k h = ap (λ o. both (applied binary.LtU) o (Some 2147483648)) h
-natural_value l memory integer.Unsigned e k h = refl
-natural_value l memory integer.Char e k h = refl
-
 divided_by : (size d : ℕ) → 1 ≤ size → applied binary.DivU d size ≡ d / size
 divided_by size d h =
     let some : (size == 0) ≡ false = grind arith in
     ap (λ b. if b then 2 ^ 32 - 1 else d / size) some
-
-most_value : (l : Values) (memory : Memory) (size : ℕ) (e : Expr) (t k q low length : ℕ) → 1 ≤ size → value_of l memory e ≡ Some k → l t ≡ Some q → l (t + 1) ≡ Some low → l (t + 2) ≡ Some length
-    → value_of l memory (Bin binary.Eq (Bin binary.LtU (Bin binary.DivU (Bin binary.Sub (Local (t + 2)) (Bin binary.Sub (Local t) (Local (t + 1)))) (Const size)) e) (Const 0))
-    ≡ Some (flag (nat_le k (applied binary.Sub length (applied binary.Sub q low) / size)))
-most_value l memory size e t k q low length some c h i j =
-    let d = applied binary.Sub length (applied binary.Sub q low) in
-    ap (λ o. both (applied binary.Eq) (both (applied binary.LtU) (both (applied binary.DivU) (both (applied binary.Sub) (l (t + 2)) (both (applied binary.Sub) (l t) (l (t + 1)))) (Some size)) o) (Some 0)) c
-    ∙ ap (λ o. both (applied binary.Eq) (both (applied binary.LtU) (both (applied binary.DivU) (both (applied binary.Sub) o (both (applied binary.Sub) (l t) (l (t + 1)))) (Some size)) (Some k)) (Some 0)) j
-    ∙ ap (λ o. both (applied binary.Eq) (both (applied binary.LtU) (both (applied binary.DivU) (both (applied binary.Sub) (Some length) (both (applied binary.Sub) o (l (t + 1)))) (Some size)) (Some k)) (Some 0)) h
-    ∙ ap (λ o. both (applied binary.Eq) (both (applied binary.LtU) (both (applied binary.DivU) (both (applied binary.Sub) (Some length) (both (applied binary.Sub) (Some q) o)) (Some size)) (Some k)) (Some 0)) i
-    ∙ ap (λ n. Some (applied binary.Eq (applied binary.LtU n k) 0)) (divided_by size d some)
-    ∙ ap Some (at_most_word k (d / size))
-
-pub cast_value : (l : Values) (memory : Memory) (size : ℕ) (form : Integer) (e : Expr) (t k q low length : ℕ) → 1 ≤ size → value_of l memory e ≡ Some k → l t ≡ Some q → l (t + 1) ≡ Some low → l (t + 2) ≡ Some length
-    → value_of l memory (Bin binary.Or (Bin binary.Eq (Local t) (Const 0)) (cast_test size form e t)) ≡ Some (flag ((q == 0) || fits_in size form k q low length))
-cast_value l memory size form e t k q low length some c h i j =
-    let d = applied binary.Sub q low in
-    let room = applied binary.Sub length d / size in
-    let a = value_of l memory (held_test true t) in
-    let b = value_of l memory (is_natural form e) in
-    let m = value_of l memory (Bin binary.Eq (Bin binary.LtU (Bin binary.DivU (Bin binary.Sub (Local (t + 2)) (Bin binary.Sub (Local t) (Local (t + 1)))) (Const size)) e) (Const 0)) in
-    ap (λ o. both (applied binary.Or) (both (applied binary.Eq) o (Some 0)) (both (applied binary.And) a (both (applied binary.And) b m))) h
-    ∙ ap (λ o. both (applied binary.Or) (Some (flag (q == 0))) (both (applied binary.And) o (both (applied binary.And) b m))) (held_value_of l memory true t q low length h i j)
-    ∙ ap (λ o. both (applied binary.Or) (Some (flag (q == 0))) (both (applied binary.And) (Some (bit_and (flag (nat_le low q)) (flag (nat_le d length)))) (both (applied binary.And) o m))) (natural_value l memory form e k c)
-    ∙ ap (λ o. both (applied binary.Or) (Some (flag (q == 0))) (both (applied binary.And) (Some (bit_and (flag (nat_le low q)) (flag (nat_le d length)))) (both (applied binary.And) (Some (flag (is_small form k))) o))) (most_value l memory size e t k q low length some c h i j)
-    ∙ ap (λ w. Some (bit_or (flag (q == 0)) (bit_and w (bit_and (flag (is_small form k)) (flag (nat_le k room)))))) (and_flags (nat_le low q) (nat_le d length))
-    ∙ ap (λ w. Some (bit_or (flag (q == 0)) (bit_and (flag (nat_le low q && nat_le d length)) w))) (and_flags (is_small form k) (nat_le k room))
-    ∙ ap (λ w. Some (bit_or (flag (q == 0)) w)) (and_flags (nat_le low q && nat_le d length) (is_small form k && nat_le k room))
-    ∙ ap Some (or_flags (q == 0) (fits_in size form k q low length))
-
--- ---- what it decides
 
 fits_product : (size k d : ℕ) → 1 ≤ size → nat_le k (d / size) ≡ nat_le (k * size) d
 fits_product size k d some = by (nat_le (k * size) d) refl
@@ -109,6 +73,74 @@ fits_product size k d some = by (nat_le (k * size) d) refl
             let fits : k ≤ d / size = grind (arith, nat_tests) in
             let le : k * size ≤ d = law.0 fits in
             absurd (let wrong : nat_le (k * size) d ≡ true = grind (arith, nat_tests) in let no : true ≡ false = sym wrong ∙ e in cc)
+
+-- so many elements of two bytes or more have a count that is not negative, where they fit in some bytes
+wide_small : (size : ℕ) (form : Integer) (k d : ℕ) → 2 ≤ size → d < 2 ^ 32 → nat_le k (d / size) ≡ (is_small form k && nat_le k (d / size))
+wide_small size integer.Unsigned k d wide few = refl
+wide_small size integer.Char k d wide few = refl
+wide_small size integer.Int k d wide few = by (nat_lt k (2 ^ 31)) refl
+  where
+    by : (natural : Bool) → nat_lt k (2 ^ 31) ≡ natural → nat_le k (d / size) ≡ (natural && nat_le k (d / size))
+    by true e = refl
+    by false e =
+        let more : 2 ^ 31 ≤ k = grind (arith, nat_tests) in
+        let twice : k * 2 ≤ k * size = mul-le-mul_left k wide in
+        fits_product size k d (omega arith) ∙ (let past : nat_le (k * size) d ≡ false = grind (arith, nat_tests) in past)
+
+module _ (l : Values) (memory : Memory) where
+  abbrev value : Expr → Option ℕ
+  value e = value_of l memory e
+
+  at_most_value : (e a : Expr) (k d : ℕ) → value e ≡ Some k → value a ≡ Some d → value (below_or_at e a) ≡ Some (flag (nat_le k d))
+  at_most_value e a k d c h =
+      ap (λ o. both (applied binary.Eq) (both (applied binary.LtU) o (value e)) (Some 0)) h
+      ∙ ap (λ o. both (applied binary.Eq) (both (applied binary.LtU) (Some d) o) (Some 0)) c
+      ∙ ap Some (at_most_word k d)
+
+  left_value : (t q low length : ℕ) → l t ≡ Some q → l (t + 1) ≡ Some low → l (t + 2) ≡ Some length → value (bytes_left t) ≡ Some (applied binary.Sub length (applied binary.Sub q low))
+  left_value t q low length h i j =
+      ap (λ o. both (applied binary.Sub) o (both (applied binary.Sub) (l t) (l (t + 1)))) j
+      ∙ ap (λ o. both (applied binary.Sub) (Some length) (both (applied binary.Sub) o (l (t + 1)))) h
+      ∙ ap (λ o. both (applied binary.Sub) (Some length) (both (applied binary.Sub) (Some q) o)) i
+
+  bytes_value : (form : Integer) (e : Expr) (t k d : ℕ) → value e ≡ Some k → value (bytes_left t) ≡ Some d → value (bytes_fit form e t) ≡ Some (flag (is_small form k && nat_le k d))
+  bytes_value integer.Int e t k d c h =
+      ap (λ o. both (applied binary.And) (both (applied binary.LtU) o (Some 2147483648)) (value (below_or_at e (bytes_left t)))) c
+      ∙ ap (λ o. both (applied binary.And) (Some (flag (is_small integer.Int k))) o) (at_most_value e (bytes_left t) k d c h)
+      ∙ ap Some (and_flags (is_small integer.Int k) (nat_le k d))
+  bytes_value integer.Unsigned e t k d c h = at_most_value e (bytes_left t) k d c h
+  bytes_value integer.Char e t k d c h = at_most_value e (bytes_left t) k d c h
+
+  fit_value : (size : ℕ) (form : Integer) (e : Expr) (t k d : ℕ) → 1 ≤ size → d < 2 ^ 32 → value e ≡ Some k → value (bytes_left t) ≡ Some d
+      → value (elements_fit size form e t) ≡ Some (flag (is_small form k && nat_le k (d / size)))
+  fit_value size form e t k d some few c h = by (size == 1) refl
+    where
+      by : (one : Bool) → (size == 1) ≡ one → value (if one then bytes_fit form e t else below_or_at e (Bin binary.DivU (bytes_left t) (Const size))) ≡ Some (flag (is_small form k && nat_le k (d / size)))
+      by true same =
+          let alone : size ≡ 1 = grind arith in
+          let whole : d ≡ d / 1 = grind arith in
+          bytes_value form e t k d c h ∙ ap (λ m. Some (flag (is_small form k && nat_le k m))) (whole ∙ ap (λ s. d / s) (sym alone))
+      by false other =
+          let wide : 2 ≤ size = grind arith in
+          at_most_value e (Bin binary.DivU (bytes_left t) (Const size)) k (d / size) c (ap (λ o. both (applied binary.DivU) o (Some size)) h ∙ ap Some (divided_by size d some))
+          ∙ ap (λ b. Some (flag b)) (wide_small size form k d wide few)
+
+  pub cast_value : (size : ℕ) (form : Integer) (e : Expr) (t k q low length : ℕ) → 1 ≤ size → value e ≡ Some k → l t ≡ Some q → l (t + 1) ≡ Some low → l (t + 2) ≡ Some length
+      → value (Bin binary.Or (Bin binary.Eq (Local t) (Const 0)) (cast_test size form e t)) ≡ Some (flag ((q == 0) || fits_in size form k q low length))
+  cast_value size form e t k q low length some c h i j =
+      let d = applied binary.Sub q low in
+      let left = applied binary.Sub length d in
+      let few : left < 2 ^ 32 = omega arith in
+      let a = value (held_test true t) in
+      let fit = value (elements_fit size form e t) in
+      ap (λ o. both (applied binary.Or) (both (applied binary.Eq) o (Some 0)) (both (applied binary.And) a fit)) h
+      ∙ ap (λ o. both (applied binary.Or) (Some (flag (q == 0))) (both (applied binary.And) o fit)) (held_value_of l memory true t q low length h i j)
+      ∙ ap (λ o. both (applied binary.Or) (Some (flag (q == 0))) (both (applied binary.And) (Some (bit_and (flag (nat_le low q)) (flag (nat_le d length)))) o)) (fit_value size form e t k left some few c (left_value t q low length h i j))
+      ∙ ap (λ w. Some (bit_or (flag (q == 0)) (bit_and w (flag (is_small form k && nat_le k (left / size)))))) (and_flags (nat_le low q) (nat_le d length))
+      ∙ ap (λ w. Some (bit_or (flag (q == 0)) w)) (and_flags (nat_le low q && nat_le d length) (is_small form k && nat_le k (left / size)))
+      ∙ ap Some (or_flags (q == 0) (fits_in size form k q low length))
+
+-- ---- what it decides
 
 -- in order, and so many bytes from q on end in the range
 ends_within : (q low length s : ℕ) → q < 2 ^ 32 → low < 2 ^ 32 → length < 2 ^ 32

@@ -24,7 +24,7 @@ use Rattle.ckc_core.specs.Code.{Expr, Const, Local, Load, Bin}
 use Rattle.ckc_core.specs.Meaning.{nodes, all_nodes}
 use Rattle.ckc_operands.specs.Compilable.{element_nodes, access_nodes, shift_nodes, index_nodes, value_nodes, expr_nodes, exprs_nodes}
 use Rattle.ckc_operands.specs.Operands.{is_direct, operated, is_zero, scaled, shifted, at_offset, element_of, place_at, direct, operand, held, keeps_index, casts_one}
-use Rattle.ckc_operands.specs.Pointers.{is_bounded, exact_test, base_at, amount_at, end_at, static_place, counted_end, range_end, range_test, is_ranged, takes_range, index_in, held_test, length_at, is_natural, cast_test}
+use Rattle.ckc_operands.specs.Pointers.{is_bounded, exact_test, base_at, amount_at, end_at, static_place, counted_end, range_end, range_test, is_ranged, takes_range, index_in, held_test, length_at, below_or_at, bytes_left, bytes_fit, elements_fit, cast_test}
 use Rattle.ckc_checks.specs.Inserted.{operands, pointer_at, index_at, reached_element, reached_place}
 
 -- ---- values that are written
@@ -347,13 +347,20 @@ length_nodes size (counts.Member offset how add) u =
     let member = Load (width_of how) place in
     omega (arith, scaled_nodes size (at_offset (word_of add) member), at_offset_nodes (word_of add) member, at_offset_nodes offset (Local u))
 
-natural_nodes : (how : Integer) (k : Expr) → nodes (is_natural how k) ≤ 2 + nodes k
-natural_nodes integer.Int k = omega arith
-natural_nodes integer.Unsigned k = omega arith
-natural_nodes integer.Char k = omega arith
+bytes_nodes : (how : Integer) (k : Expr) (t : ℕ) → nodes (bytes_fit how k t) ≤ 11 + 2 * nodes k
+bytes_nodes integer.Int k t = omega arith
+bytes_nodes integer.Unsigned k t = omega arith
+bytes_nodes integer.Char k t = omega arith
+
+fit_nodes : (size : ℕ) (how : Integer) (k : Expr) (t : ℕ) → nodes (elements_fit size how k t) ≤ 11 + 2 * nodes k
+fit_nodes size how k t = by (size == 1)
+  where
+    by : (one : Bool) → nodes (if one then bytes_fit how k t else below_or_at k (Bin binary.DivU (bytes_left t) (Const size))) ≤ 11 + 2 * nodes k
+    by true = bytes_nodes how k t
+    by false = omega arith
 
 pub cast_test_nodes : (size : ℕ) (how : Integer) (k : Expr) (t : ℕ) → nodes k ≡ 1 → nodes (Bin binary.Or (Bin binary.Eq (Local t) (Const 0)) (cast_test size how k t)) ≤ 33
-cast_test_nodes size how k t one = omega (arith, natural_nodes how k)
+cast_test_nodes size how k t one = omega (arith, fit_nodes size how k t)
 
 pub exact_nodes : (back signs : Bool) (size u : ℕ) (i : Expr) → nodes i ≡ 1 → nodes (exact_test back signs size (Local u) i) ≤ 13
 exact_nodes true signs size u i one = omega (arith, shifted_nodes true size (Local u) i)

@@ -25,9 +25,9 @@ use Rattle.ckc_source.specs.Steps.{terminator_at, refuses, allowed}
 use Rattle.ckc_core.specs.Code.{Expr, Const, Local, Bin, Code, Check, Function}
 use Rattle.ckc_core.specs.Meaning.{Rest, Caller, value_of, nodes}
 use Rattle.ckc_operands.specs.Compilable.{guard_nodes}
-use Rattle.ckc_operands.specs.Operands.{at_offset, element_of, held, keeps_index}
+use Rattle.ckc_operands.specs.Operands.{kept_in, at_offset, element_of, held, keeps_index}
 use Rattle.ckc_operands.specs.Pointers.{is_bounded, is_ranged, takes_range, index_far, below_end}
-use Rattle.ckc_checks.specs.Inserted.{kept_in, marked, guarded}
+use Rattle.ckc_checks.specs.Inserted.{marked, guarded}
 use Rattle.ckc_inserted.proofs.Running.{machine, Runs, at, by_set, by_pass, by_fail}
 use Rattle.ckc_inserted.proofs.Values.{Sees, low_value, at_offset_value}
 use Rattle.ckc_inserted.proofs.Counts.{written_same, written_below, range_end_nodes}

@@ -3,6 +3,7 @@
 use Rattle.std.specs.Prelude.{ℕ, ℤ, pos, Bool, true, false, not, ◌&&◌, ◌==◌, if◌then◌else◌, Option, Some, None}
 use Rattle.std.specs.Ordering.{int_eq}
 use Rattle.ckc_base.specs.declared.arithmetic.BinOp.TheVariants as binary
+use Rattle.ckc_base.specs.declared.arithmetic.Width.{Width}
 use Rattle.ckc_base.specs.declared.arithmetic.Width.TheVariants as width
 use Rattle.ckc_base.specs.Words.{applied}
 use Rattle.ckc_source.specs.declared.expr.Access.{Access}
@@ -107,6 +108,11 @@ operated operation is_signed a b = Bin (operator operation is_signed) a b
 
 abbrev pub low_byte : Expr → Expr
 low_byte e = Bin binary.And e (Const 255)
+
+-- a value as it is kept in a local or a place of the width, by whether it is a byte already
+abbrev pub kept_in : Width → Bool → Expr → Expr
+kept_in width.Byte is_byte e = if is_byte then e else low_byte e
+kept_in width.Word is_byte e = e
 
 abbrev pub as_truth : Expr → Expr
 as_truth e = Bin binary.Ne e (Const 0)

@@ -1,7 +1,8 @@
 -- The ranges of pointers and the tests of accesses, of pointer arithmetic and of bounds casts, as expressions of core
 -- code. They mirror what the code makes and need not be believed, but for `is_ranged` and `takes_range`.
-use Rattle.std.specs.Prelude.{ℕ, ℤ, ◌+◌, Bool, true, false, not, ◌&&◌, if◌then◌else◌, Option, Some, None}
+use Rattle.std.specs.Prelude.{ℕ, ℤ, ◌+◌, ◌==◌, Bool, true, false, not, ◌&&◌, if◌then◌else◌, Option, Some, None}
 use Rattle.ckc_base.specs.declared.arithmetic.BinOp.TheVariants as binary
+use Rattle.ckc_base.specs.declared.arithmetic.Width.{Width}
 use Rattle.ckc_base.specs.declared.arithmetic.Width.TheVariants as width
 use Rattle.ckc_base.specs.Words.{word_of, applied}
 use Rattle.ckc_source.specs.declared.expr.Access.{Access}
@@ -19,7 +20,7 @@ use Rattle.ckc_source.specs.Code as source
 use Rattle.ckc_source.specs.Eval.{place_in}
 use Rattle.ckc_source.specs.Words.{width_of}
 use Rattle.ckc_core.specs.Code.{Expr, Const, Local, Load, Bin, High}
-use Rattle.ckc_operands.specs.Operands.{is_named, scaled, shifted, at_offset}
+use Rattle.ckc_operands.specs.Operands.{is_named, scaled, shifted, at_offset, kept_in}
 
 -- a static object at its place
 abbrev pub is_static : Access → source.Expr → Bool
@@ -132,20 +133,33 @@ length_at size (counts.Fixed n) u = Const (applied binary.Mul size (word_of n))
 length_at size (counts.Member offset form add) u =
     scaled size (at_offset (word_of add) (Load (width_of form) (at_offset offset (Local u))))
 
--- whether a count is not negative
-abbrev pub is_natural : Integer → Expr → Expr
-is_natural integer.Int k = Bin binary.LtU k (Const 2147483648)
-is_natural _ k = Const 1
+-- how many bytes of its range lie behind the pointer in t
+abbrev pub bytes_left : ℕ → Expr
+bytes_left t = Bin binary.Sub (Local (t + 2)) (Bin binary.Sub (Local t) (Local (t + 1)))
+
+-- whether so many bytes lie there, of which the count is not negative
+abbrev pub bytes_fit : Integer → Expr → ℕ → Expr
+bytes_fit integer.Int k t = Bin binary.And (Bin binary.LtU k (Const 2147483648)) (below_or_at k (bytes_left t))
+bytes_fit _ k t = below_or_at k (bytes_left t)
+
+-- Whether so many elements of a size lie there. A negative count is 2^31 at least as a word: so many elements of two
+-- bytes or more lie in no range.
+abbrev pub elements_fit : ℕ → Integer → Expr → ℕ → Expr
+elements_fit size form k t =
+    if size == 1 then bytes_fit form k t else below_or_at k (Bin binary.DivU (bytes_left t) (Const size))
 
 -- Whether the bounds of a cast lie in the range of the pointer in t: the pointer is not below it, and so many elements
 -- of a size behind the pointer are not above it.
 abbrev pub cast_test : ℕ → Integer → Expr → ℕ → Expr
-cast_test size form k t =
-    Bin binary.And (held_test true t) (Bin binary.And (is_natural form k)
-    (below_or_at k (Bin binary.DivU (Bin binary.Sub (Local (t + 2)) (Bin binary.Sub (Local t) (Local (t + 1)))) (Const size))))
+cast_test size form k t = Bin binary.And (held_test true t) (elements_fit size form k t)
 
 -- whether the element in the temporary t is not at the upper bound of its pointer
 abbrev pub below_end : source.Expr → ℕ → Expr
 below_end p t =
     if is_ranged p then Bin binary.Ne (Local t) (range_end true p)
     else Bin binary.Ne (Bin binary.Sub (Local t) (Local (t + 1))) (Local (t + 2))
+
+-- Whether the value in the temporary u may be written to an element of a null-terminated array. The temporary t + 1 says
+-- whether the element is below the upper bound of its pointer: at the bound zero alone may be written.
+abbrev pub may_write : Width → Bool → (t u : ℕ) → Expr
+may_write width is_byte t u = Bin binary.Or (Local (t + 1)) (Bin binary.Eq (kept_in width is_byte (Local u)) (Const 0))

@@ -1,9 +1,9 @@
 -- How many instructions programs may become. A function, each of its locals and each statement weigh 64, a call twice as
 -- much. Each node of an expression weighs 60, but for two: what stands for itself weighs 10, without its range, and a
--- bounds cast that is tested 244, beside its pointer and its count. Each argument of a call weighs 8 more.
+-- bounds cast that is tested 225, beside its pointer and its count. Each argument of a call weighs 8 more.
 use Rattle.std.specs.Prelude.{ℕ, ◌+◌, ◌*◌, Bool, true, false, not, ◌&&◌, if◌then◌else◌, List, [], ◌∷◌, sum_by}
 use Rattle.ckc_source.specs.declared.expr.Access.{Access}
-use Rattle.ckc_source.specs.Code.{Expr, Number, Local, Limited, Array, Load, Member, Address, Moved, Added, Binary, And, Or, Choice, Narrow, Bare, Tested, Trusted, Target, Nothing, Variable, Memory, Right, Value, Fresh, Code, End, Assign, Bundle, Get, Put, Call, If, Loop, Break, Continue, Return, Check, Function, Program}
+use Rattle.ckc_source.specs.Code.{Expr, Number, Local, Limited, Array, Load, Member, Address, Moved, Added, Binary, And, Or, Choice, Narrow, Bare, Tested, Trusted, Target, Memory, Right, Value, Fresh, Code, End, Assign, Bundle, Get, Put, Call, If, Loop, Break, Continue, Return, Check, Function, Program}
 use Rattle.ckc_operands.specs.Operands.{casts_one}
 use Rattle.ckc_operands.specs.Pointers.{takes_range}
 use Rattle.ckc_operands.specs.Compilable.{access_nodes, shift_nodes, index_nodes, range_nodes, guard_nodes}
@@ -35,7 +35,7 @@ value_weight ranged (Narrow e) = 60 * (range_nodes ranged + 1) + value_weight fa
 value_weight ranged (Bare p) = 60 * (range_nodes ranged + 1) + value_weight false p
 value_weight ranged (Tested size form at p k) =
     if not ranged && casts_one size p k then 60 + value_weight false p + value_weight false k
-    else 244 + value_weight true p + index_nodes k (value_weight false k)
+    else 225 + value_weight true p + index_nodes k (value_weight false k)
 value_weight ranged (Trusted to form p k) = 60 * (range_nodes ranged + 1) + value_weight false p + value_weight false k
 
 abbrev pub expr_weight : Expr → ℕ

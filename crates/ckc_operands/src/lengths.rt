@@ -4,9 +4,9 @@ ghost use Rattle.std.specs.Prelude.{◌≡◌, ◌+◌, true, IfOk};
 ghost use Rattle.ckc_core.specs.Code.{Expr, expr_of};
 ghost use Rattle.ckc_source.specs.Code.{expr_of as source_of};
 ghost use Rattle.ckc_source.specs.Words.{width_of};
-ghost use Rattle.ckc_base.specs.declared.arithmetic.BinOp.TheVariants.{Sub, DivU, And, Or, Eq};
+ghost use Rattle.ckc_base.specs.declared.arithmetic.BinOp.TheVariants.{Or, Eq};
 ghost use Rattle.ckc_operands.specs.Operands.{keeps_index, held};
-ghost use Rattle.ckc_operands.specs.Pointers.{below_or_at, length_at, is_natural, cast_test};
+ghost use Rattle.ckc_operands.specs.Pointers.{length_at, bytes_left, bytes_fit, elements_fit, cast_test};
 
 use crate::exprs::{at_offset, binary, scaled, sum};
 use crate::ranges::{below_or_at, from_low, held, held_test, keeps_index};
@@ -40,28 +40,60 @@ pub fn length_at(alloc: Global, size: u32, count: Count, u: u32) -> Result<CoreE
     }
 }
 
-/// Whether a count is not negative.
-fn is_natural(alloc: Global, form: Integer, k: CoreExpr) -> Result<CoreExpr, AllocError>
-    ensures { IfOk result (λ c. expr_of c ≡ is_natural form (expr_of k)) }
-{
-    match form {
-        Integer::Int => binary(alloc, BinOp::LtU, k, CoreExpr::Const(0x8000_0000)),
-        Integer::Unsigned | Integer::Char => Ok(CoreExpr::Const(1)),
-    }
-}
-
-/// Whether so many elements of a size lie behind the pointer in t in its range.
-fn fits(alloc: Global, size: u32, k: CoreExpr, t: u32) -> Result<CoreExpr, AllocError>
-    ensures { IfOk result (λ c. expr_of c ≡ below_or_at (expr_of k) (Expr.Bin DivU
-        (Expr.Bin Sub (Expr.Local (t + 2)) (Expr.Bin Sub (Expr.Local t) (Expr.Local (t + 1))))
-        (Expr.Const size))) }
+/// How many bytes of its range lie behind the pointer in t.
+fn bytes_left(alloc: Global, t: u32) -> Result<CoreExpr, AllocError>
+    ensures { IfOk result (λ c. expr_of c ≡ bytes_left t) }
 {
     let low = sum(t, 1)?;
     let length = sum(t, 2)?;
     let from = from_low(alloc, t, low)?;
-    let left = binary(alloc, BinOp::Sub, CoreExpr::Local(length), from)?;
+    binary(alloc, BinOp::Sub, CoreExpr::Local(length), from)
+}
+
+/// Whether so many bytes lie behind the pointer in t in its range, with their count in the temporary `next`.
+fn bytes_fit(
+    alloc: Global,
+    form: Integer,
+    k: &ExprTree,
+    t: u32,
+    next: u32,
+) -> Result<CoreExpr, AllocError>
+    ensures { IfOk result (λ c. expr_of c ≡ bytes_fit form
+        (held (keeps_index true (source_of k.now)) (source_of k.now) next) t) }
+{
+    let count = held(alloc, keeps_index(true, k), k, next)?;
+    let left = bytes_left(alloc, t)?;
+    let within = below_or_at(alloc, count, left)?;
+    match form {
+        Integer::Int => {
+            let count = held(alloc, keeps_index(true, k), k, next)?;
+            let natural = binary(alloc, BinOp::LtU, count, CoreExpr::Const(0x8000_0000))?;
+            binary(alloc, BinOp::And, natural, within)
+        }
+        Integer::Unsigned | Integer::Char => Ok(within),
+    }
+}
+
+/// Whether so many elements of a size lie there. A negative count of them needs no test where an element has two bytes or
+/// more: as a word it is 2^31 at least, and so many elements lie in no range.
+fn elements_fit(
+    alloc: Global,
+    size: u32,
+    form: Integer,
+    k: &ExprTree,
+    t: u32,
+    next: u32,
+) -> Result<CoreExpr, AllocError>
+    ensures { IfOk result (λ c. expr_of c ≡ elements_fit size form
+        (held (keeps_index true (source_of k.now)) (source_of k.now) next) t) }
+{
+    if size == 1 {
+        return bytes_fit(alloc, form, k, t, next);
+    }
+    let count = held(alloc, keeps_index(true, k), k, next)?;
+    let left = bytes_left(alloc, t)?;
     let most = binary(alloc, BinOp::DivU, left, CoreExpr::Const(size))?;
-    below_or_at(alloc, k, most)
+    below_or_at(alloc, count, most)
 }
 
 /// Whether the bounds of a cast lie in the range of the pointer in t, with the count in the temporary `next`.
@@ -76,13 +108,9 @@ fn cast_test(
     ensures { IfOk result (λ c. expr_of c ≡ cast_test size form
         (held (keeps_index true (source_of k.now)) (source_of k.now) next) t) }
 {
-    let count = held(alloc, keeps_index(true, k), k, next)?;
-    let natural = is_natural(alloc, form, count)?;
-    let count = held(alloc, keeps_index(true, k), k, next)?;
-    let most = fits(alloc, size, count, t)?;
-    let both = binary(alloc, BinOp::And, natural, most)?;
+    let fits = elements_fit(alloc, size, form, k, t, next)?;
     let within = held_test(alloc, true, t)?;
-    binary(alloc, BinOp::And, within, both)
+    binary(alloc, BinOp::And, within, fits)
 }
 
 /// Whether a bounds cast of the pointer in t passes: null does.

@@ -3,12 +3,14 @@
 #![tactic(auto)]
 
 mod casts;
+mod checks;
 mod exprs;
 mod lengths;
 mod numbers;
 mod ranges;
 
 pub use casts::casts_one;
+pub use checks::{kept_in, may_write, null_check};
 pub use exprs::{
     as_truth, at_offset, binary, direct, divides, element_of, is_direct, is_zero, low_byte,
     operand, operated, scaled, shifted, sum,

@@ -39,9 +39,9 @@ use Rattle.ckc_values.specs.Expressions.{local_in, static_in, named}
 abbrev pub place_weight : Place → ℕ
 place_weight q = access_weight q.access q.pointer q.index
 
--- An expression weighs less than so much by 120, whether its range is a value or not.
+-- An expression weighs less than so much by 120, or by 110 where its range is a value.
 abbrev pub Weighs : ℕ → Expr → Type 0
-Weighs m e = (r : Bool) → value_weight r e + 120 ≤ m
+Weighs m e = (r : Bool) → value_weight r e + 120 ≤ m + 10 * range_nodes r
 
 pub range_most : (r : Bool) → range_nodes r ≤ 1
 range_most true = omega arith
@@ -85,11 +85,11 @@ ranged_more (Bare e) h = omega arith
 ranged_more (Tested size how at p k) h = absurd cc
 ranged_more (Trusted to how p k) h = omega arith
 
-array_most : (b : Bool) (p i : Expr) (m : ℕ) → is_ranged p ≡ b → Weighs m p → 60 * element_nodes (not b) i + value_weight (not b) p + 120 ≤ 300 + m
+array_most : (b : Bool) (p i : Expr) (m : ℕ) → is_ranged p ≡ b → Weighs m p → 60 * element_nodes (not b) i + value_weight (not b) p + 110 ≤ 300 + m
 array_most true p i m e h = omega (arith, tested_most i, ranged_more p e, h true)
 array_most false p i m e h = omega (arith, held_most i, h true)
 
-access_most : (through : Through) (p i : Expr) (m : ℕ) → Weighs m p → 60 * access_nodes through p i + value_weight (takes_range through p) p + 120 ≤ 300 + m
+access_most : (through : Through) (p i : Expr) (m : ℕ) → Weighs m p → 60 * access_nodes through p i + value_weight (takes_range through p) p + 110 ≤ 300 + m
 access_most Named p i m h = omega (arith, h false)
 access_most Raw p i m h = omega (arith, h false)
 access_most One p i m h = omega (arith, h false)
@@ -97,11 +97,11 @@ access_most Arrays p i m h = array_most (is_ranged p) p i m refl h
 access_most Terminated p i m h = array_most (is_ranged p) p i m refl h
 
 -- the first element
-first_by : (b : Bool) (p : Expr) (m : ℕ) → is_ranged p ≡ b → Weighs m p → 60 * element_nodes (not b) (Number 0) + value_weight (not b) p + 120 ≤ 180 + m
+first_by : (b : Bool) (p : Expr) (m : ℕ) → is_ranged p ≡ b → Weighs m p → 60 * element_nodes (not b) (Number 0) + value_weight (not b) p + 110 ≤ 180 + m
 first_by true p m e h = omega (arith, ranged_more p e, h true)
 first_by false p m e h = omega (arith, h true)
 
-access_first : (through : Through) (p : Expr) (m : ℕ) → Weighs m p → 60 * access_nodes through p (Number 0) + value_weight (takes_range through p) p + 120 ≤ 180 + m
+access_first : (through : Through) (p : Expr) (m : ℕ) → Weighs m p → 60 * access_nodes through p (Number 0) + value_weight (takes_range through p) p + 110 ≤ 180 + m
 access_first Named p m h = omega (arith, h false)
 access_first Raw p m h = omega (arith, h false)
 access_first One p m h = omega (arith, h false)
@@ -117,10 +117,10 @@ shift_most true = omega arith
 shift_most false = omega arith
 
 pub element_place_most : (structs : Structs) (t : CType) (at : Pos) (index : Integer) (e f : Expr) (m n : ℕ) → Weighs m e → Weighs n f
-    → place_weight (element_place structs t at index e f) ≤ 60 + m + n
+    → place_weight (element_place structs t at index e f) ≤ 70 + m + n
 element_place_most structs t at index e f m n h k = omega (arith, access_most (through_kind (kind_of t)) e f m h, index_most f, k false)
 
-pub target_place_most : (structs : Structs) (t : CType) (at : Pos) (e : Expr) (m : ℕ) → Weighs m e → place_weight (target_place structs t at e) ≤ 60 + m
+pub target_place_most : (structs : Structs) (t : CType) (at : Pos) (e : Expr) (m : ℕ) → Weighs m e → place_weight (target_place structs t at e) ≤ 70 + m
 target_place_most structs t at e m h = omega (arith, access_first (through_kind (kind_of t)) e m h)
 
 pub member_place_most : (structs : Structs) (tag : ℕ) (n : Name) (q : Place) → place_weight (member_place structs tag n q) ≤ place_weight q
@@ -130,28 +130,28 @@ pub name_place_most : (p : Typed) (t : CType) (at : Pos) (n : Name) → place_we
 name_place_most p t at (name.Static k) = omega arith
 name_place_most p t at n = omega arith
 
-pub read_most : (structs : Structs) (t : CType) (n : Option Count) (q : Place) (r : Bool) → value_weight r (read_at structs t n q) ≤ 60 + place_weight q
-read_most structs t (Some n) q r = omega (arith, range_most r)
-read_most structs t None q r = omega (arith, range_most r)
+pub read_most : (structs : Structs) (t : CType) (n : Option Count) (q : Place) (r : Bool) → value_weight r (read_at structs t n q) ≤ 60 * range_nodes r + place_weight q
+read_most structs t (Some n) q r = omega arith
+read_most structs t None q r = omega arith
 
-pub address_most : (structs : Structs) (t : CType) (q : Place) (r : Bool) → value_weight r (address_at structs t q) ≤ 60 + place_weight q
-address_most structs t q r = omega (arith, range_most r)
+pub address_most : (structs : Structs) (t : CType) (q : Place) (r : Bool) → value_weight r (address_at structs t q) ≤ 60 * range_nodes r + place_weight q
+address_most structs t q r = omega arith
 
 -- ---- names
 
-local_most : (p : Typed) (locals : List Variable) (t : CType) (k : ℕ) (l : Range) (r : Bool) → value_weight r (local_in p locals t k l) ≤ 130
+local_most : (p : Typed) (locals : List Variable) (t : CType) (k : ℕ) (l : Range) (r : Bool) → value_weight r (local_in p locals t k l) ≤ 120 + 10 * range_nodes r
 local_most p locals t k (range.Known l u) r = omega (arith, range_most r)
 local_most p locals t k range.Missing r = omega (arith, range_most r)
 local_most p locals t k range.Any r = omega (arith, range_most r)
 
-static_most : (p : Typed) (t : CType) (at : Pos) (k : ℕ) (array : Option Kind) (r : Bool) → value_weight r (static_in p t at k array) ≤ 130
-static_most p t at k None r = omega (arith, read_most p.layout t (count_of_static p t (name.Static k)) (object_place p t at k) r)
+static_most : (p : Typed) (t : CType) (at : Pos) (k : ℕ) (array : Option Kind) (r : Bool) → value_weight r (static_in p t at k array) ≤ 120 + 10 * range_nodes r
+static_most p t at k None r = omega (arith, range_most r, read_most p.layout t (count_of_static p t (name.Static k)) (object_place p t at k) r)
 static_most p t at k (Some kind.Raw) r = omega (arith, range_most r)
 static_most p t at k (Some kind.One) r = omega (arith, range_most r)
 static_most p t at k (Some kind.Arr) r = omega (arith, range_most r)
 static_most p t at k (Some kind.Nt) r = omega (arith, range_most r)
 
-pub named_most : (p : Typed) (locals : List Variable) (a : Note) (at : Pos) (n : Name) (r : Bool) → value_weight r (named p locals a at n) ≤ 130
+pub named_most : (p : Typed) (locals : List Variable) (a : Note) (at : Pos) (n : Name) (r : Bool) → value_weight r (named p locals a at n) ≤ 120 + 10 * range_nodes r
 named_most p locals a at (name.Local k) r = local_most p locals a.ctype k a.range r
 named_most p locals a at (name.Static k) r = static_most p a.ctype at k (array_of p k) r
 named_most p locals a at n r = omega (arith, range_most r)
@@ -174,7 +174,7 @@ cast_most t u e m h r = cast_by (is_pointer t && not (same_element t u)) t e m h
 
 pub unary_most : (o : TreeOp) (at : Pos) (e : Expr) (m : ℕ) → Weighs m e → (r : Bool) → value_weight r (unary o at e) ≤ 70 + m
 unary_most op.Minus at e m h r = omega (arith, h false, range_most r)
-unary_most op.Plus at e m h r = omega (arith, h r)
+unary_most op.Plus at e m h r = omega (arith, h r, range_most r)
 unary_most op.Not at e m h r = omega (arith, h false, range_most r)
 unary_most op.Flip at e m h r = omega (arith, h false, range_most r)
 unary_most o at e m h r = omega (arith, range_most r)
@@ -202,20 +202,20 @@ binary_most o s at e f r = omega (arith, range_most r)
 
 add_by : (left right : Bool) (structs : Structs) (t u : CType) (at : Pos) (e f : Expr) (m n : ℕ) → Weighs m e → Weighs n f → (r : Bool)
     → value_weight r (if left then Moved (shift structs t u at false) e f
-    else (if right then Added (shift structs u t at false) e f else binary op.Add (is_signed_at op.Add t u) at e f)) ≤ m + n
+    else (if right then Added (shift structs u t at false) e f else binary op.Add (is_signed_at op.Add t u) at e f)) ≤ m + n + 10 * range_nodes r
 add_by true right structs t u at e f m n h k r = omega (arith, shift_most (is_checked_kind (kind_of t)), h r, k false)
 add_by false true structs t u at e f m n h k r = omega (arith, shift_most (is_checked_kind (kind_of u)), range_most r, h false, k r)
 add_by false false structs t u at e f m n h k r = omega (arith, binary_most op.Add (is_signed_at op.Add t u) at e f r, h false, k false)
 
 sub_by : (left right : Bool) (structs : Structs) (t u : CType) (at : Pos) (e f : Expr) (m n : ℕ) → Weighs m e → Weighs n f → (r : Bool)
     → value_weight r (if left then (if right then distance structs t at e f else Moved (shift structs t u at true) e f)
-    else binary op.Sub (is_signed_at op.Sub t u) at e f) ≤ m + n
+    else binary op.Sub (is_signed_at op.Sub t u) at e f) ≤ m + n + 10 * range_nodes r
 sub_by true true structs t u at e f m n h k r = omega (arith, range_most r, h false, k false)
 sub_by true false structs t u at e f m n h k r = omega (arith, shift_most (is_checked_kind (kind_of t)), h r, k false)
 sub_by false right structs t u at e f m n h k r = omega (arith, binary_most op.Sub (is_signed_at op.Sub t u) at e f r, h false, k false)
 
 pub operands_most : (structs : Structs) (o : TreeOp) (t u : CType) (at : Pos) (e f : Expr) (m n : ℕ) → Weighs m e → Weighs n f → (r : Bool)
-    → value_weight r (of_operands structs o t u at e f) ≤ m + n
+    → value_weight r (of_operands structs o t u at e f) ≤ m + n + 10 * range_nodes r
 operands_most structs op.Add t u at e f m n h k r = add_by (is_pointer t) (is_pointer u) structs t u at e f m n h k r
 operands_most structs op.Sub t u at e f m n h k r = sub_by (is_pointer t) (is_pointer u) structs t u at e f m n h k r
 operands_most structs o t u at e f m n h k r = omega (arith, binary_most o (is_signed_at o t u) at e f r, h false, k false)
@@ -230,17 +230,17 @@ elements_in_most size t at e = elements_by (size == 1) (is_signed t) at e size
 -- ---- bounds casts, to so many elements
 
 cast_weighs : (one : Bool) (p k : Expr) (m n : ℕ) → Weighs m p → index_nodes k (expr_weight k) ≤ n → expr_weight k ≤ 10 + n
-    → (if one then 60 + value_weight false p + value_weight false k else 244 + value_weight true p + index_nodes k (value_weight false k)) + 120 ≤ 244 + m + n
+    → (if one then 60 + value_weight false p + value_weight false k else 225 + value_weight true p + index_nodes k (value_weight false k)) + 110 ≤ 225 + m + n
 cast_weighs true p k m n h i j = omega (arith, h false, j)
 cast_weighs false p k m n h i j = omega (arith, h true, i)
 
 pub checked_most : (size : ℕ) (how : Integer) (at : Pos) (p k : Expr) (m n : ℕ) → Weighs m p → index_nodes k (expr_weight k) ≤ n → expr_weight k ≤ 10 + n
-    → (r : Bool) → value_weight r (Tested size how at p k) ≤ 130 + m + n
+    → (r : Bool) → value_weight r (Tested size how at p k) ≤ 120 + m + n
 checked_most size how at p k m n h i j r = omega (arith, cast_weighs (not r && casts_one size p k) p k m n h i j)
 
 pub trusted_most : (to : Pointee) (how : Integer) (p k : Expr) (m n : ℕ) → Weighs m p → expr_weight k ≤ 10 + n
-    → (r : Bool) → value_weight r (Trusted to how p k) ≤ 130 + m + n
+    → (r : Bool) → value_weight r (Trusted to how p k) ≤ 120 + m + n
 trusted_most to how p k m n h j r = omega (arith, h false, range_most r, j)
 
 pub choice_most : (c a b : Expr) (l m n : ℕ) → Weighs l c → Weighs m a → Weighs n b → (r : Bool) → value_weight r (Choice c a b) ≤ l + m + n
-choice_most c a b l m n h i j r = omega (arith, h false, i r, j r)
+choice_most c a b l m n h i j r = omega (arith, h false, i r, j r, range_most r)

@@ -1,4 +1,4 @@
--- The program of a text weighs at most 250 for each node of the text.
+-- The program of a text weighs at most 240 for each node of the text.
 use Rattle.std.proofs.Common.{ℕ, ◌+◌, ◌*◌, ◌≤◌, List, [], ◌∷◌, map, length, length-append, arith}
 use Rattle.std.specs.Prelude.{sum_by}
 use Rattle.std.specs.List.{flat_map}
@@ -9,10 +9,10 @@ use Rattle.ckc_syntax.specs.Marks.{marks_of_bounds, marks_of_stmt, marks_of_para
 use Rattle.ckc_typed.specs.declared.typed.Typed.{Typed}
 use Rattle.ckc_typed.specs.Trees.{NotedDecl, NotedHead, NotedStmt, NotedItem}
 use Rattle.ckc_typed.specs.Types.{type_written}
+use Rattle.ckc_typed.specs.Environment.{variable_declared, locals_of, variables_of}
 use Rattle.ckc_operands.specs.Weights.{function_weight, program_weight}
 use Rattle.ckc_elaborate.specs.Lists.{numbered}
 use Rattle.ckc_elaborate.specs.Objects.{count_declared}
-use Rattle.ckc_elaborate.specs.Variables.{variable_declared, locals_of, variables_of}
 use Rattle.ckc_elaborate.specs.Functions.{literals_of_head, literals_of_item, function_elaborated, functions_in}
 use Rattle.ckc_elaborate.specs.Elaborated.{elaborated}
 use Rattle.ckc_sizes.specs.Nodes.{text_nodes}
@@ -23,7 +23,7 @@ params_count : (ds : List NotedDecl) → length ds ≤ marked (flat_map marks_of
 params_count [] = omega arith
 params_count (d ∷ ds) = omega (arith, params_count ds, marked-append (marks_of_param d) (flat_map marks_of_param ds))
 
-function_most : (p : Typed) (k : ℕ) (h : NotedHead) (body : NotedStmt) → function_weight (function_elaborated p k h body) ≤ 250 * marked (marks_of_item (item.Function h body))
+function_most : (p : Typed) (k : ℕ) (h : NotedHead) (body : NotedStmt) → function_weight (function_elaborated p k h body) ≤ 240 * marked (marks_of_item (item.Function h body))
 function_most p k h body =
     omega (
       arith,
@@ -35,11 +35,11 @@ function_most p k h body =
       marked-append (flat_map marks_of_param h.params) (marks_of_bounds h.bounds),
     )
 
-item_most : (p : Typed) (k : ℕ) (i : NotedItem) → sum_by function_weight (functions_in p k i) ≤ 250 * marked (marks_of_item i)
+item_most : (p : Typed) (k : ℕ) (i : NotedItem) → sum_by function_weight (functions_in p k i) ≤ 240 * marked (marks_of_item i)
 item_most p k (item.Function h body) = omega (arith, sum_by-cons function_weight (function_elaborated p k h body) [], function_most p k h body)
 item_most p k i = omega arith
 
-items_most : (p : Typed) (k : ℕ) (items : List NotedItem) → sum_by function_weight (numbered (functions_in p) literals_of_item k items) ≤ 250 * marked (flat_map marks_of_item items)
+items_most : (p : Typed) (k : ℕ) (items : List NotedItem) → sum_by function_weight (numbered (functions_in p) literals_of_item k items) ≤ 240 * marked (flat_map marks_of_item items)
 items_most p k [] = omega arith
 items_most p k (i ∷ rest) =
     omega (
@@ -50,5 +50,5 @@ items_most p k (i ∷ rest) =
       marked-append (marks_of_item i) (flat_map marks_of_item rest),
     )
 
-pub weight_small : (p : Typed) → program_weight (elaborated p) ≤ 250 * text_nodes p
+pub weight_small : (p : Typed) → program_weight (elaborated p) ≤ 240 * text_nodes p
 weight_small p = omega (arith, items_most p (count_declared p.tree.items) p.tree.items, is_marked (marks_of p.tree))

@@ -1,4 +1,4 @@
--- What a statement becomes weighs at most 250 for each node of the text, the locals that it declares included.
+-- What a statement becomes weighs at most 240 for each node of the text, the locals that it declares included.
 use Rattle.std.proofs.Common.{◌≡◌, ℕ, ◌+◌, ◌*◌, ◌≤◌, List, [], ◌∷◌, ◌++◌, map, length, length-append, refl, sym, ap, subst, arith}
 use Rattle.std.specs.Prelude.{false, Option, Some, None}
 use Rattle.ckc_base.specs.declared.places.Pos.{Pos}
@@ -12,13 +12,12 @@ use Rattle.ckc_typed.specs.declared.environment.Variable.{Variable}
 use Rattle.ckc_typed.specs.declared.typed.Note.{Note}
 use Rattle.ckc_typed.specs.declared.typed.Typed.{Typed}
 use Rattle.ckc_typed.specs.Trees.{NotedExpr, NotedAct, NotedStmt}
-use Rattle.ckc_typed.specs.Environment.{joined_variables}
+use Rattle.ckc_typed.specs.Environment.{joined_variables, act_variables, stmt_variables, locals_of, locals_of_act}
 use Rattle.ckc_source.specs.declared.stmt.Spot.{Spot}
 use Rattle.ckc_source.specs.Code.{Target, Right, Code, End, chained}
 use Rattle.ckc_operands.specs.Weights.{assigns_weight, code_weight}
 use Rattle.ckc_values.specs.Expressions.{literals_of, expr_elaborated}
 use Rattle.ckc_elaborate.specs.Literals.{literals_of_value}
-use Rattle.ckc_elaborate.specs.Variables.{act_variables, stmt_variables, locals_of, locals_of_act}
 use Rattle.ckc_elaborate.specs.Steps.{spot, nowhere, destination_of, is_terminated}
 use Rattle.ckc_elaborate.specs.Statements.{ActPart, Part, act_parts, stmt_parts, part_of, part_of_act, one, alone, code_if, literals_if, all_code, all_assigns, turns}
 use Rattle.ckc_sizes.proofs.Marked.{marked, marked-append}
@@ -37,10 +36,10 @@ assigns-append (x ∷ xs) ys = omega (arith, assigns-append xs ys)
 
 abbrev CodeFits : ℕ → (Typed → List Variable → CType → ℕ → List (Code → Code)) → List Variable → Type 0
 CodeFits m code vs = (p : Typed) (locals : List Variable) (result : CType) (k : ℕ) (rest : Code) →
-    code_weight (chained (code p locals result k) rest) + 64 * length vs ≤ 250 * m + code_weight rest
+    code_weight (chained (code p locals result k) rest) + 64 * length vs ≤ 240 * m + code_weight rest
 
 abbrev AssignsFit : ℕ → (Typed → List Variable → ℕ → List (Target × Right)) → List Variable → Type 0
-AssignsFit m assigns vs = (p : Typed) (locals : List Variable) (k : ℕ) → assigns_weight (assigns p locals k) + 64 * length vs ≤ 250 * m
+AssignsFit m assigns vs = (p : Typed) (locals : List Variable) (k : ℕ) → assigns_weight (assigns p locals k) + 64 * length vs ≤ 240 * m
 
 abbrev StmtFits : List Mark → Part → List Variable → Type 0
 StmtFits ms q vs = CodeFits (marked ms) q.code vs × AssignsFit (marked ms) q.assigns vs
@@ -135,7 +134,7 @@ no_part p locals result k rest = omega arith
 module _ (p : Typed) (locals : List Variable) (result : CType) (s : Spot) where
   if_most : (k : ℕ) (e : NotedExpr) (ms ns : List Mark) (chosen : Part) (other : Option Part) (vs ws : List Variable) → CodeFits (marked ms) chosen.code vs → PartFits ns other ws
       → (rest : Code) → code_weight (Code.If s (expr_elaborated p locals k e) (alone (chosen.code p locals result (k + literals_of e))) (alone (code_if other p locals result (k + literals_of e + chosen.literals))) rest) + 64 * length (vs ++ ws)
-      ≤ 250 * (1 + marked (marks_of_expr e ++ ms ++ ns)) + code_weight rest
+      ≤ 240 * (1 + marked (marks_of_expr e ++ ms ++ ns)) + code_weight rest
   if_most k e ms ns chosen other vs ws on_chosen on_other rest =
       omega (
         arith,
@@ -150,7 +149,7 @@ module _ (p : Typed) (locals : List Variable) (result : CType) (s : Spot) where
   for_most : (k : ℕ) (e : Option NotedExpr) (ms ns os : List Mark) (first step : Option Part) (body : Part) (us vs ws : List Variable)
       → PartFits ms first us → PartFits ns step vs → CodeFits (marked os) body.code ws
       → (rest : Code) → code_weight (chained (code_if first p locals result k ++ one (turns p locals result s (k + literals_if first) e step body)) rest) + 64 * length (us ++ vs ++ ws)
-      ≤ 250 * (1 + marked (ms ++ marks_of_value e ++ ns ++ os)) + code_weight rest
+      ≤ 240 * (1 + marked (ms ++ marks_of_value e ++ ns ++ os)) + code_weight rest
   for_most k e ms ns os first step body us vs ws on_first on_step on_body rest =
       let j = k + literals_if first in
       let loop = turns p locals result s j e step body rest in
@@ -168,12 +167,12 @@ module _ (p : Typed) (locals : List Variable) (result : CType) (s : Spot) where
         marked-append ms (marks_of_value e),
       )
 
-if_locals : (e : NotedExpr) (ms ns : List Mark) (vs ws : List Variable) → 64 * length vs ≤ 250 * marked ms → 64 * length ws ≤ 250 * marked ns
-    → 64 * length (vs ++ ws) ≤ 250 * (1 + marked (marks_of_expr e ++ ms ++ ns))
+if_locals : (e : NotedExpr) (ms ns : List Mark) (vs ws : List Variable) → 64 * length vs ≤ 240 * marked ms → 64 * length ws ≤ 240 * marked ns
+    → 64 * length (vs ++ ws) ≤ 240 * (1 + marked (marks_of_expr e ++ ms ++ ns))
 if_locals e ms ns vs ws h i = omega (arith, h, i, length-append vs ws, marked-append (marks_of_expr e ++ ms) ns, marked-append (marks_of_expr e) ms)
 
-for_locals : (e : Option NotedExpr) (ms ns os : List Mark) (us vs ws : List Variable) → 64 * length us ≤ 250 * marked ms → 64 * length vs ≤ 250 * marked ns → 64 * length ws ≤ 250 * marked os
-    → 64 * length (us ++ vs ++ ws) ≤ 250 * (1 + marked (ms ++ marks_of_value e ++ ns ++ os))
+for_locals : (e : Option NotedExpr) (ms ns os : List Mark) (us vs ws : List Variable) → 64 * length us ≤ 240 * marked ms → 64 * length vs ≤ 240 * marked ns → 64 * length ws ≤ 240 * marked os
+    → 64 * length (us ++ vs ++ ws) ≤ 240 * (1 + marked (ms ++ marks_of_value e ++ ns ++ os))
 for_locals e ms ns os us vs ws h i j =
     omega (
       arith,
@@ -188,7 +187,7 @@ for_locals e ms ns os us vs ws h i j =
     )
 
 -- the locals of a part
-held_locals : (s : KeptStmt) (p : Typed) (locals : List Variable) (k : ℕ) → 64 * length (locals_of s.0) ≤ 250 * marked (marks_of_stmt s.0)
+held_locals : (s : KeptStmt) (p : Typed) (locals : List Variable) (k : ℕ) → 64 * length (locals_of s.0) ≤ 240 * marked (marks_of_stmt s.0)
 held_locals s p locals k = omega (arith, s.1.1 p locals k)
 
 act_step : (y : Act-F Name Note KeptAct KeptStmt) → ActFits (act_marks (held_act (inner_act y))) (act_parts (part_act (inner_act y))) (act_variables (local_act (inner_act y)))
@@ -275,5 +274,5 @@ stmt_fits = ind-Stmt Name Note ActSmall StmtSmall act_by stmt_by
 
 -- a statement with none behind it
 pub stmt_small : (p : Typed) (locals : List Variable) (result : CType) (k : ℕ) (s : NotedStmt)
-    → code_weight (alone ((part_of s).code p locals result k)) + 64 * length (locals_of s) ≤ 250 * marked (marks_of_stmt s)
+    → code_weight (alone ((part_of s).code p locals result k)) + 64 * length (locals_of s) ≤ 240 * marked (marks_of_stmt s)
 stmt_small p locals result k s = omega (arith, (stmt_fits s).0 p locals result k End)

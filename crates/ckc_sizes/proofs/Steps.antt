@@ -1,4 +1,4 @@
--- What assignments, calls and declarations become weighs at most 250 for each node of the text.
+-- What assignments, calls and declarations become weighs at most 240 for each node of the text.
 use Rattle.std.proofs.Common.{◌≡◌, ℕ, ◌+◌, ◌*◌, ◌≤◌, List, [], ◌∷◌, map, ap, ◌∙◌, arith}
 use Rattle.std.specs.Prelude.{Bool, false, Option, Some, None}
 use Rattle.ckc_base.specs.declared.places.Pos.{Pos}
@@ -56,7 +56,7 @@ target_most t q (Node-F.Name (name.Local x)) = omega arith
 target_most t q (Node-F.Name n) = omega (arith, guard_most q.access.through)
 target_most t q x = omega (arith, guard_most q.access.through)
 
-pub target_small : (p : Typed) (locals : List Variable) (k : ℕ) (e : NotedExpr) → target_weight (target_of p locals k e) ≤ 250 * marked (marks_of_expr e)
+pub target_small : (p : Typed) (locals : List Variable) (k : ℕ) (e : NotedExpr) → target_weight (target_of p locals k e) ≤ 10 + 240 * marked (marks_of_expr e)
 target_small p locals k e =
     omega (arith, target_most e.note.ctype (place_elaborated p locals k e) (out-Node Name Note e.node), place_small p locals k e)
 
@@ -67,55 +67,55 @@ local_target_none t n = omega arith
 -- ---- what is assigned
 
 right_by : (p : Typed) (locals : List Variable) (k : ℕ) (terminated : Bool) (e : NotedExpr) (x : Layer) → Holds e x
-    → right_weight (right_form p locals k terminated e x) + 120 ≤ 250 * marked (marks_of_expr e)
+    → right_weight (right_form p locals k terminated e x) + 120 ≤ 240 * marked (marks_of_expr e)
 right_by p locals k terminated e (Node-F.Calloc w n x) h = omega (arith, value_small p locals k n false, h)
-right_by p locals k terminated e x h = value_small p locals k e false
+right_by p locals k terminated e x h = omega (arith, value_small p locals k e false)
 
-pub right_small : (p : Typed) (locals : List Variable) (k : ℕ) (terminated : Bool) (e : NotedExpr) → right_weight (right_of p locals k terminated e) + 120 ≤ 250 * marked (marks_of_expr e)
+pub right_small : (p : Typed) (locals : List Variable) (k : ℕ) (terminated : Bool) (e : NotedExpr) → right_weight (right_of p locals k terminated e) + 120 ≤ 240 * marked (marks_of_expr e)
 right_small p locals k terminated e = right_by p locals k terminated e (out-Node Name Note e.node) (holds e)
 
 -- ---- calls
 
-argument_most : (p : Typed) (locals : List Variable) (k : ℕ) (d : Option NotedDecl) (e : NotedExpr) → 8 + expr_weight (argument p locals k d e) ≤ 250 * marked (marks_of_expr e)
+argument_most : (p : Typed) (locals : List Variable) (k : ℕ) (d : Option NotedDecl) (e : NotedExpr) → 8 + expr_weight (argument p locals k d e) ≤ 240 * marked (marks_of_expr e)
 argument_most p locals k (Some d) e =
-    omega (arith, converted_most (type_written d.ctype) (expr_elaborated p locals k e) (250 * marked (marks_of_expr e)) (value_small p locals k e) false)
+    omega (arith, converted_most (type_written d.ctype) (expr_elaborated p locals k e) (240 * marked (marks_of_expr e)) (value_small p locals k e) false)
 argument_most p locals k None e = omega (arith, value_small p locals k e false)
 
 arguments_most : (p : Typed) (locals : List Variable) (k : ℕ) (ds : List NotedDecl) (es : List NotedExpr)
-    → arguments_weight (arguments p locals k ds es) ≤ 250 * marked (joined (map marks_of_expr es))
+    → arguments_weight (arguments p locals k ds es) ≤ 240 * marked (joined (map marks_of_expr es))
 arguments_most p locals k ds [] = omega arith
 arguments_most p locals k [] (e ∷ es) =
     omega (arith, argument_most p locals k None e, arguments_most p locals (k + literals_of e) [] es, marked-append (marks_of_expr e) (joined (map marks_of_expr es)))
 arguments_most p locals k (d ∷ ds) (e ∷ es) =
     omega (arith, argument_most p locals k (Some d) e, arguments_most p locals (k + literals_of e) ds es, marked-append (marks_of_expr e) (joined (map marks_of_expr es)))
 
-first_most : (p : Typed) (locals : List Variable) (k : ℕ) (es : List NotedExpr) → expr_weight (first_of p locals k es) ≤ 10 + 250 * marked (joined (map marks_of_expr es))
+first_most : (p : Typed) (locals : List Variable) (k : ℕ) (es : List NotedExpr) → expr_weight (first_of p locals k es) ≤ 10 + 240 * marked (joined (map marks_of_expr es))
 first_most p locals k [] = omega arith
 first_most p locals k (e ∷ es) = omega (arith, value_small p locals k e false, marked-append (marks_of_expr e) (joined (map marks_of_expr es)))
 
 module _ (p : Typed) (locals : List Variable) (s : Spot) (to : Destination) (k : ℕ) (rest : Code) where
   called_most : (n : Name) (es : List NotedExpr) (at : Pos)
-      → code_weight (called p locals s to k n es at rest) ≤ 128 + target_weight to.target + 250 * marked (joined (map marks_of_expr es)) + code_weight rest
+      → code_weight (called p locals s to k n es at rest) ≤ 128 + target_weight to.target + 240 * marked (joined (map marks_of_expr es)) + code_weight rest
   called_most (name.Function f) es at = omega (arith, arguments_most p locals k (params_of (name.Function f) p.tree.items) es)
   called_most name.Getchar es at = omega arith
   called_most name.Putchar es at = omega (arith, first_most p locals k es)
   called_most n es at = omega arith
 
   assigned_by : (e : NotedExpr) (x : Layer) → Holds e x
-      → code_weight (assigned_form p locals s to k e x rest) ≤ 64 + target_weight to.target + 250 * marked (marks_of_expr e) + code_weight rest
+      → code_weight (assigned_form p locals s to k e x rest) ≤ 64 + target_weight to.target + 240 * marked (marks_of_expr e) + code_weight rest
   assigned_by e (Node-F.Call n es) h = omega (arith, called_most n es e.pos, h)
   assigned_by e x h = omega (arith, right_small p locals k to.terminated e)
 
-  pub assigned_most : (e : NotedExpr) → code_weight (assigned p locals s to k e rest) ≤ 64 + target_weight to.target + 250 * marked (marks_of_expr e) + code_weight rest
+  pub assigned_most : (e : NotedExpr) → code_weight (assigned p locals s to k e rest) ≤ 64 + target_weight to.target + 240 * marked (marks_of_expr e) + code_weight rest
   assigned_most e = assigned_by e (out-Node Name Note e.node) (holds e)
 
-  started_most : (i : NotedInit) → code_weight (started p locals s to k i rest) ≤ 124 + target_weight to.target + 250 * marked (marks_of_init i) + code_weight rest
+  started_most : (i : NotedInit) → code_weight (started p locals s to k i rest) ≤ 124 + target_weight to.target + 240 * marked (marks_of_init i) + code_weight rest
   started_most init.Nothing = omega arith
   started_most (init.One e) = omega (arith, assigned_most e)
   started_most (init.Many es) = omega arith
 
 pub declared_most : (p : Typed) (locals : List Variable) (s : Spot) (k : ℕ) (d : NotedDecl) (rest : Code)
-    → code_weight (declared p locals s k d rest) + 64 ≤ 250 * marked (marks_of_decl d) + code_weight rest
+    → code_weight (declared p locals s k d rest) + 64 ≤ 240 * marked (marks_of_decl d) + code_weight rest
 declared_most p locals s k d rest =
     let to = destination_for p (type_written d.ctype) d.name in
     omega (
@@ -127,11 +127,11 @@ declared_most p locals s k d rest =
 
 -- ---- values in statements
 
-pub returned_most : (p : Typed) (locals : List Variable) (result : CType) (k : ℕ) (e : Option NotedExpr) → expr_weight (returned p locals result k e) ≤ 60 + 250 * marked (marks_of_value e)
+pub returned_most : (p : Typed) (locals : List Variable) (result : CType) (k : ℕ) (e : Option NotedExpr) → expr_weight (returned p locals result k e) ≤ 60 + 240 * marked (marks_of_value e)
 returned_most p locals result k None = omega arith
 returned_most p locals result k (Some e) =
-    omega (arith, converted_most result (expr_elaborated p locals k e) (250 * marked (marks_of_expr e)) (value_small p locals k e) false)
+    omega (arith, converted_most result (expr_elaborated p locals k e) (240 * marked (marks_of_expr e)) (value_small p locals k e) false)
 
-pub condition_most : (p : Typed) (locals : List Variable) (k : ℕ) (e : Option NotedExpr) → expr_weight (condition p locals k e) ≤ 60 + 250 * marked (marks_of_value e)
+pub condition_most : (p : Typed) (locals : List Variable) (k : ℕ) (e : Option NotedExpr) → expr_weight (condition p locals k e) ≤ 60 + 240 * marked (marks_of_value e)
 condition_most p locals k None = omega arith
 condition_most p locals k (Some e) = omega (arith, value_small p locals k e false)

@@ -1,5 +1,5 @@
--- The value of an expression and its address weigh at most 250 for each node of the text, less 120, whether their range
--- is a value or not; its place weighs 60 less.
+-- The value of an expression and its address weigh at most 240 for each node of the text, less 120, or less 110 where
+-- their range is a value; its place weighs 170 less.
 use Rattle.std.proofs.Common.{◌≡◌, ℕ, ◌+◌, ◌*◌, ◌≤◌, Bool, false, List, [], ◌++◌, map, length, sym, subst, arith}
 use Rattle.std.specs.Prelude.{Some, None}
 use Rattle.ckc_base.specs.declared.places.Pos.{Pos}
@@ -17,7 +17,7 @@ use Rattle.ckc_typed.specs.Trees.{NotedLimits, NotedNode, NotedExpr}
 use Rattle.ckc_typed.specs.Types.{type_written, kind_of, element_of}
 use Rattle.ckc_typed.specs.Constants.{size_of}
 use Rattle.ckc_source.specs.Code.{Expr, Number, Array, Choice, Tested, Trusted}
-use Rattle.ckc_operands.specs.Compilable.{index_nodes}
+use Rattle.ckc_operands.specs.Compilable.{index_nodes, range_nodes}
 use Rattle.ckc_operands.specs.Weights.{value_weight, expr_weight}
 use Rattle.ckc_values.specs.Kinds.{integer_of, count_of_kind, size_behind, pointee_of, tag_of}
 use Rattle.ckc_values.specs.Members.{count_of_member}
@@ -31,15 +31,15 @@ use Rattle.ckc_sizes.proofs.Parts.{place_weight, Weighs, range_most, index_most,
 -- what an expression means weighs little, by its marks
 abbrev pub ExprFits : List Mark → Part → Type 0
 ExprFits ms q = (p : Typed) (locals : List Variable) (k : ℕ) →
-    Weighs (250 * marked ms) (q.value p locals k) × (place_weight (q.place p locals k) + 180 ≤ 250 * marked ms)
-    × Weighs (250 * marked ms) (q.address p locals k)
+    Weighs (240 * marked ms) (q.value p locals k) × (place_weight (q.place p locals k) + 170 ≤ 240 * marked ms)
+    × Weighs (240 * marked ms) (q.address p locals k)
 
 abbrev Light : ℕ → Expr → Type 0
-Light m e = (r : Bool) → value_weight r e ≤ 130 + 250 * m
+Light m e = (r : Bool) → value_weight r e ≤ 120 + 240 * m + 10 * range_nodes r
 
 -- a node is one of the text with what is in it
 abbrev NodeHolds : ℕ → Expr → Place → Expr → Type 0
-NodeHolds m e q a = Light m e × (place_weight q ≤ 70 + 250 * m) × Light m a
+NodeHolds m e q a = Light m e × (place_weight q ≤ 70 + 240 * m) × Light m a
 
 abbrev NodeFits : List Mark → NodePart → Type 0
 NodeFits ms q = (a : Note) (at : Pos) (p : Typed) (locals : List Variable) (k : ℕ) →
@@ -47,7 +47,7 @@ NodeFits ms q = (a : Note) (at : Pos) (p : Typed) (locals : List Variable) (k : 
 
 -- bounds need have no node of the text
 abbrev CountHolds : ℕ → Expr → Type 0
-CountHolds m k = (index_nodes k (expr_weight k) ≤ 250 * m) × (expr_weight k ≤ 10 + 250 * m)
+CountHolds m k = (index_nodes k (expr_weight k) ≤ 240 * m) × (expr_weight k ≤ 10 + 240 * m)
 
 abbrev LimitsFits : List Mark → LimitsPart → Type 0
 LimitsFits ms q = (size : ℕ) (p : Typed) (locals : List Variable) (k : ℕ) → CountHolds (marked ms) (q.elements size p locals k)
@@ -103,7 +103,7 @@ held_node = map-Node Name Note NotedLimits NotedNode NotedExpr Marks Marks Marks
 abbrev held_expr : Expr-F Name Note NotedLimits NotedNode NotedExpr → Expr-F Name Note Marks Marks Marks
 held_expr = map-Expr Name Note NotedLimits NotedNode NotedExpr Marks Marks Marks marks_of_limits marks_of_node marks_of_expr
 
-count_holds : (m : ℕ) (k : Expr) → expr_weight k ≤ 250 * m → CountHolds m k
+count_holds : (m : ℕ) (k : Expr) → expr_weight k ≤ 240 * m → CountHolds m k
 count_holds m k h = (omega (arith, h, index_most k), omega (arith, h))
 
 none_holds : (m : ℕ) → CountHolds m outside
@@ -127,12 +127,12 @@ array_light m at bytes r = omega (arith, range_most r)
 
 -- what has a value alone
 bare_holds : (m : ℕ) (p : Typed) (t : CType) (at : Pos) (e : Expr) → Light m e → NodeHolds m e (nowhere at) (address_at p.layout t (nowhere at))
-bare_holds m p t at e h = (h, omega arith, λ r. omega (arith, address_most p.layout t (nowhere at) r))
+bare_holds m p t at e h = (h, omega arith, λ r. omega (arith, range_most r, address_most p.layout t (nowhere at) r))
 
 -- what lies at a place
-there_holds : (m : ℕ) (p : Typed) (t : CType) (e : Expr) (q : Place) → ((r : Bool) → value_weight r e ≤ 60 + place_weight q) → place_weight q ≤ 70 + 250 * m
+there_holds : (m : ℕ) (p : Typed) (t : CType) (e : Expr) (q : Place) → ((r : Bool) → value_weight r e ≤ 60 * range_nodes r + place_weight q) → place_weight q ≤ 70 + 240 * m
     → NodeHolds m e q (address_at p.layout t q)
-there_holds m p t e q h i = ((λ r. omega (arith, h r, i)), i, (λ r. omega (arith, address_most p.layout t q r, i)))
+there_holds m p t e q h i = ((λ r. omega (arith, range_most r, h r, i)), i, (λ r. omega (arith, range_most r, address_most p.layout t q r, i)))
 
 node_step : (y : Node-F Name Note KeptLimits KeptNode KeptExpr) → NodeFits (node_marks (held_node (inner_node y))) (node_parts (part_node (inner_node y)))
 node_step (Node-F.Number n u) = λ a at p locals k. bare_holds 0 p a.ctype at (Number n) (number_light 0 n)
@@ -141,23 +141,23 @@ node_step Node-F.Null = λ a at p locals k. bare_holds 0 p a.ctype at (Number 0)
 node_step (Node-F.Name n) = λ a at p locals k.
     let q = name_place p a.ctype at n in
     let h = name_place_most p a.ctype at n in
-    ((λ r. omega (arith, named_most p locals a at n r)), omega (arith, h), (λ r. omega (arith, h, address_most p.layout a.ctype q r)))
+    ((λ r. omega (arith, named_most p locals a at n r)), omega (arith, h), (λ r. omega (arith, range_most r, h, address_most p.layout a.ctype q r)))
 node_step (Node-F.Un op.Deref e) = λ a at p locals k.
-    let m = 250 * marked (marks_of_expr e.0) in
+    let m = 240 * marked (marks_of_expr e.0) in
     let v = (part_of e.0).value p locals k in
     let q = target_place p.layout (part_of e.0).ctype at v in
     let h = (e.1 p locals k).0 in
     let i = target_place_most p.layout (part_of e.0).ctype at v m h in
-    ((λ r. omega (arith, read_most p.layout a.ctype (count_of_kind (kind_of a.ctype)) q r, i)), omega (arith, i), (λ r. omega (arith, h r)))
+    ((λ r. omega (arith, range_most r, read_most p.layout a.ctype (count_of_kind (kind_of a.ctype)) q r, i)), omega (arith, i), (λ r. omega (arith, h r)))
 node_step (Node-F.Un op.Address e) = λ a at p locals k.
     bare_holds (marked (marks_of_expr e.0)) p a.ctype at ((part_of e.0).address p locals k) (λ r. omega (arith, (e.1 p locals k).2 r))
 node_step (Node-F.Un o e) = λ a at p locals k.
-    let m = 250 * marked (marks_of_expr e.0) in
+    let m = 240 * marked (marks_of_expr e.0) in
     let v = (part_of e.0).value p locals k in
     bare_holds (marked (marks_of_expr e.0)) p a.ctype at (unary o at v) (λ r. omega (arith, unary_most o at v m (e.1 p locals k).0 r))
 node_step (Node-F.Bin o e f) = λ a at p locals k.
-    let m = 250 * marked (marks_of_expr e.0) in
-    let n = 250 * marked (marks_of_expr f.0) in
+    let m = 240 * marked (marks_of_expr e.0) in
+    let n = 240 * marked (marks_of_expr f.0) in
     let v = (part_of e.0).value p locals k in
     let w = (part_of f.0).value p locals (k + (part_of e.0).literals) in
     let g = (e.1 p locals k).0 in
@@ -171,9 +171,9 @@ node_step (Node-F.Bin o e f) = λ a at p locals k.
 node_step (Node-F.Pick e f g) = λ a at p locals k.
     let j = k + (part_of e.0).literals in
     let i = k + (part_of e.0).literals + (part_of f.0).literals in
-    let l = 250 * marked (marks_of_expr e.0) in
-    let m = 250 * marked (marks_of_expr f.0) in
-    let n = 250 * marked (marks_of_expr g.0) in
+    let l = 240 * marked (marks_of_expr e.0) in
+    let m = 240 * marked (marks_of_expr f.0) in
+    let n = 240 * marked (marks_of_expr g.0) in
     let u = (part_of e.0).value p locals k in
     let v = (part_of f.0).value p locals j in
     let w = (part_of g.0).value p locals i in
@@ -185,8 +185,8 @@ node_step (Node-F.Pick e f g) = λ a at p locals k.
       marked-append (marks_of_expr e.0) (marks_of_expr f.0),
     ))
 node_step (Node-F.Index e f) = λ a at p locals k.
-    let m = 250 * marked (marks_of_expr e.0) in
-    let n = 250 * marked (marks_of_expr f.0) in
+    let m = 240 * marked (marks_of_expr e.0) in
+    let n = 240 * marked (marks_of_expr f.0) in
     let v = (part_of e.0).value p locals k in
     let w = (part_of f.0).value p locals (k + (part_of e.0).literals) in
     let q = element_place p.layout (part_of e.0).ctype at (integer_of (part_of f.0).ctype) v w in
@@ -194,7 +194,7 @@ node_step (Node-F.Index e f) = λ a at p locals k.
     let g = (e.1 p locals k).0 in
     let h = (f.1 p locals (k + (part_of e.0).literals)).0 in
     let i = element_place_most p.layout (part_of e.0).ctype at (integer_of (part_of f.0).ctype) v w m n g h in (
-      (λ r. omega (arith, read_most p.layout a.ctype (count_of_kind (kind_of a.ctype)) q r, i, x)),
+      (λ r. omega (arith, range_most r, read_most p.layout a.ctype (count_of_kind (kind_of a.ctype)) q r, i, x)),
       omega (arith, i, x),
       (λ r. omega (arith, operands_most p.layout op.Add (part_of e.0).ctype (part_of f.0).ctype at v w m n g h r, x)),
     )
@@ -214,23 +214,23 @@ node_step (Node-F.Arrow e n m) = λ a at p locals k.
     (omega (
       arith,
       member_place_most p.layout tag n target,
-      target_place_most p.layout (part_of e.0).ctype at v (250 * marked (marks_of_expr e.0)) (e.1 p locals k).0,
+      target_place_most p.layout (part_of e.0).ctype at v (240 * marked (marks_of_expr e.0)) (e.1 p locals k).0,
     ))
 node_step (Node-F.Cast w e) = λ a at p locals k.
-    let m = 250 * marked (marks_of_expr e.0) in
+    let m = 240 * marked (marks_of_expr e.0) in
     let v = (part_of e.0).value p locals k in
     bare_holds (marked (marks_of_expr e.0)) p a.ctype at (cast (type_written w) (part_of e.0).ctype v)
     (λ r. omega (arith, cast_most (type_written w) (part_of e.0).ctype v m (e.1 p locals k).0 r))
 node_step (Node-F.Size w) = λ a at p locals k. bare_holds 0 p a.ctype at (Number (size_of p.layout (type_written w))) (number_light 0 (size_of p.layout (type_written w)))
 node_step (Node-F.Trusted w e None) = λ a at p locals k.
-    let m = 250 * marked (marks_of_expr e.0) in
+    let m = 240 * marked (marks_of_expr e.0) in
     let v = (part_of e.0).value p locals k in
     let to = pointee_of p.layout (type_written w) in
     bare_holds (marked (marks_of_expr e.0 ++ [])) p a.ctype at (Trusted to (form_if None) v (Number 1))
     (λ r. omega (arith, marked-append (marks_of_expr e.0) [], trusted_most to (form_if None) v (Number 1) m 0 (e.1 p locals k).0 (omega arith) r))
 node_step (Node-F.Trusted w e (Some l)) = λ a at p locals k.
-    let m = 250 * marked (marks_of_expr e.0) in
-    let n = 250 * marked (marks_of_limits l.0) in
+    let m = 240 * marked (marks_of_expr e.0) in
+    let n = 240 * marked (marks_of_limits l.0) in
     let v = (part_of e.0).value p locals k in
     let to = pointee_of p.layout (type_written w) in
     let size = size_behind p.layout (type_written w) in
@@ -243,14 +243,14 @@ node_step (Node-F.Trusted w e (Some l)) = λ a at p locals k.
       trusted_most to (part_of_limits l.0).form v count m n (e.1 p locals k).0 (l.1 size p locals j).1 r,
     ))
 node_step (Node-F.Tested w e None) = λ a at p locals k.
-    let m = 250 * marked (marks_of_expr e.0) in
+    let m = 240 * marked (marks_of_expr e.0) in
     let v = (part_of e.0).value p locals k in
     let size = size_behind p.layout (type_written w) in
     bare_holds (marked (marks_of_expr e.0 ++ [])) p a.ctype at (Tested size (form_if None) at v (Number 1))
     (λ r. omega (arith, marked-append (marks_of_expr e.0) [], checked_most size (form_if None) at v (Number 1) m 0 (e.1 p locals k).0 (omega arith) (omega arith) r))
 node_step (Node-F.Tested w e (Some l)) = λ a at p locals k.
-    let m = 250 * marked (marks_of_expr e.0) in
-    let n = 250 * marked (marks_of_limits l.0) in
+    let m = 240 * marked (marks_of_expr e.0) in
+    let n = 240 * marked (marks_of_limits l.0) in
     let v = (part_of e.0).value p locals k in
     let size = size_behind p.layout (type_written w) in
     let j = k + (part_of e.0).literals in
@@ -294,8 +294,8 @@ expr_by x y is =
 expr_small : (e : NotedExpr) → ExprSmall e
 expr_small = ind-Expr Name Note LimitsSmall NodeSmall ExprSmall limits_by node_by expr_by
 
-pub value_small : (p : Typed) (locals : List Variable) (k : ℕ) (e : NotedExpr) → Weighs (250 * marked (marks_of_expr e)) (expr_elaborated p locals k e)
+pub value_small : (p : Typed) (locals : List Variable) (k : ℕ) (e : NotedExpr) → Weighs (240 * marked (marks_of_expr e)) (expr_elaborated p locals k e)
 value_small p locals k e = (expr_small e p locals k).0
 
-pub place_small : (p : Typed) (locals : List Variable) (k : ℕ) (e : NotedExpr) → place_weight (place_elaborated p locals k e) + 180 ≤ 250 * marked (marks_of_expr e)
+pub place_small : (p : Typed) (locals : List Variable) (k : ℕ) (e : NotedExpr) → place_weight (place_elaborated p locals k e) + 170 ≤ 240 * marked (marks_of_expr e)
 place_small p locals k e = (expr_small e p locals k).1

@@ -8,9 +8,9 @@ ghost use Rattle.ckc_sizes.specs.Nodes.{text_nodes};
 ghost use Rattle.ckc_syntax.specs.Marks.{marks_of};
 ghost use Rattle.ckc_typed.specs.declared.typed.Typed.{Typed};
 
-/// The program of a text weighs at most 250 instructions for each node of the text.
+/// The program of a text weighs at most 240 instructions for each node of the text.
 pub fn programs_are_small()
-    ensures { (p : Typed) → program_weight (elaborated p) ≤ 250 * text_nodes p }
+    ensures { (p : Typed) → program_weight (elaborated p) ≤ 240 * text_nodes p }
 {}
 
 /// The bounds phase keeps what there is to count in a text.
