@@ -6,7 +6,7 @@ use Rattle.std.proofs.lemmas.Int.{ints}
 use Rattle.std.proofs.lemmas.List.Folds.{list_any_at}
 use Rattle.ckc_linear.specs.declared.facts.Fact.{Fact}
 use Rattle.ckc_linear.specs.Chains.{Leads, total, Chain}
-use Rattle.ckc_points.specs.Shown.{Known, is_within, reaches, is_shown, is_shown_by}
+use Rattle.ckc_points.specs.Shown.{Known, is_within, reaches, is_shown}
 
 or_cases : (a b : Bool) → (a || b) ≡ true → (a ≡ true) ⊎ (b ≡ true)
 or_cases true b h = inl refl
@@ -102,6 +102,10 @@ shown_at_once facts f p q w e h =
     and_both (nat_lt f.x facts.vars) _ (less_by f.x facts.vars p)
     (and_both (nat_lt f.y facts.vars) _ (less_by f.y facts.vars q)
     (and_both (is_within (2 ^ 50) f.c) _ w (by_walk (facts.vars + 1) facts.list f.x f.y f.c [] e (omega arith) (most_by (pos 0) f.c h))))
+
+-- a fact follows from another one alone
+abbrev is_shown_by : Fact → Fact → Bool
+is_shown_by f g = (g.x == f.x) && ((g.y == f.y) && int_le g.c f.c)
 
 -- the chain of a single fact
 pub shown_by_one : (facts : Known) (f : Fact) → f.x < facts.vars → f.y < facts.vars → is_within (2 ^ 50) f.c ≡ true → list_any (is_shown_by f) facts.list ≡ true → is_shown facts f ≡ true

@@ -1,8 +1,8 @@
 //! Whether facts show another one.
 
-ghost use Rattle.std.specs.Prelude.{◌≡◌, ◌+◌, ◌<◌, ◌^◌, IfOk};
+ghost use Rattle.std.specs.Prelude.{◌≡◌, ◌==◌, ◌&&◌, ◌+◌, ◌<◌, ◌^◌, IfOk, int_le};
 ghost use Rattle.ckc_linear.specs.Facts.{IsWithin};
-ghost use Rattle.ckc_points.specs.Shown.{known, is_within, reaches, is_shown, is_shown_by};
+ghost use Rattle.ckc_points.specs.Shown.{known, is_within, reaches, is_shown};
 ghost use Rattle.std.specs.List.{list_any};
 
 use ckc_linear::{Fact, Facts, entails};
@@ -36,13 +36,14 @@ pub fn is_shown(alloc: Global, facts: &Facts, f: Fact) -> Result<bool, AllocErro
 
 /// Whether a fact stands among others, with its number or a smaller one.
 fn stands(facts: &Facts, f: Fact) -> bool
-    ensures { result ≡ list_any (is_shown_by f) facts.now.list }
+    ensures { result
+        ≡ list_any (λ g. (g.x == f.x) && ((g.y == f.y) && int_le g.c f.c)) facts.now.list }
 {
     facts.list.as_slice().iter().any(|g| is_shown_by(f, *g))
 }
 
 fn is_shown_by(f: Fact, g: Fact) -> bool
-    ensures { result ≡ is_shown_by f g }
+    ensures { result ≡ ((g.x == f.x) && ((g.y == f.y) && int_le g.c f.c)) }
 {
     g.x == f.x && g.y == f.y && g.c <= f.c
 }
