@@ -238,6 +238,16 @@ fn load_op(width: Width) -> LoadOp
     }
 }
 
+/// The store of a byte or of a word.
+fn store_op(width: Width) -> StoreOp
+    ensures { result ≡ store_op width }
+{
+    match width {
+        Width::Byte => StoreOp::Sb,
+        Width::Word => StoreOp::Sw,
+    }
+}
+
 /// A place gets the value at an address, which an operand has.
 pub fn put_data_load(
     out: &mut Vec<Line>,
@@ -255,16 +265,6 @@ pub fn put_data_load(
         Instr::Load(load_op(width), source(t, 5), register_of_operand(a, 5), 0),
     )?;
     put_write(out, t, 5)
-}
-
-/// The store of a byte or of a word.
-fn store_op(width: Width) -> StoreOp
-    ensures { result ≡ store_op width }
-{
-    match width {
-        Width::Byte => StoreOp::Sb,
-        Width::Word => StoreOp::Sw,
-    }
 }
 
 /// A value is stored at an address; two operands have both.

@@ -18,11 +18,15 @@ taken trace = flat_map got_byte trace
 
 -- where what is left is told, these bytes were taken from it
 abbrev pub Took : Option (List ℕ) → Option (List ℕ) → List ℕ → Type 0
-Took old new bytes = (before : List ℕ) → old ≡ Some before → (after : List ℕ) × (new ≡ Some after) × (before ≡ bytes ++ after)
+Took old new bytes =
+    (before : List ℕ) → old ≡ Some before
+    → (after : List ℕ) × (new ≡ Some after) × (before ≡ bytes ++ after)
 
 -- where what is left is told, something holds of what was left before and of what is left then
 abbrev pub WhereTold : Option (List ℕ) → Option (List ℕ) → (List ℕ → List ℕ → Type 0) → Type 0
-WhereTold told told' Holds = (before : List ℕ) → told ≡ Some before → (after : List ℕ) × (told' ≡ Some after) × Holds before after
+WhereTold told told' Holds =
+    (before : List ℕ) → told ≡ Some before
+    → (after : List ℕ) × (told' ≡ Some after) × Holds before after
 
 -- ---- what a source gave, whether it tells what is left or not
 
@@ -52,7 +56,8 @@ MayCome ended rest = IsTrue ended → rest ≡ []
 -- bytes and what may come, and of what is left then.
 abbrev pub OverAny : Bool → Bool → ℕ → ℕ → (List ℕ → List ℕ → Type 0) → Type 0
 OverAny ended ended' answers answers' Holds =
-    (more : List ℕ) × Gave ended ended' answers answers' more × ((rest : List ℕ) → MayCome ended' rest → Holds (more ++ rest) rest)
+    (more : List ℕ) × Gave ended ended' answers answers' more
+    × ((rest : List ℕ) → MayCome ended' rest → Holds (more ++ rest) rest)
 
 -- ---- what was put
 
@@ -62,4 +67,6 @@ Printed old new bytes = (before : List ℕ) → old ≡ Some before → new ≡ 
 
 -- where what was written is told, a front of these bytes came after it, of at least so many
 abbrev pub PrintedFront : Option (List ℕ) → Option (List ℕ) → ℕ → List ℕ → Type 0
-PrintedFront old new least bytes = (before : List ℕ) → old ≡ Some before → (n : ℕ) × (least ≤ n) × (new ≡ Some (before ++ take n bytes))
+PrintedFront old new least bytes =
+    (before : List ℕ) → old ≡ Some before
+    → (n : ℕ) × (least ≤ n) × (new ≡ Some (before ++ take n bytes))

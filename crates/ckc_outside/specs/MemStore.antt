@@ -31,7 +31,13 @@ is_steady s = length s.plan.fail.now == 0
 
 -- what is seen of it
 abbrev pub seen_of : MemStore → Stored
-seen_of s = record { files = Some (files_of s); steady = is_steady s; faults = (plan_of s).faults; keeps = s.keeps; kept = s.kept }
+seen_of s = record {
+  files = Some (files_of s);
+  steady = is_steady s;
+  faults = (plan_of s).faults;
+  keeps = s.keeps;
+  kept = s.kept;
+}
 
 -- whether a call answered that the store failed
 abbrev pub has_failed : {T : Type 0} → Result T StoreError → Bool

@@ -18,4 +18,8 @@ pub record Failing : Type 0 where
 
 -- the same after a call that was a fault or not
 abbrev pub after_call : Failing → Bool → Failing
-after_call plan failed = record { listed = plan.listed; calls = one_more plan.calls; faults = counted plan.faults failed }
+after_call plan failed = record {
+  listed = plan.listed;
+  calls = one_more plan.calls;
+  faults = counted plan.faults failed;
+}

@@ -37,7 +37,13 @@ impl<'a, R: Files> RealStore<'a, R> {
 }
 
 impl<'a, R: Files + AllocGlobal> Store for RealStore<'a, R> {
-    ghost seen = { λ s. record { files = None; steady = false; faults = s.faults; keeps = s.keeps; kept = s.kept } };
+    ghost seen = { λ s. record {
+      files = None;
+      steady = false;
+      faults = s.faults;
+      keeps = s.keeps;
+      kept = s.kept;
+    } };
 
     fn fetch(&mut self, alloc: Global, name: &str, limit: u64) -> Result<Fetched, StoreError> {
         match read_file(self.rt, alloc, name, limit) {
