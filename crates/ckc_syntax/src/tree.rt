@@ -79,8 +79,10 @@ pub enum TypeTree<N> {
     Nt(Boxed<TypeTree<N>>),
 }
 
-// A loop, so that a long chain of pointers does not run out of stack.
+// A loop, so that a long chain of pointers does not run out of stack. Inlined, it would make the frames of the functions
+// that read types larger, and fewer types could stand within one another.
 impl<N: Drop> Drop for TypeTree<N> {
+    #[inline(never)]
     fn drop(mut self) {
         loop {
             match self {
