@@ -71,8 +71,17 @@ fn go_on(alloc: Global, frame: &Frame, ps: &[Placed<'_>], at: &mut Point) -> Res
     ensures { OnOk result (state at.new
         ≡ after frame.now (state at.old).facts (map placed ps.now) (state at.old)) }
 {
-    let before = copied_facts(alloc, &at.facts)?;
-    assign_all(alloc, frame, &before, ps, at)
+    match ps {
+        // Of one assignment the form is known before the point changes.
+        [p] => {
+            let form = received(alloc, frame, &at.facts, p)?;
+            assign_local(alloc, frame, form, local_of(p.target), at)
+        }
+        _ => {
+            let before = copied_facts(alloc, &at.facts)?;
+            assign_all(alloc, frame, &before, ps, at)
+        }
+    }
 }
 
 #[tactic(auto, unfolding(crate::specs::Stores::stored_placed))]
@@ -132,7 +141,7 @@ pub fn pass(
 }
 
 #[tactic(auto, unfolding(crate::specs::Stores::holds_from))]
-fn holds_from(
+fn holds_known(
     alloc: Global,
     frame: &Frame,
     t: &CType,
@@ -149,6 +158,27 @@ fn holds_from(
     let by = place(alloc, frame, &v.facts, e, from.value)?;
     let own = [BaseBy { base, by }];
     holds(alloc, &v, bounds, &own, &[])
+}
+
+#[tactic(auto, unfolding(crate::specs::Stores::holds_from, crate::specs::Values::holds))]
+fn holds_from(
+    alloc: Global,
+    frame: &Frame,
+    t: &CType,
+    base: Base,
+    e: &Expr<Name, Note>,
+    from: Numbered,
+    at: &Point,
+    bounds: &Bounds,
+) -> Result<bool, AllocError>
+    ensures { IfOk result (λ b. b
+        ≡ holds_from frame.now t.now base e.now from (state at.now) bounds.now) }
+{
+    match bounds {
+        // Unknown bounds contain nothing, whatever the new value is.
+        Bounds::Unknown => Ok(true),
+        Bounds::Known(_, _) => holds_known(alloc, frame, t, base, e, from, at, bounds),
+    }
 }
 
 /// Whether the initialiser of the local k is contained in its bounds (else E602 at its name).
