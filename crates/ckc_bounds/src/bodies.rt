@@ -11,7 +11,7 @@ use crate::declared::{clear, set_locals};
 use crate::heads::head_bounds;
 use crate::locals::{add_params, add_stmt};
 use ckc_base::{Fault, Seq};
-use ckc_points::{Bounds, Frame, HeadBounds, Local, entry};
+use ckc_points::{Bounds, Frame, HeadBounds, Local, Work, entry, fit_row};
 use ckc_statements::{Walk, add_name, judge_stmt, may_need};
 use ckc_syntax::{Decl, Head, Name, Stmt};
 use ckc_typed::Note;
@@ -76,8 +76,10 @@ fn scope_of(alloc: Global, params: &[Decl<Name, Note>]) -> Result<Seq<u32>, Allo
     Ok(seen)
 }
 
+/// The start of a walk through a function. The row in which chains are searched is made here, with two places for each
+/// variable, once for each function: before a second walk it only grows, by the fresh variables that the first one found.
 fn begin(
-    alloc: Global,
+    work: &mut Work,
     frame: &Frame,
     counting: bool,
     h: &Head<Name, Note>,
@@ -85,8 +87,9 @@ fn begin(
 ) -> Result<Walk, AllocError>
     ensures { IfOk result (λ w. here w ≡ begin_in frame.now counting h.now next) }
 {
-    let seen = scope_of(alloc, h.params.as_slice())?;
-    let at = entry(alloc, frame)?;
+    fit_row(frame, work)?;
+    let seen = scope_of(work.alloc, h.params.as_slice())?;
+    let at = entry(work.alloc, frame)?;
     Ok(Walk {
         seen,
         at,
@@ -97,7 +100,7 @@ fn begin(
 
 /// How many fresh variables a walk through a function needs, of which the first has the given number.
 fn counted(
-    alloc: Global,
+    work: &mut Work,
     frame: &Frame,
     head: &HeadBounds,
     h: &Head<Name, Note>,
@@ -106,8 +109,8 @@ fn counted(
 ) -> Result<u32, AllocError>
     ensures { IfOk result (λ n. n ≡ counted frame.now head.now h.now body.now first) }
 {
-    let mut walk = begin(alloc, frame, true, h, first)?;
-    match judge_stmt(alloc, frame, head, body, &mut walk) {
+    let mut walk = begin(work, frame, true, h, first)?;
+    match judge_stmt(work, frame, head, body, &mut walk) {
         Ok(_) => Ok(walk.next.saturating_sub(first)),
         Err(Fault::Refused(_)) => Ok(0),
         Err(Fault::Memory) => Err(AllocError),
@@ -116,7 +119,7 @@ fn counted(
 
 /// How many fresh variables a function needs, in a frame of its parameters and locals.
 fn fresh_needed(
-    alloc: Global,
+    work: &mut Work,
     frame: &Frame,
     head: &HeadBounds,
     h: &Head<Name, Note>,
@@ -126,7 +129,7 @@ fn fresh_needed(
     ensures { IfOk result (λ n. n ≡ fresh_needed frame.now head.now h.now body.now first) }
 {
     if may_need(frame, body) {
-        counted(alloc, frame, head, h, body, first)
+        counted(work, frame, head, h, body, first)
     } else {
         Ok(0)
     }
@@ -156,7 +159,7 @@ fn set_fresh(alloc: Global, frame: &mut Frame, n: u32) -> Result<(), AllocError>
 
 /// Makes the variables of a function the locals of a frame, and gives the number of the first fresh one.
 fn set_function(
-    alloc: Global,
+    work: &mut Work,
     frame: &mut Frame,
     head: &HeadBounds,
     h: &Head<Name, Note>,
@@ -166,9 +169,9 @@ fn set_function(
     ensures frame { OnOk result
         (frame.new ≡ frame_by (text_of frame.old) head.now h.now body.now) }
 {
-    let first = set_variables(alloc, frame, h, body)?;
-    let n = fresh_needed(alloc, frame, head, h, body, first)?;
-    set_fresh(alloc, frame, n)?;
+    let first = set_variables(work.alloc, frame, h, body)?;
+    let n = fresh_needed(work, frame, head, h, body, first)?;
+    set_fresh(work.alloc, frame, n)?;
     Ok(first)
 }
 
@@ -183,8 +186,9 @@ pub fn judge_body(
     ensures kept { OnOk result (text_of frame.new ≡ text_of frame.old) }
 {
     let head = head_bounds(alloc, frame, h)?;
-    let first = set_function(alloc, frame, &head, h, body)?;
-    let mut walk = begin(alloc, frame, false, h, first)?;
-    let judged = judge_stmt(alloc, frame, &head, body, &mut walk)?;
+    let mut work = Work::new(alloc);
+    let first = set_function(&mut work, frame, &head, h, body)?;
+    let mut walk = begin(&mut work, frame, false, h, first)?;
+    let judged = judge_stmt(&mut work, frame, &head, body, &mut walk)?;
     Ok(judged)
 }

@@ -11,7 +11,7 @@ use crate::bodies::judge_body;
 use crate::declared::{clear, head_fits, member_holder, members_fit};
 use crate::heads::set_types;
 use ckc_base::{Boxed, Fault, Pos, Seq};
-use ckc_points::{Frame, entry};
+use ckc_points::{Frame, Work, entry};
 use ckc_statements::{Walk, bounds_there, boxed_head, copied_decls, decl_with, judge_init};
 use ckc_syntax::{Decl, Head, Item, Name, Stmt};
 use ckc_typed::Note;
@@ -52,7 +52,8 @@ fn judge_decl(alloc: Global, frame: &Frame, d: &Decl<Name, Note>) -> Result<Decl
 {
     bounds_there(alloc, frame, d)?;
     let mut walk = outside(alloc, frame)?;
-    let init = judge_init(alloc, frame, &d.init, &mut walk)?;
+    let mut work = Work::new(alloc);
+    let init = judge_init(&mut work, frame, &d.init, &mut walk)?;
     let judged = decl_with(alloc, d, init)?;
     Ok(judged)
 }

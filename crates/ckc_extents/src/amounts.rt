@@ -12,13 +12,13 @@ ghost use Rattle.ckc_views.specs.Views.{view, view_of_limits, view_of_node};
 
 use ckc_base::Boxed;
 use ckc_linear::{Facts, Form};
-use ckc_points::{Frame, elements, in_type};
+use ckc_points::{Frame, Work, elements, in_type};
 use ckc_syntax::{Expr, Limits, Name, Node};
 use ckc_typed::Note;
 use ckc_typed::constants::size_of;
 use ckc_types::{CType, Structs};
 use ckc_views::form;
-use std::alloc::{AllocError, Global};
+use std::alloc::AllocError;
 
 /// The size of what a pointer of a type points to.
 pub fn element_size(structs: &Structs, t: &CType) -> u32
@@ -34,7 +34,7 @@ pub fn element_size(structs: &Structs, t: &CType) -> u32
 
 /// How many elements limits count, by the size of one.
 pub fn amount(
-    alloc: Global,
+    work: &mut Work,
     frame: &Frame,
     facts: &Facts,
     size: u32,
@@ -44,9 +44,9 @@ pub fn amount(
         (λ k. k ≡ (view_of_limits frame.now limits.now).amount size (known facts.now)) }
 {
     match limits {
-        Limits::Count(e, _) => form(alloc, frame, facts, e.get()),
+        Limits::Count(e, _) => form(work, frame, facts, e.get()),
         Limits::ByteCount(e, _) => {
-            let bytes = form(alloc, frame, facts, e.get())?;
+            let bytes = form(work, frame, facts, e.get())?;
             Ok(elements(size, bytes))
         }
         Limits::Between(_, _, _) | Limits::Unknown(_) => Ok(None),
@@ -55,7 +55,7 @@ pub fn amount(
 
 /// The count of a `calloc`, in the type `int`.
 pub fn count_allocated(
-    alloc: Global,
+    work: &mut Work,
     frame: &Frame,
     facts: &Facts,
     e: &Expr<Name, Note>,
@@ -63,12 +63,12 @@ pub fn count_allocated(
     ensures { let facts = known facts.now in
         IfOk result (λ k. k ≡ in_type facts ctype.Int ((view frame.now e.now).form facts)) }
 {
-    let count = form(alloc, frame, facts, e)?;
-    in_type(alloc, facts, &CType::Int, count)
+    let count = form(work, frame, facts, e)?;
+    in_type(work, facts, &CType::Int, count)
 }
 
 fn has_amount(
-    alloc: Global,
+    work: &mut Work,
     frame: &Frame,
     facts: &Facts,
     t: &CType,
@@ -81,14 +81,14 @@ fn has_amount(
         None => Ok(false),
         Some(l) => {
             let size = element_size(&frame.structs, t);
-            let k = amount(alloc, frame, facts, size, l.get())?;
+            let k = amount(work, frame, facts, size, l.get())?;
             Ok(k.is_some())
         }
     }
 }
 
 fn has_count(
-    alloc: Global,
+    work: &mut Work,
     frame: &Frame,
     facts: &Facts,
     e: &Expr<Name, Note>,
@@ -96,13 +96,13 @@ fn has_count(
     ensures { let facts = known facts.now in
         IfOk result (λ b. b ≡ is_some (in_type facts ctype.Int ((view frame.now e.now).form facts))) }
 {
-    let k = count_allocated(alloc, frame, facts, e)?;
+    let k = count_allocated(work, frame, facts, e)?;
     Ok(k.is_some())
 }
 
 /// Whether the amount of a node has a form.
 pub fn has_form(
-    alloc: Global,
+    work: &mut Work,
     frame: &Frame,
     facts: &Facts,
     node: &Node<Name, Note>,
@@ -112,9 +112,9 @@ pub fn has_form(
         ≡ (view_of_node frame.now node.now).has_form t.now (known facts.now)) }
 {
     match node {
-        Node::Trusted(_, _, l) => has_amount(alloc, frame, facts, t, l),
-        Node::Tested(_, _, l) => has_amount(alloc, frame, facts, t, l),
-        Node::Calloc(_, e, _) => has_count(alloc, frame, facts, e.get()),
+        Node::Trusted(_, _, l) => has_amount(work, frame, facts, t, l),
+        Node::Tested(_, _, l) => has_amount(work, frame, facts, t, l),
+        Node::Calloc(_, e, _) => has_count(work, frame, facts, e.get()),
         Node::Number(_, _) | Node::Text(_) | Node::Null | Node::Size(_) | Node::Un(_, _) => Ok(
             false,
         ),

@@ -11,16 +11,16 @@ ghost use Rattle.ckc_views.specs.Views.{view, view_of_limits, view_of_node};
 use crate::amounts::has_form;
 use ckc_base::{Boxed, Seq};
 use ckc_linear::{Fact, Facts};
-use ckc_points::{Frame, Point, add_fact, range_of};
+use ckc_points::{Frame, Point, Work, add_fact, range_of};
 use ckc_syntax::{Expr, Limits, Name, Node, TreeOp};
 use ckc_typed::Note;
 use ckc_types::CType;
 use ckc_views::{add_some, most_fresh, right_point, type_needed};
-use std::alloc::{AllocError, Global};
+use std::alloc::AllocError;
 
 /// The type of the fresh variable that an expression itself needs.
 fn own_fresh(
-    alloc: Global,
+    work: &mut Work,
     frame: &Frame,
     at: &Point,
     node: &Node<Name, Note>,
@@ -29,15 +29,15 @@ fn own_fresh(
     ensures { IfOk result
         (λ u. u ≡ own_fresh t.now (view_of_node frame.now node.now) (state at.now).facts) }
 {
-    if has_form(alloc, frame, &at.facts, node, t)? {
+    if has_form(work, frame, &at.facts, node, t)? {
         return Ok(None);
     }
-    type_needed(alloc, frame, node, t)
+    type_needed(work.alloc, frame, node, t)
 }
 
 /// The point of a right operand, unless none of its parts may need a fresh variable.
 fn point_needed(
-    alloc: Global,
+    work: &mut Work,
     frame: &Frame,
     op: TreeOp,
     e: &Expr<Name, Note>,
@@ -51,14 +51,14 @@ fn point_needed(
     if most_fresh(frame, f) == 0 {
         return Ok(None);
     }
-    let right = right_point(alloc, frame, op, e, at)?;
+    let right = right_point(work, frame, op, e, at)?;
     Ok(Some(right))
 }
 
 #[cycle(add_fresh)]
 #[tactic(auto, using(crate::proofs::Joined::joined))]
 fn add_of_limits(
-    alloc: Global,
+    work: &mut Work,
     frame: &Frame,
     at: &Point,
     limits: &Limits<Name, Note>,
@@ -68,11 +68,11 @@ fn add_of_limits(
         (all.new ≡ all.old ++ (view_of_limits frame.now limits.now).fresh (state at.now)) }
 {
     match limits {
-        Limits::Count(e, _) => add_fresh(alloc, frame, at, e.get(), all),
-        Limits::ByteCount(e, _) => add_fresh(alloc, frame, at, e.get(), all),
+        Limits::Count(e, _) => add_fresh(work, frame, at, e.get(), all),
+        Limits::ByteCount(e, _) => add_fresh(work, frame, at, e.get(), all),
         Limits::Between(e, f, _) => {
-            add_fresh(alloc, frame, at, e.get(), all)?;
-            add_fresh(alloc, frame, at, f.get(), all)
+            add_fresh(work, frame, at, e.get(), all)?;
+            add_fresh(work, frame, at, f.get(), all)
         }
         Limits::Unknown(_) => Ok(()),
     }
@@ -80,7 +80,7 @@ fn add_of_limits(
 
 #[cycle(add_fresh)]
 fn add_of_bounds(
-    alloc: Global,
+    work: &mut Work,
     frame: &Frame,
     at: &Point,
     bounds: &Option<Boxed<Limits<Name, Note>>>,
@@ -90,7 +90,7 @@ fn add_of_bounds(
         OnOk result (all.new ≡ all.old ++ fresh_there limits (state at.now)) }
 {
     match bounds {
-        Some(limits) => add_of_limits(alloc, frame, at, limits.get(), all),
+        Some(limits) => add_of_limits(work, frame, at, limits.get(), all),
         None => Ok(()),
     }
 }
@@ -98,7 +98,7 @@ fn add_of_bounds(
 #[cycle(add_fresh)]
 #[tactic(auto, using(crate::proofs::Joined::joined))]
 fn add_of_all(
-    alloc: Global,
+    work: &mut Work,
     frame: &Frame,
     at: &Point,
     es: &[Expr<Name, Note>],
@@ -108,7 +108,7 @@ fn add_of_all(
         (all.new ≡ all.old ++ all_fresh (map (view frame.now) es.now) (state at.now)) }
 {
     for e in es {
-        add_fresh(alloc, frame, at, e, all)?;
+        add_fresh(work, frame, at, e, all)?;
     }
     Ok(())
 }
@@ -116,7 +116,7 @@ fn add_of_all(
 #[cycle(add_fresh)]
 #[tactic(auto, using(crate::proofs::Joined::joined, crate::proofs::Joined::joined_none))]
 fn add_of_node(
-    alloc: Global,
+    work: &mut Work,
     frame: &Frame,
     at: &Point,
     node: &Node<Name, Note>,
@@ -127,34 +127,34 @@ fn add_of_node(
 {
     match node {
         Node::Un(_, e) | Node::Dot(e, _, _) | Node::Arrow(e, _, _) => {
-            add_fresh(alloc, frame, at, e.get(), all)
+            add_fresh(work, frame, at, e.get(), all)
         }
-        Node::Cast(_, e) | Node::Calloc(_, e, _) => add_fresh(alloc, frame, at, e.get(), all),
+        Node::Cast(_, e) | Node::Calloc(_, e, _) => add_fresh(work, frame, at, e.get(), all),
         Node::Bin(op, e, f) => {
-            add_fresh(alloc, frame, at, e.get(), all)?;
-            match point_needed(alloc, frame, *op, e.get(), f.get(), at)? {
-                Some(right) => add_fresh(alloc, frame, &right, f.get(), all),
+            add_fresh(work, frame, at, e.get(), all)?;
+            match point_needed(work, frame, *op, e.get(), f.get(), at)? {
+                Some(right) => add_fresh(work, frame, &right, f.get(), all),
                 None => Ok(()),
             }
         }
         Node::Index(e, f) => {
-            add_fresh(alloc, frame, at, e.get(), all)?;
-            add_fresh(alloc, frame, at, f.get(), all)
+            add_fresh(work, frame, at, e.get(), all)?;
+            add_fresh(work, frame, at, f.get(), all)
         }
         Node::Pick(e, f, g) => {
-            add_fresh(alloc, frame, at, e.get(), all)?;
-            add_fresh(alloc, frame, at, f.get(), all)?;
-            add_fresh(alloc, frame, at, g.get(), all)
+            add_fresh(work, frame, at, e.get(), all)?;
+            add_fresh(work, frame, at, f.get(), all)?;
+            add_fresh(work, frame, at, g.get(), all)
         }
         Node::Trusted(_, e, l) => {
-            add_fresh(alloc, frame, at, e.get(), all)?;
-            add_of_bounds(alloc, frame, at, l, all)
+            add_fresh(work, frame, at, e.get(), all)?;
+            add_of_bounds(work, frame, at, l, all)
         }
         Node::Tested(_, e, l) => {
-            add_fresh(alloc, frame, at, e.get(), all)?;
-            add_of_bounds(alloc, frame, at, l, all)
+            add_fresh(work, frame, at, e.get(), all)?;
+            add_of_bounds(work, frame, at, l, all)
         }
-        Node::Call(_, es) => add_of_all(alloc, frame, at, es.as_slice(), all),
+        Node::Call(_, es) => add_of_all(work, frame, at, es.as_slice(), all),
         Node::Number(_, _) | Node::Text(_) | Node::Null | Node::Size(_) | Node::Name(_) => Ok(()),
     }
 }
@@ -163,7 +163,7 @@ fn add_of_node(
 #[cycle(add_fresh)]
 #[tactic(auto, using(crate::proofs::Joined::joined, crate::proofs::Joined::joined_last))]
 pub fn add_fresh(
-    alloc: Global,
+    work: &mut Work,
     frame: &Frame,
     at: &Point,
     e: &Expr<Name, Note>,
@@ -171,8 +171,8 @@ pub fn add_fresh(
 ) -> Result<(), AllocError>
     ensures { OnOk result (all.new ≡ all.old ++ (view frame.now e.now).fresh (state at.now)) }
 {
-    add_of_node(alloc, frame, at, &e.node, all)?;
-    let own = own_fresh(alloc, frame, at, &e.node, &e.note.ctype)?;
+    add_of_node(work, frame, at, &e.node, all)?;
+    let own = own_fresh(work, frame, at, &e.node, &e.note.ctype)?;
     add_some(all, own)
 }
 
@@ -188,7 +188,7 @@ fn next_behind(first: u32, types: &[CType]) -> u32
 
 /// The number of the next fresh variable behind those that the parts of a node need at a point.
 pub fn behind_parts(
-    alloc: Global,
+    work: &mut Work,
     frame: &Frame,
     at: &Point,
     node: &Node<Name, Note>,
@@ -197,14 +197,14 @@ pub fn behind_parts(
     ensures { IfOk result (λ n. n
         ≡ next_behind first ((view_of_node frame.now node.now).fresh (state at.now))) }
 {
-    let mut all = Seq::new(alloc);
-    add_of_node(alloc, frame, at, node, &mut all)?;
+    let mut all = Seq::new(work.alloc);
+    add_of_node(work, frame, at, node, &mut all)?;
     Ok(next_behind(first, all.as_slice()))
 }
 
 /// The number of the next fresh variable behind those that an expression needs at a point.
 pub fn fresh_behind(
-    alloc: Global,
+    work: &mut Work,
     frame: &Frame,
     at: &Point,
     e: &Expr<Name, Note>,
@@ -212,8 +212,8 @@ pub fn fresh_behind(
 ) -> Result<u32, AllocError>
     ensures { IfOk result (λ n. n ≡ fresh_behind (view frame.now e.now) first (state at.now)) }
 {
-    let mut all = Seq::new(alloc);
-    add_fresh(alloc, frame, at, e, &mut all)?;
+    let mut all = Seq::new(work.alloc);
+    add_fresh(work, frame, at, e, &mut all)?;
     Ok(next_behind(first, all.as_slice()))
 }
 
@@ -245,7 +245,7 @@ fn add_types(facts: &mut Facts, first: u32, types: &[CType]) -> Result<(), Alloc
 
 /// Adds the ranges of the types of the fresh variables that an expression needs at a point.
 pub fn add_fresh_ranges(
-    alloc: Global,
+    work: &mut Work,
     frame: &Frame,
     at: &Point,
     e: &Expr<Name, Note>,
@@ -255,7 +255,7 @@ pub fn add_fresh_ranges(
     ensures { let types = (view frame.now e.now).fresh (state at.now) in
         OnOk result (known facts.new ≡ with_types (capped first 1) types (known facts.old)) }
 {
-    let mut all = Seq::new(alloc);
-    add_fresh(alloc, frame, at, e, &mut all)?;
+    let mut all = Seq::new(work.alloc);
+    add_fresh(work, frame, at, e, &mut all)?;
     add_types(facts, first.saturating_add(1), all.as_slice())
 }

@@ -15,7 +15,7 @@ use crate::amounts::{amount, count_allocated, element_size};
 use crate::fresh::{behind_parts, fresh_behind};
 use ckc_base::{Boxed, Bytes, Seq};
 use ckc_linear::{Base, Facts, Form};
-use ckc_points::{Bounds, Frame, Point, constant_form, moved_form, same_element};
+use ckc_points::{Bounds, Frame, Point, Work, constant_form, moved_form, same_element};
 use ckc_ranges::{range_from, range_of_array, range_of_ends, range_of_local, replaced_bounds};
 use ckc_syntax::{Expr, Limits, Name, Node, TreeOp};
 use ckc_typed::types::{is_pointer, kind_of};
@@ -25,7 +25,7 @@ use ckc_views::{
     Member, Own, bases_by, behind, fresh_form, is_checked, is_raw, is_raw_kind, member_bounds,
     member_of_node, own_by, values, values_of_node, variables_by,
 };
-use std::alloc::{AllocError, Global};
+use std::alloc::AllocError;
 
 /// One element, from a value on.
 pub fn range_of_one(own: u32) -> Range
@@ -129,7 +129,7 @@ fn form_or_fresh(k: Option<Form>, fresh: u32) -> Form
 }
 
 fn range_of_limits(
-    alloc: Global,
+    work: &mut Work,
     frame: &Frame,
     facts: &Facts,
     size: u32,
@@ -141,11 +141,11 @@ fn range_of_limits(
 {
     match limits {
         Limits::Count(_, _) => {
-            let k = amount(alloc, frame, facts, size, limits)?;
+            let k = amount(work, frame, facts, size, limits)?;
             Ok(range_from(Base::Value(own.value), form_or_fresh(k, own.fresh)))
         }
         Limits::ByteCount(_, _) => {
-            let k = amount(alloc, frame, facts, size, limits)?;
+            let k = amount(work, frame, facts, size, limits)?;
             Ok(range_from(Base::Value(own.value), form_or_fresh(k, own.fresh)))
         }
         Limits::Between(_, _, _) | Limits::Unknown(_) => Ok(Range::Missing),
@@ -153,7 +153,7 @@ fn range_of_limits(
 }
 
 fn range_of_cast(
-    alloc: Global,
+    work: &mut Work,
     frame: &Frame,
     facts: &Facts,
     t: &CType,
@@ -165,7 +165,7 @@ fn range_of_cast(
 {
     match limits {
         Some(l) => range_of_limits(
-            alloc,
+            work,
             frame,
             facts,
             element_size(&frame.structs, t),
@@ -177,7 +177,7 @@ fn range_of_cast(
 }
 
 fn range_of_call(
-    alloc: Global,
+    work: &mut Work,
     frame: &Frame,
     facts: &Facts,
     name: Name,
@@ -192,9 +192,9 @@ fn range_of_call(
         Name::Function(k) => match frame.heads.get(k as usize) {
             Some(h) => {
                 let params = h.params.as_slice();
-                let mut bases = bases_by(alloc, frame, facts, params, es.as_slice(), first)?;
+                let mut bases = bases_by(work, frame, facts, params, es.as_slice(), first)?;
                 bases.push(own_by(own))?;
-                let variables = variables_by(alloc, frame, facts, params, es.as_slice())?;
+                let variables = variables_by(work, frame, facts, params, es.as_slice())?;
                 Ok(range_of_ends(replaced_bounds(
                     bases.as_slice(),
                     variables.as_slice(),
@@ -209,7 +209,7 @@ fn range_of_call(
 }
 
 fn range_of_allocation(
-    alloc: Global,
+    work: &mut Work,
     frame: &Frame,
     facts: &Facts,
     e: &Expr<Name, Note>,
@@ -218,7 +218,7 @@ fn range_of_allocation(
     ensures { let facts = known facts.now in
         IfOk result (λ r. r ≡ range_of_allocation facts ((view frame.now e.now).form facts) own) }
 {
-    let k = count_allocated(alloc, frame, facts, e)?;
+    let k = count_allocated(work, frame, facts, e)?;
     Ok(range_from(Base::Value(own.value), form_or_fresh(k, own.fresh)))
 }
 
@@ -233,7 +233,7 @@ fn range_of_text(bytes: &Bytes, own: u32) -> Range
 
 #[cycle(range)]
 fn range_of_address(
-    alloc: Global,
+    work: &mut Work,
     frame: &Frame,
     at: &Point,
     node: &Node<Name, Note>,
@@ -245,12 +245,12 @@ fn range_of_address(
         r ≡ (view_of_node frame.now node.now).address own first_value first_fresh (state at.now)) }
 {
     match node {
-        Node::Un(TreeOp::Deref, e) => range(alloc, frame, at, e.get(), first_value, first_fresh),
+        Node::Un(TreeOp::Deref, e) => range(work, frame, at, e.get(), first_value, first_fresh),
         Node::Index(e, _) => {
             if is_raw(&e.get().note.ctype) {
                 return Ok(Range::Missing);
             }
-            range(alloc, frame, at, e.get(), first_value, first_fresh)
+            range(work, frame, at, e.get(), first_value, first_fresh)
         }
         Node::Arrow(e, _, _) => {
             if is_raw(&e.get().note.ctype) {
@@ -277,7 +277,7 @@ fn range_of_address(
 
 #[cycle(range)]
 fn range_of_node(
-    alloc: Global,
+    work: &mut Work,
     frame: &Frame,
     at: &Point,
     node: &Node<Name, Note>,
@@ -295,7 +295,7 @@ fn range_of_node(
         Node::Un(TreeOp::Deref, _) => Ok(range_by_type(t, own.value)),
         Node::Un(TreeOp::Address, e) => {
             range_of_address(
-                alloc,
+                work,
                 frame,
                 at,
                 &e.get().node,
@@ -309,11 +309,11 @@ fn range_of_node(
                 return Ok(Range::Missing);
             }
             if is_pointer(&e.get().note.ctype) {
-                return range(alloc, frame, at, e.get(), first_value, first_fresh);
+                return range(work, frame, at, e.get(), first_value, first_fresh);
             }
             let value = first_value.saturating_add(values(frame, e.get()));
-            let fresh = fresh_behind(alloc, frame, at, e.get(), first_fresh)?;
-            range(alloc, frame, at, f.get(), value, fresh)
+            let fresh = fresh_behind(work, frame, at, e.get(), first_fresh)?;
+            range(work, frame, at, f.get(), value, fresh)
         }
         Node::Index(_, _) => Ok(range_by_type(t, own.value)),
         Node::Dot(_, _, _) => {
@@ -324,16 +324,16 @@ fn range_of_node(
         }
         Node::Cast(_, e) => {
             if same_element(t, &e.get().note.ctype) {
-                return range(alloc, frame, at, e.get(), first_value, first_fresh);
+                return range(work, frame, at, e.get(), first_value, first_fresh);
             }
             Ok(Range::Missing)
         }
-        Node::Trusted(_, _, l) => range_of_cast(alloc, frame, &at.facts, t, l, own),
-        Node::Tested(_, _, l) => range_of_cast(alloc, frame, &at.facts, t, l, own),
+        Node::Trusted(_, _, l) => range_of_cast(work, frame, &at.facts, t, l, own),
+        Node::Tested(_, _, l) => range_of_cast(work, frame, &at.facts, t, l, own),
         Node::Call(n, es) => {
-            range_of_call(alloc, frame, &at.facts, *n, es, own.value, first_value)
+            range_of_call(work, frame, &at.facts, *n, es, own.value, first_value)
         }
-        Node::Calloc(_, e, _) => range_of_allocation(alloc, frame, &at.facts, e.get(), own),
+        Node::Calloc(_, e, _) => range_of_allocation(work, frame, &at.facts, e.get(), own),
         Node::Number(_, _) | Node::Null | Node::Size(_) | Node::Un(_, _) => Ok(Range::Missing),
         Node::Pick(_, _, _) => Ok(Range::Missing),
     }
@@ -375,7 +375,7 @@ pub fn allocates(frame: &Frame, e: &Expr<Name, Note>) -> bool
 /// The range of a pointer at a point, by the numbers of the first value and of the first fresh variable in it.
 #[cycle(range)]
 pub fn range(
-    alloc: Global,
+    work: &mut Work,
     frame: &Frame,
     at: &Point,
     e: &Expr<Name, Note>,
@@ -393,10 +393,10 @@ pub fn range(
     }
     let own = Own {
         value: first_value.saturating_add(values_of_node(frame, &e.node)),
-        fresh: behind_parts(alloc, frame, at, &e.node, first_fresh)?,
+        fresh: behind_parts(work, frame, at, &e.node, first_fresh)?,
     };
     range_of_node(
-        alloc,
+        work,
         frame,
         at,
         &e.node,

@@ -11,7 +11,7 @@ use crate::faults::NOT_CONTAINED;
 use ckc_base::{Refusal, Seq};
 use ckc_extents::{add_fresh_ranges, fresh_behind, is_null, range};
 use ckc_linear::Facts;
-use ckc_points::{Bounds, Frame, HeadBounds, Local, Point, copied};
+use ckc_points::{Bounds, Frame, HeadBounds, Local, Point, Work, copied};
 use ckc_ranges::{Ends, extend, is_contained, replaced_bounds};
 use ckc_syntax::{Expr, Name};
 use ckc_typed::{Note, Range};
@@ -47,7 +47,7 @@ fn without_widening(alloc: Global, at: &Point) -> Result<Point, AllocError>
 /// A point with what also holds where a new value is judged that is to be contained, by the numbers of the first value and
 /// the first fresh variable in it.
 pub fn point_for(
-    alloc: Global,
+    work: &mut Work,
     frame: &Frame,
     at: &Point,
     e: &Expr<Name, Note>,
@@ -58,16 +58,16 @@ pub fn point_for(
     ensures { IfOk result (λ p.
         known p.facts ≡ facts_for (view frame.now e.now) first_value first_fresh allocated (state at.now)) }
 {
-    let found = range(alloc, frame, at, e, first_value, first_fresh)?;
-    let mut narrow = without_widening(alloc, at)?;
-    let before = range(alloc, frame, &narrow, e, first_value, first_fresh)?;
-    add_fresh_ranges(alloc, frame, at, e, first_fresh, &mut narrow.facts)?;
+    let found = range(work, frame, at, e, first_value, first_fresh)?;
+    let mut narrow = without_widening(work.alloc, at)?;
+    let before = range(work, frame, &narrow, e, first_value, first_fresh)?;
+    add_fresh_ranges(work, frame, at, e, first_fresh, &mut narrow.facts)?;
     extend_by(found, before, allocated, &mut narrow.facts)?;
     Ok(narrow)
 }
 
 fn is_argument(
-    alloc: Global,
+    work: &mut Work,
     frame: &Frame,
     at: &Point,
     params: &[Local],
@@ -81,13 +81,13 @@ fn is_argument(
         IfOk result (λ b. b ≡ is_argument (Some p.now) (view frame.now e.now) first_value first_fresh (state at.now)
         (λ facts. bases_by params.now 0 0 facts views) (λ facts. variables_by params.now 0 facts views)) }
 {
-    let found = range(alloc, frame, at, e, first_value, first_fresh)?;
-    let inner = point_for(alloc, frame, at, e, first_value, first_fresh, false)?;
-    let bases = bases_by(alloc, frame, &inner.facts, params, es, 0)?;
-    let variables = variables_by(alloc, frame, &inner.facts, params, es)?;
+    let found = range(work, frame, at, e, first_value, first_fresh)?;
+    let inner = point_for(work, frame, at, e, first_value, first_fresh, false)?;
+    let bases = bases_by(work, frame, &inner.facts, params, es, 0)?;
+    let variables = variables_by(work, frame, &inner.facts, params, es)?;
     let limits = replaced_bounds(bases.as_slice(), variables.as_slice(), &p.bounds);
     is_contained(
-        alloc,
+        work,
         &inner.facts,
         &p.bounds,
         is_null(frame, e),
@@ -99,7 +99,7 @@ fn is_argument(
 /// Whether the argument with a number is contained in the bounds of its parameter. Where nothing is known of those, and
 /// where there is none, it is.
 fn is_argument_at(
-    alloc: Global,
+    work: &mut Work,
     frame: &Frame,
     at: &Point,
     params: &[Local],
@@ -118,7 +118,7 @@ fn is_argument_at(
         Some(p) => match p.bounds {
             Bounds::Unknown => Ok(true),
             Bounds::Known(_, _) => {
-                is_argument(alloc, frame, at, params, es, p, e, first_value, first_fresh)
+                is_argument(work, frame, at, params, es, p, e, first_value, first_fresh)
             }
         },
         None => Ok(true),
@@ -126,7 +126,7 @@ fn is_argument_at(
 }
 
 fn arguments_fault(
-    alloc: Global,
+    work: &mut Work,
     frame: &Frame,
     at: &Point,
     params: &[Local],
@@ -141,7 +141,7 @@ fn arguments_fault(
     let mut value = 0u32;
     let mut fresh = first_fresh;
     for e in es {
-        let contained = is_argument_at(alloc, frame, at, params, es, n, e, value, fresh)?;
+        let contained = is_argument_at(work, frame, at, params, es, n, e, value, fresh)?;
         if !contained {
             return Ok(Some(Refusal {
                 code: NOT_CONTAINED,
@@ -150,13 +150,13 @@ fn arguments_fault(
         }
         n = n.saturating_add(1);
         value = value.saturating_add(values(frame, e));
-        fresh = fresh_behind(alloc, frame, at, e, fresh)?;
+        fresh = fresh_behind(work, frame, at, e, fresh)?;
     }
     Ok(None)
 }
 
 fn head_fault(
-    alloc: Global,
+    work: &mut Work,
     frame: &Frame,
     at: &Point,
     head: &HeadBounds,
@@ -166,12 +166,12 @@ fn head_fault(
     ensures { IfOk result (λ r.
         r ≡ head_fault (Some head.now) (map (view frame.now) es.now) first_fresh (state at.now)) }
 {
-    arguments_fault(alloc, frame, at, head.params.as_slice(), es, first_fresh)
+    arguments_fault(work, frame, at, head.params.as_slice(), es, first_fresh)
 }
 
 /// The first argument of a call that is not contained in the bounds of its parameter (E602).
 pub fn call_fault(
-    alloc: Global,
+    work: &mut Work,
     frame: &Frame,
     at: &Point,
     name: Name,
@@ -183,7 +183,7 @@ pub fn call_fault(
 {
     match name {
         Name::Function(k) => match frame.heads.get(k as usize) {
-            Some(head) => head_fault(alloc, frame, at, head, es, first_fresh),
+            Some(head) => head_fault(work, frame, at, head, es, first_fresh),
             None => Ok(None),
         },
         Name::Local(_) | Name::Static(_) | Name::Tag(_) | Name::Member(_) => Ok(None),

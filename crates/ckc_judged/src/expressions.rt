@@ -13,7 +13,7 @@ ghost use Rattle.ckc_views.specs.Views.{view, view_of_limits, view_of_node};
 use crate::faults::{BAD_AMOUNT, counts_bytes, fault_of_node, operand_fault_of_node};
 use ckc_base::{Boxed, Bytes, Fault, Refusal, Seq, refused};
 use ckc_extents::{element_size, fresh_behind, range};
-use ckc_points::{Frame, Point};
+use ckc_points::{Frame, Point, Work};
 use ckc_syntax::{Expr, Limits, Name, Node, TreeOp};
 use ckc_typed::copies::copied_type;
 use ckc_typed::types::{copied as copied_ctype, is_integer, is_pointer};
@@ -43,7 +43,7 @@ fn noted_range(alloc: Global, note: &Note, range: Range) -> Result<Note, AllocEr
 
 /// The expression of a judged node, unless it has a fault of its own.
 fn made(
-    alloc: Global,
+    work: &mut Work,
     frame: &Frame,
     at: &Point,
     e: &Expr<Name, Note>,
@@ -57,8 +57,8 @@ fn made(
     match fault {
         Some(r) => Err(Fault::Refused(r)),
         None => {
-            let found = range(alloc, frame, at, e, 0, first_fresh)?;
-            let note = noted_range(alloc, &e.note, found)?;
+            let found = range(work, frame, at, e, 0, first_fresh)?;
+            let note = noted_range(work.alloc, &e.note, found)?;
             Ok(Expr {
                 node,
                 pos: e.pos,
@@ -70,7 +70,7 @@ fn made(
 
 #[cycle(judge_as)]
 fn judge_limits(
-    alloc: Global,
+    work: &mut Work,
     frame: &Frame,
     at: &Point,
     limits: &Limits<Name, Note>,
@@ -82,7 +82,7 @@ fn judge_limits(
 {
     match limits {
         Limits::Count(e, pos) => {
-            let amount = boxed(alloc, frame, at, e.get(), first_fresh)?;
+            let amount = boxed(work, frame, at, e.get(), first_fresh)?;
             if is_integer(&e.get().note.ctype) {
                 Ok(Limits::Count(amount, *pos))
             } else {
@@ -90,17 +90,17 @@ fn judge_limits(
             }
         }
         Limits::ByteCount(e, pos) => {
-            let amount = boxed(alloc, frame, at, e.get(), first_fresh)?;
-            if counts_bytes(alloc, frame, size, e.get())? {
+            let amount = boxed(work, frame, at, e.get(), first_fresh)?;
+            if counts_bytes(work.alloc, frame, size, e.get())? {
                 Ok(Limits::ByteCount(amount, *pos))
             } else {
                 Err(refused(BAD_AMOUNT, *pos))
             }
         }
         Limits::Between(e, f, pos) => {
-            let _low = boxed(alloc, frame, at, e.get(), first_fresh)?;
-            let next = fresh_behind(alloc, frame, at, e.get(), first_fresh)?;
-            let _high = boxed(alloc, frame, at, f.get(), next)?;
+            let _low = boxed(work, frame, at, e.get(), first_fresh)?;
+            let next = fresh_behind(work, frame, at, e.get(), first_fresh)?;
+            let _high = boxed(work, frame, at, f.get(), next)?;
             Err(refused(BAD_AMOUNT, *pos))
         }
         Limits::Unknown(pos) => Err(refused(BAD_AMOUNT, *pos)),
@@ -109,7 +109,7 @@ fn judge_limits(
 
 #[cycle(judge_as)]
 fn judge_bounds(
-    alloc: Global,
+    work: &mut Work,
     frame: &Frame,
     at: &Point,
     bounds: &Option<Boxed<Limits<Name, Note>>>,
@@ -122,8 +122,8 @@ fn judge_bounds(
     match bounds {
         None => Ok(None),
         Some(limits) => {
-            let judged = judge_limits(alloc, frame, at, limits.get(), size, first_fresh)?;
-            let boxed = Boxed::new(alloc, judged)?;
+            let judged = judge_limits(work, frame, at, limits.get(), size, first_fresh)?;
+            let boxed = Boxed::new(work.alloc, judged)?;
             Ok(Some(boxed))
         }
     }
@@ -131,7 +131,7 @@ fn judge_bounds(
 
 #[cycle(judge_as)]
 fn judge_all(
-    alloc: Global,
+    work: &mut Work,
     frame: &Frame,
     at: &Point,
     es: &[Expr<Name, Note>],
@@ -140,19 +140,19 @@ fn judge_all(
     ensures { AnswersOutcome result
         (all_judged (map (view frame.now) es.now) first_fresh (state at.now)) }
 {
-    let mut all = Seq::new(alloc);
+    let mut all = Seq::new(work.alloc);
     let mut next = first_fresh;
     for e in es {
-        let judged = judge_as(alloc, frame, at, e, false, next)?;
+        let judged = judge_as(work, frame, at, e, false, next)?;
         all.push(judged)?;
-        next = fresh_behind(alloc, frame, at, e, next)?;
+        next = fresh_behind(work, frame, at, e, next)?;
     }
     Ok(all)
 }
 
 #[cycle(judge_as)]
 fn judge_call(
-    alloc: Global,
+    work: &mut Work,
     frame: &Frame,
     at: &Point,
     name: Name,
@@ -162,13 +162,13 @@ fn judge_call(
     ensures { AnswersOutcome result
         (bind (all_judged (map (view frame.now) es.now) first_fresh (state at.now)) (λ args. Ok (node.Call name args))) }
 {
-    let args = judge_all(alloc, frame, at, es.as_slice(), first_fresh)?;
+    let args = judge_all(work, frame, at, es.as_slice(), first_fresh)?;
     Ok(Node::Call(name, args))
 }
 
 #[cycle(judge_as)]
 fn judge_node(
-    alloc: Global,
+    work: &mut Work,
     frame: &Frame,
     at: &Point,
     node: &Node<Name, Note>,
@@ -181,77 +181,77 @@ fn judge_node(
     match node {
         Node::Number(n, unsigned) => Ok(Node::Number(*n, *unsigned)),
         Node::Text(bytes) => {
-            let copy = Bytes::from_slice(alloc, bytes.as_slice())?;
+            let copy = Bytes::from_slice(work.alloc, bytes.as_slice())?;
             Ok(Node::Text(copy))
         }
         Node::Null => Ok(Node::Null),
         Node::Name(n) => Ok(Node::Name(*n)),
         Node::Un(TreeOp::Address, e) => {
-            let judged = judge_as(alloc, frame, at, e.get(), true, first_fresh)?;
-            let e = Boxed::new(alloc, judged)?;
+            let judged = judge_as(work, frame, at, e.get(), true, first_fresh)?;
+            let e = Boxed::new(work.alloc, judged)?;
             Ok(Node::Un(TreeOp::Address, e))
         }
         Node::Un(op, e) => {
-            let e = boxed(alloc, frame, at, e.get(), first_fresh)?;
+            let e = boxed(work, frame, at, e.get(), first_fresh)?;
             Ok(Node::Un(*op, e))
         }
         Node::Bin(op, e, f) => {
-            let next = fresh_behind(alloc, frame, at, e.get(), first_fresh)?;
-            let right = right_point(alloc, frame, *op, e.get(), at)?;
-            let e = boxed(alloc, frame, at, e.get(), first_fresh)?;
-            let f = boxed(alloc, frame, &right, f.get(), next)?;
+            let next = fresh_behind(work, frame, at, e.get(), first_fresh)?;
+            let right = right_point(work, frame, *op, e.get(), at)?;
+            let e = boxed(work, frame, at, e.get(), first_fresh)?;
+            let f = boxed(work, frame, &right, f.get(), next)?;
             Ok(Node::Bin(*op, e, f))
         }
         Node::Pick(e, f, g) => {
-            let next = fresh_behind(alloc, frame, at, e.get(), first_fresh)?;
-            let last = fresh_behind(alloc, frame, at, f.get(), next)?;
-            let e = boxed(alloc, frame, at, e.get(), first_fresh)?;
-            let f = boxed(alloc, frame, at, f.get(), next)?;
-            let g = boxed(alloc, frame, at, g.get(), last)?;
+            let next = fresh_behind(work, frame, at, e.get(), first_fresh)?;
+            let last = fresh_behind(work, frame, at, f.get(), next)?;
+            let e = boxed(work, frame, at, e.get(), first_fresh)?;
+            let f = boxed(work, frame, at, f.get(), next)?;
+            let g = boxed(work, frame, at, g.get(), last)?;
             Ok(Node::Pick(e, f, g))
         }
         Node::Index(e, f) => {
-            let next = fresh_behind(alloc, frame, at, e.get(), first_fresh)?;
-            let e = boxed(alloc, frame, at, e.get(), first_fresh)?;
-            let f = boxed(alloc, frame, at, f.get(), next)?;
+            let next = fresh_behind(work, frame, at, e.get(), first_fresh)?;
+            let e = boxed(work, frame, at, e.get(), first_fresh)?;
+            let f = boxed(work, frame, at, f.get(), next)?;
             Ok(Node::Index(e, f))
         }
         Node::Dot(e, n, pos) => {
-            let e = boxed(alloc, frame, at, e.get(), first_fresh)?;
+            let e = boxed(work, frame, at, e.get(), first_fresh)?;
             Ok(Node::Dot(e, *n, *pos))
         }
         Node::Arrow(e, n, pos) => {
-            let e = boxed(alloc, frame, at, e.get(), first_fresh)?;
+            let e = boxed(work, frame, at, e.get(), first_fresh)?;
             Ok(Node::Arrow(e, *n, *pos))
         }
         Node::Cast(w, e) => {
-            let e = boxed(alloc, frame, at, e.get(), first_fresh)?;
-            let w = copied_type(alloc, w)?;
+            let e = boxed(work, frame, at, e.get(), first_fresh)?;
+            let w = copied_type(work.alloc, w)?;
             Ok(Node::Cast(w, e))
         }
         Node::Size(w) => {
-            let w = copied_type(alloc, w)?;
+            let w = copied_type(work.alloc, w)?;
             Ok(Node::Size(w))
         }
         Node::Trusted(w, e, l) => {
-            let next = fresh_behind(alloc, frame, at, e.get(), first_fresh)?;
-            let e = boxed(alloc, frame, at, e.get(), first_fresh)?;
-            let l = judge_bounds(alloc, frame, at, l, element_size(&frame.structs, t), next)?;
-            let w = copied_type(alloc, w)?;
+            let next = fresh_behind(work, frame, at, e.get(), first_fresh)?;
+            let e = boxed(work, frame, at, e.get(), first_fresh)?;
+            let l = judge_bounds(work, frame, at, l, element_size(&frame.structs, t), next)?;
+            let w = copied_type(work.alloc, w)?;
             Ok(Node::Trusted(w, e, l))
         }
         Node::Tested(w, e, l) => {
-            let next = fresh_behind(alloc, frame, at, e.get(), first_fresh)?;
-            let e = boxed(alloc, frame, at, e.get(), first_fresh)?;
-            let l = judge_bounds(alloc, frame, at, l, element_size(&frame.structs, t), next)?;
-            let w = copied_type(alloc, w)?;
+            let next = fresh_behind(work, frame, at, e.get(), first_fresh)?;
+            let e = boxed(work, frame, at, e.get(), first_fresh)?;
+            let l = judge_bounds(work, frame, at, l, element_size(&frame.structs, t), next)?;
+            let w = copied_type(work.alloc, w)?;
             Ok(Node::Tested(w, e, l))
         }
-        Node::Call(n, es) => judge_call(alloc, frame, at, *n, es, first_fresh),
+        Node::Call(n, es) => judge_call(work, frame, at, *n, es, first_fresh),
         Node::Calloc(w, e, x) => {
-            let e = boxed(alloc, frame, at, e.get(), first_fresh)?;
-            let w = copied_type(alloc, w)?;
-            let x = copied_type(alloc, x)?;
+            let e = boxed(work, frame, at, e.get(), first_fresh)?;
+            let w = copied_type(work.alloc, w)?;
+            let x = copied_type(work.alloc, x)?;
             Ok(Node::Calloc(w, e, x))
         }
     }
@@ -259,7 +259,7 @@ fn judge_node(
 
 #[cycle(judge_as)]
 fn boxed(
-    alloc: Global,
+    work: &mut Work,
     frame: &Frame,
     at: &Point,
     e: &Expr<Name, Note>,
@@ -267,15 +267,15 @@ fn boxed(
 ) -> Result<Boxed<Expr<Name, Note>>, Fault>
     ensures { AnswersOutcome result ((view frame.now e.now).judged first_fresh (state at.now)) }
 {
-    let judged = judge_as(alloc, frame, at, e, false, first_fresh)?;
-    let boxed = Boxed::new(alloc, judged)?;
+    let judged = judge_as(work, frame, at, e, false, first_fresh)?;
+    let boxed = Boxed::new(work.alloc, judged)?;
     Ok(boxed)
 }
 
 /// An expression, or the operand of `&`, in which `*` and `[` are no access.
 #[cycle(judge_as)]
 fn judge_as(
-    alloc: Global,
+    work: &mut Work,
     frame: &Frame,
     at: &Point,
     e: &Expr<Name, Note>,
@@ -285,20 +285,20 @@ fn judge_as(
     ensures { let v = view frame.now e.now in AnswersOutcome result
         (if operand then v.operand first_fresh (state at.now) else v.judged first_fresh (state at.now)) }
 {
-    let node = judge_node(alloc, frame, at, &e.node, &e.note.ctype, first_fresh)?;
+    let node = judge_node(work, frame, at, &e.node, &e.note.ctype, first_fresh)?;
     if operand {
-        let fault = operand_fault_of_node(alloc, frame, at, &e.node, e.pos, first_fresh)?;
-        made(alloc, frame, at, e, first_fresh, fault, node)
+        let fault = operand_fault_of_node(work, frame, at, &e.node, e.pos, first_fresh)?;
+        made(work, frame, at, e, first_fresh, fault, node)
     } else {
-        let fault = fault_of_node(alloc, frame, at, &e.node, e.pos, first_fresh)?;
-        made(alloc, frame, at, e, first_fresh, fault, node)
+        let fault = fault_of_node(work, frame, at, &e.node, e.pos, first_fresh)?;
+        made(work, frame, at, e, first_fresh, fault, node)
     }
 }
 
 /// An expression with the range of each pointer in it noted, or its first fault, by its first fresh variable and the
 /// point: E601, E602 of an argument, E603 of the amount of a bounds cast, E606.
 pub fn judge(
-    alloc: Global,
+    work: &mut Work,
     frame: &Frame,
     at: &Point,
     e: &Expr<Name, Note>,
@@ -306,5 +306,5 @@ pub fn judge(
 ) -> Result<Expr<Name, Note>, Fault>
     ensures { AnswersOutcome result ((view frame.now e.now).judged first_fresh (state at.now)) }
 {
-    judge_as(alloc, frame, at, e, false, first_fresh)
+    judge_as(work, frame, at, e, false, first_fresh)
 }

@@ -9,7 +9,7 @@ ghost use Rattle.ckc_views.specs.Views.{view, view_of_node};
 use crate::arguments::call_fault;
 use ckc_base::{Pos, Refusal};
 use ckc_extents::range;
-use ckc_points::{Frame, Point, is_multiple};
+use ckc_points::{Frame, Point, Work, is_multiple};
 use ckc_ranges::{NO_ADDRESS, has_no_address};
 use ckc_syntax::{Expr, Name, Node, TreeOp};
 use ckc_typed::constants::value_of;
@@ -85,7 +85,7 @@ fn fault_if(broken: bool, code: u16, pos: Pos) -> Option<Refusal>
 }
 
 fn access_fault(
-    alloc: Global,
+    work: &mut Work,
     frame: &Frame,
     at: &Point,
     e: &Expr<Name, Note>,
@@ -98,7 +98,7 @@ fn access_fault(
     if !is_counted(&e.note.ctype) {
         return Ok(None);
     }
-    let found = range(alloc, frame, at, e, 0, first_fresh)?;
+    let found = range(work, frame, at, e, 0, first_fresh)?;
     Ok(fault_if(is_missing(found), UNKNOWN_BOUNDS, pos))
 }
 
@@ -141,7 +141,7 @@ fn has_none(frame: &Frame, node: &Node<Name, Note>) -> bool
 
 /// The fault of a node itself.
 pub fn fault_of_node(
-    alloc: Global,
+    work: &mut Work,
     frame: &Frame,
     at: &Point,
     node: &Node<Name, Note>,
@@ -152,14 +152,14 @@ pub fn fault_of_node(
         r ≡ (view_of_node frame.now node.now).fault pos first_fresh (state at.now)) }
 {
     match node {
-        Node::Un(TreeOp::Deref, e) => access_fault(alloc, frame, at, e.get(), pos, first_fresh),
+        Node::Un(TreeOp::Deref, e) => access_fault(work, frame, at, e.get(), pos, first_fresh),
         Node::Un(TreeOp::Address, e) => {
             Ok(fault_if(has_none(frame, &e.get().node), NO_ADDRESS, pos))
         }
-        Node::Index(e, _) => access_fault(alloc, frame, at, e.get(), pos, first_fresh),
-        Node::Arrow(e, _, _) => access_fault(alloc, frame, at, e.get(), pos, first_fresh),
-        Node::Tested(_, e, _) => access_fault(alloc, frame, at, e.get(), pos, first_fresh),
-        Node::Call(n, es) => call_fault(alloc, frame, at, *n, es.as_slice(), first_fresh),
+        Node::Index(e, _) => access_fault(work, frame, at, e.get(), pos, first_fresh),
+        Node::Arrow(e, _, _) => access_fault(work, frame, at, e.get(), pos, first_fresh),
+        Node::Tested(_, e, _) => access_fault(work, frame, at, e.get(), pos, first_fresh),
+        Node::Call(n, es) => call_fault(work, frame, at, *n, es.as_slice(), first_fresh),
         Node::Number(_, _) | Node::Text(_) | Node::Null | Node::Size(_) => Ok(None),
         Node::Un(_, _) | Node::Name(_) | Node::Bin(_, _, _) | Node::Cast(_, _) => Ok(None),
         Node::Pick(_, _, _) | Node::Dot(_, _, _) | Node::Trusted(_, _, _) => Ok(None),
@@ -169,7 +169,7 @@ pub fn fault_of_node(
 
 /// The fault of a node itself where it is the operand of `&`: in `&*p` and `&p[k]` there is no access.
 pub fn operand_fault_of_node(
-    alloc: Global,
+    work: &mut Work,
     frame: &Frame,
     at: &Point,
     node: &Node<Name, Note>,
@@ -182,7 +182,7 @@ pub fn operand_fault_of_node(
     match node {
         Node::Un(TreeOp::Deref, _) => Ok(None),
         Node::Index(_, _) => Ok(None),
-        Node::Un(_, _) => fault_of_node(alloc, frame, at, node, pos, first_fresh),
-        _ => fault_of_node(alloc, frame, at, node, pos, first_fresh),
+        Node::Un(_, _) => fault_of_node(work, frame, at, node, pos, first_fresh),
+        _ => fault_of_node(work, frame, at, node, pos, first_fresh),
     }
 }

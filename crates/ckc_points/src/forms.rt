@@ -10,11 +10,12 @@ ghost use Rattle.ckc_points.specs.Forms.{is_small, constant_form, moved_form, in
 
 use crate::point::{Interval, add_fact, range_of};
 use crate::shown::{is_shown, is_within};
+use crate::work::Work;
 use ckc_linear::{Base, Fact, Facts, Form};
 use ckc_typed::Constant;
 use ckc_typed::types::same_type;
 use ckc_types::CType;
-use std::alloc::{AllocError, Global};
+use std::alloc::AllocError;
 
 /// Whether a number may be that of a form: it is within 2^40.
 pub fn is_small(n: i64) -> bool
@@ -107,22 +108,22 @@ fn above(f: Form, r: Interval) -> Fact
     }
 }
 
-fn is_between(alloc: Global, facts: &Facts, f: Form, r: Interval) -> Result<bool, AllocError>
+fn is_between(work: &mut Work, facts: &Facts, f: Form, r: Interval) -> Result<bool, AllocError>
     ensures { IfOk result (λ b. b ≡ (is_small f.add
         && (is_shown (known facts.now) (below f r) && is_shown (known facts.now) (above f r)))) }
 {
     if !is_small(f.add) {
         return Ok(false);
     }
-    let high = is_shown(alloc, facts, below(f, r))?;
+    let high = is_shown(work, facts, below(f, r))?;
     if !high {
         return Ok(false);
     }
-    is_shown(alloc, facts, above(f, r))
+    is_shown(work, facts, above(f, r))
 }
 
 fn within_interval(
-    alloc: Global,
+    work: &mut Work,
     facts: &Facts,
     f: Form,
     r: Option<Interval>,
@@ -132,7 +133,7 @@ fn within_interval(
     let Some(r) = r else {
         return Ok(None);
     };
-    if is_between(alloc, facts, f, r)? {
+    if is_between(work, facts, f, r)? {
         Ok(Some(f))
     } else {
         Ok(None)
@@ -141,7 +142,7 @@ fn within_interval(
 
 /// The form of a value in an integer type, where the facts entail that the exact value lies in the type's range.
 pub fn in_type(
-    alloc: Global,
+    work: &mut Work,
     facts: &Facts,
     t: &CType,
     form: Option<Form>,
@@ -149,7 +150,7 @@ pub fn in_type(
     ensures { IfOk result (λ f. f ≡ in_type (known facts.now) t.now form) }
 {
     match form {
-        Some(f) => within_interval(alloc, facts, f, range_of(t)),
+        Some(f) => within_interval(work, facts, f, range_of(t)),
         None => Ok(None),
     }
 }

@@ -8,6 +8,7 @@ mod laws;
 mod locals;
 mod point;
 mod shown;
+mod work;
 
 pub use forms::{
     add_less, add_most, at_most, base_form, constant_form, difference_of_forms, elements, in_type,
@@ -23,3 +24,4 @@ pub use point::{
     range_of,
 };
 pub use shown::{is_shown, is_within};
+pub use work::{Work, fit_row};

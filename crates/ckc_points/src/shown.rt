@@ -5,8 +5,9 @@ ghost use Rattle.ckc_linear.specs.Facts.{IsWithin};
 ghost use Rattle.ckc_points.specs.Shown.{known, is_within, reaches, is_shown};
 ghost use Rattle.std.specs.List.{list_any};
 
+use crate::work::{Work, grow};
 use ckc_linear::{Fact, Facts, entails};
-use std::alloc::{AllocError, Global};
+use std::alloc::AllocError;
 
 /// Whether a number is from `-limit` to `limit`.
 pub fn is_within(limit: u64, n: i64) -> bool
@@ -18,7 +19,7 @@ pub fn is_within(limit: u64, n: i64) -> bool
 }
 
 /// Whether a fact follows from others by a chain, for variables that there are and a number within 2^50.
-pub fn is_shown(alloc: Global, facts: &Facts, f: Fact) -> Result<bool, AllocError>
+pub fn is_shown(work: &mut Work, facts: &Facts, f: Fact) -> Result<bool, AllocError>
     ensures { IfOk result (λ b. b ≡ is_shown (known facts.now) f) }
 {
     if f.x < facts.vars && f.y < facts.vars && is_within(1 << 50, f.c) {
@@ -29,7 +30,7 @@ pub fn is_shown(alloc: Global, facts: &Facts, f: Fact) -> Result<bool, AllocErro
         if stands(facts, f) {
             return Ok(true);
         }
-        return reaches(alloc, facts, f);
+        return reaches(work, facts, f);
     }
     Ok(false)
 }
@@ -48,12 +49,13 @@ fn is_shown_by(f: Fact, g: Fact) -> bool
     g.x == f.x && g.y == f.y && g.c <= f.c
 }
 
-fn reaches(alloc: Global, facts: &Facts, f: Fact) -> Result<bool, AllocError>
+fn reaches(work: &mut Work, facts: &Facts, f: Fact) -> Result<bool, AllocError>
     requires from { f.x < facts.now.vars }
     requires to { f.y < facts.now.vars }
     requires number { IsWithin (2 ^ 50) f.c }
     ensures { IfOk result (λ b. b ≡ reaches (facts.now.vars + 1) facts.now.list f.x f.y f.c) }
 {
-    let mut row = vec![in alloc; 0i64; 2 * facts.vars as usize]?;
-    Ok(entails(facts, f.x, f.y, f.c, &mut row))
+    grow(facts.vars, &mut work.row)?;
+    let places = 2 * facts.vars as usize;
+    Ok(entails(facts, f.x, f.y, f.c, &mut work.row[..places]))
 }

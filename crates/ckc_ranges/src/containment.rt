@@ -6,9 +6,11 @@ ghost use Rattle.ckc_points.specs.Shown.{known};
 ghost use Rattle.ckc_ranges.specs.Contained.{is_at_most, at_most_far, with_far, with_element, extended, lies_between, is_contained};
 
 use ckc_linear::{Fact, Facts, Form};
-use ckc_points::{Bounds, add_fact, add_less, add_most, at_most, is_shown, is_small, same_base};
+use ckc_points::{
+    Bounds, Work, add_fact, add_less, add_most, at_most, is_shown, is_small, same_base,
+};
 use ckc_typed::Range;
-use std::alloc::{AllocError, Global};
+use std::alloc::AllocError;
 
 /// The two ends of bounds or of a range.
 #[derive(Clone, Copy, Debug, PartialEq, Eq)]
@@ -18,11 +20,11 @@ pub struct Ends {
 }
 
 /// Whether `f <= g` follows from the facts, of forms with one base.
-fn is_at_most(alloc: Global, facts: &Facts, f: Form, g: Form) -> Result<bool, AllocError>
+fn is_at_most(work: &mut Work, facts: &Facts, f: Form, g: Form) -> Result<bool, AllocError>
     ensures { IfOk result (λ b. b ≡ is_at_most (known facts.now) f g) }
 {
     if same_base(f.base, g.base) && is_small(f.add) && is_small(g.add) {
-        return is_shown(alloc, facts, at_most(f, g));
+        return is_shown(work, facts, at_most(f, g));
     }
     Ok(false)
 }
@@ -77,7 +79,7 @@ pub fn extend(
 
 /// Whether bounds lie in a range: all four ends are forms with one base, in order.
 pub fn lies_between(
-    alloc: Global,
+    work: &mut Work,
     facts: &Facts,
     range: Ends,
     limits: Option<Ends>,
@@ -87,21 +89,21 @@ pub fn lies_between(
     let Some(inner) = limits else {
         return Ok(false);
     };
-    let low = is_at_most(alloc, facts, range.low, inner.low)?;
+    let low = is_at_most(work, facts, range.low, inner.low)?;
     if !low {
         return Ok(false);
     }
-    let order = is_at_most(alloc, facts, inner.low, inner.high)?;
+    let order = is_at_most(work, facts, inner.low, inner.high)?;
     if !order {
         return Ok(false);
     }
-    is_at_most(alloc, facts, inner.high, range.high)
+    is_at_most(work, facts, inner.high, range.high)
 }
 
 /// Whether a new value with a range is contained in declared bounds, whose ends are `limits` with what they name replaced:
 /// the bounds are unknown, the value is null, or they lie in its range.
 pub fn is_contained(
-    alloc: Global,
+    work: &mut Work,
     facts: &Facts,
     bounds: &Bounds,
     null: bool,
@@ -117,7 +119,7 @@ pub fn is_contained(
                 return Ok(true);
             }
             match range {
-                Range::Known(low, high) => lies_between(alloc, facts, Ends { low, high }, limits),
+                Range::Known(low, high) => lies_between(work, facts, Ends { low, high }, limits),
                 Range::Missing | Range::Any => Ok(false),
             }
         }

@@ -14,7 +14,7 @@ use crate::declared::judge_bounds;
 use crate::walk::{Walk, boxed_value, judge_init, maybe_value, take_side};
 use ckc_base::{Boxed, Fault, Pos, Seq, refused};
 use ckc_linear::{Facts, Form};
-use ckc_points::{Frame, HeadBounds, Point, assign, constant_form, in_type, unreached};
+use ckc_points::{Frame, HeadBounds, Point, Work, assign, constant_form, in_type, unreached};
 use ckc_stores::{NOT_CONTAINED, initialised, pass, returned, stored};
 use ckc_syntax::{Act, Decl, Expr, Init, Name, Stmt};
 use ckc_typed::Note;
@@ -37,7 +37,7 @@ pub fn stated(at: Pos, note: Note, body: Act<Name, Note>) -> Stmt<Name, Note>
 }
 
 fn starts_within(
-    alloc: Global,
+    work: &mut Work,
     frame: &Frame,
     name: Name,
     init: &Init<Name, Note>,
@@ -51,7 +51,7 @@ fn starts_within(
             if walk.counting {
                 return Ok(true);
             }
-            initialised(alloc, frame, k, e.get(), first, &walk.at)
+            initialised(work, frame, k, e.get(), first, &walk.at)
         }
         _ => Ok(true),
     }
@@ -59,7 +59,7 @@ fn starts_within(
 
 #[tactic(auto, unfolding(crate::specs::Paths::value_form))]
 fn value_form(
-    alloc: Global,
+    work: &mut Work,
     frame: &Frame,
     t: &CType,
     e: &Expr<Name, Note>,
@@ -67,13 +67,13 @@ fn value_form(
 ) -> Result<Option<Form>, AllocError>
     ensures { IfOk result (λ f. f ≡ value_form frame.now t.now e.now (known facts.now)) }
 {
-    let f = form(alloc, frame, facts, e)?;
-    in_type(alloc, facts, t, f)
+    let f = form(work, frame, facts, e)?;
+    in_type(work, facts, t, f)
 }
 
 /// The form of what a local begins with.
 fn start_form(
-    alloc: Global,
+    work: &mut Work,
     frame: &Frame,
     t: &CType,
     init: &Init<Name, Note>,
@@ -83,14 +83,14 @@ fn start_form(
 {
     match init {
         Init::Nothing => Ok(Some(constant_form(0))),
-        Init::One(e) => value_form(alloc, frame, t, e.get(), facts),
+        Init::One(e) => value_form(work, frame, t, e.get(), facts),
         Init::Many(_) => Ok(None),
     }
 }
 
 /// Goes on over the assignment that a declaration is.
 fn begin(
-    alloc: Global,
+    work: &mut Work,
     frame: &Frame,
     name: Name,
     t: &CType,
@@ -101,8 +101,8 @@ fn begin(
 {
     match name {
         Name::Local(k) => {
-            let form = start_form(alloc, frame, t, init, &at.facts)?;
-            assign(alloc, frame, k, form, at)
+            let form = start_form(work, frame, t, init, &at.facts)?;
+            assign(work.alloc, frame, k, form, at)
         }
         _ => Ok(()),
     }
@@ -110,7 +110,7 @@ fn begin(
 
 /// Goes on behind a declaration.
 fn pass_decl(
-    alloc: Global,
+    work: &mut Work,
     frame: &Frame,
     d: &Decl<Name, Note>,
     init: &Init<Name, Note>,
@@ -118,33 +118,33 @@ fn pass_decl(
 ) -> Result<(), AllocError>
     ensures { OnOk result (here walk.new ≡ declared_here frame.now d.now init.now (here walk.old)) }
 {
-    let t = type_written(alloc, &d.ctype)?;
-    begin(alloc, frame, d.name, &t, init, &mut walk.at)?;
+    let t = type_written(work.alloc, &d.ctype)?;
+    begin(work, frame, d.name, &t, init, &mut walk.at)?;
     add_name(d.name, &mut walk.seen)
 }
 
 fn judge_decl(
-    alloc: Global,
+    work: &mut Work,
     frame: &Frame,
     d: &Decl<Name, Note>,
     walk: &mut Walk,
 ) -> Result<Decl<Name, Note>, Fault>
     ensures { StepsOutcome result (here walk.new) (decl_judged frame.now d.now (here walk.old)) }
 {
-    judge_bounds(alloc, frame, d, walk)?;
+    judge_bounds(work.alloc, frame, d, walk)?;
     let first = walk.next;
-    let init = judge_init(alloc, frame, &d.init, walk)?;
-    if !starts_within(alloc, frame, d.name, &init, first, walk)? {
+    let init = judge_init(work, frame, &d.init, walk)?;
+    if !starts_within(work, frame, d.name, &init, first, walk)? {
         return Err(refused(NOT_CONTAINED, d.pos));
     }
-    pass_decl(alloc, frame, d, &init, walk)?;
-    let judged = decl_with(alloc, d, init)?;
+    pass_decl(work, frame, d, &init, walk)?;
+    let judged = decl_with(work.alloc, d, init)?;
     Ok(judged)
 }
 
 /// A declaration.
 pub fn local(
-    alloc: Global,
+    work: &mut Work,
     frame: &Frame,
     at: Pos,
     note: Note,
@@ -154,14 +154,14 @@ pub fn local(
     ensures { StepsOutcome result (here walk.new)
         (local_judged frame.now at note d.now (here walk.old)) }
 {
-    let judged = judge_decl(alloc, frame, d, walk)?;
-    let boxed = Boxed::new(alloc, judged)?;
+    let judged = judge_decl(work, frame, d, walk)?;
+    let boxed = Boxed::new(work.alloc, judged)?;
     Ok(stated(at, note, Act::Local(boxed)))
 }
 
 /// An assignment whose sides are judged.
 pub fn sides(
-    alloc: Global,
+    work: &mut Work,
     frame: &Frame,
     at: Pos,
     note: Note,
@@ -172,14 +172,14 @@ pub fn sides(
     ensures { StepsOutcome result (here walk.new)
         (sides_judged frame.now at note e.now f.now (here walk.old)) }
 {
-    let e = boxed_value(alloc, frame, e, walk)?;
-    let f = boxed_value(alloc, frame, f, walk)?;
+    let e = boxed_value(work, frame, e, walk)?;
+    let f = boxed_value(work, frame, f, walk)?;
     Ok(stated(at, note, Act::Assign(e, f)))
 }
 
 /// Goes on behind assignments that are judged as one.
 pub fn pass_stores(
-    alloc: Global,
+    work: &mut Work,
     frame: &Frame,
     head: &HeadBounds,
     ss: &[Stmt<Name, Note>],
@@ -190,11 +190,11 @@ pub fn pass_stores(
         (behind_stores frame.now head.now ss.now first (here walk.old)) }
 {
     if walk.counting {
-        pass(alloc, frame, ss, first, &mut walk.at)?;
+        pass(work, frame, ss, first, &mut walk.at)?;
         return Ok(());
     }
     stored(
-        alloc,
+        work,
         frame,
         &head.bounds,
         walk.seen.as_slice(),
@@ -206,7 +206,7 @@ pub fn pass_stores(
 
 /// An assignment.
 pub fn assignment(
-    alloc: Global,
+    work: &mut Work,
     frame: &Frame,
     head: &HeadBounds,
     at: Pos,
@@ -219,14 +219,14 @@ pub fn assignment(
         (assign_judged frame.now head.now at note e.now f.now (here walk.old)) }
 {
     let first = walk.next;
-    let s = sides(alloc, frame, at, note, e, f, walk)?;
-    pass_stores(alloc, frame, head, slice::from_ref(&s), first, walk)?;
+    let s = sides(work, frame, at, note, e, f, walk)?;
+    pass_stores(work, frame, head, slice::from_ref(&s), first, walk)?;
     Ok(s)
 }
 
 /// A call.
 pub fn call(
-    alloc: Global,
+    work: &mut Work,
     frame: &Frame,
     at: Pos,
     note: Note,
@@ -236,13 +236,13 @@ pub fn call(
     ensures { StepsOutcome result (here walk.new)
         (call_judged frame.now at note e.now (here walk.old)) }
 {
-    let e = boxed_value(alloc, frame, e, walk)?;
+    let e = boxed_value(work, frame, e, walk)?;
     Ok(stated(at, note, Act::Call(e)))
 }
 
 /// A run-time check.
 pub fn check(
-    alloc: Global,
+    work: &mut Work,
     frame: &Frame,
     at: Pos,
     note: Note,
@@ -252,8 +252,8 @@ pub fn check(
     ensures { StepsOutcome result (here walk.new)
         (check_judged frame.now at note e.now (here walk.old)) }
 {
-    let e = boxed_value(alloc, frame, e, walk)?;
-    take_side(alloc, frame, e.get(), true, &mut walk.at)?;
+    let e = boxed_value(work, frame, e, walk)?;
+    take_side(work, frame, e.get(), true, &mut walk.at)?;
     Ok(stated(at, note, Act::Check(e)))
 }
 
@@ -282,7 +282,7 @@ pub fn jump(
 }
 
 fn is_returned(
-    alloc: Global,
+    work: &mut Work,
     frame: &Frame,
     head: &HeadBounds,
     e: &Option<Boxed<Expr<Name, Note>>>,
@@ -297,14 +297,14 @@ fn is_returned(
             if walk.counting {
                 return Ok(true);
             }
-            returned(alloc, frame, head, e.get(), first, &walk.at)
+            returned(work, frame, head, e.get(), first, &walk.at)
         }
     }
 }
 
 /// A `return`.
 pub fn result(
-    alloc: Global,
+    work: &mut Work,
     frame: &Frame,
     head: &HeadBounds,
     at: Pos,
@@ -316,11 +316,11 @@ pub fn result(
         (return_judged frame.now head.now at note e.now (here walk.old)) }
 {
     let first = walk.next;
-    let e = maybe_value(alloc, frame, e, walk)?;
-    if !is_returned(alloc, frame, head, &e, first, walk)? {
+    let e = maybe_value(work, frame, e, walk)?;
+    if !is_returned(work, frame, head, &e, first, walk)? {
         return Err(refused(NOT_CONTAINED, at));
     }
-    leave(alloc, frame, walk)?;
+    leave(work.alloc, frame, walk)?;
     Ok(stated(at, note, Act::Return(e)))
 }
 

@@ -11,7 +11,7 @@ ghost use Rattle.ckc_statements.specs.Walks.{here, maybe_state, branch, start};
 use crate::contents::{Contents, add_part, add_stmt};
 use crate::walk::{Walk, boxed_value, maybe_value, take_side};
 use ckc_base::{Boxed, Fault, Seq};
-use ckc_points::{Frame, Point, copied, forget_assigned, join};
+use ckc_points::{Frame, Point, Work, copied, forget_assigned, join};
 use ckc_syntax::{Expr, Name, Stmt};
 use ckc_typed::Note;
 use core::mem::replace;
@@ -33,7 +33,7 @@ pub struct Start {
 }
 
 fn other_side(
-    alloc: Global,
+    work: &mut Work,
     frame: &Frame,
     left: bool,
     e: &Expr<Name, Note>,
@@ -41,16 +41,16 @@ fn other_side(
 ) -> Result<Point, AllocError>
     ensures { IfOk result (λ p. state p ≡ other_side frame.now left e.now (state at.now)) }
 {
-    let mut other = copied(alloc, at)?;
+    let mut other = copied(work.alloc, at)?;
     if !left {
-        take_side(alloc, frame, e, false, &mut other)?;
+        take_side(work, frame, e, false, &mut other)?;
     }
     Ok(other)
 }
 
 /// Judges a condition and goes on to its true side. A loop that a `break` leaves keeps what is known at its head.
 pub fn judge_branch(
-    alloc: Global,
+    work: &mut Work,
     frame: &Frame,
     left: bool,
     e: &Expr<Name, Note>,
@@ -59,9 +59,9 @@ pub fn judge_branch(
     ensures { StepsOutcome (viewed branch result) (here walk.new)
         (branched frame.now left e.now (here walk.old)) }
 {
-    let condition = boxed_value(alloc, frame, e, walk)?;
-    let other = other_side(alloc, frame, left, condition.get(), &walk.at)?;
-    take_side(alloc, frame, condition.get(), true, &mut walk.at)?;
+    let condition = boxed_value(work, frame, e, walk)?;
+    let other = other_side(work, frame, left, condition.get(), &walk.at)?;
+    take_side(work, frame, condition.get(), true, &mut walk.at)?;
     Ok(Branch { condition, other })
 }
 
@@ -105,7 +105,7 @@ fn forget(alloc: Global, frame: &Frame, ks: &[u32], walk: &mut Walk) -> Result<(
 
 /// Goes on to the head of a `while`, and judges its condition there.
 pub fn enter_while(
-    alloc: Global,
+    work: &mut Work,
     frame: &Frame,
     e: &Expr<Name, Note>,
     s: &Stmt<Name, Note>,
@@ -114,13 +114,13 @@ pub fn enter_while(
     ensures { let b = path s.now in
         StepsOutcome (viewed branch result) (here walk.new) (branched frame.now b.breaks e.now (loop_head frame.now b.assigned (here walk.old))) }
 {
-    let contents = contents_of(alloc, s)?;
-    forget(alloc, frame, contents.assigned.as_slice(), walk)?;
-    judge_branch(alloc, frame, contents.breaks, e, walk)
+    let contents = contents_of(work.alloc, s)?;
+    forget(work.alloc, frame, contents.assigned.as_slice(), walk)?;
+    judge_branch(work, frame, contents.breaks, e, walk)
 }
 
 fn maybe_other(
-    alloc: Global,
+    work: &mut Work,
     frame: &Frame,
     left: bool,
     e: &Option<Boxed<Expr<Name, Note>>>,
@@ -129,13 +129,13 @@ fn maybe_other(
     ensures { IfOk result (λ p. state p ≡ maybe_other frame.now left e.now (state at.now)) }
 {
     match e {
-        None => copied(alloc, at),
-        Some(e) => other_side(alloc, frame, left, e.get(), at),
+        None => copied(work.alloc, at),
+        Some(e) => other_side(work, frame, left, e.get(), at),
     }
 }
 
 fn maybe_side(
-    alloc: Global,
+    work: &mut Work,
     frame: &Frame,
     e: &Option<Boxed<Expr<Name, Note>>>,
     at: &mut Point,
@@ -144,7 +144,7 @@ fn maybe_side(
 {
     match e {
         None => Ok(()),
-        Some(e) => take_side(alloc, frame, e.get(), true, at),
+        Some(e) => take_side(work, frame, e.get(), true, at),
     }
 }
 
@@ -161,7 +161,7 @@ fn maybe_point(alloc: Global, there: bool, at: &Point) -> Result<Option<Point>, 
 
 /// Judges the condition at the head of a `for`.
 fn judge_start(
-    alloc: Global,
+    work: &mut Work,
     frame: &Frame,
     left: bool,
     continued: bool,
@@ -171,10 +171,10 @@ fn judge_start(
     ensures { StepsOutcome (viewed start result) (here walk.new)
         (for_started frame.now left continued e.now (here walk.old)) }
 {
-    let condition = maybe_value(alloc, frame, e, walk)?;
-    let other = maybe_other(alloc, frame, left, &condition, &walk.at)?;
-    let step = maybe_point(alloc, continued, &walk.at)?;
-    maybe_side(alloc, frame, &condition, &mut walk.at)?;
+    let condition = maybe_value(work, frame, e, walk)?;
+    let other = maybe_other(work, frame, left, &condition, &walk.at)?;
+    let step = maybe_point(work.alloc, continued, &walk.at)?;
+    maybe_side(work, frame, &condition, &mut walk.at)?;
     Ok(Start {
         condition,
         other,
@@ -184,7 +184,7 @@ fn judge_start(
 
 /// Goes on to the head of a `for` with this body and this step, and judges its condition there.
 pub fn enter_for(
-    alloc: Global,
+    work: &mut Work,
     frame: &Frame,
     e: &Option<Boxed<Expr<Name, Note>>>,
     s: &Stmt<Name, Note>,
@@ -195,11 +195,11 @@ pub fn enter_for(
         in
         StepsOutcome (viewed start result) (here walk.new) (for_started frame.now b.breaks b.continues e.now (loop_head frame.now ks (here walk.old))) }
 {
-    let mut contents = contents_of(alloc, s)?;
+    let mut contents = contents_of(work.alloc, s)?;
     let (left, continued) = (contents.breaks, contents.continues);
     add_part(step, &mut contents)?;
-    forget(alloc, frame, contents.assigned.as_slice(), walk)?;
-    judge_start(alloc, frame, left, continued, e, walk)
+    forget(work.alloc, frame, contents.assigned.as_slice(), walk)?;
+    judge_start(work, frame, left, continued, e, walk)
 }
 
 /// Goes on to the step of a loop: from its head where a `continue` leads there.

@@ -13,7 +13,7 @@ use crate::copies::copied_note;
 use crate::loops::{Branch, Start, enter_for, enter_while, join_ends, judge_branch, to_step, turn};
 use crate::walk::Walk;
 use ckc_base::{Boxed, Fault, Pos, Seq, refused};
-use ckc_points::{Frame, HeadBounds};
+use ckc_points::{Frame, HeadBounds, Work};
 use ckc_ranges::{BAD_BUNDLE, is_bundle};
 use ckc_syntax::{Act, Name, Stmt};
 use ckc_typed::Note;
@@ -21,7 +21,7 @@ use std::alloc::{AllocError, Global};
 
 /// A part of the bundle at a place: an assignment.
 fn judge_side(
-    alloc: Global,
+    work: &mut Work,
     frame: &Frame,
     bundle: Pos,
     s: &Stmt<Name, Note>,
@@ -32,15 +32,15 @@ fn judge_side(
 {
     match &s.body {
         Act::Assign(e, f) => {
-            let note = copied_note(alloc, &s.note)?;
-            sides(alloc, frame, s.pos, note, e.get(), f.get(), walk)
+            let note = copied_note(work.alloc, &s.note)?;
+            sides(work, frame, s.pos, note, e.get(), f.get(), walk)
         }
         _ => Err(refused(BAD_BUNDLE, bundle)),
     }
 }
 
 fn judge_sides(
-    alloc: Global,
+    work: &mut Work,
     frame: &Frame,
     bundle: Pos,
     ss: &[Stmt<Name, Note>],
@@ -49,9 +49,9 @@ fn judge_sides(
     ensures { StepsOutcome result (here walk.new)
         (parts_judged frame.now bundle (map path ss.now) (here walk.old)) }
 {
-    let mut all = Seq::new(alloc);
+    let mut all = Seq::new(work.alloc);
     for s in ss {
-        let judged = judge_side(alloc, frame, bundle, s, walk)?;
+        let judged = judge_side(work, frame, bundle, s, walk)?;
         all.push(judged)?;
     }
     Ok(all)
@@ -70,7 +70,7 @@ fn is_good(alloc: Global, ss: &[Stmt<Name, Note>], walk: &Walk) -> Result<bool, 
 /// A bundle.
 #[tactic(auto, unfolding(crate::specs::Paths::bundle_judged))]
 fn judge_bundle(
-    alloc: Global,
+    work: &mut Work,
     frame: &Frame,
     head: &HeadBounds,
     at: Pos,
@@ -82,18 +82,18 @@ fn judge_bundle(
         (bundle_judged frame.now head.now at note (map path ss.now) (here walk.old)) }
 {
     let first = walk.next;
-    let all = judge_sides(alloc, frame, at, ss, walk)?;
-    if !is_good(alloc, all.as_slice(), walk)? {
+    let all = judge_sides(work, frame, at, ss, walk)?;
+    if !is_good(work.alloc, all.as_slice(), walk)? {
         return Err(refused(BAD_BUNDLE, at));
     }
-    pass_stores(alloc, frame, head, all.as_slice(), first, walk)?;
+    pass_stores(work, frame, head, all.as_slice(), first, walk)?;
     Ok(stated(at, note, Act::Bundle(all)))
 }
 
 /// What a statement does.
 #[cycle(stmt)]
 fn judge_act(
-    alloc: Global,
+    work: &mut Work,
     frame: &Frame,
     head: &HeadBounds,
     act: &Act<Name, Note>,
@@ -107,55 +107,55 @@ fn judge_act(
     match act {
         Act::Block(m, ss) => {
             let most = walk.seen.len();
-            let all = judge_stmts(alloc, frame, head, ss.as_slice(), walk)?;
+            let all = judge_stmts(work, frame, head, ss.as_slice(), walk)?;
             close(most, walk);
             Ok(stated(at, note, Act::Block(*m, all)))
         }
         Act::Empty => Ok(stated(at, note, Act::Empty)),
-        Act::Local(d) => local(alloc, frame, at, note, d.get(), walk),
-        Act::Assign(e, f) => assignment(alloc, frame, head, at, note, e.get(), f.get(), walk),
-        Act::Call(e) => call(alloc, frame, at, note, e.get(), walk),
+        Act::Local(d) => local(work, frame, at, note, d.get(), walk),
+        Act::Assign(e, f) => assignment(work, frame, head, at, note, e.get(), f.get(), walk),
+        Act::Call(e) => call(work, frame, at, note, e.get(), walk),
         Act::If(e, s, t) => {
-            let Branch { condition, other } = judge_branch(alloc, frame, false, e.get(), walk)?;
-            let s = boxed_stmt(alloc, frame, head, s.get(), walk)?;
+            let Branch { condition, other } = judge_branch(work, frame, false, e.get(), walk)?;
+            let s = boxed_stmt(work, frame, head, s.get(), walk)?;
             let end = turn(walk, other);
-            let t = judge_part(alloc, frame, head, t, walk)?;
-            join_ends(alloc, end, walk)?;
+            let t = judge_part(work, frame, head, t, walk)?;
+            join_ends(work.alloc, end, walk)?;
             Ok(stated(at, note, Act::If(condition, s, t)))
         }
         Act::While(e, s) => {
-            let Branch { condition, other } = enter_while(alloc, frame, e.get(), s.get(), walk)?;
-            let s = boxed_stmt(alloc, frame, head, s.get(), walk)?;
+            let Branch { condition, other } = enter_while(work, frame, e.get(), s.get(), walk)?;
+            let s = boxed_stmt(work, frame, head, s.get(), walk)?;
             walk.at = other;
             Ok(stated(at, note, Act::While(condition, s)))
         }
         Act::For(s, e, t, body) => {
             let most = walk.seen.len();
-            let first = judge_part(alloc, frame, head, s, walk)?;
+            let first = judge_part(work, frame, head, s, walk)?;
             let Start {
                 condition,
                 other,
                 step,
-            } = enter_for(alloc, frame, e, body.get(), t, walk)?;
-            let body = boxed_stmt(alloc, frame, head, body.get(), walk)?;
+            } = enter_for(work, frame, e, body.get(), t, walk)?;
+            let body = boxed_stmt(work, frame, head, body.get(), walk)?;
             to_step(step, walk);
-            let t = judge_part(alloc, frame, head, t, walk)?;
+            let t = judge_part(work, frame, head, t, walk)?;
             walk.at = other;
             close(most, walk);
             Ok(stated(at, note, Act::For(first, condition, t, body)))
         }
-        Act::Return(e) => result(alloc, frame, head, at, note, e, walk),
-        Act::Break => jump(alloc, frame, at, note, Act::Break, walk),
-        Act::Continue => jump(alloc, frame, at, note, Act::Continue, walk),
-        Act::Check(e) => check(alloc, frame, at, note, e.get(), walk),
-        Act::Bundle(ss) => judge_bundle(alloc, frame, head, at, note, ss.as_slice(), walk),
+        Act::Return(e) => result(work, frame, head, at, note, e, walk),
+        Act::Break => jump(work.alloc, frame, at, note, Act::Break, walk),
+        Act::Continue => jump(work.alloc, frame, at, note, Act::Continue, walk),
+        Act::Check(e) => check(work, frame, at, note, e.get(), walk),
+        Act::Bundle(ss) => judge_bundle(work, frame, head, at, note, ss.as_slice(), walk),
     }
 }
 
 /// Judges a statement, notes the ranges in it, and goes on behind it.
 #[cycle(stmt)]
 pub fn judge_stmt(
-    alloc: Global,
+    work: &mut Work,
     frame: &Frame,
     head: &HeadBounds,
     s: &Stmt<Name, Note>,
@@ -164,14 +164,14 @@ pub fn judge_stmt(
     ensures { StepsOutcome result (here walk.new)
         ((path s.now).judged frame.now head.now (here walk.old)) }
 {
-    let note = copied_note(alloc, &s.note)?;
-    judge_act(alloc, frame, head, &s.body, s.pos, note, walk)
+    let note = copied_note(work.alloc, &s.note)?;
+    judge_act(work, frame, head, &s.body, s.pos, note, walk)
 }
 
 /// A statement in a box of its own.
 #[cycle(stmt)]
 fn boxed_stmt(
-    alloc: Global,
+    work: &mut Work,
     frame: &Frame,
     head: &HeadBounds,
     s: &Stmt<Name, Note>,
@@ -180,15 +180,15 @@ fn boxed_stmt(
     ensures { StepsOutcome result (here walk.new)
         ((path s.now).judged frame.now head.now (here walk.old)) }
 {
-    let judged = judge_stmt(alloc, frame, head, s, walk)?;
-    let boxed = Boxed::new(alloc, judged)?;
+    let judged = judge_stmt(work, frame, head, s, walk)?;
+    let boxed = Boxed::new(work.alloc, judged)?;
     Ok(boxed)
 }
 
 /// Statements, from the first to the last.
 #[cycle(stmt)]
 fn judge_stmts(
-    alloc: Global,
+    work: &mut Work,
     frame: &Frame,
     head: &HeadBounds,
     ss: &[Stmt<Name, Note>],
@@ -197,9 +197,9 @@ fn judge_stmts(
     ensures { StepsOutcome result (here walk.new)
         (all_judged frame.now head.now (map path ss.now) (here walk.old)) }
 {
-    let mut all = Seq::new(alloc);
+    let mut all = Seq::new(work.alloc);
     for s in ss {
-        let judged = judge_stmt(alloc, frame, head, s, walk)?;
+        let judged = judge_stmt(work, frame, head, s, walk)?;
         all.push(judged)?;
     }
     Ok(all)
@@ -208,7 +208,7 @@ fn judge_stmts(
 /// A statement, where there is one.
 #[cycle(stmt)]
 fn judge_part(
-    alloc: Global,
+    work: &mut Work,
     frame: &Frame,
     head: &HeadBounds,
     part: &Option<Boxed<Stmt<Name, Note>>>,
@@ -220,7 +220,7 @@ fn judge_part(
     match part {
         None => Ok(None),
         Some(s) => {
-            let judged = boxed_stmt(alloc, frame, head, s.get(), walk)?;
+            let judged = boxed_stmt(work, frame, head, s.get(), walk)?;
             Ok(Some(judged))
         }
     }

@@ -10,11 +10,11 @@ use crate::copies::copied_expr;
 use ckc_base::{Boxed, Fault, Seq};
 use ckc_extents::fresh_behind;
 use ckc_judged::judge;
-use ckc_points::{Frame, Point};
+use ckc_points::{Frame, Point, Work};
 use ckc_syntax::{Expr, Init, Name};
 use ckc_typed::Note;
 use ckc_views::to_side;
-use std::alloc::{AllocError, Global};
+use std::alloc::AllocError;
 
 /// Where a walk through a function stands: the locals in scope, in order, the point, and the number of the next fresh
 /// variable. A first walk is only counting these: it leaves expressions as they are, and passes over what is wrong.
@@ -37,7 +37,7 @@ impl Drop for Walk {
 }
 
 fn judge_expr(
-    alloc: Global,
+    work: &mut Work,
     frame: &Frame,
     e: &Expr<Name, Note>,
     walk: &Walk,
@@ -45,32 +45,32 @@ fn judge_expr(
     ensures { AnswersOutcome result (expr_judged frame.now e.now (here walk.now)) }
 {
     if walk.counting {
-        let copy = copied_expr(alloc, e)?;
+        let copy = copied_expr(work.alloc, e)?;
         Ok(copy)
     } else {
-        judge(alloc, frame, &walk.at, e, walk.next)
+        judge(work, frame, &walk.at, e, walk.next)
     }
 }
 
 /// Judges an expression, and notes the ranges in it.
 #[tactic(auto, unfolding(crate::specs::Paths::value_judged))]
 pub fn judge_value(
-    alloc: Global,
+    work: &mut Work,
     frame: &Frame,
     e: &Expr<Name, Note>,
     walk: &mut Walk,
 ) -> Result<Expr<Name, Note>, Fault>
     ensures { StepsOutcome result (here walk.new) (value_judged frame.now e.now (here walk.old)) }
 {
-    let judged = judge_expr(alloc, frame, e, walk)?;
-    walk.next = fresh_behind(alloc, frame, &walk.at, e, walk.next)?;
+    let judged = judge_expr(work, frame, e, walk)?;
+    walk.next = fresh_behind(work, frame, &walk.at, e, walk.next)?;
     Ok(judged)
 }
 
 /// Goes to a side of a condition.
 #[tactic(auto, unfolding(crate::specs::Paths::side_of))]
 pub fn take_side(
-    alloc: Global,
+    work: &mut Work,
     frame: &Frame,
     e: &Expr<Name, Note>,
     side: bool,
@@ -78,26 +78,26 @@ pub fn take_side(
 ) -> Result<(), AllocError>
     ensures { OnOk result (state at.new ≡ side_of frame.now side e.now (state at.old)) }
 {
-    to_side(alloc, frame, e, side, at)
+    to_side(work, frame, e, side, at)
 }
 
 /// Judges an expression, and puts it into a box of its own.
 pub fn boxed_value(
-    alloc: Global,
+    work: &mut Work,
     frame: &Frame,
     e: &Expr<Name, Note>,
     walk: &mut Walk,
 ) -> Result<Boxed<Expr<Name, Note>>, Fault>
     ensures { StepsOutcome result (here walk.new) (value_judged frame.now e.now (here walk.old)) }
 {
-    let judged = judge_value(alloc, frame, e, walk)?;
-    let boxed = Boxed::new(alloc, judged)?;
+    let judged = judge_value(work, frame, e, walk)?;
+    let boxed = Boxed::new(work.alloc, judged)?;
     Ok(boxed)
 }
 
 /// Judges an expression that may be left out.
 pub fn maybe_value(
-    alloc: Global,
+    work: &mut Work,
     frame: &Frame,
     e: &Option<Boxed<Expr<Name, Note>>>,
     walk: &mut Walk,
@@ -107,23 +107,23 @@ pub fn maybe_value(
     match e {
         None => Ok(None),
         Some(e) => {
-            let judged = boxed_value(alloc, frame, e.get(), walk)?;
+            let judged = boxed_value(work, frame, e.get(), walk)?;
             Ok(Some(judged))
         }
     }
 }
 
 fn judge_values(
-    alloc: Global,
+    work: &mut Work,
     frame: &Frame,
     es: &[Expr<Name, Note>],
     walk: &mut Walk,
 ) -> Result<Seq<Expr<Name, Note>>, Fault>
     ensures { StepsOutcome result (here walk.new) (values_judged frame.now es.now (here walk.old)) }
 {
-    let mut all = Seq::new(alloc);
+    let mut all = Seq::new(work.alloc);
     for e in es {
-        let judged = judge_value(alloc, frame, e, walk)?;
+        let judged = judge_value(work, frame, e, walk)?;
         all.push(judged)?;
     }
     Ok(all)
@@ -131,7 +131,7 @@ fn judge_values(
 
 /// Judges what a declared object or local begins as.
 pub fn judge_init(
-    alloc: Global,
+    work: &mut Work,
     frame: &Frame,
     init: &Init<Name, Note>,
     walk: &mut Walk,
@@ -141,11 +141,11 @@ pub fn judge_init(
     match init {
         Init::Nothing => Ok(Init::Nothing),
         Init::One(e) => {
-            let judged = boxed_value(alloc, frame, e.get(), walk)?;
+            let judged = boxed_value(work, frame, e.get(), walk)?;
             Ok(Init::One(judged))
         }
         Init::Many(es) => {
-            let judged = judge_values(alloc, frame, es.as_slice(), walk)?;
+            let judged = judge_values(work, frame, es.as_slice(), walk)?;
             Ok(Init::Many(judged))
         }
     }

@@ -12,7 +12,7 @@ use crate::targets::{local_of, member_of, memory_bounds};
 use crate::values::{NOT_CONTAINED, new_value, same_value};
 use ckc_base::{Pos, Refusal};
 use ckc_extents::is_null;
-use ckc_points::{Bounds, Frame, Point, in_bounds, local_at};
+use ckc_points::{Bounds, Frame, Point, Work, in_bounds, local_at};
 use ckc_ranges::{ASSIGNED_ALONE, may_be_assigned_alone, may_be_assigned_with};
 use ckc_views::Member;
 use std::alloc::{AllocError, Global};
@@ -86,7 +86,7 @@ fn refusal_unless(kept: bool, code: u16, pos: Pos) -> Option<Refusal>
 }
 
 fn target_fault(
-    alloc: Global,
+    work: &mut Work,
     frame: &Frame,
     ps: &[Placed<'_>],
     at: &Point,
@@ -96,13 +96,13 @@ fn target_fault(
     ensures { IfOk result (λ r. r
         ≡ target_fault frame.now (map placed ps.now) (state at.now) bounds.now (placed p.now)) }
 {
-    let v = new_value(alloc, frame, &p.target.note.ctype, p.right, p.from, at)?;
-    let kept = holds_by(alloc, frame, ps, &v, bounds)?;
+    let v = new_value(work, frame, &p.target.note.ctype, p.right, p.from, at)?;
+    let kept = holds_by(work, frame, ps, &v, bounds)?;
     Ok(refusal_unless(kept, NOT_CONTAINED, p.pos))
 }
 
 fn named_fault(
-    alloc: Global,
+    work: &mut Work,
     frame: &Frame,
     ps: &[Placed<'_>],
     at: &Point,
@@ -116,8 +116,8 @@ fn named_fault(
 {
     match named {
         Some(p) => {
-            let v = same_value(alloc, frame, k, at)?;
-            let kept = holds_by(alloc, frame, ps, &v, bounds)?;
+            let v = same_value(work.alloc, frame, k, at)?;
+            let kept = holds_by(work, frame, ps, &v, bounds)?;
             Ok(refusal_unless(kept, LOST_BOUNDS, p.pos))
         }
         None => Ok(None),
@@ -125,7 +125,7 @@ fn named_fault(
 }
 
 fn touched_fault(
-    alloc: Global,
+    work: &mut Work,
     frame: &Frame,
     ps: &[Placed<'_>],
     at: &Point,
@@ -137,13 +137,13 @@ fn touched_fault(
         (find (assigns_local k) (map placed ps.now))) }
 {
     match assignment_to(ps, k) {
-        Some(p) => target_fault(alloc, frame, ps, at, bounds, &p),
-        None => named_fault(alloc, frame, ps, at, k, bounds, first_touching(ps, bounds)),
+        Some(p) => target_fault(work, frame, ps, at, bounds, &p),
+        None => named_fault(work, frame, ps, at, k, bounds, first_touching(ps, bounds)),
     }
 }
 
 fn fault_by_bounds(
-    alloc: Global,
+    work: &mut Work,
     frame: &Frame,
     ps: &[Placed<'_>],
     at: &Point,
@@ -155,12 +155,12 @@ fn fault_by_bounds(
 {
     match bounds {
         Bounds::Unknown => Ok(None),
-        Bounds::Known(_, _) => touched_fault(alloc, frame, ps, at, k, bounds),
+        Bounds::Known(_, _) => touched_fault(work, frame, ps, at, k, bounds),
     }
 }
 
 fn local_fault(
-    alloc: Global,
+    work: &mut Work,
     frame: &Frame,
     ps: &[Placed<'_>],
     at: &Point,
@@ -169,13 +169,13 @@ fn local_fault(
     ensures { IfOk result (λ r. r ≡ local_fault frame.now (map placed ps.now) (state at.now) k) }
 {
     match local_at(frame, k) {
-        Some(local) => fault_by_bounds(alloc, frame, ps, at, k, &local.bounds),
+        Some(local) => fault_by_bounds(work, frame, ps, at, k, &local.bounds),
         None => Ok(None),
     }
 }
 
 fn memory_fault_by(
-    alloc: Global,
+    work: &mut Work,
     frame: &Frame,
     ps: &[Placed<'_>],
     at: &Point,
@@ -189,8 +189,8 @@ fn memory_fault_by(
     match bounds {
         Bounds::Unknown => Ok(None),
         Bounds::Known(_, _) => {
-            let v = new_value(alloc, frame, &p.target.note.ctype, p.right, p.from, at)?;
-            let kept = holds_in_memory(alloc, frame, ps, p, &v, bounds)?;
+            let v = new_value(work, frame, &p.target.note.ctype, p.right, p.from, at)?;
+            let kept = holds_in_memory(work, frame, ps, p, &v, bounds)?;
             Ok(refusal_unless(kept, NOT_CONTAINED, p.pos))
         }
     }
@@ -245,7 +245,7 @@ fn member_fault(
 }
 
 fn memory_fault(
-    alloc: Global,
+    work: &mut Work,
     frame: &Frame,
     ps: &[Placed<'_>],
     at: &Point,
@@ -255,15 +255,15 @@ fn memory_fault(
         ≡ memory_fault frame.now (map placed ps.now) (state at.now) (placed p.now)) }
 {
     let bounds = memory_bounds(frame, p.target);
-    let first = memory_fault_by(alloc, frame, ps, at, p, &bounds)?;
+    let first = memory_fault_by(work, frame, ps, at, p, &bounds)?;
     match first {
         Some(r) => Ok(Some(r)),
-        None => member_fault(alloc, frame, ps, p, member_of(frame, p.target)),
+        None => member_fault(work.alloc, frame, ps, p, member_of(frame, p.target)),
     }
 }
 
 fn store_fault(
-    alloc: Global,
+    work: &mut Work,
     frame: &Frame,
     bounds: &Bounds,
     ps: &[Placed<'_>],
@@ -275,7 +275,7 @@ fn store_fault(
 {
     match local_of(p.target) {
         Some(k) => Ok(refusal_unless(!in_bounds(k, bounds), LOST_BOUNDS, p.pos)),
-        None => memory_fault(alloc, frame, ps, at, p),
+        None => memory_fault(work, frame, ps, at, p),
     }
 }
 
@@ -303,7 +303,7 @@ fn earlier(first: Option<Refusal>, other: Option<Refusal>) -> Option<Refusal>
 }
 
 fn first_of_locals(
-    alloc: Global,
+    work: &mut Work,
     frame: &Frame,
     ps: &[Placed<'_>],
     at: &Point,
@@ -315,14 +315,14 @@ fn first_of_locals(
 {
     let mut first = None;
     for k in scope {
-        let next = local_fault(alloc, frame, ps, at, *k)?;
+        let next = local_fault(work, frame, ps, at, *k)?;
         first = earlier(first, next);
     }
     Ok(first)
 }
 
 fn first_of_stores(
-    alloc: Global,
+    work: &mut Work,
     frame: &Frame,
     bounds: &Bounds,
     ps: &[Placed<'_>],
@@ -336,7 +336,7 @@ fn first_of_stores(
 {
     let mut first = found;
     for p in ps {
-        let next = store_fault(alloc, frame, bounds, ps, at, p)?;
+        let next = store_fault(work, frame, bounds, ps, at, p)?;
         first = earlier(first, next);
     }
     Ok(first)
@@ -344,7 +344,7 @@ fn first_of_stores(
 
 /// The first error of assignments that are judged as one, of which the bounds of the function's result are `bounds`.
 pub fn first_fault(
-    alloc: Global,
+    work: &mut Work,
     frame: &Frame,
     bounds: &Bounds,
     scope: &[u32],
@@ -354,6 +354,6 @@ pub fn first_fault(
     ensures { IfOk result (λ r. r
         ≡ first_fault frame.now bounds.now scope.now (map placed ps.now) (state at.now)) }
 {
-    let first = first_of_locals(alloc, frame, ps, at, scope)?;
-    first_of_stores(alloc, frame, bounds, ps, at, first)
+    let first = first_of_locals(work, frame, ps, at, scope)?;
+    first_of_stores(work, frame, bounds, ps, at, first)
 }

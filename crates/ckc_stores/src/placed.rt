@@ -7,11 +7,11 @@ ghost use Rattle.ckc_stores.specs.Stores.{placed, numbered, stores_of};
 use crate::values::Numbered;
 use ckc_base::Pos;
 use ckc_extents::fresh_behind;
-use ckc_points::{Frame, Point};
+use ckc_points::{Frame, Point, Work};
 use ckc_syntax::{Act, Expr, Name, Stmt};
 use ckc_typed::Note;
 use ckc_views::values;
-use std::alloc::{AllocError, Global};
+use std::alloc::AllocError;
 
 /// An assignment with the place of its `=`, whose right side numbers its values and its fresh variables from the given
 /// ones on.
@@ -25,7 +25,7 @@ pub struct Placed<'a> {
 
 /// The assignments among statements, of which the first numbers its fresh variables from the given one on.
 pub fn numbered<'a>(
-    alloc: Global,
+    work: &mut Work,
     frame: &Frame,
     ss: &'a [Stmt<Name, Note>],
     first_fresh: u32,
@@ -34,14 +34,14 @@ pub fn numbered<'a>(
     ensures { IfOk result (λ ps. map placed ps.items
         ≡ numbered frame.now (state at.now) 0 first_fresh (stores_of ss.now)) }
 {
-    let mut ps = Vec::new(alloc);
+    let mut ps = Vec::new(work.alloc);
     let mut from = Numbered {
         value: 0,
         fresh: first_fresh,
     };
     for s in ss {
         if let Act::Assign(e, f) = &s.body {
-            from.fresh = fresh_behind(alloc, frame, at, e.get(), from.fresh)?;
+            from.fresh = fresh_behind(work, frame, at, e.get(), from.fresh)?;
             ps.push(Placed {
                 target: e.get(),
                 right: f.get(),
@@ -49,7 +49,7 @@ pub fn numbered<'a>(
                 from,
             })?;
             from.value = from.value.saturating_add(values(frame, f.get()));
-            from.fresh = fresh_behind(alloc, frame, at, f.get(), from.fresh)?;
+            from.fresh = fresh_behind(work, frame, at, f.get(), from.fresh)?;
         }
     }
     Ok(ps)

@@ -10,37 +10,37 @@ use crate::placed::Placed;
 use crate::targets::{local_of, member_of, member_variable};
 use crate::values::{Value, holds};
 use ckc_linear::{Base, Facts, Form};
-use ckc_points::{Bounds, Frame, in_type};
+use ckc_points::{Bounds, Frame, Work, in_type};
 use ckc_ranges::{BaseBy, VariableBy};
 use ckc_views::{form, place};
-use std::alloc::{AllocError, Global};
+use std::alloc::AllocError;
 
 /// The form of what a target gets, in its type.
 pub fn received(
-    alloc: Global,
+    work: &mut Work,
     frame: &Frame,
     facts: &Facts,
     p: &Placed<'_>,
 ) -> Result<Option<Form>, AllocError>
     ensures { IfOk result (λ f. f ≡ received frame.now (known facts.now) (placed p.now)) }
 {
-    let exact = form(alloc, frame, facts, p.right)?;
-    in_type(alloc, facts, &p.target.note.ctype, exact)
+    let exact = form(work, frame, facts, p.right)?;
+    in_type(work, facts, &p.target.note.ctype, exact)
 }
 
 fn place_of(
-    alloc: Global,
+    work: &mut Work,
     frame: &Frame,
     facts: &Facts,
     p: &Placed<'_>,
 ) -> Result<Option<Form>, AllocError>
     ensures { IfOk result (λ f. f ≡ place_of frame.now (known facts.now) (placed p.now)) }
 {
-    place(alloc, frame, facts, p.right, p.from.value)
+    place(work, frame, facts, p.right, p.from.value)
 }
 
 fn base_by(
-    alloc: Global,
+    work: &mut Work,
     frame: &Frame,
     facts: &Facts,
     p: &Placed<'_>,
@@ -49,7 +49,7 @@ fn base_by(
 {
     match local_of(p.target) {
         Some(k) => {
-            let by = place_of(alloc, frame, facts, p)?;
+            let by = place_of(work, frame, facts, p)?;
             Ok(Some(BaseBy {
                 base: Base::Local(k),
                 by,
@@ -60,7 +60,7 @@ fn base_by(
 }
 
 fn variable_by(
-    alloc: Global,
+    work: &mut Work,
     frame: &Frame,
     facts: &Facts,
     p: &Placed<'_>,
@@ -69,7 +69,7 @@ fn variable_by(
 {
     match local_of(p.target) {
         Some(k) => {
-            let by = received(alloc, frame, facts, p)?;
+            let by = received(work, frame, facts, p)?;
             Ok(Some(VariableBy {
                 var: k.saturating_add(1),
                 by,
@@ -80,16 +80,16 @@ fn variable_by(
 }
 
 fn bases(
-    alloc: Global,
+    work: &mut Work,
     frame: &Frame,
     facts: &Facts,
     ps: &[Placed<'_>],
 ) -> Result<Vec<BaseBy>, AllocError>
     ensures { IfOk result (λ bs. bs.items ≡ bases frame.now (known facts.now) (map placed ps.now)) }
 {
-    let mut all = Vec::new(alloc);
+    let mut all = Vec::new(work.alloc);
     for p in ps {
-        let by = base_by(alloc, frame, facts, p)?;
+        let by = base_by(work, frame, facts, p)?;
         if let Some(b) = by {
             all.push(b)?;
         }
@@ -98,7 +98,7 @@ fn bases(
 }
 
 fn variables(
-    alloc: Global,
+    work: &mut Work,
     frame: &Frame,
     facts: &Facts,
     ps: &[Placed<'_>],
@@ -106,9 +106,9 @@ fn variables(
     ensures { IfOk result (λ vs. vs.items
         ≡ variables frame.now (known facts.now) (map placed ps.now)) }
 {
-    let mut all = Vec::new(alloc);
+    let mut all = Vec::new(work.alloc);
     for p in ps {
-        let by = variable_by(alloc, frame, facts, p)?;
+        let by = variable_by(work, frame, facts, p)?;
         if let Some(v) = by {
             all.push(v)?;
         }
@@ -119,7 +119,7 @@ fn variables(
 /// Whether a local pointer's bounds contain its value, with the targets replaced.
 #[tactic(auto, unfolding(crate::specs::Stores::holds_by))]
 pub fn holds_by(
-    alloc: Global,
+    work: &mut Work,
     frame: &Frame,
     ps: &[Placed<'_>],
     v: &Value,
@@ -128,13 +128,13 @@ pub fn holds_by(
     ensures { IfOk result
         (λ b. b ≡ holds_by frame.now (map placed ps.now) (value v.now) bounds.now) }
 {
-    let bs = bases(alloc, frame, &v.facts, ps)?;
-    let vs = variables(alloc, frame, &v.facts, ps)?;
-    holds(alloc, v, bounds, bs.as_slice(), vs.as_slice())
+    let bs = bases(work, frame, &v.facts, ps)?;
+    let vs = variables(work, frame, &v.facts, ps)?;
+    holds(work, v, bounds, bs.as_slice(), vs.as_slice())
 }
 
 fn member_by(
-    alloc: Global,
+    work: &mut Work,
     frame: &Frame,
     facts: &Facts,
     p: &Placed<'_>,
@@ -143,7 +143,7 @@ fn member_by(
 {
     match member_of(frame, p.target) {
         Some(m) => {
-            let by = received(alloc, frame, facts, p)?;
+            let by = received(work, frame, facts, p)?;
             Ok(Some(VariableBy {
                 var: member_variable(m.number),
                 by,
@@ -154,7 +154,7 @@ fn member_by(
 }
 
 fn members_by(
-    alloc: Global,
+    work: &mut Work,
     frame: &Frame,
     facts: &Facts,
     ps: &[Placed<'_>],
@@ -162,9 +162,9 @@ fn members_by(
     ensures { IfOk result (λ vs. vs.items
         ≡ filter_map (member_by frame.now (known facts.now)) (map placed ps.now)) }
 {
-    let mut all = Vec::new(alloc);
+    let mut all = Vec::new(work.alloc);
     for p in ps {
-        let by = member_by(alloc, frame, facts, p)?;
+        let by = member_by(work, frame, facts, p)?;
         if let Some(v) = by {
             all.push(v)?;
         }
@@ -190,7 +190,7 @@ fn add_unassigned(bounds: &Bounds, all: &mut Vec<VariableBy>) -> Result<(), Allo
 }
 
 fn members(
-    alloc: Global,
+    work: &mut Work,
     frame: &Frame,
     facts: &Facts,
     ps: &[Placed<'_>],
@@ -199,7 +199,7 @@ fn members(
     ensures { IfOk result (λ vs. vs.items
         ≡ members frame.now (known facts.now) (map placed ps.now) bounds.now) }
 {
-    let mut all = members_by(alloc, frame, facts, ps)?;
+    let mut all = members_by(work, frame, facts, ps)?;
     add_unassigned(bounds, &mut all)?;
     Ok(all)
 }
@@ -207,7 +207,7 @@ fn members(
 /// Whether the bounds of a pointer in memory contain what it gets, with the members replaced that are assigned with it.
 #[tactic(auto, unfolding(crate::specs::Stores::holds_in_memory))]
 pub fn holds_in_memory(
-    alloc: Global,
+    work: &mut Work,
     frame: &Frame,
     ps: &[Placed<'_>],
     p: &Placed<'_>,
@@ -217,11 +217,11 @@ pub fn holds_in_memory(
     ensures { IfOk result (λ b. b
         ≡ holds_in_memory frame.now (map placed ps.now) (placed p.now) (value v.now) bounds.now) }
 {
-    let by = place_of(alloc, frame, &v.facts, p)?;
-    let vs = members(alloc, frame, &v.facts, ps, bounds)?;
+    let by = place_of(work, frame, &v.facts, p)?;
+    let vs = members(work, frame, &v.facts, ps, bounds)?;
     let own = [BaseBy {
         base: Base::Value(0),
         by,
     }];
-    holds(alloc, v, bounds, &own, vs.as_slice())
+    holds(work, v, bounds, &own, vs.as_slice())
 }

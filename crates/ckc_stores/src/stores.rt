@@ -13,7 +13,7 @@ use crate::targets::local_of;
 use crate::values::{Numbered, holds, new_value};
 use ckc_base::Fault;
 use ckc_linear::{Base, Facts, Form};
-use ckc_points::{Bounds, Frame, HeadBounds, Point, assign, copied_facts, local_at};
+use ckc_points::{Bounds, Frame, HeadBounds, Point, Work, assign, copied_facts, local_at};
 use ckc_ranges::BaseBy;
 use ckc_syntax::{Expr, Name, Stmt};
 use ckc_typed::Note;
@@ -37,7 +37,7 @@ fn assign_local(
 }
 
 fn assign_one(
-    alloc: Global,
+    work: &mut Work,
     frame: &Frame,
     before: &Facts,
     p: &Placed<'_>,
@@ -47,12 +47,12 @@ fn assign_one(
         ≡ assigned_local frame.now (received frame.now (known before.now) (placed p.now))
         (state at.old) (local_of (placed p.now).target)) }
 {
-    let form = received(alloc, frame, before, p)?;
-    assign_local(alloc, frame, form, local_of(p.target), at)
+    let form = received(work, frame, before, p)?;
+    assign_local(work.alloc, frame, form, local_of(p.target), at)
 }
 
 fn assign_all(
-    alloc: Global,
+    work: &mut Work,
     frame: &Frame,
     before: &Facts,
     ps: &[Placed<'_>],
@@ -62,31 +62,36 @@ fn assign_all(
         ≡ after frame.now (known before.now) (map placed ps.now) (state at.old)) }
 {
     for p in ps {
-        assign_one(alloc, frame, before, p, at)?;
+        assign_one(work, frame, before, p, at)?;
     }
     Ok(())
 }
 
-fn go_on(alloc: Global, frame: &Frame, ps: &[Placed<'_>], at: &mut Point) -> Result<(), AllocError>
+fn go_on(
+    work: &mut Work,
+    frame: &Frame,
+    ps: &[Placed<'_>],
+    at: &mut Point,
+) -> Result<(), AllocError>
     ensures { OnOk result (state at.new
         ≡ after frame.now (state at.old).facts (map placed ps.now) (state at.old)) }
 {
     match ps {
         // Of one assignment the form is known before the point changes.
         [p] => {
-            let form = received(alloc, frame, &at.facts, p)?;
-            assign_local(alloc, frame, form, local_of(p.target), at)
+            let form = received(work, frame, &at.facts, p)?;
+            assign_local(work.alloc, frame, form, local_of(p.target), at)
         }
         _ => {
-            let before = copied_facts(alloc, &at.facts)?;
-            assign_all(alloc, frame, &before, ps, at)
+            let before = copied_facts(work.alloc, &at.facts)?;
+            assign_all(work, frame, &before, ps, at)
         }
     }
 }
 
 #[tactic(auto, unfolding(crate::specs::Stores::stored_placed))]
 fn stored_placed(
-    alloc: Global,
+    work: &mut Work,
     frame: &Frame,
     bounds: &Bounds,
     scope: &[u32],
@@ -96,11 +101,11 @@ fn stored_placed(
     ensures { Threads result (state at.new)
         (stored_placed frame.now bounds.now scope.now (map placed ps.now) (state at.old)) }
 {
-    let first = first_fault(alloc, frame, bounds, scope, ps, at)?;
+    let first = first_fault(work, frame, bounds, scope, ps, at)?;
     match first {
         Some(r) => Err(Fault::Refused(r)),
         None => {
-            go_on(alloc, frame, ps, at)?;
+            go_on(work, frame, ps, at)?;
             Ok(())
         }
     }
@@ -110,7 +115,7 @@ fn stored_placed(
 /// result, `scope` are the locals that are in scope, and the first expression numbers its fresh variables from
 /// `first_fresh` on.
 pub fn stored(
-    alloc: Global,
+    work: &mut Work,
     frame: &Frame,
     bounds: &Bounds,
     scope: &[u32],
@@ -121,13 +126,13 @@ pub fn stored(
     ensures { Threads result (state at.new)
         (stored frame.now bounds.now scope.now (stores_of ss.now) first_fresh (state at.old)) }
 {
-    let ps = numbered(alloc, frame, ss, first_fresh, at)?;
-    stored_placed(alloc, frame, bounds, scope, ps.as_slice(), at)
+    let ps = numbered(work, frame, ss, first_fresh, at)?;
+    stored_placed(work, frame, bounds, scope, ps.as_slice(), at)
 }
 
 /// Goes on to the point after an assignment, or after those of a bundle, whatever they owe.
 pub fn pass(
-    alloc: Global,
+    work: &mut Work,
     frame: &Frame,
     ss: &[Stmt<Name, Note>],
     first_fresh: u32,
@@ -136,13 +141,13 @@ pub fn pass(
     ensures { OnOk result
         (state at.new ≡ passed frame.now (stores_of ss.now) first_fresh (state at.old)) }
 {
-    let ps = numbered(alloc, frame, ss, first_fresh, at)?;
-    go_on(alloc, frame, ps.as_slice(), at)
+    let ps = numbered(work, frame, ss, first_fresh, at)?;
+    go_on(work, frame, ps.as_slice(), at)
 }
 
 #[tactic(auto, unfolding(crate::specs::Stores::holds_from))]
 fn holds_known(
-    alloc: Global,
+    work: &mut Work,
     frame: &Frame,
     t: &CType,
     base: Base,
@@ -154,15 +159,15 @@ fn holds_known(
     ensures { IfOk result (λ b. b
         ≡ holds_from frame.now t.now base e.now from (state at.now) bounds.now) }
 {
-    let v = new_value(alloc, frame, t, e, from, at)?;
-    let by = place(alloc, frame, &v.facts, e, from.value)?;
+    let v = new_value(work, frame, t, e, from, at)?;
+    let by = place(work, frame, &v.facts, e, from.value)?;
     let own = [BaseBy { base, by }];
-    holds(alloc, &v, bounds, &own, &[])
+    holds(work, &v, bounds, &own, &[])
 }
 
 #[tactic(auto, unfolding(crate::specs::Stores::holds_from, crate::specs::Values::holds))]
 fn holds_from(
-    alloc: Global,
+    work: &mut Work,
     frame: &Frame,
     t: &CType,
     base: Base,
@@ -177,13 +182,13 @@ fn holds_from(
     match bounds {
         // Unknown bounds contain nothing, whatever the new value is.
         Bounds::Unknown => Ok(true),
-        Bounds::Known(_, _) => holds_known(alloc, frame, t, base, e, from, at, bounds),
+        Bounds::Known(_, _) => holds_known(work, frame, t, base, e, from, at, bounds),
     }
 }
 
 /// Whether the initialiser of the local k is contained in its bounds (else E602 at its name).
 pub fn initialised(
-    alloc: Global,
+    work: &mut Work,
     frame: &Frame,
     k: u32,
     e: &Expr<Name, Note>,
@@ -199,7 +204,7 @@ pub fn initialised(
     match local_at(frame, k) {
         Some(local) => {
             let own = Base::Local(k);
-            holds_from(alloc, frame, &local.ctype, own, e, from, at, &local.bounds)
+            holds_from(work, frame, &local.ctype, own, e, from, at, &local.bounds)
         }
         None => Ok(true),
     }
@@ -207,7 +212,7 @@ pub fn initialised(
 
 /// Whether a returned value is contained in the bounds of the function's result (else E602 at `return`).
 pub fn returned(
-    alloc: Global,
+    work: &mut Work,
     frame: &Frame,
     head: &HeadBounds,
     e: &Expr<Name, Note>,
@@ -221,7 +226,7 @@ pub fn returned(
         fresh: first_fresh,
     };
     holds_from(
-        alloc,
+        work,
         frame,
         &head.result,
         Base::Value(0),

@@ -11,7 +11,7 @@ ghost use Rattle.ckc_stores.specs.Values.{value, narrow, one_less, received_rang
 use ckc_base::Seq;
 use ckc_extents::{add_fresh_ranges, allocates, is_null, range};
 use ckc_linear::Facts;
-use ckc_points::{Bounds, Frame, Point, copied_facts, moved_form};
+use ckc_points::{Bounds, Frame, Point, Work, copied_facts, moved_form};
 use ckc_ranges::{BaseBy, Ends, VariableBy, extend, is_contained, range_of_local, replaced_bounds};
 use ckc_syntax::{Expr, Name};
 use ckc_typed::types::kind_of;
@@ -111,7 +111,7 @@ fn extend_by(
 }
 
 fn range_received(
-    alloc: Global,
+    work: &mut Work,
     frame: &Frame,
     t: &CType,
     e: &Expr<Name, Note>,
@@ -120,12 +120,12 @@ fn range_received(
 ) -> Result<Range, AllocError>
     ensures { IfOk result (λ r. r ≡ range_received frame.now t.now e.now from (state at.now)) }
 {
-    let found = range(alloc, frame, at, e, from.value, from.fresh)?;
+    let found = range(work, frame, at, e, from.value, from.fresh)?;
     Ok(received_range(t, allocates(frame, e), found))
 }
 
 fn range_without_widening(
-    alloc: Global,
+    work: &mut Work,
     frame: &Frame,
     t: &CType,
     e: &Expr<Name, Note>,
@@ -135,14 +135,14 @@ fn range_without_widening(
     ensures { IfOk result (λ r. r
         ≡ range_received frame.now t.now e.now from (narrow (state at.now))) }
 {
-    let bare = narrow(alloc, at)?;
-    range_received(alloc, frame, t, e, from, &bare)
+    let bare = narrow(work.alloc, at)?;
+    range_received(work, frame, t, e, from, &bare)
 }
 
 /// What goes to a place of a type.
 #[tactic(auto, unfolding(crate::specs::Values::new_value))]
 pub fn new_value(
-    alloc: Global,
+    work: &mut Work,
     frame: &Frame,
     t: &CType,
     e: &Expr<Name, Note>,
@@ -151,10 +151,10 @@ pub fn new_value(
 ) -> Result<Value, AllocError>
     ensures { IfOk result (λ v. value v ≡ new_value frame.now t.now e.now from (state at.now)) }
 {
-    let range = range_received(alloc, frame, t, e, from, at)?;
-    let narrow = range_without_widening(alloc, frame, t, e, from, at)?;
-    let mut facts = copied_facts(alloc, &at.facts)?;
-    add_fresh_ranges(alloc, frame, at, e, from.fresh, &mut facts)?;
+    let range = range_received(work, frame, t, e, from, at)?;
+    let narrow = range_without_widening(work, frame, t, e, from, at)?;
+    let mut facts = copied_facts(work.alloc, &at.facts)?;
+    add_fresh_ranges(work, frame, at, e, from.fresh, &mut facts)?;
     let allocated = has_element(t, allocates(frame, e));
     extend_by(range, narrow, allocated, &mut facts)?;
     Ok(Value {
@@ -183,7 +183,7 @@ pub fn same_value(alloc: Global, frame: &Frame, k: u32, at: &Point) -> Result<Va
 /// Whether bounds contain a value once what they name is replaced.
 #[tactic(auto, unfolding(crate::specs::Values::holds))]
 pub fn holds(
-    alloc: Global,
+    work: &mut Work,
     v: &Value,
     bounds: &Bounds,
     bases: &[BaseBy],
@@ -192,5 +192,5 @@ pub fn holds(
     ensures { IfOk result (λ b. b ≡ holds (value v.now) bounds.now bases.now variables.now) }
 {
     let limits = replaced_bounds(bases, variables, bounds);
-    is_contained(alloc, &v.facts, bounds, v.null, v.range, limits)
+    is_contained(work, &v.facts, bounds, v.null, v.range, limits)
 }

@@ -10,12 +10,12 @@ use crate::forms::form;
 use crate::places::{place, values};
 use ckc_base::Seq;
 use ckc_linear::{Base, Facts, Form};
-use ckc_points::{Frame, Local, base_form, in_type};
+use ckc_points::{Frame, Local, Work, base_form, in_type};
 use ckc_ranges::{BaseBy, VariableBy};
 use ckc_syntax::{Expr, Name};
 use ckc_typed::Note;
 use ckc_typed::types::is_pointer;
-use std::alloc::{AllocError, Global};
+use std::alloc::AllocError;
 
 /// Adds an element, where there is one.
 pub fn add_some<T: Drop>(all: &mut Seq<T>, item: Option<T>) -> Result<(), AllocError>
@@ -48,7 +48,7 @@ fn base_by(params: &[Local], n: u32, by: Option<Form>) -> Option<BaseBy>
 /// The places of the arguments that pointers receive, by the number of the first value in the arguments.
 #[tactic(auto, using(crate::proofs::Joined::last_first))]
 pub fn bases_by(
-    alloc: Global,
+    work: &mut Work,
     frame: &Frame,
     facts: &Facts,
     params: &[Local],
@@ -58,11 +58,11 @@ pub fn bases_by(
     ensures { IfOk result (λ bs.
         bs ≡ bases_by params.now 0 first (known facts.now) (map (view frame.now) es.now)) }
 {
-    let mut all = Seq::new(alloc);
+    let mut all = Seq::new(work.alloc);
     let mut n = 0u32;
     let mut at = first;
     for e in es {
-        let by = place(alloc, frame, facts, e, at)?;
+        let by = place(work, frame, facts, e, at)?;
         add_some(&mut all, base_by(params, n, by))?;
         n = n.saturating_add(1);
         at = at.saturating_add(values(frame, e));
@@ -71,7 +71,7 @@ pub fn bases_by(
 }
 
 fn variable_by(
-    alloc: Global,
+    work: &mut Work,
     facts: &Facts,
     params: &[Local],
     n: u32,
@@ -85,7 +85,7 @@ fn variable_by(
             if is_pointer(&p.ctype) {
                 return Ok(None);
             }
-            let by = in_type(alloc, facts, &p.ctype, value)?;
+            let by = in_type(work, facts, &p.ctype, value)?;
             Ok(Some(VariableBy {
                 var: n.saturating_add(1),
                 by,
@@ -98,7 +98,7 @@ fn variable_by(
 /// The forms of the arguments that integers receive.
 #[tactic(auto, using(crate::proofs::Joined::last_first))]
 pub fn variables_by(
-    alloc: Global,
+    work: &mut Work,
     frame: &Frame,
     facts: &Facts,
     params: &[Local],
@@ -107,11 +107,11 @@ pub fn variables_by(
     ensures { IfOk result (λ vs.
         vs ≡ variables_by params.now 0 (known facts.now) (map (view frame.now) es.now)) }
 {
-    let mut all = Seq::new(alloc);
+    let mut all = Seq::new(work.alloc);
     let mut n = 0u32;
     for e in es {
-        let value = form(alloc, frame, facts, e)?;
-        let by = variable_by(alloc, facts, params, n, value)?;
+        let value = form(work, frame, facts, e)?;
+        let by = variable_by(work, facts, params, n, value)?;
         add_some(&mut all, by)?;
         n = n.saturating_add(1);
     }

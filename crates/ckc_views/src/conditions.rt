@@ -13,8 +13,8 @@ use crate::places::target_of_node;
 use ckc_base::Seq;
 use ckc_linear::{Base, Facts, Form};
 use ckc_points::{
-    Bounds, Frame, Local, Point, add_less, add_most, constant_form, copied, local_at, same_form,
-    variable,
+    Bounds, Frame, Local, Point, Work, add_less, add_most, constant_form, copied, local_at,
+    same_form, variable,
 };
 use ckc_syntax::{Expr, Name, Node, TreeOp};
 use ckc_typed::Note;
@@ -97,7 +97,7 @@ pub fn behind(frame: &Frame, node: &Node<Name, Note>) -> Option<Kind>
 
 /// Goes to a side of a condition that reads through a pointer.
 fn read_side(
-    alloc: Global,
+    work: &mut Work,
     frame: &Frame,
     node: &Node<Name, Note>,
     side: bool,
@@ -107,7 +107,7 @@ fn read_side(
         OnOk result (state at.new ≡ widening_side frame.now v.behind (v.target 0) side (state at.old)) }
 {
     if side {
-        let place = target_of_node(alloc, frame, &at.facts, node, 0)?;
+        let place = target_of_node(work, frame, &at.facts, node, 0)?;
         widen(frame, behind(frame, node), place, at)
     } else {
         Ok(())
@@ -218,7 +218,7 @@ fn is_zero(frame: &Frame, node: &Node<Name, Note>) -> bool
 
 /// Goes to a side of a comparison that gives no facts: `e != 0` widens as e does.
 fn nonzero_side(
-    alloc: Global,
+    work: &mut Work,
     frame: &Frame,
     op: TreeOp,
     e: &Expr<Name, Note>,
@@ -232,7 +232,7 @@ fn nonzero_side(
     match op {
         TreeOp::Ne => {
             if is_zero(frame, &f.node) {
-                return read_side(alloc, frame, &e.node, side, at);
+                return read_side(work, frame, &e.node, side, at);
             }
             Ok(())
         }
@@ -242,7 +242,7 @@ fn nonzero_side(
 
 /// Goes to a side of an operation other than `&&` and `||`.
 fn comparison_side(
-    alloc: Global,
+    work: &mut Work,
     frame: &Frame,
     op: TreeOp,
     e: &Expr<Name, Note>,
@@ -257,8 +257,8 @@ fn comparison_side(
         return Ok(());
     }
     let unsigned = is_unsigned(&e.note.ctype) || is_unsigned(&f.note.ctype);
-    let x = operand(alloc, frame, unsigned, e)?;
-    let y = operand(alloc, frame, unsigned, f)?;
+    let x = operand(work.alloc, frame, unsigned, e)?;
+    let y = operand(work.alloc, frame, unsigned, f)?;
     match (x, y) {
         (Some(x), Some(y)) => {
             if at.reached {
@@ -266,7 +266,7 @@ fn comparison_side(
             }
             Ok(())
         }
-        _ => nonzero_side(alloc, frame, op, e, f, side, at),
+        _ => nonzero_side(work, frame, op, e, f, side, at),
     }
 }
 
@@ -280,7 +280,7 @@ pub fn narrow(alloc: Global, wide: &[u32], at: &mut Point) -> Result<(), AllocEr
 
 /// The point at which the right operand of an operator is judged: behind `&&` and `||` a side of the left one.
 pub fn right_point(
-    alloc: Global,
+    work: &mut Work,
     frame: &Frame,
     op: TreeOp,
     e: &Expr<Name, Note>,
@@ -288,15 +288,15 @@ pub fn right_point(
 ) -> Result<Point, AllocError>
     ensures { IfOk result (λ p. state p ≡ right_point op (view frame.now e.now) (state at.now)) }
 {
-    let mut right = copied(alloc, at)?;
+    let mut right = copied(work.alloc, at)?;
     match op {
         TreeOp::AndThen => {
-            to_side(alloc, frame, e, true, &mut right)?;
+            to_side(work, frame, e, true, &mut right)?;
             Ok(right)
         }
         TreeOp::OrElse => {
-            to_side(alloc, frame, e, false, &mut right)?;
-            narrow(alloc, at.widened.as_slice(), &mut right)?;
+            to_side(work, frame, e, false, &mut right)?;
+            narrow(work.alloc, at.widened.as_slice(), &mut right)?;
             Ok(right)
         }
         _ => Ok(right),
@@ -305,7 +305,7 @@ pub fn right_point(
 
 #[cycle(side)]
 fn side_of_node(
-    alloc: Global,
+    work: &mut Work,
     frame: &Frame,
     node: &Node<Name, Note>,
     side: bool,
@@ -315,33 +315,33 @@ fn side_of_node(
         (state at.new ≡ (view_of_node frame.now node.now).side side (state at.old)) }
 {
     match node {
-        Node::Un(TreeOp::Not, e) => to_side(alloc, frame, e.get(), !side, at),
+        Node::Un(TreeOp::Not, e) => to_side(work, frame, e.get(), !side, at),
         Node::Bin(TreeOp::AndThen, e, f) => {
             if !side {
                 return Ok(());
             }
-            to_side(alloc, frame, e.get(), true, at)?;
-            to_side(alloc, frame, f.get(), true, at)
+            to_side(work, frame, e.get(), true, at)?;
+            to_side(work, frame, f.get(), true, at)
         }
         Node::Bin(TreeOp::OrElse, e, f) => {
             if side {
                 return Ok(());
             }
-            let wide = Seq::from_slice(alloc, at.widened.as_slice())?;
-            to_side(alloc, frame, e.get(), false, at)?;
-            narrow(alloc, wide.as_slice(), at)?;
-            to_side(alloc, frame, f.get(), false, at)?;
-            narrow(alloc, wide.as_slice(), at)
+            let wide = Seq::from_slice(work.alloc, at.widened.as_slice())?;
+            to_side(work, frame, e.get(), false, at)?;
+            narrow(work.alloc, wide.as_slice(), at)?;
+            to_side(work, frame, f.get(), false, at)?;
+            narrow(work.alloc, wide.as_slice(), at)
         }
-        Node::Bin(op, e, f) => comparison_side(alloc, frame, *op, e.get(), f.get(), side, at),
-        _ => read_side(alloc, frame, node, side, at),
+        Node::Bin(op, e, f) => comparison_side(work, frame, *op, e.get(), f.get(), side, at),
+        _ => read_side(work, frame, node, side, at),
     }
 }
 
 /// Goes to the true or to the false side of a condition.
 #[cycle(side)]
 pub fn to_side(
-    alloc: Global,
+    work: &mut Work,
     frame: &Frame,
     e: &Expr<Name, Note>,
     side: bool,
@@ -349,5 +349,5 @@ pub fn to_side(
 ) -> Result<(), AllocError>
     ensures { OnOk result (state at.new ≡ (view frame.now e.now).side side (state at.old)) }
 {
-    side_of_node(alloc, frame, &e.node, side, at)
+    side_of_node(work, frame, &e.node, side, at)
 }

@@ -8,7 +8,7 @@ ghost use Rattle.ckc_views.specs.Views.{view, view_of_node};
 
 use ckc_base::{BinOp, apply};
 use ckc_linear::{Facts, Form};
-use ckc_points::{Frame, constant_form, in_type, moved_form, negative_value, variable};
+use ckc_points::{Frame, Work, constant_form, in_type, moved_form, negative_value, variable};
 use ckc_syntax::{Expr, Name, Node, TreeOp};
 use ckc_typed::constants::{size_of, value_of};
 use ckc_typed::types::{is_integer, type_written};
@@ -134,7 +134,7 @@ fn step_of(
 
 #[cycle(form)]
 fn linear(
-    alloc: Global,
+    work: &mut Work,
     frame: &Frame,
     facts: &Facts,
     node: &Node<Name, Note>,
@@ -146,22 +146,22 @@ fn linear(
     match node {
         Node::Name(n) => Ok(variable(frame, *n)),
         Node::Bin(op, e, f) => {
-            let step = step_of(alloc, frame, *op, e.get(), f.get())?;
+            let step = step_of(work.alloc, frame, *op, e.get(), f.get())?;
             match step {
                 Some(Step { left: true, by }) => {
-                    let x = form(alloc, frame, facts, e.get())?;
-                    in_type(alloc, facts, t, moved_form(x, by))
+                    let x = form(work, frame, facts, e.get())?;
+                    in_type(work, facts, t, moved_form(x, by))
                 }
                 Some(Step { left: false, by }) => {
-                    let x = form(alloc, frame, facts, f.get())?;
-                    in_type(alloc, facts, t, moved_form(x, by))
+                    let x = form(work, frame, facts, f.get())?;
+                    in_type(work, facts, t, moved_form(x, by))
                 }
                 None => Ok(None),
             }
         }
         Node::Cast(_, e) => {
-            let x = form(alloc, frame, facts, e.get())?;
-            in_type(alloc, facts, t, x)
+            let x = form(work, frame, facts, e.get())?;
+            in_type(work, facts, t, x)
         }
         Node::Number(_, _) | Node::Text(_) | Node::Null | Node::Size(_) | Node::Un(_, _) => Ok(
             None,
@@ -178,7 +178,7 @@ fn linear(
 /// and a conversion have the form of their parts where the exact result is shown to lie in the type.
 #[cycle(form)]
 pub fn form(
-    alloc: Global,
+    work: &mut Work,
     frame: &Frame,
     facts: &Facts,
     e: &Expr<Name, Note>,
@@ -188,9 +188,9 @@ pub fn form(
     if !is_integer(&e.note.ctype) {
         return Ok(None);
     }
-    let c = number(alloc, frame, e)?;
+    let c = number(work.alloc, frame, e)?;
     match c {
         Some(c) => Ok(Some(constant_form(value_of(c)))),
-        None => linear(alloc, frame, facts, &e.node, &e.note.ctype),
+        None => linear(work, frame, facts, &e.node, &e.note.ctype),
     }
 }

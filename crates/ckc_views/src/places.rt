@@ -11,12 +11,12 @@ ghost use Rattle.ckc_views.specs.Views.{view, view_of_limits, view_of_node};
 use crate::forms::form;
 use ckc_base::Boxed;
 use ckc_linear::{Base, Facts, Form};
-use ckc_points::{Frame, base_form, difference_of_forms, same_element, sum_of_forms};
+use ckc_points::{Frame, Work, base_form, difference_of_forms, same_element, sum_of_forms};
 use ckc_syntax::{Expr, Limits, Name, Node, TreeOp};
 use ckc_typed::Note;
 use ckc_typed::types::{is_pointer, kind_of};
 use ckc_types::{CType, Kind};
-use std::alloc::{AllocError, Global};
+use std::alloc::AllocError;
 
 fn is_array(frame: &Frame, k: u32) -> bool
     ensures { result ≡ is_array (slice_get frame.now.statics k) }
@@ -144,7 +144,7 @@ pub fn is_raw(t: &CType) -> bool
 
 #[cycle(place)]
 fn place_of_node(
-    alloc: Global,
+    work: &mut Work,
     frame: &Frame,
     facts: &Facts,
     node: &Node<Name, Note>,
@@ -156,7 +156,7 @@ fn place_of_node(
 {
     match node {
         Node::Name(n) => Ok(named_place(frame, *n)),
-        Node::Un(TreeOp::Address, e) => target(alloc, frame, facts, e.get(), first),
+        Node::Un(TreeOp::Address, e) => target(work, frame, facts, e.get(), first),
         Node::Bin(op, e, f) => {
             if is_raw(t) {
                 return Ok(None);
@@ -164,19 +164,19 @@ fn place_of_node(
             match op {
                 TreeOp::Add => {
                     if is_pointer(&e.get().note.ctype) {
-                        let p = place(alloc, frame, facts, e.get(), first)?;
-                        let k = form(alloc, frame, facts, f.get())?;
+                        let p = place(work, frame, facts, e.get(), first)?;
+                        let k = form(work, frame, facts, f.get())?;
                         Ok(sum_of_forms(p, k))
                     } else {
-                        let k = form(alloc, frame, facts, e.get())?;
+                        let k = form(work, frame, facts, e.get())?;
                         let behind = first.saturating_add(values(frame, e.get()));
-                        let p = place(alloc, frame, facts, f.get(), behind)?;
+                        let p = place(work, frame, facts, f.get(), behind)?;
                         Ok(sum_of_forms(p, k))
                     }
                 }
                 TreeOp::Sub => {
-                    let p = place(alloc, frame, facts, e.get(), first)?;
-                    let k = form(alloc, frame, facts, f.get())?;
+                    let p = place(work, frame, facts, e.get(), first)?;
+                    let k = form(work, frame, facts, f.get())?;
                     Ok(difference_of_forms(p, k))
                 }
                 _ => Ok(None),
@@ -184,7 +184,7 @@ fn place_of_node(
         }
         Node::Cast(_, e) => {
             if same_element(t, &e.get().note.ctype) {
-                place(alloc, frame, facts, e.get(), first)
+                place(work, frame, facts, e.get(), first)
             } else {
                 Ok(None)
             }
@@ -214,7 +214,7 @@ fn own_place(frame: &Frame, node: &Node<Name, Note>, first: u32) -> Option<Form>
 /// by its parts stands for itself.
 #[cycle(place)]
 pub fn place(
-    alloc: Global,
+    work: &mut Work,
     frame: &Frame,
     facts: &Facts,
     e: &Expr<Name, Note>,
@@ -225,7 +225,7 @@ pub fn place(
     if !is_pointer(&e.note.ctype) {
         return Ok(None);
     }
-    let named = place_of_node(alloc, frame, facts, &e.node, &e.note.ctype, first)?;
+    let named = place_of_node(work, frame, facts, &e.node, &e.note.ctype, first)?;
     match named {
         Some(f) => Ok(Some(f)),
         None => Ok(own_place(frame, &e.node, first)),
@@ -235,7 +235,7 @@ pub fn place(
 /// The place of what a node reads, by the number of the first value in it.
 #[cycle(place)]
 pub fn target_of_node(
-    alloc: Global,
+    work: &mut Work,
     frame: &Frame,
     facts: &Facts,
     node: &Node<Name, Note>,
@@ -245,13 +245,13 @@ pub fn target_of_node(
         (λ f. f ≡ (view_of_node frame.now node.now).target first (known facts.now)) }
 {
     match node {
-        Node::Un(TreeOp::Deref, e) => place(alloc, frame, facts, e.get(), first),
+        Node::Un(TreeOp::Deref, e) => place(work, frame, facts, e.get(), first),
         Node::Index(e, f) => {
             if is_raw(&e.get().note.ctype) {
                 return Ok(None);
             }
-            let p = place(alloc, frame, facts, e.get(), first)?;
-            let k = form(alloc, frame, facts, f.get())?;
+            let p = place(work, frame, facts, e.get(), first)?;
+            let k = form(work, frame, facts, f.get())?;
             Ok(sum_of_forms(p, k))
         }
         Node::Number(_, _) | Node::Text(_) | Node::Null | Node::Size(_) | Node::Un(_, _) => Ok(
@@ -266,7 +266,7 @@ pub fn target_of_node(
 /// The place of what `*p` and `p[e]` read, by the number of the first value in them.
 #[cycle(place)]
 pub fn target(
-    alloc: Global,
+    work: &mut Work,
     frame: &Frame,
     facts: &Facts,
     e: &Expr<Name, Note>,
@@ -274,5 +274,5 @@ pub fn target(
 ) -> Result<Option<Form>, AllocError>
     ensures { IfOk result (λ f. f ≡ (view frame.now e.now).target first (known facts.now)) }
 {
-    target_of_node(alloc, frame, facts, &e.node, first)
+    target_of_node(work, frame, facts, &e.node, first)
 }
