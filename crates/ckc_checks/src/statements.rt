@@ -52,7 +52,8 @@ fn guard(
     u: u32,
     code: &mut Seq<CoreStmt>,
 ) -> Result<(), AllocError>
-    ensures { OnOk result (behind code.new ≡ guarded through at width is_byte t u (behind code.old)) }
+    ensures { OnOk result
+        (behind code.new ≡ guarded through at width is_byte t u (behind code.old)) }
 {
     match through {
         Through::Named | Through::Raw | Through::One | Through::Array => Ok(()),

@@ -94,7 +94,8 @@ fn has_count(
     e: &Expr<Name, Note>,
 ) -> Result<bool, AllocError>
     ensures { let facts = known facts.now in
-        IfOk result (λ b. b ≡ is_some (in_type facts ctype.Int ((view frame.now e.now).form facts))) }
+        IfOk result (λ b. b ≡ is_some
+        (in_type facts ctype.Int ((view frame.now e.now).form facts))) }
 {
     let k = count_allocated(work, frame, facts, e)?;
     Ok(k.is_some())

@@ -186,7 +186,8 @@ fn range_of_call(
     first: u32,
 ) -> Result<Range, AllocError>
     ensures { IfOk result (λ r.
-        r ≡ range_of_call frame.now name (map (view frame.now) es.now) own first (known facts.now)) }
+        r ≡ range_of_call frame.now name (map (view frame.now) es.now) own first
+        (known facts.now)) }
 {
     match name {
         Name::Function(k) => match frame.heads.get(k as usize) {
@@ -287,7 +288,8 @@ fn range_of_node(
     first_fresh: u32,
 ) -> Result<Range, AllocError>
     ensures { IfOk result (λ r.
-        r ≡ (view_of_node frame.now node.now).range t.now own first_value first_fresh (state at.now)) }
+        r ≡ (view_of_node frame.now node.now).range t.now own first_value first_fresh
+        (state at.now)) }
 {
     match node {
         Node::Name(n) => Ok(range_of_name(frame, *n, t, own.value, at.widened.as_slice())),

@@ -61,7 +61,8 @@ pub fn names_are_visible()
 
 /// Each function has one body, with the head of its prototypes.
 pub fn functions_have_bodies()
-    ensures bodies { (t : Tree) (n : NamedText) → naming.Makes t n → FunctionsHaveBodies n.tree.items }
+    ensures bodies { (t : Tree) (n : NamedText) → naming.Makes t n
+        → FunctionsHaveBodies n.tree.items }
 {}
 
 /// The function `main` has a body and the head `int main(void)` (ISO C11, 5.1.2.2.1).

@@ -146,7 +146,8 @@ impl<'a> Reader<'a> {
     /// Takes the next token.
     fn next(&mut self) -> Option<Token<'a>>
         ensures taken { MatchOption result (ahead self.old ≡ [])
-            (λ x. ahead self.old ≡ record { kind = kind_of (ahead self.old); token = spelled x } ∷ ahead self.new) }
+            (λ x. ahead self.old ≡ record { kind = kind_of (ahead self.old); token = spelled x } ∷
+            ahead self.new) }
         ensures end { IsNone result → ahead self.new ≡ ahead self.old }
         ensures fewer { MatchOption result (remaining self.new ≤ remaining self.old)
             (λ x. remaining self.new < remaining self.old) }

@@ -56,7 +56,8 @@ pub fn point_for(
     allocated: bool,
 ) -> Result<Point, AllocError>
     ensures { IfOk result (λ p.
-        known p.facts ≡ facts_for (view frame.now e.now) first_value first_fresh allocated (state at.now)) }
+        known p.facts ≡ facts_for (view frame.now e.now) first_value first_fresh allocated
+        (state at.now)) }
 {
     let found = range(work, frame, at, e, first_value, first_fresh)?;
     let mut narrow = without_widening(work.alloc, at)?;
@@ -78,8 +79,10 @@ fn is_argument(
     first_fresh: u32,
 ) -> Result<bool, AllocError>
     ensures { let views = map (view frame.now) es.now in
-        IfOk result (λ b. b ≡ is_argument (Some p.now) (view frame.now e.now) first_value first_fresh (state at.now)
-        (λ facts. bases_by params.now 0 0 facts views) (λ facts. variables_by params.now 0 facts views)) }
+        IfOk result (λ b. b ≡ is_argument (Some p.now) (view frame.now e.now) first_value
+        first_fresh (state at.now)
+        (λ facts. bases_by params.now 0 0 facts views)
+        (λ facts. variables_by params.now 0 facts views)) }
 {
     let found = range(work, frame, at, e, first_value, first_fresh)?;
     let inner = point_for(work, frame, at, e, first_value, first_fresh, false)?;
@@ -111,8 +114,10 @@ fn is_argument_at(
 ) -> Result<bool, AllocError>
     ensures { let views = map (view frame.now) es.now in
         IfOk result (λ b. b
-        ≡ is_argument (slice_get params.now n) (view frame.now e.now) first_value first_fresh (state at.now)
-        (λ facts. bases_by params.now 0 0 facts views) (λ facts. variables_by params.now 0 facts views)) }
+        ≡ is_argument (slice_get params.now n) (view frame.now e.now) first_value first_fresh
+        (state at.now)
+        (λ facts. bases_by params.now 0 0 facts views)
+        (λ facts. variables_by params.now 0 facts views)) }
 {
     match params.get(n as usize) {
         Some(p) => match p.bounds {
@@ -135,7 +140,8 @@ fn arguments_fault(
 ) -> Result<Option<Refusal>, AllocError>
     ensures { let views = map (view frame.now) es.now in
         IfOk result (λ r. r ≡ arguments_fault (λ facts. bases_by params.now 0 0 facts views)
-        (λ facts. variables_by params.now 0 facts views) params.now 0 views 0 first_fresh (state at.now)) }
+        (λ facts. variables_by params.now 0 facts views) params.now 0 views 0 first_fresh
+        (state at.now)) }
 {
     let mut n = 0u32;
     let mut value = 0u32;

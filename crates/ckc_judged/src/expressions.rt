@@ -160,7 +160,8 @@ fn judge_call(
     first_fresh: u32,
 ) -> Result<Node<Name, Note>, Fault>
     ensures { AnswersOutcome result
-        (bind (all_judged (map (view frame.now) es.now) first_fresh (state at.now)) (λ args. Ok (node.Call name args))) }
+        (bind (all_judged (map (view frame.now) es.now) first_fresh (state at.now))
+        (λ args. Ok (node.Call name args))) }
 {
     let args = judge_all(work, frame, at, es.as_slice(), first_fresh)?;
     Ok(Node::Call(name, args))

@@ -313,9 +313,11 @@ impl Builder {
         requires room { locals ≤ 2000 }
         requires value { IsShallow (expr_of e.now) }
         ensures join { IfOk result (λ j.
-            j ≡ join_of (code_of one.now) (code_of two.now) (code_of rest.now) exit loop_at self.old) }
+            j ≡ join_of (code_of one.now) (code_of two.now) (code_of rest.now) exit loop_at
+            self.old) }
         ensures built { IfOk result (λ j.
-            self.new ≡ forked locals (expr_of e.now) (code_of one.now) (code_of two.now) j loop_at self.old) }
+            self.new ≡ forked locals (expr_of e.now) (code_of one.now) (code_of two.now) j loop_at
+            self.old) }
     {
         let first = self.next_block()?;
         let second = behind(first, one)?;

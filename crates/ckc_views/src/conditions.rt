@@ -104,7 +104,8 @@ fn read_side(
     at: &mut Point,
 ) -> Result<(), AllocError>
     ensures { let v = view_of_node frame.now node.now in
-        OnOk result (state at.new ≡ widening_side frame.now v.behind (v.target 0) side (state at.old)) }
+        OnOk result (state at.new
+        ≡ widening_side frame.now v.behind (v.target 0) side (state at.old)) }
 {
     if side {
         let place = target_of_node(work, frame, &at.facts, node, 0)?;
@@ -227,7 +228,8 @@ fn nonzero_side(
     at: &mut Point,
 ) -> Result<(), AllocError>
     ensures { OnOk result (state at.new
-        ≡ nonzero_side frame.now op (view frame.now e.now) (view frame.now f.now) side (state at.old)) }
+        ≡ nonzero_side frame.now op (view frame.now e.now) (view frame.now f.now) side
+        (state at.old)) }
 {
     match op {
         TreeOp::Ne => {
@@ -251,7 +253,8 @@ fn comparison_side(
     at: &mut Point,
 ) -> Result<(), AllocError>
     ensures { OnOk result (state at.new
-        ≡ comparison_side frame.now op (view frame.now e.now) (view frame.now f.now) side (state at.old)) }
+        ≡ comparison_side frame.now op (view frame.now e.now) (view frame.now f.now) side
+        (state at.old)) }
 {
     if !is_comparison(op) {
         return Ok(());

@@ -66,7 +66,8 @@ pub fn declarations_exactly()
 pub fn statements_exactly()
     ensures statements { (g : Globals) (v : List Variable) (result : CType) (m : Mode)
         (looped : Bool) →
-        GivesExactly (λ s. stmt_typed g v result s m looped) bare_stmt (λ n. WellTypedStmt g v result n m looped) }
+        GivesExactly (λ s. stmt_typed g v result s m looped) bare_stmt
+        (λ n. WellTypedStmt g v result n m looped) }
 {}
 
 /// So do items, under a pragma.
