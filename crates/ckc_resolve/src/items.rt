@@ -57,23 +57,18 @@ fn guesses<'a>(
     Ok(places)
 }
 
-/// The guess for a name.
-fn guess<'a>(names: &Names<'a>, guesses: &[usize], s: &Spelling<'a>) -> usize {
-    match guesses.get(names.functions.number(s) as usize) {
-        Some(place) => *place,
-        None => 0,
-    }
-}
-
 /// Whether a function with a body has the head. The place that is guessed is tried first.
 #[tactic(auto, using(crate::proofs::DefinedAt::at_guess))]
 fn is_defined<'a>(
     all: &[Item<Spelling<'a>, ()>],
-    guess: usize,
+    names: &Names<'a>,
+    guesses: &[usize],
     head: &Head<Spelling<'a>, ()>,
 ) -> bool
     ensures { result ≡ list_any (defines head.now) all.now }
 {
+    let number = names.functions.number(&head.name) as usize;
+    let guess = guesses.get(number).copied().unwrap_or(0);
     match all.get(guess) {
         Some(item) => defines(head, item) || has_definition(all, head),
         None => has_definition(all, head),
@@ -93,13 +88,14 @@ fn has_definition<'a>(all: &[Item<Spelling<'a>, ()>], head: &Head<Spelling<'a>, 
 
 fn defined_proto<'a>(
     all: &[Item<Spelling<'a>, ()>],
-    guess: usize,
+    names: &Names<'a>,
+    guesses: &[usize],
     head: &Head<Spelling<'a>, ()>,
     named: Boxed<Head<Name, ()>>,
 ) -> Result<Item<Name, ()>, Fault>
     ensures { AnswersOutcome result (if_defined all.now head.now (Item.Proto named)) }
 {
-    if !is_defined(all, guess, head) {
+    if !is_defined(all, names, guesses, head) {
         return Err(refused(UNDEFINED, head.pos));
     }
     Ok(Item::Proto(named))
@@ -157,7 +153,7 @@ fn named_proto<'a>(
     if is_taken_function(before, &head.name) {
         return Err(refused(DECLARED_TWICE, head.pos));
     }
-    defined_proto(all, guess(names, guesses, &head.name), head, boxed)
+    defined_proto(all, names, guesses, head, boxed)
 }
 
 fn named_function<'a>(

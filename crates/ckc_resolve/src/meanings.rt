@@ -2,25 +2,13 @@
 
 ghost use Rattle.std.specs.Prelude.{◌≡◌};
 ghost use Rattle.ckc_base.specs.Outcomes.{AnswersOutcome};
-ghost use Rattle.ckc_resolve.specs.Meanings.{built_in, of_file, meaning_of, meaning_named, tag_named, member_named};
+ghost use Rattle.ckc_resolve.specs.Meanings.{of_file, meaning_of, meaning_named, tag_named, member_named};
 
 use crate::names::Names;
 use crate::refusals::UNDECLARED;
 use crate::scopes::Scopes;
 use ckc_base::{Fault, Pos, refused};
 use ckc_syntax::{Name, Spelling};
-
-fn built_in<'a>(s: &Spelling<'a>) -> Option<Name>
-    ensures { result ≡ built_in s.now }
-{
-    if s.as_str() == "getchar" {
-        Some(Name::Getchar)
-    } else if s.as_str() == "putchar" {
-        Some(Name::Putchar)
-    } else {
-        None
-    }
-}
 
 fn of_file<'a>(names: &Names<'a>, s: &Spelling<'a>) -> Option<Name>
     ensures { result ≡ of_file names.now s.now }
@@ -31,9 +19,15 @@ fn of_file<'a>(names: &Names<'a>, s: &Spelling<'a>) -> Option<Name>
     if let Some(n) = names.statics.find(s) {
         return Some(Name::Static(n));
     }
-    match names.functions.find(s) {
-        Some(n) => Some(Name::Function(n)),
-        None => built_in(s),
+    if let Some(n) = names.functions.find(s) {
+        return Some(Name::Function(n));
+    }
+    if s.as_str() == "getchar" {
+        Some(Name::Getchar)
+    } else if s.as_str() == "putchar" {
+        Some(Name::Putchar)
+    } else {
+        None
     }
 }
 
