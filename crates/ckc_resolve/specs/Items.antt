@@ -1,5 +1,5 @@
 -- The items of a text with their names replaced by what they mean.
-use Rattle.std.specs.Prelude.{ℕ, Bool, ◌||◌, ◌&&◌, false, true, List, [], slice_get, Ok, map, if◌then◌else◌, is_none, codes, Option, Some, None}
+use Rattle.std.specs.Prelude.{ℕ, Bool, ◌||◌, ◌&&◌, false, true, List, [], Ok, map, if◌then◌else◌, is_none, codes, Option, Some, None}
 use Rattle.std.specs.List.{list_any}
 use Rattle.ckc_base.specs.declared.places.Pos.{Pos}
 use Rattle.ckc_syntax.specs.declared.tree.Name.{Name}
@@ -31,14 +31,6 @@ is_taken_function before s = is_reserved s || is_among before.statics s
 abbrev pub defines : Head → Item → Bool
 defines h (item.Function g body) = same_head h g
 defines h i = false
-
-abbrev pub defines_there : Head → Option Item → Bool
-defines_there h (Some i) = defines h i
-defines_there h None = false
-
--- whether the item at a place is a function with a body and the head
-abbrev pub defines_at : List Item → Head → ℕ → Bool
-defines_at all h k = defines_there h (slice_get all k)
 
 -- refused where no function among all items has the same head
 abbrev pub if_defined : {A : Type 0} → List Item → Head → A → Outcome A

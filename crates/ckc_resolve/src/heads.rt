@@ -3,7 +3,7 @@
 ghost use Rattle.std.specs.Prelude.{◌≡◌, Ok};
 ghost use Rattle.ckc_base.specs.Outcomes.{AnswersOutcome, StepsOutcome};
 ghost use Rattle.ckc_resolve.specs.Scoping.{no_scope};
-ghost use Rattle.ckc_resolve.specs.Heads.{name_of_member, member_scope, member_named, members_named, struct_named, param_scope, param_named, params_named, head_named};
+ghost use Rattle.ckc_resolve.specs.Heads.{member_scope, member_named, members_named, struct_named, param_scope, param_named, params_named, head_named};
 
 use crate::declarations::named_decl;
 use crate::expressions::named_bounds;
@@ -16,12 +16,6 @@ use ckc_base::{Fault, Seq, refused};
 use ckc_syntax::{Decl, Head, Name, Spelling};
 use std::alloc::Global;
 
-fn name_of_member<'a>(names: &Names<'a>, s: &Spelling<'a>) -> Name
-    ensures { result ≡ name_of_member names.now s.now }
-{
-    Name::Member(names.members.number(s))
-}
-
 /// The scope of the bounds of members.
 fn scope_of_members<'a>(
     alloc: Global,
@@ -32,7 +26,8 @@ fn scope_of_members<'a>(
 {
     let mut all = Scopes::new(alloc);
     for decl in decls {
-        all.show(&decl.name, name_of_member(names, &decl.name))?;
+        let name = Name::Member(names.members.number(&decl.name));
+        all.show(&decl.name, name)?;
     }
     Ok(all)
 }
@@ -46,7 +41,7 @@ fn named_member<'a>(
 ) -> Result<Decl<Name, ()>, Fault>
     ensures { StepsOutcome result before.new (member_named names.now all.now decl.now before.old) }
 {
-    let name = name_of_member(names, &decl.name);
+    let name = Name::Member(names.members.number(&decl.name));
     let named = named_decl(alloc, names, all, name, decl)?;
     if before.contains(&decl.name) {
         return Err(refused(DECLARED_TWICE, decl.pos));

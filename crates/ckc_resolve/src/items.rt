@@ -3,7 +3,7 @@
 ghost use Rattle.std.specs.Prelude.{◌≡◌, Ok};
 ghost use Rattle.std.specs.List.{list_any};
 ghost use Rattle.ckc_base.specs.Outcomes.{AnswersOutcome, StepsOutcome};
-ghost use Rattle.ckc_resolve.specs.Items.{name_of_tag, is_taken_static, is_taken_function, defines, defines_at, if_defined, structure_named, static_named, proto_named, function_named, item_named, item_in_turn, items_named, all_named};
+ghost use Rattle.ckc_resolve.specs.Items.{is_taken_static, is_taken_function, defines, if_defined, structure_named, static_named, proto_named, function_named, item_named, item_in_turn, items_named, all_named};
 
 use crate::bodies::named_body;
 use crate::declarations::named_decl;
@@ -14,12 +14,6 @@ use crate::scopes::{Scopes, is_reserved};
 use ckc_base::{Boxed, Fault, Pos, Seq, refused};
 use ckc_syntax::{Decl, Head, Item, Name, Spelling, Stmt, same_head};
 use std::alloc::{AllocError, Global};
-
-fn name_of_tag<'a>(names: &Names<'a>, s: &Spelling<'a>) -> Name
-    ensures { result ≡ name_of_tag names.now s.now }
-{
-    Name::Tag(names.tags.number(s))
-}
 
 fn is_taken_static<'a>(before: &Names<'a>, s: &Spelling<'a>) -> bool
     ensures { result ≡ is_taken_static before.now s.now }
@@ -63,36 +57,22 @@ fn guesses<'a>(
     Ok(places)
 }
 
-/// The guess for a name.
-fn guess<'a>(names: &Names<'a>, guesses: &[usize], s: &Spelling<'a>) -> usize {
-    match guesses.get(names.functions.number(s) as usize) {
-        Some(place) => *place,
-        None => 0,
-    }
-}
-
-fn defines_at<'a>(
-    all: &[Item<Spelling<'a>, ()>],
-    head: &Head<Spelling<'a>, ()>,
-    place: usize,
-) -> bool
-    ensures { result ≡ defines_at all.now head.now place }
-{
-    match all.get(place) {
-        Some(item) => defines(head, item),
-        None => false,
-    }
-}
-
 /// Whether a function with a body has the head. The place that is guessed is tried first.
+#[tactic(auto, using(crate::proofs::DefinedAt::at_guess))]
 fn is_defined<'a>(
     all: &[Item<Spelling<'a>, ()>],
-    guess: usize,
+    names: &Names<'a>,
+    guesses: &[usize],
     head: &Head<Spelling<'a>, ()>,
 ) -> bool
     ensures { result ≡ list_any (defines head.now) all.now }
 {
-    defines_at(all, head, guess) || has_definition(all, head)
+    let number = names.functions.number(&head.name) as usize;
+    let guess = guesses.get(number).copied().unwrap_or(0);
+    match all.get(guess) {
+        Some(item) => defines(head, item) || has_definition(all, head),
+        None => has_definition(all, head),
+    }
 }
 
 fn has_definition<'a>(all: &[Item<Spelling<'a>, ()>], head: &Head<Spelling<'a>, ()>) -> bool
@@ -108,13 +88,14 @@ fn has_definition<'a>(all: &[Item<Spelling<'a>, ()>], head: &Head<Spelling<'a>, 
 
 fn defined_proto<'a>(
     all: &[Item<Spelling<'a>, ()>],
-    guess: usize,
+    names: &Names<'a>,
+    guesses: &[usize],
     head: &Head<Spelling<'a>, ()>,
     named: Boxed<Head<Name, ()>>,
 ) -> Result<Item<Name, ()>, Fault>
     ensures { AnswersOutcome result (if_defined all.now head.now (Item.Proto named)) }
 {
-    if !is_defined(all, guess, head) {
+    if !is_defined(all, names, guesses, head) {
         return Err(refused(UNDEFINED, head.pos));
     }
     Ok(Item::Proto(named))
@@ -130,7 +111,7 @@ fn named_structure<'a>(
 ) -> Result<Item<Name, ()>, Fault>
     ensures { AnswersOutcome result (structure_named names.now before.now s.now members.now pos) }
 {
-    let tag = name_of_tag(names, s);
+    let tag = Name::Tag(names.tags.number(s));
     let members = named_members(alloc, names, members)?;
     if before.structs.contains(s) {
         return Err(refused(DECLARED_TWICE, pos));
@@ -172,7 +153,7 @@ fn named_proto<'a>(
     if is_taken_function(before, &head.name) {
         return Err(refused(DECLARED_TWICE, head.pos));
     }
-    defined_proto(all, guess(names, guesses, &head.name), head, boxed)
+    defined_proto(all, names, guesses, head, boxed)
 }
 
 fn named_function<'a>(
@@ -206,7 +187,7 @@ fn named_item<'a>(
 {
     match item {
         Item::Directive(directive) => Ok(Item::Directive(*directive)),
-        Item::Tag(s, pos) => Ok(Item::Tag(name_of_tag(names, s), *pos)),
+        Item::Tag(s, pos) => Ok(Item::Tag(Name::Tag(names.tags.number(s)), *pos)),
         Item::Struct(s, members, pos) => {
             named_structure(alloc, names, before, s, members.as_slice(), *pos)
         }

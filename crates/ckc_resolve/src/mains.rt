@@ -3,12 +3,12 @@
 ghost use Rattle.std.specs.Prelude.{◌≡◌};
 ghost use Rattle.std.specs.List.{list_any};
 ghost use Rattle.ckc_base.specs.Outcomes.{AnswersOutcome};
-ghost use Rattle.ckc_resolve.specs.Main.{is_int, is_main_head, is_main, main_named};
+ghost use Rattle.ckc_resolve.specs.Main.{is_int, is_main, main_named};
 
 use crate::names::Names;
 use crate::refusals::NO_MAIN;
 use ckc_base::{Fault, START, refused};
-use ckc_syntax::{Head, Item, Spelling, TypeTree};
+use ckc_syntax::{Item, Spelling, TypeTree};
 
 fn is_int<'a>(t: &TypeTree<Spelling<'a>>) -> bool
     ensures { result ≡ is_int t.now }
@@ -20,20 +20,17 @@ fn is_int<'a>(t: &TypeTree<Spelling<'a>>) -> bool
     }
 }
 
-fn is_main_head<'a>(head: &Head<Spelling<'a>, ()>) -> bool
-    ensures { result ≡ is_main_head head.now }
-{
-    head.name.as_str() == "main"
-        && is_int(&head.result)
-        && head.params.is_empty()
-        && head.bounds.is_none()
-}
-
 fn is_main<'a>(item: &Item<Spelling<'a>, ()>) -> bool
     ensures { result ≡ is_main item.now }
 {
     match item {
-        Item::Function(head, _) => is_main_head(head.get()),
+        Item::Function(head, _) => {
+            let head = head.get();
+            head.name.as_str() == "main"
+                && is_int(&head.result)
+                && head.params.is_empty()
+                && head.bounds.is_none()
+        }
         Item::Directive(_) | Item::Tag(_, _) | Item::Struct(_, _, _) => false,
         Item::Static(_) | Item::Proto(_) => false,
     }

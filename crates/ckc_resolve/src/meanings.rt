@@ -1,27 +1,14 @@
 //! What a name means at its place.
 
 ghost use Rattle.std.specs.Prelude.{◌≡◌};
-ghost use Rattle.ckc_base.specs.Outcomes.{AnswersOutcome, there_or};
-ghost use Rattle.ckc_resolve.specs.Codes.{undeclared};
-ghost use Rattle.ckc_resolve.specs.Meanings.{member_of, built_in, of_file, meaning_of, tag_of, meaning_named, tag_named, member_named};
+ghost use Rattle.ckc_base.specs.Outcomes.{AnswersOutcome};
+ghost use Rattle.ckc_resolve.specs.Meanings.{of_file, meaning_of, meaning_named, tag_named, member_named};
 
 use crate::names::Names;
 use crate::refusals::UNDECLARED;
 use crate::scopes::Scopes;
 use ckc_base::{Fault, Pos, refused};
 use ckc_syntax::{Name, Spelling};
-
-fn built_in<'a>(s: &Spelling<'a>) -> Option<Name>
-    ensures { result ≡ built_in s.now }
-{
-    if s.as_str() == "getchar" {
-        Some(Name::Getchar)
-    } else if s.as_str() == "putchar" {
-        Some(Name::Putchar)
-    } else {
-        None
-    }
-}
 
 fn of_file<'a>(names: &Names<'a>, s: &Spelling<'a>) -> Option<Name>
     ensures { result ≡ of_file names.now s.now }
@@ -32,9 +19,15 @@ fn of_file<'a>(names: &Names<'a>, s: &Spelling<'a>) -> Option<Name>
     if let Some(n) = names.statics.find(s) {
         return Some(Name::Static(n));
     }
-    match names.functions.find(s) {
-        Some(n) => Some(Name::Function(n)),
-        None => built_in(s),
+    if let Some(n) = names.functions.find(s) {
+        return Some(Name::Function(n));
+    }
+    if s.as_str() == "getchar" {
+        Some(Name::Getchar)
+    } else if s.as_str() == "putchar" {
+        Some(Name::Putchar)
+    } else {
+        None
     }
 }
 
@@ -47,36 +40,6 @@ fn meaning_of<'a>(names: &Names<'a>, scopes: &Scopes<'a>, s: &Spelling<'a>) -> O
     }
 }
 
-fn member_of<'a>(names: &Names<'a>, s: &Spelling<'a>) -> Option<Name>
-    ensures { result ≡ member_of names.now s.now }
-{
-    match names.members.find(s) {
-        Some(n) => Some(Name::Member(n)),
-        None => None,
-    }
-}
-
-fn tag_of<'a>(names: &Names<'a>, s: &Spelling<'a>) -> Option<Name>
-    ensures { result ≡ tag_of names.now s.now }
-{
-    if !names.structs.contains(s) {
-        return None;
-    }
-    match names.tags.find(s) {
-        Some(n) => Some(Name::Tag(n)),
-        None => None,
-    }
-}
-
-fn declared(found: Option<Name>, pos: Pos) -> Result<Name, Fault>
-    ensures { AnswersOutcome result (there_or undeclared pos found) }
-{
-    match found {
-        Some(name) => Ok(name),
-        None => Err(refused(UNDECLARED, pos)),
-    }
-}
-
 /// What a name in an expression means, called or not.
 pub fn named_meaning<'a>(
     names: &Names<'a>,
@@ -86,19 +49,31 @@ pub fn named_meaning<'a>(
 ) -> Result<Name, Fault>
     ensures { AnswersOutcome result (meaning_named names.now scopes.now s.now pos) }
 {
-    declared(meaning_of(names, scopes, s), pos)
+    match meaning_of(names, scopes, s) {
+        Some(name) => Ok(name),
+        None => Err(refused(UNDECLARED, pos)),
+    }
 }
 
 /// The tag that a type names.
 pub fn named_tag<'a>(names: &Names<'a>, s: &Spelling<'a>, pos: Pos) -> Result<Name, Fault>
     ensures { AnswersOutcome result (tag_named names.now s.now pos) }
 {
-    declared(tag_of(names, s), pos)
+    if !names.structs.contains(s) {
+        return Err(refused(UNDECLARED, pos));
+    }
+    match names.tags.find(s) {
+        Some(n) => Ok(Name::Tag(n)),
+        None => Err(refused(UNDECLARED, pos)),
+    }
 }
 
 /// The member that a `.` or `->` names.
 pub fn named_member<'a>(names: &Names<'a>, s: &Spelling<'a>, pos: Pos) -> Result<Name, Fault>
     ensures { AnswersOutcome result (member_named names.now s.now pos) }
 {
-    declared(member_of(names, s), pos)
+    match names.members.find(s) {
+        Some(n) => Ok(Name::Member(n)),
+        None => Err(refused(UNDECLARED, pos)),
+    }
 }
