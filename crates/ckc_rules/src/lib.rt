@@ -8,6 +8,8 @@ pub mod environment;
 pub mod literals;
 pub mod locals;
 pub mod lookups;
+pub mod names;
 pub mod notes;
 pub mod operands;
+pub mod scope;
 pub mod targets;
