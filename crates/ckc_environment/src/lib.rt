@@ -6,5 +6,7 @@
 pub mod environment;
 pub mod locals;
 pub mod lookups;
+pub mod names;
 pub mod notes;
+pub mod scope;
 pub mod targets;

@@ -3,53 +3,18 @@
 ghost use Rattle.std.specs.Prelude.{◌≡◌, IfOk, find};
 ghost use Rattle.std.specs.Option.{option_copied, option_map};
 ghost use Rattle.ckc_types.specs.Layout.{members_of};
-ghost use Rattle.ckc_typed.specs.Environment.{same_name, object_named, signature_named, variable_named, is_member_named, member_type, object_type, type_of_name};
+ghost use Rattle.ckc_typed.specs.Environment.{object_named, variable_named, is_member_named, member_type, object_type, type_of_name};
 ghost use Rattle.ckc_typed.specs.Operands.{dot_type, arrow_type};
 
+use crate::names::same_name;
+use crate::scope::FileScope;
 use ckc_base::Boxed;
 use ckc_syntax::Name;
 use ckc_typed::constants::members_of;
 use ckc_typed::types::copied;
-use ckc_typed::{Globals, Object, Signature, Variable};
+use ckc_typed::{Object, Variable};
 use ckc_types::{CType, MemberShape, Structs};
 use std::alloc::{AllocError, Global};
-
-fn same_name(a: Name, b: Name) -> bool
-    ensures { result ≡ same_name a b }
-{
-    match (a, b) {
-        (Name::Local(j), Name::Local(k)) => j == k,
-        (Name::Static(j), Name::Static(k)) => j == k,
-        (Name::Function(j), Name::Function(k)) => j == k,
-        (Name::Tag(j), Name::Tag(k)) => j == k,
-        (Name::Member(j), Name::Member(k)) => j == k,
-        (Name::Getchar, Name::Getchar) => true,
-        (Name::Putchar, Name::Putchar) => true,
-        _ => false,
-    }
-}
-
-/// The object of file scope with a name, where there is one.
-pub fn object_named(globals: &Globals, n: Name) -> Option<&Object>
-    ensures { option_copied result ≡ object_named globals.now n }
-{
-    globals
-        .objects
-        .as_slice()
-        .iter()
-        .find(|o| same_name(o.name, n))
-}
-
-/// The type of the function with a name, where there is one.
-pub fn signature_named(globals: &Globals, n: Name) -> Option<&Signature>
-    ensures { option_copied result ≡ signature_named globals.now n }
-{
-    globals
-        .functions
-        .as_slice()
-        .iter()
-        .find(|s| same_name(s.name, n))
-}
 
 /// The variable with a name, where there is one.
 pub fn variable_named(variables: &[Variable], n: Name) -> Option<&Variable>
@@ -72,10 +37,14 @@ fn object_type(alloc: Global, o: &Object) -> Result<CType, AllocError>
     }
 }
 
-fn object_type_named(alloc: Global, globals: &Globals, n: Name) -> Result<Option<CType>, AllocError>
+fn object_type_named(
+    alloc: Global,
+    globals: &FileScope,
+    n: Name,
+) -> Result<Option<CType>, AllocError>
     ensures { IfOk result (λ t. t ≡ option_map object_type (object_named globals.now n)) }
 {
-    match object_named(globals, n) {
+    match globals.object_named(n) {
         None => Ok(None),
         Some(o) => {
             let used = object_type(alloc, o)?;
@@ -87,7 +56,7 @@ fn object_type_named(alloc: Global, globals: &Globals, n: Name) -> Result<Option
 /// The type of a name that is used in an expression, where it is declared.
 pub fn type_of_name(
     alloc: Global,
-    globals: &Globals,
+    globals: &FileScope,
     variables: &[Variable],
     n: Name,
 ) -> Result<Option<CType>, AllocError>

@@ -6,19 +6,20 @@ ghost use Rattle.ckc_typed.specs.Environment.{object_named};
 ghost use Rattle.ckc_typed.specs.Expressions.{is_no_array, is_target_op, is_placed, is_object, has_address, is_no_allocation};
 ghost use Rattle.ckc_typed.specs.Statements.{is_variable_form, is_named, is_function, is_text_call, is_target, is_result};
 
-use crate::lookups::{object_named, variable_named};
+use crate::lookups::variable_named;
+use crate::scope::FileScope;
 use ckc_base::Boxed;
 use ckc_syntax::{Expr, Name, Node, TreeOp};
 use ckc_typed::conversions::converts;
 use ckc_typed::types::{is_integer, is_object_type, is_scalar, is_void, same_type};
-use ckc_typed::{Globals, Note, Variable};
+use ckc_typed::{Note, Variable};
 use ckc_types::CType;
 
 /// Whether a name is that of an object of file scope that is no array.
-fn is_no_array(globals: &Globals, n: Name) -> bool
+fn is_no_array(globals: &FileScope, n: Name) -> bool
     ensures { result ≡ is_no_array (object_named globals.now n) }
 {
-    match object_named(globals, n) {
+    match globals.object_named(n) {
         Some(o) => o.array.is_none(),
         None => false,
     }
@@ -35,7 +36,7 @@ fn is_target_op(op: TreeOp) -> bool
 }
 
 /// Whether an expression is a name of an object of file scope that is no array.
-fn is_object(globals: &Globals, e: &Expr<Name, Note>) -> bool
+fn is_object(globals: &FileScope, e: &Expr<Name, Note>) -> bool
     ensures { result ≡ is_object globals.now e.now }
 {
     match &e.node {
@@ -55,7 +56,7 @@ fn is_placed(e: &Expr<Name, Note>) -> bool
 }
 
 /// Whether an expression has an address.
-pub fn has_address(globals: &Globals, e: &Expr<Name, Note>) -> bool
+pub fn has_address(globals: &FileScope, e: &Expr<Name, Note>) -> bool
     ensures { result ≡ has_address globals.now e.now }
 {
     is_object(globals, e) || is_placed(e)
@@ -70,7 +71,7 @@ fn is_variable(variables: &[Variable], e: &Expr<Name, Note>) -> bool
     }
 }
 
-fn is_named(globals: &Globals, variables: &[Variable], e: &Expr<Name, Note>) -> bool
+fn is_named(globals: &FileScope, variables: &[Variable], e: &Expr<Name, Note>) -> bool
     ensures { result ≡ is_named globals.now variables.now e.now }
 {
     is_variable(variables, e) || is_object(globals, e)
@@ -96,7 +97,7 @@ fn is_text_call(e: &Expr<Name, Note>) -> bool
 
 /// Whether the second expression may be assigned to the first, types aside.
 pub fn is_target(
-    globals: &Globals,
+    globals: &FileScope,
     variables: &[Variable],
     e: &Expr<Name, Note>,
     f: &Expr<Name, Note>,

@@ -5,12 +5,12 @@ ghost use Rattle.ckc_typed.specs.Expressions.{arguments_typed, result_typed, cal
 ghost use Rattle.ckc_base.specs.Outcomes.{AnswersOutcome};
 
 use ckc_base::{Fault, Pos, refused};
-use ckc_environment::lookups::signature_named;
+use ckc_environment::scope::FileScope;
 use ckc_syntax::{Expr, Name};
 use ckc_typed::codes::{BAD_CALL, BAD_CONVERSION};
 use ckc_typed::conversions::converts;
 use ckc_typed::types::copied;
-use ckc_typed::{Globals, Note, Signature};
+use ckc_typed::{Note, Signature};
 use ckc_types::CType;
 use std::alloc::Global;
 
@@ -46,14 +46,14 @@ fn result_typed(
 /// The type of a call.
 pub fn call_typed(
     alloc: Global,
-    globals: &Globals,
+    globals: &FileScope,
     n: Name,
     args: &[Expr<Name, Note>],
     pos: Pos,
 ) -> Result<CType, Fault>
     ensures { AnswersOutcome result (call_typed globals.now n args.now pos) }
 {
-    match signature_named(globals, n) {
+    match globals.signature_named(n) {
         None => Err(refused(BAD_CALL, pos)),
         Some(s) => result_typed(alloc, s, args, pos),
     }

@@ -6,19 +6,20 @@ ghost use Rattle.ckc_base.specs.Outcomes.{AnswersOutcome};
 
 use crate::expressions::{boxed_expr, typed_bounds, typed_exprs};
 use ckc_base::{Boxed, Fault, Mode, Seq, refused};
+use ckc_environment::scope::FileScope;
 use ckc_statics::initials::{count_fits, is_element_for, is_plain};
 use ckc_syntax::{Decl, Init, Limits, Name};
 use ckc_typed::codes::{BAD_CONVERSION, BAD_OPERANDS, NO_INITIALISER};
 use ckc_typed::conversions::converts;
 use ckc_typed::copies::copied_type;
 use ckc_typed::types::{is_scalar_type, kind_of, type_written};
-use ckc_typed::{Globals, Note, Variable};
+use ckc_typed::{Note, Variable};
 use ckc_types::{CType, Kind, Structs};
 use std::alloc::{AllocError, Global};
 
 fn typed_init(
     alloc: Global,
-    globals: &Globals,
+    globals: &FileScope,
     variables: &[Variable],
     mode: Mode,
     init: &Init<Name, ()>,
@@ -59,7 +60,7 @@ fn decl_with(
 
 fn typed_parts(
     alloc: Global,
-    globals: &Globals,
+    globals: &FileScope,
     variables: &[Variable],
     mode: Mode,
     d: &Decl<Name, ()>,
@@ -184,7 +185,7 @@ fn element_declared(alloc: Global, d: &Decl<Name, ()>) -> Result<(), Fault>
 /// A parameter or a member.
 fn typed_bare(
     alloc: Global,
-    globals: &Globals,
+    globals: &FileScope,
     variables: &[Variable],
     mode: Mode,
     d: &Decl<Name, ()>,
@@ -199,7 +200,7 @@ fn typed_bare(
 /// Parameters or members, from the first to the last.
 pub fn typed_bares(
     alloc: Global,
-    globals: &Globals,
+    globals: &FileScope,
     variables: &[Variable],
     mode: Mode,
     ds: &[Decl<Name, ()>],
@@ -217,7 +218,7 @@ pub fn typed_bares(
 /// A local.
 pub fn typed_local(
     alloc: Global,
-    globals: &Globals,
+    globals: &FileScope,
     variables: &[Variable],
     mode: Mode,
     d: &Decl<Name, ()>,
@@ -233,7 +234,7 @@ pub fn typed_local(
 /// An object of file scope.
 pub fn typed_static(
     alloc: Global,
-    globals: &Globals,
+    globals: &FileScope,
     mode: Mode,
     d: &Decl<Name, ()>,
 ) -> Result<Decl<Name, Note>, Fault>
@@ -241,6 +242,6 @@ pub fn typed_static(
 {
     element_declared(alloc, d)?;
     let typed = typed_parts(alloc, globals, &[], mode, d)?;
-    let fault = static_fault(alloc, &globals.structs, &typed)?;
+    let fault = static_fault(alloc, globals.structs(), &typed)?;
     judged(fault, typed)
 }

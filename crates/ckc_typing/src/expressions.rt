@@ -6,14 +6,15 @@ ghost use Rattle.ckc_base.specs.Outcomes.{AnswersOutcome};
 
 use crate::makers;
 use ckc_base::{Boxed, Fault, Mode, Pos, Seq};
+use ckc_environment::scope::FileScope;
 use ckc_syntax::{Expr, Limits, Name, Node};
-use ckc_typed::{Globals, Note, Variable};
+use ckc_typed::{Note, Variable};
 use std::alloc::Global;
 
 #[cycle(expr)]
 fn typed_limits(
     alloc: Global,
-    globals: &Globals,
+    globals: &FileScope,
     variables: &[Variable],
     mode: Mode,
     limits: &Limits<Name, ()>,
@@ -41,7 +42,7 @@ fn typed_limits(
 #[cycle(expr)]
 fn typed_node(
     alloc: Global,
-    globals: &Globals,
+    globals: &FileScope,
     variables: &[Variable],
     mode: Mode,
     node: &Node<Name, ()>,
@@ -112,7 +113,7 @@ fn typed_node(
 #[cycle(expr)]
 pub fn typed_expr(
     alloc: Global,
-    globals: &Globals,
+    globals: &FileScope,
     variables: &[Variable],
     mode: Mode,
     e: &Expr<Name, ()>,
@@ -126,7 +127,7 @@ pub fn typed_expr(
 #[cycle(expr)]
 pub fn boxed_expr(
     alloc: Global,
-    globals: &Globals,
+    globals: &FileScope,
     variables: &[Variable],
     mode: Mode,
     e: &Expr<Name, ()>,
@@ -142,7 +143,7 @@ pub fn boxed_expr(
 #[cycle(expr)]
 pub fn typed_exprs(
     alloc: Global,
-    globals: &Globals,
+    globals: &FileScope,
     variables: &[Variable],
     mode: Mode,
     es: &[Expr<Name, ()>],
@@ -161,7 +162,7 @@ pub fn typed_exprs(
 #[cycle(expr)]
 pub fn typed_bounds(
     alloc: Global,
-    globals: &Globals,
+    globals: &FileScope,
     variables: &[Variable],
     mode: Mode,
     bounds: &Option<Boxed<Limits<Name, ()>>>,
@@ -181,7 +182,7 @@ pub fn typed_bounds(
 /// An expression, where there is one.
 pub fn typed_value(
     alloc: Global,
-    globals: &Globals,
+    globals: &FileScope,
     variables: &[Variable],
     mode: Mode,
     value: &Option<Boxed<Expr<Name, ()>>>,

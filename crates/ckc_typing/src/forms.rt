@@ -8,16 +8,17 @@ ghost use Rattle.ckc_base.specs.Outcomes.{AnswersOutcome};
 
 use ckc_base::{Boxed, Fault, Mode, Pos, refused};
 use ckc_environment::notes::stated;
+use ckc_environment::scope::FileScope;
 use ckc_environment::targets::{is_result, is_target};
 use ckc_syntax::{Act, Expr, Name, Stmt};
 use ckc_typed::codes::{BAD_CONVERSION, BAD_OPERANDS, BAD_TARGET, NO_LOOP};
 use ckc_typed::conversions::converts;
 use ckc_typed::types::{is_scalar, is_void};
-use ckc_typed::{Globals, Note, Variable};
+use ckc_typed::{Note, Variable};
 use ckc_types::CType;
 
 fn target_fits(
-    globals: &Globals,
+    globals: &FileScope,
     variables: &[Variable],
     pos: Pos,
     e: &Expr<Name, Note>,
@@ -36,7 +37,7 @@ fn target_fits(
 
 /// An assignment.
 pub fn assignment(
-    globals: &Globals,
+    globals: &FileScope,
     variables: &[Variable],
     mode: Mode,
     pos: Pos,

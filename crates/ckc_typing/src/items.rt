@@ -17,6 +17,7 @@ use ckc_base::{Boxed, Fault, Mode, Seq, refused};
 use ckc_environment::environment::{objects_of, signatures_of, variables_declared};
 use ckc_environment::locals::variables_of;
 use ckc_environment::notes::{head_mode, pragma_after};
+use ckc_environment::scope::FileScope;
 use ckc_statics::layouts::structs_of;
 use ckc_syntax::{Decl, Head, Item, Limits, Name, Stmt};
 use ckc_typed::codes::BAD_OPERANDS;
@@ -72,7 +73,7 @@ fn made_head(
 
 fn typed_head(
     alloc: Global,
-    globals: &Globals,
+    globals: &FileScope,
     pragma: Mode,
     h: &Head<Name, ()>,
 ) -> Result<Head<Name, Note>, Fault>
@@ -87,7 +88,7 @@ fn typed_head(
 
 fn typed_function(
     alloc: Global,
-    globals: &Globals,
+    globals: &FileScope,
     pragma: Mode,
     h: &Head<Name, ()>,
     body: &Stmt<Name, ()>,
@@ -102,7 +103,7 @@ fn typed_function(
 
 fn boxed_head(
     alloc: Global,
-    globals: &Globals,
+    globals: &FileScope,
     pragma: Mode,
     h: &Head<Name, ()>,
 ) -> Result<Boxed<Head<Name, Note>>, Fault>
@@ -124,7 +125,7 @@ fn frame_of(alloc: Global, h: &Head<Name, ()>, body: &Stmt<Name, ()>) -> Result<
 
 fn typed_struct(
     alloc: Global,
-    globals: &Globals,
+    globals: &FileScope,
     pragma: Mode,
     members: &[Decl<Name, ()>],
 ) -> Result<Seq<Decl<Name, Note>>, Fault>
@@ -137,7 +138,7 @@ fn typed_struct(
 
 fn typed_object(
     alloc: Global,
-    globals: &Globals,
+    globals: &FileScope,
     pragma: Mode,
     d: &Decl<Name, ()>,
 ) -> Result<Item<Name, Note>, Fault>
@@ -151,7 +152,7 @@ fn typed_object(
 
 fn typed_item(
     alloc: Global,
-    globals: &Globals,
+    globals: &FileScope,
     pragma: Mode,
     item: &Item<Name, ()>,
 ) -> Result<Item<Name, Note>, Fault>
@@ -174,9 +175,9 @@ fn typed_item(
 }
 
 /// The items, from the first to the last.
-pub fn typed_items(
+fn typed_items(
     alloc: Global,
-    globals: &Globals,
+    globals: &FileScope,
     items: &[Item<Name, ()>],
 ) -> Result<Seq<Item<Name, Note>>, Fault>
     ensures { AnswersOutcome result (items_typed globals.now mode.Unchecked items.now) }
@@ -189,6 +190,17 @@ pub fn typed_items(
         pragma = pragma_after(pragma, item);
     }
     Ok(all)
+}
+
+/// The items of a text that sees all this.
+pub fn all_typed(
+    alloc: Global,
+    globals: &Globals,
+    items: &[Item<Name, ()>],
+) -> Result<Seq<Item<Name, Note>>, Fault>
+    ensures { AnswersOutcome result (items_typed globals.now mode.Unchecked items.now) }
+{
+    typed_items(alloc, &FileScope::new(globals), items)
 }
 
 /// What the whole text sees.

@@ -20,18 +20,19 @@ use crate::rules::{
 use ckc_base::{Boxed, Bytes, Fault, Mode, Pos, Seq, refused};
 use ckc_environment::lookups::type_of_name;
 use ckc_environment::notes::noted;
+use ckc_environment::scope::FileScope;
 use ckc_syntax::{Expr, Limits, Name, Node, TreeOp, TypeTree};
 use ckc_typed::codes::BAD_OPERANDS;
 use ckc_typed::copies::copied_type;
 use ckc_typed::literals::{null_type, number_type, string_type};
 use ckc_typed::types::type_written;
-use ckc_typed::{Globals, Note, Variable};
+use ckc_typed::{Note, Variable};
 use ckc_types::CType;
 use std::alloc::Global;
 
 fn typed_name(
     alloc: Global,
-    globals: &Globals,
+    globals: &FileScope,
     variables: &[Variable],
     n: Name,
     pos: Pos,
@@ -74,7 +75,7 @@ pub fn null(alloc: Global, mode: Mode, pos: Pos) -> Result<Expr<Name, Note>, Fau
 /// A name that is used.
 pub fn name(
     alloc: Global,
-    globals: &Globals,
+    globals: &FileScope,
     variables: &[Variable],
     mode: Mode,
     pos: Pos,
@@ -91,7 +92,7 @@ pub fn name(
 /// A unary operator with its operand.
 pub fn unary(
     alloc: Global,
-    globals: &Globals,
+    globals: &FileScope,
     mode: Mode,
     pos: Pos,
     op: TreeOp,
@@ -153,7 +154,7 @@ pub fn index(
 /// `x.m`.
 pub fn dot(
     alloc: Global,
-    globals: &Globals,
+    globals: &FileScope,
     mode: Mode,
     pos: Pos,
     e: Boxed<Expr<Name, Note>>,
@@ -170,7 +171,7 @@ pub fn dot(
 /// `p->m`.
 pub fn arrow(
     alloc: Global,
-    globals: &Globals,
+    globals: &FileScope,
     mode: Mode,
     pos: Pos,
     e: Boxed<Expr<Name, Note>>,
@@ -260,7 +261,7 @@ pub fn tested(
 /// A call of a function.
 pub fn call(
     alloc: Global,
-    globals: &Globals,
+    globals: &FileScope,
     mode: Mode,
     pos: Pos,
     n: Name,

@@ -10,6 +10,7 @@ ghost use Rattle.ckc_base.specs.Outcomes.{AnswersOutcome};
 
 use ckc_base::{Boxed, Fault, Mode, Pos, refused};
 use ckc_environment::lookups;
+use ckc_environment::scope::FileScope;
 use ckc_environment::targets::{has_address, is_no_allocation};
 use ckc_syntax::{Expr, Limits, Name, TreeOp};
 use ckc_typed::codes::{BAD_CALL, BAD_CONVERSION, BAD_OPERANDS, NO_ADDRESS};
@@ -17,7 +18,7 @@ use ckc_typed::constants::is_null;
 use ckc_typed::conversions::{is_bounds_cast, is_tested, is_trusted};
 use ckc_typed::operands::is_cast;
 use ckc_typed::types::{copied, is_object_type, is_void};
-use ckc_typed::{Globals, Note, operands};
+use ckc_typed::{Note, operands};
 use ckc_types::{CType, Kind};
 use std::alloc::Global;
 
@@ -39,7 +40,7 @@ fn in_row(void: bool, pos: Pos, t: Option<CType>) -> Result<CType, Fault>
 
 fn address_typed(
     alloc: Global,
-    globals: &Globals,
+    globals: &FileScope,
     mode: Mode,
     e: &Expr<Name, Note>,
     pos: Pos,
@@ -73,7 +74,7 @@ fn operation_typed(
 /// The type of a unary operator with its operand.
 pub fn unary_typed(
     alloc: Global,
-    globals: &Globals,
+    globals: &FileScope,
     mode: Mode,
     op: TreeOp,
     e: &Expr<Name, Note>,
@@ -140,28 +141,28 @@ pub fn index_typed(
 /// The type of `x.m`.
 pub fn dot_typed(
     alloc: Global,
-    globals: &Globals,
+    globals: &FileScope,
     e: &Expr<Name, Note>,
     n: Name,
     pos: Pos,
 ) -> Result<CType, Fault>
     ensures { AnswersOutcome result (dot_typed globals.now e.now n pos) }
 {
-    let t = lookups::dot_type(alloc, &globals.structs, &e.note.ctype, n)?;
+    let t = lookups::dot_type(alloc, globals.structs(), &e.note.ctype, n)?;
     in_row(is_void(&e.note.ctype), pos, t)
 }
 
 /// The type of `p->m`.
 pub fn arrow_typed(
     alloc: Global,
-    globals: &Globals,
+    globals: &FileScope,
     e: &Expr<Name, Note>,
     n: Name,
     pos: Pos,
 ) -> Result<CType, Fault>
     ensures { AnswersOutcome result (arrow_typed globals.now e.now n pos) }
 {
-    let t = lookups::arrow_type(alloc, &globals.structs, &e.note.ctype, n)?;
+    let t = lookups::arrow_type(alloc, globals.structs(), &e.note.ctype, n)?;
     in_row(is_void(&e.note.ctype), pos, t)
 }
 

@@ -13,8 +13,9 @@ use crate::expressions::{boxed_expr, typed_value};
 use crate::forms;
 use ckc_base::{Boxed, Fault, Mode, Pos, Seq};
 use ckc_environment::notes::stated;
+use ckc_environment::scope::FileScope;
 use ckc_syntax::{Act, Decl, Name, Stmt};
-use ckc_typed::{Globals, Note, Variable};
+use ckc_typed::{Note, Variable};
 use ckc_types::CType;
 use std::alloc::Global;
 
@@ -27,7 +28,7 @@ pub struct Frame {
 
 fn boxed_local(
     alloc: Global,
-    globals: &Globals,
+    globals: &FileScope,
     frame: &Frame,
     mode: Mode,
     pos: Pos,
@@ -45,7 +46,7 @@ fn boxed_local(
 #[cycle(stmt)]
 fn typed_act(
     alloc: Global,
-    globals: &Globals,
+    globals: &FileScope,
     frame: &Frame,
     mode: Mode,
     looped: bool,
@@ -118,7 +119,7 @@ fn typed_act(
 #[cycle(stmt)]
 pub fn typed_stmt(
     alloc: Global,
-    globals: &Globals,
+    globals: &FileScope,
     frame: &Frame,
     mode: Mode,
     looped: bool,
@@ -134,7 +135,7 @@ pub fn typed_stmt(
 #[cycle(stmt)]
 pub fn boxed_stmt(
     alloc: Global,
-    globals: &Globals,
+    globals: &FileScope,
     frame: &Frame,
     mode: Mode,
     looped: bool,
@@ -152,7 +153,7 @@ pub fn boxed_stmt(
 #[cycle(stmt)]
 fn typed_stmts(
     alloc: Global,
-    globals: &Globals,
+    globals: &FileScope,
     frame: &Frame,
     mode: Mode,
     looped: bool,
@@ -174,7 +175,7 @@ fn typed_stmts(
 #[cycle(stmt)]
 fn typed_part(
     alloc: Global,
-    globals: &Globals,
+    globals: &FileScope,
     frame: &Frame,
     mode: Mode,
     looped: bool,

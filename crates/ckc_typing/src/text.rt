@@ -5,7 +5,7 @@ ghost use Rattle.ckc_base.specs.Outcomes.{AnswersOutcome};
 ghost use Rattle.ckc_typed.specs.Texts.{text_typed, laid_out};
 ghost use Rattle.ckc_typing.specs.Phase.{typing};
 
-use crate::items::{globals_of, typed_items};
+use crate::items::{all_typed, globals_of};
 use crate::placing::placed;
 use ckc_base::{Fault, Seq};
 use ckc_statics::blocks;
@@ -26,7 +26,7 @@ fn typed_text(alloc: Global, tree: &Tree<Name, ()>, main: u32) -> Result<Typed, 
     ensures { AnswersOutcome result (text_typed tree.now main) }
 {
     let globals = globals_of(alloc, tree.items.as_slice())?;
-    let items = typed_items(alloc, &globals, tree.items.as_slice())?;
+    let items = all_typed(alloc, &globals, tree.items.as_slice())?;
     let statics = laid_out(alloc, &globals.structs, items.as_slice())?;
     Ok(Typed {
         tree: Tree { items },
