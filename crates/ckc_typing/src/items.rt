@@ -5,7 +5,7 @@ ghost use Rattle.ckc_base.specs.declared.arithmetic.Mode.TheVariants as mode;
 ghost use Rattle.ckc_syntax.specs.declared.tree.Item.TheVariants as item;
 ghost use Rattle.ckc_base.specs.Outcomes.{bind};
 ghost use Rattle.ckc_typed.specs.Types.{type_written};
-ghost use Rattle.ckc_typed.specs.Environment.{variable_declared, variables_of};
+ghost use Rattle.ckc_typed.specs.Environment.{variable_declared, params_of, variables_of};
 ghost use Rattle.ckc_typed.specs.Declarations.{bares_typed, static_typed};
 ghost use Rattle.ckc_typed.specs.Texts.{result_allowed, head_with, head_mode, head_typed, function_typed, item_typed, items_typed, globals_of};
 ghost use Rattle.ckc_base.specs.Outcomes.{AnswersOutcome};
@@ -23,7 +23,7 @@ use ckc_syntax::{Decl, Head, Item, Limits, Name, Stmt};
 use ckc_typed::codes::BAD_OPERANDS;
 use ckc_typed::copies::copied_type;
 use ckc_typed::types::{is_scalar_type, is_void, type_written};
-use ckc_typed::{Globals, Note};
+use ckc_typed::{Globals, Note, Variable};
 use std::alloc::{AllocError, Global};
 
 /// Judges that a function may give a result of its type.
@@ -71,6 +71,13 @@ fn made_head(
     Ok(made)
 }
 
+/// The parameters that a head declares.
+fn params_of(alloc: Global, h: &Head<Name, ()>) -> Result<Seq<Variable>, AllocError>
+    ensures { IfOk result (λ vs. vs ≡ params_of h.now) }
+{
+    variables_declared(alloc, h.params.as_slice())
+}
+
 fn typed_head(
     alloc: Global,
     globals: &FileScope,
@@ -80,7 +87,7 @@ fn typed_head(
     ensures { AnswersOutcome result (head_typed globals.now pragma h.now) }
 {
     let mode = head_mode(pragma, h);
-    let seen = variables_declared(alloc, h.params.as_slice())?;
+    let seen = params_of(alloc, h)?;
     let params = typed_bares(alloc, globals, seen.as_slice(), mode, h.params.as_slice())?;
     let bounds = typed_bounds(alloc, globals, seen.as_slice(), mode, &h.bounds)?;
     made_head(alloc, h, params, bounds)
