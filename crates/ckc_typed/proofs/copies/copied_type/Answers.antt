@@ -4,7 +4,7 @@ use Rattle.ckc_syntax.specs.declared.pointers.Pointer.TheVariants as pointer
 use Rattle.ckc_syntax.specs.Pointers.{pointer_to, wrapped}
 use Rattle.ckc_syntax.specs.Trees.{NamedTypeTree as TypeTree}
 use Rattle.ckc_syntax.proofs.Wrapping.{wrapped_push}
-use Rattle.ckc_rules.proofs.copies.copied_type.Goals as goal
+use Rattle.ckc_typed.proofs.copies.copied_type.Goals as goal
 
 -- a pointer is taken off
 taken_off : (pointers more : List Pointer) (p : Pointer) (rest inner next whole : TypeTree) → more ≡ pointers ++ p ∷ [] → rest ≡ pointer_to p inner → next ≡ inner →
