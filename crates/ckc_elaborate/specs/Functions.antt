@@ -5,7 +5,7 @@ use Rattle.ckc_typed.specs.declared.typed.Typed.{Typed}
 use Rattle.ckc_typed.specs.Trees.{NotedHead, NotedItem, NotedStmt}
 use Rattle.ckc_typed.specs.Types.{type_written}
 use Rattle.ckc_source.specs.Code.{Function}
-use Rattle.ckc_elaborate.specs.Results.{result_limits}
+use Rattle.ckc_results.specs.Results.{result_limits}
 use Rattle.ckc_elaborate.specs.Lists.{numbered}
 use Rattle.ckc_elaborate.specs.Objects.{count_declared}
 use Rattle.ckc_typed.specs.Environment.{variables_of}

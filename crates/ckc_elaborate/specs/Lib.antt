@@ -3,7 +3,6 @@ pub mod Names
 pub mod Literals
 pub mod Steps
 pub mod Made
-pub mod Results
 pub mod Statements
 pub mod Functions
 pub mod Objects

@@ -6,10 +6,10 @@ ghost use Rattle.ckc_elaborate.specs.Objects.{count_declared};
 ghost use Rattle.ckc_elaborate.specs.Functions.{function_elaborated, functions_in, functions_elaborated};
 
 use crate::literals::{in_head, in_item};
-use crate::results::result_limits;
 use crate::statements::stmt;
 use crate::variables::variables_of;
 use ckc_base::Seq;
+use ckc_results::result_limits;
 use ckc_source::{FunctionTree, Spot};
 use ckc_syntax::{Head, Item, Name, Stmt};
 use ckc_typed::types::type_written;

@@ -12,7 +12,6 @@ pub mod laws;
 mod literals;
 mod names;
 mod objects;
-mod results;
 mod shapes;
 mod statements;
 mod steps;

@@ -1,11 +1,12 @@
-//! The limits of results.
+//! The limits of results: what a program knows of a pointer that a function returns. The definitions stand in `specs/`.
+#![tactic(auto)]
 
 ghost use Rattle.std.specs.Prelude.{◌≡◌, ◌+ℤ◌, ◌-ℤ◌, IfOk};
 ghost use Rattle.ckc_syntax.specs.declared.tree.Node.{out-Node};
 ghost use Rattle.ckc_syntax.specs.declared.tree.Limits.{out-Limits};
 ghost use Rattle.ckc_typed.specs.Amounts.{amount_of_limits};
 ghost use Rattle.ckc_values.specs.Kinds.{size_behind};
-ghost use Rattle.ckc_elaborate.specs.Results.{own_end, with_variable, plus, less, shifted_by, shifted, end_named, pointer_form, bound_form, bound, limits_if, counted, limits_form, limits_of_count, result_limits};
+ghost use Rattle.ckc_results.specs.Results.{own_end, with_variable, plus, less, shifted_by, shifted, end_named, pointer_form, bound_form, bound, limits_if, counted, limits_form, limits_of_count, result_limits};
 
 use ckc_base::Boxed;
 use ckc_source::{Base, Count, End, Limits, Variable};
