@@ -1,5 +1,5 @@
 -- What a reader finds in a line is what the grammar says of it.
-use Rattle.std.proofs.Common.{◌≡◌, ◌↔◌, ℕ, ◌≤◌, ℤ, Bool, true, false, cond, ◌&&◌, nat_le, List, [], ◌∷◌, length, map, Option, Some, None, refl, sym, ap, subst, ◌∙◌, inl, inr, arith}
+use Rattle.std.proofs.Common.{◌≡◌, ◌↔◌, ℕ, ◌<◌, ◌≤◌, ℤ, Bool, true, false, cond, ◌&&◌, nat_le, List, [], ◌∷◌, length, map, Option, Some, None, refl, sym, ap, subst, ◌∙◌, inl, inr, arith}
 use Rattle.std.specs.Prelude.{codes, option_and_then, unwrap_or}
 use Rattle.std.specs.List.{slice_get}
 use Rattle.std.specs.Option.{option_map}
@@ -108,19 +108,25 @@ target_made w o (inr h) = ap (λ b. cond b (Some Named) (number_operand w)) (num
 -- ---- registers and last words
 
 module _ (words : List (List ℕ)) (i : Item) where
+  -- a word that names a register, and what is made of its number
+  named : (w : List ℕ) (f : ℕ → Option Item) → option_and_then f (register_of w) ≡ Some i → (a : ℕ) × (a < 32) × (w ≡ register a) × (f a ≡ Some i)
+  named w f e =
+      let x = bound f (register_of w) i e in
+      let r = (spelling.registers w x.0).0 x.1 in
+      (x.0, r.0, r.1, x.2)
+
   one_of : (f : ℕ → Form) (last : List ℕ → Option Operand) (Last : List ℕ → Operand → Type 0)
       → ((w : List ℕ) (o : Operand) → last w ≡ Some o → Last w o) → one_register words f last ≡ Some i → OfOne words f Last i
   one_of f last Last back e =
       let x = bound _ (two words) i e in
-      let y = bound _ (register_of x.0.0) i x.2 in
-      let z = bound _ (last x.0.1) i y.2 in
-      let r = (spelling.registers x.0.0 y.0).0 y.1 in
+      let y = named x.0.0 _ x.2 in
+      let z = bound _ (last x.0.1) i y.3 in
       record {
         a = y.0;
         w = x.0.1;
         o = z.0;
-        small = r.0;
-        spelled = two_found words x.0 x.1 ∙ ap (λ (v : List ℕ). pair v x.0.1) r.1;
+        small = y.1;
+        spelled = two_found words x.0 x.1 ∙ ap (λ (v : List ℕ). pair v x.0.1) y.2;
         last = back x.0.1 z.0 z.1;
         is = sym (same_Some (item (f y.0) z.0) i z.2);
       }
@@ -135,18 +141,16 @@ module _ (words : List (List ℕ)) (i : Item) where
       → ((w : List ℕ) (o : Operand) → last w ≡ Some o → Last w o) → two_registers words f last ≡ Some i → OfTwo words f Last i
   two_of f last Last back e =
       let x = bound _ (three words) i e in
-      let y = bound _ (register_of x.0.0) i x.2 in
-      let z = bound _ (register_of x.0.1) i y.2 in
-      let u = bound _ (last x.0.2) i z.2 in
-      let r = (spelling.registers x.0.0 y.0).0 y.1 in
-      let s = (spelling.registers x.0.1 z.0).0 z.1 in
+      let y = named x.0.0 _ x.2 in
+      let z = named x.0.1 _ y.3 in
+      let u = bound _ (last x.0.2) i z.3 in
       record {
         a = y.0;
         b = z.0;
         w = x.0.2;
         o = u.0;
-        small = (r.0, s.0);
-        spelled = three_found words x.0 x.1 ∙ ap (λ (v : List ℕ). triple v x.0.1 x.0.2) r.1 ∙ ap (λ (v : List ℕ). triple (register y.0) v x.0.2) s.1;
+        small = (y.1, z.1);
+        spelled = three_found words x.0 x.1 ∙ ap (λ (v : List ℕ). triple v x.0.1 x.0.2) y.2 ∙ ap (λ (v : List ℕ). triple (register y.0) v x.0.2) z.2;
         last = back x.0.2 u.0 u.1;
         is = sym (same_Some (item (f y.0 z.0) u.0) i u.2);
       }
@@ -160,21 +164,18 @@ module _ (words : List (List ℕ)) (i : Item) where
   three_of : (f : ℕ → ℕ → ℕ → Form) → three_registers words f ≡ Some i → OfThree words f i
   three_of f e =
       let x = bound _ (three words) i e in
-      let y = bound _ (register_of x.0.0) i x.2 in
-      let z = bound _ (register_of x.0.1) i y.2 in
-      let u = bound _ (register_of x.0.2) i z.2 in
-      let r = (spelling.registers x.0.0 y.0).0 y.1 in
-      let s = (spelling.registers x.0.1 z.0).0 z.1 in
-      let t = (spelling.registers x.0.2 u.0).0 u.1 in
+      let y = named x.0.0 _ x.2 in
+      let z = named x.0.1 _ y.3 in
+      let u = named x.0.2 _ z.3 in
       record {
         a = y.0;
         b = z.0;
         c = u.0;
-        small = (r.0, s.0, t.0);
+        small = (y.1, z.1, u.1);
         spelled =
-            three_found words x.0 x.1 ∙ ap (λ (v : List ℕ). triple v x.0.1 x.0.2) r.1 ∙ ap (λ (v : List ℕ). triple (register y.0) v x.0.2) s.1
-            ∙ ap (λ (v : List ℕ). triple (register y.0) (register z.0) v) t.1;
-        is = sym (same_Some (item (f y.0 z.0 u.0) Nothing) i u.2);
+            three_found words x.0 x.1 ∙ ap (λ (v : List ℕ). triple v x.0.1 x.0.2) y.2 ∙ ap (λ (v : List ℕ). triple (register y.0) v x.0.2) z.2
+            ∙ ap (λ (v : List ℕ). triple (register y.0) (register z.0) v) u.2;
+        is = sym (same_Some (item (f y.0 z.0 u.0) Nothing) i u.3);
       }
 
   three_made : (f : ℕ → ℕ → ℕ → Form) → OfThree words f i → three_registers words f ≡ Some i
@@ -185,20 +186,18 @@ module _ (words : List (List ℕ)) (i : Item) where
   base_of : (f : ℕ → ℕ → Form) → from_base words f ≡ Some i → OfBase words f i
   base_of f e =
       let x = bound _ (based words) i e in
-      let y = bound _ (register_of x.0.0) i x.2 in
-      let z = bound _ (number_of x.0.1) i y.2 in
-      let u = bound _ (register_of x.0.2) i z.2 in
-      let r = (spelling.registers x.0.0 y.0).0 y.1 in
-      let t = (spelling.registers x.0.2 u.0).0 u.1 in
+      let y = named x.0.0 _ x.2 in
+      let z = bound _ (number_of x.0.1) i y.3 in
+      let u = named x.0.2 _ z.2 in
       record {
         a = y.0;
         base = u.0;
         w = x.0.1;
         z = z.0;
-        small = (r.0, t.0);
-        spelled = based_found words x.0 x.1 ∙ ap (λ (v : List ℕ). based_on v x.0.1 x.0.2) r.1 ∙ ap (λ (v : List ℕ). based_on (register y.0) x.0.1 v) t.1;
+        small = (y.1, u.1);
+        spelled = based_found words x.0 x.1 ∙ ap (λ (v : List ℕ). based_on v x.0.1 x.0.2) y.2 ∙ ap (λ (v : List ℕ). based_on (register y.0) x.0.1 v) u.2;
         offset = (spelling.numbers x.0.1 z.0).0 z.1;
-        is = sym (same_Some (item (f y.0 u.0) (Number z.0)) i u.2);
+        is = sym (same_Some (item (f y.0 u.0) (Number z.0)) i u.3);
       }
 
   base_made : (f : ℕ → ℕ → Form) → OfBase words f i → from_base words f ≡ Some i

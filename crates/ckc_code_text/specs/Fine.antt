@@ -25,7 +25,8 @@ IsExpr locals deep e = IsExprOver locals (expr_of e) × (depth (expr_of e) ≤ d
 -- the limits.
 pub record IsFine (params : List ℕ) (locals : ℕ) (looped : Bool) (puts : Code → Code) : Type 0 where
   pub over : (functions : List Function) → map (λ (f : Function). f.params) functions ≡ params
-      → (rest : Code) → IsCodeOver functions locals looped rest → IsCodeOver functions locals looped (puts rest)
+      → (rest : Code) → IsCodeOver functions locals looped rest
+      → IsCodeOver functions locals looped (puts rest)
   pub limits : (rest : Code) → KeepsLimits rest → KeepsLimits (puts rest)
 
 abbrev pub IsStmt : List ℕ → ℕ → Bool → CoreStmt → Type 0

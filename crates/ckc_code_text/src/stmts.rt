@@ -49,7 +49,10 @@ fn stmt(
     let word = words.next()?;
     match word {
         "if" => branch(alloc, words, params, locals, looped, deep),
-        "loop" => turns(alloc, words, params, locals, looped, deep),
+        "loop" => {
+            let (body, step) = blocks(alloc, words, params, locals, (true, false), deep)?;
+            Ok(CoreStmt::Loop(body, step))
+        }
         "break" => leave(false, looped),
         "continue" => leave(true, looped),
         "call" => call(alloc, words, params, locals),
@@ -68,32 +71,30 @@ fn branch(
 ) -> Result<CoreStmt, TextFault>
     ensures { IfOk result (IsStmt params.now locals looped) }
 {
-    if deep == 0 {
-        return Err(TextFault::Malformed("too deep"));
-    }
     let e = value(alloc, words, locals)?;
-    let one = block(alloc, words, params, locals, looped, deep - 1)?;
-    let two = block(alloc, words, params, locals, looped, deep - 1)?;
+    let (one, two) = blocks(alloc, words, params, locals, (looped, looped), deep)?;
     Ok(CoreStmt::If(e.into_inner(), one, two))
 }
 
+/// Two blocks in braces, each perhaps in a loop.
 #[cycle(stmt)]
-fn turns(
+fn blocks(
     alloc: Global,
     words: &mut Words,
     params: &[u32],
     locals: u32,
-    looped: bool,
+    looped: (bool, bool),
     deep: u32,
-) -> Result<CoreStmt, TextFault>
-    ensures { IfOk result (IsStmt params.now locals looped) }
+) -> Result<(Seq<CoreStmt>, Seq<CoreStmt>), TextFault>
+    ensures one { IfOk result (λ r. IsBody params.now locals looped.0 r.0) }
+    ensures two { IfOk result (λ r. IsBody params.now locals looped.1 r.1) }
 {
     if deep == 0 {
         return Err(TextFault::Malformed("too deep"));
     }
-    let body = block(alloc, words, params, locals, true, deep - 1)?;
-    let step = block(alloc, words, params, locals, false, deep - 1)?;
-    Ok(CoreStmt::Loop(body, step))
+    let one = block(alloc, words, params, locals, looped.0, deep - 1)?;
+    let two = block(alloc, words, params, locals, looped.1, deep - 1)?;
+    Ok((one, two))
 }
 
 /// `break` or `continue`

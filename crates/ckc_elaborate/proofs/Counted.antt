@@ -6,16 +6,17 @@ use Rattle.ckc_syntax.specs.declared.tree.Name.{Name}
 use Rattle.ckc_syntax.specs.declared.tree.Init.TheVariants as init
 use Rattle.ckc_syntax.specs.declared.tree.Item.TheVariants as item
 use Rattle.ckc_syntax.specs.declared.tree.Act.{Act-F, fold-Act, map-Act, roll-Act, fold-roll-Act}
-use Rattle.ckc_syntax.specs.declared.tree.Stmt.{Stmt-F, map-Stmt, ind-Stmt, roll-Stmt, fold-roll-Stmt}
+use Rattle.ckc_syntax.specs.declared.tree.Stmt.{roll-Stmt, fold-roll-Stmt}
 use Rattle.ckc_typed.specs.declared.typed.Note.{Note}
 use Rattle.ckc_typed.specs.Trees.{NotedLimits, NotedInit, NotedDecl, NotedExpr, NotedAct, NotedStmt, NotedHead, NotedItem}
 use Rattle.ckc_typed.specs.Declarations.{is_plain}
 use Rattle.ckc_typed.specs.Statics.{Strings, joined_strings, strings_of_expr, strings_of_bounds, strings_of_value, strings_of_init, strings_of_decl, act_strings, stmt_strings, strings_of_stmt, strings_of_head, strings_of_item}
-use Rattle.ckc_values.specs.Expressions.{literals_of}
+use Rattle.ckc_typed.proofs.ActLayers as kept
+use Rattle.ckc_typed.proofs.ActLayers.{ActSteps, ActProperty, KeptActLayer, KeptStmtLayer, inner_act, inner_stmt, act_made, stmt_made, each_stmt}
 use Rattle.ckc_values.specs.Expressions as values
 use Rattle.ckc_values.proofs.Counted.{both, third, limits_counted, expr_counted}
 use Rattle.ckc_elaborate.specs.Literals.{literals_of_value, literals_of_bounds, literals_of_init, literals_of_decl, literals_of_decls}
-use Rattle.ckc_elaborate.specs.Statements.{ActPart, Part, act_parts, stmt_parts, act_literals, all_literals, part_of, part_of_act}
+use Rattle.ckc_elaborate.specs.Statements.{ActPart, Part, act_parts, stmt_parts, all_literals, part_of}
 use Rattle.ckc_elaborate.specs.Functions.{literals_of_head, literals_of_item}
 
 exprs : (es : List NotedExpr) → values.all_literals (map values.part_of es) ≡ length (flat_map strings_of_expr es)
@@ -48,41 +49,23 @@ decls (d ∷ ds) = both (strings_of_decl d) (flat_map strings_of_decl ds) _ _ (d
 abbrev strings_of_act : NotedAct → Strings
 strings_of_act = fold-Act Name Note Strings Strings act_strings stmt_strings
 
-abbrev ActCounted : NotedAct → Type 0
-ActCounted a = (part_of_act a).literals ≡ length (strings_of_act a)
+abbrev counting : ActSteps ActPart Part
+counting = record { act = act_parts; stmt = stmt_parts }
 
-abbrev StmtCounted : NotedStmt → Type 0
-StmtCounted s = (part_of s).literals ≡ length (strings_of_stmt s)
-
-abbrev KeptAct : Type 0
-KeptAct = (a : NotedAct) × ActCounted a
+abbrev counted : ActProperty ActPart Part
+counted = record { act = λ a q. q.literals ≡ length (strings_of_act a); stmt = λ s q. q.literals ≡ length (strings_of_stmt s) }
 
 abbrev KeptStmt : Type 0
-KeptStmt = (s : NotedStmt) × StmtCounted s
+KeptStmt = kept.KeptStmt counting counted
 
-abbrev inner_act : Act-F Name Note KeptAct KeptStmt → Act-F Name Note NotedAct NotedStmt
-inner_act = map-Act Name Note KeptAct KeptStmt NotedAct NotedStmt (λ k. k.0) (λ k. k.0)
-
-abbrev inner_stmt : Stmt-F Name Note KeptAct KeptStmt → Stmt-F Name Note NotedAct NotedStmt
-inner_stmt = map-Stmt Name Note KeptAct KeptStmt NotedAct NotedStmt (λ k. k.0) (λ k. k.0)
-
-abbrev part_act : Act-F Name Note NotedAct NotedStmt → Act-F Name Note ActPart Part
-part_act = map-Act Name Note NotedAct NotedStmt ActPart Part part_of_act part_of
-
-abbrev part_stmt : Stmt-F Name Note NotedAct NotedStmt → Stmt-F Name Note ActPart Part
-part_stmt = map-Stmt Name Note NotedAct NotedStmt ActPart Part part_of_act part_of
-
-abbrev held_act : Act-F Name Note NotedAct NotedStmt → Act-F Name Note Strings Strings
-held_act = map-Act Name Note NotedAct NotedStmt Strings Strings strings_of_act strings_of_stmt
-
-abbrev held_stmt : Stmt-F Name Note NotedAct NotedStmt → Stmt-F Name Note Strings Strings
-held_stmt = map-Stmt Name Note NotedAct NotedStmt Strings Strings strings_of_act strings_of_stmt
+abbrev held_act : KeptActLayer counting counted → Act-F Name Note Strings Strings
+held_act y = map-Act Name Note NotedAct NotedStmt Strings Strings strings_of_act strings_of_stmt (inner_act counting counted y)
 
 each : (ks : List KeptStmt) → all_literals (map part_of (map (λ (k : KeptStmt). k.0) ks)) ≡ length (joined_strings (map strings_of_stmt (map (λ (k : KeptStmt). k.0) ks)))
 each [] = refl
 each (k ∷ ks) = both (strings_of_stmt k.0) _ _ _ k.1 (each ks)
 
-act_step : (y : Act-F Name Note KeptAct KeptStmt) → act_literals (part_act (inner_act y)) ≡ length (act_strings (held_act (inner_act y)))
+act_step : (y : KeptActLayer counting counted) → (act_made counting counted y).literals ≡ length (act_strings (held_act y))
 act_step (Act-F.Block m ks) = each ks
 act_step Act-F.Empty = refl
 act_step (Act-F.Local d) = decl d
@@ -101,22 +84,15 @@ act_step Act-F.Continue = refl
 act_step (Act-F.Check e) = expr_counted e
 act_step (Act-F.Bundle ks) = each ks
 
-act_by : (x : Act-F Name Note NotedAct NotedStmt) (y : Act-F Name Note KeptAct KeptStmt) → inner_act y ≡ x → ActCounted (roll-Act Name Note x)
-act_by x y is =
-    ap (λ (q : ActPart). q.literals) (fold-roll-Act Name Note ActPart Part act_parts stmt_parts x)
-    ∙ ap (λ z. act_literals (part_act z)) (sym is) ∙ act_step y
-    ∙ ap (λ z. length (act_strings (held_act z))) is
-    ∙ ap length (sym (fold-roll-Act Name Note Strings Strings act_strings stmt_strings x))
+-- the same, of the literals of the whole layer
+act_all : (y : KeptActLayer counting counted) → (act_made counting counted y).literals ≡ length (strings_of_act (roll-Act Name Note (inner_act counting counted y)))
+act_all y = act_step y ∙ ap length (sym (fold-roll-Act Name Note Strings Strings act_strings stmt_strings (inner_act counting counted y)))
 
-stmt_by : (x : Stmt-F Name Note NotedAct NotedStmt) (y : Stmt-F Name Note KeptAct KeptStmt) → inner_stmt y ≡ x → StmtCounted (roll-Stmt Name Note x)
-stmt_by x y is =
-    ap (λ (q : Part). q.literals) (fold-roll-Stmt Name Note ActPart Part act_parts stmt_parts x)
-    ∙ ap (λ z. (stmt_parts (part_stmt z)).literals) (sym is) ∙ y.body.1
-    ∙ ap (λ z. length (stmt_strings (held_stmt z))) is
-    ∙ ap length (sym (fold-roll-Stmt Name Note Strings Strings act_strings stmt_strings x))
+stmt_all : (y : KeptStmtLayer counting counted) → (stmt_made counting counted y).literals ≡ length (strings_of_stmt (roll-Stmt Name Note (inner_stmt counting counted y)))
+stmt_all y = y.body.1 ∙ ap length (sym (fold-roll-Stmt Name Note Strings Strings act_strings stmt_strings (inner_stmt counting counted y)))
 
-stmt : (s : NotedStmt) → StmtCounted s
-stmt = ind-Stmt Name Note ActCounted StmtCounted act_by stmt_by
+stmt : (s : NotedStmt) → (part_of s).literals ≡ length (strings_of_stmt s)
+stmt = each_stmt counting counted act_all stmt_all
 
 head : (h : NotedHead) → literals_of_head h ≡ length (strings_of_head h)
 head h = both (flat_map strings_of_decl h.params) (strings_of_bounds h.bounds) _ _ (decls h.params) (bounds h.bounds)

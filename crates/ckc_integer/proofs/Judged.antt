@@ -1,5 +1,5 @@
 -- A list that is judged from its last element to the first.
-use Rattle.std.proofs.Common.{◌≡◌, ℕ, suc, ◌-◌, ◌≤◌, ◌<◌, Bool, true, false, List, ◌∷◌, length, drop, get_or, sym, ◌∙◌, ap, subst, arith, drop-cons}
+use Rattle.std.proofs.Common.{◌≡◌, ℕ, suc, ◌-◌, ◌≤◌, ◌<◌, Bool, true, false, List, ◌∷◌, map, length, drop, get_or, sym, ◌∙◌, ap, subst, arith, drop-cons}
 use Rattle.std.specs.Prelude.{◌↔◌, IsTrue, All}
 use Rattle.std.proofs.lemmas.List.Elements.{All-cons, All-head, All-tail}
 
@@ -23,3 +23,15 @@ module _ {X : Type 0} (P : X → Type 0) (whole rest : List X) (x : X) (one good
     λ h. subst (All P) (sym is) (absurd (let e : true ≡ false = sym h ∙ so in cc)),
     λ h. judged.1 (All-head P x rest (subst (All P) is h)),
   )
+
+-- one element more of a list, each judged by what it is a view of
+module _ {X Y : Type 0} (P : Y → Type 0) (f : X → Y) (xs : List X) (i : ℕ) (x : X) (one good : Bool) (more : 0 < i) (within : i ≤ length xs) (is : x ≡ get_or xs (i - 1) x)
+    (judged : IsTrue one ↔ P (f x)) (others : IsTrue good ↔ All P (map f (drop i xs))) where
+  there : map f (drop (i - 1) xs) ≡ f x ∷ map f (drop i xs)
+  there = ap (map f) (front xs i x more within is)
+
+  pub good_there : one ≡ true → IsTrue good ↔ All P (map f (drop (i - 1) xs))
+  good_there = and_good P (map f (drop (i - 1) xs)) (map f (drop i xs)) (f x) one good there judged others
+
+  pub bad_there : one ≡ false → IsTrue one ↔ All P (map f (drop (i - 1) xs))
+  bad_there = and_bad P (map f (drop (i - 1) xs)) (map f (drop i xs)) (f x) one good there judged others

@@ -1,15 +1,15 @@
 -- Which codes the refusals of the bounds phase have: of outcomes, and of statements.
-use Rattle.std.proofs.Common.{◌≡◌, inl, inr, ◌∙◌, sym, ap, subst, refl, ℕ, List, [], ◌∷◌, map, Bool, true, false, if◌then◌else◌}
+use Rattle.std.proofs.Common.{inl, inr, refl, ℕ, List, [], ◌∷◌, map, Bool, true, false, if◌then◌else◌}
 use Rattle.std.specs.Prelude.{Ok, Err, Option, Some, None, not}
 use Rattle.ckc_base.specs.declared.places.Pos.{Pos}
 use Rattle.ckc_base.specs.Outcomes.{Outcome, bind, unless, in_order, in_turn, there_or}
-use Rattle.ckc_syntax.specs.declared.tree.Name.{Name}
 use Rattle.ckc_syntax.specs.declared.tree.Init.TheVariants as init
-use Rattle.ckc_syntax.specs.declared.tree.Act.{Act-F, map-Act, roll-Act, fold-roll-Act}
-use Rattle.ckc_syntax.specs.declared.tree.Stmt.{Stmt-F, map-Stmt, ind-Stmt, roll-Stmt, fold-roll-Stmt}
+use Rattle.ckc_syntax.specs.declared.tree.Act.{Act-F}
 use Rattle.ckc_typed.specs.declared.typed.Note.{Note}
 use Rattle.ckc_typed.specs.Types.{type_written}
-use Rattle.ckc_typed.specs.Trees.{NotedAct, NotedStmt, NotedExpr, NotedDecl, NotedInit, NotedLimits}
+use Rattle.ckc_typed.proofs.ActLayers as kept_trees
+use Rattle.ckc_typed.proofs.ActLayers.{ActSteps, ActProperty, KeptActLayer, act_made, each_stmt}
+use Rattle.ckc_typed.specs.Trees.{NotedStmt, NotedExpr, NotedDecl, NotedInit, NotedLimits}
 use Rattle.ckc_types.specs.declared.types.CType.{CType}
 use Rattle.ckc_syntax.specs.declared.tree.Length.{Length}
 use Rattle.ckc_points.specs.declared.frame.Bounds.TheVariants as bounds
@@ -19,7 +19,7 @@ use Rattle.ckc_declared.specs.declared.limits.Holder.{Holder}
 use Rattle.ckc_syntax.specs.declared.tree.Act.TheVariants as act
 use Rattle.ckc_declared.specs.Written.{bounds_declared, bounds_taken, bad_limits, place_of_limits}
 use Rattle.ckc_statements.specs.DeclBounds.{decl_bounds, bounds_there, holder_of}
-use Rattle.ckc_statements.specs.Paths.{Here, value_judged, maybe_judged, init_judged, starts_within, declared_here, stated, gone, decl_judged, all_judged, parts_judged, is_good, bounds_judged, bundle_judged, sides_judged, behind_stores, is_returned, not_contained, bad_bundle, branched, for_started, Path, ActPath, act_path, stmt_path, path_of_act, path}
+use Rattle.ckc_statements.specs.Paths.{Here, value_judged, maybe_judged, init_judged, starts_within, declared_here, stated, gone, decl_judged, all_judged, parts_judged, is_good, bounds_judged, bundle_judged, sides_judged, behind_stores, is_returned, not_contained, bad_bundle, branched, for_started, Path, ActPath, act_path, stmt_path, path}
 use Rattle.ckc_statements.specs.Codes.{IsBoundsCode}
 
 abbrev pub HasCode : {A : Type 0} → Outcome A → Type 0
@@ -98,31 +98,22 @@ module _ (value_coded : (frame : Frame) (e : NotedExpr) (h : Here) → HasCode (
   start_coded : (frame : Frame) (left continued : Bool) (e : Option NotedExpr) (h : Here) → HasCode (for_started frame left continued e h)
   start_coded frame left continued e h = bound _ _ (maybe_coded frame e h) (λ p. tt)
 
-  pub record StmtCoded (s : NotedStmt) : Type 0 where
-    pub judged : (frame : Frame) (head : HeadBounds) (h : Here) → HasCode ((path s).judged frame head h)
-    pub part : (frame : Frame) (bundle : Pos) (h : Here) → HasCode ((path s).part frame bundle h)
+  pub record StmtCoded (p : Path) : Type 0 where
+    pub judged : (frame : Frame) (head : HeadBounds) (h : Here) → HasCode (p.judged frame head h)
+    pub part : (frame : Frame) (bundle : Pos) (h : Here) → HasCode (p.part frame bundle h)
 
-  pub record ActCoded (a : NotedAct) : Type 0 where
-    pub judged : (frame : Frame) (head : HeadBounds) (at : Pos) (note : Note) (h : Here) → HasCode ((path_of_act a).judged frame head at note h)
-    pub part : (frame : Frame) (bundle at : Pos) (note : Note) (h : Here) → HasCode ((path_of_act a).part frame bundle at note h)
+  pub record ActCoded (p : ActPath) : Type 0 where
+    pub judged : (frame : Frame) (head : HeadBounds) (at : Pos) (note : Note) (h : Here) → HasCode (p.judged frame head at note h)
+    pub part : (frame : Frame) (bundle at : Pos) (note : Note) (h : Here) → HasCode (p.part frame bundle at note h)
 
-  abbrev KeptAct : Type 0
-  KeptAct = (a : NotedAct) × ActCoded a
+  abbrev judging : ActSteps ActPath Path
+  judging = record { act = act_path; stmt = stmt_path }
+
+  abbrev coded : ActProperty ActPath Path
+  coded = record { act = λ a p. ActCoded p; stmt = λ s p. StmtCoded p }
 
   abbrev KeptStmt : Type 0
-  KeptStmt = (s : NotedStmt) × StmtCoded s
-
-  abbrev inner_act : Act-F Name Note KeptAct KeptStmt → Act-F Name Note NotedAct NotedStmt
-  inner_act = map-Act Name Note KeptAct KeptStmt NotedAct NotedStmt (λ e. e.0) (λ e. e.0)
-
-  abbrev inner_stmt : Stmt-F Name Note KeptAct KeptStmt → Stmt-F Name Note NotedAct NotedStmt
-  inner_stmt = map-Stmt Name Note KeptAct KeptStmt NotedAct NotedStmt (λ e. e.0) (λ e. e.0)
-
-  abbrev act_inside : Act-F Name Note NotedAct NotedStmt → Act-F Name Note ActPath Path
-  act_inside = map-Act Name Note NotedAct NotedStmt ActPath Path path_of_act path
-
-  abbrev stmt_inside : Stmt-F Name Note NotedAct NotedStmt → Stmt-F Name Note ActPath Path
-  stmt_inside = map-Stmt Name Note NotedAct NotedStmt ActPath Path path_of_act path
+  KeptStmt = kept_trees.KeptStmt judging coded
 
   all_coded : (frame : Frame) (head : HeadBounds) (ks : List KeptStmt) (h : Here) → HasCode (all_judged frame head (map path (map (λ k. k.0) ks)) h)
   unfolding all_judged
@@ -139,7 +130,7 @@ module _ (value_coded : (frame : Frame) (e : NotedExpr) (h : Here) → HasCode (
   bundle_coded frame head at note ks h =
       bound _ _ (parts_coded frame at ks h) (λ p. kept {A = NotedStmt × Here} (not (is_good p.1 p.0)) bad_bundle at (bind (behind_stores frame head p.0 h.next p.1) (λ g. Ok (stated at note (act.Bundle p.0), g))) is_607 (bound _ _ (stores_coded frame head p.0 h.next p.1) (λ g. tt)))
 
-  act_step : (y : Act-F Name Note KeptAct KeptStmt) (frame : Frame) (head : HeadBounds) (at : Pos) (note : Note) (h : Here) → HasCode ((act_path (act_inside (inner_act y))).judged frame head at note h)
+  act_step : (y : KeptActLayer judging coded) (frame : Frame) (head : HeadBounds) (at : Pos) (note : Note) (h : Here) → HasCode ((act_made judging coded y).judged frame head at note h)
   act_step (Act-F.Block m ks) frame head at note h = bound _ _ (all_coded frame head ks h) (λ p. tt)
   act_step Act-F.Empty frame head at note h = tt
   act_step (Act-F.Local d) frame head at note h = bound _ _ (local_coded frame d h) (λ p. tt)
@@ -164,36 +155,10 @@ module _ (value_coded : (frame : Frame) (e : NotedExpr) (h : Here) → HasCode (
   act_step (Act-F.Check e) frame head at note h = bound _ _ (value_coded frame e h) (λ p. tt)
   act_step (Act-F.Bundle ks) frame head at note h = bundle_coded frame head at note ks h
 
-  part_step : (y : Act-F Name Note KeptAct KeptStmt) (frame : Frame) (bundle at : Pos) (note : Note) (h : Here) → HasCode ((act_path (act_inside (inner_act y))).part frame bundle at note h)
-  part_step (Act-F.Block m ks) frame bundle at note h = is_607
-  part_step Act-F.Empty frame bundle at note h = is_607
-  part_step (Act-F.Local d) frame bundle at note h = is_607
+  part_step : (y : KeptActLayer judging coded) (frame : Frame) (bundle at : Pos) (note : Note) (h : Here) → HasCode ((act_made judging coded y).part frame bundle at note h)
   part_step (Act-F.Assign e f) frame bundle at note h = sides_coded frame at note e f h
-  part_step (Act-F.Call e) frame bundle at note h = is_607
-  part_step (Act-F.If e k j) frame bundle at note h = is_607
-  part_step (Act-F.While e k) frame bundle at note h = is_607
-  part_step (Act-F.For i e j k) frame bundle at note h = is_607
-  part_step (Act-F.Return e) frame bundle at note h = is_607
-  part_step Act-F.Break frame bundle at note h = is_607
-  part_step Act-F.Continue frame bundle at note h = is_607
-  part_step (Act-F.Check e) frame bundle at note h = is_607
-  part_step (Act-F.Bundle ks) frame bundle at note h = is_607
+  part_step _ frame bundle at note h = is_607
 
-  act_by : (x : Act-F Name Note NotedAct NotedStmt) (y : Act-F Name Note KeptAct KeptStmt) → inner_act y ≡ x → ActCoded (roll-Act Name Note x)
-  act_by x y is =
-      let e : act_path (act_inside (inner_act y)) ≡ path_of_act (roll-Act Name Note x) = sym (fold-roll-Act Name Note ActPath Path act_path stmt_path x ∙ ap (λ z. act_path (act_inside z)) (sym is)) in
-      record {
-        judged = λ frame head at note h. subst (λ (p : ActPath). HasCode (p.judged frame head at note h)) e (act_step y frame head at note h);
-        part = λ frame bundle at note h. subst (λ (p : ActPath). HasCode (p.part frame bundle at note h)) e (part_step y frame bundle at note h);
-      }
-
-  stmt_by : (x : Stmt-F Name Note NotedAct NotedStmt) (y : Stmt-F Name Note KeptAct KeptStmt) → inner_stmt y ≡ x → StmtCoded (roll-Stmt Name Note x)
-  stmt_by x y is =
-      let e : stmt_path (stmt_inside (inner_stmt y)) ≡ path (roll-Stmt Name Note x) = sym (fold-roll-Stmt Name Note ActPath Path act_path stmt_path x ∙ ap (λ z. stmt_path (stmt_inside z)) (sym is)) in
-      record {
-        judged = λ frame head h. subst (λ (p : Path). HasCode (p.judged frame head h)) e (y.body.1.judged frame head y.pos y.note h);
-        part = λ frame bundle h. subst (λ (p : Path). HasCode (p.part frame bundle h)) e (y.body.1.part frame bundle y.pos y.note h);
-      }
-
-  pub stmt_coded : (s : NotedStmt) → StmtCoded s
-  stmt_coded = ind-Stmt Name Note ActCoded StmtCoded act_by stmt_by
+  pub stmt_coded : (s : NotedStmt) → StmtCoded (path s)
+  stmt_coded = each_stmt judging coded (λ y. record { judged = λ frame. act_step y frame; part = λ frame. part_step y frame })
+      (λ y. record { judged = λ frame head h. y.body.1.judged frame head y.pos y.note h; part = λ frame bundle h. y.body.1.part frame bundle y.pos y.note h })

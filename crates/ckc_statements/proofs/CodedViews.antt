@@ -112,29 +112,7 @@ module _ (frame : Frame) where
 
   unary_step : (o : TreeOp) (k : KeptExpr) (fresh : ℕ) (at : State) (t : CType) → HasCode (node_judged frame (node_inside (inner_node (Node-F.Un o k))) t fresh at)
   unary_step op.Address k fresh at t = bound _ _ (k.1.operand fresh at) (λ a. tt)
-  unary_step op.Minus k fresh at t = bound _ _ (k.1.judged fresh at) (λ a. tt)
-  unary_step op.Plus k fresh at t = bound _ _ (k.1.judged fresh at) (λ a. tt)
-  unary_step op.Not k fresh at t = bound _ _ (k.1.judged fresh at) (λ a. tt)
-  unary_step op.Flip k fresh at t = bound _ _ (k.1.judged fresh at) (λ a. tt)
-  unary_step op.Deref k fresh at t = bound _ _ (k.1.judged fresh at) (λ a. tt)
-  unary_step op.OrElse k fresh at t = bound _ _ (k.1.judged fresh at) (λ a. tt)
-  unary_step op.AndThen k fresh at t = bound _ _ (k.1.judged fresh at) (λ a. tt)
-  unary_step op.Or k fresh at t = bound _ _ (k.1.judged fresh at) (λ a. tt)
-  unary_step op.Xor k fresh at t = bound _ _ (k.1.judged fresh at) (λ a. tt)
-  unary_step op.And k fresh at t = bound _ _ (k.1.judged fresh at) (λ a. tt)
-  unary_step op.Eq k fresh at t = bound _ _ (k.1.judged fresh at) (λ a. tt)
-  unary_step op.Ne k fresh at t = bound _ _ (k.1.judged fresh at) (λ a. tt)
-  unary_step op.Lt k fresh at t = bound _ _ (k.1.judged fresh at) (λ a. tt)
-  unary_step op.Le k fresh at t = bound _ _ (k.1.judged fresh at) (λ a. tt)
-  unary_step op.Gt k fresh at t = bound _ _ (k.1.judged fresh at) (λ a. tt)
-  unary_step op.Ge k fresh at t = bound _ _ (k.1.judged fresh at) (λ a. tt)
-  unary_step op.Shl k fresh at t = bound _ _ (k.1.judged fresh at) (λ a. tt)
-  unary_step op.Shr k fresh at t = bound _ _ (k.1.judged fresh at) (λ a. tt)
-  unary_step op.Add k fresh at t = bound _ _ (k.1.judged fresh at) (λ a. tt)
-  unary_step op.Sub k fresh at t = bound _ _ (k.1.judged fresh at) (λ a. tt)
-  unary_step op.Mul k fresh at t = bound _ _ (k.1.judged fresh at) (λ a. tt)
-  unary_step op.Div k fresh at t = bound _ _ (k.1.judged fresh at) (λ a. tt)
-  unary_step op.Rem k fresh at t = bound _ _ (k.1.judged fresh at) (λ a. tt)
+  unary_step _ k fresh at t = bound _ _ (k.1.judged fresh at) (λ a. tt)
 
   judged_step : (y : Node-F Name Note KeptLimits KeptNode KeptExpr) (t : CType) (fresh : ℕ) (at : State) → HasCode (node_judged frame (node_inside (inner_node y)) t fresh at)
   judged_step (Node-F.Number n unsigned) t fresh at = tt
@@ -158,38 +136,12 @@ module _ (frame : Frame) where
 
   call_coded : (n : Name) (es : List View) (fresh : ℕ) (at : State) → CodedFault (call_fault frame n es fresh at)
   call_coded (name.Function k) es fresh at = head_coded (slice_get frame.heads k) es fresh at
-  call_coded (name.Local k) es fresh at = tt
-  call_coded (name.Static k) es fresh at = tt
-  call_coded (name.Tag k) es fresh at = tt
-  call_coded (name.Member k) es fresh at = tt
-  call_coded name.Getchar es fresh at = tt
-  call_coded name.Putchar es fresh at = tt
+  call_coded _ es fresh at = tt
 
   unary_coded : (o : TreeOp) (e : View) (pos : Pos) (fresh : ℕ) (at : State) → CodedFault (unary_fault o e pos fresh at)
   unary_coded op.Deref e pos fresh at = if_coded _ unknown_bounds pos is_601
   unary_coded op.Address e pos fresh at = if_coded e.no_address bounds_address pos is_606
-  unary_coded op.Minus e pos fresh at = tt
-  unary_coded op.Plus e pos fresh at = tt
-  unary_coded op.Not e pos fresh at = tt
-  unary_coded op.Flip e pos fresh at = tt
-  unary_coded op.OrElse e pos fresh at = tt
-  unary_coded op.AndThen e pos fresh at = tt
-  unary_coded op.Or e pos fresh at = tt
-  unary_coded op.Xor e pos fresh at = tt
-  unary_coded op.And e pos fresh at = tt
-  unary_coded op.Eq e pos fresh at = tt
-  unary_coded op.Ne e pos fresh at = tt
-  unary_coded op.Lt e pos fresh at = tt
-  unary_coded op.Le e pos fresh at = tt
-  unary_coded op.Gt e pos fresh at = tt
-  unary_coded op.Ge e pos fresh at = tt
-  unary_coded op.Shl e pos fresh at = tt
-  unary_coded op.Shr e pos fresh at = tt
-  unary_coded op.Add e pos fresh at = tt
-  unary_coded op.Sub e pos fresh at = tt
-  unary_coded op.Mul e pos fresh at = tt
-  unary_coded op.Div e pos fresh at = tt
-  unary_coded op.Rem e pos fresh at = tt
+  unary_coded _ e pos fresh at = tt
 
   fault_coded : (n : NodeOfViews) (pos : Pos) (fresh : ℕ) (at : State) → CodedFault (fault_of_node frame n pos fresh at)
   fault_coded (Node-F.Un o e) pos fresh at = unary_coded o e pos fresh at
@@ -197,61 +149,14 @@ module _ (frame : Frame) where
   fault_coded (Node-F.Arrow e n spot) pos fresh at = if_coded _ unknown_bounds pos is_601
   fault_coded (Node-F.Tested w e l) pos fresh at = if_coded _ unknown_bounds pos is_601
   fault_coded (Node-F.Call n es) pos fresh at = call_coded n es fresh at
-  fault_coded (Node-F.Number n unsigned) pos fresh at = tt
-  fault_coded (Node-F.Text bytes) pos fresh at = tt
-  fault_coded Node-F.Null pos fresh at = tt
-  fault_coded (Node-F.Name n) pos fresh at = tt
-  fault_coded (Node-F.Bin o e f) pos fresh at = tt
-  fault_coded (Node-F.Pick e f g) pos fresh at = tt
-  fault_coded (Node-F.Dot e n spot) pos fresh at = tt
-  fault_coded (Node-F.Cast w e) pos fresh at = tt
-  fault_coded (Node-F.Size w) pos fresh at = tt
-  fault_coded (Node-F.Trusted w e l) pos fresh at = tt
-  fault_coded (Node-F.Calloc w e x) pos fresh at = tt
+  fault_coded _ pos fresh at = tt
 
   operand_coded : (n : NodeOfViews) (pos : Pos) (fresh : ℕ) (at : State) → CodedFault (operand_fault_of_node frame n pos fresh at)
-  operand_coded (Node-F.Index e f) pos fresh at = tt
-  operand_coded (Node-F.Un o e) pos fresh at = by o
-    where
-      by : (o : TreeOp) → CodedFault (operand_fault_of_node frame (Node-F.Un o e) pos fresh at)
-      by op.Deref = tt
-      by op.Address = if_coded e.no_address bounds_address pos is_606
-      by op.Minus = tt
-      by op.Plus = tt
-      by op.Not = tt
-      by op.Flip = tt
-      by op.OrElse = tt
-      by op.AndThen = tt
-      by op.Or = tt
-      by op.Xor = tt
-      by op.And = tt
-      by op.Eq = tt
-      by op.Ne = tt
-      by op.Lt = tt
-      by op.Le = tt
-      by op.Gt = tt
-      by op.Ge = tt
-      by op.Shl = tt
-      by op.Shr = tt
-      by op.Add = tt
-      by op.Sub = tt
-      by op.Mul = tt
-      by op.Div = tt
-      by op.Rem = tt
+  operand_coded (Node-F.Un op.Address e) pos fresh at = if_coded e.no_address bounds_address pos is_606
   operand_coded (Node-F.Arrow e n spot) pos fresh at = if_coded _ unknown_bounds pos is_601
   operand_coded (Node-F.Tested w e l) pos fresh at = if_coded _ unknown_bounds pos is_601
   operand_coded (Node-F.Call n es) pos fresh at = call_coded n es fresh at
-  operand_coded (Node-F.Number n unsigned) pos fresh at = tt
-  operand_coded (Node-F.Text bytes) pos fresh at = tt
-  operand_coded Node-F.Null pos fresh at = tt
-  operand_coded (Node-F.Name n) pos fresh at = tt
-  operand_coded (Node-F.Bin o e f) pos fresh at = tt
-  operand_coded (Node-F.Pick e f g) pos fresh at = tt
-  operand_coded (Node-F.Dot e n spot) pos fresh at = tt
-  operand_coded (Node-F.Cast w e) pos fresh at = tt
-  operand_coded (Node-F.Size w) pos fresh at = tt
-  operand_coded (Node-F.Trusted w e l) pos fresh at = tt
-  operand_coded (Node-F.Calloc w e x) pos fresh at = tt
+  operand_coded _ pos fresh at = tt
 
   limits_by : (x : Limits-F Name Note NotedLimits NotedNode NotedExpr) (y : Limits-F Name Note KeptLimits KeptNode KeptExpr) → inner_limits y ≡ x → LimitsCoded (view_of_limits frame (roll-Limits Name Note x))
   limits_by x y is =

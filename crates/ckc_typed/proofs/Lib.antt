@@ -1,1 +1,2 @@
+pub mod ActLayers
 mod Around

@@ -13,7 +13,7 @@ pub fn copied_type(alloc: Global, t: &TypeTree<Name>) -> Result<TypeTree<Name>, 
     let mut pointers = Seq::new(alloc);
     let mut rest = t;
     'pointers: loop {
-        match rest {
+        let (pointer, inner) = match rest {
             TypeTree::Int => return wrapped(alloc, pointers, TypeTree::Int),
             TypeTree::Unsigned => return wrapped(alloc, pointers, TypeTree::Unsigned),
             TypeTree::Char => return wrapped(alloc, pointers, TypeTree::Char),
@@ -21,22 +21,12 @@ pub fn copied_type(alloc: Global, t: &TypeTree<Name>) -> Result<TypeTree<Name>, 
             TypeTree::Struct(n, pos) => {
                 return wrapped(alloc, pointers, TypeTree::Struct(*n, *pos));
             }
-            TypeTree::Raw(inner, pos) => {
-                pointers.push(Pointer::Raw(*pos))?;
-                rest = inner.get();
-            }
-            TypeTree::One(inner) => {
-                pointers.push(Pointer::One)?;
-                rest = inner.get();
-            }
-            TypeTree::Arr(inner) => {
-                pointers.push(Pointer::Arr)?;
-                rest = inner.get();
-            }
-            TypeTree::Nt(inner) => {
-                pointers.push(Pointer::Nt)?;
-                rest = inner.get();
-            }
-        }
+            TypeTree::Raw(inner, pos) => (Pointer::Raw(*pos), inner),
+            TypeTree::One(inner) => (Pointer::One, inner),
+            TypeTree::Arr(inner) => (Pointer::Arr, inner),
+            TypeTree::Nt(inner) => (Pointer::Nt, inner),
+        };
+        pointers.push(pointer)?;
+        rest = inner.get();
     }
 }

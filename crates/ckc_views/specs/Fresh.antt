@@ -20,7 +20,7 @@ use Rattle.ckc_views.specs.declared.variables.Member.{Member}
 use Rattle.ckc_points.specs.Shown.{Known}
 use Rattle.ckc_points.specs.Flow.{State, range_of, with_range}
 use Rattle.ckc_points.specs.Forms.{in_type}
-use Rattle.ckc_views.specs.Parts.{LimitsView, View, NodeView, NodeOfViews, capped}
+use Rattle.ckc_views.specs.Parts.{LimitsView, View, NodeView, NodeOfViews, capped, count_of_parts}
 use Rattle.ckc_views.specs.Conditions.{right_point}
 
 -- The member of a structure that a node is, by the structure's tag and its own number.
@@ -100,18 +100,7 @@ most_there None = 0
 most_there (Some l) = l.most_fresh
 
 abbrev pub most_of_node : NodeOfViews → ℕ
-most_of_node (Node-F.Un o e) = e.most_fresh
-most_of_node (Node-F.Bin o e f) = capped e.most_fresh f.most_fresh
-most_of_node (Node-F.Pick e f g) = capped (capped e.most_fresh f.most_fresh) g.most_fresh
-most_of_node (Node-F.Index e f) = capped e.most_fresh f.most_fresh
-most_of_node (Node-F.Dot e n spot) = e.most_fresh
-most_of_node (Node-F.Arrow e n spot) = e.most_fresh
-most_of_node (Node-F.Cast w e) = e.most_fresh
-most_of_node (Node-F.Trusted w e l) = capped e.most_fresh (most_there l)
-most_of_node (Node-F.Tested w e l) = capped e.most_fresh (most_there l)
-most_of_node (Node-F.Call n es) = most_after 0 es
-most_of_node (Node-F.Calloc w e x) = e.most_fresh
-most_of_node _ = 0
+most_of_node n = count_of_parts (λ e. e.most_fresh) most_there (most_after 0) n
 
 abbrev pub with_own_most : CType → NodeView → ℕ
 with_own_most t n = if is_some (n.may_need t) then capped n.most_fresh 1 else n.most_fresh

@@ -101,6 +101,21 @@ LimitsOfViews = Limits-F Name Note LimitsView NodeView View
 abbrev pub capped : ℕ → ℕ → ℕ
 capped m n = min (m + n) (2 ^ 32 - 1)
 
+-- a count over the parts of a node, by that of an expression, of bounds and of a list of arguments
+abbrev pub count_of_parts : (View → ℕ) → (Option LimitsView → ℕ) → (List View → ℕ) → NodeOfViews → ℕ
+count_of_parts count there all (Node-F.Un o e) = count e
+count_of_parts count there all (Node-F.Bin o e f) = capped (count e) (count f)
+count_of_parts count there all (Node-F.Pick e f g) = capped (capped (count e) (count f)) (count g)
+count_of_parts count there all (Node-F.Index e f) = capped (count e) (count f)
+count_of_parts count there all (Node-F.Dot e n spot) = count e
+count_of_parts count there all (Node-F.Arrow e n spot) = count e
+count_of_parts count there all (Node-F.Cast w e) = count e
+count_of_parts count there all (Node-F.Trusted w e l) = capped (count e) (there l)
+count_of_parts count there all (Node-F.Tested w e l) = capped (count e) (there l)
+count_of_parts count there all (Node-F.Call n es) = all es
+count_of_parts count there all (Node-F.Calloc w e x) = count e
+count_of_parts count there all _ = 0
+
 -- the number of the next fresh variable behind some that are needed, and behind those that an expression needs at a point
 abbrev pub next_behind : ℕ → List CType → ℕ
 next_behind fresh ts = capped fresh (length ts)

@@ -14,7 +14,7 @@ use Rattle.ckc_typed.specs.Operands.{same_element}
 use Rattle.ckc_points.specs.declared.frame.Frame.{Frame}
 use Rattle.ckc_points.specs.Shown.{Known}
 use Rattle.ckc_points.specs.Forms.{sum_of_forms, difference_of_forms, base_form}
-use Rattle.ckc_views.specs.Parts.{LimitsView, View, NodeView, NodeOfViews, capped, is_raw}
+use Rattle.ckc_views.specs.Parts.{LimitsView, View, NodeView, NodeOfViews, capped, count_of_parts, is_raw}
 
 abbrev pub is_array : Option StaticObject → Bool
 is_array (Some o) = is_some o.array
@@ -35,18 +35,7 @@ values_there (Some l) = l.values
 
 -- how many pointers in the parts of a node stand for themselves
 abbrev pub values_of_node : NodeOfViews → ℕ
-values_of_node (Node-F.Un o e) = e.values
-values_of_node (Node-F.Bin o e f) = capped e.values f.values
-values_of_node (Node-F.Pick e f g) = capped (capped e.values f.values) g.values
-values_of_node (Node-F.Index e f) = capped e.values f.values
-values_of_node (Node-F.Dot e n at) = e.values
-values_of_node (Node-F.Arrow e n at) = e.values
-values_of_node (Node-F.Cast w e) = e.values
-values_of_node (Node-F.Trusted w e l) = capped e.values (values_there l)
-values_of_node (Node-F.Tested w e l) = capped e.values (values_there l)
-values_of_node (Node-F.Call n es) = values_after 0 es
-values_of_node (Node-F.Calloc w e x) = e.values
-values_of_node _ = 0
+values_of_node n = count_of_parts (λ e. e.values) values_there (values_after 0) n
 
 -- A pointer may stand for itself, unless it is a local, a static array or null.
 abbrev pub stands_alone : {A L M E : Type 0} → Frame → Node-F Name A L M E → Bool

@@ -8,10 +8,12 @@ use Rattle.ckc_base.specs.declared.arithmetic.Mode.{Mode}
 use Rattle.ckc_base.specs.Outcomes.{Outcome, there_or, in_order, if_there}
 use Rattle.ckc_types.specs.declared.types.CType.{CType}
 use Rattle.ckc_syntax.specs.declared.tree.Name.{Name}
-use Rattle.ckc_syntax.specs.declared.tree.Limits.{Limits-F, map-Limits, ind-Limits, roll-Limits, fold-roll-Limits}
+use Rattle.ckc_syntax.specs.declared.tree.Limits.{Limits-F, map-Limits, roll-Limits, fold-roll-Limits}
 use Rattle.ckc_syntax.specs.declared.tree.Node.{Node-F, map-Node, out-Node, roll-Node, fold-roll-Node}
 use Rattle.ckc_syntax.specs.declared.tree.Node.TheVariants as node
-use Rattle.ckc_syntax.specs.declared.tree.Expr.{Expr-F, map-Expr, ind-Expr, roll-Expr, fold-roll-Expr}
+use Rattle.ckc_syntax.specs.declared.tree.Expr.{roll-Expr, fold-roll-Expr}
+use Rattle.ckc_syntax.proofs.Layers as kept
+use Rattle.ckc_syntax.proofs.Layers.{Steps, Property, inner_limits, inner_node, inner_expr, each_limits, each_expr}
 use Rattle.ckc_typed.specs.declared.environment.Globals.{Globals}
 use Rattle.ckc_typed.specs.declared.environment.Variable.{Variable}
 use Rattle.ckc_typed.specs.declared.typed.Note.{Note}
@@ -43,23 +45,24 @@ module _ (globals : Globals) (variables : List Variable) (mode : Mode) where
   abbrev ExprBack : NotedExpr → Type 0
   ExprBack e = WellTypedExpr globals variables mode e → expr_typed globals variables mode (bare_expr e) ≡ Ok e
 
-  abbrev KeptLimits : Type 0
-  KeptLimits = (l : NotedLimits) × LimitsBack l
+  -- the property alone, of no value of the tree
+  abbrev no_value : Steps Name Note (Unit {0}) (Unit {0}) (Unit {0})
+  no_value = record { limits = λ l. tt; node = λ n. tt; expr = λ e. tt }
 
-  abbrev KeptNode : Type 0
-  KeptNode = (n : NotedNode) × NodeBack n
+  abbrev back : Property Name Note (Unit {0}) (Unit {0}) (Unit {0})
+  back = record { limits = λ l u. LimitsBack l; node = λ n u. NodeBack n; expr = λ e u. ExprBack e }
+
+  abbrev KeptLimits : Type 0
+  KeptLimits = kept.KeptLimits no_value back
 
   abbrev KeptExpr : Type 0
-  KeptExpr = (e : NotedExpr) × ExprBack e
+  KeptExpr = kept.KeptExpr no_value back
 
-  abbrev inner_limits : Limits-F Name Note KeptLimits KeptNode KeptExpr → LimitsLayer
-  inner_limits = map-Limits Name Note KeptLimits KeptNode KeptExpr NotedLimits NotedNode NotedExpr (λ e. e.0) (λ e. e.0) (λ e. e.0)
+  abbrev alone_limits : kept.LimitsLayer no_value back → LimitsLayer
+  alone_limits = inner_limits no_value back
 
-  abbrev inner_node : Node-F Name Note KeptLimits KeptNode KeptExpr → NodeLayer
-  inner_node = map-Node Name Note KeptLimits KeptNode KeptExpr NotedLimits NotedNode NotedExpr (λ e. e.0) (λ e. e.0) (λ e. e.0)
-
-  abbrev inner_expr : Expr-F Name Note KeptLimits KeptNode KeptExpr → Expr-F Name Note NotedLimits NotedNode NotedExpr
-  inner_expr = map-Expr Name Note KeptLimits KeptNode KeptExpr NotedLimits NotedNode NotedExpr (λ e. e.0) (λ e. e.0) (λ e. e.0)
+  abbrev alone_node : kept.NodeLayer no_value back → NodeLayer
+  alone_node = inner_node no_value back
 
   abbrev judged_limits : Limits-F Name (Unit {0}) Limits Node Expr → Limits-F Name (Unit {0}) OfLimits OfNode OfExpr
   judged_limits = map-Limits Name (Unit {0}) Limits Node Expr OfLimits OfNode OfExpr (limits_typed globals variables mode) (node_typed globals variables mode) (expr_typed globals variables mode)
@@ -73,7 +76,7 @@ module _ (globals : Globals) (variables : List Variable) (mode : Mode) where
   abbrev first_of_kept : KeptExpr → NotedExpr
   first_of_kept k = k.0
 
-  limits_step : (y : Limits-F Name Note KeptLimits KeptNode KeptExpr) → LimitsParts globals variables mode (inner_limits y) → limits_parts (judged_limits (bared_limits Name Note (inner_limits y))) ≡ Ok (limits_of (inner_limits y))
+  limits_step : (y : kept.LimitsLayer no_value back) → LimitsParts globals variables mode (alone_limits y) → limits_parts (judged_limits (bared_limits Name Note (alone_limits y))) ≡ Ok (limits_of (alone_limits y))
   limits_step (Limits-F.Count k at) p = goes (typed_expr (bare_expr k.0)) _ k.0 _ (k.1 p) refl
   limits_step (Limits-F.ByteCount k at) p = goes (typed_expr (bare_expr k.0)) _ k.0 _ (k.1 p) refl
   limits_step (Limits-F.Between k j at) p = goes (typed_expr (bare_expr k.0)) _ k.0 _ (k.1 p.0) (goes (typed_expr (bare_expr j.0)) _ j.0 _ (j.1 p.1) refl)
@@ -89,8 +92,8 @@ module _ (globals : Globals) (variables : List Variable) (mode : Mode) where
   there_back : (l : KeptLimits) → WellTypedLimits globals variables mode l.0 → there_of l ≡ Ok (Some l.0)
   there_back l p = goes (limits_typed globals variables mode (bare_limits l.0)) (λ a. Ok (Some a)) l.0 (Some l.0) (l.1 p) refl
 
-  node_step : (y : Node-F Name Note KeptLimits KeptNode KeptExpr) (at : Pos) (t : CType) → NodeParts globals variables mode (inner_node y) → HasType globals variables mode (inner_node y) t
-      → node_parts globals variables mode (judged_node (bared_node Name Note (inner_node y))) at ≡ Ok (noted mode at (node_of (inner_node y)) t)
+  node_step : (y : kept.NodeLayer no_value back) (at : Pos) (t : CType) → NodeParts globals variables mode (alone_node y) → HasType globals variables mode (alone_node y) t
+      → node_parts globals variables mode (judged_node (bared_node Name Note (alone_node y))) at ≡ Ok (noted mode at (node_of (alone_node y)) t)
   node_step (Node-F.Number n u) at t p r = ap (λ x. Ok (noted mode at (node.Number n u) x)) (sym r)
   node_step (Node-F.Text s) at t p r = ap (λ x. Ok (noted mode at (node.Text s) x)) (sym r)
   node_step Node-F.Null at t p r = ap (λ x. Ok (noted mode at node.Null x)) (sym r)
@@ -131,20 +134,20 @@ module _ (globals : Globals) (variables : List Variable) (mode : Mode) where
   node_step (Node-F.Calloc w k x) at t p r =
       goes (typed_expr (bare_expr k.0)) _ k.0 _ (k.1 p) (goes (allocation_typed (type_written w) k.0 (type_written x) at) _ t _ ((allocation_is (type_written w) k.0 (type_written x) at t).1 r) refl)
 
-  limits_by : (x : LimitsLayer) (y : Limits-F Name Note KeptLimits KeptNode KeptExpr) → inner_limits y ≡ x → LimitsBack (roll-Limits Name Note x)
-  limits_by x y is w =
+  limits_back_by : (y : kept.LimitsLayer no_value back) → LimitsBack (roll-Limits Name Note (alone_limits y))
+  limits_back_by y w =
+      let x = alone_limits y in
       ap (limits_typed globals variables mode) (bare_limits_is Name Note x)
       ∙ fold-roll-Limits Name (Unit {0}) OfLimits OfNode OfExpr limits_parts (node_parts globals variables mode) expr_parts (bared_limits Name Note x)
-      ∙ subst (λ z. limits_parts (judged_limits (bared_limits Name Note z)) ≡ Ok (limits_of z)) is (limits_step y (subst (LimitsParts globals variables mode) (sym is) (limits_layer_holds globals variables mode x w)))
+      ∙ limits_step y (limits_layer_holds globals variables mode x w)
       ∙ ap Ok (sym (limits_rolled x))
 
-  node_by : (x : NodeLayer) (y : Node-F Name Note KeptLimits KeptNode KeptExpr) → inner_node y ≡ x → NodeBack (roll-Node Name Note x)
-  node_by x y is at t w r =
+  node_back_by : (y : kept.NodeLayer no_value back) → NodeBack (roll-Node Name Note (alone_node y))
+  node_back_by y at t w r =
+      let x = alone_node y in
       ap (λ n. node_typed globals variables mode n at) (bare_node_is Name Note x)
       ∙ ap (λ f. f at) (fold-roll-Node Name (Unit {0}) OfLimits OfNode OfExpr limits_parts (node_parts globals variables mode) expr_parts (bared_node Name Note x))
-      ∙ subst (λ z. node_parts globals variables mode (judged_node (bared_node Name Note z)) at ≡ Ok (noted mode at (node_of z) t)) is
-      (node_step y at t (subst (NodeParts globals variables mode) (sym is) (node_layer_holds globals variables mode x w))
-      (subst (λ z. HasType globals variables mode z t) (node_out x ∙ sym is) r))
+      ∙ node_step y at t (node_layer_holds globals variables mode x w) (subst (λ z. HasType globals variables mode z t) (node_out x) r)
       ∙ ap (λ n. Ok (noted mode at n t)) (sym (node_rolled x))
 
   abbrev noted_as : NotedNode → Pos → CType → Mode → Range → NotedExpr
@@ -159,11 +162,11 @@ module _ (globals : Globals) (variables : List Variable) (mode : Mode) where
       ∙ ap (λ m. Ok (noted_as e.node e.pos e.note.ctype m Missing)) (sym r.scope)
       ∙ ap (λ range. Ok (noted_as e.node e.pos e.note.ctype e.note.mode range)) (sym r.range)
 
-  expr_by : (x : Expr-F Name Note NotedLimits NotedNode NotedExpr) (y : Expr-F Name Note KeptLimits KeptNode KeptExpr) → inner_expr y ≡ x → ExprBack (roll-Expr Name Note x)
-  expr_by x y is = subst (λ z. ExprBack (roll-Expr Name Note z)) is (expr_is (roll-Expr Name Note (inner_expr y)) y.node.1)
+  expr_back_by : (y : kept.ExprLayer no_value back) → ExprBack (roll-Expr Name Note (inner_expr no_value back y))
+  expr_back_by y = expr_is (roll-Expr Name Note (inner_expr no_value back y)) y.node.1
 
   pub limits_back : (l : NotedLimits) → WellTypedLimits globals variables mode l → limits_typed globals variables mode (bare_limits l) ≡ Ok l
-  limits_back = ind-Limits Name Note LimitsBack NodeBack ExprBack limits_by node_by expr_by
+  limits_back = each_limits no_value back limits_back_by node_back_by expr_back_by
 
   pub expr_back : (e : NotedExpr) → WellTypedExpr globals variables mode e → expr_typed globals variables mode (bare_expr e) ≡ Ok e
-  expr_back = ind-Expr Name Note LimitsBack NodeBack ExprBack limits_by node_by expr_by
+  expr_back = each_expr no_value back limits_back_by node_back_by expr_back_by

@@ -1,10 +1,10 @@
 -- What expressions and bounds become is well typed, and without its notes it is what it was made of.
-use Rattle.std.proofs.Common.{◌≡◌, true, List, [], ◌∷◌, map, refl, sym, ap, subst, ◌∙◌}
-use Rattle.std.specs.Prelude.{Option, Some, None, Ok, ◌||◌}
+use Rattle.std.proofs.Common.{◌≡◌, Bool, true, List, [], ◌∷◌, map, refl, sym, ap, subst, ◌∙◌}
+use Rattle.std.specs.Prelude.{Option, Some, None, Ok, not, ◌||◌}
 use Rattle.std.specs.Option.{option_map}
 use Rattle.ckc_base.specs.declared.places.Pos.{Pos}
 use Rattle.ckc_base.specs.declared.arithmetic.Mode.{Mode}
-use Rattle.ckc_base.specs.Outcomes.{Outcome, there_or, in_order, if_there}
+use Rattle.ckc_base.specs.Outcomes.{Outcome, unless, there_or, in_order, if_there}
 use Rattle.ckc_types.specs.declared.types.CType.{CType}
 use Rattle.ckc_types.specs.declared.types.CType.TheVariants as ctype
 use Rattle.ckc_types.specs.declared.types.Kind.TheVariants as kind
@@ -18,13 +18,13 @@ use Rattle.ckc_syntax.proofs.Layers.{Steps, Property, inner_limits, inner_node, 
 use Rattle.ckc_typed.specs.declared.environment.Globals.{Globals}
 use Rattle.ckc_typed.specs.declared.environment.Variable.{Variable}
 use Rattle.ckc_typed.specs.declared.typed.Note.{Note}
-use Rattle.ckc_typed.specs.Codes.{bad_operands}
+use Rattle.ckc_typed.specs.Codes.{bad_operands, bad_conversion}
 use Rattle.ckc_typed.specs.Trees.{Limits, Node, Expr, NotedLimits, NotedExpr}
 use Rattle.ckc_typed.specs.Types.{type_written, is_void}
 use Rattle.ckc_typed.specs.Conversions.{is_null, is_tested, is_trusted, is_bounds_cast}
 use Rattle.ckc_typed.specs.Environment.{type_of_name}
 use Rattle.ckc_typed.specs.Operands.{binary_type, choice_type, index_type, dot_type, arrow_type, size_type}
-use Rattle.ckc_typed.specs.Expressions.{OfLimits, OfNode, OfExpr, noted, number_type, string_type, unary_typed, binary_typed, choice_typed, index_typed, dot_typed, arrow_typed, cast_typed, allocation_typed, tested_typed, trusted_typed, call_typed, limits_parts, node_parts, expr_parts, limits_typed, node_typed, expr_typed}
+use Rattle.ckc_typed.specs.Expressions.{OfLimits, OfNode, OfExpr, noted, number_type, string_type, unary_typed, binary_typed, choice_typed, index_typed, dot_typed, arrow_typed, cast_typed, allocation_typed, tested_typed, trusted_typed, call_typed, limits_parts, node_parts, expr_parts, limits_typed, expr_typed}
 use Rattle.ckc_welltyped.specs.Noteless.{bare_limits, bare_node, bare_expr}
 use Rattle.ckc_welltyped.specs.Expressions.{NodeLayer, HasType, IsCall, WellTypedExpr, WellTypedLimits}
 use Rattle.ckc_welltyped.proofs.Bares.{bared_limits, bared_node, bare_limits_is, bare_node_is, bare_expr_is}
@@ -133,6 +133,21 @@ module _ (globals : Globals) (variables : List Variable) (mode : Mode) where
   abbrev there_of : Option KeptLimits → Outcome (Option NotedLimits)
   there_of l = if_there (option_map (limits_typed globals variables mode) (option_map (λ (k : KeptLimits). k.0) l))
 
+  -- what the bounds of a cast become, and the rule that its type keeps with them
+  record MadeBounds (l : KeptLimits) (b : Option NotedLimits) : Type 0 where
+    fit : FitL
+    bare : bare_limits fit.0 ≡ l.0
+    same : b ≡ Some fit.0
+
+  bounds_made : (l : KeptLimits) (b : Option NotedLimits) → there_of (Some l) ≡ Ok b → MadeBounds l b
+  bounds_made l b h =
+      let c = made_of (limits_typed globals variables mode l.0) (λ x. Ok (Some x)) b h in let f = l.1 c.0 c.1 in
+      record { fit = (c.0, f.1); bare = f.0; same = sym (ok_same _ b c.2) }
+
+  cast_row : (t u : CType) (b d : Option NotedLimits) (holds : Bool) (at : Pos) → b ≡ d
+      → unless (not (is_bounds_cast t b)) bad_operands at (unless (not holds) bad_conversion at (Ok t)) ≡ Ok u → (is_bounds_cast t d ≡ true) × (holds ≡ true) × (u ≡ t)
+  cast_row t u b d holds at e h = let p = (two_rules (is_bounds_cast t b) holds at t u).0 h in (subst (λ x. is_bounds_cast t x ≡ true) e p.0, p.1, p.2)
+
   node_step : (y : kept.NodeLayer typing gives) (at : Pos) (r : NotedExpr) → node_made typing gives y at ≡ Ok r → Made (inner_node typing gives y) at r
   node_step (Node-F.Number n u) at r h = record { layer = Node-F.Number n u; bare = refl; ctype = number_type u; row = refl; same = sym (ok_same _ r h) }
   node_step (Node-F.Text s) at r h = record { layer = Node-F.Text s; bare = refl; ctype = string_type mode; row = refl; same = sym (ok_same _ r h) }
@@ -196,36 +211,32 @@ module _ (globals : Globals) (variables : List Variable) (mode : Mode) where
   node_step (Node-F.Trusted w k None) at r h =
       let a = made_of (expr_typed globals variables mode k.0) _ r h in let g = k.1 a.0 a.1 in
       let t = made_of (trusted_typed (type_written w) a.0 None at) _ r a.2 in
-      record { layer = Node-F.Trusted w (a.0, g.1) None; bare = ap (λ e. Node-F.Trusted w e None) g.0; ctype = t.0; row = (two_rules (is_bounds_cast (type_written w) None) (is_trusted (type_written w) a.0) at (type_written w) t.0).0 t.1; same = sym (ok_same _ r t.2) }
-  node_step (Node-F.Trusted w k (Some l)) at r h =
-      let a = made_of (expr_typed globals variables mode k.0) _ r h in let g = k.1 a.0 a.1 in
-      let b = made_of (there_of (Some l)) _ r a.2 in
-      let c = made_of (limits_typed globals variables mode l.0) (λ x. Ok (Some x)) b.0 b.1 in let f = l.1 c.0 c.1 in let q = ok_same _ b.0 c.2 in
-      let t = made_of (trusted_typed (type_written w) a.0 b.0 at) _ r b.2 in
-      let p = (two_rules (is_bounds_cast (type_written w) b.0) (is_trusted (type_written w) a.0) at (type_written w) t.0).0 t.1 in
-      record {
-        layer = Node-F.Trusted w (a.0, g.1) (Some (c.0, f.1));
-        bare = ap (λ e. Node-F.Trusted w e (Some (bare_limits c.0))) g.0 ∙ ap (λ x. Node-F.Trusted w k.0 (Some x)) f.0;
-        ctype = t.0;
-        row = (subst (λ x. is_bounds_cast (type_written w) x ≡ true) (sym q) p.0, p.1, p.2);
-        same = sym (ok_same _ r t.2) ∙ ap (λ x. noted mode at (node.Trusted w a.0 x) t.0) (sym q);
-      }
+      record { layer = Node-F.Trusted w (a.0, g.1) None; bare = ap (λ e. Node-F.Trusted w e None) g.0; ctype = t.0; row = cast_row (type_written w) t.0 None None (is_trusted (type_written w) a.0) at refl t.1; same = sym (ok_same _ r t.2) }
   node_step (Node-F.Tested w k None) at r h =
       let a = made_of (expr_typed globals variables mode k.0) _ r h in let g = k.1 a.0 a.1 in
       let t = made_of (tested_typed (type_written w) a.0 None at) _ r a.2 in
-      record { layer = Node-F.Tested w (a.0, g.1) None; bare = ap (λ e. Node-F.Tested w e None) g.0; ctype = t.0; row = (two_rules (is_bounds_cast (type_written w) None) (is_tested (type_written w) a.0) at (type_written w) t.0).0 t.1; same = sym (ok_same _ r t.2) }
+      record { layer = Node-F.Tested w (a.0, g.1) None; bare = ap (λ e. Node-F.Tested w e None) g.0; ctype = t.0; row = cast_row (type_written w) t.0 None None (is_tested (type_written w) a.0) at refl t.1; same = sym (ok_same _ r t.2) }
+  node_step (Node-F.Trusted w k (Some l)) at r h =
+      let a = made_of (expr_typed globals variables mode k.0) _ r h in let g = k.1 a.0 a.1 in
+      let b = made_of (there_of (Some l)) _ r a.2 in let m = bounds_made l b.0 b.1 in
+      let t = made_of (trusted_typed (type_written w) a.0 b.0 at) _ r b.2 in
+      record {
+        layer = Node-F.Trusted w (a.0, g.1) (Some m.fit);
+        bare = ap (λ e. Node-F.Trusted w e (Some (bare_limits m.fit.0))) g.0 ∙ ap (λ x. Node-F.Trusted w k.0 (Some x)) m.bare;
+        ctype = t.0;
+        row = cast_row (type_written w) t.0 b.0 (Some m.fit.0) (is_trusted (type_written w) a.0) at m.same t.1;
+        same = sym (ok_same _ r t.2) ∙ ap (λ x. noted mode at (node.Trusted w a.0 x) t.0) m.same;
+      }
   node_step (Node-F.Tested w k (Some l)) at r h =
       let a = made_of (expr_typed globals variables mode k.0) _ r h in let g = k.1 a.0 a.1 in
-      let b = made_of (there_of (Some l)) _ r a.2 in
-      let c = made_of (limits_typed globals variables mode l.0) (λ x. Ok (Some x)) b.0 b.1 in let f = l.1 c.0 c.1 in let q = ok_same _ b.0 c.2 in
+      let b = made_of (there_of (Some l)) _ r a.2 in let m = bounds_made l b.0 b.1 in
       let t = made_of (tested_typed (type_written w) a.0 b.0 at) _ r b.2 in
-      let p = (two_rules (is_bounds_cast (type_written w) b.0) (is_tested (type_written w) a.0) at (type_written w) t.0).0 t.1 in
       record {
-        layer = Node-F.Tested w (a.0, g.1) (Some (c.0, f.1));
-        bare = ap (λ e. Node-F.Tested w e (Some (bare_limits c.0))) g.0 ∙ ap (λ x. Node-F.Tested w k.0 (Some x)) f.0;
+        layer = Node-F.Tested w (a.0, g.1) (Some m.fit);
+        bare = ap (λ e. Node-F.Tested w e (Some (bare_limits m.fit.0))) g.0 ∙ ap (λ x. Node-F.Tested w k.0 (Some x)) m.bare;
         ctype = t.0;
-        row = (subst (λ x. is_bounds_cast (type_written w) x ≡ true) (sym q) p.0, p.1, p.2);
-        same = sym (ok_same _ r t.2) ∙ ap (λ x. noted mode at (node.Tested w a.0 x) t.0) (sym q);
+        row = cast_row (type_written w) t.0 b.0 (Some m.fit.0) (is_tested (type_written w) a.0) at m.same t.1;
+        same = sym (ok_same _ r t.2) ∙ ap (λ x. noted mode at (node.Tested w a.0 x) t.0) m.same;
       }
   node_step (Node-F.Call n ks) at r h =
       let a = made_of (in_order (map (expr_typed globals variables mode) (map (λ (k : KeptExpr). k.0) ks))) _ r h in let m = all_made ks a.0 a.1 in

@@ -1,24 +1,20 @@
-use Rattle.std.proofs.Common.{◌≡◌, ℕ, ◌-◌, drop, map, ap, subst, arith}
+use Rattle.std.proofs.Common.{◌≡◌, ℕ, ◌-◌, drop, map, subst, arith}
 use Rattle.std.specs.Prelude.{◌↔◌, All, IsTrue}
 use Rattle.ckc_source.specs.Code.{assign_of}
 use Rattle.ckc_operands.specs.Compilable.{IsCompilableAssign}
-use Rattle.ckc_integer.proofs.Judged.{front, and_good, and_bad}
+use Rattle.ckc_integer.proofs.Judged.{good_there, bad_there}
 use Rattle.ckc_integer.proofs.statements.are_assigns.Goals as goal
 
 pub loop-i-preserved-then-is_assign : goal.loop-i-preserved-then-is_assign
 loop-i-preserved-then-is_assign c = record {
   within = omega (arith, c.loop-i.invariant.within);
-  judged = and_good (IsCompilableAssign c.args.locals) (map assign_of (drop (c.loop-i.i - 1) c.args.all.now)) (map assign_of (drop c.loop-i.i c.args.all.now)) (assign_of c.index-all-i.result) c.is_assign.result c.loop-i.good
-      (ap (map assign_of) (front c.args.all.now c.loop-i.i c.index-all-i.result c.loop-i-test.true c.loop-i.invariant.within c.index-all-i.is))
-      c.is_assign.ensures c.loop-i.invariant.judged c.if-is_assign.true;
+  judged = good_there (IsCompilableAssign c.args.locals) assign_of c.args.all.now c.loop-i.i c.index-all-i.result c.is_assign.result c.loop-i.good c.loop-i-test.true c.loop-i.invariant.within c.index-all-i.is c.is_assign.ensures c.loop-i.invariant.judged c.if-is_assign.true;
 }
 
 pub loop-i-preserved : goal.loop-i-preserved
 loop-i-preserved c = record {
   within = omega (arith, c.loop-i.invariant.within);
-  judged = and_bad (IsCompilableAssign c.args.locals) (map assign_of (drop (c.loop-i.i - 1) c.args.all.now)) (map assign_of (drop c.loop-i.i c.args.all.now)) (assign_of c.index-all-i.result) c.is_assign.result c.loop-i.good
-      (ap (map assign_of) (front c.args.all.now c.loop-i.i c.index-all-i.result c.loop-i-test.true c.loop-i.invariant.within c.index-all-i.is))
-      c.is_assign.ensures c.loop-i.invariant.judged c.if-is_assign.false;
+  judged = bad_there (IsCompilableAssign c.args.locals) assign_of c.args.all.now c.loop-i.i c.index-all-i.result c.is_assign.result c.loop-i.good c.loop-i-test.true c.loop-i.invariant.within c.index-all-i.is c.is_assign.ensures c.loop-i.invariant.judged c.if-is_assign.false;
 }
 
 pub returns : goal.returns
