@@ -13,12 +13,13 @@ use ckc_base::Boxed;
 use ckc_source::{Kept, TargetTree};
 use ckc_syntax::{Expr, Name, Node};
 use ckc_typed::types::kind_of;
-use ckc_typed::{Note, Typed, Variable};
+use ckc_typed::{Note, Variable};
 use ckc_types::{CType, Kind};
 use ckc_values::expressions::place;
 use ckc_values::kinds::width_of;
 use ckc_values::names::address_of;
 use ckc_values::places::Placed;
+use ckc_values::texts::Text;
 use std::alloc::{AllocError, Global};
 
 /// Where a value goes: what it is written to, what keeps it where it is the result of a call, and whether a block that
@@ -76,7 +77,7 @@ fn name_target(t: &CType, n: Name, w: Placed) -> TargetTree
 /// What an assignment to an expression writes.
 pub fn target_of(
     alloc: Global,
-    typed: &Typed,
+    typed: &Text,
     locals: &[Variable],
     e: &Expr<Name, Note>,
     first: u32,
@@ -90,18 +91,18 @@ pub fn target_of(
     }
 }
 
-fn name_kept(typed: &Typed, t: &CType, n: Name) -> Option<Kept>
+fn name_kept(typed: &Text, t: &CType, n: Name) -> Option<Kept>
     ensures { result ≡ name_kept typed.now t.now n }
 {
     match n {
         Name::Local(x) => Some(Kept::Local(x, width_of(t))),
-        Name::Static(k) => Some(Kept::Static(address_of(typed, k), width_of(t))),
+        Name::Static(k) => Some(Kept::Static(address_of(typed.get(), k), width_of(t))),
         Name::Function(_) | Name::Tag(_) | Name::Member(_) => None,
         Name::Getchar | Name::Putchar => None,
     }
 }
 
-fn kept_of(typed: &Typed, e: &Expr<Name, Note>) -> Option<Kept>
+fn kept_of(typed: &Text, e: &Expr<Name, Note>) -> Option<Kept>
     ensures { result ≡ kept_form typed.now e.now.note.ctype (out-Node Name Note e.now.node) }
 {
     match &e.node {
@@ -120,7 +121,7 @@ pub fn is_terminated_at(e: &Expr<Name, Note>) -> bool
 /// Where an assignment to an expression puts a value.
 pub fn destination_of(
     alloc: Global,
-    typed: &Typed,
+    typed: &Text,
     locals: &[Variable],
     e: &Expr<Name, Note>,
     first: u32,
@@ -150,7 +151,7 @@ fn local_target(t: &CType, n: Name) -> TargetTree
 /// A local of a type that is declared.
 pub fn destination_for(
     alloc: Global,
-    typed: &Typed,
+    typed: &Text,
     t: &CType,
     n: Name,
 ) -> Result<Destination, AllocError>

@@ -12,14 +12,15 @@ use ckc_base::Seq;
 use ckc_results::result_limits;
 use ckc_source::{FunctionTree, Spot};
 use ckc_syntax::{Head, Item, Name, Stmt};
+use ckc_typed::Note;
 use ckc_typed::types::type_written;
-use ckc_typed::{Note, Typed};
 use ckc_values::numbers::{number, sum};
+use ckc_values::texts::Text;
 use std::alloc::{AllocError, Global};
 
 fn function(
     alloc: Global,
-    typed: &Typed,
+    typed: &Text,
     h: &Head<Name, Note>,
     body: &Stmt<Name, Note>,
     first: u32,
@@ -33,7 +34,7 @@ fn function(
     let gives = type_written(alloc, &h.result)?;
     let next = in_head(h, first)?;
     let all = stmt(alloc, typed, variables.as_slice(), body, &gives, next)?;
-    let result = result_limits(alloc, typed, variables.as_slice(), &gives, &h.bounds)?;
+    let result = result_limits(alloc, typed.get(), variables.as_slice(), &gives, &h.bounds)?;
     Ok(FunctionTree {
         end: Spot {
             at: h.pos,
@@ -48,7 +49,7 @@ fn function(
 
 fn add(
     alloc: Global,
-    typed: &Typed,
+    typed: &Text,
     item: &Item<Name, Note>,
     first: u32,
     all: &mut Seq<FunctionTree>,
@@ -80,11 +81,11 @@ fn declared(items: &[Item<Name, Note>]) -> Result<u32, AllocError>
 }
 
 /// The functions with a body, in the order of the text.
-pub fn functions(alloc: Global, typed: &Typed) -> Result<Seq<FunctionTree>, AllocError>
+pub fn functions(alloc: Global, typed: &Text) -> Result<Seq<FunctionTree>, AllocError>
     ensures { IfOk result (λ fs. map function_of fs ≡ functions_elaborated typed.now) }
 {
     let mut all = Seq::new(alloc);
-    let items = typed.tree.items.as_slice();
+    let items = typed.get().tree.items.as_slice();
     let mut next = declared(items)?;
     for item in items {
         add(alloc, typed, item, next, &mut all)?;

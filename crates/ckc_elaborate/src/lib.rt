@@ -20,6 +20,7 @@ mod variables;
 use ckc_source::Program;
 use ckc_syntax::Name;
 use ckc_typed::Typed;
+use ckc_values::texts::Text;
 use std::alloc::{AllocError, Global};
 
 /// The program of a typed text. That a number does not fit is taken for want of memory.
@@ -29,7 +30,8 @@ pub fn elaborate(alloc: Global, typed: &Typed) -> Result<Program, AllocError>
     let main = names::number_of(typed.tree.items.as_slice(), Name::Function(typed.main))?;
     let objects = objects::objects(alloc, typed)?;
     let shapes = shapes::shapes(alloc, &typed.layout)?;
-    let functions = functions::functions(alloc, typed)?;
+    let text = Text::new(typed);
+    let functions = functions::functions(alloc, &text)?;
     Ok(Program {
         objects,
         shapes,

@@ -13,15 +13,16 @@ use crate::steps::{alone, assigned, condition, declared, returned, right_of};
 use ckc_base::{Boxed, Seq};
 use ckc_source::{Assign, Spot, StmtTree};
 use ckc_syntax::{Act, Expr, Name, Stmt};
-use ckc_typed::{Note, Typed, Variable};
+use ckc_typed::{Note, Variable};
 use ckc_types::CType;
 use ckc_values::expressions::value;
 use ckc_values::literals::in_expr;
+use ckc_values::texts::Text;
 use std::alloc::{AllocError, Global};
 
 fn assign(
     alloc: Global,
-    typed: &Typed,
+    typed: &Text,
     locals: &[Variable],
     s: Spot,
     e: &Expr<Name, Note>,
@@ -40,7 +41,7 @@ fn assign(
 /// One assignment of a bundle.
 fn bundled(
     alloc: Global,
-    typed: &Typed,
+    typed: &Text,
     locals: &[Variable],
     e: &Expr<Name, Note>,
     f: &Expr<Name, Note>,
@@ -57,7 +58,7 @@ fn bundled(
 /// Adds what a statement assigns in a bundle.
 fn add_assign(
     alloc: Global,
-    typed: &Typed,
+    typed: &Text,
     locals: &[Variable],
     s: &Act<Name, Note>,
     first: u32,
@@ -78,7 +79,7 @@ fn add_assign(
 /// The assignments of a bundle.
 fn assigns(
     alloc: Global,
-    typed: &Typed,
+    typed: &Text,
     locals: &[Variable],
     ss: &[Stmt<Name, Note>],
     first: u32,
@@ -115,7 +116,7 @@ fn one(alloc: Global, s: StmtTree) -> Result<Seq<StmtTree>, AllocError>
 #[cycle(stmt)]
 fn act(
     alloc: Global,
-    typed: &Typed,
+    typed: &Text,
     locals: &[Variable],
     body: &Act<Name, Note>,
     s: Spot,
@@ -185,7 +186,7 @@ fn act(
 #[cycle(stmt)]
 pub fn stmt(
     alloc: Global,
-    typed: &Typed,
+    typed: &Text,
     locals: &[Variable],
     s: &Stmt<Name, Note>,
     gives: &CType,
@@ -204,7 +205,7 @@ pub fn stmt(
 #[cycle(stmt)]
 fn stmts(
     alloc: Global,
-    typed: &Typed,
+    typed: &Text,
     locals: &[Variable],
     ss: &[Stmt<Name, Note>],
     gives: &CType,
@@ -227,7 +228,7 @@ fn stmts(
 #[cycle(stmt)]
 fn part(
     alloc: Global,
-    typed: &Typed,
+    typed: &Text,
     locals: &[Variable],
     s: &Option<Boxed<Stmt<Name, Note>>>,
     gives: &CType,

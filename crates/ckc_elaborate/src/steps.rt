@@ -15,17 +15,18 @@ use ckc_source::{Assign, ExprTree, Pointee, RightTree, Spot, StmtTree, TargetTre
 use ckc_syntax::{Decl, Expr, Init, Name, Node, TypeTree};
 use ckc_typed::constants::size_of;
 use ckc_typed::types::type_written;
-use ckc_typed::{Note, Typed, Variable};
+use ckc_typed::{Note, Variable};
 use ckc_types::CType;
 use ckc_values::expressions::value;
 use ckc_values::literals::{in_bounds, in_expr};
 use ckc_values::operators::{converted, outside};
+use ckc_values::texts::Text;
 use std::alloc::{AllocError, Global};
 
 /// A null-terminated block, or one that is not, of so many elements of a type.
 fn fresh(
     alloc: Global,
-    typed: &Typed,
+    typed: &Text,
     w: &TypeTree<Name>,
     terminated: bool,
     count: Boxed<ExprTree>,
@@ -34,7 +35,7 @@ fn fresh(
         ≡ code.Fresh (block_of typed.now (type_written w.now) terminated) (expr_of count)) }
 {
     let element = type_written(alloc, w)?;
-    let size = size_of(&typed.layout, &element);
+    let size = size_of(typed.layout(), &element);
     let to = Boxed::new(
         alloc,
         Pointee {
@@ -49,7 +50,7 @@ fn fresh(
 /// What is assigned.
 pub fn right_of(
     alloc: Global,
-    typed: &Typed,
+    typed: &Text,
     locals: &[Variable],
     terminated: bool,
     e: &Expr<Name, Note>,
@@ -106,7 +107,7 @@ fn plain(
 
 fn argument(
     alloc: Global,
-    typed: &Typed,
+    typed: &Text,
     locals: &[Variable],
     param: Option<&Decl<Name, Note>>,
     e: &Expr<Name, Note>,
@@ -128,7 +129,7 @@ fn argument(
 /// Adds the arguments of a call, each converted to the type of its parameter.
 fn add_arguments(
     alloc: Global,
-    typed: &Typed,
+    typed: &Text,
     locals: &[Variable],
     params: &[Decl<Name, Note>],
     es: &[Expr<Name, Note>],
@@ -161,7 +162,7 @@ fn add_arguments(
 /// The first argument.
 fn first_of(
     alloc: Global,
-    typed: &Typed,
+    typed: &Text,
     locals: &[Variable],
     es: &[Expr<Name, Note>],
     first: u32,
@@ -177,7 +178,7 @@ fn first_of(
 /// A call of a function of the text.
 fn text_call(
     alloc: Global,
-    typed: &Typed,
+    typed: &Text,
     locals: &[Variable],
     s: Spot,
     to: Destination,
@@ -189,7 +190,7 @@ fn text_call(
     ensures { IfOk result (λ t. stmt_of t
         ≡ called typed.now locals.now s (destination_made to) first (Name.Function k) es.now at) }
 {
-    let items = typed.tree.items.as_slice();
+    let items = typed.get().tree.items.as_slice();
     let callee = number_of(items, Name::Function(k))?;
     let params = params_of(items, Name::Function(k));
     let mut values = Seq::new(alloc);
@@ -201,7 +202,7 @@ fn text_call(
 /// A call, of which the result goes to a destination.
 fn called(
     alloc: Global,
-    typed: &Typed,
+    typed: &Text,
     locals: &[Variable],
     s: Spot,
     to: Destination,
@@ -229,7 +230,7 @@ fn called(
 /// The value of an expression, or the result of a call, goes to a destination.
 pub fn assigned(
     alloc: Global,
-    typed: &Typed,
+    typed: &Text,
     locals: &[Variable],
     s: Spot,
     to: Destination,
@@ -253,7 +254,7 @@ pub fn assigned(
 /// A call that is a statement, at the called name.
 pub fn alone(
     alloc: Global,
-    typed: &Typed,
+    typed: &Text,
     locals: &[Variable],
     mode: Mode,
     e: &Expr<Name, Note>,
@@ -268,7 +269,7 @@ pub fn alone(
 
 fn started(
     alloc: Global,
-    typed: &Typed,
+    typed: &Text,
     locals: &[Variable],
     s: Spot,
     to: Destination,
@@ -288,7 +289,7 @@ fn started(
 /// A declaration of a local.
 pub fn declared(
     alloc: Global,
-    typed: &Typed,
+    typed: &Text,
     locals: &[Variable],
     s: Spot,
     d: &Decl<Name, Note>,
@@ -305,7 +306,7 @@ pub fn declared(
 /// What a function with this type of result returns.
 pub fn returned(
     alloc: Global,
-    typed: &Typed,
+    typed: &Text,
     locals: &[Variable],
     gives: &CType,
     e: &Option<Boxed<Expr<Name, Note>>>,
@@ -325,7 +326,7 @@ pub fn returned(
 /// The condition of a `for`.
 pub fn condition(
     alloc: Global,
-    typed: &Typed,
+    typed: &Text,
     locals: &[Variable],
     e: &Option<Boxed<Expr<Name, Note>>>,
     first: u32,

@@ -5,3 +5,4 @@ pub mod Ends
 pub mod Operators
 pub mod Places
 pub mod Expressions
+pub mod Bounded

@@ -19,6 +19,7 @@ use crate::places::{
     Placed, address_at, element_place, member_place, name_place, nowhere, object_place, read_at,
     target_place,
 };
+use crate::texts::Text;
 use ckc_base::{Boxed, Pos};
 use ckc_source::{ExprTree, Integer};
 use ckc_syntax::{Expr, Limits, Name, Node, TreeOp};
@@ -50,7 +51,7 @@ fn local_in(
 
 fn read_static(
     alloc: Global,
-    typed: &Typed,
+    typed: &Text,
     t: &CType,
     at: Pos,
     k: u32,
@@ -58,13 +59,13 @@ fn read_static(
     ensures { IfOk result (λ e. expr_of e ≡ static_in typed.now t.now at k None) }
 {
     let count = count_of_static(alloc, typed, t, Name::Static(k))?;
-    let place = object_place(alloc, typed, t, at, k)?;
-    read_at(alloc, &typed.layout, t, count, place)
+    let place = object_place(alloc, typed.get(), t, at, k)?;
+    read_at(alloc, typed.layout(), t, count, place)
 }
 
 fn static_in(
     alloc: Global,
-    typed: &Typed,
+    typed: &Text,
     t: &CType,
     at: Pos,
     k: u32,
@@ -74,17 +75,17 @@ fn static_in(
 {
     match array {
         None => read_static(alloc, typed, t, at, k),
-        Some(Kind::Raw) | Some(Kind::One) => Ok(ExprTree::Number(address_of(typed, k))),
+        Some(Kind::Raw) | Some(Kind::One) => Ok(ExprTree::Number(address_of(typed.get(), k))),
         Some(Kind::Arr) | Some(Kind::Nt) => {
-            let bytes = bytes_of(typed, k)?;
-            Ok(ExprTree::Array(address_of(typed, k), bytes))
+            let bytes = bytes_of(typed.get(), k)?;
+            Ok(ExprTree::Array(address_of(typed.get(), k), bytes))
         }
     }
 }
 
 fn named(
     alloc: Global,
-    typed: &Typed,
+    typed: &Text,
     locals: &[Variable],
     note: &Note,
     at: Pos,
@@ -93,8 +94,8 @@ fn named(
     ensures { IfOk result (λ e. expr_of e ≡ named typed.now locals.now note.now at n) }
 {
     match n {
-        Name::Local(k) => local_in(alloc, typed, locals, &note.ctype, k, note.range),
-        Name::Static(k) => static_in(alloc, typed, &note.ctype, at, k, array_of(typed, k)),
+        Name::Local(k) => local_in(alloc, typed.get(), locals, &note.ctype, k, note.range),
+        Name::Static(k) => static_in(alloc, typed, &note.ctype, at, k, array_of(typed.get(), k)),
         Name::Function(_) | Name::Tag(_) | Name::Member(_) => Ok(outside()),
         Name::Getchar | Name::Putchar => Ok(outside()),
     }
@@ -129,7 +130,7 @@ fn trusted(
 #[cycle(expr)]
 fn target(
     alloc: Global,
-    typed: &Typed,
+    typed: &Text,
     locals: &[Variable],
     at: Pos,
     e: &Expr<Name, Note>,
@@ -140,14 +141,14 @@ fn target(
         (expr_elaborated typed.now locals.now first e.now)) }
 {
     let pointer = value(alloc, typed, locals, e, first)?;
-    target_place(alloc, &typed.layout, &e.note.ctype, at, pointer)
+    target_place(alloc, typed.layout(), &e.note.ctype, at, pointer)
 }
 
 /// The place of a node.
 #[cycle(expr)]
 fn node_place(
     alloc: Global,
-    typed: &Typed,
+    typed: &Text,
     locals: &[Variable],
     node: &Node<Name, Note>,
     note: &Note,
@@ -158,7 +159,7 @@ fn node_place(
         (λ w. place_of w ≡ (part_of_node node.now).place note.now at typed.now locals.now first) }
 {
     match node {
-        Node::Name(n) => name_place(alloc, typed, &note.ctype, at, *n),
+        Node::Name(n) => name_place(alloc, typed.get(), &note.ctype, at, *n),
         Node::Un(TreeOp::Deref, e) => target(alloc, typed, locals, at, e.get(), first),
         Node::Index(e, f) => {
             let pointer = value(alloc, typed, locals, e.get(), first)?;
@@ -166,17 +167,17 @@ fn node_place(
             let index = value(alloc, typed, locals, f.get(), second)?;
             let form = integer_of(&f.get().note.ctype);
             let of = &e.get().note.ctype;
-            Ok(element_place(&typed.layout, of, at, form, pointer, index))
+            Ok(element_place(typed.layout(), of, at, form, pointer, index))
         }
         Node::Dot(e, n, _) => {
             let of = e.get();
             let place = node_place(alloc, typed, locals, &of.node, &of.note, of.pos, first)?;
-            member_place(&typed.layout, tag_of(&of.note.ctype), *n, place)
+            member_place(typed.layout(), tag_of(&of.note.ctype), *n, place)
         }
         Node::Arrow(e, n, _) => {
             let of = e.get();
             let place = target(alloc, typed, locals, at, of, first)?;
-            member_place(&typed.layout, tag_behind(&of.note.ctype), *n, place)
+            member_place(typed.layout(), tag_behind(&of.note.ctype), *n, place)
         }
         _ => nowhere(alloc, at),
     }
@@ -186,7 +187,7 @@ fn node_place(
 #[cycle(expr)]
 fn node_address(
     alloc: Global,
-    typed: &Typed,
+    typed: &Text,
     locals: &[Variable],
     node: &Node<Name, Note>,
     note: &Note,
@@ -207,11 +208,20 @@ fn node_address(
             let right = value(alloc, typed, locals, f.get(), second)?;
             let one = &e.get().note.ctype;
             let two = &f.get().note.ctype;
-            of_operands(alloc, &typed.layout, TreeOp::Add, one, two, at, left, right)
+            of_operands(
+                alloc,
+                typed.layout(),
+                TreeOp::Add,
+                one,
+                two,
+                at,
+                left,
+                right,
+            )
         }
         _ => {
             let place = node_place(alloc, typed, locals, node, note, at, first)?;
-            Ok(address_at(&typed.layout, &note.ctype, place))
+            Ok(address_at(typed.layout(), &note.ctype, place))
         }
     }
 }
@@ -220,7 +230,7 @@ fn node_address(
 #[cycle(expr)]
 fn unary_value(
     alloc: Global,
-    typed: &Typed,
+    typed: &Text,
     locals: &[Variable],
     op: TreeOp,
     e: &Expr<Name, Note>,
@@ -237,7 +247,7 @@ fn unary_value(
             let place = target(alloc, typed, locals, at, e, first)?;
             read_at(
                 alloc,
-                &typed.layout,
+                typed.layout(),
                 &note.ctype,
                 count_by_kind(&note.ctype),
                 place,
@@ -254,7 +264,7 @@ fn unary_value(
 #[cycle(expr)]
 fn elements(
     alloc: Global,
-    typed: &Typed,
+    typed: &Text,
     locals: &[Variable],
     l: &Option<Boxed<Limits<Name, Note>>>,
     size: u32,
@@ -273,7 +283,7 @@ fn elements(
 #[cycle(expr)]
 fn elements_of(
     alloc: Global,
-    typed: &Typed,
+    typed: &Text,
     locals: &[Variable],
     l: &Limits<Name, Note>,
     size: u32,
@@ -314,7 +324,7 @@ fn form_if(l: &Option<Boxed<Limits<Name, Note>>>) -> Integer
 #[cycle(expr)]
 fn node_value(
     alloc: Global,
-    typed: &Typed,
+    typed: &Text,
     locals: &[Variable],
     node: &Node<Name, Note>,
     note: &Note,
@@ -326,7 +336,7 @@ fn node_value(
 {
     match node {
         Node::Number(n, _) => Ok(ExprTree::Number(*n)),
-        Node::Text(bytes) => literal(typed, bytes.len(), first),
+        Node::Text(bytes) => literal(typed.get(), bytes.len(), first),
         Node::Null => Ok(ExprTree::Number(0)),
         Node::Name(n) => named(alloc, typed, locals, note, at, *n),
         Node::Un(op, e) => unary_value(alloc, typed, locals, *op, e.get(), note, at, first),
@@ -336,7 +346,7 @@ fn node_value(
             let right = value(alloc, typed, locals, f.get(), second)?;
             let one = &e.get().note.ctype;
             let two = &f.get().note.ctype;
-            of_operands(alloc, &typed.layout, *op, one, two, at, left, right)
+            of_operands(alloc, typed.layout(), *op, one, two, at, left, right)
         }
         Node::Pick(e, f, g) => {
             let test = value(alloc, typed, locals, e.get(), first)?;
@@ -350,7 +360,7 @@ fn node_value(
             let place = node_place(alloc, typed, locals, node, note, at, first)?;
             read_at(
                 alloc,
-                &typed.layout,
+                typed.layout(),
                 &note.ctype,
                 count_by_kind(&note.ctype),
                 place,
@@ -359,14 +369,14 @@ fn node_value(
         Node::Dot(e, n, _) => {
             let tag = tag_of(&e.get().note.ctype);
             let place = node_place(alloc, typed, locals, node, note, at, first)?;
-            let count = count_of_member(&typed.layout, tag, *n)?;
-            read_at(alloc, &typed.layout, &note.ctype, count, place)
+            let count = count_of_member(typed.layout(), tag, *n)?;
+            read_at(alloc, typed.layout(), &note.ctype, count, place)
         }
         Node::Arrow(e, n, _) => {
             let tag = tag_behind(&e.get().note.ctype);
             let place = node_place(alloc, typed, locals, node, note, at, first)?;
-            let count = count_of_member(&typed.layout, tag, *n)?;
-            read_at(alloc, &typed.layout, &note.ctype, count, place)
+            let count = count_of_member(typed.layout(), tag, *n)?;
+            read_at(alloc, typed.layout(), &note.ctype, count, place)
         }
         Node::Cast(w, e) => {
             let operand = value(alloc, typed, locals, e.get(), first)?;
@@ -375,19 +385,19 @@ fn node_value(
         }
         Node::Size(w) => {
             let written = type_written(alloc, w)?;
-            Ok(ExprTree::Number(size_of(&typed.layout, &written)))
+            Ok(ExprTree::Number(size_of(typed.layout(), &written)))
         }
         Node::Trusted(w, e, l) => {
             let written = type_written(alloc, w)?;
-            let size = size_behind(&typed.layout, &written);
+            let size = size_behind(typed.layout(), &written);
             let pointer = value(alloc, typed, locals, e.get(), first)?;
             let second = in_expr(e.get(), first)?;
             let count = elements(alloc, typed, locals, l, size, second)?;
-            trusted(alloc, typed, &written, form_if(l), pointer, count)
+            trusted(alloc, typed.get(), &written, form_if(l), pointer, count)
         }
         Node::Tested(w, e, l) => {
             let written = type_written(alloc, w)?;
-            let size = size_behind(&typed.layout, &written);
+            let size = size_behind(typed.layout(), &written);
             let pointer = value(alloc, typed, locals, e.get(), first)?;
             let second = in_expr(e.get(), first)?;
             let count = elements(alloc, typed, locals, l, size, second)?;
@@ -401,7 +411,7 @@ fn node_value(
 #[cycle(expr)]
 pub fn value(
     alloc: Global,
-    typed: &Typed,
+    typed: &Text,
     locals: &[Variable],
     e: &Expr<Name, Note>,
     first: u32,
@@ -415,7 +425,7 @@ pub fn value(
 /// Where an expression lies.
 pub fn place(
     alloc: Global,
-    typed: &Typed,
+    typed: &Text,
     locals: &[Variable],
     e: &Expr<Name, Note>,
     first: u32,

@@ -12,3 +12,4 @@ pub mod names;
 pub mod numbers;
 pub mod operators;
 pub mod places;
+pub mod texts;

@@ -7,6 +7,7 @@ ghost use Rattle.ckc_values.specs.Names.{address_of, array_of, bytes_in, bytes_o
 
 use crate::kinds::{count_by_kind, size_behind};
 use crate::numbers::{elements, product};
+use crate::texts::Text;
 use ckc_base::Boxed;
 use ckc_source::Count;
 use ckc_syntax::{Item, Limits, Name};
@@ -105,8 +106,8 @@ fn limits_of(bounds: &Option<Boxed<Limits<Name, Note>>>) -> Option<&Limits<Name,
     }
 }
 
-/// The bounds that a static object is declared with.
-fn limits_declared(typed: &Typed, n: Name) -> Option<&Limits<Name, Note>>
+/// The bounds that a static object is declared with, by a walk through the text.
+pub fn limits_by_walk(typed: &Typed, n: Name) -> Option<&Limits<Name, Note>>
     ensures { option_copied result ≡ limits_declared typed.now n }
 {
     match declaration(typed.tree.items.as_slice(), n) {
@@ -139,17 +140,17 @@ fn fixed_count(a: Option<Amount>) -> Result<Option<Count>, AllocError>
 /// How many elements a static pointer has, where that is known.
 pub fn count_of_static(
     alloc: Global,
-    typed: &Typed,
+    typed: &Text,
     t: &CType,
     n: Name,
 ) -> Result<Option<Count>, AllocError>
     ensures { IfOk result (λ c. c ≡ count_of_static typed.now t.now n) }
 {
-    match limits_declared(typed, n) {
+    match typed.limits_declared(n) {
         None => Ok(count_by_kind(t)),
         Some(l) => {
-            let size = size_behind(&typed.layout, t);
-            let a = amount_of_limits(alloc, &typed.layout, size, l)?;
+            let size = size_behind(typed.layout(), t);
+            let a = amount_of_limits(alloc, typed.layout(), size, l)?;
             fixed_count(a)
         }
     }
