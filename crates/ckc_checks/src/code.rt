@@ -620,7 +620,7 @@ pub fn value(
                 code,
             )?;
             let far = takes_range(access.through, p.get());
-            value(alloc, p.get(), far, checked, t, code)?;
+            value(alloc, p.get(), far, checked, t, code)
         }
         ExprTree::Moved(how, p, i) => {
             let next = sum(t, index_far(ranged))?;
@@ -628,7 +628,7 @@ pub fn value(
             let keeps = keeps_index(how.checked, i.get());
             shift(alloc, *how, ranged, p.get(), t, i.get(), next, t, code)?;
             value(alloc, i.get(), false, keeps, next, code)?;
-            value(alloc, p.get(), ranged, holds, t, code)?;
+            value(alloc, p.get(), ranged, holds, t, code)
         }
         ExprTree::Added(how, i, p) => {
             let next = sum(t, 1)?;
@@ -637,15 +637,15 @@ pub fn value(
             moved_range(ranged, t, code)?;
             shift(alloc, *how, ranged, p.get(), next, i.get(), t, t, code)?;
             value(alloc, p.get(), ranged, holds, next, code)?;
-            value(alloc, i.get(), false, keeps, t, code)?;
+            value(alloc, i.get(), false, keeps, t, code)
         }
         ExprTree::Bare(p) => {
             no_range(ranged, t, code)?;
-            value(alloc, p.get(), false, true, t, code)?;
+            value(alloc, p.get(), false, true, t, code)
         }
         ExprTree::Tested(size, form, at, p, k) => {
             if !ranged && casts_one(*size, p.get(), k.get()) {
-                value(alloc, p.get(), false, true, t, code)?;
+                value(alloc, p.get(), false, true, t, code)
             } else {
                 let next = sum(t, 3)?;
                 test(alloc, *size, *form, *at, k.get(), t, next, code)?;
@@ -657,14 +657,14 @@ pub fn value(
                     next,
                     code,
                 )?;
-                value(alloc, p.get(), true, true, t, code)?;
+                value(alloc, p.get(), true, true, t, code)
             }
         }
         ExprTree::Trusted(to, _, p, k) => {
             let next = sum(t, 1)?;
             trust(alloc, ranged, to.get().size, k.get(), t, next, code)?;
             value(alloc, k.get(), false, false, next, code)?;
-            value(alloc, p.get(), false, true, t, code)?;
+            value(alloc, p.get(), false, true, t, code)
         }
         ExprTree::Binary(operation, is_signed, at, a, b) => {
             let next = sum(t, 1)?;
@@ -681,7 +681,7 @@ pub fn value(
                 code,
             )?;
             value(alloc, b.get(), false, false, next, code)?;
-            value(alloc, a.get(), false, false, t, code)?;
+            value(alloc, a.get(), false, false, t, code)
         }
         ExprTree::And(a, b) => {
             no_range(ranged, t, code)?;
@@ -689,7 +689,7 @@ pub fn value(
             value(alloc, b.get(), false, false, t, &mut one)?;
             let two = set_alone(alloc, t, CoreExpr::Const(0))?;
             fork(alloc, a.get(), t, one, two, code)?;
-            value(alloc, a.get(), false, false, t, code)?;
+            value(alloc, a.get(), false, false, t, code)
         }
         ExprTree::Or(a, b) => {
             no_range(ranged, t, code)?;
@@ -697,7 +697,7 @@ pub fn value(
             let mut two = truth_alone(alloc, b.get(), t)?;
             value(alloc, b.get(), false, false, t, &mut two)?;
             fork(alloc, a.get(), t, one, two, code)?;
-            value(alloc, a.get(), false, false, t, code)?;
+            value(alloc, a.get(), false, false, t, code)
         }
         ExprTree::Choice(c, a, b) => {
             let mut one = nothing(alloc);
@@ -705,14 +705,14 @@ pub fn value(
             let mut two = nothing(alloc);
             value(alloc, b.get(), ranged, true, t, &mut two)?;
             fork(alloc, c.get(), t, one, two, code)?;
-            value(alloc, c.get(), false, false, t, code)?;
+            value(alloc, c.get(), false, false, t, code)
         }
         ExprTree::Narrow(inner) => {
             no_range(ranged, t, code)?;
             narrow(alloc, inner.get(), t, code)?;
-            value(alloc, inner.get(), false, false, t, code)?;
+            value(alloc, inner.get(), false, false, t, code)
         }
-        ExprTree::Limited(x, limits) => limited(alloc, ranged, *x, limits.get(), t, code)?,
+        ExprTree::Limited(x, limits) => limited(alloc, ranged, *x, limits.get(), t, code),
         ExprTree::Array(at, bytes) => {
             with_range(
                 ranged,
@@ -721,15 +721,14 @@ pub fn value(
                 CoreExpr::Const(*bytes),
                 code,
             )?;
-            front(code, CoreStmt::Set(t, CoreExpr::Const(*at)))?;
+            front(code, CoreStmt::Set(t, CoreExpr::Const(*at)))
         }
         ExprTree::Number(_) | ExprTree::Local(_) => {
             no_range(ranged, t, code)?;
             let here = direct(alloc, e)?;
-            front(code, CoreStmt::Set(t, here))?;
+            front(code, CoreStmt::Set(t, here))
         }
     }
-    Ok(())
 }
 
 /// The same for the value alone.
