@@ -34,8 +34,7 @@ pub fn nothing(alloc: Global) -> Seq<CoreStmt>
 pub fn front(code: &mut Seq<CoreStmt>, s: CoreStmt) -> Result<(), AllocError>
     ensures { OnOk result (behind code.new ≡ stmt_of s (behind code.old)) }
 {
-    code.push(s)?;
-    Ok(())
+    code.push(s)
 }
 
 /// The statements from the first one to the last.
@@ -80,8 +79,7 @@ pub fn fork(
         Code.If (operand (source_of e.now) t) (behind one) (behind two) (behind code.old)) }
 {
     let condition = operand(alloc, e, t)?;
-    front(code, CoreStmt::If(condition, in_order(one), in_order(two)))?;
-    Ok(())
+    front(code, CoreStmt::If(condition, in_order(one), in_order(two)))
 }
 
 /// Puts the check of a divisor in front, where the operation divides.
@@ -139,8 +137,7 @@ fn operate(
 {
     let value = operation_of(alloc, operation, is_signed, a, b, t, next)?;
     front(code, CoreStmt::Set(t, value))?;
-    check_divisor(alloc, operation, at, b, next, code)?;
-    Ok(())
+    check_divisor(alloc, operation, at, b, next, code)
 }
 
 /// Puts a statement in front that sets a local to the low byte of an operand.
@@ -150,8 +147,7 @@ fn narrow(alloc: Global, e: &ExprTree, t: u32, code: &mut Seq<CoreStmt>) -> Resu
 {
     let value = operand(alloc, e, t)?;
     let value = low_byte(alloc, value)?;
-    front(code, CoreStmt::Set(t, value))?;
-    Ok(())
+    front(code, CoreStmt::Set(t, value))
 }
 
 /// Puts the step from a checked pointer in t to its element at an index in front.
@@ -174,8 +170,7 @@ fn step(
     front(code, CoreStmt::Set(t, there))?;
     let is_signed = reads_signed(access.index);
     let exact = exact_test(alloc, false, is_signed, access.size, t, i, next)?;
-    front(code, CoreStmt::Check(Check::Arith, access.at, exact))?;
-    Ok(())
+    front(code, CoreStmt::Check(Check::Arith, access.at, exact))
 }
 
 /// Puts the checks of an access to an element of an array in front, through a checked pointer that is in t.
@@ -195,8 +190,7 @@ fn bounded(
     let within = bounds_test(alloc, last, p, t)?;
     front(code, CoreStmt::Check(Check::Bounds, access.at, within))?;
     step(alloc, access, i, t, next, code)?;
-    front(code, null_check(access.at, CoreExpr::Local(t)))?;
-    Ok(())
+    front(code, null_check(access.at, CoreExpr::Local(t)))
 }
 
 /// Puts the checks of an access in front, of which the pointer is in t and the index in the temporary `next`.
@@ -219,8 +213,7 @@ pub fn judge(
         Through::Named | Through::Raw => Ok(()),
         Through::One => {
             let pointer = operand(alloc, p, t)?;
-            front(code, null_check(access.at, pointer))?;
-            Ok(())
+            front(code, null_check(access.at, pointer))
         }
         Through::Array => bounded(alloc, false, access, p, i, t, next, code),
         Through::Terminated => bounded(alloc, true, access, p, i, t, next, code),
@@ -284,8 +277,7 @@ fn with_range(
 fn no_range(ranged: bool, t: u32, code: &mut Seq<CoreStmt>) -> Result<(), AllocError>
     ensures { OnOk result (behind code.new ≡ no_range ranged t (behind code.old)) }
 {
-    with_range(ranged, t, CoreExpr::Const(0), CoreExpr::Const(0), code)?;
-    Ok(())
+    with_range(ranged, t, CoreExpr::Const(0), CoreExpr::Const(0), code)
 }
 
 /// Puts statements in front that set t to a local, and those behind it to the range that limits say.
@@ -307,8 +299,7 @@ fn limited(
     let high = end_at(alloc, x, limits.to.size, limits.upper)?;
     let length = binary(alloc, BinOp::Sub, high, CoreExpr::Local(first))?;
     with_range(ranged, t, low, length, code)?;
-    front(code, CoreStmt::Set(t, CoreExpr::Local(x)))?;
-    Ok(())
+    front(code, CoreStmt::Set(t, CoreExpr::Local(x)))
 }
 
 /// Puts a statement in front that loads where an access goes to into t.
@@ -326,8 +317,7 @@ fn load_place(
 {
     let to = place(alloc, access, p, i, t)?;
     let value = CoreExpr::Load(width, Boxed::new(alloc, to)?);
-    front(code, CoreStmt::Set(t, value))?;
-    Ok(())
+    front(code, CoreStmt::Set(t, value))
 }
 
 /// Puts statements in front that load a pointer into t from an offset behind the address in `first`, and its range.
@@ -349,8 +339,7 @@ fn counted(
     front(code, CoreStmt::Set(sum(t, 2)?, length))?;
     let to = at_offset(alloc, offset, CoreExpr::Local(first))?;
     let value = CoreExpr::Load(Width::Word, Boxed::new(alloc, to)?);
-    front(code, CoreStmt::Set(t, value))?;
-    Ok(())
+    front(code, CoreStmt::Set(t, value))
 }
 
 /// Puts statements in front that load a pointer with a count of elements from where an access goes to.
@@ -373,8 +362,7 @@ fn pointer(
         let first = sum(t, 1)?;
         counted(alloc, size, count, access.offset, t, first, code)?;
         let to = element(alloc, access, p, i, t)?;
-        front(code, CoreStmt::Set(first, to))?;
-        Ok(())
+        front(code, CoreStmt::Set(first, to))
     } else {
         load_place(alloc, Width::Word, access, p, i, t, code)
     }
@@ -397,8 +385,7 @@ fn address(
 {
     with_range(ranged, t, CoreExpr::Local(t), CoreExpr::Const(bytes), code)?;
     let to = place(alloc, access, p, i, t)?;
-    front(code, CoreStmt::Set(t, to))?;
-    Ok(())
+    front(code, CoreStmt::Set(t, to))
 }
 
 /// Puts a bounds cast of the pointer in t in front, with its test and the count in the temporary `next`.
@@ -420,8 +407,7 @@ fn test(
     front(code, CoreStmt::Set(sum(t, 1)?, CoreExpr::Local(t)))?;
     front(code, CoreStmt::Set(sum(t, 2)?, length))?;
     let passes = cast_passes(alloc, size, form, k, t, next)?;
-    front(code, CoreStmt::Check(Check::Cast, at, passes))?;
-    Ok(())
+    front(code, CoreStmt::Check(Check::Cast, at, passes))
 }
 
 /// Puts the range of a trusted bounds cast of the pointer in t in front, with the count in the temporary `next`.
@@ -458,8 +444,7 @@ fn moved_range(ranged: bool, t: u32, code: &mut Seq<CoreStmt>) -> Result<(), All
         CoreExpr::Local(low),
         CoreExpr::Local(length),
         code,
-    )?;
-    Ok(())
+    )
 }
 
 /// Puts the checks of arithmetic on a checked pointer in front. It is in the one temporary and the index in the other.
@@ -485,8 +470,7 @@ fn check_exact(
     front(
         code,
         CoreStmt::Check(Check::Arith, shift.at, CoreExpr::Local(of_pointer)),
-    )?;
-    Ok(())
+    )
 }
 
 /// Puts a statement in front that sets t to a pointer that is moved, with its checks. It is in the one temporary and
@@ -532,8 +516,7 @@ fn judge_access(
         (behind code.old)) }
 {
     let next = index_in(access, p, t)?;
-    judge(alloc, access.through, access, p, i, t, next, code)?;
-    Ok(())
+    judge(alloc, access.through, access, p, i, t, next, code)
 }
 
 /// Puts the code in front that has the value of an access once its pointer and its index are found and judged.
@@ -742,8 +725,7 @@ pub fn expr(
     ensures { OnOk result (behind code.new ≡
         expr_code_if always (source_of e.now) t (behind code.old)) }
 {
-    value(alloc, e, false, always, t, code)?;
-    Ok(())
+    value(alloc, e, false, always, t, code)
 }
 
 /// Puts the code in front that finds the place of an access.
@@ -763,6 +745,5 @@ pub fn reach(
     let checked = is_bounded(access.through);
     value(alloc, i, false, keeps_index(checked, i), next, code)?;
     let far = takes_range(access.through, p);
-    value(alloc, p, far, checked, t, code)?;
-    Ok(())
+    value(alloc, p, far, checked, t, code)
 }

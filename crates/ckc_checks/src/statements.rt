@@ -59,8 +59,7 @@ fn guard(
         Through::Named | Through::Raw | Through::One | Through::Array => Ok(()),
         Through::Terminated => {
             let allowed = may_write(alloc, width, is_byte, t, u)?;
-            front(code, CoreStmt::Check(Check::Terminator, at, allowed))?;
-            Ok(())
+            front(code, CoreStmt::Check(Check::Terminator, at, allowed))
         }
     }
 }
@@ -82,8 +81,7 @@ fn store(
 {
     match access.through {
         Through::Named | Through::Raw | Through::One | Through::Array => {
-            front(code, CoreStmt::Store(width, to, value))?;
-            Ok(())
+            front(code, CoreStmt::Store(width, to, value))
         }
         Through::Terminated => {
             front(code, CoreStmt::Store(width, to, CoreExpr::Local(u)))?;
@@ -97,8 +95,7 @@ fn store(
                 u,
                 code,
             )?;
-            front(code, CoreStmt::Set(u, value))?;
-            Ok(())
+            front(code, CoreStmt::Set(u, value))
         }
     }
 }
@@ -120,14 +117,12 @@ fn write(
         TargetTree::Nothing => Ok(()),
         TargetTree::Local(x, width) => {
             let kept = kept_in(alloc, *width, is_byte, value)?;
-            front(code, CoreStmt::Set(*x, kept))?;
-            Ok(())
+            front(code, CoreStmt::Set(*x, kept))
         }
         TargetTree::Memory(width, access, p, i) => {
             let to = place(alloc, *access, p.get(), i.get(), t)?;
             let u = sum(t, target_count(target))?;
-            store(alloc, *access, *width, is_byte, t, u, to, value, code)?;
-            Ok(())
+            store(alloc, *access, *width, is_byte, t, u, to, value, code)
         }
     }
 }
@@ -147,8 +142,7 @@ fn mark(
         Through::Named | Through::Raw | Through::One | Through::Array => Ok(()),
         Through::Terminated => {
             let below = below_end(alloc, p, t)?;
-            front(code, CoreStmt::Set(sum(t, 1)?, below))?;
-            Ok(())
+            front(code, CoreStmt::Set(sum(t, 1)?, below))
         }
     }
 }
@@ -166,8 +160,7 @@ fn aim(
         TargetTree::Nothing | TargetTree::Local(_, _) => Ok(()),
         TargetTree::Memory(_, access, p, i) => {
             mark(alloc, access.through, p.get(), t, code)?;
-            reach(alloc, *access, p.get(), i.get(), t, code)?;
-            Ok(())
+            reach(alloc, *access, p.get(), i.get(), t, code)
         }
     }
 }
@@ -190,8 +183,7 @@ fn assign_value(
             let value = operand(alloc, e, u)?;
             write(alloc, target, t, is_narrow(e), value, code)?;
             expr(alloc, e, false, u, code)?;
-            aim(alloc, target, t, code)?;
-            Ok(())
+            aim(alloc, target, t, code)
         }
     }
 }
@@ -209,8 +201,7 @@ fn fix(
         TargetTree::Nothing | TargetTree::Local(_, _) => Ok(()),
         TargetTree::Memory(_, access, p, i) => {
             let to = place(alloc, *access, p.get(), i.get(), t)?;
-            front(code, CoreStmt::Set(t, to))?;
-            Ok(())
+            front(code, CoreStmt::Set(t, to))
         }
     }
 }
@@ -249,12 +240,10 @@ fn write_there(
         TargetTree::Nothing => Ok(()),
         TargetTree::Local(x, width) => {
             let kept = kept_in(alloc, *width, false, value)?;
-            front(code, CoreStmt::Set(*x, kept))?;
-            Ok(())
+            front(code, CoreStmt::Set(*x, kept))
         }
         TargetTree::Memory(width, _, _, _) => {
-            front(code, CoreStmt::Store(*width, CoreExpr::Local(t), value))?;
-            Ok(())
+            front(code, CoreStmt::Store(*width, CoreExpr::Local(t), value))
         }
     }
 }
@@ -271,8 +260,7 @@ fn take(
 {
     let count = operand(alloc, e, u)?;
     front(code, CoreStmt::Alloc(u, count, size))?;
-    expr(alloc, e, false, u, code)?;
-    Ok(())
+    expr(alloc, e, false, u, code)
 }
 
 /// Puts the code of an assignment in front.
@@ -288,8 +276,7 @@ fn assign(alloc: Global, a: &Assign, t: u32, code: &mut Seq<CoreStmt>) -> Result
             allow(alloc, &a.target, t, code)?;
             take(alloc, e.get(), to.get().size, u, code)?;
             fix(alloc, &a.target, t, code)?;
-            aim(alloc, &a.target, t, code)?;
-            Ok(())
+            aim(alloc, &a.target, t, code)
         }
     }
 }
@@ -318,8 +305,7 @@ fn plan(alloc: Global, a: &Assign, t: u32, code: &mut Seq<CoreStmt>) -> Result<(
     allow(alloc, &a.target, t, code)?;
     value(alloc, &a.right, u, code)?;
     fix(alloc, &a.target, t, code)?;
-    aim(alloc, &a.target, t, code)?;
-    Ok(())
+    aim(alloc, &a.target, t, code)
 }
 
 /// The temporaries behind those of an assignment that has them from t on.
@@ -340,8 +326,7 @@ fn plans(alloc: Global, all: &[Assign], t: u32, code: &mut Seq<CoreStmt>) -> Res
         Some((a, rest)) => {
             let next = behind_planned(&a.target, t)?;
             plans(alloc, rest, next, code)?;
-            plan(alloc, a, t, code)?;
-            Ok(())
+            plan(alloc, a, t, code)
         }
     }
 }
@@ -357,8 +342,7 @@ fn writes(alloc: Global, all: &[Assign], t: u32, code: &mut Seq<CoreStmt>) -> Re
             let next = behind_planned(&a.target, t)?;
             writes(alloc, rest, next, code)?;
             let u = sum(t, target_count(&a.target))?;
-            write_there(alloc, &a.target, t, CoreExpr::Local(u), code)?;
-            Ok(())
+            write_there(alloc, &a.target, t, CoreExpr::Local(u), code)
         }
     }
 }
@@ -369,8 +353,7 @@ fn bundle(alloc: Global, all: &[Assign], t: u32, code: &mut Seq<CoreStmt>) -> Re
         bundle_code (map assign_of all.now) t (behind code.old)) }
 {
     writes(alloc, all, t, code)?;
-    plans(alloc, all, t, code)?;
-    Ok(())
+    plans(alloc, all, t, code)
 }
 
 /// Puts the code in front that gets a byte.
@@ -385,8 +368,7 @@ fn get(
     let u = sum(t, target_count(target))?;
     write(alloc, target, t, false, CoreExpr::Local(u), code)?;
     front(code, CoreStmt::Get(u))?;
-    aim(alloc, target, t, code)?;
-    Ok(())
+    aim(alloc, target, t, code)
 }
 
 /// Puts the code in front that puts the byte of an operand and writes it.
@@ -406,8 +388,7 @@ fn put_operand(
     let byte = low_byte(alloc, value)?;
     write(alloc, target, t, true, byte, code)?;
     let value = operand(alloc, e, u)?;
-    front(code, CoreStmt::Put(value))?;
-    Ok(())
+    front(code, CoreStmt::Put(value))
 }
 
 /// Puts the code in front that puts a byte.
@@ -424,8 +405,7 @@ fn put(
     let u = sum(t, target_count(target))?;
     put_operand(alloc, target, e, t, u, code)?;
     expr(alloc, e, false, u, code)?;
-    aim(alloc, target, t, code)?;
-    Ok(())
+    aim(alloc, target, t, code)
 }
 
 /// The operands of a call, each with a temporary of its own from t on.
@@ -489,16 +469,14 @@ fn keep(
         None => Ok(()),
         Some(Kept::Local(x, Width::Byte)) => {
             let value = low_byte(alloc, CoreExpr::Local(x))?;
-            front(code, CoreStmt::Set(x, value))?;
-            Ok(())
+            front(code, CoreStmt::Set(x, value))
         }
         Some(Kept::Local(_, Width::Word)) => Ok(()),
         Some(Kept::Static(a, width)) => {
             front(
                 code,
                 CoreStmt::Store(width, CoreExpr::Const(a), CoreExpr::Local(t)),
-            )?;
-            Ok(())
+            )
         }
     }
 }
@@ -522,8 +500,7 @@ fn call(
         code,
         CoreStmt::Call(result_in(target, t), callee, arguments, at),
     )?;
-    before_call(alloc, es, t, code)?;
-    Ok(())
+    before_call(alloc, es, t, code)
 }
 
 /// Puts a branch in front, with the code of its condition.
@@ -539,8 +516,7 @@ fn branch(
         branch_code (source_of e.now) t (behind one) (behind two) (behind code.old)) }
 {
     fork(alloc, e, t, one, two, code)?;
-    expr(alloc, e, false, t, code)?;
-    Ok(())
+    expr(alloc, e, false, t, code)
 }
 
 /// A list that leaves a loop.
@@ -566,8 +542,7 @@ fn turn(
 {
     let out = break_alone(alloc)?;
     branch(alloc, e, t, nothing(alloc), out, &mut body)?;
-    front(code, CoreStmt::Loop(in_order(body), in_order(step)))?;
-    Ok(())
+    front(code, CoreStmt::Loop(in_order(body), in_order(step)))
 }
 
 /// Puts a return in front.
@@ -576,8 +551,7 @@ fn leave(alloc: Global, e: &ExprTree, t: u32, code: &mut Seq<CoreStmt>) -> Resul
 {
     let value = operand(alloc, e, t)?;
     front(code, CoreStmt::Return(value))?;
-    expr(alloc, e, false, t, code)?;
-    Ok(())
+    expr(alloc, e, false, t, code)
 }
 
 /// Puts a dynamic check in front.
@@ -592,8 +566,7 @@ fn check(
 {
     let value = operand(alloc, e, t)?;
     front(code, CoreStmt::Check(Check::Dynamic, at, value))?;
-    expr(alloc, e, false, t, code)?;
-    Ok(())
+    expr(alloc, e, false, t, code)
 }
 
 /// Builds the code of statements, where t is the first temporary.
