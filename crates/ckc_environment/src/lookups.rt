@@ -3,7 +3,8 @@
 ghost use Rattle.std.specs.Prelude.{◌≡◌, IfOk, find};
 ghost use Rattle.std.specs.Option.{option_copied, option_map};
 ghost use Rattle.ckc_types.specs.Layout.{members_of};
-ghost use Rattle.ckc_typed.specs.Environment.{object_named, variable_named, is_member_named, member_type, object_type, type_of_name};
+ghost use Rattle.ckc_syntax.specs.declared.tree.Name.TheVariants as name;
+ghost use Rattle.ckc_typed.specs.Environment.{same_name, object_named, variable_named, is_member_named, member_type, object_type, type_of_name};
 ghost use Rattle.ckc_typed.specs.Operands.{dot_type, arrow_type};
 
 use crate::names::same_name;
@@ -16,11 +17,31 @@ use ckc_typed::{Object, Variable};
 use ckc_types::{CType, MemberShape, Structs};
 use std::alloc::{AllocError, Global};
 
+fn is_local(n: Name, k: u32) -> bool
+    ensures { result ≡ same_name n (name.Local k) }
+{
+    match n {
+        Name::Local(j) => j == k,
+        Name::Static(_) | Name::Function(_) | Name::Tag(_) | Name::Member(_) => false,
+        Name::Getchar | Name::Putchar => false,
+    }
+}
+
+/// The variable of a local, of which the walk compares nothing but the number.
+fn local_named(variables: &[Variable], k: u32) -> Option<&Variable>
+    ensures { option_copied result ≡ variable_named variables.now (name.Local k) }
+{
+    variables.iter().find(|v| is_local(v.name, k))
+}
+
 /// The variable with a name, where there is one.
 pub fn variable_named(variables: &[Variable], n: Name) -> Option<&Variable>
     ensures { option_copied result ≡ variable_named variables.now n }
 {
-    variables.iter().find(|v| same_name(v.name, n))
+    match n {
+        Name::Local(k) => local_named(variables, k),
+        _ => variables.iter().find(|v| same_name(v.name, n)),
+    }
 }
 
 /// The type of an object that is used: an array is a pointer to its first element.
