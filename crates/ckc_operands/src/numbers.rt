@@ -12,22 +12,7 @@ pub fn number(e: &ExprTree) -> Option<u32>
 {
     match e {
         ExprTree::Number(n) => Some(*n),
-        ExprTree::Local(_)
-        | ExprTree::Limited(_, _)
-        | ExprTree::Array(_, _)
-        | ExprTree::Load(_, _, _, _)
-        | ExprTree::Member(_, _, _, _, _)
-        | ExprTree::Address(_, _, _, _)
-        | ExprTree::Moved(_, _, _)
-        | ExprTree::Added(_, _, _)
-        | ExprTree::Binary(_, _, _, _, _)
-        | ExprTree::And(_, _)
-        | ExprTree::Or(_, _)
-        | ExprTree::Choice(_, _, _)
-        | ExprTree::Narrow(_)
-        | ExprTree::Bare(_)
-        | ExprTree::Tested(_, _, _, _, _)
-        | ExprTree::Trusted(_, _, _, _) => None,
+        _ => None,
     }
 }
 

@@ -145,26 +145,6 @@ pub fn pass(
     go_on(work, frame, ps.as_slice(), at)
 }
 
-#[tactic(auto, unfolding(crate::specs::Stores::holds_from))]
-fn holds_known(
-    work: &mut Work,
-    frame: &Frame,
-    t: &CType,
-    base: Base,
-    e: &Expr<Name, Note>,
-    from: Numbered,
-    at: &Point,
-    bounds: &Bounds,
-) -> Result<bool, AllocError>
-    ensures { IfOk result (λ b. b
-        ≡ holds_from frame.now t.now base e.now from (state at.now) bounds.now) }
-{
-    let v = new_value(work, frame, t, e, from, at)?;
-    let by = place(work, frame, &v.facts, e, from.value)?;
-    let own = [BaseBy { base, by }];
-    holds(work, &v, bounds, &own, &[])
-}
-
 #[tactic(auto, unfolding(crate::specs::Stores::holds_from, crate::specs::Values::holds))]
 fn holds_from(
     work: &mut Work,
@@ -182,7 +162,12 @@ fn holds_from(
     match bounds {
         // Unknown bounds contain nothing, whatever the new value is.
         Bounds::Unknown => Ok(true),
-        Bounds::Known(_, _) => holds_known(work, frame, t, base, e, from, at, bounds),
+        Bounds::Known(_, _) => {
+            let v = new_value(work, frame, t, e, from, at)?;
+            let by = place(work, frame, &v.facts, e, from.value)?;
+            let own = [BaseBy { base, by }];
+            holds(work, &v, bounds, &own, &[])
+        }
     }
 }
 

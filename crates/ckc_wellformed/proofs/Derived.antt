@@ -29,7 +29,7 @@ use Rattle.ckc_grammar.specs.Grammar.{Part, Symbol, t, n, Rule, left, right}
 use Rattle.ckc_grammar.specs.Grammar as g
 use Rattle.ckc_grammar.specs.Trees.{Name, Tree, Item, Head, TypeTree, Decl, Limits, Expr, Node, Stmt, Act, expr_at, stmt_at, statics, local_of, locals, function_of, posted, joined_at, joined_to, joined, level, picked, literal}
 use Rattle.ckc_grammar.specs.Values as v
-use Rattle.ckc_grammar.specs.Values.{Value, made, named, called, whole, step, declared, as_token, as_items, as_items_of_name, as_items_of_base, as_items_of_declarator, as_item_of_head, as_decl, as_decls, as_decl_of_base, as_decls_of_base, as_decl_of_name, as_init, as_limits, as_declared_limits, as_limits_at, as_limits_of_unknown, as_expr, as_exprs, as_value, as_expr_behind, as_expr_of_name, as_expr_of_less, as_arms, as_steps, as_post, as_posts, as_stmt, as_part, as_stmts, as_stmt_of_name, operand_of, limits_of, as_length, as_type, place}
+use Rattle.ckc_grammar.specs.Values.{Value, made, named, called, whole, step, declared, as_token, as_items, as_items_of_name, as_items_of_base, as_items_of_declarator, as_item_of_head, as_decl, as_decls, as_decl_of_base, as_decls_of_base, as_decl_of_name, as_init, as_limits, as_declared_limits, as_limits_at, as_limits_of_unknown, as_expr, as_exprs, as_value, as_expr_behind, as_expr_of_name, as_expr_of_less, as_arms, as_steps, as_post, as_posts, as_stmt, as_part, as_stmts, as_stmt_of_name, operand_of, limits_of, as_type}
 use Rattle.ckc_grammar.specs.Derives.{Sign, Derives}
 use Rattle.ckc_grammar.specs.Derives as D
 use Rattle.ckc_welltyped.specs.Productions.{limits_callless, node_callless, expr_callless, callless_limits, callless_expr, callless_bounds, callless_value, call_form, is_call, is_right, callless_init, right_init, given_decl, given_local, Given, begins, steps, given_act, given_in, given_stmt, given_head, given_item, given_tree}
