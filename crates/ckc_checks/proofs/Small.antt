@@ -66,8 +66,11 @@ at_offset_depth offset e = by (offset == 0)
     by false = omega arith
 
 element_depth : (through : Through) (size : ℕ) (a i : Expr) → depth (element_of through size a i) ≤ 2 + max (depth a) (max 1 (depth i))
+element_depth Named size a i = omega arith
 element_depth Raw size a i = shifted_depth false size a i
-element_depth through size a i = omega arith
+element_depth One size a i = omega arith
+element_depth Array size a i = omega arith
+element_depth Terminated size a i = omega arith
 
 place_depth : (access : Access) (a i : Expr) → depth (place_at access a i) ≤ 3 + max (depth a) (max 1 (depth i))
 place_depth access a i =
@@ -75,7 +78,8 @@ place_depth access a i =
 
 base_depth : (x : ℕ) (b : Base) → depth (base_at x b) ≤ 1
 base_depth x bases.Own = omega arith
-base_depth x b = omega arith
+base_depth x (bases.Local y) = omega arith
+base_depth x (bases.Fixed a) = omega arith
 
 amount_depth : (v : Option Variable) (add : ℤ) → depth (amount_at v add) ≤ 2
 amount_depth None add = omega arith
@@ -87,7 +91,8 @@ end_depth x size e =
 
 counted_depth : (upper : Bool) (size : ℕ) (count : Count) (a : ℕ) → depth (counted_end upper size count (Load width.Word (Const a))) ≤ 4
 counted_depth true size (counts.Fixed n) a = omega (arith, shifted_depth false size (Load width.Word (Const a)) (Const (word_of n)))
-counted_depth upper size count a = omega arith
+counted_depth false size (counts.Fixed n) a = omega arith
+counted_depth upper size (counts.Member offset form add) a = omega arith
 
 range_end_depth : (upper : Bool) (p : source.Expr) → depth (range_end upper p) ≤ 4
 range_end_depth upper (source.Limited x limits) = end_depth x limits.to.size (if upper then limits.upper else limits.lower)
