@@ -4,10 +4,10 @@ use Rattle.std.specs.Prelude.{ℤ, pos}
 use Rattle.ckc_base.specs.Words.{flag, word_of, applied}
 use Rattle.ckc_base.specs.declared.arithmetic.BinOp.{BinOp}
 use Rattle.ckc_base.specs.declared.arithmetic.BinOp.TheVariants as op
-use Rattle.ckc_rv.specs.declared.instructions.RegOp.{RegOp}
-use Rattle.ckc_rv.specs.declared.instructions.RegOp.TheVariants.{Sub, Sltu}
-use Rattle.ckc_rv.specs.declared.instructions.ImmOp.{ImmOp}
-use Rattle.ckc_rv.specs.declared.instructions.ImmOp.TheVariants.{Sltiu}
+use Rattle.ckc_operations.specs.declared.operations.RegOp.{RegOp}
+use Rattle.ckc_operations.specs.declared.operations.RegOp.TheVariants.{Sub, Sltu}
+use Rattle.ckc_operations.specs.declared.operations.ImmOp.{ImmOp}
+use Rattle.ckc_operations.specs.declared.operations.ImmOp.TheVariants.{Sltiu}
 use Rattle.ckc_rv.specs.declared.instructions.Instr.TheVariants.{Imm, Reg}
 use Rattle.ckc_rv.specs.Effects.{reg_value, reg_form}
 use Rattle.ckc_lines.specs.declared.lines.Line.{Line}

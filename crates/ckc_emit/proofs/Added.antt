@@ -9,16 +9,16 @@ use Rattle.ckc_base.specs.declared.arithmetic.BinOp.TheVariants as op
 use Rattle.ckc_base.specs.declared.arithmetic.Width.{Width}
 use Rattle.ckc_base.specs.declared.runtime_checks.Check.{Check}
 use Rattle.ckc_base.specs.Checks.{number_of}
-use Rattle.ckc_rv.specs.declared.instructions.BranchOp.{BranchOp}
-use Rattle.ckc_rv.specs.declared.instructions.BranchOp.TheVariants.{Bne, Bge, Bltu}
-use Rattle.ckc_rv.specs.declared.instructions.LoadOp.{LoadOp}
-use Rattle.ckc_rv.specs.declared.instructions.LoadOp.TheVariants.{Lw}
-use Rattle.ckc_rv.specs.declared.instructions.StoreOp.{StoreOp}
-use Rattle.ckc_rv.specs.declared.instructions.StoreOp.TheVariants.{Sw}
-use Rattle.ckc_rv.specs.declared.instructions.ImmOp.{ImmOp}
-use Rattle.ckc_rv.specs.declared.instructions.ImmOp.TheVariants.{Addi, Slti, Sltiu, Xori, Ori, Andi, Slli, Srli}
-use Rattle.ckc_rv.specs.declared.instructions.RegOp.{RegOp}
-use Rattle.ckc_rv.specs.declared.instructions.RegOp.TheVariants.{Add, Sub, Sltu, Mul, Divu}
+use Rattle.ckc_operations.specs.declared.operations.BranchOp.{BranchOp}
+use Rattle.ckc_operations.specs.declared.operations.BranchOp.TheVariants.{Bne, Bge, Bltu}
+use Rattle.ckc_operations.specs.declared.operations.LoadOp.{LoadOp}
+use Rattle.ckc_operations.specs.declared.operations.LoadOp.TheVariants.{Lw}
+use Rattle.ckc_operations.specs.declared.operations.StoreOp.{StoreOp}
+use Rattle.ckc_operations.specs.declared.operations.StoreOp.TheVariants.{Sw}
+use Rattle.ckc_operations.specs.declared.operations.ImmOp.{ImmOp}
+use Rattle.ckc_operations.specs.declared.operations.ImmOp.TheVariants.{Addi, Slti, Sltiu, Xori, Ori, Andi, Slli, Srli}
+use Rattle.ckc_operations.specs.declared.operations.RegOp.{RegOp}
+use Rattle.ckc_operations.specs.declared.operations.RegOp.TheVariants.{Add, Sub, Sltu, Mul, Divu}
 use Rattle.ckc_rv.specs.declared.instructions.Instr.TheVariants.{Lui, Branch, Load, Store, Imm, Reg, Ecall}
 use Rattle.ckc_rv.specs.Table.{IsSigned, IsCount, InRange}
 use Rattle.ckc_emit.specs.declared.places.PlacedOperand.{PlacedOperand}

@@ -6,8 +6,8 @@ use Rattle.ckc_base.specs.Words.{signed, word_of, applied}
 use Rattle.ckc_base.specs.Products.{high_product}
 use Rattle.ckc_base.specs.declared.arithmetic.BinOp.{BinOp}
 use Rattle.ckc_base.specs.declared.arithmetic.BinOp.TheVariants as op
-use Rattle.ckc_rv.specs.declared.instructions.ImmOp.{ImmOp}
-use Rattle.ckc_rv.specs.declared.instructions.ImmOp.TheVariants.{Addi, Slti, Sltiu, Xori, Ori, Andi, Slli, Srli, Srai}
+use Rattle.ckc_operations.specs.declared.operations.ImmOp.{ImmOp}
+use Rattle.ckc_operations.specs.declared.operations.ImmOp.TheVariants.{Addi, Slti, Sltiu, Xori, Ori, Andi, Slli, Srli, Srai}
 use Rattle.ckc_rv.specs.declared.instructions.Instr.TheVariants.{Imm, Reg as RegInstr}
 use Rattle.ckc_rv.specs.Effects.{reg_value, reg_form}
 use Rattle.ckc_lines.specs.declared.lines.Line.{Line}

@@ -8,8 +8,8 @@ use Rattle.ckc_base.specs.declared.places.Pos.{Pos}
 use Rattle.ckc_base.specs.declared.runtime_checks.Check.TheVariants.{Depth}
 use Rattle.ckc_base.specs.Traces.{Stopped}
 use Rattle.ckc_base.specs.Activations.{Values}
-use Rattle.ckc_rv.specs.declared.instructions.RegOp.TheVariants.{Add}
-use Rattle.ckc_rv.specs.declared.instructions.ImmOp.TheVariants.{Addi}
+use Rattle.ckc_operations.specs.declared.operations.RegOp.TheVariants.{Add}
+use Rattle.ckc_operations.specs.declared.operations.ImmOp.TheVariants.{Addi}
 use Rattle.ckc_rv.specs.declared.instructions.Instr.TheVariants.{Lui, Imm, Reg}
 use Rattle.ckc_rv.specs.Machine.{stack_start}
 use Rattle.ckc_rv.specs.Detailed.{MachineEvent}

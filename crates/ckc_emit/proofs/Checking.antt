@@ -7,7 +7,7 @@ use Rattle.ckc_base.specs.declared.runtime_checks.Check.{Check}
 use Rattle.ckc_base.specs.declared.runtime_checks.Check.TheVariants as check
 use Rattle.ckc_base.specs.Checks.{number_of as check_number, check_with}
 use Rattle.ckc_base.specs.Traces.{Stopped}
-use Rattle.ckc_rv.specs.declared.instructions.BranchOp.TheVariants.{Bne}
+use Rattle.ckc_operations.specs.declared.operations.BranchOp.TheVariants.{Bne}
 use Rattle.ckc_rv.specs.declared.instructions.Instr.{Instr}
 use Rattle.ckc_rv.specs.declared.instructions.Instr.TheVariants.{Ecall, Lui}
 use Rattle.ckc_rv.specs.Effects.{moved, is_taken}

@@ -5,10 +5,10 @@ use Rattle.std.specs.Ordering.{int_eq}
 use Rattle.std.proofs.lemmas.Bool.Decides.{nat_tests, Decides-int_eq}
 use Rattle.std.proofs.lemmas.Int.{ints}
 use Rattle.ckc_base.specs.Words.{word_of}
-use Rattle.ckc_rv.specs.declared.instructions.LoadOp.TheVariants.{Lw}
-use Rattle.ckc_rv.specs.declared.instructions.StoreOp.TheVariants.{Sw}
-use Rattle.ckc_rv.specs.declared.instructions.ImmOp.TheVariants.{Addi}
-use Rattle.ckc_rv.specs.declared.instructions.RegOp.TheVariants.{Add}
+use Rattle.ckc_operations.specs.declared.operations.LoadOp.TheVariants.{Lw}
+use Rattle.ckc_operations.specs.declared.operations.StoreOp.TheVariants.{Sw}
+use Rattle.ckc_operations.specs.declared.operations.ImmOp.TheVariants.{Addi}
+use Rattle.ckc_operations.specs.declared.operations.RegOp.TheVariants.{Add}
 use Rattle.ckc_rv.specs.declared.instructions.Instr.TheVariants.{Lui, Load, Store, Imm, Reg}
 use Rattle.ckc_rv.specs.Effects.{moved}
 use Rattle.ckc_rv.specs.Machine.{loaded, stack_start, memory_end}

@@ -10,7 +10,7 @@ use Rattle.ckc_base.specs.Steps.{Goes, Halts}
 use Rattle.ckc_base.specs.States.{Travels}
 use Rattle.ckc_base.proofs.Runs.{one_halt, then_closes}
 use Rattle.ckc_base.proofs.Travelling.{one_travel, then_travels}
-use Rattle.ckc_rv.specs.declared.instructions.RegOp.TheVariants.{Add}
+use Rattle.ckc_operations.specs.declared.operations.RegOp.TheVariants.{Add}
 use Rattle.ckc_rv.specs.declared.instructions.Instr.TheVariants.{Lui, Reg, Jalr, Ecall}
 use Rattle.ckc_rv.specs.Effects.{moved}
 use Rattle.ckc_rv.specs.Machine.{stack_start, memory_end}

@@ -3,7 +3,7 @@
 use Rattle.std.specs.Prelude.{ℕ, zero, suc, ◌+◌, ◌*◌, ◌==◌, ◌||◌, Bool, false, true, if◌then◌else◌, List, [], ◌∷◌, slice_get, Option, Some, None}
 use Rattle.ckc_base.specs.declared.places.Pos.{Pos}
 use Rattle.ckc_base.specs.declared.runtime_checks.Check.TheVariants.{Depth}
-use Rattle.ckc_rv.specs.declared.instructions.RegOp.TheVariants.{Add}
+use Rattle.ckc_operations.specs.declared.operations.RegOp.TheVariants.{Add}
 use Rattle.ckc_rv.specs.declared.instructions.Instr.TheVariants.{Lui, Reg}
 use Rattle.ckc_lines.specs.declared.lines.Line.{Line}
 use Rattle.ckc_lines.specs.declared.lines.Line.TheVariants.{Plain, Far}

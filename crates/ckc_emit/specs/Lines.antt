@@ -9,15 +9,15 @@ use Rattle.ckc_base.specs.declared.arithmetic.Width.TheVariants.{Byte, Word}
 use Rattle.ckc_base.specs.declared.places.Pos.{Pos}
 use Rattle.ckc_base.specs.declared.runtime_checks.Check.{Check}
 use Rattle.ckc_base.specs.Checks.{number_of}
-use Rattle.ckc_rv.specs.declared.instructions.BranchOp.TheVariants.{Bne, Bge, Bltu}
-use Rattle.ckc_rv.specs.declared.instructions.LoadOp.{LoadOp}
-use Rattle.ckc_rv.specs.declared.instructions.LoadOp.TheVariants.{Lw, Lbu}
-use Rattle.ckc_rv.specs.declared.instructions.StoreOp.{StoreOp}
-use Rattle.ckc_rv.specs.declared.instructions.StoreOp.TheVariants.{Sb, Sw}
-use Rattle.ckc_rv.specs.declared.instructions.ImmOp.{ImmOp}
-use Rattle.ckc_rv.specs.declared.instructions.ImmOp.TheVariants.{Addi, Slti, Sltiu, Xori, Ori, Andi, Slli, Srli, Srai}
-use Rattle.ckc_rv.specs.declared.instructions.RegOp.{RegOp}
-use Rattle.ckc_rv.specs.declared.instructions.RegOp.TheVariants.{Add, Sub, Sll, Slt, Sltu, Xor, Srl, Sra, Or, And, Mul, Mulh, Mulhu, Div, Divu, Rem, Remu}
+use Rattle.ckc_operations.specs.declared.operations.BranchOp.TheVariants.{Bne, Bge, Bltu}
+use Rattle.ckc_operations.specs.declared.operations.LoadOp.{LoadOp}
+use Rattle.ckc_operations.specs.declared.operations.LoadOp.TheVariants.{Lw, Lbu}
+use Rattle.ckc_operations.specs.declared.operations.StoreOp.{StoreOp}
+use Rattle.ckc_operations.specs.declared.operations.StoreOp.TheVariants.{Sb, Sw}
+use Rattle.ckc_operations.specs.declared.operations.ImmOp.{ImmOp}
+use Rattle.ckc_operations.specs.declared.operations.ImmOp.TheVariants.{Addi, Slti, Sltiu, Xori, Ori, Andi, Slli, Srli, Srai}
+use Rattle.ckc_operations.specs.declared.operations.RegOp.{RegOp}
+use Rattle.ckc_operations.specs.declared.operations.RegOp.TheVariants.{Add, Sub, Sll, Slt, Sltu, Xor, Srl, Sra, Or, And, Mul, Mulh, Mulhu, Div, Divu, Rem, Remu}
 use Rattle.ckc_rv.specs.declared.instructions.Instr.{Instr}
 use Rattle.ckc_rv.specs.declared.instructions.Instr.TheVariants.{Lui, Branch, Load, Store, Imm, Reg, Ecall}
 use Rattle.ckc_lines.specs.declared.lines.Line.{Line}

@@ -1,8 +1,8 @@
 -- The lines of blocks, functions and programs. Labels are numbers: 0 is the start, then each function has one, and
 -- behind it one for each of its blocks.
 use Rattle.std.specs.Prelude.{◌≡◌, ℕ, ◌+◌, ◌<◌, ◌==◌, not, ◌&&◌, if◌then◌else◌, Bool, true, false, List, [], ◌∷◌, length, map, slice_get, slice_index, sum_by, take, Option, Some, None, pos}
-use Rattle.ckc_rv.specs.declared.instructions.BranchOp.{BranchOp}
-use Rattle.ckc_rv.specs.declared.instructions.BranchOp.TheVariants.{Beq, Bne, Blt, Bge, Bltu, Bgeu}
+use Rattle.ckc_operations.specs.declared.operations.BranchOp.{BranchOp}
+use Rattle.ckc_operations.specs.declared.operations.BranchOp.TheVariants.{Beq, Bne, Blt, Bge, Bltu, Bgeu}
 use Rattle.ckc_rv.specs.declared.instructions.Instr.TheVariants.{Lui, Jalr, Branch as BranchInstr}
 use Rattle.ckc_lines.specs.declared.lines.Labelled.{Labelled}
 use Rattle.ckc_lines.specs.declared.lines.Line.{Line}

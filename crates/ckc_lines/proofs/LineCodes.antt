@@ -2,7 +2,7 @@
 use Rattle.std.proofs.Common.{◌≡◌, ℕ, ◌+◌, ◌-◌, ◌*◌, ◌/◌, ◌%◌, ◌^◌, ◌<◌, ℤ, pos, ◌-ℤ◌, List, ◌++◌, length, take, drop, Option, Some, Result, Ok, Err, OnOk, ap, ◌∙◌, arith, length-append, append_assoc}
 use Rattle.std.proofs.lemmas.Int.{ints}
 use Rattle.std.proofs.lemmas.List.{take_at, drop_at}
-use Rattle.ckc_rv.specs.declared.instructions.BranchOp.{BranchOp}
+use Rattle.ckc_operations.specs.declared.operations.BranchOp.{BranchOp}
 use Rattle.ckc_rv.specs.declared.instructions.Instr.{Instr}
 use Rattle.ckc_rv.specs.declared.instructions.Instr.TheVariants as instr
 use Rattle.ckc_rv.specs.Effects.{moved}

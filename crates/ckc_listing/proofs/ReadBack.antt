@@ -4,12 +4,12 @@ use Rattle.std.specs.List.{flat_map, list_all, AllByRecursion}
 use Rattle.std.proofs.lemmas.List.{length-map}
 use Rattle.std.specs.Fmt.{decimal, signed_decimal}
 use Rattle.std.proofs.lemmas.Int.{ints}
-use Rattle.ckc_rv.specs.declared.instructions.BranchOp.{BranchOp}
-use Rattle.ckc_rv.specs.declared.instructions.LoadOp.{LoadOp}
-use Rattle.ckc_rv.specs.declared.instructions.StoreOp.{StoreOp}
-use Rattle.ckc_rv.specs.declared.instructions.ImmOp.{ImmOp}
-use Rattle.ckc_rv.specs.declared.instructions.ImmOp.TheVariants.{Addi, Slti, Sltiu, Xori, Ori, Andi, Slli, Srli, Srai}
-use Rattle.ckc_rv.specs.declared.instructions.RegOp.{RegOp}
+use Rattle.ckc_operations.specs.declared.operations.BranchOp.{BranchOp}
+use Rattle.ckc_operations.specs.declared.operations.LoadOp.{LoadOp}
+use Rattle.ckc_operations.specs.declared.operations.StoreOp.{StoreOp}
+use Rattle.ckc_operations.specs.declared.operations.ImmOp.{ImmOp}
+use Rattle.ckc_operations.specs.declared.operations.ImmOp.TheVariants.{Addi, Slti, Sltiu, Xori, Ori, Andi, Slli, Srli, Srai}
+use Rattle.ckc_operations.specs.declared.operations.RegOp.{RegOp}
 use Rattle.ckc_rv.specs.declared.instructions.Instr.{Instr}
 use Rattle.ckc_rv.specs.declared.instructions.Instr.TheVariants as instr
 use Rattle.ckc_rv.specs.Table.{Decodes, IsSigned, IsImmediate}

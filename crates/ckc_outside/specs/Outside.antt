@@ -1,19 +1,12 @@
-use Rattle.std.specs.Prelude.{◌≡◌, ◌≢◌, ◌⊎◌, ℕ, ◌+◌, ◌-◌, ◌^◌, ◌<◌, ◌≤◌, min, List, ◌++◌, length, take, drop, slice_get, Bool, Option, None, Some, Result, Ok, Err}
+use Rattle.std.specs.Prelude.{◌≡◌, ◌≢◌, ℕ, ◌<◌, ◌≤◌, List, ◌++◌, length, take, drop, slice_get, Bool, Option, None, Some, Result, Ok, Err}
 use Rattle.std.specs.Ordering.{nat_cmp}
 use Rattle.std.specs.Cmp.Lexicographic.{slice_cmp}
 use Rattle.std.specs.FinMap as map
+pub use Rattle.ckc_counts.specs.Counts.{Rose, one_more}
 use Rattle.ckc_outside.specs.declared.traits.Failed.{Failed}
 use Rattle.ckc_outside.specs.declared.traits.StoreError as errors
 use Rattle.ckc_outside.specs.declared.traits.Fetched as fetches
 use Rattle.ckc_outside.specs.declared.traits.Fetched.TheVariants.{Whole, Longer}
-
--- A count rose in a call where it is greater than before the call, or stands at its last value.
-abbrev pub Rose : ℕ → ℕ → Type 0
-Rose old new = (old < new) ⊎ (new ≡ 2 ^ 64 - 1)
-
--- a count after one more, which stands still at its last value
-abbrev pub one_more : ℕ → ℕ
-one_more n = min (n + 1) (2 ^ 64 - 1)
 
 -- a finite map from names to bytes, each a list of bytes
 abbrev pub Files : Type 0

@@ -2,16 +2,9 @@
 -- table relates word and instruction.
 use Rattle.std.specs.Prelude.{ℕ, ◌+◌, ◌*◌, ◌/◌, ◌%◌, ◌^◌, ◌==◌, ◌&&◌, nat_lt, if◌then◌else◌, ℤ, pos, ◌-ℤ◌, Some, None, Option}
 use Rattle.std.specs.Option.{option_map}
-use Rattle.ckc_rv.specs.declared.instructions.BranchOp.{BranchOp}
-use Rattle.ckc_rv.specs.declared.instructions.BranchOp.TheVariants.{Beq, Bne, Blt, Bge, Bltu, Bgeu}
-use Rattle.ckc_rv.specs.declared.instructions.LoadOp.{LoadOp}
-use Rattle.ckc_rv.specs.declared.instructions.LoadOp.TheVariants.{Lb, Lh, Lw, Lbu, Lhu}
-use Rattle.ckc_rv.specs.declared.instructions.StoreOp.{StoreOp}
-use Rattle.ckc_rv.specs.declared.instructions.StoreOp.TheVariants.{Sb, Sh, Sw}
-use Rattle.ckc_rv.specs.declared.instructions.ImmOp.{ImmOp}
-use Rattle.ckc_rv.specs.declared.instructions.ImmOp.TheVariants.{Addi, Slti, Sltiu, Xori, Ori, Andi, Slli, Srli, Srai}
-use Rattle.ckc_rv.specs.declared.instructions.RegOp.{RegOp}
-use Rattle.ckc_rv.specs.declared.instructions.RegOp.TheVariants.{Add, Sub, Sll, Slt, Sltu, Xor, Srl, Sra, Or, And, Mul, Mulh, Mulhsu, Mulhu, Div, Divu, Rem, Remu}
+pub use Rattle.ckc_operations.specs.Codes.{branch_op, load_op, store_op, imm_op, base_op, product_op, reg_op}
+use Rattle.ckc_operations.specs.declared.operations.ImmOp.{ImmOp}
+use Rattle.ckc_operations.specs.declared.operations.ImmOp.TheVariants.{Slli, Srli, Srai}
 use Rattle.ckc_rv.specs.declared.instructions.Instr.{Instr}
 use Rattle.ckc_rv.specs.declared.instructions.Instr.TheVariants.{Lui, Auipc, Jal, Jalr, Branch, Load, Store, Imm, Reg, Fence, Ecall, Ebreak}
 
@@ -52,95 +45,12 @@ j_offset word = signed_from (2 ^ 20)
     (word / 2 ^ 31 * 2 ^ 20 + word / 2 ^ 12 % 2 ^ 8 * 2 ^ 12 + word / 2 ^ 20 % 2 * 2 ^ 11
     + word / 2 ^ 21 % 2 ^ 10 * 2)
 
--- ---- the operations by their codes
-
-abbrev pub branch_op : ℕ → Option BranchOp
-branch_op funct3 =
-    if funct3 == 0 then Some Beq
-    else if funct3 == 1 then Some Bne
-    else if funct3 == 4 then Some Blt
-    else if funct3 == 5 then Some Bge
-    else if funct3 == 6 then Some Bltu
-    else if funct3 == 7 then Some Bgeu
-    else None
-
-abbrev pub load_op : ℕ → Option LoadOp
-load_op funct3 =
-    if funct3 == 0 then Some Lb
-    else if funct3 == 1 then Some Lh
-    else if funct3 == 2 then Some Lw
-    else if funct3 == 4 then Some Lbu
-    else if funct3 == 5 then Some Lhu
-    else None
-
-abbrev pub store_op : ℕ → Option StoreOp
-store_op funct3 =
-    if funct3 == 0 then Some Sb
-    else if funct3 == 1 then Some Sh
-    else if funct3 == 2 then Some Sw
-    else None
-
-abbrev pub shift_left_op : ℕ → Option ImmOp
-shift_left_op funct7 = if funct7 == 0 then Some Slli else None
-
-abbrev pub shift_right_op : ℕ → Option ImmOp
-shift_right_op funct7 =
-    if funct7 == 0 then Some Srli
-    else if funct7 == 0x20 then Some Srai
-    else None
-
--- the operation with an immediate, by funct3 and funct7; only shifts look at funct7
-abbrev pub imm_op : ℕ → ℕ → Option ImmOp
-imm_op funct3 funct7 =
-    if funct3 == 0 then Some Addi
-    else if funct3 == 1 then shift_left_op funct7
-    else if funct3 == 2 then Some Slti
-    else if funct3 == 3 then Some Sltiu
-    else if funct3 == 4 then Some Xori
-    else if funct3 == 5 then shift_right_op funct7
-    else if funct3 == 6 then Some Ori
-    else Some Andi
-
+-- the second operand of an operation with an immediate: the immediate, or the count of a shift
 abbrev pub imm_of : ImmOp → ℕ → ℤ
 imm_of Slli word = pos (rs2_of word)
 imm_of Srli word = pos (rs2_of word)
 imm_of Srai word = pos (rs2_of word)
 imm_of _ word = i_immediate word
-
-abbrev pub base_op : ℕ → RegOp
-base_op funct3 =
-    if funct3 == 0 then Add
-    else if funct3 == 1 then Sll
-    else if funct3 == 2 then Slt
-    else if funct3 == 3 then Sltu
-    else if funct3 == 4 then Xor
-    else if funct3 == 5 then Srl
-    else if funct3 == 6 then Or
-    else And
-
-abbrev pub product_op : ℕ → RegOp
-product_op funct3 =
-    if funct3 == 0 then Mul
-    else if funct3 == 1 then Mulh
-    else if funct3 == 2 then Mulhsu
-    else if funct3 == 3 then Mulhu
-    else if funct3 == 4 then Div
-    else if funct3 == 5 then Divu
-    else if funct3 == 6 then Rem
-    else Remu
-
-abbrev pub other_op : ℕ → Option RegOp
-other_op funct3 =
-    if funct3 == 0 then Some Sub
-    else if funct3 == 5 then Some Sra
-    else None
-
-abbrev pub reg_op : ℕ → ℕ → Option RegOp
-reg_op funct3 funct7 =
-    if funct7 == 0 then Some (base_op funct3)
-    else if funct7 == 1 then Some (product_op funct3)
-    else if funct7 == 0x20 then other_op funct3
-    else None
 
 -- ---- the instruction, for each opcode that has several
 

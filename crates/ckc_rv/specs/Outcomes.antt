@@ -1,11 +1,11 @@
 -- What a word does, read off it at once.
 use Rattle.std.specs.Prelude.{ℕ, ◌<◌, List, Option}
 use Rattle.std.specs.Option.{option_map}
-use Rattle.ckc_rv.specs.declared.instructions.BranchOp.{BranchOp}
-use Rattle.ckc_rv.specs.declared.instructions.LoadOp.{LoadOp}
-use Rattle.ckc_rv.specs.declared.instructions.StoreOp.{StoreOp}
-use Rattle.ckc_rv.specs.declared.instructions.ImmOp.{ImmOp}
-use Rattle.ckc_rv.specs.declared.instructions.RegOp.{RegOp}
+use Rattle.ckc_operations.specs.declared.operations.BranchOp.{BranchOp}
+use Rattle.ckc_operations.specs.declared.operations.LoadOp.{LoadOp}
+use Rattle.ckc_operations.specs.declared.operations.StoreOp.{StoreOp}
+use Rattle.ckc_operations.specs.declared.operations.ImmOp.{ImmOp}
+use Rattle.ckc_operations.specs.declared.operations.RegOp.{RegOp}
 use Rattle.ckc_rv.specs.declared.instructions.Instr.{Instr}
 use Rattle.ckc_rv.specs.declared.instructions.Instr.TheVariants as instr
 use Rattle.ckc_rv.specs.declared.registers.Outcome.{Outcome}

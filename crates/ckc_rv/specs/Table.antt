@@ -2,16 +2,9 @@
 -- is an instruction whose fields are in range together with its word: a sum of fields times powers of two.
 use Rattle.std.specs.Prelude.{◌≡◌, ℕ, ◌+◌, ◌*◌, ◌/◌, ◌%◌, ◌^◌, ◌<◌, ℤ, pos, neg_ℤ, ◌≤ℤ◌, ◌<ℤ◌}
 use Rattle.ckc_base.specs.Words.{word_of}
-use Rattle.ckc_rv.specs.declared.instructions.BranchOp.{BranchOp}
-use Rattle.ckc_rv.specs.declared.instructions.BranchOp.TheVariants.{Beq, Bne, Blt, Bge, Bltu, Bgeu}
-use Rattle.ckc_rv.specs.declared.instructions.LoadOp.{LoadOp}
-use Rattle.ckc_rv.specs.declared.instructions.LoadOp.TheVariants.{Lb, Lh, Lw, Lbu, Lhu}
-use Rattle.ckc_rv.specs.declared.instructions.StoreOp.{StoreOp}
-use Rattle.ckc_rv.specs.declared.instructions.StoreOp.TheVariants.{Sb, Sh, Sw}
-use Rattle.ckc_rv.specs.declared.instructions.ImmOp.{ImmOp}
-use Rattle.ckc_rv.specs.declared.instructions.ImmOp.TheVariants.{Addi, Slti, Sltiu, Xori, Ori, Andi, Slli, Srli, Srai}
-use Rattle.ckc_rv.specs.declared.instructions.RegOp.{RegOp}
-use Rattle.ckc_rv.specs.declared.instructions.RegOp.TheVariants.{Add, Sub, Sll, Slt, Sltu, Xor, Srl, Sra, Or, And, Mul, Mulh, Mulhsu, Mulhu, Div, Divu, Rem, Remu}
+pub use Rattle.ckc_operations.specs.Codes.{branch_funct3, load_funct3, store_funct3, imm_funct3, reg_funct3, reg_funct7}
+use Rattle.ckc_operations.specs.declared.operations.ImmOp.{ImmOp}
+use Rattle.ckc_operations.specs.declared.operations.ImmOp.TheVariants.{Slli, Srli, Srai}
 use Rattle.ckc_rv.specs.declared.instructions.Instr.{Instr}
 use Rattle.ckc_rv.specs.declared.instructions.Instr.TheVariants.{Lui, Auipc, Jal, Jalr, Branch, Load, Store, Imm, Reg, Fence, Ecall, Ebreak}
 
@@ -86,77 +79,11 @@ j_word offset rd opcode =
 abbrev pub low_bits : ℕ → ℤ → ℕ
 low_bits count z = word_of z % 2 ^ count
 
--- ---- the codes of the operations
-
-abbrev pub branch_funct3 : BranchOp → ℕ
-branch_funct3 Beq = 0
-branch_funct3 Bne = 1
-branch_funct3 Blt = 4
-branch_funct3 Bge = 5
-branch_funct3 Bltu = 6
-branch_funct3 Bgeu = 7
-
-abbrev pub load_funct3 : LoadOp → ℕ
-load_funct3 Lb = 0
-load_funct3 Lh = 1
-load_funct3 Lw = 2
-load_funct3 Lbu = 4
-load_funct3 Lhu = 5
-
-abbrev pub store_funct3 : StoreOp → ℕ
-store_funct3 Sb = 0
-store_funct3 Sh = 1
-store_funct3 Sw = 2
-
-abbrev pub imm_funct3 : ImmOp → ℕ
-imm_funct3 Addi = 0
-imm_funct3 Slti = 2
-imm_funct3 Sltiu = 3
-imm_funct3 Xori = 4
-imm_funct3 Ori = 6
-imm_funct3 Andi = 7
-imm_funct3 Slli = 1
-imm_funct3 Srli = 5
-imm_funct3 Srai = 5
-
 -- The bits 31 to 20 of an operation with an immediate. A count is below 32, so bits 31 to 25 of SLLI and SRLI are
 -- zero; SRAI has 0x20 there.
 abbrev pub imm_bits : ImmOp → ℤ → ℕ
 imm_bits Srai z = 0x20 * 2 ^ 5 + low_bits 5 z
 imm_bits _ z = low_bits 12 z
-
-abbrev pub reg_funct3 : RegOp → ℕ
-reg_funct3 Add = 0
-reg_funct3 Sub = 0
-reg_funct3 Sll = 1
-reg_funct3 Slt = 2
-reg_funct3 Sltu = 3
-reg_funct3 Xor = 4
-reg_funct3 Srl = 5
-reg_funct3 Sra = 5
-reg_funct3 Or = 6
-reg_funct3 And = 7
-reg_funct3 Mul = 0
-reg_funct3 Mulh = 1
-reg_funct3 Mulhsu = 2
-reg_funct3 Mulhu = 3
-reg_funct3 Div = 4
-reg_funct3 Divu = 5
-reg_funct3 Rem = 6
-reg_funct3 Remu = 7
-
-abbrev pub reg_funct7 : RegOp → ℕ
-reg_funct7 Add = 0
-reg_funct7 Sub = 0x20
-reg_funct7 Sll = 0
-reg_funct7 Slt = 0
-reg_funct7 Sltu = 0
-reg_funct7 Xor = 0
-reg_funct7 Srl = 0
-reg_funct7 Sra = 0x20
-reg_funct7 Or = 0
-reg_funct7 And = 0
-reg_funct7 _ = 1
 
 -- ---- the rows
 

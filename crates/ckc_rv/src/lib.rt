@@ -4,7 +4,6 @@
 //! `specs/Table.antt` has a row for each instruction, `specs/Effects.antt` what it does.
 #![tactic(auto)]
 
-mod codes;
 mod decoding;
 mod effects;
 mod encoding;
@@ -14,10 +13,11 @@ mod outcomes;
 mod ranges;
 mod registers;
 
+pub use ckc_operations::{BranchOp, ImmOp, LoadOp, RegOp, StoreOp};
 pub use decoding::decode;
 pub use effects::effect;
 pub use encoding::encode;
-pub use instructions::{BranchOp, ImmOp, Instr, LoadOp, RegOp, StoreOp};
+pub use instructions::Instr;
 pub use outcomes::word_effect;
 pub use ranges::in_range;
 pub use registers::{Outcome, Regs};

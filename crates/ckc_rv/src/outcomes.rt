@@ -10,8 +10,8 @@ use crate::decoding::{
     store_offset,
 };
 use crate::effects::{computed, displaced, going_on, jump, register, register_form, taken};
-use crate::instructions::{BranchOp, ImmOp, LoadOp, RegOp, StoreOp};
 use crate::registers::{Outcome, Regs};
+use ckc_operations::{BranchOp, ImmOp, LoadOp, RegOp, StoreOp};
 
 /// What the word's instruction does at pc, or None where the word is no instruction (RISC-V unprivileged ISA manual,
 /// RV32I and "M"): `decode` and then `effect`, without the instruction between.

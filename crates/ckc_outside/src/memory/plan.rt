@@ -2,6 +2,8 @@ ghost use Rattle.std.specs.Prelude.{◌≡◌, ◌≤◌, IsTrue};
 ghost use Rattle.ckc_outside.specs.Outside.{Rose, one_more};
 ghost use Rattle.ckc_outside.specs.Memory.{is_listed, counted};
 
+use ckc_counts::one_more;
+
 /// Which calls of an object fail, by their numbers from 1; how many calls and faults there were. Both counts stand
 /// still at their last value.
 #[derive(Debug, Drop)]
@@ -34,7 +36,7 @@ impl<'a> Plan<'a> {
         ensures counts { self.old.faults ≤ self.new.faults }
         ensures rose { IsTrue result → Rose self.old.faults self.new.faults }
     {
-        self.calls = self.calls.saturating_add(1);
+        self.calls = one_more(self.calls);
         let fails = self.fail.contains(&self.calls);
         if fails {
             self.fault();
@@ -50,6 +52,6 @@ impl<'a> Plan<'a> {
         ensures counts { self.old.faults ≤ self.new.faults }
         ensures rose { Rose self.old.faults self.new.faults }
     {
-        self.faults = self.faults.saturating_add(1);
+        self.faults = one_more(self.faults);
     }
 }

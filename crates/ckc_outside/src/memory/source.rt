@@ -5,6 +5,7 @@ ghost use Rattle.ckc_outside.specs.MemSource.{left_of, has_ended, plan_of};
 
 use super::plan::Plan;
 use crate::traits::{Failed, Source};
+use ckc_counts::one_more;
 
 /// A source over bytes in memory, which fails at the calls that are listed.
 #[derive(Debug, Drop)]
@@ -61,7 +62,7 @@ impl<'a> Source for MemSource<'a> {
             None => Ok(None),
             Some((first, rest)) => {
                 self.left = rest;
-                self.answers = self.answers.saturating_add(1);
+                self.answers = one_more(self.answers);
                 Ok(Some(*first))
             }
         }

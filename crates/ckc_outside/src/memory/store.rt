@@ -8,6 +8,7 @@ ghost use Rattle.ckc_outside.specs.MemStore.{files_of, files_in, plan_of, is_ste
 use super::plan::Plan;
 use crate::traits::{Fetched, Store, StoreError};
 use ckc_base::Bytes;
+use ckc_counts::one_more;
 use std::alloc::{AllocError, Global};
 use std::collections::BTreeMap;
 
@@ -113,13 +114,13 @@ impl<'a> Store for MemStore<'a> {
         ensures plan { plan_of self.new ≡ after_call (plan_of self.old) (has_failed result) }
         ensures err { OnErr result (files_of self.new ≡ files_of self.old) }
     {
-        self.keeps = self.keeps.saturating_add(1);
+        self.keeps = one_more(self.keeps);
         if self.plan.fails() {
             return Err(StoreError::Failed);
         }
         match self.set(name, bytes) {
             Ok(()) => {
-                self.kept = self.kept.saturating_add(1);
+                self.kept = one_more(self.kept);
                 Ok(())
             }
             Err(_) => Err(StoreError::Memory),

@@ -2,6 +2,7 @@ ghost use Rattle.std.specs.Prelude.{◌≡◌, ◌≤◌, None, IfOk, length};
 
 use super::source::TRIES;
 use crate::traits::{Failed, Sink};
+use ckc_counts::one_more;
 use std::io::{ErrorKind, Write};
 
 /// A writer, as standard output or standard error. Each piece is written whole and flushed.
@@ -34,11 +35,11 @@ impl<W: Write> Sink for RealSink<W> {
     ghost puts = { λ s. s.calls };
 
     fn put(&mut self, piece: &[u8]) -> Result<(), Failed> {
-        self.calls = self.calls.saturating_add(1);
+        self.calls = one_more(self.calls);
         match write_whole(&mut self.writer, piece) {
             Ok(()) => Ok(()),
             Err(_) => {
-                self.faults = self.faults.saturating_add(1);
+                self.faults = one_more(self.faults);
                 Err(Failed)
             }
         }

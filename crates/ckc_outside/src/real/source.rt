@@ -1,6 +1,7 @@
 ghost use Rattle.std.specs.Prelude.{◌≡◌, ◌≤◌, None, IfOk, length};
 
 use crate::traits::{Failed, Source};
+use ckc_counts::one_more;
 use std::io::{ErrorKind, Read};
 
 const ROOM: usize = 4096;
@@ -62,14 +63,14 @@ impl<R: Read> Source for RealSource<R> {
                     self.to = count;
                 }
                 Err(_) => {
-                    self.faults = self.faults.saturating_add(1);
+                    self.faults = one_more(self.faults);
                     return Err(Failed);
                 }
             }
         }
         let byte = self.room[self.from];
         self.from += 1;
-        self.answers = self.answers.saturating_add(1);
+        self.answers = one_more(self.answers);
         Ok(Some(byte))
     }
 }

@@ -5,6 +5,7 @@ use super::replace::put_file;
 use super::source::read_some;
 use crate::traits::{Fetched, Store, StoreError};
 use ckc_base::Bytes;
+use ckc_counts::one_more;
 use std::alloc::Global;
 use std::fs;
 use std::rt::Files;
@@ -50,22 +51,22 @@ impl<'a, R: Files + AllocGlobal> Store for RealStore<'a, R> {
             Ok(fetched) => Ok(fetched),
             Err(StoreError::Memory) => Err(StoreError::Memory),
             Err(StoreError::Failed) => {
-                self.faults = self.faults.saturating_add(1);
+                self.faults = one_more(self.faults);
                 Err(StoreError::Failed)
             }
         }
     }
 
     fn keep(&mut self, name: &str, bytes: &[u8]) -> Result<(), StoreError> {
-        self.keeps = self.keeps.saturating_add(1);
+        self.keeps = one_more(self.keeps);
         match put_file(self.rt, self.rt.alloc(), name, bytes) {
             Ok(()) => {
-                self.kept = self.kept.saturating_add(1);
+                self.kept = one_more(self.kept);
                 Ok(())
             }
             Err(StoreError::Memory) => Err(StoreError::Memory),
             Err(StoreError::Failed) => {
-                self.faults = self.faults.saturating_add(1);
+                self.faults = one_more(self.faults);
                 Err(StoreError::Failed)
             }
         }

@@ -1,7 +1,7 @@
 -- Each label of the lines stands once, and is in reach.
 use Rattle.std.proofs.Common.{◌≡◌, ℕ, ◌^◌, List, [], ◌∷◌, refl, sym, subst, arith}
 use Rattle.std.proofs.lemmas.Int.{ints}
-use Rattle.ckc_rv.specs.declared.instructions.BranchOp.TheVariants.{Bne}
+use Rattle.ckc_operations.specs.declared.operations.BranchOp.TheVariants.{Bne}
 use Rattle.ckc_rv.specs.declared.instructions.Instr.TheVariants.{Ecall}
 use Rattle.ckc_rv.specs.Table.{IsOffset}
 use Rattle.ckc_lines.specs.declared.lines.Line.{Line}

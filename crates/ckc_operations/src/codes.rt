@@ -1,13 +1,13 @@
-//! The operations and their codes in a word.
+//! The codes of the operations, and the operations of codes.
 
 ghost use Rattle.std.specs.Prelude.{◌≡◌, ◌<◌};
-ghost use Rattle.ckc_rv.specs.Table.{branch_funct3, load_funct3, store_funct3, imm_funct3, reg_funct3, reg_funct7};
-ghost use Rattle.ckc_rv.specs.Decoded.{branch_op, load_op, store_op, shift_left_op, shift_right_op, imm_op, base_op, product_op, other_op, reg_op};
+ghost use Rattle.ckc_operations.specs.Codes.{branch_funct3, load_funct3, store_funct3, imm_funct3, reg_funct3, reg_funct7, branch_op, load_op, store_op, shift_left_op, shift_right_op, imm_op, base_op, product_op, other_op, reg_op};
 
-use crate::instructions::{BranchOp, ImmOp, LoadOp, RegOp, StoreOp};
+use crate::operations::{BranchOp, ImmOp, LoadOp, RegOp, StoreOp};
 
 impl BranchOp {
-    pub(crate) fn funct3(self) -> u32
+    /// The bits 14 to 12 of a word with the operation.
+    pub fn funct3(self) -> u32
         ensures { result ≡ branch_funct3 self }
     {
         match self {
@@ -20,7 +20,8 @@ impl BranchOp {
         }
     }
 
-    pub(crate) fn of_funct3(funct3: u32) -> Option<BranchOp>
+    /// The operation of these bits 14 to 12, if there is one.
+    pub fn of_funct3(funct3: u32) -> Option<BranchOp>
         ensures { result ≡ branch_op funct3 }
     {
         match funct3 {
@@ -36,7 +37,8 @@ impl BranchOp {
 }
 
 impl LoadOp {
-    pub(crate) fn funct3(self) -> u32
+    /// The bits 14 to 12 of a word with the operation.
+    pub fn funct3(self) -> u32
         ensures { result ≡ load_funct3 self }
     {
         match self {
@@ -48,7 +50,8 @@ impl LoadOp {
         }
     }
 
-    pub(crate) fn of_funct3(funct3: u32) -> Option<LoadOp>
+    /// The operation of these bits 14 to 12, if there is one.
+    pub fn of_funct3(funct3: u32) -> Option<LoadOp>
         ensures { result ≡ load_op funct3 }
     {
         match funct3 {
@@ -63,7 +66,8 @@ impl LoadOp {
 }
 
 impl StoreOp {
-    pub(crate) fn funct3(self) -> u32
+    /// The bits 14 to 12 of a word with the operation.
+    pub fn funct3(self) -> u32
         ensures { result ≡ store_funct3 self }
     {
         match self {
@@ -73,7 +77,8 @@ impl StoreOp {
         }
     }
 
-    pub(crate) fn of_funct3(funct3: u32) -> Option<StoreOp>
+    /// The operation of these bits 14 to 12, if there is one.
+    pub fn of_funct3(funct3: u32) -> Option<StoreOp>
         ensures { result ≡ store_op funct3 }
     {
         match funct3 {
@@ -86,7 +91,8 @@ impl StoreOp {
 }
 
 impl ImmOp {
-    pub(crate) fn funct3(self) -> u32
+    /// The bits 14 to 12 of a word with the operation.
+    pub fn funct3(self) -> u32
         ensures { result ≡ imm_funct3 self }
     {
         match self {
@@ -102,8 +108,8 @@ impl ImmOp {
         }
     }
 
-    /// Shifts alone look at funct7.
-    pub(crate) fn of_codes(funct3: u32, funct7: u32) -> Option<ImmOp>
+    /// The operation of these bits 14 to 12 and 31 to 25, if there is one. Shifts alone look at funct7.
+    pub fn of_codes(funct3: u32, funct7: u32) -> Option<ImmOp>
         requires { funct3 < 8 }
         ensures { result ≡ imm_op funct3 funct7 }
     {
@@ -140,7 +146,8 @@ fn shift_right_of(funct7: u32) -> Option<ImmOp>
 }
 
 impl RegOp {
-    pub(crate) fn funct3(self) -> u32
+    /// The bits 14 to 12 of a word with the operation.
+    pub fn funct3(self) -> u32
         ensures { result ≡ reg_funct3 self }
     {
         match self {
@@ -165,7 +172,8 @@ impl RegOp {
         }
     }
 
-    pub(crate) fn funct7(self) -> u32
+    /// The bits 31 to 25 of a word with the operation.
+    pub fn funct7(self) -> u32
         ensures { result ≡ reg_funct7 self }
     {
         match self {
@@ -183,7 +191,8 @@ impl RegOp {
         }
     }
 
-    pub(crate) fn of_codes(funct3: u32, funct7: u32) -> Option<RegOp>
+    /// The operation of these bits 14 to 12 and 31 to 25, if there is one.
+    pub fn of_codes(funct3: u32, funct7: u32) -> Option<RegOp>
         requires { funct3 < 8 }
         ensures { result ≡ reg_op funct3 funct7 }
     {
