@@ -3,7 +3,6 @@
 use Rattle.std.specs.Prelude.{ℕ, ℤ, pos, Bool, true, false, not, ◌&&◌, ◌==◌, if◌then◌else◌, Option, Some, None}
 use Rattle.std.specs.Ordering.{int_eq}
 use Rattle.ckc_base.specs.declared.arithmetic.BinOp.TheVariants as binary
-use Rattle.ckc_base.specs.declared.arithmetic.Width.{Width}
 use Rattle.ckc_base.specs.declared.arithmetic.Width.TheVariants as width
 use Rattle.ckc_base.specs.Words.{applied}
 use Rattle.ckc_source.specs.declared.expr.Access.{Access}
@@ -22,6 +21,7 @@ use Rattle.ckc_source.specs.Code as source
 use Rattle.ckc_source.specs.Eval.{place_in}
 use Rattle.ckc_source.specs.Words.{operator, divides}
 use Rattle.ckc_core.specs.Code.{Expr, Const, Local, Load, Bin}
+pub use Rattle.ckc_guards.specs.Guards.{low_byte, kept_in}
 
 -- the number that an expression is
 abbrev pub number_of : source.Expr → Option ℕ
@@ -105,14 +105,6 @@ operated Le is_signed a b = Bin binary.Eq (Bin (operator Lt is_signed) b a) (Con
 operated Gt is_signed a b = Bin (operator Lt is_signed) b a
 operated Ge is_signed a b = Bin binary.Eq (Bin (operator Lt is_signed) a b) (Const 0)
 operated operation is_signed a b = Bin (operator operation is_signed) a b
-
-abbrev pub low_byte : Expr → Expr
-low_byte e = Bin binary.And e (Const 255)
-
--- a value as it is kept in a local or a place of the width, by whether it is a byte already
-abbrev pub kept_in : Width → Bool → Expr → Expr
-kept_in width.Byte is_byte e = if is_byte then e else low_byte e
-kept_in width.Word is_byte e = e
 
 abbrev pub as_truth : Expr → Expr
 as_truth e = Bin binary.Ne e (Const 0)

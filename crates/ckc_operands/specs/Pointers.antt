@@ -2,7 +2,6 @@
 -- code. They mirror what the code makes and need not be believed, but for `is_ranged` and `takes_range`.
 use Rattle.std.specs.Prelude.{ℕ, ℤ, ◌+◌, ◌==◌, Bool, true, false, not, ◌&&◌, if◌then◌else◌, Option, Some, None}
 use Rattle.ckc_base.specs.declared.arithmetic.BinOp.TheVariants as binary
-use Rattle.ckc_base.specs.declared.arithmetic.Width.{Width}
 use Rattle.ckc_base.specs.declared.arithmetic.Width.TheVariants as width
 use Rattle.ckc_base.specs.Words.{word_of, applied}
 use Rattle.ckc_source.specs.declared.expr.Access.{Access}
@@ -20,7 +19,8 @@ use Rattle.ckc_source.specs.Code as source
 use Rattle.ckc_source.specs.Eval.{place_in}
 use Rattle.ckc_source.specs.Words.{width_of}
 use Rattle.ckc_core.specs.Code.{Expr, Const, Local, Load, Bin, High}
-use Rattle.ckc_operands.specs.Operands.{is_named, scaled, shifted, at_offset, kept_in}
+use Rattle.ckc_operands.specs.Operands.{is_named, scaled, shifted, at_offset}
+pub use Rattle.ckc_guards.specs.Guards.{below_or_at, upper_test, may_write}
 
 -- a static object at its place
 abbrev pub is_static : Access → source.Expr → Bool
@@ -104,13 +104,6 @@ range_end upper (source.Moved shift p i) = range_end upper p
 range_end upper (source.Added shift i p) = range_end upper p
 range_end upper _ = Const 0
 
-abbrev pub below_or_at : Expr → Expr → Expr
-below_or_at a b = Bin binary.Eq (Bin binary.LtU b a) (Const 0)
-
--- whether an address lies in a range, of which the upper bound counts too where the flag says so
-abbrev pub upper_test : Bool → Expr → Expr → Expr
-upper_test last a high = if last then below_or_at a high else Bin binary.LtU a high
-
 abbrev pub range_test : Bool → source.Expr → Expr → Expr
 range_test last p a = Bin binary.And (below_or_at (range_end false p) a) (upper_test last a (range_end true p))
 
@@ -158,8 +151,3 @@ abbrev pub below_end : source.Expr → ℕ → Expr
 below_end p t =
     if is_ranged p then Bin binary.Ne (Local t) (range_end true p)
     else Bin binary.Ne (Bin binary.Sub (Local t) (Local (t + 1))) (Local (t + 2))
-
--- Whether the value in the temporary u may be written to an element of a null-terminated array. The temporary t + 1 says
--- whether the element is below the upper bound of its pointer: at the bound zero alone may be written.
-abbrev pub may_write : Width → Bool → (t u : ℕ) → Expr
-may_write width is_byte t u = Bin binary.Or (Local (t + 1)) (Bin binary.Eq (kept_in width is_byte (Local u)) (Const 0))

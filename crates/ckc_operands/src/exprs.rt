@@ -10,18 +10,9 @@ ghost use Rattle.ckc_operands.specs.Operands.{is_unchecked, is_direct, operated,
 use crate::casts::casts_one;
 use ckc_base::{BinOp, Boxed, Width};
 use ckc_core::CoreExpr;
+use ckc_guards::{binary, low_byte};
 use ckc_source::{Access, ExprTree, Operation, Through};
 use std::alloc::{AllocError, Global};
-
-/// A sum; one past 2^32 - 1 is taken for want of memory.
-pub fn sum(a: u32, b: u32) -> Result<u32, AllocError>
-    ensures { IfOk result (λ n. n ≡ a + b) }
-{
-    match a.checked_add(b) {
-        Some(n) => Ok(n),
-        None => Err(AllocError),
-    }
-}
 
 /// The first where the flag says so, and else the second.
 fn chosen(first: bool, one: BinOp, two: BinOp) -> BinOp
@@ -103,15 +94,6 @@ pub fn is_direct(e: &ExprTree) -> bool
     }
 }
 
-/// An operation on two words.
-pub fn binary(alloc: Global, op: BinOp, a: CoreExpr, b: CoreExpr) -> Result<CoreExpr, AllocError>
-    ensures { IfOk result (λ c. expr_of c ≡ Expr.Bin op (expr_of a) (expr_of b)) }
-{
-    let a = Boxed::new(alloc, a)?;
-    let b = Boxed::new(alloc, b)?;
-    Ok(CoreExpr::Bin(op, a, b))
-}
-
 /// An operation of the source: a > b is b < a, and a <= b is where a > b is not.
 pub fn operated(
     alloc: Global,
@@ -135,13 +117,6 @@ pub fn operated(
         }
         _ => binary(alloc, op, a, b),
     }
-}
-
-/// The lowest byte of a value.
-pub fn low_byte(alloc: Global, e: CoreExpr) -> Result<CoreExpr, AllocError>
-    ensures { IfOk result (λ c. expr_of c ≡ low_byte (expr_of e)) }
-{
-    binary(alloc, BinOp::And, e, CoreExpr::Const(255))
 }
 
 /// 1 where a value is not zero, and else 0.

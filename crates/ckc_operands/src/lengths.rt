@@ -8,10 +8,11 @@ ghost use Rattle.ckc_base.specs.declared.arithmetic.BinOp.TheVariants.{Or, Eq};
 ghost use Rattle.ckc_operands.specs.Operands.{keeps_index, held};
 ghost use Rattle.ckc_operands.specs.Pointers.{length_at, bytes_left, bytes_fit, elements_fit, cast_test};
 
-use crate::exprs::{at_offset, binary, scaled, sum};
-use crate::ranges::{below_or_at, from_low, held, held_test, keeps_index};
+use crate::exprs::{at_offset, scaled};
+use crate::ranges::{from_low, held, held_test, keeps_index};
 use ckc_base::{BinOp, Boxed, Width};
 use ckc_core::CoreExpr;
+use ckc_guards::{below_or_at, binary, sum};
 use ckc_source::{Count, ExprTree, Integer};
 use std::alloc::{AllocError, Global};
 

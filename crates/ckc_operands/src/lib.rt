@@ -3,17 +3,16 @@
 #![tactic(auto)]
 
 mod casts;
-mod checks;
 mod exprs;
 mod lengths;
 mod numbers;
 mod ranges;
 
 pub use casts::casts_one;
-pub use checks::{kept_in, may_write, null_check};
+pub use ckc_guards::{binary, kept_in, low_byte, may_write, null_check, sum};
 pub use exprs::{
-    as_truth, at_offset, binary, direct, divides, element_of, is_direct, is_zero, low_byte,
-    operand, operated, scaled, shifted, sum,
+    as_truth, at_offset, direct, divides, element_of, is_direct, is_zero, operand, operated,
+    scaled, shifted,
 };
 pub use lengths::{cast_passes, length_at};
 pub use numbers::{is_number, is_this, number};

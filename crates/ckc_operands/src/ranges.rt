@@ -6,12 +6,13 @@ ghost use Rattle.ckc_source.specs.Code.{expr_of as source_of};
 ghost use Rattle.ckc_base.specs.declared.arithmetic.BinOp.TheVariants.{LtU, Sub};
 ghost use Rattle.ckc_base.specs.declared.arithmetic.Width.TheVariants.{Word};
 ghost use Rattle.ckc_operands.specs.Operands.{keeps_index, held, shifted, is_named};
-ghost use Rattle.ckc_operands.specs.Pointers.{below_end, is_bounded, reads_signed, exact_test, base_at, amount_at, end_at, static_place, counted_end, range_end, below_or_at, upper_test, range_test, is_static, is_fixed, is_ranged, takes_range, index_far, index_in, held_test, bounds_test};
+ghost use Rattle.ckc_operands.specs.Pointers.{below_end, is_bounded, reads_signed, exact_test, base_at, amount_at, end_at, static_place, counted_end, range_end, range_test, is_static, is_fixed, is_ranged, takes_range, index_far, index_in, held_test, bounds_test};
 
-use crate::exprs::{at_offset, binary, operand, shifted, sum};
+use crate::exprs::{at_offset, operand, shifted};
 use crate::numbers::{is_number, number};
 use ckc_base::{BinOp, Boxed, Width};
 use ckc_core::CoreExpr;
+use ckc_guards::{below_or_at, binary, cancels, sum, upper_test};
 use ckc_source::{Access, Base, Count, End, ExprTree, Integer, Through, Variable};
 use std::alloc::{AllocError, Global};
 
@@ -182,8 +183,7 @@ pub fn exact_test(
     let index = held(alloc, keeps_index(true, i), i, next)?;
     let high = high_word(alloc, is_signed, CoreExpr::Const(size), index)?;
     let over = carry(alloc, back, size, t, i, next)?;
-    let upper = binary(alloc, BinOp::Add, high, over)?;
-    binary(alloc, BinOp::Eq, upper, CoreExpr::Const(0))
+    cancels(alloc, high, over)
 }
 
 /// The base of an end of the limits of a local.
@@ -300,30 +300,6 @@ fn range_end(alloc: Global, upper: bool, p: &ExprTree) -> Result<CoreExpr, Alloc
         | ExprTree::Bare(_)
         | ExprTree::Tested(_, _, _, _, _)
         | ExprTree::Trusted(_, _, _, _) => Ok(CoreExpr::Const(0)),
-    }
-}
-
-/// Whether an address is at most another one.
-pub fn below_or_at(alloc: Global, a: CoreExpr, b: CoreExpr) -> Result<CoreExpr, AllocError>
-    ensures { IfOk result (λ c. expr_of c ≡ below_or_at (expr_of a) (expr_of b)) }
-{
-    let above = binary(alloc, BinOp::LtU, b, a)?;
-    binary(alloc, BinOp::Eq, above, CoreExpr::Const(0))
-}
-
-/// Whether an address is below an upper bound, or at it where that counts too.
-fn upper_test(
-    alloc: Global,
-    last: bool,
-    a: CoreExpr,
-    high: CoreExpr,
-) -> Result<CoreExpr, AllocError>
-    ensures { IfOk result (λ c. expr_of c ≡ upper_test last (expr_of a) (expr_of high)) }
-{
-    if last {
-        below_or_at(alloc, a, high)
-    } else {
-        binary(alloc, BinOp::LtU, a, high)
     }
 }
 

@@ -5,9 +5,9 @@ use Rattle.std.specs.List.{All, filter}
 use Rattle.std.proofs.lemmas.List.Elements.{filter_passes}
 use Rattle.ckc_linear.specs.declared.facts.Fact.{Fact}
 use Rattle.ckc_linear.specs.Facts.{IsWithin, shifted}
-use Rattle.ckc_points.specs.Shown.{is_within}
+use Rattle.ckc_known.specs.Shown.{is_within}
 use Rattle.ckc_points.specs.Flow.{stays_small}
-use Rattle.ckc_points.proofs.Reaching.{and_cases, most_by}
+use Rattle.ckc_known.proofs.Reaching.{and_cases, most_by}
 
 pub within_by : (limit : ℕ) (n : ℤ) → is_within limit n ≡ true → IsWithin limit n
 within_by limit n h =

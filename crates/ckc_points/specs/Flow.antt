@@ -13,9 +13,10 @@ use Rattle.ckc_points.specs.declared.frame.Bounds.{Bounds}
 use Rattle.ckc_points.specs.declared.frame.Bounds.TheVariants as bounds
 use Rattle.ckc_points.specs.declared.frame.Local.{Local}
 use Rattle.ckc_points.specs.declared.frame.Frame.{Frame}
-use Rattle.ckc_points.specs.declared.point.Interval.{Interval}
 use Rattle.ckc_points.specs.declared.point.Point.{Point}
-use Rattle.ckc_points.specs.Shown.{Known, known, is_within}
+use Rattle.ckc_known.specs.declared.intervals.Interval.{Interval}
+use Rattle.ckc_known.specs.Shown.{Known, known, is_within}
+pub use Rattle.ckc_known.specs.Ranges.{range_in, range_of, fits, with_fact, with_range, forgotten}
 use Rattle.ckc_points.specs.Frames.{local_at}
 
 -- What a point is: whether it can be reached, the facts there, and the locals that are widened there.
@@ -26,28 +27,6 @@ pub record State : Type 0 where
 
 abbrev pub state : Point → State
 state at = record { reached = at.reached; facts = known at.facts; widened = at.widened }
-
-abbrev pub range_in : {X : Type 0} → CType-F X → Option Interval
-range_in CType-F.Int = Some (record { low = negsuc 2147483647; high = 2147483647 })
-range_in CType-F.Unsigned = Some (record { low = pos 0; high = 4294967295 })
-range_in CType-F.Char = Some (record { low = pos 0; high = 255 })
-range_in _ = None
-
--- the numbers of an integer type
-abbrev pub range_of : CType → Option Interval
-range_of t = range_in (out-CType t)
-
--- a fact about variables that there are, with a number within 2^50
-abbrev pub fits : ℕ → Fact → Bool
-fits vars f = nat_lt f.x vars && (nat_lt f.y vars && is_within (2 ^ 50) f.c)
-
-abbrev pub with_fact : Fact → Known → Known
-with_fact f facts = if fits facts.vars f then record facts { list = facts.list ++ f ∷ [] } else facts
-
--- The range of each variable's type always belongs to the facts: of `char c`, that c - 0 <= 255 and 0 - c <= 0.
-abbrev pub with_range : ℕ → Option Interval → Known → Known
-with_range x None facts = facts
-with_range x (Some r) facts = with_fact (record { x = 0; y = x; c = neg_ℤ r.low }) (with_fact (record { x = x; y = 0; c = pos r.high }) facts)
 
 -- what `x = y + c` and `x = c` make known
 abbrev pub with_equal : ℕ → Form → Known → Known
@@ -63,10 +42,6 @@ stays_small x c f = is_within (2 ^ 50) f.c && is_within (2 ^ 50) (shifted x c f)
 -- the facts after x has grown by c: each on x is moved
 abbrev pub moved : ℕ → ℤ → Known → Known
 moved x c facts = record facts { list = map (shifted x c) (filter (stays_small x c) facts.list) }
-
--- the facts without those on x
-abbrev pub forgotten : ℕ → Known → Known
-forgotten x facts = record facts { list = filter (λ f. not (names x f)) facts.list }
 
 -- A variable that is assigned a form of its own moves its facts: after `i = i + 1`, `i - n <= -1` is `i - n <= 0`. Else
 -- its facts go, and where the new value has another form, that is known: after `i = n - 1`, `i - n <= -1` and

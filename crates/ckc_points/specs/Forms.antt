@@ -7,13 +7,10 @@ use Rattle.ckc_linear.specs.declared.forms.Base.{Base}
 use Rattle.ckc_linear.specs.declared.forms.Base.TheVariants as base
 use Rattle.ckc_linear.specs.declared.forms.Form.{Form}
 use Rattle.ckc_typed.specs.Amounts.{is_multiple}
-use Rattle.ckc_points.specs.declared.point.Interval.{Interval}
-use Rattle.ckc_points.specs.Shown.{Known, is_within, is_shown}
-use Rattle.ckc_points.specs.Flow.{range_of, with_fact}
-
--- The number of an integer form is within 2^40: a thousand numbers of 32 bits sum to less.
-abbrev pub is_small : ℤ → Bool
-is_small n = is_within (2 ^ 40) n
+use Rattle.ckc_known.specs.declared.intervals.Interval.{Interval}
+use Rattle.ckc_known.specs.Shown.{Known, is_shown}
+use Rattle.ckc_known.specs.Ranges.{range_of, with_fact}
+pub use Rattle.ckc_known.specs.Ranges.{is_small, below, above}
 
 abbrev pub constant_form : ℤ → Form
 constant_form n = record { base = None; var = 0; add = n }
@@ -22,12 +19,6 @@ constant_form n = record { base = None; var = 0; add = n }
 abbrev pub moved_form : Option Form → ℤ → Option Form
 moved_form None c = None
 moved_form (Some f) c = if is_small f.add && is_small c then Some (record f { add = f.add +ℤ c }) else None
-
-abbrev pub below : Form → Interval → Fact
-below f r = record { x = f.var; y = 0; c = pos r.high -ℤ f.add }
-
-abbrev pub above : Form → Interval → Fact
-above f r = record { x = 0; y = f.var; c = f.add -ℤ r.low }
 
 abbrev pub within_interval : Known → Form → Option Interval → Option Form
 within_interval facts f None = None

@@ -1,4 +1,4 @@
-pub mod Shown
+pub use Rattle.ckc_known.specs.Shown
 pub mod Frames
 pub mod Flow
 pub mod Forms

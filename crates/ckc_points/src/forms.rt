@@ -5,24 +5,15 @@ ghost use Rattle.ckc_linear.specs.Facts.{IsWithin};
 ghost use Rattle.ckc_typed.specs.Constants.{value_of};
 ghost use Rattle.ckc_typed.specs.Amounts.{is_multiple};
 ghost use Rattle.ckc_typed.specs.Operands.{same_element};
-ghost use Rattle.ckc_points.specs.Shown.{known, is_shown};
-ghost use Rattle.ckc_points.specs.Forms.{is_small, constant_form, moved_form, in_type, below, above, within_interval, sum_of_forms, negative_of, difference_of_forms, base_form, same_base, same_form, at_most, at_less, with_most, with_less, elements_of, elements};
+ghost use Rattle.ckc_points.specs.Shown.{known};
+ghost use Rattle.ckc_points.specs.Forms.{is_small, constant_form, moved_form, in_type, within_interval, sum_of_forms, negative_of, difference_of_forms, base_form, same_base, same_form, at_most, at_less, with_most, with_less, elements_of, elements};
 
-use crate::point::{Interval, add_fact, range_of};
-use crate::shown::{is_shown, is_within};
-use crate::work::Work;
+use ckc_known::{Interval, Work, add_fact, is_between, is_small, range_of};
 use ckc_linear::{Base, Fact, Facts, Form};
 use ckc_typed::Constant;
 use ckc_typed::types::same_type;
 use ckc_types::CType;
 use std::alloc::AllocError;
-
-/// Whether a number may be that of a form: it is within 2^40.
-pub fn is_small(n: i64) -> bool
-    ensures { result ≡ is_small n }
-{
-    is_within(1 << 40, n)
-}
 
 /// The number that is the negative of a constant's.
 pub fn negative_value(c: Constant) -> i64
@@ -84,42 +75,6 @@ pub fn moved_form(form: Option<Form>, c: i64) -> Option<Form>
         }
         None => None,
     }
-}
-
-fn below(f: Form, r: Interval) -> Fact
-    requires { IsWithin (2 ^ 40) f.add }
-    ensures { result ≡ below f r }
-{
-    Fact {
-        x: f.var,
-        y: 0,
-        c: i64::from(r.high) - f.add,
-    }
-}
-
-fn above(f: Form, r: Interval) -> Fact
-    requires { IsWithin (2 ^ 40) f.add }
-    ensures { result ≡ above f r }
-{
-    Fact {
-        x: 0,
-        y: f.var,
-        c: f.add - i64::from(r.low),
-    }
-}
-
-fn is_between(work: &mut Work, facts: &Facts, f: Form, r: Interval) -> Result<bool, AllocError>
-    ensures { IfOk result (λ b. b ≡ (is_small f.add
-        && (is_shown (known facts.now) (below f r) && is_shown (known facts.now) (above f r)))) }
-{
-    if !is_small(f.add) {
-        return Ok(false);
-    }
-    let high = is_shown(work, facts, below(f, r))?;
-    if !high {
-        return Ok(false);
-    }
-    is_shown(work, facts, above(f, r))
 }
 
 fn within_interval(

@@ -6,8 +6,9 @@ ghost use Rattle.ckc_points.specs.Shown.{known};
 ghost use Rattle.ckc_points.specs.Flow.{state, same_fact, in_both, wide_in_both, joined, ranges_from, ranges, entry, unreached};
 
 use crate::frame::Frame;
-use crate::point::{Point, add_range};
+use crate::point::Point;
 use ckc_base::Seq;
+use ckc_known::add_range;
 use ckc_linear::{Fact, Facts};
 use core::mem::replace_with;
 use std::alloc::{AllocError, Global};

@@ -4,24 +4,19 @@
 mod forms;
 mod frame;
 mod joins;
-mod laws;
 mod locals;
 mod point;
-mod shown;
 mod work;
 
+pub use ckc_known::{
+    Interval, Work, add_fact, is_shown, is_small, is_within, range_of, shown_by_chains,
+};
 pub use forms::{
     add_less, add_most, at_most, base_form, constant_form, difference_of_forms, elements, in_type,
-    is_multiple, is_small, moved_form, negative_value, same_base, same_element, same_form,
-    sum_of_forms,
+    is_multiple, moved_form, negative_value, same_base, same_element, same_form, sum_of_forms,
 };
 pub use frame::{Bounds, Frame, HeadBounds, Local};
 pub use joins::{entry, join, unreached};
-pub use laws::shown_by_chains;
 pub use locals::{local_at, variable};
-pub use point::{
-    Interval, Point, add_fact, assign, copied, copied_facts, forget_assigned, in_bounds, in_form,
-    range_of,
-};
-pub use shown::{is_shown, is_within};
-pub use work::{Work, fit_row};
+pub use point::{Point, assign, copied, copied_facts, forget_assigned, in_bounds, in_form};
+pub use work::fit_row;

@@ -4,13 +4,13 @@ ghost use Rattle.std.specs.Prelude.{◌≡◌, ◌+◌, ◌<◌, ◌^◌, ◌∷
 ghost use Rattle.std.specs.List.{filter};
 ghost use Rattle.ckc_linear.specs.Facts.{IsWithin, shifted};
 ghost use Rattle.ckc_points.specs.Shown.{known};
-ghost use Rattle.ckc_points.specs.Flow.{state, range_of, fits, with_fact, with_range, with_equal, stays_small, forgotten, moved, assigned_facts, names_local, in_form, in_bounds, widening_names, unwidened, facts_assigned, assigned, less};
+ghost use Rattle.ckc_points.specs.Flow.{state, range_of, with_range, with_equal, stays_small, forgotten, moved, assigned_facts, names_local, in_form, in_bounds, widening_names, unwidened, facts_assigned, assigned, less};
 
 use crate::frame::{Bounds, Frame, Local};
 use crate::locals::local_at;
-use crate::shown::is_within;
 use ckc_base::Seq;
-use ckc_linear::{Base, Fact, Facts, Form, add, forget, shift};
+use ckc_known::{add_fact, add_range, is_within, lose, range_of};
+use ckc_linear::{Base, Fact, Facts, Form, shift};
 use ckc_typed::types::is_integer;
 use ckc_types::CType;
 use core::mem::replace_with;
@@ -56,74 +56,6 @@ pub fn copied(alloc: Global, at: &Point) -> Result<Point, AllocError>
         facts,
         widened,
     })
-}
-
-/// The least and the greatest number of an integer type.
-#[derive(Clone, Copy, Debug, PartialEq, Eq)]
-pub struct Interval {
-    pub low: i32,
-    pub high: u32,
-}
-
-/// The numbers of an integer type.
-pub fn range_of(t: &CType) -> Option<Interval>
-    ensures { result ≡ range_of t.now }
-{
-    match t {
-        CType::Int => Some(Interval {
-            low: -2147483648,
-            high: 2147483647,
-        }),
-        CType::Unsigned => Some(Interval {
-            low: 0,
-            high: 4294967295,
-        }),
-        CType::Char => Some(Interval { low: 0, high: 255 }),
-        CType::Void | CType::Struct(_) | CType::Pointer(_, _) => None,
-    }
-}
-
-fn fits(vars: u32, f: Fact) -> bool
-    ensures { result ≡ fits vars f }
-{
-    f.x < vars && f.y < vars && is_within(1 << 50, f.c)
-}
-
-/// Adds a fact about variables that there are, with a number within 2^50.
-pub fn add_fact(facts: &mut Facts, f: Fact) -> Result<(), AllocError>
-    ensures { OnOk result (known facts.new ≡ with_fact f (known facts.old)) }
-{
-    if fits(facts.vars, f) {
-        return add(facts, f);
-    }
-    Ok(())
-}
-
-/// Adds the range of a variable's type.
-pub fn add_range(facts: &mut Facts, x: u32, t: &CType) -> Result<(), AllocError>
-    ensures { OnOk result (known facts.new ≡ with_range x (range_of t.now) (known facts.old)) }
-{
-    match range_of(t) {
-        Some(r) => {
-            add_fact(
-                facts,
-                Fact {
-                    x,
-                    y: 0,
-                    c: i64::from(r.high),
-                },
-            )?;
-            add_fact(
-                facts,
-                Fact {
-                    x: 0,
-                    y: x,
-                    c: -i64::from(r.low),
-                },
-            )
-        }
-        None => Ok(()),
-    }
 }
 
 /// Adds that a variable is what a form says.
@@ -197,15 +129,6 @@ fn move_facts(facts: &mut Facts, x: u32, f: Form)
 {
     drop_large(facts, x, f);
     shift(facts, x, f.add);
-}
-
-/// Forgets what is known of a variable, but for the range of its type.
-fn lose(x: u32, t: &CType, facts: &mut Facts) -> Result<(), AllocError>
-    ensures { OnOk result
-        (known facts.new ≡ with_range x (range_of t.now) (forgotten x (known facts.old))) }
-{
-    forget(facts, x);
-    add_range(facts, x, t)
 }
 
 /// What an assignment to an integer variable makes known and forgets.

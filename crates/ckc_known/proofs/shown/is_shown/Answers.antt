@@ -1,9 +1,9 @@
 use Rattle.std.proofs.Common.{◌≡◌, ◌∙◌, ◌^◌, w64, SFits, rules, sym, ap, true, pos}
 use Rattle.std.specs.Prelude.{int_le}
 use Rattle.std.proofs.lemmas.Int.{to_z-of_z}
-use Rattle.ckc_points.specs.Shown.{known, is_within}
-use Rattle.ckc_points.proofs.Reaching.{shown_at_once, shown_by_one}
-use Rattle.ckc_points.proofs.shown.is_shown.Goals as goal
+use Rattle.ckc_known.specs.Shown.{known, is_within}
+use Rattle.ckc_known.proofs.Reaching.{shown_at_once, shown_by_one}
+use Rattle.ckc_known.proofs.shown.is_shown.Goals as goal
 
 pub returns-then-f-ge0 : goal.returns-then-f-ge0
 returns-then-f-ge0 c =

@@ -6,7 +6,7 @@ use Rattle.std.proofs.lemmas.Int.{ints}
 use Rattle.std.proofs.lemmas.List.Folds.{list_any_at}
 use Rattle.ckc_linear.specs.declared.facts.Fact.{Fact}
 use Rattle.ckc_linear.specs.Chains.{Leads, total, Chain}
-use Rattle.ckc_points.specs.Shown.{Known, is_within, reaches, is_shown}
+use Rattle.ckc_known.specs.Shown.{Known, is_within, reaches, is_shown}
 
 or_cases : (a b : Bool) → (a || b) ≡ true → (a ≡ true) ⊎ (b ≡ true)
 or_cases true b h = inl refl

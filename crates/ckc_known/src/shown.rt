@@ -2,7 +2,7 @@
 
 ghost use Rattle.std.specs.Prelude.{◌≡◌, ◌==◌, ◌&&◌, ◌+◌, ◌<◌, ◌^◌, IfOk, int_le};
 ghost use Rattle.ckc_linear.specs.Facts.{IsWithin};
-ghost use Rattle.ckc_points.specs.Shown.{known, is_within, reaches, is_shown};
+ghost use Rattle.ckc_known.specs.Shown.{known, is_within, reaches, is_shown};
 ghost use Rattle.std.specs.List.{list_any};
 
 use crate::work::{Work, grow};

@@ -3,7 +3,7 @@
 ghost use Rattle.std.specs.Prelude.{◌↔◌, ◌+◌, ℕ, List, ℤ, IsTrue};
 ghost use Rattle.ckc_linear.specs.declared.facts.Fact.{Fact};
 ghost use Rattle.ckc_linear.specs.Chains.{Chain};
-ghost use Rattle.ckc_points.specs.Shown.{reaches};
+ghost use Rattle.ckc_known.specs.Shown.{reaches};
 
 /// The search for a chain finds one exactly where there is one.
 pub fn shown_by_chains()

@@ -1,7 +1,7 @@
 use Rattle.std.proofs.Common.{w64, SFits, rules}
 use Rattle.std.proofs.lemmas.Int.{to_z-of_z}
-use Rattle.ckc_points.proofs.Reaching.{chain_is_at}
-use Rattle.ckc_points.proofs.shown.reaches.Goals as goal
+use Rattle.ckc_known.proofs.Reaching.{chain_is_at}
+use Rattle.ckc_known.proofs.shown.reaches.Goals as goal
 
 pub returns : goal.returns
 returns c =
