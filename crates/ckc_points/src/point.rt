@@ -59,7 +59,7 @@ pub fn copied(alloc: Global, at: &Point) -> Result<Point, AllocError>
 }
 
 /// The least and the greatest number of an integer type.
-#[derive(Clone, Copy, Debug, PartialEq, Eq)]
+#[derive(Clone, Copy, PartialEq, Eq)]
 pub struct Interval {
     pub low: i32,
     pub high: u32,

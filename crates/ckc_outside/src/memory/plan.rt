@@ -4,7 +4,7 @@ ghost use Rattle.ckc_outside.specs.Memory.{is_listed, counted};
 
 /// Which calls of an object fail, by their numbers from 1; how many calls and faults there were. Both counts stand
 /// still at their last value.
-#[derive(Debug, Drop)]
+#[derive(Drop)]
 pub struct Plan<'a> {
     pub fail: &'a [u64],
     pub calls: u64,

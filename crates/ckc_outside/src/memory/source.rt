@@ -7,7 +7,7 @@ use super::plan::Plan;
 use crate::traits::{Failed, Source};
 
 /// A source over bytes in memory, which fails at the calls that are listed.
-#[derive(Debug, Drop)]
+#[derive(Drop)]
 pub struct MemSource<'a> {
     left: &'a [u8],
     answers: u64,
