@@ -5,7 +5,7 @@ ghost use Rattle.ckc_cli.specs.Words.{Reads, IsLimit, NameAndLimit, bytes_of};
 ghost use Rattle.ckc_cli.specs.Commanded.{command_is, spelling, HasArguments, IsTwo, IsOne};
 
 /// What the words ask for, with the names of files and the most instructions that are executed, or steps that are run.
-#[derive(Clone, Copy, Debug)]
+#[derive(Clone, Copy)]
 pub enum Command<'a> {
     Build(&'a str, &'a str),
     Assemble(&'a str, &'a str),
@@ -16,7 +16,7 @@ pub enum Command<'a> {
 }
 
 /// The first word of a command.
-#[derive(Clone, Copy, Debug)]
+#[derive(Clone, Copy)]
 enum Keyword {
     Build,
     Assemble,

@@ -8,7 +8,7 @@ use std::alloc::{AllocError, Global};
 /// What an image holds: the address at which a program starts, its code from address 0x00001000, and the first
 /// bytes of the data region from 0x02000000. The code's length is a multiple of 4 from 4 to 16,773,120, there are
 /// at most 16,777,216 initial bytes, and the entry is a multiple of 4 within the code.
-#[derive(Debug, Drop)]
+#[derive(Drop)]
 pub struct Parts {
     pub entry: u32,
     pub code: Bytes,

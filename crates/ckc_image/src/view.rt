@@ -8,7 +8,7 @@ const MAGIC: [u8; 4] = *b"CCIM";
 const VERSION: [u8; 4] = [1, 0, 0, 0];
 
 /// The parts of an image as they stand in its bytes, under the same rules as `Parts`.
-#[derive(Clone, Copy, Debug)]
+#[derive(Clone, Copy)]
 pub struct View<'a> {
     pub entry: u32,
     pub code: &'a [u8],

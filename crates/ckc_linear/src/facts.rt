@@ -15,7 +15,7 @@ pub struct Fact {
 }
 
 /// Facts over the variables below `vars`, of which there are at most 1,024. Each number is within 2^50 either way.
-#[derive(Debug, Drop)]
+#[derive(Drop)]
 pub struct Facts {
     pub vars: u32,
     pub list: Seq<Fact>,

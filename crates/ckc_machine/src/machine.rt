@@ -10,7 +10,7 @@ use ckc_rv::{LoadOp, Outcome, Regs, StoreOp, word_effect};
 use std::alloc::{AllocError, Global};
 
 /// A machine: its memory, registers and pc, and what it last answered.
-#[derive(Debug, Drop)]
+#[derive(Drop)]
 pub struct Machine<'a> {
     memory: Memory<'a>,
     regs: Regs,
@@ -20,7 +20,7 @@ pub struct Machine<'a> {
 
 /// What one instruction asks: to write a register and go on at a pc; to store a value and go on; to put a byte; to get
 /// a byte into x10; or to halt.
-#[derive(Clone, Copy, Debug)]
+#[derive(Clone, Copy)]
 pub enum Turn {
     Next(u8, u32, u32),
     Store(StoreOp, u32, u32),

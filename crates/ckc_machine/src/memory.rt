@@ -19,7 +19,7 @@ const MEMORY_END: u32 = 0x0400_0000;
 
 /// The memory of a machine: the lent code, the words of the data region upwards, and those of the stack downwards from
 /// the end of memory.
-#[derive(Debug, Drop)]
+#[derive(Drop)]
 pub struct Memory<'a> {
     code: &'a [u8],
     statics: Region,

@@ -10,7 +10,7 @@ const PART_WORDS: usize = 0x1000;
 
 /// The words of a region, as far as one was put; those behind are 0. It takes all its memory when it is made, and
 /// touches it only as far as a word is put.
-#[derive(Debug, Drop)]
+#[derive(Drop)]
 pub struct Region {
     words: Vec<u32>,
     ghost room: { 4194304 ≤ vec_capacity words },

@@ -21,7 +21,7 @@ pub enum StoreError {
 }
 
 /// What a store fetched: the whole file, or the word that it is longer than the limit.
-#[derive(Debug, Drop)]
+#[derive(Drop)]
 pub enum Fetched {
     Whole(Bytes),
     Longer,

@@ -9,7 +9,7 @@ use std::alloc::{AllocError, Global};
 
 /// A pointer as it is written: a `*` with its place, `_Ptr`, `_Array_ptr` or `_Nt_array_ptr` (Checked C
 /// specification 0.9, section 2).
-#[derive(Clone, Copy, Debug)]
+#[derive(Clone, Copy)]
 pub enum Pointer {
     Raw(Pos),
     One,

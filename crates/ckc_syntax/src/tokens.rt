@@ -27,7 +27,7 @@ pub enum Directive {
 }
 
 /// A token: its kind, its spelling as a slice of the source, and the place of its first byte.
-#[derive(Clone, Copy, Debug)]
+#[derive(Clone, Copy)]
 pub struct Token<'a> {
     pub kind: TokenKind,
     pub text: &'a str,
@@ -36,7 +36,7 @@ pub struct Token<'a> {
 
 /// A spelling that is lent from a text, as names are in trees. Contracts see its bytes, and not where they lie in
 /// memory, so that two with the same bytes are equal.
-#[derive(Debug, Drop)]
+#[derive(Drop)]
 pub struct Spelling<'a> {
     text: &'a str,
 }

@@ -102,7 +102,7 @@ impl<N: Drop> Drop for TypeTree<N> {
 
 /// What a declared name is: no array, an array `[n]` with the place of its `[`, `_Checked[n]` or
 /// `_Nt_checked[n]` (Checked C specification 0.9, section 2.4). The number may be left out.
-#[derive(Clone, Copy, Debug, Drop)]
+#[derive(Clone, Copy, Drop)]
 pub enum Length {
     Plain,
     Raw(Option<u32>, Pos),
@@ -353,7 +353,7 @@ impl<N: Drop, A: Drop> Drop for Node<N, A> {
 
 /// The operators. The first six are unary `-`, `+`, `!`, `~`, `*` and `&`; the others are `||`, `&&`, `|`, `^`,
 /// `&`, `==`, `!=`, `<`, `<=`, `>`, `>=`, `<<`, `>>`, `+`, `-`, `*`, `/` and `%`.
-#[derive(Clone, Copy, Debug, PartialEq, Eq)]
+#[derive(Clone, Copy, PartialEq, Eq)]
 pub enum TreeOp {
     Minus,
     Plus,

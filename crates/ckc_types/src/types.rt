@@ -2,7 +2,7 @@ use ckc_base::{Boxed, Seq};
 
 /// The kinds of pointers: `T *`, `_Ptr<T>`, `_Array_ptr<T>` and `_Nt_array_ptr<T>` (Checked C specification 0.9,
 /// section 2).
-#[derive(Clone, Copy, Debug, PartialEq, Eq)]
+#[derive(Clone, Copy, PartialEq, Eq)]
 pub enum Kind {
     Raw,
     One,
@@ -40,7 +40,7 @@ impl Drop for CType {
 /// How many elements a member points to: no bounds are written, `bounds(unknown)` is, `Fixed(c)` is `count(c)`,
 /// `Named(m, c)` is `count(m + c)` for the member m of the same structure, and `NoForm` is what is none of these and
 /// is refused when bounds are judged.
-#[derive(Clone, Copy, Debug, PartialEq, Eq)]
+#[derive(Clone, Copy, PartialEq, Eq)]
 pub enum MemberBounds {
     Nothing,
     Unknown,

@@ -6,7 +6,7 @@ use ckc_counts::one_more;
 
 /// Which calls of an object fail, by their numbers from 1; how many calls and faults there were. Both counts stand
 /// still at their last value.
-#[derive(Debug, Drop)]
+#[derive(Drop)]
 pub struct Plan<'a> {
     pub fail: &'a [u64],
     pub calls: u64,

@@ -8,7 +8,7 @@ use crate::traits::{Failed, Source};
 use ckc_counts::one_more;
 
 /// A source over bytes in memory, which fails at the calls that are listed.
-#[derive(Debug, Drop)]
+#[derive(Drop)]
 pub struct MemSource<'a> {
     left: &'a [u8],
     answers: u64,
