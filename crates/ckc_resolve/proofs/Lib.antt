@@ -3,7 +3,6 @@ pub mod CodedItems
 pub mod CodedNodes
 pub mod DefinedAt
 pub mod Ends
-pub mod Exits
 pub mod Indexing
 pub mod MainDeclared
 pub mod Search

@@ -1,7 +1,5 @@
 //! Expressions and bounds with their names replaced by what they mean.
 
-#![tactic(auto, using(crate::proofs::Exits::exit))]
-
 ghost use Rattle.ckc_base.specs.Outcomes.{AnswersOutcome};
 ghost use Rattle.ckc_resolve.specs.Expressions.{limits_named, node_named, expr_named, exprs_named, bounds_named};
 
