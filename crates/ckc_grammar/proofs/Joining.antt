@@ -1,5 +1,6 @@
 -- Operands that are joined step by step are joined as the whole row is.
-use Rattle.std.proofs.Common.{◌≡◌, ℕ, List, [], ◌∷◌, ◌++◌, Bool, true, false, ◌==◌, refl, sym, ap, ◌∙◌, arith, zero, suc, ◌<◌, ◌-◌}
+use Rattle.std.proofs.Common.{◌≡◌, ℕ, List, [], ◌∷◌, ◌++◌, Bool, true, false, not, ◌==◌, refl, sym, ap, ◌∙◌, arith, zero, suc, ◌<◌, ◌-◌}
+use Rattle.std.specs.Bool.{OnFalse}
 use Rattle.std.proofs.lemmas.Bool.Decides.{nat_tests}
 use Rattle.ckc_syntax.specs.declared.tree.Node.TheVariants as node
 use Rattle.ckc_base.specs.declared.places.Pos.{Pos}
@@ -59,6 +60,21 @@ pub no_pass : (m : ℕ) (c : Expr × List Step) → m ≡ 0 → joined_to m c �
 unfolding joined_to
 no_pass zero c h = refl
 no_pass (suc m) c h = absurd (omega arith)
+
+-- without steps no pass changes anything
+pub nothing_left : (m : ℕ) (e : Expr) → joined_to m (e, []) ≡ (e, [])
+unfolding joined_to
+nothing_left zero e = refl
+nothing_left (suc m) e = nothing_left m e
+
+-- so nothing may be left to join where no step is left, nor behind the last pass
+pub done_empty : (empty : Bool) (m : ℕ) (e : Expr) (ss : List Step) → (empty ≡ true → ss ≡ []) → OnFalse (not empty) (joined_to m (e, ss) ≡ (e, ss))
+done_empty true m e ss h = ap (λ z. joined_to m (e, z)) (h refl) ∙ nothing_left m e ∙ ap (λ z. (e, z)) (sym (h refl))
+done_empty false m e ss h = tt
+
+pub done_last : (more : Bool) (m : ℕ) (c : Expr × List Step) → m ≡ 0 → OnFalse more (joined_to m c ≡ c)
+done_last true m c h = tt
+done_last false m c h = no_pass m c h
 
 pub all_passes : (e : Expr) (ss : List Step) → joined e ss ≡ (joined_to 10 (e, ss)).0
 unfolding joined

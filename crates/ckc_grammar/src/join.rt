@@ -1,7 +1,8 @@
-ghost use Rattle.std.specs.Prelude.{◌≡◌, List, ◌∷◌, IfOk};
+ghost use Rattle.std.specs.Prelude.{◌≡◌, ◌<◌, List, ◌∷◌, IfOk};
+ghost use Rattle.std.specs.Bool.{OnTrue, OnFalse};
 ghost use Rattle.ckc_syntax.specs.declared.tree.Node.TheVariants as node;
 ghost use Rattle.ckc_grammar.specs.declared.parts.Step.{Step};
-ghost use Rattle.ckc_grammar.specs.Trees.{expr_at, level, joined, joined_at, attached, picked};
+ghost use Rattle.ckc_grammar.specs.Trees.{expr_at, level, joined, joined_at, joined_to, attached, picked};
 ghost use Rattle.ckc_grammar.specs.Values.{whole};
 
 use crate::parts::{Arms, Expression, Rest, Step};
@@ -54,12 +55,21 @@ fn joined<'a>(
 {
     let mut chain = Chain { first, steps };
     let mut tightness = 10;
-    'passes: while tightness > 0 {
+    'passes: while goes_on(tightness, &chain) {
         chain = joined_at(alloc, tightness, chain)?;
         tightness -= 1;
     }
     let Chain { first, steps } = chain;
     Ok(first)
+}
+
+/// Whether something may be left to join: not behind the last pass, nor where no operator is left.
+fn goes_on<'a>(tightness: u32, chain: &Chain<'a>) -> bool
+    ensures more { OnTrue result (0 < tightness) }
+    ensures done { OnFalse result (joined_to tightness (chain.now.first, chain.now.steps)
+        ≡ (chain.now.first, chain.now.steps)) }
+{
+    tightness > 0 && !chain.steps.is_empty()
 }
 
 /// An operand, and the operators with operands behind it.

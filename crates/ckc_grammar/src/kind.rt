@@ -1,5 +1,6 @@
-ghost use Rattle.std.specs.Prelude.{◌≡◌};
-ghost use Rattle.ckc_grammar.specs.Kinds.{kind_of_name, kind_of_keyword, kind_of_checked_keyword, kind_of_checked_word, kind_of_mark, kind_of_operator, kind_of_long_operator};
+ghost use Rattle.std.specs.Prelude.{◌≡◌, ◌≢◌, ◌∷◌, [], length};
+ghost use Rattle.std.specs.Bool.{OnFalse};
+ghost use Rattle.ckc_grammar.specs.Kinds.{kind_of_name, kind_of_keyword, kind_of_checked_keyword, kind_of_checked_word, kind_of_mark, kind_of_long_operator};
 
 /// What the grammar tells apart: keywords and marks by their spelling, a few names that have a meaning in some
 /// places, and the end of the text. `GreaterNext` is a `>` that follows another directly.
@@ -78,8 +79,30 @@ pub enum Kind {
     BarBar,
 }
 
-/// The kind of a name.
+/// The kind of a name. Most names have another length than those with a meaning.
+#[tactic(auto, using(crate::proofs::Spelled::plain_name))]
 pub fn name_kind(text: &str) -> Kind
+    ensures { result ≡ kind_of_name text.now }
+{
+    if is_special_length(text.len()) {
+        special_kind(text)
+    } else {
+        Kind::Name
+    }
+}
+
+/// Whether a name with a meaning has so many bytes.
+fn is_special_length(len: usize) -> bool
+    ensures five { OnFalse result (len ≢ 5) }
+    ensures six { OnFalse result (len ≢ 6) }
+    ensures seven { OnFalse result (len ≢ 7) }
+    ensures ten { OnFalse result (len ≢ 10) }
+{
+    5 <= len && len <= 7 || len == 10
+}
+
+/// The kind of a name that may have a meaning.
+fn special_kind(text: &str) -> Kind
     ensures { result ≡ kind_of_name text.now }
 {
     match text {
@@ -158,41 +181,53 @@ fn checked_word_kind(text: &str) -> Kind
 pub fn mark_kind(text: &str) -> Kind
     ensures { result ≡ kind_of_mark text.now }
 {
-    match text {
-        "(" => Kind::RoundOpen,
-        ")" => Kind::RoundClose,
-        "{" => Kind::CurlyOpen,
-        "}" => Kind::CurlyClose,
-        "[" => Kind::SquareOpen,
-        "]" => Kind::SquareClose,
-        "<" => Kind::Less,
-        ">" => Kind::Greater,
-        "," => Kind::Comma,
-        ";" => Kind::Semicolon,
-        ":" => Kind::Colon,
-        "?" => Kind::Question,
-        "=" => Kind::Equals,
-        "." => Kind::Dot,
-        "->" => Kind::Arrow,
-        _ => operator_kind(text),
+    match text.as_bytes() {
+        [b] => byte_kind(*b),
+        _ => long_mark_kind(text),
     }
 }
 
-/// The kind of an operator.
-fn operator_kind(text: &str) -> Kind
-    ensures { result ≡ kind_of_operator text.now }
+/// The kind of a mark of one byte.
+fn byte_kind(b: u8) -> Kind
+    ensures { result ≡ kind_of_mark (b ∷ []) }
+{
+    match b {
+        b'(' => Kind::RoundOpen,
+        b')' => Kind::RoundClose,
+        b'{' => Kind::CurlyOpen,
+        b'}' => Kind::CurlyClose,
+        b'[' => Kind::SquareOpen,
+        b']' => Kind::SquareClose,
+        b'<' => Kind::Less,
+        b'>' => Kind::Greater,
+        b',' => Kind::Comma,
+        b';' => Kind::Semicolon,
+        b':' => Kind::Colon,
+        b'?' => Kind::Question,
+        b'=' => Kind::Equals,
+        b'.' => Kind::Dot,
+        b'+' => Kind::Plus,
+        b'-' => Kind::Minus,
+        b'*' => Kind::Star,
+        b'/' => Kind::Slash,
+        b'%' => Kind::Percent,
+        b'&' => Kind::Ampersand,
+        b'|' => Kind::Bar,
+        b'^' => Kind::Caret,
+        b'~' => Kind::Tilde,
+        b'!' => Kind::Exclamation,
+        _ => Kind::Other,
+    }
+}
+
+/// The kind of a mark of two bytes.
+#[tactic(auto, using(crate::proofs::Spelled::long_mark))]
+fn long_mark_kind(text: &str) -> Kind
+    requires { length text.now ≢ 1 }
+    ensures { result ≡ kind_of_mark text.now }
 {
     match text {
-        "+" => Kind::Plus,
-        "-" => Kind::Minus,
-        "*" => Kind::Star,
-        "/" => Kind::Slash,
-        "%" => Kind::Percent,
-        "&" => Kind::Ampersand,
-        "|" => Kind::Bar,
-        "^" => Kind::Caret,
-        "~" => Kind::Tilde,
-        "!" => Kind::Exclamation,
+        "->" => Kind::Arrow,
         _ => long_operator_kind(text),
     }
 }

@@ -1,7 +1,7 @@
 use Rattle.std.proofs.Common.{sym, ◌∙◌}
 use Rattle.std.specs.Prelude.{codes}
 use Rattle.ckc_grammar.proofs.Spelled.{skip}
-use Rattle.ckc_grammar.proofs.kind.name_kind.Goals as goal
+use Rattle.ckc_grammar.proofs.kind.special_kind.Goals as goal
 
 pub returns-in_default : goal.returns-in_default
 returns-in_default c = sym (
