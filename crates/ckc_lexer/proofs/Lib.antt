@@ -8,6 +8,7 @@ pub mod CutLaw
 pub mod DirectiveFronts
 pub mod DirectiveLaw
 pub mod Fronts
+pub mod Keywords
 pub mod LiteralFronts
 pub mod MarkFronts
 pub mod OneItem

@@ -2,13 +2,19 @@ ghost use Rattle.std.specs.Prelude.{◌≡◌, ◌<◌, true, length, slice_inde
 ghost use Rattle.std.specs.List.{list_any};
 ghost use Rattle.ckc_lexer.specs.Bytes.{is_word_byte};
 ghost use Rattle.ckc_syntax.specs.Longest.{Longest};
-ghost use Rattle.ckc_lexer.specs.Words.{keywords, is_keyword, word_item, IsWordItem};
+ghost use Rattle.ckc_lexer.specs.Words.{keywords, plain_keywords, fits_plain, is_keyword, word_item, IsWordItem};
 
 use crate::bytes::word_len;
 use crate::items::{Found, Item, LONG_NAME};
 use ckc_syntax::TokenKind;
 
 const LONGEST_NAME: usize = 63;
+
+/// The fewest bytes of a keyword that does not begin with `_`.
+const SHORTEST_PLAIN: usize = 2;
+
+/// The most bytes of one.
+const LONGEST_PLAIN: usize = 8;
 
 /// The keywords that do not begin with `_`.
 const PLAIN: &[&[u8]] = &[
@@ -125,8 +131,27 @@ fn is_reserved(word: &[u8]) -> bool
     if !word.is_empty() && word[0] == b'_' {
         is_in(word, UNDERSCORED)
     } else {
-        is_in(word, PLAIN)
+        is_plain(word)
     }
+}
+
+/// Whether a word is a keyword that does not begin with `_`. Most words are too long or too short to be compared.
+#[tactic(auto, using(crate::proofs::Keywords::none_plain))]
+fn is_plain(word: &[u8]) -> bool
+    ensures { result ≡ list_any (λ k. bytes_eq k word.now) plain_keywords }
+{
+    if fits_plain(word.len()) {
+        is_in(word, PLAIN)
+    } else {
+        false
+    }
+}
+
+/// Whether a keyword that does not begin with `_` may have so many bytes.
+fn fits_plain(len: usize) -> bool
+    ensures { result ≡ fits_plain len }
+{
+    SHORTEST_PLAIN <= len && len <= LONGEST_PLAIN
 }
 
 fn is_in(word: &[u8], table: &[&[u8]]) -> bool

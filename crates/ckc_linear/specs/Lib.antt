@@ -1,3 +1,4 @@
 pub mod Facts
 pub mod Chains
 pub mod Rows
+pub mod Runs

@@ -1,6 +1,8 @@
-ghost use Rattle.std.specs.Prelude.{◌≡◌, ◌≤◌, ◌<◌, ◌^◌, [], ◌∷◌, ◌++◌, map, not, OnOk, OnErr};
+ghost use Rattle.std.specs.Prelude.{◌≡◌, ◌≤◌, ◌<◌, ◌^◌, [], ◌∷◌, ◌++◌, map, not, length, take, OnOk, OnErr};
 ghost use Rattle.std.specs.List.{All, filter};
 ghost use Rattle.ckc_linear.specs.Facts.{IsInRange, IsWithin, names, shifted};
+ghost use Rattle.ckc_linear.specs.Runs.{AllStay, AreOthers};
+ghost use Rattle.std.specs.Bool.{OnFalse};
 
 use ckc_base::Seq;
 use core::mem::replace_with;
@@ -45,14 +47,68 @@ fn without(list: Seq<Fact>, x: u32) -> (Seq<Fact>, ())
     ensures { result.0 ≡ filter (λ f. not (names x f)) list }
 {
     let mut items = list.into_vec();
-    items.retain(|f| !names(f, x));
+    // Facts that stay move to the front in whole runs.
+    let mut kept = others(items.as_slice(), x);
+    let mut from = kept;
+    'runs: while from < items.len() {
+        let next = from + 1;
+        let run = others(&items[next..], x);
+        items.copy_within(next..next + run, kept);
+        kept += run;
+        from = next + run;
+    }
+    items.truncate(kept);
     (Seq::from_vec(items), ())
+}
+
+/// How many facts in front do not have `x`.
+fn others(facts: &[Fact], x: u32) -> usize
+    ensures { AreOthers x facts.now result }
+{
+    let start = passed_over(facts, x);
+    let rest = &facts[start..];
+    for (k, f) in rest.iter().enumerate() {
+        if names(f, x) {
+            return start + k;
+        }
+    }
+    facts.len()
+}
+
+/// How many facts are tested together.
+const BLOCK: usize = 32;
+
+/// How many facts in front, in whole blocks, do not have `x`.
+fn passed_over(facts: &[Fact], x: u32) -> usize
+    ensures within { result ≤ length facts.now }
+    ensures stay { AllStay x (take result facts.now) }
+{
+    let mut at = 0;
+    'tests: while BLOCK <= facts.len() - at {
+        let block = &facts[at..at + BLOCK];
+        if has(block, x) {
+            return at;
+        }
+        at += BLOCK;
+    }
+    at
+}
+
+/// Whether some fact has `x`. It looks at each, which takes less time than to stop at the first.
+fn has(facts: &[Fact], x: u32) -> bool
+    ensures { OnFalse result (AllStay x facts.now) }
+{
+    let mut found = false;
+    for f in facts {
+        found |= names(f, x);
+    }
+    found
 }
 
 fn names(f: &Fact, x: u32) -> bool
     ensures { result ≡ names x f.now }
 {
-    f.x == x || f.y == x
+    (f.x == x) | (f.y == x)
 }
 
 /// Moves the facts along with `x`, which has grown by `c`: a fact that has `x` on the left alone gets a number that is
