@@ -1,19 +1,13 @@
 -- The placed code in which each register has a slot of its own, so that no call keeps a machine register.
-use Rattle.std.specs.Prelude.{ℕ, zero, suc, ◌+◌, Bool, false, List, [], ◌∷◌, map, replicate, flat_map}
+use Rattle.std.specs.Prelude.{ℕ, Bool, false, List, [], ◌∷◌, map, replicate, flat_map}
 use Rattle.ckc_tac.specs.declared.code.Tac.{Tac}
 use Rattle.ckc_tac.specs.declared.code.TacFunc.{TacFunc}
 use Rattle.ckc_tac.specs.declared.code.TacBlock.{TacBlock}
 use Rattle.ckc_tac.specs.declared.code.TacOp.{TacOp}
 use Rattle.ckc_tac.specs.declared.code.TacOp.TheVariants.{Call}
-use Rattle.ckc_frame.specs.declared.code.Place.{Place}
-use Rattle.ckc_frame.specs.declared.code.Place.TheVariants.{Slot}
 use Rattle.ckc_frame.specs.declared.code.Placed.{Placed}
 use Rattle.ckc_frame.specs.declared.code.PlacedFunc.{PlacedFunc}
-
--- so many slots, from one on
-unfoldable pub slots : ℕ → ℕ → List Place
-slots first zero = []
-slots first (suc count) = Slot first ∷ slots (first + 1) count
+unfoldable pub use Rattle.ckc_slots.specs.Slots.{slots}
 
 -- the row of a call: nothing is marked
 abbrev pub row_of : ℕ → TacOp → List (List Bool)

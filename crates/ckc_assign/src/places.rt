@@ -1,23 +1,10 @@
-//! Places of registers, and which of them calls keep.
+//! Which registers calls keep.
 ghost use Rattle.std.specs.Prelude.{◌≡◌, ◌≤◌, ◌++◌, IfOk, OnOk, flat_map, replicate, false};
-ghost use Rattle.ckc_assign.specs.InSlots.{slots, row_of, rows_in};
+ghost use Rattle.ckc_assign.specs.InSlots.{row_of, rows_in};
 
 use ckc_base::Seq;
-use ckc_frame::Place;
 use ckc_tac::{TacBlock, TacOp};
 use std::alloc::{AllocError, Global};
-
-/// A slot for each of so many registers.
-pub fn slots_of(alloc: Global, regs: u32) -> Result<Vec<Place>, AllocError>
-    requires { regs ≤ 4064 }
-    ensures { IfOk result (λ homes. homes.items ≡ slots 0 regs) }
-{
-    let mut homes = Vec::new(alloc);
-    for r in 0..regs {
-        homes.push(Place::Slot(r as u16))?;
-    }
-    Ok(homes)
-}
 
 /// The rows of the calls in a function's blocks: no call keeps a machine register.
 pub fn rows_of(alloc: Global, blocks: &[TacBlock], regs: u32) -> Result<Vec<Seq<bool>>, AllocError>

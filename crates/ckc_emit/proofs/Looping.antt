@@ -84,33 +84,12 @@ kept_done q n homes row found h i = sym (or_false found) ∙ ap (λ b. found || 
 -- ---- registers that are saved and restored
 
 module _ (line : Bool → ℕ → List Line → List Line) where
-  each_more : (test : ℕ → Bool) (k : ℕ) (rest : List Line) → k < 12 → each_lines line test (12 - k) k rest ≡ line (test k) k (each_lines line test (12 - (k + 1)) (k + 1) rest)
-  unfolding each_lines
-  each_more test k rest h =
-      let e : 12 - k ≡ suc (12 - (k + 1)) = omega arith in
-      ap (λ n. each_lines line test n k rest) e
-
-  pub each_turn : (test : ℕ → Bool) (old out new : List Line) (k : ℕ) → k < 12 → Emits out new (line (test k) k)
-      → ((rest : List Line) → out ++ each_lines line test (12 - k) k rest ≡ old ++ each_lines line test 12 0 rest)
-      → (rest : List Line) → new ++ each_lines line test (12 - (k + 1)) (k + 1) rest ≡ old ++ each_lines line test 12 0 rest
-  each_turn test old out new k h e i rest =
-      e (each_lines line test (12 - (k + 1)) (k + 1) rest) ∙ ap (λ l. out ++ l) (sym (each_more test k rest h)) ∙ i rest
-
   pub each_same : (t u : ℕ → Bool) (count k : ℕ) (rest : List Line) → ((j : ℕ) → j < k + count → t j ≡ u j) → each_lines line t count k rest ≡ each_lines line u count k rest
   unfolding each_lines
   each_same t u zero k rest h = refl
   each_same t u (suc count) k rest h =
       ap (λ b. line b k (each_lines line t count (k + 1) rest)) (h k (omega arith))
       ∙ ap (λ l. line (u k) k l) (each_same t u count (k + 1) rest (λ j below. h j (omega arith)))
-
-  -- nothing of them is left
-  each_none : (test : ℕ → Bool) (out rest : List Line) → out ++ each_lines line test 0 12 rest ≡ out ++ rest
-  unfolding each_lines
-  each_none test out rest = refl
-
-  pub each_done : (test : ℕ → Bool) (old out : List Line) (k : ℕ) → k ≡ 12 → ((rest : List Line) → out ++ each_lines line test (12 - k) k rest ≡ old ++ each_lines line test 12 0 rest) → Emits old out (each_lines line test 12 0)
-  each_done test old out k e i rest =
-      sym (each_none test out rest) ∙ subst (λ q. out ++ each_lines line test (12 - q) q rest ≡ old ++ each_lines line test 12 0 rest) e (i rest)
 
 -- ---- arguments
 

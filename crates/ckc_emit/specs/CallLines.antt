@@ -1,6 +1,6 @@
 -- The lines of calls: registers are saved in the frame, the arguments are read from it and written to the homes of the
 -- called function's parameters, in registers and in the frame below.
-use Rattle.std.specs.Prelude.{ℕ, zero, suc, ◌+◌, ◌*◌, ◌==◌, ◌||◌, Bool, false, true, if◌then◌else◌, List, [], ◌∷◌, slice_get, Option, Some, None}
+use Rattle.std.specs.Prelude.{ℕ, ◌+◌, ◌*◌, ◌==◌, ◌||◌, Bool, false, List, [], ◌∷◌, slice_get, Option, Some, None}
 use Rattle.ckc_base.specs.declared.places.Pos.{Pos}
 use Rattle.ckc_base.specs.declared.runtime_checks.Check.TheVariants.{Depth}
 use Rattle.ckc_operations.specs.declared.operations.RegOp.TheVariants.{Add}
@@ -10,6 +10,8 @@ use Rattle.ckc_lines.specs.declared.lines.Line.TheVariants.{Plain, Far}
 use Rattle.ckc_frame.specs.declared.code.Place.{Place}
 use Rattle.ckc_frame.specs.declared.code.Place.TheVariants as place
 use Rattle.ckc_frame.specs.Places.{home, is_kept_home}
+unfoldable pub use Rattle.ckc_templates.specs.Saved.{each_lines}
+pub use Rattle.ckc_templates.specs.Saved.{save_lines, restore_lines, kept_lines, saves_lines, restores_lines}
 use Rattle.ckc_emit.specs.Lines.{register_of, offset_of, load_lines, store_lines, settle_lines, move_lines, check_lines}
 
 -- the place of a register; of one without a place, any
@@ -24,33 +26,6 @@ place_at homes r = place_or (slice_get homes r)
 abbrev pub is_argument_home : ℕ → List Place → List ℕ → Bool
 is_argument_home k homes [] = false
 is_argument_home k homes (r ∷ rs) = home homes r == k || is_argument_home k homes rs
-
--- a register is saved in the frame, or not
-abbrev pub save_lines : Bool → ℕ → List Line → List Line
-save_lines b k rest = if b then store_lines (register_of k) 2 (k * 4 + 16) rest else rest
-
--- a register is restored from the frame, or not
-abbrev pub restore_lines : Bool → ℕ → List Line → List Line
-restore_lines b k rest = if b then load_lines (register_of k) 2 (k * 4 + 16) rest else rest
-
--- a register is saved in the frame, or restored from it, where it is marked
-abbrev pub kept_lines : (restores marked : Bool) → ℕ → List Line → List Line
-kept_lines false = save_lines
-kept_lines true = restore_lines
-
--- the lines of so many registers from one on, each by whether a test names it
-unfoldable pub each_lines : (Bool → ℕ → List Line → List Line) → (ℕ → Bool) → (count k : ℕ)
-    → List Line → List Line
-each_lines line test zero k rest = rest
-each_lines line test (suc count) k rest = line (test k) k (each_lines line test count (k + 1) rest)
-
--- of so many registers from one on, those that a test names are saved
-abbrev pub saves_lines : (ℕ → Bool) → (count k : ℕ) → List Line → List Line
-saves_lines = each_lines save_lines
-
--- of so many registers from one on, those that a test names are restored
-abbrev pub restores_lines : (ℕ → Bool) → (count k : ℕ) → List Line → List Line
-restores_lines = each_lines restore_lines
 
 -- stops unless a frame more fits, and sets x8 to it
 abbrev pub depth_lines : Pos → List Line → List Line

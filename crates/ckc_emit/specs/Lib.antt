@@ -1,6 +1,6 @@
 pub mod Operands
 pub mod Lines
-pub mod Emitting
+pub use Rattle.ckc_templates.specs.Emitting
 pub mod Stores
 pub mod CallLines
 pub mod ProgramLines

@@ -1,7 +1,6 @@
 -- The lines that are emitted for each piece of placed code, each in front of the lines that follow it. The code is
 -- proved against these; what they come to is said of the machine that runs them (specs/Promise.antt).
-use Rattle.std.specs.Prelude.{ℕ, ◌+◌, ◌-◌, ◌*◌, ◌/◌, ◌%◌, ◌^◌, ◌==◌, nat_lt, ◌||◌, Bool, true, false, if◌then◌else◌, ℤ, pos, ◌-ℤ◌, List, ◌∷◌}
-use Rattle.std.specs.Ordering.{int_eq}
+use Rattle.std.specs.Prelude.{ℕ, ◌+◌, ◌-◌, ◌*◌, ◌%◌, ◌^◌, ◌==◌, ◌||◌, Bool, true, false, if◌then◌else◌, pos, List, ◌∷◌}
 use Rattle.ckc_base.specs.declared.arithmetic.BinOp.{BinOp}
 use Rattle.ckc_base.specs.declared.arithmetic.BinOp.TheVariants as op
 use Rattle.ckc_base.specs.declared.arithmetic.Width.{Width}
@@ -19,94 +18,23 @@ use Rattle.ckc_operations.specs.declared.operations.ImmOp.TheVariants.{Addi, Slt
 use Rattle.ckc_operations.specs.declared.operations.RegOp.{RegOp}
 use Rattle.ckc_operations.specs.declared.operations.RegOp.TheVariants.{Add, Sub, Sll, Slt, Sltu, Xor, Srl, Sra, Or, And, Mul, Mulh, Mulhu, Div, Divu, Rem, Remu}
 use Rattle.ckc_rv.specs.declared.instructions.Instr.{Instr}
-use Rattle.ckc_rv.specs.declared.instructions.Instr.TheVariants.{Lui, Branch, Load, Store, Imm, Reg, Ecall}
+use Rattle.ckc_rv.specs.declared.instructions.Instr.TheVariants.{Lui, Branch, Load, Store, Imm, Reg}
 use Rattle.ckc_lines.specs.declared.lines.Line.{Line}
 use Rattle.ckc_lines.specs.declared.lines.Line.TheVariants.{Plain}
 use Rattle.ckc_frame.specs.declared.code.Place.{Place}
 use Rattle.ckc_frame.specs.declared.code.Place.TheVariants as place
+unfoldable pub use Rattle.ckc_templates.specs.Templates.{upper_of, lower_of}
+pub use Rattle.ckc_templates.specs.Templates.{add_lower_of, immediate_of, load_lower_of, store_lower_of, load_near_of, store_near_of, is_round, both_lines, large_lines, constant_lines, move_lines, offset_lines, far_load_lines, load_lines, far_store_lines, store_lines, ask_lines}
+pub use Rattle.ckc_templates.specs.Saved.{register_of}
 use Rattle.ckc_emit.specs.declared.places.PlacedOperand.{PlacedOperand}
 use Rattle.ckc_emit.specs.declared.places.PlacedOperand.TheVariants.{At, Number}
 use Rattle.ckc_emit.specs.declared.operations.Form.{Form}
 use Rattle.ckc_emit.specs.declared.operations.Form.TheVariants.{Zero, Immediate, Registers}
 
--- ---- constants
-
--- the upper 20 bits of a word, rounded so that the rest fits 12 bits with a sign
-unfoldable pub upper_of : ℕ → ℕ
-upper_of v = (v + 0x800) % 2 ^ 32 / 0x1000
-
--- the rest of a word beside its upper 20 bits, from -2048 to 2047
-unfoldable pub lower_of : ℕ → ℤ
-lower_of v = pos ((v + 0x800) % 2 ^ 32 % 0x1000) -ℤ pos 0x800
-
-abbrev pub add_lower_of : ℕ → ℕ → ℕ → Instr
-add_lower_of rd rs v = Imm Addi rd rs (lower_of v)
-
-abbrev pub immediate_of : ImmOp → ℕ → ℕ → ℕ → Instr
-immediate_of op rd rs v = Imm op rd rs (lower_of v)
-
-abbrev pub load_lower_of : ℕ → ℕ → Instr
-load_lower_of rd offset = Load Lw rd 7 (lower_of offset)
-
-abbrev pub store_lower_of : ℕ → ℕ → Instr
-store_lower_of rs offset = Store Sw 7 rs (lower_of offset)
-
-abbrev pub load_near_of : ℕ → ℕ → ℕ → Instr
-load_near_of rd frame offset = Load Lw rd frame (pos offset)
-
-abbrev pub store_near_of : ℕ → ℕ → ℕ → Instr
-store_near_of rs frame offset = Store Sw frame rs (pos offset)
-
--- the lower bits are zero
-abbrev pub is_round : ℕ → Bool
-is_round v = int_eq (lower_of v) (pos 0)
-
-abbrev pub both_lines : ℕ → ℕ → List Line → List Line
-both_lines rd v rest = Plain (Lui rd (upper_of v)) ∷ Plain (add_lower_of rd rd v) ∷ rest
-
-abbrev pub large_lines : ℕ → ℕ → List Line → List Line
-large_lines rd v rest =
-    if is_round v then Plain (Lui rd (upper_of v)) ∷ rest else both_lines rd v rest
-
--- a register is set to a word
-abbrev pub constant_lines : ℕ → ℕ → List Line → List Line
-constant_lines rd v rest =
-    if upper_of v == 0 then Plain (add_lower_of rd 0 v) ∷ rest else large_lines rd v rest
+-- ---- stops
 
 abbrev pub constant_count : ℕ → ℕ
 constant_count v = if upper_of v == 0 || is_round v then 1 else 2
-
-abbrev pub move_lines : ℕ → ℕ → List Line → List Line
-move_lines rd rs rest = Plain (Imm Addi rd rs (pos 0)) ∷ rest
-
--- ---- the words of a frame
-
--- x7 is set to an offset, of which the lower part is left, from a frame
-abbrev pub offset_lines : ℕ → ℕ → List Line → List Line
-offset_lines frame offset rest = Plain (Lui 7 (upper_of offset)) ∷ Plain (Reg Add 7 7 frame) ∷ rest
-
-abbrev pub far_load_lines : ℕ → ℕ → ℕ → List Line → List Line
-far_load_lines rd frame offset rest =
-    offset_lines frame offset (Plain (load_lower_of rd offset) ∷ rest)
-
-abbrev pub load_lines : ℕ → ℕ → ℕ → List Line → List Line
-load_lines rd frame offset rest =
-    if nat_lt offset 2048 then Plain (load_near_of rd frame offset) ∷ rest
-    else far_load_lines rd frame offset rest
-
-abbrev pub far_store_lines : ℕ → ℕ → ℕ → List Line → List Line
-far_store_lines rs frame offset rest =
-    offset_lines frame offset (Plain (store_lower_of rs offset) ∷ rest)
-
-abbrev pub store_lines : ℕ → ℕ → ℕ → List Line → List Line
-store_lines rs frame offset rest =
-    if nat_lt offset 2048 then Plain (store_near_of rs frame offset) ∷ rest
-    else far_store_lines rs frame offset rest
-
--- ---- environment calls and stops
-
-abbrev pub ask_lines : ℕ → List Line → List Line
-ask_lines call rest = constant_lines 17 call (Plain Ecall ∷ rest)
 
 abbrev pub stop_lines : Check → Pos → List Line → List Line
 stop_lines check at rest =
@@ -124,10 +52,6 @@ check_lines rs1 rs2 check at rest =
     Plain (over_stop_of rs1 rs2 at) ∷ stop_lines check at rest
 
 -- ---- places
-
--- the register of the machine for a register of placed code: x13 to x25 without x17
-abbrev pub register_of : ℕ → ℕ
-register_of k = if nat_lt k 4 then k + 13 else k + 14
 
 -- where the frame keeps a place
 abbrev pub offset_of : Place → ℕ

@@ -3,7 +3,7 @@
 use Rattle.std.specs.Prelude.{◌≡◌, ℕ, ◌+◌, ◌<◌, ◌==◌, not, ◌&&◌, if◌then◌else◌, Bool, true, false, List, [], ◌∷◌, length, map, slice_get, slice_index, sum_by, take, Option, Some, None, pos}
 use Rattle.ckc_operations.specs.declared.operations.BranchOp.{BranchOp}
 use Rattle.ckc_operations.specs.declared.operations.BranchOp.TheVariants.{Beq, Bne, Blt, Bge, Bltu, Bgeu}
-use Rattle.ckc_rv.specs.declared.instructions.Instr.TheVariants.{Lui, Jalr, Branch as BranchInstr}
+use Rattle.ckc_rv.specs.declared.instructions.Instr.TheVariants.{Jalr, Branch as BranchInstr}
 use Rattle.ckc_lines.specs.declared.lines.Labelled.{Labelled}
 use Rattle.ckc_lines.specs.declared.lines.Line.{Line}
 use Rattle.ckc_lines.specs.declared.lines.Line.TheVariants.{Label, Plain, Far}
@@ -24,8 +24,9 @@ use Rattle.ckc_frame.specs.Meaning.{is_call, calls_in}
 use Rattle.ckc_frame.specs.Places.{marks_of}
 use Rattle.ckc_emit.specs.declared.places.PlacedOperand.{PlacedOperand}
 use Rattle.ckc_emit.specs.declared.places.PlacedOperand.TheVariants as placed
-use Rattle.ckc_emit.specs.Lines.{register_with, operand_lines, take_lines, load_lines, store_lines, ask_lines, const_lines, copy_lines, bin_lines, high_lines, data_load_lines, data_store_lines, test_lines, get_lines, put_lines, alloc_lines}
+use Rattle.ckc_emit.specs.Lines.{register_with, operand_lines, take_lines, load_lines, store_lines, const_lines, copy_lines, bin_lines, high_lines, data_load_lines, data_store_lines, test_lines, get_lines, put_lines, alloc_lines}
 use Rattle.ckc_emit.specs.CallLines.{place_at, call_lines, result_lines}
+pub use Rattle.ckc_templates.specs.Start.{start_lines}
 
 -- ---- labels
 
@@ -175,10 +176,6 @@ functions_lines functions label [] rest = rest
 functions_lines functions label (f ∷ fs) rest =
     function_lines functions f label
     (functions_lines functions (label + (length f.code.blocks + 1)) fs rest)
-
--- the first frame, the call of `main`, and the end with what it returns
-abbrev pub start_lines : (main : ℕ) → List Line → List Line
-start_lines main rest = Label 0 ∷ Plain (Lui 2 0x3FFC) ∷ Far 1 main ∷ ask_lines 0 rest
 
 abbrev pub program_lines : Placed → List Line
 program_lines p = start_lines (label_of p.funcs p.main) (functions_lines p.funcs 1 p.funcs [])

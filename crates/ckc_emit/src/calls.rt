@@ -3,14 +3,15 @@ ghost use Rattle.std.specs.Prelude.{◌≡◌, ◌<◌, ◌≤◌, ◌==◌, ◌
 ghost use Rattle.ckc_frame.specs.WellFormed.{IsPlace};
 ghost use Rattle.ckc_frame.specs.Places.{number_of, is_kept_home};
 ghost use Rattle.ckc_emit.specs.Emitting.{Emits};
-ghost use Rattle.ckc_emit.specs.CallLines.{is_argument_home, kept_lines, each_lines, depth_lines, argument_lines, arguments_lines, visit_lines, call_lines, result_lines};
+ghost use Rattle.ckc_emit.specs.CallLines.{is_argument_home, depth_lines, argument_lines, arguments_lines, visit_lines, call_lines, result_lines};
 
-use crate::places::{offset, place_in, put_settle, register, source};
-use crate::templates::{SP, put, put_check, put_load, put_move, put_store};
+use crate::places::{offset, place_in, put_settle, source};
+use crate::stops::put_check;
 use ckc_base::{Check, Pos};
 use ckc_frame::Place;
 use ckc_lines::Line;
 use ckc_rv::{Instr, RegOp};
+use ckc_templates::{SP, put, put_load, put_move, put_restores, put_saves, put_store};
 use std::alloc::AllocError;
 
 const FRAME: u8 = 8;
@@ -52,39 +53,6 @@ fn saved_homes(kept: &[bool; 12], homes: &[Place], args: &[u32]) -> [bool; 12]
         mark(&mut found, place_in(homes, *r as usize));
     }
     found
-}
-
-/// Saves a register in the frame if it is marked, or restores it from there.
-fn put_kept(
-    out: &mut Vec<Line>,
-    restores: bool,
-    marked: &[bool; 12],
-    k: u8,
-) -> Result<(), AllocError>
-    requires { k < 12 }
-    ensures { OnOk result
-        (Emits out.old.items out.new.items
-        (kept_lines restores (slice_index_or marked.now k false) k)) }
-{
-    if !marked[k as usize] {
-        Ok(())
-    } else if restores {
-        put_load(out, register(k), SP, offset(Place::Reg(k)))
-    } else {
-        put_store(out, register(k), SP, offset(Place::Reg(k)))
-    }
-}
-
-/// Saves the registers that are marked in the frame, or restores them from there.
-fn put_each(out: &mut Vec<Line>, restores: bool, marked: &[bool; 12]) -> Result<(), AllocError>
-    ensures { OnOk result
-        (Emits out.old.items out.new.items
-        (each_lines (kept_lines restores) (λ k. slice_index_or marked.now k false) 12 0)) }
-{
-    for k in 0..12u8 {
-        put_kept(out, restores, marked, k)?;
-    }
-    Ok(())
 }
 
 /// Stops unless a frame more fits, and sets x8 to it.
@@ -161,11 +129,11 @@ pub fn put_call(
 {
     let kept = kept_homes(homes, row);
     let saved = saved_homes(&kept, homes, args);
-    put_each(out, false, &saved)?;
+    put_saves(out, &saved)?;
     put_depth(out, at)?;
     put_arguments(out, homes, args, params)?;
     put_visit(out, label)?;
-    put_each(out, true, &kept)
+    put_restores(out, &kept)
 }
 
 /// Writes the result of a call.

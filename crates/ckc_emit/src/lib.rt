@@ -13,6 +13,6 @@ mod initial;
 mod operations;
 mod places;
 mod program;
-mod templates;
+mod stops;
 
 pub use program::emit;

@@ -9,11 +9,12 @@ use crate::places::{
     PlacedOperand, put_fetch, put_operand, put_settle, put_take, put_write, register_of_operand,
     source,
 };
-use crate::templates::{immediate, put, put_ask, put_check, put_constant, upper};
+use crate::stops::put_check;
 use ckc_base::{BinOp, Check, Pos, Width};
 use ckc_frame::Place;
 use ckc_lines::Line;
 use ckc_rv::{ImmOp, Instr, LoadOp, RegOp, StoreOp};
+use ckc_templates::{immediate, put, put_ask, put_constant, upper};
 use std::alloc::AllocError;
 
 /// A place gets a word.

@@ -3,12 +3,12 @@ ghost use Rattle.std.specs.Prelude.{◌≡◌, ◌<◌, length, All, OnOk};
 ghost use Rattle.ckc_frame.specs.WellFormed.{IsPlace};
 ghost use Rattle.ckc_emit.specs.Emitting.{Emits};
 ghost use Rattle.ckc_emit.specs.CallLines.{place_at};
-ghost use Rattle.ckc_emit.specs.Lines.{register_of, offset_of, source_of, register_with, read_lines, operand_lines, write_lines, settle_lines, fetch_lines, take_lines};
+ghost use Rattle.ckc_emit.specs.Lines.{offset_of, source_of, register_with, read_lines, operand_lines, write_lines, settle_lines, fetch_lines, take_lines};
 ghost use Rattle.ckc_emit.specs.Operands.{IsOperand};
 
-use crate::templates::{SP, put_constant, put_load, put_move, put_store};
 use ckc_frame::Place;
 use ckc_lines::Line;
+use ckc_templates::{SP, put_constant, put_load, put_move, put_store, register};
 use std::alloc::AllocError;
 
 /// An operand: the place of a register, or a number.
@@ -26,14 +26,6 @@ pub fn place_in(homes: &[Place], r: usize) -> Place
     ensures place { IsPlace result }
 {
     homes[r]
-}
-
-/// The register of the machine for a register of placed code: x13 to x25 without x17.
-pub fn register(k: u8) -> u8
-    requires { k < 12 }
-    ensures { result ≡ register_of k }
-{
-    if k < 4 { k + 13 } else { k + 14 }
 }
 
 /// Where the frame keeps a place.

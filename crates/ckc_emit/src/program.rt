@@ -3,18 +3,17 @@ ghost use Rattle.std.specs.Prelude.{◌≡◌, ◌*◌, ◌≤◌, ◌<◌, ◌^
 ghost use Rattle.ckc_lines.specs.Assembled.{size_of, CanAssemble};
 ghost use Rattle.ckc_frame.specs.WellFormed.{IsWellFormed};
 ghost use Rattle.ckc_emit.specs.Emitting.{Emits};
-ghost use Rattle.ckc_emit.specs.ProgramLines.{AreLabels, label_of, start_lines, functions_lines, program_lines, labelled_program};
+ghost use Rattle.ckc_emit.specs.ProgramLines.{AreLabels, label_of, functions_lines, program_lines, labelled_program};
 ghost use Rattle.ckc_emit.specs.Spared.{Spares};
 ghost use Rattle.ckc_emit.specs.CodeSize.{code_size};
 ghost use Rattle.ckc_emit.specs.Promise.{FollowsPlaced, FollowsStores, ListsStores, WhenAssembled};
 
 use crate::blocks::put_function;
 use crate::initial::copy_of;
-use crate::templates::{SP, put, put_ask};
 use ckc_base::Seq;
 use ckc_frame::{Placed, PlacedFunc};
 use ckc_lines::{Labelled, Line};
-use ckc_rv::Instr;
+use ckc_templates::put_start;
 use std::alloc::{AllocError, Global};
 
 /// The labelled lines of placed code, or want of memory.
@@ -89,14 +88,4 @@ fn put_functions(out: &mut Vec<Line>, p: &Placed, labels: &[u32]) -> Result<(), 
         label += f.code.blocks.len() as u32 + 1;
     }
     Ok(())
-}
-
-/// Sets the stack pointer to the first frame, calls `main`, and ends with what it returns.
-fn put_start(out: &mut Vec<Line>, main: u32) -> Result<(), AllocError>
-    ensures { OnOk result (Emits out.old.items out.new.items (start_lines main)) }
-{
-    out.push(Line::Label(0))?;
-    put(out, Instr::Lui(SP, 0x3FFC))?;
-    out.push(Line::Far(1, main))?;
-    put_ask(out, 0)
 }

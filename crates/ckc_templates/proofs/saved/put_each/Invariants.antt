@@ -1,7 +1,7 @@
 use Rattle.std.proofs.Common.{◌≡◌, ◌-◌, List, ◌++◌, false, slice_index_or}
 use Rattle.ckc_lines.specs.declared.lines.Line.{Line}
-use Rattle.ckc_emit.specs.CallLines.{kept_lines, each_lines}
-use Rattle.ckc_emit.proofs.calls.put_each.Given as goal
+use Rattle.ckc_templates.specs.Saved.{kept_lines, each_lines}
+use Rattle.ckc_templates.proofs.saved.put_each.Given as goal
 
 -- with the lines of the registers that are left, the lines are whole
 abbrev pub invariant-loop-k : goal.invariant-loop-k

@@ -1,12 +1,11 @@
 //! Short sequences of instructions.
-ghost use Rattle.std.specs.Prelude.{◌≡◌, ◌+◌, ◌*◌, ◌^◌, ◌<◌, ◌∷◌, OnOk, pos};
+ghost use Rattle.std.specs.Prelude.{◌≡◌, ◌^◌, ◌<◌, ◌∷◌, OnOk, pos};
 ghost use Rattle.ckc_lines.specs.declared.lines.Line.TheVariants as line;
-ghost use Rattle.ckc_emit.specs.Emitting.{Emits};
-ghost use Rattle.ckc_emit.specs.Lines.{add_lower_of, immediate_of, load_lower_of, store_lower_of, load_near_of, store_near_of, over_stop_of, upper_of, lower_of, constant_lines, large_lines, both_lines, far_load_lines, far_store_lines, constant_count as count_of, move_lines, load_lines, store_lines, offset_lines, ask_lines, stop_lines, check_lines};
+ghost use Rattle.ckc_templates.specs.Emitting.{Emits};
+ghost use Rattle.ckc_templates.specs.Templates.{add_lower_of, immediate_of, load_lower_of, store_lower_of, load_near_of, store_near_of, upper_of, lower_of, constant_lines, large_lines, both_lines, far_load_lines, far_store_lines, move_lines, load_lines, store_lines, offset_lines, ask_lines};
 
-use ckc_base::{Check, Pos, check_number};
 use ckc_lines::Line;
-use ckc_rv::{BranchOp, ImmOp, Instr, LoadOp, RegOp, StoreOp};
+use ckc_rv::{ImmOp, Instr, LoadOp, RegOp, StoreOp};
 use std::alloc::AllocError;
 
 pub const SP: u8 = 2;
@@ -22,7 +21,7 @@ pub fn put(out: &mut Vec<Line>, i: Instr) -> Result<(), AllocError>
 }
 
 /// The upper 20 bits of a word, rounded so that the rest fits 12 bits with a sign.
-#[tactic(auto, unfolding(crate::specs::Lines::upper_of))]
+#[tactic(auto, unfolding(crate::specs::Templates::upper_of))]
 pub fn upper(v: u32) -> u32
     ensures { result ≡ upper_of v }
 {
@@ -30,7 +29,7 @@ pub fn upper(v: u32) -> u32
 }
 
 /// The rest of a word beside its upper 20 bits, from -2048 to 2047.
-#[tactic(auto, unfolding(crate::specs::Lines::lower_of))]
+#[tactic(auto, unfolding(crate::specs::Templates::lower_of))]
 pub fn lower(v: u32) -> i32
     ensures { result ≡ lower_of v }
 {
@@ -104,13 +103,6 @@ fn put_both(out: &mut Vec<Line>, rd: u8, v: u32) -> Result<(), AllocError>
     put(out, add_lower(rd, rd, v))
 }
 
-/// How many instructions set a register to a word.
-pub fn constant_count(v: u32) -> u32
-    ensures { result ≡ count_of v }
-{
-    if upper(v) == 0 || lower(v) == 0 { 1 } else { 2 }
-}
-
 /// A register gets the value of another one.
 pub fn put_move(out: &mut Vec<Line>, rd: u8, rs: u8) -> Result<(), AllocError>
     ensures { OnOk result (Emits out.old.items out.new.items (move_lines rd rs)) }
@@ -118,7 +110,8 @@ pub fn put_move(out: &mut Vec<Line>, rd: u8, rs: u8) -> Result<(), AllocError>
     put(out, Instr::Imm(ImmOp::Addi, rd, rs, 0))
 }
 
-fn near(offset: u32) -> i32
+/// An offset within a frame as it stands in an instruction.
+pub fn near(offset: u32) -> i32
     requires { offset < 2 ^ 31 }
     ensures { result ≡ pos offset }
 {
@@ -176,36 +169,4 @@ pub fn put_ask(out: &mut Vec<Line>, call: u32) -> Result<(), AllocError>
 {
     put_constant(out, 17, call)?;
     put(out, Instr::Ecall)
-}
-
-/// Stops at a check and its place.
-fn put_stop(out: &mut Vec<Line>, check: Check, at: Pos) -> Result<(), AllocError>
-    ensures { OnOk result (Emits out.old.items out.new.items (stop_lines check at)) }
-{
-    put_constant(out, 10, check_number(check))?;
-    put_constant(out, 11, at.line)?;
-    put_constant(out, 12, at.col)?;
-    put_ask(out, 3)
-}
-
-/// A branch over itself and the stop behind it.
-fn over_stop(rs1: u8, rs2: u8, at: Pos) -> Instr
-    ensures { result ≡ over_stop_of rs1 rs2 at }
-{
-    let count = constant_count(at.line) + constant_count(at.col) + 4;
-    Instr::Branch(BranchOp::Bne, rs1, rs2, near(count * 4))
-}
-
-/// Stops at a check and its place unless two registers differ.
-pub fn put_check(
-    out: &mut Vec<Line>,
-    rs1: u8,
-    rs2: u8,
-    check: Check,
-    at: Pos,
-) -> Result<(), AllocError>
-    ensures { OnOk result (Emits out.old.items out.new.items (check_lines rs1 rs2 check at)) }
-{
-    put(out, over_stop(rs1, rs2, at))?;
-    put_stop(out, check, at)
 }

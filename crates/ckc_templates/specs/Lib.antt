@@ -1,0 +1,4 @@
+pub mod Emitting
+pub mod Templates
+pub mod Saved
+pub mod Start
