@@ -1,13 +1,12 @@
 -- What is known at a point of a function, and how it goes on from point to point.
-use Rattle.std.specs.Prelude.{ℕ, ◌+◌, ◌^◌, ◌==◌, nat_lt, Bool, true, false, not, ◌&&◌, ◌||◌, if◌then◌else◌, List, [], ◌∷◌, ◌++◌, map, length, ℤ, pos, negsuc, neg_ℤ, Option, None, Some}
+use Rattle.std.specs.Prelude.{ℕ, ◌+◌, ◌^◌, ◌==◌, Bool, true, false, not, ◌&&◌, ◌||◌, if◌then◌else◌, List, [], ◌∷◌, map, length, ℤ, neg_ℤ, Option, None, Some}
 use Rattle.std.specs.List.{filter, list_any}
 use Rattle.std.specs.Ordering.{int_eq}
-use Rattle.ckc_types.specs.declared.types.CType.{CType, CType-F, out-CType}
 use Rattle.ckc_linear.specs.declared.facts.Fact.{Fact}
 use Rattle.ckc_linear.specs.declared.forms.Base.{Base}
 use Rattle.ckc_linear.specs.declared.forms.Base.TheVariants as base
 use Rattle.ckc_linear.specs.declared.forms.Form.{Form}
-use Rattle.ckc_linear.specs.Facts.{names, shifted}
+use Rattle.ckc_linear.specs.Facts.{shifted}
 use Rattle.ckc_typed.specs.Types.{is_integer}
 use Rattle.ckc_points.specs.declared.frame.Bounds.{Bounds}
 use Rattle.ckc_points.specs.declared.frame.Bounds.TheVariants as bounds

@@ -1,5 +1,5 @@
 -- Forms of integers and of addresses, and the facts that their order is.
-use Rattle.std.specs.Prelude.{ℕ, int_div, ◌^◌, ◌==◌, Bool, true, false, ◌&&◌, if◌then◌else◌, ℤ, pos, neg_ℤ, ◌+ℤ◌, ◌-ℤ◌, Option, None, Some}
+use Rattle.std.specs.Prelude.{ℕ, int_div, ◌==◌, Bool, true, false, ◌&&◌, if◌then◌else◌, ℤ, pos, neg_ℤ, ◌+ℤ◌, ◌-ℤ◌, Option, None, Some}
 use Rattle.std.specs.Ordering.{int_eq}
 use Rattle.ckc_types.specs.declared.types.CType.{CType}
 use Rattle.ckc_linear.specs.declared.facts.Fact.{Fact}
