@@ -1,41 +1,48 @@
 //! The kinds of cases.
 
-use crate::{arithmetic, chains, changes, images, layouts, lists, walks, words};
-use ckc_case_lines::{Answer, CaseFault, Judge, text_of, texts_of};
-use std::alloc::Global;
+use crate::{arithmetic, facts, images, layouts, lists, objects, walks, words};
+use ckc_trials::{Judge, Page};
+use std::rt::Files;
 
-/// What the small crates answer.
-pub struct Tables;
-
-impl Judge for Tables {
-    fn answer(&self, alloc: Global, kind: &[u8], given: &[Vec<u8>]) -> Result<Vec<u8>, CaseFault> {
-        let given = texts_of(alloc, given)?;
-        let came = answer(alloc, text_of(kind)?, given.as_slice())?;
-        Ok(came.into_bytes())
-    }
+/// What the small crates answer. `rt` gives the files of a store.
+#[derive(Drop)]
+pub struct Tables<'a, R> {
+    pub rt: &'a R,
 }
 
-/// What comes of a case with this kind and these fields.
-fn answer(alloc: Global, kind: &str, given: &[&str]) -> Answer {
-    match kind {
-        "word" => words::word_case(alloc, given),
-        "range" => words::range_case(alloc, given),
-        "effect" => words::effect_case(alloc, given),
-        "apply" => arithmetic::apply_case(alloc, given),
-        "check" => arithmetic::check_case(alloc, given),
-        "list" => lists::list_case(alloc, given),
-        "empty" => lists::empty_case(alloc, given),
-        "boxed" => lists::boxed_case(alloc, given),
-        "chain" => chains::chain_case(alloc, given),
-        "walks" => walks::walks_case(alloc, given),
-        "add" => changes::add_case(alloc, given),
-        "forget" => changes::forget_case(alloc, given),
-        "shift" => changes::shift_case(alloc, given),
-        "type" => layouts::type_case(alloc, given),
-        "struct" => layouts::struct_case(alloc, given),
-        "repeated" => layouts::repeated_case(alloc, given),
-        "read" => images::read_case(alloc, given),
-        "write" => images::write_case(alloc, given),
-        _ => Err(CaseFault::Malformed("an unknown kind")),
+impl<R: Files + AllocGlobal> Judge for Tables<'_, R> {
+    fn answer(&self, kind: &str, given: &[Vec<u8>], page: &mut Page) {
+        let given = page.texts_of(given);
+        match (kind, given.as_slice()) {
+            ("word", [word, _]) => words::word_case(word, page),
+            ("range", [text]) => words::range_case(text, page),
+            ("effect", [text, first, second]) => words::effect_case(text, first, second, page),
+            ("apply", [op, a, b]) => arithmetic::apply_case(op, a, b, page),
+            ("check", [number]) => arithmetic::check_case(number, page),
+            ("list", [text, steps]) => lists::list_case(text, steps, page),
+            ("empty", []) => lists::empty_case(page),
+            ("boxed", [word]) => lists::boxed_case(word, page),
+            ("chain", [vars, known, asked]) => facts::chain_case(vars, known, asked, page),
+            ("walks", [sets, least, most]) => walks::walks_case(sets, least, most, page),
+            ("add", [vars, known]) => facts::add_case(vars, known, page),
+            ("forget", [vars, known, x]) => facts::forget_case(vars, known, x, page),
+            ("shift", [vars, known, x, c]) => facts::shift_case(vars, known, x, c, page),
+            ("type", [text]) => layouts::type_case(text, page),
+            ("struct", [letters]) => layouts::struct_case(letters, page),
+            ("repeated", [letters, times, name]) => {
+                layouts::repeated_case(letters, times, name, page)
+            }
+            ("read", [bytes]) => images::read_case(bytes, page),
+            ("write", [entry, code, initial]) => images::write_case(entry, code, initial, page),
+            ("source", [reads]) => objects::source_case(reads, page),
+            ("memory-source", [bytes, calls]) => objects::memory_source_case(bytes, calls, page),
+            ("sink", [writes, pieces]) => objects::sink_case(writes, pieces, page),
+            ("memory-sink", [size, calls, pieces]) => {
+                objects::memory_sink_case(size, calls, pieces, page)
+            }
+            ("memory-store", [calls, steps]) => objects::memory_store_case(calls, steps, page),
+            ("store", [steps]) => objects::store_case(self.rt, steps, page),
+            _ => page.refuse("no kind has these fields"),
+        }
     }
 }
