@@ -4,6 +4,9 @@ use crate::{arithmetic, facts, images, layouts, lists, objects, walks, words};
 use ckc_trials::{Judge, Page};
 use std::rt::Files;
 
+/// What is wrong with a case whose kind takes other fields, or is none.
+const UNKNOWN: &str = "no kind has these fields";
+
 /// What the small crates answer. `rt` gives the files of a store.
 #[derive(Drop)]
 pub struct Tables<'a, R> {
@@ -13,36 +16,57 @@ pub struct Tables<'a, R> {
 impl<R: Files + AllocGlobal> Judge for Tables<'_, R> {
     fn answer(&self, kind: &str, given: &[Vec<u8>], page: &mut Page) {
         let given = page.texts_of(given);
-        match (kind, given.as_slice()) {
-            ("word", [word, _]) => words::word_case(word, page),
-            ("range", [text]) => words::range_case(text, page),
-            ("effect", [text, first, second]) => words::effect_case(text, first, second, page),
-            ("apply", [op, a, b]) => arithmetic::apply_case(op, a, b, page),
-            ("check", [number]) => arithmetic::check_case(number, page),
-            ("list", [text, steps]) => lists::list_case(text, steps, page),
-            ("empty", []) => lists::empty_case(page),
-            ("boxed", [word]) => lists::boxed_case(word, page),
-            ("chain", [vars, known, asked]) => facts::chain_case(vars, known, asked, page),
-            ("walks", [sets, least, most]) => walks::walks_case(sets, least, most, page),
-            ("add", [vars, known]) => facts::add_case(vars, known, page),
-            ("forget", [vars, known, x]) => facts::forget_case(vars, known, x, page),
-            ("shift", [vars, known, x, c]) => facts::shift_case(vars, known, x, c, page),
-            ("type", [text]) => layouts::type_case(text, page),
-            ("struct", [letters]) => layouts::struct_case(letters, page),
-            ("repeated", [letters, times, name]) => {
-                layouts::repeated_case(letters, times, name, page)
-            }
-            ("read", [bytes]) => images::read_case(bytes, page),
-            ("write", [entry, code, initial]) => images::write_case(entry, code, initial, page),
-            ("source", [reads]) => objects::source_case(reads, page),
-            ("memory-source", [bytes, calls]) => objects::memory_source_case(bytes, calls, page),
-            ("sink", [writes, pieces]) => objects::sink_case(writes, pieces, page),
-            ("memory-sink", [size, calls, pieces]) => {
-                objects::memory_sink_case(size, calls, pieces, page)
-            }
-            ("memory-store", [calls, steps]) => objects::memory_store_case(calls, steps, page),
-            ("store", [steps]) => objects::store_case(self.rt, steps, page),
-            _ => page.refuse("no kind has these fields"),
+        match given.as_slice() {
+            [] if kind == "empty" => lists::empty_case(page),
+            [text] if kind == "store" => objects::store_case(self.rt, text, page),
+            [text] => of_one(kind, text, page),
+            [first, second] => of_two(kind, first, second, page),
+            [first, second, third] => of_three(kind, (first, second, third), page),
+            [vars, known, x, c] if kind == "shift" => facts::shift_case(vars, known, x, c, page),
+            _ => page.refuse(UNKNOWN),
         }
+    }
+}
+
+/// A case with one field.
+fn of_one(kind: &str, text: &str, page: &mut Page) {
+    match kind {
+        "range" => words::range_case(text, page),
+        "check" => arithmetic::check_case(text, page),
+        "boxed" => lists::boxed_case(text, page),
+        "type" => layouts::type_case(text, page),
+        "struct" => layouts::struct_case(text, page),
+        "read" => images::read_case(text, page),
+        "source" => objects::source_case(text, page),
+        _ => page.refuse(UNKNOWN),
+    }
+}
+
+/// A case with two fields.
+fn of_two(kind: &str, first: &str, second: &str, page: &mut Page) {
+    match kind {
+        "word" => words::word_case(first, page),
+        "list" => lists::list_case(first, second, page),
+        "add" => facts::add_case(first, second, page),
+        "memory-source" => objects::memory_source_case(first, second, page),
+        "sink" => objects::sink_case(first, second, page),
+        "memory-store" => objects::memory_store_case(first, second, page),
+        _ => page.refuse(UNKNOWN),
+    }
+}
+
+/// A case with three fields.
+fn of_three(kind: &str, fields: (&str, &str, &str), page: &mut Page) {
+    let (first, second, third) = fields;
+    match kind {
+        "effect" => words::effect_case(first, second, third, page),
+        "apply" => arithmetic::apply_case(first, second, third, page),
+        "chain" => facts::chain_case(first, second, third, page),
+        "walks" => walks::walks_case(first, second, third, page),
+        "forget" => facts::forget_case(first, second, third, page),
+        "repeated" => layouts::repeated_case(first, second, third, page),
+        "write" => images::write_case(first, second, third, page),
+        "memory-sink" => objects::memory_sink_case(first, second, third, page),
+        _ => page.refuse(UNKNOWN),
     }
 }
