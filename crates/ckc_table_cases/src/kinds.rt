@@ -1,41 +1,72 @@
 //! The kinds of cases.
 
-use crate::{arithmetic, chains, changes, images, layouts, lists, walks, words};
-use ckc_case_lines::{Answer, CaseFault, Judge, text_of, texts_of};
-use std::alloc::Global;
+use crate::{arithmetic, facts, images, layouts, lists, objects, walks, words};
+use ckc_trials::{Judge, Page};
+use std::rt::Files;
 
-/// What the small crates answer.
-pub struct Tables;
+/// What is wrong with a case whose kind takes other fields, or is none.
+const UNKNOWN: &str = "no kind has these fields";
 
-impl Judge for Tables {
-    fn answer(&self, alloc: Global, kind: &[u8], given: &[Vec<u8>]) -> Result<Vec<u8>, CaseFault> {
-        let given = texts_of(alloc, given)?;
-        let came = answer(alloc, text_of(kind)?, given.as_slice())?;
-        Ok(came.into_bytes())
+/// What the small crates answer. `rt` gives the files of a store.
+#[derive(Drop)]
+pub struct Tables<'a, R> {
+    pub rt: &'a R,
+}
+
+impl<R: Files + AllocGlobal> Judge for Tables<'_, R> {
+    fn answer(&self, kind: &str, given: &[Vec<u8>], page: &mut Page) {
+        let given = page.texts_of(given);
+        match given.as_slice() {
+            [] if kind == "empty" => lists::empty_case(page),
+            [text] if kind == "store" => objects::store_case(self.rt, text, page),
+            [text] => of_one(kind, text, page),
+            [first, second] => of_two(kind, first, second, page),
+            [first, second, third] => of_three(kind, (first, second, third), page),
+            [vars, known, x, c] if kind == "shift" => facts::shift_case(vars, known, x, c, page),
+            _ => page.refuse(UNKNOWN),
+        }
     }
 }
 
-/// What comes of a case with this kind and these fields.
-fn answer(alloc: Global, kind: &str, given: &[&str]) -> Answer {
+/// A case with one field.
+fn of_one(kind: &str, text: &str, page: &mut Page) {
     match kind {
-        "word" => words::word_case(alloc, given),
-        "range" => words::range_case(alloc, given),
-        "effect" => words::effect_case(alloc, given),
-        "apply" => arithmetic::apply_case(alloc, given),
-        "check" => arithmetic::check_case(alloc, given),
-        "list" => lists::list_case(alloc, given),
-        "empty" => lists::empty_case(alloc, given),
-        "boxed" => lists::boxed_case(alloc, given),
-        "chain" => chains::chain_case(alloc, given),
-        "walks" => walks::walks_case(alloc, given),
-        "add" => changes::add_case(alloc, given),
-        "forget" => changes::forget_case(alloc, given),
-        "shift" => changes::shift_case(alloc, given),
-        "type" => layouts::type_case(alloc, given),
-        "struct" => layouts::struct_case(alloc, given),
-        "repeated" => layouts::repeated_case(alloc, given),
-        "read" => images::read_case(alloc, given),
-        "write" => images::write_case(alloc, given),
-        _ => Err(CaseFault::Malformed("an unknown kind")),
+        "range" => words::range_case(text, page),
+        "check" => arithmetic::check_case(text, page),
+        "boxed" => lists::boxed_case(text, page),
+        "type" => layouts::type_case(text, page),
+        "struct" => layouts::struct_case(text, page),
+        "read" => images::read_case(text, page),
+        "source" => objects::source_case(text, page),
+        _ => page.refuse(UNKNOWN),
+    }
+}
+
+/// A case with two fields.
+fn of_two(kind: &str, first: &str, second: &str, page: &mut Page) {
+    match kind {
+        "word" => words::word_case(first, page),
+        "list" => lists::list_case(first, second, page),
+        "add" => facts::add_case(first, second, page),
+        "memory-source" => objects::memory_source_case(first, second, page),
+        "sink" => objects::sink_case(first, second, page),
+        "memory-store" => objects::memory_store_case(first, second, page),
+        _ => page.refuse(UNKNOWN),
+    }
+}
+
+/// A case with three fields.
+fn of_three(kind: &str, fields: (&str, &str, &str), page: &mut Page) {
+    let (first, second, third) = fields;
+    match kind {
+        "effect" => words::effect_case(first, second, third, page),
+        "apply" => arithmetic::apply_case(first, second, third, page),
+        "chain" => facts::chain_case(first, second, third, page),
+        "walks" => walks::walks_case(first, second, third, page),
+        "forget" => facts::forget_case(first, second, third, page),
+        "repeated" => layouts::repeated_case(first, second, third, page),
+        "write" => images::write_case(first, second, third, page),
+        "memory-sink" => objects::memory_sink_case(first, second, third, page),
+        _ => page.refuse(UNKNOWN),
     }
 }

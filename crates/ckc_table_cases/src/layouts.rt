@@ -2,102 +2,117 @@
 
 use crate::structures::{has_member, is_laid_out, structs_of};
 use ckc_base::Boxed;
-use ckc_case_lines::{Answer, CaseFault, put, word, words_of};
+use ckc_trials::Page;
 use ckc_types::{CType, Kind, Structs, align, offset, size};
-use std::alloc::Global;
 
 /// `struct | LETTERS`: the size of a structure with these members, that of an array of three, the alignment and the
 /// offset of each member.
-pub fn struct_case(alloc: Global, given: &[&str]) -> Answer {
-    let [letters] = given else {
-        return Err(CaseFault::Malformed("not struct | LETTERS | WANTED"));
-    };
-    let structs = structs_of(alloc, letters, 1)?;
-    let (bytes, step) = layout(&structs, &CType::Struct(1))?;
-    let three = u64::from(bytes) * 3;
-    let mut line = format!(in alloc; "{bytes} {three} {step}:")?;
+pub fn struct_case(letters: &str, page: &mut Page) {
+    let structs = structs_of(letters, 1, page);
+    let (bytes, step) = layout(&structs, &CType::Struct(1), page);
+    page.put_number(i64::from(bytes));
+    page.put_word("");
+    page.put_number(i64::from(bytes) * 3);
+    page.put_word("");
+    page.put_number(i64::from(step));
+    page.put(":");
     let mut name: u32 = 5;
     for _ in letters.as_bytes() {
-        put_offset(&structs, name, &mut line)?;
+        put_offset(&structs, name, page);
         name = name.wrapping_add(1);
     }
-    Ok(line)
 }
 
 /// `repeated | LETTERS | TIMES | NAME`: the size and the alignment of a structure with these members as often as is
 /// said, and the offset of the member with this name, from 5 for the first.
-pub fn repeated_case(alloc: Global, given: &[&str]) -> Answer {
-    let [letters, times, name] = given else {
-        return Err(CaseFault::Malformed("not repeated | LETTERS | TIMES | NAME | WANTED"));
-    };
-    let structs = structs_of(alloc, letters, word(times)?)?;
-    let (bytes, step) = layout(&structs, &CType::Struct(1))?;
-    let mut line = format!(in alloc; "{bytes} {step}:")?;
-    put_offset(&structs, word(name)?, &mut line)?;
-    Ok(line)
+pub fn repeated_case(letters: &str, times: &str, name: &str, page: &mut Page) {
+    let structs = structs_of(letters, page.word_of(times), page);
+    put_layout(&structs, &CType::Struct(1), page);
+    page.put(":");
+    put_offset(&structs, page.word_of(name), page);
 }
 
 /// `type | BASE KIND..`: the size and the alignment of a type: a base, and for each kind a pointer of that kind to what
 /// stands before it. `struct0` has two of `unsigned` and a `char`, `struct1` a `char`.
-pub fn type_case(alloc: Global, given: &[&str]) -> Answer {
-    let [text] = given else {
-        return Err(CaseFault::Malformed("not type | BASE KIND.. | WANTED"));
-    };
-    let structs = structs_of(alloc, "c", 1)?;
-    let t = type_of(alloc, text)?;
-    let (bytes, step) = layout(&structs, &t)?;
-    Ok(format!(in alloc; "{bytes} {step}")?)
+pub fn type_case(text: &str, page: &mut Page) {
+    let structs = structs_of("c", 1, page);
+    let t = type_of(text, page);
+    put_layout(&structs, &t, page);
 }
 
-fn type_of(alloc: Global, text: &str) -> Result<CType, CaseFault> {
-    let words = words_of(alloc, text)?;
-    match words.as_slice() {
-        [base] => base_of(base),
+fn type_of(text: &str, page: &mut Page) -> CType {
+    match page.words_of(text).as_slice() {
+        [base] => base_of(base, page),
         [base, kind] => {
-            let kind = kind_of(kind)?;
-            let to = Boxed::new(alloc, base_of(base)?)?;
-            Ok(CType::Pointer(kind, to))
+            let kind = kind_of(kind, page);
+            let to = base_of(base, page);
+            pointer(kind, to, page)
         }
-        _ => Err(CaseFault::Malformed("not BASE or BASE KIND")),
+        _ => base_of(text, page),
     }
 }
 
-fn base_of(name: &str) -> Result<CType, CaseFault> {
-    match name {
-        "int" => Ok(CType::Int),
-        "unsigned" => Ok(CType::Unsigned),
-        "char" => Ok(CType::Char),
-        "void" => Ok(CType::Void),
-        "struct0" => Ok(CType::Struct(0)),
-        "struct1" => Ok(CType::Struct(1)),
-        _ => Err(CaseFault::Malformed("an unknown base")),
+/// A pointer.
+pub fn pointer(kind: Kind, to: CType, page: &mut Page) -> CType {
+    match Boxed::new(page.alloc(), to) {
+        Ok(to) => CType::Pointer(kind, to),
+        Err(_) => {
+            page.lacks_memory();
+            CType::Void
+        }
     }
 }
 
-fn kind_of(name: &str) -> Result<Kind, CaseFault> {
+fn base_of(name: &str, page: &mut Page) -> CType {
     match name {
-        "Raw" => Ok(Kind::Raw),
-        "One" => Ok(Kind::One),
-        "Arr" => Ok(Kind::Arr),
-        "Nt" => Ok(Kind::Nt),
-        _ => Err(CaseFault::Malformed("an unknown kind of pointer")),
+        "int" => CType::Int,
+        "unsigned" => CType::Unsigned,
+        "char" => CType::Char,
+        "void" => CType::Void,
+        "struct0" => CType::Struct(0),
+        "struct1" => CType::Struct(1),
+        _ => {
+            page.refuse("an unknown base");
+            CType::Void
+        }
+    }
+}
+
+fn kind_of(name: &str, page: &mut Page) -> Kind {
+    match name {
+        "Raw" => Kind::Raw,
+        "One" => Kind::One,
+        "Arr" => Kind::Arr,
+        "Nt" => Kind::Nt,
+        _ => {
+            page.refuse("an unknown kind of pointer");
+            Kind::Raw
+        }
     }
 }
 
 /// The size and the alignment of a type that has a layout.
-fn layout(structs: &Structs, t: &CType) -> Result<(u32, u32), CaseFault> {
-    if !is_laid_out(structs, t) {
-        return Err(CaseFault::Malformed("no layout"));
+fn layout(structs: &Structs, t: &CType, page: &mut Page) -> (u32, u32) {
+    if is_laid_out(structs, t) {
+        return (size(structs, t), align(structs, t));
     }
-    Ok((size(structs, t), align(structs, t)))
+    page.refuse("no layout");
+    (0, 0)
 }
 
-/// Puts the offset of a member of the second structure.
-fn put_offset(structs: &Structs, name: u32, line: &mut String) -> Result<(), CaseFault> {
-    if !has_member(structs, 1, name) {
-        return Err(CaseFault::Malformed("no such member"));
+fn put_layout(structs: &Structs, t: &CType, page: &mut Page) {
+    let (bytes, step) = layout(structs, t, page);
+    page.put_number(i64::from(bytes));
+    page.put_word("");
+    page.put_number(i64::from(step));
+}
+
+/// Writes the offset of a member of the second structure.
+fn put_offset(structs: &Structs, name: u32, page: &mut Page) {
+    page.put_word("");
+    if has_member(structs, 1, name) {
+        page.put_number(i64::from(offset(structs, 1, name)));
+    } else {
+        page.refuse("no such member");
     }
-    let at = offset(structs, 1, name);
-    write!(line, " {at}")?;
-    Ok(())
 }

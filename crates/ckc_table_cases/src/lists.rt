@@ -1,78 +1,75 @@
 //! Lists and boxes.
 
 use ckc_base::{Boxed, Bytes, Seq};
-use ckc_case_lines::{Answer, CaseFault, put, word, words_of};
-use std::alloc::{AllocError, Global};
+use ckc_trials::Page;
 
 /// `list | TEXT | STEP..`: what the steps give on the list of the bytes of the text: `+C` pushes the byte C, `-` pops, `@N`
 /// gets the byte N, `len` counts, `slice` shows all bytes. At the end come the bytes of the list's `Vec`.
-pub fn list_case(alloc: Global, given: &[&str]) -> Answer {
-    let [text, steps] = given else {
-        return Err(CaseFault::Malformed("not list | TEXT | STEP.. | WANTED"));
-    };
-    let steps = words_of(alloc, steps)?;
-    let mut bytes: Bytes = Seq::from_slice(alloc, text.as_bytes())?;
-    let mut came = String::new(alloc);
-    for step in steps.as_slice() {
-        do_step(&mut bytes, step, &mut came)?;
+pub fn list_case(text: &str, steps: &str, page: &mut Page) {
+    match Seq::from_slice(page.alloc(), text.as_bytes()) {
+        Ok(bytes) => put_steps(bytes, steps, page),
+        Err(_) => page.lacks_memory(),
     }
-    put_bytes(&mut came, bytes.into_vec().as_slice())?;
-    Ok(came)
 }
 
-fn do_step(bytes: &mut Bytes, step: &str, came: &mut String) -> Result<(), CaseFault> {
+fn put_steps(mut bytes: Bytes, steps: &str, page: &mut Page) {
+    for step in page.words_of(steps).as_slice() {
+        do_step(&mut bytes, step, page);
+    }
+    put_last(bytes.into_vec().as_slice(), page);
+}
+
+fn do_step(bytes: &mut Bytes, step: &str, page: &mut Page) {
     match step.as_bytes() {
-        [b'+', byte] => bytes.push(*byte)?,
-        [b'-'] => put_byte(came, bytes.pop())?,
+        [b'+', byte] => {
+            if bytes.push(*byte).is_err() {
+                page.lacks_memory();
+            }
+        }
+        [b'-'] => put_byte(bytes.pop(), page),
         [b'@', digit] => {
             let at = usize::from(digit.wrapping_sub(b'0'));
-            put_byte(came, bytes.get(at).copied())?;
+            put_byte(bytes.get(at).copied(), page);
         }
-        b"len" => put_length(came, bytes.len())?,
-        b"slice" => put_bytes(came, bytes.as_slice())?,
-        _ => return Err(CaseFault::Malformed("an unknown step")),
+        b"len" => {
+            page.put_word("");
+            page.put_shown(&bytes.len());
+        }
+        b"slice" => put_last(bytes.as_slice(), page),
+        _ => page.refuse("an unknown step"),
     }
-    Ok(())
 }
 
-fn put_byte(came: &mut String, byte: Option<u8>) -> Result<(), AllocError> {
+fn put_byte(byte: Option<u8>, page: &mut Page) {
     match byte {
-        Some(b) => put_bytes(came, [b].as_slice()),
-        None => put(came, "none"),
+        Some(byte) => put_last(&[byte], page),
+        None => page.put_word("none"),
     }
 }
 
-fn put_length(came: &mut String, length: usize) -> Result<(), AllocError> {
-    put(came, "")?;
-    write!(came, "{length}")
-}
-
-fn put_bytes(came: &mut String, bytes: &[u8]) -> Result<(), AllocError> {
-    put(came, "")?;
-    for b in bytes {
-        came.push(char::from(*b))?;
-    }
-    Ok(())
+/// Writes bytes behind the others, with a blank in front.
+pub fn put_last(bytes: &[u8], page: &mut Page) {
+    page.put_word("");
+    page.put_bytes(bytes);
 }
 
 /// `empty`: whether a new list of words is empty, and what it pops.
-pub fn empty_case(alloc: Global, given: &[&str]) -> Answer {
-    if !given.is_empty() {
-        return Err(CaseFault::Malformed("not empty | WANTED"));
-    }
-    let mut list: Seq<u32> = Seq::new(alloc);
-    let is_empty = list.is_empty();
-    let last = list.pop();
-    Ok(format!(in alloc; "{is_empty} {last:?}")?)
+pub fn empty_case(page: &mut Page) {
+    let mut list: Seq<u32> = Seq::new(page.alloc());
+    page.put_shown(&list.is_empty());
+    page.put_word("");
+    page.put_debug(&list.pop());
 }
 
 /// `boxed | WORD`: what a box shows, and what it gives back.
-pub fn boxed_case(alloc: Global, given: &[&str]) -> Answer {
-    let [text] = given else {
-        return Err(CaseFault::Malformed("not boxed | WORD | WANTED"));
-    };
-    let boxed = Boxed::new(alloc, word(text)?)?;
-    let shown = *boxed.get();
-    let inner = boxed.into_inner();
-    Ok(format!(in alloc; "{shown} {inner}")?)
+pub fn boxed_case(word: &str, page: &mut Page) {
+    let word = page.word_of(word);
+    match Boxed::new(page.alloc(), word) {
+        Ok(boxed) => {
+            page.put_number(i64::from(*boxed.get()));
+            page.put_word("");
+            page.put_number(i64::from(boxed.into_inner()));
+        }
+        Err(_) => page.lacks_memory(),
+    }
 }

@@ -6,49 +6,59 @@ ghost use Rattle.ckc_types.specs.Scalars.{IsScalar};
 ghost use Rattle.ckc_types.specs.Layout.{members_of};
 ghost use Rattle.ckc_types.specs.LaidOut.{IsStruct, IsLaidOut, HasMember};
 
-use ckc_base::{Boxed, Seq};
-use ckc_case_lines::CaseFault;
+use crate::layouts::pointer;
+use ckc_base::Seq;
+use ckc_trials::Page;
 use ckc_types::{CType, Kind, MemberBounds, MemberShape, StructShape, Structs};
-use std::alloc::{AllocError, Global};
 
 /// Two structures: the first has an `unsigned`, one more and a `char`, the second a member for each letter, named from 5
 /// up, as often as is said.
-pub fn structs_of(alloc: Global, letters: &str, times: u32) -> Result<Structs, CaseFault> {
+pub fn structs_of(letters: &str, times: u32, page: &mut Page) -> Structs {
     let mut structs = Structs {
-        shapes: Seq::new(alloc),
+        shapes: Seq::new(page.alloc()),
     };
-    add(alloc, &mut structs, b"uuc", 1)?;
-    add(alloc, &mut structs, letters.as_bytes(), times)?;
-    Ok(structs)
+    add(&mut structs, b"uuc", 1, page);
+    add(&mut structs, letters.as_bytes(), times, page);
+    structs
 }
 
-fn add(alloc: Global, structs: &mut Structs, letters: &[u8], times: u32) -> Result<(), CaseFault> {
-    let mut members = Seq::new(alloc);
+fn add(structs: &mut Structs, letters: &[u8], times: u32, page: &mut Page) {
+    let mut members = Seq::new(page.alloc());
     let mut name: u32 = 5;
     for _ in 0..times {
         for letter in letters {
-            members.push(member(alloc, name, *letter)?)?;
+            add_member(&mut members, name, *letter, page);
             name = name.wrapping_add(1);
         }
     }
-    structs.shapes.push(StructShape { members })?;
-    Ok(())
+    if structs.shapes.push(StructShape { members }).is_err() {
+        page.lacks_memory();
+    }
 }
 
 /// `c` is `char`, `u` is `unsigned`, `i` is `int` and `p` is a pointer.
-fn member(alloc: Global, name: u32, letter: u8) -> Result<MemberShape, CaseFault> {
+fn add_member(members: &mut Seq<MemberShape>, name: u32, letter: u8, page: &mut Page) {
     let ctype = match letter {
         b'c' => CType::Char,
         b'u' => CType::Unsigned,
         b'i' => CType::Int,
-        b'p' => CType::Pointer(Kind::Nt, Boxed::new(alloc, CType::Char)?),
-        _ => return Err(CaseFault::Malformed("an unknown letter")),
+        b'p' => pointer(Kind::Nt, CType::Char, page),
+        _ => {
+            page.refuse("an unknown letter");
+            CType::Void
+        }
     };
-    Ok(MemberShape {
-        name,
-        ctype,
-        bounds: MemberBounds::Nothing,
-    })
+    let bounds = MemberBounds::Nothing;
+    if members
+        .push(MemberShape {
+            name,
+            ctype,
+            bounds,
+        })
+        .is_err()
+    {
+        page.lacks_memory();
+    }
 }
 
 fn members_of(structs: &Structs, tag: u32) -> &[MemberShape]

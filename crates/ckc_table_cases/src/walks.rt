@@ -1,50 +1,38 @@
 //! Chains against a search that tries each walk over the facts.
 ghost use Rattle.std.specs.Prelude.{◌<◌};
 
-use crate::chains::says;
-use crate::facts::{add_one, no_facts, shown};
-use ckc_case_lines::{Answer, CaseFault, word};
+use crate::facts::{add_one, no_facts, put_facts, says};
 use ckc_linear::{Fact, Facts};
-use std::alloc::Global;
+use ckc_trials::Page;
 
 /// `walks | SETS | LEAST | MOST`: whether chains agree with the search over so many random sets of facts, and between
 /// LEAST and MOST questions have the answer yes.
-pub fn walks_case(alloc: Global, given: &[&str]) -> Answer {
-    let [sets, least, most] = given else {
-        return Err(CaseFault::Malformed("not walks | SETS | LEAST | MOST | WANTED"));
-    };
+pub fn walks_case(sets: &str, least: &str, most: &str, page: &mut Page) {
     let mut state = 1;
     let mut yes: u32 = 0;
-    for _ in 0..word(sets)? {
-        let facts = random_facts(alloc, &mut state)?;
-        match differing(alloc, &facts, &mut yes)? {
-            Some(f) => return differs(alloc, &facts, f),
-            None => {}
-        }
+    for _ in 0..page.word_of(sets) {
+        let facts = random_facts(&mut state, page);
+        yes = yes.saturating_add(entailed_by(&facts, page));
     }
-    if word(least)? < yes && yes < word(most)? {
-        Ok(String::from_str(alloc, "they agree")?)
+    if page.word_of(least) < yes && yes < page.word_of(most) {
+        page.put("they agree");
     } else {
-        Ok(format!(in alloc; "{yes} are entailed")?)
+        page.put_number(i64::from(yes));
+        page.put(" are entailed");
     }
-}
-
-fn differs(alloc: Global, facts: &Facts, f: Fact) -> Answer {
-    let list = shown(alloc, facts)?;
-    Ok(format!(in alloc; "{list}: they differ at {f:?}")?)
 }
 
 /// Up to six facts over two to four variables, with numbers from -4 to 4.
-fn random_facts(alloc: Global, state: &mut u64) -> Result<Facts, CaseFault> {
+fn random_facts(state: &mut u64, page: &mut Page) -> Facts {
     let vars = 2 + next(state, 3);
-    let mut facts = no_facts(alloc, vars)?;
+    let mut facts = no_facts(vars, page);
     for _ in 0..next(state, 7) {
         let x = next(state, vars);
         let y = next(state, vars);
         let c = i64::from(next(state, 9)) - 4;
-        add_one(&mut facts, Fact { x, y, c })?;
+        add_one(&mut facts, Fact { x, y, c }, page);
     }
-    Ok(facts)
+    facts
 }
 
 /// Numbers below `limit`, one after the other.
@@ -58,36 +46,33 @@ fn next(state: &mut u64, limit: u32) -> u32
     (*state >> 33) as u32 % limit
 }
 
-/// The first fact, with a number from -8 to 8, for which chains and the search differ. Counts those that are entailed.
-fn differing(alloc: Global, facts: &Facts, yes: &mut u32) -> Result<Option<Fact>, CaseFault> {
-    let mut row = vec![in alloc; 0; 2 * facts.vars as usize]?;
+/// How many facts with a number from -8 to 8 are entailed.
+fn entailed_by(facts: &Facts, page: &mut Page) -> u32 {
+    let mut yes: u32 = 0;
+    let mut row = Vec::new(page.alloc());
     for x in 0..facts.vars {
         for y in 0..facts.vars {
-            for c in 0..17 {
-                let f = Fact {
-                    x,
-                    y,
-                    c: i64::from(c) - 8,
-                };
-                let found = says(facts, f, &mut row)?;
-                if found
-                    != has_walk(
-                        facts.list.as_slice(),
-                        x,
-                        y,
-                        f.c,
-                        facts.vars.saturating_add(1),
-                    )
-                {
-                    return Ok(Some(f));
-                }
-                if found {
-                    *yes = yes.saturating_add(1);
+            for c in 0..17u8 {
+                let c = i64::from(c) - 8;
+                if is_entailed(facts, Fact { x, y, c }, &mut row, page) {
+                    yes = yes.saturating_add(1);
                 }
             }
         }
     }
-    Ok(None)
+    yes
+}
+
+/// Whether a fact is entailed by chains. Tells where the search differs.
+fn is_entailed(facts: &Facts, f: Fact, row: &mut Vec<i64>, page: &mut Page) -> bool {
+    let found = says(facts, f, 0, row, page);
+    let walks = facts.vars.saturating_add(1);
+    if found != has_walk(facts.list.as_slice(), f.x, f.y, f.c, walks) {
+        put_facts(facts, page);
+        page.put(": they differ at ");
+        page.put_debug(&f);
+    }
+    found
 }
 
 /// Whether some walk of at most `left` facts leads from x to y with a sum of at most c: each walk is tried.

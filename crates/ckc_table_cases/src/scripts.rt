@@ -2,7 +2,6 @@
 
 ghost use Rattle.std.specs.Prelude.{◌≤◌, length, IfOk};
 
-use ckc_case_lines::byte;
 use std::io;
 use std::io::{ErrorKind, Read, Write};
 
@@ -36,7 +35,7 @@ fn given(word: &str, buf: &mut [u8]) -> io::Result<usize>
 {
     let mut count = 0;
     for part in word.split('.') {
-        match byte(part) {
+        match part.parse::<u8>() {
             Ok(b) if count < buf.len() => {
                 buf[count] = b;
                 count += 1;
@@ -92,7 +91,7 @@ impl<'a> Write for ScriptedWriter<'a> {
 fn take(word: &str, buf: &[u8], taken: &mut Vec<u8>) -> io::Result<usize>
     ensures { IfOk result (λ count. count ≤ length buf.now) }
 {
-    match byte(word) {
+    match word.parse::<u8>() {
         Ok(most) => {
             let count = usize::from(most).min(buf.len());
             taken.extend_from_slice(&buf[..count])?;
