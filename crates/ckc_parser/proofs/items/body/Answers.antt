@@ -1,7 +1,6 @@
 use Rattle.std.proofs.Common.{refl, sym, ap, ◌∙◌, ◌∷◌, []}
-use Rattle.std.specs.Prelude.{Some, None}
+use Rattle.std.specs.Prelude.{Some}
 use Rattle.ckc_syntax.specs.Spelled.{spelled}
-use Rattle.ckc_syntax.specs.declared.tree.Act.TheVariants as act
 use Rattle.ckc_grammar.specs.Values.{made}
 use Rattle.ckc_grammar.specs.Marked.{ahead}
 use Rattle.ckc_grammar.specs.Reading.{pick, kind_of}
@@ -10,7 +9,6 @@ use Rattle.ckc_expressions.proofs.Exits.{exit}
 use Rattle.ckc_grammar.proofs.Defaults.{usual}
 use Rattle.ckc_grammar.specs.Grammar as g
 use Rattle.ckc_grammar.specs.Values as v
-use Rattle.ckc_grammar.specs.Trees as trees
 use Rattle.ckc_parser.proofs.items.body.Goals as goal
 
 pub returns-in_err-mark : goal.returns-in_err-mark

@@ -1,6 +1,5 @@
 use Rattle.std.proofs.Common.{refl, ap, ◌∷◌, [], ◌++◌}
 use Rattle.ckc_grammar.proofs.Steps.{turned}
-use Rattle.ckc_expressions.proofs.Exits.{exit}
 use Rattle.ckc_parser.proofs.Making.{if_taken}
 use Rattle.ckc_grammar.proofs.Shrinks.{fewer}
 use Rattle.ckc_grammar.specs.Values as v

@@ -1,4 +1,4 @@
-use Rattle.std.proofs.Common.{sym, ◌∷◌, []}
+use Rattle.std.proofs.Common.{◌∷◌, []}
 use Rattle.ckc_syntax.specs.Spelled.{spelled}
 use Rattle.ckc_expressions.proofs.Exits.{exit}
 use Rattle.ckc_parser.proofs.Making.{finished}
