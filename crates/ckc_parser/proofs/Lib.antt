@@ -1,4 +1,5 @@
 pub mod Answering
+pub mod Making
 pub mod Once
 pub mod Top
 pub mod Turns

@@ -1,3 +1,4 @@
+pub mod Parts
 pub mod Phase
 pub mod Text
 pub mod Turns

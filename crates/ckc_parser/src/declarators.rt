@@ -210,46 +210,15 @@ pub fn params<'a>(
     ensures gives { Gives (λ y. v.as_decls y) (g.n g.params) (ahead reader.old) result
         (ahead reader.new) }
 {
-    match reader.kind() {
-        Kind::RoundClose => no_params(reader, alloc),
-        Kind::Void => void_params(reader, alloc),
-        _ => some_params(reader, alloc),
+    if let Kind::RoundClose = reader.kind() {
+        let close = reader.take(Kind::RoundClose)?;
+        return Ok(Seq::new(alloc));
     }
-}
-
-/// `)`.
-fn no_params<'a>(
-    reader: &mut Reader<'a>,
-    alloc: Global,
-) -> Result<Seq<Decl<Spelling<'a>, ()>>, Stop>
-    ensures reads { Reads (g.right g.NoParams) (λ x vs. v.as_decls (v.made g.NoParams vs) ≡ x)
-        (ahead reader.old) result (ahead reader.new) }
-{
-    let close = reader.take(Kind::RoundClose)?;
-    Ok(Seq::new(alloc))
-}
-
-/// `void )`.
-fn void_params<'a>(
-    reader: &mut Reader<'a>,
-    alloc: Global,
-) -> Result<Seq<Decl<Spelling<'a>, ()>>, Stop>
-    ensures reads { Reads (g.right g.VoidParams) (λ x vs. v.as_decls (v.made g.VoidParams vs) ≡ x)
-        (ahead reader.old) result (ahead reader.new) }
-{
-    let word = reader.take(Kind::Void)?;
-    let close = reader.take(Kind::RoundClose)?;
-    Ok(Seq::new(alloc))
-}
-
-/// At least one parameter.
-fn some_params<'a>(
-    reader: &mut Reader<'a>,
-    alloc: Global,
-) -> Result<Seq<Decl<Spelling<'a>, ()>>, Stop>
-    ensures reads { Reads (g.right g.Params) (λ x vs. v.as_decls (v.made g.Params vs) ≡ x)
-        (ahead reader.old) result (ahead reader.new) }
-{
+    if let Kind::Void = reader.kind() {
+        let word = reader.take(Kind::Void)?;
+        let end = reader.take(Kind::RoundClose)?;
+        return Ok(Seq::new(alloc));
+    }
     let first = param(reader, alloc)?;
     more_params(reader, alloc, first)
 }

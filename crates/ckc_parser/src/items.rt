@@ -5,19 +5,20 @@ ghost use Rattle.ckc_grammar.specs.Grammar as g;
 ghost use Rattle.ckc_grammar.specs.Trees as trees;
 ghost use Rattle.ckc_grammar.specs.Values as v;
 ghost use Rattle.ckc_grammar.specs.Forms.{is_close, has_more};
+ghost use Rattle.ckc_parser.specs.Parts.{Made};
 ghost use Rattle.ckc_parser.specs.Turns.{IsItem};
 ghost use Rattle.ckc_grammar.specs.Reading.{kind_of};
 ghost use Rattle.ckc_grammar.specs.Marked.{ahead, remaining, Answered, Gives, Reads};
 
 use crate::declarators::{member, members, object_rest, objects, params};
-use crate::statements::{block_items, mode};
+use crate::statements::{block, mode};
 use ckc_base::{Boxed, Mode, Seq};
 use ckc_expressions::{declared_limits, scalar, starred, type_name};
 use ckc_grammar::{
     CType, Class, Kind, Reader, Statement, Stop, append, copied, directive_of, function, one,
-    statement, struct_type,
+    struct_type,
 };
-use ckc_syntax::{Act, Decl, Item, Spelling, Token, TypeTree};
+use ckc_syntax::{Decl, Item, Spelling, Token, TypeTree};
 use std::alloc::Global;
 
 /// The parameters of a function, the bounds of its result, and its body or `;`.
@@ -45,29 +46,11 @@ fn body<'a>(reader: &mut Reader<'a>, alloc: Global) -> Result<Option<Statement<'
     ensures gives { Gives (λ y. v.as_part y) (g.n g.body) (ahead reader.old) result
         (ahead reader.new) }
 {
-    match reader.kind() {
-        Kind::Semicolon => no_body(reader),
-        _ => some_body(reader, alloc),
+    if let Kind::Semicolon = reader.kind() {
+        let mark = reader.take(Kind::Semicolon)?;
+        return Ok(None);
     }
-}
-
-/// `;`.
-fn no_body<'a>(reader: &mut Reader<'a>) -> Result<Option<Statement<'a>>, Stop>
-    ensures reads { Reads (g.right g.Prototype) (λ x vs. v.as_part (v.made g.Prototype vs) ≡ x)
-        (ahead reader.old) result (ahead reader.new) }
-{
-    let end = reader.take(Kind::Semicolon)?;
-    Ok(None)
-}
-
-/// A body.
-fn some_body<'a>(reader: &mut Reader<'a>, alloc: Global) -> Result<Option<Statement<'a>>, Stop>
-    ensures reads { Reads (g.right g.Body) (λ x vs. v.as_part (v.made g.Body vs) ≡ x)
-        (ahead reader.old) result (ahead reader.new) }
-{
-    let open = reader.take(Kind::CurlyOpen)?;
-    let all = block_items(reader, alloc)?;
-    let whole = statement(alloc, Act::Block(None, all), open.pos)?;
+    let whole = block(reader, alloc)?;
     Ok(Some(whole))
 }
 
@@ -76,20 +59,12 @@ fn result_type<'a>(reader: &mut Reader<'a>, alloc: Global) -> Result<CType<'a>, 
     ensures gives { Gives (λ y. v.as_type y) (g.n g.result_type) (ahead reader.old) result
         (ahead reader.new) }
 {
-    match reader.kind() {
-        Kind::Void => void_result(reader, alloc),
-        _ => type_name(reader, alloc),
+    if let Kind::Void = reader.kind() {
+        let word = reader.take(Kind::Void)?;
+        let whole = Boxed::new(alloc, TypeTree::Void)?;
+        return Ok(whole);
     }
-}
-
-/// `void`.
-fn void_result<'a>(reader: &mut Reader<'a>, alloc: Global) -> Result<CType<'a>, Stop>
-    ensures reads { Reads (g.right g.VoidResult) (λ x vs. v.as_type (v.made g.VoidResult vs) ≡ x)
-        (ahead reader.old) result (ahead reader.new) }
-{
-    let word = reader.take(Kind::Void)?;
-    let whole = Boxed::new(alloc, TypeTree::Void)?;
-    Ok(whole)
+    type_name(reader, alloc)
 }
 
 /// What goes on behind `struct` and a name.
@@ -119,8 +94,22 @@ fn tag<'a>(
         result (ahead reader.new) }
 {
     let end = reader.take(Kind::Semicolon)?;
-    let all = one(alloc, Item::Tag(Spelling::new(name.text), name.pos))?;
-    Ok(all)
+    one_item(reader, alloc, Item::Tag(Spelling::new(name.text), name.pos))
+}
+
+/// A list of one item. The reader stands first so that lifetimes are counted as in the callers, which is proved
+/// sooner.
+fn one_item<'a>(
+    reader: &Reader<'a>,
+    alloc: Global,
+    item: Item<Spelling<'a>, ()>,
+) -> Result<Seq<Item<Spelling<'a>, ()>>, Stop>
+    ensures { Made (λ all. item.entry ∷ [] ≡ all) result }
+{
+    match one(alloc, item) {
+        Ok(all) => Ok(all),
+        Err(_) => Err(Stop::Memory),
+    }
 }
 
 /// The members of a structure.
@@ -138,11 +127,11 @@ fn struct_members<'a>(
     let members = members(reader, alloc, first)?;
     let close = reader.take(Kind::CurlyClose)?;
     let end = reader.take(Kind::Semicolon)?;
-    let all = one(
+    one_item(
+        reader,
         alloc,
         Item::Struct(Spelling::new(name.text), members, name.pos),
-    )?;
-    Ok(all)
+    )
 }
 
 /// What is declared with a structure as its base.
@@ -151,9 +140,8 @@ fn structured<'a>(
     alloc: Global,
     name: Token<'a>,
 ) -> Result<Seq<Item<Spelling<'a>, ()>>, Stop>
-    ensures reads { Reads (g.right g.Structured)
-        (λ x vs. v.as_items_of_name (v.made g.Structured vs) (spelled name.entry) ≡ x)
-        (ahead reader.old) result (ahead reader.new) }
+    ensures gives { Gives (λ y. v.as_items_of_base y (v.struct_type (spelled name.entry)))
+        (g.n g.declarators) (ahead reader.old) result (ahead reader.new) }
 {
     let base = struct_type(alloc, name)?;
     declarators(reader, alloc, base)
@@ -277,8 +265,7 @@ fn static_struct<'a>(
 {
     let word = reader.take(Kind::Struct)?;
     let name = reader.take_any(Class::Name)?;
-    let base = struct_type(alloc, name)?;
-    declarators(reader, alloc, base)
+    structured(reader, alloc, name)
 }
 
 /// A directive.
@@ -292,8 +279,7 @@ fn directive<'a>(
     ensures fewer { IfOk result (λ x. remaining reader.new < remaining reader.old) }
 {
     let token = reader.take(Kind::Directive)?;
-    let all = one(alloc, Item::Directive(directive_of(token.kind)))?;
-    Ok(all)
+    one_item(reader, alloc, Item::Directive(directive_of(token.kind)))
 }
 
 /// What begins with `struct`.
@@ -308,8 +294,7 @@ fn struct_item<'a>(
 {
     let word = reader.take(Kind::Struct)?;
     let name = reader.take_any(Class::Name)?;
-    let all = structure(reader, alloc, name)?;
-    Ok(all)
+    structure(reader, alloc, name)
 }
 
 /// What begins with `static`.
@@ -323,8 +308,7 @@ fn static_item<'a>(
     ensures fewer { IfOk result (λ x. remaining reader.new < remaining reader.old) }
 {
     let word = reader.take(Kind::Static)?;
-    let all = declaration(reader, alloc)?;
-    Ok(all)
+    declaration(reader, alloc)
 }
 
 /// What is declared otherwise.
@@ -337,8 +321,7 @@ fn declared_item<'a>(
         ≡ x ++ v.as_items y) (ahead reader.old) result (ahead reader.new) }
     ensures fewer { IfOk result (λ x. remaining reader.new < remaining reader.old) }
 {
-    let all = declared(reader, alloc)?;
-    Ok(all)
+    declared(reader, alloc)
 }
 
 /// One item of a text, where there is one more.

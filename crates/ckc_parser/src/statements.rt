@@ -6,6 +6,7 @@ ghost use Rattle.ckc_grammar.specs.Trees as trees;
 ghost use Rattle.ckc_grammar.specs.Values as v;
 ghost use Rattle.ckc_grammar.specs.Reading.{kind_of};
 ghost use Rattle.ckc_grammar.specs.Marked.{ahead, remaining, Answered, Gives, Reads};
+ghost use Rattle.ckc_parser.specs.Parts.{Made, Assigned, AssignEnded, Blocked};
 
 use crate::declarators::{local, locals};
 use ckc_base::{Boxed, Mode, Pos, Seq};
@@ -59,21 +60,18 @@ fn moded_block<'a>(reader: &mut Reader<'a>, alloc: Global) -> Result<Statement<'
     let mode = mode(reader)?;
     let open = reader.take(Kind::CurlyOpen)?;
     let all = block_items(reader, alloc)?;
-    let whole = statement(alloc, Act::Block(Some(mode.0), all), mode.1)?;
-    Ok(whole)
+    statement_at(reader, alloc, Act::Block(Some(mode.0), all), mode.1)
 }
 
 /// A block (ISO C11, 6.8.2).
 #[cycle(stmt)]
-fn block<'a>(reader: &mut Reader<'a>, alloc: Global) -> Result<Statement<'a>, Stop>
-    ensures reads { Reads (g.right g.Block) (λ x vs. v.as_stmt (v.made g.Block vs) ≡ x)
-        (ahead reader.old) result (ahead reader.new) }
+pub fn block<'a>(reader: &mut Reader<'a>, alloc: Global) -> Result<Statement<'a>, Stop>
+    ensures reads { Blocked (ahead reader.old) result (ahead reader.new) }
     ensures fewer { remaining reader.new ≤ remaining reader.old }
 {
     let open = reader.take(Kind::CurlyOpen)?;
     let all = block_items(reader, alloc)?;
-    let whole = statement(alloc, Act::Block(None, all), open.pos)?;
-    Ok(whole)
+    statement_at(reader, alloc, Act::Block(None, all), open.pos)
 }
 
 /// The empty statement.
@@ -83,8 +81,7 @@ fn empty_stmt<'a>(reader: &mut Reader<'a>, alloc: Global) -> Result<Statement<'a
     ensures fewer { remaining reader.new ≤ remaining reader.old }
 {
     let mark = reader.take(Kind::Semicolon)?;
-    let whole = statement(alloc, Act::Empty, mark.pos)?;
-    Ok(whole)
+    statement_at(reader, alloc, Act::Empty, mark.pos)
 }
 
 /// `if` (ISO C11, 6.8.4.1).
@@ -98,8 +95,7 @@ fn if_stmt<'a>(reader: &mut Reader<'a>, alloc: Global) -> Result<Statement<'a>, 
     let condition = in_parentheses(reader, alloc)?;
     let body = stmt(reader, alloc)?;
     let other = otherwise(reader, alloc)?;
-    let whole = statement(alloc, Act::If(condition, body, other), mark.pos)?;
-    Ok(whole)
+    statement_at(reader, alloc, Act::If(condition, body, other), mark.pos)
 }
 
 /// The `else` of the nearest `if`, where there is one.
@@ -109,22 +105,12 @@ fn otherwise<'a>(reader: &mut Reader<'a>, alloc: Global) -> Result<Option<Statem
         (ahead reader.new) }
     ensures fewer { remaining reader.new ≤ remaining reader.old }
 {
-    match reader.kind() {
-        Kind::Else => else_part(reader, alloc),
-        _ => Ok(None),
+    if let Kind::Else = reader.kind() {
+        let mark = reader.take(Kind::Else)?;
+        let body = stmt(reader, alloc)?;
+        return Ok(Some(body));
     }
-}
-
-/// `else` and its statement.
-#[cycle(stmt)]
-fn else_part<'a>(reader: &mut Reader<'a>, alloc: Global) -> Result<Option<Statement<'a>>, Stop>
-    ensures reads { Reads (g.right g.Else) (λ x vs. v.as_part (v.made g.Else vs) ≡ x)
-        (ahead reader.old) result (ahead reader.new) }
-    ensures fewer { remaining reader.new ≤ remaining reader.old }
-{
-    let mark = reader.take(Kind::Else)?;
-    let body = stmt(reader, alloc)?;
-    Ok(Some(body))
+    Ok(None)
 }
 
 /// `while` (ISO C11, 6.8.5.1).
@@ -137,8 +123,7 @@ fn while_stmt<'a>(reader: &mut Reader<'a>, alloc: Global) -> Result<Statement<'a
     let mark = reader.take(Kind::While)?;
     let condition = in_parentheses(reader, alloc)?;
     let body = stmt(reader, alloc)?;
-    let whole = statement(alloc, Act::While(condition, body), mark.pos)?;
-    Ok(whole)
+    statement_at(reader, alloc, Act::While(condition, body), mark.pos)
 }
 
 /// `for` (ISO C11, 6.8.5.3).
@@ -154,8 +139,12 @@ fn for_stmt<'a>(reader: &mut Reader<'a>, alloc: Global) -> Result<Statement<'a>,
     let condition = condition(reader, alloc)?;
     let step = for_step(reader, alloc)?;
     let body = stmt(reader, alloc)?;
-    let whole = statement(alloc, Act::For(start, condition, step, body), mark.pos)?;
-    Ok(whole)
+    statement_at(
+        reader,
+        alloc,
+        Act::For(start, condition, step, body),
+        mark.pos,
+    )
 }
 
 /// `return` (ISO C11, 6.8.6.4).
@@ -166,8 +155,7 @@ fn return_stmt<'a>(reader: &mut Reader<'a>, alloc: Global) -> Result<Statement<'
 {
     let mark = reader.take(Kind::Return)?;
     let value = condition(reader, alloc)?;
-    let whole = statement(alloc, Act::Return(value), mark.pos)?;
-    Ok(whole)
+    statement_at(reader, alloc, Act::Return(value), mark.pos)
 }
 
 /// `break`.
@@ -177,9 +165,7 @@ fn break_stmt<'a>(reader: &mut Reader<'a>, alloc: Global) -> Result<Statement<'a
     ensures fewer { remaining reader.new ≤ remaining reader.old }
 {
     let mark = reader.take(Kind::Break)?;
-    let end = reader.take(Kind::Semicolon)?;
-    let whole = statement(alloc, Act::Break, mark.pos)?;
-    Ok(whole)
+    ended(reader, alloc, Act::Break, mark.pos)
 }
 
 /// `continue`.
@@ -189,9 +175,7 @@ fn continue_stmt<'a>(reader: &mut Reader<'a>, alloc: Global) -> Result<Statement
     ensures fewer { remaining reader.new ≤ remaining reader.old }
 {
     let mark = reader.take(Kind::Continue)?;
-    let end = reader.take(Kind::Semicolon)?;
-    let whole = statement(alloc, Act::Continue, mark.pos)?;
-    Ok(whole)
+    ended(reader, alloc, Act::Continue, mark.pos)
 }
 
 /// `_Dynamic_check`.
@@ -202,9 +186,7 @@ fn check_stmt<'a>(reader: &mut Reader<'a>, alloc: Global) -> Result<Statement<'a
 {
     let mark = reader.take(Kind::Check)?;
     let condition = in_parentheses(reader, alloc)?;
-    let end = reader.take(Kind::Semicolon)?;
-    let whole = statement(alloc, Act::Check(condition), mark.pos)?;
-    Ok(whole)
+    ended(reader, alloc, Act::Check(condition), mark.pos)
 }
 
 /// An assignment whose target begins with no name.
@@ -214,11 +196,64 @@ fn assign_stmt<'a>(reader: &mut Reader<'a>, alloc: Global) -> Result<Statement<'
     ensures fewer { remaining reader.new ≤ remaining reader.old }
 {
     let target = first(reader, alloc)?;
+    assigned(reader, alloc, target)
+}
+
+/// An assignment behind its target.
+fn assigned<'a>(
+    reader: &mut Reader<'a>,
+    alloc: Global,
+    target: Expression<'a>,
+) -> Result<Statement<'a>, Stop>
+    ensures reads { Assigned target.entry (ahead reader.old) result (ahead reader.new) }
+    ensures fewer { remaining reader.new ≤ remaining reader.old }
+{
     let equals = reader.take(Kind::Equals)?;
     let value = value(reader, alloc)?;
+    ended(reader, alloc, Act::Assign(target, value), equals.pos)
+}
+
+/// A whole assignment, and the `;` behind it.
+fn assign_ended<'a>(reader: &mut Reader<'a>, alloc: Global) -> Result<Statement<'a>, Stop>
+    ensures reads { AssignEnded (ahead reader.old) result (ahead reader.new) }
+    ensures fewer { MatchResult result (λ x. remaining reader.new < remaining reader.old)
+        (λ e. remaining reader.new ≤ remaining reader.old) }
+{
+    let whole = assign(reader, alloc)?;
     let end = reader.take(Kind::Semicolon)?;
-    let whole = statement(alloc, Act::Assign(target, value), equals.pos)?;
     Ok(whole)
+}
+
+/// A statement, and the `;` behind it.
+fn ended<'a>(
+    reader: &mut Reader<'a>,
+    alloc: Global,
+    body: Act<Spelling<'a>, ()>,
+    pos: Pos,
+) -> Result<Statement<'a>, Stop>
+    ensures gives { Gives (λ y. trees.stmt_at body.entry pos) (g.k Kind.Semicolon)
+        (ahead reader.old) result (ahead reader.new) }
+    ensures fewer { remaining reader.new ≤ remaining reader.old }
+{
+    let whole = statement(alloc, body, pos)?;
+    let end = reader.take(Kind::Semicolon)?;
+    Ok(whole)
+}
+
+/// A statement at a place. The reader stands first so that lifetimes are counted as in the callers, which is proved
+/// sooner.
+fn statement_at<'a>(
+    reader: &Reader<'a>,
+    alloc: Global,
+    body: Act<Spelling<'a>, ()>,
+    pos: Pos,
+) -> Result<Statement<'a>, Stop>
+    ensures { Made (λ whole. trees.stmt_at body.entry pos ≡ whole) result }
+{
+    match statement(alloc, body, pos) {
+        Ok(whole) => Ok(whole),
+        Err(_) => Err(Stop::Memory),
+    }
 }
 
 /// A call or an assignment that begins with a name but `calloc`.
@@ -270,10 +305,8 @@ fn call_stmt<'a>(
 {
     let open = reader.take(Kind::RoundOpen)?;
     let all = arguments(reader, alloc)?;
-    let end = reader.take(Kind::Semicolon)?;
     let call = called(alloc, name, all)?;
-    let whole = statement(alloc, Act::Call(call), name.pos)?;
-    Ok(whole)
+    ended(reader, alloc, Act::Call(call), name.pos)
 }
 
 /// An assignment, behind the name that its target begins with.
@@ -289,11 +322,7 @@ fn named_assign<'a>(
 {
     let start = named(alloc, name)?;
     let target = posts(reader, alloc, start)?;
-    let equals = reader.take(Kind::Equals)?;
-    let value = value(reader, alloc)?;
-    let end = reader.take(Kind::Semicolon)?;
-    let whole = statement(alloc, Act::Assign(target, value), equals.pos)?;
-    Ok(whole)
+    assigned(reader, alloc, target)
 }
 
 /// What goes on behind `calloc` that begins a statement.
@@ -325,9 +354,7 @@ fn calloc_type_stmt<'a>(
 {
     let mark = reader.take(Kind::Less)?;
     let call = allocation(reader, alloc, name)?;
-    let end = reader.take(Kind::Semicolon)?;
-    let whole = statement(alloc, Act::Call(call), name.pos)?;
-    Ok(whole)
+    ended(reader, alloc, Act::Call(call), name.pos)
 }
 
 /// An expression that may be left out, and the `;` behind it.
@@ -336,31 +363,10 @@ fn condition<'a>(reader: &mut Reader<'a>, alloc: Global) -> Result<Option<Expres
         (ahead reader.new) }
     ensures fewer { remaining reader.new ≤ remaining reader.old }
 {
-    match reader.kind() {
-        Kind::Semicolon => no_condition(reader),
-        _ => some_condition(reader, alloc),
+    if let Kind::Semicolon = reader.kind() {
+        let mark = reader.take(Kind::Semicolon)?;
+        return Ok(None);
     }
-}
-
-/// `;`.
-fn no_condition<'a>(reader: &mut Reader<'a>) -> Result<Option<Expression<'a>>, Stop>
-    ensures reads { Reads (g.right g.NoCondition) (λ x vs. v.as_value (v.made g.NoCondition vs) ≡ x)
-        (ahead reader.old) result (ahead reader.new) }
-    ensures fewer { remaining reader.new ≤ remaining reader.old }
-{
-    let end = reader.take(Kind::Semicolon)?;
-    Ok(None)
-}
-
-/// An expression and `;`.
-fn some_condition<'a>(
-    reader: &mut Reader<'a>,
-    alloc: Global,
-) -> Result<Option<Expression<'a>>, Stop>
-    ensures reads { Reads (g.right g.Condition) (λ x vs. v.as_value (v.made g.Condition vs) ≡ x)
-        (ahead reader.old) result (ahead reader.new) }
-    ensures fewer { remaining reader.new ≤ remaining reader.old }
-{
     let value = expr(reader, alloc)?;
     let end = reader.take(Kind::Semicolon)?;
     Ok(Some(value))
@@ -373,23 +379,14 @@ fn for_start<'a>(reader: &mut Reader<'a>, alloc: Global) -> Result<Option<Statem
     ensures fewer { remaining reader.new ≤ remaining reader.old }
 {
     if let Kind::Semicolon = reader.kind() {
-        return no_start(reader);
+        let mark = reader.take(Kind::Semicolon)?;
+        return Ok(None);
     }
     if begins_type(reader.kind()) {
-        local_start(reader, alloc)
-    } else {
-        assign_start(reader, alloc)
+        return local_start(reader, alloc);
     }
-}
-
-/// `;`.
-fn no_start<'a>(reader: &mut Reader<'a>) -> Result<Option<Statement<'a>>, Stop>
-    ensures reads { Reads (g.right g.NoStart) (λ x vs. v.as_part (v.made g.NoStart vs) ≡ x)
-        (ahead reader.old) result (ahead reader.new) }
-    ensures fewer { remaining reader.new ≤ remaining reader.old }
-{
-    let end = reader.take(Kind::Semicolon)?;
-    Ok(None)
+    let first = assign_ended(reader, alloc)?;
+    Ok(Some(first))
 }
 
 /// A local.
@@ -405,45 +402,16 @@ fn local_start<'a>(reader: &mut Reader<'a>, alloc: Global) -> Result<Option<Stat
     Ok(Some(whole))
 }
 
-/// An assignment.
-fn assign_start<'a>(reader: &mut Reader<'a>, alloc: Global) -> Result<Option<Statement<'a>>, Stop>
-    ensures reads { Reads (g.right g.AssignStart) (λ x vs. v.as_part (v.made g.AssignStart vs) ≡ x)
-        (ahead reader.old) result (ahead reader.new) }
-    ensures fewer { remaining reader.new ≤ remaining reader.old }
-{
-    let first = assign(reader, alloc)?;
-    let end = reader.take(Kind::Semicolon)?;
-    Ok(Some(first))
-}
-
 /// The step of a `for`, and the `)` behind it.
 fn for_step<'a>(reader: &mut Reader<'a>, alloc: Global) -> Result<Option<Statement<'a>>, Stop>
     ensures gives { Gives (λ y. v.as_part y) (g.n g.for_step) (ahead reader.old) result
         (ahead reader.new) }
     ensures fewer { remaining reader.new ≤ remaining reader.old }
 {
-    match reader.kind() {
-        Kind::RoundClose => no_step(reader),
-        _ => assign_step(reader, alloc),
+    if let Kind::RoundClose = reader.kind() {
+        let mark = reader.take(Kind::RoundClose)?;
+        return Ok(None);
     }
-}
-
-/// `)`.
-fn no_step<'a>(reader: &mut Reader<'a>) -> Result<Option<Statement<'a>>, Stop>
-    ensures reads { Reads (g.right g.NoStep) (λ x vs. v.as_part (v.made g.NoStep vs) ≡ x)
-        (ahead reader.old) result (ahead reader.new) }
-    ensures fewer { remaining reader.new ≤ remaining reader.old }
-{
-    let end = reader.take(Kind::RoundClose)?;
-    Ok(None)
-}
-
-/// An assignment.
-fn assign_step<'a>(reader: &mut Reader<'a>, alloc: Global) -> Result<Option<Statement<'a>>, Stop>
-    ensures reads { Reads (g.right g.AssignStep) (λ x vs. v.as_part (v.made g.AssignStep vs) ≡ x)
-        (ahead reader.old) result (ahead reader.new) }
-    ensures fewer { remaining reader.new ≤ remaining reader.old }
-{
     let step = assign(reader, alloc)?;
     let end = reader.take(Kind::RoundClose)?;
     Ok(Some(step))
@@ -457,13 +425,10 @@ fn bundle<'a>(reader: &mut Reader<'a>, alloc: Global) -> Result<Statement<'a>, S
 {
     let mark = reader.take(Kind::Bundled)?;
     let open = reader.take(Kind::CurlyOpen)?;
-    let first = assign(reader, alloc)?;
-    let middle = reader.take(Kind::Semicolon)?;
-    let second = assign(reader, alloc)?;
-    let end = reader.take(Kind::Semicolon)?;
+    let first = assign_ended(reader, alloc)?;
+    let second = assign_ended(reader, alloc)?;
     let all = assigns(reader, alloc, first, second)?;
-    let whole = statement(alloc, Act::Bundle(all), mark.pos)?;
-    Ok(whole)
+    statement_at(reader, alloc, Act::Bundle(all), mark.pos)
 }
 
 /// A mode with its place.
@@ -472,32 +437,12 @@ pub fn mode<'a>(reader: &mut Reader<'a>) -> Result<(Mode, Pos), Stop>
         (ahead reader.new) }
     ensures fewer { remaining reader.new ≤ remaining reader.old }
 {
-    match reader.kind() {
-        Kind::Checked => checked_mode(reader),
-        _ => unchecked_mode(reader),
+    if let Kind::Checked = reader.kind() {
+        let mark = reader.take(Kind::Checked)?;
+        return Ok((Mode::Checked, mark.pos));
     }
-}
-
-/// `_Checked`.
-fn checked_mode<'a>(reader: &mut Reader<'a>) -> Result<(Mode, Pos), Stop>
-    ensures reads { Reads (g.right g.CheckedMode)
-        (λ x vs. (v.as_mode (v.made g.CheckedMode vs), v.place (v.made g.CheckedMode vs)) ≡ x)
-        (ahead reader.old) result (ahead reader.new) }
-    ensures fewer { remaining reader.new ≤ remaining reader.old }
-{
-    let mark = reader.take(Kind::Checked)?;
-    Ok((Mode::Checked, mark.pos))
-}
-
-/// `_Unchecked`.
-fn unchecked_mode<'a>(reader: &mut Reader<'a>) -> Result<(Mode, Pos), Stop>
-    ensures reads { Reads (g.right g.UncheckedMode)
-        (λ x vs. (v.as_mode (v.made g.UncheckedMode vs), v.place (v.made g.UncheckedMode vs)) ≡ x)
-        (ahead reader.old) result (ahead reader.new) }
-    ensures fewer { remaining reader.new ≤ remaining reader.old }
-{
-    let mark = reader.take(Kind::Unchecked)?;
-    Ok((Mode::Unchecked, mark.pos))
+    let other = reader.take(Kind::Unchecked)?;
+    Ok((Mode::Unchecked, other.pos))
 }
 
 /// More assignments of a bundle, up to the `}`.
@@ -513,8 +458,7 @@ fn assigns<'a>(
 {
     let mut all = two(alloc, first, second)?;
     'list: while !reader.closes() {
-        let item = assign(reader, alloc)?;
-        let mark = reader.take(Kind::Semicolon)?;
+        let item = assign_ended(reader, alloc)?;
         add(&mut all, item)?;
     }
     let end = reader.take(Kind::CurlyClose)?;

@@ -2,6 +2,7 @@ use Rattle.std.proofs.Common.{sym, ap, ◌∙◌, ◌∷◌, [], ◌++◌}
 use Rattle.ckc_syntax.specs.Spelled.{spelled}
 use Rattle.ckc_grammar.proofs.Steps.{also, then_stops, here_stops}
 use Rattle.ckc_expressions.proofs.Exits.{exit}
+use Rattle.ckc_parser.proofs.Making.{finished}
 use Rattle.ckc_syntax.specs.declared.tree.Item.TheVariants as item
 use Rattle.ckc_grammar.specs.Values as v
 use Rattle.ckc_parser.proofs.items.struct_members.Goals as goal
@@ -24,5 +25,5 @@ returns-in_err-end c = record { reads = exit _ _ _ c.from_residual-in_err-end.en
 pub returns : goal.returns
 returns c = record {
   reads =
-      (v.token (spelled c.in_ok-open.open) ∷ c.in_ok-first.ensures.gives.0 ∷ c.in_ok-members.ensures.gives.0 ∷ v.token (spelled c.in_ok-close.close) ∷ v.token (spelled c.in_ok-end.end) ∷ [], (also c.in_ok-open.ensures.parses (also c.in_ok-first.ensures.gives.1 (also c.in_ok-members.ensures.gives.1 (also c.in_ok-close.ensures.parses c.in_ok-end.ensures.parses)))), ap (λ z. item.Struct (spelled c.args.name).text (z ++ v.as_decls c.in_ok-members.ensures.gives.0) c.args.name.pos ∷ []) c.in_ok-first.ensures.gives.2 ∙ ap (λ z. item.Struct (spelled c.args.name).text z c.args.name.pos ∷ []) c.in_ok-members.ensures.gives.2 ∙ sym (c.in_ok-all.ensures ∙ ap (λ z. item.Struct z c.in_ok-members.members c.args.name.pos ∷ []) c.new.ensures));
+      finished _ _ _ _ _ c.one_item.result (λ x e. (v.token (spelled c.in_ok-open.open) ∷ c.in_ok-first.ensures.gives.0 ∷ c.in_ok-members.ensures.gives.0 ∷ v.token (spelled c.in_ok-close.close) ∷ v.token (spelled c.in_ok-end.end) ∷ [], (also c.in_ok-open.ensures.parses (also c.in_ok-first.ensures.gives.1 (also c.in_ok-members.ensures.gives.1 (also c.in_ok-close.ensures.parses c.in_ok-end.ensures.parses)))), ap (λ z. item.Struct (spelled c.args.name).text (z ++ v.as_decls c.in_ok-members.ensures.gives.0) c.args.name.pos ∷ []) c.in_ok-first.ensures.gives.2 ∙ ap (λ z. item.Struct (spelled c.args.name).text z c.args.name.pos ∷ []) c.in_ok-members.ensures.gives.2 ∙ sym (ap (λ z. item.Struct z c.in_ok-members.members c.args.name.pos ∷ []) c.new.ensures) ∙ e)) c.one_item.ensures;
 }

@@ -1,10 +1,10 @@
-use Rattle.std.proofs.Common.{◌≡◌, refl, sym, ap, ◌∙◌}
+use Rattle.std.proofs.Common.{◌≡◌, refl, sym, ap, ◌∙◌, ◌∷◌, []}
 use Rattle.ckc_syntax.specs.Spelled.{spelled}
 use Rattle.ckc_grammar.specs.Values.{made}
 use Rattle.ckc_grammar.specs.Grammar.{k}
 use Rattle.ckc_grammar.specs.Marked.{ahead}
 use Rattle.ckc_grammar.specs.Reading.{pick, kind_of}
-use Rattle.ckc_grammar.proofs.Steps.{chosen_as}
+use Rattle.ckc_grammar.proofs.Steps.{chosen_as, turned}
 use Rattle.ckc_grammar.specs.Grammar as g
 use Rattle.ckc_grammar.specs.Values as v
 use Rattle.ckc_grammar.proofs.Defaults.{usual}
@@ -25,5 +25,5 @@ returns-in-CurlyOpen c = record {
 pub returns-in_default : goal.returns-in_default
 returns-in_default c = record {
   gives =
-      chosen_as (λ y. v.as_items_of_name y (spelled c.args.name)) (λ x vs. v.as_items_of_name (made g.Structured vs) (spelled c.args.name) ≡ x) g.structure g.Structured _ _ c.structured.result (usual g.structure (kind_of (ahead c.args.reader.now)) (λ e. c.in_default.not-Semicolon (c.kind.ensures ∙ e)) (λ e. c.in_default.not-CurlyOpen (c.kind.ensures ∙ e))) (λ k. refl) (λ x vs h. h) c.structured.ensures.reads;
+      chosen_as (λ y. v.as_items_of_name y (spelled c.args.name)) (λ x vs. v.as_items_of_name (made g.Structured vs) (spelled c.args.name) ≡ x) g.structure g.Structured _ _ c.structured.result (usual g.structure (kind_of (ahead c.args.reader.now)) (λ e. c.in_default.not-Semicolon (c.kind.ensures ∙ e)) (λ e. c.in_default.not-CurlyOpen (c.kind.ensures ∙ e))) (λ k. refl) (λ x vs h. h) (turned _ _ _ _ _ _ _ c.structured.result (λ x h. (h.0 ∷ [], h.1, h.2)) (λ d. d) c.structured.ensures.gives);
 }

@@ -1,6 +1,7 @@
 use Rattle.std.proofs.Common.{sym, ap, ◌∙◌, ◌∷◌, []}
 use Rattle.ckc_syntax.specs.Spelled.{spelled}
 use Rattle.ckc_expressions.proofs.Exits.{exit}
+use Rattle.ckc_parser.proofs.Making.{finished}
 use Rattle.ckc_syntax.specs.declared.tree.Item.TheVariants as item
 use Rattle.ckc_grammar.specs.Values as v
 use Rattle.ckc_parser.proofs.items.tag.Goals as goal
@@ -11,5 +12,5 @@ returns-in_err-end c = record { reads = exit _ _ _ c.from_residual.ensures.1 c.i
 pub returns : goal.returns
 returns c = record {
   reads =
-      (v.token (spelled c.in_ok-end.end) ∷ [], c.in_ok-end.ensures.parses, sym (c.in_ok-all.ensures ∙ ap (λ z. item.Tag z c.args.name.pos ∷ []) c.new.ensures));
+      finished _ _ _ _ _ c.one_item.result (λ x e. (v.token (spelled c.in_ok-end.end) ∷ [], c.in_ok-end.ensures.parses, sym (ap (λ z. item.Tag z c.args.name.pos ∷ []) c.new.ensures) ∙ e)) c.one_item.ensures;
 }

@@ -6,8 +6,9 @@ use Rattle.ckc_grammar.specs.Grammar.{k}
 use Rattle.ckc_grammar.specs.Marked.{ahead}
 use Rattle.ckc_grammar.specs.Forms.{begins_type}
 use Rattle.ckc_grammar.specs.Reading.{pick, kind_of, done}
-use Rattle.ckc_grammar.proofs.Steps.{also, also_all, then_stops, then_all, here_stops, here_all, chosen_as, by_rule}
+use Rattle.ckc_grammar.proofs.Steps.{also, also_all, then_stops, then_all, here_stops, here_all, chosen_as, by_rule, stop_rule, turned}
 use Rattle.ckc_expressions.proofs.Exits.{exit}
+use Rattle.ckc_parser.proofs.Making.{finished}
 use Rattle.ckc_grammar.proofs.Onward.{at_start, one_turn, last_turn, stop_turn}
 use Rattle.ckc_grammar.proofs.Shrinks.{fewer}
 use Rattle.ckc_grammar.proofs.Lists.{same2, next_item, next_items}
@@ -29,7 +30,7 @@ stmt-returns-in-Unchecked-clause-gives t c =
 
 pub stmt-returns-in-CurlyOpen-clause-gives : goal.stmt-returns-in-CurlyOpen-clause-gives
 stmt-returns-in-CurlyOpen-clause-gives t c =
-    chosen_as (λ y. v.as_stmt y) (λ x vs. v.as_stmt (made g.Block vs) ≡ x) g.stmt g.Block _ _ c.block.result (ap (λ k. pick g.stmt k) (sym c.in-CurlyOpen.ensures)) (λ k. refl) (λ x vs h. h) c.block.ensures.reads
+    chosen_as (λ y. v.as_stmt y) (λ x vs. v.as_stmt (made g.Block vs) ≡ x) g.stmt g.Block _ _ c.block.result (ap (λ k. pick g.stmt k) (sym c.in-CurlyOpen.ensures)) (λ k. refl) (λ x vs h. h) (turned _ _ _ _ _ _ _ c.block.result (λ x h. (h.0 ∷ h.1 ∷ [], h.2, h.3)) (λ d. d) c.block.ensures.reads)
 
 pub stmt-returns-in-Semicolon-clause-gives : goal.stmt-returns-in-Semicolon-clause-gives
 stmt-returns-in-Semicolon-clause-gives t c =
@@ -106,7 +107,7 @@ moded_block-returns-in_err-all-clause-reads t c = exit _ _ _ c.from_residual-in_
 
 pub moded_block-returns-clause-reads : goal.moded_block-returns-clause-reads
 moded_block-returns-clause-reads t c =
-    (c.in_ok-mode.ensures.gives.0 ∷ v.token (spelled c.in_ok-open.open) ∷ c.in_ok-all.ensures.gives.0 ∷ [], (also c.in_ok-mode.ensures.gives.1 (also c.in_ok-open.ensures.parses c.in_ok-all.ensures.gives.1)), same2 (λ z w. trees.stmt_at (act.Block (Some z.0) w) z.1) c.in_ok-mode.ensures.gives.2 c.in_ok-all.ensures.gives.2 ∙ sym c.in_ok-whole.ensures)
+    finished _ _ _ _ _ c.statement_at.result (λ x e. (c.in_ok-mode.ensures.gives.0 ∷ v.token (spelled c.in_ok-open.open) ∷ c.in_ok-all.ensures.gives.0 ∷ [], (also c.in_ok-mode.ensures.gives.1 (also c.in_ok-open.ensures.parses c.in_ok-all.ensures.gives.1)), same2 (λ z w. trees.stmt_at (act.Block (Some z.0) w) z.1) c.in_ok-mode.ensures.gives.2 c.in_ok-all.ensures.gives.2 ∙ e)) c.statement_at.ensures
 
 pub block-returns-in_err-open-clause-reads : goal.block-returns-in_err-open-clause-reads
 block-returns-in_err-open-clause-reads t c = exit _ _ _ c.from_residual.ensures.1 c.in_err-open.ensures.parses (λ d. here_stops _ d)
@@ -116,7 +117,7 @@ block-returns-in_err-all-clause-reads t c = exit _ _ _ c.from_residual-in_err-al
 
 pub block-returns-clause-reads : goal.block-returns-clause-reads
 block-returns-clause-reads t c =
-    (v.token (spelled c.in_ok-open.open) ∷ c.in_ok-all.ensures.gives.0 ∷ [], (also c.in_ok-open.ensures.parses c.in_ok-all.ensures.gives.1), ap (λ z. trees.stmt_at (act.Block None z) c.in_ok-open.open.pos) c.in_ok-all.ensures.gives.2 ∙ sym c.in_ok-whole.ensures)
+    finished _ _ _ _ _ c.statement_at.result (λ x e. (v.token (spelled c.in_ok-open.open), c.in_ok-all.ensures.gives.0, (also c.in_ok-open.ensures.parses c.in_ok-all.ensures.gives.1), ap (λ z. trees.stmt_at (act.Block None z) c.in_ok-open.open.pos) c.in_ok-all.ensures.gives.2 ∙ e)) c.statement_at.ensures
 
 pub if_stmt-returns-in_err-mark-clause-reads : goal.if_stmt-returns-in_err-mark-clause-reads
 if_stmt-returns-in_err-mark-clause-reads t c = exit _ _ _ c.from_residual.ensures.1 c.in_err-mark.ensures.parses (λ d. here_stops _ d)
@@ -133,24 +134,20 @@ if_stmt-returns-in_err-other-clause-reads t c = exit _ _ _ c.from_residual-in_er
 pub if_stmt-returns-clause-reads : goal.if_stmt-returns-clause-reads
 if_stmt-returns-clause-reads t c =
     let marks = c.in_ok-condition.ensures.tells.0 in
-    (v.token (spelled c.in_ok-mark.mark) ∷ marks.0 ∷ v.expr c.in_ok-condition.condition ∷ marks.1 ∷ c.in_ok-body.ensures.gives.0 ∷ c.in_ok-other.ensures.gives.0 ∷ [], also c.in_ok-mark.ensures.parses (also_all c.in_ok-condition.ensures.tells.1 (also c.in_ok-body.ensures.gives.1 c.in_ok-other.ensures.gives.1)), same2 (λ z w. trees.stmt_at (act.If c.in_ok-condition.condition z w) c.in_ok-mark.mark.pos) c.in_ok-body.ensures.gives.2 c.in_ok-other.ensures.gives.2 ∙ sym c.in_ok-whole.ensures)
+    finished _ _ _ _ _ c.statement_at.result (λ x e. (v.token (spelled c.in_ok-mark.mark) ∷ marks.0 ∷ v.expr c.in_ok-condition.condition ∷ marks.1 ∷ c.in_ok-body.ensures.gives.0 ∷ c.in_ok-other.ensures.gives.0 ∷ [], also c.in_ok-mark.ensures.parses (also_all c.in_ok-condition.ensures.tells.1 (also c.in_ok-body.ensures.gives.1 c.in_ok-other.ensures.gives.1)), same2 (λ z w. trees.stmt_at (act.If c.in_ok-condition.condition z w) c.in_ok-mark.mark.pos) c.in_ok-body.ensures.gives.2 c.in_ok-other.ensures.gives.2 ∙ e)) c.statement_at.ensures
+
+pub otherwise-returns-in_err-mark-clause-gives : goal.otherwise-returns-in_err-mark-clause-gives
+otherwise-returns-in_err-mark-clause-gives t c = exit _ _ _ c.from_residual.ensures.1 c.in_err-mark.ensures.parses (λ d. stop_rule g.Else (ap (λ k. pick g.otherwise k) (sym c.in-Else.ensures)) (here_stops _ d))
+
+pub otherwise-returns-in_err-body-clause-gives : goal.otherwise-returns-in_err-body-clause-gives
+otherwise-returns-in_err-body-clause-gives t c = exit _ _ _ c.from_residual-in_err-body.ensures.1 c.in_err-body.ensures.gives (λ d. stop_rule g.Else (ap (λ k. pick g.otherwise k) (sym c.in-Else.ensures)) (then_stops c.in_ok-mark.ensures.parses d))
 
 pub otherwise-returns-in-Else-clause-gives : goal.otherwise-returns-in-Else-clause-gives
 otherwise-returns-in-Else-clause-gives t c =
-    chosen_as (λ y. v.as_part y) (λ x vs. v.as_part (made g.Else vs) ≡ x) g.otherwise g.Else _ _ c.else_part.result (ap (λ k. pick g.otherwise k) (sym c.in-Else.ensures)) (λ k. refl) (λ x vs h. h) c.else_part.ensures.reads
+    (made g.Else (v.token (spelled c.in_ok-mark.mark) ∷ c.in_ok-body.ensures.gives.0 ∷ []), by_rule g.Else (ap (λ k. pick g.otherwise k) (sym c.in-Else.ensures)) refl refl (also c.in_ok-mark.ensures.parses c.in_ok-body.ensures.gives.1), ap (λ z. Some z) c.in_ok-body.ensures.gives.2)
 
-pub otherwise-returns-in_default-clause-gives : goal.otherwise-returns-in_default-clause-gives
-otherwise-returns-in_default-clause-gives t c = (made g.NoElse [], by_rule g.NoElse (usual g.otherwise (kind_of (ahead c.args.reader.now)) (λ e. c.in_default.not-Else (c.kind.ensures ∙ e))) (o.is_not_else (kind_of (ahead c.args.reader.now)) (λ e. c.in_default.not-Else (c.kind.ensures ∙ e))) refl (done refl), refl)
-
-pub else_part-returns-in_err-mark-clause-reads : goal.else_part-returns-in_err-mark-clause-reads
-else_part-returns-in_err-mark-clause-reads t c = exit _ _ _ c.from_residual.ensures.1 c.in_err-mark.ensures.parses (λ d. here_stops _ d)
-
-pub else_part-returns-in_err-body-clause-reads : goal.else_part-returns-in_err-body-clause-reads
-else_part-returns-in_err-body-clause-reads t c = exit _ _ _ c.from_residual-in_err-body.ensures.1 c.in_err-body.ensures.gives (λ d. then_stops c.in_ok-mark.ensures.parses d)
-
-pub else_part-returns-clause-reads : goal.else_part-returns-clause-reads
-else_part-returns-clause-reads t c =
-    (v.token (spelled c.in_ok-mark.mark) ∷ c.in_ok-body.ensures.gives.0 ∷ [], (also c.in_ok-mark.ensures.parses c.in_ok-body.ensures.gives.1), ap (λ z. Some z) c.in_ok-body.ensures.gives.2)
+pub otherwise-returns-clause-gives : goal.otherwise-returns-clause-gives
+otherwise-returns-clause-gives t c = (made g.NoElse [], by_rule g.NoElse (usual g.otherwise (kind_of (ahead c.args.reader.now)) (λ e. c.in_default.not-Else (c.kind.ensures ∙ e))) (o.is_not_else (kind_of (ahead c.args.reader.now)) (λ e. c.in_default.not-Else (c.kind.ensures ∙ e))) refl (done refl), refl)
 
 pub while_stmt-returns-in_err-mark-clause-reads : goal.while_stmt-returns-in_err-mark-clause-reads
 while_stmt-returns-in_err-mark-clause-reads t c = exit _ _ _ c.from_residual.ensures.1 c.in_err-mark.ensures.parses (λ d. here_stops _ d)
@@ -164,7 +161,7 @@ while_stmt-returns-in_err-body-clause-reads t c = exit _ _ _ c.from_residual-in_
 pub while_stmt-returns-clause-reads : goal.while_stmt-returns-clause-reads
 while_stmt-returns-clause-reads t c =
     let marks = c.in_ok-condition.ensures.tells.0 in
-    (v.token (spelled c.in_ok-mark.mark) ∷ marks.0 ∷ v.expr c.in_ok-condition.condition ∷ marks.1 ∷ c.in_ok-body.ensures.gives.0 ∷ [], also c.in_ok-mark.ensures.parses (also_all c.in_ok-condition.ensures.tells.1 c.in_ok-body.ensures.gives.1), ap (λ z. trees.stmt_at (act.While c.in_ok-condition.condition z) c.in_ok-mark.mark.pos) c.in_ok-body.ensures.gives.2 ∙ sym c.in_ok-whole.ensures)
+    finished _ _ _ _ _ c.statement_at.result (λ x e. (v.token (spelled c.in_ok-mark.mark) ∷ marks.0 ∷ v.expr c.in_ok-condition.condition ∷ marks.1 ∷ c.in_ok-body.ensures.gives.0 ∷ [], also c.in_ok-mark.ensures.parses (also_all c.in_ok-condition.ensures.tells.1 c.in_ok-body.ensures.gives.1), ap (λ z. trees.stmt_at (act.While c.in_ok-condition.condition z) c.in_ok-mark.mark.pos) c.in_ok-body.ensures.gives.2 ∙ e)) c.statement_at.ensures
 
 pub for_stmt-returns-in_err-mark-clause-reads : goal.for_stmt-returns-in_err-mark-clause-reads
 for_stmt-returns-in_err-mark-clause-reads t c = exit _ _ _ c.from_residual.ensures.1 c.in_err-mark.ensures.parses (λ d. here_stops _ d)
@@ -186,7 +183,7 @@ for_stmt-returns-in_err-body-clause-reads t c = exit _ _ _ c.from_residual-in_er
 
 pub for_stmt-returns-clause-reads : goal.for_stmt-returns-clause-reads
 for_stmt-returns-clause-reads t c =
-    (v.token (spelled c.in_ok-mark.mark) ∷ v.token (spelled c.in_ok-open.open) ∷ c.in_ok-start.ensures.gives.0 ∷ c.in_ok-condition.ensures.gives.0 ∷ c.in_ok-step.ensures.gives.0 ∷ c.in_ok-body.ensures.gives.0 ∷ [], (also c.in_ok-mark.ensures.parses (also c.in_ok-open.ensures.parses (also c.in_ok-start.ensures.gives.1 (also c.in_ok-condition.ensures.gives.1 (also c.in_ok-step.ensures.gives.1 c.in_ok-body.ensures.gives.1))))), same2 (λ z w. trees.stmt_at (act.For z w (v.as_part c.in_ok-step.ensures.gives.0) (v.as_stmt c.in_ok-body.ensures.gives.0)) c.in_ok-mark.mark.pos) c.in_ok-start.ensures.gives.2 c.in_ok-condition.ensures.gives.2 ∙ same2 (λ z w. trees.stmt_at (act.For c.in_ok-start.start c.in_ok-condition.condition z w) c.in_ok-mark.mark.pos) c.in_ok-step.ensures.gives.2 c.in_ok-body.ensures.gives.2 ∙ sym c.in_ok-whole.ensures)
+    finished _ _ _ _ _ c.statement_at.result (λ x e. (v.token (spelled c.in_ok-mark.mark) ∷ v.token (spelled c.in_ok-open.open) ∷ c.in_ok-start.ensures.gives.0 ∷ c.in_ok-condition.ensures.gives.0 ∷ c.in_ok-step.ensures.gives.0 ∷ c.in_ok-body.ensures.gives.0 ∷ [], (also c.in_ok-mark.ensures.parses (also c.in_ok-open.ensures.parses (also c.in_ok-start.ensures.gives.1 (also c.in_ok-condition.ensures.gives.1 (also c.in_ok-step.ensures.gives.1 c.in_ok-body.ensures.gives.1))))), same2 (λ z w. trees.stmt_at (act.For z w (v.as_part c.in_ok-step.ensures.gives.0) (v.as_stmt c.in_ok-body.ensures.gives.0)) c.in_ok-mark.mark.pos) c.in_ok-start.ensures.gives.2 c.in_ok-condition.ensures.gives.2 ∙ same2 (λ z w. trees.stmt_at (act.For c.in_ok-start.start c.in_ok-condition.condition z w) c.in_ok-mark.mark.pos) c.in_ok-step.ensures.gives.2 c.in_ok-body.ensures.gives.2 ∙ e)) c.statement_at.ensures
 
 pub block_items-list-init : goal.block_items-list-init
 block_items-list-init t c = record { onward = at_start (λ y z. v.as_stmts z ≡ c.new-all.result ++ v.as_stmts y) _ _ (λ y. ap (λ q. q ++ v.as_stmts y) (sym c.new-all.ensures)); fewer = omega arith }

@@ -30,9 +30,6 @@ decreases-if_stmt l = 4 * remaining l.reader.now + 1
 abbrev pub decreases-otherwise : goal.decreases-otherwise
 decreases-otherwise l = 4 * remaining l.reader.now + 2
 
-abbrev pub decreases-else_part : goal.decreases-else_part
-decreases-else_part l = 4 * remaining l.reader.now + 1
-
 abbrev pub decreases-while_stmt : goal.decreases-while_stmt
 decreases-while_stmt l = 4 * remaining l.reader.now + 1
 

@@ -1,24 +1,14 @@
-use Rattle.std.proofs.Common.{sym, ap, ◌∙◌, ◌∷◌, []}
-use Rattle.ckc_syntax.specs.Spelled.{spelled}
-use Rattle.ckc_grammar.proofs.Steps.{also, then_stops, here_stops}
+use Rattle.std.proofs.Common.{◌∷◌, []}
+use Rattle.ckc_grammar.proofs.Steps.{turned, also, then_stops, here_stops}
 use Rattle.ckc_expressions.proofs.Exits.{exit}
-use Rattle.ckc_syntax.specs.declared.tree.Act.TheVariants as act
 use Rattle.ckc_grammar.specs.Values as v
-use Rattle.ckc_grammar.specs.Trees as trees
 use Rattle.ckc_parser.proofs.statements.assign_stmt.Goals as goal
 
 pub returns-in_err-target-clause-reads : goal.returns-in_err-target-clause-reads
 returns-in_err-target-clause-reads c = exit _ _ _ c.from_residual.ensures.1 c.in_err-target.ensures.parses (λ d. here_stops _ d)
 
-pub returns-in_err-equals-clause-reads : goal.returns-in_err-equals-clause-reads
-returns-in_err-equals-clause-reads c = exit _ _ _ c.from_residual-in_err-equals.ensures.1 c.in_err-equals.ensures.parses (λ d. then_stops c.in_ok-target.ensures.parses (here_stops _ d))
-
-pub returns-in_err-value-clause-reads : goal.returns-in_err-value-clause-reads
-returns-in_err-value-clause-reads c = exit _ _ _ c.from_residual-in_err-value.ensures.1 c.in_err-value.ensures.gives (λ d. then_stops c.in_ok-target.ensures.parses (then_stops c.in_ok-equals.ensures.parses (here_stops _ d)))
-
-pub returns-in_err-end-clause-reads : goal.returns-in_err-end-clause-reads
-returns-in_err-end-clause-reads c = exit _ _ _ c.from_residual-in_err-end.ensures.1 c.in_err-end.ensures.parses (λ d. then_stops c.in_ok-target.ensures.parses (then_stops c.in_ok-equals.ensures.parses (then_stops c.in_ok-value.ensures.gives.1 d)))
-
 pub returns-clause-reads : goal.returns-clause-reads
 returns-clause-reads c =
-    (v.expr c.in_ok-target.target ∷ v.token (spelled c.in_ok-equals.equals) ∷ c.in_ok-value.ensures.gives.0 ∷ v.token (spelled c.in_ok-end.end) ∷ [], (also c.in_ok-target.ensures.parses (also c.in_ok-equals.ensures.parses (also c.in_ok-value.ensures.gives.1 c.in_ok-end.ensures.parses))), ap (λ z. trees.stmt_at (act.Assign c.in_ok-target.target z) c.in_ok-equals.equals.pos) c.in_ok-value.ensures.gives.2 ∙ sym c.in_ok-whole.ensures)
+    turned _ _ _ _ _ _ _ c.assigned.result
+    (λ x h. (v.expr c.in_ok-target.target ∷ h.0 ∷ h.1 ∷ h.2 ∷ [], also c.in_ok-target.ensures.parses h.3, h.4))
+    (λ d. then_stops c.in_ok-target.ensures.parses d) c.assigned.ensures.reads

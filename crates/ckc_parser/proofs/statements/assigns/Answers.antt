@@ -3,7 +3,7 @@ use Rattle.ckc_syntax.specs.Spelled.{spelled}
 use Rattle.ckc_grammar.specs.Grammar.{k}
 use Rattle.ckc_grammar.specs.Marked.{ahead}
 use Rattle.ckc_grammar.specs.Reading.{kind_of}
-use Rattle.ckc_grammar.proofs.Steps.{also, then_stops, here_stops}
+use Rattle.ckc_grammar.proofs.Steps.{here_all}
 use Rattle.ckc_expressions.proofs.Exits.{exit}
 use Rattle.ckc_grammar.proofs.Onward.{at_start, one_turn, last_turn, stop_turn}
 use Rattle.ckc_grammar.proofs.Lists.{next_item}
@@ -17,15 +17,12 @@ pub list-init : goal.list-init
 list-init c = record { onward = at_start (λ y z. c.args.first ∷ c.args.second ∷ v.as_stmts z ≡ c.in_ok-all.all ++ v.as_stmts y) _ _ (λ y. ap (λ q. q ++ v.as_stmts y) (sym c.in_ok-all.ensures)); fewer = omega arith }
 
 pub returns-in_err-item-clause-gives : goal.returns-in_err-item-clause-gives
-returns-in_err-item-clause-gives c = exit _ _ _ c.from_residual-in_err-item.ensures.1 c.in_err-item.ensures.gives (λ d. stop_turn (λ y z. c.args.first ∷ c.args.second ∷ v.as_stmts z ≡ c.list.all ++ v.as_stmts y) g.assigns g.Assigns _ _ _ (o.no_close (kind_of (ahead c.list.reader)) (sym c.closes.ensures ∙ c.list-test.true)) (here_stops _ d) c.list.invariant.onward)
-
-pub returns-in_err-mark-clause-gives : goal.returns-in_err-mark-clause-gives
-returns-in_err-mark-clause-gives c = exit _ _ _ c.from_residual-in_err-mark.ensures.1 c.in_err-mark.ensures.parses (λ d. stop_turn (λ y z. c.args.first ∷ c.args.second ∷ v.as_stmts z ≡ c.list.all ++ v.as_stmts y) g.assigns g.Assigns _ _ _ (o.no_close (kind_of (ahead c.list.reader)) (sym c.closes.ensures ∙ c.list-test.true)) (then_stops c.in_ok-item.ensures.gives.1 (here_stops _ d)) c.list.invariant.onward)
+returns-in_err-item-clause-gives c = exit _ _ _ c.from_residual-in_err-item.ensures.1 c.in_err-item.ensures.reads (λ d. stop_turn (λ y z. c.args.first ∷ c.args.second ∷ v.as_stmts z ≡ c.list.all ++ v.as_stmts y) g.assigns g.Assigns _ _ _ (o.no_close (kind_of (ahead c.list.reader)) (sym c.closes.ensures ∙ c.list-test.true)) (here_all _ d) c.list.invariant.onward)
 
 pub list-preserved : goal.list-preserved
 list-preserved c = record {
-  onward = one_turn (λ y z. c.args.first ∷ c.args.second ∷ v.as_stmts z ≡ c.list.all ++ v.as_stmts y) (λ y z. c.args.first ∷ c.args.second ∷ v.as_stmts z ≡ c.add.new.all ++ v.as_stmts y) g.assigns g.Assigns (g.n g.assign ∷ k kind.Semicolon ∷ []) _ _ _ (c.in_ok-item.ensures.gives.0 ∷ v.token (spelled c.in_ok-mark.mark) ∷ []) refl (o.no_close (kind_of (ahead c.list.reader)) (sym c.closes.ensures ∙ c.list-test.true)) (λ k. refl) (also c.in_ok-item.ensures.gives.1 c.in_ok-mark.ensures.parses) (λ y z e. next_item c.list.all c.add.new.all _ _ _ _ e c.in_ok-item.ensures.gives.2 c.in_ok-add.ensures) c.list.invariant.onward;
-  fewer = omega (arith, c.list.invariant.fewer, c.in_ok-item.ensures.fewer, c.in_ok-mark.ensures.fewer);
+  onward = one_turn (λ y z. c.args.first ∷ c.args.second ∷ v.as_stmts z ≡ c.list.all ++ v.as_stmts y) (λ y z. c.args.first ∷ c.args.second ∷ v.as_stmts z ≡ c.add.new.all ++ v.as_stmts y) g.assigns g.Assigns (g.n g.assign ∷ k kind.Semicolon ∷ []) _ _ _ (c.in_ok-item.ensures.reads.0 ∷ c.in_ok-item.ensures.reads.1 ∷ []) refl (o.no_close (kind_of (ahead c.list.reader)) (sym c.closes.ensures ∙ c.list-test.true)) (λ k. refl) c.in_ok-item.ensures.reads.2 (λ y z e. next_item c.list.all c.add.new.all _ _ _ _ e c.in_ok-item.ensures.reads.3 c.in_ok-add.ensures) c.list.invariant.onward;
+  fewer = omega (arith, c.list.invariant.fewer, c.in_ok-item.ensures.fewer);
 }
 
 pub returns-in_err-end-clause-gives : goal.returns-in_err-end-clause-gives

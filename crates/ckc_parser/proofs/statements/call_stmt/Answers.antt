@@ -1,6 +1,6 @@
 use Rattle.std.proofs.Common.{sym, ap, ◌∙◌, ◌∷◌, []}
 use Rattle.ckc_syntax.specs.Spelled.{spelled}
-use Rattle.ckc_grammar.proofs.Steps.{also, then_stops, here_stops}
+use Rattle.ckc_grammar.proofs.Steps.{turned, also, then_stops, here_stops}
 use Rattle.ckc_expressions.proofs.Exits.{exit}
 use Rattle.ckc_syntax.specs.declared.tree.Act.TheVariants as act
 use Rattle.ckc_grammar.specs.Values as v
@@ -13,9 +13,8 @@ returns-in_err-open-clause-reads c = exit _ _ _ c.from_residual.ensures.1 c.in_e
 pub returns-in_err-all-clause-reads : goal.returns-in_err-all-clause-reads
 returns-in_err-all-clause-reads c = exit _ _ _ c.from_residual-in_err-all.ensures.1 c.in_err-all.ensures.gives (λ d. then_stops c.in_ok-open.ensures.parses (here_stops _ d))
 
-pub returns-in_err-end-clause-reads : goal.returns-in_err-end-clause-reads
-returns-in_err-end-clause-reads c = exit _ _ _ c.from_residual-in_err-end.ensures.1 c.in_err-end.ensures.parses (λ d. then_stops c.in_ok-open.ensures.parses (then_stops c.in_ok-all.ensures.gives.1 d))
-
 pub returns-clause-reads : goal.returns-clause-reads
 returns-clause-reads c =
-    (v.token (spelled c.in_ok-open.open) ∷ c.in_ok-all.ensures.gives.0 ∷ v.token (spelled c.in_ok-end.end) ∷ [], (also c.in_ok-open.ensures.parses (also c.in_ok-all.ensures.gives.1 c.in_ok-end.ensures.parses)), ap (λ z. trees.stmt_at (act.Call z) c.args.name.pos) (ap (λ z. v.called (spelled c.args.name) z) c.in_ok-all.ensures.gives.2 ∙ sym c.in_ok-call.ensures) ∙ sym c.in_ok-whole.ensures)
+    turned _ _ _ _ _ _ _ c.ended.result
+    (λ x h. (v.token (spelled c.in_ok-open.open) ∷ c.in_ok-all.ensures.gives.0 ∷ h.0 ∷ [], also c.in_ok-open.ensures.parses (also c.in_ok-all.ensures.gives.1 h.1), ap (λ z. trees.stmt_at (act.Call z) c.args.name.pos) (ap (λ z. v.called (spelled c.args.name) z) c.in_ok-all.ensures.gives.2 ∙ sym c.in_ok-call.ensures) ∙ h.2))
+    (λ d. then_stops c.in_ok-open.ensures.parses (then_stops c.in_ok-all.ensures.gives.1 d)) c.ended.ensures.gives

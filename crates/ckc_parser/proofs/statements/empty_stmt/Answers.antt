@@ -1,6 +1,7 @@
-use Rattle.std.proofs.Common.{sym, ◌∷◌, []}
+use Rattle.std.proofs.Common.{◌∷◌, []}
 use Rattle.ckc_syntax.specs.Spelled.{spelled}
 use Rattle.ckc_expressions.proofs.Exits.{exit}
+use Rattle.ckc_parser.proofs.Making.{finished}
 use Rattle.ckc_grammar.specs.Values as v
 use Rattle.ckc_parser.proofs.statements.empty_stmt.Goals as goal
 
@@ -9,4 +10,4 @@ returns-in_err-mark-clause-reads c = exit _ _ _ c.from_residual.ensures.1 c.in_e
 
 pub returns-clause-reads : goal.returns-clause-reads
 returns-clause-reads c =
-    (v.token (spelled c.in_ok-mark.mark) ∷ [], c.in_ok-mark.ensures.parses, sym c.in_ok-whole.ensures)
+    finished _ _ _ _ _ c.statement_at.result (λ x e. (v.token (spelled c.in_ok-mark.mark) ∷ [], c.in_ok-mark.ensures.parses, e)) c.statement_at.ensures

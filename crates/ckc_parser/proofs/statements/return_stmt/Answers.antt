@@ -1,7 +1,8 @@
-use Rattle.std.proofs.Common.{sym, ap, ◌∙◌, ◌∷◌, []}
+use Rattle.std.proofs.Common.{ap, ◌∙◌, ◌∷◌, []}
 use Rattle.ckc_syntax.specs.Spelled.{spelled}
 use Rattle.ckc_grammar.proofs.Steps.{also, then_stops, here_stops}
 use Rattle.ckc_expressions.proofs.Exits.{exit}
+use Rattle.ckc_parser.proofs.Making.{finished}
 use Rattle.ckc_syntax.specs.declared.tree.Act.TheVariants as act
 use Rattle.ckc_grammar.specs.Values as v
 use Rattle.ckc_grammar.specs.Trees as trees
@@ -15,4 +16,4 @@ returns-in_err-value-clause-reads c = exit _ _ _ c.from_residual-in_err-value.en
 
 pub returns-clause-reads : goal.returns-clause-reads
 returns-clause-reads c =
-    (v.token (spelled c.in_ok-mark.mark) ∷ c.in_ok-value.ensures.gives.0 ∷ [], (also c.in_ok-mark.ensures.parses c.in_ok-value.ensures.gives.1), ap (λ z. trees.stmt_at (act.Return z) c.in_ok-mark.mark.pos) c.in_ok-value.ensures.gives.2 ∙ sym c.in_ok-whole.ensures)
+    finished _ _ _ _ _ c.statement_at.result (λ x e. (v.token (spelled c.in_ok-mark.mark) ∷ c.in_ok-value.ensures.gives.0 ∷ [], (also c.in_ok-mark.ensures.parses c.in_ok-value.ensures.gives.1), ap (λ z. trees.stmt_at (act.Return z) c.in_ok-mark.mark.pos) c.in_ok-value.ensures.gives.2 ∙ e)) c.statement_at.ensures

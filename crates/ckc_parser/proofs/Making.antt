@@ -1,0 +1,24 @@
+-- A function that ends with the call that makes its whole.
+use Rattle.std.proofs.Common.{List}
+use Rattle.std.specs.Prelude.{Result, Ok, Err, IfOk}
+use Rattle.ckc_grammar.specs.Grammar.{Symbol}
+use Rattle.ckc_grammar.specs.Derives.{Sign}
+use Rattle.ckc_grammar.specs.declared.parts.Stop.{Stop}
+use Rattle.ckc_grammar.specs.declared.parts.Stop.TheVariants as stop
+use Rattle.ckc_grammar.specs.Marked.{Answered}
+use Rattle.ckc_parser.specs.Parts.{Made}
+
+-- What is made of all parts, is the outcome of the function; and want of memory is.
+pub finished : {X : Type 0} (G H : X → Type 0) (ss : List Symbol) (a b : List Sign) (r : Result X Stop) → ((x : X) → G x → H x) → Made G r → Answered H ss a r b
+finished G H ss a b (Ok x) f m = f x m
+finished G H ss a b (Err stop.Memory) f m = tt
+finished G H ss a b (Err stop.Syntax) f m = absurd m
+
+-- A fact of what is taken holds where the result is not an error.
+pub if_taken : {X F : Type 0} (G : X → Type 0) (ss : List Symbol) (a b : List Sign) (r : Result X Stop) → ((x : X) → G x → F) → Answered G ss a r b → IfOk r (λ x. F)
+if_taken G ss a b (Ok x) f h = f x h
+if_taken G ss a b (Err e) f h = tt
+
+pub if_made : {X F : Type 0} (r : Result X Stop) → F → IfOk r (λ x. F)
+if_made (Ok x) f = f
+if_made (Err e) f = tt

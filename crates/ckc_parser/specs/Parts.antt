@@ -1,0 +1,39 @@
+-- What functions give that read a part of a production, or make a whole of what is read.
+use Rattle.std.specs.Prelude.{◌≡◌, List, [], ◌∷◌, None, Result, Ok, Err}
+use Rattle.ckc_syntax.specs.declared.tree.Act.TheVariants as act
+use Rattle.ckc_grammar.specs.declared.kind.Kind.TheVariants as kind
+use Rattle.ckc_grammar.specs.declared.parts.Stop.{Stop}
+use Rattle.ckc_grammar.specs.declared.parts.Stop.TheVariants as stop
+use Rattle.ckc_grammar.specs.Grammar.{Symbol, n, k, right}
+use Rattle.ckc_grammar.specs.Grammar as g
+use Rattle.ckc_grammar.specs.Trees.{Expr, Stmt, stmt_at}
+use Rattle.ckc_grammar.specs.Derives.{Sign}
+use Rattle.ckc_grammar.specs.Reading.{Takes}
+use Rattle.ckc_grammar.specs.Marked.{Answered}
+use Rattle.ckc_grammar.specs.Values.{Value, place, as_expr, as_stmt, as_stmts}
+
+-- The whole is as wanted, or memory ran out.
+abbrev pub Made : {X : Type 0} → (X → Type 0) → Result X Stop → Type 0
+Made G (Ok x) = G x
+Made G (Err stop.Memory) = Unit {0}
+Made G (Err stop.Syntax) = ⊥
+
+-- an assignment behind its target
+abbrev pub assigned : List Symbol
+assigned = k kind.Equals ∷ n g.value ∷ k kind.Semicolon ∷ []
+
+abbrev pub Assigned : Expr → List Sign → Result Stmt Stop → List Sign → Type 0
+Assigned target old r new =
+    Answered (λ x. (a : Value) × (b : Value) × (c : Value) × Takes assigned old (a ∷ b ∷ c ∷ []) new × (stmt_at (act.Assign target (as_expr b)) (place a) ≡ x)) assigned old r new
+
+-- a whole assignment with its `;`
+abbrev pub assign_ended : List Symbol
+assign_ended = n g.assign ∷ k kind.Semicolon ∷ []
+
+abbrev pub AssignEnded : List Sign → Result Stmt Stop → List Sign → Type 0
+AssignEnded old r new = Answered (λ x. (a : Value) × (b : Value) × Takes assign_ended old (a ∷ b ∷ []) new × (as_stmt a ≡ x)) assign_ended old r new
+
+-- a block
+abbrev pub Blocked : List Sign → Result Stmt Stop → List Sign → Type 0
+Blocked old r new =
+    Answered (λ x. (a : Value) × (b : Value) × Takes (right g.Block) old (a ∷ b ∷ []) new × (stmt_at (act.Block None (as_stmts b)) (place a) ≡ x)) (right g.Block) old r new
