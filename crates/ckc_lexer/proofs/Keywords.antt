@@ -1,9 +1,13 @@
 -- A word of a length that no keyword of a list has is none of them.
 use Rattle.std.proofs.Common.{◌≡◌, ℕ, List, [], ◌∷◌, Bool, true, false, ◌&&◌, ◌||◌, refl, sym, ap, ◌∙◌, length, arith}
 use Rattle.std.proofs.Math.Bool.{and-false}
-use Rattle.std.specs.Prelude.{bytes_eq, nat_eq}
+use Rattle.std.specs.Prelude.{bytes_eq, nat_eq, nat_le}
 use Rattle.std.specs.List.{list_any, list_all}
-use Rattle.ckc_lexer.specs.Words.{plain_keywords, fits_plain}
+use Rattle.ckc_lexer.specs.Words.{plain_keywords}
+
+-- whether a keyword without `_` in front may have so many bytes
+abbrev fits_plain : ℕ → Bool
+fits_plain n = nat_le 2 n && nat_le n 8
 
 -- texts of two lengths are not the same
 other_length : (k w : List ℕ) → (length k ≡ length w → ⊥) → bytes_eq k w ≡ false

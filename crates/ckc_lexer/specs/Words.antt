@@ -1,5 +1,5 @@
 -- Names and keywords.
-use Rattle.std.specs.Prelude.{◌≡◌, ℕ, Bool, ◌&&◌, ◌||◌, nat_lt, nat_le, if◌then◌else◌, List, [], ◌∷◌, ◌++◌, length, codes, bytes_eq}
+use Rattle.std.specs.Prelude.{◌≡◌, ℕ, Bool, ◌&&◌, ◌||◌, nat_lt, if◌then◌else◌, List, [], ◌∷◌, ◌++◌, length, codes, bytes_eq}
 use Rattle.std.specs.List.{list_any}
 use Rattle.ckc_syntax.specs.declared.tokens.TokenKind.TheVariants.{Name, Keyword}
 use Rattle.ckc_lexer.specs.declared.items.Item.{Item}
@@ -16,10 +16,6 @@ plain_keywords =
     codes "do" ∷ codes "double" ∷ codes "enum" ∷ codes "extern" ∷ codes "float" ∷ codes "goto" ∷ codes "inline" ∷
     codes "long" ∷ codes "register" ∷ codes "restrict" ∷ codes "short" ∷ codes "signed" ∷ codes "switch" ∷
     codes "typedef" ∷ codes "union" ∷ codes "volatile" ∷ []
-
--- whether one of them may have so many bytes
-abbrev pub fits_plain : ℕ → Bool
-fits_plain n = nat_le 2 n && nat_le n 8
 
 -- the keywords with `_` in front: those of the grammar, every other one of ISO C11, and three of Checked C
 abbrev pub underscored_keywords : List (List ℕ)

@@ -1,8 +1,8 @@
-ghost use Rattle.std.specs.Prelude.{◌≡◌, ◌<◌, true, length, slice_index, bytes_eq};
+ghost use Rattle.std.specs.Prelude.{◌≡◌, ◌<◌, ◌&&◌, true, nat_le, length, slice_index, bytes_eq};
 ghost use Rattle.std.specs.List.{list_any};
 ghost use Rattle.ckc_lexer.specs.Bytes.{is_word_byte};
 ghost use Rattle.ckc_syntax.specs.Longest.{Longest};
-ghost use Rattle.ckc_lexer.specs.Words.{keywords, plain_keywords, fits_plain, is_keyword, word_item, IsWordItem};
+ghost use Rattle.ckc_lexer.specs.Words.{keywords, plain_keywords, is_keyword, word_item, IsWordItem};
 
 use crate::bytes::word_len;
 use crate::items::{Found, Item, LONG_NAME};
@@ -149,7 +149,7 @@ fn is_plain(word: &[u8]) -> bool
 
 /// Whether a keyword that does not begin with `_` may have so many bytes.
 fn fits_plain(len: usize) -> bool
-    ensures { result ≡ fits_plain len }
+    ensures { result ≡ (nat_le 2 len && nat_le len 8) }
 {
     SHORTEST_PLAIN <= len && len <= LONGEST_PLAIN
 }
