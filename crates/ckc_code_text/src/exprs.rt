@@ -1,9 +1,9 @@
 //! Expressions of a program's text.
-ghost use Rattle.std.specs.Prelude.{◌<◌, IfOk};
+ghost use Rattle.std.specs.Prelude.{◌≡◌, ◌<◌, IfOk};
 ghost use Rattle.ckc_code_text.specs.Fine.{IsHeadOver, IsExpr};
 
 use crate::fault::TextFault;
-use crate::words::{Words, number_of, operation_of, width_of};
+use crate::words::{Words, number_of, operation_of};
 use ckc_base::{BinOp, Boxed, Width};
 use ckc_core::CoreExpr;
 use std::alloc::Global;
@@ -20,14 +20,14 @@ enum Head {
 fn beginning(words: &mut Words, locals: u32) -> Result<Head, TextFault>
     ensures { IfOk result (IsHeadOver locals) }
 {
-    let word = words.next()?;
+    let word = words.next();
     if let Some(op) = operation_of(word) {
         return Ok(Head::Bin(op));
     }
     match word {
         "high" => Ok(Head::High(true)),
         "highu" => Ok(Head::High(false)),
-        "load" => Ok(Head::Load(width(words)?)),
+        "load" => Ok(Head::Load(words.width())),
         _ => leaf(word, locals),
     }
 }
@@ -58,18 +58,16 @@ fn local_of(word: &str) -> Option<u32> {
 pub fn local(words: &mut Words, locals: u32) -> Result<u32, TextFault>
     ensures { IfOk result (λ x. x < locals) }
 {
-    match local_of(words.next()?) {
+    match local_of(words.next()) {
         Some(x) if x < locals => Ok(x),
         _ => Err(TextFault::Malformed("no such local")),
     }
 }
 
-/// How much a load or store moves.
-pub fn width(words: &mut Words) -> Result<Width, TextFault> {
-    match width_of(words.next()?) {
-        Some(width) => Ok(width),
-        None => Err(TextFault::Malformed("not byte or word")),
-    }
+fn boxed(alloc: Global, e: CoreExpr) -> Result<Boxed<CoreExpr>, TextFault>
+    ensures { IfOk result (λ b. b ≡ e) }
+{
+    Ok(Boxed::new(alloc, e)?)
 }
 
 /// An expression over so many locals, at most so deep.
@@ -86,19 +84,19 @@ pub fn expr(
         return Err(TextFault::Malformed("an expression that is too deep"));
     }
     match beginning(words, locals)? {
-        Head::Number(n) => Ok(Boxed::new(alloc, CoreExpr::Const(n))?),
-        Head::Local(x) => Ok(Boxed::new(alloc, CoreExpr::Local(x))?),
+        Head::Number(n) => boxed(alloc, CoreExpr::Const(n)),
+        Head::Local(x) => boxed(alloc, CoreExpr::Local(x)),
         Head::Load(width) => {
             let a = expr(alloc, words, locals, deep - 1)?;
-            Ok(Boxed::new(alloc, CoreExpr::Load(width, a))?)
+            boxed(alloc, CoreExpr::Load(width, a))
         }
         Head::High(signed) => {
             let (a, b) = pair(alloc, words, locals, deep - 1)?;
-            Ok(Boxed::new(alloc, CoreExpr::High(signed, a, b))?)
+            boxed(alloc, CoreExpr::High(signed, a, b))
         }
         Head::Bin(op) => {
             let (a, b) = pair(alloc, words, locals, deep - 1)?;
-            Ok(Boxed::new(alloc, CoreExpr::Bin(op, a, b))?)
+            boxed(alloc, CoreExpr::Bin(op, a, b))
         }
     }
 }

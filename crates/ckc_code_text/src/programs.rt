@@ -42,12 +42,13 @@ pub fn program(alloc: Global, text: &[u8]) -> Result<Core, TextFault>
 
 fn params_in(alloc: Global, words: &mut Words) -> Result<Vec<u32>, TextFault> {
     let mut params = Vec::new(alloc);
-    words.expect("(")?;
+    words.expect("(");
     for _turn in 0..words.left() {
         if words.eat(")") {
             return Ok(params);
         }
-        params.push(words.number()?)?;
+        let count = words.number();
+        params.push(count)?;
     }
     Err(TextFault::Malformed("parameters without their end"))
 }
@@ -61,8 +62,8 @@ fn functions(alloc: Global, words: &mut Words, params: &[u32]) -> Result<Seq<Cor
         let f = function(alloc, words, params, *count)?;
         funcs.push(f)?;
     }
-    if words.left() > 0 {
-        return Err(TextFault::Malformed("more functions than there are"));
+    if words.left() > 0 || words.is_wrong() {
+        return Err(TextFault::Malformed("a word that has no meaning there"));
     }
     Ok(funcs)
 }
@@ -76,8 +77,8 @@ fn function(
     ensures params { IfOk result (λ f. f.params ≡ count) }
     ensures fine { IfOk result (IsFunction params.now) }
 {
-    words.expect("fn")?;
-    let locals = words.number()?;
+    words.expect("fn");
+    let locals = words.number();
     if count > locals || locals > 2000 {
         return Err(TextFault::Malformed("too many or too few locals"));
     }

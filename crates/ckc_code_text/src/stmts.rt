@@ -3,9 +3,9 @@ ghost use Rattle.std.specs.Prelude.{◌<◌, ℕ, Bool, List, All, IsTrue, IfOk,
 ghost use Rattle.ckc_core.specs.WellFormed.{IsPlace};
 ghost use Rattle.ckc_code_text.specs.Fine.{IsExpr, IsStmt, IsBody, IsFitting};
 
-use crate::exprs::{expr, local, width};
+use crate::exprs::{expr, local};
 use crate::fault::TextFault;
-use crate::words::{Words, check_of};
+use crate::words::Words;
 use ckc_base::{Boxed, Pos, Seq};
 use ckc_core::{CoreExpr, CoreStmt};
 use std::alloc::Global;
@@ -24,7 +24,7 @@ pub fn block(
     ensures { IfOk result (IsBody params.now locals looped) }
 {
     let mut stmts = Seq::new(alloc);
-    words.expect("{")?;
+    words.expect("{");
     for _turn in 0..words.left() {
         if words.eat("}") {
             return Ok(stmts);
@@ -46,7 +46,7 @@ fn stmt(
 ) -> Result<CoreStmt, TextFault>
     ensures { IfOk result (IsStmt params.now locals looped) }
 {
-    let word = words.next()?;
+    let word = words.next();
     match word {
         "if" => branch(alloc, words, params, locals, looped, deep),
         "loop" => {
@@ -118,12 +118,12 @@ fn value(alloc: Global, words: &mut Words, locals: u32) -> Result<Boxed<CoreExpr
 }
 
 /// A place, as line and column.
-fn place(words: &mut Words) -> Result<Pos, TextFault>
-    ensures { IfOk result IsPlace }
+fn place(words: &mut Words) -> Pos
+    ensures { IsPlace result }
 {
-    let line = words.number()?;
-    let col = words.number()?;
-    Ok(Pos { line, col })
+    let line = words.number();
+    let col = words.number();
+    Pos { line, col }
 }
 
 /// A statement without another one in it.
@@ -153,7 +153,7 @@ fn set(alloc: Global, words: &mut Words, locals: u32) -> Result<CoreStmt, TextFa
 fn store(alloc: Global, words: &mut Words, locals: u32) -> Result<CoreStmt, TextFault>
     ensures { (params : List ℕ) (looped : Bool) → IfOk result (IsStmt params locals looped) }
 {
-    let width = width(words)?;
+    let width = words.width();
     let a = value(alloc, words, locals)?;
     let e = value(alloc, words, locals)?;
     Ok(CoreStmt::Store(width, a.into_inner(), e.into_inner()))
@@ -162,10 +162,8 @@ fn store(alloc: Global, words: &mut Words, locals: u32) -> Result<CoreStmt, Text
 fn check(alloc: Global, words: &mut Words, locals: u32) -> Result<CoreStmt, TextFault>
     ensures { (params : List ℕ) (looped : Bool) → IfOk result (IsStmt params locals looped) }
 {
-    let Some(check) = check_of(words.next()?) else {
-        return Err(TextFault::Malformed("no such check"));
-    };
-    let at = place(words)?;
+    let check = words.check();
+    let at = place(words);
     let e = value(alloc, words, locals)?;
     Ok(CoreStmt::Check(check, at, e.into_inner()))
 }
@@ -189,7 +187,7 @@ fn room(alloc: Global, words: &mut Words, locals: u32) -> Result<CoreStmt, TextF
     ensures { (params : List ℕ) (looped : Bool) → IfOk result (IsStmt params locals looped) }
 {
     let x = local(words, locals)?;
-    let size = words.number()?;
+    let size = words.number();
     let e = value(alloc, words, locals)?;
     Ok(CoreStmt::Alloc(x, e.into_inner(), size))
 }
@@ -211,8 +209,8 @@ fn call(
     ensures { (looped : Bool) → IfOk result (IsStmt params.now locals looped) }
 {
     let target = target(words, locals)?;
-    let callee = words.number()?;
-    let at = place(words)?;
+    let callee = words.number();
+    let at = place(words);
     let args = arguments(alloc, words, locals)?;
     if fits(params, callee, args.len()) {
         Ok(CoreStmt::Call(target, callee, args, at))
@@ -245,7 +243,7 @@ fn arguments(alloc: Global, words: &mut Words, locals: u32) -> Result<Seq<CoreEx
     ensures { IfOk result (λ es. All (IsExpr locals 1000) es) }
 {
     let mut args = Seq::new(alloc);
-    words.expect("(")?;
+    words.expect("(");
     for _turn in 0..words.left() {
         if words.eat(")") {
             return Ok(args);

@@ -4,10 +4,11 @@ use ckc_base::{BinOp, Check, Width};
 use std::alloc::Global;
 use std::str;
 
-/// The words that are left.
+/// The words that are left, and whether one of those that were read has no meaning.
 #[derive(Drop)]
 pub struct Words<'a> {
     rest: Vec<&'a str>,
+    wrong: bool,
 }
 
 impl<'a> Words<'a> {
@@ -23,7 +24,10 @@ impl<'a> Words<'a> {
             }
         }
         words.reverse();
-        Ok(Words { rest: words })
+        Ok(Words {
+            rest: words,
+            wrong: false,
+        })
     }
 
     /// How many words are left.
@@ -31,20 +35,23 @@ impl<'a> Words<'a> {
         self.rest.len()
     }
 
-    /// The next word.
-    pub fn next(&mut self) -> Result<&'a str, TextFault> {
+    /// Whether no word was there where one was wanted, or one that has no meaning there.
+    pub fn is_wrong(&self) -> bool {
+        self.wrong
+    }
+
+    /// The next word, or an empty one at the end.
+    pub fn next(&mut self) -> &'a str {
         match self.rest.pop() {
-            Some(word) => Ok(word),
-            None => Err(TextFault::Malformed("a text that ends too early")),
+            Some(word) => word,
+            None => "",
         }
     }
 
     /// Takes a mark.
-    pub fn expect(&mut self, mark: &str) -> Result<(), TextFault> {
-        if self.next()? == mark {
-            Ok(())
-        } else {
-            Err(TextFault::Malformed("another mark"))
+    pub fn expect(&mut self, mark: &str) {
+        if self.next() != mark {
+            self.wrong = true;
         }
     }
 
@@ -60,10 +67,42 @@ impl<'a> Words<'a> {
     }
 
     /// A number.
-    pub fn number(&mut self) -> Result<u32, TextFault> {
-        match number_of(self.next()?) {
-            Some(n) => Ok(n),
-            None => Err(TextFault::Malformed("no number")),
+    pub fn number(&mut self) -> u32 {
+        match number_of(self.next()) {
+            Some(n) => n,
+            None => {
+                self.wrong = true;
+                0
+            }
+        }
+    }
+
+    /// How much a load or store moves.
+    pub fn width(&mut self) -> Width {
+        match self.next() {
+            "byte" => Width::Byte,
+            "word" => Width::Word,
+            _ => {
+                self.wrong = true;
+                Width::Word
+            }
+        }
+    }
+
+    /// A check by its name.
+    pub fn check(&mut self) -> Check {
+        match self.next() {
+            "null" => Check::Null,
+            "bounds" => Check::Bounds,
+            "terminator" => Check::Terminator,
+            "arith" => Check::Arith,
+            "divide" => Check::Divide,
+            "cast" => Check::Cast,
+            "dynamic" => Check::Dynamic,
+            _ => {
+                self.wrong = true;
+                Check::Dynamic
+            }
         }
     }
 }
@@ -99,29 +138,6 @@ pub fn operation_of(word: &str) -> Option<BinOp> {
         "ltu" => Some(BinOp::LtU),
         "eq" => Some(BinOp::Eq),
         "ne" => Some(BinOp::Ne),
-        _ => None,
-    }
-}
-
-/// How much a load or store moves, by its name.
-pub fn width_of(word: &str) -> Option<Width> {
-    match word {
-        "byte" => Some(Width::Byte),
-        "word" => Some(Width::Word),
-        _ => None,
-    }
-}
-
-/// A check by its name.
-pub fn check_of(word: &str) -> Option<Check> {
-    match word {
-        "null" => Some(Check::Null),
-        "bounds" => Some(Check::Bounds),
-        "terminator" => Some(Check::Terminator),
-        "arith" => Some(Check::Arith),
-        "divide" => Some(Check::Divide),
-        "cast" => Some(Check::Cast),
-        "dynamic" => Some(Check::Dynamic),
         _ => None,
     }
 }
