@@ -13,15 +13,15 @@ use Rattle.ckc_interp.specs.declared.seen.Seen.TheVariants as seen
 use Rattle.ckc_interp.specs.Runs.{Interprets, Comes}
 use Rattle.ckc_build.specs.Meanings.{HasMeaning}
 use Rattle.ckc_build.proofs.Programs.{meanings_exact}
-use Rattle.ckc_cli.specs.declared.status.Status.{Status}
-use Rattle.ckc_cli.specs.declared.status.Status.TheVariants as status
-use Rattle.ckc_cli.specs.Words.{Command, Interp, Reads}
-use Rattle.ckc_cli.specs.Commands.{Lists, Executes, Means}
-use Rattle.ckc_cli.specs.Running.{Seen}
-use Rattle.ckc_cli.specs.Interpreting.{Interpreted, ShowsAs, ShowsMeaning, IsStuckFirst, meant_status, standing_after}
-use Rattle.ckc_cli.specs.Causes.{Holds, Over, Given, StoreIsFine, AllIsFine}
-use Rattle.ckc_cli.specs.Commands.{name_of}
-use Rattle.ckc_cli.proofs.Wording.{reads_once}
+use Rattle.ckc_commands.specs.declared.status.Status.{Status}
+use Rattle.ckc_commands.specs.declared.status.Status.TheVariants as status
+use Rattle.ckc_commands.specs.Words.{Command, Interp, Reads}
+use Rattle.ckc_commands.specs.Commands.{Lists, Executes, Means}
+use Rattle.ckc_commands.specs.Running.{Seen}
+use Rattle.ckc_commands.specs.Interpreting.{Interpreted, ShowsAs, ShowsMeaning, IsStuckFirst, meant_status, standing_after}
+use Rattle.ckc_commands.specs.Causes.{Holds, Over, Given, StoreIsFine, AllIsFine}
+use Rattle.ckc_commands.specs.Commands.{name_of}
+use Rattle.ckc_cli.proofs.OneCommand.{reads_once}
 use Rattle.ckc_cli.proofs.Always as always
 use Rattle.ckc_cli.proofs.Statuses as by
 use Rattle.ckc_cli.proofs.Statuses.{same_meant, not_meant, by_usage, by_store, by_refusal, by_bad, by_keeping, by_not_keeping, by_memory, by_keeping_memory, by_listing, by_cut_listing, by_running, by_meaning}

@@ -1,10 +1,1 @@
-pub mod Report
-pub mod Words
-pub mod Commanded
-pub mod Judging
-pub mod Commands
-pub mod Running
-pub mod Causes
-pub mod Fetching
 pub mod Agreeing
-pub mod Interpreting

@@ -11,18 +11,17 @@ ghost use Rattle.ckc_build.specs.Meanings.{HasMeaning};
 ghost use Rattle.ckc_source.specs.Code.{Program};
 ghost use Rattle.ckc_source.specs.Source.{place_after, unchecked_since};
 ghost use Rattle.ckc_interp.specs.declared.seen.Seen.{Seen};
-ghost use Rattle.ckc_cli.specs.Words.{Command, Build, Exec, Interp, Show, Reads, bytes_of};
-ghost use Rattle.ckc_cli.specs.Commands.{Refuses, IsBad, Keeps, Lists, Executes, AsksToKeep};
-ghost use Rattle.ckc_cli.specs.Running.{Ran, seen_of, status_of, shows_run};
+ghost use Rattle.ckc_commands.specs.Words.{Command, Build, Exec, Interp, Show, Reads, bytes_of};
+ghost use Rattle.ckc_commands.specs.Commands.{Refuses, IsBad, Keeps, Lists, Executes, AsksToKeep};
+ghost use Rattle.ckc_commands.specs.Running.{Ran, seen_of, status_of, shows_run};
 ghost use Rattle.ckc_cli.specs.Agreeing.{RanBuilt, OfInput, PrintedFirst, StandsAsMeant, GoesAsMeant, IsStuckAsMeant, StandsInTime, PutsInTime};
-ghost use Rattle.ckc_cli.specs.Interpreting.{ShowsAs, ShowsMeaning, IsStuckFirst, standing_after};
-ghost use Rattle.ckc_cli.specs.Report.{report_of};
-ghost use Rattle.ckc_cli.specs.Causes.{Caused, Over, Given, StoreIsFine, AllIsFine, HasImage, IsDone, IsRun, IsCutShort, KeepsOthers, Reported, puts_after};
+ghost use Rattle.ckc_commands.specs.Interpreting.{ShowsAs, ShowsMeaning, IsStuckFirst, standing_after};
+ghost use Rattle.ckc_commands.specs.Report.{report_of};
+ghost use Rattle.ckc_commands.specs.Causes.{Over, Given, StoreIsFine, AllIsFine, HasImage, IsDone, IsRun, IsCutShort, KeepsOthers, Reported, puts_after};
 
-use crate::commands::obey;
-use crate::reporting::report;
-use crate::status::Status;
-use crate::words::command_of;
+use ckc_calls::put_line;
+use ckc_commands::{Status, report};
+use ckc_dispatch::asked;
 use ckc_outside::{Sink, Source, Store};
 use std::alloc::Global;
 
@@ -307,31 +306,5 @@ fn tell<E: Sink>(status: &Status, err: &mut E)
     ensures counts { E.faults err.old ≤ E.faults err.new }
 {
     let line = report(status);
-    let line = line.as_bytes();
-    if !line.is_empty() {
-        let _ = err.put(line);
-    }
-}
-
-/// Does what the words ask for.
-fn asked<S: Source, O: Sink, F: Store>(
-    alloc: Global,
-    words: &[String],
-    input: &mut S,
-    out: &mut O,
-    store: &mut F,
-) -> Status
-    ensures cause { Caused (bytes_of words.now)
-        (seen_of S.left S.ended S.answers S.faults O.written O.faults input.old out.old)
-        (seen_of S.left S.ended S.answers S.faults O.written O.faults input.new out.new)
-        (F.seen store.old) (F.seen store.new)
-        (out.new ≡ out.old) (input.new ≡ input.old) (store.new ≡ store.old) result }
-    ensures input_counts { S.faults input.old ≤ S.faults input.new }
-    ensures out_counts { O.faults out.old ≤ O.faults out.new }
-    ensures store_counts { (F.seen store.old).faults ≤ (F.seen store.new).faults }
-{
-    match command_of(words) {
-        None => Status::Usage,
-        Some(command) => obey(alloc, command, input, out, store),
-    }
+    put_line(line.as_bytes(), err);
 }

@@ -2,10 +2,10 @@ use Rattle.std.proofs.Common.{inr, ap}
 use Rattle.ckc_interp.specs.declared.seen.Seen.TheVariants as seen
 use Rattle.ckc_cli.proofs.Statuses as by
 use Rattle.ckc_cli.proofs.Always as always
-use Rattle.ckc_cli.proofs.Obeying.{unkept_same}
 use Rattle.ckc_cli.proofs.Files as files
 use Rattle.ckc_cli.proofs.Execs as execs
 use Rattle.ckc_cli.proofs.Keeping as keeping
+use Rattle.ckc_cli.proofs.Keeping.{unkept_same}
 use Rattle.ckc_cli.proofs.Touching as touching
 use Rattle.ckc_cli.proofs.Completing as completing
 use Rattle.ckc_cli.proofs.Meant as meant

@@ -1,0 +1,104 @@
+//! Running and listing the bytes of an image, and what a run of a meaning shows.
+ghost use Rattle.std.specs.Prelude.{◌≡◌, ◌≤◌};
+ghost use Rattle.ckc_rv.specs.Machine.{Parts};
+ghost use Rattle.ckc_listing.specs.Listing.{listing};
+ghost use Rattle.ckc_commands.specs.Interpreting.{meant_status};
+ghost use Rattle.ckc_commands.specs.Running.{Ends, Listed, OverImage, seen_of, status_of};
+
+use crate::status::Status;
+use ckc_image::View;
+use ckc_interp::Seen;
+use ckc_listing::list;
+use ckc_machine::{Machine, Observed};
+use ckc_outside::{Sink, Source};
+use std::alloc::Global;
+
+/// Runs the image that the bytes are, or says which part of them disagrees.
+pub fn run_bytes<S: Source, O: Sink>(
+    alloc: Global,
+    image: &[u8],
+    limit: u64,
+    input: &mut S,
+    out: &mut O,
+) -> Status
+    ensures over { OverImage image.now (λ parts. Ends parts limit
+        (seen_of S.left S.ended S.answers S.faults O.written O.faults input.old out.old)
+        (seen_of S.left S.ended S.answers S.faults O.written O.faults input.new out.new)
+        (out.new ≡ out.old) (input.new ≡ input.old) result)
+        ((out.new ≡ out.old) × (input.new ≡ input.old)) result }
+    ensures input_counts { S.faults input.old ≤ S.faults input.new }
+    ensures out_counts { O.faults out.old ≤ O.faults out.new }
+{
+    match View::read(image) {
+        Err(bad) => Status::BadImage(bad.0),
+        Ok(view) => run_view(alloc, view, limit, input, out),
+    }
+}
+
+/// Runs an image.
+fn run_view<'a, S: Source, O: Sink>(
+    alloc: Global,
+    view: View<'a>,
+    limit: u64,
+    input: &mut S,
+    out: &mut O,
+) -> Status
+    ensures ran { (parts : Parts) → parts.entry ≡ view.entry.entry
+        → parts.code ≡ view.entry.code.now → parts.initial ≡ view.entry.initial.now
+        → Ends parts limit
+        (seen_of S.left S.ended S.answers S.faults O.written O.faults input.old out.old)
+        (seen_of S.left S.ended S.answers S.faults O.written O.faults input.new out.new)
+        (out.new ≡ out.old) (input.new ≡ input.old) result }
+    ensures input_counts { S.faults input.old ≤ S.faults input.new }
+    ensures out_counts { O.faults out.old ≤ O.faults out.new }
+{
+    match Machine::load(alloc, view) {
+        Err(_) => Status::Memory,
+        Ok(mut machine) => shown(machine.run(limit, input, out)),
+    }
+}
+
+/// The status of what a run shows.
+fn shown(observed: Observed) -> Status
+    ensures { result ≡ status_of observed }
+{
+    match observed {
+        Observed::Ended(value) => Status::Ended(value),
+        Observed::Stopped(check, pos) => Status::Stopped(check, pos),
+        Observed::Going => Status::Going,
+        Observed::Fault(kind, pc) => Status::MachineFault(kind, pc),
+        Observed::ReadFault => Status::ReadFault,
+        Observed::WriteFault => Status::WriteFault,
+    }
+}
+
+/// The status of what a run of a meaning shows.
+pub fn meant(seen: Seen) -> Status
+    ensures { result ≡ meant_status seen }
+{
+    match seen {
+        Seen::Ended(value) => Status::Ended(value),
+        Seen::Stopped(check, pos) => Status::Stopped(check, pos),
+        Seen::Going => Status::Going,
+        Seen::Stuck(at, since) => Status::Stuck(at, since),
+        Seen::ReadFault => Status::ReadFault,
+        Seen::WriteFault => Status::WriteFault,
+        Seen::Memory => Status::Memory,
+    }
+}
+
+/// Puts the listing of the image that the bytes are, or says which part of them disagrees.
+pub fn list_bytes<O: Sink>(image: &[u8], out: &mut O) -> Status
+    ensures over { OverImage image.now (λ parts. Listed
+        (listing parts.entry parts.code parts.initial) (O.written out.old) (O.written out.new)
+        (O.faults out.old) (O.faults out.new) result) (out.new ≡ out.old) result }
+    ensures out_counts { O.faults out.old ≤ O.faults out.new }
+{
+    match View::read(image) {
+        Err(bad) => Status::BadImage(bad.0),
+        Ok(view) => match list(view.entry, view.code, view.initial, out) {
+            Ok(()) => Status::Done,
+            Err(_) => Status::WriteFault,
+        },
+    }
+}
