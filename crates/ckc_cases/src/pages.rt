@@ -14,24 +14,24 @@ enum Part {
 pub fn run_page(file: &File, report: &mut Report) {
     let failed_before = report.failed;
     let mut part = Part::Outside;
-    let mut command = "";
+    let mut is_assembly = false;
     let mut lines = Page::new(report.page.alloc());
     let mut count = 0u32;
     for line in file.text.lines() {
         if part == Part::Within {
             if line == "```" {
                 part = Part::Behind;
-                lines.put(command);
+                if is_assembly {
+                    lines.put("\nccc asm text image");
+                } else {
+                    lines.put("\nccc exec text");
+                }
             } else {
                 put_text(line.as_bytes(), &mut lines);
             }
         } else if line == "```c" || line == "```asm" {
             part = Part::Within;
-            command = if line == "```c" {
-                "\nccc exec text"
-            } else {
-                "\nccc asm text image"
-            };
+            is_assembly = line == "```asm";
             lines = Page::new(report.page.alloc());
             lines.put("file text ");
         } else if part == Part::Behind && line.starts_with('`') && line.ends_with('`') {

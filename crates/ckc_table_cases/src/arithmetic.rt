@@ -1,8 +1,10 @@
 //! Operations on words, and the run-time checks.
 
-use crate::instructions::spelled;
 use ckc_base::{BinOp, apply, check_name, check_number, check_of};
 use ckc_trials::Page;
+
+/// The names of the operations, in the order of the list below.
+const NAMES: &str = "Add Sub Mul DivS DivU RemS RemU And Or Xor Shl ShrS ShrU LtS LtU Eq Ne";
 
 const OPERATIONS: [BinOp; 17] = [
     BinOp::Add,
@@ -28,10 +30,19 @@ const OPERATIONS: [BinOp; 17] = [
 pub fn apply_case(op: &str, a: &str, b: &str, page: &mut Page) {
     let a = page.word_of(a);
     let b = page.word_of(b);
-    match spelled(&OPERATIONS, op, page) {
+    match operation_named(op) {
         Some(op) => page.put_hex(apply(op, a, b)),
         None => page.refuse("an unknown operation"),
     }
+}
+
+fn operation_named(wanted: &str) -> Option<BinOp> {
+    for (name, op) in NAMES.split_whitespace().zip(OPERATIONS.iter()) {
+        if name == wanted {
+            return Some(*op);
+        }
+    }
+    None
 }
 
 /// `check | NUMBER`: the check that has the number, its number and its name.
