@@ -1,7 +1,9 @@
 //! The one case in code: labelled lines with jumps to any distance, which no text of assembly spells.
 use ckc_base::Seq;
+use ckc_image::Parts;
 use ckc_lines::{Labelled, Line, assemble};
 use ckc_rv::{BranchOp, Instr};
+use ckc_trials::Report;
 use std::alloc::{AllocError, Global};
 
 /// The words are those of LLVM's `llvm-mc`.
@@ -15,8 +17,30 @@ const CODE: [u8; 28] = [
     0x73, 0x00, 0x00, 0x00, // ecall
 ];
 
-/// Labels in front, behind and in the middle, and each kind of line. What did not come as wanted, where it did not.
-pub fn run_labelled(alloc: Global) -> Result<Option<String>, AllocError> {
+/// Tries them.
+pub fn run_labelled(report: &mut Report) {
+    let failed_before = report.failed;
+    match assembled(report.page.alloc()) {
+        Ok(parts) if is_wanted(&parts) => {}
+        Ok(parts) => {
+            report.failed = report.failed.saturating_add(1);
+            report.page.put_digits(parts.code.as_slice());
+            report.page.put("\n");
+        }
+        Err(_) => report.page.lacks_memory(),
+    }
+    report.count("labelled lines", 1, " case, ", failed_before);
+    report.page.put(" differ\n");
+}
+
+fn is_wanted(parts: &Parts) -> bool {
+    parts.entry == 0x1008
+        && parts.code.as_slice() == CODE.as_slice()
+        && parts.initial.as_slice() == [1, 2].as_slice()
+}
+
+/// Labels in front, behind and in the middle, and each kind of line.
+fn assembled(alloc: Global) -> Result<Parts, AllocError> {
     let lines = [
         Line::Label(7),
         Line::Jump(1, 9),
@@ -33,11 +57,5 @@ pub fn run_labelled(alloc: Global) -> Result<Option<String>, AllocError> {
         start: 8,
         initial: Seq::from_slice(alloc, &[1, 2])?,
     };
-    let parts = assemble(alloc, &labelled)?;
-    let (entry, code, initial) = (parts.entry, parts.code.as_slice(), parts.initial.as_slice());
-    if entry == 0x1008 && code == CODE.as_slice() && initial == [1, 2].as_slice() {
-        return Ok(None);
-    }
-    let message = format!(in alloc; "differs\n  came: {entry} {code:?} {initial:?}")?;
-    Ok(Some(message))
+    assemble(alloc, &labelled)
 }

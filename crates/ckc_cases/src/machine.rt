@@ -1,21 +1,22 @@
 //! Cases of the machine alone: it is loaded once, and run and run again.
-use crate::commands::{message_of, same};
-use crate::notation::{bytes_of, numbers_of, shown, split_word};
-use crate::why::Why;
+use crate::commands::want;
+use crate::notation::{bytes_of, number_of, numbers_of, split_word};
 use ckc_asm::read_asm;
 use ckc_image::{View, write};
 use ckc_machine::Machine;
 use ckc_outside::{MemSink, MemSource};
-use std::alloc::{AllocError, Global};
+use ckc_trials::Page;
+
+/// How many bytes the output may have room for.
+const ROOM: usize = 4096;
 
 /// What the machine is given: its image, the input, the room of the output, and which calls fail; and whether a line
 /// was read that is done later.
 struct Given {
-    alloc: Global,
     complete: bool,
     image: Vec<u8>,
     input: Vec<u8>,
-    room: Vec<u8>,
+    room: usize,
     input_fails: Vec<u64>,
     out_fails: Vec<u64>,
 }
@@ -23,153 +24,106 @@ struct Given {
 impl Drop for Given {
     fn drop(self) {
         let Given {
-            alloc: _,
             complete: _,
             image: _image,
             input: _input,
-            room: _room,
+            room: _,
             input_fails: _input_fails,
             out_fails: _out_fails,
         } = self;
     }
 }
 
-/// Does a case. What did not come as wanted, where it did not.
-pub fn run_machine(alloc: Global, lines: &str) -> Result<Option<String>, AllocError> {
+/// Does a case. Tells what did not come as wanted.
+pub fn run_machine(lines: &str, page: &mut Page) {
     let mut given = Given {
-        alloc,
         complete: false,
-        image: Vec::new(alloc),
-        input: Vec::new(alloc),
-        room: Vec::new(alloc),
-        input_fails: Vec::new(alloc),
-        out_fails: Vec::new(alloc),
+        image: Vec::new(page.alloc()),
+        input: Vec::new(page.alloc()),
+        room: 0,
+        input_fails: Vec::new(page.alloc()),
+        out_fails: Vec::new(page.alloc()),
     };
     for line in lines.lines() {
-        if let Err(why) = given.take(line) {
-            return Ok(Some(message_of(alloc, line, why)?));
-        }
+        given.take(line, page);
     }
-    given.run(lines)
+    match View::read(given.image.as_slice()) {
+        Ok(view) => given.load(view, lines, page),
+        Err(_) => page.refuse("no text"),
+    }
 }
 
 impl Given {
     /// Reads a line. Those that are done later stand behind the others.
-    fn take(&mut self, line: &str) -> Result<(), Why> {
+    fn take(&mut self, line: &str, page: &mut Page) {
         let (key, rest) = split_word(line);
         match key {
-            "run" | "out" => {
-                self.complete = true;
-                Ok(())
+            "run" | "out" => self.complete = true,
+            _ if self.complete => page.refuse("a line behind the runs"),
+            "text" => self.set_image(bytes_of(rest, page).as_slice(), page),
+            "input" => self.input = bytes_of(rest, page),
+            "room" => self.room = usize::try_from(number_of(rest, page)).unwrap_or(0),
+            "fails" => {
+                let (object, numbers) = split_word(rest);
+                match object {
+                    "input" => self.input_fails = numbers_of(numbers, page),
+                    "out" => self.out_fails = numbers_of(numbers, page),
+                    _ => page.refuse("no such object"),
+                }
             }
-            _ if self.complete => Err(Why::Form),
-            "text" => self.set_image(rest),
-            "input" => {
-                self.input = bytes_of(self.alloc, rest)?;
-                Ok(())
-            }
-            "room" => self.set_room(rest),
-            "fails" => self.set_fails(rest),
-            _ => Err(Why::Form),
+            _ => page.refuse("no form has the line"),
         }
     }
 
-    /// `text ASSEMBLY`
-    fn set_image(&mut self, rest: &str) -> Result<(), Why> {
-        let text = bytes_of(self.alloc, rest)?;
-        match read_asm(self.alloc, text.as_slice()) {
-            Ok(parts) => {
-                self.image = write(self.alloc, &parts)?;
-                Ok(())
-            }
-            Err(_) => Err(Why::Form),
+    /// The image of a text in assembly.
+    fn set_image(&mut self, text: &[u8], page: &mut Page) {
+        match read_asm(page.alloc(), text) {
+            Ok(parts) => match write(page.alloc(), &parts) {
+                Ok(image) => self.image = image,
+                Err(_) => page.lacks_memory(),
+            },
+            Err(_) => page.refuse("no assembly"),
         }
     }
 
-    /// `room NUMBER`: how many bytes fit on the output.
-    fn set_room(&mut self, rest: &str) -> Result<(), Why> {
-        match rest.parse::<usize>() {
-            Ok(count) => {
-                self.room.resize(count, 0)?;
-                Ok(())
-            }
-            Err(_) => Err(Why::Form),
-        }
-    }
-
-    /// `fails input NUMBERS`, `fails out NUMBERS`
-    fn set_fails(&mut self, rest: &str) -> Result<(), Why> {
-        let (object, numbers) = split_word(rest);
-        let numbers = numbers_of(self.alloc, numbers)?;
-        match object {
-            "input" => {
-                self.input_fails = numbers;
-                Ok(())
-            }
-            "out" => {
-                self.out_fails = numbers;
-                Ok(())
-            }
-            _ => Err(Why::Form),
+    fn load(&self, view: View<'_>, lines: &str, page: &mut Page) {
+        match Machine::load(page.alloc(), view) {
+            Ok(machine) => self.run(machine, lines, page),
+            Err(_) => page.lacks_memory(),
         }
     }
 
     /// Does the other lines, of which the last judges the output.
-    fn run(&mut self, lines: &str) -> Result<Option<String>, AllocError> {
-        let Ok(view) = View::read(self.image.as_slice()) else {
-            return Ok(Some(message_of(self.alloc, "no text", Why::Form)?));
-        };
-        let mut machine = Machine::load(self.alloc, view)?;
+    fn run(&self, mut machine: Machine<'_>, lines: &str, page: &mut Page) {
+        let mut room = [0u8; ROOM];
         let mut input = MemSource::new(self.input.as_slice(), self.input_fails.as_slice());
-        let mut out = MemSink::new(self.room.as_mut_slice(), self.out_fails.as_slice());
-        let mut came = String::new(self.alloc);
+        let mut out = MemSink::new(&mut room[..self.room.min(ROOM)], self.out_fails.as_slice());
         let mut is_out = false;
         for line in lines.lines() {
-            if let Err(why) = judge(
-                self.alloc,
-                line,
-                &mut machine,
-                &mut input,
-                &mut out,
-                &mut came,
-            ) {
-                return Ok(Some(format!(in self.alloc; "{why} at: {line}\n  came: {came}")?));
+            let (key, rest) = split_word(line);
+            is_out = key == "out";
+            if is_out {
+                let wanted = bytes_of(rest, page);
+                want(out.written() == wanted.as_slice(), page);
+            } else if key == "run" {
+                let (limit, wanted) = split_word(rest);
+                let answer = machine.run(number_of(limit, page), &mut input, &mut out);
+                let mut came = Page::new(page.alloc());
+                came.put_debug(&answer);
+                want(came.text() == wanted, page);
             }
-            is_out = line.starts_with("out");
+            if page.wrong().is_some() {
+                return tell(line, out.written(), page);
+            }
         }
-        if is_out {
-            Ok(None)
-        } else {
-            Ok(Some(message_of(self.alloc, "the end", Why::Form)?))
-        }
+        want(is_out, page);
     }
 }
 
-/// Does a line `run LIMIT ANSWER` or judges by a line `out BYTES`, and tells what came.
-fn judge(
-    alloc: Global,
-    line: &str,
-    machine: &mut Machine<'_>,
-    input: &mut MemSource<'_>,
-    out: &mut MemSink<'_>,
-    came: &mut String,
-) -> Result<(), Why> {
-    let (key, rest) = split_word(line);
-    match key {
-        "run" => {
-            let (limit, wanted) = split_word(rest);
-            let Ok(limit) = limit.parse::<u64>() else {
-                return Err(Why::Form);
-            };
-            let answer = machine.run(limit, input, out);
-            *came = format!(in alloc; "{answer:?}")?;
-            same(came.as_str() == wanted)
-        }
-        "out" => {
-            *came = shown(alloc, out.written())?;
-            let wanted = bytes_of(alloc, rest)?;
-            same(out.written() == wanted.as_slice())
-        }
-        _ => Ok(()),
-    }
+/// Writes what is wrong at a line, and what was put.
+fn tell(line: &str, out: &[u8], page: &mut Page) {
+    page.put(" at: ");
+    page.put(line);
+    page.put("\n  came: out ");
+    page.put_escaped(out);
 }

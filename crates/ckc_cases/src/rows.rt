@@ -1,106 +1,90 @@
 //! Cases of one line, written out as the lines of a case: `COMMAND WANTED | TEXT`, or `usage WORDS`.
 use crate::notation::split_word;
-use crate::why::Why;
-use std::alloc::Global;
+use ckc_trials::Page;
 
 /// The lines of a case: what stands in front of the text, between it and what is wanted, and behind that.
 struct Frame(&'static str, &'static str, &'static str);
 
-const EXEC: Frame = Frame("file text ", "\nccc exec text\n", "");
-
-const INTERP: Frame = Frame("file text ", "\nccc interp text\n", "");
-
-const IMAGE: Frame = Frame("file image ", "\nccc run image\n", "");
-
-const REPORT: Frame = Frame("report ", "\n", "");
-
-/// `asm` asks nothing of input and output.
-const ASM: Frame = Frame(
-    "file text ",
-    "\nfails input 1\nfails out 1\nccc asm text image\n",
-    "\nlacks image",
-);
-
-const PARTS: Frame = Frame(
-    "file text ",
-    "\nfails input 1\nfails out 1\nccc asm text image\nexit 0\nstatus Done\nparts image ",
-    "",
-);
-
-const RUN: Frame = Frame(
-    "file text ",
-    "\nccc asm text image\nexit 0\nstatus Done\nccc run image 100\n",
-    "",
-);
-
-const USAGE: Frame = Frame(
-    "file file int main(void) { putchar(72); return 0; }\nccc ",
-    "\nexit 112\nerr ccc: wrong words\\n",
-    "",
-);
+/// The lines of the cases of a command. `asm` asks nothing of input and output.
+fn frame_of(command: &str) -> Option<Frame> {
+    match command {
+        "exec" => Some(Frame("file text ", "\nccc exec text\n", "")),
+        "interp" => Some(Frame("file text ", "\nccc interp text\n", "")),
+        "image" => Some(Frame("file image ", "\nccc run image\n", "")),
+        "report" => Some(Frame("report ", "\n", "")),
+        "asm" => Some(Frame(
+            "file text ",
+            "\nfails input 1\nfails out 1\nccc asm text image\n",
+            "\nlacks image",
+        )),
+        "parts" => Some(Frame(
+            "file text ",
+            "\nfails input 1\nfails out 1\nccc asm text image\nexit 0\nstatus Done\nparts image ",
+            "",
+        )),
+        "run" => Some(Frame(
+            "file text ",
+            "\nccc asm text image\nexit 0\nstatus Done\nccc run image 100\n",
+            "",
+        )),
+        _ => None,
+    }
+}
 
 /// The lines of the case that a row stands for.
-pub fn lines_of(alloc: Global, row: &str) -> Result<String, Why> {
+pub fn lines_of(row: &str, lines: &mut Page) {
     let (command, rest) = split_word(row);
-    match (command, bar_in(rest)) {
-        ("usage", _) => filled(alloc, &USAGE, "", rest),
-        ("parts", Some((parts, text))) => filled(alloc, &PARTS, parts, text),
-        ("exec", Some((wanted, text))) => wanting(alloc, &EXEC, wanted, text),
-        ("interp", Some((wanted, text))) => wanting(alloc, &INTERP, wanted, text),
-        ("image", Some((wanted, text))) => wanting(alloc, &IMAGE, wanted, text),
-        ("report", Some((wanted, text))) => wanting(alloc, &REPORT, wanted, text),
-        ("asm", Some((wanted, text))) => wanting(alloc, &ASM, wanted, text),
-        ("run", Some((wanted, text))) => wanting(alloc, &RUN, wanted, text),
-        _ => Err(Why::Form),
+    if command == "usage" {
+        lines.put("file file int main(void) { putchar(72); return 0; }\nccc ");
+        lines.put(rest);
+        lines.put("\nexit 112\nerr ccc: wrong words\\n");
+        return;
+    }
+    match frame_of(command) {
+        Some(Frame(before, between, after)) => {
+            let (wanted, text) = lines.parts_of(rest, " |");
+            lines.put(before);
+            lines.put(text.strip_prefix(' ').unwrap_or(text));
+            lines.put(between);
+            put_wanted(command, wanted, lines);
+            lines.put(after);
+        }
+        None => lines.refuse("no form has the row"),
     }
 }
 
-/// What stands in front of the first bar, and the text behind it and a blank.
-fn bar_in(rest: &str) -> Option<(&str, &str)> {
-    let (wanted, text) = rest.split_once(" |")?;
-    if text.is_empty() {
-        return Some((wanted, text));
-    }
-    Some((wanted, text.strip_prefix(' ')?))
-}
-
-fn filled(alloc: Global, frame: &Frame, wanted: &str, text: &str) -> Result<String, Why> {
-    let Frame(before, between, after) = frame;
-    let lines = format!(in alloc; "{before}{text}{between}{wanted}{after}")?;
-    Ok(lines)
-}
-
-fn wanting(alloc: Global, frame: &Frame, wanted: &str, text: &str) -> Result<String, Why> {
-    let wanted = wanted_lines(alloc, wanted)?;
-    filled(alloc, frame, wanted.as_str(), text)
-}
-
-/// What is wanted of a call: `ended VALUE OUTPUT`; `done`; `E301 1:24`; or the exit status and the line on standard
-/// error.
-fn wanted_lines(alloc: Global, wanted: &str) -> Result<String, Why> {
+/// Writes what is wanted: the parts of an image, or of a call `ended VALUE OUTPUT`; `done`; `E301 1:24`; or the exit
+/// status and the line on standard error.
+fn put_wanted(command: &str, wanted: &str, lines: &mut Page) {
     let (first, rest) = split_word(wanted);
-    match first {
-        "ended" => ended_lines(alloc, rest),
-        "done" => Ok(String::from_str(alloc, "exit 0\nstatus Done")?),
-        _ => told_lines(alloc, first, rest),
+    if command == "parts" {
+        lines.put(wanted);
+    } else if first == "ended" {
+        put_ended(rest, lines);
+    } else if first == "done" {
+        lines.put("exit 0\nstatus Done");
+    } else if first.starts_with('E') {
+        lines.put("exit 113\nerr refused: ");
+        lines.put(first);
+        lines.put(" at ");
+        lines.put(rest);
+        lines.put("\\n");
+    } else {
+        lines.put("exit ");
+        lines.put(first);
+        lines.put("\nerr ");
+        lines.put(rest);
+        lines.put("\\n");
     }
 }
 
-fn told_lines(alloc: Global, first: &str, rest: &str) -> Result<String, Why> {
-    let lines = if first.starts_with('E') {
-        format!(in alloc; "exit 113\nerr refused: {first} at {rest}\\n")?
-    } else {
-        format!(in alloc; "exit {first}\nerr {rest}\\n")?
-    };
-    Ok(lines)
-}
-
-fn ended_lines(alloc: Global, rest: &str) -> Result<String, Why> {
+fn put_ended(rest: &str, lines: &mut Page) {
     let (value, out) = split_word(rest);
-    let Ok(value) = value.parse::<u32>() else {
-        return Err(Why::Form);
-    };
-    let exit = value % 256;
-    let lines = format!(in alloc; "exit {exit}\nstatus Ended({value})\nout {out}")?;
-    Ok(lines)
+    let exit = lines.word_of(value) % 256;
+    lines.put("exit ");
+    lines.put_number(i64::from(exit));
+    lines.put("\nstatus Ended(");
+    lines.put(value);
+    lines.put(")\nout ");
+    lines.put(out);
 }

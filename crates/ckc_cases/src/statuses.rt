@@ -2,72 +2,78 @@
 use crate::notation::split_word;
 use ckc_base::{Pos, Refusal, check_of};
 use ckc_cli::{FaultKind, Status};
+use ckc_trials::Page;
 
 /// `done`, `ended 7`, `stopped 2 9:14` with the number of the check, `fault load 4096`, `stuck 3:38 5:7` or `stuck 3:38`,
 /// `refused 301 1:24`, `image 3`, and the others by their word.
-pub fn status_of(text: &str) -> Option<Status> {
+pub fn status_of(text: &str, page: &mut Page) -> Status {
     let (name, rest) = split_word(text);
     match name {
-        "done" => Some(Status::Done),
-        "ended" => Some(Status::Ended(rest.parse::<u32>().ok()?)),
-        "stopped" => stopped_of(rest),
-        "going" => Some(Status::Going),
-        "fault" => fault_of(rest),
-        "stuck" => stuck_of(rest),
-        "usage" => Some(Status::Usage),
-        "refused" => refused_of(rest),
-        "image" => Some(Status::BadImage(rest.parse::<u8>().ok()?)),
-        "input" => Some(Status::ReadFault),
-        "output" => Some(Status::WriteFault),
-        "store" => Some(Status::StoreFault),
-        "memory" => Some(Status::Memory),
-        _ => None,
+        "done" => Status::Done,
+        "ended" => Status::Ended(page.word_of(rest)),
+        "going" => Status::Going,
+        "usage" => Status::Usage,
+        "image" => Status::BadImage(page.byte_of(rest)),
+        "input" => Status::ReadFault,
+        "output" => Status::WriteFault,
+        "store" => Status::StoreFault,
+        "memory" => Status::Memory,
+        _ => {
+            let (first, second) = split_word(rest);
+            status_of_two(name, first, second, page)
+        }
     }
 }
 
-fn stopped_of(text: &str) -> Option<Status> {
-    let (number, place) = split_word(text);
-    let check = check_of(number.parse::<u32>().ok()?)?;
-    Some(Status::Stopped(check, place_of(place)?))
-}
-
-fn stuck_of(text: &str) -> Option<Status> {
-    let (at, since) = split_word(text);
-    let at = place_of(at)?;
-    if since.is_empty() {
-        return Some(Status::Stuck(at, None));
-    }
-    Some(Status::Stuck(at, Some(place_of(since)?)))
-}
-
-fn fault_of(text: &str) -> Option<Status> {
-    let (kind, pc) = split_word(text);
-    Some(Status::MachineFault(kind_of(kind)?, pc.parse::<u32>().ok()?))
-}
-
-fn kind_of(name: &str) -> Option<FaultKind> {
+fn status_of_two(name: &str, first: &str, second: &str, page: &mut Page) -> Status {
     match name {
-        "fetch" => Some(FaultKind::Fetch),
-        "word" => Some(FaultKind::Word),
-        "align" => Some(FaultKind::Align),
-        "load" => Some(FaultKind::Load),
-        "store" => Some(FaultKind::Store),
-        "break" => Some(FaultKind::Break),
-        "call" => Some(FaultKind::Call),
-        _ => None,
+        "fault" => Status::MachineFault(kind_of(first, page), page.word_of(second)),
+        "stuck" if second.is_empty() => Status::Stuck(place_of(first, page), None),
+        "stuck" => Status::Stuck(place_of(first, page), Some(place_of(second, page))),
+        "refused" => refused(page.word_of(first), place_of(second, page), page),
+        "stopped" => stopped(page.word_of(first), place_of(second, page), page),
+        _ => no_status(page),
     }
 }
 
-fn refused_of(text: &str) -> Option<Status> {
-    let (code, place) = split_word(text);
-    let code = code.parse::<u16>().ok()?;
-    let pos = place_of(place)?;
-    Some(Status::Refused(Refusal { code, pos }))
+fn no_status(page: &mut Page) -> Status {
+    page.refuse("no such status");
+    Status::Done
 }
 
-fn place_of(text: &str) -> Option<Pos> {
-    let (line, col) = text.split_once(':')?;
-    let line = line.parse::<u32>().ok()?;
-    let col = col.parse::<u32>().ok()?;
-    Some(Pos { line, col })
+fn refused(code: u32, pos: Pos, page: &mut Page) -> Status {
+    match u16::try_from(code) {
+        Ok(code) => Status::Refused(Refusal { code, pos }),
+        Err(_) => no_status(page),
+    }
+}
+
+fn stopped(number: u32, at: Pos, page: &mut Page) -> Status {
+    match check_of(number) {
+        Some(check) => Status::Stopped(check, at),
+        None => no_status(page),
+    }
+}
+
+fn kind_of(name: &str, page: &mut Page) -> FaultKind {
+    match name {
+        "fetch" => FaultKind::Fetch,
+        "word" => FaultKind::Word,
+        "align" => FaultKind::Align,
+        "load" => FaultKind::Load,
+        "store" => FaultKind::Store,
+        "break" => FaultKind::Break,
+        "call" => FaultKind::Call,
+        _ => {
+            page.refuse("no such fault");
+            FaultKind::Call
+        }
+    }
+}
+
+fn place_of(text: &str, page: &mut Page) -> Pos {
+    let (line, col) = page.parts_of(text, ":");
+    let line = page.word_of(line);
+    let col = page.word_of(col);
+    Pos { line, col }
 }

@@ -3,24 +3,15 @@
 #![tactic(auto)]
 
 mod answer;
-mod page;
 mod parts;
 mod phases;
 mod source;
 
 use answer::Phases;
-use ckc_case_lines::run_files;
+use ckc_trials::run_words;
+use std::io;
 use std::process::ExitCode;
-use std::{env, io};
 
 fn main(rt: HostRuntime) -> io::Result<ExitCode> {
-    let mut failed = 0u64;
-    for name in env::args(&rt)?.skip(1) {
-        failed = failed.saturating_add(run_files(&rt, &Phases, &[name.as_str()])?);
-    }
-    Ok(if failed == 0 {
-        ExitCode::SUCCESS
-    } else {
-        ExitCode::FAILURE
-    })
+    run_words(&rt, &Phases)
 }

@@ -1,7 +1,7 @@
 //! The part of a tree that a case is about: it stands last.
-use crate::page::Page;
 use crate::source::put_type;
 use ckc_syntax::{Act, Decl, Expr, Init, Item, Name, Stmt, Tree};
+use ckc_trials::Page;
 use ckc_typed::Note;
 
 /// The body of the last item, where that is a function.

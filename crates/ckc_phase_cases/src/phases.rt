@@ -1,5 +1,4 @@
 //! A text through the phases, up to the one of which something is asked.
-use crate::page::Page;
 use crate::parts::{last_statement, last_value, put_last_type};
 use crate::source::{Written, put_expr, put_objects, put_place, put_statement, put_tokens};
 use ckc_base::{Fault, Pos};
@@ -8,6 +7,7 @@ use ckc_parser::parse;
 use ckc_resolve::resolve;
 use ckc_scopes::scopes;
 use ckc_syntax::{NamedText, Spelling, Token, Tree, fits};
+use ckc_trials::Page;
 use ckc_typed::Typed;
 use ckc_typing::type_of;
 use std::alloc::Global;
@@ -48,7 +48,7 @@ pub fn put_answer(alloc: Global, asked: Asked, text: &[u8], page: &mut Page) -> 
         Asked::Tokens => put_tokens(page, tokens.as_slice()),
         Asked::Fronts => {
             lex_fronts(alloc, text)?;
-            page.debug(&tokens.len());
+            page.put_debug(&tokens.len());
         }
         _ => of_tokens(alloc, asked, tokens.as_slice(), end_of(text), page)?,
     }
@@ -133,7 +133,7 @@ fn put_meanings(page: &mut Page, named: &NamedText) {
         None => page.put("nothing"),
     }
     page.put(" ");
-    page.number(named.main);
+    page.put_number(i64::from(named.main));
 }
 
 fn of_types(asked: Asked, typed: Typed, page: &mut Page) -> Result<(), Fault> {

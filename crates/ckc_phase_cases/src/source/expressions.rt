@@ -1,8 +1,9 @@
 use super::names::Written;
+use super::put_between;
 use super::types::put_type_tree;
-use crate::page::Page;
 use ckc_base::Boxed;
 use ckc_syntax::{Expr, Limits, Node, TreeOp, TypeTree};
+use ckc_trials::Page;
 
 /// Writes an expression. An operand that is an operation itself stands in parentheses; one that ends in `]`, `)` or a
 /// member does not.
@@ -108,7 +109,7 @@ fn is_operation<N, A>(node: &Node<N, A>) -> bool {
 #[cycle(expr)]
 pub fn put_exprs<N: Written, A>(page: &mut Page, es: &[Expr<N, A>]) {
     for (index, e) in es.iter().enumerate() {
-        page.between(index, ", ");
+        put_between(page, index, ", ");
         put_node(page, &e.node);
     }
 }
@@ -160,7 +161,7 @@ fn put_in_parentheses<N: Written>(page: &mut Page, t: &TypeTree<N>) {
 }
 
 fn put_number(page: &mut Page, number: u32, unsigned: bool) {
-    page.number(number);
+    page.put_number(i64::from(number));
     if unsigned {
         page.put("u");
     }
@@ -170,9 +171,26 @@ fn put_number(page: &mut Page, number: u32, unsigned: bool) {
 fn put_text(page: &mut Page, bytes: &[u8]) {
     page.put("\"");
     for byte in bytes {
-        page.character(*byte);
+        put_character(page, *byte);
     }
     page.put("\"");
+}
+
+/// Writes a byte of a string literal.
+fn put_character(page: &mut Page, byte: u8) {
+    match byte {
+        b'"' | b'\\' => {
+            page.put("\\");
+            page.put_bytes(&[byte]);
+        }
+        b' '..=b'~' => page.put_bytes(&[byte]),
+        _ => {
+            page.put("\\");
+            page.put_number(i64::from(byte / 64));
+            page.put_number(i64::from(byte / 8 % 8));
+            page.put_number(i64::from(byte % 8));
+        }
+    }
 }
 
 /// An operator.

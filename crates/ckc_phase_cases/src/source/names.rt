@@ -1,5 +1,5 @@
-use crate::page::Page;
 use ckc_syntax::{Name, Spelling};
+use ckc_trials::Page;
 
 /// What stands for a name in a tree.
 pub trait Written {
@@ -15,6 +15,6 @@ impl<'a> Written for Spelling<'a> {
 
 impl Written for Name {
     fn put(&self, page: &mut Page) {
-        page.debug(self);
+        page.put_debug(self);
     }
 }

@@ -1,9 +1,9 @@
 use super::expressions::{put_expr, put_exprs, put_limits};
 use super::names::Written;
 use super::types::put_type_tree;
-use crate::page::Page;
 use ckc_base::{Boxed, Mode};
 use ckc_syntax::{Act, Decl, Init, Length, Limits, Stmt};
+use ckc_trials::Page;
 
 /// Writes a declaration, without its `;`.
 fn put_decl<N: Written, A>(page: &mut Page, d: &Decl<N, A>) {
@@ -41,7 +41,7 @@ fn put_length(page: &mut Page, length: Length) {
     };
     page.put("[");
     if let Some(number) = number {
-        page.number(number);
+        page.put_number(i64::from(number));
     }
     page.put("]");
 }

@@ -1,7 +1,7 @@
 use super::names::Written;
-use crate::page::Page;
 use ckc_base::Boxed;
 use ckc_syntax::TypeTree;
+use ckc_trials::Page;
 use ckc_types::{CType, Kind};
 
 /// Writes a type, a structure by the number of its tag.
@@ -13,7 +13,7 @@ pub fn put_type(page: &mut Page, t: &CType) {
         CType::Void => page.put("void"),
         CType::Struct(tag) => {
             page.put("struct ");
-            page.number(*tag);
+            page.put_number(i64::from(*tag));
         }
         CType::Pointer(kind, inner) => {
             page.put(before(*kind));

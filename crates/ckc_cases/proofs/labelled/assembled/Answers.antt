@@ -8,7 +8,7 @@ use Rattle.ckc_lines.specs.declared.lines.Line.{Line}
 use Rattle.ckc_lines.specs.declared.lines.Line.TheVariants.{Label, Plain, Jump, Branch, Far}
 use Rattle.ckc_lines.specs.Assembled.{CanAssemble, distance}
 use Rattle.ckc_lines.proofs.LabelPlaces.{address_is, stand_each}
-use Rattle.ckc_cases.proofs.labelled.run_labelled.Goals as goal
+use Rattle.ckc_cases.proofs.labelled.assembled.Goals as goal
 
 abbrev lines : List Line
 lines = Label 7 ∷ Jump 1 9 ∷ Branch Bne 5 6 7 ∷ Label 8 ∷ Label 9 ∷ Far 0 7 ∷ Far 1 10 ∷ Plain Ecall ∷ Label 10 ∷ []
