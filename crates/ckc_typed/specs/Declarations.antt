@@ -1,5 +1,5 @@
 -- Declarations with their bounds and initialisers noted, and their first fault (ISO C11, 6.7.6 and 6.7.9; Checked C
--- specification 0.9, section 2). The type is judged, then the bounds, the initialiser, and the declaration itself.
+-- specification 0.9, section 2). The bounds are judged, then the initialiser, and at last the declaration itself.
 use Rattle.std.specs.Prelude.{ℕ, ◌+◌, ◌-◌, nat_le, Bool, true, false, not, ◌&&◌, ◌||◌, if◌then◌else◌, List, [], length, map, Option, None, Some, is_some, is_none, Ok}
 use Rattle.std.specs.List.{list_all}
 use Rattle.std.specs.Option.{option_map}
@@ -17,7 +17,7 @@ use Rattle.ckc_typed.specs.Codes.{bad_operands, bad_conversion, no_initialiser}
 use Rattle.ckc_typed.specs.declared.environment.Globals.{Globals}
 use Rattle.ckc_typed.specs.declared.environment.Variable.{Variable}
 use Rattle.ckc_typed.specs.declared.typed.Note.{Note}
-use Rattle.ckc_base.specs.Outcomes.{Outcome, bind, refused, unless, in_order}
+use Rattle.ckc_base.specs.Outcomes.{Outcome, bind, refused, in_order}
 use Rattle.ckc_typed.specs.Trees.{Decl, Init, NotedDecl, NotedInit, NotedLimits, NotedExpr}
 use Rattle.ckc_typed.specs.Types.{type_written, is_integer, is_pointer, is_scalar, is_char, kind_of, is_object_type, is_scalar_type}
 use Rattle.ckc_typed.specs.Environment.{kind_of_array}
@@ -51,17 +51,13 @@ abbrev pub is_nothing : NotedInit → Bool
 is_nothing init.Nothing = true
 is_nothing _ = false
 
--- E401 at the declared name: such a declaration has no such type
-abbrev pub type_allowed : Bool → Decl → Outcome (Unit {0})
-type_allowed allowed d = unless (not allowed) bad_operands d.pos (Ok tt)
-
 -- Parameters, members and locals are scalars.
-abbrev pub is_scalar_declared : Decl → Bool
+abbrev pub is_scalar_declared : NotedDecl → Bool
 is_scalar_declared d = is_scalar_type (type_written d.ctype)
 
--- Parameters and members have no initialiser.
+-- Parameters and members are no arrays, and have no initialiser.
 abbrev pub bare_fault : NotedDecl → Option ℕ
-bare_fault d = fault_unless (is_plain d.length && is_nothing d.init) bad_operands
+bare_fault d = fault_unless (is_scalar_declared d && (is_plain d.length && is_nothing d.init)) bad_operands
 
 abbrev pub is_checked_kind : Option Kind → Bool
 is_checked_kind (Some kind.Raw) = false
@@ -76,7 +72,7 @@ start_fault t (init.Many es) = Some bad_operands
 
 -- Locals are no arrays.
 abbrev pub local_fault : NotedDecl → Option ℕ
-local_fault d = if is_plain d.length then start_fault (type_written d.ctype) d.init else Some bad_operands
+local_fault d = if is_scalar_declared d && is_plain d.length then start_fault (type_written d.ctype) d.init else Some bad_operands
 
 abbrev pub string_in_form : {A L M E : Type 0} → Node-F Name A L M E → Option (List ℕ)
 string_in_form (Node-F.Text bytes) = Some bytes
@@ -140,22 +136,22 @@ count_fits structs d None = false
 count_fits structs d (Some n) = nat_le 1 n && init_fits structs (type_written d.ctype) (is_plain d.length) (n - kept_zero d.length) d.init
 
 -- An object of file scope is a scalar, a structure, or an array of scalars or of structures.
-abbrev pub is_element_declared : Decl → Bool
+abbrev pub is_element_declared : NotedDecl → Bool
 is_element_declared d = is_element_for d.length (type_written d.ctype)
 
 abbrev pub static_fault : Structs → NotedDecl → Option ℕ
-static_fault structs d = fault_unless (count_fits structs d (count_of d)) bad_operands
+static_fault structs d = fault_unless (is_element_declared d && count_fits structs d (count_of d)) bad_operands
 
 -- the parameters or members, from the first to the last
 abbrev pub bare_typed : Globals → List Variable → Mode → Decl → Outcome NotedDecl
-bare_typed globals variables mode d = bind (type_allowed (is_scalar_declared d) d) (λ u. bind (parts_typed globals variables mode d) (λ n. judged (bare_fault n) n))
+bare_typed globals variables mode d = bind (parts_typed globals variables mode d) (λ n. judged (bare_fault n) n)
 
 abbrev pub bares_typed : Globals → List Variable → Mode → List Decl → Outcome (List NotedDecl)
 bares_typed globals variables mode ds = in_order (map (bare_typed globals variables mode) ds)
 
 abbrev pub local_typed : Globals → List Variable → Mode → Decl → Outcome NotedDecl
-local_typed globals variables mode d = bind (type_allowed (is_scalar_declared d) d) (λ u. bind (parts_typed globals variables mode d) (λ n. judged (local_fault n) n))
+local_typed globals variables mode d = bind (parts_typed globals variables mode d) (λ n. judged (local_fault n) n)
 
 -- Beside the objects of the text it sees no variables.
 abbrev pub static_typed : Globals → Mode → Decl → Outcome NotedDecl
-static_typed globals mode d = bind (type_allowed (is_element_declared d) d) (λ u. bind (parts_typed globals [] mode d) (λ n. judged (static_fault globals.structs n) n))
+static_typed globals mode d = bind (parts_typed globals [] mode d) (λ n. judged (static_fault globals.structs n) n)

@@ -1,6 +1,6 @@
 -- Which codes the refusals of declarations, statements, items and whole texts have.
 use Rattle.std.proofs.Common.{◌≡◌, ℕ, Bool, true, false, if◌then◌else◌, List, [], ◌∷◌, map, refl, sym, ap, subst, ◌∙◌}
-use Rattle.std.specs.Prelude.{Option, Some, None, Ok, Err, not, nat_lt}
+use Rattle.std.specs.Prelude.{Option, Some, None, Ok, Err, not, nat_lt, ◌&&◌}
 use Rattle.std.specs.Option.{option_map}
 use Rattle.ckc_base.specs.declared.places.Pos.{Pos}
 use Rattle.ckc_base.specs.declared.places.Refusal.{Refusal}
@@ -26,7 +26,7 @@ use Rattle.ckc_types.specs.declared.types.Structs.{Structs}
 use Rattle.ckc_typed.specs.Statics.{blocks, placed, end_of_blocks, FIRST_END, LAST_END}
 use Rattle.ckc_typed.specs.Environment.{params_of, variables_of, variable_declared}
 use Rattle.ckc_typed.specs.Expressions.{expr_typed, exprs_typed, bounds_typed, value_typed}
-use Rattle.ckc_typed.specs.Declarations.{init_typed, parts_typed, judged, fault_unless, type_allowed, is_scalar_declared, is_element_declared, start_fault, is_plain, bare_fault, local_fault, static_fault, bare_typed, bares_typed, local_typed, static_typed}
+use Rattle.ckc_typed.specs.Declarations.{init_typed, parts_typed, judged, fault_unless, is_scalar_declared, start_fault, is_plain, bare_fault, local_fault, static_fault, bare_typed, bares_typed, local_typed, static_typed}
 use Rattle.ckc_typed.specs.Statements.{OfAct, OfStmt, act_parts, stmt_parts, act_typed, stmt_typed, all_in, part_in, is_target, is_result, target_fits, scalar_fits, scalar_there_fits, result_fits, loop_fits}
 use Rattle.ckc_typed.specs.Texts.{is_result_type, result_allowed, head_mode, head_typed, function_typed, item_typed, items_typed, pragma_after, globals_of, laid_out, text_typed, named_typed}
 use Rattle.ckc_typed.specs.Layouts.{structs_of}
@@ -63,9 +63,6 @@ scalar_coded at e =
     by true = is_402
     by false = is_401
 
-allowed_coded : (allowed : Bool) (d : Decl) → Coded (type_allowed allowed d)
-allowed_coded allowed d = in_unless {A = Unit {0}} (not allowed) bad_operands d.pos (Ok tt) is_401 tt
-
 module _ (globals : Globals) (variables : List Variable) (mode : Mode) where
   init_coded : (i : Init) → Coded (init_typed globals variables mode i)
   init_coded init.Nothing = tt
@@ -76,23 +73,19 @@ module _ (globals : Globals) (variables : List Variable) (mode : Mode) where
   parts_coded d = in_bind (bounds_typed globals variables mode d.bounds) _ (bounds_coded globals variables mode d.bounds) (λ l. in_bind (init_typed globals variables mode d.init) _ (init_coded d.init) (λ i. tt))
 
   bare_coded : (d : Decl) → Coded (bare_typed globals variables mode d)
-  bare_coded d =
-      in_bind (type_allowed (is_scalar_declared d) d) _ (allowed_coded (is_scalar_declared d) d)
-      (λ u. in_bind (parts_typed globals variables mode d) _ (parts_coded d) (λ n. judged_coded (bare_fault n) n (unless_coded _ bad_operands is_401)))
+  bare_coded d = in_bind (parts_typed globals variables mode d) _ (parts_coded d) (λ n. judged_coded (bare_fault n) n (unless_coded _ bad_operands is_401))
 
   pub bares_coded : (ds : List Decl) → Coded (bares_typed globals variables mode ds)
   bares_coded = in_each (bare_typed globals variables mode) bare_coded
 
   pub local_coded : (d : Decl) → Coded (local_typed globals variables mode d)
   local_coded d =
-      in_bind (type_allowed (is_scalar_declared d) d) _ (allowed_coded (is_scalar_declared d) d)
-      (λ u. in_bind (parts_typed globals variables mode d) _ (parts_coded d)
-      (λ n. judged_coded (local_fault n) n (in_choice (is_plain n.length) (start_fault (type_written n.ctype) n.init) (Some bad_operands) (start_coded (type_written n.ctype) n.init) is_401)))
+      in_bind (parts_typed globals variables mode d) _ (parts_coded d) (λ n. judged_coded (local_fault n) n
+      (in_choice (is_scalar_declared n && is_plain n.length) (start_fault (type_written n.ctype) n.init) (Some bad_operands) (start_coded (type_written n.ctype) n.init) is_401))
 
 static_coded : (globals : Globals) (mode : Mode) (d : Decl) → Coded (static_typed globals mode d)
 static_coded globals mode d =
-    in_bind (type_allowed (is_element_declared d) d) _ (allowed_coded (is_element_declared d) d)
-    (λ u. in_bind (parts_typed globals [] mode d) _ (parts_coded globals [] mode d) (λ n. judged_coded (static_fault globals.structs n) n (unless_coded _ bad_operands is_401)))
+    in_bind (parts_typed globals [] mode d) _ (parts_coded globals [] mode d) (λ n. judged_coded (static_fault globals.structs n) n (unless_coded _ bad_operands is_401))
 
 module _ (globals : Globals) (variables : List Variable) (result : CType) where
   abbrev ActCoded : Act → Type 0

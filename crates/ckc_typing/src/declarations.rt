@@ -1,7 +1,7 @@
 //! Declarations with their bounds and initialisers noted.
 
 ghost use Rattle.std.specs.Prelude.{◌≡◌, IfOk};
-ghost use Rattle.ckc_typed.specs.Declarations.{init_typed, decl_with, parts_typed, judged, is_nothing, type_allowed, is_scalar_declared, is_element_declared, bare_fault, is_checked_kind, start_fault, local_fault, static_fault, bare_typed, bares_typed, local_typed, static_typed};
+ghost use Rattle.ckc_typed.specs.Declarations.{init_typed, decl_with, parts_typed, judged, is_nothing, bare_fault, is_checked_kind, start_fault, local_fault, static_fault, bare_typed, bares_typed, local_typed, static_typed};
 ghost use Rattle.ckc_base.specs.Outcomes.{AnswersOutcome};
 
 use crate::expressions::{boxed_expr, typed_bounds, typed_exprs};
@@ -92,13 +92,14 @@ fn is_nothing(init: &Init<Name, Note>) -> bool
     }
 }
 
-fn bare_fault(d: &Decl<Name, Note>) -> Option<u16>
-    ensures { result ≡ bare_fault d.now }
+fn bare_fault(alloc: Global, d: &Decl<Name, Note>) -> Result<Option<u16>, AllocError>
+    ensures { IfOk result (λ f. f ≡ bare_fault d.now) }
 {
-    if is_plain(d.length) && is_nothing(&d.init) {
-        None
+    let t = type_written(alloc, &d.ctype)?;
+    if is_scalar_type(&t) && is_plain(d.length) && is_nothing(&d.init) {
+        Ok(None)
     } else {
-        Some(BAD_OPERANDS)
+        Ok(Some(BAD_OPERANDS))
     }
 }
 
@@ -137,7 +138,7 @@ fn local_fault(alloc: Global, d: &Decl<Name, Note>) -> Result<Option<u16>, Alloc
     ensures { IfOk result (λ f. f ≡ local_fault d.now) }
 {
     let t = type_written(alloc, &d.ctype)?;
-    if is_plain(d.length) {
+    if is_scalar_type(&t) && is_plain(d.length) {
         Ok(start_fault(&t, &d.init))
     } else {
         Ok(Some(BAD_OPERANDS))
@@ -152,34 +153,12 @@ fn static_fault(
     ensures { IfOk result (λ f. f ≡ static_fault structs.now d.now) }
 {
     let t = type_written(alloc, &d.ctype)?;
-    let fits = count_fits(alloc, structs, &t, d)?;
+    let fits = is_element_for(d.length, &t) && count_fits(alloc, structs, &t, d)?;
     if fits {
         Ok(None)
     } else {
         Ok(Some(BAD_OPERANDS))
     }
-}
-
-/// Judges that a declared type is that of a scalar.
-fn scalar_declared(alloc: Global, d: &Decl<Name, ()>) -> Result<(), Fault>
-    ensures { AnswersOutcome result (type_allowed (is_scalar_declared d.now) d.now) }
-{
-    let t = type_written(alloc, &d.ctype)?;
-    if !is_scalar_type(&t) {
-        return Err(refused(BAD_OPERANDS, d.pos));
-    }
-    Ok(())
-}
-
-/// Judges that a declared type is that of the elements of an object of file scope.
-fn element_declared(alloc: Global, d: &Decl<Name, ()>) -> Result<(), Fault>
-    ensures { AnswersOutcome result (type_allowed (is_element_declared d.now) d.now) }
-{
-    let t = type_written(alloc, &d.ctype)?;
-    if !is_element_for(d.length, &t) {
-        return Err(refused(BAD_OPERANDS, d.pos));
-    }
-    Ok(())
 }
 
 /// A parameter or a member.
@@ -192,9 +171,9 @@ fn typed_bare(
 ) -> Result<Decl<Name, Note>, Fault>
     ensures { AnswersOutcome result (bare_typed globals.now variables.now mode d.now) }
 {
-    scalar_declared(alloc, d)?;
     let typed = typed_parts(alloc, globals, variables, mode, d)?;
-    judged(bare_fault(&typed), typed)
+    let fault = bare_fault(alloc, &typed)?;
+    judged(fault, typed)
 }
 
 /// Parameters or members, from the first to the last.
@@ -225,7 +204,6 @@ pub fn typed_local(
 ) -> Result<Decl<Name, Note>, Fault>
     ensures { AnswersOutcome result (local_typed globals.now variables.now mode d.now) }
 {
-    scalar_declared(alloc, d)?;
     let typed = typed_parts(alloc, globals, variables, mode, d)?;
     let fault = local_fault(alloc, &typed)?;
     judged(fault, typed)
@@ -240,7 +218,6 @@ pub fn typed_static(
 ) -> Result<Decl<Name, Note>, Fault>
     ensures { AnswersOutcome result (static_typed globals.now mode d.now) }
 {
-    element_declared(alloc, d)?;
     let typed = typed_parts(alloc, globals, &[], mode, d)?;
     let fault = static_fault(alloc, globals.structs(), &typed)?;
     judged(fault, typed)

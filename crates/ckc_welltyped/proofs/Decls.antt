@@ -16,11 +16,11 @@ use Rattle.ckc_typed.specs.Trees.{Limits, Expr, Decl, Init, NotedDecl, NotedInit
 use Rattle.ckc_typed.specs.Types.{type_written, is_scalar, is_char, kind_of}
 use Rattle.ckc_typed.specs.Conversions.{converts}
 use Rattle.ckc_typed.specs.Expressions.{limits_typed, expr_typed, exprs_typed, bounds_typed, value_typed}
-use Rattle.ckc_typed.specs.Declarations.{init_typed, parts_typed, judged, fault_unless, is_plain, is_nothing, type_allowed, is_scalar_declared, bare_fault, is_checked_kind, start_fault, local_fault, string_in, count_of, kept_zero, is_start, string_fits, one_fits, init_fits, count_fits, is_element_declared, static_fault, bare_typed, local_typed, static_typed}
+use Rattle.ckc_typed.specs.Declarations.{init_typed, parts_typed, judged, fault_unless, is_plain, is_nothing, is_scalar_declared, bare_fault, is_checked_kind, start_fault, local_fault, string_in, count_of, kept_zero, is_start, string_fits, one_fits, init_fits, count_fits, is_element_declared, static_fault, bare_typed, local_typed, static_typed}
 use Rattle.ckc_welltyped.specs.Noteless.{bare_limits, bare_expr, bare_init, bare_decl}
 use Rattle.ckc_welltyped.specs.Expressions.{WellTypedExpr, WellTypedLimits}
 use Rattle.ckc_welltyped.specs.Declarations.{WellTypedInit, WellTypedParts, WellTypedBare, StartsLocal, WellTypedLocal, StartsOne, IsListFor, StartsStatic, WellTypedStatic}
-use Rattle.ckc_welltyped.proofs.Outcomes.{ok_same, made_of, goes, kept_rule, keeps_rule, first_holds, second_holds, both_hold}
+use Rattle.ckc_welltyped.proofs.Outcomes.{ok_same, made_of, goes, first_holds, second_holds, both_hold}
 use Rattle.ckc_welltyped.proofs.TypedNodes.{limits_give, expr_gives}
 use Rattle.ckc_welltyped.proofs.Backs.{limits_back, expr_back}
 
@@ -92,24 +92,21 @@ module _ (globals : Globals) (variables : List Variable) (mode : Mode) where
       goes (bounds_typed globals variables mode (option_map bare_limits n.bounds)) _ n.bounds _ (bounds_back n.bounds p.bounds)
       (goes (init_typed globals variables mode (bare_init n.init)) _ n.init _ (init_back n.init p.init) refl)
 
-  -- a declaration with a type that may stand there, which is judged at the end
-  abbrev decl_typed : Bool → (NotedDecl → Option ℕ) → Decl → Outcome NotedDecl
-  decl_typed allowed fault d = bind (type_allowed allowed d) (λ u. bind (parts_typed globals variables mode d) (λ n. judged (fault n) n))
+  -- a declaration that is judged after its parts
+  abbrev decl_typed : (NotedDecl → Option ℕ) → Decl → Outcome NotedDecl
+  decl_typed fault d = bind (parts_typed globals variables mode d) (λ n. judged (fault n) n)
 
   judged_fine : (f : Option ℕ) (n r : NotedDecl) → judged f n ≡ Ok r → (f ≡ None) × (n ≡ r)
   judged_fine None n r h = (refl, ok_same n r h)
   judged_fine (Some code) n r h = absurd cc
 
-  pub decl_gives : (allowed : Bool) (fault : NotedDecl → Option ℕ) (d : Decl) (n : NotedDecl) → decl_typed allowed fault d ≡ Ok n → (allowed ≡ true) × (bare_decl n ≡ d) × WellTypedParts globals variables mode n × (fault n ≡ None)
-  decl_gives allowed fault d n h =
-      let a = made_of (type_allowed allowed d) _ n h in let k = kept_rule {A = Unit {0}} allowed bad_operands d.pos (Ok tt) a.0 a.1 in
-      let b = made_of (parts_typed globals variables mode d) _ n a.2 in let j = judged_fine (fault b.0) b.0 n b.2 in let g = parts_give d b.0 b.1 in
-      (k.0, subst (λ z. bare_decl z ≡ d) j.1 g.0, subst (WellTypedParts globals variables mode) j.1 g.1, subst (λ z. fault z ≡ None) j.1 j.0)
+  pub decl_gives : (fault : NotedDecl → Option ℕ) (d : Decl) (n : NotedDecl) → decl_typed fault d ≡ Ok n → (bare_decl n ≡ d) × WellTypedParts globals variables mode n × (fault n ≡ None)
+  decl_gives fault d n h =
+      let b = made_of (parts_typed globals variables mode d) _ n h in let j = judged_fine (fault b.0) b.0 n b.2 in let g = parts_give d b.0 b.1 in
+      (subst (λ z. bare_decl z ≡ d) j.1 g.0, subst (WellTypedParts globals variables mode) j.1 g.1, subst (λ z. fault z ≡ None) j.1 j.0)
 
-  pub decl_back : (allowed : Bool) (fault : NotedDecl → Option ℕ) (n : NotedDecl) → allowed ≡ true → WellTypedParts globals variables mode n → fault n ≡ None → decl_typed allowed fault (bare_decl n) ≡ Ok n
-  decl_back allowed fault n a p f =
-      goes (type_allowed allowed (bare_decl n)) _ tt _ (keeps_rule {A = Unit {0}} allowed bad_operands n.pos (Ok tt) tt a refl)
-      (goes (parts_typed globals variables mode (bare_decl n)) _ n _ (parts_back n p) (ap (λ z. judged z n) f))
+  pub decl_back : (fault : NotedDecl → Option ℕ) (n : NotedDecl) → WellTypedParts globals variables mode n → fault n ≡ None → decl_typed fault (bare_decl n) ≡ Ok n
+  decl_back fault n p f = goes (parts_typed globals variables mode (bare_decl n)) _ n _ (parts_back n p) (ap (λ z. judged z n) f)
 
 no_fault : (holds : Bool) (code : ℕ) → (fault_unless holds code ≡ None) ↔ (holds ≡ true)
 no_fault true code = (λ e. refl, λ e. refl)
@@ -126,7 +123,7 @@ start_is t init.Nothing =
 start_is t (init.One e) = no_fault (converts t e) bad_conversion
 start_is t (init.Many es) = (λ e. absurd cc, λ e. absurd e)
 
-local_is : (plain : Bool) (t : CType) (i : NotedInit) → ((if plain then start_fault t i else Some bad_operands) ≡ None) ↔ ((plain ≡ true) × StartsLocal t i)
+local_is : (formed : Bool) (t : CType) (i : NotedInit) → ((if formed then start_fault t i else Some bad_operands) ≡ None) ↔ ((formed ≡ true) × StartsLocal t i)
 local_is true t i = let s = start_is t i in (λ e. (refl, s.0 e), λ p. s.1 p.1)
 local_is false t i = (λ e. absurd cc, λ p. absurd cc)
 
@@ -185,29 +182,37 @@ module _ (structs : Structs) (d : NotedDecl) where
 -- the declarations
 pub bare_gives : (globals : Globals) (variables : List Variable) (mode : Mode) (d : Decl) (n : NotedDecl) → bare_typed globals variables mode d ≡ Ok n → (bare_decl n ≡ d) × WellTypedBare globals variables mode n
 bare_gives globals variables mode d n h =
-    let g = decl_gives globals variables mode (is_scalar_declared d) bare_fault d n h in let f = (no_fault (is_plain n.length && is_nothing n.init) bad_operands).0 g.3 in
-    (g.1, record { scalar = ap is_scalar_declared g.1 ∙ g.0; parts = g.2; plain = first_holds (is_plain n.length) _ f; nothing = second_holds (is_plain n.length) _ f })
+    let g = decl_gives globals variables mode bare_fault d n h in
+    let f = (no_fault (is_scalar_declared n && (is_plain n.length && is_nothing n.init)) bad_operands).0 g.2 in
+    let b = second_holds (is_scalar_declared n) _ f in
+    (g.0, record { scalar = first_holds (is_scalar_declared n) _ f; parts = g.1; plain = first_holds (is_plain n.length) _ b; nothing = second_holds (is_plain n.length) _ b })
 
 pub bare_back : (globals : Globals) (variables : List Variable) (mode : Mode) (n : NotedDecl) → WellTypedBare globals variables mode n → bare_typed globals variables mode (bare_decl n) ≡ Ok n
 bare_back globals variables mode n w =
-    decl_back globals variables mode (is_scalar_declared (bare_decl n)) bare_fault n w.scalar w.parts ((no_fault (is_plain n.length && is_nothing n.init) bad_operands).1 (both_hold (is_plain n.length) _ w.plain w.nothing))
+    decl_back globals variables mode bare_fault n w.parts
+    ((no_fault (is_scalar_declared n && (is_plain n.length && is_nothing n.init)) bad_operands).1
+    (both_hold (is_scalar_declared n) _ w.scalar (both_hold (is_plain n.length) _ w.plain w.nothing)))
 
 pub local_gives : (globals : Globals) (variables : List Variable) (mode : Mode) (d : Decl) (n : NotedDecl) → local_typed globals variables mode d ≡ Ok n → (bare_decl n ≡ d) × WellTypedLocal globals variables mode n
 local_gives globals variables mode d n h =
-    let g = decl_gives globals variables mode (is_scalar_declared d) local_fault d n h in let f = (local_is (is_plain n.length) (type_written n.ctype) n.init).0 g.3 in
-    (g.1, record { scalar = ap is_scalar_declared g.1 ∙ g.0; parts = g.2; plain = f.0; starts = f.1 })
+    let g = decl_gives globals variables mode local_fault d n h in
+    let f = (local_is (is_scalar_declared n && is_plain n.length) (type_written n.ctype) n.init).0 g.2 in
+    (g.0, record { scalar = first_holds (is_scalar_declared n) _ f.0; parts = g.1; plain = second_holds (is_scalar_declared n) _ f.0; starts = f.1 })
 
 pub local_back : (globals : Globals) (variables : List Variable) (mode : Mode) (n : NotedDecl) → WellTypedLocal globals variables mode n → local_typed globals variables mode (bare_decl n) ≡ Ok n
 local_back globals variables mode n w =
-    decl_back globals variables mode (is_scalar_declared (bare_decl n)) local_fault n w.scalar w.parts ((local_is (is_plain n.length) (type_written n.ctype) n.init).1 (w.plain, w.starts))
+    decl_back globals variables mode local_fault n w.parts
+    ((local_is (is_scalar_declared n && is_plain n.length) (type_written n.ctype) n.init).1 (both_hold (is_scalar_declared n) _ w.scalar w.plain, w.starts))
 
 pub static_gives : (globals : Globals) (mode : Mode) (d : Decl) (n : NotedDecl) → static_typed globals mode d ≡ Ok n → (bare_decl n ≡ d) × WellTypedStatic globals mode n
 static_gives globals mode d n h =
-    let g = decl_gives globals [] mode (is_element_declared d) (static_fault globals.structs) d n h in
-    let c = (count_is globals.structs n (count_of n)).0 ((no_fault (count_fits globals.structs n (count_of n)) bad_operands).0 g.3) in
-    (g.1, record { element = ap is_element_declared g.1 ∙ g.0; parts = g.2; count = c.0; counted = c.1; some = c.2; starts = c.3 })
+    let g = decl_gives globals [] mode (static_fault globals.structs) d n h in
+    let f = (no_fault (is_element_declared n && count_fits globals.structs n (count_of n)) bad_operands).0 g.2 in
+    let c = (count_is globals.structs n (count_of n)).0 (second_holds (is_element_declared n) _ f) in
+    (g.0, record { element = first_holds (is_element_declared n) _ f; parts = g.1; count = c.0; counted = c.1; some = c.2; starts = c.3 })
 
 pub static_back : (globals : Globals) (mode : Mode) (n : NotedDecl) → WellTypedStatic globals mode n → static_typed globals mode (bare_decl n) ≡ Ok n
 static_back globals mode n w =
-    decl_back globals [] mode (is_element_declared (bare_decl n)) (static_fault globals.structs) n w.element w.parts
-    ((no_fault (count_fits globals.structs n (count_of n)) bad_operands).1 ((count_is globals.structs n (count_of n)).1 (w.count, w.counted, w.some, w.starts)))
+    decl_back globals [] mode (static_fault globals.structs) n w.parts
+    ((no_fault (is_element_declared n && count_fits globals.structs n (count_of n)) bad_operands).1
+    (both_hold (is_element_declared n) _ w.element ((count_is globals.structs n (count_of n)).1 (w.count, w.counted, w.some, w.starts))))
