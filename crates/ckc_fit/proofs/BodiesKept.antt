@@ -19,7 +19,6 @@ use Rattle.ckc_resolve.specs.Scoping.{noted, no_names, names_of, no_scope}
 use Rattle.ckc_resolve.specs.Heads.{param_scope}
 use Rattle.ckc_resolve.specs.Types.{type_parts, type_named}
 use Rattle.ckc_resolve.specs.Expressions.{bounds_named}
-use Rattle.ckc_resolve.specs.Items.{defines}
 use Rattle.ckc_resolve.specs.Main.{is_int_form, is_int, is_empty, is_main_head, is_main, name_of_main}
 use Rattle.ckc_resolve.specs.Phase.{text_named}
 use Rattle.ckc_fit.specs.Numbers.{function_in}
@@ -27,6 +26,7 @@ use Rattle.ckc_fit.specs.Bodies.{body_of, Defines, IsDefined, FunctionsHaveBodie
 use Rattle.ckc_fit.proofs.Spelt.{Grows, among_with, among_more}
 use Rattle.ckc_fit.proofs.Different.{Fresh, fresh_none, fresh_more, known_more}
 use Rattle.ckc_fit.proofs.Numbered.{all_grow, functions_grow}
+use Rattle.ckc_fit.proofs.Defined.{defines}
 use Rattle.ckc_fit.proofs.NamedItems as items
 use Rattle.ckc_fit.proofs.NamedItems.{HeadNamed, ParamsNamed, ItemNamed, ItemsNamed, TextNamed, text_is}
 use Rattle.ckc_fit.proofs.HeadsKept.{heads_alike}

@@ -3,6 +3,7 @@ pub mod Spelt
 pub mod Different
 pub mod NamedNodes
 pub mod NamedActs
+pub mod Defined
 pub mod NamedItems
 pub mod FormKept
 pub mod SmallKept

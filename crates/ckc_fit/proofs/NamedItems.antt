@@ -21,11 +21,12 @@ use Rattle.ckc_resolve.specs.Expressions.{bounds_named}
 use Rattle.ckc_resolve.specs.Declarations.{init_named, decl_named, local_named, unless_taken}
 use Rattle.ckc_resolve.specs.Statements.{body_named}
 use Rattle.ckc_resolve.specs.Heads.{name_of_member, member_scope, member_named, members_named, struct_named, param_scope, param_named, params_named, head_named}
-use Rattle.ckc_resolve.specs.Items.{name_of_tag, defines, if_defined, is_taken_static, is_taken_function, item_named, item_in_turn, items_named, all_named}
+use Rattle.ckc_resolve.specs.Items.{name_of_tag, first_head, is_same, if_defined, is_taken_static, is_taken_function, item_named, item_in_turn, items_named, all_named}
 use Rattle.ckc_resolve.specs.Main.{is_main, name_of_main, main_named}
 use Rattle.ckc_resolve.specs.Phase.{text_named}
 use Rattle.ckc_fit.proofs.Gives.{Gives, given_from, bound, not_taken, where_true, itself}
 use Rattle.ckc_fit.proofs.Spelt.{either_false}
+use Rattle.ckc_fit.proofs.Defined.{defines, some_defines}
 
 -- ---- declarations
 
@@ -152,7 +153,7 @@ module _ (names : Names) where
       bound {A = NamedHead × Scopes} {B = NamedItem} (HeadIs h) (ItemIs all before (item.Proto h)) _ _ (head_is h) (λ p g.
       bound {A = NamedHead} {B = NamedItem} (λ k. HeadNamed h k p.1) (ItemIs all before (item.Proto h)) (unless_taken (is_taken_function before h.name) h.pos p.0) (λ k. if_defined all h (item.Proto k))
       (not_taken (λ (k : NamedHead). HeadNamed h k p.1) (is_taken_function before h.name) h.pos p.0 (λ new. g)) (λ k f.
-      where_true (ItemIs all before (item.Proto h)) (list_any (defines h) all) undefined h.pos (item.Proto k) (λ there. proto f there)))
+      where_true (ItemIs all before (item.Proto h)) (is_same h (first_head h.name all)) undefined h.pos (item.Proto k) (λ there. proto f (some_defines h h.name all there))))
   item_is all before (item.Function h s) =
       let Head : NamedHead → Scopes → Type 0 = λ k after. HeadNamed h k after × (is_among before.defined h.name ≡ false) in
       bound {A = NamedHead × Scopes} {B = NamedItem} (HeadIs h) (ItemIs all before (item.Function h s)) _ _ (head_is h) (λ p g.

@@ -1,5 +1,5 @@
 -- Each error of the names has one of their codes: errors of parts.
-use Rattle.std.proofs.Common.{◌≡◌, arith, ℕ, if◌then◌else◌, List, [], ◌∷◌, map, Bool, true, false}
+use Rattle.std.proofs.Common.{arith, ℕ, if◌then◌else◌, List, [], ◌∷◌, map, Bool, true, false}
 use Rattle.std.specs.Prelude.{Ok, Err, Option, Some, None}
 use Rattle.ckc_base.specs.declared.places.Pos.{Pos}
 use Rattle.ckc_base.specs.Outcomes.{Outcome, bind, in_order, in_turn, there_or, refused}

@@ -1,6 +1,6 @@
 -- Each error of the names has one of their codes: declarations, statements, items and the whole text.
-use Rattle.std.proofs.Common.{◌≡◌, ◌∙◌, sym, ap, subst, List, [], map, Bool, true, false, ◌||◌}
-use Rattle.std.specs.Prelude.{Ok, Err, Option, Some, None}
+use Rattle.std.proofs.Common.{◌≡◌, ◌∙◌, sym, ap, subst, List, [], ◌||◌}
+use Rattle.std.specs.Prelude.{Err, Some, None}
 use Rattle.std.specs.List.{list_any}
 use Rattle.ckc_base.specs.declared.places.Refusal.{Refusal}
 use Rattle.ckc_base.specs.Outcomes.{Outcome}
@@ -19,10 +19,10 @@ use Rattle.ckc_resolve.specs.Spellings.{Spelling, is_among, with_spelling, numbe
 use Rattle.ckc_resolve.specs.Trees.{Tree, Item, Head, Decl, Init, Act, Stmt, NamedDecl, NamedAct, NamedStmt, NamedItem}
 use Rattle.ckc_resolve.specs.Scoping.{names_of, no_names, no_scope, opened, with_local, is_taken_here}
 use Rattle.ckc_resolve.specs.Declarations.{init_named, decl_named, local_named}
-use Rattle.ckc_resolve.specs.Statements.{OfAct, OfStmt, act_parts, stmt_parts, act_named, stmt_named, stmts_named, body_parts, body_act_named, body_named}
+use Rattle.ckc_resolve.specs.Statements.{OfAct, OfStmt, act_parts, stmt_parts, act_named, stmt_named, body_parts, body_named}
 use Rattle.ckc_resolve.specs.Heads.{name_of_member, member_scope, member_named, struct_named, param_scope, param_named, head_named}
-use Rattle.ckc_resolve.specs.Items.{name_of_tag, defines, if_defined, is_taken_static, is_taken_function, structure_named, static_named, proto_named, function_named, item_named, item_in_turn, all_named}
-use Rattle.ckc_resolve.specs.Main.{is_main, main_named, name_of_main}
+use Rattle.ckc_resolve.specs.Items.{name_of_tag, first_head, is_same, is_taken_static, is_taken_function, item_named, item_in_turn, all_named}
+use Rattle.ckc_resolve.specs.Main.{is_main, name_of_main}
 use Rattle.ckc_resolve.specs.Phase.{text_named, naming}
 use Rattle.ckc_resolve.proofs.Coded.{HasCode, bound, taken, tested, turned, turned_parts, third_code, last_code}
 use Rattle.ckc_resolve.proofs.CodedNodes.{type_codes, expr_codes, exprs_codes, bounds_codes, maybe_codes}
@@ -146,7 +146,7 @@ module _ (names : Names) where
   item_codes all before (item.Static d) =
       bound {B = NamedItem} _ _ (decl_codes no_scope no_scope (name.Static (number_of names.statics d.name)) d) (λ e. taken (is_taken_static before d.name) d.pos (item.Static e))
   item_codes all before (item.Proto h) =
-      bound {B = NamedItem} _ _ (head_codes h) (λ p. bound {B = NamedItem} _ _ (taken (is_taken_function before h.name) h.pos p.0) (λ g. tested (list_any (defines h) all) h.pos (item.Proto g) last_code))
+      bound {B = NamedItem} _ _ (head_codes h) (λ p. bound {B = NamedItem} _ _ (taken (is_taken_function before h.name) h.pos p.0) (λ g. tested (is_same h (first_head h.name all)) h.pos (item.Proto g) last_code))
   item_codes all before (item.Function h body) =
       bound {B = NamedItem} _ _ (head_codes h) (λ p. bound {B = NamedItem} _ _ (taken (is_taken_function before h.name || is_among before.defined h.name) h.pos p.0) (λ g.
       bound {B = NamedItem} _ _ (body_codes body p.1) (λ b. tt)))

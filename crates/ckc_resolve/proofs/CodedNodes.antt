@@ -1,8 +1,8 @@
 -- Each error of the names has one of their codes: types and expressions.
-use Rattle.std.proofs.Common.{◌≡◌, ◌∙◌, sym, ap, subst, List, map}
+use Rattle.std.proofs.Common.{◌≡◌, ◌∙◌, sym, ap, subst, List}
 use Rattle.std.specs.Prelude.{Option, Some, None}
 use Rattle.ckc_base.specs.declared.places.Pos.{Pos}
-use Rattle.ckc_base.specs.Outcomes.{Outcome, bind, in_order}
+use Rattle.ckc_base.specs.Outcomes.{Outcome}
 use Rattle.ckc_syntax.specs.declared.tree.TypeTree.{TypeTree-F, map-TypeTree, ind-TypeTree, roll-TypeTree, fold-roll-TypeTree}
 use Rattle.ckc_syntax.specs.declared.tree.Limits.{Limits-F}
 use Rattle.ckc_syntax.specs.declared.tree.Node.{Node-F}
@@ -12,7 +12,7 @@ use Rattle.ckc_resolve.specs.declared.scopes.Scopes.{Scopes}
 use Rattle.ckc_resolve.specs.Spellings.{Spelling}
 use Rattle.ckc_resolve.specs.Trees.{TypeTree, Limits, Expr, NamedType}
 use Rattle.ckc_resolve.specs.Types.{type_parts, type_named}
-use Rattle.ckc_resolve.specs.Expressions.{OfLimits, OfNode, OfExpr, limits_parts, node_parts, expr_parts, limits_named, node_named, expr_named, exprs_named, bounds_named, maybe_named}
+use Rattle.ckc_resolve.specs.Expressions.{OfLimits, OfNode, OfExpr, limits_parts, node_parts, expr_parts, limits_named, expr_named, exprs_named, bounds_named, maybe_named}
 use Rattle.ckc_resolve.specs.Meanings.{tag_of, member_of, meaning_of}
 use Rattle.ckc_resolve.proofs.Coded.{HasCode, bound, there, listed, listed_parts}
 

@@ -1,6 +1,6 @@
 -- A fault on the way is the answer.
 use Rattle.std.proofs.Common.{◌≡◌, List, sym, ap, ◌∙◌, subst}
-use Rattle.std.specs.Prelude.{Result, Ok, Err}
+use Rattle.std.specs.Prelude.{Result, Err}
 use Rattle.ckc_base.specs.declared.places.Refusal.{Refusal}
 use Rattle.ckc_syntax.specs.declared.tree.Item.TheVariants as item
 use Rattle.ckc_base.specs.declared.fault.Fault.{Fault}

@@ -1,7 +1,7 @@
 pub mod Coded
 pub mod CodedItems
 pub mod CodedNodes
-pub mod DefinedAt
+pub mod FirstHeads
 pub mod Ends
 pub mod Indexing
 pub mod MainDeclared

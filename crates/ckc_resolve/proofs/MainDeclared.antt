@@ -1,5 +1,5 @@
 -- A tree whose names are right has a function main.
-use Rattle.std.proofs.Common.{◌≡◌, ◌<◌, ℕ, ◌+◌, Bool, true, false, not, ◌||◌, ◌&&◌, List, [], ◌∷◌, ◌++◌, length, Ok, Err, Option, Some, None, cond, nat_lt, refl, sym, ap, subst, ◌∙◌, arith, fold}
+use Rattle.std.proofs.Common.{◌≡◌, ◌<◌, ℕ, ◌+◌, Bool, true, false, not, ◌||◌, ◌&&◌, List, [], ◌∷◌, ◌++◌, length, Ok, Err, Some, None, cond, nat_lt, refl, sym, ap, subst, ◌∙◌, arith, fold}
 use Rattle.std.specs.Option.{is_none}
 use Rattle.std.specs.List.{list_any, prefix_len}
 use Rattle.std.specs.Str.{bytes_eq}

@@ -1,5 +1,5 @@
 -- Members, parameters and the heads of functions with their names replaced by what they mean.
-use Rattle.std.specs.Prelude.{Bool, ◌||◌, not, true, List, ◌∷◌, [], ◌++◌, Ok, map, fold, if◌then◌else◌}
+use Rattle.std.specs.Prelude.{List, [], Ok, map, fold}
 use Rattle.ckc_syntax.specs.declared.tree.Name.{Name}
 use Rattle.ckc_syntax.specs.declared.tree.Name.TheVariants as name
 use Rattle.ckc_resolve.specs.declared.names.Names.{Names}

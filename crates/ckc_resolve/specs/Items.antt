@@ -1,6 +1,6 @@
 -- The items of a text with their names replaced by what they mean.
-use Rattle.std.specs.Prelude.{ℕ, Bool, ◌||◌, ◌&&◌, false, true, List, [], Ok, map, if◌then◌else◌, is_none, codes, Option, Some, None}
-use Rattle.std.specs.List.{list_any}
+use Rattle.std.specs.Prelude.{Bool, ◌||◌, false, List, [], ◌∷◌, Ok, map, if◌then◌else◌, Option, Some, None}
+use Rattle.std.specs.Str.{bytes_eq}
 use Rattle.ckc_base.specs.declared.places.Pos.{Pos}
 use Rattle.ckc_syntax.specs.declared.tree.Name.{Name}
 use Rattle.ckc_syntax.specs.declared.tree.Name.TheVariants as name
@@ -27,14 +27,24 @@ is_taken_static before s = is_reserved s || (is_among before.statics s || is_amo
 abbrev pub is_taken_function : Names → Spelling → Bool
 is_taken_function before s = is_reserved s || is_among before.statics s
 
--- whether an item is a function with a body and the head, places aside
-abbrev pub defines : Head → Item → Bool
-defines h (item.Function g body) = same_head h g
-defines h i = false
+-- the head of a function of the name with a body; of another item what is given
+abbrev pub head_or : Option Head → Spelling → Item → Option Head
+head_or other s (item.Function g body) = if bytes_eq g.name s then Some g else other
+head_or other s i = other
 
--- refused where no function among all items has the same head
+-- the head of the first function of the name with a body
+abbrev pub first_head : Spelling → List Item → Option Head
+first_head s [] = None
+first_head s (i ∷ rest) = head_or (first_head s rest) s i
+
+-- whether a head is the same, places aside
+abbrev pub is_same : Head → Option Head → Bool
+is_same h None = false
+is_same h (Some g) = same_head h g
+
+-- refused where no function of the name has a body, or the first that has one has another head
 abbrev pub if_defined : {A : Type 0} → List Item → Head → A → Outcome A
-if_defined all h a = if list_any (defines h) all then Ok a else refused undefined h.pos
+if_defined all h a = if is_same h (first_head h.name all) then Ok a else refused undefined h.pos
 
 abbrev pub structure_named : Names → Names → Spelling → List Decl → Pos → Outcome NamedItem
 structure_named names before s members pos =

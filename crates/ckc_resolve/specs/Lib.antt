@@ -10,5 +10,6 @@ pub mod Declarations
 pub mod Statements
 pub mod Heads
 pub mod Items
+pub mod Bodies
 pub mod Main
 pub mod Phase

@@ -1,5 +1,5 @@
 -- What a name means at its place (ISO C11, 6.2.1 and 6.2.3).
-use Rattle.std.specs.Prelude.{ℕ, Bool, List, Option, None, Some, if◌then◌else◌, codes}
+use Rattle.std.specs.Prelude.{Option, None, Some, if◌then◌else◌, codes}
 use Rattle.std.specs.Option.{option_map}
 use Rattle.std.specs.Str.{bytes_eq}
 use Rattle.ckc_base.specs.declared.places.Pos.{Pos}

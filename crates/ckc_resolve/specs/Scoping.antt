@@ -1,5 +1,5 @@
 -- The names of a text, and those that a place in it sees.
-use Rattle.std.specs.Prelude.{ℕ, ◌+◌, Bool, ◌||◌, List, [], ◌∷◌, ◌++◌, length, take, drop, fold, Option, None, Some, if◌then◌else◌, codes}
+use Rattle.std.specs.Prelude.{◌+◌, Bool, ◌||◌, List, [], ◌∷◌, ◌++◌, length, take, drop, fold, Option, None, Some, if◌then◌else◌, codes}
 use Rattle.std.specs.List.{list_any}
 use Rattle.std.specs.Str.{bytes_eq}
 use Rattle.ckc_syntax.specs.declared.tree.Name.{Name}
@@ -8,7 +8,7 @@ use Rattle.ckc_syntax.specs.declared.tree.Item.TheVariants as item
 use Rattle.ckc_resolve.specs.declared.names.Names.{Names}
 use Rattle.ckc_resolve.specs.declared.visible.Entry.{Entry}
 use Rattle.ckc_resolve.specs.declared.scopes.Scopes.{Scopes}
-use Rattle.ckc_resolve.specs.Spellings.{Spelling, is_among, with_spelling}
+use Rattle.ckc_resolve.specs.Spellings.{Spelling, with_spelling}
 use Rattle.ckc_resolve.specs.Trees.{Tree, Item, Decl}
 
 abbrev pub no_names : Names

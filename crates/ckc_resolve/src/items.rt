@@ -1,9 +1,9 @@
 //! The items of a text with their names replaced by what they mean.
 
-ghost use Rattle.std.specs.Prelude.{◌≡◌, Ok};
-ghost use Rattle.std.specs.List.{list_any};
+ghost use Rattle.std.specs.Prelude.{◌≡◌, Ok, IfOk};
 ghost use Rattle.ckc_base.specs.Outcomes.{AnswersOutcome, StepsOutcome};
-ghost use Rattle.ckc_resolve.specs.Items.{is_taken_static, is_taken_function, defines, if_defined, structure_named, static_named, proto_named, function_named, item_named, item_in_turn, items_named, all_named};
+ghost use Rattle.ckc_resolve.specs.Items.{is_taken_static, is_taken_function, first_head, is_same, if_defined, structure_named, static_named, proto_named, function_named, item_named, item_in_turn, items_named, all_named};
+ghost use Rattle.ckc_resolve.specs.Bodies.{HasFirstHeads};
 
 use crate::bodies::named_body;
 use crate::declarations::named_decl;
@@ -13,6 +13,7 @@ use crate::refusals::{DECLARED_TWICE, UNDEFINED};
 use crate::scopes::{Scopes, is_reserved};
 use ckc_base::{Boxed, Fault, Pos, Seq, refused};
 use ckc_syntax::{Decl, Head, Item, Name, Spelling, Stmt, same_head};
+use indexmap::IndexMap;
 use std::alloc::{AllocError, Global};
 
 fn is_taken_static<'a>(before: &Names<'a>, s: &Spelling<'a>) -> bool
@@ -27,75 +28,52 @@ fn is_taken_function<'a>(before: &Names<'a>, s: &Spelling<'a>) -> bool
     is_reserved(s) || before.statics.contains(s)
 }
 
-/// Whether an item is a function with a body and the head, places aside.
-fn defines<'a>(head: &Head<Spelling<'a>, ()>, item: &Item<Spelling<'a>, ()>) -> bool
-    ensures { result ≡ defines head.now item.now }
-{
-    match item {
-        Item::Function(other, _) => same_head(head, other.get()),
-        Item::Directive(_) | Item::Tag(_, _) | Item::Struct(_, _, _) => false,
-        Item::Static(_) | Item::Proto(_) => false,
-    }
-}
+/// For each name the head of the first function that has a body.
+type Bodies<'a, 'b> = IndexMap<&'a str, &'b Head<Spelling<'a>, ()>>;
 
-/// For each function, by its number, the place of an item with its body, or 0 where it has none. It is a first guess, on
-/// which no answer depends: without it each prototype would walk through all items.
-fn guesses<'a>(
+/// The heads that prototypes are compared with, so that none walks through all items.
+fn first_heads<'a, 'b>(
     alloc: Global,
-    names: &Names<'a>,
-    items: &[Item<Spelling<'a>, ()>],
-) -> Result<Vec<usize>, AllocError> {
-    let mut places = vec![in alloc; 0usize; names.functions.len()]?;
-    for place in 0..items.len() {
-        if let Item::Function(head, _) = &items[place] {
-            let number = names.functions.number(&head.get().name) as usize;
-            if number < places.len() {
-                places[number] = place;
-            }
+    all: &'b [Item<Spelling<'a>, ()>],
+) -> Result<Bodies<'a, 'b>, AllocError>
+    ensures { IfOk result (λ m. HasFirstHeads m all.now) }
+{
+    let mut heads = IndexMap::new(alloc);
+    // From the last to the first, so that the first of a name stays.
+    for done in 0..all.len() {
+        if let Item::Function(head, _) = &all[all.len() - 1 - done] {
+            let head = head.get();
+            heads.insert(head.name.as_str(), head)?;
         }
     }
-    Ok(places)
+    Ok(heads)
 }
 
-/// Whether a function with a body has the head. The place that is guessed is tried first.
-#[tactic(auto, using(crate::proofs::DefinedAt::at_guess))]
+/// Whether the first function of the name that has a body has the head. All items are there for the contract alone.
 fn is_defined<'a>(
     all: &[Item<Spelling<'a>, ()>],
-    names: &Names<'a>,
-    guesses: &[usize],
+    bodies: &Bodies<'a, '_>,
     head: &Head<Spelling<'a>, ()>,
 ) -> bool
-    ensures { result ≡ list_any (defines head.now) all.now }
+    requires { HasFirstHeads bodies.now all.now }
+    ensures { result ≡ is_same head.now (first_head head.now.name all.now) }
 {
-    let number = names.functions.number(&head.name) as usize;
-    let guess = guesses.get(number).copied().unwrap_or(0);
-    match all.get(guess) {
-        Some(item) => defines(head, item) || has_definition(all, head),
-        None => has_definition(all, head),
+    match bodies.get(head.name.as_str()) {
+        Some(first) => same_head(head, first),
+        None => false,
     }
-}
-
-fn has_definition<'a>(all: &[Item<Spelling<'a>, ()>], head: &Head<Spelling<'a>, ()>) -> bool
-    ensures { result ≡ list_any (defines head.now) all.now }
-{
-    for item in all {
-        if defines(head, item) {
-            return true;
-        }
-    }
-    false
 }
 
 fn defined_proto<'a>(
     all: &[Item<Spelling<'a>, ()>],
-    names: &Names<'a>,
-    guesses: &[usize],
+    bodies: &Bodies<'a, '_>,
     head: &Head<Spelling<'a>, ()>,
     named: Boxed<Head<Name, ()>>,
 ) -> Result<Item<Name, ()>, Fault>
+    requires { HasFirstHeads bodies.now all.now }
     ensures { AnswersOutcome result (if_defined all.now head.now (Item.Proto named)) }
 {
-    if !is_defined(all, names, guesses, head) {
+    if !is_defined(all, bodies, head) {
         return Err(refused(UNDEFINED, head.pos));
     }
     Ok(Item::Proto(named))
@@ -141,11 +119,13 @@ fn named_proto<'a>(
     alloc: Global,
     names: &Names<'a>,
     all: &[Item<Spelling<'a>, ()>],
-    guesses: &[usize],
+    bodies: &Bodies<'a, '_>,
     before: &Names<'a>,
     head: &Head<Spelling<'a>, ()>,
 ) -> Result<Item<Name, ()>, Fault>
-    ensures { AnswersOutcome result (proto_named names.now all.now before.now head.now) }
+    requires { HasFirstHeads bodies.now all.now }
+    ensures { AnswersOutcome result
+        (proto_named names.now all.now before.now head.now) }
 {
     let mut body = Scopes::new(alloc);
     let named = named_head(alloc, names, &mut body, head)?;
@@ -153,7 +133,7 @@ fn named_proto<'a>(
     if is_taken_function(before, &head.name) {
         return Err(refused(DECLARED_TWICE, head.pos));
     }
-    defined_proto(all, names, guesses, head, boxed)
+    defined_proto(all, bodies, head, boxed)
 }
 
 fn named_function<'a>(
@@ -179,11 +159,13 @@ fn named_item<'a>(
     alloc: Global,
     names: &Names<'a>,
     all: &[Item<Spelling<'a>, ()>],
-    guesses: &[usize],
+    bodies: &Bodies<'a, '_>,
     before: &Names<'a>,
     item: &Item<Spelling<'a>, ()>,
 ) -> Result<Item<Name, ()>, Fault>
-    ensures { AnswersOutcome result (item_named names.now all.now before.now item.now) }
+    requires { HasFirstHeads bodies.now all.now }
+    ensures { AnswersOutcome result
+        (item_named names.now all.now before.now item.now) }
 {
     match item {
         Item::Directive(directive) => Ok(Item::Directive(*directive)),
@@ -192,7 +174,7 @@ fn named_item<'a>(
             named_structure(alloc, names, before, s, members.as_slice(), *pos)
         }
         Item::Static(decl) => named_static(alloc, names, before, decl.get()),
-        Item::Proto(head) => named_proto(alloc, names, all, guesses, before, head.get()),
+        Item::Proto(head) => named_proto(alloc, names, all, bodies, before, head.get()),
         Item::Function(head, body) => {
             named_function(alloc, names, before, head.get(), body.get())
         }
@@ -203,13 +185,15 @@ fn item_in_turn<'a>(
     alloc: Global,
     names: &Names<'a>,
     all: &[Item<Spelling<'a>, ()>],
-    guesses: &[usize],
+    bodies: &Bodies<'a, '_>,
     before: &mut Names<'a>,
     item: &Item<Spelling<'a>, ()>,
 ) -> Result<Item<Name, ()>, Fault>
-    ensures { StepsOutcome result before.new (item_in_turn names.now all.now item.now before.old) }
+    requires { HasFirstHeads bodies.now all.now }
+    ensures { StepsOutcome result before.new
+        (item_in_turn names.now all.now item.now before.old) }
 {
-    let named = named_item(alloc, names, all, guesses, before, item)?;
+    let named = named_item(alloc, names, all, bodies, before, item)?;
     before.note(item)?;
     Ok(named)
 }
@@ -222,25 +206,25 @@ pub fn named_items<'a>(
 ) -> Result<Seq<Item<Name, ()>>, Fault>
     ensures { AnswersOutcome result (all_named names.now items.now) }
 {
-    let places = guesses(alloc, names, items)?;
+    let bodies = first_heads(alloc, items)?;
     let mut before = Names::new(alloc);
-    let named = items_in_turn(alloc, names, places.as_slice(), &mut before, items)?;
-    Ok(named)
+    items_in_turn(alloc, names, items, &bodies, &mut before)
 }
 
 fn items_in_turn<'a>(
     alloc: Global,
     names: &Names<'a>,
-    guesses: &[usize],
+    all: &[Item<Spelling<'a>, ()>],
+    bodies: &Bodies<'a, '_>,
     before: &mut Names<'a>,
-    items: &[Item<Spelling<'a>, ()>],
 ) -> Result<Seq<Item<Name, ()>>, Fault>
+    requires { HasFirstHeads bodies.now all.now }
     ensures { StepsOutcome result before.new
-        (items_named names.now items.now items.now before.old) }
+        (items_named names.now all.now all.now before.old) }
 {
     let mut out = Seq::new(alloc);
-    for item in items {
-        let named = item_in_turn(alloc, names, items, guesses, before, item)?;
+    for item in all {
+        let named = item_in_turn(alloc, names, all, bodies, before, item)?;
         out.push(named)?;
     }
     Ok(out)

@@ -4,4 +4,4 @@ use Rattle.ckc_syntax.proofs.Sequels.{behind, left}
 use Rattle.ckc_resolve.proofs.items.items_in_turn.Given as goal
 
 abbrev pub invariant-loop-item : goal.invariant-loop-item
-invariant-loop-item l = items_named l.names l.items l.items l.fn.before ≡ behind l.out (left (item_in_turn l.names l.items) l.items l.item-index l.before)
+invariant-loop-item l = items_named l.names l.all l.all l.fn.before ≡ behind l.out (left (item_in_turn l.names l.all) l.all l.item-index l.before)

@@ -1,5 +1,5 @@
 use Rattle.std.proofs.Common.{arith}
-use Rattle.ckc_resolve.proofs.Tables.{bytes_of, add_bytes}
+use Rattle.ckc_resolve.proofs.Tables.{add_bytes}
 use Rattle.ckc_resolve.proofs.spellings.Spellings.add.Goals as goal
 
 pub returns-clause-added : goal.returns-clause-added

@@ -1,4 +1,4 @@
-use Rattle.std.proofs.Common.{arith, Some, None}
+use Rattle.std.proofs.Common.{arith}
 use Rattle.ckc_resolve.proofs.Tables.{number_at, number_behind}
 use Rattle.ckc_resolve.proofs.spellings.Spellings.number.Goals as goal
 
