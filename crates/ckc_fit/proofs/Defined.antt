@@ -23,11 +23,12 @@ behind false b e = e
 
 pub some_defines : (h : Head) (s : Spelling) (all : List Item) → is_same h (first_head s all) ≡ true → list_any (defines h) all ≡ true
 some_defines h s [] e = cc
-some_defines h s (item.Function g body ∷ rest) e = by (bytes_eq g.name s) e
+some_defines h s (item.Function g body ∷ rest) e = by (bytes_eq g.name s) (some_defines h s rest) e
   where
-    by : (b : Bool) → is_same h (cond b (Some g) (first_head s rest)) ≡ true → (same_head h g || list_any (defines h) rest) ≡ true
-    by true t = in_front (same_head h g) (list_any (defines h) rest) t
-    by false t = behind (same_head h g) (list_any (defines h) rest) (some_defines h s rest t)
+    by : (b : Bool) → (is_same h (first_head s rest) ≡ true → list_any (defines h) rest ≡ true)
+        → is_same h (cond b (Some g) (first_head s rest)) ≡ true → (same_head h g || list_any (defines h) rest) ≡ true
+    by true later t = in_front (same_head h g) (list_any (defines h) rest) t
+    by false later t = behind (same_head h g) (list_any (defines h) rest) (later t)
 some_defines h s (item.Directive d ∷ rest) e = some_defines h s rest e
 some_defines h s (item.Tag n pos ∷ rest) e = some_defines h s rest e
 some_defines h s (item.Struct n members pos ∷ rest) e = some_defines h s rest e
