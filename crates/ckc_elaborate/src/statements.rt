@@ -1,6 +1,6 @@
 //! Statements.
 
-ghost use Rattle.std.specs.Prelude.{◌≡◌, [], ◌∷◌, ◌+◌, ◌++◌, IfOk, OnOk, map};
+ghost use Rattle.std.specs.Prelude.{◌≡◌, false, [], ◌∷◌, ◌+◌, ◌++◌, IfOk, OnOk, map};
 ghost use Rattle.std.specs.Option.{option_map};
 ghost use Rattle.ckc_source.specs.Code.{stmt_of, assign_of};
 ghost use Rattle.ckc_values.specs.Expressions.{literals_of};
@@ -202,6 +202,14 @@ pub fn stmt(
     act(alloc, typed, locals, &s.body, spot, gives, first)
 }
 
+/// The number of the next string literal behind a statement. Behind the last one there is none, so that the blocks in a
+/// block are not counted once more for each block around them.
+fn number_behind(s: &Stmt<Name, Note>, last: bool, next: u32) -> Result<u32, AllocError>
+    ensures { IfOk result (λ n. last ≡ false → n ≡ next + (part_of s.now).literals) }
+{
+    if last { Ok(next) } else { in_stmt(s, next) }
+}
+
 #[cycle(stmt)]
 fn stmts(
     alloc: Global,
@@ -216,9 +224,9 @@ fn stmts(
 {
     let mut all: Vec<StmtTree> = Vec::new(alloc);
     let mut next = first;
-    for s in ss {
+    for (k, s) in ss.iter().enumerate() {
         let made = stmt(alloc, typed, locals, s, gives, next)?;
-        next = in_stmt(s, next)?;
+        next = number_behind(s, k + 1 == ss.len(), next)?;
         let mut more = made.into_vec();
         all.append(&mut more)?;
     }
