@@ -1,8 +1,9 @@
 //! From a text to the program that it means.
-ghost use Rattle.std.specs.Prelude.{IfOk};
+ghost use Rattle.std.specs.Prelude.{◌≡◌, IfOk};
 ghost use Rattle.ckc_base.specs.Phases.{Exact, IsExact, viewed};
 ghost use Rattle.ckc_source.specs.Code.{program_of};
 ghost use Rattle.ckc_source.specs.LaidOut.{IsLaidOut};
+ghost use Rattle.ckc_elaborate.specs.Elaborated.{elaborated};
 ghost use Rattle.ckc_build.specs.Meanings.{meanings};
 
 use crate::front::judge;
@@ -10,7 +11,9 @@ use crate::placed::lies_apart;
 use ckc_base::Fault;
 use ckc_elaborate::elaborate;
 use ckc_source::Program;
-use std::alloc::Global;
+use ckc_typed::Typed;
+use std::alloc::{AllocError, Global};
+use std::mem::forget;
 
 /// The program that a text means, or the first error of the text.
 pub fn program(alloc: Global, text: &[u8]) -> Result<Program, Fault>
@@ -21,7 +24,7 @@ pub fn program(alloc: Global, text: &[u8]) -> Result<Program, Fault>
 {
     match judge(alloc, text) {
         Err(fault) => Err(fault),
-        Ok(typed) => match elaborate(alloc, &typed) {
+        Ok(typed) => match elaborated(alloc, typed) {
             Err(_) => Err(Fault::Memory),
             Ok(p) => {
                 if lies_apart(&p) {
@@ -32,6 +35,16 @@ pub fn program(alloc: Global, text: &[u8]) -> Result<Program, Fault>
             }
         },
     }
+}
+
+/// The program of a typed text. The tree is left to the end of the process, which gives its memory back at once: to take
+/// it apart would only take time.
+fn elaborated(alloc: Global, typed: Typed) -> Result<Program, AllocError>
+    ensures { IfOk result (λ p. program_of p ≡ elaborated typed) }
+{
+    let made = elaborate(alloc, &typed);
+    forget(typed);
+    made
 }
 
 /// A text means one program, or it has one first error.

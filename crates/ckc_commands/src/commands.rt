@@ -18,6 +18,7 @@ use ckc_calls::{fetch_file, keep_file};
 use ckc_interp::interp;
 use ckc_outside::{Fetched, Sink, Source, Store, StoreError};
 use std::alloc::Global;
+use std::mem::forget;
 
 /// The most bytes that a text may have.
 const TEXT_LIMIT: u64 = LONGEST_TEXT as u64;
@@ -194,7 +195,12 @@ fn interp_bytes<S: Source, O: Sink>(
 {
     match program(alloc, bytes) {
         Err(fault) => status_of(fault),
-        Ok(p) => meant(interp(alloc, &p, limit, input, out)),
+        Ok(p) => {
+            let seen = interp(alloc, &p, limit, input, out);
+            // The program is left to the end of the process, which gives its memory back at once.
+            forget(p);
+            meant(seen)
+        }
     }
 }
 

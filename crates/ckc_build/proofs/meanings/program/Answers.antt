@@ -5,9 +5,9 @@ use Rattle.ckc_build.proofs.meanings.program.Goals as goal
 pub returns-in-Err-clause-exact : goal.returns-in-Err-clause-exact
 returns-in-Err-clause-exact c = judging_ends c.args.text.now c.in-Err.fault c.in-Err.ensures.exact
 
-pub returns-in-Err-elaborate-clause-exact : goal.returns-in-Err-elaborate-clause-exact
-returns-in-Err-elaborate-clause-exact c = memory_ends c.args.text.now
+pub returns-in-Err-elaborated-clause-exact : goal.returns-in-Err-elaborated-clause-exact
+returns-in-Err-elaborated-clause-exact c = memory_ends c.args.text.now
 
 pub returns-then-lies_apart-clause-exact : goal.returns-then-lies_apart-clause-exact
 returns-then-lies_apart-clause-exact c =
-    means c.args.text.now c.in-Ok.typed (program_of c.in-Ok-elaborate.p) c.in-Ok.ensures.exact c.in-Ok-elaborate.ensures
+    means c.args.text.now c.in-Ok.typed (program_of c.in-Ok-elaborated.p) c.in-Ok.ensures.exact c.in-Ok-elaborated.ensures
