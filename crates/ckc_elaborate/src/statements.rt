@@ -109,7 +109,8 @@ fn behind(all: Seq<StmtTree>, s: StmtTree) -> Result<Seq<StmtTree>, AllocError>
 fn one(alloc: Global, s: StmtTree) -> Result<Seq<StmtTree>, AllocError>
     ensures { IfOk result (λ all. map stmt_of all ≡ stmt_of s ∷ []) }
 {
-    behind(Seq::new(alloc), s)
+    let all = Vec::with_capacity(alloc, 1)?;
+    behind(Seq::from_vec(all), s)
 }
 
 /// What a statement means at its place.

@@ -193,7 +193,7 @@ fn text_call(
     let items = typed.get().tree.items.as_slice();
     let callee = number_of(items, Name::Function(k))?;
     let params = params_of(items, Name::Function(k));
-    let mut values = Seq::new(alloc);
+    let mut values = Seq::from_vec(Vec::with_capacity(alloc, es.len())?);
     add_arguments(alloc, typed, locals, params, es, first, &mut values)?;
     let entry = Spot { at, mode: s.mode };
     Ok(StmtTree::Call(entry, to.kept, callee, values))
