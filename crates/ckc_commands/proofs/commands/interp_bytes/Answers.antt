@@ -17,7 +17,7 @@ returns-in-Err-clause-cause g c = λ text before after unkept.
 
 pub returns-in-Ok-clause-cause : goal.returns-in-Ok-clause-cause
 returns-in-Ok-clause-cause g c = λ text before after unkept.
-    let r = c.interp.ensures in
+    let r = c.interp-seen.ensures in
     causes.meant (program_of c.in-Ok.p) c.args.limit (refl, c.in-Ok.ensures.exact.answers)
-    (c.interp.result, c.meant.ensures, record { told = r.exact; any = r.any; read_fault = r.read_fault; write_fault = r.write_fault })
+    (c.interp-seen.result, c.meant.ensures, record { told = r.exact; any = r.any; read_fault = r.read_fault; write_fault = r.write_fault })
     unkept
