@@ -1,8 +1,8 @@
 //! Whether facts show another one.
 
-ghost use Rattle.std.specs.Prelude.{◌≡◌, ◌==◌, ◌&&◌, ◌+◌, ◌<◌, ◌^◌, IfOk, int_le};
+ghost use Rattle.std.specs.Prelude.{◌≡◌, ◌+◌, ◌<◌, ◌≤◌, ◌^◌, length, drop, IfOk};
 ghost use Rattle.ckc_linear.specs.Facts.{IsWithin};
-ghost use Rattle.ckc_known.specs.Shown.{known, is_within, reaches, is_shown};
+ghost use Rattle.ckc_known.specs.Shown.{known, is_within, reaches, is_shown, shows};
 ghost use Rattle.std.specs.List.{list_any};
 
 use crate::work::{Work, grow};
@@ -37,16 +37,46 @@ pub fn is_shown(work: &mut Work, facts: &Facts, f: Fact) -> Result<bool, AllocEr
 
 /// Whether a fact stands among others, with its number or a smaller one.
 fn stands(facts: &Facts, f: Fact) -> bool
-    ensures { result
-        ≡ list_any (λ g. (g.x == f.x) && ((g.y == f.y) && int_le g.c f.c)) facts.now.list }
+    ensures { result ≡ list_any (shows f) facts.now.list }
 {
-    facts.list.as_slice().iter().any(|g| is_shown_by(f, *g))
+    let all = facts.list.as_slice();
+    has(f, &all[passed_over(f, all)..])
 }
 
-fn is_shown_by(f: Fact, g: Fact) -> bool
-    ensures { result ≡ ((g.x == f.x) && ((g.y == f.y) && int_le g.c f.c)) }
+/// How many facts are tested together.
+const BLOCK: usize = 32;
+
+/// How many facts in front, in whole blocks, do not show a fact.
+fn passed_over(f: Fact, facts: &[Fact]) -> usize
+    ensures within { result ≤ length facts.now }
+    ensures rest { list_any (shows f) facts.now ≡ list_any (shows f) (drop result facts.now) }
 {
-    g.x == f.x && g.y == f.y && g.c <= f.c
+    let mut at = 0;
+    'tests: while BLOCK <= facts.len() - at {
+        let block = &facts[at..at + BLOCK];
+        if has(f, block) {
+            return at;
+        }
+        at += BLOCK;
+    }
+    at
+}
+
+/// Whether some fact shows a fact. It looks at each, which takes less time than to stop at the first.
+fn has(f: Fact, facts: &[Fact]) -> bool
+    ensures { result ≡ list_any (shows f) facts.now }
+{
+    let mut found = false;
+    for g in facts {
+        found |= shows(f, g);
+    }
+    found
+}
+
+fn shows(f: Fact, g: &Fact) -> bool
+    ensures { result ≡ shows f g.now }
+{
+    (g.x == f.x) & (g.y == f.y) & (g.c <= f.c)
 }
 
 fn reaches(work: &mut Work, facts: &Facts, f: Fact) -> Result<bool, AllocError>
