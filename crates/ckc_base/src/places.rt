@@ -13,7 +13,7 @@ pub const START: Pos = Pos { line: 1, col: 1 };
 pub const LONGEST_TEXT: usize = 262_144;
 
 /// Why a text is refused: the number of the refusal, as 120 for E120, and its place.
-#[derive(Clone, Copy, Debug, PartialEq, Eq)]
+#[derive(Clone, Copy, Debug)]
 pub struct Refusal {
     pub code: u16,
     pub pos: Pos,

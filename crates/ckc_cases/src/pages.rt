@@ -3,7 +3,7 @@ use crate::commands::{run_case, tell};
 use ckc_trials::{File, Page, Report};
 
 /// Where a page stands: outside a program, within one, or behind one whose line has not come yet.
-#[derive(Clone, Copy, PartialEq, Eq)]
+#[derive(Clone, Copy)]
 enum Part {
     Outside,
     Within,

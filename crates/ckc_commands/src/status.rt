@@ -16,7 +16,7 @@ use ckc_machine::FaultKind;
 /// - `BadImage(part)`: the bytes are no image; the part that disagrees.
 /// - `ReadFault`, `WriteFault`, `StoreFault`: the input, the output or the store failed.
 /// - `Memory`: there was not enough memory.
-#[derive(Clone, Copy, Debug, PartialEq, Eq)]
+#[derive(Clone, Copy, Debug)]
 pub enum Status {
     Done,
     Ended(u32),

@@ -30,7 +30,7 @@ pub const BAD_LIMITS: u16 = 603;
 
 /// What bounds are declared of: a parameter or local by its number, the result of a function, an object of file scope, or
 /// a member of the structure with a tag.
-#[derive(Clone, Copy, PartialEq, Eq)]
+#[derive(Clone, Copy)]
 pub enum Holder {
     Local(u32),
     Result,
@@ -39,7 +39,7 @@ pub enum Holder {
 }
 
 /// An end of bounds: the pointer or array that is named, and the amount behind it, where it has a form.
-#[derive(Clone, Copy, PartialEq, Eq)]
+#[derive(Clone, Copy)]
 pub struct Pieces {
     pub name: Name,
     pub by: Option<Amount>,

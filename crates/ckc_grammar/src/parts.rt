@@ -20,7 +20,7 @@ pub type Bounds<'a> = Boxed<Limits<Spelling<'a>, ()>>;
 pub type Declaration<'a> = Boxed<Decl<Spelling<'a>, ()>>;
 
 /// Why reading stops: the next token does not go on, or memory ran out.
-#[derive(Clone, Copy, PartialEq, Eq)]
+#[derive(Clone, Copy)]
 pub enum Stop {
     Syntax,
     Memory,

@@ -18,7 +18,7 @@ pub struct View<'a> {
 
 /// The bytes are no image. The number is the first part that disagrees: 1 the magic, 2 the version, 3 the whole
 /// length, 4 the lengths of code and initial bytes, 5 the entry.
-#[derive(Clone, Copy, Debug, PartialEq, Eq, Error)]
+#[derive(Clone, Copy, Debug, Error)]
 #[error("bad image: part {0}")]
 pub struct BadImage(pub u8);
 

@@ -12,7 +12,7 @@ use ckc_types::CType;
 use std::alloc::AllocError;
 
 /// The least and the greatest number of an integer type.
-#[derive(Clone, Copy, PartialEq, Eq)]
+#[derive(Clone, Copy)]
 pub struct Interval {
     pub low: i32,
     pub high: u32,

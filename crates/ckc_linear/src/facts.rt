@@ -9,7 +9,7 @@ use core::mem::replace_with;
 use std::alloc::AllocError;
 
 /// `x - y <= c`. Variable 0 is the number zero.
-#[derive(Clone, Copy, Debug, PartialEq, Eq)]
+#[derive(Clone, Copy, Debug)]
 pub struct Fact {
     pub x: u32,
     pub y: u32,

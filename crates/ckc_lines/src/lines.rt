@@ -4,7 +4,7 @@ use ckc_rv::{BranchOp, Instr};
 /// A line of labelled code: a label, which takes no place, an instruction, a jump (`Jal`) or branch to a label, or
 /// a jump to a label at any distance. `Far` is an AUIPC and a JALR through x26. The first field of `Jump` and `Far`
 /// is the register of the link.
-#[derive(Clone, Copy, PartialEq, Eq)]
+#[derive(Clone, Copy)]
 pub enum Line {
     Label(u32),
     Plain(Instr),

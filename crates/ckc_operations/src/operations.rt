@@ -1,5 +1,5 @@
 /// A conditional branch (RISC-V unprivileged ISA manual, RV32I, conditional branches).
-#[derive(Clone, Copy, Debug, PartialEq, Eq)]
+#[derive(Clone, Copy, Debug)]
 pub enum BranchOp {
     Beq,
     Bne,
@@ -10,7 +10,7 @@ pub enum BranchOp {
 }
 
 /// A load (RISC-V unprivileged ISA manual, RV32I, load and store instructions).
-#[derive(Clone, Copy, Debug, PartialEq, Eq)]
+#[derive(Clone, Copy, Debug)]
 pub enum LoadOp {
     Lb,
     Lh,
@@ -20,7 +20,7 @@ pub enum LoadOp {
 }
 
 /// A store (RISC-V unprivileged ISA manual, RV32I, load and store instructions).
-#[derive(Clone, Copy, Debug, PartialEq, Eq)]
+#[derive(Clone, Copy, Debug)]
 pub enum StoreOp {
     Sb,
     Sh,
@@ -29,7 +29,7 @@ pub enum StoreOp {
 
 /// An operation on a register and an immediate (RISC-V unprivileged ISA manual, RV32I, integer
 /// register-immediate instructions).
-#[derive(Clone, Copy, Debug, PartialEq, Eq)]
+#[derive(Clone, Copy, Debug)]
 pub enum ImmOp {
     Addi,
     Slti,
@@ -44,7 +44,7 @@ pub enum ImmOp {
 
 /// An operation on two registers (RISC-V unprivileged ISA manual, RV32I, integer register-register
 /// operations, and the "M" extension).
-#[derive(Clone, Copy, Debug, PartialEq, Eq)]
+#[derive(Clone, Copy, Debug)]
 pub enum RegOp {
     Add,
     Sub,

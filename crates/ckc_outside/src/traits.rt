@@ -7,12 +7,12 @@ use std::alloc::Global;
 use thiserror::Error;
 
 /// The system, or an object in its place, refused a call.
-#[derive(Clone, Copy, Debug, PartialEq, Eq, Error)]
+#[derive(Clone, Copy, Debug, Error)]
 #[error("the object failed")]
 pub struct Failed;
 
 /// Why a store did not fetch or keep.
-#[derive(Clone, Copy, Debug, PartialEq, Eq, Error)]
+#[derive(Clone, Copy, Debug, Error)]
 pub enum StoreError {
     #[error("the store failed")]
     Failed,

@@ -9,7 +9,7 @@ use ckc_types::{CType, Structs};
 
 /// The declared bounds of a pointer: unknown, or from a form up to another. An integer and an unchecked pointer have
 /// none, which is as good as unknown ones.
-#[derive(Clone, Copy, PartialEq, Eq)]
+#[derive(Clone, Copy)]
 pub enum Bounds {
     Unknown,
     Known(Form, Form),

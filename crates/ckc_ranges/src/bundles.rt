@@ -15,7 +15,7 @@ pub const BAD_BUNDLE: u16 = 607;
 
 /// What a bundle may assign: a local, the member of what a local points to, or a member of an object of file scope, each
 /// by its numbers.
-#[derive(Clone, Copy, PartialEq, Eq)]
+#[derive(Clone, Copy)]
 pub enum Target {
     Local(u32),
     Through(u32, u32),

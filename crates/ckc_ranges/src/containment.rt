@@ -13,7 +13,7 @@ use ckc_typed::Range;
 use std::alloc::AllocError;
 
 /// The two ends of bounds or of a range.
-#[derive(Clone, Copy, PartialEq, Eq)]
+#[derive(Clone, Copy)]
 pub struct Ends {
     pub low: Form,
     pub high: Form,

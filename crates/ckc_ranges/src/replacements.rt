@@ -8,14 +8,14 @@ use ckc_linear::{Base, Form};
 use ckc_points::{Bounds, base_form, moved_form, same_base, sum_of_forms};
 
 /// The place that stands for a base, where it has one.
-#[derive(Clone, Copy, PartialEq, Eq)]
+#[derive(Clone, Copy)]
 pub struct BaseBy {
     pub base: Base,
     pub by: Option<Form>,
 }
 
 /// The form that stands for a variable, where it has one.
-#[derive(Clone, Copy, PartialEq, Eq)]
+#[derive(Clone, Copy)]
 pub struct VariableBy {
     pub var: u32,
     pub by: Option<Form>,

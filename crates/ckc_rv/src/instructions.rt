@@ -3,7 +3,7 @@ use ckc_operations::{BranchOp, ImmOp, LoadOp, RegOp, StoreOp};
 /// An instruction. Its fields are in the order rd, rs1, rs2, immediate; a store has rs1, which holds the
 /// address, then rs2, which holds the value. Offsets count bytes. The immediate of `Lui` and `Auipc` is the
 /// word's upper 20 bits as a number below 2^20, and that of `Fence` the bits 27 to 20.
-#[derive(Clone, Copy, Debug, PartialEq, Eq)]
+#[derive(Clone, Copy, Debug)]
 pub enum Instr {
     Lui(u8, u32),
     Auipc(u8, u32),

@@ -15,7 +15,7 @@ pub struct Regs {
 /// - `Load(op, rd, address)` and `Store(op, address, value)`: move bytes, and go on at the next instruction.
 /// - `Call`, `Break`: ECALL and EBREAK.
 /// - `BadTarget`: the target of a jump or of a taken branch is no multiple of 4.
-#[derive(Clone, Copy, PartialEq, Eq)]
+#[derive(Clone, Copy)]
 pub enum Outcome {
     Next(u8, u32, u32),
     Load(LoadOp, u8, u32),

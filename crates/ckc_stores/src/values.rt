@@ -23,7 +23,7 @@ use std::alloc::{AllocError, Global};
 pub const NOT_CONTAINED: u16 = 602;
 
 /// The number of the first value in an expression that stands for itself, and the local that is its first fresh variable.
-#[derive(Clone, Copy, PartialEq, Eq)]
+#[derive(Clone, Copy)]
 pub struct Numbered {
     pub value: u32,
     pub fresh: u32,

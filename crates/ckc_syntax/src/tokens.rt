@@ -4,7 +4,7 @@ use ckc_base::Pos;
 use std::marker::Model;
 
 /// What a token is. The flag of a number says that its type is `unsigned`.
-#[derive(Clone, Copy, Debug, PartialEq, Eq)]
+#[derive(Clone, Copy, Debug)]
 pub enum TokenKind {
     Name,
     Keyword,
@@ -17,7 +17,7 @@ pub enum TokenKind {
 
 /// The directives: `#include <stdio.h>`, `#include <stdlib.h>`, `#include <stdchecked.h>`, and
 /// `#pragma CHECKED_SCOPE on` and `off` (Checked C specification 0.9, section 3, on the scope pragma).
-#[derive(Clone, Copy, Debug, PartialEq, Eq)]
+#[derive(Clone, Copy, Debug)]
 pub enum Directive {
     Stdio,
     Stdlib,

@@ -353,7 +353,7 @@ impl<N: Drop, A: Drop> Drop for Node<N, A> {
 
 /// The operators. The first six are unary `-`, `+`, `!`, `~`, `*` and `&`; the others are `||`, `&&`, `|`, `^`,
 /// `&`, `==`, `!=`, `<`, `<=`, `>`, `>=`, `<<`, `>>`, `+`, `-`, `*`, `/` and `%`.
-#[derive(Clone, Copy, PartialEq, Eq)]
+#[derive(Clone, Copy)]
 pub enum TreeOp {
     Minus,
     Plus,
@@ -383,7 +383,7 @@ pub enum TreeOp {
 
 /// What a name means once it is resolved: a local of the function, a static, a function, a tag or a member by
 /// its number, or one of the two functions that every text may call.
-#[derive(Clone, Copy, Debug, PartialEq, Eq)]
+#[derive(Clone, Copy, Debug)]
 pub enum Name {
     Local(u32),
     Static(u32),

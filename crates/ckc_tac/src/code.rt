@@ -25,7 +25,7 @@ pub struct TacBlock {
 }
 
 /// What an operation reads: a register, or a number of the code.
-#[derive(Clone, Copy, PartialEq, Eq)]
+#[derive(Clone, Copy)]
 pub enum Operand {
     Register(u32),
     Number(u32),
@@ -55,7 +55,7 @@ pub enum TacOp {
 }
 
 /// A comparison of two words: less by their signed or unsigned values, equal, or unequal.
-#[derive(Clone, Copy, PartialEq, Eq)]
+#[derive(Clone, Copy)]
 pub enum Comparison {
     LtS,
     LtU,
@@ -65,7 +65,7 @@ pub enum Comparison {
 
 /// The end of a block: control goes to a block, or to the first of two where a comparison of two operands holds, else
 /// to the second, or back to the caller with a value.
-#[derive(Clone, Copy, PartialEq, Eq)]
+#[derive(Clone, Copy)]
 pub enum TacEnd {
     Jump(u32),
     Branch(Comparison, Operand, Operand, u32, u32),

@@ -35,14 +35,14 @@ pub struct Variable {
 }
 
 /// An amount of elements or bytes in bounds: a variable, where there is one, and a number that is added to it.
-#[derive(Clone, Copy, PartialEq, Eq)]
+#[derive(Clone, Copy)]
 pub struct Amount {
     pub variable: Option<Name>,
     pub number: i64,
 }
 
 /// The value of a constant: a word, and whether it is read as `unsigned` or as `int`.
-#[derive(Clone, Copy, PartialEq, Eq)]
+#[derive(Clone, Copy)]
 pub struct Constant {
     pub word: u32,
     pub unsigned: bool,

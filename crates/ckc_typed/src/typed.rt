@@ -7,7 +7,7 @@ use ckc_types::{CType, Kind, Structs};
 
 /// Where a checked pointer may be used (Checked C specification 0.9, section 3, on bounds): nothing is known, any
 /// range will do, as for null, or from one form up to another.
-#[derive(Clone, Copy, PartialEq, Eq)]
+#[derive(Clone, Copy)]
 pub enum Range {
     Missing,
     Any,

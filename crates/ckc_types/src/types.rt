@@ -40,7 +40,7 @@ impl Drop for CType {
 /// How many elements a member points to: no bounds are written, `bounds(unknown)` is, `Fixed(c)` is `count(c)`,
 /// `Named(m, c)` is `count(m + c)` for the member m of the same structure, and `NoForm` is what is none of these and
 /// is refused when bounds are judged.
-#[derive(Clone, Copy, PartialEq, Eq)]
+#[derive(Clone, Copy)]
 pub enum MemberBounds {
     Nothing,
     Unknown,
