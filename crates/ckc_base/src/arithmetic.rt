@@ -2,14 +2,14 @@ ghost use Rattle.std.specs.Prelude.{◌≡◌};
 ghost use Rattle.ckc_base.specs.Words.{applied};
 
 /// Whether a scope is checked (Checked C specification 0.9, section 3, on checked scopes).
-#[derive(Clone, Copy, PartialEq, Eq)]
+#[derive(Clone, Copy)]
 pub enum Mode {
     Checked,
     Unchecked,
 }
 
 /// How many bytes a load or store moves.
-#[derive(Clone, Copy, PartialEq, Eq)]
+#[derive(Clone, Copy)]
 pub enum Width {
     Byte,
     Word,
@@ -17,7 +17,7 @@ pub enum Width {
 
 /// An operation on two words. `S` reads them as signed, `U` as unsigned. Comparisons give 1 or 0, and shift
 /// counts are taken modulo 32.
-#[derive(Clone, Copy, PartialEq, Eq)]
+#[derive(Clone, Copy)]
 pub enum BinOp {
     Add,
     Sub,

@@ -1,6 +1,6 @@
 /// A place in a text: line and column, both from 1. A column counts bytes, a tab is one column, and only LF
 /// ends a line.
-#[derive(Clone, Copy, Debug, PartialEq, Eq)]
+#[derive(Clone, Copy, Debug)]
 pub struct Pos {
     pub line: u32,
     pub col: u32,

@@ -2,7 +2,7 @@ ghost use Rattle.std.specs.Prelude.{◌≡◌, ◌<◌, ◌≤◌, ◌⊎◌, �
 ghost use Rattle.ckc_base.specs.Checks.{number_of, name_of, check_with};
 
 /// A check at which a program stops (Checked C specification 0.9, section 3, on dynamic checks).
-#[derive(Clone, Copy, Debug, PartialEq, Eq)]
+#[derive(Clone, Copy, Debug)]
 pub enum Check {
     Null,
     Bounds,
