@@ -53,23 +53,39 @@ const REGISTERS: [RegOp; 18] = [
 /// The instruction that a field spells. It may be out of range.
 pub fn instruction(field: &str, page: &mut Page) -> Instr {
     match page.words_of(field).as_slice() {
-        ["Ebreak"] => Instr::Ebreak,
+        [form] => of_form(form, page),
         ["Fence", a] => Instr::Fence(page.byte_of(a)),
-        ["Lui", a, b] => Instr::Lui(page.byte_of(a), page.word_of(b)),
-        ["Auipc", a, b] => Instr::Auipc(page.byte_of(a), page.word_of(b)),
-        ["Jal", a, b] => Instr::Jal(page.byte_of(a), signed(b, page)),
         ["Jalr", a, b, c] => Instr::Jalr(page.byte_of(a), page.byte_of(b), signed(c, page)),
-        [form, op, a, b, c] => {
-            let a = page.byte_of(a);
-            let b = page.byte_of(b);
-            let c = signed(c, page);
-            match operation(form, op, a, b, c, page) {
-                Some(i) => i,
-                None => unknown(page),
-            }
-        }
-        ["Ecall"] => Instr::Ecall,
+        [form, a, b] => of_two(form, page.byte_of(a), b, page),
+        [form, op, a, b, c] => of_operation(form, op, (a, b, c), page),
         _ => unknown(page),
+    }
+}
+
+fn of_form(form: &str, page: &mut Page) -> Instr {
+    match form {
+        "Ecall" => Instr::Ecall,
+        "Ebreak" => Instr::Ebreak,
+        _ => unknown(page),
+    }
+}
+
+fn of_two(form: &str, rd: u8, number: &str, page: &mut Page) -> Instr {
+    match form {
+        "Lui" => Instr::Lui(rd, page.word_of(number)),
+        "Auipc" => Instr::Auipc(rd, page.word_of(number)),
+        "Jal" => Instr::Jal(rd, signed(number, page)),
+        _ => unknown(page),
+    }
+}
+
+fn of_operation(form: &str, op: &str, fields: (&str, &str, &str), page: &mut Page) -> Instr {
+    let a = page.byte_of(fields.0);
+    let b = page.byte_of(fields.1);
+    let c = signed(fields.2, page);
+    match operation(form, op, a, b, c, page) {
+        Some(i) => i,
+        None => unknown(page),
     }
 }
 

@@ -17,18 +17,34 @@ impl<R: Files + AllocGlobal> Judge for Tables<'_, R> {
     fn answer(&self, kind: &str, given: &[Vec<u8>], page: &mut Page) {
         let given = page.texts_of(given);
         match given.as_slice() {
-            [] if kind == "empty" => lists::empty_case(page),
-            [text] if kind == "store" => objects::store_case(self.rt, text, page),
-            [text] => of_one(kind, text, page),
+            [text] => self.of_one(kind, text, page),
             [first, second] => of_two(kind, first, second, page),
             [first, second, third] => of_three(kind, (first, second, third), page),
-            [vars, known, x, c] if kind == "shift" => facts::shift_case(vars, known, x, c, page),
-            _ => page.refuse(UNKNOWN),
+            fields => of_others(kind, fields, page),
         }
     }
 }
 
-/// A case with one field.
+impl<R: Files + AllocGlobal> Tables<'_, R> {
+    /// A case with one field.
+    fn of_one(&self, kind: &str, text: &str, page: &mut Page) {
+        match kind {
+            "store" => objects::store_case(self.rt, text, page),
+            _ => of_one(kind, text, page),
+        }
+    }
+}
+
+/// A case with no field or with four.
+fn of_others(kind: &str, fields: &[&str], page: &mut Page) {
+    match (kind, fields) {
+        ("empty", []) => lists::empty_case(page),
+        ("shift", [vars, known, x, c]) => facts::shift_case(vars, known, x, c, page),
+        _ => page.refuse(UNKNOWN),
+    }
+}
+
+/// A case with one field that asks nothing of the system's files.
 fn of_one(kind: &str, text: &str, page: &mut Page) {
     match kind {
         "range" => words::range_case(text, page),
