@@ -1,6 +1,7 @@
 ghost use Rattle.std.specs.Prelude.{◌≡◌, ◌↔◌, ℕ, List, ◌+◌, ◌^◌, ◌<◌, ◌≤◌, length, IsTrue, IsOkAnd, IsErrAnd, MatchResult};
 ghost use Rattle.ckc_image.specs.Image.{EntryFits, FirstBad, ImageOf, IsProper, LengthsFit, four_at, word_at};
 
+use ckc_counts::is_image_length;
 use thiserror::Error;
 
 const MAGIC: [u8; 4] = *b"CCIM";
@@ -44,7 +45,7 @@ impl<'a> View<'a> {
         let entry = word(bytes, 8);
         let code = word(bytes, 12) as usize;
         let initial = word(bytes, 16) as usize;
-        if !has_length(bytes, code, initial) {
+        if !is_image_length(bytes.len(), code, initial) {
             return Err(BadImage(3));
         }
         if !lengths_fit(code, initial) {
@@ -73,14 +74,6 @@ fn word(bytes: &[u8], at: usize) -> u32
     ensures { result ≡ word_at bytes.now at }
 {
     u32::from_le_bytes(four_bytes(bytes, at))
-}
-
-/// Whether nothing is missing behind the header, and nothing comes after the last part.
-fn has_length(bytes: &[u8], code: usize, initial: usize) -> bool
-    requires { (code < 2 ^ 32) × (initial < 2 ^ 32) }
-    ensures { IsTrue result ↔ (length bytes.now ≡ 20 + code + initial) }
-{
-    bytes.len() == 20 + code + initial
 }
 
 fn lengths_fit(code: usize, initial: usize) -> bool

@@ -6,6 +6,7 @@ ghost use Rattle.ckc_linear.specs.Chains.{Chain};
 ghost use Rattle.ckc_linear.specs.Rows.{IsRow, IsRound, IsSmall, Lowers, sum_at};
 
 use crate::{Fact, Facts};
+use ckc_counts::most_facts;
 
 /// Stands for no sum. The sums of walks are far below it.
 const NONE: i64 = i64::MAX;
@@ -42,14 +43,6 @@ fn find_sums(facts: &Facts, y: u32, sums: &mut [i64], next: &mut [i64])
         }
         sums.copy_from_slice(next);
     }
-}
-
-/// How many facts a chain over so many variables has at most.
-fn most_facts(vars: u32) -> u32
-    requires { vars ≤ 1024 }
-    ensures { result ≡ vars + 1 }
-{
-    vars + 1
 }
 
 /// Lets each fact lower the sums of `next`, which are those of `sums` before, and says whether one did.

@@ -1,7 +1,8 @@
 -- What a source gave, and what may come behind it.
-use Rattle.std.proofs.Common.{◌≡◌, ℕ, List, [], ◌∷◌, ◌++◌, Option, Some, Bool, refl, sym, ap, subst, ◌∙◌, append_assoc}
+use Rattle.std.proofs.Common.{◌≡◌, ◌^◌, ◌<◌, ℕ, List, [], ◌∷◌, ◌++◌, drop, slice_get, Option, None, Some, Ok, IfSome, IsTrue, Bool, refl, sym, subst, ◌∙◌, append_assoc}
 pub use Rattle.ckc_outside.proofs.Giving.{no_answer, one_answer}
 use Rattle.ckc_outside.proofs.Giving.{both_none, gave_nothing, gave_both}
+use Rattle.ckc_outside.specs.Outside.{GivesNothing, after_next}
 use Rattle.ckc_rv.specs.Machine.{Parts}
 use Rattle.ckc_machine.specs.declared.observed.Observed.{Observed}
 use Rattle.ckc_machine.specs.declared.machine.Machine.{Machine}
@@ -15,6 +16,15 @@ not_asked ended answers Holds h = ([], gave_nothing ended answers, λ rest may. 
 pub given_so : (ended ended' : Bool) (answers answers' : ℕ) (One Other : List ℕ → List ℕ → Type 0) → OverAny ended ended' answers answers' One
     → ((left left' : List ℕ) → One left left' → Other left left') → OverAny ended ended' answers answers' Other
 given_so ended ended' answers answers' One Other o h = (o.0, o.1, λ rest may. h (o.0 ++ rest) rest (o.2 rest may))
+
+-- a source that was asked once, and gave the next byte or said that there is none
+pub asked_once : (ended ended' : Bool) (answers answers' : ℕ) (next : Option ℕ) (Holds : List ℕ → List ℕ → Type 0) → answers' ≡ after_next (Ok next) answers
+    → (IsTrue ended → GivesNothing (Ok next)) → (IsTrue ended → IsTrue ended') → (next ≡ None → IsTrue ended') → IfSome next (λ byte. byte < 2 ^ 8)
+    → ((rest : List ℕ) → next ≡ slice_get rest 0 → Holds rest (drop 1 rest)) → OverAny ended ended' answers answers' Holds
+asked_once ended ended' answers answers' (Some byte) Holds count nothing stays end small h =
+    (byte ∷ [], record { count = count ∙ one_answer answers byte; bytes = (small, tt); none = λ t. absurd (nothing t); stays = stays }, λ rest may. h (byte ∷ rest) refl)
+asked_once ended ended' answers answers' None Holds count nothing stays end small h =
+    ([], record { count = count ∙ no_answer answers; bytes = tt; none = λ t. refl; stays = stays }, λ rest may. subst (λ l. Holds l l) (sym (may (end refl))) (h [] refl))
 
 -- what was given first, and what was given then
 pub given_then : (ended midway ended' : Bool) (answers between answers' : ℕ) (First Then Both : List ℕ → List ℕ → Type 0)

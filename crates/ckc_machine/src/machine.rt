@@ -4,6 +4,7 @@ ghost use Rattle.ckc_rv.specs.Effects.{load_bytes, store_bytes};
 use crate::memory::{Memory, is_writable};
 use crate::observed::{FaultKind, Observed};
 use ckc_base::{Pos, check_of};
+use ckc_counts::{byte_or_end, one_more};
 use ckc_image::View;
 use ckc_outside::{Sink, Source};
 use ckc_rv::{LoadOp, Outcome, Regs, StoreOp, word_effect};
@@ -99,11 +100,13 @@ impl<'a> Machine<'a> {
         if !self.goes() {
             return self.answer;
         }
-        for _step in 0..limit {
+        let mut done = 0;
+        while done < limit {
             self.step(input, out);
             if !self.goes() {
                 return self.answer;
             }
+            done = one_more(done);
         }
         self.answer
     }
@@ -192,8 +195,7 @@ impl<'a> Machine<'a> {
         ensures input_counts { S.faults input.old ≤ S.faults input.new }
     {
         match input.next() {
-            Ok(Some(byte)) => self.go_on(10, word_of(byte), self.pc.wrapping_add(4)),
-            Ok(None) => self.go_on(10, u32::MAX, self.pc.wrapping_add(4)),
+            Ok(next) => self.go_on(10, byte_or_end(next), self.pc.wrapping_add(4)),
             Err(_) => self.halt(Observed::ReadFault),
         }
     }
@@ -406,12 +408,4 @@ fn store_size(op: StoreOp) -> u32
         StoreOp::Sh => 2,
         StoreOp::Sw => 4,
     }
-}
-
-/// A byte as a word.
-fn word_of(byte: u8) -> u32
-    ensures same { result ≡ byte }
-    ensures small { byte < 256 }
-{
-    u32::from(byte)
 }

@@ -1,4 +1,4 @@
-use Rattle.std.proofs.Common.{sym}
+use Rattle.std.proofs.Common.{rules, sym}
 use Rattle.ckc_outside.specs.Outside.{Rose}
 use Rattle.ckc_calls.proofs.Reports.{reported}
 use Rattle.ckc_calls.proofs.lines.put_line.Goals as goal
@@ -7,3 +7,6 @@ pub returns-then-not-is_empty-clause-report : goal.returns-then-not-is_empty-cla
 returns-then-not-is_empty-clause-report g c =
     let rose = Rose (g.E.Sink.faults c.args.err.now) (g.E.Sink.faults c.put.new.self) in
     reported c.args.line.now c.put.result (g.E.Sink.written c.args.err.now) (g.E.Sink.written c.put.new.self) rose (sym c.if-not-is_empty.ensures) c.put.ensures.told c.put.ensures.failed
+
+pub returns-then-not-is_empty-clause-once : goal.returns-then-not-is_empty-clause-once
+returns-then-not-is_empty-clause-once g c = search rules

@@ -32,8 +32,9 @@ halfway : (told mid : Option (List ℕ)) (told' : Option (List ℕ)) (silent one
 halfway told mid told' silent one left left' f (inl h) = (mid, inl (h.0, refl), inl (refl, h.1))
 halfway told mid told' silent one left left' f (inr h) = (left, inr (h.0, refl), inr (f h.0, h.1))
 
-pub loop-step-init : goal.loop-step-init
-loop-step-init g c = record {
+pub loop-done-init : goal.loop-done-init
+loop-done-init g c = record {
+  within = omega arith;
   going = c.if-not-goes.ensures.0 refl;
   arrives = λ parts given k before after is fed.
       let written = g.O.Sink.written c.args.out.now in
@@ -48,71 +49,73 @@ loop-step-init g c = record {
 pub returns-then-not-goes-2-clause-exact : goal.returns-then-not-goes-2-clause-exact
 returns-then-not-goes-2-clause-exact g c = λ parts given k is.
     let told = g.S.Source.left in
-    let i = c.loop-step._step in
-    let half = halfway (told c.args.input.now) (told c.loop-step.input) (told c.step.new.input) _ _ (told c.args.input.now) (told c.step.new.input) (silent_at parts given k i c.args.limit c.loop-step-test.true) (inl (refl, refl)) in
-    let before = c.loop-step.invariant.arrives parts given k (told c.args.input.now) half.0 is half.1 in
-    then_ends parts given k i c.args.limit c.loop-step.self c.step.new.self
-    (told c.args.input.now) half.0 (told c.step.new.input) (g.O.Sink.written c.args.out.now) (g.O.Sink.written c.loop-step.out) (g.O.Sink.written c.step.new.out)
-    (g.S.Source.faults c.args.input.now) (g.S.Source.faults c.loop-step.input) (g.S.Source.faults c.step.new.input) (g.O.Sink.faults c.args.out.now) (g.O.Sink.faults c.loop-step.out) (g.O.Sink.faults c.step.new.out)
-    is.rest before (omega arith) c.loop-step.invariant.input_counts c.loop-step.invariant.out_counts (answer_of c.step.new.self) refl (λ e. false≢true (c.if-not-goes-2.ensures.1 e))
+    let i = c.loop-done.done in
+    let half = halfway (told c.args.input.now) (told c.loop-done.input) (told c.step.new.input) _ _ (told c.args.input.now) (told c.step.new.input) (silent_at parts given k i c.args.limit c.loop-done-test.true) (inl (refl, refl)) in
+    let before = c.loop-done.invariant.arrives parts given k (told c.args.input.now) half.0 is half.1 in
+    then_ends parts given k i c.args.limit c.loop-done.self c.step.new.self
+    (told c.args.input.now) half.0 (told c.step.new.input) (g.O.Sink.written c.args.out.now) (g.O.Sink.written c.loop-done.out) (g.O.Sink.written c.step.new.out)
+    (g.S.Source.faults c.args.input.now) (g.S.Source.faults c.loop-done.input) (g.S.Source.faults c.step.new.input) (g.O.Sink.faults c.args.out.now) (g.O.Sink.faults c.loop-done.out) (g.O.Sink.faults c.step.new.out)
+    is.rest before (omega arith) c.loop-done.invariant.input_counts c.loop-done.invariant.out_counts (answer_of c.step.new.self) refl (λ e. false≢true (c.if-not-goes-2.ensures.1 e))
     (c.step.ensures.exact parts given (k + i) half.0 (told c.step.new.input) before.at half.2)
 
 pub returns-then-not-goes-2-clause-silent : goal.returns-then-not-goes-2-clause-silent
 returns-then-not-goes-2-clause-silent g c = λ parts given k left is quiet.
-    let i = c.loop-step._step in
-    let one = silent_at parts given k i c.args.limit c.loop-step-test.true quiet in
-    let before = c.loop-step.invariant.arrives parts given k left left is (inr (quiet, refl)) in (
-      c.step.ensures.silent parts given (k + i) left before.at one ∙ c.loop-step.invariant.silent parts given k left is quiet,
-      then_ends parts given k i c.args.limit c.loop-step.self c.step.new.self
-          left left left (g.O.Sink.written c.args.out.now) (g.O.Sink.written c.loop-step.out) (g.O.Sink.written c.step.new.out)
-          (g.S.Source.faults c.args.input.now) (g.S.Source.faults c.loop-step.input) (g.S.Source.faults c.step.new.input) (g.O.Sink.faults c.args.out.now) (g.O.Sink.faults c.loop-step.out) (g.O.Sink.faults c.step.new.out)
-          is.rest before (omega arith) c.loop-step.invariant.input_counts c.loop-step.invariant.out_counts (answer_of c.step.new.self) refl (λ e. false≢true (c.if-not-goes-2.ensures.1 e))
+    let i = c.loop-done.done in
+    let one = silent_at parts given k i c.args.limit c.loop-done-test.true quiet in
+    let before = c.loop-done.invariant.arrives parts given k left left is (inr (quiet, refl)) in (
+      c.step.ensures.silent parts given (k + i) left before.at one ∙ c.loop-done.invariant.silent parts given k left is quiet,
+      then_ends parts given k i c.args.limit c.loop-done.self c.step.new.self
+          left left left (g.O.Sink.written c.args.out.now) (g.O.Sink.written c.loop-done.out) (g.O.Sink.written c.step.new.out)
+          (g.S.Source.faults c.args.input.now) (g.S.Source.faults c.loop-done.input) (g.S.Source.faults c.step.new.input) (g.O.Sink.faults c.args.out.now) (g.O.Sink.faults c.loop-done.out) (g.O.Sink.faults c.step.new.out)
+          is.rest before (omega arith) c.loop-done.invariant.input_counts c.loop-done.invariant.out_counts (answer_of c.step.new.self) refl (λ e. false≢true (c.if-not-goes-2.ensures.1 e))
           (c.step.ensures.exact parts given (k + i) left left before.at (inr (one, refl))),
     )
 
 pub returns-then-not-goes-2-clause-any : goal.returns-then-not-goes-2-clause-any
 returns-then-not-goes-2-clause-any g c =
-    let i = c.loop-step._step in
-    given_then _ _ _ _ _ _ (ArrivesBy c.loop-step._step c.args.self.now c.loop-step.self (g.O.Sink.written c.args.out.now) (g.O.Sink.written c.loop-step.out)) (RunsBy 1 c.loop-step.self c.step.new.self (g.O.Sink.written c.loop-step.out) (g.O.Sink.written c.step.new.out) (g.S.Source.faults c.loop-step.input) (g.S.Source.faults c.step.new.input) (g.O.Sink.faults c.loop-step.out) (g.O.Sink.faults c.step.new.out) (answer_of c.step.new.self))
-    (RunsBy c.args.limit c.args.self.now c.step.new.self (g.O.Sink.written c.args.out.now) (g.O.Sink.written c.step.new.out) (g.S.Source.faults c.args.input.now) (g.S.Source.faults c.step.new.input) (g.O.Sink.faults c.args.out.now) (g.O.Sink.faults c.step.new.out) (answer_of c.step.new.self)) c.loop-step.invariant.any c.step.ensures.any (λ left mid left' first then parts given k is.
+    let i = c.loop-done.done in
+    given_then _ _ _ _ _ _ (ArrivesBy c.loop-done.done c.args.self.now c.loop-done.self (g.O.Sink.written c.args.out.now) (g.O.Sink.written c.loop-done.out)) (RunsBy 1 c.loop-done.self c.step.new.self (g.O.Sink.written c.loop-done.out) (g.O.Sink.written c.step.new.out) (g.S.Source.faults c.loop-done.input) (g.S.Source.faults c.step.new.input) (g.O.Sink.faults c.loop-done.out) (g.O.Sink.faults c.step.new.out) (answer_of c.step.new.self))
+    (RunsBy c.args.limit c.args.self.now c.step.new.self (g.O.Sink.written c.args.out.now) (g.O.Sink.written c.step.new.out) (g.S.Source.faults c.args.input.now) (g.S.Source.faults c.step.new.input) (g.O.Sink.faults c.args.out.now) (g.O.Sink.faults c.step.new.out) (answer_of c.step.new.self)) c.loop-done.invariant.any c.step.ensures.any (λ left mid left' first then parts given k is.
     let before = first parts given k is in
-    then_ends parts given k i c.args.limit c.loop-step.self c.step.new.self
-    (Some left) (Some mid) (Some left') (g.O.Sink.written c.args.out.now) (g.O.Sink.written c.loop-step.out) (g.O.Sink.written c.step.new.out)
-    (g.S.Source.faults c.args.input.now) (g.S.Source.faults c.loop-step.input) (g.S.Source.faults c.step.new.input) (g.O.Sink.faults c.args.out.now) (g.O.Sink.faults c.loop-step.out) (g.O.Sink.faults c.step.new.out)
-    is.rest before (omega arith) c.loop-step.invariant.input_counts c.loop-step.invariant.out_counts (answer_of c.step.new.self) refl (λ e. false≢true (c.if-not-goes-2.ensures.1 e))
+    then_ends parts given k i c.args.limit c.loop-done.self c.step.new.self
+    (Some left) (Some mid) (Some left') (g.O.Sink.written c.args.out.now) (g.O.Sink.written c.loop-done.out) (g.O.Sink.written c.step.new.out)
+    (g.S.Source.faults c.args.input.now) (g.S.Source.faults c.loop-done.input) (g.S.Source.faults c.step.new.input) (g.O.Sink.faults c.args.out.now) (g.O.Sink.faults c.loop-done.out) (g.O.Sink.faults c.step.new.out)
+    is.rest before (omega arith) c.loop-done.invariant.input_counts c.loop-done.invariant.out_counts (answer_of c.step.new.self) refl (λ e. false≢true (c.if-not-goes-2.ensures.1 e))
     (then parts given (k + i) before.at))
 
-pub loop-step-preserved : goal.loop-step-preserved
-loop-step-preserved g c =
+pub loop-done-preserved : goal.loop-done-preserved
+loop-done-preserved g c =
     let told = g.S.Source.left in
     let written = g.O.Sink.written in
-    let i = c.loop-step._step in
+    let i = c.loop-done.done in
     let going : answer_of c.step.new.self ≡ Going = c.if-not-goes-2.ensures.0 refl in
+    let next : i + 1 ≡ c.one_more-done.result = omega (arith, c.one_more-done.ensures.more) in
     record {
+      within = omega arith;
       going = going;
       arrives = λ parts given k left left' is fed.
-          let half = halfway (told c.args.input.now) (told c.loop-step.input) (told c.step.new.input) _ _ left left' (silent_at parts given k i c.args.limit c.loop-step-test.true) fed in
-          let before = c.loop-step.invariant.arrives parts given k left half.0 is half.1 in
-          then_going parts given k i c.args.limit c.loop-step.self c.step.new.self
-          left half.0 left' (written c.args.out.now) (written c.loop-step.out) (written c.step.new.out)
-          (g.S.Source.faults c.args.input.now) (g.S.Source.faults c.loop-step.input) (g.S.Source.faults c.step.new.input) (g.O.Sink.faults c.args.out.now) (g.O.Sink.faults c.loop-step.out) (g.O.Sink.faults c.step.new.out)
-          is.rest before c.loop-step-test.true c.loop-step.invariant.input_counts c.loop-step.invariant.out_counts going
-          (subst (λ (o : Observed). Runs parts given (k + i) 1 c.step.new.self half.0 left' (written c.loop-step.out) (written c.step.new.out)
-          (g.S.Source.faults c.loop-step.input) (g.S.Source.faults c.step.new.input) (g.O.Sink.faults c.loop-step.out) (g.O.Sink.faults c.step.new.out) o) going (c.step.ensures.exact parts given (k + i) half.0 left' before.at half.2));
-      any = given_then _ _ _ _ _ _ (ArrivesBy c.loop-step._step c.args.self.now c.loop-step.self (g.O.Sink.written c.args.out.now) (g.O.Sink.written c.loop-step.out)) (RunsBy 1 c.loop-step.self c.step.new.self (g.O.Sink.written c.loop-step.out) (g.O.Sink.written c.step.new.out) (g.S.Source.faults c.loop-step.input) (g.S.Source.faults c.step.new.input) (g.O.Sink.faults c.loop-step.out) (g.O.Sink.faults c.step.new.out) (answer_of c.step.new.self))
-          (ArrivesBy (c.loop-step._step + 1) c.args.self.now c.step.new.self (g.O.Sink.written c.args.out.now) (g.O.Sink.written c.step.new.out)) c.loop-step.invariant.any c.step.ensures.any (λ left mid left' first then parts given k is.
+          let half = halfway (told c.args.input.now) (told c.loop-done.input) (told c.step.new.input) _ _ left left' (silent_at parts given k i c.args.limit c.loop-done-test.true) fed in
+          let before = c.loop-done.invariant.arrives parts given k left half.0 is half.1 in
+          subst (λ n. Arrives parts given k n c.step.new.self left left' (written c.args.out.now) (written c.step.new.out)) next (then_going parts given k i c.args.limit c.loop-done.self c.step.new.self
+          left half.0 left' (written c.args.out.now) (written c.loop-done.out) (written c.step.new.out)
+          (g.S.Source.faults c.args.input.now) (g.S.Source.faults c.loop-done.input) (g.S.Source.faults c.step.new.input) (g.O.Sink.faults c.args.out.now) (g.O.Sink.faults c.loop-done.out) (g.O.Sink.faults c.step.new.out)
+          is.rest before c.loop-done-test.true c.loop-done.invariant.input_counts c.loop-done.invariant.out_counts going
+          (subst (λ (o : Observed). Runs parts given (k + i) 1 c.step.new.self half.0 left' (written c.loop-done.out) (written c.step.new.out)
+          (g.S.Source.faults c.loop-done.input) (g.S.Source.faults c.step.new.input) (g.O.Sink.faults c.loop-done.out) (g.O.Sink.faults c.step.new.out) o) going (c.step.ensures.exact parts given (k + i) half.0 left' before.at half.2)));
+      any = given_then _ _ _ _ _ _ (ArrivesBy c.loop-done.done c.args.self.now c.loop-done.self (g.O.Sink.written c.args.out.now) (g.O.Sink.written c.loop-done.out)) (RunsBy 1 c.loop-done.self c.step.new.self (g.O.Sink.written c.loop-done.out) (g.O.Sink.written c.step.new.out) (g.S.Source.faults c.loop-done.input) (g.S.Source.faults c.step.new.input) (g.O.Sink.faults c.loop-done.out) (g.O.Sink.faults c.step.new.out) (answer_of c.step.new.self))
+          (ArrivesBy c.one_more-done.result c.args.self.now c.step.new.self (g.O.Sink.written c.args.out.now) (g.O.Sink.written c.step.new.out)) c.loop-done.invariant.any c.step.ensures.any (λ left mid left' first then parts given k is.
           let before = first parts given k is in
-          then_going parts given k i c.args.limit c.loop-step.self c.step.new.self
-          (Some left) (Some mid) (Some left') (written c.args.out.now) (written c.loop-step.out) (written c.step.new.out)
-          (g.S.Source.faults c.args.input.now) (g.S.Source.faults c.loop-step.input) (g.S.Source.faults c.step.new.input) (g.O.Sink.faults c.args.out.now) (g.O.Sink.faults c.loop-step.out) (g.O.Sink.faults c.step.new.out)
-          is.rest before c.loop-step-test.true c.loop-step.invariant.input_counts c.loop-step.invariant.out_counts going
-          (subst (λ (o : Observed). Runs parts given (k + i) 1 c.step.new.self (Some mid) (Some left') (written c.loop-step.out) (written c.step.new.out)
-          (g.S.Source.faults c.loop-step.input) (g.S.Source.faults c.step.new.input) (g.O.Sink.faults c.loop-step.out) (g.O.Sink.faults c.step.new.out) o) going (then parts given (k + i) before.at)));
+          subst (λ n. Arrives parts given k n c.step.new.self (Some left) (Some left') (written c.args.out.now) (written c.step.new.out)) next (then_going parts given k i c.args.limit c.loop-done.self c.step.new.self
+          (Some left) (Some mid) (Some left') (written c.args.out.now) (written c.loop-done.out) (written c.step.new.out)
+          (g.S.Source.faults c.args.input.now) (g.S.Source.faults c.loop-done.input) (g.S.Source.faults c.step.new.input) (g.O.Sink.faults c.args.out.now) (g.O.Sink.faults c.loop-done.out) (g.O.Sink.faults c.step.new.out)
+          is.rest before c.loop-done-test.true c.loop-done.invariant.input_counts c.loop-done.invariant.out_counts going
+          (subst (λ (o : Observed). Runs parts given (k + i) 1 c.step.new.self (Some mid) (Some left') (written c.loop-done.out) (written c.step.new.out)
+          (g.S.Source.faults c.loop-done.input) (g.S.Source.faults c.step.new.input) (g.O.Sink.faults c.loop-done.out) (g.O.Sink.faults c.step.new.out) o) going (then parts given (k + i) before.at))));
       silent = λ parts given k left is quiet.
-          let before = c.loop-step.invariant.arrives parts given k left left is (inr (quiet, refl)) in
-          c.step.ensures.silent parts given (k + i) left before.at (silent_at parts given k i c.args.limit c.loop-step-test.true quiet) ∙ c.loop-step.invariant.silent parts given k left is quiet;
-      input_counts = omega (arith, c.loop-step.invariant.input_counts, c.step.ensures.input_counts);
-      out_counts = omega (arith, c.loop-step.invariant.out_counts, c.step.ensures.out_counts);
+          let before = c.loop-done.invariant.arrives parts given k left left is (inr (quiet, refl)) in
+          c.step.ensures.silent parts given (k + i) left before.at (silent_at parts given k i c.args.limit c.loop-done-test.true quiet) ∙ c.loop-done.invariant.silent parts given k left is quiet;
+      input_counts = omega (arith, c.loop-done.invariant.input_counts, c.step.ensures.input_counts);
+      out_counts = omega (arith, c.loop-done.invariant.out_counts, c.step.ensures.out_counts);
     }
 
 -- the loop has come to the limit
@@ -125,20 +128,20 @@ at_limit parts given k i limit m left left' written written' faults faults' puts
 pub returns-clause-exact : goal.returns-clause-exact
 returns-clause-exact g c = λ parts given k is.
     let told = g.S.Source.left in
-    at_limit parts given k c.loop-step._step c.args.limit c.loop-step.self (told c.args.input.now) (told c.loop-step.input) (g.O.Sink.written c.args.out.now) (g.O.Sink.written c.loop-step.out)
-    (g.S.Source.faults c.args.input.now) (g.S.Source.faults c.loop-step.input) (g.O.Sink.faults c.args.out.now) (g.O.Sink.faults c.loop-step.out) (omega arith)
-    (c.loop-step.invariant.arrives parts given k (told c.args.input.now) (told c.loop-step.input) is (inl (refl, refl)))
+    at_limit parts given k c.loop-done.done c.args.limit c.loop-done.self (told c.args.input.now) (told c.loop-done.input) (g.O.Sink.written c.args.out.now) (g.O.Sink.written c.loop-done.out)
+    (g.S.Source.faults c.args.input.now) (g.S.Source.faults c.loop-done.input) (g.O.Sink.faults c.args.out.now) (g.O.Sink.faults c.loop-done.out) (omega arith)
+    (c.loop-done.invariant.arrives parts given k (told c.args.input.now) (told c.loop-done.input) is (inl (refl, refl)))
 
 pub returns-clause-any : goal.returns-clause-any
-returns-clause-any g c = given_so _ _ _ _ (ArrivesBy c.loop-step._step c.args.self.now c.loop-step.self (g.O.Sink.written c.args.out.now) (g.O.Sink.written c.loop-step.out))
-    (RunsBy c.args.limit c.args.self.now c.loop-step.self (g.O.Sink.written c.args.out.now) (g.O.Sink.written c.loop-step.out) (g.S.Source.faults c.args.input.now) (g.S.Source.faults c.loop-step.input) (g.O.Sink.faults c.args.out.now) (g.O.Sink.faults c.loop-step.out) (answer_of c.loop-step.self)) c.loop-step.invariant.any (λ left left' arrives parts given k is.
-    at_limit parts given k c.loop-step._step c.args.limit c.loop-step.self (Some left) (Some left') (g.O.Sink.written c.args.out.now) (g.O.Sink.written c.loop-step.out)
-    (g.S.Source.faults c.args.input.now) (g.S.Source.faults c.loop-step.input) (g.O.Sink.faults c.args.out.now) (g.O.Sink.faults c.loop-step.out) (omega arith) (arrives parts given k is))
+returns-clause-any g c = given_so _ _ _ _ (ArrivesBy c.loop-done.done c.args.self.now c.loop-done.self (g.O.Sink.written c.args.out.now) (g.O.Sink.written c.loop-done.out))
+    (RunsBy c.args.limit c.args.self.now c.loop-done.self (g.O.Sink.written c.args.out.now) (g.O.Sink.written c.loop-done.out) (g.S.Source.faults c.args.input.now) (g.S.Source.faults c.loop-done.input) (g.O.Sink.faults c.args.out.now) (g.O.Sink.faults c.loop-done.out) (answer_of c.loop-done.self)) c.loop-done.invariant.any (λ left left' arrives parts given k is.
+    at_limit parts given k c.loop-done.done c.args.limit c.loop-done.self (Some left) (Some left') (g.O.Sink.written c.args.out.now) (g.O.Sink.written c.loop-done.out)
+    (g.S.Source.faults c.args.input.now) (g.S.Source.faults c.loop-done.input) (g.O.Sink.faults c.args.out.now) (g.O.Sink.faults c.loop-done.out) (omega arith) (arrives parts given k is))
 
 pub returns-clause-silent : goal.returns-clause-silent
 returns-clause-silent g c = λ parts given k left is quiet. (
-  c.loop-step.invariant.silent parts given k left is quiet,
-  at_limit parts given k c.loop-step._step c.args.limit c.loop-step.self left left (g.O.Sink.written c.args.out.now) (g.O.Sink.written c.loop-step.out)
-      (g.S.Source.faults c.args.input.now) (g.S.Source.faults c.loop-step.input) (g.O.Sink.faults c.args.out.now) (g.O.Sink.faults c.loop-step.out) (omega arith)
-      (c.loop-step.invariant.arrives parts given k left left is (inr (quiet, refl))),
+  c.loop-done.invariant.silent parts given k left is quiet,
+  at_limit parts given k c.loop-done.done c.args.limit c.loop-done.self left left (g.O.Sink.written c.args.out.now) (g.O.Sink.written c.loop-done.out)
+      (g.S.Source.faults c.args.input.now) (g.S.Source.faults c.loop-done.input) (g.O.Sink.faults c.args.out.now) (g.O.Sink.faults c.loop-done.out) (omega arith)
+      (c.loop-done.invariant.arrives parts given k left left is (inr (quiet, refl))),
 )
