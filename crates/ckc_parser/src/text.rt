@@ -7,7 +7,7 @@ ghost use Rattle.ckc_grammar.specs.Marked.{ahead, Parses};
 ghost use Rattle.ckc_parser.specs.Phase.{parsing};
 
 use crate::items::items;
-use ckc_base::{Fault, Pos};
+use ckc_base::{Fault, Pos, Seq};
 use ckc_grammar::{Reader, Stop};
 use ckc_syntax::{Spelling, Token, Tree};
 use std::alloc::Global;
@@ -40,6 +40,7 @@ fn text<'a>(reader: &mut Reader<'a>, alloc: Global) -> Result<Tree<Spelling<'a>,
     ensures parses { Parses (λ x. tree x) (g.n g.text) (ahead reader.old) result
         (ahead reader.new) }
 {
-    let items = items(reader, alloc)?;
-    Ok(Tree { items })
+    let mut all = Seq::new(alloc);
+    items(reader, alloc, &mut all)?;
+    Ok(Tree { items: all })
 }
