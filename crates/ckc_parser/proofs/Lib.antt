@@ -1,5 +1,6 @@
 pub mod Answering
 pub mod Making
 pub mod Once
+pub mod Putting
 pub mod Top
 pub mod Turns

@@ -3,7 +3,7 @@ use Rattle.std.proofs.Common.{◌≡◌, List, [], ◌∷◌, ◌++◌, true, re
 use Rattle.ckc_base.specs.declared.places.Pos.{Pos}
 use Rattle.ckc_base.specs.declared.places.Refusal.{Refusal}
 use Rattle.ckc_base.specs.Phases.{IsExact}
-use Rattle.ckc_syntax.specs.Spelled.{Spelled, Tokens}
+use Rattle.ckc_syntax.specs.Spelled.{Spelled}
 use Rattle.ckc_grammar.specs.Grammar as g
 use Rattle.ckc_grammar.specs.Values.{Value, tree, items}
 use Rattle.ckc_grammar.specs.Derives as D

@@ -14,9 +14,9 @@ use Rattle.ckc_parser.specs.Turns.{IsItem}
 use Rattle.ckc_grammar.proofs.Steps.{here_all, stop_rule, turned}
 
 -- one item of a text, by a production that the next token chooses
-pub item_turn : (r : Rule) (front : List Symbol) (a b : List Sign) (res : Result (List Item) Stop) → right r ≡ front ++ n g.items ∷ [] → pick g.items (kind_of a) ≡ Some r → ((k : Kind) → allowed r k ≡ true) →
-    Reads front (λ x vs. (y : Value) → as_items (made r (vs ++ y ∷ [])) ≡ x ++ as_items y) a res b → Answered (λ x. IsItem a x b) (n g.items ∷ []) a res b
-item_turn r front a b res rt pk al h =
-    turned (λ x. (vs : List Value) × Takes front a vs b × ((y : Value) → as_items (made r (vs ++ y ∷ [])) ≡ x ++ as_items y)) (λ x. IsItem a x b) front (n g.items ∷ []) a a b res
+pub item_turn : {Y : Type 0} (r : Rule) (front : List Symbol) (was is : List Item) (a b : List Sign) (res : Result Y Stop) → right r ≡ front ++ n g.items ∷ [] → pick g.items (kind_of a) ≡ Some r → ((k : Kind) → allowed r k ≡ true) →
+    Reads front (λ x vs. (y : Value) → was ++ as_items (made r (vs ++ y ∷ [])) ≡ is ++ as_items y) a res b → Answered (λ x. IsItem was a is b) (n g.items ∷ []) a res b
+item_turn r front was is a b res rt pk al h =
+    turned (λ x. (vs : List Value) × Takes front a vs b × ((y : Value) → was ++ as_items (made r (vs ++ y ∷ [])) ≡ is ++ as_items y)) (λ x. IsItem was a is b) front (n g.items ∷ []) a a b res
     (λ x i. record { rule = r; front = front; values = i.0; picked = pk; goes_on = rt; allows = al; taken = i.1; makes = i.2 })
     (λ s. stop_rule r pk (subst (λ z. Stops z a b) (sym rt) (here_all (n g.items ∷ []) s))) h

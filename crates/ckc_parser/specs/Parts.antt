@@ -1,5 +1,5 @@
 -- What functions give that read a part of a production, or make a whole of what is read.
-use Rattle.std.specs.Prelude.{◌≡◌, List, [], ◌∷◌, None, Result, Ok, Err}
+use Rattle.std.specs.Prelude.{◌≡◌, List, [], ◌∷◌, ◌++◌, None, Result, Ok, Err}
 use Rattle.ckc_syntax.specs.declared.tree.Act.TheVariants as act
 use Rattle.ckc_grammar.specs.declared.kind.Kind.TheVariants as kind
 use Rattle.ckc_grammar.specs.declared.parts.Stop.{Stop}
@@ -12,11 +12,18 @@ use Rattle.ckc_grammar.specs.Reading.{Takes}
 use Rattle.ckc_grammar.specs.Marked.{Answered}
 use Rattle.ckc_grammar.specs.Values.{Value, place, as_expr, as_stmt, as_stmts}
 
+abbrev pub IsMemory : Stop → Type 0
+IsMemory stop.Memory = Unit {0}
+IsMemory stop.Syntax = ⊥
+
 -- The whole is as wanted, or memory ran out.
 abbrev pub Made : {X : Type 0} → (X → Type 0) → Result X Stop → Type 0
 Made G (Ok x) = G x
-Made G (Err stop.Memory) = Unit {0}
-Made G (Err stop.Syntax) = ⊥
+Made G (Err e) = IsMemory e
+
+-- A part is taken, and what its value is worth stands in a list behind what stood there.
+abbrev pub Puts : {X Y : Type 0} → (Value → List X) → Symbol → List X → List Sign → Result Y Stop → List X → List Sign → Type 0
+Puts worth s was old r is new = Answered (λ x. (v : Value) × Takes (s ∷ []) old (v ∷ []) new × (was ++ worth v ≡ is)) (s ∷ []) old r new
 
 -- an assignment behind its target
 abbrev pub assigned : List Symbol
@@ -32,6 +39,18 @@ assign_ended = n g.assign ∷ k kind.Semicolon ∷ []
 
 abbrev pub AssignEnded : List Sign → Result Stmt Stop → List Sign → Type 0
 AssignEnded old r new = Answered (λ x. (a : Value) × (b : Value) × Takes assign_ended old (a ∷ b ∷ []) new × (as_stmt a ≡ x)) assign_ended old r new
+
+-- the same, put into a list
+abbrev pub AssignPut : {Y : Type 0} → List Stmt → List Sign → Result Y Stop → List Stmt → List Sign → Type 0
+AssignPut was old r is new = Answered (λ x. (a : Value) × (b : Value) × Takes assign_ended old (a ∷ b ∷ []) new × (was ++ as_stmt a ∷ [] ≡ is)) assign_ended old r new
+
+-- a bundle without its first word, whose assignments are put into a list
+abbrev pub bundled : List Symbol
+bundled = k kind.CurlyOpen ∷ n g.assign ∷ k kind.Semicolon ∷ n g.assign ∷ k kind.Semicolon ∷ n g.assigns ∷ []
+
+abbrev pub Bundled : {Y : Type 0} → List Stmt → List Sign → Result Y Stop → List Stmt → List Sign → Type 0
+Bundled was old r is new =
+    Answered (λ x. (o : Value) × (a : Value) × (b : Value) × (c : Value) × (d : Value) × (e : Value) × Takes bundled old (o ∷ a ∷ b ∷ c ∷ d ∷ e ∷ []) new × (was ++ as_stmt a ∷ as_stmt c ∷ as_stmts e ≡ is)) bundled old r new
 
 -- a block
 abbrev pub Blocked : List Sign → Result Stmt Stop → List Sign → Type 0

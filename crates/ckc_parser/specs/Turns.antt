@@ -1,4 +1,4 @@
--- One item of a text, which more items follow.
+-- One item of a text, which more items follow: what it puts into the list of all items.
 use Rattle.std.specs.Prelude.{◌≡◌, List, [], ◌∷◌, ◌++◌, true, Some}
 use Rattle.ckc_grammar.specs.declared.kind.Kind.{Kind}
 use Rattle.ckc_grammar.specs.Grammar.{Symbol, n, Rule, right, allowed}
@@ -8,7 +8,7 @@ use Rattle.ckc_grammar.specs.Values.{Value, made, as_items}
 use Rattle.ckc_grammar.specs.Derives.{Sign}
 use Rattle.ckc_grammar.specs.Reading.{kind_of, pick, Takes}
 
-pub record IsItem (old : List Sign) (x : List Item) (new : List Sign) : Type 0 where
+pub record IsItem (was : List Item) (old : List Sign) (is : List Item) (new : List Sign) : Type 0 where
   pub rule : Rule
   pub front : List Symbol
   pub values : List Value
@@ -16,4 +16,4 @@ pub record IsItem (old : List Sign) (x : List Item) (new : List Sign) : Type 0 w
   pub goes_on : right rule ≡ front ++ n g.items ∷ []
   pub allows : (k : Kind) → allowed rule k ≡ true
   pub taken : Takes front old values new
-  pub makes : (y : Value) → as_items (made rule (values ++ y ∷ [])) ≡ x ++ as_items y
+  pub makes : (y : Value) → was ++ as_items (made rule (values ++ y ∷ [])) ≡ is ++ as_items y

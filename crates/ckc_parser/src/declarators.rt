@@ -5,15 +5,38 @@ ghost use Rattle.ckc_grammar.specs.Grammar as g;
 ghost use Rattle.ckc_grammar.specs.Trees as trees;
 ghost use Rattle.ckc_grammar.specs.Values as v;
 ghost use Rattle.ckc_grammar.specs.Marked.{ahead, remaining, Gives, Reads};
+ghost use Rattle.ckc_parser.specs.Parts.{Made, Puts};
 
+use crate::lists::{Items, Statements, put_local, put_static};
 use ckc_base::Seq;
 use ckc_expressions::{array, base, declared_limits, initial, local_initial, starred};
 use ckc_grammar::{
-    CType, Class, Declaration, Kind, Reader, Stop, append, begins_type, copied, declaration,
-    local_of, one,
+    Bounds, CType, Class, Declaration, Kind, Reader, Stop, append, begins_type, copied,
+    declaration, one,
 };
-use ckc_syntax::{Decl, Expr, Init, Item, Length, Spelling, Stmt, Token};
+use ckc_syntax::{Decl, Expr, Init, Length, Spelling, Token};
 use std::alloc::Global;
+
+/// What a name is declared as. The reader stands first so that lifetimes are counted as in the callers, which is
+/// proved sooner.
+fn declaration_of<'a>(
+    reader: &Reader<'a>,
+    alloc: Global,
+    ctype: CType<'a>,
+    name: Token<'a>,
+    length: Length,
+    bounds: Option<Bounds<'a>>,
+    init: Init<Spelling<'a>, ()>,
+) -> Result<Declaration<'a>, Stop>
+    ensures { Made
+        (λ whole. v.declared ctype.entry (spelled name.entry) length bounds.entry init.entry
+        ≡ whole) result }
+{
+    match declaration(alloc, ctype, name, length, bounds, init) {
+        Ok(whole) => Ok(whole),
+        Err(_) => Err(Stop::Memory),
+    }
+}
 
 /// A member or a parameter behind the base of its type.
 fn slot<'a>(
@@ -28,8 +51,15 @@ fn slot<'a>(
     let ctype = starred(reader, alloc, copy)?;
     let name = reader.take_any(Class::Name)?;
     let bounds = declared_limits(reader, alloc)?;
-    let whole = declaration(alloc, ctype, name, Length::Plain, bounds, Init::Nothing)?;
-    Ok(whole)
+    declaration_of(
+        reader,
+        alloc,
+        ctype,
+        name,
+        Length::Plain,
+        bounds,
+        Init::Nothing,
+    )
 }
 
 /// More members, up to the `;`.
@@ -78,8 +108,7 @@ pub fn object_rest<'a>(
     let length = array(reader)?;
     let bounds = declared_limits(reader, alloc)?;
     let init = initial(reader, alloc)?;
-    let whole = declaration(alloc, ctype, name, length, bounds, init)?;
-    Ok(whole)
+    declaration_of(reader, alloc, ctype, name, length, bounds, init)
 }
 
 /// A static behind the base of its type.
@@ -94,29 +123,26 @@ fn object<'a>(
     let copy = copied(alloc, base.get())?;
     let ctype = starred(reader, alloc, copy)?;
     let name = reader.take_any(Class::Name)?;
-    let whole = object_rest(reader, alloc, ctype, name)?;
-    Ok(whole)
+    object_rest(reader, alloc, ctype, name)
 }
 
 /// More statics, up to the `;`.
 pub fn objects<'a>(
     reader: &mut Reader<'a>,
     alloc: Global,
+    all: &mut Items<'a>,
     base: &CType<'a>,
-    first: Declaration<'a>,
-) -> Result<Seq<Item<Spelling<'a>, ()>>, Stop>
-    ensures gives { Gives
-        (λ y. item.Static first.entry ∷ trees.statics (v.as_decls_of_base y base.now))
-        (g.n g.objects) (ahead reader.old) result (ahead reader.new) }
+) -> Result<(), Stop>
+    ensures gives { Puts (λ y. trees.statics (v.as_decls_of_base y base.now)) (g.n g.objects)
+        all.old (ahead reader.old) result all.new (ahead reader.new) }
 {
-    let mut all = one(alloc, Item::Static(first))?;
     'list: while let Kind::Comma = reader.kind() {
         let comma = reader.take(Kind::Comma)?;
         let item = object(reader, alloc, base)?;
-        all.push(Item::Static(item))?;
+        put_static(reader, all, item)?;
     }
     let end = reader.take(Kind::Semicolon)?;
-    Ok(all)
+    Ok(())
 }
 
 /// A local behind the base of its type.
@@ -134,44 +160,43 @@ pub fn local<'a>(
     let name = reader.take_any(Class::Name)?;
     let bounds = declared_limits(reader, alloc)?;
     let init = local_initial(reader, alloc)?;
-    let whole = declaration(alloc, ctype, name, Length::Plain, bounds, init)?;
-    Ok(whole)
+    declaration_of(reader, alloc, ctype, name, Length::Plain, bounds, init)
 }
 
 /// More locals, up to the `;`.
 fn more_locals<'a>(
     reader: &mut Reader<'a>,
     alloc: Global,
+    all: &mut Statements<'a>,
     base: &CType<'a>,
-    first: Declaration<'a>,
-) -> Result<Seq<Stmt<Spelling<'a>, ()>>, Stop>
-    ensures gives { Gives
-        (λ y. trees.local_of first.entry ∷ trees.locals (v.as_decls_of_base y base.now))
-        (g.n g.more_locals) (ahead reader.old) result (ahead reader.new) }
+) -> Result<(), Stop>
+    ensures gives { Puts (λ y. trees.locals (v.as_decls_of_base y base.now)) (g.n g.more_locals)
+        all.old (ahead reader.old) result all.new (ahead reader.new) }
     ensures fewer { remaining reader.new ≤ remaining reader.old }
 {
-    let mut all = one(alloc, local_of(first))?;
     'list: while let Kind::Comma = reader.kind() {
         let comma = reader.take(Kind::Comma)?;
         let item = local(reader, alloc, base)?;
-        all.push(local_of(item))?;
+        put_local(reader, all, item)?;
     }
     let end = reader.take(Kind::Semicolon)?;
-    Ok(all)
+    Ok(())
 }
 
 /// Locals with one base, as statements.
 pub fn locals<'a>(
     reader: &mut Reader<'a>,
     alloc: Global,
-) -> Result<Seq<Stmt<Spelling<'a>, ()>>, Stop>
-    ensures gives { Gives (λ y. trees.locals (v.as_decls y)) (g.n g.locals) (ahead reader.old)
-        result (ahead reader.new) }
+    all: &mut Statements<'a>,
+) -> Result<(), Stop>
+    ensures gives { Puts (λ y. trees.locals (v.as_decls y)) (g.n g.locals) all.old
+        (ahead reader.old) result all.new (ahead reader.new) }
     ensures fewer { remaining reader.new ≤ remaining reader.old }
 {
     let base = base(reader, alloc)?;
     let first = local(reader, alloc, &base)?;
-    more_locals(reader, alloc, &base, first)
+    put_local(reader, all, first)?;
+    more_locals(reader, alloc, all, &base)
 }
 
 /// A parameter.

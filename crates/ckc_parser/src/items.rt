@@ -1,44 +1,51 @@
 ghost use Rattle.std.specs.Prelude.{◌≡◌, ◌≤◌, ◌<◌, ◌∷◌, [], ◌++◌, length, true, MatchResult, Option, Some, None, IfOk};
 ghost use Rattle.ckc_syntax.specs.Spelled.{spelled};
-ghost use Rattle.ckc_syntax.specs.declared.tree.Item.TheVariants as item;
 ghost use Rattle.ckc_grammar.specs.Grammar as g;
 ghost use Rattle.ckc_grammar.specs.Trees as trees;
 ghost use Rattle.ckc_grammar.specs.Values as v;
 ghost use Rattle.ckc_grammar.specs.Forms.{is_close, has_more};
-ghost use Rattle.ckc_parser.specs.Parts.{Made};
+ghost use Rattle.ckc_parser.specs.Parts.{Puts};
 ghost use Rattle.ckc_parser.specs.Turns.{IsItem};
 ghost use Rattle.ckc_grammar.specs.Reading.{kind_of};
 ghost use Rattle.ckc_grammar.specs.Marked.{ahead, remaining, Answered, Gives, Reads};
 
 use crate::declarators::{member, members, object_rest, objects, params};
+use crate::lists::{Items, put_directive, put_function, put_static, put_struct, put_tag};
 use crate::statements::{block, mode};
-use ckc_base::{Boxed, Mode, Seq};
+use ckc_base::{Boxed, Mode};
 use ckc_expressions::{declared_limits, scalar, starred, type_name};
-use ckc_grammar::{
-    CType, Class, Kind, Reader, Statement, Stop, append, copied, directive_of, function, one,
-    struct_type,
-};
-use ckc_syntax::{Decl, Item, Spelling, Token, TypeTree};
+use ckc_grammar::{CType, Class, Kind, Reader, Statement, Stop, copied, struct_type};
+use ckc_syntax::{Token, TypeTree};
 use std::alloc::Global;
 
 /// The parameters of a function, the bounds of its result, and its body or `;`.
 fn head<'a>(
     reader: &mut Reader<'a>,
     alloc: Global,
+    all: &mut Items<'a>,
     mode: Option<Mode>,
     result_type: CType<'a>,
     name: Token<'a>,
-) -> Result<Seq<Item<Spelling<'a>, ()>>, Stop>
-    ensures gives { Gives
+) -> Result<(), Stop>
+    ensures gives { Puts
         (λ y. v.as_item_of_head y mode result_type.entry (spelled name.entry) ∷ []) (g.n g.head)
-        (ahead reader.old) result (ahead reader.new) }
+        all.old (ahead reader.old) result all.new (ahead reader.new) }
 {
     let open = reader.take(Kind::RoundOpen)?;
     let params = params(reader, alloc)?;
     let bounds = declared_limits(reader, alloc)?;
     let body = body(reader, alloc)?;
-    let all = function(alloc, mode, result_type, name, params, bounds, body)?;
-    Ok(all)
+    put_function(
+        reader,
+        alloc,
+        all,
+        mode,
+        result_type,
+        name,
+        params,
+        bounds,
+        body,
+    )
 }
 
 /// The body of a function, or `;` of a prototype.
@@ -71,15 +78,16 @@ fn result_type<'a>(reader: &mut Reader<'a>, alloc: Global) -> Result<CType<'a>, 
 fn structure<'a>(
     reader: &mut Reader<'a>,
     alloc: Global,
+    all: &mut Items<'a>,
     name: Token<'a>,
-) -> Result<Seq<Item<Spelling<'a>, ()>>, Stop>
-    ensures gives { Gives (λ y. v.as_items_of_name y (spelled name.entry)) (g.n g.structure)
-        (ahead reader.old) result (ahead reader.new) }
+) -> Result<(), Stop>
+    ensures gives { Puts (λ y. v.as_items_of_name y (spelled name.entry)) (g.n g.structure)
+        all.old (ahead reader.old) result all.new (ahead reader.new) }
 {
     match reader.kind() {
-        Kind::Semicolon => tag(reader, alloc, name),
-        Kind::CurlyOpen => struct_members(reader, alloc, name),
-        _ => structured(reader, alloc, name),
+        Kind::Semicolon => tag(reader, alloc, all, name),
+        Kind::CurlyOpen => struct_members(reader, alloc, all, name),
+        _ => structured(reader, alloc, all, name),
     }
 }
 
@@ -87,39 +95,26 @@ fn structure<'a>(
 fn tag<'a>(
     reader: &mut Reader<'a>,
     alloc: Global,
+    all: &mut Items<'a>,
     name: Token<'a>,
-) -> Result<Seq<Item<Spelling<'a>, ()>>, Stop>
+) -> Result<(), Stop>
     ensures reads { Reads (g.right g.Tag)
-        (λ x vs. v.as_items_of_name (v.made g.Tag vs) (spelled name.entry) ≡ x) (ahead reader.old)
-        result (ahead reader.new) }
+        (λ x vs. all.old ++ v.as_items_of_name (v.made g.Tag vs) (spelled name.entry) ≡ all.new)
+        (ahead reader.old) result (ahead reader.new) }
 {
     let end = reader.take(Kind::Semicolon)?;
-    one_item(reader, alloc, Item::Tag(Spelling::new(name.text), name.pos))
-}
-
-/// A list of one item. The reader stands first so that lifetimes are counted as in the callers, which is proved
-/// sooner.
-fn one_item<'a>(
-    reader: &Reader<'a>,
-    alloc: Global,
-    item: Item<Spelling<'a>, ()>,
-) -> Result<Seq<Item<Spelling<'a>, ()>>, Stop>
-    ensures { Made (λ all. item.entry ∷ [] ≡ all) result }
-{
-    match one(alloc, item) {
-        Ok(all) => Ok(all),
-        Err(_) => Err(Stop::Memory),
-    }
+    put_tag(reader, all, name)
 }
 
 /// The members of a structure.
 fn struct_members<'a>(
     reader: &mut Reader<'a>,
     alloc: Global,
+    all: &mut Items<'a>,
     name: Token<'a>,
-) -> Result<Seq<Item<Spelling<'a>, ()>>, Stop>
+) -> Result<(), Stop>
     ensures reads { Reads (g.right g.Members)
-        (λ x vs. v.as_items_of_name (v.made g.Members vs) (spelled name.entry) ≡ x)
+        (λ x vs. all.old ++ v.as_items_of_name (v.made g.Members vs) (spelled name.entry) ≡ all.new)
         (ahead reader.old) result (ahead reader.new) }
 {
     let open = reader.take(Kind::CurlyOpen)?;
@@ -127,56 +122,55 @@ fn struct_members<'a>(
     let members = members(reader, alloc, first)?;
     let close = reader.take(Kind::CurlyClose)?;
     let end = reader.take(Kind::Semicolon)?;
-    one_item(
-        reader,
-        alloc,
-        Item::Struct(Spelling::new(name.text), members, name.pos),
-    )
+    put_struct(reader, all, name, members)
 }
 
 /// What is declared with a structure as its base.
 fn structured<'a>(
     reader: &mut Reader<'a>,
     alloc: Global,
+    all: &mut Items<'a>,
     name: Token<'a>,
-) -> Result<Seq<Item<Spelling<'a>, ()>>, Stop>
-    ensures gives { Gives (λ y. v.as_items_of_base y (v.struct_type (spelled name.entry)))
-        (g.n g.declarators) (ahead reader.old) result (ahead reader.new) }
+) -> Result<(), Stop>
+    ensures gives { Puts (λ y. v.as_items_of_base y (v.struct_type (spelled name.entry)))
+        (g.n g.declarators) all.old (ahead reader.old) result all.new (ahead reader.new) }
 {
     let base = struct_type(alloc, name)?;
-    declarators(reader, alloc, base)
+    declarators(reader, alloc, all, base)
 }
 
 /// What is declared behind a base.
 fn declarators<'a>(
     reader: &mut Reader<'a>,
     alloc: Global,
+    all: &mut Items<'a>,
     base: CType<'a>,
-) -> Result<Seq<Item<Spelling<'a>, ()>>, Stop>
-    ensures gives { Gives (λ y. v.as_items_of_base y base.entry) (g.n g.declarators)
-        (ahead reader.old) result (ahead reader.new) }
+) -> Result<(), Stop>
+    ensures gives { Puts (λ y. v.as_items_of_base y base.entry) (g.n g.declarators)
+        all.old (ahead reader.old) result all.new (ahead reader.new) }
 {
     let copy = copied(alloc, base.get())?;
     let ctype = starred(reader, alloc, copy)?;
     let name = reader.take_any(Class::Name)?;
-    declarator(reader, alloc, &base, ctype, name)
+    declarator(reader, alloc, all, &base, ctype, name)
 }
 
 /// What goes on behind a base, stars and a name: a head, or statics.
 fn declarator<'a>(
     reader: &mut Reader<'a>,
     alloc: Global,
+    all: &mut Items<'a>,
     base: &CType<'a>,
     ctype: CType<'a>,
     name: Token<'a>,
-) -> Result<Seq<Item<Spelling<'a>, ()>>, Stop>
-    ensures gives { Gives
+) -> Result<(), Stop>
+    ensures gives { Puts
         (λ y. v.as_items_of_declarator y base.now ctype.entry (spelled name.entry))
-        (g.n g.declarator) (ahead reader.old) result (ahead reader.new) }
+        (g.n g.declarator) all.old (ahead reader.old) result all.new (ahead reader.new) }
 {
     match reader.kind() {
-        Kind::RoundOpen => head(reader, alloc, None, ctype, name),
-        _ => statics(reader, alloc, base, ctype, name),
+        Kind::RoundOpen => head(reader, alloc, all, None, ctype, name),
+        _ => statics(reader, alloc, all, base, ctype, name),
     }
 }
 
@@ -184,73 +178,75 @@ fn declarator<'a>(
 fn statics<'a>(
     reader: &mut Reader<'a>,
     alloc: Global,
+    all: &mut Items<'a>,
     base: &CType<'a>,
     ctype: CType<'a>,
     name: Token<'a>,
-) -> Result<Seq<Item<Spelling<'a>, ()>>, Stop>
+) -> Result<(), Stop>
     ensures reads { Reads (g.right g.Objects)
-        (λ x vs. v.as_items_of_declarator (v.made g.Objects vs) base.now ctype.entry
-        (spelled name.entry) ≡ x) (ahead reader.old) result (ahead reader.new) }
+        (λ x vs. all.old ++ v.as_items_of_declarator (v.made g.Objects vs) base.now ctype.entry
+        (spelled name.entry) ≡ all.new) (ahead reader.old) result (ahead reader.new) }
 {
     let first = object_rest(reader, alloc, ctype, name)?;
-    objects(reader, alloc, base, first)
+    put_static(reader, all, first)?;
+    objects(reader, alloc, all, base)
 }
 
 /// A head with a mode, a function without a result, or what is declared with a base that is no structure.
-fn declared<'a>(reader: &mut Reader<'a>, alloc: Global) -> Result<Seq<Item<Spelling<'a>, ()>>, Stop>
-    ensures gives { Gives (λ y. v.as_items y) (g.n g.declared) (ahead reader.old) result
-        (ahead reader.new) }
+fn declared<'a>(reader: &mut Reader<'a>, alloc: Global, all: &mut Items<'a>) -> Result<(), Stop>
+    ensures gives { Puts (λ y. v.as_items y) (g.n g.declared)
+        all.old (ahead reader.old) result all.new (ahead reader.new) }
 {
     match reader.kind() {
-        Kind::Checked => moded(reader, alloc),
-        Kind::Unchecked => moded(reader, alloc),
-        Kind::Void => voided(reader, alloc),
-        _ => based(reader, alloc),
+        Kind::Checked => moded(reader, alloc, all),
+        Kind::Unchecked => moded(reader, alloc, all),
+        Kind::Void => voided(reader, alloc, all),
+        _ => based(reader, alloc, all),
     }
 }
 
 /// A function or a prototype with a mode.
-fn moded<'a>(reader: &mut Reader<'a>, alloc: Global) -> Result<Seq<Item<Spelling<'a>, ()>>, Stop>
-    ensures reads { Reads (g.right g.Moded) (λ x vs. v.as_items (v.made g.Moded vs) ≡ x)
+fn moded<'a>(reader: &mut Reader<'a>, alloc: Global, all: &mut Items<'a>) -> Result<(), Stop>
+    ensures reads { Reads (g.right g.Moded)
+        (λ x vs. all.old ++ v.as_items (v.made g.Moded vs) ≡ all.new)
         (ahead reader.old) result (ahead reader.new) }
 {
     let mode = mode(reader)?;
     let ctype = result_type(reader, alloc)?;
     let name = reader.take_any(Class::Name)?;
-    head(reader, alloc, Some(mode.0), ctype, name)
+    head(reader, alloc, all, Some(mode.0), ctype, name)
 }
 
 /// A function or a prototype without a result.
-fn voided<'a>(reader: &mut Reader<'a>, alloc: Global) -> Result<Seq<Item<Spelling<'a>, ()>>, Stop>
-    ensures reads { Reads (g.right g.Voided) (λ x vs. v.as_items (v.made g.Voided vs) ≡ x)
+fn voided<'a>(reader: &mut Reader<'a>, alloc: Global, all: &mut Items<'a>) -> Result<(), Stop>
+    ensures reads { Reads (g.right g.Voided)
+        (λ x vs. all.old ++ v.as_items (v.made g.Voided vs) ≡ all.new)
         (ahead reader.old) result (ahead reader.new) }
 {
     let word = reader.take(Kind::Void)?;
     let name = reader.take_any(Class::Name)?;
     let ctype = Boxed::new(alloc, TypeTree::Void)?;
-    head(reader, alloc, None, ctype, name)
+    head(reader, alloc, all, None, ctype, name)
 }
 
 /// What is declared with a base that is no structure.
-fn based<'a>(reader: &mut Reader<'a>, alloc: Global) -> Result<Seq<Item<Spelling<'a>, ()>>, Stop>
-    ensures reads { Reads (g.right g.Based) (λ x vs. v.as_items (v.made g.Based vs) ≡ x)
+fn based<'a>(reader: &mut Reader<'a>, alloc: Global, all: &mut Items<'a>) -> Result<(), Stop>
+    ensures reads { Reads (g.right g.Based)
+        (λ x vs. all.old ++ v.as_items (v.made g.Based vs) ≡ all.new)
         (ahead reader.old) result (ahead reader.new) }
 {
     let base = scalar(reader, alloc)?;
-    declarators(reader, alloc, base)
+    declarators(reader, alloc, all, base)
 }
 
 /// What stands behind `static`.
-fn declaration<'a>(
-    reader: &mut Reader<'a>,
-    alloc: Global,
-) -> Result<Seq<Item<Spelling<'a>, ()>>, Stop>
-    ensures gives { Gives (λ y. v.as_items y) (g.n g.declaration) (ahead reader.old) result
-        (ahead reader.new) }
+fn declaration<'a>(reader: &mut Reader<'a>, alloc: Global, all: &mut Items<'a>) -> Result<(), Stop>
+    ensures gives { Puts (λ y. v.as_items y) (g.n g.declaration)
+        all.old (ahead reader.old) result all.new (ahead reader.new) }
 {
     match reader.kind() {
-        Kind::Struct => static_struct(reader, alloc),
-        _ => declared(reader, alloc),
+        Kind::Struct => static_struct(reader, alloc, all),
+        _ => declared(reader, alloc, all),
     }
 }
 
@@ -258,99 +254,91 @@ fn declaration<'a>(
 fn static_struct<'a>(
     reader: &mut Reader<'a>,
     alloc: Global,
-) -> Result<Seq<Item<Spelling<'a>, ()>>, Stop>
+    all: &mut Items<'a>,
+) -> Result<(), Stop>
     ensures reads { Reads (g.right g.StaticStruct)
-        (λ x vs. v.as_items (v.made g.StaticStruct vs) ≡ x) (ahead reader.old) result
-        (ahead reader.new) }
+        (λ x vs. all.old ++ v.as_items (v.made g.StaticStruct vs) ≡ all.new)
+        (ahead reader.old) result (ahead reader.new) }
 {
     let word = reader.take(Kind::Struct)?;
     let name = reader.take_any(Class::Name)?;
-    structured(reader, alloc, name)
+    structured(reader, alloc, all, name)
 }
 
 /// A directive.
-fn directive<'a>(
-    reader: &mut Reader<'a>,
-    alloc: Global,
-) -> Result<Seq<Item<Spelling<'a>, ()>>, Stop>
+fn directive<'a>(reader: &mut Reader<'a>, alloc: Global, all: &mut Items<'a>) -> Result<(), Stop>
     ensures reads { Reads (g.k Kind.Directive ∷ [])
-        (λ x vs. (y : v.Value) → v.as_items (v.made g.Directive (vs ++ y ∷ [])) ≡ x ++ v.as_items y)
+        (λ x vs. (y : v.Value)
+        → all.old ++ v.as_items (v.made g.Directive (vs ++ y ∷ [])) ≡ all.new ++ v.as_items y)
         (ahead reader.old) result (ahead reader.new) }
     ensures fewer { IfOk result (λ x. remaining reader.new < remaining reader.old) }
 {
     let token = reader.take(Kind::Directive)?;
-    one_item(reader, alloc, Item::Directive(directive_of(token.kind)))
+    put_directive(reader, all, token)
 }
 
 /// What begins with `struct`.
-fn struct_item<'a>(
-    reader: &mut Reader<'a>,
-    alloc: Global,
-) -> Result<Seq<Item<Spelling<'a>, ()>>, Stop>
+fn struct_item<'a>(reader: &mut Reader<'a>, alloc: Global, all: &mut Items<'a>) -> Result<(), Stop>
     ensures reads { Reads (g.k Kind.Struct ∷ g.t g.name ∷ g.n g.structure ∷ [])
-        (λ x vs. (y : v.Value) → v.as_items (v.made g.Structure (vs ++ y ∷ [])) ≡ x ++ v.as_items y)
+        (λ x vs. (y : v.Value)
+        → all.old ++ v.as_items (v.made g.Structure (vs ++ y ∷ [])) ≡ all.new ++ v.as_items y)
         (ahead reader.old) result (ahead reader.new) }
     ensures fewer { IfOk result (λ x. remaining reader.new < remaining reader.old) }
 {
     let word = reader.take(Kind::Struct)?;
     let name = reader.take_any(Class::Name)?;
-    structure(reader, alloc, name)
+    structure(reader, alloc, all, name)
 }
 
 /// What begins with `static`.
-fn static_item<'a>(
-    reader: &mut Reader<'a>,
-    alloc: Global,
-) -> Result<Seq<Item<Spelling<'a>, ()>>, Stop>
+fn static_item<'a>(reader: &mut Reader<'a>, alloc: Global, all: &mut Items<'a>) -> Result<(), Stop>
     ensures reads { Reads (g.k Kind.Static ∷ g.n g.declaration ∷ [])
-        (λ x vs. (y : v.Value) → v.as_items (v.made g.Static (vs ++ y ∷ [])) ≡ x ++ v.as_items y)
+        (λ x vs. (y : v.Value)
+        → all.old ++ v.as_items (v.made g.Static (vs ++ y ∷ [])) ≡ all.new ++ v.as_items y)
         (ahead reader.old) result (ahead reader.new) }
     ensures fewer { IfOk result (λ x. remaining reader.new < remaining reader.old) }
 {
     let word = reader.take(Kind::Static)?;
-    declaration(reader, alloc)
+    declaration(reader, alloc, all)
 }
 
 /// What is declared otherwise.
 fn declared_item<'a>(
     reader: &mut Reader<'a>,
     alloc: Global,
-) -> Result<Seq<Item<Spelling<'a>, ()>>, Stop>
+    all: &mut Items<'a>,
+) -> Result<(), Stop>
     ensures reads { Reads (g.n g.declared ∷ [])
-        (λ x vs. (y : v.Value) → v.as_items (v.made g.Declaration (vs ++ y ∷ []))
-        ≡ x ++ v.as_items y) (ahead reader.old) result (ahead reader.new) }
+        (λ x vs. (y : v.Value)
+        → all.old ++ v.as_items (v.made g.Declaration (vs ++ y ∷ [])) ≡ all.new ++ v.as_items y)
+        (ahead reader.old) result (ahead reader.new) }
     ensures fewer { IfOk result (λ x. remaining reader.new < remaining reader.old) }
 {
-    declared(reader, alloc)
+    declared(reader, alloc, all)
 }
 
 /// One item of a text, where there is one more.
-fn item<'a>(reader: &mut Reader<'a>, alloc: Global) -> Result<Seq<Item<Spelling<'a>, ()>>, Stop>
+fn item<'a>(reader: &mut Reader<'a>, alloc: Global, all: &mut Items<'a>) -> Result<(), Stop>
     requires more { has_more (kind_of (ahead reader.now)) ≡ true }
-    ensures turns { Answered (λ x. IsItem (ahead reader.old) x (ahead reader.new))
+    ensures turns { Answered (λ x. IsItem all.old (ahead reader.old) all.new (ahead reader.new))
         (g.n g.items ∷ []) (ahead reader.old) result (ahead reader.new) }
     ensures fewer { IfOk result (λ x. remaining reader.new < remaining reader.old) }
 {
     match reader.kind() {
-        Kind::Directive => directive(reader, alloc),
-        Kind::Struct => struct_item(reader, alloc),
-        Kind::Static => static_item(reader, alloc),
-        _ => declared_item(reader, alloc),
+        Kind::Directive => directive(reader, alloc, all),
+        Kind::Struct => struct_item(reader, alloc, all),
+        Kind::Static => static_item(reader, alloc, all),
+        _ => declared_item(reader, alloc, all),
     }
 }
 
 /// The items of a text, up to its end.
-pub fn items<'a>(
-    reader: &mut Reader<'a>,
-    alloc: Global,
-) -> Result<Seq<Item<Spelling<'a>, ()>>, Stop>
-    ensures gives { Gives (λ y. v.as_items y) (g.n g.items) (ahead reader.old) result
-        (ahead reader.new) }
+pub fn items<'a>(reader: &mut Reader<'a>, alloc: Global, all: &mut Items<'a>) -> Result<(), Stop>
+    ensures gives { Puts (λ y. v.as_items y) (g.n g.items)
+        all.old (ahead reader.old) result all.new (ahead reader.new) }
 {
-    let mut all = Seq::new(alloc);
     'list: while reader.goes_on() {
-        let more = item(reader, alloc)?;
-        append(&mut all, more)?;
+        item(reader, alloc, all)?;
     }
-    Ok(all)
+    Ok(())
 }

@@ -4,6 +4,7 @@
 mod declarators;
 mod items;
 mod laws;
+mod lists;
 mod statements;
 mod text;
 

@@ -1,23 +1,23 @@
 ghost use Rattle.std.specs.Prelude.{◌≡◌, ◌≤◌, ◌<◌, ◌∷◌, [], ◌++◌, length, true, MatchResult, Option, Some, None, IfOk};
 ghost use Rattle.ckc_syntax.specs.Spelled.{spelled};
-ghost use Rattle.ckc_syntax.specs.declared.tree.Item.TheVariants as item;
 ghost use Rattle.ckc_grammar.specs.Grammar as g;
 ghost use Rattle.ckc_grammar.specs.Trees as trees;
 ghost use Rattle.ckc_grammar.specs.Values as v;
 ghost use Rattle.ckc_grammar.specs.Reading.{kind_of};
 ghost use Rattle.ckc_grammar.specs.Marked.{ahead, remaining, Answered, Gives, Reads};
-ghost use Rattle.ckc_parser.specs.Parts.{Made, Assigned, AssignEnded, Blocked};
+ghost use Rattle.ckc_parser.specs.Parts.{Made, Puts, Assigned, AssignEnded, AssignPut, Bundled, Blocked};
+ghost use Rattle.ckc_syntax.specs.declared.tree.Act.TheVariants as act;
 
 use crate::declarators::{local, locals};
-use ckc_base::{Boxed, Mode, Pos, Seq};
+use crate::lists::{Statements, put_statement};
+use ckc_base::{Mode, Pos, Seq};
 use ckc_expressions::{
     allocation, arguments, assign, base, expr, first, in_parentheses, named, posts, value,
 };
 use ckc_grammar::{
-    Class, Expression, Kind, Reader, Statement, Stop, add, append, begins_type, called, local_of,
-    statement, two,
+    Class, Declaration, Expression, Kind, Reader, Statement, Stop, begins_type, called, statement,
 };
-use ckc_syntax::{Act, Spelling, Stmt, Token};
+use ckc_syntax::{Act, Spelling, Token};
 use std::alloc::Global;
 
 /// A statement (ISO C11, 6.8).
@@ -59,8 +59,7 @@ fn moded_block<'a>(reader: &mut Reader<'a>, alloc: Global) -> Result<Statement<'
 {
     let mode = mode(reader)?;
     let open = reader.take(Kind::CurlyOpen)?;
-    let all = block_items(reader, alloc)?;
-    statement_at(reader, alloc, Act::Block(Some(mode.0), all), mode.1)
+    block_at(reader, alloc, Some(mode.0), mode.1)
 }
 
 /// A block (ISO C11, 6.8.2).
@@ -70,8 +69,24 @@ pub fn block<'a>(reader: &mut Reader<'a>, alloc: Global) -> Result<Statement<'a>
     ensures fewer { remaining reader.new ≤ remaining reader.old }
 {
     let open = reader.take(Kind::CurlyOpen)?;
-    let all = block_items(reader, alloc)?;
-    statement_at(reader, alloc, Act::Block(None, all), open.pos)
+    block_at(reader, alloc, None, open.pos)
+}
+
+/// A block behind its `{`.
+#[cycle(stmt)]
+fn block_at<'a>(
+    reader: &mut Reader<'a>,
+    alloc: Global,
+    mode: Option<Mode>,
+    pos: Pos,
+) -> Result<Statement<'a>, Stop>
+    ensures gives { Gives (λ y. trees.stmt_at (act.Block mode (v.as_stmts y)) pos)
+        (g.n g.block_items) (ahead reader.old) result (ahead reader.new) }
+    ensures fewer { remaining reader.new ≤ remaining reader.old }
+{
+    let mut all = Seq::new(alloc);
+    block_items(reader, alloc, &mut all)?;
+    statement_at(reader, alloc, Act::Block(mode, all), pos)
 }
 
 /// The empty statement.
@@ -235,7 +250,7 @@ fn ended<'a>(
         (ahead reader.old) result (ahead reader.new) }
     ensures fewer { remaining reader.new ≤ remaining reader.old }
 {
-    let whole = statement(alloc, body, pos)?;
+    let whole = statement_at(reader, alloc, body, pos)?;
     let end = reader.take(Kind::Semicolon)?;
     Ok(whole)
 }
@@ -398,8 +413,22 @@ fn local_start<'a>(reader: &mut Reader<'a>, alloc: Global) -> Result<Option<Stat
     let base = base(reader, alloc)?;
     let first = local(reader, alloc, &base)?;
     let end = reader.take(Kind::Semicolon)?;
-    let whole = Boxed::new(alloc, local_of(first))?;
-    Ok(Some(whole))
+    local_statement(reader, alloc, first)
+}
+
+/// The declaration of a local, as a statement that a `for` begins with.
+fn local_statement<'a>(
+    reader: &Reader<'a>,
+    alloc: Global,
+    declaration: Declaration<'a>,
+) -> Result<Option<Statement<'a>>, Stop>
+    ensures { Made (λ whole. Some (trees.local_of declaration.entry) ≡ whole) result }
+{
+    let pos = declaration.get().pos;
+    match statement_at(reader, alloc, Act::Local(declaration), pos) {
+        Ok(whole) => Ok(Some(whole)),
+        Err(stop) => Err(stop),
+    }
 }
 
 /// The step of a `for`, and the `)` behind it.
@@ -424,11 +453,34 @@ fn bundle<'a>(reader: &mut Reader<'a>, alloc: Global) -> Result<Statement<'a>, S
     ensures fewer { remaining reader.new ≤ remaining reader.old }
 {
     let mark = reader.take(Kind::Bundled)?;
-    let open = reader.take(Kind::CurlyOpen)?;
-    let first = assign_ended(reader, alloc)?;
-    let second = assign_ended(reader, alloc)?;
-    let all = assigns(reader, alloc, first, second)?;
+    let mut all = Seq::new(alloc);
+    bundled(reader, alloc, &mut all)?;
     statement_at(reader, alloc, Act::Bundle(all), mark.pos)
+}
+
+/// The assignments of a bundle, in their brackets.
+fn bundled<'a>(reader: &mut Reader<'a>, alloc: Global, all: &mut Statements<'a>) -> Result<(), Stop>
+    ensures reads { Bundled all.old (ahead reader.old) result all.new (ahead reader.new) }
+    ensures fewer { remaining reader.new ≤ remaining reader.old }
+{
+    let open = reader.take(Kind::CurlyOpen)?;
+    one_assign(reader, alloc, all)?;
+    one_assign(reader, alloc, all)?;
+    assigns(reader, alloc, all)
+}
+
+/// An assignment, and the `;` behind it.
+fn one_assign<'a>(
+    reader: &mut Reader<'a>,
+    alloc: Global,
+    all: &mut Statements<'a>,
+) -> Result<(), Stop>
+    ensures reads { AssignPut all.old (ahead reader.old) result all.new (ahead reader.new) }
+    ensures fewer { MatchResult result (λ x. remaining reader.new < remaining reader.old)
+        (λ e. remaining reader.new ≤ remaining reader.old) }
+{
+    let item = assign_ended(reader, alloc)?;
+    put_statement(reader, all, item)
 }
 
 /// A mode with its place.
@@ -446,45 +498,37 @@ pub fn mode<'a>(reader: &mut Reader<'a>) -> Result<(Mode, Pos), Stop>
 }
 
 /// More assignments of a bundle, up to the `}`.
-fn assigns<'a>(
-    reader: &mut Reader<'a>,
-    alloc: Global,
-    first: Statement<'a>,
-    second: Statement<'a>,
-) -> Result<Seq<Stmt<Spelling<'a>, ()>>, Stop>
-    ensures gives { Gives (λ y. first.entry ∷ second.entry ∷ v.as_stmts y) (g.n g.assigns)
-        (ahead reader.old) result (ahead reader.new) }
+fn assigns<'a>(reader: &mut Reader<'a>, alloc: Global, all: &mut Statements<'a>) -> Result<(), Stop>
+    ensures gives { Puts (λ y. v.as_stmts y) (g.n g.assigns) all.old (ahead reader.old) result
+        all.new (ahead reader.new) }
     ensures fewer { remaining reader.new ≤ remaining reader.old }
 {
-    let mut all = two(alloc, first, second)?;
     'list: while !reader.closes() {
-        let item = assign_ended(reader, alloc)?;
-        add(&mut all, item)?;
+        one_assign(reader, alloc, all)?;
     }
     let end = reader.take(Kind::CurlyClose)?;
-    Ok(all)
+    Ok(())
 }
 
 /// The locals and statements of a block, up to the `}`.
 #[cycle(stmt)]
-pub fn block_items<'a>(
+fn block_items<'a>(
     reader: &mut Reader<'a>,
     alloc: Global,
-) -> Result<Seq<Stmt<Spelling<'a>, ()>>, Stop>
-    ensures gives { Gives (λ y. v.as_stmts y) (g.n g.block_items) (ahead reader.old) result
-        (ahead reader.new) }
+    all: &mut Statements<'a>,
+) -> Result<(), Stop>
+    ensures gives { Puts (λ y. v.as_stmts y) (g.n g.block_items) all.old (ahead reader.old) result
+        all.new (ahead reader.new) }
     ensures fewer { remaining reader.new ≤ remaining reader.old }
 {
-    let mut all = Seq::new(alloc);
     'list: while !reader.closes() {
         if begins_type(reader.kind()) {
-            let more = locals(reader, alloc)?;
-            append(&mut all, more)?;
+            locals(reader, alloc, all)?;
             continue 'list;
         }
         let item = stmt(reader, alloc)?;
-        add(&mut all, item)?;
+        put_statement(reader, all, item)?;
     }
     let end = reader.take(Kind::CurlyClose)?;
-    Ok(all)
+    Ok(())
 }

@@ -1,13 +1,10 @@
 ghost use Rattle.std.specs.Prelude.{map};
 ghost use Rattle.ckc_base.specs.Phases.{Exact};
 ghost use Rattle.ckc_syntax.specs.Spelled.{spelled};
-ghost use Rattle.ckc_grammar.specs.Grammar as g;
-ghost use Rattle.ckc_grammar.specs.Values.{tree};
-ghost use Rattle.ckc_grammar.specs.Marked.{ahead, Parses};
 ghost use Rattle.ckc_parser.specs.Phase.{parsing};
 
 use crate::items::items;
-use ckc_base::{Fault, Pos};
+use ckc_base::{Fault, Pos, Seq};
 use ckc_grammar::{Reader, Stop};
 use ckc_syntax::{Spelling, Token, Tree};
 use std::alloc::Global;
@@ -22,10 +19,11 @@ pub fn parse<'a>(
     ensures exact { Exact parsing (record { list = map spelled tokens.now; end = end }) result }
 {
     let mut reader = Reader::new(tokens);
-    match text(&mut reader, alloc) {
-        Ok(whole) => {
+    let mut all = Seq::new(alloc);
+    match items(&mut reader, alloc, &mut all) {
+        Ok(()) => {
             if reader.is_at_end() {
-                Ok(whole)
+                Ok(Tree { items: all })
             } else {
                 Err(Fault::Refused(reader.refusal(end)))
             }
@@ -33,13 +31,4 @@ pub fn parse<'a>(
         Err(Stop::Syntax) => Err(Fault::Refused(reader.refusal(end))),
         Err(Stop::Memory) => Err(Fault::Memory),
     }
-}
-
-/// A whole text.
-fn text<'a>(reader: &mut Reader<'a>, alloc: Global) -> Result<Tree<Spelling<'a>, ()>, Stop>
-    ensures parses { Parses (λ x. tree x) (g.n g.text) (ahead reader.old) result
-        (ahead reader.new) }
-{
-    let items = items(reader, alloc)?;
-    Ok(Tree { items })
 }

@@ -1,4 +1,3 @@
-use Rattle.std.proofs.Common.{◌≤◌, length}
 use Rattle.std.proofs.Common.{◌≡◌, ◌∷◌, [], ◌++◌}
 use Rattle.ckc_grammar.specs.Marked.{ahead, remaining}
 use Rattle.ckc_grammar.proofs.Onward.{Onward}

@@ -1,8 +1,6 @@
-use Rattle.std.proofs.Common.{◌≤◌, length}
-use Rattle.std.proofs.Common.{◌≡◌, ◌∷◌, [], ◌++◌}
+use Rattle.std.proofs.Common.{◌≡◌, ◌++◌}
 use Rattle.ckc_grammar.specs.Marked.{ahead, remaining}
 use Rattle.ckc_grammar.proofs.Onward.{Onward}
-use Rattle.ckc_syntax.specs.declared.tree.Item.TheVariants as item
 use Rattle.ckc_grammar.specs.Grammar as g
 use Rattle.ckc_grammar.specs.Values as v
 use Rattle.ckc_grammar.specs.Trees as trees
@@ -10,7 +8,7 @@ use Rattle.ckc_parser.proofs.declarators.objects.Given as goal
 
 abbrev pub invariant-list : goal.invariant-list
 invariant-list l = record {
-  onward : Onward (λ y z. (item.Static l.fn.first ∷ []) ++ trees.statics (v.as_decls_of_base z l.fn.base) ≡ l.all ++ trees.statics (v.as_decls_of_base y l.fn.base)) (g.n g.objects) (ahead l.fn.reader) (ahead l.reader);
+  onward : Onward (λ y z. l.fn.all ++ trees.statics (v.as_decls_of_base z l.fn.base) ≡ l.all ++ trees.statics (v.as_decls_of_base y l.fn.base)) (g.n g.objects) (ahead l.fn.reader) (ahead l.reader);
 }
 
 abbrev pub decreases-list : goal.decreases-list

@@ -3,6 +3,7 @@ use Rattle.ckc_syntax.specs.Spelled.{spelled}
 use Rattle.ckc_grammar.specs.Values.{made}
 use Rattle.ckc_grammar.proofs.Steps.{also, then_stops, here_stops, by_rule, stop_rule}
 use Rattle.ckc_expressions.proofs.Exits.{exit}
+use Rattle.ckc_parser.proofs.Making.{finished}
 use Rattle.ckc_grammar.proofs.Lists.{same2}
 use Rattle.ckc_syntax.specs.declared.tree.Length.TheVariants as lengths
 use Rattle.ckc_syntax.specs.declared.tree.Init.TheVariants as inits
@@ -23,5 +24,5 @@ returns-in_err-bounds c = record { gives = exit _ _ _ c.from_residual-in_err-bou
 pub returns : goal.returns
 returns c = record {
   gives =
-      (made g.Slot (c.in_ok-ctype.ensures.gives.0 ∷ v.token (spelled c.in_ok-name.name) ∷ c.in_ok-bounds.ensures.gives.0 ∷ []), by_rule g.Slot refl refl refl (also c.in_ok-ctype.ensures.gives.1 (also c.in_ok-name.ensures.parses c.in_ok-bounds.ensures.gives.1)), same2 (λ z w. v.declared z (spelled c.in_ok-name.name) lengths.Plain w inits.Nothing) (ap (λ z. trees.starred z (v.as_stars c.in_ok-ctype.ensures.gives.0)) (sym (c.in_ok-copy.ensures ∙ c.get.ensures)) ∙ c.in_ok-ctype.ensures.gives.2) c.in_ok-bounds.ensures.gives.2 ∙ sym c.in_ok-whole.ensures);
+      finished _ _ _ _ _ c.declaration_of.result (λ x e. (made g.Slot (c.in_ok-ctype.ensures.gives.0 ∷ v.token (spelled c.in_ok-name.name) ∷ c.in_ok-bounds.ensures.gives.0 ∷ []), by_rule g.Slot refl refl refl (also c.in_ok-ctype.ensures.gives.1 (also c.in_ok-name.ensures.parses c.in_ok-bounds.ensures.gives.1)), same2 (λ z w. v.declared z (spelled c.in_ok-name.name) lengths.Plain w inits.Nothing) (ap (λ z. trees.starred z (v.as_stars c.in_ok-ctype.ensures.gives.0)) (sym (c.in_ok-copy.ensures ∙ c.get.ensures)) ∙ c.in_ok-ctype.ensures.gives.2) c.in_ok-bounds.ensures.gives.2 ∙ e)) c.declaration_of.ensures;
 }

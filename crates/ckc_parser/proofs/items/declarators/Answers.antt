@@ -1,4 +1,4 @@
-use Rattle.std.proofs.Common.{refl, sym, ap, ◌∙◌, ◌∷◌, []}
+use Rattle.std.proofs.Common.{refl, sym, ap, ◌∙◌, ◌∷◌, [], ◌++◌}
 use Rattle.ckc_syntax.specs.Spelled.{spelled}
 use Rattle.ckc_grammar.specs.Values.{made}
 use Rattle.ckc_grammar.proofs.Steps.{also, then_stops, here_stops, by_rule, stop_rule, turned}
@@ -17,5 +17,5 @@ returns-in_err-name c = record { gives = exit _ _ _ c.from_residual-in_err-name.
 pub returns : goal.returns
 returns c = record {
   gives =
-      turned _ _ _ _ _ _ _ c.declarator.result (λ x h. (made g.Declarators (c.in_ok-ctype.ensures.gives.0 ∷ v.token (spelled c.in_ok-name.name) ∷ h.0 ∷ []), by_rule g.Declarators refl refl refl (also c.in_ok-ctype.ensures.gives.1 (also c.in_ok-name.ensures.parses h.1)), ap (λ z. v.as_items_of_declarator h.0 c.args.base z (spelled c.in_ok-name.name)) (ap (λ z. trees.starred z (v.as_stars c.in_ok-ctype.ensures.gives.0)) (sym (c.in_ok-copy.ensures ∙ c.get.ensures)) ∙ c.in_ok-ctype.ensures.gives.2) ∙ h.2)) (λ d. stop_rule g.Declarators refl (then_stops c.in_ok-ctype.ensures.gives.1 (then_stops c.in_ok-name.ensures.parses (d)))) c.declarator.ensures.gives;
+      turned _ _ _ _ _ _ _ c.declarator.result (λ x h. (made g.Declarators (c.in_ok-ctype.ensures.gives.0 ∷ v.token (spelled c.in_ok-name.name) ∷ h.0 ∷ []), by_rule g.Declarators refl refl refl (also c.in_ok-ctype.ensures.gives.1 (also c.in_ok-name.ensures.parses h.1)), ap (λ z. c.args.all.now ++ v.as_items_of_declarator h.0 c.args.base z (spelled c.in_ok-name.name)) (ap (λ z. trees.starred z (v.as_stars c.in_ok-ctype.ensures.gives.0)) (sym (c.in_ok-copy.ensures ∙ c.get.ensures)) ∙ c.in_ok-ctype.ensures.gives.2) ∙ h.2)) (λ d. stop_rule g.Declarators refl (then_stops c.in_ok-ctype.ensures.gives.1 (then_stops c.in_ok-name.ensures.parses (d)))) c.declarator.ensures.gives;
 }

@@ -1,4 +1,3 @@
-use Rattle.std.proofs.Common.{◌≤◌, length}
 use Rattle.std.proofs.Common.{◌≡◌, ◌++◌}
 use Rattle.ckc_grammar.specs.Marked.{ahead, remaining}
 use Rattle.ckc_grammar.proofs.Onward.{Onward}
@@ -8,7 +7,7 @@ use Rattle.ckc_parser.proofs.items.items.Given as goal
 
 abbrev pub invariant-list : goal.invariant-list
 invariant-list l = record {
-  onward : Onward (λ y z. v.as_items z ≡ l.all ++ v.as_items y) (g.n g.items) (ahead l.fn.reader) (ahead l.reader);
+  onward : Onward (λ y z. l.fn.all ++ v.as_items z ≡ l.all ++ v.as_items y) (g.n g.items) (ahead l.fn.reader) (ahead l.reader);
 }
 
 abbrev pub decreases-list : goal.decreases-list

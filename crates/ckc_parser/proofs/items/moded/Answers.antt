@@ -1,4 +1,4 @@
-use Rattle.std.proofs.Common.{◌∙◌, ◌∷◌, []}
+use Rattle.std.proofs.Common.{◌∙◌, ◌∷◌, [], ◌++◌}
 use Rattle.std.specs.Prelude.{Some}
 use Rattle.ckc_syntax.specs.Spelled.{spelled}
 use Rattle.ckc_grammar.proofs.Steps.{also, then_stops, here_stops, turned}
@@ -19,5 +19,5 @@ returns-in_err-name c = record { reads = exit _ _ _ c.from_residual-in_err-name.
 pub returns : goal.returns
 returns c = record {
   reads =
-      turned _ _ _ _ _ _ _ c.head.result (λ x h. (c.in_ok-mode.ensures.gives.0 ∷ c.in_ok-ctype.ensures.gives.0 ∷ v.token (spelled c.in_ok-name.name) ∷ h.0 ∷ [], (also c.in_ok-mode.ensures.gives.1 (also c.in_ok-ctype.ensures.gives.1 (also c.in_ok-name.ensures.parses h.1))), same2 (λ z w. v.as_item_of_head h.0 (Some z.0) w (spelled c.in_ok-name.name) ∷ []) c.in_ok-mode.ensures.gives.2 c.in_ok-ctype.ensures.gives.2 ∙ h.2)) (λ d. then_stops c.in_ok-mode.ensures.gives.1 (then_stops c.in_ok-ctype.ensures.gives.1 (then_stops c.in_ok-name.ensures.parses (d)))) c.head.ensures.gives;
+      turned _ _ _ _ _ _ _ c.head.result (λ x h. (c.in_ok-mode.ensures.gives.0 ∷ c.in_ok-ctype.ensures.gives.0 ∷ v.token (spelled c.in_ok-name.name) ∷ h.0 ∷ [], (also c.in_ok-mode.ensures.gives.1 (also c.in_ok-ctype.ensures.gives.1 (also c.in_ok-name.ensures.parses h.1))), same2 (λ z w. c.args.all.now ++ v.as_item_of_head h.0 (Some z.0) w (spelled c.in_ok-name.name) ∷ []) c.in_ok-mode.ensures.gives.2 c.in_ok-ctype.ensures.gives.2 ∙ h.2)) (λ d. then_stops c.in_ok-mode.ensures.gives.1 (then_stops c.in_ok-ctype.ensures.gives.1 (then_stops c.in_ok-name.ensures.parses (d)))) c.head.ensures.gives;
 }

@@ -1,8 +1,9 @@
-use Rattle.std.proofs.Common.{refl, ap, ◌∷◌, [], ◌++◌}
+use Rattle.std.proofs.Common.{refl, ◌∷◌, []}
 use Rattle.ckc_syntax.specs.Spelled.{spelled}
 use Rattle.ckc_grammar.proofs.Steps.{turned, also, then_stops, here_stops}
 use Rattle.ckc_expressions.proofs.Exits.{exit}
 use Rattle.ckc_parser.proofs.Making.{if_taken}
+use Rattle.ckc_parser.proofs.Putting.{behind}
 use Rattle.ckc_grammar.proofs.Shrinks.{fewer}
 use Rattle.ckc_grammar.specs.Values as v
 use Rattle.ckc_parser.proofs.items.struct_item.Goals as goal
@@ -15,7 +16,7 @@ returns-in_err-name-clause-reads c = exit _ _ _ c.from_residual-in_err-name.ensu
 
 pub returns-clause-reads : goal.returns-clause-reads
 returns-clause-reads c =
-    turned _ _ _ _ _ _ _ c.structure.result (λ x h. (v.token (spelled c.in_ok-word.word) ∷ v.token (spelled c.in_ok-name.name) ∷ h.0 ∷ [], also c.in_ok-word.ensures.parses (also c.in_ok-name.ensures.parses h.1), λ y. ap (λ z. z ++ v.as_items y) h.2)) (λ d. then_stops c.in_ok-word.ensures.parses (then_stops c.in_ok-name.ensures.parses d)) c.structure.ensures.gives
+    turned _ _ _ _ _ _ _ c.structure.result (λ x h. (v.token (spelled c.in_ok-word.word) ∷ v.token (spelled c.in_ok-name.name) ∷ h.0 ∷ [], also c.in_ok-word.ensures.parses (also c.in_ok-name.ensures.parses h.1), λ y. behind _ _ _ (v.as_items y) h.2)) (λ d. then_stops c.in_ok-word.ensures.parses (then_stops c.in_ok-name.ensures.parses d)) c.structure.ensures.gives
 
 pub returns-clause-fewer : goal.returns-clause-fewer
 returns-clause-fewer c = if_taken _ _ _ _ c.structure.result (λ x h. fewer c.args.reader.now c.structure.new.reader (also c.in_ok-word.ensures.parses (also c.in_ok-name.ensures.parses h.1)) refl) c.structure.ensures.gives

@@ -1,4 +1,4 @@
-use Rattle.std.proofs.Common.{sym, ap, ◌∙◌, ◌∷◌, [], ◌++◌}
+use Rattle.std.proofs.Common.{ap, ◌∙◌, ◌∷◌, [], ◌++◌}
 use Rattle.ckc_syntax.specs.Spelled.{spelled}
 use Rattle.ckc_grammar.proofs.Steps.{also, then_stops, here_stops}
 use Rattle.ckc_expressions.proofs.Exits.{exit}
@@ -25,5 +25,5 @@ returns-in_err-end c = record { reads = exit _ _ _ c.from_residual-in_err-end.en
 pub returns : goal.returns
 returns c = record {
   reads =
-      finished _ _ _ _ _ c.one_item.result (λ x e. (v.token (spelled c.in_ok-open.open) ∷ c.in_ok-first.ensures.gives.0 ∷ c.in_ok-members.ensures.gives.0 ∷ v.token (spelled c.in_ok-close.close) ∷ v.token (spelled c.in_ok-end.end) ∷ [], (also c.in_ok-open.ensures.parses (also c.in_ok-first.ensures.gives.1 (also c.in_ok-members.ensures.gives.1 (also c.in_ok-close.ensures.parses c.in_ok-end.ensures.parses)))), ap (λ z. item.Struct (spelled c.args.name).text (z ++ v.as_decls c.in_ok-members.ensures.gives.0) c.args.name.pos ∷ []) c.in_ok-first.ensures.gives.2 ∙ ap (λ z. item.Struct (spelled c.args.name).text z c.args.name.pos ∷ []) c.in_ok-members.ensures.gives.2 ∙ sym (ap (λ z. item.Struct z c.in_ok-members.members c.args.name.pos ∷ []) c.new.ensures) ∙ e)) c.one_item.ensures;
+      finished _ _ _ _ _ c.put_struct.result (λ x e. (v.token (spelled c.in_ok-open.open) ∷ c.in_ok-first.ensures.gives.0 ∷ c.in_ok-members.ensures.gives.0 ∷ v.token (spelled c.in_ok-close.close) ∷ v.token (spelled c.in_ok-end.end) ∷ [], (also c.in_ok-open.ensures.parses (also c.in_ok-first.ensures.gives.1 (also c.in_ok-members.ensures.gives.1 (also c.in_ok-close.ensures.parses c.in_ok-end.ensures.parses)))), ap (λ z. c.args.all.now ++ item.Struct (spelled c.args.name).text (z ++ v.as_decls c.in_ok-members.ensures.gives.0) c.args.name.pos ∷ []) c.in_ok-first.ensures.gives.2 ∙ ap (λ z. c.args.all.now ++ item.Struct (spelled c.args.name).text z c.args.name.pos ∷ []) c.in_ok-members.ensures.gives.2 ∙ e)) c.put_struct.ensures;
 }

@@ -1,8 +1,7 @@
-use Rattle.std.proofs.Common.{sym, ap, ◌∙◌, ◌∷◌, []}
+use Rattle.std.proofs.Common.{◌∷◌, []}
 use Rattle.ckc_syntax.specs.Spelled.{spelled}
 use Rattle.ckc_expressions.proofs.Exits.{exit}
 use Rattle.ckc_parser.proofs.Making.{finished}
-use Rattle.ckc_syntax.specs.declared.tree.Item.TheVariants as item
 use Rattle.ckc_grammar.specs.Values as v
 use Rattle.ckc_parser.proofs.items.tag.Goals as goal
 
@@ -12,5 +11,5 @@ returns-in_err-end c = record { reads = exit _ _ _ c.from_residual.ensures.1 c.i
 pub returns : goal.returns
 returns c = record {
   reads =
-      finished _ _ _ _ _ c.one_item.result (λ x e. (v.token (spelled c.in_ok-end.end) ∷ [], c.in_ok-end.ensures.parses, sym (ap (λ z. item.Tag z c.args.name.pos ∷ []) c.new.ensures) ∙ e)) c.one_item.ensures;
+      finished _ _ _ _ _ c.put_tag.result (λ x e. (v.token (spelled c.in_ok-end.end) ∷ [], c.in_ok-end.ensures.parses, e)) c.put_tag.ensures;
 }

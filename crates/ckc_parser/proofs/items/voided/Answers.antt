@@ -1,4 +1,4 @@
-use Rattle.std.proofs.Common.{sym, ap, ◌∙◌, ◌∷◌, []}
+use Rattle.std.proofs.Common.{sym, ap, ◌∙◌, ◌∷◌, [], ◌++◌}
 use Rattle.std.specs.Prelude.{None}
 use Rattle.ckc_syntax.specs.Spelled.{spelled}
 use Rattle.ckc_grammar.proofs.Steps.{also, then_stops, here_stops, turned}
@@ -15,5 +15,5 @@ returns-in_err-name c = record { reads = exit _ _ _ c.from_residual-in_err-name.
 pub returns : goal.returns
 returns c = record {
   reads =
-      turned _ _ _ _ _ _ _ c.head.result (λ x h. (v.token (spelled c.in_ok-word.word) ∷ v.token (spelled c.in_ok-name.name) ∷ h.0 ∷ [], (also c.in_ok-word.ensures.parses (also c.in_ok-name.ensures.parses h.1)), ap (λ z. v.as_item_of_head h.0 None z (spelled c.in_ok-name.name) ∷ []) (sym c.in_ok-ctype.ensures) ∙ h.2)) (λ d. then_stops c.in_ok-word.ensures.parses (then_stops c.in_ok-name.ensures.parses (d))) c.head.ensures.gives;
+      turned _ _ _ _ _ _ _ c.head.result (λ x h. (v.token (spelled c.in_ok-word.word) ∷ v.token (spelled c.in_ok-name.name) ∷ h.0 ∷ [], (also c.in_ok-word.ensures.parses (also c.in_ok-name.ensures.parses h.1)), ap (λ z. c.args.all.now ++ v.as_item_of_head h.0 None z (spelled c.in_ok-name.name) ∷ []) (sym c.in_ok-ctype.ensures) ∙ h.2)) (λ d. then_stops c.in_ok-word.ensures.parses (then_stops c.in_ok-name.ensures.parses (d))) c.head.ensures.gives;
 }

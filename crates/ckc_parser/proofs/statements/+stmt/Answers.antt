@@ -1,5 +1,5 @@
 use Rattle.std.proofs.Common.{◌≡◌, refl, sym, ap, ◌∙◌, ◌∷◌, [], ◌++◌, arith, append-nil}
-use Rattle.std.specs.Prelude.{Some, None}
+use Rattle.std.specs.Prelude.{Some}
 use Rattle.ckc_syntax.specs.Spelled.{spelled}
 use Rattle.ckc_grammar.specs.Values.{made}
 use Rattle.ckc_grammar.specs.Grammar.{k}
@@ -8,10 +8,11 @@ use Rattle.ckc_grammar.specs.Forms.{begins_type}
 use Rattle.ckc_grammar.specs.Reading.{pick, kind_of, done}
 use Rattle.ckc_grammar.proofs.Steps.{also, also_all, then_stops, then_all, here_stops, here_all, chosen_as, by_rule, stop_rule, turned}
 use Rattle.ckc_expressions.proofs.Exits.{exit}
-use Rattle.ckc_parser.proofs.Making.{finished}
+use Rattle.ckc_parser.proofs.Making.{finished, no_room}
+use Rattle.ckc_parser.proofs.Putting.{behind}
 use Rattle.ckc_grammar.proofs.Onward.{at_start, one_turn, last_turn, stop_turn}
 use Rattle.ckc_grammar.proofs.Shrinks.{fewer}
-use Rattle.ckc_grammar.proofs.Lists.{same2, next_item, next_items}
+use Rattle.ckc_grammar.proofs.Lists.{same2, next_item}
 use Rattle.ckc_syntax.specs.declared.tree.Act.TheVariants as act
 use Rattle.ckc_grammar.specs.Grammar as g
 use Rattle.ckc_grammar.specs.Values as v
@@ -102,22 +103,24 @@ moded_block-returns-in_err-mode-clause-reads t c = exit _ _ _ c.from_residual.en
 pub moded_block-returns-in_err-open-clause-reads : goal.moded_block-returns-in_err-open-clause-reads
 moded_block-returns-in_err-open-clause-reads t c = exit _ _ _ c.from_residual-in_err-open.ensures.1 c.in_err-open.ensures.parses (λ d. then_stops c.in_ok-mode.ensures.gives.1 (here_stops _ d))
 
-pub moded_block-returns-in_err-all-clause-reads : goal.moded_block-returns-in_err-all-clause-reads
-moded_block-returns-in_err-all-clause-reads t c = exit _ _ _ c.from_residual-in_err-all.ensures.1 c.in_err-all.ensures.gives (λ d. then_stops c.in_ok-mode.ensures.gives.1 (then_stops c.in_ok-open.ensures.parses d))
-
 pub moded_block-returns-clause-reads : goal.moded_block-returns-clause-reads
 moded_block-returns-clause-reads t c =
-    finished _ _ _ _ _ c.statement_at.result (λ x e. (c.in_ok-mode.ensures.gives.0 ∷ v.token (spelled c.in_ok-open.open) ∷ c.in_ok-all.ensures.gives.0 ∷ [], (also c.in_ok-mode.ensures.gives.1 (also c.in_ok-open.ensures.parses c.in_ok-all.ensures.gives.1)), same2 (λ z w. trees.stmt_at (act.Block (Some z.0) w) z.1) c.in_ok-mode.ensures.gives.2 c.in_ok-all.ensures.gives.2 ∙ e)) c.statement_at.ensures
+    turned _ _ _ _ _ _ _ c.block_at.result (λ x h. (c.in_ok-mode.ensures.gives.0 ∷ v.token (spelled c.in_ok-open.open) ∷ h.0 ∷ [], also c.in_ok-mode.ensures.gives.1 (also c.in_ok-open.ensures.parses h.1), ap (λ z. trees.stmt_at (act.Block (Some z.0) (v.as_stmts h.0)) z.1) c.in_ok-mode.ensures.gives.2 ∙ h.2)) (λ d. then_stops c.in_ok-mode.ensures.gives.1 (then_stops c.in_ok-open.ensures.parses d)) c.block_at.ensures.gives
 
 pub block-returns-in_err-open-clause-reads : goal.block-returns-in_err-open-clause-reads
 block-returns-in_err-open-clause-reads t c = exit _ _ _ c.from_residual.ensures.1 c.in_err-open.ensures.parses (λ d. here_stops _ d)
 
-pub block-returns-in_err-all-clause-reads : goal.block-returns-in_err-all-clause-reads
-block-returns-in_err-all-clause-reads t c = exit _ _ _ c.from_residual-in_err-all.ensures.1 c.in_err-all.ensures.gives (λ d. then_stops c.in_ok-open.ensures.parses d)
-
 pub block-returns-clause-reads : goal.block-returns-clause-reads
 block-returns-clause-reads t c =
-    finished _ _ _ _ _ c.statement_at.result (λ x e. (v.token (spelled c.in_ok-open.open), c.in_ok-all.ensures.gives.0, (also c.in_ok-open.ensures.parses c.in_ok-all.ensures.gives.1), ap (λ z. trees.stmt_at (act.Block None z) c.in_ok-open.open.pos) c.in_ok-all.ensures.gives.2 ∙ e)) c.statement_at.ensures
+    turned _ _ _ _ _ _ _ c.block_at.result (λ x h. (v.token (spelled c.in_ok-open.open), h.0, also c.in_ok-open.ensures.parses h.1, h.2)) (λ d. then_stops c.in_ok-open.ensures.parses d) c.block_at.ensures.gives
+
+pub block_at-returns-in_err-block_items-clause-gives : goal.block_at-returns-in_err-block_items-clause-gives
+block_at-returns-in_err-block_items-clause-gives t c = exit _ _ _ c.from_residual.ensures.1 c.in_err-block_items.ensures.gives (λ d. d)
+
+pub block_at-returns-clause-gives : goal.block_at-returns-clause-gives
+block_at-returns-clause-gives t c =
+    let b = c.in_ok-block_items.ensures.gives in
+    finished _ _ _ _ _ c.statement_at.result (λ x e. (b.0, b.1, ap (λ z. trees.stmt_at (act.Block c.args.mode (z ++ v.as_stmts b.0)) c.args.pos) (sym c.new-all.ensures) ∙ ap (λ z. trees.stmt_at (act.Block c.args.mode z) c.args.pos) b.2 ∙ e)) c.statement_at.ensures
 
 pub if_stmt-returns-in_err-mark-clause-reads : goal.if_stmt-returns-in_err-mark-clause-reads
 if_stmt-returns-in_err-mark-clause-reads t c = exit _ _ _ c.from_residual.ensures.1 c.in_err-mark.ensures.parses (λ d. here_stops _ d)
@@ -186,29 +189,34 @@ for_stmt-returns-clause-reads t c =
     finished _ _ _ _ _ c.statement_at.result (λ x e. (v.token (spelled c.in_ok-mark.mark) ∷ v.token (spelled c.in_ok-open.open) ∷ c.in_ok-start.ensures.gives.0 ∷ c.in_ok-condition.ensures.gives.0 ∷ c.in_ok-step.ensures.gives.0 ∷ c.in_ok-body.ensures.gives.0 ∷ [], (also c.in_ok-mark.ensures.parses (also c.in_ok-open.ensures.parses (also c.in_ok-start.ensures.gives.1 (also c.in_ok-condition.ensures.gives.1 (also c.in_ok-step.ensures.gives.1 c.in_ok-body.ensures.gives.1))))), same2 (λ z w. trees.stmt_at (act.For z w (v.as_part c.in_ok-step.ensures.gives.0) (v.as_stmt c.in_ok-body.ensures.gives.0)) c.in_ok-mark.mark.pos) c.in_ok-start.ensures.gives.2 c.in_ok-condition.ensures.gives.2 ∙ same2 (λ z w. trees.stmt_at (act.For c.in_ok-start.start c.in_ok-condition.condition z w) c.in_ok-mark.mark.pos) c.in_ok-step.ensures.gives.2 c.in_ok-body.ensures.gives.2 ∙ e)) c.statement_at.ensures
 
 pub block_items-list-init : goal.block_items-list-init
-block_items-list-init t c = record { onward = at_start (λ y z. v.as_stmts z ≡ c.new-all.result ++ v.as_stmts y) _ _ (λ y. ap (λ q. q ++ v.as_stmts y) (sym c.new-all.ensures)); fewer = omega arith }
+block_items-list-init t c = record { onward = at_start (λ y z. c.args.all.now ++ v.as_stmts z ≡ c.args.all.now ++ v.as_stmts y) _ _ (λ y. refl); fewer = omega arith }
 
-pub block_items-returns-in_err-more-clause-gives : goal.block_items-returns-in_err-more-clause-gives
-block_items-returns-in_err-more-clause-gives t c = exit _ _ _ c.from_residual.ensures.1 c.in_err-more.ensures.gives (λ d. stop_turn (λ y z. v.as_stmts z ≡ c.list.all ++ v.as_stmts y) g.block_items g.Locals _ _ _ (o.at_type (kind_of (ahead c.list.reader)) (ap begins_type (sym c.kind.ensures) ∙ sym c.begins_type.ensures ∙ c.if-begins_type.true)).1 (here_stops _ d) c.list.invariant.onward)
+pub block_items-returns-in_err-locals-clause-gives : goal.block_items-returns-in_err-locals-clause-gives
+block_items-returns-in_err-locals-clause-gives t c = exit _ _ _ c.from_residual.ensures.1 c.in_err-locals.ensures.gives (λ d. stop_turn (λ y z. c.args.all.now ++ v.as_stmts z ≡ c.list.all ++ v.as_stmts y) g.block_items g.Locals _ _ _ (o.at_type (kind_of (ahead c.list.reader)) (ap begins_type (sym c.kind.ensures) ∙ sym c.begins_type.ensures ∙ c.if-begins_type.true)).1 (here_stops _ d) c.list.invariant.onward)
 
 pub block_items-returns-in_err-item-clause-gives : goal.block_items-returns-in_err-item-clause-gives
-block_items-returns-in_err-item-clause-gives t c = exit _ _ _ c.from_residual-in_err-item.ensures.1 c.in_err-item.ensures.gives (λ d. stop_turn (λ y z. v.as_stmts z ≡ c.list.all ++ v.as_stmts y) g.block_items g.Stmts _ _ _ (o.no_item (kind_of (ahead c.list.reader)) (sym c.closes.ensures ∙ c.list-test.true) (ap begins_type (sym c.kind.ensures) ∙ sym c.begins_type.ensures ∙ c.if-begins_type.false)) (here_stops _ d) c.list.invariant.onward)
+block_items-returns-in_err-item-clause-gives t c = exit _ _ _ c.from_residual-in_err-item.ensures.1 c.in_err-item.ensures.gives (λ d. stop_turn (λ y z. c.args.all.now ++ v.as_stmts z ≡ c.list.all ++ v.as_stmts y) g.block_items g.Stmts _ _ _ (o.no_item (kind_of (ahead c.list.reader)) (sym c.closes.ensures ∙ c.list-test.true) (ap begins_type (sym c.kind.ensures) ∙ sym c.begins_type.ensures ∙ c.if-begins_type.false)) (here_stops _ d) c.list.invariant.onward)
+
+pub block_items-returns-in_err-put_statement-clause-gives : goal.block_items-returns-in_err-put_statement-clause-gives
+block_items-returns-in_err-put_statement-clause-gives t c = no_room _ _ _ _ _ _ c.from_residual-in_err-put_statement.ensures.1 c.in_err-put_statement.ensures
 
 pub block_items-returns-in_err-end-clause-gives : goal.block_items-returns-in_err-end-clause-gives
-block_items-returns-in_err-end-clause-gives t c = exit _ _ _ c.from_residual-in_err-end.ensures.1 c.in_err-end.ensures.parses (λ d. stop_turn (λ y z. v.as_stmts z ≡ c.list.all ++ v.as_stmts y) g.block_items g.EndBlock _ _ _ (o.at_close (kind_of (ahead c.list.reader)) (sym c.closes.ensures ∙ c.list-test.false)).0 d c.list.invariant.onward)
+block_items-returns-in_err-end-clause-gives t c = exit _ _ _ c.from_residual-in_err-end.ensures.1 c.in_err-end.ensures.parses (λ d. stop_turn (λ y z. c.args.all.now ++ v.as_stmts z ≡ c.list.all ++ v.as_stmts y) g.block_items g.EndBlock _ _ _ (o.at_close (kind_of (ahead c.list.reader)) (sym c.closes.ensures ∙ c.list-test.false)).0 d c.list.invariant.onward)
 
 pub block_items-list-preserved-then-begins_type : goal.block_items-list-preserved-then-begins_type
 block_items-list-preserved-then-begins_type t c = record {
-  onward = one_turn (λ y z. v.as_stmts z ≡ c.list.all ++ v.as_stmts y) (λ y z. v.as_stmts z ≡ c.append.new.all ++ v.as_stmts y) g.block_items g.Locals (g.n g.locals ∷ []) _ _ _ (c.in_ok-more.ensures.gives.0 ∷ []) refl (o.at_type (kind_of (ahead c.list.reader)) (ap begins_type (sym c.kind.ensures) ∙ sym c.begins_type.ensures ∙ c.if-begins_type.true)).1 (λ k. refl) c.in_ok-more.ensures.gives.1 (λ y z e. next_items c.list.all c.append.new.all _ _ _ _ e c.in_ok-more.ensures.gives.2 c.in_ok-append.ensures) c.list.invariant.onward;
-  fewer = omega (arith, c.list.invariant.fewer, c.in_ok-more.ensures.fewer);
+  onward =
+      let l = c.in_ok-locals.ensures.gives in
+      one_turn (λ y z. c.args.all.now ++ v.as_stmts z ≡ c.list.all ++ v.as_stmts y) (λ y z. c.args.all.now ++ v.as_stmts z ≡ c.locals.new.all ++ v.as_stmts y) g.block_items g.Locals (g.n g.locals ∷ []) _ _ _ (l.0 ∷ []) refl (o.at_type (kind_of (ahead c.list.reader)) (ap begins_type (sym c.kind.ensures) ∙ sym c.begins_type.ensures ∙ c.if-begins_type.true)).1 (λ k. refl) l.1 (λ y z e. e ∙ behind c.list.all _ (trees.locals (v.as_decls l.0)) (v.as_stmts y) l.2) c.list.invariant.onward;
+  fewer = omega (arith, c.list.invariant.fewer, c.in_ok-locals.ensures.fewer);
 }
 
 pub block_items-list-smaller-then-begins_type : goal.block_items-list-smaller-then-begins_type
-block_items-list-smaller-then-begins_type t c = fewer c.list.reader c.locals.new.reader c.in_ok-more.ensures.gives.1 refl
+block_items-list-smaller-then-begins_type t c = fewer c.list.reader c.locals.new.reader c.in_ok-locals.ensures.gives.1 refl
 
 pub block_items-list-preserved : goal.block_items-list-preserved
 block_items-list-preserved t c = record {
-  onward = one_turn (λ y z. v.as_stmts z ≡ c.list.all ++ v.as_stmts y) (λ y z. v.as_stmts z ≡ c.add.new.all ++ v.as_stmts y) g.block_items g.Stmts (g.n g.stmt ∷ []) _ _ _ (c.in_ok-item.ensures.gives.0 ∷ []) refl (o.no_item (kind_of (ahead c.list.reader)) (sym c.closes.ensures ∙ c.list-test.true) (ap begins_type (sym c.kind.ensures) ∙ sym c.begins_type.ensures ∙ c.if-begins_type.false)) (λ k. refl) c.in_ok-item.ensures.gives.1 (λ y z e. next_item c.list.all c.add.new.all _ _ _ _ e c.in_ok-item.ensures.gives.2 c.in_ok-add.ensures) c.list.invariant.onward;
+  onward = one_turn (λ y z. c.args.all.now ++ v.as_stmts z ≡ c.list.all ++ v.as_stmts y) (λ y z. c.args.all.now ++ v.as_stmts z ≡ c.put_statement.new.all ++ v.as_stmts y) g.block_items g.Stmts (g.n g.stmt ∷ []) _ _ _ (c.in_ok-item.ensures.gives.0 ∷ []) refl (o.no_item (kind_of (ahead c.list.reader)) (sym c.closes.ensures ∙ c.list-test.true) (ap begins_type (sym c.kind.ensures) ∙ sym c.begins_type.ensures ∙ c.if-begins_type.false)) (λ k. refl) c.in_ok-item.ensures.gives.1 (λ y z e. next_item c.list.all c.put_statement.new.all _ _ _ _ e c.in_ok-item.ensures.gives.2 (sym c.in_ok-put_statement.ensures)) c.list.invariant.onward;
   fewer = omega (arith, c.list.invariant.fewer, c.in_ok-item.ensures.fewer);
 }
 
@@ -217,20 +225,17 @@ block_items-list-smaller t c = fewer c.list.reader c.stmt.new.reader c.in_ok-ite
 
 pub block_items-returns-clause-gives : goal.block_items-returns-clause-gives
 block_items-returns-clause-gives t c =
-    let x = last_turn (λ y z. v.as_stmts z ≡ c.list.all ++ v.as_stmts y) g.block_items g.EndBlock _ _ _ (v.token (spelled c.in_ok-end.end) ∷ []) (o.at_close (kind_of (ahead c.list.reader)) (sym c.closes.ensures ∙ c.list-test.false)).0 (λ k. refl) c.in_ok-end.ensures.parses c.list.invariant.onward in
+    let x = last_turn (λ y z. c.args.all.now ++ v.as_stmts z ≡ c.list.all ++ v.as_stmts y) g.block_items g.EndBlock _ _ _ (v.token (spelled c.in_ok-end.end) ∷ []) (o.at_close (kind_of (ahead c.list.reader)) (sym c.closes.ensures ∙ c.list-test.false)).0 (λ k. refl) c.in_ok-end.ensures.parses c.list.invariant.onward in
     (x.0, x.1, x.2 ∙ append-nil c.list.all)
 
-pub block_items-returns-in_err-more-clause-fewer : goal.block_items-returns-in_err-more-clause-fewer
-block_items-returns-in_err-more-clause-fewer t c = omega (arith, c.in_err-more.ensures.fewer, c.list.invariant.fewer)
-
-pub block_items-returns-in_err-append-clause-fewer : goal.block_items-returns-in_err-append-clause-fewer
-block_items-returns-in_err-append-clause-fewer t c = omega (arith, c.in_ok-more.ensures.fewer, c.list.invariant.fewer)
+pub block_items-returns-in_err-locals-clause-fewer : goal.block_items-returns-in_err-locals-clause-fewer
+block_items-returns-in_err-locals-clause-fewer t c = omega (arith, c.in_err-locals.ensures.fewer, c.list.invariant.fewer)
 
 pub block_items-returns-in_err-item-clause-fewer : goal.block_items-returns-in_err-item-clause-fewer
 block_items-returns-in_err-item-clause-fewer t c = omega (arith, c.in_err-item.ensures.fewer, c.list.invariant.fewer)
 
-pub block_items-returns-in_err-add-clause-fewer : goal.block_items-returns-in_err-add-clause-fewer
-block_items-returns-in_err-add-clause-fewer t c = omega (arith, c.in_ok-item.ensures.fewer, c.list.invariant.fewer)
+pub block_items-returns-in_err-put_statement-clause-fewer : goal.block_items-returns-in_err-put_statement-clause-fewer
+block_items-returns-in_err-put_statement-clause-fewer t c = omega (arith, c.in_ok-item.ensures.fewer, c.list.invariant.fewer)
 
 pub block_items-returns-in_err-end-clause-fewer : goal.block_items-returns-in_err-end-clause-fewer
 block_items-returns-in_err-end-clause-fewer t c = omega (arith, c.in_err-end.ensures.fewer, c.list.invariant.fewer)

@@ -1,4 +1,4 @@
-use Rattle.std.proofs.Common.{◌≡◌, ◌≤◌, ◌+◌, ◌*◌, ◌++◌, length}
+use Rattle.std.proofs.Common.{◌≡◌, ◌≤◌, ◌+◌, ◌*◌, ◌++◌}
 use Rattle.ckc_grammar.specs.Grammar.{n}
 use Rattle.ckc_grammar.specs.Grammar as g
 use Rattle.ckc_grammar.specs.Values as v
@@ -8,7 +8,7 @@ use Rattle.ckc_parser.proofs.statements.+stmt.Given as goal
 
 abbrev pub invariant-block_items-list : goal.invariant-block_items-list
 invariant-block_items-list l = record {
-  onward : Onward (λ y z. v.as_stmts z ≡ l.all ++ v.as_stmts y) (n g.block_items) (ahead l.fn.reader) (ahead l.reader);
+  onward : Onward (λ y z. l.fn.all ++ v.as_stmts z ≡ l.all ++ v.as_stmts y) (n g.block_items) (ahead l.fn.reader) (ahead l.reader);
   fewer : remaining l.reader ≤ remaining l.fn.reader;
 }
 
@@ -23,6 +23,9 @@ decreases-moded_block l = 4 * remaining l.reader.now + 1
 
 abbrev pub decreases-block : goal.decreases-block
 decreases-block l = 4 * remaining l.reader.now + 1
+
+abbrev pub decreases-block_at : goal.decreases-block_at
+decreases-block_at l = 4 * remaining l.reader.now + 4
 
 abbrev pub decreases-if_stmt : goal.decreases-if_stmt
 decreases-if_stmt l = 4 * remaining l.reader.now + 1

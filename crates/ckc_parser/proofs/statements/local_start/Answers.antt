@@ -1,8 +1,9 @@
-use Rattle.std.proofs.Common.{sym, ap, ◌∙◌, ◌∷◌, []}
+use Rattle.std.proofs.Common.{ap, ◌∙◌, ◌∷◌, []}
 use Rattle.std.specs.Prelude.{Some}
 use Rattle.ckc_syntax.specs.Spelled.{spelled}
 use Rattle.ckc_grammar.proofs.Steps.{also, then_stops, here_stops}
 use Rattle.ckc_expressions.proofs.Exits.{exit}
+use Rattle.ckc_parser.proofs.Making.{finished}
 use Rattle.ckc_grammar.specs.Values as v
 use Rattle.ckc_grammar.specs.Trees as trees
 use Rattle.ckc_parser.proofs.statements.local_start.Goals as goal
@@ -18,4 +19,4 @@ returns-in_err-end-clause-reads c = exit _ _ _ c.from_residual-in_err-end.ensure
 
 pub returns-clause-reads : goal.returns-clause-reads
 returns-clause-reads c =
-    (v.type_tree c.in_ok-base.base ∷ c.in_ok-first.ensures.gives.0 ∷ v.token (spelled c.in_ok-end.end) ∷ [], (also c.in_ok-base.ensures.parses (also c.in_ok-first.ensures.gives.1 c.in_ok-end.ensures.parses)), ap (λ z. Some z) (ap (λ z. trees.local_of z) c.in_ok-first.ensures.gives.2 ∙ sym c.local_of.ensures ∙ sym c.in_ok-whole.ensures))
+    finished _ _ _ _ _ c.local_statement.result (λ x e. (v.type_tree c.in_ok-base.base ∷ c.in_ok-first.ensures.gives.0 ∷ v.token (spelled c.in_ok-end.end) ∷ [], also c.in_ok-base.ensures.parses (also c.in_ok-first.ensures.gives.1 c.in_ok-end.ensures.parses), ap (λ z. Some (trees.local_of z)) c.in_ok-first.ensures.gives.2 ∙ e)) c.local_statement.ensures
