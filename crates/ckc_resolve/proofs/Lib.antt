@@ -5,6 +5,8 @@ pub mod FirstHeads
 pub mod Ends
 pub mod Indexing
 pub mod MainDeclared
+pub mod Parts
 pub mod Search
+pub mod StatementParts
 pub mod Tables
 mod TakenOff

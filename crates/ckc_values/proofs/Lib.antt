@@ -1,3 +1,4 @@
 pub mod Found
 pub mod Counted
+pub mod Parts
 pub mod Bounded
