@@ -1,7 +1,7 @@
 -- A member that the tests find is there, in a structure that has a layout.
 use Rattle.std.proofs.Common.{◌≡◌, ℕ, zero, suc, ◌<◌, ◌≤◌, Bool, true, false, List, [], ◌∷◌, length, refl, sym, ◌∙◌, arith, rules}
 use Rattle.std.specs.Prelude.{◌&&◌, ◌||◌, ◌==◌, nat_lt, nat_le, is_some, slice_get, slice_index_or, if◌then◌else◌}
-use Rattle.std.specs.List.{All, Contains, list_any, list_all}
+use Rattle.std.specs.List.{Contains, list_any, list_all}
 use Rattle.std.proofs.lemmas.Bool.{eqb-true}
 use Rattle.std.proofs.lemmas.Bool.Decides.{nat_tests}
 use Rattle.std.proofs.lemmas.List.Sums.{AllPass-from_list_all}
@@ -13,7 +13,7 @@ use Rattle.ckc_types.specs.Scalars.{IsScalarForm}
 use Rattle.ckc_types.specs.Layout.{members_of}
 use Rattle.ckc_types.specs.LaidOut.{IsStruct, HasMember}
 use Rattle.ckc_typed.specs.Types.{is_scalar, is_integer_form, is_pointer_form}
-use Rattle.ckc_typed.specs.Constants.{is_laid_out, is_laid_out_form, size_of}
+use Rattle.ckc_typed.specs.Constants.{is_laid_out, size_of}
 use Rattle.ckc_values.specs.Members.{has_member}
 
 false_is_true : ◌≡◌ {A = Bool} false true → ⊥

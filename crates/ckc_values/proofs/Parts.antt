@@ -14,8 +14,9 @@ use Rattle.ckc_typed.specs.declared.environment.Variable.{Variable}
 use Rattle.ckc_typed.specs.declared.typed.Note.{Note}
 use Rattle.ckc_typed.specs.declared.typed.Typed.{Typed}
 use Rattle.ckc_typed.specs.Trees.{NotedLimits, NotedNode, NotedExpr}
-use Rattle.ckc_source.specs.declared.expr.ExprTree.{ExprTree}
-use Rattle.ckc_source.specs.Code.{Expr, expr_of}
+use Rattle.ckc_source.specs.declared.expr.ExprTree.{ExprTree, ExprTree-F, fold-roll-ExprTree}
+use Rattle.ckc_source.specs.declared.expr.ExprTree.TheVariants as made
+use Rattle.ckc_source.specs.Code.{Expr, expr_of, expr_form}
 use Rattle.ckc_values.specs.Operators.{of_operands}
 use Rattle.ckc_values.specs.Expressions.{Part, NodePart, LimitsPart, limits_parts, node_parts, expr_parts, part_of, part_of_node, part_of_limits, literals_of}
 
@@ -48,3 +49,14 @@ module _ {E : Type 0} (p : Typed) (locals : List Variable) (k : ℕ) (n : NotedN
   pub index_address : n ≡ node.Index e f → IfOk r (λ t. expr_of t ≡ of_operands layout op.Add e3.note.ctype f2.note.ctype at left right) → IfOk r (λ t. expr_of t ≡ (part_of_node n).address a at p locals k)
   index_address is h =
       subst (λ v. IfOk r (λ t. expr_of t ≡ v)) (sym (ap (λ w. w.address a at p locals k) (node_part n (Node-F.Index e f) (is ∙ sym (node.rolls-Index e f))) ∙ of_parts op.Add)) h
+
+module _ (p : Typed) (locals : List Variable) (k : ℕ) (n : NotedNode) (a : Note) (at : Pos) where
+  pub pick_value : (e e1 e2 f f1 f2 g g1 : NotedExpr) (test one two : ExprTree) (second third : ℕ) → n ≡ node.Pick e f g
+      → e1 ≡ e → e2 ≡ e → f1 ≡ f → f2 ≡ f → g1 ≡ g
+      → expr_of test ≡ (part_of e1).value p locals k → second ≡ k + literals_of e2 → expr_of one ≡ (part_of f1).value p locals second
+      → third ≡ second + literals_of f2 → expr_of two ≡ (part_of g1).value p locals third
+      → expr_of (made.Choice test one two) ≡ (part_of_node n).value a at p locals k
+  pick_value e e1 e2 f f1 f2 g g1 test one two second third is is1 is2 if1 if2 ig1 x behind y after z =
+      ap expr_of (sym (made.rolls-Choice test one two)) ∙ fold-roll-ExprTree Expr expr_form (ExprTree-F.Choice test one two)
+      ∙ rw (x, y, z, after, behind, is1, is2, if1, if2, ig1) refl
+      ∙ sym (ap (λ w. w.value a at p locals k) (node_part n (Node-F.Pick e f g) (is ∙ sym (node.rolls-Pick e f g))))

@@ -21,13 +21,13 @@ use Rattle.ckc_typed.specs.Types.{type_written, kind_of, element_of}
 use Rattle.ckc_typed.specs.Constants.{size_of}
 use Rattle.ckc_source.specs.declared.expr.Integer.{Integer}
 use Rattle.ckc_source.specs.declared.expr.Integer.TheVariants.{Int}
-use Rattle.ckc_source.specs.Code.{Expr, Number, Local, Limited, Array, Moved, Choice, Tested, Trusted}
+use Rattle.ckc_source.specs.Code.{Expr, Number, Local, Limited, Array, Choice, Tested, Trusted}
 use Rattle.ckc_values.specs.Kinds.{integer_of, count_of_kind, size_behind, pointee_of, tag_of}
 use Rattle.ckc_values.specs.Members.{count_of_member}
 use Rattle.ckc_values.specs.Names.{address_of, array_of, bytes_of, count_of_static}
 use Rattle.ckc_values.specs.Ends.{limits_at}
-use Rattle.ckc_values.specs.Operators.{outside, cast, unary, of_operands, shift, elements_in}
-use Rattle.ckc_values.specs.Places.{Place, place_through, object_place, name_place, nowhere, element_place, target_place, member_place, read_at, address_at}
+use Rattle.ckc_values.specs.Operators.{outside, cast, unary, of_operands, elements_in}
+use Rattle.ckc_values.specs.Places.{Place, object_place, name_place, nowhere, element_place, target_place, member_place, read_at, address_at}
 
 -- ---- names
 

@@ -1,12 +1,9 @@
 -- What the names of a typed text stand for in its program.
-use Rattle.std.specs.Prelude.{ℕ, ◌-◌, ◌*◌, ℤ, Bool, false, if◌then◌else◌, List, find, Option, None, Some, slice_get}
-use Rattle.ckc_base.specs.declared.places.Pos.{Pos}
+use Rattle.std.specs.Prelude.{ℕ, ◌-◌, ◌*◌, ℤ, Bool, false, if◌then◌else◌, find, Option, None, Some, slice_get}
 use Rattle.ckc_types.specs.declared.types.Kind.{Kind}
-use Rattle.ckc_types.specs.declared.types.Kind.TheVariants as kind
 use Rattle.ckc_types.specs.declared.types.CType.{CType}
 use Rattle.ckc_types.specs.declared.types.Structs.{Structs}
 use Rattle.ckc_syntax.specs.declared.tree.Name.{Name}
-use Rattle.ckc_syntax.specs.declared.tree.Name.TheVariants as name
 use Rattle.ckc_syntax.specs.declared.tree.Item.TheVariants as item
 use Rattle.ckc_typed.specs.declared.environment.Amount.{Amount}
 use Rattle.ckc_typed.specs.declared.typed.StaticObject.{StaticObject}

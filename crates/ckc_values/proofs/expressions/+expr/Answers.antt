@@ -3,7 +3,7 @@ use Rattle.std.proofs.lemmas.Result.{IfOk-from_err}
 use Rattle.ckc_syntax.specs.declared.tree.Node.{Node-F}
 use Rattle.ckc_syntax.specs.declared.tree.Node.TheVariants as node
 use Rattle.ckc_source.specs.Code.{expr_of}
-use Rattle.ckc_values.proofs.Parts.{node_part, expr_part, ctype_part, binary_value, index_address}
+use Rattle.ckc_values.proofs.Parts.{node_part, expr_part, ctype_part, binary_value, index_address, pick_value}
 use Rattle.ckc_values.proofs.expressions.+expr.Goals as goal
 
 pub target-returns-in_err-pointer : goal.target-returns-in_err-pointer
@@ -146,3 +146,19 @@ unary_value-returns-in-Address t c =
 pub unary_value-returns-in_ok-place-in-Deref : goal.unary_value-returns-in_ok-place-in-Deref
 unary_value-returns-in_ok-place-in-Deref t c =
     rw (c.in-Deref.is, ctype_part c.args.e.now, ← c.in_ok-place-in-Deref.ensures, ← c.count_by_kind.ensures, ← c.layout.ensures) c.read_at.ensures
+
+pub node_value-returns-in-Name : goal.node_value-returns-in-Name
+node_value-returns-in-Name t c =
+    rw (node_part c.args.node.now (Node-F.Name c.in-Name.n) (c.in-Name.is ∙ sym (node.rolls-Name c.in-Name.n))) c.named.ensures
+
+pub node_place-returns-in-Name : goal.node_place-returns-in-Name
+node_place-returns-in-Name t c =
+    rw (node_part c.args.node.now (Node-F.Name c.in-Name.n) (c.in-Name.is ∙ sym (node.rolls-Name c.in-Name.n)), ← c.get.ensures) c.name_place.ensures
+
+pub node_value-returns-in_ok-written-in-Cast : goal.node_value-returns-in_ok-written-in-Cast
+node_value-returns-in_ok-written-in-Cast t c =
+    rw (node_part c.args.node.now (Node-F.Cast c.in-Cast.w c.in-Cast.e) (c.in-Cast.is ∙ sym (node.rolls-Cast c.in-Cast.w c.in-Cast.e)), ctype_part c.in-Cast.e, ← c.in_ok-written-in-Cast.ensures, ← c.get-in-Cast.ensures, ← c.in_ok-operand-in-Cast.ensures, c.get-in-Cast.ensures, ← c.get-in-Cast-2.ensures) c.cast.ensures
+
+pub node_value-returns-in_ok-two-in-Pick : goal.node_value-returns-in_ok-two-in-Pick
+node_value-returns-in_ok-two-in-Pick t c =
+    pick_value c.args.typed.now c.args.locals.now c.args.first c.args.node.now c.args.note.now c.args.at c.in-Pick.e c.get-in-Pick.result.now c.get-in-Pick-2.result.now c.in-Pick.f c.get-in-Pick-3.result.now c.get-in-Pick-4.result.now c.in-Pick.g c.get-in-Pick-5.result.now c.in_ok-test-in-Pick.test c.in_ok-one-in-Pick.one c.in_ok-two-in-Pick.two c.in_ok-second-in-Pick.second c.in_ok-third-in-Pick.third c.in-Pick.is c.get-in-Pick.ensures c.get-in-Pick-2.ensures c.get-in-Pick-3.ensures c.get-in-Pick-4.ensures c.get-in-Pick-5.ensures c.in_ok-test-in-Pick.ensures c.in_ok-second-in-Pick.ensures c.in_ok-one-in-Pick.ensures c.in_ok-third-in-Pick.ensures c.in_ok-two-in-Pick.ensures
