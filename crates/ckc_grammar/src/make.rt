@@ -293,15 +293,6 @@ pub fn one_of<T: Drop>(alloc: Global, item: Boxed<T>) -> Result<Seq<T>, AllocErr
     one(alloc, item.into_inner())
 }
 
-/// A list of what is in two boxes.
-pub fn two<T: Drop>(alloc: Global, first: Boxed<T>, second: Boxed<T>) -> Result<Seq<T>, AllocError>
-    ensures { IfOk result (λ all. all ≡ first ∷ second ∷ []) }
-{
-    let mut all = one(alloc, first.into_inner())?;
-    all.push(second.into_inner())?;
-    Ok(all)
-}
-
 /// Puts what is in a box behind the items of a list.
 pub fn add<T: Drop>(all: &mut Seq<T>, item: Boxed<T>) -> Result<(), AllocError>
     ensures { OnOk result (all.new ≡ all.old ++ item ∷ []) }

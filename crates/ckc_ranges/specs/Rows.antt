@@ -1,5 +1,5 @@
 -- The ranges of pointers that do not come from the ranges of their parts (see the table of places and ranges).
-use Rattle.std.specs.Prelude.{ℕ, ◌==◌, ◌-◌, Bool, if◌then◌else◌, pos, negsuc, List, Option, None, Some}
+use Rattle.std.specs.Prelude.{ℕ, ◌==◌, ◌-◌, Bool, if◌then◌else◌, pos, List, Option, None, Some}
 use Rattle.std.specs.List.{list_any}
 use Rattle.ckc_linear.specs.declared.forms.Base.{Base}
 use Rattle.ckc_linear.specs.declared.forms.Base.TheVariants as base
@@ -22,10 +22,6 @@ range_from b k = range.Known (base_form b) (record k { base = Some b })
 abbrev pub range_moved : Form → Option Form → Range
 range_moved low None = range.Missing
 range_moved low (Some high) = range.Known low high
-
--- From a base up to one element less: of a `calloc` that goes to an `_Nt_array_ptr`.
-abbrev pub range_below : Base → Form → Range
-range_below b k = range_moved (base_form b) (moved_form (Some (record k { base = Some b })) (negsuc 0))
 
 -- Unknown bounds give no range.
 abbrev pub range_of_bounds : Bounds → Range

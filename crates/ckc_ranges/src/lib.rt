@@ -14,6 +14,4 @@ pub use members::{
     takes_part,
 };
 pub use replacements::{BaseBy, VariableBy, replaced, replaced_bounds};
-pub use rows::{
-    range_below, range_from, range_of_array, range_of_bounds, range_of_ends, range_of_local,
-};
+pub use rows::{range_from, range_of_array, range_of_bounds, range_of_ends, range_of_local};

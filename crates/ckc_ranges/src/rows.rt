@@ -3,7 +3,7 @@
 ghost use Rattle.std.specs.Prelude.{◌≡◌, ◌==◌};
 ghost use Rattle.std.specs.List.{list_any};
 ghost use Rattle.ckc_points.specs.Frames.{local_at};
-ghost use Rattle.ckc_ranges.specs.Rows.{range_from, range_moved, range_below, range_of_bounds, range_of_ends, range_widened, range_of_local, readable, range_of_array};
+ghost use Rattle.ckc_ranges.specs.Rows.{range_from, range_moved, range_of_bounds, range_of_ends, range_widened, range_of_local, readable, range_of_array};
 
 use crate::containment::Ends;
 use ckc_linear::{Base, Form};
@@ -30,17 +30,6 @@ fn range_moved(low: Form, high: Option<Form>) -> Range
         Some(high) => Range::Known(low, high),
         None => Range::Missing,
     }
-}
-
-/// From a base up to one element less, as of a `calloc` that goes to an `_Nt_array_ptr`.
-pub fn range_below(base: Base, k: Form) -> Range
-    ensures { result ≡ range_below base k }
-{
-    let high = Form {
-        base: Some(base),
-        ..k
-    };
-    range_moved(base_form(base), moved_form(Some(high), -1))
 }
 
 /// The range that declared bounds give: unknown ones give none.

@@ -34,13 +34,6 @@ impl Note {
             range: Range::Missing,
         }
     }
-
-    /// The note of a statement.
-    pub fn of_statement(mode: Mode) -> Note
-        ensures { result ≡ record { ctype = CType.Void; mode = mode; range = Range.Missing } }
-    {
-        Note::of_expression(CType::Void, mode)
-    }
 }
 
 /// An object that lives as long as the program: its address, the type of its elements, the kind of pointer that its use
