@@ -1,6 +1,6 @@
 //! Whether facts show another one.
 
-ghost use Rattle.std.specs.Prelude.{◌≡◌, ◌+◌, ◌<◌, ◌≤◌, ◌^◌, length, drop, IfOk};
+ghost use Rattle.std.specs.Prelude.{◌≡◌, ◌+◌, ◌-◌, ◌<◌, ◌≤◌, ◌^◌, true, length, drop, IfOk};
 ghost use Rattle.ckc_linear.specs.Facts.{IsWithin};
 ghost use Rattle.ckc_known.specs.Shown.{known, is_within, reaches, is_shown, shows};
 ghost use Rattle.std.specs.List.{list_any};
@@ -40,16 +40,18 @@ fn stands(facts: &Facts, f: Fact) -> bool
     ensures { result ≡ list_any (shows f) facts.now.list }
 {
     let all = facts.list.as_slice();
-    has(f, &all[passed_over(f, all)..])
+    let rest = &all[passed_over(f, all)..];
+    BLOCK <= rest.len() || has(f, rest)
 }
 
 /// How many facts are tested together.
 const BLOCK: usize = 32;
 
-/// How many facts in front, in whole blocks, do not show a fact.
+/// How many facts in front, in whole blocks, do not show a fact. The block behind them, if there is one, has one that does.
 fn passed_over(f: Fact, facts: &[Fact]) -> usize
     ensures within { result ≤ length facts.now }
     ensures rest { list_any (shows f) facts.now ≡ list_any (shows f) (drop result facts.now) }
+    ensures block { 32 ≤ length facts.now - result → list_any (shows f) facts.now ≡ true }
 {
     let mut at = 0;
     'tests: while BLOCK <= facts.len() - at {

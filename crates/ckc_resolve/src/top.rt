@@ -10,13 +10,16 @@ use crate::names::Names;
 use ckc_base::Fault;
 use ckc_syntax::{NamedText, Spelling, Tree};
 use std::alloc::Global;
+use std::mem::forget;
 
 /// The tree with each name replaced by the declaration that it means, and the number of its function `main`; or the
 /// first error of the names in walk order (E301 to E304).
 pub fn resolve<'a>(alloc: Global, tree: Tree<Spelling<'a>, ()>) -> Result<NamedText, Fault>
     ensures exact { Exact naming tree.entry result }
 {
-    resolved(alloc, &tree)
+    let made = resolved(alloc, &tree);
+    forget(tree);
+    made
 }
 
 fn resolved<'a>(alloc: Global, tree: &Tree<Spelling<'a>, ()>) -> Result<NamedText, Fault>

@@ -13,13 +13,16 @@ use ckc_syntax::{Item, Name, NamedText, Tree};
 use ckc_typed::{Note, StaticObject, Typed};
 use ckc_types::Structs;
 use std::alloc::Global;
+use std::mem::forget;
 
 /// The tree with the type and the mode of each statement and expression, its structures and its static objects; or its
 /// first error in walk order (E401 to E407, and E206 last).
 pub fn type_of(alloc: Global, text: NamedText) -> Result<Typed, Fault>
     ensures exact { Exact typing text result }
 {
-    typed_text(alloc, &text.tree, text.main)
+    let made = typed_text(alloc, &text.tree, text.main);
+    forget(text);
+    made
 }
 
 fn typed_text(alloc: Global, tree: &Tree<Name, ()>, main: u32) -> Result<Typed, Fault>

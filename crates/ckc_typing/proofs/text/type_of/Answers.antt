@@ -5,6 +5,6 @@ use Rattle.ckc_typing.proofs.text.type_of.Goals as goal
 
 pub returns : goal.returns
 returns c = record {
-  exact = exact_of typing (phase_by_exact named_typed) c.args.text c.typed_text.result
-      (answers_by named_typed c.args.text c.typed_text.result c.typed_text.ensures);
+  exact = exact_of typing (phase_by_exact named_typed) c.args.text c.typed_text-made.result
+      (answers_by named_typed c.args.text c.typed_text-made.result c.typed_text-made.ensures);
 }
