@@ -18,6 +18,7 @@ use ckc_typed::{Note, StaticObject, Typed};
 use ckc_types::Structs;
 use core::mem::replace;
 use std::alloc::{AllocError, Global};
+use std::mem::forget;
 
 fn text_frame(
     alloc: Global,
@@ -53,7 +54,9 @@ fn judge_text(alloc: Global, p: Typed) -> Result<Typed, Fault>
         main,
     } = p;
     let mut frame = text_frame(alloc, layout, statics, tree.items.as_slice())?;
-    let items = judge_items(alloc, &mut frame, tree.items.as_slice())?;
+    let judged = judge_items(alloc, &mut frame, tree.items.as_slice());
+    forget(tree);
+    let items = judged?;
     let layout = replace(
         &mut frame.structs,
         Structs {
