@@ -1,6 +1,6 @@
 //! Whether facts show another one.
 
-ghost use Rattle.std.specs.Prelude.{◌≡◌, ◌+◌, ◌-◌, ◌<◌, ◌≤◌, ◌^◌, true, length, drop, IfOk};
+ghost use Rattle.std.specs.Prelude.{◌≡◌, ◌+◌, ◌<◌, ◌^◌, IfOk};
 ghost use Rattle.ckc_linear.specs.Facts.{IsWithin};
 ghost use Rattle.ckc_known.specs.Shown.{known, is_within, reaches, is_shown, shows};
 ghost use Rattle.std.specs.List.{list_any};
@@ -39,46 +39,25 @@ pub fn is_shown(work: &mut Work, facts: &Facts, f: Fact) -> Result<bool, AllocEr
 fn stands(facts: &Facts, f: Fact) -> bool
     ensures { result ≡ list_any (shows f) facts.now.list }
 {
-    let all = facts.list.as_slice();
-    let rest = &all[passed_over(f, all)..];
-    BLOCK <= rest.len() || has(f, rest)
+    has(f, facts.list.as_slice())
 }
 
-/// How many facts are tested together.
-const BLOCK: usize = 32;
-
-/// How many facts in front, in whole blocks, do not show a fact. The block behind them, if there is one, has one that does.
-fn passed_over(f: Fact, facts: &[Fact]) -> usize
-    ensures within { result ≤ length facts.now }
-    ensures rest { list_any (shows f) facts.now ≡ list_any (shows f) (drop result facts.now) }
-    ensures block { 32 ≤ length facts.now - result → list_any (shows f) facts.now ≡ true }
-{
-    let mut at = 0;
-    'tests: while BLOCK <= facts.len() - at {
-        let block = &facts[at..at + BLOCK];
-        if has(f, block) {
-            return at;
-        }
-        at += BLOCK;
-    }
-    at
-}
-
-/// Whether some fact shows a fact. It looks at each, which takes less time than to stop at the first.
+/// Whether some fact shows a fact.
 fn has(f: Fact, facts: &[Fact]) -> bool
     ensures { result ≡ list_any (shows f) facts.now }
 {
-    let mut found = false;
     for g in facts {
-        found |= shows(f, g);
+        if shows(f, g) {
+            return true;
+        }
     }
-    found
+    false
 }
 
 fn shows(f: Fact, g: &Fact) -> bool
     ensures { result ≡ shows f g.now }
 {
-    (g.x == f.x) & (g.y == f.y) & (g.c <= f.c)
+    g.x == f.x && g.y == f.y && g.c <= f.c
 }
 
 fn reaches(work: &mut Work, facts: &Facts, f: Fact) -> Result<bool, AllocError>

@@ -94,21 +94,22 @@ fn passed_over(facts: &[Fact], x: u32) -> usize
     at
 }
 
-/// Whether some fact has `x`. It looks at each, which takes less time than to stop at the first.
+/// Whether some fact has `x`.
 fn has(facts: &[Fact], x: u32) -> bool
     ensures { OnFalse result (AllStay x facts.now) }
 {
-    let mut found = false;
     for f in facts {
-        found |= names(f, x);
+        if names(f, x) {
+            return true;
+        }
     }
-    found
+    false
 }
 
 fn names(f: &Fact, x: u32) -> bool
     ensures { result ≡ names x f.now }
 {
-    (f.x == x) | (f.y == x)
+    f.x == x || f.y == x
 }
 
 /// Moves the facts along with `x`, which has grown by `c`: a fact that has `x` on the left alone gets a number that is
