@@ -1,7 +1,7 @@
 //! Declarations with their bounds and initialisers noted.
 
 ghost use Rattle.std.specs.Prelude.{◌≡◌, IfOk};
-ghost use Rattle.ckc_typed.specs.Declarations.{init_typed, decl_with, parts_typed, judged, is_nothing, bare_fault, is_checked_kind, start_fault, local_fault, static_fault, bare_typed, bares_typed, local_typed, static_typed};
+ghost use Rattle.ckc_typed.specs.Declarations.{init_typed, decl_with, parts_typed, judged, bare_fault, start_fault, local_fault, static_fault, bare_typed, bares_typed, local_typed, static_typed};
 ghost use Rattle.ckc_base.specs.Outcomes.{AnswersOutcome};
 
 use crate::expressions::{boxed_expr, typed_bounds, typed_exprs};
@@ -83,32 +83,14 @@ fn judged(fault: Option<u16>, d: Decl<Name, Note>) -> Result<Decl<Name, Note>, F
     }
 }
 
-fn is_nothing(init: &Init<Name, Note>) -> bool
-    ensures { result ≡ is_nothing init.now }
-{
-    match init {
-        Init::Nothing => true,
-        Init::One(_) | Init::Many(_) => false,
-    }
-}
-
 fn bare_fault(alloc: Global, d: &Decl<Name, Note>) -> Result<Option<u16>, AllocError>
     ensures { IfOk result (λ f. f ≡ bare_fault d.now) }
 {
     let t = type_written(alloc, &d.ctype)?;
-    if is_scalar_type(&t) && is_plain(d.length) && is_nothing(&d.init) {
+    if is_scalar_type(&t) && is_plain(d.length) && matches!(d.init, Init::Nothing) {
         Ok(None)
     } else {
         Ok(Some(BAD_OPERANDS))
-    }
-}
-
-fn is_checked_kind(kind: Option<Kind>) -> bool
-    ensures { result ≡ is_checked_kind kind }
-{
-    match kind {
-        Some(Kind::One | Kind::Arr | Kind::Nt) => true,
-        Some(Kind::Raw) | None => false,
     }
 }
 
@@ -117,7 +99,7 @@ fn start_fault(t: &CType, init: &Init<Name, Note>) -> Option<u16>
 {
     match init {
         Init::Nothing => {
-            if is_checked_kind(kind_of(t)) {
+            if let Some(Kind::One | Kind::Arr | Kind::Nt) = kind_of(t) {
                 Some(NO_INITIALISER)
             } else {
                 None
