@@ -4,7 +4,7 @@ ghost use Rattle.ckc_grammar.specs.Kinds.{kind_of_name, kind_of_keyword, kind_of
 
 /// What the grammar tells apart: keywords and marks by their spelling, a few names that have a meaning in some
 /// places, and the end of the text. `GreaterNext` is a `>` that follows another directly.
-#[derive(Clone, Copy)]
+#[derive(Clone, Copy, PartialEq, Eq)]
 pub enum Kind {
     End,
     Name,
