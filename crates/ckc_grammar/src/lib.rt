@@ -11,8 +11,8 @@ mod reader;
 pub use join::whole;
 pub use kind::Kind;
 pub use make::{
-    add, append, called, copied, declaration, directive_of, expression, function, local_of,
-    number_of, one, one_of, statement, struct_type,
+    add, called, copied, declaration, directive_of, expression, head_of, local_of, number_of, one,
+    one_of, statement, struct_type,
 };
 pub use operators::{
     begins_post, begins_step, begins_type, binary_op, is_greater, is_sign, sign_op,

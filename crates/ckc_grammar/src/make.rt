@@ -1,13 +1,12 @@
 ghost use Rattle.std.specs.Prelude.{◌≡◌, ◌++◌, ◌∷◌, [], IfOk, OnOk, Option, Some, None};
 ghost use Rattle.ckc_syntax.specs.Spelled.{spelled};
-ghost use Rattle.ckc_syntax.specs.declared.tree.Item.TheVariants as item;
 ghost use Rattle.ckc_grammar.specs.Trees as trees;
 ghost use Rattle.ckc_grammar.specs.Values as v;
 
 use crate::parts::{Bounds, CType, Declaration, Expression, Statement};
 use ckc_base::{Boxed, Mode, Pos, Seq};
 use ckc_syntax::{
-    Act, Decl, Directive, Expr, Head, Init, Item, Length, Node, Pointer, Spelling, Stmt, Token,
+    Act, Decl, Directive, Expr, Head, Init, Length, Node, Pointer, Spelling, Stmt, Token,
     TokenKind, TypeTree, wrapped,
 };
 use std::alloc::{AllocError, Global};
@@ -19,16 +18,6 @@ pub fn one<T: Drop>(alloc: Global, item: T) -> Result<Seq<T>, AllocError>
     let mut all = Seq::new(alloc);
     all.push(item)?;
     Ok(all)
-}
-
-/// Puts items behind those of a list.
-pub fn append<T: Drop>(all: &mut Seq<T>, more: Seq<T>) -> Result<(), AllocError>
-    ensures { OnOk result (all.new ≡ all.old ++ more) }
-{
-    'items: for item in more.into_vec() {
-        all.push(item)?;
-    }
-    Ok(())
 }
 
 /// A type once more.
@@ -173,37 +162,8 @@ pub fn local_of<'a>(declaration: Declaration<'a>) -> Stmt<Spelling<'a>, ()>
     }
 }
 
-/// A prototype or a function.
-pub fn function<'a>(
-    alloc: Global,
-    mode: Option<Mode>,
-    result_type: CType<'a>,
-    name: Token<'a>,
-    params: Seq<Decl<Spelling<'a>, ()>>,
-    bounds: Option<Bounds<'a>>,
-    body: Option<Statement<'a>>,
-) -> Result<Seq<Item<Spelling<'a>, ()>>, AllocError>
-    ensures { IfOk result
-        (λ all. all ≡ trees.function_of
-        (record {
-          mode = mode;
-          result = result_type.entry;
-          name = (spelled name.entry).text;
-          params
-              = params.entry;
-          bounds = bounds.entry;
-          pos = (spelled name.entry).pos;
-        }) body.entry ∷ []) }
-{
-    let head = head(alloc, mode, result_type, name, params, bounds)?;
-    match body {
-        None => prototype(alloc, head),
-        Some(body) => definition(alloc, head, body),
-    }
-}
-
-/// The head of a function.
-fn head<'a>(
+/// The head of a function or prototype.
+pub fn head_of<'a>(
     alloc: Global,
     mode: Option<Mode>,
     result_type: CType<'a>,
@@ -233,37 +193,6 @@ fn head<'a>(
             pos: name.pos,
         },
     )
-}
-
-/// A head without a body.
-fn prototype<'a>(
-    alloc: Global,
-    head: Boxed<Head<Spelling<'a>, ()>>,
-) -> Result<Seq<Item<Spelling<'a>, ()>>, AllocError>
-    ensures { IfOk result (λ all. all ≡ item.Proto head.entry ∷ []) }
-{
-    one_item(alloc, Item::Proto(head))
-}
-
-/// A head with a body.
-fn definition<'a>(
-    alloc: Global,
-    head: Boxed<Head<Spelling<'a>, ()>>,
-    body: Statement<'a>,
-) -> Result<Seq<Item<Spelling<'a>, ()>>, AllocError>
-    ensures { IfOk result (λ all. all ≡ item.Function head.entry body.entry ∷ []) }
-{
-    one_item(alloc, Item::Function(head, body))
-}
-
-/// One item.
-fn one_item<'a>(
-    alloc: Global,
-    item: Item<Spelling<'a>, ()>,
-) -> Result<Seq<Item<Spelling<'a>, ()>>, AllocError>
-    ensures { IfOk result (λ all. all ≡ item.entry ∷ []) }
-{
-    one(alloc, item)
 }
 
 /// The value of a number.

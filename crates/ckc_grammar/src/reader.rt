@@ -1,12 +1,13 @@
 ghost use Rattle.std.specs.Prelude.{◌≡◌, ◌≢◌, ◌≤◌, ◌<◌, [], ◌∷◌, length, map, MatchOption, MatchResult, IfOk, IsNone, IsTrue, ◌↔◌};
+ghost use Rattle.std.specs.Bool.{OnTrue, OnFalse};
 ghost use Rattle.ckc_syntax.specs.Spelled.{spelled};
 ghost use Rattle.ckc_grammar.specs.Kinds.{kind_of_token};
 ghost use Rattle.ckc_grammar.specs.Grammar.{t, one, fits, is_name, is_name_but_calloc};
 ghost use Rattle.ckc_grammar.specs.Forms.{is_unknown_alone, is_close, has_more};
-ghost use Rattle.ckc_grammar.specs.Values.{token};
+ghost use Rattle.ckc_grammar.specs.Values.{Value, token};
 ghost use Rattle.ckc_grammar.specs.Classes.{terminal};
-ghost use Rattle.ckc_grammar.specs.Reading.{kind_of};
-ghost use Rattle.ckc_grammar.specs.Marked.{kind_after, adjacent, signs, ahead, remaining, place_of, Parses};
+ghost use Rattle.ckc_grammar.specs.Reading.{kind_of, Takes};
+ghost use Rattle.ckc_grammar.specs.Marked.{kind_after, adjacent, signs, ahead, remaining, place_of, Answered, Parses};
 
 use crate::kind::{Kind, keyword_kind, mark_kind, name_kind};
 use crate::operators::{is_greater, is_literal, is_operator, is_sign};
@@ -180,6 +181,39 @@ impl<'a> Reader<'a> {
         match self.next() {
             Some(token) => Ok(token),
             None => Err(Stop::Syntax),
+        }
+    }
+
+    /// Takes a token of a kind, of which nothing else is of use.
+    pub fn skip(&mut self, kind: Kind) -> Result<(), Stop>
+        requires { kind ≢ Kind.End }
+        ensures tells { Answered
+            (λ x. (v : Value) × Takes (t (one kind) ∷ []) (ahead self.old) (v ∷ []) (ahead self.new))
+            (t (one kind) ∷ []) (ahead self.old) result (ahead self.new) }
+        ensures fewer { remaining self.new ≤ remaining self.old }
+    {
+        match self.take(kind) {
+            Ok(_) => Ok(()),
+            Err(stop) => Err(stop),
+        }
+    }
+
+    /// Takes the next token where it is of a kind, and tells whether it is.
+    pub fn eats(&mut self, kind: Kind) -> bool
+        requires { kind ≢ Kind.End }
+        ensures next { OnTrue result (kind_of (ahead self.old) ≡ kind) }
+        ensures taken { OnTrue result
+            ((v : Value) × Takes (t (one kind) ∷ []) (ahead self.old) (v ∷ []) (ahead self.new)) }
+        ensures other { OnFalse result (kind_of (ahead self.old) ≢ kind) }
+        ensures kept { OnFalse result (ahead self.new ≡ ahead self.old) }
+        ensures fewer { remaining self.new ≤ remaining self.old }
+    {
+        if self.kind() != kind {
+            return false;
+        }
+        match self.next() {
+            Some(_) => true,
+            None => false,
         }
     }
 

@@ -1,6 +1,6 @@
 -- A function that ends with the call that makes its whole.
 use Rattle.std.proofs.Common.{◌≡◌, List}
-use Rattle.std.specs.Prelude.{Result, Ok, Err, IfOk, IsErrAnd, MatchResult}
+use Rattle.std.specs.Prelude.{Result, Ok, Err, IfOk, IsErrAnd}
 use Rattle.ckc_grammar.specs.Grammar.{Symbol}
 use Rattle.ckc_grammar.specs.Derives.{Sign}
 use Rattle.ckc_grammar.specs.declared.parts.Stop.{Stop}
@@ -27,10 +27,6 @@ no_room G ss a b r e f m = exit {ss = ss} {ts = ss} {old = a} {mid = a} {new = b
 pub if_taken : {X F : Type 0} (G : X → Type 0) (ss : List Symbol) (a b : List Sign) (r : Result X Stop) → ((x : X) → G x → F) → Answered G ss a r b → IfOk r (λ x. F)
 if_taken G ss a b (Ok x) f h = f x h
 if_taken G ss a b (Err e) f h = tt
-
-pub fewer_made : {X F G : Type 0} (r : Result X Stop) → F → (F → G) → MatchResult r (λ x. F) (λ e. G)
-fewer_made (Ok x) f g = f
-fewer_made (Err e) f g = g f
 
 pub if_made : {X F : Type 0} (r : Result X Stop) → F → IfOk r (λ x. F)
 if_made (Ok x) f = f

@@ -4,13 +4,15 @@ use Rattle.ckc_syntax.specs.declared.tree.Act.TheVariants as act
 use Rattle.ckc_grammar.specs.declared.kind.Kind.TheVariants as kind
 use Rattle.ckc_grammar.specs.declared.parts.Stop.{Stop}
 use Rattle.ckc_grammar.specs.declared.parts.Stop.TheVariants as stop
-use Rattle.ckc_grammar.specs.Grammar.{Symbol, n, k, right}
+use Rattle.ckc_syntax.specs.Spelled.{spelled}
+use Rattle.ckc_syntax.specs.declared.tokens.Token.{Token}
+use Rattle.ckc_grammar.specs.Grammar.{Symbol, t, n, k, right}
 use Rattle.ckc_grammar.specs.Grammar as g
-use Rattle.ckc_grammar.specs.Trees.{Expr, Stmt, stmt_at}
+use Rattle.ckc_grammar.specs.Trees.{Decl, Expr, Stmt, TypeTree, stmt_at, starred}
 use Rattle.ckc_grammar.specs.Derives.{Sign}
 use Rattle.ckc_grammar.specs.Reading.{Takes}
 use Rattle.ckc_grammar.specs.Marked.{Answered}
-use Rattle.ckc_grammar.specs.Values.{Value, place, as_expr, as_stmt, as_stmts}
+use Rattle.ckc_grammar.specs.Values.{Value, token, place, as_decls, as_expr, as_stars, as_stmt, as_stmts}
 
 abbrev pub IsMemory : Stop → Type 0
 IsMemory stop.Memory = Unit {0}
@@ -25,6 +27,18 @@ Made G (Err e) = IsMemory e
 abbrev pub Puts : {X Y : Type 0} → (Value → List X) → Symbol → List X → List Sign → Result Y Stop → List X → List Sign → Type 0
 Puts worth s was old r is new = Answered (λ x. (v : Value) × Takes (s ∷ []) old (v ∷ []) new × (was ++ worth v ≡ is)) (s ∷ []) old r new
 
+-- stars and a name, which make a base a type
+abbrev pub named : List Symbol
+named = n g.stars ∷ t g.name ∷ []
+
+abbrev pub Named : TypeTree → List Sign → Result (TypeTree × Token) Stop → List Sign → Type 0
+Named base old r new = Answered (λ x. (s : Value) × Takes named old (s ∷ token (spelled x.1) ∷ []) new × (starred base (as_stars s) ≡ x.0)) named old r new
+
+-- the members of a structure with their brackets, which are put into a list
+abbrev pub Braced : {Y : Type 0} → List Decl → List Sign → Result Y Stop → List Decl → List Sign → Type 0
+Braced was old r is new =
+    Answered (λ x. (o : Value) × (a : Value) × (b : Value) × (c : Value) × (d : Value) × Takes (right g.Members) old (o ∷ a ∷ b ∷ c ∷ d ∷ []) new × (was ++ (as_decls a ++ as_decls b) ≡ is)) (right g.Members) old r new
+
 -- an assignment behind its target
 abbrev pub assigned : List Symbol
 assigned = k kind.Equals ∷ n g.value ∷ k kind.Semicolon ∷ []
@@ -33,14 +47,10 @@ abbrev pub Assigned : Expr → List Sign → Result Stmt Stop → List Sign → 
 Assigned target old r new =
     Answered (λ x. (a : Value) × (b : Value) × (c : Value) × Takes assigned old (a ∷ b ∷ c ∷ []) new × (stmt_at (act.Assign target (as_expr b)) (place a) ≡ x)) assigned old r new
 
--- a whole assignment with its `;`
+-- a whole assignment with its `;`, put into a list
 abbrev pub assign_ended : List Symbol
 assign_ended = n g.assign ∷ k kind.Semicolon ∷ []
 
-abbrev pub AssignEnded : List Sign → Result Stmt Stop → List Sign → Type 0
-AssignEnded old r new = Answered (λ x. (a : Value) × (b : Value) × Takes assign_ended old (a ∷ b ∷ []) new × (as_stmt a ≡ x)) assign_ended old r new
-
--- the same, put into a list
 abbrev pub AssignPut : {Y : Type 0} → List Stmt → List Sign → Result Y Stop → List Stmt → List Sign → Type 0
 AssignPut was old r is new = Answered (λ x. (a : Value) × (b : Value) × Takes assign_ended old (a ∷ b ∷ []) new × (was ++ as_stmt a ∷ [] ≡ is)) assign_ended old r new
 

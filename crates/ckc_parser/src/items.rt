@@ -3,18 +3,20 @@ ghost use Rattle.ckc_syntax.specs.Spelled.{spelled};
 ghost use Rattle.ckc_grammar.specs.Grammar as g;
 ghost use Rattle.ckc_grammar.specs.Trees as trees;
 ghost use Rattle.ckc_grammar.specs.Values as v;
-ghost use Rattle.ckc_grammar.specs.Forms.{is_close, has_more};
-ghost use Rattle.ckc_parser.specs.Parts.{Puts};
+ghost use Rattle.ckc_grammar.specs.Forms.{has_more};
+ghost use Rattle.ckc_parser.specs.Parts.{Braced, Puts};
 ghost use Rattle.ckc_parser.specs.Turns.{IsItem};
 ghost use Rattle.ckc_grammar.specs.Reading.{kind_of};
 ghost use Rattle.ckc_grammar.specs.Marked.{ahead, remaining, Answered, Gives, Reads};
 
-use crate::declarators::{member, members, object_rest, objects, params};
-use crate::lists::{Items, put_directive, put_function, put_static, put_struct, put_tag};
+use crate::declarators::{member, members, named_type, object_rest, objects, params};
+use crate::lists::{
+    Declarations, Heading, Items, put_directive, put_function, put_prototype, put_struct, put_tag,
+};
 use crate::statements::{block, mode};
-use ckc_base::{Boxed, Mode};
-use ckc_expressions::{declared_limits, scalar, starred, type_name};
-use ckc_grammar::{CType, Class, Kind, Reader, Statement, Stop, copied, struct_type};
+use ckc_base::{Boxed, Mode, Seq};
+use ckc_expressions::{declared_limits, scalar, type_name};
+use ckc_grammar::{CType, Class, Kind, Reader, Stop, head_of, struct_type};
 use ckc_syntax::{Token, TypeTree};
 use std::alloc::Global;
 
@@ -31,34 +33,29 @@ fn head<'a>(
         (λ y. v.as_item_of_head y mode result_type.entry (spelled name.entry) ∷ []) (g.n g.head)
         all.old (ahead reader.old) result all.new (ahead reader.new) }
 {
-    let open = reader.take(Kind::RoundOpen)?;
-    let params = params(reader, alloc)?;
+    reader.skip(Kind::RoundOpen)?;
+    let mut list = Seq::new(alloc);
+    params(reader, alloc, &mut list)?;
     let bounds = declared_limits(reader, alloc)?;
-    let body = body(reader, alloc)?;
-    put_function(
-        reader,
-        alloc,
-        all,
-        mode,
-        result_type,
-        name,
-        params,
-        bounds,
-        body,
-    )
+    let head = head_of(alloc, mode, result_type, name, list, bounds)?;
+    body(reader, alloc, all, head)
 }
 
 /// The body of a function, or `;` of a prototype.
-fn body<'a>(reader: &mut Reader<'a>, alloc: Global) -> Result<Option<Statement<'a>>, Stop>
-    ensures gives { Gives (λ y. v.as_part y) (g.n g.body) (ahead reader.old) result
-        (ahead reader.new) }
+fn body<'a>(
+    reader: &mut Reader<'a>,
+    alloc: Global,
+    all: &mut Items<'a>,
+    head: Heading<'a>,
+) -> Result<(), Stop>
+    ensures gives { Puts (λ y. trees.function_of head.entry (v.as_part y) ∷ []) (g.n g.body)
+        all.old (ahead reader.old) result all.new (ahead reader.new) }
 {
-    if let Kind::Semicolon = reader.kind() {
-        let mark = reader.take(Kind::Semicolon)?;
-        return Ok(None);
+    if reader.eats(Kind::Semicolon) {
+        return put_prototype(reader, all, head);
     }
     let whole = block(reader, alloc)?;
-    Ok(Some(whole))
+    put_function(reader, all, head, whole)
 }
 
 /// The type of a result.
@@ -66,8 +63,7 @@ fn result_type<'a>(reader: &mut Reader<'a>, alloc: Global) -> Result<CType<'a>, 
     ensures gives { Gives (λ y. v.as_type y) (g.n g.result_type) (ahead reader.old) result
         (ahead reader.new) }
 {
-    if let Kind::Void = reader.kind() {
-        let word = reader.take(Kind::Void)?;
+    if reader.eats(Kind::Void) {
         let whole = Boxed::new(alloc, TypeTree::Void)?;
         return Ok(whole);
     }
@@ -102,7 +98,7 @@ fn tag<'a>(
         (λ x vs. all.old ++ v.as_items_of_name (v.made g.Tag vs) (spelled name.entry) ≡ all.new)
         (ahead reader.old) result (ahead reader.new) }
 {
-    let end = reader.take(Kind::Semicolon)?;
+    reader.skip(Kind::Semicolon)?;
     put_tag(reader, all, name)
 }
 
@@ -117,12 +113,24 @@ fn struct_members<'a>(
         (λ x vs. all.old ++ v.as_items_of_name (v.made g.Members vs) (spelled name.entry) ≡ all.new)
         (ahead reader.old) result (ahead reader.new) }
 {
-    let open = reader.take(Kind::CurlyOpen)?;
-    let first = member(reader, alloc)?;
-    let members = members(reader, alloc, first)?;
-    let close = reader.take(Kind::CurlyClose)?;
-    let end = reader.take(Kind::Semicolon)?;
-    put_struct(reader, all, name, members)
+    let mut list = Seq::new(alloc);
+    braced(reader, alloc, &mut list)?;
+    put_struct(reader, all, name, list)
+}
+
+/// The members of a structure, in their brackets.
+fn braced<'a>(
+    reader: &mut Reader<'a>,
+    alloc: Global,
+    all: &mut Declarations<'a>,
+) -> Result<(), Stop>
+    ensures reads { Braced all.old (ahead reader.old) result all.new (ahead reader.new) }
+{
+    reader.skip(Kind::CurlyOpen)?;
+    member(reader, alloc, all)?;
+    members(reader, alloc, all)?;
+    reader.skip(Kind::CurlyClose)?;
+    reader.skip(Kind::Semicolon)
 }
 
 /// What is declared with a structure as its base.
@@ -149,10 +157,8 @@ fn declarators<'a>(
     ensures gives { Puts (λ y. v.as_items_of_base y base.entry) (g.n g.declarators)
         all.old (ahead reader.old) result all.new (ahead reader.new) }
 {
-    let copy = copied(alloc, base.get())?;
-    let ctype = starred(reader, alloc, copy)?;
-    let name = reader.take_any(Class::Name)?;
-    declarator(reader, alloc, all, &base, ctype, name)
+    let named = named_type(reader, alloc, &base)?;
+    declarator(reader, alloc, all, &base, named.0, named.1)
 }
 
 /// What goes on behind a base, stars and a name: a head, or statics.
@@ -187,8 +193,7 @@ fn statics<'a>(
         (λ x vs. all.old ++ v.as_items_of_declarator (v.made g.Objects vs) base.now ctype.entry
         (spelled name.entry) ≡ all.new) (ahead reader.old) result (ahead reader.new) }
 {
-    let first = object_rest(reader, alloc, ctype, name)?;
-    put_static(reader, all, first)?;
+    object_rest(reader, alloc, all, ctype, name)?;
     objects(reader, alloc, all, base)
 }
 

@@ -1,15 +1,17 @@
 ghost use Rattle.std.specs.Prelude.{◌≡◌, ◌∷◌, [], ◌++◌};
 ghost use Rattle.ckc_syntax.specs.Spelled.{spelled};
 ghost use Rattle.ckc_syntax.specs.declared.tree.Item.TheVariants as item;
+ghost use Rattle.ckc_syntax.specs.declared.tree.Length.TheVariants as lengths;
+ghost use Rattle.ckc_syntax.specs.declared.tree.Init.TheVariants as inits;
 ghost use Rattle.ckc_grammar.specs.Trees as trees;
 ghost use Rattle.ckc_grammar.specs.Values as v;
 ghost use Rattle.ckc_parser.specs.Parts.{Made};
 
-use ckc_base::{Mode, Seq};
+use ckc_base::{Boxed, Seq};
 use ckc_grammar::{
-    Bounds, CType, Declaration, Reader, Statement, Stop, append, directive_of, function, local_of,
+    Bounds, CType, Declaration, Reader, Statement, Stop, declaration, directive_of, local_of,
 };
-use ckc_syntax::{Decl, Item, Spelling, Stmt, Token};
+use ckc_syntax::{Decl, Head, Init, Item, Length, Spelling, Stmt, Token};
 use std::alloc::Global;
 
 /// The items of a text that are read so far. What reads more puts them behind these, since a list that an exit has to
@@ -18,6 +20,12 @@ pub type Items<'a> = Seq<Item<Spelling<'a>, ()>>;
 
 /// Statements one after another that are read so far.
 pub type Statements<'a> = Seq<Stmt<Spelling<'a>, ()>>;
+
+/// Members or parameters that are read so far.
+pub type Declarations<'a> = Seq<Decl<Spelling<'a>, ()>>;
+
+/// The head of a function.
+pub type Heading<'a> = Boxed<Head<Spelling<'a>, ()>>;
 
 /// Puts an item behind those of a list. The reader stands first, here and below, so that lifetimes are counted as in
 /// the callers, which is proved sooner.
@@ -29,16 +37,6 @@ fn put_item<'a>(
     ensures { Made (λ x. all.old ++ item.entry ∷ [] ≡ all.new) result }
 {
     match all.push(item) {
-        Ok(()) => Ok(()),
-        Err(_) => Err(Stop::Memory),
-    }
-}
-
-/// Puts items behind those of a list.
-fn put_items<'a>(reader: &Reader<'a>, all: &mut Items<'a>, more: Items<'a>) -> Result<(), Stop>
-    ensures { Made (λ x. all.old ++ more.entry ≡ all.new) result }
-{
-    match append(all, more) {
         Ok(()) => Ok(()),
         Err(_) => Err(Stop::Memory),
     }
@@ -69,7 +67,7 @@ pub fn put_struct<'a>(
     reader: &Reader<'a>,
     all: &mut Items<'a>,
     name: Token<'a>,
-    members: Seq<Decl<Spelling<'a>, ()>>,
+    members: Declarations<'a>,
 ) -> Result<(), Stop>
     ensures { Made
         (λ x. all.old ++ item.Struct (spelled name.entry).text members.entry name.entry.pos ∷ []
@@ -79,45 +77,81 @@ pub fn put_struct<'a>(
     put_item(reader, all, item)
 }
 
-/// Puts a static.
+/// Puts a static with what it is declared as.
 pub fn put_static<'a>(
-    reader: &Reader<'a>,
-    all: &mut Items<'a>,
-    declaration: Declaration<'a>,
-) -> Result<(), Stop>
-    ensures { Made (λ x. all.old ++ item.Static declaration.entry ∷ [] ≡ all.new) result }
-{
-    put_item(reader, all, Item::Static(declaration))
-}
-
-/// Puts a prototype or a function.
-pub fn put_function<'a>(
     reader: &Reader<'a>,
     alloc: Global,
     all: &mut Items<'a>,
-    mode: Option<Mode>,
-    result_type: CType<'a>,
+    ctype: CType<'a>,
     name: Token<'a>,
-    params: Seq<Decl<Spelling<'a>, ()>>,
+    length: Length,
     bounds: Option<Bounds<'a>>,
-    body: Option<Statement<'a>>,
+    init: Init<Spelling<'a>, ()>,
 ) -> Result<(), Stop>
     ensures { Made
-        (λ x. all.old ++ trees.function_of
-        (record {
-          mode = mode;
-          result = result_type.entry;
-          name = (spelled name.entry).text;
-          params
-              = params.entry;
-          bounds = bounds.entry;
-          pos = (spelled name.entry).pos;
-        }) body.entry ∷ [] ≡ all.new) result }
+        (λ x. all.old ++ item.Static
+        (v.declared ctype.entry (spelled name.entry) length bounds.entry init.entry) ∷ []
+        ≡ all.new) result }
 {
-    match function(alloc, mode, result_type, name, params, bounds, body) {
-        Ok(more) => put_items(reader, all, more),
+    match declaration(alloc, ctype, name, length, bounds, init) {
+        Ok(whole) => put_item(reader, all, Item::Static(whole)),
         Err(_) => Err(Stop::Memory),
     }
+}
+
+/// Puts a member or a parameter with what it is declared as.
+pub fn put_slot<'a>(
+    reader: &Reader<'a>,
+    alloc: Global,
+    all: &mut Declarations<'a>,
+    ctype: CType<'a>,
+    name: Token<'a>,
+    bounds: Option<Bounds<'a>>,
+) -> Result<(), Stop>
+    ensures { Made
+        (λ x. all.old ++ v.declared ctype.entry (spelled name.entry) lengths.Plain bounds.entry
+        inits.Nothing ∷ [] ≡ all.new) result }
+{
+    match declaration(alloc, ctype, name, Length::Plain, bounds, Init::Nothing) {
+        Ok(whole) => put_declaration(reader, all, whole),
+        Err(_) => Err(Stop::Memory),
+    }
+}
+
+fn put_declaration<'a>(
+    reader: &Reader<'a>,
+    all: &mut Declarations<'a>,
+    whole: Declaration<'a>,
+) -> Result<(), Stop>
+    ensures { Made (λ x. all.old ++ whole.entry ∷ [] ≡ all.new) result }
+{
+    match all.push(whole.into_inner()) {
+        Ok(()) => Ok(()),
+        Err(_) => Err(Stop::Memory),
+    }
+}
+
+/// Puts a prototype.
+pub fn put_prototype<'a>(
+    reader: &Reader<'a>,
+    all: &mut Items<'a>,
+    head: Heading<'a>,
+) -> Result<(), Stop>
+    ensures { Made (λ x. all.old ++ item.Proto head.entry ∷ [] ≡ all.new) result }
+{
+    put_item(reader, all, Item::Proto(head))
+}
+
+/// Puts a function.
+pub fn put_function<'a>(
+    reader: &Reader<'a>,
+    all: &mut Items<'a>,
+    head: Heading<'a>,
+    body: Statement<'a>,
+) -> Result<(), Stop>
+    ensures { Made (λ x. all.old ++ item.Function head.entry body.entry ∷ [] ≡ all.new) result }
+{
+    put_item(reader, all, Item::Function(head, body))
 }
 
 fn put_stmt<'a>(

@@ -5,7 +5,7 @@ ghost use Rattle.ckc_grammar.specs.Trees as trees;
 ghost use Rattle.ckc_grammar.specs.Values as v;
 ghost use Rattle.ckc_grammar.specs.Reading.{kind_of};
 ghost use Rattle.ckc_grammar.specs.Marked.{ahead, remaining, Answered, Gives, Reads};
-ghost use Rattle.ckc_parser.specs.Parts.{Made, Puts, Assigned, AssignEnded, AssignPut, Bundled, Blocked};
+ghost use Rattle.ckc_parser.specs.Parts.{Made, Puts, Assigned, AssignPut, Bundled, Blocked};
 ghost use Rattle.ckc_syntax.specs.declared.tree.Act.TheVariants as act;
 
 use crate::declarators::{local, locals};
@@ -120,8 +120,7 @@ fn otherwise<'a>(reader: &mut Reader<'a>, alloc: Global) -> Result<Option<Statem
         (ahead reader.new) }
     ensures fewer { remaining reader.new ≤ remaining reader.old }
 {
-    if let Kind::Else = reader.kind() {
-        let mark = reader.take(Kind::Else)?;
+    if reader.eats(Kind::Else) {
         let body = stmt(reader, alloc)?;
         return Ok(Some(body));
     }
@@ -226,17 +225,6 @@ fn assigned<'a>(
     let equals = reader.take(Kind::Equals)?;
     let value = value(reader, alloc)?;
     ended(reader, alloc, Act::Assign(target, value), equals.pos)
-}
-
-/// A whole assignment, and the `;` behind it.
-fn assign_ended<'a>(reader: &mut Reader<'a>, alloc: Global) -> Result<Statement<'a>, Stop>
-    ensures reads { AssignEnded (ahead reader.old) result (ahead reader.new) }
-    ensures fewer { MatchResult result (λ x. remaining reader.new < remaining reader.old)
-        (λ e. remaining reader.new ≤ remaining reader.old) }
-{
-    let whole = assign(reader, alloc)?;
-    let end = reader.take(Kind::Semicolon)?;
-    Ok(whole)
 }
 
 /// A statement, and the `;` behind it.
@@ -378,12 +366,11 @@ fn condition<'a>(reader: &mut Reader<'a>, alloc: Global) -> Result<Option<Expres
         (ahead reader.new) }
     ensures fewer { remaining reader.new ≤ remaining reader.old }
 {
-    if let Kind::Semicolon = reader.kind() {
-        let mark = reader.take(Kind::Semicolon)?;
+    if reader.eats(Kind::Semicolon) {
         return Ok(None);
     }
     let value = expr(reader, alloc)?;
-    let end = reader.take(Kind::Semicolon)?;
+    reader.skip(Kind::Semicolon)?;
     Ok(Some(value))
 }
 
@@ -393,14 +380,14 @@ fn for_start<'a>(reader: &mut Reader<'a>, alloc: Global) -> Result<Option<Statem
         (ahead reader.new) }
     ensures fewer { remaining reader.new ≤ remaining reader.old }
 {
-    if let Kind::Semicolon = reader.kind() {
-        let mark = reader.take(Kind::Semicolon)?;
+    if reader.eats(Kind::Semicolon) {
         return Ok(None);
     }
     if begins_type(reader.kind()) {
         return local_start(reader, alloc);
     }
-    let first = assign_ended(reader, alloc)?;
+    let first = assign(reader, alloc)?;
+    reader.skip(Kind::Semicolon)?;
     Ok(Some(first))
 }
 
@@ -437,12 +424,11 @@ fn for_step<'a>(reader: &mut Reader<'a>, alloc: Global) -> Result<Option<Stateme
         (ahead reader.new) }
     ensures fewer { remaining reader.new ≤ remaining reader.old }
 {
-    if let Kind::RoundClose = reader.kind() {
-        let mark = reader.take(Kind::RoundClose)?;
+    if reader.eats(Kind::RoundClose) {
         return Ok(None);
     }
     let step = assign(reader, alloc)?;
-    let end = reader.take(Kind::RoundClose)?;
+    reader.skip(Kind::RoundClose)?;
     Ok(Some(step))
 }
 
@@ -476,11 +462,11 @@ fn one_assign<'a>(
     all: &mut Statements<'a>,
 ) -> Result<(), Stop>
     ensures reads { AssignPut all.old (ahead reader.old) result all.new (ahead reader.new) }
-    ensures fewer { MatchResult result (λ x. remaining reader.new < remaining reader.old)
-        (λ e. remaining reader.new ≤ remaining reader.old) }
+    ensures fewer { remaining reader.new ≤ remaining reader.old }
 {
-    let item = assign_ended(reader, alloc)?;
-    put_statement(reader, all, item)
+    let item = assign(reader, alloc)?;
+    put_statement(reader, all, item)?;
+    reader.skip(Kind::Semicolon)
 }
 
 /// A mode with its place.
@@ -503,10 +489,9 @@ fn assigns<'a>(reader: &mut Reader<'a>, alloc: Global, all: &mut Statements<'a>)
         all.new (ahead reader.new) }
     ensures fewer { remaining reader.new ≤ remaining reader.old }
 {
-    'list: while !reader.closes() {
+    'list: while !reader.eats(Kind::CurlyClose) {
         one_assign(reader, alloc, all)?;
     }
-    let end = reader.take(Kind::CurlyClose)?;
     Ok(())
 }
 
@@ -521,7 +506,7 @@ fn block_items<'a>(
         all.new (ahead reader.new) }
     ensures fewer { remaining reader.new ≤ remaining reader.old }
 {
-    'list: while !reader.closes() {
+    'list: while !reader.eats(Kind::CurlyClose) {
         if begins_type(reader.kind()) {
             locals(reader, alloc, all)?;
             continue 'list;
@@ -529,6 +514,5 @@ fn block_items<'a>(
         let item = stmt(reader, alloc)?;
         put_statement(reader, all, item)?;
     }
-    let end = reader.take(Kind::CurlyClose)?;
     Ok(())
 }

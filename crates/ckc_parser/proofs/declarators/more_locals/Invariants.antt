@@ -1,15 +1,14 @@
 use Rattle.std.proofs.Common.{◌≤◌}
-use Rattle.std.proofs.Common.{◌≡◌, ◌++◌}
 use Rattle.ckc_grammar.specs.Marked.{ahead, remaining}
-use Rattle.ckc_grammar.proofs.Onward.{Onward}
 use Rattle.ckc_grammar.specs.Grammar as g
 use Rattle.ckc_grammar.specs.Values as v
 use Rattle.ckc_grammar.specs.Trees as trees
+use Rattle.ckc_parser.proofs.Putting.{Putting}
 use Rattle.ckc_parser.proofs.declarators.more_locals.Given as goal
 
 abbrev pub invariant-list : goal.invariant-list
 invariant-list l = record {
-  onward : Onward (λ y z. l.fn.all ++ trees.locals (v.as_decls_of_base z l.fn.base) ≡ l.all ++ trees.locals (v.as_decls_of_base y l.fn.base)) (g.n g.more_locals) (ahead l.fn.reader) (ahead l.reader);
+  onward : Putting (λ y. trees.locals (v.as_decls_of_base y l.fn.base)) g.more_locals l.fn.all (ahead l.fn.reader) l.all (ahead l.reader);
   fewer : remaining l.reader ≤ remaining l.fn.reader;
 }
 

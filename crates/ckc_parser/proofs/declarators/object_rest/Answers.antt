@@ -1,10 +1,11 @@
-use Rattle.std.proofs.Common.{refl, ◌∙◌, ◌∷◌, []}
+use Rattle.std.proofs.Common.{refl, ◌∙◌, ◌∷◌, [], ◌++◌}
 use Rattle.ckc_syntax.specs.Spelled.{spelled}
 use Rattle.ckc_grammar.specs.Values.{made}
 use Rattle.ckc_grammar.proofs.Steps.{also, then_stops, here_stops, by_rule, stop_rule}
-use Rattle.ckc_expressions.proofs.Exits.{exit}
-use Rattle.ckc_parser.proofs.Making.{finished}
 use Rattle.ckc_grammar.proofs.Lists.{same3}
+use Rattle.ckc_parser.proofs.Making.{finished}
+use Rattle.ckc_syntax.specs.declared.tree.Item.TheVariants as item
+use Rattle.ckc_expressions.proofs.Exits.{exit}
 use Rattle.ckc_grammar.specs.Grammar as g
 use Rattle.ckc_grammar.specs.Values as v
 use Rattle.ckc_parser.proofs.declarators.object_rest.Goals as goal
@@ -21,5 +22,8 @@ returns-in_err-init c = record { gives = exit _ _ _ c.from_residual-in_err-init.
 pub returns : goal.returns
 returns c = record {
   gives =
-      finished _ _ _ _ _ c.declaration_of.result (λ x e. (made g.ObjectRest (c.in_ok-length.ensures.gives.0 ∷ c.in_ok-bounds.ensures.gives.0 ∷ c.in_ok-init.ensures.gives.0 ∷ []), by_rule g.ObjectRest refl refl refl (also c.in_ok-length.ensures.gives.1 (also c.in_ok-bounds.ensures.gives.1 c.in_ok-init.ensures.gives.1)), same3 (λ z w u. v.declared c.args.ctype (spelled c.args.name) z w u) c.in_ok-length.ensures.gives.2 c.in_ok-bounds.ensures.gives.2 c.in_ok-init.ensures.gives.2 ∙ e)) c.declaration_of.ensures;
+      let n = c.in_ok-length.ensures.gives in
+      let l = c.in_ok-bounds.ensures.gives in
+      let i = c.in_ok-init.ensures.gives in
+      finished _ _ _ _ _ c.put_static.result (λ x e. (made g.ObjectRest (n.0 ∷ l.0 ∷ i.0 ∷ []), by_rule g.ObjectRest refl refl refl (also n.1 (also l.1 i.1)), same3 (λ z w u. c.args.all.now ++ item.Static (v.declared c.args.ctype (spelled c.args.name) z w u) ∷ []) n.2 l.2 i.2 ∙ e)) c.put_static.ensures;
 }

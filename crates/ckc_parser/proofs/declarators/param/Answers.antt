@@ -12,5 +12,5 @@ returns-in_err-base c = record { gives = exit _ _ _ c.from_residual.ensures.1 c.
 pub returns : goal.returns
 returns c = record {
   gives =
-      turned _ _ _ _ _ _ _ c.slot.result (λ x h. (made g.Param (v.type_tree c.in_ok-base.base ∷ h.0 ∷ []), by_rule g.Param refl refl refl (also c.in_ok-base.ensures.parses h.1), h.2)) (λ d. stop_rule g.Param refl (then_stops c.in_ok-base.ensures.parses (d))) c.slot.ensures.gives;
+      turned _ _ _ _ _ _ _ c.slot.result (λ x h. (made g.Param (v.type_tree c.in_ok-base.base ∷ h.0 ∷ []), by_rule g.Param refl refl refl (also c.in_ok-base.ensures.parses h.1), h.2)) (λ d. stop_rule g.Param refl (then_stops c.in_ok-base.ensures.parses d)) c.slot.ensures.gives;
 }

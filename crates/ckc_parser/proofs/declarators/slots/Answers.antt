@@ -1,45 +1,33 @@
-use Rattle.std.proofs.Common.{◌≡◌, refl, sym, ap, ◌∙◌, ◌∷◌, [], ◌++◌, append-nil}
-use Rattle.ckc_syntax.specs.Spelled.{spelled}
+use Rattle.std.proofs.Common.{refl, ap, ◌∷◌, []}
 use Rattle.ckc_grammar.specs.Grammar.{k}
 use Rattle.ckc_grammar.specs.Marked.{ahead}
 use Rattle.ckc_grammar.specs.Reading.{pick, kind_of}
 use Rattle.ckc_grammar.proofs.Steps.{also, then_stops, here_stops}
-use Rattle.ckc_expressions.proofs.Exits.{exit}
+use Rattle.ckc_grammar.proofs.Defaults.{usual}
 use Rattle.ckc_grammar.proofs.Shrinks.{fewer}
-use Rattle.ckc_grammar.proofs.Onward.{at_start, one_turn, last_turn, stop_turn}
-use Rattle.ckc_grammar.proofs.Lists.{next_item}
+use Rattle.ckc_parser.proofs.Putting.{put_start, put_turn, put_stop, put_end}
 use Rattle.ckc_grammar.specs.declared.kind.Kind.TheVariants as kind
+use Rattle.ckc_expressions.proofs.Exits.{exit}
 use Rattle.ckc_grammar.specs.Grammar as g
 use Rattle.ckc_grammar.specs.Values as v
-use Rattle.ckc_grammar.proofs.Defaults.{usual}
 use Rattle.ckc_parser.proofs.declarators.slots.Goals as goal
 
 pub list-init : goal.list-init
-list-init c = record {
-  onward = at_start (λ y z. (c.args.first ∷ []) ++ v.as_decls_of_base z c.args.base.now ≡ c.in_ok-all.all ++ v.as_decls_of_base y c.args.base.now) _ _ (λ y. ap (λ z. z ++ v.as_decls_of_base y c.args.base.now) (sym (c.in_ok-all.ensures ∙ ap (λ z. z ∷ []) c.into_inner.ensures)));
-}
+list-init c = record { onward = put_start (λ y. v.as_decls_of_base y c.args.base.now) _ _ _ }
 
-pub returns-in_err-comma : goal.returns-in_err-comma
-returns-in_err-comma c = record { gives = exit _ _ _ c.from_residual-in_err-comma.ensures.1 c.in_err-comma.ensures.parses (λ d. stop_turn (λ y z. (c.args.first ∷ []) ++ v.as_decls_of_base z c.args.base.now ≡ c.list.all ++ v.as_decls_of_base y c.args.base.now) g.slots g.MoreSlots _ _ _ (ap (λ k. pick g.slots k) (sym c.in-Comma.ensures)) (here_stops _ d) c.list.invariant.onward) }
-
-pub returns-in_err-item : goal.returns-in_err-item
-returns-in_err-item c = record { gives = exit _ _ _ c.from_residual-in_err-item.ensures.1 c.in_err-item.ensures.gives (λ d. stop_turn (λ y z. (c.args.first ∷ []) ++ v.as_decls_of_base z c.args.base.now ≡ c.list.all ++ v.as_decls_of_base y c.args.base.now) g.slots g.MoreSlots _ _ _ (ap (λ k. pick g.slots k) (sym c.in-Comma.ensures)) (then_stops c.in_ok-comma.ensures.parses (here_stops _ d)) c.list.invariant.onward) }
+pub returns-in_err-slot : goal.returns-in_err-slot
+returns-in_err-slot c = record { gives = exit _ _ _ c.from_residual.ensures.1 c.in_err-slot.ensures.gives (λ d. put_stop (λ y. v.as_decls_of_base y c.args.base.now) g.slots g.MoreSlots _ _ _ _ _ (ap (λ k. pick g.slots k) c.list-test.ensures.next) (then_stops c.list-test.ensures.taken.1 (here_stops _ d)) c.list.invariant.onward) }
 
 pub list-preserved : goal.list-preserved
 list-preserved c = record {
-  onward = one_turn (λ y z. (c.args.first ∷ []) ++ v.as_decls_of_base z c.args.base.now ≡ c.list.all ++ v.as_decls_of_base y c.args.base.now) (λ y z. (c.args.first ∷ []) ++ v.as_decls_of_base z c.args.base.now ≡ c.push.new.self ++ v.as_decls_of_base y c.args.base.now) g.slots g.MoreSlots (k kind.Comma ∷ g.n g.slot ∷ []) _ _ _ (v.token (spelled c.in_ok-comma.comma) ∷ c.in_ok-item.ensures.gives.0 ∷ []) refl (ap (λ k. pick g.slots k) (sym c.in-Comma.ensures)) (λ k. refl)
-      (also c.in_ok-comma.ensures.parses c.in_ok-item.ensures.gives.1) (λ y z e. next_item c.list.all c.push.new.self _ _ _ _ e (c.in_ok-item.ensures.gives.2 ∙ sym c.into_inner-in-Comma.ensures) c.in_ok-push.ensures.ok) c.list.invariant.onward;
-}
-
-pub returns-in_err-end : goal.returns-in_err-end
-returns-in_err-end c = record { gives = exit _ _ _ c.from_residual-in_err-end.ensures.1 c.in_err-end.ensures.parses (λ d. stop_turn (λ y z. (c.args.first ∷ []) ++ v.as_decls_of_base z c.args.base.now ≡ c.list.all ++ v.as_decls_of_base y c.args.base.now) g.slots g.NoSlots _ _ _ (usual g.slots (kind_of (ahead c.list.reader)) (λ e. c.in_default.not-Comma (c.kind.ensures ∙ e))) d c.list.invariant.onward) }
-
-pub returns : goal.returns
-returns c = record {
-  gives =
-      let t = last_turn (λ y z. (c.args.first ∷ []) ++ v.as_decls_of_base z c.args.base.now ≡ c.list.all ++ v.as_decls_of_base y c.args.base.now) g.slots g.NoSlots _ _ _ (v.token (spelled c.in_ok-end.end) ∷ []) (usual g.slots (kind_of (ahead c.list.reader)) (λ e. c.in_default.not-Comma (c.kind.ensures ∙ e))) (λ k. refl) c.in_ok-end.ensures.parses c.list.invariant.onward in
-      (t.0, t.1, t.2 ∙ append-nil c.list.all);
+  onward =
+      let t = c.list-test.ensures.taken in
+      let i = c.in_ok-slot.ensures.gives in
+      put_turn (λ y. v.as_decls_of_base y c.args.base.now) g.slots g.MoreSlots (k kind.Comma ∷ g.n g.slot ∷ []) _ _ _ (v.as_decl_of_base i.0 c.args.base.now ∷ []) _ _ _ (t.0 ∷ i.0 ∷ []) refl (ap (λ k. pick g.slots k) c.list-test.ensures.next) (λ k. refl) (also t.1 i.1) (λ y. refl) i.2 c.list.invariant.onward;
 }
 
 pub list-smaller : goal.list-smaller
-list-smaller c = fewer c.list.reader c.slot.new.reader (also c.in_ok-comma.ensures.parses c.in_ok-item.ensures.gives.1) refl
+list-smaller c = fewer c.list.reader c.slot.new.reader (also c.list-test.ensures.taken.1 c.in_ok-slot.ensures.gives.1) refl
+
+pub returns : goal.returns
+returns c = record { gives = put_end (λ y. v.as_decls_of_base y c.args.base.now) g.slots g.NoSlots _ _ _ _ _ _ c.skip.result c.list-test.ensures.kept (usual g.slots (kind_of (ahead c.list.reader)) c.list-test.ensures.other) (λ k. refl) (λ y. refl) c.list.invariant.onward c.skip.ensures.tells }

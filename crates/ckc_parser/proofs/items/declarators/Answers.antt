@@ -1,21 +1,20 @@
-use Rattle.std.proofs.Common.{refl, sym, ap, ◌∙◌, ◌∷◌, [], ◌++◌}
+use Rattle.std.proofs.Common.{refl, ap, ◌∙◌, ◌∷◌, [], ◌++◌}
 use Rattle.ckc_syntax.specs.Spelled.{spelled}
 use Rattle.ckc_grammar.specs.Values.{made}
-use Rattle.ckc_grammar.proofs.Steps.{also, then_stops, here_stops, by_rule, stop_rule, turned}
+use Rattle.ckc_grammar.proofs.Steps.{also_all, then_all, here_all, by_rule, stop_rule, turned}
 use Rattle.ckc_expressions.proofs.Exits.{exit}
 use Rattle.ckc_grammar.specs.Grammar as g
 use Rattle.ckc_grammar.specs.Values as v
-use Rattle.ckc_grammar.specs.Trees as trees
 use Rattle.ckc_parser.proofs.items.declarators.Goals as goal
 
-pub returns-in_err-ctype : goal.returns-in_err-ctype
-returns-in_err-ctype c = record { gives = exit _ _ _ c.from_residual-in_err-ctype.ensures.1 c.in_err-ctype.ensures.gives (λ d. stop_rule g.Declarators refl (here_stops _ d)) }
-
-pub returns-in_err-name : goal.returns-in_err-name
-returns-in_err-name c = record { gives = exit _ _ _ c.from_residual-in_err-name.ensures.1 c.in_err-name.ensures.parses (λ d. stop_rule g.Declarators refl (then_stops c.in_ok-ctype.ensures.gives.1 (here_stops _ d))) }
+pub returns-in_err-named : goal.returns-in_err-named
+returns-in_err-named c = record { gives = exit _ _ _ c.from_residual.ensures.1 c.in_err-named.ensures.reads (λ d. stop_rule g.Declarators refl (here_all _ d)) }
 
 pub returns : goal.returns
 returns c = record {
   gives =
-      turned _ _ _ _ _ _ _ c.declarator.result (λ x h. (made g.Declarators (c.in_ok-ctype.ensures.gives.0 ∷ v.token (spelled c.in_ok-name.name) ∷ h.0 ∷ []), by_rule g.Declarators refl refl refl (also c.in_ok-ctype.ensures.gives.1 (also c.in_ok-name.ensures.parses h.1)), ap (λ z. c.args.all.now ++ v.as_items_of_declarator h.0 c.args.base z (spelled c.in_ok-name.name)) (ap (λ z. trees.starred z (v.as_stars c.in_ok-ctype.ensures.gives.0)) (sym (c.in_ok-copy.ensures ∙ c.get.ensures)) ∙ c.in_ok-ctype.ensures.gives.2) ∙ h.2)) (λ d. stop_rule g.Declarators refl (then_stops c.in_ok-ctype.ensures.gives.1 (then_stops c.in_ok-name.ensures.parses (d)))) c.declarator.ensures.gives;
+      let s = c.in_ok-named.ensures.reads in
+      let name = spelled c.in_ok-named.named.1 in
+      turned _ _ _ _ _ _ _ c.declarator.result (λ x h. (made g.Declarators (s.0 ∷ v.token name ∷ h.0 ∷ []), by_rule g.Declarators refl refl refl (also_all s.1 h.1), ap (λ z. c.args.all.now ++ v.as_items_of_declarator h.0 c.args.base z name) s.2 ∙ h.2))
+      (λ d. stop_rule g.Declarators refl (then_all s.1 d)) c.declarator.ensures.gives;
 }

@@ -1,18 +1,20 @@
-use Rattle.std.proofs.Common.{◌≡◌, refl, sym, ap, ◌∙◌, ◌∷◌, [], ◌++◌, arith, append-nil}
+use Rattle.std.proofs.Common.{◌≡◌, false, not, refl, sym, ap, ◌∙◌, ◌∷◌, [], ◌++◌, arith}
 use Rattle.std.specs.Prelude.{Some}
 use Rattle.ckc_syntax.specs.Spelled.{spelled}
 use Rattle.ckc_grammar.specs.Values.{made}
-use Rattle.ckc_grammar.specs.Grammar.{k}
+use Rattle.ckc_grammar.specs.Grammar.{right}
 use Rattle.ckc_grammar.specs.Marked.{ahead}
 use Rattle.ckc_grammar.specs.Forms.{begins_type}
 use Rattle.ckc_grammar.specs.Reading.{pick, kind_of, done}
 use Rattle.ckc_grammar.proofs.Steps.{also, also_all, then_stops, then_all, here_stops, here_all, chosen_as, by_rule, stop_rule, turned}
 use Rattle.ckc_expressions.proofs.Exits.{exit}
 use Rattle.ckc_parser.proofs.Making.{finished, no_room}
-use Rattle.ckc_parser.proofs.Putting.{behind}
-use Rattle.ckc_grammar.proofs.Onward.{at_start, one_turn, last_turn, stop_turn}
+use Rattle.ckc_parser.proofs.Putting.{put_start, put_turn, put_stop, put_last, takes_from, stops_from}
+use Rattle.ckc_grammar.proofs.Decided.{remains}
 use Rattle.ckc_grammar.proofs.Shrinks.{fewer}
-use Rattle.ckc_grammar.proofs.Lists.{same2, next_item}
+use Rattle.ckc_grammar.proofs.Lists.{same2}
+use Rattle.ckc_grammar.specs.declared.kind.Kind.{Kind}
+use Rattle.ckc_grammar.specs.declared.kind.Kind.TheVariants as kind
 use Rattle.ckc_syntax.specs.declared.tree.Act.TheVariants as act
 use Rattle.ckc_grammar.specs.Grammar as g
 use Rattle.ckc_grammar.specs.Values as v
@@ -139,18 +141,19 @@ if_stmt-returns-clause-reads t c =
     let marks = c.in_ok-condition.ensures.tells.0 in
     finished _ _ _ _ _ c.statement_at.result (λ x e. (v.token (spelled c.in_ok-mark.mark) ∷ marks.0 ∷ v.expr c.in_ok-condition.condition ∷ marks.1 ∷ c.in_ok-body.ensures.gives.0 ∷ c.in_ok-other.ensures.gives.0 ∷ [], also c.in_ok-mark.ensures.parses (also_all c.in_ok-condition.ensures.tells.1 (also c.in_ok-body.ensures.gives.1 c.in_ok-other.ensures.gives.1)), same2 (λ z w. trees.stmt_at (act.If c.in_ok-condition.condition z w) c.in_ok-mark.mark.pos) c.in_ok-body.ensures.gives.2 c.in_ok-other.ensures.gives.2 ∙ e)) c.statement_at.ensures
 
-pub otherwise-returns-in_err-mark-clause-gives : goal.otherwise-returns-in_err-mark-clause-gives
-otherwise-returns-in_err-mark-clause-gives t c = exit _ _ _ c.from_residual.ensures.1 c.in_err-mark.ensures.parses (λ d. stop_rule g.Else (ap (λ k. pick g.otherwise k) (sym c.in-Else.ensures)) (here_stops _ d))
-
 pub otherwise-returns-in_err-body-clause-gives : goal.otherwise-returns-in_err-body-clause-gives
-otherwise-returns-in_err-body-clause-gives t c = exit _ _ _ c.from_residual-in_err-body.ensures.1 c.in_err-body.ensures.gives (λ d. stop_rule g.Else (ap (λ k. pick g.otherwise k) (sym c.in-Else.ensures)) (then_stops c.in_ok-mark.ensures.parses d))
+otherwise-returns-in_err-body-clause-gives t c = exit _ _ _ c.from_residual.ensures.1 c.in_err-body.ensures.gives (λ d. stop_rule g.Else (ap (λ k. pick g.otherwise k) c.if-eats.ensures.next) (then_stops c.if-eats.ensures.taken.1 d))
 
-pub otherwise-returns-in-Else-clause-gives : goal.otherwise-returns-in-Else-clause-gives
-otherwise-returns-in-Else-clause-gives t c =
-    (made g.Else (v.token (spelled c.in_ok-mark.mark) ∷ c.in_ok-body.ensures.gives.0 ∷ []), by_rule g.Else (ap (λ k. pick g.otherwise k) (sym c.in-Else.ensures)) refl refl (also c.in_ok-mark.ensures.parses c.in_ok-body.ensures.gives.1), ap (λ z. Some z) c.in_ok-body.ensures.gives.2)
+pub otherwise-returns-then-eats-clause-gives : goal.otherwise-returns-then-eats-clause-gives
+otherwise-returns-then-eats-clause-gives t c =
+    let e = c.if-eats.ensures.taken in
+    let b = c.in_ok-body.ensures.gives in
+    (made g.Else (e.0 ∷ b.0 ∷ []), by_rule g.Else (ap (λ k. pick g.otherwise k) c.if-eats.ensures.next) refl refl (also e.1 b.1), ap (λ z. Some z) b.2)
 
 pub otherwise-returns-clause-gives : goal.otherwise-returns-clause-gives
-otherwise-returns-clause-gives t c = (made g.NoElse [], by_rule g.NoElse (usual g.otherwise (kind_of (ahead c.args.reader.now)) (λ e. c.in_default.not-Else (c.kind.ensures ∙ e))) (o.is_not_else (kind_of (ahead c.args.reader.now)) (λ e. c.in_default.not-Else (c.kind.ensures ∙ e))) refl (done refl), refl)
+otherwise-returns-clause-gives t c =
+    let k = kind_of (ahead c.args.reader.now) in
+    (made g.NoElse [], by_rule g.NoElse (usual g.otherwise k c.if-eats.ensures.other) (ap (λ x. g.not_else (kind_of x)) c.if-eats.ensures.kept ∙ o.is_not_else k c.if-eats.ensures.other) refl (done (sym c.if-eats.ensures.kept)), refl)
 
 pub while_stmt-returns-in_err-mark-clause-reads : goal.while_stmt-returns-in_err-mark-clause-reads
 while_stmt-returns-in_err-mark-clause-reads t c = exit _ _ _ c.from_residual.ensures.1 c.in_err-mark.ensures.parses (λ d. here_stops _ d)
@@ -188,57 +191,63 @@ pub for_stmt-returns-clause-reads : goal.for_stmt-returns-clause-reads
 for_stmt-returns-clause-reads t c =
     finished _ _ _ _ _ c.statement_at.result (λ x e. (v.token (spelled c.in_ok-mark.mark) ∷ v.token (spelled c.in_ok-open.open) ∷ c.in_ok-start.ensures.gives.0 ∷ c.in_ok-condition.ensures.gives.0 ∷ c.in_ok-step.ensures.gives.0 ∷ c.in_ok-body.ensures.gives.0 ∷ [], (also c.in_ok-mark.ensures.parses (also c.in_ok-open.ensures.parses (also c.in_ok-start.ensures.gives.1 (also c.in_ok-condition.ensures.gives.1 (also c.in_ok-step.ensures.gives.1 c.in_ok-body.ensures.gives.1))))), same2 (λ z w. trees.stmt_at (act.For z w (v.as_part c.in_ok-step.ensures.gives.0) (v.as_stmt c.in_ok-body.ensures.gives.0)) c.in_ok-mark.mark.pos) c.in_ok-start.ensures.gives.2 c.in_ok-condition.ensures.gives.2 ∙ same2 (λ z w. trees.stmt_at (act.For c.in_ok-start.start c.in_ok-condition.condition z w) c.in_ok-mark.mark.pos) c.in_ok-step.ensures.gives.2 c.in_ok-body.ensures.gives.2 ∙ e)) c.statement_at.ensures
 
+-- a statement is next where no type and no end is
+goes_on : (c : Kind) → begins_type c ≡ false → (c ≡ kind.CurlyClose → ⊥) → pick g.block_items c ≡ Some g.Stmts
+goes_on c h = remains (λ k. not (begins_type k)) (kind.CurlyClose ∷ []) g.block_items g.Stmts refl c (ap (λ b. not b) h)
+
 pub block_items-list-init : goal.block_items-list-init
-block_items-list-init t c = record { onward = at_start (λ y z. c.args.all.now ++ v.as_stmts z ≡ c.args.all.now ++ v.as_stmts y) _ _ (λ y. refl); fewer = omega arith }
+block_items-list-init t c = record { onward = put_start (λ y. v.as_stmts y) _ _ _; fewer = omega arith }
 
 pub block_items-returns-in_err-locals-clause-gives : goal.block_items-returns-in_err-locals-clause-gives
-block_items-returns-in_err-locals-clause-gives t c = exit _ _ _ c.from_residual.ensures.1 c.in_err-locals.ensures.gives (λ d. stop_turn (λ y z. c.args.all.now ++ v.as_stmts z ≡ c.list.all ++ v.as_stmts y) g.block_items g.Locals _ _ _ (o.at_type (kind_of (ahead c.list.reader)) (ap begins_type (sym c.kind.ensures) ∙ sym c.begins_type.ensures ∙ c.if-begins_type.true)).1 (here_stops _ d) c.list.invariant.onward)
+block_items-returns-in_err-locals-clause-gives t c = exit _ _ _ c.from_residual.ensures.1 c.in_err-locals.ensures.gives (λ d. put_stop (λ y. v.as_stmts y) g.block_items g.Locals _ _ _ _ _ (o.at_type (kind_of (ahead c.list.reader)) (ap (λ x. begins_type (kind_of x)) (sym c.list-test.ensures.kept) ∙ ap begins_type (sym c.kind.ensures) ∙ sym c.begins_type.ensures ∙ c.if-begins_type.true)).1 (stops_from c.list-test.ensures.kept (here_stops _ d)) c.list.invariant.onward)
 
 pub block_items-returns-in_err-item-clause-gives : goal.block_items-returns-in_err-item-clause-gives
-block_items-returns-in_err-item-clause-gives t c = exit _ _ _ c.from_residual-in_err-item.ensures.1 c.in_err-item.ensures.gives (λ d. stop_turn (λ y z. c.args.all.now ++ v.as_stmts z ≡ c.list.all ++ v.as_stmts y) g.block_items g.Stmts _ _ _ (o.no_item (kind_of (ahead c.list.reader)) (sym c.closes.ensures ∙ c.list-test.true) (ap begins_type (sym c.kind.ensures) ∙ sym c.begins_type.ensures ∙ c.if-begins_type.false)) (here_stops _ d) c.list.invariant.onward)
+block_items-returns-in_err-item-clause-gives t c = exit _ _ _ c.from_residual-in_err-item.ensures.1 c.in_err-item.ensures.gives (λ d. put_stop (λ y. v.as_stmts y) g.block_items g.Stmts _ _ _ _ _ (goes_on (kind_of (ahead c.list.reader)) (ap (λ x. begins_type (kind_of x)) (sym c.list-test.ensures.kept) ∙ ap begins_type (sym c.kind.ensures) ∙ sym c.begins_type.ensures ∙ c.if-begins_type.false) c.list-test.ensures.other) (stops_from c.list-test.ensures.kept (here_stops _ d)) c.list.invariant.onward)
 
 pub block_items-returns-in_err-put_statement-clause-gives : goal.block_items-returns-in_err-put_statement-clause-gives
 block_items-returns-in_err-put_statement-clause-gives t c = no_room _ _ _ _ _ _ c.from_residual-in_err-put_statement.ensures.1 c.in_err-put_statement.ensures
-
-pub block_items-returns-in_err-end-clause-gives : goal.block_items-returns-in_err-end-clause-gives
-block_items-returns-in_err-end-clause-gives t c = exit _ _ _ c.from_residual-in_err-end.ensures.1 c.in_err-end.ensures.parses (λ d. stop_turn (λ y z. c.args.all.now ++ v.as_stmts z ≡ c.list.all ++ v.as_stmts y) g.block_items g.EndBlock _ _ _ (o.at_close (kind_of (ahead c.list.reader)) (sym c.closes.ensures ∙ c.list-test.false)).0 d c.list.invariant.onward)
 
 pub block_items-list-preserved-then-begins_type : goal.block_items-list-preserved-then-begins_type
 block_items-list-preserved-then-begins_type t c = record {
   onward =
       let l = c.in_ok-locals.ensures.gives in
-      one_turn (λ y z. c.args.all.now ++ v.as_stmts z ≡ c.list.all ++ v.as_stmts y) (λ y z. c.args.all.now ++ v.as_stmts z ≡ c.locals.new.all ++ v.as_stmts y) g.block_items g.Locals (g.n g.locals ∷ []) _ _ _ (l.0 ∷ []) refl (o.at_type (kind_of (ahead c.list.reader)) (ap begins_type (sym c.kind.ensures) ∙ sym c.begins_type.ensures ∙ c.if-begins_type.true)).1 (λ k. refl) l.1 (λ y z e. e ∙ behind c.list.all _ (trees.locals (v.as_decls l.0)) (v.as_stmts y) l.2) c.list.invariant.onward;
-  fewer = omega (arith, c.list.invariant.fewer, c.in_ok-locals.ensures.fewer);
+      put_turn (λ y. v.as_stmts y) g.block_items g.Locals (g.n g.locals ∷ []) _ _ _ (trees.locals (v.as_decls l.0)) _ _ _ (l.0 ∷ []) refl (o.at_type (kind_of (ahead c.list.reader)) (ap (λ x. begins_type (kind_of x)) (sym c.list-test.ensures.kept) ∙ ap begins_type (sym c.kind.ensures) ∙ sym c.begins_type.ensures ∙ c.if-begins_type.true)).1 (λ k. refl)
+      (takes_from c.list-test.ensures.kept l.1) (λ y. refl) l.2 c.list.invariant.onward;
+  fewer = omega (arith, c.list.invariant.fewer, c.list-test.ensures.fewer, c.in_ok-locals.ensures.fewer);
 }
 
 pub block_items-list-smaller-then-begins_type : goal.block_items-list-smaller-then-begins_type
-block_items-list-smaller-then-begins_type t c = fewer c.list.reader c.locals.new.reader c.in_ok-locals.ensures.gives.1 refl
+block_items-list-smaller-then-begins_type t c =
+    let h = fewer c.eats.new.self c.locals.new.reader c.in_ok-locals.ensures.gives.1 refl in
+    omega (arith, h, c.list-test.ensures.fewer)
 
 pub block_items-list-preserved : goal.block_items-list-preserved
 block_items-list-preserved t c = record {
-  onward = one_turn (λ y z. c.args.all.now ++ v.as_stmts z ≡ c.list.all ++ v.as_stmts y) (λ y z. c.args.all.now ++ v.as_stmts z ≡ c.put_statement.new.all ++ v.as_stmts y) g.block_items g.Stmts (g.n g.stmt ∷ []) _ _ _ (c.in_ok-item.ensures.gives.0 ∷ []) refl (o.no_item (kind_of (ahead c.list.reader)) (sym c.closes.ensures ∙ c.list-test.true) (ap begins_type (sym c.kind.ensures) ∙ sym c.begins_type.ensures ∙ c.if-begins_type.false)) (λ k. refl) c.in_ok-item.ensures.gives.1 (λ y z e. next_item c.list.all c.put_statement.new.all _ _ _ _ e c.in_ok-item.ensures.gives.2 (sym c.in_ok-put_statement.ensures)) c.list.invariant.onward;
-  fewer = omega (arith, c.list.invariant.fewer, c.in_ok-item.ensures.fewer);
+  onward =
+      let s = c.in_ok-item.ensures.gives in
+      put_turn (λ y. v.as_stmts y) g.block_items g.Stmts (g.n g.stmt ∷ []) _ _ _ (v.as_stmt s.0 ∷ []) _ _ _ (s.0 ∷ []) refl (goes_on (kind_of (ahead c.list.reader)) (ap (λ x. begins_type (kind_of x)) (sym c.list-test.ensures.kept) ∙ ap begins_type (sym c.kind.ensures) ∙ sym c.begins_type.ensures ∙ c.if-begins_type.false) c.list-test.ensures.other) (λ k. refl)
+      (takes_from c.list-test.ensures.kept s.1) (λ y. refl) (ap (λ z. c.list.all ++ z ∷ []) s.2 ∙ c.in_ok-put_statement.ensures) c.list.invariant.onward;
+  fewer = omega (arith, c.list.invariant.fewer, c.list-test.ensures.fewer, c.in_ok-item.ensures.fewer);
 }
 
 pub block_items-list-smaller : goal.block_items-list-smaller
-block_items-list-smaller t c = fewer c.list.reader c.stmt.new.reader c.in_ok-item.ensures.gives.1 refl
+block_items-list-smaller t c =
+    let h = fewer c.eats.new.self c.stmt.new.reader c.in_ok-item.ensures.gives.1 refl in
+    omega (arith, h, c.list-test.ensures.fewer)
 
 pub block_items-returns-clause-gives : goal.block_items-returns-clause-gives
 block_items-returns-clause-gives t c =
-    let x = last_turn (λ y z. c.args.all.now ++ v.as_stmts z ≡ c.list.all ++ v.as_stmts y) g.block_items g.EndBlock _ _ _ (v.token (spelled c.in_ok-end.end) ∷ []) (o.at_close (kind_of (ahead c.list.reader)) (sym c.closes.ensures ∙ c.list-test.false)).0 (λ k. refl) c.in_ok-end.ensures.parses c.list.invariant.onward in
-    (x.0, x.1, x.2 ∙ append-nil c.list.all)
+    let e = c.list-test.ensures.taken in
+    put_last (λ y. v.as_stmts y) g.block_items g.EndBlock _ _ _ _ _ (e.0 ∷ []) (ap (λ k. pick g.block_items k) c.list-test.ensures.next) (λ k. refl) refl e.1 c.list.invariant.onward
 
 pub block_items-returns-in_err-locals-clause-fewer : goal.block_items-returns-in_err-locals-clause-fewer
-block_items-returns-in_err-locals-clause-fewer t c = omega (arith, c.in_err-locals.ensures.fewer, c.list.invariant.fewer)
+block_items-returns-in_err-locals-clause-fewer t c = omega (arith, c.in_err-locals.ensures.fewer, c.list-test.ensures.fewer, c.list.invariant.fewer)
 
 pub block_items-returns-in_err-item-clause-fewer : goal.block_items-returns-in_err-item-clause-fewer
-block_items-returns-in_err-item-clause-fewer t c = omega (arith, c.in_err-item.ensures.fewer, c.list.invariant.fewer)
+block_items-returns-in_err-item-clause-fewer t c = omega (arith, c.in_err-item.ensures.fewer, c.list-test.ensures.fewer, c.list.invariant.fewer)
 
 pub block_items-returns-in_err-put_statement-clause-fewer : goal.block_items-returns-in_err-put_statement-clause-fewer
-block_items-returns-in_err-put_statement-clause-fewer t c = omega (arith, c.in_ok-item.ensures.fewer, c.list.invariant.fewer)
-
-pub block_items-returns-in_err-end-clause-fewer : goal.block_items-returns-in_err-end-clause-fewer
-block_items-returns-in_err-end-clause-fewer t c = omega (arith, c.in_err-end.ensures.fewer, c.list.invariant.fewer)
+block_items-returns-in_err-put_statement-clause-fewer t c = omega (arith, c.in_ok-item.ensures.fewer, c.list-test.ensures.fewer, c.list.invariant.fewer)
 
 pub block_items-returns-clause-fewer : goal.block_items-returns-clause-fewer
-block_items-returns-clause-fewer t c = omega (arith, c.in_ok-end.ensures.fewer, c.list.invariant.fewer)
+block_items-returns-clause-fewer t c = omega (arith, c.list-test.ensures.fewer, c.list.invariant.fewer)

@@ -1,14 +1,13 @@
-use Rattle.std.proofs.Common.{◌≡◌, ◌≤◌, ◌+◌, ◌*◌, ◌++◌}
-use Rattle.ckc_grammar.specs.Grammar.{n}
+use Rattle.std.proofs.Common.{◌≤◌, ◌+◌, ◌*◌}
 use Rattle.ckc_grammar.specs.Grammar as g
 use Rattle.ckc_grammar.specs.Values as v
 use Rattle.ckc_grammar.specs.Marked.{ahead, remaining}
-use Rattle.ckc_grammar.proofs.Onward.{Onward}
+use Rattle.ckc_parser.proofs.Putting.{Putting}
 use Rattle.ckc_parser.proofs.statements.+stmt.Given as goal
 
 abbrev pub invariant-block_items-list : goal.invariant-block_items-list
 invariant-block_items-list l = record {
-  onward : Onward (λ y z. l.fn.all ++ v.as_stmts z ≡ l.all ++ v.as_stmts y) (n g.block_items) (ahead l.fn.reader) (ahead l.reader);
+  onward : Putting (λ y. v.as_stmts y) g.block_items l.fn.all (ahead l.fn.reader) l.all (ahead l.reader);
   fewer : remaining l.reader ≤ remaining l.fn.reader;
 }
 
@@ -31,7 +30,7 @@ abbrev pub decreases-if_stmt : goal.decreases-if_stmt
 decreases-if_stmt l = 4 * remaining l.reader.now + 1
 
 abbrev pub decreases-otherwise : goal.decreases-otherwise
-decreases-otherwise l = 4 * remaining l.reader.now + 2
+decreases-otherwise l = 4 * remaining l.reader.now + 3
 
 abbrev pub decreases-while_stmt : goal.decreases-while_stmt
 decreases-while_stmt l = 4 * remaining l.reader.now + 1

@@ -1,13 +1,14 @@
 use Rattle.std.proofs.Common.{◌≡◌, false, not, refl, sym, ap, ◌∙◌, ◌∷◌, []}
 use Rattle.std.specs.Prelude.{Some}
-use Rattle.ckc_syntax.specs.Spelled.{spelled}
 use Rattle.ckc_grammar.specs.Values.{made}
 use Rattle.ckc_grammar.specs.Forms.{begins_type}
+use Rattle.ckc_grammar.specs.Grammar.{right}
 use Rattle.ckc_grammar.specs.Marked.{ahead}
 use Rattle.ckc_grammar.specs.Reading.{pick, kind_of}
-use Rattle.ckc_grammar.proofs.Steps.{by_rule, stop_rule, chosen_as}
+use Rattle.ckc_grammar.proofs.Steps.{also, then_stops, here_stops, by_rule, stop_rule, turned}
 use Rattle.ckc_grammar.proofs.Decided.{chooses, remains}
 use Rattle.ckc_expressions.proofs.Exits.{exit}
+use Rattle.ckc_parser.proofs.Putting.{takes_from, stops_from}
 use Rattle.ckc_grammar.specs.declared.kind.Kind.{Kind}
 use Rattle.ckc_grammar.specs.declared.kind.Kind.TheVariants as kind
 use Rattle.ckc_grammar.specs.Grammar as g
@@ -17,20 +18,26 @@ use Rattle.ckc_parser.proofs.statements.for_start.Goals as goal
 assigned : (c : Kind) → begins_type c ≡ false → (c ≡ kind.Semicolon → ⊥) → pick g.for_start c ≡ Some g.AssignStart
 assigned c h = remains (λ k. not (begins_type k)) (kind.Semicolon ∷ []) g.for_start g.AssignStart refl c (ap (λ b. not b) h)
 
-pub returns-in_err-mark-clause-gives : goal.returns-in_err-mark-clause-gives
-returns-in_err-mark-clause-gives c = exit _ _ _ c.from_residual.ensures.1 c.in_err-mark.ensures.parses (λ d. stop_rule g.NoStart (ap (λ k. pick g.for_start k) (sym c.in-Semicolon.ensures)) d)
-
-pub returns-in-Semicolon-clause-gives : goal.returns-in-Semicolon-clause-gives
-returns-in-Semicolon-clause-gives c =
-    (made g.NoStart (v.token (spelled c.in_ok-mark.mark) ∷ []), by_rule g.NoStart (ap (λ k. pick g.for_start k) (sym c.in-Semicolon.ensures)) refl refl c.in_ok-mark.ensures.parses, refl)
+pub returns-then-eats-clause-gives : goal.returns-then-eats-clause-gives
+returns-then-eats-clause-gives c =
+    let t = c.if-eats.ensures.taken in
+    (made g.NoStart (t.0 ∷ []), by_rule g.NoStart (ap (λ k. pick g.for_start k) c.if-eats.ensures.next) refl refl t.1, refl)
 
 pub returns-then-begins_type-clause-gives : goal.returns-then-begins_type-clause-gives
 returns-then-begins_type-clause-gives c =
-    chosen_as (λ y. v.as_part y) (λ x vs. v.as_part (made g.LocalStart vs) ≡ x) g.for_start g.LocalStart _ _ c.local_start.result (chooses begins_type g.for_start g.LocalStart refl (kind_of (ahead c.args.reader.now)) (ap begins_type (sym c.kind-2.ensures) ∙ sym c.begins_type.ensures ∙ c.if-begins_type.true)) (λ k. refl) (λ x vs h. h) c.local_start.ensures.reads
+    let pk = chooses begins_type g.for_start g.LocalStart refl (kind_of (ahead c.args.reader.now)) (ap (λ x. begins_type (kind_of x)) (sym c.if-eats.ensures.kept) ∙ ap begins_type (sym c.kind.ensures) ∙ sym c.begins_type.ensures ∙ c.if-begins_type.true) in
+    turned _ _ _ _ _ _ _ c.local_start.result
+    (λ x h. (made g.LocalStart h.0, by_rule g.LocalStart pk refl refl (takes_from c.if-eats.ensures.kept h.1), h.2))
+    (λ d. stop_rule g.LocalStart pk (stops_from c.if-eats.ensures.kept d)) c.local_start.ensures.reads
 
 pub returns-in_err-first-clause-gives : goal.returns-in_err-first-clause-gives
-returns-in_err-first-clause-gives c = exit _ _ _ c.from_residual-in_err-first.ensures.1 c.in_err-first.ensures.reads (λ d. stop_rule g.AssignStart (assigned (kind_of (ahead c.args.reader.now)) (ap begins_type (sym c.kind-2.ensures) ∙ sym c.begins_type.ensures ∙ c.if-begins_type.false) (λ e. c.in_default.not-Semicolon (c.kind.ensures ∙ e))) d)
+returns-in_err-first-clause-gives c = exit _ _ _ c.from_residual.ensures.1 c.in_err-first.ensures.gives (λ d. stop_rule g.AssignStart (assigned (kind_of (ahead c.args.reader.now)) (ap (λ x. begins_type (kind_of x)) (sym c.if-eats.ensures.kept) ∙ ap begins_type (sym c.kind.ensures) ∙ sym c.begins_type.ensures ∙ c.if-begins_type.false) c.if-eats.ensures.other) (stops_from c.if-eats.ensures.kept (here_stops _ d)))
+
+pub returns-in_err-skip-clause-gives : goal.returns-in_err-skip-clause-gives
+returns-in_err-skip-clause-gives c = exit _ _ _ c.from_residual-in_err-skip.ensures.1 c.in_err-skip.ensures.tells (λ d. stop_rule g.AssignStart (assigned (kind_of (ahead c.args.reader.now)) (ap (λ x. begins_type (kind_of x)) (sym c.if-eats.ensures.kept) ∙ ap begins_type (sym c.kind.ensures) ∙ sym c.begins_type.ensures ∙ c.if-begins_type.false) c.if-eats.ensures.other) (stops_from c.if-eats.ensures.kept (then_stops c.in_ok-first.ensures.gives.1 d)))
 
 pub returns-clause-gives : goal.returns-clause-gives
 returns-clause-gives c =
-    (made g.AssignStart (c.in_ok-first.ensures.reads.0 ∷ c.in_ok-first.ensures.reads.1 ∷ []), by_rule g.AssignStart (assigned (kind_of (ahead c.args.reader.now)) (ap begins_type (sym c.kind-2.ensures) ∙ sym c.begins_type.ensures ∙ c.if-begins_type.false) (λ e. c.in_default.not-Semicolon (c.kind.ensures ∙ e))) refl refl c.in_ok-first.ensures.reads.2, ap (λ z. Some z) c.in_ok-first.ensures.reads.3)
+    let a = c.in_ok-first.ensures.gives in
+    let e = c.in_ok-skip.ensures.tells in
+    (made g.AssignStart (a.0 ∷ e.0 ∷ []), by_rule g.AssignStart (assigned (kind_of (ahead c.args.reader.now)) (ap (λ x. begins_type (kind_of x)) (sym c.if-eats.ensures.kept) ∙ ap begins_type (sym c.kind.ensures) ∙ sym c.begins_type.ensures ∙ c.if-begins_type.false) c.if-eats.ensures.other) refl refl (takes_from c.if-eats.ensures.kept (also a.1 e.1)), ap (λ z. Some z) a.2)

@@ -1,29 +1,29 @@
-use Rattle.std.proofs.Common.{refl, sym, ap, ◌∙◌, ◌∷◌, []}
+use Rattle.std.proofs.Common.{refl, ap, ◌∷◌, []}
 use Rattle.std.specs.Prelude.{Some}
-use Rattle.ckc_syntax.specs.Spelled.{spelled}
 use Rattle.ckc_grammar.specs.Values.{made}
+use Rattle.ckc_grammar.specs.Grammar.{right}
 use Rattle.ckc_grammar.specs.Marked.{ahead}
 use Rattle.ckc_grammar.specs.Reading.{pick, kind_of}
 use Rattle.ckc_grammar.proofs.Steps.{also, then_stops, here_stops, by_rule, stop_rule}
 use Rattle.ckc_expressions.proofs.Exits.{exit}
+use Rattle.ckc_parser.proofs.Putting.{takes_from, stops_from}
 use Rattle.ckc_grammar.proofs.Defaults.{usual}
 use Rattle.ckc_grammar.specs.Grammar as g
 use Rattle.ckc_grammar.specs.Values as v
 use Rattle.ckc_parser.proofs.statements.for_step.Goals as goal
 
-pub returns-in_err-mark-clause-gives : goal.returns-in_err-mark-clause-gives
-returns-in_err-mark-clause-gives c = exit _ _ _ c.from_residual.ensures.1 c.in_err-mark.ensures.parses (λ d. stop_rule g.NoStep (ap (λ k. pick g.for_step k) (sym c.in-RoundClose.ensures)) d)
-
-pub returns-in-RoundClose-clause-gives : goal.returns-in-RoundClose-clause-gives
-returns-in-RoundClose-clause-gives c =
-    (made g.NoStep (v.token (spelled c.in_ok-mark.mark) ∷ []), by_rule g.NoStep (ap (λ k. pick g.for_step k) (sym c.in-RoundClose.ensures)) refl refl c.in_ok-mark.ensures.parses, refl)
+pub returns-then-eats-clause-gives : goal.returns-then-eats-clause-gives
+returns-then-eats-clause-gives c =
+    let t = c.if-eats.ensures.taken in
+    (made g.NoStep (t.0 ∷ []), by_rule g.NoStep (ap (λ k. pick g.for_step k) c.if-eats.ensures.next) refl refl t.1, refl)
 
 pub returns-in_err-step-clause-gives : goal.returns-in_err-step-clause-gives
-returns-in_err-step-clause-gives c = exit _ _ _ c.from_residual-in_err-step.ensures.1 c.in_err-step.ensures.gives (λ d. stop_rule g.AssignStep (usual g.for_step (kind_of (ahead c.args.reader.now)) (λ e. c.in_default.not-RoundClose (c.kind.ensures ∙ e))) (here_stops _ d))
+returns-in_err-step-clause-gives c = exit _ _ _ c.from_residual.ensures.1 c.in_err-step.ensures.gives (λ d. stop_rule g.AssignStep (usual g.for_step (kind_of (ahead c.args.reader.now)) c.if-eats.ensures.other) (stops_from c.if-eats.ensures.kept (here_stops _ d)))
 
-pub returns-in_err-end-clause-gives : goal.returns-in_err-end-clause-gives
-returns-in_err-end-clause-gives c = exit _ _ _ c.from_residual-in_err-end.ensures.1 c.in_err-end.ensures.parses (λ d. stop_rule g.AssignStep (usual g.for_step (kind_of (ahead c.args.reader.now)) (λ e. c.in_default.not-RoundClose (c.kind.ensures ∙ e))) (then_stops c.in_ok-step.ensures.gives.1 d))
+pub returns-in_err-skip-clause-gives : goal.returns-in_err-skip-clause-gives
+returns-in_err-skip-clause-gives c = exit _ _ _ c.from_residual-in_err-skip.ensures.1 c.in_err-skip.ensures.tells (λ d. stop_rule g.AssignStep (usual g.for_step (kind_of (ahead c.args.reader.now)) c.if-eats.ensures.other) (stops_from c.if-eats.ensures.kept (then_stops c.in_ok-step.ensures.gives.1 d)))
 
 pub returns-clause-gives : goal.returns-clause-gives
 returns-clause-gives c =
-    (made g.AssignStep (c.in_ok-step.ensures.gives.0 ∷ v.token (spelled c.in_ok-end.end) ∷ []), by_rule g.AssignStep (usual g.for_step (kind_of (ahead c.args.reader.now)) (λ e. c.in_default.not-RoundClose (c.kind.ensures ∙ e))) refl refl (also c.in_ok-step.ensures.gives.1 c.in_ok-end.ensures.parses), ap (λ z. Some z) c.in_ok-step.ensures.gives.2)
+    let e = c.in_ok-skip.ensures.tells in
+    (made g.AssignStep (c.in_ok-step.ensures.gives.0 ∷ e.0 ∷ []), by_rule g.AssignStep (usual g.for_step (kind_of (ahead c.args.reader.now)) c.if-eats.ensures.other) refl refl (takes_from c.if-eats.ensures.kept (also c.in_ok-step.ensures.gives.1 e.1)), ap (λ z. Some z) c.in_ok-step.ensures.gives.2)
