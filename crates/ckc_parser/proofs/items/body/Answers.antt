@@ -9,7 +9,6 @@ use Rattle.ckc_expressions.proofs.Exits.{exit}
 use Rattle.ckc_parser.proofs.Making.{finished}
 use Rattle.ckc_grammar.proofs.Defaults.{usual}
 use Rattle.ckc_grammar.specs.Grammar as g
-use Rattle.ckc_grammar.specs.Values as v
 use Rattle.ckc_grammar.specs.Trees as trees
 use Rattle.ckc_parser.proofs.items.body.Goals as goal
 

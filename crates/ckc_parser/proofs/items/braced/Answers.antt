@@ -1,4 +1,4 @@
-use Rattle.std.proofs.Common.{◌∙◌, ◌∷◌, []}
+use Rattle.std.proofs.Common.{◌∙◌}
 use Rattle.ckc_grammar.proofs.Steps.{also, then_stops, here_stops, turned}
 use Rattle.ckc_expressions.proofs.Exits.{exit}
 use Rattle.ckc_parser.proofs.Putting.{behind}

@@ -1,4 +1,4 @@
-use Rattle.std.proofs.Common.{◌≡◌, refl, sym, ap, subst, ◌∷◌, []}
+use Rattle.std.proofs.Common.{refl, sym, ap, subst, ◌∷◌, []}
 use Rattle.ckc_grammar.specs.Values.{made}
 use Rattle.ckc_grammar.specs.Marked.{ahead}
 use Rattle.ckc_grammar.specs.Grammar.{n}

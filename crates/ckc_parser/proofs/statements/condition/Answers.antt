@@ -1,5 +1,4 @@
 use Rattle.std.proofs.Common.{refl, ap, ◌∷◌, []}
-use Rattle.std.specs.Prelude.{Some}
 use Rattle.ckc_grammar.specs.Values.{made}
 use Rattle.ckc_grammar.specs.Grammar.{right}
 use Rattle.ckc_grammar.specs.Marked.{ahead}

@@ -12,7 +12,6 @@ use Rattle.ckc_parser.proofs.Putting.{takes_from, stops_from}
 use Rattle.ckc_grammar.specs.declared.kind.Kind.{Kind}
 use Rattle.ckc_grammar.specs.declared.kind.Kind.TheVariants as kind
 use Rattle.ckc_grammar.specs.Grammar as g
-use Rattle.ckc_grammar.specs.Values as v
 use Rattle.ckc_parser.proofs.statements.for_start.Goals as goal
 
 assigned : (c : Kind) → begins_type c ≡ false → (c ≡ kind.Semicolon → ⊥) → pick g.for_start c ≡ Some g.AssignStart

@@ -9,7 +9,6 @@ use Rattle.ckc_expressions.proofs.Exits.{exit}
 use Rattle.ckc_parser.proofs.Putting.{takes_from, stops_from}
 use Rattle.ckc_grammar.proofs.Defaults.{usual}
 use Rattle.ckc_grammar.specs.Grammar as g
-use Rattle.ckc_grammar.specs.Values as v
 use Rattle.ckc_parser.proofs.statements.for_step.Goals as goal
 
 pub returns-then-eats-clause-gives : goal.returns-then-eats-clause-gives
