@@ -1,4 +1,5 @@
 pub mod Between
 pub mod Callocs
 pub mod Exits
+mod Fewer
 pub mod Postfix

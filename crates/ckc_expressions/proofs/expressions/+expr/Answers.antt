@@ -1,4 +1,4 @@
-use Rattle.std.proofs.Common.{◌≡◌, ◌∷◌, ◌∙◌, ◌++◌, [], refl, sym, ap, arith, subst}
+use Rattle.std.proofs.Common.{lit<, ◌≡◌, ◌∷◌, ◌∙◌, ◌++◌, [], refl, sym, ap, arith, subst}
 use Rattle.ckc_syntax.specs.Spelled.{spelled}
 use Rattle.ckc_syntax.specs.declared.tree.Node.TheVariants as node
 use Rattle.ckc_grammar.specs.Grammar.{k}
@@ -9,9 +9,10 @@ use Rattle.ckc_grammar.specs.Trees.{expr_at, stmt_at}
 use Rattle.ckc_grammar.specs.Trees as trees
 use Rattle.ckc_grammar.specs.Values.{Value, made}
 use Rattle.ckc_grammar.specs.Values as v
-use Rattle.ckc_grammar.specs.Marked.{ahead}
+use Rattle.ckc_grammar.specs.Marked.{ahead, remaining}
 use Rattle.ckc_grammar.proofs.Steps.{also, also_all, then_stops, then_all, here_stops, here_all, by_rule, stop_rule, no_rule, turned, chosen, chosen_as}
 use Rattle.ckc_expressions.proofs.Exits.{exit}
+use Rattle.ckc_expressions.proofs.Fewer.{taken, behind, after, under, before, stays, goes, falls}
 use Rattle.ckc_grammar.proofs.Onward.{at_start, one_turn, last_turn, stop_turn}
 use Rattle.std.proofs.Common.{append_assoc, append-nil}
 use Rattle.ckc_grammar.specs.Grammar.{is_name}
@@ -376,3 +377,439 @@ bounds-returns-then-is_unknown_alone-clause-reads t c =
 pub bounds-returns-else-is_unknown_alone-clause-reads : goal.bounds-returns-else-is_unknown_alone-clause-reads
 bounds-returns-else-is_unknown_alone-clause-reads t c =
     turned _ _ _ _ _ _ _ c.between.result (λ x h. (v.token (spelled c.in_ok-keyword.keyword) ∷ v.token (spelled c.in_ok-open.open) ∷ h.0 ∷ [], also c.in_ok-keyword.ensures.parses (also c.in_ok-open.ensures.parses h.1), ap (λ z. v.limits z) h.2)) (λ d. then_stops c.in_ok-keyword.ensures.parses (then_stops c.in_ok-open.ensures.parses d)) (c.between.ensures.gives (sym c.is_unknown_alone.ensures ∙ c.if-is_unknown_alone.false))
+
+pub expr-returns-in_err-operand-clause-fewer : goal.expr-returns-in_err-operand-clause-fewer
+expr-returns-in_err-operand-clause-fewer t c =
+    c.in_err-operand.ensures.fewer
+
+pub expr-returns-in_err-rest-clause-fewer : goal.expr-returns-in_err-rest-clause-fewer
+expr-returns-in_err-rest-clause-fewer t c =
+    after c.in_ok-operand.ensures.fewer c.in_err-rest.ensures.fewer
+
+pub expr-returns-in_err-joined-clause-fewer : goal.expr-returns-in_err-joined-clause-fewer
+expr-returns-in_err-joined-clause-fewer t c =
+    after c.in_ok-operand.ensures.fewer c.in_ok-rest.ensures.fewer
+
+pub expr-returns-clause-fewer : goal.expr-returns-clause-fewer
+expr-returns-clause-fewer t c =
+    after c.in_ok-operand.ensures.fewer c.in_ok-rest.ensures.fewer
+
+pub expr_rest-returns-in_err-steps-clause-fewer : goal.expr_rest-returns-in_err-steps-clause-fewer
+expr_rest-returns-in_err-steps-clause-fewer t c =
+    c.in_err-steps.ensures.fewer
+
+pub expr_rest-returns-in_err-arms-clause-fewer : goal.expr_rest-returns-in_err-arms-clause-fewer
+expr_rest-returns-in_err-arms-clause-fewer t c =
+    after c.in_ok-steps.ensures.fewer c.in_err-arms.ensures.fewer
+
+pub expr_rest-returns-clause-fewer : goal.expr_rest-returns-clause-fewer
+expr_rest-returns-clause-fewer t c =
+    after c.in_ok-steps.ensures.fewer c.in_ok-arms.ensures.fewer
+
+pub choice-returns-in_err-mark-clause-fewer : goal.choice-returns-in_err-mark-clause-fewer
+choice-returns-in_err-mark-clause-fewer t c =
+    c.in_err-mark.ensures.fewer
+
+pub choice-returns-in_err-yes-clause-fewer : goal.choice-returns-in_err-yes-clause-fewer
+choice-returns-in_err-yes-clause-fewer t c =
+    behind c.in_ok-mark.ensures.fewer c.in_err-yes.ensures.fewer
+
+pub choice-returns-in_err-colon-clause-fewer : goal.choice-returns-in_err-colon-clause-fewer
+choice-returns-in_err-colon-clause-fewer t c =
+    behind c.in_ok-mark.ensures.fewer (after c.in_ok-yes.ensures.fewer c.in_err-colon.ensures.fewer)
+
+pub choice-returns-in_err-no-clause-fewer : goal.choice-returns-in_err-no-clause-fewer
+choice-returns-in_err-no-clause-fewer t c =
+    behind c.in_ok-mark.ensures.fewer (after c.in_ok-yes.ensures.fewer (behind c.in_ok-colon.ensures.fewer c.in_err-no.ensures.fewer))
+
+pub choice-returns-in-Question-clause-fewer : goal.choice-returns-in-Question-clause-fewer
+choice-returns-in-Question-clause-fewer t c =
+    behind c.in_ok-mark.ensures.fewer (after c.in_ok-yes.ensures.fewer (behind c.in_ok-colon.ensures.fewer c.in_ok-no.ensures.fewer))
+
+pub unary-returns-then-is_name-clause-fewer : goal.unary-returns-then-is_name-clause-fewer
+unary-returns-then-is_name-clause-fewer t c =
+    c.named.ensures.fewer
+
+pub unary-returns-else-is_name-clause-fewer : goal.unary-returns-else-is_name-clause-fewer
+unary-returns-else-is_name-clause-fewer t c =
+    c.first.ensures.fewer
+
+pub named-returns-in_err-name-clause-fewer : goal.named-returns-in_err-name-clause-fewer
+named-returns-in_err-name-clause-fewer t c =
+    c.in_err-name.ensures.fewer
+
+pub named-returns-clause-fewer : goal.named-returns-clause-fewer
+named-returns-clause-fewer t c =
+    after c.in_ok-name.ensures.fewer c.posts.ensures.fewer
+
+pub first-returns-then-is_sign-clause-fewer : goal.first-returns-then-is_sign-clause-fewer
+first-returns-then-is_sign-clause-fewer t c =
+    c.signed.ensures.fewer
+
+pub first-returns-in-RoundOpen-clause-fewer : goal.first-returns-in-RoundOpen-clause-fewer
+first-returns-in-RoundOpen-clause-fewer t c =
+    c.round.ensures.fewer
+
+pub first-returns-in-Sizeof-clause-fewer : goal.first-returns-in-Sizeof-clause-fewer
+first-returns-in-Sizeof-clause-fewer t c =
+    c.size_of.ensures.fewer
+
+pub first-returns-in_default-clause-fewer : goal.first-returns-in_default-clause-fewer
+first-returns-in_default-clause-fewer t c =
+    c.postfix.ensures.fewer
+
+pub signed-returns-in_err-sign-clause-fewer : goal.signed-returns-in_err-sign-clause-fewer
+signed-returns-in_err-sign-clause-fewer t c =
+    c.in_err-sign.ensures.fewer
+
+pub signed-returns-in_err-operand-clause-fewer : goal.signed-returns-in_err-operand-clause-fewer
+signed-returns-in_err-operand-clause-fewer t c =
+    behind c.in_ok-sign.ensures.fewer c.in_err-operand.ensures.fewer
+
+pub signed-returns-in_err-whole-clause-fewer : goal.signed-returns-in_err-whole-clause-fewer
+signed-returns-in_err-whole-clause-fewer t c =
+    behind c.in_ok-sign.ensures.fewer c.in_ok-operand.ensures.fewer
+
+pub signed-returns-clause-fewer : goal.signed-returns-clause-fewer
+signed-returns-clause-fewer t c =
+    behind c.in_ok-sign.ensures.fewer c.in_ok-operand.ensures.fewer
+
+pub round-returns-in_err-mark-clause-fewer : goal.round-returns-in_err-mark-clause-fewer
+round-returns-in_err-mark-clause-fewer t c =
+    c.in_err-mark.ensures.fewer
+
+pub round-returns-then-begins_type-clause-fewer : goal.round-returns-then-begins_type-clause-fewer
+round-returns-then-begins_type-clause-fewer t c =
+    behind c.in_ok-mark.ensures.fewer c.cast.ensures.fewer
+
+pub round-returns-else-begins_type-clause-fewer : goal.round-returns-else-begins_type-clause-fewer
+round-returns-else-begins_type-clause-fewer t c =
+    behind c.in_ok-mark.ensures.fewer c.paren.ensures.fewer
+
+pub cast-returns-in_err-ctype-clause-fewer : goal.cast-returns-in_err-ctype-clause-fewer
+cast-returns-in_err-ctype-clause-fewer t c =
+    c.in_err-ctype.ensures.fewer
+
+pub cast-returns-in_err-close-clause-fewer : goal.cast-returns-in_err-close-clause-fewer
+cast-returns-in_err-close-clause-fewer t c =
+    after c.in_ok-ctype.ensures.fewer c.in_err-close.ensures.fewer
+
+pub cast-returns-in_err-operand-clause-fewer : goal.cast-returns-in_err-operand-clause-fewer
+cast-returns-in_err-operand-clause-fewer t c =
+    after c.in_ok-ctype.ensures.fewer (behind c.in_ok-close.ensures.fewer c.in_err-operand.ensures.fewer)
+
+pub cast-returns-in_err-whole-clause-fewer : goal.cast-returns-in_err-whole-clause-fewer
+cast-returns-in_err-whole-clause-fewer t c =
+    after c.in_ok-ctype.ensures.fewer (behind c.in_ok-close.ensures.fewer c.in_ok-operand.ensures.fewer)
+
+pub cast-returns-clause-fewer : goal.cast-returns-clause-fewer
+cast-returns-clause-fewer t c =
+    after c.in_ok-ctype.ensures.fewer (behind c.in_ok-close.ensures.fewer c.in_ok-operand.ensures.fewer)
+
+pub paren-returns-in_err-inner-clause-fewer : goal.paren-returns-in_err-inner-clause-fewer
+paren-returns-in_err-inner-clause-fewer t c =
+    c.in_err-inner.ensures.fewer
+
+pub paren-returns-in_err-close-clause-fewer : goal.paren-returns-in_err-close-clause-fewer
+paren-returns-in_err-close-clause-fewer t c =
+    after c.in_ok-inner.ensures.fewer c.in_err-close.ensures.fewer
+
+pub paren-returns-clause-fewer : goal.paren-returns-clause-fewer
+paren-returns-clause-fewer t c =
+    after c.in_ok-inner.ensures.fewer (behind c.in_ok-close.ensures.fewer c.posts.ensures.fewer)
+
+pub postfix-returns-in_err-operand-clause-fewer : goal.postfix-returns-in_err-operand-clause-fewer
+postfix-returns-in_err-operand-clause-fewer t c =
+    c.in_err-operand.ensures.fewer
+
+pub postfix-returns-clause-fewer : goal.postfix-returns-clause-fewer
+postfix-returns-clause-fewer t c =
+    after c.in_ok-operand.ensures.fewer c.posts.ensures.fewer
+
+pub post-returns-in-SquareOpen-clause-fewer : goal.post-returns-in-SquareOpen-clause-fewer
+post-returns-in-SquareOpen-clause-fewer t c =
+    c.index.ensures.fewer
+
+pub post-returns-in-Dot-clause-fewer : goal.post-returns-in-Dot-clause-fewer
+post-returns-in-Dot-clause-fewer t c =
+    c.dot.ensures.fewer
+
+pub post-returns-in-Arrow-clause-fewer : goal.post-returns-in-Arrow-clause-fewer
+post-returns-in-Arrow-clause-fewer t c =
+    c.arrow.ensures.fewer
+
+pub primary-returns-in-Tested-clause-fewer : goal.primary-returns-in-Tested-clause-fewer
+primary-returns-in-Tested-clause-fewer t c =
+    c.bounds_cast.ensures.fewer
+
+pub primary-returns-in-Trusted-clause-fewer : goal.primary-returns-in-Trusted-clause-fewer
+primary-returns-in-Trusted-clause-fewer t c =
+    c.bounds_cast-in-Trusted.ensures.fewer
+
+pub primary-returns-in_default-clause-fewer : goal.primary-returns-in_default-clause-fewer
+primary-returns-in_default-clause-fewer t c =
+    c.constant.ensures.fewer
+
+pub bounds_cast-returns-in_err-keyword-clause-fewer : goal.bounds_cast-returns-in_err-keyword-clause-fewer
+bounds_cast-returns-in_err-keyword-clause-fewer t c =
+    c.in_err-keyword.ensures.fewer
+
+pub bounds_cast-returns-in_err-ctype-clause-fewer : goal.bounds_cast-returns-in_err-ctype-clause-fewer
+bounds_cast-returns-in_err-ctype-clause-fewer t c =
+    behind c.in_ok-keyword.ensures.fewer c.in_err-ctype.ensures.fewer
+
+pub bounds_cast-returns-in_err-operand-clause-fewer : goal.bounds_cast-returns-in_err-operand-clause-fewer
+bounds_cast-returns-in_err-operand-clause-fewer t c =
+    behind c.in_ok-keyword.ensures.fewer (after c.in_ok-ctype.ensures.fewer c.in_err-operand.ensures.fewer)
+
+pub bounds_cast-returns-in_err-limits-clause-fewer : goal.bounds_cast-returns-in_err-limits-clause-fewer
+bounds_cast-returns-in_err-limits-clause-fewer t c =
+    behind c.in_ok-keyword.ensures.fewer (after c.in_ok-ctype.ensures.fewer (after c.in_ok-operand.ensures.fewer c.in_err-limits.ensures.fewer))
+
+pub bounds_cast-returns-in_err-whole-clause-fewer : goal.bounds_cast-returns-in_err-whole-clause-fewer
+bounds_cast-returns-in_err-whole-clause-fewer t c =
+    behind c.in_ok-keyword.ensures.fewer (after c.in_ok-ctype.ensures.fewer (after c.in_ok-operand.ensures.fewer c.in_ok-limits.ensures.fewer))
+
+pub bounds_cast-returns-clause-fewer : goal.bounds_cast-returns-clause-fewer
+bounds_cast-returns-clause-fewer t c =
+    behind c.in_ok-keyword.ensures.fewer (after c.in_ok-ctype.ensures.fewer (after c.in_ok-operand.ensures.fewer c.in_ok-limits.ensures.fewer))
+
+pub cast_limits-returns-in_err-comma-clause-fewer : goal.cast_limits-returns-in_err-comma-clause-fewer
+cast_limits-returns-in_err-comma-clause-fewer t c =
+    c.in_err-comma.ensures.fewer
+
+pub cast_limits-returns-in_err-limits-clause-fewer : goal.cast_limits-returns-in_err-limits-clause-fewer
+cast_limits-returns-in_err-limits-clause-fewer t c =
+    behind c.in_ok-comma.ensures.fewer c.in_err-limits.ensures.fewer
+
+pub cast_limits-returns-in_err-close-clause-fewer : goal.cast_limits-returns-in_err-close-clause-fewer
+cast_limits-returns-in_err-close-clause-fewer t c =
+    behind c.in_ok-comma.ensures.fewer (after c.in_ok-limits.ensures.fewer c.in_err-close.ensures.fewer)
+
+pub cast_limits-returns-in-Comma-clause-fewer : goal.cast_limits-returns-in-Comma-clause-fewer
+cast_limits-returns-in-Comma-clause-fewer t c =
+    behind c.in_ok-comma.ensures.fewer (after c.in_ok-limits.ensures.fewer (taken c.in_ok-close.ensures.fewer))
+
+pub cast_limits-returns-in_err-end-clause-fewer : goal.cast_limits-returns-in_err-end-clause-fewer
+cast_limits-returns-in_err-end-clause-fewer t c =
+    c.in_err-end.ensures.fewer
+
+pub cast_limits-returns-clause-fewer : goal.cast_limits-returns-clause-fewer
+cast_limits-returns-clause-fewer t c =
+    taken c.in_ok-end.ensures.fewer
+
+pub limits-returns-in-Count-clause-fewer : goal.limits-returns-in-Count-clause-fewer
+limits-returns-in-Count-clause-fewer t c =
+    c.sized.ensures.fewer
+
+pub limits-returns-in-ByteCount-clause-fewer : goal.limits-returns-in-ByteCount-clause-fewer
+limits-returns-in-ByteCount-clause-fewer t c =
+    c.sized-in-ByteCount.ensures.fewer
+
+pub limits-returns-in_default-clause-fewer : goal.limits-returns-in_default-clause-fewer
+limits-returns-in_default-clause-fewer t c =
+    c.bounds.ensures.fewer
+
+pub in_parentheses-returns-in_err-open-clause-fewer : goal.in_parentheses-returns-in_err-open-clause-fewer
+in_parentheses-returns-in_err-open-clause-fewer t c =
+    c.in_err-open.ensures.fewer
+
+pub in_parentheses-returns-in_err-inner-clause-fewer : goal.in_parentheses-returns-in_err-inner-clause-fewer
+in_parentheses-returns-in_err-inner-clause-fewer t c =
+    behind c.in_ok-open.ensures.fewer c.in_err-inner.ensures.fewer
+
+pub in_parentheses-returns-in_err-close-clause-fewer : goal.in_parentheses-returns-in_err-close-clause-fewer
+in_parentheses-returns-in_err-close-clause-fewer t c =
+    behind c.in_ok-open.ensures.fewer (after c.in_ok-inner.ensures.fewer c.in_err-close.ensures.fewer)
+
+pub in_parentheses-returns-clause-fewer : goal.in_parentheses-returns-clause-fewer
+in_parentheses-returns-clause-fewer t c =
+    behind c.in_ok-open.ensures.fewer (after c.in_ok-inner.ensures.fewer (taken c.in_ok-close.ensures.fewer))
+
+pub sized-returns-in_err-keyword-clause-fewer : goal.sized-returns-in_err-keyword-clause-fewer
+sized-returns-in_err-keyword-clause-fewer t c =
+    c.in_err-keyword.ensures.fewer
+
+pub sized-returns-in_err-amount-clause-fewer : goal.sized-returns-in_err-amount-clause-fewer
+sized-returns-in_err-amount-clause-fewer t c =
+    behind c.in_ok-keyword.ensures.fewer c.in_err-amount.ensures.fewer
+
+pub sized-returns-in_err-whole-clause-fewer : goal.sized-returns-in_err-whole-clause-fewer
+sized-returns-in_err-whole-clause-fewer t c =
+    behind c.in_ok-keyword.ensures.fewer c.in_ok-amount.ensures.fewer
+
+pub sized-returns-clause-fewer : goal.sized-returns-clause-fewer
+sized-returns-clause-fewer t c =
+    behind c.in_ok-keyword.ensures.fewer c.in_ok-amount.ensures.fewer
+
+pub bounds-returns-in_err-keyword-clause-fewer : goal.bounds-returns-in_err-keyword-clause-fewer
+bounds-returns-in_err-keyword-clause-fewer t c =
+    c.in_err-keyword.ensures.fewer
+
+pub bounds-returns-in_err-open-clause-fewer : goal.bounds-returns-in_err-open-clause-fewer
+bounds-returns-in_err-open-clause-fewer t c =
+    behind c.in_ok-keyword.ensures.fewer c.in_err-open.ensures.fewer
+
+pub bounds-returns-then-is_unknown_alone-clause-fewer : goal.bounds-returns-then-is_unknown_alone-clause-fewer
+bounds-returns-then-is_unknown_alone-clause-fewer t c =
+    behind c.in_ok-keyword.ensures.fewer (behind c.in_ok-open.ensures.fewer c.unknown.ensures.fewer)
+
+pub bounds-returns-else-is_unknown_alone-clause-fewer : goal.bounds-returns-else-is_unknown_alone-clause-fewer
+bounds-returns-else-is_unknown_alone-clause-fewer t c =
+    behind c.in_ok-keyword.ensures.fewer (behind c.in_ok-open.ensures.fewer c.between.ensures.fewer)
+
+pub between-returns-in_err-lower-clause-fewer : goal.between-returns-in_err-lower-clause-fewer
+between-returns-in_err-lower-clause-fewer t c =
+    c.in_err-lower.ensures.fewer
+
+pub between-returns-in_err-comma-clause-fewer : goal.between-returns-in_err-comma-clause-fewer
+between-returns-in_err-comma-clause-fewer t c =
+    after c.in_ok-lower.ensures.fewer c.in_err-comma.ensures.fewer
+
+pub between-returns-in_err-upper-clause-fewer : goal.between-returns-in_err-upper-clause-fewer
+between-returns-in_err-upper-clause-fewer t c =
+    after c.in_ok-lower.ensures.fewer (behind c.in_ok-comma.ensures.fewer c.in_err-upper.ensures.fewer)
+
+pub between-returns-in_err-close-clause-fewer : goal.between-returns-in_err-close-clause-fewer
+between-returns-in_err-close-clause-fewer t c =
+    after c.in_ok-lower.ensures.fewer (behind c.in_ok-comma.ensures.fewer (after c.in_ok-upper.ensures.fewer c.in_err-close.ensures.fewer))
+
+pub between-returns-in_err-whole-clause-fewer : goal.between-returns-in_err-whole-clause-fewer
+between-returns-in_err-whole-clause-fewer t c =
+    after c.in_ok-lower.ensures.fewer (behind c.in_ok-comma.ensures.fewer (after c.in_ok-upper.ensures.fewer (taken c.in_ok-close.ensures.fewer)))
+
+pub between-returns-clause-fewer : goal.between-returns-clause-fewer
+between-returns-clause-fewer t c =
+    after c.in_ok-lower.ensures.fewer (behind c.in_ok-comma.ensures.fewer (after c.in_ok-upper.ensures.fewer (taken c.in_ok-close.ensures.fewer)))
+
+pub expr-unary-requires : goal.expr-unary-requires
+expr-unary-requires t c =
+    (stays (remaining c.args.reader.now) 20 19 c.decreases (lit< tt), tt)
+
+pub expr-expr_rest-requires : goal.expr-expr_rest-requires
+expr-expr_rest-requires t c =
+    (goes 20 12 c.decreases c.in_ok-operand.ensures.fewer (lit< tt), tt)
+
+pub expr_rest-tail-requires : goal.expr_rest-tail-requires
+expr_rest-tail-requires t c =
+    (stays (remaining c.args.reader.now) 12 11 c.decreases (lit< tt), tt)
+
+pub expr_rest-choice-requires : goal.expr_rest-choice-requires
+expr_rest-choice-requires t c =
+    (goes 12 10 c.decreases c.in_ok-steps.ensures.fewer (lit< tt), tt)
+
+pub tail-unary-requires : goal.tail-unary-requires
+tail-unary-requires t c =
+    (falls 11 19 c.decreases (before c.steps.invariant.fewer c.in_ok-operation.ensures.fewer) (lit< tt), tt)
+
+pub choice-expr-requires : goal.choice-expr-requires
+choice-expr-requires t c =
+    (falls 10 20 c.decreases c.in_ok-mark.ensures.fewer (lit< tt), tt)
+
+pub choice-expr-requires-in-Question : goal.choice-expr-requires-in-Question
+choice-expr-requires-in-Question t c =
+    (falls 10 20 c.decreases (under c.in_ok-mark.ensures.fewer (after c.in_ok-yes.ensures.fewer (taken c.in_ok-colon.ensures.fewer))) (lit< tt), tt)
+
+pub unary-named-requires : goal.unary-named-requires
+unary-named-requires t c =
+    (stays (remaining c.args.reader.now) 19 18 c.decreases (lit< tt), tt)
+
+pub unary-first-requires : goal.unary-first-requires
+unary-first-requires t c =
+    (stays (remaining c.args.reader.now) 19 18 c.decreases (lit< tt), tt)
+
+pub named-posts-requires : goal.named-posts-requires
+named-posts-requires t c =
+    (goes 18 15 c.decreases c.in_ok-name.ensures.fewer (lit< tt), tt)
+
+pub first-signed-requires : goal.first-signed-requires
+first-signed-requires t c =
+    (stays (remaining c.args.reader.now) 18 1 c.decreases (lit< tt), tt)
+
+pub first-round-requires : goal.first-round-requires
+first-round-requires t c =
+    (stays (remaining c.args.reader.now) 18 1 c.decreases (lit< tt), tt)
+
+pub first-postfix-requires : goal.first-postfix-requires
+first-postfix-requires t c =
+    (stays (remaining c.args.reader.now) 18 17 c.decreases (lit< tt), tt)
+
+pub signed-unary-requires : goal.signed-unary-requires
+signed-unary-requires t c =
+    (falls 1 19 c.decreases c.in_ok-sign.ensures.fewer (lit< tt), tt)
+
+pub round-cast-requires : goal.round-cast-requires
+round-cast-requires t c =
+    (falls 1 1 c.decreases c.in_ok-mark.ensures.fewer (lit< tt), tt)
+
+pub round-paren-requires : goal.round-paren-requires
+round-paren-requires t c =
+    (falls 1 22 c.decreases c.in_ok-mark.ensures.fewer (lit< tt), tt)
+
+pub cast-unary-requires : goal.cast-unary-requires
+cast-unary-requires t c =
+    (falls 1 19 c.decreases (before c.in_ok-ctype.ensures.fewer c.in_ok-close.ensures.fewer) (lit< tt), tt)
+
+pub paren-expr-requires : goal.paren-expr-requires
+paren-expr-requires t c =
+    (stays (remaining c.args.reader.now) 22 20 c.decreases (lit< tt), tt)
+
+pub paren-posts-requires : goal.paren-posts-requires
+paren-posts-requires t c =
+    (goes 22 15 c.decreases (after c.in_ok-inner.ensures.fewer (taken c.in_ok-close.ensures.fewer)) (lit< tt), tt)
+
+pub postfix-primary-requires : goal.postfix-primary-requires
+postfix-primary-requires t c =
+    (stays (remaining c.args.reader.now) 17 16 c.decreases (lit< tt), tt)
+
+pub postfix-posts-requires : goal.postfix-posts-requires
+postfix-posts-requires t c =
+    (goes 17 15 c.decreases c.in_ok-operand.ensures.fewer (lit< tt), tt)
+
+pub posts-post-requires : goal.posts-post-requires
+posts-post-requires t c =
+    (goes 15 4 c.decreases c.posts.invariant.fewer (lit< tt), tt)
+
+pub post-index-requires : goal.post-index-requires
+post-index-requires t c =
+    (stays (remaining c.args.reader.now) 4 3 c.decreases (lit< tt), tt)
+
+pub index-expr-requires : goal.index-expr-requires
+index-expr-requires t c =
+    (falls 3 20 c.decreases c.in_ok-open.ensures.fewer (lit< tt), tt)
+
+pub bounds_cast-expr-requires : goal.bounds_cast-expr-requires
+bounds_cast-expr-requires t c =
+    (falls 15 20 c.decreases (under c.in_ok-keyword.ensures.fewer c.in_ok-ctype.ensures.fewer) (lit< tt), tt)
+
+pub bounds_cast-cast_limits-requires : goal.bounds_cast-cast_limits-requires
+bounds_cast-cast_limits-requires t c =
+    (falls 15 5 c.decreases (under c.in_ok-keyword.ensures.fewer (after c.in_ok-ctype.ensures.fewer c.in_ok-operand.ensures.fewer)) (lit< tt), tt)
+
+pub cast_limits-limits-requires : goal.cast_limits-limits-requires
+cast_limits-limits-requires t c =
+    (falls 5 6 c.decreases c.in_ok-comma.ensures.fewer (lit< tt), tt)
+
+pub limits-bounds-requires : goal.limits-bounds-requires
+limits-bounds-requires t c =
+    (stays (remaining c.args.reader.now) 6 5 c.decreases (lit< tt), tt)
+
+pub in_parentheses-expr-requires : goal.in_parentheses-expr-requires
+in_parentheses-expr-requires t c =
+    (falls 1 20 c.decreases c.in_ok-open.ensures.fewer (lit< tt), tt)
+
+pub sized-in_parentheses-requires : goal.sized-in_parentheses-requires
+sized-in_parentheses-requires t c =
+    (falls 5 1 c.decreases c.in_ok-keyword.ensures.fewer (lit< tt), tt)
+
+pub bounds-between-requires : goal.bounds-between-requires
+bounds-between-requires t c =
+    (falls 5 21 c.decreases (under c.in_ok-keyword.ensures.fewer (taken c.in_ok-open.ensures.fewer)) (lit< tt), tt)
+
+pub between-expr-requires : goal.between-expr-requires
+between-expr-requires t c =
+    (stays (remaining c.args.reader.now) 21 20 c.decreases (lit< tt), tt)
+
+pub between-expr-requires-2 : goal.between-expr-requires-2
+between-expr-requires-2 t c =
+    (falls 21 20 c.decreases (before c.in_ok-lower.ensures.fewer c.in_ok-comma.ensures.fewer) (lit< tt), tt)
