@@ -30,19 +30,23 @@ const OPERATIONS: [BinOp; 17] = [
 pub fn apply_case(op: &str, a: &str, b: &str, page: &mut Page) {
     let a = page.word_of(a);
     let b = page.word_of(b);
-    match operation_named(op) {
-        Some(op) => page.put_hex(apply(op, a, b)),
+    let names = page.words_of(NAMES);
+    match OPERATIONS.get(place_of(op, names.as_slice())) {
+        Some(op) => page.put_hex(apply(*op, a, b)),
         None => page.refuse("an unknown operation"),
     }
 }
 
-fn operation_named(wanted: &str) -> Option<BinOp> {
-    for (name, op) in NAMES.split_whitespace().zip(OPERATIONS.iter()) {
-        if name == wanted {
-            return Some(*op);
+/// How many names stand in front of the one that is wanted.
+fn place_of(wanted: &str, names: &[&str]) -> usize {
+    let mut place = 0usize;
+    for name in names {
+        if *name == wanted {
+            return place;
         }
+        place = place.saturating_add(1);
     }
-    None
+    place
 }
 
 /// `check | NUMBER`: the check that has the number, its number and its name.

@@ -19,15 +19,22 @@ pub fn chain_case(vars: &str, known: &str, asked: &str, page: &mut Page) {
     let facts = facts_of(vars, known, page);
     let mut rows = Vec::new(page.alloc());
     for question in page.words_of(asked).as_slice() {
-        let f = fact(question, page);
-        let yes = says(&facts, f, 7, &mut rows, page);
-        let same = says(&facts, f, i64::MIN, &mut rows, page) == yes;
-        if same && says(&facts, f, i64::MAX, &mut rows, page) == yes {
-            page.put_word(if yes { "yes" } else { "no" });
-        } else {
-            page.put_word("depends on the row");
-        }
+        put_chain(&facts, question, &mut rows, page);
     }
+}
+
+fn put_chain(facts: &Facts, question: &str, row: &mut Vec<i64>, page: &mut Page) {
+    let f = fact(question, page);
+    let yes = says(facts, f, 7, row, page);
+    let low = says(facts, f, i64::MIN, row, page);
+    let high = says(facts, f, i64::MAX, row, page);
+    page.put_word(if low != yes || high != yes {
+        "depends on the row"
+    } else if yes {
+        "yes"
+    } else {
+        "no"
+    });
 }
 
 /// Whether the fact is entailed, with a row that holds the number at the start.

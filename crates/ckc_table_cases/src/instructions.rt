@@ -52,11 +52,16 @@ const REGISTERS: [RegOp; 18] = [
 
 /// The instruction that a field spells. It may be out of range.
 pub fn instruction(field: &str, page: &mut Page) -> Instr {
-    match page.words_of(field).as_slice() {
+    let words = page.words_of(field);
+    of_words(words.as_slice(), page)
+}
+
+fn of_words(words: &[&str], page: &mut Page) -> Instr {
+    match words {
         [form] => of_form(form, page),
-        ["Fence", a] => Instr::Fence(page.byte_of(a)),
-        ["Jalr", a, b, c] => Instr::Jalr(page.byte_of(a), page.byte_of(b), signed(c, page)),
+        [form, a] => of_one(form, page.byte_of(a), page),
         [form, a, b] => of_two(form, page.byte_of(a), b, page),
+        [form, a, b, c] => of_three(form, (a, b, c), page),
         [form, op, a, b, c] => of_operation(form, op, (a, b, c), page),
         _ => unknown(page),
     }
@@ -70,6 +75,13 @@ fn of_form(form: &str, page: &mut Page) -> Instr {
     }
 }
 
+fn of_one(form: &str, number: u8, page: &mut Page) -> Instr {
+    match form {
+        "Fence" => Instr::Fence(number),
+        _ => unknown(page),
+    }
+}
+
 fn of_two(form: &str, rd: u8, number: &str, page: &mut Page) -> Instr {
     match form {
         "Lui" => Instr::Lui(rd, page.word_of(number)),
@@ -79,13 +91,30 @@ fn of_two(form: &str, rd: u8, number: &str, page: &mut Page) -> Instr {
     }
 }
 
+fn of_three(form: &str, fields: (&str, &str, &str), page: &mut Page) -> Instr {
+    let a = page.byte_of(fields.0);
+    let b = page.byte_of(fields.1);
+    let c = signed(fields.2, page);
+    match form {
+        "Jalr" => Instr::Jalr(a, b, c),
+        _ => unknown(page),
+    }
+}
+
 fn of_operation(form: &str, op: &str, fields: (&str, &str, &str), page: &mut Page) -> Instr {
     let a = page.byte_of(fields.0);
     let b = page.byte_of(fields.1);
     let c = signed(fields.2, page);
-    match operation(form, op, a, b, c, page) {
-        Some(i) => i,
-        None => unknown(page),
+    match form {
+        "Branch" => Instr::Branch(spelled(&BRANCHES, BranchOp::Beq, op, page), a, b, c),
+        "Load" => Instr::Load(spelled(&LOADS, LoadOp::Lb, op, page), a, b, c),
+        "Store" => Instr::Store(spelled(&STORES, StoreOp::Sb, op, page), a, b, c),
+        "Imm" => Instr::Imm(spelled(&IMMEDIATES, ImmOp::Addi, op, page), a, b, c),
+        "Reg" => {
+            let op = spelled(&REGISTERS, RegOp::Add, op, page);
+            Instr::Reg(op, a, b, page.byte_of(fields.2))
+        }
+        _ => unknown(page),
     }
 }
 
@@ -105,28 +134,15 @@ fn signed(text: &str, page: &mut Page) -> i32 {
     }
 }
 
-fn operation(form: &str, op: &str, a: u8, b: u8, c: i32, page: &Page) -> Option<Instr> {
-    match form {
-        "Branch" => Some(Instr::Branch(spelled(&BRANCHES, op, page)?, a, b, c)),
-        "Load" => Some(Instr::Load(spelled(&LOADS, op, page)?, a, b, c)),
-        "Store" => Some(Instr::Store(spelled(&STORES, op, page)?, a, b, c)),
-        "Imm" => Some(Instr::Imm(spelled(&IMMEDIATES, op, page)?, a, b, c)),
-        "Reg" => {
-            let op = spelled(&REGISTERS, op, page)?;
-            Some(Instr::Reg(op, a, b, u8::try_from(c).ok()?))
-        }
-        _ => None,
-    }
-}
-
-/// The value whose name in the code this is.
-pub fn spelled<T: Copy + Debug>(all: &[T], name: &str, page: &Page) -> Option<T> {
+/// The value whose name in the code this is. Where none has it, the page keeps that, and there is the other value.
+fn spelled<T: Copy + Debug>(all: &[T], otherwise: T, name: &str, page: &mut Page) -> T {
     for value in all {
         let mut spelling = Page::new(page.alloc());
         spelling.put_debug(value);
         if spelling.text() == name {
-            return Some(*value);
+            return *value;
         }
     }
-    None
+    page.refuse("not an instruction");
+    otherwise
 }

@@ -16,35 +16,42 @@ pub struct Tables<'a, R> {
 impl<R: Files + AllocGlobal> Judge for Tables<'_, R> {
     fn answer(&self, kind: &str, given: &[Vec<u8>], page: &mut Page) {
         let given = page.texts_of(given);
-        match given.as_slice() {
-            [text] => self.of_one(kind, text, page),
-            [first, second] => of_two(kind, first, second, page),
-            [first, second, third] => of_three(kind, (first, second, third), page),
-            fields => of_others(kind, fields, page),
-        }
-    }
-}
-
-impl<R: Files + AllocGlobal> Tables<'_, R> {
-    /// A case with one field.
-    fn of_one(&self, kind: &str, text: &str, page: &mut Page) {
         match kind {
-            "store" => objects::store_case(self.rt, text, page),
-            _ => of_one(kind, text, page),
+            "store" => objects::store_case(self.rt, given.as_slice(), page),
+            _ => of_fields(kind, given.as_slice(), page),
         }
     }
 }
 
-/// A case with no field or with four.
-fn of_others(kind: &str, fields: &[&str], page: &mut Page) {
-    match (kind, fields) {
-        ("empty", []) => lists::empty_case(page),
-        ("shift", [vars, known, x, c]) => facts::shift_case(vars, known, x, c, page),
+/// A case that asks nothing of the system's files.
+fn of_fields(kind: &str, fields: &[&str], page: &mut Page) {
+    match fields {
+        [] => of_none(kind, page),
+        [text] => of_one(kind, text, page),
+        [first, second] => of_two(kind, first, second, page),
+        [first, second, third] => of_three(kind, (first, second, third), page),
+        [first, second, third, fourth] => of_four(kind, (first, second, third), fourth, page),
         _ => page.refuse(UNKNOWN),
     }
 }
 
-/// A case with one field that asks nothing of the system's files.
+/// A case with no field.
+fn of_none(kind: &str, page: &mut Page) {
+    match kind {
+        "empty" => lists::empty_case(page),
+        _ => page.refuse(UNKNOWN),
+    }
+}
+
+/// A case with four fields.
+fn of_four(kind: &str, fields: (&str, &str, &str), fourth: &str, page: &mut Page) {
+    match kind {
+        "shift" => facts::shift_case(fields.0, fields.1, fields.2, fourth, page),
+        _ => page.refuse(UNKNOWN),
+    }
+}
+
+/// A case with one field.
 fn of_one(kind: &str, text: &str, page: &mut Page) {
     match kind {
         "range" => words::range_case(text, page),

@@ -99,30 +99,52 @@ pub fn memory_store_case(calls: &str, steps: &str, page: &mut Page) {
     let calls = calls_in(calls, page);
     let mut store = MemStore::new(page.alloc(), calls.as_slice());
     for step in steps.split(',') {
-        match page.words_of(step).as_slice() {
-            ["set", name, text] => {
-                if store.set(name, text.as_bytes()).is_err() {
-                    page.lacks_memory();
-                }
+        let words = page.words_of(step);
+        do_memory_step(&mut store, words.as_slice(), page);
+    }
+}
+
+fn do_memory_step(store: &mut MemStore<'_>, step: &[&str], page: &mut Page) {
+    match step {
+        ["set", name, text] => {
+            if store.set(name, text.as_bytes()).is_err() {
+                page.lacks_memory();
             }
-            words => do_step(&mut store, words, page),
         }
+        _ => do_step(store, step, page),
     }
 }
 
 /// `store | STEP, STEP..`: what the store of files answers for each step `fetch NAME LIMIT` or `keep NAME TEXT`. `remove
 /// NAME` removes a file.
-pub fn store_case(rt: &(impl Files + AllocGlobal), steps: &str, page: &mut Page) {
+pub fn store_case(rt: &(impl Files + AllocGlobal), fields: &[&str], page: &mut Page) {
+    match fields {
+        [steps] => do_file_steps(rt, steps, page),
+        _ => page.refuse("not store | STEP, STEP.."),
+    }
+}
+
+fn do_file_steps<R: Files + AllocGlobal>(rt: &R, steps: &str, page: &mut Page) {
     let mut store = RealStore::new(rt);
     for step in steps.split(',') {
-        match page.words_of(step).as_slice() {
-            ["remove", name] => {
-                if fs::remove_file(rt, *name).is_err() {
-                    page.refuse("a file that cannot be removed");
-                }
+        let words = page.words_of(step);
+        do_file_step(rt, &mut store, words.as_slice(), page);
+    }
+}
+
+fn do_file_step<R: Files + AllocGlobal>(
+    rt: &R,
+    store: &mut RealStore<'_, R>,
+    step: &[&str],
+    page: &mut Page,
+) {
+    match step {
+        ["remove", name] => {
+            if fs::remove_file(rt, *name).is_err() {
+                page.refuse("a file that cannot be removed");
             }
-            words => do_step(&mut store, words, page),
         }
+        _ => do_step(store, step, page),
     }
 }
 
@@ -133,12 +155,16 @@ fn do_step<S: Store>(store: &mut S, step: &[&str], page: &mut Page) {
             let fetched = store.fetch(page.alloc(), name, limit);
             put_fetched(&fetched, page);
         }
-        ["keep", name, text] => match store.keep(name, text.as_bytes()) {
-            Ok(()) => page.put_word("ok"),
-            Err(e) => page.put_word(named(e)),
-        },
+        ["keep", name, text] => put_kept(store.keep(name, text.as_bytes()), page),
         _ => page.refuse("an unknown step"),
     }
+}
+
+fn put_kept(kept: Result<(), StoreError>, page: &mut Page) {
+    page.put_word(match kept {
+        Ok(()) => "ok",
+        Err(e) => named(e),
+    });
 }
 
 fn put_fetched(fetched: &Result<Fetched, StoreError>, page: &mut Page) {
