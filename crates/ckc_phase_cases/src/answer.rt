@@ -1,6 +1,4 @@
 use crate::phases::{Asked, put_answer};
-use crate::source::put_place;
-use ckc_base::{Fault, Refusal};
 use ckc_syntax::string_bytes;
 use ckc_trials::{Judge, Page};
 
@@ -12,7 +10,7 @@ impl Judge for Phases {
         match (kind, given) {
             ("string", [spelling]) => put_string(spelling.as_slice(), page),
             (_, [text]) => match asked_by(kind) {
-                Some(asked) => put_asked(asked, text.as_slice(), page),
+                Some(asked) => put_answer(page.alloc(), asked, text.as_slice(), page),
                 None => page.refuse("an unknown kind"),
             },
             _ => page.refuse("not KIND | TEXT | WANTED"),
@@ -46,20 +44,4 @@ fn asked_by(kind: &str) -> Option<Asked> {
         "scopes" => Some(Asked::Scopes),
         _ => None,
     }
-}
-
-/// Writes what is asked of a text, or its first fault.
-fn put_asked(asked: Asked, text: &[u8], page: &mut Page) {
-    match put_answer(page.alloc(), asked, text, page) {
-        Ok(()) => {}
-        Err(Fault::Refused(refusal)) => put_refusal(page, refusal),
-        Err(Fault::Memory) => page.lacks_memory(),
-    }
-}
-
-fn put_refusal(page: &mut Page, refusal: Refusal) {
-    page.put("E");
-    page.put_number(i64::from(refusal.code));
-    page.put(" ");
-    put_place(page, refusal.pos);
 }

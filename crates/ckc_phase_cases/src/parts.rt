@@ -1,8 +1,9 @@
 //! The part of a tree that a case is about: it stands last.
 use crate::source::put_type;
-use ckc_syntax::{Act, Decl, Expr, Init, Item, Name, Stmt, Tree};
+use ckc_syntax::{Act, Decl, Expr, Init, Item, Stmt, Tree};
 use ckc_trials::Page;
 use ckc_typed::Note;
+use ckc_types::CType;
 
 /// The body of the last item, where that is a function.
 fn last_body<N, A>(tree: &Tree<N, A>) -> Option<&Stmt<N, A>> {
@@ -29,18 +30,30 @@ pub fn last_value<N, A>(tree: &Tree<N, A>) -> Option<&Expr<N, A>> {
     }
 }
 
+/// What is noted at an expression, which has a type.
+pub trait Noted {
+    /// The type.
+    fn ctype(&self) -> &CType;
+}
+
+impl Noted for Note {
+    fn ctype(&self) -> &CType {
+        &self.ctype
+    }
+}
+
 /// Writes the type of the condition, call, right side or initialiser in the last statement of the last function, or
 /// `fine` where there is none.
-pub fn put_last_type(page: &mut Page, tree: &Tree<Name, Note>) {
+pub fn put_last_type<N, A: Noted>(page: &mut Page, tree: &Tree<N, A>) {
     match last_body(tree) {
         Some(body) => put_type_in(page, body),
         None => page.put("fine"),
     }
 }
 
-fn put_type_in(page: &mut Page, statement: &Stmt<Name, Note>) {
+fn put_type_in<N, A: Noted>(page: &mut Page, statement: &Stmt<N, A>) {
     match &statement.body {
-        Act::If(e, _, _) | Act::Call(e) | Act::Assign(_, e) => put_type(page, &e.get().note.ctype),
+        Act::If(e, _, _) | Act::Call(e) | Act::Assign(_, e) => put_type(page, e.get().note.ctype()),
         Act::Local(d) => put_type_of_local(page, d.get()),
         Act::Block(_, statements) => match statements.as_slice().last() {
             Some(last) => put_type_in(page, last),
@@ -50,9 +63,9 @@ fn put_type_in(page: &mut Page, statement: &Stmt<Name, Note>) {
     }
 }
 
-fn put_type_of_local(page: &mut Page, d: &Decl<Name, Note>) {
+fn put_type_of_local<N, A: Noted>(page: &mut Page, d: &Decl<N, A>) {
     match &d.init {
-        Init::One(e) => put_type(page, &e.get().note.ctype),
+        Init::One(e) => put_type(page, e.get().note.ctype()),
         _ => page.put("fine"),
     }
 }

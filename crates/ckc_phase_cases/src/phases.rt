@@ -1,7 +1,8 @@
-//! A text through the phases, up to the one of which something is asked.
+//! A text through the phases, up to the one of which something is asked. What a phase has made of it is left to the end
+//! of the process. What only reads a tree is generic: the prover takes much longer where it sees the types of trees.
 use crate::parts::{last_statement, last_value, put_last_type};
 use crate::source::{Written, put_expr, put_objects, put_place, put_statement, put_tokens};
-use ckc_base::{Fault, Pos};
+use ckc_base::{Fault, Pos, Refusal};
 use ckc_lexer::{end_of, lex};
 use ckc_parser::parse;
 use ckc_resolve::resolve;
@@ -11,6 +12,7 @@ use ckc_trials::Page;
 use ckc_typed::Typed;
 use ckc_typing::type_of;
 use std::alloc::Global;
+use std::mem::forget;
 
 /// What is asked of a text.
 #[derive(Clone, Copy)]
@@ -41,110 +43,149 @@ pub enum Asked {
     Scopes,
 }
 
-/// Writes what is asked of a text, or `fine`.
-pub fn put_answer(alloc: Global, asked: Asked, text: &[u8], page: &mut Page) -> Result<(), Fault> {
-    let tokens = lex(alloc, text)?;
-    match asked {
-        Asked::Tokens => put_tokens(page, tokens.as_slice()),
-        Asked::Fronts => {
-            lex_fronts(alloc, text)?;
-            page.put_debug(&tokens.len());
+/// Writes what is asked of a text, or `fine`, or its first fault.
+pub fn put_answer(alloc: Global, asked: Asked, text: &[u8], page: &mut Page) {
+    match lex(alloc, text) {
+        Ok(tokens) => {
+            let end = end_of(text);
+            match asked {
+                Asked::Tokens => put_tokens(page, tokens.as_slice()),
+                Asked::Fronts => put_fronts(alloc, text, tokens.len(), page),
+                _ => of_tokens(alloc, asked, tokens.as_slice(), end, page),
+            }
         }
-        _ => of_tokens(alloc, asked, tokens.as_slice(), end_of(text), page)?,
+        Err(fault) => put_fault(page, fault),
     }
-    Ok(())
 }
 
-/// Cuts each front of a text.
-fn lex_fronts(alloc: Global, text: &[u8]) -> Result<(), Fault> {
+/// Cuts each front of a text, and writes how many tokens the whole has.
+fn put_fronts(alloc: Global, text: &[u8], count: usize, page: &mut Page) {
     for len in 0..text.len() {
         if let Err(Fault::Memory) = lex(alloc, &text[..len]) {
-            return Err(Fault::Memory);
+            page.lacks_memory();
         }
     }
-    Ok(())
+    page.put_debug(&count);
 }
 
-fn of_tokens<'a>(
-    alloc: Global,
-    asked: Asked,
-    tokens: &'a [Token<'a>],
-    end: Pos,
-    page: &mut Page,
-) -> Result<(), Fault> {
-    let tree = parse(alloc, tokens, end)?;
+fn put_fault(page: &mut Page, fault: Fault) {
+    match fault {
+        Fault::Refused(refusal) => put_refusal(page, refusal),
+        Fault::Memory => page.lacks_memory(),
+    }
+}
+
+fn put_refusal(page: &mut Page, refusal: Refusal) {
+    page.put("E");
+    page.put_number(i64::from(refusal.code));
+    page.put(" ");
+    put_place(page, refusal.pos);
+}
+
+fn of_tokens<'a>(alloc: Global, asked: Asked, tokens: &'a [Token<'a>], end: Pos, page: &mut Page) {
+    let made = parse(alloc, tokens, end);
     match asked {
-        Asked::Syntax => page.put("fine"),
-        Asked::Statement => put_last(page, &tree),
-        Asked::Value => put_value(page, &tree),
-        _ => of_tree(alloc, asked, tree, page)?,
-    }
-    Ok(())
-}
-
-fn put_last<N: Written, A>(page: &mut Page, tree: &Tree<N, A>) {
-    match last_statement(tree) {
-        Some(s) => put_statement(page, s),
-        None => page.put("nothing"),
+        Asked::Syntax | Asked::Statement | Asked::Value => {
+            put_made(page, asked, &made);
+            forget(made);
+        }
+        _ => match made {
+            Ok(tree) => of_tree(alloc, asked, tree, page),
+            Err(fault) => put_fault(page, fault),
+        },
     }
 }
 
-fn put_value<N: Written, A>(page: &mut Page, tree: &Tree<N, A>) {
+/// Writes what is asked of what the parser made.
+fn put_made<N: Written, A>(page: &mut Page, asked: Asked, made: &Result<Tree<N, A>, Fault>) {
+    match made {
+        Ok(tree) => put_part(page, asked, tree),
+        Err(fault) => put_fault(page, *fault),
+    }
+}
+
+fn put_part<N: Written, A>(page: &mut Page, asked: Asked, tree: &Tree<N, A>) {
+    match asked {
+        Asked::Statement => match last_statement(tree) {
+            Some(s) => put_statement(page, s),
+            None => page.put("nothing"),
+        },
+        Asked::Value => match last_value(tree) {
+            Some(e) => {
+                put_place(page, e.pos);
+                page.put(" ");
+                put_expr(page, e);
+            }
+            None => page.put("nothing"),
+        },
+        _ => page.put("fine"),
+    }
+}
+
+fn of_tree<'a>(alloc: Global, asked: Asked, tree: Tree<Spelling<'a>, ()>, page: &mut Page) {
+    match fits(&tree) {
+        Ok(()) => match asked {
+            Asked::Limits => {
+                forget(tree);
+                page.put("fine");
+            }
+            _ => match resolve(alloc, tree) {
+                Ok(named) => of_names(alloc, asked, named, page),
+                Err(fault) => put_fault(page, fault),
+            },
+        },
+        Err(fault) => {
+            forget(tree);
+            put_fault(page, fault);
+        }
+    }
+}
+
+fn of_names(alloc: Global, asked: Asked, named: NamedText, page: &mut Page) {
+    match asked {
+        Asked::Names | Asked::Name => {
+            put_meanings(page, asked, &named.tree, named.main);
+            forget(named);
+        }
+        _ => match type_of(alloc, named) {
+            Ok(typed) => of_types(asked, typed, page),
+            Err(fault) => put_fault(page, fault),
+        },
+    }
+}
+
+fn put_meanings<N: Written, A>(page: &mut Page, asked: Asked, tree: &Tree<N, A>, main: u32) {
+    if let Asked::Names = asked {
+        return page.put("fine");
+    }
     match last_value(tree) {
-        Some(e) => {
-            put_place(page, e.pos);
-            page.put(" ");
-            put_expr(page, e);
-        }
-        None => page.put("nothing"),
-    }
-}
-
-fn of_tree<'a>(
-    alloc: Global,
-    asked: Asked,
-    tree: Tree<Spelling<'a>, ()>,
-    page: &mut Page,
-) -> Result<(), Fault> {
-    fits(&tree)?;
-    if let Asked::Limits = asked {
-        page.put("fine");
-        return Ok(());
-    }
-    let named = resolve(alloc, tree)?;
-    of_names(alloc, asked, named, page)
-}
-
-fn of_names(alloc: Global, asked: Asked, named: NamedText, page: &mut Page) -> Result<(), Fault> {
-    match asked {
-        Asked::Names => page.put("fine"),
-        Asked::Name => put_meanings(page, &named),
-        _ => {
-            let typed = type_of(alloc, named)?;
-            of_types(asked, typed, page)?;
-        }
-    }
-    Ok(())
-}
-
-fn put_meanings(page: &mut Page, named: &NamedText) {
-    match last_value(&named.tree) {
         Some(e) => put_expr(page, e),
         None => page.put("nothing"),
     }
     page.put(" ");
-    page.put_number(i64::from(named.main));
+    page.put_number(i64::from(main));
 }
 
-fn of_types(asked: Asked, typed: Typed, page: &mut Page) -> Result<(), Fault> {
+fn of_types(asked: Asked, typed: Typed, page: &mut Page) {
+    match asked {
+        Asked::Scopes => match scopes(typed) {
+            Ok(typed) => {
+                forget(typed);
+                page.put("fine");
+            }
+            Err(fault) => put_fault(page, fault),
+        },
+        _ => {
+            put_types(page, asked, &typed);
+            forget(typed);
+        }
+    }
+}
+
+fn put_types(page: &mut Page, asked: Asked, typed: &Typed) {
     match asked {
         Asked::Type => put_last_type(page, &typed.tree),
         Asked::Statics => put_objects(page, typed.statics.as_slice()),
-        Asked::Scopes => {
-            scopes(typed)?;
-            page.put("fine");
-        }
         _ => page.put("fine"),
     }
-    Ok(())
 }
