@@ -123,34 +123,40 @@ fn put_part<N: Written, A>(page: &mut Page, asked: Asked, tree: &Tree<N, A>) {
 }
 
 fn of_tree<'a>(alloc: Global, asked: Asked, tree: Tree<Spelling<'a>, ()>, page: &mut Page) {
-    match fits(&tree) {
+    if is_named(page, asked, &tree) {
+        of_names(alloc, asked, resolve(alloc, tree), page);
+    } else {
+        forget(tree);
+    }
+}
+
+/// Whether the names of a tree are asked for, and it keeps the limits. Else this writes `fine`, or what they refuse.
+fn is_named<N, A>(page: &mut Page, asked: Asked, tree: &Tree<N, A>) -> bool {
+    match fits(tree) {
         Ok(()) => match asked {
             Asked::Limits => {
-                forget(tree);
                 page.put("fine");
+                false
             }
-            _ => match resolve(alloc, tree) {
-                Ok(named) => of_names(alloc, asked, named, page),
-                Err(fault) => put_fault(page, fault),
-            },
+            _ => true,
         },
         Err(fault) => {
-            forget(tree);
             put_fault(page, fault);
+            false
         }
     }
 }
 
-fn of_names(alloc: Global, asked: Asked, named: NamedText, page: &mut Page) {
-    match asked {
-        Asked::Names | Asked::Name => {
-            put_meanings(page, asked, &named.tree, named.main);
-            forget(named);
-        }
-        _ => match type_of(alloc, named) {
-            Ok(typed) => of_types(asked, typed, page),
-            Err(fault) => put_fault(page, fault),
+fn of_names(alloc: Global, asked: Asked, made: Result<NamedText, Fault>, page: &mut Page) {
+    match made {
+        Ok(named) => match asked {
+            Asked::Names | Asked::Name => {
+                put_meanings(page, asked, &named.tree, named.main);
+                forget(named);
+            }
+            _ => of_types(asked, type_of(alloc, named), page),
         },
+        Err(fault) => put_fault(page, fault),
     }
 }
 
@@ -166,20 +172,25 @@ fn put_meanings<N: Written, A>(page: &mut Page, asked: Asked, tree: &Tree<N, A>,
     page.put_number(i64::from(main));
 }
 
-fn of_types(asked: Asked, typed: Typed, page: &mut Page) {
-    match asked {
-        Asked::Scopes => match scopes(typed) {
-            Ok(typed) => {
+fn of_types(asked: Asked, made: Result<Typed, Fault>, page: &mut Page) {
+    match made {
+        Ok(typed) => match asked {
+            Asked::Scopes => of_scopes(scopes(typed), page),
+            _ => {
+                put_types(page, asked, &typed);
                 forget(typed);
-                page.put("fine");
             }
-            Err(fault) => put_fault(page, fault),
         },
-        _ => {
-            put_types(page, asked, &typed);
-            forget(typed);
-        }
+        Err(fault) => put_fault(page, fault),
     }
+}
+
+fn of_scopes(made: Result<Typed, Fault>, page: &mut Page) {
+    match &made {
+        Ok(_) => page.put("fine"),
+        Err(fault) => put_fault(page, *fault),
+    }
+    forget(made);
 }
 
 fn put_types(page: &mut Page, asked: Asked, typed: &Typed) {
