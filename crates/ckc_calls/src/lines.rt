@@ -6,10 +6,10 @@ use ckc_outside::Sink;
 
 /// Puts a line, where it is not empty, in one call.
 pub fn put_line<E: Sink>(line: &[u8], err: &mut E)
-    ensures report { Reported line.now (E.written err.old) (E.written err.new)
-        (Rose (E.faults err.old) (E.faults err.new)) }
-    ensures once { E.puts err.new ≡ puts_after line.now (E.puts err.old) }
-    ensures counts { E.faults err.old ≤ E.faults err.new }
+    ensures report { Reported line.now (E.seen err.old).written (E.seen err.new).written
+        (Rose (E.seen err.old).faults (E.seen err.new).faults) }
+    ensures once { (E.seen err.new).puts ≡ puts_after line.now (E.seen err.old).puts }
+    ensures counts { (E.seen err.old).faults ≤ (E.seen err.new).faults }
 {
     if !line.is_empty() {
         let _ = err.put(line);

@@ -150,7 +150,7 @@ module _ (words : List (List ℕ)) (old new : Seen) (before after : Stored) (qui
   kept_always s (by_running command' r bytes' h parts' limit' x o e ran f) name image y = absurd (not_Keeps_Executes command bytes name image parts' limit' y (moved_Executes command' bytes' parts' limit' r h x))
   kept_always s (by_meaning command' r bytes' h p' limit' x o e ran f) name image y = absurd (not_Keeps_Means command bytes name image p' limit' y (moved_Means command' bytes' p' limit' r h x))
 
-  pub listed_always : (s : Status) → Leaf s → (text : List ℕ) → Lists command bytes text → ¬ Rose old.write_faults new.write_faults → (s ≡ status.Done) ⊎ (s ≡ status.Memory)
+  pub listed_always : (s : Status) → Leaf s → (text : List ℕ) → Lists command bytes text → ¬ Rose old.sink.faults new.sink.faults → (s ≡ status.Done) ⊎ (s ≡ status.Memory)
   listed_always s (by_usage none e a b z) text y n = absurd (none command g.reads)
   listed_always s (by_store command' r rose lacks e i) text y n = absurd (no_store command' rose (λ here t e. lacks here t e) r)
   listed_always s (by_refusal command' r bytes' h fault' x e i) text y n = absurd (not_Refuses_Lists command bytes fault' text (moved_Refuses command' bytes' fault' r h x) y)

@@ -85,30 +85,30 @@ module _ (words : List (List ℕ)) (old new : Seen) (before after : Stored) (qui
           at (inl x) = inl (x.1, x.3, h x (λ q. fine.input (x.4.read_fault q)) (λ q. fine.output (x.4.write_fault q)) (meanings_exact.made_once text p x.2.program m x.2.means))
           at (inr e) = inr e
 
-      stands_always : (stands : Standing) → IsOver stands → OfInput old.left (StandsInTime p limit stands) → ((o : Observed) × (s ≡ status_of o) × Says o stands) ⊎ (s ≡ status.Memory)
+      stands_always : (stands : Standing) → IsOver stands → OfInput old.source.left (StandsInTime p limit stands) → ((o : Observed) × (s ≡ status_of o) × Says o stands) ⊎ (s ≡ status.Memory)
       stands_always stands over h =
           by_run (λ o. Says o stands)
-          (λ x r w same. ran_in_time text x.0 x.2 limit old new untaken x.1 r w x.4 stands over (subst (λ (q : Program). OfInput old.left (StandsInTime q limit stands)) same h))
+          (λ x r w same. ran_in_time text x.0 x.2 limit old new untaken x.1 r w x.4 stands over (subst (λ (q : Program). OfInput old.source.left (StandsInTime q limit stands)) same h))
 
-      pub exec_always : (value : ℕ) → OfInput old.left (StandsInTime p limit (Ended value)) → (s ≡ status.Ended value) ⊎ (s ≡ status.Memory)
+      pub exec_always : (value : ℕ) → OfInput old.source.left (StandsInTime p limit (Ended value)) → (s ≡ status.Ended value) ⊎ (s ≡ status.Memory)
       exec_always value h = at (stands_always (Ended value) tt h)
         where
           at : ((o : Observed) × (s ≡ status_of o) × Says o (Ended value)) ⊎ (s ≡ status.Memory) → (s ≡ status.Ended value) ⊎ (s ≡ status.Memory)
           at (inl x) = inl (x.1 ∙ ap status_of (says_ended x.0 value x.2))
           at (inr e) = inr e
 
-      pub stopped_always : (check : Check) (at : Pos) → OfInput old.left (StandsInTime p limit (Stopped check at)) → (s ≡ status.Stopped check at) ⊎ (s ≡ status.Memory)
+      pub stopped_always : (check : Check) (at : Pos) → OfInput old.source.left (StandsInTime p limit (Stopped check at)) → (s ≡ status.Stopped check at) ⊎ (s ≡ status.Memory)
       stopped_always check at h = either (stands_always (Stopped check at) tt h)
         where
           either : ((o : Observed) × (s ≡ status_of o) × Says o (Stopped check at)) ⊎ (s ≡ status.Memory) → (s ≡ status.Stopped check at) ⊎ (s ≡ status.Memory)
           either (inl x) = inl (x.1 ∙ ap status_of (says_stopped x.0 check at x.2))
           either (inr e) = inr e
 
-      pub put_always : (bytes : List ℕ) → OfInput old.left (PutsInTime p limit bytes) → PrintedFirst old.written new.written bytes ⊎ (s ≡ status.Memory)
+      pub put_always : (bytes : List ℕ) → OfInput old.source.left (PutsInTime p limit bytes) → PrintedFirst old.sink.written new.sink.written bytes ⊎ (s ≡ status.Memory)
       put_always bytes h =
-          at (by_run (λ o. PrintedFirst old.written new.written bytes)
-          (λ x r w same. ran_put text x.0 x.2 limit old new untaken x.1 r w x.4 bytes (subst (λ (q : Program). OfInput old.left (PutsInTime q limit bytes)) same h)))
+          at (by_run (λ o. PrintedFirst old.sink.written new.sink.written bytes)
+          (λ x r w same. ran_put text x.0 x.2 limit old new untaken x.1 r w x.4 bytes (subst (λ (q : Program). OfInput old.source.left (PutsInTime q limit bytes)) same h)))
         where
-          at : ((o : Observed) × (s ≡ status_of o) × PrintedFirst old.written new.written bytes) ⊎ (s ≡ status.Memory) → PrintedFirst old.written new.written bytes ⊎ (s ≡ status.Memory)
+          at : ((o : Observed) × (s ≡ status_of o) × PrintedFirst old.sink.written new.sink.written bytes) ⊎ (s ≡ status.Memory) → PrintedFirst old.sink.written new.sink.written bytes ⊎ (s ≡ status.Memory)
           at (inl x) = inl x.2
           at (inr e) = inr e

@@ -66,11 +66,11 @@ module _ (words : List (List ℕ)) (old new : Seen) (before after : Stored) (qui
       (λ command text parts most built ran. (built.program, built.means, ran_faulty text parts built most old new untaken kind pc ran))
       (by.shown_by words old new before after quiet untaken unasked s l (observed.Fault kind pc) (λ e. cc) q)
 
-  pub read_fault_by : (s : Status) → Leaf s → s ≡ status.ReadFault → Rose old.read_faults new.read_faults
+  pub read_fault_by : (s : Status) → Leaf s → s ≡ status.ReadFault → Rose old.source.faults new.source.faults
   read_fault_by s l q =
       let o = by.shown_by words old new before after quiet untaken unasked s l observed.ReadFault (λ e. cc) q in
       risen o.command o.bytes o.are
     where
-      risen : (command : Command) (bytes : List ℕ) → IsRun old new untaken observed.ReadFault command bytes → Rose old.read_faults new.read_faults
+      risen : (command : Command) (bytes : List ℕ) → IsRun old new untaken observed.ReadFault command bytes → Rose old.source.faults new.source.faults
       risen command bytes (inl x) = x.3.read_fault refl
       risen command bytes (inr x) = x.3.2.read_fault (by.same_meant x.3.0 seen.ReadFault (sym x.3.1))

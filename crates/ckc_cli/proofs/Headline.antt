@@ -1,9 +1,9 @@
 -- A run of the image of a text shows the meaning of the text.
-use Rattle.std.proofs.Common.{◌≡◌, ◌≢◌, ◌⊎◌, inl, inr, ℕ, ◌+◌, ◌≤◌, List, [], ◌∷◌, ◌++◌, Option, refl, sym, ap, subst, ◌∙◌, arith}
+use Rattle.std.proofs.Common.{◌≡◌, ◌≢◌, ◌⊎◌, inl, inr, ℕ, ◌≤◌, List, [], ◌∷◌, ◌++◌, Option, refl, sym, ap, subst, ◌∙◌, arith}
 use Rattle.std.proofs.lemmas.Grind.{flat_map-append}
 use Rattle.ckc_base.specs.declared.places.Pos.{Pos}
 use Rattle.ckc_base.specs.declared.runtime_checks.Check.{Check}
-use Rattle.ckc_base.specs.Traces.{Event, Going, Ended, Stopped, Stuck, Fault, Standing, Showing, put_byte, output}
+use Rattle.ckc_base.specs.Traces.{Event, Ended, Stopped, Stuck, Fault, Standing, Showing, put_byte, output}
 use Rattle.ckc_base.specs.Follows.{Follows, IsSafe, IsOver, IsPrefix, IsBorneOut}
 use Rattle.ckc_base.proofs.Runs.{shown-later}
 use Rattle.ckc_rv.specs.Machine.{Parts, machine, machine_system, first_state}
@@ -122,7 +122,7 @@ module _ (text : List ℕ) (parts : Parts) (built : Built text parts) (limit : �
   -- what a run shows over one input, where no object failed
   record Plain (o : Observed) (given left : List ℕ) : Type 0 where
     says : Says o (machine parts given limit).standing
-    put : Printed old.written new.written (output (machine parts given limit).trace)
+    put : Printed old.sink.written new.sink.written (output (machine parts given limit).trace)
     took : given ≡ taken (machine parts given limit).trace ++ left
 
   over_input : (o : Observed) → ((given : List ℕ) (a b : Seen) → ShownOver parts given limit a b o → Shown parts given limit a b o) → Runs o
@@ -144,21 +144,21 @@ module _ (text : List ℕ) (parts : Parts) (built : Built text parts) (limit : �
     );
   }
 
-  pub ran_ended : (value : ℕ) → Runs (observed.Ended value) → OverInput old new (λ given left. ComesToBeStuck built.program given ⊎ ComesTo built.program (Ended value) old.written new.written given left)
+  pub ran_ended : (value : ℕ) → Runs (observed.Ended value) → OverInput old new (λ given left. ComesToBeStuck built.program given ⊎ ComesTo built.program (Ended value) old.sink.written new.sink.written given left)
   ran_ended value ran =
-      over_input (observed.Ended value) (λ given a b s. s) ran (λ given left. ComesToBeStuck built.program given ⊎ ComesTo built.program (Ended value) old.written new.written given left)
-      (λ given left bytes s. over_as built.program parts given (built.follows given bytes) limit left old.written new.written s.put s.took (Ended value) tt s.says)
+      over_input (observed.Ended value) (λ given a b s. s) ran (λ given left. ComesToBeStuck built.program given ⊎ ComesTo built.program (Ended value) old.sink.written new.sink.written given left)
+      (λ given left bytes s. over_as built.program parts given (built.follows given bytes) limit left old.sink.written new.sink.written s.put s.took (Ended value) tt s.says)
 
   pub ran_stopped : (check : Check) (at : Pos) → Runs (observed.Stopped check at)
-      → OverInput old new (λ given left. ComesToBeStuck built.program given ⊎ ComesTo built.program (Stopped check at) old.written new.written given left)
+      → OverInput old new (λ given left. ComesToBeStuck built.program given ⊎ ComesTo built.program (Stopped check at) old.sink.written new.sink.written given left)
   ran_stopped check at ran =
-      over_input (observed.Stopped check at) (λ given a b s. s) ran (λ given left. ComesToBeStuck built.program given ⊎ ComesTo built.program (Stopped check at) old.written new.written given left)
-      (λ given left bytes s. over_as built.program parts given (built.follows given bytes) limit left old.written new.written s.put s.took (Stopped check at) tt s.says)
+      over_input (observed.Stopped check at) (λ given a b s. s) ran (λ given left. ComesToBeStuck built.program given ⊎ ComesTo built.program (Stopped check at) old.sink.written new.sink.written given left)
+      (λ given left bytes s. over_as built.program parts given (built.follows given bytes) limit left old.sink.written new.sink.written s.put s.took (Stopped check at) tt s.says)
 
-  pub ran_going : Runs observed.Going → OverInput old new (λ given left. ComesToBeStuck built.program given ⊎ ComesBy built.program old.written new.written given left)
+  pub ran_going : Runs observed.Going → OverInput old new (λ given left. ComesToBeStuck built.program given ⊎ ComesBy built.program old.sink.written new.sink.written given left)
   ran_going ran =
-      over_input observed.Going (λ given a b s. s) ran (λ given left. ComesToBeStuck built.program given ⊎ ComesBy built.program old.written new.written given left)
-      (λ given left bytes s. goes_as built.program parts given (built.follows given bytes) limit left old.written new.written s.put s.took)
+      over_input observed.Going (λ given a b s. s) ran (λ given left. ComesToBeStuck built.program given ⊎ ComesBy built.program old.sink.written new.sink.written given left)
+      (λ given left bytes s. goes_as built.program parts given (built.follows given bytes) limit left old.sink.written new.sink.written s.put s.took)
 
   pub ran_faulty : (kind : FaultKind) (pc : ℕ) → Runs (observed.Fault kind pc) → OverInput old new (λ given left. ComesToBeStuck built.program given)
   ran_faulty kind pc ran =
@@ -182,9 +182,9 @@ module _ (text : List ℕ) (parts : Parts) (built : Built text parts) (limit : �
       bytes : AreBytes given
       holds : Holds given
       says : Says o (machine parts given limit).standing
-      put : Printed old.written new.written (output (machine parts given limit).trace)
+      put : Printed old.sink.written new.sink.written (output (machine parts given limit).trace)
 
-    some_input : (Holds : List ℕ → Type 0) → OfInput old.left Holds → Some_input Holds
+    some_input : (Holds : List ℕ → Type 0) → OfInput old.source.left Holds → Some_input Holds
     some_input Holds (inl q) =
         let s = plainly q.0 old new o read write (ran.shown q.0 q.1) in
         record { given = q.0; bytes = q.2; holds = q.3; says = s.stands; put = s.put }
@@ -194,12 +194,12 @@ module _ (text : List ℕ) (parts : Parts) (built : Built text parts) (limit : �
         let s = plainly all (fed all old) (fed [] new) o read write (ran.any.2 [] (λ e. refl)) in
         record { given = all; bytes = are; holds = q all are; says = s.stands; put = s.put }
 
-    pub ran_in_time : (stands : Standing) → IsOver stands → OfInput old.left (StandsInTime built.program limit stands) → Says o stands
+    pub ran_in_time : (stands : Standing) → IsOver stands → OfInput old.source.left (StandsInTime built.program limit stands) → Says o stands
     ran_in_time stands over h =
         let s = some_input (StandsInTime built.program limit stands) h in
         subst (Says o) (in_time built.program parts s.given (built.follows s.given s.bytes) stands over s.holds.0 limit s.holds.2 s.holds.1) s.says
 
-    pub ran_put : (bytes : List ℕ) → OfInput old.left (PutsInTime built.program limit bytes) → PrintedFirst old.written new.written bytes
+    pub ran_put : (bytes : List ℕ) → OfInput old.source.left (PutsInTime built.program limit bytes) → PrintedFirst old.sink.written new.sink.written bytes
     ran_put bytes h =
         let s = some_input (PutsInTime built.program limit bytes) h in
         let begins = reached built.program parts s.given (built.follows s.given s.bytes) s.holds.0 limit s.holds.2 s.holds.1 in (

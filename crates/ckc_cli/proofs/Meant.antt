@@ -170,9 +170,9 @@ module _ (words : List (List ℕ)) (old new : Seen) (before after : Stored) (qui
         same (inl x) = inl (subst (λ q. ShowsAs q limit old new s) (meanings_exact.made_once text x.0 p x.2.1 m) (subst (λ k. ShowsAs x.0 k old new s) x.2.0 x.3))
         same (inr e) = inr e
 
-    module _ (given : List ℕ) (told : old.left ≡ Some given) (fine : AllIsFine old new before after) where
+    module _ (given : List ℕ) (told : old.source.left ≡ Some given) (fine : AllIsFine old new before after) where
       -- what every run that no object cuts short shows
-      by_told : (t : Status) → ((o : seens.Seen) (left : List ℕ) → Interprets p limit old.written new.written o given left → o ≢ seen.ReadFault → o ≢ seen.WriteFault
+      by_told : (t : Status) → ((o : seens.Seen) (left : List ℕ) → Interprets p limit old.sink.written new.sink.written o given left → o ≢ seen.ReadFault → o ≢ seen.WriteFault
           → (meant_status o ≡ t) ⊎ (meant_status o ≡ status.Memory)) → (s ≡ t) ⊎ (s ≡ status.Memory)
       by_told t h = shown_as (interp_always fine.store)
         where
@@ -189,18 +189,18 @@ module _ (words : List (List ℕ)) (old new : Seen) (before after : Stored) (qui
       pub ended_always : (n value : ℕ) → n ≤ limit → standing_after p given n ≡ Ended value → (s ≡ status.Ended value) ⊎ (s ≡ status.Memory)
       ended_always n value le e =
           let final = stays p given n limit (Ended value) e (λ q. cc) le in
-          by_told (status.Ended value) (λ o left x r w. ended_at p given limit old.written new.written left value final o (at_limit p given limit old.written new.written left o x) r w)
+          by_told (status.Ended value) (λ o left x r w. ended_at p given limit old.sink.written new.sink.written left value final o (at_limit p given limit old.sink.written new.sink.written left o x) r w)
 
       pub stopped_always : (n : ℕ) (check : Check) (at : Pos) → n ≤ limit → standing_after p given n ≡ Stopped check at → (s ≡ status.Stopped check at) ⊎ (s ≡ status.Memory)
       stopped_always n check at le e =
           let final = stays p given n limit (Stopped check at) e (λ q. cc) le in
-          by_told (status.Stopped check at) (λ o left x r w. stopped_at p given limit old.written new.written left check at final o (at_limit p given limit old.written new.written left o x) r w)
+          by_told (status.Stopped check at) (λ o left x r w. stopped_at p given limit old.sink.written new.sink.written left check at final o (at_limit p given limit old.sink.written new.sink.written left o x) r w)
 
       pub going_always : standing_after p given limit ≡ Going → (s ≡ status.Going) ⊎ (s ≡ status.Memory)
-      going_always e = by_told status.Going (λ o left x r w. going_at p given limit old.written new.written left e o (at_limit p given limit old.written new.written left o x) r w)
+      going_always e = by_told status.Going (λ o left x r w. going_at p given limit old.sink.written new.sink.written left e o (at_limit p given limit old.sink.written new.sink.written left o x) r w)
 
       pub stuck_always : (n : ℕ) → n ≤ limit → IsStuckFirst p given n → (s ≡ status.Stuck (place_after p given n) (unchecked_since p given n)) ⊎ (s ≡ status.Memory)
       stuck_always n le f =
           let final = stays p given n limit Stuck f.stuck (λ q. cc) le in
           by_told (status.Stuck (place_after p given n) (unchecked_since p given n))
-          (λ o left x r w. stuck_at p given limit old.written new.written left n f final o x (at_limit p given limit old.written new.written left o x) r w)
+          (λ o left x r w. stuck_at p given limit old.sink.written new.sink.written left n f final o x (at_limit p given limit old.sink.written new.sink.written left o x) r w)

@@ -144,9 +144,9 @@ module _ (words : List (List ℕ)) (old new : Seen) (before after : Stored) (qui
     by_keeping_memory : (command : Command) → Reads words command → (bytes : List ℕ) → Holds before.files (name_of command) bytes
         → (name image : List ℕ) → Keeps command bytes name image → s ≡ status.Memory → KeptOnce before after name image (Err error.Memory) → quiet → untaken → Leaf s
     by_listing : (command : Command) → Reads words command → (bytes : List ℕ) → Holds before.files (name_of command) bytes
-        → (text : List ℕ) → Lists command bytes text → s ≡ status.Done → Printed old.written new.written text → Unkept before after → untaken → Leaf s
+        → (text : List ℕ) → Lists command bytes text → s ≡ status.Done → Printed old.sink.written new.sink.written text → Unkept before after → untaken → Leaf s
     by_cut_listing : (command : Command) → Reads words command → (bytes : List ℕ) → Holds before.files (name_of command) bytes
-        → (text : List ℕ) → Lists command bytes text → s ≡ status.WriteFault → Rose old.write_faults new.write_faults → ListedFront old.written new.written text
+        → (text : List ℕ) → Lists command bytes text → s ≡ status.WriteFault → Rose old.sink.faults new.sink.faults → ListedFront old.sink.written new.sink.written text
         → Unkept before after → untaken → Leaf s
     by_running : (command : Command) → Reads words command → (bytes : List ℕ) → Holds before.files (name_of command) bytes
         → (parts : Parts) (limit : ℕ) → Executes command bytes parts limit → (o : Observed) → s ≡ status_of o → Ran parts limit old new untaken o → Unkept before after → Leaf s
@@ -228,7 +228,7 @@ module _ (words : List (List ℕ)) (old new : Seen) (before after : Stored) (qui
   store_fault_by s (by_running command r bytes h parts limit x o e ran f) q = absurd (not_shown o (status.StoreFault) (sym e ∙ q) refl)
   store_fault_by s (by_meaning command r bytes h p limit x o e ran f) q = absurd (not_meant o status.StoreFault (sym e ∙ q) refl)
 
-  pub write_fault_by : (s : Status) → Leaf s → s ≡ status.WriteFault → Rose old.write_faults new.write_faults × Over words before.files (IsCutShort old new untaken)
+  pub write_fault_by : (s : Status) → Leaf s → s ≡ status.WriteFault → Rose old.sink.faults new.sink.faults × Over words before.files (IsCutShort old new untaken)
   write_fault_by s (by_usage none e a b k) q = absurd (let z : status.Usage ≡ status.WriteFault = sym e ∙ q in cc)
   write_fault_by s (by_store command r rose lacks e i) q = absurd (let z : status.StoreFault ≡ status.WriteFault = sym e ∙ q in cc)
   write_fault_by s (by_refusal command r bytes h fault x e i) q = absurd (let z : status.Refused fault ≡ status.WriteFault = sym e ∙ q in cc)

@@ -25,8 +25,8 @@ RanBuilt text limit old new untaken s =
 -- Where the input is one of bytes, something holds of what was left of it before and of what is left then: over what
 -- the input tells to be left, and over any input, whatever may come behind the bytes that it gave.
 pub record OverInput (old new : Seen) (Holds : List ℕ → List ℕ → Type 0) : Type 0 where
-  pub told : WhereTold old.left new.left (λ given left. AreBytes given → Holds given left)
-  pub any : OverAny old.ended new.ended old.answers new.answers (λ given left. AreBytes given → Holds given left)
+  pub told : WhereTold old.source.left new.source.left (λ given left. AreBytes given → Holds given left)
+  pub any : OverAny old.source new.source (λ given left. AreBytes given → Holds given left)
 
 -- something holds of the bytes that the input tells to be left, or of any
 abbrev pub OfInput : Option (List ℕ) → (List ℕ → Type 0) → Type 0
@@ -69,13 +69,13 @@ pub record ComesBy (p : Program) (old new : Option (List ℕ)) (given left : Lis
 -- The text has a meaning, which comes to stand so, with the bytes that were put and taken, or to be stuck.
 abbrev pub StandsAsMeant : Standing → Seen → Seen → Command → List ℕ → Type 0
 StandsAsMeant stands old new command text =
-    (p : Program) × HasMeaning text p × OverInput old new (λ given left. ComesToBeStuck p given ⊎ ComesTo p stands old.written new.written given left)
+    (p : Program) × HasMeaning text p × OverInput old new (λ given left. ComesToBeStuck p given ⊎ ComesTo p stands old.sink.written new.sink.written given left)
 
 -- The text has a meaning, which comes to have put what was put and taken what was taken, and perhaps more, or to be
 -- stuck.
 abbrev pub GoesAsMeant : Seen → Seen → Command → List ℕ → Type 0
 GoesAsMeant old new command text =
-    (p : Program) × HasMeaning text p × OverInput old new (λ given left. ComesToBeStuck p given ⊎ ComesBy p old.written new.written given left)
+    (p : Program) × HasMeaning text p × OverInput old new (λ given left. ComesToBeStuck p given ⊎ ComesBy p old.sink.written new.sink.written given left)
 
 -- The text has a meaning, which comes to be stuck.
 abbrev pub IsStuckAsMeant : Seen → Seen → Command → List ℕ → Type 0

@@ -62,8 +62,8 @@ pub fn ccc<S: Source, O: Sink, E: Sink, F: Store>(
     // output.
     ensures done { result ≡ Status.Done
         → Over (bytes_of words.now) (F.seen store.old).files (IsDone
-        (seen_of S.left S.ended S.answers S.faults O.written O.faults input.old out.old)
-        (seen_of S.left S.ended S.answers S.faults O.written O.faults input.new out.new)
+        (seen_of (S.seen input.old) (O.seen out.old))
+        (seen_of (S.seen input.new) (O.seen out.new))
         (F.seen store.old) (F.seen store.new)) }
     ensures kept_always { (command : Command) (bytes name image : List ℕ)
         → Given (bytes_of words.now) (F.seen store.old).files command bytes
@@ -76,15 +76,15 @@ pub fn ccc<S: Source, O: Sink, E: Sink, F: Store>(
     ensures listed_always { (command : Command) (bytes text : List ℕ)
         → Given (bytes_of words.now) (F.seen store.old).files command bytes
         → StoreIsFine (F.seen store.old) (F.seen store.new)
-        → Lists command bytes text → ¬ Rose (O.faults out.old) (O.faults out.new)
+        → Lists command bytes text → ¬ Rose (O.seen out.old).faults (O.seen out.new).faults
         → (result ≡ Status.Done) ⊎ (result ≡ Status.Memory) }
 
     // Ended, Stopped, Going, MachineFault and ReadFault come only as a run of an image shows them, or a run of the
     // meaning of a text, and a run of an image always shows one of them, or WriteFault.
     ensures shown { (o : Observed) → o ≢ Observed.WriteFault → result ≡ status_of o
         → Over (bytes_of words.now) (F.seen store.old).files (IsRun
-        (seen_of S.left S.ended S.answers S.faults O.written O.faults input.old out.old)
-        (seen_of S.left S.ended S.answers S.faults O.written O.faults input.new out.new)
+        (seen_of (S.seen input.old) (O.seen out.old))
+        (seen_of (S.seen input.new) (O.seen out.new))
         (input.new ≡ input.old) o) }
     ensures shown_always { (command : Command) (bytes : List ℕ) (parts : Parts) (limit : ℕ)
         → Given (bytes_of words.now) (F.seen store.old).files command bytes
@@ -92,8 +92,8 @@ pub fn ccc<S: Source, O: Sink, E: Sink, F: Store>(
         → Executes command bytes parts limit
         → ((parts' : Parts) × (limit' : ℕ) × (o : Observed)
         × Executes command bytes parts' limit' × (result ≡ status_of o) × Ran parts' limit'
-        (seen_of S.left S.ended S.answers S.faults O.written O.faults input.old out.old)
-        (seen_of S.left S.ended S.answers S.faults O.written O.faults input.new out.new)
+        (seen_of (S.seen input.old) (O.seen out.old))
+        (seen_of (S.seen input.new) (O.seen out.new))
         (input.new ≡ input.old) o) ⊎ (result ≡ Status.Memory) }
 
     // The machine of an image of a text that has a meaning is run.
@@ -101,8 +101,8 @@ pub fn ccc<S: Source, O: Sink, E: Sink, F: Store>(
         → Given (bytes_of words.now) (F.seen store.old).files (Exec name limit) text
         → StoreIsFine (F.seen store.old) (F.seen store.new)
         → HasMeaning text p → RanBuilt text limit
-        (seen_of S.left S.ended S.answers S.faults O.written O.faults input.old out.old)
-        (seen_of S.left S.ended S.answers S.faults O.written O.faults input.new out.new)
+        (seen_of (S.seen input.old) (O.seen out.old))
+        (seen_of (S.seen input.new) (O.seen out.new))
         (input.new ≡ input.old) result ⊎ (result ≡ Status.Memory) }
 
     // The headline. `exec` ends only as the meaning of the text does, with the bytes that it puts and takes, or where
@@ -110,30 +110,30 @@ pub fn ccc<S: Source, O: Sink, E: Sink, F: Store>(
     ensures exec_ended { (name : List ℕ) (limit value : ℕ)
         → Reads (bytes_of words.now) (Exec name limit) → result ≡ Status.Ended value
         → Over (bytes_of words.now) (F.seen store.old).files (StandsAsMeant (Ended value)
-        (seen_of S.left S.ended S.answers S.faults O.written O.faults input.old out.old)
-        (seen_of S.left S.ended S.answers S.faults O.written O.faults input.new out.new)) }
+        (seen_of (S.seen input.old) (O.seen out.old))
+        (seen_of (S.seen input.new) (O.seen out.new))) }
     ensures exec_always { (name text : List ℕ) (limit value : ℕ) (p : Program)
         → Given (bytes_of words.now) (F.seen store.old).files (Exec name limit) text
         → HasMeaning text p → AllIsFine
-        (seen_of S.left S.ended S.answers S.faults O.written O.faults input.old out.old)
-        (seen_of S.left S.ended S.answers S.faults O.written O.faults input.new out.new)
+        (seen_of (S.seen input.old) (O.seen out.old))
+        (seen_of (S.seen input.new) (O.seen out.new))
         (F.seen store.old) (F.seen store.new)
-        → OfInput (S.left input.old) (StandsInTime p limit (Ended value))
+        → OfInput (S.seen input.old).left (StandsInTime p limit (Ended value))
         → (result ≡ Status.Ended value) ⊎ (result ≡ Status.Memory) }
     // It stops at a check only as the meaning does, and always does so where the meaning stops in time.
     ensures exec_stopped { (name : List ℕ) (limit : ℕ) (check : Check) (at : Pos)
         → Reads (bytes_of words.now) (Exec name limit) → result ≡ Status.Stopped check at
         → Over (bytes_of words.now) (F.seen store.old).files (StandsAsMeant (Stopped check at)
-        (seen_of S.left S.ended S.answers S.faults O.written O.faults input.old out.old)
-        (seen_of S.left S.ended S.answers S.faults O.written O.faults input.new out.new)) }
+        (seen_of (S.seen input.old) (O.seen out.old))
+        (seen_of (S.seen input.new) (O.seen out.new))) }
     ensures stopped_always { (name text : List ℕ) (limit : ℕ) (p : Program) (check : Check)
         (at : Pos)
         → Given (bytes_of words.now) (F.seen store.old).files (Exec name limit) text
         → HasMeaning text p → AllIsFine
-        (seen_of S.left S.ended S.answers S.faults O.written O.faults input.old out.old)
-        (seen_of S.left S.ended S.answers S.faults O.written O.faults input.new out.new)
+        (seen_of (S.seen input.old) (O.seen out.old))
+        (seen_of (S.seen input.new) (O.seen out.new))
         (F.seen store.old) (F.seen store.new)
-        → OfInput (S.left input.old) (StandsInTime p limit (Stopped check at))
+        → OfInput (S.seen input.old).left (StandsInTime p limit (Stopped check at))
         → (result ≡ Status.Stopped check at) ⊎ (result ≡ Status.Memory) }
 
     // Where the limit is reached, the bytes that were put and taken are a front of those that the meaning puts and
@@ -142,79 +142,80 @@ pub fn ccc<S: Source, O: Sink, E: Sink, F: Store>(
     ensures exec_going { (name : List ℕ) (limit : ℕ)
         → Reads (bytes_of words.now) (Exec name limit) → result ≡ Status.Going
         → Over (bytes_of words.now) (F.seen store.old).files (GoesAsMeant
-        (seen_of S.left S.ended S.answers S.faults O.written O.faults input.old out.old)
-        (seen_of S.left S.ended S.answers S.faults O.written O.faults input.new out.new)) }
+        (seen_of (S.seen input.old) (O.seen out.old))
+        (seen_of (S.seen input.new) (O.seen out.new))) }
     ensures put_always { (name text bytes : List ℕ) (limit : ℕ) (p : Program)
         → Given (bytes_of words.now) (F.seen store.old).files (Exec name limit) text
         → HasMeaning text p → AllIsFine
-        (seen_of S.left S.ended S.answers S.faults O.written O.faults input.old out.old)
-        (seen_of S.left S.ended S.answers S.faults O.written O.faults input.new out.new)
+        (seen_of (S.seen input.old) (O.seen out.old))
+        (seen_of (S.seen input.new) (O.seen out.new))
         (F.seen store.old) (F.seen store.new)
-        → OfInput (S.left input.old) (PutsInTime p limit bytes)
-        → PrintedFirst (O.written out.old) (O.written out.new) bytes ⊎ (result ≡ Status.Memory) }
+        → OfInput (S.seen input.old).left (PutsInTime p limit bytes)
+        → PrintedFirst (O.seen out.old).written (O.seen out.new).written bytes
+        ⊎ (result ≡ Status.Memory) }
     // It shows a fault of the machine only where the meaning is stuck.
     ensures exec_faultless { (name : List ℕ) (limit pc : ℕ) (kind : FaultKind)
         → Reads (bytes_of words.now) (Exec name limit) → result ≡ Status.MachineFault kind pc
         → Over (bytes_of words.now) (F.seen store.old).files (IsStuckAsMeant
-        (seen_of S.left S.ended S.answers S.faults O.written O.faults input.old out.old)
-        (seen_of S.left S.ended S.answers S.faults O.written O.faults input.new out.new)) }
+        (seen_of (S.seen input.old) (O.seen out.old))
+        (seen_of (S.seen input.new) (O.seen out.new))) }
 
     // `interp` ends, stops, goes on and is stuck only as the meaning of the text does within the limit, with exactly
     // the bytes that it puts and takes; and it always does so where the input is told and no object fails.
     ensures interp_ended { (name : List ℕ) (limit value : ℕ)
         → Reads (bytes_of words.now) (Interp name limit) → result ≡ Status.Ended value
         → Over (bytes_of words.now) (F.seen store.old).files (ShowsMeaning limit
-        (seen_of S.left S.ended S.answers S.faults O.written O.faults input.old out.old)
-        (seen_of S.left S.ended S.answers S.faults O.written O.faults input.new out.new)
+        (seen_of (S.seen input.old) (O.seen out.old))
+        (seen_of (S.seen input.new) (O.seen out.new))
         (Seen.Ended value)) }
     ensures interp_ended_always { (name text given : List ℕ) (limit n value : ℕ) (p : Program)
         → Given (bytes_of words.now) (F.seen store.old).files (Interp name limit) text
-        → HasMeaning text p → S.left input.old ≡ Some given → AllIsFine
-        (seen_of S.left S.ended S.answers S.faults O.written O.faults input.old out.old)
-        (seen_of S.left S.ended S.answers S.faults O.written O.faults input.new out.new)
+        → HasMeaning text p → (S.seen input.old).left ≡ Some given → AllIsFine
+        (seen_of (S.seen input.old) (O.seen out.old))
+        (seen_of (S.seen input.new) (O.seen out.new))
         (F.seen store.old) (F.seen store.new)
         → n ≤ limit → standing_after p given n ≡ Ended value
         → (result ≡ Status.Ended value) ⊎ (result ≡ Status.Memory) }
     ensures interp_stopped { (name : List ℕ) (limit : ℕ) (check : Check) (at : Pos)
         → Reads (bytes_of words.now) (Interp name limit) → result ≡ Status.Stopped check at
         → Over (bytes_of words.now) (F.seen store.old).files (ShowsMeaning limit
-        (seen_of S.left S.ended S.answers S.faults O.written O.faults input.old out.old)
-        (seen_of S.left S.ended S.answers S.faults O.written O.faults input.new out.new)
+        (seen_of (S.seen input.old) (O.seen out.old))
+        (seen_of (S.seen input.new) (O.seen out.new))
         (Seen.Stopped check at)) }
     ensures interp_stopped_always { (name text given : List ℕ) (limit n : ℕ) (check : Check)
         (at : Pos) (p : Program)
         → Given (bytes_of words.now) (F.seen store.old).files (Interp name limit) text
-        → HasMeaning text p → S.left input.old ≡ Some given → AllIsFine
-        (seen_of S.left S.ended S.answers S.faults O.written O.faults input.old out.old)
-        (seen_of S.left S.ended S.answers S.faults O.written O.faults input.new out.new)
+        → HasMeaning text p → (S.seen input.old).left ≡ Some given → AllIsFine
+        (seen_of (S.seen input.old) (O.seen out.old))
+        (seen_of (S.seen input.new) (O.seen out.new))
         (F.seen store.old) (F.seen store.new)
         → n ≤ limit → standing_after p given n ≡ Stopped check at
         → (result ≡ Status.Stopped check at) ⊎ (result ≡ Status.Memory) }
     ensures interp_going { (name : List ℕ) (limit : ℕ)
         → Reads (bytes_of words.now) (Interp name limit) → result ≡ Status.Going
         → Over (bytes_of words.now) (F.seen store.old).files (ShowsMeaning limit
-        (seen_of S.left S.ended S.answers S.faults O.written O.faults input.old out.old)
-        (seen_of S.left S.ended S.answers S.faults O.written O.faults input.new out.new)
+        (seen_of (S.seen input.old) (O.seen out.old))
+        (seen_of (S.seen input.new) (O.seen out.new))
         Seen.Going) }
     ensures interp_going_always { (name text given : List ℕ) (limit : ℕ) (p : Program)
         → Given (bytes_of words.now) (F.seen store.old).files (Interp name limit) text
-        → HasMeaning text p → S.left input.old ≡ Some given → AllIsFine
-        (seen_of S.left S.ended S.answers S.faults O.written O.faults input.old out.old)
-        (seen_of S.left S.ended S.answers S.faults O.written O.faults input.new out.new)
+        → HasMeaning text p → (S.seen input.old).left ≡ Some given → AllIsFine
+        (seen_of (S.seen input.old) (O.seen out.old))
+        (seen_of (S.seen input.new) (O.seen out.new))
         (F.seen store.old) (F.seen store.new)
         → standing_after p given limit ≡ Going
         → (result ≡ Status.Going) ⊎ (result ≡ Status.Memory) }
     ensures interp_stuck { (name : List ℕ) (limit : ℕ) (at : Pos) (since : Option Pos)
         → Reads (bytes_of words.now) (Interp name limit) → result ≡ Status.Stuck at since
         → Over (bytes_of words.now) (F.seen store.old).files (ShowsMeaning limit
-        (seen_of S.left S.ended S.answers S.faults O.written O.faults input.old out.old)
-        (seen_of S.left S.ended S.answers S.faults O.written O.faults input.new out.new)
+        (seen_of (S.seen input.old) (O.seen out.old))
+        (seen_of (S.seen input.new) (O.seen out.new))
         (Seen.Stuck at since)) }
     ensures interp_stuck_always { (name text given : List ℕ) (limit n : ℕ) (p : Program)
         → Given (bytes_of words.now) (F.seen store.old).files (Interp name limit) text
-        → HasMeaning text p → S.left input.old ≡ Some given → AllIsFine
-        (seen_of S.left S.ended S.answers S.faults O.written O.faults input.old out.old)
-        (seen_of S.left S.ended S.answers S.faults O.written O.faults input.new out.new)
+        → HasMeaning text p → (S.seen input.old).left ≡ Some given → AllIsFine
+        (seen_of (S.seen input.old) (O.seen out.old))
+        (seen_of (S.seen input.new) (O.seen out.new))
         (F.seen store.old) (F.seen store.new)
         → n ≤ limit → IsStuckFirst p given n
         → (result ≡ Status.Stuck (place_after p given n) (unchecked_since p given n))
@@ -224,25 +225,25 @@ pub fn ccc<S: Source, O: Sink, E: Sink, F: Store>(
         → Given (bytes_of words.now) (F.seen store.old).files (Interp name limit) text
         → StoreIsFine (F.seen store.old) (F.seen store.new)
         → HasMeaning text p → ShowsAs p limit
-        (seen_of S.left S.ended S.answers S.faults O.written O.faults input.old out.old)
-        (seen_of S.left S.ended S.answers S.faults O.written O.faults input.new out.new)
+        (seen_of (S.seen input.old) (O.seen out.old))
+        (seen_of (S.seen input.new) (O.seen out.new))
         result ⊎ (result ≡ Status.Memory) }
     ensures interp_memory { (name : List ℕ) (limit : ℕ)
         → Reads (bytes_of words.now) (Interp name limit) → result ≡ Status.Memory
         → ((out.new ≡ out.old) × (input.new ≡ input.old))
         ⊎ Over (bytes_of words.now) (F.seen store.old).files (ShowsMeaning limit
-        (seen_of S.left S.ended S.answers S.faults O.written O.faults input.old out.old)
-        (seen_of S.left S.ended S.answers S.faults O.written O.faults input.new out.new)
+        (seen_of (S.seen input.old) (O.seen out.old))
+        (seen_of (S.seen input.new) (O.seen out.new))
         Seen.Memory) }
 
     // The faults of the objects come only where their counts rose.
     ensures read_fault { result ≡ Status.ReadFault
-        → Rose (S.faults input.old) (S.faults input.new) }
+        → Rose (S.seen input.old).faults (S.seen input.new).faults }
     ensures write_fault { result ≡ Status.WriteFault
-        → Rose (O.faults out.old) (O.faults out.new)
+        → Rose (O.seen out.old).faults (O.seen out.new).faults
         × Over (bytes_of words.now) (F.seen store.old).files (IsCutShort
-        (seen_of S.left S.ended S.answers S.faults O.written O.faults input.old out.old)
-        (seen_of S.left S.ended S.answers S.faults O.written O.faults input.new out.new)
+        (seen_of (S.seen input.old) (O.seen out.old))
+        (seen_of (S.seen input.new) (O.seen out.new))
         (input.new ≡ input.old)) }
     ensures store_fault { result ≡ Status.StoreFault
         → Rose (F.seen store.old).faults (F.seen store.new).faults }
@@ -283,15 +284,15 @@ pub fn ccc<S: Source, O: Sink, E: Sink, F: Store>(
     ensures kept_done { result ≢ Status.Done → (F.seen store.new).kept ≡ (F.seen store.old).kept }
 
     // Counts of faults do not fall.
-    ensures input_counts { S.faults input.old ≤ S.faults input.new }
-    ensures out_counts { O.faults out.old ≤ O.faults out.new }
+    ensures input_counts { (S.seen input.old).faults ≤ (S.seen input.new).faults }
+    ensures out_counts { (O.seen out.old).faults ≤ (O.seen out.new).faults }
     ensures store_counts { (F.seen store.old).faults ≤ (F.seen store.new).faults }
 
     // The report of the status is put on err in one call; a fault of err changes no status.
-    ensures report { Reported (report_of result) (E.written err.old) (E.written err.new)
-        (Rose (E.faults err.old) (E.faults err.new)) }
-    ensures once { E.puts err.new ≡ puts_after (report_of result) (E.puts err.old) }
-    ensures err_counts { E.faults err.old ≤ E.faults err.new }
+    ensures report { Reported (report_of result) (E.seen err.old).written (E.seen err.new).written
+        (Rose (E.seen err.old).faults (E.seen err.new).faults) }
+    ensures once { (E.seen err.new).puts ≡ puts_after (report_of result) (E.seen err.old).puts }
+    ensures err_counts { (E.seen err.old).faults ≤ (E.seen err.new).faults }
 {
     let status = asked(alloc, words, input, out, store);
     tell(&status, err);
@@ -300,10 +301,11 @@ pub fn ccc<S: Source, O: Sink, E: Sink, F: Store>(
 
 /// Puts the line of a status, where it has one.
 fn tell<E: Sink>(status: &Status, err: &mut E)
-    ensures report { Reported (report_of status.now) (E.written err.old) (E.written err.new)
-        (Rose (E.faults err.old) (E.faults err.new)) }
-    ensures once { E.puts err.new ≡ puts_after (report_of status.now) (E.puts err.old) }
-    ensures counts { E.faults err.old ≤ E.faults err.new }
+    ensures report { Reported (report_of status.now)
+        (E.seen err.old).written (E.seen err.new).written
+        (Rose (E.seen err.old).faults (E.seen err.new).faults) }
+    ensures once { (E.seen err.new).puts ≡ puts_after (report_of status.now) (E.seen err.old).puts }
+    ensures counts { (E.seen err.old).faults ≤ (E.seen err.new).faults }
 {
     let line = report(status);
     put_line(line.as_bytes(), err);

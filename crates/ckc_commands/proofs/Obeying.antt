@@ -60,7 +60,7 @@ module _ (old new : Seen) (before after : Stored) (quiet untaken : Type 0) (s : 
   run_came name bytes limit le (bad k first e idle) f = causes.bad_image k (inr (le, first)) e (record { unkept = f; put = idle.0; took = idle.1 })
 
   pub list_came : (name bytes : List ℕ) → length bytes ≤ longest_image → untaken
-      → OverImage bytes (λ p. Listed (listing p.entry p.code p.initial) old.written new.written old.write_faults new.write_faults s) quiet s → Unkept before after
+      → OverImage bytes (λ p. Listed (listing p.entry p.code p.initial) old.sink.written new.sink.written old.sink.faults new.sink.faults s) quiet s → Unkept before after
       → Came (Show name) bytes old new before after quiet untaken s
   list_came name bytes le took (proper q j l) f = causes.listed (listing q.entry q.code q.initial) (q, j, refl) l f took
   list_came name bytes le took (bad k first e idle) f = causes.bad_image k (inr (le, first)) e (record { unkept = f; put = idle; took = took })

@@ -33,17 +33,17 @@ zero_more : (limit : ℕ) → 0 + limit ≡ limit
 zero_more limit = omega arith
 
 module _ (parts : Parts) (given : List ℕ) (limit : ℕ) (m : Machine) (old new : Seen) where
-  arrived : (o : Observed) → answer_of m ≡ o → Arrives parts given 0 limit m old.left new.left old.written new.written → Shown parts given limit old new o
+  arrived : (o : Observed) → answer_of m ≡ o → Arrives parts given 0 limit m old.source.left new.source.left old.sink.written new.sink.written → Shown parts given limit old new o
   arrived o answer a =
-      let at : IsAt parts given limit m new.left = subst (λ k. IsAt parts given k m new.left) (zero_more limit) a.at in
+      let at : IsAt parts given limit m new.source.left = subst (λ k. IsAt parts given k m new.source.left) (zero_more limit) a.at in
       record {
         stands = subst (λ (x : Observed). Says x (machine parts given limit).standing) answer at.answer;
-        put = subst (λ t. Printed old.written new.written (output t)) (ap (since parts given 0) (zero_more limit) ∙ from_start parts given limit) a.put;
-        took = subst (λ t. Took old.left new.left (taken t)) (ap (since parts given 0) (zero_more limit) ∙ from_start parts given limit) a.took;
+        put = subst (λ t. Printed old.sink.written new.sink.written (output t)) (ap (since parts given 0) (zero_more limit) ∙ from_start parts given limit) a.put;
+        took = subst (λ t. Took old.source.left new.source.left (taken t)) (ap (since parts given 0) (zero_more limit) ∙ from_start parts given limit) a.took;
       }
 
   pub shown_over : (o : Observed) → answer_of m ≡ o
-      → Runs parts given 0 limit m old.left new.left old.written new.written old.read_faults new.read_faults old.write_faults new.write_faults o → ShownOver parts given limit old new o
+      → Runs parts given 0 limit m old.source.left new.source.left old.sink.written new.sink.written old.source.faults new.source.faults old.sink.faults new.sink.faults o → ShownOver parts given limit old new o
   shown_over (observed.Ended value) answer r = arrived (observed.Ended value) answer r
   shown_over (observed.Stopped check at) answer r = arrived (observed.Stopped check at) answer r
   shown_over observed.Going answer r = arrived observed.Going answer r
@@ -53,14 +53,14 @@ module _ (parts : Parts) (given : List ℕ) (limit : ℕ) (m : Machine) (old new
 
 module _ (parts : Parts) (limit : ℕ) (first last : Machine) (untaken : Type 0) (old new : Seen) (o : Observed) where
   pub ran_of : ((given : List ℕ) → IsAt parts given 0 first (Some given)) → answer_of last ≡ o
-      → ((parts : Parts) (given : List ℕ) (k : ℕ) → IsAt parts given k first old.left
-      → Runs parts given k limit last old.left new.left old.written new.written old.read_faults new.read_faults old.write_faults new.write_faults o)
+      → ((parts : Parts) (given : List ℕ) (k : ℕ) → IsAt parts given k first old.source.left
+      → Runs parts given k limit last old.source.left new.source.left old.sink.written new.sink.written old.source.faults new.source.faults old.sink.faults new.sink.faults o)
       → ((parts : Parts) (given : List ℕ) (k : ℕ) (left : Option (List ℕ)) → IsAt parts given k first left → AsksNothing parts given k limit
-      → untaken × Runs parts given k limit last left left old.written new.written old.read_faults new.read_faults old.write_faults new.write_faults o)
-      → OverAny old.ended new.ended old.answers new.answers (λ left left'. (parts : Parts) (given : List ℕ) (k : ℕ) → IsAt parts given k first (Some left)
-      → Runs parts given k limit last (Some left) (Some left') old.written new.written old.read_faults new.read_faults old.write_faults new.write_faults o)
-      → (answer_of first ≡ observed.Going → o ≡ observed.ReadFault → Rose old.read_faults new.read_faults)
-      → (answer_of first ≡ observed.Going → o ≡ observed.WriteFault → Rose old.write_faults new.write_faults)
+      → untaken × Runs parts given k limit last left left old.sink.written new.sink.written old.source.faults new.source.faults old.sink.faults new.sink.faults o)
+      → OverAny old.source new.source (λ left left'. (parts : Parts) (given : List ℕ) (k : ℕ) → IsAt parts given k first (Some left)
+      → Runs parts given k limit last (Some left) (Some left') old.sink.written new.sink.written old.source.faults new.source.faults old.sink.faults new.sink.faults o)
+      → (answer_of first ≡ observed.Going → o ≡ observed.ReadFault → Rose old.source.faults new.source.faults)
+      → (answer_of first ≡ observed.Going → o ≡ observed.WriteFault → Rose old.sink.faults new.sink.faults)
       → Ran parts limit old new untaken o
   ran_of at answer exact silent any read write = record {
     shown = λ given e. shown_over parts given limit last old new o answer (exact parts given 0 (subst (λ l. IsAt parts given 0 first l) (sym e) (at given)));

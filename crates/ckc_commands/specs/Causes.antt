@@ -37,7 +37,7 @@ pub data Came (command : Command) (bytes : List ℕ) (old new : Seen) (before af
       → Rose before.faults after.faults → ¬ IsTrue before.steady → quiet → untaken → Came command bytes old new before after quiet untaken s
   not_kept_for_memory : (name image : List ℕ) → Keeps command bytes name image → s ≡ status.Memory → KeptOnce before after name image (Err error.Memory)
       → quiet → untaken → Came command bytes old new before after quiet untaken s
-  listed : (text : List ℕ) → Lists command bytes text → Listed text old.written new.written old.write_faults new.write_faults s
+  listed : (text : List ℕ) → Lists command bytes text → Listed text old.sink.written new.sink.written old.sink.faults new.sink.faults s
       → Unkept before after → untaken → Came command bytes old new before after quiet untaken s
   ran : (parts : Parts) (limit : ℕ) → Executes command bytes parts limit → Ends parts limit old new quiet untaken s
       → Unkept before after → Came command bytes old new before after quiet untaken s
@@ -81,7 +81,7 @@ HasImage command bytes = (name : List ℕ) × (image : List ℕ) × Keeps comman
 abbrev pub IsDone : Seen → Seen → Stored → Stored → Command → List ℕ → Type 0
 IsDone old new before after command bytes =
     ((name : List ℕ) × (image : List ℕ) × Keeps command bytes name image × Kept before.files name image (Ok tt) after.files)
-    ⊎ ((text : List ℕ) × Lists command bytes text × Printed old.written new.written text)
+    ⊎ ((text : List ℕ) × Lists command bytes text × Printed old.sink.written new.sink.written text)
 
 -- the machine of an image was run, and showed this
 abbrev pub IsShown : Seen → Seen → Type 0 → Observed → Command → List ℕ → Type 0
@@ -94,7 +94,7 @@ IsRun old new untaken o command bytes = IsShown old new untaken o command bytes 
 -- the output failed in a run, or in a listing
 abbrev pub IsCutShort : Seen → Seen → Type 0 → Command → List ℕ → Type 0
 IsCutShort old new untaken command bytes =
-    IsRun old new untaken observed.WriteFault command bytes ⊎ ((text : List ℕ) × Lists command bytes text × ListedFront old.written new.written text)
+    IsRun old new untaken observed.WriteFault command bytes ⊎ ((text : List ℕ) × Lists command bytes text × ListedFront old.sink.written new.sink.written text)
 
 -- Where the files are told, every name but this one holds what it held.
 abbrev pub KeepsOthers : List ℕ → Option Files → Option Files → Type 0
@@ -108,8 +108,8 @@ StoreIsFine before after = (¬ Rose before.faults after.faults) ⊎ IsTrue befor
 -- no fault of the store that matters, and none of the input or of the output
 pub record AllIsFine (old new : Seen) (before after : Stored) : Type 0 where
   pub store : StoreIsFine before after
-  pub input : ¬ Rose old.read_faults new.read_faults
-  pub output : ¬ Rose old.write_faults new.write_faults
+  pub input : ¬ Rose old.source.faults new.source.faults
+  pub output : ¬ Rose old.sink.faults new.sink.faults
 
 -- The words read the command, and the store tells the bytes under its name.
 pub record Given (words : List (List ℕ)) (files : Option Files) (command : Command) (bytes : List ℕ) : Type 0 where

@@ -1,7 +1,7 @@
 -- What running the meaning of a text shows.
-use Rattle.std.specs.Prelude.{◌≡◌, ◌⊎◌, ◌≤◌, ◌<◌, ℕ, List}
+use Rattle.std.specs.Prelude.{◌≡◌, ◌<◌, ℕ, List}
 use Rattle.ckc_base.specs.Traces.{Standing, Going, Stuck}
-use Rattle.ckc_outside.specs.Outside.{Stored, Rose}
+use Rattle.ckc_outside.specs.Outside.{Rose}
 use Rattle.ckc_source.specs.Code.{Program}
 use Rattle.ckc_source.specs.Source.{source}
 use Rattle.ckc_interp.specs.declared.seen.Seen as seens
@@ -18,10 +18,10 @@ use Rattle.ckc_commands.specs.Running.{Seen}
 -- A run of the meaning of a program within a limit of steps shows this: over what the input tells to be left, and over
 -- any input, whatever may come behind the bytes that it gave. A fault of an object comes only where its count rose.
 pub record Interpreted (p : Program) (limit : ℕ) (old new : Seen) (o : seens.Seen) : Type 0 where
-  pub told : WhereTold old.left new.left (Interprets p limit old.written new.written o)
-  pub any : OverAny old.ended new.ended old.answers new.answers (Interprets p limit old.written new.written o)
-  pub read_fault : o ≡ seen.ReadFault → Rose old.read_faults new.read_faults
-  pub write_fault : o ≡ seen.WriteFault → Rose old.write_faults new.write_faults
+  pub told : WhereTold old.source.left new.source.left (Interprets p limit old.sink.written new.sink.written o)
+  pub any : OverAny old.source new.source (Interprets p limit old.sink.written new.sink.written o)
+  pub read_fault : o ≡ seen.ReadFault → Rose old.source.faults new.source.faults
+  pub write_fault : o ≡ seen.WriteFault → Rose old.sink.faults new.sink.faults
 
 -- the status of what a run of a meaning shows
 abbrev pub meant_status : seens.Seen → Status

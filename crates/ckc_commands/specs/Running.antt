@@ -1,7 +1,7 @@
 -- What running and listing an image shows.
 use Rattle.std.specs.Prelude.{◌≡◌, ℕ, Bool, true, false, List, ◌++◌, take, Option, Some}
 use Rattle.ckc_base.specs.Traces.{output}
-use Rattle.ckc_outside.specs.Outside.{Rose}
+use Rattle.ckc_outside.specs.Outside.{Rose, SeenSink, SeenSource}
 use Rattle.ckc_rv.specs.Machine.{Parts, machine}
 use Rattle.ckc_machine.specs.declared.observed.Observed.{Observed}
 use Rattle.ckc_machine.specs.declared.observed.Observed.TheVariants as observed
@@ -12,58 +12,45 @@ use Rattle.ckc_build.specs.Built.{IsImage}
 use Rattle.ckc_commands.specs.declared.status.Status.{Status}
 use Rattle.ckc_commands.specs.declared.status.Status.TheVariants as status
 
--- What is seen of the input and the output: what is left and what was written, where they tell it, how many faults
--- there were, and how many bytes the input gave and whether it had ended.
+-- what is seen of the input and of the output
 pub record Seen : Type 0 where
-  pub left : Option (List ℕ)
-  pub ended : Bool
-  pub answers : ℕ
-  pub written : Option (List ℕ)
-  pub read_faults : ℕ
-  pub write_faults : ℕ
+  pub source : SeenSource
+  pub sink : SeenSink
 
--- what is seen of an input and of an output, by what their kinds tell
-abbrev pub seen_of : {I O : Type 0} → (I → Option (List ℕ)) → (I → Bool) → (I → ℕ) → (I → ℕ) → (O → Option (List ℕ)) → (O → ℕ) → I → O → Seen
-seen_of {I} {O} left ended answers read_faults written write_faults input out = record {
-  left = left input;
-  ended = ended input;
-  answers = answers input;
-  written = written out;
-  read_faults = read_faults input;
-  write_faults = write_faults out;
-}
+abbrev pub seen_of : SeenSource → SeenSink → Seen
+seen_of source sink = record { source = source; sink = sink }
 
--- the same with an output of which this is seen
-abbrev pub putting : Seen → Option (List ℕ) → ℕ → Seen
-putting seen written faults = record seen { written = written; write_faults = faults }
+-- the same with a sink of which this is seen
+abbrev pub putting : Seen → SeenSink → Seen
+putting seen sink = record seen { sink = sink }
 
 -- the same with these bytes left
 abbrev pub fed : List ℕ → Seen → Seen
-fed given seen = record seen { left = Some given }
+fed given seen = record seen { source = record seen.source { left = Some given } }
 
 -- What a run of the parts within a limit shows, over an input that is told: how the machine stands, the bytes that
 -- were put and those that were taken. A fault of an object ends the run at the environment call that asked for it.
 pub record Shown (parts : Parts) (given : List ℕ) (limit : ℕ) (old new : Seen) (o : Observed) : Type 0 where
   pub stands : Says o (machine parts given limit).standing
-  pub put : Printed old.written new.written (output (machine parts given limit).trace)
-  pub took : Took old.left new.left (taken (machine parts given limit).trace)
+  pub put : Printed old.sink.written new.sink.written (output (machine parts given limit).trace)
+  pub took : Took old.source.left new.source.left (taken (machine parts given limit).trace)
 
 abbrev pub ShownOver : Parts → List ℕ → ℕ → Seen → Seen → Observed → Type 0
 ShownOver parts given limit old new observed.ReadFault =
-    FailsToGet parts given 0 limit new.left old.written new.written old.read_faults new.read_faults
+    FailsToGet parts given 0 limit new.source.left old.sink.written new.sink.written old.source.faults new.source.faults
 ShownOver parts given limit old new observed.WriteFault =
-    FailsToPut parts given 0 limit new.left old.written new.written old.write_faults new.write_faults
+    FailsToPut parts given 0 limit new.source.left old.sink.written new.sink.written old.sink.faults new.sink.faults
 ShownOver parts given limit old new o = Shown parts given limit old new o
 
 -- What is shown over what the source tells to be left, and over any source, whatever may come behind the bytes that it
 -- gave; nothing is taken from a source where no instruction asks for a byte. A fault of an object comes only where its
 -- count rose.
 pub record Ran (parts : Parts) (limit : ℕ) (old new : Seen) (untaken : Type 0) (o : Observed) : Type 0 where
-  pub shown : (given : List ℕ) → old.left ≡ Some given → ShownOver parts given limit old new o
-  pub any : OverAny old.ended new.ended old.answers new.answers (λ given left. ShownOver parts given limit (fed given old) (fed left new) o)
+  pub shown : (given : List ℕ) → old.source.left ≡ Some given → ShownOver parts given limit old new o
+  pub any : OverAny old.source new.source (λ given left. ShownOver parts given limit (fed given old) (fed left new) o)
   pub silent : (given : List ℕ) → AsksNothing parts given 0 limit → untaken × ShownOver parts given limit (fed given old) (fed given new) o
-  pub read_fault : o ≡ observed.ReadFault → Rose old.read_faults new.read_faults
-  pub write_fault : o ≡ observed.WriteFault → Rose old.write_faults new.write_faults
+  pub read_fault : o ≡ observed.ReadFault → Rose old.source.faults new.source.faults
+  pub write_fault : o ≡ observed.WriteFault → Rose old.sink.faults new.sink.faults
 
 -- the status of what a run shows
 abbrev pub status_of : Observed → Status

@@ -115,12 +115,12 @@ pub fn exec_text<S: Source, O: Sink, F: Store>(
     store: &mut F,
 ) -> Status
     ensures cause { Obeyed (w.Exec text.now limit)
-        (seen_of S.left S.ended S.answers S.faults O.written O.faults input.old out.old)
-        (seen_of S.left S.ended S.answers S.faults O.written O.faults input.new out.new)
+        (seen_of (S.seen input.old) (O.seen out.old))
+        (seen_of (S.seen input.new) (O.seen out.new))
         (F.seen store.old) (F.seen store.new)
         (out.new ≡ out.old) (input.new ≡ input.old) result }
-    ensures input_counts { S.faults input.old ≤ S.faults input.new }
-    ensures out_counts { O.faults out.old ≤ O.faults out.new }
+    ensures input_counts { (S.seen input.old).faults ≤ (S.seen input.new).faults }
+    ensures out_counts { (O.seen out.old).faults ≤ (O.seen out.new).faults }
     ensures store_counts { (F.seen store.old).faults ≤ (F.seen store.new).faults }
 {
     match fetch(alloc, text, TEXT_LIMIT, store) {
@@ -140,11 +140,11 @@ fn exec_bytes<S: Source, O: Sink>(
 ) -> Status
     ensures cause { (text : List ℕ) (before after : Stored) → Unkept before after
         → Came (w.Exec text limit) bytes.now
-        (seen_of S.left S.ended S.answers S.faults O.written O.faults input.old out.old)
-        (seen_of S.left S.ended S.answers S.faults O.written O.faults input.new out.new)
+        (seen_of (S.seen input.old) (O.seen out.old))
+        (seen_of (S.seen input.new) (O.seen out.new))
         before after (out.new ≡ out.old) (input.new ≡ input.old) result }
-    ensures input_counts { S.faults input.old ≤ S.faults input.new }
-    ensures out_counts { O.faults out.old ≤ O.faults out.new }
+    ensures input_counts { (S.seen input.old).faults ≤ (S.seen input.new).faults }
+    ensures out_counts { (O.seen out.old).faults ≤ (O.seen out.new).faults }
 {
     match build(alloc, bytes) {
         Err(fault) => status_of(fault),
@@ -162,12 +162,12 @@ pub fn interp_text<S: Source, O: Sink, F: Store>(
     store: &mut F,
 ) -> Status
     ensures cause { Obeyed (w.Interp text.now limit)
-        (seen_of S.left S.ended S.answers S.faults O.written O.faults input.old out.old)
-        (seen_of S.left S.ended S.answers S.faults O.written O.faults input.new out.new)
+        (seen_of (S.seen input.old) (O.seen out.old))
+        (seen_of (S.seen input.new) (O.seen out.new))
         (F.seen store.old) (F.seen store.new)
         (out.new ≡ out.old) (input.new ≡ input.old) result }
-    ensures input_counts { S.faults input.old ≤ S.faults input.new }
-    ensures out_counts { O.faults out.old ≤ O.faults out.new }
+    ensures input_counts { (S.seen input.old).faults ≤ (S.seen input.new).faults }
+    ensures out_counts { (O.seen out.old).faults ≤ (O.seen out.new).faults }
     ensures store_counts { (F.seen store.old).faults ≤ (F.seen store.new).faults }
 {
     match fetch(alloc, text, TEXT_LIMIT, store) {
@@ -187,11 +187,11 @@ fn interp_bytes<S: Source, O: Sink>(
 ) -> Status
     ensures cause { (text : List ℕ) (before after : Stored) → Unkept before after
         → Came (w.Interp text limit) bytes.now
-        (seen_of S.left S.ended S.answers S.faults O.written O.faults input.old out.old)
-        (seen_of S.left S.ended S.answers S.faults O.written O.faults input.new out.new)
+        (seen_of (S.seen input.old) (O.seen out.old))
+        (seen_of (S.seen input.new) (O.seen out.new))
         before after (out.new ≡ out.old) (input.new ≡ input.old) result }
-    ensures input_counts { S.faults input.old ≤ S.faults input.new }
-    ensures out_counts { O.faults out.old ≤ O.faults out.new }
+    ensures input_counts { (S.seen input.old).faults ≤ (S.seen input.new).faults }
+    ensures out_counts { (O.seen out.old).faults ≤ (O.seen out.new).faults }
 {
     match program(alloc, bytes) {
         Err(fault) => status_of(fault),
@@ -214,12 +214,12 @@ pub fn run_image<S: Source, O: Sink, F: Store>(
     store: &mut F,
 ) -> Status
     ensures cause { Obeyed (w.Run image.now limit)
-        (seen_of S.left S.ended S.answers S.faults O.written O.faults input.old out.old)
-        (seen_of S.left S.ended S.answers S.faults O.written O.faults input.new out.new)
+        (seen_of (S.seen input.old) (O.seen out.old))
+        (seen_of (S.seen input.new) (O.seen out.new))
         (F.seen store.old) (F.seen store.new)
         (out.new ≡ out.old) (input.new ≡ input.old) result }
-    ensures input_counts { S.faults input.old ≤ S.faults input.new }
-    ensures out_counts { O.faults out.old ≤ O.faults out.new }
+    ensures input_counts { (S.seen input.old).faults ≤ (S.seen input.new).faults }
+    ensures out_counts { (O.seen out.old).faults ≤ (O.seen out.new).faults }
     ensures store_counts { (F.seen store.old).faults ≤ (F.seen store.new).faults }
 {
     match fetch(alloc, image, IMAGE_LIMIT, store) {
@@ -237,11 +237,11 @@ pub fn list_image<O: Sink, F: Store>(
     store: &mut F,
 ) -> Status
     ensures cause { (seen : Seen) → Obeyed (w.Show image.now)
-        (putting seen (O.written out.old) (O.faults out.old))
-        (putting seen (O.written out.new) (O.faults out.new))
+        (putting seen (O.seen out.old))
+        (putting seen (O.seen out.new))
         (F.seen store.old) (F.seen store.new)
         (out.new ≡ out.old) (Unit {0}) result }
-    ensures out_counts { O.faults out.old ≤ O.faults out.new }
+    ensures out_counts { (O.seen out.old).faults ≤ (O.seen out.new).faults }
     ensures store_counts { (F.seen store.old).faults ≤ (F.seen store.new).faults }
 {
     match fetch(alloc, image, IMAGE_LIMIT, store) {

@@ -22,12 +22,12 @@ pub fn run_bytes<S: Source, O: Sink>(
     out: &mut O,
 ) -> Status
     ensures over { OverImage image.now (λ parts. Ends parts limit
-        (seen_of S.left S.ended S.answers S.faults O.written O.faults input.old out.old)
-        (seen_of S.left S.ended S.answers S.faults O.written O.faults input.new out.new)
+        (seen_of (S.seen input.old) (O.seen out.old))
+        (seen_of (S.seen input.new) (O.seen out.new))
         (out.new ≡ out.old) (input.new ≡ input.old) result)
         ((out.new ≡ out.old) × (input.new ≡ input.old)) result }
-    ensures input_counts { S.faults input.old ≤ S.faults input.new }
-    ensures out_counts { O.faults out.old ≤ O.faults out.new }
+    ensures input_counts { (S.seen input.old).faults ≤ (S.seen input.new).faults }
+    ensures out_counts { (O.seen out.old).faults ≤ (O.seen out.new).faults }
 {
     match View::read(image) {
         Err(bad) => Status::BadImage(bad.0),
@@ -46,11 +46,11 @@ fn run_view<'a, S: Source, O: Sink>(
     ensures ran { (parts : Parts) → parts.entry ≡ view.entry.entry
         → parts.code ≡ view.entry.code.now → parts.initial ≡ view.entry.initial.now
         → Ends parts limit
-        (seen_of S.left S.ended S.answers S.faults O.written O.faults input.old out.old)
-        (seen_of S.left S.ended S.answers S.faults O.written O.faults input.new out.new)
+        (seen_of (S.seen input.old) (O.seen out.old))
+        (seen_of (S.seen input.new) (O.seen out.new))
         (out.new ≡ out.old) (input.new ≡ input.old) result }
-    ensures input_counts { S.faults input.old ≤ S.faults input.new }
-    ensures out_counts { O.faults out.old ≤ O.faults out.new }
+    ensures input_counts { (S.seen input.old).faults ≤ (S.seen input.new).faults }
+    ensures out_counts { (O.seen out.old).faults ≤ (O.seen out.new).faults }
 {
     match Machine::load(alloc, view) {
         Err(_) => Status::Memory,
@@ -90,9 +90,10 @@ pub fn meant(seen: Seen) -> Status
 /// Puts the listing of the image that the bytes are, or says which part of them disagrees.
 pub fn list_bytes<O: Sink>(image: &[u8], out: &mut O) -> Status
     ensures over { OverImage image.now (λ parts. Listed
-        (listing parts.entry parts.code parts.initial) (O.written out.old) (O.written out.new)
-        (O.faults out.old) (O.faults out.new) result) (out.new ≡ out.old) result }
-    ensures out_counts { O.faults out.old ≤ O.faults out.new }
+        (listing parts.entry parts.code parts.initial)
+        (O.seen out.old).written (O.seen out.new).written
+        (O.seen out.old).faults (O.seen out.new).faults result) (out.new ≡ out.old) result }
+    ensures out_counts { (O.seen out.old).faults ≤ (O.seen out.new).faults }
 {
     match View::read(image) {
         Err(bad) => Status::BadImage(bad.0),

@@ -23,12 +23,12 @@ pub fn asked<S: Source, O: Sink, F: Store>(
     store: &mut F,
 ) -> Status
     ensures cause { Caused (bytes_of words.now)
-        (seen_of S.left S.ended S.answers S.faults O.written O.faults input.old out.old)
-        (seen_of S.left S.ended S.answers S.faults O.written O.faults input.new out.new)
+        (seen_of (S.seen input.old) (O.seen out.old))
+        (seen_of (S.seen input.new) (O.seen out.new))
         (F.seen store.old) (F.seen store.new)
         (out.new ≡ out.old) (input.new ≡ input.old) (store.new ≡ store.old) result }
-    ensures input_counts { S.faults input.old ≤ S.faults input.new }
-    ensures out_counts { O.faults out.old ≤ O.faults out.new }
+    ensures input_counts { (S.seen input.old).faults ≤ (S.seen input.new).faults }
+    ensures out_counts { (O.seen out.old).faults ≤ (O.seen out.new).faults }
     ensures store_counts { (F.seen store.old).faults ≤ (F.seen store.new).faults }
 {
     match command_of(words) {
@@ -46,12 +46,12 @@ fn obey<'a, S: Source, O: Sink, F: Store>(
     store: &mut F,
 ) -> Status
     ensures cause { Obeyed (command_is command.entry)
-        (seen_of S.left S.ended S.answers S.faults O.written O.faults input.old out.old)
-        (seen_of S.left S.ended S.answers S.faults O.written O.faults input.new out.new)
+        (seen_of (S.seen input.old) (O.seen out.old))
+        (seen_of (S.seen input.new) (O.seen out.new))
         (F.seen store.old) (F.seen store.new)
         (out.new ≡ out.old) (input.new ≡ input.old) result }
-    ensures input_counts { S.faults input.old ≤ S.faults input.new }
-    ensures out_counts { O.faults out.old ≤ O.faults out.new }
+    ensures input_counts { (S.seen input.old).faults ≤ (S.seen input.new).faults }
+    ensures out_counts { (O.seen out.old).faults ≤ (O.seen out.new).faults }
     ensures store_counts { (F.seen store.old).faults ≤ (F.seen store.new).faults }
 {
     match command {

@@ -16,6 +16,7 @@ use Rattle.ckc_source.specs.declared.outcome.Value.{Value}
 use Rattle.ckc_source.specs.declared.program.Shape.{Shape}
 use Rattle.ckc_source.specs.Source.{by_mode}
 use Rattle.ckc_source.specs.declared.outcome.Halt.TheVariants as halt
+use Rattle.ckc_outside.specs.Outside.{SeenSource}
 use Rattle.ckc_outside.specs.Given.{taken, Took, Printed, PrintedFront, Gave, MayCome}
 use Rattle.ckc_interp.specs.Runs.{AsksToGet, AsksToPut}
 use Rattle.ckc_interp.specs.declared.seen.Seen.{Seen}
@@ -171,7 +172,7 @@ abbrev pub MayBeLeft : Bool → Option (List ℕ) → List ℕ → List ℕ → 
 MayBeLeft ended told more rest = MayCome ended rest ⊎ (told ≡ Some (more ++ rest))
 
 -- The source gave some bytes, and whatever may be left behind them, something holds of what was left before and then.
-abbrev pub Fed : Bool → Bool → ℕ → ℕ → Option (List ℕ) → Option (List ℕ) → (List ℕ → List ℕ → Type 0) → Type 0
-Fed ended ended' answers answers' told told' Holds =
-    (more : List ℕ) × Gave ended ended' answers answers' more × Took told told' more
-    × ((rest : List ℕ) → MayBeLeft ended' told more rest → Holds (more ++ rest) rest)
+abbrev pub Fed : SeenSource → SeenSource → (List ℕ → List ℕ → Type 0) → Type 0
+Fed old new Holds =
+    (more : List ℕ) × Gave old new more × Took old.left new.left more
+    × ((rest : List ℕ) → MayBeLeft new.ended old.left more rest → Holds (more ++ rest) rest)

@@ -48,12 +48,12 @@ impl<'a> Run<'a> {
     /// Puts the lowest byte of a word and writes it.
     fn put<O: Sink>(&mut self, to: Place, n: u32, marks: Marks, out: &mut O) -> Option<Seen>
         ensures puts { PutsAs (core_of self.old) to n (core_of self.new) marks.at marks.blame
-            (O.written out.old) (O.written out.new) result }
+            (O.seen out.old).written (O.seen out.new).written result }
         ensures shapes { shapes_of self.new.blocks ≡ shapes_of self.old.blocks }
         ensures write_fault { result ≡ Some Seen.WriteFault
-            → Rose (O.faults out.old) (O.faults out.new) }
+            → Rose (O.seen out.old).faults (O.seen out.new).faults }
         ensures read_fault { result ≢ Some Seen.ReadFault }
-        ensures out_counts { O.faults out.old ≤ O.faults out.new }
+        ensures out_counts { (O.seen out.old).faults ≤ (O.seen out.new).faults }
     {
         let byte = (n % 256) as u8;
         match out.put(&[byte]) {
@@ -64,15 +64,14 @@ impl<'a> Run<'a> {
 
     /// Gets a byte, or -1 at the end, and writes it.
     fn get<S: Source>(&mut self, to: Place, marks: Marks, input: &mut S) -> Option<Seen>
-        ensures gets { Fed (S.ended input.old) (S.ended input.new) (S.answers input.old)
-            (S.answers input.new) (S.left input.old) (S.left input.new)
+        ensures gets { Fed (S.seen input.old) (S.seen input.new)
             (λ left left'. GetsAs (core_of self.old) to
             (core_of self.new) marks.at marks.blame left left' result) }
         ensures shapes { shapes_of self.new.blocks ≡ shapes_of self.old.blocks }
         ensures read_fault { result ≡ Some Seen.ReadFault
-            → Rose (S.faults input.old) (S.faults input.new) }
+            → Rose (S.seen input.old).faults (S.seen input.new).faults }
         ensures write_fault { result ≢ Some Seen.WriteFault }
-        ensures input_counts { S.faults input.old ≤ S.faults input.new }
+        ensures input_counts { (S.seen input.old).faults ≤ (S.seen input.new).faults }
     {
         match input.next() {
             Ok(Some(byte)) => self.wrote(to, word_of(byte), marks),
@@ -91,18 +90,17 @@ impl<'a> Run<'a> {
         out: &mut O,
     ) -> Option<Seen>
         requires { shapes_of self.old.blocks ≡ program.now.shapes }
-        ensures steps { Fed (S.ended input.old) (S.ended input.new) (S.answers input.old)
-            (S.answers input.new) (S.left input.old) (S.left input.new)
+        ensures steps { Fed (S.seen input.old) (S.seen input.new)
             (λ left left'. Steps (program_of program.entry.now) (state_of self.old left)
             (state_of self.new left') marks.old.blame marks.new.blame
-            (O.written out.old) (O.written out.new) result) }
+            (O.seen out.old).written (O.seen out.new).written result) }
         ensures shapes { shapes_of self.new.blocks ≡ shapes_of self.old.blocks }
         ensures read_fault { result ≡ Some Seen.ReadFault
-            → Rose (S.faults input.old) (S.faults input.new) }
+            → Rose (S.seen input.old).faults (S.seen input.new).faults }
         ensures write_fault { result ≡ Some Seen.WriteFault
-            → Rose (O.faults out.old) (O.faults out.new) }
-        ensures input_counts { S.faults input.old ≤ S.faults input.new }
-        ensures out_counts { O.faults out.old ≤ O.faults out.new }
+            → Rose (O.seen out.old).faults (O.seen out.new).faults }
+        ensures input_counts { (S.seen input.old).faults ≤ (S.seen input.new).faults }
+        ensures out_counts { (O.seen out.old).faults ≤ (O.seen out.new).faults }
     {
         match self.turn(alloc, program, marks) {
             Err(_) => Some(Seen::Memory),
@@ -125,16 +123,15 @@ impl<'a> Run<'a> {
     ) -> Seen
         requires shapes { shapes_of self.old.blocks ≡ program.now.shapes }
         requires start { core_of self.old ≡ first_state (program_of program.now) [] }
-        ensures runs { Fed (S.ended input.old) (S.ended input.new) (S.answers input.old)
-            (S.answers input.new) (S.left input.old) (S.left input.new)
-            (Interprets (program_of program.entry.now) limit (O.written out.old)
-            (O.written out.new) result) }
+        ensures runs { Fed (S.seen input.old) (S.seen input.new)
+            (Interprets (program_of program.entry.now) limit (O.seen out.old).written
+            (O.seen out.new).written result) }
         ensures read_fault { result ≡ Seen.ReadFault
-            → Rose (S.faults input.old) (S.faults input.new) }
+            → Rose (S.seen input.old).faults (S.seen input.new).faults }
         ensures write_fault { result ≡ Seen.WriteFault
-            → Rose (O.faults out.old) (O.faults out.new) }
-        ensures input_counts { S.faults input.old ≤ S.faults input.new }
-        ensures out_counts { O.faults out.old ≤ O.faults out.new }
+            → Rose (O.seen out.old).faults (O.seen out.new).faults }
+        ensures input_counts { (S.seen input.old).faults ≤ (S.seen input.new).faults }
+        ensures out_counts { (O.seen out.old).faults ≤ (O.seen out.new).faults }
     {
         let mut marks = Marks {
             at: self.frame.function.end.at,
@@ -219,13 +216,15 @@ fn run_from<'a, S: Source, O: Sink>(
     requires laid_out { IsLaidOut (program_of p.now) }
     requires main { function_of main.now ≡ function_at (slice_get
         (map function_of p.now.functions) p.now.main) }
-    ensures runs { Fed (S.ended input.old) (S.ended input.new) (S.answers input.old)
-        (S.answers input.new) (S.left input.old) (S.left input.new)
-        (Interprets (program_of p.entry.now) limit (O.written out.old) (O.written out.new) result) }
-    ensures read_fault { result ≡ Seen.ReadFault → Rose (S.faults input.old) (S.faults input.new) }
-    ensures write_fault { result ≡ Seen.WriteFault → Rose (O.faults out.old) (O.faults out.new) }
-    ensures input_counts { S.faults input.old ≤ S.faults input.new }
-    ensures out_counts { O.faults out.old ≤ O.faults out.new }
+    ensures runs { Fed (S.seen input.old) (S.seen input.new)
+        (Interprets (program_of p.entry.now) limit (O.seen out.old).written
+        (O.seen out.new).written result) }
+    ensures read_fault { result ≡ Seen.ReadFault
+        → Rose (S.seen input.old).faults (S.seen input.new).faults }
+    ensures write_fault { result ≡ Seen.WriteFault
+        → Rose (O.seen out.old).faults (O.seen out.new).faults }
+    ensures input_counts { (S.seen input.old).faults ≤ (S.seen input.new).faults }
+    ensures out_counts { (O.seen out.old).faults ≤ (O.seen out.new).faults }
 {
     match start(alloc, p, main) {
         Ok(mut run) => run.run(alloc, p, limit, input, out),
@@ -245,19 +244,21 @@ pub fn interp<S: Source, O: Sink>(
     requires { IsLaidOut (program_of p.now) }
 
     // With the input that a source tells, the answer is how the program stands.
-    ensures exact { WhereTold (S.left input.old) (S.left input.new) (Interprets
-        (program_of p.now) limit (O.written out.old) (O.written out.new) result) }
+    ensures exact { WhereTold (S.seen input.old).left (S.seen input.new).left (Interprets
+        (program_of p.now) limit (O.seen out.old).written (O.seen out.new).written result) }
 
     // Over any source, whatever may come behind the bytes that it gave, the same holds of the input with both.
-    ensures any { OverAny (S.ended input.old) (S.ended input.new) (S.answers input.old)
-        (S.answers input.new)
-        (Interprets (program_of p.now) limit (O.written out.old) (O.written out.new) result) }
+    ensures any { OverAny (S.seen input.old) (S.seen input.new)
+        (Interprets (program_of p.now) limit (O.seen out.old).written (O.seen out.new).written
+        result) }
 
     // A fault of an object is answered only where its count rose.
-    ensures read_fault { result ≡ Seen.ReadFault → Rose (S.faults input.old) (S.faults input.new) }
-    ensures write_fault { result ≡ Seen.WriteFault → Rose (O.faults out.old) (O.faults out.new) }
-    ensures input_counts { S.faults input.old ≤ S.faults input.new }
-    ensures out_counts { O.faults out.old ≤ O.faults out.new }
+    ensures read_fault { result ≡ Seen.ReadFault
+        → Rose (S.seen input.old).faults (S.seen input.new).faults }
+    ensures write_fault { result ≡ Seen.WriteFault
+        → Rose (O.seen out.old).faults (O.seen out.new).faults }
+    ensures input_counts { (S.seen input.old).faults ≤ (S.seen input.new).faults }
+    ensures out_counts { (O.seen out.old).faults ≤ (O.seen out.new).faults }
 {
     let none = no_function(alloc);
     let main = function_at(p.functions.as_slice(), p.main, &none);

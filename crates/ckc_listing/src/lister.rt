@@ -12,12 +12,12 @@ use ckc_outside::{Failed, Sink};
 /// Puts the listing of entry, code and initial bytes, one piece for each line. It takes no memory.
 pub fn list<O: Sink>(entry: u32, code: &[u8], initial: &[u8], out: &mut O) -> Result<(), Failed>
     requires { IsProper entry code.now initial.now }
-    ensures counts { O.faults out.old ≤ O.faults out.new }
-    ensures failed { OnErr result (Rose (O.faults out.old) (O.faults out.new)) }
-    ensures told { (bytes : List ℕ) → O.written out.old ≡ Some bytes
-        → Puts bytes (listing entry code.now initial.now) result (O.written out.new) }
+    ensures counts { (O.seen out.old).faults ≤ (O.seen out.new).faults }
+    ensures failed { OnErr result (Rose (O.seen out.old).faults (O.seen out.new).faults) }
+    ensures told { (bytes : List ℕ) → (O.seen out.old).written ≡ Some bytes
+        → Puts bytes (listing entry code.now initial.now) result (O.seen out.new).written }
     ensures pieces { PutsPieces (length (listing_lines entry code.now initial.now)) result
-        (O.puts out.old) (O.puts out.new) }
+        (O.seen out.old).puts (O.seen out.new).puts }
     ensures reads_back { AsmOf (listing entry code.now initial.now) entry code.now initial.now }
 {
     put_line(&entry_line(entry), out)?;
@@ -28,16 +28,14 @@ pub fn list<O: Sink>(entry: u32, code: &[u8], initial: &[u8], out: &mut O) -> Re
 
 fn put_line<O: Sink>(line: &TextLine, out: &mut O) -> Result<(), Failed>
     ensures { (text : List ℕ) → line.now ≡ ended text → PutsLines (text ∷ []) result
-        (record { faults = O.faults out.old; written = O.written out.old; puts = O.puts out.old })
-        (record { faults = O.faults out.new; written = O.written out.new; puts = O.puts out.new }) }
+        (O.seen out.old) (O.seen out.new) }
 {
     out.put(line.as_bytes())
 }
 
 fn put_code<O: Sink>(code: &[u8], out: &mut O) -> Result<(), Failed>
     ensures { PutsLines (word_lines code.now) result
-        (record { faults = O.faults out.old; written = O.written out.old; puts = O.puts out.old })
-        (record { faults = O.faults out.new; written = O.written out.new; puts = O.puts out.new }) }
+        (O.seen out.old) (O.seen out.new) }
 {
     for k in 0..code.len() / 4 {
         put_line(&word_line(word(code, 4 * k)), out)?;
@@ -55,8 +53,7 @@ fn word(code: &[u8], at: usize) -> u32
 fn put_data<O: Sink>(data: &[u8], out: &mut O) -> Result<(), Failed>
     requires { length data.now ≤ 16777216 }
     ensures { PutsLines (data_lines data.now) result
-        (record { faults = O.faults out.old; written = O.written out.old; puts = O.puts out.old })
-        (record { faults = O.faults out.new; written = O.written out.new; puts = O.puts out.new }) }
+        (O.seen out.old) (O.seen out.new) }
 {
     for k in 0..(data.len() + 15) / 16 {
         put_line(&data_line(sixteen(data, k)), out)?;

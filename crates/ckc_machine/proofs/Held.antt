@@ -4,7 +4,7 @@ use Rattle.std.proofs.lemmas.Bool.Decides.{nat_tests}
 use Rattle.std.proofs.lemmas.Bool.{cases_lt}
 use Rattle.std.proofs.Math.Path.{fun_ext}
 use Rattle.std.proofs.lemmas.List.{get_or-drop, get_or-take, get_or_past}
-use Rattle.ckc_rv.specs.Machine.{Parts, Memory, flat, loaded, stored, with_byte, code_start, data_start, stack_start, memory_end}
+use Rattle.ckc_rv.specs.Machine.{Parts, Memory, flat, loaded, stored, code_start, data_start, stack_start, memory_end}
 use Rattle.ckc_operations.specs.declared.operations.LoadOp.{LoadOp}
 use Rattle.ckc_operations.specs.declared.operations.LoadOp.TheVariants.{Lb, Lh, Lw, Lbu, Lhu}
 use Rattle.ckc_operations.specs.declared.operations.StoreOp.{StoreOp}

@@ -67,35 +67,37 @@ impl<'a> Machine<'a> {
 
         // From k of any parts and input on, the run goes on to k + limit, or a fault of an object ends it before.
         ensures exact { (parts : Parts) (given : List ℕ) (k : ℕ)
-            → IsAt parts given k self.old (S.left input.old)
-            → Runs parts given k limit self.new (S.left input.old) (S.left input.new)
-            (O.written out.old) (O.written out.new)
-            (S.faults input.old) (S.faults input.new) (O.faults out.old) (O.faults out.new) result }
+            → IsAt parts given k self.old (S.seen input.old).left
+            → Runs parts given k limit self.new (S.seen input.old).left (S.seen input.new).left
+            (O.seen out.old).written (O.seen out.new).written
+            (S.seen input.old).faults (S.seen input.new).faults
+            (O.seen out.old).faults (O.seen out.new).faults result }
 
         // Where none of those instructions asks for a byte, the same holds over any source, which is left as it is.
         ensures silent { (parts : Parts) (given : List ℕ) (k : ℕ) (left : Option (List ℕ))
             → IsAt parts given k self.old left → AsksNothing parts given k limit
             → (input.new ≡ input.old)
-            × Runs parts given k limit self.new left left (O.written out.old)
-            (O.written out.new)
-            (S.faults input.old) (S.faults input.new) (O.faults out.old) (O.faults out.new) result }
+            × Runs parts given k limit self.new left left
+            (O.seen out.old).written (O.seen out.new).written
+            (S.seen input.old).faults (S.seen input.new).faults
+            (O.seen out.old).faults (O.seen out.new).faults result }
 
         // Over any source, whatever may come behind the bytes that it gave, the same holds of the input with both.
-        ensures any { OverAny (S.ended input.old) (S.ended input.new) (S.answers input.old)
-            (S.answers input.new)
+        ensures any { OverAny (S.seen input.old) (S.seen input.new)
             (λ left left'. (parts : Parts) (given : List ℕ) (k : ℕ)
             → IsAt parts given k self.old (Some left)
-            → Runs parts given k limit self.new (Some left) (Some left') (O.written out.old)
-            (O.written out.new)
-            (S.faults input.old) (S.faults input.new) (O.faults out.old) (O.faults out.new) result) }
+            → Runs parts given k limit self.new (Some left) (Some left')
+            (O.seen out.old).written (O.seen out.new).written
+            (S.seen input.old).faults (S.seen input.new).faults
+            (O.seen out.old).faults (O.seen out.new).faults result) }
 
         // A fault of an object is first answered only where its count rose.
         ensures read_fault { answer_of self.old ≡ Observed.Going → result ≡ Observed.ReadFault
-            → Rose (S.faults input.old) (S.faults input.new) }
+            → Rose (S.seen input.old).faults (S.seen input.new).faults }
         ensures write_fault { answer_of self.old ≡ Observed.Going → result ≡ Observed.WriteFault
-            → Rose (O.faults out.old) (O.faults out.new) }
-        ensures input_counts { S.faults input.old ≤ S.faults input.new }
-        ensures out_counts { O.faults out.old ≤ O.faults out.new }
+            → Rose (O.seen out.old).faults (O.seen out.new).faults }
+        ensures input_counts { (S.seen input.old).faults ≤ (S.seen input.new).faults }
+        ensures out_counts { (O.seen out.old).faults ≤ (O.seen out.new).faults }
     {
         if !self.goes() {
             return self.answer;
@@ -125,26 +127,28 @@ impl<'a> Machine<'a> {
         requires { answer_of self.old ≡ Observed.Going }
         ensures exact { (parts : Parts) (given : List ℕ) (k : ℕ) (left left' : Option (List ℕ))
             → IsAt parts given k self.old left
-            → IsFed (S.left input.old) (S.left input.new)
+            → IsFed (S.seen input.old).left (S.seen input.new).left
             (¬ AsksFor parts (state_at parts given k) 2) left left'
-            → Runs parts given k 1 self.new left left' (O.written out.old) (O.written out.new)
-            (S.faults input.old) (S.faults input.new) (O.faults out.old) (O.faults out.new) (answer_of self.new) }
-        ensures any { OverAny (S.ended input.old) (S.ended input.new) (S.answers input.old)
-            (S.answers input.new)
+            → Runs parts given k 1 self.new left left'
+            (O.seen out.old).written (O.seen out.new).written
+            (S.seen input.old).faults (S.seen input.new).faults
+            (O.seen out.old).faults (O.seen out.new).faults (answer_of self.new) }
+        ensures any { OverAny (S.seen input.old) (S.seen input.new)
             (λ left left'. (parts : Parts) (given : List ℕ) (k : ℕ)
             → IsAt parts given k self.old (Some left)
-            → Runs parts given k 1 self.new (Some left) (Some left') (O.written out.old)
-            (O.written out.new)
-            (S.faults input.old) (S.faults input.new) (O.faults out.old) (O.faults out.new) (answer_of self.new)) }
+            → Runs parts given k 1 self.new (Some left) (Some left')
+            (O.seen out.old).written (O.seen out.new).written
+            (S.seen input.old).faults (S.seen input.new).faults
+            (O.seen out.old).faults (O.seen out.new).faults (answer_of self.new)) }
         ensures silent { (parts : Parts) (given : List ℕ) (k : ℕ) (left : Option (List ℕ))
             → IsAt parts given k self.old left
             → ¬ AsksFor parts (state_at parts given k) 2 → input.new ≡ input.old }
         ensures read_fault { answer_of self.new ≡ Observed.ReadFault
-            → Rose (S.faults input.old) (S.faults input.new) }
+            → Rose (S.seen input.old).faults (S.seen input.new).faults }
         ensures write_fault { answer_of self.new ≡ Observed.WriteFault
-            → Rose (O.faults out.old) (O.faults out.new) }
-        ensures input_counts { S.faults input.old ≤ S.faults input.new }
-        ensures out_counts { O.faults out.old ≤ O.faults out.new }
+            → Rose (O.seen out.old).faults (O.seen out.new).faults }
+        ensures input_counts { (S.seen input.old).faults ≤ (S.seen input.new).faults }
+        ensures out_counts { (O.seen out.old).faults ≤ (O.seen out.new).faults }
     {
         match self.turn() {
             Turn::Next(rd, value, pc) => self.go_on(rd, value, pc),
@@ -161,12 +165,13 @@ impl<'a> Machine<'a> {
         ensures exact { (parts : Parts) (given : List ℕ) (k : ℕ) (left : Option (List ℕ))
             (faults : ℕ) → IsAt parts given k self.old left
             → AsksFor parts (state_at parts given k) 1 → byte ≡ slice_index self.old.regs.x 10 % 256
-            → Runs parts given k 1 self.new left left (O.written out.old) (O.written out.new) faults
-            faults (O.faults out.old) (O.faults out.new) (answer_of self.new) }
+            → Runs parts given k 1 self.new left left
+            (O.seen out.old).written (O.seen out.new).written
+            faults faults (O.seen out.old).faults (O.seen out.new).faults (answer_of self.new) }
         ensures read_fault { answer_of self.new ≢ Observed.ReadFault }
         ensures write_fault { answer_of self.new ≡ Observed.WriteFault
-            → Rose (O.faults out.old) (O.faults out.new) }
-        ensures out_counts { O.faults out.old ≤ O.faults out.new }
+            → Rose (O.seen out.old).faults (O.seen out.new).faults }
+        ensures out_counts { (O.seen out.old).faults ≤ (O.seen out.new).faults }
     {
         match out.put(&[byte]) {
             Ok(()) => self.go_on(0, 0, self.pc.wrapping_add(4)),
@@ -178,21 +183,22 @@ impl<'a> Machine<'a> {
     fn get<S: Source>(&mut self, input: &mut S)
         requires { answer_of self.old ≡ Observed.Going }
         ensures exact { (parts : Parts) (given : List ℕ) (k : ℕ) (written : Option (List ℕ))
-            (faults : ℕ) → IsAt parts given k self.old (S.left input.old)
+            (faults : ℕ) → IsAt parts given k self.old (S.seen input.old).left
             → AsksFor parts (state_at parts given k) 2
-            → Runs parts given k 1 self.new (S.left input.old) (S.left input.new) written written
-            (S.faults input.old) (S.faults input.new) faults faults (answer_of self.new) }
-        ensures any { OverAny (S.ended input.old) (S.ended input.new) (S.answers input.old)
-            (S.answers input.new)
+            → Runs parts given k 1 self.new
+            (S.seen input.old).left (S.seen input.new).left written written
+            (S.seen input.old).faults (S.seen input.new).faults faults faults (answer_of self.new) }
+        ensures any { OverAny (S.seen input.old) (S.seen input.new)
             (λ left left'. (parts : Parts) (given : List ℕ) (k : ℕ) (written : Option (List ℕ))
             (faults : ℕ) → IsAt parts given k self.old (Some left)
             → AsksFor parts (state_at parts given k) 2
             → Runs parts given k 1 self.new (Some left) (Some left') written written
-            (S.faults input.old) (S.faults input.new) faults faults (answer_of self.new)) }
+            (S.seen input.old).faults (S.seen input.new).faults
+            faults faults (answer_of self.new)) }
         ensures read_fault { answer_of self.new ≡ Observed.ReadFault
-            → Rose (S.faults input.old) (S.faults input.new) }
+            → Rose (S.seen input.old).faults (S.seen input.new).faults }
         ensures write_fault { answer_of self.new ≢ Observed.WriteFault }
-        ensures input_counts { S.faults input.old ≤ S.faults input.new }
+        ensures input_counts { (S.seen input.old).faults ≤ (S.seen input.new).faults }
     {
         match input.next() {
             Ok(next) => self.go_on(10, byte_or_end(next), self.pc.wrapping_add(4)),

@@ -1,6 +1,6 @@
 -- What a source gave, one after another.
-use Rattle.std.proofs.Common.{◌≡◌, ℕ, List, [], ◌∷◌, ◌++◌, Bool, refl, ap, ◌∙◌}
-use Rattle.ckc_outside.specs.Outside.{one_more}
+use Rattle.std.proofs.Common.{◌≡◌, ℕ, List, [], ◌∷◌, ◌++◌, refl, ap, ◌∙◌}
+use Rattle.ckc_outside.specs.Outside.{SeenSource, one_more}
 use Rattle.ckc_outside.specs.Given.{after_answers, AreBytes, Gave}
 
 pub no_answer : (n : ℕ) → n ≡ after_answers n []
@@ -24,14 +24,13 @@ pub both_none : (more then : List ℕ) → more ≡ [] → then ≡ [] → more 
 both_none more then e f = ap (λ l. l ++ then) e ∙ f
 
 -- a source that was not asked
-pub gave_nothing : (ended : Bool) (answers : ℕ) → Gave ended ended answers answers []
-gave_nothing ended answers = record { count = no_answer answers; bytes = tt; none = λ t. refl; stays = λ t. t }
+pub gave_nothing : (s : SeenSource) → Gave s s []
+gave_nothing s = record { count = no_answer s.answers; bytes = tt; none = λ t. refl; stays = λ t. t }
 
 -- what was given first, and what was given then
-pub gave_both : (ended midway ended' : Bool) (answers between answers' : ℕ) (more then : List ℕ) → Gave ended midway answers between more
-    → Gave midway ended' between answers' then → Gave ended ended' answers answers' (more ++ then)
-gave_both ended midway ended' answers between answers' more then f t = record {
-  count = t.count ∙ ap (λ n. after_answers n then) f.count ∙ answers_join answers more then;
+pub gave_both : (old mid new : SeenSource) (more then : List ℕ) → Gave old mid more → Gave mid new then → Gave old new (more ++ then)
+gave_both old mid new more then f t = record {
+  count = t.count ∙ ap (λ n. after_answers n then) f.count ∙ answers_join old.answers more then;
   bytes = all_given more then f.bytes t.bytes;
   none = λ e. both_none more then (f.none e) (t.none (f.stays e));
   stays = λ e. t.stays (f.stays e);

@@ -2,7 +2,7 @@
 use Rattle.std.specs.Prelude.{◌≡◌, ℕ, ◌≤◌, ◌<◌, List, [], ◌∷◌, ◌++◌, take, Bool, IsTrue, Option, Some, None}
 use Rattle.std.specs.List.{flat_map}
 use Rattle.ckc_base.specs.Traces.{Event, Got, Put}
-use Rattle.ckc_outside.specs.Outside.{one_more}
+use Rattle.ckc_outside.specs.Outside.{SeenSource, one_more}
 
 -- ---- what was taken
 
@@ -42,11 +42,11 @@ AreBytes (b ∷ bytes) = (b < 256) × AreBytes bytes
 
 -- What a source gave: as many numbers as it counted, each a byte, and none where it had ended. Where it had ended it
 -- stays so.
-pub record Gave (ended ended' : Bool) (answers answers' : ℕ) (more : List ℕ) : Type 0 where
-  pub count : answers' ≡ after_answers answers more
+pub record Gave (old new : SeenSource) (more : List ℕ) : Type 0 where
+  pub count : new.answers ≡ after_answers old.answers more
   pub bytes : AreBytes more
-  pub none : IsTrue ended → more ≡ []
-  pub stays : IsTrue ended → IsTrue ended'
+  pub none : IsTrue old.ended → more ≡ []
+  pub stays : IsTrue old.ended → IsTrue new.ended
 
 -- what may come behind the bytes that a source gave: anything, and nothing where it has ended
 abbrev pub MayCome : Bool → List ℕ → Type 0
@@ -54,10 +54,10 @@ MayCome ended rest = IsTrue ended → rest ≡ []
 
 -- The source gave some bytes, and whatever may come behind them, something holds of what was left before, which is the
 -- bytes and what may come, and of what is left then.
-abbrev pub OverAny : Bool → Bool → ℕ → ℕ → (List ℕ → List ℕ → Type 0) → Type 0
-OverAny ended ended' answers answers' Holds =
-    (more : List ℕ) × Gave ended ended' answers answers' more
-    × ((rest : List ℕ) → MayCome ended' rest → Holds (more ++ rest) rest)
+abbrev pub OverAny : SeenSource → SeenSource → (List ℕ → List ℕ → Type 0) → Type 0
+OverAny old new Holds =
+    (more : List ℕ) × Gave old new more
+    × ((rest : List ℕ) → MayCome new.ended rest → Holds (more ++ rest) rest)
 
 -- ---- what was put
 

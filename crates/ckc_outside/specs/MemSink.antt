@@ -1,5 +1,6 @@
-use Rattle.std.specs.Prelude.{ℕ, ◌+◌, Bool, nat_lt, List, take, length}
+use Rattle.std.specs.Prelude.{ℕ, ◌+◌, Bool, nat_lt, List, Some, take, length}
 use Rattle.ckc_outside.specs.Memory.{Failing}
+use Rattle.ckc_outside.specs.Outside.{SeenSink}
 use Rattle.ckc_outside.specs.declared.memory.sink.MemSink.{MemSink}
 
 -- the bytes written so far
@@ -13,6 +14,10 @@ room_of s = length s.room.now
 -- which calls fail, and the counts
 abbrev pub plan_of : MemSink → Failing
 plan_of s = record { listed = s.plan.fail.now; calls = s.plan.calls; faults = s.plan.faults }
+
+-- what is seen of it
+abbrev pub seen_of : MemSink → SeenSink
+seen_of s = record { written = Some (written_of s); puts = (plan_of s).calls; faults = (plan_of s).faults }
 
 -- whether a piece does not fit behind what is written
 abbrev pub overflows : MemSink → List ℕ → Bool

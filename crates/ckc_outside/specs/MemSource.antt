@@ -1,5 +1,6 @@
-use Rattle.std.specs.Prelude.{ℕ, List, Bool, ◌==◌, length}
+use Rattle.std.specs.Prelude.{ℕ, List, Bool, Some, ◌==◌, length}
 use Rattle.ckc_outside.specs.Memory.{Failing}
+use Rattle.ckc_outside.specs.Outside.{SeenSource}
 use Rattle.ckc_outside.specs.declared.memory.source.MemSource.{MemSource}
 
 -- the bytes that are left
@@ -13,3 +14,7 @@ has_ended s = length s.left.now == 0
 -- which calls fail, and the counts
 abbrev pub plan_of : MemSource → Failing
 plan_of s = record { listed = s.plan.fail.now; calls = s.plan.calls; faults = s.plan.faults }
+
+-- what is seen of it
+abbrev pub seen_of : MemSource → SeenSource
+seen_of s = record { left = Some (left_of s); ended = has_ended s; answers = s.answers; faults = (plan_of s).faults }

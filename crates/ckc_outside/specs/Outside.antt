@@ -12,6 +12,21 @@ use Rattle.ckc_outside.specs.declared.traits.Fetched.TheVariants.{Whole, Longer}
 abbrev pub Files : Type 0
 Files = map.FinMap (slice_cmp nat_cmp) (List ℕ)
 
+-- What is seen of a source: the bytes that are left, where it tells them; whether it said that there is no byte, and
+-- gives none from then on; how many bytes it gave, and how many faults there were.
+pub record SeenSource : Type 0 where
+  pub left : Option (List ℕ)
+  pub ended : Bool
+  pub answers : ℕ
+  pub faults : ℕ
+
+-- What is seen of a sink: the bytes that were written, where it tells them; how many pieces were put, those that failed
+-- too, and how many faults there were.
+pub record SeenSink : Type 0 where
+  pub written : Option (List ℕ)
+  pub puts : ℕ
+  pub faults : ℕ
+
 -- What is seen of a store: its files, where it tells them; whether it is steady; how many faults there were, how many
 -- calls of keep, and how many of these were done.
 pub record Stored : Type 0 where

@@ -1,6 +1,6 @@
-ghost use Rattle.std.specs.Prelude.{◌≡◌, ◌≢◌, ℕ, ◌≤◌, List, Option, Ok, None, Some, Bool, IsTrue, OnErr, IsErrOf};
+ghost use Rattle.std.specs.Prelude.{◌≡◌, ◌≢◌, ℕ, ◌≤◌, List, Ok, None, Some, IsTrue, OnErr, IsErrOf};
 ghost use Rattle.std.specs.FinMap as map;
-ghost use Rattle.ckc_outside.specs.Outside.{Rose, one_more, Files, Stored, GivesNext, GivesNothing, after_next, Puts, IsWithin, GivesFile, Keeps, after_keep};
+ghost use Rattle.ckc_outside.specs.Outside.{Rose, one_more, Files, SeenSink, SeenSource, Stored, GivesNext, GivesNothing, after_next, Puts, IsWithin, GivesFile, Keeps, after_keep};
 
 use ckc_base::Bytes;
 use std::alloc::Global;
@@ -29,48 +29,35 @@ pub enum Fetched {
 
 /// A source of input bytes.
 pub trait Source {
-    /// How many faults there were. The count stands still at 2^64 - 1.
-    ghost faults: { Self → ℕ };
-
-    /// The bytes that are left, where they are told.
-    ghost left: { Self → Option (List ℕ) };
-
-    /// Whether it said that there is no byte. It gives none from then on.
-    ghost ended: { Self → Bool };
-
-    /// How many bytes it gave. The count stands still at 2^64 - 1.
-    ghost answers: { Self → ℕ };
+    /// What is seen of it. It may tell the bytes that are left. Once it said that there is none it gives none. The
+    /// counts of the faults and of the bytes that it gave stand still at 2^64 - 1.
+    ghost seen: { Self → SeenSource };
 
     /// Takes the next byte, or says that there is none.
     fn next(&mut self) -> Result<Option<u8>, Failed>
-        ensures counts { faults self.old ≤ faults self.new }
-        ensures failed { OnErr result (Rose (faults self.old) (faults self.new)) }
-        ensures told { (bytes : List ℕ) → left self.old ≡ Some bytes
-            → GivesNext bytes result (left self.new) }
-        ensures end { result ≡ Ok None → IsTrue (ended self.new) }
-        ensures stays { IsTrue (ended self.old) → IsTrue (ended self.new) }
-        ensures nothing { IsTrue (ended self.old) → GivesNothing result }
-        ensures answered { answers self.new ≡ after_next result (answers self.old) };
+        ensures counts { (seen self.old).faults ≤ (seen self.new).faults }
+        ensures failed { OnErr result (Rose (seen self.old).faults (seen self.new).faults) }
+        ensures told { (bytes : List ℕ) → (seen self.old).left ≡ Some bytes
+            → GivesNext bytes result (seen self.new).left }
+        ensures end { result ≡ Ok None → IsTrue (seen self.new).ended }
+        ensures stays { IsTrue (seen self.old).ended → IsTrue (seen self.new).ended }
+        ensures nothing { IsTrue (seen self.old).ended → GivesNothing result }
+        ensures answered { (seen self.new).answers ≡ after_next result (seen self.old).answers };
 }
 
 /// A sink of output bytes.
 pub trait Sink {
-    /// How many faults there were. The count stands still at 2^64 - 1.
-    ghost faults: { Self → ℕ };
-
-    /// The bytes that were written, where they are told.
-    ghost written: { Self → Option (List ℕ) };
-
-    /// How many pieces were put, those that failed too. The count stands still at 2^64 - 1.
-    ghost puts: { Self → ℕ };
+    /// What is seen of it. It may tell the bytes that were written. The counts of the faults and of the pieces that
+    /// were put, those that failed too, stand still at 2^64 - 1.
+    ghost seen: { Self → SeenSink };
 
     /// Writes a piece after what was written. A failure may leave a prefix of it there.
     fn put(&mut self, piece: &[u8]) -> Result<(), Failed>
-        ensures counts { faults self.old ≤ faults self.new }
-        ensures failed { OnErr result (Rose (faults self.old) (faults self.new)) }
-        ensures told { (bytes : List ℕ) → written self.old ≡ Some bytes
-            → Puts bytes piece.now result (written self.new) }
-        ensures once { puts self.new ≡ one_more (puts self.old) };
+        ensures counts { (seen self.old).faults ≤ (seen self.new).faults }
+        ensures failed { OnErr result (Rose (seen self.old).faults (seen self.new).faults) }
+        ensures told { (bytes : List ℕ) → (seen self.old).written ≡ Some bytes
+            → Puts bytes piece.now result (seen self.new).written }
+        ensures once { (seen self.new).puts ≡ one_more (seen self.old).puts };
 }
 
 /// A store of named files.

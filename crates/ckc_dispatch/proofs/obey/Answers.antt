@@ -12,7 +12,7 @@ returns-in-Build-clause-cause g c =
     let out = c.args.out.now in
     let store = c.args.store.now in
     let before : Stored = g.F.Store.seen store in
-    let old : Seen = seen_of g.S.Source.left g.S.Source.ended g.S.Source.answers g.S.Source.faults g.O.Sink.written g.O.Sink.faults input out in
+    let old : Seen = seen_of (g.S.Source.seen input) (g.O.Sink.seen out) in
     let last = c.build_text.new.store in
     let after : Stored = g.F.Store.seen last in
     command_as old old before after (out ≡ out) (input ≡ input) c.build_text.result (Build c.in-Build.text.now c.in-Build.image.now) c.args.command (command.Build c.in-Build.text c.in-Build.image) c.in-Build.is refl
@@ -24,7 +24,7 @@ returns-in-Assemble-clause-cause g c =
     let out = c.args.out.now in
     let store = c.args.store.now in
     let before : Stored = g.F.Store.seen store in
-    let old : Seen = seen_of g.S.Source.left g.S.Source.ended g.S.Source.answers g.S.Source.faults g.O.Sink.written g.O.Sink.faults input out in
+    let old : Seen = seen_of (g.S.Source.seen input) (g.O.Sink.seen out) in
     let last = c.assemble_text.new.store in
     let after : Stored = g.F.Store.seen last in
     command_as old old before after (out ≡ out) (input ≡ input) c.assemble_text.result (Assemble c.in-Assemble.text.now c.in-Assemble.image.now) c.args.command (command.Assemble c.in-Assemble.text c.in-Assemble.image) c.in-Assemble.is refl
@@ -36,10 +36,10 @@ returns-in-List-clause-cause g c =
     let out = c.args.out.now in
     let store = c.args.store.now in
     let before : Stored = g.F.Store.seen store in
-    let old : Seen = seen_of g.S.Source.left g.S.Source.ended g.S.Source.answers g.S.Source.faults g.O.Sink.written g.O.Sink.faults input out in
+    let old : Seen = seen_of (g.S.Source.seen input) (g.O.Sink.seen out) in
     let last = c.list_image.new.store in
     let out' = c.list_image.new.out in
     let after : Stored = g.F.Store.seen last in
-    let new : Seen = seen_of g.S.Source.left g.S.Source.ended g.S.Source.answers g.S.Source.faults g.O.Sink.written g.O.Sink.faults input out' in
+    let new : Seen = seen_of (g.S.Source.seen input) (g.O.Sink.seen out') in
     command_as old new before after (out' ≡ out) (input ≡ input) c.list_image.result (Show c.in-List.image.now) c.args.command (command.List c.in-List.image) c.in-List.is refl
     (obeyed_with old new before after (out' ≡ out) (Unit {0}) (out' ≡ out) (input ≡ input) c.list_image.result (λ e. e) (λ _. refl) (Show c.in-List.image.now) (c.list_image.ensures.cause old))

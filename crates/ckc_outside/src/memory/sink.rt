@@ -43,13 +43,9 @@ impl<'a> Sink for MemSink<'a> {
     ghost use Rattle.std.specs.Prelude.{◌≡◌, ℕ, ◌+◌, ◌<◌, List, Option, Some, OnErr, is_err, ◌||◌, ◌++◌, if◌then◌else◌, take};
     ghost use Rattle.ckc_outside.specs.Outside.{Rose, one_more, Puts};
     ghost use Rattle.ckc_outside.specs.Memory.{is_listed, after_call};
-    ghost use Rattle.ckc_outside.specs.MemSink.{written_of, room_of, plan_of, overflows};
+    ghost use Rattle.ckc_outside.specs.MemSink.{written_of, room_of, plan_of, seen_of, overflows};
 
-    ghost faults = { λ s. (plan_of s).faults };
-
-    ghost written = { λ s. Some (written_of s) };
-
-    ghost puts = { λ s. (plan_of s).calls };
+    ghost seen = { seen_of };
 
     fn put(&mut self, piece: &[u8]) -> Result<(), Failed>
         ensures counts { (plan_of self.old).faults ≤ (plan_of self.new).faults }

@@ -1,7 +1,7 @@
 ghost use Rattle.std.specs.Prelude.{◌≡◌, ℕ, ◌≤◌, List, Option, Some, None, Ok, IsTrue, OnErr, is_err};
 ghost use Rattle.ckc_outside.specs.Outside.{Rose, GivesNext, GivesNothing, after_next};
 ghost use Rattle.ckc_outside.specs.Memory.{is_listed, after_call};
-ghost use Rattle.ckc_outside.specs.MemSource.{left_of, has_ended, plan_of};
+ghost use Rattle.ckc_outside.specs.MemSource.{left_of, has_ended, plan_of, seen_of};
 
 use super::plan::Plan;
 use crate::traits::{Failed, Source};
@@ -33,13 +33,7 @@ impl<'a> MemSource<'a> {
 }
 
 impl<'a> Source for MemSource<'a> {
-    ghost faults = { λ s. (plan_of s).faults };
-
-    ghost left = { λ s. Some (left_of s) };
-
-    ghost ended = { has_ended };
-
-    ghost answers = { λ s. s.answers };
+    ghost seen = { seen_of };
 
     fn next(&mut self) -> Result<Option<u8>, Failed>
         ensures counts { (plan_of self.old).faults ≤ (plan_of self.new).faults }

@@ -28,11 +28,7 @@ impl<W: Write + Drop> RealSink<W> {
 }
 
 impl<W: Write> Sink for RealSink<W> {
-    ghost faults = { λ s. s.faults };
-
-    ghost written = { λ _. None };
-
-    ghost puts = { λ s. s.calls };
+    ghost seen = { λ s. record { written = None; puts = s.calls; faults = s.faults } };
 
     fn put(&mut self, piece: &[u8]) -> Result<(), Failed> {
         self.calls = one_more(self.calls);

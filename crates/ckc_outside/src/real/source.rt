@@ -40,13 +40,12 @@ impl<R: Read + Drop> RealSource<R> {
 }
 
 impl<R: Read> Source for RealSource<R> {
-    ghost faults = { λ s. s.faults };
-
-    ghost left = { λ _. None };
-
-    ghost ended = { λ s. s.ended };
-
-    ghost answers = { λ s. s.answers };
+    ghost seen = { λ s. record {
+      left = None;
+      ended = s.ended;
+      answers = s.answers;
+      faults = s.faults;
+    } };
 
     fn next(&mut self) -> Result<Option<u8>, Failed> {
         if self.ended {

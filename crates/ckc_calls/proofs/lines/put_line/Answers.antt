@@ -5,8 +5,8 @@ use Rattle.ckc_calls.proofs.lines.put_line.Goals as goal
 
 pub returns-then-not-is_empty-clause-report : goal.returns-then-not-is_empty-clause-report
 returns-then-not-is_empty-clause-report g c =
-    let rose = Rose (g.E.Sink.faults c.args.err.now) (g.E.Sink.faults c.put.new.self) in
-    reported c.args.line.now c.put.result (g.E.Sink.written c.args.err.now) (g.E.Sink.written c.put.new.self) rose (sym c.if-not-is_empty.ensures) c.put.ensures.told c.put.ensures.failed
+    let rose = Rose (g.E.Sink.seen c.args.err.now).faults (g.E.Sink.seen c.put.new.self).faults in
+    reported c.args.line.now c.put.result (g.E.Sink.seen c.args.err.now).written (g.E.Sink.seen c.put.new.self).written rose (sym c.if-not-is_empty.ensures) c.put.ensures.told c.put.ensures.failed
 
 pub returns-then-not-is_empty-clause-once : goal.returns-then-not-is_empty-clause-once
 returns-then-not-is_empty-clause-once g c = search rules

@@ -1,9 +1,8 @@
-use Rattle.std.proofs.Common.{Ok, Err}
+use Rattle.std.proofs.Common.{Err}
 use Rattle.ckc_base.specs.declared.fault.Fault.{Fault}
 use Rattle.ckc_base.specs.declared.fault.Fault.TheVariants as fault
-use Rattle.ckc_base.specs.Phases.{Answers, viewed}
+use Rattle.ckc_base.specs.Phases.{Answers}
 use Rattle.ckc_asm.specs.Phase.{assembling, parts_in}
-use Rattle.ckc_build.specs.Built.{bytes_of}
 use Rattle.ckc_commands.specs.Commands.{imaging}
 use Rattle.std.specs.Prelude.{ℕ, List}
 use Rattle.ckc_commands.proofs.assembly.assemble.Goals as goal

@@ -9,7 +9,7 @@ pub returns-in-Err-clause-cause : goal.returns-in-Err-clause-cause
 returns-in-Err-clause-cause g c = λ text before after unkept.
     let input = c.args.input.now in
     let out = c.args.out.now in
-    let old : Seen = seen_of g.S.Source.left g.S.Source.ended g.S.Source.answers g.S.Source.faults g.O.Sink.written g.O.Sink.faults input out in
+    let old : Seen = seen_of (g.S.Source.seen input) (g.O.Sink.seen out) in
     faulted old old before after (out ≡ out) (input ≡ input) c.status_of.result building (Exec text c.args.limit) c.args.bytes.now c.in-Err.fault (λ r f. f) c.in-Err.ensures.answers c.status_of.ensures
     (record { unkept = unkept; put = refl; took = refl })
 
@@ -17,8 +17,8 @@ pub returns-in-Ok-clause-cause : goal.returns-in-Ok-clause-cause
 returns-in-Ok-clause-cause g c = λ text before after unkept.
     let input = c.args.input.now in
     let out = c.args.out.now in
-    let old : Seen = seen_of g.S.Source.left g.S.Source.ended g.S.Source.answers g.S.Source.faults g.O.Sink.written g.O.Sink.faults input out in
-    let new : Seen = seen_of g.S.Source.left g.S.Source.ended g.S.Source.answers g.S.Source.faults g.O.Sink.written g.O.Sink.faults c.run_bytes.new.input c.run_bytes.new.out in
+    let old : Seen = seen_of (g.S.Source.seen input) (g.O.Sink.seen out) in
+    let new : Seen = seen_of (g.S.Source.seen c.run_bytes.new.input) (g.O.Sink.seen c.run_bytes.new.out) in
     let b = c.in-Ok.ensures.answers in
     exec_came old new before after (c.run_bytes.new.out ≡ out) (c.run_bytes.new.input ≡ input) c.run_bytes.result text c.args.bytes.now c.as_slice.result.now c.args.limit b.0 b.1
     (subst (λ (i : List ℕ). IsImage i b.0) (sym c.as_slice.ensures.value) b.2) c.run_bytes.ensures.over unkept

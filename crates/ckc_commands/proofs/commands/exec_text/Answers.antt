@@ -14,7 +14,7 @@ returns-in-Ok-Longer-clause-cause g c =
     let store = c.args.store.now in
     let before : Stored = g.F.Store.seen store in
     let after : Stored = g.F.Store.seen c.fetch.new.store in
-    let old : Seen = seen_of g.S.Source.left g.S.Source.ended g.S.Source.answers g.S.Source.faults g.O.Sink.written g.O.Sink.faults input out in
+    let old : Seen = seen_of (g.S.Source.seen input) (g.O.Sink.seen out) in
     let p = over_limit c.in-Ok-Longer.field-0 c.args.text.now 262144 before after c.in-Ok-Longer.field-0-is c.in-Ok-Longer.ensures.fetches in
     fetched p.0 p.1 (refused (at_start 201) (inl (inl (inl (inl (p.2, refl))))) c.too_long.ensures (record { unkept = c.fetch.ensures.only.unkept; put = refl; took = refl }))
 
@@ -25,8 +25,8 @@ returns-in-Ok-Whole-clause-cause g c =
     let store = c.args.store.now in
     let before : Stored = g.F.Store.seen store in
     let after : Stored = g.F.Store.seen c.fetch.new.store in
-    let old : Seen = seen_of g.S.Source.left g.S.Source.ended g.S.Source.answers g.S.Source.faults g.O.Sink.written g.O.Sink.faults input out in
-    let new : Seen = seen_of g.S.Source.left g.S.Source.ended g.S.Source.answers g.S.Source.faults g.O.Sink.written g.O.Sink.faults c.exec_bytes.new.input c.exec_bytes.new.out in
+    let old : Seen = seen_of (g.S.Source.seen input) (g.O.Sink.seen out) in
+    let new : Seen = seen_of (g.S.Source.seen c.exec_bytes.new.input) (g.O.Sink.seen c.exec_bytes.new.out) in
     let p = whole_of c.in-Ok-Whole.field-0 c.in-Ok-Whole.bytes c.args.text.now 262144 before after c.in-Ok-Whole.field-0-is c.in-Ok-Whole.ensures.fetches in
     fetched c.in-Ok-Whole.bytes p.0
     (came_as old new before after (c.exec_bytes.new.out ≡ out) (c.exec_bytes.new.input ≡ input) c.exec_bytes.result (Exec c.args.text.now c.args.limit) c.as_slice.result.now c.in-Ok-Whole.bytes c.as_slice.ensures

@@ -1,4 +1,4 @@
-use Rattle.std.proofs.Common.{◌≡◌, inl, refl}
+use Rattle.std.proofs.Common.{◌≡◌, refl}
 use Rattle.ckc_source.specs.Code.{program_of}
 use Rattle.ckc_build.specs.Meanings.{meanings}
 use Rattle.ckc_commands.specs.Words.{Interp}
@@ -11,7 +11,7 @@ pub returns-in-Err-clause-cause : goal.returns-in-Err-clause-cause
 returns-in-Err-clause-cause g c = λ text before after unkept.
     let input = c.args.input.now in
     let out = c.args.out.now in
-    let old : Seen = seen_of g.S.Source.left g.S.Source.ended g.S.Source.answers g.S.Source.faults g.O.Sink.written g.O.Sink.faults input out in
+    let old : Seen = seen_of (g.S.Source.seen input) (g.O.Sink.seen out) in
     faulted old old before after (out ≡ out) (input ≡ input) c.status_of.result meanings (Interp text c.args.limit) c.args.bytes.now c.in-Err.fault (λ r f. f) c.in-Err.ensures.exact.answers c.status_of.ensures
     (record { unkept = unkept; put = refl; took = refl })
 

@@ -21,11 +21,11 @@ returns-in-Ok-Whole-clause-cause g c = λ seen.
     let store = c.args.store.now in
     let before : Stored = g.F.Store.seen store in
     let after : Stored = g.F.Store.seen c.fetch.new.store in
-    let old = putting seen (g.O.Sink.written out) (g.O.Sink.faults out) in
-    let new = putting seen (g.O.Sink.written out') (g.O.Sink.faults out') in
+    let old = putting seen (g.O.Sink.seen out) in
+    let new = putting seen (g.O.Sink.seen out') in
     let p = whole_of c.in-Ok-Whole.field-0 c.in-Ok-Whole.bytes c.args.image.now 33550356 before after c.in-Ok-Whole.field-0-is c.in-Ok-Whole.ensures.fetches in
     let same : c.as_slice.result.now ≡ c.in-Ok-Whole.bytes = c.as_slice.ensures in
     let s = c.list_bytes.result in
     fetched c.in-Ok-Whole.bytes p.0
     (list_came old new before after (out' ≡ out) (Unit {0}) s c.args.image.now c.in-Ok-Whole.bytes p.1 tt
-    (subst (λ (b : List ℕ). OverImage b (λ q. Listed (listing q.entry q.code q.initial) old.written new.written old.write_faults new.write_faults s) (out' ≡ out) s) same c.list_bytes.ensures.over) c.fetch.ensures.only.unkept)
+    (subst (λ (b : List ℕ). OverImage b (λ q. Listed (listing q.entry q.code q.initial) old.sink.written new.sink.written old.sink.faults new.sink.faults s) (out' ≡ out) s) same c.list_bytes.ensures.over) c.fetch.ensures.only.unkept)

@@ -12,7 +12,7 @@ returns-in-Ok-Longer-clause-cause g c =
     let store = c.args.store.now in
     let before : Stored = g.F.Store.seen store in
     let after : Stored = g.F.Store.seen c.fetch.new.store in
-    let old : Seen = seen_of g.S.Source.left g.S.Source.ended g.S.Source.answers g.S.Source.faults g.O.Sink.written g.O.Sink.faults input out in
+    let old : Seen = seen_of (g.S.Source.seen input) (g.O.Sink.seen out) in
     let p = over_limit c.in-Ok-Longer.field-0 c.args.image.now 33550356 before after c.in-Ok-Longer.field-0-is c.in-Ok-Longer.ensures.fetches in
     fetched p.0 p.1 (bad_image 3 (inl (p.2, refl)) refl (record { unkept = c.fetch.ensures.only.unkept; put = refl; took = refl }))
 
@@ -23,8 +23,8 @@ returns-in-Ok-Whole-clause-cause g c =
     let store = c.args.store.now in
     let before : Stored = g.F.Store.seen store in
     let after : Stored = g.F.Store.seen c.fetch.new.store in
-    let old : Seen = seen_of g.S.Source.left g.S.Source.ended g.S.Source.answers g.S.Source.faults g.O.Sink.written g.O.Sink.faults input out in
-    let new : Seen = seen_of g.S.Source.left g.S.Source.ended g.S.Source.answers g.S.Source.faults g.O.Sink.written g.O.Sink.faults c.run_bytes.new.input c.run_bytes.new.out in
+    let old : Seen = seen_of (g.S.Source.seen input) (g.O.Sink.seen out) in
+    let new : Seen = seen_of (g.S.Source.seen c.run_bytes.new.input) (g.O.Sink.seen c.run_bytes.new.out) in
     let p = whole_of c.in-Ok-Whole.field-0 c.in-Ok-Whole.bytes c.args.image.now 33550356 before after c.in-Ok-Whole.field-0-is c.in-Ok-Whole.ensures.fetches in
     let quiet = c.run_bytes.new.out ≡ out in
     let untaken = c.run_bytes.new.input ≡ input in

@@ -10,6 +10,6 @@ returns-in-Ok-clause-ran g c = λ parts entry code initial.
     let r = c.run.ensures in
     shows c.run.result c.shown.ensures
     (ran_of parts c.args.limit c.in-Ok.machine c.run.new.self (c.run.new.input ≡ input)
-    (seen_of g.S.Source.left g.S.Source.ended g.S.Source.answers g.S.Source.faults g.O.Sink.written g.O.Sink.faults input out)
-    (seen_of g.S.Source.left g.S.Source.ended g.S.Source.answers g.S.Source.faults g.O.Sink.written g.O.Sink.faults c.run.new.input c.run.new.out)
+    (seen_of (g.S.Source.seen input) (g.O.Sink.seen out))
+    (seen_of (g.S.Source.seen c.run.new.input) (g.O.Sink.seen c.run.new.out))
     c.run.result (λ given. c.in-Ok.ensures.start parts given entry code initial) r.answer r.exact r.silent r.any r.read_fault r.write_fault)

@@ -4,9 +4,9 @@ use Rattle.ckc_interp.proofs.Giving.{where_told, over_any}
 use Rattle.ckc_interp.proofs.whole.interp.Goals as goal
 
 pub returns-clause-exact : goal.returns-clause-exact
-returns-clause-exact g c = where_told _ _ _ _ _ _ _ c.run_from.ensures.runs
+returns-clause-exact g c = where_told _ _ _ c.run_from.ensures.runs
 
 pub returns-clause-any : goal.returns-clause-any
 returns-clause-any g c =
-    over_any _ _ _ _ (g.S.Source.left c.args.input.now) (g.S.Source.left c.run_from.new.input)
-    (Interprets (program_of c.args.p.now) c.args.limit (g.O.Sink.written c.args.out.now) (g.O.Sink.written c.run_from.new.out) c.run_from.result) c.run_from.ensures.runs
+    over_any (g.S.Source.seen c.args.input.now) (g.S.Source.seen c.run_from.new.input)
+    (Interprets (program_of c.args.p.now) c.args.limit (g.O.Sink.seen c.args.out.now).written (g.O.Sink.seen c.run_from.new.out).written c.run_from.result) c.run_from.ensures.runs

@@ -7,6 +7,6 @@ use Rattle.ckc_interp.proofs.whole.run_from.Goals as goal
 
 pub returns-in-Err-clause-runs : goal.returns-in-Err-clause-runs
 returns-in-Err-clause-runs g c =
-    let w = g.O.Sink.written c.args.out.now in
+    let w = (g.O.Sink.seen c.args.out.now).written in
     let p = program_of c.args.p.now in
-    not_asked (g.S.Source.ended c.args.input.now) (g.S.Source.answers c.args.input.now) (g.S.Source.left c.args.input.now) (Interprets p c.args.limit w w seen.Memory) (start_out p c.args.limit w)
+    not_asked (g.S.Source.seen c.args.input.now) (Interprets p c.args.limit w w seen.Memory) (start_out p c.args.limit w)

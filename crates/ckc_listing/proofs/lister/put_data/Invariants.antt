@@ -6,5 +6,5 @@ use Rattle.ckc_listing.proofs.lister.put_data.Given as goal
 
 abbrev pub invariant-loop-k : goal.invariant-loop-k
 invariant-loop-k g l = HasPut (map (data_line l.data) (range_with_len 0 l.k))
-    (record { faults = g.O.Sink.faults l.initial.out; written = g.O.Sink.written l.initial.out; puts = g.O.Sink.puts l.initial.out })
-    (record { faults = g.O.Sink.faults l.out; written = g.O.Sink.written l.out; puts = g.O.Sink.puts l.out })
+    (g.O.Sink.seen l.initial.out)
+    (g.O.Sink.seen l.out)

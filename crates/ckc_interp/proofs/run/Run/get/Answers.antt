@@ -13,13 +13,13 @@ returns-in-Ok-Some-clause-gets g c =
     let some = c.in-Ok-Some.field-0-is in (
       byte ∷ [],
       record {
-        count = subst (λ (o : Option ℕ). g.S.Source.answers c.next.new.self ≡ after_next (Ok o) (g.S.Source.answers c.args.input.now)) some c.in-Ok-Some.ensures.answered ∙ one_answer _ byte;
+        count = subst (λ (o : Option ℕ). (g.S.Source.seen c.next.new.self).answers ≡ after_next (Ok o) (g.S.Source.seen c.args.input.now).answers) some c.in-Ok-Some.ensures.answered ∙ one_answer _ byte;
         bytes = (c.word_of.ensures.small, tt);
         none = λ t. absurd (subst (λ (o : Option ℕ). GivesNothing (Ok o)) some (c.in-Ok-Some.ensures.nothing t));
         stays = c.next.ensures.stays;
       },
       λ before e.
-          let told = subst (λ (o : Option ℕ). GivesNext before (Ok o) (g.S.Source.left c.next.new.self)) some (c.in-Ok-Some.ensures.told before e) in
+          let told = subst (λ (o : Option ℕ). GivesNext before (Ok o) (g.S.Source.seen c.next.new.self).left) some (c.in-Ok-Some.ensures.told before e) in
           (drop 1 before, told.1, first_of before byte told.0),
       λ rest may. inl (byte, refl, subst (λ (n : ℕ). Wrote (writes_allowed c.args.to n (core_of c.args.self.now)) (core_of c.wrote.new.self) c.args.marks.at c.args.marks.blame c.wrote.result) c.word_of.ensures.same c.wrote.ensures.done),
     )
@@ -27,10 +27,10 @@ returns-in-Ok-Some-clause-gets g c =
 pub returns-in-Ok-None-clause-gets : goal.returns-in-Ok-None-clause-gets
 returns-in-Ok-None-clause-gets g c =
     let none = c.in-Ok-None.field-0-is in
-    let told = λ (before : List ℕ) (e : g.S.Source.left c.args.input.now ≡ Some before). subst (λ (o : Option ℕ). GivesNext before (Ok o) (g.S.Source.left c.next.new.self)) none (c.in-Ok-None.ensures.told before e) in (
+    let told = λ (before : List ℕ) (e : (g.S.Source.seen c.args.input.now).left ≡ Some before). subst (λ (o : Option ℕ). GivesNext before (Ok o) (g.S.Source.seen c.next.new.self).left) none (c.in-Ok-None.ensures.told before e) in (
       [],
       record {
-        count = subst (λ (o : Option ℕ). g.S.Source.answers c.next.new.self ≡ after_next (Ok o) (g.S.Source.answers c.args.input.now)) none c.in-Ok-None.ensures.answered ∙ no_answer _;
+        count = subst (λ (o : Option ℕ). (g.S.Source.seen c.next.new.self).answers ≡ after_next (Ok o) (g.S.Source.seen c.args.input.now).answers) none c.in-Ok-None.ensures.answered ∙ no_answer _;
         bytes = tt;
         none = λ t. refl;
         stays = c.next.ensures.stays;
@@ -39,7 +39,7 @@ returns-in-Ok-None-clause-gets g c =
           let t = told before e in
           (drop 1 before, t.1, let empty = none_of before t.0 in empty ∙ ap (drop 1) (sym empty)),
       λ rest may.
-          let empty = left_none (g.S.Source.ended c.next.new.self) (g.S.Source.left c.args.input.now) (g.S.Source.left c.next.new.self) rest (c.in-Ok-None.ensures.end (ap (λ (o : Option ℕ). Ok o) none)) told may in
+          let empty = left_none (g.S.Source.seen c.next.new.self).ended (g.S.Source.seen c.args.input.now).left (g.S.Source.seen c.next.new.self).left rest (c.in-Ok-None.ensures.end (ap (λ (o : Option ℕ). Ok o) none)) told may in
           inr (inl (empty, empty, c.wrote-in-Ok-None.ensures.done)),
     )
 

@@ -17,12 +17,12 @@ pub returns-in-Ok-clause-exact : goal.returns-in-Ok-clause-exact
 returns-in-Ok-clause-exact g c = λ parts given k written faults is asks.
     let m = c.args.self.now in
     let m' = c.go_on.new.self in
-    let left = g.S.Source.left c.args.input.now in
-    let left' = g.S.Source.left c.next.new.self in
+    let left = (g.S.Source.seen c.args.input.now).left in
+    let left' = (g.S.Source.seen c.next.new.self).left in
     let rest = (state_at parts given k).input in
     let told = c.in-Ok.ensures.told rest is.rest in
     let answer = c.go_on.ensures.answer ∙ c.requires in
-    runs_going parts given k m' left left' written written (g.S.Source.faults c.args.input.now) (g.S.Source.faults c.next.new.self) faults faults answer
+    runs_going parts given k m' left left' written written (g.S.Source.seen c.args.input.now).faults (g.S.Source.seen c.next.new.self).faults faults faults answer
     (arrives_getting parts given k m m' left left' written written c.in-Ok.next is c.requires asks told.0
     c.go_on.ensures.code
     (λ l. c.go_on.ensures.state l ∙ ap (λ v. record (state_of m l) { x = with_register m.regs.x 10 v; pc = following m.pc }) (got_is c.in-Ok.next c.byte_or_end.result c.byte_or_end.ensures.word))
@@ -33,10 +33,10 @@ returns-in-Ok-clause-any g c =
     let m = c.args.self.now in
     let m' = c.go_on.new.self in
     let next : Option ℕ = c.in-Ok.next in
-    let faults = g.S.Source.faults c.args.input.now in
-    let faults' = g.S.Source.faults c.next.new.self in
+    let faults = (g.S.Source.seen c.args.input.now).faults in
+    let faults' = (g.S.Source.seen c.next.new.self).faults in
     let answer = c.go_on.ensures.answer ∙ c.requires in
-    asked_once _ _ _ _ next (GetsBy m m' faults faults' (answer_of m')) c.in-Ok.ensures.answered c.in-Ok.ensures.nothing c.next.ensures.stays
+    asked_once _ _ next (GetsBy m m' faults faults' (answer_of m')) c.in-Ok.ensures.answered c.in-Ok.ensures.nothing c.next.ensures.stays
     (λ e. c.in-Ok.ensures.end (ap (λ (o : Option ℕ). Ok o) e)) c.byte_or_end.ensures.small (λ rest first parts given k written puts is asks.
     let same : rest ≡ (state_at parts given k).input = (let e = is.rest in cc) in
     runs_going parts given k m' (Some rest) (Some (drop 1 rest)) written written faults faults' puts puts answer
@@ -49,8 +49,8 @@ pub returns-in-Err-clause-any : goal.returns-in-Err-clause-any
 returns-in-Err-clause-any g c =
     let m = c.args.self.now in
     let m' = c.halt.new.self in
-    let faults = g.S.Source.faults c.args.input.now in
-    let faults' = g.S.Source.faults c.next.new.self in (
+    let faults = (g.S.Source.seen c.args.input.now).faults in
+    let faults' = (g.S.Source.seen c.next.new.self).faults in (
       [],
       record { count = c.in-Err.ensures.answered ∙ no_answer _; bytes = tt; none = λ t. refl; stays = c.next.ensures.stays },
       λ rest may parts given k written puts is asks.

@@ -9,20 +9,20 @@ pub returns-in-Ok-clause-exact : goal.returns-in-Ok-clause-exact
 returns-in-Ok-clause-exact g c = λ parts given k left faults is asks byte.
     let m = c.args.self.now in
     let m' = c.go_on.new.self in
-    let written = g.O.Sink.written c.args.out.now in
-    let written' = g.O.Sink.written c.put.new.self in
+    let written = (g.O.Sink.seen c.args.out.now).written in
+    let written' = (g.O.Sink.seen c.put.new.self).written in
     let rest = (state_at parts given k).input in
     let answer = c.go_on.ensures.answer ∙ c.requires in
-    runs_going parts given k m' left left written written' faults faults (g.O.Sink.faults c.args.out.now) (g.O.Sink.faults c.put.new.self) answer
+    runs_going parts given k m' left left written written' faults faults (g.O.Sink.seen c.args.out.now).faults (g.O.Sink.seen c.put.new.self).faults answer
     (arrives_putting parts given k m m' left left written written' c.args.byte is c.requires asks byte c.go_on.ensures.code (c.go_on.ensures.state rest) answer refl c.in-Ok.ensures.told)
 
 pub returns-in-Err-clause-exact : goal.returns-in-Err-clause-exact
 returns-in-Err-clause-exact g c = λ parts given k left faults is asks byte.
     let m = c.args.self.now in
     let m' = c.halt.new.self in
-    let written = g.O.Sink.written c.args.out.now in
-    let written' = g.O.Sink.written c.put.new.self in
-    let puts = g.O.Sink.faults c.args.out.now in
-    let puts' = g.O.Sink.faults c.put.new.self in
+    let written = (g.O.Sink.seen c.args.out.now).written in
+    let written' = (g.O.Sink.seen c.put.new.self).written in
+    let puts = (g.O.Sink.seen c.args.out.now).faults in
+    let puts' = (g.O.Sink.seen c.put.new.self).faults in
     subst (λ (o : Observed). Runs parts given k 1 m' left left written written' faults faults puts puts' o) (sym c.halt.ensures.answer)
     (fails_putting parts given k m m' left left written written' c.args.byte puts puts' is c.requires asks byte c.in-Err.ensures.failed (λ before e. let t = c.in-Err.ensures.told before e in (t.0, omega arith, t.1)))

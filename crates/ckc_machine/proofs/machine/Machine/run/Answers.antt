@@ -12,15 +12,15 @@ use Rattle.ckc_machine.proofs.machine.Machine.run.Goals as goal
 
 pub returns-then-not-goes-clause-exact : goal.returns-then-not-goes-clause-exact
 returns-then-not-goes-clause-exact g c = λ parts given k is.
-    settled parts given k c.args.limit c.args.self.now (g.S.Source.left c.args.input.now) (g.O.Sink.written c.args.out.now) (g.S.Source.faults c.args.input.now) (g.O.Sink.faults c.args.out.now) is (λ e. false≢true (c.if-not-goes.ensures.1 e))
+    settled parts given k c.args.limit c.args.self.now (g.S.Source.seen c.args.input.now).left (g.O.Sink.seen c.args.out.now).written (g.S.Source.seen c.args.input.now).faults (g.O.Sink.seen c.args.out.now).faults is (λ e. false≢true (c.if-not-goes.ensures.1 e))
 
 pub returns-then-not-goes-clause-silent : goal.returns-then-not-goes-clause-silent
 returns-then-not-goes-clause-silent g c = λ parts given k left is silent.
-    (refl, settled parts given k c.args.limit c.args.self.now left (g.O.Sink.written c.args.out.now) (g.S.Source.faults c.args.input.now) (g.O.Sink.faults c.args.out.now) is (λ e. false≢true (c.if-not-goes.ensures.1 e)))
+    (refl, settled parts given k c.args.limit c.args.self.now left (g.O.Sink.seen c.args.out.now).written (g.S.Source.seen c.args.input.now).faults (g.O.Sink.seen c.args.out.now).faults is (λ e. false≢true (c.if-not-goes.ensures.1 e)))
 
 pub returns-then-not-goes-clause-any : goal.returns-then-not-goes-clause-any
-returns-then-not-goes-clause-any g c = not_asked _ _ (RunsBy c.args.limit c.args.self.now c.args.self.now (g.O.Sink.written c.args.out.now) (g.O.Sink.written c.args.out.now) (g.S.Source.faults c.args.input.now) (g.S.Source.faults c.args.input.now) (g.O.Sink.faults c.args.out.now) (g.O.Sink.faults c.args.out.now) (answer_of c.args.self.now)) (λ rest parts given k is.
-    settled parts given k c.args.limit c.args.self.now (Some rest) (g.O.Sink.written c.args.out.now) (g.S.Source.faults c.args.input.now) (g.O.Sink.faults c.args.out.now) is (λ e. false≢true (c.if-not-goes.ensures.1 e)))
+returns-then-not-goes-clause-any g c = not_asked _ (RunsBy c.args.limit c.args.self.now c.args.self.now (g.O.Sink.seen c.args.out.now).written (g.O.Sink.seen c.args.out.now).written (g.S.Source.seen c.args.input.now).faults (g.S.Source.seen c.args.input.now).faults (g.O.Sink.seen c.args.out.now).faults (g.O.Sink.seen c.args.out.now).faults (answer_of c.args.self.now)) (λ rest parts given k is.
+    settled parts given k c.args.limit c.args.self.now (Some rest) (g.O.Sink.seen c.args.out.now).written (g.S.Source.seen c.args.input.now).faults (g.O.Sink.seen c.args.out.now).faults is (λ e. false≢true (c.if-not-goes.ensures.1 e)))
 
 -- one instruction of a silent run asks for nothing
 silent_at : (parts : Parts) (given : List ℕ) (k i limit : ℕ) → i < limit → AsksNothing parts given k limit → ¬ AsksFor parts (state_at parts given (k + i)) 2
@@ -37,10 +37,10 @@ loop-done-init g c = record {
   within = omega arith;
   going = c.if-not-goes.ensures.0 refl;
   arrives = λ parts given k before after is fed.
-      let written = g.O.Sink.written c.args.out.now in
-      let same = fed_same (g.S.Source.left c.args.input.now) _ before after fed in
+      let written = (g.O.Sink.seen c.args.out.now).written in
+      let same = fed_same (g.S.Source.seen c.args.input.now).left _ before after fed in
       subst (λ (l : Option (List ℕ)). Arrives parts given k 0 c.args.self.now before l written written) (sym same) (arrives_none parts given k c.args.self.now before written is);
-  any = not_asked _ _ (ArrivesBy 0 c.args.self.now c.args.self.now (g.O.Sink.written c.args.out.now) (g.O.Sink.written c.args.out.now)) (λ rest parts given k is. arrives_none parts given k c.args.self.now (Some rest) (g.O.Sink.written c.args.out.now) is);
+  any = not_asked _ (ArrivesBy 0 c.args.self.now c.args.self.now (g.O.Sink.seen c.args.out.now).written (g.O.Sink.seen c.args.out.now).written) (λ rest parts given k is. arrives_none parts given k c.args.self.now (Some rest) (g.O.Sink.seen c.args.out.now).written is);
   silent = λ parts given k before is quiet. refl;
   input_counts = omega arith;
   out_counts = omega arith;
@@ -48,15 +48,14 @@ loop-done-init g c = record {
 
 pub returns-then-not-goes-2-clause-exact : goal.returns-then-not-goes-2-clause-exact
 returns-then-not-goes-2-clause-exact g c = λ parts given k is.
-    let told = g.S.Source.left in
     let i = c.loop-done.done in
-    let half = halfway (told c.args.input.now) (told c.loop-done.input) (told c.step.new.input) _ _ (told c.args.input.now) (told c.step.new.input) (silent_at parts given k i c.args.limit c.loop-done-test.true) (inl (refl, refl)) in
-    let before = c.loop-done.invariant.arrives parts given k (told c.args.input.now) half.0 is half.1 in
+    let half = halfway (g.S.Source.seen c.args.input.now).left (g.S.Source.seen c.loop-done.input).left (g.S.Source.seen c.step.new.input).left _ _ (g.S.Source.seen c.args.input.now).left (g.S.Source.seen c.step.new.input).left (silent_at parts given k i c.args.limit c.loop-done-test.true) (inl (refl, refl)) in
+    let before = c.loop-done.invariant.arrives parts given k (g.S.Source.seen c.args.input.now).left half.0 is half.1 in
     then_ends parts given k i c.args.limit c.loop-done.self c.step.new.self
-    (told c.args.input.now) half.0 (told c.step.new.input) (g.O.Sink.written c.args.out.now) (g.O.Sink.written c.loop-done.out) (g.O.Sink.written c.step.new.out)
-    (g.S.Source.faults c.args.input.now) (g.S.Source.faults c.loop-done.input) (g.S.Source.faults c.step.new.input) (g.O.Sink.faults c.args.out.now) (g.O.Sink.faults c.loop-done.out) (g.O.Sink.faults c.step.new.out)
+    (g.S.Source.seen c.args.input.now).left half.0 (g.S.Source.seen c.step.new.input).left (g.O.Sink.seen c.args.out.now).written (g.O.Sink.seen c.loop-done.out).written (g.O.Sink.seen c.step.new.out).written
+    (g.S.Source.seen c.args.input.now).faults (g.S.Source.seen c.loop-done.input).faults (g.S.Source.seen c.step.new.input).faults (g.O.Sink.seen c.args.out.now).faults (g.O.Sink.seen c.loop-done.out).faults (g.O.Sink.seen c.step.new.out).faults
     is.rest before (omega arith) c.loop-done.invariant.input_counts c.loop-done.invariant.out_counts (answer_of c.step.new.self) refl (λ e. false≢true (c.if-not-goes-2.ensures.1 e))
-    (c.step.ensures.exact parts given (k + i) half.0 (told c.step.new.input) before.at half.2)
+    (c.step.ensures.exact parts given (k + i) half.0 (g.S.Source.seen c.step.new.input).left before.at half.2)
 
 pub returns-then-not-goes-2-clause-silent : goal.returns-then-not-goes-2-clause-silent
 returns-then-not-goes-2-clause-silent g c = λ parts given k left is quiet.
@@ -65,8 +64,8 @@ returns-then-not-goes-2-clause-silent g c = λ parts given k left is quiet.
     let before = c.loop-done.invariant.arrives parts given k left left is (inr (quiet, refl)) in (
       c.step.ensures.silent parts given (k + i) left before.at one ∙ c.loop-done.invariant.silent parts given k left is quiet,
       then_ends parts given k i c.args.limit c.loop-done.self c.step.new.self
-          left left left (g.O.Sink.written c.args.out.now) (g.O.Sink.written c.loop-done.out) (g.O.Sink.written c.step.new.out)
-          (g.S.Source.faults c.args.input.now) (g.S.Source.faults c.loop-done.input) (g.S.Source.faults c.step.new.input) (g.O.Sink.faults c.args.out.now) (g.O.Sink.faults c.loop-done.out) (g.O.Sink.faults c.step.new.out)
+          left left left (g.O.Sink.seen c.args.out.now).written (g.O.Sink.seen c.loop-done.out).written (g.O.Sink.seen c.step.new.out).written
+          (g.S.Source.seen c.args.input.now).faults (g.S.Source.seen c.loop-done.input).faults (g.S.Source.seen c.step.new.input).faults (g.O.Sink.seen c.args.out.now).faults (g.O.Sink.seen c.loop-done.out).faults (g.O.Sink.seen c.step.new.out).faults
           is.rest before (omega arith) c.loop-done.invariant.input_counts c.loop-done.invariant.out_counts (answer_of c.step.new.self) refl (λ e. false≢true (c.if-not-goes-2.ensures.1 e))
           (c.step.ensures.exact parts given (k + i) left left before.at (inr (one, refl))),
     )
@@ -74,19 +73,17 @@ returns-then-not-goes-2-clause-silent g c = λ parts given k left is quiet.
 pub returns-then-not-goes-2-clause-any : goal.returns-then-not-goes-2-clause-any
 returns-then-not-goes-2-clause-any g c =
     let i = c.loop-done.done in
-    given_then _ _ _ _ _ _ (ArrivesBy c.loop-done.done c.args.self.now c.loop-done.self (g.O.Sink.written c.args.out.now) (g.O.Sink.written c.loop-done.out)) (RunsBy 1 c.loop-done.self c.step.new.self (g.O.Sink.written c.loop-done.out) (g.O.Sink.written c.step.new.out) (g.S.Source.faults c.loop-done.input) (g.S.Source.faults c.step.new.input) (g.O.Sink.faults c.loop-done.out) (g.O.Sink.faults c.step.new.out) (answer_of c.step.new.self))
-    (RunsBy c.args.limit c.args.self.now c.step.new.self (g.O.Sink.written c.args.out.now) (g.O.Sink.written c.step.new.out) (g.S.Source.faults c.args.input.now) (g.S.Source.faults c.step.new.input) (g.O.Sink.faults c.args.out.now) (g.O.Sink.faults c.step.new.out) (answer_of c.step.new.self)) c.loop-done.invariant.any c.step.ensures.any (λ left mid left' first then parts given k is.
+    given_then _ _ _ (ArrivesBy c.loop-done.done c.args.self.now c.loop-done.self (g.O.Sink.seen c.args.out.now).written (g.O.Sink.seen c.loop-done.out).written) (RunsBy 1 c.loop-done.self c.step.new.self (g.O.Sink.seen c.loop-done.out).written (g.O.Sink.seen c.step.new.out).written (g.S.Source.seen c.loop-done.input).faults (g.S.Source.seen c.step.new.input).faults (g.O.Sink.seen c.loop-done.out).faults (g.O.Sink.seen c.step.new.out).faults (answer_of c.step.new.self))
+    (RunsBy c.args.limit c.args.self.now c.step.new.self (g.O.Sink.seen c.args.out.now).written (g.O.Sink.seen c.step.new.out).written (g.S.Source.seen c.args.input.now).faults (g.S.Source.seen c.step.new.input).faults (g.O.Sink.seen c.args.out.now).faults (g.O.Sink.seen c.step.new.out).faults (answer_of c.step.new.self)) c.loop-done.invariant.any c.step.ensures.any (λ left mid left' first then parts given k is.
     let before = first parts given k is in
     then_ends parts given k i c.args.limit c.loop-done.self c.step.new.self
-    (Some left) (Some mid) (Some left') (g.O.Sink.written c.args.out.now) (g.O.Sink.written c.loop-done.out) (g.O.Sink.written c.step.new.out)
-    (g.S.Source.faults c.args.input.now) (g.S.Source.faults c.loop-done.input) (g.S.Source.faults c.step.new.input) (g.O.Sink.faults c.args.out.now) (g.O.Sink.faults c.loop-done.out) (g.O.Sink.faults c.step.new.out)
+    (Some left) (Some mid) (Some left') (g.O.Sink.seen c.args.out.now).written (g.O.Sink.seen c.loop-done.out).written (g.O.Sink.seen c.step.new.out).written
+    (g.S.Source.seen c.args.input.now).faults (g.S.Source.seen c.loop-done.input).faults (g.S.Source.seen c.step.new.input).faults (g.O.Sink.seen c.args.out.now).faults (g.O.Sink.seen c.loop-done.out).faults (g.O.Sink.seen c.step.new.out).faults
     is.rest before (omega arith) c.loop-done.invariant.input_counts c.loop-done.invariant.out_counts (answer_of c.step.new.self) refl (λ e. false≢true (c.if-not-goes-2.ensures.1 e))
     (then parts given (k + i) before.at))
 
 pub loop-done-preserved : goal.loop-done-preserved
 loop-done-preserved g c =
-    let told = g.S.Source.left in
-    let written = g.O.Sink.written in
     let i = c.loop-done.done in
     let going : answer_of c.step.new.self ≡ Going = c.if-not-goes-2.ensures.0 refl in
     let next : i + 1 ≡ c.one_more-done.result = omega (arith, c.one_more-done.ensures.more) in
@@ -94,23 +91,23 @@ loop-done-preserved g c =
       within = omega arith;
       going = going;
       arrives = λ parts given k left left' is fed.
-          let half = halfway (told c.args.input.now) (told c.loop-done.input) (told c.step.new.input) _ _ left left' (silent_at parts given k i c.args.limit c.loop-done-test.true) fed in
+          let half = halfway (g.S.Source.seen c.args.input.now).left (g.S.Source.seen c.loop-done.input).left (g.S.Source.seen c.step.new.input).left _ _ left left' (silent_at parts given k i c.args.limit c.loop-done-test.true) fed in
           let before = c.loop-done.invariant.arrives parts given k left half.0 is half.1 in
-          subst (λ n. Arrives parts given k n c.step.new.self left left' (written c.args.out.now) (written c.step.new.out)) next (then_going parts given k i c.args.limit c.loop-done.self c.step.new.self
-          left half.0 left' (written c.args.out.now) (written c.loop-done.out) (written c.step.new.out)
-          (g.S.Source.faults c.args.input.now) (g.S.Source.faults c.loop-done.input) (g.S.Source.faults c.step.new.input) (g.O.Sink.faults c.args.out.now) (g.O.Sink.faults c.loop-done.out) (g.O.Sink.faults c.step.new.out)
+          subst (λ n. Arrives parts given k n c.step.new.self left left' (g.O.Sink.seen c.args.out.now).written (g.O.Sink.seen c.step.new.out).written) next (then_going parts given k i c.args.limit c.loop-done.self c.step.new.self
+          left half.0 left' (g.O.Sink.seen c.args.out.now).written (g.O.Sink.seen c.loop-done.out).written (g.O.Sink.seen c.step.new.out).written
+          (g.S.Source.seen c.args.input.now).faults (g.S.Source.seen c.loop-done.input).faults (g.S.Source.seen c.step.new.input).faults (g.O.Sink.seen c.args.out.now).faults (g.O.Sink.seen c.loop-done.out).faults (g.O.Sink.seen c.step.new.out).faults
           is.rest before c.loop-done-test.true c.loop-done.invariant.input_counts c.loop-done.invariant.out_counts going
-          (subst (λ (o : Observed). Runs parts given (k + i) 1 c.step.new.self half.0 left' (written c.loop-done.out) (written c.step.new.out)
-          (g.S.Source.faults c.loop-done.input) (g.S.Source.faults c.step.new.input) (g.O.Sink.faults c.loop-done.out) (g.O.Sink.faults c.step.new.out) o) going (c.step.ensures.exact parts given (k + i) half.0 left' before.at half.2)));
-      any = given_then _ _ _ _ _ _ (ArrivesBy c.loop-done.done c.args.self.now c.loop-done.self (g.O.Sink.written c.args.out.now) (g.O.Sink.written c.loop-done.out)) (RunsBy 1 c.loop-done.self c.step.new.self (g.O.Sink.written c.loop-done.out) (g.O.Sink.written c.step.new.out) (g.S.Source.faults c.loop-done.input) (g.S.Source.faults c.step.new.input) (g.O.Sink.faults c.loop-done.out) (g.O.Sink.faults c.step.new.out) (answer_of c.step.new.self))
-          (ArrivesBy c.one_more-done.result c.args.self.now c.step.new.self (g.O.Sink.written c.args.out.now) (g.O.Sink.written c.step.new.out)) c.loop-done.invariant.any c.step.ensures.any (λ left mid left' first then parts given k is.
+          (subst (λ (o : Observed). Runs parts given (k + i) 1 c.step.new.self half.0 left' (g.O.Sink.seen c.loop-done.out).written (g.O.Sink.seen c.step.new.out).written
+          (g.S.Source.seen c.loop-done.input).faults (g.S.Source.seen c.step.new.input).faults (g.O.Sink.seen c.loop-done.out).faults (g.O.Sink.seen c.step.new.out).faults o) going (c.step.ensures.exact parts given (k + i) half.0 left' before.at half.2)));
+      any = given_then _ _ _ (ArrivesBy c.loop-done.done c.args.self.now c.loop-done.self (g.O.Sink.seen c.args.out.now).written (g.O.Sink.seen c.loop-done.out).written) (RunsBy 1 c.loop-done.self c.step.new.self (g.O.Sink.seen c.loop-done.out).written (g.O.Sink.seen c.step.new.out).written (g.S.Source.seen c.loop-done.input).faults (g.S.Source.seen c.step.new.input).faults (g.O.Sink.seen c.loop-done.out).faults (g.O.Sink.seen c.step.new.out).faults (answer_of c.step.new.self))
+          (ArrivesBy c.one_more-done.result c.args.self.now c.step.new.self (g.O.Sink.seen c.args.out.now).written (g.O.Sink.seen c.step.new.out).written) c.loop-done.invariant.any c.step.ensures.any (λ left mid left' first then parts given k is.
           let before = first parts given k is in
-          subst (λ n. Arrives parts given k n c.step.new.self (Some left) (Some left') (written c.args.out.now) (written c.step.new.out)) next (then_going parts given k i c.args.limit c.loop-done.self c.step.new.self
-          (Some left) (Some mid) (Some left') (written c.args.out.now) (written c.loop-done.out) (written c.step.new.out)
-          (g.S.Source.faults c.args.input.now) (g.S.Source.faults c.loop-done.input) (g.S.Source.faults c.step.new.input) (g.O.Sink.faults c.args.out.now) (g.O.Sink.faults c.loop-done.out) (g.O.Sink.faults c.step.new.out)
+          subst (λ n. Arrives parts given k n c.step.new.self (Some left) (Some left') (g.O.Sink.seen c.args.out.now).written (g.O.Sink.seen c.step.new.out).written) next (then_going parts given k i c.args.limit c.loop-done.self c.step.new.self
+          (Some left) (Some mid) (Some left') (g.O.Sink.seen c.args.out.now).written (g.O.Sink.seen c.loop-done.out).written (g.O.Sink.seen c.step.new.out).written
+          (g.S.Source.seen c.args.input.now).faults (g.S.Source.seen c.loop-done.input).faults (g.S.Source.seen c.step.new.input).faults (g.O.Sink.seen c.args.out.now).faults (g.O.Sink.seen c.loop-done.out).faults (g.O.Sink.seen c.step.new.out).faults
           is.rest before c.loop-done-test.true c.loop-done.invariant.input_counts c.loop-done.invariant.out_counts going
-          (subst (λ (o : Observed). Runs parts given (k + i) 1 c.step.new.self (Some mid) (Some left') (written c.loop-done.out) (written c.step.new.out)
-          (g.S.Source.faults c.loop-done.input) (g.S.Source.faults c.step.new.input) (g.O.Sink.faults c.loop-done.out) (g.O.Sink.faults c.step.new.out) o) going (then parts given (k + i) before.at))));
+          (subst (λ (o : Observed). Runs parts given (k + i) 1 c.step.new.self (Some mid) (Some left') (g.O.Sink.seen c.loop-done.out).written (g.O.Sink.seen c.step.new.out).written
+          (g.S.Source.seen c.loop-done.input).faults (g.S.Source.seen c.step.new.input).faults (g.O.Sink.seen c.loop-done.out).faults (g.O.Sink.seen c.step.new.out).faults o) going (then parts given (k + i) before.at))));
       silent = λ parts given k left is quiet.
           let before = c.loop-done.invariant.arrives parts given k left left is (inr (quiet, refl)) in
           c.step.ensures.silent parts given (k + i) left before.at (silent_at parts given k i c.args.limit c.loop-done-test.true quiet) ∙ c.loop-done.invariant.silent parts given k left is quiet;
@@ -127,21 +124,20 @@ at_limit parts given k i limit m left left' written written' faults faults' puts
 
 pub returns-clause-exact : goal.returns-clause-exact
 returns-clause-exact g c = λ parts given k is.
-    let told = g.S.Source.left in
-    at_limit parts given k c.loop-done.done c.args.limit c.loop-done.self (told c.args.input.now) (told c.loop-done.input) (g.O.Sink.written c.args.out.now) (g.O.Sink.written c.loop-done.out)
-    (g.S.Source.faults c.args.input.now) (g.S.Source.faults c.loop-done.input) (g.O.Sink.faults c.args.out.now) (g.O.Sink.faults c.loop-done.out) (omega arith)
-    (c.loop-done.invariant.arrives parts given k (told c.args.input.now) (told c.loop-done.input) is (inl (refl, refl)))
+    at_limit parts given k c.loop-done.done c.args.limit c.loop-done.self (g.S.Source.seen c.args.input.now).left (g.S.Source.seen c.loop-done.input).left (g.O.Sink.seen c.args.out.now).written (g.O.Sink.seen c.loop-done.out).written
+    (g.S.Source.seen c.args.input.now).faults (g.S.Source.seen c.loop-done.input).faults (g.O.Sink.seen c.args.out.now).faults (g.O.Sink.seen c.loop-done.out).faults (omega arith)
+    (c.loop-done.invariant.arrives parts given k (g.S.Source.seen c.args.input.now).left (g.S.Source.seen c.loop-done.input).left is (inl (refl, refl)))
 
 pub returns-clause-any : goal.returns-clause-any
-returns-clause-any g c = given_so _ _ _ _ (ArrivesBy c.loop-done.done c.args.self.now c.loop-done.self (g.O.Sink.written c.args.out.now) (g.O.Sink.written c.loop-done.out))
-    (RunsBy c.args.limit c.args.self.now c.loop-done.self (g.O.Sink.written c.args.out.now) (g.O.Sink.written c.loop-done.out) (g.S.Source.faults c.args.input.now) (g.S.Source.faults c.loop-done.input) (g.O.Sink.faults c.args.out.now) (g.O.Sink.faults c.loop-done.out) (answer_of c.loop-done.self)) c.loop-done.invariant.any (λ left left' arrives parts given k is.
-    at_limit parts given k c.loop-done.done c.args.limit c.loop-done.self (Some left) (Some left') (g.O.Sink.written c.args.out.now) (g.O.Sink.written c.loop-done.out)
-    (g.S.Source.faults c.args.input.now) (g.S.Source.faults c.loop-done.input) (g.O.Sink.faults c.args.out.now) (g.O.Sink.faults c.loop-done.out) (omega arith) (arrives parts given k is))
+returns-clause-any g c = given_so _ _ (ArrivesBy c.loop-done.done c.args.self.now c.loop-done.self (g.O.Sink.seen c.args.out.now).written (g.O.Sink.seen c.loop-done.out).written)
+    (RunsBy c.args.limit c.args.self.now c.loop-done.self (g.O.Sink.seen c.args.out.now).written (g.O.Sink.seen c.loop-done.out).written (g.S.Source.seen c.args.input.now).faults (g.S.Source.seen c.loop-done.input).faults (g.O.Sink.seen c.args.out.now).faults (g.O.Sink.seen c.loop-done.out).faults (answer_of c.loop-done.self)) c.loop-done.invariant.any (λ left left' arrives parts given k is.
+    at_limit parts given k c.loop-done.done c.args.limit c.loop-done.self (Some left) (Some left') (g.O.Sink.seen c.args.out.now).written (g.O.Sink.seen c.loop-done.out).written
+    (g.S.Source.seen c.args.input.now).faults (g.S.Source.seen c.loop-done.input).faults (g.O.Sink.seen c.args.out.now).faults (g.O.Sink.seen c.loop-done.out).faults (omega arith) (arrives parts given k is))
 
 pub returns-clause-silent : goal.returns-clause-silent
 returns-clause-silent g c = λ parts given k left is quiet. (
   c.loop-done.invariant.silent parts given k left is quiet,
-  at_limit parts given k c.loop-done.done c.args.limit c.loop-done.self left left (g.O.Sink.written c.args.out.now) (g.O.Sink.written c.loop-done.out)
-      (g.S.Source.faults c.args.input.now) (g.S.Source.faults c.loop-done.input) (g.O.Sink.faults c.args.out.now) (g.O.Sink.faults c.loop-done.out) (omega arith)
+  at_limit parts given k c.loop-done.done c.args.limit c.loop-done.self left left (g.O.Sink.seen c.args.out.now).written (g.O.Sink.seen c.loop-done.out).written
+      (g.S.Source.seen c.args.input.now).faults (g.S.Source.seen c.loop-done.input).faults (g.O.Sink.seen c.args.out.now).faults (g.O.Sink.seen c.loop-done.out).faults (omega arith)
       (c.loop-done.invariant.arrives parts given k left left is (inr (quiet, refl))),
 )
