@@ -112,9 +112,15 @@ judge_lex_ends = lex_ends judging_tree judging_tree_exact
 pub judge_parse_ends : (text : List ℕ) (tokens : Tokens) → Exact lexing text (Ok tokens) → (e : Fault) → Exact parsing tokens (Err e) → Exact judging text (Err e)
 judge_parse_ends = parse_ends judging_tree judging_tree_exact
 
-pub judge_goes : (text : List ℕ) (tokens : Tokens) → Exact lexing text (Ok tokens) → (tree : SpelledTree) (answer : Result Typed Fault) → Exact parsing tokens (Ok tree)
+judge_goes : (text : List ℕ) (tokens : Tokens) → Exact lexing text (Ok tokens) → (tree : SpelledTree) (answer : Result Typed Fault) → Exact parsing tokens (Ok tree)
     → Exact judging_tree tree answer → Exact judging text answer
 judge_goes = read_goes judging_tree judging_tree_exact
+
+-- the same of what the code gives to the parser, which is what the lexer made
+pub read_by : (text : List ℕ) (found now : List code.Token) (end : Pos) → now ≡ found → end ≡ place_after text → Exact lexing text (Ok (tokens_in text found))
+    → (tree : SpelledTree) → Exact parsing (record { list = map spelled now; end = end }) (Ok tree) → (answer : Result Typed Fault) → Exact judging_tree tree answer → Exact judging text answer
+read_by text found now end e f cut tree x answer y =
+    judge_goes text (tokens_in text found) cut tree answer (subst (λ t. Exact parsing t (Ok tree)) (tokens_same text found now end e f) x) y
 
 -- ---- the tree with its types and ranges
 
