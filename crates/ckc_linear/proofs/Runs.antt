@@ -1,5 +1,5 @@
 -- Facts that stay, moved to the front in runs.
-use Rattle.std.proofs.Common.{◌≡◌, ℕ, ◌+◌, ◌-◌, ◌<◌, ◌≤◌, List, [], ◌∷◌, ◌++◌, Bool, true, false, not, cond, refl, sym, ap, ◌∙◌, length, take, drop, get_or, arith}
+use Rattle.std.proofs.Common.{◌≡◌, ℕ, ◌+◌, ◌-◌, ◌<◌, ◌≤◌, List, [], ◌∷◌, ◌++◌, Bool, true, false, not, cond, sym, ap, ◌∙◌, length, take, drop, get_or, arith}
 use Rattle.std.specs.Bool.{OnFalse}
 use Rattle.std.specs.List.{filter, copy_within}
 use Rattle.std.proofs.Math.Seq.{paste, take-add}

@@ -98,18 +98,19 @@ fn passed_over(facts: &[Fact], x: u32) -> usize
 fn has(facts: &[Fact], x: u32) -> bool
     ensures { OnFalse result (AllStay x facts.now) }
 {
+    // All are looked at, without a branch: so several are compared at once.
+    let mut found = false;
     for f in facts {
-        if names(f, x) {
-            return true;
-        }
+        found |= names(f, x);
     }
-    false
+    found
 }
 
 fn names(f: &Fact, x: u32) -> bool
     ensures { result ≡ names x f.now }
 {
-    f.x == x || f.y == x
+    // Without a branch, as `has` wants it.
+    (f.x == x) | (f.y == x)
 }
 
 /// Moves the facts along with `x`, which has grown by `c`: a fact that has `x` on the left alone gets a number that is
