@@ -2,7 +2,7 @@
 use Rattle.std.proofs.Common.{◌≡◌, true, false, not, ◌&&◌, refl, sym, ap, ◌∙◌}
 use Rattle.std.specs.Prelude.{Some}
 use Rattle.std.proofs.lemmas.Bool.{false≢true}
-use Rattle.ckc_grammar.specs.Forms.{begins_type, is_close, has_more}
+use Rattle.ckc_grammar.specs.Forms.{begins_type, has_more}
 use Rattle.ckc_grammar.specs.declared.kind.Kind.{Kind}
 use Rattle.ckc_grammar.specs.declared.kind.Kind.TheVariants as kind
 use Rattle.ckc_grammar.specs.Grammar as g
@@ -25,14 +25,3 @@ at_type c h = (chooses begins_type g.members g.MoreMembers refl c h, chooses beg
 
 pub no_member : (c : Kind) → begins_type c ≡ false → pick g.members c ≡ Some g.NoMembers
 no_member c h = chooses (λ k. not (begins_type k)) g.members g.NoMembers refl c (ap (λ b. not b) h)
-
-pub at_close : (c : Kind) → is_close c ≡ true → (pick g.block_items c ≡ Some g.EndBlock) × (pick g.assigns c ≡ Some g.EndAssigns)
-at_close c h = (chooses is_close g.block_items g.EndBlock refl c h, chooses is_close g.assigns g.EndAssigns refl c h)
-
-pub no_close : (c : Kind) → is_close c ≡ false → pick g.assigns c ≡ Some g.Assigns
-no_close c h = chooses (λ k. not (is_close k)) g.assigns g.Assigns refl c (ap (λ b. not b) h)
-
-pub no_item : (c : Kind) → is_close c ≡ false → begins_type c ≡ false → pick g.block_items c ≡ Some g.Stmts
-no_item c h i =
-    chooses (λ k. not (is_close k) && not (begins_type k)) g.block_items g.Stmts refl c
-    (and_both _ _ (ap (λ b. not b) h) (ap (λ b. not b) i))

@@ -20,11 +20,6 @@ pub next_item : {X : Type 0} (all next : List X) (whole more : List X) (x y : X)
 next_item all next whole more x y e h k =
     e ∙ ap (λ z. all ++ (z ∷ more)) h ∙ sym (append_assoc all (y ∷ []) more) ∙ ap (λ z. z ++ more) (sym k)
 
--- the next items
-pub next_items : {X : Type 0} (all next : List X) (whole more xs ys : List X) → whole ≡ all ++ (xs ++ more) → xs ≡ ys → next ≡ all ++ ys → whole ≡ next ++ more
-next_items all next whole more xs ys e h k =
-    e ∙ ap (λ z. all ++ (z ++ more)) h ∙ sym (append_assoc all ys more) ∙ ap (λ z. z ++ more) (sym k)
-
 -- a turn of a list by two productions, one inside the other
 pub two_turns : (G H : Value → Value → Type 0) (p q : Part) (r s : Rule) (ss ts : List Symbol) (start mid inside next : List Sign) (xs ys : List Value) →
     right r ≡ ss ++ n q ∷ [] → right s ≡ ts ++ n p ∷ [] → pick p (kind_of mid) ≡ Some r → pick q (kind_of inside) ≡ Some s → ((k : Kind) → allowed r k ≡ true) → ((k : Kind) → allowed s k ≡ true) →

@@ -39,10 +39,6 @@ abbrev pub is_unknown_alone : List Sign → Bool
 is_unknown_alone [] = false
 is_unknown_alone (x ∷ xs) = alone x.kind (kind_of xs)
 
-abbrev pub is_close : Kind → Bool
-is_close kind.CurlyClose = true
-is_close _ = false
-
 -- the kinds but the end of a text
 abbrev pub has_more : Kind → Bool
 has_more kind.End = false

@@ -3,7 +3,7 @@ ghost use Rattle.std.specs.Bool.{OnTrue, OnFalse};
 ghost use Rattle.ckc_syntax.specs.Spelled.{spelled};
 ghost use Rattle.ckc_grammar.specs.Kinds.{kind_of_token};
 ghost use Rattle.ckc_grammar.specs.Grammar.{t, one, fits, is_name, is_name_but_calloc};
-ghost use Rattle.ckc_grammar.specs.Forms.{is_unknown_alone, is_close, has_more};
+ghost use Rattle.ckc_grammar.specs.Forms.{is_unknown_alone, has_more};
 ghost use Rattle.ckc_grammar.specs.Values.{Value, token};
 ghost use Rattle.ckc_grammar.specs.Classes.{terminal};
 ghost use Rattle.ckc_grammar.specs.Reading.{kind_of, Takes};
@@ -246,16 +246,6 @@ impl<'a> Reader<'a> {
                     _ => false,
                 }
             }
-            _ => false,
-        }
-    }
-
-    /// Whether a `}` is next.
-    pub fn closes(&self) -> bool
-        ensures { result ≡ is_close (kind_of (ahead self.now)) }
-    {
-        match self.kind() {
-            Kind::CurlyClose => true,
             _ => false,
         }
     }

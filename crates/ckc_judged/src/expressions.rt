@@ -52,7 +52,8 @@ fn made(
     node: Node<Name, Note>,
 ) -> Result<Expr<Name, Note>, Fault>
     ensures { AnswersOutcome result (by_fault fault
-        (Ok (expr_made e.now.pos e.now.note ((view frame.now e.now).range 0 first_fresh (state at.now)) node))) }
+        (Ok (expr_made e.now.pos e.now.note
+        ((view frame.now e.now).range 0 first_fresh (state at.now)) node))) }
 {
     match fault {
         Some(r) => Err(Fault::Refused(r)),
@@ -117,7 +118,8 @@ fn judge_bounds(
     first_fresh: u32,
 ) -> Result<Option<Boxed<Limits<Name, Note>>>, Fault>
     ensures { AnswersOutcome result
-        (there_judged (option_map (view_of_limits frame.now) bounds.now) size first_fresh (state at.now)) }
+        (there_judged (option_map (view_of_limits frame.now) bounds.now)
+        size first_fresh (state at.now)) }
 {
     match bounds {
         None => Ok(None),
@@ -284,7 +286,8 @@ fn judge_as(
     first_fresh: u32,
 ) -> Result<Expr<Name, Note>, Fault>
     ensures { let v = view frame.now e.now in AnswersOutcome result
-        (if operand then v.operand first_fresh (state at.now) else v.judged first_fresh (state at.now)) }
+        (if operand then v.operand first_fresh (state at.now)
+        else v.judged first_fresh (state at.now)) }
 {
     let node = judge_node(work, frame, at, &e.node, &e.note.ctype, first_fresh)?;
     if operand {

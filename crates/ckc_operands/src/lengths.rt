@@ -125,7 +125,8 @@ pub fn cast_passes(
 ) -> Result<CoreExpr, AllocError>
     ensures { IfOk result (λ c. expr_of c ≡ Expr.Bin Or
         (Expr.Bin Eq (Expr.Local t) (Expr.Const 0))
-        (cast_test size form (held (keeps_index true (source_of k.now)) (source_of k.now) next) t)) }
+        (cast_test size form
+        (held (keeps_index true (source_of k.now)) (source_of k.now) next) t)) }
 {
     let null = binary(alloc, BinOp::Eq, CoreExpr::Local(t), CoreExpr::Const(0))?;
     let within = cast_test(alloc, size, form, k, t, next)?;

@@ -56,8 +56,8 @@ pub fn put_directive<'a>(
 
 /// Puts a structure without members.
 pub fn put_tag<'a>(reader: &Reader<'a>, all: &mut Items<'a>, name: Token<'a>) -> Result<(), Stop>
-    ensures { Made (λ x. all.old ++ item.Tag (spelled name.entry).text name.entry.pos ∷ [] ≡ all.new)
-        result }
+    ensures { Made
+        (λ x. all.old ++ item.Tag (spelled name.entry).text name.entry.pos ∷ [] ≡ all.new) result }
 {
     put_item(reader, all, Item::Tag(Spelling::new(name.text), name.pos))
 }

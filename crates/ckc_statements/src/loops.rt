@@ -112,7 +112,8 @@ pub fn enter_while(
     walk: &mut Walk,
 ) -> Result<Branch, Fault>
     ensures { let b = path s.now in
-        StepsOutcome (viewed branch result) (here walk.new) (branched frame.now b.breaks e.now (loop_head frame.now b.assigned (here walk.old))) }
+        StepsOutcome (viewed branch result) (here walk.new)
+        (branched frame.now b.breaks e.now (loop_head frame.now b.assigned (here walk.old))) }
 {
     let contents = contents_of(work.alloc, s)?;
     forget(work.alloc, frame, contents.assigned.as_slice(), walk)?;
@@ -193,7 +194,8 @@ pub fn enter_for(
 ) -> Result<Start, Fault>
     ensures { let b = path s.now in let ks = b.assigned ++ there_assigned (option_map path step.now)
         in
-        StepsOutcome (viewed start result) (here walk.new) (for_started frame.now b.breaks b.continues e.now (loop_head frame.now ks (here walk.old))) }
+        StepsOutcome (viewed start result) (here walk.new)
+        (for_started frame.now b.breaks b.continues e.now (loop_head frame.now ks (here walk.old))) }
 {
     let mut contents = contents_of(work.alloc, s)?;
     let (left, continued) = (contents.breaks, contents.continues);

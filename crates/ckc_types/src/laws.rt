@@ -42,7 +42,8 @@ pub fn offset_is_least()
 /// The size of a structure is the least multiple of its alignment that is at least the end of its last member.
 pub fn size_is_least()
     ensures { (structs : Structs) (tag : ℕ) →
-        IsLeastMultiple (end_of 0 (members_of structs tag)) (align structs (ctype.Struct tag)) (size structs (ctype.Struct tag)) }
+        IsLeastMultiple (end_of 0 (members_of structs tag))
+        (align structs (ctype.Struct tag)) (size structs (ctype.Struct tag)) }
 {}
 
 /// Members do not overlap, and each lies within its structure.
