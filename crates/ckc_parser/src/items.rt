@@ -1,4 +1,4 @@
-ghost use Rattle.std.specs.Prelude.{◌≡◌, ◌≤◌, ◌<◌, ◌∷◌, [], ◌++◌, length, true, MatchResult, Option, Some, None, IfOk};
+ghost use Rattle.std.specs.Prelude.{◌≡◌, ◌≤◌, ◌<◌, ◌∷◌, [], ◌++◌, true, Option, Some, None, IfOk};
 ghost use Rattle.ckc_syntax.specs.Spelled.{spelled};
 ghost use Rattle.ckc_grammar.specs.Grammar as g;
 ghost use Rattle.ckc_grammar.specs.Trees as trees;

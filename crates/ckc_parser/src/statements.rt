@@ -1,10 +1,9 @@
-ghost use Rattle.std.specs.Prelude.{◌≡◌, ◌≤◌, ◌<◌, ◌∷◌, [], ◌++◌, length, true, Option, Some, None, IfOk};
+ghost use Rattle.std.specs.Prelude.{◌≡◌, ◌≤◌, ◌<◌, ◌∷◌, [], ◌++◌, Option, Some, None};
 ghost use Rattle.ckc_syntax.specs.Spelled.{spelled};
 ghost use Rattle.ckc_grammar.specs.Grammar as g;
 ghost use Rattle.ckc_grammar.specs.Trees as trees;
 ghost use Rattle.ckc_grammar.specs.Values as v;
-ghost use Rattle.ckc_grammar.specs.Reading.{kind_of};
-ghost use Rattle.ckc_grammar.specs.Marked.{ahead, remaining, Answered, Gives, Reads};
+ghost use Rattle.ckc_grammar.specs.Marked.{ahead, remaining, Gives, Reads};
 ghost use Rattle.ckc_parser.specs.Parts.{Made, Puts, Assigned, AssignPut, Bundled, Blocked};
 ghost use Rattle.ckc_syntax.specs.declared.tree.Act.TheVariants as act;
 
