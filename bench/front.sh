@@ -12,7 +12,7 @@
 "$top/ccc" exec "$top/examples/hello.c" > "$work/said"
 program=$top/crates/ckc_main/out/ckc_main
 # As the launcher sets it, and for gcc too.
-export GLIBC_TUNABLES=${GLIBC_TUNABLES:-glibc.malloc.hugetlb=1}
+export GLIBC_TUNABLES=${GLIBC_TUNABLES:-glibc.malloc.hugetlb=1:glibc.malloc.top_pad=33554432}
 
 # The milliseconds of processor time that a call of a command takes, which ends in a status of those given:
 # `average '0 113' COMMAND..`.
