@@ -1,5 +1,4 @@
 pub mod Between
 pub mod Callocs
 pub mod Exits
-mod Fewer
 pub mod Postfix

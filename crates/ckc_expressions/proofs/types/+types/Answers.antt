@@ -1,14 +1,13 @@
-use Rattle.std.proofs.Common.{lit<, ◌∷◌, ◌∙◌, [], refl, sym, ap}
+use Rattle.std.proofs.Common.{◌∷◌, ◌∙◌, [], refl, sym, ap}
 use Rattle.ckc_syntax.specs.Spelled.{spelled}
 use Rattle.ckc_grammar.specs.Grammar.{k}
 use Rattle.ckc_grammar.specs.Grammar as g
 use Rattle.ckc_grammar.specs.Reading.{kind_of, pick}
 use Rattle.ckc_grammar.specs.Values.{Value, made}
 use Rattle.ckc_grammar.specs.Values as v
-use Rattle.ckc_grammar.specs.Marked.{ahead, remaining}
+use Rattle.ckc_grammar.specs.Marked.{ahead}
 use Rattle.ckc_grammar.proofs.Steps.{also, then_stops, here_stops, by_rule, stop_rule, no_rule, turned, chosen}
 use Rattle.ckc_expressions.proofs.Exits.{exit}
-use Rattle.ckc_expressions.proofs.Fewer.{taken, behind, after, type_stays, type_falls}
 use Rattle.ckc_grammar.proofs.Defaults.{usual}
 use Rattle.ckc_expressions.proofs.types.+types.Goals as goal
 
@@ -98,108 +97,3 @@ type_in_angles-returns-in_err-close-clause-tells t c = exit _ _ _ c.from_residua
 pub type_in_angles-returns-clause-tells : goal.type_in_angles-returns-clause-tells
 type_in_angles-returns-clause-tells t c =
     ((v.token (spelled c.in_ok-open.open), v.token (spelled c.in_ok-close.close)), also c.in_ok-open.ensures.parses (also c.in_ok-inner.ensures.parses c.in_ok-close.ensures.parses))
-
-pub type_name-base-requires : goal.type_name-base-requires
-type_name-base-requires t c = (type_stays (remaining c.args.reader.now) 5 4 c.decreases (lit< tt), tt)
-
-pub type_name-returns-in_err-base-clause-fewer : goal.type_name-returns-in_err-base-clause-fewer
-type_name-returns-in_err-base-clause-fewer t c = c.in_err-base.ensures.fewer
-
-pub type_name-returns-clause-fewer : goal.type_name-returns-clause-fewer
-type_name-returns-clause-fewer t c = after c.in_ok-base.ensures.fewer c.starred.ensures.fewer
-
-pub base-scalar-requires : goal.base-scalar-requires
-base-scalar-requires t c = (type_stays (remaining c.args.reader.now) 4 3 c.decreases (lit< tt), tt)
-
-pub base-returns-in-Struct-clause-fewer : goal.base-returns-in-Struct-clause-fewer
-base-returns-in-Struct-clause-fewer t c = c.struct_base.ensures.fewer
-
-pub base-returns-in_default-clause-fewer : goal.base-returns-in_default-clause-fewer
-base-returns-in_default-clause-fewer t c = c.scalar.ensures.fewer
-
-pub scalar-returns-in-Int-clause-fewer : goal.scalar-returns-in-Int-clause-fewer
-scalar-returns-in-Int-clause-fewer t c = c.int_base.ensures.fewer
-
-pub scalar-returns-in-Unsigned-clause-fewer : goal.scalar-returns-in-Unsigned-clause-fewer
-scalar-returns-in-Unsigned-clause-fewer t c = c.unsigned_base.ensures.fewer
-
-pub scalar-returns-in-Char-clause-fewer : goal.scalar-returns-in-Char-clause-fewer
-scalar-returns-in-Char-clause-fewer t c = c.char_base.ensures.fewer
-
-pub scalar-one_pointer-requires : goal.scalar-one_pointer-requires
-scalar-one_pointer-requires t c = (type_stays (remaining c.args.reader.now) 3 2 c.decreases (lit< tt), tt)
-
-pub scalar-returns-in-Ptr-clause-fewer : goal.scalar-returns-in-Ptr-clause-fewer
-scalar-returns-in-Ptr-clause-fewer t c = c.one_pointer.ensures.fewer
-
-pub scalar-array_pointer-requires : goal.scalar-array_pointer-requires
-scalar-array_pointer-requires t c = (type_stays (remaining c.args.reader.now) 3 2 c.decreases (lit< tt), tt)
-
-pub scalar-returns-in-ArrayPtr-clause-fewer : goal.scalar-returns-in-ArrayPtr-clause-fewer
-scalar-returns-in-ArrayPtr-clause-fewer t c = c.array_pointer.ensures.fewer
-
-pub scalar-nt_pointer-requires : goal.scalar-nt_pointer-requires
-scalar-nt_pointer-requires t c = (type_stays (remaining c.args.reader.now) 3 2 c.decreases (lit< tt), tt)
-
-pub scalar-returns-in-NtArrayPtr-clause-fewer : goal.scalar-returns-in-NtArrayPtr-clause-fewer
-scalar-returns-in-NtArrayPtr-clause-fewer t c = c.nt_pointer.ensures.fewer
-
-pub one_pointer-type_in_angles-requires : goal.one_pointer-type_in_angles-requires
-one_pointer-type_in_angles-requires t c = (type_falls 2 1 c.decreases c.in_ok-word.ensures.fewer (lit< tt), tt)
-
-pub one_pointer-returns-in_err-word-clause-fewer : goal.one_pointer-returns-in_err-word-clause-fewer
-one_pointer-returns-in_err-word-clause-fewer t c = c.in_err-word.ensures.fewer
-
-pub one_pointer-returns-in_err-inner-clause-fewer : goal.one_pointer-returns-in_err-inner-clause-fewer
-one_pointer-returns-in_err-inner-clause-fewer t c = behind c.in_ok-word.ensures.fewer c.in_err-inner.ensures.fewer
-
-pub one_pointer-returns-in_err-base-clause-fewer : goal.one_pointer-returns-in_err-base-clause-fewer
-one_pointer-returns-in_err-base-clause-fewer t c = behind c.in_ok-word.ensures.fewer c.in_ok-inner.ensures.fewer
-
-pub one_pointer-returns-clause-fewer : goal.one_pointer-returns-clause-fewer
-one_pointer-returns-clause-fewer t c = behind c.in_ok-word.ensures.fewer c.in_ok-inner.ensures.fewer
-
-pub array_pointer-type_in_angles-requires : goal.array_pointer-type_in_angles-requires
-array_pointer-type_in_angles-requires t c = (type_falls 2 1 c.decreases c.in_ok-word.ensures.fewer (lit< tt), tt)
-
-pub array_pointer-returns-in_err-word-clause-fewer : goal.array_pointer-returns-in_err-word-clause-fewer
-array_pointer-returns-in_err-word-clause-fewer t c = c.in_err-word.ensures.fewer
-
-pub array_pointer-returns-in_err-inner-clause-fewer : goal.array_pointer-returns-in_err-inner-clause-fewer
-array_pointer-returns-in_err-inner-clause-fewer t c = behind c.in_ok-word.ensures.fewer c.in_err-inner.ensures.fewer
-
-pub array_pointer-returns-in_err-base-clause-fewer : goal.array_pointer-returns-in_err-base-clause-fewer
-array_pointer-returns-in_err-base-clause-fewer t c = behind c.in_ok-word.ensures.fewer c.in_ok-inner.ensures.fewer
-
-pub array_pointer-returns-clause-fewer : goal.array_pointer-returns-clause-fewer
-array_pointer-returns-clause-fewer t c = behind c.in_ok-word.ensures.fewer c.in_ok-inner.ensures.fewer
-
-pub nt_pointer-type_in_angles-requires : goal.nt_pointer-type_in_angles-requires
-nt_pointer-type_in_angles-requires t c = (type_falls 2 1 c.decreases c.in_ok-word.ensures.fewer (lit< tt), tt)
-
-pub nt_pointer-returns-in_err-word-clause-fewer : goal.nt_pointer-returns-in_err-word-clause-fewer
-nt_pointer-returns-in_err-word-clause-fewer t c = c.in_err-word.ensures.fewer
-
-pub nt_pointer-returns-in_err-inner-clause-fewer : goal.nt_pointer-returns-in_err-inner-clause-fewer
-nt_pointer-returns-in_err-inner-clause-fewer t c = behind c.in_ok-word.ensures.fewer c.in_err-inner.ensures.fewer
-
-pub nt_pointer-returns-in_err-base-clause-fewer : goal.nt_pointer-returns-in_err-base-clause-fewer
-nt_pointer-returns-in_err-base-clause-fewer t c = behind c.in_ok-word.ensures.fewer c.in_ok-inner.ensures.fewer
-
-pub nt_pointer-returns-clause-fewer : goal.nt_pointer-returns-clause-fewer
-nt_pointer-returns-clause-fewer t c = behind c.in_ok-word.ensures.fewer c.in_ok-inner.ensures.fewer
-
-pub type_in_angles-type_name-requires : goal.type_in_angles-type_name-requires
-type_in_angles-type_name-requires t c = (type_falls 1 5 c.decreases c.in_ok-open.ensures.fewer (lit< tt), tt)
-
-pub type_in_angles-returns-in_err-open-clause-fewer : goal.type_in_angles-returns-in_err-open-clause-fewer
-type_in_angles-returns-in_err-open-clause-fewer t c = c.in_err-open.ensures.fewer
-
-pub type_in_angles-returns-in_err-inner-clause-fewer : goal.type_in_angles-returns-in_err-inner-clause-fewer
-type_in_angles-returns-in_err-inner-clause-fewer t c = behind c.in_ok-open.ensures.fewer c.in_err-inner.ensures.fewer
-
-pub type_in_angles-returns-in_err-close-clause-fewer : goal.type_in_angles-returns-in_err-close-clause-fewer
-type_in_angles-returns-in_err-close-clause-fewer t c = behind c.in_ok-open.ensures.fewer (after c.in_ok-inner.ensures.fewer c.in_err-close.ensures.fewer)
-
-pub type_in_angles-returns-clause-fewer : goal.type_in_angles-returns-clause-fewer
-type_in_angles-returns-clause-fewer t c = behind c.in_ok-open.ensures.fewer (after c.in_ok-inner.ensures.fewer (taken c.in_ok-close.ensures.fewer))
