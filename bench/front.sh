@@ -11,18 +11,38 @@
 # The program itself, built by the launcher, whose own time has a row at the end.
 "$top/ccc" exec "$top/examples/hello.c" > "$work/said"
 program=$top/crates/ckc_main/out/ckc_main
-# As the launcher sets it, and for gcc too.
-export GLIBC_TUNABLES=${GLIBC_TUNABLES:-glibc.malloc.hugetlb=1:glibc.malloc.top_pad=33554432}
+# Stack and memory as the launcher sets them, and for gcc too.
+ulimit -S -s hard
+export GLIBC_TUNABLES=${GLIBC_TUNABLES:-glibc.malloc.hugetlb=1:glibc.malloc.top_pad=33554432:glibc.malloc.mmap_threshold=1048576}
 
 # The milliseconds of processor time that a call of a command takes, which ends in a status of those given:
 # `average '0 113' COMMAND..`.
-TIMEFORMAT='%U %S'
+TIMEFORMAT='%3U %3S'
 repeat() { for ((k = 0; k < 20; k++)); do "$@" > "$work/said" 2>&1 || true; done; }
-average() {
+ends_so() {
   local wanted=" $1 " status=0; shift
   "$@" > "$work/said" 2>&1 || status=$?
   case $wanted in *" $status "*) ;; *) cat "$work/said" >&2; return 1 ;; esac
+}
+average() {
+  ends_so "$@" || return 1
+  shift
   { time repeat "$@"; } 2>&1 | awk '{ printf "%.1f", ($1 + $2) * 50 }'
+}
+
+# The same of a command and of its peer, called in turn, so that both meet what else the machine does: the middle one of
+# 21 calls each. `beside COMMAND.. -- PEER..`
+middle() { awk '{ print ($1 + $2) * 1000 }' "$1" | sort -n | sed -n 11p; }
+beside() {
+  local own=()
+  while [ "$1" != -- ]; do own+=("$1"); shift; done
+  shift
+  rm -f "$work/ours" "$work/peers"
+  for ((k = 0; k < 21; k++)); do
+    { time "${own[@]}" > "$work/said" 2>&1; } 2>> "$work/ours" || true
+    { time "$@" > /dev/null 2>&1; } 2>> "$work/peers" || true
+  done
+  echo "$(middle "$work/ours") beside $(middle "$work/peers")"
 }
 
 # Fills a file up with empty lines to so many bytes.
@@ -31,10 +51,10 @@ fill() { head -c $(($2 - $(stat -c %s "$1"))) /dev/zero | tr '\0' '\n' >> "$1"; 
 for kind in functions 'long names' objects locals 'nested blocks' 'nested expressions' prototypes calls initialisers structures; do
   awk -v kind="$kind" -v half=1 -f "$top/bench/front/text.awk" > "$work/text.c"
   fill "$work/text.c" 262144
-  ours=$(average '0 113' "$program" interp "$work/text.c")
+  ends_so '0 113' "$program" interp "$work/text.c"
   refused=$(sed -n 's/^refused: \(E[0-9]*\).*/, refused as \1/p' "$work/said")
-  peer=$(average 0 gcc -w -fsyntax-only "$work/text.c")
-  row "front, $kind$refused" "$ours beside $peer" "ms a file, ccc beside gcc -fsyntax-only"
+  ends_so 0 gcc -w -fsyntax-only "$work/text.c"
+  row "front, $kind$refused" "$(beside "$program" interp "$work/text.c" -- gcc -w -fsyntax-only "$work/text.c")" "ms a file, ccc beside gcc -fsyntax-only"
 done
 
 text() { # bytes functions
