@@ -10,7 +10,7 @@ use Rattle.ckc_syntax.specs.declared.tree.Name.TheVariants as name
 use Rattle.ckc_syntax.specs.declared.tree.TypeTree.{TypeTree-F, out-TypeTree, roll-TypeTree, fold-roll-TypeTree, the_lemmas}
 use Rattle.ckc_syntax.specs.declared.tree.TypeTree.TheVariants as ctype
 use Rattle.ckc_syntax.specs.declared.tree.NamedText.{NamedText}
-use Rattle.ckc_syntax.proofs.SameHeads.{head_tells}
+use Rattle.ckc_resolve.specs.Same.{equal_heads}
 use Rattle.ckc_resolve.specs.declared.names.Names.{Names}
 use Rattle.ckc_resolve.specs.declared.scopes.Scopes.{Scopes}
 use Rattle.ckc_resolve.specs.Spellings.{Spelling, is_among, with_spelling, number_of}
@@ -62,7 +62,7 @@ module _ (names : Names) (all : List Item) where
   defines_each h g s p before i j (items.struct x pos hs) e = absurd cc
   defines_each h g s p before i j (items.static q new) e = absurd cc
   defines_each h g s p before i j (items.proto q there) e = absurd cc
-  defines_each h g s p before i j (items.function {h = k} {g = l} {after = u} q new made) e = heads_alike names h k g l s u p q ((head_tells h k).so e)
+  defines_each h g s p before i j (items.function {h = k} {g = l} {after = u} q new made) e = heads_alike names h k g l s u p q ((equal_heads h k).1.0 e)
 
   is_defined : (whole : List NamedItem) → ItemsNamed names all no_names all whole → (before : Names) (i : Item) (j : NamedItem) → ItemNamed names all before i j → IsDefined whole j
   is_defined whole are before i j (items.directive d) = tt

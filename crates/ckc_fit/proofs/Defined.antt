@@ -3,7 +3,7 @@ use Rattle.std.proofs.Common.{◌≡◌, Bool, true, false, ◌||◌, cond, List
 use Rattle.std.specs.List.{list_any}
 use Rattle.std.specs.Str.{bytes_eq}
 use Rattle.ckc_syntax.specs.declared.tree.Item.TheVariants as item
-use Rattle.ckc_syntax.specs.Same.{same_head}
+use Rattle.ckc_resolve.specs.Same.{same_head}
 use Rattle.ckc_resolve.specs.Spellings.{Spelling}
 use Rattle.ckc_resolve.specs.Trees.{Item, Head}
 use Rattle.ckc_resolve.specs.Items.{first_head, is_same}

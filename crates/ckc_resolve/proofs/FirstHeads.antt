@@ -7,7 +7,7 @@ use Rattle.ckc_syntax.specs.declared.tree.Item.TheVariants as item
 use Rattle.indexmap.specs.IndexMap.{IndexMap, get_by}
 use Rattle.ckc_resolve.specs.Spellings.{Spelling}
 use Rattle.ckc_resolve.specs.Trees.{Item, Head, Stmt}
-use Rattle.ckc_syntax.specs.Same.{same_head}
+use Rattle.ckc_resolve.specs.Same.{same_head}
 use Rattle.ckc_resolve.specs.Items.{head_or, first_head, is_same}
 use Rattle.ckc_resolve.specs.Bodies.{HasFirstHeads}
 

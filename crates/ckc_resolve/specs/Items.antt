@@ -5,7 +5,7 @@ use Rattle.ckc_base.specs.declared.places.Pos.{Pos}
 use Rattle.ckc_syntax.specs.declared.tree.Name.{Name}
 use Rattle.ckc_syntax.specs.declared.tree.Name.TheVariants as name
 use Rattle.ckc_syntax.specs.declared.tree.Item.TheVariants as item
-use Rattle.ckc_syntax.specs.Same.{same_head}
+use Rattle.ckc_resolve.specs.Same.{same_head}
 use Rattle.ckc_resolve.specs.declared.names.Names.{Names}
 use Rattle.ckc_base.specs.Outcomes.{Outcome, bind, refused, in_turn}
 use Rattle.ckc_resolve.specs.Codes.{undefined}

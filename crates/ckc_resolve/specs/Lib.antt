@@ -9,6 +9,7 @@ pub mod Expressions
 pub mod Declarations
 pub mod Statements
 pub mod Heads
+pub mod Same
 pub mod Items
 pub mod Bodies
 pub mod Main

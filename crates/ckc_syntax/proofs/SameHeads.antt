@@ -1,5 +1,6 @@
 -- Declarations and heads are the same but for their places just where they are equal without them.
-use Rattle.std.proofs.Common.{◌≡◌, ℕ, List, ap, refl}
+use Rattle.std.proofs.Common.{◌≡◌, ℕ, Bool, List, ap, refl}
+use Rattle.std.specs.Bool.{Decides}
 use Rattle.std.specs.Prelude.{Option, Some, None}
 use Rattle.ckc_base.specs.declared.arithmetic.Mode.{Mode}
 use Rattle.ckc_base.specs.declared.arithmetic.Mode.TheVariants as mode
@@ -7,7 +8,7 @@ use Rattle.ckc_base.specs.Places.{start}
 use Rattle.ckc_syntax.specs.declared.tree.Init.TheVariants as init
 use Rattle.ckc_syntax.specs.declared.tree.Length.{Length}
 use Rattle.ckc_syntax.specs.declared.tree.Length.TheVariants as len
-use Rattle.ckc_syntax.specs.Same.{same_expr, same_bounds, same_init, same_number, same_length, same_mode, same_decl, same_head}
+use Rattle.ckc_syntax.specs.SameParts.{same_expr, same_bounds, same_init, same_number, same_length, same_mode, same_decl, same_head_parts}
 use Rattle.ckc_syntax.specs.Trees.{Spelling, TypeTree, Limits, Expr, Init, Decl, Head}
 use Rattle.ckc_syntax.specs.Placeless.{placeless_expr, placeless_bounds, placeless_init, placeless_length, placeless_decl, placeless_head}
 use Rattle.ckc_syntax.proofs.Tells.{Tells, yes, unlike, both, made, numbers, names, lists, some_tells, left_tells, right_tells}
@@ -92,5 +93,9 @@ head_of z = record { mode = z.1.0; result = z.1.1.0; name = z.0; params = z.1.1.
 abbrev parts_of_head : Head → Spelling × (Option Mode × (TypeTree × (List Decl × Option Limits)))
 parts_of_head h = (h.name, (h.mode, (h.result, (h.params, h.bounds))))
 
-pub head_tells : (g h : Head) → Tells (same_head g h) (placeless_head g) (placeless_head h)
+pub head_tells : (g h : Head) → Tells (same_head_parts g h) (placeless_head g) (placeless_head h)
 head_tells g h = made head_of (both (names g.name h.name) (both (mode_tells g.mode h.mode) (both (type_tells g.result h.result) (both (lists same_decl placeless_decl decl_tells g.params h.params) (bounds_tells g.bounds h.bounds))))) (λ is. ap parts_of_head is)
+
+-- whether two heads are equal without their places
+pub equal_heads : (g h : Head) → (b : Bool) × Decides b (placeless_head g ≡ placeless_head h)
+equal_heads g h = let t = head_tells g h in (same_head_parts g h, (t.so, t.back))

@@ -10,7 +10,7 @@ pub mod Phase
 pub mod Small
 pub mod Spelled
 pub mod Tally
-pub mod Same
+pub mod SameParts
 pub mod Placeless
 pub mod Trees
 pub mod Pointers

@@ -1,7 +1,9 @@
 //! Types, expressions, declarations and heads that are the same but for their places.
 
 ghost use Rattle.std.specs.Prelude.{◌≡◌};
-ghost use Rattle.ckc_syntax.specs.Same.{same_type, number_of_op, same_op, same_flag, same_limits, same_node, same_expr, same_exprs, same_bounds, same_init, same_number, same_length, same_mode, same_decl, same_decls, same_head};
+ghost use Rattle.std.specs.Bool.{Decides};
+ghost use Rattle.ckc_syntax.specs.SameParts.{same_type, number_of_op, same_op, same_flag, same_limits, same_node, same_expr, same_exprs, same_bounds, same_init, same_number, same_length, same_mode, same_decl, same_decls, same_head_parts};
+ghost use Rattle.ckc_syntax.specs.Placeless.{placeless_head};
 ghost use Rattle.std.specs.Str.{bytes_eq};
 
 use crate::{Decl, Expr, Head, Init, Length, Limits, Node, Spelling, TreeOp, TypeTree};
@@ -245,13 +247,19 @@ fn same_decls<'a>(ds: &[Decl<Spelling<'a>, ()>], es: &[Decl<Spelling<'a>, ()>]) 
     true
 }
 
-/// Whether two heads are the same but for their places.
-pub fn same_head<'a>(g: &Head<Spelling<'a>, ()>, h: &Head<Spelling<'a>, ()>) -> bool
-    ensures { result ≡ same_head g.now h.now }
+fn same_head_parts<'a>(g: &Head<Spelling<'a>, ()>, h: &Head<Spelling<'a>, ()>) -> bool
+    ensures { result ≡ same_head_parts g.now h.now }
 {
     same_name(&g.name, &h.name)
         && same_mode(g.mode, h.mode)
         && same_type(&g.result, &h.result)
         && same_decls(g.params.as_slice(), h.params.as_slice())
         && same_bounds(&g.bounds, &h.bounds)
+}
+
+/// Whether two heads are the same but for their places.
+pub fn same_head<'a>(g: &Head<Spelling<'a>, ()>, h: &Head<Spelling<'a>, ()>) -> bool
+    ensures { Decides result (placeless_head g.now ≡ placeless_head h.now) }
+{
+    same_head_parts(g, h)
 }

@@ -1,5 +1,5 @@
--- Types, expressions, declarations and heads that are the same but for their places. Each is compared part by part with
--- another; what has another form is not the same.
+-- Types, expressions, declarations and heads compared part by part, places aside, as the code compares them. It needs
+-- no belief: `same_head` says what this comes to by Placeless.
 use Rattle.std.specs.Prelude.{ℕ, Bool, true, false, ◌&&◌, ◌==◌, List, [], ◌∷◌, map, Option, None, Some}
 use Rattle.std.specs.Str.{bytes_eq}
 use Rattle.ckc_base.specs.declared.arithmetic.Mode.{Mode}
@@ -174,5 +174,5 @@ same_decl d e = same_type d.ctype e.ctype && (bytes_eq d.name e.name && (same_le
 abbrev pub same_decls : List Decl → List Decl → Bool
 same_decls ds es = pass_all (map same_decl ds) es
 
-abbrev pub same_head : Head → Head → Bool
-same_head g h = bytes_eq g.name h.name && (same_mode g.mode h.mode && (same_type g.result h.result && (same_decls g.params h.params && same_bounds g.bounds h.bounds)))
+abbrev pub same_head_parts : Head → Head → Bool
+same_head_parts g h = bytes_eq g.name h.name && (same_mode g.mode h.mode && (same_type g.result h.result && (same_decls g.params h.params && same_bounds g.bounds h.bounds)))
