@@ -14,13 +14,13 @@ use Rattle.ckc_asm.specs.declared.items.Operand.TheVariants.{Nothing, Number, Na
 use Rattle.ckc_lines.specs.Assembled.{distance, AreParts}
 use Rattle.ckc_asm.specs.Cut.{Word, cut, lines_of}
 use Rattle.ckc_asm.specs.Items.{Statement}
-use Rattle.ckc_asm.specs.Found.{reading}
+use Rattle.ckc_asm.specs.code.Found.{reading}
 use Rattle.ckc_asm.specs.Program as program
 use Rattle.ckc_asm.specs.Program.{width_of, size_of, offset_of, address_of, HasLabel, IsLabelAt, IsWordOf, IsValue, IsBytes, no_place, of_word, IsEntry, IsEntryOf, Enters, bytes_at, IsImage, AreSingle, AreStatements, AsmOf}
 use Rattle.ckc_asm.specs.Faults as faults
 use Rattle.ckc_base.specs.Places.{longest_text}
 use Rattle.ckc_asm.specs.Faults.{place_of, HasEntry, IsFirst, NoneHas, HasNoForm, HasOldLabel, NamesNothing, HasNoWord, IsNoImage, AreFormed, IsAt, IsLabel, IsOperand, WholeFault, NumberFault, NameFault, LabelFault, FormFault, IsFirstFault}
-use Rattle.ckc_asm.specs.Outcome.{AreFaults}
+use Rattle.ckc_asm.specs.code.Outcome.{AreFaults}
 use Rattle.ckc_asm.proofs.Grammatical.{reading_found, reading_made, lines_made}
 use Rattle.ckc_asm.proofs.Shaped.{named_shape}
 use Rattle.ckc_lines.proofs.Cases.{order}

@@ -3,9 +3,9 @@ use Rattle.std.proofs.Common.{◌≡◌, ℕ, suc, ◌+◌, ◌<◌, ◌≤◌, 
 use Rattle.std.specs.Option.{option_map}
 use Rattle.std.proofs.lemmas.List.{append-nil, drop_all}
 use Rattle.ckc_asm.specs.declared.spots.Spot as spots
-use Rattle.ckc_asm.specs.Rows.{texts_of}
-use Rattle.ckc_asm.specs.Numerals.{byte_of}
-use Rattle.ckc_asm.specs.Found.{bytes_of, ◌>>=◌}
+use Rattle.ckc_asm.specs.code.Rows.{texts_of}
+use Rattle.ckc_asm.specs.code.Numerals.{byte_of}
+use Rattle.ckc_asm.specs.code.Found.{bytes_of, ◌>>=◌}
 
 joined : (done : List ℕ) (b : ℕ) (o : Option (List ℕ)) → option_map (λ rest. done ++ rest) (o >>= λ bytes. Some (b ∷ bytes)) ≡ option_map (λ rest. (done ++ b ∷ []) ++ rest) o
 joined done b None = refl

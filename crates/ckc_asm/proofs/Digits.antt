@@ -9,7 +9,7 @@ use Rattle.std.proofs.lemmas.Bool.Decides.{nat_tests}
 use Rattle.std.proofs.lemmas.List.{take_all, drop_all}
 use Rattle.std.proofs.lemmas.List.Folds.{list_all_more, list_all_at}
 use Rattle.std.proofs.lemmas.Int.Digits.{digits_value_more}
-use Rattle.ckc_asm.specs.Numerals.{numeral_of, is_numeral}
+use Rattle.ckc_asm.specs.code.Numerals.{numeral_of, is_numeral}
 use Rattle.ckc_asm.specs.Spelled.{beyond}
 
 -- a product of a capped number is capped alike

@@ -14,14 +14,14 @@ use Rattle.ckc_asm.specs.declared.items.Operand.TheVariants.{Nothing, Number, Na
 use Rattle.ckc_lines.specs.Assembled.{distance}
 use Rattle.ckc_asm.specs.Cut.{cut, lines_of}
 use Rattle.ckc_asm.specs.Items.{Statement}
-use Rattle.ckc_asm.specs.Found.{reading}
+use Rattle.ckc_asm.specs.code.Found.{reading}
 use Rattle.ckc_asm.specs.Grammar.{HaveStatements}
 use Rattle.ckc_asm.specs.Program as program
 use Rattle.ckc_asm.specs.Program.{width_of, size_of, address_of, IsValue, IsBytes, no_place, of_word, data_bytes, IsEntry, IsEntryOf, Enters, AreSingle, AreStatements, AsmOf}
 use Rattle.ckc_asm.specs.Faults as faults
 use Rattle.ckc_asm.specs.Faults.{line_front, place_of, IsFirst, NoneHas, HasNoForm, HasOldLabel, NamesNothing, HasNoWord, IsNoImage, AreFormed, WholeFault, NumberFault, NameFault, LabelFault, IsFirstFault}
 use Rattle.ckc_asm.specs.Phase.{assembling}
-use Rattle.ckc_asm.specs.Reading.{HaveTargets, HasTarget, AreRead}
+use Rattle.ckc_asm.specs.code.Reading.{HaveTargets, HasTarget, AreRead}
 use Rattle.ckc_asm.proofs.Answer.{parts_once, fault_once, parts_or_fault}
 use Rattle.ckc_asm.proofs.Grammatical.{entry_statement, reading_found, reading_made, lines_made, none_unread}
 use Rattle.ckc_asm.proofs.Judging.{width_is, code_words, are_single}

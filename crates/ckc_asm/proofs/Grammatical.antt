@@ -15,15 +15,15 @@ use Rattle.ckc_asm.specs.declared.items.Operand.TheVariants.{Nothing, Number, Na
 use Rattle.ckc_asm.specs.declared.items.Item.{Item}
 use Rattle.ckc_asm.specs.Cut.{Word, cut}
 use Rattle.ckc_asm.specs.Names.{register}
-use Rattle.ckc_asm.specs.Numerals.{register_of, number_of, byte_of}
+use Rattle.ckc_asm.specs.code.Numerals.{register_of, number_of, byte_of}
 use Rattle.ckc_asm.specs.Spelled.{is_name}
 use Rattle.ckc_asm.specs.Items.{Statement, item, no_word, texts, operand_index}
-use Rattle.ckc_asm.specs.Found.{is_sign, one, two, three, based, one_register, two_registers, three_registers, from_base, just, alone, bytes_of, data_of, number_operand, target_of, kind_of, item_with, item_of, has_label, labelled, statement_with, statement_of, reading}
+use Rattle.ckc_asm.specs.code.Found.{is_sign, one, two, three, based, one_register, two_registers, three_registers, from_base, just, alone, bytes_of, data_of, number_operand, target_of, kind_of, item_with, item_of, has_label, labelled, statement_with, statement_of, reading}
 use Rattle.ckc_asm.specs.Grammar as grammar
 use Rattle.ckc_asm.specs.Grammar.{pair, triple, based_on, IsPlain, IsTarget, OfOne, OfTwo, OfThree, OfBase, OfWord, OfNothing, AreBytes, OfBytes, HasWords, IsItem, HasColon, Says, IsStatement, HasStatement, HaveStatements}
 use Rattle.ckc_asm.specs.Program.{IsEntry}
 use Rattle.ckc_asm.specs.Faults.{IsFirst, NoneHas, HasEntry, HasNoForm}
-use Rattle.ckc_asm.specs.Reading.{ReadsEntry, IsUnread}
+use Rattle.ckc_asm.specs.code.Reading.{ReadsEntry, IsUnread}
 use Rattle.ckc_asm.proofs.Numbers.{most, register_back, number_no_name}
 use Rattle.ckc_asm.proofs.Spelling as spelling
 use Rattle.ckc_asm.proofs.Spelling.{both, mapped}

@@ -17,15 +17,15 @@ use Rattle.ckc_asm.specs.declared.items.Form.{Form}
 use Rattle.ckc_asm.specs.declared.items.Form.TheVariants as form
 use Rattle.ckc_asm.specs.Cut.{lines_of}
 use Rattle.ckc_asm.specs.Items.{Statement}
-use Rattle.ckc_asm.specs.Found.{reading}
+use Rattle.ckc_asm.specs.code.Found.{reading}
 use Rattle.ckc_asm.specs.Program.{width_of, size_of, Enters, IsImage, AreSingle, AsmOf, data_bytes}
 use Rattle.ckc_base.specs.Phases.{Answers, viewed}
 use Rattle.ckc_base.specs.Places.{longest_text}
 use Rattle.ckc_asm.specs.Faults.{IsFirst, NoneHas, HasOldLabel, IsNoImage, no_code, bad_entry, LabelFault, IsFirstFault, in_form, in_whole}
 use Rattle.ckc_asm.specs.Phase.{assembling, parts_in}
-use Rattle.ckc_asm.specs.Outcome.{IfRefused}
+use Rattle.ckc_asm.specs.code.Outcome.{IfRefused}
 use Rattle.ckc_asm.proofs.Grammatical.{lines_found, first_no_form, none_no_form}
-use Rattle.ckc_asm.specs.Reading.{IsUnread, IsFormFault, AreRead, IsWhole, IsNoProgram, readings_in}
+use Rattle.ckc_asm.specs.code.Reading.{IsUnread, IsFormFault, AreRead, IsWhole, IsNoProgram, readings_in}
 use Rattle.ckc_lines.proofs.Cases.{bool_cases, order}
 
 pub refused_weaker : (e : Fault) (P Q : ℕ → Pos → Type 0) → ((code : ℕ) (place : Pos) → P code place → Q code place) → IfRefused e P → IfRefused e Q

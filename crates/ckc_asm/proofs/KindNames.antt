@@ -12,7 +12,7 @@ use Rattle.ckc_operations.specs.declared.operations.RegOp.{RegOp}
 use Rattle.ckc_operations.specs.declared.operations.RegOp.TheVariants.{Add}
 use Rattle.ckc_asm.specs.declared.items.Kind.TheVariants as kind
 use Rattle.ckc_asm.specs.Names.{branch_name, load_name, store_name, imm_name, reg_name}
-use Rattle.ckc_asm.specs.Found.{kind_of}
+use Rattle.ckc_asm.specs.code.Found.{kind_of}
 use Rattle.ckc_asm.proofs.Words.{IsRun}
 
 pub branch_kind : (op : BranchOp) → (kind_of (branch_name op) ≡ Some (kind.Branch op)) × IsRun (branch_name op)

@@ -17,8 +17,8 @@ use Rattle.ckc_asm.specs.Items.{Statement}
 use Rattle.ckc_asm.specs.Program.{size_of, offset_of, address_of, IsLabelAt, IsWordOf, IsValue, IsBytes, no_place, of_word, data_bytes, IsEntry, IsEntryOf, Enters, bytes_at}
 use Rattle.ckc_asm.specs.Program as program
 use Rattle.ckc_asm.specs.Faults.{IsFirst, NoneHas, NamesNothing, HasNoWord, IsAt, IsOperand}
-use Rattle.ckc_asm.specs.Outcome.{IfRefused}
-use Rattle.ckc_asm.specs.Reading.{IsExact, IsWhole, ValueIs, EntryIs, StandsFor, LacksWord}
+use Rattle.ckc_asm.specs.code.Outcome.{IfRefused}
+use Rattle.ckc_asm.specs.code.Reading.{IsExact, IsWhole, ValueIs, EntryIs, StandsFor, LacksWord}
 use Rattle.ckc_asm.proofs.LabelsBelow.{offset_more}
 use Rattle.ckc_lines.proofs.Cases.{last_or_before}
 

@@ -16,9 +16,9 @@ use Rattle.ckc_asm.specs.Cut.{Word}
 use Rattle.ckc_asm.specs.Items.{Statement}
 use Rattle.ckc_asm.specs.Program.{width_of, size_of, offset_of, address_of, HasLabel}
 use Rattle.ckc_asm.specs.Faults.{IsFirst, NoneHas, HasOldLabel, IsAt, IsLabel}
-use Rattle.ckc_asm.specs.Outcome.{IfRefused}
-use Rattle.ckc_asm.specs.Reading.{IsExact}
-use Rattle.ckc_asm.specs.Rows.{word_of, statement_in, statements_in}
+use Rattle.ckc_asm.specs.code.Outcome.{IfRefused}
+use Rattle.ckc_asm.specs.code.Reading.{IsExact}
+use Rattle.ckc_asm.specs.code.Rows.{word_of, statement_in, statements_in}
 use Rattle.ckc_lines.proofs.Cases.{bool_cases, last_or_before}
 
 -- ---- places

@@ -11,7 +11,7 @@ use Rattle.std.proofs.lemmas.Bool.{cases_lt, lt-ltb}
 use Rattle.std.proofs.lemmas.Bool.Decides.{nat_tests}
 use Rattle.ckc_rv.specs.Table.{IsSigned}
 use Rattle.ckc_asm.specs.Names.{register, hex_digit, hex, hexadecimal}
-use Rattle.ckc_asm.specs.Numerals.{is_numeral, numeral_of, is_hexadecimal, number_of, register_of, byte_of}
+use Rattle.ckc_asm.specs.code.Numerals.{is_numeral, numeral_of, is_hexadecimal, number_of, register_of, byte_of}
 use Rattle.ckc_asm.specs.Spelled.{is_letter, is_name}
 use Rattle.ckc_asm.specs.Spelled as spelled
 use Rattle.ckc_asm.proofs.Words.{is_plain, IsRun}

@@ -9,11 +9,11 @@ use Rattle.std.proofs.lemmas.Option.{same_Some, slice_get_within, slice_get-get_
 use Rattle.ckc_base.specs.declared.fault.Fault.{Fault}
 use Rattle.ckc_base.specs.declared.fault.Fault.TheVariants as fault
 use Rattle.ckc_asm.specs.Items.{Statement}
-use Rattle.ckc_asm.specs.Found.{reading}
-use Rattle.ckc_asm.specs.Outcome.{IfRefused}
+use Rattle.ckc_asm.specs.code.Found.{reading}
+use Rattle.ckc_asm.specs.code.Outcome.{IfRefused}
 use Rattle.ckc_asm.specs.Program.{IsEntry}
 use Rattle.ckc_asm.specs.Faults.{IsFirst}
-use Rattle.ckc_asm.specs.Reading.{ReadsEntry, IsUnread, HasTarget, HaveTargets, AreRead, IsRefusedLine, IsFormFault, readings_in}
+use Rattle.ckc_asm.specs.code.Reading.{ReadsEntry, IsUnread, HasTarget, HaveTargets, AreRead, IsRefusedLine, IsFormFault, readings_in}
 use Rattle.ckc_lines.proofs.Cases.{bool_cases, last_or_before}
 
 -- the first k lines have these statements; whether one is `.entry`

@@ -13,10 +13,10 @@ use Rattle.ckc_asm.specs.declared.items.Operand.{Operand}
 use Rattle.ckc_asm.specs.declared.items.Operand.TheVariants.{Nothing, Number, Named}
 use Rattle.ckc_asm.specs.declared.items.Item.{Item}
 use Rattle.ckc_asm.specs.Cut.{Word}
-use Rattle.ckc_asm.specs.Numerals.{register_of, short_register, long_register, long_number, number_of}
+use Rattle.ckc_asm.specs.code.Numerals.{register_of, short_register, long_register, long_number, number_of}
 use Rattle.ckc_asm.specs.Spelled.{is_name}
 use Rattle.ckc_asm.specs.Items.{Statement, item, texts, no_word, operand_index}
-use Rattle.ckc_asm.specs.Found.{one, two, three, based, item_of, item_with, kind_of, three_registers, two_registers, one_register, from_base, just, alone, bytes_of, number_operand, target_of, statement_of, statement_with, labelled, has_label}
+use Rattle.ckc_asm.specs.code.Found.{one, two, three, based, item_of, item_with, kind_of, three_registers, two_registers, one_register, from_base, just, alone, bytes_of, number_operand, target_of, statement_of, statement_with, labelled, has_label}
 use Rattle.ckc_asm.specs.Program.{width_of, IsEntry}
 
 abbrev pub RegistersFit : Form → Type 0

@@ -11,11 +11,12 @@ use Rattle.std.proofs.lemmas.Slice.Eq.{bytes_eq-Decides}
 use Rattle.ckc_asm.specs.declared.items.Kind.{Kind}
 use Rattle.ckc_asm.specs.declared.items.Kind.TheVariants as kind
 use Rattle.ckc_asm.specs.Names.{register}
-use Rattle.ckc_asm.specs.Numerals.{is_numeral, numeral_of, is_hexadecimal, number_of, short_register, long_number, long_register, register_of, byte_of}
+use Rattle.ckc_asm.specs.code.Numerals.{is_numeral, numeral_of, is_hexadecimal, number_of, short_register, long_number, long_register, register_of, byte_of}
 use Rattle.ckc_asm.specs.Spelled.{beyond}
 use Rattle.ckc_asm.specs.Items.{kind_name}
-use Rattle.ckc_asm.specs.Found.{kinds, kind_of}
-use Rattle.ckc_asm.specs.Spelled.{IsRegister, Spells, IsNumber, plain, negative, hexadecimal, IsByte, IsKind}
+use Rattle.ckc_asm.specs.code.Found.{kinds, kind_of}
+use Rattle.ckc_asm.specs.Spelled.{Spells, IsNumber, plain, negative, hexadecimal, IsByte, IsKind}
+use Rattle.ckc_asm.specs.code.Spelled.{IsRegister}
 use Rattle.ckc_asm.proofs.Numbers.{is_numeral_from, first_digit, no_x, register_back}
 use Rattle.ckc_asm.proofs.KindNames.{branch_kind, load_kind, store_kind, imm_kind, reg_kind}
 

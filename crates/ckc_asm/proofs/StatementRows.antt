@@ -7,9 +7,9 @@ use Rattle.std.proofs.lemmas.Simd.{map-map}
 use Rattle.ckc_asm.specs.declared.items.Item.{Item}
 use Rattle.ckc_asm.specs.declared.spots.Spot as spots
 use Rattle.ckc_asm.specs.Cut.{Word}
-use Rattle.ckc_asm.specs.Rows.{word_of, texts_of}
+use Rattle.ckc_asm.specs.code.Rows.{word_of, texts_of}
 use Rattle.ckc_asm.specs.Items.{texts, no_word, operand_index}
-use Rattle.ckc_asm.specs.Found.{item_of, statement_with}
+use Rattle.ckc_asm.specs.code.Found.{item_of, statement_with}
 
 pub texts_same : (words : List spots.Spot) → texts (map word_of words) ≡ texts_of words
 texts_same words = map-map (λ (w : Word). w.text) word_of words

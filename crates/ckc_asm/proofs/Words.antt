@@ -9,7 +9,7 @@ use Rattle.ckc_asm.specs.declared.items.Operand.{Operand}
 use Rattle.ckc_asm.specs.declared.items.Item.{Item}
 use Rattle.ckc_asm.specs.Cut.{Word, cut, is_blank, is_mark, is_hash, is_word_byte, goes_on, onto_word, new_word}
 use Rattle.ckc_asm.specs.Items.{Statement, texts, item, no_word, operand_index}
-use Rattle.ckc_asm.specs.Found.{item_of, statement_of, statement_with, labelled, has_label, is_sign, reading}
+use Rattle.ckc_asm.specs.code.Found.{item_of, statement_of, statement_with, labelled, has_label, is_sign, reading}
 
 -- ---- a row of plain bytes
 

@@ -1,14 +1,10 @@
 pub mod Names
 pub mod Cut
-pub mod Numerals
 pub mod Items
 pub mod Spelled
 pub mod Grammar
-pub mod Found
 pub mod Program
 pub mod Faults
 pub mod Phase
-pub mod Outcome
-pub mod Rows
-pub mod Reading
 pub mod Ranges
+pub mod code

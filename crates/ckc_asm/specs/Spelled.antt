@@ -1,11 +1,10 @@
 -- How names, registers, numbers, bytes and kinds of items are spelled.
-use Rattle.std.specs.Prelude.{◌≡◌, ℕ, ◌^◌, ◌<◌, min, Bool, ◌&&◌, ◌||◌, ◌==◌, nat_lt, nat_le, ℤ, pos, neg_ℤ, List, ◌∷◌, length, slice_index}
+use Rattle.std.specs.Prelude.{◌≡◌, ℕ, ◌^◌, min, Bool, ◌&&◌, ◌||◌, ◌==◌, nat_lt, nat_le, ℤ, pos, neg_ℤ, List, ◌∷◌, length, slice_index}
 use Rattle.std.specs.Char.{is_digit}
 use Rattle.std.specs.List.{list_all}
 use Rattle.std.specs.Str.Parse.{IsNumeral, digits_value}
 use Rattle.ckc_asm.specs.declared.items.Kind.{Kind}
 use Rattle.ckc_asm.specs.Items.{kind_name}
-use Rattle.ckc_asm.specs.Names.{register}
 
 -- a number that is out of every range of assembly
 abbrev pub beyond : ℕ
@@ -18,10 +17,6 @@ is_letter b = (nat_le 97 b && nat_le b 122) || (nat_le 65 b && nat_le b 90) || b
 -- letters, digits and `_`, not begun by a digit
 abbrev pub is_name : List ℕ → Bool
 is_name w = nat_lt 0 (length w) && is_letter (slice_index w 0) && list_all (λ b. is_letter b || is_digit b 10) w
-
--- `x` and the number in decimal, without zeros in front
-abbrev pub IsRegister : List ℕ → ℕ → Type 0
-IsRegister w n = (n < 32) × (w ≡ register n)
 
 -- one digit or more, and what they stand for; from 2 ^ 40 on, that
 abbrev pub Spells : ℕ → List ℕ → ℕ → Type 0

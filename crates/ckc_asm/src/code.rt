@@ -3,9 +3,9 @@ ghost use Rattle.std.specs.Prelude.{◌≡◌, ℕ, ◌+◌, ◌^◌, ◌<◌, �
 ghost use Rattle.ckc_base.specs.Places.{longest_text};
 ghost use Rattle.ckc_asm.specs.declared.items.Operand.TheVariants as operands;
 ghost use Rattle.ckc_asm.specs.Faults.{NamesNothing, HasNoWord, NoneHas, IsAt, IsOperand};
-ghost use Rattle.ckc_asm.specs.Outcome.{IfRefused};
-ghost use Rattle.ckc_asm.specs.Reading.{known, IsExact, IsWhole, ValueIs, StandsFor, LacksWord};
-ghost use Rattle.ckc_asm.specs.Rows.{statement_in, statements_in};
+ghost use Rattle.ckc_asm.specs.code.Outcome.{IfRefused};
+ghost use Rattle.ckc_asm.specs.code.Reading.{known, IsExact, IsWhole, ValueIs, StandsFor, LacksWord};
+ghost use Rattle.ckc_asm.specs.code.Rows.{statement_in, statements_in};
 
 use crate::encoding::word_of;
 use crate::items::Operand;

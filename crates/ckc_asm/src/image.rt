@@ -6,9 +6,9 @@ ghost use Rattle.ckc_asm.specs.declared.items.Operand.TheVariants as operands;
 ghost use Rattle.ckc_asm.specs.Program.{data_bytes, Enters};
 ghost use Rattle.ckc_base.specs.Places.{start};
 ghost use Rattle.ckc_asm.specs.Faults.{NamesNothing, NoneHas};
-ghost use Rattle.ckc_asm.specs.Outcome.{IfRefused};
-ghost use Rattle.ckc_asm.specs.Reading.{known, HaveTargets, IsExact, IsNoProgram, EntryIs};
-ghost use Rattle.ckc_asm.specs.Rows.{statements_in};
+ghost use Rattle.ckc_asm.specs.code.Outcome.{IfRefused};
+ghost use Rattle.ckc_asm.specs.code.Reading.{known, HaveTargets, IsExact, IsNoProgram, EntryIs};
+ghost use Rattle.ckc_asm.specs.code.Rows.{statements_in};
 
 use crate::code::target_of;
 use crate::items::{Form, Operand};

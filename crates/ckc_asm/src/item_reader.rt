@@ -1,11 +1,11 @@
 //! The item of words.
 ghost use Rattle.std.specs.Prelude.{◌≡◌, ◌≤◌, List, ℕ, length, Option, IfSome, option_and_then};
 ghost use Rattle.std.specs.Option.{option_map};
-ghost use Rattle.ckc_asm.specs.Rows.{texts_of};
+ghost use Rattle.ckc_asm.specs.code.Rows.{texts_of};
 ghost use Rattle.ckc_asm.specs.Program.{IsEntry};
-ghost use Rattle.ckc_asm.specs.Reading.{HasTarget};
+ghost use Rattle.ckc_asm.specs.code.Reading.{HasTarget};
 ghost use Rattle.ckc_asm.specs.Items.{item};
-ghost use Rattle.ckc_asm.specs.Found.{item_of, item_with, number_operand, target_of, one_register, two_registers, three_registers, from_base, just, alone, data_of, bytes_of};
+ghost use Rattle.ckc_asm.specs.code.Found.{item_of, item_with, number_operand, target_of, one_register, two_registers, three_registers, from_base, just, alone, data_of, bytes_of};
 ghost use Rattle.ckc_asm.specs.declared.items.Form.{Form};
 ghost use Rattle.ckc_asm.specs.declared.items.Form.TheVariants as form;
 ghost use Rattle.ckc_asm.specs.declared.items.Operand.{Operand};
@@ -18,7 +18,7 @@ use crate::shapes::{based, one, three, two};
 use crate::spots::Spot;
 
 /// The item of words. No word is no item.
-#[tactic(auto, unfolding(crate::specs::Found::item_of))]
+#[tactic(auto, unfolding(crate::specs::code::Found::item_of))]
 pub fn item_of(words: &[Spot]) -> Option<Item>
     ensures item { result ≡ item_of (texts_of words.now) }
     ensures target { IfSome result (λ i. HasTarget i) }
@@ -30,7 +30,7 @@ pub fn item_of(words: &[Spot]) -> Option<Item>
     item_with(kind, &words[1..])
 }
 
-#[tactic(auto, unfolding(crate::specs::Found::item_with))]
+#[tactic(auto, unfolding(crate::specs::code::Found::item_with))]
 fn item_with(kind: Kind, words: &[Spot]) -> Option<Item>
     ensures item { result ≡ item_with kind (texts_of words.now) }
     ensures target { IfSome result (λ i. HasTarget i) }

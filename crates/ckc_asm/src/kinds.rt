@@ -2,7 +2,7 @@
 ghost use Rattle.std.specs.Prelude.{◌≡◌, bytes_eq};
 ghost use Rattle.std.specs.List.{find};
 ghost use Rattle.ckc_asm.specs.Items.{kind_name};
-ghost use Rattle.ckc_asm.specs.Found.{kind_of};
+ghost use Rattle.ckc_asm.specs.code.Found.{kind_of};
 
 use crate::items::Kind;
 use crate::names::{branch_name, imm_name, load_name, reg_name, store_name};
@@ -64,7 +64,7 @@ const KINDS: [Kind; 51] = [
 ];
 
 /// The kind that a word names.
-#[tactic(auto, unfolding(crate::specs::Found::kind_of))]
+#[tactic(auto, unfolding(crate::specs::code::Found::kind_of))]
 pub fn kind_of(name: &[u8]) -> Option<Kind>
     ensures { result ≡ kind_of name.now }
 {

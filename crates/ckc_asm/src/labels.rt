@@ -4,9 +4,9 @@ ghost use Rattle.ckc_base.specs.Places.{longest_text};
 ghost use Rattle.ckc_asm.specs.declared.items.Operand.TheVariants as operands;
 ghost use Rattle.ckc_asm.specs.Program.{width_of};
 ghost use Rattle.ckc_asm.specs.Faults.{HasOldLabel, NamesNothing, NoneHas, IsAt, IsLabel, IsOperand};
-ghost use Rattle.ckc_asm.specs.Outcome.{IfRefused};
-ghost use Rattle.ckc_asm.specs.Reading.{known, IsExact, ValueIs};
-ghost use Rattle.ckc_asm.specs.Rows.{statement_in, statements_in};
+ghost use Rattle.ckc_asm.specs.code.Outcome.{IfRefused};
+ghost use Rattle.ckc_asm.specs.code.Reading.{known, IsExact, ValueIs};
+ghost use Rattle.ckc_asm.specs.code.Rows.{statement_in, statements_in};
 
 use crate::items::{Form, Operand};
 use crate::spots::Spot;

@@ -2,7 +2,7 @@
 ghost use Rattle.std.specs.Prelude.{◌≡◌, ◌+◌, ◌*◌, ◌^◌, ◌<◌, ◌≤◌, min, ◌||◌, length, IsTrue, IfSome};
 ghost use Rattle.std.specs.Char.{digit_value, is_digit};
 ghost use Rattle.std.specs.List.{list_all};
-ghost use Rattle.ckc_asm.specs.Numerals.{numeral_of, number_of, register_of, short_register, long_register, byte_of, is_hexadecimal};
+ghost use Rattle.ckc_asm.specs.code.Numerals.{numeral_of, number_of, register_of, short_register, long_register, byte_of, is_hexadecimal};
 ghost use Rattle.ckc_asm.specs.Spelled.{is_letter, is_name};
 
 /// A number that is out of every range of assembly.

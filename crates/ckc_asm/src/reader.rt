@@ -6,9 +6,9 @@ ghost use Rattle.ckc_base.specs.Places.{longest_text};
 ghost use Rattle.ckc_asm.specs.Program.{AsmOf, IsImage};
 ghost use Rattle.ckc_asm.specs.Faults.{IsFirstFault, HasOldLabel, NamesNothing, NoneHas, LabelFault, NameFault, NumberFault, WholeFault};
 ghost use Rattle.ckc_asm.specs.Phase.{assembling, parts_in};
-ghost use Rattle.ckc_asm.specs.Outcome.{IfRefused};
-ghost use Rattle.ckc_asm.specs.Reading.{known, IsExact, IsWhole, HaveTargets};
-ghost use Rattle.ckc_asm.specs.Rows.{statements_in};
+ghost use Rattle.ckc_asm.specs.code.Outcome.{IfRefused};
+ghost use Rattle.ckc_asm.specs.code.Reading.{known, IsExact, IsWhole, HaveTargets};
+ghost use Rattle.ckc_asm.specs.code.Rows.{statements_in};
 
 use crate::code::{check_names, code_of};
 use crate::image::{data_of, entry_of, parts_of};

@@ -1,7 +1,7 @@
 //! The shapes of the words behind a name.
 ghost use Rattle.std.specs.Prelude.{◌≡◌, ◌∷◌, [], None, Some, MatchOption};
-ghost use Rattle.ckc_asm.specs.Rows.{texts_of};
-ghost use Rattle.ckc_asm.specs.Found.{is_sign, one, two, three, based};
+ghost use Rattle.ckc_asm.specs.code.Rows.{texts_of};
+ghost use Rattle.ckc_asm.specs.code.Found.{is_sign, one, two, three, based};
 
 use crate::spots::Spot;
 

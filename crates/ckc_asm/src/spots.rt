@@ -3,7 +3,7 @@ ghost use Rattle.std.specs.Prelude.{◌≡◌, ◌+◌, ◌<◌, ◌≤◌, ℕ,
 ghost use Rattle.std.specs.List.{prefix_len};
 ghost use Rattle.ckc_base.specs.Places.{longest_text};
 ghost use Rattle.ckc_asm.specs.Cut.{is_blank, is_mark, is_hash, is_word_byte, cut};
-ghost use Rattle.ckc_asm.specs.Rows.{word_of};
+ghost use Rattle.ckc_asm.specs.code.Rows.{word_of};
 
 use std::alloc::{AllocError, Global};
 

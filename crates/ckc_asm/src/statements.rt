@@ -5,11 +5,11 @@ ghost use Rattle.std.specs.Option.{option_map};
 ghost use Rattle.ckc_base.specs.Places.{longest_text};
 ghost use Rattle.ckc_asm.specs.Cut.{lines_of};
 ghost use Rattle.ckc_asm.specs.Items.{no_word, operand_index};
-ghost use Rattle.ckc_asm.specs.Found.{reading, statement_of, statement_with};
+ghost use Rattle.ckc_asm.specs.code.Found.{reading, statement_of, statement_with};
 ghost use Rattle.ckc_asm.specs.Program.{IsEntry};
-ghost use Rattle.ckc_asm.specs.Outcome.{IfRefused};
-ghost use Rattle.ckc_asm.specs.Reading.{readings_in, HasTarget, AreRead, IsFormFault, IsRefusedLine};
-ghost use Rattle.ckc_asm.specs.Rows.{word_of, statement_in, statements_in};
+ghost use Rattle.ckc_asm.specs.code.Outcome.{IfRefused};
+ghost use Rattle.ckc_asm.specs.code.Reading.{readings_in, HasTarget, AreRead, IsFormFault, IsRefusedLine};
+ghost use Rattle.ckc_asm.specs.code.Rows.{word_of, statement_in, statements_in};
 
 use crate::item_reader::item_of;
 use crate::items::{Form, Item};
@@ -103,7 +103,7 @@ fn row_of<'a>(alloc: Global, line: &'a [u8]) -> Result<Option<Row<'a>>, AllocErr
     Ok(statement_of(words.as_slice()))
 }
 
-#[tactic(auto, unfolding(crate::specs::Found::statement_of))]
+#[tactic(auto, unfolding(crate::specs::code::Found::statement_of))]
 fn statement_of<'a>(words: &[Spot<'a>]) -> Option<Row<'a>>
     ensures row { option_map statement_in result ≡ statement_of (map word_of words.now) }
     ensures target { IfSome result (λ r. HasTarget r.item) }

@@ -21,7 +21,7 @@ use Rattle.ckc_frame.specs.Meaning as meant
 use Rattle.ckc_frame.specs.WellFormed as frame
 use Rattle.ckc_tac.specs.Sizes.{program_size as tac_size}
 use Rattle.ckc_assign.specs.Apart.{AreApart}
-use Rattle.ckc_assign.specs.InSlots.{slots, row_of, rows_in, placed_function, placed_program}
+use Rattle.ckc_assign.specs.code.InSlots.{slots, row_of, rows_in, placed_function, placed_program}
 use Rattle.ckc_assign.proofs.Slots.{length-slots, homes_apart}
 use Rattle.ckc_assign.proofs.Simulated.{starts}
 

@@ -32,7 +32,7 @@ use Rattle.ckc_tac.specs.WellFormed.{IsFunctionOver, IsBlockOver, IsOpOver, HasP
 use Rattle.ckc_frame.specs.declared.code.PlacedFunc.{PlacedFunc}
 use Rattle.ckc_frame.specs.Meaning as frame
 use Rattle.ckc_frame.specs.Places.{home, registers_in, entry_places, places_kept, marks_of}
-use Rattle.ckc_assign.specs.InSlots.{slots, placed_function}
+use Rattle.ckc_assign.specs.code.InSlots.{slots, placed_function}
 use Rattle.ckc_assign.proofs.Slots.{registers-written, registers-kept, registers-entry, registers-none}
 use Rattle.ckc_assign.proofs.Pairs.{all_get, GivesBelow, outcome_below}
 

@@ -8,7 +8,7 @@ use Rattle.std.proofs.Math.Path.{fun_ext}
 use Rattle.ckc_base.specs.Activations.{Values, none_written, with_written, first_values}
 use Rattle.ckc_frame.specs.declared.code.Place.TheVariants.{Slot}
 use Rattle.ckc_frame.specs.Places.{home, number_of_home, registers_in, entry_places, places_kept, is_kept_home, register_count}
-use Rattle.ckc_assign.specs.InSlots.{slots}
+use Rattle.ckc_assign.specs.code.InSlots.{slots}
 
 -- ---- the slots as a list
 

@@ -1,6 +1,6 @@
 //! Which registers calls keep.
 ghost use Rattle.std.specs.Prelude.{◌≡◌, ◌≤◌, ◌++◌, IfOk, OnOk, flat_map, replicate, false};
-ghost use Rattle.ckc_assign.specs.InSlots.{row_of, rows_in};
+ghost use Rattle.ckc_assign.specs.code.InSlots.{row_of, rows_in};
 
 use ckc_base::Seq;
 use ckc_tac::{TacBlock, TacOp};

@@ -6,7 +6,7 @@ ghost use Rattle.ckc_frame.specs.Meaning.{placed_detail};
 ghost use Rattle.ckc_frame.specs.WellFormed as frame;
 ghost use Rattle.ckc_tac.specs.Sizes.{program_size as tac_size};
 ghost use Rattle.ckc_assign.specs.Apart.{AreApart};
-ghost use Rattle.ckc_assign.specs.InSlots.{placed_function, placed_program};
+ghost use Rattle.ckc_assign.specs.code.InSlots.{placed_function, placed_program};
 
 use crate::copies::copy_of;
 use crate::places::rows_of;

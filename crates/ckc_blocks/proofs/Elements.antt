@@ -5,7 +5,7 @@ use Rattle.std.proofs.lemmas.Bool.Decides.{nat_tests}
 use Rattle.std.proofs.Math.Nat.{mul-le-mul_right, div-mul-le_self, lt-div-mul-add}
 use Rattle.ckc_source.specs.Blocks.{Block, end_of}
 use Rattle.ckc_source.specs.Runs.{is_at, any_below, is_in_some_element}
-use Rattle.ckc_blocks.specs.Held.{is_at_element}
+use Rattle.ckc_blocks.specs.code.Held.{is_at_element}
 
 below_false : (n : ℕ) (f : ℕ → Bool) → ((i : ℕ) → i < n → f i ≡ false) → any_below n f ≡ false
 unfolding any_below

@@ -10,8 +10,9 @@ use Rattle.ckc_source.specs.Blocks.{Block, end_of, has, number_at, with_number, 
 use Rattle.ckc_source.specs.LaidOut.{AreApart}
 use Rattle.ckc_source.proofs.Keeping.{apart_snoc, from_zero, length_with}
 use Rattle.ckc_blocks.specs.declared.block.Block as held_by
-use Rattle.ckc_blocks.specs.Held.{view, BeginsBehind, IsLast, are_apart}
-use Rattle.ckc_blocks.specs.Views.{IsHolder}
+use Rattle.ckc_blocks.specs.Held.{view, are_apart}
+use Rattle.ckc_blocks.specs.code.Held.{BeginsBehind, IsLast}
+use Rattle.ckc_blocks.specs.code.Views.{IsHolder}
 use Rattle.ckc_blocks.proofs.Places.{last_from, behind_from, none_behind, last_decides, last_changes, last_found, found_none, has_near, apart_true, true_apart, apart_set}
 
 viewed : (bs : List held_by.Block) (k : ℕ) (c : Block) → slice_get (map view bs) k ≡ Some c → (b : held_by.Block) × (slice_get bs k ≡ Some b) × (c ≡ view b)

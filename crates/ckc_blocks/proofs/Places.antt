@@ -7,7 +7,8 @@ use Rattle.ckc_base.specs.declared.arithmetic.Width.{Width}
 use Rattle.ckc_base.specs.declared.arithmetic.Width.TheVariants.{Byte, Word}
 use Rattle.ckc_source.specs.Blocks.{Block, end_of, has, number_at, found}
 use Rattle.ckc_source.specs.LaidOut.{AreApart}
-use Rattle.ckc_blocks.specs.Held.{BeginsBehind, IsLast, are_apart}
+use Rattle.ckc_blocks.specs.Held.{are_apart}
+use Rattle.ckc_blocks.specs.code.Held.{BeginsBehind, IsLast}
 
 pub head_behind : (x low : ℕ) (bs : List Block) (place : ℕ) → AreApart low bs place → x < low → BeginsBehind x bs
 head_behind x low [] place a h = tt

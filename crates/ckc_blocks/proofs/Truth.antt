@@ -10,7 +10,8 @@ use Rattle.ckc_types.specs.Same.{same_type}
 use Rattle.ckc_source.specs.Blocks.{Block, end_of}
 use Rattle.ckc_source.specs.Runs.{is_within, is_in_block, is_in_member, is_in_some_element, member_runs, is_in, is_true}
 use Rattle.ckc_blocks.specs.declared.block.Block as held_by
-use Rattle.ckc_blocks.specs.Held.{view, are_apart, BeginsBehind, IsLast}
+use Rattle.ckc_blocks.specs.Held.{view, are_apart}
+use Rattle.ckc_blocks.specs.code.Held.{BeginsBehind, IsLast}
 use Rattle.ckc_blocks.proofs.Elements.{element_lies}
 use Rattle.ckc_blocks.proofs.Places.{apart_true, none_past, none_behind, last_decides}
 use Rattle.ckc_blocks.proofs.Found.{read_at}

@@ -6,7 +6,8 @@ ghost use Rattle.ckc_base.specs.Memory.{width_bytes};
 ghost use Rattle.ckc_source.specs.Blocks.{end_of, has, number_at, with_number};
 ghost use Rattle.ckc_types.specs.declared.types.CType.{out-CType};
 ghost use Rattle.ckc_source.specs.Runs.{is_within, is_in_block, is_in_member, is_in, runs_of, runs_in, is_in_some_element};
-ghost use Rattle.ckc_blocks.specs.Held.{view, is_at_element};
+ghost use Rattle.ckc_blocks.specs.Held.{view};
+ghost use Rattle.ckc_blocks.specs.code.Held.{is_at_element};
 
 use ckc_base::{Seq, Width};
 use ckc_source::{MemberRun, Pointee, Shape};

@@ -3,7 +3,8 @@
 ghost use Rattle.std.specs.Prelude.{◌≡◌, true, false, ℕ, ◌+◌, ◌-◌, ◌*◌, ◌/◌, ◌%◌, ◌<◌, ◌≤◌, ◌^◌, [], ◌∷◌, ◌++◌, map, length, slice_get, replicate, Some, None, Err, if◌then◌else◌, IfOk, OnOk, OnErr, MatchOption, MatchBool, ⊤, vec_len};
 ghost use Rattle.ckc_base.specs.Memory.{width_bytes};
 ghost use Rattle.ckc_source.specs.Blocks.{is_aligned, block_of};
-ghost use Rattle.ckc_blocks.specs.Held.{view, are_apart, BeginsBehind, IsLast};
+ghost use Rattle.ckc_blocks.specs.Held.{view, are_apart};
+ghost use Rattle.ckc_blocks.specs.code.Held.{BeginsBehind, IsLast};
 
 use crate::block::{Block, Span};
 use ckc_base::{Seq, Width};
@@ -92,7 +93,8 @@ impl<'a> Blocks<'a> {
     ghost use Rattle.ckc_source.specs.Runs.{is_true};
     ghost use Rattle.ckc_source.specs.Eval.{reads, ranged};
     ghost use Rattle.ckc_source.specs.LaidOut.{AreApart};
-    ghost use Rattle.ckc_blocks.specs.Views.{blocks_of, next_of, shapes_of, IsHolder};
+    ghost use Rattle.ckc_blocks.specs.Views.{blocks_of, next_of, shapes_of};
+    ghost use Rattle.ckc_blocks.specs.code.Views.{IsHolder};
 
     /// Whether an access of the width at an address is aligned and lies in one block.
     pub fn lies_in(&self, width: Width, a: u32) -> bool

@@ -79,10 +79,6 @@ few_of_few ls = suc-le-suc (first_of_short 1023 ls)
 abbrev pub with_locals : Frame → List Local → Frame
 with_locals frame ls = record frame { locals = few_of ls; few = few_of_few ls }
 
--- what holds for the whole text, without the locals of a function
-abbrev pub text_of : Frame → Frame
-text_of frame = with_locals frame []
-
 -- the types of what is declared
 abbrev pub types_in : Frame → List NotedDecl → Frame
 types_in frame ds = with_locals frame (with_all frame false [] ds)

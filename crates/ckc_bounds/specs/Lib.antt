@@ -2,3 +2,4 @@ pub mod Declarations
 pub mod Frames
 pub mod Texts
 pub mod Phase
+pub mod code

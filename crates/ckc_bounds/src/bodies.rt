@@ -2,7 +2,8 @@
 
 ghost use Rattle.std.specs.Prelude.{◌≡◌, [], ◌++◌, flat_map, length, replicate, IfOk, OnOk};
 ghost use Rattle.ckc_base.specs.Outcomes.{AnswersOutcome};
-ghost use Rattle.ckc_bounds.specs.Declarations.{text_of, with_all};
+ghost use Rattle.ckc_bounds.specs.Declarations.{with_all};
+ghost use Rattle.ckc_bounds.specs.code.Declarations.{text_of};
 ghost use Rattle.ckc_bounds.specs.Frames.{all_of, name_seen, begin_in, counted, fresh_needed, nameless, with_nameless, locals_frame, first_fresh, frame_by};
 ghost use Rattle.ckc_bounds.specs.Texts.{body_judged};
 ghost use Rattle.ckc_statements.specs.Walks.{here};

@@ -4,7 +4,8 @@ ghost use Rattle.std.specs.Prelude.{◌≡◌, map, IfOk, OnOk};
 ghost use Rattle.ckc_base.specs.Outcomes.{Outcome, AnswersOutcome};
 ghost use Rattle.ckc_points.specs.declared.frame.Bounds.{Bounds};
 ghost use Rattle.ckc_statements.specs.DeclBounds.{decl_bounds, bounds_there};
-ghost use Rattle.ckc_bounds.specs.Declarations.{member_holder, result_bounds, each, head_judged, known_or_not, with_locals, text_of};
+ghost use Rattle.ckc_bounds.specs.Declarations.{member_holder, result_bounds, each, head_judged, known_or_not, with_locals};
+ghost use Rattle.ckc_bounds.specs.code.Declarations.{text_of};
 
 use ckc_base::{Fault, Seq};
 use ckc_declared::{Holder, bounds_declared};

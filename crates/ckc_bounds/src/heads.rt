@@ -1,7 +1,8 @@
 //! The heads of the functions and the objects of a text.
 
 ghost use Rattle.std.specs.Prelude.{◌≡◌, [], IfOk, OnOk};
-ghost use Rattle.ckc_bounds.specs.Declarations.{text_of, types_in, declared_in, head_bounds, is_function_at, with_head, with_item, heads_from, object_bounds, with_object, objects_of};
+ghost use Rattle.ckc_bounds.specs.Declarations.{types_in, declared_in, head_bounds, is_function_at, with_head, with_item, heads_from, object_bounds, with_object, objects_of};
+ghost use Rattle.ckc_bounds.specs.code.Declarations.{text_of};
 
 use crate::declared::{clear, known_bounds, known_result, set_locals};
 use crate::locals::add_params;

@@ -3,7 +3,8 @@
 ghost use Rattle.std.specs.Prelude.{◌≡◌, IfOk, OnOk, Ok};
 ghost use Rattle.ckc_base.specs.Outcomes.{AnswersOutcome, bind};
 ghost use Rattle.ckc_syntax.specs.declared.tree.Item.TheVariants as item;
-ghost use Rattle.ckc_bounds.specs.Declarations.{member_holder, text_of};
+ghost use Rattle.ckc_bounds.specs.Declarations.{member_holder};
+ghost use Rattle.ckc_bounds.specs.code.Declarations.{text_of};
 ghost use Rattle.ckc_bounds.specs.Texts.{members_judged, outside, object_judged, head_kept, function_judged, item_judged, items_judged};
 ghost use Rattle.ckc_statements.specs.Walks.{here};
 

@@ -3,7 +3,7 @@
 ghost use Rattle.std.specs.Prelude.{◌≡◌, IfOk};
 ghost use Rattle.ckc_base.specs.Phases.{Exact};
 ghost use Rattle.ckc_base.specs.Outcomes.{AnswersOutcome};
-ghost use Rattle.ckc_bounds.specs.Declarations.{text_of};
+ghost use Rattle.ckc_bounds.specs.code.Declarations.{text_of};
 ghost use Rattle.ckc_bounds.specs.Frames.{text_frame};
 ghost use Rattle.ckc_bounds.specs.Texts.{text_judged};
 ghost use Rattle.ckc_bounds.specs.Phase.{bounding};

@@ -1,3 +1,3 @@
 pub mod Meanings
 pub mod Built
-pub mod Placed
+pub mod code

@@ -3,7 +3,7 @@ ghost use Rattle.std.specs.Prelude.{◌≡◌, ◌<◌, ◌^◌, IfSome, IsTrue}
 ghost use Rattle.ckc_source.specs.Blocks.{block_of, end_of};
 ghost use Rattle.ckc_source.specs.Code.{program_of};
 ghost use Rattle.ckc_source.specs.LaidOut.{AreBytes, IsLaidOut};
-ghost use Rattle.ckc_build.specs.Placed.{ArePlaced};
+ghost use Rattle.ckc_build.specs.code.Placed.{ArePlaced};
 
 use ckc_source::{Object, Program};
 

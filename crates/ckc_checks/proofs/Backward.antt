@@ -3,7 +3,7 @@ use Rattle.std.proofs.Common.{◌≡◌, List, [], ◌∷◌, ◌++◌, refl, ap
 use Rattle.std.proofs.lemmas.List.{reverse-append}
 use Rattle.ckc_core.specs.declared.code.CoreStmt.{CoreStmt}
 use Rattle.ckc_core.specs.Code.{End, code_of, stmt_of}
-use Rattle.ckc_checks.specs.Building.{behind}
+use Rattle.ckc_checks.specs.code.Building.{behind}
 
 pub behind_push : (statements : List CoreStmt) (s : CoreStmt) → behind (statements ++ s ∷ []) ≡ stmt_of s (behind statements)
 unfolding behind

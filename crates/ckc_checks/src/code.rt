@@ -8,7 +8,7 @@ ghost use Rattle.ckc_base.specs.declared.arithmetic.Width.TheVariants.{Word};
 ghost use Rattle.ckc_operands.specs.Operands.{as_truth, at_offset, low_byte, operated, held, keeps_index, place_at, operand};
 ghost use Rattle.ckc_operands.specs.Pointers.{is_bounded, index_in, length_at, end_at};
 ghost use Rattle.ckc_checks.specs.Inserted.{divide_check, operation_code, exact_code, moved_code, element_code, bounded_code, judged, pointer_at, index_at, reached_element, reached_place, with_range, no_range, pointer_code, tested_code, trusted_range, moved_range, access_code};
-ghost use Rattle.ckc_checks.specs.Building.{behind, reached_value, value_code_if, expr_code_if};
+ghost use Rattle.ckc_checks.specs.code.Building.{behind, reached_value, value_code_if, expr_code_if};
 
 use ckc_base::{BinOp, Boxed, Check, Pos, Seq, Width};
 use ckc_core::{CoreExpr, CoreStmt};
@@ -38,7 +38,7 @@ pub fn front(code: &mut Seq<CoreStmt>, s: CoreStmt) -> Result<(), AllocError>
 }
 
 /// The statements from the first one to the last.
-#[tactic(auto, unfolding(crate::specs::Building::behind))]
+#[tactic(auto, unfolding(crate::specs::code::Building::behind))]
 pub fn in_order(code: Seq<CoreStmt>) -> Seq<CoreStmt>
     ensures { code_of result ≡ behind code }
 {

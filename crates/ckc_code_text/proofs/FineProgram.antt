@@ -8,7 +8,7 @@ use Rattle.ckc_core.specs.declared.code.Core.{Core}
 use Rattle.ckc_core.specs.Code.{End, Function, function_of, program_of}
 use Rattle.ckc_core.specs.WellFormed.{IsFunctionOver, IsWellFormed}
 use Rattle.ckc_core.specs.Limits.{IsSmallFunction}
-use Rattle.ckc_code_text.specs.Fine.{IsFunction}
+use Rattle.ckc_code_text.specs.code.Fine.{IsFunction}
 use Rattle.ckc_code_text.proofs.Statements.{has_params}
 
 params_of : (fs : List CoreFunc) → map (λ (f : Function). f.params) (map function_of fs) ≡ map (λ (f : CoreFunc). f.params) fs

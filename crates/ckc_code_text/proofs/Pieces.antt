@@ -4,7 +4,7 @@ use Rattle.ckc_core.specs.declared.code.CoreStmt.{CoreStmt}
 use Rattle.ckc_core.specs.Code.{Code, Function, chained, stmt_of}
 use Rattle.ckc_core.specs.WellFormed.{IsCodeOver}
 use Rattle.ckc_core.specs.Limits.{KeepsLimits}
-use Rattle.ckc_code_text.specs.Fine.{IsFine, IsStmt, IsBody}
+use Rattle.ckc_code_text.specs.code.Fine.{IsFine, IsStmt, IsBody}
 
 pub none_fine : (params : List ℕ) (locals : ℕ) (looped : Bool) → IsBody params locals looped []
 none_fine params locals looped = record { over = λ functions e rest h. h; limits = λ rest h. h }

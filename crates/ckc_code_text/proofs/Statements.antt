@@ -12,7 +12,7 @@ use Rattle.ckc_core.specs.declared.code.CoreStmt.TheVariants as stmt
 use Rattle.ckc_core.specs.Code.{Code, End, Set, Store, Check, Call, Get, Put, Alloc, If, Loop, Break, Continue, Return, Function, expr_of, chained, stmt_form, stmt_of, code_of}
 use Rattle.ckc_core.specs.WellFormed.{HasParams, IsPlace, IsExprOver}
 use Rattle.ckc_core.specs.Limits.{IsShallow}
-use Rattle.ckc_code_text.specs.Fine.{IsExpr, IsFine, IsStmt, IsBody, IsFitting}
+use Rattle.ckc_code_text.specs.code.Fine.{IsExpr, IsFine, IsStmt, IsBody, IsFitting}
 
 pub has_params : (fs : List Function) (callee count : ℕ) (given : List ℕ) → map (λ (f : Function). f.params) fs ≡ given → slice_get given callee ≡ Some count → HasParams count (slice_get fs callee)
 has_params [] callee count [] e g = (let wrong : ◌≡◌ {A = Option ℕ} None (Some count) = g in absurd cc)

@@ -1,6 +1,6 @@
 //! Expressions of a program's text.
 ghost use Rattle.std.specs.Prelude.{◌≡◌, ◌<◌, IfOk};
-ghost use Rattle.ckc_code_text.specs.Fine.{IsHeadOver, IsExpr};
+ghost use Rattle.ckc_code_text.specs.code.Fine.{IsHeadOver, IsExpr};
 
 use crate::fault::TextFault;
 use crate::words::{Words, number_of, operation_of};

@@ -4,7 +4,7 @@ ghost use Rattle.ckc_core.specs.declared.code.CoreFunc.{CoreFunc};
 ghost use Rattle.ckc_core.specs.Code.{program_of};
 ghost use Rattle.ckc_core.specs.WellFormed.{IsWellFormed};
 ghost use Rattle.ckc_core.specs.Limits.{IsWithinLimits};
-ghost use Rattle.ckc_code_text.specs.Fine.{IsFunction};
+ghost use Rattle.ckc_code_text.specs.code.Fine.{IsFunction};
 
 use crate::fault::TextFault;
 use crate::stmts::{block, fits};

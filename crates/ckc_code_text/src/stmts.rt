@@ -1,7 +1,7 @@
 //! Statements of a program's text.
 ghost use Rattle.std.specs.Prelude.{◌<◌, ℕ, Bool, List, All, IsTrue, IfOk, IfSome};
 ghost use Rattle.ckc_core.specs.WellFormed.{IsPlace};
-ghost use Rattle.ckc_code_text.specs.Fine.{IsExpr, IsStmt, IsBody, IsFitting};
+ghost use Rattle.ckc_code_text.specs.code.Fine.{IsExpr, IsStmt, IsBody, IsFitting};
 
 use crate::exprs::{expr, local};
 use crate::fault::TextFault;

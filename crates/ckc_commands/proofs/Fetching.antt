@@ -9,7 +9,7 @@ use Rattle.ckc_calls.specs.Files.{Gives}
 use Rattle.ckc_commands.specs.declared.status.Status.TheVariants as status
 use Rattle.ckc_commands.specs.Causes as causes
 use Rattle.ckc_commands.specs.Causes.{Unfetched}
-use Rattle.ckc_commands.specs.Fetching.{Fetches}
+use Rattle.ckc_commands.specs.code.Fetching.{Fetches}
 
 pub given : (f : Fetched) (name : List ℕ) (limit : ℕ) (before after : Stored) → Gives name limit before after (Ok f) → Fetches name limit before after (Ok f)
 given (Whole bytes) name limit before after h = h

@@ -16,12 +16,13 @@ use Rattle.ckc_commands.specs.declared.status.Status.{Status}
 use Rattle.ckc_commands.specs.Words.{Command, Exec, Run, Show}
 use Rattle.ckc_build.specs.Built.{IsImage, Built}
 use Rattle.ckc_commands.specs.Commands.{longest_image, Refuses}
-use Rattle.ckc_commands.specs.Running.{Seen, Ends, Listed, OverImage, proper, bad}
+use Rattle.ckc_commands.specs.Running.{Seen, Ends, Listed}
+use Rattle.ckc_commands.specs.code.Running.{proper, bad, OverImage}
 use Rattle.ckc_commands.specs.Causes as causes
 use Rattle.ckc_outside.specs.Outside.{Stored}
 use Rattle.ckc_commands.specs.Causes.{Holds, Unkept, KeptOnce, Idle, Came}
-use Rattle.ckc_commands.specs.Judging.{fault_status}
-use Rattle.ckc_commands.specs.Fetching.{Fetches}
+use Rattle.ckc_commands.specs.code.Judging.{fault_status}
+use Rattle.ckc_commands.specs.code.Fetching.{Fetches}
 
 -- ---- what was fetched
 

@@ -4,7 +4,8 @@ use Rattle.ckc_commands.specs.declared.words.Command as commands
 use Rattle.ckc_commands.specs.declared.words.Keyword.{Keyword}
 use Rattle.ckc_commands.specs.declared.words.Keyword.TheVariants as keywords
 use Rattle.ckc_commands.specs.Words.{Command, Build, Assemble, Exec, Interp, Run, Show, keyword, NameAndLimit, Arguments, Reads}
-use Rattle.ckc_commands.specs.Commanded.{command_is, spelling, HasArguments}
+use Rattle.ckc_commands.specs.Commanded.{command_is}
+use Rattle.ckc_commands.specs.code.Commanded.{spelling, HasArguments}
 
 pub no_exec : (more : List (List ℕ)) → ((name : List ℕ) (limit : ℕ) → NameAndLimit more name limit → ⊥) → (command : Command) → HasArguments keywords.Exec more command → ⊥
 no_exec more none (Build text image) h = omega (arith, ap (λ (l : List ℕ). get_or l 0 0) h.0)

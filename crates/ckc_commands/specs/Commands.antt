@@ -1,7 +1,6 @@
 -- What the commands fetch, and what they make of it. Each family has a row for a command that it says something of.
 use Rattle.std.specs.Prelude.{◌≡◌, ◌⊎◌, ℕ, ◌<◌, ◌≤◌, List, length, Option, None, Some}
 use Rattle.ckc_base.specs.declared.places.Refusal.{Refusal}
-use Rattle.ckc_base.specs.Phases.{Phase}
 use Rattle.ckc_base.specs.Places.{longest_text}
 use Rattle.ckc_rv.specs.Machine.{Parts}
 use Rattle.ckc_image.specs.Image.{FirstBad}
@@ -57,13 +56,6 @@ AsksToKeep words name = (command : Command) × Reads words command × (kept_name
 -- k is the first part that disagrees, and 3 where there are too many bytes
 abbrev pub BadBytes : List ℕ → ℕ → Type 0
 BadBytes bytes k = ((longest_image < length bytes) × (k ≡ 3)) ⊎ ((length bytes ≤ longest_image) × FirstBad bytes k)
-
--- From a text of assembly to the image of its parts, or to its first fault.
-abbrev pub imaging : Phase (List ℕ) (List ℕ)
-imaging = record {
-  Makes = λ text image. (parts : Parts) × assembling.Makes text parts × IsImage image parts;
-  Refuses = assembling.Refuses;
-}
 
 -- the text is refused
 abbrev pub Refuses : Command → List ℕ → Refusal → Type 0

@@ -1,9 +1,8 @@
 pub mod Report
 pub mod Words
 pub mod Commanded
-pub mod Judging
 pub mod Commands
 pub mod Running
 pub mod Causes
-pub mod Fetching
 pub mod Interpreting
+pub mod code

@@ -7,8 +7,6 @@ use Rattle.ckc_machine.specs.declared.observed.Observed.{Observed}
 use Rattle.ckc_machine.specs.declared.observed.Observed.TheVariants as observed
 use Rattle.ckc_outside.specs.Given.{taken, Printed, Took, OverAny}
 use Rattle.ckc_machine.specs.Runs.{Says, AsksNothing, FailsToGet, FailsToPut}
-use Rattle.ckc_image.specs.Image.{FirstBad}
-use Rattle.ckc_build.specs.Built.{IsImage}
 use Rattle.ckc_commands.specs.declared.status.Status.{Status}
 use Rattle.ckc_commands.specs.declared.status.Status.TheVariants as status
 
@@ -85,9 +83,3 @@ pub data Ends (parts : Parts) (limit : ℕ) (old new : Seen) (quiet untaken : Ty
 pub data Listed (text : List ℕ) (old new : Option (List ℕ)) (faults faults' : ℕ) (s : Status) : Type 0 where
   whole : s ≡ status.Done → Printed old new text → Listed text old new faults faults' s
   front : s ≡ status.WriteFault → Rose faults faults' → ListedFront old new text → Listed text old new faults faults' s
-
--- What comes of bytes that should be an image: something is done with its parts, or the first part that disagrees
--- is told, and nothing is done.
-pub data OverImage (bytes : List ℕ) (Does : Parts → Type 0) (idle : Type 0) (s : Status) : Type 0 where
-  proper : (parts : Parts) → IsImage bytes parts → Does parts → OverImage bytes Does idle s
-  bad : (k : ℕ) → FirstBad bytes k → s ≡ status.BadImage k → idle → OverImage bytes Does idle s

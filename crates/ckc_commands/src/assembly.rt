@@ -1,7 +1,7 @@
 //! From a text of assembly to the bytes of its image.
 ghost use Rattle.ckc_base.specs.Phases.{Answers, viewed};
 ghost use Rattle.ckc_build.specs.Built.{bytes_of};
-ghost use Rattle.ckc_commands.specs.Commands.{imaging};
+ghost use Rattle.ckc_commands.specs.code.Commands.{imaging};
 
 use ckc_asm::read_asm;
 use ckc_base::Fault;

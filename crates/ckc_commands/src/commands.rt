@@ -6,8 +6,8 @@ ghost use Rattle.ckc_commands.specs.Commands.{Keeps};
 ghost use Rattle.ckc_commands.specs.Running.{Seen, seen_of, putting};
 ghost use Rattle.ckc_outside.specs.Outside.{Stored};
 ghost use Rattle.ckc_commands.specs.Causes.{OnlyFetched, Unkept, Came, Obeyed};
-ghost use Rattle.ckc_commands.specs.Judging.{fault_status};
-ghost use Rattle.ckc_commands.specs.Fetching.{Fetches};
+ghost use Rattle.ckc_commands.specs.code.Judging.{fault_status};
+ghost use Rattle.ckc_commands.specs.code.Fetching.{Fetches};
 
 use crate::assembly::assemble;
 use crate::run::{list_bytes, meant, run_bytes};

@@ -3,7 +3,8 @@ ghost use Rattle.std.specs.Prelude.{◌≡◌, ◌≤◌};
 ghost use Rattle.ckc_rv.specs.Machine.{Parts};
 ghost use Rattle.ckc_listing.specs.Listing.{listing};
 ghost use Rattle.ckc_commands.specs.Interpreting.{meant_status};
-ghost use Rattle.ckc_commands.specs.Running.{Ends, Listed, OverImage, seen_of, status_of};
+ghost use Rattle.ckc_commands.specs.Running.{Ends, Listed, seen_of, status_of};
+ghost use Rattle.ckc_commands.specs.code.Running.{OverImage};
 
 use crate::status::Status;
 use ckc_image::View;

@@ -2,7 +2,8 @@
 ghost use Rattle.std.specs.Prelude.{◌≡◌, ◌≢◌, ℕ, List, MatchOption};
 ghost use Rattle.ckc_commands.specs.Words as w;
 ghost use Rattle.ckc_commands.specs.Words.{Reads, IsLimit, NameAndLimit, bytes_of};
-ghost use Rattle.ckc_commands.specs.Commanded.{command_is, spelling, HasArguments, IsTwo, IsOne};
+ghost use Rattle.ckc_commands.specs.Commanded.{command_is};
+ghost use Rattle.ckc_commands.specs.code.Commanded.{spelling, HasArguments, IsTwo, IsOne};
 
 /// What the words ask for, with the names of files and the most instructions that are executed, or steps that are run.
 #[derive(Clone, Copy)]

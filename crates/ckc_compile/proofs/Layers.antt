@@ -12,7 +12,8 @@ use Rattle.ckc_inserted.proofs.Follows.{core_follows}
 use Rattle.ckc_core.specs.Code as core
 use Rattle.ckc_core.specs.Meaning.{core_detail, core_meaning}
 use Rattle.ckc_tac.specs.declared.code.Tac.{Tac}
-use Rattle.ckc_tac.specs.Meaning.{tac_detail, tac_meaning}
+use Rattle.ckc_tac.specs.Meaning.{tac_detail}
+use Rattle.ckc_tac.specs.code.Meaning.{tac_meaning}
 use Rattle.ckc_frame.specs.declared.code.Placed.{Placed}
 use Rattle.ckc_frame.specs.Meaning.{placed_detail, placed_meaning}
 use Rattle.ckc_emit.specs.Promise.{FollowsPlaced}

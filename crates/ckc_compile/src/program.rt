@@ -6,7 +6,7 @@ ghost use Rattle.ckc_source.specs.LaidOut.{AreBytes, IsLaidOut};
 ghost use Rattle.ckc_source.specs.Source.{source};
 ghost use Rattle.ckc_operands.specs.Compilable.{IsCompilable};
 ghost use Rattle.ckc_operands.specs.Weights.{program_weight};
-ghost use Rattle.ckc_tac.specs.Meaning.{tac_meaning};
+ghost use Rattle.ckc_tac.specs.code.Meaning.{tac_meaning};
 ghost use Rattle.ckc_tac.specs.Sizes.{program_size as tac_size};
 ghost use Rattle.ckc_tac.specs.WellFormed.{IsWellFormed as IsWellFormedTac, HasFewRegisters};
 ghost use Rattle.ckc_frame.specs.Meaning.{placed_meaning};

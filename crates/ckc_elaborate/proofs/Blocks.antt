@@ -9,7 +9,8 @@ use Rattle.ckc_syntax.specs.declared.tree.Act.TheVariants as act
 use Rattle.ckc_typed.specs.declared.environment.Variable.{Variable}
 use Rattle.ckc_typed.specs.declared.typed.Typed.{Typed}
 use Rattle.ckc_typed.specs.Trees.{NotedStmt}
-use Rattle.ckc_elaborate.specs.Statements.{part_of_act, stmts_elaborated}
+use Rattle.ckc_elaborate.specs.Statements.{part_of_act}
+use Rattle.ckc_elaborate.specs.code.Statements.{stmts_elaborated}
 
 module _ (p : Typed) (locals : List Variable) (gives : CType) (m : Option Mode) (ss : List NotedStmt) (at : Pos) (mode : Mode) (k : ℕ) where
   pub block_is : (part_of_act (act.Block m ss)).code at mode p locals gives k ≡ stmts_elaborated p locals gives k ss

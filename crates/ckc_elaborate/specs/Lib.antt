@@ -2,10 +2,10 @@ pub mod Lists
 pub mod Names
 pub mod Literals
 pub mod Steps
-pub mod Made
 pub mod Statements
 pub mod Functions
 pub mod Objects
 pub mod Shapes
 pub mod Elaborated
 pub mod Sound
+pub mod code

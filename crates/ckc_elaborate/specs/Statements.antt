@@ -1,5 +1,5 @@
 -- What statements with parts mean (ISO C11, 6.8; Checked C specification 0.9, section 3, on bundled blocks).
-use Rattle.std.specs.Prelude.{ℕ, ◌+◌, List, [], ◌∷◌, ◌++◌, map, Option, None, Some}
+use Rattle.std.specs.Prelude.{ℕ, ◌+◌, List, [], ◌∷◌, ◌++◌, Option, None, Some}
 use Rattle.ckc_base.specs.declared.places.Pos.{Pos}
 use Rattle.ckc_base.specs.declared.arithmetic.Mode.{Mode}
 use Rattle.ckc_types.specs.declared.types.CType.{CType}
@@ -130,6 +130,3 @@ part_of = fold-Stmt Name Note ActPart Part act_parts stmt_parts
 -- what a statement means
 abbrev pub stmt_elaborated : Typed → List Variable → CType → ℕ → NotedStmt → Statements
 stmt_elaborated p locals result k s = (part_of s).code p locals result k
-
-abbrev pub stmts_elaborated : Typed → List Variable → CType → ℕ → List NotedStmt → Statements
-stmts_elaborated p locals result k ss = all_code (map part_of ss) p locals result k

@@ -6,7 +6,7 @@ ghost use Rattle.ckc_source.specs.Code.{Nothing};
 ghost use Rattle.ckc_syntax.specs.declared.tree.Node.{out-Node};
 ghost use Rattle.ckc_values.specs.Places.{place_of};
 ghost use Rattle.ckc_elaborate.specs.Steps as steps;
-ghost use Rattle.ckc_elaborate.specs.Made.{destination_made};
+ghost use Rattle.ckc_elaborate.specs.code.Made.{destination_made};
 ghost use Rattle.ckc_elaborate.specs.Steps.{is_terminated, memory, name_target, target_of, name_kept, kept_form, local_target, nowhere, destination_of, destination_for};
 
 use ckc_base::Boxed;

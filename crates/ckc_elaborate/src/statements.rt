@@ -5,7 +5,8 @@ ghost use Rattle.std.specs.Option.{option_map};
 ghost use Rattle.ckc_source.specs.Code.{stmt_of, assign_of};
 ghost use Rattle.ckc_values.specs.Expressions.{literals_of};
 ghost use Rattle.ckc_elaborate.specs.Steps.{destination_of, assigned};
-ghost use Rattle.ckc_elaborate.specs.Statements.{part_of, part_of_act, assign, all_assigns, code_if, stmt_elaborated, stmts_elaborated};
+ghost use Rattle.ckc_elaborate.specs.Statements.{part_of, part_of_act, assign, all_assigns, code_if, stmt_elaborated};
+ghost use Rattle.ckc_elaborate.specs.code.Statements.{stmts_elaborated};
 
 use crate::destinations::{destination_of, is_terminated_at, target_of};
 use crate::literals::{in_part, in_stmt, in_value};

@@ -5,7 +5,7 @@ ghost use Rattle.std.specs.Option.{option_copied};
 ghost use Rattle.ckc_typed.specs.Types.{type_written};
 ghost use Rattle.ckc_source.specs.Code as code;
 ghost use Rattle.ckc_source.specs.Code.{expr_of, stmt_of};
-ghost use Rattle.ckc_elaborate.specs.Made.{destination_made};
+ghost use Rattle.ckc_elaborate.specs.code.Made.{destination_made};
 ghost use Rattle.ckc_elaborate.specs.Steps.{nowhere, spot, block_of, right_of, argument, arguments, first_of, called, assigned, started, declared, returned, condition};
 
 use crate::destinations::{Destination, destination_for, nowhere};

@@ -35,7 +35,7 @@ use Rattle.ckc_emit.proofs.Values.{high_word}
 use Rattle.ckc_emit.proofs.Acting.{const_writes}
 use Rattle.ckc_emit.proofs.Splits.{moved_none}
 use Rattle.ckc_emit.specs.declared.places.PlacedOperand.{PlacedOperand}
-use Rattle.ckc_emit.specs.Operands.{IsOperand}
+use Rattle.ckc_emit.specs.code.Operands.{IsOperand}
 use Rattle.ckc_emit.proofs.Operands.{operand_value, operand_has, operand_word, left_register, right_register}
 use Rattle.ckc_emit.proofs.Binary.{one_read, two_reads, sourced_then, bin_writes, high_writes}
 use Rattle.ckc_emit.proofs.Regions.{region, value_loaded, value_word, put_small, data_store as data_put}

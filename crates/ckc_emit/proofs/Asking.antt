@@ -23,7 +23,7 @@ use Rattle.ckc_emit.proofs.Paths.{Code, Path, straight, followed, loosened, Sets
 use Rattle.ckc_emit.proofs.FrameWords.{constant_sets}
 use Rattle.ckc_emit.proofs.Homes.{register_is, HasValue, HasPlaces, IsFramed, Keeps, keeps_then, framed_kept, settle_writes}
 use Rattle.ckc_emit.specs.declared.places.PlacedOperand.{PlacedOperand}
-use Rattle.ckc_emit.specs.Operands.{IsOperand}
+use Rattle.ckc_emit.specs.code.Operands.{IsOperand}
 use Rattle.ckc_emit.proofs.Operands.{operand_value, operand_has, operand_word, take_sets}
 use Rattle.ckc_emit.proofs.Regions.{region}
 use Rattle.ckc_emit.proofs.Relation.{AreBytes, HasWorld, AreAllowed, Does, write_does}

@@ -27,7 +27,7 @@ use Rattle.ckc_frame.specs.declared.code.Place.{Place}
 use Rattle.ckc_frame.specs.Places.{number_of}
 use Rattle.ckc_frame.specs.WellFormed.{IsPlace}
 use Rattle.ckc_emit.specs.declared.places.PlacedOperand.{PlacedOperand}
-use Rattle.ckc_emit.specs.Operands.{IsOperand}
+use Rattle.ckc_emit.specs.code.Operands.{IsOperand}
 use Rattle.ckc_emit.proofs.Operands.{operand_value, operand_has, operand_word, take_sets}
 use Rattle.ckc_emit.specs.Lines.{take_lines, settle_lines, constant_lines, claim_lines, alloc_lines}
 use Rattle.ckc_emit.proofs.Local.{Local, state_of}

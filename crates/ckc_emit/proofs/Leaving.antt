@@ -29,7 +29,7 @@ use Rattle.ckc_frame.specs.WellFormed.{IsPlace, IsPlacedWhole}
 use Rattle.ckc_frame.specs.Meaning.{State, begins, goes_to, branches, registers_of}
 use Rattle.ckc_base.specs.Words.{signed, flag, applied}
 use Rattle.ckc_emit.specs.declared.places.PlacedOperand.{PlacedOperand}
-use Rattle.ckc_emit.specs.Operands.{IsOperand}
+use Rattle.ckc_emit.specs.code.Operands.{IsOperand}
 use Rattle.ckc_emit.specs.Lines.{register_of, register_with}
 use Rattle.ckc_emit.specs.ProgramLines.{label_of, ops_lines, end_lines, operand_at, holding, failing, jump_lines, choice_lines, branch_lines, is_passing, is_passing_block, falls_through}
 use Rattle.ckc_emit.proofs.Local.{Local, state_of}

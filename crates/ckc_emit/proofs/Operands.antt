@@ -12,7 +12,7 @@ use Rattle.ckc_frame.specs.Places.{number_of, registers_in}
 use Rattle.ckc_frame.specs.WellFormed.{IsPlace, IsPlacedWhole}
 use Rattle.ckc_emit.specs.declared.places.PlacedOperand.{PlacedOperand}
 use Rattle.ckc_emit.specs.declared.places.PlacedOperand.TheVariants.{At, Number}
-use Rattle.ckc_emit.specs.Operands.{IsOperand}
+use Rattle.ckc_emit.specs.code.Operands.{IsOperand}
 use Rattle.ckc_emit.specs.Lines.{constant_lines, register_with, operand_lines, take_lines}
 use Rattle.ckc_emit.specs.CallLines.{place_at}
 use Rattle.ckc_emit.specs.ProgramLines.{operand_at}

@@ -30,7 +30,7 @@ use Rattle.ckc_emit.proofs.Homes.{HasPlaces, IsFramed}
 use Rattle.ckc_emit.proofs.Operands.{operand_value, operand_has, operand_word, operand_is, operand_found, left_register}
 use Rattle.ckc_emit.proofs.Binary.{one_read}
 use Rattle.ckc_emit.specs.declared.places.PlacedOperand.{PlacedOperand}
-use Rattle.ckc_emit.specs.Operands.{IsOperand}
+use Rattle.ckc_emit.specs.code.Operands.{IsOperand}
 use Rattle.ckc_emit.proofs.Checking.{check_passes, check_stops}
 use Rattle.ckc_emit.proofs.Relation.{HasWorld, Does, world_kept, does_loosened}
 use Rattle.ckc_emit.proofs.Acts.{const_does, copy_does, bin_does, high_does, load_does, store_does}

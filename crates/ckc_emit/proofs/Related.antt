@@ -21,7 +21,7 @@ use Rattle.ckc_frame.specs.declared.code.PlacedFunc.{PlacedFunc}
 use Rattle.ckc_frame.specs.Meaning.{Caller, State, active}
 use Rattle.ckc_frame.specs.Places.{marks_of}
 use Rattle.ckc_emit.specs.Lines.{offset_of, ask_lines}
-use Rattle.ckc_emit.specs.CallLines.{back_lines}
+use Rattle.ckc_emit.specs.code.CallLines.{back_lines}
 use Rattle.ckc_emit.specs.ProgramLines.{is_passing_block}
 use Rattle.ckc_emit.specs.Stores.{seen_events, frame_start, is_in_frame, may_do}
 use Rattle.ckc_emit.proofs.Local.{Local, state_of}

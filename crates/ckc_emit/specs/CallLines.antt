@@ -11,7 +11,8 @@ use Rattle.ckc_frame.specs.declared.code.Place.{Place}
 use Rattle.ckc_frame.specs.declared.code.Place.TheVariants as place
 use Rattle.ckc_frame.specs.Places.{home, is_kept_home}
 unfoldable pub use Rattle.ckc_templates.specs.Saved.{each_lines}
-pub use Rattle.ckc_templates.specs.Saved.{save_lines, restore_lines, kept_lines, saves_lines, restores_lines}
+pub use Rattle.ckc_templates.specs.Saved.{save_lines, restore_lines, saves_lines, restores_lines}
+pub use Rattle.ckc_templates.specs.code.Saved.{kept_lines}
 use Rattle.ckc_emit.specs.Lines.{register_of, offset_of, load_lines, store_lines, settle_lines, move_lines, check_lines}
 
 -- the place of a register; of one without a place, any
@@ -66,9 +67,3 @@ call_lines homes marks params label arguments at rest =
 abbrev pub result_lines : List Place → Option ℕ → List Line → List Line
 result_lines homes None rest = rest
 result_lines homes (Some t) rest = settle_lines (place_at homes t) 10 rest
-
--- what a caller does after its call, before the operations behind it
-abbrev pub back_lines : List Place → List Bool → Option ℕ → List Line → List Line
-back_lines homes marks target rest =
-    Plain (Lui 8 4) ∷ Plain (Reg Add 2 2 8) ∷
-    restores_lines (λ k. is_kept_home k homes marks) 12 0 (result_lines homes target rest)

@@ -1,4 +1,3 @@
-pub mod Operands
 pub mod Lines
 pub use Rattle.ckc_templates.specs.Emitting
 pub mod Stores
@@ -7,3 +6,4 @@ pub mod ProgramLines
 pub mod Spared
 pub mod CodeSize
 pub mod Promise
+pub mod code

@@ -1,13 +1,12 @@
 -- The lines of blocks, functions and programs. Labels are numbers: 0 is the start, then each function has one, and
 -- behind it one for each of its blocks.
-use Rattle.std.specs.Prelude.{◌≡◌, ℕ, ◌+◌, ◌<◌, ◌==◌, not, ◌&&◌, if◌then◌else◌, Bool, true, false, List, [], ◌∷◌, length, map, slice_get, slice_index, sum_by, take, Option, Some, None, pos}
+use Rattle.std.specs.Prelude.{ℕ, ◌+◌, ◌==◌, not, ◌&&◌, if◌then◌else◌, Bool, true, false, List, [], ◌∷◌, length, slice_get, sum_by, take, Option, Some, None, pos}
 use Rattle.ckc_operations.specs.declared.operations.BranchOp.{BranchOp}
 use Rattle.ckc_operations.specs.declared.operations.BranchOp.TheVariants.{Beq, Bne, Blt, Bge, Bltu, Bgeu}
 use Rattle.ckc_rv.specs.declared.instructions.Instr.TheVariants.{Jalr, Branch as BranchInstr}
 use Rattle.ckc_lines.specs.declared.lines.Labelled.{Labelled}
 use Rattle.ckc_lines.specs.declared.lines.Line.{Line}
 use Rattle.ckc_lines.specs.declared.lines.Line.TheVariants.{Label, Plain, Far}
-use Rattle.ckc_tac.specs.declared.code.TacFunc.{TacFunc}
 use Rattle.ckc_tac.specs.declared.code.TacBlock.{TacBlock}
 use Rattle.ckc_tac.specs.declared.code.Comparison.{Comparison}
 use Rattle.ckc_tac.specs.declared.code.Comparison.TheVariants.{LtS, LtU, Eq, Ne}
@@ -33,15 +32,6 @@ pub use Rattle.ckc_templates.specs.Start.{start_lines}
 -- the label of the function with a number
 abbrev pub label_of : List PlacedFunc → ℕ → ℕ
 label_of functions k = 1 + sum_by (λ (f : PlacedFunc). length f.code.blocks + 1) (take k functions)
-
--- each function's label is in its place in a list
-pub record AreLabels (functions : List PlacedFunc) (labels : List ℕ) : Type 0 where
-  pub each : length labels ≡ length functions
-  pub are : (k : ℕ) → k < length functions → slice_index labels k ≡ label_of functions k
-
--- the code of functions without places
-abbrev pub codes_of : List PlacedFunc → List TacFunc
-codes_of functions = map (λ (f : PlacedFunc). f.code) functions
 
 -- the homes of the parameters of a called function
 abbrev pub homes_of : Option PlacedFunc → List Place

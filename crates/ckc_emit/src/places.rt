@@ -4,7 +4,7 @@ ghost use Rattle.ckc_frame.specs.WellFormed.{IsPlace};
 ghost use Rattle.ckc_emit.specs.Emitting.{Emits};
 ghost use Rattle.ckc_emit.specs.CallLines.{place_at};
 ghost use Rattle.ckc_emit.specs.Lines.{offset_of, source_of, register_with, read_lines, operand_lines, write_lines, settle_lines, fetch_lines, take_lines};
-ghost use Rattle.ckc_emit.specs.Operands.{IsOperand};
+ghost use Rattle.ckc_emit.specs.code.Operands.{IsOperand};
 
 use ckc_frame::Place;
 use ckc_lines::Line;

@@ -8,7 +8,8 @@ use Rattle.ckc_syntax.specs.declared.tree.Name.TheVariants as name
 use Rattle.ckc_typed.specs.declared.environment.Object.{Object}
 use Rattle.ckc_typed.specs.declared.environment.Signature.{Signature}
 use Rattle.ckc_typed.specs.Environment.{same_name}
-use Rattle.ckc_environment.specs.Numbered.{is_place, are_numbered, at_place, place_of_object, place_of_function, objects_numbered, functions_numbered}
+use Rattle.ckc_environment.specs.Numbered.{is_place, are_numbered, place_of_object, place_of_function, objects_numbered, functions_numbered}
+use Rattle.ckc_environment.specs.code.Numbered.{at_place}
 
 is_both : (a b : Bool) → (a && b) ≡ true → (a ≡ true) × (b ≡ true)
 is_both true true e = (refl, refl)

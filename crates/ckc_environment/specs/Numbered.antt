@@ -1,6 +1,6 @@
 -- Lists in which each name is at the place of its number, so that a look-up needs no walk. It is how a look-up goes, and
 -- no part of what it finds.
-use Rattle.std.specs.Prelude.{ℕ, suc, ◌+◌, ◌==◌, Bool, true, false, ◌&&◌, List, [], ◌∷◌, Option, None, Some, slice_get}
+use Rattle.std.specs.Prelude.{ℕ, suc, ◌+◌, ◌==◌, Bool, true, false, ◌&&◌, List, [], ◌∷◌, Option, None, Some}
 use Rattle.ckc_syntax.specs.declared.tree.Name.{Name}
 use Rattle.ckc_syntax.specs.declared.tree.Name.TheVariants as name
 use Rattle.ckc_typed.specs.declared.environment.Object.{Object}
@@ -26,10 +26,6 @@ is_place None n = false
 abbrev pub are_numbered : {A : Type 0} → (A → Option ℕ) → ℕ → List A → Bool
 are_numbered place n [] = true
 are_numbered place n (x ∷ xs) = is_place (place x) n && are_numbered place (suc n) xs
-
-abbrev pub at_place : {A : Type 0} → Option ℕ → List A → Option A
-at_place (Some k) xs = slice_get xs k
-at_place None xs = None
 
 abbrev pub objects_numbered : ℕ → List Object → Bool
 objects_numbered n os = are_numbered (λ o. place_of_object o.name) n os

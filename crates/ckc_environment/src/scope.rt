@@ -3,7 +3,8 @@
 ghost use Rattle.std.specs.Prelude.{◌≡◌, find};
 ghost use Rattle.std.specs.Option.{option_copied};
 ghost use Rattle.ckc_typed.specs.Environment.{same_name, object_named, signature_named};
-ghost use Rattle.ckc_environment.specs.Numbered.{is_place, at_place, place_of_object, place_of_function, objects_numbered, functions_numbered};
+ghost use Rattle.ckc_environment.specs.Numbered.{is_place, place_of_object, place_of_function, objects_numbered, functions_numbered};
+ghost use Rattle.ckc_environment.specs.code.Numbered.{at_place};
 
 use crate::names::same_name;
 use ckc_syntax::Name;

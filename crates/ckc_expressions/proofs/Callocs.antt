@@ -12,7 +12,8 @@ use Rattle.ckc_grammar.specs.Values.{Value, made, as_expr_of_name, as_steps, as_
 use Rattle.ckc_grammar.specs.Derives.{Sign}
 use Rattle.ckc_grammar.specs.Reading.{kind_of, pick, Takes, Stops}
 use Rattle.ckc_grammar.specs.Reading as T
-use Rattle.ckc_grammar.specs.Marked.{Gives, Reads}
+use Rattle.ckc_grammar.specs.Marked.{Gives}
+use Rattle.ckc_grammar.specs.code.Marked.{Reads}
 use Rattle.ckc_grammar.proofs.Steps.{also_all, then_all, here_all, also, here_stops, then_stops, by_rule, stop_rule, turned}
 
 -- what may go on behind `calloc` where no `(` and no `<` does

@@ -1,2 +1,2 @@
-pub mod Allocations
 pub mod Forms
+pub mod code

@@ -3,7 +3,8 @@ ghost use Rattle.ckc_syntax.specs.Spelled.{spelled};
 ghost use Rattle.ckc_grammar.specs.Grammar as g;
 ghost use Rattle.ckc_grammar.specs.Trees.{literal};
 ghost use Rattle.ckc_grammar.specs.Values.{Value, expr, named, as_token};
-ghost use Rattle.ckc_grammar.specs.Marked.{ahead, remaining, Parses, Reads, Makes};
+ghost use Rattle.ckc_grammar.specs.Marked.{ahead, remaining, Parses};
+ghost use Rattle.ckc_grammar.specs.code.Marked.{Reads, Makes};
 
 use crate::types::type_in_parentheses;
 use ckc_grammar::{Class, Expression, Kind, Reader, Stop, expression};

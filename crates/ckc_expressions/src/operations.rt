@@ -2,7 +2,8 @@ ghost use Rattle.std.specs.Prelude.{◌≡◌, ◌≤◌, ◌<◌, length, Match
 ghost use Rattle.ckc_syntax.specs.declared.tree.TreeOp.TheVariants as op;
 ghost use Rattle.ckc_grammar.specs.Grammar as g;
 ghost use Rattle.ckc_grammar.specs.Values.{operator, second};
-ghost use Rattle.ckc_grammar.specs.Marked.{ahead, remaining, Parses, Reads, Makes};
+ghost use Rattle.ckc_grammar.specs.Marked.{ahead, remaining, Parses};
+ghost use Rattle.ckc_grammar.specs.code.Marked.{Reads, Makes};
 
 use ckc_grammar::{Class, Kind, Operation, Reader, Stop, binary_op, is_greater, token_kind};
 use ckc_syntax::TreeOp;

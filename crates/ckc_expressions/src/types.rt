@@ -2,8 +2,10 @@ ghost use Rattle.std.specs.Prelude.{◌≤◌, length, IfOk};
 ghost use Rattle.ckc_grammar.specs.Grammar as g;
 ghost use Rattle.ckc_grammar.specs.Trees.{starred};
 ghost use Rattle.ckc_grammar.specs.Values.{nothing, type_tree, as_stars};
-ghost use Rattle.ckc_grammar.specs.Marked.{ahead, remaining, Parses, Gives, Reads, Makes};
-ghost use Rattle.ckc_expressions.specs.Forms.{Tells, in_angles, in_parentheses, enclosed};
+ghost use Rattle.ckc_grammar.specs.Marked.{ahead, remaining, Parses, Gives};
+ghost use Rattle.ckc_grammar.specs.code.Marked.{Reads, Makes};
+ghost use Rattle.ckc_expressions.specs.Forms.{Tells, in_parentheses, enclosed};
+ghost use Rattle.ckc_expressions.specs.code.Forms.{in_angles};
 
 use ckc_base::Boxed;
 use ckc_grammar::{CType, Class, Kind, Reader, Stop};

@@ -4,8 +4,9 @@ ghost use Rattle.ckc_syntax.specs.declared.tree.Node.TheVariants as node;
 ghost use Rattle.ckc_grammar.specs.Grammar as g;
 ghost use Rattle.ckc_grammar.specs.Trees as trees;
 ghost use Rattle.ckc_grammar.specs.Values as v;
-ghost use Rattle.ckc_expressions.specs.Allocations.{allocated_type, allocated_size, IsLead, IsFourth};
-ghost use Rattle.ckc_grammar.specs.Marked.{ahead, remaining, Answered, Gives, Reads};
+ghost use Rattle.ckc_expressions.specs.code.Allocations.{allocated_type, allocated_size, IsLead, IsFourth};
+ghost use Rattle.ckc_grammar.specs.Marked.{ahead, remaining, Answered, Gives};
+ghost use Rattle.ckc_grammar.specs.code.Marked.{Reads};
 
 use crate::constants::named;
 use crate::expressions::{expr, expr_rest, first, posts, unary};

@@ -12,7 +12,8 @@ use Rattle.ckc_grammar.specs.Reading as T
 use Rattle.std.specs.Prelude.{Result, Ok, Err}
 use Rattle.ckc_grammar.specs.declared.parts.Stop.{Stop}
 use Rattle.ckc_grammar.specs.declared.parts.Stop.TheVariants as stop
-use Rattle.ckc_grammar.specs.Marked.{Halts, Answered, Parses, Gives, Reads, Makes}
+use Rattle.ckc_grammar.specs.Marked.{Halts, Answered, Parses, Gives}
+use Rattle.ckc_grammar.specs.code.Marked.{Reads, Makes}
 use Rattle.ckc_grammar.proofs.EveryKind.{all_kinds, kind_at}
 use Rattle.ckc_grammar.proofs.Tables.{is_number, same_number}
 

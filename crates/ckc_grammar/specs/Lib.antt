@@ -8,3 +8,4 @@ pub mod Reading
 pub mod Shapes
 pub mod Trees
 pub mod Values
+pub mod code

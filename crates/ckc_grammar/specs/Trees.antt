@@ -127,11 +127,6 @@ joined_at l e (s ∷ ss) =
     if level s.op == l then joined_at l (expr_at (node.Bin s.op e s.operand) s.pos) ss
     else (e, let rest = joined_at l s.operand ss in record { op = s.op; pos = s.pos; operand = rest.0 } ∷ rest.1)
 
--- operands that are joined already, whose last one goes on with the steps
-abbrev pub attached : ℕ → Expr → List Step → List Step → Expr × List Step
-attached l e [] ss = joined_at l e ss
-attached l e (x ∷ xs) ss = (e, let rest = attached l x.operand xs ss in record { op = x.op; pos = x.pos; operand = rest.0 } ∷ rest.1)
-
 -- from the tightest level to the loosest
 unfoldable pub joined_to : ℕ → Expr × List Step → Expr × List Step
 joined_to zero c = c

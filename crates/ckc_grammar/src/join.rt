@@ -2,7 +2,8 @@ ghost use Rattle.std.specs.Prelude.{◌≡◌, ◌<◌, List, ◌∷◌, IfOk};
 ghost use Rattle.std.specs.Bool.{OnTrue, OnFalse};
 ghost use Rattle.ckc_syntax.specs.declared.tree.Node.TheVariants as node;
 ghost use Rattle.ckc_grammar.specs.declared.parts.Step.{Step};
-ghost use Rattle.ckc_grammar.specs.Trees.{expr_at, level, joined, joined_at, joined_to, attached, picked};
+ghost use Rattle.ckc_grammar.specs.Trees.{expr_at, level, joined, joined_at, joined_to, picked};
+ghost use Rattle.ckc_grammar.specs.code.Trees.{attached};
 ghost use Rattle.ckc_grammar.specs.Values.{whole};
 
 use crate::parts::{Arms, Expression, Rest, Step};

@@ -4,7 +4,7 @@ use Rattle.std.specs.Prelude.{Bool, true, false, if◌then◌else◌}
 use Rattle.ckc_source.specs.Code.{Expr, Number}
 use Rattle.ckc_operands.specs.Compilable.{element_nodes, index_nodes}
 use Rattle.ckc_operands.specs.Operands.{number_of, is_this, is_number}
-use Rattle.ckc_integer.specs.Capped.{capped}
+use Rattle.ckc_integer.specs.code.Capped.{capped}
 
 pub elements_by : (far : Bool) (i : Expr)
     → element_nodes far i ≡ (if far then (if is_this 0 (number_of i) then 3 else 5) else (if is_this 0 (number_of i) then 4 else 6))

@@ -1,2 +1,2 @@
-pub mod Capped
-pub mod Laid
+
+pub mod code

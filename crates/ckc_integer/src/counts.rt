@@ -2,7 +2,7 @@
 ghost use Rattle.std.specs.Prelude.{◌≡◌, ◌+◌, map};
 ghost use Rattle.ckc_source.specs.Code.{expr_of, target_of, right_of, assign_of, code_of};
 ghost use Rattle.ckc_operands.specs.Compilable.{depth, element_nodes, access_nodes, shift_nodes, index_nodes, expr_nodes, exprs_nodes, guard_nodes, target_nodes, right_nodes, assigns_nodes, code_nodes, range_nodes, value_nodes};
-ghost use Rattle.ckc_integer.specs.Capped.{capped};
+ghost use Rattle.ckc_integer.specs.code.Capped.{capped};
 
 use ckc_operands::{casts_one, is_number, is_ranged, is_this, number, takes_range};
 use ckc_source::{Assign, ExprTree, RightTree, StmtTree, TargetTree, Through};

@@ -4,7 +4,7 @@ ghost use Rattle.ckc_base.specs.Memory.{data_end};
 ghost use Rattle.ckc_operands.specs.Compilable.{BeginsLow};
 ghost use Rattle.ckc_source.specs.Blocks.{block_of, end_of};
 ghost use Rattle.ckc_source.specs.LaidOut.{AreBytes};
-ghost use Rattle.ckc_integer.specs.Laid.{AreLaidOut};
+ghost use Rattle.ckc_integer.specs.code.Laid.{AreLaidOut};
 
 use ckc_source::Object;
 

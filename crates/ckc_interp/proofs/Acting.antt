@@ -16,7 +16,7 @@ use Rattle.ckc_source.specs.Code.{Function, function_of}
 use Rattle.ckc_source.specs.Eval.{given}
 use Rattle.ckc_source.specs.States.{Work, Frame, Caller, State, active}
 use Rattle.ckc_source.specs.Steps.{Write, writes, all_written, calls, enters}
-use Rattle.ckc_interp.specs.Views.{stacked}
+use Rattle.ckc_interp.specs.code.Views.{stacked}
 
 pub framed : (function : Function) (locals locals' entry : List ℕ) (work work' : List Work) → locals ≡ locals' → work ≡ work'
     → record { function = function; locals = locals; entry = entry; work = work } ≡ (let f : Frame = record { function = function; locals = locals'; entry = entry; work = work' } in f)

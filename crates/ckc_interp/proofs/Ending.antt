@@ -13,7 +13,7 @@ use Rattle.ckc_interp.specs.declared.seen.Seen.{Seen}
 use Rattle.ckc_interp.specs.declared.seen.Seen.TheVariants as seen
 use Rattle.ckc_outside.specs.Given.{taken, Printed, PrintedFront}
 use Rattle.ckc_interp.specs.Runs.{AsksToGet, AsksToPut, Interprets}
-use Rattle.ckc_interp.specs.Turns.{Steps, events_of}
+use Rattle.ckc_interp.specs.code.Turns.{Steps, events_of}
 use Rattle.ckc_interp.proofs.Reaching.{IsAt, system, start, at_start, at_next, goes_at, put_at, took_at, comes_over, place_is, blame_is_next, state_is, shows_at, shows_halt}
 
 take_front : (xs ys : List ℕ) (k : ℕ) → take (length xs + k) (xs ++ ys) ≡ xs ++ take k ys

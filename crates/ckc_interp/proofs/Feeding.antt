@@ -22,7 +22,7 @@ use Rattle.ckc_source.specs.Code.{Target, Right, Value as Plain, Fresh, Code, En
 use Rattle.ckc_source.specs.Eval.{given, evaluated, all_evaluated}
 use Rattle.ckc_source.specs.States.{Work, Rest, Turn as Ahead, Caller, State, active}
 use Rattle.ckc_source.specs.Steps.{store_of, aimed, allowed, drawn, Drawn, Write, Planned, writes, all_written, allocated, planned, bundled, with_blocks, writes_allowed, comes_to, and_moves, gets, puts, halts, at_work, acts, works, returns, hands, reads_result, kept_place, calls, enters}
-use Rattle.ckc_interp.specs.Turns.{Asked, Does, Gets, Puts, asked, asked_next, gets_at, puts_at, turn_asks, move_of, planned_one}
+use Rattle.ckc_interp.specs.code.Turns.{Asked, Does, Gets, Puts, asked, asked_next, gets_at, puts_at, turn_asks, move_of, planned_one}
 use Rattle.ckc_interp.specs.declared.run.Turn.{Turn}
 use Rattle.ckc_interp.specs.declared.run.Turn.TheVariants as turn
 use Rattle.ckc_interp.proofs.Planning.{planned-cons, then_planned}

@@ -3,7 +3,7 @@ use Rattle.std.proofs.Common.{◌≡◌, inl, inr, ℕ, List, [], ◌∷◌, ◌
 use Rattle.ckc_outside.specs.Outside.{GivesNext, SeenSource}
 use Rattle.ckc_outside.specs.Given.{Gave, Took, OverAny, WhereTold}
 use Rattle.ckc_outside.proofs.Giving.{both_none, gave_nothing, gave_both}
-use Rattle.ckc_interp.specs.Turns.{MayBeLeft, Fed}
+use Rattle.ckc_interp.specs.code.Turns.{MayBeLeft, Fed}
 
 -- a source that was not asked
 pub not_asked : (s : SeenSource) (Holds : List ℕ → List ℕ → Type 0) → ((rest : List ℕ) → Holds rest rest) → Fed s s Holds

@@ -8,7 +8,7 @@ use Rattle.ckc_source.specs.Code.{Target, Right, Expr}
 use Rattle.ckc_source.specs.Eval.{Store, given, evaluated, all_evaluated}
 use Rattle.ckc_source.specs.States.{State}
 use Rattle.ckc_source.specs.Steps.{store_of, aimed, allowed, drawn, Drawn, Write, Planned, writes, all_written, planned, bundled, and_then_written}
-use Rattle.ckc_interp.specs.Turns.{planned_one, planned_behind}
+use Rattle.ckc_interp.specs.code.Turns.{planned_one, planned_behind}
 
 abbrev Behind : Write × State → List Write → Planned → Planned
 Behind w ws p = record { writes = ws ++ p.writes; state = p.state }

@@ -16,7 +16,7 @@ use Rattle.ckc_source.specs.Steps.{source_step, spot_of}
 use Rattle.ckc_source.specs.Source.{source, source_system, first_state, place_after, unchecked_since, first_unchecked, on_next, by_mode}
 use Rattle.ckc_outside.specs.Given.{got_byte, taken, Printed}
 use Rattle.ckc_interp.specs.Runs.{GoesAt, Comes}
-use Rattle.ckc_interp.specs.Turns.{noted}
+use Rattle.ckc_interp.specs.code.Turns.{noted}
 
 -- ---- blame
 

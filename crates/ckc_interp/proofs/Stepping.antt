@@ -15,7 +15,7 @@ use Rattle.ckc_interp.specs.declared.run.Turn.{Turn}
 use Rattle.ckc_interp.specs.declared.run.Turn.TheVariants as turn
 use Rattle.ckc_outside.specs.Given.{taken, Printed}
 use Rattle.ckc_interp.specs.Runs.{AsksToGet, AsksToPut}
-use Rattle.ckc_interp.specs.Turns.{Gets, Puts, asked_next, gets_at, puts_at, turn_asks, move_of, noted, seen_of, Wrote, PutsAs, GetsAs, Steps, events_of}
+use Rattle.ckc_interp.specs.code.Turns.{Gets, Puts, asked_next, gets_at, puts_at, turn_asks, move_of, noted, seen_of, Wrote, PutsAs, GetsAs, Steps, events_of}
 use Rattle.ckc_interp.proofs.Feeding.{fed, fed_result, played, works_fed, turn_played, allowed_fed}
 use Rattle.ckc_interp.proofs.Reaching.{printed_nothing}
 

@@ -5,7 +5,7 @@ use Rattle.ckc_interp.specs.declared.work.Leaving as by
 use Rattle.ckc_interp.specs.declared.work.Work as held
 use Rattle.ckc_source.specs.Code.{Code, End, Assign, Bundle, Get, Put, Call, If, Loop, Break, Continue, Return, Check}
 use Rattle.ckc_source.specs.States.{Work, Rest, Turn, Leaving, Ended, Broken, Continued, begun, resumed, stepped, turned, behind}
-use Rattle.ckc_interp.specs.Views.{stacked, work_of, leaving_of, leaving_in, unless_ended, step_in, when_left}
+use Rattle.ckc_interp.specs.code.Views.{stacked, work_of, leaving_of, leaving_in, unless_ended, step_in, when_left}
 
 pub stacked-push : {A B : Type 0} (view : A → B) (xs : List A) (x : A) (behind : List B) → stacked view (xs ++ x ∷ []) behind ≡ view x ∷ stacked view xs behind
 unfolding stacked

@@ -11,7 +11,7 @@ ghost use Rattle.ckc_source.specs.Eval.{evaluated, all_evaluated};
 ghost use Rattle.ckc_source.specs.Steps.{store_of, aimed, bundled, returns, hands, reads_result, calls, kept_place, spot_in, spot_of, at_work, and_moves, comes_to};
 ghost use Rattle.ckc_blocks.specs.Views.{shapes_of};
 ghost use Rattle.ckc_eval.specs.Stores as stores;
-ghost use Rattle.ckc_interp.specs.Turns.{Does, asked, asked_next, gets_at, puts_at, turn_asks, reached, noted, spot_with, values_as};
+ghost use Rattle.ckc_interp.specs.code.Turns.{Does, asked, asked_next, gets_at, puts_at, turn_asks, reached, noted, spot_with, values_as};
 
 use crate::frame::{Caller, Frame, enter};
 use crate::run::{Run, Turn};
@@ -117,7 +117,7 @@ fn noted(blame: Option<Pos>, spot: Spot) -> Option<Pos>
 }
 
 impl<'a> Run<'a> {
-    ghost use Rattle.ckc_interp.specs.Views.{work_of, frame_of, core_of};
+    ghost use Rattle.ckc_interp.specs.code.Views.{work_of, frame_of, core_of};
 
     /// Where the next step stands, of which the work is in front.
     fn spot(&self, front: Option<Work>) -> Spot

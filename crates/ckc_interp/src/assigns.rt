@@ -5,7 +5,7 @@ ghost use Rattle.ckc_base.specs.Memory.{kept_part};
 ghost use Rattle.ckc_source.specs.Code.{target_of, right_of, assign_of};
 ghost use Rattle.ckc_source.specs.Steps.{allowed, refuses, writes, writes_allowed, all_written, drawn, allocated, planned, bundled};
 ghost use Rattle.ckc_blocks.specs.Views.{shapes_of};
-ghost use Rattle.ckc_interp.specs.Turns.{reached, drawn_as, planned_as, planned_one, planned_one_as};
+ghost use Rattle.ckc_interp.specs.code.Turns.{reached, drawn_as, planned_as, planned_one, planned_one_as};
 
 use crate::run::Run;
 use ckc_base::{Check, Width};
@@ -52,7 +52,7 @@ fn write_local(locals: &mut [u32], x: u32, n: u32)
 }
 
 impl<'a> Run<'a> {
-    ghost use Rattle.ckc_interp.specs.Views.{core_of};
+    ghost use Rattle.ckc_interp.specs.code.Views.{core_of};
 
     /// Writes a value.
     pub fn write(&mut self, to: Place, n: u32) -> Result<(), Halt>

@@ -3,7 +3,7 @@
 ghost use Rattle.std.specs.Prelude.{◌≡◌, ◌-◌, ◌++◌, length, replicate, IfOk};
 ghost use Rattle.ckc_source.specs.Code.{function_of};
 ghost use Rattle.ckc_source.specs.States.{entered};
-ghost use Rattle.ckc_interp.specs.Views.{frame_of};
+ghost use Rattle.ckc_interp.specs.code.Views.{frame_of};
 
 use crate::work::Work;
 use ckc_source::{FunctionTree, Kept};

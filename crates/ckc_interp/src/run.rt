@@ -38,7 +38,7 @@ impl<'a> Run<'a> {
     ghost use Rattle.ckc_source.specs.Steps.{store_of};
     ghost use Rattle.ckc_blocks.specs.Views.{shapes_of};
     ghost use Rattle.ckc_eval.specs.Stores as stores;
-    ghost use Rattle.ckc_interp.specs.Views.{core_of};
+    ghost use Rattle.ckc_interp.specs.code.Views.{core_of};
 
     /// What expressions of the innermost call read.
     pub fn reader(&self) -> Reader<'_, 'a>

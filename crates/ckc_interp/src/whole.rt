@@ -7,10 +7,10 @@ ghost use Rattle.ckc_source.specs.LaidOut.{IsLaidOut};
 ghost use Rattle.ckc_source.specs.Source.{no_function, function_at, first_state};
 ghost use Rattle.ckc_source.specs.Steps.{writes_allowed};
 ghost use Rattle.ckc_blocks.specs.Views.{shapes_of};
-ghost use Rattle.ckc_interp.specs.Views.{core_of, state_of};
+ghost use Rattle.ckc_interp.specs.code.Views.{core_of, state_of};
 ghost use Rattle.ckc_outside.specs.Given.{OverAny, WhereTold};
 ghost use Rattle.ckc_interp.specs.Runs.{Interprets};
-ghost use Rattle.ckc_interp.specs.Turns.{seen_of, Wrote, PutsAs, GetsAs, Fed, Steps};
+ghost use Rattle.ckc_interp.specs.code.Turns.{seen_of, Wrote, PutsAs, GetsAs, Fed, Steps};
 
 use crate::arms::Marks;
 use crate::frame::enter;

@@ -5,7 +5,7 @@ ghost use Rattle.std.specs.Option.{option_map, option_copied};
 ghost use Rattle.ckc_source.specs.Code.{code_of};
 ghost use Rattle.ckc_source.specs.States.{begun, resumed, settled, turned, behind};
 ghost use Rattle.ckc_source.specs.States as states;
-ghost use Rattle.ckc_interp.specs.Views.{work_of, next_of_call, leaving_of, leaving_in, step_in, when_left};
+ghost use Rattle.ckc_interp.specs.code.Views.{work_of, next_of_call, leaving_of, leaving_in, step_in, when_left};
 
 use ckc_source::StmtTree;
 use std::alloc::AllocError;

@@ -16,10 +16,6 @@ known facts = record { vars = facts.vars; list = facts.list }
 abbrev pub is_within : ℕ → ℤ → Bool
 is_within limit n = int_le (neg_ℤ (pos limit)) n && int_le n (pos limit)
 
--- whether a fact shows another one by itself: it has the same variables, and its number or a smaller one
-abbrev pub shows : Fact → Fact → Bool
-shows f g = (g.x == f.x) && ((g.y == f.y) && int_le g.c f.c)
-
 -- A walk over at most so many of the facts leads from x to y, and its numbers sum to at most c.
 unfoldable pub reaches : ℕ → List Fact → ℕ → ℕ → ℤ → Bool
 reaches zero facts x y c = (x == y) && int_le (pos 0) c

@@ -2,7 +2,8 @@
 
 ghost use Rattle.std.specs.Prelude.{◌≡◌, ◌+◌, ◌<◌, ◌^◌, IfOk};
 ghost use Rattle.ckc_linear.specs.Facts.{IsWithin};
-ghost use Rattle.ckc_known.specs.Shown.{known, is_within, reaches, is_shown, shows};
+ghost use Rattle.ckc_known.specs.Shown.{known, is_within, reaches, is_shown};
+ghost use Rattle.ckc_known.specs.code.Shown.{shows};
 ghost use Rattle.std.specs.List.{list_any};
 
 use crate::work::{Work, grow};

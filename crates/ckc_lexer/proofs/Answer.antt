@@ -12,7 +12,7 @@ use Rattle.ckc_syntax.specs.Spelled.{Spelled, Tokens}
 use Rattle.ckc_lexer.specs.Cut.{Lexes, FirstBroken, FirstFault}
 use Rattle.ckc_lexer.specs.Phase.{lexing, tokens_in}
 use Rattle.ckc_lexer.specs.Places.{place_after}
-use Rattle.ckc_lexer.specs.Reading.{Outcome, IsReading, Reads, start}
+use Rattle.ckc_lexer.specs.code.Reading.{Outcome, IsReading, Reads, start}
 use Rattle.ckc_lexer.proofs.CutLaw.{read_lexes, read_fault, lexes_read, fault_read, reads_once}
 use Rattle.ckc_lexer.proofs.Total.{reads_some}
 

@@ -12,11 +12,11 @@ use Rattle.ckc_lexer.specs.declared.items.Context.{Context}
 use Rattle.ckc_lexer.specs.declared.items.Here.{Here}
 use Rattle.ckc_syntax.specs.Longest.{Longest}
 use Rattle.ckc_lexer.specs.Places.{place_after}
-use Rattle.ckc_lexer.specs.Reading.{moved}
+use Rattle.ckc_lexer.specs.code.Reading.{moved}
 use Rattle.ckc_lexer.specs.Spelling.{Spells}
 use Rattle.ckc_syntax.specs.Spelled.{Spelled}
 use Rattle.ckc_lexer.specs.Cut.{Part, joined, is_stdchecked, context_after, IsPart, IsCut, token_at, tokens_from, is_broken, AreWhole, Lexes, FirstBroken}
-use Rattle.ckc_lexer.specs.Reading.{Outcome, context_at, pos_at, onto, Reads, ends, breaks, skips, takes, start}
+use Rattle.ckc_lexer.specs.code.Reading.{Outcome, context_at, pos_at, onto, Reads, ends, breaks, skips, takes, start}
 use Rattle.ckc_syntax.proofs.Fronts.{longest_once}
 use Rattle.ckc_lexer.proofs.OneItem.{one_item, not_empty}
 use Rattle.ckc_lexer.proofs.PlaceLaw.{here_of, from_start, here_append}

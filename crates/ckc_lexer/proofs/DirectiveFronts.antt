@@ -8,9 +8,9 @@ use Rattle.ckc_lexer.specs.declared.items.Item.{Item}
 use Rattle.ckc_lexer.specs.declared.items.Item.TheVariants.{Gap, Token, Broken}
 use Rattle.ckc_lexer.specs.Bytes.{is_space, is_feed}
 use Rattle.ckc_syntax.specs.Longest.{Longest}
-use Rattle.ckc_lexer.specs.Longest.{IsRun}
+use Rattle.ckc_lexer.specs.code.Longest.{IsRun}
 use Rattle.ckc_lexer.specs.Directives.{IsDirective, IsDirectiveLine, DirectiveCases}
-use Rattle.ckc_lexer.specs.DirectiveReading.{body_of, IsTrimmed}
+use Rattle.ckc_lexer.specs.code.DirectiveReading.{body_of, IsTrimmed}
 use Rattle.ckc_lexer.proofs.Fronts.{run_all, run_stops, run_some}
 use Rattle.ckc_lexer.proofs.DirectiveLaw.{body_sound, body_complete, directive_shape}
 

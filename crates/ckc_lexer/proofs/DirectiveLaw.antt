@@ -11,7 +11,7 @@ use Rattle.ckc_syntax.specs.declared.tokens.Directive.TheVariants.{Stdio, Stdlib
 use Rattle.ckc_syntax.specs.Bytes.{AllBytes}
 use Rattle.ckc_lexer.specs.Bytes.{is_space, is_feed}
 use Rattle.ckc_lexer.specs.Directives.{IsInclude, IsPragma, IsDirective}
-use Rattle.ckc_lexer.specs.DirectiveReading.{strip, behind_spaces, behind_some_spaces, header_of, scope_of, pragma_of, include_or_pragma, body_of}
+use Rattle.ckc_lexer.specs.code.DirectiveReading.{strip, behind_spaces, behind_some_spaces, header_of, scope_of, pragma_of, include_or_pragma, body_of}
 use Rattle.ckc_lexer.proofs.ByteLists.{all_append, all_test, all_prefix, prefix_front, last_append}
 
 -- a choice that came out as `Some` took the first arm

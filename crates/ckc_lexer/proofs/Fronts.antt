@@ -3,7 +3,7 @@ use Rattle.std.proofs.Common.{◌≡◌, ℕ, ◌<◌, ◌≤◌, Bool, true, Li
 use Rattle.std.proofs.lemmas.Bool.{false≢true, cases_order}
 use Rattle.ckc_syntax.specs.Bytes.{AllBytes}
 use Rattle.ckc_syntax.specs.Longest.{Longest}
-use Rattle.ckc_lexer.specs.Longest.{IsRun}
+use Rattle.ckc_lexer.specs.code.Longest.{IsRun}
 
 -- a run passes the test
 pub run_all : {test : ℕ → Bool} {text : List ℕ} {n : ℕ} → IsRun test text n → AllBytes test (take n text)

@@ -5,7 +5,7 @@ use Rattle.std.proofs.lemmas.Bool.{false≢true, and_parts, not-true, ltb-true, 
 use Rattle.ckc_syntax.specs.Longest.{Longest, NoFront}
 use Rattle.ckc_syntax.specs.Digits.{digit_value, is_digit_in}
 use Rattle.ckc_syntax.specs.Literals.{IsDigitsAfter, IsEscape, simple, octal, hexadecimal, IsPiece, plain, escape, Characters, ends, next, IsLiteral}
-use Rattle.ckc_lexer.specs.LiteralReading.{IsOnlyLiteral}
+use Rattle.ckc_lexer.specs.code.LiteralReading.{IsOnlyLiteral}
 use Rattle.ckc_syntax.proofs.Fronts.{longest_take, longest_once}
 use Rattle.ckc_syntax.proofs.Pieces.{piece_once}
 

@@ -6,8 +6,8 @@ use Rattle.std.proofs.lemmas.Grind.{fold-append}
 use Rattle.ckc_lexer.specs.declared.items.Here.{Here}
 use Rattle.ckc_lexer.specs.Bytes.{is_feed, is_blank}
 use Rattle.ckc_lexer.specs.Places.{last_line, place_after, is_fresh_after}
-use Rattle.ckc_lexer.specs.Reading.{step, moved}
-use Rattle.ckc_lexer.specs.Reading.{start}
+use Rattle.ckc_lexer.specs.code.Reading.{step, moved}
+use Rattle.ckc_lexer.specs.code.Reading.{start}
 
 -- the place behind these bytes, and whether its line has only blanks
 unfoldable pub here_of : List ℕ → Here

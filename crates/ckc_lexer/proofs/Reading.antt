@@ -8,11 +8,11 @@ use Rattle.ckc_lexer.specs.declared.items.Item.TheVariants.{Gap, Token, Broken}
 use Rattle.ckc_lexer.specs.declared.items.Here.{Here}
 use Rattle.ckc_lexer.specs.Bytes.{is_feed, is_blank}
 use Rattle.ckc_syntax.specs.Longest.{Longest}
-use Rattle.ckc_lexer.specs.Reading.{step, moved}
+use Rattle.ckc_lexer.specs.code.Reading.{step, moved}
 use Rattle.ckc_lexer.specs.Spelling.{Spells}
 use Rattle.ckc_syntax.specs.Spelled.{Spelled, spelled}
 use Rattle.ckc_lexer.specs.Cut.{is_stdchecked}
-use Rattle.ckc_lexer.specs.Reading.{Outcome, context_at, pos_at, onto, Reads, ends, breaks, skips, takes, start}
+use Rattle.ckc_lexer.specs.code.Reading.{Outcome, context_at, pos_at, onto, Reads, ends, breaks, skips, takes, start}
 
 or_false : (b : Bool) → (b || false) ≡ b
 or_false true = refl

@@ -17,9 +17,9 @@ use Rattle.ckc_lexer.specs.Bytes.{class_of, is_blank, is_letter, is_mark, is_wor
 use Rattle.ckc_lexer.specs.Comments.{mark}
 use Rattle.ckc_lexer.specs.Cut.{is_stdchecked}
 use Rattle.ckc_lexer.specs.Directives.{IsDirective, IsDirectiveLine, HashCases}
-use Rattle.ckc_lexer.specs.DirectiveReading.{body_of, include_or_pragma}
+use Rattle.ckc_lexer.specs.code.DirectiveReading.{body_of, include_or_pragma}
 use Rattle.ckc_lexer.specs.Marks.{is_mark_text}
-use Rattle.ckc_lexer.specs.Reading.{Outcome, context_at, moved, onto, pos_at, Reads, ends, breaks, skips, takes}
+use Rattle.ckc_lexer.specs.code.Reading.{Outcome, context_at, moved, onto, pos_at, Reads, ends, breaks, skips, takes}
 use Rattle.ckc_lexer.specs.Spelling.{SpelledBy, Spells}
 use Rattle.ckc_lexer.specs.Words.{word_item}
 use Rattle.ckc_lexer.proofs.Ascii.{large_class}

@@ -1,15 +1,12 @@
 pub mod Bytes
 pub mod Comments
 pub mod Cut
-pub mod DirectiveReading
 pub mod Directives
-pub mod LiteralReading
 pub mod Literals
-pub mod Longest
 pub mod Marks
 pub mod Numbers
 pub mod Phase
 pub mod Places
-pub mod Reading
 pub mod Spelling
 pub mod Words
+pub mod code

@@ -1,7 +1,7 @@
 ghost use Rattle.std.specs.Prelude.{◌≡◌};
 ghost use Rattle.ckc_syntax.specs.Bytes.{is_digit};
 ghost use Rattle.ckc_lexer.specs.Bytes.{is_space, is_blank, is_letter, is_word_byte, is_mark, class_of};
-ghost use Rattle.ckc_lexer.specs.Longest.{IsRun};
+ghost use Rattle.ckc_lexer.specs.code.Longest.{IsRun};
 
 use ckc_syntax::is_digit;
 

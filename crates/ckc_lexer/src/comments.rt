@@ -1,7 +1,7 @@
 ghost use Rattle.std.specs.Prelude.{◌≡◌, ◌<◌, ◌≤◌, length, slice_index, not};
 ghost use Rattle.ckc_lexer.specs.Bytes.{is_feed};
 ghost use Rattle.ckc_syntax.specs.Longest.{Longest};
-ghost use Rattle.ckc_lexer.specs.Longest.{IsRun};
+ghost use Rattle.ckc_lexer.specs.code.Longest.{IsRun};
 ghost use Rattle.ckc_lexer.specs.Comments.{IsSlashItem};
 
 use crate::items::{Found, Item, OPEN_COMMENT};

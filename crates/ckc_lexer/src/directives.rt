@@ -4,7 +4,7 @@ ghost use Rattle.std.specs.Option.{option_copied};
 ghost use Rattle.ckc_syntax.specs.Longest.{Longest};
 ghost use Rattle.ckc_lexer.specs.Bytes.{is_space};
 ghost use Rattle.ckc_lexer.specs.Directives.{HashCases, DirectiveCases};
-ghost use Rattle.ckc_lexer.specs.DirectiveReading.{behind_spaces, behind_some_spaces, strip, header_of, scope_of, pragma_of, body_of, IsTrimmed};
+ghost use Rattle.ckc_lexer.specs.code.DirectiveReading.{behind_spaces, behind_some_spaces, strip, header_of, scope_of, pragma_of, body_of, IsTrimmed};
 
 use crate::bytes::is_space;
 use crate::comments::line_len;
@@ -115,7 +115,7 @@ fn strip<'a>(text: &'a [u8], word: &[u8]) -> Option<&'a [u8]>
     }
 }
 
-#[tactic(auto, unfolding(crate::specs::DirectiveReading::body_of, crate::specs::DirectiveReading::include_or_pragma))]
+#[tactic(auto, unfolding(crate::specs::code::DirectiveReading::body_of, crate::specs::code::DirectiveReading::include_or_pragma))]
 fn directive_of(line: &[u8]) -> Option<Directive>
     requires some { 0 < length line.now }
     ensures { result ≡ body_of (drop 1 line.now) }
@@ -134,7 +134,7 @@ fn pragma_at(text: &[u8]) -> Option<Directive>
     pragma_of(rest)
 }
 
-#[tactic(auto, unfolding(crate::specs::DirectiveReading::pragma_of))]
+#[tactic(auto, unfolding(crate::specs::code::DirectiveReading::pragma_of))]
 fn pragma_of(text: &[u8]) -> Option<Directive>
     ensures { result ≡ pragma_of text.now }
 {

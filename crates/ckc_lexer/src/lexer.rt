@@ -3,10 +3,10 @@ ghost use Rattle.ckc_base.specs.Phases.{Exact, viewed};
 ghost use Rattle.ckc_base.specs.Places.{longest_text};
 ghost use Rattle.ckc_syntax.specs.Longest.{Longest};
 ghost use Rattle.ckc_lexer.specs.Spelling.{Spells};
-ghost use Rattle.ckc_lexer.specs.Reading.{moved};
+ghost use Rattle.ckc_lexer.specs.code.Reading.{moved};
 ghost use Rattle.ckc_lexer.specs.Cut.{is_stdchecked};
 ghost use Rattle.ckc_lexer.specs.Phase.{lexing, tokens_in};
-ghost use Rattle.ckc_lexer.specs.Reading.{IsReading};
+ghost use Rattle.ckc_lexer.specs.code.Reading.{IsReading};
 ghost use Rattle.ckc_lexer.specs.Places.{place_after};
 
 use crate::bytes::{Class, class_of, is_blank};

@@ -4,8 +4,8 @@ ghost use Rattle.ckc_syntax.specs.Longest.{Longest, NoFront};
 ghost use Rattle.ckc_syntax.specs.Digits.{is_digit_in, value_in};
 ghost use Rattle.ckc_syntax.specs.Literals.{is_plain, simple_escape, IsPiece, IsDigitsAfter, IsEscape, IsLiteral};
 ghost use Rattle.ckc_lexer.specs.Literals.{CharacterCases, TextCases};
-ghost use Rattle.ckc_syntax.specs.DigitReading.{IsMostDigits};
-ghost use Rattle.ckc_lexer.specs.LiteralReading.{IsOnlyLiteral};
+ghost use Rattle.ckc_syntax.specs.code.DigitReading.{IsMostDigits};
+ghost use Rattle.ckc_lexer.specs.code.LiteralReading.{IsOnlyLiteral};
 
 use crate::items::{BAD_LITERAL, Found, Item};
 use ckc_syntax::{Piece, TokenKind, piece_at};

@@ -7,7 +7,7 @@ use Rattle.std.proofs.lemmas.Int.{ints}
 use Rattle.std.proofs.lemmas.List.{take_more, get_or-set_same, get_or-set_other}
 use Rattle.std.proofs.lemmas.List.Elements.{Contains-append_left, Contains-push, Contains-push_cases}
 use Rattle.ckc_linear.specs.declared.facts.Fact.{Fact}
-use Rattle.ckc_linear.specs.Rows.{IsRound, Lowers, none, sum_at}
+use Rattle.ckc_linear.specs.code.Rows.{IsRound, Lowers, none, sum_at}
 
 -- what one fact makes of a row
 record Step (f : Fact) (sums next after : List ℤ) : Type 0 where

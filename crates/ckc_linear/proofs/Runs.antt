@@ -9,7 +9,7 @@ use Rattle.std.proofs.lemmas.List.Elements.{filter-append, filter_more}
 use Rattle.std.proofs.lemmas.List.Filters.{FiltersInPlace, FiltersInPlace-more_no}
 use Rattle.ckc_linear.specs.declared.facts.Fact.{Fact}
 use Rattle.ckc_linear.specs.Facts.{names}
-use Rattle.ckc_linear.specs.Runs.{AllStay, AreOthers}
+use Rattle.ckc_linear.specs.code.Runs.{AllStay, AreOthers}
 
 -- ---- facts in front that stay
 

@@ -7,7 +7,7 @@ use Rattle.std.proofs.lemmas.List.Elements.{All-contains}
 use Rattle.ckc_linear.specs.declared.facts.Fact.{Fact}
 use Rattle.ckc_linear.specs.Facts.{IsInRange, IsWithin}
 use Rattle.ckc_linear.specs.Chains.{Leads, total}
-use Rattle.ckc_linear.specs.Rows.{IsRow, IsRound, IsSmall, none, sum_at}
+use Rattle.ckc_linear.specs.code.Rows.{IsRow, IsRound, IsSmall, none, sum_at}
 
 module _ (vars : ℕ) (facts : List Fact) (in_range : All (IsInRange vars) facts) where
   fact_in_range : (f : Fact) → Contains facts f → IsInRange vars f

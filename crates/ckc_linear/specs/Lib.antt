@@ -1,4 +1,3 @@
 pub mod Facts
 pub mod Chains
-pub mod Rows
-pub mod Runs
+pub mod code

@@ -3,7 +3,7 @@ ghost use Rattle.std.specs.Bool.{OnFalse};
 ghost use Rattle.std.specs.List.{All};
 ghost use Rattle.ckc_linear.specs.Facts.{IsWithin};
 ghost use Rattle.ckc_linear.specs.Chains.{Chain};
-ghost use Rattle.ckc_linear.specs.Rows.{IsRow, IsRound, IsSmall, Lowers, sum_at};
+ghost use Rattle.ckc_linear.specs.code.Rows.{IsRow, IsRound, IsSmall, Lowers, sum_at};
 
 use crate::{Fact, Facts};
 use ckc_counts::most_facts;

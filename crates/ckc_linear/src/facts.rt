@@ -1,7 +1,7 @@
 ghost use Rattle.std.specs.Prelude.{◌≡◌, ◌≤◌, ◌<◌, ◌^◌, [], ◌∷◌, ◌++◌, map, not, length, take, OnOk, OnErr};
 ghost use Rattle.std.specs.List.{All, filter};
 ghost use Rattle.ckc_linear.specs.Facts.{IsInRange, IsWithin, names, shifted};
-ghost use Rattle.ckc_linear.specs.Runs.{AllStay, AreOthers};
+ghost use Rattle.ckc_linear.specs.code.Runs.{AllStay, AreOthers};
 ghost use Rattle.std.specs.Bool.{OnFalse};
 
 use ckc_base::Seq;

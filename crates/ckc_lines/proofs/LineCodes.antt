@@ -9,7 +9,7 @@ use Rattle.ckc_rv.specs.Effects.{moved}
 use Rattle.ckc_lines.specs.declared.lines.Line.{Line}
 use Rattle.ckc_lines.specs.declared.lines.Line.TheVariants.{Jump, Branch}
 use Rattle.ckc_lines.specs.Assembled.{distance, IsWord, IsFar}
-use Rattle.ckc_lines.specs.Places.{Encodes}
+use Rattle.ckc_lines.specs.code.Places.{Encodes}
 
 pub on_ok : {T E : Type 0} (r : Result T E) (P Q : Type 0) → (P → Q) → OnOk r P → OnOk r Q
 on_ok (Ok x) P Q f h = f h

@@ -10,7 +10,7 @@ use Rattle.ckc_lines.specs.declared.lines.Line.{Line}
 use Rattle.ckc_lines.specs.declared.lines.Line.TheVariants.{Label, Plain, Jump, Branch, Far}
 use Rattle.ckc_lines.specs.Assembled.{size_of, offset_of, address_of, is_label, StandsAt, StandsOnce, IsCode, bytes_at, Assembled, CanStand, CanAssemble}
 use Rattle.ckc_image.specs.Image.{IsProper}
-use Rattle.ckc_lines.specs.Places.{KnowsPlaces, Knows, Encodes, IsCodeBelow, CanEncode}
+use Rattle.ckc_lines.specs.code.Places.{KnowsPlaces, Knows, Encodes, IsCodeBelow, CanEncode}
 use Rattle.ckc_lines.proofs.Cases.{bool_cases}
 
 pub offset_more : (lines : List Line) (k : ℕ) (line : Line) → slice_get lines k ≡ Some line → offset_of lines (k + 1) ≡ offset_of lines k + size_of line

@@ -1,2 +1,2 @@
 pub mod Assembled
-pub mod Places
+pub mod code

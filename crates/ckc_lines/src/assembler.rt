@@ -3,7 +3,7 @@ ghost use Rattle.indexmap.specs.IndexMap.{get};
 ghost use Rattle.ckc_rv.specs.Table.{InRange, IsOffset};
 ghost use Rattle.ckc_lines.specs.declared.lines.Line.{Line};
 ghost use Rattle.ckc_lines.specs.Assembled.{size_of, address_of, distance, IsWord, IsFar, Assembled, CanAssemble};
-ghost use Rattle.ckc_lines.specs.Places.{KnowsPlaces, CanEncode, Encodes, IsCodeBelow};
+ghost use Rattle.ckc_lines.specs.code.Places.{KnowsPlaces, CanEncode, Encodes, IsCodeBelow};
 
 use crate::lines::{Labelled, Line};
 use crate::places::{CODE, places_of, size, target_of};

@@ -1,7 +1,7 @@
 ghost use Rattle.std.specs.Prelude.{◌≡◌, ◌≤◌, length, nat_eq, Some, IsSome, IfOk, sum_by};
 ghost use Rattle.indexmap.specs.IndexMap.{get};
 ghost use Rattle.ckc_lines.specs.Assembled.{size_of};
-ghost use Rattle.ckc_lines.specs.Places.{KnowsPlaces};
+ghost use Rattle.ckc_lines.specs.code.Places.{KnowsPlaces};
 
 use crate::lines::Line;
 use indexmap::IndexMap;

@@ -18,7 +18,7 @@ use Rattle.ckc_rv.proofs.Rows.{decoded_law}
 use Rattle.ckc_listing.specs.Listing.{text_of, instr_or_word, word_line, data_line, word_lines, data_lines, entry_text, listing}
 use Rattle.ckc_asm.specs.Cut.{lines_of}
 use Rattle.ckc_asm.specs.Items.{Statement, item}
-use Rattle.ckc_asm.specs.Found.{reading}
+use Rattle.ckc_asm.specs.code.Found.{reading}
 use Rattle.ckc_image.specs.Image.{word_bytes, IsProper, four_at, word_at}
 use Rattle.ckc_asm.specs.Program.{width_of, size_of, offset_of, address_of, IsBytes, IsValue, IsWordOf, data_bytes, IsEntry, IsImage, AreSingle, AsmOf, bytes_at, IsEntryOf, no_place, of_word, there}
 use Rattle.ckc_asm.proofs.Grammatical.{lines_found}

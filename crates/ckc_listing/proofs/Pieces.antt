@@ -8,7 +8,8 @@ use Rattle.std.proofs.Math.Seq.{take-append-add}
 use Rattle.ckc_outside.specs.declared.traits.Failed.{Failed}
 use Rattle.ckc_outside.specs.Outside.{Rose, Puts, SeenSink, one_more}
 use Rattle.ckc_listing.specs.Listing.{text_of, ended}
-use Rattle.ckc_listing.specs.Putting.{many_more, PutsPieces, HasPut, HasFailed, PutsLines}
+use Rattle.ckc_listing.specs.Putting.{many_more, PutsPieces}
+use Rattle.ckc_listing.specs.code.Putting.{HasPut, HasFailed, PutsLines}
 
 no_more : (n : ℕ) → many_more 0 n ≡ n
 unfolding many_more

@@ -22,10 +22,10 @@ use Rattle.ckc_asm.specs.declared.items.Operand.TheVariants.{Nothing, Number, Na
 use Rattle.ckc_asm.specs.Cut.{goes_on}
 use Rattle.ckc_asm.specs.Names.{branch_name, load_name, store_name, imm_name, reg_name, register, hex, hexadecimal}
 use Rattle.ckc_listing.specs.Listing.{two, from_register, named, instr_text, data_text, entry_text}
-use Rattle.ckc_asm.specs.Numerals.{number_of}
+use Rattle.ckc_asm.specs.code.Numerals.{number_of}
 use Rattle.ckc_asm.specs.Spelled.{is_name}
 use Rattle.ckc_asm.specs.Items.{item}
-use Rattle.ckc_asm.specs.Found.{item_of, item_with, kind_of, bytes_of}
+use Rattle.ckc_asm.specs.code.Found.{item_of, item_with, kind_of, bytes_of}
 use Rattle.ckc_asm.specs.Program.{width_of, IsWordOf, data_bytes, IsEntry}
 use Rattle.ckc_asm.proofs.Words.{IsRun, Shows, Reads, is_plain, second_is_colon, no_colon_run, reads_item, shows_end, shows_blank, shows_run, shows_last, shows_two, shows_named, shows_three, shows_base}
 use Rattle.ckc_asm.proofs.KindNames.{branch_kind, load_kind, store_kind, imm_kind, reg_kind}

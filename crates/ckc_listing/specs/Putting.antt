@@ -1,8 +1,7 @@
 -- What putting lines on a sink leaves, one piece for each line.
-use Rattle.std.specs.Prelude.{◌≡◌, ℕ, zero, suc, ◌≤◌, List, ◌++◌, length, take, Some, Result, Ok, Err}
+use Rattle.std.specs.Prelude.{◌≡◌, ℕ, zero, suc, ◌≤◌, Result, Ok, Err}
 use Rattle.ckc_outside.specs.declared.traits.Failed.{Failed}
-use Rattle.ckc_outside.specs.Outside.{Rose, SeenSink, one_more}
-use Rattle.ckc_listing.specs.Listing.{text_of}
+use Rattle.ckc_outside.specs.Outside.{one_more}
 
 -- a count of pieces after so many more
 unfoldable pub many_more : ℕ → ℕ → ℕ
@@ -13,20 +12,3 @@ many_more (suc count) n = one_more (many_more count n)
 abbrev pub PutsPieces : ℕ → Result (Unit {0}) Failed → ℕ → ℕ → Type 0
 PutsPieces count (Ok done) old new = new ≡ many_more count old
 PutsPieces count (Err failed) old new = (k : ℕ) × (k ≤ count) × (new ≡ many_more k old)
-
--- all lines were put
-pub record HasPut (lines : List (List ℕ)) (old new : SeenSink) : Type 0 where
-  pub counts : old.faults ≤ new.faults
-  pub told : (bytes : List ℕ) → old.written ≡ Some bytes → new.written ≡ Some (bytes ++ text_of lines)
-  pub pieces : new.puts ≡ many_more (length lines) old.puts
-
--- one of them failed
-pub record HasFailed (lines : List (List ℕ)) (old new : SeenSink) : Type 0 where
-  pub counts : old.faults ≤ new.faults
-  pub rose : Rose old.faults new.faults
-  pub told : (bytes : List ℕ) → old.written ≡ Some bytes → (k : ℕ) × (new.written ≡ Some (bytes ++ take k (text_of lines)))
-  pub pieces : (k : ℕ) × (k ≤ length lines) × (new.puts ≡ many_more k old.puts)
-
-abbrev pub PutsLines : List (List ℕ) → Result (Unit {0}) Failed → SeenSink → SeenSink → Type 0
-PutsLines lines (Ok done) old new = HasPut lines old new
-PutsLines lines (Err failed) old new = HasFailed lines old new

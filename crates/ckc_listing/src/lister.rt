@@ -3,7 +3,8 @@ ghost use Rattle.ckc_outside.specs.Outside.{Rose, Puts};
 ghost use Rattle.ckc_image.specs.Image.{IsProper, word_at};
 ghost use Rattle.ckc_listing.specs.Listing.{entry_text, word_lines, data_lines, listing_lines, listing, ended};
 ghost use Rattle.ckc_asm.specs.Program.{AsmOf};
-ghost use Rattle.ckc_listing.specs.Putting.{PutsLines, PutsPieces};
+ghost use Rattle.ckc_listing.specs.Putting.{PutsPieces};
+ghost use Rattle.ckc_listing.specs.code.Putting.{PutsLines};
 
 use crate::text_line::TextLine;
 use crate::texts::{data_line, entry_line, word_line};

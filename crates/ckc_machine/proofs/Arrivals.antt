@@ -13,7 +13,8 @@ use Rattle.ckc_machine.specs.declared.observed.Observed.{Observed}
 use Rattle.ckc_machine.specs.declared.observed.Observed.TheVariants.{Ended, Stopped, Going, Fault, ReadFault, WriteFault}
 use Rattle.ckc_machine.specs.declared.machine.Machine.{Machine}
 use Rattle.ckc_machine.specs.Points.{state_at, since, taken}
-use Rattle.ckc_machine.specs.Runs.{Says, answer_of, state_of, IsAt, AsksFor, IsFed, AsksNothing, ArePuts, Printed, PrintedFront, Took, Arrives, FailsToGet, FailsToPut, Runs}
+use Rattle.ckc_machine.specs.Runs.{Says, answer_of, state_of, IsAt, AsksFor, AsksNothing, ArePuts, Printed, PrintedFront, Took, Arrives, FailsToGet, FailsToPut, Runs}
+use Rattle.ckc_machine.specs.code.Runs.{IsFed}
 use Rattle.ckc_machine.proofs.Turning.{asks_step}
 use Rattle.ckc_machine.proofs.Points.{goes_on, halts_then, next_goes, next_halts, stays, halted, going_or_not, since_self, since_joins, since_goes, since_halts, since_stays, takes}
 

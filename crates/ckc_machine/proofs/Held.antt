@@ -11,7 +11,8 @@ use Rattle.ckc_operations.specs.declared.operations.StoreOp.{StoreOp}
 use Rattle.ckc_operations.specs.declared.operations.StoreOp.TheVariants.{Sb, Sh, Sw}
 use Rattle.ckc_rv.specs.Effects.{load_bytes, store_bytes}
 use Rattle.ckc_rv.proofs.Stored.{stored_inside, stored_outside}
-use Rattle.ckc_machine.specs.Bytes.{byte_of, byte_in, stack_byte, part_of, held, Holds, IsUnmapped, IsChanged, IsMerged}
+use Rattle.ckc_machine.specs.Bytes.{byte_of, byte_in, stack_byte, held}
+use Rattle.ckc_machine.specs.code.Bytes.{part_of, Holds, IsUnmapped, IsChanged, IsMerged}
 
 -- what holds of 0, 1, 2 and 3 holds of each number below 4
 pub below_4 : (P : ℕ → Type 0) → P 0 → P 1 → P 2 → P 3 → (i : ℕ) → i < 4 → P i

@@ -9,7 +9,7 @@ use Rattle.ckc_machine.specs.declared.machine.Machine.{Machine}
 use Rattle.ckc_machine.specs.declared.machine.Turn.TheVariants as turn
 use Rattle.ckc_machine.specs.Points.{state_at}
 use Rattle.ckc_machine.specs.Runs.{IsAt, Runs, AsksFor, answer_of, state_of}
-use Rattle.ckc_machine.specs.Turns.{Turns}
+use Rattle.ckc_machine.specs.code.Turns.{Turns}
 use Rattle.ckc_machine.proofs.Arrivals.{arrives_going, arrives_halting, printed_none, runs_arriving, runs_going}
 
 -- the instruction that asks is the one that comes next

@@ -12,7 +12,7 @@ use Rattle.ckc_base.specs.Checks.{check_with}
 use Rattle.ckc_machine.specs.declared.machine.Turn.{Turn}
 use Rattle.ckc_machine.specs.declared.machine.Turn.TheVariants as turn
 use Rattle.ckc_machine.specs.Runs.{AsksFor}
-use Rattle.ckc_machine.specs.Turns.{Turns, TurnsBy}
+use Rattle.ckc_machine.specs.code.Turns.{Turns, TurnsBy}
 
 -- ---- the environment call
 

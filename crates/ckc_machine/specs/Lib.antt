@@ -2,4 +2,4 @@ pub mod Bytes
 pub mod Memories
 pub mod Points
 pub mod Runs
-pub mod Turns
+pub mod code

@@ -1,5 +1,5 @@
 -- What a machine is, and what a run of it does.
-use Rattle.std.specs.Prelude.{◌≡◌, ℕ, suc, ◌+◌, ◌≤◌, ◌<◌, true, List, [], ◌∷◌, length, ◌⊎◌, Option, Some, option_and_then}
+use Rattle.std.specs.Prelude.{◌≡◌, ℕ, suc, ◌+◌, ◌≤◌, ◌<◌, true, List, [], ◌∷◌, length, Option, Some, option_and_then}
 use Rattle.ckc_base.specs.Traces.{Event, Got, Put, Standing, output}
 use Rattle.ckc_base.specs.Traces as standings
 use Rattle.ckc_outside.specs.Outside.{Rose}
@@ -66,10 +66,6 @@ abbrev pub ArePuts : List Event → Type 0
 ArePuts [] = Unit {0}
 ArePuts (Put byte ∷ trace) = ArePuts trace
 ArePuts (Got byte ∷ trace) = ⊥
-
--- What is left before and after is what the source tells; or nothing is asked for, and it is the same.
-abbrev pub IsFed : Option (List ℕ) → Option (List ℕ) → Type 0 → Option (List ℕ) → Option (List ℕ) → Type 0
-IsFed told told' silent left left' = ((left ≡ told) × (left' ≡ told')) ⊎ (silent × (left' ≡ left))
 
 -- The run went on to limit instructions more: the machine is there, and what was put and taken is what came since.
 pub record Arrives (parts : Parts) (input : List ℕ) (k limit : ℕ) (m : Machine) (left left' written written' : Option (List ℕ)) : Type 0 where

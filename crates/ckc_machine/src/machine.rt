@@ -37,9 +37,10 @@ impl<'a> Machine<'a> {
     ghost use Rattle.ckc_rv.specs.declared.registers.Outcome.TheVariants as outcome;
     ghost use Rattle.ckc_rv.specs.Machine.{Parts, by_outcome, calls, stops, register, with_register, next_with, stored, data_start, memory_end};
     ghost use Rattle.ckc_machine.specs.Points.{state_at};
-    ghost use Rattle.ckc_machine.specs.Runs.{IsAt, AsksFor, AsksNothing, IsFed, OverAny, Runs, answer_of, state_of};
+    ghost use Rattle.ckc_machine.specs.Runs.{IsAt, AsksFor, AsksNothing, OverAny, Runs, answer_of, state_of};
+    ghost use Rattle.ckc_machine.specs.code.Runs.{IsFed};
     ghost use Rattle.ckc_rv.specs.Outcomes.{NamesRegister};
-    ghost use Rattle.ckc_machine.specs.Turns.{Turns, TurnsBy};
+    ghost use Rattle.ckc_machine.specs.code.Turns.{Turns, TurnsBy};
 
     /// The machine of an image before its first instruction. It takes all the memory that the machine needs.
     pub fn load(alloc: Global, view: View<'a>) -> Result<Machine<'a>, AllocError>

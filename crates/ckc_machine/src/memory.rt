@@ -1,5 +1,6 @@
 ghost use Rattle.std.specs.Prelude.{◌≡◌, IfOk, ℕ, ◌+◌, ◌-◌, ◌*◌, ◌/◌, ◌%◌, ◌^◌, ◌<◌, ◌≤◌, length, slice_index, vec_len};
-ghost use Rattle.ckc_machine.specs.Bytes.{byte_of, byte_in, part_of, IsMerged};
+ghost use Rattle.ckc_machine.specs.Bytes.{byte_of, byte_in};
+ghost use Rattle.ckc_machine.specs.code.Bytes.{part_of, IsMerged};
 ghost use Rattle.ckc_rv.specs.Machine.{is_writable as is_writable_address};
 ghost use Rattle.ckc_rv.specs.Effects.{load_bytes, load_value, store_bytes};
 
@@ -71,7 +72,7 @@ impl<'a> Memory<'a> {
     ghost use Rattle.std.specs.Prelude.{◌≡◌, ◌<◌, ◌≤◌, ◌%◌, MatchOption, true, false, IfOk};
     ghost use Rattle.std.specs.Option.{option_map};
     ghost use Rattle.ckc_rv.specs.Machine.{Parts, flat, is_code, loaded, stored, is_writable, code_start, data_start, stack_start, memory_end};
-    ghost use Rattle.ckc_machine.specs.Bytes.{Holds, IsUnmapped, IsChanged};
+    ghost use Rattle.ckc_machine.specs.code.Bytes.{Holds, IsUnmapped, IsChanged};
     ghost use Rattle.ckc_machine.specs.Memories.{memory_of};
 
     /// The memory of the code, with the first bytes of the data region; all other bytes of the two regions are 0.

@@ -6,11 +6,11 @@ use Rattle.ckc_grammar.specs.Derives.{Sign}
 use Rattle.ckc_grammar.specs.declared.parts.Stop.{Stop}
 use Rattle.ckc_grammar.specs.declared.parts.Stop.TheVariants as stop
 use Rattle.ckc_grammar.specs.Marked.{Halts, Answered}
-use Rattle.ckc_parser.specs.Parts.{IsMemory, Made}
+use Rattle.ckc_parser.specs.code.Parts.{IsMemory, HoldsOrMemory}
 use Rattle.ckc_expressions.proofs.Exits.{exit}
 
 -- What is made of all parts, is the outcome of the function; and want of memory is.
-pub finished : {X : Type 0} (G H : X → Type 0) (ss : List Symbol) (a b : List Sign) (r : Result X Stop) → ((x : X) → G x → H x) → Made G r → Answered H ss a r b
+pub finished : {X : Type 0} (G H : X → Type 0) (ss : List Symbol) (a b : List Sign) (r : Result X Stop) → ((x : X) → G x → H x) → HoldsOrMemory G r → Answered H ss a r b
 finished G H ss a b (Ok x) f m = f x m
 finished G H ss a b (Err stop.Memory) f m = tt
 finished G H ss a b (Err stop.Syntax) f m = absurd m

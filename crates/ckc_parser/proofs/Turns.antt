@@ -9,8 +9,9 @@ use Rattle.ckc_grammar.specs.Trees.{Item}
 use Rattle.ckc_grammar.specs.Values.{Value, made, as_items}
 use Rattle.ckc_grammar.specs.Derives.{Sign}
 use Rattle.ckc_grammar.specs.Reading.{kind_of, pick, Takes, Stops}
-use Rattle.ckc_grammar.specs.Marked.{Answered, Reads}
-use Rattle.ckc_parser.specs.Turns.{IsItem}
+use Rattle.ckc_grammar.specs.Marked.{Answered}
+use Rattle.ckc_grammar.specs.code.Marked.{Reads}
+use Rattle.ckc_parser.specs.code.Turns.{IsItem}
 use Rattle.ckc_grammar.proofs.Steps.{here_all, stop_rule, turned}
 
 -- one item of a text, by a production that the next token chooses

@@ -1,4 +1,3 @@
-pub mod Parts
 pub mod Phase
 pub mod Text
-pub mod Turns
+pub mod code

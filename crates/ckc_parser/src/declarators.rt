@@ -5,8 +5,9 @@ ghost use Rattle.ckc_syntax.specs.declared.tree.Length.TheVariants as lengths;
 ghost use Rattle.ckc_grammar.specs.Grammar as g;
 ghost use Rattle.ckc_grammar.specs.Trees as trees;
 ghost use Rattle.ckc_grammar.specs.Values as v;
-ghost use Rattle.ckc_grammar.specs.Marked.{ahead, remaining, Gives, Reads};
-ghost use Rattle.ckc_parser.specs.Parts.{Made, Named, Puts};
+ghost use Rattle.ckc_grammar.specs.Marked.{ahead, remaining, Gives};
+ghost use Rattle.ckc_grammar.specs.code.Marked.{Reads};
+ghost use Rattle.ckc_parser.specs.code.Parts.{HoldsOrMemory, ReadsStarsAndName, Puts};
 
 use crate::lists::{Declarations, Items, Statements, put_local, put_slot, put_static};
 use ckc_expressions::{array, base, declared_limits, initial, local_initial, starred};
@@ -26,7 +27,7 @@ fn declaration_of<'a>(
     bounds: Option<Bounds<'a>>,
     init: Init<Spelling<'a>, ()>,
 ) -> Result<Declaration<'a>, Stop>
-    ensures { Made
+    ensures { HoldsOrMemory
         (λ whole. v.declared ctype.entry (spelled name.entry) lengths.Plain bounds.entry init.entry
         ≡ whole) result }
 {
@@ -42,7 +43,7 @@ pub fn named_type<'a>(
     alloc: Global,
     base: &CType<'a>,
 ) -> Result<(CType<'a>, Token<'a>), Stop>
-    ensures reads { Named base.now (ahead reader.old) result (ahead reader.new) }
+    ensures reads { ReadsStarsAndName base.now (ahead reader.old) result (ahead reader.new) }
     ensures fewer { remaining reader.new ≤ remaining reader.old }
 {
     let copy = copied(alloc, base.get())?;

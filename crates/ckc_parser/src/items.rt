@@ -4,10 +4,11 @@ ghost use Rattle.ckc_grammar.specs.Grammar as g;
 ghost use Rattle.ckc_grammar.specs.Trees as trees;
 ghost use Rattle.ckc_grammar.specs.Values as v;
 ghost use Rattle.ckc_grammar.specs.Forms.{has_more};
-ghost use Rattle.ckc_parser.specs.Parts.{Braced, Puts};
-ghost use Rattle.ckc_parser.specs.Turns.{IsItem};
+ghost use Rattle.ckc_parser.specs.code.Parts.{PutsMembers, Puts};
+ghost use Rattle.ckc_parser.specs.code.Turns.{IsItem};
 ghost use Rattle.ckc_grammar.specs.Reading.{kind_of};
-ghost use Rattle.ckc_grammar.specs.Marked.{ahead, remaining, Answered, Gives, Reads};
+ghost use Rattle.ckc_grammar.specs.Marked.{ahead, remaining, Answered, Gives};
+ghost use Rattle.ckc_grammar.specs.code.Marked.{Reads};
 
 use crate::declarators::{member, members, named_type, object_rest, objects, params};
 use crate::lists::{
@@ -124,7 +125,7 @@ fn braced<'a>(
     alloc: Global,
     all: &mut Declarations<'a>,
 ) -> Result<(), Stop>
-    ensures reads { Braced all.old (ahead reader.old) result all.new (ahead reader.new) }
+    ensures reads { PutsMembers all.old (ahead reader.old) result all.new (ahead reader.new) }
 {
     reader.skip(Kind::CurlyOpen)?;
     member(reader, alloc, all)?;

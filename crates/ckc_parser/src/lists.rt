@@ -5,7 +5,7 @@ ghost use Rattle.ckc_syntax.specs.declared.tree.Length.TheVariants as lengths;
 ghost use Rattle.ckc_syntax.specs.declared.tree.Init.TheVariants as inits;
 ghost use Rattle.ckc_grammar.specs.Trees as trees;
 ghost use Rattle.ckc_grammar.specs.Values as v;
-ghost use Rattle.ckc_parser.specs.Parts.{Made};
+ghost use Rattle.ckc_parser.specs.code.Parts.{HoldsOrMemory};
 
 use ckc_base::{Boxed, Seq};
 use ckc_grammar::{
@@ -34,7 +34,7 @@ fn put_item<'a>(
     all: &mut Items<'a>,
     item: Item<Spelling<'a>, ()>,
 ) -> Result<(), Stop>
-    ensures { Made (λ x. all.old ++ item.entry ∷ [] ≡ all.new) result }
+    ensures { HoldsOrMemory (λ x. all.old ++ item.entry ∷ [] ≡ all.new) result }
 {
     match all.push(item) {
         Ok(()) => Ok(()),
@@ -48,7 +48,7 @@ pub fn put_directive<'a>(
     all: &mut Items<'a>,
     token: Token<'a>,
 ) -> Result<(), Stop>
-    ensures { Made (λ x. all.old ++ item.Directive (v.directive_of token.entry.kind) ∷ [] ≡ all.new)
+    ensures { HoldsOrMemory (λ x. all.old ++ item.Directive (v.directive_of token.entry.kind) ∷ [] ≡ all.new)
         result }
 {
     put_item(reader, all, Item::Directive(directive_of(token.kind)))
@@ -56,7 +56,7 @@ pub fn put_directive<'a>(
 
 /// Puts a structure without members.
 pub fn put_tag<'a>(reader: &Reader<'a>, all: &mut Items<'a>, name: Token<'a>) -> Result<(), Stop>
-    ensures { Made
+    ensures { HoldsOrMemory
         (λ x. all.old ++ item.Tag (spelled name.entry).text name.entry.pos ∷ [] ≡ all.new) result }
 {
     put_item(reader, all, Item::Tag(Spelling::new(name.text), name.pos))
@@ -69,7 +69,7 @@ pub fn put_struct<'a>(
     name: Token<'a>,
     members: Declarations<'a>,
 ) -> Result<(), Stop>
-    ensures { Made
+    ensures { HoldsOrMemory
         (λ x. all.old ++ item.Struct (spelled name.entry).text members.entry name.entry.pos ∷ []
         ≡ all.new) result }
 {
@@ -88,7 +88,7 @@ pub fn put_static<'a>(
     bounds: Option<Bounds<'a>>,
     init: Init<Spelling<'a>, ()>,
 ) -> Result<(), Stop>
-    ensures { Made
+    ensures { HoldsOrMemory
         (λ x. all.old ++ item.Static
         (v.declared ctype.entry (spelled name.entry) length bounds.entry init.entry) ∷ []
         ≡ all.new) result }
@@ -108,7 +108,7 @@ pub fn put_slot<'a>(
     name: Token<'a>,
     bounds: Option<Bounds<'a>>,
 ) -> Result<(), Stop>
-    ensures { Made
+    ensures { HoldsOrMemory
         (λ x. all.old ++ v.declared ctype.entry (spelled name.entry) lengths.Plain bounds.entry
         inits.Nothing ∷ [] ≡ all.new) result }
 {
@@ -123,7 +123,7 @@ fn put_declaration<'a>(
     all: &mut Declarations<'a>,
     whole: Declaration<'a>,
 ) -> Result<(), Stop>
-    ensures { Made (λ x. all.old ++ whole.entry ∷ [] ≡ all.new) result }
+    ensures { HoldsOrMemory (λ x. all.old ++ whole.entry ∷ [] ≡ all.new) result }
 {
     match all.push(whole.into_inner()) {
         Ok(()) => Ok(()),
@@ -137,7 +137,7 @@ pub fn put_prototype<'a>(
     all: &mut Items<'a>,
     head: Heading<'a>,
 ) -> Result<(), Stop>
-    ensures { Made (λ x. all.old ++ item.Proto head.entry ∷ [] ≡ all.new) result }
+    ensures { HoldsOrMemory (λ x. all.old ++ item.Proto head.entry ∷ [] ≡ all.new) result }
 {
     put_item(reader, all, Item::Proto(head))
 }
@@ -149,7 +149,7 @@ pub fn put_function<'a>(
     head: Heading<'a>,
     body: Statement<'a>,
 ) -> Result<(), Stop>
-    ensures { Made (λ x. all.old ++ item.Function head.entry body.entry ∷ [] ≡ all.new) result }
+    ensures { HoldsOrMemory (λ x. all.old ++ item.Function head.entry body.entry ∷ [] ≡ all.new) result }
 {
     put_item(reader, all, Item::Function(head, body))
 }
@@ -159,7 +159,7 @@ fn put_stmt<'a>(
     all: &mut Statements<'a>,
     item: Stmt<Spelling<'a>, ()>,
 ) -> Result<(), Stop>
-    ensures { Made (λ x. all.old ++ item.entry ∷ [] ≡ all.new) result }
+    ensures { HoldsOrMemory (λ x. all.old ++ item.entry ∷ [] ≡ all.new) result }
 {
     match all.push(item) {
         Ok(()) => Ok(()),
@@ -173,7 +173,7 @@ pub fn put_statement<'a>(
     all: &mut Statements<'a>,
     item: Statement<'a>,
 ) -> Result<(), Stop>
-    ensures { Made (λ x. all.old ++ item.entry ∷ [] ≡ all.new) result }
+    ensures { HoldsOrMemory (λ x. all.old ++ item.entry ∷ [] ≡ all.new) result }
 {
     put_stmt(reader, all, item.into_inner())
 }
@@ -184,7 +184,7 @@ pub fn put_local<'a>(
     all: &mut Statements<'a>,
     declaration: Declaration<'a>,
 ) -> Result<(), Stop>
-    ensures { Made (λ x. all.old ++ trees.local_of declaration.entry ∷ [] ≡ all.new) result }
+    ensures { HoldsOrMemory (λ x. all.old ++ trees.local_of declaration.entry ∷ [] ≡ all.new) result }
 {
     put_stmt(reader, all, local_of(declaration))
 }

@@ -3,8 +3,9 @@ ghost use Rattle.ckc_syntax.specs.Spelled.{spelled};
 ghost use Rattle.ckc_grammar.specs.Grammar as g;
 ghost use Rattle.ckc_grammar.specs.Trees as trees;
 ghost use Rattle.ckc_grammar.specs.Values as v;
-ghost use Rattle.ckc_grammar.specs.Marked.{ahead, remaining, Gives, Reads};
-ghost use Rattle.ckc_parser.specs.Parts.{Made, Puts, Assigned, AssignPut, Bundled, Blocked};
+ghost use Rattle.ckc_grammar.specs.Marked.{ahead, remaining, Gives};
+ghost use Rattle.ckc_grammar.specs.code.Marked.{Reads};
+ghost use Rattle.ckc_parser.specs.code.Parts.{HoldsOrMemory, Puts, ReadsAssignment, PutsAssignment, PutsBundle, ReadsBlock};
 ghost use Rattle.ckc_syntax.specs.declared.tree.Act.TheVariants as act;
 
 use crate::declarators::{local, locals};
@@ -64,7 +65,7 @@ fn moded_block<'a>(reader: &mut Reader<'a>, alloc: Global) -> Result<Statement<'
 /// A block (ISO C11, 6.8.2).
 #[cycle(stmt)]
 pub fn block<'a>(reader: &mut Reader<'a>, alloc: Global) -> Result<Statement<'a>, Stop>
-    ensures reads { Blocked (ahead reader.old) result (ahead reader.new) }
+    ensures reads { ReadsBlock (ahead reader.old) result (ahead reader.new) }
     ensures fewer { remaining reader.new ≤ remaining reader.old }
 {
     let open = reader.take(Kind::CurlyOpen)?;
@@ -218,7 +219,7 @@ fn assigned<'a>(
     alloc: Global,
     target: Expression<'a>,
 ) -> Result<Statement<'a>, Stop>
-    ensures reads { Assigned target.entry (ahead reader.old) result (ahead reader.new) }
+    ensures reads { ReadsAssignment target.entry (ahead reader.old) result (ahead reader.new) }
     ensures fewer { remaining reader.new ≤ remaining reader.old }
 {
     let equals = reader.take(Kind::Equals)?;
@@ -250,7 +251,7 @@ fn statement_at<'a>(
     body: Act<Spelling<'a>, ()>,
     pos: Pos,
 ) -> Result<Statement<'a>, Stop>
-    ensures { Made (λ whole. trees.stmt_at body.entry pos ≡ whole) result }
+    ensures { HoldsOrMemory (λ whole. trees.stmt_at body.entry pos ≡ whole) result }
 {
     match statement(alloc, body, pos) {
         Ok(whole) => Ok(whole),
@@ -408,7 +409,7 @@ fn local_statement<'a>(
     alloc: Global,
     declaration: Declaration<'a>,
 ) -> Result<Option<Statement<'a>>, Stop>
-    ensures { Made (λ whole. Some (trees.local_of declaration.entry) ≡ whole) result }
+    ensures { HoldsOrMemory (λ whole. Some (trees.local_of declaration.entry) ≡ whole) result }
 {
     let pos = declaration.get().pos;
     match statement_at(reader, alloc, Act::Local(declaration), pos) {
@@ -445,7 +446,7 @@ fn bundle<'a>(reader: &mut Reader<'a>, alloc: Global) -> Result<Statement<'a>, S
 
 /// The assignments of a bundle, in their brackets.
 fn bundled<'a>(reader: &mut Reader<'a>, alloc: Global, all: &mut Statements<'a>) -> Result<(), Stop>
-    ensures reads { Bundled all.old (ahead reader.old) result all.new (ahead reader.new) }
+    ensures reads { PutsBundle all.old (ahead reader.old) result all.new (ahead reader.new) }
     ensures fewer { remaining reader.new ≤ remaining reader.old }
 {
     let open = reader.take(Kind::CurlyOpen)?;
@@ -460,7 +461,7 @@ fn one_assign<'a>(
     alloc: Global,
     all: &mut Statements<'a>,
 ) -> Result<(), Stop>
-    ensures reads { AssignPut all.old (ahead reader.old) result all.new (ahead reader.new) }
+    ensures reads { PutsAssignment all.old (ahead reader.old) result all.new (ahead reader.new) }
     ensures fewer { remaining reader.new ≤ remaining reader.old }
 {
     let item = assign(reader, alloc)?;

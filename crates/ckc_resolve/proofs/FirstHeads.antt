@@ -9,7 +9,7 @@ use Rattle.ckc_resolve.specs.Spellings.{Spelling}
 use Rattle.ckc_resolve.specs.Trees.{Item, Head, Stmt}
 use Rattle.ckc_resolve.specs.Same.{same_head}
 use Rattle.ckc_resolve.specs.Items.{head_or, first_head, is_same}
-use Rattle.ckc_resolve.specs.Bodies.{HasFirstHeads}
+use Rattle.ckc_resolve.specs.code.Bodies.{HasFirstHeads}
 
 -- the item before those that were put
 pub before : (all : List Item) (k : ℕ) (i : Item) → k < length all → i ≡ get_or all (length all - 1 - k) i → drop (length all - (k + 1)) all ≡ i ∷ drop (length all - k) all

@@ -11,6 +11,6 @@ pub mod Statements
 pub mod Heads
 pub mod Same
 pub mod Items
-pub mod Bodies
 pub mod Main
 pub mod Phase
+pub mod code

@@ -3,7 +3,7 @@
 ghost use Rattle.std.specs.Prelude.{◌≡◌, Ok, IfOk};
 ghost use Rattle.ckc_base.specs.Outcomes.{AnswersOutcome, StepsOutcome};
 ghost use Rattle.ckc_resolve.specs.Items.{is_taken_static, is_taken_function, first_head, is_same, if_defined, structure_named, static_named, proto_named, function_named, item_named, item_in_turn, items_named, all_named};
-ghost use Rattle.ckc_resolve.specs.Bodies.{HasFirstHeads};
+ghost use Rattle.ckc_resolve.specs.code.Bodies.{HasFirstHeads};
 
 use crate::bodies::named_body;
 use crate::declarations::named_decl;

@@ -4,3 +4,4 @@ pub mod Effects
 pub mod Machine
 pub mod Detailed
 pub mod Outcomes
+pub mod code

@@ -3,7 +3,8 @@
 //! takes the pc and the registers, whether it needs them or not.
 ghost use Rattle.std.specs.Prelude.{◌≡◌, IfSome};
 ghost use Rattle.ckc_rv.specs.Decoded.{decoded_jalr, decoded_branch, decoded_load, decoded_store, decoded_imm, decoded_reg, decoded_fence, decoded_system, base_op, product_op, funct3_of};
-ghost use Rattle.ckc_rv.specs.Outcomes.{effect_if, outcome_of, branch_effect, load_effect, store_effect, imm_effect, reg_effect, NamesRegister};
+ghost use Rattle.ckc_rv.specs.Outcomes.{effect_if, outcome_of, NamesRegister};
+ghost use Rattle.ckc_rv.specs.code.Outcomes.{branch_effect, load_effect, store_effect, imm_effect, reg_effect};
 
 use crate::decoding::{
     branch_offset, decode_fence, funct3, immediate, jump_offset, operand, rd, rs1, rs2,

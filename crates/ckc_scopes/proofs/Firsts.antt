@@ -20,7 +20,7 @@ use Rattle.ckc_base.specs.declared.fault.Fault.TheVariants.{Refused}
 use Rattle.ckc_base.specs.Phases.{IsExact, Exact}
 use Rattle.ckc_base.proofs.Phases.{exact_of}
 use Rattle.ckc_scopes.specs.Phase.{scoping}
-use Rattle.ckc_scopes.specs.Verdict.{Verdict, then, refused, verdict}
+use Rattle.ckc_scopes.specs.code.Verdict.{Verdict, then, refused, verdict}
 
 abbrev pub refusal : ℕ → Pos → Refusal
 refusal code at = record { code = code; pos = at }

@@ -11,7 +11,7 @@ use Rattle.ckc_syntax.specs.declared.tree.Name.{Name}
 use Rattle.ckc_typed.specs.declared.typed.Note.{Note}
 use Rattle.ckc_typed.specs.Walk.{Spot, Matter, spot, written_at, spots_of_item, spots_of_items, mode_after}
 use Rattle.ckc_typed.specs.Scoped.{fault_at}
-use Rattle.ckc_scopes.specs.Verdict.{Verdict, then, refused, verdict, first}
+use Rattle.ckc_scopes.specs.code.Verdict.{Verdict, then, refused, verdict, first}
 
 pub first_append : (xs ys : List Pos) → first (xs ++ ys) ≡ option_or (first xs) (first ys)
 first_append [] ys = refl

@@ -6,7 +6,7 @@ ghost use Rattle.ckc_syntax.specs.declared.tree.Item.{Item};
 ghost use Rattle.ckc_syntax.specs.declared.tree.Name.{Name};
 ghost use Rattle.ckc_typed.specs.declared.typed.Note.{Note};
 ghost use Rattle.ckc_typed.specs.Walk.{spot, written_at, value, called_by, within, spots_of_limits, spots_of_expr, spots_of_bounds, spots_of_value, spots_of_init};
-ghost use Rattle.ckc_scopes.specs.Verdict.{verdict, first};
+ghost use Rattle.ckc_scopes.specs.code.Verdict.{verdict, first};
 
 use crate::raw::{has_raw, is_raw_function};
 use ckc_base::{Boxed, Mode, Pos, Refusal};

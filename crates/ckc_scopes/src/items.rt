@@ -2,7 +2,7 @@
 
 ghost use Rattle.std.specs.Prelude.{◌≡◌};
 ghost use Rattle.ckc_typed.specs.Walk.{spots_of_head, spots_of_item, spots_of_items, mode_after, mode_of_directive};
-ghost use Rattle.ckc_scopes.specs.Verdict.{verdict};
+ghost use Rattle.ckc_scopes.specs.code.Verdict.{verdict};
 
 use crate::expressions::{bounds_fit, place_fits};
 use crate::raw::first_star;

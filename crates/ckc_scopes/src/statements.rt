@@ -2,7 +2,7 @@
 
 ghost use Rattle.std.specs.Prelude.{◌≡◌, flat_map};
 ghost use Rattle.ckc_typed.specs.Walk.{spots_of_decl, spots_of_act, spots_of_stmt, spots_of_part};
-ghost use Rattle.ckc_scopes.specs.Verdict.{verdict};
+ghost use Rattle.ckc_scopes.specs.code.Verdict.{verdict};
 
 use crate::expressions::{bounds_fit, expr_fits, init_fits, place_fits, value_fits};
 use crate::raw::first_raw;

@@ -1,7 +1,7 @@
 -- The meaning of a program: what it shows after so many steps, with an input; and whose fault it is where it is stuck
 -- (Ruef, Lampropoulos, Sweet, Tarditi and Hicks, "Achieving Safety Incrementally with Checked C", POST 2019: unchecked
 -- code is to blame).
-use Rattle.std.specs.Prelude.{ℕ, zero, suc, List, [], map, slice_get, Option, Some, None, is_some, IsTrue, length, ◌≤◌}
+use Rattle.std.specs.Prelude.{ℕ, zero, suc, List, [], map, slice_get, Option, Some, None, length, ◌≤◌}
 use Rattle.ckc_base.specs.declared.arithmetic.Mode.{Mode}
 use Rattle.ckc_base.specs.declared.arithmetic.Mode.TheVariants.{Checked, Unchecked}
 use Rattle.ckc_base.specs.declared.places.Pos.{Pos}
@@ -75,7 +75,3 @@ first_unchecked p (suc n) s = by_mode (spot_of s) (on_next (first_unchecked p n)
 -- where unchecked code ran first, if it did in the first n steps
 abbrev pub unchecked_since : Program → List ℕ → ℕ → Option Pos
 unchecked_since p input n = first_unchecked p n (first_state p input)
-
--- One of the first n steps has the mode unchecked; the step at which the program is stuck is one of these.
-abbrev pub IsBlamed : Program → List ℕ → ℕ → Type 0
-IsBlamed p input n = IsTrue (is_some (unchecked_since p input n))

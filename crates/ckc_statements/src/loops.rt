@@ -6,7 +6,8 @@ ghost use Rattle.ckc_base.specs.Outcomes.{StepsOutcome};
 ghost use Rattle.ckc_base.specs.Phases.{viewed};
 ghost use Rattle.ckc_points.specs.Flow.{state, joined};
 ghost use Rattle.ckc_statements.specs.Paths.{maybe_side, other_side, maybe_other, branched, loop_head, maybe_point, for_started, to_step, there_assigned, path};
-ghost use Rattle.ckc_statements.specs.Walks.{here, maybe_state, branch, start};
+ghost use Rattle.ckc_statements.specs.Walks.{here};
+ghost use Rattle.ckc_statements.specs.code.Walks.{maybe_state, branch, start};
 
 use crate::contents::{Contents, add_part, add_stmt};
 use crate::walk::{Walk, boxed_value, maybe_value, take_side};

@@ -10,7 +10,7 @@ use Rattle.ckc_syntax.specs.declared.tree.Name.TheVariants as name
 use Rattle.ckc_syntax.specs.declared.tree.Item.TheVariants as item
 use Rattle.ckc_typed.specs.Trees.{Item, Decl}
 use Rattle.ckc_typed.specs.Layouts.{shape_of, shapes_below, members_declared, or_members}
-use Rattle.ckc_statics.specs.Shapes.{with_struct}
+use Rattle.ckc_statics.specs.code.Shapes.{with_struct}
 
 length_below : (f : ℕ → StructShape) (n : ℕ) → length (shapes_below f n) ≡ n
 length_below f zero = refl

@@ -4,7 +4,7 @@ ghost use Rattle.std.specs.Prelude.{◌≡◌, [], IfOk, OnOk, map};
 ghost use Rattle.std.specs.Option.{option_copied};
 ghost use Rattle.ckc_syntax.specs.declared.tree.Limits.{out-Limits};
 ghost use Rattle.ckc_typed.specs.Layouts.{member_number, counted, bounds_by, bounds_of, bare_member, bounded_member, behind_tag, tags_to, tag_count, shapes_below, structs_with, structs_of};
-ghost use Rattle.ckc_statics.specs.Shapes.{member_by, with_shape, with_struct};
+ghost use Rattle.ckc_statics.specs.code.Shapes.{member_by, with_shape, with_struct};
 
 use ckc_base::{Boxed, Seq};
 use ckc_syntax::{Decl, Item, Limits, Name};

@@ -3,7 +3,7 @@
 ghost use Rattle.std.specs.Prelude.{◌≡◌, [], ◌∷◌, ◌++◌, IfOk, OnOk, map};
 ghost use Rattle.std.specs.List.{flat_map};
 ghost use Rattle.ckc_typed.specs.Statics.{joined_strings, strings_of_limits, strings_of_expr, strings_of_bounds, strings_of_value, strings_of_init, strings_of_decl, strings_of_stmt, strings_of_head, strings_of_item};
-ghost use Rattle.ckc_statics.specs.Parts.{strings_of_node, strings_of_act, strings_of_part};
+ghost use Rattle.ckc_statics.specs.code.Parts.{strings_of_node, strings_of_act, strings_of_part};
 
 use crate::initials::is_plain;
 use ckc_base::{Boxed, Bytes, Seq};

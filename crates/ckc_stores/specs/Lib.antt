@@ -1,3 +1,4 @@
 pub mod Targets
 pub mod Values
 pub mod Stores
+pub mod code

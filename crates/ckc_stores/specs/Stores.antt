@@ -33,7 +33,6 @@ use Rattle.ckc_views.specs.Parts.{capped, fresh_behind}
 use Rattle.ckc_views.specs.Judged.{not_contained}
 use Rattle.ckc_views.specs.Views.{view}
 use Rattle.ckc_stores.specs.declared.values.Numbered.{Numbered}
-use Rattle.ckc_stores.specs.declared.placed.Placed as places
 use Rattle.ckc_stores.specs.Targets.{local_of, member_variable, memory_bounds}
 use Rattle.ckc_stores.specs.Values.{Value, new_value, same_value, holds}
 
@@ -66,9 +65,6 @@ pub record Placed : Type 0 where
   pub right : NotedExpr
   pub pos : Pos
   pub from : Numbered
-
-abbrev pub placed : places.Placed → Placed
-placed p = record { target = p.target.now; right = p.right.now; pos = p.pos; from = p.from }
 
 -- Right sides number their values one after another, and all expressions the fresh variables that they need at a point.
 abbrev pub numbered : Frame → State → ℕ → ℕ → List Store → List Placed

@@ -2,7 +2,8 @@
 
 ghost use Rattle.std.specs.Prelude.{◌≡◌, map, IfOk};
 ghost use Rattle.ckc_points.specs.Flow.{state};
-ghost use Rattle.ckc_stores.specs.Stores.{placed, numbered, stores_of};
+ghost use Rattle.ckc_stores.specs.Stores.{numbered, stores_of};
+ghost use Rattle.ckc_stores.specs.code.Stores.{placed};
 
 use crate::values::Numbered;
 use ckc_base::Pos;

@@ -4,7 +4,8 @@ ghost use Rattle.std.specs.Prelude.{◌≡◌, ◌++◌, map, IfOk, OnOk};
 ghost use Rattle.std.specs.List.{filter_map};
 ghost use Rattle.ckc_points.specs.Shown.{known};
 ghost use Rattle.ckc_stores.specs.Values.{value};
-ghost use Rattle.ckc_stores.specs.Stores.{placed, received, place_of, base_by, variable_by, bases, variables, holds_by, member_by, unassigned, members, holds_in_memory};
+ghost use Rattle.ckc_stores.specs.Stores.{received, place_of, base_by, variable_by, bases, variables, holds_by, member_by, unassigned, members, holds_in_memory};
+ghost use Rattle.ckc_stores.specs.code.Stores.{placed};
 
 use crate::placed::Placed;
 use crate::targets::{local_of, member_of, member_variable};

@@ -4,7 +4,8 @@ ghost use Rattle.std.specs.Prelude.{◌≡◌, map, IfOk, OnOk};
 ghost use Rattle.ckc_points.specs.Shown.{known};
 ghost use Rattle.ckc_points.specs.Flow.{state};
 ghost use Rattle.ckc_stores.specs.Targets.{local_of};
-ghost use Rattle.ckc_stores.specs.Stores.{Threads, placed, stores_of, assigned_local, received, after, stored_placed, stored, passed, holds_from, initialised, returned};
+ghost use Rattle.ckc_stores.specs.Stores.{Threads, stores_of, assigned_local, received, after, stored_placed, stored, passed, holds_from, initialised, returned};
+ghost use Rattle.ckc_stores.specs.code.Stores.{placed};
 
 use crate::faults::first_fault;
 use crate::placed::{Placed, numbered};

@@ -6,7 +6,7 @@ use Rattle.std.proofs.lemmas.List.{take_more, take-take, drop-take}
 use Rattle.std.proofs.lemmas.Bool.{ltb-true, lt-ltb, cases_lt}
 use Rattle.ckc_syntax.specs.Digits.{digit_value, is_digit_in, value_in}
 use Rattle.ckc_syntax.specs.Literals.{IsDigitsAfter}
-use Rattle.ckc_syntax.specs.DigitReading.{IsMostDigits}
+use Rattle.ckc_syntax.specs.code.DigitReading.{IsMostDigits}
 use Rattle.ckc_syntax.specs.Longest.{Longest}
 
 abbrev next : ℕ → ℕ → ℕ → ℕ

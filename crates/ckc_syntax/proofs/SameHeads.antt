@@ -8,7 +8,7 @@ use Rattle.ckc_base.specs.Places.{start}
 use Rattle.ckc_syntax.specs.declared.tree.Init.TheVariants as init
 use Rattle.ckc_syntax.specs.declared.tree.Length.{Length}
 use Rattle.ckc_syntax.specs.declared.tree.Length.TheVariants as len
-use Rattle.ckc_syntax.specs.SameParts.{same_expr, same_bounds, same_init, same_number, same_length, same_mode, same_decl, same_head_parts}
+use Rattle.ckc_syntax.specs.code.SameParts.{same_expr, same_bounds, same_init, same_number, same_length, same_mode, same_decl, same_head_parts}
 use Rattle.ckc_syntax.specs.Trees.{Spelling, TypeTree, Limits, Expr, Init, Decl, Head}
 use Rattle.ckc_syntax.specs.Placeless.{placeless_expr, placeless_bounds, placeless_init, placeless_length, placeless_decl, placeless_head}
 use Rattle.ckc_syntax.proofs.Tells.{Tells, yes, unlike, both, made, numbers, names, lists, some_tells, left_tells, right_tells}

@@ -1,7 +1,7 @@
 -- Lists that are compared part by part.
 use Rattle.std.proofs.Common.{◌≡◌, ◌<◌, ◌≤◌, ℕ, suc, ◌+◌, Bool, true, false, ◌&&◌, List, [], ◌∷◌, length, map, drop, get_or, drop-cons, add-one, refl, sym, ap, ◌∙◌, arith}
 use Rattle.std.proofs.lemmas.List.{drop_all}
-use Rattle.ckc_syntax.specs.SameParts.{pass_all}
+use Rattle.ckc_syntax.specs.code.SameParts.{pass_all}
 
 and_false : (b : Bool) → (b && false) ≡ false
 and_false true = refl

@@ -7,7 +7,7 @@ use Rattle.ckc_syntax.specs.declared.tree.Node.{Node-F, map-Node, out-Node, roll
 use Rattle.ckc_syntax.specs.declared.tree.Expr.{Expr-F, map-Expr, ind-Expr, out-Expr, roll-Expr, fold-roll-Expr, fold_out-Expr}
 use Rattle.ckc_syntax.specs.declared.tree.TreeOp.{TreeOp}
 use Rattle.ckc_syntax.specs.declared.tree.TreeOp.TheVariants as op
-use Rattle.ckc_syntax.specs.SameParts.{OfLimits, OfNode, OfExpr, number_of_op, same_op, same_flag, same_limits_parts, same_node_parts, of_limits, of_node, of_expr, same_limits, same_node, same_expr}
+use Rattle.ckc_syntax.specs.code.SameParts.{OfLimits, OfNode, OfExpr, number_of_op, same_op, same_flag, same_limits_parts, same_node_parts, of_limits, of_node, of_expr, same_limits, same_node, same_expr}
 use Rattle.ckc_syntax.specs.Trees.{Spelling, TypeTree, Limits, Node, Expr}
 use Rattle.ckc_syntax.specs.Placeless.{LimitsLayer, NodeLayer, ExprLayer, limits_at_start, node_at_start, expr_at_start, limits_rolled, node_rolled, expr_rolled, placeless_limits, placeless_node, placeless_expr}
 use Rattle.ckc_syntax.proofs.Tells.{Tells, yes, unlike, both, made, same_tells, numbers, names, kept_lists, none_tells, some_tells, left_tells, right_tells}

@@ -2,7 +2,7 @@
 use Rattle.std.proofs.Common.{rules, ◌≡◌, ℕ, ◌∙◌, ap, sym, refl, Bool}
 use Rattle.ckc_base.specs.Places.{start}
 use Rattle.ckc_syntax.specs.declared.tree.TypeTree.{TypeTree-F, map-TypeTree, ind-TypeTree, out-TypeTree, roll-TypeTree, fold-roll-TypeTree, fold_out-TypeTree, the_lemmas as type_lemmas}
-use Rattle.ckc_syntax.specs.SameParts.{same_types, same_type}
+use Rattle.ckc_syntax.specs.code.SameParts.{same_types, same_type}
 use Rattle.ckc_syntax.specs.Trees.{Spelling, TypeTree}
 use Rattle.ckc_syntax.specs.Placeless.{type_at_start, placeless_type}
 use Rattle.ckc_syntax.proofs.Tells.{Tells, yes, unlike, made, same_tells, names}

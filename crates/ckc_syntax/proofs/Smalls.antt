@@ -9,9 +9,10 @@ use Rattle.ckc_syntax.specs.declared.tally.Tally.{Tally}
 use Rattle.ckc_syntax.specs.declared.tree.Tree.{Tree}
 use Rattle.ckc_syntax.specs.declared.tree.Item.{Item}
 use Rattle.ckc_syntax.specs.declared.tree.Item.TheVariants as item
-use Rattle.ckc_syntax.specs.Tally.{counted, tallied, nothing, raised}
+use Rattle.ckc_syntax.specs.code.Tally.{counted, tallied, nothing, raised}
 use Rattle.ckc_syntax.specs.Marks.{Mark, node, local, text, function, static, marks_of, marks_of_item, is_node, is_local, is_text, is_function, is_static}
-use Rattle.ckc_syntax.specs.Small.{Small, SmallItem, IsFirst, Judges, how_many, over, faults_of, faults_of_item, faults_of_function, faults_of_marks}
+use Rattle.ckc_syntax.specs.Small.{Small, SmallItem, IsFirst, how_many, over, faults_of, faults_of_item, faults_of_function, faults_of_marks}
+use Rattle.ckc_syntax.specs.code.Small.{Judges}
 use Rattle.std.proofs.lemmas.Bool.Decides.{nat_tests}
 use Rattle.std.proofs.lemmas.List.Sums.{sum_by-cons}
 use Rattle.std.proofs.lemmas.List.{drop_all}

@@ -4,7 +4,7 @@ use Rattle.std.specs.Prelude.{flat_map, map, Option, None, Some, option_map}
 use Rattle.ckc_base.specs.declared.arithmetic.Mode.{Mode}
 use Rattle.ckc_syntax.specs.declared.tally.Tally.{Tally}
 use Rattle.ckc_syntax.specs.Marks.{Mark, joined, held, marks_of_limits, marks_of_bounds, marks_of_value, marks_of_part, marks_of_node, marks_of_expr, marks_of_act, marks_of_stmt}
-use Rattle.ckc_syntax.specs.Tally.{counted, tallied}
+use Rattle.ckc_syntax.specs.code.Tally.{counted, tallied}
 use Rattle.ckc_syntax.specs.declared.tree.Node.{the_lemmas as expr_lemmas}
 use Rattle.ckc_syntax.specs.declared.tree.Node.TheVariants as nodes
 use Rattle.ckc_syntax.specs.declared.tree.Expr.{Expr}

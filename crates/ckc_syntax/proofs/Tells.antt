@@ -1,6 +1,6 @@
 -- A test of two values tells whether they are equal.
 use Rattle.std.proofs.Common.{◌≡◌, ℕ, Bool, true, false, ◌&&◌, ◌==◌, List, [], ◌∷◌, map, refl, ap, ◌∙◌, sym}
-use Rattle.ckc_syntax.specs.SameParts.{pass_all}
+use Rattle.ckc_syntax.specs.code.SameParts.{pass_all}
 use Rattle.std.specs.Prelude.{Option, Some, None}
 use Rattle.std.specs.Str.{bytes_eq}
 use Rattle.std.specs.Bool.{Decides}

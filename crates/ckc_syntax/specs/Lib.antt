@@ -1,7 +1,6 @@
 pub mod Bytes
 pub mod Decoded
 pub mod Depth
-pub mod DigitReading
 pub mod Digits
 pub mod Literals
 pub mod Longest
@@ -9,8 +8,7 @@ pub mod Marks
 pub mod Phase
 pub mod Small
 pub mod Spelled
-pub mod Tally
-pub mod SameParts
 pub mod Placeless
 pub mod Trees
 pub mod Pointers
+pub mod code

@@ -1,5 +1,5 @@
 -- The limits of a text.
-use Rattle.std.specs.Prelude.{Result, Ok, Err, ℕ, ◌≡◌, ◌≤◌, List, [], ◌∷◌, ◌++◌, flat_map, count_by, Bool, nat_lt, if◌then◌else◌}
+use Rattle.std.specs.Prelude.{ℕ, ◌≡◌, ◌≤◌, List, [], ◌∷◌, ◌++◌, flat_map, count_by, Bool, nat_lt, if◌then◌else◌}
 use Rattle.std.specs.List.{AllByRecursion}
 use Rattle.ckc_base.specs.declared.places.Pos.{Pos}
 use Rattle.ckc_base.specs.declared.places.Refusal.{Refusal}
@@ -69,8 +69,3 @@ faults_of tree = flat_map faults_of_item tree.items ++ faults_of_marks (marks_of
 -- the first of a list
 abbrev pub IsFirst : {X : Type 0} → X → List X → Type 0
 IsFirst {X} x xs = (rest : List X) × (xs ≡ x ∷ rest)
-
--- an answer is good where nothing is broken, and else it is the first that is
-abbrev pub Judges : {X : Type 0} → Result X Refusal → List Refusal → Type 0
-Judges (Ok x) rs = rs ≡ []
-Judges (Err r) rs = IsFirst r rs

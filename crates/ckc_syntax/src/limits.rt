@@ -3,8 +3,9 @@ ghost use Rattle.ckc_base.specs.declared.fault.Fault.TheVariants.{Memory};
 ghost use Rattle.ckc_base.specs.Phases.{Exact, viewed};
 ghost use Rattle.ckc_syntax.specs.Depth.{depth_of_item};
 ghost use Rattle.ckc_syntax.specs.Phase.{limiting};
-ghost use Rattle.ckc_syntax.specs.Small.{Judges, faults_of, faults_of_item, faults_of_function, faults_of_marks, over};
-ghost use Rattle.ckc_syntax.specs.Tally.{tallied, nothing};
+ghost use Rattle.ckc_syntax.specs.Small.{faults_of, faults_of_item, faults_of_function, faults_of_marks, over};
+ghost use Rattle.ckc_syntax.specs.code.Small.{Judges};
+ghost use Rattle.ckc_syntax.specs.code.Tally.{tallied, nothing};
 ghost use Rattle.ckc_syntax.specs.Marks.{Mark};
 
 use crate::depth::item_within;

@@ -2,7 +2,7 @@
 
 ghost use Rattle.std.specs.Prelude.{◌≡◌};
 ghost use Rattle.std.specs.Bool.{Decides};
-ghost use Rattle.ckc_syntax.specs.SameParts.{same_type, number_of_op, same_op, same_flag, same_limits, same_node, same_expr, same_exprs, same_bounds, same_init, same_number, same_length, same_mode, same_decl, same_decls, same_head_parts};
+ghost use Rattle.ckc_syntax.specs.code.SameParts.{same_type, number_of_op, same_op, same_flag, same_limits, same_node, same_expr, same_exprs, same_bounds, same_init, same_number, same_length, same_mode, same_decl, same_decls, same_head_parts};
 ghost use Rattle.ckc_syntax.specs.Placeless.{placeless_head};
 ghost use Rattle.std.specs.Str.{bytes_eq};
 

@@ -1,7 +1,7 @@
 //! How much there is in a part of a tree.
 
 ghost use Rattle.std.specs.Prelude.{◌≡◌, flat_map};
-ghost use Rattle.ckc_syntax.specs.Tally.{counted, tallied, nothing};
+ghost use Rattle.ckc_syntax.specs.code.Tally.{counted, tallied, nothing};
 ghost use Rattle.ckc_syntax.specs.Marks.{node, local, text, function, static, marks_of_limits, marks_of_node, marks_of_expr, marks_of_bounds, marks_of_init, marks_of_decl, marks_of_value, marks_of_part, marks_of_act, marks_of_stmt, marks_of_param, marks_of_head, marks_of_item};
 
 use crate::{Act, Decl, Expr, Head, Init, Item, Limits, Node, Stmt};

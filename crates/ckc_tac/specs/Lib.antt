@@ -3,3 +3,4 @@ pub mod Meaning
 pub mod WellFormed
 pub mod Sizes
 pub mod Example
+pub mod code

@@ -3,9 +3,9 @@
 use Rattle.std.specs.Prelude.{ℕ, ◌+◌, ◌==◌, if◌then◌else◌, List, [], ◌∷◌, length, slice_get, Option, Some, None}
 use Rattle.ckc_base.specs.declared.places.Pos.{Pos}
 use Rattle.ckc_base.specs.declared.runtime_checks.Check.TheVariants.{Depth}
-use Rattle.ckc_base.specs.Traces.{Event, Ended, Stopped, Stuck, Showing, narrowed}
+use Rattle.ckc_base.specs.Traces.{Ended, Stopped, Stuck, Showing}
 use Rattle.ckc_base.specs.Steps.{Move, Goes, Halts, System, meaning}
-use Rattle.ckc_base.specs.LongEvents.{LongEvent, Entered, Returned, plain_events}
+use Rattle.ckc_base.specs.LongEvents.{LongEvent, Entered, Returned}
 use Rattle.ckc_base.specs.Memory.{first_memory}
 use Rattle.ckc_base.specs.Actions.{World, Outcome, Gives, Done, Stops, Lost}
 use Rattle.ckc_base.specs.Activations.{Values, none_written, with_written, with_result, first_values, has_room}
@@ -145,7 +145,3 @@ first_state p input = record {
 -- what a program shows in detail after n steps, with an input
 abbrev pub tac_detail : Tac → List ℕ → ℕ → Showing LongEvent
 tac_detail p input = meaning (tac_system p.funcs) (first_state p input)
-
--- what a program shows after n steps, with an input
-abbrev pub tac_meaning : Tac → List ℕ → ℕ → Showing Event
-tac_meaning p input n = narrowed plain_events (tac_detail p input n)

@@ -1,5 +1,5 @@
 -- The lines by which registers are saved in the frame and restored from it.
-use Rattle.std.specs.Prelude.{ℕ, zero, suc, ◌+◌, ◌*◌, nat_lt, Bool, false, true, if◌then◌else◌, List}
+use Rattle.std.specs.Prelude.{ℕ, zero, suc, ◌+◌, ◌*◌, nat_lt, Bool, if◌then◌else◌, List}
 use Rattle.ckc_lines.specs.declared.lines.Line.{Line}
 use Rattle.ckc_templates.specs.Templates.{load_lines, store_lines}
 
@@ -14,11 +14,6 @@ save_lines b k rest = if b then store_lines (register_of k) 2 (k * 4 + 16) rest 
 -- a register is restored from the frame, or not
 abbrev pub restore_lines : Bool → ℕ → List Line → List Line
 restore_lines b k rest = if b then load_lines (register_of k) 2 (k * 4 + 16) rest else rest
-
--- a register is saved in the frame, or restored from it, where it is marked
-abbrev pub kept_lines : (restores marked : Bool) → ℕ → List Line → List Line
-kept_lines false = save_lines
-kept_lines true = restore_lines
 
 -- the lines of so many registers from one on, each by whether a test names it
 unfoldable pub each_lines : (Bool → ℕ → List Line → List Line) → (ℕ → Bool) → (count k : ℕ)

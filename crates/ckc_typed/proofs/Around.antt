@@ -4,7 +4,8 @@ use Rattle.ckc_types.specs.declared.types.Kind.{Kind}
 use Rattle.ckc_types.specs.declared.types.Kind.TheVariants as kind
 use Rattle.ckc_types.specs.declared.types.CType.{CType, the_lemmas as type_lemmas}
 use Rattle.ckc_types.specs.declared.types.CType.TheVariants as ctype
-use Rattle.ckc_typed.specs.Types.{pointer_parts, integer_object, is_terminated, within}
+use Rattle.ckc_typed.specs.Types.{pointer_parts, integer_object}
+use Rattle.ckc_typed.specs.code.Types.{is_terminated, within}
 
 terminated : (k : Kind) (integer : Option Bool) → pointer_parts kind.Nt (pointer_parts k integer) ≡ None
 terminated kind.Raw (Some b) = refl

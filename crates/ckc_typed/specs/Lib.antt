@@ -15,3 +15,4 @@ pub mod Amounts
 pub mod Layouts
 pub mod Statics
 pub mod Texts
+pub mod code

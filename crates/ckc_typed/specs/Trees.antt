@@ -1,6 +1,5 @@
 -- The trees whose names are what they mean, without notes and with them.
 use Rattle.ckc_syntax.specs.declared.tree.Name.{Name}
-use Rattle.ckc_syntax.specs.declared.tree.Tree as trees
 use Rattle.ckc_syntax.specs.declared.tree.Item as items
 use Rattle.ckc_syntax.specs.declared.tree.Head as heads
 use Rattle.ckc_syntax.specs.declared.tree.Decl as decls
@@ -12,9 +11,6 @@ use Rattle.ckc_syntax.specs.declared.tree.Stmt as statements
 use Rattle.ckc_syntax.specs.declared.tree.Act as acts
 pub use Rattle.ckc_syntax.specs.Trees.{NamedTypeTree as TypeTree, NamedTree as Tree, NamedItem as Item, NamedHead as Head, NamedDecl as Decl, NamedInit as Init, NamedLimits as Limits, NamedExpr as Expr, NamedNode as Node, NamedStmt as Stmt, NamedAct as Act}
 use Rattle.ckc_typed.specs.declared.typed.Note.{Note}
-
-abbrev pub NotedTree : Type 0
-NotedTree = trees.Tree Name Note
 
 abbrev pub NotedItem : Type 0
 NotedItem = items.Item Name Note

@@ -108,15 +108,6 @@ object_parts (CType-F.Pointer k t) = pointer_parts k t
 abbrev pub integer_object : CType → Option Bool
 integer_object = fold-CType (Option Bool) object_parts
 
-abbrev pub is_terminated : Option Kind → Bool
-is_terminated (Some kind.Nt) = true
-is_terminated _ = false
-
--- the same of a type in a pointer, where there is one
-abbrev pub within : Option Kind → Option Bool → Option Bool
-within None integer = integer
-within (Some k) integer = pointer_parts k integer
-
 abbrev pub is_object_type : CType → Bool
 is_object_type t = is_some (integer_object t)
 

@@ -2,7 +2,8 @@
 
 ghost use Rattle.std.specs.Prelude.{◌≡◌, IfOk};
 ghost use Rattle.ckc_typed.specs.Environment.{kind_of_array};
-ghost use Rattle.ckc_typed.specs.Types.{type_written, struct_of, is_integer, is_pointer, is_void, is_unsigned, is_char, is_scalar, element_of, kind_of, integer_object, is_object_type, is_scalar_type, is_terminated, within};
+ghost use Rattle.ckc_typed.specs.Types.{type_written, struct_of, is_integer, is_pointer, is_void, is_unsigned, is_char, is_scalar, element_of, kind_of, integer_object, is_object_type, is_scalar_type};
+ghost use Rattle.ckc_typed.specs.code.Types.{is_terminated, within};
 
 use ckc_base::Seq;
 use ckc_syntax::{Length, Name, TypeTree};

@@ -10,7 +10,7 @@ use Rattle.ckc_base.specs.Outcomes.{Outcome, unless, refused}
 use Rattle.ckc_typed.specs.Constants.{size_of}
 use Rattle.ckc_typed.specs.Statics.{placed, begin_behind, end_of_block, end_of_blocks, LAST_END}
 use Rattle.ckc_base.specs.Places.{start}
-use Rattle.ckc_typing.specs.Placing.{placed_behind}
+use Rattle.ckc_typing.specs.code.Placing.{placed_behind}
 use Rattle.ckc_syntax.proofs.Turns.{ahead}
 
 is_less : (a b : ℕ) → a < b → nat_lt a b ≡ true

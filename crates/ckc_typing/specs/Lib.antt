@@ -1,3 +1,3 @@
 pub mod Objects
 pub mod Phase
-pub mod Placing
+pub mod code

@@ -3,7 +3,7 @@
 ghost use Rattle.std.specs.Prelude.{◌≡◌, ◌+◌, ◌-◌, ◌≤◌, ◌<◌, ◌*◌, ◌^◌, IfOk};
 ghost use Rattle.ckc_typed.specs.Constants.{size_of};
 ghost use Rattle.ckc_typed.specs.Statics.{begin_behind, end_of_block, FIRST_END, LAST_END};
-ghost use Rattle.ckc_typing.specs.Placing.{placed_behind};
+ghost use Rattle.ckc_typing.specs.code.Placing.{placed_behind};
 ghost use Rattle.ckc_base.specs.Outcomes.{AnswersOutcome};
 
 use ckc_base::{Bytes, Fault, START, Seq, refused};

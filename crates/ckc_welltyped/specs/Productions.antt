@@ -1,7 +1,7 @@
 -- What the productions of the grammar give beside the types of trees (ISO C11, 6.5 to 6.9, with the choices of this
 -- language): where calls stand, what a call statement is, what a bundle holds, what begins and steps a `for`, and that a
 -- structure has a member.
-use Rattle.std.specs.Prelude.{Bool, true, false, ◌&&◌, ◌||◌, nat_le, List, length, Option, None, Some}
+use Rattle.std.specs.Prelude.{Bool, true, false, ◌&&◌, ◌||◌, nat_le, length, Option, None, Some}
 use Rattle.std.specs.Option.{option_map}
 use Rattle.std.specs.List.{list_all}
 use Rattle.ckc_syntax.specs.declared.tree.Tree.{Tree}
@@ -27,9 +27,6 @@ limits_callless (Limits-F.Count e at) = e
 limits_callless (Limits-F.ByteCount e at) = e
 limits_callless (Limits-F.Between e f at) = e && f
 limits_callless (Limits-F.Unknown at) = true
-
-abbrev pub all_true : List Bool → Bool
-all_true bs = list_all (λ b. b) bs
 
 abbrev pub node_callless : {N A : Type 0} → Node-F N A Bool Bool Bool → Bool
 node_callless (Node-F.Number n unsigned) = true

@@ -1,5 +1,5 @@
 use Rattle.std.proofs.Common.{refl, arith}
-use Rattle.ckc_asm.specs.Rows.{statement_in}
+use Rattle.ckc_asm.specs.code.Rows.{statement_in}
 use Rattle.ckc_asm.proofs.LabelsBelow.{row_at, rows_size}
 use Rattle.ckc_asm.proofs.LabelUses.{unknown_names, known_names, first_here, none_more, none_all}
 use Rattle.ckc_asm.proofs.code.check_names.Goals as goal

@@ -1,6 +1,6 @@
 use Rattle.std.proofs.Common.{arith}
 use Rattle.std.proofs.lemmas.Result.{err_from_is_err_and}
-use Rattle.ckc_asm.specs.Rows.{statement_in, statements_in}
+use Rattle.ckc_asm.specs.code.Rows.{statement_in, statements_in}
 use Rattle.ckc_asm.proofs.LabelsBelow.{row_at, rows_size, offset_more, width_small}
 use Rattle.ckc_asm.proofs.LabelUses.{named_known, no_word, words_more, words_all}
 use Rattle.ckc_asm.proofs.code.code_of.Goals as goal

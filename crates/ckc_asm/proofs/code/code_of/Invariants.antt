@@ -1,6 +1,6 @@
 use Rattle.std.proofs.Common.{◌≡◌, ◌+◌, ◌*◌, ◌≤◌}
 use Rattle.ckc_asm.specs.Program.{address_of}
-use Rattle.ckc_asm.specs.Rows.{statements_in}
+use Rattle.ckc_asm.specs.code.Rows.{statements_in}
 use Rattle.ckc_asm.proofs.LabelUses.{AreWordsBelow}
 use Rattle.ckc_asm.proofs.code.code_of.Given as goal
 

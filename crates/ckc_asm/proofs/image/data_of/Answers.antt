@@ -1,7 +1,7 @@
 use Rattle.std.proofs.Common.{◌≡◌, ℕ, ◌+◌, ◌*◌, ◌≤◌, List, ◌++◌, [], length, ap, ◌∙◌, sym, arith, length-append}
 use Rattle.std.proofs.lemmas.List.{append-nil}
 use Rattle.ckc_asm.specs.Program.{data_bytes}
-use Rattle.ckc_asm.specs.Rows.{statement_in, statements_in}
+use Rattle.ckc_asm.specs.code.Rows.{statement_in, statements_in}
 use Rattle.ckc_asm.proofs.LabelsBelow.{row_at}
 use Rattle.ckc_asm.proofs.LabelUses.{data_more, no_data}
 use Rattle.ckc_asm.proofs.image.data_of.Goals as goal

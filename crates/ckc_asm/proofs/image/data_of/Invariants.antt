@@ -1,7 +1,7 @@
 use Rattle.std.proofs.Common.{◌≡◌, ◌≤◌, ◌*◌, length, take}
 use Rattle.std.specs.List.{flat_map}
 use Rattle.ckc_asm.specs.Program.{data_bytes}
-use Rattle.ckc_asm.specs.Rows.{statements_in}
+use Rattle.ckc_asm.specs.code.Rows.{statements_in}
 use Rattle.ckc_asm.proofs.image.data_of.Given as goal
 
 abbrev pub invariant-loop-row : goal.invariant-loop-row

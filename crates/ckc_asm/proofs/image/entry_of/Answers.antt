@@ -2,7 +2,7 @@ use Rattle.std.proofs.Common.{◌≡◌, Bool, true, false, sym, ◌∙◌, arit
 use Rattle.std.specs.Int.{w64}
 use Rattle.std.proofs.lemmas.Int.{to_z-of_z}
 use Rattle.ckc_asm.specs.Program as program
-use Rattle.ckc_asm.specs.Rows.{statement_in}
+use Rattle.ckc_asm.specs.code.Rows.{statement_in}
 use Rattle.ckc_asm.proofs.LabelsBelow.{row_at, rows_size}
 use Rattle.ckc_asm.proofs.LabelUses.{named_known, none_more, none_all, enters_here}
 use Rattle.ckc_asm.proofs.image.entry_of.Goals as goal

@@ -1,5 +1,5 @@
 use Rattle.ckc_asm.specs.Program.{IsEntry}
-use Rattle.ckc_asm.specs.Rows.{statements_in}
+use Rattle.ckc_asm.specs.code.Rows.{statements_in}
 use Rattle.ckc_asm.proofs.LabelUses.{NoneBelow}
 use Rattle.ckc_asm.proofs.image.entry_of.Given as goal
 

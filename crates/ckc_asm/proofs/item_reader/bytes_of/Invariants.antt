@@ -1,7 +1,7 @@
 use Rattle.std.proofs.Common.{◌≡◌, ◌++◌, length, drop}
 use Rattle.std.specs.Option.{option_map}
-use Rattle.ckc_asm.specs.Rows.{texts_of}
-use Rattle.ckc_asm.specs.Found.{bytes_of}
+use Rattle.ckc_asm.specs.code.Rows.{texts_of}
+use Rattle.ckc_asm.specs.code.Found.{bytes_of}
 use Rattle.ckc_asm.proofs.item_reader.bytes_of.Given as goal
 
 abbrev pub invariant-loop-word : goal.invariant-loop-word

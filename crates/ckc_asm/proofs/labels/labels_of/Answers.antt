@@ -1,7 +1,7 @@
 use Rattle.std.proofs.Common.{arith, ap}
 use Rattle.std.proofs.lemmas.Result.{err_from_is_err_and}
-use Rattle.ckc_asm.specs.Rows.{statement_in, statements_in, word_of}
-use Rattle.ckc_asm.specs.Reading.{known}
+use Rattle.ckc_asm.specs.code.Rows.{statement_in, statements_in, word_of}
+use Rattle.ckc_asm.specs.code.Reading.{known}
 use Rattle.ckc_asm.proofs.LabelsBelow.{offset_more, width_small, labels_label, labels_other, labels_all, labels_same, old_label, row_at, row_label, row_unlabelled, rows_size}
 use Rattle.ckc_asm.proofs.labels.labels_of.Goals as goal
 use Rattle.ckc_asm.proofs.labels.labels_of.Goals.{in-Some+in_ok-put_label, in_default}

@@ -1,7 +1,7 @@
 use Rattle.std.proofs.Common.{◌≡◌, ◌+◌, ◌*◌, ◌≤◌}
 use Rattle.ckc_asm.specs.Program.{address_of}
-use Rattle.ckc_asm.specs.Reading.{known}
-use Rattle.ckc_asm.specs.Rows.{statements_in}
+use Rattle.ckc_asm.specs.code.Reading.{known}
+use Rattle.ckc_asm.specs.code.Rows.{statements_in}
 use Rattle.ckc_asm.proofs.LabelsBelow.{AreLabelsBelow}
 use Rattle.ckc_asm.proofs.labels.labels_of.Given as goal
 

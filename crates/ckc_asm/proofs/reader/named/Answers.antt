@@ -1,6 +1,6 @@
 use Rattle.std.proofs.Common.{inr}
 use Rattle.ckc_asm.specs.Faults.{NameFault, NumberFault}
-use Rattle.ckc_asm.specs.Rows.{statements_in}
+use Rattle.ckc_asm.specs.code.Rows.{statements_in}
 use Rattle.ckc_asm.proofs.Judging.{err_weaker}
 use Rattle.ckc_asm.proofs.reader.named.Goals as goal
 

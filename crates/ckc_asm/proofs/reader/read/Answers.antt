@@ -3,8 +3,8 @@ use Rattle.std.specs.Borrow.{Bor}
 use Rattle.std.proofs.lemmas.Result.{err_from_is_err_and}
 use Rattle.ckc_asm.specs.Cut.{lines_of}
 use Rattle.ckc_asm.specs.Faults.{LabelFault, IsFirstFault}
-use Rattle.ckc_asm.specs.Reading.{readings_in, IsFormFault}
-use Rattle.ckc_asm.specs.Rows.{statements_in}
+use Rattle.ckc_asm.specs.code.Reading.{readings_in, IsFormFault}
+use Rattle.ckc_asm.specs.code.Rows.{statements_in}
 use Rattle.ckc_asm.proofs.Judging.{refused_weaker, err_weaker, lines_short, lines_few, read_few, asm_of, whole_fault, form_fault}
 use Rattle.ckc_asm.proofs.LabelsBelow.{rows_size}
 use Rattle.ckc_asm.proofs.reader.read.Goals as goal

@@ -1,6 +1,6 @@
 use Rattle.std.proofs.Common.{◌≡◌, ◌+◌, ◌-◌, ◌≤◌, ◌++◌, length, drop, map}
 use Rattle.ckc_asm.specs.Cut.{cut}
-use Rattle.ckc_asm.specs.Rows.{word_of}
+use Rattle.ckc_asm.specs.code.Rows.{word_of}
 use Rattle.ckc_asm.proofs.spots.words_of.Given as goal
 
 abbrev pub invariant-loop-at : goal.invariant-loop-at

@@ -1,7 +1,7 @@
 use Rattle.std.proofs.Common.{ap, ◌∙◌, ◌∷◌, []}
 use Rattle.std.proofs.lemmas.List.{map-append}
 use Rattle.std.proofs.lemmas.Result.{err_from_is_err_and}
-use Rattle.ckc_asm.specs.Rows.{statement_in, statements_in}
+use Rattle.ckc_asm.specs.code.Rows.{statement_in, statements_in}
 use Rattle.ckc_asm.proofs.RowsBelow.{lines_more, lines_stop, lines_all}
 use Rattle.ckc_asm.proofs.statements.rows_of.Goals as goal
 

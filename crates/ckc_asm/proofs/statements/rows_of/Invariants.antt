@@ -1,5 +1,5 @@
-use Rattle.ckc_asm.specs.Reading.{readings_in}
-use Rattle.ckc_asm.specs.Rows.{statements_in}
+use Rattle.ckc_asm.specs.code.Reading.{readings_in}
+use Rattle.ckc_asm.specs.code.Rows.{statements_in}
 use Rattle.ckc_asm.proofs.RowsBelow.{AreRowsBelow}
 use Rattle.ckc_asm.proofs.statements.rows_of.Given as goal
 

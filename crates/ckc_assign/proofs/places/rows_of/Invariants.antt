@@ -1,6 +1,6 @@
 use Rattle.std.proofs.Common.{◌≡◌, take}
 use Rattle.std.specs.Prelude.{flat_map}
-use Rattle.ckc_assign.specs.InSlots.{rows_in}
+use Rattle.ckc_assign.specs.code.InSlots.{rows_in}
 use Rattle.ckc_assign.proofs.places.rows_of.Given as goal
 
 abbrev pub invariant-loop-block : goal.invariant-loop-block

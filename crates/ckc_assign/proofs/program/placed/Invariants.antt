@@ -1,5 +1,5 @@
 use Rattle.std.proofs.Common.{◌≡◌, take, map}
-use Rattle.ckc_assign.specs.InSlots.{placed_function}
+use Rattle.ckc_assign.specs.code.InSlots.{placed_function}
 use Rattle.ckc_assign.proofs.program.placed.Given as goal
 
 abbrev pub invariant-loop-f : goal.invariant-loop-f

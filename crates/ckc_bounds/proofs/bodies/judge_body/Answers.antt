@@ -1,5 +1,5 @@
 use Rattle.std.proofs.lemmas.Result.{err_from_is_err_and}
-use Rattle.ckc_bounds.specs.Declarations.{text_of}
+use Rattle.ckc_bounds.specs.code.Declarations.{text_of}
 use Rattle.ckc_bounds.proofs.WholeBodies.{begins, framed, body_done, body_fault}
 use Rattle.ckc_bounds.proofs.bodies.judge_body.Goals as goal
 

@@ -1,5 +1,6 @@
 use Rattle.std.proofs.Common.{◌≡◌, [], drop}
-use Rattle.ckc_bounds.specs.Declarations.{text_of, heads_from}
+use Rattle.ckc_bounds.specs.Declarations.{heads_from}
+use Rattle.ckc_bounds.specs.code.Declarations.{text_of}
 use Rattle.ckc_bounds.proofs.heads.heads_of.Given as goal
 
 abbrev pub invariant-loop-item : goal.invariant-loop-item

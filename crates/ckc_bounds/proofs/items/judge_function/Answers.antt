@@ -1,5 +1,5 @@
 use Rattle.std.proofs.lemmas.Result.{err_from_is_err_and}
-use Rattle.ckc_bounds.specs.Declarations.{text_of}
+use Rattle.ckc_bounds.specs.code.Declarations.{text_of}
 use Rattle.ckc_bounds.specs.Texts.{body_judged, function_judged}
 use Rattle.ckc_syntax.proofs.Turns.{stops}
 use Rattle.ckc_bounds.proofs.WholeFunctions.{function_fault, function_done}

@@ -1,6 +1,6 @@
 use Rattle.std.proofs.Common.{◌≡◌, ◌+◌, ◌-◌, ◌≤◌}
 use Rattle.ckc_checks.specs.Inserted.{zeroed}
-use Rattle.ckc_checks.specs.Building.{behind}
+use Rattle.ckc_checks.specs.code.Building.{behind}
 use Rattle.ckc_checks.proofs.program.zero.Given as goal
 
 abbrev pub invariant-loop-left : goal.invariant-loop-left

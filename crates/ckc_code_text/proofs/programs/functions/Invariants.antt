@@ -1,7 +1,7 @@
 use Rattle.std.proofs.Common.{◌≡◌, map, take}
 use Rattle.std.specs.Prelude.{All}
 use Rattle.ckc_core.specs.declared.code.CoreFunc.{CoreFunc}
-use Rattle.ckc_code_text.specs.Fine.{IsFunction}
+use Rattle.ckc_code_text.specs.code.Fine.{IsFunction}
 use Rattle.ckc_code_text.proofs.programs.functions.Given as goal
 
 abbrev pub invariant-loop-count : goal.invariant-loop-count

@@ -1,5 +1,5 @@
 use Rattle.std.proofs.Common.{◌+◌, ◌*◌}
-use Rattle.ckc_code_text.specs.Fine.{IsBody}
+use Rattle.ckc_code_text.specs.code.Fine.{IsBody}
 use Rattle.ckc_code_text.proofs.stmts.+stmt.Given as goal
 
 abbrev pub decreases-block : goal.decreases-block

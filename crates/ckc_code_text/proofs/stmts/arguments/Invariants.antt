@@ -1,5 +1,5 @@
 use Rattle.std.specs.Prelude.{All}
-use Rattle.ckc_code_text.specs.Fine.{IsExpr}
+use Rattle.ckc_code_text.specs.code.Fine.{IsExpr}
 use Rattle.ckc_code_text.proofs.stmts.arguments.Given as goal
 
 abbrev pub invariant-loop-turn : goal.invariant-loop-turn

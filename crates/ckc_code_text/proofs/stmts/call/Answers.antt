@@ -1,5 +1,5 @@
 use Rattle.std.proofs.Common.{subst}
-use Rattle.ckc_code_text.specs.Fine.{IsFitting}
+use Rattle.ckc_code_text.specs.code.Fine.{IsFitting}
 use Rattle.ckc_code_text.proofs.Statements.{call_fine}
 use Rattle.ckc_code_text.proofs.stmts.call.Goals as goal
 

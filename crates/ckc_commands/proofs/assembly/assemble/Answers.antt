@@ -3,7 +3,7 @@ use Rattle.ckc_base.specs.declared.fault.Fault.{Fault}
 use Rattle.ckc_base.specs.declared.fault.Fault.TheVariants as fault
 use Rattle.ckc_base.specs.Phases.{Answers}
 use Rattle.ckc_asm.specs.Phase.{assembling, parts_in}
-use Rattle.ckc_commands.specs.Commands.{imaging}
+use Rattle.ckc_commands.specs.code.Commands.{imaging}
 use Rattle.std.specs.Prelude.{ℕ, List}
 use Rattle.ckc_commands.proofs.assembly.assemble.Goals as goal
 

@@ -1,7 +1,7 @@
 use Rattle.std.proofs.Common.{sym, subst, refl, List, ℕ}
 use Rattle.ckc_commands.specs.Words.{Assemble}
 use Rattle.ckc_build.specs.Built.{IsImage}
-use Rattle.ckc_commands.specs.Commands.{imaging}
+use Rattle.ckc_commands.specs.code.Commands.{imaging}
 use Rattle.ckc_outside.specs.Outside.{Stored}
 use Rattle.ckc_commands.proofs.Obeying.{faulted}
 use Rattle.ckc_commands.proofs.commands.assemble_bytes.Goals as goal

@@ -1,6 +1,7 @@
 use Rattle.std.proofs.Common.{◌≡◌, ℕ, List, inl, refl, subst}
 use Rattle.ckc_listing.specs.Listing.{listing}
-use Rattle.ckc_commands.specs.Running.{putting, Listed, OverImage}
+use Rattle.ckc_commands.specs.Running.{putting, Listed}
+use Rattle.ckc_commands.specs.code.Running.{OverImage}
 use Rattle.ckc_outside.specs.Outside.{Stored}
 use Rattle.ckc_commands.specs.Causes.{bad_image, fetched}
 use Rattle.ckc_commands.proofs.Obeying.{over_limit, whole_of, list_came}

@@ -1,5 +1,6 @@
 use Rattle.std.proofs.Common.{◌≡◌, ℕ, List, inl, refl, subst}
-use Rattle.ckc_commands.specs.Running.{Seen, Ends, OverImage, seen_of}
+use Rattle.ckc_commands.specs.Running.{Seen, Ends, seen_of}
+use Rattle.ckc_commands.specs.code.Running.{OverImage}
 use Rattle.ckc_outside.specs.Outside.{Stored}
 use Rattle.ckc_commands.specs.Causes.{bad_image, fetched}
 use Rattle.ckc_commands.proofs.Obeying.{over_limit, whole_of, run_came}

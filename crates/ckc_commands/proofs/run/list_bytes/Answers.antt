@@ -1,5 +1,6 @@
 use Rattle.std.proofs.Common.{refl}
-use Rattle.ckc_commands.specs.Running.{proper, bad, whole, front}
+use Rattle.ckc_commands.specs.Running.{whole, front}
+use Rattle.ckc_commands.specs.code.Running.{proper, bad}
 use Rattle.ckc_commands.proofs.run.list_bytes.Goals as goal
 
 pub returns-in-Err-clause-over : goal.returns-in-Err-clause-over

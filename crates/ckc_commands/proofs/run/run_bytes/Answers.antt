@@ -1,6 +1,6 @@
 use Rattle.std.proofs.Common.{refl}
 use Rattle.ckc_rv.specs.Machine.{Parts}
-use Rattle.ckc_commands.specs.Running.{proper, bad}
+use Rattle.ckc_commands.specs.code.Running.{proper, bad}
 use Rattle.ckc_commands.proofs.run.run_bytes.Goals as goal
 
 pub returns-in-Err-clause-over : goal.returns-in-Err-clause-over

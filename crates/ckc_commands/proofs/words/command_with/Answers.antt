@@ -1,7 +1,7 @@
 use Rattle.std.proofs.Common.{sym, subst}
 use Rattle.ckc_commands.specs.declared.words.Keyword.{Keyword}
 use Rattle.ckc_commands.specs.Words.{Command, bytes_of}
-use Rattle.ckc_commands.specs.Commanded.{HasArguments}
+use Rattle.ckc_commands.specs.code.Commanded.{HasArguments}
 use Rattle.ckc_commands.proofs.Wording.{no_exec, no_interp, no_run}
 use Rattle.ckc_commands.proofs.words.command_with.Goals as goal
 

@@ -1,7 +1,8 @@
 use Rattle.std.proofs.Common.{◌+◌, sym, ◌∙◌, ap, map}
 use Rattle.ckc_values.specs.Expressions.{expr_elaborated, literals_of}
 use Rattle.ckc_elaborate.specs.Steps.{assigned, declared, destination_of}
-use Rattle.ckc_elaborate.specs.Statements.{part_of, part_of_act, all_assigns, stmt_elaborated, stmts_elaborated}
+use Rattle.ckc_elaborate.specs.Statements.{part_of, part_of_act, all_assigns, stmt_elaborated}
+use Rattle.ckc_elaborate.specs.code.Statements.{stmts_elaborated}
 use Rattle.ckc_elaborate.proofs.Blocks.{block_is}
 use Rattle.ckc_elaborate.proofs.Acts.{goes, declares, assigns_one, assigns_many, branches, repeats, turned, counts}
 use Rattle.ckc_elaborate.proofs.statements.+stmt.Goals as goal

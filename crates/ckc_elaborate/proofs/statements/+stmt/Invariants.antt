@@ -1,6 +1,6 @@
 use Rattle.std.proofs.Common.{◌≡◌, ◌<◌, ◌≤◌, ◌++◌, length, map, drop}
 use Rattle.ckc_source.specs.Code.{stmt_of}
-use Rattle.ckc_elaborate.specs.Statements.{stmts_elaborated}
+use Rattle.ckc_elaborate.specs.code.Statements.{stmts_elaborated}
 use Rattle.ckc_elaborate.proofs.statements.+stmt.Given as goal
 
 -- behind the last statement no number is known, and nothing is left

@@ -1,5 +1,5 @@
 use Rattle.std.proofs.Common.{slice_index}
-use Rattle.ckc_emit.specs.ProgramLines.{codes_of}
+use Rattle.ckc_emit.specs.code.ProgramLines.{codes_of}
 use Rattle.ckc_emit.proofs.AddedCode.{callable}
 use Rattle.ckc_emit.proofs.ProgramEmitted.{program_emitted}
 use Rattle.ckc_emit.proofs.program.lines_of.Goals as goal

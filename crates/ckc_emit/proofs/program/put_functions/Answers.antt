@@ -1,6 +1,6 @@
 use Rattle.std.proofs.Common.{length, ap, arith}
 use Rattle.ckc_emit.proofs.AddedCode.{over_at}
-use Rattle.ckc_emit.specs.ProgramLines.{codes_of}
+use Rattle.ckc_emit.specs.code.ProgramLines.{codes_of}
 use Rattle.ckc_emit.proofs.program.put_functions.Goals as goal
 
 pub put_function-requires-clause-over : goal.put_function-requires-clause-over

@@ -1,6 +1,7 @@
 use Rattle.std.proofs.Common.{◌∷◌, ◌∙◌, sym, ap}
 use Rattle.ckc_grammar.specs.declared.parts.Step.{Step}
-use Rattle.ckc_grammar.specs.Trees.{level, attached}
+use Rattle.ckc_grammar.specs.Trees.{level}
+use Rattle.ckc_grammar.specs.code.Trees.{attached}
 use Rattle.ckc_grammar.proofs.Joining.{attach_last, is_level, same_step}
 use Rattle.ckc_grammar.proofs.join.join_last.Goals as goal
 

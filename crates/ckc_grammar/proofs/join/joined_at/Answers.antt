@@ -1,6 +1,7 @@
 use Rattle.std.proofs.Common.{◌≡◌, ◌∷◌, ◌∙◌, [], sym, ap, length, List, refl}
 use Rattle.ckc_grammar.specs.declared.parts.Step.{Step}
-use Rattle.ckc_grammar.specs.Trees.{level, attached, joined_at}
+use Rattle.ckc_grammar.specs.Trees.{level, joined_at}
+use Rattle.ckc_grammar.specs.code.Trees.{attached}
 use Rattle.ckc_grammar.proofs.Joining.{attach_push, attach_end, not_level}
 use Rattle.ckc_grammar.proofs.join.joined_at.Goals as goal
 

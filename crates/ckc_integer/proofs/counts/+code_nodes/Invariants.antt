@@ -1,7 +1,7 @@
 use Rattle.std.proofs.Common.{◌≡◌, ◌≤◌, drop, length}
 use Rattle.ckc_source.specs.Code.{code_of}
 use Rattle.ckc_operands.specs.Compilable.{code_nodes}
-use Rattle.ckc_integer.specs.Capped.{capped}
+use Rattle.ckc_integer.specs.code.Capped.{capped}
 use Rattle.ckc_integer.proofs.counts.+code_nodes.Given as goal
 
 abbrev pub decreases-code_nodes : goal.decreases-code_nodes

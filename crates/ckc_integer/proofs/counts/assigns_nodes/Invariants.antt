@@ -1,7 +1,7 @@
 use Rattle.std.proofs.Common.{◌≡◌, ◌≤◌, drop, map, length}
 use Rattle.ckc_source.specs.Code.{assign_of}
 use Rattle.ckc_operands.specs.Compilable.{assigns_nodes}
-use Rattle.ckc_integer.specs.Capped.{capped}
+use Rattle.ckc_integer.specs.code.Capped.{capped}
 use Rattle.ckc_integer.proofs.counts.assigns_nodes.Given as goal
 
 abbrev pub invariant-loop-i : goal.invariant-loop-i

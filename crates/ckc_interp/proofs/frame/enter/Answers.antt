@@ -1,7 +1,7 @@
 use Rattle.std.proofs.Common.{◌-◌, ◌++◌, [], ◌∷◌, length, replicate, ◌∙◌, ap}
 use Rattle.ckc_source.specs.Code.{code_of, function_of}
 use Rattle.ckc_source.specs.States.{Rest}
-use Rattle.ckc_interp.specs.Views.{work_of, next_of_call}
+use Rattle.ckc_interp.specs.code.Views.{work_of, next_of_call}
 use Rattle.ckc_interp.proofs.Acting.{framed}
 use Rattle.ckc_interp.proofs.Working.{stacked-push, stacked-nil}
 use Rattle.ckc_interp.proofs.frame.enter.Goals as goal

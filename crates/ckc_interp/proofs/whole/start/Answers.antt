@@ -2,7 +2,7 @@ use Rattle.std.proofs.Common.{[], map, ◌∙◌, ap}
 use Rattle.ckc_source.specs.Blocks.{block_of, place_behind, first_place}
 use Rattle.ckc_source.specs.Code.{function_of}
 use Rattle.ckc_source.specs.States.{entered}
-use Rattle.ckc_interp.specs.Views.{caller_of, stacked}
+use Rattle.ckc_interp.specs.code.Views.{caller_of, stacked}
 use Rattle.ckc_interp.proofs.Acting.{state_parts}
 use Rattle.ckc_interp.proofs.Working.{stacked-nil}
 use Rattle.ckc_interp.proofs.whole.start.Goals as goal

@@ -1,7 +1,7 @@
 use Rattle.std.proofs.Common.{sym, ◌∙◌}
 use Rattle.ckc_source.specs.States.{resumed}
 use Rattle.ckc_source.specs.Code.{code_of}
-use Rattle.ckc_interp.specs.Views.{next_of_call, leaving_of}
+use Rattle.ckc_interp.specs.code.Views.{next_of_call, leaving_of}
 use Rattle.ckc_interp.proofs.Working.{begun_left, begun_stays}
 use Rattle.ckc_interp.proofs.work.begin.Goals as goal
 

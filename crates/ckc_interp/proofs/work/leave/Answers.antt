@@ -1,7 +1,7 @@
 use Rattle.std.proofs.Common.{sym, ◌∙◌, ap}
 use Rattle.ckc_source.specs.States.{begun, resumed}
 use Rattle.ckc_source.specs.Code.{code_of}
-use Rattle.ckc_interp.specs.Views.{next_of_call, leaving_of}
+use Rattle.ckc_interp.specs.code.Views.{next_of_call, leaving_of}
 use Rattle.ckc_interp.specs.declared.work.Work.TheVariants.{Rest, Turn}
 use Rattle.ckc_interp.specs.declared.work.Leaving.TheVariants.{Ended, Broken, Continued}
 use Rattle.ckc_interp.proofs.Working.{resumed-rest, resumed-turn_broken, resumed-turn_ended, resumed-turn_continued, resumed-rest_broken, resumed-rest_continued, front_is, left_so}

@@ -1,5 +1,5 @@
 use Rattle.std.proofs.Common.{[], ◌∙◌, ap}
-use Rattle.ckc_interp.specs.Views.{work_of, next_of_call}
+use Rattle.ckc_interp.specs.code.Views.{work_of, next_of_call}
 use Rattle.ckc_interp.proofs.Working.{stacked-push}
 use Rattle.ckc_interp.proofs.work.push_rest.Goals as goal
 

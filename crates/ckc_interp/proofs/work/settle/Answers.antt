@@ -1,6 +1,6 @@
 use Rattle.std.proofs.Common.{sym, ◌∙◌, ap}
 use Rattle.ckc_source.specs.States.{resumed}
-use Rattle.ckc_interp.specs.Views.{leaving_of}
+use Rattle.ckc_interp.specs.code.Views.{leaving_of}
 use Rattle.ckc_interp.proofs.Working.{resumed-nil}
 use Rattle.ckc_interp.proofs.work.settle.Goals as goal
 

@@ -1,6 +1,6 @@
 use Rattle.std.proofs.Common.{◌≡◌, vec_len}
 use Rattle.ckc_source.specs.States.{resumed, settled}
-use Rattle.ckc_interp.specs.Views.{next_of_call, leaving_of}
+use Rattle.ckc_interp.specs.code.Views.{next_of_call, leaving_of}
 use Rattle.ckc_interp.proofs.work.settle.Given as goal
 
 abbrev pub invariant-fronts : goal.invariant-fronts

@@ -1,5 +1,5 @@
 use Rattle.std.proofs.Common.{[], sym, ◌∙◌, ap}
-use Rattle.ckc_interp.specs.Views.{work_of, next_of_call}
+use Rattle.ckc_interp.specs.code.Views.{work_of, next_of_call}
 use Rattle.ckc_interp.proofs.Working.{stacked-push, stacked-nil, nil_of}
 use Rattle.ckc_interp.proofs.work.take_front.Goals as goal
 

@@ -1,5 +1,5 @@
 use Rattle.std.proofs.Common.{◌≡◌, ◌+◌, ◌≤◌, take}
-use Rattle.ckc_lexer.specs.Reading.{moved}
+use Rattle.ckc_lexer.specs.code.Reading.{moved}
 use Rattle.ckc_lexer.proofs.lexer.moved.Given as goal
 
 abbrev pub invariant-loop-b : goal.invariant-loop-b

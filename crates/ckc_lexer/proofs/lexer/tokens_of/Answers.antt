@@ -4,7 +4,7 @@ use Rattle.std.proofs.lemmas.List.{nil_from_length}
 use Rattle.ckc_lexer.specs.declared.items.Item.{Item}
 use Rattle.ckc_syntax.specs.Longest.{Longest}
 use Rattle.ckc_lexer.specs.Spelling.{Spells}
-use Rattle.ckc_lexer.specs.Reading.{context_at, IsReading}
+use Rattle.ckc_lexer.specs.code.Reading.{context_at, IsReading}
 use Rattle.ckc_lexer.proofs.Ascii.{token_utf8}
 use Rattle.ckc_lexer.proofs.Reading.{read_broken, read_end, next_gap, next_token}
 use Rattle.ckc_lexer.proofs.lexer.tokens_of.Goals as goal

@@ -3,7 +3,7 @@ use Rattle.std.proofs.lemmas.List.{take_rest}
 use Rattle.ckc_syntax.specs.declared.literals.Piece.{Piece}
 use Rattle.ckc_syntax.specs.Longest.{Longest, NoFront}
 use Rattle.ckc_syntax.specs.Literals.{IsPiece, IsLiteral}
-use Rattle.ckc_lexer.specs.LiteralReading.{IsOnlyLiteral}
+use Rattle.ckc_lexer.specs.code.LiteralReading.{IsOnlyLiteral}
 use Rattle.ckc_lexer.proofs.LiteralFronts.{apostrophe, no_character, one_character, no_end}
 use Rattle.ckc_lexer.proofs.literals.character_of.Goals as goal
 use Rattle.ckc_lexer.proofs.literals.character_of.Goals.{else-end-text-via-then-end-text+else-text-end-eq39, else-end-text-via-else-end-text}

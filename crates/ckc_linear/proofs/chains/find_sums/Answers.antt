@@ -1,6 +1,6 @@
 use Rattle.std.proofs.Common.{arith, ap, length, subst, sym, ◌≡◌, ◌+◌, ℤ}
 use Rattle.std.proofs.lemmas.List.{length-set}
-use Rattle.ckc_linear.specs.Rows.{IsRow, IsRound}
+use Rattle.ckc_linear.specs.code.Rows.{IsRow, IsRound}
 use Rattle.ckc_linear.proofs.Walks.{row_small, row_round, row_settled}
 use Rattle.ckc_linear.proofs.chains.find_sums.Goals as goal
 

@@ -1,4 +1,4 @@
-use Rattle.ckc_linear.specs.Rows.{IsRow}
+use Rattle.ckc_linear.specs.code.Rows.{IsRow}
 use Rattle.ckc_linear.proofs.chains.find_sums.Given as goal
 
 abbrev pub invariant-loop-most : goal.invariant-loop-most

@@ -1,6 +1,6 @@
 use Rattle.std.proofs.Common.{arith, ap, pos, ◌≡◌, ◌+ℤ◌, slice_index_or, slice_set, w64, to_z, of_z}
 use Rattle.std.proofs.lemmas.Int.{ints}
-use Rattle.ckc_linear.specs.Rows.{sum_at}
+use Rattle.ckc_linear.specs.code.Rows.{sum_at}
 use Rattle.ckc_linear.proofs.chains.lowers.Goals as goal
 
 pub returns-then-sum-next : goal.returns-then-sum-next

@@ -1,6 +1,6 @@
 use Rattle.std.proofs.Common.{◌≡◌, take}
 use Rattle.std.specs.Bool.{OnFalse}
-use Rattle.ckc_linear.specs.Rows.{IsRound}
+use Rattle.ckc_linear.specs.code.Rows.{IsRound}
 use Rattle.ckc_linear.proofs.chains.round.Given as goal
 
 -- the facts so far have lowered what they can

@@ -1,6 +1,6 @@
 use Rattle.std.proofs.Common.{take}
 use Rattle.std.specs.Bool.{OnFalse}
-use Rattle.ckc_linear.specs.Runs.{AllStay}
+use Rattle.ckc_linear.specs.code.Runs.{AllStay}
 use Rattle.ckc_linear.proofs.facts.has.Given as goal
 
 -- where none was found, none of the facts so far names x

@@ -1,5 +1,5 @@
 use Rattle.std.proofs.Common.{◌≤◌, ◌-◌, length, take}
-use Rattle.ckc_linear.specs.Runs.{AllStay}
+use Rattle.ckc_linear.specs.code.Runs.{AllStay}
 use Rattle.ckc_linear.proofs.facts.passed_over.Given as goal
 
 abbrev pub invariant-tests : goal.invariant-tests

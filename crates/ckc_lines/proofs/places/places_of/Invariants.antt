@@ -1,7 +1,7 @@
 use Rattle.std.proofs.Common.{◌≡◌, nat_eq}
 use Rattle.indexmap.specs.IndexMap.{get}
 use Rattle.ckc_lines.specs.Assembled.{address_of}
-use Rattle.ckc_lines.specs.Places.{KnowsPlaces}
+use Rattle.ckc_lines.specs.code.Places.{KnowsPlaces}
 use Rattle.ckc_lines.proofs.places.places_of.Given as goal
 
 abbrev pub invariant-loop-line : goal.invariant-loop-line

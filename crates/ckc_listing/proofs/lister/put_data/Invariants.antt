@@ -1,7 +1,7 @@
 use Rattle.std.proofs.Common.{map}
 use Rattle.std.specs.List.{range_with_len}
 use Rattle.ckc_listing.specs.Listing.{data_line}
-use Rattle.ckc_listing.specs.Putting.{HasPut}
+use Rattle.ckc_listing.specs.code.Putting.{HasPut}
 use Rattle.ckc_listing.proofs.lister.put_data.Given as goal
 
 abbrev pub invariant-loop-k : goal.invariant-loop-k

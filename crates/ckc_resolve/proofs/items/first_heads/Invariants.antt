@@ -1,5 +1,5 @@
 use Rattle.std.proofs.Common.{◌-◌, drop, length}
-use Rattle.ckc_resolve.specs.Bodies.{HasFirstHeads}
+use Rattle.ckc_resolve.specs.code.Bodies.{HasFirstHeads}
 use Rattle.ckc_resolve.proofs.items.first_heads.Given as goal
 
 abbrev pub invariant-loop-done : goal.invariant-loop-done

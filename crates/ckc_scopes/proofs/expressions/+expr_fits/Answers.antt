@@ -4,7 +4,7 @@ use Rattle.ckc_syntax.specs.declared.tree.Name.{Name}
 use Rattle.ckc_syntax.specs.declared.tree.Expr.{out-Expr}
 use Rattle.ckc_typed.specs.declared.typed.Note.{Note}
 use Rattle.ckc_typed.specs.Walk.{within, spot, value, spots_of_expr, spots_of_bounds, spots_of_limits}
-use Rattle.ckc_scopes.specs.Verdict.{verdict}
+use Rattle.ckc_scopes.specs.code.Verdict.{verdict}
 use Rattle.ckc_scopes.proofs.Verdicts.{stops, goes, loop_stops, loop_goes}
 use Rattle.ckc_scopes.proofs.Parts.{parts_of_call, parts_of_between, parts_of_bin, parts_of_index, parts_of_pick, parts_of_trusted, parts_of_tested, spots_of_whole}
 use Rattle.ckc_scopes.proofs.expressions.+expr_fits.Goals as goal

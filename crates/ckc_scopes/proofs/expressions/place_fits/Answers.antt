@@ -1,6 +1,6 @@
 use Rattle.std.proofs.Common.{sym, ap, ◌∙◌}
 use Rattle.ckc_typed.specs.Walk.{written, written_at}
-use Rattle.ckc_scopes.specs.Verdict.{verdict}
+use Rattle.ckc_scopes.specs.code.Verdict.{verdict}
 use Rattle.ckc_scopes.proofs.Verdicts.{verdict_unchecked}
 use Rattle.ckc_scopes.proofs.expressions.place_fits.Goals as goal
 

@@ -2,7 +2,7 @@ use Rattle.std.proofs.Common.{refl, ap, sym, ◌∙◌, ◌++◌}
 use Rattle.std.specs.Prelude.{flat_map}
 use Rattle.ckc_typed.specs.Raw.{stars}
 use Rattle.ckc_typed.specs.Walk.{written_at, spots_of_bounds, spots_of_decl, spots_of_head}
-use Rattle.ckc_scopes.specs.Verdict.{verdict}
+use Rattle.ckc_scopes.specs.code.Verdict.{verdict}
 use Rattle.ckc_scopes.proofs.Verdicts.{stops, goes}
 use Rattle.ckc_scopes.proofs.items.head_fits.Goals as goal
 

@@ -1,6 +1,6 @@
 use Rattle.std.proofs.Common.{ap, ◌∙◌}
 use Rattle.ckc_typed.specs.Walk.{spots_of_head, spots_of_item, spots_of_stmt}
-use Rattle.ckc_scopes.specs.Verdict.{verdict}
+use Rattle.ckc_scopes.specs.code.Verdict.{verdict}
 use Rattle.ckc_scopes.proofs.Verdicts.{stops, goes}
 use Rattle.ckc_scopes.proofs.items.item_fits.Goals as goal
 

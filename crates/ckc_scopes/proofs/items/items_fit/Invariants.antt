@@ -1,7 +1,7 @@
 use Rattle.std.proofs.Common.{◌≡◌, drop}
 use Rattle.ckc_base.specs.declared.arithmetic.Mode.TheVariants.{Unchecked}
 use Rattle.ckc_typed.specs.Walk.{spots_of_items}
-use Rattle.ckc_scopes.specs.Verdict.{verdict}
+use Rattle.ckc_scopes.specs.code.Verdict.{verdict}
 use Rattle.ckc_scopes.proofs.items.items_fit.Given as goal
 
 -- what is left gives what the whole gives

@@ -2,7 +2,7 @@ use Rattle.std.proofs.Common.{◌≡◌, ◌+◌, ◌∙◌, sym, ap, drop}
 use Rattle.std.specs.Prelude.{flat_map}
 use Rattle.std.specs.Option.{option_or}
 use Rattle.ckc_typed.specs.Raw.{raws_of_decl}
-use Rattle.ckc_scopes.specs.Verdict.{first}
+use Rattle.ckc_scopes.specs.code.Verdict.{first}
 use Rattle.ckc_scopes.proofs.Verdicts.{first_turn}
 use Rattle.ckc_scopes.proofs.raw.first_of_params.Goals as goal
 

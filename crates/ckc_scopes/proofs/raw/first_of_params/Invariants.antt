@@ -1,7 +1,7 @@
 use Rattle.std.proofs.Common.{◌≡◌, drop}
 use Rattle.std.specs.Prelude.{flat_map}
 use Rattle.ckc_typed.specs.Raw.{raws_of_decl}
-use Rattle.ckc_scopes.specs.Verdict.{first}
+use Rattle.ckc_scopes.specs.code.Verdict.{first}
 use Rattle.ckc_scopes.proofs.raw.first_of_params.Given as goal
 
 -- what is left gives what the whole gives

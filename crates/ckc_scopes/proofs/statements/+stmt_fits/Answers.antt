@@ -1,7 +1,7 @@
 use Rattle.std.proofs.Common.{refl, ap, sym, ◌∙◌, ◌++◌}
 use Rattle.std.specs.Prelude.{flat_map}
 use Rattle.ckc_typed.specs.Walk.{spots_of_expr, spots_of_value, spots_of_act, spots_of_stmt, spots_of_part}
-use Rattle.ckc_scopes.specs.Verdict.{verdict}
+use Rattle.ckc_scopes.specs.code.Verdict.{verdict}
 use Rattle.ckc_scopes.proofs.Verdicts.{stops, goes, loop_stops, loop_goes}
 use Rattle.ckc_scopes.proofs.Parts.{parts_of_block, parts_of_bundle, parts_of_assign, parts_of_if, parts_of_while, parts_of_for}
 use Rattle.ckc_scopes.proofs.statements.+stmt_fits.Goals as goal

@@ -1,7 +1,7 @@
 use Rattle.std.proofs.Common.{ap, sym, ◌∙◌}
 use Rattle.ckc_base.specs.declared.arithmetic.Mode.TheVariants.{Unchecked}
 use Rattle.ckc_typed.specs.Walk.{spots_of_items}
-use Rattle.ckc_scopes.specs.Verdict.{verdict}
+use Rattle.ckc_scopes.specs.code.Verdict.{verdict}
 use Rattle.ckc_scopes.proofs.Firsts.{scoped_exact, fault_exact}
 use Rattle.ckc_scopes.proofs.text.scopes.Goals as goal
 

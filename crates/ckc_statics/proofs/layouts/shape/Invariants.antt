@@ -1,5 +1,5 @@
 use Rattle.std.proofs.Common.{◌≡◌, take, map}
-use Rattle.ckc_statics.specs.Shapes.{member_by}
+use Rattle.ckc_statics.specs.code.Shapes.{member_by}
 use Rattle.std.specs.Option.{option_copied}
 use Rattle.ckc_statics.proofs.layouts.shape.Given as goal
 

@@ -1,6 +1,6 @@
 use Rattle.std.specs.Option.{option_copied}
 use Rattle.ckc_typed.specs.Layouts.{tag_count}
-use Rattle.ckc_statics.specs.Shapes.{member_by}
+use Rattle.ckc_statics.specs.code.Shapes.{member_by}
 use Rattle.ckc_statics.proofs.Shapes.{put_turn}
 use Rattle.ckc_statics.proofs.layouts.structs_with.Goals as goal
 

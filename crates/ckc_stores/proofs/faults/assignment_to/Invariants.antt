@@ -1,6 +1,7 @@
 use Rattle.std.proofs.Common.{◌≡◌, map, drop}
 use Rattle.std.specs.List.{find}
-use Rattle.ckc_stores.specs.Stores.{placed, assigns_local}
+use Rattle.ckc_stores.specs.Stores.{assigns_local}
+use Rattle.ckc_stores.specs.code.Stores.{placed}
 use Rattle.ckc_stores.proofs.faults.assignment_to.Given as goal
 
 -- what is left gives what the whole gives

@@ -1,6 +1,7 @@
 use Rattle.std.proofs.Common.{◌≡◌, map, drop, None}
 use Rattle.ckc_points.specs.Flow.{state}
-use Rattle.ckc_stores.specs.Stores.{placed, local_fault, earliest}
+use Rattle.ckc_stores.specs.Stores.{local_fault, earliest}
+use Rattle.ckc_stores.specs.code.Stores.{placed}
 use Rattle.ckc_stores.proofs.faults.first_of_locals.Given as goal
 
 -- the earliest so far, and the locals that are left, give what all give

@@ -1,6 +1,7 @@
 use Rattle.std.proofs.Common.{◌≡◌, map, drop}
 use Rattle.ckc_points.specs.Flow.{state}
-use Rattle.ckc_stores.specs.Stores.{placed, store_fault, earliest}
+use Rattle.ckc_stores.specs.Stores.{store_fault, earliest}
+use Rattle.ckc_stores.specs.code.Stores.{placed}
 use Rattle.ckc_stores.proofs.faults.first_of_stores.Given as goal
 
 -- the earliest so far, and the assignments that are left, give what all give

@@ -1,5 +1,6 @@
 use Rattle.std.proofs.Common.{◌≡◌, ◌++◌, map, drop}
-use Rattle.ckc_stores.specs.Stores.{placed, members_assigned}
+use Rattle.ckc_stores.specs.Stores.{members_assigned}
+use Rattle.ckc_stores.specs.code.Stores.{placed}
 use Rattle.ckc_stores.proofs.faults.members_assigned.Given as goal
 
 -- those so far, and those of the assignments that are left, are all

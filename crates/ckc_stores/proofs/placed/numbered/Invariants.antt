@@ -1,6 +1,7 @@
 use Rattle.std.proofs.Common.{◌≡◌, ◌++◌, map, drop}
 use Rattle.ckc_points.specs.Flow.{state}
-use Rattle.ckc_stores.specs.Stores.{placed, numbered, stores_of}
+use Rattle.ckc_stores.specs.Stores.{numbered, stores_of}
+use Rattle.ckc_stores.specs.code.Stores.{placed}
 use Rattle.ckc_stores.proofs.placed.numbered.Given as goal
 
 -- the assignments so far, and those of the statements that are left, are all

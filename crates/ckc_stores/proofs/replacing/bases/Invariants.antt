@@ -1,7 +1,8 @@
 use Rattle.std.proofs.Common.{◌≡◌, ◌++◌, map, drop}
 use Rattle.std.specs.List.{filter_map}
 use Rattle.ckc_points.specs.Shown.{known}
-use Rattle.ckc_stores.specs.Stores.{placed, base_by}
+use Rattle.ckc_stores.specs.Stores.{base_by}
+use Rattle.ckc_stores.specs.code.Stores.{placed}
 use Rattle.ckc_stores.proofs.replacing.bases.Given as goal
 
 -- those so far, and those of the assignments that are left, are all

@@ -1,7 +1,8 @@
 use Rattle.std.proofs.Common.{◌≡◌, map, drop}
 use Rattle.ckc_points.specs.Shown.{known}
 use Rattle.ckc_points.specs.Flow.{state}
-use Rattle.ckc_stores.specs.Stores.{placed, after}
+use Rattle.ckc_stores.specs.Stores.{after}
+use Rattle.ckc_stores.specs.code.Stores.{placed}
 use Rattle.ckc_stores.proofs.stores.assign_all.Given as goal
 
 -- what is left leads to the whole

@@ -3,7 +3,7 @@ use Rattle.std.specs.Prelude.{flat_map}
 use Rattle.std.proofs.lemmas.Result.{err_from_is_err_and}
 use Rattle.ckc_syntax.specs.Marks.{marks_of, marks_of_item}
 use Rattle.ckc_syntax.specs.Small.{faults_of_item, faults_of_marks}
-use Rattle.ckc_syntax.specs.Tally.{tallied, nothing}
+use Rattle.ckc_syntax.specs.code.Tally.{tallied, nothing}
 use Rattle.ckc_syntax.proofs.Smalls.{stops, goes, faults_turn, faults_split, faults_end, marks_end}
 use Rattle.ckc_syntax.proofs.Tallies.{tallied_turn}
 use Rattle.ckc_syntax.proofs.limits.judged.Goals as goal

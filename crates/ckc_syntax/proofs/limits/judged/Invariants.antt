@@ -2,7 +2,7 @@ use Rattle.std.proofs.Common.{◌≡◌, drop}
 use Rattle.std.specs.Prelude.{flat_map}
 use Rattle.ckc_syntax.specs.Marks.{marks_of_item}
 use Rattle.ckc_syntax.specs.Small.{faults_of_item}
-use Rattle.ckc_syntax.specs.Tally.{tallied, nothing}
+use Rattle.ckc_syntax.specs.code.Tally.{tallied, nothing}
 use Rattle.ckc_syntax.proofs.limits.judged.Given as goal
 
 -- the items so far break nothing, and counting what is left gives what counting the whole gives

@@ -1,6 +1,6 @@
 use Rattle.std.proofs.Common.{ℕ, List, subst, arith, length-take-le}
 use Rattle.std.proofs.lemmas.List.{take_rest}
-use Rattle.ckc_syntax.specs.DigitReading.{IsMostDigits}
+use Rattle.ckc_syntax.specs.code.DigitReading.{IsMostDigits}
 use Rattle.ckc_syntax.proofs.DigitFronts.{no_more_digits, digits_longest}
 use Rattle.ckc_syntax.proofs.literals.digits_after.Goals as goal
 

@@ -1,5 +1,5 @@
 use Rattle.std.proofs.Common.{◌≡◌, drop}
-use Rattle.ckc_syntax.specs.SameParts.{same_exprs}
+use Rattle.ckc_syntax.specs.code.SameParts.{same_exprs}
 use Rattle.ckc_syntax.proofs.same.+same.Given as goal
 
 abbrev pub invariant-same_exprs-loop-i : goal.invariant-same_exprs-loop-i

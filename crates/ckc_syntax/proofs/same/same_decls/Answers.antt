@@ -1,5 +1,5 @@
 use Rattle.std.proofs.Common.{sym, ◌∙◌, arith}
-use Rattle.ckc_syntax.specs.SameParts.{same_decl}
+use Rattle.ckc_syntax.specs.code.SameParts.{same_decl}
 use Rattle.ckc_syntax.proofs.SameLists.{unlike, stops, goes_on, ends}
 use Rattle.ckc_syntax.proofs.same.same_decls.Goals as goal
 

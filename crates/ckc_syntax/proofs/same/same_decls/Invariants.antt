@@ -1,5 +1,5 @@
 use Rattle.std.proofs.Common.{◌≡◌, drop}
-use Rattle.ckc_syntax.specs.SameParts.{same_decls}
+use Rattle.ckc_syntax.specs.code.SameParts.{same_decls}
 use Rattle.ckc_syntax.proofs.same.same_decls.Given as goal
 
 abbrev pub invariant-loop-i : goal.invariant-loop-i

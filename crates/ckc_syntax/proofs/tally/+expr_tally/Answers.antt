@@ -1,7 +1,7 @@
 use Rattle.std.proofs.Common.{◌+◌, drop, ap, sym, ◌∙◌}
 use Rattle.std.specs.Prelude.{flat_map}
 use Rattle.ckc_syntax.specs.Marks.{marks_of_node, marks_of_expr}
-use Rattle.ckc_syntax.specs.Tally.{tallied}
+use Rattle.ckc_syntax.specs.code.Tally.{tallied}
 use Rattle.ckc_syntax.proofs.Tallies.{tallied_append, tallied_turn, marks_of_between, marks_of_bin, marks_of_index, marks_of_pick, marks_of_trusted, marks_of_tested, marks_of_call}
 use Rattle.ckc_syntax.proofs.tally.+expr_tally.Goals as goal
 

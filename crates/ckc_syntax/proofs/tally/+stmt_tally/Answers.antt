@@ -1,7 +1,7 @@
 use Rattle.std.proofs.Common.{◌+◌, drop, ap, sym, ◌∙◌}
 use Rattle.std.specs.Prelude.{flat_map}
 use Rattle.ckc_syntax.specs.Marks.{marks_of_act, marks_of_stmt}
-use Rattle.ckc_syntax.specs.Tally.{tallied}
+use Rattle.ckc_syntax.specs.code.Tally.{tallied}
 use Rattle.ckc_syntax.proofs.Tallies.{tallied_append, tallied_turn, marks_of_assign, marks_of_if, marks_of_while, marks_of_for, marks_of_block, marks_of_bundle}
 use Rattle.ckc_syntax.proofs.tally.+stmt_tally.Goals as goal
 

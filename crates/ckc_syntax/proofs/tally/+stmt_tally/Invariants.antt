@@ -1,7 +1,7 @@
 use Rattle.std.proofs.Common.{◌≡◌, drop}
 use Rattle.std.specs.Prelude.{flat_map}
 use Rattle.ckc_syntax.specs.Marks.{marks_of_stmt}
-use Rattle.ckc_syntax.specs.Tally.{tallied}
+use Rattle.ckc_syntax.specs.code.Tally.{tallied}
 use Rattle.ckc_syntax.proofs.tally.+stmt_tally.Given as goal
 
 -- counting what is left gives what counting the whole gives

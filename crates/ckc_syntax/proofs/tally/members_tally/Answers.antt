@@ -1,7 +1,7 @@
 use Rattle.std.proofs.Common.{◌+◌, drop, ap, sym, ◌∙◌}
 use Rattle.std.specs.Prelude.{flat_map}
 use Rattle.ckc_syntax.specs.Marks.{marks_of_decl}
-use Rattle.ckc_syntax.specs.Tally.{tallied}
+use Rattle.ckc_syntax.specs.code.Tally.{tallied}
 use Rattle.ckc_syntax.proofs.Tallies.{tallied_turn}
 use Rattle.ckc_syntax.proofs.tally.members_tally.Goals as goal
 

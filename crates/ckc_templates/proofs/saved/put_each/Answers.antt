@@ -1,5 +1,5 @@
 use Rattle.std.proofs.Common.{arith, false, slice_index_or}
-use Rattle.ckc_templates.specs.Saved.{kept_lines}
+use Rattle.ckc_templates.specs.code.Saved.{kept_lines}
 use Rattle.ckc_templates.proofs.Turns.{each_turn, each_done}
 use Rattle.ckc_templates.proofs.saved.put_each.Goals as goal
 

@@ -1,5 +1,6 @@
 use Rattle.std.proofs.Common.{◌≡◌}
-use Rattle.ckc_typed.specs.Types.{integer_object, within}
+use Rattle.ckc_typed.specs.Types.{integer_object}
+use Rattle.ckc_typed.specs.code.Types.{within}
 use Rattle.ckc_typed.proofs.types.integer_object.Given as goal
 
 abbrev pub invariant-pointers : goal.invariant-pointers

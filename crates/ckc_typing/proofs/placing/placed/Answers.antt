@@ -3,7 +3,7 @@ use Rattle.std.specs.Prelude.{List, Err}
 use Rattle.ckc_typed.specs.declared.typed.StaticObject.{StaticObject}
 use Rattle.ckc_typed.specs.Statics.{FIRST_END}
 use Rattle.ckc_base.specs.Outcomes.{AnswersOutcome}
-use Rattle.ckc_typing.specs.Placing.{placed_behind}
+use Rattle.ckc_typing.specs.code.Placing.{placed_behind}
 use Rattle.ckc_typing.proofs.PlacingTurns.{placed_late}
 use Rattle.ckc_typing.proofs.placing.placed.Goals as goal
 

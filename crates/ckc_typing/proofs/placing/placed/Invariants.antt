@@ -1,6 +1,6 @@
 use Rattle.std.proofs.Common.{◌≡◌, ◌≤◌, drop}
 use Rattle.ckc_typed.specs.Statics.{FIRST_END, LAST_END}
-use Rattle.ckc_typing.specs.Placing.{placed_behind}
+use Rattle.ckc_typing.specs.code.Placing.{placed_behind}
 use Rattle.ckc_syntax.proofs.Turns.{ahead}
 use Rattle.ckc_typing.proofs.placing.placed.Given as goal
 

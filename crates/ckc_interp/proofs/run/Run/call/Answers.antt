@@ -1,7 +1,7 @@
 use Rattle.std.proofs.Common.{[], ◌∷◌, sym, ◌∙◌, ap, arith}
 use Rattle.ckc_base.specs.Steps.{Goes}
-use Rattle.ckc_interp.specs.Turns.{Does}
-use Rattle.ckc_interp.specs.Views.{caller_of, core_of}
+use Rattle.ckc_interp.specs.code.Turns.{Does}
+use Rattle.ckc_interp.specs.code.Views.{caller_of, core_of}
 use Rattle.ckc_interp.proofs.Acting.{with_calls, calls_full, calls_at, function_some, function_none, length-stacked}
 use Rattle.ckc_interp.proofs.run.Run.call.Goals as goal
 

@@ -1,8 +1,8 @@
 use Rattle.std.proofs.Common.{◌≡◌, ℕ, List, [], ◌∷◌, drop, Option, Some, Ok, inl, inr, refl, sym, ap, subst, ◌∙◌}
 use Rattle.ckc_outside.specs.Outside.{GivesNext, GivesNothing, after_next}
 use Rattle.ckc_source.specs.Steps.{writes_allowed}
-use Rattle.ckc_interp.specs.Turns.{Wrote}
-use Rattle.ckc_interp.specs.Views.{core_of}
+use Rattle.ckc_interp.specs.code.Turns.{Wrote}
+use Rattle.ckc_interp.specs.code.Views.{core_of}
 use Rattle.ckc_outside.proofs.Giving.{no_answer, one_answer}
 use Rattle.ckc_interp.proofs.Giving.{first_of, none_of, left_none}
 use Rattle.ckc_interp.proofs.run.Run.get.Goals as goal

@@ -2,8 +2,8 @@ use Rattle.std.proofs.Common.{[], sym, ◌∙◌, ap}
 use Rattle.std.specs.Option.{option_copied}
 use Rattle.ckc_source.specs.Steps.{returns, hands, comes_to}
 use Rattle.ckc_blocks.specs.Views.{shapes_of}
-use Rattle.ckc_interp.specs.Turns.{Does}
-use Rattle.ckc_interp.specs.Views.{frame_of, caller_of, core_of, stacked}
+use Rattle.ckc_interp.specs.code.Turns.{Does}
+use Rattle.ckc_interp.specs.code.Views.{frame_of, caller_of, core_of, stacked}
 use Rattle.ckc_interp.proofs.Acting.{with_calls}
 use Rattle.ckc_interp.proofs.Working.{stacked-push, stacked-nil, nil_of}
 use Rattle.ckc_interp.proofs.run.Run.give_back.Goals as goal

@@ -4,8 +4,8 @@ use Rattle.ckc_source.specs.Code.{program_of}
 use Rattle.ckc_source.specs.States.{State}
 use Rattle.ckc_interp.specs.declared.seen.Seen.TheVariants as seen
 use Rattle.ckc_interp.specs.Runs.{Comes, Interprets}
-use Rattle.ckc_interp.specs.Turns.{Steps}
-use Rattle.ckc_interp.specs.Views.{state_of}
+use Rattle.ckc_interp.specs.code.Turns.{Steps}
+use Rattle.ckc_interp.specs.code.Views.{state_of}
 use Rattle.ckc_interp.proofs.Ending.{over_steps, next_steps}
 use Rattle.ckc_interp.proofs.Feeding.{fed}
 use Rattle.ckc_interp.proofs.Giving.{not_asked, fed_so, fed_then}

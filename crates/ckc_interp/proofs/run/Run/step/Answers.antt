@@ -2,8 +2,8 @@ use Rattle.std.proofs.Common.{None, Some, refl, sym, ap, subst, ◌∙◌}
 use Rattle.ckc_source.specs.Code.{program_of}
 use Rattle.ckc_interp.specs.declared.seen.Seen.{Seen}
 use Rattle.ckc_interp.specs.declared.seen.Seen.TheVariants as seen
-use Rattle.ckc_interp.specs.Turns.{Fed, Steps, GetsAs, turn_asks, seen_of}
-use Rattle.ckc_interp.specs.Views.{core_of, state_of}
+use Rattle.ckc_interp.specs.code.Turns.{Fed, Steps, GetsAs, turn_asks, seen_of}
+use Rattle.ckc_interp.specs.code.Views.{core_of, state_of}
 use Rattle.ckc_interp.proofs.Giving.{not_asked, fed_so}
 use Rattle.ckc_interp.proofs.Stepping.{quiet_steps, ends_steps, halted_steps, put_steps, get_steps}
 use Rattle.ckc_interp.proofs.run.Run.step.Goals as goal

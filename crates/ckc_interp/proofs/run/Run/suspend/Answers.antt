@@ -1,5 +1,5 @@
 use Rattle.std.proofs.Common.{[], ◌∷◌, ◌∙◌, ap}
-use Rattle.ckc_interp.specs.Views.{frame_of, caller_of, core_of, stacked}
+use Rattle.ckc_interp.specs.code.Views.{frame_of, caller_of, core_of, stacked}
 use Rattle.ckc_interp.proofs.Acting.{with_parts}
 use Rattle.ckc_interp.proofs.Working.{stacked-push}
 use Rattle.ckc_interp.proofs.run.Run.suspend.Goals as goal

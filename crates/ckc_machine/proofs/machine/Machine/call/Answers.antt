@@ -4,7 +4,7 @@ use Rattle.ckc_base.specs.Steps.{Move}
 use Rattle.ckc_rv.specs.declared.registers.Outcome.TheVariants as outcome
 use Rattle.ckc_rv.specs.Machine.{State}
 use Rattle.ckc_machine.specs.Runs.{state_of}
-use Rattle.ckc_machine.specs.Turns.{TurnsBy}
+use Rattle.ckc_machine.specs.code.Turns.{TurnsBy}
 use Rattle.ckc_machine.proofs.Turning.{calls_stop}
 use Rattle.ckc_machine.proofs.machine.Machine.call.Goals as goal
 

@@ -5,7 +5,8 @@ use Rattle.ckc_machine.specs.declared.observed.Observed.{Observed}
 use Rattle.ckc_machine.specs.declared.observed.Observed.TheVariants.{Going}
 use Rattle.ckc_machine.specs.declared.machine.Machine.{Machine}
 use Rattle.ckc_machine.specs.Points.{state_at}
-use Rattle.ckc_machine.specs.Runs.{Arrives, Runs, IsFed, AsksFor, AsksNothing, answer_of}
+use Rattle.ckc_machine.specs.Runs.{Arrives, Runs, AsksFor, AsksNothing, answer_of}
+use Rattle.ckc_machine.specs.code.Runs.{IsFed}
 use Rattle.ckc_machine.proofs.Arrivals.{settled, then_going, then_ends, fed_same, arrives_none, runs_arriving}
 use Rattle.ckc_machine.proofs.Giving.{not_asked, given_so, given_then, RunsBy, ArrivesBy}
 use Rattle.ckc_machine.proofs.machine.Machine.run.Goals as goal

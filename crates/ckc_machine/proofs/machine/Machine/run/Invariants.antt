@@ -1,7 +1,8 @@
 use Rattle.std.proofs.Common.{◌≡◌, ◌-◌, ◌≤◌, ℕ, List, Option, Some}
 use Rattle.ckc_rv.specs.Machine.{Parts}
 use Rattle.ckc_machine.specs.declared.observed.Observed.TheVariants.{Going}
-use Rattle.ckc_machine.specs.Runs.{IsAt, IsFed, OverAny, AsksNothing, Arrives, answer_of}
+use Rattle.ckc_machine.specs.Runs.{IsAt, OverAny, AsksNothing, Arrives, answer_of}
+use Rattle.ckc_machine.specs.code.Runs.{IsFed}
 use Rattle.ckc_machine.proofs.machine.Machine.run.Given as goal
 
 -- The machine goes on, and from wherever it was it has come as many instructions further.

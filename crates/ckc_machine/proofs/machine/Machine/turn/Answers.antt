@@ -2,7 +2,7 @@ use Rattle.std.proofs.Common.{sym, subst, refl, ◌∙◌}
 use Rattle.ckc_base.specs.Traces.{Fault}
 use Rattle.ckc_machine.specs.declared.machine.Turn.{Turn}
 use Rattle.ckc_machine.specs.Runs.{state_of}
-use Rattle.ckc_machine.specs.Turns.{Turns}
+use Rattle.ckc_machine.specs.code.Turns.{Turns}
 use Rattle.ckc_machine.proofs.Turning.{not_fetched, no_instruction, turns_with}
 use Rattle.ckc_machine.proofs.machine.Machine.turn.Goals as goal
 

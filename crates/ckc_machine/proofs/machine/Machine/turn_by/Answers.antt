@@ -2,7 +2,7 @@ use Rattle.std.proofs.Common.{sym, subst}
 use Rattle.ckc_rv.specs.declared.registers.Outcome.{Outcome}
 use Rattle.ckc_rv.specs.Machine.{by_outcome}
 use Rattle.ckc_machine.specs.Runs.{state_of}
-use Rattle.ckc_machine.specs.Turns.{TurnsBy}
+use Rattle.ckc_machine.specs.code.Turns.{TurnsBy}
 use Rattle.ckc_machine.proofs.machine.Machine.turn_by.Goals as goal
 
 pub returns-in-Load : goal.returns-in-Load

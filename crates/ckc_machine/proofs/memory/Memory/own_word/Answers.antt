@@ -1,5 +1,5 @@
 use Rattle.std.proofs.Common.{sym, subst, arith}
-use Rattle.ckc_machine.specs.Bytes.{Holds}
+use Rattle.ckc_machine.specs.code.Bytes.{Holds}
 use Rattle.ckc_machine.specs.Memories.{memory_of}
 use Rattle.ckc_machine.proofs.Held.{holds_statics, holds_stack}
 use Rattle.ckc_machine.proofs.memory.Memory.own_word.Goals as goal

@@ -15,7 +15,7 @@ use Rattle.ckc_asm.specs.declared.items.Operand.{Operand}
 use Rattle.ckc_asm.specs.declared.items.Operand.TheVariants.{Nothing, Number, Named}
 use Rattle.ckc_asm.specs.declared.items.Item.{Item}
 use Rattle.ckc_asm.specs.Cut.{Word, cut}
-use Rattle.ckc_asm.specs.Numerals.{register_of, number_of, byte_of}
+use Rattle.ckc_asm.specs.code.Numerals.{register_of, number_of, byte_of}
 use Rattle.ckc_asm.specs.Spelled.{is_name}
 use Rattle.ckc_asm.specs.Items.{kind_name, item, Statement, no_word, texts, operand_index}
 

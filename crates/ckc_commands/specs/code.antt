@@ -1,0 +1,5 @@
+pub mod Commanded
+pub mod Commands
+pub mod Fetching
+pub mod Judging
+pub mod Running

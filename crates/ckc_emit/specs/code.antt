@@ -1,0 +1,3 @@
+pub mod CallLines
+pub mod Operands
+pub mod ProgramLines

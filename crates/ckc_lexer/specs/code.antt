@@ -1,0 +1,4 @@
+pub mod DirectiveReading
+pub mod LiteralReading
+pub mod Longest
+pub mod Reading

@@ -1,0 +1,4 @@
+pub mod DigitReading
+pub mod SameParts
+pub mod Small
+pub mod Tally
