@@ -1,8 +1,8 @@
 -- The program of a text fits into an image.
 use Rattle.std.proofs.Common.{◌≡◌, ℕ, ◌*◌, ◌≤◌, List, Ok, sym, subst, arith}
 use Rattle.ckc_syntax.specs.declared.tree.NamedText.{NamedText}
-use Rattle.ckc_syntax.specs.Marks.{marks_of, is_node}
-use Rattle.ckc_syntax.specs.Small.{how_many, Small}
+use Rattle.ckc_limits.specs.Marks.{marks_of, is_node}
+use Rattle.ckc_limits.specs.Small.{how_many, Small}
 use Rattle.ckc_parser.specs.Text.{SpelledTree}
 use Rattle.ckc_resolve.specs.Phase.{naming}
 use Rattle.ckc_source.specs.Code.{Program}

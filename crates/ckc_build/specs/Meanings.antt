@@ -3,7 +3,7 @@ use Rattle.std.specs.Prelude.{ℕ, List, Ok}
 use Rattle.ckc_base.specs.declared.places.Refusal.{Refusal}
 use Rattle.ckc_base.specs.Outcomes.{phase_by}
 use Rattle.ckc_base.specs.Phases.{Phase, ◌>=>◌}
-use Rattle.ckc_syntax.specs.Phase.{limiting}
+use Rattle.ckc_limits.specs.Phase.{limiting}
 use Rattle.ckc_lexer.specs.Phase.{lexing}
 use Rattle.ckc_parser.specs.Phase.{parsing}
 use Rattle.ckc_parser.specs.Text.{SpelledTree}

@@ -11,9 +11,9 @@ use Rattle.ckc_syntax.specs.declared.tree.Expr.{fold-roll-Expr}
 use Rattle.ckc_syntax.specs.declared.tree.Init.TheVariants as init
 use Rattle.ckc_syntax.specs.declared.tree.Act.{Act-F, map-Act, roll-Act, fold-roll-Act}
 use Rattle.ckc_syntax.specs.declared.tree.Stmt.{fold-roll-Stmt}
-use Rattle.ckc_syntax.specs.Marks.{Mark, node, local, function, static, joined, limits_marks, node_marks, expr_marks, marks_of_limits, marks_of_node, marks_of_expr, marks_of_bounds, marks_of_init, marks_of_decl, marks_of_value, act_marks, stmt_marks, marks_of_act, marks_of_stmt, marks_of_param, marks_of_head, marks_of_item, marks_of, is_node, is_text, is_function, is_static}
-use Rattle.ckc_syntax.specs.Depth.{greatest, limits_depth, node_depth, expr_depth, depth_of_limits, depth_of_node, depth_of_expr, depth_of_bounds, depth_of_init, depth_of_decl, depth_of_value, act_depth, stmt_depth, depth_of_act, depth_of_stmt, depth_of_decls, depth_of_head, depth_of_item}
-use Rattle.ckc_syntax.specs.Small.{how_many, SmallFunction, SmallBody, SmallItem, Small}
+use Rattle.ckc_limits.specs.Marks.{Mark, node, local, function, static, joined, limits_marks, node_marks, expr_marks, marks_of_limits, marks_of_node, marks_of_expr, marks_of_bounds, marks_of_init, marks_of_decl, marks_of_value, act_marks, stmt_marks, marks_of_act, marks_of_stmt, marks_of_param, marks_of_head, marks_of_item, marks_of, is_node, is_text, is_function, is_static}
+use Rattle.ckc_limits.specs.Depth.{greatest, limits_depth, node_depth, expr_depth, depth_of_limits, depth_of_node, depth_of_expr, depth_of_bounds, depth_of_init, depth_of_decl, depth_of_value, act_depth, stmt_depth, depth_of_act, depth_of_stmt, depth_of_decls, depth_of_head, depth_of_item}
+use Rattle.ckc_limits.specs.Small.{how_many, SmallFunction, SmallBody, SmallItem, Small}
 use Rattle.ckc_resolve.specs.declared.names.Names.{Names}
 use Rattle.ckc_resolve.specs.declared.scopes.Scopes.{Scopes}
 use Rattle.ckc_resolve.specs.Spellings.{Spelling}

@@ -1,7 +1,7 @@
 -- What later phases may rely on in a text whose names are resolved.
 use Rattle.std.specs.Prelude.{◌≡◌, true, All}
 use Rattle.ckc_syntax.specs.declared.tree.NamedText.{NamedText}
-use Rattle.ckc_syntax.specs.Small.{Small}
+use Rattle.ckc_limits.specs.Small.{Small}
 use Rattle.ckc_welltyped.specs.Productions.{given_tree}
 use Rattle.ckc_fit.specs.Numbers.{static_numbers, function_numbers, tag_numbers, CountsFrom, CountsUp}
 use Rattle.ckc_fit.specs.Locals.{item_locals}

@@ -2,7 +2,7 @@
 
 ghost use Rattle.std.specs.Prelude.{◌≡◌, true, All};
 ghost use Rattle.ckc_syntax.specs.declared.tree.NamedText.{NamedText};
-ghost use Rattle.ckc_syntax.specs.Small.{Small};
+ghost use Rattle.ckc_limits.specs.Small.{Small};
 ghost use Rattle.ckc_resolve.specs.Trees.{Tree};
 ghost use Rattle.ckc_resolve.specs.Phase.{naming};
 ghost use Rattle.ckc_welltyped.specs.Productions.{given_tree};

@@ -13,7 +13,7 @@ use Rattle.ckc_syntax.specs.declared.tree.Limits.TheVariants as limits
 use Rattle.ckc_syntax.specs.declared.tree.Node.{Node-F, map-Node, roll-Node, fold-roll-Node}
 use Rattle.ckc_syntax.specs.declared.tree.Node.TheVariants as node
 use Rattle.ckc_syntax.specs.declared.tree.Expr.{Expr-F, map-Expr, ind-Expr, roll-Expr, fold-roll-Expr}
-use Rattle.ckc_syntax.specs.Marks.{Mark, node as mark, joined, limits_marks, node_marks, expr_marks, marks_of_limits, marks_of_node, marks_of_expr}
+use Rattle.ckc_limits.specs.Marks.{Mark, node as mark, joined, limits_marks, node_marks, expr_marks, marks_of_limits, marks_of_node, marks_of_expr}
 use Rattle.ckc_typed.specs.declared.typed.Note.{Note}
 use Rattle.ckc_typed.specs.declared.typed.Range.{Range}
 use Rattle.ckc_typed.specs.Trees.{NotedLimits, NotedNode, NotedExpr}

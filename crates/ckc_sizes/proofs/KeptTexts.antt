@@ -3,7 +3,7 @@ use Rattle.std.proofs.Common.{◌≡◌, ap, subst, refl, List, [], ◌∷◌}
 use Rattle.std.specs.List.{flat_map}
 use Rattle.ckc_base.specs.Outcomes.{Outcome}
 use Rattle.ckc_syntax.specs.declared.tree.Item.TheVariants as item
-use Rattle.ckc_syntax.specs.Marks.{function, static, marks_of_init, marks_of_decl, marks_of_stmt, marks_of_head, marks_of_item, marks_of}
+use Rattle.ckc_limits.specs.Marks.{function, static, marks_of_init, marks_of_decl, marks_of_stmt, marks_of_head, marks_of_item, marks_of}
 use Rattle.ckc_typed.specs.declared.typed.Typed.{Typed}
 use Rattle.ckc_typed.specs.Trees.{NotedDecl, NotedHead, NotedItem, NotedStmt}
 use Rattle.ckc_points.specs.declared.frame.Frame.{Frame}

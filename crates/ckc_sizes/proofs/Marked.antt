@@ -1,8 +1,8 @@
 -- How many nodes are among marks, by recursion.
 use Rattle.std.proofs.Common.{◌≡◌, ℕ, ◌+◌, List, [], ◌∷◌, ◌++◌, refl, cond, arith}
 use Rattle.std.proofs.lemmas.List.Sums.{sum_by-cons}
-use Rattle.ckc_syntax.specs.Marks.{Mark, node, local, text, function, static, is_node}
-use Rattle.ckc_syntax.specs.Small.{how_many}
+use Rattle.ckc_limits.specs.Marks.{Mark, node, local, text, function, static, is_node}
+use Rattle.ckc_limits.specs.Small.{how_many}
 
 abbrev pub marked : List Mark → ℕ
 marked [] = 0

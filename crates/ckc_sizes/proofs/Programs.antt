@@ -5,7 +5,7 @@ use Rattle.std.specs.List.{flat_map}
 use Rattle.std.proofs.lemmas.List.{length-map}
 use Rattle.std.proofs.lemmas.List.Sums.{sum_by-cons, sum_by-append}
 use Rattle.ckc_syntax.specs.declared.tree.Item.TheVariants as item
-use Rattle.ckc_syntax.specs.Marks.{marks_of_bounds, marks_of_stmt, marks_of_param, marks_of_head, marks_of_item, marks_of}
+use Rattle.ckc_limits.specs.Marks.{marks_of_bounds, marks_of_stmt, marks_of_param, marks_of_head, marks_of_item, marks_of}
 use Rattle.ckc_typed.specs.declared.typed.Typed.{Typed}
 use Rattle.ckc_typed.specs.Trees.{NotedDecl, NotedHead, NotedStmt, NotedItem}
 use Rattle.ckc_typed.specs.Types.{type_written}

@@ -7,7 +7,7 @@ use Rattle.ckc_types.specs.declared.types.CType.{CType}
 use Rattle.ckc_syntax.specs.declared.tree.Name.{Name}
 use Rattle.ckc_syntax.specs.declared.tree.Act.{Act-F, map-Act, roll-Act, fold-roll-Act}
 use Rattle.ckc_syntax.specs.declared.tree.Stmt.{Stmt-F, map-Stmt, ind-Stmt, roll-Stmt, fold-roll-Stmt}
-use Rattle.ckc_syntax.specs.Marks.{Mark, joined, act_marks, stmt_marks, marks_of_expr, marks_of_value, marks_of_act, marks_of_stmt}
+use Rattle.ckc_limits.specs.Marks.{Mark, joined, act_marks, stmt_marks, marks_of_expr, marks_of_value, marks_of_act, marks_of_stmt}
 use Rattle.ckc_typed.specs.declared.environment.Variable.{Variable}
 use Rattle.ckc_typed.specs.declared.typed.Note.{Note}
 use Rattle.ckc_typed.specs.declared.typed.Typed.{Typed}

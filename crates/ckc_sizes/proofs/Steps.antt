@@ -8,7 +8,7 @@ use Rattle.ckc_syntax.specs.declared.tree.Name.TheVariants as name
 use Rattle.ckc_syntax.specs.declared.tree.Init.TheVariants as init
 use Rattle.ckc_syntax.specs.declared.tree.Node.{Node-F, out-Node, fold_out-Node}
 use Rattle.ckc_syntax.specs.declared.tree.Expr.{fold_out-Expr}
-use Rattle.ckc_syntax.specs.Marks.{node, joined, limits_marks, node_marks, expr_marks, marks_of_expr, marks_of_bounds, marks_of_init, marks_of_decl, marks_of_value}
+use Rattle.ckc_limits.specs.Marks.{node, joined, limits_marks, node_marks, expr_marks, marks_of_expr, marks_of_bounds, marks_of_init, marks_of_decl, marks_of_value}
 use Rattle.ckc_typed.specs.declared.environment.Variable.{Variable}
 use Rattle.ckc_typed.specs.declared.typed.Note.{Note}
 use Rattle.ckc_typed.specs.declared.typed.Typed.{Typed}

@@ -5,7 +5,7 @@ ghost use Rattle.ckc_bounds.specs.Phase.{bounding};
 ghost use Rattle.ckc_elaborate.specs.Elaborated.{elaborated};
 ghost use Rattle.ckc_operands.specs.Weights.{program_weight};
 ghost use Rattle.ckc_sizes.specs.Nodes.{text_nodes};
-ghost use Rattle.ckc_syntax.specs.Marks.{marks_of};
+ghost use Rattle.ckc_limits.specs.Marks.{marks_of};
 ghost use Rattle.ckc_typed.specs.declared.typed.Typed.{Typed};
 
 /// The program of a text weighs at most 240 instructions for each node of the text.

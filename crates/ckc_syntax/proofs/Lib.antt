@@ -1,13 +1,9 @@
 pub mod Decoding
-pub mod Depths
 pub mod DigitFronts
 pub mod Emptied
 pub mod EscapeFronts
 pub mod Fronts
-pub mod Limiting
 pub mod Pieces
-pub mod Smalls
-pub mod Tallies
 pub mod Tells
 pub mod SameLists
 pub mod SameTypes

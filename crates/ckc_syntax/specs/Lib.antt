@@ -1,12 +1,8 @@
 pub mod Bytes
 pub mod Decoded
-pub mod Depth
 pub mod Digits
 pub mod Literals
 pub mod Longest
-pub mod Marks
-pub mod Phase
-pub mod Small
 pub mod Spelled
 pub mod Placeless
 pub mod Trees

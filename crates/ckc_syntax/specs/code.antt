@@ -1,4 +1,2 @@
 pub mod DigitReading
 pub mod SameParts
-pub mod Small
-pub mod Tally

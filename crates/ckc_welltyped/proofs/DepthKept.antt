@@ -13,7 +13,7 @@ use Rattle.ckc_syntax.specs.declared.tree.Node.{Node-F}
 use Rattle.ckc_syntax.specs.declared.tree.Expr.{Expr}
 use Rattle.ckc_syntax.specs.declared.tree.Act.{Act-F}
 use Rattle.ckc_syntax.specs.declared.tree.Stmt.{Stmt}
-use Rattle.ckc_syntax.specs.Depth.{greatest, held_depth, limits_depth, node_depth, expr_depth, depth_of_limits, depth_of_expr, depth_of_bounds, depth_of_init, depth_of_decl, depth_of_value, act_depth, stmt_depth, depth_of_stmt, depth_of_decls, depth_of_head, depth_of_item}
+use Rattle.ckc_limits.specs.Depth.{greatest, held_depth, limits_depth, node_depth, expr_depth, depth_of_limits, depth_of_expr, depth_of_bounds, depth_of_init, depth_of_decl, depth_of_value, act_depth, stmt_depth, depth_of_stmt, depth_of_decls, depth_of_head, depth_of_item}
 use Rattle.ckc_welltyped.specs.Noteless.{limits_noteless, node_noteless, act_noteless, bare_limits, bare_expr, bare_init, bare_decl, bare_stmt, bare_head, bare_item}
 use Rattle.ckc_welltyped.proofs.Folds.{limits_folds, expr_folds, stmt_folds}
 

@@ -3,9 +3,9 @@ use Rattle.std.proofs.Common.{◌≡◌, List, [], ◌∷◌, map, refl, sym, ap
 use Rattle.std.specs.Prelude.{Ok}
 use Rattle.ckc_base.specs.Outcomes.{Outcome}
 use Rattle.ckc_syntax.specs.declared.tree.NamedText.{NamedText}
-use Rattle.ckc_syntax.specs.Depth.{depth_of_item}
-use Rattle.ckc_syntax.specs.Marks.{marks_of_item}
-use Rattle.ckc_syntax.specs.Small.{Small}
+use Rattle.ckc_limits.specs.Depth.{depth_of_item}
+use Rattle.ckc_limits.specs.Marks.{marks_of_item}
+use Rattle.ckc_limits.specs.Small.{Small}
 use Rattle.ckc_typed.specs.declared.typed.Typed.{Typed}
 use Rattle.ckc_typed.specs.Trees.{Tree as BareTree, Item, NotedItem}
 use Rattle.ckc_typed.specs.Texts.{named_typed}

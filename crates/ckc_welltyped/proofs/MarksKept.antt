@@ -15,7 +15,7 @@ use Rattle.ckc_syntax.specs.declared.tree.Node.{Node-F}
 use Rattle.ckc_syntax.specs.declared.tree.Expr.{Expr}
 use Rattle.ckc_syntax.specs.declared.tree.Act.{Act-F}
 use Rattle.ckc_syntax.specs.declared.tree.Stmt.{Stmt}
-use Rattle.ckc_syntax.specs.Marks.{Mark, node, local, function, static, held, limits_marks, node_marks, expr_marks, marks_of_limits, marks_of_expr, marks_of_bounds, marks_of_init, marks_of_decl, marks_of_value, act_marks, stmt_marks, marks_of_stmt, marks_of_param, marks_of_head, marks_of_item, marks_of}
+use Rattle.ckc_limits.specs.Marks.{Mark, node, local, function, static, held, limits_marks, node_marks, expr_marks, marks_of_limits, marks_of_expr, marks_of_bounds, marks_of_init, marks_of_decl, marks_of_value, act_marks, stmt_marks, marks_of_stmt, marks_of_param, marks_of_head, marks_of_item, marks_of}
 use Rattle.ckc_welltyped.specs.Noteless.{limits_noteless, node_noteless, act_noteless, bare_limits, bare_expr, bare_init, bare_decl, bare_stmt, bare_head, bare_item, without_notes}
 use Rattle.ckc_welltyped.proofs.Folds.{limits_folds, expr_folds, stmt_folds}
 

@@ -4,8 +4,8 @@ use Rattle.std.specs.List.{AllByRecursion}
 use Rattle.ckc_syntax.specs.declared.tree.Tree.{Tree}
 use Rattle.ckc_syntax.specs.declared.tree.Item.{Item}
 use Rattle.ckc_syntax.specs.declared.tree.Item.TheVariants as item
-use Rattle.ckc_syntax.specs.Marks.{is_node, is_text, is_function, is_static}
-use Rattle.ckc_syntax.specs.Small.{how_many, SmallFunction, SmallBody, SmallItem, Small}
+use Rattle.ckc_limits.specs.Marks.{is_node, is_text, is_function, is_static}
+use Rattle.ckc_limits.specs.Small.{how_many, SmallFunction, SmallBody, SmallItem, Small}
 use Rattle.ckc_welltyped.specs.Noteless.{bare_item, without_notes}
 use Rattle.ckc_welltyped.proofs.MarksKept as marks
 use Rattle.ckc_welltyped.proofs.DepthKept as depth

@@ -1,0 +1,4 @@
+pub mod Depths
+pub mod Limiting
+pub mod Smalls
+pub mod Tallies

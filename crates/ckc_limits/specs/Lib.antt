@@ -1,0 +1,5 @@
+pub mod Depth
+pub mod Marks
+pub mod Phase
+pub mod Small
+pub mod code

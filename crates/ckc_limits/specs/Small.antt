@@ -1,0 +1,71 @@
+-- The limits of a text.
+use Rattle.std.specs.Prelude.{ℕ, ◌≡◌, ◌≤◌, List, [], ◌∷◌, ◌++◌, flat_map, count_by, Bool, nat_lt, if◌then◌else◌}
+use Rattle.std.specs.List.{AllByRecursion}
+use Rattle.ckc_base.specs.declared.places.Pos.{Pos}
+use Rattle.ckc_base.specs.declared.places.Refusal.{Refusal}
+use Rattle.ckc_base.specs.Places.{start}
+use Rattle.ckc_syntax.specs.declared.tree.Tree.{Tree}
+use Rattle.ckc_syntax.specs.declared.tree.Item.{Item}
+use Rattle.ckc_syntax.specs.declared.tree.Item.TheVariants as item
+use Rattle.ckc_limits.specs.Depth.{depth_of_item}
+use Rattle.ckc_limits.specs.Marks.{Mark, marks_of, marks_of_item, is_node, is_local, is_text, is_function, is_static}
+
+abbrev pub how_many : (Mark → Bool) → List Mark → ℕ
+how_many p ms = count_by p ms
+
+-- the limits of one function: its nodes, and its locals with its parameters
+pub record SmallFunction (marks : List Mark) : Type 0 where
+  pub nodes : how_many is_node marks ≤ 1000
+  pub locals : how_many is_local marks ≤ 255
+
+abbrev pub SmallBody : {N A : Type 0} → Item N A → Type 0
+SmallBody (item.Function head body) = SmallFunction (marks_of_item (item.Function head body))
+SmallBody _ = Unit {0}
+
+pub record SmallItem {N A : Type 0} (i : Item N A) : Type 0 where
+  pub depth : depth_of_item i ≤ 64
+  pub body : SmallBody i
+
+-- A tree is small where it keeps each limit: no item is deeper than 64, no function has over 1,000 nodes or
+-- over 255 locals with its parameters, and in the whole text there are at most 16,384 nodes, 512 functions,
+-- 1,024 objects and 1,024 string literals.
+pub record Small {N A : Type 0} (tree : Tree N A) : Type 0 where
+  pub each : AllByRecursion SmallItem tree.items
+  pub nodes : how_many is_node (marks_of tree) ≤ 16384
+  pub functions : how_many is_function (marks_of tree) ≤ 512
+  pub statics : how_many is_static (marks_of tree) ≤ 1024
+  pub texts : how_many is_text (marks_of tree) ≤ 1024
+
+-- a refusal at a place, where the number is over the limit
+abbrev pub over : ℕ → ℕ → ℕ → Pos → List Refusal
+over limit number code pos = if nat_lt limit number then record { code = code; pos = pos } ∷ [] else []
+
+-- what a function breaks: its nodes (E203), and then its locals (E204)
+abbrev pub faults_of_function : List Mark → Pos → List Refusal
+faults_of_function ms pos = over 1000 (how_many is_node ms) 203 pos ++ over 255 (how_many is_local ms) 204 pos
+
+-- What an item breaks, in the order in which it is judged. The place is that of the declared name or tag.
+abbrev pub faults_of_item : {N A : Type 0} → Item N A → List Refusal
+faults_of_item (item.Directive d) = []
+faults_of_item (item.Tag n pos) = []
+faults_of_item (item.Struct n members pos) = over 64 (depth_of_item (item.Struct n members pos)) 202 pos
+faults_of_item (item.Static d) = over 64 (depth_of_item (item.Static d)) 202 d.pos
+faults_of_item (item.Proto h) = over 64 (depth_of_item (item.Proto h)) 202 h.pos
+faults_of_item (item.Function h body) =
+    over 64 (depth_of_item (item.Function h body)) 202 h.pos ++ faults_of_function (marks_of_item (item.Function h body)) h.pos
+
+-- what the whole text breaks: its nodes, and then its functions, objects and string literals
+abbrev pub faults_of_marks : List Mark → List Refusal
+faults_of_marks ms =
+    over 16384 (how_many is_node ms) 203 start
+    ++ (over 512 (how_many is_function ms) 205 start
+    ++ (over 1024 (how_many is_static ms) 205 start ++ over 1024 (how_many is_text ms) 205 start))
+
+-- What a tree breaks, in the order in which it is judged: item by item in the order of the text, then the
+-- whole text.
+abbrev pub faults_of : {N A : Type 0} → Tree N A → List Refusal
+faults_of tree = flat_map faults_of_item tree.items ++ faults_of_marks (marks_of tree)
+
+-- the first of a list
+abbrev pub IsFirst : {X : Type 0} → X → List X → Type 0
+IsFirst {X} x xs = (rest : List X) × (xs ≡ x ∷ rest)
