@@ -13,8 +13,8 @@ use crate::declared::{clear, head_fits, member_holder, members_fit};
 use crate::heads::set_types;
 use ckc_base::{Boxed, Fault, Pos, Seq};
 use ckc_points::{Frame, Work, entry};
-use ckc_statements::{Walk, bounds_there, boxed_head, copied_decls, decl_with, judge_init};
-use ckc_syntax::{Decl, Head, Item, Name, Stmt};
+use ckc_statements::{Walk, bounds_there, judge_init};
+use ckc_syntax::{Decl, Head, Item, Name, Stmt, boxed_head, copied_decls, decl_with};
 use ckc_typed::Note;
 use std::alloc::{AllocError, Global};
 

@@ -6,8 +6,8 @@ ghost use Rattle.ckc_grammar.specs.Values as v;
 use crate::parts::{Bounds, CType, Declaration, Expression, Statement};
 use ckc_base::{Boxed, Mode, Pos, Seq};
 use ckc_syntax::{
-    Act, Decl, Directive, Expr, Head, Init, Length, Node, Pointer, Spelling, Stmt, Token,
-    TokenKind, TypeTree, wrapped,
+    Act, Decl, Directive, Expr, Head, Init, Length, Node, Spelling, Stmt, Token, TokenKind,
+    TypeTree, copied_type,
 };
 use std::alloc::{AllocError, Global};
 
@@ -24,46 +24,8 @@ pub fn one<T: Drop>(alloc: Global, item: T) -> Result<Seq<T>, AllocError>
 pub fn copied<'a>(alloc: Global, ctype: &TypeTree<Spelling<'a>>) -> Result<CType<'a>, AllocError>
     ensures { IfOk result (λ copy. copy ≡ ctype.now) }
 {
-    let copy = copied_tree(alloc, ctype)?;
+    let copy = copied_type(alloc, ctype)?;
     Boxed::new(alloc, copy)
-}
-
-fn copied_tree<'a>(
-    alloc: Global,
-    t: &TypeTree<Spelling<'a>>,
-) -> Result<TypeTree<Spelling<'a>>, AllocError>
-    ensures { IfOk result (λ copy. copy ≡ t.now) }
-{
-    let mut pointers = Seq::new(alloc);
-    let mut rest = t;
-    'pointers: loop {
-        match rest {
-            TypeTree::Int => return wrapped(alloc, pointers, TypeTree::Int),
-            TypeTree::Unsigned => return wrapped(alloc, pointers, TypeTree::Unsigned),
-            TypeTree::Char => return wrapped(alloc, pointers, TypeTree::Char),
-            TypeTree::Void => return wrapped(alloc, pointers, TypeTree::Void),
-            TypeTree::Struct(tag, pos) => {
-                let base = TypeTree::Struct(Spelling::new(tag.as_str()), *pos);
-                return wrapped(alloc, pointers, base);
-            }
-            TypeTree::Raw(inner, pos) => {
-                pointers.push(Pointer::Raw(*pos))?;
-                rest = inner.get();
-            }
-            TypeTree::One(inner) => {
-                pointers.push(Pointer::One)?;
-                rest = inner.get();
-            }
-            TypeTree::Arr(inner) => {
-                pointers.push(Pointer::Arr)?;
-                rest = inner.get();
-            }
-            TypeTree::Nt(inner) => {
-                pointers.push(Pointer::Nt)?;
-                rest = inner.get();
-            }
-        }
-    }
 }
 
 /// The type of a structure by its tag.

@@ -14,8 +14,7 @@ use crate::faults::{BAD_AMOUNT, counts_bytes, fault_of_node, operand_fault_of_no
 use ckc_base::{Boxed, Bytes, Fault, Refusal, Seq, refused};
 use ckc_extents::{element_size, fresh_behind, range};
 use ckc_points::{Frame, Point, Work};
-use ckc_syntax::{Expr, Limits, Name, Node, TreeOp};
-use ckc_typed::copies::copied_type;
+use ckc_syntax::{Expr, Limits, Name, Node, TreeOp, copied_type};
 use ckc_typed::types::{copied as copied_ctype, is_integer, is_pointer};
 use ckc_typed::{Note, Range};
 use ckc_types::CType;

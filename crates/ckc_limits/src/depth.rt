@@ -3,8 +3,8 @@
 ghost use Rattle.std.specs.Prelude.{◌≤◌, ◌↔◌, IsTrue, map};
 ghost use Rattle.ckc_limits.specs.Depth.{depth_of_limits, depth_of_node, depth_of_expr, depth_of_bounds, depth_of_init, depth_of_decl, depth_of_value, depth_of_act, depth_of_stmt, depth_of_part, depth_of_decls, depth_of_head, depth_of_item, greatest};
 
-use ckc_syntax::{Act, Decl, Expr, Head, Init, Item, Limits, Node, Stmt};
 use ckc_base::Boxed;
+use ckc_syntax::{Act, Decl, Expr, Head, Init, Item, Limits, Node, Stmt};
 
 #[cycle(expr_within)]
 fn limits_within<N, A>(limits: &Limits<N, A>, left: u32) -> bool

@@ -10,8 +10,8 @@ ghost use Rattle.ckc_limits.specs.Marks.{Mark};
 
 use crate::depth::item_within;
 use crate::tally::{Tally, item_tally};
-use ckc_syntax::{Item, Tree};
 use ckc_base::{Fault, Pos, Refusal, START};
+use ckc_syntax::{Item, Tree};
 
 /// How deep statements and expressions may stand in one another.
 const DEPTH: u32 = 64;

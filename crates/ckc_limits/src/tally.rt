@@ -4,8 +4,8 @@ ghost use Rattle.std.specs.Prelude.{◌≡◌, flat_map};
 ghost use Rattle.ckc_limits.specs.code.Tally.{counted, tallied, nothing};
 ghost use Rattle.ckc_limits.specs.Marks.{node, local, text, function, static, marks_of_limits, marks_of_node, marks_of_expr, marks_of_bounds, marks_of_init, marks_of_decl, marks_of_value, marks_of_part, marks_of_act, marks_of_stmt, marks_of_param, marks_of_head, marks_of_item};
 
-use ckc_syntax::{Act, Decl, Expr, Head, Init, Item, Limits, Node, Stmt};
 use ckc_base::Boxed;
+use ckc_syntax::{Act, Decl, Expr, Head, Init, Item, Limits, Node, Stmt};
 
 /// Counts that stand still at the end of their type.
 #[derive(Clone, Copy)]

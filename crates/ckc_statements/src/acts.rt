@@ -9,14 +9,13 @@ ghost use Rattle.ckc_statements.specs.Walks.{here};
 ghost use Rattle.ckc_stores.specs.Stores.{Threads};
 
 use crate::contents::add_name;
-use crate::copies::decl_with;
 use crate::declared::judge_bounds;
 use crate::walk::{Walk, boxed_value, judge_init, maybe_value, take_side};
 use ckc_base::{Boxed, Fault, Pos, Seq, refused};
 use ckc_linear::{Facts, Form};
 use ckc_points::{Frame, HeadBounds, Point, Work, assign, constant_form, in_type, unreached};
 use ckc_stores::{NOT_CONTAINED, initialised, pass, returned, stored};
-use ckc_syntax::{Act, Decl, Expr, Init, Name, Stmt};
+use ckc_syntax::{Act, Decl, Expr, Init, Name, Stmt, decl_with};
 use ckc_typed::Note;
 use ckc_typed::types::type_written;
 use ckc_types::CType;

@@ -3,7 +3,6 @@
 
 mod acts;
 mod contents;
-mod copies;
 mod declared;
 mod loops;
 mod needs;
@@ -11,7 +10,6 @@ mod statements;
 mod walk;
 
 pub use contents::add_name;
-pub use copies::{boxed_head, copied_decls, decl_with};
 pub use declared::{bounds_there, decl_bounds};
 pub use needs::may_need;
 pub use statements::judge_stmt;

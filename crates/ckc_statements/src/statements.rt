@@ -9,13 +9,12 @@ ghost use Rattle.ckc_statements.specs.Walks.{here};
 use crate::acts::{
     assignment, call, check, close, jump, local, pass_stores, result, sides, stated,
 };
-use crate::copies::copied_note;
 use crate::loops::{Branch, Start, enter_for, enter_while, join_ends, judge_branch, to_step, turn};
 use crate::walk::Walk;
 use ckc_base::{Boxed, Fault, Pos, Seq, refused};
 use ckc_points::{Frame, HeadBounds, Work};
 use ckc_ranges::{BAD_BUNDLE, is_bundle};
-use ckc_syntax::{Act, Name, Stmt};
+use ckc_syntax::{Act, ExactClone, Name, Stmt};
 use ckc_typed::Note;
 use std::alloc::{AllocError, Global};
 
@@ -32,7 +31,7 @@ fn judge_side(
 {
     match &s.body {
         Act::Assign(e, f) => {
-            let note = copied_note(work.alloc, &s.note)?;
+            let note = s.note.exact_clone(work.alloc)?;
             sides(work, frame, s.pos, note, e.get(), f.get(), walk)
         }
         _ => Err(refused(BAD_BUNDLE, bundle)),
@@ -164,7 +163,7 @@ pub fn judge_stmt(
     ensures { StepsOutcome result (here walk.new)
         ((path s.now).judged frame.now head.now (here walk.old)) }
 {
-    let note = copied_note(work.alloc, &s.note)?;
+    let note = s.note.exact_clone(work.alloc)?;
     judge_act(work, frame, head, &s.body, s.pos, note, walk)
 }
 

@@ -6,12 +6,11 @@ ghost use Rattle.ckc_base.specs.Outcomes.{AnswersOutcome, StepsOutcome};
 ghost use Rattle.ckc_statements.specs.Paths.{side_of, expr_judged, value_judged, values_judged, maybe_judged, init_judged};
 ghost use Rattle.ckc_statements.specs.Walks.{here};
 
-use crate::copies::copied_expr;
 use ckc_base::{Boxed, Fault, Seq};
 use ckc_extents::fresh_behind;
 use ckc_judged::judge;
 use ckc_points::{Frame, Point, Work};
-use ckc_syntax::{Expr, Init, Name};
+use ckc_syntax::{Expr, Init, Name, copied_expr};
 use ckc_typed::Note;
 use ckc_views::to_side;
 use std::alloc::AllocError;

@@ -1,6 +1,7 @@
 //! Tokens and trees of Checked C texts, and the characters that literals are spelled with.
 #![tactic(auto)]
 
+mod copies;
 mod digits;
 mod literals;
 mod pointers;
@@ -8,6 +9,9 @@ mod same;
 mod tokens;
 mod tree;
 
+pub use copies::{
+    ExactClone, boxed_head, copied_bounds, copied_decls, copied_expr, copied_type, decl_with,
+};
 pub use digits::{digit_value, is_digit};
 pub use literals::{Piece, piece_at, string_bytes};
 pub use pointers::{Pointer, wrapped};

@@ -10,7 +10,6 @@ pub mod amounts;
 pub mod codes;
 pub mod constants;
 pub mod conversions;
-pub mod copies;
 mod environment;
 pub mod literals;
 pub mod operands;

@@ -1,9 +1,9 @@
-ghost use Rattle.std.specs.Prelude.{◌≡◌};
-
+use crate::types::copied;
 use ckc_base::{Bytes, Mode, Seq};
 use ckc_linear::Form;
-use ckc_syntax::{Name, Tree};
+use ckc_syntax::{ExactClone, Name, Tree};
 use ckc_types::{CType, Kind, Structs};
+use std::alloc::{AllocError, Global};
 
 /// Where a checked pointer may be used (Checked C specification 0.9, section 3, on bounds): nothing is known, any
 /// range will do, as for null, or from one form up to another.
@@ -23,16 +23,14 @@ pub struct Note {
     pub range: Range,
 }
 
-impl Note {
-    /// The note of an expression, of whose range nothing is known.
-    pub fn of_expression(ctype: CType, mode: Mode) -> Note
-        ensures { result ≡ record { ctype = ctype; mode = mode; range = Range.Missing } }
-    {
-        Note {
+impl ExactClone for Note {
+    fn exact_clone(&self, alloc: Global) -> Result<Note, AllocError> {
+        let ctype = copied(alloc, &self.ctype)?;
+        Ok(Note {
             ctype,
-            mode,
-            range: Range::Missing,
-        }
+            mode: self.mode,
+            range: self.range,
+        })
     }
 }
 

@@ -1,5 +1,5 @@
 use Rattle.std.proofs.Common.{◌≡◌, take}
-use Rattle.ckc_statements.proofs.copies.+copied.Given as goal
+use Rattle.ckc_syntax.proofs.copies.+copied.Given as goal
 
 abbrev pub invariant-copied_exprs-loop-e : goal.invariant-copied_exprs-loop-e
-invariant-copied_exprs-loop-e l = l.all ≡ take l.e-index l.es
+invariant-copied_exprs-loop-e g l = l.all ≡ take l.e-index l.es

@@ -1,27 +1,57 @@
-//! Copies of the parts of a text that stay as they are.
+//! Copies of the parts of a tree, each equal to the part that it is a copy of.
 
 ghost use Rattle.std.specs.Prelude.{◌≡◌, IfOk};
 
+use crate::{Decl, Expr, Head, Init, Limits, Name, Node, Pointer, Spelling, TypeTree, wrapped};
 use ckc_base::{Boxed, Bytes, Seq};
-use ckc_syntax::{Decl, Expr, Head, Init, Limits, Name, Node};
-use ckc_typed::Note;
-use ckc_typed::copies::copied_type;
-use ckc_typed::types::copied;
 use std::alloc::{AllocError, Global};
 
-/// The same note.
-pub fn copied_note(alloc: Global, note: &Note) -> Result<Note, AllocError>
-    ensures { IfOk result (λ n. n ≡ note.now) }
-{
-    let ctype = copied(alloc, &note.ctype)?;
-    Ok(Note {
-        ctype,
-        mode: note.mode,
-        range: note.range,
-    })
+/// What a tree can be copied with: its names, and what a phase notes in it.
+pub trait ExactClone: Drop {
+    /// An equal value.
+    fn exact_clone(&self, alloc: Global) -> Result<Self, AllocError>
+        ensures { IfOk result (λ c. c ≡ self.now) };
 }
 
-fn copied_text(alloc: Global, bytes: &Bytes) -> Result<Node<Name, Note>, AllocError>
+impl<'a> ExactClone for Spelling<'a> {
+    fn exact_clone(&self, _alloc: Global) -> Result<Spelling<'a>, AllocError> {
+        Ok(Spelling::new(self.as_str()))
+    }
+}
+
+impl ExactClone for Name {
+    fn exact_clone(&self, _alloc: Global) -> Result<Name, AllocError> {
+        Ok(*self)
+    }
+}
+
+/// A copy of a type as it is written.
+pub fn copied_type<N: ExactClone>(alloc: Global, t: &TypeTree<N>) -> Result<TypeTree<N>, AllocError>
+    ensures { IfOk result (λ u. u ≡ t.now) }
+{
+    let mut pointers = Seq::new(alloc);
+    let mut rest = t;
+    'pointers: loop {
+        let (pointer, inner) = match rest {
+            TypeTree::Int => return wrapped(alloc, pointers, TypeTree::Int),
+            TypeTree::Unsigned => return wrapped(alloc, pointers, TypeTree::Unsigned),
+            TypeTree::Char => return wrapped(alloc, pointers, TypeTree::Char),
+            TypeTree::Void => return wrapped(alloc, pointers, TypeTree::Void),
+            TypeTree::Struct(tag, pos) => {
+                let tag = tag.exact_clone(alloc)?;
+                return wrapped(alloc, pointers, TypeTree::Struct(tag, *pos));
+            }
+            TypeTree::Raw(inner, pos) => (Pointer::Raw(*pos), inner),
+            TypeTree::One(inner) => (Pointer::One, inner),
+            TypeTree::Arr(inner) => (Pointer::Arr, inner),
+            TypeTree::Nt(inner) => (Pointer::Nt, inner),
+        };
+        pointers.push(pointer)?;
+        rest = inner.get();
+    }
+}
+
+fn copied_text<N, A>(alloc: Global, bytes: &Bytes) -> Result<Node<N, A>, AllocError>
     ensures { IfOk result (λ n. n ≡ Node.Text bytes.now) }
 {
     let copy = Bytes::from_slice(alloc, bytes.as_slice())?;
@@ -29,10 +59,10 @@ fn copied_text(alloc: Global, bytes: &Bytes) -> Result<Node<Name, Note>, AllocEr
 }
 
 #[cycle(copied)]
-fn copied_limits(
+fn copied_limits<N: ExactClone, A: ExactClone>(
     alloc: Global,
-    limits: &Limits<Name, Note>,
-) -> Result<Limits<Name, Note>, AllocError>
+    limits: &Limits<N, A>,
+) -> Result<Limits<N, A>, AllocError>
     ensures { IfOk result (λ l. l ≡ limits.now) }
 {
     match limits {
@@ -55,10 +85,10 @@ fn copied_limits(
 
 /// The same bounds, where some are written.
 #[cycle(copied)]
-pub fn copied_bounds(
+pub fn copied_bounds<N: ExactClone, A: ExactClone>(
     alloc: Global,
-    bounds: &Option<Boxed<Limits<Name, Note>>>,
-) -> Result<Option<Boxed<Limits<Name, Note>>>, AllocError>
+    bounds: &Option<Boxed<Limits<N, A>>>,
+) -> Result<Option<Boxed<Limits<N, A>>>, AllocError>
     ensures { IfOk result (λ b. b ≡ bounds.now) }
 {
     match bounds {
@@ -72,14 +102,20 @@ pub fn copied_bounds(
 }
 
 #[cycle(copied)]
-fn copied_node(alloc: Global, node: &Node<Name, Note>) -> Result<Node<Name, Note>, AllocError>
+fn copied_node<N: ExactClone, A: ExactClone>(
+    alloc: Global,
+    node: &Node<N, A>,
+) -> Result<Node<N, A>, AllocError>
     ensures { IfOk result (λ n. n ≡ node.now) }
 {
     match node {
         Node::Number(n, unsigned) => Ok(Node::Number(*n, *unsigned)),
         Node::Text(bytes) => copied_text(alloc, bytes),
         Node::Null => Ok(Node::Null),
-        Node::Name(n) => Ok(Node::Name(*n)),
+        Node::Name(n) => {
+            let n = n.exact_clone(alloc)?;
+            Ok(Node::Name(n))
+        }
         Node::Un(op, e) => {
             let e = boxed_expr(alloc, e.get())?;
             Ok(Node::Un(*op, e))
@@ -102,11 +138,13 @@ fn copied_node(alloc: Global, node: &Node<Name, Note>) -> Result<Node<Name, Note
         }
         Node::Dot(e, n, at) => {
             let e = boxed_expr(alloc, e.get())?;
-            Ok(Node::Dot(e, *n, *at))
+            let n = n.exact_clone(alloc)?;
+            Ok(Node::Dot(e, n, *at))
         }
         Node::Arrow(e, n, at) => {
             let e = boxed_expr(alloc, e.get())?;
-            Ok(Node::Arrow(e, *n, *at))
+            let n = n.exact_clone(alloc)?;
+            Ok(Node::Arrow(e, n, *at))
         }
         Node::Cast(t, e) => {
             let t = copied_type(alloc, t)?;
@@ -130,8 +168,9 @@ fn copied_node(alloc: Global, node: &Node<Name, Note>) -> Result<Node<Name, Note
             Ok(Node::Tested(t, e, l))
         }
         Node::Call(n, es) => {
+            let n = n.exact_clone(alloc)?;
             let es = copied_exprs(alloc, es.as_slice())?;
-            Ok(Node::Call(*n, es))
+            Ok(Node::Call(n, es))
         }
         Node::Calloc(t, e, u) => {
             let t = copied_type(alloc, t)?;
@@ -144,11 +183,14 @@ fn copied_node(alloc: Global, node: &Node<Name, Note>) -> Result<Node<Name, Note
 
 /// The same expression.
 #[cycle(copied)]
-pub fn copied_expr(alloc: Global, e: &Expr<Name, Note>) -> Result<Expr<Name, Note>, AllocError>
+pub fn copied_expr<N: ExactClone, A: ExactClone>(
+    alloc: Global,
+    e: &Expr<N, A>,
+) -> Result<Expr<N, A>, AllocError>
     ensures { IfOk result (λ c. c ≡ e.now) }
 {
     let node = copied_node(alloc, &e.node)?;
-    let note = copied_note(alloc, &e.note)?;
+    let note = e.note.exact_clone(alloc)?;
     Ok(Expr {
         node,
         pos: e.pos,
@@ -157,7 +199,10 @@ pub fn copied_expr(alloc: Global, e: &Expr<Name, Note>) -> Result<Expr<Name, Not
 }
 
 #[cycle(copied)]
-fn boxed_expr(alloc: Global, e: &Expr<Name, Note>) -> Result<Boxed<Expr<Name, Note>>, AllocError>
+fn boxed_expr<N: ExactClone, A: ExactClone>(
+    alloc: Global,
+    e: &Expr<N, A>,
+) -> Result<Boxed<Expr<N, A>>, AllocError>
     ensures { IfOk result (λ c. c ≡ e.now) }
 {
     let copy = copied_expr(alloc, e)?;
@@ -165,7 +210,10 @@ fn boxed_expr(alloc: Global, e: &Expr<Name, Note>) -> Result<Boxed<Expr<Name, No
 }
 
 #[cycle(copied)]
-fn copied_exprs(alloc: Global, es: &[Expr<Name, Note>]) -> Result<Seq<Expr<Name, Note>>, AllocError>
+fn copied_exprs<N: ExactClone, A: ExactClone>(
+    alloc: Global,
+    es: &[Expr<N, A>],
+) -> Result<Seq<Expr<N, A>>, AllocError>
     ensures { IfOk result (λ cs. cs ≡ es.now) }
 {
     let mut all = Seq::new(alloc);
@@ -176,7 +224,10 @@ fn copied_exprs(alloc: Global, es: &[Expr<Name, Note>]) -> Result<Seq<Expr<Name,
     Ok(all)
 }
 
-fn copied_init(alloc: Global, init: &Init<Name, Note>) -> Result<Init<Name, Note>, AllocError>
+fn copied_init<N: ExactClone, A: ExactClone>(
+    alloc: Global,
+    init: &Init<N, A>,
+) -> Result<Init<N, A>, AllocError>
     ensures { IfOk result (λ i. i ≡ init.now) }
 {
     match init {
@@ -193,18 +244,19 @@ fn copied_init(alloc: Global, init: &Init<Name, Note>) -> Result<Init<Name, Note
 }
 
 /// The same declaration with another initialiser.
-pub fn decl_with(
+pub fn decl_with<N: ExactClone, A: ExactClone>(
     alloc: Global,
-    d: &Decl<Name, Note>,
-    init: Init<Name, Note>,
-) -> Result<Decl<Name, Note>, AllocError>
+    d: &Decl<N, A>,
+    init: Init<N, A>,
+) -> Result<Decl<N, A>, AllocError>
     ensures { IfOk result (λ c. c ≡ record d.now { init = init }) }
 {
     let ctype = copied_type(alloc, &d.ctype)?;
+    let name = d.name.exact_clone(alloc)?;
     let bounds = copied_bounds(alloc, &d.bounds)?;
     Ok(Decl {
         ctype,
-        name: d.name,
+        name,
         length: d.length,
         bounds,
         init,
@@ -212,7 +264,10 @@ pub fn decl_with(
     })
 }
 
-fn copied_decl(alloc: Global, d: &Decl<Name, Note>) -> Result<Decl<Name, Note>, AllocError>
+fn copied_decl<N: ExactClone, A: ExactClone>(
+    alloc: Global,
+    d: &Decl<N, A>,
+) -> Result<Decl<N, A>, AllocError>
     ensures { IfOk result (λ c. c ≡ d.now) }
 {
     let init = copied_init(alloc, &d.init)?;
@@ -220,10 +275,10 @@ fn copied_decl(alloc: Global, d: &Decl<Name, Note>) -> Result<Decl<Name, Note>, 
 }
 
 /// The same declarations.
-pub fn copied_decls(
+pub fn copied_decls<N: ExactClone, A: ExactClone>(
     alloc: Global,
-    ds: &[Decl<Name, Note>],
-) -> Result<Seq<Decl<Name, Note>>, AllocError>
+    ds: &[Decl<N, A>],
+) -> Result<Seq<Decl<N, A>>, AllocError>
     ensures { IfOk result (λ cs. cs ≡ ds.now) }
 {
     let mut all = Seq::new(alloc);
@@ -235,26 +290,30 @@ pub fn copied_decls(
 }
 
 /// The same head, in a box of its own.
-pub fn boxed_head(
+pub fn boxed_head<N: ExactClone, A: ExactClone>(
     alloc: Global,
-    h: &Head<Name, Note>,
-) -> Result<Boxed<Head<Name, Note>>, AllocError>
+    h: &Head<N, A>,
+) -> Result<Boxed<Head<N, A>>, AllocError>
     ensures { IfOk result (λ c. c ≡ h.now) }
 {
     let copy = copied_head(alloc, h)?;
     Boxed::new(alloc, copy)
 }
 
-fn copied_head(alloc: Global, h: &Head<Name, Note>) -> Result<Head<Name, Note>, AllocError>
+fn copied_head<N: ExactClone, A: ExactClone>(
+    alloc: Global,
+    h: &Head<N, A>,
+) -> Result<Head<N, A>, AllocError>
     ensures { IfOk result (λ c. c ≡ h.now) }
 {
     let result_type = copied_type(alloc, &h.result)?;
+    let name = h.name.exact_clone(alloc)?;
     let params = copied_decls(alloc, h.params.as_slice())?;
     let bounds = copied_bounds(alloc, &h.bounds)?;
     Ok(Head {
         mode: h.mode,
         result: result_type,
-        name: h.name,
+        name,
         params,
         bounds,
         pos: h.pos,
