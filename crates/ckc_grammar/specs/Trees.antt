@@ -1,22 +1,12 @@
 -- What the trees of a text are made of.
+pub use Rattle.ckc_syntax.specs.Trees.{Spelling as Name, Tree, Item, Head, TypeTree, Decl, Init, Limits, Expr, Node, Stmt, Act}
 use Rattle.std.specs.Prelude.{ℕ, zero, suc, ◌==◌, List, [], ◌∷◌, Option, None, Some, false, if◌then◌else◌}
 use Rattle.ckc_base.specs.declared.places.Pos.{Pos}
 use Rattle.ckc_syntax.specs.declared.tokens.TokenKind.{TokenKind}
 use Rattle.ckc_syntax.specs.declared.tokens.TokenKind.TheVariants as kinds
-use Rattle.ckc_syntax.specs.declared.tree.Tree as trees
-use Rattle.ckc_syntax.specs.declared.tree.Item as items
 use Rattle.ckc_syntax.specs.declared.tree.Item.TheVariants as item
-use Rattle.ckc_syntax.specs.declared.tree.Head as heads
-use Rattle.ckc_syntax.specs.declared.tree.TypeTree as types
 use Rattle.ckc_syntax.specs.declared.tree.TypeTree.TheVariants as ctype
-use Rattle.ckc_syntax.specs.declared.tree.Decl as decls
-use Rattle.ckc_syntax.specs.declared.tree.Init as inits
-use Rattle.ckc_syntax.specs.declared.tree.Limits as limits
-use Rattle.ckc_syntax.specs.declared.tree.Expr as exprs
-use Rattle.ckc_syntax.specs.declared.tree.Node as nodes
 use Rattle.ckc_syntax.specs.declared.tree.Node.TheVariants as node
-use Rattle.ckc_syntax.specs.declared.tree.Stmt as statements
-use Rattle.ckc_syntax.specs.declared.tree.Act as acts
 use Rattle.ckc_syntax.specs.declared.tree.Act.TheVariants as act
 use Rattle.ckc_syntax.specs.declared.tree.TreeOp.{TreeOp}
 use Rattle.ckc_syntax.specs.declared.tree.TreeOp.TheVariants as op
@@ -24,43 +14,6 @@ use Rattle.ckc_grammar.specs.declared.parts.Step.{Step}
 use Rattle.ckc_grammar.specs.declared.parts.Arms.{Arms}
 use Rattle.ckc_grammar.specs.declared.parts.Post.{Post}
 use Rattle.ckc_grammar.specs.declared.parts.Post.TheVariants as post
-
--- A name is its spelling, and nothing is noted yet.
-abbrev pub Name : Type 0
-Name = List ℕ
-
-abbrev pub Tree : Type 0
-Tree = trees.Tree Name (Unit {0})
-
-abbrev pub Item : Type 0
-Item = items.Item Name (Unit {0})
-
-abbrev pub Head : Type 0
-Head = heads.Head Name (Unit {0})
-
-abbrev pub TypeTree : Type 0
-TypeTree = types.TypeTree Name
-
-abbrev pub Decl : Type 0
-Decl = decls.Decl Name (Unit {0})
-
-abbrev pub Init : Type 0
-Init = inits.Init Name (Unit {0})
-
-abbrev pub Limits : Type 0
-Limits = limits.Limits Name (Unit {0})
-
-abbrev pub Expr : Type 0
-Expr = exprs.Expr Name (Unit {0})
-
-abbrev pub Node : Type 0
-Node = nodes.Node Name (Unit {0})
-
-abbrev pub Stmt : Type 0
-Stmt = statements.Stmt Name (Unit {0})
-
-abbrev pub Act : Type 0
-Act = acts.Act Name (Unit {0})
 
 abbrev pub expr_at : Node → Pos → Expr
 expr_at x pos = record { node = x; pos = pos; note = tt }

@@ -6,7 +6,7 @@ use Rattle.ckc_syntax.specs.Spelled.{Spelled}
 use Rattle.ckc_grammar.specs.declared.kind.Kind.TheVariants as kind
 use Rattle.ckc_grammar.specs.Grammar.{Part, n}
 use Rattle.ckc_grammar.specs.Grammar as g
-use Rattle.ckc_grammar.specs.Trees as trees
+pub use Rattle.ckc_syntax.specs.Trees.{Tree as SpelledTree}
 use Rattle.ckc_grammar.specs.Values.{Value, tree}
 use Rattle.ckc_grammar.specs.Derives.{Derives}
 use Rattle.ckc_grammar.specs.Marked.{signs}
@@ -30,10 +30,6 @@ FaultAt front (x ∷ more) end pos = (pos ≡ x.pos) × (Viable (front ++ x ∷ 
 
 abbrev pub IsFault : List Spelled → Pos → Pos → Type 0
 IsFault xs end pos = (front : List Spelled) × (rest : List Spelled) × (xs ≡ front ++ rest) × Viable front × FaultAt front rest end pos
-
--- a tree with the bytes of its names
-abbrev pub SpelledTree : Type 0
-SpelledTree = trees.Tree
 
 -- the tokens derive the tree
 abbrev pub DerivesTokens : List Spelled → SpelledTree → Type 0
