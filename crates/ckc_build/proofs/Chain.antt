@@ -1,5 +1,7 @@
 -- The phases, one after another: each text is judged or has one first error, and what a call of each phase answers.
 use Rattle.std.proofs.Common.{◌≡◌, ℕ, inl, List, map, Result, Ok, Err, sym, ap, subst, ◌∙◌}
+use Rattle.std.specs.Prelude.{IsErrAnd}
+use Rattle.std.proofs.lemmas.Result.{err_from_is_err_and}
 use Rattle.ckc_base.specs.declared.places.Pos.{Pos}
 use Rattle.ckc_base.specs.declared.fault.Fault.{Fault}
 use Rattle.ckc_base.specs.declared.fault.Fault.TheVariants as fault
@@ -89,9 +91,9 @@ module _ {A B C : Type 0} (p : Phase A B) (q : Phase B C) (exact : IsExact p) (n
   pub exact_on : (b : B) (answer : Result C Fault) → Exact p a (Ok b) → Exact q b answer → Exact (p >=> q) a answer
   exact_on b answer x y = exact_of (p >=> q) (then_exact p q exact next) a answer (answers_on p q exact next a b answer x.answers y.answers)
 
--- a call that ends with an error
-pub ends : {B : Type 0} (Owes : Result B Fault → Type 0) (answer : Result B Fault) (e other : Fault) → answer ≡ Err e → e ≡ other → Owes (Err other) → Owes answer
-ends Owes answer e other is same x = subst Owes (sym (is ∙ ap (λ y. Err y) same)) x
+-- an exit with the error of a call
+pub stops : (text : List ℕ) (answer : Result Typed Fault) (e : Fault) → IsErrAnd answer (λ other. other ≡ e) → Exact judging text (Err e) → Exact judging text answer
+stops text answer e is x = let p = err_from_is_err_and answer is in subst (Exact judging text) (sym (p.1 ∙ ap (λ y. Err y) p.2)) x
 
 -- ---- a text is read, and then a phase behind that comes
 
