@@ -32,6 +32,9 @@ NoneHas {A} P xs = (k : ℕ) (x : A) → slice_get xs k ≡ Some x → P k x →
 
 -- ---- E801: a line of no form, or a second `.entry`
 
+abbrev pub no_form : ℕ
+no_form = 801
+
 -- the line is a `.entry`
 abbrev pub HasEntry : List ℕ → Type 0
 HasEntry line = (s : Statement) × HasStatement line s × IsEntry s.item.form
@@ -50,11 +53,17 @@ pub record AreFormed (text : List ℕ) (statements : List Statement) : Type 0 wh
 
 -- ---- E803: a label a second time
 
+abbrev pub second_label : ℕ
+second_label = 803
+
 abbrev pub HasOldLabel : List Statement → ℕ → Statement → Type 0
 HasOldLabel statements k s =
     (name : List ℕ) × (j : ℕ) × (t : Statement) × (j < k) × (slice_get statements j ≡ Some t) × HasLabel t name × HasLabel s name
 
 -- ---- E802: a label that stands nowhere
+
+abbrev pub unknown_label : ℕ
+unknown_label = 802
 
 abbrev pub NamesNothing : List Statement → ℕ → Statement → Type 0
 NamesNothing statements k s =
@@ -62,12 +71,18 @@ NamesNothing statements k s =
 
 -- ---- E804: a number or distance that is odd or out of range, so that no word has it (specs/Ranges.antt has the ranges)
 
+abbrev pub out_of_range : ℕ
+out_of_range = 804
+
 abbrev pub HasNoWord : List Statement → ℕ → Statement → Type 0
 HasNoWord statements k s =
     (z : ℤ) × (size_of s ≡ 4) × IsValue statements (address_of statements k) s.operand.text s.item.operand z
     × ((word : ℕ) → IsWordOf s.item.form z word → ⊥)
 
 -- ---- E805: the whole is not that of an image
+
+abbrev pub no_image : ℕ
+no_image = 805
 
 -- no instruction; too much code; too many initial bytes; an entry that is no instruction's place
 pub data IsNoImage (statements : List Statement) : Type 0 where
@@ -88,35 +103,37 @@ IsLabel s w = s.label ≡ Some w
 abbrev pub IsOperand : Statement → Word → Type 0
 IsOperand s w = s.operand ≡ w
 
--- E805
 abbrev pub WholeFault : List Statement → ℕ → Pos → Type 0
-WholeFault statements code place = IsNoImage statements × (code ≡ 805) × (place ≡ start)
+WholeFault statements code place = IsNoImage statements × (code ≡ no_image) × (place ≡ start)
 
 -- E804, or where it does not hold E805
 abbrev pub NumberFault : List Statement → ℕ → Pos → Type 0
 NumberFault statements code place =
-    (IsAt (HasNoWord statements) IsOperand statements place × (code ≡ 804))
+    (IsAt (HasNoWord statements) IsOperand statements place × (code ≡ out_of_range))
     ⊎ (NoneHas (HasNoWord statements) statements × WholeFault statements code place)
 
 -- E802, or where it does not hold the next
 abbrev pub NameFault : List Statement → ℕ → Pos → Type 0
 NameFault statements code place =
-    (IsAt (NamesNothing statements) IsOperand statements place × (code ≡ 802))
+    (IsAt (NamesNothing statements) IsOperand statements place × (code ≡ unknown_label))
     ⊎ (NoneHas (NamesNothing statements) statements × NumberFault statements code place)
 
 -- E803, or where it does not hold the next
 abbrev pub LabelFault : List Statement → ℕ → Pos → Type 0
 LabelFault statements code place =
-    (IsAt (HasOldLabel statements) IsLabel statements place × (code ≡ 803))
+    (IsAt (HasOldLabel statements) IsLabel statements place × (code ≡ second_label))
     ⊎ (NoneHas (HasOldLabel statements) statements × NameFault statements code place)
 
--- E801
 abbrev pub FormFault : List ℕ → ℕ → Pos → Type 0
 FormFault text code place =
-    (k : ℕ) × (line : List ℕ) × IsFirst (HasNoForm (lines_of text)) (lines_of text) k line × (code ≡ 801) × (place ≡ line_front k)
+    (k : ℕ) × (line : List ℕ) × IsFirst (HasNoForm (lines_of text)) (lines_of text) k line × (code ≡ no_form) × (place ≡ line_front k)
+
+-- E201: a text that is too long
+abbrev pub long_text : ℕ
+long_text = 201
 
 -- the first fault of a text: its code and its place
 pub data IsFirstFault (text : List ℕ) (code : ℕ) (place : Pos) : Type 0 where
-  too_long : longest_text < length text → code ≡ 201 → place ≡ start → IsFirstFault text code place
+  too_long : longest_text < length text → code ≡ long_text → place ≡ start → IsFirstFault text code place
   in_form : length text ≤ longest_text → FormFault text code place → IsFirstFault text code place
   in_whole : length text ≤ longest_text → (statements : List Statement) → AreFormed text statements → LabelFault statements code place → IsFirstFault text code place

@@ -2,7 +2,7 @@
 ghost use Rattle.std.specs.Prelude.{◌≡◌, ℕ, ◌+◌, ◌^◌, ◌<◌, ◌≤◌, List, ◌++◌, length, None, Some, OnOk, IfOk, IfErr, IsSome, IsTrue};
 ghost use Rattle.ckc_base.specs.Places.{longest_text};
 ghost use Rattle.ckc_asm.specs.declared.items.Operand.TheVariants as operands;
-ghost use Rattle.ckc_asm.specs.Faults.{NamesNothing, HasNoWord, NoneHas, IsAt, IsOperand};
+ghost use Rattle.ckc_asm.specs.Faults.{NamesNothing, HasNoWord, NoneHas, IsAt, IsOperand, unknown_label, out_of_range};
 ghost use Rattle.ckc_asm.specs.code.Outcome.{IfRefused};
 ghost use Rattle.ckc_asm.specs.code.Reading.{known, IsExact, IsWhole, ValueIs, StandsFor, LacksWord};
 ghost use Rattle.ckc_asm.specs.code.Rows.{statement_in, statements_in};
@@ -10,6 +10,7 @@ ghost use Rattle.ckc_asm.specs.code.Rows.{statement_in, statements_in};
 use crate::encoding::word_of;
 use crate::items::Operand;
 use crate::labels::{Labels, width_of};
+use crate::refusals::{OUT_OF_RANGE, UNKNOWN_LABEL};
 use crate::statements::Row;
 use ckc_base::{Fault, Pos, refused};
 use ckc_lines::CODE;
@@ -23,13 +24,13 @@ pub fn check_names(rows: &[Row], labels: &Labels) -> Result<(), Fault>
         (statements_in rows.now)) }
     ensures fault { IfErr result (λ e. IfRefused e
         (λ code place. IsAt (NamesNothing (statements_in rows.now)) IsOperand
-        (statements_in rows.now) place × (code ≡ 802))) }
+        (statements_in rows.now) place × (code ≡ unknown_label))) }
 {
     for (k, row) in rows.iter().enumerate() {
         if is_unknown(row, labels) {
             let line = k as u32 + 1;
             let col = row.operand.col;
-            return Err(refused(802, Pos { line, col }));
+            return Err(refused(UNKNOWN_LABEL, Pos { line, col }));
         }
     }
     Ok(())
@@ -56,7 +57,7 @@ pub fn code_of(alloc: Global, rows: &[Row], labels: &Labels) -> Result<Vec<u8>, 
         × NoneHas (HasNoWord (statements_in rows.now)) (statements_in rows.now)) }
     ensures fault { IfErr result (λ e. IfRefused e
         (λ code place. IsAt (HasNoWord (statements_in rows.now)) IsOperand
-        (statements_in rows.now) place × (code ≡ 804))) }
+        (statements_in rows.now) place × (code ≡ out_of_range))) }
 {
     let mut code = Vec::new(alloc);
     let mut address = CODE;
@@ -79,7 +80,7 @@ fn put_statement(
     ensures ok { OnOk result ((bytes : List ℕ) × (code.new.items ≡ code.old.items ++ bytes)
         × StandsFor (known labels.now) address (statement_in row.now) bytes) }
     ensures fault { IfErr result (λ e. IfRefused e
-        (λ code place. (code ≡ 804) × (place ≡ (record { line = line; col = row.now.operand.col }))
+        (λ code place. (code ≡ out_of_range) × (place ≡ (record { line = line; col = row.now.operand.col }))
         × LacksWord (known labels.now) address (statement_in row.now))) }
 {
     if width_of(&row.item.form) == 0 {
@@ -93,7 +94,7 @@ fn put_statement(
         }
         None => {
             let col = row.operand.col;
-            Err(refused(804, Pos { line, col }))
+            Err(refused(OUT_OF_RANGE, Pos { line, col }))
         }
     }
 }

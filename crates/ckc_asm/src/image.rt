@@ -5,7 +5,7 @@ ghost use Rattle.ckc_image.specs.Image.{IsProper, EntryFits};
 ghost use Rattle.ckc_asm.specs.declared.items.Operand.TheVariants as operands;
 ghost use Rattle.ckc_asm.specs.Program.{data_bytes, Enters};
 ghost use Rattle.ckc_base.specs.Places.{start};
-ghost use Rattle.ckc_asm.specs.Faults.{NamesNothing, NoneHas};
+ghost use Rattle.ckc_asm.specs.Faults.{NamesNothing, NoneHas, no_image};
 ghost use Rattle.ckc_asm.specs.code.Outcome.{IfRefused};
 ghost use Rattle.ckc_asm.specs.code.Reading.{known, HaveTargets, IsExact, IsNoProgram, EntryIs};
 ghost use Rattle.ckc_asm.specs.code.Rows.{statements_in};
@@ -13,6 +13,7 @@ ghost use Rattle.ckc_asm.specs.code.Rows.{statements_in};
 use crate::code::target_of;
 use crate::items::{Form, Operand};
 use crate::labels::Labels;
+use crate::refusals::NO_IMAGE;
 use crate::statements::{Row, is_entry};
 use ckc_base::{Fault, START, Seq, refused};
 use ckc_image::Parts;
@@ -71,7 +72,7 @@ pub fn parts_of(entry: i64, code: Vec<u8>, initial: Vec<u8>) -> Result<Parts, Fa
         × (p.initial ≡ initial.items)) }
     ensures proper { IfOk result (λ p. IsProper p.entry p.code p.initial) }
     ensures fault { IfErr result (λ e. IfRefused e
-        (λ number place. (number ≡ 805) × (place ≡ start)
+        (λ number place. (number ≡ no_image) × (place ≡ start)
         × IsNoProgram entry (length code.items))) }
 {
     match entry_place(entry, code.len()) {
@@ -80,7 +81,7 @@ pub fn parts_of(entry: i64, code: Vec<u8>, initial: Vec<u8>) -> Result<Parts, Fa
             code: Seq::from_vec(code),
             initial: Seq::from_vec(initial),
         }),
-        None => Err(refused(805, START)),
+        None => Err(refused(NO_IMAGE, START)),
     }
 }
 

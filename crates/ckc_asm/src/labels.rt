@@ -3,12 +3,13 @@ ghost use Rattle.std.specs.Prelude.{◌≡◌, ℕ, ◌+◌, ◌<◌, ◌≤◌,
 ghost use Rattle.ckc_base.specs.Places.{longest_text};
 ghost use Rattle.ckc_asm.specs.declared.items.Operand.TheVariants as operands;
 ghost use Rattle.ckc_asm.specs.Program.{width_of};
-ghost use Rattle.ckc_asm.specs.Faults.{HasOldLabel, NamesNothing, NoneHas, IsAt, IsLabel, IsOperand};
+ghost use Rattle.ckc_asm.specs.Faults.{HasOldLabel, NamesNothing, NoneHas, IsAt, IsLabel, IsOperand, second_label};
 ghost use Rattle.ckc_asm.specs.code.Outcome.{IfRefused};
 ghost use Rattle.ckc_asm.specs.code.Reading.{known, IsExact, ValueIs};
 ghost use Rattle.ckc_asm.specs.code.Rows.{statement_in, statements_in};
 
 use crate::items::{Form, Operand};
+use crate::refusals::SECOND_LABEL;
 use crate::spots::Spot;
 use crate::statements::Row;
 use ckc_base::{Fault, Pos, refused};
@@ -26,7 +27,7 @@ pub fn labels_of<'a>(alloc: Global, rows: &[Row<'a>]) -> Result<Labels<'a>, Faul
         × NoneHas (HasOldLabel (statements_in rows.now)) (statements_in rows.now)) }
     ensures fault { IfErr result (λ e. IfRefused e
         (λ code place. IsAt (HasOldLabel (statements_in rows.now)) IsLabel
-        (statements_in rows.now) place × (code ≡ 803))) }
+        (statements_in rows.now) place × (code ≡ second_label))) }
 {
     let mut labels = IndexMap::new(alloc);
     let mut address = CODE;
@@ -50,12 +51,12 @@ fn put_label<'a>(
         → known labels.new name ≡ (if bytes_eq label.entry.text.now name then Some address else
         known labels.old name)) }
     ensures fault { IfErr result (λ e. IfRefused e
-        (λ code place. (code ≡ 803) × (place ≡ (record { line = line; col = label.entry.col }))
+        (λ code place. (code ≡ second_label) × (place ≡ (record { line = line; col = label.entry.col }))
         × IsSome (known labels.old label.entry.text.now))) }
 {
     if labels.get(&label.text).is_some() {
         let col = label.col;
-        return Err(refused(803, Pos { line, col }));
+        return Err(refused(SECOND_LABEL, Pos { line, col }));
     }
     labels.insert(label.text, address)?;
     Ok(())

@@ -13,6 +13,7 @@ ghost use Rattle.ckc_asm.specs.code.Rows.{statements_in};
 use crate::code::{check_names, code_of};
 use crate::image::{data_of, entry_of, parts_of};
 use crate::labels::{Labels, labels_of};
+use crate::refusals::LONG_TEXT;
 use crate::statements::{Row, lines_of, rows_of};
 use ckc_base::{Fault, LONGEST_TEXT, START, refused};
 use ckc_image::Parts;
@@ -36,7 +37,7 @@ fn read(alloc: Global, text: &[u8]) -> Result<Parts, Fault>
         (λ code place. IsFirstFault text.now code place)) }
 {
     if text.len() > LONGEST_TEXT {
-        return Err(refused(201, START));
+        return Err(refused(LONG_TEXT, START));
     }
     let lines = lines_of(alloc, text)?;
     let rows = rows_of(alloc, lines.as_slice())?;

@@ -10,10 +10,12 @@ ghost use Rattle.ckc_asm.specs.Program.{IsEntry};
 ghost use Rattle.ckc_asm.specs.code.Outcome.{IfRefused};
 ghost use Rattle.ckc_asm.specs.code.Reading.{readings_in, HasTarget, AreRead, IsFormFault, IsRefusedLine};
 ghost use Rattle.ckc_asm.specs.code.Rows.{word_of, statement_in, statements_in};
+ghost use Rattle.ckc_asm.specs.Faults.{no_form};
 
 use crate::item_reader::item_of;
 use crate::items::{Form, Item};
 use crate::numerals::is_name;
+use crate::refusals::NO_FORM;
 use crate::shapes::is_sign;
 use crate::spots::{Spot, words_of};
 use ckc_base::{Fault, Pos, refused};
@@ -66,7 +68,7 @@ fn next_row<'a>(alloc: Global, line: &'a [u8], number: u32, entered: bool) -> Re
     ensures row { IfOk result (λ row. (reading line.now ≡ Some (statement_in row))
         × HasTarget row.item × (IsTrue entered → IsEntry row.item.form → ⊥)) }
     ensures fault { IfErr result (λ e. IfRefused e
-        (λ code place. (code ≡ 801) × (place ≡ (record { line = number; col = 1 }))
+        (λ code place. (code ≡ no_form) × (place ≡ (record { line = number; col = 1 }))
         × IsRefusedLine entered (reading line.now))) }
 {
     match row_of(alloc, line)? {
@@ -82,7 +84,7 @@ fn next_row<'a>(alloc: Global, line: &'a [u8], number: u32, entered: bool) -> Re
 
 fn no_form(line: u32) -> Fault
     ensures { result ≡ Fault.Refused (record {
-      code = 801;
+      code = no_form;
       pos = record {
         line = line;
         col =
@@ -90,7 +92,7 @@ fn no_form(line: u32) -> Fault
       };
     }) }
 {
-    refused(801, Pos { line, col: 1 })
+    refused(NO_FORM, Pos { line, col: 1 })
 }
 
 /// The statement of a line, where its form is right.

@@ -1,6 +1,7 @@
 //! The commands, one function for each.
 ghost use Rattle.std.specs.Prelude.{◌≡◌, ℕ, ◌≤◌, List};
 ghost use Rattle.ckc_base.specs.Places.{at_start};
+ghost use Rattle.ckc_lexer.specs.Codes.{long_text};
 ghost use Rattle.ckc_commands.specs.Words as w;
 ghost use Rattle.ckc_commands.specs.Commands.{Keeps};
 ghost use Rattle.ckc_commands.specs.Running.{Seen, seen_of, putting};
@@ -16,6 +17,7 @@ use ckc_base::{Fault, LONGEST_TEXT, Refusal, START};
 use ckc_build::{build, program};
 use ckc_calls::{fetch_file, keep_file};
 use ckc_interp::interp;
+use ckc_lexer::LONG_TEXT;
 use ckc_outside::{Fetched, Sink, Source, Store, StoreError};
 use std::alloc::Global;
 use std::mem::forget;
@@ -28,9 +30,6 @@ const IMAGE_LIMIT: u64 = 33_550_356;
 
 /// The part of an image that is at fault where there are too many bytes.
 const TOO_MANY_BYTES: u8 = 3;
-
-/// E201: the text has over 262,144 bytes.
-const LONG_TEXT: u16 = 201;
 
 /// `build TEXT IMAGE`
 pub fn build_text<F: Store>(alloc: Global, text: &str, image: &str, store: &mut F) -> Status
@@ -253,7 +252,7 @@ pub fn list_image<O: Sink, F: Store>(
 
 /// The refusal of a text that is too long.
 fn too_long() -> Status
-    ensures { result ≡ Status.Refused (at_start 201) }
+    ensures { result ≡ Status.Refused (at_start long_text) }
 {
     Status::Refused(Refusal {
         code: LONG_TEXT,

@@ -5,6 +5,7 @@ use Rattle.ckc_lexer.specs.declared.items.Item.{Item}
 use Rattle.ckc_lexer.specs.declared.items.Item.TheVariants.{Gap, Token, Broken}
 use Rattle.ckc_syntax.specs.Bytes.{AllBytes}
 use Rattle.ckc_lexer.specs.Bytes.{is_feed}
+use Rattle.ckc_lexer.specs.Codes.{open_comment}
 
 -- `//` and what follows it on the line
 abbrev pub IsLineComment : List ℕ → Type 0
@@ -28,4 +29,4 @@ pub data IsSlashItem (w : List ℕ) (item : Item) : Type 0 where
   mark : length w ≡ 1 → item ≡ Token Mark → IsSlashItem w item
   line : IsLineComment w → item ≡ Gap → IsSlashItem w item
   closed : IsClosed w → item ≡ Gap → IsSlashItem w item
-  open_at_end : IsOpen w → item ≡ Broken 102 → IsSlashItem w item
+  open_at_end : IsOpen w → item ≡ Broken open_comment → IsSlashItem w item

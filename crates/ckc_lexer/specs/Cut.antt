@@ -11,6 +11,7 @@ use Rattle.ckc_lexer.specs.declared.items.Item.TheVariants.{Gap, Token, Broken}
 use Rattle.ckc_lexer.specs.declared.items.Context.{Context}
 use Rattle.ckc_lexer.specs.Places.{place_after, is_fresh_after}
 use Rattle.ckc_lexer.specs.Spelling.{Spells}
+use Rattle.ckc_lexer.specs.Codes.{long_text}
 
 -- a part of a text: the bytes that spell an item
 pub record Part : Type 0 where
@@ -77,5 +78,5 @@ pub record FirstBroken (text : List ℕ) (fault : Refusal) : Type 0 where
 -- The fault for which a text is refused: 201 at its start where it is too long, else the first in it.
 abbrev pub FirstFault : List ℕ → Refusal → Type 0
 FirstFault text fault =
-    ((longest_text < length text) × (fault ≡ at_start 201))
+    ((longest_text < length text) × (fault ≡ at_start long_text))
     ⊎ ((length text ≤ longest_text) × FirstBroken text fault)

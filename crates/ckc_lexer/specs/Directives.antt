@@ -8,6 +8,7 @@ use Rattle.ckc_lexer.specs.declared.items.Item.{Item}
 use Rattle.ckc_lexer.specs.declared.items.Item.TheVariants.{Token, Broken}
 use Rattle.ckc_syntax.specs.Bytes.{AllBytes}
 use Rattle.ckc_lexer.specs.Bytes.{is_space, is_feed}
+use Rattle.ckc_lexer.specs.Codes.{no_token, bad_directive}
 
 -- `#`, `include` and the header, with any spaces before the last two
 pub record IsInclude (header w : List ℕ) : Type 0 where
@@ -47,11 +48,11 @@ pub record IsDirectiveLine (w : List ℕ) : Type 0 where
 
 abbrev pub DirectiveCases : List ℕ → Item → Type 0
 DirectiveCases w (Token (kinds.Directive d)) = IsDirective w d
-DirectiveCases w (Broken code) = (code ≡ 105) × (0 < length w) × AllBytes (λ b. not (is_feed b)) w × (IsDirectiveLine w → ⊥)
+DirectiveCases w (Broken code) = (code ≡ bad_directive) × (0 < length w) × AllBytes (λ b. not (is_feed b)) w × (IsDirectiveLine w → ⊥)
 DirectiveCases w item = ⊥
 
 -- A `#` that is the first byte of its line but for blanks begins a directive, which nothing but spaces may
 -- follow on the line. Every other `#` begins no token.
 abbrev pub HashCases : Bool → List ℕ → Item → Type 0
 HashCases true w item = DirectiveCases w item
-HashCases false w item = (length w ≡ 1) × (item ≡ Broken 101)
+HashCases false w item = (length w ≡ 1) × (item ≡ Broken no_token)

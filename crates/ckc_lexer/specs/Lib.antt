@@ -1,3 +1,4 @@
+pub mod Codes
 pub mod Bytes
 pub mod Comments
 pub mod Cut

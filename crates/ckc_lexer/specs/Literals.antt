@@ -4,13 +4,14 @@ use Rattle.ckc_syntax.specs.declared.tokens.TokenKind.TheVariants.{Character, Te
 use Rattle.ckc_syntax.specs.Literals.{IsLiteral}
 use Rattle.ckc_lexer.specs.declared.items.Item.{Item}
 use Rattle.ckc_lexer.specs.declared.items.Item.TheVariants.{Token, Broken}
+use Rattle.ckc_lexer.specs.Codes.{bad_literal}
 
 abbrev pub CharacterCases : List ℕ → Item → Type 0
 CharacterCases w (Token (Character value)) = IsLiteral 39 w (value ∷ [])
-CharacterCases w (Broken code) = (length w ≡ 1) × (code ≡ 103)
+CharacterCases w (Broken code) = (length w ≡ 1) × (code ≡ bad_literal)
 CharacterCases w item = ⊥
 
 abbrev pub TextCases : List ℕ → Item → Type 0
 TextCases w (Token Text) = (values : List ℕ) × IsLiteral 34 w values
-TextCases w (Broken code) = (length w ≡ 1) × (code ≡ 103)
+TextCases w (Broken code) = (length w ≡ 1) × (code ≡ bad_literal)
 TextCases w item = ⊥

@@ -6,6 +6,7 @@ use Rattle.ckc_lexer.specs.declared.items.Item.TheVariants.{Token, Broken}
 use Rattle.ckc_syntax.specs.Bytes.{AllBytes}
 use Rattle.ckc_syntax.specs.Digits.{is_digit_in, value_in}
 use Rattle.ckc_lexer.specs.Bytes.{is_word_byte}
+use Rattle.ckc_lexer.specs.Codes.{bad_literal}
 
 -- a last `u` or `U`
 abbrev pub has_suffix : List ℕ → Bool
@@ -37,7 +38,7 @@ IsNumber w n unsigned = IsNumeral (without_suffix w) n × (unsigned ≡ (has_suf
 
 abbrev pub NumberCases : List ℕ → Item → Type 0
 NumberCases w (Token (Number n unsigned)) = IsNumber w n unsigned
-NumberCases w (Broken code) = (code ≡ 103) × ((n : ℕ) (unsigned : Bool) → IsNumber w n unsigned → ⊥)
+NumberCases w (Broken code) = (code ≡ bad_literal) × ((n : ℕ) (unsigned : Bool) → IsNumber w n unsigned → ⊥)
 NumberCases w item = ⊥
 
 -- The whole run of letters, digits and `_` is a number or a fault.

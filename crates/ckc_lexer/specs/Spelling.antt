@@ -12,6 +12,7 @@ use Rattle.ckc_lexer.specs.Literals.{CharacterCases, TextCases}
 use Rattle.ckc_lexer.specs.Comments.{IsSlashItem}
 use Rattle.ckc_lexer.specs.Directives.{HashCases}
 use Rattle.ckc_lexer.specs.Marks.{IsMarkItem}
+use Rattle.ckc_lexer.specs.Codes.{no_token}
 
 -- what bytes spell whose first one is of this class
 abbrev pub SpelledBy : Class → Context → List ℕ → Item → Type 0
@@ -23,7 +24,7 @@ SpelledBy Quotation context w item = TextCases w item
 SpelledBy Slash context w item = IsSlashItem w item
 SpelledBy Hash context w item = HashCases context.fresh w item
 SpelledBy Mark context w item = IsMarkItem w item
-SpelledBy Other context w item = (length w ≡ 1) × (item ≡ Broken 101)
+SpelledBy Other context w item = (length w ≡ 1) × (item ≡ Broken no_token)
 
 -- The bytes, all of them, spell the item.
 abbrev pub Spells : Context → List ℕ → Item → Type 0

@@ -6,6 +6,7 @@ use Rattle.ckc_lexer.specs.declared.items.Item.{Item}
 use Rattle.ckc_lexer.specs.declared.items.Item.TheVariants.{Token, Broken}
 use Rattle.ckc_syntax.specs.Bytes.{AllBytes}
 use Rattle.ckc_lexer.specs.Bytes.{is_word_byte}
+use Rattle.ckc_lexer.specs.Codes.{long_name}
 
 -- the keywords without `_` in front: those of the grammar, and every other one of ISO C11, 6.4.1
 abbrev pub plain_keywords : List (List ℕ)
@@ -41,7 +42,7 @@ is_keyword checked w = list_any (λ k. bytes_eq k w) keywords || (checked && lis
 
 -- a name of over 63 bytes is a fault
 abbrev pub word_item : Bool → List ℕ → Item
-word_item checked w = if nat_lt 63 (length w) then Broken 104 else (if is_keyword checked w then Token Keyword else Token Name)
+word_item checked w = if nat_lt 63 (length w) then Broken long_name else (if is_keyword checked w then Token Keyword else Token Name)
 
 -- letters, digits and `_`; that no digit comes first is known where this is used
 abbrev pub IsWordItem : Bool → List ℕ → Item → Type 0

@@ -1,3 +1,4 @@
+pub mod Codes
 pub mod Depth
 pub mod Marks
 pub mod Phase

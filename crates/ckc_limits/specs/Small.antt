@@ -9,6 +9,7 @@ use Rattle.ckc_syntax.specs.declared.tree.Item.{Item}
 use Rattle.ckc_syntax.specs.declared.tree.Item.TheVariants as item
 use Rattle.ckc_limits.specs.Depth.{depth_of_item}
 use Rattle.ckc_limits.specs.Marks.{Mark, marks_of, marks_of_item, is_node, is_local, is_text, is_function, is_static}
+use Rattle.ckc_limits.specs.Codes.{too_deep, too_many_nodes, too_many_locals, too_many_items}
 
 abbrev pub how_many : (Mark → Bool) → List Mark → ℕ
 how_many p ms = count_by p ms
@@ -40,26 +41,26 @@ pub record Small {N A : Type 0} (tree : Tree N A) : Type 0 where
 abbrev pub over : ℕ → ℕ → ℕ → Pos → List Refusal
 over limit number code pos = if nat_lt limit number then record { code = code; pos = pos } ∷ [] else []
 
--- what a function breaks: its nodes (E203), and then its locals (E204)
+-- what a function breaks: its nodes, and then its locals
 abbrev pub faults_of_function : List Mark → Pos → List Refusal
-faults_of_function ms pos = over 1000 (how_many is_node ms) 203 pos ++ over 255 (how_many is_local ms) 204 pos
+faults_of_function ms pos = over 1000 (how_many is_node ms) too_many_nodes pos ++ over 255 (how_many is_local ms) too_many_locals pos
 
 -- What an item breaks, in the order in which it is judged. The place is that of the declared name or tag.
 abbrev pub faults_of_item : {N A : Type 0} → Item N A → List Refusal
 faults_of_item (item.Directive d) = []
 faults_of_item (item.Tag n pos) = []
-faults_of_item (item.Struct n members pos) = over 64 (depth_of_item (item.Struct n members pos)) 202 pos
-faults_of_item (item.Static d) = over 64 (depth_of_item (item.Static d)) 202 d.pos
-faults_of_item (item.Proto h) = over 64 (depth_of_item (item.Proto h)) 202 h.pos
+faults_of_item (item.Struct n members pos) = over 64 (depth_of_item (item.Struct n members pos)) too_deep pos
+faults_of_item (item.Static d) = over 64 (depth_of_item (item.Static d)) too_deep d.pos
+faults_of_item (item.Proto h) = over 64 (depth_of_item (item.Proto h)) too_deep h.pos
 faults_of_item (item.Function h body) =
-    over 64 (depth_of_item (item.Function h body)) 202 h.pos ++ faults_of_function (marks_of_item (item.Function h body)) h.pos
+    over 64 (depth_of_item (item.Function h body)) too_deep h.pos ++ faults_of_function (marks_of_item (item.Function h body)) h.pos
 
 -- what the whole text breaks: its nodes, and then its functions, objects and string literals
 abbrev pub faults_of_marks : List Mark → List Refusal
 faults_of_marks ms =
-    over 16384 (how_many is_node ms) 203 start
-    ++ (over 512 (how_many is_function ms) 205 start
-    ++ (over 1024 (how_many is_static ms) 205 start ++ over 1024 (how_many is_text ms) 205 start))
+    over 16384 (how_many is_node ms) too_many_nodes start
+    ++ (over 512 (how_many is_function ms) too_many_items start
+    ++ (over 1024 (how_many is_static ms) too_many_items start ++ over 1024 (how_many is_text ms) too_many_items start))
 
 -- What a tree breaks, in the order in which it is judged: item by item in the order of the text, then the
 -- whole text.

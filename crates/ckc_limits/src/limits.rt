@@ -2,6 +2,7 @@ ghost use Rattle.std.specs.Prelude.{◌≡◌, List, IfErr};
 ghost use Rattle.ckc_base.specs.declared.fault.Fault.TheVariants.{Memory};
 ghost use Rattle.ckc_base.specs.Phases.{Exact, viewed};
 ghost use Rattle.ckc_limits.specs.Depth.{depth_of_item};
+ghost use Rattle.ckc_limits.specs.Codes.{too_deep};
 ghost use Rattle.ckc_limits.specs.Phase.{limiting};
 ghost use Rattle.ckc_limits.specs.Small.{faults_of, faults_of_item, faults_of_function, faults_of_marks, over};
 ghost use Rattle.ckc_limits.specs.code.Small.{Judges};
@@ -82,7 +83,7 @@ fn item_fits<N, A>(item: &Item<N, A>) -> Result<(), Refusal>
 }
 
 fn depth_fits<N, A>(item: &Item<N, A>, pos: Pos) -> Result<(), Refusal>
-    ensures { Judges result (over 64 (depth_of_item item.now) 202 pos) }
+    ensures { Judges result (over 64 (depth_of_item item.now) too_deep pos) }
 {
     if !item_within(item, DEPTH) {
         return Err(Refusal {

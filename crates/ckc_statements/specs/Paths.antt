@@ -24,15 +24,13 @@ use Rattle.ckc_points.specs.Shown.{Known}
 use Rattle.ckc_points.specs.Flow.{State, less, assigned, joined, unreached}
 use Rattle.ckc_points.specs.Forms.{constant_form, in_type}
 use Rattle.ckc_views.specs.Parts.{fresh_behind}
+use Rattle.ckc_views.specs.Judged.{not_contained}
 use Rattle.ckc_views.specs.Views.{view}
 use Rattle.ckc_ranges.specs.Bundles.{is_bundle}
 use Rattle.ckc_stores.specs.Stores.{stores_of, stored, passed, initialised, returned}
 use Rattle.ckc_statements.specs.DeclBounds.{bounds_there}
 
--- E602 and E607
-abbrev pub not_contained : ℕ
-not_contained = 602
-
+-- E607: what is no bundle
 abbrev pub bad_bundle : ℕ
 bad_bundle = 607
 

@@ -36,15 +36,23 @@ is_raw_item k _ = false
 abbrev pub is_raw_function : List (Item Name Note) → ℕ → Bool
 is_raw_function items k = list_any (is_raw_item k) items
 
+-- E501: a pointer that is not checked, in a checked scope
+abbrev pub unchecked_pointer : ℕ
+unchecked_pointer = 501
+
+-- E502: a cast that assumes its bounds, in a checked scope
+abbrev pub assumed_cast : ℕ
+assumed_cast = 502
+
 abbrev pub fault_where : Bool → Option ℕ
-fault_where b = if b then Some 501 else None
+fault_where b = if b then Some unchecked_pointer else None
 
 -- what refuses a matter in a checked scope
 abbrev pub fault_of_matter : List (Item Name Note) → Matter → Option ℕ
-fault_of_matter items written = Some 501
+fault_of_matter items written = Some unchecked_pointer
 fault_of_matter items (value ctype) = fault_where (has_raw ctype)
 fault_of_matter items (called k) = fault_where (is_raw_function items k)
-fault_of_matter items assumed = Some 502
+fault_of_matter items assumed = Some assumed_cast
 
 abbrev pub fault_in : Mode → Option ℕ → Option ℕ
 fault_in Checked fault = fault
