@@ -1,11 +1,10 @@
 //! Calls: the arguments against the parameters.
 
 ghost use Rattle.std.specs.Prelude.{◌≡◌, length};
-ghost use Rattle.ckc_typed.specs.Expressions.{arguments_typed, result_typed, call_typed};
+ghost use Rattle.ckc_typed.specs.Expressions.{arguments_typed, result_typed};
 ghost use Rattle.ckc_base.specs.Outcomes.{AnswersOutcome};
 
 use ckc_base::{Fault, Pos, refused};
-use ckc_environment::scope::FileScope;
 use ckc_syntax::{Expr, Name};
 use ckc_typed::codes::{BAD_CALL, BAD_CONVERSION};
 use ckc_typed::conversions::converts;
@@ -27,7 +26,8 @@ fn arguments_fit(params: &[CType], args: &[Expr<Name, Note>]) -> Result<(), Faul
     Ok(())
 }
 
-fn result_typed(
+/// The type of a call of a function with a signature.
+pub fn result_typed(
     alloc: Global,
     s: &Signature,
     args: &[Expr<Name, Note>],
@@ -41,20 +41,4 @@ fn result_typed(
     arguments_fit(s.params.as_slice(), args)?;
     let t = copied(alloc, &s.result)?;
     Ok(t)
-}
-
-/// The type of a call.
-pub fn call_typed(
-    alloc: Global,
-    globals: &FileScope,
-    n: Name,
-    args: &[Expr<Name, Note>],
-    pos: Pos,
-) -> Result<CType, Fault>
-    ensures { AnswersOutcome result (call_typed globals.now n args.now pos) }
-{
-    match globals.signature_named(n) {
-        None => Err(refused(BAD_CALL, pos)),
-        Some(s) => result_typed(alloc, s, args, pos),
-    }
 }

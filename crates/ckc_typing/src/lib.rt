@@ -10,7 +10,6 @@ mod items;
 mod laws;
 mod makers;
 mod placing;
-mod rules;
 mod statements;
 mod text;
 

@@ -1,49 +1,95 @@
-//! Expressions of typed parts, each with its type noted.
+//! Expressions of typed parts: each is judged by the types of its parts, and has its own type noted.
 
-ghost use Rattle.std.specs.Prelude.{◌≡◌, Ok};
+ghost use Rattle.std.specs.Prelude.{◌≡◌, not, Ok};
 ghost use Rattle.ckc_syntax.specs.declared.tree.Node.TheVariants as node;
 ghost use Rattle.ckc_types.specs.declared.types.CType.TheVariants as ctype;
 ghost use Rattle.ckc_types.specs.declared.types.Kind.TheVariants as kind;
-ghost use Rattle.ckc_base.specs.Outcomes.{bind, there_or};
-ghost use Rattle.ckc_typed.specs.Codes.{bad_operands};
-ghost use Rattle.ckc_typed.specs.Types.{type_written};
+ghost use Rattle.ckc_base.specs.Outcomes.{AnswersOutcome, bind, there_or, unless};
+ghost use Rattle.ckc_typed.specs.Codes.{bad_operands, bad_conversion};
+ghost use Rattle.ckc_typed.specs.Types.{is_void, type_written};
 ghost use Rattle.ckc_typed.specs.Environment.{type_of_name};
-ghost use Rattle.ckc_typed.specs.Operands.{size_type};
-ghost use Rattle.ckc_typed.specs.Expressions.{noted, number_type, string_type, unary_typed, binary_typed, choice_typed, index_typed, dot_typed, arrow_typed, cast_typed, tested_typed, trusted_typed, call_typed, allocation_typed};
-ghost use Rattle.ckc_base.specs.Outcomes.{AnswersOutcome};
+ghost use Rattle.ckc_typed.specs.Operands.{unary_type, size_type};
+ghost use Rattle.ckc_typed.specs.Expressions.{noted, number_type, string_type, in_row, address_typed, unary_typed, binary_typed, choice_typed, index_typed, dot_typed, arrow_typed, cast_typed, tested_typed, trusted_typed, call_typed, allocation_typed};
 
-use crate::calls::call_typed;
-use crate::rules::{
-    allocation_typed, arrow_typed, binary_typed, cast_typed, choice_typed, dot_typed, index_typed,
-    size_typed, tested_typed, trusted_typed, unary_typed,
-};
+use crate::calls::result_typed;
 use ckc_base::{Boxed, Bytes, Fault, Mode, Pos, Seq, refused};
-use ckc_environment::lookups::type_of_name;
+use ckc_environment::lookups::{self, type_of_name};
 use ckc_environment::notes::noted;
 use ckc_environment::scope::FileScope;
+use ckc_environment::targets::{has_address, is_no_allocation};
 use ckc_syntax::{Expr, Limits, Name, Node, TreeOp, TypeTree, copied_type};
-use ckc_typed::codes::BAD_OPERANDS;
+use ckc_typed::codes::{BAD_CALL, BAD_CONVERSION, BAD_OPERANDS, NO_ADDRESS};
+use ckc_typed::constants::is_null;
+use ckc_typed::conversions::{is_bounds_cast, is_tested, is_trusted};
 use ckc_typed::literals::{null_type, number_type, string_type};
-use ckc_typed::types::type_written;
+use ckc_typed::operands::{self, is_cast};
+use ckc_typed::types::{copied, is_object_type, is_void, type_written};
 use ckc_typed::{Note, Variable};
-use ckc_types::CType;
+use ckc_types::{CType, Kind};
 use std::alloc::Global;
 
-fn typed_name(
+/// The type of a row, or the refusal of operands that are in none.
+fn in_row(void: bool, pos: Pos, t: Option<CType>) -> Result<CType, Fault>
+    ensures { AnswersOutcome result (in_row void pos t) }
+{
+    match t {
+        Some(t) => Ok(t),
+        None => {
+            if void {
+                Err(refused(BAD_CONVERSION, pos))
+            } else {
+                Err(refused(BAD_OPERANDS, pos))
+            }
+        }
+    }
+}
+
+fn address_typed(
     alloc: Global,
     globals: &FileScope,
-    variables: &[Variable],
-    n: Name,
+    mode: Mode,
+    e: &Expr<Name, Note>,
+    pos: Pos,
+) -> Result<CType, Fault>
+    ensures { AnswersOutcome result (address_typed globals.now mode e.now pos) }
+{
+    if !has_address(globals, e) {
+        return Err(refused(NO_ADDRESS, pos));
+    }
+    let element = copied(alloc, &e.note.ctype)?;
+    let to = Boxed::new(alloc, element)?;
+    match mode {
+        Mode::Checked => Ok(CType::Pointer(Kind::Arr, to)),
+        Mode::Unchecked => Ok(CType::Pointer(Kind::Raw, to)),
+    }
+}
+
+fn operation_typed(
+    alloc: Global,
+    op: TreeOp,
+    e: &Expr<Name, Note>,
     pos: Pos,
 ) -> Result<CType, Fault>
     ensures { AnswersOutcome result
-        (there_or bad_operands pos (type_of_name globals.now variables.now n)) }
+        (in_row (is_void e.now.note.ctype) pos (unary_type op e.now.note.ctype)) }
 {
-    let found = type_of_name(alloc, globals, variables, n)?;
-    match found {
-        Some(t) => Ok(t),
-        None => Err(refused(BAD_OPERANDS, pos)),
+    let t = operands::unary_type(alloc, op, &e.note.ctype)?;
+    in_row(is_void(&e.note.ctype), pos, t)
+}
+
+/// The type of a cast: the type is judged first, then the operand.
+fn two_rules(t: CType, fits: bool, converts: bool, pos: Pos) -> Result<CType, Fault>
+    ensures { AnswersOutcome result
+        (unless (not fits) bad_operands pos
+        (unless (not converts) bad_conversion pos (Ok t))) }
+{
+    if !fits {
+        return Err(refused(BAD_OPERANDS, pos));
     }
+    if !converts {
+        return Err(refused(BAD_CONVERSION, pos));
+    }
+    Ok(t)
 }
 
 /// A number.
@@ -84,8 +130,10 @@ pub fn name(
         (bind (there_or bad_operands pos (type_of_name globals.now variables.now n))
         (λ t. Ok (noted mode pos (node.Name n) t))) }
 {
-    let t = typed_name(alloc, globals, variables, n, pos)?;
-    Ok(noted(mode, pos, Node::Name(n), t))
+    match type_of_name(alloc, globals, variables, n)? {
+        Some(t) => Ok(noted(mode, pos, Node::Name(n), t)),
+        None => Err(refused(BAD_OPERANDS, pos)),
+    }
 }
 
 /// A unary operator with its operand.
@@ -100,7 +148,10 @@ pub fn unary(
     ensures { AnswersOutcome result
         (bind (unary_typed globals.now mode op e pos) (λ t. Ok (noted mode pos (node.Un op e) t))) }
 {
-    let t = unary_typed(alloc, globals, mode, op, e.get(), pos)?;
+    let t = match op {
+        TreeOp::Address => address_typed(alloc, globals, mode, e.get(), pos)?,
+        _ => operation_typed(alloc, op, e.get(), pos)?,
+    };
     Ok(noted(mode, pos, Node::Un(op, e), t))
 }
 
@@ -116,7 +167,10 @@ pub fn binary(
     ensures { AnswersOutcome result
         (bind (binary_typed op e f pos) (λ t. Ok (noted mode pos (node.Bin op e f) t))) }
 {
-    let t = binary_typed(alloc, op, e.get(), f.get(), pos)?;
+    let (x, y) = (e.get(), f.get());
+    let (left, right) = (&x.note.ctype, &y.note.ctype);
+    let row = operands::binary_type(alloc, op, left, is_null(x), right, is_null(y))?;
+    let t = in_row(is_void(left) || is_void(right), pos, row)?;
     Ok(noted(mode, pos, Node::Bin(op, e, f), t))
 }
 
@@ -131,7 +185,13 @@ pub fn choice(
     ensures { AnswersOutcome result
         (bind (choice_typed e f g pos) (λ t. Ok (noted mode pos (node.Pick e f g) t))) }
 {
-    let t = choice_typed(e.get(), f.get(), g.get(), pos)?;
+    let (x, y, z) = (
+        &e.get().note.ctype,
+        &f.get().note.ctype,
+        &g.get().note.ctype,
+    );
+    let row = operands::choice_type(x, y, z);
+    let t = in_row(is_void(x) || is_void(y) || is_void(z), pos, row)?;
     Ok(noted(mode, pos, Node::Pick(e, f, g), t))
 }
 
@@ -146,7 +206,9 @@ pub fn index(
     ensures { AnswersOutcome result
         (bind (index_typed e f pos) (λ t. Ok (noted mode pos (node.Index e f) t))) }
 {
-    let t = index_typed(alloc, e.get(), f.get(), pos)?;
+    let (left, right) = (&e.get().note.ctype, &f.get().note.ctype);
+    let row = operands::index_type(alloc, left, right)?;
+    let t = in_row(is_void(left) || is_void(right), pos, row)?;
     Ok(noted(mode, pos, Node::Index(e, f), t))
 }
 
@@ -163,7 +225,9 @@ pub fn dot(
     ensures { AnswersOutcome result
         (bind (dot_typed globals.now e n pos) (λ t. Ok (noted mode pos (node.Dot e n at) t))) }
 {
-    let t = dot_typed(alloc, globals, e.get(), n, pos)?;
+    let of = &e.get().note.ctype;
+    let row = lookups::dot_type(alloc, globals.structs(), of, n)?;
+    let t = in_row(is_void(of), pos, row)?;
     Ok(noted(mode, pos, Node::Dot(e, n, at), t))
 }
 
@@ -180,7 +244,9 @@ pub fn arrow(
     ensures { AnswersOutcome result
         (bind (arrow_typed globals.now e n pos) (λ t. Ok (noted mode pos (node.Arrow e n at) t))) }
 {
-    let t = arrow_typed(alloc, globals, e.get(), n, pos)?;
+    let of = &e.get().note.ctype;
+    let row = lookups::arrow_type(alloc, globals.structs(), of, n)?;
+    let t = in_row(is_void(of), pos, row)?;
     Ok(noted(mode, pos, Node::Arrow(e, n, at), t))
 }
 
@@ -197,7 +263,9 @@ pub fn cast(
         (λ t. Ok (noted mode pos (node.Cast w.now e) t))) }
 {
     let to = type_written(alloc, w)?;
-    let t = cast_typed(to, e.get(), pos)?;
+    let fits = is_object_type(&to);
+    let converts = is_cast(&to, &e.get().note.ctype, is_null(e.get()));
+    let t = two_rules(to, fits, converts, pos)?;
     let copy = copied_type(alloc, w)?;
     Ok(noted(mode, pos, Node::Cast(copy, e), t))
 }
@@ -214,9 +282,13 @@ pub fn sizeof(
         (λ t. Ok (noted mode pos (node.Size w.now) t))) }
 {
     let of = type_written(alloc, w)?;
-    let t = size_typed(&of, pos)?;
-    let copy = copied_type(alloc, w)?;
-    Ok(noted(mode, pos, Node::Size(copy), t))
+    match operands::size_type(&of) {
+        Some(t) => {
+            let copy = copied_type(alloc, w)?;
+            Ok(noted(mode, pos, Node::Size(copy), t))
+        }
+        None => Err(refused(BAD_OPERANDS, pos)),
+    }
 }
 
 /// `_Assume_bounds_cast`.
@@ -233,7 +305,9 @@ pub fn trusted(
         (λ t. Ok (noted mode pos (node.Trusted w.now e limits) t))) }
 {
     let to = type_written(alloc, w)?;
-    let t = trusted_typed(to, e.get(), &limits, pos)?;
+    let fits = is_bounds_cast(&to, &limits);
+    let converts = is_trusted(&to, e.get());
+    let t = two_rules(to, fits, converts, pos)?;
     let copy = copied_type(alloc, w)?;
     Ok(noted(mode, pos, Node::Trusted(copy, e, limits), t))
 }
@@ -252,7 +326,9 @@ pub fn tested(
         (λ t. Ok (noted mode pos (node.Tested w.now e limits) t))) }
 {
     let to = type_written(alloc, w)?;
-    let t = tested_typed(to, e.get(), &limits, pos)?;
+    let fits = is_bounds_cast(&to, &limits);
+    let converts = is_tested(&to, e.get());
+    let t = two_rules(to, fits, converts, pos)?;
     let copy = copied_type(alloc, w)?;
     Ok(noted(mode, pos, Node::Tested(copy, e, limits), t))
 }
@@ -269,23 +345,13 @@ pub fn call(
     ensures { AnswersOutcome result
         (bind (call_typed globals.now n args pos) (λ t. Ok (noted mode pos (node.Call n args) t))) }
 {
-    let t = call_typed(alloc, globals, n, args.as_slice(), pos)?;
-    Ok(noted(mode, pos, Node::Call(n, args), t))
-}
-
-fn allocated(
-    alloc: Global,
-    pos: Pos,
-    w: &TypeTree<Name>,
-    e: &Expr<Name, Note>,
-    x: &TypeTree<Name>,
-) -> Result<CType, Fault>
-    ensures { AnswersOutcome result
-        (allocation_typed (type_written w.now) e.now (type_written x.now) pos) }
-{
-    let to = type_written(alloc, w)?;
-    let size = type_written(alloc, x)?;
-    allocation_typed(alloc, to, e, &size, pos)
+    match globals.signature_named(n) {
+        None => Err(refused(BAD_CALL, pos)),
+        Some(s) => {
+            let t = result_typed(alloc, s, args.as_slice(), pos)?;
+            Ok(noted(mode, pos, Node::Call(n, args), t))
+        }
+    }
 }
 
 /// `calloc<T>(e, sizeof(T))`.
@@ -301,8 +367,14 @@ pub fn allocation(
         (bind (allocation_typed (type_written w.now) e (type_written x.now) pos)
         (λ t. Ok (noted mode pos (node.Calloc w.now e x.now) t))) }
 {
-    let t = allocated(alloc, pos, w, e.get(), x)?;
+    let to = type_written(alloc, w)?;
+    let size = type_written(alloc, x)?;
+    if is_no_allocation(&to, e.get(), &size) {
+        return Err(refused(BAD_CALL, pos));
+    }
+    let to = Boxed::new(alloc, to)?;
     let of = copied_type(alloc, w)?;
     let size = copied_type(alloc, x)?;
+    let t = CType::Pointer(Kind::Arr, to);
     Ok(noted(mode, pos, Node::Calloc(of, e, size), t))
 }
