@@ -1,13 +1,17 @@
 //! What holds of the definitions, each the contract of a function that does nothing.
-ghost use Rattle.std.specs.Prelude.{◌≡◌, ◌≤◌, List, ℕ};
+ghost use Rattle.std.specs.Prelude.{◌≡◌, ◌≤◌, List, map, ℕ};
 ghost use Rattle.ckc_base.specs.Phases.{IsExact};
 ghost use Rattle.ckc_parser.specs.Text.{SpelledTree};
+ghost use Rattle.ckc_source.specs.Blocks.{block_of};
 ghost use Rattle.ckc_source.specs.Code.{Program};
+ghost use Rattle.ckc_source.specs.LaidOut.{HoldBytes, IsLaidOut};
 ghost use Rattle.ckc_operands.specs.Weights.{program_weight};
 ghost use Rattle.ckc_build.specs.Meanings.{HasMeaning, judging, reading};
 
+use ckc_elaborate::laws::objects_are_laid_out;
 use ckc_fit::small_stays;
 use ckc_sizes::{marks_stay, programs_are_small};
+use ckc_typing::{statics_have_room, statics_lie_apart};
 use ckc_welltyped::counts_stay;
 
 /// A text is judged, with one outcome of its types, or it has one first error.
@@ -20,6 +24,17 @@ pub fn one_tree()
     ensures { (text : List ℕ) (a b : SpelledTree) →
         reading.Makes text a → reading.Makes text b → a ≡ b }
 {}
+
+/// The objects of the program of a text are laid out, since the types phase places them so; that they hold bytes is
+/// said of the program that is built.
+pub fn programs_are_laid_out()
+    ensures { (text : List ℕ) (p : Program) → HasMeaning text p →
+        HoldBytes (map block_of p.objects) → IsLaidOut p }
+{
+    statics_lie_apart();
+    statics_have_room();
+    objects_are_laid_out();
+}
 
 /// The program of a text that has a meaning weighs no more than an image has room for: the size limits of texts see to
 /// it. So `build` refuses no such text for the size of its program.

@@ -10,5 +10,5 @@ mod placed;
 
 pub use front::judge;
 pub use images::build;
-pub use laws::{judging_is_exact, one_tree, programs_fit};
+pub use laws::{judging_is_exact, one_tree, programs_are_laid_out, programs_fit};
 pub use meanings::{meanings_are_exact, program};

@@ -7,7 +7,8 @@ ghost use Rattle.ckc_elaborate.specs.Elaborated.{elaborated};
 ghost use Rattle.ckc_build.specs.Meanings.{meanings};
 
 use crate::front::judge;
-use crate::placed::lies_apart;
+use crate::laws::programs_are_laid_out;
+use crate::placed::hold_bytes;
 use ckc_base::Fault;
 use ckc_elaborate::elaborate;
 use ckc_source::Program;
@@ -27,11 +28,9 @@ pub fn program(alloc: Global, text: &[u8]) -> Result<Program, Fault>
         Ok(typed) => match elaborated(alloc, typed) {
             Err(_) => Err(Fault::Memory),
             Ok(p) => {
-                if lies_apart(&p) {
-                    Ok(p)
-                } else {
-                    Err(Fault::Memory)
-                }
+                programs_are_laid_out();
+                hold_bytes(p.objects.as_slice());
+                Ok(p)
             }
         },
     }

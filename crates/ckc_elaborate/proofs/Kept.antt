@@ -18,7 +18,7 @@ use Rattle.ckc_typed.specs.Declarations.{bares_typed, static_typed}
 use Rattle.ckc_typed.specs.Statements.{stmt_typed}
 use Rattle.ckc_typed.specs.Layouts.{structs_of}
 use Rattle.ckc_typed.specs.Texts.{head_mode, result_allowed, head_with, head_typed, item_typed, items_typed, pragma_after, globals_of, laid_out, named_typed}
-use Rattle.ckc_elaborate.specs.Sound.{defines, IsDefined}
+use Rattle.ckc_elaborate.specs.Bodies.{defines, IsDefined}
 
 ok_same : {A : Type 0} (a b : A) → ◌≡◌ {A = Outcome A} (Ok a) (Ok b) → a ≡ b
 ok_same a b e = cc

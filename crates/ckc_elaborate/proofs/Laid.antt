@@ -7,22 +7,11 @@ use Rattle.ckc_base.specs.Memory.{data_end}
 use Rattle.ckc_types.specs.declared.types.Structs.{Structs}
 use Rattle.ckc_typed.specs.declared.typed.StaticObject.{StaticObject}
 use Rattle.ckc_typed.specs.Constants.{size_of}
-use Rattle.ckc_typing.specs.Objects.{LieApart}
+use Rattle.ckc_typing.specs.Objects.{LieApart, HasRoom, HaveRoom}
 use Rattle.ckc_source.specs.Blocks.{Block, end_of, block_of, place_behind, first_place}
-use Rattle.ckc_source.specs.LaidOut.{AreApart, AreBytes, HoldBytes}
+use Rattle.ckc_source.specs.LaidOut.{AreApart}
 use Rattle.ckc_elaborate.specs.Lists.{beside}
 use Rattle.ckc_elaborate.specs.Objects.{object_elaborated}
-use Rattle.ckc_elaborate.specs.Sound.{BeginAsBytes}
-
--- ---- bytes
-
-zeros : (n : ℕ) → AreBytes (replicate n 0)
-zeros zero = tt
-zeros (suc n) = (omega arith, zeros n)
-
-with_zeros : (bytes : List ℕ) (n : ℕ) → AreBytes bytes → AreBytes (bytes ++ replicate n 0)
-with_zeros [] n h = zeros n
-with_zeros (b ∷ bytes) n h = (h.0, with_zeros bytes n h.1)
 
 module _ (structs : Structs) where
   abbrev room : StaticObject → ℕ
@@ -60,14 +49,14 @@ module _ (structs : Structs) where
   rest_of : (P : StaticObject → Type 0) (o : StaticObject) (os : List StaticObject) → All P (o ∷ os) → All P os
   rest_of P o os a = λ k d h. a (suc k) d (omega arith)
 
-  apart_from : (low place : ℕ) (flags : List Bool) (os : List StaticObject) → low ≤ place → All (λ o. low ≤ o.at) os → Pairs os → BeginAsBytes structs os → AreApart low (blocks flags os) (place_behind place (blocks flags os))
+  apart_from : (low place : ℕ) (flags : List Bool) (os : List StaticObject) → low ≤ place → All (λ o. low ≤ o.at) os → Pairs os → HaveRoom structs os → AreApart low (blocks flags os) (place_behind place (blocks flags os))
   apart_from low place flags [] h a r w = h
   apart_from low place [] (o ∷ os) h a r w =
-      link low place None o (blocks [] os) (a 0 o (omega arith)) w.0
-      (apart_from (last o + 1) ((last o + 15) / 8 * 8) [] os (omega arith) (behind o os r) (later o os r) w.2)
+      link low place None o (blocks [] os) (a 0 o (omega arith)) (w 0 o (omega arith))
+      (apart_from (last o + 1) ((last o + 15) / 8 * 8) [] os (omega arith) (behind o os r) (later o os r) (rest_of (HasRoom structs) o os w))
   apart_from low place (f ∷ fs) (o ∷ os) h a r w =
-      link low place (Some f) o (blocks fs os) (a 0 o (omega arith)) w.0
-      (apart_from (last o + 1) ((last o + 15) / 8 * 8) fs os (omega arith) (behind o os r) (later o os r) w.2)
+      link low place (Some f) o (blocks fs os) (a 0 o (omega arith)) (w 0 o (omega arith))
+      (apart_from (last o + 1) ((last o + 15) / 8 * 8) fs os (omega arith) (behind o os r) (later o os r) (rest_of (HasRoom structs) o os w))
 
   -- where the first one begins, the others begin later
   from_first : (os : List StaticObject) → LieApart structs os → All (λ o. first_place ≤ o.at) os
@@ -81,7 +70,7 @@ module _ (structs : Structs) where
       by zero d h = omega (arith, first)
       by (suc k) d h = omega (arith, first, a.apart 0 (suc k) d (omega arith) h)
 
-  pub apart_is : (flags : List Bool) (os : List StaticObject) → LieApart structs os → BeginAsBytes structs os → AreApart first_place (blocks flags os) (place_behind first_place (blocks flags os))
+  pub apart_is : (flags : List Bool) (os : List StaticObject) → LieApart structs os → HaveRoom structs os → AreApart first_place (blocks flags os) (place_behind first_place (blocks flags os))
   apart_is flags os a w = apart_from first_place first_place flags os (omega arith) (from_first os a) a.apart w
 
   next_link : (place : ℕ) (flag : Option Bool) (o : StaticObject) (bs : List Block) → length o.initial ≤ room o → place_behind ((last o + 15) / 8 * 8) bs ≤ data_end → place_behind place (made flag o ∷ bs) ≤ data_end
@@ -89,16 +78,11 @@ module _ (structs : Structs) where
       let P : ℕ → Type 0 = λ e. place_behind ((e + 15) / 8 * 8) bs ≤ data_end in
       subst P (sym (ends flag o w)) rest
 
-  pub below_is : (place : ℕ) (flags : List Bool) (os : List StaticObject) → place ≤ data_end → All (λ o. last o ≤ 0x02400000) os → BeginAsBytes structs os → place_behind place (blocks flags os) ≤ data_end
+  pub below_is : (place : ℕ) (flags : List Bool) (os : List StaticObject) → place ≤ data_end → All (λ o. last o ≤ 0x02400000) os → HaveRoom structs os → place_behind place (blocks flags os) ≤ data_end
   below_is place flags [] h a w = h
   below_is place [] (o ∷ os) h a w =
       let here : last o ≤ 0x02400000 = a 0 o (omega arith) in
-      next_link place None o (blocks [] os) w.0 (below_is ((last o + 15) / 8 * 8) [] os (omega arith) (rest_of (λ o. last o ≤ 0x02400000) o os a) w.2)
+      next_link place None o (blocks [] os) (w 0 o (omega arith)) (below_is ((last o + 15) / 8 * 8) [] os (omega arith) (rest_of (λ o. last o ≤ 0x02400000) o os a) (rest_of (HasRoom structs) o os w))
   below_is place (f ∷ fs) (o ∷ os) h a w =
       let here : last o ≤ 0x02400000 = a 0 o (omega arith) in
-      next_link place (Some f) o (blocks fs os) w.0 (below_is ((last o + 15) / 8 * 8) fs os (omega arith) (rest_of (λ o. last o ≤ 0x02400000) o os a) w.2)
-
-  pub bytes_are : (flags : List Bool) (os : List StaticObject) → BeginAsBytes structs os → HoldBytes (blocks flags os)
-  bytes_are flags [] w = tt
-  bytes_are [] (o ∷ os) w = (with_zeros o.initial (room o - length o.initial) w.1, bytes_are [] os w.2)
-  bytes_are (f ∷ fs) (o ∷ os) w = (with_zeros o.initial (room o - length o.initial) w.1, bytes_are fs os w.2)
+      next_link place (Some f) o (blocks fs os) (w 0 o (omega arith)) (below_is ((last o + 15) / 8 * 8) fs os (omega arith) (rest_of (λ o. last o ≤ 0x02400000) o os a) (rest_of (HasRoom structs) o os w))

@@ -9,7 +9,7 @@ use Rattle.ckc_typed.specs.Environment.{same_name}
 use Rattle.ckc_elaborate.specs.Names.{number_of}
 use Rattle.ckc_elaborate.specs.Lists.{numbered}
 use Rattle.ckc_elaborate.specs.Functions.{functions_in, literals_of_item}
-use Rattle.ckc_elaborate.specs.Sound.{IsDefined}
+use Rattle.ckc_elaborate.specs.Bodies.{IsDefined}
 
 false_is_true : ◌≡◌ {A = Bool} false true → ⊥
 false_is_true e = cc

@@ -7,5 +7,5 @@ pub mod Functions
 pub mod Objects
 pub mod Shapes
 pub mod Elaborated
-pub mod Sound
+pub mod Bodies
 pub mod code

@@ -1,18 +1,19 @@
 //! What follows from the definitions, each the contract of a function that does nothing.
 
-ghost use Rattle.std.specs.Prelude.{◌≡◌, ◌<◌, length};
+ghost use Rattle.std.specs.Prelude.{◌≡◌, ◌<◌, length, map};
 ghost use Rattle.ckc_syntax.specs.declared.tree.Name.{Name};
 ghost use Rattle.ckc_syntax.specs.declared.tree.NamedText.{NamedText};
 ghost use Rattle.ckc_typed.specs.declared.typed.Typed.{Typed};
-ghost use Rattle.ckc_typing.specs.Objects.{LieApart};
+ghost use Rattle.ckc_typing.specs.Objects.{LieApart, HaveRoom};
 ghost use Rattle.ckc_typing.specs.Phase.{typing};
-ghost use Rattle.ckc_source.specs.LaidOut.{IsLaidOut};
+ghost use Rattle.ckc_source.specs.LaidOut.{HoldBytes, IsLaidOut};
+ghost use Rattle.ckc_source.specs.Blocks.{block_of};
 ghost use Rattle.ckc_elaborate.specs.Names.{number_of};
 ghost use Rattle.ckc_elaborate.specs.Elaborated.{elaborated};
 ghost use Rattle.ckc_typed.specs.Trees.{NotedItem};
 ghost use Rattle.ckc_typed.specs.Statics.{strings_of_item};
 ghost use Rattle.ckc_elaborate.specs.Functions.{literals_of_item};
-ghost use Rattle.ckc_elaborate.specs.Sound.{IsDefined, BeginAsBytes};
+ghost use Rattle.ckc_elaborate.specs.Bodies.{IsDefined};
 
 /// The types phase keeps which functions are defined, and the number of `main`.
 pub fn functions_are_kept()
@@ -27,11 +28,11 @@ pub fn functions_are_there()
         number_of n p.tree.items < length (elaborated p).functions }
 {}
 
-/// The objects of a program lie apart and begin as bytes, where the static objects of the typed text lie apart, as the
-/// types phase places them, and begin with bytes that they have room for.
+/// The objects of a program are laid out, where the static objects of the typed text lie apart and have room for the
+/// bytes that they begin with, as the types phase makes them, and the objects hold bytes.
 pub fn objects_are_laid_out()
-    ensures laid_out { (p : Typed) → LieApart p.layout p.statics →
-        BeginAsBytes p.layout p.statics → IsLaidOut (elaborated p) }
+    ensures laid_out { (p : Typed) → LieApart p.layout p.statics → HaveRoom p.layout p.statics →
+        HoldBytes (map block_of (elaborated p).objects) → IsLaidOut (elaborated p) }
 {}
 
 /// As many string literals are counted in an item as make blocks.

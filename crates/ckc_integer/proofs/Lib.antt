@@ -1,4 +1,3 @@
 pub mod Indexes
 pub mod Judged
-pub mod Laid
 pub mod Numeric

@@ -1,4 +1,4 @@
-//! Whether a program can be compiled: its names exist, its numbers fit, and it is laid out and small.
+//! Whether a program can be compiled: its names exist, its numbers fit, and it is small.
 #![tactic(auto)]
 
 mod counts;

@@ -1,11 +1,10 @@
 //! Functions and programs that can be compiled.
 ghost use Rattle.std.specs.Prelude.{◌↔◌, All, map, IsTrue};
 ghost use Rattle.ckc_source.specs.Code.{function_of, program_of};
-ghost use Rattle.ckc_source.specs.LaidOut.{IsLaidOut};
 ghost use Rattle.ckc_operands.specs.Compilable.{IsCompilableFunction, IsCompilable};
 
 use crate::counts::code_nodes;
-use crate::objects::{begin_low, lie_apart};
+use crate::objects::begin_low;
 use crate::statements::{has_params, is_code};
 use ckc_source::{FunctionTree, Program};
 
@@ -31,7 +30,8 @@ fn are_functions(funcs: &[FunctionTree]) -> bool
     good
 }
 
-fn is_form(p: &Program) -> bool
+/// Whether a program can be compiled. It takes no memory.
+pub fn is_compilable(p: &Program) -> bool
     ensures { IsTrue result ↔ IsCompilable (program_of p.now) }
 {
     let funcs = p.functions.as_slice();
@@ -39,17 +39,4 @@ fn is_form(p: &Program) -> bool
         && are_functions(funcs)
         && funcs.len() <= 512
         && has_params(funcs, p.main, 0)
-}
-
-fn is_laid_out(p: &Program) -> bool
-    ensures { IsTrue result ↔ IsLaidOut (program_of p.now) }
-{
-    lie_apart(p.objects.as_slice())
-}
-
-/// Whether a program can be compiled and has its objects laid out. It takes no memory.
-pub fn is_compilable(p: &Program) -> bool
-    ensures { IsTrue result ↔ (IsCompilable (program_of p.now) × IsLaidOut (program_of p.now)) }
-{
-    is_form(p) && is_laid_out(p)
 }

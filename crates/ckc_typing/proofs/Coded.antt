@@ -1,10 +1,10 @@
 -- Which codes the refusals of the types phase have: of outcomes, and of expressions and bounds.
-use Rattle.std.proofs.Common.{◌≡◌, ◌⊎◌, inl, inr, ℕ, Bool, true, false, List, [], ◌∷◌, map, refl, sym, ap, subst, ◌∙◌}
+use Rattle.std.proofs.Common.{inl, inr, ℕ, Bool, true, false, List, [], ◌∷◌, map, refl}
 use Rattle.std.specs.Prelude.{Option, Some, None, Ok, Err, not, ◌||◌, ◌==◌, length}
 use Rattle.std.specs.Option.{option_map}
 use Rattle.ckc_base.specs.declared.places.Pos.{Pos}
 use Rattle.ckc_base.specs.declared.arithmetic.Mode.{Mode}
-use Rattle.ckc_base.specs.Outcomes.{Outcome, bind, refused, unless, there_or, in_order, if_there}
+use Rattle.ckc_base.specs.Outcomes.{Outcome, bind, unless, there_or, in_order, if_there}
 use Rattle.ckc_types.specs.declared.types.CType.{CType}
 use Rattle.ckc_types.specs.declared.types.CType.TheVariants as ctype
 use Rattle.ckc_types.specs.declared.types.Kind.TheVariants as kind
@@ -24,7 +24,7 @@ use Rattle.ckc_typed.specs.Types.{type_written, is_void, is_object_type}
 use Rattle.ckc_typed.specs.Conversions.{is_null, converts, is_bounds_cast, is_tested, is_trusted}
 use Rattle.ckc_typed.specs.Environment.{type_of_name, signature_named}
 use Rattle.ckc_typed.specs.Operands.{unary_type, binary_type, choice_type, index_type, dot_type, arrow_type, is_cast, size_type}
-use Rattle.ckc_typed.specs.Expressions.{OfLimits, OfNode, OfExpr, address_kind, has_address, in_row, address_typed, unary_typed, binary_typed, choice_typed, index_typed, dot_typed, arrow_typed, cast_typed, is_no_allocation, allocation_typed, tested_typed, trusted_typed, arguments_typed, result_typed, call_typed, limits_parts, node_parts, expr_parts, limits_typed, node_typed, expr_typed, exprs_typed, bounds_typed, value_typed}
+use Rattle.ckc_typed.specs.Expressions.{OfLimits, OfNode, OfExpr, address_kind, has_address, in_row, address_typed, unary_typed, binary_typed, choice_typed, index_typed, dot_typed, arrow_typed, cast_typed, is_no_allocation, allocation_typed, tested_typed, trusted_typed, arguments_typed, result_typed, call_typed, limits_parts, node_parts, expr_parts, limits_typed, expr_typed, exprs_typed, bounds_typed, value_typed}
 use Rattle.ckc_typing.specs.Phase.{IsTypeCode}
 
 pub is_206 : IsTypeCode late_statics

@@ -1,5 +1,5 @@
 -- Which codes the refusals of declarations, statements, items and whole texts have.
-use Rattle.std.proofs.Common.{◌≡◌, ℕ, Bool, true, false, if◌then◌else◌, List, [], ◌∷◌, map, refl, sym, ap, subst, ◌∙◌}
+use Rattle.std.proofs.Common.{◌≡◌, ℕ, Bool, true, false, if◌then◌else◌, List, [], ◌∷◌, map, sym, ap, subst, ◌∙◌}
 use Rattle.std.specs.Prelude.{Option, Some, None, Ok, Err, not, nat_lt, ◌&&◌}
 use Rattle.std.specs.Option.{option_map}
 use Rattle.ckc_base.specs.declared.places.Pos.{Pos}
@@ -7,13 +7,13 @@ use Rattle.ckc_base.specs.declared.places.Refusal.{Refusal}
 use Rattle.ckc_base.specs.declared.arithmetic.Mode.{Mode}
 use Rattle.ckc_base.specs.declared.arithmetic.Mode.TheVariants.{Unchecked}
 use Rattle.ckc_base.specs.Places.{start}
-use Rattle.ckc_base.specs.Outcomes.{Outcome, bind, unless, in_order, if_there}
+use Rattle.ckc_base.specs.Outcomes.{Outcome, unless}
 use Rattle.ckc_types.specs.declared.types.CType.{CType}
 use Rattle.ckc_syntax.specs.declared.tree.Name.{Name}
 use Rattle.ckc_syntax.specs.declared.tree.NamedText.{NamedText}
 use Rattle.ckc_syntax.specs.declared.tree.Init.TheVariants as init
 use Rattle.ckc_syntax.specs.declared.tree.Item.TheVariants as item
-use Rattle.ckc_syntax.specs.declared.tree.Act.{Act-F, map-Act, ind-Act, roll-Act, fold-roll-Act}
+use Rattle.ckc_syntax.specs.declared.tree.Act.{Act-F, map-Act, roll-Act, fold-roll-Act}
 use Rattle.ckc_syntax.specs.declared.tree.Stmt.{Stmt-F, map-Stmt, ind-Stmt, roll-Stmt, fold-roll-Stmt}
 use Rattle.ckc_typed.specs.declared.environment.Globals.{Globals}
 use Rattle.ckc_typed.specs.declared.environment.Variable.{Variable}
@@ -28,7 +28,7 @@ use Rattle.ckc_typed.specs.Environment.{params_of, variables_of, variable_declar
 use Rattle.ckc_typed.specs.Expressions.{expr_typed, exprs_typed, bounds_typed, value_typed}
 use Rattle.ckc_typed.specs.Declarations.{init_typed, parts_typed, judged, fault_unless, is_scalar_declared, start_fault, is_plain, bare_fault, local_fault, static_fault, bare_typed, bares_typed, local_typed, static_typed}
 use Rattle.ckc_typed.specs.Statements.{OfAct, OfStmt, act_parts, stmt_parts, act_typed, stmt_typed, all_in, part_in, is_target, is_result, target_fits, scalar_fits, scalar_there_fits, result_fits, loop_fits}
-use Rattle.ckc_typed.specs.Texts.{is_result_type, result_allowed, head_mode, head_typed, function_typed, item_typed, items_typed, pragma_after, globals_of, laid_out, text_typed, named_typed}
+use Rattle.ckc_typed.specs.Texts.{is_result_type, result_allowed, head_mode, head_typed, item_typed, items_typed, pragma_after, globals_of, laid_out, named_typed}
 use Rattle.ckc_typed.specs.Layouts.{structs_of}
 use Rattle.ckc_typing.specs.Phase.{IsTypeCode}
 use Rattle.ckc_typing.proofs.Coded.{Coded, is_206, is_401, is_402, is_403, is_406, is_407, in_bind, in_unless, in_each, expr_coded, exprs_coded, bounds_coded, value_coded}

@@ -8,3 +8,4 @@ pub mod Coded
 pub mod CodedItems
 pub mod Placed
 pub mod Objects
+pub mod Room

@@ -13,7 +13,6 @@ use Rattle.ckc_types.specs.declared.types.Structs.{Structs}
 use Rattle.ckc_syntax.specs.declared.tree.Name.TheVariants as name
 use Rattle.ckc_syntax.specs.declared.tree.NamedText.{NamedText}
 use Rattle.ckc_syntax.specs.declared.tree.Item.TheVariants as item
-use Rattle.ckc_typed.specs.declared.typed.StaticObject.{StaticObject}
 use Rattle.ckc_typed.specs.declared.typed.Typed.{Typed}
 use Rattle.ckc_typed.specs.Codes.{late_statics}
 use Rattle.ckc_typed.specs.Trees.{NotedItem, NotedDecl}
@@ -23,13 +22,13 @@ use Rattle.ckc_typed.specs.Texts.{globals_of, items_typed, laid_out, named_typed
 use Rattle.ckc_typing.specs.Objects.{LieApart, objects_declared, AreNumbered}
 use Rattle.ckc_typing.proofs.Placed.{eighths, apart, within, first_at, placed_at}
 
-ok_same : {A : Type 0} (a b : A) → ◌≡◌ {A = Outcome A} (Ok a) (Ok b) → a ≡ b
+pub ok_same : {A : Type 0} (a b : A) → ◌≡◌ {A = Outcome A} (Ok a) (Ok b) → a ≡ b
 ok_same a b e = cc
 
 err_is_ok : {A : Type 0} (r : Refusal) (a : A) → ◌≡◌ {A = Outcome A} (Err r) (Ok a) → ⊥
 err_is_ok r a e = cc
 
-made_of : {A B : Type 0} (o : Outcome A) (k : A → Outcome B) (b : B) → bind o k ≡ Ok b → (a : A) × (o ≡ Ok a) × (k a ≡ Ok b)
+pub made_of : {A B : Type 0} (o : Outcome A) (k : A → Outcome B) (b : B) → bind o k ≡ Ok b → (a : A) × (o ≡ Ok a) × (k a ≡ Ok b)
 made_of (Ok a) k b e = (a, refl, e)
 made_of (Err r) k b e = absurd (err_is_ok r b e)
 
@@ -40,17 +39,19 @@ kept_rule false code at a b e = (refl, ok_same a b e)
 at_most : (a b : ℕ) → nat_lt a b ≡ false → b ≤ a
 at_most a b h = grind (arith, nat_tests)
 
--- the objects of a typed text are its blocks, placed
-pub record Laid (p : Typed) : Type 0 where
+-- the items of a typed text are those of the text with their types, and its objects are their blocks, placed
+pub record Laid (t : NamedText) (p : Typed) : Type 0 where
+  pub typed : items_typed (globals_of t.tree.items) Unchecked t.tree.items ≡ Ok p.tree.items
+  pub layout : p.layout ≡ structs_of t.tree.items
   pub fits : nat_lt LAST_END (end_of_blocks p.layout FIRST_END (blocks p.layout p.tree.items)) ≡ false
   pub placed_blocks : p.statics ≡ placed p.layout FIRST_END (blocks p.layout p.tree.items)
 
-laid : (t : NamedText) (p : Typed) → named_typed t ≡ Ok p → Laid p
+pub laid : (t : NamedText) (p : Typed) → named_typed t ≡ Ok p → Laid t p
 laid t p e =
     let a = made_of (items_typed (globals_of t.tree.items) Unchecked t.tree.items) _ p e in
     let b = made_of (laid_out (structs_of t.tree.items) a.0) _ p a.2 in
     let k = kept_rule (nat_lt LAST_END (end_of_blocks (structs_of t.tree.items) FIRST_END (blocks (structs_of t.tree.items) a.0))) late_statics start (placed (structs_of t.tree.items) FIRST_END (blocks (structs_of t.tree.items) a.0)) b.0 b.1 in
-    subst Laid (ok_same _ p b.2) (record { fits = k.0; placed_blocks = sym k.1 })
+    subst (Laid t) (ok_same _ p b.2) (record { typed = a.1; layout = refl; fits = k.0; placed_blocks = sym k.1 })
 
 pub lie_apart : (t : NamedText) (p : Typed) → named_typed t ≡ Ok p → LieApart p.layout p.statics
 lie_apart t p e =

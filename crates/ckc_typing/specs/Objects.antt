@@ -1,5 +1,5 @@
 -- What holds of the static objects of each typed text.
-use Rattle.std.specs.Prelude.{◌≡◌, ◌≤◌, ℕ, suc, ◌+◌, ◌*◌, ◌%◌, List, [], ◌∷◌}
+use Rattle.std.specs.Prelude.{◌≡◌, ◌≤◌, ℕ, suc, ◌+◌, ◌*◌, ◌%◌, List, [], ◌∷◌, length}
 use Rattle.std.specs.List.{All, AllPairs, flat_map}
 use Rattle.ckc_types.specs.declared.types.Structs.{Structs}
 use Rattle.ckc_syntax.specs.declared.tree.Name.TheVariants as name
@@ -19,6 +19,13 @@ pub record LieApart (structs : Structs) (os : List StaticObject) : Type 0 where
   pub eighths : All (λ o. o.at % 8 ≡ 0) os
   pub apart : AllPairs (λ a b. end_of structs a + 8 ≤ b.at) os
   pub within : All (λ o. end_of structs o ≤ 0x02400000) os
+
+-- an object has room for the bytes that it begins with
+abbrev pub HasRoom : Structs → StaticObject → Type 0
+HasRoom structs o = length o.initial ≤ size_of structs o.element * o.count
+
+abbrev pub HaveRoom : Structs → List StaticObject → Type 0
+HaveRoom structs os = All (HasRoom structs) os
 
 abbrev pub objects_in : NotedItem → List NotedDecl
 objects_in (item.Static d) = d ∷ []

@@ -8,7 +8,7 @@ ghost use Rattle.ckc_syntax.specs.declared.tree.NamedText.{NamedText};
 ghost use Rattle.ckc_typed.specs.declared.typed.Typed.{Typed};
 ghost use Rattle.ckc_typed.specs.Trees.{NotedDecl};
 ghost use Rattle.ckc_typed.specs.Statics.{object_of};
-ghost use Rattle.ckc_typing.specs.Objects.{LieApart, AreNumbered, objects_declared};
+ghost use Rattle.ckc_typing.specs.Objects.{LieApart, HaveRoom, AreNumbered, objects_declared};
 ghost use Rattle.ckc_typing.specs.Phase.{typing, IsTypeCode};
 
 /// A text has one typed text or one first error: never two, never both, never neither.
@@ -25,6 +25,11 @@ pub fn codes()
 /// 8 bytes past the end of every one before it, and none ends past 0x02400000.
 pub fn statics_lie_apart()
     ensures apart { (t : NamedText) (p : Typed) → typing.Makes t p → LieApart p.layout p.statics }
+{}
+
+/// The static objects of a typed text have room for the bytes that they begin with.
+pub fn statics_have_room()
+    ensures room { (t : NamedText) (p : Typed) → typing.Makes t p → HaveRoom p.layout p.statics }
 {}
 
 /// Static object k is the one that is declared as k-th, and is named k, where the objects are numbered in the order of

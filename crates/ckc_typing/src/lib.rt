@@ -13,5 +13,5 @@ mod placing;
 mod statements;
 mod text;
 
-pub use laws::{codes, is_exact, statics_are_named, statics_lie_apart};
+pub use laws::{codes, is_exact, statics_are_named, statics_have_room, statics_lie_apart};
 pub use text::type_of;
