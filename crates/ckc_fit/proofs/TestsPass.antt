@@ -328,17 +328,17 @@ module _ (names : Names) (tests : Tests)
   params_seen all before ds es after items.no_params = refl
   params_seen all before ds es after (items.param {d = d} {e = e} h new hs) = both (decl_seen all all _ d e h) (params_seen _ _ _ _ _ hs)
 
-  members_behind : (all : Scopes) (seen : List Spelling) (before : Scopes) (ds : List Decl) (es : List NamedDecl) → MembersNamed names all seen ds es
+  members_behind : (all : Scopes) (earlier : List Spelling) (before : Scopes) (ds : List Decl) (es : List NamedDecl) → MembersNamed names all earlier ds es
       → names_in (fold (with_member_name names) before ds) ≡ names_in before ++ names_declared es
-  members_behind all seen before ds es items.no_members = sym (append-nil (names_in before))
-  members_behind all seen before ds es (items.member {d = d} {e = e} {es = rest} h new hs) =
+  members_behind all earlier before ds es items.no_members = sym (append-nil (names_in before))
+  members_behind all earlier before ds es (items.member {d = d} {e = e} {es = rest} h new hs) =
       let one : names_in (with_member_name names before d) ≡ names_in before ++ e.name ∷ [] = with_one before d.name (name_of_member names d.name) ∙ ap (λ n. names_in before ++ n ∷ []) (sym h.named) in
       members_behind all _ (with_member_name names before d) _ _ hs ∙ ap (λ ns. ns ++ names_declared rest) one ∙ append_assoc (names_in before) (e.name ∷ []) (names_declared rest)
 
-  members_seen : (all : Scopes) (seen : List Spelling) (ds : List Decl) (es : List NamedDecl) → MembersNamed names all seen ds es
+  members_seen : (all : Scopes) (earlier : List Spelling) (ds : List Decl) (es : List NamedDecl) → MembersNamed names all earlier ds es
       → list_all (decl_passes tests (names_in all) (names_in all)) es ≡ true
-  members_seen all seen ds es items.no_members = refl
-  members_seen all seen ds es (items.member {d = d} {e = e} h new hs) = both (decl_seen all all _ d e h) (members_seen _ _ _ _ hs)
+  members_seen all earlier ds es items.no_members = refl
+  members_seen all earlier ds es (items.member {d = d} {e = e} h new hs) = both (decl_seen all all _ d e h) (members_seen _ _ _ _ hs)
 
   head_seen : (h : Head) (g : NamedHead) (after : Scopes) → HeadNamed names h g after → (head_passes tests g ≡ true) × (names_in after ≡ names_declared g.params)
   head_seen h g after is =

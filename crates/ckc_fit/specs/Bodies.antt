@@ -8,7 +8,7 @@ use Rattle.ckc_syntax.specs.declared.tree.NamedText.{NamedText}
 use Rattle.ckc_resolve.specs.Trees.{NamedHead, NamedItem}
 use Rattle.ckc_fit.specs.Numbers.{function_in}
 use Rattle.ckc_fit.specs.Members.{AreDifferent}
-use Rattle.ckc_fit.specs.Placeless.{placeless_head}
+use Rattle.ckc_syntax.specs.Placeless.{placeless_head}
 
 -- the number of the function that an item gives a body
 abbrev pub body_of : NamedItem → List ℕ

@@ -3,6 +3,5 @@ pub mod Locals
 pub mod Members
 pub mod Tests
 pub mod Visible
-pub mod Placeless
 pub mod Bodies
 pub mod Fit

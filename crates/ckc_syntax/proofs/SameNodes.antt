@@ -9,7 +9,8 @@ use Rattle.ckc_syntax.specs.declared.tree.TreeOp.{TreeOp}
 use Rattle.ckc_syntax.specs.declared.tree.TreeOp.TheVariants as op
 use Rattle.ckc_syntax.specs.code.SameParts.{OfLimits, OfNode, OfExpr, number_of_op, same_op, same_flag, same_limits_parts, same_node_parts, of_limits, of_node, of_expr, same_limits, same_node, same_expr}
 use Rattle.ckc_syntax.specs.Trees.{Spelling, TypeTree, Limits, Node, Expr}
-use Rattle.ckc_syntax.specs.Placeless.{LimitsLayer, NodeLayer, ExprLayer, limits_at_start, node_at_start, expr_at_start, limits_rolled, node_rolled, expr_rolled, placeless_limits, placeless_node, placeless_expr}
+use Rattle.ckc_syntax.specs.Placeless as layers
+use Rattle.ckc_syntax.specs.Placeless.{limits_at_start, node_at_start, expr_at_start, limits_rolled, node_rolled, expr_rolled, placeless_limits, placeless_node, placeless_expr}
 use Rattle.ckc_syntax.proofs.Tells.{Tells, yes, unlike, both, made, same_tells, numbers, names, kept_lists, none_tells, some_tells, left_tells, right_tells}
 use Rattle.ckc_syntax.proofs.SameTypes.{type_tells}
 
@@ -59,6 +60,15 @@ flags true true = yes _
 flags false false = yes _
 flags true false = unlike flag _ _ refl
 flags false true = unlike flag _ _ refl
+
+abbrev LimitsLayer : Type 0
+LimitsLayer = layers.LimitsLayer Spelling (Unit {0})
+
+abbrev NodeLayer : Type 0
+NodeLayer = layers.NodeLayer Spelling (Unit {0})
+
+abbrev ExprLayer : Type 0
+ExprLayer = layers.ExprLayer Spelling (Unit {0})
 
 limits_out : (x : LimitsLayer) → out-Limits Spelling (Unit {0}) (roll-Limits Spelling (Unit {0}) x) ≡ x
 limits_out x = search (rules, expr_lemmas)

@@ -4,7 +4,7 @@ use Rattle.ckc_base.specs.Places.{start}
 use Rattle.ckc_syntax.specs.declared.tree.TypeTree.{TypeTree-F, map-TypeTree, ind-TypeTree, out-TypeTree, roll-TypeTree, fold-roll-TypeTree, fold_out-TypeTree, the_lemmas as type_lemmas}
 use Rattle.ckc_syntax.specs.code.SameParts.{same_types, same_type}
 use Rattle.ckc_syntax.specs.Trees.{Spelling, TypeTree}
-use Rattle.ckc_syntax.specs.Placeless.{type_at_start, placeless_type}
+use Rattle.ckc_syntax.specs.Placeless.{type_at_start, type_rolled, placeless_type}
 use Rattle.ckc_syntax.proofs.Tells.{Tells, yes, unlike, made, same_tells, names}
 
 pub out_of : (x : TypeTree-F Spelling TypeTree) → out-TypeTree Spelling (roll-TypeTree Spelling x) ≡ x
@@ -74,6 +74,6 @@ pub type_tells : (t : TypeTree) → TypeTells t
 type_tells = ind-TypeTree Spelling TypeTells (λ x y is u.
     same_tells _ _ _ _ _ _
     (ap (λ f. f u) (fold-roll-TypeTree Spelling (TypeTree → Bool) (λ t v. same_types t (out-TypeTree Spelling v)) x) ∙ ap (λ z. same_types (test z) (out-TypeTree Spelling u)) (sym is))
-    (fold-roll-TypeTree Spelling TypeTree (λ t. roll-TypeTree Spelling (type_at_start t)) x ∙ ap (λ z. roll-TypeTree Spelling (bare z)) (sym is))
-    (fold_out-TypeTree Spelling TypeTree (λ t. roll-TypeTree Spelling (type_at_start t)) u)
+    (fold-roll-TypeTree Spelling TypeTree type_rolled x ∙ ap (λ z. roll-TypeTree Spelling (bare z)) (sym is))
+    (fold_out-TypeTree Spelling TypeTree type_rolled u)
     (rolled _ _ (step y (out-TypeTree Spelling u))))
