@@ -35,12 +35,9 @@ use Rattle.ckc_declared.specs.declared.limits.Holder.{Holder}
 use Rattle.ckc_declared.specs.declared.limits.Holder.TheVariants as holder
 use Rattle.ckc_declared.specs.declared.limits.Pieces.{Pieces}
 use Rattle.ckc_points.specs.Shown.{is_within}
+use Rattle.ckc_points.specs.Codes.{bad_limits}
 use Rattle.ckc_points.specs.Frames.{local_at, variable}
 use Rattle.ckc_points.specs.Forms.{constant_form, moved_form, sum_of_forms, base_form, elements}
-
--- E603
-abbrev pub bad_limits : ℕ
-bad_limits = 603
 
 -- What bounds start from that name no other pointer: the local itself, and for what is no local its value.
 abbrev pub own : Holder → Base

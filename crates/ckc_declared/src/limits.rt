@@ -13,6 +13,7 @@ ghost use Rattle.ckc_declared.specs.Written.{own, is_integer_member, member_vari
 
 use ckc_base::{Boxed, Fault, Pos, refused};
 use ckc_linear::{Base, Form};
+use ckc_points::codes::BAD_LIMITS;
 use ckc_points::{
     Bounds, Frame, base_form, constant_form, elements, is_within, local_at, moved_form,
     same_element, sum_of_forms, variable,
@@ -24,9 +25,6 @@ use ckc_typed::types::{element_of, is_integer, kind_of, kind_of_array, same_type
 use ckc_typed::{Amount, Note};
 use ckc_types::{CType, Kind, Structs};
 use std::alloc::{AllocError, Global};
-
-/// E603: the form of bounds.
-pub const BAD_LIMITS: u16 = 603;
 
 /// What bounds are declared of: a parameter or local by its number, the result of a function, an object of file scope, or
 /// a member of the structure with a tag.

@@ -7,10 +7,10 @@ ghost use Rattle.ckc_views.specs.Arguments.{bases_by, variables_by};
 ghost use Rattle.ckc_views.specs.Judged.{extended_by, facts_for, is_argument, arguments_fault, head_fault, call_fault};
 ghost use Rattle.ckc_views.specs.Views.{view};
 
-use crate::faults::NOT_CONTAINED;
 use ckc_base::{Refusal, Seq};
 use ckc_extents::{add_fresh_ranges, fresh_behind, is_null, range};
 use ckc_linear::Facts;
+use ckc_points::codes::NOT_CONTAINED;
 use ckc_points::{Bounds, Frame, HeadBounds, Local, Point, Work, copied};
 use ckc_ranges::{Ends, extend, is_contained, replaced_bounds};
 use ckc_syntax::{Expr, Name};

@@ -10,9 +10,10 @@ ghost use Rattle.ckc_views.specs.Judged.{noted_range, expr_made, by_fault, there
 ghost use Rattle.ckc_views.specs.Conditions.{right_point};
 ghost use Rattle.ckc_views.specs.Views.{view, view_of_limits, view_of_node};
 
-use crate::faults::{BAD_AMOUNT, counts_bytes, fault_of_node, operand_fault_of_node};
+use crate::faults::{counts_bytes, fault_of_node, operand_fault_of_node};
 use ckc_base::{Boxed, Bytes, Fault, Refusal, Seq, refused};
 use ckc_extents::{element_size, fresh_behind, range};
+use ckc_points::codes::BAD_LIMITS;
 use ckc_points::{Frame, Point, Work};
 use ckc_syntax::{Expr, Limits, Name, Node, TreeOp, copied_type};
 use ckc_typed::types::{copied as copied_ctype, is_integer, is_pointer};
@@ -86,7 +87,7 @@ fn judge_limits(
             if is_integer(&e.get().note.ctype) {
                 Ok(Limits::Count(amount, *pos))
             } else {
-                Err(refused(BAD_AMOUNT, *pos))
+                Err(refused(BAD_LIMITS, *pos))
             }
         }
         Limits::ByteCount(e, pos) => {
@@ -94,16 +95,16 @@ fn judge_limits(
             if counts_bytes(work.alloc, frame, size, e.get())? {
                 Ok(Limits::ByteCount(amount, *pos))
             } else {
-                Err(refused(BAD_AMOUNT, *pos))
+                Err(refused(BAD_LIMITS, *pos))
             }
         }
         Limits::Between(e, f, pos) => {
             let _low = boxed(work, frame, at, e.get(), first_fresh)?;
             let next = fresh_behind(work, frame, at, e.get(), first_fresh)?;
             let _high = boxed(work, frame, at, f.get(), next)?;
-            Err(refused(BAD_AMOUNT, *pos))
+            Err(refused(BAD_LIMITS, *pos))
         }
-        Limits::Unknown(pos) => Err(refused(BAD_AMOUNT, *pos)),
+        Limits::Unknown(pos) => Err(refused(BAD_LIMITS, *pos)),
     }
 }
 

@@ -9,8 +9,9 @@ ghost use Rattle.ckc_views.specs.Views.{view, view_of_node};
 use crate::arguments::call_fault;
 use ckc_base::{Pos, Refusal};
 use ckc_extents::range;
+use ckc_points::codes::{BOUNDS_ADDRESS, UNKNOWN_BOUNDS};
 use ckc_points::{Frame, Point, Work, is_multiple};
-use ckc_ranges::{NO_ADDRESS, has_no_address};
+use ckc_ranges::has_no_address;
 use ckc_syntax::{Expr, Name, Node, TreeOp};
 use ckc_typed::constants::value_of;
 use ckc_typed::types::{is_integer, kind_of};
@@ -18,15 +19,6 @@ use ckc_typed::{Constant, Note, Range};
 use ckc_types::{CType, Kind, Structs};
 use ckc_views::{Member, member_of_node, number};
 use std::alloc::{AllocError, Global};
-
-/// E601: an access or a tested cast with unknown bounds.
-pub const UNKNOWN_BOUNDS: u16 = 601;
-
-/// E602: the bounds of a new value do not contain those that it must have.
-pub const NOT_CONTAINED: u16 = 602;
-
-/// E603: the amount of a bounds cast has another form.
-pub const BAD_AMOUNT: u16 = 603;
 
 fn is_multiple_of(size: u32, c: Option<Constant>) -> bool
     ensures { result ≡ is_multiple_of size c }
@@ -154,7 +146,7 @@ pub fn fault_of_node(
     match node {
         Node::Un(TreeOp::Deref, e) => access_fault(work, frame, at, e.get(), pos, first_fresh),
         Node::Un(TreeOp::Address, e) => {
-            Ok(fault_if(has_none(frame, &e.get().node), NO_ADDRESS, pos))
+            Ok(fault_if(has_none(frame, &e.get().node), BOUNDS_ADDRESS, pos))
         }
         Node::Index(e, _) => access_fault(work, frame, at, e.get(), pos, first_fresh),
         Node::Arrow(e, _, _) => access_fault(work, frame, at, e.get(), pos, first_fresh),

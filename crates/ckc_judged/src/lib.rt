@@ -7,4 +7,3 @@ mod faults;
 
 pub use arguments::point_for;
 pub use expressions::judge;
-pub use faults::{BAD_AMOUNT, NOT_CONTAINED, UNKNOWN_BOUNDS};

@@ -1,6 +1,7 @@
 //! What is known at each point of a function: facts about its integer variables, and pointers that are widened.
 #![tactic(auto)]
 
+pub mod codes;
 mod forms;
 mod frame;
 mod joins;

@@ -10,9 +10,6 @@ use ckc_syntax::{Act, Expr, Limits, Name, Node, Stmt};
 use ckc_typed::Note;
 use std::alloc::{AllocError, Global};
 
-/// E607: the form of a bundle.
-pub const BAD_BUNDLE: u16 = 607;
-
 /// What a bundle may assign: a local, the member of what a local points to, or a member of an object of file scope, each
 /// by its numbers.
 #[derive(Clone, Copy)]

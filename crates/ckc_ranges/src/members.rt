@@ -7,12 +7,6 @@ ghost use Rattle.ckc_ranges.specs.Members.{names_member, names_some, has_bounds,
 use ckc_typed::constants::members_of;
 use ckc_types::{MemberBounds, MemberShape, Structs};
 
-/// E605: a member that takes part in bounds is assigned alone.
-pub const ASSIGNED_ALONE: u16 = 605;
-
-/// E606: the address of a member that takes part in bounds or has bounds, or of an object with bounds.
-pub const NO_ADDRESS: u16 = 606;
-
 fn names_member(m: u32, bounds: &MemberBounds) -> bool
     ensures { result ≡ names_member m bounds.now }
 {

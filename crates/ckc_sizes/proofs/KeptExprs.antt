@@ -19,8 +19,9 @@ use Rattle.ckc_typed.specs.declared.typed.Range.{Range}
 use Rattle.ckc_typed.specs.Trees.{NotedLimits, NotedNode, NotedExpr}
 use Rattle.ckc_points.specs.declared.frame.Frame.{Frame}
 use Rattle.ckc_points.specs.Flow.{State}
+use Rattle.ckc_points.specs.Codes.{bad_limits}
 use Rattle.ckc_views.specs.Parts.{LimitsView, View, NodeView}
-use Rattle.ckc_views.specs.Judged.{counts_elements, counts_bytes, bad_limits, limits_judged, all_judged, node_judged, unary_judged, by_fault, expr_made}
+use Rattle.ckc_views.specs.Judged.{counts_elements, counts_bytes, limits_judged, all_judged, node_judged, unary_judged, by_fault, expr_made}
 use Rattle.ckc_views.specs.Ranges.{pointer_range}
 use Rattle.ckc_views.specs.Views.{limits_view, node_view, expr_view, view_of_limits, view_of_node, view}
 

@@ -17,10 +17,10 @@ use Rattle.ckc_points.specs.declared.frame.HeadBounds.{HeadBounds}
 use Rattle.ckc_points.specs.declared.frame.Frame.{Frame}
 use Rattle.ckc_declared.specs.declared.limits.Holder.{Holder}
 use Rattle.ckc_syntax.specs.declared.tree.Act.TheVariants as act
-use Rattle.ckc_declared.specs.Written.{bounds_declared, bounds_taken, bad_limits, place_of_limits}
+use Rattle.ckc_declared.specs.Written.{bounds_declared, bounds_taken, place_of_limits}
+use Rattle.ckc_points.specs.Codes.{bad_limits, bad_bundle, not_contained}
 use Rattle.ckc_statements.specs.DeclBounds.{decl_bounds, bounds_there, holder_of}
-use Rattle.ckc_statements.specs.Paths.{Here, value_judged, maybe_judged, init_judged, starts_within, declared_here, stated, gone, decl_judged, all_judged, parts_judged, is_good, bounds_judged, bundle_judged, sides_judged, behind_stores, is_returned, bad_bundle, branched, for_started, Path, ActPath, act_path, stmt_path, path}
-use Rattle.ckc_views.specs.Judged.{not_contained}
+use Rattle.ckc_statements.specs.Paths.{Here, value_judged, maybe_judged, init_judged, starts_within, declared_here, stated, gone, decl_judged, all_judged, parts_judged, is_good, bounds_judged, bundle_judged, sides_judged, behind_stores, is_returned, branched, for_started, Path, ActPath, act_path, stmt_path, path}
 use Rattle.ckc_statements.specs.Codes.{IsBoundsCode}
 
 abbrev pub HasCode : {A : Type 0} → Outcome A → Type 0

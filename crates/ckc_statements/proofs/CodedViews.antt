@@ -22,8 +22,9 @@ use Rattle.ckc_points.specs.Shown.{Known}
 use Rattle.ckc_points.specs.Flow.{State}
 use Rattle.ckc_ranges.specs.declared.replacements.BaseBy.{BaseBy}
 use Rattle.ckc_ranges.specs.declared.replacements.VariableBy.{VariableBy}
+use Rattle.ckc_points.specs.Codes.{unknown_bounds, not_contained, bad_limits, bounds_address}
 use Rattle.ckc_views.specs.Parts.{LimitsView, View, NodeView, NodeOfViews, capped, fresh_behind}
-use Rattle.ckc_views.specs.Judged.{counts_elements, counts_bytes, unknown_bounds, not_contained, bad_limits, bounds_address, limits_judged, all_judged, node_judged, fault_if, is_argument, arguments_fault, head_fault, call_fault, unary_fault, fault_of_node, operand_fault_of_node, by_fault}
+use Rattle.ckc_views.specs.Judged.{counts_elements, counts_bytes, limits_judged, all_judged, node_judged, fault_if, is_argument, arguments_fault, head_fault, call_fault, unary_fault, fault_of_node, operand_fault_of_node, by_fault}
 use Rattle.ckc_views.specs.Views.{limits_view, node_view, expr_view, view_of_limits, view_of_node, view}
 use Rattle.ckc_statements.specs.Paths.{Here, value_judged}
 use Rattle.ckc_statements.specs.Codes.{IsBoundsCode}

@@ -24,15 +24,11 @@ use Rattle.ckc_points.specs.Shown.{Known}
 use Rattle.ckc_points.specs.Flow.{State, less, assigned, joined, unreached}
 use Rattle.ckc_points.specs.Forms.{constant_form, in_type}
 use Rattle.ckc_views.specs.Parts.{fresh_behind}
-use Rattle.ckc_views.specs.Judged.{not_contained}
+use Rattle.ckc_points.specs.Codes.{not_contained, bad_bundle}
 use Rattle.ckc_views.specs.Views.{view}
 use Rattle.ckc_ranges.specs.Bundles.{is_bundle}
 use Rattle.ckc_stores.specs.Stores.{stores_of, stored, passed, initialised, returned}
 use Rattle.ckc_statements.specs.DeclBounds.{bounds_there}
-
--- E607: what is no bundle
-abbrev pub bad_bundle : ℕ
-bad_bundle = 607
 
 -- Where a walk through a function stands: the locals in scope, in order, the point, and the number of the next fresh
 -- variable. A first walk is only counting these: it leaves expressions as they are, and passes over what is wrong.

@@ -196,7 +196,8 @@ pub fn enter_for(
     ensures { let b = path s.now in let ks = b.assigned ++ there_assigned (option_map path step.now)
         in
         StepsOutcome (viewed start result) (here walk.new)
-        (for_started frame.now b.breaks b.continues e.now (loop_head frame.now ks (here walk.old))) }
+        (for_started frame.now b.breaks b.continues e.now
+        (loop_head frame.now ks (here walk.old))) }
 {
     let mut contents = contents_of(work.alloc, s)?;
     let (left, continued) = (contents.breaks, contents.continues);

@@ -12,8 +12,9 @@ use crate::acts::{
 use crate::loops::{Branch, Start, enter_for, enter_while, join_ends, judge_branch, to_step, turn};
 use crate::walk::Walk;
 use ckc_base::{Boxed, Fault, Pos, Seq, refused};
+use ckc_points::codes::BAD_BUNDLE;
 use ckc_points::{Frame, HeadBounds, Work};
-use ckc_ranges::{BAD_BUNDLE, is_bundle};
+use ckc_ranges::is_bundle;
 use ckc_syntax::{Act, ExactClone, Name, Stmt};
 use ckc_typed::Note;
 use std::alloc::{AllocError, Global};

@@ -30,19 +30,11 @@ use Rattle.ckc_ranges.specs.declared.replacements.VariableBy.{VariableBy}
 use Rattle.ckc_ranges.specs.Members.{may_be_assigned_alone, may_be_assigned_with}
 use Rattle.ckc_views.specs.declared.variables.Member.{Member}
 use Rattle.ckc_views.specs.Parts.{capped, fresh_behind}
-use Rattle.ckc_views.specs.Judged.{not_contained}
+use Rattle.ckc_points.specs.Codes.{not_contained, lost_bounds, assigned_alone}
 use Rattle.ckc_views.specs.Views.{view}
 use Rattle.ckc_stores.specs.declared.values.Numbered.{Numbered}
 use Rattle.ckc_stores.specs.Targets.{local_of, member_variable, memory_bounds}
 use Rattle.ckc_stores.specs.Values.{Value, new_value, same_value, holds}
-
--- E604: another pointer is not contained in its bounds, or what the bounds of the result name is assigned
-abbrev pub lost_bounds : ℕ
-lost_bounds = 604
-
--- E605: a member that takes part in bounds is assigned alone
-abbrev pub assigned_alone : ℕ
-assigned_alone = 605
 
 -- `target = right`, with the place of its `=`
 pub record Store : Type 0 where

@@ -10,17 +10,14 @@ ghost use Rattle.ckc_stores.specs.code.Stores.{placed};
 use crate::placed::Placed;
 use crate::replacing::{holds_by, holds_in_memory};
 use crate::targets::{local_of, member_of, memory_bounds};
-use crate::values::{NOT_CONTAINED, new_value, same_value};
+use crate::values::{new_value, same_value};
 use ckc_base::{Pos, Refusal};
 use ckc_extents::is_null;
+use ckc_points::codes::{ASSIGNED_ALONE, LOST_BOUNDS, NOT_CONTAINED};
 use ckc_points::{Bounds, Frame, Point, Work, in_bounds, local_at};
-use ckc_ranges::{ASSIGNED_ALONE, may_be_assigned_alone, may_be_assigned_with};
+use ckc_ranges::{may_be_assigned_alone, may_be_assigned_with};
 use ckc_views::Member;
 use std::alloc::{AllocError, Global};
-
-/// E604: a pointer that is not assigned is no longer contained in its bounds, or what the bounds of the function's result
-/// name is assigned.
-pub const LOST_BOUNDS: u16 = 604;
 
 fn assigns(k: u32, local: Option<u32>) -> bool
     ensures { result ≡ assigns k local }

@@ -9,6 +9,4 @@ mod stores;
 mod targets;
 mod values;
 
-pub use faults::LOST_BOUNDS;
 pub use stores::{initialised, pass, returned, stored};
-pub use values::NOT_CONTAINED;

@@ -19,9 +19,6 @@ use ckc_typed::{Note, Range};
 use ckc_types::{CType, Kind};
 use std::alloc::{AllocError, Global};
 
-/// E602: a target is not contained in its bounds.
-pub const NOT_CONTAINED: u16 = 602;
-
 /// The number of the first value in an expression that stands for itself, and the local that is its first fresh variable.
 #[derive(Clone, Copy)]
 pub struct Numbered {

@@ -29,6 +29,7 @@ use Rattle.ckc_points.specs.Flow.{State}
 use Rattle.ckc_ranges.specs.declared.replacements.BaseBy.{BaseBy}
 use Rattle.ckc_ranges.specs.declared.replacements.VariableBy.{VariableBy}
 use Rattle.ckc_ranges.specs.Replaced.{replaced_bounds}
+use Rattle.ckc_points.specs.Codes.{unknown_bounds, not_contained, bad_limits, bounds_address}
 use Rattle.ckc_views.specs.declared.variables.Member.{Member}
 use Rattle.ckc_base.specs.declared.places.Refusal.{Refusal}
 use Rattle.ckc_base.specs.Outcomes.{Outcome, bind, unless, refused}
@@ -40,20 +41,6 @@ use Rattle.ckc_views.specs.Conditions.{right_point}
 use Rattle.ckc_views.specs.Fresh.{member_of_node, with_types}
 use Rattle.ckc_views.specs.Arguments.{bases_by, variables_by}
 use Rattle.ckc_views.specs.Ranges.{pointer_range}
-
--- E601: an access or a tested cast with unknown bounds. E602: an argument whose bounds do not contain its parameter's.
--- E603: the amount of a cast has another form. E606: the address of what takes part in bounds or has declared bounds.
-abbrev pub unknown_bounds : ℕ
-unknown_bounds = 601
-
-abbrev pub not_contained : ℕ
-not_contained = 602
-
-abbrev pub bad_limits : ℕ
-bad_limits = 603
-
-abbrev pub bounds_address : ℕ
-bounds_address = 606
 
 abbrev pub is_multiple_of : ℕ → Option Constant → Bool
 is_multiple_of size None = false
