@@ -80,7 +80,8 @@ fn put_statement(
     ensures ok { OnOk result ((bytes : List ℕ) × (code.new.items ≡ code.old.items ++ bytes)
         × StandsFor (known labels.now) address (statement_in row.now) bytes) }
     ensures fault { IfErr result (λ e. IfRefused e
-        (λ code place. (code ≡ out_of_range) × (place ≡ (record { line = line; col = row.now.operand.col }))
+        (λ code place. (code ≡ out_of_range)
+        × (place ≡ (record { line = line; col = row.now.operand.col }))
         × LacksWord (known labels.now) address (statement_in row.now))) }
 {
     if width_of(&row.item.form) == 0 {

@@ -51,7 +51,8 @@ fn put_label<'a>(
         → known labels.new name ≡ (if bytes_eq label.entry.text.now name then Some address else
         known labels.old name)) }
     ensures fault { IfErr result (λ e. IfRefused e
-        (λ code place. (code ≡ second_label) × (place ≡ (record { line = line; col = label.entry.col }))
+        (λ code place. (code ≡ second_label)
+        × (place ≡ (record { line = line; col = label.entry.col }))
         × IsSome (known labels.old label.entry.text.now))) }
 {
     if labels.get(&label.text).is_some() {

@@ -188,7 +188,8 @@ impl<'a> Reader<'a> {
     pub fn skip(&mut self, kind: Kind) -> Result<(), Stop>
         requires { kind ≢ Kind.End }
         ensures tells { Answered
-            (λ x. (v : Value) × Takes (t (one kind) ∷ []) (ahead self.old) (v ∷ []) (ahead self.new))
+            (λ x. (v : Value)
+            × Takes (t (one kind) ∷ []) (ahead self.old) (v ∷ []) (ahead self.new))
             (t (one kind) ∷ []) (ahead self.old) result (ahead self.new) }
         ensures fewer { remaining self.new ≤ remaining self.old }
     {

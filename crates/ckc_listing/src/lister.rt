@@ -51,23 +51,23 @@ fn word(code: &[u8], at: usize) -> u32
     u32::from_le_bytes([code[at], code[at + 1], code[at + 2], code[at + 3]])
 }
 
-fn put_data<O: Sink>(data: &[u8], out: &mut O) -> Result<(), Failed>
-    requires { length data.now ≤ 16777216 }
-    ensures { PutsLines (data_lines data.now) result
+fn put_data<O: Sink>(bytes: &[u8], out: &mut O) -> Result<(), Failed>
+    requires { length bytes.now ≤ 16777216 }
+    ensures { PutsLines (data_lines bytes.now) result
         (O.seen out.old) (O.seen out.new) }
 {
-    for k in 0..(data.len() + 15) / 16 {
-        put_line(&data_line(sixteen(data, k)), out)?;
+    for k in 0..(bytes.len() + 15) / 16 {
+        put_line(&data_line(sixteen(bytes, k)), out)?;
     }
     Ok(())
 }
 
 /// The k-th sixteen bytes, or what is left of them.
-fn sixteen(data: &[u8], k: usize) -> &[u8]
-    requires { 16 * k ≤ length data.now }
-    ensures bytes { result.now ≡ take 16 (drop (16 * k) data.now) }
+fn sixteen(bytes: &[u8], k: usize) -> &[u8]
+    requires { 16 * k ≤ length bytes.now }
+    ensures bytes { result.now ≡ take 16 (drop (16 * k) bytes.now) }
     ensures length { length result.now ≤ 16 }
 {
-    let rest = &data[16 * k..];
+    let rest = &bytes[16 * k..];
     if rest.len() < 16 { rest } else { &rest[..16] }
 }

@@ -48,8 +48,8 @@ pub fn put_directive<'a>(
     all: &mut Items<'a>,
     token: Token<'a>,
 ) -> Result<(), Stop>
-    ensures { HoldsOrMemory (λ x. all.old ++ item.Directive (v.directive_of token.entry.kind) ∷ [] ≡ all.new)
-        result }
+    ensures { HoldsOrMemory
+        (λ x. all.old ++ item.Directive (v.directive_of token.entry.kind) ∷ [] ≡ all.new) result }
 {
     put_item(reader, all, Item::Directive(directive_of(token.kind)))
 }
@@ -149,7 +149,8 @@ pub fn put_function<'a>(
     head: Heading<'a>,
     body: Statement<'a>,
 ) -> Result<(), Stop>
-    ensures { HoldsOrMemory (λ x. all.old ++ item.Function head.entry body.entry ∷ [] ≡ all.new) result }
+    ensures { HoldsOrMemory
+        (λ x. all.old ++ item.Function head.entry body.entry ∷ [] ≡ all.new) result }
 {
     put_item(reader, all, Item::Function(head, body))
 }
@@ -184,7 +185,8 @@ pub fn put_local<'a>(
     all: &mut Statements<'a>,
     declaration: Declaration<'a>,
 ) -> Result<(), Stop>
-    ensures { HoldsOrMemory (λ x. all.old ++ trees.local_of declaration.entry ∷ [] ≡ all.new) result }
+    ensures { HoldsOrMemory
+        (λ x. all.old ++ trees.local_of declaration.entry ∷ [] ≡ all.new) result }
 {
     put_stmt(reader, all, local_of(declaration))
 }

@@ -5,6 +5,6 @@ use Rattle.ckc_listing.specs.code.Putting.{HasPut}
 use Rattle.ckc_listing.proofs.lister.put_data.Given as goal
 
 abbrev pub invariant-loop-k : goal.invariant-loop-k
-invariant-loop-k g l = HasPut (map (data_line l.data) (range_with_len 0 l.k))
+invariant-loop-k g l = HasPut (map (data_line l.bytes) (range_with_len 0 l.k))
     (g.O.Sink.seen l.initial.out)
     (g.O.Sink.seen l.out)
