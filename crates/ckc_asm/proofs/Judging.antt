@@ -23,9 +23,12 @@ use Rattle.ckc_base.specs.Phases.{Answers, viewed}
 use Rattle.ckc_base.specs.Places.{longest_text}
 use Rattle.ckc_asm.specs.Faults.{IsFirst, NoneHas, HasOldLabel, IsNoImage, no_code, bad_entry, LabelFault, IsFirstFault, in_form, in_whole}
 use Rattle.ckc_asm.specs.Phase.{assembling, parts_in}
+use Rattle.ckc_asm.specs.declared.statements.Row.{Row}
+use Rattle.ckc_asm.specs.code.Rows.{statements_in}
 use Rattle.ckc_asm.specs.code.Outcome.{IfRefused}
 use Rattle.ckc_asm.proofs.Grammatical.{lines_found, first_no_form, none_no_form}
 use Rattle.ckc_asm.specs.code.Reading.{IsUnread, IsFormFault, AreRead, IsWhole, IsNoProgram, readings_in}
+use Rattle.ckc_asm.proofs.LabelsBelow.{rows_size}
 use Rattle.ckc_lines.proofs.Cases.{bool_cases, order}
 
 pub refused_weaker : (e : Fault) (P Q : ℕ → Pos → Type 0) → ((code : ℕ) (place : Pos) → P code place → Q code place) → IfRefused e P → IfRefused e Q
@@ -174,3 +177,16 @@ pub answers_of : (text : List ℕ) (r : Result Parts Fault) → IfOk r (λ p. (l
 answers_of text (Ok p) sound refused = sound
 answers_of text (Err fault.Memory) sound refused = tt
 answers_of text (Err (fault.Refused r)) sound refused = refused
+
+-- as few statements as lines
+pub rows_few : (text : List ℕ) (lines : List (Bor (List ℕ))) (rows given : List Row) → map (λ l. l.now) lines ≡ lines_of text → length text ≤ longest_text
+    → AreRead (readings_in lines) (statements_in rows) → given ≡ rows → length given ≤ longest_text + 1
+rows_few text lines rows given e short read is =
+    let few = lines_few text lines e in
+    let count = read_few lines (statements_in rows) read in
+    omega (arith, few, count, rows_size rows, ap length is, short)
+
+-- what holds in any case holds where there is a result
+pub ok_of : {T E : Type 0} (r : Result T E) (P : Type 0) → P → IfOk r (λ x. P)
+ok_of (Ok x) P h = h
+ok_of (Err e) P h = tt

@@ -2,6 +2,7 @@
 -- each at the first line where it holds. Lines and statements are counted from 0 here.
 use Rattle.std.specs.Prelude.{◌≡◌, ◌⊎◌, ℕ, ◌+◌, ◌<◌, ◌≤◌, ℤ, pos, List, length, slice_get, Some, sum_by}
 use Rattle.std.specs.List.{flat_map}
+use Rattle.ckc_base.specs.MemoryMap.{longest_code, longest_data}
 use Rattle.ckc_base.specs.declared.places.Pos.{Pos}
 use Rattle.ckc_base.specs.Places.{start, longest_text}
 use Rattle.ckc_image.specs.Image.{EntryFits}
@@ -87,8 +88,8 @@ no_image = 805
 -- no instruction; too much code; too many initial bytes; an entry that is no instruction's place
 pub data IsNoImage (statements : List Statement) : Type 0 where
   no_code : sum_by size_of statements ≡ 0 → IsNoImage statements
-  long_code : 16773120 < sum_by size_of statements → IsNoImage statements
-  long_data : 16777216 < length (flat_map (λ s. data_bytes s.item.form) statements) → IsNoImage statements
+  long_code : longest_code < sum_by size_of statements → IsNoImage statements
+  long_data : longest_data < length (flat_map (λ s. data_bytes s.item.form) statements) → IsNoImage statements
   bad_entry : (z : ℤ) → Enters statements z → ((entry : ℕ) → z ≡ pos entry → EntryFits entry (sum_by size_of statements) → ⊥) → IsNoImage statements
 
 -- ---- the order

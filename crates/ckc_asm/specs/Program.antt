@@ -1,6 +1,7 @@
 -- What a text of assembly stands for: entry, code and initial bytes.
 use Rattle.std.specs.Prelude.{◌≡◌, ℕ, ◌+◌, ◌^◌, ◌<◌, ℤ, pos, List, [], length, take, drop, slice_get, Some, sum_by}
 use Rattle.std.specs.List.{flat_map}
+use Rattle.ckc_base.specs.MemoryMap.{code_start}
 use Rattle.ckc_rv.specs.declared.instructions.Instr.TheVariants as instr
 use Rattle.ckc_rv.specs.Table.{Decodes}
 use Rattle.ckc_image.specs.Image.{word_bytes, IsProper}
@@ -30,7 +31,7 @@ abbrev pub offset_of : List Statement → ℕ → ℕ
 offset_of statements k = sum_by size_of (take k statements)
 
 abbrev pub address_of : List Statement → ℕ → ℕ
-address_of statements k = 0x1000 + offset_of statements k
+address_of statements k = code_start + offset_of statements k
 
 -- a statement has the label
 abbrev pub HasLabel : Statement → List ℕ → Type 0
@@ -90,7 +91,7 @@ IsEntryOf statements name (Number n) z = z ≡ n
 IsEntryOf statements name Named z = (target : ℕ) × IsLabelAt statements name target × (z ≡ pos target)
 
 pub data Enters (statements : List Statement) (z : ℤ) : Type 0 where
-  first : ((k : ℕ) (s : Statement) → slice_get statements k ≡ Some s → IsEntry s.item.form → ⊥) → z ≡ pos 0x1000 → Enters statements z
+  first : ((k : ℕ) (s : Statement) → slice_get statements k ≡ Some s → IsEntry s.item.form → ⊥) → z ≡ pos code_start → Enters statements z
   there : (k : ℕ) (s : Statement) → slice_get statements k ≡ Some s → IsEntry s.item.form → IsEntryOf statements s.operand.text s.item.operand z → Enters statements z
 
 -- ---- the whole text

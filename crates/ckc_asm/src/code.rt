@@ -12,8 +12,8 @@ use crate::items::Operand;
 use crate::labels::{Labels, width_of};
 use crate::refusals::{OUT_OF_RANGE, UNKNOWN_LABEL};
 use crate::statements::Row;
+use ckc_base::memory_map::CODE_START;
 use ckc_base::{Fault, Pos, refused};
-use ckc_lines::CODE;
 use std::alloc::Global;
 
 /// That each label that an item names stands somewhere.
@@ -60,7 +60,7 @@ pub fn code_of(alloc: Global, rows: &[Row], labels: &Labels) -> Result<Vec<u8>, 
         (statements_in rows.now) place × (code ≡ out_of_range))) }
 {
     let mut code = Vec::new(alloc);
-    let mut address = CODE;
+    let mut address = CODE_START;
     for (k, row) in rows.iter().enumerate() {
         put_statement(&mut code, row, labels, address, k as u32 + 1)?;
         address += width_of(&row.item.form);

@@ -1,6 +1,7 @@
 //! The image of statements: entry and initial bytes beside the code.
 ghost use Rattle.std.specs.Prelude.{◌≡◌, ℕ, ◌*◌, ◌%◌, ◌<◌, ◌≤◌, pos, List, length, IfOk, IfErr, IsSome, MatchOption};
 ghost use Rattle.std.specs.List.{flat_map};
+ghost use Rattle.ckc_base.specs.MemoryMap.{longest_code, longest_data};
 ghost use Rattle.ckc_image.specs.Image.{IsProper, EntryFits};
 ghost use Rattle.ckc_asm.specs.declared.items.Operand.TheVariants as operands;
 ghost use Rattle.ckc_asm.specs.Program.{data_bytes, Enters};
@@ -15,9 +16,9 @@ use crate::items::{Form, Operand};
 use crate::labels::Labels;
 use crate::refusals::NO_IMAGE;
 use crate::statements::{Row, is_entry};
+use ckc_base::memory_map::CODE_START;
 use ckc_base::{Fault, START, Seq, refused};
 use ckc_image::Parts;
-use ckc_lines::CODE;
 use std::alloc::{AllocError, Global};
 
 /// The initial bytes of statements.
@@ -47,7 +48,7 @@ pub fn entry_of(rows: &[Row], labels: &Labels) -> i64
             return entry_value(row, labels);
         }
     }
-    i64::from(CODE)
+    i64::from(CODE_START)
 }
 
 fn entry_value(row: &Row, labels: &Labels) -> i64
@@ -66,8 +67,8 @@ fn entry_value(row: &Row, labels: &Labels) -> i64
 /// The parts with this entry, or E805.
 pub fn parts_of(entry: i64, code: Vec<u8>, initial: Vec<u8>) -> Result<Parts, Fault>
     requires words { length code.items % 4 ≡ 0 }
-    requires code_fits { length code.items ≤ 16773120 }
-    requires initial_fits { length initial.items ≤ 16777216 }
+    requires code_fits { length code.items ≤ longest_code }
+    requires initial_fits { length initial.items ≤ longest_data }
     ensures parts { IfOk result (λ p. (entry ≡ pos p.entry) × (p.code ≡ code.items)
         × (p.initial ≡ initial.items)) }
     ensures proper { IfOk result (λ p. IsProper p.entry p.code p.initial) }
@@ -85,12 +86,15 @@ pub fn parts_of(entry: i64, code: Vec<u8>, initial: Vec<u8>) -> Result<Parts, Fa
     }
 }
 
+/// Where the code begins.
+const FIRST: i64 = CODE_START as i64;
+
 fn entry_place(entry: i64, len: usize) -> Option<u32>
-    requires { len ≤ 16773120 }
+    requires { len ≤ longest_code }
     ensures { MatchOption result (IsNoProgram entry len)
         (λ place. (entry ≡ pos place) × (0 < len) × EntryFits place len) }
 {
-    if len == 0 || entry < 0x1000 || entry >= 0x1000 + len as i64 {
+    if len == 0 || entry < FIRST || entry >= FIRST + len as i64 {
         return None;
     }
     let place = entry as u32;

@@ -12,8 +12,8 @@ use crate::items::{Form, Operand};
 use crate::refusals::SECOND_LABEL;
 use crate::spots::Spot;
 use crate::statements::Row;
+use ckc_base::memory_map::CODE_START;
 use ckc_base::{Fault, Pos, refused};
-use ckc_lines::CODE;
 use indexmap::IndexMap;
 use std::alloc::Global;
 
@@ -30,7 +30,7 @@ pub fn labels_of<'a>(alloc: Global, rows: &[Row<'a>]) -> Result<Labels<'a>, Faul
         (statements_in rows.now) place × (code ≡ second_label))) }
 {
     let mut labels = IndexMap::new(alloc);
-    let mut address = CODE;
+    let mut address = CODE_START;
     for (k, row) in rows.iter().enumerate() {
         if let Some(label) = row.label {
             put_label(&mut labels, label, address, k as u32 + 1)?;

@@ -6,3 +6,4 @@ pub mod Simulating
 pub mod Listed
 pub mod Phases
 pub mod WordValues
+pub mod Outcomes

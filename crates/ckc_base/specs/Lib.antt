@@ -17,3 +17,5 @@ pub mod formers
 pub mod Phases
 pub mod Outcomes
 pub mod Places
+pub mod MemoryMap
+pub mod Lists

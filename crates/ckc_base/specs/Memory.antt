@@ -1,4 +1,5 @@
 -- The data region of a compiled program: statics and heap, from 0x02000000 to below 0x03000000 (docs/language.md).
+pub use Rattle.ckc_base.specs.MemoryMap.{data_start, data_end}
 use Rattle.std.specs.Prelude.{ℕ, zero, suc, ◌+◌, ◌-◌, ◌*◌, ◌/◌, ◌%◌, ◌^◌, ◌==◌, nat_lt, nat_le, not, ◌&&◌, Bool, if◌then◌else◌, List, slice_index, Option, Some, None, option_and_then}
 use Rattle.std.specs.Option.{option_map}
 use Rattle.ckc_base.specs.declared.arithmetic.Width.{Width}
@@ -7,12 +8,6 @@ use Rattle.ckc_base.specs.declared.arithmetic.Width.TheVariants.{Byte, Word}
 -- the byte at each address that is there
 abbrev pub Memory : Type 0
 Memory = ℕ → Option ℕ
-
-abbrev pub data_start : ℕ
-data_start = 0x02000000
-
-abbrev pub data_end : ℕ
-data_end = 0x03000000
 
 abbrev pub is_data : ℕ → Bool
 is_data a = not (nat_lt a data_start) && nat_lt a data_end

@@ -9,6 +9,7 @@ mod arithmetic;
 mod boxed;
 mod fault;
 pub mod laws;
+pub mod memory_map;
 mod places;
 mod runtime_checks;
 mod seq;

@@ -1,21 +1,21 @@
 //! All blocks of a run.
 
 ghost use Rattle.std.specs.Prelude.{◌≡◌, true, false, ℕ, ◌+◌, ◌-◌, ◌*◌, ◌/◌, ◌%◌, ◌<◌, ◌≤◌, ◌^◌, [], ◌∷◌, ◌++◌, map, length, slice_get, replicate, Some, None, Err, if◌then◌else◌, IfOk, OnOk, OnErr, MatchOption, MatchBool, ⊤, vec_len};
-ghost use Rattle.ckc_base.specs.Memory.{width_bytes};
+ghost use Rattle.ckc_base.specs.Memory.{data_end, width_bytes};
 ghost use Rattle.ckc_source.specs.Blocks.{is_aligned, block_of};
 ghost use Rattle.ckc_blocks.specs.Held.{view, are_apart};
 ghost use Rattle.ckc_blocks.specs.code.Held.{BeginsBehind, IsLast};
 
 use crate::block::{Block, Span};
-use ckc_base::{Seq, Width};
+use ckc_base::{Seq, Width, memory_map};
 use ckc_source::{Halt, Object, Pointee, Range, Shape, Value};
 use std::alloc::{AllocError, Global};
 
 /// The end of the data region.
-const DATA_END: u64 = 0x0300_0000;
+const DATA_END: u64 = memory_map::DATA_END as u64;
 
 /// The place of the first block.
-const FIRST_PLACE: u64 = 0x0200_0008;
+const FIRST_PLACE: u64 = memory_map::FIRST_PLACE as u64;
 
 /// The greatest address.
 const LAST_WORD: u128 = 0xFFFF_FFFF;
@@ -28,7 +28,7 @@ pub struct Blocks<'a> {
     blocks: Vec<Block<'a>>,
     next: u32,
     ghost apart: { are_apart 0 (map view blocks.items) next ≡ true },
-    ghost below: { next ≤ 0x03000008 },
+    ghost below: { next ≤ data_end + 8 },
 }
 
 /// The index of the last block that begins at an address or before it.
@@ -254,7 +254,7 @@ impl<'a> Blocks<'a> {
     fn push(&mut self, block: Block<'a>, next: u32) -> Result<(), AllocError>
         requires base { block.base ≡ next_of self.old }
         requires end { end_of (view block) + 1 ≤ next }
-        requires below { next ≤ 0x03000008 }
+        requires below { next ≤ data_end + 8 }
         ensures blocks { OnOk result (blocks_of self.new ≡ blocks_of self.old ++ view block.entry ∷
             []) }
         ensures next { OnOk result (next_of self.new ≡ next) }
@@ -273,7 +273,7 @@ impl<'a> Blocks<'a> {
     ) -> Result<Blocks<'a>, AllocError>
         requires apart { AreApart first_place (map block_of objects.now) (place_behind first_place
             (map block_of objects.now)) }
-        requires below { place_behind first_place (map block_of objects.now) ≤ 0x03000000 }
+        requires below { place_behind first_place (map block_of objects.now) ≤ data_end }
         ensures blocks { IfOk result (λ b. blocks_of b ≡ map block_of objects.now) }
         ensures next { IfOk result (λ b. next_of b ≡ place_behind first_place
             (map block_of objects.now)) }

@@ -18,6 +18,7 @@ ghost use Rattle.ckc_checks.specs.code.Building.{behind};
 use crate::code::{front, in_order, nothing};
 use crate::rooms::room;
 use crate::statements::statements;
+use ckc_base::memory_map::{DATA_START, FIRST_PLACE};
 use ckc_base::{Bytes, Seq};
 use ckc_core::{Core, CoreExpr, CoreFunc, CoreStmt};
 use ckc_operands::sum;
@@ -85,7 +86,7 @@ fn end_of(o: &Object) -> Result<u32, AllocError>
 fn heap_place(objects: &[Object]) -> Result<u32, AllocError>
     ensures { IfOk result (λ n. n ≡ place_behind first_place (map block_of objects.now)) }
 {
-    let mut place = 0x0200_0008u32;
+    let mut place = FIRST_PLACE;
     for o in objects {
         let end = end_of(o)?;
         place = sum(end, 15)? / 8 * 8;
@@ -124,11 +125,14 @@ fn copy(from: &[u8], bytes: &mut Bytes) -> Result<(), AllocError>
     Ok(())
 }
 
+/// The address behind the heap's word.
+const BEHIND_HEAP_WORD: u32 = DATA_START + 4;
+
 /// Adds the first bytes of objects behind those up to their places.
 fn add_objects(objects: &[Object], bytes: &mut Bytes) -> Result<(), AllocError>
     ensures { OnOk result (bytes.new ≡ bytes.old ++ image (data_start + 4) objects.now) }
 {
-    let mut a = 0x0200_0004u32;
+    let mut a = BEHIND_HEAP_WORD;
     for o in objects {
         zeros(o.at.saturating_sub(a), bytes)?;
         copy(o.initial.as_slice(), bytes)?;

@@ -1,5 +1,6 @@
 //! The layers, one after another.
 ghost use Rattle.std.specs.Prelude.{◌≡◌, ℕ, ◌+◌, ◌*◌, ◌≤◌, List, length, IfOk};
+ghost use Rattle.ckc_base.specs.MemoryMap.{longest_data};
 ghost use Rattle.ckc_base.specs.Follows.{Follows};
 ghost use Rattle.ckc_source.specs.Code.{program_of};
 ghost use Rattle.ckc_source.specs.LaidOut.{AreBytes, IsLaidOut};
@@ -61,7 +62,7 @@ fn placed(alloc: Global, p: &Program) -> Result<Placed, AllocError>
 fn assembled(alloc: Global, q: &Placed) -> Result<Parts, AllocError>
     requires whole { IsWellFormed q.now }
     requires fits { code_size q.now ≤ 4193280 }
-    requires initial { length q.now.initial ≤ 16777216 }
+    requires initial { length q.now.initial ≤ longest_data }
     ensures follows { IfOk result (λ parts. FollowsPlaced q.now (machine_parts parts)) }
     ensures size { IfOk result (λ parts. length parts.code ≤ 4 * code_size q.now) }
 {

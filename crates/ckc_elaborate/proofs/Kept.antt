@@ -5,6 +5,7 @@ use Rattle.ckc_base.specs.declared.places.Refusal.{Refusal}
 use Rattle.ckc_base.specs.declared.arithmetic.Mode.{Mode}
 use Rattle.ckc_base.specs.declared.arithmetic.Mode.TheVariants.{Unchecked}
 use Rattle.ckc_base.specs.Outcomes.{Outcome, bind}
+use Rattle.ckc_base.proofs.Outcomes.{ok_same, made_of}
 use Rattle.ckc_syntax.specs.declared.tree.Name.{Name}
 use Rattle.ckc_syntax.specs.declared.tree.NamedText.{NamedText}
 use Rattle.ckc_syntax.specs.declared.tree.Item.TheVariants as item
@@ -19,16 +20,6 @@ use Rattle.ckc_typed.specs.Statements.{stmt_typed}
 use Rattle.ckc_typed.specs.Layouts.{structs_of}
 use Rattle.ckc_typed.specs.Texts.{head_mode, result_allowed, head_with, head_typed, item_typed, items_typed, pragma_after, globals_of, laid_out, named_typed}
 use Rattle.ckc_elaborate.specs.Bodies.{defines, IsDefined}
-
-ok_same : {A : Type 0} (a b : A) → ◌≡◌ {A = Outcome A} (Ok a) (Ok b) → a ≡ b
-ok_same a b e = cc
-
-err_is_ok : {A : Type 0} (r : Refusal) (a : A) → ◌≡◌ {A = Outcome A} (Err r) (Ok a) → ⊥
-err_is_ok r a e = cc
-
-made_of : {A B : Type 0} (o : Outcome A) (k : A → Outcome B) (b : B) → bind o k ≡ Ok b → (a : A) × (o ≡ Ok a) × (k a ≡ Ok b)
-made_of (Ok a) k b e = (a, refl, e)
-made_of (Err r) k b e = absurd (err_is_ok r b e)
 
 front : {X Y : Type 0} (x y : Bool) → y ≡ x → (X → Y) → (x ≡ true) ⊎ X → (y ≡ true) ⊎ Y
 front x y e f (inl h) = inl (e ∙ h)

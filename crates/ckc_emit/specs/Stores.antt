@@ -1,5 +1,6 @@
 -- What of a machine's stores is seen in placed code, and where the others may lie.
 use Rattle.std.specs.Prelude.{ℕ, ◌+◌, ◌-◌, ◌*◌, ◌==◌, nat_le, nat_lt, ◌&&◌, ◌||◌, Bool, true, if◌then◌else◌, List, [], ◌∷◌}
+use Rattle.ckc_base.specs.MemoryMap.{memory_end}
 use Rattle.ckc_base.specs.declared.arithmetic.Width.TheVariants.{Byte, Word}
 use Rattle.ckc_base.specs.LongEvents.{LongEvent, Plain, Stored}
 use Rattle.ckc_base.specs.Memory.{is_data}
@@ -20,7 +21,7 @@ seen_events (Wrote at count value) = data_store at count value
 
 -- where the frame of the call with a number begins: the first is the highest
 abbrev pub frame_start : ℕ → ℕ
-frame_start d = 0x04000000 - 16384 * d
+frame_start d = memory_end - 16384 * d
 
 -- the bytes lie in the frame of the call with a number
 abbrev pub is_in_frame : (d at count : ℕ) → Bool

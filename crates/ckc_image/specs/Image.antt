@@ -1,4 +1,5 @@
 -- The image format, version 1. Its source is the project's own; numbers are words with the lowest byte first.
+use Rattle.ckc_base.specs.MemoryMap.{code_start, longest_code, longest_data}
 use Rattle.std.specs.Prelude.{◌≡◌, ℕ, ◌+◌, ◌%◌, ◌<◌, ◌≤◌, List, ◌++◌, length, take, drop, codes, ◌⊎◌}
 use Rattle.std.specs.Int.{w32, to_le_bytes, from_le_bytes}
 
@@ -13,11 +14,11 @@ word_bytes n = to_le_bytes w32 n
 -- Code is made of words. It and the initial bytes fit their regions of 16 MiB, of which the first 0x1000 bytes of
 -- the code's region are left out.
 abbrev pub LengthsFit : ℕ → ℕ → Type 0
-LengthsFit code initial = (code % 4 ≡ 0) × (4 ≤ code) × (code ≤ 16773120) × (initial ≤ 16777216)
+LengthsFit code initial = (code % 4 ≡ 0) × (4 ≤ code) × (code ≤ longest_code) × (initial ≤ longest_data)
 
 -- the entry is the address of a word of the code, which stands from 0x00001000
 abbrev pub EntryFits : ℕ → ℕ → Type 0
-EntryFits entry code = (entry % 4 ≡ 0) × (0x1000 ≤ entry) × (entry < 0x1000 + code)
+EntryFits entry code = (entry % 4 ≡ 0) × (code_start ≤ entry) × (entry < code_start + code)
 
 -- entry, code and initial bytes that an image may have
 abbrev pub IsProper : ℕ → List ℕ → List ℕ → Type 0

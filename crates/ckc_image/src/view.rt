@@ -1,6 +1,8 @@
 ghost use Rattle.std.specs.Prelude.{◌≡◌, ◌↔◌, ℕ, List, ◌+◌, ◌^◌, ◌<◌, ◌≤◌, length, IsTrue, IsOkAnd, IsErrAnd, MatchResult};
+ghost use Rattle.ckc_base.specs.MemoryMap.{longest_code};
 ghost use Rattle.ckc_image.specs.Image.{EntryFits, FirstBad, ImageOf, IsProper, LengthsFit, four_at, word_at};
 
+use ckc_base::memory_map::{CODE_START, LONGEST_CODE, LONGEST_DATA};
 use ckc_counts::is_image_length;
 use thiserror::Error;
 
@@ -79,12 +81,12 @@ fn word(bytes: &[u8], at: usize) -> u32
 fn lengths_fit(code: usize, initial: usize) -> bool
     ensures { IsTrue result ↔ LengthsFit code initial }
 {
-    code % 4 == 0 && 4 <= code && code <= 16_773_120 && initial <= 16_777_216
+    code % 4 == 0 && 4 <= code && code <= LONGEST_CODE && initial <= LONGEST_DATA
 }
 
 fn entry_fits(entry: u32, code: usize) -> bool
-    requires { code ≤ 16773120 }
+    requires { code ≤ longest_code }
     ensures { IsTrue result ↔ EntryFits entry code }
 {
-    entry % 4 == 0 && 0x1000 <= entry && (entry as usize) < 0x1000 + code
+    entry % 4 == 0 && CODE_START <= entry && (entry as usize) < CODE_START as usize + code
 }

@@ -2,12 +2,13 @@
 ghost use Rattle.std.specs.Prelude.{◌↔◌, All, IsTrue};
 ghost use Rattle.ckc_operands.specs.Compilable.{BeginsLow};
 
+use ckc_base::memory_map::STATICS_END;
 use ckc_source::Object;
 
 fn begins_low(o: &Object) -> bool
     ensures { IsTrue result ↔ BeginsLow o.now }
 {
-    o.at <= 0x0240_0000 && o.initial.len() <= (0x0240_0000 - o.at) as usize
+    o.at <= STATICS_END && o.initial.len() <= (STATICS_END - o.at) as usize
 }
 
 /// Whether the first bytes of each object end within the first 4 MiB of the data region.

@@ -41,7 +41,7 @@ pub fn lex<'a>(alloc: Global, text: &'a [u8]) -> Result<Seq<Token<'a>>, Fault>
 }
 
 fn tokens_of<'a>(alloc: Global, text: &'a [u8]) -> Result<Seq<Token<'a>>, Fault>
-    requires { length text.now ≤ 262144 }
+    requires { length text.now ≤ longest_text }
     ensures { IsReading text.now result }
 {
     let mut tokens = Seq::new(alloc);

@@ -1,4 +1,5 @@
 -- What there is to count in a tree.
+pub use Rattle.ckc_base.specs.Lists.{concatenation as joined, or_empty as held}
 use Rattle.std.specs.Prelude.{List, [], ◌∷◌, ◌++◌, Option, None, Some, flat_map, Bool, true, false}
 use Rattle.ckc_syntax.specs.declared.tree.Tree.{Tree}
 use Rattle.ckc_syntax.specs.declared.tree.Item.{Item}
@@ -21,14 +22,6 @@ pub data Mark : Type 0 where
   text : Mark
   function : Mark
   static : Mark
-
-abbrev pub joined : List (List Mark) → List Mark
-joined [] = []
-joined (ms ∷ rest) = ms ++ joined rest
-
-abbrev pub held : Option (List Mark) → List Mark
-held None = []
-held (Some ms) = ms
 
 -- The marks of a tree are those of its parts, in the order of the text, and its own first. Each step below is
 -- one level, with the marks of each part in its place.

@@ -2,6 +2,7 @@
 -- words of its instruction with the distance to its label (RISC-V unprivileged ISA manual, RV32I). `Far` is this
 -- project's own: an AUIPC and a JALR through x26.
 use Rattle.std.specs.Prelude.{◌≡◌, ℕ, ◌+◌, ◌*◌, ◌%◌, ◌^◌, ◌<◌, ◌≤◌, ◌==◌, ℤ, pos, ◌-ℤ◌, Bool, false, List, [], length, take, drop, slice_get, Some, sum_by, count_by}
+use Rattle.ckc_base.specs.MemoryMap.{code_start, longest_code, longest_data}
 use Rattle.ckc_rv.specs.declared.instructions.Instr.{Instr}
 use Rattle.ckc_rv.specs.declared.instructions.Instr.TheVariants as instr
 use Rattle.ckc_rv.specs.Table.{InRange, IsOffset, Decodes}
@@ -24,7 +25,7 @@ offset_of lines k = sum_by size_of (take k lines)
 
 -- its address: the code stands from 0x00001000
 abbrev pub address_of : List Line → ℕ → ℕ
-address_of lines k = 0x1000 + offset_of lines k
+address_of lines k = code_start + offset_of lines k
 
 -- the label stands at the address
 abbrev pub StandsAt : List Line → ℕ → ℕ → Type 0
@@ -102,6 +103,6 @@ CanStand lines address (Far rd label) = (rd < 32) × StandsOnce lines label
 pub record CanAssemble (lines : List Line) (start : ℕ) (initial : List ℕ) : Type 0 where
   pub each : (k : ℕ) (line : Line) → slice_get lines k ≡ Some line → CanStand lines (address_of lines k) line
   pub once : StandsOnce lines start
-  pub followed : (entry : ℕ) → StandsAt lines start entry → entry < 0x1000 + sum_by size_of lines
-  pub code_fits : sum_by size_of lines ≤ 16773120
-  pub initial_fits : length initial ≤ 16777216
+  pub followed : (entry : ℕ) → StandsAt lines start entry → entry < code_start + sum_by size_of lines
+  pub code_fits : sum_by size_of lines ≤ longest_code
+  pub initial_fits : length initial ≤ longest_data

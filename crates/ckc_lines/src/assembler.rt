@@ -1,4 +1,5 @@
 ghost use Rattle.std.specs.Prelude.{◌≡◌, ℕ, List, ◌++◌, ◌+◌, ◌^◌, ◌<◌, ◌≤◌, length, nat_eq, slice_get, Some, IfOk, OnOk, sum_by};
+ghost use Rattle.ckc_base.specs.MemoryMap.{longest_code};
 ghost use Rattle.indexmap.specs.IndexMap.{get};
 ghost use Rattle.ckc_rv.specs.Table.{InRange, IsOffset};
 ghost use Rattle.ckc_lines.specs.declared.lines.Line.{Line};
@@ -6,8 +7,9 @@ ghost use Rattle.ckc_lines.specs.Assembled.{size_of, address_of, distance, IsWor
 ghost use Rattle.ckc_lines.specs.code.Places.{KnowsPlaces, CanEncode, Encodes, IsCodeBelow};
 
 use crate::lines::{Labelled, Line};
-use crate::places::{CODE, places_of, size, target_of};
+use crate::places::{places_of, size, target_of};
 use ckc_base::Seq;
+use ckc_base::memory_map::CODE_START;
 use ckc_image::Parts;
 use ckc_rv::{Instr, encode};
 use indexmap::IndexMap;
@@ -39,7 +41,7 @@ fn code_of(
     lines: &[Line],
     places: &IndexMap<u32, u32>,
 ) -> Result<Vec<u8>, AllocError>
-    requires fits { sum_by size_of lines.now ≤ 16773120 }
+    requires fits { sum_by size_of lines.now ≤ longest_code }
     requires each { (k : ℕ) (line : Line) → slice_get lines.now k ≡ Some line
         → CanEncode (λ label. get nat_eq places.now label) (address_of lines.now k) line }
     ensures { IfOk result
@@ -47,7 +49,7 @@ fn code_of(
         code.items) }
 {
     let mut code = Vec::new(alloc);
-    let mut address = CODE;
+    let mut address = CODE_START;
     for line in lines {
         put_line(&mut code, *line, address, places)?;
         address += size(*line);

@@ -9,4 +9,3 @@ mod places;
 pub use assembler::assemble;
 pub use laws::one_assembly;
 pub use lines::{Labelled, Line};
-pub use places::CODE;

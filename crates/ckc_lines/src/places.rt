@@ -1,23 +1,22 @@
 ghost use Rattle.std.specs.Prelude.{◌≡◌, ◌≤◌, length, nat_eq, Some, IsSome, IfOk, sum_by};
+ghost use Rattle.ckc_base.specs.MemoryMap.{longest_code};
 ghost use Rattle.indexmap.specs.IndexMap.{get};
 ghost use Rattle.ckc_lines.specs.Assembled.{size_of};
 ghost use Rattle.ckc_lines.specs.code.Places.{KnowsPlaces};
 
 use crate::lines::Line;
+use ckc_base::memory_map::CODE_START;
 use indexmap::IndexMap;
 use std::alloc::{AllocError, Global};
 
-/// Where the code starts.
-pub const CODE: u32 = 0x1000;
-
 /// The address of each label.
 pub fn places_of(alloc: Global, lines: &[Line]) -> Result<IndexMap<u32, u32>, AllocError>
-    requires { sum_by size_of lines.now ≤ 16773120 }
+    requires { sum_by size_of lines.now ≤ longest_code }
     ensures { IfOk result
         (λ m. KnowsPlaces (λ label. get nat_eq m label) lines.now (length lines.now)) }
 {
     let mut places = IndexMap::new(alloc);
-    let mut address = CODE;
+    let mut address = CODE_START;
     for line in lines {
         if let Line::Label(label) = *line {
             places.insert(label, address)?;

@@ -1,4 +1,5 @@
 ghost use Rattle.std.specs.Prelude.{◌≡◌, ℕ, List, ◌∷◌, [], ◌+◌, ◌*◌, ◌/◌, ◌≤◌, Some, OnErr, length, take, drop};
+ghost use Rattle.ckc_base.specs.MemoryMap.{longest_data};
 ghost use Rattle.ckc_outside.specs.Outside.{Rose, Puts};
 ghost use Rattle.ckc_image.specs.Image.{IsProper, word_at};
 ghost use Rattle.ckc_listing.specs.Listing.{entry_text, word_lines, data_lines, listing_lines, listing, ended};
@@ -52,7 +53,7 @@ fn word(code: &[u8], at: usize) -> u32
 }
 
 fn put_data<O: Sink>(bytes: &[u8], out: &mut O) -> Result<(), Failed>
-    requires { length bytes.now ≤ 16777216 }
+    requires { length bytes.now ≤ longest_data }
     ensures { PutsLines (data_lines bytes.now) result
         (O.seen out.old) (O.seen out.new) }
 {

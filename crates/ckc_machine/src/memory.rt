@@ -1,4 +1,5 @@
 ghost use Rattle.std.specs.Prelude.{◌≡◌, IfOk, ℕ, ◌+◌, ◌-◌, ◌*◌, ◌/◌, ◌%◌, ◌^◌, ◌<◌, ◌≤◌, length, slice_index, vec_len};
+ghost use Rattle.ckc_base.specs.MemoryMap.{longest_code, longest_data};
 ghost use Rattle.ckc_machine.specs.Bytes.{byte_of, byte_in};
 ghost use Rattle.ckc_machine.specs.code.Bytes.{part_of, IsMerged};
 ghost use Rattle.ckc_rv.specs.Machine.{is_writable as is_writable_address};
@@ -6,17 +7,9 @@ ghost use Rattle.ckc_rv.specs.Effects.{load_bytes, load_value, store_bytes};
 
 use crate::region::Region;
 use byteorder::{ByteOrder, LittleEndian};
+use ckc_base::memory_map::{CODE_START, DATA_START, MEMORY_END, STACK_START};
 use ckc_rv::{LoadOp, StoreOp};
 use std::alloc::{AllocError, Global};
-
-/// Where the code, the data region and the stack begin, and where memory ends. A region has 2^22 words.
-const CODE_START: u32 = 0x0000_1000;
-
-const DATA_START: u32 = 0x0200_0000;
-
-const STACK_START: u32 = 0x0300_0000;
-
-const MEMORY_END: u32 = 0x0400_0000;
 
 /// The memory of a machine: the lent code, the words of the data region upwards, and those of the stack downwards from
 /// the end of memory.
@@ -26,7 +19,7 @@ pub struct Memory<'a> {
     statics: Region,
     stack: Region,
     ghost code_is_words: { length code.now % 4 ≡ 0 },
-    ghost code_fits: { length code.now ≤ 16773120 },
+    ghost code_fits: { length code.now ≤ longest_code },
 }
 
 /// Whether a store may go to an address: it lies in the data region or the stack.
@@ -40,7 +33,7 @@ pub fn is_writable(a: u32) -> bool
 /// Puts bytes into the words of a region that are 0, four into each, the lowest first.
 fn fill(region: &mut Region, bytes: &[u8])
     requires zero { (j : ℕ) → slice_index region.old.words.items j ≡ 0 }
-    requires few { length bytes.now ≤ 16777216 }
+    requires few { length bytes.now ≤ longest_data }
     ensures { (k : ℕ) → byte_in region.new.words.items k ≡ slice_index bytes.now k }
 {
     for i in 0..(bytes.len() + 3) / 4 {
@@ -78,8 +71,8 @@ impl<'a> Memory<'a> {
     /// The memory of the code, with the first bytes of the data region; all other bytes of the two regions are 0.
     pub fn new(alloc: Global, code: &'a [u8], initial: &[u8]) -> Result<Memory<'a>, AllocError>
         requires words { length code.now % 4 ≡ 0 }
-        requires code_fits { length code.now ≤ 16773120 }
-        requires initial_fits { length initial.now ≤ 16777216 }
+        requires code_fits { length code.now ≤ longest_code }
+        requires initial_fits { length initial.now ≤ longest_data }
         ensures flat { IfOk result
             (λ m. (parts : Parts) → parts.code ≡ code.now → parts.initial ≡ initial.now
             → memory_of m ≡ flat parts) }

@@ -1,6 +1,6 @@
 -- Programs that can be compiled: names exist, numbers fit, functions and expressions are small.
 use Rattle.std.specs.Prelude.{◌≡◌, ℤ, pos, neg_ℤ, ◌≤ℤ◌, ◌<ℤ◌, ℕ, ◌+◌, ◌≤◌, ◌<◌, ◌^◌, ◌==◌, if◌then◌else◌, max, Bool, true, false, not, ◌&&◌, IsTrue, List, [], ◌∷◌, length, slice_get, sum_by, Option, Some, None, All, IfSome}
-use Rattle.ckc_base.specs.Memory.{data_start}
+use Rattle.ckc_base.specs.MemoryMap.{statics_end}
 use Rattle.ckc_core.specs.WellFormed.{IsPlace}
 use Rattle.ckc_source.specs.Eval.{place_in}
 use Rattle.ckc_base.specs.declared.places.Pos.{Pos}
@@ -336,7 +336,7 @@ pub record IsCompilableFunction (functions : List Function) (f : Function) : Typ
 
 -- the first bytes of an object end within the first 4 MiB of the data region
 abbrev pub BeginsLow : Object → Type 0
-BeginsLow o = o.at + length o.initial ≤ data_start + 4194304
+BeginsLow o = o.at + length o.initial ≤ statics_end
 
 -- A program that can be compiled: at most 512 functions, and `main` is there and has no parameters.
 pub record IsCompilable (p : Program) : Type 0 where

@@ -1,5 +1,5 @@
 -- What the tokens of a whole text derive, and where they stop to be the beginning of a text.
-use Rattle.std.specs.Prelude.{◌≡◌, List, [], ◌∷◌, ◌++◌}
+use Rattle.std.specs.Prelude.{◌≡◌, ℕ, List, [], ◌∷◌, ◌++◌}
 use Rattle.ckc_base.specs.declared.places.Pos.{Pos}
 use Rattle.ckc_base.specs.declared.places.Refusal.{Refusal}
 use Rattle.ckc_syntax.specs.Spelled.{Spelled}
@@ -35,6 +35,10 @@ IsFault xs end pos = (front : List Spelled) × (rest : List Spelled) × (xs ≡ 
 abbrev pub DerivesTokens : List Spelled → SpelledTree → Type 0
 DerivesTokens xs whole = DerivesValue xs (tree whole)
 
--- The fault for which the tokens are refused: 120 at the first place where they stop to begin a text.
+-- E120: the tokens are no text
+abbrev pub syntax_error : ℕ
+syntax_error = 120
+
+-- The fault for which the tokens are refused, at the first place where they stop to begin a text.
 abbrev pub FirstFault : List Spelled → Pos → Refusal → Type 0
-FirstFault xs end fault = (fault.code ≡ 120) × IsFault xs end fault.pos
+FirstFault xs end fault = (fault.code ≡ syntax_error) × IsFault xs end fault.pos

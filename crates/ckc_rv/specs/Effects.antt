@@ -1,8 +1,9 @@
 -- What each instruction does (RISC-V unprivileged ISA manual, RV32I and "M"): the register that it writes and the
 -- next pc, or the access to memory.
-use Rattle.std.specs.Prelude.{ℕ, ◌+◌, ◌-◌, ◌*◌, ◌/◌, ◌%◌, ◌^◌, ◌==◌, not, nat_lt, int_lt, Bool, if◌then◌else◌, ℤ, pos, ◌*ℤ◌, int_div, int_rem, bit_and, bit_or, bit_xor, List, slice_index}
+use Rattle.std.specs.Prelude.{ℕ, ◌+◌, ◌-◌, ◌*◌, ◌/◌, ◌%◌, ◌^◌, ◌==◌, not, nat_lt, int_lt, Bool, if◌then◌else◌, ℤ, pos, ◌*ℤ◌, List, slice_index}
 use Rattle.std.specs.Int.{w8, w16, cast_signed, int_shr}
-use Rattle.ckc_base.specs.Words.{signed, word_of, flag}
+use Rattle.ckc_base.specs.Words.{applied, signed, word_of}
+use Rattle.ckc_base.specs.declared.arithmetic.BinOp.TheVariants as word
 use Rattle.ckc_operations.specs.declared.operations.BranchOp.{BranchOp}
 use Rattle.ckc_operations.specs.declared.operations.BranchOp.TheVariants.{Beq, Bne, Blt, Bge, Bltu, Bgeu}
 use Rattle.ckc_operations.specs.declared.operations.LoadOp.{LoadOp}
@@ -22,28 +23,26 @@ use Rattle.ckc_rv.specs.declared.registers.Outcome.TheVariants.{Next, Load as Lo
 abbrev pub upper_half : ℤ → ℕ
 upper_half product = word_of (int_shr product 32)
 
--- The value of an operation on two registers: sums, differences and products modulo 2 ^ 32, shifts by the low
--- five bits of the second, comparisons as 1 or 0, and division towards zero. Division by zero gives 2 ^ 32 - 1
--- and the dividend as remainder; the least signed number by -1 gives itself and 0.
+-- The value of an operation on two registers: that of the operation on words, and the upper halves of products.
 abbrev pub reg_value : RegOp → ℕ → ℕ → ℕ
-reg_value Add a b = (a + b) % 2 ^ 32
-reg_value Sub a b = (a + (2 ^ 32 - b)) % 2 ^ 32
-reg_value Sll a b = (a * 2 ^ (b % 32)) % 2 ^ 32
-reg_value Slt a b = flag (int_lt (signed a) (signed b))
-reg_value Sltu a b = flag (nat_lt a b)
-reg_value Xor a b = bit_xor a b
-reg_value Srl a b = a / 2 ^ (b % 32)
-reg_value Sra a b = word_of (int_shr (signed a) (b % 32))
-reg_value Or a b = bit_or a b
-reg_value And a b = bit_and a b
-reg_value Mul a b = (a * b) % 2 ^ 32
+reg_value Add a b = applied word.Add a b
+reg_value Sub a b = applied word.Sub a b
+reg_value Sll a b = applied word.Shl a b
+reg_value Slt a b = applied word.LtS a b
+reg_value Sltu a b = applied word.LtU a b
+reg_value Xor a b = applied word.Xor a b
+reg_value Srl a b = applied word.ShrU a b
+reg_value Sra a b = applied word.ShrS a b
+reg_value Or a b = applied word.Or a b
+reg_value And a b = applied word.And a b
+reg_value Mul a b = applied word.Mul a b
 reg_value Mulh a b = upper_half (signed a *ℤ signed b)
 reg_value Mulhsu a b = upper_half (signed a *ℤ pos b)
 reg_value Mulhu a b = a * b / 2 ^ 32
-reg_value Div a b = if b == 0 then 2 ^ 32 - 1 else word_of (int_div (signed a) (signed b))
-reg_value Divu a b = if b == 0 then 2 ^ 32 - 1 else a / b
-reg_value Rem a b = if b == 0 then a else word_of (int_rem (signed a) (signed b))
-reg_value Remu a b = if b == 0 then a else a % b
+reg_value Div a b = applied word.DivS a b
+reg_value Divu a b = applied word.DivU a b
+reg_value Rem a b = applied word.RemS a b
+reg_value Remu a b = applied word.RemU a b
 
 -- An operation with an immediate is one on two registers, of which the second holds the immediate.
 abbrev pub reg_form : ImmOp → RegOp

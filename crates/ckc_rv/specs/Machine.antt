@@ -1,5 +1,6 @@
 -- The machine of an image, step by step, over one flat memory: the memory map, the environment calls and the
 -- faults are this project's (docs/language.md), the effects of instructions those of the table.
+pub use Rattle.ckc_base.specs.MemoryMap.{code_start, data_start, stack_start, memory_end}
 use Rattle.std.specs.Prelude.{ℕ, zero, suc, ◌+◌, ◌-◌, ◌*◌, ◌/◌, ◌%◌, ◌^◌, ◌==◌, nat_lt, not, ◌&&◌, Bool, if◌then◌else◌, List, [], ◌∷◌, length, slice_index, slice_set, replicate, Option, Some, None, option_and_then}
 use Rattle.std.specs.Option.{option_map}
 use Rattle.ckc_base.specs.declared.runtime_checks.Check.{Check}
@@ -24,18 +25,6 @@ pub record Parts : Type 0 where
 -- the byte at each address that is mapped
 abbrev pub Memory : Type 0
 Memory = ℕ → Option ℕ
-
-abbrev pub code_start : ℕ
-code_start = 0x00001000
-
-abbrev pub data_start : ℕ
-data_start = 0x02000000
-
-abbrev pub stack_start : ℕ
-stack_start = 0x03000000
-
-abbrev pub memory_end : ℕ
-memory_end = 0x04000000
 
 -- The memory at the start: the code, the data region with the initial bytes and then zeros, and the stack of zeros.
 -- All else is unmapped.

@@ -14,10 +14,10 @@ use ckc_syntax::{Expr, Init, Item, Limits, Name, Node};
 use ckc_typed::Note;
 
 /// E501: an unchecked pointer or array type in a checked scope.
-pub const RAW: u16 = 501;
+pub const UNCHECKED_POINTER: u16 = 501;
 
 /// E502: `_Assume_bounds_cast` in a checked scope.
-pub const TRUSTED: u16 = 502;
+pub const ASSUMED_CAST: u16 = 502;
 
 /// Judges the first of the unchecked pointers and arrays that a declaration writes.
 pub fn place_fits(place: Option<Pos>, mode: Mode) -> Result<(), Refusal>
@@ -25,7 +25,10 @@ pub fn place_fits(place: Option<Pos>, mode: Mode) -> Result<(), Refusal>
         result ≡ verdict items (written_at mode places) }
 {
     match (mode, place) {
-        (Mode::Checked, Some(pos)) => Err(Refusal { code: RAW, pos }),
+        (Mode::Checked, Some(pos)) => Err(Refusal {
+            code: UNCHECKED_POINTER,
+            pos,
+        }),
         _ => Ok(()),
     }
 }
@@ -36,7 +39,10 @@ fn call_fits(name: Name, pos: Pos, items: &[Item<Name, Note>]) -> Result<(), Ref
     match name {
         Name::Function(k) => {
             if is_raw_function(items, k) {
-                return Err(Refusal { code: RAW, pos });
+                return Err(Refusal {
+                    code: UNCHECKED_POINTER,
+                    pos,
+                });
             }
             Ok(())
         }
@@ -49,7 +55,10 @@ fn deed_fits(node: &Node<Name, Note>, pos: Pos, items: &[Item<Name, Note>]) -> R
 {
     match node {
         Node::Call(name, _) => call_fits(*name, pos, items),
-        Node::Trusted(_, _, _) => Err(Refusal { code: TRUSTED, pos }),
+        Node::Trusted(_, _, _) => Err(Refusal {
+            code: ASSUMED_CAST,
+            pos,
+        }),
         Node::Number(_, _) | Node::Text(_) | Node::Null | Node::Name(_) | Node::Size(_) => Ok(()),
         Node::Un(_, _) | Node::Bin(_, _, _) | Node::Pick(_, _, _) | Node::Index(_, _) => Ok(()),
         Node::Dot(_, _, _) | Node::Arrow(_, _, _) | Node::Cast(_, _) => Ok(()),
@@ -71,7 +80,10 @@ fn own_fits(
         return Ok(());
     }
     if has_raw(&note.ctype) {
-        return Err(Refusal { code: RAW, pos });
+        return Err(Refusal {
+            code: UNCHECKED_POINTER,
+            pos,
+        });
     }
     deed_fits(node, pos, items)
 }

@@ -9,6 +9,6 @@ mod raw;
 mod statements;
 mod text;
 
-pub use expressions::{RAW, TRUSTED};
+pub use expressions::{ASSUMED_CAST, UNCHECKED_POINTER};
 pub use laws::{codes, is_exact};
 pub use text::scopes;

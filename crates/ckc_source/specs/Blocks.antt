@@ -1,5 +1,6 @@
 -- Storage (ISO C11, 3.14 and 6.2.4: storage consists of objects, each with an address and bytes). It is a list of
 -- blocks, each a static object, a string literal or what `calloc` made.
+pub use Rattle.ckc_base.specs.MemoryMap.{first_place}
 use Rattle.std.specs.Prelude.{ℕ, ◌+◌, ◌-◌, ◌*◌, ◌/◌, ◌%◌, ◌==◌, nat_le, ◌&&◌, Bool, true, if◌then◌else◌, List, [], ◌∷◌, ◌++◌, map, length, replicate, slice_index, slice_set, Option, Some, None}
 use Rattle.std.specs.List.{list_any}
 use Rattle.ckc_types.specs.declared.types.CType.{CType}
@@ -95,6 +96,3 @@ fresh to base count = record {
 abbrev pub place_behind : ℕ → List Block → ℕ
 place_behind place [] = place
 place_behind place (b ∷ blocks) = place_behind ((end_of b + 15) / 8 * 8) blocks
-
-abbrev pub first_place : ℕ
-first_place = 0x02000008

@@ -1,6 +1,7 @@
 //! Images.
 
 use ckc_base::Seq;
+use ckc_base::memory_map::{CODE_START, LONGEST_CODE, LONGEST_DATA};
 use ckc_image::{Parts, View, write};
 use ckc_trials::Page;
 
@@ -43,10 +44,10 @@ fn put_image(parts: &Parts, page: &mut Page) {
 
 fn parts_of(entry: u32, code: Vec<u8>, initial: Vec<u8>) -> Option<Parts> {
     let length = code.len();
-    if length % 4 != 0 || length < 4 || length > 16_773_120 || initial.len() > 16_777_216 {
+    if length % 4 != 0 || length < 4 || length > LONGEST_CODE || initial.len() > LONGEST_DATA {
         return None;
     }
-    if entry % 4 != 0 || entry < 0x1000 || entry as usize >= 0x1000 + length {
+    if entry % 4 != 0 || entry < CODE_START || entry as usize >= CODE_START as usize + length {
         return None;
     }
     Some(Parts {

@@ -1,5 +1,6 @@
 -- What a text declares (ISO C11, 6.2.1): its objects of file scope and its functions, and the variables that an
--- expression sees beside them. Where a tree names what it does not declare, nothing is found.
+-- expression sees beside them, whatever its tree notes. Where a tree names what it does not declare, nothing is found.
+pub use Rattle.ckc_base.specs.Lists.{concatenation as joined_variables, or_empty as held_variables}
 use Rattle.std.specs.Prelude.{ℕ, ◌==◌, Bool, true, false, List, [], ◌∷◌, ◌++◌, map, flat_map, find, Option, None, Some}
 use Rattle.std.specs.Option.{option_map}
 use Rattle.ckc_types.specs.declared.types.Kind.{Kind}
@@ -12,6 +13,7 @@ use Rattle.ckc_syntax.specs.declared.tree.Name.{Name}
 use Rattle.ckc_syntax.specs.declared.tree.Name.TheVariants as name
 use Rattle.ckc_syntax.specs.declared.tree.Length.{Length}
 use Rattle.ckc_syntax.specs.declared.tree.Length.TheVariants as lengths
+use Rattle.ckc_syntax.specs.declared.tree.Item.{Item}
 use Rattle.ckc_syntax.specs.declared.tree.Item.TheVariants as item
 use Rattle.ckc_syntax.specs.declared.tree.Head as heads
 use Rattle.ckc_syntax.specs.declared.tree.Decl as decls
@@ -23,7 +25,6 @@ use Rattle.ckc_typed.specs.declared.environment.Globals.{Globals}
 use Rattle.ckc_typed.specs.declared.environment.Object.{Object}
 use Rattle.ckc_typed.specs.declared.environment.Signature.{Signature}
 use Rattle.ckc_typed.specs.declared.environment.Variable.{Variable}
-use Rattle.ckc_typed.specs.Trees.{Item, Head, Decl}
 use Rattle.ckc_typed.specs.Types.{type_written}
 
 abbrev pub same_name : Name → Name → Bool
@@ -43,28 +44,28 @@ kind_of_array (lengths.Raw n pos) = Some kind.Raw
 kind_of_array (lengths.Checked n) = Some kind.Arr
 kind_of_array (lengths.Nt n) = Some kind.Nt
 
-abbrev pub object_declared : Decl → Object
+abbrev pub object_declared : {A : Type 0} → decls.Decl Name A → Object
 object_declared d = record { name = d.name; element = type_written d.ctype; array = kind_of_array d.length }
 
 abbrev pub variable_declared : {A : Type 0} → decls.Decl Name A → Variable
 variable_declared d = record { name = d.name; ctype = type_written d.ctype }
 
-abbrev pub type_declared : Decl → CType
+abbrev pub type_declared : {A : Type 0} → decls.Decl Name A → CType
 type_declared d = type_written d.ctype
 
-abbrev pub signature_declared : Head → Signature
+abbrev pub signature_declared : {A : Type 0} → heads.Head Name A → Signature
 signature_declared h = record { name = h.name; result = type_written h.result; params = map type_declared h.params }
 
-abbrev pub objects_of_item : Item → List Object
+abbrev pub objects_of_item : {A : Type 0} → Item Name A → List Object
 objects_of_item (item.Static d) = object_declared d ∷ []
 objects_of_item _ = []
 
 -- A prototype adds none, since its function has the same head.
-abbrev pub signatures_of_item : Item → List Signature
+abbrev pub signatures_of_item : {A : Type 0} → Item Name A → List Signature
 signatures_of_item (item.Function h body) = signature_declared h ∷ []
 signatures_of_item _ = []
 
-abbrev pub objects_of : List Item → List Object
+abbrev pub objects_of : {A : Type 0} → List (Item Name A) → List Object
 objects_of items = flat_map objects_of_item items
 
 -- `int getchar(void)` and `int putchar(int)` stand for every text.
@@ -74,16 +75,8 @@ getchar = record { name = name.Getchar; result = ctype.Int; params = [] }
 abbrev pub putchar : Signature
 putchar = record { name = name.Putchar; result = ctype.Int; params = ctype.Int ∷ [] }
 
-abbrev pub signatures_of : List Item → List Signature
+abbrev pub signatures_of : {A : Type 0} → List (Item Name A) → List Signature
 signatures_of items = getchar ∷ putchar ∷ flat_map signatures_of_item items
-
-abbrev pub held_variables : Option (List Variable) → List Variable
-held_variables None = []
-held_variables (Some vs) = vs
-
-abbrev pub joined_variables : List (List Variable) → List Variable
-joined_variables [] = []
-joined_variables (vs ∷ rest) = vs ++ joined_variables rest
 
 abbrev pub act_variables : {A : Type 0} → Act-F Name A (List Variable) (List Variable) → List Variable
 act_variables (Act-F.Block m ss) = joined_variables ss

@@ -1,5 +1,5 @@
 -- The structures of a text with the bounds of their members (ISO C11, 6.7.2.1; Checked C specification 0.9, section
--- 3.1, on bounds of members).
+-- 3.1, on bounds of members), whatever its tree notes.
 use Rattle.std.specs.Prelude.{ℕ, suc, zero, ◌+◌, max, fold, map, ℤ, if◌then◌else◌, List, [], ◌∷◌, ◌++◌, Option, None, Some}
 use Rattle.ckc_types.specs.declared.types.CType.{CType}
 use Rattle.ckc_types.specs.declared.types.MemberBounds.{MemberBounds}
@@ -9,10 +9,13 @@ use Rattle.ckc_types.specs.declared.types.StructShape.{StructShape}
 use Rattle.ckc_types.specs.declared.types.Structs.{Structs}
 use Rattle.ckc_syntax.specs.declared.tree.Name.{Name}
 use Rattle.ckc_syntax.specs.declared.tree.Name.TheVariants as name
-use Rattle.ckc_syntax.specs.declared.tree.Limits.{Limits-F, out-Limits}
+use Rattle.ckc_syntax.specs.declared.tree.Limits.{Limits, Limits-F, out-Limits}
+use Rattle.ckc_syntax.specs.declared.tree.Node.{Node}
+use Rattle.ckc_syntax.specs.declared.tree.Expr.{Expr}
+use Rattle.ckc_syntax.specs.declared.tree.Decl.{Decl}
+use Rattle.ckc_syntax.specs.declared.tree.Item.{Item}
 use Rattle.ckc_syntax.specs.declared.tree.Item.TheVariants as item
 use Rattle.ckc_typed.specs.declared.environment.Amount.{Amount}
-use Rattle.ckc_typed.specs.Trees.{Item, Decl, Limits, Node, Expr}
 use Rattle.ckc_typed.specs.Types.{type_written, element_of}
 use Rattle.ckc_typed.specs.Environment.{same_name}
 use Rattle.ckc_typed.specs.Constants.{size_of}
@@ -32,32 +35,32 @@ abbrev pub counted : Option Amount → MemberBounds
 counted (Some a) = counted_by a.variable a.number
 counted None = bounds.NoForm
 
-abbrev pub bounds_by : Structs → ℕ → Limits-F Name (Unit {0}) Limits Node Expr → MemberBounds
+abbrev pub bounds_by : {A : Type 0} → Structs → ℕ → Limits-F Name A (Limits Name A) (Node Name A) (Expr Name A) → MemberBounds
 bounds_by structs size (Limits-F.Unknown at) = bounds.Unknown
 bounds_by structs size form = counted (amount_of_form structs size form)
 
-abbrev pub bounds_of : Structs → CType → Option Limits → MemberBounds
+abbrev pub bounds_of : {A : Type 0} → Structs → CType → Option (Limits Name A) → MemberBounds
 bounds_of structs t None = bounds.Nothing
-bounds_of structs t (Some l) = bounds_by structs (size_of structs (element_of t)) (out-Limits Name (Unit {0}) l)
+bounds_of {A} structs t (Some l) = bounds_by structs (size_of structs (element_of t)) (out-Limits Name A l)
 
 -- a member without its bounds, which suffices for the sizes of types
-abbrev pub bare_member : Decl → MemberShape
+abbrev pub bare_member : {A : Type 0} → Decl Name A → MemberShape
 bare_member d = record { name = member_number d.name; ctype = type_written d.ctype; bounds = bounds.Nothing }
 
-abbrev pub bounded_member : Structs → Decl → MemberShape
+abbrev pub bounded_member : {A : Type 0} → Structs → Decl Name A → MemberShape
 bounded_member structs d = record { name = member_number d.name; ctype = type_written d.ctype; bounds = bounds_of structs (type_written d.ctype) d.bounds }
 
 -- the members that an item declares for a tag
-abbrev pub members_in_item : Name → Item → Option (List Decl)
+abbrev pub members_in_item : {A : Type 0} → Name → Item Name A → Option (List (Decl Name A))
 members_in_item tag (item.Struct n members at) = if same_name n tag then Some members else None
 members_in_item tag _ = None
 
-abbrev pub or_members : Option (List Decl) → List Decl → List Decl
+abbrev pub or_members : {A : Type 0} → Option (List (Decl Name A)) → List (Decl Name A) → List (Decl Name A)
 or_members (Some ds) other = ds
 or_members None other = other
 
 -- the members of the first structure with a tag, none where only tag lines name it
-abbrev pub members_declared : List Item → Name → List Decl
+abbrev pub members_declared : {A : Type 0} → List (Item Name A) → Name → List (Decl Name A)
 members_declared [] tag = []
 members_declared (i ∷ rest) tag = or_members (members_in_item tag i) (members_declared rest tag)
 
@@ -65,28 +68,28 @@ abbrev pub behind_tag : Name → ℕ
 behind_tag (name.Tag k) = k + 1
 behind_tag _ = 0
 
-abbrev pub tags_to : Item → ℕ
+abbrev pub tags_to : {A : Type 0} → Item Name A → ℕ
 tags_to (item.Tag n at) = behind_tag n
 tags_to (item.Struct n members at) = behind_tag n
 tags_to _ = 0
 
 -- how many tags there are, which are numbered from 0
-abbrev pub tag_count : List Item → ℕ
+abbrev pub tag_count : {A : Type 0} → List (Item Name A) → ℕ
 tag_count items = fold (λ n i. max n (tags_to i)) 0 items
 
-abbrev pub shape_of : (Decl → MemberShape) → List Item → ℕ → StructShape
+abbrev pub shape_of : {A : Type 0} → (Decl Name A → MemberShape) → List (Item Name A) → ℕ → StructShape
 shape_of member items k = record { members = map member (members_declared items (name.Tag k)) }
 
 abbrev pub shapes_below : (ℕ → StructShape) → ℕ → List StructShape
 shapes_below shape zero = []
 shapes_below shape (suc n) = shapes_below shape n ++ shape n ∷ []
 
-abbrev pub structs_with : (Decl → MemberShape) → List Item → Structs
+abbrev pub structs_with : {A : Type 0} → (Decl Name A → MemberShape) → List (Item Name A) → Structs
 structs_with member items = record { shapes = shapes_below (shape_of member items) (tag_count items) }
 
-abbrev pub bare_structs : List Item → Structs
+abbrev pub bare_structs : {A : Type 0} → List (Item Name A) → Structs
 bare_structs items = structs_with bare_member items
 
 -- the structures of a text, each at the number of its tag
-abbrev pub structs_of : List Item → Structs
+abbrev pub structs_of : {A : Type 0} → List (Item Name A) → Structs
 structs_of items = structs_with (bounded_member (bare_structs items)) items

@@ -2,8 +2,10 @@
 -- order of the text, then a block for each string literal that initialises no array, in the order of the text, with a
 -- zero byte behind its bytes. At 0x02000000 lies a word of the heap's. Each block begins at the least multiple of 8
 -- that is at least 8 bytes past the end of what lies before it.
+pub use Rattle.ckc_base.specs.Lists.{concatenation as joined_strings, or_empty as held_strings}
 use Rattle.std.specs.Prelude.{ℕ, ◌+◌, ◌*◌, Bool, true, false, if◌then◌else◌, List, [], ◌∷◌, ◌++◌, length, take, map, flat_map, Option, None, Some, unwrap_or}
 use Rattle.std.specs.Int.{w32, to_le_bytes, next_multiple_of}
+use Rattle.ckc_base.specs.MemoryMap.{data_start, statics_end}
 use Rattle.ckc_types.specs.declared.types.Kind.TheVariants as kind
 use Rattle.ckc_types.specs.declared.types.CType.{CType}
 use Rattle.ckc_types.specs.declared.types.CType.TheVariants as ctype
@@ -30,14 +32,6 @@ use Rattle.ckc_typed.specs.Declarations.{count_of, is_plain, string_in}
 -- the bytes of strings, from a first part to a last
 abbrev pub Strings : Type 0
 Strings = List (List ℕ)
-
-abbrev pub joined_strings : List Strings → Strings
-joined_strings [] = []
-joined_strings (s ∷ rest) = s ++ joined_strings rest
-
-abbrev pub held_strings : Option Strings → Strings
-held_strings None = []
-held_strings (Some s) = s
 
 abbrev pub limits_strings : Limits-F Name Note Strings Strings Strings → Strings
 limits_strings (Limits-F.Count e at) = e
@@ -176,7 +170,7 @@ end_of_blocks structs end (o ∷ os) = end_of_blocks structs (end_of_block struc
 
 -- the end of what lies before the first block, and the last end that fits
 abbrev pub FIRST_END : ℕ
-FIRST_END = 0x02000000
+FIRST_END = data_start
 
 abbrev pub LAST_END : ℕ
-LAST_END = 0x02400000
+LAST_END = statics_end

@@ -1,6 +1,7 @@
 -- What a typed tree holds for the rules of checked scopes to judge, in walk order: items in the order of the text; in
 -- a declaration its type and limits, then its initialiser; in a statement or an expression its parts from left to
 -- right, then itself; in a `for` the step comes after the body.
+pub use Rattle.ckc_base.specs.Lists.{concatenation as joined, or_empty as held}
 use Rattle.std.specs.Prelude.{ℕ, List, [], ◌∷◌, ◌++◌, Option, None, Some, unwrap_or, map, flat_map}
 use Rattle.ckc_base.specs.declared.places.Pos.{Pos}
 use Rattle.ckc_base.specs.declared.arithmetic.Mode.{Mode}
@@ -50,14 +51,6 @@ written_at mode places = map (λ at. spot mode at written) places
 pub record Within : Type 0 where
   pub parts : List Spot
   pub own : List Matter
-
-abbrev pub joined : List (List Spot) → List Spot
-joined [] = []
-joined (spots ∷ rest) = spots ++ joined rest
-
-abbrev pub held : Option (List Spot) → List Spot
-held None = []
-held (Some spots) = spots
 
 abbrev pub parts_only : List Spot → Within
 parts_only spots = record { parts = spots; own = [] }

@@ -9,6 +9,7 @@ use Rattle.ckc_base.specs.declared.places.Refusal.{Refusal}
 use Rattle.ckc_base.specs.declared.arithmetic.Mode.TheVariants.{Unchecked}
 use Rattle.ckc_base.specs.Places.{start}
 use Rattle.ckc_base.specs.Outcomes.{Outcome, bind, unless}
+use Rattle.ckc_base.proofs.Outcomes.{ok_same, made_of, err_is_ok}
 use Rattle.ckc_types.specs.declared.types.Structs.{Structs}
 use Rattle.ckc_syntax.specs.declared.tree.Name.TheVariants as name
 use Rattle.ckc_syntax.specs.declared.tree.NamedText.{NamedText}
@@ -21,16 +22,6 @@ use Rattle.ckc_typed.specs.Statics.{blocks, placed, end_of_blocks, FIRST_END, LA
 use Rattle.ckc_typed.specs.Texts.{globals_of, items_typed, laid_out, named_typed}
 use Rattle.ckc_typing.specs.Objects.{LieApart, objects_declared, AreNumbered}
 use Rattle.ckc_typing.proofs.Placed.{eighths, apart, within, first_at, placed_at}
-
-pub ok_same : {A : Type 0} (a b : A) → ◌≡◌ {A = Outcome A} (Ok a) (Ok b) → a ≡ b
-ok_same a b e = cc
-
-err_is_ok : {A : Type 0} (r : Refusal) (a : A) → ◌≡◌ {A = Outcome A} (Err r) (Ok a) → ⊥
-err_is_ok r a e = cc
-
-pub made_of : {A B : Type 0} (o : Outcome A) (k : A → Outcome B) (b : B) → bind o k ≡ Ok b → (a : A) × (o ≡ Ok a) × (k a ≡ Ok b)
-made_of (Ok a) k b e = (a, refl, e)
-made_of (Err r) k b e = absurd (err_is_ok r b e)
 
 kept_rule : {A : Type 0} (broken : Bool) (code : ℕ) (at : Pos) (a b : A) → unless broken code at (Ok a) ≡ Ok b → (broken ≡ false) × (a ≡ b)
 kept_rule true code at a b e = absurd (err_is_ok (record { code = code; pos = at }) b e)

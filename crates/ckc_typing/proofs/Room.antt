@@ -34,7 +34,8 @@ use Rattle.ckc_typed.specs.Statements.{stmt_typed}
 use Rattle.ckc_typed.specs.Statics.{bytes_of, bytes_of_one, initial_bytes, object_of, objects_of_item, object_of_string, strings_of_item, blocks, placed, begin_behind, end_of_block, FIRST_END}
 use Rattle.ckc_typed.specs.Texts.{globals_of, head_mode, head_typed, item_typed, items_typed, pragma_after, named_typed}
 use Rattle.ckc_typing.specs.Objects.{HasRoom, HaveRoom}
-use Rattle.ckc_typing.proofs.Objects.{made_of, ok_same, laid}
+use Rattle.ckc_base.proofs.Outcomes.{made_of, ok_same}
+use Rattle.ckc_typing.proofs.Objects.{laid}
 
 false_is_true : false ≡ true → ⊥
 false_is_true e = cc

@@ -6,6 +6,7 @@ ghost use Rattle.ckc_typed.specs.Statics.{begin_behind, end_of_block, FIRST_END,
 ghost use Rattle.ckc_typing.specs.code.Placing.{placed_behind};
 ghost use Rattle.ckc_base.specs.Outcomes.{AnswersOutcome};
 
+use ckc_base::memory_map::{DATA_START, STATICS_END};
 use ckc_base::{Bytes, Fault, START, Seq, refused};
 use ckc_typed::StaticObject;
 use ckc_typed::codes::LATE_STATICS;
@@ -15,9 +16,9 @@ use ckc_types::Structs;
 use std::alloc::{AllocError, Global};
 
 /// The end of what lies before the first block, and the last end that a block may have.
-const FIRST: u64 = 0x0200_0000;
+const FIRST: u64 = DATA_START as u64;
 
-const LAST: u64 = 0x0240_0000;
+const LAST: u64 = STATICS_END as u64;
 
 fn begin_behind(end: u64) -> u64
     requires { end ≤ LAST_END }

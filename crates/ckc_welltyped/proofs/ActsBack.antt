@@ -24,7 +24,7 @@ use Rattle.ckc_welltyped.specs.Noteless.{bare_decl, bare_expr, bare_act, bare_st
 use Rattle.ckc_welltyped.specs.Expressions.{WellTypedExpr}
 use Rattle.ckc_welltyped.specs.Statements.{IsAssignment, IsCondition, act_rows, mode_in_form, mode_in, WellTypedAct, WellTypedStmt}
 use Rattle.ckc_welltyped.proofs.Bares.{bared_act, bare_act_is, bare_stmt_is}
-use Rattle.ckc_welltyped.proofs.Outcomes.{goes, keeps_rule}
+use Rattle.ckc_base.proofs.Outcomes.{goes, keeps_rule}
 use Rattle.ckc_welltyped.proofs.Backs.{expr_back}
 use Rattle.ckc_welltyped.proofs.Decls.{value_back, local_back}
 use Rattle.ckc_welltyped.proofs.Acts.{ActLayer, act_of, act_rolled, act_out, act_rule_is, stmt_rule_is}

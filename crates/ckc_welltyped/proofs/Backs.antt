@@ -29,7 +29,7 @@ use Rattle.ckc_typed.specs.Expressions.{OfLimits, OfNode, OfExpr, noted, unary_t
 use Rattle.ckc_welltyped.specs.Noteless.{bare_limits, bare_node, bare_expr}
 use Rattle.ckc_welltyped.specs.Expressions.{NodeLayer, HasType, WellTypedExpr, WellTypedNode, WellTypedLimits}
 use Rattle.ckc_welltyped.specs.Parts.{LimitsLayer, LimitsParts, NodeParts}
-use Rattle.ckc_welltyped.proofs.Outcomes.{goes, is_there}
+use Rattle.ckc_base.proofs.Outcomes.{goes, is_there}
 use Rattle.ckc_welltyped.proofs.Rows.{row_is, unary_is, two_rules, cast_is, allocation_is, call_is}
 use Rattle.ckc_welltyped.proofs.Nodes.{limits_of, limits_rolled, node_of, node_rolled, node_out}
 use Rattle.ckc_welltyped.proofs.Held.{limits_layer_holds, node_layer_holds, has_row, holds_node}

@@ -20,7 +20,7 @@ use Rattle.ckc_typed.specs.Declarations.{init_typed, parts_typed, judged, fault_
 use Rattle.ckc_welltyped.specs.Noteless.{bare_limits, bare_expr, bare_init, bare_decl}
 use Rattle.ckc_welltyped.specs.Expressions.{WellTypedExpr, WellTypedLimits}
 use Rattle.ckc_welltyped.specs.Declarations.{WellTypedInit, WellTypedParts, WellTypedBare, StartsLocal, WellTypedLocal, StartsOne, IsListFor, StartsStatic, WellTypedStatic}
-use Rattle.ckc_welltyped.proofs.Outcomes.{ok_same, made_of, goes, first_holds, second_holds, both_hold}
+use Rattle.ckc_base.proofs.Outcomes.{ok_same, made_of, goes, first_holds, second_holds, both_hold}
 use Rattle.ckc_welltyped.proofs.TypedNodes.{limits_give, expr_gives}
 use Rattle.ckc_welltyped.proofs.Backs.{limits_back, expr_back}
 

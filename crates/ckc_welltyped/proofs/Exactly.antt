@@ -12,7 +12,7 @@ use Rattle.ckc_typed.specs.Texts.{named_typed}
 use Rattle.ckc_welltyped.specs.Noteless.{bare_item}
 use Rattle.ckc_welltyped.specs.Given.{GivesExactly}
 use Rattle.ckc_welltyped.specs.Texts.{TypedAs}
-use Rattle.ckc_welltyped.proofs.Outcomes.{ok_same}
+use Rattle.ckc_base.proofs.Outcomes.{ok_same}
 use Rattle.ckc_welltyped.proofs.Texts.{gives, back}
 use Rattle.ckc_welltyped.proofs.MarksKept as marks
 use Rattle.ckc_welltyped.proofs.DepthKept as depth

@@ -1,4 +1,3 @@
-mod Outcomes
 mod Nodes
 mod Rows
 mod Held

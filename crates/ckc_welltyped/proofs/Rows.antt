@@ -20,7 +20,7 @@ use Rattle.ckc_typed.specs.Operands.{unary_type, is_cast}
 use Rattle.ckc_typed.specs.Conversions.{is_null, converts}
 use Rattle.ckc_typed.specs.Expressions.{address_kind, has_address, in_row, unary_typed, cast_typed, is_no_allocation, allocation_typed, arguments_typed, result_typed, call_typed}
 use Rattle.ckc_welltyped.specs.Expressions.{unary_row, AreArguments, IsCall, IsAllocation}
-use Rattle.ckc_welltyped.proofs.Outcomes.{ok_same, made_of, goes, kept_rule, keeps_rule, was_there, is_there, first_holds}
+use Rattle.ckc_base.proofs.Outcomes.{ok_same, made_of, goes, kept_rule, keeps_rule, was_there, is_there, first_holds}
 
 -- an outcome is Ok of what a row of a table gives, and only then
 abbrev pub OkWhere : {A : Type 0} → Outcome A → Option A → Type 0

@@ -30,7 +30,7 @@ use Rattle.ckc_welltyped.specs.Expressions.{WellTypedLimits}
 use Rattle.ckc_welltyped.specs.Declarations.{WellTypedBare}
 use Rattle.ckc_welltyped.specs.Statements.{WellTypedStmt}
 use Rattle.ckc_welltyped.specs.Texts.{mode_of_head, WellTypedHead, members_seen, WellTypedItem, WellTypedItems, WellTyped, TypedAs}
-use Rattle.ckc_welltyped.proofs.Outcomes.{ok_same, made_of, goes, kept_rule, keeps_rule}
+use Rattle.ckc_base.proofs.Outcomes.{ok_same, made_of, goes, kept_rule, keeps_rule}
 use Rattle.ckc_welltyped.proofs.Decls.{each_made, each_back, bounds_give, bounds_back, bare_gives, bare_back, static_gives, static_back}
 use Rattle.ckc_welltyped.proofs.TypedActs.{stmt_gives}
 use Rattle.ckc_welltyped.proofs.ActsBack.{stmt_back}

@@ -25,7 +25,7 @@ use Rattle.ckc_welltyped.specs.Noteless.{bare_expr, bare_act, bare_stmt}
 use Rattle.ckc_welltyped.specs.Expressions.{WellTypedExpr}
 use Rattle.ckc_welltyped.specs.Statements.{IsTarget, IsAssignment, IsCondition, act_rows, mode_in_form, WellTypedAct, WellTypedStmt}
 use Rattle.ckc_welltyped.proofs.Bares.{bared_act, bare_act_is, bare_stmt_is}
-use Rattle.ckc_welltyped.proofs.Outcomes.{ok_same, made_of, kept_rule, first_holds, second_holds, both_hold}
+use Rattle.ckc_base.proofs.Outcomes.{ok_same, made_of, kept_rule, first_holds, second_holds, both_hold}
 use Rattle.ckc_welltyped.proofs.TypedNodes.{expr_gives}
 use Rattle.ckc_welltyped.proofs.Decls.{value_gives, local_gives}
 use Rattle.ckc_welltyped.proofs.Acts.{ActLayer, act_of, act_rolled, act_out, act_rule_is, stmt_rule_is, StmtHolds}

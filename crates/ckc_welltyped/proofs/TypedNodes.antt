@@ -28,7 +28,7 @@ use Rattle.ckc_typed.specs.Expressions.{OfLimits, OfNode, OfExpr, noted, number_
 use Rattle.ckc_welltyped.specs.Noteless.{bare_limits, bare_node, bare_expr}
 use Rattle.ckc_welltyped.specs.Expressions.{NodeLayer, HasType, IsCall, WellTypedExpr, WellTypedLimits}
 use Rattle.ckc_welltyped.proofs.Bares.{bared_limits, bared_node, bare_limits_is, bare_node_is, bare_expr_is}
-use Rattle.ckc_welltyped.proofs.Outcomes.{ok_same, made_of, was_there}
+use Rattle.ckc_base.proofs.Outcomes.{ok_same, made_of, was_there}
 use Rattle.ckc_welltyped.proofs.Rows.{row_is, unary_is, two_rules, cast_is, allocation_is, call_is}
 use Rattle.ckc_welltyped.proofs.Nodes.{limits_of, limits_rolled, node_of, node_rolled, node_out, FitLimits, FitNode, FitExpr, bare_limits_layer, bare_node_layer, limits_fit, node_fits, expr_fits}
 

@@ -8,7 +8,7 @@ use Rattle.ckc_base.specs.Outcomes.{Outcome, bind, unless, there_or}
 pub ok_same : {A : Type 0} (a b : A) → ◌≡◌ {A = Outcome A} (Ok a) (Ok b) → a ≡ b
 ok_same a b e = cc
 
-err_is_ok : {A : Type 0} (r : Refusal) (a : A) → ◌≡◌ {A = Outcome A} (Err r) (Ok a) → ⊥
+pub err_is_ok : {A : Type 0} (r : Refusal) (a : A) → ◌≡◌ {A = Outcome A} (Err r) (Ok a) → ⊥
 err_is_ok r a e = cc
 
 -- the first part of two, and what the second makes of it

@@ -1,0 +1,12 @@
+-- Lists in lists, and lists that may be left out.
+use Rattle.std.specs.Prelude.{List, [], ◌∷◌, ◌++◌, Option, None, Some}
+
+-- the elements of the lists, from the first list to the last
+abbrev pub concatenation : {A : Type 0} → List (List A) → List A
+concatenation [] = []
+concatenation (xs ∷ rest) = xs ++ concatenation rest
+
+-- the list, or none of its elements where it is left out
+abbrev pub or_empty : {A : Type 0} → Option (List A) → List A
+or_empty None = []
+or_empty (Some xs) = xs
