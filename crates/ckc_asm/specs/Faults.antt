@@ -4,7 +4,7 @@ use Rattle.std.specs.Prelude.{◌≡◌, ◌⊎◌, ℕ, ◌+◌, ◌<◌, ◌�
 use Rattle.std.specs.List.{flat_map}
 use Rattle.ckc_base.specs.MemoryMap.{longest_code, longest_data}
 use Rattle.ckc_base.specs.declared.places.Pos.{Pos}
-use Rattle.ckc_base.specs.Places.{start, longest_text}
+use Rattle.ckc_base.specs.Places.{start, long_text, longest_text}
 use Rattle.ckc_image.specs.Image.{EntryFits}
 use Rattle.ckc_asm.specs.declared.items.Operand.TheVariants.{Named}
 use Rattle.ckc_asm.specs.Cut.{Word, lines_of}
@@ -128,10 +128,6 @@ LabelFault statements code place =
 abbrev pub FormFault : List ℕ → ℕ → Pos → Type 0
 FormFault text code place =
     (k : ℕ) × (line : List ℕ) × IsFirst (HasNoForm (lines_of text)) (lines_of text) k line × (code ≡ no_form) × (place ≡ line_front k)
-
--- E201: a text that is too long
-abbrev pub long_text : ℕ
-long_text = 201
 
 -- the first fault of a text: its code and its place
 pub data IsFirstFault (text : List ℕ) (code : ℕ) (place : Pos) : Type 0 where

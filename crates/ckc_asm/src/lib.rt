@@ -20,4 +20,4 @@ mod statements;
 pub use laws::{codes, is_exact, words_by_range};
 pub use names::{branch_name, imm_name, load_name, reg_name, store_name};
 pub use reader::read_asm;
-pub use refusals::{LONG_TEXT, NO_FORM, NO_IMAGE, OUT_OF_RANGE, SECOND_LABEL, UNKNOWN_LABEL};
+pub use refusals::{NO_FORM, NO_IMAGE, OUT_OF_RANGE, SECOND_LABEL, UNKNOWN_LABEL};

@@ -10,9 +10,8 @@ ghost use Rattle.ckc_asm.specs.code.Outcome.{IfRefused};
 use crate::code::{check_names, code_of};
 use crate::image::{data_of, entry_of, parts_of};
 use crate::labels::labels_of;
-use crate::refusals::LONG_TEXT;
 use crate::statements::{lines_of, rows_of};
-use ckc_base::{Fault, LONGEST_TEXT, START, refused};
+use ckc_base::{Fault, LONG_TEXT, LONGEST_TEXT, START, refused};
 use ckc_image::Parts;
 use std::alloc::Global;
 

@@ -1,8 +1,5 @@
 //! The codes with which assembly is refused.
 
-/// E201: the text has over 262,144 bytes.
-pub const LONG_TEXT: u16 = 201;
-
 /// E801: a line has no form, or a second `.entry` stands.
 pub const NO_FORM: u16 = 801;
 

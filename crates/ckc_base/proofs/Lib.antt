@@ -7,3 +7,9 @@ pub mod Listed
 pub mod Phases
 pub mod WordValues
 pub mod Outcomes
+pub mod Ends
+pub mod Chains
+pub mod Turns
+pub mod Sequels
+pub mod Gives
+pub mod Codes

@@ -10,6 +10,10 @@ code_start = 0x00001000
 abbrev pub longest_code : ℕ
 longest_code = 16773120
 
+-- how many instructions that are
+abbrev pub most_instructions : ℕ
+most_instructions = 4193280
+
 -- where the data region begins; its first word is the heap's
 abbrev pub data_start : ℕ
 data_start = 0x02000000
@@ -21,6 +25,10 @@ first_place = 0x02000008
 -- the last end that an object of file scope may have
 abbrev pub statics_end : ℕ
 statics_end = 0x02400000
+
+-- how many bytes lie up to there
+abbrev pub longest_statics : ℕ
+longest_statics = 4194304
 
 -- where the data region ends
 abbrev pub data_end : ℕ

@@ -14,3 +14,7 @@ at_start code = record { code = code; pos = start }
 -- how many bytes a text may have
 abbrev pub longest_text : ℕ
 longest_text = 262144
+
+-- E201: a text that is too long
+abbrev pub long_text : ℕ
+long_text = 201

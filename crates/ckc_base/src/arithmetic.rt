@@ -1,5 +1,7 @@
-ghost use Rattle.std.specs.Prelude.{◌≡◌};
+ghost use Rattle.std.specs.Prelude.{◌≡◌, ◌+◌, IfOk};
 ghost use Rattle.ckc_base.specs.Words.{applied};
+
+use std::alloc::AllocError;
 
 /// Whether a scope is checked (Checked C specification 0.9, section 3, on checked scopes).
 #[derive(Clone, Copy)]
@@ -96,4 +98,14 @@ fn remainder_unsigned(a: u32, b: u32) -> u32
     ensures { result ≡ applied BinOp.RemU a b }
 {
     if b == 0 { a } else { a % b }
+}
+
+/// A sum; one past 2^32 - 1 is taken for want of memory.
+pub fn sum(a: u32, b: u32) -> Result<u32, AllocError>
+    ensures { IfOk result (λ n. n ≡ a + b) }
+{
+    match a.checked_add(b) {
+        Some(n) => Ok(n),
+        None => Err(AllocError),
+    }
 }

@@ -14,9 +14,9 @@ mod places;
 mod runtime_checks;
 mod seq;
 
-pub use arithmetic::{BinOp, Mode, Width, apply};
+pub use arithmetic::{BinOp, Mode, Width, apply, sum};
 pub use boxed::Boxed;
 pub use fault::{Fault, refused};
-pub use places::{LONGEST_TEXT, Pos, Refusal, START};
+pub use places::{LONG_TEXT, LONGEST_TEXT, Pos, Refusal, START};
 pub use runtime_checks::{Check, check_name, check_number, check_of};
 pub use seq::{Bytes, Seq};

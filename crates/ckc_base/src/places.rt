@@ -12,6 +12,9 @@ pub const START: Pos = Pos { line: 1, col: 1 };
 /// How many bytes a text may have.
 pub const LONGEST_TEXT: usize = 262_144;
 
+/// E201: the text has over 262,144 bytes.
+pub const LONG_TEXT: u16 = 201;
+
 /// Why a text is refused: the number of the refusal, as 120 for E120, and its place.
 #[derive(Clone, Copy, Debug)]
 pub struct Refusal {

@@ -1,6 +1,6 @@
 -- Which codes the refusals of the bounds phase have: of items and of whole texts.
-use Rattle.std.proofs.Common.{◌≡◌, subst, ℕ, List, [], ◌∷◌, map}
-use Rattle.std.specs.Prelude.{Err}
+use Rattle.std.proofs.Common.{ℕ, List, [], ◌∷◌, map}
+use Rattle.ckc_base.proofs.Codes
 use Rattle.ckc_base.specs.declared.places.Refusal.{Refusal}
 use Rattle.ckc_base.specs.Outcomes.{Outcome}
 use Rattle.ckc_syntax.specs.declared.tree.Item.TheVariants as item
@@ -18,40 +18,37 @@ use Rattle.ckc_bounds.specs.Frames.{text_frame, function_frame, begin_of}
 use Rattle.ckc_bounds.specs.Texts.{outside, object_judged, body_judged, item_judged, text_judged}
 use Rattle.ckc_bounds.specs.Phase.{bounding}
 use Rattle.ckc_statements.specs.Codes.{IsBoundsCode}
-use Rattle.ckc_statements.proofs.Coded.{HasCode, bound, listed, declared_coded, decl_coded, there_bounds_coded, init_coded, stmt_coded}
+use Rattle.ckc_statements.proofs.Coded.{HasCode, declared_coded, decl_coded, there_bounds_coded, init_coded, stmt_coded}
 
 each_coded : {X A : Type 0} (f : X → Outcome A) → ((x : X) → HasCode (f x)) → (xs : List X) → HasCode (each (map f xs))
 each_coded f h [] = tt
-each_coded f h (x ∷ xs) = bound (f x) _ (h x) (λ a. each_coded f h xs)
+each_coded f h (x ∷ xs) = Codes.bound IsBoundsCode (f x) _ (h x) (λ a. each_coded f h xs)
 
 head_coded : (frame : Frame) (h : NotedHead) → HasCode (head_judged frame h)
-head_coded frame h = bound _ _ (each_coded (bounds_there frame) (there_bounds_coded frame) h.params) (λ u. declared_coded frame holder.Result (type_written h.result) lengths.Plain h.bounds)
-
-code_of : {A : Type 0} (o : Outcome A) (r : Refusal) → HasCode o → o ≡ Err r → IsBoundsCode r.code
-code_of {A} o r h e = subst (λ (x : Outcome A). HasCode x) e h
+head_coded frame h = Codes.bound IsBoundsCode _ _ (each_coded (bounds_there frame) (there_bounds_coded frame) h.params) (λ u. declared_coded frame holder.Result (type_written h.result) lengths.Plain h.bounds)
 
 module _ (value_coded : (frame : Frame) (e : NotedExpr) (h : Here) → HasCode (value_judged frame e h)) (stores_coded : (frame : Frame) (head : HeadBounds) (ss : List NotedStmt) (first : ℕ) (h : Here) → HasCode (behind_stores frame head ss first h)) where
   object_coded : (frame : Frame) (d : NotedDecl) → HasCode (object_judged frame d)
   object_coded frame d =
-      bound _ _ (there_bounds_coded frame d) (λ b. bound _ _ (init_coded value_coded stores_coded frame d.init (outside frame)) (λ p. tt))
+      Codes.bound IsBoundsCode _ _ (there_bounds_coded frame d) (λ b. Codes.bound IsBoundsCode _ _ (init_coded value_coded stores_coded frame d.init (outside frame)) (λ p. tt))
 
   body_coded : (frame : Frame) (h : NotedHead) (body : NotedStmt) → HasCode (body_judged frame h body)
   body_coded frame h body =
       let coded = stmt_coded value_coded stores_coded body in
-      bound _ _ (coded.judged (function_frame frame h body) (head_bounds frame h) (begin_of frame h body)) (λ p. tt)
+      Codes.bound IsBoundsCode _ _ (coded.judged (function_frame frame h body) (head_bounds frame h) (begin_of frame h body)) (λ p. tt)
 
   item_coded : (frame : Frame) (i : NotedItem) → HasCode (item_judged frame i)
   item_coded frame (item.Directive d) = tt
   item_coded frame (item.Tag n at) = tt
-  item_coded frame (item.Struct n ms at) = bound _ _ (each_coded (decl_bounds frame (member_holder n)) (decl_coded frame (member_holder n)) ms) (λ u. tt)
-  item_coded frame (item.Static d) = bound _ _ (object_coded frame d) (λ e. tt)
-  item_coded frame (item.Proto h) = bound _ _ (bound _ _ (head_coded (types_in frame h.params) h) (λ b. tt)) (λ g. tt)
-  item_coded frame (item.Function h body) = bound _ _ (bound _ _ (head_coded (types_in frame h.params) h) (λ b. tt)) (λ g. bound _ _ (body_coded frame h body) (λ s. tt))
+  item_coded frame (item.Struct n ms at) = Codes.bound IsBoundsCode _ _ (each_coded (decl_bounds frame (member_holder n)) (decl_coded frame (member_holder n)) ms) (λ u. tt)
+  item_coded frame (item.Static d) = Codes.bound IsBoundsCode _ _ (object_coded frame d) (λ e. tt)
+  item_coded frame (item.Proto h) = Codes.bound IsBoundsCode _ _ (Codes.bound IsBoundsCode _ _ (head_coded (types_in frame h.params) h) (λ b. tt)) (λ g. tt)
+  item_coded frame (item.Function h body) = Codes.bound IsBoundsCode _ _ (Codes.bound IsBoundsCode _ _ (head_coded (types_in frame h.params) h) (λ b. tt)) (λ g. Codes.bound IsBoundsCode _ _ (body_coded frame h body) (λ s. tt))
 
   text_coded : (p : Typed) → HasCode (text_judged p)
   text_coded p =
       let frame = text_frame p.layout p.statics p.tree.items in
-      bound _ _ (listed (item_judged frame) (item_coded frame) p.tree.items) (λ items. tt)
+      Codes.bound IsBoundsCode _ _ (Codes.listed IsBoundsCode (item_judged frame) (item_coded frame) p.tree.items) (λ items. tt)
 
   pub codes_by : (p : Typed) (r : Refusal) → bounding.Refuses p r → IsBoundsCode r.code
-  codes_by p r refuses = code_of (text_judged p) r (text_coded p) refuses
+  codes_by p r refuses = Codes.code_of IsBoundsCode (text_judged p) r (text_coded p) refuses

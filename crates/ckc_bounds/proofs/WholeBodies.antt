@@ -1,10 +1,10 @@
 -- The judgement of a body, by the frame, the head and the begin that the code makes.
-use Rattle.std.proofs.Common.{◌≡◌, ◌∙◌, ℕ, ◌-◌, false, true, sym, ap, subst}
+use Rattle.std.proofs.Common.{◌≡◌, ◌∙◌, ℕ, ◌-◌, false, true, sym, ap}
 use Rattle.std.specs.Prelude.{Result, Ok, Err}
 use Rattle.ckc_base.specs.declared.places.Refusal.{Refusal}
 use Rattle.ckc_base.specs.declared.fault.Fault.{Fault}
-use Rattle.ckc_base.specs.declared.fault.Fault.TheVariants as fault
 use Rattle.ckc_base.specs.Outcomes.{Outcome, bind, AnswersOutcome, StepsOutcome}
+use Rattle.ckc_base.proofs.Ends.{ends}
 use Rattle.ckc_typed.specs.Trees.{NotedHead, NotedStmt}
 use Rattle.ckc_points.specs.declared.frame.HeadBounds.{HeadBounds}
 use Rattle.ckc_points.specs.declared.frame.Frame.{Frame}
@@ -12,13 +12,6 @@ use Rattle.ckc_bounds.specs.Declarations.{head_bounds}
 use Rattle.ckc_statements.specs.Paths.{Here, path}
 use Rattle.ckc_bounds.specs.Frames.{begin_in, needed_from, counted, first_fresh, frame_by, function_frame, begin_of}
 use Rattle.ckc_bounds.specs.Texts.{body_judged}
-
-ends : {A B S : Type 0} (o : Outcome (A × S)) (now : S) (whole : Outcome B) (r : Result B Fault) (y x : Fault) → r ≡ Err y → y ≡ x → StepsOutcome {A = A} (Err x) now o → ((f : Refusal) → o ≡ Err f → whole ≡ Err f) → AnswersOutcome r whole
-ends {A} {B} o now whole r y x e h a k = subst {A = Result B Fault} (λ z. AnswersOutcome z whole) (sym (e ∙ ap (λ z. Err z) h)) (by x a)
-  where
-    by : (x : Fault) → StepsOutcome {A = A} (Err x) now o → AnswersOutcome {A = B} (Err x) whole
-    by (fault.Refused f) a = k f a
-    by fault.Memory a = tt
 
 module _ (text frame : Frame) (head : HeadBounds) (h : NotedHead) (body : NotedStmt) (w : Here) (p : frame ≡ function_frame text h body) (q : head ≡ head_bounds text h) (s : w ≡ begin_of text h body) where
   abbrev first : NotedStmt × Here → Outcome NotedStmt

@@ -27,7 +27,7 @@ pub fn member_holder(name: Name) -> Holder
 }
 
 /// The bounds of the result of a function, or E603.
-pub fn result_bounds(alloc: Global, frame: &Frame, h: &Head<Name, Note>) -> Result<Bounds, Fault>
+fn result_bounds(alloc: Global, frame: &Frame, h: &Head<Name, Note>) -> Result<Bounds, Fault>
     ensures { AnswersOutcome result (result_bounds frame.now h.now) }
 {
     let t = type_written(alloc, &h.result)?;

@@ -1,6 +1,7 @@
 -- The images of texts that have a meaning.
 use Rattle.std.specs.Prelude.{ℕ, ◌+◌, ◌*◌, ◌≤◌, List, length, Vec}
 use Rattle.std.specs.declared.alloc.Global.{Global}
+pub use Rattle.ckc_compile.specs.Compiled.{most_for_a_step}
 use Rattle.ckc_base.specs.Follows.{Follows}
 use Rattle.ckc_base.specs.Phases.{Phase}
 use Rattle.ckc_rv.specs.Machine.{Parts, machine}
@@ -15,12 +16,12 @@ abbrev pub IsImage : List ℕ → Parts → Type 0
 IsImage bytes parts = ImageOf bytes parts.entry parts.code parts.initial
 
 -- The parts are those of an image of a text: for every input of bytes its machine follows the meaning of the text,
--- within 2^25 instructions for each step and as many more. Its code has four bytes for each instruction that the program
+-- within so many instructions for each step and as many more. Its code has four bytes for each instruction that the program
 -- weighs, and for five more.
 pub record Built (text : List ℕ) (parts : Parts) : Type 0 where
   pub program : Program
   pub means : HasMeaning text program
-  pub follows : (input : List ℕ) → AreBytes input → Follows (source program input) (machine parts input) 33554432
+  pub follows : (input : List ℕ) → AreBytes input → Follows (source program input) (machine parts input) most_for_a_step
   pub small : length parts.code ≤ 4 * (program_weight program + 5)
 
 -- From a text to an image of it, or to its first error. Which of its images comes is left open.

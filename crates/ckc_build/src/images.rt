@@ -5,7 +5,7 @@ ghost use Rattle.ckc_image.specs.declared.parts.Parts as parts;
 ghost use Rattle.ckc_source.specs.Code.{program_of};
 ghost use Rattle.ckc_source.specs.LaidOut.{IsLaidOut};
 ghost use Rattle.ckc_operands.specs.Compilable.{IsCompilable};
-ghost use Rattle.ckc_operands.specs.Weights.{program_weight};
+ghost use Rattle.ckc_operands.specs.Weights.{program_weight, most_weight};
 ghost use Rattle.ckc_compile.specs.Compiled.{FollowsSource, machine_parts};
 ghost use Rattle.ckc_build.specs.Built.{IsImage, building, bytes_of};
 
@@ -44,7 +44,7 @@ pub fn build(alloc: Global, text: &[u8]) -> Result<Vec<u8>, Fault>
 fn image_of(alloc: Global, p: &Program) -> Result<Vec<u8>, AllocError>
     requires form { IsCompilable (program_of p.now) }
     requires laid { IsLaidOut (program_of p.now) }
-    requires small { program_weight (program_of p.now) ≤ 4193275 }
+    requires small { program_weight (program_of p.now) ≤ most_weight }
     ensures { IfOk result (λ image. (made : parts.Parts) × FollowsSource (program_of p.now) made
         × (length made.code ≤ 4 * (program_weight (program_of p.now) + 5))
         × IsImage image.items (machine_parts made)) }

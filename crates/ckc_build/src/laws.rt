@@ -5,7 +5,7 @@ ghost use Rattle.ckc_parser.specs.Text.{SpelledTree};
 ghost use Rattle.ckc_source.specs.Blocks.{block_of};
 ghost use Rattle.ckc_source.specs.Code.{Program};
 ghost use Rattle.ckc_source.specs.LaidOut.{HoldBytes, IsLaidOut};
-ghost use Rattle.ckc_operands.specs.Weights.{program_weight};
+ghost use Rattle.ckc_operands.specs.Weights.{program_weight, most_weight};
 ghost use Rattle.ckc_build.specs.Meanings.{HasMeaning, judging, reading};
 
 use ckc_elaborate::laws::objects_are_laid_out;
@@ -39,7 +39,7 @@ pub fn programs_are_laid_out()
 /// The program of a text that has a meaning weighs no more than an image has room for: the size limits of texts see to
 /// it. So `build` refuses no such text for the size of its program.
 pub fn programs_fit()
-    ensures { (text : List ℕ) (p : Program) → HasMeaning text p → program_weight p ≤ 4193275 }
+    ensures { (text : List ℕ) (p : Program) → HasMeaning text p → program_weight p ≤ most_weight }
 {
     small_stays();
     counts_stay();

@@ -1,6 +1,7 @@
 //! Functions, the first bytes of memory, and the program.
 
 ghost use Rattle.std.specs.Prelude.{◌≡◌, ◌+◌, ◌*◌, ◌++◌, ◌≤◌, map, replicate, length, IfOk, OnOk};
+ghost use Rattle.ckc_base.specs.MemoryMap.{longest_statics};
 ghost use Rattle.ckc_base.specs.Memory.{data_start};
 ghost use Rattle.ckc_core.specs.Code.{function_of as core_function, program_of as core_program};
 ghost use Rattle.ckc_core.specs.Limits.{IsWithinLimits};
@@ -19,9 +20,8 @@ use crate::code::{front, in_order, nothing};
 use crate::rooms::room;
 use crate::statements::statements;
 use ckc_base::memory_map::{DATA_START, FIRST_PLACE};
-use ckc_base::{Bytes, Seq};
+use ckc_base::{Bytes, Seq, sum};
 use ckc_core::{Core, CoreExpr, CoreFunc, CoreStmt};
-use ckc_operands::sum;
 use ckc_source::{FunctionTree, Object, Program};
 use std::alloc::{AllocError, Global};
 
@@ -189,7 +189,7 @@ pub fn insert(alloc: Global, p: &Program) -> Result<Core, AllocError>
 
     // each loop does something in its body
     ensures loops { IfOk result (λ c. idle_loops (core_program c) ≡ 0) }
-    ensures initial { IfOk result (λ c. length c.initial ≤ 4194304) }
+    ensures initial { IfOk result (λ c. length c.initial ≤ longest_statics) }
 {
     let c = program(alloc, p)?;
     Ok(c)

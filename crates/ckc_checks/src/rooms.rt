@@ -5,7 +5,8 @@ ghost use Rattle.ckc_source.specs.Code.{code_of, expr_of, target_of, right_of, a
 ghost use Rattle.ckc_checks.specs.Inserted.{expr_room, operand_room, operands_room, target_count, target_room, guard_room, aimed_room, assigned_room, valued_room, bundle_room, room, range_room};
 ghost use Rattle.ckc_checks.specs.code.Building.{value_room_if};
 
-use ckc_operands::{casts_one, index_far, is_bounded, is_direct, keeps_index, sum, takes_range};
+use ckc_base::sum;
+use ckc_operands::{casts_one, index_far, is_bounded, is_direct, keeps_index, takes_range};
 use ckc_source::{Assign, ExprTree, RightTree, StmtTree, TargetTree};
 use std::alloc::AllocError;
 

@@ -9,9 +9,9 @@ ghost use Rattle.ckc_checks.specs.code.Building.{behind, expr_code_if, get_code,
 
 use crate::code::{expr, fork, front, in_order, nothing, place, reach};
 use crate::rooms::target_count;
-use ckc_base::{Check, Pos, Seq, Width};
+use ckc_base::{Check, Pos, Seq, Width, sum};
 use ckc_core::{CoreExpr, CoreStmt};
-use ckc_operands::{below_end, kept_in, low_byte, may_write, operand, sum};
+use ckc_operands::{below_end, kept_in, low_byte, may_write, operand};
 use ckc_source::{Access, Assign, ExprTree, Kept, RightTree, StmtTree, TargetTree, Through};
 use std::alloc::{AllocError, Global};
 

@@ -9,7 +9,7 @@ use Rattle.ckc_source.specs.Code.{Program}
 use Rattle.ckc_source.specs.LaidOut.{AreBytes}
 use Rattle.ckc_source.specs.Source.{source}
 use Rattle.ckc_build.specs.Meanings.{HasMeaning}
-use Rattle.ckc_build.specs.Built.{Built}
+use Rattle.ckc_build.specs.Built.{Built, most_for_a_step}
 use Rattle.ckc_commands.specs.declared.status.Status.{Status}
 use Rattle.ckc_commands.specs.Words.{Command}
 use Rattle.ckc_commands.specs.Running.{Seen, Ran, status_of}
@@ -85,7 +85,7 @@ IsStuckAsMeant old new command text = (p : Program) × HasMeaning text p × Over
 
 -- as many instructions as the machine needs for n steps
 abbrev pub enough : ℕ → ℕ
-enough n = 33554432 * (n + 1)
+enough n = most_for_a_step * (n + 1)
 
 -- with this input the program comes to stand so in time
 abbrev pub StandsInTime : Program → ℕ → Standing → List ℕ → Type 0

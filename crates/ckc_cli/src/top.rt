@@ -240,8 +240,9 @@ pub fn ccc<S: Source, O: Sink, E: Sink, F: Store>(
     ensures read_fault { result ≡ Status.ReadFault
         → Rose (S.seen input.old).faults (S.seen input.new).faults }
     ensures write_fault { result ≡ Status.WriteFault
-        → Rose (O.seen out.old).faults (O.seen out.new).faults
-        × Over (bytes_of words.now) (F.seen store.old).files (IsCutShort
+        → Rose (O.seen out.old).faults (O.seen out.new).faults }
+    ensures cut_short { result ≡ Status.WriteFault
+        → Over (bytes_of words.now) (F.seen store.old).files (IsCutShort
         (seen_of (S.seen input.old) (O.seen out.old))
         (seen_of (S.seen input.new) (O.seen out.new))
         (input.new ≡ input.old)) }
@@ -252,10 +253,14 @@ pub fn ccc<S: Source, O: Sink, E: Sink, F: Store>(
         → IsTrue (F.seen store.old).steady → result ≢ Status.StoreFault }
 
     // What the call leaves. Only where `interp` runs out of memory may bytes have been put or taken before.
-    ensures idle { shows_run result ≡ false → result ≢ Status.Done
+    ensures idle_quietly { shows_run result ≡ false → result ≢ Status.Done
         → ((name : List ℕ) (limit : ℕ) → result ≡ Status.Memory
         → ¬ Reads (bytes_of words.now) (Interp name limit))
-        → (out.new ≡ out.old) × (input.new ≡ input.old) }
+        → out.new ≡ out.old }
+    ensures idle_untaken { shows_run result ≡ false → result ≢ Status.Done
+        → ((name : List ℕ) (limit : ℕ) → result ≡ Status.Memory
+        → ¬ Reads (bytes_of words.now) (Interp name limit))
+        → input.new ≡ input.old }
     ensures files { ((name : List ℕ) → ¬ AsksToKeep (bytes_of words.now) name)
         → (F.seen store.new).files ≡ (F.seen store.old).files }
     ensures others { (name : List ℕ) → AsksToKeep (bytes_of words.now) name

@@ -1,7 +1,6 @@
 //! The commands, one function for each.
 ghost use Rattle.std.specs.Prelude.{◌≡◌, ℕ, ◌≤◌, List};
-ghost use Rattle.ckc_base.specs.Places.{at_start};
-ghost use Rattle.ckc_lexer.specs.Codes.{long_text};
+ghost use Rattle.ckc_base.specs.Places.{at_start, long_text};
 ghost use Rattle.ckc_commands.specs.Words as w;
 ghost use Rattle.ckc_commands.specs.Commands.{Keeps};
 ghost use Rattle.ckc_commands.specs.Running.{Seen, seen_of, putting};
@@ -13,11 +12,10 @@ ghost use Rattle.ckc_commands.specs.code.Fetching.{Fetches};
 use crate::assembly::assemble;
 use crate::run::{list_bytes, meant, run_bytes};
 use crate::status::Status;
-use ckc_base::{Fault, LONGEST_TEXT, Refusal, START};
+use ckc_base::{Fault, LONG_TEXT, LONGEST_TEXT, Refusal, START};
 use ckc_build::{build, program};
 use ckc_calls::{fetch_file, keep_file};
 use ckc_interp::interp;
-use ckc_lexer::LONG_TEXT;
 use ckc_outside::{Fetched, Sink, Source, Store, StoreError};
 use std::alloc::Global;
 use std::mem::forget;

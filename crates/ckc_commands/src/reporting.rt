@@ -92,7 +92,7 @@ fn refused_line(refusal: &Refusal) -> TextLine
 {
     let mut line = TextLine::new();
     line.push_text(b"refused: E");
-    push_number(&mut line, u32::from(refusal.code));
+    line.push_number(u32::from(refusal.code));
     line.push_text(b" at ");
     push_place(&mut line, &refusal.pos);
     line.push(b'\n');
@@ -104,7 +104,7 @@ fn bad_image_line(part: u8) -> TextLine
 {
     let mut line = TextLine::new();
     line.push_text(b"bad image: part ");
-    push_number(&mut line, u32::from(part));
+    line.push_number(u32::from(part));
     line.push(b'\n');
     line
 }
@@ -114,17 +114,9 @@ fn push_place(line: &mut TextLine, at: &Pos)
     ensures text { line.new ≡ line.old ++ place at.now }
     ensures length { length line.new ≤ length line.old + 21 }
 {
-    push_number(line, at.line);
+    line.push_number(at.line);
     line.push(b':');
-    push_number(line, at.col);
-}
-
-fn push_number(line: &mut TextLine, n: u32)
-    requires { length line.old ≤ 60 }
-    ensures text { line.new ≡ line.old ++ decimal n }
-    ensures length { length line.new ≤ length line.old + 10 }
-{
-    line.push_decimal(n);
+    line.push_number(at.col);
 }
 
 fn push_check(line: &mut TextLine, check: Check)

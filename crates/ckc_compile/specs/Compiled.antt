@@ -12,8 +12,12 @@ use Rattle.ckc_image.specs.declared.parts.Parts.{Parts}
 abbrev pub machine_parts : Parts → machine.Parts
 machine_parts parts = record { entry = parts.entry; code = parts.code; initial = parts.initial }
 
+-- how many instructions the machine takes at most for each step of a program, and once more: 2^25
+abbrev pub most_for_a_step : ℕ
+most_for_a_step = 33554432
+
 -- The machine of the parts follows the program, with every input: what the program shows after n steps the machine comes
--- to show within 2^25 * (n + 1) instructions.
+-- to show within most_for_a_step * (n + 1) instructions.
 abbrev pub FollowsSource : Program → Parts → Type 0
 FollowsSource p parts = (input : List ℕ) → AreBytes input →
-    Follows (source p input) (machine (machine_parts parts) input) 33554432
+    Follows (source p input) (machine (machine_parts parts) input) most_for_a_step

@@ -1,12 +1,12 @@
 //! The layers, one after another.
 ghost use Rattle.std.specs.Prelude.{◌≡◌, ℕ, ◌+◌, ◌*◌, ◌≤◌, List, length, IfOk};
-ghost use Rattle.ckc_base.specs.MemoryMap.{longest_data};
+ghost use Rattle.ckc_base.specs.MemoryMap.{longest_data, most_instructions, longest_statics};
 ghost use Rattle.ckc_base.specs.Follows.{Follows};
 ghost use Rattle.ckc_source.specs.Code.{program_of};
 ghost use Rattle.ckc_source.specs.LaidOut.{AreBytes, IsLaidOut};
 ghost use Rattle.ckc_source.specs.Source.{source};
 ghost use Rattle.ckc_operands.specs.Compilable.{IsCompilable};
-ghost use Rattle.ckc_operands.specs.Weights.{program_weight};
+ghost use Rattle.ckc_operands.specs.Weights.{program_weight, most_weight};
 ghost use Rattle.ckc_tac.specs.code.Meaning.{tac_meaning};
 ghost use Rattle.ckc_tac.specs.Sizes.{program_size as tac_size};
 ghost use Rattle.ckc_tac.specs.WellFormed.{IsWellFormed as IsWellFormedTac, HasFewRegisters};
@@ -34,7 +34,7 @@ fn lowered(alloc: Global, p: &Program) -> Result<Tac, AllocError>
     ensures formed { IfOk result IsWellFormedTac }
     ensures few { IfOk result HasFewRegisters }
     ensures size { IfOk result (λ t. tac_size t ≤ program_weight (program_of p.now)) }
-    ensures initial { IfOk result (λ t. length t.initial ≤ 4194304) }
+    ensures initial { IfOk result (λ t. length t.initial ≤ longest_statics) }
     ensures follows { IfOk result (λ t. (input : List ℕ) → AreBytes input →
         Follows (source (program_of p.now) input) (tac_meaning t input) 400004) }
 {
@@ -49,7 +49,7 @@ fn placed(alloc: Global, p: &Program) -> Result<Placed, AllocError>
     requires laid { IsLaidOut (program_of p.now) }
     ensures whole { IfOk result IsWellFormed }
     ensures size { IfOk result (λ q. program_size q ≤ program_weight (program_of p.now)) }
-    ensures initial { IfOk result (λ q. length q.initial ≤ 4194304) }
+    ensures initial { IfOk result (λ q. length q.initial ≤ longest_statics) }
     ensures follows { IfOk result (λ q. (input : List ℕ) → AreBytes input →
         Follows (source (program_of p.now) input) (placed_meaning q input) 400005) }
 {
@@ -61,7 +61,7 @@ fn placed(alloc: Global, p: &Program) -> Result<Placed, AllocError>
 /// The parts of placed code.
 fn assembled(alloc: Global, q: &Placed) -> Result<Parts, AllocError>
     requires whole { IsWellFormed q.now }
-    requires fits { code_size q.now ≤ 4193280 }
+    requires fits { code_size q.now ≤ most_instructions }
     requires initial { length q.now.initial ≤ longest_data }
     ensures follows { IfOk result (λ parts. FollowsPlaced q.now (machine_parts parts)) }
     ensures size { IfOk result (λ parts. length parts.code ≤ 4 * code_size q.now) }
@@ -78,7 +78,7 @@ pub fn compile(alloc: Global, p: &Program) -> Result<Parts, AllocError>
     requires form { IsCompilable (program_of p.now) }
     requires laid { IsLaidOut (program_of p.now) }
     // an image has room for 4,193,280 instructions, of which the start takes five
-    requires small { program_weight (program_of p.now) ≤ 4193275 }
+    requires small { program_weight (program_of p.now) ≤ most_weight }
     ensures follows { IfOk result (FollowsSource (program_of p.now)) }
 
     // an instruction has four bytes, and the start is five

@@ -21,7 +21,7 @@ use Rattle.ckc_syntax.specs.declared.tree.Node.{Node-F, out-Node}
 use Rattle.ckc_typed.specs.declared.environment.Amount.{Amount}
 use Rattle.ckc_typed.specs.declared.typed.Note.{Note}
 use Rattle.ckc_typed.specs.declared.typed.StaticObject.{StaticObject}
-use Rattle.ckc_typed.specs.Trees.{NotedLimits, NotedNode, NotedExpr}
+use Rattle.ckc_typed.specs.Trees.{NotedLimits, NotedNode, NotedExpr, NotedLayer}
 use Rattle.ckc_typed.specs.Types.{is_integer, element_of, kind_of, same_type}
 use Rattle.ckc_typed.specs.Environment.{kind_of_array}
 use Rattle.ckc_typed.specs.Constants.{size_of}
@@ -113,14 +113,14 @@ abbrev pub negative_amount : Option ℤ → Option Amount
 negative_amount None = None
 negative_amount (Some c) = Some (fixed c)
 
-abbrev pub sum_pieces : Structs → TreeOp → Node-F Name Note NotedLimits NotedNode NotedExpr → NotedExpr → Option Pieces
+abbrev pub sum_pieces : Structs → TreeOp → NotedLayer → NotedExpr → Option Pieces
 sum_pieces structs op.Add (Node-F.Name n) k = Some (record { name = n; by = amount structs k })
 sum_pieces structs op.Sub (Node-F.Name n) k = Some (record { name = n; by = negative_amount (negative (number_in structs k)) })
 sum_pieces structs op.Add (Node-F.Bin op.Add p x) k = named_pieces (variable_in p) (sum_amount structs op.Add x k)
 sum_pieces structs op.Sub (Node-F.Bin op.Add p x) k = named_pieces (variable_in p) (sum_amount structs op.Sub x k)
 sum_pieces structs _ _ k = None
 
-abbrev pub node_pieces : Structs → Node-F Name Note NotedLimits NotedNode NotedExpr → Option Pieces
+abbrev pub node_pieces : Structs → NotedLayer → Option Pieces
 node_pieces structs (Node-F.Name n) = Some (record { name = n; by = Some (fixed (pos 0)) })
 node_pieces structs (Node-F.Bin o e k) = sum_pieces structs o (out-Node Name Note e.node) k
 node_pieces structs _ = None

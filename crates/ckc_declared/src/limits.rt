@@ -16,11 +16,12 @@ use ckc_linear::{Base, Form};
 use ckc_points::codes::BAD_LIMITS;
 use ckc_points::{
     Bounds, Frame, base_form, constant_form, elements, is_within, local_at, moved_form,
-    same_element, sum_of_forms, variable,
+    sum_of_forms, variable,
 };
 use ckc_syntax::{Expr, Length, Limits, Name, Node, TreeOp};
 use ckc_typed::amounts::{amount, fixed, negative_in, sum_amount, variable_in};
 use ckc_typed::constants::{members_of, size_of};
+use ckc_typed::operands::same_element;
 use ckc_typed::types::{element_of, is_integer, kind_of, kind_of_array, same_type};
 use ckc_typed::{Amount, Note};
 use ckc_types::{CType, Kind, Structs};
@@ -38,7 +39,7 @@ pub enum Holder {
 
 /// An end of bounds: the pointer or array that is named, and the amount behind it, where it has a form.
 #[derive(Clone, Copy)]
-pub struct Pieces {
+struct Pieces {
     pub name: Name,
     pub by: Option<Amount>,
 }

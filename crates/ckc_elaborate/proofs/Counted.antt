@@ -2,6 +2,7 @@
 use Rattle.std.proofs.Common.{◌≡◌, Bool, true, false, List, [], ◌∷◌, ◌++◌, map, length, refl, sym, ap, ◌∙◌}
 use Rattle.std.specs.Prelude.{Option, Some, None}
 use Rattle.std.specs.List.{flat_map}
+use Rattle.ckc_base.specs.Lists.{concatenation}
 use Rattle.ckc_syntax.specs.declared.tree.Name.{Name}
 use Rattle.ckc_syntax.specs.declared.tree.Init.TheVariants as init
 use Rattle.ckc_syntax.specs.declared.tree.Item.TheVariants as item
@@ -10,7 +11,7 @@ use Rattle.ckc_syntax.specs.declared.tree.Stmt.{roll-Stmt, fold-roll-Stmt}
 use Rattle.ckc_typed.specs.declared.typed.Note.{Note}
 use Rattle.ckc_typed.specs.Trees.{NotedLimits, NotedInit, NotedDecl, NotedExpr, NotedAct, NotedStmt, NotedHead, NotedItem}
 use Rattle.ckc_typed.specs.Declarations.{is_plain}
-use Rattle.ckc_typed.specs.Statics.{Strings, joined_strings, strings_of_expr, strings_of_bounds, strings_of_value, strings_of_init, strings_of_decl, act_strings, stmt_strings, strings_of_stmt, strings_of_head, strings_of_item}
+use Rattle.ckc_typed.specs.Statics.{Strings, strings_of_expr, strings_of_bounds, strings_of_value, strings_of_init, strings_of_decl, act_strings, stmt_strings, strings_of_stmt, strings_of_head, strings_of_item}
 use Rattle.ckc_typed.proofs.ActLayers as kept
 use Rattle.ckc_typed.proofs.ActLayers.{ActSteps, ActProperty, KeptActLayer, KeptStmtLayer, inner_act, inner_stmt, act_made, stmt_made, each_stmt}
 use Rattle.ckc_values.specs.Expressions as values
@@ -61,7 +62,7 @@ KeptStmt = kept.KeptStmt counting counted
 abbrev held_act : KeptActLayer counting counted → Act-F Name Note Strings Strings
 held_act y = map-Act Name Note NotedAct NotedStmt Strings Strings strings_of_act strings_of_stmt (inner_act counting counted y)
 
-each : (ks : List KeptStmt) → all_literals (map part_of (map (λ (k : KeptStmt). k.0) ks)) ≡ length (joined_strings (map strings_of_stmt (map (λ (k : KeptStmt). k.0) ks)))
+each : (ks : List KeptStmt) → all_literals (map part_of (map (λ (k : KeptStmt). k.0) ks)) ≡ length (concatenation (map strings_of_stmt (map (λ (k : KeptStmt). k.0) ks)))
 each [] = refl
 each (k ∷ ks) = both (strings_of_stmt k.0) _ _ _ k.1 (each ks)
 

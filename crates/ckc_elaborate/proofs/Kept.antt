@@ -1,10 +1,8 @@
 -- The types phase keeps the names of the functions with a body, and the number of `main`.
-use Rattle.std.proofs.Common.{◌≡◌, Bool, true, false, List, [], ◌∷◌, map, inl, inr, refl, sym, ap, subst, ◌∙◌}
-use Rattle.std.specs.Prelude.{◌⊎◌, Ok, Err}
-use Rattle.ckc_base.specs.declared.places.Refusal.{Refusal}
+use Rattle.std.proofs.Common.{◌≡◌, Bool, true, false, List, [], ◌∷◌, map, inl, inr, sym, ap, subst, ◌∙◌}
+use Rattle.std.specs.Prelude.{◌⊎◌, Ok}
 use Rattle.ckc_base.specs.declared.arithmetic.Mode.{Mode}
 use Rattle.ckc_base.specs.declared.arithmetic.Mode.TheVariants.{Unchecked}
-use Rattle.ckc_base.specs.Outcomes.{Outcome, bind}
 use Rattle.ckc_base.proofs.Outcomes.{ok_same, made_of}
 use Rattle.ckc_syntax.specs.declared.tree.Name.{Name}
 use Rattle.ckc_syntax.specs.declared.tree.NamedText.{NamedText}
@@ -18,7 +16,8 @@ use Rattle.ckc_typed.specs.Expressions.{bounds_typed}
 use Rattle.ckc_typed.specs.Declarations.{bares_typed, static_typed}
 use Rattle.ckc_typed.specs.Statements.{stmt_typed}
 use Rattle.ckc_typed.specs.Layouts.{structs_of}
-use Rattle.ckc_typed.specs.Texts.{head_mode, result_allowed, head_with, head_typed, item_typed, items_typed, pragma_after, globals_of, laid_out, named_typed}
+use Rattle.ckc_typed.specs.Texts.{result_allowed, head_with, head_typed, item_typed, items_typed, globals_of, laid_out, named_typed}
+use Rattle.ckc_typed.specs.Walk.{head_mode, pragma_after}
 use Rattle.ckc_elaborate.specs.Bodies.{defines, IsDefined}
 
 front : {X Y : Type 0} (x y : Bool) → y ≡ x → (X → Y) → (x ≡ true) ⊎ X → (y ≡ true) ⊎ Y

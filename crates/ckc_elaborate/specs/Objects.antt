@@ -1,5 +1,5 @@
 -- Static objects and string literals as objects of a program (ISO C11, 6.2.4).
-use Rattle.std.specs.Prelude.{ℕ, Bool, true, List, [], ◌∷◌, length, Option, None, Some, is_none}
+use Rattle.std.specs.Prelude.{ℕ, Bool, true, List, [], ◌∷◌, length, Option, is_none, unwrap_or}
 use Rattle.std.specs.List.{flat_map}
 use Rattle.ckc_types.specs.declared.types.Structs.{Structs}
 use Rattle.ckc_syntax.specs.declared.tree.Item.TheVariants as item
@@ -10,10 +10,6 @@ use Rattle.ckc_typed.specs.Constants.{size_of}
 use Rattle.ckc_source.specs.declared.program.Object.{Object}
 use Rattle.ckc_elaborate.specs.Lists.{beside}
 
-abbrev pub or_run : Option Bool → Bool
-or_run None = true
-or_run (Some is_run) = is_run
-
 -- An object is as it was placed. A string literal has no declaration, and pointers with known limits may point into it.
 abbrev pub object_elaborated : Structs → Option Bool → StaticObject → Object
 object_elaborated structs is_run o = record {
@@ -22,7 +18,7 @@ object_elaborated structs is_run o = record {
   size = size_of structs o.element;
   count = o.count;
   terminated = o.terminated;
-  is_run = or_run is_run;
+  is_run = unwrap_or is_run true;
   initial = o.initial;
 }
 

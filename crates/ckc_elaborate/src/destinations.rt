@@ -12,9 +12,9 @@ ghost use Rattle.ckc_elaborate.specs.Steps.{is_terminated, memory, name_target, 
 use ckc_base::Boxed;
 use ckc_source::{Kept, TargetTree};
 use ckc_syntax::{Expr, Name, Node};
-use ckc_typed::types::kind_of;
+use ckc_typed::conversions::is_terminated;
 use ckc_typed::{Note, Variable};
-use ckc_types::{CType, Kind};
+use ckc_types::CType;
 use ckc_values::expressions::place;
 use ckc_values::kinds::width_of;
 use ckc_values::names::address_of;
@@ -29,16 +29,6 @@ pub struct Destination {
     pub target: Boxed<TargetTree>,
     pub kept: Option<Kept>,
     pub terminated: bool,
-}
-
-fn is_terminated(t: &CType) -> bool
-    ensures { result ≡ is_terminated t.now }
-{
-    match kind_of(t) {
-        Some(Kind::Nt) => true,
-        Some(Kind::Raw) | Some(Kind::One) | Some(Kind::Arr) => false,
-        None => false,
-    }
 }
 
 /// Nowhere, as the result of a call that is a statement.

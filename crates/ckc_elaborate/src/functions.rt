@@ -7,14 +7,14 @@ ghost use Rattle.ckc_elaborate.specs.Functions.{function_elaborated, functions_i
 
 use crate::literals::{in_head, in_item};
 use crate::statements::stmt;
-use crate::variables::variables_of;
-use ckc_base::Seq;
+use ckc_base::{Seq, sum};
+use ckc_environment::locals::variables_of;
 use ckc_results::result_limits;
 use ckc_source::{FunctionTree, Spot};
 use ckc_syntax::{Head, Item, Name, Stmt};
 use ckc_typed::Note;
 use ckc_typed::types::type_written;
-use ckc_values::numbers::{number, sum};
+use ckc_values::numbers::number;
 use ckc_values::texts::Text;
 use std::alloc::{AllocError, Global};
 

@@ -15,7 +15,6 @@ mod objects;
 mod shapes;
 mod statements;
 mod steps;
-mod variables;
 
 use ckc_source::Program;
 use ckc_syntax::Name;

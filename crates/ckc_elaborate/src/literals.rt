@@ -2,14 +2,14 @@
 
 ghost use Rattle.std.specs.Prelude.{◌≡◌, ◌+◌, IfOk, map};
 ghost use Rattle.std.specs.Option.{option_map};
-ghost use Rattle.ckc_typed.specs.Declarations.{is_plain};
 ghost use Rattle.ckc_elaborate.specs.Literals.{literals_of_value, literals_of_bounds, literals_of_init, literals_of_decl, literals_of_decls};
 ghost use Rattle.ckc_elaborate.specs.Statements.{part_of, part_of_act, all_literals, literals_if};
 ghost use Rattle.ckc_elaborate.specs.Functions.{literals_of_head, literals_of_item};
 
 use ckc_base::Boxed;
-use ckc_syntax::{Act, Decl, Expr, Head, Init, Item, Length, Name, Stmt};
+use ckc_syntax::{Act, Decl, Expr, Head, Init, Item, Name, Stmt};
 use ckc_typed::Note;
+use ckc_typed::types::is_plain;
 use ckc_values::literals::{in_bounds, in_expr, in_exprs};
 use std::alloc::AllocError;
 
@@ -20,15 +20,6 @@ pub fn in_value(e: &Option<Boxed<Expr<Name, Note>>>, before: u32) -> Result<u32,
     match e {
         None => Ok(before),
         Some(e) => in_expr(e.get(), before),
-    }
-}
-
-fn is_plain(length: Length) -> bool
-    ensures { result ≡ is_plain length }
-{
-    match length {
-        Length::Plain => true,
-        Length::Raw(_, _) | Length::Checked(_) | Length::Nt(_) => false,
     }
 }
 

@@ -3,10 +3,10 @@
 ghost use Rattle.std.specs.Prelude.{◌≡◌, IfOk};
 ghost use Rattle.ckc_elaborate.specs.Names.{number_of, params_of};
 
+use ckc_base::sum;
 use ckc_syntax::{Decl, Item, Name};
 use ckc_typed::Note;
-use ckc_values::names::same_name;
-use ckc_values::numbers::sum;
+use ckc_typed::lookups::same_name;
 use std::alloc::AllocError;
 
 /// The number of a function among those with a body.

@@ -1,9 +1,9 @@
 //! Static objects and string literals.
 
-ghost use Rattle.std.specs.Prelude.{◌≡◌, IfOk};
+ghost use Rattle.std.specs.Prelude.{◌≡◌, IfOk, true, unwrap_or};
 ghost use Rattle.std.specs.List.{flat_map};
 ghost use Rattle.std.specs.Option.{option_copied};
-ghost use Rattle.ckc_elaborate.specs.Objects.{or_run, object_elaborated, run_in, objects_elaborated};
+ghost use Rattle.ckc_elaborate.specs.Objects.{object_elaborated, run_in, objects_elaborated};
 
 use ckc_base::Seq;
 use ckc_source::Object;
@@ -28,7 +28,7 @@ fn runs(alloc: Global, items: &[Item<Name, Note>]) -> Result<Seq<bool>, AllocErr
 }
 
 fn or_run(is_run: Option<&bool>) -> bool
-    ensures { result ≡ or_run (option_copied is_run.entry) }
+    ensures { result ≡ unwrap_or (option_copied is_run.entry) true }
 {
     match is_run {
         None => true,

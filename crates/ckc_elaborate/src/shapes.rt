@@ -4,12 +4,11 @@ ghost use Rattle.std.specs.Prelude.{◌≡◌, ◌++◌, IfOk, OnOk};
 ghost use Rattle.std.specs.List.{flat_map, list_any};
 ghost use Rattle.ckc_elaborate.specs.Shapes.{is_bare, names, is_run, run_of, shape_of, shapes_elaborated};
 
-use ckc_base::Seq;
+use ckc_base::{Seq, sum};
 use ckc_source::{MemberRun, Shape};
 use ckc_typed::types::copied;
 use ckc_types::{MemberBounds, MemberShape, StructShape, Structs};
 use ckc_values::members::offset_of;
-use ckc_values::numbers::sum;
 use std::alloc::{AllocError, Global};
 
 fn is_bare(bounds: MemberBounds) -> bool

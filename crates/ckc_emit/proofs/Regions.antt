@@ -36,7 +36,7 @@ region_in_memory parts bytes words q x e =
     memory_data parts bytes words q p.0 p.1 ∙ ap Some r.1
 
 loaded_from : (m : base.Memory) (n : Memory) (count a v : ℕ) → ((q x : ℕ) → m q ≡ Some x → n q ≡ Some x) → base.bytes_from m count a ≡ Some v → loaded n count a ≡ Some v
-unfolding loaded base.bytes_from
+unfolding loaded
 loaded_from m n zero a v h e = e
 loaded_from m n (suc count) a v h e =
     more_read (m a) (n a) (base.bytes_from m count (a + 1)) (loaded n count (a + 1)) v (h a) (λ x. loaded_from m n count (a + 1) x h) e

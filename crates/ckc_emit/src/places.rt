@@ -50,7 +50,7 @@ pub fn source(place: Place, scratch: u8) -> u8
 }
 
 /// Loads a slot into a scratch register; a register has its value already.
-pub fn put_read(out: &mut Vec<Line>, place: Place, scratch: u8) -> Result<(), AllocError>
+fn put_read(out: &mut Vec<Line>, place: Place, scratch: u8) -> Result<(), AllocError>
     requires { IsPlace place }
     ensures { OnOk result (Emits out.old.items out.new.items (read_lines place scratch)) }
 {

@@ -1,6 +1,6 @@
 //! The lines of a program.
 ghost use Rattle.std.specs.Prelude.{◌≡◌, ◌*◌, ◌≤◌, ◌<◌, ◌^◌, length, sum_by, All, IfOk, OnOk};
-ghost use Rattle.ckc_base.specs.MemoryMap.{longest_data};
+ghost use Rattle.ckc_base.specs.MemoryMap.{longest_data, most_instructions};
 ghost use Rattle.ckc_lines.specs.Assembled.{size_of, CanAssemble};
 ghost use Rattle.ckc_frame.specs.WellFormed.{IsWellFormed};
 ghost use Rattle.ckc_emit.specs.Emitting.{Emits};
@@ -21,7 +21,7 @@ use std::alloc::{AllocError, Global};
 /// The labelled lines of placed code, or want of memory.
 pub fn emit(alloc: Global, p: &Placed) -> Result<Labelled, AllocError>
     requires whole { IsWellFormed p.now }
-    requires fits { code_size p.now ≤ 4193280 }
+    requires fits { code_size p.now ≤ most_instructions }
     requires initial { length p.now.initial ≤ longest_data }
     ensures lines { IfOk result (λ l. l ≡ labelled_program p.now) }
     ensures can { IfOk result (λ l. CanAssemble l.lines l.start l.initial) }

@@ -10,7 +10,7 @@ use ckc_templates::{lower, near, put, put_ask, put_constant, upper};
 use std::alloc::AllocError;
 
 /// How many instructions set a register to a word.
-pub fn constant_count(v: u32) -> u32
+fn constant_count(v: u32) -> u32
     ensures { result ≡ count_of v }
 {
     if upper(v) == 0 || lower(v) == 0 { 1 } else { 2 }

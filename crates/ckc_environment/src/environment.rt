@@ -22,7 +22,7 @@ fn object_declared(alloc: Global, d: &Decl<Name, ()>) -> Result<Object, AllocErr
 }
 
 /// The variable that a declaration makes.
-pub fn variable_declared(alloc: Global, d: &Decl<Name, ()>) -> Result<Variable, AllocError>
+pub fn variable_declared<A>(alloc: Global, d: &Decl<Name, A>) -> Result<Variable, AllocError>
     ensures { IfOk result (λ v. v ≡ variable_declared d.now) }
 {
     let ctype = type_written(alloc, &d.ctype)?;
@@ -44,7 +44,10 @@ fn types_declared(alloc: Global, ds: &[Decl<Name, ()>]) -> Result<Seq<CType>, Al
 }
 
 /// The variables that declarations make: parameters or members.
-pub fn variables_declared(alloc: Global, ds: &[Decl<Name, ()>]) -> Result<Seq<Variable>, AllocError>
+pub fn variables_declared<A>(
+    alloc: Global,
+    ds: &[Decl<Name, A>],
+) -> Result<Seq<Variable>, AllocError>
     ensures { IfOk result (λ vs. vs ≡ map variable_declared ds.now) }
 {
     let mut all = Seq::new(alloc);

@@ -1,7 +1,8 @@
 //! The locals that a function declares.
 
 ghost use Rattle.std.specs.Prelude.{◌≡◌, [], ◌∷◌, ◌++◌, IfOk, OnOk, map};
-ghost use Rattle.ckc_typed.specs.Environment.{variable_declared, joined_variables, locals_of, locals_of_act, locals_of_part, variables_of};
+ghost use Rattle.ckc_base.specs.Lists.{concatenation};
+ghost use Rattle.ckc_typed.specs.Environment.{variable_declared, locals_of, locals_of_act, locals_of_part, variables_of};
 
 use crate::environment::{variable_declared, variables_declared};
 use ckc_base::{Boxed, Seq};
@@ -9,7 +10,7 @@ use ckc_syntax::{Act, Decl, Head, Name, Stmt};
 use ckc_typed::Variable;
 use std::alloc::{AllocError, Global};
 
-fn add_local(alloc: Global, all: &mut Seq<Variable>, d: &Decl<Name, ()>) -> Result<(), AllocError>
+fn add_local<A>(alloc: Global, all: &mut Seq<Variable>, d: &Decl<Name, A>) -> Result<(), AllocError>
     ensures { OnOk result (all.new ≡ all.old ++ variable_declared d.now ∷ []) }
 {
     let v = variable_declared(alloc, d)?;
@@ -17,11 +18,12 @@ fn add_local(alloc: Global, all: &mut Seq<Variable>, d: &Decl<Name, ()>) -> Resu
 }
 
 #[cycle(locals)]
-fn add_act(alloc: Global, all: &mut Seq<Variable>, act: &Act<Name, ()>) -> Result<(), AllocError>
+fn add_act<A>(alloc: Global, all: &mut Seq<Variable>, act: &Act<Name, A>) -> Result<(), AllocError>
     ensures { OnOk result (all.new ≡ all.old ++ locals_of_act act.now) }
 {
     match act {
-        Act::Block(_, ss) | Act::Bundle(ss) => add_stmts(alloc, all, ss.as_slice()),
+        Act::Block(_, ss) => add_stmts(alloc, all, ss.as_slice()),
+        Act::Bundle(ss) => add_stmts(alloc, all, ss.as_slice()),
         Act::Local(d) => add_local(alloc, all, d.get()),
         Act::If(_, s, t) => {
             add_stmt(alloc, all, s.get())?;
@@ -39,19 +41,19 @@ fn add_act(alloc: Global, all: &mut Seq<Variable>, act: &Act<Name, ()>) -> Resul
 }
 
 #[cycle(locals)]
-fn add_stmt(alloc: Global, all: &mut Seq<Variable>, s: &Stmt<Name, ()>) -> Result<(), AllocError>
+fn add_stmt<A>(alloc: Global, all: &mut Seq<Variable>, s: &Stmt<Name, A>) -> Result<(), AllocError>
     ensures { OnOk result (all.new ≡ all.old ++ locals_of s.now) }
 {
     add_act(alloc, all, &s.body)
 }
 
 #[cycle(locals)]
-fn add_stmts(
+fn add_stmts<A>(
     alloc: Global,
     all: &mut Seq<Variable>,
-    ss: &[Stmt<Name, ()>],
+    ss: &[Stmt<Name, A>],
 ) -> Result<(), AllocError>
-    ensures { OnOk result (all.new ≡ all.old ++ joined_variables (map locals_of ss.now)) }
+    ensures { OnOk result (all.new ≡ all.old ++ concatenation (map locals_of ss.now)) }
 {
     for s in ss {
         add_stmt(alloc, all, s)?;
@@ -60,10 +62,10 @@ fn add_stmts(
 }
 
 #[cycle(locals)]
-fn add_part(
+fn add_part<A>(
     alloc: Global,
     all: &mut Seq<Variable>,
-    part: &Option<Boxed<Stmt<Name, ()>>>,
+    part: &Option<Boxed<Stmt<Name, A>>>,
 ) -> Result<(), AllocError>
     ensures { OnOk result (all.new ≡ all.old ++ locals_of_part part.now) }
 {
@@ -74,10 +76,10 @@ fn add_part(
 }
 
 /// What an expression in a function sees: its parameters and its locals.
-pub fn variables_of(
+pub fn variables_of<A>(
     alloc: Global,
-    h: &Head<Name, ()>,
-    body: &Stmt<Name, ()>,
+    h: &Head<Name, A>,
+    body: &Stmt<Name, A>,
 ) -> Result<Seq<Variable>, AllocError>
     ensures { IfOk result (λ vs. vs ≡ variables_of h.now body.now) }
 {

@@ -6,8 +6,8 @@ ghost use Rattle.ckc_typed.specs.Environment.{same_name, object_named, signature
 ghost use Rattle.ckc_environment.specs.Numbered.{is_place, place_of_object, place_of_function, objects_numbered, functions_numbered};
 ghost use Rattle.ckc_environment.specs.code.Numbered.{at_place};
 
-use crate::names::same_name;
 use ckc_syntax::Name;
+use ckc_typed::lookups::same_name;
 use ckc_typed::{Globals, Object, Signature};
 use ckc_types::Structs;
 use std::marker::Model;

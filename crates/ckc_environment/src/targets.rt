@@ -6,11 +6,11 @@ ghost use Rattle.ckc_typed.specs.Environment.{object_named};
 ghost use Rattle.ckc_typed.specs.Expressions.{is_no_array, is_target_op, is_placed, is_object, has_address, is_no_allocation};
 ghost use Rattle.ckc_typed.specs.Statements.{is_variable_form, is_named, is_function, is_text_call, is_target, is_result};
 
-use crate::lookups::variable_named;
 use crate::scope::FileScope;
 use ckc_base::Boxed;
 use ckc_syntax::{Expr, Name, Node, TreeOp};
 use ckc_typed::conversions::converts;
+use ckc_typed::lookups::variable_named;
 use ckc_typed::types::{is_integer, is_object_type, is_scalar, is_void, same_type};
 use ckc_typed::{Note, Variable};
 use ckc_types::CType;

@@ -3,8 +3,9 @@
 ghost use Rattle.std.specs.Prelude.{◌≡◌, ◌%◌, ◌^◌, Ok};
 ghost use Rattle.ckc_source.specs.Eval.{plain, at_address, exact_element, in_range, element, place_in, moved_exactly, moves_checked, moves, operates, tests_within, tests};
 
-use crate::arithmetic::{as_address, computed, divides, elements_behind, exact};
+use crate::arithmetic::{as_address, computed, elements_behind, exact};
 use ckc_base::{Check, Pos};
+use ckc_source::operators::divides;
 use ckc_source::{Access, Halt, Integer, Operation, Range, Shift, Through, Value};
 
 /// A value without a range.

@@ -1,9 +1,10 @@
 //! Arithmetic on integers and addresses.
 
-ghost use Rattle.std.specs.Prelude.{◌≡◌, pos, negsuc, ◌≤ℤ◌, ◌<ℤ◌, ◌^◌, if◌then◌else◌};
-ghost use Rattle.ckc_source.specs.Words.{exact, as_address, elements_behind, operator, computed, divides};
+ghost use Rattle.std.specs.Prelude.{◌≡◌, pos, negsuc, ◌≤ℤ◌, ◌<ℤ◌, ◌^◌};
+ghost use Rattle.ckc_source.specs.Words.{exact, as_address, elements_behind, computed};
 
 use ckc_base::{BinOp, apply};
+use ckc_source::operators::operator;
 use ckc_source::{Integer, Operation};
 
 /// The integer that a word of the type stands for.
@@ -41,37 +42,6 @@ pub fn elements_behind(a: u32, size: u32, count: i64) -> i128
     i128::from(a) + i128::from(size) * i128::from(count)
 }
 
-/// The operation on words, by whether the operands are signed.
-fn operator(operation: Operation, is_signed: bool) -> BinOp
-    ensures { result ≡ operator operation is_signed }
-{
-    match operation {
-        Operation::Add => BinOp::Add,
-        Operation::Sub => BinOp::Sub,
-        Operation::Mul => BinOp::Mul,
-        Operation::Div => chosen(is_signed, BinOp::DivS, BinOp::DivU),
-        Operation::Rem => chosen(is_signed, BinOp::RemS, BinOp::RemU),
-        Operation::And => BinOp::And,
-        Operation::Or => BinOp::Or,
-        Operation::Xor => BinOp::Xor,
-        Operation::Shl => BinOp::Shl,
-        Operation::Shr => chosen(is_signed, BinOp::ShrS, BinOp::ShrU),
-        Operation::Lt => chosen(is_signed, BinOp::LtS, BinOp::LtU),
-        Operation::Le => chosen(is_signed, BinOp::LtS, BinOp::LtU),
-        Operation::Gt => chosen(is_signed, BinOp::LtS, BinOp::LtU),
-        Operation::Ge => chosen(is_signed, BinOp::LtS, BinOp::LtU),
-        Operation::Eq => BinOp::Eq,
-        Operation::Ne => BinOp::Ne,
-    }
-}
-
-/// The first where the flag says so, and else the second.
-fn chosen(first: bool, one: BinOp, two: BinOp) -> BinOp
-    ensures { result ≡ (if first then one else two) }
-{
-    if first { one } else { two }
-}
-
 /// What an operation gives.
 pub fn computed(operation: Operation, is_signed: bool, a: u32, b: u32) -> u32
     ensures { result ≡ computed operation is_signed a b }
@@ -83,11 +53,4 @@ pub fn computed(operation: Operation, is_signed: bool, a: u32, b: u32) -> u32
         Operation::Ge => apply(BinOp::Eq, apply(op, a, b), 0),
         _ => apply(op, a, b),
     }
-}
-
-/// Whether an operation has a divisor.
-pub fn divides(operation: Operation) -> bool
-    ensures { result ≡ divides operation }
-{
-    matches!(operation, Operation::Div | Operation::Rem)
 }

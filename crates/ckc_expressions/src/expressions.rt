@@ -228,7 +228,7 @@ pub fn posts<'a>(
 
 /// One of `[e]`, `.m` and `->m` behind an expression.
 #[cycle(expr)]
-pub fn post<'a>(
+fn post<'a>(
     reader: &mut Reader<'a>,
     alloc: Global,
     base: Expression<'a>,

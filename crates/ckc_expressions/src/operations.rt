@@ -37,7 +37,7 @@ fn less<'a>(reader: &mut Reader<'a>) -> Result<Operation, Stop>
 }
 
 /// A binary operator but `<`.
-pub fn operation_but_less<'a>(reader: &mut Reader<'a>) -> Result<Operation, Stop>
+fn operation_but_less<'a>(reader: &mut Reader<'a>) -> Result<Operation, Stop>
     ensures parses { Parses (λ x. operator x.op x.pos) (g.n g.operation_but_less) (ahead reader.old)
         result (ahead reader.new) }
     ensures fewer { MatchResult result (λ x. remaining reader.new < remaining reader.old)

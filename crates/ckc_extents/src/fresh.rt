@@ -3,15 +3,15 @@
 ghost use Rattle.std.specs.Prelude.{◌≡◌, ◌++◌, [], map, OnOk, IfOk, MatchOption};
 ghost use Rattle.std.specs.Option.{option_map};
 ghost use Rattle.ckc_points.specs.Shown.{known};
-ghost use Rattle.ckc_points.specs.Flow.{state, range_of, with_range};
+ghost use Rattle.ckc_points.specs.Flow.{state};
 ghost use Rattle.ckc_views.specs.Parts.{capped, next_behind, fresh_behind};
 ghost use Rattle.ckc_views.specs.Fresh.{own_fresh, fresh_there, all_fresh, right_fresh, with_types};
 ghost use Rattle.ckc_views.specs.Views.{view, view_of_limits, view_of_node};
 
 use crate::amounts::has_form;
 use ckc_base::{Boxed, Seq};
-use ckc_linear::{Fact, Facts};
-use ckc_points::{Frame, Point, Work, add_fact, range_of};
+use ckc_linear::Facts;
+use ckc_points::{Frame, Point, Work, add_range};
 use ckc_syntax::{Expr, Limits, Name, Node, TreeOp};
 use ckc_typed::Note;
 use ckc_types::CType;
@@ -162,7 +162,7 @@ fn add_of_node(
 /// Adds the types of the fresh variables that an expression needs at a point, in walk order.
 #[cycle(add_fresh)]
 #[tactic(auto, using(crate::proofs::Joined::joined, crate::proofs::Joined::joined_last))]
-pub fn add_fresh(
+fn add_fresh(
     work: &mut Work,
     frame: &Frame,
     at: &Point,
@@ -215,21 +215,6 @@ pub fn fresh_behind(
     let mut all = Seq::new(work.alloc);
     add_fresh(work, frame, at, e, &mut all)?;
     Ok(next_behind(first, all.as_slice()))
-}
-
-/// Adds the range of a variable's type.
-fn add_range(facts: &mut Facts, x: u32, t: &CType) -> Result<(), AllocError>
-    ensures { OnOk result (known facts.new ≡ with_range x (range_of t.now) (known facts.old)) }
-{
-    match range_of(t) {
-        Some(r) => {
-            let c = i64::from(r.high);
-            add_fact(facts, Fact { x, y: 0, c })?;
-            let c = -i64::from(r.low);
-            add_fact(facts, Fact { x: 0, y: x, c })
-        }
-        None => Ok(()),
-    }
 }
 
 fn add_types(facts: &mut Facts, first: u32, types: &[CType]) -> Result<(), AllocError>

@@ -6,5 +6,5 @@ mod fresh;
 mod ranges;
 
 pub use amounts::element_size;
-pub use fresh::{add_fresh, add_fresh_ranges, fresh_behind};
-pub use ranges::{allocates, is_null, range, range_by_type, range_of_one};
+pub use fresh::{add_fresh_ranges, fresh_behind};
+pub use ranges::{allocates, is_null, range};

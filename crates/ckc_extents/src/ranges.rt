@@ -15,9 +15,10 @@ use crate::amounts::{amount, count_allocated, element_size};
 use crate::fresh::{behind_parts, fresh_behind};
 use ckc_base::{Boxed, Bytes, Seq};
 use ckc_linear::{Base, Facts, Form};
-use ckc_points::{Bounds, Frame, Point, Work, constant_form, moved_form, same_element};
+use ckc_points::{Bounds, Frame, Point, Work, constant_form, moved_form};
 use ckc_ranges::{range_from, range_of_array, range_of_ends, range_of_local, replaced_bounds};
 use ckc_syntax::{Expr, Limits, Name, Node, TreeOp};
+use ckc_typed::operands::same_element;
 use ckc_typed::types::{is_pointer, kind_of};
 use ckc_typed::{Note, Range};
 use ckc_types::{CType, Kind, MemberBounds, Structs};
@@ -28,14 +29,14 @@ use ckc_views::{
 use std::alloc::AllocError;
 
 /// One element, from a value on.
-pub fn range_of_one(own: u32) -> Range
+fn range_of_one(own: u32) -> Range
     ensures { result ≡ range_of_one own }
 {
     range_from(Base::Value(own), constant_form(1))
 }
 
 /// The range of a pointer of a type where no bounds are written.
-pub fn range_by_type(t: &CType, own: u32) -> Range
+fn range_by_type(t: &CType, own: u32) -> Range
     ensures { result ≡ range_by_type (kind_of t.now) own }
 {
     match kind_of(t) {

@@ -25,7 +25,7 @@ use Rattle.ckc_resolve.specs.Declarations.{init_named, local_named}
 use Rattle.ckc_resolve.specs.Statements.{body_named}
 use Rattle.ckc_resolve.specs.Phase.{text_named}
 use Rattle.ckc_welltyped.specs.Productions.{limits_callless, node_callless, expr_callless, callless_limits, callless_expr, callless_bounds, callless_value, call_form, is_call, is_right, callless_init, right_init, given_decl, given_local, Given, other, begins, steps, given_act, given_in, given_stmt, given_head, given_item, given_tree}
-use Rattle.ckc_fit.proofs.Gives.{Gives, given_from, bound}
+use Rattle.ckc_base.proofs.Gives.{Gives, given_from, bound}
 use Rattle.ckc_fit.proofs.NamedNodes as nodes
 use Rattle.ckc_fit.proofs.NamedNodes.{LimitsOf, NamedLimitsOf, NodeOf, NamedNodeOf, OfExprs, Each, Maybe, LimitsNamed, NodeNamed}
 use Rattle.ckc_fit.proofs.NamedActs as acts

@@ -1,7 +1,7 @@
 -- What a name means is declared by some item of the text, or is visible.
 use Rattle.std.proofs.Common.{◌≡◌, inl, inr, ◌∙◌, ℕ, ◌+◌, ◌<◌, ◌==◌, nat_lt, sym, ap, refl, subst, cond, Bool, true, false, not, ◌||◌, List, [], ◌∷◌, length, map, arith}
 use Rattle.std.specs.Prelude.{◌⊎◌, Ok, Option, Some, None, fold, codes}
-use Rattle.std.specs.Option.{option_map}
+use Rattle.std.specs.Option.{option_map, option_or}
 use Rattle.std.specs.List.{list_any, prefix_len, flat_map}
 use Rattle.std.specs.Str.{bytes_eq}
 use Rattle.std.specs.Cmp.{unsigned_Decides}
@@ -17,7 +17,7 @@ use Rattle.ckc_resolve.specs.declared.visible.Entry.{Entry}
 use Rattle.ckc_resolve.specs.Spellings.{Spelling, is_among, with_spelling, number_of, place_of}
 use Rattle.ckc_resolve.specs.Trees.{Tree, Item, Decl, NamedDecl, NamedItem}
 use Rattle.ckc_resolve.specs.Scoping.{noted, no_names, names_of, with_member, found}
-use Rattle.ckc_resolve.specs.Meanings.{or_else, static_of, function_of, built_in, of_file, meaning_of, member_of, tag_of}
+use Rattle.ckc_resolve.specs.Meanings.{static_of, function_of, built_in, of_file, meaning_of, member_of, tag_of}
 use Rattle.ckc_resolve.specs.Phase.{text_named}
 use Rattle.ckc_fit.specs.Numbers.{static_in, function_in, tag_in, static_numbers, function_numbers}
 use Rattle.ckc_fit.specs.Numbers as numbers
@@ -25,7 +25,7 @@ use Rattle.ckc_fit.specs.Members.{member_in, decl_member, item_members}
 use Rattle.ckc_fit.specs.Visible.{is_one_of, is_of_file, is_visible, is_declared_member, struct_of, has_body, NamesAreVisible, TagsHaveBodies}
 use Rattle.ckc_fit.proofs.Spelt.{or_left, or_right, noted_one}
 use Rattle.ckc_fit.proofs.NamedItems as items
-use Rattle.ckc_fit.proofs.NamedItems.{DeclNamed, MembersNamed, HeadNamed, ItemNamed, ItemsNamed, text_is}
+use Rattle.ckc_fit.proofs.NamedItems.{MembersNamed, ItemNamed, ItemsNamed, text_is}
 use Rattle.ckc_fit.proofs.TestsPass.{names_in, items_seen}
 
 -- ---- numbers and spellings
@@ -190,7 +190,7 @@ module _ (tree : Tree) (n : NamedText) (e : text_named tree ≡ Ok n) where
   member_there : (s : Spelling) → is_among names.members s ≡ true → is_one_of (flat_map item_members made) (number_of names.members s) ≡ true
   member_there s h = none_before s (declared names tree.items (λ (m : Names). m.members) (number_of names.members) item_members (members_each names tree.items) no_names tree.items made are s h)
 
-  or_else_is : (o p : Option Name) (m : Name) → or_else o p ≡ Some m → (o ≡ Some m) ⊎ (p ≡ Some m)
+  or_else_is : (o p : Option Name) (m : Name) → option_or o p ≡ Some m → (o ≡ Some m) ⊎ (p ≡ Some m)
   or_else_is (Some k) p m h = inl h
   or_else_is None p m h = inr h
 
@@ -215,9 +215,9 @@ module _ (tree : Tree) (n : NamedText) (e : text_named tree ≡ Ok n) where
   file_passes : (s : Spelling) (m : Name) → of_file names s ≡ Some m → is_of_file made m ≡ true
   file_passes s m = by (bytes_eq s (codes "calloc"))
     where
-      by : (b : Bool) → cond b None (or_else (static_of names s) (or_else (function_of names s) (built_in s))) ≡ Some m → is_of_file made m ≡ true
+      by : (b : Bool) → cond b None (option_or (static_of names s) (option_or (function_of names s) (built_in s))) ≡ Some m → is_of_file made m ≡ true
       by true h = absurd cc
-      by false h = elim (or_else_is (static_of names s) (or_else (function_of names s) (built_in s)) m h) [
+      by false h = elim (or_else_is (static_of names s) (option_or (function_of names s) (built_in s)) m h) [
         | inl e ↦ static_passes s m e
         | inr e ↦ elim (or_else_is (function_of names s) (built_in s) m e) [ inl f ↦ function_passes s m f | inr f ↦ built_in_passes s m f ]
       ]

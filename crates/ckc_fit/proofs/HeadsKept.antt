@@ -1,10 +1,10 @@
 -- What a head becomes does not depend on its places but for its own: naming it without them gives what it becomes without
 -- them.
-use Rattle.std.proofs.Common.{◌≡◌, ℕ, sym, ap, refl, ◌∙◌, List, [], ◌∷◌, map, Bool, false}
+use Rattle.std.proofs.Common.{◌≡◌, sym, ap, refl, ◌∙◌, List, [], ◌∷◌, map, Bool, false}
 use Rattle.std.specs.Prelude.{Ok, Option, Some, None, fold}
 use Rattle.ckc_base.specs.declared.places.Pos.{Pos}
 use Rattle.ckc_base.specs.Places.{start}
-use Rattle.ckc_base.specs.Outcomes.{Outcome, bind, in_order, there_or}
+use Rattle.ckc_base.specs.Outcomes.{Outcome, bind, in_order}
 use Rattle.ckc_syntax.specs.declared.tree.Name.{Name}
 use Rattle.ckc_syntax.specs.declared.tree.Name.TheVariants as name
 use Rattle.ckc_syntax.specs.declared.tree.TypeTree.{map-TypeTree, roll-TypeTree, fold-roll-TypeTree, TypeTree-F}
@@ -26,19 +26,12 @@ use Rattle.ckc_resolve.specs.Types.{type_parts, type_named}
 use Rattle.ckc_resolve.specs.Expressions.{OfLimits, OfNode, OfExpr, limits_parts, node_parts, expr_parts, limits_named, node_named, expr_named, bounds_named}
 use Rattle.ckc_resolve.specs.Declarations.{init_named, decl_named, unless_taken}
 use Rattle.ckc_resolve.specs.Heads.{with_param, param_scope, params_named, head_named}
-use Rattle.ckc_fit.proofs.Gives.{Gives, given_from, bound}
+use Rattle.ckc_base.proofs.Outcomes.{is_there, after}
+use Rattle.ckc_base.proofs.Gives.{Gives, given_from, bound}
 use Rattle.ckc_fit.proofs.NamedNodes as nodes
 use Rattle.ckc_fit.proofs.NamedNodes.{TypeOf, NamedTypeOf, TypeNamed, LimitsOf, NamedLimitsOf, NodeOf, NamedNodeOf, OfExprs, Each, Maybe, LimitsNamed, NodeNamed}
 use Rattle.ckc_fit.proofs.NamedItems as items
 use Rattle.ckc_fit.proofs.NamedItems.{DeclNamed, ParamsNamed, HeadNamed}
-
--- what there is is given at any place
-there : {A : Type 0} {o : Option A} {a : A} (code : ℕ) (pos : Pos) → o ≡ Some a → there_or code pos o ≡ Ok a
-there code pos is = ap (there_or code pos) is
-
--- a part that is given, and what is made of it
-after : {A B : Type 0} {o : Outcome A} {a : A} (f : A → Outcome B) → o ≡ Ok a → bind o f ≡ f a
-after f is = ap (λ o. bind o f) is
 
 module _ (names : Names) where
   -- ---- types
@@ -60,7 +53,7 @@ module _ (names : Names) where
   type_step x d nodes.unsigned = ap Ok (sym ctype.rolls-Unsigned)
   type_step x d nodes.char = ap Ok (sym ctype.rolls-Char)
   type_step x d nodes.void = ap Ok (sym ctype.rolls-Void)
-  type_step x d (nodes.struct s n pos is) = after _ (there undeclared start is) ∙ ap Ok (sym (ctype.rolls-Struct n start))
+  type_step x d (nodes.struct s n pos is) = after _ (is_there undeclared start _ _ is) ∙ ap Ok (sym (ctype.rolls-Struct n start))
   type_step x d (nodes.raw pos h) = after _ h ∙ ap Ok (sym (ctype.rolls-Raw _ start))
   type_step x d (nodes.one h) = after _ h ∙ ap Ok (sym (ctype.rolls-One _))
   type_step x d (nodes.arr h) = after _ h ∙ ap Ok (sym (ctype.rolls-Arr _))
@@ -132,20 +125,20 @@ module _ (names : Names) where
     node_step x d (nodes.number n unsigned) pos = ap Ok (sym (node.rolls-Number n unsigned))
     node_step x d (nodes.text bytes) pos = ap Ok (sym (node.rolls-Text bytes))
     node_step x d nodes.null pos = ap Ok (sym node.rolls-Null)
-    node_step x d (nodes.name s n is) pos = after _ (there undeclared pos is) ∙ ap Ok (sym (node.rolls-Name n))
+    node_step x d (nodes.name s n is) pos = after _ (is_there undeclared pos _ _ is) ∙ ap Ok (sym (node.rolls-Name n))
     node_step x d (nodes.un op h) pos = after _ (expr_is _ _ h) ∙ ap Ok (sym (node.rolls-Un op _))
     node_step x d (nodes.bin op h i) pos = after _ (expr_is _ _ h) ∙ after _ (expr_is _ _ i) ∙ ap Ok (sym (node.rolls-Bin op _ _))
     node_step x d (nodes.pick h g f) pos = after _ (expr_is _ _ h) ∙ after _ (expr_is _ _ g) ∙ after _ (expr_is _ _ f) ∙ ap Ok (sym (node.rolls-Pick _ _ _))
     node_step x d (nodes.index h i) pos = after _ (expr_is _ _ h) ∙ after _ (expr_is _ _ i) ∙ ap Ok (sym (node.rolls-Index _ _))
-    node_step x d (nodes.dot s n at h is) pos = after _ (expr_is _ _ h) ∙ after _ (there undeclared start is) ∙ ap Ok (sym (node.rolls-Dot _ n start))
-    node_step x d (nodes.arrow s n at h is) pos = after _ (expr_is _ _ h) ∙ after _ (there undeclared start is) ∙ ap Ok (sym (node.rolls-Arrow _ n start))
+    node_step x d (nodes.dot s n at h is) pos = after _ (expr_is _ _ h) ∙ after _ (is_there undeclared start _ _ is) ∙ ap Ok (sym (node.rolls-Dot _ n start))
+    node_step x d (nodes.arrow s n at h is) pos = after _ (expr_is _ _ h) ∙ after _ (is_there undeclared start _ _ is) ∙ ap Ok (sym (node.rolls-Arrow _ n start))
     node_step x d (nodes.cast t u is h) pos = after _ (type_kept t u is) ∙ after _ (expr_is _ _ h) ∙ ap Ok (sym (node.rolls-Cast _ _))
     node_step x d (nodes.size t u is) pos = after _ (type_kept t u is) ∙ ap Ok (sym (node.rolls-Size _))
     node_step x d (nodes.trusted t u is h nodes.nothing) pos = after _ (type_kept t u is) ∙ after _ (expr_is _ _ h) ∙ ap Ok (sym (node.rolls-Trusted _ _ None))
     node_step x d (nodes.trusted t u is h (nodes.just i)) pos = after _ (type_kept t u is) ∙ after _ (expr_is _ _ h) ∙ after _ (after _ i) ∙ ap Ok (sym (node.rolls-Trusted _ _ (Some _)))
     node_step x d (nodes.tested t u is h nodes.nothing) pos = after _ (type_kept t u is) ∙ after _ (expr_is _ _ h) ∙ ap Ok (sym (node.rolls-Tested _ _ None))
     node_step x d (nodes.tested t u is h (nodes.just i)) pos = after _ (type_kept t u is) ∙ after _ (expr_is _ _ h) ∙ after _ (after _ i) ∙ ap Ok (sym (node.rolls-Tested _ _ (Some _)))
-    node_step x d (nodes.call s n hs is) pos = after _ (args_kept _ _ hs) ∙ after _ (there undeclared pos is) ∙ ap Ok (sym (node.rolls-Call n _))
+    node_step x d (nodes.call s n hs is) pos = after _ (args_kept _ _ hs) ∙ after _ (is_there undeclared pos _ _ is) ∙ ap Ok (sym (node.rolls-Call n _))
     node_step x d (nodes.calloc t u v w is h js) pos = after _ (type_kept t v is) ∙ after _ (expr_is _ _ h) ∙ after _ (type_kept u w js) ∙ ap Ok (sym (node.rolls-Calloc _ _ _))
 
     nodes_closed : (x : NodeOf) (d : NamedNodeOf) → NodeNamed names scopes LimitsKept (OfExprs NodeKept) x d → NodeKept (roll-Node Spelling (Unit {0}) x) (roll-Node Name (Unit {0}) d)

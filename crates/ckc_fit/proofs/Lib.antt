@@ -1,4 +1,3 @@
-pub mod Gives
 pub mod Spelt
 pub mod Different
 pub mod NamedNodes

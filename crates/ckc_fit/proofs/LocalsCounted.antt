@@ -18,11 +18,11 @@ use Rattle.ckc_resolve.specs.Statements.{body_named}
 use Rattle.ckc_resolve.specs.Phase.{text_named}
 use Rattle.ckc_fit.specs.Numbers.{CountsFrom}
 use Rattle.ckc_fit.specs.Locals.{local_in, decl_local, act_locals, locals_in, stmt_locals, head_locals, item_locals}
-use Rattle.ckc_fit.proofs.Gives.{given_from}
+use Rattle.ckc_base.proofs.Gives.{given_from}
 use Rattle.ckc_fit.proofs.NamedActs as acts
 use Rattle.ckc_fit.proofs.NamedActs.{ActOf, NamedActOf, StmtsNamed, ActNamed, BodyNamed}
 use Rattle.ckc_fit.proofs.NamedItems as items
-use Rattle.ckc_fit.proofs.NamedItems.{DeclNamed, Declared, ParamsNamed, HeadNamed, ItemNamed, ItemsNamed, local_is, text_is}
+use Rattle.ckc_fit.proofs.NamedItems.{DeclNamed, Declared, ParamsNamed, ItemNamed, ItemsNamed, local_is, text_is}
 
 abbrev locals_of : NamedAct → List ℕ
 locals_of = fold-Act Name (Unit {0}) (List ℕ) (List ℕ) act_locals locals_in

@@ -15,7 +15,7 @@ use Rattle.ckc_resolve.specs.Scoping.{opened, closed}
 use Rattle.ckc_resolve.specs.Declarations.{local_named}
 use Rattle.ckc_resolve.specs.Expressions.{expr_named, maybe_named}
 use Rattle.ckc_resolve.specs.Statements.{OfAct, OfStmt, act_parts, stmt_parts, act_named, stmt_named, stmts_named, body_parts, body_named}
-use Rattle.ckc_fit.proofs.Gives.{Gives, bound, through, itself}
+use Rattle.ckc_base.proofs.Gives.{Gives, bound, through, itself}
 
 abbrev pub ActOf : Type 0
 ActOf = Act-F Spelling (Unit {0}) Act Stmt

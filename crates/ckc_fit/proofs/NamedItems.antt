@@ -12,7 +12,7 @@ use Rattle.ckc_syntax.specs.declared.tree.Item.TheVariants as item
 use Rattle.ckc_syntax.specs.declared.tree.NamedText.{NamedText}
 use Rattle.ckc_resolve.specs.declared.names.Names.{Names}
 use Rattle.ckc_resolve.specs.declared.scopes.Scopes.{Scopes}
-use Rattle.ckc_resolve.specs.Codes.{undefined, no_main}
+use Rattle.ckc_resolve.specs.Codes.{declared_twice, undefined, no_main}
 use Rattle.ckc_resolve.specs.Spellings.{Spelling, is_among, with_spelling, number_of}
 use Rattle.ckc_resolve.specs.Trees.{Tree, Item, Head, Decl, Stmt, NamedDecl, NamedHead, NamedStmt, NamedItem}
 use Rattle.ckc_resolve.specs.Scoping.{noted, no_names, names_of, no_scope, with_local, is_taken_here, is_reserved}
@@ -24,11 +24,14 @@ use Rattle.ckc_resolve.specs.Heads.{name_of_member, member_scope, member_named, 
 use Rattle.ckc_resolve.specs.Items.{name_of_tag, first_head, is_same, if_defined, is_taken_static, is_taken_function, item_named, item_in_turn, items_named, all_named}
 use Rattle.ckc_resolve.specs.Main.{is_main, name_of_main, main_named}
 use Rattle.ckc_resolve.specs.Phase.{text_named}
-use Rattle.ckc_fit.proofs.Gives.{Gives, given_from, bound, not_taken, where_true, itself}
+use Rattle.ckc_base.proofs.Gives.{Gives, given_from, bound, where_true, where_unbroken, itself}
 use Rattle.ckc_fit.proofs.Spelt.{either_false}
 use Rattle.ckc_fit.proofs.Defined.{defines, some_defines}
 
 -- ---- declarations
+
+not_taken : {A : Type 0} (P : A → Type 0) (b : Bool) (pos : Pos) (a : A) → (b ≡ false → P a) → Gives P (unless_taken b pos a)
+not_taken P b pos a h = where_unbroken P b declared_twice pos a h
 
 pub record DeclNamed (names : Names) (within outside : Scopes) (n : Name) (d : Decl) (e : NamedDecl) : Type 0 where
   pub ctype : type_named names d.ctype ≡ Ok e.ctype

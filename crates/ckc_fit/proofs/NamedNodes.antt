@@ -20,7 +20,7 @@ use Rattle.ckc_resolve.specs.Trees.{TypeTree, Limits, Node, Expr, NamedType, Nam
 use Rattle.ckc_resolve.specs.Types.{type_parts, type_named}
 use Rattle.ckc_resolve.specs.Expressions.{OfLimits, OfNode, OfExpr, limits_parts, node_parts, expr_parts, limits_named, node_named, expr_named, exprs_named, bounds_named, maybe_named}
 use Rattle.ckc_resolve.specs.Meanings.{meaning_of, member_of, tag_of, meaning_named, member_named, tag_named}
-use Rattle.ckc_fit.proofs.Gives.{Gives, bound, through, itself, was_there}
+use Rattle.ckc_base.proofs.Gives.{Gives, bound, through, itself, was_there}
 
 abbrev pub LimitsOf : Type 0
 LimitsOf = Limits-F Spelling (Unit {0}) Limits Node Expr

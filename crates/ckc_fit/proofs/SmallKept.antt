@@ -2,6 +2,7 @@
 use Rattle.std.proofs.Common.{◌≡◌, ℕ, ◌+◌, ◌≤◌, max, sym, ap, refl, subst, ◌∙◌, List, [], ◌∷◌, ◌++◌, map}
 use Rattle.std.specs.Prelude.{Ok, Option}
 use Rattle.std.specs.List.{flat_map, AllByRecursion}
+use Rattle.ckc_base.specs.Lists.{concatenation}
 use Rattle.ckc_syntax.specs.declared.tree.Name.{Name}
 use Rattle.ckc_syntax.specs.declared.tree.Name.TheVariants as name
 use Rattle.ckc_syntax.specs.declared.tree.NamedText.{NamedText}
@@ -11,7 +12,8 @@ use Rattle.ckc_syntax.specs.declared.tree.Expr.{fold-roll-Expr}
 use Rattle.ckc_syntax.specs.declared.tree.Init.TheVariants as init
 use Rattle.ckc_syntax.specs.declared.tree.Act.{Act-F, map-Act, roll-Act, fold-roll-Act}
 use Rattle.ckc_syntax.specs.declared.tree.Stmt.{fold-roll-Stmt}
-use Rattle.ckc_limits.specs.Marks.{Mark, node, local, function, static, joined, limits_marks, node_marks, expr_marks, marks_of_limits, marks_of_node, marks_of_expr, marks_of_bounds, marks_of_init, marks_of_decl, marks_of_value, act_marks, stmt_marks, marks_of_act, marks_of_stmt, marks_of_param, marks_of_head, marks_of_item, marks_of, is_node, is_text, is_function, is_static}
+use Rattle.ckc_syntax.specs.Inside.{inside_limits}
+use Rattle.ckc_limits.specs.Marks.{Mark, node, local, function, static, node_marks, expr_marks, marks_of_limits, marks_of_node, marks_of_expr, marks_of_bounds, marks_of_init, marks_of_decl, marks_of_value, act_marks, stmt_marks, marks_of_act, marks_of_stmt, marks_of_param, marks_of_head, marks_of_item, marks_of, is_node, is_text, is_function, is_static}
 use Rattle.ckc_limits.specs.Depth.{greatest, limits_depth, node_depth, expr_depth, depth_of_limits, depth_of_node, depth_of_expr, depth_of_bounds, depth_of_init, depth_of_decl, depth_of_value, act_depth, stmt_depth, depth_of_act, depth_of_stmt, depth_of_decls, depth_of_head, depth_of_item}
 use Rattle.ckc_limits.specs.Small.{how_many, SmallFunction, SmallBody, SmallItem, Small}
 use Rattle.ckc_resolve.specs.declared.names.Names.{Names}
@@ -24,11 +26,11 @@ use Rattle.ckc_resolve.specs.Expressions.{expr_named, bounds_named, maybe_named}
 use Rattle.ckc_resolve.specs.Declarations.{init_named, local_named}
 use Rattle.ckc_resolve.specs.Statements.{body_named}
 use Rattle.ckc_resolve.specs.Phase.{text_named}
-use Rattle.ckc_fit.proofs.Gives.{Gives, given_from, bound}
+use Rattle.ckc_base.proofs.Gives.{Gives, given_from, bound}
 use Rattle.ckc_fit.proofs.NamedNodes as nodes
 use Rattle.ckc_fit.proofs.NamedNodes.{LimitsOf, NamedLimitsOf, NodeOf, NamedNodeOf, OfExprs, Each, Maybe, LimitsNamed, NodeNamed}
 use Rattle.ckc_fit.proofs.NamedActs as acts
-use Rattle.ckc_fit.proofs.NamedActs.{ActOf, NamedActOf, StmtsNamed, PartNamed, ActNamed, BodyNamed}
+use Rattle.ckc_fit.proofs.NamedActs.{ActOf, NamedActOf, StmtsNamed, ActNamed, BodyNamed}
 use Rattle.ckc_fit.proofs.NamedItems as items
 use Rattle.ckc_fit.proofs.NamedItems.{DeclNamed, Declared, ParamsNamed, MembersNamed, HeadNamed, ItemNamed, ItemsNamed, local_is, text_is}
 
@@ -75,8 +77,8 @@ restated p q r s h = record { marks = p ∙ h.marks ∙ sym q; depth = r ∙ h.d
 
 expr_size : (e : Expr) (a : NamedExpr) → SameNode e.node a.node → SameExpr e a
 expr_size e a h =
-    restated (fold-roll-Expr Name (Unit {0}) (List Mark) (List Mark) (List Mark) limits_marks node_marks expr_marks (record { node = a.node; pos = a.pos; note = tt }))
-    (fold-roll-Expr Spelling (Unit {0}) (List Mark) (List Mark) (List Mark) limits_marks node_marks expr_marks (record { node = e.node; pos = e.pos; note = tt }))
+    restated (fold-roll-Expr Name (Unit {0}) (List Mark) (List Mark) (List Mark) inside_limits node_marks expr_marks (record { node = a.node; pos = a.pos; note = tt }))
+    (fold-roll-Expr Spelling (Unit {0}) (List Mark) (List Mark) (List Mark) inside_limits node_marks expr_marks (record { node = e.node; pos = e.pos; note = tt }))
     (fold-roll-Expr Name (Unit {0}) ℕ ℕ ℕ limits_depth node_depth expr_depth (record { node = a.node; pos = a.pos; note = tt }))
     (fold-roll-Expr Spelling (Unit {0}) ℕ ℕ ℕ limits_depth node_depth expr_depth (record { node = e.node; pos = e.pos; note = tt }))
     (deeper node h)
@@ -94,7 +96,7 @@ abbrev named_limits_depths : NamedLimitsOf → Limits-F Name (Unit {0}) ℕ ℕ 
 named_limits_depths = map-Limits Name (Unit {0}) NamedLimits NamedNode NamedExpr ℕ ℕ ℕ depth_of_limits depth_of_node depth_of_expr
 
 limits_parts : (x : LimitsOf) (d : NamedLimitsOf) → LimitsNamed (OfExprs SameNode) x d
-    → SameSize (limits_marks (named_limits_in d)) (limits_marks (limits_in x)) (limits_depth (named_limits_depths d)) (limits_depth (limits_depths x))
+    → SameSize (inside_limits (named_limits_in d)) (inside_limits (limits_in x)) (limits_depth (named_limits_depths d)) (limits_depth (limits_depths x))
 limits_parts x d (nodes.count pos h) = expr_size _ _ h
 limits_parts x d (nodes.byte_count pos h) = expr_size _ _ h
 limits_parts x d (nodes.between pos h i) = both (expr_size _ _ h) (expr_size _ _ i)
@@ -102,8 +104,8 @@ limits_parts x d (nodes.unknown pos) = empty
 
 limits_closed : (x : LimitsOf) (d : NamedLimitsOf) → LimitsNamed (OfExprs SameNode) x d → SameLimits (roll-Limits Spelling (Unit {0}) x) (roll-Limits Name (Unit {0}) d)
 limits_closed x d h =
-    restated (fold-roll-Limits Name (Unit {0}) (List Mark) (List Mark) (List Mark) limits_marks node_marks expr_marks d)
-    (fold-roll-Limits Spelling (Unit {0}) (List Mark) (List Mark) (List Mark) limits_marks node_marks expr_marks x)
+    restated (fold-roll-Limits Name (Unit {0}) (List Mark) (List Mark) (List Mark) inside_limits node_marks expr_marks d)
+    (fold-roll-Limits Spelling (Unit {0}) (List Mark) (List Mark) (List Mark) inside_limits node_marks expr_marks x)
     (fold-roll-Limits Name (Unit {0}) ℕ ℕ ℕ limits_depth node_depth expr_depth d)
     (fold-roll-Limits Spelling (Unit {0}) ℕ ℕ ℕ limits_depth node_depth expr_depth x)
     (limits_parts x d h)
@@ -121,7 +123,7 @@ abbrev named_node_depths : NamedNodeOf → Node-F Name (Unit {0}) ℕ ℕ ℕ
 named_node_depths = map-Node Name (Unit {0}) NamedLimits NamedNode NamedExpr ℕ ℕ ℕ depth_of_limits depth_of_node depth_of_expr
 
 abbrev SameExprs : List Expr → List NamedExpr → Type 0
-SameExprs es bs = SameSize (joined (map marks_of_expr bs)) (joined (map marks_of_expr es)) (greatest (map depth_of_expr bs)) (greatest (map depth_of_expr es))
+SameExprs es bs = SameSize (concatenation (map marks_of_expr bs)) (concatenation (map marks_of_expr es)) (greatest (map depth_of_expr bs)) (greatest (map depth_of_expr es))
 
 exprs_size : (es : List Expr) (bs : List NamedExpr) → Each (OfExprs SameNode) es bs → SameExprs es bs
 exprs_size es bs nodes.none = empty
@@ -152,8 +154,8 @@ module _ (names : Names) where
 
     nodes_closed : (x : NodeOf) (d : NamedNodeOf) → NodeNamed names scopes SameLimits (OfExprs SameNode) x d → SameNode (roll-Node Spelling (Unit {0}) x) (roll-Node Name (Unit {0}) d)
     nodes_closed x d h =
-        restated (fold-roll-Node Name (Unit {0}) (List Mark) (List Mark) (List Mark) limits_marks node_marks expr_marks d)
-        (fold-roll-Node Spelling (Unit {0}) (List Mark) (List Mark) (List Mark) limits_marks node_marks expr_marks x)
+        restated (fold-roll-Node Name (Unit {0}) (List Mark) (List Mark) (List Mark) inside_limits node_marks expr_marks d)
+        (fold-roll-Node Spelling (Unit {0}) (List Mark) (List Mark) (List Mark) inside_limits node_marks expr_marks x)
         (fold-roll-Node Name (Unit {0}) ℕ ℕ ℕ limits_depth node_depth expr_depth d)
         (fold-roll-Node Spelling (Unit {0}) ℕ ℕ ℕ limits_depth node_depth expr_depth x)
         (node_parts x d h)
@@ -218,7 +220,7 @@ module _ (names : Names) where
       (deeper node h)
 
   abbrev SameStmts : List Stmt → List NamedStmt → Type 0
-  SameStmts ss ts = SameSize (joined (map marks_of_stmt ts)) (joined (map marks_of_stmt ss)) (greatest (map depth_of_stmt ts)) (greatest (map depth_of_stmt ss))
+  SameStmts ss ts = SameSize (concatenation (map marks_of_stmt ts)) (concatenation (map marks_of_stmt ss)) (greatest (map depth_of_stmt ts)) (greatest (map depth_of_stmt ss))
 
   stmts_size : (before : Scopes) (ss : List Stmt) (ts : List NamedStmt) (after : Scopes) → StmtsNamed SameAct before ss ts after → SameStmts ss ts
   stmts_size before ss ts after acts.none = empty

@@ -25,8 +25,8 @@ use Rattle.ckc_resolve.specs.Declarations.{init_named, local_named}
 use Rattle.ckc_resolve.specs.Statements.{body_named}
 use Rattle.ckc_resolve.specs.Heads.{name_of_member, with_member_name, member_scope, with_param, param_scope}
 use Rattle.ckc_fit.specs.Tests as t
-use Rattle.ckc_fit.specs.Tests.{Tests, type_passes, limits_pass, node_passes, expr_passes, bounds_pass, value_passes, init_passes, decl_passes, Walked, left_by, pass_in_turn, part_passes, left_by_part, act_walked, stmt_walked, walked_act, walked, names_declared, decls_pass, head_passes, item_passes, items_pass}
-use Rattle.ckc_fit.proofs.Gives.{Gives, given_from, bound}
+use Rattle.ckc_fit.specs.Tests.{Tests, type_passes, limits_pass, node_passes, expr_passes, bounds_pass, value_passes, init_passes, decl_passes, Walked, left_by, pass_in_turn, part_passes, left_by_part, act_walked, stmt_walked, walked_act, walked, names_declared, head_passes, item_passes, items_pass}
+use Rattle.ckc_base.proofs.Gives.{Gives, given_from, bound}
 use Rattle.ckc_fit.proofs.NamedNodes as nodes
 use Rattle.ckc_fit.proofs.NamedNodes.{TypeOf, NamedTypeOf, TypeNamed, LimitsOf, NamedLimitsOf, NodeOf, NamedNodeOf, OfExprs, Each, Maybe, LimitsNamed, NodeNamed}
 use Rattle.ckc_fit.proofs.NamedActs as acts

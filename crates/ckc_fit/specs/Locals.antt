@@ -1,5 +1,6 @@
 -- How the locals of a function are numbered.
-use Rattle.std.specs.Prelude.{ℕ, List, [], ◌∷◌, ◌++◌, Option, None, Some}
+use Rattle.ckc_base.specs.Lists.{or_empty}
+use Rattle.std.specs.Prelude.{ℕ, List, [], ◌∷◌, ◌++◌}
 use Rattle.std.specs.List.{flat_map}
 use Rattle.ckc_syntax.specs.declared.tree.Name.{Name}
 use Rattle.ckc_syntax.specs.declared.tree.Name.TheVariants as name
@@ -15,10 +16,6 @@ local_in n = []
 abbrev pub decl_local : NamedDecl → List ℕ
 decl_local d = local_in d.name
 
-abbrev pub part_locals : Option (List ℕ) → List ℕ
-part_locals None = []
-part_locals (Some ns) = ns
-
 -- The numbers of the locals that a statement declares, as they come in the text; those of the step of a `for`, which can
 -- have none, behind those of its body.
 abbrev pub act_locals : Act-F Name (Unit {0}) (List ℕ) (List ℕ) → List ℕ
@@ -27,9 +24,9 @@ act_locals Act-F.Empty = []
 act_locals (Act-F.Local d) = decl_local d
 act_locals (Act-F.Assign e f) = []
 act_locals (Act-F.Call e) = []
-act_locals (Act-F.If e s t) = s ++ part_locals t
+act_locals (Act-F.If e s t) = s ++ or_empty t
 act_locals (Act-F.While e s) = s
-act_locals (Act-F.For first e step body) = part_locals first ++ (body ++ part_locals step)
+act_locals (Act-F.For first e step body) = or_empty first ++ (body ++ or_empty step)
 act_locals (Act-F.Return e) = []
 act_locals Act-F.Break = []
 act_locals Act-F.Continue = []

@@ -1,5 +1,5 @@
 -- The names in a tree whose names are resolved, each put to a test where it stands.
-use Rattle.std.specs.Prelude.{Bool, true, ◌&&◌, List, [], ◌∷◌, ◌++◌, map, Option, None, Some}
+use Rattle.std.specs.Prelude.{Bool, true, ◌&&◌, List, [], ◌∷◌, ◌++◌, map, Option, None, Some, unwrap_or}
 use Rattle.std.specs.List.{list_all, flat_map}
 use Rattle.ckc_syntax.specs.declared.tree.Name.{Name}
 use Rattle.ckc_syntax.specs.declared.tree.TypeTree.{TypeTree-F, fold-TypeTree}
@@ -18,10 +18,6 @@ pub record Tests : Type 0 where
   pub name : List Name → Name → Bool
   pub member : Name → Bool
   pub tag : Name → Bool
-
-abbrev pub if_any : Option Bool → Bool
-if_any None = true
-if_any (Some b) = b
 
 abbrev pub type_parts : Tests → TypeTree-F Name Bool → Bool
 type_parts tests (TypeTree-F.Struct n pos) = tests.tag n
@@ -53,8 +49,8 @@ node_parts tests visible (Node-F.Dot e n pos) = e && tests.member n
 node_parts tests visible (Node-F.Arrow e n pos) = e && tests.member n
 node_parts tests visible (Node-F.Cast t e) = type_passes tests t && e
 node_parts tests visible (Node-F.Size t) = type_passes tests t
-node_parts tests visible (Node-F.Trusted t e l) = type_passes tests t && (e && if_any l)
-node_parts tests visible (Node-F.Tested t e l) = type_passes tests t && (e && if_any l)
+node_parts tests visible (Node-F.Trusted t e l) = type_passes tests t && (e && unwrap_or l true)
+node_parts tests visible (Node-F.Tested t e l) = type_passes tests t && (e && unwrap_or l true)
 node_parts tests visible (Node-F.Call n es) = list_all (λ e. e) es && tests.name visible n
 node_parts tests visible (Node-F.Calloc t e u) = type_passes tests t && (e && type_passes tests u)
 

@@ -4,6 +4,7 @@ ghost use Rattle.ckc_syntax.specs.Spelled.{spelled};
 ghost use Rattle.ckc_grammar.specs.Kinds.{kind_of_token};
 ghost use Rattle.ckc_grammar.specs.Grammar.{t, one, fits, is_name, is_name_but_calloc};
 ghost use Rattle.ckc_grammar.specs.Forms.{is_unknown_alone, has_more};
+ghost use Rattle.ckc_grammar.specs.Derives.{syntax_error};
 ghost use Rattle.ckc_grammar.specs.Values.{Value, token};
 ghost use Rattle.ckc_grammar.specs.Classes.{terminal};
 ghost use Rattle.ckc_grammar.specs.Reading.{kind_of, Takes};
@@ -270,7 +271,7 @@ impl<'a> Reader<'a> {
 
     /// The refusal of the next token, or of the end.
     pub fn refusal(&self, end: Pos) -> Refusal
-        ensures code { result.code ≡ 120 }
+        ensures code { result.code ≡ syntax_error }
         ensures pos { result.pos ≡ place_of (ahead self.now) end }
     {
         match self.rest {

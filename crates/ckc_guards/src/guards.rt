@@ -6,8 +6,8 @@ ghost use Rattle.ckc_base.specs.declared.runtime_checks.Check.TheVariants.{Null}
 ghost use Rattle.ckc_core.specs.Code.{Code, Expr, expr_of, stmt_of};
 ghost use Rattle.ckc_guards.specs.Guards.{below_or_at, may_write, upper_test};
 
-use crate::parts::{binary, kept_in, sum};
-use ckc_base::{BinOp, Check, Pos, Width};
+use crate::parts::{binary, kept_in};
+use ckc_base::{BinOp, Check, Pos, Width, sum};
 use ckc_core::{CoreExpr, CoreStmt};
 use std::alloc::{AllocError, Global};
 

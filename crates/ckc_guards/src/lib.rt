@@ -6,4 +6,4 @@ mod guards;
 mod parts;
 
 pub use guards::{below_or_at, cancels, may_write, null_check, upper_test};
-pub use parts::{binary, kept_in, low_byte, sum};
+pub use parts::{binary, kept_in, low_byte};

@@ -1,22 +1,12 @@
 //! Expressions of core code that guards are made of.
 
-ghost use Rattle.std.specs.Prelude.{◌≡◌, ◌+◌, IfOk};
+ghost use Rattle.std.specs.Prelude.{◌≡◌, IfOk};
 ghost use Rattle.ckc_core.specs.Code.{Expr, expr_of};
 ghost use Rattle.ckc_guards.specs.Guards.{kept_in, low_byte};
 
 use ckc_base::{BinOp, Boxed, Width};
 use ckc_core::CoreExpr;
 use std::alloc::{AllocError, Global};
-
-/// A sum; one past 2^32 - 1 is taken for want of memory.
-pub fn sum(a: u32, b: u32) -> Result<u32, AllocError>
-    ensures { IfOk result (λ n. n ≡ a + b) }
-{
-    match a.checked_add(b) {
-        Some(n) => Ok(n),
-        None => Err(AllocError),
-    }
-}
 
 /// An operation on two words.
 pub fn binary(alloc: Global, op: BinOp, a: CoreExpr, b: CoreExpr) -> Result<CoreExpr, AllocError>

@@ -19,7 +19,7 @@ pub enum Work<'a> {
 
 /// How the statements before came to their end.
 #[derive(Clone, Copy)]
-pub enum Leaving {
+enum Leaving {
     Ended,
     Broken,
     Continued,

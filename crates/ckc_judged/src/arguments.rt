@@ -46,7 +46,7 @@ fn without_widening(alloc: Global, at: &Point) -> Result<Point, AllocError>
 
 /// A point with what also holds where a new value is judged that is to be contained, by the numbers of the first value and
 /// the first fresh variable in it.
-pub fn point_for(
+fn point_for(
     work: &mut Work,
     frame: &Frame,
     at: &Point,

@@ -5,5 +5,4 @@ mod arguments;
 mod expressions;
 mod faults;
 
-pub use arguments::point_for;
 pub use expressions::judge;

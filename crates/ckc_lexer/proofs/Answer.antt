@@ -6,24 +6,17 @@ use Rattle.ckc_base.specs.declared.fault.Fault.{Fault}
 use Rattle.ckc_base.specs.declared.fault.Fault.TheVariants.{Refused, Memory}
 use Rattle.ckc_base.specs.Phases.{IsExact, Answers, Exact, viewed}
 use Rattle.ckc_base.specs.Places.{at_start, longest_text}
+use Rattle.ckc_base.proofs.Outcomes.{ok_same, err_same, err_is_ok}
 use Rattle.ckc_base.proofs.Phases.{exact_of}
 use Rattle.ckc_syntax.specs.declared.tokens.Token as tokens
 use Rattle.ckc_syntax.specs.Spelled.{Spelled, Tokens}
 use Rattle.ckc_lexer.specs.Cut.{Lexes, FirstBroken, FirstFault}
 use Rattle.ckc_lexer.specs.Phase.{lexing, tokens_in}
 use Rattle.ckc_lexer.specs.Places.{place_after}
-use Rattle.ckc_lexer.specs.code.Reading.{Outcome, IsReading, Reads, start}
+use Rattle.ckc_base.specs.Outcomes.{Outcome}
+use Rattle.ckc_lexer.specs.code.Reading.{IsReading, Reads, start}
 use Rattle.ckc_lexer.proofs.CutLaw.{read_lexes, read_fault, lexes_read, fault_read, reads_once}
 use Rattle.ckc_lexer.proofs.Total.{reads_some}
-
-tokens_fault : (a : List Spelled) (b : Refusal) → ◌≡◌ {A = Outcome} (Ok a) (Err b) → ⊥
-tokens_fault a b e = cc
-
-same_tokens : (a b : List Spelled) → ◌≡◌ {A = Outcome} (Ok a) (Ok b) → a ≡ b
-same_tokens a b e = cc
-
-same_fault : (a b : Refusal) → ◌≡◌ {A = Outcome} (Err a) (Err b) → a ≡ b
-same_fault a b e = cc
 
 -- the first fault of a text that is not too long
 broken_of : (text : List ℕ) (fault : Refusal) → length text ≤ longest_text → FirstFault text fault → FirstBroken text fault
@@ -31,7 +24,7 @@ broken_of text fault le (inl f) = absurd (omega (arith, f.0, le))
 broken_of text fault le (inr f) = f.1
 
 pub tokens_once : (text : List ℕ) (a b : List Spelled) → Lexes text a → Lexes text b → a ≡ b
-tokens_once text a b x y = same_tokens a b (reads_once (lexes_read text a x) (lexes_read text b y))
+tokens_once text a b x y = ok_same a b (reads_once (lexes_read text a x) (lexes_read text b y))
 
 made_once : (text : List ℕ) (a b : Tokens) → lexing.Makes text a → lexing.Makes text b → a ≡ b
 made_once text a b x y = λ j. record { list = tokens_once text a.list b.list x.1 y.1 j; end = (x.2 ∙ sym y.2) j }
@@ -40,13 +33,13 @@ fault_once : (text : List ℕ) (a b : Refusal) → FirstFault text a → FirstFa
 fault_once text a b (inl x) (inl y) = x.1 ∙ sym y.1
 fault_once text a b (inl x) (inr y) = absurd (omega (arith, x.0, y.0))
 fault_once text a b (inr x) (inl y) = absurd (omega (arith, x.0, y.0))
-fault_once text a b (inr x) (inr y) = same_fault a b (reads_once (fault_read text a x.1) (fault_read text b y.1))
+fault_once text a b (inr x) (inr y) = err_same {A = List Spelled} a b (reads_once (fault_read text a x.1) (fault_read text b y.1))
 
 never_both : (text : List ℕ) (a : Tokens) (b : Refusal) → lexing.Makes text a → FirstFault text b → ⊥
-never_both text a b x y = tokens_fault a.list b (reads_once (lexes_read text a.list x.1) (fault_read text b (broken_of text b x.0 y)))
+never_both text a b x y = err_is_ok b a.list (reads_once (fault_read text b (broken_of text b x.0 y)) (lexes_read text a.list x.1))
 
 module _ (text : List ℕ) (no_made : (a : Tokens) → ¬ lexing.Makes text a) (no_refused : (b : Refusal) → ¬ FirstFault text b) where
-  no_outcome : length text ≤ longest_text → (o : Outcome) → ¬ Reads start false text o
+  no_outcome : length text ≤ longest_text → (o : Outcome (List Spelled)) → ¬ Reads start false text o
   no_outcome le (Ok found) r = no_made (record { list = found; end = place_after text }) (le, read_lexes text found r, refl)
   no_outcome le (Err fault) r = no_refused fault (inr (le, read_fault text fault r))
 

@@ -16,7 +16,9 @@ use Rattle.ckc_lexer.specs.code.Reading.{moved}
 use Rattle.ckc_lexer.specs.Spelling.{Spells}
 use Rattle.ckc_syntax.specs.Spelled.{Spelled}
 use Rattle.ckc_lexer.specs.Cut.{Part, joined, is_stdchecked, context_after, IsPart, IsCut, token_at, tokens_from, is_broken, AreWhole, Lexes, FirstBroken}
-use Rattle.ckc_lexer.specs.code.Reading.{Outcome, context_at, pos_at, onto, Reads, ends, breaks, skips, takes, start}
+use Rattle.ckc_base.specs.Outcomes.{Outcome}
+use Rattle.ckc_base.proofs.Turns.{ahead, begin}
+use Rattle.ckc_lexer.specs.code.Reading.{context_at, pos_at, Reads, ends, breaks, skips, takes, start}
 use Rattle.ckc_syntax.proofs.Fronts.{longest_once}
 use Rattle.ckc_lexer.proofs.OneItem.{one_item, not_empty}
 use Rattle.ckc_lexer.proofs.PlaceLaw.{here_of, from_start, here_append}
@@ -141,11 +143,11 @@ whole_cons part parts h = or_parts (is_broken part.item) (list_any (λ p. is_bro
 -- ---- what is read is a cut
 
 -- the tokens or the fault of a chain of parts
-abbrev Result_of : List Part → List ℕ → Outcome → Type 0
+abbrev Result_of : List Part → List ℕ → Outcome (List Spelled) → Type 0
 Result_of before text (Ok found) = (parts : List Part) × Chain before text parts [] × AreWhole parts × (found ≡ tokens_from (joined before) parts)
 Result_of before text (Err fault) = (parts : List Part) × (part : Part) × (rest : List ℕ) × Chain before text (parts ++ part ∷ []) rest × AreWhole parts × (part.item ≡ Broken fault.code) × (fault.pos ≡ place_after (joined (before ++ parts)))
 
-read_result : {here : Here} {checked : Bool} {text : List ℕ} {outcome : Outcome} → Reads here checked text outcome → (before : List Part) → IsBehind before here checked → Result_of before text outcome
+read_result : {here : Here} {checked : Bool} {text : List ℕ} {outcome : Outcome (List Spelled)} → Reads here checked text outcome → (before : List Part) → IsBehind before here checked → Result_of before text outcome
 read_result ends before b = ([], refl, refl, refl)
 read_result {here} {checked} {text} (breaks {n = n} {code = code} l) before b = (
   [],
@@ -160,7 +162,7 @@ read_result {here} {checked} {text} {outcome} (skips {n = n} l r) before b =
     let part : Part = record { bytes = take n text; item = Gap } in
     after_gap n outcome (longest_part (context_at here checked) before text n Gap (behind_context before here checked b) l) (read_result r (before ++ part ∷ []) (behind_gap before here checked (take n text) b))
   where
-    after_gap : (n : ℕ) (o : Outcome) → IsPart before (record { bytes = take n text; item = Gap }) (drop n text) → Result_of (before ++ record { bytes = take n text; item = Gap } ∷ []) (drop n text) o → Result_of before text o
+    after_gap : (n : ℕ) (o : Outcome (List Spelled)) → IsPart before (record { bytes = take n text; item = Gap }) (drop n text) → Result_of (before ++ record { bytes = take n text; item = Gap } ∷ []) (drop n text) o → Result_of before text o
     after_gap n (Ok found) p k =
         let part : Part = record { bytes = take n text; item = Gap } in
         (part ∷ k.0, (drop n text, sym (take-append-drop n text), p, k.1), k.2, k.3 ∙ ap (λ w. tokens_from w k.0) (joined_push before part))
@@ -169,10 +171,10 @@ read_result {here} {checked} {text} {outcome} (skips {n = n} l r) before b =
         (part ∷ k.0, k.1, k.2, (drop n text, sym (take-append-drop n text), p, k.3), k.4, k.5, k.6 ∙ ap (λ l. place_after (joined l)) (append_assoc before (part ∷ []) k.0))
 read_result {here} {checked} {text} {outcome} (takes {n = n} {kind = kind} {rest = rest} l r e) before b =
     let part : Part = record { bytes = take n text; item = Token kind } in
-    subst (Result_of before text) (sym (e ∙ ap (λ p. onto (record { kind = kind; text = take n text; pos = p } ∷ []) rest) (behind_pos before here checked b)))
+    subst (Result_of before text) (sym (e ∙ ap (λ p. ahead (record { kind = kind; text = take n text; pos = p } ∷ []) rest) (behind_pos before here checked b)))
     (after_token rest (longest_part (context_at here checked) before text n (Token kind) (behind_context before here checked b) l) (read_result r (before ++ part ∷ []) (behind_push before here checked part b)))
   where
-    after_token : (o : Outcome) → IsPart before (record { bytes = take n text; item = Token kind }) (drop n text) → Result_of (before ++ record { bytes = take n text; item = Token kind } ∷ []) (drop n text) o → Result_of before text (onto (record { kind = kind; text = take n text; pos = place_after (joined before) } ∷ []) o)
+    after_token : (o : Outcome (List Spelled)) → IsPart before (record { bytes = take n text; item = Token kind }) (drop n text) → Result_of (before ++ record { bytes = take n text; item = Token kind } ∷ []) (drop n text) o → Result_of before text (ahead (record { kind = kind; text = take n text; pos = place_after (joined before) } ∷ []) o)
     after_token (Ok found) p k =
         let part : Part = record { bytes = take n text; item = Token kind } in
         (part ∷ k.0, (drop n text, sym (take-append-drop n text), p, k.1), k.2, ap (λ ts. record { kind = kind; text = take n text; pos = place_after (joined before) } ∷ ts) (k.3 ∙ ap (λ w. tokens_from w k.0) (joined_push before part)))
@@ -188,17 +190,13 @@ read_fault text fault r = let k = read_result r [] behind_none in record { befor
 
 -- ---- a cut is what is read
 
-same_onto : (o : Outcome) → o ≡ onto [] o
-same_onto (Ok found) = refl
-same_onto (Err fault) = refl
-
-chain_step : (before : List Part) (text bytes tail : List ℕ) (item : Item) (outcome : Outcome) → text ≡ bytes ++ tail → IsPart before (record { bytes = bytes; item = item }) tail → is_broken item ≡ false → (here : Here) (checked : Bool) → IsBehind before here checked → ((there : Here) (said : Bool) → IsBehind (before ++ record { bytes = bytes; item = item } ∷ []) there said → Reads there said tail outcome) → Reads here checked text (onto (token_at (joined before) bytes item) outcome)
+chain_step : (before : List Part) (text bytes tail : List ℕ) (item : Item) (outcome : Outcome (List Spelled)) → text ≡ bytes ++ tail → IsPart before (record { bytes = bytes; item = item }) tail → is_broken item ≡ false → (here : Here) (checked : Bool) → IsBehind before here checked → ((there : Here) (said : Bool) → IsBehind (before ++ record { bytes = bytes; item = item } ∷ []) there said → Reads there said tail outcome) → Reads here checked text (ahead (token_at (joined before) bytes item) outcome)
 chain_step before text bytes tail Gap outcome e p w here checked b more =
     let l = part_longest (context_at here checked) before (record { bytes = bytes; item = Gap }) tail (behind_context before here checked b) p in
     let r = more (moved here bytes) checked (behind_gap before here checked bytes b) in
     let front = sym (take_at bytes tail (length bytes) refl) in
     let behind = sym (drop_at bytes tail (length bytes) refl) in
-    subst (λ t. Reads here checked t (onto [] outcome)) (sym e) (subst (λ o. Reads here checked (bytes ++ tail) o) (same_onto outcome)
+    subst (λ t. Reads here checked t (ahead [] outcome)) (sym e) (subst (λ o. Reads here checked (bytes ++ tail) o) (begin outcome [] refl)
     (skips l (subst (λ T. T) (λ j. Reads (moved here (front j)) checked (behind j) outcome) r)))
 chain_step before text bytes tail (Token kind) outcome e p w here checked b more =
     let l = part_longest (context_at here checked) before (record { bytes = bytes; item = Token kind }) tail (behind_context before here checked b) p in
@@ -206,9 +204,9 @@ chain_step before text bytes tail (Token kind) outcome e p w here checked b more
     let front = sym (take_at bytes tail (length bytes) refl) in
     let behind = sym (drop_at bytes tail (length bytes) refl) in
     let place = sym (behind_pos before here checked b) in
-    subst (λ t. Reads here checked t (onto (token_at (joined before) bytes (Token kind)) outcome)) (sym e)
+    subst (λ t. Reads here checked t (ahead (token_at (joined before) bytes (Token kind)) outcome)) (sym e)
     (takes l (subst (λ T. T) (λ j. Reads (moved here (front j)) (checked || is_stdchecked (Token kind)) (behind j) outcome) r)
-    (λ j. onto (record { kind = kind; text = front j; pos = place j } ∷ []) outcome))
+    (λ j. ahead (record { kind = kind; text = front j; pos = place j } ∷ []) outcome))
 chain_step before text bytes tail (Broken code) outcome e p w here checked b more = absurd (false≢true (sym w))
 
 chain_reads : (before : List Part) (text : List ℕ) (parts : List Part) → Chain before text parts [] → AreWhole parts → (here : Here) (checked : Bool) → IsBehind before here checked → Reads here checked text (Ok (tokens_from (joined before) parts))
@@ -258,7 +256,7 @@ same_code c d e = cc
 same_kind : (k l : TokenKind) → Token k ≡ Token l → k ≡ l
 same_kind k l e = cc
 
-pub reads_once : {here : Here} {checked : Bool} {text : List ℕ} {o p : Outcome} → Reads here checked text o → Reads here checked text p → o ≡ p
+pub reads_once : {here : Here} {checked : Bool} {text : List ℕ} {o p : Outcome (List Spelled)} → Reads here checked text o → Reads here checked text p → o ≡ p
 reads_once {here} {checked} ends ends = refl
 reads_once {here} {checked} ends (breaks l) = absurd (none_left (context_at here checked) l)
 reads_once {here} {checked} ends (skips l r) = absurd (none_left (context_at here checked) l)
@@ -281,4 +279,4 @@ reads_once {here} {checked} {text} (takes {n = n} {kind = k} {rest = a} l r e) (
     let kinds_same = same_kind k k' same.1 in
     let again = subst (λ T. T) (λ j. Reads (moved here (take (sym same.0 j) text)) (checked || is_stdchecked (Token (sym kinds_same j))) (drop (sym same.0 j) text) b) r' in
     let rest_same = reads_once r again in
-    e ∙ ((λ j. onto (record { kind = kinds_same j; text = take (same.0 j) text; pos = pos_at here } ∷ []) (rest_same j)) ∙ sym e')
+    e ∙ ((λ j. ahead (record { kind = kinds_same j; text = take (same.0 j) text; pos = pos_at here } ∷ []) (rest_same j)) ∙ sym e')

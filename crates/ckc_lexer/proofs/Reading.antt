@@ -1,5 +1,5 @@
 -- The loop that reads a text.
-use Rattle.std.proofs.Common.{◌≡◌, ℕ, ◌+◌, ◌≤◌, Bool, true, false, ◌||◌, ◌&&◌, cond, List, [], ◌∷◌, ◌++◌, length, take, drop, map, Ok, Err, sym, refl, ap, ◌∙◌, subst, ⊎_elim, arith, append_assoc, length-take-le, length-drop}
+use Rattle.std.proofs.Common.{◌≡◌, ℕ, ◌+◌, ◌≤◌, Bool, true, false, ◌||◌, ◌&&◌, cond, List, [], ◌∷◌, ◌++◌, length, take, drop, map, Ok, Err, sym, refl, ap, ◌∙◌, subst, ⊎_elim, arith, length-take-le, length-drop}
 use Rattle.std.proofs.lemmas.List.{map_push, append-nil}
 use Rattle.std.proofs.lemmas.Bool.{cases_Bool}
 use Rattle.ckc_syntax.specs.declared.tokens.Token as tokens
@@ -12,7 +12,9 @@ use Rattle.ckc_lexer.specs.code.Reading.{step, moved}
 use Rattle.ckc_lexer.specs.Spelling.{Spells}
 use Rattle.ckc_syntax.specs.Spelled.{Spelled, spelled}
 use Rattle.ckc_lexer.specs.Cut.{is_stdchecked}
-use Rattle.ckc_lexer.specs.code.Reading.{Outcome, context_at, pos_at, onto, Reads, ends, breaks, skips, takes, start}
+use Rattle.ckc_base.specs.Outcomes.{Outcome}
+use Rattle.ckc_base.proofs.Turns.{ahead, begin, ahead_twice}
+use Rattle.ckc_lexer.specs.code.Reading.{context_at, pos_at, Reads, ends, breaks, skips, takes, start}
 
 or_false : (b : Bool) → (b || false) ≡ b
 or_false true = refl
@@ -31,24 +33,16 @@ moved_bound here (b ∷ w) = let k = moved_bound (step here b) w in let s = step
 
 -- What was read of a text: a reading from here is a reading from the start, with the tokens so far.
 pub record ReadTo (text : List ℕ) (found : List tokens.Token) (here : Here) (checked : Bool) (rest : List ℕ) : Type 0 where
-  pub on : (outcome : Outcome) → Reads here checked rest outcome → Reads start false text (onto (map spelled found) outcome)
+  pub on : (outcome : Outcome (List Spelled)) → Reads here checked rest outcome → Reads start false text (ahead (map spelled found) outcome)
   pub line : here.line + length rest ≤ 1 + length text
   pub col : here.col + length rest ≤ 1 + length text
 
-same_onto : (o : Outcome) → onto [] o ≡ o
-same_onto (Ok after) = refl
-same_onto (Err fault) = refl
-
 pub read_none : (text : List ℕ) → ReadTo text [] start false text
 read_none text = record {
-  on = λ o r. subst (Reads start false text) (sym (same_onto o)) r;
+  on = λ o r. subst (Reads start false text) (begin o [] refl) r;
   line = omega arith;
   col = omega arith;
 }
-
-onto_more : (a b : List Spelled) (o : Outcome) → onto a (onto b o) ≡ onto (a ++ b) o
-onto_more a b (Ok after) = ap Ok (sym (append_assoc a b after))
-onto_more a b (Err fault) = refl
 
 module _ {text : List ℕ} {found : List tokens.Token} {here : Here} {checked : Bool} {rest : List ℕ} (before : ReadTo text found here checked rest) where
   pub read_gap : (n : ℕ) → Longest (Spells (context_at here checked)) rest n Gap → ReadTo text found (moved here (take n rest)) checked (drop n rest)
@@ -70,7 +64,7 @@ module _ {text : List ℕ} {found : List tokens.Token} {here : Here} {checked : 
       let same : spelled token ≡ record { kind = token.kind; text = take n rest; pos = pos_at here } = λ j. record { kind = token.kind; text = text_is j; pos = pos_is j } in
       record {
         on = λ o r. subst (Reads start false text)
-            (onto_more (map spelled found) _ o ∙ ap (λ ts. onto ts o) (ap (λ t. map spelled found ++ t ∷ []) (sym same) ∙ sym (map_push spelled found token)))
+            (ahead_twice (map spelled found) _ o ∙ ap (λ ts. ahead ts o) (ap (λ t. map spelled found ++ t ∷ []) (sym same) ∙ sym (map_push spelled found token)))
             (before.on _ (takes l r refl));
         line = omega (arith, k.0, before.line, l.within);
         col = omega (arith, k.1, before.col, l.within);

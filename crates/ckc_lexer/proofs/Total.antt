@@ -19,7 +19,10 @@ use Rattle.ckc_lexer.specs.Cut.{is_stdchecked}
 use Rattle.ckc_lexer.specs.Directives.{IsDirective, IsDirectiveLine, HashCases}
 use Rattle.ckc_lexer.specs.code.DirectiveReading.{body_of, include_or_pragma}
 use Rattle.ckc_lexer.specs.Marks.{is_mark_text}
-use Rattle.ckc_lexer.specs.code.Reading.{Outcome, context_at, moved, onto, pos_at, Reads, ends, breaks, skips, takes}
+use Rattle.ckc_base.specs.Outcomes.{Outcome}
+use Rattle.ckc_syntax.specs.Spelled.{Spelled}
+use Rattle.ckc_base.proofs.Turns.{ahead}
+use Rattle.ckc_lexer.specs.code.Reading.{context_at, moved, pos_at, Reads, ends, breaks, skips, takes}
 use Rattle.ckc_lexer.specs.Spelling.{SpelledBy, Spells}
 use Rattle.ckc_lexer.specs.Words.{word_item}
 use Rattle.ckc_lexer.proofs.Ascii.{large_class}
@@ -137,17 +140,17 @@ no_longest context b bs never =
     some_item context b (λ item s. no_front (Spells context) (b ∷ bs) never (length (b ∷ bs)) 1 item (omega arith) (omega arith) (omega arith) s)
 
 -- how the rest of a text ends is how the text ends, behind its first item
-module _ (here : Here) (checked : Bool) (text : List ℕ) (never : (o : Outcome) → ¬ Reads here checked text o) where
+module _ (here : Here) (checked : Bool) (text : List ℕ) (never : (o : Outcome (List Spelled)) → ¬ Reads here checked text o) where
   step_on : (n : ℕ) (item : Item) → Longest (Spells (context_at here checked)) text n item →
-      ((there : Here) (said : Bool) → ((o : Outcome) → ¬ Reads there said (drop n text) o) → ⊥) → ⊥
+      ((there : Here) (said : Bool) → ((o : Outcome (List Spelled)) → ¬ Reads there said (drop n text) o) → ⊥) → ⊥
   step_on n Gap l rest = rest (moved here (take n text)) checked (λ o r. never o (skips l r))
   step_on n (Token kind) l rest =
       rest (moved here (take n text)) (checked || is_stdchecked (Token kind))
-      (λ o r. never (onto (record { kind = kind; text = take n text; pos = pos_at here } ∷ []) o) (takes l r refl))
+      (λ o r. never (ahead (record { kind = kind; text = take n text; pos = pos_at here } ∷ []) o) (takes l r refl))
   step_on n (Broken code) l rest = never (Err (record { code = code; pos = pos_at here })) (breaks l)
 
 -- Each text ends somehow when it is read.
-reads_within : (k : ℕ) (here : Here) (checked : Bool) (text : List ℕ) → length text ≤ k → ((o : Outcome) → ¬ Reads here checked text o) → ⊥
+reads_within : (k : ℕ) (here : Here) (checked : Bool) (text : List ℕ) → length text ≤ k → ((o : Outcome (List Spelled)) → ¬ Reads here checked text o) → ⊥
 reads_within k here checked [] le never = never (Ok []) ends
 reads_within zero here checked (b ∷ bs) le never = omega (arith, le)
 reads_within (suc k) here checked (b ∷ bs) le never =
@@ -155,5 +158,5 @@ reads_within (suc k) here checked (b ∷ bs) le never =
     (λ n item l. step_on here checked (b ∷ bs) never n item l
     (λ there said none. reads_within k there said (drop n (b ∷ bs)) (let e = length-drop n (b ∷ bs) in omega (arith, le, l.some)) none))
 
-pub reads_some : (here : Here) (checked : Bool) (text : List ℕ) → ((o : Outcome) → ¬ Reads here checked text o) → ⊥
+pub reads_some : (here : Here) (checked : Bool) (text : List ℕ) → ((o : Outcome (List Spelled)) → ¬ Reads here checked text o) → ⊥
 reads_some here checked text never = reads_within (length text) here checked text (omega arith) never

@@ -1,6 +1,6 @@
 -- The codes with which the lexer refuses: a byte that begins no token (E101), a comment that is open at the end (E102), a
 -- bad number, character or string (E103), a name that is too long (E104), a line begun by `#` that is no directive
--- (E105), a text that is too long (E201).
+-- (E105).
 use Rattle.std.specs.Prelude.{ℕ}
 
 abbrev pub no_token : ℕ
@@ -17,6 +17,3 @@ long_name = 104
 
 abbrev pub bad_directive : ℕ
 bad_directive = 105
-
-abbrev pub long_text : ℕ
-long_text = 201

@@ -2,7 +2,7 @@
 use Rattle.std.specs.Prelude.{◌≡◌, ℕ, ◌<◌, ◌≤◌, Bool, true, false, ◌⊎◌, List, [], ◌∷◌, ◌++◌, length}
 use Rattle.std.specs.List.{list_any, flat_map}
 use Rattle.ckc_base.specs.declared.places.Refusal.{Refusal}
-use Rattle.ckc_base.specs.Places.{at_start, longest_text}
+use Rattle.ckc_base.specs.Places.{at_start, long_text, longest_text}
 use Rattle.ckc_syntax.specs.declared.tokens.TokenKind.TheVariants as kinds
 use Rattle.ckc_syntax.specs.declared.tokens.Directive.TheVariants.{Stdchecked}
 use Rattle.ckc_syntax.specs.Spelled.{Spelled}
@@ -11,7 +11,6 @@ use Rattle.ckc_lexer.specs.declared.items.Item.TheVariants.{Gap, Token, Broken}
 use Rattle.ckc_lexer.specs.declared.items.Context.{Context}
 use Rattle.ckc_lexer.specs.Places.{place_after, is_fresh_after}
 use Rattle.ckc_lexer.specs.Spelling.{Spells}
-use Rattle.ckc_lexer.specs.Codes.{long_text}
 
 -- a part of a text: the bytes that spell an item
 pub record Part : Type 0 where

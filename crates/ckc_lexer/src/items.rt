@@ -41,5 +41,3 @@ pub const BAD_LITERAL: u16 = 103;
 pub const LONG_NAME: u16 = 104;
 /// E105: a line begun by `#` is no directive.
 pub const BAD_DIRECTIVE: u16 = 105;
-/// E201: the text has over 262,144 bytes.
-pub const LONG_TEXT: u16 = 201;

@@ -12,6 +12,6 @@ mod marks;
 mod numbers;
 mod words;
 
-pub use items::{BAD_DIRECTIVE, BAD_LITERAL, LONG_NAME, LONG_TEXT, NO_TOKEN, OPEN_COMMENT};
+pub use items::{BAD_DIRECTIVE, BAD_LITERAL, LONG_NAME, NO_TOKEN, OPEN_COMMENT};
 pub use laws::{codes, is_exact};
 pub use lexer::{end_of, lex};

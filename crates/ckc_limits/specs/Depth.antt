@@ -1,5 +1,5 @@
 -- How deep statements and expressions stand in one another.
-use Rattle.std.specs.Prelude.{ℕ, ◌+◌, max, List, [], ◌∷◌, Option, None, Some, map}
+use Rattle.std.specs.Prelude.{ℕ, ◌+◌, max, List, [], ◌∷◌, Option, None, Some, map, unwrap_or}
 use Rattle.ckc_syntax.specs.declared.tree.Item.{Item}
 use Rattle.ckc_syntax.specs.declared.tree.Item.TheVariants as item
 use Rattle.ckc_syntax.specs.declared.tree.Head.{Head}
@@ -16,10 +16,6 @@ use Rattle.ckc_syntax.specs.declared.tree.Stmt.{Stmt, Stmt-F, fold-Stmt}
 abbrev pub greatest : List ℕ → ℕ
 greatest [] = 0
 greatest (d ∷ ds) = max d (greatest ds)
-
-abbrev pub held_depth : Option ℕ → ℕ
-held_depth None = 0
-held_depth (Some d) = d
 
 -- The depth of a tree is the number of statements and expressions on the longest path down into it. Each step
 -- below is one level, with the depth of each part in its place.
@@ -42,8 +38,8 @@ node_depth (Node-F.Dot e n pos) = e
 node_depth (Node-F.Arrow e n pos) = e
 node_depth (Node-F.Cast t e) = e
 node_depth (Node-F.Size t) = 0
-node_depth (Node-F.Trusted t e limits) = max e (held_depth limits)
-node_depth (Node-F.Tested t e limits) = max e (held_depth limits)
+node_depth (Node-F.Trusted t e limits) = max e (unwrap_or limits 0)
+node_depth (Node-F.Tested t e limits) = max e (unwrap_or limits 0)
 node_depth (Node-F.Call n es) = greatest es
 node_depth (Node-F.Calloc t e u) = e
 
@@ -81,9 +77,9 @@ act_depth Act-F.Empty = 0
 act_depth (Act-F.Local d) = depth_of_decl d
 act_depth (Act-F.Assign e f) = max (depth_of_expr e) (depth_of_expr f)
 act_depth (Act-F.Call e) = depth_of_expr e
-act_depth (Act-F.If e s t) = max (depth_of_expr e) (max s (held_depth t))
+act_depth (Act-F.If e s t) = max (depth_of_expr e) (max s (unwrap_or t 0))
 act_depth (Act-F.While e s) = max (depth_of_expr e) s
-act_depth (Act-F.For s e t body) = max (held_depth s) (max (depth_of_value e) (max (held_depth t) body))
+act_depth (Act-F.For s e t body) = max (unwrap_or s 0) (max (depth_of_value e) (max (unwrap_or t 0) body))
 act_depth (Act-F.Return e) = depth_of_value e
 act_depth Act-F.Break = 0
 act_depth Act-F.Continue = 0

@@ -1,7 +1,9 @@
 -- What labelled lines are assembled to: each line stands at the sum of the sizes before it, and its bytes are the
 -- words of its instruction with the distance to its label (RISC-V unprivileged ISA manual, RV32I). `Far` is this
 -- project's own: an AUIPC and a JALR through x26.
-use Rattle.std.specs.Prelude.{◌≡◌, ℕ, ◌+◌, ◌*◌, ◌%◌, ◌^◌, ◌<◌, ◌≤◌, ◌==◌, ℤ, pos, ◌-ℤ◌, Bool, false, List, [], length, take, drop, slice_get, Some, sum_by, count_by}
+use Rattle.std.specs.Prelude.{◌≡◌, ℕ, ◌+◌, ◌*◌, ◌^◌, ◌<◌, ◌≤◌, ◌==◌, ℤ, pos, ◌-ℤ◌, Bool, false, List, [], length, take, drop, slice_get, Some, sum_by, count_by}
+use Rattle.ckc_base.specs.Words.{applied}
+use Rattle.ckc_base.specs.declared.arithmetic.BinOp.TheVariants as binary
 use Rattle.ckc_base.specs.MemoryMap.{code_start, longest_code, longest_data}
 use Rattle.ckc_rv.specs.declared.instructions.Instr.{Instr}
 use Rattle.ckc_rv.specs.declared.instructions.Instr.TheVariants as instr
@@ -55,7 +57,7 @@ pub record IsFar (rd address target : ℕ) (bytes : List ℕ) : Type 0 where
   pub lower : ℤ
   pub first : IsWord (instr.Auipc 26 upper) (take 4 bytes)
   pub second : IsWord (instr.Jalr rd 26 lower) (drop 4 bytes)
-  pub leads : moved ((address + upper * 2 ^ 12) % 2 ^ 32) lower ≡ target
+  pub leads : moved (applied binary.Add address (upper * 2 ^ 12)) lower ≡ target
 
 -- the bytes of a line at an address, where labels stand at addresses
 abbrev pub IsCode : (ℕ → ℕ → Type 0) → ℕ → Line → List ℕ → Type 0

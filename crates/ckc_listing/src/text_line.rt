@@ -61,6 +61,15 @@ impl TextLine {
         }
     }
 
+    /// Adds a number in decimal, which has ten digits at most.
+    pub fn push_number(&mut self, n: u32)
+        requires { length self.old ≤ 70 }
+        ensures text { self.new ≡ self.old ++ decimal n }
+        ensures length { length self.new ≤ length self.old + 10 }
+    {
+        self.push_decimal(n);
+    }
+
     /// Adds a number in decimal.
     pub fn push_decimal(&mut self, n: u32)
         requires { length self.old + length (decimal n) ≤ 80 }
@@ -81,7 +90,7 @@ impl TextLine {
         if z < 0 {
             self.push(b'-');
         }
-        push_number(self, z.unsigned_abs());
+        self.push_number(z.unsigned_abs());
     }
 
     /// Adds a number as two hexadecimal digits.
@@ -131,15 +140,6 @@ impl TextLine {
         self.push(b'x');
         self.push_decimal(u32::from(n));
     }
-}
-
-/// Adds a number in decimal, which has ten digits at most.
-fn push_number(line: &mut TextLine, n: u32)
-    requires { length line.old ≤ 54 }
-    ensures text { line.new ≡ line.old ++ decimal n }
-    ensures length { length line.new ≤ length line.old + 10 }
-{
-    line.push_decimal(n);
 }
 
 fn hex_byte(digit: u32) -> u8

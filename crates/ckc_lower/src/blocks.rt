@@ -5,20 +5,10 @@ ghost use Rattle.ckc_tac.specs.declared.code.Comparison.TheVariants as compariso
 ghost use Rattle.ckc_lower.specs.Built.{is_zero as is_zero_of, test, test_of, picked as picked_of, tested, registers_of, with_op, with_value, with_values, with_end, with_jump, left, out_of, step_of, stored, used, passes, goal as goal_of, forked, join_of, entered, step_at, targets_of, block_count, built};
 
 use crate::builder::{Builder, Targets, free_after, operand, register_after};
-use ckc_base::{BinOp, Check, Pos, Seq, Width};
+use ckc_base::{BinOp, Check, Pos, Seq, Width, sum};
 use ckc_core::{CoreExpr, CoreStmt};
 use ckc_tac::{Comparison, Operand, TacEnd, TacOp};
 use std::alloc::{AllocError, Global};
-
-/// A sum; one past 2^32 - 1 is taken for want of memory.
-fn sum(a: u32, b: u32) -> Result<u32, AllocError>
-    ensures { IfOk result (λ n. n ≡ a + b) }
-{
-    match a.checked_add(b) {
-        Some(n) => Ok(n),
-        None => Err(AllocError),
-    }
-}
 
 /// Whether the statements go on to what comes behind them, or out of them, before they do anything.
 fn is_passing(stmts: &[CoreStmt]) -> bool

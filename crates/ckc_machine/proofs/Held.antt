@@ -1,4 +1,4 @@
--- What a held memory has at each address.
+-- What a memory of words has at each address.
 use Rattle.std.proofs.Common.{◌≡◌, ◌≢◌, ◌⊎◌, inl, inr, ℕ, zero, suc, ◌+◌, ◌-◌, ◌*◌, ◌/◌, ◌%◌, ◌^◌, ◌≤◌, ◌<◌, List, length, get_or, take, drop, length-take, Some, None, refl, sym, ap, subst, ◌∙◌, arith}
 use Rattle.std.proofs.lemmas.Bool.Decides.{nat_tests}
 use Rattle.std.proofs.lemmas.Bool.{cases_lt}
@@ -11,7 +11,7 @@ use Rattle.ckc_operations.specs.declared.operations.StoreOp.{StoreOp}
 use Rattle.ckc_operations.specs.declared.operations.StoreOp.TheVariants.{Sb, Sh, Sw}
 use Rattle.ckc_rv.specs.Effects.{load_bytes, store_bytes}
 use Rattle.ckc_rv.proofs.Stored.{stored_inside, stored_outside}
-use Rattle.ckc_machine.specs.Bytes.{byte_of, byte_in, stack_byte, held}
+use Rattle.ckc_machine.specs.Bytes.{byte_of, byte_in, stack_byte, memory_of_words}
 use Rattle.ckc_machine.specs.code.Bytes.{part_of, Holds, IsUnmapped, IsChanged, IsMerged}
 
 -- what holds of 0, 1, 2 and 3 holds of each number below 4
@@ -28,28 +28,28 @@ pub bytes_of_word : (word b0 b1 b2 b3 : ℕ) → b0 < 256 → b1 < 256 → b2 < 
 bytes_of_word word b0 b1 b2 b3 h0 h1 h2 h3 e = (omega arith, omega arith, omega arith, omega arith)
 
 module _ (code statics stack : List ℕ) where
-  pub held_code : (a : ℕ) → code_start ≤ a → a < code_start + length code → held code statics stack a ≡ Some (get_or code (a - code_start) 0)
-  unfolding held
+  pub held_code : (a : ℕ) → code_start ≤ a → a < code_start + length code → memory_of_words code statics stack a ≡ Some (get_or code (a - code_start) 0)
+  unfolding memory_of_words
   held_code a h k = grind (arith, nat_tests)
 
-  pub held_statics : (a : ℕ) → length code ≤ 16773120 → data_start ≤ a → a < stack_start → held code statics stack a ≡ Some (byte_in statics (a - data_start))
-  unfolding held
+  pub held_statics : (a : ℕ) → length code ≤ 16773120 → data_start ≤ a → a < stack_start → memory_of_words code statics stack a ≡ Some (byte_in statics (a - data_start))
+  unfolding memory_of_words
   held_statics a fits h k = grind (arith, nat_tests)
 
-  pub held_stack : (a : ℕ) → length code ≤ 16773120 → stack_start ≤ a → a < memory_end → held code statics stack a ≡ Some (stack_byte stack a)
-  unfolding held
+  pub held_stack : (a : ℕ) → length code ≤ 16773120 → stack_start ≤ a → a < memory_end → memory_of_words code statics stack a ≡ Some (stack_byte stack a)
+  unfolding memory_of_words
   held_stack a fits h k = grind (arith, nat_tests)
 
-  pub held_below : (a : ℕ) → a < code_start → held code statics stack a ≡ None
-  unfolding held
+  pub held_below : (a : ℕ) → a < code_start → memory_of_words code statics stack a ≡ None
+  unfolding memory_of_words
   held_below a h = grind (arith, nat_tests)
 
-  pub held_between : (a : ℕ) → code_start + length code ≤ a → a < data_start → held code statics stack a ≡ None
-  unfolding held
+  pub held_between : (a : ℕ) → code_start + length code ≤ a → a < data_start → memory_of_words code statics stack a ≡ None
+  unfolding memory_of_words
   held_between a h k = grind (arith, nat_tests)
 
-  pub held_above : (a : ℕ) → length code ≤ 16773120 → memory_end ≤ a → held code statics stack a ≡ None
-  unfolding held
+  pub held_above : (a : ℕ) → length code ≤ 16773120 → memory_end ≤ a → memory_of_words code statics stack a ≡ None
+  unfolding memory_of_words
   held_above a fits h = grind (arith, nat_tests)
 
 -- the byte i of the word at a place that is a multiple of 4
@@ -67,27 +67,27 @@ byte_in_stack words a i h below k =
     ap (λ j. byte_of (get_or words j 0) ((a + i) % 4)) p ∙ ap (byte_of (get_or words ((memory_end - 1 - a) / 4) 0)) q
 
 module _ (code statics stack : List ℕ) (fits : length code ≤ 16773120) where
-  pub holds_statics : (a : ℕ) → a % 4 ≡ 0 → data_start ≤ a → a < stack_start → Holds (held code statics stack) a (get_or statics ((a - data_start) / 4) 0)
+  pub holds_statics : (a : ℕ) → a % 4 ≡ 0 → data_start ≤ a → a < stack_start → Holds (memory_of_words code statics stack) a (get_or statics ((a - data_start) / 4) 0)
   holds_statics a al h k i l =
       let e : a + i - data_start ≡ a - data_start + i = omega arith in
       held_statics code statics stack (a + i) fits (omega arith) (omega arith)
       ∙ ap (λ j. Some (byte_in statics j)) e ∙ ap Some (byte_in_word statics (a - data_start) i (omega arith) l)
 
-  pub holds_stack : (a : ℕ) → a % 4 ≡ 0 → stack_start ≤ a → a < memory_end → Holds (held code statics stack) a (get_or stack ((memory_end - 1 - a) / 4) 0)
+  pub holds_stack : (a : ℕ) → a % 4 ≡ 0 → stack_start ≤ a → a < memory_end → Holds (memory_of_words code statics stack) a (get_or stack ((memory_end - 1 - a) / 4) 0)
   holds_stack a al h k i l =
       held_stack code statics stack (a + i) fits (omega arith) (omega arith) ∙ ap Some (byte_in_stack stack a i al k l)
 
-  pub unmapped_below : (a : ℕ) → a % 4 ≡ 0 → a < code_start → IsUnmapped (held code statics stack) a
+  pub unmapped_below : (a : ℕ) → a % 4 ≡ 0 → a < code_start → IsUnmapped (memory_of_words code statics stack) a
   unmapped_below a al h i l = held_below code statics stack (a + i) (omega arith)
 
-  pub unmapped_between : (a : ℕ) → a % 4 ≡ 0 → code_start + length code ≤ a → a < data_start → IsUnmapped (held code statics stack) a
+  pub unmapped_between : (a : ℕ) → a % 4 ≡ 0 → code_start + length code ≤ a → a < data_start → IsUnmapped (memory_of_words code statics stack) a
   unmapped_between a al h k i l = held_between code statics stack (a + i) (omega arith) (omega arith)
 
-  pub unmapped_above : (a : ℕ) → memory_end ≤ a → IsUnmapped (held code statics stack) a
+  pub unmapped_above : (a : ℕ) → memory_end ≤ a → IsUnmapped (memory_of_words code statics stack) a
   unmapped_above a h i l = held_above code statics stack (a + i) fits (omega arith)
 
   pub holds_code : (a word : ℕ) → code_start ≤ a → a + 3 < code_start + length code
-      → ((i : ℕ) → i < 4 → byte_of word i ≡ get_or code (a - code_start + i) 0) → Holds (held code statics stack) a word
+      → ((i : ℕ) → i < 4 → byte_of word i ≡ get_or code (a - code_start + i) 0) → Holds (memory_of_words code statics stack) a word
   holds_code a word h k e i l =
       let j : a + i - code_start ≡ a - code_start + i = omega arith in
       held_code code statics stack (a + i) (omega arith) (omega arith)
@@ -242,8 +242,8 @@ merged_half word place value small even h = below_4 (λ p. p % 2 ≡ 0 → IsMer
 
 -- ---- a word is put
 
-same_below : (code s s' t t' : List ℕ) (q : ℕ) → q < data_start → held code s t q ≡ held code s' t' q
-unfolding held
+same_below : (code s s' t t' : List ℕ) (q : ℕ) → q < data_start → memory_of_words code s t q ≡ memory_of_words code s' t' q
+unfolding memory_of_words
 same_below code s s' t t' q h = grind (arith, nat_tests)
 
 data Region (q : ℕ) : Type 0 where
@@ -266,10 +266,10 @@ abbrev pub SameBut : ℕ → List ℕ → List ℕ → Type 0
 SameBut at old new = (j : ℕ) → j ≢ at → get_or new j 0 ≡ get_or old j 0
 
 module _ (code statics stack now : List ℕ) (fits : length code ≤ 16773120) (a word : ℕ) (al : a % 4 ≡ 0) where
-  pub changed_statics : get_or now ((a - data_start) / 4) 0 ≡ word → SameBut ((a - data_start) / 4) statics now → data_start ≤ a → a < stack_start → IsChanged (held code statics stack) (held code now stack) a word
+  pub changed_statics : get_or now ((a - data_start) / 4) 0 ≡ word → SameBut ((a - data_start) / 4) statics now → data_start ≤ a → a < stack_start → IsChanged (memory_of_words code statics stack) (memory_of_words code now stack) a word
   changed_statics same others h k = record {
-    here = subst (Holds (held code now stack) a) same (holds_statics code now stack fits a al h k);
-    elsewhere = λ q o. elim (region_of q) as (λ _. held code now stack q ≡ held code statics stack q) [
+    here = subst (Holds (memory_of_words code now stack) a) same (holds_statics code now stack fits a al h k);
+    elsewhere = λ q o. elim (region_of q) as (λ _. memory_of_words code now stack q ≡ memory_of_words code statics stack q) [
       | below_data l ↦ same_below code now statics stack stack q l
       | in_data l r ↦
           let apart : (q - data_start) / 4 ≢ (a - data_start) / 4 = elim o as (λ _. (q - data_start) / 4 ≢ (a - data_start) / 4) [ inl p ↦ omega arith | inr p ↦ omega arith ] in
@@ -279,10 +279,10 @@ module _ (code statics stack now : List ℕ) (fits : length code ≤ 16773120) (
     ];
   }
 
-  pub changed_stack : get_or now ((memory_end - 1 - a) / 4) 0 ≡ word → SameBut ((memory_end - 1 - a) / 4) stack now → stack_start ≤ a → a < memory_end → IsChanged (held code statics stack) (held code statics now) a word
+  pub changed_stack : get_or now ((memory_end - 1 - a) / 4) 0 ≡ word → SameBut ((memory_end - 1 - a) / 4) stack now → stack_start ≤ a → a < memory_end → IsChanged (memory_of_words code statics stack) (memory_of_words code statics now) a word
   changed_stack same others h k = record {
-    here = subst (Holds (held code statics now) a) same (holds_stack code statics now fits a al h k);
-    elsewhere = λ q o. elim (region_of q) as (λ _. held code statics now q ≡ held code statics stack q) [
+    here = subst (Holds (memory_of_words code statics now) a) same (holds_stack code statics now fits a al h k);
+    elsewhere = λ q o. elim (region_of q) as (λ _. memory_of_words code statics now q ≡ memory_of_words code statics stack q) [
       | below_data l ↦ same_below code statics statics now stack q l
       | in_data l r ↦ held_statics code statics now q fits l r ∙ sym (held_statics code statics stack q fits l r)
       | in_stack l r ↦
@@ -363,8 +363,8 @@ filled_all words bytes i h filled zero' k = elim (cases_lt k (4 * i)) as (λ _. 
   | inr p ↦ ap (λ w. byte_of w (k % 4)) (zero' (k / 4) (omega arith)) ∙ zero_byte (k % 4) (omega arith) ∙ sym (get_or_past bytes k 0 (omega arith))
 ]
 
-flat_below : (parts : Parts) (s t : List ℕ) (q : ℕ) → q < data_start → held parts.code s t q ≡ flat parts q
-unfolding held flat
+flat_below : (parts : Parts) (s t : List ℕ) (q : ℕ) → q < data_start → memory_of_words parts.code s t q ≡ flat parts q
+unfolding memory_of_words flat
 flat_below parts s t q h = grind (arith, nat_tests)
 
 flat_data : (parts : Parts) (q : ℕ) → length parts.code ≤ 16773120 → data_start ≤ q → q < stack_start → flat parts q ≡ Some (get_or parts.initial (q - data_start) 0)
@@ -380,8 +380,8 @@ unfolding flat
 flat_above parts q fits h = grind (arith, nat_tests)
 
 pub held_is_flat : (parts : Parts) (statics stack : List ℕ) → length parts.code ≤ 16773120 → ((k : ℕ) → byte_in statics k ≡ get_or parts.initial k 0) → ((j : ℕ) → get_or stack j 0 ≡ 0)
-    → held parts.code statics stack ≡ flat parts
-held_is_flat parts statics stack fits e z = fun_ext (λ q. elim (region_of q) as (λ _. held parts.code statics stack q ≡ flat parts q) [
+    → memory_of_words parts.code statics stack ≡ flat parts
+held_is_flat parts statics stack fits e z = fun_ext (λ q. elim (region_of q) as (λ _. memory_of_words parts.code statics stack q ≡ flat parts q) [
   | below_data l ↦ flat_below parts statics stack q l
   | in_data l r ↦ held_statics parts.code statics stack q fits l r ∙ ap Some (e (q - data_start)) ∙ sym (flat_data parts q fits l r)
   | in_stack l r ↦

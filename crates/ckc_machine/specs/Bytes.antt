@@ -16,8 +16,8 @@ abbrev pub stack_byte : List ℕ → ℕ → ℕ
 stack_byte words a = byte_of (slice_index words ((memory_end - 1 - a) / 4)) (a % 4)
 
 -- The memory that has this code, and these words in the data region and in the stack.
-unfoldable pub held : List ℕ → List ℕ → List ℕ → Memory
-held code statics stack a =
+unfoldable pub memory_of_words : List ℕ → List ℕ → List ℕ → Memory
+memory_of_words code statics stack a =
     if nat_lt a code_start then None
     else if nat_lt a (code_start + length code) then Some (slice_index code (a - code_start))
     else if nat_lt a data_start then None

@@ -82,3 +82,7 @@ function_weight f = 64 + 64 * f.locals + code_weight f.body
 
 abbrev pub program_weight : Program → ℕ
 program_weight p = sum_by function_weight p.functions
+
+-- how much a program may weigh: the longest code has room for as many instructions and for the five of the start
+abbrev pub most_weight : ℕ
+most_weight = 4193275

@@ -4,56 +4,15 @@ ghost use Rattle.std.specs.Prelude.{◌≡◌, ◌+◌, max, IfOk, if◌then◌e
 ghost use Rattle.ckc_core.specs.Code.{Expr, expr_of};
 ghost use Rattle.ckc_source.specs.Code.{expr_of as source_of};
 ghost use Rattle.ckc_base.specs.declared.arithmetic.Width.TheVariants.{Word};
-ghost use Rattle.ckc_source.specs.Words.{operator, divides};
 ghost use Rattle.ckc_operands.specs.Operands.{is_unchecked, is_direct, operated, low_byte, as_truth, is_zero, scaled, shifted, at_offset, element_of, place_at, direct, operand};
 
 use crate::casts::casts_one;
 use ckc_base::{BinOp, Boxed, Width};
 use ckc_core::CoreExpr;
 use ckc_guards::{binary, low_byte};
+use ckc_source::operators::{chosen, divides, operator};
 use ckc_source::{Access, ExprTree, Operation, Through};
 use std::alloc::{AllocError, Global};
-
-/// The first where the flag says so, and else the second.
-fn chosen(first: bool, one: BinOp, two: BinOp) -> BinOp
-    ensures { result ≡ (if first then one else two) }
-{
-    if first { one } else { two }
-}
-
-/// The operation on words, by whether the operands are signed.
-fn operator(operation: Operation, is_signed: bool) -> BinOp
-    ensures { result ≡ operator operation is_signed }
-{
-    match operation {
-        Operation::Add => BinOp::Add,
-        Operation::Sub => BinOp::Sub,
-        Operation::Mul => BinOp::Mul,
-        Operation::Div => chosen(is_signed, BinOp::DivS, BinOp::DivU),
-        Operation::Rem => chosen(is_signed, BinOp::RemS, BinOp::RemU),
-        Operation::And => BinOp::And,
-        Operation::Or => BinOp::Or,
-        Operation::Xor => BinOp::Xor,
-        Operation::Shl => BinOp::Shl,
-        Operation::Shr => chosen(is_signed, BinOp::ShrS, BinOp::ShrU),
-        Operation::Lt => chosen(is_signed, BinOp::LtS, BinOp::LtU),
-        Operation::Le => chosen(is_signed, BinOp::LtS, BinOp::LtU),
-        Operation::Gt => chosen(is_signed, BinOp::LtS, BinOp::LtU),
-        Operation::Ge => chosen(is_signed, BinOp::LtS, BinOp::LtU),
-        Operation::Eq => BinOp::Eq,
-        Operation::Ne => BinOp::Ne,
-    }
-}
-
-/// Whether an operation divides.
-pub fn divides(operation: Operation) -> bool
-    ensures { result ≡ divides operation }
-{
-    match operation {
-        Operation::Div | Operation::Rem => true,
-        _ => false,
-    }
-}
 
 /// Whether an access has no checks.
 fn is_unchecked(through: Through) -> bool

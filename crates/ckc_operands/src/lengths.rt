@@ -10,9 +10,9 @@ ghost use Rattle.ckc_operands.specs.Pointers.{length_at, bytes_left, bytes_fit, 
 
 use crate::exprs::{at_offset, scaled};
 use crate::ranges::{from_low, held, held_test, keeps_index};
-use ckc_base::{BinOp, Boxed, Width};
+use ckc_base::{BinOp, Boxed, Width, sum};
 use ckc_core::CoreExpr;
-use ckc_guards::{below_or_at, binary, sum};
+use ckc_guards::{below_or_at, binary};
 use ckc_source::{Count, ExprTree, Integer};
 use std::alloc::{AllocError, Global};
 

@@ -9,10 +9,9 @@ mod numbers;
 mod ranges;
 
 pub use casts::casts_one;
-pub use ckc_guards::{binary, kept_in, low_byte, may_write, null_check, sum};
+pub use ckc_guards::{binary, kept_in, low_byte, may_write, null_check};
 pub use exprs::{
-    as_truth, at_offset, direct, divides, element_of, is_direct, is_zero, operand, operated,
-    scaled, shifted,
+    as_truth, at_offset, direct, element_of, is_direct, is_zero, operand, operated, scaled, shifted,
 };
 pub use lengths::{cast_passes, length_at};
 pub use numbers::{is_number, is_this, number};

@@ -10,9 +10,9 @@ ghost use Rattle.ckc_operands.specs.Pointers.{below_end, is_bounded, reads_signe
 
 use crate::exprs::{at_offset, operand, shifted};
 use crate::numbers::{is_number, number};
-use ckc_base::{BinOp, Boxed, Width};
+use ckc_base::{BinOp, Boxed, Width, sum};
 use ckc_core::CoreExpr;
-use ckc_guards::{below_or_at, binary, cancels, sum, upper_test};
+use ckc_guards::{below_or_at, binary, cancels, upper_test};
 use ckc_source::{Access, Base, Count, End, ExprTree, Integer, Through, Variable};
 use std::alloc::{AllocError, Global};
 

@@ -1,5 +1,6 @@
 -- What a source gave and a sink was given in a run.
-use Rattle.std.specs.Prelude.{◌≡◌, ℕ, ◌≤◌, ◌<◌, List, [], ◌∷◌, ◌++◌, take, Bool, IsTrue, Option, Some, None}
+pub use Rattle.ckc_base.specs.Lists.{AreBytes}
+use Rattle.std.specs.Prelude.{◌≡◌, ℕ, ◌≤◌, List, [], ◌∷◌, ◌++◌, take, Bool, IsTrue, Option, Some, None}
 use Rattle.std.specs.List.{flat_map}
 use Rattle.ckc_base.specs.Traces.{Event, Got, Put}
 use Rattle.ckc_outside.specs.Outside.{SeenSource, one_more}
@@ -34,11 +35,6 @@ WhereTold told told' Holds =
 unfoldable pub after_answers : ℕ → List ℕ → ℕ
 after_answers n [] = n
 after_answers n (byte ∷ more) = after_answers (one_more n) more
-
--- each number is a byte
-abbrev pub AreBytes : List ℕ → Type 0
-AreBytes [] = Unit {0}
-AreBytes (b ∷ bytes) = (b < 256) × AreBytes bytes
 
 -- What a source gave: as many numbers as it counted, each a byte, and none where it had ended. Where it had ended it
 -- stays so.

@@ -1,5 +1,5 @@
 -- What the tokens of a whole text derive, and where they stop to be the beginning of a text.
-use Rattle.std.specs.Prelude.{◌≡◌, ℕ, List, [], ◌∷◌, ◌++◌}
+use Rattle.std.specs.Prelude.{◌≡◌, List, [], ◌∷◌, ◌++◌}
 use Rattle.ckc_base.specs.declared.places.Pos.{Pos}
 use Rattle.ckc_base.specs.declared.places.Refusal.{Refusal}
 use Rattle.ckc_syntax.specs.Spelled.{Spelled}
@@ -8,7 +8,7 @@ use Rattle.ckc_grammar.specs.Grammar.{Part, n}
 use Rattle.ckc_grammar.specs.Grammar as g
 pub use Rattle.ckc_syntax.specs.Trees.{Tree as SpelledTree}
 use Rattle.ckc_grammar.specs.Values.{Value, tree}
-use Rattle.ckc_grammar.specs.Derives.{Derives}
+use Rattle.ckc_grammar.specs.Derives.{Derives, syntax_error}
 use Rattle.ckc_grammar.specs.Marked.{signs}
 
 abbrev pub start : Part
@@ -34,10 +34,6 @@ IsFault xs end pos = (front : List Spelled) × (rest : List Spelled) × (xs ≡ 
 -- the tokens derive the tree
 abbrev pub DerivesTokens : List Spelled → SpelledTree → Type 0
 DerivesTokens xs whole = DerivesValue xs (tree whole)
-
--- E120: the tokens are no text
-abbrev pub syntax_error : ℕ
-syntax_error = 120
 
 -- The fault for which the tokens are refused, at the first place where they stop to begin a text.
 abbrev pub FirstFault : List Spelled → Pos → Refusal → Type 0

@@ -1,30 +1,15 @@
 //! Forms of integers and of addresses, and the facts that their order is.
 
-ghost use Rattle.std.specs.Prelude.{◌≡◌, ◌&&◌, ◌^◌, IfOk, OnOk, neg_ℤ};
+ghost use Rattle.std.specs.Prelude.{◌≡◌, ◌&&◌, ◌^◌, IfOk, OnOk};
 ghost use Rattle.ckc_linear.specs.Facts.{IsWithin};
-ghost use Rattle.ckc_typed.specs.Constants.{value_of};
-ghost use Rattle.ckc_typed.specs.Amounts.{is_multiple};
-ghost use Rattle.ckc_typed.specs.Operands.{same_element};
 ghost use Rattle.ckc_points.specs.Shown.{known};
 ghost use Rattle.ckc_points.specs.Forms.{is_small, constant_form, moved_form, in_type, within_interval, sum_of_forms, negative_of, difference_of_forms, base_form, same_base, same_form, at_most, at_less, with_most, with_less, elements_of, elements};
 
 use ckc_known::{Interval, Work, add_fact, is_between, is_small, range_of};
 use ckc_linear::{Base, Fact, Facts, Form};
-use ckc_typed::Constant;
-use ckc_typed::types::same_type;
+use ckc_typed::amounts::is_multiple;
 use ckc_types::CType;
 use std::alloc::AllocError;
-
-/// The number that is the negative of a constant's.
-pub fn negative_value(c: Constant) -> i64
-    ensures { result ≡ neg_ℤ (value_of c) }
-{
-    if c.unsigned {
-        -i64::from(c.word)
-    } else {
-        -i64::from(c.word.cast_signed())
-    }
-}
 
 /// The form of a number.
 pub fn constant_form(n: i64) -> Form
@@ -45,16 +30,6 @@ pub fn base_form(base: Base) -> Form
         base: Some(base),
         var: 0,
         add: 0,
-    }
-}
-
-/// Whether two types are pointers to one type.
-pub fn same_element(t: &CType, u: &CType) -> bool
-    ensures { result ≡ same_element t.now u.now }
-{
-    match (t, u) {
-        (CType::Pointer(_, a), CType::Pointer(_, b)) => same_type(a.get(), b.get()),
-        _ => false,
     }
 }
 
@@ -216,13 +191,6 @@ pub fn add_less(x: Form, y: Form, facts: &mut Facts) -> Result<(), AllocError>
         return add_fact(facts, at_less(x, y));
     }
     Ok(())
-}
-
-/// Whether a number is a multiple of a size.
-pub fn is_multiple(c: i64, size: u32) -> bool
-    ensures { result ≡ is_multiple c size }
-{
-    size > 0 && c % i64::from(size) == 0
 }
 
 fn elements_of(size: u32, f: Form) -> Option<Form>

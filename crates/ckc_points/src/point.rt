@@ -159,7 +159,7 @@ fn names_local(k: u32, base: Option<Base>) -> bool
 }
 
 /// Whether a form names a local, as its base or as its variable.
-pub fn in_form(k: u32, f: &Form) -> bool
+fn in_form(k: u32, f: &Form) -> bool
     ensures { result ≡ in_form k f.now }
 {
     names_local(k, f.base) || f.var.checked_sub(1) == Some(k)

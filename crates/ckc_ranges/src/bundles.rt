@@ -13,7 +13,7 @@ use std::alloc::{AllocError, Global};
 /// What a bundle may assign: a local, the member of what a local points to, or a member of an object of file scope, each
 /// by its numbers.
 #[derive(Clone, Copy)]
-pub enum Target {
+enum Target {
     Local(u32),
     Through(u32, u32),
     Of(u32, u32),
@@ -160,7 +160,7 @@ fn node_names(node: &Node<Name, Note>, t: Target) -> bool
 
 /// Whether a target is named anywhere in an expression.
 #[cycle(names)]
-pub fn names(e: &Expr<Name, Note>, t: Target) -> bool
+fn names(e: &Expr<Name, Note>, t: Target) -> bool
     ensures { result ≡ (mention e.now).names t }
 {
     node_names(&e.node, t)

@@ -78,7 +78,7 @@ pub fn extend(
 }
 
 /// Whether bounds lie in a range: all four ends are forms with one base, in order.
-pub fn lies_between(
+fn lies_between(
     work: &mut Work,
     facts: &Facts,
     range: Ends,

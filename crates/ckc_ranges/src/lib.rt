@@ -7,8 +7,8 @@ mod members;
 mod replacements;
 mod rows;
 
-pub use bundles::{Target, is_bundle, names};
-pub use containment::{Ends, extend, is_contained, lies_between};
-pub use members::{has_no_address, may_be_assigned_alone, may_be_assigned_with, takes_part};
-pub use replacements::{BaseBy, VariableBy, replaced, replaced_bounds};
-pub use rows::{range_from, range_of_array, range_of_bounds, range_of_ends, range_of_local};
+pub use bundles::is_bundle;
+pub use containment::{Ends, extend, is_contained};
+pub use members::{has_no_address, may_be_assigned_alone, may_be_assigned_with};
+pub use replacements::{BaseBy, VariableBy, replaced_bounds};
+pub use rows::{range_from, range_of_array, range_of_ends, range_of_local};

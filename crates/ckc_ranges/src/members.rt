@@ -62,7 +62,7 @@ fn names_another(structs: &Structs, tag: u32, m: u32) -> bool
 }
 
 /// Whether a member of the structure with a tag takes part in bounds: its bounds name a member, or another's name it.
-pub fn takes_part(structs: &Structs, tag: u32, m: u32) -> bool
+fn takes_part(structs: &Structs, tag: u32, m: u32) -> bool
     ensures { result ≡ takes_part structs.now tag m }
 {
     names_another(structs, tag, m) || is_named(structs, tag, m)

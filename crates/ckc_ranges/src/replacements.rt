@@ -61,7 +61,7 @@ fn variable_replaced(variables: &[VariableBy], x: u32) -> Option<Form>
 }
 
 /// A form with its base and its variable replaced, where it then has one variable at most.
-pub fn replaced(bases: &[BaseBy], variables: &[VariableBy], f: Form) -> Option<Form>
+fn replaced(bases: &[BaseBy], variables: &[VariableBy], f: Form) -> Option<Form>
     ensures { result ≡ replaced bases.now variables.now f }
 {
     moved_form(

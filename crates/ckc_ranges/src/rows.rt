@@ -33,7 +33,7 @@ fn range_moved(low: Form, high: Option<Form>) -> Range
 }
 
 /// The range that declared bounds give: unknown ones give none.
-pub fn range_of_bounds(bounds: &Bounds) -> Range
+fn range_of_bounds(bounds: &Bounds) -> Range
     ensures { result ≡ range_of_bounds bounds.now }
 {
     match bounds {

@@ -2,7 +2,7 @@ pub mod Coded
 pub mod CodedItems
 pub mod CodedNodes
 pub mod FirstHeads
-pub mod Ends
+pub mod StaticItems
 pub mod Indexing
 pub mod MainDeclared
 pub mod Parts

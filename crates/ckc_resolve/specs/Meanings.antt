@@ -1,6 +1,6 @@
 -- What a name means at its place (ISO C11, 6.2.1 and 6.2.3).
 use Rattle.std.specs.Prelude.{Option, None, Some, if◌then◌else◌, codes}
-use Rattle.std.specs.Option.{option_map}
+use Rattle.std.specs.Option.{option_map, option_or}
 use Rattle.std.specs.Str.{bytes_eq}
 use Rattle.ckc_base.specs.declared.places.Pos.{Pos}
 use Rattle.ckc_base.specs.Outcomes.{Outcome, there_or}
@@ -11,10 +11,6 @@ use Rattle.ckc_resolve.specs.declared.scopes.Scopes.{Scopes}
 use Rattle.ckc_resolve.specs.Codes.{undeclared}
 use Rattle.ckc_resolve.specs.Spellings.{Spelling, is_among, place_of}
 use Rattle.ckc_resolve.specs.Scoping.{found}
-
-abbrev pub or_else : Option Name → Option Name → Option Name
-or_else (Some n) other = Some n
-or_else None other = other
 
 abbrev pub static_of : Names → Spelling → Option Name
 static_of names s = option_map (λ n. name.Static n) (place_of names.statics s)
@@ -33,11 +29,11 @@ built_in s = if bytes_eq s (codes "getchar") then Some name.Getchar else (if byt
 -- A name that no local hides is an object of the file, or else a function of it, or else a built-in one. `calloc` is
 -- none: it begins a form of its own, and no text declares it.
 abbrev pub of_file : Names → Spelling → Option Name
-of_file names s = if bytes_eq s (codes "calloc") then None else or_else (static_of names s) (or_else (function_of names s) (built_in s))
+of_file names s = if bytes_eq s (codes "calloc") then None else option_or (static_of names s) (option_or (function_of names s) (built_in s))
 
 -- A name in an expression, called or not, is the innermost declaration that is visible, or else a name of the file.
 abbrev pub meaning_of : Names → Scopes → Spelling → Option Name
-meaning_of names scopes s = or_else (found scopes.visible s) (of_file names s)
+meaning_of names scopes s = option_or (found scopes.visible s) (of_file names s)
 
 -- a tag that a type names has a body somewhere in the text
 abbrev pub tag_of : Names → Spelling → Option Name

@@ -113,7 +113,7 @@ fn named_node<'a>(
 
 /// An expression.
 #[cycle(expr)]
-pub fn named_expr<'a>(
+fn named_expr<'a>(
     alloc: Global,
     names: &Names<'a>,
     scopes: &Scopes<'a>,

@@ -8,7 +8,7 @@ ghost use Rattle.ckc_resolve.specs.Codes.{IsCode};
 ghost use Rattle.ckc_resolve.specs.Trees.{Tree};
 ghost use Rattle.ckc_resolve.specs.Phase.{naming, place_of_main};
 
-/// A tree has one text of names or one first error, and not both.
+/// A tree has one text of names or one first error: never two, never both, never neither.
 pub fn is_exact()
     ensures exact { IsExact naming }
 {}

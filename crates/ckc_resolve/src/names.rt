@@ -71,10 +71,7 @@ impl<'a> Names<'a> {
 }
 
 /// Adds the spellings of members.
-pub fn add_members<'a>(
-    all: &mut Spellings<'a>,
-    members: &[Decl<Spelling<'a>, ()>],
-) -> Result<(), Fault>
+fn add_members<'a>(all: &mut Spellings<'a>, members: &[Decl<Spelling<'a>, ()>]) -> Result<(), Fault>
     ensures added { OnOk result (all.new ≡ fold with_member all.old members.now) }
     ensures memory { AnswersOutcome result (Ok tt) }
 {

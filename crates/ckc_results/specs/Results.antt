@@ -12,7 +12,7 @@ use Rattle.ckc_typed.specs.declared.environment.Amount.{Amount}
 use Rattle.ckc_typed.specs.declared.environment.Variable as variables
 use Rattle.ckc_typed.specs.declared.typed.Note.{Note}
 use Rattle.ckc_typed.specs.declared.typed.Typed.{Typed}
-use Rattle.ckc_typed.specs.Trees.{NotedLimits, NotedNode, NotedExpr}
+use Rattle.ckc_typed.specs.Trees.{NotedLimits, NotedNode, NotedExpr, NotedLayer}
 use Rattle.ckc_typed.specs.Types.{kind_of}
 use Rattle.ckc_typed.specs.Amounts.{amount, amount_of_form}
 use Rattle.ckc_source.specs.declared.expr.Variable.{Variable}
@@ -62,11 +62,11 @@ abbrev pub pointer_form : {L M : Type 0} → Typed → Node-F Name Note L M Note
 pointer_form p (Node-F.Name n) = end_named p n
 pointer_form p _ = None
 
-abbrev pub bound_form : Typed → List variables.Variable → Node-F Name Note NotedLimits NotedNode NotedExpr → Option End
+abbrev pub bound_form : Typed → List variables.Variable → NotedLayer → Option End
 bound_form p locals (Node-F.Bin o e f) = shifted locals o (pointer_form p (out-Node Name Note e.node)) (amount p.layout f)
 bound_form p locals form = pointer_form p form
 
-abbrev pub outer_form : Typed → List variables.Variable → Node-F Name Note NotedLimits NotedNode NotedExpr → Option End
+abbrev pub outer_form : Typed → List variables.Variable → NotedLayer → Option End
 outer_form p locals (Node-F.Bin o e f) = shifted locals o (bound_form p locals (out-Node Name Note e.node)) (amount p.layout f)
 outer_form p locals form = pointer_form p form
 

@@ -1,8 +1,9 @@
 -- What each instruction does (RISC-V unprivileged ISA manual, RV32I and "M"): the register that it writes and the
 -- next pc, or the access to memory.
-use Rattle.std.specs.Prelude.{ℕ, ◌+◌, ◌-◌, ◌*◌, ◌/◌, ◌%◌, ◌^◌, ◌==◌, not, nat_lt, int_lt, Bool, if◌then◌else◌, ℤ, pos, ◌*ℤ◌, List, slice_index}
+use Rattle.std.specs.Prelude.{ℕ, ◌-◌, ◌*◌, ◌%◌, ◌^◌, ◌==◌, not, nat_lt, int_lt, Bool, true, false, if◌then◌else◌, ℤ, pos, ◌*ℤ◌, List, slice_index}
 use Rattle.std.specs.Int.{w8, w16, cast_signed, int_shr}
 use Rattle.ckc_base.specs.Words.{applied, signed, word_of}
+use Rattle.ckc_base.specs.Products.{high_product}
 use Rattle.ckc_base.specs.declared.arithmetic.BinOp.TheVariants as word
 use Rattle.ckc_operations.specs.declared.operations.BranchOp.{BranchOp}
 use Rattle.ckc_operations.specs.declared.operations.BranchOp.TheVariants.{Beq, Bne, Blt, Bge, Bltu, Bgeu}
@@ -23,7 +24,7 @@ use Rattle.ckc_rv.specs.declared.registers.Outcome.TheVariants.{Next, Load as Lo
 abbrev pub upper_half : ℤ → ℕ
 upper_half product = word_of (int_shr product 32)
 
--- The value of an operation on two registers: that of the operation on words, and the upper halves of products.
+-- The value of an operation on two registers: that of the operation on words, and the upper words of products.
 abbrev pub reg_value : RegOp → ℕ → ℕ → ℕ
 reg_value Add a b = applied word.Add a b
 reg_value Sub a b = applied word.Sub a b
@@ -36,9 +37,9 @@ reg_value Sra a b = applied word.ShrS a b
 reg_value Or a b = applied word.Or a b
 reg_value And a b = applied word.And a b
 reg_value Mul a b = applied word.Mul a b
-reg_value Mulh a b = upper_half (signed a *ℤ signed b)
+reg_value Mulh a b = high_product true a b
 reg_value Mulhsu a b = upper_half (signed a *ℤ pos b)
-reg_value Mulhu a b = a * b / 2 ^ 32
+reg_value Mulhu a b = high_product false a b
 reg_value Div a b = applied word.DivS a b
 reg_value Divu a b = applied word.DivU a b
 reg_value Rem a b = applied word.RemS a b
@@ -67,7 +68,7 @@ is_taken Bgeu a b = not (nat_lt a b)
 
 -- an address and a signed offset, modulo 2 ^ 32
 abbrev pub moved : ℕ → ℤ → ℕ
-moved address offset = (address + word_of offset) % 2 ^ 32
+moved address offset = applied word.Add address (word_of offset)
 
 -- the address of the instruction after that at pc
 abbrev pub following : ℕ → ℕ
@@ -84,7 +85,7 @@ jumps rd value target = if target % 4 == 0 then Next rd value target else BadTar
 -- the effect of an instruction at pc, with the values of the 32 registers
 abbrev pub effect_of : Instr → ℕ → List ℕ → Outcome
 effect_of (Lui rd upper) pc x = writes rd (upper * 2 ^ 12) pc
-effect_of (Auipc rd upper) pc x = writes rd ((pc + upper * 2 ^ 12) % 2 ^ 32) pc
+effect_of (Auipc rd upper) pc x = writes rd (applied word.Add pc (upper * 2 ^ 12)) pc
 effect_of (Jal rd offset) pc x = jumps rd (following pc) (moved pc offset)
 effect_of (Jalr rd rs1 offset) pc x =
     let target = moved (slice_index x rs1) offset in jumps rd (following pc) (target - target % 2)

@@ -1,8 +1,9 @@
 -- The machine of an image, step by step, over one flat memory: the memory map, the environment calls and the
 -- faults are this project's (docs/language.md), the effects of instructions those of the table.
 pub use Rattle.ckc_base.specs.MemoryMap.{code_start, data_start, stack_start, memory_end}
-use Rattle.std.specs.Prelude.{ℕ, zero, suc, ◌+◌, ◌-◌, ◌*◌, ◌/◌, ◌%◌, ◌^◌, ◌==◌, nat_lt, not, ◌&&◌, Bool, if◌then◌else◌, List, [], ◌∷◌, length, slice_index, slice_set, replicate, Option, Some, None, option_and_then}
-use Rattle.std.specs.Option.{option_map}
+pub use Rattle.ckc_base.specs.Memory.{Memory}
+unfoldable pub use Rattle.ckc_base.specs.Memory.{bytes_from as loaded, with_byte, with_bytes as stored}
+use Rattle.std.specs.Prelude.{ℕ, ◌+◌, ◌-◌, ◌/◌, ◌%◌, ◌^◌, ◌==◌, nat_lt, not, ◌&&◌, Bool, if◌then◌else◌, List, [], ◌∷◌, length, slice_index, slice_set, replicate, Option, Some, None, option_and_then}
 use Rattle.ckc_base.specs.declared.runtime_checks.Check.{Check}
 use Rattle.ckc_base.specs.Checks.{check_with}
 use Rattle.ckc_base.specs.Traces.{Event, Got, Put, Ended, Stopped, Fault, Showing}
@@ -22,10 +23,6 @@ pub record Parts : Type 0 where
 
 -- ---- memory
 
--- the byte at each address that is mapped
-abbrev pub Memory : Type 0
-Memory = ℕ → Option ℕ
-
 -- The memory at the start: the code, the data region with the initial bytes and then zeros, and the stack of zeros.
 -- All else is unmapped.
 unfoldable pub flat : Parts → Memory
@@ -37,23 +34,6 @@ flat parts a =
     else if nat_lt a stack_start then Some (slice_index parts.initial (a - data_start))
     else if nat_lt a memory_end then Some 0
     else None
-
--- the number that so many bytes from an address on spell, the lowest first, where all are mapped
-unfoldable pub loaded : Memory → ℕ → ℕ → Option ℕ
-loaded memory zero a = Some 0
-loaded memory (suc count) a =
-    option_and_then (λ low. option_map (λ high. low + 256 * high) (loaded memory count (a + 1)))
-    (memory a)
-
--- the memory with another byte at an address
-unfoldable pub with_byte : Memory → ℕ → ℕ → Memory
-with_byte memory a byte q = if q == a then Some byte else memory q
-
--- the memory with the lowest bytes of a number from an address on
-unfoldable pub stored : Memory → ℕ → ℕ → ℕ → Memory
-stored memory zero a value = memory
-stored memory (suc count) a value =
-    with_byte (stored memory count (a + 1) (value / 256)) a (value % 256)
 
 -- whether an instruction lies at an address
 abbrev pub is_code : Parts → ℕ → Bool

@@ -1,15 +1,15 @@
 -- Laws of verdicts.
-use Rattle.std.proofs.Common.{refl, ◌≡◌, ◌<◌, ◌≤◌, ◌+◌, ℕ, suc, length, List, [], ◌∷◌, ◌++◌, get_or, drop, ap, sym, ◌∙◌, drop-cons, add-one, Option, None, Some}
-use Rattle.std.specs.Prelude.{Result, Ok, Err, flat_map, map, IsErrAnd}
+use Rattle.std.proofs.Common.{refl, ◌≡◌, ◌<◌, ◌+◌, ℕ, suc, length, List, [], ◌∷◌, ◌++◌, get_or, drop, ap, sym, ◌∙◌, drop-cons, add-one}
+use Rattle.std.specs.Prelude.{Ok, Err, flat_map, map, IsErrAnd}
 use Rattle.std.specs.Option.{option_or}
 use Rattle.ckc_base.specs.declared.places.Pos.{Pos}
 use Rattle.ckc_base.specs.declared.places.Refusal.{Refusal}
 use Rattle.ckc_base.specs.declared.arithmetic.Mode.{Mode}
-use Rattle.ckc_base.specs.declared.arithmetic.Mode.TheVariants.{Checked, Unchecked}
+use Rattle.ckc_base.specs.declared.arithmetic.Mode.TheVariants.{Unchecked}
 use Rattle.ckc_syntax.specs.declared.tree.Item.{Item}
 use Rattle.ckc_syntax.specs.declared.tree.Name.{Name}
 use Rattle.ckc_typed.specs.declared.typed.Note.{Note}
-use Rattle.ckc_typed.specs.Walk.{Spot, Matter, spot, written_at, spots_of_item, spots_of_items, mode_after}
+use Rattle.ckc_typed.specs.Walk.{Spot, Matter, spot, spots_of_item, spots_of_items, pragma_after}
 use Rattle.ckc_typed.specs.Scoped.{fault_at}
 use Rattle.ckc_scopes.specs.code.Verdict.{Verdict, then, refused, verdict, first}
 
@@ -67,18 +67,18 @@ module _ (items : List (Item Name Note)) where
 
   -- one turn of the loop over the items of a text
   module _ (xs : List (Item Name Note)) (all : List Spot) (pragma : Mode) (i : ℕ) (x : Item Name Note) (v : Verdict) where
-    split_items : i < length xs → x ≡ get_or xs i x → spots_of_items pragma (drop i xs) ≡ spots_of_item pragma x ++ spots_of_items (mode_after pragma x) (drop (i + 1) xs)
-    split_items h e = rw (add-one, drop-cons xs i x) (ap (λ y. spots_of_item pragma y ++ spots_of_items (mode_after pragma y) (drop (suc i) xs)) (sym e))
+    split_items : i < length xs → x ≡ get_or xs i x → spots_of_items pragma (drop i xs) ≡ spots_of_item pragma x ++ spots_of_items (pragma_after pragma x) (drop (i + 1) xs)
+    split_items h e = rw (add-one, drop-cons xs i x) (ap (λ y. spots_of_item pragma y ++ spots_of_items (pragma_after pragma y) (drop (suc i) xs)) (sym e))
 
     pub items_stop : (r : Verdict) (y : Refusal) → i < length xs → x ≡ get_or xs i x → verdict items all ≡ verdict items (spots_of_items pragma (drop i xs)) →
         IsErrAnd r (λ z. z ≡ y) → v ≡ Err y → v ≡ verdict items (spots_of_item pragma x) → r ≡ verdict items all
     items_stop r y h e k o p q =
-        stops (spots_of_item pragma x) (spots_of_items (mode_after pragma x) (drop (i + 1) xs)) (spots_of_items pragma (drop i xs)) r v y o p q (split_items h e) ∙ sym k
+        stops (spots_of_item pragma x) (spots_of_items (pragma_after pragma x) (drop (i + 1) xs)) (spots_of_items pragma (drop i xs)) r v y o p q (split_items h e) ∙ sym k
 
     pub items_go : (next : Mode) → i < length xs → x ≡ get_or xs i x → verdict items all ≡ verdict items (spots_of_items pragma (drop i xs)) →
-        v ≡ Ok tt → v ≡ verdict items (spots_of_item pragma x) → next ≡ mode_after pragma x →
+        v ≡ Ok tt → v ≡ verdict items (spots_of_item pragma x) → next ≡ pragma_after pragma x →
         verdict items all ≡ verdict items (spots_of_items next (drop (i + 1) xs))
     items_go next h e k p q n =
-        let rest = spots_of_items (mode_after pragma x) (drop (i + 1) xs) in
+        let rest = spots_of_items (pragma_after pragma x) (drop (i + 1) xs) in
         k ∙ sym (goes (spots_of_item pragma x) rest (spots_of_items pragma (drop i xs)) (verdict items rest) v p q refl (split_items h e))
         ∙ ap (λ m. verdict items (spots_of_items m (drop (i + 1) xs))) (sym n)

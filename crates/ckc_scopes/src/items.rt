@@ -1,15 +1,16 @@
 //! Items of a text.
 
 ghost use Rattle.std.specs.Prelude.{◌≡◌};
-ghost use Rattle.ckc_typed.specs.Walk.{spots_of_head, spots_of_item, spots_of_items, mode_after, mode_of_directive};
+ghost use Rattle.ckc_typed.specs.Walk.{spots_of_head, spots_of_item, spots_of_items};
 ghost use Rattle.ckc_scopes.specs.code.Verdict.{verdict};
 
 use crate::expressions::{bounds_fit, place_fits};
 use crate::raw::first_star;
 use crate::statements::{decl_fits, decls_fit, stmt_fits};
 use ckc_base::{Mode, Refusal};
-use ckc_syntax::{Directive, Head, Item, Name};
+use ckc_syntax::{Head, Item, Name};
 use ckc_typed::Note;
+use ckc_typed::modes::{head_mode, pragma_after};
 
 /// Judges the items of a text in order.
 pub fn items_fit(items: &[Item<Name, Note>]) -> Result<(), Refusal>
@@ -18,7 +19,7 @@ pub fn items_fit(items: &[Item<Name, Note>]) -> Result<(), Refusal>
     let mut pragma = Mode::Unchecked;
     for item in items {
         item_fits(item, pragma, items)?;
-        pragma = mode_after(item, pragma);
+        pragma = pragma_after(pragma, item);
     }
     Ok(())
 }
@@ -50,27 +51,8 @@ fn head_fits(
 ) -> Result<(), Refusal>
     ensures { result ≡ verdict items.now (spots_of_head pragma head.now) }
 {
-    let mode = head.mode.unwrap_or(pragma);
+    let mode = head_mode(pragma, head);
     place_fits(first_star(&head.result), mode)?;
     decls_fit(head.params.as_slice(), mode, items)?;
     bounds_fit(&head.bounds, items)
-}
-
-fn mode_after(item: &Item<Name, Note>, pragma: Mode) -> Mode
-    ensures { result ≡ mode_after pragma item.now }
-{
-    match item {
-        Item::Directive(directive) => mode_of_directive(*directive, pragma),
-        _ => pragma,
-    }
-}
-
-fn mode_of_directive(directive: Directive, pragma: Mode) -> Mode
-    ensures { result ≡ mode_of_directive pragma directive }
-{
-    match directive {
-        Directive::ScopeOn => Mode::Checked,
-        Directive::ScopeOff => Mode::Unchecked,
-        Directive::Stdio | Directive::Stdlib | Directive::Stdchecked => pragma,
-    }
 }

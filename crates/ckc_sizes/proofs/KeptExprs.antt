@@ -1,6 +1,7 @@
 -- The bounds phase keeps the marks of expressions.
 use Rattle.std.proofs.Common.{◌≡◌, ◌∙◌, sym, ap, subst, refl, ℕ, List, [], ◌∷◌, ◌++◌, map, Bool, true, false}
 use Rattle.std.specs.Prelude.{Ok, Err, Option, Some, None, not}
+use Rattle.ckc_base.specs.Lists.{concatenation}
 use Rattle.ckc_base.specs.declared.places.Pos.{Pos}
 use Rattle.ckc_base.specs.declared.places.Refusal.{Refusal}
 use Rattle.ckc_base.specs.Outcomes.{Outcome, bind, unless}
@@ -13,10 +14,11 @@ use Rattle.ckc_syntax.specs.declared.tree.Limits.TheVariants as limits
 use Rattle.ckc_syntax.specs.declared.tree.Node.{Node-F, map-Node, roll-Node, fold-roll-Node}
 use Rattle.ckc_syntax.specs.declared.tree.Node.TheVariants as node
 use Rattle.ckc_syntax.specs.declared.tree.Expr.{Expr-F, map-Expr, ind-Expr, roll-Expr, fold-roll-Expr}
-use Rattle.ckc_limits.specs.Marks.{Mark, node as mark, joined, limits_marks, node_marks, expr_marks, marks_of_limits, marks_of_node, marks_of_expr}
+use Rattle.ckc_syntax.specs.Inside.{inside_limits}
+use Rattle.ckc_limits.specs.Marks.{Mark, node as mark, node_marks, expr_marks, marks_of_limits, marks_of_node, marks_of_expr}
 use Rattle.ckc_typed.specs.declared.typed.Note.{Note}
 use Rattle.ckc_typed.specs.declared.typed.Range.{Range}
-use Rattle.ckc_typed.specs.Trees.{NotedLimits, NotedNode, NotedExpr}
+use Rattle.ckc_typed.specs.Trees.{NotedLimits, NotedNode, NotedExpr, NotedLayer}
 use Rattle.ckc_points.specs.declared.frame.Frame.{Frame}
 use Rattle.ckc_points.specs.Flow.{State}
 use Rattle.ckc_points.specs.Codes.{bad_limits}
@@ -49,9 +51,6 @@ two f {a} {b} {c} {d} p q = ap (λ x. f x c) p ∙ ap (λ y. f b y) q
 pub both : {ms ns ks ls : List Mark} → ms ≡ ns → ks ≡ ls → ms ++ ks ≡ ns ++ ls
 both p q = two (λ xs ys. xs ++ ys) p q
 
-abbrev Layer : Type 0
-Layer = Node-F Name Note NotedLimits NotedNode NotedExpr
-
 abbrev LimitsLayer : Type 0
 LimitsLayer = Limits-F Name Note NotedLimits NotedNode NotedExpr
 
@@ -59,23 +58,23 @@ abbrev Marks : Type 0
 Marks = List Mark
 
 limits_are : (x : LimitsLayer) → marks_of_limits (roll-Limits Name Note x)
-    ≡ limits_marks (map-Limits Name Note NotedLimits NotedNode NotedExpr Marks Marks Marks marks_of_limits marks_of_node marks_of_expr x)
-limits_are = fold-roll-Limits Name Note Marks Marks Marks limits_marks node_marks expr_marks
+    ≡ inside_limits (map-Limits Name Note NotedLimits NotedNode NotedExpr Marks Marks Marks marks_of_limits marks_of_node marks_of_expr x)
+limits_are = fold-roll-Limits Name Note Marks Marks Marks inside_limits node_marks expr_marks
 
-node_is : (x : Layer) → marks_of_node (roll-Node Name Note x)
+node_is : (x : NotedLayer) → marks_of_node (roll-Node Name Note x)
     ≡ node_marks (map-Node Name Note NotedLimits NotedNode NotedExpr Marks Marks Marks marks_of_limits marks_of_node marks_of_expr x)
-node_is = fold-roll-Node Name Note Marks Marks Marks limits_marks node_marks expr_marks
+node_is = fold-roll-Node Name Note Marks Marks Marks inside_limits node_marks expr_marks
 
 limits_made : {l : NotedLimits} (x : LimitsLayer) → roll-Limits Name Note x ≡ l → marks_of_limits l
-    ≡ limits_marks (map-Limits Name Note NotedLimits NotedNode NotedExpr Marks Marks Marks marks_of_limits marks_of_node marks_of_expr x)
+    ≡ inside_limits (map-Limits Name Note NotedLimits NotedNode NotedExpr Marks Marks Marks marks_of_limits marks_of_node marks_of_expr x)
 limits_made x made = ap marks_of_limits (sym made) ∙ limits_are x
 
-node_made : {n : NotedNode} (x : Layer) → roll-Node Name Note x ≡ n → marks_of_node n
+node_made : {n : NotedNode} (x : NotedLayer) → roll-Node Name Note x ≡ n → marks_of_node n
     ≡ node_marks (map-Node Name Note NotedLimits NotedNode NotedExpr Marks Marks Marks marks_of_limits marks_of_node marks_of_expr x)
 node_made x made = ap marks_of_node (sym made) ∙ node_is x
 
 pub expr_is : (e : NotedExpr) → marks_of_expr e ≡ mark ∷ marks_of_node e.node
-expr_is e = fold-roll-Expr Name Note Marks Marks Marks limits_marks node_marks expr_marks (record { node = e.node; pos = e.pos; note = e.note })
+expr_is e = fold-roll-Expr Name Note Marks Marks Marks inside_limits node_marks expr_marks (record { node = e.node; pos = e.pos; note = e.note })
 
 abbrev there_marks : Option NotedLimits → Marks
 there_marks None = []
@@ -104,7 +103,7 @@ module _ (frame : Frame) where
   abbrev inner_limits : Limits-F Name Note KeptLimits KeptNode KeptExpr → LimitsLayer
   inner_limits = map-Limits Name Note KeptLimits KeptNode KeptExpr NotedLimits NotedNode NotedExpr (λ e. e.0) (λ e. e.0) (λ e. e.0)
 
-  abbrev inner_node : Node-F Name Note KeptLimits KeptNode KeptExpr → Layer
+  abbrev inner_node : Node-F Name Note KeptLimits KeptNode KeptExpr → NotedLayer
   inner_node = map-Node Name Note KeptLimits KeptNode KeptExpr NotedLimits NotedNode NotedExpr (λ e. e.0) (λ e. e.0) (λ e. e.0)
 
   abbrev inner_expr : Expr-F Name Note KeptLimits KeptNode KeptExpr → Expr-F Name Note NotedLimits NotedNode NotedExpr
@@ -113,7 +112,7 @@ module _ (frame : Frame) where
   abbrev limits_inside : LimitsLayer → Limits-F Name Note LimitsView NodeView View
   limits_inside = map-Limits Name Note NotedLimits NotedNode NotedExpr LimitsView NodeView View (view_of_limits frame) (view_of_node frame) (view frame)
 
-  abbrev node_inside : Layer → Node-F Name Note LimitsView NodeView View
+  abbrev node_inside : NotedLayer → Node-F Name Note LimitsView NodeView View
   node_inside = map-Node Name Note NotedLimits NotedNode NotedExpr LimitsView NodeView View (view_of_limits frame) (view_of_node frame) (view frame)
 
   abbrev expr_inside : Expr-F Name Note NotedLimits NotedNode NotedExpr → Expr-F Name Note LimitsView NodeView View
@@ -122,11 +121,11 @@ module _ (frame : Frame) where
   abbrev held_limits : LimitsLayer → Limits-F Name Note Marks Marks Marks
   held_limits = map-Limits Name Note NotedLimits NotedNode NotedExpr Marks Marks Marks marks_of_limits marks_of_node marks_of_expr
 
-  abbrev held_node : Layer → Node-F Name Note Marks Marks Marks
+  abbrev held_node : NotedLayer → Node-F Name Note Marks Marks Marks
   held_node = map-Node Name Note NotedLimits NotedNode NotedExpr Marks Marks Marks marks_of_limits marks_of_node marks_of_expr
 
   limits_step : (y : Limits-F Name Note KeptLimits KeptNode KeptExpr) (size fresh : ℕ) (at : State)
-      → Keeps marks_of_limits (limits_marks (held_limits (inner_limits y))) (limits_judged (limits_inside (inner_limits y)) size fresh at)
+      → Keeps marks_of_limits (inside_limits (held_limits (inner_limits y))) (limits_judged (limits_inside (inner_limits y)) size fresh at)
   limits_step (Limits-F.Count k pos) size fresh at =
       bound _ _ _ _ _ _ (k.1.judged fresh at) (λ a h. kept marks_of_limits (marks_of_expr k.0) (not (counts_elements (view frame k.0))) bad_limits pos (Ok (limits.Count a pos)) (limits_made (Limits-F.Count a pos) (limits.rolls-Count a pos) ∙ h))
   limits_step (Limits-F.ByteCount k pos) size fresh at =
@@ -135,7 +134,7 @@ module _ (frame : Frame) where
   limits_step (Limits-F.Unknown pos) size fresh at = tt
 
   arguments_step : (ks : List KeptExpr) (fresh : ℕ) (at : State)
-      → Keeps (λ es. joined (map marks_of_expr es)) (joined (map marks_of_expr (map (λ k. k.0) ks))) (all_judged (map (view frame) (map (λ k. k.0) ks)) fresh at)
+      → Keeps (λ es. concatenation (map marks_of_expr es)) (concatenation (map marks_of_expr (map (λ k. k.0) ks))) (all_judged (map (view frame) (map (λ k. k.0) ks)) fresh at)
   arguments_step [] fresh at = refl
   arguments_step (k ∷ ks) fresh at = bound _ _ _ _ _ _ (k.1.judged fresh at) (λ a h. bound _ _ _ _ _ _ (arguments_step ks _ at) (λ rest g. both h g))
 
@@ -183,13 +182,13 @@ module _ (frame : Frame) where
   limits_by x y is = record {
     judged = λ size fresh at.
         let P : LimitsView → Marks → Type 0 = λ v ms. Keeps marks_of_limits ms (v.judged size fresh at) in
-        subst (λ ms. P (view_of_limits frame (roll-Limits Name Note x)) ms) (sym (limits_are x ∙ ap (λ z. limits_marks (held_limits z)) (sym is)))
-        (subst (λ v. P v (limits_marks (held_limits (inner_limits y))))
+        subst (λ ms. P (view_of_limits frame (roll-Limits Name Note x)) ms) (sym (limits_are x ∙ ap (λ z. inside_limits (held_limits z)) (sym is)))
+        (subst (λ v. P v (inside_limits (held_limits (inner_limits y))))
         (sym (fold-roll-Limits Name Note LimitsView NodeView View limits_view (node_view frame) expr_view x ∙ ap (λ z. limits_view (limits_inside z)) (sym is)))
         (limits_step y size fresh at));
   }
 
-  node_by : (x : Layer) (y : Node-F Name Note KeptLimits KeptNode KeptExpr) → inner_node y ≡ x → NodeKept (roll-Node Name Note x)
+  node_by : (x : NotedLayer) (y : Node-F Name Note KeptLimits KeptNode KeptExpr) → inner_node y ≡ x → NodeKept (roll-Node Name Note x)
   node_by x y is = record {
     judged = λ t fresh at.
         let P : NodeView → Marks → Type 0 = λ v ms. Keeps marks_of_node ms (v.judged t fresh at) in
@@ -206,7 +205,7 @@ module _ (frame : Frame) where
   expr_by x y is =
       let viewed = sym (fold-roll-Expr Name Note LimitsView NodeView View limits_view (node_view frame) expr_view x ∙ ap (λ z. expr_view (expr_inside z)) (sym is)) in
       let counted : marks_of_expr (roll-Expr Name Note x) ≡ mark ∷ marks_of_node y.node.0 =
-      fold-roll-Expr Name Note Marks Marks Marks limits_marks node_marks expr_marks x ∙ ap (λ (z : Expr-F Name Note NotedLimits NotedNode NotedExpr). mark ∷ marks_of_node z.node) (sym is) in
+      fold-roll-Expr Name Note Marks Marks Marks inside_limits node_marks expr_marks x ∙ ap (λ (z : Expr-F Name Note NotedLimits NotedNode NotedExpr). mark ∷ marks_of_node z.node) (sym is) in
       record {
         judged = λ fresh at.
             let P : View → Marks → Type 0 = λ v ms. Keeps marks_of_expr ms (v.judged fresh at) in

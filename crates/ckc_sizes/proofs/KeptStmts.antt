@@ -2,6 +2,7 @@
 use Rattle.std.proofs.Common.{◌≡◌, ◌∙◌, sym, ap, subst, refl, List, [], ◌∷◌, ◌++◌, map, Bool, true, false}
 use Rattle.std.specs.Prelude.{if◌then◌else◌, Ok, Err, Option, Some, None, not}
 use Rattle.std.specs.List.{flat_map}
+use Rattle.ckc_base.specs.Lists.{concatenation}
 use Rattle.ckc_base.specs.declared.places.Pos.{Pos}
 use Rattle.ckc_base.specs.Outcomes.{Outcome, bind}
 use Rattle.ckc_syntax.specs.declared.tree.Name.{Name}
@@ -9,7 +10,7 @@ use Rattle.ckc_syntax.specs.declared.tree.Init.TheVariants as init
 use Rattle.ckc_syntax.specs.declared.tree.Act.{Act-F, map-Act, roll-Act, fold-roll-Act}
 use Rattle.ckc_syntax.specs.declared.tree.Act.TheVariants as act
 use Rattle.ckc_syntax.specs.declared.tree.Stmt.{Stmt-F, map-Stmt, ind-Stmt, roll-Stmt, fold-roll-Stmt}
-use Rattle.ckc_limits.specs.Marks.{Mark, node as mark, local, joined, marks_of_expr, marks_of_bounds, marks_of_init, marks_of_decl, marks_of_value, act_marks, stmt_marks, marks_of_act, marks_of_stmt}
+use Rattle.ckc_limits.specs.Marks.{Mark, node as mark, local, marks_of_expr, marks_of_bounds, marks_of_init, marks_of_decl, marks_of_value, act_marks, stmt_marks, marks_of_act, marks_of_stmt}
 use Rattle.ckc_typed.specs.declared.typed.Note.{Note}
 use Rattle.ckc_typed.specs.Trees.{NotedAct, NotedStmt, NotedExpr, NotedDecl, NotedInit}
 use Rattle.ckc_points.specs.declared.frame.HeadBounds.{HeadBounds}
@@ -39,7 +40,7 @@ abbrev pub stmt_first : NotedStmt × Here → Marks
 stmt_first p = marks_of_stmt p.0
 
 abbrev stmts_first : List NotedStmt × Here → Marks
-stmts_first p = joined (map marks_of_stmt p.0)
+stmts_first p = concatenation (map marks_of_stmt p.0)
 
 abbrev parts_of : Option NotedStmt → Marks
 parts_of None = []
@@ -165,7 +166,7 @@ module _ (frame : Frame) where
   held_act = map-Act Name Note NotedAct NotedStmt Marks Marks marks_of_act marks_of_stmt
 
   abbrev marks_in : List KeptStmt → Marks
-  marks_in ks = joined (map marks_of_stmt (map (λ k. k.0) ks))
+  marks_in ks = concatenation (map marks_of_stmt (map (λ k. k.0) ks))
 
   all_kept : (head : HeadBounds) (ks : List KeptStmt) (h : Here) → Keeps stmts_first (marks_in ks) (all_judged frame head (map path (map (λ k. k.0) ks)) h)
   unfolding all_judged

@@ -1,18 +1,21 @@
 -- What a statement becomes weighs at most 240 for each node of the text, the locals that it declares included.
-use Rattle.std.proofs.Common.{◌≡◌, ℕ, ◌+◌, ◌*◌, ◌≤◌, List, [], ◌∷◌, ◌++◌, map, length, length-append, refl, sym, ap, subst, arith}
+use Rattle.std.proofs.Common.{◌≡◌, ℕ, ◌+◌, ◌*◌, ◌≤◌, List, [], ◌∷◌, ◌++◌, map, length, length-append, refl, sym, ap, subst, ◌∙◌, arith}
 use Rattle.std.specs.Prelude.{false, Option, Some, None}
+use Rattle.std.proofs.lemmas.List.{append-nil}
+use Rattle.ckc_base.specs.Lists.{concatenation, or_empty}
 use Rattle.ckc_base.specs.declared.places.Pos.{Pos}
 use Rattle.ckc_base.specs.declared.arithmetic.Mode.{Mode}
 use Rattle.ckc_types.specs.declared.types.CType.{CType}
+use Rattle.ckc_syntax.specs.Inside.{inside_if}
 use Rattle.ckc_syntax.specs.declared.tree.Name.{Name}
 use Rattle.ckc_syntax.specs.declared.tree.Act.{Act-F, map-Act, roll-Act, fold-roll-Act}
 use Rattle.ckc_syntax.specs.declared.tree.Stmt.{Stmt-F, map-Stmt, ind-Stmt, roll-Stmt, fold-roll-Stmt}
-use Rattle.ckc_limits.specs.Marks.{Mark, joined, act_marks, stmt_marks, marks_of_expr, marks_of_value, marks_of_act, marks_of_stmt}
+use Rattle.ckc_limits.specs.Marks.{Mark, act_marks, stmt_marks, marks_of_expr, marks_of_value, marks_of_act, marks_of_stmt}
 use Rattle.ckc_typed.specs.declared.environment.Variable.{Variable}
 use Rattle.ckc_typed.specs.declared.typed.Note.{Note}
 use Rattle.ckc_typed.specs.declared.typed.Typed.{Typed}
 use Rattle.ckc_typed.specs.Trees.{NotedExpr, NotedAct, NotedStmt}
-use Rattle.ckc_typed.specs.Environment.{joined_variables, act_variables, stmt_variables, locals_of, locals_of_act}
+use Rattle.ckc_typed.specs.Environment.{act_variables, stmt_variables, locals_of, locals_of_act}
 use Rattle.ckc_source.specs.declared.stmt.Spot.{Spot}
 use Rattle.ckc_source.specs.Code.{Target, Right, Code, End, chained}
 use Rattle.ckc_operands.specs.Weights.{assigns_weight, code_weight}
@@ -95,7 +98,7 @@ local_stmt = map-Stmt Name Note NotedAct NotedStmt Variables Variables locals_of
 abbrev inner : List KeptStmt → List NotedStmt
 inner ks = map (λ (k : KeptStmt). k.0) ks
 
-all_fit : (ks : List KeptStmt) → CodeFits (marked (joined (map marks_of_stmt (inner ks)))) (all_code (map part_of (inner ks))) (joined_variables (map locals_of (inner ks)))
+all_fit : (ks : List KeptStmt) → CodeFits (marked (concatenation (map marks_of_stmt (inner ks)))) (all_code (map part_of (inner ks))) (concatenation (map locals_of (inner ks)))
 all_fit [] p locals result k rest = omega arith
 all_fit (s ∷ ks) p locals result k rest =
     let here = (part_of s.0).code p locals result k in
@@ -106,11 +109,11 @@ all_fit (s ∷ ks) p locals result k rest =
       ap code_weight (chained-append here behind rest),
       s.1.0 p locals result k (chained behind rest),
       all_fit ks p locals result j rest,
-      length-append (locals_of s.0) (joined_variables (map locals_of (inner ks))),
-      marked-append (marks_of_stmt s.0) (joined (map marks_of_stmt (inner ks))),
+      length-append (locals_of s.0) (concatenation (map locals_of (inner ks))),
+      marked-append (marks_of_stmt s.0) (concatenation (map marks_of_stmt (inner ks))),
     )
 
-all_assign : (ks : List KeptStmt) → AssignsFit (marked (joined (map marks_of_stmt (inner ks)))) (all_assigns (map part_of (inner ks))) (joined_variables (map locals_of (inner ks)))
+all_assign : (ks : List KeptStmt) → AssignsFit (marked (concatenation (map marks_of_stmt (inner ks)))) (all_assigns (map part_of (inner ks))) (concatenation (map locals_of (inner ks)))
 all_assign [] p locals k = omega arith
 all_assign (s ∷ ks) p locals k =
     let j = k + (part_of s.0).literals in
@@ -119,8 +122,8 @@ all_assign (s ∷ ks) p locals k =
       assigns-append ((part_of s.0).assigns p locals k) (all_assigns (map part_of (inner ks)) p locals j),
       s.1.1 p locals k,
       all_assign ks p locals j,
-      length-append (locals_of s.0) (joined_variables (map locals_of (inner ks))),
-      marked-append (marks_of_stmt s.0) (joined (map marks_of_stmt (inner ks))),
+      length-append (locals_of s.0) (concatenation (map locals_of (inner ks))),
+      marked-append (marks_of_stmt s.0) (concatenation (map marks_of_stmt (inner ks))),
     )
 
 -- ---- statements with parts, some of which may be left out
@@ -190,7 +193,23 @@ for_locals e ms ns os us vs ws h i j =
 held_locals : (s : KeptStmt) (p : Typed) (locals : List Variable) (k : ℕ) → 64 * length (locals_of s.0) ≤ 240 * marked (marks_of_stmt s.0)
 held_locals s p locals k = omega (arith, s.1.1 p locals k)
 
-act_step : (y : Act-F Name Note KeptAct KeptStmt) → ActFits (act_marks (held_act (inner_act y))) (act_parts (part_act (inner_act y))) (act_variables (local_act (inner_act y)))
+-- the locals of a statement by those of its parts, since expressions declare none
+abbrev locals_inside : Act-F Name Note Variables Variables → Variables
+locals_inside (Act-F.For s e t body) = or_empty s ++ or_empty t ++ body
+locals_inside (Act-F.Return e) = []
+locals_inside a = act_variables a
+
+none_inside : (e : Option NotedExpr) → inside_if {P = NotedExpr} {X = Variable} (λ f. []) e ≡ []
+none_inside None = refl
+none_inside (Some e) = refl
+
+all_inside : (x : Act-F Name Note Variables Variables) → act_variables x ≡ locals_inside x
+all_inside (Act-F.For s e t body) =
+    ap (λ vs. or_empty s ++ vs ++ or_empty t ++ body) (none_inside e) ∙ ap (λ vs. vs ++ or_empty t ++ body) (append-nil (or_empty s))
+all_inside (Act-F.Return e) = none_inside e
+all_inside _ = refl
+
+act_step : (y : Act-F Name Note KeptAct KeptStmt) → ActFits (act_marks (held_act (inner_act y))) (act_parts (part_act (inner_act y))) (locals_inside (local_act (inner_act y)))
 act_step (Act-F.Block m ks) = ((λ at mode p locals result k rest. omega (arith, all_fit ks p locals result k rest)), (λ p locals k. omega (arith, all_assign ks p locals k)))
 act_step Act-F.Empty = ((λ at mode p locals result k rest. omega arith), (λ p locals k. omega arith))
 act_step (Act-F.Local d) = ((λ at mode p locals result k rest. omega (arith, declared_most p locals (spot at mode) k d rest)), (λ p locals k. omega arith))
@@ -261,7 +280,8 @@ act_by : (x : Act-F Name Note NotedAct NotedStmt) (y : Act-F Name Note KeptAct K
 act_by x y is =
     carried ActFits (fold-roll-Act Name Note Marks Marks act_marks stmt_marks x) (fold-roll-Act Name Note ActPart Part act_parts stmt_parts x)
     (fold-roll-Act Name Note Variables Variables act_variables stmt_variables x)
-    (subst (λ z. ActFits (act_marks (held_act z)) (act_parts (part_act z)) (act_variables (local_act z))) is (act_step y))
+    (subst (λ z. ActFits (act_marks (held_act z)) (act_parts (part_act z)) (act_variables (local_act z))) is
+    (subst (λ vs. ActFits (act_marks (held_act (inner_act y))) (act_parts (part_act (inner_act y))) vs) (sym (all_inside (local_act (inner_act y)))) (act_step y)))
 
 stmt_by : (x : Stmt-F Name Note NotedAct NotedStmt) (y : Stmt-F Name Note KeptAct KeptStmt) → inner_stmt y ≡ x → StmtSmall (roll-Stmt Name Note x)
 stmt_by x y is =

@@ -2,6 +2,7 @@
 -- their range is a value; its place weighs 170 less.
 use Rattle.std.proofs.Common.{◌≡◌, ℕ, ◌+◌, ◌*◌, ◌≤◌, Bool, false, List, [], ◌++◌, map, length, sym, subst, arith}
 use Rattle.std.specs.Prelude.{Some, None}
+use Rattle.ckc_base.specs.Lists.{concatenation}
 use Rattle.ckc_base.specs.declared.places.Pos.{Pos}
 use Rattle.ckc_types.specs.declared.types.CType.{CType}
 use Rattle.ckc_syntax.specs.declared.tree.Name.{Name}
@@ -9,11 +10,12 @@ use Rattle.ckc_syntax.specs.declared.tree.TreeOp.TheVariants as op
 use Rattle.ckc_syntax.specs.declared.tree.Limits.{Limits-F, map-Limits, roll-Limits, fold-roll-Limits}
 use Rattle.ckc_syntax.specs.declared.tree.Node.{Node-F, map-Node, roll-Node, fold-roll-Node}
 use Rattle.ckc_syntax.specs.declared.tree.Expr.{Expr-F, map-Expr, ind-Expr, roll-Expr, fold-roll-Expr}
-use Rattle.ckc_limits.specs.Marks.{Mark, joined, limits_marks, node_marks, expr_marks, marks_of_limits, marks_of_node, marks_of_expr}
+use Rattle.ckc_syntax.specs.Inside.{inside_limits}
+use Rattle.ckc_limits.specs.Marks.{Mark, node_marks, expr_marks, marks_of_limits, marks_of_node, marks_of_expr}
 use Rattle.ckc_typed.specs.declared.environment.Variable.{Variable}
 use Rattle.ckc_typed.specs.declared.typed.Note.{Note}
 use Rattle.ckc_typed.specs.declared.typed.Typed.{Typed}
-use Rattle.ckc_typed.specs.Trees.{NotedLimits, NotedNode, NotedExpr}
+use Rattle.ckc_typed.specs.Trees.{NotedLimits, NotedNode, NotedExpr, NotedLayer}
 use Rattle.ckc_typed.specs.Types.{type_written, kind_of, element_of}
 use Rattle.ckc_typed.specs.Constants.{size_of}
 use Rattle.ckc_source.specs.Code.{Expr, Number, Array, Choice, Tested, Trusted}
@@ -73,7 +75,7 @@ KeptExpr = (e : NotedExpr) × ExprSmall e
 abbrev inner_limits : Limits-F Name Note KeptLimits KeptNode KeptExpr → Limits-F Name Note NotedLimits NotedNode NotedExpr
 inner_limits = map-Limits Name Note KeptLimits KeptNode KeptExpr NotedLimits NotedNode NotedExpr (λ e. e.0) (λ e. e.0) (λ e. e.0)
 
-abbrev inner_node : Node-F Name Note KeptLimits KeptNode KeptExpr → Node-F Name Note NotedLimits NotedNode NotedExpr
+abbrev inner_node : Node-F Name Note KeptLimits KeptNode KeptExpr → NotedLayer
 inner_node = map-Node Name Note KeptLimits KeptNode KeptExpr NotedLimits NotedNode NotedExpr (λ e. e.0) (λ e. e.0) (λ e. e.0)
 
 abbrev inner_expr : Expr-F Name Note KeptLimits KeptNode KeptExpr → Expr-F Name Note NotedLimits NotedNode NotedExpr
@@ -82,7 +84,7 @@ inner_expr = map-Expr Name Note KeptLimits KeptNode KeptExpr NotedLimits NotedNo
 abbrev part_limits : Limits-F Name Note NotedLimits NotedNode NotedExpr → Limits-F Name Note LimitsPart NodePart Part
 part_limits = map-Limits Name Note NotedLimits NotedNode NotedExpr LimitsPart NodePart Part part_of_limits part_of_node part_of
 
-abbrev part_node : Node-F Name Note NotedLimits NotedNode NotedExpr → Node-F Name Note LimitsPart NodePart Part
+abbrev part_node : NotedLayer → Node-F Name Note LimitsPart NodePart Part
 part_node = map-Node Name Note NotedLimits NotedNode NotedExpr LimitsPart NodePart Part part_of_limits part_of_node part_of
 
 abbrev part_expr : Expr-F Name Note NotedLimits NotedNode NotedExpr → Expr-F Name Note LimitsPart NodePart Part
@@ -91,13 +93,10 @@ part_expr = map-Expr Name Note NotedLimits NotedNode NotedExpr LimitsPart NodePa
 abbrev pub Marks : Type 0
 Marks = List Mark
 
-abbrev pub Layer : Type 0
-Layer = Node-F Name Note NotedLimits NotedNode NotedExpr
-
 abbrev held_limits : Limits-F Name Note NotedLimits NotedNode NotedExpr → Limits-F Name Note Marks Marks Marks
 held_limits = map-Limits Name Note NotedLimits NotedNode NotedExpr Marks Marks Marks marks_of_limits marks_of_node marks_of_expr
 
-abbrev pub held_node : Node-F Name Note NotedLimits NotedNode NotedExpr → Node-F Name Note Marks Marks Marks
+abbrev pub held_node : NotedLayer → Node-F Name Note Marks Marks Marks
 held_node = map-Node Name Note NotedLimits NotedNode NotedExpr Marks Marks Marks marks_of_limits marks_of_node marks_of_expr
 
 abbrev held_expr : Expr-F Name Note NotedLimits NotedNode NotedExpr → Expr-F Name Note Marks Marks Marks
@@ -109,7 +108,7 @@ count_holds m k h = (omega (arith, h, index_most k), omega (arith, h))
 none_holds : (m : ℕ) → CountHolds m outside
 none_holds m = (omega arith, omega arith)
 
-limits_step : (y : Limits-F Name Note KeptLimits KeptNode KeptExpr) → LimitsFits (limits_marks (held_limits (inner_limits y))) (limits_parts (part_limits (inner_limits y)))
+limits_step : (y : Limits-F Name Note KeptLimits KeptNode KeptExpr) → LimitsFits (inside_limits (held_limits (inner_limits y))) (limits_parts (part_limits (inner_limits y)))
 limits_step (Limits-F.Count e at) = λ size p locals k.
     count_holds (marked (marks_of_expr e.0)) ((part_of e.0).value p locals k) (omega (arith, (e.1 p locals k).0 false))
 limits_step (Limits-F.ByteCount e at) = λ size p locals k.
@@ -262,7 +261,7 @@ node_step (Node-F.Tested w e (Some l)) = λ a at p locals k.
       checked_most size (part_of_limits l.0).form at v count m n (e.1 p locals k).0 (l.1 size p locals j).0 (l.1 size p locals j).1 r,
     ))
 node_step (Node-F.Call n es) = λ a at p locals k.
-    let m = marked (joined (map marks_of_expr (map (λ (e : KeptExpr). e.0) es))) in bare_holds m p a.ctype at outside (number_light m 0)
+    let m = marked (concatenation (map marks_of_expr (map (λ (e : KeptExpr). e.0) es))) in bare_holds m p a.ctype at outside (number_light m 0)
 node_step (Node-F.Calloc w e x) = λ a at p locals k. bare_holds (marked (marks_of_expr e.0)) p a.ctype at outside (number_light (marked (marks_of_expr e.0)) 0)
 
 expr_step : (y : Expr-F Name Note KeptLimits KeptNode KeptExpr) → ExprFits (expr_marks (held_expr (inner_expr y))) (expr_parts (part_expr (inner_expr y)))
@@ -275,19 +274,19 @@ carried P {a} {c} {b} {d} e f h = subst (λ x. P x b) (sym e) (subst (λ y. P c 
 
 limits_by : (x : Limits-F Name Note NotedLimits NotedNode NotedExpr) (y : Limits-F Name Note KeptLimits KeptNode KeptExpr) → inner_limits y ≡ x → LimitsSmall (roll-Limits Name Note x)
 limits_by x y is =
-    carried LimitsFits (fold-roll-Limits Name Note Marks Marks Marks limits_marks node_marks expr_marks x)
+    carried LimitsFits (fold-roll-Limits Name Note Marks Marks Marks inside_limits node_marks expr_marks x)
     (fold-roll-Limits Name Note LimitsPart NodePart Part limits_parts node_parts expr_parts x)
-    (subst (λ z. LimitsFits (limits_marks (held_limits z)) (limits_parts (part_limits z))) is (limits_step y))
+    (subst (λ z. LimitsFits (inside_limits (held_limits z)) (limits_parts (part_limits z))) is (limits_step y))
 
-node_by : (x : Node-F Name Note NotedLimits NotedNode NotedExpr) (y : Node-F Name Note KeptLimits KeptNode KeptExpr) → inner_node y ≡ x → NodeSmall (roll-Node Name Note x)
+node_by : (x : NotedLayer) (y : Node-F Name Note KeptLimits KeptNode KeptExpr) → inner_node y ≡ x → NodeSmall (roll-Node Name Note x)
 node_by x y is =
-    carried NodeFits (fold-roll-Node Name Note Marks Marks Marks limits_marks node_marks expr_marks x)
+    carried NodeFits (fold-roll-Node Name Note Marks Marks Marks inside_limits node_marks expr_marks x)
     (fold-roll-Node Name Note LimitsPart NodePart Part limits_parts node_parts expr_parts x)
     (subst (λ z. NodeFits (node_marks (held_node z)) (node_parts (part_node z))) is (node_step y))
 
 expr_by : (x : Expr-F Name Note NotedLimits NotedNode NotedExpr) (y : Expr-F Name Note KeptLimits KeptNode KeptExpr) → inner_expr y ≡ x → ExprSmall (roll-Expr Name Note x)
 expr_by x y is =
-    carried ExprFits (fold-roll-Expr Name Note Marks Marks Marks limits_marks node_marks expr_marks x)
+    carried ExprFits (fold-roll-Expr Name Note Marks Marks Marks inside_limits node_marks expr_marks x)
     (fold-roll-Expr Name Note LimitsPart NodePart Part limits_parts node_parts expr_parts x)
     (subst (λ z. ExprFits (expr_marks (held_expr z)) (expr_parts (part_expr z))) is (expr_step y))
 

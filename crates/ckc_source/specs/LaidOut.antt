@@ -1,5 +1,6 @@
 -- Blocks that lie apart (ISO C11, 6.2.4 and 6.5.9: objects do not overlap).
-use Rattle.std.specs.Prelude.{ℕ, ◌+◌, ◌≤◌, ◌<◌, List, [], ◌∷◌, map}
+pub use Rattle.ckc_base.specs.Lists.{AreBytes}
+use Rattle.std.specs.Prelude.{ℕ, ◌+◌, ◌≤◌, List, [], ◌∷◌, map}
 use Rattle.ckc_base.specs.Memory.{data_end}
 use Rattle.ckc_source.specs.Code.{Program}
 use Rattle.ckc_source.specs.Blocks.{Block, end_of, block_of, place_behind, first_place}
@@ -9,11 +10,6 @@ use Rattle.ckc_source.specs.Blocks.{Block, end_of, block_of, place_behind, first
 abbrev pub AreApart : ℕ → List Block → ℕ → Type 0
 AreApart low [] place = low ≤ place
 AreApart low (b ∷ blocks) place = (low ≤ b.base) × AreApart (end_of b + 1) blocks place
-
--- each number is a byte
-abbrev pub AreBytes : List ℕ → Type 0
-AreBytes [] = Unit {0}
-AreBytes (b ∷ bytes) = (b < 256) × AreBytes bytes
 
 -- the blocks hold bytes
 abbrev pub HoldBytes : List Block → Type 0

@@ -4,6 +4,7 @@
 
 mod expr;
 pub mod laws;
+pub mod operators;
 mod outcome;
 mod program;
 mod stmt;

@@ -12,7 +12,7 @@ use Rattle.ckc_typed.specs.Trees.{NotedAct, NotedStmt}
 use Rattle.ckc_points.specs.declared.frame.HeadBounds.{HeadBounds}
 use Rattle.ckc_points.specs.declared.frame.Frame.{Frame}
 use Rattle.ckc_statements.specs.Paths.{Here, all_judged, block_judged, stated, closed, path, path_of_act}
-use Rattle.ckc_syntax.proofs.Sequels.{stops}
+use Rattle.ckc_base.proofs.Ends.{step_stops}
 
 module _ (frame : Frame) (head : HeadBounds) (at : Pos) (note : Note) (here : Here) where
   abbrev becomes : NotedAct → Outcome (NotedStmt × Here)
@@ -29,7 +29,7 @@ module _ (frame : Frame) (head : HeadBounds) (at : Pos) (note : Note) (here : He
     block_of = ap becomes is ∙ block_is m ss ∙ ap (λ xs. block_judged frame head at note m (map path xs) here) (sym same)
 
     pub block_stops : (now new : Here) (r : Result NotedStmt Fault) (y x : Fault) → r ≡ Err y → y ≡ x → StepsOutcome {A = List NotedStmt} (Err x) now (all_judged frame head (map path ts) here) → StepsOutcome r new (becomes a)
-    block_stops now new r y x e h given = stops (all_judged frame head (map path ts) here) now (becomes a) new r y x e h given (λ f q. block_of ∙ ap (λ o. bind o (after m)) q)
+    block_stops now new r y x e h given = step_stops (all_judged frame head (map path ts) here) now (becomes a) new r y x e h given (λ f q. block_of ∙ ap (λ o. bind o (after m)) q)
 
     pub block_goes : (all : List NotedStmt) (now : Here) → all_judged frame head (map path ts) here ≡ Ok (all, now) → becomes a ≡ Ok (stated at note (act.Block m all), closed (length here.seen) now)
     block_goes all now q = block_of ∙ ap (λ o. bind o (after m)) q

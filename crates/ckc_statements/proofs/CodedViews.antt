@@ -1,6 +1,7 @@
 -- Which codes the refusals of the bounds phase have: of expressions.
 use Rattle.std.proofs.Common.{◌≡◌, inl, inr, ◌∙◌, sym, ap, subst, refl, ℕ, List, [], ◌∷◌, map, Bool, true, false, if◌then◌else◌}
 use Rattle.std.specs.Prelude.{Ok, Option, Some, None, not, slice_get}
+use Rattle.ckc_base.proofs.Codes
 use Rattle.ckc_base.specs.declared.places.Pos.{Pos}
 use Rattle.ckc_base.specs.declared.places.Refusal.{Refusal}
 use Rattle.ckc_base.specs.Outcomes.{Outcome}
@@ -28,7 +29,7 @@ use Rattle.ckc_views.specs.Judged.{counts_elements, counts_bytes, limits_judged,
 use Rattle.ckc_views.specs.Views.{limits_view, node_view, expr_view, view_of_limits, view_of_node, view}
 use Rattle.ckc_statements.specs.Paths.{Here, value_judged}
 use Rattle.ckc_statements.specs.Codes.{IsBoundsCode}
-use Rattle.ckc_statements.proofs.Coded.{HasCode, bound, chosen, kept, is_602, is_603}
+use Rattle.ckc_statements.proofs.Coded.{HasCode, is_602, is_603}
 
 is_601 : IsBoundsCode 601
 is_601 = inl refl
@@ -102,18 +103,18 @@ module _ (frame : Frame) where
   expr_inside = map-Expr Name Note NotedLimits NotedNode NotedExpr LimitsView NodeView View (view_of_limits frame) (view_of_node frame) (view frame)
 
   limits_step : (y : Limits-F Name Note KeptLimits KeptNode KeptExpr) (size fresh : ℕ) (at : State) → HasCode (limits_judged (limits_inside (inner_limits y)) size fresh at)
-  limits_step (Limits-F.Count k pos) size fresh at = bound _ _ (k.1.judged fresh at) (λ a. kept {A = NotedLimits} (not (counts_elements (view frame k.0))) bad_limits pos (Ok (limits.Count a pos)) is_603 tt)
-  limits_step (Limits-F.ByteCount k pos) size fresh at = bound _ _ (k.1.judged fresh at) (λ a. kept {A = NotedLimits} (not (counts_bytes size (view frame k.0))) bad_limits pos (Ok (limits.ByteCount a pos)) is_603 tt)
-  limits_step (Limits-F.Between k j pos) size fresh at = bound {B = NotedLimits} _ _ (k.1.judged fresh at) (λ a. bound {B = NotedLimits} _ _ (j.1.judged _ at) (λ b. is_603))
+  limits_step (Limits-F.Count k pos) size fresh at = Codes.bound IsBoundsCode _ _ (k.1.judged fresh at) (λ a. Codes.kept IsBoundsCode {A = NotedLimits} (not (counts_elements (view frame k.0))) bad_limits pos (Ok (limits.Count a pos)) is_603 tt)
+  limits_step (Limits-F.ByteCount k pos) size fresh at = Codes.bound IsBoundsCode _ _ (k.1.judged fresh at) (λ a. Codes.kept IsBoundsCode {A = NotedLimits} (not (counts_bytes size (view frame k.0))) bad_limits pos (Ok (limits.ByteCount a pos)) is_603 tt)
+  limits_step (Limits-F.Between k j pos) size fresh at = Codes.bound IsBoundsCode {B = NotedLimits} _ _ (k.1.judged fresh at) (λ a. Codes.bound IsBoundsCode {B = NotedLimits} _ _ (j.1.judged _ at) (λ b. is_603))
   limits_step (Limits-F.Unknown pos) size fresh at = is_603
 
   arguments_judged : (ks : List KeptExpr) (fresh : ℕ) (at : State) → HasCode (all_judged (map (view frame) (map (λ k. k.0) ks)) fresh at)
   arguments_judged [] fresh at = tt
-  arguments_judged (k ∷ ks) fresh at = bound _ _ (k.1.judged fresh at) (λ a. bound _ _ (arguments_judged ks _ at) (λ rest. tt))
+  arguments_judged (k ∷ ks) fresh at = Codes.bound IsBoundsCode _ _ (k.1.judged fresh at) (λ a. Codes.bound IsBoundsCode _ _ (arguments_judged ks _ at) (λ rest. tt))
 
   unary_step : (o : TreeOp) (k : KeptExpr) (fresh : ℕ) (at : State) (t : CType) → HasCode (node_judged frame (node_inside (inner_node (Node-F.Un o k))) t fresh at)
-  unary_step op.Address k fresh at t = bound _ _ (k.1.operand fresh at) (λ a. tt)
-  unary_step _ k fresh at t = bound _ _ (k.1.judged fresh at) (λ a. tt)
+  unary_step op.Address k fresh at t = Codes.bound IsBoundsCode _ _ (k.1.operand fresh at) (λ a. tt)
+  unary_step _ k fresh at t = Codes.bound IsBoundsCode _ _ (k.1.judged fresh at) (λ a. tt)
 
   judged_step : (y : Node-F Name Note KeptLimits KeptNode KeptExpr) (t : CType) (fresh : ℕ) (at : State) → HasCode (node_judged frame (node_inside (inner_node y)) t fresh at)
   judged_step (Node-F.Number n unsigned) t fresh at = tt
@@ -121,19 +122,19 @@ module _ (frame : Frame) where
   judged_step Node-F.Null t fresh at = tt
   judged_step (Node-F.Name n) t fresh at = tt
   judged_step (Node-F.Un o k) t fresh at = unary_step o k fresh at t
-  judged_step (Node-F.Bin o k j) t fresh at = bound _ _ (k.1.judged fresh at) (λ a. bound _ _ (j.1.judged _ _) (λ b. tt))
-  judged_step (Node-F.Pick k j i) t fresh at = bound _ _ (k.1.judged fresh at) (λ a. bound _ _ (j.1.judged _ at) (λ b. bound _ _ (i.1.judged _ at) (λ c. tt)))
-  judged_step (Node-F.Index k j) t fresh at = bound _ _ (k.1.judged fresh at) (λ a. bound _ _ (j.1.judged _ at) (λ b. tt))
-  judged_step (Node-F.Dot k n spot) t fresh at = bound _ _ (k.1.judged fresh at) (λ a. tt)
-  judged_step (Node-F.Arrow k n spot) t fresh at = bound _ _ (k.1.judged fresh at) (λ a. tt)
-  judged_step (Node-F.Cast w k) t fresh at = bound _ _ (k.1.judged fresh at) (λ a. tt)
+  judged_step (Node-F.Bin o k j) t fresh at = Codes.bound IsBoundsCode _ _ (k.1.judged fresh at) (λ a. Codes.bound IsBoundsCode _ _ (j.1.judged _ _) (λ b. tt))
+  judged_step (Node-F.Pick k j i) t fresh at = Codes.bound IsBoundsCode _ _ (k.1.judged fresh at) (λ a. Codes.bound IsBoundsCode _ _ (j.1.judged _ at) (λ b. Codes.bound IsBoundsCode _ _ (i.1.judged _ at) (λ c. tt)))
+  judged_step (Node-F.Index k j) t fresh at = Codes.bound IsBoundsCode _ _ (k.1.judged fresh at) (λ a. Codes.bound IsBoundsCode _ _ (j.1.judged _ at) (λ b. tt))
+  judged_step (Node-F.Dot k n spot) t fresh at = Codes.bound IsBoundsCode _ _ (k.1.judged fresh at) (λ a. tt)
+  judged_step (Node-F.Arrow k n spot) t fresh at = Codes.bound IsBoundsCode _ _ (k.1.judged fresh at) (λ a. tt)
+  judged_step (Node-F.Cast w k) t fresh at = Codes.bound IsBoundsCode _ _ (k.1.judged fresh at) (λ a. tt)
   judged_step (Node-F.Size w) t fresh at = tt
-  judged_step (Node-F.Trusted w k None) t fresh at = bound _ _ (k.1.judged fresh at) (λ a. tt)
-  judged_step (Node-F.Trusted w k (Some l)) t fresh at = bound _ _ (k.1.judged fresh at) (λ a. bound _ _ (bound _ _ (l.1.judged _ _ at) (λ b. tt)) (λ b. tt))
-  judged_step (Node-F.Tested w k None) t fresh at = bound _ _ (k.1.judged fresh at) (λ a. tt)
-  judged_step (Node-F.Tested w k (Some l)) t fresh at = bound _ _ (k.1.judged fresh at) (λ a. bound _ _ (bound _ _ (l.1.judged _ _ at) (λ b. tt)) (λ b. tt))
-  judged_step (Node-F.Call n ks) t fresh at = bound _ _ (arguments_judged ks fresh at) (λ args. tt)
-  judged_step (Node-F.Calloc w k x) t fresh at = bound _ _ (k.1.judged fresh at) (λ a. tt)
+  judged_step (Node-F.Trusted w k None) t fresh at = Codes.bound IsBoundsCode _ _ (k.1.judged fresh at) (λ a. tt)
+  judged_step (Node-F.Trusted w k (Some l)) t fresh at = Codes.bound IsBoundsCode _ _ (k.1.judged fresh at) (λ a. Codes.bound IsBoundsCode _ _ (Codes.bound IsBoundsCode _ _ (l.1.judged _ _ at) (λ b. tt)) (λ b. tt))
+  judged_step (Node-F.Tested w k None) t fresh at = Codes.bound IsBoundsCode _ _ (k.1.judged fresh at) (λ a. tt)
+  judged_step (Node-F.Tested w k (Some l)) t fresh at = Codes.bound IsBoundsCode _ _ (k.1.judged fresh at) (λ a. Codes.bound IsBoundsCode _ _ (Codes.bound IsBoundsCode _ _ (l.1.judged _ _ at) (λ b. tt)) (λ b. tt))
+  judged_step (Node-F.Call n ks) t fresh at = Codes.bound IsBoundsCode _ _ (arguments_judged ks fresh at) (λ args. tt)
+  judged_step (Node-F.Calloc w k x) t fresh at = Codes.bound IsBoundsCode _ _ (k.1.judged fresh at) (λ a. tt)
 
   call_coded : (n : Name) (es : List View) (fresh : ℕ) (at : State) → CodedFault (call_fault frame n es fresh at)
   call_coded (name.Function k) es fresh at = head_coded (slice_get frame.heads k) es fresh at
@@ -176,8 +177,8 @@ module _ (frame : Frame) where
       subst ViewCoded
       (sym (fold-roll-Expr Name Note LimitsView NodeView View limits_view (node_view frame) expr_view x ∙ ap (λ z. expr_view (expr_inside z)) (sym is)))
       (record {
-        judged = λ fresh at. bound _ _ (y.node.1.judged y.note.ctype fresh at) (λ m. faulted _ _ (y.node.1.fault y.pos fresh at) tt);
-        operand = λ fresh at. bound _ _ (y.node.1.judged y.note.ctype fresh at) (λ m. faulted _ _ (y.node.1.operand_fault y.pos fresh at) tt);
+        judged = λ fresh at. Codes.bound IsBoundsCode _ _ (y.node.1.judged y.note.ctype fresh at) (λ m. faulted _ _ (y.node.1.fault y.pos fresh at) tt);
+        operand = λ fresh at. Codes.bound IsBoundsCode _ _ (y.node.1.judged y.note.ctype fresh at) (λ m. faulted _ _ (y.node.1.operand_fault y.pos fresh at) tt);
       })
 
   pub view_coded : (e : NotedExpr) → ViewCoded (view frame e)
@@ -185,4 +186,4 @@ module _ (frame : Frame) where
 
 pub value_coded : (frame : Frame) (e : NotedExpr) (h : Here) → HasCode (value_judged frame e h)
 unfolding value_judged
-value_coded frame e h = let v = view_coded frame e in bound _ _ (chosen h.counting (Ok e) ((view frame e).judged h.next h.at) tt (v.judged h.next h.at)) (λ f. tt)
+value_coded frame e h = let v = view_coded frame e in Codes.bound IsBoundsCode _ _ (Codes.chosen IsBoundsCode h.counting (Ok e) ((view frame e).judged h.next h.at) tt (v.judged h.next h.at)) (λ f. tt)

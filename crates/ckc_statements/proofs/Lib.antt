@@ -1,4 +1,3 @@
-pub mod Mapped
 pub mod Coded
 pub mod CodedViews
 pub mod CodedStores

@@ -84,7 +84,7 @@ pub fn join_ends(alloc: Global, end: Point, walk: &mut Walk) -> Result<(), Alloc
 }
 
 /// What the body of a loop assigns, and how it leaves the loop.
-pub fn contents_of(alloc: Global, s: &Stmt<Name, Note>) -> Result<Contents, AllocError>
+fn contents_of(alloc: Global, s: &Stmt<Name, Note>) -> Result<Contents, AllocError>
     ensures assigned { IfOk result (λ c. c.assigned ≡ (path s.now).assigned) }
     ensures breaks { IfOk result (λ c. c.breaks ≡ (path s.now).breaks) }
     ensures continues { IfOk result (λ c. c.continues ≡ (path s.now).continues) }

@@ -53,7 +53,7 @@ fn judge_expr(
 
 /// Judges an expression, and notes the ranges in it.
 #[tactic(auto, unfolding(crate::specs::Paths::value_judged))]
-pub fn judge_value(
+fn judge_value(
     work: &mut Work,
     frame: &Frame,
     e: &Expr<Name, Note>,

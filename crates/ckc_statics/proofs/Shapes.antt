@@ -1,6 +1,6 @@
 -- Structures that are put into a list, each at the number of its tag.
 use Rattle.std.proofs.Common.{◌≡◌, ◌≢◌, ◌<◌, ◌≤◌, ◌⊎◌, inl, inr, ℕ, zero, suc, ◌+◌, ◌-◌, ◌==◌, true, false, leb, eqb, List, [], ◌∷◌, ◌++◌, length, map, drop, get_or, drop-cons, if◌then◌else◌, Some, None, refl, sym, ap, ◌∙◌, arith}
-use Rattle.std.specs.Prelude.{set}
+use Rattle.std.specs.Prelude.{set, unwrap_or}
 use Rattle.std.proofs.Math.Seq.{set_out, set-append_seam}
 use Rattle.std.proofs.lemmas.List.{set-append_left, length-append, drop_all}
 use Rattle.std.proofs.lemmas.Bool.Decides.{leb_tells, eqb_tells}
@@ -9,7 +9,7 @@ use Rattle.ckc_types.specs.declared.types.StructShape.{StructShape}
 use Rattle.ckc_syntax.specs.declared.tree.Name.TheVariants as name
 use Rattle.ckc_syntax.specs.declared.tree.Item.TheVariants as item
 use Rattle.ckc_typed.specs.Trees.{Item, Decl}
-use Rattle.ckc_typed.specs.Layouts.{shape_of, shapes_below, members_declared, or_members}
+use Rattle.ckc_typed.specs.Layouts.{shape_of, shapes_below, members_declared}
 use Rattle.ckc_statics.specs.code.Shapes.{with_struct}
 
 length_below : (f : ℕ → StructShape) (n : ℕ) → length (shapes_below f n) ≡ n
@@ -57,7 +57,7 @@ module _ (member : Decl → MemberShape) (rest : List Item) (n : ℕ) where
   abbrev after : List Item → List StructShape
   after items = shapes_below (shape_of member items) n
 
-  of_tag : (k : ℕ) (members : List Decl) (x : Item) → ((j : ℕ) → members_declared (x ∷ rest) (name.Tag j) ≡ or_members (if k == j then Some members else None) (members_declared rest (name.Tag j)))
+  of_tag : (k : ℕ) (members : List Decl) (x : Item) → ((j : ℕ) → members_declared (x ∷ rest) (name.Tag j) ≡ unwrap_or (if k == j then Some members else None) (members_declared rest (name.Tag j)))
       → after (x ∷ rest) ≡ set (after rest) k (record { members = map member members })
   of_tag k members x found = sym (set_below (shape_of member rest) (shape_of member (x ∷ rest)) k (record { members = map member members }) same at n)
     where
@@ -67,15 +67,15 @@ module _ (member : Decl → MemberShape) (rest : List Item) (n : ℕ) where
       same : (j : ℕ) → k ≢ j → shape_of member (x ∷ rest) j ≡ shape_of member rest j
       same j q = ap with_members (found j ∙ by (eqb_tells k j))
         where
-          by : ((eqb k j ≡ true) × (k ≡ j)) ⊎ ((eqb k j ≡ false) × (k ≢ j)) → or_members (if k == j then Some members else None) (members_declared rest (name.Tag j)) ≡ members_declared rest (name.Tag j)
+          by : ((eqb k j ≡ true) × (k ≡ j)) ⊎ ((eqb k j ≡ false) × (k ≢ j)) → unwrap_or (if k == j then Some members else None) (members_declared rest (name.Tag j)) ≡ members_declared rest (name.Tag j)
           by (inl (e, same)) = absurd (q same)
-          by (inr (e, other)) = ap (λ b. or_members (if b then Some members else None) (members_declared rest (name.Tag j))) e
+          by (inr (e, other)) = ap (λ b. unwrap_or (if b then Some members else None) (members_declared rest (name.Tag j))) e
 
       at : shape_of member (x ∷ rest) k ≡ with_members members
       at = ap with_members (found k ∙ by (eqb_tells k k))
         where
-          by : ((eqb k k ≡ true) × (k ≡ k)) ⊎ ((eqb k k ≡ false) × (k ≢ k)) → or_members (if k == k then Some members else None) (members_declared rest (name.Tag k)) ≡ members
-          by (inl (e, same)) = ap (λ b. or_members (if b then Some members else None) (members_declared rest (name.Tag k))) e
+          by : ((eqb k k ≡ true) × (k ≡ k)) ⊎ ((eqb k k ≡ false) × (k ≢ k)) → unwrap_or (if k == k then Some members else None) (members_declared rest (name.Tag k)) ≡ members
+          by (inl (e, same)) = ap (λ b. unwrap_or (if b then Some members else None) (members_declared rest (name.Tag k))) e
           by (inr (e, other)) = absurd (other refl)
 
   pub put_in_front : (x : Item) → after (x ∷ rest) ≡ with_struct member (after rest) x

@@ -4,25 +4,15 @@ ghost use Rattle.std.specs.Prelude.{◌≡◌, ◌+◌, IfOk, length, not, ◌&&
 ghost use Rattle.std.specs.Option.{option_copied, option_map};
 ghost use Rattle.std.specs.List.{list_all};
 ghost use Rattle.ckc_typed.specs.Types.{type_written, is_scalar};
-ghost use Rattle.ckc_typed.specs.Declarations.{is_plain, string_in, length_of_init, length_or, count_of, kept_zero, is_element_for, is_start, string_fits, one_fits, init_fits, count_fits};
+ghost use Rattle.ckc_typed.specs.Declarations.{string_in, length_of_init, length_or, count_of, kept_zero, is_element_for, is_start, string_fits, one_fits, init_fits, count_fits};
 
 use ckc_base::Bytes;
 use ckc_syntax::{Decl, Expr, Init, Length, Name, Node};
 use ckc_typed::Note;
 use ckc_typed::constants::{constant, is_null};
-use ckc_typed::types::{is_char, is_integer, is_object_type, is_pointer, is_scalar};
+use ckc_typed::types::{is_char, is_integer, is_object_type, is_plain, is_pointer, is_scalar};
 use ckc_types::{CType, Structs};
 use std::alloc::{AllocError, Global};
-
-/// Whether a declaration is of no array.
-pub fn is_plain(length: Length) -> bool
-    ensures { result ≡ is_plain length }
-{
-    match length {
-        Length::Plain => true,
-        Length::Raw(_, _) | Length::Checked(_) | Length::Nt(_) => false,
-    }
-}
 
 /// The bytes of a string literal.
 pub fn string_in(e: &Expr<Name, Note>) -> Option<&Bytes>

@@ -1,9 +1,10 @@
 //! The objects that live as long as the program, at their addresses.
 
+ghost use Rattle.std.specs.Option.{option_map_or};
 ghost use Rattle.std.specs.Prelude.{◌≡◌, [], ◌∷◌, ◌++◌, IfOk, OnOk, map};
 ghost use Rattle.std.specs.List.{flat_map};
 ghost use Rattle.ckc_typed.specs.Declarations.{string_in};
-ghost use Rattle.ckc_typed.specs.Statics.{word_in, bytes_of, bytes_of_one, initial_bytes, is_terminated, object_of, objects_of_item, object_of_string, strings_of_item, blocks};
+ghost use Rattle.ckc_typed.specs.Statics.{bytes_of, bytes_of_one, initial_bytes, is_terminated, object_of, objects_of_item, object_of_string, strings_of_item, blocks};
 
 use crate::initials::{count_of, string_in};
 use crate::strings::strings_of;
@@ -16,7 +17,7 @@ use ckc_types::{CType, Kind, Structs};
 use std::alloc::{AllocError, Global};
 
 fn word_in(c: Option<Constant>) -> u32
-    ensures { result ≡ word_in c }
+    ensures { result ≡ option_map_or (λ (c : Constant). c.word) c 0 }
 {
     match c {
         Some(c) => c.word,

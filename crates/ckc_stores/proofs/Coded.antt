@@ -1,4 +1,5 @@
 -- The codes of the errors of assignments.
+use Rattle.std.specs.Option.{option_or}
 use Rattle.std.proofs.Common.{◌≡◌, ◌⊎◌, inl, inr, refl, subst, ℕ, Bool, true, false, List, [], ◌∷◌, map}
 use Rattle.std.specs.Prelude.{Option, None, Some, Err, if◌then◌else◌}
 use Rattle.std.specs.List.{find}
@@ -13,7 +14,7 @@ use Rattle.ckc_points.specs.Flow.{State}
 use Rattle.ckc_views.specs.declared.variables.Member.{Member}
 use Rattle.ckc_views.specs.Views.{view}
 use Rattle.ckc_stores.specs.Targets.{local_of, memory_bounds}
-use Rattle.ckc_stores.specs.Stores.{Store, Placed, numbered, assigns_local, touches, refusal_unless, named_fault, touched_fault, fault_by_bounds, fault_of_local, local_fault, memory_fault_by, member_fault, first_of, target_fault_of, store_fault, decides, earlier, earliest, first_fault, unless_refused, after, stored_placed, stored}
+use Rattle.ckc_stores.specs.Stores.{Store, Placed, numbered, assigns_local, touches, refusal_unless, named_fault, touched_fault, fault_by_bounds, fault_of_local, local_fault, memory_fault_by, member_fault, target_fault_of, store_fault, decides, earlier, earliest, first_fault, unless_refused, after, stored_placed, stored}
 
 -- a code of an assignment
 abbrev pub IsStoreCode : ℕ → Type 0
@@ -54,7 +55,7 @@ coded_member : (frame : Frame) (ps : List Placed) (p : Placed) (m : Option Membe
 coded_member frame ps p None = tt
 coded_member frame ps p (Some m) = coded_unless _ 605 p.pos (inr (inr refl))
 
-coded_first : (r s : Option Refusal) → Coded r → Coded s → Coded (first_of r s)
+coded_first : (r s : Option Refusal) → Coded r → Coded s → Coded (option_or r s)
 coded_first None s h k = k
 coded_first (Some r) s h k = h
 

@@ -2,7 +2,7 @@
 -- they touch is contained in its bounds (Checked C specification 0.9, sections 3.4 and 4.2).
 use Rattle.std.specs.Prelude.{◌≡◌, ℕ, ◌==◌, nat_lt, Bool, true, false, not, ◌&&◌, ◌||◌, if◌then◌else◌, List, [], ◌∷◌, ◌++◌, map, length, Option, None, Some, Result, Ok, Err}
 use Rattle.std.specs.List.{filter_map, find}
-use Rattle.std.specs.Option.{option_map}
+use Rattle.std.specs.Option.{option_map, option_or}
 use Rattle.ckc_base.specs.declared.places.Pos.{Pos}
 use Rattle.ckc_base.specs.declared.places.Refusal.{Refusal}
 use Rattle.ckc_base.specs.declared.fault.Fault.{Fault}
@@ -180,14 +180,10 @@ abbrev pub member_fault : Frame → List Placed → Placed → Option Member →
 member_fault frame ps p None = None
 member_fault frame ps p (Some m) = refusal_unless (may_be_assigned frame ps p m) assigned_alone p.pos
 
-abbrev pub first_of : Option Refusal → Option Refusal → Option Refusal
-first_of (Some r) other = Some r
-first_of None other = other
-
 -- What an assignment to memory owes: E602 goes before E605 at the same `=`.
 abbrev pub memory_fault : Frame → List Placed → State → Placed → Option Refusal
 memory_fault frame ps at p =
-    first_of (memory_fault_by frame ps at p (memory_bounds frame p.target)) (member_fault frame ps p (view frame p.target).member)
+    option_or (memory_fault_by frame ps at p (memory_bounds frame p.target)) (member_fault frame ps p (view frame p.target).member)
 
 abbrev pub target_fault_of : Frame → Bounds → List Placed → State → Placed → Option ℕ → Option Refusal
 target_fault_of frame limits ps at p None = memory_fault frame ps at p

@@ -1,5 +1,5 @@
 -- What an assignment may change: a local, a member of a structure, or other memory, and which bounds a pointer has there.
-use Rattle.std.specs.Prelude.{ℕ, Option, None, Some, slice_get}
+use Rattle.std.specs.Prelude.{ℕ, Option, None, Some, slice_get, unwrap_or}
 use Rattle.ckc_types.specs.declared.types.CType.{CType}
 use Rattle.ckc_types.specs.declared.types.MemberBounds.{MemberBounds}
 use Rattle.ckc_types.specs.declared.types.MemberBounds.TheVariants as written
@@ -9,7 +9,7 @@ use Rattle.ckc_syntax.specs.declared.tree.Name.{Name}
 use Rattle.ckc_syntax.specs.declared.tree.Name.TheVariants as name
 use Rattle.ckc_syntax.specs.declared.tree.Node.{Node-F, out-Node}
 use Rattle.ckc_typed.specs.declared.typed.Note.{Note}
-use Rattle.ckc_typed.specs.Trees.{NotedLimits, NotedNode, NotedExpr}
+use Rattle.ckc_typed.specs.Trees.{NotedExpr, NotedLayer}
 use Rattle.ckc_points.specs.declared.frame.Bounds.{Bounds}
 use Rattle.ckc_points.specs.declared.frame.Bounds.TheVariants as bounds
 use Rattle.ckc_points.specs.declared.frame.Frame.{Frame}
@@ -20,15 +20,11 @@ use Rattle.ckc_views.specs.Parts.{capped}
 use Rattle.ckc_views.specs.Fresh.{member_bounds}
 use Rattle.ckc_views.specs.Views.{view}
 
--- a node whose parts are expressions with their notes
-abbrev pub NotedParts : Type 0
-NotedParts = Node-F Name Note NotedLimits NotedNode NotedExpr
-
 abbrev pub local_named : Name → Option ℕ
 local_named (name.Local k) = Some k
 local_named _ = None
 
-abbrev pub local_in : NotedParts → Option ℕ
+abbrev pub local_in : NotedLayer → Option ℕ
 local_in (Node-F.Name n) = local_named n
 local_in _ = None
 
@@ -61,18 +57,14 @@ object_named frame (name.Static k) = written_there (slice_get frame.objects k)
 object_named frame _ = None
 
 -- the bounds that are written at the object of file scope that an expression is
-abbrev pub written_in : Frame → NotedParts → Option Bounds
+abbrev pub written_in : Frame → NotedLayer → Option Bounds
 written_in frame (Node-F.Name n) = object_named frame n
 written_in frame _ = None
-
-abbrev pub bounds_or : Option Bounds → Bounds → Bounds
-bounds_or (Some b) other = b
-bounds_or None other = other
 
 abbrev pub bounds_by : Frame → NotedExpr → Option Member → Bounds
 bounds_by frame e (Some m) = bounds_by_member e.note.ctype (member_bounds frame.structs m)
 bounds_by frame e None =
-    bounds_or (written_in frame (out-Node Name Note e.node)) (bounds_by_type (base.Value 0) e.note.ctype)
+    unwrap_or (written_in frame (out-Node Name Note e.node)) (bounds_by_type (base.Value 0) e.note.ctype)
 
 -- The bounds of a pointer in memory, from its value, the base `Value 0`: a member and an object of file scope have those
 -- that are declared, and every other place has those of its type. What is no checked pointer has unknown ones.

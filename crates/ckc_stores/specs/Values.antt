@@ -1,6 +1,7 @@
 -- What a pointer becomes, and whether the bounds that it must have contain it (Checked C specification 0.9, section 4.2).
 use Rattle.std.specs.Prelude.{ℕ, Bool, false, not, ◌&&◌, if◌then◌else◌, negsuc, List, [], Some}
 use Rattle.ckc_types.specs.declared.types.CType.{CType}
+use Rattle.ckc_typed.specs.Conversions.{is_terminated_kind}
 use Rattle.ckc_typed.specs.declared.typed.Range.{Range}
 use Rattle.ckc_typed.specs.declared.typed.Range.TheVariants as range
 use Rattle.ckc_typed.specs.Trees.{NotedExpr}
@@ -15,7 +16,7 @@ use Rattle.ckc_ranges.specs.declared.replacements.VariableBy.{VariableBy}
 use Rattle.ckc_ranges.specs.Replaced.{replaced_bounds}
 use Rattle.ckc_ranges.specs.Contained.{is_contained}
 use Rattle.ckc_ranges.specs.Rows.{range_moved, range_of_local}
-use Rattle.ckc_views.specs.Parts.{capped, is_nt}
+use Rattle.ckc_views.specs.Parts.{capped}
 use Rattle.ckc_views.specs.Fresh.{with_types}
 use Rattle.ckc_views.specs.Judged.{extended_by}
 use Rattle.ckc_views.specs.Views.{view}
@@ -41,11 +42,11 @@ one_less r = r
 
 -- `calloc` to an `_Nt_array_ptr` gives one element less, since the last one stays zero.
 abbrev pub received_range : CType → Bool → Range → Range
-received_range t allocates r = if allocates && is_nt (kind_of t) then one_less r else r
+received_range t allocates r = if allocates && is_terminated_kind (kind_of t) then one_less r else r
 
 -- whether there is an element for certain: a `calloc` of none gives null, which needs none
 abbrev pub has_element : CType → Bool → Bool
-has_element t allocates = allocates && not (is_nt (kind_of t))
+has_element t allocates = allocates && not (is_terminated_kind (kind_of t))
 
 abbrev pub range_received : Frame → CType → NotedExpr → Numbered → State → Range
 range_received frame t e n at = received_range t (view frame e).allocates ((view frame e).range n.value n.fresh at)

@@ -4,7 +4,7 @@ ghost use Rattle.std.specs.Prelude.{◌≡◌, ◌==◌, nat_lt, map, length, no
 ghost use Rattle.std.specs.List.{filter_map, find};
 ghost use Rattle.std.specs.Option.{option_map};
 ghost use Rattle.ckc_points.specs.Flow.{state};
-ghost use Rattle.ckc_stores.specs.Stores.{assigns, assigns_local, is_in_bounds, touches, refusal_unless, target_fault, named_fault, touched_fault, fault_by_bounds, local_fault, memory_fault_by, members_assigned, may_be_assigned, member_fault, first_of, memory_fault, store_fault, comes_before, decides, earlier, earliest, first_fault};
+ghost use Rattle.ckc_stores.specs.Stores.{assigns, assigns_local, is_in_bounds, touches, refusal_unless, target_fault, named_fault, touched_fault, fault_by_bounds, local_fault, memory_fault_by, members_assigned, may_be_assigned, member_fault, memory_fault, store_fault, comes_before, decides, earlier, earliest, first_fault};
 ghost use Rattle.ckc_stores.specs.code.Stores.{placed};
 
 use crate::placed::Placed;

@@ -1,10 +1,10 @@
 //! What an assignment may change: a local, a member of a structure, or other memory.
 
-ghost use Rattle.std.specs.Prelude.{◌≡◌};
+ghost use Rattle.std.specs.Prelude.{◌≡◌, unwrap_or};
 ghost use Rattle.std.specs.Option.{option_copied};
 ghost use Rattle.ckc_syntax.specs.declared.tree.Node.{out-Node};
 ghost use Rattle.ckc_views.specs.Views.{view};
-ghost use Rattle.ckc_stores.specs.Targets.{local_named, local_of, member_variable, counted, bounds_by_member, written_there, object_named, written_in, bounds_or, bounds_by, memory_bounds};
+ghost use Rattle.ckc_stores.specs.Targets.{local_named, local_of, member_variable, counted, bounds_by_member, written_there, object_named, written_in, bounds_by, memory_bounds};
 
 use ckc_declared::bounds_by_type;
 use ckc_linear::{Base, Form};
@@ -100,7 +100,7 @@ fn written_in(frame: &Frame, node: &Node<Name, Note>) -> Option<Bounds>
 }
 
 fn bounds_or(written: Option<Bounds>, other: Bounds) -> Bounds
-    ensures { result ≡ bounds_or written other }
+    ensures { result ≡ unwrap_or written other }
 {
     match written {
         Some(b) => b,

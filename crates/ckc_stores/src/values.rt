@@ -1,10 +1,10 @@
 //! What a pointer becomes, and whether the bounds that it must have contain it.
 
 ghost use Rattle.std.specs.Prelude.{◌≡◌, ◌&&◌, not, IfOk, OnOk};
+ghost use Rattle.ckc_typed.specs.Conversions.{is_terminated_kind};
 ghost use Rattle.ckc_typed.specs.Types.{kind_of};
 ghost use Rattle.ckc_points.specs.Shown.{known};
 ghost use Rattle.ckc_points.specs.Flow.{state};
-ghost use Rattle.ckc_views.specs.Parts.{is_nt};
 ghost use Rattle.ckc_views.specs.Judged.{extended_by};
 ghost use Rattle.ckc_stores.specs.Values.{value, narrow, one_less, received_range, has_element, range_received, new_value, same_value, holds};
 
@@ -55,7 +55,7 @@ fn narrow(alloc: Global, at: &Point) -> Result<Point, AllocError>
 }
 
 fn is_nt(t: &CType) -> bool
-    ensures { result ≡ is_nt (kind_of t.now) }
+    ensures { result ≡ is_terminated_kind (kind_of t.now) }
 {
     kind_of(t) == Some(Kind::Nt)
 }

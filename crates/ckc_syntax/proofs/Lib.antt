@@ -10,6 +10,4 @@ pub mod SameTypes
 pub mod SameNodes
 pub mod SameHeads
 pub mod Layers
-pub mod Turns
-pub mod Sequels
 pub mod Wrapping

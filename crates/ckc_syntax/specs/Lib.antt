@@ -2,6 +2,7 @@ pub mod Bytes
 pub mod Decoded
 pub mod Digits
 pub mod Literals
+pub mod Inside
 pub mod Longest
 pub mod Spelled
 pub mod Placeless

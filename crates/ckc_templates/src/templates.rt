@@ -10,7 +10,7 @@ use std::alloc::AllocError;
 
 pub const SP: u8 = 2;
 
-pub const FAR_OFFSET: u8 = 7;
+const FAR_OFFSET: u8 = 7;
 
 /// One instruction.
 pub fn put(out: &mut Vec<Line>, i: Instr) -> Result<(), AllocError>

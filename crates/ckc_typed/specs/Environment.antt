@@ -1,6 +1,5 @@
 -- What a text declares (ISO C11, 6.2.1): its objects of file scope and its functions, and the variables that an
 -- expression sees beside them, whatever its tree notes. Where a tree names what it does not declare, nothing is found.
-pub use Rattle.ckc_base.specs.Lists.{concatenation as joined_variables, or_empty as held_variables}
 use Rattle.std.specs.Prelude.{ℕ, ◌==◌, Bool, true, false, List, [], ◌∷◌, ◌++◌, map, flat_map, find, Option, None, Some}
 use Rattle.std.specs.Option.{option_map}
 use Rattle.ckc_types.specs.declared.types.Kind.{Kind}
@@ -9,6 +8,7 @@ use Rattle.ckc_types.specs.declared.types.CType.{CType}
 use Rattle.ckc_types.specs.declared.types.CType.TheVariants as ctype
 use Rattle.ckc_types.specs.declared.types.Structs.{Structs}
 use Rattle.ckc_types.specs.Layout.{members_of}
+use Rattle.ckc_syntax.specs.Inside.{inside_if, inside_act}
 use Rattle.ckc_syntax.specs.declared.tree.Name.{Name}
 use Rattle.ckc_syntax.specs.declared.tree.Name.TheVariants as name
 use Rattle.ckc_syntax.specs.declared.tree.Length.{Length}
@@ -79,19 +79,7 @@ abbrev pub signatures_of : {A : Type 0} → List (Item Name A) → List Signatur
 signatures_of items = getchar ∷ putchar ∷ flat_map signatures_of_item items
 
 abbrev pub act_variables : {A : Type 0} → Act-F Name A (List Variable) (List Variable) → List Variable
-act_variables (Act-F.Block m ss) = joined_variables ss
-act_variables Act-F.Empty = []
-act_variables (Act-F.Local d) = variable_declared d ∷ []
-act_variables (Act-F.Assign e f) = []
-act_variables (Act-F.Call e) = []
-act_variables (Act-F.If e s t) = s ++ held_variables t
-act_variables (Act-F.While e s) = s
-act_variables (Act-F.For s e t body) = held_variables s ++ held_variables t ++ body
-act_variables (Act-F.Return e) = []
-act_variables Act-F.Break = []
-act_variables Act-F.Continue = []
-act_variables (Act-F.Check e) = []
-act_variables (Act-F.Bundle ss) = joined_variables ss
+act_variables = inside_act (λ e. []) (λ d. variable_declared d ∷ [])
 
 abbrev pub stmt_variables : {A : Type 0} → Stmt-F Name A (List Variable) (List Variable) → List Variable
 stmt_variables s = s.body
@@ -104,8 +92,7 @@ abbrev pub locals_of_act : {A : Type 0} → acts.Act Name A → List Variable
 locals_of_act {A} = fold-Act Name A (List Variable) (List Variable) act_variables stmt_variables
 
 abbrev pub locals_of_part : {A : Type 0} → Option (statements.Stmt Name A) → List Variable
-locals_of_part None = []
-locals_of_part (Some s) = locals_of s
+locals_of_part = inside_if locals_of
 
 abbrev pub params_of : {A : Type 0} → heads.Head Name A → List Variable
 params_of h = map variable_declared h.params

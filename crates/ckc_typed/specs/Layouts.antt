@@ -1,6 +1,6 @@
 -- The structures of a text with the bounds of their members (ISO C11, 6.7.2.1; Checked C specification 0.9, section
 -- 3.1, on bounds of members), whatever its tree notes.
-use Rattle.std.specs.Prelude.{ℕ, suc, zero, ◌+◌, max, fold, map, ℤ, if◌then◌else◌, List, [], ◌∷◌, ◌++◌, Option, None, Some}
+use Rattle.std.specs.Prelude.{ℕ, suc, zero, ◌+◌, max, fold, map, ℤ, if◌then◌else◌, List, [], ◌∷◌, ◌++◌, Option, None, Some, unwrap_or}
 use Rattle.ckc_types.specs.declared.types.CType.{CType}
 use Rattle.ckc_types.specs.declared.types.MemberBounds.{MemberBounds}
 use Rattle.ckc_types.specs.declared.types.MemberBounds.TheVariants as bounds
@@ -55,14 +55,10 @@ abbrev pub members_in_item : {A : Type 0} → Name → Item Name A → Option (L
 members_in_item tag (item.Struct n members at) = if same_name n tag then Some members else None
 members_in_item tag _ = None
 
-abbrev pub or_members : {A : Type 0} → Option (List (Decl Name A)) → List (Decl Name A) → List (Decl Name A)
-or_members (Some ds) other = ds
-or_members None other = other
-
 -- the members of the first structure with a tag, none where only tag lines name it
 abbrev pub members_declared : {A : Type 0} → List (Item Name A) → Name → List (Decl Name A)
 members_declared [] tag = []
-members_declared (i ∷ rest) tag = or_members (members_in_item tag i) (members_declared rest tag)
+members_declared (i ∷ rest) tag = unwrap_or (members_in_item tag i) (members_declared rest tag)
 
 abbrev pub behind_tag : Name → ℕ
 behind_tag (name.Tag k) = k + 1

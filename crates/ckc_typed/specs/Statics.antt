@@ -2,20 +2,20 @@
 -- order of the text, then a block for each string literal that initialises no array, in the order of the text, with a
 -- zero byte behind its bytes. At 0x02000000 lies a word of the heap's. Each block begins at the least multiple of 8
 -- that is at least 8 bytes past the end of what lies before it.
-pub use Rattle.ckc_base.specs.Lists.{concatenation as joined_strings, or_empty as held_strings}
+use Rattle.std.specs.Option.{option_map_or}
 use Rattle.std.specs.Prelude.{ℕ, ◌+◌, ◌*◌, Bool, true, false, if◌then◌else◌, List, [], ◌∷◌, ◌++◌, length, take, map, flat_map, Option, None, Some, unwrap_or}
 use Rattle.std.specs.Int.{w32, to_le_bytes, next_multiple_of}
-use Rattle.ckc_base.specs.MemoryMap.{data_start, statics_end}
 use Rattle.ckc_types.specs.declared.types.Kind.TheVariants as kind
 use Rattle.ckc_types.specs.declared.types.CType.{CType}
 use Rattle.ckc_types.specs.declared.types.CType.TheVariants as ctype
 use Rattle.ckc_types.specs.declared.types.Structs.{Structs}
+use Rattle.ckc_syntax.specs.Inside.{inside_limits, inside_node, inside_if, inside_act, inside_item}
 use Rattle.ckc_syntax.specs.declared.tree.Name.{Name}
 use Rattle.ckc_syntax.specs.declared.tree.Init.TheVariants as init
 use Rattle.ckc_syntax.specs.declared.tree.Length.{Length}
 use Rattle.ckc_syntax.specs.declared.tree.Length.TheVariants as lengths
 use Rattle.ckc_syntax.specs.declared.tree.Item.TheVariants as item
-use Rattle.ckc_syntax.specs.declared.tree.Limits.{Limits-F, fold-Limits}
+use Rattle.ckc_syntax.specs.declared.tree.Limits.{fold-Limits}
 use Rattle.ckc_syntax.specs.declared.tree.Node.{Node-F}
 use Rattle.ckc_syntax.specs.declared.tree.Expr.{Expr-F, fold-Expr}
 use Rattle.ckc_syntax.specs.declared.tree.Act.{Act-F}
@@ -33,46 +33,24 @@ use Rattle.ckc_typed.specs.Declarations.{count_of, is_plain, string_in}
 abbrev pub Strings : Type 0
 Strings = List (List ℕ)
 
-abbrev pub limits_strings : Limits-F Name Note Strings Strings Strings → Strings
-limits_strings (Limits-F.Count e at) = e
-limits_strings (Limits-F.ByteCount e at) = e
-limits_strings (Limits-F.Between e f at) = e ++ f
-limits_strings (Limits-F.Unknown pos) = []
-
 abbrev pub node_strings : Node-F Name Note Strings Strings Strings → Strings
-node_strings (Node-F.Number n unsigned) = []
 node_strings (Node-F.Text bytes) = bytes ∷ []
-node_strings Node-F.Null = []
-node_strings (Node-F.Name n) = []
-node_strings (Node-F.Un o e) = e
-node_strings (Node-F.Bin o e f) = e ++ f
-node_strings (Node-F.Pick e f g) = e ++ f ++ g
-node_strings (Node-F.Index e f) = e ++ f
-node_strings (Node-F.Dot e n at) = e
-node_strings (Node-F.Arrow e n at) = e
-node_strings (Node-F.Cast t e) = e
-node_strings (Node-F.Size t) = []
-node_strings (Node-F.Trusted t e l) = e ++ held_strings l
-node_strings (Node-F.Tested t e l) = e ++ held_strings l
-node_strings (Node-F.Call n es) = joined_strings es
-node_strings (Node-F.Calloc t e u) = e
+node_strings n = inside_node n
 
 abbrev pub expr_strings : Expr-F Name Note Strings Strings Strings → Strings
 expr_strings e = e.node
 
 abbrev pub strings_of_limits : NotedLimits → Strings
-strings_of_limits = fold-Limits Name Note Strings Strings Strings limits_strings node_strings expr_strings
+strings_of_limits = fold-Limits Name Note Strings Strings Strings inside_limits node_strings expr_strings
 
 abbrev pub strings_of_expr : NotedExpr → Strings
-strings_of_expr = fold-Expr Name Note Strings Strings Strings limits_strings node_strings expr_strings
+strings_of_expr = fold-Expr Name Note Strings Strings Strings inside_limits node_strings expr_strings
 
 abbrev pub strings_of_bounds : Option NotedLimits → Strings
-strings_of_bounds None = []
-strings_of_bounds (Some l) = strings_of_limits l
+strings_of_bounds = inside_if strings_of_limits
 
 abbrev pub strings_of_value : Option NotedExpr → Strings
-strings_of_value None = []
-strings_of_value (Some e) = strings_of_expr e
+strings_of_value = inside_if strings_of_expr
 
 -- A string that initialises an array makes no block.
 abbrev pub strings_of_init : Bool → NotedInit → Strings
@@ -84,19 +62,7 @@ abbrev pub strings_of_decl : NotedDecl → Strings
 strings_of_decl d = strings_of_bounds d.bounds ++ strings_of_init (is_plain d.length) d.init
 
 abbrev pub act_strings : Act-F Name Note Strings Strings → Strings
-act_strings (Act-F.Block m ss) = joined_strings ss
-act_strings Act-F.Empty = []
-act_strings (Act-F.Local d) = strings_of_decl d
-act_strings (Act-F.Assign e f) = strings_of_expr e ++ strings_of_expr f
-act_strings (Act-F.Call e) = strings_of_expr e
-act_strings (Act-F.If e s t) = strings_of_expr e ++ s ++ held_strings t
-act_strings (Act-F.While e s) = strings_of_expr e ++ s
-act_strings (Act-F.For s e t body) = held_strings s ++ strings_of_value e ++ held_strings t ++ body
-act_strings (Act-F.Return e) = strings_of_value e
-act_strings Act-F.Break = []
-act_strings Act-F.Continue = []
-act_strings (Act-F.Check e) = strings_of_expr e
-act_strings (Act-F.Bundle ss) = joined_strings ss
+act_strings = inside_act strings_of_expr strings_of_decl
 
 abbrev pub stmt_strings : Stmt-F Name Note Strings Strings → Strings
 stmt_strings s = s.body
@@ -108,20 +74,11 @@ abbrev pub strings_of_head : NotedHead → Strings
 strings_of_head h = flat_map strings_of_decl h.params ++ strings_of_bounds h.bounds
 
 abbrev pub strings_of_item : NotedItem → Strings
-strings_of_item (item.Directive d) = []
-strings_of_item (item.Tag n pos) = []
-strings_of_item (item.Struct n members pos) = flat_map strings_of_decl members
-strings_of_item (item.Static d) = strings_of_decl d
-strings_of_item (item.Proto h) = strings_of_head h
-strings_of_item (item.Function h body) = strings_of_head h ++ strings_of_stmt body
-
-abbrev pub word_in : Option Constant → ℕ
-word_in (Some c) = c.word
-word_in None = 0
+strings_of_item = inside_item strings_of_decl strings_of_head strings_of_stmt
 
 -- The bytes of a constant, the low one first; of a `char` the low one alone. Null is zero.
 abbrev pub bytes_of : Structs → CType → NotedExpr → List ℕ
-bytes_of structs t e = take (if is_char t then 1 else 4) (to_le_bytes w32 (word_in (constant structs e)))
+bytes_of structs t e = take (if is_char t then 1 else 4) (to_le_bytes w32 (option_map_or (λ (c : Constant). c.word) (constant structs e) 0))
 
 abbrev pub bytes_of_one : Structs → CType → NotedExpr → Option (List ℕ) → List ℕ
 bytes_of_one structs t e (Some bytes) = bytes
@@ -167,10 +124,3 @@ placed structs end (o ∷ os) = record o { at = begin_behind end } ∷ placed st
 abbrev pub end_of_blocks : Structs → ℕ → List StaticObject → ℕ
 end_of_blocks structs end [] = end
 end_of_blocks structs end (o ∷ os) = end_of_blocks structs (end_of_block structs end o) os
-
--- the end of what lies before the first block, and the last end that fits
-abbrev pub FIRST_END : ℕ
-FIRST_END = data_start
-
-abbrev pub LAST_END : ℕ
-LAST_END = statics_end

@@ -1,6 +1,6 @@
 -- A whole text with its types: what it becomes, and its first fault. Items are judged in the order of the text. That
 -- the static objects end too late is judged last.
-use Rattle.std.specs.Prelude.{ℕ, nat_lt, Bool, not, ◌||◌, List, [], ◌∷◌, map, unwrap_or, Option, Ok}
+use Rattle.std.specs.Prelude.{ℕ, nat_lt, Bool, not, ◌||◌, List, [], ◌∷◌, map, Option, Ok}
 use Rattle.std.specs.Prelude.{false}
 use Rattle.ckc_base.specs.Places.{start}
 use Rattle.ckc_base.specs.declared.arithmetic.Mode.{Mode}
@@ -21,15 +21,13 @@ use Rattle.ckc_typed.specs.Expressions.{bounds_typed}
 use Rattle.ckc_typed.specs.Declarations.{bares_typed, static_typed}
 use Rattle.ckc_typed.specs.Statements.{stmt_typed}
 use Rattle.ckc_typed.specs.Layouts.{structs_of}
-use Rattle.ckc_typed.specs.Statics.{blocks, placed, end_of_blocks, FIRST_END, LAST_END}
-use Rattle.ckc_typed.specs.Walk.{mode_of_directive}
+use Rattle.ckc_base.specs.MemoryMap.{data_start, statics_end}
+use Rattle.ckc_typed.specs.Statics.{blocks, placed, end_of_blocks}
+use Rattle.ckc_typed.specs.Walk.{head_mode, pragma_after}
 
 -- A result is a scalar or `void`.
 abbrev pub is_result_type : CType → Bool
 is_result_type t = is_void t || is_scalar_type t
-
-abbrev pub head_mode : Mode → Head → Mode
-head_mode pragma h = unwrap_or h.mode pragma
 
 -- E401 at the name of the function: no function gives such a type
 abbrev pub result_allowed : Head → Outcome (Unit {0})
@@ -57,11 +55,6 @@ item_typed globals pragma (item.Static d) = bind (static_typed globals pragma d)
 item_typed globals pragma (item.Proto h) = bind (head_typed globals pragma h) (λ g. Ok (item.Proto g))
 item_typed globals pragma (item.Function h body) = function_typed globals pragma h body
 
--- the mode of what follows an item, where no head says another
-abbrev pub pragma_after : Mode → Item → Mode
-pragma_after pragma (item.Directive d) = mode_of_directive pragma d
-pragma_after pragma _ = pragma
-
 abbrev pub items_typed : Globals → Mode → List Item → Outcome (List NotedItem)
 items_typed globals pragma [] = Ok []
 items_typed globals pragma (i ∷ rest) = bind (item_typed globals pragma i) (λ n. bind (items_typed globals (pragma_after pragma i) rest) (λ ns. Ok (n ∷ ns)))
@@ -72,7 +65,7 @@ globals_of items = record { structs = structs_of items; objects = objects_of ite
 
 -- E206: the static objects end too late
 abbrev pub laid_out : Structs → List NotedItem → Outcome (List StaticObject)
-laid_out structs items = unless (nat_lt LAST_END (end_of_blocks structs FIRST_END (blocks structs items))) late_statics start (Ok (placed structs FIRST_END (blocks structs items)))
+laid_out structs items = unless (nat_lt statics_end (end_of_blocks structs data_start (blocks structs items))) late_statics start (Ok (placed structs data_start (blocks structs items)))
 
 abbrev pub text_typed : Tree → ℕ → Outcome Typed
 text_typed tree main =

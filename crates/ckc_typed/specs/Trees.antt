@@ -10,6 +10,7 @@ use Rattle.ckc_syntax.specs.declared.tree.Node as nodes
 use Rattle.ckc_syntax.specs.declared.tree.Stmt as statements
 use Rattle.ckc_syntax.specs.declared.tree.Act as acts
 pub use Rattle.ckc_syntax.specs.Trees.{NamedTypeTree as TypeTree, NamedTree as Tree, NamedItem as Item, NamedHead as Head, NamedDecl as Decl, NamedInit as Init, NamedLimits as Limits, NamedExpr as Expr, NamedNode as Node, NamedStmt as Stmt, NamedAct as Act}
+use Rattle.ckc_syntax.specs.Placeless.{NodeLayer}
 use Rattle.ckc_typed.specs.declared.typed.Note.{Note}
 
 abbrev pub NotedItem : Type 0
@@ -38,3 +39,7 @@ NotedStmt = statements.Stmt Name Note
 
 abbrev pub NotedAct : Type 0
 NotedAct = acts.Act Name Note
+
+-- what stands in one node of an expression with notes, with its parts
+abbrev pub NotedLayer : Type 0
+NotedLayer = NodeLayer Name Note

@@ -1,12 +1,13 @@
 -- What a typed tree holds for the rules of checked scopes to judge, in walk order: items in the order of the text; in
 -- a declaration its type and limits, then its initialiser; in a statement or an expression its parts from left to
 -- right, then itself; in a `for` the step comes after the body.
-pub use Rattle.ckc_base.specs.Lists.{concatenation as joined, or_empty as held}
-use Rattle.std.specs.Prelude.{ℕ, List, [], ◌∷◌, ◌++◌, Option, None, Some, unwrap_or, map, flat_map}
+use Rattle.std.specs.Prelude.{ℕ, List, [], ◌∷◌, ◌++◌, Option, unwrap_or, map, flat_map}
+use Rattle.ckc_base.specs.Lists.{or_empty}
 use Rattle.ckc_base.specs.declared.places.Pos.{Pos}
 use Rattle.ckc_base.specs.declared.arithmetic.Mode.{Mode}
 use Rattle.ckc_base.specs.declared.arithmetic.Mode.TheVariants.{Checked, Unchecked}
 use Rattle.ckc_types.specs.declared.types.CType.{CType}
+use Rattle.ckc_syntax.specs.Inside.{inside_limits, inside_node, inside_if, inside_init, inside_act, inside_item}
 use Rattle.ckc_syntax.specs.declared.tokens.Directive.{Directive}
 use Rattle.ckc_syntax.specs.declared.tokens.Directive.TheVariants as directive
 use Rattle.ckc_syntax.specs.declared.tree.Name.{Name}
@@ -16,8 +17,7 @@ use Rattle.ckc_syntax.specs.declared.tree.Item.TheVariants as item
 use Rattle.ckc_syntax.specs.declared.tree.Head.{Head}
 use Rattle.ckc_syntax.specs.declared.tree.Decl.{Decl}
 use Rattle.ckc_syntax.specs.declared.tree.Init.{Init}
-use Rattle.ckc_syntax.specs.declared.tree.Init.TheVariants as init
-use Rattle.ckc_syntax.specs.declared.tree.Limits.{Limits, Limits-F, fold-Limits}
+use Rattle.ckc_syntax.specs.declared.tree.Limits.{Limits, fold-Limits}
 use Rattle.ckc_syntax.specs.declared.tree.Node.{Node, Node-F, fold-Node}
 use Rattle.ckc_syntax.specs.declared.tree.Expr.{Expr, Expr-F, fold-Expr}
 use Rattle.ckc_syntax.specs.declared.tree.Act.{Act, Act-F, fold-Act}
@@ -52,81 +52,46 @@ pub record Within : Type 0 where
   pub parts : List Spot
   pub own : List Matter
 
-abbrev pub parts_only : List Spot → Within
-parts_only spots = record { parts = spots; own = [] }
-
 abbrev pub called_by : Name → List Matter
 called_by (name.Function k) = called k ∷ []
 called_by _ = []
 
--- Each step below is one level, with the spots of each part in its place.
-abbrev pub limits_spots : Limits-F Name Note (List Spot) Within (List Spot) → List Spot
-limits_spots (Limits-F.Count e at) = e
-limits_spots (Limits-F.ByteCount e at) = e
-limits_spots (Limits-F.Between e f at) = e ++ f
-limits_spots (Limits-F.Unknown pos) = []
+abbrev pub own_matters : Node-F Name Note (List Spot) Within (List Spot) → List Matter
+own_matters (Node-F.Trusted t e limits) = assumed ∷ []
+own_matters (Node-F.Call n es) = called_by n
+own_matters _ = []
 
 abbrev pub node_spots : Node-F Name Note (List Spot) Within (List Spot) → Within
-node_spots (Node-F.Number n unsigned) = parts_only []
-node_spots (Node-F.Text bytes) = parts_only []
-node_spots Node-F.Null = parts_only []
-node_spots (Node-F.Name n) = parts_only []
-node_spots (Node-F.Un op e) = parts_only e
-node_spots (Node-F.Bin op e f) = parts_only (e ++ f)
-node_spots (Node-F.Pick e f g) = parts_only (e ++ (f ++ g))
-node_spots (Node-F.Index e f) = parts_only (e ++ f)
-node_spots (Node-F.Dot e n at) = parts_only e
-node_spots (Node-F.Arrow e n at) = parts_only e
-node_spots (Node-F.Cast t e) = parts_only e
-node_spots (Node-F.Size t) = parts_only []
-node_spots (Node-F.Trusted t e limits) = record { parts = e ++ held limits; own = assumed ∷ [] }
-node_spots (Node-F.Tested t e limits) = parts_only (e ++ held limits)
-node_spots (Node-F.Call n es) = record { parts = joined es; own = called_by n }
-node_spots (Node-F.Calloc t e u) = parts_only e
+node_spots n = record { parts = inside_node n; own = own_matters n }
 
 abbrev pub expr_spots : Expr-F Name Note (List Spot) Within (List Spot) → List Spot
 expr_spots e = e.node.parts ++ map (spot e.note.mode e.pos) (value e.note.ctype ∷ e.node.own)
 
 abbrev pub spots_of_limits : Limits Name Note → List Spot
-spots_of_limits = fold-Limits Name Note (List Spot) Within (List Spot) limits_spots node_spots expr_spots
+spots_of_limits = fold-Limits Name Note (List Spot) Within (List Spot) inside_limits node_spots expr_spots
 
 abbrev pub within : Node Name Note → Within
-within = fold-Node Name Note (List Spot) Within (List Spot) limits_spots node_spots expr_spots
+within = fold-Node Name Note (List Spot) Within (List Spot) inside_limits node_spots expr_spots
 
 abbrev pub spots_of_expr : Expr Name Note → List Spot
-spots_of_expr = fold-Expr Name Note (List Spot) Within (List Spot) limits_spots node_spots expr_spots
+spots_of_expr = fold-Expr Name Note (List Spot) Within (List Spot) inside_limits node_spots expr_spots
 
 abbrev pub spots_of_bounds : Option (Limits Name Note) → List Spot
-spots_of_bounds None = []
-spots_of_bounds (Some limits) = spots_of_limits limits
+spots_of_bounds = inside_if spots_of_limits
 
 abbrev pub spots_of_value : Option (Expr Name Note) → List Spot
-spots_of_value None = []
-spots_of_value (Some e) = spots_of_expr e
+spots_of_value = inside_if spots_of_expr
 
 abbrev pub spots_of_init : Init Name Note → List Spot
-spots_of_init init.Nothing = []
-spots_of_init (init.One e) = spots_of_expr e
-spots_of_init (init.Many es) = flat_map spots_of_expr es
+spots_of_init = inside_init spots_of_expr
 
 abbrev pub spots_of_decl : Mode → Decl Name Note → List Spot
 spots_of_decl mode d = written_at mode (raws_of_decl d) ++ (spots_of_bounds d.bounds ++ spots_of_init d.init)
 
 -- A declaration that is a statement has the statement's mode.
 abbrev pub act_spots : Act-F Name Note (Mode → List Spot) (List Spot) → Mode → List Spot
-act_spots (Act-F.Block m ss) mode = joined ss
-act_spots Act-F.Empty mode = []
-act_spots (Act-F.Local d) mode = spots_of_decl mode d
-act_spots (Act-F.Assign e f) mode = spots_of_expr e ++ spots_of_expr f
-act_spots (Act-F.Call e) mode = spots_of_expr e
-act_spots (Act-F.If e s t) mode = spots_of_expr e ++ (s ++ held t)
-act_spots (Act-F.While e s) mode = spots_of_expr e ++ s
-act_spots (Act-F.For s e t body) mode = held s ++ (spots_of_value e ++ (body ++ held t))
-act_spots (Act-F.Return e) mode = spots_of_value e
-act_spots Act-F.Break mode = []
-act_spots Act-F.Continue mode = []
-act_spots (Act-F.Check e) mode = spots_of_expr e
-act_spots (Act-F.Bundle ss) mode = joined ss
+act_spots (Act-F.For s e t body) mode = or_empty s ++ (spots_of_value e ++ (body ++ or_empty t))
+act_spots a mode = inside_act spots_of_expr (spots_of_decl mode) a
 
 abbrev pub stmt_spots : Stmt-F Name Note (Mode → List Spot) (List Spot) → List Spot
 stmt_spots s = s.body s.note.mode
@@ -138,22 +103,20 @@ abbrev pub spots_of_stmt : Stmt Name Note → List Spot
 spots_of_stmt = fold-Stmt Name Note (Mode → List Spot) (List Spot) act_spots stmt_spots
 
 abbrev pub spots_of_part : Option (Stmt Name Note) → List Spot
-spots_of_part None = []
-spots_of_part (Some s) = spots_of_stmt s
+spots_of_part = inside_if spots_of_stmt
 
--- A head has its own mode, or that of the pragma before it: the type of its result, its parameters, its limits.
+-- A head has its own mode, or that of the pragma before it.
+abbrev pub head_mode : {N A : Type 0} → Mode → Head N A → Mode
+head_mode pragma h = unwrap_or h.mode pragma
+
+-- the type of its result, its parameters, its limits
 abbrev pub spots_of_head : Mode → Head Name Note → List Spot
 spots_of_head pragma h =
-    let mode = unwrap_or h.mode pragma in
+    let mode = head_mode pragma h in
     written_at mode (stars h.result) ++ (flat_map (spots_of_decl mode) h.params ++ spots_of_bounds h.bounds)
 
 abbrev pub spots_of_item : Mode → Item Name Note → List Spot
-spots_of_item pragma (item.Directive d) = []
-spots_of_item pragma (item.Tag n at) = []
-spots_of_item pragma (item.Struct n members at) = flat_map (spots_of_decl pragma) members
-spots_of_item pragma (item.Static d) = spots_of_decl pragma d
-spots_of_item pragma (item.Proto h) = spots_of_head pragma h
-spots_of_item pragma (item.Function h body) = spots_of_head pragma h ++ spots_of_stmt body
+spots_of_item pragma = inside_item (spots_of_decl pragma) (spots_of_head pragma) spots_of_stmt
 
 abbrev pub mode_of_directive : Mode → Directive → Mode
 mode_of_directive pragma directive.ScopeOn = Checked
@@ -163,13 +126,13 @@ mode_of_directive pragma directive.Stdlib = pragma
 mode_of_directive pragma directive.Stdchecked = pragma
 
 -- the mode of what follows an item, where no head says another
-abbrev pub mode_after : Mode → Item Name Note → Mode
-mode_after pragma (item.Directive d) = mode_of_directive pragma d
-mode_after pragma _ = pragma
+abbrev pub pragma_after : {N A : Type 0} → Mode → Item N A → Mode
+pragma_after pragma (item.Directive d) = mode_of_directive pragma d
+pragma_after pragma _ = pragma
 
 abbrev pub spots_of_items : Mode → List (Item Name Note) → List Spot
 spots_of_items pragma [] = []
-spots_of_items pragma (i ∷ rest) = spots_of_item pragma i ++ spots_of_items (mode_after pragma i) rest
+spots_of_items pragma (i ∷ rest) = spots_of_item pragma i ++ spots_of_items (pragma_after pragma i) rest
 
 -- all that is judged of a typed text, in walk order
 abbrev pub walk : Typed → List Spot

@@ -42,7 +42,8 @@ fn number_in<A>(
     Ok(number_of(c))
 }
 
-fn negative_value(c: Constant) -> i64
+/// The number that is the negative of a constant's.
+pub fn negative_value(c: Constant) -> i64
     ensures { result ≡ neg_ℤ (value_of c) }
 {
     if c.unsigned {
@@ -159,7 +160,8 @@ pub fn amount<A>(
     }
 }
 
-fn is_multiple(c: i64, size: u32) -> bool
+/// Whether a number is a multiple of a size.
+pub fn is_multiple(c: i64, size: u32) -> bool
     ensures { result ≡ is_multiple c size }
 {
     size > 0 && c % i64::from(size) == 0

@@ -58,7 +58,8 @@ pub fn size_of(structs: &Structs, t: &CType) -> u32
     }
 }
 
-fn negated(op: TreeOp, c: Option<Constant>) -> Option<Constant>
+/// The constant that an operator makes of another.
+pub fn negated(op: TreeOp, c: Option<Constant>) -> Option<Constant>
     ensures { result ≡ negated op c }
 {
     match (op, c) {

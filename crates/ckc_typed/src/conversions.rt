@@ -2,7 +2,8 @@
 
 ghost use Rattle.std.specs.Prelude.{◌≡◌};
 ghost use Rattle.ckc_types.specs.declared.types.Kind.{Kind};
-ghost use Rattle.ckc_typed.specs.Conversions.{is_string, is_allocation, kind_converts, kind_is_tested, kinds_allow, takes_string, takes_allocation, takes_pointer, pointer_takes, converts, is_tested, is_trusted, limits_fit_kind, is_bounds_cast};
+ghost use Rattle.ckc_typed.specs.Types.{kind_of};
+ghost use Rattle.ckc_typed.specs.Conversions.{is_string, is_allocation, is_terminated_kind, kind_converts, kind_is_tested, kinds_allow, takes_string, takes_allocation, takes_pointer, pointer_takes, converts, is_tested, is_trusted, limits_fit_kind, is_bounds_cast};
 
 use crate::Note;
 use crate::constants::is_null;
@@ -48,6 +49,17 @@ fn kind_is_tested(from: Kind, to: Kind) -> bool
     match from {
         Kind::Raw => false,
         Kind::One | Kind::Arr | Kind::Nt => kind_converts(from, to),
+    }
+}
+
+/// Whether a type is that of a pointer to a null-terminated array.
+pub fn is_terminated(t: &CType) -> bool
+    ensures { result ≡ is_terminated_kind (kind_of t.now) }
+{
+    match kind_of(t) {
+        Some(Kind::Nt) => true,
+        Some(Kind::Raw) | Some(Kind::One) | Some(Kind::Arr) => false,
+        None => false,
     }
 }
 

@@ -3,7 +3,8 @@
 //!
 //! What types the parts of a text have, and what it is that a typed tree keeps the rules of checked scopes, stands in
 //! `specs/`. `types`, `operands`, `conversions`, `literals`, `constants` and `amounts` compute what written types,
-//! operators, casts, literals, constant expressions and amounts stand for.
+//! operators, casts, literals, constant expressions and amounts stand for, `lookups` what a name stands for, and
+//! `modes` the mode of a head and behind an item.
 #![tactic(auto)]
 
 pub mod amounts;
@@ -12,6 +13,8 @@ pub mod constants;
 pub mod conversions;
 mod environment;
 pub mod literals;
+pub mod lookups;
+pub mod modes;
 pub mod operands;
 mod typed;
 pub mod types;

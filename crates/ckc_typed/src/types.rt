@@ -1,9 +1,11 @@
 //! Types: what a written type is, which are the types of objects, and when two are the same.
 
 ghost use Rattle.std.specs.Prelude.{◌≡◌, IfOk};
+ghost use Rattle.ckc_typed.specs.Conversions.{is_terminated_kind};
+ghost use Rattle.ckc_typed.specs.Declarations.{is_plain};
 ghost use Rattle.ckc_typed.specs.Environment.{kind_of_array};
 ghost use Rattle.ckc_typed.specs.Types.{type_written, struct_of, is_integer, is_pointer, is_void, is_unsigned, is_char, is_scalar, element_of, kind_of, integer_object, is_object_type, is_scalar_type};
-ghost use Rattle.ckc_typed.specs.code.Types.{is_terminated, within};
+ghost use Rattle.ckc_typed.specs.code.Types.{within};
 
 use ckc_base::Seq;
 use ckc_syntax::{Length, Name, TypeTree};
@@ -158,6 +160,16 @@ pub fn kind_of_array(length: Length) -> Option<Kind>
     }
 }
 
+/// Whether a declaration is of no array.
+pub fn is_plain(length: Length) -> bool
+    ensures { result ≡ is_plain length }
+{
+    match length {
+        Length::Plain => true,
+        Length::Raw(_, _) | Length::Checked(_) | Length::Nt(_) => false,
+    }
+}
+
 /// What a pointer points to.
 pub fn element_of(alloc: Global, t: &CType) -> Result<CType, AllocError>
     ensures { IfOk result (λ u. u ≡ element_of t.now) }
@@ -193,7 +205,7 @@ fn integer_object(t: &CType) -> Option<bool>
 }
 
 fn is_terminated(pointer: Option<Kind>) -> bool
-    ensures { result ≡ is_terminated pointer }
+    ensures { result ≡ is_terminated_kind pointer }
 {
     match pointer {
         Some(Kind::Nt) => true,

@@ -1,7 +1,8 @@
 -- Which codes the refusals of the types phase have: of outcomes, and of expressions and bounds.
-use Rattle.std.proofs.Common.{inl, inr, ℕ, Bool, true, false, List, [], ◌∷◌, map, refl}
-use Rattle.std.specs.Prelude.{Option, Some, None, Ok, Err, not, ◌||◌, ◌==◌, length}
+use Rattle.std.proofs.Common.{inl, inr, Bool, true, false, List, [], ◌∷◌, map, refl}
+use Rattle.std.specs.Prelude.{Option, Some, None, Ok, not, ◌||◌, ◌==◌, length}
 use Rattle.std.specs.Option.{option_map}
+use Rattle.ckc_base.proofs.Codes
 use Rattle.ckc_base.specs.declared.places.Pos.{Pos}
 use Rattle.ckc_base.specs.declared.arithmetic.Mode.{Mode}
 use Rattle.ckc_base.specs.Outcomes.{Outcome, bind, unless, there_or, in_order, if_there}
@@ -53,33 +54,16 @@ is_407 = inr (inr (inr (inr (inr (inr (inr refl))))))
 
 -- a refusal among them has such a code
 abbrev pub Coded : {A : Type 0} → Outcome A → Type 0
-Coded (Ok a) = Unit {0}
-Coded (Err r) = IsTypeCode r.code
-
-pub in_bind : {A B : Type 0} (o : Outcome A) (f : A → Outcome B) → Coded o → ((a : A) → Coded (f a)) → Coded (bind o f)
-in_bind (Ok a) f c next = next a
-in_bind (Err r) f c next = c
-
-pub in_unless : {A : Type 0} (broken : Bool) (code : ℕ) (at : Pos) (o : Outcome A) → IsTypeCode code → Coded o → Coded (unless broken code at o)
-in_unless true code at o c rest = c
-in_unless false code at o c rest = rest
-
-pub in_there : {A : Type 0} (code : ℕ) (at : Pos) (t : Option A) → IsTypeCode code → Coded (there_or code at t)
-in_there code at (Some a) c = tt
-in_there code at None c = c
-
-pub in_each : {X A : Type 0} (f : X → Outcome A) → ((x : X) → Coded (f x)) → (xs : List X) → Coded (in_order (map f xs))
-in_each f each [] = tt
-in_each f each (x ∷ xs) = in_bind (f x) _ (each x) (λ a. in_bind (in_order (map f xs)) _ (in_each f each xs) (λ rest. tt))
+Coded o = Codes.HasCode IsTypeCode o
 
 -- the types of operators
 row_coded : (void : Bool) (at : Pos) (t : Option CType) → Coded (in_row void at t)
-row_coded true at t = in_there bad_conversion at t is_402
-row_coded false at t = in_there bad_operands at t is_401
+row_coded true at t = Codes.there IsTypeCode bad_conversion at t is_402
+row_coded false at t = Codes.there IsTypeCode bad_operands at t is_401
 
 address_coded : (globals : Globals) (mode : Mode) (e : NotedExpr) (at : Pos) → Coded (address_typed globals mode e at)
 address_coded globals mode e at =
-    in_unless {A = CType} (not (has_address globals e)) no_address at (Ok (ctype.Pointer (address_kind mode) e.note.ctype)) is_405 tt
+    Codes.kept IsTypeCode {A = CType} (not (has_address globals e)) no_address at (Ok (ctype.Pointer (address_kind mode) e.note.ctype)) is_405 tt
 
 unary_coded : (globals : Globals) (mode : Mode) (o : TreeOp) (e : NotedExpr) (at : Pos) → Coded (unary_typed globals mode o e at)
 unary_coded globals mode op.Address e at = address_coded globals mode e at
@@ -125,7 +109,7 @@ arrow_coded globals e n at = row_coded (is_void e.note.ctype) at (arrow_type glo
 
 -- two rules, one after another
 two_coded : (bad worse : Bool) (at : Pos) (t : CType) → Coded (unless bad bad_operands at (unless worse bad_conversion at (Ok t)))
-two_coded bad worse at t = in_unless bad bad_operands at (unless worse bad_conversion at (Ok t)) is_401 (in_unless worse bad_conversion at (Ok t) is_402 tt)
+two_coded bad worse at t = Codes.kept IsTypeCode bad bad_operands at (unless worse bad_conversion at (Ok t)) is_401 (Codes.kept IsTypeCode worse bad_conversion at (Ok t) is_402 tt)
 
 cast_coded : (t : CType) (e : NotedExpr) (at : Pos) → Coded (cast_typed t e at)
 cast_coded t e at = two_coded (not (is_object_type t)) (not (is_cast t e.note.ctype (is_null e))) at t
@@ -137,20 +121,20 @@ trusted_coded : (t : CType) (e : NotedExpr) (l : Option NotedLimits) (at : Pos) 
 trusted_coded t e l at = two_coded (not (is_bounds_cast t l)) (not (is_trusted t e)) at t
 
 allocation_coded : (t : CType) (e : NotedExpr) (u : CType) (at : Pos) → Coded (allocation_typed t e u at)
-allocation_coded t e u at = in_unless {A = CType} (is_no_allocation t e u) bad_call at (Ok (ctype.Pointer kind.Arr t)) is_404 tt
+allocation_coded t e u at = Codes.kept IsTypeCode {A = CType} (is_no_allocation t e u) bad_call at (Ok (ctype.Pointer kind.Arr t)) is_404 tt
 
 arguments_coded : (ts : List CType) (es : List NotedExpr) → Coded (arguments_typed ts es)
 arguments_coded [] [] = tt
 arguments_coded [] (e ∷ es) = tt
 arguments_coded (t ∷ ts) [] = tt
-arguments_coded (t ∷ ts) (e ∷ es) = in_unless (not (converts t e)) bad_conversion e.pos (arguments_typed ts es) is_402 (arguments_coded ts es)
+arguments_coded (t ∷ ts) (e ∷ es) = Codes.kept IsTypeCode (not (converts t e)) bad_conversion e.pos (arguments_typed ts es) is_402 (arguments_coded ts es)
 
 result_coded : (s : Signature) (es : List NotedExpr) (at : Pos) → Coded (result_typed s es at)
 result_coded s es at =
-    in_unless (not (length es == length s.params)) bad_call at (bind (arguments_typed s.params es) (λ u. Ok s.result)) is_404 (in_bind (arguments_typed s.params es) _ (arguments_coded s.params es) (λ u. tt))
+    Codes.kept IsTypeCode (not (length es == length s.params)) bad_call at (bind (arguments_typed s.params es) (λ u. Ok s.result)) is_404 (Codes.bound IsTypeCode (arguments_typed s.params es) _ (arguments_coded s.params es) (λ u. tt))
 
 call_coded : (globals : Globals) (n : Name) (es : List NotedExpr) (at : Pos) → Coded (call_typed globals n es at)
-call_coded globals n es at = in_bind (there_or bad_call at (signature_named globals n)) _ (in_there bad_call at (signature_named globals n) is_404) (λ s. result_coded s es at)
+call_coded globals n es at = Codes.bound IsTypeCode (there_or bad_call at (signature_named globals n)) _ (Codes.there IsTypeCode bad_call at (signature_named globals n) is_404) (λ s. result_coded s es at)
 
 module _ (globals : Globals) (variables : List Variable) (mode : Mode) where
   abbrev typing : Steps Name (Unit {0}) OfLimits OfNode OfExpr
@@ -166,9 +150,9 @@ module _ (globals : Globals) (variables : List Variable) (mode : Mode) where
   KeptExpr = kept.KeptExpr typing coded
 
   limits_step : (y : LimitsLayer typing coded) → Coded (limits_made typing coded y)
-  limits_step (Limits-F.Count k at) = in_bind (expr_typed globals variables mode k.0) _ k.1 (λ a. tt)
-  limits_step (Limits-F.ByteCount k at) = in_bind (expr_typed globals variables mode k.0) _ k.1 (λ a. tt)
-  limits_step (Limits-F.Between k j at) = in_bind (expr_typed globals variables mode k.0) _ k.1 (λ a. in_bind (expr_typed globals variables mode j.0) _ j.1 (λ b. tt))
+  limits_step (Limits-F.Count k at) = Codes.bound IsTypeCode (expr_typed globals variables mode k.0) _ k.1 (λ a. tt)
+  limits_step (Limits-F.ByteCount k at) = Codes.bound IsTypeCode (expr_typed globals variables mode k.0) _ k.1 (λ a. tt)
+  limits_step (Limits-F.Between k j at) = Codes.bound IsTypeCode (expr_typed globals variables mode k.0) _ k.1 (λ a. Codes.bound IsTypeCode (expr_typed globals variables mode j.0) _ j.1 (λ b. tt))
   limits_step (Limits-F.Unknown at) = tt
 
   abbrev all_of : List KeptExpr → Outcome (List NotedExpr)
@@ -177,53 +161,49 @@ module _ (globals : Globals) (variables : List Variable) (mode : Mode) where
   abbrev limits_there : Option KeptLimits → Outcome (Option NotedLimits)
   limits_there l = if_there (option_map (limits_typed globals variables mode) (option_map (λ (k : KeptLimits). k.0) l))
 
-  kept_each : (ks : List KeptExpr) → Coded (all_of ks)
-  kept_each [] = tt
-  kept_each (k ∷ ks) = in_bind (expr_typed globals variables mode k.0) _ k.1 (λ a. in_bind (all_of ks) _ (kept_each ks) (λ rest. tt))
-
   kept_there : (l : Option KeptLimits) → Coded (limits_there l)
   kept_there None = tt
-  kept_there (Some k) = in_bind (limits_typed globals variables mode k.0) _ k.1 (λ a. tt)
+  kept_there (Some k) = Codes.bound IsTypeCode (limits_typed globals variables mode k.0) _ k.1 (λ a. tt)
 
   node_step : (y : NodeLayer typing coded) (at : Pos) → Coded (node_made typing coded y at)
   node_step (Node-F.Number n u) at = tt
   node_step (Node-F.Text s) at = tt
   node_step Node-F.Null at = tt
   node_step (Node-F.Name n) at =
-      in_bind (there_or bad_operands at (type_of_name globals variables n)) _ (in_there bad_operands at (type_of_name globals variables n) is_401) (λ t. tt)
+      Codes.bound IsTypeCode (there_or bad_operands at (type_of_name globals variables n)) _ (Codes.there IsTypeCode bad_operands at (type_of_name globals variables n) is_401) (λ t. tt)
   node_step (Node-F.Un o k) at =
-      in_bind (expr_typed globals variables mode k.0) _ k.1 (λ a. in_bind (unary_typed globals mode o a at) _ (unary_coded globals mode o a at) (λ t. tt))
+      Codes.bound IsTypeCode (expr_typed globals variables mode k.0) _ k.1 (λ a. Codes.bound IsTypeCode (unary_typed globals mode o a at) _ (unary_coded globals mode o a at) (λ t. tt))
   node_step (Node-F.Bin o k j) at =
-      in_bind (expr_typed globals variables mode k.0) _ k.1 (λ a. in_bind (expr_typed globals variables mode j.0) _ j.1 (λ b.
-      in_bind (binary_typed o a b at) _ (binary_coded o a b at) (λ t. tt)))
+      Codes.bound IsTypeCode (expr_typed globals variables mode k.0) _ k.1 (λ a. Codes.bound IsTypeCode (expr_typed globals variables mode j.0) _ j.1 (λ b.
+      Codes.bound IsTypeCode (binary_typed o a b at) _ (binary_coded o a b at) (λ t. tt)))
   node_step (Node-F.Pick k j i) at =
-      in_bind (expr_typed globals variables mode k.0) _ k.1 (λ a. in_bind (expr_typed globals variables mode j.0) _ j.1 (λ b.
-      in_bind (expr_typed globals variables mode i.0) _ i.1 (λ c. in_bind (choice_typed a b c at) _ (choice_coded a b c at) (λ t. tt))))
+      Codes.bound IsTypeCode (expr_typed globals variables mode k.0) _ k.1 (λ a. Codes.bound IsTypeCode (expr_typed globals variables mode j.0) _ j.1 (λ b.
+      Codes.bound IsTypeCode (expr_typed globals variables mode i.0) _ i.1 (λ c. Codes.bound IsTypeCode (choice_typed a b c at) _ (choice_coded a b c at) (λ t. tt))))
   node_step (Node-F.Index k j) at =
-      in_bind (expr_typed globals variables mode k.0) _ k.1 (λ a. in_bind (expr_typed globals variables mode j.0) _ j.1 (λ b.
-      in_bind (index_typed a b at) _ (index_coded a b at) (λ t. tt)))
+      Codes.bound IsTypeCode (expr_typed globals variables mode k.0) _ k.1 (λ a. Codes.bound IsTypeCode (expr_typed globals variables mode j.0) _ j.1 (λ b.
+      Codes.bound IsTypeCode (index_typed a b at) _ (index_coded a b at) (λ t. tt)))
   node_step (Node-F.Dot k n place) at =
-      in_bind (expr_typed globals variables mode k.0) _ k.1 (λ a. in_bind (dot_typed globals a n at) _ (dot_coded globals a n at) (λ t. tt))
+      Codes.bound IsTypeCode (expr_typed globals variables mode k.0) _ k.1 (λ a. Codes.bound IsTypeCode (dot_typed globals a n at) _ (dot_coded globals a n at) (λ t. tt))
   node_step (Node-F.Arrow k n place) at =
-      in_bind (expr_typed globals variables mode k.0) _ k.1 (λ a. in_bind (arrow_typed globals a n at) _ (arrow_coded globals a n at) (λ t. tt))
+      Codes.bound IsTypeCode (expr_typed globals variables mode k.0) _ k.1 (λ a. Codes.bound IsTypeCode (arrow_typed globals a n at) _ (arrow_coded globals a n at) (λ t. tt))
   node_step (Node-F.Cast w k) at =
-      in_bind (expr_typed globals variables mode k.0) _ k.1 (λ a. in_bind (cast_typed (type_written w) a at) _ (cast_coded (type_written w) a at) (λ t. tt))
+      Codes.bound IsTypeCode (expr_typed globals variables mode k.0) _ k.1 (λ a. Codes.bound IsTypeCode (cast_typed (type_written w) a at) _ (cast_coded (type_written w) a at) (λ t. tt))
   node_step (Node-F.Size w) at =
-      in_bind (there_or bad_operands at (size_type (type_written w))) _ (in_there bad_operands at (size_type (type_written w)) is_401) (λ t. tt)
+      Codes.bound IsTypeCode (there_or bad_operands at (size_type (type_written w))) _ (Codes.there IsTypeCode bad_operands at (size_type (type_written w)) is_401) (λ t. tt)
   node_step (Node-F.Trusted w k None) at =
-      in_bind (expr_typed globals variables mode k.0) _ k.1 (λ a. in_bind (trusted_typed (type_written w) a None at) _ (trusted_coded (type_written w) a None at) (λ t. tt))
+      Codes.bound IsTypeCode (expr_typed globals variables mode k.0) _ k.1 (λ a. Codes.bound IsTypeCode (trusted_typed (type_written w) a None at) _ (trusted_coded (type_written w) a None at) (λ t. tt))
   node_step (Node-F.Trusted w k (Some l)) at =
-      in_bind (expr_typed globals variables mode k.0) _ k.1 (λ a. in_bind (limits_there (Some l)) _ (kept_there (Some l)) (λ m.
-      in_bind (trusted_typed (type_written w) a m at) _ (trusted_coded (type_written w) a m at) (λ t. tt)))
+      Codes.bound IsTypeCode (expr_typed globals variables mode k.0) _ k.1 (λ a. Codes.bound IsTypeCode (limits_there (Some l)) _ (kept_there (Some l)) (λ m.
+      Codes.bound IsTypeCode (trusted_typed (type_written w) a m at) _ (trusted_coded (type_written w) a m at) (λ t. tt)))
   node_step (Node-F.Tested w k None) at =
-      in_bind (expr_typed globals variables mode k.0) _ k.1 (λ a. in_bind (tested_typed (type_written w) a None at) _ (tested_coded (type_written w) a None at) (λ t. tt))
+      Codes.bound IsTypeCode (expr_typed globals variables mode k.0) _ k.1 (λ a. Codes.bound IsTypeCode (tested_typed (type_written w) a None at) _ (tested_coded (type_written w) a None at) (λ t. tt))
   node_step (Node-F.Tested w k (Some l)) at =
-      in_bind (expr_typed globals variables mode k.0) _ k.1 (λ a. in_bind (limits_there (Some l)) _ (kept_there (Some l)) (λ m.
-      in_bind (tested_typed (type_written w) a m at) _ (tested_coded (type_written w) a m at) (λ t. tt)))
-  node_step (Node-F.Call n ks) at = in_bind (all_of ks) _ (kept_each ks) (λ es. in_bind (call_typed globals n es at) _ (call_coded globals n es at) (λ t. tt))
+      Codes.bound IsTypeCode (expr_typed globals variables mode k.0) _ k.1 (λ a. Codes.bound IsTypeCode (limits_there (Some l)) _ (kept_there (Some l)) (λ m.
+      Codes.bound IsTypeCode (tested_typed (type_written w) a m at) _ (tested_coded (type_written w) a m at) (λ t. tt)))
+  node_step (Node-F.Call n ks) at = Codes.bound IsTypeCode (all_of ks) _ (Codes.listed_parts IsTypeCode (expr_typed globals variables mode) ks) (λ es. Codes.bound IsTypeCode (call_typed globals n es at) _ (call_coded globals n es at) (λ t. tt))
   node_step (Node-F.Calloc w k x) at =
-      in_bind (expr_typed globals variables mode k.0) _ k.1 (λ a.
-      in_bind (allocation_typed (type_written w) a (type_written x) at) _ (allocation_coded (type_written w) a (type_written x) at) (λ t. tt))
+      Codes.bound IsTypeCode (expr_typed globals variables mode k.0) _ k.1 (λ a.
+      Codes.bound IsTypeCode (allocation_typed (type_written w) a (type_written x) at) _ (allocation_coded (type_written w) a (type_written x) at) (λ t. tt))
 
   expr_step : (y : ExprLayer typing coded) → Coded (expr_made typing coded y)
   expr_step y = y.node.1 y.pos
@@ -235,12 +215,12 @@ module _ (globals : Globals) (variables : List Variable) (mode : Mode) where
   expr_coded = each_expr typing coded limits_step node_step expr_step
 
   pub exprs_coded : (es : List Expr) → Coded (exprs_typed globals variables mode es)
-  exprs_coded = in_each (expr_typed globals variables mode) expr_coded
+  exprs_coded = Codes.listed IsTypeCode (expr_typed globals variables mode) expr_coded
 
   pub bounds_coded : (l : Option Limits) → Coded (bounds_typed globals variables mode l)
   bounds_coded None = tt
-  bounds_coded (Some l) = in_bind (limits_typed globals variables mode l) _ (limits_coded l) (λ k. tt)
+  bounds_coded (Some l) = Codes.bound IsTypeCode (limits_typed globals variables mode l) _ (limits_coded l) (λ k. tt)
 
   pub value_coded : (e : Option Expr) → Coded (value_typed globals variables mode e)
   value_coded None = tt
-  value_coded (Some e) = in_bind (expr_typed globals variables mode e) _ (expr_coded e) (λ a. tt)
+  value_coded (Some e) = Codes.bound IsTypeCode (expr_typed globals variables mode e) _ (expr_coded e) (λ a. tt)

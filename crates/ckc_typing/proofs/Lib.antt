@@ -1,5 +1,4 @@
 pub mod Nodes
-pub mod Chains
 pub mod Acts
 pub mod Scopes
 pub mod ItemTurns

@@ -1,15 +1,12 @@
 -- The static objects of a typed text: how they lie, and that each has the number of its name.
-use Rattle.std.proofs.Common.{◌≡◌, ◌≤◌, ℕ, zero, suc, ◌+◌, Bool, true, false, nat_lt, List, [], ◌∷◌, ◌++◌, map, Option, None, Some, refl, sym, ap, subst, ◌∙◌, arith}
-use Rattle.std.specs.Prelude.{Ok, Err, slice_get, option_map}
+use Rattle.std.proofs.Common.{◌≡◌, ◌≤◌, ℕ, zero, suc, ◌+◌, false, nat_lt, List, [], ◌∷◌, ◌++◌, map, Option, None, Some, refl, sym, ap, subst, ◌∙◌, arith}
+use Rattle.std.specs.Prelude.{Ok, slice_get, option_map}
 use Rattle.std.specs.List.{flat_map}
 use Rattle.std.proofs.lemmas.Bool.Decides.{nat_tests}
 use Rattle.std.proofs.lemmas.Option.{slice_get-map}
-use Rattle.ckc_base.specs.declared.places.Pos.{Pos}
-use Rattle.ckc_base.specs.declared.places.Refusal.{Refusal}
 use Rattle.ckc_base.specs.declared.arithmetic.Mode.TheVariants.{Unchecked}
 use Rattle.ckc_base.specs.Places.{start}
-use Rattle.ckc_base.specs.Outcomes.{Outcome, bind, unless}
-use Rattle.ckc_base.proofs.Outcomes.{ok_same, made_of, err_is_ok}
+use Rattle.ckc_base.proofs.Outcomes.{ok_same, made_of, unbroken_is}
 use Rattle.ckc_types.specs.declared.types.Structs.{Structs}
 use Rattle.ckc_syntax.specs.declared.tree.Name.TheVariants as name
 use Rattle.ckc_syntax.specs.declared.tree.NamedText.{NamedText}
@@ -18,14 +15,11 @@ use Rattle.ckc_typed.specs.declared.typed.Typed.{Typed}
 use Rattle.ckc_typed.specs.Codes.{late_statics}
 use Rattle.ckc_typed.specs.Trees.{NotedItem, NotedDecl}
 use Rattle.ckc_typed.specs.Layouts.{structs_of}
-use Rattle.ckc_typed.specs.Statics.{blocks, placed, end_of_blocks, FIRST_END, LAST_END, object_of, objects_of_item, object_of_string, strings_of_item}
+use Rattle.ckc_base.specs.MemoryMap.{data_start, statics_end}
+use Rattle.ckc_typed.specs.Statics.{blocks, placed, end_of_blocks, object_of, objects_of_item, object_of_string, strings_of_item}
 use Rattle.ckc_typed.specs.Texts.{globals_of, items_typed, laid_out, named_typed}
 use Rattle.ckc_typing.specs.Objects.{LieApart, objects_declared, AreNumbered}
 use Rattle.ckc_typing.proofs.Placed.{eighths, apart, within, first_at, placed_at}
-
-kept_rule : {A : Type 0} (broken : Bool) (code : ℕ) (at : Pos) (a b : A) → unless broken code at (Ok a) ≡ Ok b → (broken ≡ false) × (a ≡ b)
-kept_rule true code at a b e = absurd (err_is_ok (record { code = code; pos = at }) b e)
-kept_rule false code at a b e = (refl, ok_same a b e)
 
 at_most : (a b : ℕ) → nat_lt a b ≡ false → b ≤ a
 at_most a b h = grind (arith, nat_tests)
@@ -34,14 +28,14 @@ at_most a b h = grind (arith, nat_tests)
 pub record Laid (t : NamedText) (p : Typed) : Type 0 where
   pub typed : items_typed (globals_of t.tree.items) Unchecked t.tree.items ≡ Ok p.tree.items
   pub layout : p.layout ≡ structs_of t.tree.items
-  pub fits : nat_lt LAST_END (end_of_blocks p.layout FIRST_END (blocks p.layout p.tree.items)) ≡ false
-  pub placed_blocks : p.statics ≡ placed p.layout FIRST_END (blocks p.layout p.tree.items)
+  pub fits : nat_lt statics_end (end_of_blocks p.layout data_start (blocks p.layout p.tree.items)) ≡ false
+  pub placed_blocks : p.statics ≡ placed p.layout data_start (blocks p.layout p.tree.items)
 
 pub laid : (t : NamedText) (p : Typed) → named_typed t ≡ Ok p → Laid t p
 laid t p e =
     let a = made_of (items_typed (globals_of t.tree.items) Unchecked t.tree.items) _ p e in
     let b = made_of (laid_out (structs_of t.tree.items) a.0) _ p a.2 in
-    let k = kept_rule (nat_lt LAST_END (end_of_blocks (structs_of t.tree.items) FIRST_END (blocks (structs_of t.tree.items) a.0))) late_statics start (placed (structs_of t.tree.items) FIRST_END (blocks (structs_of t.tree.items) a.0)) b.0 b.1 in
+    let k = unbroken_is (nat_lt statics_end (end_of_blocks (structs_of t.tree.items) data_start (blocks (structs_of t.tree.items) a.0))) late_statics start (placed (structs_of t.tree.items) data_start (blocks (structs_of t.tree.items) a.0)) b.0 b.1 in
     subst (Laid t) (ok_same _ p b.2) (record { typed = a.1; layout = refl; fits = k.0; placed_blocks = sym k.1 })
 
 pub lie_apart : (t : NamedText) (p : Typed) → named_typed t ≡ Ok p → LieApart p.layout p.statics
@@ -50,9 +44,9 @@ lie_apart t p e =
     let os = blocks p.layout p.tree.items in
     subst (LieApart p.layout) (sym l.placed_blocks) (record {
       first = first_at p.layout os;
-      eighths = eighths p.layout os FIRST_END;
-      apart = apart p.layout os FIRST_END;
-      within = within p.layout os FIRST_END LAST_END (at_most LAST_END (end_of_blocks p.layout FIRST_END os) l.fits);
+      eighths = eighths p.layout os data_start;
+      apart = apart p.layout os data_start;
+      within = within p.layout os data_start statics_end (at_most statics_end (end_of_blocks p.layout data_start os) l.fits);
     })
 
 none_is_some : {A : Type 0} (a : A) → ◌≡◌ {A = Option A} None (Some a) → ⊥
@@ -89,5 +83,5 @@ pub is_named : (t : NamedText) (p : Typed) → named_typed t ≡ Ok p → AreNum
     → (d.name ≡ name.Static k) × ((at : ℕ) × (slice_get p.statics k ≡ Some (record (object_of p.layout d) { at = at })))
 is_named t p e all k d has =
     let l = laid t p e in
-    let at = placed_at p.layout (blocks p.layout p.tree.items) FIRST_END k (object_of p.layout d) (block_at p.layout p.tree.items k d has) in
+    let at = placed_at p.layout (blocks p.layout p.tree.items) data_start k (object_of p.layout d) (block_at p.layout p.tree.items k d has) in
     (numbered 0 k (objects_declared p.tree.items) d all has ∙ ap name.Static (omega arith), (at.0, ap (λ os. slice_get os k) l.placed_blocks ∙ at.1))

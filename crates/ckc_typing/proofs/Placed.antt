@@ -7,7 +7,8 @@ use Rattle.std.proofs.lemmas.List.Kept.{AllPairs-cons}
 use Rattle.ckc_types.specs.declared.types.Structs.{Structs}
 use Rattle.ckc_types.proofs.Multiples.{next_is_least}
 use Rattle.ckc_typed.specs.declared.typed.StaticObject.{StaticObject}
-use Rattle.ckc_typed.specs.Statics.{placed, begin_behind, end_of_block, end_of_blocks, FIRST_END}
+use Rattle.ckc_base.specs.MemoryMap.{data_start}
+use Rattle.ckc_typed.specs.Statics.{placed, begin_behind, end_of_block, end_of_blocks}
 use Rattle.ckc_typing.specs.Objects.{end_of}
 use Rattle.ckc_typing.proofs.PlacingTurns.{ends_later}
 
@@ -62,6 +63,6 @@ module _ (structs : Structs) where
   placed_at (x ∷ os) end zero o e = (begin_behind end, ap (λ y. option_map (λ (z : StaticObject). record z { at = begin_behind end }) y) e)
   placed_at (x ∷ os) end (suc k) o e = placed_at os (end_of_block structs end x) k o e
 
-pub first_at : (structs : Structs) (os : List StaticObject) (o : StaticObject) (rest : List StaticObject) → placed structs FIRST_END os ≡ o ∷ rest → o.at ≡ 0x02000008
+pub first_at : (structs : Structs) (os : List StaticObject) (o : StaticObject) (rest : List StaticObject) → placed structs data_start os ≡ o ∷ rest → o.at ≡ 0x02000008
 first_at structs [] o rest e = absurd (nil_is_cons o rest e)
 first_at structs (x ∷ os) o rest e = sym (ap head_at e)

@@ -1,6 +1,6 @@
 -- Blocks that are placed one after another.
-use Rattle.std.proofs.Common.{◌≡◌, ◌<◌, ◌≤◌, ℕ, suc, ◌+◌, ◌-◌, ◌*◌, ◌%◌, Bool, true, false, nat_lt, List, [], ◌∷◌, ◌++◌, length, drop, get_or, drop-cons, add-one, refl, sym, ap, ◌∙◌, append_assoc, append-nil, arith}
-use Rattle.std.specs.Prelude.{Ok, Err}
+use Rattle.std.proofs.Common.{◌≡◌, ◌<◌, ◌≤◌, ℕ, suc, ◌+◌, ◌-◌, ◌*◌, ◌%◌, Bool, true, false, nat_lt, List, [], ◌∷◌, ◌++◌, length, drop, get_or, drop-cons, add-one, refl, sym, ap, ◌∙◌, append-nil, arith}
+use Rattle.std.specs.Prelude.{Ok}
 use Rattle.std.proofs.lemmas.List.{drop_all}
 use Rattle.std.proofs.lemmas.Bool.Decides.{nat_tests}
 use Rattle.ckc_types.specs.declared.types.Structs.{Structs}
@@ -8,10 +8,11 @@ use Rattle.ckc_typed.specs.Codes.{late_statics}
 use Rattle.ckc_typed.specs.declared.typed.StaticObject.{StaticObject}
 use Rattle.ckc_base.specs.Outcomes.{Outcome, unless, refused}
 use Rattle.ckc_typed.specs.Constants.{size_of}
-use Rattle.ckc_typed.specs.Statics.{placed, begin_behind, end_of_block, end_of_blocks, LAST_END}
+use Rattle.ckc_base.specs.MemoryMap.{statics_end}
+use Rattle.ckc_typed.specs.Statics.{placed, begin_behind, end_of_block, end_of_blocks}
 use Rattle.ckc_base.specs.Places.{start}
 use Rattle.ckc_typing.specs.code.Placing.{placed_behind}
-use Rattle.ckc_syntax.proofs.Turns.{ahead}
+use Rattle.ckc_base.proofs.Turns.{ahead, ahead_twice}
 
 is_less : (a b : ℕ) → a < b → nat_lt a b ≡ true
 is_less a b h = grind (arith, nat_tests)
@@ -34,10 +35,6 @@ in_front : (b : Bool) (x : StaticObject) (ps : List StaticObject) → unless b l
 in_front true x ps = refl
 in_front false x ps = refl
 
-behind_both : (done : List StaticObject) (x : StaticObject) (o : Outcome (List StaticObject)) → ahead done (ahead (x ∷ []) o) ≡ ahead (done ++ x ∷ []) o
-behind_both done x (Ok rest) = ap (λ l. Ok l) (sym (append_assoc done (x ∷ []) rest))
-behind_both done x (Err r) = refl
-
 module _ (structs : Structs) (end : ℕ) (xs : List StaticObject) (i : ℕ) (whole : Outcome (List StaticObject)) (done : List StaticObject) (kept : whole ≡ ahead done (placed_behind structs end (drop i xs))) where
   split : (o : StaticObject) → i < length xs → o ≡ get_or xs i o → drop i xs ≡ o ∷ drop (i + 1) xs
   split o h e = rw (add-one, drop-cons xs i o) (ap (λ y. y ∷ drop (suc i) xs) (sym e))
@@ -48,21 +45,21 @@ module _ (structs : Structs) (end : ℕ) (xs : List StaticObject) (i : ℕ) (who
   pub placed_done : (o p : StaticObject) (more : List StaticObject) (next : ℕ) → i < length xs → o ≡ get_or xs i o → p ≡ at_begin o → more ≡ done ++ p ∷ [] → next ≡ end_of_block structs end o → whole ≡ ahead more (placed_behind structs next (drop (i + 1) xs))
   placed_done o p more next h e q m n =
       kept ∙ ap (λ l. ahead done (placed_behind structs end l)) (split o h e)
-      ∙ ap (ahead done) (in_front (nat_lt LAST_END (end_of_blocks structs (end_of_block structs end o) (drop (i + 1) xs))) (at_begin o) (placed structs (end_of_block structs end o) (drop (i + 1) xs)))
-      ∙ behind_both done (at_begin o) (placed_behind structs (end_of_block structs end o) (drop (i + 1) xs))
+      ∙ ap (ahead done) (in_front (nat_lt statics_end (end_of_blocks structs (end_of_block structs end o) (drop (i + 1) xs))) (at_begin o) (placed structs (end_of_block structs end o) (drop (i + 1) xs)))
+      ∙ ahead_twice done (at_begin o ∷ []) (placed_behind structs (end_of_block structs end o) (drop (i + 1) xs))
       ∙ ap (λ x. ahead (done ++ x ∷ []) (placed_behind structs (end_of_block structs end o) (drop (i + 1) xs))) (sym q)
       ∙ ap (λ l. ahead l (placed_behind structs (end_of_block structs end o) (drop (i + 1) xs))) (sym m)
       ∙ ap (λ k. ahead more (placed_behind structs k (drop (i + 1) xs))) (sym n)
 
-  pub placed_late : (o : StaticObject) (next : ℕ) → i < length xs → o ≡ get_or xs i o → next ≡ end_of_block structs end o → LAST_END < next → whole ≡ refused late_statics start
+  pub placed_late : (o : StaticObject) (next : ℕ) → i < length xs → o ≡ get_or xs i o → next ≡ end_of_block structs end o → statics_end < next → whole ≡ refused late_statics start
   placed_late o next h e n late =
       let last : end_of_block structs end o ≤ end_of_blocks structs (end_of_block structs end o) (drop (i + 1) xs) = ends_later structs (drop (i + 1) xs) (end_of_block structs end o) in
-      let past : LAST_END < end_of_blocks structs (end_of_block structs end o) (drop (i + 1) xs) = omega arith in
+      let past : statics_end < end_of_blocks structs (end_of_block structs end o) (drop (i + 1) xs) = omega arith in
       kept ∙ ap (λ l. ahead done (placed_behind structs end l)) (split o h e)
-      ∙ ap (λ b. ahead done (unless b late_statics start (Ok (placed structs end (o ∷ drop (i + 1) xs))))) (is_less LAST_END (end_of_blocks structs (end_of_block structs end o) (drop (i + 1) xs)) past)
+      ∙ ap (λ b. ahead done (unless b late_statics start (Ok (placed structs end (o ∷ drop (i + 1) xs))))) (is_less statics_end (end_of_blocks structs (end_of_block structs end o) (drop (i + 1) xs)) past)
 
-  pub placed_end : length xs ≤ i → end ≤ LAST_END → whole ≡ Ok done
+  pub placed_end : length xs ≤ i → end ≤ statics_end → whole ≡ Ok done
   placed_end h within =
       kept ∙ ap (λ l. ahead done (placed_behind structs end l)) (drop_all i xs h)
-      ∙ ap (λ b. ahead done (unless b late_statics start (Ok []))) (is_no_less LAST_END end within)
+      ∙ ap (λ b. ahead done (unless b late_statics start (Ok []))) (is_no_less statics_end end within)
       ∙ ap (λ l. Ok l) (append-nil done)

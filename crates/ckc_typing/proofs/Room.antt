@@ -24,15 +24,17 @@ use Rattle.ckc_typed.specs.declared.typed.Note.{Note}
 use Rattle.ckc_typed.specs.declared.typed.StaticObject.{StaticObject}
 use Rattle.ckc_typed.specs.declared.typed.Typed.{Typed}
 use Rattle.ckc_typed.specs.Codes.{bad_operands}
-use Rattle.ckc_typed.specs.Trees.{Item, Decl, NotedItem, NotedDecl, NotedInit, NotedLimits, NotedNode, NotedExpr}
+use Rattle.ckc_typed.specs.Trees.{Item, Decl, NotedItem, NotedDecl, NotedInit, NotedLimits, NotedNode, NotedExpr, NotedLayer}
 use Rattle.ckc_typed.specs.Types.{type_written, is_integer, is_pointer, is_scalar, is_char, is_integer_form, is_pointer_form, is_char_form}
 use Rattle.ckc_typed.specs.Environment.{variables_of, variable_declared}
 use Rattle.ckc_typed.specs.Constants.{constant, constant_of_node, size_of, is_laid_out_form, limits_constant, node_constant, expr_constant}
 use Rattle.ckc_typed.specs.Conversions.{is_null_form}
 use Rattle.ckc_typed.specs.Declarations.{is_plain, string_in, string_in_form, string_fits, is_start, init_fits, count_of, count_fits, kept_zero, fault_unless, is_element_declared, static_fault, judged, parts_typed, static_typed, bares_typed}
 use Rattle.ckc_typed.specs.Statements.{stmt_typed}
-use Rattle.ckc_typed.specs.Statics.{bytes_of, bytes_of_one, initial_bytes, object_of, objects_of_item, object_of_string, strings_of_item, blocks, placed, begin_behind, end_of_block, FIRST_END}
-use Rattle.ckc_typed.specs.Texts.{globals_of, head_mode, head_typed, item_typed, items_typed, pragma_after, named_typed}
+use Rattle.ckc_base.specs.MemoryMap.{data_start}
+use Rattle.ckc_typed.specs.Statics.{bytes_of, bytes_of_one, initial_bytes, object_of, objects_of_item, object_of_string, strings_of_item, blocks, placed, begin_behind, end_of_block}
+use Rattle.ckc_typed.specs.Texts.{globals_of, head_typed, item_typed, items_typed, named_typed}
+use Rattle.ckc_typed.specs.Walk.{head_mode, pragma_after}
 use Rattle.ckc_typing.specs.Objects.{HasRoom, HaveRoom}
 use Rattle.ckc_base.proofs.Outcomes.{made_of, ok_same}
 use Rattle.ckc_typing.proofs.Objects.{laid}
@@ -59,9 +61,6 @@ taken_most (suc n) (b ∷ bytes) = omega (arith, taken_most n bytes)
 abbrev width : CType → ℕ
 width t = if is_char t then 1 else 4
 
-abbrev Layer : Type 0
-Layer = Node-F Name Note NotedLimits NotedNode NotedExpr
-
 module _ (structs : Structs) where
   -- ---- sizes
 
@@ -86,7 +85,7 @@ module _ (structs : Structs) where
 
   -- ---- constants
 
-  abbrev held_node : Layer → Node-F Name Note (Unit {0}) (Option Constant) (Option Constant)
+  abbrev held_node : NotedLayer → Node-F Name Note (Unit {0}) (Option Constant) (Option Constant)
   held_node = map-Node Name Note NotedLimits NotedNode NotedExpr (Unit {0}) (Option Constant) (Option Constant) (fold-Limits Name Note (Unit {0}) (Option Constant) (Option Constant) limits_constant (node_constant structs) expr_constant) (constant_of_node structs) (constant structs)
 
   constant_is : (e : NotedExpr) → constant structs e ≡ node_constant structs (held_node (out-Node Name Note e.node))
@@ -95,7 +94,7 @@ module _ (structs : Structs) where
       ∙ fold_out-Node Name Note (Unit {0}) (Option Constant) (Option Constant) limits_constant (node_constant structs) expr_constant e.node
 
   -- a constant and null are no strings
-  no_string_by : (t : CType) (x : Layer) (c : Option Constant) → c ≡ node_constant structs (held_node x)
+  no_string_by : (t : CType) (x : NotedLayer) (c : Option Constant) → c ≡ node_constant structs (held_node x)
       → ((is_integer t && is_some c) || (is_pointer t && is_null_form x)) ≡ true → string_in_form x ≡ None
   no_string_by t (Node-F.Text bytes) c e h = absurd (neither (is_integer t) (is_pointer t) (subst (λ d. ((is_integer t && is_some d) || (is_pointer t && false)) ≡ true) e h))
   no_string_by t x c e h = refl
@@ -221,4 +220,4 @@ have_room t p e =
     subst (λ s. HaveRoom s (flat_map (objects_of_item s) p.tree.items)) (sym l.layout) (items_room (globals_of t.tree.items) Unchecked t.tree.items p.tree.items l.typed) in
     let all : HaveRoom p.layout (blocks p.layout p.tree.items) =
     All-append (HasRoom p.layout) (flat_map (objects_of_item p.layout) p.tree.items) _ items (strings_room p.layout (flat_map strings_of_item p.tree.items)) in
-    subst (HaveRoom p.layout) (sym l.placed_blocks) (placed_room p.layout (blocks p.layout p.tree.items) FIRST_END all)
+    subst (HaveRoom p.layout) (sym l.placed_blocks) (placed_room p.layout (blocks p.layout p.tree.items) data_start all)

@@ -111,7 +111,7 @@ fn typed_node(
 
 /// An expression with its type noted.
 #[cycle(expr)]
-pub fn typed_expr(
+fn typed_expr(
     alloc: Global,
     globals: &FileScope,
     variables: &[Variable],

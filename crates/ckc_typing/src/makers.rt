@@ -13,7 +13,7 @@ ghost use Rattle.ckc_typed.specs.Expressions.{noted, number_type, string_type, i
 
 use crate::calls::result_typed;
 use ckc_base::{Boxed, Bytes, Fault, Mode, Pos, Seq, refused};
-use ckc_environment::lookups::{self, type_of_name};
+use ckc_environment::lookups::type_of_name;
 use ckc_environment::notes::noted;
 use ckc_environment::scope::FileScope;
 use ckc_environment::targets::{has_address, is_no_allocation};
@@ -24,7 +24,7 @@ use ckc_typed::conversions::{is_bounds_cast, is_tested, is_trusted};
 use ckc_typed::literals::{null_type, number_type, string_type};
 use ckc_typed::operands::{self, is_cast};
 use ckc_typed::types::{copied, is_object_type, is_void, type_written};
-use ckc_typed::{Note, Variable};
+use ckc_typed::{Note, Variable, lookups};
 use ckc_types::{CType, Kind};
 use std::alloc::Global;
 

@@ -2,7 +2,8 @@
 
 ghost use Rattle.std.specs.Prelude.{◌≡◌, ◌+◌, ◌-◌, ◌≤◌, ◌<◌, ◌*◌, ◌^◌, IfOk};
 ghost use Rattle.ckc_typed.specs.Constants.{size_of};
-ghost use Rattle.ckc_typed.specs.Statics.{begin_behind, end_of_block, FIRST_END, LAST_END};
+ghost use Rattle.ckc_base.specs.MemoryMap.{data_start, statics_end};
+ghost use Rattle.ckc_typed.specs.Statics.{begin_behind, end_of_block};
 ghost use Rattle.ckc_typing.specs.code.Placing.{placed_behind};
 ghost use Rattle.ckc_base.specs.Outcomes.{AnswersOutcome};
 
@@ -21,9 +22,9 @@ const FIRST: u64 = DATA_START as u64;
 const LAST: u64 = STATICS_END as u64;
 
 fn begin_behind(end: u64) -> u64
-    requires { end ≤ LAST_END }
+    requires { end ≤ statics_end }
     ensures begin { result ≡ begin_behind end }
-    ensures small { result ≤ LAST_END + 16 }
+    ensures small { result ≤ statics_end + 16 }
 {
     (end + 8).next_multiple_of(8)
 }
@@ -37,7 +38,7 @@ fn length_of_block(structs: &Structs, o: &StaticObject) -> u64
 }
 
 fn end_of_block(structs: &Structs, end: u64, o: &StaticObject) -> u64
-    requires { end ≤ LAST_END }
+    requires { end ≤ statics_end }
     ensures { result ≡ end_of_block structs.now end o.now }
 {
     begin_behind(end) + length_of_block(structs, o)
@@ -59,7 +60,7 @@ fn at_place(alloc: Global, o: &StaticObject, at: u32) -> Result<StaticObject, Al
 }
 
 fn begun(alloc: Global, o: &StaticObject, end: u64) -> Result<StaticObject, AllocError>
-    requires { end ≤ LAST_END }
+    requires { end ≤ statics_end }
     ensures { IfOk result (λ p. p ≡ record o.now { at = begin_behind end }) }
 {
     at_place(alloc, o, begin_behind(end) as u32)
@@ -71,7 +72,7 @@ pub fn placed(
     structs: &Structs,
     blocks: &[StaticObject],
 ) -> Result<Seq<StaticObject>, Fault>
-    ensures { AnswersOutcome result (placed_behind structs.now FIRST_END blocks.now) }
+    ensures { AnswersOutcome result (placed_behind structs.now data_start blocks.now) }
 {
     let mut all = Seq::new(alloc);
     let mut end: u64 = FIRST;

@@ -117,7 +117,7 @@ fn typed_act(
 
 /// A statement with its mode noted.
 #[cycle(stmt)]
-pub fn typed_stmt(
+fn typed_stmt(
     alloc: Global,
     globals: &FileScope,
     frame: &Frame,

@@ -5,12 +5,13 @@ ghost use Rattle.std.specs.Option.{option_copied};
 ghost use Rattle.ckc_values.specs.Ends.{integer_in_variable, local_variable, limits_between, base_at, variable_at, end_at, limits_at};
 
 use crate::kinds::{integer_of, pointee_of};
-use crate::names::{address_of, variable_named};
+use crate::names::address_of;
 use crate::numbers::elements;
 use ckc_linear::Form;
 use ckc_source::{Base, End, Integer, Limits, Variable};
 use ckc_syntax::Name;
 use ckc_typed::Typed;
+use ckc_typed::lookups::variable_named;
 use ckc_types::{CType, Structs};
 use std::alloc::{AllocError, Global};
 

@@ -2,13 +2,13 @@
 
 ghost use Rattle.std.specs.Prelude.{◌≡◌, IfOk};
 ghost use Rattle.ckc_typed.specs.Types.{kind_of, element_of};
-ghost use Rattle.ckc_typed.specs.Conversions.{is_terminated_kind};
 ghost use Rattle.ckc_typed.specs.Declarations.{is_checked_kind};
 ghost use Rattle.ckc_values.specs.Kinds.{integer_of, is_signed, width_of, through_kind, count_of_kind, size_behind, pointee_of, tag_of};
 
 use ckc_base::Width;
 use ckc_source::{Count, Integer, Pointee, Through};
 use ckc_typed::constants::size_of;
+use ckc_typed::conversions::is_terminated;
 use ckc_typed::types::{element_of, is_char, is_integer, is_unsigned, kind_of};
 use ckc_types::{CType, Kind, Structs};
 use std::alloc::{AllocError, Global};
@@ -72,16 +72,6 @@ pub fn is_checked(t: &CType) -> bool
     match kind_of(t) {
         Some(Kind::Raw) => false,
         Some(Kind::One) | Some(Kind::Arr) | Some(Kind::Nt) => true,
-        None => false,
-    }
-}
-
-fn is_terminated(t: &CType) -> bool
-    ensures { result ≡ is_terminated_kind (kind_of t.now) }
-{
-    match kind_of(t) {
-        Some(Kind::Nt) => true,
-        Some(Kind::Raw) | Some(Kind::One) | Some(Kind::Arr) => false,
         None => false,
     }
 }

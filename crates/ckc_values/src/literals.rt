@@ -4,8 +4,7 @@ ghost use Rattle.std.specs.Prelude.{◌≡◌, ◌+◌, IfOk, map};
 ghost use Rattle.std.specs.Option.{option_map};
 ghost use Rattle.ckc_values.specs.Expressions.{part_of, part_of_node, part_of_limits, all_literals, literals_if, literals_of, literals_of_limits};
 
-use crate::numbers::sum;
-use ckc_base::Boxed;
+use ckc_base::{Boxed, sum};
 use ckc_syntax::{Expr, Limits, Name, Node};
 use ckc_typed::Note;
 use std::alloc::AllocError;

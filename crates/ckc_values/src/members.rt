@@ -9,11 +9,11 @@ ghost use Rattle.ckc_typed.specs.Layouts.{member_number};
 ghost use Rattle.ckc_values.specs.Members.{has_member, offset_of, member_named, integer_in_member, count_by, count_of_member};
 
 use crate::kinds::{count_by_kind, integer_of};
-use crate::names::same_name;
 use crate::numbers::elements;
 use ckc_source::{Count, Integer};
 use ckc_syntax::Name;
 use ckc_typed::constants::{members_of, size_of};
+use ckc_typed::lookups::same_name;
 use ckc_types::{CType, MemberBounds, MemberShape, Structs, offset};
 use std::alloc::AllocError;
 

@@ -2,7 +2,6 @@
 
 ghost use Rattle.std.specs.Prelude.{◌≡◌, ◌-◌, IfOk, find, if◌then◌else◌};
 ghost use Rattle.std.specs.Option.{option_copied};
-ghost use Rattle.ckc_typed.specs.Environment.{same_name, variable_named};
 ghost use Rattle.ckc_values.specs.Names.{address_of, array_of, bytes_in, bytes_of, declares, limits_declared, fixed_by, fixed_count, count_of_static};
 
 use crate::kinds::{count_by_kind, size_behind};
@@ -13,32 +12,10 @@ use ckc_source::Count;
 use ckc_syntax::{Item, Limits, Name};
 use ckc_typed::amounts::amount_of_limits;
 use ckc_typed::constants::size_of;
-use ckc_typed::{Amount, Note, StaticObject, Typed, Variable};
+use ckc_typed::lookups::same_name;
+use ckc_typed::{Amount, Note, StaticObject, Typed};
 use ckc_types::{CType, Kind};
 use std::alloc::{AllocError, Global};
-
-/// Whether two names are the same.
-pub fn same_name(a: Name, b: Name) -> bool
-    ensures { result ≡ same_name a b }
-{
-    match (a, b) {
-        (Name::Local(j), Name::Local(k)) => j == k,
-        (Name::Static(j), Name::Static(k)) => j == k,
-        (Name::Function(j), Name::Function(k)) => j == k,
-        (Name::Tag(j), Name::Tag(k)) => j == k,
-        (Name::Member(j), Name::Member(k)) => j == k,
-        (Name::Getchar, Name::Getchar) => true,
-        (Name::Putchar, Name::Putchar) => true,
-        _ => false,
-    }
-}
-
-/// The variable with a name, where there is one.
-pub fn variable_named(variables: &[Variable], n: Name) -> Option<&Variable>
-    ensures { option_copied result ≡ variable_named variables.now n }
-{
-    variables.iter().find(|v| same_name(v.name, n))
-}
 
 /// The address of the static object with a number.
 pub fn address_of(typed: &Typed, k: u32) -> u32

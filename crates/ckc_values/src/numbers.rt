@@ -1,18 +1,8 @@
 //! Numbers that must fit. That one does not is taken for want of memory.
 
-ghost use Rattle.std.specs.Prelude.{◌≡◌, ◌+◌, ◌*◌, IfOk};
+ghost use Rattle.std.specs.Prelude.{◌≡◌, ◌*◌, IfOk};
 
 use std::alloc::AllocError;
-
-/// The sum of two numbers.
-pub fn sum(a: u32, b: u32) -> Result<u32, AllocError>
-    ensures { IfOk result (λ n. n ≡ a + b) }
-{
-    match a.checked_add(b) {
-        Some(n) => Ok(n),
-        None => Err(AllocError),
-    }
-}
 
 /// The product of two numbers.
 pub fn product(a: u32, b: u32) -> Result<u32, AllocError>

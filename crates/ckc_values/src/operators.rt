@@ -2,14 +2,14 @@
 
 ghost use Rattle.std.specs.Prelude.{◌≡◌, IfOk};
 ghost use Rattle.ckc_source.specs.Code.{expr_of};
-ghost use Rattle.ckc_typed.specs.Operands.{same_element};
 ghost use Rattle.ckc_values.specs.Operators.{outside, is_signed_at, converted, cast, unary, binary, shift, distance, of_operands, elements_in};
 
 use crate::kinds::{integer_of, is_checked, is_signed, size_behind};
 use ckc_base::{Boxed, Pos};
 use ckc_source::{ExprTree, Operation, Shift};
 use ckc_syntax::TreeOp;
-use ckc_typed::types::{is_char, is_pointer, same_type};
+use ckc_typed::operands::same_element;
+use ckc_typed::types::{is_char, is_pointer};
 use ckc_types::{CType, Structs};
 use std::alloc::{AllocError, Global};
 
@@ -92,16 +92,6 @@ fn binary(op: TreeOp, signed: bool, at: Pos, e: Boxed<ExprTree>, f: Boxed<ExprTr
         TreeOp::Rem => ExprTree::Binary(Operation::Rem, signed, at, e, f),
         TreeOp::Minus | TreeOp::Plus | TreeOp::Not => outside(),
         TreeOp::Flip | TreeOp::Deref | TreeOp::Address => outside(),
-    }
-}
-
-/// Whether two types are pointers to one type.
-fn same_element(t: &CType, u: &CType) -> bool
-    ensures { result ≡ same_element t.now u.now }
-{
-    match (t, u) {
-        (CType::Pointer(_, a), CType::Pointer(_, b)) => same_type(a.get(), b.get()),
-        _ => false,
     }
 }
 

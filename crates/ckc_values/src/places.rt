@@ -7,8 +7,7 @@ ghost use Rattle.ckc_values.specs.Places.{place_of, object_place, nowhere, name_
 use crate::kinds::{pointee_of, size_behind, through, width_of};
 use crate::members::{member_number, offset_of};
 use crate::names::address_of;
-use crate::numbers::sum;
-use ckc_base::{Boxed, Pos};
+use ckc_base::{Boxed, Pos, sum};
 use ckc_source::{Access, Count, ExprTree, Integer, Through};
 use ckc_syntax::Name;
 use ckc_typed::Typed;

@@ -7,6 +7,7 @@ use Rattle.ckc_linear.specs.declared.forms.Form.{Form}
 use Rattle.ckc_syntax.specs.declared.tree.TreeOp.{TreeOp}
 use Rattle.ckc_syntax.specs.declared.tree.TreeOp.TheVariants as op
 use Rattle.ckc_syntax.specs.declared.tree.Node.{Node-F}
+use Rattle.ckc_typed.specs.Conversions.{is_terminated_kind}
 use Rattle.ckc_typed.specs.declared.environment.Constant.{Constant}
 use Rattle.ckc_typed.specs.Types.{is_unsigned, kind_of}
 use Rattle.ckc_typed.specs.Constants.{value_of}
@@ -18,7 +19,7 @@ use Rattle.ckc_points.specs.Shown.{Known}
 use Rattle.ckc_points.specs.Frames.{local_at}
 use Rattle.ckc_points.specs.Flow.{State}
 use Rattle.ckc_points.specs.Forms.{constant_form, same_form, with_most, with_less}
-use Rattle.ckc_views.specs.Parts.{View, NodeOfViews, is_nt}
+use Rattle.ckc_views.specs.Parts.{View, NodeOfViews}
 use Rattle.ckc_views.specs.Places.{target_of_node}
 
 -- the kind of the pointer that an expression reads through
@@ -33,7 +34,7 @@ is_upper_of (bounds.Known low high) f = same_form high f
 
 abbrev pub is_upper : Form → Option Local → Bool
 is_upper f None = false
-is_upper f (Some l) = is_nt (kind_of l.ctype) && is_upper_of l.bounds f
+is_upper f (Some l) = is_terminated_kind (kind_of l.ctype) && is_upper_of l.bounds f
 
 abbrev pub upper_local : Frame → Form → Option Base → Option ℕ
 upper_local frame f (Some (base.Local k)) = if is_upper f (local_at frame k) then Some k else None
@@ -45,7 +46,7 @@ widened_by frame None = None
 widened_by frame (Some f) = upper_local frame f f.base
 
 abbrev pub read_place : Option Kind → Option Form → Option Form
-read_place behind f = if is_nt behind then f else None
+read_place behind f = if is_terminated_kind behind then f else None
 
 abbrev pub wider : Option ℕ → State → State
 wider None at = at

@@ -131,11 +131,3 @@ with_last all (Some a) = all ++ a ∷ []
 abbrev pub with_first : {A : Type 0} → Option A → List A → List A
 with_first None all = all
 with_first (Some a) all = a ∷ all
-
-abbrev pub is_raw : Option Kind → Bool
-is_raw (Some kind.Raw) = true
-is_raw _ = false
-
-abbrev pub is_nt : Option Kind → Bool
-is_nt (Some kind.Nt) = true
-is_nt _ = false

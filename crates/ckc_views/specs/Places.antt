@@ -1,4 +1,5 @@
 -- The places of pointers, and how values are numbered.
+use Rattle.std.specs.Option.{option_or}
 use Rattle.std.specs.Prelude.{ℕ, Bool, true, false, ◌&&◌, if◌then◌else◌, Option, None, Some, is_some, is_none, List, [], ◌∷◌, slice_get}
 use Rattle.ckc_types.specs.declared.types.CType.{CType}
 use Rattle.ckc_linear.specs.declared.forms.Base.TheVariants as base
@@ -10,11 +11,11 @@ use Rattle.ckc_syntax.specs.declared.tree.TreeOp.TheVariants as op
 use Rattle.ckc_syntax.specs.declared.tree.Node.{Node-F}
 use Rattle.ckc_typed.specs.declared.typed.StaticObject.{StaticObject}
 use Rattle.ckc_typed.specs.Types.{is_pointer, kind_of}
-use Rattle.ckc_typed.specs.Operands.{same_element}
+use Rattle.ckc_typed.specs.Operands.{same_element, is_raw_kind}
 use Rattle.ckc_points.specs.declared.frame.Frame.{Frame}
 use Rattle.ckc_points.specs.Shown.{Known}
 use Rattle.ckc_points.specs.Forms.{sum_of_forms, difference_of_forms, base_form}
-use Rattle.ckc_views.specs.Parts.{LimitsView, View, NodeView, NodeOfViews, capped, count_of_parts, is_raw}
+use Rattle.ckc_views.specs.Parts.{LimitsView, View, NodeView, NodeOfViews, capped, count_of_parts}
 
 abbrev pub is_array : Option StaticObject → Bool
 is_array (Some o) = is_some o.array
@@ -62,7 +63,7 @@ unary_place first facts _ e = None
 abbrev pub place_of_node : Frame → NodeOfViews → CType → ℕ → Known → Option Form
 place_of_node frame (Node-F.Name n) t first facts = named_place frame n
 place_of_node frame (Node-F.Un o e) t first facts = unary_place first facts o e
-place_of_node frame (Node-F.Bin o e f) t first facts = if is_raw (kind_of t) then None else binary_place first facts o e f
+place_of_node frame (Node-F.Bin o e f) t first facts = if is_raw_kind (kind_of t) then None else binary_place first facts o e f
 place_of_node frame (Node-F.Cast w e) t first facts = if same_element t e.ctype then e.place first facts else None
 place_of_node frame _ t first facts = None
 
@@ -70,17 +71,13 @@ place_of_node frame _ t first facts = None
 abbrev pub target_of_node : NodeOfViews → ℕ → Known → Option Form
 target_of_node (Node-F.Un op.Deref e) first facts = e.place first facts
 target_of_node (Node-F.Index e f) first facts =
-    if is_raw (kind_of e.ctype) then None else sum_of_forms (e.place first facts) (f.form facts)
+    if is_raw_kind (kind_of e.ctype) then None else sum_of_forms (e.place first facts) (f.form facts)
 target_of_node _ first facts = None
 
 abbrev pub own_place : NodeView → ℕ → Option Form
 own_place n first = if n.stands_alone then Some (base_form (base.Value (capped first n.values))) else None
 
-abbrev pub place_or : Option Form → Option Form → Option Form
-place_or (Some f) own = Some f
-place_or None own = own
-
 -- The place of a pointer: `p + 1` is one element behind p. One that has no place by its parts stands for itself, and has
 -- the number behind those of the values in its parts. Null has none.
 abbrev pub pointer_place : CType → NodeView → ℕ → Known → Option Form
-pointer_place t n first facts = if is_pointer t then place_or (n.place t first facts) (own_place n first) else None
+pointer_place t n first facts = if is_pointer t then option_or (n.place t first facts) (own_place n first) else None

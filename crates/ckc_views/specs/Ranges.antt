@@ -19,7 +19,7 @@ use Rattle.ckc_typed.specs.declared.typed.Range.TheVariants as range
 use Rattle.ckc_typed.specs.declared.typed.StaticObject.{StaticObject}
 use Rattle.ckc_typed.specs.Types.{is_pointer, kind_of, element_of}
 use Rattle.ckc_typed.specs.Constants.{size_of}
-use Rattle.ckc_typed.specs.Operands.{same_element}
+use Rattle.ckc_typed.specs.Operands.{same_element, is_raw_kind}
 use Rattle.ckc_points.specs.declared.frame.Bounds.{Bounds}
 use Rattle.ckc_points.specs.declared.frame.HeadBounds.{HeadBounds}
 use Rattle.ckc_points.specs.declared.frame.Frame.{Frame}
@@ -30,7 +30,7 @@ use Rattle.ckc_ranges.specs.Replaced.{replaced_bounds}
 use Rattle.ckc_ranges.specs.Rows.{range_from, range_of_ends, range_of_local, range_of_array}
 use Rattle.ckc_views.specs.declared.variables.Own.{Own}
 use Rattle.ckc_views.specs.declared.variables.Member.{Member}
-use Rattle.ckc_views.specs.Parts.{LimitsView, View, NodeView, NodeOfViews, capped, next_behind, fresh_behind, is_raw}
+use Rattle.ckc_views.specs.Parts.{LimitsView, View, NodeView, NodeOfViews, capped, next_behind, fresh_behind}
 use Rattle.ckc_views.specs.Fresh.{member_of_node, member_bounds, is_checked, fresh_form}
 use Rattle.ckc_views.specs.Arguments.{bases_by, variables_by, own_by}
 
@@ -120,7 +120,7 @@ range_of_node frame (Node-F.Name n) t own first fresh at = range_of_name frame n
 range_of_node frame (Node-F.Text bytes) t own first fresh at = range_from (base.Value own.value) (constant_form (pos (length bytes)))
 range_of_node frame (Node-F.Un o e) t own first fresh at = range_of_unary o e t own first fresh at
 range_of_node frame (Node-F.Bin o e f) t own first fresh at =
-    if is_raw (kind_of t) then range.Missing else range_of_operand e f first fresh at
+    if is_raw_kind (kind_of t) then range.Missing else range_of_operand e f first fresh at
 range_of_node frame (Node-F.Index e f) t own first fresh at = range_by_type (kind_of t) own.value
 range_of_node frame (Node-F.Dot e n spot) t own first fresh at = range_of_member frame.structs t (member_of_node (Node-F.Dot e n spot)) own
 range_of_node frame (Node-F.Arrow e n spot) t own first fresh at = range_of_member frame.structs t (member_of_node (Node-F.Arrow e n spot)) own
@@ -135,9 +135,9 @@ range_of_node frame _ t own first fresh at = range.Missing
 -- unchecked pointer nothing is known.
 abbrev pub range_of_address : NodeOfViews → Own → ℕ → ℕ → State → Range
 range_of_address (Node-F.Un op.Deref e) own first fresh at = e.range first fresh at
-range_of_address (Node-F.Index e f) own first fresh at = if is_raw (kind_of e.ctype) then range.Missing else e.range first fresh at
-range_of_address (Node-F.Arrow e n spot) own first fresh at = if is_raw (kind_of e.ctype) then range.Missing else range_of_one own.value
-range_of_address (Node-F.Dot e n spot) own first fresh at = if is_raw e.behind then range.Missing else range_of_one own.value
+range_of_address (Node-F.Index e f) own first fresh at = if is_raw_kind (kind_of e.ctype) then range.Missing else e.range first fresh at
+range_of_address (Node-F.Arrow e n spot) own first fresh at = if is_raw_kind (kind_of e.ctype) then range.Missing else range_of_one own.value
+range_of_address (Node-F.Dot e n spot) own first fresh at = if is_raw_kind e.behind then range.Missing else range_of_one own.value
 range_of_address _ own first fresh at = range_of_one own.value
 
 abbrev pub own_numbers : NodeView → ℕ → ℕ → State → Own

@@ -1,16 +1,15 @@
 //! The integers that expressions stand for.
 
 ghost use Rattle.std.specs.Prelude.{◌≡◌, IfOk};
-ghost use Rattle.ckc_typed.specs.Constants.{negated};
 ghost use Rattle.ckc_points.specs.Shown.{known};
 ghost use Rattle.ckc_views.specs.Integers.{sum_step, difference_step, step_of};
 ghost use Rattle.ckc_views.specs.Views.{view, view_of_node};
 
-use ckc_base::{BinOp, apply};
 use ckc_linear::{Facts, Form};
-use ckc_points::{Frame, Work, constant_form, in_type, moved_form, negative_value, variable};
+use ckc_points::{Frame, Work, constant_form, in_type, moved_form, variable};
 use ckc_syntax::{Expr, Name, Node, TreeOp};
-use ckc_typed::constants::{size_of, value_of};
+use ckc_typed::amounts::negative_value;
+use ckc_typed::constants::{negated, size_of, value_of};
 use ckc_typed::types::{is_integer, type_written};
 use ckc_typed::{Constant, Note};
 use ckc_types::CType;
@@ -21,18 +20,6 @@ use std::alloc::{AllocError, Global};
 pub struct Step {
     pub left: bool,
     pub by: i64,
-}
-
-fn negated(op: TreeOp, c: Option<Constant>) -> Option<Constant>
-    ensures { result ≡ negated op c }
-{
-    match (op, c) {
-        (TreeOp::Minus, Some(c)) => Some(Constant {
-            word: apply(BinOp::Sub, 0, c.word),
-            unsigned: c.unsigned,
-        }),
-        _ => None,
-    }
 }
 
 #[cycle(number)]

@@ -2,18 +2,19 @@
 
 ghost use Rattle.std.specs.Prelude.{◌≡◌, IfOk, map, slice_get};
 ghost use Rattle.std.specs.Option.{option_map};
+ghost use Rattle.ckc_typed.specs.Operands.{is_raw_kind};
 ghost use Rattle.ckc_typed.specs.Types.{kind_of};
 ghost use Rattle.ckc_points.specs.Shown.{known};
 ghost use Rattle.ckc_views.specs.Places.{named_place, is_array, own_place, values_there, values_after};
-ghost use Rattle.ckc_views.specs.Parts.{is_raw};
 ghost use Rattle.ckc_views.specs.Views.{view, view_of_limits, view_of_node};
 
 use crate::forms::form;
 use ckc_base::Boxed;
 use ckc_linear::{Base, Facts, Form};
-use ckc_points::{Frame, Work, base_form, difference_of_forms, same_element, sum_of_forms};
+use ckc_points::{Frame, Work, base_form, difference_of_forms, sum_of_forms};
 use ckc_syntax::{Expr, Limits, Name, Node, TreeOp};
 use ckc_typed::Note;
+use ckc_typed::operands::same_element;
 use ckc_typed::types::{is_pointer, kind_of};
 use ckc_types::{CType, Kind};
 use std::alloc::AllocError;
@@ -28,7 +29,7 @@ fn is_array(frame: &Frame, k: u32) -> bool
 }
 
 /// The place of a local or a static array that is named.
-pub fn named_place(frame: &Frame, name: Name) -> Option<Form>
+fn named_place(frame: &Frame, name: Name) -> Option<Form>
     ensures { result ≡ named_place frame.now name }
 {
     match name {
@@ -127,7 +128,7 @@ pub fn values(frame: &Frame, e: &Expr<Name, Note>) -> u32
 
 /// Whether a kind is that of an unchecked pointer.
 pub fn is_raw_kind(kind: Option<Kind>) -> bool
-    ensures { result ≡ is_raw kind }
+    ensures { result ≡ is_raw_kind kind }
 {
     match kind {
         Some(Kind::Raw) => true,
@@ -137,7 +138,7 @@ pub fn is_raw_kind(kind: Option<Kind>) -> bool
 
 /// Whether a type is an unchecked pointer.
 pub fn is_raw(t: &CType) -> bool
-    ensures { result ≡ is_raw (kind_of t.now) }
+    ensures { result ≡ is_raw_kind (kind_of t.now) }
 {
     is_raw_kind(kind_of(t))
 }

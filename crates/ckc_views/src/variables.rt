@@ -265,7 +265,7 @@ fn most_of_all(frame: &Frame, es: &[Expr<Name, Note>]) -> u32
 
 /// How many fresh variables the parts of a node may need.
 #[cycle(most_fresh)]
-pub fn most_of_node(frame: &Frame, node: &Node<Name, Note>) -> u32
+fn most_of_node(frame: &Frame, node: &Node<Name, Note>) -> u32
     ensures { result ≡ (view_of_node frame.now node.now).most_fresh }
 {
     match node {

@@ -20,14 +20,14 @@ use Rattle.ckc_typed.specs.declared.typed.Note.{Note}
 use Rattle.ckc_typed.specs.declared.typed.Range.{Range}
 use Rattle.ckc_typed.specs.declared.typed.Range.TheVariants.{Missing}
 use Rattle.ckc_typed.specs.Codes.{bad_operands}
-use Rattle.ckc_typed.specs.Trees.{Limits, Node, Expr, NotedLimits, NotedNode, NotedExpr}
+use Rattle.ckc_typed.specs.Trees.{Limits, Node, Expr, NotedLimits, NotedNode, NotedExpr, NotedLayer}
 use Rattle.ckc_typed.specs.Types.{type_written, is_void}
 use Rattle.ckc_typed.specs.Conversions.{is_null, is_tested, is_trusted, is_bounds_cast}
 use Rattle.ckc_typed.specs.Environment.{type_of_name}
 use Rattle.ckc_typed.specs.Operands.{binary_type, choice_type, index_type, dot_type, arrow_type, size_type}
 use Rattle.ckc_typed.specs.Expressions.{OfLimits, OfNode, OfExpr, noted, unary_typed, binary_typed, choice_typed, index_typed, dot_typed, arrow_typed, cast_typed, allocation_typed, tested_typed, trusted_typed, call_typed, limits_parts, node_parts, expr_parts, limits_typed, node_typed, expr_typed}
 use Rattle.ckc_welltyped.specs.Noteless.{bare_limits, bare_node, bare_expr}
-use Rattle.ckc_welltyped.specs.Expressions.{NodeLayer, HasType, WellTypedExpr, WellTypedNode, WellTypedLimits}
+use Rattle.ckc_welltyped.specs.Expressions.{HasType, WellTypedExpr, WellTypedNode, WellTypedLimits}
 use Rattle.ckc_welltyped.specs.Parts.{LimitsLayer, LimitsParts, NodeParts}
 use Rattle.ckc_base.proofs.Outcomes.{goes, is_there}
 use Rattle.ckc_welltyped.proofs.Rows.{row_is, unary_is, two_rules, cast_is, allocation_is, call_is}
@@ -61,7 +61,7 @@ module _ (globals : Globals) (variables : List Variable) (mode : Mode) where
   abbrev alone_limits : kept.LimitsLayer no_value back → LimitsLayer
   alone_limits = inner_limits no_value back
 
-  abbrev alone_node : kept.NodeLayer no_value back → NodeLayer
+  abbrev alone_node : kept.NodeLayer no_value back → NotedLayer
   alone_node = inner_node no_value back
 
   abbrev judged_limits : Limits-F Name (Unit {0}) Limits Node Expr → Limits-F Name (Unit {0}) OfLimits OfNode OfExpr

@@ -12,8 +12,8 @@ use Rattle.ckc_syntax.specs.declared.tree.Act.{out-Act, roll-Act, the_lemmas as 
 use Rattle.ckc_typed.specs.declared.environment.Globals.{Globals}
 use Rattle.ckc_typed.specs.declared.environment.Variable.{Variable}
 use Rattle.ckc_typed.specs.declared.typed.Note.{Note}
-use Rattle.ckc_typed.specs.Trees.{NotedLimits, NotedNode, NotedExpr, NotedAct, NotedStmt}
-use Rattle.ckc_welltyped.specs.Expressions.{AnyLimits, AnyNode, NodeLayer, IsNoted, WellTypedExpr, WellTypedNode, WellTypedLimits}
+use Rattle.ckc_typed.specs.Trees.{NotedLimits, NotedNode, NotedExpr, NotedAct, NotedStmt, NotedLayer}
+use Rattle.ckc_welltyped.specs.Expressions.{AnyLimits, AnyNode, IsNoted, WellTypedExpr, WellTypedNode, WellTypedLimits}
 use Rattle.ckc_welltyped.specs.Parts.{LimitsLayer, LimitsParts, NodeParts, ExprByParts, StmtByParts}
 use Rattle.ckc_welltyped.specs.Statements.{act_rows, note_in, WellTypedAct, WellTypedStmt}
 use Rattle.ckc_welltyped.proofs.Nodes.{FitLimits, FitNode, FitExpr, bare_limits_layer, bare_node_layer}
@@ -45,7 +45,7 @@ module _ (globals : Globals) (variables : List Variable) (mode : Mode) where
   abbrev LimitsOf : LimitsLayer → Type 0
   LimitsOf d = (z : LimitsFits) × (bare_limits_layer globals variables mode z ≡ d)
 
-  abbrev NodeOf : NodeLayer → Type 0
+  abbrev NodeOf : NotedLayer → Type 0
   NodeOf d = (z : NodeFits) × (bare_node_layer globals variables mode z ≡ d)
 
   limits_with : (d : LimitsLayer) → LimitsParts globals variables mode d → LimitsOf d
@@ -58,7 +58,7 @@ module _ (globals : Globals) (variables : List Variable) (mode : Mode) where
   all_with [] p = ([], refl)
   all_with (e ∷ es) p = let r = all_with es p.1 in ((e, p.0) ∷ r.0, ap (λ xs. e ∷ xs) r.1)
 
-  node_with : (d : NodeLayer) → NodeParts globals variables mode d → NodeOf d
+  node_with : (d : NotedLayer) → NodeParts globals variables mode d → NodeOf d
   node_with (Node-F.Number n u) p = (Node-F.Number n u, refl)
   node_with (Node-F.Text s) p = (Node-F.Text s, refl)
   node_with Node-F.Null p = (Node-F.Null, refl)

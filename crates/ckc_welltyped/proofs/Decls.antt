@@ -5,7 +5,7 @@ use Rattle.std.specs.Option.{option_map}
 use Rattle.std.specs.List.{AllByRecursion, list_all}
 use Rattle.std.proofs.lemmas.Bool.Decides.{nat_tests}
 use Rattle.ckc_base.specs.declared.arithmetic.Mode.{Mode}
-use Rattle.ckc_base.specs.Outcomes.{Outcome, bind, in_order}
+use Rattle.ckc_base.specs.Outcomes.{Outcome, bind}
 use Rattle.ckc_types.specs.declared.types.CType.{CType}
 use Rattle.ckc_types.specs.declared.types.Structs.{Structs}
 use Rattle.ckc_syntax.specs.declared.tree.Init.TheVariants as init
@@ -20,21 +20,9 @@ use Rattle.ckc_typed.specs.Declarations.{init_typed, parts_typed, judged, fault_
 use Rattle.ckc_welltyped.specs.Noteless.{bare_limits, bare_expr, bare_init, bare_decl}
 use Rattle.ckc_welltyped.specs.Expressions.{WellTypedExpr, WellTypedLimits}
 use Rattle.ckc_welltyped.specs.Declarations.{WellTypedInit, WellTypedParts, WellTypedBare, StartsLocal, WellTypedLocal, StartsOne, IsListFor, StartsStatic, WellTypedStatic}
-use Rattle.ckc_base.proofs.Outcomes.{ok_same, made_of, goes, first_holds, second_holds, both_hold}
+use Rattle.ckc_base.proofs.Outcomes.{each_made, each_back, ok_same, made_of, goes, first_holds, second_holds, both_hold}
 use Rattle.ckc_welltyped.proofs.TypedNodes.{limits_give, expr_gives}
 use Rattle.ckc_welltyped.proofs.Backs.{limits_back, expr_back}
-
--- the parts of a list, where each gives what it was made of and a fact
-pub each_made : {X Y : Type 0} (f : X → Outcome Y) (bare : Y → X) (P : Y → Type 0) → ((x : X) (y : Y) → f x ≡ Ok y → (bare y ≡ x) × P y) → (xs : List X) (ys : List Y) → in_order (map f xs) ≡ Ok ys → (map bare ys ≡ xs) × AllByRecursion P ys
-each_made f bare P each [] ys h = subst (λ zs. (map bare zs ≡ []) × AllByRecursion P zs) (ok_same [] ys h) (refl, tt)
-each_made f bare P each (x ∷ xs) ys h =
-    let a = made_of (f x) _ ys h in let g = each x a.0 a.1 in
-    let b = made_of (in_order (map f xs)) _ ys a.2 in let r = each_made f bare P each xs b.0 b.1 in
-    subst (λ zs. (map bare zs ≡ x ∷ xs) × AllByRecursion P zs) (ok_same _ ys b.2) (ap (λ z. z ∷ map bare b.0) g.0 ∙ ap (λ zs. x ∷ zs) r.0, (g.1, r.1))
-
-pub each_back : {X Y : Type 0} (f : X → Outcome Y) (bare : Y → X) (P : Y → Type 0) → ((y : Y) → P y → f (bare y) ≡ Ok y) → (ys : List Y) → AllByRecursion P ys → in_order (map f (map bare ys)) ≡ Ok ys
-each_back f bare P back [] p = refl
-each_back f bare P back (y ∷ ys) p = goes (f (bare y)) _ y _ (back y p.0) (goes (in_order (map f (map bare ys))) _ ys _ (each_back f bare P back ys p.1) refl)
 
 module _ (globals : Globals) (variables : List Variable) (mode : Mode) where
   pub bounds_give : (l : Option Limits) (k : Option NotedLimits) → bounds_typed globals variables mode l ≡ Ok k → (option_map bare_limits k ≡ l) × IfSome k (WellTypedLimits globals variables mode)

@@ -1,6 +1,6 @@
 -- A tree is as deep as the tree without its notes.
 use Rattle.std.proofs.Common.{◌≡◌, ℕ, max, List, [], ◌∷◌, map, refl, ap, ◌∙◌}
-use Rattle.std.specs.Prelude.{Option, Some, None}
+use Rattle.std.specs.Prelude.{Option, Some, None, unwrap_or}
 use Rattle.std.specs.Option.{option_map}
 use Rattle.ckc_syntax.specs.declared.tree.Item.{Item}
 use Rattle.ckc_syntax.specs.declared.tree.Item.TheVariants as item
@@ -13,7 +13,7 @@ use Rattle.ckc_syntax.specs.declared.tree.Node.{Node-F}
 use Rattle.ckc_syntax.specs.declared.tree.Expr.{Expr}
 use Rattle.ckc_syntax.specs.declared.tree.Act.{Act-F}
 use Rattle.ckc_syntax.specs.declared.tree.Stmt.{Stmt}
-use Rattle.ckc_limits.specs.Depth.{greatest, held_depth, limits_depth, node_depth, expr_depth, depth_of_limits, depth_of_expr, depth_of_bounds, depth_of_init, depth_of_decl, depth_of_value, act_depth, stmt_depth, depth_of_stmt, depth_of_decls, depth_of_head, depth_of_item}
+use Rattle.ckc_limits.specs.Depth.{greatest, limits_depth, node_depth, expr_depth, depth_of_limits, depth_of_expr, depth_of_bounds, depth_of_init, depth_of_decl, depth_of_value, act_depth, stmt_depth, depth_of_stmt, depth_of_decls, depth_of_head, depth_of_item}
 use Rattle.ckc_welltyped.specs.Noteless.{limits_noteless, node_noteless, act_noteless, bare_limits, bare_expr, bare_init, bare_decl, bare_stmt, bare_head, bare_item}
 use Rattle.ckc_welltyped.proofs.Folds.{limits_folds, expr_folds, stmt_folds}
 
@@ -59,9 +59,9 @@ module _ {N A : Type 0} where
   acts_agree (Act-F.Local d) = of_decl d
   acts_agree (Act-F.Assign e f) = ap (λ n. max n (depth_of_expr (bare_expr f))) (of_expr e) ∙ ap (λ n. max (depth_of_expr e) n) (of_expr f)
   acts_agree (Act-F.Call e) = of_expr e
-  acts_agree (Act-F.If e s t) = ap (λ n. max n (max s (held_depth t))) (of_expr e)
+  acts_agree (Act-F.If e s t) = ap (λ n. max n (max s (unwrap_or t 0))) (of_expr e)
   acts_agree (Act-F.While e s) = ap (λ n. max n s) (of_expr e)
-  acts_agree (Act-F.For s e t u) = ap (λ n. max (held_depth s) (max n (max (held_depth t) u))) (of_value e)
+  acts_agree (Act-F.For s e t u) = ap (λ n. max (unwrap_or s 0) (max n (max (unwrap_or t 0) u))) (of_value e)
   acts_agree (Act-F.Return e) = of_value e
   acts_agree Act-F.Break = refl
   acts_agree Act-F.Continue = refl

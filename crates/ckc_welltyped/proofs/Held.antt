@@ -10,8 +10,8 @@ use Rattle.ckc_syntax.specs.declared.tree.Expr.{Expr-F, every_here-Expr, every_h
 use Rattle.ckc_typed.specs.declared.environment.Globals.{Globals}
 use Rattle.ckc_typed.specs.declared.environment.Variable.{Variable}
 use Rattle.ckc_typed.specs.declared.typed.Note.{Note}
-use Rattle.ckc_typed.specs.Trees.{NotedLimits, NotedNode, NotedExpr}
-use Rattle.ckc_welltyped.specs.Expressions.{AnyLimits, AnyNode, NodeLayer, IsNoted, WellTypedExpr, WellTypedNode, WellTypedLimits}
+use Rattle.ckc_typed.specs.Trees.{NotedLimits, NotedNode, NotedExpr, NotedLayer}
+use Rattle.ckc_welltyped.specs.Expressions.{AnyLimits, AnyNode, IsNoted, WellTypedExpr, WellTypedNode, WellTypedLimits}
 use Rattle.ckc_welltyped.specs.Parts.{LimitsLayer, LimitsParts, NodeParts}
 use Rattle.ckc_welltyped.proofs.Nodes.{FitLimits, FitNode, FitExpr, bare_limits_layer, bare_node_layer, node_out, limits_out}
 
@@ -66,7 +66,7 @@ module _ (globals : Globals) (variables : List Variable) (mode : Mode) where
   pub limits_layer_holds : (d : LimitsLayer) → WellTypedLimits globals variables mode (roll-Limits Name Note d) → LimitsParts globals variables mode d
   limits_layer_holds d w = subst (LimitsParts globals variables mode) (limits_out d) (limits_hold (roll-Limits Name Note d) w)
 
-  pub node_layer_holds : (d : NodeLayer) → WellTypedNode globals variables mode (roll-Node Name Note d) → NodeParts globals variables mode d
+  pub node_layer_holds : (d : NotedLayer) → WellTypedNode globals variables mode (roll-Node Name Note d) → NodeParts globals variables mode d
   node_layer_holds d w = subst (NodeParts globals variables mode) (node_out d) (node_holds (roll-Node Name Note d) w)
 
   -- an expression has its row, and its node is well typed

@@ -3,6 +3,7 @@ use Rattle.std.proofs.Common.{◌≡◌, List, [], ◌∷◌, ◌++◌, map, ref
 use Rattle.std.specs.Prelude.{Option, Some, None}
 use Rattle.std.specs.Option.{option_map}
 use Rattle.std.specs.List.{flat_map}
+use Rattle.ckc_base.specs.Lists.{or_empty}
 use Rattle.ckc_syntax.specs.declared.tree.Tree.{Tree}
 use Rattle.ckc_syntax.specs.declared.tree.Item.{Item}
 use Rattle.ckc_syntax.specs.declared.tree.Item.TheVariants as item
@@ -15,7 +16,8 @@ use Rattle.ckc_syntax.specs.declared.tree.Node.{Node-F}
 use Rattle.ckc_syntax.specs.declared.tree.Expr.{Expr}
 use Rattle.ckc_syntax.specs.declared.tree.Act.{Act-F}
 use Rattle.ckc_syntax.specs.declared.tree.Stmt.{Stmt}
-use Rattle.ckc_limits.specs.Marks.{Mark, node, local, function, static, held, limits_marks, node_marks, expr_marks, marks_of_limits, marks_of_expr, marks_of_bounds, marks_of_init, marks_of_decl, marks_of_value, act_marks, stmt_marks, marks_of_stmt, marks_of_param, marks_of_head, marks_of_item, marks_of}
+use Rattle.ckc_syntax.specs.Inside.{inside_limits}
+use Rattle.ckc_limits.specs.Marks.{Mark, node, local, function, static, node_marks, expr_marks, marks_of_limits, marks_of_expr, marks_of_bounds, marks_of_init, marks_of_decl, marks_of_value, act_marks, stmt_marks, marks_of_stmt, marks_of_param, marks_of_head, marks_of_item, marks_of}
 use Rattle.ckc_welltyped.specs.Noteless.{limits_noteless, node_noteless, act_noteless, bare_limits, bare_expr, bare_init, bare_decl, bare_stmt, bare_head, bare_item, without_notes}
 use Rattle.ckc_welltyped.proofs.Folds.{limits_folds, expr_folds, stmt_folds}
 
@@ -25,7 +27,7 @@ joined_same bare f g each [] = refl
 joined_same bare f g each (x ∷ xs) = ap (λ z. z ++ flat_map f (map bare xs)) (each x) ∙ ap (λ zs. g x ++ zs) (joined_same bare f g each xs)
 
 module _ {N A : Type 0} where
-  limits_agree : (x : Limits-F N A (List Mark) (List Mark) (List Mark)) → limits_marks (limits_noteless x) ≡ limits_marks x
+  limits_agree : (x : Limits-F N A (List Mark) (List Mark) (List Mark)) → inside_limits (limits_noteless x) ≡ inside_limits x
   limits_agree (Limits-F.Count e at) = refl
   limits_agree _ = refl
 
@@ -34,10 +36,10 @@ module _ {N A : Type 0} where
   nodes_agree _ = refl
 
   pub of_limits : (l : Limits N A) → marks_of_limits (bare_limits l) ≡ marks_of_limits l
-  of_limits = limits_folds N A (List Mark) (List Mark) (List Mark) limits_marks node_marks expr_marks limits_marks node_marks expr_marks limits_agree nodes_agree (λ x. refl)
+  of_limits = limits_folds N A (List Mark) (List Mark) (List Mark) inside_limits node_marks expr_marks inside_limits node_marks expr_marks limits_agree nodes_agree (λ x. refl)
 
   pub of_expr : (e : Expr N A) → marks_of_expr (bare_expr e) ≡ marks_of_expr e
-  of_expr = expr_folds N A (List Mark) (List Mark) (List Mark) limits_marks node_marks expr_marks limits_marks node_marks expr_marks limits_agree nodes_agree (λ x. refl)
+  of_expr = expr_folds N A (List Mark) (List Mark) (List Mark) inside_limits node_marks expr_marks inside_limits node_marks expr_marks limits_agree nodes_agree (λ x. refl)
 
   of_bounds : (l : Option (Limits N A)) → marks_of_bounds (option_map bare_limits l) ≡ marks_of_bounds l
   of_bounds None = refl
@@ -61,9 +63,9 @@ module _ {N A : Type 0} where
   acts_agree (Act-F.Local d) = ap (λ ms. local ∷ ms) (of_decl d)
   acts_agree (Act-F.Assign e f) = ap (λ ms. ms ++ marks_of_expr (bare_expr f)) (of_expr e) ∙ ap (λ ms. marks_of_expr e ++ ms) (of_expr f)
   acts_agree (Act-F.Call e) = of_expr e
-  acts_agree (Act-F.If e s t) = ap (λ ms. ms ++ s ++ held t) (of_expr e)
+  acts_agree (Act-F.If e s t) = ap (λ ms. ms ++ s ++ or_empty t) (of_expr e)
   acts_agree (Act-F.While e s) = ap (λ ms. ms ++ s) (of_expr e)
-  acts_agree (Act-F.For s e t u) = ap (λ ms. held s ++ ms ++ held t ++ u) (of_value e)
+  acts_agree (Act-F.For s e t u) = ap (λ ms. or_empty s ++ ms ++ or_empty t ++ u) (of_value e)
   acts_agree (Act-F.Return e) = of_value e
   acts_agree Act-F.Break = refl
   acts_agree Act-F.Continue = refl

@@ -12,10 +12,10 @@ use Rattle.ckc_syntax.specs.declared.tree.Expr.{every_made-Expr}
 use Rattle.ckc_typed.specs.declared.environment.Globals.{Globals}
 use Rattle.ckc_typed.specs.declared.environment.Variable.{Variable}
 use Rattle.ckc_typed.specs.declared.typed.Note.{Note}
-use Rattle.ckc_typed.specs.Trees.{NotedLimits, NotedNode, NotedExpr}
+use Rattle.ckc_typed.specs.Trees.{NotedLimits, NotedNode, NotedExpr, NotedLayer}
 use Rattle.ckc_typed.specs.Expressions.{noted}
 use Rattle.ckc_welltyped.specs.Parts.{LimitsLayer}
-use Rattle.ckc_welltyped.specs.Expressions.{AnyLimits, AnyNode, NodeLayer, HasType, IsNoted, WellTypedExpr, WellTypedNode, WellTypedLimits}
+use Rattle.ckc_welltyped.specs.Expressions.{AnyLimits, AnyNode, HasType, IsNoted, WellTypedExpr, WellTypedNode, WellTypedLimits}
 
 -- the bounds and the node that have a layer
 abbrev pub limits_of : LimitsLayer → NotedLimits
@@ -30,7 +30,7 @@ limits_rolled (Limits-F.ByteCount e at) = limits.rolls-ByteCount e at
 limits_rolled (Limits-F.Between e f at) = limits.rolls-Between e f at
 limits_rolled (Limits-F.Unknown at) = limits.rolls-Unknown at
 
-abbrev pub node_of : NodeLayer → NotedNode
+abbrev pub node_of : NotedLayer → NotedNode
 node_of (Node-F.Number n unsigned) = node.Number n unsigned
 node_of (Node-F.Text bytes) = node.Text bytes
 node_of Node-F.Null = node.Null
@@ -48,7 +48,7 @@ node_of (Node-F.Tested t e l) = node.Tested t e l
 node_of (Node-F.Call n es) = node.Call n es
 node_of (Node-F.Calloc t e u) = node.Calloc t e u
 
-pub node_rolled : (d : NodeLayer) → roll-Node Name Note d ≡ node_of d
+pub node_rolled : (d : NotedLayer) → roll-Node Name Note d ≡ node_of d
 node_rolled (Node-F.Number n unsigned) = node.rolls-Number n unsigned
 node_rolled (Node-F.Text bytes) = node.rolls-Text bytes
 node_rolled Node-F.Null = node.rolls-Null
@@ -66,7 +66,7 @@ node_rolled (Node-F.Tested t e l) = node.rolls-Tested t e l
 node_rolled (Node-F.Call n es) = node.rolls-Call n es
 node_rolled (Node-F.Calloc t e u) = node.rolls-Calloc t e u
 
-pub node_out : (d : NodeLayer) → out-Node Name Note (roll-Node Name Note d) ≡ d
+pub node_out : (d : NotedLayer) → out-Node Name Note (roll-Node Name Note d) ≡ d
 node_out d = search (rules, the_lemmas)
 
 pub limits_out : (d : LimitsLayer) → out-Limits Name Note (roll-Limits Name Note d) ≡ d
@@ -86,7 +86,7 @@ module _ (globals : Globals) (variables : List Variable) (mode : Mode) where
   abbrev pub bare_limits_layer : Limits-F Name Note FitLimits FitNode FitExpr → LimitsLayer
   bare_limits_layer = map-Limits Name Note FitLimits FitNode FitExpr NotedLimits NotedNode NotedExpr (λ e. e.0) (λ e. e.0) (λ e. e.0)
 
-  abbrev pub bare_node_layer : Node-F Name Note FitLimits FitNode FitExpr → NodeLayer
+  abbrev pub bare_node_layer : Node-F Name Note FitLimits FitNode FitExpr → NotedLayer
   bare_node_layer = map-Node Name Note FitLimits FitNode FitExpr NotedLimits NotedNode NotedExpr (λ e. e.0) (λ e. e.0) (λ e. e.0)
 
   -- bounds and nodes are well typed where their parts are

@@ -20,7 +20,7 @@ use Rattle.ckc_typed.specs.Operands.{unary_type, is_cast}
 use Rattle.ckc_typed.specs.Conversions.{is_null, converts}
 use Rattle.ckc_typed.specs.Expressions.{address_kind, has_address, in_row, unary_typed, cast_typed, is_no_allocation, allocation_typed, arguments_typed, result_typed, call_typed}
 use Rattle.ckc_welltyped.specs.Expressions.{unary_row, AreArguments, IsCall, IsAllocation}
-use Rattle.ckc_base.proofs.Outcomes.{ok_same, made_of, goes, kept_rule, keeps_rule, was_there, is_there, first_holds}
+use Rattle.ckc_base.proofs.Outcomes.{ok_same, made_of, goes, unbroken, kept_rule, keeps_rule, was_there, is_there, first_holds}
 
 -- an outcome is Ok of what a row of a table gives, and only then
 abbrev pub OkWhere : {A : Type 0} → Outcome A → Option A → Type 0
@@ -97,10 +97,6 @@ allocates false same counted e = absurd cc
 
 allocates_back : (object same counted : Bool) → object ≡ true → same ≡ true → counted ≡ true → (not object || (not same || not counted)) ≡ false
 allocates_back object same counted p q r = ap (λ b. not b || (not same || not counted)) p ∙ ap (λ b. not b || not counted) q ∙ ap not r
-
-unbroken : {A : Type 0} (broken : Bool) (code : ℕ) (at : Pos) (o : Outcome A) (b : A) → unless broken code at o ≡ Ok b → (broken ≡ false) × (o ≡ Ok b)
-unbroken true code at o b e = absurd cc
-unbroken false code at o b e = (refl, e)
 
 pub allocation_is : (t : CType) (e : NotedExpr) (u : CType) (at : Pos) → OkIf (allocation_typed t e u at) (IsAllocation t e u)
 allocation_is t e u at r = (

@@ -1,11 +1,10 @@
 -- Whole texts: what they become is well typed, and what is well typed is what it becomes without its notes.
-use Rattle.std.proofs.Common.{◌≡◌, ◌≤◌, ℕ, Bool, true, false, nat_lt, List, [], ◌∷◌, map, refl, sym, ap, subst, ◌∙◌, arith}
+use Rattle.std.proofs.Common.{◌≡◌, ◌≤◌, ℕ, false, nat_lt, List, [], ◌∷◌, map, refl, sym, ap, subst, ◌∙◌, arith}
 use Rattle.std.specs.Prelude.{Option, Ok, IfSome}
 use Rattle.std.specs.Option.{option_map}
 use Rattle.std.specs.List.{AllByRecursion}
 use Rattle.std.proofs.lemmas.Bool.Decides.{nat_tests}
 use Rattle.ckc_base.specs.Places.{start}
-use Rattle.ckc_base.specs.declared.places.Pos.{Pos}
 use Rattle.ckc_base.specs.declared.arithmetic.Mode.{Mode}
 use Rattle.ckc_base.specs.declared.arithmetic.Mode.TheVariants.{Unchecked}
 use Rattle.ckc_base.specs.Outcomes.{unless}
@@ -23,15 +22,17 @@ use Rattle.ckc_typed.specs.Expressions.{bounds_typed}
 use Rattle.ckc_typed.specs.Declarations.{bare_typed, bares_typed, static_typed}
 use Rattle.ckc_typed.specs.Statements.{stmt_typed}
 use Rattle.ckc_typed.specs.Layouts.{structs_of}
-use Rattle.ckc_typed.specs.Statics.{blocks, placed, end_of_blocks, FIRST_END, LAST_END}
-use Rattle.ckc_typed.specs.Texts.{is_result_type, head_mode, result_allowed, head_with, head_typed, item_typed, items_typed, pragma_after, globals_of, laid_out, text_typed, named_typed}
+use Rattle.ckc_base.specs.MemoryMap.{data_start, statics_end}
+use Rattle.ckc_typed.specs.Statics.{blocks, placed, end_of_blocks}
+use Rattle.ckc_typed.specs.Texts.{is_result_type, result_allowed, head_with, head_typed, item_typed, items_typed, globals_of, laid_out, text_typed, named_typed}
+use Rattle.ckc_typed.specs.Walk.{head_mode, pragma_after}
 use Rattle.ckc_welltyped.specs.Noteless.{bare_decl, bare_limits, bare_stmt, bare_head, bare_item, without_notes}
 use Rattle.ckc_welltyped.specs.Expressions.{WellTypedLimits}
 use Rattle.ckc_welltyped.specs.Declarations.{WellTypedBare}
 use Rattle.ckc_welltyped.specs.Statements.{WellTypedStmt}
-use Rattle.ckc_welltyped.specs.Texts.{mode_of_head, WellTypedHead, members_seen, WellTypedItem, WellTypedItems, WellTyped, TypedAs}
-use Rattle.ckc_base.proofs.Outcomes.{ok_same, made_of, goes, kept_rule, keeps_rule}
-use Rattle.ckc_welltyped.proofs.Decls.{each_made, each_back, bounds_give, bounds_back, bare_gives, bare_back, static_gives, static_back}
+use Rattle.ckc_welltyped.specs.Texts.{WellTypedHead, members_seen, WellTypedItem, WellTypedItems, WellTyped, TypedAs}
+use Rattle.ckc_base.proofs.Outcomes.{each_made, each_back, ok_same, made_of, goes, unbroken_is, kept_rule, keeps_rule}
+use Rattle.ckc_welltyped.proofs.Decls.{bounds_give, bounds_back, bare_gives, bare_back, static_gives, static_back}
 use Rattle.ckc_welltyped.proofs.TypedActs.{stmt_gives}
 use Rattle.ckc_welltyped.proofs.ActsBack.{stmt_back}
 
@@ -61,7 +62,7 @@ module _ (globals : Globals) (pragma : Mode) where
 
   head_back : (n : NotedHead) → WellTypedHead globals pragma n → head_typed globals pragma (bare_head n) ≡ Ok n
   head_back n w =
-      let vs = params_of (bare_head n) in let mode = mode_of_head pragma n in
+      let vs = params_of (bare_head n) in let mode = head_mode pragma n in
       goes (bares_typed globals vs mode (map bare_decl n.params)) _ n.params _ (each_back (bare_typed globals vs mode) bare_decl (WellTypedBare globals vs mode) (bare_back globals vs mode) n.params w.params)
       (goes (bounds_typed globals vs mode (option_map bare_limits n.bounds)) _ n.bounds _ (bounds_back globals vs mode n.bounds w.bounds)
       (goes (result_allowed (bare_head n)) _ tt _ (keeps_rule {A = Unit {0}} (is_result_type (type_written n.result)) bad_operands n.pos (Ok tt) tt w.result refl) refl))
@@ -106,8 +107,8 @@ module _ (globals : Globals) (pragma : Mode) where
   item_back (item.Proto h) w = goes (head_typed globals pragma (bare_head h)) _ h _ (head_back h w) refl
   item_back (item.Function h body) w =
       goes (head_typed globals pragma (bare_head h)) _ h _ (head_back h w.0)
-      (goes (stmt_typed globals (variables_of (bare_head h) (bare_stmt body)) (type_written h.result) (bare_stmt body) (mode_of_head pragma h) false) _ body _
-      (stmt_back globals (variables_of (bare_head h) (bare_stmt body)) (type_written h.result) body (mode_of_head pragma h) false w.1) refl)
+      (goes (stmt_typed globals (variables_of (bare_head h) (bare_stmt body)) (type_written h.result) (bare_stmt body) (head_mode pragma h) false) _ body _
+      (stmt_back globals (variables_of (bare_head h) (bare_stmt body)) (type_written h.result) body (head_mode pragma h) false w.1) refl)
 
 items_give : (globals : Globals) (pragma : Mode) (items : List Item) (ns : List NotedItem) → items_typed globals pragma items ≡ Ok ns → (map bare_item ns ≡ items) × WellTypedItems globals pragma ns
 items_give globals pragma [] ns e = subst (λ zs. (map bare_item zs ≡ []) × WellTypedItems globals pragma zs) (ok_same [] ns e) (refl, tt)
@@ -123,10 +124,6 @@ items_back globals pragma (n ∷ ns) w =
     goes (item_typed globals pragma (bare_item n)) _ n _ (item_back globals pragma n w.0)
     (goes (items_typed globals (pragma_after pragma (bare_item n)) (map bare_item ns)) _ ns _ (items_back globals (pragma_after pragma (bare_item n)) ns w.1) refl)
 
-unbroken : {A : Type 0} (broken : Bool) (code : ℕ) (at : Pos) (a b : A) → unless broken code at (Ok a) ≡ Ok b → (broken ≡ false) × (a ≡ b)
-unbroken true code at a b e = absurd cc
-unbroken false code at a b e = (refl, ok_same a b e)
-
 at_most : (a b : ℕ) → nat_lt a b ≡ false → b ≤ a
 at_most a b h = grind (arith, nat_tests)
 
@@ -140,7 +137,7 @@ pub gives : (t : NamedText) (p : Typed) → named_typed t ≡ Ok p → TypedAs t
 gives t p e =
     let a = made_of (items_typed (globals_of t.tree.items) Unchecked t.tree.items) _ p e in let g = items_give (globals_of t.tree.items) Unchecked t.tree.items a.0 a.1 in
     let b = made_of (laid_out (structs_of t.tree.items) a.0) _ p a.2 in
-    let k = unbroken (nat_lt LAST_END (end_of_blocks (structs_of t.tree.items) FIRST_END (blocks (structs_of t.tree.items) a.0))) late_statics start (placed (structs_of t.tree.items) FIRST_END (blocks (structs_of t.tree.items) a.0)) b.0 b.1 in
+    let k = unbroken_is (nat_lt statics_end (end_of_blocks (structs_of t.tree.items) data_start (blocks (structs_of t.tree.items) a.0))) late_statics start (placed (structs_of t.tree.items) data_start (blocks (structs_of t.tree.items) a.0)) b.0 b.1 in
     subst (TypedAs t) (ok_same _ p b.2) (record {
       tree = ap tree_with g.0;
       main = refl;
@@ -148,13 +145,13 @@ gives t p e =
         items = subst (λ is. WellTypedItems (globals_of is) Unchecked a.0) (sym g.0) g.1;
         layout = ap structs_of (sym g.0);
         statics = sym k.1;
-        ends = at_most LAST_END (end_of_blocks (structs_of t.tree.items) FIRST_END (blocks (structs_of t.tree.items) a.0)) k.0;
+        ends = at_most statics_end (end_of_blocks (structs_of t.tree.items) data_start (blocks (structs_of t.tree.items) a.0)) k.0;
       };
     })
 
-lies : (structs : Structs) (items : List NotedItem) (statics : List StaticObject) → statics ≡ placed structs FIRST_END (blocks structs items) → end_of_blocks structs FIRST_END (blocks structs items) ≤ LAST_END → laid_out structs items ≡ Ok statics
+lies : (structs : Structs) (items : List NotedItem) (statics : List StaticObject) → statics ≡ placed structs data_start (blocks structs items) → end_of_blocks structs data_start (blocks structs items) ≤ statics_end → laid_out structs items ≡ Ok statics
 lies structs items statics e h =
-    ap (λ b. unless b late_statics start (Ok (placed structs FIRST_END (blocks structs items)))) (not_more LAST_END (end_of_blocks structs FIRST_END (blocks structs items)) h) ∙ ap Ok (sym e)
+    ap (λ b. unless b late_statics start (Ok (placed structs data_start (blocks structs items)))) (not_more statics_end (end_of_blocks structs data_start (blocks structs items)) h) ∙ ap Ok (sym e)
 
 text_back : (p : Typed) → WellTyped p → text_typed (without_notes p.tree) p.main ≡ Ok p
 text_back p w =

@@ -19,14 +19,14 @@ use Rattle.ckc_typed.specs.declared.environment.Globals.{Globals}
 use Rattle.ckc_typed.specs.declared.environment.Variable.{Variable}
 use Rattle.ckc_typed.specs.declared.typed.Note.{Note}
 use Rattle.ckc_typed.specs.Codes.{bad_operands, bad_conversion}
-use Rattle.ckc_typed.specs.Trees.{Limits, Node, Expr, NotedLimits, NotedExpr}
+use Rattle.ckc_typed.specs.Trees.{Limits, Node, Expr, NotedLimits, NotedExpr, NotedLayer}
 use Rattle.ckc_typed.specs.Types.{type_written, is_void}
 use Rattle.ckc_typed.specs.Conversions.{is_null, is_tested, is_trusted, is_bounds_cast}
 use Rattle.ckc_typed.specs.Environment.{type_of_name}
 use Rattle.ckc_typed.specs.Operands.{binary_type, choice_type, index_type, dot_type, arrow_type, size_type}
 use Rattle.ckc_typed.specs.Expressions.{OfLimits, OfNode, OfExpr, noted, number_type, string_type, unary_typed, binary_typed, choice_typed, index_typed, dot_typed, arrow_typed, cast_typed, allocation_typed, tested_typed, trusted_typed, call_typed, limits_parts, node_parts, expr_parts, limits_typed, expr_typed}
 use Rattle.ckc_welltyped.specs.Noteless.{bare_limits, bare_node, bare_expr}
-use Rattle.ckc_welltyped.specs.Expressions.{NodeLayer, HasType, IsCall, WellTypedExpr, WellTypedLimits}
+use Rattle.ckc_welltyped.specs.Expressions.{HasType, IsCall, WellTypedExpr, WellTypedLimits}
 use Rattle.ckc_welltyped.proofs.Bares.{bared_limits, bared_node, bare_limits_is, bare_node_is, bare_expr_is}
 use Rattle.ckc_base.proofs.Outcomes.{ok_same, made_of, was_there}
 use Rattle.ckc_welltyped.proofs.Rows.{row_is, unary_is, two_rules, cast_is, allocation_is, call_is}
@@ -67,7 +67,7 @@ module _ (globals : Globals) (variables : List Variable) (mode : Mode) where
   abbrev NodeFits : Type 0
   NodeFits = Node-F Name Note FitL (FitNode globals variables mode) FitE
 
-  abbrev layer_of : NodeFits → NodeLayer
+  abbrev layer_of : NodeFits → NotedLayer
   layer_of = bare_node_layer globals variables mode
 
   -- what bounds and nodes become is made of well typed parts

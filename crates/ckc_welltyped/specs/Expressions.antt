@@ -16,7 +16,7 @@ use Rattle.ckc_typed.specs.declared.environment.Signature.{Signature}
 use Rattle.ckc_typed.specs.declared.environment.Variable.{Variable}
 use Rattle.ckc_typed.specs.declared.typed.Note.{Note}
 use Rattle.ckc_typed.specs.declared.typed.Range.TheVariants.{Missing}
-use Rattle.ckc_typed.specs.Trees.{NotedLimits, NotedNode, NotedExpr}
+use Rattle.ckc_typed.specs.Trees.{NotedLimits, NotedNode, NotedExpr, NotedLayer}
 use Rattle.ckc_typed.specs.Types.{type_written, is_integer, is_object_type, same_type}
 use Rattle.ckc_typed.specs.Environment.{type_of_name, signature_named}
 use Rattle.ckc_typed.specs.Operands.{unary_type, binary_type, choice_type, index_type, dot_type, arrow_type, is_cast, size_type}
@@ -44,12 +44,8 @@ pub record IsAllocation (element : CType) (count : NotedExpr) (written : CType) 
   pub counted : is_integer count.note.ctype ≡ true
   pub pointer : t ≡ ctype.Pointer kind.Arr element
 
--- one level of an expression, with its parts
-abbrev pub NodeLayer : Type 0
-NodeLayer = Node-F Name Note NotedLimits NotedNode NotedExpr
-
 -- The table, a row for each kind of expression: which have the type t. `NULL` has the type `_Ptr<void>`.
-abbrev pub HasType : Globals → List Variable → Mode → NodeLayer → CType → Type 0
+abbrev pub HasType : Globals → List Variable → Mode → NotedLayer → CType → Type 0
 HasType globals variables mode (Node-F.Number n unsigned) t = t ≡ number_type unsigned
 HasType globals variables mode (Node-F.Text bytes) t = t ≡ string_type mode
 HasType globals variables mode Node-F.Null t = t ≡ ctype.Pointer kind.One ctype.Void
@@ -77,7 +73,7 @@ pub record IsNoted (globals : Globals) (variables : List Variable) (mode : Mode)
 abbrev pub AnyLimits : Limits-F Name Note NotedLimits NotedNode NotedExpr → Type 0
 AnyLimits l = Unit {0}
 
-abbrev pub AnyNode : NodeLayer → Type 0
+abbrev pub AnyNode : NotedLayer → Type 0
 AnyNode n = Unit {0}
 
 -- An expression is well typed where it and each expression in it, however deep, has its row. So are bounds.

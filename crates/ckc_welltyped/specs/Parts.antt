@@ -11,8 +11,8 @@ use Rattle.ckc_syntax.specs.declared.tree.Act.{out-Act}
 use Rattle.ckc_typed.specs.declared.environment.Globals.{Globals}
 use Rattle.ckc_typed.specs.declared.environment.Variable.{Variable}
 use Rattle.ckc_typed.specs.declared.typed.Note.{Note}
-use Rattle.ckc_typed.specs.Trees.{NotedLimits, NotedNode, NotedExpr, NotedStmt}
-use Rattle.ckc_welltyped.specs.Expressions.{NodeLayer, IsNoted, WellTypedExpr, WellTypedLimits}
+use Rattle.ckc_typed.specs.Trees.{NotedLimits, NotedNode, NotedExpr, NotedStmt, NotedLayer}
+use Rattle.ckc_welltyped.specs.Expressions.{IsNoted, WellTypedExpr, WellTypedLimits}
 use Rattle.ckc_welltyped.specs.Statements.{act_rows, note_in, WellTypedStmt}
 
 abbrev pub LimitsLayer : Type 0
@@ -24,7 +24,7 @@ LimitsParts globals variables mode (Limits-F.ByteCount e at) = WellTypedExpr glo
 LimitsParts globals variables mode (Limits-F.Between e f at) = WellTypedExpr globals variables mode e × WellTypedExpr globals variables mode f
 LimitsParts globals variables mode (Limits-F.Unknown at) = Unit {0}
 
-abbrev pub NodeParts : Globals → List Variable → Mode → NodeLayer → Type 0
+abbrev pub NodeParts : Globals → List Variable → Mode → NotedLayer → Type 0
 NodeParts globals variables mode (Node-F.Number n unsigned) = Unit {0}
 NodeParts globals variables mode (Node-F.Text bytes) = Unit {0}
 NodeParts globals variables mode Node-F.Null = Unit {0}

@@ -1,7 +1,7 @@
 -- What the productions of the grammar give beside the types of trees (ISO C11, 6.5 to 6.9, with the choices of this
 -- language): where calls stand, what a call statement is, what a bundle holds, what begins and steps a `for`, and that a
 -- structure has a member.
-use Rattle.std.specs.Prelude.{Bool, true, false, ◌&&◌, ◌||◌, nat_le, length, Option, None, Some}
+use Rattle.std.specs.Prelude.{Bool, true, false, ◌&&◌, ◌||◌, nat_le, length, Option, None, Some, unwrap_or}
 use Rattle.std.specs.Option.{option_map}
 use Rattle.std.specs.List.{list_all}
 use Rattle.ckc_syntax.specs.declared.tree.Tree.{Tree}
@@ -16,10 +16,6 @@ use Rattle.ckc_syntax.specs.declared.tree.Node.{Node, Node-F, out-Node}
 use Rattle.ckc_syntax.specs.declared.tree.Expr.{Expr, Expr-F, fold-Expr}
 use Rattle.ckc_syntax.specs.declared.tree.Act.{Act-F}
 use Rattle.ckc_syntax.specs.declared.tree.Stmt.{Stmt, Stmt-F, fold-Stmt}
-
-abbrev pub held : Option Bool → Bool
-held None = true
-held (Some b) = b
 
 -- no call, anywhere in it
 abbrev pub limits_callless : {N A : Type 0} → Limits-F N A Bool Bool Bool → Bool
@@ -41,8 +37,8 @@ node_callless (Node-F.Dot e n at) = e
 node_callless (Node-F.Arrow e n at) = e
 node_callless (Node-F.Cast t e) = e
 node_callless (Node-F.Size t) = true
-node_callless (Node-F.Trusted t e l) = e && held l
-node_callless (Node-F.Tested t e l) = e && held l
+node_callless (Node-F.Trusted t e l) = e && unwrap_or l true
+node_callless (Node-F.Tested t e l) = e && unwrap_or l true
 node_callless (Node-F.Call n es) = false
 node_callless (Node-F.Calloc t e u) = false
 
@@ -56,10 +52,10 @@ abbrev pub callless_expr : {N A : Type 0} → Expr N A → Bool
 callless_expr {N} {A} = fold-Expr N A Bool Bool Bool limits_callless node_callless expr_callless
 
 abbrev pub callless_bounds : {N A : Type 0} → Option (Limits N A) → Bool
-callless_bounds l = held (option_map callless_limits l)
+callless_bounds l = unwrap_or (option_map callless_limits l) true
 
 abbrev pub callless_value : {N A : Type 0} → Option (Expr N A) → Bool
-callless_value e = held (option_map callless_expr e)
+callless_value e = unwrap_or (option_map callless_expr e) true
 
 -- a call, with no call in its arguments
 abbrev pub call_form : {N A : Type 0} → Node-F N A (Limits N A) (Node N A) (Expr N A) → Bool

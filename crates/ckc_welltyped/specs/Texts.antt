@@ -1,5 +1,5 @@
 -- Whole texts that are well typed. What a text declares is what its tree without the notes declares.
-use Rattle.std.specs.Prelude.{◌≡◌, ◌≤◌, true, false, List, [], ◌∷◌, map, unwrap_or, IfSome}
+use Rattle.std.specs.Prelude.{◌≡◌, ◌≤◌, true, false, List, [], ◌∷◌, map, IfSome}
 use Rattle.std.specs.List.{AllByRecursion}
 use Rattle.ckc_base.specs.declared.arithmetic.Mode.{Mode}
 use Rattle.ckc_base.specs.declared.arithmetic.Mode.TheVariants.{Unchecked}
@@ -12,26 +12,25 @@ use Rattle.ckc_typed.specs.Trees.{NotedItem, NotedHead, NotedDecl, NotedStmt}
 use Rattle.ckc_typed.specs.Types.{type_written}
 use Rattle.ckc_typed.specs.Environment.{params_of, variables_of, variable_declared}
 use Rattle.ckc_typed.specs.Layouts.{structs_of}
-use Rattle.ckc_typed.specs.Statics.{blocks, placed, end_of_blocks, FIRST_END, LAST_END}
-use Rattle.ckc_typed.specs.Texts.{is_result_type, globals_of, pragma_after}
+use Rattle.ckc_base.specs.MemoryMap.{data_start, statics_end}
+use Rattle.ckc_typed.specs.Statics.{blocks, placed, end_of_blocks}
+use Rattle.ckc_typed.specs.Texts.{is_result_type, globals_of}
+use Rattle.ckc_typed.specs.Walk.{head_mode, pragma_after}
 use Rattle.ckc_welltyped.specs.Noteless.{bare_decl, bare_stmt, bare_head, bare_item, without_notes}
 use Rattle.ckc_welltyped.specs.Expressions.{WellTypedLimits}
 use Rattle.ckc_welltyped.specs.Declarations.{WellTypedBare, WellTypedStatic}
 use Rattle.ckc_welltyped.specs.Statements.{WellTypedStmt}
 
-abbrev pub mode_of_head : Mode → NotedHead → Mode
-mode_of_head pragma h = unwrap_or h.mode pragma
-
 -- A head has its own mode, or that of the pragma before it. Its parameters are seen in its bounds. Its result is a scalar
 -- or `void`.
 pub record WellTypedHead (globals : Globals) (pragma : Mode) (h : NotedHead) : Type 0 where
-  pub params : AllByRecursion (WellTypedBare globals (params_of (bare_head h)) (mode_of_head pragma h)) h.params
-  pub bounds : IfSome h.bounds (WellTypedLimits globals (params_of (bare_head h)) (mode_of_head pragma h))
+  pub params : AllByRecursion (WellTypedBare globals (params_of (bare_head h)) (head_mode pragma h)) h.params
+  pub bounds : IfSome h.bounds (WellTypedLimits globals (params_of (bare_head h)) (head_mode pragma h))
   pub result : is_result_type (type_written h.result) ≡ true
 
 -- A body sees the parameters and the locals of its function, and stands in no loop.
 abbrev pub WellTypedBody : Globals → Mode → NotedHead → NotedStmt → Type 0
-WellTypedBody globals pragma h body = WellTypedStmt globals (variables_of (bare_head h) (bare_stmt body)) (type_written h.result) body (mode_of_head pragma h) false
+WellTypedBody globals pragma h body = WellTypedStmt globals (variables_of (bare_head h) (bare_stmt body)) (type_written h.result) body (head_mode pragma h) false
 
 abbrev pub members_seen : List NotedDecl → List Variable
 members_seen members = map variable_declared (map bare_decl members)
@@ -54,8 +53,8 @@ WellTypedItems globals pragma (i ∷ rest) = WellTypedItem globals pragma i × W
 pub record WellTyped (p : Typed) : Type 0 where
   pub items : WellTypedItems (globals_of (without_notes p.tree).items) Unchecked p.tree.items
   pub layout : p.layout ≡ structs_of (without_notes p.tree).items
-  pub statics : p.statics ≡ placed p.layout FIRST_END (blocks p.layout p.tree.items)
-  pub ends : end_of_blocks p.layout FIRST_END (blocks p.layout p.tree.items) ≤ LAST_END
+  pub statics : p.statics ≡ placed p.layout data_start (blocks p.layout p.tree.items)
+  pub ends : end_of_blocks p.layout data_start (blocks p.layout p.tree.items) ≤ statics_end
 
 -- A text has these types where it is the typed text without its notes, and that is well typed.
 pub record TypedAs (t : NamedText) (p : Typed) : Type 0 where

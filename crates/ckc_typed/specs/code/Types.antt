@@ -1,14 +1,10 @@
 -- Questions on kinds of pointers.
-use Rattle.std.specs.Prelude.{Bool, true, false, Option, None, Some}
+use Rattle.std.specs.Prelude.{Bool, Option, None, Some}
 use Rattle.ckc_types.specs.declared.types.Kind.{Kind}
 use Rattle.ckc_types.specs.declared.types.Kind.TheVariants as kind
 use Rattle.ckc_typed.specs.Types.{pointer_parts}
 
-abbrev pub is_terminated : Option Kind → Bool
-is_terminated (Some kind.Nt) = true
-is_terminated _ = false
-
--- the same of a type in a pointer, where there is one
+-- what is known of a type in a pointer, where there is one
 abbrev pub within : Option Kind → Option Bool → Option Bool
 within None integer = integer
 within (Some k) integer = pointer_parts k integer

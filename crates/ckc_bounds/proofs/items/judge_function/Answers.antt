@@ -1,7 +1,7 @@
 use Rattle.std.proofs.lemmas.Result.{err_from_is_err_and}
 use Rattle.ckc_bounds.specs.code.Declarations.{text_of}
 use Rattle.ckc_bounds.specs.Texts.{body_judged, function_judged}
-use Rattle.ckc_syntax.proofs.Turns.{stops}
+use Rattle.ckc_base.proofs.Ends.{stops}
 use Rattle.ckc_bounds.proofs.WholeFunctions.{function_fault, function_done}
 use Rattle.ckc_bounds.proofs.items.judge_function.Goals as goal
 

@@ -1,7 +1,7 @@
 use Rattle.std.proofs.Common.{◌≡◌}
 use Rattle.ckc_bounds.specs.code.Declarations.{text_of}
 use Rattle.ckc_bounds.specs.Texts.{item_judged, items_judged}
-use Rattle.ckc_syntax.proofs.Turns.{ahead, judged}
+use Rattle.ckc_base.proofs.Turns.{ahead, judged}
 use Rattle.ckc_bounds.proofs.items.judge_items.Given as goal
 
 abbrev pub invariant-loop-item : goal.invariant-loop-item

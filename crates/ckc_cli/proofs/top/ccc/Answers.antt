@@ -139,7 +139,12 @@ returns-clause-read_fault g c =
 pub returns-clause-write_fault : goal.returns-clause-write_fault
 returns-clause-write_fault g c =
     let l = by.leaf _ _ _ _ _ _ _ _ _ c.asked-status.ensures.cause in
-    λ e. by.write_fault_by _ _ _ _ _ _ _ _ _ l e
+    λ e. (by.write_fault_by _ _ _ _ _ _ _ _ _ l e).0
+
+pub returns-clause-cut_short : goal.returns-clause-cut_short
+returns-clause-cut_short g c =
+    let l = by.leaf _ _ _ _ _ _ _ _ _ c.asked-status.ensures.cause in
+    λ e. (by.write_fault_by _ _ _ _ _ _ _ _ _ l e).1
 
 pub returns-clause-store_fault : goal.returns-clause-store_fault
 returns-clause-store_fault g c =
@@ -151,10 +156,15 @@ returns-clause-steady g c =
     let l = by.leaf _ _ _ _ _ _ _ _ _ c.asked-status.ensures.cause in
     λ command bytes given t e. always.never_store_fault _ _ _ _ _ _ _ _ command bytes given (inr t) _ l e
 
-pub returns-clause-idle : goal.returns-clause-idle
-returns-clause-idle g c =
+pub returns-clause-idle_quietly : goal.returns-clause-idle_quietly
+returns-clause-idle_quietly g c =
     let l = by.leaf _ _ _ _ _ _ _ _ _ c.asked-status.ensures.cause in
-    λ n d m. by.idle_by _ _ _ _ _ _ _ _ _ l n d m
+    λ n d m. (by.idle_by _ _ _ _ _ _ _ _ _ l n d m).0
+
+pub returns-clause-idle_untaken : goal.returns-clause-idle_untaken
+returns-clause-idle_untaken g c =
+    let l = by.leaf _ _ _ _ _ _ _ _ _ c.asked-status.ensures.cause in
+    λ n d m. (by.idle_by _ _ _ _ _ _ _ _ _ l n d m).1
 
 pub returns-clause-files : goal.returns-clause-files
 returns-clause-files g c =

@@ -3,4 +3,4 @@ use Rattle.ckc_typed.specs.Environment.{variable_declared}
 use Rattle.ckc_environment.proofs.environment.variables_declared.Given as goal
 
 abbrev pub invariant-loop-d : goal.invariant-loop-d
-invariant-loop-d l = l.all ≡ map variable_declared (take l.d-index l.ds)
+invariant-loop-d g l = l.all ≡ map variable_declared (take l.d-index l.ds)

@@ -2,7 +2,7 @@ use Rattle.std.proofs.Common.{◌≡◌, map, drop}
 use Rattle.ckc_points.specs.Flow.{state}
 use Rattle.ckc_views.specs.Judged.{all_judged}
 use Rattle.ckc_views.specs.Views.{view}
-use Rattle.ckc_judged.proofs.Turns.{ahead}
+use Rattle.ckc_base.proofs.Turns.{ahead}
 use Rattle.ckc_judged.proofs.expressions.+judge_as.Given as goal
 
 -- what is judged, and what is left to be judged, is all

@@ -4,10 +4,10 @@ use Rattle.ckc_syntax.specs.declared.tree.Node.TheVariants as node
 use Rattle.ckc_resolve.specs.Types.{type_named}
 use Rattle.ckc_syntax.specs.declared.tree.Limits.{Limits-F}
 use Rattle.ckc_syntax.specs.declared.tree.Node.{Node-F}
-use Rattle.ckc_resolve.proofs.Ends.{halts}
+use Rattle.ckc_base.proofs.Ends.{halts}
 use Rattle.ckc_resolve.proofs.Parts.{limits_by, node_by, expr_by, trusted, tested}
 use Rattle.ckc_resolve.specs.Expressions.{limits_named, node_named, expr_named, exprs_named, bounds_named}
-use Rattle.ckc_syntax.proofs.Turns.{begin, turn_stops, turn_done, turn_end}
+use Rattle.ckc_base.proofs.Turns.{begin, turn_stops, turn_done, turn_end}
 use Rattle.ckc_resolve.proofs.expressions.+expr.Goals as goal
 
 pub named_exprs-loop-e-init : goal.named_exprs-loop-e-init

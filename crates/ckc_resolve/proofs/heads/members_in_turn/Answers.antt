@@ -1,5 +1,5 @@
 use Rattle.ckc_resolve.specs.Heads.{member_named, members_named}
-use Rattle.ckc_syntax.proofs.Sequels.{begin, turn_stops, turn_done, turn_end}
+use Rattle.ckc_base.proofs.Sequels.{begin, turn_stops, turn_done, turn_end}
 use Rattle.ckc_resolve.proofs.heads.members_in_turn.Goals as goal
 
 pub loop-decl-init : goal.loop-decl-init

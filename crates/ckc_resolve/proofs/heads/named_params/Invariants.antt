@@ -1,6 +1,6 @@
 use Rattle.std.proofs.Common.{◌≡◌}
 use Rattle.ckc_resolve.specs.Heads.{param_named, params_named}
-use Rattle.ckc_syntax.proofs.Sequels.{behind, left}
+use Rattle.ckc_base.proofs.Sequels.{behind, left}
 use Rattle.ckc_resolve.proofs.heads.named_params.Given as goal
 
 abbrev pub invariant-loop-decl : goal.invariant-loop-decl

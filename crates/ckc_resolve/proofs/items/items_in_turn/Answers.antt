@@ -1,5 +1,5 @@
 use Rattle.ckc_resolve.specs.Items.{item_in_turn, items_named}
-use Rattle.ckc_syntax.proofs.Sequels.{begin, turn_stops, turn_done, turn_end}
+use Rattle.ckc_base.proofs.Sequels.{begin, turn_stops, turn_done, turn_end}
 use Rattle.ckc_resolve.proofs.items.items_in_turn.Goals as goal
 
 pub loop-item-init : goal.loop-item-init

@@ -1,4 +1,4 @@
-use Rattle.ckc_resolve.proofs.Ends.{static_item}
+use Rattle.ckc_resolve.proofs.StaticItems.{static_item}
 use Rattle.ckc_resolve.proofs.items.named_item.Goals as goal
 
 pub returns-in-Static : goal.returns-in-Static

@@ -2,10 +2,10 @@ use Rattle.std.proofs.Common.{refl, sym, ap, ◌∙◌}
 use Rattle.ckc_syntax.specs.declared.tree.Act.{Act-F}
 use Rattle.ckc_syntax.specs.declared.tree.Act.TheVariants as act
 use Rattle.ckc_resolve.specs.Expressions.{expr_named, maybe_named}
-use Rattle.ckc_resolve.proofs.Ends.{part_halts, step_halts}
+use Rattle.ckc_base.proofs.Ends.{part_halts, step_halts}
 use Rattle.ckc_resolve.proofs.StatementParts.{act_by, stmt_by, if_by, for_by}
 use Rattle.ckc_resolve.specs.Statements.{act_named, stmt_named, stmts_named, part_named}
-use Rattle.ckc_syntax.proofs.Sequels.{begin, turn_stops, turn_done, turn_end}
+use Rattle.ckc_base.proofs.Sequels.{begin, turn_stops, turn_done, turn_end}
 use Rattle.ckc_resolve.proofs.statements.+stmt.Goals as goal
 
 pub named_stmts-loop-stmt-init : goal.named_stmts-loop-stmt-init

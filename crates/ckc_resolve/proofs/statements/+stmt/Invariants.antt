@@ -1,6 +1,6 @@
 use Rattle.std.proofs.Common.{◌≡◌}
 use Rattle.ckc_resolve.specs.Statements.{stmt_named, stmts_named}
-use Rattle.ckc_syntax.proofs.Sequels.{behind, left}
+use Rattle.ckc_base.proofs.Sequels.{behind, left}
 use Rattle.ckc_resolve.proofs.statements.+stmt.Given as goal
 
 abbrev pub invariant-named_stmts-loop-stmt : goal.invariant-named_stmts-loop-stmt

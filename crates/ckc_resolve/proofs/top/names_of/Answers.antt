@@ -1,7 +1,7 @@
 use Rattle.std.specs.Prelude.{Ok}
 use Rattle.std.proofs.lemmas.Result.{err_from_is_err_and}
 use Rattle.ckc_resolve.specs.Scoping.{names_of}
-use Rattle.ckc_syntax.proofs.Turns.{stops}
+use Rattle.ckc_base.proofs.Ends.{stops}
 use Rattle.ckc_resolve.proofs.top.names_of.Goals as goal
 
 pub returns-in_err-note : goal.returns-in_err-note

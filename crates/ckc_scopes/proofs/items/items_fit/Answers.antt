@@ -12,5 +12,5 @@ returns-in_err-item_fits c =
 pub loop-item-preserved : goal.loop-item-preserved
 loop-item-preserved c =
     let items = c.args.items.now in
-    items_go items items (spots_of_items Unchecked items) c.loop-item.pragma c.loop-item.item-index c.item-item.result c.item_fits.result c.mode_after-pragma.result
-    c.loop-item-test.true c.item-item.is c.loop-item.invariant c.in_ok-item_fits.was c.item_fits.ensures c.mode_after-pragma.ensures
+    items_go items items (spots_of_items Unchecked items) c.loop-item.pragma c.loop-item.item-index c.item-item.result c.item_fits.result c.pragma_after-pragma.result
+    c.loop-item-test.true c.item-item.is c.loop-item.invariant c.in_ok-item_fits.was c.item_fits.ensures c.pragma_after-pragma.ensures

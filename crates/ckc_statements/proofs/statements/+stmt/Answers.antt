@@ -4,8 +4,8 @@ use Rattle.ckc_base.specs.Outcomes.{Outcome, in_turn}
 use Rattle.ckc_typed.specs.Trees.{NotedStmt}
 use Rattle.ckc_statements.specs.Paths.{Here, Path, path, all_judged}
 use Rattle.ckc_statements.specs.Walks.{here}
-use Rattle.ckc_syntax.proofs.Sequels.{begin, stops, turn_fault, turn_done, turn_end}
-use Rattle.ckc_statements.proofs.Mapped.{turned_by}
+use Rattle.ckc_base.proofs.Ends.{step_stops}
+use Rattle.ckc_base.proofs.Sequels.{begin, turn_fault, turn_done, turn_end, turned_by}
 use Rattle.ckc_statements.proofs.Blocks.{block_goes, block_stops}
 use Rattle.ckc_statements.proofs.statements.+stmt.Goals as goal
 
@@ -20,7 +20,7 @@ pub judge_stmts-returns-in_err-judged : goal.judge_stmts-returns-in_err-judged
 judge_stmts-returns-in_err-judged t c =
     let f : NotedStmt → Here → Outcome (NotedStmt × Here) = λ s. (path s).judged c.args.frame.now c.args.head.now in
     let p = err_from_is_err_and c.from_residual.result c.from_residual.ensures.1 in
-    stops (f c.s-item.result (here c.loop-s.walk)) _ (all_judged c.args.frame.now c.args.head.now (map path c.args.ss.now) (here c.args.walk.now)) _ c.from_residual.result p.0 c.in_err-judged.field-0.0 p.1 p.2 c.in_err-judged.ensures
+    step_stops (f c.s-item.result (here c.loop-s.walk)) _ (all_judged c.args.frame.now c.args.head.now (map path c.args.ss.now) (here c.args.walk.now)) _ c.from_residual.result p.0 c.in_err-judged.field-0.0 p.1 p.2 c.in_err-judged.ensures
     (turn_fault f c.args.ss.now c.loop-s.s-index (here c.loop-s.walk) _ _ c.loop-s.invariant c.s-item.result c.loop-s-test.true c.s-item.is)
 
 pub judge_stmts-loop-s-preserved : goal.judge_stmts-loop-s-preserved

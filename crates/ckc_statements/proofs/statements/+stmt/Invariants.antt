@@ -1,7 +1,7 @@
 use Rattle.std.proofs.Common.{◌≡◌, map}
 use Rattle.ckc_statements.specs.Paths.{all_judged, path}
 use Rattle.ckc_statements.specs.Walks.{here}
-use Rattle.ckc_syntax.proofs.Sequels.{behind, left}
+use Rattle.ckc_base.proofs.Sequels.{behind, left}
 use Rattle.ckc_statements.proofs.statements.+stmt.Given as goal
 
 abbrev pub invariant-judge_stmts-loop-s : goal.invariant-judge_stmts-loop-s

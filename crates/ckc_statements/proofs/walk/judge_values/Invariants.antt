@@ -1,7 +1,7 @@
 use Rattle.std.proofs.Common.{◌≡◌}
 use Rattle.ckc_statements.specs.Paths.{value_judged, values_judged}
 use Rattle.ckc_statements.specs.Walks.{here}
-use Rattle.ckc_syntax.proofs.Sequels.{behind, left}
+use Rattle.ckc_base.proofs.Sequels.{behind, left}
 use Rattle.ckc_statements.proofs.walk.judge_values.Given as goal
 
 abbrev pub invariant-loop-e : goal.invariant-loop-e

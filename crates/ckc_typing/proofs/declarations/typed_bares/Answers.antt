@@ -1,6 +1,7 @@
 use Rattle.std.proofs.lemmas.Result.{err_from_is_err_and}
 use Rattle.ckc_typed.specs.Declarations.{bare_typed, bares_typed}
-use Rattle.ckc_syntax.proofs.Turns.{begin, stops, turn_fault, turn_done, turn_end}
+use Rattle.ckc_base.proofs.Ends.{stops}
+use Rattle.ckc_base.proofs.Turns.{begin, turn_fault, turn_done, turn_end}
 use Rattle.ckc_typing.proofs.declarations.typed_bares.Goals as goal
 
 pub loop-d-init : goal.loop-d-init

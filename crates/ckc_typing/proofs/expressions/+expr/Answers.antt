@@ -4,7 +4,8 @@ use Rattle.ckc_base.specs.Outcomes.{bind}
 use Rattle.ckc_typed.specs.Expressions.{expr_typed, exprs_typed, node_typed}
 use Rattle.ckc_base.specs.Outcomes.{AnswersOutcome}
 use Rattle.ckc_typing.proofs.Nodes.{number_is, calloc_is, allocated}
-use Rattle.ckc_syntax.proofs.Turns.{begin, stops, turn_fault, turn_done, turn_end}
+use Rattle.ckc_base.proofs.Ends.{stops}
+use Rattle.ckc_base.proofs.Turns.{begin, turn_fault, turn_done, turn_end}
 use Rattle.ckc_typing.proofs.expressions.+expr.Goals as goal
 
 pub typed_exprs-loop-e-init : goal.typed_exprs-loop-e-init

@@ -1,6 +1,6 @@
 use Rattle.std.proofs.Common.{◌≡◌}
 use Rattle.ckc_typed.specs.Expressions.{expr_typed, exprs_typed}
-use Rattle.ckc_syntax.proofs.Turns.{ahead, judged}
+use Rattle.ckc_base.proofs.Turns.{ahead, judged}
 use Rattle.ckc_typing.proofs.expressions.+expr.Given as goal
 
 abbrev pub invariant-typed_exprs-loop-e : goal.invariant-typed_exprs-loop-e

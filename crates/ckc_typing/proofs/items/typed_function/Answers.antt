@@ -10,8 +10,9 @@ use Rattle.ckc_typed.specs.Trees.{Head, Stmt, NotedHead, NotedStmt, NotedItem}
 use Rattle.ckc_typed.specs.Types.{type_written}
 use Rattle.ckc_typed.specs.Environment.{variables_of}
 use Rattle.ckc_typed.specs.Statements.{stmt_typed}
-use Rattle.ckc_typed.specs.Texts.{head_mode, head_typed, function_typed}
-use Rattle.ckc_typing.proofs.Chains.{fails, goes}
+use Rattle.ckc_typed.specs.Texts.{head_typed, function_typed}
+use Rattle.ckc_typed.specs.Walk.{head_mode}
+use Rattle.ckc_base.proofs.Chains.{fails, goes}
 use Rattle.ckc_typing.proofs.items.typed_function.Goals as goal
 
 -- the body, after the head

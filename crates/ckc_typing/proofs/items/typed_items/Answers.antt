@@ -1,7 +1,8 @@
 use Rattle.std.proofs.lemmas.Result.{err_from_is_err_and}
 use Rattle.ckc_base.specs.declared.arithmetic.Mode.TheVariants as mode
 use Rattle.ckc_typed.specs.Texts.{item_typed, items_typed}
-use Rattle.ckc_syntax.proofs.Turns.{begin, stops}
+use Rattle.ckc_base.proofs.Ends.{stops}
+use Rattle.ckc_base.proofs.Turns.{begin}
 use Rattle.ckc_typing.proofs.ItemTurns.{item_fault, item_done, items_end}
 use Rattle.ckc_typing.proofs.items.typed_items.Goals as goal
 

@@ -1,7 +1,7 @@
 use Rattle.std.proofs.Common.{◌≡◌, drop}
 use Rattle.ckc_base.specs.declared.arithmetic.Mode.TheVariants as mode
 use Rattle.ckc_typed.specs.Texts.{items_typed}
-use Rattle.ckc_syntax.proofs.Turns.{ahead}
+use Rattle.ckc_base.proofs.Turns.{ahead}
 use Rattle.ckc_typing.proofs.items.typed_items.Given as goal
 
 abbrev pub invariant-loop-item : goal.invariant-loop-item

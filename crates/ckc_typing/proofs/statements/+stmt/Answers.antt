@@ -5,10 +5,11 @@ use Rattle.ckc_typed.specs.Trees.{Stmt, NotedStmt}
 use Rattle.ckc_typed.specs.Expressions.{value_typed}
 use Rattle.ckc_typed.specs.Declarations.{local_typed}
 use Rattle.ckc_typed.specs.Statements.{act_typed, stmt_typed, all_in}
-use Rattle.ckc_typing.proofs.Chains.{fails, goes, ends}
+use Rattle.ckc_base.proofs.Chains.{fails, goes, ends}
 use Rattle.ckc_typing.proofs.Acts.{same_expr, assigned, assign_is, call_is, check_is, declared, for_is, if_is, local_is, while_is}
 use Rattle.ckc_typing.proofs.Scopes.{in_scope}
-use Rattle.ckc_syntax.proofs.Turns.{begin, stops, turn_fault, turn_done, turn_end}
+use Rattle.ckc_base.proofs.Ends.{stops}
+use Rattle.ckc_base.proofs.Turns.{begin, turn_fault, turn_done, turn_end}
 use Rattle.ckc_typing.proofs.statements.+stmt.Goals as goal
 
 pub typed_stmts-loop-s-init : goal.typed_stmts-loop-s-init

@@ -1,6 +1,6 @@
 use Rattle.std.proofs.Common.{◌≡◌, map}
 use Rattle.ckc_typed.specs.Statements.{stmt_typed, all_in}
-use Rattle.ckc_syntax.proofs.Turns.{ahead, judged}
+use Rattle.ckc_base.proofs.Turns.{ahead, judged}
 use Rattle.ckc_typing.proofs.statements.+stmt.Given as goal
 
 abbrev pub invariant-typed_stmts-loop-s : goal.invariant-typed_stmts-loop-s

@@ -9,7 +9,7 @@ use Rattle.ckc_base.specs.Outcomes.{Outcome, bind}
 use Rattle.ckc_typed.specs.Trees.{Tree, Item, NotedItem}
 use Rattle.ckc_typed.specs.Layouts.{structs_of}
 use Rattle.ckc_typed.specs.Texts.{globals_of, items_typed, laid_out, text_typed}
-use Rattle.ckc_typing.proofs.Chains.{fails, goes}
+use Rattle.ckc_base.proofs.Chains.{fails, goes}
 use Rattle.ckc_typing.proofs.text.typed_text.Goals as goal
 
 abbrev made : Structs → ℕ → List NotedItem → List StaticObject → Outcome Typed

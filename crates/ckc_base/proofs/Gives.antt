@@ -2,8 +2,7 @@
 use Rattle.std.proofs.Common.{◌≡◌, ℕ, subst, refl, Bool, true, false, if◌then◌else◌}
 use Rattle.std.specs.Prelude.{Ok, Err, Option, Some, None}
 use Rattle.ckc_base.specs.declared.places.Pos.{Pos}
-use Rattle.ckc_base.specs.Outcomes.{Outcome, bind, refused, there_or}
-use Rattle.ckc_resolve.specs.Declarations.{unless_taken}
+use Rattle.ckc_base.specs.Outcomes.{Outcome, bind, refused, there_or, unless}
 
 abbrev pub Gives : {A : Type 0} → (A → Type 0) → Outcome A → Type 0
 Gives P (Ok a) = P a
@@ -22,9 +21,10 @@ pub through : {A B C : Type 0} (P : A → Type 0) (Q : B → Type 0) (o : Outcom
 through P Q (Ok a) wrap f h k = k a h
 through P Q (Err r) wrap f h k = tt
 
-pub not_taken : {A : Type 0} (P : A → Type 0) (b : Bool) (pos : Pos) (a : A) → (b ≡ false → P a) → Gives P (unless_taken b pos a)
-not_taken P true pos a h = tt
-not_taken P false pos a h = h refl
+-- what is made where nothing is broken
+pub where_unbroken : {A : Type 0} (P : A → Type 0) (broken : Bool) (code : ℕ) (pos : Pos) (a : A) → (broken ≡ false → P a) → Gives P (unless broken code pos (Ok a))
+where_unbroken P true code pos a h = tt
+where_unbroken P false code pos a h = h refl
 
 -- what is made where a test passes
 pub where_true : {A : Type 0} (P : A → Type 0) (b : Bool) (code : ℕ) (pos : Pos) (a : A) → (b ≡ true → P a) → Gives P (if b then Ok a else refused code pos)

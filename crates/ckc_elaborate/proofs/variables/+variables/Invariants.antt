@@ -1,7 +1,0 @@
-use Rattle.std.proofs.Common.{◌≡◌, ◌++◌, map, drop}
-use Rattle.ckc_typed.specs.Environment.{joined_variables, locals_of}
-use Rattle.ckc_elaborate.proofs.variables.+variables.Given as goal
-
--- with the locals of the statements that are left, the locals so far are all of them
-abbrev pub invariant-add_stmts-loop-s : goal.invariant-add_stmts-loop-s
-invariant-add_stmts-loop-s l = l.initial.all ++ joined_variables (map locals_of l.ss) ≡ l.all ++ joined_variables (map locals_of (drop l.s-index l.ss))
