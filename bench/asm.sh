@@ -2,12 +2,12 @@
 # How fast assembly is read and listed: texts of 131,072 and 262,144 bytes, each read 100 times, and images of 2 MiB and
 # 4 MiB of code, each listed once. The times are to grow as the sizes do.
 . "$(dirname "$0")/workspace.sh"
-program asm_times ckc_asm ckc_image ckc_listing ckc_outside > "$work/told" <<'PROGRAM'
+program asm_times ckc_asm ckc_image ckc_asm_listing ckc_outside > "$work/told" <<'PROGRAM'
 #![tactic(auto)]
 
 use ckc_asm::read_asm;
 use ckc_image::View;
-use ckc_listing::list;
+use ckc_asm_listing::list;
 use ckc_outside::MemSink;
 use std::io;
 use std::time::Instant;

@@ -11,7 +11,7 @@ use Rattle.ckc_asm.specs.declared.items.Form.{Form}
 use Rattle.ckc_asm.specs.declared.items.Form.TheVariants as form
 use Rattle.ckc_asm.specs.declared.items.Operand.{Operand}
 use Rattle.ckc_asm.specs.declared.items.Operand.TheVariants.{Nothing, Number, Named}
-use Rattle.ckc_lines.specs.Assembled.{distance, AreParts}
+use Rattle.ckc_asm_lines.specs.Assembled.{distance, AreParts}
 use Rattle.ckc_asm.specs.Cut.{Word, cut, lines_of}
 use Rattle.ckc_asm.specs.Items.{Statement}
 use Rattle.ckc_asm.specs.code.Found.{reading}
@@ -23,8 +23,8 @@ use Rattle.ckc_asm.specs.Faults.{place_of, HasEntry, IsFirst, NoneHas, HasNoForm
 use Rattle.ckc_asm.specs.code.Outcome.{AreFaults}
 use Rattle.ckc_asm.proofs.Grammatical.{reading_found, reading_made, lines_made}
 use Rattle.ckc_asm.proofs.Shaped.{named_shape}
-use Rattle.ckc_lines.proofs.Cases.{order}
-use Rattle.ckc_lines.proofs.WholePieces.{pieces_once}
+use Rattle.ckc_asm_lines.proofs.Cases.{order}
+use Rattle.ckc_asm_lines.proofs.WholePieces.{pieces_once}
 
 -- ---- lists
 

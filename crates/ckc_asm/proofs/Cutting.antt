@@ -4,7 +4,7 @@ use Rattle.std.specs.List.{prefix_len}
 use Rattle.std.proofs.lemmas.List.{append-nil, drop_all, drop-drop}
 use Rattle.ckc_asm.specs.Cut.{Word, cut, is_blank, is_mark, is_hash, is_word_byte, onto_word, new_word}
 use Rattle.ckc_asm.proofs.Words.{cut_first}
-use Rattle.ckc_lines.proofs.Cases.{bool_cases}
+use Rattle.ckc_asm_lines.proofs.Cases.{bool_cases}
 
 -- the word at a column
 abbrev pub word : ℕ → List ℕ → Word

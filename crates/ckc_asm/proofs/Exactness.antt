@@ -11,7 +11,7 @@ use Rattle.ckc_image.specs.Image.{EntryFits, word_bytes}
 use Rattle.ckc_rv.specs.Machine.{Parts}
 use Rattle.ckc_asm.specs.declared.items.Operand.{Operand}
 use Rattle.ckc_asm.specs.declared.items.Operand.TheVariants.{Nothing, Number, Named}
-use Rattle.ckc_lines.specs.Assembled.{distance}
+use Rattle.ckc_asm_lines.specs.Assembled.{distance}
 use Rattle.ckc_asm.specs.Cut.{cut, lines_of}
 use Rattle.ckc_asm.specs.Items.{Statement}
 use Rattle.ckc_asm.specs.code.Found.{reading}

@@ -29,7 +29,7 @@ use Rattle.ckc_asm.specs.code.Outcome.{IfRefused}
 use Rattle.ckc_asm.proofs.Grammatical.{lines_found, first_no_form, none_no_form}
 use Rattle.ckc_asm.specs.code.Reading.{IsUnread, IsFormFault, AreRead, IsWhole, IsNoProgram, readings_in}
 use Rattle.ckc_asm.proofs.LabelsBelow.{rows_size}
-use Rattle.ckc_lines.proofs.Cases.{bool_cases, order}
+use Rattle.ckc_asm_lines.proofs.Cases.{bool_cases, order}
 
 pub refused_weaker : (e : Fault) (P Q : ℕ → Pos → Type 0) → ((code : ℕ) (place : Pos) → P code place → Q code place) → IfRefused e P → IfRefused e Q
 refused_weaker (fault.Refused r) P Q f h = f r.code r.pos h

@@ -1,15 +1,15 @@
 -- The names of the instructions, each with its kind.
 use Rattle.std.proofs.Common.{◌≡◌, Some, refl, arith}
-use Rattle.ckc_operations.specs.declared.operations.BranchOp.{BranchOp}
-use Rattle.ckc_operations.specs.declared.operations.BranchOp.TheVariants.{Beq}
-use Rattle.ckc_operations.specs.declared.operations.LoadOp.{LoadOp}
-use Rattle.ckc_operations.specs.declared.operations.LoadOp.TheVariants.{Lb}
-use Rattle.ckc_operations.specs.declared.operations.StoreOp.{StoreOp}
-use Rattle.ckc_operations.specs.declared.operations.StoreOp.TheVariants.{Sb}
-use Rattle.ckc_operations.specs.declared.operations.ImmOp.{ImmOp}
-use Rattle.ckc_operations.specs.declared.operations.ImmOp.TheVariants.{Addi}
-use Rattle.ckc_operations.specs.declared.operations.RegOp.{RegOp}
-use Rattle.ckc_operations.specs.declared.operations.RegOp.TheVariants.{Add}
+use Rattle.ckc_rv_operations.specs.declared.operations.BranchOp.{BranchOp}
+use Rattle.ckc_rv_operations.specs.declared.operations.BranchOp.TheVariants.{Beq}
+use Rattle.ckc_rv_operations.specs.declared.operations.LoadOp.{LoadOp}
+use Rattle.ckc_rv_operations.specs.declared.operations.LoadOp.TheVariants.{Lb}
+use Rattle.ckc_rv_operations.specs.declared.operations.StoreOp.{StoreOp}
+use Rattle.ckc_rv_operations.specs.declared.operations.StoreOp.TheVariants.{Sb}
+use Rattle.ckc_rv_operations.specs.declared.operations.ImmOp.{ImmOp}
+use Rattle.ckc_rv_operations.specs.declared.operations.ImmOp.TheVariants.{Addi}
+use Rattle.ckc_rv_operations.specs.declared.operations.RegOp.{RegOp}
+use Rattle.ckc_rv_operations.specs.declared.operations.RegOp.TheVariants.{Add}
 use Rattle.ckc_asm.specs.declared.items.Kind.TheVariants as kind
 use Rattle.ckc_asm.specs.Names.{branch_name, load_name, store_name, imm_name, reg_name}
 use Rattle.ckc_asm.specs.code.Found.{kind_of}

@@ -12,7 +12,7 @@ use Rattle.ckc_asm.specs.declared.items.Form.{Form}
 use Rattle.ckc_asm.specs.declared.items.Form.TheVariants as form
 use Rattle.ckc_asm.specs.declared.items.Operand.{Operand}
 use Rattle.ckc_asm.specs.declared.items.Operand.TheVariants.{Nothing, Number, Named}
-use Rattle.ckc_lines.specs.Assembled.{distance}
+use Rattle.ckc_asm_lines.specs.Assembled.{distance}
 use Rattle.ckc_asm.specs.Items.{Statement}
 use Rattle.ckc_asm.specs.Program.{size_of, offset_of, address_of, IsLabelAt, IsWordOf, IsValue, IsBytes, no_place, of_word, data_bytes, IsEntry, IsEntryOf, Enters, bytes_at}
 use Rattle.ckc_asm.specs.Program as program
@@ -20,7 +20,7 @@ use Rattle.ckc_asm.specs.Faults.{IsFirst, NoneHas, NamesNothing, HasNoWord, IsAt
 use Rattle.ckc_asm.specs.code.Outcome.{IfRefused}
 use Rattle.ckc_asm.specs.code.Reading.{IsExact, IsWhole, ValueIs, EntryIs, StandsFor, LacksWord}
 use Rattle.ckc_asm.proofs.LabelsBelow.{offset_more}
-use Rattle.ckc_lines.proofs.Cases.{last_or_before}
+use Rattle.ckc_asm_lines.proofs.Cases.{last_or_before}
 
 none_or_some : (o : Option ℕ) → (o ≡ None) ⊎ ((a : ℕ) × (o ≡ Some a))
 none_or_some None = inl refl

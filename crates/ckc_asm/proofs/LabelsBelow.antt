@@ -19,7 +19,7 @@ use Rattle.ckc_asm.specs.Faults.{IsFirst, NoneHas, HasOldLabel, IsAt, IsLabel}
 use Rattle.ckc_asm.specs.code.Outcome.{IfRefused}
 use Rattle.ckc_asm.specs.code.Reading.{IsExact}
 use Rattle.ckc_asm.specs.code.Rows.{word_of, statement_in, statements_in}
-use Rattle.ckc_lines.proofs.Cases.{bool_cases, last_or_before}
+use Rattle.ckc_asm_lines.proofs.Cases.{bool_cases, last_or_before}
 
 -- ---- places
 

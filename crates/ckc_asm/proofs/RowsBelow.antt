@@ -14,7 +14,7 @@ use Rattle.ckc_asm.specs.code.Outcome.{IfRefused}
 use Rattle.ckc_asm.specs.Program.{IsEntry}
 use Rattle.ckc_asm.specs.Faults.{IsFirst}
 use Rattle.ckc_asm.specs.code.Reading.{ReadsEntry, IsUnread, HasTarget, HaveTargets, AreRead, IsRefusedLine, IsFormFault, readings_in}
-use Rattle.ckc_lines.proofs.Cases.{bool_cases, last_or_before}
+use Rattle.ckc_asm_lines.proofs.Cases.{bool_cases, last_or_before}
 
 -- the first k lines have these statements; whether one is `.entry`
 pub record AreRowsBelow (lines : List (Option Statement)) (k : ℕ) (entered : Bool) (statements : List Statement) : Type 0 where

@@ -9,7 +9,7 @@ use Rattle.ckc_asm.specs.declared.items.Form.{Form}
 use Rattle.ckc_asm.specs.declared.items.Form.TheVariants as form
 use Rattle.ckc_asm.specs.declared.items.Operand.{Operand}
 use Rattle.ckc_asm.specs.declared.items.Operand.TheVariants.{Nothing, Number, Named}
-use Rattle.ckc_lines.specs.Assembled.{distance}
+use Rattle.ckc_asm_lines.specs.Assembled.{distance}
 use Rattle.ckc_asm.specs.Cut.{Word, lines_of}
 use Rattle.ckc_asm.specs.Items.{Statement}
 use Rattle.ckc_asm.specs.Grammar.{HaveStatements}

@@ -10,9 +10,9 @@ ghost use Rattle.ckc_assign.specs.code.InSlots.{placed_function, placed_program}
 
 use crate::copies::copy_of;
 use crate::places::rows_of;
+use ckc_assign_slots::slots_of;
 use ckc_base::Seq;
 use ckc_frame::{Placed, PlacedFunc};
-use ckc_slots::slots_of;
 use ckc_tac::{Tac, TacFunc};
 use std::alloc::{AllocError, Global};
 

@@ -5,20 +5,20 @@ use Rattle.ckc_base.specs.declared.places.Refusal.{Refusal}
 use Rattle.ckc_base.specs.Outcomes.{Outcome}
 use Rattle.ckc_syntax.specs.declared.tree.Item.TheVariants as item
 use Rattle.ckc_syntax.specs.declared.tree.Length.TheVariants as lengths
-use Rattle.ckc_declared.specs.declared.limits.Holder.TheVariants as holder
+use Rattle.ckc_bounds_declared.specs.declared.limits.Holder.TheVariants as holder
 use Rattle.ckc_typed.specs.Types.{type_written}
 use Rattle.ckc_typed.specs.declared.typed.Typed.{Typed}
 use Rattle.ckc_typed.specs.Trees.{NotedDecl, NotedExpr, NotedHead, NotedItem, NotedStmt}
-use Rattle.ckc_points.specs.declared.frame.HeadBounds.{HeadBounds}
-use Rattle.ckc_points.specs.declared.frame.Frame.{Frame}
-use Rattle.ckc_statements.specs.DeclBounds.{decl_bounds, bounds_there}
+use Rattle.ckc_bounds_points.specs.declared.frame.HeadBounds.{HeadBounds}
+use Rattle.ckc_bounds_points.specs.declared.frame.Frame.{Frame}
+use Rattle.ckc_bounds_statements.specs.DeclBounds.{decl_bounds, bounds_there}
 use Rattle.ckc_bounds.specs.Declarations.{each, head_judged, member_holder, types_in, head_bounds}
-use Rattle.ckc_statements.specs.Paths.{Here, value_judged, behind_stores}
+use Rattle.ckc_bounds_statements.specs.Paths.{Here, value_judged, behind_stores}
 use Rattle.ckc_bounds.specs.Frames.{text_frame, function_frame, begin_of}
 use Rattle.ckc_bounds.specs.Texts.{outside, object_judged, body_judged, item_judged, text_judged}
 use Rattle.ckc_bounds.specs.Phase.{bounding}
-use Rattle.ckc_statements.specs.Codes.{IsBoundsCode}
-use Rattle.ckc_statements.proofs.Coded.{HasCode, declared_coded, decl_coded, there_bounds_coded, init_coded, stmt_coded}
+use Rattle.ckc_bounds_statements.specs.Codes.{IsBoundsCode}
+use Rattle.ckc_bounds_statements.proofs.Coded.{HasCode, declared_coded, decl_coded, there_bounds_coded, init_coded, stmt_coded}
 
 each_coded : {X A : Type 0} (f : X → Outcome A) → ((x : X) → HasCode (f x)) → (xs : List X) → HasCode (each (map f xs))
 each_coded f h [] = tt

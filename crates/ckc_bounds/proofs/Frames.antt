@@ -1,8 +1,8 @@
 -- Frames whose locals are put in.
 use Rattle.std.proofs.Common.{◌≡◌, ◌∙◌, ℕ, zero, suc, ◌<◌, ◌≤◌, List, [], ◌∷◌, length, refl, ap, sym, subst, arith}
 use Rattle.std.proofs.Math.Bridge.{le_prop}
-use Rattle.ckc_points.specs.declared.frame.Local.{Local}
-use Rattle.ckc_points.specs.declared.frame.Frame.{Frame}
+use Rattle.ckc_bounds_points.specs.declared.frame.Local.{Local}
+use Rattle.ckc_bounds_points.specs.declared.frame.Frame.{Frame}
 use Rattle.ckc_bounds.specs.Declarations.{first_of, few_of, few_of_few, with_locals}
 
 first_is_all : (n : ℕ) (ls : List Local) → length ls ≤ n → first_of n ls ≡ ls

@@ -6,8 +6,8 @@ use Rattle.std.proofs.lemmas.List.{drop_all}
 use Rattle.ckc_base.specs.declared.places.Refusal.{Refusal}
 use Rattle.ckc_base.specs.Outcomes.{Outcome, bind}
 use Rattle.ckc_typed.specs.Trees.{NotedDecl}
-use Rattle.ckc_points.specs.declared.frame.Local.{Local}
-use Rattle.ckc_points.specs.declared.frame.Frame.{Frame}
+use Rattle.ckc_bounds_points.specs.declared.frame.Local.{Local}
+use Rattle.ckc_bounds_points.specs.declared.frame.Frame.{Frame}
 use Rattle.ckc_bounds.specs.Declarations.{each, local_made, with_all}
 
 pub with_all_append : (frame : Frame) (bounded : Bool) (ls : List Local) (xs ys : List NotedDecl) → with_all frame bounded ls (xs ++ ys) ≡ with_all frame bounded (with_all frame bounded ls xs) ys

@@ -5,10 +5,10 @@ use Rattle.std.specs.Option.{option_map}
 use Rattle.ckc_syntax.specs.declared.tree.Act.{the_lemmas}
 use Rattle.ckc_syntax.specs.declared.tree.Act.TheVariants as act
 use Rattle.ckc_typed.specs.Trees.{NotedAct, NotedExpr, NotedStmt}
-use Rattle.ckc_points.specs.declared.frame.Local.{Local}
-use Rattle.ckc_points.specs.declared.frame.Frame.{Frame}
+use Rattle.ckc_bounds_points.specs.declared.frame.Local.{Local}
+use Rattle.ckc_bounds_points.specs.declared.frame.Frame.{Frame}
 use Rattle.ckc_bounds.specs.Declarations.{with_all}
-use Rattle.ckc_statements.specs.Paths.{all_declared, there_declared, path, path_of_act}
+use Rattle.ckc_bounds_statements.specs.Paths.{all_declared, there_declared, path, path_of_act}
 use Rattle.ckc_bounds.proofs.Lists.{with_all_append}
 
 module _ (frame : Frame) (bounded : Bool) (old : List Local) where

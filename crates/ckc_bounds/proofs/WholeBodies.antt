@@ -6,10 +6,10 @@ use Rattle.ckc_base.specs.declared.fault.Fault.{Fault}
 use Rattle.ckc_base.specs.Outcomes.{Outcome, bind, AnswersOutcome, StepsOutcome}
 use Rattle.ckc_base.proofs.Ends.{ends}
 use Rattle.ckc_typed.specs.Trees.{NotedHead, NotedStmt}
-use Rattle.ckc_points.specs.declared.frame.HeadBounds.{HeadBounds}
-use Rattle.ckc_points.specs.declared.frame.Frame.{Frame}
+use Rattle.ckc_bounds_points.specs.declared.frame.HeadBounds.{HeadBounds}
+use Rattle.ckc_bounds_points.specs.declared.frame.Frame.{Frame}
 use Rattle.ckc_bounds.specs.Declarations.{head_bounds}
-use Rattle.ckc_statements.specs.Paths.{Here, path}
+use Rattle.ckc_bounds_statements.specs.Paths.{Here, path}
 use Rattle.ckc_bounds.specs.Frames.{begin_in, needed_from, counted, first_fresh, frame_by, function_frame, begin_of}
 use Rattle.ckc_bounds.specs.Texts.{body_judged}
 

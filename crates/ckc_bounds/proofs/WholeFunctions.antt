@@ -5,7 +5,7 @@ use Rattle.ckc_base.specs.declared.places.Refusal.{Refusal}
 use Rattle.ckc_base.specs.Outcomes.{Outcome, bind}
 use Rattle.ckc_syntax.specs.declared.tree.Item.TheVariants as item
 use Rattle.ckc_typed.specs.Trees.{NotedHead, NotedItem, NotedStmt}
-use Rattle.ckc_points.specs.declared.frame.Frame.{Frame}
+use Rattle.ckc_bounds_points.specs.declared.frame.Frame.{Frame}
 use Rattle.ckc_bounds.specs.Texts.{body_judged, head_kept, function_judged}
 
 module _ (text frame : Frame) (h g : NotedHead) (body : NotedStmt) (kept : frame ≡ text) (made : head_kept text h ≡ Ok g) where

@@ -6,7 +6,7 @@ use Rattle.ckc_types.specs.declared.types.Structs.{Structs}
 use Rattle.ckc_typed.specs.declared.typed.StaticObject.{StaticObject}
 use Rattle.ckc_typed.specs.declared.typed.Typed.{Typed}
 use Rattle.ckc_typed.specs.Trees.{NotedItem}
-use Rattle.ckc_points.specs.declared.frame.Frame.{Frame}
+use Rattle.ckc_bounds_points.specs.declared.frame.Frame.{Frame}
 use Rattle.ckc_bounds.specs.code.Declarations.{text_of}
 use Rattle.ckc_bounds.specs.Frames.{text_frame}
 use Rattle.ckc_bounds.specs.Texts.{items_judged, text_judged}

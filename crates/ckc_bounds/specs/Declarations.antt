@@ -9,15 +9,15 @@ use Rattle.ckc_syntax.specs.declared.tree.Length.TheVariants as lengths
 use Rattle.ckc_syntax.specs.declared.tree.Item.TheVariants as item
 use Rattle.ckc_typed.specs.Trees.{NotedDecl, NotedHead, NotedItem, NotedLimits}
 use Rattle.ckc_typed.specs.Types.{type_written}
-use Rattle.ckc_points.specs.declared.frame.Bounds.{Bounds}
-use Rattle.ckc_points.specs.declared.frame.Bounds.TheVariants as bounds
-use Rattle.ckc_points.specs.declared.frame.Local.{Local}
-use Rattle.ckc_points.specs.declared.frame.HeadBounds.{HeadBounds}
-use Rattle.ckc_points.specs.declared.frame.Frame.{Frame}
-use Rattle.ckc_declared.specs.declared.limits.Holder.{Holder}
-use Rattle.ckc_declared.specs.declared.limits.Holder.TheVariants as holder
-use Rattle.ckc_declared.specs.Written.{bounds_declared}
-use Rattle.ckc_statements.specs.DeclBounds.{decl_bounds, bounds_there}
+use Rattle.ckc_bounds_points.specs.declared.frame.Bounds.{Bounds}
+use Rattle.ckc_bounds_points.specs.declared.frame.Bounds.TheVariants as bounds
+use Rattle.ckc_bounds_points.specs.declared.frame.Local.{Local}
+use Rattle.ckc_bounds_points.specs.declared.frame.HeadBounds.{HeadBounds}
+use Rattle.ckc_bounds_points.specs.declared.frame.Frame.{Frame}
+use Rattle.ckc_bounds_declared.specs.declared.limits.Holder.{Holder}
+use Rattle.ckc_bounds_declared.specs.declared.limits.Holder.TheVariants as holder
+use Rattle.ckc_bounds_declared.specs.Written.{bounds_declared}
+use Rattle.ckc_bounds_statements.specs.DeclBounds.{decl_bounds, bounds_there}
 
 -- what the members of the structure that a name means are to their bounds
 abbrev pub member_holder : Name → Holder

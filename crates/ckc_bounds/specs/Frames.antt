@@ -5,12 +5,12 @@ use Rattle.ckc_types.specs.declared.types.CType.TheVariants as ctype
 use Rattle.ckc_types.specs.declared.types.Structs.{Structs}
 use Rattle.ckc_typed.specs.declared.typed.StaticObject.{StaticObject}
 use Rattle.ckc_typed.specs.Trees.{NotedDecl, NotedHead, NotedStmt, NotedItem}
-use Rattle.ckc_points.specs.declared.frame.Local.{Local}
-use Rattle.ckc_points.specs.declared.frame.HeadBounds.{HeadBounds}
-use Rattle.ckc_points.specs.declared.frame.Frame.{Frame}
-use Rattle.ckc_points.specs.Flow.{entry}
+use Rattle.ckc_bounds_points.specs.declared.frame.Local.{Local}
+use Rattle.ckc_bounds_points.specs.declared.frame.HeadBounds.{HeadBounds}
+use Rattle.ckc_bounds_points.specs.declared.frame.Frame.{Frame}
+use Rattle.ckc_bounds_points.specs.Flow.{entry}
 use Rattle.ckc_bounds.specs.Declarations.{bare, few_of, few_of_few, with_locals, declared_in, head_bounds, heads_from, objects_of}
-use Rattle.ckc_statements.specs.Paths.{Here, local_in, path}
+use Rattle.ckc_bounds_statements.specs.Paths.{Here, local_in, path}
 
 -- the structures and the objects alone
 abbrev pub structs_frame : Structs → List StaticObject → Frame

@@ -4,12 +4,12 @@ use Rattle.ckc_base.specs.Outcomes.{Outcome, bind, in_order}
 use Rattle.ckc_syntax.specs.declared.tree.Item.TheVariants as item
 use Rattle.ckc_typed.specs.declared.typed.Typed.{Typed}
 use Rattle.ckc_typed.specs.Trees.{NotedDecl, NotedHead, NotedStmt, NotedItem}
-use Rattle.ckc_points.specs.declared.frame.Frame.{Frame}
-use Rattle.ckc_points.specs.Flow.{entry}
-use Rattle.ckc_declared.specs.declared.limits.Holder.{Holder}
-use Rattle.ckc_statements.specs.DeclBounds.{decl_bounds, bounds_there}
+use Rattle.ckc_bounds_points.specs.declared.frame.Frame.{Frame}
+use Rattle.ckc_bounds_points.specs.Flow.{entry}
+use Rattle.ckc_bounds_declared.specs.declared.limits.Holder.{Holder}
+use Rattle.ckc_bounds_statements.specs.DeclBounds.{decl_bounds, bounds_there}
 use Rattle.ckc_bounds.specs.Declarations.{each, head_judged, member_holder, types_in, head_bounds}
-use Rattle.ckc_statements.specs.Paths.{Here, init_judged, path}
+use Rattle.ckc_bounds_statements.specs.Paths.{Here, init_judged, path}
 use Rattle.ckc_bounds.specs.Frames.{text_frame, function_frame, begin_of}
 
 -- E603 of members

@@ -6,14 +6,14 @@ ghost use Rattle.ckc_bounds.specs.Declarations.{with_all};
 ghost use Rattle.ckc_bounds.specs.code.Declarations.{text_of};
 ghost use Rattle.ckc_bounds.specs.Frames.{all_of, name_seen, begin_in, counted, fresh_needed, nameless, with_nameless, locals_frame, first_fresh, frame_by};
 ghost use Rattle.ckc_bounds.specs.Texts.{body_judged};
-ghost use Rattle.ckc_statements.specs.Walks.{here};
+ghost use Rattle.ckc_bounds_statements.specs.Walks.{here};
 
 use crate::declared::{clear, set_locals};
 use crate::heads::head_bounds;
 use crate::locals::{add_params, add_stmt};
 use ckc_base::{Fault, Seq};
-use ckc_points::{Bounds, Frame, HeadBounds, Local, Work, entry, fit_row};
-use ckc_statements::{Walk, add_name, judge_stmt, may_need};
+use ckc_bounds_points::{Bounds, Frame, HeadBounds, Local, Work, entry, fit_row};
+use ckc_bounds_statements::{Walk, add_name, judge_stmt, may_need};
 use ckc_syntax::{Decl, Head, Name, Stmt};
 use ckc_typed::Note;
 use ckc_types::CType;

@@ -2,15 +2,15 @@
 
 ghost use Rattle.std.specs.Prelude.{◌≡◌, map, IfOk, OnOk};
 ghost use Rattle.ckc_base.specs.Outcomes.{Outcome, AnswersOutcome};
-ghost use Rattle.ckc_points.specs.declared.frame.Bounds.{Bounds};
-ghost use Rattle.ckc_statements.specs.DeclBounds.{decl_bounds, bounds_there};
+ghost use Rattle.ckc_bounds_points.specs.declared.frame.Bounds.{Bounds};
+ghost use Rattle.ckc_bounds_statements.specs.DeclBounds.{decl_bounds, bounds_there};
 ghost use Rattle.ckc_bounds.specs.Declarations.{member_holder, result_bounds, each, head_judged, known_or_not, with_locals};
 ghost use Rattle.ckc_bounds.specs.code.Declarations.{text_of};
 
 use ckc_base::{Fault, Seq};
-use ckc_declared::{Holder, bounds_declared};
-use ckc_points::{Bounds, Frame, Local};
-use ckc_statements::{bounds_there, decl_bounds};
+use ckc_bounds_declared::{Holder, bounds_declared};
+use ckc_bounds_points::{Bounds, Frame, Local};
+use ckc_bounds_statements::{bounds_there, decl_bounds};
 use ckc_syntax::{Decl, Head, Length, Name};
 use ckc_typed::Note;
 use ckc_typed::types::type_written;

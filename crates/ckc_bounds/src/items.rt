@@ -6,14 +6,14 @@ ghost use Rattle.ckc_syntax.specs.declared.tree.Item.TheVariants as item;
 ghost use Rattle.ckc_bounds.specs.Declarations.{member_holder};
 ghost use Rattle.ckc_bounds.specs.code.Declarations.{text_of};
 ghost use Rattle.ckc_bounds.specs.Texts.{members_judged, outside, object_judged, head_kept, function_judged, item_judged, items_judged};
-ghost use Rattle.ckc_statements.specs.Walks.{here};
+ghost use Rattle.ckc_bounds_statements.specs.Walks.{here};
 
 use crate::bodies::judge_body;
 use crate::declared::{clear, head_fits, member_holder, members_fit};
 use crate::heads::set_types;
 use ckc_base::{Boxed, Fault, Pos, Seq};
-use ckc_points::{Frame, Work, entry};
-use ckc_statements::{Walk, bounds_there, judge_init};
+use ckc_bounds_points::{Frame, Work, entry};
+use ckc_bounds_statements::{Walk, bounds_there, judge_init};
 use ckc_syntax::{Decl, Head, Item, Name, Stmt, boxed_head, copied_decls, decl_with};
 use ckc_typed::Note;
 use std::alloc::{AllocError, Global};

@@ -3,12 +3,12 @@
 ghost use Rattle.std.specs.Prelude.{◌≡◌, ◌∷◌, [], ◌++◌, length, map, IfOk, OnOk};
 ghost use Rattle.std.specs.Option.{option_map};
 ghost use Rattle.ckc_bounds.specs.Declarations.{local_made, with_all};
-ghost use Rattle.ckc_statements.specs.Paths.{all_declared, there_declared, path, path_of_act};
+ghost use Rattle.ckc_bounds_statements.specs.Paths.{all_declared, there_declared, path, path_of_act};
 
 use crate::declared::known_bounds;
 use ckc_base::{Boxed, Seq};
-use ckc_declared::Holder;
-use ckc_points::{Bounds, Frame, Local};
+use ckc_bounds_declared::Holder;
+use ckc_bounds_points::{Bounds, Frame, Local};
 use ckc_syntax::{Act, Decl, Name, Stmt};
 use ckc_typed::Note;
 use ckc_typed::types::type_written;

@@ -12,7 +12,7 @@ use crate::declared::clear;
 use crate::heads::{heads_of, objects_of};
 use crate::items::judge_items;
 use ckc_base::{Fault, Seq};
-use ckc_points::Frame;
+use ckc_bounds_points::Frame;
 use ckc_syntax::{Item, Name, Tree};
 use ckc_typed::{Note, StaticObject, Typed};
 use ckc_types::Structs;

@@ -10,8 +10,8 @@ use Rattle.ckc_base.proofs.Phases.{then_exact, answers_on, exact_of, phase_by_ex
 use Rattle.ckc_syntax.specs.declared.tokens.Token as code
 use Rattle.ckc_syntax.specs.declared.tree.NamedText.{NamedText}
 use Rattle.ckc_syntax.specs.Spelled.{Tokens, spelled}
-use Rattle.ckc_limits.specs.Phase.{limiting}
-use Rattle.ckc_limits.proofs.Limiting.{limiting_exact}
+use Rattle.ckc_syntax_limits.specs.Phase.{limiting}
+use Rattle.ckc_syntax_limits.proofs.Limiting.{limiting_exact}
 use Rattle.ckc_lexer.specs.Phase.{lexing, tokens_in}
 use Rattle.ckc_lexer.specs.Places.{place_after}
 use Rattle.ckc_lexer.proofs.Answer.{lexing_exact}

@@ -1,17 +1,17 @@
 -- The program of a text fits into an image.
 use Rattle.std.proofs.Common.{◌≡◌, ℕ, ◌*◌, ◌≤◌, List, Ok, sym, subst, arith}
 use Rattle.ckc_syntax.specs.declared.tree.NamedText.{NamedText}
-use Rattle.ckc_limits.specs.Marks.{marks_of, is_node}
-use Rattle.ckc_limits.specs.Small.{how_many, Small}
+use Rattle.ckc_syntax_limits.specs.Marks.{marks_of, is_node}
+use Rattle.ckc_syntax_limits.specs.Small.{how_many, Small}
 use Rattle.ckc_parser.specs.Text.{SpelledTree}
 use Rattle.ckc_resolve.specs.Phase.{naming}
 use Rattle.ckc_source.specs.Code.{Program}
 use Rattle.ckc_typed.specs.declared.typed.Typed.{Typed}
 use Rattle.ckc_typed.specs.Texts.{named_typed}
 use Rattle.ckc_bounds.specs.Phase.{bounding}
-use Rattle.ckc_elaborate.specs.Elaborated.{elaborated}
-use Rattle.ckc_operands.specs.Weights.{program_weight}
-use Rattle.ckc_sizes.specs.Nodes.{text_nodes}
+use Rattle.ckc_build_elaborate.specs.Elaborated.{elaborated}
+use Rattle.ckc_checks_operands.specs.Weights.{program_weight}
+use Rattle.ckc_build_sizes.specs.Nodes.{text_nodes}
 use Rattle.ckc_build.specs.Meanings.{HasMeaning}
 
 module _

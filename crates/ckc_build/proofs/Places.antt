@@ -15,7 +15,7 @@ use Rattle.ckc_source.specs.declared.program.Object.{Object}
 use Rattle.ckc_source.specs.Blocks.{block_of}
 use Rattle.ckc_source.specs.Code.{Program}
 use Rattle.ckc_source.specs.LaidOut.{AreBytes, HoldBytes, IsLaidOut}
-use Rattle.ckc_elaborate.specs.Elaborated.{elaborated}
+use Rattle.ckc_build_elaborate.specs.Elaborated.{elaborated}
 use Rattle.ckc_build.specs.Meanings.{HasMeaning}
 
 -- ---- bytes

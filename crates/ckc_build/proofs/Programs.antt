@@ -6,10 +6,10 @@ use Rattle.ckc_base.specs.Phases.{IsExact, Answers, Exact}
 use Rattle.ckc_base.proofs.Phases.{then_exact, exact_of, phase_by_exact}
 use Rattle.ckc_source.specs.Code.{Program}
 use Rattle.ckc_typed.specs.declared.typed.Typed.{Typed}
-use Rattle.ckc_operands.specs.Weights.{program_weight}
-use Rattle.ckc_elaborate.specs.Elaborated.{elaborated}
+use Rattle.ckc_checks_operands.specs.Weights.{program_weight}
+use Rattle.ckc_build_elaborate.specs.Elaborated.{elaborated}
 use Rattle.ckc_image.specs.declared.parts.Parts as parts
-use Rattle.ckc_compile.specs.Compiled.{FollowsSource, machine_parts}
+use Rattle.ckc_build_compile.specs.Compiled.{FollowsSource, machine_parts}
 use Rattle.ckc_build.specs.Meanings.{judging, elaborating, meanings}
 use Rattle.ckc_build.specs.Built.{IsImage, building}
 use Rattle.ckc_build.proofs.Chain.{judging_exact, exact_err}

@@ -1,7 +1,7 @@
 -- The images of texts that have a meaning.
 use Rattle.std.specs.Prelude.{ℕ, ◌+◌, ◌*◌, ◌≤◌, List, length, Vec}
 use Rattle.std.specs.declared.alloc.Global.{Global}
-pub use Rattle.ckc_compile.specs.Compiled.{most_for_a_step}
+pub use Rattle.ckc_build_compile.specs.Compiled.{most_for_a_step}
 use Rattle.ckc_base.specs.Follows.{Follows}
 use Rattle.ckc_base.specs.Phases.{Phase}
 use Rattle.ckc_rv.specs.Machine.{Parts, machine}
@@ -9,7 +9,7 @@ use Rattle.ckc_image.specs.Image.{ImageOf}
 use Rattle.ckc_source.specs.Code.{Program}
 use Rattle.ckc_source.specs.LaidOut.{AreBytes}
 use Rattle.ckc_source.specs.Source.{source}
-use Rattle.ckc_operands.specs.Weights.{program_weight}
+use Rattle.ckc_checks_operands.specs.Weights.{program_weight}
 use Rattle.ckc_build.specs.Meanings.{HasMeaning, FirstFault}
 
 abbrev pub IsImage : List ℕ → Parts → Type 0

@@ -3,7 +3,7 @@ use Rattle.std.specs.Prelude.{ℕ, List, Ok}
 use Rattle.ckc_base.specs.declared.places.Refusal.{Refusal}
 use Rattle.ckc_base.specs.Outcomes.{phase_by}
 use Rattle.ckc_base.specs.Phases.{Phase, ◌>=>◌}
-use Rattle.ckc_limits.specs.Phase.{limiting}
+use Rattle.ckc_syntax_limits.specs.Phase.{limiting}
 use Rattle.ckc_lexer.specs.Phase.{lexing}
 use Rattle.ckc_parser.specs.Phase.{parsing}
 use Rattle.ckc_parser.specs.Text.{SpelledTree}
@@ -13,7 +13,7 @@ use Rattle.ckc_typed.specs.declared.typed.Typed.{Typed}
 use Rattle.ckc_typing.specs.Phase.{typing}
 use Rattle.ckc_scopes.specs.Phase.{scoping}
 use Rattle.ckc_bounds.specs.Phase.{bounding}
-use Rattle.ckc_elaborate.specs.Elaborated.{elaborated}
+use Rattle.ckc_build_elaborate.specs.Elaborated.{elaborated}
 
 -- the tree of a text
 abbrev pub reading : Phase (List ℕ) SpelledTree

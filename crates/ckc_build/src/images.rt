@@ -4,17 +4,17 @@ ghost use Rattle.ckc_base.specs.Phases.{Answers, viewed};
 ghost use Rattle.ckc_image.specs.declared.parts.Parts as parts;
 ghost use Rattle.ckc_source.specs.Code.{program_of};
 ghost use Rattle.ckc_source.specs.LaidOut.{IsLaidOut};
-ghost use Rattle.ckc_operands.specs.Compilable.{IsCompilable};
-ghost use Rattle.ckc_operands.specs.Weights.{program_weight, most_weight};
-ghost use Rattle.ckc_compile.specs.Compiled.{FollowsSource, machine_parts};
+ghost use Rattle.ckc_checks_operands.specs.Compilable.{IsCompilable};
+ghost use Rattle.ckc_checks_operands.specs.Weights.{program_weight, most_weight};
+ghost use Rattle.ckc_build_compile.specs.Compiled.{FollowsSource, machine_parts};
 ghost use Rattle.ckc_build.specs.Built.{IsImage, building, bytes_of};
 
 use crate::laws::programs_fit;
 use crate::meanings::program;
 use ckc_base::Fault;
-use ckc_compile::compile;
+use ckc_build_compilable::is_compilable;
+use ckc_build_compile::compile;
 use ckc_image::write;
-use ckc_integer::is_compilable;
 use ckc_source::Program;
 use std::alloc::{AllocError, Global};
 

@@ -5,14 +5,14 @@ ghost use Rattle.ckc_parser.specs.Text.{SpelledTree};
 ghost use Rattle.ckc_source.specs.Blocks.{block_of};
 ghost use Rattle.ckc_source.specs.Code.{Program};
 ghost use Rattle.ckc_source.specs.LaidOut.{HoldBytes, IsLaidOut};
-ghost use Rattle.ckc_operands.specs.Weights.{program_weight, most_weight};
+ghost use Rattle.ckc_checks_operands.specs.Weights.{program_weight, most_weight};
 ghost use Rattle.ckc_build.specs.Meanings.{HasMeaning, judging, reading};
 
-use ckc_elaborate::laws::objects_are_laid_out;
-use ckc_fit::small_stays;
-use ckc_sizes::{marks_stay, programs_are_small};
+use ckc_build_elaborate::laws::objects_are_laid_out;
+use ckc_build_sizes::{marks_stay, programs_are_small};
+use ckc_typed_fit::small_stays;
+use ckc_typed_welltyped::counts_stay;
 use ckc_typing::{statics_have_room, statics_lie_apart};
-use ckc_welltyped::counts_stay;
 
 /// A text is judged, with one outcome of its types, or it has one first error.
 pub fn judging_is_exact()

@@ -3,14 +3,14 @@ ghost use Rattle.std.specs.Prelude.{◌≡◌, IfOk};
 ghost use Rattle.ckc_base.specs.Phases.{Exact, IsExact, viewed};
 ghost use Rattle.ckc_source.specs.Code.{program_of};
 ghost use Rattle.ckc_source.specs.LaidOut.{IsLaidOut};
-ghost use Rattle.ckc_elaborate.specs.Elaborated.{elaborated};
+ghost use Rattle.ckc_build_elaborate.specs.Elaborated.{elaborated};
 ghost use Rattle.ckc_build.specs.Meanings.{meanings};
 
 use crate::front::judge;
 use crate::laws::programs_are_laid_out;
 use crate::placed::hold_bytes;
 use ckc_base::Fault;
-use ckc_elaborate::elaborate;
+use ckc_build_elaborate::elaborate;
 use ckc_source::Program;
 use ckc_typed::Typed;
 use std::alloc::{AllocError, Global};

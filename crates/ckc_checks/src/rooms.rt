@@ -6,7 +6,7 @@ ghost use Rattle.ckc_checks.specs.Inserted.{expr_room, operand_room, operands_ro
 ghost use Rattle.ckc_checks.specs.code.Building.{value_room_if};
 
 use ckc_base::sum;
-use ckc_operands::{casts_one, index_far, is_bounded, is_direct, keeps_index, takes_range};
+use ckc_checks_operands::{casts_one, index_far, is_bounded, is_direct, keeps_index, takes_range};
 use ckc_source::{Assign, ExprTree, RightTree, StmtTree, TargetTree};
 use std::alloc::AllocError;
 

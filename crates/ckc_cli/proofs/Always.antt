@@ -5,15 +5,15 @@ use Rattle.ckc_base.specs.declared.places.Refusal.{Refusal}
 use Rattle.ckc_outside.specs.Outside.{Files, Rose}
 use Rattle.ckc_rv.specs.Machine.{Parts}
 use Rattle.ckc_machine.specs.declared.observed.Observed.{Observed}
-use Rattle.ckc_commands.specs.declared.status.Status.{Status}
-use Rattle.ckc_commands.specs.declared.status.Status.TheVariants as status
-use Rattle.ckc_commands.specs.Words.{Command, Build, Assemble, Exec, Interp, Run, Show, Reads}
-use Rattle.ckc_commands.specs.Commands.{name_of, BadBytes, Refuses, IsBad, Keeps, Lists, Executes, Means}
-use Rattle.ckc_commands.specs.Running.{Seen, Ran, status_of}
+use Rattle.ckc_cli_commands.specs.declared.status.Status.{Status}
+use Rattle.ckc_cli_commands.specs.declared.status.Status.TheVariants as status
+use Rattle.ckc_cli_commands.specs.Words.{Command, Build, Assemble, Exec, Interp, Run, Show, Reads}
+use Rattle.ckc_cli_commands.specs.Commands.{name_of, BadBytes, Refuses, IsBad, Keeps, Lists, Executes, Means}
+use Rattle.ckc_cli_commands.specs.Running.{Seen, Ran, status_of}
 use Rattle.ckc_outside.specs.Outside.{Stored}
-use Rattle.ckc_commands.specs.Causes.{Holds, StoreIsFine, Given}
+use Rattle.ckc_cli_commands.specs.Causes.{Holds, StoreIsFine, Given}
 use Rattle.ckc_source.specs.Code.{Program}
-use Rattle.ckc_commands.specs.Interpreting.{ShowsAs}
+use Rattle.ckc_cli_commands.specs.Interpreting.{ShowsAs}
 use Rattle.ckc_build.proofs.Programs.{meanings_exact}
 use Rattle.ckc_asm.proofs.Exactness.{assembling_exact}
 use Rattle.ckc_cli.proofs.OneTask.{one_bad, not_Refuses_IsBad, not_Refuses_Keeps, not_Refuses_Lists, not_Refuses_Executes, not_IsBad_Keeps, not_IsBad_Lists, not_IsBad_Executes, not_Keeps_Lists, not_Keeps_Executes, not_Lists_Executes, not_Refuses_Means, not_IsBad_Means, not_Keeps_Means, not_Lists_Means, not_Executes_Means}

@@ -11,12 +11,12 @@ use Rattle.ckc_machine.specs.Runs.{Says}
 use Rattle.ckc_source.specs.Code.{Program}
 use Rattle.ckc_build.specs.Meanings.{HasMeaning}
 use Rattle.ckc_build.proofs.Programs.{meanings_exact}
-use Rattle.ckc_commands.specs.declared.status.Status.{Status}
-use Rattle.ckc_commands.specs.declared.status.Status.TheVariants as status
-use Rattle.ckc_commands.specs.Words.{Command, Build, Exec, Reads}
-use Rattle.ckc_commands.specs.Commands.{name_of, Refuses, IsBad, Keeps, Lists, Executes, Means}
-use Rattle.ckc_commands.specs.Running.{Seen, Ran, status_of}
-use Rattle.ckc_commands.specs.Causes.{Holds, StoreIsFine, AllIsFine, Given}
+use Rattle.ckc_cli_commands.specs.declared.status.Status.{Status}
+use Rattle.ckc_cli_commands.specs.declared.status.Status.TheVariants as status
+use Rattle.ckc_cli_commands.specs.Words.{Command, Build, Exec, Reads}
+use Rattle.ckc_cli_commands.specs.Commands.{name_of, Refuses, IsBad, Keeps, Lists, Executes, Means}
+use Rattle.ckc_cli_commands.specs.Running.{Seen, Ran, status_of}
+use Rattle.ckc_cli_commands.specs.Causes.{Holds, StoreIsFine, AllIsFine, Given}
 use Rattle.ckc_cli.specs.Agreeing.{RanBuilt, OfInput, PrintedFirst, StandsInTime, PutsInTime}
 use Rattle.ckc_cli.proofs.Headline.{says_ended, says_stopped, ran_in_time, ran_put}
 use Rattle.ckc_cli.proofs.Always as always

@@ -10,12 +10,12 @@ use Rattle.ckc_machine.specs.declared.observed.Observed.TheVariants as observed
 use Rattle.ckc_machine.specs.declared.observed.FaultKind.{FaultKind}
 use Rattle.ckc_interp.specs.declared.seen.Seen.TheVariants as seen
 use Rattle.ckc_build.specs.Built.{Built}
-use Rattle.ckc_commands.specs.declared.status.Status.{Status}
-use Rattle.ckc_commands.specs.declared.status.Status.TheVariants as status
-use Rattle.ckc_commands.specs.Words.{Command, Exec, Reads}
-use Rattle.ckc_commands.specs.Commands.{Executes, Means}
-use Rattle.ckc_commands.specs.Running.{Seen, Ran}
-use Rattle.ckc_commands.specs.Causes.{Over, IsShown, IsRun}
+use Rattle.ckc_cli_commands.specs.declared.status.Status.{Status}
+use Rattle.ckc_cli_commands.specs.declared.status.Status.TheVariants as status
+use Rattle.ckc_cli_commands.specs.Words.{Command, Exec, Reads}
+use Rattle.ckc_cli_commands.specs.Commands.{Executes, Means}
+use Rattle.ckc_cli_commands.specs.Running.{Seen, Ran}
+use Rattle.ckc_cli_commands.specs.Causes.{Over, IsShown, IsRun}
 use Rattle.ckc_cli.specs.Agreeing.{StandsAsMeant, GoesAsMeant, IsStuckAsMeant}
 use Rattle.ckc_cli.proofs.OneCommand.{reads_once}
 use Rattle.ckc_cli.proofs.Headline.{ran_ended, ran_stopped, ran_going, ran_faulty}

@@ -11,13 +11,13 @@ use Rattle.std.proofs.lemmas.Slice.Eq.{bytes_eq-Decides}
 use Rattle.ckc_outside.specs.declared.traits.StoreError as errors
 use Rattle.ckc_outside.specs.declared.traits.StoreError.TheVariants as error
 use Rattle.ckc_outside.specs.Outside.{Files}
-use Rattle.ckc_commands.specs.declared.status.Status.{Status}
-use Rattle.ckc_commands.specs.declared.status.Status.TheVariants as status
-use Rattle.ckc_commands.specs.Words.{Command, Reads}
-use Rattle.ckc_commands.specs.Commands.{kept_name, AsksToKeep, Keeps}
-use Rattle.ckc_commands.specs.Running.{Seen}
+use Rattle.ckc_cli_commands.specs.declared.status.Status.{Status}
+use Rattle.ckc_cli_commands.specs.declared.status.Status.TheVariants as status
+use Rattle.ckc_cli_commands.specs.Words.{Command, Reads}
+use Rattle.ckc_cli_commands.specs.Commands.{kept_name, AsksToKeep, Keeps}
+use Rattle.ckc_cli_commands.specs.Running.{Seen}
 use Rattle.ckc_outside.specs.Outside.{Stored}
-use Rattle.ckc_commands.specs.Causes.{Kept, Unkept, KeepsOthers}
+use Rattle.ckc_cli_commands.specs.Causes.{Kept, Unkept, KeepsOthers}
 use Rattle.ckc_cli.proofs.OneCommand.{reads_once}
 use Rattle.ckc_cli.proofs.Statuses as by
 use Rattle.ckc_cli.proofs.Statuses.{by_usage, by_store, by_refusal, by_bad, by_keeping, by_not_keeping, by_memory, by_keeping_memory, by_listing, by_cut_listing, by_running, by_meaning}

@@ -17,7 +17,7 @@ use Rattle.ckc_source.specs.Code.{Program}
 use Rattle.ckc_source.specs.LaidOut.{AreBytes}
 use Rattle.ckc_source.specs.Source.{source}
 use Rattle.ckc_build.specs.Built.{Built}
-use Rattle.ckc_commands.specs.Running.{Seen, Shown, ShownOver, Ran, fed}
+use Rattle.ckc_cli_commands.specs.Running.{Seen, Shown, ShownOver, Ran, fed}
 use Rattle.ckc_cli.specs.Agreeing.{OverInput, OfInput, PrintedFirst, ComesToBeStuck, ComesTo, ComesBy, StandsInTime, PutsInTime, enough}
 
 -- what a front of a trace puts is a front of what the trace puts

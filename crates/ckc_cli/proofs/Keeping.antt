@@ -1,12 +1,12 @@
 -- What is kept: once, of the image, and by no other command.
 use Rattle.std.proofs.Common.{◌≡◌, ◌≢◌, ◌⊎◌, inl, inr, ℕ, List, ap, arith}
 use Rattle.ckc_outside.specs.Outside.{Stored, Rose, one_more}
-use Rattle.ckc_commands.specs.declared.status.Status.{Status}
-use Rattle.ckc_commands.specs.declared.status.Status.TheVariants as status
-use Rattle.ckc_commands.specs.Words.{Command, Reads}
-use Rattle.ckc_commands.specs.Commands.{name_of, AsksToKeep, Keeps}
-use Rattle.ckc_commands.specs.Running.{Seen}
-use Rattle.ckc_commands.specs.Causes.{Holds, Unkept, Over, HasImage}
+use Rattle.ckc_cli_commands.specs.declared.status.Status.{Status}
+use Rattle.ckc_cli_commands.specs.declared.status.Status.TheVariants as status
+use Rattle.ckc_cli_commands.specs.Words.{Command, Reads}
+use Rattle.ckc_cli_commands.specs.Commands.{name_of, AsksToKeep, Keeps}
+use Rattle.ckc_cli_commands.specs.Running.{Seen}
+use Rattle.ckc_cli_commands.specs.Causes.{Holds, Unkept, Over, HasImage}
 use Rattle.ckc_cli.proofs.Statuses as by
 use Rattle.ckc_cli.proofs.Statuses.{by_usage, by_store, by_refusal, by_bad, by_keeping, by_not_keeping, by_memory, by_keeping_memory, by_listing, by_cut_listing, by_running, by_meaning}
 

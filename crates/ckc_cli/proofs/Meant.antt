@@ -13,14 +13,14 @@ use Rattle.ckc_interp.specs.declared.seen.Seen.TheVariants as seen
 use Rattle.ckc_interp.specs.Runs.{Interprets, Comes}
 use Rattle.ckc_build.specs.Meanings.{HasMeaning}
 use Rattle.ckc_build.proofs.Programs.{meanings_exact}
-use Rattle.ckc_commands.specs.declared.status.Status.{Status}
-use Rattle.ckc_commands.specs.declared.status.Status.TheVariants as status
-use Rattle.ckc_commands.specs.Words.{Command, Interp, Reads}
-use Rattle.ckc_commands.specs.Commands.{Lists, Executes, Means}
-use Rattle.ckc_commands.specs.Running.{Seen}
-use Rattle.ckc_commands.specs.Interpreting.{Interpreted, ShowsAs, ShowsMeaning, IsStuckFirst, meant_status, standing_after}
-use Rattle.ckc_commands.specs.Causes.{Holds, Over, Given, StoreIsFine, AllIsFine}
-use Rattle.ckc_commands.specs.Commands.{name_of}
+use Rattle.ckc_cli_commands.specs.declared.status.Status.{Status}
+use Rattle.ckc_cli_commands.specs.declared.status.Status.TheVariants as status
+use Rattle.ckc_cli_commands.specs.Words.{Command, Interp, Reads}
+use Rattle.ckc_cli_commands.specs.Commands.{Lists, Executes, Means}
+use Rattle.ckc_cli_commands.specs.Running.{Seen}
+use Rattle.ckc_cli_commands.specs.Interpreting.{Interpreted, ShowsAs, ShowsMeaning, IsStuckFirst, meant_status, standing_after}
+use Rattle.ckc_cli_commands.specs.Causes.{Holds, Over, Given, StoreIsFine, AllIsFine}
+use Rattle.ckc_cli_commands.specs.Commands.{name_of}
 use Rattle.ckc_cli.proofs.OneCommand.{reads_once}
 use Rattle.ckc_cli.proofs.Always as always
 use Rattle.ckc_cli.proofs.Statuses as by

@@ -1,7 +1,7 @@
 -- Words read one command.
 use Rattle.std.proofs.Common.{◌≡◌, inl, inr, ℕ, List, [], ◌∷◌, get_or, arith, sym, ap, subst, ◌∙◌}
-use Rattle.ckc_commands.specs.Words.{Command, Build, Assemble, Exec, Interp, Run, Show, keyword, IsLimit, NameAndLimit, Arguments, Reads}
-use Rattle.ckc_commands.proofs.Wording.{head_is, tail_is}
+use Rattle.ckc_cli_commands.specs.Words.{Command, Build, Assemble, Exec, Interp, Run, Show, keyword, IsLimit, NameAndLimit, Arguments, Reads}
+use Rattle.ckc_cli_commands.proofs.Wording.{head_is, tail_is}
 
 limit_once : (word : List ℕ) (limit other : ℕ) → IsLimit word limit → IsLimit word other → limit ≡ other
 limit_once word limit other p q = p.value ∙ sym q.value

@@ -4,9 +4,9 @@ use Rattle.ckc_base.specs.declared.places.Refusal.{Refusal}
 use Rattle.ckc_rv.specs.Machine.{Parts}
 use Rattle.ckc_image.specs.Image.{magic, word_bytes, FirstBad}
 use Rattle.ckc_image.proofs.Agreement.{never_bad}
-use Rattle.ckc_commands.specs.Words.{Command, Build, Assemble, Exec, Interp, Run, Show}
+use Rattle.ckc_cli_commands.specs.Words.{Command, Build, Assemble, Exec, Interp, Run, Show}
 use Rattle.ckc_build.specs.Built.{IsImage}
-use Rattle.ckc_commands.specs.Commands.{BadBytes, longest_image, Refuses, IsBad, Keeps, Lists, Executes, Means}
+use Rattle.ckc_cli_commands.specs.Commands.{BadBytes, longest_image, Refuses, IsBad, Keeps, Lists, Executes, Means}
 use Rattle.ckc_source.specs.Code.{Program}
 use Rattle.ckc_build.proofs.Programs.{meanings_exact}
 use Rattle.ckc_asm.proofs.Exactness.{assembling_exact}

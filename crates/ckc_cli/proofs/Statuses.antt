@@ -8,19 +8,19 @@ use Rattle.ckc_rv.specs.Machine.{Parts}
 use Rattle.ckc_machine.specs.declared.observed.Observed.{Observed}
 use Rattle.ckc_machine.specs.declared.observed.Observed.TheVariants as observed
 use Rattle.ckc_outside.specs.Given.{Printed}
-use Rattle.ckc_commands.specs.declared.status.Status.{Status}
-use Rattle.ckc_commands.specs.declared.status.Status.TheVariants as status
-use Rattle.ckc_commands.specs.Words.{Command, Build, Assemble, Exec, Interp, Run, Show, Reads}
-use Rattle.ckc_commands.specs.Commands.{name_of, Refuses, IsBad, Keeps, Lists, Executes, Means}
-use Rattle.ckc_commands.specs.Running.{Seen, Ran, Ends, shows, Listed, whole, front, ListedFront, status_of, shows_run}
-use Rattle.ckc_commands.specs.Running as running
+use Rattle.ckc_cli_commands.specs.declared.status.Status.{Status}
+use Rattle.ckc_cli_commands.specs.declared.status.Status.TheVariants as status
+use Rattle.ckc_cli_commands.specs.Words.{Command, Build, Assemble, Exec, Interp, Run, Show, Reads}
+use Rattle.ckc_cli_commands.specs.Commands.{name_of, Refuses, IsBad, Keeps, Lists, Executes, Means}
+use Rattle.ckc_cli_commands.specs.Running.{Seen, Ran, Ends, shows, Listed, whole, front, ListedFront, status_of, shows_run}
+use Rattle.ckc_cli_commands.specs.Running as running
 use Rattle.ckc_source.specs.Code.{Program}
 use Rattle.ckc_interp.specs.declared.seen.Seen as seens
 use Rattle.ckc_interp.specs.declared.seen.Seen.TheVariants as seen
-use Rattle.ckc_commands.specs.Interpreting.{Interpreted, meant_status}
+use Rattle.ckc_cli_commands.specs.Interpreting.{Interpreted, meant_status}
 use Rattle.ckc_outside.specs.Outside.{Stored}
-use Rattle.ckc_commands.specs.Causes.{Holds, Kept, Unkept, KeptOnce, Idle, Came, Unfetched, Obeyed, Caused, Over, IsDone, IsRun, IsCutShort}
-use Rattle.ckc_commands.specs.Causes as causes
+use Rattle.ckc_cli_commands.specs.Causes.{Holds, Kept, Unkept, KeptOnce, Idle, Came, Unfetched, Obeyed, Caused, Over, IsDone, IsRun, IsCutShort}
+use Rattle.ckc_cli_commands.specs.Causes as causes
 
 -- what was observed, of a status that shows it
 observed_by : Status → Observed

@@ -3,10 +3,10 @@ use Rattle.std.proofs.Common.{◌≡◌, ℕ, List, Some, ap, subst, ◌∙◌}
 use Rattle.ckc_outside.specs.Outside.{Stored}
 use Rattle.ckc_rv.specs.Machine.{Parts}
 use Rattle.ckc_source.specs.Code.{Program}
-use Rattle.ckc_commands.specs.declared.status.Status.{Status}
-use Rattle.ckc_commands.specs.Words.{Command, Build, Assemble, Exec, Interp, Run, Show, Reads}
-use Rattle.ckc_commands.specs.Commands.{kept_name, AsksToKeep, Lists, Executes, Means}
-use Rattle.ckc_commands.specs.Running.{Seen}
+use Rattle.ckc_cli_commands.specs.declared.status.Status.{Status}
+use Rattle.ckc_cli_commands.specs.Words.{Command, Build, Assemble, Exec, Interp, Run, Show, Reads}
+use Rattle.ckc_cli_commands.specs.Commands.{kept_name, AsksToKeep, Lists, Executes, Means}
+use Rattle.ckc_cli_commands.specs.Running.{Seen}
 use Rattle.ckc_cli.proofs.OneCommand.{reads_once}
 use Rattle.ckc_cli.proofs.Statuses as by
 use Rattle.ckc_cli.proofs.Statuses.{by_usage, by_store, by_refusal, by_bad, by_keeping, by_not_keeping, by_memory, by_keeping_memory, by_listing, by_cut_listing, by_running, by_meaning}

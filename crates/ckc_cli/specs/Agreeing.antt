@@ -10,10 +10,10 @@ use Rattle.ckc_source.specs.LaidOut.{AreBytes}
 use Rattle.ckc_source.specs.Source.{source}
 use Rattle.ckc_build.specs.Meanings.{HasMeaning}
 use Rattle.ckc_build.specs.Built.{Built, most_for_a_step}
-use Rattle.ckc_commands.specs.declared.status.Status.{Status}
-use Rattle.ckc_commands.specs.Words.{Command}
-use Rattle.ckc_commands.specs.Running.{Seen, Ran, status_of}
-use Rattle.ckc_commands.specs.Interpreting.{standing_after}
+use Rattle.ckc_cli_commands.specs.declared.status.Status.{Status}
+use Rattle.ckc_cli_commands.specs.Words.{Command}
+use Rattle.ckc_cli_commands.specs.Running.{Seen, Ran, status_of}
+use Rattle.ckc_cli_commands.specs.Interpreting.{standing_after}
 
 -- The machine of an image of the text was run, and the status is what it showed.
 abbrev pub RanBuilt : List ℕ → ℕ → Seen → Seen → Type 0 → Status → Type 0

@@ -3,5 +3,5 @@
 
 mod top;
 
-pub use ckc_commands::{FaultKind, Status, report};
+pub use ckc_cli_commands::{FaultKind, Status, report};
 pub use top::ccc;

@@ -11,17 +11,17 @@ ghost use Rattle.ckc_build.specs.Meanings.{HasMeaning};
 ghost use Rattle.ckc_source.specs.Code.{Program};
 ghost use Rattle.ckc_source.specs.Source.{place_after, unchecked_since};
 ghost use Rattle.ckc_interp.specs.declared.seen.Seen.{Seen};
-ghost use Rattle.ckc_commands.specs.Words.{Command, Build, Exec, Interp, Show, Reads, bytes_of};
-ghost use Rattle.ckc_commands.specs.Commands.{Refuses, IsBad, Keeps, Lists, Executes, AsksToKeep};
-ghost use Rattle.ckc_commands.specs.Running.{Ran, seen_of, status_of, shows_run};
+ghost use Rattle.ckc_cli_commands.specs.Words.{Command, Build, Exec, Interp, Show, Reads, bytes_of};
+ghost use Rattle.ckc_cli_commands.specs.Commands.{Refuses, IsBad, Keeps, Lists, Executes, AsksToKeep};
+ghost use Rattle.ckc_cli_commands.specs.Running.{Ran, seen_of, status_of, shows_run};
 ghost use Rattle.ckc_cli.specs.Agreeing.{RanBuilt, OfInput, PrintedFirst, StandsAsMeant, GoesAsMeant, IsStuckAsMeant, StandsInTime, PutsInTime};
-ghost use Rattle.ckc_commands.specs.Interpreting.{ShowsAs, ShowsMeaning, IsStuckFirst, standing_after};
-ghost use Rattle.ckc_commands.specs.Report.{report_of};
-ghost use Rattle.ckc_commands.specs.Causes.{Over, Given, StoreIsFine, AllIsFine, HasImage, IsDone, IsRun, IsCutShort, KeepsOthers, Reported, puts_after};
+ghost use Rattle.ckc_cli_commands.specs.Interpreting.{ShowsAs, ShowsMeaning, IsStuckFirst, standing_after};
+ghost use Rattle.ckc_cli_commands.specs.Report.{report_of};
+ghost use Rattle.ckc_cli_commands.specs.Causes.{Over, Given, StoreIsFine, AllIsFine, HasImage, IsDone, IsRun, IsCutShort, KeepsOthers, Reported, puts_after};
 
-use ckc_calls::put_line;
-use ckc_commands::{Status, report};
-use ckc_dispatch::asked;
+use ckc_cli_calls::put_line;
+use ckc_cli_commands::{Status, report};
+use ckc_cli_dispatch::asked;
 use ckc_outside::{Sink, Source, Store};
 use std::alloc::Global;
 

@@ -4,14 +4,14 @@ use Rattle.std.specs.Prelude.{ℤ, pos}
 use Rattle.ckc_base.specs.Words.{flag, word_of, applied}
 use Rattle.ckc_base.specs.declared.arithmetic.BinOp.{BinOp}
 use Rattle.ckc_base.specs.declared.arithmetic.BinOp.TheVariants as op
-use Rattle.ckc_operations.specs.declared.operations.RegOp.{RegOp}
-use Rattle.ckc_operations.specs.declared.operations.RegOp.TheVariants.{Sub, Sltu}
-use Rattle.ckc_operations.specs.declared.operations.ImmOp.{ImmOp}
-use Rattle.ckc_operations.specs.declared.operations.ImmOp.TheVariants.{Sltiu}
+use Rattle.ckc_rv_operations.specs.declared.operations.RegOp.{RegOp}
+use Rattle.ckc_rv_operations.specs.declared.operations.RegOp.TheVariants.{Sub, Sltu}
+use Rattle.ckc_rv_operations.specs.declared.operations.ImmOp.{ImmOp}
+use Rattle.ckc_rv_operations.specs.declared.operations.ImmOp.TheVariants.{Sltiu}
 use Rattle.ckc_rv.specs.declared.instructions.Instr.TheVariants.{Imm, Reg}
 use Rattle.ckc_rv.specs.Effects.{reg_value, reg_form}
-use Rattle.ckc_lines.specs.declared.lines.Line.{Line}
-use Rattle.ckc_lines.specs.declared.lines.Line.TheVariants.{Plain}
+use Rattle.ckc_asm_lines.specs.declared.lines.Line.{Line}
+use Rattle.ckc_asm_lines.specs.declared.lines.Line.TheVariants.{Plain}
 use Rattle.ckc_frame.specs.declared.code.Place.{Place}
 use Rattle.ckc_frame.specs.WellFormed.{IsPlace}
 use Rattle.ckc_emit.specs.Lines.{source_of, write_lines, operation_of, apply_lines, ending_lines, const_lines}

@@ -16,8 +16,8 @@ use Rattle.ckc_rv.specs.declared.instructions.Instr.TheVariants.{Load, Store}
 use Rattle.ckc_rv.specs.Effects.{moved, load_bytes, load_value, store_bytes}
 use Rattle.ckc_rv.specs.Machine.{loaded, stored, stack_start, data_start, memory_end}
 use Rattle.ckc_rv.specs.Detailed.{MachineEvent, Wrote}
-use Rattle.ckc_lines.specs.declared.lines.Line.{Line}
-use Rattle.ckc_lines.specs.declared.lines.Line.TheVariants as line
+use Rattle.ckc_asm_lines.specs.declared.lines.Line.{Line}
+use Rattle.ckc_asm_lines.specs.declared.lines.Line.TheVariants as line
 use Rattle.ckc_frame.specs.declared.code.Place.{Place}
 use Rattle.ckc_frame.specs.declared.code.Place.TheVariants as place
 use Rattle.ckc_frame.specs.Places.{number_of}

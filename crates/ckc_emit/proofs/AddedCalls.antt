@@ -4,8 +4,8 @@ use Rattle.std.specs.Prelude.{All, IfSome}
 use Rattle.std.proofs.lemmas.List.Elements.{All-head, All-tail}
 use Rattle.ckc_base.specs.declared.places.Pos.{Pos}
 use Rattle.ckc_base.specs.declared.runtime_checks.Check.TheVariants.{Depth}
-use Rattle.ckc_operations.specs.declared.operations.RegOp.TheVariants.{Add}
-use Rattle.ckc_lines.specs.declared.lines.Line.{Line}
+use Rattle.ckc_rv_operations.specs.declared.operations.RegOp.TheVariants.{Add}
+use Rattle.ckc_asm_lines.specs.declared.lines.Line.{Line}
 use Rattle.ckc_frame.specs.declared.code.Place.{Place}
 use Rattle.ckc_frame.specs.declared.code.Place.TheVariants as place
 use Rattle.ckc_frame.specs.Places.{is_kept_home}

@@ -6,8 +6,8 @@ use Rattle.std.proofs.lemmas.Bool.{cases_lt}
 use Rattle.std.proofs.lemmas.Bool.Decides.{nat_tests}
 use Rattle.std.proofs.Math.Nat.{div-mul-le_self, mul-le-mul_right, add-mul, mul_comm}
 use Rattle.ckc_rv.specs.Effects.{is_taken, reg_value}
-use Rattle.ckc_operations.specs.declared.operations.BranchOp.TheVariants.{Bge}
-use Rattle.ckc_operations.specs.declared.operations.RegOp.TheVariants.{Divu, Srl, Sll}
+use Rattle.ckc_rv_operations.specs.declared.operations.BranchOp.TheVariants.{Bge}
+use Rattle.ckc_rv_operations.specs.declared.operations.RegOp.TheVariants.{Divu, Srl, Sll}
 use Rattle.ckc_emit.proofs.Tests.{lt_is, lt_not, le_is, le_not}
 
 -- the first branch is taken where the count is not positive

@@ -7,10 +7,10 @@ use Rattle.std.proofs.lemmas.List.Sums.{sum_by-cons}
 use Rattle.std.proofs.lemmas.Bool.{cases_lt}
 use Rattle.std.proofs.lemmas.Bool.Decides.{nat_tests}
 use Rattle.ckc_rv.specs.declared.instructions.Instr.TheVariants.{Lui}
-use Rattle.ckc_lines.specs.declared.lines.Line.{Line}
-use Rattle.ckc_lines.specs.declared.lines.Line.TheVariants.{Label, Plain, Jump, Branch, Far}
-use Rattle.ckc_lines.specs.Assembled.{size_of, address_of, StandsAt, StandsOnce, is_label, CanStand, CanAssemble}
-use Rattle.ckc_lines.proofs.LabelPlaces.{address_is}
+use Rattle.ckc_asm_lines.specs.declared.lines.Line.{Line}
+use Rattle.ckc_asm_lines.specs.declared.lines.Line.TheVariants.{Label, Plain, Jump, Branch, Far}
+use Rattle.ckc_asm_lines.specs.Assembled.{size_of, address_of, StandsAt, StandsOnce, is_label, CanStand, CanAssemble}
+use Rattle.ckc_asm_lines.proofs.LabelPlaces.{address_is}
 use Rattle.ckc_frame.specs.declared.code.Placed.{Placed}
 use Rattle.ckc_frame.specs.WellFormed.{IsWellFormed}
 use Rattle.ckc_emit.specs.CodeSize.{code_size}

@@ -6,12 +6,12 @@ use Rattle.ckc_base.specs.Words.{signed, word_of, applied}
 use Rattle.ckc_base.specs.Products.{high_product}
 use Rattle.ckc_base.specs.declared.arithmetic.BinOp.{BinOp}
 use Rattle.ckc_base.specs.declared.arithmetic.BinOp.TheVariants as op
-use Rattle.ckc_operations.specs.declared.operations.ImmOp.{ImmOp}
-use Rattle.ckc_operations.specs.declared.operations.ImmOp.TheVariants.{Addi, Slti, Sltiu, Xori, Ori, Andi, Slli, Srli, Srai}
+use Rattle.ckc_rv_operations.specs.declared.operations.ImmOp.{ImmOp}
+use Rattle.ckc_rv_operations.specs.declared.operations.ImmOp.TheVariants.{Addi, Slti, Sltiu, Xori, Ori, Andi, Slli, Srli, Srai}
 use Rattle.ckc_rv.specs.declared.instructions.Instr.TheVariants.{Imm, Reg as RegInstr}
 use Rattle.ckc_rv.specs.Effects.{reg_value, reg_form}
-use Rattle.ckc_lines.specs.declared.lines.Line.{Line}
-use Rattle.ckc_lines.specs.declared.lines.Line.TheVariants.{Plain}
+use Rattle.ckc_asm_lines.specs.declared.lines.Line.{Line}
+use Rattle.ckc_asm_lines.specs.declared.lines.Line.TheVariants.{Plain}
 use Rattle.ckc_frame.specs.declared.code.Place.{Place}
 use Rattle.ckc_frame.specs.WellFormed.{IsPlace}
 use Rattle.ckc_emit.specs.declared.places.PlacedOperand.{PlacedOperand}

@@ -5,8 +5,8 @@ use Rattle.std.specs.List.{slice_get}
 use Rattle.std.proofs.lemmas.List.Elements.{All-head, All-tail}
 use Rattle.std.proofs.lemmas.List.Sums.{sum_by_more}
 use Rattle.ckc_rv.specs.Machine.{Parts}
-use Rattle.ckc_lines.specs.declared.lines.Line.{Line}
-use Rattle.ckc_lines.specs.Assembled.{Assembled}
+use Rattle.ckc_asm_lines.specs.declared.lines.Line.{Line}
+use Rattle.ckc_asm_lines.specs.Assembled.{Assembled}
 use Rattle.ckc_tac.specs.declared.code.TacBlock.{TacBlock}
 use Rattle.ckc_tac.specs.WellFormed.{IsBlockOver, IsFunctionOver}
 use Rattle.ckc_tac.specs.Sizes.{block_size}

@@ -8,13 +8,13 @@ use Rattle.ckc_base.specs.declared.places.Pos.{Pos}
 use Rattle.ckc_base.specs.declared.runtime_checks.Check.TheVariants.{Depth}
 use Rattle.ckc_base.specs.Traces.{Stopped}
 use Rattle.ckc_base.specs.Activations.{Values}
-use Rattle.ckc_operations.specs.declared.operations.RegOp.TheVariants.{Add}
-use Rattle.ckc_operations.specs.declared.operations.ImmOp.TheVariants.{Addi}
+use Rattle.ckc_rv_operations.specs.declared.operations.RegOp.TheVariants.{Add}
+use Rattle.ckc_rv_operations.specs.declared.operations.ImmOp.TheVariants.{Addi}
 use Rattle.ckc_rv.specs.declared.instructions.Instr.TheVariants.{Lui, Imm, Reg}
 use Rattle.ckc_rv.specs.Machine.{stack_start}
 use Rattle.ckc_rv.specs.Detailed.{MachineEvent}
-use Rattle.ckc_lines.specs.declared.lines.Line.{Line}
-use Rattle.ckc_lines.specs.declared.lines.Line.TheVariants.{Plain}
+use Rattle.ckc_asm_lines.specs.declared.lines.Line.{Line}
+use Rattle.ckc_asm_lines.specs.declared.lines.Line.TheVariants.{Plain}
 use Rattle.ckc_tac.specs.Operations.{values_in}
 use Rattle.ckc_frame.specs.declared.code.Place.{Place}
 use Rattle.ckc_frame.specs.declared.code.Place.TheVariants as place

@@ -7,15 +7,15 @@ use Rattle.ckc_base.specs.declared.runtime_checks.Check.{Check}
 use Rattle.ckc_base.specs.declared.runtime_checks.Check.TheVariants as check
 use Rattle.ckc_base.specs.Checks.{number_of as check_number, check_with}
 use Rattle.ckc_base.specs.Traces.{Stopped}
-use Rattle.ckc_operations.specs.declared.operations.BranchOp.TheVariants.{Bne}
+use Rattle.ckc_rv_operations.specs.declared.operations.BranchOp.TheVariants.{Bne}
 use Rattle.ckc_rv.specs.declared.instructions.Instr.{Instr}
 use Rattle.ckc_rv.specs.declared.instructions.Instr.TheVariants.{Ecall, Lui}
 use Rattle.ckc_rv.specs.Effects.{moved, is_taken}
 use Rattle.ckc_rv.specs.Machine.{data_start}
 use Rattle.ckc_base.proofs.Travelling.{one_travel}
 use Rattle.ckc_rv.specs.Detailed.{detailed_system}
-use Rattle.ckc_lines.specs.declared.lines.Line.{Line}
-use Rattle.ckc_lines.specs.declared.lines.Line.TheVariants as line
+use Rattle.ckc_asm_lines.specs.declared.lines.Line.{Line}
+use Rattle.ckc_asm_lines.specs.declared.lines.Line.TheVariants as line
 use Rattle.ckc_emit.specs.Lines.{upper_of, is_round, constant_lines, constant_count, ask_lines, stop_lines, over_stop_of, check_lines, add_lower_of}
 use Rattle.ckc_emit.proofs.Local.{Local, state_of}
 use Rattle.ckc_emit.proofs.Steps.{branch_taken, branch_passed, stops_step}

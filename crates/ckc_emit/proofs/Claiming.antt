@@ -11,18 +11,18 @@ use Rattle.ckc_base.specs.Activations.{Values, with_written}
 use Rattle.ckc_base.specs.Memory as base
 use Rattle.ckc_base.specs.Memory.{data_start, data_end, heap_has_room, next_place}
 use Rattle.ckc_base.proofs.Travelling.{one_travel}
-use Rattle.ckc_operations.specs.declared.operations.BranchOp.{BranchOp}
-use Rattle.ckc_operations.specs.declared.operations.BranchOp.TheVariants.{Bge, Bltu}
-use Rattle.ckc_operations.specs.declared.operations.ImmOp.{ImmOp}
-use Rattle.ckc_operations.specs.declared.operations.ImmOp.TheVariants.{Addi, Srli, Slli}
-use Rattle.ckc_operations.specs.declared.operations.RegOp.TheVariants.{Add, Sub, Mul, Divu, Srl}
-use Rattle.ckc_operations.specs.declared.operations.LoadOp.TheVariants.{Lw}
-use Rattle.ckc_operations.specs.declared.operations.StoreOp.TheVariants.{Sw}
+use Rattle.ckc_rv_operations.specs.declared.operations.BranchOp.{BranchOp}
+use Rattle.ckc_rv_operations.specs.declared.operations.BranchOp.TheVariants.{Bge, Bltu}
+use Rattle.ckc_rv_operations.specs.declared.operations.ImmOp.{ImmOp}
+use Rattle.ckc_rv_operations.specs.declared.operations.ImmOp.TheVariants.{Addi, Srli, Slli}
+use Rattle.ckc_rv_operations.specs.declared.operations.RegOp.TheVariants.{Add, Sub, Mul, Divu, Srl}
+use Rattle.ckc_rv_operations.specs.declared.operations.LoadOp.TheVariants.{Lw}
+use Rattle.ckc_rv_operations.specs.declared.operations.StoreOp.TheVariants.{Sw}
 use Rattle.ckc_rv.specs.declared.instructions.Instr.TheVariants.{Lui, Branch, Load, Store, Imm, Reg}
 use Rattle.ckc_rv.specs.Effects.{moved, is_taken, reg_value, reg_form}
 use Rattle.ckc_rv.specs.Detailed.{Wrote, detailed_system}
-use Rattle.ckc_lines.specs.declared.lines.Line.{Line}
-use Rattle.ckc_lines.specs.declared.lines.Line.TheVariants.{Plain}
+use Rattle.ckc_asm_lines.specs.declared.lines.Line.{Line}
+use Rattle.ckc_asm_lines.specs.declared.lines.Line.TheVariants.{Plain}
 use Rattle.ckc_frame.specs.declared.code.Place.{Place}
 use Rattle.ckc_frame.specs.Places.{number_of}
 use Rattle.ckc_frame.specs.WellFormed.{IsPlace}

@@ -15,8 +15,8 @@ use Rattle.ckc_base.proofs.Runs.{then_closes}
 use Rattle.ckc_base.proofs.Travelling.{then_travels}
 use Rattle.ckc_rv.specs.Machine.{stack_start}
 use Rattle.ckc_rv.specs.Detailed.{MachineEvent, Wrote, detailed_system}
-use Rattle.ckc_lines.specs.declared.lines.Line.{Line}
-use Rattle.ckc_lines.specs.declared.lines.Line.TheVariants.{Label, Far}
+use Rattle.ckc_asm_lines.specs.declared.lines.Line.{Line}
+use Rattle.ckc_asm_lines.specs.declared.lines.Line.TheVariants.{Label, Far}
 use Rattle.ckc_tac.specs.declared.code.TacBlock.{TacBlock}
 use Rattle.ckc_tac.specs.declared.code.TacFunc.{TacFunc}
 use Rattle.ckc_tac.specs.declared.code.TacOp.{TacOp}

@@ -5,16 +5,16 @@ use Rattle.std.specs.Ordering.{int_eq}
 use Rattle.std.proofs.lemmas.Bool.Decides.{nat_tests, Decides-int_eq}
 use Rattle.std.proofs.lemmas.Int.{ints}
 use Rattle.ckc_base.specs.Words.{word_of}
-use Rattle.ckc_operations.specs.declared.operations.LoadOp.TheVariants.{Lw}
-use Rattle.ckc_operations.specs.declared.operations.StoreOp.TheVariants.{Sw}
-use Rattle.ckc_operations.specs.declared.operations.ImmOp.TheVariants.{Addi}
-use Rattle.ckc_operations.specs.declared.operations.RegOp.TheVariants.{Add}
+use Rattle.ckc_rv_operations.specs.declared.operations.LoadOp.TheVariants.{Lw}
+use Rattle.ckc_rv_operations.specs.declared.operations.StoreOp.TheVariants.{Sw}
+use Rattle.ckc_rv_operations.specs.declared.operations.ImmOp.TheVariants.{Addi}
+use Rattle.ckc_rv_operations.specs.declared.operations.RegOp.TheVariants.{Add}
 use Rattle.ckc_rv.specs.declared.instructions.Instr.TheVariants.{Lui, Load, Store, Imm, Reg}
 use Rattle.ckc_rv.specs.Effects.{moved}
 use Rattle.ckc_rv.specs.Machine.{loaded, stack_start, memory_end}
 use Rattle.ckc_rv.specs.Detailed.{Wrote}
-use Rattle.ckc_lines.specs.declared.lines.Line.{Line}
-use Rattle.ckc_lines.specs.declared.lines.Line.TheVariants.{Plain}
+use Rattle.ckc_asm_lines.specs.declared.lines.Line.{Line}
+use Rattle.ckc_asm_lines.specs.declared.lines.Line.TheVariants.{Plain}
 use Rattle.ckc_emit.specs.Lines.{upper_of, lower_of, is_round, both_lines, large_lines, constant_lines, move_lines, offset_lines, far_load_lines, load_lines, far_store_lines, store_lines}
 use Rattle.ckc_emit.proofs.Local.{Local, changed, memory_of}
 use Rattle.ckc_emit.proofs.Words.{part_loaded, stack_loaded, stack_stored}

@@ -3,8 +3,8 @@ use Rattle.std.proofs.Common.{◌≡◌, ℕ, ◌+◌, ◌*◌, ◌^◌, ◌<◌
 use Rattle.std.specs.Prelude.{All, IfSome}
 use Rattle.std.specs.List.{slice_get}
 use Rattle.ckc_rv.specs.Machine as machine
-use Rattle.ckc_lines.specs.declared.lines.Line.{Line}
-use Rattle.ckc_lines.specs.declared.lines.Line.TheVariants.{Label}
+use Rattle.ckc_asm_lines.specs.declared.lines.Line.{Line}
+use Rattle.ckc_asm_lines.specs.declared.lines.Line.TheVariants.{Label}
 use Rattle.ckc_tac.specs.declared.code.TacBlock.{TacBlock}
 use Rattle.ckc_tac.specs.WellFormed.{IsOpOver, IsEndOver}
 use Rattle.ckc_frame.specs.declared.code.Place.{Place}

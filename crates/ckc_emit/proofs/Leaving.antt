@@ -7,12 +7,12 @@ use Rattle.std.proofs.lemmas.Option.{slice_get_within, get_or_from_slice_get}
 use Rattle.ckc_base.specs.Memory.{data_start}
 use Rattle.ckc_base.specs.States.{Travels}
 use Rattle.ckc_base.proofs.Travelling.{one_travel, no_travel, then_travels}
-use Rattle.ckc_operations.specs.declared.operations.BranchOp.{BranchOp}
+use Rattle.ckc_rv_operations.specs.declared.operations.BranchOp.{BranchOp}
 use Rattle.ckc_rv.specs.declared.instructions.Instr.TheVariants.{Branch as BranchInstr}
 use Rattle.ckc_rv.specs.Effects.{moved, is_taken}
 use Rattle.ckc_rv.specs.Detailed.{detailed_system}
-use Rattle.ckc_lines.specs.declared.lines.Line.{Line}
-use Rattle.ckc_lines.specs.declared.lines.Line.TheVariants.{Plain, Far}
+use Rattle.ckc_asm_lines.specs.declared.lines.Line.{Line}
+use Rattle.ckc_asm_lines.specs.declared.lines.Line.TheVariants.{Plain, Far}
 use Rattle.ckc_tac.specs.declared.code.TacBlock.{TacBlock}
 use Rattle.ckc_tac.specs.declared.code.TacOp.{TacOp}
 use Rattle.ckc_tac.specs.declared.code.TacEnd.{TacEnd}

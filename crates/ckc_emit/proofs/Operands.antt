@@ -1,7 +1,7 @@
 -- Operands that are read before an operation: at a place, or numbers.
 use Rattle.std.proofs.Common.{◌≡◌, ◌≢◌, ℕ, ◌^◌, ◌<◌, ◌==◌, if◌then◌else◌, Bool, true, false, List, [], length, Option, Some, refl, sym, ◌∙◌, ap, arith}
 use Rattle.ckc_base.specs.Activations.{Values}
-use Rattle.ckc_lines.specs.declared.lines.Line.{Line}
+use Rattle.ckc_asm_lines.specs.declared.lines.Line.{Line}
 use Rattle.ckc_tac.specs.declared.code.Operand.{Operand}
 use Rattle.ckc_tac.specs.declared.code.Operand.TheVariants as operand
 use Rattle.ckc_tac.specs.Operations.{value_in}

@@ -6,7 +6,7 @@ use Rattle.ckc_base.specs.Traces.{Stopped}
 use Rattle.ckc_base.specs.LongEvents.{LongEvent}
 use Rattle.ckc_base.specs.Actions.{World, Outcome, Gives, Done, Stops, Lost}
 use Rattle.ckc_base.specs.Activations.{Values, with_written}
-use Rattle.ckc_lines.specs.declared.lines.Line.{Line}
+use Rattle.ckc_asm_lines.specs.declared.lines.Line.{Line}
 use Rattle.ckc_tac.specs.declared.code.TacFunc.{TacFunc}
 use Rattle.ckc_tac.specs.declared.code.TacOp.{TacOp}
 use Rattle.ckc_tac.specs.Operations.{outcome_of}

@@ -9,7 +9,7 @@ use Rattle.ckc_base.specs.LongEvents.{LongEvent, Plain, Stored}
 use Rattle.ckc_base.specs.Memory as base
 use Rattle.ckc_base.specs.Actions.{World, Outcome, Gives, Done, Stops, Lost, with_value, stores_in, checks, gets_from, allocates, allocates_at, allocates_in}
 use Rattle.ckc_base.specs.Activations.{Values, with_written}
-use Rattle.ckc_lines.specs.declared.lines.Line.{Line}
+use Rattle.ckc_asm_lines.specs.declared.lines.Line.{Line}
 use Rattle.ckc_tac.specs.declared.code.TacFunc.{TacFunc}
 use Rattle.ckc_tac.specs.declared.code.TacOp.{TacOp}
 use Rattle.ckc_tac.specs.declared.code.TacOp.TheVariants.{Const, Copy, Bin, High, Load, Store, Check, Call, Get, Put, Alloc}

@@ -5,7 +5,7 @@ use Rattle.std.proofs.lemmas.Bool.{cases_eq}
 use Rattle.ckc_base.specs.Activations.{Values, with_written}
 use Rattle.ckc_rv.specs.Machine.{stack_start, memory_end}
 use Rattle.ckc_rv.specs.Detailed.{MachineEvent, Wrote}
-use Rattle.ckc_lines.specs.declared.lines.Line.{Line}
+use Rattle.ckc_asm_lines.specs.declared.lines.Line.{Line}
 use Rattle.ckc_frame.specs.declared.code.Place.{Place}
 use Rattle.ckc_frame.specs.declared.code.Place.TheVariants.{Reg, Slot}
 use Rattle.ckc_frame.specs.Places.{number_of, home, entry_places}

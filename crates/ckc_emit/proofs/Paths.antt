@@ -12,8 +12,8 @@ use Rattle.ckc_rv.specs.declared.instructions.Instr.TheVariants.{Auipc, Jalr}
 use Rattle.ckc_rv.specs.Effects.{moved}
 use Rattle.ckc_rv.specs.Machine.{Parts}
 use Rattle.ckc_rv.specs.Detailed.{MachineEvent, detailed_step, detailed_system}
-use Rattle.ckc_lines.specs.declared.lines.Line.{Line}
-use Rattle.ckc_lines.specs.declared.lines.Line.TheVariants.{Label, Plain, Jump, Branch, Far}
+use Rattle.ckc_asm_lines.specs.declared.lines.Line.{Line}
+use Rattle.ckc_asm_lines.specs.declared.lines.Line.TheVariants.{Label, Plain, Jump, Branch, Far}
 use Rattle.ckc_emit.proofs.Local.{Local, state_of}
 use Rattle.ckc_emit.proofs.Steps.{At, set, set_same, set_other, with_x}
 

@@ -8,9 +8,9 @@ use Rattle.std.proofs.lemmas.Bool.{cases_lt}
 use Rattle.std.proofs.lemmas.Bool.Decides.{nat_tests}
 use Rattle.ckc_rv.specs.declared.instructions.Instr.{Instr}
 use Rattle.ckc_rv.specs.Table.{InRange}
-use Rattle.ckc_lines.specs.declared.lines.Line.{Line}
-use Rattle.ckc_lines.specs.declared.lines.Line.TheVariants.{Label, Plain, Jump, Branch, Far}
-use Rattle.ckc_lines.specs.Assembled.{size_of, is_label}
+use Rattle.ckc_asm_lines.specs.declared.lines.Line.{Line}
+use Rattle.ckc_asm_lines.specs.declared.lines.Line.TheVariants.{Label, Plain, Jump, Branch, Far}
+use Rattle.ckc_asm_lines.specs.Assembled.{size_of, is_label}
 use Rattle.ckc_emit.specs.Spared.{SparesByInstr}
 use Rattle.ckc_emit.proofs.Paths.{Code, LinesAt}
 

@@ -11,11 +11,11 @@ use Rattle.ckc_rv.specs.Decoded.{decoded}
 use Rattle.ckc_rv.specs.Machine.{Parts, flat, loaded, is_code, code_start}
 use Rattle.ckc_rv.proofs.Rows.{decoded_law}
 use Rattle.ckc_image.specs.Image.{word_bytes}
-use Rattle.ckc_lines.specs.declared.lines.Line.{Line}
-use Rattle.ckc_lines.specs.declared.lines.Line.TheVariants.{Label, Plain, Jump, Branch, Far}
-use Rattle.ckc_lines.specs.Assembled.{size_of, offset_of, address_of, StandsAt, StandsOnce, is_label, IsWord, Assembled}
-use Rattle.ckc_lines.proofs.LabelPlaces.{address_is}
-use Rattle.ckc_lines.proofs.PlaceTable.{offset_more, offset_within, fours}
+use Rattle.ckc_asm_lines.specs.declared.lines.Line.{Line}
+use Rattle.ckc_asm_lines.specs.declared.lines.Line.TheVariants.{Label, Plain, Jump, Branch, Far}
+use Rattle.ckc_asm_lines.specs.Assembled.{size_of, offset_of, address_of, StandsAt, StandsOnce, is_label, IsWord, Assembled}
+use Rattle.ckc_asm_lines.proofs.LabelPlaces.{address_is}
+use Rattle.ckc_asm_lines.proofs.PlaceTable.{offset_more, offset_within, fours}
 use Rattle.ckc_emit.proofs.Words.{loaded_word}
 use Rattle.ckc_emit.proofs.Steps.{At}
 use Rattle.ckc_emit.proofs.Paths.{Code, LinesAt, FarAt}

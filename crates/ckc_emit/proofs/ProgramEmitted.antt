@@ -1,6 +1,6 @@
 -- The pieces of a program come to its lines.
 use Rattle.std.proofs.Common.{◌≡◌, ℕ, List, [], ◌++◌, append-nil, sym, ap, ◌∙◌}
-use Rattle.ckc_lines.specs.declared.lines.Line.{Line}
+use Rattle.ckc_asm_lines.specs.declared.lines.Line.{Line}
 use Rattle.ckc_frame.specs.declared.code.Placed.{Placed}
 use Rattle.ckc_emit.specs.Emitting.{Emits}
 use Rattle.ckc_emit.specs.ProgramLines.{label_of, start_lines, functions_lines, program_lines}

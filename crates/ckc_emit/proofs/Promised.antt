@@ -2,7 +2,7 @@
 use Rattle.std.proofs.Common.{◌≡◌, ◌≤◌, ◌<◌, length, sym, subst, arith}
 use Rattle.std.specs.Prelude.{All}
 use Rattle.ckc_rv.specs.Machine.{Parts}
-use Rattle.ckc_lines.specs.Assembled.{Assembled}
+use Rattle.ckc_asm_lines.specs.Assembled.{Assembled}
 use Rattle.ckc_frame.specs.declared.code.Placed.{Placed}
 use Rattle.ckc_frame.specs.WellFormed.{IsWellFormed}
 use Rattle.ckc_emit.specs.CodeSize.{code_size}

@@ -10,7 +10,7 @@ use Rattle.ckc_base.specs.Activations.{Values, with_written}
 use Rattle.ckc_base.specs.Memory as base
 use Rattle.ckc_rv.specs.Machine.{stack_start}
 use Rattle.ckc_rv.specs.Detailed.{MachineEvent, Outside, Wrote}
-use Rattle.ckc_lines.specs.declared.lines.Line.{Line}
+use Rattle.ckc_asm_lines.specs.declared.lines.Line.{Line}
 use Rattle.ckc_frame.specs.declared.code.Place.{Place}
 use Rattle.ckc_frame.specs.declared.code.Place.TheVariants.{Reg, Slot}
 use Rattle.ckc_frame.specs.Places.{number_of}

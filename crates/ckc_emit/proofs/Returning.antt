@@ -10,13 +10,13 @@ use Rattle.ckc_base.specs.Steps.{Goes, Halts}
 use Rattle.ckc_base.specs.States.{Travels}
 use Rattle.ckc_base.proofs.Runs.{one_halt, then_closes}
 use Rattle.ckc_base.proofs.Travelling.{one_travel, then_travels}
-use Rattle.ckc_operations.specs.declared.operations.RegOp.TheVariants.{Add}
+use Rattle.ckc_rv_operations.specs.declared.operations.RegOp.TheVariants.{Add}
 use Rattle.ckc_rv.specs.declared.instructions.Instr.TheVariants.{Lui, Reg, Jalr, Ecall}
 use Rattle.ckc_rv.specs.Effects.{moved}
 use Rattle.ckc_rv.specs.Machine.{stack_start, memory_end}
 use Rattle.ckc_rv.specs.Detailed.{MachineEvent, detailed_system}
-use Rattle.ckc_lines.specs.declared.lines.Line.{Line}
-use Rattle.ckc_lines.specs.declared.lines.Line.TheVariants.{Plain}
+use Rattle.ckc_asm_lines.specs.declared.lines.Line.{Line}
+use Rattle.ckc_asm_lines.specs.declared.lines.Line.TheVariants.{Plain}
 use Rattle.ckc_tac.specs.declared.code.TacEnd.TheVariants.{Return}
 use Rattle.ckc_frame.specs.declared.code.Place.{Place}
 use Rattle.ckc_frame.specs.declared.code.Place.TheVariants as place

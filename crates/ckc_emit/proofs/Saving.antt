@@ -3,7 +3,7 @@ use Rattle.std.proofs.Common.{◌≡◌, ◌≢◌, inl, inr, ℕ, zero, suc, �
 use Rattle.std.proofs.lemmas.Bool.{cases_eq}
 use Rattle.ckc_rv.specs.Machine.{stack_start, memory_end}
 use Rattle.ckc_rv.specs.Detailed.{MachineEvent, Wrote}
-use Rattle.ckc_lines.specs.declared.lines.Line.{Line}
+use Rattle.ckc_asm_lines.specs.declared.lines.Line.{Line}
 use Rattle.ckc_emit.specs.Lines.{register_of, load_lines, store_lines}
 use Rattle.ckc_emit.specs.CallLines.{each_lines, saves_lines, restores_lines}
 use Rattle.ckc_emit.proofs.Local.{Local, changed_same, changed_other}

@@ -7,8 +7,8 @@ use Rattle.ckc_base.proofs.Simulating.{Near}
 use Rattle.ckc_base.proofs.Travelling.{then_travels}
 use Rattle.ckc_rv.specs.declared.instructions.Instr.TheVariants.{Lui}
 use Rattle.ckc_rv.specs.Detailed.{Wrote, detailed_system}
-use Rattle.ckc_lines.specs.declared.lines.Line.{Line}
-use Rattle.ckc_lines.specs.declared.lines.Line.TheVariants.{Plain, Far}
+use Rattle.ckc_asm_lines.specs.declared.lines.Line.{Line}
+use Rattle.ckc_asm_lines.specs.declared.lines.Line.TheVariants.{Plain, Far}
 use Rattle.ckc_tac.specs.declared.code.TacBlock.{TacBlock}
 use Rattle.ckc_tac.specs.WellFormed.{IsBlockOver}
 use Rattle.ckc_frame.specs.declared.code.PlacedFunc.{PlacedFunc}

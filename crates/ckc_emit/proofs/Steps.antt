@@ -7,11 +7,11 @@ use Rattle.ckc_base.specs.declared.runtime_checks.Check.{Check}
 use Rattle.ckc_base.specs.Checks.{check_with}
 use Rattle.ckc_base.specs.Words.{word_of}
 use Rattle.ckc_base.specs.Steps.{Move, Goes, Halts}
-use Rattle.ckc_operations.specs.declared.operations.RegOp.{RegOp}
-use Rattle.ckc_operations.specs.declared.operations.ImmOp.{ImmOp}
-use Rattle.ckc_operations.specs.declared.operations.BranchOp.{BranchOp}
-use Rattle.ckc_operations.specs.declared.operations.LoadOp.{LoadOp}
-use Rattle.ckc_operations.specs.declared.operations.StoreOp.{StoreOp}
+use Rattle.ckc_rv_operations.specs.declared.operations.RegOp.{RegOp}
+use Rattle.ckc_rv_operations.specs.declared.operations.ImmOp.{ImmOp}
+use Rattle.ckc_rv_operations.specs.declared.operations.BranchOp.{BranchOp}
+use Rattle.ckc_rv_operations.specs.declared.operations.LoadOp.{LoadOp}
+use Rattle.ckc_rv_operations.specs.declared.operations.StoreOp.{StoreOp}
 use Rattle.ckc_rv.specs.declared.instructions.Instr.{Instr}
 use Rattle.ckc_rv.specs.declared.instructions.Instr.TheVariants.{Lui, Auipc, Jalr, Branch, Load, Store, Imm, Reg, Ecall}
 use Rattle.ckc_rv.specs.declared.registers.Outcome.{Outcome}

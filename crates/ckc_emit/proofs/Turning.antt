@@ -3,7 +3,7 @@ use Rattle.std.proofs.Common.{◌≡◌, ℕ, ◌+◌, ◌<◌, ◌≤◌, List,
 use Rattle.std.specs.Prelude.{sum_by}
 use Rattle.std.proofs.lemmas.List.{at_drop_more, take_all}
 use Rattle.std.proofs.lemmas.List.Sums.{sum_by_more, sum_by_more_le}
-use Rattle.ckc_lines.specs.declared.lines.Line.{Line}
+use Rattle.ckc_asm_lines.specs.declared.lines.Line.{Line}
 use Rattle.ckc_tac.specs.declared.code.TacBlock.{TacBlock}
 use Rattle.ckc_tac.specs.declared.code.TacOp.{TacOp}
 use Rattle.ckc_frame.specs.declared.code.PlacedFunc.{PlacedFunc}

@@ -3,16 +3,16 @@
 use Rattle.std.specs.Prelude.{ℕ, ◌+◌, ◌*◌, ◌==◌, ◌||◌, Bool, false, List, [], ◌∷◌, slice_get, Option, Some, None}
 use Rattle.ckc_base.specs.declared.places.Pos.{Pos}
 use Rattle.ckc_base.specs.declared.runtime_checks.Check.TheVariants.{Depth}
-use Rattle.ckc_operations.specs.declared.operations.RegOp.TheVariants.{Add}
+use Rattle.ckc_rv_operations.specs.declared.operations.RegOp.TheVariants.{Add}
 use Rattle.ckc_rv.specs.declared.instructions.Instr.TheVariants.{Lui, Reg}
-use Rattle.ckc_lines.specs.declared.lines.Line.{Line}
-use Rattle.ckc_lines.specs.declared.lines.Line.TheVariants.{Plain, Far}
+use Rattle.ckc_asm_lines.specs.declared.lines.Line.{Line}
+use Rattle.ckc_asm_lines.specs.declared.lines.Line.TheVariants.{Plain, Far}
 use Rattle.ckc_frame.specs.declared.code.Place.{Place}
 use Rattle.ckc_frame.specs.declared.code.Place.TheVariants as place
 use Rattle.ckc_frame.specs.Places.{home, is_kept_home}
-unfoldable pub use Rattle.ckc_templates.specs.Saved.{each_lines}
-pub use Rattle.ckc_templates.specs.Saved.{save_lines, restore_lines, saves_lines, restores_lines}
-pub use Rattle.ckc_templates.specs.code.Saved.{kept_lines}
+unfoldable pub use Rattle.ckc_emit_templates.specs.Saved.{each_lines}
+pub use Rattle.ckc_emit_templates.specs.Saved.{save_lines, restore_lines, saves_lines, restores_lines}
+pub use Rattle.ckc_emit_templates.specs.code.Saved.{kept_lines}
 use Rattle.ckc_emit.specs.Lines.{register_of, offset_of, load_lines, store_lines, settle_lines, move_lines, check_lines}
 
 -- the place of a register; of one without a place, any

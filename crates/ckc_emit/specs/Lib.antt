@@ -1,5 +1,5 @@
 pub mod Lines
-pub use Rattle.ckc_templates.specs.Emitting
+pub use Rattle.ckc_emit_templates.specs.Emitting
 pub mod Stores
 pub mod CallLines
 pub mod ProgramLines

@@ -8,24 +8,24 @@ use Rattle.ckc_base.specs.declared.arithmetic.Width.TheVariants.{Byte, Word}
 use Rattle.ckc_base.specs.declared.places.Pos.{Pos}
 use Rattle.ckc_base.specs.declared.runtime_checks.Check.{Check}
 use Rattle.ckc_base.specs.Checks.{number_of}
-use Rattle.ckc_operations.specs.declared.operations.BranchOp.TheVariants.{Bne, Bge, Bltu}
-use Rattle.ckc_operations.specs.declared.operations.LoadOp.{LoadOp}
-use Rattle.ckc_operations.specs.declared.operations.LoadOp.TheVariants.{Lw, Lbu}
-use Rattle.ckc_operations.specs.declared.operations.StoreOp.{StoreOp}
-use Rattle.ckc_operations.specs.declared.operations.StoreOp.TheVariants.{Sb, Sw}
-use Rattle.ckc_operations.specs.declared.operations.ImmOp.{ImmOp}
-use Rattle.ckc_operations.specs.declared.operations.ImmOp.TheVariants.{Addi, Slti, Sltiu, Xori, Ori, Andi, Slli, Srli, Srai}
-use Rattle.ckc_operations.specs.declared.operations.RegOp.{RegOp}
-use Rattle.ckc_operations.specs.declared.operations.RegOp.TheVariants.{Add, Sub, Sll, Slt, Sltu, Xor, Srl, Sra, Or, And, Mul, Mulh, Mulhu, Div, Divu, Rem, Remu}
+use Rattle.ckc_rv_operations.specs.declared.operations.BranchOp.TheVariants.{Bne, Bge, Bltu}
+use Rattle.ckc_rv_operations.specs.declared.operations.LoadOp.{LoadOp}
+use Rattle.ckc_rv_operations.specs.declared.operations.LoadOp.TheVariants.{Lw, Lbu}
+use Rattle.ckc_rv_operations.specs.declared.operations.StoreOp.{StoreOp}
+use Rattle.ckc_rv_operations.specs.declared.operations.StoreOp.TheVariants.{Sb, Sw}
+use Rattle.ckc_rv_operations.specs.declared.operations.ImmOp.{ImmOp}
+use Rattle.ckc_rv_operations.specs.declared.operations.ImmOp.TheVariants.{Addi, Slti, Sltiu, Xori, Ori, Andi, Slli, Srli, Srai}
+use Rattle.ckc_rv_operations.specs.declared.operations.RegOp.{RegOp}
+use Rattle.ckc_rv_operations.specs.declared.operations.RegOp.TheVariants.{Add, Sub, Sll, Slt, Sltu, Xor, Srl, Sra, Or, And, Mul, Mulh, Mulhu, Div, Divu, Rem, Remu}
 use Rattle.ckc_rv.specs.declared.instructions.Instr.{Instr}
 use Rattle.ckc_rv.specs.declared.instructions.Instr.TheVariants.{Lui, Branch, Load, Store, Imm, Reg}
-use Rattle.ckc_lines.specs.declared.lines.Line.{Line}
-use Rattle.ckc_lines.specs.declared.lines.Line.TheVariants.{Plain}
+use Rattle.ckc_asm_lines.specs.declared.lines.Line.{Line}
+use Rattle.ckc_asm_lines.specs.declared.lines.Line.TheVariants.{Plain}
 use Rattle.ckc_frame.specs.declared.code.Place.{Place}
 use Rattle.ckc_frame.specs.declared.code.Place.TheVariants as place
-unfoldable pub use Rattle.ckc_templates.specs.Templates.{upper_of, lower_of}
-pub use Rattle.ckc_templates.specs.Templates.{add_lower_of, immediate_of, load_lower_of, store_lower_of, load_near_of, store_near_of, is_round, both_lines, large_lines, constant_lines, move_lines, offset_lines, far_load_lines, load_lines, far_store_lines, store_lines, ask_lines}
-pub use Rattle.ckc_templates.specs.Saved.{register_of}
+unfoldable pub use Rattle.ckc_emit_templates.specs.Templates.{upper_of, lower_of}
+pub use Rattle.ckc_emit_templates.specs.Templates.{add_lower_of, immediate_of, load_lower_of, store_lower_of, load_near_of, store_near_of, is_round, both_lines, large_lines, constant_lines, move_lines, offset_lines, far_load_lines, load_lines, far_store_lines, store_lines, ask_lines}
+pub use Rattle.ckc_emit_templates.specs.Saved.{register_of}
 use Rattle.ckc_emit.specs.declared.places.PlacedOperand.{PlacedOperand}
 use Rattle.ckc_emit.specs.declared.places.PlacedOperand.TheVariants.{At, Number}
 use Rattle.ckc_emit.specs.declared.operations.Form.{Form}

@@ -1,12 +1,12 @@
 -- The lines of blocks, functions and programs. Labels are numbers: 0 is the start, then each function has one, and
 -- behind it one for each of its blocks.
 use Rattle.std.specs.Prelude.{ℕ, ◌+◌, ◌==◌, not, ◌&&◌, if◌then◌else◌, Bool, true, false, List, [], ◌∷◌, length, slice_get, sum_by, take, Option, Some, None, pos}
-use Rattle.ckc_operations.specs.declared.operations.BranchOp.{BranchOp}
-use Rattle.ckc_operations.specs.declared.operations.BranchOp.TheVariants.{Beq, Bne, Blt, Bge, Bltu, Bgeu}
+use Rattle.ckc_rv_operations.specs.declared.operations.BranchOp.{BranchOp}
+use Rattle.ckc_rv_operations.specs.declared.operations.BranchOp.TheVariants.{Beq, Bne, Blt, Bge, Bltu, Bgeu}
 use Rattle.ckc_rv.specs.declared.instructions.Instr.TheVariants.{Jalr, Branch as BranchInstr}
-use Rattle.ckc_lines.specs.declared.lines.Labelled.{Labelled}
-use Rattle.ckc_lines.specs.declared.lines.Line.{Line}
-use Rattle.ckc_lines.specs.declared.lines.Line.TheVariants.{Label, Plain, Far}
+use Rattle.ckc_asm_lines.specs.declared.lines.Labelled.{Labelled}
+use Rattle.ckc_asm_lines.specs.declared.lines.Line.{Line}
+use Rattle.ckc_asm_lines.specs.declared.lines.Line.TheVariants.{Label, Plain, Far}
 use Rattle.ckc_tac.specs.declared.code.TacBlock.{TacBlock}
 use Rattle.ckc_tac.specs.declared.code.Comparison.{Comparison}
 use Rattle.ckc_tac.specs.declared.code.Comparison.TheVariants.{LtS, LtU, Eq, Ne}
@@ -25,7 +25,7 @@ use Rattle.ckc_emit.specs.declared.places.PlacedOperand.{PlacedOperand}
 use Rattle.ckc_emit.specs.declared.places.PlacedOperand.TheVariants as placed
 use Rattle.ckc_emit.specs.Lines.{register_with, operand_lines, take_lines, load_lines, store_lines, const_lines, copy_lines, bin_lines, high_lines, data_load_lines, data_store_lines, test_lines, get_lines, put_lines, alloc_lines}
 use Rattle.ckc_emit.specs.CallLines.{place_at, call_lines, result_lines}
-pub use Rattle.ckc_templates.specs.Start.{start_lines}
+pub use Rattle.ckc_emit_templates.specs.Start.{start_lines}
 
 -- ---- labels
 

@@ -8,8 +8,8 @@ use Rattle.ckc_base.specs.Listing.{Listing}
 use Rattle.ckc_rv.specs.Machine as machine
 use Rattle.ckc_rv.specs.Machine.{Parts, machine}
 use Rattle.ckc_rv.specs.Detailed.{detailed_machine, detailed_system}
-use Rattle.ckc_lines.specs.declared.lines.Labelled.{Labelled}
-use Rattle.ckc_lines.specs.Assembled.{Assembled}
+use Rattle.ckc_asm_lines.specs.declared.lines.Labelled.{Labelled}
+use Rattle.ckc_asm_lines.specs.Assembled.{Assembled}
 use Rattle.ckc_frame.specs.declared.code.Placed.{Placed}
 use Rattle.ckc_frame.specs.Meaning.{first_state, placed_detail, placed_meaning, placed_system}
 use Rattle.ckc_emit.specs.Stores.{seen_events, may_do}

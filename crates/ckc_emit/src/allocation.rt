@@ -6,10 +6,10 @@ ghost use Rattle.ckc_emit.specs.code.Operands.{IsOperand};
 ghost use Rattle.ckc_emit.specs.Lines.{alloc_lines, tests_lines, room_lines, rounded_lines, claim_lines};
 
 use crate::places::{PlacedOperand, put_settle, put_take};
+use ckc_asm_lines::Line;
+use ckc_emit_templates::{put, put_constant};
 use ckc_frame::Place;
-use ckc_lines::Line;
 use ckc_rv::{BranchOp, ImmOp, Instr, LoadOp, RegOp, StoreOp};
-use ckc_templates::{put, put_constant};
 use std::alloc::AllocError;
 
 /// Sets x10 to the place of a new block of x5 elements of a size and moves the heap word past it; or sets it to 0

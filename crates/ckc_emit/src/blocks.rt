@@ -17,12 +17,12 @@ use crate::operations::{
     put_test,
 };
 use crate::places::{PlacedOperand, place_in, put_operand, put_take, register_of_operand};
+use ckc_asm_lines::Line;
 use ckc_base::Pos;
+use ckc_emit_templates::{SP, put, put_load, put_store};
 use ckc_frame::{Place, Placed, PlacedFunc};
-use ckc_lines::Line;
 use ckc_rv::{BranchOp, Instr};
 use ckc_tac::{Comparison, Operand, TacBlock, TacEnd, TacOp};
-use ckc_templates::{SP, put, put_load, put_store};
 use std::alloc::AllocError;
 
 /// The place of a register of a function.

@@ -7,11 +7,11 @@ ghost use Rattle.ckc_emit.specs.CallLines.{is_argument_home, depth_lines, argume
 
 use crate::places::{offset, place_in, put_settle, source};
 use crate::stops::put_check;
+use ckc_asm_lines::Line;
 use ckc_base::{Check, Pos};
+use ckc_emit_templates::{SP, put, put_load, put_move, put_restores, put_saves, put_store};
 use ckc_frame::Place;
-use ckc_lines::Line;
 use ckc_rv::{Instr, RegOp};
-use ckc_templates::{SP, put, put_load, put_move, put_restores, put_saves, put_store};
 use std::alloc::AllocError;
 
 const FRAME: u8 = 8;

@@ -10,11 +10,11 @@ use crate::places::{
     source,
 };
 use crate::stops::put_check;
+use ckc_asm_lines::Line;
 use ckc_base::{BinOp, Check, Pos, Width};
+use ckc_emit_templates::{immediate, put, put_ask, put_constant, upper};
 use ckc_frame::Place;
-use ckc_lines::Line;
 use ckc_rv::{ImmOp, Instr, LoadOp, RegOp, StoreOp};
-use ckc_templates::{immediate, put, put_ask, put_constant, upper};
 use std::alloc::AllocError;
 
 /// A place gets a word.

@@ -6,9 +6,9 @@ ghost use Rattle.ckc_emit.specs.CallLines.{place_at};
 ghost use Rattle.ckc_emit.specs.Lines.{offset_of, source_of, register_with, read_lines, operand_lines, write_lines, settle_lines, fetch_lines, take_lines};
 ghost use Rattle.ckc_emit.specs.code.Operands.{IsOperand};
 
+use ckc_asm_lines::Line;
+use ckc_emit_templates::{SP, put_constant, put_load, put_move, put_store, register};
 use ckc_frame::Place;
-use ckc_lines::Line;
-use ckc_templates::{SP, put_constant, put_load, put_move, put_store, register};
 use std::alloc::AllocError;
 
 /// An operand: the place of a register, or a number.

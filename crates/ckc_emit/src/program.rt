@@ -1,7 +1,7 @@
 //! The lines of a program.
 ghost use Rattle.std.specs.Prelude.{◌≡◌, ◌*◌, ◌≤◌, ◌<◌, ◌^◌, length, sum_by, All, IfOk, OnOk};
 ghost use Rattle.ckc_base.specs.MemoryMap.{longest_data, most_instructions};
-ghost use Rattle.ckc_lines.specs.Assembled.{size_of, CanAssemble};
+ghost use Rattle.ckc_asm_lines.specs.Assembled.{size_of, CanAssemble};
 ghost use Rattle.ckc_frame.specs.WellFormed.{IsWellFormed};
 ghost use Rattle.ckc_emit.specs.Emitting.{Emits};
 ghost use Rattle.ckc_emit.specs.ProgramLines.{label_of, functions_lines, program_lines, labelled_program};
@@ -12,10 +12,10 @@ ghost use Rattle.ckc_emit.specs.Promise.{FollowsPlaced, FollowsStores, ListsStor
 
 use crate::blocks::put_function;
 use crate::initial::copy_of;
+use ckc_asm_lines::{Labelled, Line};
 use ckc_base::Seq;
+use ckc_emit_templates::put_start;
 use ckc_frame::{Placed, PlacedFunc};
-use ckc_lines::{Labelled, Line};
-use ckc_templates::put_start;
 use std::alloc::{AllocError, Global};
 
 /// The labelled lines of placed code, or want of memory.

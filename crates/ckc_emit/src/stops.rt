@@ -3,10 +3,10 @@ ghost use Rattle.std.specs.Prelude.{◌≡◌, ◌+◌, ◌*◌, ◌∷◌, OnOk
 ghost use Rattle.ckc_emit.specs.Emitting.{Emits};
 ghost use Rattle.ckc_emit.specs.Lines.{over_stop_of, constant_count as count_of, stop_lines, check_lines};
 
+use ckc_asm_lines::Line;
 use ckc_base::{Check, Pos, check_number};
-use ckc_lines::Line;
+use ckc_emit_templates::{lower, near, put, put_ask, put_constant, upper};
 use ckc_rv::{BranchOp, Instr};
-use ckc_templates::{lower, near, put, put_ask, put_constant, upper};
 use std::alloc::AllocError;
 
 /// How many instructions set a register to a word.

@@ -3,7 +3,7 @@ ghost use Rattle.ckc_base.specs.MemoryMap.{longest_code};
 ghost use Rattle.ckc_image.specs.Image.{EntryFits, FirstBad, ImageOf, IsProper, LengthsFit, four_at, word_at};
 
 use ckc_base::memory_map::{CODE_START, LONGEST_CODE, LONGEST_DATA};
-use ckc_counts::is_image_length;
+use ckc_base_counts::is_image_length;
 use thiserror::Error;
 
 const MAGIC: [u8; 4] = *b"CCIM";

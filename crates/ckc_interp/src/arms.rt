@@ -9,15 +9,15 @@ ghost use Rattle.ckc_source.specs.States.{State, Rest, settled};
 ghost use Rattle.ckc_source.specs.States as states;
 ghost use Rattle.ckc_source.specs.Eval.{evaluated, all_evaluated};
 ghost use Rattle.ckc_source.specs.Steps.{store_of, aimed, bundled, returns, hands, reads_result, calls, kept_place, spot_in, spot_of, at_work, and_moves, comes_to};
-ghost use Rattle.ckc_blocks.specs.Views.{shapes_of};
-ghost use Rattle.ckc_eval.specs.Stores as stores;
+ghost use Rattle.ckc_interp_blocks.specs.Views.{shapes_of};
+ghost use Rattle.ckc_interp_eval.specs.Stores as stores;
 ghost use Rattle.ckc_interp.specs.code.Turns.{Does, asked, asked_next, gets_at, puts_at, turn_asks, reached, noted, spot_with, values_as};
 
 use crate::frame::{Caller, Frame, enter};
 use crate::run::{Run, Turn};
 use crate::work::{Work, push_rest, push_turn, settle, take_front};
 use ckc_base::{Check, Mode, Pos};
-use ckc_eval::Reader;
+use ckc_interp_eval::Reader;
 use ckc_source::{
     Assign, ExprTree, Halt, Kept, Limits, Place, Program, Spot, StmtTree, TargetTree,
 };

@@ -4,12 +4,12 @@ ghost use Rattle.std.specs.Prelude.{◌≡◌, ◌^◌, ◌<◌, ◌≤◌, ◌+
 ghost use Rattle.ckc_base.specs.Memory.{kept_part};
 ghost use Rattle.ckc_source.specs.Code.{target_of, right_of, assign_of};
 ghost use Rattle.ckc_source.specs.Steps.{allowed, refuses, writes, writes_allowed, all_written, drawn, allocated, planned, bundled};
-ghost use Rattle.ckc_blocks.specs.Views.{shapes_of};
+ghost use Rattle.ckc_interp_blocks.specs.Views.{shapes_of};
 ghost use Rattle.ckc_interp.specs.code.Turns.{reached, drawn_as, planned_as, planned_one, planned_one_as};
 
 use crate::run::Run;
 use ckc_base::{Check, Width};
-use ckc_eval::Reader;
+use ckc_interp_eval::Reader;
 use ckc_source::{Assign, Halt, Place, Pointee, RightTree};
 use std::alloc::{AllocError, Global};
 

@@ -1,8 +1,8 @@
 //! A run, and the parts of its steps.
 
 use crate::frame::{Caller, Frame};
-use ckc_blocks::Blocks;
-use ckc_eval::Reader;
+use ckc_interp_blocks::Blocks;
+use ckc_interp_eval::Reader;
 use ckc_source::{Halt, Place};
 
 /// What a step asks of the outside: nothing; to put the lowest byte of a word and write it; to get a byte and write
@@ -36,8 +36,8 @@ impl Drop for Run<'_> {
 impl<'a> Run<'a> {
     ghost use Rattle.std.specs.Prelude.{◌≡◌};
     ghost use Rattle.ckc_source.specs.Steps.{store_of};
-    ghost use Rattle.ckc_blocks.specs.Views.{shapes_of};
-    ghost use Rattle.ckc_eval.specs.Stores as stores;
+    ghost use Rattle.ckc_interp_blocks.specs.Views.{shapes_of};
+    ghost use Rattle.ckc_interp_eval.specs.Stores as stores;
     ghost use Rattle.ckc_interp.specs.code.Views.{core_of};
 
     /// What expressions of the innermost call read.

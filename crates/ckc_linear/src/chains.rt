@@ -6,7 +6,7 @@ ghost use Rattle.ckc_linear.specs.Chains.{Chain};
 ghost use Rattle.ckc_linear.specs.code.Rows.{IsRow, IsRound, IsSmall, Lowers, sum_at};
 
 use crate::{Fact, Facts};
-use ckc_counts::most_facts;
+use ckc_base_counts::most_facts;
 
 /// Stands for no sum. The sums of walks are far below it.
 const NONE: i64 = i64::MAX;

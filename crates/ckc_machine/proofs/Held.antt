@@ -5,10 +5,10 @@ use Rattle.std.proofs.lemmas.Bool.{cases_lt}
 use Rattle.std.proofs.Math.Path.{fun_ext}
 use Rattle.std.proofs.lemmas.List.{get_or-drop, get_or-take, get_or_past}
 use Rattle.ckc_rv.specs.Machine.{Parts, Memory, flat, loaded, stored, code_start, data_start, stack_start, memory_end}
-use Rattle.ckc_operations.specs.declared.operations.LoadOp.{LoadOp}
-use Rattle.ckc_operations.specs.declared.operations.LoadOp.TheVariants.{Lb, Lh, Lw, Lbu, Lhu}
-use Rattle.ckc_operations.specs.declared.operations.StoreOp.{StoreOp}
-use Rattle.ckc_operations.specs.declared.operations.StoreOp.TheVariants.{Sb, Sh, Sw}
+use Rattle.ckc_rv_operations.specs.declared.operations.LoadOp.{LoadOp}
+use Rattle.ckc_rv_operations.specs.declared.operations.LoadOp.TheVariants.{Lb, Lh, Lw, Lbu, Lhu}
+use Rattle.ckc_rv_operations.specs.declared.operations.StoreOp.{StoreOp}
+use Rattle.ckc_rv_operations.specs.declared.operations.StoreOp.TheVariants.{Sb, Sh, Sw}
 use Rattle.ckc_rv.specs.Effects.{load_bytes, store_bytes}
 use Rattle.ckc_rv.proofs.Stored.{stored_inside, stored_outside}
 use Rattle.ckc_machine.specs.Bytes.{byte_of, byte_in, stack_byte, memory_of_words}

@@ -4,7 +4,7 @@ use Rattle.ckc_base.specs.declared.runtime_checks.Check.{Check}
 use Rattle.ckc_base.specs.Checks.{check_with}
 use Rattle.ckc_base.specs.Traces.{Event, Got, Put, Standing, Going, Ended, Stopped, Fault}
 use Rattle.ckc_base.specs.Steps.{Move, Goes, Halts}
-use Rattle.ckc_operations.specs.declared.operations.LoadOp.{LoadOp}
+use Rattle.ckc_rv_operations.specs.declared.operations.LoadOp.{LoadOp}
 use Rattle.ckc_rv.specs.declared.instructions.Instr.{Instr}
 use Rattle.ckc_rv.specs.declared.registers.Outcome.{Outcome}
 use Rattle.ckc_rv.specs.declared.registers.Outcome.TheVariants as outcome

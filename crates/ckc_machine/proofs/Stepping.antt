@@ -1,6 +1,6 @@
 -- One instruction that asks nothing of the outside.
 use Rattle.std.proofs.Common.{◌≡◌, ℕ, List, [], Option, refl, sym, subst, ◌∙◌}
-use Rattle.ckc_operations.specs.declared.operations.StoreOp.{StoreOp}
+use Rattle.ckc_rv_operations.specs.declared.operations.StoreOp.{StoreOp}
 use Rattle.ckc_rv.specs.Effects.{store_bytes}
 use Rattle.ckc_rv.specs.Machine.{Parts, State, with_register, next_with, stored}
 use Rattle.ckc_machine.specs.declared.observed.Observed.{Observed}

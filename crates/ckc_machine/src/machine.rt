@@ -4,7 +4,7 @@ ghost use Rattle.ckc_rv.specs.Effects.{load_bytes, store_bytes};
 use crate::memory::{Memory, is_writable};
 use crate::observed::{FaultKind, Observed};
 use ckc_base::{Pos, check_of};
-use ckc_counts::{byte_or_end, one_more};
+use ckc_base_counts::{byte_or_end, one_more};
 use ckc_image::View;
 use ckc_outside::{Sink, Source};
 use ckc_rv::{LoadOp, Outcome, Regs, StoreOp, word_effect};

@@ -2,7 +2,7 @@ use Rattle.std.specs.Prelude.{◌≡◌, ◌≢◌, ℕ, ◌<◌, ◌≤◌, Lis
 use Rattle.std.specs.Ordering.{nat_cmp}
 use Rattle.std.specs.Cmp.Lexicographic.{slice_cmp}
 use Rattle.std.specs.FinMap as map
-pub use Rattle.ckc_counts.specs.Counts.{Rose, one_more}
+pub use Rattle.ckc_base_counts.specs.Counts.{Rose, one_more}
 use Rattle.ckc_outside.specs.declared.traits.Failed.{Failed}
 use Rattle.ckc_outside.specs.declared.traits.StoreError as errors
 use Rattle.ckc_outside.specs.declared.traits.Fetched as fetches

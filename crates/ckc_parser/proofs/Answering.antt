@@ -2,10 +2,10 @@
 use Rattle.std.proofs.Common.{◌≡◌, List, [], ◌∷◌, ◌++◌, sym, ap, subst, ◌∙◌, append_assoc, append-nil}
 use Rattle.ckc_base.specs.declared.places.Pos.{Pos}
 use Rattle.ckc_syntax.specs.Spelled.{Spelled}
-use Rattle.ckc_grammar.specs.Trees.{Tree}
-use Rattle.ckc_grammar.specs.Values.{Value, tree}
+use Rattle.ckc_parser_grammar.specs.Trees.{Tree}
+use Rattle.ckc_parser_grammar.specs.Values.{Value, tree}
 use Rattle.ckc_parser.specs.Text.{DerivesValue, Viable, FaultAt, IsFault}
-use Rattle.ckc_grammar.proofs.Theory.{same_read}
+use Rattle.ckc_parser_grammar.proofs.Theory.{same_read}
 use Rattle.ckc_parser.proofs.Top.{whole_taken}
 
 pub one_tree : (xs : List Spelled) (a b : Tree) → DerivesValue xs (tree a) → DerivesValue xs (tree b) → a ≡ b

@@ -1,13 +1,13 @@
 -- A function that ends with the call that makes its whole.
 use Rattle.std.proofs.Common.{◌≡◌, List}
 use Rattle.std.specs.Prelude.{Result, Ok, Err, IfOk, IsErrAnd}
-use Rattle.ckc_grammar.specs.Grammar.{Symbol}
-use Rattle.ckc_grammar.specs.Derives.{Sign}
-use Rattle.ckc_grammar.specs.declared.parts.Stop.{Stop}
-use Rattle.ckc_grammar.specs.declared.parts.Stop.TheVariants as stop
-use Rattle.ckc_grammar.specs.Marked.{Halts, Answered}
+use Rattle.ckc_parser_grammar.specs.Grammar.{Symbol}
+use Rattle.ckc_parser_grammar.specs.Derives.{Sign}
+use Rattle.ckc_parser_grammar.specs.declared.parts.Stop.{Stop}
+use Rattle.ckc_parser_grammar.specs.declared.parts.Stop.TheVariants as stop
+use Rattle.ckc_parser_grammar.specs.Marked.{Halts, Answered}
 use Rattle.ckc_parser.specs.code.Parts.{IsMemory, HoldsOrMemory}
-use Rattle.ckc_expressions.proofs.Exits.{exit}
+use Rattle.ckc_parser_expressions.proofs.Exits.{exit}
 
 -- What is made of all parts, is the outcome of the function; and want of memory is.
 pub finished : {X : Type 0} (G H : X → Type 0) (ss : List Symbol) (a b : List Sign) (r : Result X Stop) → ((x : X) → G x → H x) → HoldsOrMemory G r → Answered H ss a r b

@@ -4,15 +4,15 @@ use Rattle.ckc_base.specs.declared.places.Pos.{Pos}
 use Rattle.ckc_base.specs.declared.places.Refusal.{Refusal}
 use Rattle.ckc_base.specs.Phases.{IsExact}
 use Rattle.ckc_syntax.specs.Spelled.{Spelled}
-use Rattle.ckc_grammar.specs.Grammar as g
-use Rattle.ckc_grammar.specs.Values.{Value, tree, items}
-use Rattle.ckc_grammar.specs.Derives as D
-use Rattle.ckc_grammar.specs.Shapes.{tree_shape, has_shape}
+use Rattle.ckc_parser_grammar.specs.Grammar as g
+use Rattle.ckc_parser_grammar.specs.Values.{Value, tree, items}
+use Rattle.ckc_parser_grammar.specs.Derives as D
+use Rattle.ckc_parser_grammar.specs.Shapes.{tree_shape, has_shape}
 use Rattle.ckc_parser.specs.Text.{DerivesValue, Viable, IsFault, SpelledTree, DerivesTokens, FirstFault}
 use Rattle.ckc_parser.specs.Phase.{parsing}
-use Rattle.ckc_grammar.specs.Marked.{signs}
-use Rattle.ckc_grammar.specs.declared.kind.Kind.TheVariants as kind
-use Rattle.ckc_grammar.proofs.Shapes.{shape_derived}
+use Rattle.ckc_parser_grammar.specs.Marked.{signs}
+use Rattle.ckc_parser_grammar.specs.declared.kind.Kind.TheVariants as kind
+use Rattle.ckc_parser_grammar.proofs.Shapes.{shape_derived}
 use Rattle.ckc_parser.proofs.Answering as answering
 
 fault_is : (a b : Refusal) → a.code ≡ b.code → a.pos ≡ b.pos → a ≡ b

@@ -1,17 +1,17 @@
 -- What is read stands in a list, behind what stood there.
 use Rattle.std.proofs.Common.{◌≡◌, List, [], ◌∷◌, ◌++◌, true, refl, sym, ap, subst, ◌∙◌, append_assoc, append-nil}
 use Rattle.std.specs.Prelude.{Some, Result}
-use Rattle.ckc_grammar.specs.declared.kind.Kind.{Kind}
-use Rattle.ckc_grammar.specs.declared.parts.Stop.{Stop}
-use Rattle.ckc_grammar.specs.Grammar.{Part, Symbol, n, Rule, right, allowed}
-use Rattle.ckc_grammar.specs.Values.{Value, made}
-use Rattle.ckc_grammar.specs.Derives.{Sign}
-use Rattle.ckc_grammar.specs.Reading.{kind_of, pick, Takes, Stops}
-use Rattle.ckc_grammar.specs.Marked.{Answered}
-use Rattle.ckc_grammar.specs.code.Marked.{Reads}
+use Rattle.ckc_parser_grammar.specs.declared.kind.Kind.{Kind}
+use Rattle.ckc_parser_grammar.specs.declared.parts.Stop.{Stop}
+use Rattle.ckc_parser_grammar.specs.Grammar.{Part, Symbol, n, Rule, right, allowed}
+use Rattle.ckc_parser_grammar.specs.Values.{Value, made}
+use Rattle.ckc_parser_grammar.specs.Derives.{Sign}
+use Rattle.ckc_parser_grammar.specs.Reading.{kind_of, pick, Takes, Stops}
+use Rattle.ckc_parser_grammar.specs.Marked.{Answered}
+use Rattle.ckc_parser_grammar.specs.code.Marked.{Reads}
 use Rattle.ckc_parser.specs.code.Parts.{Puts}
-use Rattle.ckc_grammar.proofs.Steps.{by_rule, stop_rule, turned}
-use Rattle.ckc_grammar.proofs.Onward.{Onward, at_start, one_turn, last_turn, stop_turn}
+use Rattle.ckc_parser_grammar.proofs.Steps.{by_rule, stop_rule, turned}
+use Rattle.ckc_parser_grammar.proofs.Onward.{Onward, at_start, one_turn, last_turn, stop_turn}
 
 -- what more stands behind what is put
 pub behind : {X : Type 0} (was is xs more : List X) → was ++ xs ≡ is → was ++ (xs ++ more) ≡ is ++ more

@@ -4,20 +4,20 @@ use Rattle.std.proofs.lemmas.List.{append_cancel_right}
 use Rattle.ckc_base.specs.declared.places.Pos.{Pos}
 use Rattle.ckc_syntax.specs.Spelled.{Spelled}
 use Rattle.ckc_syntax.specs.declared.tokens.TokenKind.TheVariants as kinds
-use Rattle.ckc_grammar.specs.declared.kind.Kind.{Kind}
-use Rattle.ckc_grammar.specs.declared.kind.Kind.TheVariants as kind
-use Rattle.ckc_grammar.specs.Kinds.{kind_of_token}
-use Rattle.ckc_grammar.specs.Grammar.{Terminal, Part, n}
-use Rattle.ckc_grammar.specs.Values.{Value}
-use Rattle.ckc_grammar.specs.Marked.{signs, signs_after, kind_after, place_of}
-use Rattle.ckc_grammar.specs.Derives.{Sign, before, Derives}
-use Rattle.ckc_grammar.specs.Derives as D
-use Rattle.ckc_grammar.specs.Reading.{kind_of, Takes, Stops}
+use Rattle.ckc_parser_grammar.specs.declared.kind.Kind.{Kind}
+use Rattle.ckc_parser_grammar.specs.declared.kind.Kind.TheVariants as kind
+use Rattle.ckc_parser_grammar.specs.Kinds.{kind_of_token}
+use Rattle.ckc_parser_grammar.specs.Grammar.{Terminal, Part, n}
+use Rattle.ckc_parser_grammar.specs.Values.{Value}
+use Rattle.ckc_parser_grammar.specs.Marked.{signs, signs_after, kind_after, place_of}
+use Rattle.ckc_parser_grammar.specs.Derives.{Sign, before, Derives}
+use Rattle.ckc_parser_grammar.specs.Derives as D
+use Rattle.ckc_parser_grammar.specs.Reading.{kind_of, Takes, Stops}
 use Rattle.ckc_parser.specs.Text.{start, DerivesValue, Viable, FaultAt, IsFault}
-use Rattle.ckc_grammar.proofs.Marks.{last_of, signs_both, glued_no}
-use Rattle.ckc_grammar.proofs.Samples.{sample, sample_token}
-use Rattle.ckc_grammar.proofs.Theory.{complete, read_of, same_read, clash}
-use Rattle.ckc_grammar.proofs.Prefixes.{stopped_of, begun_of, relax}
+use Rattle.ckc_parser_grammar.proofs.Marks.{last_of, signs_both, glued_no}
+use Rattle.ckc_parser_grammar.proofs.Samples.{sample, sample_token}
+use Rattle.ckc_parser_grammar.proofs.Theory.{complete, read_of, same_read, clash}
+use Rattle.ckc_parser_grammar.proofs.Prefixes.{stopped_of, begun_of, relax}
 
 -- no token, behind which the first one stands
 abbrev pub nobody : Spelled

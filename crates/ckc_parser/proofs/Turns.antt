@@ -1,18 +1,18 @@
 -- One item of a text.
 use Rattle.std.proofs.Common.{◌≡◌, List, [], ◌∷◌, ◌++◌, true, sym, subst}
 use Rattle.std.specs.Prelude.{Some, Result}
-use Rattle.ckc_grammar.specs.declared.kind.Kind.{Kind}
-use Rattle.ckc_grammar.specs.declared.parts.Stop.{Stop}
-use Rattle.ckc_grammar.specs.Grammar.{Symbol, n, Rule, right, allowed}
-use Rattle.ckc_grammar.specs.Grammar as g
-use Rattle.ckc_grammar.specs.Trees.{Item}
-use Rattle.ckc_grammar.specs.Values.{Value, made, as_items}
-use Rattle.ckc_grammar.specs.Derives.{Sign}
-use Rattle.ckc_grammar.specs.Reading.{kind_of, pick, Takes, Stops}
-use Rattle.ckc_grammar.specs.Marked.{Answered}
-use Rattle.ckc_grammar.specs.code.Marked.{Reads}
+use Rattle.ckc_parser_grammar.specs.declared.kind.Kind.{Kind}
+use Rattle.ckc_parser_grammar.specs.declared.parts.Stop.{Stop}
+use Rattle.ckc_parser_grammar.specs.Grammar.{Symbol, n, Rule, right, allowed}
+use Rattle.ckc_parser_grammar.specs.Grammar as g
+use Rattle.ckc_parser_grammar.specs.Trees.{Item}
+use Rattle.ckc_parser_grammar.specs.Values.{Value, made, as_items}
+use Rattle.ckc_parser_grammar.specs.Derives.{Sign}
+use Rattle.ckc_parser_grammar.specs.Reading.{kind_of, pick, Takes, Stops}
+use Rattle.ckc_parser_grammar.specs.Marked.{Answered}
+use Rattle.ckc_parser_grammar.specs.code.Marked.{Reads}
 use Rattle.ckc_parser.specs.code.Turns.{IsItem}
-use Rattle.ckc_grammar.proofs.Steps.{here_all, stop_rule, turned}
+use Rattle.ckc_parser_grammar.proofs.Steps.{here_all, stop_rule, turned}
 
 -- one item of a text, by a production that the next token chooses
 pub item_turn : {Y : Type 0} (r : Rule) (front : List Symbol) (was is : List Item) (a b : List Sign) (res : Result Y Stop) → right r ≡ front ++ n g.items ∷ [] → pick g.items (kind_of a) ≡ Some r → ((k : Kind) → allowed r k ≡ true) →

@@ -3,13 +3,13 @@ use Rattle.std.specs.Prelude.{◌≡◌, List, [], ◌∷◌, ◌++◌}
 use Rattle.ckc_base.specs.declared.places.Pos.{Pos}
 use Rattle.ckc_base.specs.declared.places.Refusal.{Refusal}
 use Rattle.ckc_syntax.specs.Spelled.{Spelled}
-use Rattle.ckc_grammar.specs.declared.kind.Kind.TheVariants as kind
-use Rattle.ckc_grammar.specs.Grammar.{Part, n}
-use Rattle.ckc_grammar.specs.Grammar as g
+use Rattle.ckc_parser_grammar.specs.declared.kind.Kind.TheVariants as kind
+use Rattle.ckc_parser_grammar.specs.Grammar.{Part, n}
+use Rattle.ckc_parser_grammar.specs.Grammar as g
 pub use Rattle.ckc_syntax.specs.Trees.{Tree as SpelledTree}
-use Rattle.ckc_grammar.specs.Values.{Value, tree}
-use Rattle.ckc_grammar.specs.Derives.{Derives, syntax_error}
-use Rattle.ckc_grammar.specs.Marked.{signs}
+use Rattle.ckc_parser_grammar.specs.Values.{Value, tree}
+use Rattle.ckc_parser_grammar.specs.Derives.{Derives, syntax_error}
+use Rattle.ckc_parser_grammar.specs.Marked.{signs}
 
 abbrev pub start : Part
 start = g.text

@@ -2,16 +2,16 @@ ghost use Rattle.std.specs.Prelude.{◌≡◌, ◌≤◌, ◌<◌, ◌∷◌, []
 ghost use Rattle.ckc_syntax.specs.Spelled.{spelled};
 ghost use Rattle.ckc_syntax.specs.declared.tree.Item.TheVariants as item;
 ghost use Rattle.ckc_syntax.specs.declared.tree.Length.TheVariants as lengths;
-ghost use Rattle.ckc_grammar.specs.Grammar as g;
-ghost use Rattle.ckc_grammar.specs.Trees as trees;
-ghost use Rattle.ckc_grammar.specs.Values as v;
-ghost use Rattle.ckc_grammar.specs.Marked.{ahead, remaining, Gives};
-ghost use Rattle.ckc_grammar.specs.code.Marked.{Reads};
+ghost use Rattle.ckc_parser_grammar.specs.Grammar as g;
+ghost use Rattle.ckc_parser_grammar.specs.Trees as trees;
+ghost use Rattle.ckc_parser_grammar.specs.Values as v;
+ghost use Rattle.ckc_parser_grammar.specs.Marked.{ahead, remaining, Gives};
+ghost use Rattle.ckc_parser_grammar.specs.code.Marked.{Reads};
 ghost use Rattle.ckc_parser.specs.code.Parts.{HoldsOrMemory, ReadsStarsAndName, Puts};
 
 use crate::lists::{Declarations, Items, Statements, put_local, put_slot, put_static};
-use ckc_expressions::{array, base, declared_limits, initial, local_initial, starred};
-use ckc_grammar::{
+use ckc_parser_expressions::{array, base, declared_limits, initial, local_initial, starred};
+use ckc_parser_grammar::{
     Bounds, CType, Class, Declaration, Kind, Reader, Stop, begins_type, copied, declaration,
 };
 use ckc_syntax::{Init, Length, Spelling, Token};

@@ -1,14 +1,14 @@
 ghost use Rattle.std.specs.Prelude.{◌≡◌, ◌≤◌, ◌<◌, ◌∷◌, [], ◌++◌, true, Option, Some, None, IfOk};
 ghost use Rattle.ckc_syntax.specs.Spelled.{spelled};
-ghost use Rattle.ckc_grammar.specs.Grammar as g;
-ghost use Rattle.ckc_grammar.specs.Trees as trees;
-ghost use Rattle.ckc_grammar.specs.Values as v;
-ghost use Rattle.ckc_grammar.specs.Forms.{has_more};
+ghost use Rattle.ckc_parser_grammar.specs.Grammar as g;
+ghost use Rattle.ckc_parser_grammar.specs.Trees as trees;
+ghost use Rattle.ckc_parser_grammar.specs.Values as v;
+ghost use Rattle.ckc_parser_grammar.specs.Forms.{has_more};
 ghost use Rattle.ckc_parser.specs.code.Parts.{PutsMembers, Puts};
 ghost use Rattle.ckc_parser.specs.code.Turns.{IsItem};
-ghost use Rattle.ckc_grammar.specs.Reading.{kind_of};
-ghost use Rattle.ckc_grammar.specs.Marked.{ahead, remaining, Answered, Gives};
-ghost use Rattle.ckc_grammar.specs.code.Marked.{Reads};
+ghost use Rattle.ckc_parser_grammar.specs.Reading.{kind_of};
+ghost use Rattle.ckc_parser_grammar.specs.Marked.{ahead, remaining, Answered, Gives};
+ghost use Rattle.ckc_parser_grammar.specs.code.Marked.{Reads};
 
 use crate::declarators::{member, members, named_type, object_rest, objects, params};
 use crate::lists::{
@@ -16,8 +16,8 @@ use crate::lists::{
 };
 use crate::statements::{block, mode};
 use ckc_base::{Boxed, Mode, Seq};
-use ckc_expressions::{declared_limits, scalar, type_name};
-use ckc_grammar::{CType, Class, Kind, Reader, Stop, head_of, struct_type};
+use ckc_parser_expressions::{declared_limits, scalar, type_name};
+use ckc_parser_grammar::{CType, Class, Kind, Reader, Stop, head_of, struct_type};
 use ckc_syntax::{Token, TypeTree};
 use std::alloc::Global;
 

@@ -2,11 +2,11 @@ ghost use Rattle.std.specs.Prelude.{◌≡◌, List, [], ◌∷◌, true};
 ghost use Rattle.ckc_base.specs.Phases.{IsExact};
 ghost use Rattle.ckc_base.specs.declared.places.Refusal.{Refusal};
 ghost use Rattle.ckc_syntax.specs.Spelled.{Tokens};
-ghost use Rattle.ckc_grammar.specs.declared.kind.Kind.{Kind};
-ghost use Rattle.ckc_grammar.specs.Derives.{Sign, Derives};
-ghost use Rattle.ckc_grammar.specs.Grammar.{Part, n};
-ghost use Rattle.ckc_grammar.specs.Shapes.{shape_of, has_shape};
-ghost use Rattle.ckc_grammar.specs.Values.{Value};
+ghost use Rattle.ckc_parser_grammar.specs.declared.kind.Kind.{Kind};
+ghost use Rattle.ckc_parser_grammar.specs.Derives.{Sign, Derives};
+ghost use Rattle.ckc_parser_grammar.specs.Grammar.{Part, n};
+ghost use Rattle.ckc_parser_grammar.specs.Shapes.{shape_of, has_shape};
+ghost use Rattle.ckc_parser_grammar.specs.Values.{Value};
 ghost use Rattle.ckc_parser.specs.Phase.{parsing};
 
 /// Tokens have one tree, or one place where they stop to be the beginning of a text: never two, never both, never

@@ -8,6 +8,6 @@ mod lists;
 mod statements;
 mod text;
 
-pub use ckc_grammar::SYNTAX_ERROR;
+pub use ckc_parser_grammar::SYNTAX_ERROR;
 pub use laws::{codes, is_exact, values_have_shapes};
 pub use text::parse;

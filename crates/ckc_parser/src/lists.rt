@@ -3,12 +3,12 @@ ghost use Rattle.ckc_syntax.specs.Spelled.{spelled};
 ghost use Rattle.ckc_syntax.specs.declared.tree.Item.TheVariants as item;
 ghost use Rattle.ckc_syntax.specs.declared.tree.Length.TheVariants as lengths;
 ghost use Rattle.ckc_syntax.specs.declared.tree.Init.TheVariants as inits;
-ghost use Rattle.ckc_grammar.specs.Trees as trees;
-ghost use Rattle.ckc_grammar.specs.Values as v;
+ghost use Rattle.ckc_parser_grammar.specs.Trees as trees;
+ghost use Rattle.ckc_parser_grammar.specs.Values as v;
 ghost use Rattle.ckc_parser.specs.code.Parts.{HoldsOrMemory};
 
 use ckc_base::{Boxed, Seq};
-use ckc_grammar::{
+use ckc_parser_grammar::{
     Bounds, CType, Declaration, Reader, Statement, Stop, declaration, directive_of, local_of,
 };
 use ckc_syntax::{Decl, Head, Init, Item, Length, Spelling, Stmt, Token};

@@ -1,20 +1,20 @@
 ghost use Rattle.std.specs.Prelude.{◌≡◌, ◌≤◌, ◌<◌, ◌∷◌, [], ◌++◌, Option, Some, None};
 ghost use Rattle.ckc_syntax.specs.Spelled.{spelled};
-ghost use Rattle.ckc_grammar.specs.Grammar as g;
-ghost use Rattle.ckc_grammar.specs.Trees as trees;
-ghost use Rattle.ckc_grammar.specs.Values as v;
-ghost use Rattle.ckc_grammar.specs.Marked.{ahead, remaining, Gives};
-ghost use Rattle.ckc_grammar.specs.code.Marked.{Reads};
+ghost use Rattle.ckc_parser_grammar.specs.Grammar as g;
+ghost use Rattle.ckc_parser_grammar.specs.Trees as trees;
+ghost use Rattle.ckc_parser_grammar.specs.Values as v;
+ghost use Rattle.ckc_parser_grammar.specs.Marked.{ahead, remaining, Gives};
+ghost use Rattle.ckc_parser_grammar.specs.code.Marked.{Reads};
 ghost use Rattle.ckc_parser.specs.code.Parts.{HoldsOrMemory, Puts, ReadsAssignment, PutsAssignment, PutsBundle, ReadsBlock};
 ghost use Rattle.ckc_syntax.specs.declared.tree.Act.TheVariants as act;
 
 use crate::declarators::{local, locals};
 use crate::lists::{Statements, put_statement};
 use ckc_base::{Mode, Pos, Seq};
-use ckc_expressions::{
+use ckc_parser_expressions::{
     allocation, arguments, assign, base, expr, first, in_parentheses, named, posts, value,
 };
-use ckc_grammar::{
+use ckc_parser_grammar::{
     Class, Declaration, Expression, Kind, Reader, Statement, Stop, begins_type, called, statement,
 };
 use ckc_syntax::{Act, Spelling, Token};

@@ -5,7 +5,7 @@ ghost use Rattle.ckc_parser.specs.Phase.{parsing};
 
 use crate::items::items;
 use ckc_base::{Fault, Pos, Seq};
-use ckc_grammar::{Reader, Stop};
+use ckc_parser_grammar::{Reader, Stop};
 use ckc_syntax::{Spelling, Token, Tree};
 use std::alloc::Global;
 

@@ -4,11 +4,11 @@ use Rattle.std.proofs.lemmas.Bool.{eqb-true, ltb-true}
 use Rattle.std.specs.Option.{option_map}
 use Rattle.std.proofs.lemmas.Int.{ints}
 use Rattle.std.proofs.lemmas.Bool.Decides.{nat_tests}
-use Rattle.ckc_operations.specs.declared.operations.BranchOp.{BranchOp}
-use Rattle.ckc_operations.specs.declared.operations.LoadOp.{LoadOp}
-use Rattle.ckc_operations.specs.declared.operations.StoreOp.{StoreOp}
-use Rattle.ckc_operations.specs.declared.operations.ImmOp.{ImmOp}
-use Rattle.ckc_operations.specs.declared.operations.RegOp.{RegOp}
+use Rattle.ckc_rv_operations.specs.declared.operations.BranchOp.{BranchOp}
+use Rattle.ckc_rv_operations.specs.declared.operations.LoadOp.{LoadOp}
+use Rattle.ckc_rv_operations.specs.declared.operations.StoreOp.{StoreOp}
+use Rattle.ckc_rv_operations.specs.declared.operations.ImmOp.{ImmOp}
+use Rattle.ckc_rv_operations.specs.declared.operations.RegOp.{RegOp}
 use Rattle.ckc_rv.specs.declared.instructions.Instr.{Instr}
 use Rattle.ckc_rv.specs.declared.instructions.Instr.TheVariants.{Lui, Auipc, Jal, Jalr, Branch, Load, Store, Imm, Reg, Fence, Ecall, Ebreak}
 use Rattle.ckc_rv.specs.Table.{InRange, Decodes, IsSigned, IsOffset, IsImmediate, row_word, r_word, i_word, s_word, b_word, u_word, j_word, low_bits, imm_bits, branch_funct3, load_funct3, store_funct3, imm_funct3, reg_funct3, reg_funct7}

@@ -5,16 +5,16 @@ use Rattle.std.specs.Int.{w8, w16, cast_signed, int_shr}
 use Rattle.ckc_base.specs.Words.{applied, signed, word_of}
 use Rattle.ckc_base.specs.Products.{high_product}
 use Rattle.ckc_base.specs.declared.arithmetic.BinOp.TheVariants as word
-use Rattle.ckc_operations.specs.declared.operations.BranchOp.{BranchOp}
-use Rattle.ckc_operations.specs.declared.operations.BranchOp.TheVariants.{Beq, Bne, Blt, Bge, Bltu, Bgeu}
-use Rattle.ckc_operations.specs.declared.operations.LoadOp.{LoadOp}
-use Rattle.ckc_operations.specs.declared.operations.LoadOp.TheVariants.{Lb, Lh, Lw, Lbu, Lhu}
-use Rattle.ckc_operations.specs.declared.operations.StoreOp.{StoreOp}
-use Rattle.ckc_operations.specs.declared.operations.StoreOp.TheVariants.{Sb, Sh, Sw}
-use Rattle.ckc_operations.specs.declared.operations.ImmOp.{ImmOp}
-use Rattle.ckc_operations.specs.declared.operations.ImmOp.TheVariants.{Addi, Slti, Sltiu, Xori, Ori, Andi, Slli, Srli, Srai}
-use Rattle.ckc_operations.specs.declared.operations.RegOp.{RegOp}
-use Rattle.ckc_operations.specs.declared.operations.RegOp.TheVariants.{Add, Sub, Sll, Slt, Sltu, Xor, Srl, Sra, Or, And, Mul, Mulh, Mulhsu, Mulhu, Div, Divu, Rem, Remu}
+use Rattle.ckc_rv_operations.specs.declared.operations.BranchOp.{BranchOp}
+use Rattle.ckc_rv_operations.specs.declared.operations.BranchOp.TheVariants.{Beq, Bne, Blt, Bge, Bltu, Bgeu}
+use Rattle.ckc_rv_operations.specs.declared.operations.LoadOp.{LoadOp}
+use Rattle.ckc_rv_operations.specs.declared.operations.LoadOp.TheVariants.{Lb, Lh, Lw, Lbu, Lhu}
+use Rattle.ckc_rv_operations.specs.declared.operations.StoreOp.{StoreOp}
+use Rattle.ckc_rv_operations.specs.declared.operations.StoreOp.TheVariants.{Sb, Sh, Sw}
+use Rattle.ckc_rv_operations.specs.declared.operations.ImmOp.{ImmOp}
+use Rattle.ckc_rv_operations.specs.declared.operations.ImmOp.TheVariants.{Addi, Slti, Sltiu, Xori, Ori, Andi, Slli, Srli, Srai}
+use Rattle.ckc_rv_operations.specs.declared.operations.RegOp.{RegOp}
+use Rattle.ckc_rv_operations.specs.declared.operations.RegOp.TheVariants.{Add, Sub, Sll, Slt, Sltu, Xor, Srl, Sra, Or, And, Mul, Mulh, Mulhsu, Mulhu, Div, Divu, Rem, Remu}
 use Rattle.ckc_rv.specs.declared.instructions.Instr.{Instr}
 use Rattle.ckc_rv.specs.declared.instructions.Instr.TheVariants.{Lui, Auipc, Jal, Jalr, Branch, Load, Store, Imm, Reg, Fence, Ecall, Ebreak}
 use Rattle.ckc_rv.specs.declared.registers.Outcome.{Outcome}

@@ -2,9 +2,9 @@
 -- is an instruction whose fields are in range together with its word: a sum of fields times powers of two.
 use Rattle.std.specs.Prelude.{◌≡◌, ℕ, ◌+◌, ◌*◌, ◌/◌, ◌%◌, ◌^◌, ◌<◌, ℤ, pos, neg_ℤ, ◌≤ℤ◌, ◌<ℤ◌}
 use Rattle.ckc_base.specs.Words.{word_of}
-pub use Rattle.ckc_operations.specs.Codes.{branch_funct3, load_funct3, store_funct3, imm_funct3, reg_funct3, reg_funct7}
-use Rattle.ckc_operations.specs.declared.operations.ImmOp.{ImmOp}
-use Rattle.ckc_operations.specs.declared.operations.ImmOp.TheVariants.{Slli, Srli, Srai}
+pub use Rattle.ckc_rv_operations.specs.Codes.{branch_funct3, load_funct3, store_funct3, imm_funct3, reg_funct3, reg_funct7}
+use Rattle.ckc_rv_operations.specs.declared.operations.ImmOp.{ImmOp}
+use Rattle.ckc_rv_operations.specs.declared.operations.ImmOp.TheVariants.{Slli, Srli, Srai}
 use Rattle.ckc_rv.specs.declared.instructions.Instr.{Instr}
 use Rattle.ckc_rv.specs.declared.instructions.Instr.TheVariants.{Lui, Auipc, Jal, Jalr, Branch, Load, Store, Imm, Reg, Fence, Ecall, Ebreak}
 

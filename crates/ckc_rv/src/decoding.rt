@@ -3,7 +3,7 @@ ghost use Rattle.ckc_rv.specs.Table.{Decodes, InRange};
 ghost use Rattle.ckc_rv.specs.Decoded.{decoded, decoded_jalr, decoded_branch, decoded_load, decoded_store, decoded_imm, decoded_reg, decoded_fence, decoded_system, signed_from, i_immediate, s_immediate, b_offset, j_offset, imm_of, rd_of, rs1_of, rs2_of, funct3_of};
 
 use crate::instructions::Instr;
-use ckc_operations::{BranchOp, ImmOp, LoadOp, RegOp, StoreOp};
+use ckc_rv_operations::{BranchOp, ImmOp, LoadOp, RegOp, StoreOp};
 
 /// The instruction of a word, or None where the table has no row with the word (RISC-V unprivileged ISA manual,
 /// RV32/64G instruction set listings). A FENCE has rd, rs1 and the bits 31 to 28 zero.

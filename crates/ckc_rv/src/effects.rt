@@ -6,7 +6,7 @@ ghost use Rattle.ckc_rv.specs.Effects.{effect_of, reg_value, reg_form, is_taken,
 use crate::instructions::Instr;
 use crate::registers::{Outcome, Regs};
 use ckc_base::{BinOp, apply};
-use ckc_operations::{BranchOp, ImmOp, RegOp};
+use ckc_rv_operations::{BranchOp, ImmOp, RegOp};
 
 /// What an instruction in range does at pc (RISC-V unprivileged ISA manual, RV32I and "M"): the register that it
 /// writes and the next pc, or the access to memory. Addresses are taken modulo 2^32.

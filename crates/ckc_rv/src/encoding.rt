@@ -2,7 +2,7 @@ ghost use Rattle.std.specs.Prelude.{◌≡◌, ◌+◌, ◌*◌, ◌/◌, ◌%�
 ghost use Rattle.ckc_rv.specs.Table.{InRange, Decodes, row_word, r_word, i_word, s_word, b_word, u_word, j_word, low_bits, imm_bits};
 
 use crate::instructions::Instr;
-use ckc_operations::ImmOp;
+use ckc_rv_operations::ImmOp;
 
 /// The word of an instruction in range (RISC-V unprivileged ISA manual, RV32/64G instruction set listings).
 pub fn encode(i: &Instr) -> u32

@@ -1,4 +1,4 @@
-use ckc_operations::{BranchOp, ImmOp, LoadOp, RegOp, StoreOp};
+use ckc_rv_operations::{BranchOp, ImmOp, LoadOp, RegOp, StoreOp};
 
 /// An instruction. Its fields are in the order rd, rs1, rs2, immediate; a store has rs1, which holds the
 /// address, then rs2, which holds the value. Offsets count bytes. The immediate of `Lui` and `Auipc` is the

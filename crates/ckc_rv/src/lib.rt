@@ -13,7 +13,7 @@ mod outcomes;
 mod ranges;
 mod registers;
 
-pub use ckc_operations::{BranchOp, ImmOp, LoadOp, RegOp, StoreOp};
+pub use ckc_rv_operations::{BranchOp, ImmOp, LoadOp, RegOp, StoreOp};
 pub use decoding::decode;
 pub use effects::effect;
 pub use encoding::encode;

@@ -12,7 +12,7 @@ use crate::decoding::{
 };
 use crate::effects::{computed, displaced, going_on, jump, register, register_form, taken};
 use crate::registers::{Outcome, Regs};
-use ckc_operations::{BranchOp, ImmOp, LoadOp, RegOp, StoreOp};
+use ckc_rv_operations::{BranchOp, ImmOp, LoadOp, RegOp, StoreOp};
 
 /// What the word's instruction does at pc, or None where the word is no instruction (RISC-V unprivileged ISA manual,
 /// RV32I and "M"): `decode` and then `effect`, without the instruction between.

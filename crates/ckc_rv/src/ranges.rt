@@ -2,7 +2,7 @@ ghost use Rattle.std.specs.Prelude.{◌↔◌, ℕ, ◌<◌, ◌^◌, IsTrue};
 ghost use Rattle.ckc_rv.specs.Table.{InRange, IsSigned, IsOffset, IsImmediate, Decodes};
 
 use crate::instructions::Instr;
-use ckc_operations::ImmOp;
+use ckc_rv_operations::ImmOp;
 
 /// Whether each field of the instruction fits its bits: exactly then some word is the instruction's (RISC-V
 /// unprivileged ISA manual, RV32I, base instruction formats).

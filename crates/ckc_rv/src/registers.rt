@@ -1,6 +1,6 @@
 ghost use Rattle.std.specs.Prelude.{◌≡◌, slice_index};
 
-use ckc_operations::{LoadOp, StoreOp};
+use ckc_rv_operations::{LoadOp, StoreOp};
 
 /// The 32 registers. Register 0 always holds 0 (RISC-V unprivileged ISA manual, RV32I, programmers' model).
 #[derive(Clone, Copy)]

@@ -6,14 +6,14 @@ ghost use Rattle.ckc_base.specs.Outcomes.{AnswersOutcome};
 
 use crate::expressions::{boxed_expr, typed_bounds, typed_exprs};
 use ckc_base::{Boxed, Fault, Mode, Seq, refused};
-use ckc_environment::scope::FileScope;
-use ckc_statics::initials::{count_fits, is_element_for};
 use ckc_syntax::{Decl, Init, Limits, Name, copied_type};
 use ckc_typed::codes::{BAD_CONVERSION, BAD_OPERANDS, NO_INITIALISER};
 use ckc_typed::conversions::converts;
 use ckc_typed::types::{is_plain, is_scalar_type, kind_of, type_written};
 use ckc_typed::{Note, Variable};
 use ckc_types::{CType, Kind, Structs};
+use ckc_typing_environment::scope::FileScope;
+use ckc_typing_statics::initials::{count_fits, is_element_for};
 use std::alloc::{AllocError, Global};
 
 fn typed_init(

@@ -6,9 +6,9 @@ ghost use Rattle.ckc_base.specs.Outcomes.{AnswersOutcome};
 
 use crate::makers;
 use ckc_base::{Boxed, Fault, Mode, Pos, Seq};
-use ckc_environment::scope::FileScope;
 use ckc_syntax::{Expr, Limits, Name, Node};
 use ckc_typed::{Note, Variable};
+use ckc_typing_environment::scope::FileScope;
 use std::alloc::Global;
 
 #[cycle(expr)]

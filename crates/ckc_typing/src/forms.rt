@@ -7,15 +7,15 @@ ghost use Rattle.ckc_typed.specs.Statements.{stated, target_fits, scalar_fits, s
 ghost use Rattle.ckc_base.specs.Outcomes.{AnswersOutcome};
 
 use ckc_base::{Boxed, Fault, Mode, Pos, refused};
-use ckc_environment::notes::stated;
-use ckc_environment::scope::FileScope;
-use ckc_environment::targets::{is_result, is_target};
 use ckc_syntax::{Act, Expr, Name, Stmt};
 use ckc_typed::codes::{BAD_CONVERSION, BAD_OPERANDS, BAD_TARGET, NO_LOOP};
 use ckc_typed::conversions::converts;
 use ckc_typed::types::{is_scalar, is_void};
 use ckc_typed::{Note, Variable};
 use ckc_types::CType;
+use ckc_typing_environment::notes::stated;
+use ckc_typing_environment::scope::FileScope;
+use ckc_typing_environment::targets::{is_result, is_target};
 
 fn target_fits(
     globals: &FileScope,

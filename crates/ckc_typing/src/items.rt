@@ -15,15 +15,15 @@ use crate::declarations::{typed_bares, typed_static};
 use crate::expressions::typed_bounds;
 use crate::statements::{Frame, boxed_stmt};
 use ckc_base::{Boxed, Fault, Mode, Seq, refused};
-use ckc_environment::environment::{objects_of, signatures_of, variables_declared};
-use ckc_environment::locals::variables_of;
-use ckc_environment::scope::FileScope;
-use ckc_statics::layouts::structs_of;
 use ckc_syntax::{Decl, Head, Item, Limits, Name, Stmt, copied_type};
 use ckc_typed::codes::BAD_OPERANDS;
 use ckc_typed::modes::{head_mode, pragma_after};
 use ckc_typed::types::{is_scalar_type, is_void, type_written};
 use ckc_typed::{Globals, Note, Variable};
+use ckc_typing_environment::environment::{objects_of, signatures_of, variables_declared};
+use ckc_typing_environment::locals::variables_of;
+use ckc_typing_environment::scope::FileScope;
+use ckc_typing_statics::layouts::structs_of;
 use std::alloc::{AllocError, Global};
 
 /// Judges that a function may give a result of its type.

@@ -13,10 +13,6 @@ ghost use Rattle.ckc_typed.specs.Expressions.{noted, number_type, string_type, i
 
 use crate::calls::result_typed;
 use ckc_base::{Boxed, Bytes, Fault, Mode, Pos, Seq, refused};
-use ckc_environment::lookups::type_of_name;
-use ckc_environment::notes::noted;
-use ckc_environment::scope::FileScope;
-use ckc_environment::targets::{has_address, is_no_allocation};
 use ckc_syntax::{Expr, Limits, Name, Node, TreeOp, TypeTree, copied_type};
 use ckc_typed::codes::{BAD_CALL, BAD_CONVERSION, BAD_OPERANDS, NO_ADDRESS};
 use ckc_typed::constants::is_null;
@@ -26,6 +22,10 @@ use ckc_typed::operands::{self, is_cast};
 use ckc_typed::types::{copied, is_object_type, is_void, type_written};
 use ckc_typed::{Note, Variable, lookups};
 use ckc_types::{CType, Kind};
+use ckc_typing_environment::lookups::type_of_name;
+use ckc_typing_environment::notes::noted;
+use ckc_typing_environment::scope::FileScope;
+use ckc_typing_environment::targets::{has_address, is_no_allocation};
 use std::alloc::Global;
 
 /// The type of a row, or the refusal of operands that are in none.

@@ -12,11 +12,11 @@ use crate::declarations::typed_local;
 use crate::expressions::{boxed_expr, typed_value};
 use crate::forms;
 use ckc_base::{Boxed, Fault, Mode, Pos, Seq};
-use ckc_environment::notes::stated;
-use ckc_environment::scope::FileScope;
 use ckc_syntax::{Act, Decl, Name, Stmt};
 use ckc_typed::{Note, Variable};
 use ckc_types::CType;
+use ckc_typing_environment::notes::stated;
+use ckc_typing_environment::scope::FileScope;
 use std::alloc::Global;
 
 /// What the statements of a function see beside the whole text, and the type of its result.

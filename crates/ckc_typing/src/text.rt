@@ -8,10 +8,10 @@ ghost use Rattle.ckc_typing.specs.Phase.{typing};
 use crate::items::{all_typed, globals_of};
 use crate::placing::placed;
 use ckc_base::{Fault, Seq};
-use ckc_statics::blocks;
 use ckc_syntax::{Item, Name, NamedText, Tree};
 use ckc_typed::{Note, StaticObject, Typed};
 use ckc_types::Structs;
+use ckc_typing_statics::blocks;
 use std::alloc::Global;
 use std::mem::forget;
 

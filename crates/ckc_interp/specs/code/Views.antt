@@ -3,7 +3,7 @@ use Rattle.std.specs.Prelude.{ℕ, List, [], ◌∷◌, Option, Some, None}
 use Rattle.ckc_source.specs.Code.{Code, function_of, code_of}
 use Rattle.ckc_source.specs.Code as code
 use Rattle.ckc_source.specs.States as states
-use Rattle.ckc_blocks.specs.Views.{blocks_of, next_of}
+use Rattle.ckc_interp_blocks.specs.Views.{blocks_of, next_of}
 use Rattle.ckc_interp.specs.declared.work.Work.{Work}
 use Rattle.ckc_interp.specs.declared.work.Work.TheVariants as works
 use Rattle.ckc_interp.specs.declared.work.Leaving.{Leaving}

@@ -2,7 +2,7 @@ ghost use Rattle.std.specs.Prelude.{◌≡◌, ◌≤◌, IsTrue};
 ghost use Rattle.ckc_outside.specs.Outside.{Rose, one_more};
 ghost use Rattle.ckc_outside.specs.Memory.{is_listed, counted};
 
-use ckc_counts::one_more;
+use ckc_base_counts::one_more;
 
 /// Which calls of an object fail, by their numbers from 1; how many calls and faults there were. Both counts stand
 /// still at their last value.

@@ -5,7 +5,7 @@ ghost use Rattle.ckc_outside.specs.MemSource.{left_of, has_ended, plan_of, seen_
 
 use super::plan::Plan;
 use crate::traits::{Failed, Source};
-use ckc_counts::one_more;
+use ckc_base_counts::one_more;
 
 /// A source over bytes in memory, which fails at the calls that are listed.
 #[derive(Drop)]

@@ -8,7 +8,7 @@ ghost use Rattle.ckc_outside.specs.MemStore.{files_of, files_in, plan_of, is_ste
 use super::plan::Plan;
 use crate::traits::{Fetched, Store, StoreError};
 use ckc_base::Bytes;
-use ckc_counts::one_more;
+use ckc_base_counts::one_more;
 use std::alloc::{AllocError, Global};
 use std::collections::BTreeMap;
 

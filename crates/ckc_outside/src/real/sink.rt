@@ -2,7 +2,7 @@ ghost use Rattle.std.specs.Prelude.{◌≡◌, ◌≤◌, None, IfOk, length};
 
 use super::source::TRIES;
 use crate::traits::{Failed, Sink};
-use ckc_counts::one_more;
+use ckc_base_counts::one_more;
 use std::io::{ErrorKind, Write};
 
 /// A writer, as standard output or standard error. Each piece is written whole and flushed.

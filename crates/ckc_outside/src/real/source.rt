@@ -1,7 +1,7 @@
 ghost use Rattle.std.specs.Prelude.{◌≡◌, ◌≤◌, None, IfOk, length};
 
 use crate::traits::{Failed, Source};
-use ckc_counts::one_more;
+use ckc_base_counts::one_more;
 use std::io::{ErrorKind, Read};
 
 const ROOM: usize = 4096;

@@ -5,7 +5,7 @@ use super::replace::put_file;
 use super::source::read_some;
 use crate::traits::{Fetched, Store, StoreError};
 use ckc_base::Bytes;
-use ckc_counts::one_more;
+use ckc_base_counts::one_more;
 use std::alloc::Global;
 use std::fs;
 use std::rt::Files;

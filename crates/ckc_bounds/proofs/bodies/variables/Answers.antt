@@ -1,10 +1,10 @@
 use Rattle.std.proofs.Common.{◌≡◌, ◌∙◌, Bool, List, [], sym, ap}
 use Rattle.ckc_typed.specs.Trees.{NotedDecl, NotedHead, NotedStmt}
-use Rattle.ckc_points.specs.declared.frame.Local.{Local}
-use Rattle.ckc_points.specs.declared.frame.Frame.{Frame}
+use Rattle.ckc_bounds_points.specs.declared.frame.Local.{Local}
+use Rattle.ckc_bounds_points.specs.declared.frame.Frame.{Frame}
 use Rattle.ckc_bounds.specs.Declarations.{with_all}
 use Rattle.ckc_bounds.specs.Frames.{all_of}
-use Rattle.ckc_statements.specs.Paths.{path}
+use Rattle.ckc_bounds_statements.specs.Paths.{path}
 use Rattle.ckc_bounds.proofs.Lists.{with_all_append}
 use Rattle.ckc_bounds.proofs.bodies.variables.Goals as goal
 

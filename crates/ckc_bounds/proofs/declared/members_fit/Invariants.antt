@@ -1,5 +1,5 @@
 use Rattle.std.proofs.Common.{◌≡◌, map, drop}
-use Rattle.ckc_statements.specs.DeclBounds.{decl_bounds}
+use Rattle.ckc_bounds_statements.specs.DeclBounds.{decl_bounds}
 use Rattle.ckc_bounds.specs.Declarations.{each}
 use Rattle.ckc_bounds.proofs.declared.members_fit.Given as goal
 

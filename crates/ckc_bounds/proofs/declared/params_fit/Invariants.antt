@@ -1,5 +1,5 @@
 use Rattle.std.proofs.Common.{◌≡◌, map, drop}
-use Rattle.ckc_statements.specs.DeclBounds.{bounds_there}
+use Rattle.ckc_bounds_statements.specs.DeclBounds.{bounds_there}
 use Rattle.ckc_bounds.specs.Declarations.{each}
 use Rattle.ckc_bounds.proofs.declared.params_fit.Given as goal
 

@@ -2,7 +2,7 @@ use Rattle.std.proofs.Common.{◌∙◌, refl, sym, ap, subst, Err}
 use Rattle.std.proofs.lemmas.Result.{err_from_is_err_and}
 use Rattle.ckc_base.specs.Outcomes.{AnswersOutcome}
 use Rattle.ckc_typed.specs.Trees.{NotedItem}
-use Rattle.ckc_points.specs.declared.frame.Frame.{Frame}
+use Rattle.ckc_bounds_points.specs.declared.frame.Frame.{Frame}
 use Rattle.ckc_bounds.specs.code.Declarations.{text_of}
 use Rattle.ckc_bounds.specs.Texts.{item_judged, items_judged}
 use Rattle.ckc_base.proofs.Ends.{stops}

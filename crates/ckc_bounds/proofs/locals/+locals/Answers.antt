@@ -1,7 +1,7 @@
 use Rattle.std.proofs.Common.{◌∙◌, ap}
 use Rattle.ckc_typed.specs.Trees.{NotedStmt}
 use Rattle.ckc_bounds.specs.Declarations.{with_all}
-use Rattle.ckc_statements.specs.Paths.{path}
+use Rattle.ckc_bounds_statements.specs.Paths.{path}
 use Rattle.ckc_bounds.proofs.LocalsJoined.{goes_on, if_done, for_done, turn_done}
 use Rattle.ckc_bounds.proofs.locals.+locals.Goals as goal
 

@@ -5,8 +5,8 @@ use Rattle.ckc_core.specs.Loops.{idle_loops}
 use Rattle.ckc_core.specs.Sizes.{program_size}
 use Rattle.ckc_core.specs.WellFormed.{IsWellFormed}
 use Rattle.ckc_source.specs.Code.{program_of}
-use Rattle.ckc_operands.specs.Compilable.{program_nodes}
-use Rattle.ckc_operands.specs.Weights.{program_weight}
+use Rattle.ckc_checks_operands.specs.Compilable.{program_nodes}
+use Rattle.ckc_checks_operands.specs.Weights.{program_weight}
 use Rattle.ckc_checks.proofs.Busy.{inserted_busy}
 use Rattle.ckc_checks.proofs.Formed.{inserted_formed}
 use Rattle.ckc_checks.proofs.Image.{first_bytes_length}

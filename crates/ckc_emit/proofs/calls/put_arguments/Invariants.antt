@@ -1,5 +1,5 @@
 use Rattle.std.proofs.Common.{◌≡◌, ◌≤◌, List, ◌++◌, length, drop}
-use Rattle.ckc_lines.specs.declared.lines.Line.{Line}
+use Rattle.ckc_asm_lines.specs.declared.lines.Line.{Line}
 use Rattle.ckc_emit.specs.CallLines.{arguments_lines}
 use Rattle.ckc_emit.proofs.calls.put_arguments.Given as goal
 

@@ -1,7 +1,7 @@
 use Rattle.std.proofs.Common.{◌≡◌, drop, map}
 use Rattle.ckc_source.specs.Code.{expr_of}
 use Rattle.ckc_source.specs.Eval.{all_evaluated}
-use Rattle.ckc_eval.specs.Stores.{store_of}
+use Rattle.ckc_interp_eval.specs.Stores.{store_of}
 use Rattle.ckc_interp.proofs.Planning.{listed_behind}
 use Rattle.ckc_interp.proofs.arms.evaluate_all.Given as goal
 

@@ -1,14 +1,14 @@
 use Rattle.std.proofs.Common.{refl, sym, ap, ◌∙◌, ◌∷◌, []}
-use Rattle.ckc_grammar.specs.Marked.{ahead}
-use Rattle.ckc_grammar.specs.Forms.{begins_type}
-use Rattle.ckc_grammar.specs.Reading.{kind_of, done}
-use Rattle.ckc_grammar.proofs.Steps.{here_stops}
-use Rattle.ckc_grammar.proofs.Shrinks.{fewer}
+use Rattle.ckc_parser_grammar.specs.Marked.{ahead}
+use Rattle.ckc_parser_grammar.specs.Forms.{begins_type}
+use Rattle.ckc_parser_grammar.specs.Reading.{kind_of, done}
+use Rattle.ckc_parser_grammar.proofs.Steps.{here_stops}
+use Rattle.ckc_parser_grammar.proofs.Shrinks.{fewer}
 use Rattle.ckc_parser.proofs.Putting.{put_start, put_turn, put_stop, put_last}
-use Rattle.ckc_expressions.proofs.Exits.{exit}
-use Rattle.ckc_grammar.specs.Grammar as g
-use Rattle.ckc_grammar.specs.Values as v
-use Rattle.ckc_grammar.proofs.Choices as o
+use Rattle.ckc_parser_expressions.proofs.Exits.{exit}
+use Rattle.ckc_parser_grammar.specs.Grammar as g
+use Rattle.ckc_parser_grammar.specs.Values as v
+use Rattle.ckc_parser_grammar.proofs.Choices as o
 use Rattle.ckc_parser.proofs.declarators.members.Goals as goal
 
 pub list-init : goal.list-init

@@ -1,6 +1,6 @@
 use Rattle.std.proofs.Common.{refl, ◌∷◌, []}
-use Rattle.ckc_grammar.proofs.Steps.{also, then_stops, here_stops, turned}
-use Rattle.ckc_expressions.proofs.Exits.{exit}
+use Rattle.ckc_parser_grammar.proofs.Steps.{also, then_stops, here_stops, turned}
+use Rattle.ckc_parser_expressions.proofs.Exits.{exit}
 use Rattle.ckc_parser.proofs.declarators.no_params.Goals as goal
 
 pub returns-in_err-skip : goal.returns-in_err-skip

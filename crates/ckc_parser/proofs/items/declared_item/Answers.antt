@@ -1,9 +1,9 @@
 use Rattle.std.proofs.Common.{refl, ◌∷◌, []}
-use Rattle.ckc_grammar.proofs.Steps.{turned}
+use Rattle.ckc_parser_grammar.proofs.Steps.{turned}
 use Rattle.ckc_parser.proofs.Making.{if_taken}
 use Rattle.ckc_parser.proofs.Putting.{behind}
-use Rattle.ckc_grammar.proofs.Shrinks.{fewer}
-use Rattle.ckc_grammar.specs.Values as v
+use Rattle.ckc_parser_grammar.proofs.Shrinks.{fewer}
+use Rattle.ckc_parser_grammar.specs.Values as v
 use Rattle.ckc_parser.proofs.items.declared_item.Goals as goal
 
 pub returns-clause-reads : goal.returns-clause-reads

@@ -1,12 +1,12 @@
 use Rattle.std.proofs.Common.{refl, sym, ap, ◌∙◌, ◌∷◌, []}
-use Rattle.ckc_grammar.specs.Grammar.{k}
-use Rattle.ckc_grammar.specs.Marked.{ahead}
-use Rattle.ckc_grammar.specs.Reading.{pick, kind_of}
+use Rattle.ckc_parser_grammar.specs.Grammar.{k}
+use Rattle.ckc_parser_grammar.specs.Marked.{ahead}
+use Rattle.ckc_parser_grammar.specs.Reading.{pick, kind_of}
 use Rattle.ckc_parser.proofs.Turns.{item_turn}
-use Rattle.ckc_grammar.specs.declared.kind.Kind.TheVariants as kind
-use Rattle.ckc_grammar.specs.Grammar as g
-use Rattle.ckc_grammar.proofs.Choices as o
-use Rattle.ckc_grammar.proofs.Defaults.{usual}
+use Rattle.ckc_parser_grammar.specs.declared.kind.Kind.TheVariants as kind
+use Rattle.ckc_parser_grammar.specs.Grammar as g
+use Rattle.ckc_parser_grammar.proofs.Choices as o
+use Rattle.ckc_parser_grammar.proofs.Defaults.{usual}
 use Rattle.ckc_parser.proofs.items.item.Goals as goal
 
 pub returns-in-Directive-clause-turns : goal.returns-in-Directive-clause-turns

@@ -1,11 +1,11 @@
 use Rattle.std.proofs.Common.{refl, ◌∷◌, []}
 use Rattle.ckc_syntax.specs.Spelled.{spelled}
-use Rattle.ckc_grammar.proofs.Steps.{turned, also, then_stops, here_stops}
-use Rattle.ckc_expressions.proofs.Exits.{exit}
+use Rattle.ckc_parser_grammar.proofs.Steps.{turned, also, then_stops, here_stops}
+use Rattle.ckc_parser_expressions.proofs.Exits.{exit}
 use Rattle.ckc_parser.proofs.Making.{if_taken}
 use Rattle.ckc_parser.proofs.Putting.{behind}
-use Rattle.ckc_grammar.proofs.Shrinks.{fewer}
-use Rattle.ckc_grammar.specs.Values as v
+use Rattle.ckc_parser_grammar.proofs.Shrinks.{fewer}
+use Rattle.ckc_parser_grammar.specs.Values as v
 use Rattle.ckc_parser.proofs.items.static_item.Goals as goal
 
 pub returns-in_err-word-clause-reads : goal.returns-in_err-word-clause-reads

@@ -1,11 +1,11 @@
 use Rattle.std.proofs.Common.{◌∙◌, ◌∷◌, []}
-use Rattle.ckc_grammar.proofs.Steps.{also, then_stops, here_stops, turned}
+use Rattle.ckc_parser_grammar.proofs.Steps.{also, then_stops, here_stops, turned}
 use Rattle.ckc_syntax.specs.Spelled.{spelled}
-use Rattle.ckc_expressions.proofs.Exits.{exit}
+use Rattle.ckc_parser_expressions.proofs.Exits.{exit}
 use Rattle.ckc_parser.proofs.Putting.{behind}
 use Rattle.ckc_syntax.specs.declared.tree.Item.TheVariants as item
-use Rattle.ckc_grammar.specs.Values as v
-use Rattle.ckc_grammar.specs.Trees as trees
+use Rattle.ckc_parser_grammar.specs.Values as v
+use Rattle.ckc_parser_grammar.specs.Trees as trees
 use Rattle.ckc_parser.proofs.items.statics.Goals as goal
 
 pub returns-in_err-object_rest : goal.returns-in_err-object_rest

@@ -1,9 +1,9 @@
 use Rattle.std.proofs.Common.{sym, ap, ◌∙◌, ◌∷◌, [], ◌++◌}
 use Rattle.ckc_syntax.specs.Spelled.{spelled}
-use Rattle.ckc_expressions.proofs.Exits.{exit}
+use Rattle.ckc_parser_expressions.proofs.Exits.{exit}
 use Rattle.ckc_parser.proofs.Making.{finished}
 use Rattle.ckc_syntax.specs.declared.tree.Item.TheVariants as item
-use Rattle.ckc_grammar.specs.Values as v
+use Rattle.ckc_parser_grammar.specs.Values as v
 use Rattle.ckc_parser.proofs.items.struct_members.Goals as goal
 
 pub returns-in_err-braced : goal.returns-in_err-braced

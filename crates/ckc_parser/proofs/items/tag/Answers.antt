@@ -1,5 +1,5 @@
 use Rattle.std.proofs.Common.{◌∷◌, []}
-use Rattle.ckc_expressions.proofs.Exits.{exit}
+use Rattle.ckc_parser_expressions.proofs.Exits.{exit}
 use Rattle.ckc_parser.proofs.Making.{finished}
 use Rattle.ckc_parser.proofs.items.tag.Goals as goal
 

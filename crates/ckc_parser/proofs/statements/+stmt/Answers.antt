@@ -1,26 +1,26 @@
 use Rattle.std.proofs.Common.{◌≡◌, false, not, refl, sym, ap, ◌∙◌, ◌∷◌, [], ◌++◌, arith}
 use Rattle.std.specs.Prelude.{Some}
 use Rattle.ckc_syntax.specs.Spelled.{spelled}
-use Rattle.ckc_grammar.specs.Values.{made}
-use Rattle.ckc_grammar.specs.Grammar.{right}
-use Rattle.ckc_grammar.specs.Marked.{ahead}
-use Rattle.ckc_grammar.specs.Forms.{begins_type}
-use Rattle.ckc_grammar.specs.Reading.{pick, kind_of, done}
-use Rattle.ckc_grammar.proofs.Steps.{also, also_all, then_stops, then_all, here_stops, here_all, chosen_as, by_rule, stop_rule, turned}
-use Rattle.ckc_expressions.proofs.Exits.{exit}
+use Rattle.ckc_parser_grammar.specs.Values.{made}
+use Rattle.ckc_parser_grammar.specs.Grammar.{right}
+use Rattle.ckc_parser_grammar.specs.Marked.{ahead}
+use Rattle.ckc_parser_grammar.specs.Forms.{begins_type}
+use Rattle.ckc_parser_grammar.specs.Reading.{pick, kind_of, done}
+use Rattle.ckc_parser_grammar.proofs.Steps.{also, also_all, then_stops, then_all, here_stops, here_all, chosen_as, by_rule, stop_rule, turned}
+use Rattle.ckc_parser_expressions.proofs.Exits.{exit}
 use Rattle.ckc_parser.proofs.Making.{finished, no_room}
 use Rattle.ckc_parser.proofs.Putting.{put_start, put_turn, put_stop, put_last, takes_from, stops_from}
-use Rattle.ckc_grammar.proofs.Decided.{remains}
-use Rattle.ckc_grammar.proofs.Shrinks.{fewer}
-use Rattle.ckc_grammar.proofs.Lists.{same2}
-use Rattle.ckc_grammar.specs.declared.kind.Kind.{Kind}
-use Rattle.ckc_grammar.specs.declared.kind.Kind.TheVariants as kind
+use Rattle.ckc_parser_grammar.proofs.Decided.{remains}
+use Rattle.ckc_parser_grammar.proofs.Shrinks.{fewer}
+use Rattle.ckc_parser_grammar.proofs.Lists.{same2}
+use Rattle.ckc_parser_grammar.specs.declared.kind.Kind.{Kind}
+use Rattle.ckc_parser_grammar.specs.declared.kind.Kind.TheVariants as kind
 use Rattle.ckc_syntax.specs.declared.tree.Act.TheVariants as act
-use Rattle.ckc_grammar.specs.Grammar as g
-use Rattle.ckc_grammar.specs.Values as v
-use Rattle.ckc_grammar.specs.Trees as trees
-use Rattle.ckc_grammar.proofs.Choices as o
-use Rattle.ckc_grammar.proofs.Defaults.{usual}
+use Rattle.ckc_parser_grammar.specs.Grammar as g
+use Rattle.ckc_parser_grammar.specs.Values as v
+use Rattle.ckc_parser_grammar.specs.Trees as trees
+use Rattle.ckc_parser_grammar.proofs.Choices as o
+use Rattle.ckc_parser_grammar.proofs.Defaults.{usual}
 use Rattle.ckc_parser.proofs.statements.+stmt.Goals as goal
 
 pub stmt-returns-in-Checked-clause-gives : goal.stmt-returns-in-Checked-clause-gives

@@ -1,6 +1,6 @@
 use Rattle.std.proofs.Common.{ap, ◌∙◌, ◌∷◌, [], ◌++◌}
-use Rattle.ckc_grammar.proofs.Steps.{also, then_stops, here_stops, turned}
-use Rattle.ckc_expressions.proofs.Exits.{exit}
+use Rattle.ckc_parser_grammar.proofs.Steps.{also, then_stops, here_stops, turned}
+use Rattle.ckc_parser_expressions.proofs.Exits.{exit}
 use Rattle.ckc_parser.proofs.Making.{no_room}
 use Rattle.ckc_parser.proofs.statements.one_assign.Goals as goal
 

@@ -3,14 +3,14 @@ use Rattle.std.specs.Prelude.{Ok, Err}
 use Rattle.ckc_base.specs.declared.fault.Fault.TheVariants as fault
 use Rattle.ckc_base.proofs.Phases.{exact_of}
 use Rattle.ckc_syntax.specs.Spelled.{spelled}
-use Rattle.ckc_grammar.specs.Grammar.{n}
-use Rattle.ckc_grammar.specs.Grammar as g
-use Rattle.ckc_grammar.specs.Trees.{Item}
-use Rattle.ckc_grammar.specs.Values.{Value, tree, as_items}
-use Rattle.ckc_grammar.specs.Derives.{Sign}
-use Rattle.ckc_grammar.specs.Reading.{Takes}
-use Rattle.ckc_grammar.specs.Marked.{ahead, Halts}
-use Rattle.ckc_grammar.proofs.Steps.{by_rule, stop_rule}
+use Rattle.ckc_parser_grammar.specs.Grammar.{n}
+use Rattle.ckc_parser_grammar.specs.Grammar as g
+use Rattle.ckc_parser_grammar.specs.Trees.{Item}
+use Rattle.ckc_parser_grammar.specs.Values.{Value, tree, as_items}
+use Rattle.ckc_parser_grammar.specs.Derives.{Sign}
+use Rattle.ckc_parser_grammar.specs.Reading.{Takes}
+use Rattle.ckc_parser_grammar.specs.Marked.{ahead, Halts}
+use Rattle.ckc_parser_grammar.proofs.Steps.{by_rule, stop_rule}
 use Rattle.ckc_parser.specs.Phase.{parsing}
 use Rattle.ckc_parser.specs.Text.{start}
 use Rattle.ckc_parser.proofs.Top.{good_answer, more_answer, stop_answer}

@@ -1,7 +1,7 @@
 use Rattle.std.proofs.Common.{[], sym, ◌∙◌, ap}
 use Rattle.std.specs.Option.{option_copied}
 use Rattle.ckc_source.specs.Steps.{returns, hands, comes_to}
-use Rattle.ckc_blocks.specs.Views.{shapes_of}
+use Rattle.ckc_interp_blocks.specs.Views.{shapes_of}
 use Rattle.ckc_interp.specs.code.Turns.{Does}
 use Rattle.ckc_interp.specs.code.Views.{frame_of, caller_of, core_of, stacked}
 use Rattle.ckc_interp.proofs.Acting.{with_calls}

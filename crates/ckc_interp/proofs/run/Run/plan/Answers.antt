@@ -1,7 +1,7 @@
 use Rattle.std.proofs.Common.{◌≡◌, ◌+◌, drop, map, Ok, sym, ◌∙◌, ap}
 use Rattle.ckc_source.specs.Code.{assign_of}
 use Rattle.ckc_source.specs.Steps.{planned}
-use Rattle.ckc_blocks.specs.Views.{shapes_of}
+use Rattle.ckc_interp_blocks.specs.Views.{shapes_of}
 use Rattle.ckc_interp.specs.code.Turns.{planned_one, planned_one_as}
 use Rattle.ckc_interp.specs.code.Views.{core_of}
 use Rattle.ckc_interp.proofs.Planning.{plans, plans_next, next_item}

@@ -1,7 +1,7 @@
 use Rattle.std.proofs.Common.{◌≡◌, drop, map}
 use Rattle.ckc_source.specs.Code.{assign_of}
 use Rattle.ckc_source.specs.Steps.{planned}
-use Rattle.ckc_blocks.specs.Views.{shapes_of}
+use Rattle.ckc_interp_blocks.specs.Views.{shapes_of}
 use Rattle.ckc_interp.specs.code.Views.{core_of}
 use Rattle.ckc_interp.proofs.Planning.{plans}
 use Rattle.ckc_interp.proofs.run.Run.plan.Given as goal

@@ -1,6 +1,6 @@
 use Rattle.std.proofs.Common.{◌≡◌, ◌≤◌}
 use Rattle.ckc_source.specs.Code.{program_of}
-use Rattle.ckc_blocks.specs.Views.{shapes_of}
+use Rattle.ckc_interp_blocks.specs.Views.{shapes_of}
 use Rattle.ckc_interp.specs.code.Views.{state_of}
 use Rattle.ckc_interp.specs.code.Turns.{Fed}
 use Rattle.ckc_interp.proofs.Reaching.{IsAt}

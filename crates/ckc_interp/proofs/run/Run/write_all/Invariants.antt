@@ -1,6 +1,6 @@
 use Rattle.std.proofs.Common.{◌≡◌, drop}
 use Rattle.ckc_source.specs.Steps.{all_written}
-use Rattle.ckc_blocks.specs.Views.{shapes_of}
+use Rattle.ckc_interp_blocks.specs.Views.{shapes_of}
 use Rattle.ckc_interp.specs.code.Views.{core_of}
 use Rattle.ckc_interp.proofs.run.Run.write_all.Given as goal
 

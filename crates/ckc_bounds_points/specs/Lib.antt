@@ -1,0 +1,5 @@
+pub use Rattle.ckc_bounds_known.specs.Shown
+pub mod Frames
+pub mod Flow
+pub mod Forms
+pub mod Codes

@@ -1,0 +1,91 @@
+//! The layers, one after another.
+ghost use Rattle.std.specs.Prelude.{◌≡◌, ℕ, ◌+◌, ◌*◌, ◌≤◌, List, length, IfOk};
+ghost use Rattle.ckc_base.specs.MemoryMap.{longest_data, most_instructions, longest_statics};
+ghost use Rattle.ckc_base.specs.Follows.{Follows};
+ghost use Rattle.ckc_source.specs.Code.{program_of};
+ghost use Rattle.ckc_source.specs.LaidOut.{AreBytes, IsLaidOut};
+ghost use Rattle.ckc_source.specs.Source.{source};
+ghost use Rattle.ckc_checks_operands.specs.Compilable.{IsCompilable};
+ghost use Rattle.ckc_checks_operands.specs.Weights.{program_weight, most_weight};
+ghost use Rattle.ckc_tac.specs.code.Meaning.{tac_meaning};
+ghost use Rattle.ckc_tac.specs.Sizes.{program_size as tac_size};
+ghost use Rattle.ckc_tac.specs.WellFormed.{IsWellFormed as IsWellFormedTac, HasFewRegisters};
+ghost use Rattle.ckc_frame.specs.Meaning.{placed_meaning};
+ghost use Rattle.ckc_frame.specs.WellFormed.{IsWellFormed, program_size};
+ghost use Rattle.ckc_emit.specs.CodeSize.{code_size};
+ghost use Rattle.ckc_emit.specs.Promise.{FollowsPlaced};
+ghost use Rattle.ckc_build_compile.specs.Compiled.{FollowsSource, machine_parts};
+
+use ckc_asm_lines::assemble;
+use ckc_assign::assign;
+use ckc_checks::insert;
+use ckc_emit::emit;
+use ckc_frame::Placed;
+use ckc_image::Parts;
+use ckc_lower::lower;
+use ckc_source::Program;
+use ckc_tac::Tac;
+use std::alloc::{AllocError, Global};
+
+/// The three-address code of a program.
+fn lowered(alloc: Global, p: &Program) -> Result<Tac, AllocError>
+    requires form { IsCompilable (program_of p.now) }
+    requires laid { IsLaidOut (program_of p.now) }
+    ensures formed { IfOk result IsWellFormedTac }
+    ensures few { IfOk result HasFewRegisters }
+    ensures size { IfOk result (λ t. tac_size t ≤ program_weight (program_of p.now)) }
+    ensures initial { IfOk result (λ t. length t.initial ≤ longest_statics) }
+    ensures follows { IfOk result (λ t. (input : List ℕ) → AreBytes input →
+        Follows (source (program_of p.now) input) (tac_meaning t input) 400004) }
+{
+    let c = insert(alloc, p)?;
+    let t = lower(alloc, &c)?;
+    Ok(t)
+}
+
+/// The placed code of a program.
+fn placed(alloc: Global, p: &Program) -> Result<Placed, AllocError>
+    requires form { IsCompilable (program_of p.now) }
+    requires laid { IsLaidOut (program_of p.now) }
+    ensures whole { IfOk result IsWellFormed }
+    ensures size { IfOk result (λ q. program_size q ≤ program_weight (program_of p.now)) }
+    ensures initial { IfOk result (λ q. length q.initial ≤ longest_statics) }
+    ensures follows { IfOk result (λ q. (input : List ℕ) → AreBytes input →
+        Follows (source (program_of p.now) input) (placed_meaning q input) 400005) }
+{
+    let t = lowered(alloc, p)?;
+    let q = assign(alloc, &t)?;
+    Ok(q)
+}
+
+/// The parts of placed code.
+fn assembled(alloc: Global, q: &Placed) -> Result<Parts, AllocError>
+    requires whole { IsWellFormed q.now }
+    requires fits { code_size q.now ≤ most_instructions }
+    requires initial { length q.now.initial ≤ longest_data }
+    ensures follows { IfOk result (λ parts. FollowsPlaced q.now (machine_parts parts)) }
+    ensures size { IfOk result (λ parts. length parts.code ≤ 4 * code_size q.now) }
+{
+    let l = emit(alloc, q)?;
+    let parts = assemble(alloc, &l)?;
+    Ok(parts)
+}
+
+/// The parts of an image of a program, or want of memory. The machine that runs them reads and puts the same
+/// bytes as the program, and ends with the same value or stops at the same check and place. Nothing is said of where the
+/// program is stuck.
+pub fn compile(alloc: Global, p: &Program) -> Result<Parts, AllocError>
+    requires form { IsCompilable (program_of p.now) }
+    requires laid { IsLaidOut (program_of p.now) }
+    // an image has room for 4,193,280 instructions, of which the start takes five
+    requires small { program_weight (program_of p.now) ≤ most_weight }
+    ensures follows { IfOk result (FollowsSource (program_of p.now)) }
+
+    // an instruction has four bytes, and the start is five
+    ensures size { IfOk result (λ parts. length parts.code ≤
+        4 * (program_weight (program_of p.now) + 5)) }
+{
+    let q = placed(alloc, p)?;
+    let parts = assembled(alloc, &q)?;
+    Ok(parts)
+}

@@ -1,0 +1,49 @@
+-- What functions mean (ISO C11, 6.9.1).
+use Rattle.std.specs.Prelude.{ℕ, ◌+◌, List, [], ◌∷◌, length}
+use Rattle.ckc_syntax.specs.declared.tree.Item.TheVariants as item
+use Rattle.ckc_typed.specs.declared.typed.Typed.{Typed}
+use Rattle.ckc_typed.specs.Trees.{NotedHead, NotedItem, NotedStmt}
+use Rattle.ckc_typed.specs.Types.{type_written}
+use Rattle.ckc_source.specs.Code.{Function}
+use Rattle.ckc_build_results.specs.Results.{result_limits}
+use Rattle.ckc_build_elaborate.specs.Lists.{numbered}
+use Rattle.ckc_build_elaborate.specs.Objects.{count_declared}
+use Rattle.ckc_typed.specs.Environment.{variables_of}
+use Rattle.ckc_build_elaborate.specs.Literals.{literals_of_bounds, literals_of_decl, literals_of_decls}
+use Rattle.ckc_build_elaborate.specs.Steps.{spot}
+use Rattle.ckc_build_elaborate.specs.Statements.{alone, part_of, stmt_elaborated}
+
+-- ---- string literals, in the order of the text
+
+abbrev pub literals_of_head : NotedHead → ℕ
+literals_of_head h = literals_of_decls h.params + literals_of_bounds h.bounds
+
+abbrev pub literals_of_item : NotedItem → ℕ
+literals_of_item (item.Directive d) = 0
+literals_of_item (item.Tag n at) = 0
+literals_of_item (item.Struct n members at) = literals_of_decls members
+literals_of_item (item.Static d) = literals_of_decl d
+literals_of_item (item.Proto h) = literals_of_head h
+literals_of_item (item.Function h body) = literals_of_head h + (part_of body).literals
+
+-- ---- functions
+
+-- A function that falls off its end does so at its name, in the mode of its body. Its locals are its parameters and
+-- those that its body declares. The number k is that of the next string literal among the static objects.
+abbrev pub function_elaborated : Typed → ℕ → NotedHead → NotedStmt → Function
+function_elaborated p k h body = record {
+  end = spot h.pos body.note.mode;
+  params = length h.params;
+  locals = length (variables_of h body);
+  body = alone (stmt_elaborated p (variables_of h body) (type_written h.result) (k + literals_of_head h) body);
+  result = result_limits p (variables_of h body) (type_written h.result) h.bounds;
+}
+
+-- A prototype adds none, since its function has the same head.
+abbrev pub functions_in : Typed → ℕ → NotedItem → List Function
+functions_in p k (item.Function h body) = function_elaborated p k h body ∷ []
+functions_in p k _ = []
+
+-- the functions with a body; the string literals come behind the declared objects
+abbrev pub functions_elaborated : Typed → List Function
+functions_elaborated p = numbered (functions_in p) literals_of_item (count_declared p.tree.items) p.tree.items

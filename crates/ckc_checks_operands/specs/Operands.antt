@@ -1,0 +1,171 @@
+-- Expressions of core code for those of a source program that need no code in front of them. They mirror what the code
+-- makes and need not be believed.
+use Rattle.std.specs.Prelude.{ℕ, ℤ, pos, Bool, true, false, not, ◌&&◌, ◌==◌, if◌then◌else◌, Option, Some, None}
+use Rattle.std.specs.Ordering.{int_eq}
+use Rattle.ckc_base.specs.declared.arithmetic.BinOp.TheVariants as binary
+use Rattle.ckc_base.specs.declared.arithmetic.Width.TheVariants as width
+use Rattle.ckc_base.specs.Words.{applied}
+use Rattle.ckc_source.specs.declared.expr.Access.{Access}
+use Rattle.ckc_source.specs.declared.expr.Through.{Through}
+use Rattle.ckc_source.specs.declared.expr.Through.TheVariants.{Named, Raw}
+use Rattle.ckc_source.specs.declared.expr.Count.{Count}
+use Rattle.ckc_source.specs.declared.expr.Count.TheVariants as counts
+use Rattle.ckc_source.specs.declared.expr.Base.{Base}
+use Rattle.ckc_source.specs.declared.expr.Base.TheVariants as bases
+use Rattle.ckc_source.specs.declared.expr.End.{End as LimitsEnd}
+use Rattle.ckc_source.specs.declared.expr.Limits.{Limits}
+use Rattle.ckc_source.specs.declared.expr.Variable.{Variable}
+use Rattle.ckc_source.specs.declared.expr.Operation.{Operation}
+use Rattle.ckc_source.specs.declared.expr.Operation.TheVariants.{Lt, Le, Gt, Ge}
+use Rattle.ckc_source.specs.Code as source
+use Rattle.ckc_source.specs.Eval.{place_in}
+use Rattle.ckc_source.specs.Words.{operator, divides}
+use Rattle.ckc_core.specs.Code.{Expr, Const, Local, Load, Bin}
+pub use Rattle.ckc_checks_guards.specs.Guards.{low_byte, kept_in}
+
+-- the number that an expression is
+abbrev pub number_of : source.Expr → Option ℕ
+number_of (source.Number n) = Some n
+number_of _ = None
+
+-- whether that is so much
+abbrev pub is_this : ℕ → Option ℕ → Bool
+is_this k (Some n) = n == k
+is_this k None = false
+
+-- an access that has no checks
+abbrev pub is_unchecked : Through → Bool
+is_unchecked Named = true
+is_unchecked Raw = true
+is_unchecked _ = false
+
+-- an access to a static object
+abbrev pub is_named : Through → Bool
+is_named Named = true
+is_named _ = false
+
+abbrev pub is_one : source.Expr → Bool
+is_one (source.Number n) = n == 1
+is_one _ = false
+
+abbrev pub is_own : Base → Bool
+is_own bases.Own = true
+is_own _ = false
+
+abbrev pub is_absent : Option Variable → Bool
+is_absent None = true
+is_absent (Some x) = false
+
+-- an end of limits that lies so many elements behind the pointer itself
+abbrev pub is_fixed_end : LimitsEnd → ℤ → Bool
+is_fixed_end e add = is_own e.base && (is_absent e.variable && int_eq e.add add)
+
+-- limits of one element of a size
+abbrev pub are_single : ℕ → Limits → Bool
+are_single size limits = (limits.to.size == size) && (is_fixed_end limits.lower (pos 0) && is_fixed_end limits.upper (pos 1))
+
+abbrev pub is_single_count : Count → Bool
+is_single_count (counts.Fixed n) = int_eq n (pos 1)
+is_single_count (counts.Member offset form add) = false
+
+-- a pointer to one element of a size, or null
+abbrev pub is_single : ℕ → source.Expr → Bool
+is_single size (source.Number n) = n == 0
+is_single size (source.Limited x limits) = are_single size limits
+is_single size (source.Member to count access p i) = (to.size == size) && is_single_count count
+is_single size (source.Address bytes access p i) = bytes == size
+is_single size (source.Tested same form at p k) = (same == size) && is_one k
+is_single size (source.Trusted to form p k) = (to.size == size) && is_one k
+is_single size _ = false
+
+-- A bounds cast of a pointer to one element, to one element of the same size, has no test.
+abbrev pub casts_one : ℕ → (p k : source.Expr) → Bool
+casts_one size p k = is_one k && is_single size p
+
+-- A direct expression is one expression of core code: it has no division, no remainder, no branch and no check.
+abbrev pub is_direct : source.Expr → Bool
+is_direct (source.Load width access p i) = is_unchecked access.through && (is_direct p && is_direct i)
+is_direct (source.Member to count access p i) = is_unchecked access.through && (is_direct p && is_direct i)
+is_direct (source.Address bytes access p i) = is_unchecked access.through && (is_direct p && is_direct i)
+is_direct (source.Moved shift p i) = not shift.checked && (is_direct p && is_direct i)
+is_direct (source.Added shift i p) = not shift.checked && (is_direct i && is_direct p)
+is_direct (source.Binary operation is_signed at a b) = not (divides operation) && is_direct a && is_direct b
+is_direct (source.And a b) = false
+is_direct (source.Or a b) = false
+is_direct (source.Choice c a b) = false
+is_direct (source.Narrow e) = is_direct e
+is_direct (source.Bare p) = is_direct p
+is_direct (source.Tested size form at p k) = casts_one size p k && is_direct p
+is_direct (source.Trusted to form p k) = is_direct p && is_direct k
+is_direct _ = true
+
+-- a > b is b < a, and a <= b is where a > b is not
+abbrev pub operated : Operation → Bool → Expr → Expr → Expr
+operated Le is_signed a b = Bin binary.Eq (Bin (operator Lt is_signed) b a) (Const 0)
+operated Gt is_signed a b = Bin (operator Lt is_signed) b a
+operated Ge is_signed a b = Bin binary.Eq (Bin (operator Lt is_signed) a b) (Const 0)
+operated operation is_signed a b = Bin (operator operation is_signed) a b
+
+abbrev pub as_truth : Expr → Expr
+as_truth e = Bin binary.Ne e (Const 0)
+
+abbrev pub is_zero : Expr → Bool
+is_zero (Const n) = n == 0
+is_zero _ = false
+
+-- so many elements of a size
+abbrev pub scaled : ℕ → Expr → Expr
+scaled size (Const n) = Const (applied binary.Mul size n)
+scaled size e = if size == 1 then e else Bin binary.Mul (Const size) e
+
+-- an address so many elements of a size further on, or back
+abbrev pub shifted : Bool → ℕ → Expr → Expr → Expr
+shifted back size a i = if is_zero i then a else Bin (if back then binary.Sub else binary.Add) a (scaled size i)
+
+-- an address so many bytes further on
+abbrev pub at_offset : ℕ → Expr → Expr
+at_offset offset (Const n) = Const (place_in n offset)
+at_offset offset e = if offset == 0 then e else Bin binary.Add e (Const offset)
+
+-- the element that an access goes to, through a pointer at an index
+abbrev pub element_of : Through → ℕ → Expr → Expr → Expr
+element_of Raw size a i = shifted false size a i
+element_of _ size a i = a
+
+-- the place that an access goes to
+abbrev pub place_at : Access → Expr → Expr → Expr
+place_at access a i = at_offset access.offset (element_of access.through access.size a i)
+
+-- the core expression of a direct expression
+abbrev pub direct : source.Expr → Expr
+direct (source.Number n) = Const n
+direct (source.Local x) = Local x
+direct (source.Limited x limits) = Local x
+direct (source.Array at bytes) = Const at
+direct (source.Load width access p i) = Load width (place_at access (direct p) (direct i))
+direct (source.Member to count access p i) = Load width.Word (place_at access (direct p) (direct i))
+direct (source.Address bytes access p i) = place_at access (direct p) (direct i)
+direct (source.Moved shift p i) = shifted shift.back shift.size (direct p) (direct i)
+direct (source.Added shift i p) = shifted shift.back shift.size (direct p) (direct i)
+direct (source.Binary operation is_signed at a b) = operated operation is_signed (direct a) (direct b)
+direct (source.Narrow e) = low_byte (direct e)
+direct (source.Bare p) = direct p
+direct (source.Tested size form at p k) = direct p
+direct (source.Trusted to form p k) = direct p
+direct _ = Const 0
+
+-- where the value of an expression is: where it stands, or in the temporary t
+abbrev pub operand : source.Expr → ℕ → Expr
+operand e t = if is_direct e then direct e else Local t
+
+-- an operand that goes to the temporary t in any case, where the flag says so
+abbrev pub held : Bool → source.Expr → ℕ → Expr
+held always e t = if always then Local t else operand e t
+
+abbrev pub is_number : source.Expr → Bool
+is_number (source.Number n) = true
+is_number _ = false
+
+-- an index that goes to a temporary in any case, where the flag says so, but for a number
+abbrev pub keeps_index : Bool → source.Expr → Bool
+keeps_index checked i = checked && not (is_number i)

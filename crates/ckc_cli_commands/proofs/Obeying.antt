@@ -1,0 +1,84 @@
+-- What comes of each command, from what its parts gave.
+use Rattle.std.proofs.Common.{◌≡◌, inl, inr, ℕ, ◌<◌, ◌≤◌, List, length, Some, Result, Ok, Err, refl, ap, subst, ◌∙◌, arith}
+use Rattle.ckc_outside.specs.declared.traits.Fetched.{Fetched}
+use Rattle.ckc_outside.specs.declared.traits.Fetched.TheVariants.{Whole, Longer}
+use Rattle.ckc_outside.specs.declared.traits.StoreError as errors
+use Rattle.ckc_outside.specs.Outside as outside
+use Rattle.ckc_outside.specs.Outside.{Files, Rose, one_more, after_keep}
+use Rattle.ckc_rv.specs.Machine.{Parts}
+use Rattle.ckc_image.proofs.Agreement.{never_bad, same_parts}
+use Rattle.ckc_asm_listing.specs.Listing.{listing}
+use Rattle.ckc_base.specs.declared.places.Refusal.{Refusal}
+use Rattle.ckc_base.specs.declared.fault.Fault.{Fault}
+use Rattle.ckc_base.specs.Phases.{Phase, Answers}
+use Rattle.ckc_base.specs.declared.fault.Fault.TheVariants as faults
+use Rattle.ckc_cli_commands.specs.declared.status.Status.{Status}
+use Rattle.ckc_cli_commands.specs.Words.{Command, Exec, Run, Show}
+use Rattle.ckc_build.specs.Built.{IsImage, Built}
+use Rattle.ckc_cli_commands.specs.Commands.{longest_image, Refuses}
+use Rattle.ckc_cli_commands.specs.Running.{Seen, Ends, Listed}
+use Rattle.ckc_cli_commands.specs.code.Running.{proper, bad, OverImage}
+use Rattle.ckc_cli_commands.specs.Causes as causes
+use Rattle.ckc_outside.specs.Outside.{Stored}
+use Rattle.ckc_cli_commands.specs.Causes.{Holds, Unkept, KeptOnce, Idle, Came}
+use Rattle.ckc_cli_commands.specs.code.Judging.{fault_status}
+use Rattle.ckc_cli_commands.specs.code.Fetching.{Fetches}
+
+-- ---- what was fetched
+
+pub over_limit : (f : Fetched) (name : List ℕ) (limit : ℕ) (before after : Stored) → f ≡ Longer → Fetches name limit before after (Ok f) → (bytes : List ℕ) × Holds before.files name bytes × (limit < length bytes)
+over_limit f name limit before after e h = subst (λ (f : Fetched). Fetches name limit before after (Ok f)) e h
+
+pub whole_of : (f : Fetched) (bytes name : List ℕ) (limit : ℕ) (before after : Stored) → f ≡ Whole bytes → Fetches name limit before after (Ok f) → Holds before.files name bytes × (length bytes ≤ limit)
+whole_of f bytes name limit before after e h = subst (λ (f : Fetched). Fetches name limit before after (Ok f)) e h
+
+same_image : (bytes : List ℕ) (p q : Parts) → IsImage bytes p → IsImage bytes q → p ≡ q
+same_image bytes p q i j =
+    let e = same_parts bytes p.entry q.entry p.code q.code p.initial q.initial i j in
+    λ k. record { entry = e.0 k; code = e.1 k; initial = e.2 k }
+
+-- ---- over bytes
+
+module _ (old new : Seen) (before after : Stored) (quiet untaken : Type 0) (s : Status) where
+  pub came_as : (command : Command) (bytes other : List ℕ) → bytes ≡ other → Came command bytes old new before after quiet untaken s → Came command other old new before after quiet untaken s
+  came_as command bytes other e c = subst (λ (b : List ℕ). Came command b old new before after quiet untaken s) e c
+
+  -- a phase whose errors are those of the command
+  pub faulted : {B : Type 0} (p : Phase (List ℕ) B) (command : Command) (bytes : List ℕ) (fault : Fault) → ((r : Refusal) → p.Refuses bytes r → Refuses command bytes r)
+      → Answers p bytes (Err fault) → s ≡ fault_status fault → Idle before after quiet untaken → Came command bytes old new before after quiet untaken s
+  faulted {B} p command bytes (faults.Refused refusal) refuses h e idle = causes.refused refusal (refuses refusal h) e idle
+  faulted {B} p command bytes faults.Memory refuses h e idle = causes.no_memory e idle
+
+  pub exec_came : (text bytes image : List ℕ) (limit : ℕ) (parts : Parts) → Built bytes parts → IsImage image parts
+      → OverImage image (λ p. Ends p limit old new quiet untaken s) (quiet × untaken) s → Unkept before after → Came (Exec text limit) bytes old new before after quiet untaken s
+  exec_came text bytes image limit parts built i (proper q j ends) f =
+      causes.ran parts limit (refl, built) (subst (λ (p : Parts). Ends p limit old new quiet untaken s) (same_image image q parts j i) ends) f
+  exec_came text bytes image limit parts built i (bad k first e idle) f = absurd (never_bad image parts.entry parts.code parts.initial i k first)
+
+  pub run_came : (name bytes : List ℕ) (limit : ℕ) → length bytes ≤ longest_image
+      → OverImage bytes (λ p. Ends p limit old new quiet untaken s) (quiet × untaken) s → Unkept before after → Came (Run name limit) bytes old new before after quiet untaken s
+  run_came name bytes limit le (proper q j ends) f = causes.ran q limit (refl, j) ends f
+  run_came name bytes limit le (bad k first e idle) f = causes.bad_image k (inr (le, first)) e (record { unkept = f; put = idle.0; took = idle.1 })
+
+  pub list_came : (name bytes : List ℕ) → length bytes ≤ longest_image → untaken
+      → OverImage bytes (λ p. Listed (listing p.entry p.code p.initial) old.sink.written new.sink.written old.sink.faults new.sink.faults s) quiet s → Unkept before after
+      → Came (Show name) bytes old new before after quiet untaken s
+  list_came name bytes le took (proper q j l) f = causes.listed (listing q.entry q.code q.initial) (q, j, refl) l f took
+  list_came name bytes le took (bad k first e idle) f = causes.bad_image k (inr (le, first)) e (record { unkept = f; put = idle; took = took })
+
+-- ---- what is kept
+
+-- a count that rose later rose from before, too
+pub rose_from : (a b c : ℕ) → a ≤ b → Rose b c → Rose a c
+rose_from a b c h (inl r) = inl (omega (arith, h, r))
+rose_from a b c h (inr r) = inr r
+
+-- what one call of keep leaves, where nothing was kept before it
+pub kept_once : (before middle after : Stored) (name bytes : List ℕ) (given result : Result (Unit {0}) errors.StoreError) → given ≡ result → Unkept before middle
+    → ((here : Files) → middle.files ≡ Some here → outside.Keeps here name bytes given after.files)
+    → after.keeps ≡ one_more middle.keeps → after.kept ≡ after_keep given middle.kept → KeptOnce before after name bytes result
+kept_once before middle after name bytes given result is u told once done = record {
+  files = λ here e. subst (λ (r : Result (Unit {0}) errors.StoreError). outside.Keeps here name bytes r after.files) is (told here (u.files ∙ e));
+  keeps = once ∙ ap one_more u.keeps;
+  kept = subst (λ (r : Result (Unit {0}) errors.StoreError). after.kept ≡ after_keep r before.kept) is (done ∙ ap (after_keep given) u.kept);
+}

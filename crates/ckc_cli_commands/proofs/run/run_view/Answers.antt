@@ -1,0 +1,15 @@
+use Rattle.std.proofs.Common.{◌≡◌}
+use Rattle.ckc_cli_commands.specs.Running.{seen_of, shows}
+use Rattle.ckc_cli_commands.proofs.Shows.{ran_of}
+use Rattle.ckc_cli_commands.proofs.run.run_view.Goals as goal
+
+pub returns-in-Ok-clause-ran : goal.returns-in-Ok-clause-ran
+returns-in-Ok-clause-ran g c = λ parts entry code initial.
+    let input = c.args.input.now in
+    let out = c.args.out.now in
+    let r = c.run.ensures in
+    shows c.run.result c.shown.ensures
+    (ran_of parts c.args.limit c.in-Ok.machine c.run.new.self (c.run.new.input ≡ input)
+    (seen_of (g.S.Source.seen input) (g.O.Sink.seen out))
+    (seen_of (g.S.Source.seen c.run.new.input) (g.O.Sink.seen c.run.new.out))
+    c.run.result (λ given. c.in-Ok.ensures.start parts given entry code initial) r.answer r.exact r.silent r.any r.read_fault r.write_fault)

@@ -1,0 +1,13 @@
+-- What comes of the bytes of a file that should be an image.
+use Rattle.std.specs.Prelude.{◌≡◌, ℕ, List}
+use Rattle.ckc_rv.specs.Machine.{Parts}
+use Rattle.ckc_image.specs.Image.{FirstBad}
+use Rattle.ckc_build.specs.Built.{IsImage}
+use Rattle.ckc_cli_commands.specs.declared.status.Status.{Status}
+use Rattle.ckc_cli_commands.specs.declared.status.Status.TheVariants as status
+
+-- What comes of bytes that should be an image: something is done with its parts, or the first part that disagrees
+-- is told, and nothing is done.
+pub data OverImage (bytes : List ℕ) (Does : Parts → Type 0) (idle : Type 0) (s : Status) : Type 0 where
+  proper : (parts : Parts) → IsImage bytes parts → Does parts → OverImage bytes Does idle s
+  bad : (k : ℕ) → FirstBad bytes k → s ≡ status.BadImage k → idle → OverImage bytes Does idle s

@@ -1,0 +1,282 @@
+//! The commands, one function for each.
+ghost use Rattle.std.specs.Prelude.{◌≡◌, ℕ, ◌≤◌, List};
+ghost use Rattle.ckc_base.specs.Places.{at_start, long_text};
+ghost use Rattle.ckc_cli_commands.specs.Words as w;
+ghost use Rattle.ckc_cli_commands.specs.Commands.{Keeps};
+ghost use Rattle.ckc_cli_commands.specs.Running.{Seen, seen_of, putting};
+ghost use Rattle.ckc_outside.specs.Outside.{Stored};
+ghost use Rattle.ckc_cli_commands.specs.Causes.{OnlyFetched, Unkept, Came, Obeyed};
+ghost use Rattle.ckc_cli_commands.specs.code.Judging.{fault_status};
+ghost use Rattle.ckc_cli_commands.specs.code.Fetching.{Fetches};
+
+use crate::assembly::assemble;
+use crate::run::{list_bytes, meant, run_bytes};
+use crate::status::Status;
+use ckc_base::{Fault, LONG_TEXT, LONGEST_TEXT, Refusal, START};
+use ckc_build::{build, program};
+use ckc_cli_calls::{fetch_file, keep_file};
+use ckc_interp::interp;
+use ckc_outside::{Fetched, Sink, Source, Store, StoreError};
+use std::alloc::Global;
+use std::mem::forget;
+
+/// The most bytes that a text may have.
+const TEXT_LIMIT: u64 = LONGEST_TEXT as u64;
+
+/// The most bytes that an image may have.
+const IMAGE_LIMIT: u64 = 33_550_356;
+
+/// The part of an image that is at fault where there are too many bytes.
+const TOO_MANY_BYTES: u8 = 3;
+
+/// `build TEXT IMAGE`
+pub fn build_text<F: Store>(alloc: Global, text: &str, image: &str, store: &mut F) -> Status
+    ensures cause { (seen : Seen) → Obeyed (w.Build text.now image.now) seen seen
+        (F.seen store.old) (F.seen store.new)
+        (Unit {0}) (Unit {0}) result }
+    ensures counts { (F.seen store.old).faults ≤ (F.seen store.new).faults }
+{
+    match fetch(alloc, text, TEXT_LIMIT, store) {
+        Err(status) => status,
+        Ok(Fetched::Longer) => too_long(),
+        Ok(Fetched::Whole(bytes)) => build_bytes(alloc, bytes.as_slice(), image, store),
+    }
+}
+
+/// Builds a text and keeps its image.
+fn build_bytes<F: Store>(alloc: Global, bytes: &[u8], image: &str, store: &mut F) -> Status
+    ensures cause { (text : List ℕ) (seen : Seen) (before : Stored)
+        → OnlyFetched before (F.seen store.old)
+        → Came (w.Build text image.now) bytes.now seen seen before
+        (F.seen store.new)
+        (Unit {0}) (Unit {0}) result }
+    ensures counts { (F.seen store.old).faults ≤ (F.seen store.new).faults }
+{
+    match build(alloc, bytes) {
+        Err(fault) => status_of(fault),
+        Ok(built) => keep_image(image, built.as_slice(), store),
+    }
+}
+
+/// `asm TEXT IMAGE`
+pub fn assemble_text<F: Store>(alloc: Global, text: &str, image: &str, store: &mut F) -> Status
+    ensures cause { (seen : Seen) → Obeyed (w.Assemble text.now image.now) seen seen
+        (F.seen store.old) (F.seen store.new)
+        (Unit {0}) (Unit {0}) result }
+    ensures counts { (F.seen store.old).faults ≤ (F.seen store.new).faults }
+{
+    match fetch(alloc, text, TEXT_LIMIT, store) {
+        Err(status) => status,
+        Ok(Fetched::Longer) => too_long(),
+        Ok(Fetched::Whole(bytes)) => assemble_bytes(alloc, bytes.as_slice(), image, store),
+    }
+}
+
+/// Assembles a text and keeps its image.
+fn assemble_bytes<F: Store>(alloc: Global, bytes: &[u8], image: &str, store: &mut F) -> Status
+    ensures cause { (text : List ℕ) (seen : Seen) (before : Stored)
+        → OnlyFetched before (F.seen store.old)
+        → Came (w.Assemble text image.now) bytes.now seen seen before
+        (F.seen store.new)
+        (Unit {0}) (Unit {0}) result }
+    ensures counts { (F.seen store.old).faults ≤ (F.seen store.new).faults }
+{
+    match assemble(alloc, bytes) {
+        Err(fault) => status_of(fault),
+        Ok(assembled) => keep_image(image, assembled.as_slice(), store),
+    }
+}
+
+/// Keeps an image under its name, last of all.
+fn keep_image<F: Store>(name: &str, image: &[u8], store: &mut F) -> Status
+    ensures cause { (command : w.Command) (bytes : List ℕ) (seen : Seen) (before : Stored)
+        → Keeps command bytes name.now image.now → OnlyFetched before (F.seen store.old)
+        → Came command bytes seen seen before (F.seen store.new)
+        (Unit {0}) (Unit {0}) result }
+    ensures counts { (F.seen store.old).faults ≤ (F.seen store.new).faults }
+{
+    match keep_file(name, image, store) {
+        Ok(()) => Status::Done,
+        Err(StoreError::Failed) => Status::StoreFault,
+        Err(StoreError::Memory) => Status::Memory,
+    }
+}
+
+/// `exec TEXT [LIMIT]`
+pub fn exec_text<S: Source, O: Sink, F: Store>(
+    alloc: Global,
+    text: &str,
+    limit: u64,
+    input: &mut S,
+    out: &mut O,
+    store: &mut F,
+) -> Status
+    ensures cause { Obeyed (w.Exec text.now limit)
+        (seen_of (S.seen input.old) (O.seen out.old))
+        (seen_of (S.seen input.new) (O.seen out.new))
+        (F.seen store.old) (F.seen store.new)
+        (out.new ≡ out.old) (input.new ≡ input.old) result }
+    ensures input_counts { (S.seen input.old).faults ≤ (S.seen input.new).faults }
+    ensures out_counts { (O.seen out.old).faults ≤ (O.seen out.new).faults }
+    ensures store_counts { (F.seen store.old).faults ≤ (F.seen store.new).faults }
+{
+    match fetch(alloc, text, TEXT_LIMIT, store) {
+        Err(status) => status,
+        Ok(Fetched::Longer) => too_long(),
+        Ok(Fetched::Whole(bytes)) => exec_bytes(alloc, bytes.as_slice(), limit, input, out),
+    }
+}
+
+/// Builds a text and runs its image.
+fn exec_bytes<S: Source, O: Sink>(
+    alloc: Global,
+    bytes: &[u8],
+    limit: u64,
+    input: &mut S,
+    out: &mut O,
+) -> Status
+    ensures cause { (text : List ℕ) (before after : Stored) → Unkept before after
+        → Came (w.Exec text limit) bytes.now
+        (seen_of (S.seen input.old) (O.seen out.old))
+        (seen_of (S.seen input.new) (O.seen out.new))
+        before after (out.new ≡ out.old) (input.new ≡ input.old) result }
+    ensures input_counts { (S.seen input.old).faults ≤ (S.seen input.new).faults }
+    ensures out_counts { (O.seen out.old).faults ≤ (O.seen out.new).faults }
+{
+    match build(alloc, bytes) {
+        Err(fault) => status_of(fault),
+        Ok(image) => run_bytes(alloc, image.as_slice(), limit, input, out),
+    }
+}
+
+/// `interp TEXT [LIMIT]`
+pub fn interp_text<S: Source, O: Sink, F: Store>(
+    alloc: Global,
+    text: &str,
+    limit: u64,
+    input: &mut S,
+    out: &mut O,
+    store: &mut F,
+) -> Status
+    ensures cause { Obeyed (w.Interp text.now limit)
+        (seen_of (S.seen input.old) (O.seen out.old))
+        (seen_of (S.seen input.new) (O.seen out.new))
+        (F.seen store.old) (F.seen store.new)
+        (out.new ≡ out.old) (input.new ≡ input.old) result }
+    ensures input_counts { (S.seen input.old).faults ≤ (S.seen input.new).faults }
+    ensures out_counts { (O.seen out.old).faults ≤ (O.seen out.new).faults }
+    ensures store_counts { (F.seen store.old).faults ≤ (F.seen store.new).faults }
+{
+    match fetch(alloc, text, TEXT_LIMIT, store) {
+        Err(status) => status,
+        Ok(Fetched::Longer) => too_long(),
+        Ok(Fetched::Whole(bytes)) => interp_bytes(alloc, bytes.as_slice(), limit, input, out),
+    }
+}
+
+/// Runs the meaning of a text.
+fn interp_bytes<S: Source, O: Sink>(
+    alloc: Global,
+    bytes: &[u8],
+    limit: u64,
+    input: &mut S,
+    out: &mut O,
+) -> Status
+    ensures cause { (text : List ℕ) (before after : Stored) → Unkept before after
+        → Came (w.Interp text limit) bytes.now
+        (seen_of (S.seen input.old) (O.seen out.old))
+        (seen_of (S.seen input.new) (O.seen out.new))
+        before after (out.new ≡ out.old) (input.new ≡ input.old) result }
+    ensures input_counts { (S.seen input.old).faults ≤ (S.seen input.new).faults }
+    ensures out_counts { (O.seen out.old).faults ≤ (O.seen out.new).faults }
+{
+    match program(alloc, bytes) {
+        Err(fault) => status_of(fault),
+        Ok(p) => {
+            let seen = interp(alloc, &p, limit, input, out);
+            // The program is left to the end of the process, which gives its memory back at once.
+            forget(p);
+            meant(seen)
+        }
+    }
+}
+
+/// `run IMAGE [LIMIT]`
+pub fn run_image<S: Source, O: Sink, F: Store>(
+    alloc: Global,
+    image: &str,
+    limit: u64,
+    input: &mut S,
+    out: &mut O,
+    store: &mut F,
+) -> Status
+    ensures cause { Obeyed (w.Run image.now limit)
+        (seen_of (S.seen input.old) (O.seen out.old))
+        (seen_of (S.seen input.new) (O.seen out.new))
+        (F.seen store.old) (F.seen store.new)
+        (out.new ≡ out.old) (input.new ≡ input.old) result }
+    ensures input_counts { (S.seen input.old).faults ≤ (S.seen input.new).faults }
+    ensures out_counts { (O.seen out.old).faults ≤ (O.seen out.new).faults }
+    ensures store_counts { (F.seen store.old).faults ≤ (F.seen store.new).faults }
+{
+    match fetch(alloc, image, IMAGE_LIMIT, store) {
+        Err(status) => status,
+        Ok(Fetched::Longer) => Status::BadImage(TOO_MANY_BYTES),
+        Ok(Fetched::Whole(bytes)) => run_bytes(alloc, bytes.as_slice(), limit, input, out),
+    }
+}
+
+/// `list IMAGE`
+pub fn list_image<O: Sink, F: Store>(
+    alloc: Global,
+    image: &str,
+    out: &mut O,
+    store: &mut F,
+) -> Status
+    ensures cause { (seen : Seen) → Obeyed (w.Show image.now)
+        (putting seen (O.seen out.old))
+        (putting seen (O.seen out.new))
+        (F.seen store.old) (F.seen store.new)
+        (out.new ≡ out.old) (Unit {0}) result }
+    ensures out_counts { (O.seen out.old).faults ≤ (O.seen out.new).faults }
+    ensures store_counts { (F.seen store.old).faults ≤ (F.seen store.new).faults }
+{
+    match fetch(alloc, image, IMAGE_LIMIT, store) {
+        Err(status) => status,
+        Ok(Fetched::Longer) => Status::BadImage(TOO_MANY_BYTES),
+        Ok(Fetched::Whole(bytes)) => list_bytes(bytes.as_slice(), out),
+    }
+}
+
+/// The refusal of a text that is too long.
+fn too_long() -> Status
+    ensures { result ≡ Status.Refused (at_start long_text) }
+{
+    Status::Refused(Refusal {
+        code: LONG_TEXT,
+        pos: START,
+    })
+}
+
+/// The status of a fault.
+fn status_of(fault: Fault) -> Status
+    ensures { result ≡ fault_status fault }
+{
+    match fault {
+        Fault::Refused(refusal) => Status::Refused(refusal),
+        Fault::Memory => Status::Memory,
+    }
+}
+
+/// What the store has under a name.
+fn fetch<F: Store>(alloc: Global, name: &str, limit: u64, store: &mut F) -> Result<Fetched, Status>
+    ensures fetches { Fetches name.now limit (F.seen store.old) (F.seen store.new) result }
+    ensures only { OnlyFetched (F.seen store.old) (F.seen store.new) }
+    ensures counts { (F.seen store.old).faults ≤ (F.seen store.new).faults }
+{
+    match fetch_file(alloc, name, limit, store) {
+        Ok(fetched) => Ok(fetched),
+        Err(StoreError::Failed) => Err(Status::StoreFault),
+        Err(StoreError::Memory) => Err(Status::Memory),
+    }
+}

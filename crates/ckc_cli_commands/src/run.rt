@@ -1,0 +1,106 @@
+//! Running and listing the bytes of an image, and what a run of a meaning shows.
+ghost use Rattle.std.specs.Prelude.{◌≡◌, ◌≤◌};
+ghost use Rattle.ckc_rv.specs.Machine.{Parts};
+ghost use Rattle.ckc_asm_listing.specs.Listing.{listing};
+ghost use Rattle.ckc_cli_commands.specs.Interpreting.{meant_status};
+ghost use Rattle.ckc_cli_commands.specs.Running.{Ends, Listed, seen_of, status_of};
+ghost use Rattle.ckc_cli_commands.specs.code.Running.{OverImage};
+
+use crate::status::Status;
+use ckc_asm_listing::list;
+use ckc_image::View;
+use ckc_interp::Seen;
+use ckc_machine::{Machine, Observed};
+use ckc_outside::{Sink, Source};
+use std::alloc::Global;
+
+/// Runs the image that the bytes are, or says which part of them disagrees.
+pub fn run_bytes<S: Source, O: Sink>(
+    alloc: Global,
+    image: &[u8],
+    limit: u64,
+    input: &mut S,
+    out: &mut O,
+) -> Status
+    ensures over { OverImage image.now (λ parts. Ends parts limit
+        (seen_of (S.seen input.old) (O.seen out.old))
+        (seen_of (S.seen input.new) (O.seen out.new))
+        (out.new ≡ out.old) (input.new ≡ input.old) result)
+        ((out.new ≡ out.old) × (input.new ≡ input.old)) result }
+    ensures input_counts { (S.seen input.old).faults ≤ (S.seen input.new).faults }
+    ensures out_counts { (O.seen out.old).faults ≤ (O.seen out.new).faults }
+{
+    match View::read(image) {
+        Err(bad) => Status::BadImage(bad.0),
+        Ok(view) => run_view(alloc, view, limit, input, out),
+    }
+}
+
+/// Runs an image.
+fn run_view<'a, S: Source, O: Sink>(
+    alloc: Global,
+    view: View<'a>,
+    limit: u64,
+    input: &mut S,
+    out: &mut O,
+) -> Status
+    ensures ran { (parts : Parts) → parts.entry ≡ view.entry.entry
+        → parts.code ≡ view.entry.code.now → parts.initial ≡ view.entry.initial.now
+        → Ends parts limit
+        (seen_of (S.seen input.old) (O.seen out.old))
+        (seen_of (S.seen input.new) (O.seen out.new))
+        (out.new ≡ out.old) (input.new ≡ input.old) result }
+    ensures input_counts { (S.seen input.old).faults ≤ (S.seen input.new).faults }
+    ensures out_counts { (O.seen out.old).faults ≤ (O.seen out.new).faults }
+{
+    match Machine::load(alloc, view) {
+        Err(_) => Status::Memory,
+        Ok(mut machine) => shown(machine.run(limit, input, out)),
+    }
+}
+
+/// The status of what a run shows.
+fn shown(observed: Observed) -> Status
+    ensures { result ≡ status_of observed }
+{
+    match observed {
+        Observed::Ended(value) => Status::Ended(value),
+        Observed::Stopped(check, pos) => Status::Stopped(check, pos),
+        Observed::Going => Status::Going,
+        Observed::Fault(kind, pc) => Status::MachineFault(kind, pc),
+        Observed::ReadFault => Status::ReadFault,
+        Observed::WriteFault => Status::WriteFault,
+    }
+}
+
+/// The status of what a run of a meaning shows.
+pub fn meant(seen: Seen) -> Status
+    ensures { result ≡ meant_status seen }
+{
+    match seen {
+        Seen::Ended(value) => Status::Ended(value),
+        Seen::Stopped(check, pos) => Status::Stopped(check, pos),
+        Seen::Going => Status::Going,
+        Seen::Stuck(at, since) => Status::Stuck(at, since),
+        Seen::ReadFault => Status::ReadFault,
+        Seen::WriteFault => Status::WriteFault,
+        Seen::Memory => Status::Memory,
+    }
+}
+
+/// Puts the listing of the image that the bytes are, or says which part of them disagrees.
+pub fn list_bytes<O: Sink>(image: &[u8], out: &mut O) -> Status
+    ensures over { OverImage image.now (λ parts. Listed
+        (listing parts.entry parts.code parts.initial)
+        (O.seen out.old).written (O.seen out.new).written
+        (O.seen out.old).faults (O.seen out.new).faults result) (out.new ≡ out.old) result }
+    ensures out_counts { (O.seen out.old).faults ≤ (O.seen out.new).faults }
+{
+    match View::read(image) {
+        Err(bad) => Status::BadImage(bad.0),
+        Ok(view) => match list(view.entry, view.code, view.initial, out) {
+            Ok(()) => Status::Done,
+            Err(_) => Status::WriteFault,
+        },
+    }
+}

@@ -1,0 +1,65 @@
+//! From the words of the command line to what the command does, and to its status.
+#![tactic(auto)]
+
+ghost use Rattle.std.specs.Prelude.{◌≡◌, ◌≤◌};
+ghost use Rattle.ckc_cli_commands.specs.Words.{bytes_of};
+ghost use Rattle.ckc_cli_commands.specs.Commanded.{command_is};
+ghost use Rattle.ckc_cli_commands.specs.Running.{seen_of};
+ghost use Rattle.ckc_cli_commands.specs.Causes.{Caused, Obeyed};
+
+use ckc_cli_commands::{
+    Command, Status, assemble_text, build_text, command_of, exec_text, interp_text, list_image,
+    run_image,
+};
+use ckc_outside::{Sink, Source, Store};
+use std::alloc::Global;
+
+/// Does what the words ask for.
+pub fn asked<S: Source, O: Sink, F: Store>(
+    alloc: Global,
+    words: &[String],
+    input: &mut S,
+    out: &mut O,
+    store: &mut F,
+) -> Status
+    ensures cause { Caused (bytes_of words.now)
+        (seen_of (S.seen input.old) (O.seen out.old))
+        (seen_of (S.seen input.new) (O.seen out.new))
+        (F.seen store.old) (F.seen store.new)
+        (out.new ≡ out.old) (input.new ≡ input.old) (store.new ≡ store.old) result }
+    ensures input_counts { (S.seen input.old).faults ≤ (S.seen input.new).faults }
+    ensures out_counts { (O.seen out.old).faults ≤ (O.seen out.new).faults }
+    ensures store_counts { (F.seen store.old).faults ≤ (F.seen store.new).faults }
+{
+    match command_of(words) {
+        None => Status::Usage,
+        Some(command) => obey(alloc, command, input, out, store),
+    }
+}
+
+/// Does what a command asks for.
+fn obey<'a, S: Source, O: Sink, F: Store>(
+    alloc: Global,
+    command: Command<'a>,
+    input: &mut S,
+    out: &mut O,
+    store: &mut F,
+) -> Status
+    ensures cause { Obeyed (command_is command.entry)
+        (seen_of (S.seen input.old) (O.seen out.old))
+        (seen_of (S.seen input.new) (O.seen out.new))
+        (F.seen store.old) (F.seen store.new)
+        (out.new ≡ out.old) (input.new ≡ input.old) result }
+    ensures input_counts { (S.seen input.old).faults ≤ (S.seen input.new).faults }
+    ensures out_counts { (O.seen out.old).faults ≤ (O.seen out.new).faults }
+    ensures store_counts { (F.seen store.old).faults ≤ (F.seen store.new).faults }
+{
+    match command {
+        Command::Build(text, image) => build_text(alloc, text, image, store),
+        Command::Assemble(text, image) => assemble_text(alloc, text, image, store),
+        Command::Exec(text, limit) => exec_text(alloc, text, limit, input, out, store),
+        Command::Interp(text, limit) => interp_text(alloc, text, limit, input, out, store),
+        Command::Run(image, limit) => run_image(alloc, image, limit, input, out, store),
+        Command::List(image) => list_image(alloc, image, out, store),
+    }
+}

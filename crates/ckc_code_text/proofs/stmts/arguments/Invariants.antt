@@ -1,6 +1,0 @@
-use Rattle.std.specs.Prelude.{All}
-use Rattle.ckc_code_text.specs.code.Fine.{IsExpr}
-use Rattle.ckc_code_text.proofs.stmts.arguments.Given as goal
-
-abbrev pub invariant-loop-turn : goal.invariant-loop-turn
-invariant-loop-turn l = All (IsExpr l.locals 1000) l.args

@@ -1,5 +1,0 @@
-use Rattle.std.proofs.Common.{rules}
-use Rattle.ckc_counts.proofs.is_image_length.Goals as goal
-
-pub returns : goal.returns
-returns c = search rules

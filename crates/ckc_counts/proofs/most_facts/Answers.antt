@@ -1,5 +1,0 @@
-use Rattle.std.proofs.Common.{arith}
-use Rattle.ckc_counts.proofs.most_facts.Goals as goal
-
-pub returns : goal.returns
-returns c = omega arith

@@ -1,6 +1,0 @@
-use Rattle.std.proofs.Common.{◌≡◌, ◌+◌, map, drop}
-use Rattle.ckc_elaborate.specs.Statements.{part_of, all_literals}
-use Rattle.ckc_elaborate.proofs.literals.+literals.Given as goal
-
-abbrev pub invariant-in_stmts-loop-s : goal.invariant-in_stmts-loop-s
-invariant-in_stmts-loop-s l = l.n + all_literals (map part_of (drop l.s-index l.ss)) ≡ l.before + all_literals (map part_of l.ss)

@@ -1,6 +1,0 @@
-use Rattle.std.proofs.Common.{◌≡◌, take, map}
-use Rattle.ckc_typed.specs.Environment.{variable_declared}
-use Rattle.ckc_environment.proofs.environment.variables_declared.Given as goal
-
-abbrev pub invariant-loop-d : goal.invariant-loop-d
-invariant-loop-d g l = l.all ≡ map variable_declared (take l.d-index l.ds)

@@ -1,5 +1,0 @@
-use Rattle.ckc_fit.proofs.BodiesKept.{bodies_kept}
-use Rattle.ckc_fit.proofs.laws.functions_have_bodies.Goals as goal
-
-pub returns : goal.returns
-returns c = record { bodies = bodies_kept }

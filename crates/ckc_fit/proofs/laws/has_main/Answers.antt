@@ -1,5 +1,0 @@
-use Rattle.ckc_fit.proofs.BodiesKept.{main_kept}
-use Rattle.ckc_fit.proofs.laws.has_main.Goals as goal
-
-pub returns : goal.returns
-returns c = record { main = main_kept }

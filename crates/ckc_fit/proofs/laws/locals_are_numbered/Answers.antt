@@ -1,5 +1,0 @@
-use Rattle.ckc_fit.proofs.LocalsCounted.{locals_count}
-use Rattle.ckc_fit.proofs.laws.locals_are_numbered.Goals as goal
-
-pub returns : goal.returns
-returns c = record { counted = locals_count }

@@ -1,5 +1,0 @@
-use Rattle.ckc_fit.proofs.FormKept.{form_kept}
-use Rattle.ckc_fit.proofs.laws.names_keep_form.Goals as goal
-
-pub returns : goal.returns
-returns c = record { form = form_kept }

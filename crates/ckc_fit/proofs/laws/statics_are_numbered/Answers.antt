@@ -1,5 +1,0 @@
-use Rattle.ckc_fit.proofs.Numbered.{statics_count}
-use Rattle.ckc_fit.proofs.laws.statics_are_numbered.Goals as goal
-
-pub returns : goal.returns
-returns c = record { counted = statics_count }

@@ -1,6 +1,0 @@
-use Rattle.std.proofs.Common.{rules}
-use Rattle.ckc_core.specs.declared.code.CoreExpr.TheFolds.{the_lemmas}
-use Rattle.ckc_guards.proofs.guards.may_write.Goals as goal
-
-pub returns : goal.returns
-returns c = search (rules, the_lemmas)

@@ -1,5 +1,0 @@
-use Rattle.ckc_limits.proofs.Limiting.{limiting_codes}
-use Rattle.ckc_limits.proofs.laws.codes.Goals as goal
-
-pub returns : goal.returns
-returns g c = limiting_codes

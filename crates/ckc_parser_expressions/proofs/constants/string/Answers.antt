@@ -1,0 +1,16 @@
+use Rattle.std.proofs.Common.{◌∷◌, ◌∙◌, [], sym, ap}
+use Rattle.ckc_syntax.specs.Spelled.{spelled}
+use Rattle.ckc_syntax.specs.declared.tree.Node.TheVariants as node
+use Rattle.ckc_parser_grammar.specs.Trees.{expr_at}
+use Rattle.ckc_parser_grammar.specs.Values.{Value, made}
+use Rattle.ckc_parser_grammar.specs.Values as v
+use Rattle.ckc_parser_grammar.specs.Marked.{ahead}
+use Rattle.ckc_parser_expressions.proofs.Exits.{exit}
+use Rattle.ckc_parser_expressions.proofs.constants.string.Goals as goal
+
+pub returns-in_err-token-clause-reads : goal.returns-in_err-token-clause-reads
+returns-in_err-token-clause-reads c = exit _ _ _ c.from_residual.ensures.1 c.in_err-token.ensures.parses (λ d. d)
+
+pub returns-clause-reads : goal.returns-clause-reads
+returns-clause-reads c =
+    (v.token (spelled c.in_ok-token.token) ∷ [], c.in_ok-token.ensures.parses, ap (λ x. v.expr x) (sym (c.in_ok-whole.ensures ∙ ap (λ z. expr_at (node.Text z) c.in_ok-token.token.pos) c.in_ok-bytes.ensures.value)))

@@ -1,0 +1,73 @@
+-- Tokens with their kinds, and what it is to read a part from them.
+use Rattle.std.specs.Prelude.{◌≡◌, ℕ, length, ◌+◌, ◌==◌, List, [], ◌∷◌, Bool, true, false, ◌&&◌, map, Result, Ok, Err, if◌then◌else◌}
+use Rattle.ckc_base.specs.declared.places.Pos.{Pos}
+use Rattle.ckc_syntax.specs.Spelled.{Spelled, spelled}
+use Rattle.ckc_parser_grammar.specs.declared.kind.Kind.{Kind}
+use Rattle.ckc_parser_grammar.specs.declared.kind.Kind.TheVariants as kind
+use Rattle.ckc_parser_grammar.specs.declared.parts.Stop.{Stop}
+use Rattle.ckc_parser_grammar.specs.declared.parts.Stop.TheVariants as stop
+use Rattle.ckc_parser_grammar.specs.declared.reader.Reader.{Reader}
+use Rattle.ckc_parser_grammar.specs.Kinds.{kind_of_token}
+use Rattle.ckc_parser_grammar.specs.Grammar.{Symbol}
+use Rattle.ckc_parser_grammar.specs.Values.{Value, made}
+use Rattle.ckc_parser_grammar.specs.Derives.{Sign}
+use Rattle.ckc_parser_grammar.specs.Reading.{Takes, Stops}
+
+-- The kind of a token behind another: a `>` directly behind a `>` may end a shift.
+abbrev pub glued : Bool → Kind → Kind
+glued adjacent kind.Greater = if adjacent then kind.GreaterNext else kind.Greater
+glued adjacent k = k
+
+abbrev pub is_plain_greater : Kind → Bool
+is_plain_greater kind.Greater = true
+is_plain_greater _ = false
+
+abbrev pub adjacent : Spelled → Spelled → Bool
+adjacent x y = is_plain_greater (kind_of_token x) && (x.pos.line == y.pos.line && x.pos.col + 1 == y.pos.col)
+
+abbrev pub kind_after : Spelled → Spelled → Kind
+kind_after x y = glued (adjacent x y) (kind_of_token y)
+
+abbrev pub signs_after : Spelled → List Spelled → List Sign
+signs_after x [] = []
+signs_after x (y ∷ ys) = record { kind = kind_after x y; token = y } ∷ signs_after y ys
+
+abbrev pub signs_from : Kind → List Spelled → List Sign
+signs_from k [] = []
+signs_from k (x ∷ xs) = record { kind = k; token = x } ∷ signs_after x xs
+
+-- the tokens of a text with their kinds
+abbrev pub signs : List Spelled → List Sign
+signs [] = []
+signs (x ∷ xs) = record { kind = kind_of_token x; token = x } ∷ signs_after x xs
+
+-- what a reader has left
+abbrev pub ahead : Reader → List Sign
+ahead r = signs_from r.kind (map spelled r.rest.now)
+
+-- how many tokens a reader has left
+abbrev pub remaining : Reader → ℕ
+remaining r = length r.rest.now
+
+-- Reading stops before the next token, or for want of memory.
+abbrev pub Halts : List Symbol → List Sign → Stop → List Sign → Type 0
+Halts ss old stop.Syntax new = Stops ss old new
+Halts ss old stop.Memory new = Unit {0}
+
+-- the outcome of a method that reads symbols: what holds of its result, or where reading stops
+abbrev pub Answered : {X : Type 0} → (X → Type 0) → List Symbol → List Sign → Result X Stop → List Sign → Type 0
+Answered G ss old (Ok x) new = G x
+Answered G ss old (Err e) new = Halts ss old e new
+
+-- What it is to read a symbol: it is taken with a value, or the next token does not go on.
+abbrev pub Parses : {X : Type 0} → (X → Value) → Symbol → List Sign → Result X Stop → List Sign → Type 0
+Parses f s old r new = Answered (λ x. Takes (s ∷ []) old (f x ∷ []) new) (s ∷ []) old r new
+
+-- It is taken with a value of which the result is made.
+abbrev pub Gives : {X : Type 0} → (Value → X) → Symbol → List Sign → Result X Stop → List Sign → Type 0
+Gives worth s old r new = Answered (λ x. (v : Value) × Takes (s ∷ []) old (v ∷ []) new × (worth v ≡ x)) (s ∷ []) old r new
+
+-- the place of the next token, or the end
+abbrev pub place_of : List Sign → Pos → Pos
+place_of [] end = end
+place_of (x ∷ xs) end = x.token.pos

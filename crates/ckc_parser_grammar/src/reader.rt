@@ -1,0 +1,288 @@
+ghost use Rattle.std.specs.Prelude.{◌≡◌, ◌≢◌, ◌≤◌, ◌<◌, [], ◌∷◌, map, MatchOption, MatchResult, IsNone, IsTrue, ◌↔◌};
+ghost use Rattle.std.specs.Bool.{OnTrue, OnFalse};
+ghost use Rattle.ckc_syntax.specs.Spelled.{spelled};
+ghost use Rattle.ckc_parser_grammar.specs.Kinds.{kind_of_token};
+ghost use Rattle.ckc_parser_grammar.specs.Grammar.{t, one, fits, is_name, is_name_but_calloc};
+ghost use Rattle.ckc_parser_grammar.specs.Forms.{is_unknown_alone, has_more};
+ghost use Rattle.ckc_parser_grammar.specs.Derives.{syntax_error};
+ghost use Rattle.ckc_parser_grammar.specs.Values.{Value, token};
+ghost use Rattle.ckc_parser_grammar.specs.Classes.{terminal};
+ghost use Rattle.ckc_parser_grammar.specs.Reading.{kind_of, Takes};
+ghost use Rattle.ckc_parser_grammar.specs.Marked.{kind_after, adjacent, signs, ahead, remaining, place_of, Answered, Parses};
+
+use crate::kind::{Kind, keyword_kind, mark_kind, name_kind};
+use crate::operators::{is_greater, is_literal, is_operator, is_sign};
+use crate::parts::Stop;
+use ckc_base::{Pos, Refusal};
+use ckc_syntax::{Token, TokenKind};
+
+/// E120: the next token does not go on, or more tokens are wanted.
+pub const SYNTAX_ERROR: u16 = 120;
+
+/// Tokens that are left to read, with the kind of the first.
+#[derive(Clone, Copy)]
+pub struct Reader<'a> {
+    kind: Kind,
+    rest: &'a [Token<'a>],
+}
+
+/// The kind of a token by itself.
+pub fn token_kind(token: &Token) -> Kind
+    ensures { result ≡ kind_of_token (spelled token.now) }
+{
+    match token.kind {
+        TokenKind::Name => name_kind(token.text),
+        TokenKind::Keyword => keyword_kind(token.text),
+        TokenKind::Number(_, _) => Kind::Number,
+        TokenKind::Character(_) => Kind::Character,
+        TokenKind::Text => Kind::Text,
+        TokenKind::Mark => mark_kind(token.text),
+        TokenKind::Directive(_) => Kind::Directive,
+    }
+}
+
+/// Whether a token is a name.
+pub fn is_name(kind: Kind) -> bool
+    ensures { result ≡ is_name kind }
+{
+    match kind {
+        Kind::Name => true,
+        Kind::Calloc => true,
+        Kind::Count => true,
+        Kind::ByteCount => true,
+        Kind::Bounds => true,
+        Kind::Unknown => true,
+        _ => false,
+    }
+}
+
+/// Whether a token is a name but `calloc`.
+fn is_name_but_calloc(kind: Kind) -> bool
+    ensures { result ≡ is_name_but_calloc kind }
+{
+    match kind {
+        Kind::Calloc => false,
+        _ => is_name(kind),
+    }
+}
+
+/// The tokens of several kinds that may stand in one place: a name, a name but `calloc`, a `>`, a sign before an
+/// operand, a binary operator but `<` and `>`, a number or character.
+#[derive(Clone, Copy)]
+pub enum Class {
+    Name,
+    NameButCalloc,
+    Greater,
+    Sign,
+    Operator,
+    Literal,
+}
+
+/// Whether a token is of a class.
+fn is_of(class: Class, kind: Kind) -> bool
+    ensures { result ≡ fits (terminal class) kind }
+{
+    match class {
+        Class::Name => is_name(kind),
+        Class::NameButCalloc => is_name_but_calloc(kind),
+        Class::Greater => is_greater(kind),
+        Class::Sign => is_sign(kind),
+        Class::Operator => is_operator(kind),
+        Class::Literal => is_literal(kind),
+    }
+}
+
+/// The kind of a token behind another.
+fn kind_behind(before: &Token, token: &Token) -> Kind
+    ensures { result ≡ kind_after (spelled before.now) (spelled token.now) }
+{
+    let kind = token_kind(token);
+    match kind {
+        Kind::Greater => {
+            if is_adjacent(before, token) {
+                Kind::GreaterNext
+            } else {
+                Kind::Greater
+            }
+        }
+        _ => kind,
+    }
+}
+
+/// Whether a token stands directly behind a `>`.
+fn is_adjacent(before: &Token, token: &Token) -> bool
+    ensures { result ≡ adjacent (spelled before.now) (spelled token.now) }
+{
+    match token_kind(before) {
+        Kind::Greater => {
+            before.pos.line == token.pos.line
+                && before.pos.col.checked_add(1) == Some(token.pos.col)
+        }
+        _ => false,
+    }
+}
+
+impl<'a> Reader<'a> {
+    /// Nothing is read yet.
+    pub fn new(tokens: &'a [Token<'a>]) -> Reader<'a>
+        ensures { ahead result ≡ signs (map spelled tokens.now) }
+    {
+        let kind = match tokens {
+            [] => Kind::End,
+            [first, ..] => token_kind(first),
+        };
+        Reader { kind, rest: tokens }
+    }
+
+    /// The kind of the next token.
+    pub fn kind(&self) -> Kind
+        ensures { result ≡ kind_of (ahead self.now) }
+    {
+        if self.rest.is_empty() {
+            Kind::End
+        } else {
+            self.kind
+        }
+    }
+
+    /// Takes the next token.
+    fn next(&mut self) -> Option<Token<'a>>
+        ensures taken { MatchOption result (ahead self.old ≡ [])
+            (λ x. ahead self.old ≡ record { kind = kind_of (ahead self.old); token = spelled x } ∷
+            ahead self.new) }
+        ensures end { IsNone result → ahead self.new ≡ ahead self.old }
+        ensures fewer { MatchOption result (remaining self.new ≤ remaining self.old)
+            (λ x. remaining self.new < remaining self.old) }
+    {
+        match self.rest {
+            [] => None,
+            [first, rest @ ..] => {
+                let kind = match rest {
+                    [] => Kind::End,
+                    [second, ..] => kind_behind(first, second),
+                };
+                self.kind = kind;
+                self.rest = rest;
+                Some(*first)
+            }
+        }
+    }
+
+    /// Takes a token of a kind.
+    pub fn take(&mut self, kind: Kind) -> Result<Token<'a>, Stop>
+        requires { kind ≢ Kind.End }
+        ensures parses { Parses (λ x. token (spelled x)) (t (one kind)) (ahead self.old) result
+            (ahead self.new) }
+        ensures fewer { MatchResult result (λ x. remaining self.new < remaining self.old)
+            (λ e. remaining self.new ≤ remaining self.old) }
+    {
+        if self.kind() != kind {
+            return Err(Stop::Syntax);
+        }
+        match self.next() {
+            Some(token) => Ok(token),
+            None => Err(Stop::Syntax),
+        }
+    }
+
+    /// Takes a token of a kind, of which nothing else is of use.
+    pub fn skip(&mut self, kind: Kind) -> Result<(), Stop>
+        requires { kind ≢ Kind.End }
+        ensures tells { Answered
+            (λ x. (v : Value)
+            × Takes (t (one kind) ∷ []) (ahead self.old) (v ∷ []) (ahead self.new))
+            (t (one kind) ∷ []) (ahead self.old) result (ahead self.new) }
+        ensures fewer { remaining self.new ≤ remaining self.old }
+    {
+        match self.take(kind) {
+            Ok(_) => Ok(()),
+            Err(stop) => Err(stop),
+        }
+    }
+
+    /// Takes the next token where it is of a kind, and tells whether it is.
+    pub fn eats(&mut self, kind: Kind) -> bool
+        requires { kind ≢ Kind.End }
+        ensures next { OnTrue result (kind_of (ahead self.old) ≡ kind) }
+        ensures taken { OnTrue result
+            ((v : Value) × Takes (t (one kind) ∷ []) (ahead self.old) (v ∷ []) (ahead self.new)) }
+        ensures other { OnFalse result (kind_of (ahead self.old) ≢ kind) }
+        ensures kept { OnFalse result (ahead self.new ≡ ahead self.old) }
+        ensures fewer { remaining self.new ≤ remaining self.old }
+    {
+        if self.kind() != kind {
+            return false;
+        }
+        match self.next() {
+            Some(_) => true,
+            None => false,
+        }
+    }
+
+    /// Takes a token of a class.
+    pub fn take_any(&mut self, class: Class) -> Result<Token<'a>, Stop>
+        ensures parses { Parses (λ x. token (spelled x)) (t (terminal class)) (ahead self.old)
+            result (ahead self.new) }
+        ensures fewer { MatchResult result (λ x. remaining self.new < remaining self.old)
+            (λ e. remaining self.new ≤ remaining self.old) }
+    {
+        if !is_of(class, self.kind()) {
+            return Err(Stop::Syntax);
+        }
+        match self.next() {
+            Some(token) => Ok(token),
+            None => Err(Stop::Syntax),
+        }
+    }
+
+    /// Whether `unknown` is next, with a `)` behind it.
+    pub fn is_unknown_alone(&self) -> bool
+        ensures { result ≡ is_unknown_alone (ahead self.now) }
+    {
+        match self.kind() {
+            Kind::Unknown => {
+                let mut probe = *self;
+                let word = probe.next();
+                match probe.kind() {
+                    Kind::RoundClose => true,
+                    _ => false,
+                }
+            }
+            _ => false,
+        }
+    }
+
+    /// Whether a token is next.
+    pub fn goes_on(&self) -> bool
+        ensures { result ≡ has_more (kind_of (ahead self.now)) }
+    {
+        match self.kind() {
+            Kind::End => false,
+            _ => true,
+        }
+    }
+
+    /// Whether no token is left.
+    pub fn is_at_end(&self) -> bool
+        ensures { IsTrue result ↔ (ahead self.now ≡ []) }
+    {
+        self.rest.is_empty()
+    }
+
+    /// The refusal of the next token, or of the end.
+    pub fn refusal(&self, end: Pos) -> Refusal
+        ensures code { result.code ≡ syntax_error }
+        ensures pos { result.pos ≡ place_of (ahead self.now) end }
+    {
+        match self.rest {
+            [] => Refusal {
+                code: SYNTAX_ERROR,
+                pos: end,
+            },
+            [first, ..] => Refusal {
+                code: SYNTAX_ERROR,
+                pos: first.pos,
+            },
+        }
+    }
+}

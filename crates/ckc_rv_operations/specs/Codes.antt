@@ -1,0 +1,163 @@
+-- The codes of the operations in a word (RISC-V unprivileged ISA manual, "RV32/64G Instruction Set Listings"): funct3 are
+-- its bits 14 to 12, funct7 its bits 31 to 25.
+use Rattle.std.specs.Prelude.{ℕ, ◌==◌, if◌then◌else◌, Option, None, Some}
+use Rattle.ckc_rv_operations.specs.declared.operations.BranchOp.{BranchOp}
+use Rattle.ckc_rv_operations.specs.declared.operations.BranchOp.TheVariants.{Beq, Bne, Blt, Bge, Bltu, Bgeu}
+use Rattle.ckc_rv_operations.specs.declared.operations.LoadOp.{LoadOp}
+use Rattle.ckc_rv_operations.specs.declared.operations.LoadOp.TheVariants.{Lb, Lh, Lw, Lbu, Lhu}
+use Rattle.ckc_rv_operations.specs.declared.operations.StoreOp.{StoreOp}
+use Rattle.ckc_rv_operations.specs.declared.operations.StoreOp.TheVariants.{Sb, Sh, Sw}
+use Rattle.ckc_rv_operations.specs.declared.operations.ImmOp.{ImmOp}
+use Rattle.ckc_rv_operations.specs.declared.operations.ImmOp.TheVariants.{Addi, Slti, Sltiu, Xori, Ori, Andi, Slli, Srli, Srai}
+use Rattle.ckc_rv_operations.specs.declared.operations.RegOp.{RegOp}
+use Rattle.ckc_rv_operations.specs.declared.operations.RegOp.TheVariants.{Add, Sub, Sll, Slt, Sltu, Xor, Srl, Sra, Or, And, Mul, Mulh, Mulhsu, Mulhu, Div, Divu, Rem, Remu}
+
+-- ---- the codes of the operations
+
+abbrev pub branch_funct3 : BranchOp → ℕ
+branch_funct3 Beq = 0
+branch_funct3 Bne = 1
+branch_funct3 Blt = 4
+branch_funct3 Bge = 5
+branch_funct3 Bltu = 6
+branch_funct3 Bgeu = 7
+
+abbrev pub load_funct3 : LoadOp → ℕ
+load_funct3 Lb = 0
+load_funct3 Lh = 1
+load_funct3 Lw = 2
+load_funct3 Lbu = 4
+load_funct3 Lhu = 5
+
+abbrev pub store_funct3 : StoreOp → ℕ
+store_funct3 Sb = 0
+store_funct3 Sh = 1
+store_funct3 Sw = 2
+
+abbrev pub imm_funct3 : ImmOp → ℕ
+imm_funct3 Addi = 0
+imm_funct3 Slti = 2
+imm_funct3 Sltiu = 3
+imm_funct3 Xori = 4
+imm_funct3 Ori = 6
+imm_funct3 Andi = 7
+imm_funct3 Slli = 1
+imm_funct3 Srli = 5
+imm_funct3 Srai = 5
+
+abbrev pub reg_funct3 : RegOp → ℕ
+reg_funct3 Add = 0
+reg_funct3 Sub = 0
+reg_funct3 Sll = 1
+reg_funct3 Slt = 2
+reg_funct3 Sltu = 3
+reg_funct3 Xor = 4
+reg_funct3 Srl = 5
+reg_funct3 Sra = 5
+reg_funct3 Or = 6
+reg_funct3 And = 7
+reg_funct3 Mul = 0
+reg_funct3 Mulh = 1
+reg_funct3 Mulhsu = 2
+reg_funct3 Mulhu = 3
+reg_funct3 Div = 4
+reg_funct3 Divu = 5
+reg_funct3 Rem = 6
+reg_funct3 Remu = 7
+
+abbrev pub reg_funct7 : RegOp → ℕ
+reg_funct7 Add = 0
+reg_funct7 Sub = 0x20
+reg_funct7 Sll = 0
+reg_funct7 Slt = 0
+reg_funct7 Sltu = 0
+reg_funct7 Xor = 0
+reg_funct7 Srl = 0
+reg_funct7 Sra = 0x20
+reg_funct7 Or = 0
+reg_funct7 And = 0
+reg_funct7 _ = 1
+
+-- ---- the operations by their codes
+
+abbrev pub branch_op : ℕ → Option BranchOp
+branch_op funct3 =
+    if funct3 == 0 then Some Beq
+    else if funct3 == 1 then Some Bne
+    else if funct3 == 4 then Some Blt
+    else if funct3 == 5 then Some Bge
+    else if funct3 == 6 then Some Bltu
+    else if funct3 == 7 then Some Bgeu
+    else None
+
+abbrev pub load_op : ℕ → Option LoadOp
+load_op funct3 =
+    if funct3 == 0 then Some Lb
+    else if funct3 == 1 then Some Lh
+    else if funct3 == 2 then Some Lw
+    else if funct3 == 4 then Some Lbu
+    else if funct3 == 5 then Some Lhu
+    else None
+
+abbrev pub store_op : ℕ → Option StoreOp
+store_op funct3 =
+    if funct3 == 0 then Some Sb
+    else if funct3 == 1 then Some Sh
+    else if funct3 == 2 then Some Sw
+    else None
+
+abbrev pub shift_left_op : ℕ → Option ImmOp
+shift_left_op funct7 = if funct7 == 0 then Some Slli else None
+
+abbrev pub shift_right_op : ℕ → Option ImmOp
+shift_right_op funct7 =
+    if funct7 == 0 then Some Srli
+    else if funct7 == 0x20 then Some Srai
+    else None
+
+-- the operation with an immediate, by funct3 and funct7; only shifts look at funct7
+abbrev pub imm_op : ℕ → ℕ → Option ImmOp
+imm_op funct3 funct7 =
+    if funct3 == 0 then Some Addi
+    else if funct3 == 1 then shift_left_op funct7
+    else if funct3 == 2 then Some Slti
+    else if funct3 == 3 then Some Sltiu
+    else if funct3 == 4 then Some Xori
+    else if funct3 == 5 then shift_right_op funct7
+    else if funct3 == 6 then Some Ori
+    else Some Andi
+
+abbrev pub base_op : ℕ → RegOp
+base_op funct3 =
+    if funct3 == 0 then Add
+    else if funct3 == 1 then Sll
+    else if funct3 == 2 then Slt
+    else if funct3 == 3 then Sltu
+    else if funct3 == 4 then Xor
+    else if funct3 == 5 then Srl
+    else if funct3 == 6 then Or
+    else And
+
+abbrev pub product_op : ℕ → RegOp
+product_op funct3 =
+    if funct3 == 0 then Mul
+    else if funct3 == 1 then Mulh
+    else if funct3 == 2 then Mulhsu
+    else if funct3 == 3 then Mulhu
+    else if funct3 == 4 then Div
+    else if funct3 == 5 then Divu
+    else if funct3 == 6 then Rem
+    else Remu
+
+abbrev pub other_op : ℕ → Option RegOp
+other_op funct3 =
+    if funct3 == 0 then Some Sub
+    else if funct3 == 5 then Some Sra
+    else None
+
+abbrev pub reg_op : ℕ → ℕ → Option RegOp
+reg_op funct3 funct7 =
+    if funct7 == 0 then Some (base_op funct3)
+    else if funct7 == 1 then Some (product_op funct3)
+    else if funct7 == 0x20 then other_op funct3
+    else None

@@ -1,5 +1,0 @@
-use Rattle.ckc_sizes.proofs.KeptTexts.{marks_kept}
-use Rattle.ckc_sizes.proofs.laws.marks_stay.Goals as goal
-
-pub returns : goal.returns
-returns c = marks_kept

@@ -1,5 +1,0 @@
-use Rattle.ckc_sizes.proofs.Programs.{weight_small}
-use Rattle.ckc_sizes.proofs.laws.programs_are_small.Goals as goal
-
-pub returns : goal.returns
-returns c = weight_small

@@ -1,7 +1,0 @@
--- What the values of the code are seen as.
-use Rattle.ckc_points.specs.Flow.{state}
-use Rattle.ckc_statements.specs.declared.walk.Walk.{Walk}
-use Rattle.ckc_statements.specs.Paths.{Here}
-
-abbrev pub here : Walk → Here
-here walk = record { seen = walk.seen; at = state walk.at; next = walk.next; counting = walk.counting }

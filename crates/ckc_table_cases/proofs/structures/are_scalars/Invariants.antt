@@ -1,8 +1,0 @@
-use Rattle.std.proofs.Common.{take}
-use Rattle.std.specs.List.{All}
-use Rattle.ckc_types.specs.Scalars.{IsScalar}
-use Rattle.ckc_table_cases.proofs.structures.are_scalars.Given as goal
-
--- the members so far are scalars
-abbrev pub invariant-loop-m : goal.invariant-loop-m
-invariant-loop-m l = All (λ m. IsScalar m.ctype) (take l.m-index l.members)

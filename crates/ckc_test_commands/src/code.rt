@@ -1,0 +1,107 @@
+//! What a program's code does.
+ghost use Rattle.std.specs.Prelude.{◌≡◌, length};
+ghost use Rattle.ckc_core.specs.Code.{program_of};
+ghost use Rattle.ckc_core.specs.WellFormed.{IsWellFormed};
+ghost use Rattle.ckc_core.specs.Limits.{IsWithinLimits};
+
+use crate::sizes::size_of;
+use ckc_asm_lines::assemble;
+use ckc_assign::assign;
+use ckc_base::check_name;
+use ckc_core::Core;
+use ckc_emit::emit;
+use ckc_image::{Parts, View, write};
+use ckc_lower::lower;
+use ckc_machine::{Machine, Observed};
+use ckc_outside::{MemSink, MemSource};
+use ckc_test_code::{TextFault, program};
+use ckc_test_trials::{Judge, Page};
+use std::alloc::{AllocError, Global};
+
+/// How many instructions a run may take.
+const LIMIT: u64 = 3_000_000;
+
+/// `run | PROGRAM | INPUT | WANTED`
+pub struct Runs;
+
+impl Judge for Runs {
+    fn answer(&self, kind: &str, given: &[Vec<u8>], page: &mut Page) {
+        match (kind, given) {
+            ("run", [text, input]) => put_run(text.as_slice(), input.as_slice(), page),
+            _ => page.refuse("not run | PROGRAM | INPUT | WANTED"),
+        }
+    }
+}
+
+fn put_run(text: &[u8], input: &[u8], page: &mut Page) {
+    match program(page.alloc(), text) {
+        Ok(core) => match compiled(page.alloc(), &core) {
+            Ok(Some(parts)) => put_image(&parts, input, page),
+            Ok(None) => page.refuse("a program that is too large"),
+            Err(_) => page.lacks_memory(),
+        },
+        Err(TextFault::Malformed(why)) => page.refuse(why),
+        Err(TextFault::Memory) => page.lacks_memory(),
+    }
+}
+
+/// The parts that a program is compiled to, if it is not too large.
+fn compiled(alloc: Global, core: &Core) -> Result<Option<Parts>, AllocError>
+    requires whole { IsWellFormed (program_of core.now) }
+    requires limits { IsWithinLimits (program_of core.now) }
+    requires initial { length core.now.initial ≡ 8 }
+{
+    let tac = lower(alloc, core)?;
+    match size_of(&tac) {
+        Some(size) if size <= 4_000_000 => {
+            let placed = assign(alloc, &tac)?;
+            let lines = emit(alloc, &placed)?;
+            Ok(Some(assemble(alloc, &lines)?))
+        }
+        _ => Ok(None),
+    }
+}
+
+/// Writes what a run of the parts shows.
+fn put_image(parts: &Parts, input: &[u8], page: &mut Page) {
+    let Ok(image) = write(page.alloc(), parts) else {
+        return page.lacks_memory();
+    };
+    match View::read(image.as_slice()) {
+        Ok(view) => put_machine(view, input, page),
+        Err(_) => page.refuse("no image"),
+    }
+}
+
+fn put_machine(view: View<'_>, input: &[u8], page: &mut Page) {
+    let Ok(mut machine) = Machine::load(page.alloc(), view) else {
+        return page.lacks_memory();
+    };
+    let mut room = [0u8; 4096];
+    let mut source = MemSource::new(input, &[]);
+    let mut sink = MemSink::new(&mut room, &[]);
+    put_end(machine.run(LIMIT, &mut source, &mut sink), page);
+    if !sink.written().is_empty() {
+        page.put(": ");
+        page.put_bytes(sink.written());
+    }
+}
+
+fn put_end(end: Observed, page: &mut Page) {
+    match end {
+        Observed::Ended(value) => {
+            page.put("ended ");
+            page.put_number(i64::from(value));
+        }
+        Observed::Stopped(check, at) => {
+            page.put(check_name(check));
+            page.put(" ");
+            page.put_number(i64::from(at.line));
+            page.put(":");
+            page.put_number(i64::from(at.col));
+        }
+        Observed::Going => page.put("going"),
+        Observed::Fault(_, _) => page.put_debug(&end),
+        Observed::ReadFault | Observed::WriteFault => page.put("no room"),
+    }
+}

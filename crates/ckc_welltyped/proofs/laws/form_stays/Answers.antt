@@ -1,7 +1,0 @@
-use Rattle.ckc_welltyped.proofs.FormKept.{form_stays}
-use Rattle.ckc_welltyped.proofs.laws.form_stays.Goals as goal
-
-pub returns : goal.returns
-returns c = record {
-  form = form_stays;
-}

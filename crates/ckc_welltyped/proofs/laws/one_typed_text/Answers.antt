@@ -1,7 +1,0 @@
-use Rattle.ckc_welltyped.proofs.Exactly.{one_typed}
-use Rattle.ckc_welltyped.proofs.laws.one_typed_text.Goals as goal
-
-pub returns : goal.returns
-returns c = record {
-  one = one_typed;
-}
