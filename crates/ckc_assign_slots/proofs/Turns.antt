@@ -2,7 +2,7 @@
 use Rattle.std.proofs.Common.{◌≡◌, ℕ, suc, ◌+◌, ◌-◌, ◌≤◌, ◌<◌, List, [], ◌∷◌, ◌++◌, append_assoc, append-nil, sym, ap, subst, ◌∙◌, arith}
 use Rattle.ckc_frame.specs.declared.code.Place.{Place}
 use Rattle.ckc_frame.specs.declared.code.Place.TheVariants.{Slot}
-use Rattle.ckc_assign_slots.specs.Slots.{slots}
+use Rattle.ckc_assign_slots.specs.code.Slots.{slots}
 
 slots_step : (r n : ℕ) → r < n → slots r (n - r) ≡ Slot r ∷ slots (r + 1) (n - (r + 1))
 unfolding slots

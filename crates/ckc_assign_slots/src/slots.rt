@@ -1,6 +1,6 @@
 //! A place for each register.
 ghost use Rattle.std.specs.Prelude.{◌≡◌, ◌≤◌, IfOk};
-ghost use Rattle.ckc_assign_slots.specs.Slots.{slots};
+ghost use Rattle.ckc_assign_slots.specs.code.Slots.{slots};
 
 use ckc_frame::Place;
 use std::alloc::{AllocError, Global};

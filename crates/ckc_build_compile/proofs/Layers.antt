@@ -7,7 +7,7 @@ use Rattle.ckc_source.specs.Code as source
 use Rattle.ckc_source.specs.LaidOut.{AreBytes, IsLaidOut}
 use Rattle.ckc_source.specs.Source.{source}
 use Rattle.ckc_checks_operands.specs.Compilable.{IsCompilable}
-use Rattle.ckc_checks.specs.Inserted.{inserted}
+use Rattle.ckc_checks.specs.code.Inserted.{inserted}
 use Rattle.ckc_checks_follow.proofs.Follows.{core_follows}
 use Rattle.ckc_core.specs.Code as core
 use Rattle.ckc_core.specs.Meaning.{core_detail, core_meaning}

@@ -8,7 +8,7 @@ use Rattle.ckc_source.specs.Code as source
 use Rattle.ckc_checks_operands.specs.Compilable.{IsBounded, HasRange, IsJudged}
 use Rattle.ckc_checks_operands.specs.Operands.{casts_one, keeps_index}
 use Rattle.ckc_checks_operands.specs.Pointers.{is_ranged, takes_range, index_far}
-use Rattle.ckc_checks.specs.Inserted.{range_room, room_if, access_room, value_room}
+use Rattle.ckc_checks.specs.code.Inserted.{range_room, room_if, access_room, value_room}
 
 pub far_one : (r : Bool) → 1 ≤ index_far r
 far_one true = omega arith

@@ -13,7 +13,7 @@ ghost use Rattle.ckc_checks_operands.specs.Weights.{program_weight};
 ghost use Rattle.ckc_source.specs.LaidOut.{IsLaidOut};
 ghost use Rattle.ckc_source.specs.Blocks.{block_of, end_of, place_behind, first_place};
 ghost use Rattle.ckc_source.specs.Code.{function_of as source_function, program_of as source_program};
-ghost use Rattle.ckc_checks.specs.Inserted.{zeroed, function_code, image, word_bytes, first_bytes, inserted};
+ghost use Rattle.ckc_checks.specs.code.Inserted.{zeroed, function_code, image, word_bytes, first_bytes, inserted};
 ghost use Rattle.ckc_checks.specs.code.Building.{behind};
 
 use crate::code::{front, in_order, nothing};

@@ -29,7 +29,7 @@ use Rattle.ckc_core.specs.Meaning.{Stop, Next, Body, value_of, nodes, all_nodes,
 use Rattle.ckc_core.specs.Meaning as C
 use Rattle.ckc_checks_operands.specs.Compilable.{IsCompilableExpr, IsCompilablePart, IsCompilableTarget, IsCompilableKept, IsCompilableFunction, HasParams, expr_nodes, exprs_nodes, code_nodes}
 use Rattle.ckc_checks_operands.specs.Operands.{low_byte, operand}
-use Rattle.ckc_checks.specs.Inserted.{operand_used, operand_code, aim_code, target_count, expr_code, operands_code, operands, is_narrow, written, result_in, result_kept, statements, function_code}
+use Rattle.ckc_checks.specs.code.Inserted.{operand_used, operand_code, aim_code, target_count, expr_code, operands_code, operands, is_narrow, written, result_in, result_kept, statements, function_code}
 use Rattle.ckc_checks_follow.proofs.Running.{machine, at, by_pass, by_fail, by_if, step_by}
 use Rattle.ckc_checks_follow.proofs.Values.{Sees, low_value}
 use Rattle.ckc_checks_follow.proofs.Aiming.{IsAt, Aimed, aim_steps, aim_comes, at_later}

@@ -16,7 +16,7 @@ use Rattle.ckc_source.specs.Steps.{terminator_at, aims_at, aimed}
 use Rattle.ckc_core.specs.Code.{Code, Function}
 use Rattle.ckc_core.specs.Meaning.{Rest, Caller, value_of}
 use Rattle.ckc_checks_operands.specs.Compilable.{IsCompilableTarget}
-use Rattle.ckc_checks.specs.Inserted.{marked, reached_place, aim_code, target_count}
+use Rattle.ckc_checks.specs.code.Inserted.{marked, reached_place, aim_code, target_count}
 use Rattle.ckc_checks_follow.proofs.Running.{machine, at}
 use Rattle.ckc_checks_follow.proofs.Values.{Agree, Sees}
 use Rattle.ckc_checks_follow.proofs.Coming.{Below, Comes}

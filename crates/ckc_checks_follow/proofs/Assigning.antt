@@ -18,7 +18,7 @@ use Rattle.ckc_core.specs.Meaning.{value_of, nodes, core_step, goes_by}
 use Rattle.ckc_core.specs.Meaning as C
 use Rattle.ckc_checks_operands.specs.Compilable.{target_nodes, expr_nodes, IsCompilableExpr, IsCompilableTarget, IsCompilableFunction}
 use Rattle.ckc_checks_operands.specs.Operands.{low_byte, operand}
-use Rattle.ckc_checks.specs.Inserted.{operand_used, operand_code, aim_code, target_count, is_narrow, written, assigned, statements}
+use Rattle.ckc_checks.specs.code.Inserted.{operand_used, operand_code, aim_code, target_count, is_narrow, written, assigned, statements}
 use Rattle.ckc_checks_follow.proofs.Running.{machine, at}
 use Rattle.ckc_checks_follow.proofs.Counts.{operand_nodes, found_few}
 use Rattle.ckc_checks_follow.proofs.Guarding.{guard_few}

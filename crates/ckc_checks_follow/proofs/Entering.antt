@@ -36,7 +36,7 @@ use Rattle.ckc_core.specs.Meaning.{Stop, core_step, nodes, extra_steps}
 use Rattle.ckc_core.specs.Meaning as C
 use Rattle.ckc_checks_operands.specs.Compilable.{HasParams, IsCompilableFunction, IsCompilableKept}
 use Rattle.ckc_checks_operands.specs.Operands.{low_byte}
-use Rattle.ckc_checks.specs.Inserted.{statements, result_in, result_kept, zeroed, function_code}
+use Rattle.ckc_checks.specs.code.Inserted.{statements, result_in, result_kept, zeroed, function_code}
 use Rattle.ckc_checks_follow.proofs.Running.{machine, at, by_set, step_by, halt_by}
 use Rattle.ckc_checks_follow.proofs.Values.{Agree, low_value}
 use Rattle.ckc_checks_follow.proofs.Bounded.{Gives, reads_number, AreSmall}

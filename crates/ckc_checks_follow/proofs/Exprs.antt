@@ -20,7 +20,7 @@ use Rattle.ckc_core.specs.Code.{Code, Function}
 use Rattle.ckc_core.specs.Meaning.{Rest, State, Caller, value_of, values_of, nodes, all_nodes}
 use Rattle.ckc_checks_operands.specs.Compilable.{IsAccess, IsCompilableExpr, IsCompilablePart, IsCast, index_nodes, value_nodes, expr_nodes, exprs_nodes}
 use Rattle.ckc_checks_operands.specs.Operands.{held, keeps_index, is_one, is_single, casts_one, operand}
-use Rattle.ckc_checks.specs.Inserted.{put_if, tested_code, no_range, value_code, access_code, expr_code, operand_code, operands_code, operands}
+use Rattle.ckc_checks.specs.code.Inserted.{put_if, tested_code, no_range, value_code, access_code, expr_code, operand_code, operands_code, operands}
 use Rattle.ckc_checks_follow.proofs.Running.{machine, at}
 use Rattle.ckc_checks_follow.proofs.Bounded.{AreSmall, small_cons}
 use Rattle.ckc_checks_follow.proofs.Single.{behind_one, tested_gives}

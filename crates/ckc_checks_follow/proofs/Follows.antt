@@ -23,7 +23,7 @@ use Rattle.ckc_core.specs.Code.{Code, End, Function}
 use Rattle.ckc_core.specs.Meaning.{Stop, Body, core_step, core_system, core_meaning, core_detail, body_of}
 use Rattle.ckc_core.specs.Meaning as C
 use Rattle.ckc_checks_operands.specs.Compilable.{IsCompilableFunction, IsCompilable, HasParams}
-use Rattle.ckc_checks.specs.Inserted.{statements, function_code, inserted}
+use Rattle.ckc_checks.specs.code.Inserted.{statements, function_code, inserted}
 use Rattle.ckc_checks_follow.proofs.Running.{machine, at}
 use Rattle.ckc_checks_follow.proofs.Values.{Agree}
 use Rattle.ckc_checks_follow.proofs.Bounded.{AreSmall}

@@ -27,7 +27,7 @@ use Rattle.ckc_core.specs.Meaning.{Rest, Caller, value_of, nodes}
 use Rattle.ckc_checks_operands.specs.Compilable.{guard_nodes}
 use Rattle.ckc_checks_operands.specs.Operands.{kept_in, at_offset, element_of, held, keeps_index}
 use Rattle.ckc_checks_operands.specs.Pointers.{is_bounded, is_ranged, takes_range, index_far, below_end}
-use Rattle.ckc_checks.specs.Inserted.{marked, guarded}
+use Rattle.ckc_checks.specs.code.Inserted.{marked, guarded}
 use Rattle.ckc_checks_follow.proofs.Running.{machine, Runs, at, by_set, by_pass, by_fail}
 use Rattle.ckc_checks_follow.proofs.Values.{Sees, low_value, at_offset_value}
 use Rattle.ckc_checks_follow.proofs.Counts.{written_same, written_below, range_end_nodes}

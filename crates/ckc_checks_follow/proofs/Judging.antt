@@ -30,7 +30,7 @@ use Rattle.ckc_core.specs.Meaning.{Rest, State, Caller, value_of, both, nodes}
 use Rattle.ckc_checks_operands.specs.Compilable.{IsZero, IsJudged, IsAccess, IsCompilableExpr, IsRanged, IsBounded, HasRange, element_nodes, value_nodes, expr_nodes}
 use Rattle.ckc_checks_operands.specs.Operands.{operated, is_zero, shifted, element_of, held, keeps_index, operand}
 use Rattle.ckc_checks_operands.specs.Pointers.{below_end, is_bounded, is_ranged, takes_range, index_far, held_test, reads_signed, exact_test, range_test}
-use Rattle.ckc_checks.specs.Inserted.{put_if, reached_element, value_code, access_code, element_code, judged, reached_place, operation_code, expr_code}
+use Rattle.ckc_checks.specs.code.Inserted.{put_if, reached_element, value_code, access_code, element_code, judged, reached_place, operation_code, expr_code}
 use Rattle.ckc_checks_follow.proofs.Running.{machine, first_runs, at, by_set, by_pass, by_fail}
 use Rattle.ckc_checks_follow.proofs.Bounded.{GivesWord}
 use Rattle.ckc_checks_follow.proofs.Values.{IsValue, Agree, Sees, word_seen, at_offset_value, zero_value, shifted_value}

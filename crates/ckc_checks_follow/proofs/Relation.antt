@@ -13,7 +13,7 @@ use Rattle.ckc_core.specs.Meaning.{Stop, Next, Body, Step}
 use Rattle.ckc_core.specs.Meaning as C
 use Rattle.ckc_checks_operands.specs.Compilable.{IsCompilableCode, IsCompilableKept, code_nodes}
 use Rattle.ckc_checks_operands.specs.Operands.{operand}
-use Rattle.ckc_checks.specs.Inserted.{operand_code, statements, result_in, result_kept}
+use Rattle.ckc_checks.specs.code.Inserted.{operand_code, statements, result_in, result_kept}
 use Rattle.ckc_checks_follow.proofs.Running.{machine}
 use Rattle.ckc_checks_follow.proofs.Flat.{SameMemory}
 use Rattle.ckc_checks_follow.proofs.Values.{Agree}

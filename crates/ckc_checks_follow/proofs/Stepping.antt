@@ -18,7 +18,7 @@ use Rattle.ckc_core.specs.Meaning.{Stop, Next, Body, Step, value_of, nodes, core
 use Rattle.ckc_core.specs.Meaning as C
 use Rattle.ckc_checks_operands.specs.Compilable.{IsCompilableAssign, IsCompilableFunction, expr_nodes}
 use Rattle.ckc_checks_operands.specs.Operands.{operand}
-use Rattle.ckc_checks.specs.Inserted.{statements}
+use Rattle.ckc_checks.specs.code.Inserted.{statements}
 use Rattle.ckc_checks_follow.proofs.Running.{machine, at, by_if, by_end, by_loop, step_by}
 use Rattle.ckc_checks_follow.proofs.Counts.{operand_nodes}
 use Rattle.ckc_checks_follow.proofs.Relation.{turn_code, Stands}

@@ -32,7 +32,7 @@ use Rattle.ckc_core.specs.Meaning.{value_of, nodes, core_step, goes_by}
 use Rattle.ckc_core.specs.Meaning as C
 use Rattle.ckc_checks_operands.specs.Compilable.{IsCompilableTarget}
 use Rattle.ckc_checks_operands.specs.Operands.{kept_in}
-use Rattle.ckc_checks.specs.Inserted.{reached_place, target_count, guarded, stored_code, written, statements}
+use Rattle.ckc_checks.specs.code.Inserted.{reached_place, target_count, guarded, stored_code, written, statements}
 use Rattle.ckc_checks_follow.proofs.Running.{machine, Runs, at, by_set, step_by}
 use Rattle.ckc_checks_follow.proofs.Flat.{stored_same}
 use Rattle.ckc_checks_follow.proofs.Values.{Agree}

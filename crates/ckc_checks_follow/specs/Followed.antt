@@ -4,7 +4,7 @@ use Rattle.ckc_source.specs.Code.{Program}
 use Rattle.ckc_source.specs.LaidOut.{AreBytes}
 use Rattle.ckc_source.specs.Source.{source}
 use Rattle.ckc_core.specs.Meaning.{core_meaning}
-use Rattle.ckc_checks.specs.Inserted.{inserted}
+use Rattle.ckc_checks.specs.code.Inserted.{inserted}
 
 -- The core code of a program follows it, with any input of bytes.
 abbrev pub IsFollowedByCore : Program → Type 0

@@ -1,1 +1,1 @@
-pub mod Guards
+pub mod code

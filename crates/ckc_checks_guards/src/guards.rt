@@ -4,7 +4,7 @@ ghost use Rattle.std.specs.Prelude.{◌≡◌, IfOk};
 ghost use Rattle.ckc_base.specs.declared.arithmetic.BinOp.TheVariants.{Add, Eq};
 ghost use Rattle.ckc_base.specs.declared.runtime_checks.Check.TheVariants.{Null};
 ghost use Rattle.ckc_core.specs.Code.{Code, Expr, expr_of, stmt_of};
-ghost use Rattle.ckc_checks_guards.specs.Guards.{below_or_at, may_write, upper_test};
+ghost use Rattle.ckc_checks_guards.specs.code.Guards.{below_or_at, may_write, upper_test};
 
 use crate::parts::{binary, kept_in};
 use ckc_base::{BinOp, Check, Pos, Width, sum};

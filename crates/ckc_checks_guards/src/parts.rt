@@ -2,7 +2,7 @@
 
 ghost use Rattle.std.specs.Prelude.{◌≡◌, IfOk};
 ghost use Rattle.ckc_core.specs.Code.{Expr, expr_of};
-ghost use Rattle.ckc_checks_guards.specs.Guards.{kept_in, low_byte};
+ghost use Rattle.ckc_checks_guards.specs.code.Guards.{kept_in, low_byte};
 
 use ckc_base::{BinOp, Boxed, Width};
 use ckc_core::CoreExpr;

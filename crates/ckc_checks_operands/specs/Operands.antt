@@ -21,7 +21,7 @@ use Rattle.ckc_source.specs.Code as source
 use Rattle.ckc_source.specs.Eval.{place_in}
 use Rattle.ckc_source.specs.Words.{operator, divides}
 use Rattle.ckc_core.specs.Code.{Expr, Const, Local, Load, Bin}
-pub use Rattle.ckc_checks_guards.specs.Guards.{low_byte, kept_in}
+pub use Rattle.ckc_checks_guards.specs.code.Guards.{low_byte, kept_in}
 
 -- the number that an expression is
 abbrev pub number_of : source.Expr → Option ℕ

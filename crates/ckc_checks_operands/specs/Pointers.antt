@@ -20,7 +20,7 @@ use Rattle.ckc_source.specs.Eval.{place_in}
 use Rattle.ckc_source.specs.Words.{width_of}
 use Rattle.ckc_core.specs.Code.{Expr, Const, Local, Load, Bin, High}
 use Rattle.ckc_checks_operands.specs.Operands.{is_named, scaled, shifted, at_offset}
-pub use Rattle.ckc_checks_guards.specs.Guards.{below_or_at, upper_test, may_write}
+pub use Rattle.ckc_checks_guards.specs.code.Guards.{below_or_at, upper_test, may_write}
 
 -- a static object at its place
 abbrev pub is_static : Access → source.Expr → Bool

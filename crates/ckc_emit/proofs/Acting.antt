@@ -14,7 +14,7 @@ use Rattle.ckc_asm_lines.specs.declared.lines.Line.{Line}
 use Rattle.ckc_asm_lines.specs.declared.lines.Line.TheVariants.{Plain}
 use Rattle.ckc_frame.specs.declared.code.Place.{Place}
 use Rattle.ckc_frame.specs.WellFormed.{IsPlace}
-use Rattle.ckc_emit.specs.Lines.{source_of, write_lines, operation_of, apply_lines, ending_lines, const_lines}
+use Rattle.ckc_emit.specs.code.Lines.{source_of, write_lines, operation_of, apply_lines, ending_lines, const_lines}
 use Rattle.ckc_emit.proofs.Local.{Local}
 use Rattle.ckc_emit.proofs.Steps.{reg_step, imm_step}
 use Rattle.ckc_emit.proofs.Paths.{Code, Sets, set_by, set_again, sets_loosened}

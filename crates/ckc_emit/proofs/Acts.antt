@@ -22,7 +22,7 @@ use Rattle.ckc_frame.specs.declared.code.Place.{Place}
 use Rattle.ckc_frame.specs.declared.code.Place.TheVariants as place
 use Rattle.ckc_frame.specs.Places.{number_of}
 use Rattle.ckc_frame.specs.WellFormed.{IsPlace}
-use Rattle.ckc_emit.specs.Lines.{source_of, register_with, write_lines, bin_lines, high_lines, const_lines, load_op, store_op, data_load_lines, data_store_lines, copy_lines, register_of}
+use Rattle.ckc_emit.specs.code.Lines.{source_of, register_with, write_lines, bin_lines, high_lines, const_lines, load_op, store_op, data_load_lines, data_store_lines, copy_lines, register_of}
 use Rattle.ckc_emit.specs.Stores.{data_store}
 use Rattle.ckc_emit.proofs.Local.{Local, memory_of, state_of}
 use Rattle.ckc_emit.proofs.Words.{bytes_put, data_stored}

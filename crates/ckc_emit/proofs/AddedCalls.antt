@@ -10,8 +10,8 @@ use Rattle.ckc_frame.specs.declared.code.Place.{Place}
 use Rattle.ckc_frame.specs.declared.code.Place.TheVariants as place
 use Rattle.ckc_frame.specs.Places.{is_kept_home}
 use Rattle.ckc_frame.specs.WellFormed.{IsPlace}
-use Rattle.ckc_emit.specs.Lines.{register_of, offset_of}
-use Rattle.ckc_emit.specs.CallLines.{place_at, each_lines, is_saved, save_lines, saves_lines, restore_lines, restores_lines, depth_lines, argument_lines, arguments_lines, visit_lines, call_lines, result_lines}
+use Rattle.ckc_emit.specs.code.Lines.{register_of, offset_of}
+use Rattle.ckc_emit.specs.code.CallLines.{place_at, each_lines, is_saved, save_lines, saves_lines, restore_lines, restores_lines, depth_lines, argument_lines, arguments_lines, visit_lines, call_lines, result_lines}
 use Rattle.ckc_emit.proofs.PlaceAt.{place_is}
 use Rattle.ckc_emit.proofs.Pieces.{Adds, nothing, then_adds, more_adds, far_adds, either_adds}
 use Rattle.ckc_emit.proofs.Added.{register_low, lui_adds, reg_adds, move_adds, loads_add, stores_add, near_load_adds, near_store_adds, check_adds, settle_adds}

@@ -28,10 +28,9 @@ use Rattle.ckc_frame.specs.WellFormed.{IsPlace, IsPlacedWhole, IsWellFormed}
 use Rattle.ckc_emit.specs.CodeSize.{code_size}
 use Rattle.ckc_emit.specs.declared.places.PlacedOperand.{PlacedOperand}
 use Rattle.ckc_emit.specs.code.Operands.{IsOperand}
-use Rattle.ckc_emit.specs.Lines.{register_with}
-use Rattle.ckc_emit.specs.CallLines.{place_at}
-use Rattle.ckc_emit.specs.ProgramLines.{label_of, homes_of, operand_at, op_lines, ops_lines, over_lines, holding, failing, jump_lines, choice_lines, branch_lines, falls_through, return_lines, end_lines, block_lines, blocks_lines, function_lines, functions_lines, start_lines, program_lines}
-use Rattle.ckc_emit.specs.code.ProgramLines.{codes_of}
+use Rattle.ckc_emit.specs.code.Lines.{register_with}
+use Rattle.ckc_emit.specs.code.CallLines.{place_at}
+use Rattle.ckc_emit.specs.code.ProgramLines.{label_of, homes_of, operand_at, op_lines, ops_lines, over_lines, holding, failing, jump_lines, choice_lines, branch_lines, falls_through, return_lines, end_lines, block_lines, blocks_lines, function_lines, functions_lines, start_lines, program_lines, codes_of}
 use Rattle.ckc_emit.proofs.PlaceAt.{place_is}
 use Rattle.ckc_emit.proofs.Pieces.{Adds, nothing, then_adds, more_adds, plain_adds, far_adds, label_adds, either_adds, numbered_adds}
 use Rattle.ckc_emit.proofs.Added.{near_fits, with_low, reading, operand_adds, take_adds, lui_adds, branch_adds, near_load_adds, near_store_adds, two_ask_adds, const_adds, copy_adds, bin_adds, high_adds, data_load_adds, data_store_adds, test_adds, get_adds, put_adds, alloc_adds}

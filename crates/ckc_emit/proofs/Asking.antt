@@ -15,7 +15,7 @@ use Rattle.ckc_frame.specs.declared.code.Place.{Place}
 use Rattle.ckc_frame.specs.declared.code.Place.TheVariants as place
 use Rattle.ckc_frame.specs.Places.{number_of}
 use Rattle.ckc_frame.specs.WellFormed.{IsPlace}
-use Rattle.ckc_emit.specs.Lines.{register_of, settle_lines, ask_lines, get_lines, put_lines}
+use Rattle.ckc_emit.specs.code.Lines.{register_of, settle_lines, ask_lines, get_lines, put_lines}
 use Rattle.ckc_emit.specs.Stores.{seen_events}
 use Rattle.ckc_emit.proofs.Local.{Local, state_of}
 use Rattle.ckc_emit.proofs.Steps.{set, set_same, set_other, with_x, puts_step, ends_input, gets_step}

@@ -14,7 +14,7 @@ use Rattle.ckc_asm_lines.proofs.LabelPlaces.{address_is}
 use Rattle.ckc_frame.specs.declared.code.Placed.{Placed}
 use Rattle.ckc_frame.specs.WellFormed.{IsWellFormed}
 use Rattle.ckc_emit.specs.CodeSize.{code_size}
-use Rattle.ckc_emit.specs.ProgramLines.{label_of, program_lines}
+use Rattle.ckc_emit.specs.code.ProgramLines.{label_of, program_lines}
 use Rattle.ckc_emit.specs.Spared.{Spares}
 use Rattle.ckc_emit.proofs.Pieces.{Adds, IsSound}
 use Rattle.ckc_emit.proofs.AddedCode.{program_adds}

@@ -19,7 +19,7 @@ use Rattle.ckc_emit.specs.declared.places.PlacedOperand.TheVariants.{At, Number}
 use Rattle.ckc_emit.specs.declared.operations.Form.{Form}
 use Rattle.ckc_emit.specs.declared.operations.Form.TheVariants.{Zero, Immediate, Registers}
 use Rattle.ckc_emit.specs.code.Operands.{IsOperand}
-use Rattle.ckc_emit.specs.Lines.{upper_of, lower_of, source_of, register_with, operand_lines, write_lines, apply_lines, negated, number_form, ending_lines, form_lines, bin_lines, high_op, high_lines}
+use Rattle.ckc_emit.specs.code.Lines.{upper_of, lower_of, source_of, register_with, operand_lines, write_lines, apply_lines, negated, number_form, ending_lines, form_lines, bin_lines, high_op, high_lines}
 use Rattle.ckc_emit.proofs.Local.{Local}
 use Rattle.ckc_emit.proofs.Paths.{Code, Path, followed, loosened, Sets, sets_loosened}
 use Rattle.ckc_emit.proofs.Homes.{HasValue, IsFramed, Keeps, keeps_then, framed_kept, AreFrameStores, Writes, write_after, source_low, writes_loosened}

@@ -15,9 +15,8 @@ use Rattle.ckc_frame.specs.declared.code.PlacedFunc.{PlacedFunc}
 use Rattle.ckc_frame.specs.Meaning.{calls_in, calls_in_front}
 use Rattle.ckc_frame.specs.WellFormed.{IsPlacedWhole, IsWellFormed}
 use Rattle.ckc_emit.specs.CodeSize.{code_size}
-use Rattle.ckc_emit.specs.Lines.{store_lines}
-use Rattle.ckc_emit.specs.ProgramLines.{label_of, ops_lines, end_lines, block_lines, blocks_lines, function_lines, functions_lines, program_lines}
-use Rattle.ckc_emit.specs.code.ProgramLines.{codes_of}
+use Rattle.ckc_emit.specs.code.Lines.{store_lines}
+use Rattle.ckc_emit.specs.code.ProgramLines.{label_of, ops_lines, end_lines, block_lines, blocks_lines, function_lines, functions_lines, program_lines, codes_of}
 use Rattle.ckc_emit.proofs.Paths.{Code, LinesAt}
 use Rattle.ckc_emit.proofs.Placing.{code_of, all_stand}
 use Rattle.ckc_emit.proofs.Standing.{BeginsWith, BlockStands, EntryStands, Stands}

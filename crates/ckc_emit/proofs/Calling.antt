@@ -20,8 +20,8 @@ use Rattle.ckc_frame.specs.declared.code.Place.{Place}
 use Rattle.ckc_frame.specs.declared.code.Place.TheVariants as place
 use Rattle.ckc_frame.specs.Places.{number_of, home, registers_in, entry_places}
 use Rattle.ckc_frame.specs.WellFormed.{IsPlace}
-use Rattle.ckc_emit.specs.Lines.{register_of, offset_of, check_lines}
-use Rattle.ckc_emit.specs.CallLines.{place_at, is_argument_home, saves_lines, depth_lines, arguments_lines}
+use Rattle.ckc_emit.specs.code.Lines.{register_of, offset_of, check_lines}
+use Rattle.ckc_emit.specs.code.CallLines.{place_at, is_argument_home, saves_lines, depth_lines, arguments_lines}
 use Rattle.ckc_emit.proofs.Local.{Local}
 use Rattle.ckc_emit.proofs.Paths.{Code, Path, Halting, followed, loosened, then_halting}
 use Rattle.ckc_emit.proofs.FrameWords.{move_sets, lui_sets}

@@ -6,8 +6,8 @@ use Rattle.ckc_base.specs.declared.places.Pos.{Pos}
 use Rattle.ckc_asm_lines.specs.declared.lines.Line.{Line}
 use Rattle.ckc_frame.specs.declared.code.Place.{Place}
 use Rattle.ckc_frame.specs.Places.{is_kept_home}
-use Rattle.ckc_emit.specs.Emitting.{Emits}
-use Rattle.ckc_emit.specs.CallLines.{is_argument_home, is_saved, save_lines, saves_lines, restore_lines, restores_lines, depth_lines, arguments_lines, visit_lines, call_lines, result_lines}
+use Rattle.ckc_emit.specs.code.Emitting.{Emits}
+use Rattle.ckc_emit.specs.code.CallLines.{is_argument_home, is_saved, save_lines, saves_lines, restore_lines, restores_lines, depth_lines, arguments_lines, visit_lines, call_lines, result_lines}
 use Rattle.ckc_emit.proofs.Looping.{each_same}
 
 pub on_ok : {A E : Type 0} (r : Result A E) {P Q : Type 0} → (P → Q) → OnOk r P → OnOk r Q

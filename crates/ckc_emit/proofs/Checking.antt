@@ -16,7 +16,7 @@ use Rattle.ckc_base.proofs.Travelling.{one_travel}
 use Rattle.ckc_rv.specs.Detailed.{detailed_system}
 use Rattle.ckc_asm_lines.specs.declared.lines.Line.{Line}
 use Rattle.ckc_asm_lines.specs.declared.lines.Line.TheVariants as line
-use Rattle.ckc_emit.specs.Lines.{upper_of, is_round, constant_lines, constant_count, ask_lines, stop_lines, over_stop_of, check_lines, add_lower_of}
+use Rattle.ckc_emit.specs.code.Lines.{upper_of, is_round, constant_lines, constant_count, ask_lines, stop_lines, over_stop_of, check_lines, add_lower_of}
 use Rattle.ckc_emit.proofs.Local.{Local, state_of}
 use Rattle.ckc_emit.proofs.Steps.{branch_taken, branch_passed, stops_step}
 use Rattle.ckc_emit.proofs.Paths.{Code, LinesAt, Path, Halting, straight, halt_at, then_halting}

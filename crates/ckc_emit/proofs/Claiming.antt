@@ -29,7 +29,7 @@ use Rattle.ckc_frame.specs.WellFormed.{IsPlace}
 use Rattle.ckc_emit.specs.declared.places.PlacedOperand.{PlacedOperand}
 use Rattle.ckc_emit.specs.code.Operands.{IsOperand}
 use Rattle.ckc_emit.proofs.Operands.{operand_value, operand_has, operand_word, take_sets}
-use Rattle.ckc_emit.specs.Lines.{take_lines, settle_lines, constant_lines, claim_lines, alloc_lines}
+use Rattle.ckc_emit.specs.code.Lines.{take_lines, settle_lines, constant_lines, claim_lines, alloc_lines}
 use Rattle.ckc_emit.proofs.Local.{Local, state_of}
 use Rattle.ckc_emit.proofs.Words.{bytes_put}
 use Rattle.ckc_emit.proofs.Steps.{imm_step, branch_taken, branch_passed}

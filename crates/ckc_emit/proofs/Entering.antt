@@ -30,10 +30,9 @@ use Rattle.ckc_frame.specs.declared.code.PlacedFunc.{PlacedFunc}
 use Rattle.ckc_frame.specs.Places.{number_of, entry_places, is_kept_home, places_kept, marks_of}
 use Rattle.ckc_frame.specs.WellFormed.{IsPlace}
 use Rattle.ckc_frame.specs.Meaning.{Caller, State, active, begins, waits, enters_block, enters, calls, registers_of}
-use Rattle.ckc_emit.specs.Lines.{register_of, offset_of, store_lines}
-use Rattle.ckc_emit.specs.CallLines.{is_argument_home, is_saved, saves_lines, restores_lines, result_lines, call_lines, depth_lines, arguments_lines, visit_lines}
-use Rattle.ckc_emit.specs.code.CallLines.{back_lines}
-use Rattle.ckc_emit.specs.ProgramLines.{label_of, homes_of, ops_lines, end_lines}
+use Rattle.ckc_emit.specs.code.Lines.{register_of, offset_of, store_lines}
+use Rattle.ckc_emit.specs.code.CallLines.{is_argument_home, is_saved, saves_lines, restores_lines, result_lines, call_lines, depth_lines, arguments_lines, visit_lines, back_lines}
+use Rattle.ckc_emit.specs.code.ProgramLines.{label_of, homes_of, ops_lines, end_lines}
 use Rattle.ckc_emit.specs.Stores.{seen_events}
 use Rattle.ckc_emit.proofs.Local.{Local, state_of, changed, changed_same, changed_other}
 use Rattle.ckc_emit.proofs.Paths.{Code, LinesAt, Leads}

@@ -15,7 +15,7 @@ use Rattle.ckc_rv.specs.Machine.{loaded, stack_start, memory_end}
 use Rattle.ckc_rv.specs.Detailed.{Wrote}
 use Rattle.ckc_asm_lines.specs.declared.lines.Line.{Line}
 use Rattle.ckc_asm_lines.specs.declared.lines.Line.TheVariants.{Plain}
-use Rattle.ckc_emit.specs.Lines.{upper_of, lower_of, is_round, both_lines, large_lines, constant_lines, move_lines, offset_lines, far_load_lines, load_lines, far_store_lines, store_lines}
+use Rattle.ckc_emit.specs.code.Lines.{upper_of, lower_of, is_round, both_lines, large_lines, constant_lines, move_lines, offset_lines, far_load_lines, load_lines, far_store_lines, store_lines}
 use Rattle.ckc_emit.proofs.Local.{Local, changed, memory_of}
 use Rattle.ckc_emit.proofs.Words.{part_loaded, stack_loaded, stack_stored}
 use Rattle.ckc_emit.proofs.Steps.{lui_step, reg_step, imm_step, load_step, store_step}

@@ -12,9 +12,9 @@ use Rattle.ckc_frame.specs.declared.code.PlacedFunc.{PlacedFunc}
 use Rattle.ckc_frame.specs.Meaning.{Frame, Caller, State}
 use Rattle.ckc_frame.specs.Places.{number_of, is_kept_home, marks_of}
 use Rattle.ckc_frame.specs.WellFormed.{IsPlace, IsPlacedWhole}
-use Rattle.ckc_emit.specs.Lines.{offset_of, ask_lines}
+use Rattle.ckc_emit.specs.code.Lines.{offset_of, ask_lines}
 use Rattle.ckc_emit.specs.code.CallLines.{back_lines}
-use Rattle.ckc_emit.specs.ProgramLines.{label_of, ops_lines, end_lines}
+use Rattle.ckc_emit.specs.code.ProgramLines.{label_of, ops_lines, end_lines}
 use Rattle.ckc_emit.proofs.Local.{Local, state_of}
 use Rattle.ckc_emit.proofs.Paths.{Code, LinesAt}
 use Rattle.ckc_emit.proofs.Homes.{HasPlaces, IsFramed}

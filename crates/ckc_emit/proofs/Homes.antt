@@ -10,7 +10,7 @@ use Rattle.ckc_frame.specs.declared.code.Place.{Place}
 use Rattle.ckc_frame.specs.declared.code.Place.TheVariants.{Reg, Slot}
 use Rattle.ckc_frame.specs.Places.{number_of}
 use Rattle.ckc_frame.specs.WellFormed.{IsPlace}
-use Rattle.ckc_emit.specs.Lines.{register_of, source_of, load_lines, move_lines, read_lines, write_lines, settle_lines, fetch_lines}
+use Rattle.ckc_emit.specs.code.Lines.{register_of, source_of, load_lines, move_lines, read_lines, write_lines, settle_lines, fetch_lines}
 use Rattle.ckc_emit.proofs.Local.{Local, changed, changed_same, changed_other}
 use Rattle.ckc_emit.proofs.Paths.{Code, Path, stay, followed, loosened, Sets, sets_loosened}
 use Rattle.ckc_emit.proofs.FrameWords.{IsStackWord, load_sets, move_sets, Puts, store_puts}

@@ -30,8 +30,8 @@ use Rattle.ckc_frame.specs.Meaning.{State, begins, goes_to, branches, registers_
 use Rattle.ckc_base.specs.Words.{signed, flag, applied}
 use Rattle.ckc_emit.specs.declared.places.PlacedOperand.{PlacedOperand}
 use Rattle.ckc_emit.specs.code.Operands.{IsOperand}
-use Rattle.ckc_emit.specs.Lines.{register_of, register_with}
-use Rattle.ckc_emit.specs.ProgramLines.{label_of, ops_lines, end_lines, operand_at, holding, failing, jump_lines, choice_lines, branch_lines, is_passing, is_passing_block, falls_through}
+use Rattle.ckc_emit.specs.code.Lines.{register_of, register_with}
+use Rattle.ckc_emit.specs.code.ProgramLines.{label_of, ops_lines, end_lines, operand_at, holding, failing, jump_lines, choice_lines, branch_lines, is_passing, is_passing_block, falls_through}
 use Rattle.ckc_emit.proofs.Local.{Local, state_of}
 use Rattle.ckc_emit.proofs.Steps.{branch_taken, branch_passed}
 use Rattle.ckc_emit.proofs.Paths.{Code, LinesAt, FarAt}

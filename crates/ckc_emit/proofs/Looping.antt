@@ -4,7 +4,7 @@ use Rattle.std.proofs.lemmas.Bool.{cases_lt}
 use Rattle.ckc_asm_lines.specs.declared.lines.Line.{Line}
 use Rattle.ckc_frame.specs.declared.code.Place.{Place}
 use Rattle.ckc_frame.specs.Places.{number_of, home, is_kept_home}
-use Rattle.ckc_emit.specs.CallLines.{place_at, is_argument_home, each_lines, argument_lines, arguments_lines}
+use Rattle.ckc_emit.specs.code.CallLines.{place_at, is_argument_home, each_lines, argument_lines, arguments_lines}
 use Rattle.ckc_emit.proofs.PlaceAt.{home_is}
 
 or_assoc : (a b c : Bool) → ((a || b) || c) ≡ (a || (b || c))

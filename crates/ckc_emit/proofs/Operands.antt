@@ -13,9 +13,9 @@ use Rattle.ckc_frame.specs.WellFormed.{IsPlace, IsPlacedWhole}
 use Rattle.ckc_emit.specs.declared.places.PlacedOperand.{PlacedOperand}
 use Rattle.ckc_emit.specs.declared.places.PlacedOperand.TheVariants.{At, Number}
 use Rattle.ckc_emit.specs.code.Operands.{IsOperand}
-use Rattle.ckc_emit.specs.Lines.{constant_lines, register_with, operand_lines, take_lines}
-use Rattle.ckc_emit.specs.CallLines.{place_at}
-use Rattle.ckc_emit.specs.ProgramLines.{operand_at}
+use Rattle.ckc_emit.specs.code.Lines.{constant_lines, register_with, operand_lines, take_lines}
+use Rattle.ckc_emit.specs.code.CallLines.{place_at}
+use Rattle.ckc_emit.specs.code.ProgramLines.{operand_at}
 use Rattle.ckc_emit.proofs.Local.{Local}
 use Rattle.ckc_emit.proofs.Paths.{Code, stay, loosened, Sets, sets_loosened}
 use Rattle.ckc_emit.proofs.FrameWords.{constant_sets}

@@ -14,7 +14,7 @@ use Rattle.ckc_tac.specs.WellFormed.{IsOpOver}
 use Rattle.ckc_frame.specs.declared.code.PlacedFunc.{PlacedFunc}
 use Rattle.ckc_frame.specs.Places.{home}
 use Rattle.ckc_frame.specs.Meaning.{State, is_call, goes_by, registers_of}
-use Rattle.ckc_emit.specs.ProgramLines.{label_of, op_lines, ops_lines, end_lines}
+use Rattle.ckc_emit.specs.code.ProgramLines.{label_of, op_lines, ops_lines, end_lines}
 use Rattle.ckc_emit.proofs.Local.{Local, state_of}
 use Rattle.ckc_emit.proofs.Paths.{Code, LinesAt}
 use Rattle.ckc_emit.proofs.Homes.{framed_kept}

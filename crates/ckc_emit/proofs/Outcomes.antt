@@ -20,9 +20,9 @@ use Rattle.ckc_frame.specs.declared.code.Place.{Place}
 use Rattle.ckc_frame.specs.declared.code.PlacedFunc.{PlacedFunc}
 use Rattle.ckc_frame.specs.Places.{number_of, home, registers_in}
 use Rattle.ckc_frame.specs.WellFormed.{IsPlace, IsPlacedWhole}
-use Rattle.ckc_emit.specs.Lines.{register_with, check_lines, test_lines}
-use Rattle.ckc_emit.specs.CallLines.{place_at}
-use Rattle.ckc_emit.specs.ProgramLines.{operand_at, op_lines}
+use Rattle.ckc_emit.specs.code.Lines.{register_with, check_lines, test_lines}
+use Rattle.ckc_emit.specs.code.CallLines.{place_at}
+use Rattle.ckc_emit.specs.code.ProgramLines.{operand_at, op_lines}
 use Rattle.ckc_emit.proofs.PlaceAt.{home_is, place_is}
 use Rattle.ckc_emit.proofs.Local.{Local}
 use Rattle.ckc_emit.proofs.Paths.{Code, Halting, followed, loosened, then_halting}

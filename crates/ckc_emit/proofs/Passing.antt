@@ -10,8 +10,8 @@ use Rattle.ckc_frame.specs.declared.code.Place.{Place}
 use Rattle.ckc_frame.specs.declared.code.Place.TheVariants.{Reg, Slot}
 use Rattle.ckc_frame.specs.Places.{number_of, home, entry_places}
 use Rattle.ckc_frame.specs.WellFormed.{IsPlace}
-use Rattle.ckc_emit.specs.Lines.{register_of, offset_of, store_lines}
-use Rattle.ckc_emit.specs.CallLines.{place_at, argument_lines, arguments_lines}
+use Rattle.ckc_emit.specs.code.Lines.{register_of, offset_of, store_lines}
+use Rattle.ckc_emit.specs.code.CallLines.{place_at, argument_lines, arguments_lines}
 use Rattle.ckc_emit.proofs.Local.{Local, changed, changed_same, changed_other}
 use Rattle.ckc_emit.proofs.Paths.{Code, Path, stay, followed, loosened, Sets}
 use Rattle.ckc_emit.proofs.FrameWords.{IsStackWord, load_sets, store_puts}

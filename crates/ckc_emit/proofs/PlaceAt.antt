@@ -5,7 +5,7 @@ use Rattle.std.proofs.lemmas.List.Elements.{All-head, All-tail}
 use Rattle.ckc_frame.specs.declared.code.Place.{Place}
 use Rattle.ckc_frame.specs.Places.{number_of, home}
 use Rattle.ckc_frame.specs.WellFormed.{IsPlace}
-use Rattle.ckc_emit.specs.CallLines.{place_at}
+use Rattle.ckc_emit.specs.code.CallLines.{place_at}
 
 pub home_is : (homes : List Place) (r : ℕ) → r < length homes → home homes r ≡ number_of (place_at homes r)
 unfolding home place_at

@@ -6,7 +6,7 @@ use Rattle.ckc_asm_lines.specs.Assembled.{Assembled}
 use Rattle.ckc_frame.specs.declared.code.Placed.{Placed}
 use Rattle.ckc_frame.specs.WellFormed.{IsWellFormed}
 use Rattle.ckc_emit.specs.CodeSize.{code_size}
-use Rattle.ckc_emit.specs.ProgramLines.{program_lines}
+use Rattle.ckc_emit.specs.code.ProgramLines.{program_lines}
 use Rattle.ckc_emit.specs.Promise.{FollowsPlaced, FollowsStores, ListsStores}
 use Rattle.ckc_emit.proofs.Paths.{Code}
 use Rattle.ckc_emit.proofs.Placing.{code_of}

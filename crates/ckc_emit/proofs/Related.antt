@@ -20,9 +20,9 @@ use Rattle.ckc_tac.specs.Meaning.{extra_steps}
 use Rattle.ckc_frame.specs.declared.code.PlacedFunc.{PlacedFunc}
 use Rattle.ckc_frame.specs.Meaning.{Caller, State, active}
 use Rattle.ckc_frame.specs.Places.{marks_of}
-use Rattle.ckc_emit.specs.Lines.{offset_of, ask_lines}
+use Rattle.ckc_emit.specs.code.Lines.{offset_of, ask_lines}
 use Rattle.ckc_emit.specs.code.CallLines.{back_lines}
-use Rattle.ckc_emit.specs.ProgramLines.{is_passing_block}
+use Rattle.ckc_emit.specs.code.ProgramLines.{is_passing_block}
 use Rattle.ckc_emit.specs.Stores.{seen_events, frame_start, is_in_frame, may_do}
 use Rattle.ckc_emit.proofs.Local.{Local, state_of}
 use Rattle.ckc_emit.proofs.Paths.{Code, LinesAt}

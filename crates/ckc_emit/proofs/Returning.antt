@@ -29,11 +29,10 @@ use Rattle.ckc_tac.specs.Operations.{value_in}
 use Rattle.ckc_tac.specs.WellFormed.{IsOperandOver}
 use Rattle.ckc_emit.specs.declared.places.PlacedOperand.{PlacedOperand}
 use Rattle.ckc_emit.specs.code.Operands.{IsOperand}
-use Rattle.ckc_emit.specs.ProgramLines.{operand_at}
+use Rattle.ckc_emit.specs.code.ProgramLines.{operand_at}
 use Rattle.ckc_emit.proofs.Operands.{HasOperand, operand_value, operand_has, operand_word, operand_is, operand_found, take_sets}
-use Rattle.ckc_emit.specs.Lines.{upper_of, offset_of, take_lines, load_lines, settle_lines, ask_lines}
-use Rattle.ckc_emit.specs.CallLines.{place_at, restores_lines, result_lines}
-use Rattle.ckc_emit.specs.code.CallLines.{back_lines}
+use Rattle.ckc_emit.specs.code.Lines.{upper_of, offset_of, take_lines, load_lines, settle_lines, ask_lines}
+use Rattle.ckc_emit.specs.code.CallLines.{place_at, restores_lines, result_lines, back_lines}
 use Rattle.ckc_emit.proofs.Local.{Local, state_of}
 use Rattle.ckc_emit.proofs.Steps.{set, set_other, with_x, reg_step, jalr_step, ends_step}
 use Rattle.ckc_emit.proofs.Paths.{Code, LinesAt, Path, followed, loosened, Sets, set_by}

@@ -4,8 +4,8 @@ use Rattle.std.proofs.lemmas.Bool.{cases_eq}
 use Rattle.ckc_rv.specs.Machine.{stack_start, memory_end}
 use Rattle.ckc_rv.specs.Detailed.{MachineEvent, Wrote}
 use Rattle.ckc_asm_lines.specs.declared.lines.Line.{Line}
-use Rattle.ckc_emit.specs.Lines.{register_of, load_lines, store_lines}
-use Rattle.ckc_emit.specs.CallLines.{each_lines, saves_lines, restores_lines}
+use Rattle.ckc_emit.specs.code.Lines.{register_of, load_lines, store_lines}
+use Rattle.ckc_emit.specs.code.CallLines.{each_lines, saves_lines, restores_lines}
 use Rattle.ckc_emit.proofs.Local.{Local, changed_same, changed_other}
 use Rattle.ckc_emit.proofs.Paths.{Code, Path, stay, followed, loosened}
 use Rattle.ckc_emit.proofs.FrameWords.{IsStackWord, near_load_part, near_store_puts}

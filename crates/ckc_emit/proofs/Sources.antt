@@ -4,7 +4,7 @@ use Rattle.ckc_asm_lines.specs.declared.lines.Line.{Line}
 use Rattle.ckc_frame.specs.declared.code.Place.{Place}
 use Rattle.ckc_frame.specs.declared.code.Place.TheVariants.{Reg, Slot}
 use Rattle.ckc_frame.specs.WellFormed.{IsPlace}
-use Rattle.ckc_emit.specs.Lines.{register_of, source_of, read_lines, load_lines}
+use Rattle.ckc_emit.specs.code.Lines.{register_of, source_of, read_lines, load_lines}
 use Rattle.ckc_emit.proofs.Local.{Local}
 use Rattle.ckc_emit.proofs.Paths.{Code, Path, stay, loosened}
 use Rattle.ckc_emit.proofs.FrameWords.{load_sets}

@@ -5,7 +5,7 @@ use Rattle.std.proofs.lemmas.Int.{ints}
 use Rattle.std.proofs.lemmas.Bool.Decides.{nat_tests}
 use Rattle.ckc_base.specs.Words.{word_of}
 use Rattle.ckc_rv.specs.Effects.{moved}
-use Rattle.ckc_emit.specs.Lines.{upper_of, lower_of, negated}
+use Rattle.ckc_emit.specs.code.Lines.{upper_of, lower_of, negated}
 
 pub split_word : (v : ℕ) → v < 2 ^ 32 → (upper_of v * 2 ^ 12 + word_of (lower_of v)) % 2 ^ 32 ≡ v
 unfolding upper_of lower_of

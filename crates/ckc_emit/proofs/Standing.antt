@@ -7,8 +7,8 @@ use Rattle.ckc_asm_lines.specs.declared.lines.Line.TheVariants.{Label, Plain, Fa
 use Rattle.ckc_tac.specs.declared.code.TacBlock.{TacBlock}
 use Rattle.ckc_frame.specs.declared.code.PlacedFunc.{PlacedFunc}
 use Rattle.ckc_frame.specs.Meaning.{calls_in_front}
-use Rattle.ckc_emit.specs.Lines.{store_lines, ask_lines}
-use Rattle.ckc_emit.specs.ProgramLines.{label_of, ops_lines, end_lines}
+use Rattle.ckc_emit.specs.code.Lines.{store_lines, ask_lines}
+use Rattle.ckc_emit.specs.code.ProgramLines.{label_of, ops_lines, end_lines}
 use Rattle.ckc_emit.proofs.Paths.{Code, LinesAt}
 
 -- the label of a block of the function with a number

@@ -13,8 +13,8 @@ use Rattle.ckc_tac.specs.declared.code.TacBlock.{TacBlock}
 use Rattle.ckc_tac.specs.WellFormed.{IsBlockOver}
 use Rattle.ckc_frame.specs.declared.code.PlacedFunc.{PlacedFunc}
 use Rattle.ckc_frame.specs.Meaning.{State, begins}
-use Rattle.ckc_emit.specs.Lines.{store_lines, ask_lines}
-use Rattle.ckc_emit.specs.ProgramLines.{label_of, ops_lines, end_lines}
+use Rattle.ckc_emit.specs.code.Lines.{store_lines, ask_lines}
+use Rattle.ckc_emit.specs.code.ProgramLines.{label_of, ops_lines, end_lines}
 use Rattle.ckc_emit.specs.Stores.{seen_events}
 use Rattle.ckc_emit.proofs.Local.{Local, state_of, changed_same}
 use Rattle.ckc_emit.proofs.Paths.{Code, LinesAt, Sets}

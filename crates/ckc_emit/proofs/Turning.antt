@@ -8,8 +8,8 @@ use Rattle.ckc_tac.specs.declared.code.TacBlock.{TacBlock}
 use Rattle.ckc_tac.specs.declared.code.TacOp.{TacOp}
 use Rattle.ckc_frame.specs.declared.code.PlacedFunc.{PlacedFunc}
 use Rattle.ckc_frame.specs.Meaning.{is_call, calls_in}
-use Rattle.ckc_emit.specs.Emitting.{Emits}
-use Rattle.ckc_emit.specs.ProgramLines.{label_of, op_lines, ops_lines, block_lines, blocks_lines, function_lines, functions_lines}
+use Rattle.ckc_emit.specs.code.Emitting.{Emits}
+use Rattle.ckc_emit.specs.code.ProgramLines.{label_of, op_lines, ops_lines, block_lines, blocks_lines, function_lines, functions_lines}
 
 -- an element that was read from a list is that at any default
 read_is : {X : Type 0} (xs : List X) (i : ℕ) (x : X) → x ≡ get_or xs i x → get_or xs i x ≡ x

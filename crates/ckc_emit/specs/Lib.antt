@@ -1,8 +1,4 @@
-pub mod Lines
-pub use Rattle.ckc_emit_templates.specs.Emitting
 pub mod Stores
-pub mod CallLines
-pub mod ProgramLines
 pub mod Spared
 pub mod CodeSize
 pub mod Promise

@@ -1,9 +1,9 @@
 //! The lines of an Alloc.
 ghost use Rattle.std.specs.Prelude.{OnOk};
 ghost use Rattle.ckc_frame.specs.WellFormed.{IsPlace};
-ghost use Rattle.ckc_emit.specs.Emitting.{Emits};
+ghost use Rattle.ckc_emit.specs.code.Emitting.{Emits};
 ghost use Rattle.ckc_emit.specs.code.Operands.{IsOperand};
-ghost use Rattle.ckc_emit.specs.Lines.{alloc_lines, tests_lines, room_lines, rounded_lines, claim_lines};
+ghost use Rattle.ckc_emit.specs.code.Lines.{alloc_lines, tests_lines, room_lines, rounded_lines, claim_lines};
 
 use crate::places::{PlacedOperand, put_settle, put_take};
 use ckc_asm_lines::Line;

@@ -4,11 +4,10 @@ ghost use Rattle.ckc_tac.specs.WellFormed.{HasParams, IsOperandOver, IsOpOver, I
 ghost use Rattle.ckc_frame.specs.Meaning.{is_call as calls_of, calls_in};
 ghost use Rattle.ckc_frame.specs.WellFormed.{IsPlace, IsPlacedWhole, IsWellFormed};
 ghost use Rattle.ckc_frame.specs.Places.{marks_of};
-ghost use Rattle.ckc_emit.specs.Emitting.{Emits};
+ghost use Rattle.ckc_emit.specs.code.Emitting.{Emits};
 ghost use Rattle.ckc_emit.specs.code.Operands.{IsOperand};
-ghost use Rattle.ckc_emit.specs.CallLines.{place_at, call_lines, result_lines};
-ghost use Rattle.ckc_emit.specs.ProgramLines.{label_of, homes_of, operand_at, op_lines, ops_lines, jump_lines, holding as holding_of, failing as failing_of, choice_lines, branch_lines, is_passing_block, falls_through, end_lines, block_lines, blocks_lines, function_lines, return_lines, pass_lines, over_lines};
-ghost use Rattle.ckc_emit.specs.code.ProgramLines.{AreLabels, codes_of};
+ghost use Rattle.ckc_emit.specs.code.CallLines.{place_at, call_lines, result_lines};
+ghost use Rattle.ckc_emit.specs.code.ProgramLines.{label_of, homes_of, operand_at, op_lines, ops_lines, jump_lines, holding as holding_of, failing as failing_of, choice_lines, branch_lines, is_passing_block, falls_through, end_lines, block_lines, blocks_lines, function_lines, return_lines, pass_lines, over_lines, AreLabels, codes_of};
 
 use crate::allocation::put_alloc;
 use crate::calls::{put_call, put_result};

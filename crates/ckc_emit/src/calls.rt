@@ -2,8 +2,8 @@
 ghost use Rattle.std.specs.Prelude.{◌≡◌, ◌<◌, ◌≤◌, ◌==◌, ◌||◌, ℕ, All, IfSome, false, length, slice_index_or, OnOk};
 ghost use Rattle.ckc_frame.specs.WellFormed.{IsPlace};
 ghost use Rattle.ckc_frame.specs.Places.{number_of, is_kept_home};
-ghost use Rattle.ckc_emit.specs.Emitting.{Emits};
-ghost use Rattle.ckc_emit.specs.CallLines.{is_argument_home, depth_lines, argument_lines, arguments_lines, visit_lines, call_lines, result_lines};
+ghost use Rattle.ckc_emit.specs.code.Emitting.{Emits};
+ghost use Rattle.ckc_emit.specs.code.CallLines.{is_argument_home, depth_lines, argument_lines, arguments_lines, visit_lines, call_lines, result_lines};
 
 use crate::places::{offset, place_in, put_settle, source};
 use crate::stops::put_check;

@@ -1,9 +1,9 @@
 //! The lines of operations without a call.
 ghost use Rattle.std.specs.Prelude.{◌≡◌, OnOk};
 ghost use Rattle.ckc_frame.specs.WellFormed.{IsPlace};
-ghost use Rattle.ckc_emit.specs.Emitting.{Emits};
+ghost use Rattle.ckc_emit.specs.code.Emitting.{Emits};
 ghost use Rattle.ckc_emit.specs.code.Operands.{IsOperand};
-ghost use Rattle.ckc_emit.specs.Lines.{const_lines, copy_lines, bin_lines, form_lines, form_of, number_form as number_form_of, near_form as near_form_of, immediate_lines, ending_lines, apply_lines, operation_of, high_lines, load_op, store_op, data_load_lines, data_store_lines, test_lines, get_lines, put_lines};
+ghost use Rattle.ckc_emit.specs.code.Lines.{const_lines, copy_lines, bin_lines, form_lines, form_of, number_form as number_form_of, near_form as near_form_of, immediate_lines, ending_lines, apply_lines, operation_of, high_lines, load_op, store_op, data_load_lines, data_store_lines, test_lines, get_lines, put_lines};
 
 use crate::places::{
     PlacedOperand, put_fetch, put_operand, put_settle, put_take, put_write, register_of_operand,

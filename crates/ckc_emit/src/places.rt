@@ -1,9 +1,9 @@
 //! Where places are: registers of the machine and words of the frame.
 ghost use Rattle.std.specs.Prelude.{◌≡◌, ◌<◌, length, All, OnOk};
 ghost use Rattle.ckc_frame.specs.WellFormed.{IsPlace};
-ghost use Rattle.ckc_emit.specs.Emitting.{Emits};
-ghost use Rattle.ckc_emit.specs.CallLines.{place_at};
-ghost use Rattle.ckc_emit.specs.Lines.{offset_of, source_of, register_with, read_lines, operand_lines, write_lines, settle_lines, fetch_lines, take_lines};
+ghost use Rattle.ckc_emit.specs.code.Emitting.{Emits};
+ghost use Rattle.ckc_emit.specs.code.CallLines.{place_at};
+ghost use Rattle.ckc_emit.specs.code.Lines.{offset_of, source_of, register_with, read_lines, operand_lines, write_lines, settle_lines, fetch_lines, take_lines};
 ghost use Rattle.ckc_emit.specs.code.Operands.{IsOperand};
 
 use ckc_asm_lines::Line;

@@ -3,9 +3,8 @@ ghost use Rattle.std.specs.Prelude.{◌≡◌, ◌*◌, ◌≤◌, ◌<◌, ◌^
 ghost use Rattle.ckc_base.specs.MemoryMap.{longest_data, most_instructions};
 ghost use Rattle.ckc_asm_lines.specs.Assembled.{size_of, CanAssemble};
 ghost use Rattle.ckc_frame.specs.WellFormed.{IsWellFormed};
-ghost use Rattle.ckc_emit.specs.Emitting.{Emits};
-ghost use Rattle.ckc_emit.specs.ProgramLines.{label_of, functions_lines, program_lines, labelled_program};
-ghost use Rattle.ckc_emit.specs.code.ProgramLines.{AreLabels};
+ghost use Rattle.ckc_emit.specs.code.Emitting.{Emits};
+ghost use Rattle.ckc_emit.specs.code.ProgramLines.{label_of, functions_lines, program_lines, labelled_program, AreLabels};
 ghost use Rattle.ckc_emit.specs.Spared.{Spares};
 ghost use Rattle.ckc_emit.specs.CodeSize.{code_size};
 ghost use Rattle.ckc_emit.specs.Promise.{FollowsPlaced, FollowsStores, ListsStores, WhenAssembled};

@@ -1,7 +1,7 @@
 //! Stops at checks.
 ghost use Rattle.std.specs.Prelude.{◌≡◌, ◌+◌, ◌*◌, ◌∷◌, OnOk, pos};
-ghost use Rattle.ckc_emit.specs.Emitting.{Emits};
-ghost use Rattle.ckc_emit.specs.Lines.{over_stop_of, constant_count as count_of, stop_lines, check_lines};
+ghost use Rattle.ckc_emit.specs.code.Emitting.{Emits};
+ghost use Rattle.ckc_emit.specs.code.Lines.{over_stop_of, constant_count as count_of, stop_lines, check_lines};
 
 use ckc_asm_lines::Line;
 use ckc_base::{Check, Pos, check_number};

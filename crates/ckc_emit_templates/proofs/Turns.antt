@@ -1,8 +1,8 @@
 -- The turns of the loop over registers.
 use Rattle.std.proofs.Common.{◌≡◌, ℕ, suc, ◌+◌, ◌-◌, ◌<◌, Bool, List, ◌++◌, refl, sym, ap, subst, ◌∙◌, arith}
 use Rattle.ckc_asm_lines.specs.declared.lines.Line.{Line}
-use Rattle.ckc_emit_templates.specs.Emitting.{Emits}
-use Rattle.ckc_emit_templates.specs.Saved.{each_lines}
+use Rattle.ckc_emit_templates.specs.code.Emitting.{Emits}
+use Rattle.ckc_emit_templates.specs.code.Saved.{each_lines}
 
 module _ (line : Bool → ℕ → List Line → List Line) where
   each_more : (test : ℕ → Bool) (k : ℕ) (rest : List Line) → k < 12 → each_lines line test (12 - k) k rest ≡ line (test k) k (each_lines line test (12 - (k + 1)) (k + 1) rest)

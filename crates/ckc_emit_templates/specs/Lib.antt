@@ -1,5 +1,1 @@
-pub mod Emitting
-pub mod Templates
-pub mod Saved
-pub mod Start
 pub mod code

@@ -1,1 +1,4 @@
+pub mod Emitting
 pub mod Saved
+pub mod Start
+pub mod Templates

@@ -1,8 +1,7 @@
 //! Registers that are saved in the frame and restored from it.
 ghost use Rattle.std.specs.Prelude.{◌≡◌, ◌<◌, false, slice_index_or, OnOk};
-ghost use Rattle.ckc_emit_templates.specs.Emitting.{Emits};
-ghost use Rattle.ckc_emit_templates.specs.Saved.{register_of, each_lines, saves_lines, restores_lines};
-ghost use Rattle.ckc_emit_templates.specs.code.Saved.{kept_lines};
+ghost use Rattle.ckc_emit_templates.specs.code.Emitting.{Emits};
+ghost use Rattle.ckc_emit_templates.specs.code.Saved.{register_of, each_lines, saves_lines, restores_lines, kept_lines};
 
 use crate::templates::{SP, put_load, put_store};
 use ckc_asm_lines::Line;

@@ -1,7 +1,7 @@
 //! The start of a program.
 ghost use Rattle.std.specs.Prelude.{OnOk};
-ghost use Rattle.ckc_emit_templates.specs.Emitting.{Emits};
-ghost use Rattle.ckc_emit_templates.specs.Start.{start_lines};
+ghost use Rattle.ckc_emit_templates.specs.code.Emitting.{Emits};
+ghost use Rattle.ckc_emit_templates.specs.code.Start.{start_lines};
 
 use crate::templates::{SP, put, put_ask};
 use ckc_asm_lines::Line;

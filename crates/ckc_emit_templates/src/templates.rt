@@ -1,8 +1,8 @@
 //! Short sequences of instructions.
 ghost use Rattle.std.specs.Prelude.{◌≡◌, ◌^◌, ◌<◌, ◌∷◌, OnOk, pos};
 ghost use Rattle.ckc_asm_lines.specs.declared.lines.Line.TheVariants as line;
-ghost use Rattle.ckc_emit_templates.specs.Emitting.{Emits};
-ghost use Rattle.ckc_emit_templates.specs.Templates.{add_lower_of, immediate_of, load_lower_of, store_lower_of, load_near_of, store_near_of, upper_of, lower_of, constant_lines, large_lines, both_lines, far_load_lines, far_store_lines, move_lines, load_lines, store_lines, offset_lines, ask_lines};
+ghost use Rattle.ckc_emit_templates.specs.code.Emitting.{Emits};
+ghost use Rattle.ckc_emit_templates.specs.code.Templates.{add_lower_of, immediate_of, load_lower_of, store_lower_of, load_near_of, store_near_of, upper_of, lower_of, constant_lines, large_lines, both_lines, far_load_lines, far_store_lines, move_lines, load_lines, store_lines, offset_lines, ask_lines};
 
 use ckc_asm_lines::Line;
 use ckc_rv::{ImmOp, Instr, LoadOp, RegOp, StoreOp};
@@ -21,7 +21,7 @@ pub fn put(out: &mut Vec<Line>, i: Instr) -> Result<(), AllocError>
 }
 
 /// The upper 20 bits of a word, rounded so that the rest fits 12 bits with a sign.
-#[tactic(auto, unfolding(crate::specs::Templates::upper_of))]
+#[tactic(auto, unfolding(crate::specs::code::Templates::upper_of))]
 pub fn upper(v: u32) -> u32
     ensures { result ≡ upper_of v }
 {
@@ -29,7 +29,7 @@ pub fn upper(v: u32) -> u32
 }
 
 /// The rest of a word beside its upper 20 bits, from -2048 to 2047.
-#[tactic(auto, unfolding(crate::specs::Templates::lower_of))]
+#[tactic(auto, unfolding(crate::specs::code::Templates::lower_of))]
 pub fn lower(v: u32) -> i32
     ensures { result ≡ lower_of v }
 {

@@ -10,7 +10,7 @@ use Rattle.ckc_tac.specs.declared.code.TacOp.TheVariants as op
 use Rattle.ckc_tac.specs.declared.code.TacEnd.{TacEnd}
 use Rattle.ckc_lower.specs.declared.builder.Builder.{Builder}
 use Rattle.ckc_lower.specs.declared.builder.Targets.{Targets}
-use Rattle.ckc_lower.specs.Built.{free_from, target_of, operand_of, registers_of, with_op, with_temporary, with_value, with_values, passes, goal, block_count, body_count, with_end, with_jump, left, stored, used, one_at, two_at, forked, join_of, entered, targets_of, out_of, step_of, built, bin_of, free_past, with_register, Test, test_of, branch_of}
+use Rattle.ckc_lower.specs.code.Built.{free_from, target_of, operand_of, registers_of, with_op, with_temporary, with_value, with_values, passes, goal, block_count, body_count, with_end, with_jump, left, stored, used, one_at, two_at, forked, join_of, entered, targets_of, out_of, step_of, built, bin_of, free_past, with_register, Test, test_of, branch_of}
 use Rattle.ckc_lower.proofs.Values.{value_ops}
 use Rattle.ckc_lower.proofs.Arguments.{register_ops, values_ops}
 

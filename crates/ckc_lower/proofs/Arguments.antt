@@ -17,7 +17,7 @@ use Rattle.ckc_tac.specs.declared.code.TacOp.TheVariants as op
 use Rattle.ckc_tac.specs.declared.code.TacEnd.{TacEnd}
 use Rattle.ckc_tac.specs.Operations.{values_in}
 use Rattle.ckc_tac.specs.Meaning.{Caller, tac_system}
-use Rattle.ckc_lower.specs.Built.{free_past, register_of, registers_of}
+use Rattle.ckc_lower.specs.code.Built.{free_past, register_of, registers_of}
 use Rattle.ckc_lower.proofs.Values.{value_ops, written_same, written_other, and_then_some, map_some, some_same, Agree, at, one_op, const_step, computes}
 
 -- as many registers as expressions

@@ -16,7 +16,7 @@ use Rattle.ckc_tac.specs.declared.code.Comparison.TheVariants.{LtS, LtU, Eq, Ne}
 use Rattle.ckc_tac.specs.declared.code.Operand.TheVariants.{Number}
 use Rattle.ckc_tac.specs.Operations.{operation_of}
 use Rattle.ckc_tac.specs.Sizes.{operand_size}
-use Rattle.ckc_lower.specs.Built.{Test, test, is_zero, test_of_bin, test_of}
+use Rattle.ckc_lower.specs.code.Built.{Test, test, is_zero, test_of_bin, test_of}
 use Rattle.ckc_lower.proofs.Values.{both_some, some_same, unlike}
 
 -- what holds of the test of an operation in each case

@@ -12,7 +12,7 @@ use Rattle.ckc_core.specs.Meaning as C
 use Rattle.ckc_core.specs.WellFormed.{HasParams, IsFunctionOver, IsWellFormed}
 use Rattle.ckc_tac.specs.Meaning.{tac_system, tac_detail}
 use Rattle.ckc_tac.specs.Meaning as T
-use Rattle.ckc_lower.specs.Lowered.{empty, whole, lowered_function, lowered}
+use Rattle.ckc_lower.specs.code.Lowered.{empty, whole, lowered_function, lowered}
 use Rattle.ckc_lower.proofs.Falling.{MatchedBelow, follows_by_falling}
 use Rattle.ckc_lower.proofs.Relation.{Runs, RunsAt, SameState, left_of, SameFunctions}
 use Rattle.ckc_lower.proofs.Standing.{opens, function_kept, function_some}

@@ -17,9 +17,9 @@ use Rattle.ckc_tac.specs.declared.code.TacEnd.TheVariants as ends
 use Rattle.ckc_tac.specs.WellFormed as T
 use Rattle.ckc_lower.specs.declared.builder.Builder.{Builder}
 use Rattle.ckc_lower.specs.declared.builder.Targets.{Targets}
-use Rattle.ckc_lower.specs.Built.{free_from, target_of, operand_of, registers_of, with_op, with_temporary, with_value, with_values, block_count, body_count, with_end, with_jump, left, passes, goal, stored, used, one_at, two_at, behind_at, forked, join_of, entered, step_at, out_at, targets_of, out_of, step_of, built, bin_of, is_even, is_number, register_of, free_past, with_register, test_of, picked, branch_of}
+use Rattle.ckc_lower.specs.code.Built.{free_from, target_of, operand_of, registers_of, with_op, with_temporary, with_value, with_values, block_count, body_count, with_end, with_jump, left, passes, goal, stored, used, one_at, two_at, behind_at, forked, join_of, entered, step_at, out_at, targets_of, out_of, step_of, built, bin_of, is_even, is_number, register_of, free_past, with_register, test_of, picked, branch_of}
 use Rattle.ckc_lower.proofs.Arguments.{length-registers_of}
-use Rattle.ckc_lower.specs.Lowered.{empty, whole, lowered_function, lowered}
+use Rattle.ckc_lower.specs.code.Lowered.{empty, whole, lowered_function, lowered}
 use Rattle.ckc_lower.proofs.Conditions.{within}
 use Rattle.ckc_lower.proofs.Appending.{sides-blocks, ended-length, jump-length, built-length, is_some, body_some, IsExitGood, IsLoopGood, out_good, step_good, goal_good}
 use Rattle.ckc_lower.proofs.Standing.{function_some}

@@ -12,8 +12,8 @@ use Rattle.ckc_tac.specs.declared.code.TacEnd.TheVariants as ends
 use Rattle.ckc_tac.specs.declared.code.TacBlock.{TacBlock}
 use Rattle.ckc_lower.specs.declared.builder.Builder.{Builder}
 use Rattle.ckc_lower.specs.declared.builder.Targets.{Targets}
-use Rattle.ckc_lower.specs.Built.{free_from, operand_of, registers_of, with_op, with_value, with_values, with_jump, left, passes, goal, one_at, two_at, forked, join_of, entered, targets_of, out_of, step_of, built, test_of, branch_of, Test}
-use Rattle.ckc_lower.specs.Lowered.{empty, whole, lowered_function, lowered}
+use Rattle.ckc_lower.specs.code.Built.{free_from, operand_of, registers_of, with_op, with_value, with_values, with_jump, left, passes, goal, one_at, two_at, forked, join_of, entered, targets_of, out_of, step_of, built, test_of, branch_of, Test}
+use Rattle.ckc_lower.specs.code.Lowered.{empty, whole, lowered_function, lowered}
 use Rattle.ckc_lower.specs.Idle.{jumps_alone, only_jumps, idle_blocks_in, idle_blocks}
 use Rattle.ckc_lower.proofs.Appending.{value-blocks, values-blocks, stored-blocks, sides-blocks}
 

@@ -11,7 +11,7 @@ use Rattle.ckc_core.specs.Code.{Expr, Code, Set, Store, Check, Call, Get, Put, A
 use Rattle.ckc_core.specs.Limits.{KeepsLimits}
 use Rattle.ckc_lower.specs.declared.builder.Builder.{Builder}
 use Rattle.ckc_lower.specs.declared.builder.Targets.{Targets}
-use Rattle.ckc_lower.specs.Built.{passes, join_of, forked, entered, targets_of, built}
+use Rattle.ckc_lower.specs.code.Built.{passes, join_of, forked, entered, targets_of, built}
 
 -- the statements from one on are it and those behind it
 code-from : (stmts : List CoreStmt) (i : ℕ) (s t : CoreStmt) → i < length stmts → s ≡ get_or stmts i s → s ≡ t

@@ -11,9 +11,9 @@ use Rattle.ckc_tac.specs.declared.code.TacOp.TheVariants as op
 use Rattle.ckc_tac.specs.WellFormed.{HasFewRegisters}
 use Rattle.ckc_lower.specs.declared.builder.Builder.{Builder}
 use Rattle.ckc_lower.specs.declared.builder.Targets.{Targets}
-use Rattle.ckc_lower.specs.Built.{free_from, registers_of, with_op, with_temporary, with_value, with_values, with_jump, left, out_of, step_of, passes, goal, stored, used, one_at, two_at, forked, join_of, entered, targets_of, built, free_past, with_register, Test, test_of, tested}
+use Rattle.ckc_lower.specs.code.Built.{free_from, registers_of, with_op, with_temporary, with_value, with_values, with_jump, left, out_of, step_of, passes, goal, stored, used, one_at, two_at, forked, join_of, entered, targets_of, built, free_past, with_register, Test, test_of, tested}
 use Rattle.ckc_lower.proofs.Conditions.{within}
-use Rattle.ckc_lower.specs.Lowered.{empty, lowered_function, lowered}
+use Rattle.ckc_lower.specs.code.Lowered.{empty, lowered_function, lowered}
 
 -- ---- no register is given back
 

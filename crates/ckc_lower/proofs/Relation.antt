@@ -14,7 +14,7 @@ use Rattle.ckc_tac.specs.declared.code.TacEnd.{TacEnd}
 use Rattle.ckc_tac.specs.declared.code.TacEnd.TheVariants as ends
 use Rattle.ckc_tac.specs.Meaning as T
 use Rattle.ckc_lower.specs.declared.builder.Targets.{Targets}
-use Rattle.ckc_lower.specs.Built.{free_from, operand_of, registers_of, out_of, step_of, test_of, branch_of}
+use Rattle.ckc_lower.specs.code.Built.{free_from, operand_of, registers_of, out_of, step_of, test_of, branch_of}
 use Rattle.ckc_lower.proofs.Values.{value_ops, Agree}
 use Rattle.ckc_lower.proofs.Arguments.{values_ops}
 use Rattle.ckc_lower.proofs.Appending.{test_ops}

@@ -17,10 +17,10 @@ use Rattle.ckc_tac.specs.declared.code.TacEnd.TheVariants as ends
 use Rattle.ckc_tac.specs.Sizes as T
 use Rattle.ckc_lower.specs.declared.builder.Builder.{Builder}
 use Rattle.ckc_lower.specs.declared.builder.Targets.{Targets}
-use Rattle.ckc_lower.specs.Built.{free_from, target_of, operand_of, registers_of, with_op, with_temporary, with_value, with_values, with_end, with_jump, left, passes, goal, stored, used, one_at, two_at, forked, join_of, entered, targets_of, out_of, step_of, built, bin_of, is_even, is_number, free_past, with_register, test_of, branch_of, tested}
+use Rattle.ckc_lower.specs.code.Built.{free_from, target_of, operand_of, registers_of, with_op, with_temporary, with_value, with_values, with_end, with_jump, left, passes, goal, stored, used, one_at, two_at, forked, join_of, entered, targets_of, out_of, step_of, built, bin_of, is_even, is_number, free_past, with_register, test_of, branch_of, tested}
 use Rattle.ckc_lower.proofs.Arguments.{length-registers_of}
 use Rattle.ckc_lower.proofs.Conditions.{side_size, within}
-use Rattle.ckc_lower.specs.Lowered.{empty, whole, lowered_function, lowered}
+use Rattle.ckc_lower.specs.code.Lowered.{empty, whole, lowered_function, lowered}
 
 -- the size of what a builder has
 unfoldable pub size : Builder → ℕ

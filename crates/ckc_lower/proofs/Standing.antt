@@ -14,8 +14,8 @@ use Rattle.ckc_tac.specs.declared.code.TacEnd.{TacEnd}
 use Rattle.ckc_tac.specs.declared.code.TacEnd.TheVariants as ends
 use Rattle.ckc_lower.specs.declared.builder.Builder.{Builder}
 use Rattle.ckc_lower.specs.declared.builder.Targets.{Targets}
-use Rattle.ckc_lower.specs.Built.{free_from, operand_of, registers_of, with_op, with_value, with_values, passes, goal, block_count, body_count, with_end, stored, used, one_at, two_at, behind_at, forked, join_of, entered, step_at, out_at, targets_of, out_of, step_of, built, test_of, branch_of}
-use Rattle.ckc_lower.specs.Lowered.{empty, whole}
+use Rattle.ckc_lower.specs.code.Built.{free_from, operand_of, registers_of, with_op, with_value, with_values, passes, goal, block_count, body_count, with_end, stored, used, one_at, two_at, behind_at, forked, join_of, entered, step_at, out_at, targets_of, out_of, step_of, built, test_of, branch_of}
+use Rattle.ckc_lower.specs.code.Lowered.{empty, whole}
 use Rattle.ckc_lower.proofs.Values.{value_ops}
 use Rattle.ckc_lower.proofs.Arguments.{values_ops}
 use Rattle.ckc_lower.proofs.Relation.{Runs, RunsAt, LeadsTo}

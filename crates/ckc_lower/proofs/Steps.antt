@@ -28,7 +28,7 @@ use Rattle.ckc_tac.specs.Operations.{operation_of, value_in, compared}
 use Rattle.ckc_tac.specs.Meaning.{tac_step, tac_system, extra_of}
 use Rattle.ckc_tac.specs.Meaning as T
 use Rattle.ckc_lower.specs.declared.builder.Targets.{Targets}
-use Rattle.ckc_lower.specs.Built.{free_from, operand_of, registers_of, out_of, step_of, picked, test_of, branch_of}
+use Rattle.ckc_lower.specs.code.Built.{free_from, operand_of, registers_of, out_of, step_of, picked, test_of, branch_of}
 use Rattle.ckc_lower.proofs.Values.{value_ops, free_more, operand_stays, written_like, result_like, Agree, at, computes}
 use Rattle.ckc_lower.proofs.Appending.{test_ops}
 use Rattle.ckc_lower.proofs.Conditions.{within, decides, flipped}

@@ -28,7 +28,7 @@ use Rattle.ckc_tac.specs.declared.code.TacOp.TheVariants as op
 use Rattle.ckc_tac.specs.declared.code.TacEnd.{TacEnd}
 use Rattle.ckc_tac.specs.Operations.{value_in}
 use Rattle.ckc_tac.specs.Meaning.{State, Caller, tac_step, tac_system, extra_of, goes_by}
-use Rattle.ckc_lower.specs.Built.{free_from, target_of, operand_of, is_even, is_number, bin_of}
+use Rattle.ckc_lower.specs.code.Built.{free_from, target_of, operand_of, is_even, is_number, bin_of}
 
 -- the operations that compute an expression
 abbrev pub value_ops : Expr → Option ℕ → ℕ → List TacOp

@@ -1,3 +1,2 @@
-pub mod Built
-pub mod Lowered
 pub mod Idle
+pub mod code

@@ -2,7 +2,7 @@ ghost use Rattle.std.specs.Prelude.{◌≡◌, ◌+◌, ◌<◌, ◌≤◌, ◌^
 ghost use Rattle.ckc_core.specs.Code.{expr_of, code_of, Const};
 ghost use Rattle.ckc_core.specs.Limits.{depth, IsShallow, KeepsLimits};
 ghost use Rattle.ckc_tac.specs.declared.code.Comparison.TheVariants as comparison;
-ghost use Rattle.ckc_lower.specs.Built.{is_zero as is_zero_of, test, test_of, picked as picked_of, tested, registers_of, with_op, with_value, with_values, with_end, with_jump, left, out_of, step_of, stored, used, passes, goal as goal_of, forked, join_of, entered, step_at, targets_of, block_count, built};
+ghost use Rattle.ckc_lower.specs.code.Built.{is_zero as is_zero_of, test, test_of, picked as picked_of, tested, registers_of, with_op, with_value, with_values, with_end, with_jump, left, out_of, step_of, stored, used, passes, goal as goal_of, forked, join_of, entered, step_at, targets_of, block_count, built};
 
 use crate::builder::{Builder, Targets, free_after, operand, register_after};
 use ckc_base::{BinOp, Check, Pos, Seq, Width, sum};

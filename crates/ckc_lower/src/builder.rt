@@ -1,7 +1,7 @@
 ghost use Rattle.std.specs.Prelude.{◌≡◌, ℕ, ◌+◌, ◌<◌, ◌≤◌, ◌^◌, IfOk, OnOk, None};
 ghost use Rattle.ckc_core.specs.Code.{expr_of, Const, Local};
 ghost use Rattle.ckc_core.specs.Limits.{depth};
-ghost use Rattle.ckc_lower.specs.Built.{free_from, operand_of, is_even as is_even_of, bin_of, free_past, register_of, target_of, with_op, with_temporary, with_value, with_register, with_end};
+ghost use Rattle.ckc_lower.specs.code.Built.{free_from, operand_of, is_even as is_even_of, bin_of, free_past, register_of, target_of, with_op, with_temporary, with_value, with_register, with_end};
 
 use ckc_base::{BinOp, Seq};
 use ckc_core::CoreExpr;

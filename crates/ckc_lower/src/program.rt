@@ -10,7 +10,7 @@ ghost use Rattle.ckc_tac.specs.Meaning.{tac_detail};
 ghost use Rattle.ckc_tac.specs.Sizes.{program_size as tac_size};
 ghost use Rattle.ckc_tac.specs.WellFormed.{IsWellFormed as IsWellFormedTac, HasFewRegisters};
 ghost use Rattle.ckc_lower.specs.Idle.{idle_blocks};
-ghost use Rattle.ckc_lower.specs.Lowered.{lowered_function, lowered};
+ghost use Rattle.ckc_lower.specs.code.Lowered.{lowered_function, lowered};
 
 use crate::builder::Builder;
 use ckc_base::Seq;

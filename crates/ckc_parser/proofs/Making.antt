@@ -5,7 +5,7 @@ use Rattle.ckc_parser_grammar.specs.Grammar.{Symbol}
 use Rattle.ckc_parser_grammar.specs.Derives.{Sign}
 use Rattle.ckc_parser_grammar.specs.declared.parts.Stop.{Stop}
 use Rattle.ckc_parser_grammar.specs.declared.parts.Stop.TheVariants as stop
-use Rattle.ckc_parser_grammar.specs.Marked.{Halts, Answered}
+use Rattle.ckc_parser_grammar.specs.code.Marked.{Halts, Answered}
 use Rattle.ckc_parser.specs.code.Parts.{IsMemory, HoldsOrMemory}
 use Rattle.ckc_parser_expressions.proofs.Exits.{exit}
 

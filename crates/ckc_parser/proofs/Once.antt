@@ -7,10 +7,10 @@ use Rattle.ckc_syntax.specs.Spelled.{Spelled}
 use Rattle.ckc_parser_grammar.specs.Grammar as g
 use Rattle.ckc_parser_grammar.specs.Values.{Value, tree, items}
 use Rattle.ckc_parser_grammar.specs.Derives as D
-use Rattle.ckc_parser_grammar.specs.Shapes.{tree_shape, has_shape}
+use Rattle.ckc_parser_grammar.specs.code.Shapes.{tree_shape, has_shape}
 use Rattle.ckc_parser.specs.Text.{DerivesValue, Viable, IsFault, SpelledTree, DerivesTokens, FirstFault}
 use Rattle.ckc_parser.specs.Phase.{parsing}
-use Rattle.ckc_parser_grammar.specs.Marked.{signs}
+use Rattle.ckc_parser_grammar.specs.Signs.{signs}
 use Rattle.ckc_parser_grammar.specs.declared.kind.Kind.TheVariants as kind
 use Rattle.ckc_parser_grammar.proofs.Shapes.{shape_derived}
 use Rattle.ckc_parser.proofs.Answering as answering

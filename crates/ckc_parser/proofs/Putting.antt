@@ -6,9 +6,8 @@ use Rattle.ckc_parser_grammar.specs.declared.parts.Stop.{Stop}
 use Rattle.ckc_parser_grammar.specs.Grammar.{Part, Symbol, n, Rule, right, allowed}
 use Rattle.ckc_parser_grammar.specs.Values.{Value, made}
 use Rattle.ckc_parser_grammar.specs.Derives.{Sign}
-use Rattle.ckc_parser_grammar.specs.Reading.{kind_of, pick, Takes, Stops}
-use Rattle.ckc_parser_grammar.specs.Marked.{Answered}
-use Rattle.ckc_parser_grammar.specs.code.Marked.{Reads}
+use Rattle.ckc_parser_grammar.specs.code.Reading.{kind_of, pick, Takes, Stops}
+use Rattle.ckc_parser_grammar.specs.code.Marked.{Answered, Reads}
 use Rattle.ckc_parser.specs.code.Parts.{Puts}
 use Rattle.ckc_parser_grammar.proofs.Steps.{by_rule, stop_rule, turned}
 use Rattle.ckc_parser_grammar.proofs.Onward.{Onward, at_start, one_turn, last_turn, stop_turn}

@@ -9,10 +9,11 @@ use Rattle.ckc_parser_grammar.specs.declared.kind.Kind.TheVariants as kind
 use Rattle.ckc_parser_grammar.specs.Kinds.{kind_of_token}
 use Rattle.ckc_parser_grammar.specs.Grammar.{Terminal, Part, n}
 use Rattle.ckc_parser_grammar.specs.Values.{Value}
-use Rattle.ckc_parser_grammar.specs.Marked.{signs, signs_after, kind_after, place_of}
+use Rattle.ckc_parser_grammar.specs.Signs.{signs, signs_after, kind_after}
+use Rattle.ckc_parser_grammar.specs.code.Marked.{place_of}
 use Rattle.ckc_parser_grammar.specs.Derives.{Sign, before, Derives}
 use Rattle.ckc_parser_grammar.specs.Derives as D
-use Rattle.ckc_parser_grammar.specs.Reading.{kind_of, Takes, Stops}
+use Rattle.ckc_parser_grammar.specs.code.Reading.{kind_of, Takes, Stops}
 use Rattle.ckc_parser.specs.Text.{start, DerivesValue, Viable, FaultAt, IsFault}
 use Rattle.ckc_parser_grammar.proofs.Marks.{last_of, signs_both, glued_no}
 use Rattle.ckc_parser_grammar.proofs.Samples.{sample, sample_token}

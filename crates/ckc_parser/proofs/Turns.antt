@@ -8,9 +8,8 @@ use Rattle.ckc_parser_grammar.specs.Grammar as g
 use Rattle.ckc_parser_grammar.specs.Trees.{Item}
 use Rattle.ckc_parser_grammar.specs.Values.{Value, made, as_items}
 use Rattle.ckc_parser_grammar.specs.Derives.{Sign}
-use Rattle.ckc_parser_grammar.specs.Reading.{kind_of, pick, Takes, Stops}
-use Rattle.ckc_parser_grammar.specs.Marked.{Answered}
-use Rattle.ckc_parser_grammar.specs.code.Marked.{Reads}
+use Rattle.ckc_parser_grammar.specs.code.Reading.{kind_of, pick, Takes, Stops}
+use Rattle.ckc_parser_grammar.specs.code.Marked.{Answered, Reads}
 use Rattle.ckc_parser.specs.code.Turns.{IsItem}
 use Rattle.ckc_parser_grammar.proofs.Steps.{here_all, stop_rule, turned}
 

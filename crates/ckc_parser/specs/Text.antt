@@ -9,7 +9,7 @@ use Rattle.ckc_parser_grammar.specs.Grammar as g
 pub use Rattle.ckc_syntax.specs.Trees.{Tree as SpelledTree}
 use Rattle.ckc_parser_grammar.specs.Values.{Value, tree}
 use Rattle.ckc_parser_grammar.specs.Derives.{Derives, syntax_error}
-use Rattle.ckc_parser_grammar.specs.Marked.{signs}
+use Rattle.ckc_parser_grammar.specs.Signs.{signs}
 
 abbrev pub start : Part
 start = g.text

@@ -5,8 +5,7 @@ ghost use Rattle.ckc_syntax.specs.declared.tree.Length.TheVariants as lengths;
 ghost use Rattle.ckc_parser_grammar.specs.Grammar as g;
 ghost use Rattle.ckc_parser_grammar.specs.Trees as trees;
 ghost use Rattle.ckc_parser_grammar.specs.Values as v;
-ghost use Rattle.ckc_parser_grammar.specs.Marked.{ahead, remaining, Gives};
-ghost use Rattle.ckc_parser_grammar.specs.code.Marked.{Reads};
+ghost use Rattle.ckc_parser_grammar.specs.code.Marked.{ahead, remaining, Gives, Reads};
 ghost use Rattle.ckc_parser.specs.code.Parts.{HoldsOrMemory, ReadsStarsAndName, Puts};
 
 use crate::lists::{Declarations, Items, Statements, put_local, put_slot, put_static};

@@ -3,12 +3,11 @@ ghost use Rattle.ckc_syntax.specs.Spelled.{spelled};
 ghost use Rattle.ckc_parser_grammar.specs.Grammar as g;
 ghost use Rattle.ckc_parser_grammar.specs.Trees as trees;
 ghost use Rattle.ckc_parser_grammar.specs.Values as v;
-ghost use Rattle.ckc_parser_grammar.specs.Forms.{has_more};
+ghost use Rattle.ckc_parser_grammar.specs.code.Forms.{has_more};
 ghost use Rattle.ckc_parser.specs.code.Parts.{PutsMembers, Puts};
 ghost use Rattle.ckc_parser.specs.code.Turns.{IsItem};
-ghost use Rattle.ckc_parser_grammar.specs.Reading.{kind_of};
-ghost use Rattle.ckc_parser_grammar.specs.Marked.{ahead, remaining, Answered, Gives};
-ghost use Rattle.ckc_parser_grammar.specs.code.Marked.{Reads};
+ghost use Rattle.ckc_parser_grammar.specs.code.Reading.{kind_of};
+ghost use Rattle.ckc_parser_grammar.specs.code.Marked.{ahead, remaining, Answered, Gives, Reads};
 
 use crate::declarators::{member, members, named_type, object_rest, objects, params};
 use crate::lists::{

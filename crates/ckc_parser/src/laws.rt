@@ -5,7 +5,7 @@ ghost use Rattle.ckc_syntax.specs.Spelled.{Tokens};
 ghost use Rattle.ckc_parser_grammar.specs.declared.kind.Kind.{Kind};
 ghost use Rattle.ckc_parser_grammar.specs.Derives.{Sign, Derives};
 ghost use Rattle.ckc_parser_grammar.specs.Grammar.{Part, n};
-ghost use Rattle.ckc_parser_grammar.specs.Shapes.{shape_of, has_shape};
+ghost use Rattle.ckc_parser_grammar.specs.code.Shapes.{shape_of, has_shape};
 ghost use Rattle.ckc_parser_grammar.specs.Values.{Value};
 ghost use Rattle.ckc_parser.specs.Phase.{parsing};
 

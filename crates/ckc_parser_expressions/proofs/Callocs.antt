@@ -10,10 +10,9 @@ use Rattle.ckc_parser_grammar.specs.Grammar as g
 use Rattle.ckc_parser_grammar.specs.Trees.{Expr, joined, joined_to, picked}
 use Rattle.ckc_parser_grammar.specs.Values.{Value, made, as_expr_of_name, as_steps, as_arms, step, whole, named}
 use Rattle.ckc_parser_grammar.specs.Derives.{Sign}
-use Rattle.ckc_parser_grammar.specs.Reading.{kind_of, pick, Takes, Stops}
-use Rattle.ckc_parser_grammar.specs.Reading as T
-use Rattle.ckc_parser_grammar.specs.Marked.{Gives}
-use Rattle.ckc_parser_grammar.specs.code.Marked.{Reads}
+use Rattle.ckc_parser_grammar.specs.code.Reading.{kind_of, pick, Takes, Stops}
+use Rattle.ckc_parser_grammar.specs.code.Reading as T
+use Rattle.ckc_parser_grammar.specs.code.Marked.{Gives, Reads}
 use Rattle.ckc_parser_grammar.proofs.Steps.{also_all, then_all, here_all, also, here_stops, then_stops, by_rule, stop_rule, turned}
 
 -- what may go on behind `calloc` where no `(` and no `<` does

@@ -4,9 +4,9 @@ use Rattle.std.specs.Prelude.{Result, IsErrAnd}
 use Rattle.std.proofs.lemmas.Result.{err_from_is_err_and}
 use Rattle.ckc_parser_grammar.specs.Grammar.{Symbol}
 use Rattle.ckc_parser_grammar.specs.Derives.{Sign}
-use Rattle.ckc_parser_grammar.specs.Reading.{Stops}
+use Rattle.ckc_parser_grammar.specs.code.Reading.{Stops}
 use Rattle.ckc_parser_grammar.specs.declared.parts.Stop.{Stop}
-use Rattle.ckc_parser_grammar.specs.Marked.{Halts, Answered}
+use Rattle.ckc_parser_grammar.specs.code.Marked.{Halts, Answered}
 use Rattle.ckc_parser_grammar.proofs.Steps as steps
 
 -- What is returned is the error of a part, which stops or halts for want of memory; the whole does alike.

@@ -3,9 +3,9 @@ use Rattle.std.specs.Prelude.{List, [], ◌∷◌, Result}
 use Rattle.ckc_parser_grammar.specs.declared.kind.Kind.TheVariants as kind
 use Rattle.ckc_parser_grammar.specs.Grammar.{Symbol, Part, n, k}
 use Rattle.ckc_parser_grammar.specs.Derives.{Sign}
-use Rattle.ckc_parser_grammar.specs.Reading.{Takes}
+use Rattle.ckc_parser_grammar.specs.code.Reading.{Takes}
 use Rattle.ckc_parser_grammar.specs.declared.parts.Stop.{Stop}
-use Rattle.ckc_parser_grammar.specs.Marked.{Answered}
+use Rattle.ckc_parser_grammar.specs.code.Marked.{Answered}
 use Rattle.ckc_parser_grammar.specs.Values.{Value}
 
 -- Some symbols are taken with values of which the result tells those that count.

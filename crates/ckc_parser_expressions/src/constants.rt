@@ -3,8 +3,7 @@ ghost use Rattle.ckc_syntax.specs.Spelled.{spelled};
 ghost use Rattle.ckc_parser_grammar.specs.Grammar as g;
 ghost use Rattle.ckc_parser_grammar.specs.Trees.{literal};
 ghost use Rattle.ckc_parser_grammar.specs.Values.{Value, expr, named, as_token};
-ghost use Rattle.ckc_parser_grammar.specs.Marked.{ahead, remaining, Parses};
-ghost use Rattle.ckc_parser_grammar.specs.code.Marked.{Reads, Makes};
+ghost use Rattle.ckc_parser_grammar.specs.code.Marked.{ahead, remaining, Parses, Reads, Makes};
 
 use crate::types::type_in_parentheses;
 use ckc_parser_grammar::{Class, Expression, Kind, Reader, Stop, expression};

@@ -4,8 +4,7 @@ ghost use Rattle.ckc_syntax.specs.declared.tree.Item.TheVariants as item;
 ghost use Rattle.ckc_parser_grammar.specs.Grammar as g;
 ghost use Rattle.ckc_parser_grammar.specs.Trees as trees;
 ghost use Rattle.ckc_parser_grammar.specs.Values as v;
-ghost use Rattle.ckc_parser_grammar.specs.Marked.{ahead, remaining, Gives};
-ghost use Rattle.ckc_parser_grammar.specs.code.Marked.{Reads};
+ghost use Rattle.ckc_parser_grammar.specs.code.Marked.{ahead, remaining, Gives, Reads};
 ghost use Rattle.ckc_parser_expressions.specs.code.Forms.{Bracketed};
 
 use crate::expressions::{expr, limits};

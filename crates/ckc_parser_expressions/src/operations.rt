@@ -2,8 +2,7 @@ ghost use Rattle.std.specs.Prelude.{◌≡◌, ◌≤◌, ◌<◌, length, Match
 ghost use Rattle.ckc_syntax.specs.declared.tree.TreeOp.TheVariants as op;
 ghost use Rattle.ckc_parser_grammar.specs.Grammar as g;
 ghost use Rattle.ckc_parser_grammar.specs.Values.{operator, second};
-ghost use Rattle.ckc_parser_grammar.specs.Marked.{ahead, remaining, Parses};
-ghost use Rattle.ckc_parser_grammar.specs.code.Marked.{Reads, Makes};
+ghost use Rattle.ckc_parser_grammar.specs.code.Marked.{ahead, remaining, Parses, Reads, Makes};
 
 use ckc_parser_grammar::{Class, Kind, Operation, Reader, Stop, binary_op, is_greater, token_kind};
 use ckc_syntax::TreeOp;

@@ -5,8 +5,7 @@ ghost use Rattle.ckc_parser_grammar.specs.Grammar as g;
 ghost use Rattle.ckc_parser_grammar.specs.Trees as trees;
 ghost use Rattle.ckc_parser_grammar.specs.Values as v;
 ghost use Rattle.ckc_parser_expressions.specs.code.Allocations.{allocated_type, allocated_size, IsLead, IsFourth};
-ghost use Rattle.ckc_parser_grammar.specs.Marked.{ahead, remaining, Answered, Gives};
-ghost use Rattle.ckc_parser_grammar.specs.code.Marked.{Reads};
+ghost use Rattle.ckc_parser_grammar.specs.code.Marked.{ahead, remaining, Answered, Gives, Reads};
 
 use crate::constants::named;
 use crate::expressions::{expr, expr_rest, first, posts, unary};

@@ -2,8 +2,8 @@
 use Rattle.std.proofs.Common.{◌≡◌, List, [], ◌∷◌, Bool, true, false, not, ◌&&◌, ◌==◌, refl, sym, Some}
 use Rattle.ckc_parser_grammar.specs.declared.kind.Kind.{Kind}
 use Rattle.ckc_parser_grammar.specs.Grammar.{Part, Rule}
-use Rattle.ckc_parser_grammar.specs.Kinds.{number}
-use Rattle.ckc_parser_grammar.specs.Reading.{pick}
+use Rattle.ckc_parser_grammar.specs.code.Fits.{number}
+use Rattle.ckc_parser_grammar.specs.code.Reading.{pick}
 use Rattle.ckc_parser_grammar.proofs.EveryKind.{all_kinds}
 use Rattle.ckc_parser_grammar.proofs.Tables.{all, all_kind, implies, implied, and_both, picks, picks_is, same_kind}
 

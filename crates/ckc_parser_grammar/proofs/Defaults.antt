@@ -4,7 +4,7 @@ use Rattle.ckc_parser_grammar.specs.declared.kind.Kind.{Kind}
 use Rattle.ckc_parser_grammar.specs.declared.kind.Kind.TheVariants as kind
 use Rattle.ckc_parser_grammar.specs.Grammar.{Part, Rule}
 use Rattle.ckc_parser_grammar.specs.Grammar as g
-use Rattle.ckc_parser_grammar.specs.Reading.{pick}
+use Rattle.ckc_parser_grammar.specs.code.Reading.{pick}
 use Rattle.ckc_parser_grammar.proofs.EveryKind.{all_kinds}
 use Rattle.ckc_parser_grammar.proofs.EveryRule.{rule_number}
 use Rattle.ckc_parser_grammar.proofs.Tables.{all, all_kind, all_part, implies, implied, picks_is}

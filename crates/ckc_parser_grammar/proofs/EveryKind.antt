@@ -2,7 +2,7 @@
 use Rattle.std.proofs.Common.{◌≡◌, List, [], ◌∷◌, refl, get_or}
 use Rattle.ckc_parser_grammar.specs.declared.kind.Kind.{Kind}
 use Rattle.ckc_parser_grammar.specs.declared.kind.Kind.TheVariants as kind
-use Rattle.ckc_parser_grammar.specs.Kinds.{number}
+use Rattle.ckc_parser_grammar.specs.code.Fits.{number}
 
 abbrev pub all_kinds : List Kind
 all_kinds = kind.End ∷ kind.Name ∷ kind.Calloc ∷ kind.Count ∷ kind.ByteCount ∷ kind.Bounds ∷ kind.Unknown ∷ kind.Number ∷ kind.Character ∷ kind.Text ∷ kind.Directive ∷ kind.Other ∷ kind.Int ∷ kind.Unsigned ∷ kind.Char ∷ kind.Void ∷ kind.Struct ∷ kind.Static ∷ kind.If ∷ kind.Else ∷ kind.While ∷ kind.For ∷ kind.Return ∷ kind.Break ∷ kind.Continue ∷ kind.Sizeof ∷ kind.Null ∷ kind.Eof ∷ kind.Ptr ∷ kind.ArrayPtr ∷ kind.NtArrayPtr ∷ kind.Checked ∷ kind.Unchecked ∷ kind.NtChecked ∷ kind.Bundled ∷ kind.Check ∷ kind.Tested ∷ kind.Trusted ∷ kind.RoundOpen ∷ kind.RoundClose ∷ kind.CurlyOpen ∷ kind.CurlyClose ∷ kind.SquareOpen ∷ kind.SquareClose ∷ kind.Less ∷ kind.Greater ∷ kind.GreaterNext ∷ kind.Comma ∷ kind.Semicolon ∷ kind.Colon ∷ kind.Question ∷ kind.Equals ∷ kind.Dot ∷ kind.Arrow ∷ kind.Plus ∷ kind.Minus ∷ kind.Star ∷ kind.Slash ∷ kind.Percent ∷ kind.Ampersand ∷ kind.Bar ∷ kind.Caret ∷ kind.Tilde ∷ kind.Exclamation ∷ kind.ShiftLeft ∷ kind.LessEquals ∷ kind.GreaterEquals ∷ kind.EqualsEquals ∷ kind.NotEquals ∷ kind.AndAnd ∷ kind.BarBar ∷ []

@@ -5,7 +5,7 @@ use Rattle.ckc_parser_grammar.specs.declared.kind.Kind.{Kind}
 use Rattle.ckc_parser_grammar.specs.Grammar.{Part, Symbol, n, Rule, right, allowed}
 use Rattle.ckc_parser_grammar.specs.Values.{Value, made}
 use Rattle.ckc_parser_grammar.specs.Derives.{Sign}
-use Rattle.ckc_parser_grammar.specs.Reading.{kind_of, pick, Takes, Stops}
+use Rattle.ckc_parser_grammar.specs.code.Reading.{kind_of, pick, Takes, Stops}
 use Rattle.ckc_parser_grammar.proofs.Onward.{Onward}
 use Rattle.ckc_parser_grammar.proofs.Steps.{also_all, then_all, by_rule, stop_rule}
 

@@ -5,9 +5,9 @@ use Rattle.ckc_parser_grammar.specs.declared.kind.Kind.{Kind}
 use Rattle.ckc_parser_grammar.specs.declared.kind.Kind.TheVariants as kind
 use Rattle.ckc_parser_grammar.specs.Kinds.{is_sign, is_operator, is_literal, sign_op, binary_op}
 use Rattle.ckc_parser_grammar.specs.Grammar.{is_name, is_greater}
-use Rattle.ckc_parser_grammar.specs.Forms.{begins_step, begins_type, begins_post}
+use Rattle.ckc_parser_grammar.specs.code.Forms.{begins_step, begins_type, begins_post}
 use Rattle.ckc_parser_grammar.specs.Grammar as g
-use Rattle.ckc_parser_grammar.specs.Reading.{pick}
+use Rattle.ckc_parser_grammar.specs.code.Reading.{pick}
 use Rattle.ckc_parser_grammar.proofs.Decided.{chooses, fails, remains}
 
 pub no_sign : (c : Kind) → (c ≡ kind.Minus → ⊥) → (c ≡ kind.Plus → ⊥) → (c ≡ kind.Exclamation → ⊥) → (c ≡ kind.Tilde → ⊥) → (c ≡ kind.Star → ⊥) → (c ≡ kind.Ampersand → ⊥) → is_sign c ≡ false

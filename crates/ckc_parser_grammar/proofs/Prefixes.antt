@@ -1,12 +1,13 @@
 -- Where reading stops, what was read so far begins a derivation, and with the next token it begins none.
 use Rattle.std.proofs.Common.{◌≡◌, List, [], ◌∷◌, ◌++◌, Bool, true, false, ◌||◌, refl, sym, ap, subst, ◌∙◌, None, Some, append_assoc, map}
 use Rattle.ckc_parser_grammar.specs.declared.kind.Kind.{Kind}
-use Rattle.ckc_parser_grammar.specs.Grammar.{Terminal, Symbol, t, n, Rule, right, fits, allowed, not_else}
+use Rattle.ckc_parser_grammar.specs.code.Fits.{fits}
+use Rattle.ckc_parser_grammar.specs.Grammar.{Terminal, Symbol, t, n, Rule, right, allowed, not_else}
 use Rattle.ckc_parser_grammar.specs.Values.{Value, token, made}
 use Rattle.ckc_parser_grammar.specs.Derives.{Sign, before, Derives}
 use Rattle.ckc_parser_grammar.specs.Derives as D
-use Rattle.ckc_parser_grammar.specs.Reading.{kind_of, pick, Takes, Stops}
-use Rattle.ckc_parser_grammar.specs.Reading as T
+use Rattle.ckc_parser_grammar.specs.code.Reading.{kind_of, pick, Takes, Stops}
+use Rattle.ckc_parser_grammar.specs.code.Reading as T
 use Rattle.ckc_parser_grammar.proofs.Tables.{plain, plain_all, opens, and_true, and_both, allowed_owed, pick_left, opens_owed, fits_here}
 use Rattle.ckc_parser_grammar.proofs.Theory.{kind_before, or_left, read_of}
 use Rattle.ckc_parser_grammar.proofs.Samples.{sample, Fill, Real, real_both, map_both, fill_stack, fill_part}

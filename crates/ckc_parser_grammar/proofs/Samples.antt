@@ -3,18 +3,18 @@ use Rattle.std.proofs.Common.{◌≡◌, ℕ, zero, suc, get_or, ◌&&◌, List,
 use Rattle.ckc_syntax.specs.Spelled.{Spelled}
 use Rattle.ckc_parser_grammar.specs.declared.kind.Kind.{Kind}
 use Rattle.ckc_parser_grammar.specs.declared.kind.Kind.TheVariants as kind
-use Rattle.ckc_parser_grammar.specs.Kinds.{number}
-use Rattle.ckc_parser_grammar.specs.Grammar.{Terminal, one, name, greater, sign, operator, literal, name_but_calloc, name_but_unknown, Part, Symbol, t, n, Rule, left, right, fits, allowed, not_else}
+use Rattle.ckc_parser_grammar.specs.code.Fits.{number, fits}
+use Rattle.ckc_parser_grammar.specs.Grammar.{Terminal, one, name, greater, sign, operator, literal, name_but_calloc, name_but_unknown, Part, Symbol, t, n, Rule, left, right, allowed, not_else}
 use Rattle.ckc_parser_grammar.specs.Grammar as g
 use Rattle.ckc_parser_grammar.specs.Values.{Value, token, made}
 use Rattle.ckc_parser_grammar.specs.Derives.{Sign, before, Derives}
 use Rattle.ckc_parser_grammar.specs.Derives as D
 use Rattle.ckc_parser_grammar.specs.Kinds.{kind_of_token}
-use Rattle.ckc_parser_grammar.specs.Marked.{signs_after, kind_after}
+use Rattle.ckc_parser_grammar.specs.Signs.{signs_after, kind_after}
 use Rattle.ckc_parser_grammar.proofs.Spellings.{spelled, sample_kind}
 use Rattle.ckc_parser_grammar.proofs.Marks.{last_of, signs_both, kind_alone}
 use Rattle.ckc_parser_grammar.proofs.EveryPart.{all_parts, part_number, part_at}
-use Rattle.ckc_parser_grammar.proofs.Tables.{plain, plain_all, all_part, and_true, allowed_owed, else_only, is_number, is_spelled, same_number, same_kind}
+use Rattle.ckc_parser_grammar.proofs.Tables.{plain, plain_all, all_part, and_true, allowed_owed, else_only, is_number, is_spelled, same_number, same_kind, of_fits}
 
 abbrev pub sample : Terminal → Sign
 sample c = record { kind = sample_kind c; token = spelled (sample_kind c) }
@@ -93,7 +93,7 @@ fill_nil k h = record { cs = []; real = λ x. refl; values = []; derived = D.nil
 fill_read : (c : Terminal) (ss : List Symbol) → plain (t c) ≡ true → FillAll ss → FillAll (t c ∷ ss)
 fill_read c ss p rest k h =
     let f = rest k h in
-    record { cs = c ∷ f.cs; real = real_read c f.cs (spelled_of c p) f.real; values = token (sample c).token ∷ f.values; derived = D.read (sample_fits c) f.derived; clear = sample_open c p }
+    record { cs = c ∷ f.cs; real = real_read c f.cs (spelled_of c p) f.real; values = token (sample c).token ∷ f.values; derived = D.read (of_fits (sample_fits c)) f.derived; clear = sample_open c p }
 
 fill_by : (r : Rule) (ss : List Symbol) → FillAll (right r) → FillAll ss → FillAll (n (left r) ∷ ss)
 fill_by r ss inner rest k h =

@@ -4,7 +4,7 @@ use Rattle.ckc_parser_grammar.specs.declared.kind.Kind.{Kind}
 use Rattle.ckc_parser_grammar.specs.declared.kind.Kind.TheVariants as kind
 use Rattle.ckc_parser_grammar.specs.Grammar.{Part, Rule}
 use Rattle.ckc_parser_grammar.specs.Grammar as g
-use Rattle.ckc_parser_grammar.specs.Kinds.{number}
+use Rattle.ckc_parser_grammar.specs.code.Fits.{number}
 
 -- whether a kind is one of some
 abbrev pub has : List Kind → Kind → Bool

@@ -6,7 +6,7 @@ use Rattle.ckc_parser_grammar.specs.Grammar as g
 use Rattle.ckc_parser_grammar.specs.Values.{Value, made}
 use Rattle.ckc_parser_grammar.specs.Derives.{Sign, Derives}
 use Rattle.ckc_parser_grammar.specs.Derives as D
-use Rattle.ckc_parser_grammar.specs.Shapes.{shape_of, has_shape, is_shaped}
+use Rattle.ckc_parser_grammar.specs.code.Shapes.{shape_of, has_shape, is_shaped}
 
 data AllShaped : List Symbol → List Value → Type 0 where
   nil : AllShaped [] []

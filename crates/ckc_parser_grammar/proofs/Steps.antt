@@ -3,17 +3,16 @@ use Rattle.std.proofs.Common.{◌≡◌, List, [], ◌∷◌, ◌++◌, Bool, tr
 use Rattle.ckc_syntax.specs.Spelled.{Spelled}
 use Rattle.ckc_parser_grammar.specs.declared.kind.Kind.{Kind}
 use Rattle.ckc_parser_grammar.specs.declared.kind.Kind.TheVariants as kind
-use Rattle.ckc_parser_grammar.specs.Kinds.{number}
-use Rattle.ckc_parser_grammar.specs.Grammar.{Terminal, one, Part, Symbol, t, n, Rule, right, fits, allowed, is_name}
+use Rattle.ckc_parser_grammar.specs.code.Fits.{number, fits}
+use Rattle.ckc_parser_grammar.specs.Grammar.{Terminal, one, Part, Symbol, t, n, Rule, right, allowed, is_name}
 use Rattle.ckc_parser_grammar.specs.Values.{Value, token, made}
 use Rattle.ckc_parser_grammar.specs.Derives.{Sign}
-use Rattle.ckc_parser_grammar.specs.Reading.{kind_of, pick, Takes, Stops}
-use Rattle.ckc_parser_grammar.specs.Reading as T
+use Rattle.ckc_parser_grammar.specs.code.Reading.{kind_of, pick, Takes, Stops}
+use Rattle.ckc_parser_grammar.specs.code.Reading as T
 use Rattle.std.specs.Prelude.{Result, Ok, Err}
 use Rattle.ckc_parser_grammar.specs.declared.parts.Stop.{Stop}
 use Rattle.ckc_parser_grammar.specs.declared.parts.Stop.TheVariants as stop
-use Rattle.ckc_parser_grammar.specs.Marked.{Halts, Answered, Parses, Gives}
-use Rattle.ckc_parser_grammar.specs.code.Marked.{Reads, Makes}
+use Rattle.ckc_parser_grammar.specs.code.Marked.{Halts, Answered, Parses, Gives, Reads, Makes}
 use Rattle.ckc_parser_grammar.proofs.EveryKind.{all_kinds, kind_at}
 use Rattle.ckc_parser_grammar.proofs.Tables.{is_number, same_number}
 

@@ -2,16 +2,17 @@
 use Rattle.std.proofs.Common.{arith, suc, zero, ◌≡◌, ℕ, List, [], ◌∷◌, Bool, true, false, ◌&&◌, ◌||◌, refl, get_or, sym, ap, subst, ◌∙◌, Option, None, Some, not, ◌==◌}
 use Rattle.ckc_parser_grammar.specs.declared.kind.Kind.{Kind}
 use Rattle.ckc_parser_grammar.specs.declared.kind.Kind.TheVariants as kind
-use Rattle.ckc_parser_grammar.specs.Grammar.{Terminal, one, name, greater, sign, operator, literal, name_but_calloc, name_but_unknown, Part, Symbol, t, n, Rule, left, right, fits, allowed, not_else, is_name, is_greater}
+use Rattle.ckc_parser_grammar.specs.Grammar.{Terminal, one, name, greater, sign, operator, literal, name_but_calloc, name_but_unknown, Part, Symbol, t, n, Rule, left, right, Fits, allowed, not_else, is_name, is_greater}
 use Rattle.ckc_parser_grammar.specs.Grammar as g
-use Rattle.ckc_parser_grammar.specs.Kinds.{number, kind_of_token}
+use Rattle.ckc_parser_grammar.specs.code.Fits.{number, fits}
+use Rattle.ckc_parser_grammar.specs.Kinds.{kind_of_token}
 use Rattle.ckc_parser_grammar.proofs.Sets.{begins, follows, empty}
 use Rattle.ckc_parser_grammar.proofs.EveryKind.{all_kinds, kind_at}
 use Rattle.ckc_parser_grammar.proofs.EveryRule.{all_rules, rule_number, rule_at}
 use Rattle.ckc_parser_grammar.proofs.EveryPart.{all_parts, part_number, part_at}
 use Rattle.std.proofs.lemmas.Bool.Decides.{nat_tests}
 use Rattle.ckc_parser_grammar.proofs.Spellings.{spelled, sample_kind}
-use Rattle.ckc_parser_grammar.specs.Reading.{pick}
+use Rattle.ckc_parser_grammar.specs.code.Reading.{pick}
 
 -- the kinds that begin a list of symbols, and whether it may be empty
 abbrev pub begin_all : List Symbol → Kind → Bool
@@ -189,3 +190,24 @@ same_kind c d h = sym (kind_at c) ∙ ap (λ i. get_or all_kinds i kind.End) (sa
 
 pub is_number : (c : Kind) → (number c == number c) ≡ true
 is_number c = grind (arith, nat_tests)
+
+-- a token may stand for a terminal exactly where the parser's test says so
+pub fits_of : {x : Terminal} {c : Kind} → Fits x c → fits x c ≡ true
+fits_of {x = one k} {c = c} h = subst (λ d. (number k == number d) ≡ true) (sym h) (is_number k)
+fits_of {x = name} h = h
+fits_of {x = greater} h = h
+fits_of {x = sign} h = h
+fits_of {x = operator} h = h
+fits_of {x = literal} h = h
+fits_of {x = name_but_calloc} h = h
+fits_of {x = name_but_unknown} h = h
+
+pub of_fits : {x : Terminal} {c : Kind} → fits x c ≡ true → Fits x c
+of_fits {x = one k} {c = c} h = sym (same_kind k c h)
+of_fits {x = name} h = h
+of_fits {x = greater} h = h
+of_fits {x = sign} h = h
+of_fits {x = operator} h = h
+of_fits {x = literal} h = h
+of_fits {x = name_but_calloc} h = h
+of_fits {x = name_but_unknown} h = h

@@ -2,7 +2,7 @@
 use Rattle.std.specs.Prelude.{◌≡◌, ℕ, List, [], ◌∷◌, ◌++◌, true}
 use Rattle.ckc_syntax.specs.Spelled.{Spelled}
 use Rattle.ckc_parser_grammar.specs.declared.kind.Kind.{Kind}
-use Rattle.ckc_parser_grammar.specs.Grammar.{Terminal, Part, Symbol, t, n, Rule, left, right, fits, allowed}
+use Rattle.ckc_parser_grammar.specs.Grammar.{Terminal, Part, Symbol, t, n, Rule, left, right, Fits, allowed}
 use Rattle.ckc_parser_grammar.specs.Values.{Value, token, made}
 
 -- a token with its kind
@@ -20,7 +20,7 @@ before (x ∷ xs) last = x.kind
 pub data Derives : List Symbol → List Sign → Kind → List Value → Type 0 where
   nil : {next : Kind} → Derives [] [] next []
   read : {c : Terminal} {ss : List Symbol} {x : Sign} {xs : List Sign} {next : Kind} {vs : List Value} →
-      fits c x.kind ≡ true → Derives ss xs next vs → Derives (t c ∷ ss) (x ∷ xs) next (token x.token ∷ vs)
+      Fits c x.kind → Derives ss xs next vs → Derives (t c ∷ ss) (x ∷ xs) next (token x.token ∷ vs)
   by : {p : Part} {ss : List Symbol} {zs : List Sign} {next : Kind} {u : Value} {vs : List Value} →
       (r : Rule) (xs ys : List Sign) (ws : List Value) →
       left r ≡ p → Derives (right r) xs (before ys next) ws → allowed r (before ys next) ≡ true → made r ws ≡ u →

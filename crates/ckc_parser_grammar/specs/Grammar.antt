@@ -1,8 +1,8 @@
 -- The grammar as data: each production is a rule, with the part that it makes and the symbols that it is made of.
-use Rattle.std.specs.Prelude.{List, [], ◌∷◌, Bool, true, false, ◌==◌}
+use Rattle.std.specs.Prelude.{◌≡◌, List, [], ◌∷◌, Bool, true, false}
 use Rattle.ckc_parser_grammar.specs.declared.kind.Kind.{Kind}
 use Rattle.ckc_parser_grammar.specs.declared.kind.Kind.TheVariants as kind
-use Rattle.ckc_parser_grammar.specs.Kinds.{number, is_sign, is_operator, is_literal}
+use Rattle.ckc_parser_grammar.specs.Kinds.{is_sign, is_operator, is_literal}
 
 -- What one token is: of one kind; a name, also one that has a meaning in some places; a `>`; a sign before an
 -- operand; a binary operator but `<` and `>`; a number or character; a name but `calloc`, or but `unknown`.
@@ -39,15 +39,15 @@ is_greater kind.GreaterNext = true
 is_greater _ = false
 
 -- a token of the kind may stand for the terminal
-abbrev pub fits : Terminal → Kind → Bool
-fits (one k) c = number k == number c
-fits name c = is_name c
-fits greater c = is_greater c
-fits sign c = is_sign c
-fits operator c = is_operator c
-fits literal c = is_literal c
-fits name_but_calloc c = is_name_but_calloc c
-fits name_but_unknown c = is_name_but_unknown c
+abbrev pub Fits : Terminal → Kind → Type 0
+Fits (one k) c = c ≡ k
+Fits name c = is_name c ≡ true
+Fits greater c = is_greater c ≡ true
+Fits sign c = is_sign c ≡ true
+Fits operator c = is_operator c ≡ true
+Fits literal c = is_literal c ≡ true
+Fits name_but_calloc c = is_name_but_calloc c ≡ true
+Fits name_but_unknown c = is_name_but_unknown c ≡ true
 
 -- the parts of a text
 pub data Part : Type 0 where
@@ -303,402 +303,239 @@ pub data Rule : Type 0 where
   Null : Rule
   Eof : Rule
 
--- the part that a production makes
-abbrev pub left : Rule → Part
-left Text = text
-left Directive = items
-left Structure = items
-left Static = items
-left Declaration = items
-left NoItems = items
-left Tag = structure
-left Members = structure
-left Structured = structure
-left StaticStruct = declaration
-left StaticOther = declaration
-left Moded = declared
-left Voided = declared
-left Based = declared
-left Declarators = declarators
-left Headed = declarator
-left Objects = declarator
-left MoreObjects = objects
-left NoObjects = objects
-left Object = object
-left ObjectRest = object_rest
-left RawArray = array
-left CheckedArray = array
-left NtArray = array
-left NoArray = array
-left Size = size
-left NoSize = size
-left Initial = initial
-left NoInitial = initial
-left ListInitial = initializer
-left OneInitial = initializer
-left ListComma = list_rest
-left ListEnd = list_rest
-left ListClose = list_more
-left ListNext = list_more
-left Head = head
-left Prototype = body
-left Body = body
-left NoParams = params
-left VoidParams = params
-left Params = params
-left MoreParams = more_params
-left EndParams = more_params
-left Param = param
-left CheckedMode = mode
-left UncheckedMode = mode
-left VoidResult = result_type
-left OtherResult = result_type
-left MoreMembers = members
-left NoMembers = members
-left Member = member
-left Slot = slot
-left MoreSlots = slots
-left NoSlots = slots
-left DeclaredLimits = declared_limits
-left NoLimits = declared_limits
-left StructBase = base
-left Scalar = base
-left Int = scalar
-left Unsigned = scalar
-left Char = scalar
-left OnePointer = scalar
-left ArrayPointer = scalar
-left NtPointer = scalar
-left UnsignedInt = unsigned_rest
-left UnsignedAlone = unsigned_rest
-left TypeName = type_name
-left MoreStars = stars
-left NoStars = stars
-left Count = limits
-left ByteCount = limits
-left BoundsOf = limits
-left Unknown = bounds_rest
-left BetweenNamed = bounds_rest
-left Between = bounds_rest
-left UnknownEnd = unknown_rest
-left UnknownName = unknown_rest
-left EndBlock = block_items
-left Locals = block_items
-left Stmts = block_items
-left Local = locals
-left MoreLocals = more_locals
-left NoLocals = more_locals
-left LocalName = local
-left LocalInitial = local_initial
-left NoLocalInitial = local_initial
-left CallocValue = value
-left NamedValue = value
-left Value = value
-left CallValue = named_value
-left ExprValue = named_value
-left CallocCall = calloc_value
-left CallocLess = calloc_value
-left CallocPost = calloc_value
-left CallocStep = calloc_value
-left CallocName = calloc_value
-left LessOperand = less
-left LessType = less
-left NoArguments = arguments
-left Arguments = arguments
-left MoreArguments = more_arguments
-left EndArguments = more_arguments
-left Allocation = allocation
-left Assign = assign
-left ModedBlock = stmt
-left Block = stmt
-left Empty = stmt
-left If = stmt
-left While = stmt
-left For = stmt
-left Return = stmt
-left Break = stmt
-left Continue = stmt
-left Check = stmt
-left Bundle = stmt
-left CallocStmt = stmt
-left NamedStmt = stmt
-left AssignStmt = stmt
-left CallocTypeStmt = calloc_stmt
-left CallocNameStmt = calloc_stmt
-left CallStmt = named_stmt
-left NamedAssign = named_stmt
-left Else = otherwise
-left NoElse = otherwise
-left NoCondition = condition
-left Condition = condition
-left NoStart = for_start
-left LocalStart = for_start
-left AssignStart = for_start
-left NoStep = for_step
-left AssignStep = for_step
-left EndAssigns = assigns
-left Assigns = assigns
-left Expr = expr
-left ExprRest = expr_rest
-left Choice = choice
-left NoChoice = choice
-left Step = tail
-left NoTail = tail
-left LessOperation = operation
-left OtherOperation = operation
-left Operator = operation_but_less
-left Greater = operation_but_less
-left Second = second
-left NoSecond = second
-left Named = unary
-left Unnamed = unary
-left Signed = first
-left Round = first
-left Sizeof = first
-left Postfix = first
-left Paren = round
-left Cast = round
-left Posts = posts
-left NoPosts = posts
-left Index = post
-left Dot = post
-left Arrow = post
-left Constant = primary
-left Tested = primary
-left Trusted = primary
-left BoundsCast = bounds_cast
-left CastLimits = cast_limits
-left NoCastLimits = cast_limits
-left Literal = constant
-left String = constant
-left Null = constant
-left Eof = constant
-
--- what a production is made of
-abbrev pub right : Rule → List Symbol
+-- A production: the part that it makes, and what it is made of.
+abbrev pub production : Rule → Part × List Symbol
 -- text = { directive | "struct" name ";" | struct | [ "static" ] ( statics | proto | func ) }
-right Text = n items ∷ []
-right Directive = k kind.Directive ∷ n items ∷ []
-right Structure = k kind.Struct ∷ t name ∷ n structure ∷ n items ∷ []
-right Static = k kind.Static ∷ n declaration ∷ n items ∷ []
-right Declaration = n declared ∷ n items ∷ []
-right NoItems = []
+production Text = (text, n items ∷ [])
+production Directive = (items, k kind.Directive ∷ n items ∷ [])
+production Structure = (items, k kind.Struct ∷ t name ∷ n structure ∷ n items ∷ [])
+production Static = (items, k kind.Static ∷ n declaration ∷ n items ∷ [])
+production Declaration = (items, n declared ∷ n items ∷ [])
+production NoItems = (items, [])
 -- Behind `struct` and a name: the `;` of a tag line, the members of a structure, or what is declared with that type
 -- as its base. Each starts with another token, so the choice is made there.
-right Tag = k kind.Semicolon ∷ []
-right Members = k kind.CurlyOpen ∷ n member ∷ n members ∷ k kind.CurlyClose ∷ k kind.Semicolon ∷ []
-right Structured = n declarators ∷ []
+production Tag = (structure, k kind.Semicolon ∷ [])
+production Members = (structure, k kind.CurlyOpen ∷ n member ∷ n members ∷ k kind.CurlyClose ∷ k kind.Semicolon ∷ [])
+production Structured = (structure, n declarators ∷ [])
 -- Behind `static`: no tag line and no structure.
-right StaticStruct = k kind.Struct ∷ t name ∷ n declarators ∷ []
-right StaticOther = n declared ∷ []
+production StaticStruct = (declaration, k kind.Struct ∷ t name ∷ n declarators ∷ [])
+production StaticOther = (declaration, n declared ∷ [])
 -- statics | proto | func, unless a structure is the base: a head with a mode or with the result `void`, or a base
 -- with what is declared.
-right Moded = n mode ∷ n result_type ∷ t name ∷ n head ∷ []
-right Voided = k kind.Void ∷ t name ∷ n head ∷ []
-right Based = n scalar ∷ n declarators ∷ []
+production Moded = (declared, n mode ∷ n result_type ∷ t name ∷ n head ∷ [])
+production Voided = (declared, k kind.Void ∷ t name ∷ n head ∷ [])
+production Based = (declared, n scalar ∷ n declarators ∷ [])
 -- Behind a base: stars and a name; then a head goes on at `(`, and everything else is an object with more objects.
 -- statics = base object { "," object } ";"
-right Declarators = n stars ∷ t name ∷ n declarator ∷ []
-right Headed = n head ∷ []
-right Objects = n object_rest ∷ n objects ∷ []
-right MoreObjects = k kind.Comma ∷ n object ∷ n objects ∷ []
-right NoObjects = k kind.Semicolon ∷ []
+production Declarators = (declarators, n stars ∷ t name ∷ n declarator ∷ [])
+production Headed = (declarator, n head ∷ [])
+production Objects = (declarator, n object_rest ∷ n objects ∷ [])
+production MoreObjects = (objects, k kind.Comma ∷ n object ∷ n objects ∷ [])
+production NoObjects = (objects, k kind.Semicolon ∷ [])
 -- object = stars name [ array ] [ ":" limits ] [ "=" ( expr | "{" expr { "," expr } [ "," ] "}" ) ]
-right Object = n stars ∷ t name ∷ n object_rest ∷ []
-right ObjectRest = n array ∷ n declared_limits ∷ n initial ∷ []
+production Object = (object, n stars ∷ t name ∷ n object_rest ∷ [])
+production ObjectRest = (object_rest, n array ∷ n declared_limits ∷ n initial ∷ [])
 -- array = [ "_Checked" | "_Nt_checked" ] "[" [ number ] "]"
-right RawArray = k kind.SquareOpen ∷ n size ∷ k kind.SquareClose ∷ []
-right CheckedArray = k kind.Checked ∷ k kind.SquareOpen ∷ n size ∷ k kind.SquareClose ∷ []
-right NtArray = k kind.NtChecked ∷ k kind.SquareOpen ∷ n size ∷ k kind.SquareClose ∷ []
-right NoArray = []
-right Size = k kind.Number ∷ []
-right NoSize = []
-right Initial = k kind.Equals ∷ n initializer ∷ []
-right NoInitial = []
-right ListInitial = k kind.CurlyOpen ∷ n expr ∷ n list_rest ∷ []
-right OneInitial = n expr ∷ []
+production RawArray = (array, k kind.SquareOpen ∷ n size ∷ k kind.SquareClose ∷ [])
+production CheckedArray = (array, k kind.Checked ∷ k kind.SquareOpen ∷ n size ∷ k kind.SquareClose ∷ [])
+production NtArray = (array, k kind.NtChecked ∷ k kind.SquareOpen ∷ n size ∷ k kind.SquareClose ∷ [])
+production NoArray = (array, [])
+production Size = (size, k kind.Number ∷ [])
+production NoSize = (size, [])
+production Initial = (initial, k kind.Equals ∷ n initializer ∷ [])
+production NoInitial = (initial, [])
+production ListInitial = (initializer, k kind.CurlyOpen ∷ n expr ∷ n list_rest ∷ [])
+production OneInitial = (initializer, n expr ∷ [])
 -- Behind an expression of a list: a `,`, behind which the list may end, or the end.
-right ListComma = k kind.Comma ∷ n list_more ∷ []
-right ListEnd = k kind.CurlyClose ∷ []
-right ListClose = k kind.CurlyClose ∷ []
-right ListNext = n expr ∷ n list_rest ∷ []
+production ListComma = (list_rest, k kind.Comma ∷ n list_more ∷ [])
+production ListEnd = (list_rest, k kind.CurlyClose ∷ [])
+production ListClose = (list_more, k kind.CurlyClose ∷ [])
+production ListNext = (list_more, n expr ∷ n list_rest ∷ [])
 -- proto = head ";" and func = head block, where
 -- head = [ mode ] ( "void" | base stars ) name "(" [ "void" | param { "," param } ] ")" [ ":" limits ].
 -- The part `head` is what stands behind the name, with the `;` or the block.
-right Head = k kind.RoundOpen ∷ n params ∷ n declared_limits ∷ n body ∷ []
-right Prototype = k kind.Semicolon ∷ []
-right Body = k kind.CurlyOpen ∷ n block_items ∷ []
-right NoParams = k kind.RoundClose ∷ []
-right VoidParams = k kind.Void ∷ k kind.RoundClose ∷ []
-right Params = n param ∷ n more_params ∷ []
-right MoreParams = k kind.Comma ∷ n param ∷ n more_params ∷ []
-right EndParams = k kind.RoundClose ∷ []
+production Head = (head, k kind.RoundOpen ∷ n params ∷ n declared_limits ∷ n body ∷ [])
+production Prototype = (body, k kind.Semicolon ∷ [])
+production Body = (body, k kind.CurlyOpen ∷ n block_items ∷ [])
+production NoParams = (params, k kind.RoundClose ∷ [])
+production VoidParams = (params, k kind.Void ∷ k kind.RoundClose ∷ [])
+production Params = (params, n param ∷ n more_params ∷ [])
+production MoreParams = (more_params, k kind.Comma ∷ n param ∷ n more_params ∷ [])
+production EndParams = (more_params, k kind.RoundClose ∷ [])
 -- param = base stars name [ ":" limits ]
-right Param = n base ∷ n slot ∷ []
+production Param = (param, n base ∷ n slot ∷ [])
 -- mode = "_Checked" | "_Unchecked"
-right CheckedMode = k kind.Checked ∷ []
-right UncheckedMode = k kind.Unchecked ∷ []
-right VoidResult = k kind.Void ∷ []
-right OtherResult = n type_name ∷ []
+production CheckedMode = (mode, k kind.Checked ∷ [])
+production UncheckedMode = (mode, k kind.Unchecked ∷ [])
+production VoidResult = (result_type, k kind.Void ∷ [])
+production OtherResult = (result_type, n type_name ∷ [])
 -- member = base stars name [ ":" limits ] { "," stars name [ ":" limits ] } ";"
-right MoreMembers = n member ∷ n members ∷ []
-right NoMembers = []
-right Member = n base ∷ n slot ∷ n slots ∷ []
-right Slot = n stars ∷ t name ∷ n declared_limits ∷ []
-right MoreSlots = k kind.Comma ∷ n slot ∷ n slots ∷ []
-right NoSlots = k kind.Semicolon ∷ []
+production MoreMembers = (members, n member ∷ n members ∷ [])
+production NoMembers = (members, [])
+production Member = (member, n base ∷ n slot ∷ n slots ∷ [])
+production Slot = (slot, n stars ∷ t name ∷ n declared_limits ∷ [])
+production MoreSlots = (slots, k kind.Comma ∷ n slot ∷ n slots ∷ [])
+production NoSlots = (slots, k kind.Semicolon ∷ [])
 -- [ ":" limits ]
-right DeclaredLimits = k kind.Colon ∷ n limits ∷ []
-right NoLimits = []
+production DeclaredLimits = (declared_limits, k kind.Colon ∷ n limits ∷ [])
+production NoLimits = (declared_limits, [])
 -- base = "int" | "unsigned" [ "int" ] | "char" | "struct" name
 --      | ( "_Ptr" | "_Array_ptr" | "_Nt_array_ptr" ) "<" type ">"
-right StructBase = k kind.Struct ∷ t name ∷ []
-right Scalar = n scalar ∷ []
-right Int = k kind.Int ∷ []
-right Unsigned = k kind.Unsigned ∷ n unsigned_rest ∷ []
-right Char = k kind.Char ∷ []
-right OnePointer = k kind.Ptr ∷ k kind.Less ∷ n type_name ∷ t greater ∷ []
-right ArrayPointer = k kind.ArrayPtr ∷ k kind.Less ∷ n type_name ∷ t greater ∷ []
-right NtPointer = k kind.NtArrayPtr ∷ k kind.Less ∷ n type_name ∷ t greater ∷ []
-right UnsignedInt = k kind.Int ∷ []
-right UnsignedAlone = []
+production StructBase = (base, k kind.Struct ∷ t name ∷ [])
+production Scalar = (base, n scalar ∷ [])
+production Int = (scalar, k kind.Int ∷ [])
+production Unsigned = (scalar, k kind.Unsigned ∷ n unsigned_rest ∷ [])
+production Char = (scalar, k kind.Char ∷ [])
+production OnePointer = (scalar, k kind.Ptr ∷ k kind.Less ∷ n type_name ∷ t greater ∷ [])
+production ArrayPointer = (scalar, k kind.ArrayPtr ∷ k kind.Less ∷ n type_name ∷ t greater ∷ [])
+production NtPointer = (scalar, k kind.NtArrayPtr ∷ k kind.Less ∷ n type_name ∷ t greater ∷ [])
+production UnsignedInt = (unsigned_rest, k kind.Int ∷ [])
+production UnsignedAlone = (unsigned_rest, [])
 -- type = base stars and stars = { "*" }
-right TypeName = n base ∷ n stars ∷ []
-right MoreStars = k kind.Star ∷ n stars ∷ []
-right NoStars = []
+production TypeName = (type_name, n base ∷ n stars ∷ [])
+production MoreStars = (stars, k kind.Star ∷ n stars ∷ [])
+production NoStars = (stars, [])
 -- limits = "count" "(" expr ")" | "byte_count" "(" expr ")" | "bounds" "(" ( "unknown" | expr "," expr ) ")"
-right Count = k kind.Count ∷ k kind.RoundOpen ∷ n expr ∷ k kind.RoundClose ∷ []
-right ByteCount = k kind.ByteCount ∷ k kind.RoundOpen ∷ n expr ∷ k kind.RoundClose ∷ []
-right BoundsOf = k kind.Bounds ∷ k kind.RoundOpen ∷ n bounds_rest ∷ []
+production Count = (limits, k kind.Count ∷ k kind.RoundOpen ∷ n expr ∷ k kind.RoundClose ∷ [])
+production ByteCount = (limits, k kind.ByteCount ∷ k kind.RoundOpen ∷ n expr ∷ k kind.RoundClose ∷ [])
+production BoundsOf = (limits, k kind.Bounds ∷ k kind.RoundOpen ∷ n bounds_rest ∷ [])
 -- Behind `bounds (`: `unknown` alone, or an expression that begins with the name `unknown`, with another name, or
 -- with no name.
-right Unknown = k kind.Unknown ∷ n unknown_rest ∷ []
-right BetweenNamed = t name_but_unknown ∷ n posts ∷ n expr_rest ∷ k kind.Comma ∷ n expr ∷ k kind.RoundClose ∷ []
-right Between = n first ∷ n expr_rest ∷ k kind.Comma ∷ n expr ∷ k kind.RoundClose ∷ []
-right UnknownEnd = k kind.RoundClose ∷ []
-right UnknownName = n posts ∷ n expr_rest ∷ k kind.Comma ∷ n expr ∷ k kind.RoundClose ∷ []
+production Unknown = (bounds_rest, k kind.Unknown ∷ n unknown_rest ∷ [])
+production BetweenNamed = (bounds_rest, t name_but_unknown ∷ n posts ∷ n expr_rest ∷ k kind.Comma ∷ n expr ∷ k kind.RoundClose ∷ [])
+production Between = (bounds_rest, n first ∷ n expr_rest ∷ k kind.Comma ∷ n expr ∷ k kind.RoundClose ∷ [])
+production UnknownEnd = (unknown_rest, k kind.RoundClose ∷ [])
+production UnknownName = (unknown_rest, n posts ∷ n expr_rest ∷ k kind.Comma ∷ n expr ∷ k kind.RoundClose ∷ [])
 -- block = "{" { local ";" | stmt } "}", behind its `{`
-right EndBlock = k kind.CurlyClose ∷ []
-right Locals = n locals ∷ n block_items ∷ []
-right Stmts = n stmt ∷ n block_items ∷ []
+production EndBlock = (block_items, k kind.CurlyClose ∷ [])
+production Locals = (block_items, n locals ∷ n block_items ∷ [])
+production Stmts = (block_items, n stmt ∷ n block_items ∷ [])
 -- local = base lname { "," lname } and its ";"
-right Local = n base ∷ n local ∷ n more_locals ∷ []
-right MoreLocals = k kind.Comma ∷ n local ∷ n more_locals ∷ []
-right NoLocals = k kind.Semicolon ∷ []
+production Local = (locals, n base ∷ n local ∷ n more_locals ∷ [])
+production MoreLocals = (more_locals, k kind.Comma ∷ n local ∷ n more_locals ∷ [])
+production NoLocals = (more_locals, k kind.Semicolon ∷ [])
 -- lname = stars name [ ":" limits ] [ "=" right ]
-right LocalName = n stars ∷ t name ∷ n declared_limits ∷ n local_initial ∷ []
-right LocalInitial = k kind.Equals ∷ n value ∷ []
-right NoLocalInitial = []
+production LocalName = (local, n stars ∷ t name ∷ n declared_limits ∷ n local_initial ∷ [])
+production LocalInitial = (local_initial, k kind.Equals ∷ n value ∷ [])
+production NoLocalInitial = (local_initial, [])
 -- right = expr | call, as the part `value`: a name may begin both, and so may `calloc`.
-right CallocValue = k kind.Calloc ∷ n calloc_value ∷ []
-right NamedValue = t name_but_calloc ∷ n named_value ∷ []
-right Value = n first ∷ n expr_rest ∷ []
-right CallValue = k kind.RoundOpen ∷ n arguments ∷ []
-right ExprValue = n posts ∷ n expr_rest ∷ []
+production CallocValue = (value, k kind.Calloc ∷ n calloc_value ∷ [])
+production NamedValue = (value, t name_but_calloc ∷ n named_value ∷ [])
+production Value = (value, n first ∷ n expr_rest ∷ [])
+production CallValue = (named_value, k kind.RoundOpen ∷ n arguments ∷ [])
+production ExprValue = (named_value, n posts ∷ n expr_rest ∷ [])
 -- Behind `calloc` in a value: the arguments of a call; a `<`, which begins a type or is an operator; or what goes on
 -- with the name `calloc` as an expression, by a post, by another operator, or without both.
-right CallocCall = k kind.RoundOpen ∷ n arguments ∷ []
-right CallocLess = k kind.Less ∷ n less ∷ []
-right CallocPost = n post ∷ n posts ∷ n expr_rest ∷ []
-right CallocStep = n operation_but_less ∷ n unary ∷ n expr_rest ∷ []
-right CallocName = n choice ∷ []
-right LessOperand = n unary ∷ n expr_rest ∷ []
-right LessType = n allocation ∷ []
+production CallocCall = (calloc_value, k kind.RoundOpen ∷ n arguments ∷ [])
+production CallocLess = (calloc_value, k kind.Less ∷ n less ∷ [])
+production CallocPost = (calloc_value, n post ∷ n posts ∷ n expr_rest ∷ [])
+production CallocStep = (calloc_value, n operation_but_less ∷ n unary ∷ n expr_rest ∷ [])
+production CallocName = (calloc_value, n choice ∷ [])
+production LessOperand = (less, n unary ∷ n expr_rest ∷ [])
+production LessType = (less, n allocation ∷ [])
 -- call = name "(" [ expr { "," expr } ] ")" | "calloc" "<" type ">" "(" expr "," "sizeof" "(" type ")" ")",
 -- behind `(` and behind `<`
-right NoArguments = k kind.RoundClose ∷ []
-right Arguments = n expr ∷ n more_arguments ∷ []
-right MoreArguments = k kind.Comma ∷ n expr ∷ n more_arguments ∷ []
-right EndArguments = k kind.RoundClose ∷ []
-right Allocation = n type_name ∷ t greater ∷ k kind.RoundOpen ∷ n expr ∷ k kind.Comma ∷ k kind.Sizeof ∷ k kind.RoundOpen ∷ n type_name ∷ k kind.RoundClose ∷ k kind.RoundClose ∷ []
+production NoArguments = (arguments, k kind.RoundClose ∷ [])
+production Arguments = (arguments, n expr ∷ n more_arguments ∷ [])
+production MoreArguments = (more_arguments, k kind.Comma ∷ n expr ∷ n more_arguments ∷ [])
+production EndArguments = (more_arguments, k kind.RoundClose ∷ [])
+production Allocation = (allocation, n type_name ∷ t greater ∷ k kind.RoundOpen ∷ n expr ∷ k kind.Comma ∷ k kind.Sizeof ∷ k kind.RoundOpen ∷ n type_name ∷ k kind.RoundClose ∷ k kind.RoundClose ∷ [])
 -- assign = unary "=" right
-right Assign = n unary ∷ k kind.Equals ∷ n value ∷ []
+production Assign = (assign, n unary ∷ k kind.Equals ∷ n value ∷ [])
 -- stmt = [ mode ] block | ";" | assign ";" | call ";" | "if" "(" expr ")" stmt [ "else" stmt ]
 --      | "while" "(" expr ")" stmt | "for" "(" [ base lname | assign ] ";" [ expr ] ";" [ assign ] ")" stmt
 --      | "return" [ expr ] ";" | "break" ";" | "continue" ";" | "_Dynamic_check" "(" expr ")" ";"
 --      | "_Bundled" "{" assign ";" assign ";" { assign ";" } "}"
-right ModedBlock = n mode ∷ k kind.CurlyOpen ∷ n block_items ∷ []
-right Block = k kind.CurlyOpen ∷ n block_items ∷ []
-right Empty = k kind.Semicolon ∷ []
-right If = k kind.If ∷ k kind.RoundOpen ∷ n expr ∷ k kind.RoundClose ∷ n stmt ∷ n otherwise ∷ []
-right While = k kind.While ∷ k kind.RoundOpen ∷ n expr ∷ k kind.RoundClose ∷ n stmt ∷ []
-right For = k kind.For ∷ k kind.RoundOpen ∷ n for_start ∷ n condition ∷ n for_step ∷ n stmt ∷ []
-right Return = k kind.Return ∷ n condition ∷ []
-right Break = k kind.Break ∷ k kind.Semicolon ∷ []
-right Continue = k kind.Continue ∷ k kind.Semicolon ∷ []
-right Check = k kind.Check ∷ k kind.RoundOpen ∷ n expr ∷ k kind.RoundClose ∷ k kind.Semicolon ∷ []
-right Bundle = k kind.Bundled ∷ k kind.CurlyOpen ∷ n assign ∷ k kind.Semicolon ∷ n assign ∷ k kind.Semicolon ∷ n assigns ∷ []
-right CallocStmt = k kind.Calloc ∷ n calloc_stmt ∷ []
-right NamedStmt = t name_but_calloc ∷ n named_stmt ∷ []
-right AssignStmt = n first ∷ k kind.Equals ∷ n value ∷ k kind.Semicolon ∷ []
+production ModedBlock = (stmt, n mode ∷ k kind.CurlyOpen ∷ n block_items ∷ [])
+production Block = (stmt, k kind.CurlyOpen ∷ n block_items ∷ [])
+production Empty = (stmt, k kind.Semicolon ∷ [])
+production If = (stmt, k kind.If ∷ k kind.RoundOpen ∷ n expr ∷ k kind.RoundClose ∷ n stmt ∷ n otherwise ∷ [])
+production While = (stmt, k kind.While ∷ k kind.RoundOpen ∷ n expr ∷ k kind.RoundClose ∷ n stmt ∷ [])
+production For = (stmt, k kind.For ∷ k kind.RoundOpen ∷ n for_start ∷ n condition ∷ n for_step ∷ n stmt ∷ [])
+production Return = (stmt, k kind.Return ∷ n condition ∷ [])
+production Break = (stmt, k kind.Break ∷ k kind.Semicolon ∷ [])
+production Continue = (stmt, k kind.Continue ∷ k kind.Semicolon ∷ [])
+production Check = (stmt, k kind.Check ∷ k kind.RoundOpen ∷ n expr ∷ k kind.RoundClose ∷ k kind.Semicolon ∷ [])
+production Bundle = (stmt, k kind.Bundled ∷ k kind.CurlyOpen ∷ n assign ∷ k kind.Semicolon ∷ n assign ∷ k kind.Semicolon ∷ n assigns ∷ [])
+production CallocStmt = (stmt, k kind.Calloc ∷ n calloc_stmt ∷ [])
+production NamedStmt = (stmt, t name_but_calloc ∷ n named_stmt ∷ [])
+production AssignStmt = (stmt, n first ∷ k kind.Equals ∷ n value ∷ k kind.Semicolon ∷ [])
 -- Behind a name that begins a statement: a call goes on at `(`, an assignment with posts and `=`. Behind `calloc` a
 -- call goes on also at `<`, since no assignment does.
-right CallocTypeStmt = k kind.Less ∷ n allocation ∷ k kind.Semicolon ∷ []
-right CallocNameStmt = n named_stmt ∷ []
-right CallStmt = k kind.RoundOpen ∷ n arguments ∷ k kind.Semicolon ∷ []
-right NamedAssign = n posts ∷ k kind.Equals ∷ n value ∷ k kind.Semicolon ∷ []
+production CallocTypeStmt = (calloc_stmt, k kind.Less ∷ n allocation ∷ k kind.Semicolon ∷ [])
+production CallocNameStmt = (calloc_stmt, n named_stmt ∷ [])
+production CallStmt = (named_stmt, k kind.RoundOpen ∷ n arguments ∷ k kind.Semicolon ∷ [])
+production NamedAssign = (named_stmt, n posts ∷ k kind.Equals ∷ n value ∷ k kind.Semicolon ∷ [])
 -- An `if` without `else` does not stand before `else`.
-right Else = k kind.Else ∷ n stmt ∷ []
-right NoElse = []
+production Else = (otherwise, k kind.Else ∷ n stmt ∷ [])
+production NoElse = (otherwise, [])
 -- [ expr ] ";"
-right NoCondition = k kind.Semicolon ∷ []
-right Condition = n expr ∷ k kind.Semicolon ∷ []
+production NoCondition = (condition, k kind.Semicolon ∷ [])
+production Condition = (condition, n expr ∷ k kind.Semicolon ∷ [])
 -- [ base lname | assign ] ";"
-right NoStart = k kind.Semicolon ∷ []
-right LocalStart = n base ∷ n local ∷ k kind.Semicolon ∷ []
-right AssignStart = n assign ∷ k kind.Semicolon ∷ []
+production NoStart = (for_start, k kind.Semicolon ∷ [])
+production LocalStart = (for_start, n base ∷ n local ∷ k kind.Semicolon ∷ [])
+production AssignStart = (for_start, n assign ∷ k kind.Semicolon ∷ [])
 -- [ assign ] ")"
-right NoStep = k kind.RoundClose ∷ []
-right AssignStep = n assign ∷ k kind.RoundClose ∷ []
+production NoStep = (for_step, k kind.RoundClose ∷ [])
+production AssignStep = (for_step, n assign ∷ k kind.RoundClose ∷ [])
 -- { assign ";" } "}"
-right EndAssigns = k kind.CurlyClose ∷ []
-right Assigns = n assign ∷ k kind.Semicolon ∷ n assigns ∷ []
+production EndAssigns = (assigns, k kind.CurlyClose ∷ [])
+production Assigns = (assigns, n assign ∷ k kind.Semicolon ∷ n assigns ∷ [])
 -- expr = binary [ "?" expr ":" expr ]
-right Expr = n unary ∷ n expr_rest ∷ []
-right ExprRest = n tail ∷ n choice ∷ []
-right Choice = k kind.Question ∷ n expr ∷ k kind.Colon ∷ n expr ∷ []
-right NoChoice = []
+production Expr = (expr, n unary ∷ n expr_rest ∷ [])
+production ExprRest = (expr_rest, n tail ∷ n choice ∷ [])
+production Choice = (choice, k kind.Question ∷ n expr ∷ k kind.Colon ∷ n expr ∷ [])
+production NoChoice = (choice, [])
 -- binary = operands joined by operators: the operators are read in a row, and the value joins the operands by how
 -- tight the operators are.
-right Step = n operation ∷ n unary ∷ n tail ∷ []
-right NoTail = []
-right LessOperation = k kind.Less ∷ []
-right OtherOperation = n operation_but_less ∷ []
+production Step = (tail, n operation ∷ n unary ∷ n tail ∷ [])
+production NoTail = (tail, [])
+production LessOperation = (operation, k kind.Less ∷ [])
+production OtherOperation = (operation, n operation_but_less ∷ [])
 -- the operators but `<`: `>>` is a `>` with another directly behind it
-right Operator = t operator ∷ []
-right Greater = t greater ∷ n second ∷ []
-right Second = k kind.GreaterNext ∷ []
-right NoSecond = []
+production Operator = (operation_but_less, t operator ∷ [])
+production Greater = (operation_but_less, t greater ∷ n second ∷ [])
+production Second = (second, k kind.GreaterNext ∷ [])
+production NoSecond = (second, [])
 -- unary = ( "-" | "+" | "!" | "~" | "*" | "&" ) unary | "(" type ")" unary | "sizeof" "(" type ")" | postfix,
 -- where a name begins a postfix and `first` is everything that begins with no name
-right Named = t name ∷ n posts ∷ []
-right Unnamed = n first ∷ []
-right Signed = t sign ∷ n unary ∷ []
-right Round = k kind.RoundOpen ∷ n round ∷ []
-right Sizeof = k kind.Sizeof ∷ k kind.RoundOpen ∷ n type_name ∷ k kind.RoundClose ∷ []
-right Postfix = n primary ∷ n posts ∷ []
+production Named = (unary, t name ∷ n posts ∷ [])
+production Unnamed = (unary, n first ∷ [])
+production Signed = (first, t sign ∷ n unary ∷ [])
+production Round = (first, k kind.RoundOpen ∷ n round ∷ [])
+production Sizeof = (first, k kind.Sizeof ∷ k kind.RoundOpen ∷ n type_name ∷ k kind.RoundClose ∷ [])
+production Postfix = (first, n primary ∷ n posts ∷ [])
 -- Behind `(`: a base begins the type of a cast, everything else an expression.
-right Paren = n expr ∷ k kind.RoundClose ∷ n posts ∷ []
-right Cast = n type_name ∷ k kind.RoundClose ∷ n unary ∷ []
+production Paren = (round, n expr ∷ k kind.RoundClose ∷ n posts ∷ [])
+production Cast = (round, n type_name ∷ k kind.RoundClose ∷ n unary ∷ [])
 -- postfix = primary { "[" expr "]" | "." name | "->" name }
-right Posts = n post ∷ n posts ∷ []
-right NoPosts = []
-right Index = k kind.SquareOpen ∷ n expr ∷ k kind.SquareClose ∷ []
-right Dot = k kind.Dot ∷ t name ∷ []
-right Arrow = k kind.Arrow ∷ t name ∷ []
+production Posts = (posts, n post ∷ n posts ∷ [])
+production NoPosts = (posts, [])
+production Index = (post, k kind.SquareOpen ∷ n expr ∷ k kind.SquareClose ∷ [])
+production Dot = (post, k kind.Dot ∷ t name ∷ [])
+production Arrow = (post, k kind.Arrow ∷ t name ∷ [])
 -- primary = name | number | character | string | "NULL" | "EOF" | "(" expr ")"
 --         | ( "_Dynamic_bounds_cast" | "_Assume_bounds_cast" ) "<" type ">" "(" expr [ "," limits ] ")"
-right Constant = n constant ∷ []
-right Tested = k kind.Tested ∷ n bounds_cast ∷ []
-right Trusted = k kind.Trusted ∷ n bounds_cast ∷ []
-right BoundsCast = k kind.Less ∷ n type_name ∷ t greater ∷ k kind.RoundOpen ∷ n expr ∷ n cast_limits ∷ []
-right CastLimits = k kind.Comma ∷ n limits ∷ k kind.RoundClose ∷ []
-right NoCastLimits = k kind.RoundClose ∷ []
+production Constant = (primary, n constant ∷ [])
+production Tested = (primary, k kind.Tested ∷ n bounds_cast ∷ [])
+production Trusted = (primary, k kind.Trusted ∷ n bounds_cast ∷ [])
+production BoundsCast = (bounds_cast, k kind.Less ∷ n type_name ∷ t greater ∷ k kind.RoundOpen ∷ n expr ∷ n cast_limits ∷ [])
+production CastLimits = (cast_limits, k kind.Comma ∷ n limits ∷ k kind.RoundClose ∷ [])
+production NoCastLimits = (cast_limits, k kind.RoundClose ∷ [])
 -- number | character | string | "NULL" | "EOF"
-right Literal = t literal ∷ []
-right String = k kind.Text ∷ []
-right Null = k kind.Null ∷ []
-right Eof = k kind.Eof ∷ []
+production Literal = (constant, t literal ∷ [])
+production String = (constant, k kind.Text ∷ [])
+production Null = (constant, k kind.Null ∷ [])
+production Eof = (constant, k kind.Eof ∷ [])
+
+-- the part that a production makes
+abbrev pub left : Rule → Part
+left r = (production r).0
+
+-- what a production is made of
+abbrev pub right : Rule → List Symbol
+right r = (production r).1
 
 -- `else` goes with the nearest `if`: an `if` without one does not stand before `else`
 abbrev pub not_else : Kind → Bool

@@ -1,5 +1,6 @@
 -- What the grammar tells apart.
-use Rattle.std.specs.Prelude.{ℕ, List, [], ◌∷◌, Bool, true, false, ◌&&◌, ◌==◌, codes, if◌then◌else◌}
+use Rattle.std.specs.Prelude.{ℕ, List, [], ◌∷◌, Bool, true, false, ◌&&◌, ◌==◌, codes, if◌then◌else◌, Option, None, Some, unwrap_or}
+use Rattle.std.specs.Option.{is_some}
 use Rattle.ckc_syntax.specs.declared.tree.TreeOp.{TreeOp}
 use Rattle.ckc_syntax.specs.declared.tree.TreeOp.TheVariants as op
 use Rattle.ckc_syntax.specs.Spelled.{Spelled}
@@ -135,137 +136,55 @@ kind_by (kinds.Directive d) text = Directive
 abbrev pub kind_of_token : Spelled → Kind
 kind_of_token x = kind_by x.kind x.text
 
--- the signs before an operand
-abbrev pub sign_op : Kind → TreeOp
-sign_op Minus = op.Minus
-sign_op Plus = op.Plus
-sign_op Exclamation = op.Not
-sign_op Tilde = op.Flip
-sign_op Star = op.Deref
-sign_op Ampersand = op.Address
-sign_op _ = op.Minus
+-- the operator of a sign before an operand
+abbrev pub sign_of : Kind → Option TreeOp
+sign_of Minus = Some op.Minus
+sign_of Plus = Some op.Plus
+sign_of Exclamation = Some op.Not
+sign_of Tilde = Some op.Flip
+sign_of Star = Some op.Deref
+sign_of Ampersand = Some op.Address
+sign_of _ = Some op.Minus
+sign_of _ = None
 
+-- a token of this kind is a sign
 abbrev pub is_sign : Kind → Bool
-is_sign Minus = true
-is_sign Plus = true
-is_sign Exclamation = true
-is_sign Tilde = true
-is_sign Star = true
-is_sign Ampersand = true
-is_sign _ = false
+is_sign k = is_some (sign_of k)
 
--- the binary operators, `<` and `>` apart
-abbrev pub binary_op : Kind → TreeOp
-binary_op BarBar = op.OrElse
-binary_op AndAnd = op.AndThen
-binary_op Bar = op.Or
-binary_op Caret = op.Xor
-binary_op Ampersand = op.And
-binary_op EqualsEquals = op.Eq
-binary_op NotEquals = op.Ne
-binary_op LessEquals = op.Le
-binary_op GreaterEquals = op.Ge
-binary_op ShiftLeft = op.Shl
-binary_op Plus = op.Add
-binary_op Minus = op.Sub
-binary_op Star = op.Mul
-binary_op Slash = op.Div
-binary_op Percent = op.Rem
-binary_op _ = op.Minus
+-- the operator of a sign
+abbrev pub sign_op : Kind → TreeOp
+sign_op k = unwrap_or (sign_of k) op.Minus
 
+-- the binary operator of a token, `<` and `>` apart
+abbrev pub operator_of : Kind → Option TreeOp
+operator_of BarBar = Some op.OrElse
+operator_of AndAnd = Some op.AndThen
+operator_of Bar = Some op.Or
+operator_of Caret = Some op.Xor
+operator_of Ampersand = Some op.And
+operator_of EqualsEquals = Some op.Eq
+operator_of NotEquals = Some op.Ne
+operator_of LessEquals = Some op.Le
+operator_of GreaterEquals = Some op.Ge
+operator_of ShiftLeft = Some op.Shl
+operator_of Plus = Some op.Add
+operator_of Minus = Some op.Sub
+operator_of Star = Some op.Mul
+operator_of Slash = Some op.Div
+operator_of Percent = Some op.Rem
+operator_of _ = Some op.Minus
+operator_of _ = None
+
+-- a token of this kind is a binary operator
 abbrev pub is_operator : Kind → Bool
-is_operator BarBar = true
-is_operator AndAnd = true
-is_operator Bar = true
-is_operator Caret = true
-is_operator Ampersand = true
-is_operator EqualsEquals = true
-is_operator NotEquals = true
-is_operator LessEquals = true
-is_operator GreaterEquals = true
-is_operator ShiftLeft = true
-is_operator Plus = true
-is_operator Minus = true
-is_operator Star = true
-is_operator Slash = true
-is_operator Percent = true
-is_operator _ = false
+is_operator k = is_some (operator_of k)
 
+-- the operator of a binary operator
+abbrev pub binary_op : Kind → TreeOp
+binary_op k = unwrap_or (operator_of k) op.Minus
+
+-- a token of this kind is a number or a character
 abbrev pub is_literal : Kind → Bool
 is_literal Number = true
 is_literal Character = true
 is_literal _ = false
-
--- the number of a kind
-abbrev pub number : Kind → ℕ
-number End = 0
-number Name = 1
-number Calloc = 2
-number Count = 3
-number ByteCount = 4
-number Bounds = 5
-number Unknown = 6
-number Number = 7
-number Character = 8
-number Text = 9
-number Directive = 10
-number Other = 11
-number Int = 12
-number Unsigned = 13
-number Char = 14
-number Void = 15
-number Struct = 16
-number Static = 17
-number If = 18
-number Else = 19
-number While = 20
-number For = 21
-number Return = 22
-number Break = 23
-number Continue = 24
-number Sizeof = 25
-number Null = 26
-number Eof = 27
-number Ptr = 28
-number ArrayPtr = 29
-number NtArrayPtr = 30
-number Checked = 31
-number Unchecked = 32
-number NtChecked = 33
-number Bundled = 34
-number Check = 35
-number Tested = 36
-number Trusted = 37
-number RoundOpen = 38
-number RoundClose = 39
-number CurlyOpen = 40
-number CurlyClose = 41
-number SquareOpen = 42
-number SquareClose = 43
-number Less = 44
-number Greater = 45
-number GreaterNext = 46
-number Comma = 47
-number Semicolon = 48
-number Colon = 49
-number Question = 50
-number Equals = 51
-number Dot = 52
-number Arrow = 53
-number Plus = 54
-number Minus = 55
-number Star = 56
-number Slash = 57
-number Percent = 58
-number Ampersand = 59
-number Bar = 60
-number Caret = 61
-number Tilde = 62
-number Exclamation = 63
-number ShiftLeft = 64
-number LessEquals = 65
-number GreaterEquals = 66
-number EqualsEquals = 67
-number NotEquals = 68
-number AndAnd = 69
-number BarBar = 70

@@ -1,11 +1,7 @@
-pub mod Classes
 pub mod Derives
-pub mod Forms
 pub mod Grammar
 pub mod Kinds
-pub mod Marked
-pub mod Reading
-pub mod Shapes
+pub mod Signs
 pub mod Trees
 pub mod Values
 pub mod code

@@ -7,7 +7,7 @@ use Rattle.ckc_tac.specs.declared.code.TacOp.{TacOp}
 use Rattle.ckc_tac.specs.declared.code.TacOp.TheVariants.{Call}
 use Rattle.ckc_frame.specs.declared.code.Placed.{Placed}
 use Rattle.ckc_frame.specs.declared.code.PlacedFunc.{PlacedFunc}
-unfoldable pub use Rattle.ckc_assign_slots.specs.Slots.{slots}
+unfoldable pub use Rattle.ckc_assign_slots.specs.code.Slots.{slots}
 
 -- the row of a call: nothing is marked
 abbrev pub row_of : ℕ → TacOp → List (List Bool)

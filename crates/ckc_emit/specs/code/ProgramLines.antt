@@ -1,8 +1,179 @@
--- Labels as the code lists them.
-use Rattle.std.specs.Prelude.{◌≡◌, ℕ, ◌<◌, List, length, map, slice_index}
-use Rattle.ckc_tac.specs.declared.code.TacFunc.{TacFunc}
+-- The lines of blocks, functions and programs. Labels are numbers: 0 is the start, then each function has one, and
+-- behind it one for each of its blocks.
+use Rattle.std.specs.Prelude.{ℕ, ◌+◌, ◌==◌, not, ◌&&◌, if◌then◌else◌, Bool, true, false, List, [], ◌∷◌, length, slice_get, sum_by, take, Option, Some, None, pos, ◌≡◌, ◌<◌, map, slice_index}
+use Rattle.ckc_rv_operations.specs.declared.operations.BranchOp.{BranchOp}
+use Rattle.ckc_rv_operations.specs.declared.operations.BranchOp.TheVariants.{Beq, Bne, Blt, Bge, Bltu, Bgeu}
+use Rattle.ckc_rv.specs.declared.instructions.Instr.TheVariants.{Jalr, Branch as BranchInstr}
+use Rattle.ckc_asm_lines.specs.declared.lines.Labelled.{Labelled}
+use Rattle.ckc_asm_lines.specs.declared.lines.Line.{Line}
+use Rattle.ckc_asm_lines.specs.declared.lines.Line.TheVariants.{Label, Plain, Far}
+use Rattle.ckc_tac.specs.declared.code.TacBlock.{TacBlock}
+use Rattle.ckc_tac.specs.declared.code.Comparison.{Comparison}
+use Rattle.ckc_tac.specs.declared.code.Comparison.TheVariants.{LtS, LtU, Eq, Ne}
+use Rattle.ckc_tac.specs.declared.code.Operand.{Operand}
+use Rattle.ckc_tac.specs.declared.code.Operand.TheVariants.{Register, Number}
+use Rattle.ckc_tac.specs.declared.code.TacOp.{TacOp}
+use Rattle.ckc_tac.specs.declared.code.TacOp.TheVariants.{Const, Copy, Bin, High, Load, Store, Check, Call, Get, Put, Alloc}
+use Rattle.ckc_tac.specs.declared.code.TacEnd.{TacEnd}
+use Rattle.ckc_tac.specs.declared.code.TacEnd.TheVariants.{Jump, Branch, Return}
+use Rattle.ckc_frame.specs.declared.code.Place.{Place}
+use Rattle.ckc_frame.specs.declared.code.Placed.{Placed}
 use Rattle.ckc_frame.specs.declared.code.PlacedFunc.{PlacedFunc}
-use Rattle.ckc_emit.specs.ProgramLines.{label_of}
+use Rattle.ckc_frame.specs.Meaning.{is_call, calls_in}
+use Rattle.ckc_frame.specs.Places.{marks_of}
+use Rattle.ckc_emit.specs.declared.places.PlacedOperand.{PlacedOperand}
+use Rattle.ckc_emit.specs.declared.places.PlacedOperand.TheVariants as placed
+use Rattle.ckc_emit.specs.code.Lines.{register_with, operand_lines, take_lines, load_lines, store_lines, const_lines, copy_lines, bin_lines, high_lines, data_load_lines, data_store_lines, test_lines, get_lines, put_lines, alloc_lines}
+use Rattle.ckc_emit.specs.code.CallLines.{place_at, call_lines, result_lines}
+pub use Rattle.ckc_emit_templates.specs.code.Start.{start_lines}
+use Rattle.ckc_tac.specs.declared.code.TacFunc.{TacFunc}
+
+-- ---- labels
+
+-- the label of the function with a number
+abbrev pub label_of : List PlacedFunc → ℕ → ℕ
+label_of functions k = 1 + sum_by (λ (f : PlacedFunc). length f.code.blocks + 1) (take k functions)
+
+-- the homes of the parameters of a called function
+abbrev pub homes_of : Option PlacedFunc → List Place
+homes_of (Some f) = f.homes
+homes_of None = []
+
+-- ---- operations and ends
+
+-- an operand, with the place of its register
+abbrev pub operand_at : List Place → Operand → PlacedOperand
+operand_at homes (Register r) = placed.At (place_at homes r)
+operand_at homes (Number n) = placed.Number n
+
+abbrev pub op_lines : List PlacedFunc → PlacedFunc → (calls_before : ℕ) → TacOp → List Line
+    → List Line
+op_lines functions f n (Const t v) rest = const_lines (place_at f.homes t) v rest
+op_lines functions f n (Copy t a) rest = copy_lines (place_at f.homes t) (place_at f.homes a) rest
+op_lines functions f n (Bin op t a b) rest =
+    bin_lines op (place_at f.homes t) (operand_at f.homes a) (operand_at f.homes b) rest
+op_lines functions f n (High is_signed t a b) rest =
+    high_lines is_signed (place_at f.homes t) (operand_at f.homes a) (operand_at f.homes b) rest
+op_lines functions f n (Load width t a) rest =
+    data_load_lines width (place_at f.homes t) (operand_at f.homes a) rest
+op_lines functions f n (Store width a b) rest =
+    data_store_lines width (operand_at f.homes a) (operand_at f.homes b) rest
+op_lines functions f n (Check check at a) rest = test_lines check at (operand_at f.homes a) rest
+op_lines functions f n (Call target callee arguments at) rest =
+    call_lines f.homes (marks_of (slice_get f.kept n)) (homes_of (slice_get functions callee))
+    (label_of functions callee) arguments at
+    (result_lines f.homes target rest)
+op_lines functions f n (Get t) rest = get_lines (place_at f.homes t) rest
+op_lines functions f n (Put a) rest = put_lines (operand_at f.homes a) rest
+op_lines functions f n (Alloc t a size) rest =
+    alloc_lines (place_at f.homes t) (operand_at f.homes a) size rest
+
+abbrev pub ops_lines : List PlacedFunc → PlacedFunc → (calls_before : ℕ) → List TacOp → List Line
+    → List Line
+ops_lines functions f n [] rest = rest
+ops_lines functions f n (op ∷ ops) rest =
+    op_lines functions f n op (ops_lines functions f (n + is_call op) ops rest)
+
+-- to a block; nothing where it comes next
+abbrev pub jump_lines : (first next b : ℕ) → List Line → List Line
+jump_lines first next b rest = if b == next then rest else Far 0 (first + b) ∷ rest
+
+-- a branch over a far jump of two instructions
+abbrev pub over_lines : BranchOp → (ra rb label : ℕ) → List Line → List Line
+over_lines op ra rb label rest = Plain (BranchInstr op ra rb (pos 12)) ∷ Far 0 label ∷ rest
+
+-- the branch that is taken where a comparison holds
+abbrev pub holding : Comparison → BranchOp
+holding LtS = Blt
+holding LtU = Bltu
+holding Eq = Beq
+holding Ne = Bne
+
+-- the branch that is taken where it does not
+abbrev pub failing : Comparison → BranchOp
+failing LtS = Bge
+failing LtU = Bgeu
+failing Eq = Bne
+failing Ne = Beq
+
+-- to one of two blocks by a comparison of two registers
+abbrev pub choice_lines : Comparison → (ra rb first next one two : ℕ) → List Line → List Line
+choice_lines c ra rb first next one two rest =
+    if one == next then over_lines (holding c) ra rb (first + two) rest
+    else over_lines (failing c) ra rb (first + one) (jump_lines first next two rest)
+
+abbrev pub branch_lines : Comparison → PlacedOperand → PlacedOperand → (first next one two : ℕ)
+    → List Line → List Line
+branch_lines c a b first next one two rest =
+    operand_lines a 5
+    (operand_lines b 6
+    (choice_lines c (register_with a 5) (register_with b 6) first next one two rest))
+
+-- a block without operations that jumps on
+abbrev pub is_passing_end : TacEnd → Bool
+is_passing_end (Jump b) = true
+is_passing_end end = false
+
+abbrev pub is_passing_block : List TacOp → TacEnd → Bool
+is_passing_block [] end = is_passing_end end
+is_passing_block (op ∷ ops) end = false
+
+abbrev pub is_passing : Option TacBlock → Bool
+is_passing (Some block) = is_passing_block block.ops block.end
+is_passing None = true
+
+-- A jump to the block that comes next is left out, unless that block only jumps on: of two steps without an
+-- instruction, none follows the other.
+abbrev pub falls_through : List TacBlock → (next b : ℕ) → Bool
+falls_through blocks next b = b == next && not (is_passing (slice_get blocks b))
+
+abbrev pub pass_lines : List TacBlock → (first next b : ℕ) → List Line → List Line
+pass_lines blocks first next b rest =
+    if falls_through blocks next b then rest else Far 0 (first + b) ∷ rest
+
+-- back to the caller, with a value in x10
+abbrev pub return_lines : PlacedOperand → List Line → List Line
+return_lines a rest = take_lines 10 a (load_lines 1 2 0 (Plain (Jalr 0 1 (pos 0)) ∷ rest))
+
+abbrev pub end_lines : PlacedFunc → (first next : ℕ) → TacEnd → List Line → List Line
+end_lines f first next (Jump b) rest = pass_lines f.code.blocks first next b rest
+end_lines f first next (Branch c a b one two) rest =
+    branch_lines c (operand_at f.homes a) (operand_at f.homes b) first next one two rest
+end_lines f first next (Return a) rest = return_lines (operand_at f.homes a) rest
+
+-- ---- blocks, functions, programs
+
+-- a block, where so many calls stand before it in the function
+abbrev pub block_lines : List PlacedFunc → PlacedFunc → (first b calls_before : ℕ) → TacBlock
+    → List Line → List Line
+block_lines functions f first b n block rest =
+    Label (first + b) ∷ ops_lines functions f n block.ops (end_lines f first (b + 1) block.end rest)
+
+-- the blocks from one on
+abbrev pub blocks_lines : List PlacedFunc → PlacedFunc → (first b calls_before : ℕ) → List TacBlock
+    → List Line → List Line
+blocks_lines functions f first b n [] rest = rest
+blocks_lines functions f first b n (block ∷ blocks) rest =
+    block_lines functions f first b n block
+    (blocks_lines functions f first (b + 1) (n + calls_in block) blocks rest)
+
+-- a function stores the return address first
+abbrev pub function_lines : List PlacedFunc → PlacedFunc → (label : ℕ) → List Line → List Line
+function_lines functions f label rest =
+    Label label ∷ store_lines 1 2 0 (blocks_lines functions f (label + 1) 0 0 f.code.blocks rest)
+
+abbrev pub functions_lines : List PlacedFunc → (label : ℕ) → List PlacedFunc → List Line → List Line
+functions_lines functions label [] rest = rest
+functions_lines functions label (f ∷ fs) rest =
+    function_lines functions f label
+    (functions_lines functions (label + (length f.code.blocks + 1)) fs rest)
+
+abbrev pub program_lines : Placed → List Line
+program_lines p = start_lines (label_of p.funcs p.main) (functions_lines p.funcs 1 p.funcs [])
+
+-- the lines start at the label 0, and the initial bytes are those of the program
+abbrev pub labelled_program : Placed → Labelled
+labelled_program p = record { lines = program_lines p; start = 0; initial = p.initial }
 
 -- each function's label is in its place in a list
 pub record AreLabels (functions : List PlacedFunc) (labels : List ℕ) : Type 0 where

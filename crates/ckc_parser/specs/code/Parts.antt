@@ -10,8 +10,8 @@ use Rattle.ckc_parser_grammar.specs.Grammar.{Symbol, t, n, k, right}
 use Rattle.ckc_parser_grammar.specs.Grammar as g
 use Rattle.ckc_parser_grammar.specs.Trees.{Decl, Expr, Stmt, TypeTree, stmt_at, starred}
 use Rattle.ckc_parser_grammar.specs.Derives.{Sign}
-use Rattle.ckc_parser_grammar.specs.Reading.{Takes}
-use Rattle.ckc_parser_grammar.specs.Marked.{Answered}
+use Rattle.ckc_parser_grammar.specs.code.Reading.{Takes}
+use Rattle.ckc_parser_grammar.specs.code.Marked.{Answered}
 use Rattle.ckc_parser_grammar.specs.Values.{Value, token, place, as_decls, as_expr, as_stars, as_stmt, as_stmts}
 
 abbrev pub IsMemory : Stop → Type 0

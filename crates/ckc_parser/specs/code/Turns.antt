@@ -6,7 +6,7 @@ use Rattle.ckc_parser_grammar.specs.Grammar as g
 use Rattle.ckc_parser_grammar.specs.Trees.{Item}
 use Rattle.ckc_parser_grammar.specs.Values.{Value, made, as_items}
 use Rattle.ckc_parser_grammar.specs.Derives.{Sign}
-use Rattle.ckc_parser_grammar.specs.Reading.{kind_of, pick, Takes}
+use Rattle.ckc_parser_grammar.specs.code.Reading.{kind_of, pick, Takes}
 
 pub record IsItem (was : List Item) (old : List Sign) (is : List Item) (new : List Sign) : Type 0 where
   pub rule : Rule

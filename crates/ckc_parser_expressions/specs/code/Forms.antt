@@ -8,9 +8,9 @@ use Rattle.ckc_syntax.specs.declared.tree.Node.TheVariants as node
 use Rattle.ckc_syntax.specs.declared.tree.Limits.TheVariants as bounds
 use Rattle.ckc_parser_grammar.specs.Trees.{TypeTree, Expr, Limits, expr_at}
 use Rattle.ckc_parser_grammar.specs.Derives.{Sign}
-use Rattle.ckc_parser_grammar.specs.Reading.{Takes}
+use Rattle.ckc_parser_grammar.specs.code.Reading.{Takes}
 use Rattle.ckc_parser_grammar.specs.declared.parts.Stop.{Stop}
-use Rattle.ckc_parser_grammar.specs.Marked.{Answered}
+use Rattle.ckc_parser_grammar.specs.code.Marked.{Answered}
 use Rattle.ckc_parser_grammar.specs.Values.{Value, place, type_of, operand_of, limits_of, as_expr, as_size, as_limits_at}
 
 -- a type in `<` and `>`, a part in parentheses, and the values of these

@@ -2,7 +2,7 @@ use Rattle.std.proofs.Common.{◌≡◌, ◌+◌, List, ◌++◌, drop}
 use Rattle.std.specs.Prelude.{sum_by}
 use Rattle.ckc_asm_lines.specs.declared.lines.Line.{Line}
 use Rattle.ckc_frame.specs.Meaning.{calls_in}
-use Rattle.ckc_emit.specs.ProgramLines.{blocks_lines}
+use Rattle.ckc_emit.specs.code.ProgramLines.{blocks_lines}
 use Rattle.ckc_emit.proofs.blocks.put_blocks.Given as goal
 
 -- with those of the rest, the lines and the calls are all

@@ -2,8 +2,7 @@ use Rattle.std.proofs.Common.{◌≡◌, ◌∙◌, ap, sym, get_or, slice_index
 use Rattle.std.specs.List.{slice_get}
 use Rattle.ckc_frame.specs.declared.code.PlacedFunc.{PlacedFunc}
 use Rattle.ckc_frame.specs.Places.{marks_of}
-use Rattle.ckc_emit.specs.ProgramLines.{homes_of, label_of}
-use Rattle.ckc_emit.specs.code.ProgramLines.{codes_of}
+use Rattle.ckc_emit.specs.code.ProgramLines.{homes_of, label_of, codes_of}
 use Rattle.ckc_emit.proofs.AddedCode.{callable}
 use Rattle.ckc_emit.proofs.CallsEmitted.{at_get, whole_call_emits}
 use Rattle.ckc_emit.proofs.blocks.put_whole_call.Goals as goal

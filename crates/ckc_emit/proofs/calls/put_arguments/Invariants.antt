@@ -1,6 +1,6 @@
 use Rattle.std.proofs.Common.{◌≡◌, ◌≤◌, List, ◌++◌, length, drop}
 use Rattle.ckc_asm_lines.specs.declared.lines.Line.{Line}
-use Rattle.ckc_emit.specs.CallLines.{arguments_lines}
+use Rattle.ckc_emit.specs.code.CallLines.{arguments_lines}
 use Rattle.ckc_emit.proofs.calls.put_arguments.Given as goal
 
 -- the lines are those of the arguments from one on

@@ -1,5 +1,5 @@
 use Rattle.std.proofs.Common.{◌≡◌, ℕ, ◌<◌, ◌||◌, false, drop, slice_index_or}
-use Rattle.ckc_emit.specs.CallLines.{is_argument_home}
+use Rattle.ckc_emit.specs.code.CallLines.{is_argument_home}
 use Rattle.ckc_emit.proofs.calls.saved_homes.Given as goal
 
 -- the marks so far, and those of the rest, are all

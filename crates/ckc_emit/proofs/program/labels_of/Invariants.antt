@@ -1,5 +1,5 @@
 use Rattle.std.proofs.Common.{◌≡◌, ℕ, ◌<◌, length, slice_index}
-use Rattle.ckc_emit.specs.ProgramLines.{label_of}
+use Rattle.ckc_emit.specs.code.ProgramLines.{label_of}
 use Rattle.ckc_emit.proofs.program.labels_of.Given as goal
 
 -- the labels of the functions so far

@@ -1,6 +1,6 @@
 use Rattle.std.proofs.Common.{◌≡◌, List, ◌++◌, drop}
 use Rattle.ckc_asm_lines.specs.declared.lines.Line.{Line}
-use Rattle.ckc_emit.specs.ProgramLines.{label_of, functions_lines}
+use Rattle.ckc_emit.specs.code.ProgramLines.{label_of, functions_lines}
 use Rattle.ckc_emit.proofs.program.put_functions.Given as goal
 
 -- with those of the rest, the lines are all

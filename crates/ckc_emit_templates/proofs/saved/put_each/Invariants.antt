@@ -1,7 +1,6 @@
 use Rattle.std.proofs.Common.{◌≡◌, ◌-◌, List, ◌++◌, false, slice_index_or}
 use Rattle.ckc_asm_lines.specs.declared.lines.Line.{Line}
-use Rattle.ckc_emit_templates.specs.Saved.{each_lines}
-use Rattle.ckc_emit_templates.specs.code.Saved.{kept_lines}
+use Rattle.ckc_emit_templates.specs.code.Saved.{each_lines, kept_lines}
 use Rattle.ckc_emit_templates.proofs.saved.put_each.Given as goal
 
 -- with the lines of the registers that are left, the lines are whole

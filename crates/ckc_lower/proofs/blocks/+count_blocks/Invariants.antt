@@ -1,7 +1,7 @@
 use Rattle.std.proofs.Common.{◌≡◌, ◌+◌, drop}
 use Rattle.std.specs.Prelude.{true}
 use Rattle.ckc_core.specs.Code.{code_of}
-use Rattle.ckc_lower.specs.Built.{block_count}
+use Rattle.ckc_lower.specs.code.Built.{block_count}
 use Rattle.ckc_lower.proofs.blocks.+count_blocks.Given as goal
 
 abbrev pub decreases-count_blocks : goal.decreases-count_blocks

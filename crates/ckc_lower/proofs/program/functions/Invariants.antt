@@ -1,6 +1,6 @@
 use Rattle.std.proofs.Common.{◌≡◌, ◌++◌, drop, map}
 use Rattle.ckc_core.specs.Code.{function_of}
-use Rattle.ckc_lower.specs.Lowered.{lowered_function}
+use Rattle.ckc_lower.specs.code.Lowered.{lowered_function}
 use Rattle.ckc_lower.proofs.program.functions.Given as goal
 
 abbrev pub invariant-loop-f : goal.invariant-loop-f

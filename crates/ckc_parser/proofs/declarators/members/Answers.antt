@@ -1,7 +1,7 @@
 use Rattle.std.proofs.Common.{refl, sym, ap, ◌∙◌, ◌∷◌, []}
-use Rattle.ckc_parser_grammar.specs.Marked.{ahead}
-use Rattle.ckc_parser_grammar.specs.Forms.{begins_type}
-use Rattle.ckc_parser_grammar.specs.Reading.{kind_of, done}
+use Rattle.ckc_parser_grammar.specs.code.Marked.{ahead}
+use Rattle.ckc_parser_grammar.specs.code.Forms.{begins_type}
+use Rattle.ckc_parser_grammar.specs.code.Reading.{kind_of, done}
 use Rattle.ckc_parser_grammar.proofs.Steps.{here_stops}
 use Rattle.ckc_parser_grammar.proofs.Shrinks.{fewer}
 use Rattle.ckc_parser.proofs.Putting.{put_start, put_turn, put_stop, put_last}

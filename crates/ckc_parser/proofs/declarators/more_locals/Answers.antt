@@ -1,7 +1,7 @@
 use Rattle.std.proofs.Common.{refl, ap, ◌∷◌, [], arith}
 use Rattle.ckc_parser_grammar.specs.Grammar.{k}
-use Rattle.ckc_parser_grammar.specs.Marked.{ahead}
-use Rattle.ckc_parser_grammar.specs.Reading.{pick, kind_of}
+use Rattle.ckc_parser_grammar.specs.code.Marked.{ahead}
+use Rattle.ckc_parser_grammar.specs.code.Reading.{pick, kind_of}
 use Rattle.ckc_parser_grammar.proofs.Steps.{also, then_stops, here_stops}
 use Rattle.ckc_parser_grammar.proofs.Defaults.{usual}
 use Rattle.ckc_parser_grammar.proofs.Shrinks.{fewer}

@@ -1,4 +1,4 @@
-use Rattle.ckc_parser_grammar.specs.Marked.{ahead, remaining}
+use Rattle.ckc_parser_grammar.specs.code.Marked.{ahead, remaining}
 use Rattle.ckc_parser_grammar.specs.Grammar as g
 use Rattle.ckc_parser_grammar.specs.Values as v
 use Rattle.ckc_parser_grammar.specs.Trees as trees

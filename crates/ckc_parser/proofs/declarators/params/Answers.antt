@@ -1,7 +1,7 @@
 use Rattle.std.proofs.Common.{refl, sym, ap, ◌∙◌, ◌∷◌, [], ◌++◌, append-nil}
 use Rattle.ckc_parser_grammar.specs.Values.{made}
-use Rattle.ckc_parser_grammar.specs.Marked.{ahead}
-use Rattle.ckc_parser_grammar.specs.Reading.{pick, kind_of}
+use Rattle.ckc_parser_grammar.specs.code.Marked.{ahead}
+use Rattle.ckc_parser_grammar.specs.code.Reading.{pick, kind_of}
 use Rattle.ckc_parser_grammar.proofs.Steps.{turned}
 use Rattle.ckc_parser_grammar.proofs.Defaults.{usual}
 use Rattle.ckc_parser.proofs.Putting.{chosen_put}

@@ -2,8 +2,8 @@ use Rattle.std.proofs.Common.{refl, ap, subst, ◌∙◌, ◌∷◌, [], ◌++�
 use Rattle.std.specs.Prelude.{Some}
 use Rattle.ckc_parser_grammar.specs.Values.{made}
 use Rattle.ckc_parser_grammar.specs.Grammar.{right}
-use Rattle.ckc_parser_grammar.specs.Marked.{ahead}
-use Rattle.ckc_parser_grammar.specs.Reading.{pick, kind_of, Takes, Stops}
+use Rattle.ckc_parser_grammar.specs.code.Marked.{ahead}
+use Rattle.ckc_parser_grammar.specs.code.Reading.{pick, kind_of, Takes, Stops}
 use Rattle.ckc_parser_grammar.proofs.Steps.{by_rule, stop_rule}
 use Rattle.ckc_parser_expressions.proofs.Exits.{exit}
 use Rattle.ckc_parser.proofs.Making.{finished}

@@ -1,8 +1,8 @@
 use Rattle.std.proofs.Common.{refl, sym, ap, subst, ◌∷◌, []}
 use Rattle.ckc_parser_grammar.specs.Values.{made}
-use Rattle.ckc_parser_grammar.specs.Marked.{ahead}
+use Rattle.ckc_parser_grammar.specs.code.Marked.{ahead}
 use Rattle.ckc_parser_grammar.specs.Grammar.{n}
-use Rattle.ckc_parser_grammar.specs.Reading.{pick, kind_of, Takes, Stops}
+use Rattle.ckc_parser_grammar.specs.code.Reading.{pick, kind_of, Takes, Stops}
 use Rattle.ckc_parser_grammar.proofs.Steps.{turned, by_rule, stop_rule}
 use Rattle.ckc_parser_grammar.specs.Grammar as g
 use Rattle.ckc_parser_grammar.specs.Values as v

@@ -3,9 +3,9 @@ use Rattle.std.specs.Prelude.{Some}
 use Rattle.ckc_syntax.specs.Spelled.{spelled}
 use Rattle.ckc_parser_grammar.specs.Values.{made}
 use Rattle.ckc_parser_grammar.specs.Grammar.{right}
-use Rattle.ckc_parser_grammar.specs.Marked.{ahead}
-use Rattle.ckc_parser_grammar.specs.Forms.{begins_type}
-use Rattle.ckc_parser_grammar.specs.Reading.{pick, kind_of, done}
+use Rattle.ckc_parser_grammar.specs.code.Marked.{ahead}
+use Rattle.ckc_parser_grammar.specs.code.Forms.{begins_type}
+use Rattle.ckc_parser_grammar.specs.code.Reading.{pick, kind_of, done}
 use Rattle.ckc_parser_grammar.proofs.Steps.{also, also_all, then_stops, then_all, here_stops, here_all, chosen_as, by_rule, stop_rule, turned}
 use Rattle.ckc_parser_expressions.proofs.Exits.{exit}
 use Rattle.ckc_parser.proofs.Making.{finished, no_room}

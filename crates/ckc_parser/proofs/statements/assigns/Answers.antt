@@ -1,7 +1,7 @@
 use Rattle.std.proofs.Common.{refl, ap, ◌∷◌, [], arith}
 use Rattle.ckc_parser_grammar.specs.Grammar.{right, k}
-use Rattle.ckc_parser_grammar.specs.Marked.{ahead}
-use Rattle.ckc_parser_grammar.specs.Reading.{pick, kind_of}
+use Rattle.ckc_parser_grammar.specs.code.Marked.{ahead}
+use Rattle.ckc_parser_grammar.specs.code.Reading.{pick, kind_of}
 use Rattle.ckc_parser_grammar.proofs.Steps.{here_all}
 use Rattle.ckc_parser_expressions.proofs.Exits.{exit}
 use Rattle.ckc_parser.proofs.Putting.{put_start, put_turn, put_stop, put_last, takes_from, stops_from}

@@ -1,10 +1,10 @@
 use Rattle.std.proofs.Common.{◌≡◌, false, not, refl, sym, ap, ◌∙◌, ◌∷◌, []}
 use Rattle.std.specs.Prelude.{Some}
 use Rattle.ckc_parser_grammar.specs.Values.{made}
-use Rattle.ckc_parser_grammar.specs.Forms.{begins_type}
+use Rattle.ckc_parser_grammar.specs.code.Forms.{begins_type}
 use Rattle.ckc_parser_grammar.specs.Grammar.{right}
-use Rattle.ckc_parser_grammar.specs.Marked.{ahead}
-use Rattle.ckc_parser_grammar.specs.Reading.{pick, kind_of}
+use Rattle.ckc_parser_grammar.specs.code.Marked.{ahead}
+use Rattle.ckc_parser_grammar.specs.code.Reading.{pick, kind_of}
 use Rattle.ckc_parser_grammar.proofs.Steps.{also, then_stops, here_stops, by_rule, stop_rule, turned}
 use Rattle.ckc_parser_grammar.proofs.Decided.{chooses, remains}
 use Rattle.ckc_parser_expressions.proofs.Exits.{exit}

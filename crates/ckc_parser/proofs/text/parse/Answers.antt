@@ -8,8 +8,8 @@ use Rattle.ckc_parser_grammar.specs.Grammar as g
 use Rattle.ckc_parser_grammar.specs.Trees.{Item}
 use Rattle.ckc_parser_grammar.specs.Values.{Value, tree, as_items}
 use Rattle.ckc_parser_grammar.specs.Derives.{Sign}
-use Rattle.ckc_parser_grammar.specs.Reading.{Takes}
-use Rattle.ckc_parser_grammar.specs.Marked.{ahead, Halts}
+use Rattle.ckc_parser_grammar.specs.code.Reading.{Takes}
+use Rattle.ckc_parser_grammar.specs.code.Marked.{ahead, Halts}
 use Rattle.ckc_parser_grammar.proofs.Steps.{by_rule, stop_rule}
 use Rattle.ckc_parser.specs.Phase.{parsing}
 use Rattle.ckc_parser.specs.Text.{start}

@@ -4,7 +4,7 @@ use Rattle.ckc_syntax.specs.declared.tree.Node.TheVariants as node
 use Rattle.ckc_parser_grammar.specs.Trees.{expr_at}
 use Rattle.ckc_parser_grammar.specs.Values.{Value, made}
 use Rattle.ckc_parser_grammar.specs.Values as v
-use Rattle.ckc_parser_grammar.specs.Marked.{ahead}
+use Rattle.ckc_parser_grammar.specs.code.Marked.{ahead}
 use Rattle.ckc_parser_grammar.proofs.Steps.{also, then_stops, here_stops}
 use Rattle.ckc_parser_expressions.proofs.Exits.{exit}
 use Rattle.ckc_parser_expressions.proofs.expressions.dot.Goals as goal

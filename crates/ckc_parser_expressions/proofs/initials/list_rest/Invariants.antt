@@ -1,6 +1,6 @@
 use Rattle.std.proofs.Common.{◌≤◌, length}
 use Rattle.std.proofs.Common.{◌≡◌, ◌∷◌, ◌++◌}
-use Rattle.ckc_parser_grammar.specs.Marked.{ahead, remaining}
+use Rattle.ckc_parser_grammar.specs.code.Marked.{ahead, remaining}
 use Rattle.ckc_parser_grammar.proofs.Onward.{Onward}
 use Rattle.ckc_parser_grammar.specs.Grammar as g
 use Rattle.ckc_parser_grammar.specs.Values as v

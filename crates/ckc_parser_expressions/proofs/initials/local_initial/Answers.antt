@@ -1,8 +1,8 @@
 use Rattle.std.proofs.Common.{◌≡◌, refl, sym, ap, ◌∙◌, []}
 use Rattle.ckc_parser_grammar.specs.Values.{made}
 use Rattle.ckc_parser_grammar.specs.Grammar.{k}
-use Rattle.ckc_parser_grammar.specs.Marked.{ahead}
-use Rattle.ckc_parser_grammar.specs.Reading.{pick, kind_of, done}
+use Rattle.ckc_parser_grammar.specs.code.Marked.{ahead}
+use Rattle.ckc_parser_grammar.specs.code.Reading.{pick, kind_of, done}
 use Rattle.ckc_parser_grammar.proofs.Steps.{chosen_as, by_rule}
 use Rattle.ckc_parser_grammar.specs.Grammar as g
 use Rattle.ckc_parser_grammar.specs.Values as v

@@ -1,7 +1,7 @@
 use Rattle.std.proofs.Common.{sym, ap, ◌∷◌, []}
 use Rattle.std.specs.Prelude.{Some}
 use Rattle.ckc_syntax.specs.Spelled.{spelled}
-use Rattle.ckc_parser_grammar.specs.Marked.{ahead}
+use Rattle.ckc_parser_grammar.specs.code.Marked.{ahead}
 use Rattle.ckc_parser_expressions.proofs.Exits.{exit}
 use Rattle.ckc_parser_grammar.specs.Values as v
 use Rattle.ckc_parser_expressions.proofs.initials.some_size.Goals as goal

@@ -1,10 +1,10 @@
 use Rattle.std.proofs.Common.{◌∙◌, refl, sym, ap}
 use Rattle.ckc_parser_grammar.specs.Grammar.{k}
 use Rattle.ckc_parser_grammar.specs.Grammar as g
-use Rattle.ckc_parser_grammar.specs.Reading.{kind_of}
+use Rattle.ckc_parser_grammar.specs.code.Reading.{kind_of}
 use Rattle.ckc_parser_grammar.specs.Values.{Value, made}
 use Rattle.ckc_parser_grammar.specs.Values as v
-use Rattle.ckc_parser_grammar.specs.Marked.{ahead}
+use Rattle.ckc_parser_grammar.specs.code.Marked.{ahead}
 use Rattle.ckc_parser_grammar.proofs.Steps.{chosen}
 use Rattle.ckc_parser_grammar.specs.Grammar.{is_greater}
 use Rattle.ckc_parser_grammar.proofs.Others.{greater_operation, plain_operation}

@@ -3,7 +3,7 @@ use Rattle.ckc_syntax.specs.Spelled.{spelled}
 use Rattle.ckc_parser_grammar.specs.Kinds.{binary_op}
 use Rattle.ckc_parser_grammar.specs.Values.{Value, made}
 use Rattle.ckc_parser_grammar.specs.Values as v
-use Rattle.ckc_parser_grammar.specs.Marked.{ahead}
+use Rattle.ckc_parser_grammar.specs.code.Marked.{ahead}
 use Rattle.ckc_parser_expressions.proofs.Exits.{exit}
 use Rattle.ckc_parser_expressions.proofs.operations.plain_operation.Goals as goal
 

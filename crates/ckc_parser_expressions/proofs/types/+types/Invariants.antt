@@ -1,4 +1,4 @@
-use Rattle.ckc_parser_grammar.specs.Marked.{remaining}
+use Rattle.ckc_parser_grammar.specs.code.Marked.{remaining}
 use Rattle.std.proofs.Common.{◌+◌, ◌*◌, length}
 use Rattle.ckc_parser_expressions.proofs.types.+types.Given as goal
 

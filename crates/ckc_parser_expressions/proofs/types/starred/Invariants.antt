@@ -3,7 +3,7 @@ use Rattle.ckc_parser_grammar.specs.Grammar.{n}
 use Rattle.ckc_parser_grammar.specs.Grammar as g
 use Rattle.ckc_parser_grammar.specs.Trees.{starred}
 use Rattle.ckc_parser_grammar.specs.Values.{as_stars}
-use Rattle.ckc_parser_grammar.specs.Marked.{ahead, remaining}
+use Rattle.ckc_parser_grammar.specs.code.Marked.{ahead, remaining}
 use Rattle.ckc_parser_grammar.proofs.Onward.{Onward}
 use Rattle.ckc_parser_expressions.proofs.types.starred.Given as goal
 

@@ -1,7 +1,7 @@
 use Rattle.std.proofs.Common.{refl, sym, ap, ◌∙◌, ◌∷◌, []}
 use Rattle.ckc_syntax.specs.Spelled.{spelled}
 use Rattle.ckc_parser_grammar.specs.Values.{made}
-use Rattle.ckc_parser_grammar.specs.Marked.{ahead}
+use Rattle.ckc_parser_grammar.specs.code.Marked.{ahead}
 use Rattle.ckc_parser_grammar.proofs.Steps.{also, then_stops, here_stops, by_rule, stop_rule}
 use Rattle.ckc_parser_expressions.proofs.Exits.{exit}
 use Rattle.ckc_syntax.specs.declared.tree.Act.TheVariants as act

@@ -1,8 +1,8 @@
 use Rattle.std.proofs.Common.{◌≡◌, refl, sym, ap, ◌∙◌, ◌∷◌, [], ◌++◌, arith, append-nil}
 use Rattle.ckc_syntax.specs.Spelled.{spelled}
 use Rattle.ckc_parser_grammar.specs.Grammar.{k}
-use Rattle.ckc_parser_grammar.specs.Marked.{ahead}
-use Rattle.ckc_parser_grammar.specs.Reading.{pick, kind_of}
+use Rattle.ckc_parser_grammar.specs.code.Marked.{ahead}
+use Rattle.ckc_parser_grammar.specs.code.Reading.{pick, kind_of}
 use Rattle.ckc_parser_grammar.proofs.Steps.{also, then_stops, here_stops}
 use Rattle.ckc_parser_expressions.proofs.Exits.{exit}
 use Rattle.ckc_parser_grammar.proofs.Onward.{at_start, one_turn, last_turn, stop_turn}

@@ -1,7 +1,7 @@
 use Rattle.std.proofs.Common.{◌≡◌, drop}
 use Rattle.ckc_core.specs.Code.{code_of}
 use Rattle.ckc_core.specs.Limits.{KeepsLimits}
-use Rattle.ckc_lower.specs.Built.{built}
+use Rattle.ckc_lower.specs.code.Built.{built}
 use Rattle.ckc_lower.proofs.builder.Builder.+code.Given as goal
 
 abbrev pub decreases-code : goal.decreases-code

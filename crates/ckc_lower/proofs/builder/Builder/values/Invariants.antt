@@ -1,6 +1,6 @@
 use Rattle.std.proofs.Common.{◌≡◌, ◌+◌, ◌≤◌, ◌++◌, drop, map}
 use Rattle.ckc_core.specs.Code.{expr_of}
-use Rattle.ckc_lower.specs.Built.{registers_of, with_values}
+use Rattle.ckc_lower.specs.code.Built.{registers_of, with_values}
 use Rattle.ckc_lower.proofs.builder.Builder.values.Given as goal
 
 abbrev pub invariant-loop-e : goal.invariant-loop-e

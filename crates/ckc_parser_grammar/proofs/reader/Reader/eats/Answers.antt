@@ -3,7 +3,7 @@ use denote.Enum.Bare.{differs_false}
 use Rattle.ckc_parser_grammar.specs.contracts.kind.Kind.{the_type}
 use Rattle.ckc_syntax.specs.Spelled.{spelled}
 use Rattle.ckc_parser_grammar.specs.Values.{token}
-use Rattle.ckc_parser_grammar.specs.Marked.{ahead}
+use Rattle.ckc_parser_grammar.specs.code.Marked.{ahead}
 use Rattle.ckc_parser_grammar.proofs.Steps.{took_one}
 use Rattle.ckc_parser_grammar.proofs.reader.Reader.eats.Goals as goal
 

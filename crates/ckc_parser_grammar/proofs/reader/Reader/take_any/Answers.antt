@@ -1,8 +1,8 @@
 use Rattle.std.proofs.Common.{sym, ap, ◌∙◌}
-use Rattle.ckc_parser_grammar.specs.Grammar.{fits}
+use Rattle.ckc_parser_grammar.specs.code.Fits.{fits}
 use Rattle.ckc_syntax.specs.Spelled.{spelled}
-use Rattle.ckc_parser_grammar.specs.Classes.{terminal}
-use Rattle.ckc_parser_grammar.specs.Marked.{ahead}
+use Rattle.ckc_parser_grammar.specs.code.Classes.{terminal}
+use Rattle.ckc_parser_grammar.specs.code.Marked.{ahead}
 use Rattle.ckc_parser_grammar.proofs.Steps.{missed, took}
 use Rattle.ckc_parser_grammar.proofs.reader.Reader.take_any.Goals as goal
 

@@ -5,7 +5,7 @@ use Rattle.ckc_parser_grammar.specs.declared.kind.Kind.TheVariants as kind
 use Rattle.ckc_parser_grammar.specs.Kinds.{is_operator}
 use Rattle.ckc_parser_grammar.specs.Grammar.{is_greater}
 use Rattle.ckc_parser_grammar.specs.Derives.{Sign}
-use Rattle.ckc_parser_grammar.specs.Reading.{kind_of}
+use Rattle.ckc_parser_grammar.specs.code.Reading.{kind_of}
 
 -- the kinds that begin an operator between operands
 abbrev pub begins_step : Kind → Bool

@@ -23,9 +23,9 @@ use Rattle.ckc_asm_lines.specs.declared.lines.Line.{Line}
 use Rattle.ckc_asm_lines.specs.declared.lines.Line.TheVariants.{Plain}
 use Rattle.ckc_frame.specs.declared.code.Place.{Place}
 use Rattle.ckc_frame.specs.declared.code.Place.TheVariants as place
-unfoldable pub use Rattle.ckc_emit_templates.specs.Templates.{upper_of, lower_of}
-pub use Rattle.ckc_emit_templates.specs.Templates.{add_lower_of, immediate_of, load_lower_of, store_lower_of, load_near_of, store_near_of, is_round, both_lines, large_lines, constant_lines, move_lines, offset_lines, far_load_lines, load_lines, far_store_lines, store_lines, ask_lines}
-pub use Rattle.ckc_emit_templates.specs.Saved.{register_of}
+unfoldable pub use Rattle.ckc_emit_templates.specs.code.Templates.{upper_of, lower_of}
+pub use Rattle.ckc_emit_templates.specs.code.Templates.{add_lower_of, immediate_of, load_lower_of, store_lower_of, load_near_of, store_near_of, is_round, both_lines, large_lines, constant_lines, move_lines, offset_lines, far_load_lines, load_lines, far_store_lines, store_lines, ask_lines}
+pub use Rattle.ckc_emit_templates.specs.code.Saved.{register_of}
 use Rattle.ckc_emit.specs.declared.places.PlacedOperand.{PlacedOperand}
 use Rattle.ckc_emit.specs.declared.places.PlacedOperand.TheVariants.{At, Number}
 use Rattle.ckc_emit.specs.declared.operations.Form.{Form}

@@ -5,7 +5,7 @@ use Rattle.ckc_core.specs.Code.{Function, Program}
 use Rattle.ckc_tac.specs.declared.code.Tac.{Tac}
 use Rattle.ckc_tac.specs.declared.code.TacFunc.{TacFunc}
 use Rattle.ckc_lower.specs.declared.builder.Builder.{Builder}
-use Rattle.ckc_lower.specs.Built.{built}
+use Rattle.ckc_lower.specs.code.Built.{built}
 
 -- a builder over the locals, with nothing built
 abbrev pub empty : ℕ → Builder

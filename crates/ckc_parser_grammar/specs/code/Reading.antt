@@ -2,7 +2,8 @@
 use Rattle.std.specs.Prelude.{◌≡◌, List, [], ◌∷◌, true, false, Option, None, Some}
 use Rattle.ckc_parser_grammar.specs.declared.kind.Kind.{Kind}
 use Rattle.ckc_parser_grammar.specs.declared.kind.Kind.TheVariants as kind
-use Rattle.ckc_parser_grammar.specs.Grammar.{Terminal, Part, Symbol, t, n, Rule, right, fits, allowed}
+use Rattle.ckc_parser_grammar.specs.code.Fits.{fits}
+use Rattle.ckc_parser_grammar.specs.Grammar.{Terminal, Part, Symbol, t, n, Rule, right, allowed}
 use Rattle.ckc_parser_grammar.specs.Grammar as g
 use Rattle.ckc_parser_grammar.specs.Values.{Value, token, made}
 use Rattle.ckc_parser_grammar.specs.Derives.{Sign}

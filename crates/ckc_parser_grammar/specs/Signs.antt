@@ -1,0 +1,31 @@
+-- Tokens with their kinds.
+use Rattle.std.specs.Prelude.{◌+◌, ◌==◌, List, [], ◌∷◌, Bool, true, false, ◌&&◌, if◌then◌else◌}
+use Rattle.ckc_syntax.specs.Spelled.{Spelled}
+use Rattle.ckc_parser_grammar.specs.declared.kind.Kind.{Kind}
+use Rattle.ckc_parser_grammar.specs.declared.kind.Kind.TheVariants as kind
+use Rattle.ckc_parser_grammar.specs.Kinds.{kind_of_token}
+use Rattle.ckc_parser_grammar.specs.Derives.{Sign}
+
+-- The kind of a token behind another: a `>` directly behind a `>` may end a shift.
+abbrev pub glued : Bool → Kind → Kind
+glued adjacent kind.Greater = if adjacent then kind.GreaterNext else kind.Greater
+glued adjacent k = k
+
+abbrev pub is_plain_greater : Kind → Bool
+is_plain_greater kind.Greater = true
+is_plain_greater _ = false
+
+abbrev pub adjacent : Spelled → Spelled → Bool
+adjacent x y = is_plain_greater (kind_of_token x) && (x.pos.line == y.pos.line && x.pos.col + 1 == y.pos.col)
+
+abbrev pub kind_after : Spelled → Spelled → Kind
+kind_after x y = glued (adjacent x y) (kind_of_token y)
+
+abbrev pub signs_after : Spelled → List Spelled → List Sign
+signs_after x [] = []
+signs_after x (y ∷ ys) = record { kind = kind_after x y; token = y } ∷ signs_after y ys
+
+-- the tokens of a text with their kinds
+abbrev pub signs : List Spelled → List Sign
+signs [] = []
+signs (x ∷ xs) = record { kind = kind_of_token x; token = x } ∷ signs_after x xs
