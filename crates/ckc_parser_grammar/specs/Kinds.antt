@@ -144,7 +144,6 @@ sign_of Exclamation = Some op.Not
 sign_of Tilde = Some op.Flip
 sign_of Star = Some op.Deref
 sign_of Ampersand = Some op.Address
-sign_of _ = Some op.Minus
 sign_of _ = None
 
 -- a token of this kind is a sign
@@ -172,7 +171,6 @@ operator_of Minus = Some op.Sub
 operator_of Star = Some op.Mul
 operator_of Slash = Some op.Div
 operator_of Percent = Some op.Rem
-operator_of _ = Some op.Minus
 operator_of _ = None
 
 -- a token of this kind is a binary operator
