@@ -18,6 +18,7 @@ is_mark b = b == 44 || b == 40 || b == 41 || b == 58
 abbrev pub is_hash : ℕ → Bool
 is_hash b = b == 35
 
+-- a byte that is part of a word: no blank, no mark and no `#`
 abbrev pub is_word_byte : ℕ → Bool
 is_word_byte b = not (is_blank b || is_mark b || is_hash b)
 
@@ -36,6 +37,7 @@ abbrev pub onto_word : ℕ → ℕ → List Word → List Word
 onto_word col b [] = []
 onto_word col b (w ∷ words) = record { col = col; text = b ∷ w.text } ∷ words
 
+-- the words with a new one of this one byte before them
 abbrev pub new_word : ℕ → ℕ → List Word → List Word
 new_word col b words = record { col = col; text = b ∷ [] } ∷ words
 

@@ -14,14 +14,17 @@ use Rattle.ckc_asm.specs.Program.{size_of, address_of, HasLabel, IsLabelAt, IsWo
 
 -- ---- places
 
+-- column 1 of a line
 abbrev pub line_front : ℕ → Pos
 line_front k = record { line = k + 1; col = 1 }
 
+-- where a word of a line begins
 abbrev pub place_of : ℕ → Word → Pos
 place_of k w = record { line = k + 1; col = w.col }
 
 -- ---- the first of a list with a property
 
+-- The k-th of the list has the property, and none before it has.
 pub record IsFirst {A : Type 0} (P : ℕ → A → Type 0) (xs : List A) (k : ℕ) (x : A) : Type 0 where
   pub stands : slice_get xs k ≡ Some x
   pub holds : P k x
@@ -33,6 +36,7 @@ NoneHas {A} P xs = (k : ℕ) (x : A) → slice_get xs k ≡ Some x → P k x →
 
 -- ---- E801: a line of no form, or a second `.entry`
 
+-- the code E801
 abbrev pub no_form : ℕ
 no_form = 801
 
@@ -40,10 +44,12 @@ no_form = 801
 abbrev pub HasEntry : List ℕ → Type 0
 HasEntry line = (s : Statement) × HasStatement line s × IsEntry s.item.form
 
+-- The line is a `.entry`, and so is an earlier line.
 abbrev pub IsSecondEntry : List (List ℕ) → ℕ → List ℕ → Type 0
 IsSecondEntry lines k line =
     (j : ℕ) × (earlier : List ℕ) × (j < k) × (slice_get lines j ≡ Some earlier) × HasEntry earlier × HasEntry line
 
+-- The line has no form, or it is a second `.entry`.
 abbrev pub HasNoForm : List (List ℕ) → ℕ → List ℕ → Type 0
 HasNoForm lines k line = ((s : Statement) → ¬ HasStatement line s) ⊎ IsSecondEntry lines k line
 
@@ -54,27 +60,33 @@ pub record AreFormed (text : List ℕ) (statements : List Statement) : Type 0 wh
 
 -- ---- E803: a label a second time
 
+-- the code E803
 abbrev pub second_label : ℕ
 second_label = 803
 
+-- An earlier statement has the same label.
 abbrev pub HasOldLabel : List Statement → ℕ → Statement → Type 0
 HasOldLabel statements k s =
     (name : List ℕ) × (j : ℕ) × (t : Statement) × (j < k) × (slice_get statements j ≡ Some t) × HasLabel t name × HasLabel s name
 
 -- ---- E802: a label that stands nowhere
 
+-- the code E802
 abbrev pub unknown_label : ℕ
 unknown_label = 802
 
+-- The statement names a label that stands nowhere.
 abbrev pub NamesNothing : List Statement → ℕ → Statement → Type 0
 NamesNothing statements k s =
     (s.item.operand ≡ Named) × ((address : ℕ) → IsLabelAt statements s.operand.text address → ⊥)
 
 -- ---- E804: a number or distance that is odd or out of range, so that no word has it (specs/Ranges.antt has the ranges)
 
+-- the code E804
 abbrev pub out_of_range : ℕ
 out_of_range = 804
 
+-- The number or distance of the statement fits no word of its form.
 abbrev pub HasNoWord : List Statement → ℕ → Statement → Type 0
 HasNoWord statements k s =
     (z : ℤ) × (size_of s ≡ 4) × IsValue statements (address_of statements k) s.operand.text s.item.operand z
@@ -82,6 +94,7 @@ HasNoWord statements k s =
 
 -- ---- E805: the whole is not that of an image
 
+-- the code E805
 abbrev pub no_image : ℕ
 no_image = 805
 
@@ -98,12 +111,15 @@ pub data IsNoImage (statements : List Statement) : Type 0 where
 abbrev pub IsAt : (ℕ → Statement → Type 0) → (Statement → Word → Type 0) → List Statement → Pos → Type 0
 IsAt P at statements place = (k : ℕ) × (s : Statement) × (w : Word) × IsFirst P statements k s × at s w × (place ≡ place_of k w)
 
+-- The word is the label of the statement.
 abbrev pub IsLabel : Statement → Word → Type 0
 IsLabel s w = s.label ≡ Some w
 
+-- The word is the number or the named label of the statement.
 abbrev pub IsOperand : Statement → Word → Type 0
 IsOperand s w = s.operand ≡ w
 
+-- E805, at 1:1
 abbrev pub WholeFault : List Statement → ℕ → Pos → Type 0
 WholeFault statements code place = IsNoImage statements × (code ≡ no_image) × (place ≡ start)
 
@@ -125,6 +141,7 @@ LabelFault statements code place =
     (IsAt (HasOldLabel statements) IsLabel statements place × (code ≡ second_label))
     ⊎ (NoneHas (HasOldLabel statements) statements × NameFault statements code place)
 
+-- E801, at column 1 of the first line that has no form or is a second `.entry`
 abbrev pub FormFault : List ℕ → ℕ → Pos → Type 0
 FormFault text code place =
     (k : ℕ) × (line : List ℕ) × IsFirst (HasNoForm (lines_of text)) (lines_of text) k line × (code ≡ no_form) × (place ≡ line_front k)

@@ -9,6 +9,7 @@ use Rattle.ckc_asm.specs.declared.items.Item.{Item}
 use Rattle.ckc_asm.specs.Cut.{Word}
 use Rattle.ckc_asm.specs.Names.{branch_name, load_name, store_name, imm_name, reg_name}
 
+-- the word with which an item of the kind begins: a mnemonic or a directive
 abbrev pub kind_name : Kind → List ℕ
 kind_name kind.Lui = codes "lui"
 kind_name kind.Auipc = codes "auipc"
@@ -26,6 +27,7 @@ kind_name kind.Word = codes ".word"
 kind_name kind.Entry = codes ".entry"
 kind_name kind.Data = codes ".data"
 
+-- an item of this form with this number or label
 abbrev pub item : Form → Operand → Item
 item f operand = record { form = f; operand = operand }
 
@@ -44,8 +46,10 @@ pub record Statement : Type 0 where
   pub item : Item
   pub operand : Word
 
+-- an empty word, where a statement has no number and names no label
 abbrev pub no_word : Word
 no_word = record { col = 0; text = [] }
 
+-- how the words are spelled
 abbrev pub texts : List Word → List (List ℕ)
 texts words = map (λ w. w.text) words

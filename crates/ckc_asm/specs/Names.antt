@@ -12,6 +12,7 @@ use Rattle.ckc_rv_operations.specs.declared.operations.ImmOp.TheVariants.{Addi, 
 use Rattle.ckc_rv_operations.specs.declared.operations.RegOp.{RegOp}
 use Rattle.ckc_rv_operations.specs.declared.operations.RegOp.TheVariants.{Add, Sub, Sll, Slt, Sltu, Xor, Srl, Sra, Or, And, Mul, Mulh, Mulhsu, Mulhu, Div, Divu, Rem, Remu}
 
+-- the mnemonic of a branch
 abbrev pub branch_name : BranchOp → List ℕ
 branch_name Beq = codes "beq"
 branch_name Bne = codes "bne"
@@ -20,6 +21,7 @@ branch_name Bge = codes "bge"
 branch_name Bltu = codes "bltu"
 branch_name Bgeu = codes "bgeu"
 
+-- the mnemonic of a load
 abbrev pub load_name : LoadOp → List ℕ
 load_name Lb = codes "lb"
 load_name Lh = codes "lh"
@@ -27,11 +29,13 @@ load_name Lw = codes "lw"
 load_name Lbu = codes "lbu"
 load_name Lhu = codes "lhu"
 
+-- the mnemonic of a store
 abbrev pub store_name : StoreOp → List ℕ
 store_name Sb = codes "sb"
 store_name Sh = codes "sh"
 store_name Sw = codes "sw"
 
+-- the mnemonic of an operation with a number
 abbrev pub imm_name : ImmOp → List ℕ
 imm_name Addi = codes "addi"
 imm_name Slti = codes "slti"
@@ -43,6 +47,7 @@ imm_name Slli = codes "slli"
 imm_name Srli = codes "srli"
 imm_name Srai = codes "srai"
 
+-- the mnemonic of an operation on registers
 abbrev pub reg_name : RegOp → List ℕ
 reg_name Add = codes "add"
 reg_name Sub = codes "sub"

@@ -23,6 +23,7 @@ width_of form.Entry = 0
 width_of (form.Data bytes) = 0
 width_of f = 4
 
+-- how many bytes of code a statement takes
 abbrev pub size_of : Statement → ℕ
 size_of s = width_of s.item.form
 
@@ -30,6 +31,7 @@ size_of s = width_of s.item.form
 abbrev pub offset_of : List Statement → ℕ → ℕ
 offset_of statements k = sum_by size_of (take k statements)
 
+-- the address of the k-th statement, which is where its code would begin
 abbrev pub address_of : List Statement → ℕ → ℕ
 address_of statements k = code_start + offset_of statements k
 
@@ -76,10 +78,12 @@ pub data IsBytes (statements : List Statement) (address : ℕ) (s : Statement) (
 
 -- ---- entry and initial bytes
 
+-- the initial bytes that a `.data` gives; no other item gives any
 abbrev pub data_bytes : Form → List ℕ
 data_bytes (form.Data bytes) = bytes
 data_bytes f = []
 
+-- The item is a `.entry`.
 abbrev pub IsEntry : Form → Type 0
 IsEntry form.Entry = Unit {0}
 IsEntry f = ⊥
@@ -90,6 +94,7 @@ IsEntryOf statements name Nothing z = ⊥
 IsEntryOf statements name (Number n) z = z ≡ n
 IsEntryOf statements name Named z = (target : ℕ) × IsLabelAt statements name target × (z ≡ pos target)
 
+-- The program begins at this address: the one that `.entry` says, or 0x00001000 where no line is a `.entry`.
 pub data Enters (statements : List Statement) (z : ℤ) : Type 0 where
   first : ((k : ℕ) (s : Statement) → slice_get statements k ≡ Some s → IsEntry s.item.form → ⊥) → z ≡ pos code_start → Enters statements z
   there : (k : ℕ) (s : Statement) → slice_get statements k ≡ Some s → IsEntry s.item.form → IsEntryOf statements s.operand.text s.item.operand z → Enters statements z

@@ -12,6 +12,7 @@ use Rattle.ckc_asm.specs.Names.{branch_name, load_name, store_name, imm_name, re
 abbrev pub two : List ℕ → List ℕ → List ℕ
 two a b = a ++ codes ", " ++ b
 
+-- the same for three operands
 abbrev pub three : List ℕ → List ℕ → List ℕ → List ℕ
 three a b c = two a b ++ codes ", " ++ c
 
@@ -23,6 +24,7 @@ from_register offset n = signed_decimal offset ++ codes "(" ++ register n ++ cod
 abbrev pub named : List ℕ → List ℕ → List ℕ
 named name operands = name ++ codes " " ++ operands
 
+-- an instruction as assembly
 abbrev pub instr_text : Instr → List ℕ
 instr_text (Lui rd upper) = named (codes "lui") (two (register rd) (hexadecimal 5 upper))
 instr_text (Auipc rd upper) = named (codes "auipc") (two (register rd) (hexadecimal 5 upper))
@@ -42,9 +44,11 @@ abbrev pub instr_or_word : Option Instr → ℕ → List ℕ
 instr_or_word (Some i) word = instr_text i
 instr_or_word None word = named (codes ".word") (hexadecimal 8 word)
 
+-- a word of the code as assembly
 abbrev pub word_text : ℕ → List ℕ
 word_text word = instr_or_word (decoded word) word
 
+-- the `.entry` line of an image
 abbrev pub entry_text : ℕ → List ℕ
 entry_text entry = named (codes ".entry") (hexadecimal 8 entry)
 
@@ -56,12 +60,15 @@ data_text bytes = codes ".data" ++ flat_map (λ byte. 32 ∷ hex 2 byte) bytes
 abbrev pub word_line : List ℕ → ℕ → List ℕ
 word_line code k = word_text (word_at code (4 * k))
 
+-- the `.data` line of the k-th sixteen initial bytes
 abbrev pub data_line : List ℕ → ℕ → List ℕ
 data_line initial k = data_text (take 16 (drop (16 * k) initial))
 
+-- one line for each word of the code
 abbrev pub word_lines : List ℕ → List (List ℕ)
 word_lines code = map (word_line code) (range_with_len 0 (length code / 4))
 
+-- one line for each sixteen initial bytes and for those left over
 abbrev pub data_lines : List ℕ → List (List ℕ)
 data_lines initial = map (data_line initial) (range_with_len 0 ((length initial + 15) / 16))
 
@@ -73,8 +80,10 @@ listing_lines entry code initial = entry_text entry ∷ word_lines code ++ data_
 abbrev pub ended : List ℕ → List ℕ
 ended line = line ++ 10 ∷ []
 
+-- the text of these lines
 abbrev pub text_of : List (List ℕ) → List ℕ
 text_of lines = flat_map ended lines
 
+-- the listing of an image: its entry, its code and its initial bytes
 abbrev pub listing : ℕ → List ℕ → List ℕ → List ℕ
 listing entry code initial = text_of (listing_lines entry code initial)

@@ -31,6 +31,7 @@ unfoldable pub with_bytes : Memory → ℕ → ℕ → ℕ → Memory
 with_bytes memory zero a value = memory
 with_bytes memory (suc count) a value = with_byte (with_bytes memory count (a + 1) (value / 256)) a (value % 256)
 
+-- how many bytes an access of the width reads or writes
 abbrev pub width_bytes : Width → ℕ
 width_bytes Byte = 1
 width_bytes Word = 4

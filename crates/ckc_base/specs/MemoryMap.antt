@@ -42,5 +42,6 @@ longest_data = 16777216
 abbrev pub stack_start : ℕ
 stack_start = 0x03000000
 
+-- where the stack ends, and with it the memory of the machine
 abbrev pub memory_end : ℕ
 memory_end = 0x04000000

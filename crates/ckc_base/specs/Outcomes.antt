@@ -6,6 +6,7 @@ use Rattle.ckc_base.specs.declared.fault.Fault.{Fault}
 use Rattle.ckc_base.specs.declared.fault.Fault.TheVariants as fault
 use Rattle.ckc_base.specs.Phases.{Phase}
 
+-- what a part becomes, or its first error
 abbrev pub Outcome : Type 0 → Type 0
 Outcome A = Result A Refusal
 
@@ -14,6 +15,7 @@ abbrev pub bind : {A B : Type 0} → Outcome A → (A → Outcome B) → Outcome
 bind (Ok a) f = f a
 bind (Err r) f = Err r
 
+-- the error with this code at this place
 abbrev pub refused : {A : Type 0} → ℕ → Pos → Outcome A
 refused code pos = Err (record { code = code; pos = pos })
 

@@ -4,6 +4,7 @@ use Rattle.ckc_base.specs.declared.places.Refusal.{Refusal}
 use Rattle.ckc_base.specs.declared.fault.Fault.{Fault}
 use Rattle.ckc_base.specs.declared.fault.Fault.TheVariants as fault
 
+-- a phase: what it makes of what it is given, and for which first error it refuses it
 pub record Phase (A B : Type 0) : Type 1 where
   pub Makes : A → B → Type 0
   pub Refuses : A → Refusal → Type 0

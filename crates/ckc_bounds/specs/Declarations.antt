@@ -62,6 +62,7 @@ first_of zero ls = []
 first_of (suc n) [] = []
 first_of (suc n) (l ∷ ls) = l ∷ first_of n ls
 
+-- The first n locals are at most n.
 first_of_short : (n : ℕ) (ls : List Local) → length (first_of n ls) ≤ n
 first_of_short zero ls = zero-le
 first_of_short (suc n) [] = zero-le
@@ -72,10 +73,12 @@ first_of_short (suc n) (l ∷ ls) = suc-le-suc (first_of_short n ls)
 unfoldable pub few_of : List Local → List Local
 few_of ls = first_of 1023 ls
 
+-- What is left of the locals is fewer than 1,024.
 pub few_of_few : (ls : List Local) → length (few_of ls) < 1024
 unfolding few_of
 few_of_few ls = suc-le-suc (first_of_short 1023 ls)
 
+-- a frame with these locals in place of its own
 abbrev pub with_locals : Frame → List Local → Frame
 with_locals frame ls = record frame { locals = few_of ls; few = few_of_few ls }
 
@@ -95,6 +98,7 @@ head_bounds frame h = record {
   bounds = known_or_not (result_bounds (types_in frame h.params) h);
 }
 
+-- whether a name means the function with the number n
 abbrev pub is_function_at : Name → ℕ → Bool
 is_function_at (name.Function k) n = k == n
 is_function_at _ n = false
@@ -103,6 +107,7 @@ is_function_at _ n = false
 abbrev pub with_head : Frame → List HeadBounds → NotedHead → List HeadBounds
 with_head frame heads h = if is_function_at h.name (length heads) then heads ++ head_bounds frame h ∷ [] else heads
 
+-- the heads that are known after an item of the source file
 abbrev pub with_item : Frame → List HeadBounds → NotedItem → List HeadBounds
 with_item frame heads (item.Proto h) = with_head frame heads h
 with_item frame heads (item.Function h body) = with_head frame heads h
@@ -113,6 +118,7 @@ abbrev pub heads_from : Frame → List HeadBounds → List NotedItem → List He
 heads_from frame heads [] = heads
 heads_from frame heads (i ∷ is) = heads_from frame (with_item frame heads i) is
 
+-- the bounds of an object of file scope, if some are written
 abbrev pub object_bounds_in : Frame → NotedDecl → Option NotedLimits → Option Bounds
 object_bounds_in frame d None = None
 object_bounds_in frame d (Some l) = Some (known_or_not (decl_bounds frame holder.Static d))
@@ -121,6 +127,7 @@ object_bounds_in frame d (Some l) = Some (known_or_not (decl_bounds frame holder
 abbrev pub object_bounds : Frame → NotedDecl → Option Bounds
 object_bounds frame d = object_bounds_in frame d d.bounds
 
+-- the bounds of the objects of file scope from an item on, by those of the objects after it
 abbrev pub with_object : Frame → NotedItem → List (Option Bounds) → List (Option Bounds)
 with_object frame (item.Static d) rest = object_bounds frame d ∷ rest
 with_object frame _ rest = rest

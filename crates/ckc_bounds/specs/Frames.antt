@@ -27,6 +27,7 @@ text_frame structs statics items = record (structs_frame structs statics) {
 abbrev pub all_of : NotedHead → NotedStmt → List NotedDecl
 all_of h body = h.params ++ (path body).declared
 
+-- the local that a parameter is, as a list of at most one
 abbrev pub name_seen : NotedDecl → List ℕ
 name_seen d = local_in d.name
 
@@ -40,6 +41,7 @@ abbrev pub needed_from : ℕ → Outcome (NotedStmt × Here) → ℕ
 needed_from n (Ok p) = p.1.next - n
 needed_from n (Err r) = 0
 
+-- how many fresh variables the first walk through a function needs
 abbrev pub counted : Frame → HeadBounds → NotedHead → NotedStmt → ℕ → ℕ
 counted frame head h body n = needed_from n ((path body).judged frame head (begin_in frame true h n))
 
@@ -53,9 +55,11 @@ fresh_needed frame head h body n =
 abbrev pub nameless : Local
 nameless = bare ctype.Void
 
+-- a frame with n fresh variables after its locals
 abbrev pub with_nameless : ℕ → Frame → Frame
 with_nameless n frame = with_locals frame (frame.locals ++ replicate n nameless)
 
+-- the frame of a function with its parameters and locals, without fresh variables
 abbrev pub locals_frame : Frame → NotedHead → NotedStmt → Frame
 locals_frame frame h body = with_locals frame (declared_in frame (all_of h body))
 
@@ -68,6 +72,7 @@ abbrev pub frame_by : Frame → HeadBounds → NotedHead → NotedStmt → Frame
 frame_by frame head h body =
     with_nameless (fresh_needed (locals_frame frame h body) head h body (first_fresh h body)) (locals_frame frame h body)
 
+-- the frame of a function: its parameters and locals, then its fresh variables
 abbrev pub function_frame : Frame → NotedHead → NotedStmt → Frame
 function_frame frame h body = frame_by frame (head_bounds frame h) h body
 

@@ -25,6 +25,7 @@ abbrev pub object_judged : Frame → NotedDecl → Outcome NotedDecl
 object_judged frame d =
     bind (bounds_there frame d) (λ b. bind (init_judged frame d.init (outside frame)) (λ p. Ok (record d { init = p.0 })))
 
+-- the body of a function with the ranges of its pointers noted, or its first error
 abbrev pub body_judged : Frame → NotedHead → NotedStmt → Outcome NotedStmt
 body_judged frame h body =
     bind ((path body).judged (function_frame frame h body) (head_bounds frame h) (begin_of frame h body)) (λ p. Ok p.0)
@@ -33,6 +34,7 @@ body_judged frame h body =
 abbrev pub head_kept : Frame → NotedHead → Outcome NotedHead
 head_kept frame h = bind (head_judged (types_in frame h.params) h) (λ b. Ok h)
 
+-- a function, its head judged before its body, or its first error
 abbrev pub function_judged : Frame → NotedHead → NotedStmt → Outcome NotedItem
 function_judged frame h body =
     bind (head_kept frame h) (λ g. bind (body_judged frame h body) (λ s. Ok (item.Function g s)))
@@ -46,6 +48,7 @@ item_judged frame (item.Static d) = bind (object_judged frame d) (λ e. Ok (item
 item_judged frame (item.Proto h) = bind (head_kept frame h) (λ g. Ok (item.Proto g))
 item_judged frame (item.Function h body) = function_judged frame h body
 
+-- the same of each item of a source file, in order
 abbrev pub items_judged : Frame → List NotedItem → Outcome (List NotedItem)
 items_judged frame items = in_order (map (item_judged frame) items)
 

@@ -46,6 +46,7 @@ own holder.Result = base.Value 0
 own holder.Static = base.Value 0
 own (holder.Member tag) = base.Value 0
 
+-- whether the structure has an integer member m
 abbrev pub is_integer_member : Structs → ℕ → ℕ → Bool
 is_integer_member structs tag m = list_any (λ s. (s.name == m) && is_integer s.ctype) (members_of structs tag)
 
@@ -63,6 +64,7 @@ variable_for frame holder.Result n = variable frame n
 variable_for frame holder.Static n = None
 variable_for frame (holder.Member tag) n = member_variable frame.structs tag n
 
+-- a variable and a constant, or the constant alone, as a form
 abbrev pub amount_with : Frame → Holder → Option Name → ℤ → Option Form
 amount_with frame h None c = Some (constant_form c)
 amount_with frame h (Some n) c = moved_form (variable_for frame h n) c
@@ -77,16 +79,19 @@ abbrev pub counted : Base → Option Form → Option Bounds
 counted b None = None
 counted b (Some f) = Some (bounds.Known (base_form b) (record f { base = Some b }))
 
+-- whether a pointer is of a checked kind
 abbrev pub is_checked : Option Kind → Bool
 is_checked (Some kind.One) = true
 is_checked (Some kind.Arr) = true
 is_checked (Some kind.Nt) = true
 is_checked _ = false
 
+-- the place of a local that is a checked pointer to the same type as t
 abbrev pub local_base : CType → ℕ → Option Local → Option Form
 local_base t k None = None
 local_base t k (Some l) = if is_checked (kind_of l.ctype) && same_element t l.ctype then Some (base_form (base.Local k)) else None
 
+-- whether a type, by its outermost part, is a pointer to the type u
 abbrev pub is_element_in : CType-F CType → CType → Bool
 is_element_in (CType-F.Pointer k t) u = same_type t u
 is_element_in _ u = false
@@ -95,6 +100,7 @@ is_element_in _ u = false
 abbrev pub is_element : CType → CType → Bool
 is_element t u = is_element_in (out-CType t) u
 
+-- the place of a static checked array whose elements are of the type that t points to
 abbrev pub array_base : CType → ℕ → Option StaticObject → Option Form
 array_base t k None = None
 array_base t k (Some o) = if is_checked o.array && is_element t o.element then Some (base_form (base.Array k)) else None
@@ -105,14 +111,17 @@ named_base frame t (name.Local k) = local_base t k (local_at frame k)
 named_base frame t (name.Static k) = array_base t k (slice_get frame.statics k)
 named_base frame t _ = None
 
+-- the pointer and the amount of an end of bounds, if the pointer is a name
 abbrev pub named_pieces : Option Name → Option Amount → Option Pieces
 named_pieces None by = None
 named_pieces (Some n) by = Some (record { name = n; by = by })
 
+-- the amount in `p - c`, by the number -c
 abbrev pub negative_amount : Option ℤ → Option Amount
 negative_amount None = None
 negative_amount (Some c) = Some (fixed c)
 
+-- the pointer and the amount of `p + k`, `p - c`, `p + x + k` and `p + x - c`
 abbrev pub sum_pieces : Structs → TreeOp → NotedLayer → NotedExpr → Option Pieces
 sum_pieces structs op.Add (Node-F.Name n) k = Some (record { name = n; by = amount structs k })
 sum_pieces structs op.Sub (Node-F.Name n) k = Some (record { name = n; by = negative_amount (negative (number_in structs k)) })
@@ -120,11 +129,13 @@ sum_pieces structs op.Add (Node-F.Bin op.Add p x) k = named_pieces (variable_in 
 sum_pieces structs op.Sub (Node-F.Bin op.Add p x) k = named_pieces (variable_in p) (sum_amount structs op.Sub x k)
 sum_pieces structs _ _ k = None
 
+-- the pointer and the amount of an end of `bounds(f, g)`
 abbrev pub node_pieces : Structs → NotedLayer → Option Pieces
 node_pieces structs (Node-F.Name n) = Some (record { name = n; by = Some (fixed (pos 0)) })
 node_pieces structs (Node-F.Bin o e k) = sum_pieces structs o (out-Node Name Note e.node) k
 node_pieces structs _ = None
 
+-- the form of an end of `bounds(f, g)`, by its pointer and its amount
 abbrev pub bound_with : Frame → Holder → CType → Option Pieces → Option Form
 bound_with frame h t None = None
 bound_with frame h t (Some p) = sum_of_forms (named_base frame t p.name) (amount_form frame h p.by)
@@ -134,6 +145,7 @@ bound_with frame h t (Some p) = sum_of_forms (named_base frame t p.name) (amount
 abbrev pub bound : Frame → Holder → CType → NotedExpr → Option Form
 bound frame h t e = bound_with frame h t (node_pieces frame.structs (out-Node Name Note e.node))
 
+-- known bounds from one end up to another, if both have a form
 abbrev pub known_between : Option Form → Option Form → Option Bounds
 known_between (Some f) (Some g) = Some (bounds.Known f g)
 known_between (Some f) None = None
@@ -146,6 +158,7 @@ takes_ends holder.Result = true
 takes_ends holder.Static = false
 takes_ends (holder.Member tag) = false
 
+-- the bounds that are written, if they have one of the forms that they may have
 abbrev pub bounds_written : Frame → Holder → CType → Limits-F Name Note NotedLimits NotedNode NotedExpr → Option Bounds
 bounds_written frame h t (Limits-F.Count e at) = counted (own h) (amount_form frame h (amount frame.structs e))
 bounds_written frame h t (Limits-F.ByteCount e at) =
@@ -154,6 +167,7 @@ bounds_written frame h t (Limits-F.Between e f at) =
     if takes_ends h then known_between (bound frame h t e) (bound frame h t f) else None
 bounds_written frame h t (Limits-F.Unknown at) = Some bounds.Unknown
 
+-- whether a pointer of the kind may have bounds
 abbrev pub takes_bounds_kind : Option Kind → Bool
 takes_bounds_kind (Some kind.Arr) = true
 takes_bounds_kind (Some kind.Nt) = true
@@ -163,6 +177,7 @@ takes_bounds_kind _ = false
 abbrev pub takes_bounds : CType → Length → Bool
 takes_bounds t length = takes_bounds_kind (kind_of t) && is_none (kind_of_array length)
 
+-- the bounds of a pointer with none written, by its kind
 abbrev pub bounds_of_kind : Base → Option Kind → Bounds
 bounds_of_kind b (Some kind.One) = bounds.Known (base_form b) (record { base = Some b; var = 0; add = pos 1 })
 bounds_of_kind b (Some kind.Nt) = bounds.Known (base_form b) (base_form b)
@@ -172,15 +187,18 @@ bounds_of_kind b _ = bounds.Unknown
 abbrev pub bounds_by_type : Base → CType → Bounds
 bounds_by_type b t = bounds_of_kind b (kind_of t)
 
+-- the place of the first token of bounds, by their form
 abbrev pub place_in : {A L M E : Type 0} → Limits-F Name A L M E → Pos
 place_in (Limits-F.Count e at) = at
 place_in (Limits-F.ByteCount e at) = at
 place_in (Limits-F.Between e f at) = at
 place_in (Limits-F.Unknown at) = at
 
+-- the place of the first token of bounds
 abbrev pub place_of_limits : NotedLimits → Pos
 place_of_limits l = place_in (out-Limits Name Note l)
 
+-- the bounds that are written, if the declared type may have some
 abbrev pub bounds_taken : Frame → Holder → CType → Length → NotedLimits → Option Bounds
 bounds_taken frame h t length l =
     if takes_bounds t length then bounds_written frame h t (out-Limits Name Note l) else None

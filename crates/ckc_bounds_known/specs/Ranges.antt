@@ -8,6 +8,7 @@ use Rattle.ckc_linear.specs.Facts.{names}
 use Rattle.ckc_bounds_known.specs.declared.intervals.Interval.{Interval}
 use Rattle.ckc_bounds_known.specs.Shown.{Known, is_within}
 
+-- the numbers of `int`, `unsigned` and `char`; no other type has any
 abbrev pub range_in : {X : Type 0} → CType-F X → Option Interval
 range_in CType-F.Int = Some (record { low = negsuc 2147483647; high = 2147483647 })
 range_in CType-F.Unsigned = Some (record { low = pos 0; high = 4294967295 })
@@ -22,6 +23,7 @@ range_of t = range_in (out-CType t)
 abbrev pub fits : ℕ → Fact → Bool
 fits vars f = nat_lt f.x vars && (nat_lt f.y vars && is_within (2 ^ 50) f.c)
 
+-- the facts with one more at the end, if it is such a fact
 abbrev pub with_fact : Fact → Known → Known
 with_fact f facts = if fits facts.vars f then record facts { list = facts.list ++ f ∷ [] } else facts
 
@@ -38,8 +40,10 @@ forgotten x facts = record facts { list = filter (λ f. not (names x f)) facts.l
 abbrev pub is_small : ℤ → Bool
 is_small n = is_within (2 ^ 40) n
 
+-- the fact that a form is at most the greatest number of a range
 abbrev pub below : Form → Interval → Fact
 below f r = record { x = f.var; y = 0; c = pos r.high -ℤ f.add }
 
+-- the fact that a form is at least the least number of a range
 abbrev pub above : Form → Interval → Fact
 above f r = record { x = 0; y = f.var; c = f.add -ℤ r.low }

@@ -52,6 +52,7 @@ assigned_facts x r (Some f) facts =
     then with_range x r (moved x f.add facts)
     else with_equal x f (with_range x r (forgotten x facts))
 
+-- whether a base is the local k
 abbrev pub names_local : ℕ → Option Base → Bool
 names_local k (Some (base.Local j)) = j == k
 names_local k _ = false
@@ -60,10 +61,12 @@ names_local k _ = false
 abbrev pub in_form : ℕ → Form → Bool
 in_form k f = names_local k f.base || (f.var == k + 1)
 
+-- whether bounds name the local k
 abbrev pub in_bounds : ℕ → Bounds → Bool
 in_bounds k bounds.Unknown = false
 in_bounds k (bounds.Known low high) = in_form k low || in_form k high
 
+-- whether the bounds of a local name the local k
 abbrev pub in_bounds_of : ℕ → Option Local → Bool
 in_bounds_of k (Some l) = in_bounds k l.bounds
 in_bounds_of k None = false
@@ -76,9 +79,11 @@ widening_names frame k p = (p == k) || in_bounds_of k (local_at frame p)
 abbrev pub unwidened : Frame → ℕ → List ℕ → List ℕ
 unwidened frame k ps = filter (λ p. not (widening_names frame k p)) ps
 
+-- the facts after an assignment to the local k, which change if it is an integer
 abbrev pub facts_assigned : ℕ → Local → Option Form → Known → Known
 facts_assigned k l form facts = if is_integer l.ctype then assigned_facts (k + 1) (range_of l.ctype) form facts else facts
 
+-- the point after an assignment to the local k, if there is such a local
 abbrev pub local_assigned : Frame → ℕ → Option Local → Option Form → State → State
 local_assigned frame k None form at = at
 local_assigned frame k (Some l) form at =
@@ -95,6 +100,7 @@ abbrev pub less : Frame → List ℕ → State → State
 less frame [] at = at
 less frame (k ∷ ks) at = less frame ks (assigned frame k None at)
 
+-- whether two facts are the same
 abbrev pub same_fact : Fact → Fact → Bool
 same_fact f g = (f.x == g.x) && ((f.y == g.y) && int_eq f.c g.c)
 
@@ -102,6 +108,7 @@ same_fact f g = (f.x == g.x) && ((f.y == g.y) && int_eq f.c g.c)
 abbrev pub in_both : List Fact → List Fact → List Fact
 in_both fs gs = filter (λ f. list_any (same_fact f) gs) fs
 
+-- the widened locals that are in both lists
 abbrev pub wide_in_both : List ℕ → List ℕ → List ℕ
 wide_in_both ps qs = filter (λ p. list_any (λ q. q == p) qs) ps
 

@@ -7,9 +7,11 @@ use Rattle.ckc_typed.specs.Types.{is_integer}
 use Rattle.ckc_bounds_points.specs.declared.frame.Local.{Local}
 use Rattle.ckc_bounds_points.specs.declared.frame.Frame.{Frame}
 
+-- the local with the number k
 abbrev pub local_at : Frame → ℕ → Option Local
 local_at frame k = slice_get frame.locals k
 
+-- the form of the local k, if it is an integer
 abbrev pub variable_of : ℕ → Option Local → Option Form
 variable_of k (Some l) = if is_integer l.ctype then Some (record { base = None; var = k + 1; add = pos 0 }) else None
 variable_of k None = None

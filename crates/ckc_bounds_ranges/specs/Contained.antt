@@ -20,6 +20,7 @@ is_at_most facts f g =
 abbrev pub at_most_far : Form → Form → Fact
 at_most_far f g = record { x = f.var; y = g.var; c = (g.add -ℤ f.add) +ℤ pos 16777216 }
 
+-- the facts with `f <= g + 16,777,216`
 abbrev pub with_far : Form → Form → Known → Known
 with_far f g facts = if is_small f.add && is_small g.add then with_fact (at_most_far f g) facts else facts
 

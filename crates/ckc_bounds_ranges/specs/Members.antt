@@ -17,16 +17,20 @@ abbrev pub names_some : MemberBounds → Bool
 names_some (bounds.Named n c) = true
 names_some _ = false
 
+-- whether bounds are written at a member
 abbrev pub has_bounds : MemberBounds → Bool
 has_bounds bounds.Nothing = false
 has_bounds _ = true
 
+-- whether the bounds of a member of the structure name the member m
 abbrev pub is_named : Structs → ℕ → ℕ → Bool
 is_named structs tag m = list_any (λ s. names_member m s.bounds) (members_of structs tag)
 
+-- whether bounds are written at the member m
 abbrev pub is_declared : Structs → ℕ → ℕ → Bool
 is_declared structs tag m = list_any (λ s. (s.name == m) && has_bounds s.bounds) (members_of structs tag)
 
+-- whether the bounds of the member m name a member
 abbrev pub names_another : Structs → ℕ → ℕ → Bool
 names_another structs tag m = list_any (λ s. (s.name == m) && names_some s.bounds) (members_of structs tag)
 
@@ -44,6 +48,7 @@ abbrev pub may_be_assigned_alone : Structs → ℕ → ℕ → Bool → Bool
 may_be_assigned_alone structs tag m null =
     not (takes_part structs tag m) || (is_declared structs tag m && (not (is_named structs tag m) && null))
 
+-- whether the member m is among the targets of a bundle
 abbrev pub is_target : List ℕ → ℕ → Bool
 is_target targets m = list_any (λ n. n == m) targets
 
@@ -52,9 +57,11 @@ abbrev pub is_covered : List ℕ → MemberShape → MemberBounds → Bool
 is_covered targets s (bounds.Named n c) = is_target targets s.name && is_target targets n
 is_covered targets s _ = is_target targets s.name
 
+-- whether a member is m, or its bounds name m
 abbrev pub is_touched : ℕ → MemberShape → Bool
 is_touched m s = (s.name == m) || names_member m s.bounds
 
+-- whether a member has nothing to do with m, or is a target together with the member that its bounds name
 abbrev pub is_kept : List ℕ → ℕ → MemberShape → Bool
 is_kept targets m s = not (is_touched m s) || is_covered targets s s.bounds
 

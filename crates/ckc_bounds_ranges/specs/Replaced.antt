@@ -14,6 +14,7 @@ abbrev pub place_for : List BaseBy → Base → Option Form
 place_for [] b = Some (base_form b)
 place_for (r ∷ rest) b = if same_base (Some r.base) (Some b) then r.by else place_for rest b
 
+-- what stands for the base of a form, if it has one
 abbrev pub base_replaced : List BaseBy → Option Base → Option Form
 base_replaced bases None = Some (record { base = None; var = 0; add = pos 0 })
 base_replaced bases (Some b) = place_for bases b
@@ -28,6 +29,7 @@ variable_replaced (r ∷ rest) x = if r.var == x then r.by else variable_replace
 abbrev pub replaced : List BaseBy → List VariableBy → Form → Option Form
 replaced bases variables f = moved_form (sum_of_forms (base_replaced bases f.base) (variable_replaced variables f.var)) f.add
 
+-- a lower and an upper end, if both have a form
 abbrev pub both_ends : Option Form → Option Form → Option Ends
 both_ends (Some f) (Some g) = Some (record { low = f; high = g })
 both_ends (Some f) None = None

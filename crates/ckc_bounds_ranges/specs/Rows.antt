@@ -19,6 +19,7 @@ use Rattle.ckc_bounds_ranges.specs.declared.containment.Ends.{Ends}
 abbrev pub range_from : Base → Form → Range
 range_from b k = range.Known (base_form b) (record k { base = Some b })
 
+-- the range from a lower end to an upper one; it is missing if the upper one has no form
 abbrev pub range_moved : Form → Option Form → Range
 range_moved low None = range.Missing
 range_moved low (Some high) = range.Known low high
@@ -33,10 +34,12 @@ abbrev pub range_of_ends : Option Ends → Range
 range_of_ends None = range.Missing
 range_of_ends (Some r) = range.Known r.low r.high
 
+-- the range of declared bounds with one element more at the end
 abbrev pub range_widened : Bounds → Range
 range_widened bounds.Unknown = range.Missing
 range_widened (bounds.Known low high) = range_moved low (moved_form (Some high) (pos 1))
 
+-- the range of a local pointer, widened or as declared
 abbrev pub range_by : Option Local → Bool → Range
 range_by None wide = range.Missing
 range_by (Some l) wide = if wide then range_widened l.bounds else range_of_bounds l.bounds

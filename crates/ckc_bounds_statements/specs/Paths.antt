@@ -38,20 +38,25 @@ pub record Here : Type 0 where
   pub next : ℕ
   pub counting : Bool
 
+-- an expression with the ranges of its pointers noted, or its first error; the first walk leaves it as it is
 abbrev pub expr_judged : Frame → NotedExpr → Here → Outcome NotedExpr
 expr_judged frame e here = if here.counting then Ok e else (view frame e).judged here.next here.at
 
+-- the same, and where the walk stands after it
 unfoldable pub value_judged : Frame → NotedExpr → Here → Outcome (NotedExpr × Here)
 value_judged frame e here =
     bind (expr_judged frame e here) (λ f. Ok (f, record here { next = fresh_behind (view frame e) here.next here.at }))
 
+-- the same of each expression of a list
 abbrev pub values_judged : Frame → List NotedExpr → Here → Outcome (List NotedExpr × Here)
 values_judged frame es = in_turn (map (value_judged frame) es)
 
+-- the same of an expression that there may be
 abbrev pub maybe_judged : Frame → Option NotedExpr → Here → Outcome (Option NotedExpr × Here)
 maybe_judged frame None here = Ok (None, here)
 maybe_judged frame (Some e) here = bind (value_judged frame e here) (λ p. Ok (Some p.0, p.1))
 
+-- the same of an initialiser
 abbrev pub init_judged : Frame → NotedInit → Here → Outcome (NotedInit × Here)
 init_judged frame init.Nothing here = Ok (init.Nothing, here)
 init_judged frame (init.One e) here = bind (value_judged frame e here) (λ p. Ok (init.One p.0, p.1))
@@ -66,10 +71,12 @@ abbrev pub maybe_side : Frame → Bool → Option NotedExpr → State → State
 maybe_side frame side None at = at
 maybe_side frame side (Some e) at = side_of frame side e at
 
+-- the local that a name means, as a list of at most one
 abbrev pub local_in : Name → List ℕ
 local_in (name.Local k) = k ∷ []
 local_in _ = []
 
+-- the same of a node of an expression
 abbrev pub local_in_node : {A L M E : Type 0} → Node-F Name A L M E → List ℕ
 local_in_node (Node-F.Name n) = local_in n
 local_in_node _ = []
@@ -78,6 +85,7 @@ local_in_node _ = []
 abbrev pub target_in : NotedExpr → List ℕ
 target_in e = local_in_node (out-Node Name Note e.node)
 
+-- whether the bounds of a local contain its initialiser, if one is written
 abbrev pub starts_within : Frame → Name → NotedInit → ℕ → Here → Bool
 starts_within frame (name.Local k) (init.One e) first here = here.counting || initialised frame k e first here.at
 starts_within frame _ _ first here = true
@@ -92,6 +100,7 @@ start_form frame t init.Nothing facts = Some (constant_form (pos 0))
 start_form frame t (init.One e) facts = value_form frame t e facts
 start_form frame t (init.Many es) facts = None
 
+-- the point after a local has got the value that it begins with
 abbrev pub started : Frame → Name → CType → NotedInit → State → State
 started frame (name.Local k) t i at = assigned frame k (start_form frame t i at.facts) at
 started frame _ t i at = at
@@ -101,6 +110,7 @@ abbrev pub declared_here : Frame → NotedDecl → NotedInit → Here → Here
 declared_here frame d i here =
     record here { seen = here.seen ++ local_in d.name; at = started frame d.name (type_written d.ctype) i here.at }
 
+-- the declared bounds, or E603; the first walk passes over them
 abbrev pub bounds_judged : Frame → NotedDecl → Here → Outcome Bounds
 bounds_judged frame d here = if here.counting then Ok bounds.Unknown else bounds_there frame d
 
@@ -111,13 +121,16 @@ decl_judged frame d here =
     unless (not (starts_within frame d.name p.0 here.next p.1)) not_contained d.pos
     (Ok (record d { init = p.0 }, declared_here frame d p.0 p.1))))
 
+-- a statement at a place, with a note
 abbrev pub stated : Pos → Note → NotedAct → NotedStmt
 stated at note a = record { body = a; pos = at; note = note }
 
+-- an assignment with the ranges in its two sides noted, or its first error
 abbrev pub sides_judged : Frame → Pos → Note → NotedExpr → NotedExpr → Here → Outcome (NotedStmt × Here)
 sides_judged frame at note e f here =
     bind (value_judged frame e here) (λ p. bind (value_judged frame f p.1) (λ q. Ok (stated at note (act.Assign p.0 q.0), q.1)))
 
+-- the point after assignments that are judged as one, or their first error; the first walk tells none
 abbrev pub stores_judged : Frame → HeadBounds → List NotedStmt → ℕ → Here → Outcome State
 stores_judged frame head ss first here =
     if here.counting then Ok (passed frame (stores_of ss) first here.at)
@@ -127,10 +140,12 @@ stores_judged frame head ss first here =
 abbrev pub behind_stores : Frame → HeadBounds → List NotedStmt → ℕ → Here → Outcome Here
 behind_stores frame head ss first here = bind (stores_judged frame head ss first here) (λ at. Ok (record here { at = at }))
 
+-- an assignment: its two sides, and then what it owes
 abbrev pub assign_judged : Frame → HeadBounds → Pos → Note → NotedExpr → NotedExpr → Here → Outcome (NotedStmt × Here)
 assign_judged frame head at note e f here =
     bind (sides_judged frame at note e f here) (λ p. bind (behind_stores frame head (p.0 ∷ []) here.next p.1) (λ h. Ok (p.0, h)))
 
+-- a call that is a statement
 abbrev pub call_judged : Frame → Pos → Note → NotedExpr → Here → Outcome (NotedStmt × Here)
 call_judged frame at note e here = bind (value_judged frame e here) (λ p. Ok (stated at note (act.Call p.0), p.1))
 
@@ -143,6 +158,7 @@ check_judged frame at note e here =
 abbrev pub gone : Frame → Here → Here
 gone frame here = record here { at = unreached frame }
 
+-- whether the bounds of the result contain the value that is returned, if there is one
 abbrev pub is_returned : Frame → HeadBounds → Option NotedExpr → ℕ → Here → Bool
 is_returned frame head None first here = true
 is_returned frame head (Some e) first here = here.counting || returned frame head e first here.at
@@ -177,6 +193,7 @@ pub record ActPath : Type 0 where
   pub part : Frame → Pos → Pos → Note → Here → Outcome (NotedStmt × Here)
   pub judged : Frame → HeadBounds → Pos → Note → Here → Outcome (NotedStmt × Here)
 
+-- what a statement does, with what is said of the statements in it
 abbrev pub ActOfPaths : Type 0
 ActOfPaths = Act-F Name Note ActPath Path
 
@@ -197,6 +214,7 @@ act_declared (Act-F.For s e t u) = there_declared s ++ (u.declared ++ there_decl
 act_declared (Act-F.Bundle ss) = all_declared ss
 act_declared _ = []
 
+-- whether an expression may need a fresh variable
 unfoldable pub needs_expr : Frame → NotedExpr → Bool
 needs_expr frame e = not ((view frame e).most_fresh == 0)
 
@@ -288,9 +306,11 @@ abbrev pub act_part : ActOfPaths → Frame → Pos → Pos → Note → Here →
 act_part (Act-F.Assign e f) frame bundle at note here = sides_judged frame at note e f here
 act_part _ frame bundle at note here = refused bad_bundle bundle
 
+-- the assignments of a bundle, in order
 unfoldable pub parts_judged : Frame → Pos → List Path → Here → Outcome (List NotedStmt × Here)
 parts_judged frame bundle ss = in_turn (map (λ s. s.part frame bundle) ss)
 
+-- whether statements have the form of a bundle; the first walk does not ask
 abbrev pub is_good : Here → List NotedStmt → Bool
 is_good here ss = here.counting || is_bundle ss
 
@@ -300,9 +320,11 @@ bundle_judged frame head at note ss here =
     bind (parts_judged frame at ss here) (λ p. unless (not (is_good p.1 p.0)) bad_bundle at
     (bind (behind_stores frame head p.0 here.next p.1) (λ h. Ok (stated at note (act.Bundle p.0), h))))
 
+-- the statements of a block, in order, or their first error
 unfoldable pub all_judged : Frame → HeadBounds → List Path → Here → Outcome (List NotedStmt × Here)
 all_judged frame head ss = in_turn (map (λ s. s.judged frame head) ss)
 
+-- the same of a statement that there may be
 abbrev pub part_judged : Frame → HeadBounds → Option Path → Here → Outcome (Option NotedStmt × Here)
 part_judged frame head None here = Ok (None, here)
 part_judged frame head (Some s) here = bind (s.judged frame head here) (λ p. Ok (Some p.0, p.1))
@@ -311,6 +333,7 @@ part_judged frame head (Some s) here = bind (s.judged frame head here) (λ p. Ok
 abbrev pub closed : ℕ → Here → Here
 closed most here = record here { seen = take most here.seen }
 
+-- a block, whose locals are out of scope after it
 abbrev pub block_judged : Frame → HeadBounds → Pos → Note → Option Mode → List Path → Here → Outcome (NotedStmt × Here)
 block_judged frame head at note m ss here =
     bind (all_judged frame head ss here) (λ p. Ok (stated at note (act.Block m p.0), closed (length here.seen) p.1))
@@ -331,6 +354,7 @@ abbrev pub other_side : Frame → Bool → NotedExpr → State → State
 other_side frame true e at = at
 other_side frame false e at = side_of frame false e at
 
+-- the same of a condition that may be left out
 abbrev pub maybe_other : Frame → Bool → Option NotedExpr → State → State
 maybe_other frame left None at = at
 maybe_other frame left (Some e) at = other_side frame left e at
@@ -350,11 +374,13 @@ if_judged frame head at note e s t here =
 abbrev pub loop_head : Frame → List ℕ → Here → Here
 loop_head frame ks here = record here { at = less frame ks here.at }
 
+-- a `while`, whose condition is judged at the head of the loop, before its body
 abbrev pub while_judged : Frame → HeadBounds → Pos → Note → NotedExpr → Path → Here → Outcome (NotedStmt × Here)
 while_judged frame head at note e s here =
     bind (branched frame s.breaks e (loop_head frame s.assigned here)) (λ p. bind (s.judged frame head p.1) (λ q.
     Ok (stated at note (act.While p.0.condition q.0), record q.1 { at = p.0.other })))
 
+-- the point that a `continue` leads to, if there is one
 abbrev pub maybe_point : Bool → State → Option State
 maybe_point true at = Some at
 maybe_point false at = None
@@ -370,15 +396,18 @@ abbrev pub to_step : Option State → Here → Here
 to_step None here = here
 to_step (Some at) here = record here { at = at }
 
+-- a `for`: its begin, its condition at the head of the loop, its body, and then its step
 abbrev pub for_judged : Frame → HeadBounds → Pos → Note → Option Path → Option NotedExpr → Option Path → Path → Here → Outcome (NotedStmt × Here)
 for_judged frame head at note s e t u here =
     bind (part_judged frame head s here) (λ p. bind (for_started frame u.breaks u.continues e (loop_head frame (u.assigned ++ there_assigned t) p.1)) (λ q.
     bind (u.judged frame head q.1) (λ r. bind (part_judged frame head t (to_step q.0.step r.1)) (λ v.
     Ok (stated at note (act.For p.0 q.0.condition v.0 r.0), closed (length here.seen) (record v.1 { at = q.0.other }))))))
 
+-- a declaration that is a statement
 abbrev pub local_judged : Frame → Pos → Note → NotedDecl → Here → Outcome (NotedStmt × Here)
 local_judged frame at note d here = bind (decl_judged frame d here) (λ p. Ok (stated at note (act.Local p.0), p.1))
 
+-- what a statement becomes and where the walk stands after it, by what the statement does
 abbrev pub act_judged : ActOfPaths → Frame → HeadBounds → Pos → Note → Here → Outcome (NotedStmt × Here)
 act_judged (Act-F.Block m ss) frame head at note here = block_judged frame head at note m ss here
 act_judged Act-F.Empty frame head at note here = Ok (stated at note act.Empty, here)
@@ -394,6 +423,7 @@ act_judged Act-F.Continue frame head at note here = Ok (stated at note act.Conti
 act_judged (Act-F.Check e) frame head at note here = check_judged frame at note e here
 act_judged (Act-F.Bundle ss) frame head at note here = bundle_judged frame head at note ss here
 
+-- what is said of what a statement does, from what is said of the statements in it
 abbrev pub act_path : ActOfPaths → ActPath
 act_path a = record {
   declared = act_declared a;
@@ -405,6 +435,7 @@ act_path a = record {
   judged = act_judged a;
 }
 
+-- What is said of a statement is what is said of what it does, at its place and with its note.
 abbrev pub stmt_path : Stmt-F Name Note ActPath Path → Path
 stmt_path s = record {
   declared = s.body.declared;

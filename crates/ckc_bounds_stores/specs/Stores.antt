@@ -42,6 +42,7 @@ pub record Store : Type 0 where
   pub right : NotedExpr
   pub pos : Pos
 
+-- an assignment in front of others; a statement of any other kind adds none
 abbrev pub with_store : Act-F Name Note NotedAct NotedStmt → Pos → List Store → List Store
 with_store (Act-F.Assign e f) pos rest = record { target = e; right = f; pos = pos } ∷ rest
 with_store _ pos rest = rest
@@ -78,9 +79,11 @@ received frame facts p = in_type facts p.target.note.ctype ((view frame p.right)
 abbrev pub place_of : Frame → Known → Placed → Option Form
 place_of frame facts p = (view frame p.right).place p.from.value facts
 
+-- what replaces a local that is assigned and at which bounds begin: the place of the right side
 abbrev pub base_by : Frame → Known → Placed → Option BaseBy
 base_by frame facts p = option_map (λ k. record { base = base.Local k; by = place_of frame facts p }) (local_of p.target)
 
+-- what replaces a local that is assigned and that bounds count: the form of the right side
 abbrev pub variable_by : Frame → Known → Placed → Option VariableBy
 variable_by frame facts p = option_map (λ k. record { var = capped k 1; by = received frame facts p }) (local_of p.target)
 
@@ -89,19 +92,24 @@ variable_by frame facts p = option_map (λ k. record { var = capped k 1; by = re
 abbrev pub bases : Frame → Known → List Placed → List BaseBy
 bases frame facts ps = filter_map (base_by frame facts) ps
 
+-- what replaces the integers that are targets
 abbrev pub variables : Frame → Known → List Placed → List VariableBy
 variables frame facts ps = filter_map (variable_by frame facts) ps
 
+-- whether bounds contain a value, once the locals that they name have their new values
 unfoldable pub holds_by : Frame → List Placed → Value → Bounds → Bool
 holds_by frame ps v limits = holds v limits (bases frame v.facts ps) (variables frame v.facts ps)
 
+-- whether a target is the local k; none stands for a target that is no local
 abbrev pub assigns : ℕ → Option ℕ → Bool
 assigns k None = false
 assigns k (Some j) = j == k
 
+-- whether an assignment is one to the local k
 abbrev pub assigns_local : ℕ → Placed → Bool
 assigns_local k p = assigns k (local_of p.target)
 
+-- whether bounds name a local; none stands for what is no local
 abbrev pub is_in_bounds : Bounds → Option ℕ → Bool
 is_in_bounds limits None = false
 is_in_bounds limits (Some k) = in_bounds k limits
@@ -110,6 +118,7 @@ is_in_bounds limits (Some k) = in_bounds k limits
 abbrev pub touches : Bounds → Placed → Bool
 touches limits p = is_in_bounds limits (local_of p.target)
 
+-- the error with this code at this place, unless a condition holds
 abbrev pub refusal_unless : Bool → ℕ → Pos → Option Refusal
 refusal_unless true code pos = None
 refusal_unless false code pos = Some (record { code = code; pos = pos })
@@ -124,15 +133,18 @@ abbrev pub named_fault : Frame → List Placed → State → ℕ → Bounds → 
 named_fault frame ps at k limits None = None
 named_fault frame ps at k limits (Some p) = refusal_unless (holds_by frame ps (same_value frame k at) limits) lost_bounds p.pos
 
+-- the error of a pointer at the assignment to it, or else at the first one to a local that its bounds name
 abbrev pub touched_fault : Frame → List Placed → State → ℕ → Bounds → Option Placed → Option Refusal
 touched_fault frame ps at k limits (Some p) = target_fault frame ps at limits p
 touched_fault frame ps at k limits None = named_fault frame ps at k limits (find (touches limits) ps)
 
+-- the error of the local k by its bounds; if they are unknown there is none
 abbrev pub fault_by_bounds : Frame → List Placed → State → ℕ → Bounds → Option Refusal
 fault_by_bounds frame ps at k bounds.Unknown = None
 fault_by_bounds frame ps at k (bounds.Known low high) =
     touched_fault frame ps at k (bounds.Known low high) (find (assigns_local k) ps)
 
+-- the error of the local k, if there is such a local
 abbrev pub fault_of_local : Frame → List Placed → State → ℕ → Option Local → Option Refusal
 fault_of_local frame ps at k None = None
 fault_of_local frame ps at k (Some l) = fault_by_bounds frame ps at k l.bounds
@@ -142,6 +154,7 @@ fault_of_local frame ps at k (Some l) = fault_by_bounds frame ps at k l.bounds
 abbrev pub local_fault : Frame → List Placed → State → ℕ → Option Refusal
 local_fault frame ps at k = fault_of_local frame ps at k (local_at frame k)
 
+-- what replaces a member that is assigned: the form of the right side
 abbrev pub member_by : Frame → Known → Placed → Option VariableBy
 member_by frame facts p =
     option_map (λ m. record { var = member_variable m.number; by = received frame facts p }) (view frame p.target).member
@@ -151,16 +164,20 @@ abbrev pub unassigned : Bounds → List VariableBy
 unassigned bounds.Unknown = []
 unassigned (bounds.Known low high) = if high.var == 0 then [] else record { var = high.var; by = None } ∷ []
 
+-- what replaces the members that the bounds of a member name
 abbrev pub members : Frame → Known → List Placed → Bounds → List VariableBy
 members frame facts ps limits = filter_map (member_by frame facts) ps ++ unassigned limits
 
+-- what replaces the base of a pointer's own bounds: the place of its new value
 abbrev pub own_place : Base → Option Form → List BaseBy
 own_place b place = record { base = b; by = place } ∷ []
 
+-- whether the bounds of a pointer in memory contain the value that it gets
 unfoldable pub holds_in_memory : Frame → List Placed → Placed → Value → Bounds → Bool
 holds_in_memory frame ps p v limits =
     holds v limits (own_place (base.Value 0) (place_of frame v.facts p)) (members frame v.facts ps limits)
 
+-- E602 if the known bounds of a pointer in memory do not contain the value that it gets
 abbrev pub memory_fault_by : Frame → List Placed → State → Placed → Bounds → Option Refusal
 memory_fault_by frame ps at p bounds.Unknown = None
 memory_fault_by frame ps at p (bounds.Known low high) =
@@ -171,11 +188,13 @@ memory_fault_by frame ps at p (bounds.Known low high) =
 abbrev pub members_assigned : Frame → List Placed → List ℕ
 members_assigned frame ps = filter_map (λ p. option_map (λ m. m.number) (view frame p.target).member) ps
 
+-- whether a member may be assigned here, alone or with the other targets of the bundle
 abbrev pub may_be_assigned : Frame → List Placed → Placed → Member → Bool
 may_be_assigned frame ps p m =
     if length ps == 1 then may_be_assigned_alone frame.structs m.tag m.number (view frame p.right).null
     else may_be_assigned_with frame.structs m.tag m.number (members_assigned frame ps)
 
+-- E605 if a target is a member that may not be assigned here
 abbrev pub member_fault : Frame → List Placed → Placed → Option Member → Option Refusal
 member_fault frame ps p None = None
 member_fault frame ps p (Some m) = refusal_unless (may_be_assigned frame ps p m) assigned_alone p.pos
@@ -185,6 +204,7 @@ abbrev pub memory_fault : Frame → List Placed → State → Placed → Option 
 memory_fault frame ps at p =
     option_or (memory_fault_by frame ps at p (memory_bounds frame p.target)) (member_fault frame ps p (view frame p.target).member)
 
+-- E604 of a local that the bounds of the result name, or else the error of an assignment to memory
 abbrev pub target_fault_of : Frame → Bounds → List Placed → State → Placed → Option ℕ → Option Refusal
 target_fault_of frame limits ps at p None = memory_fault frame ps at p
 target_fault_of frame limits ps at p (Some k) = refusal_unless (not (in_bounds k limits)) lost_bounds p.pos
@@ -202,6 +222,7 @@ comes_before a b = nat_lt a.line b.line || ((a.line == b.line) && nat_lt a.col b
 abbrev pub decides : Refusal → Refusal → Bool
 decides r s = comes_before r.pos s.pos || (not (comes_before s.pos r.pos) && nat_lt r.code s.code)
 
+-- the one of two errors that is told
 abbrev pub earlier : Option Refusal → Option Refusal → Option Refusal
 earlier None other = other
 earlier (Some r) None = Some r
@@ -217,6 +238,7 @@ abbrev pub first_fault : Frame → Bounds → List ℕ → List Placed → State
 first_fault frame result scope ps at =
     earliest (earliest None (map (local_fault frame ps at) scope)) (map (store_fault frame result ps at) ps)
 
+-- the point after an assignment to a target; one that is no local changes nothing that is known
 abbrev pub assigned_local : Frame → Option Form → State → Option ℕ → State
 assigned_local frame form at None = at
 assigned_local frame form at (Some k) = assigned frame k form at
@@ -226,10 +248,12 @@ abbrev pub after : Frame → Known → List Placed → State → State
 after frame facts [] at = at
 after frame facts (p ∷ ps) at = after frame facts ps (assigned_local frame (received frame facts p) at (local_of p.target))
 
+-- a point, unless there is an error
 abbrev pub unless_refused : Option Refusal → State → Outcome State
 unless_refused None at = Ok at
 unless_refused (Some r) at = Err r
 
+-- the point after assignments that are judged as one, or their first error
 unfoldable pub stored_placed : Frame → Bounds → List ℕ → List Placed → State → Outcome State
 stored_placed frame result scope ps at = unless_refused (first_fault frame result scope ps at) (after frame at.facts ps at)
 
@@ -248,6 +272,7 @@ unfoldable pub holds_from : Frame → CType → Base → NotedExpr → Numbered 
 holds_from frame t b e n at limits =
     holds (new_value frame t e n at) limits (own_place b ((view frame e).place n.value (new_value frame t e n at).facts)) []
 
+-- whether an initialiser is contained in the bounds of the local k, if there is such a local
 abbrev pub initialised_local : Frame → ℕ → NotedExpr → Numbered → State → Option Local → Bool
 initialised_local frame k e n at None = true
 initialised_local frame k e n at (Some l) = holds_from frame l.ctype (base.Local k) e n at l.bounds

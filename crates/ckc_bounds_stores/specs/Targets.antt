@@ -20,10 +20,12 @@ use Rattle.ckc_bounds_views.specs.Parts.{capped}
 use Rattle.ckc_bounds_views.specs.Fresh.{member_bounds}
 use Rattle.ckc_bounds_views.specs.Views.{view}
 
+-- the local that a name means
 abbrev pub local_named : Name → Option ℕ
 local_named (name.Local k) = Some k
 local_named _ = None
 
+-- the local that a node of an expression is
 abbrev pub local_in : NotedLayer → Option ℕ
 local_in (Node-F.Name n) = local_named n
 local_in _ = None
@@ -36,6 +38,7 @@ local_of e = local_in (out-Node Name Note e.node)
 abbrev pub member_variable : ℕ → ℕ
 member_variable m = capped m 1
 
+-- the bounds of a member from its own value up to a form
 abbrev pub counted : Form → Bounds
 counted k = bounds.Known (base_form (base.Value 0)) k
 
@@ -48,10 +51,12 @@ bounds_by_member t written.NoForm = bounds.Unknown
 bounds_by_member t (written.Fixed c) = counted (record { base = Some (base.Value 0); var = 0; add = c })
 bounds_by_member t (written.Named m c) = counted (record { base = Some (base.Value 0); var = member_variable m; add = c })
 
+-- the bounds that are written at an object, if there is such an object and it has some
 abbrev pub written_there : Option (Option Bounds) → Option Bounds
 written_there (Some (Some b)) = Some b
 written_there _ = None
 
+-- the bounds that are written at the object of file scope that a name means
 abbrev pub object_named : Frame → Name → Option Bounds
 object_named frame (name.Static k) = written_there (slice_get frame.objects k)
 object_named frame _ = None
@@ -61,6 +66,7 @@ abbrev pub written_in : Frame → NotedLayer → Option Bounds
 written_in frame (Node-F.Name n) = object_named frame n
 written_in frame _ = None
 
+-- the bounds of a pointer in memory, by the member that it is, if it is one
 abbrev pub bounds_by : Frame → NotedExpr → Option Member → Bounds
 bounds_by frame e (Some m) = bounds_by_member e.note.ctype (member_bounds frame.structs m)
 bounds_by frame e None =

@@ -29,6 +29,7 @@ pub record Value : Type 0 where
   pub range : Range
   pub facts : Known
 
+-- a new value, from the record of it that the compiler keeps
 abbrev pub value : values.Value → Value
 value v = record { null = v.null; range = v.range; facts = known v.facts }
 
@@ -36,6 +37,7 @@ value v = record { null = v.null; range = v.range; facts = known v.facts }
 abbrev pub narrow : State → State
 narrow at = record at { widened = [] }
 
+-- a range that ends one element earlier
 abbrev pub one_less : Range → Range
 one_less (range.Known low high) = range_moved low (moved_form (Some high) (negsuc 0))
 one_less r = r
@@ -48,6 +50,7 @@ received_range t allocates r = if allocates && is_terminated_kind (kind_of t) th
 abbrev pub has_element : CType → Bool → Bool
 has_element t allocates = allocates && not (is_terminated_kind (kind_of t))
 
+-- the range of an expression whose value goes to a place of type t
 abbrev pub range_received : Frame → CType → NotedExpr → Numbered → State → Range
 range_received frame t e n at = received_range t (view frame e).allocates ((view frame e).range n.value n.fresh at)
 

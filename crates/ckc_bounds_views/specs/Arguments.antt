@@ -1,4 +1,5 @@
 -- What the bounds of a parameter or a result name, at a call: for a pointer the place of its argument, for an integer the
+-- form of its argument in its type.
 use Rattle.std.specs.Prelude.{ℕ, if◌then◌else◌, Option, None, Some, List, [], ◌∷◌, slice_get}
 use Rattle.ckc_linear.specs.declared.forms.Base.TheVariants as base
 use Rattle.ckc_linear.specs.declared.forms.Form.{Form}
@@ -10,7 +11,7 @@ use Rattle.ckc_bounds_ranges.specs.declared.replacements.BaseBy.{BaseBy}
 use Rattle.ckc_bounds_ranges.specs.declared.replacements.VariableBy.{VariableBy}
 use Rattle.ckc_bounds_views.specs.Parts.{View, capped, with_first}
 
--- form of its argument in its type.
+-- what stands for the parameter that the base of bounds is, where it is a pointer
 abbrev pub base_by : Option Local → ℕ → Option Form → Option BaseBy
 base_by None n f = None
 base_by (Some p) n f = if is_pointer p.ctype then Some (record { base = base.Local n; by = f }) else None
@@ -22,6 +23,7 @@ bases_by params n first facts [] = []
 bases_by params n first facts (e ∷ es) =
     with_first (base_by (slice_get params n) n (e.place first facts)) (bases_by params (capped n 1) (capped first e.values) facts es)
 
+-- what replaces a parameter that is an integer: the form of its argument, in the type of the parameter
 abbrev pub variable_by : Known → Option Local → ℕ → Option Form → Option VariableBy
 variable_by facts None n f = None
 variable_by facts (Some p) n f =

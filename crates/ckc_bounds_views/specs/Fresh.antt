@@ -28,39 +28,48 @@ abbrev pub member_in : Name → CType-F CType → Option Member
 member_in (name.Member m) (CType-F.Struct tag) = Some (record { tag = tag; number = m })
 member_in n _ = None
 
+-- the member that a node `x.m` or `p->m` is
 abbrev pub member_of_node : NodeOfViews → Option Member
 member_of_node (Node-F.Dot e n at) = member_in n (out-CType e.ctype)
 member_of_node (Node-F.Arrow e n at) = member_in n (out-CType (element_of e.ctype))
 member_of_node _ = None
 
+-- the member m of the structure with a tag, with its type and its bounds
 abbrev pub shape_of : Structs → ℕ → ℕ → Option MemberShape
 shape_of structs tag m = find (λ s. s.name == m) (members_of structs tag)
 
+-- the bounds of a member; none are written if there is no such member
 abbrev pub bounds_of_shape : Option MemberShape → MemberBounds
 bounds_of_shape (Some s) = s.bounds
 bounds_of_shape None = mbounds.Nothing
 
+-- the type of a member, `int` if there is no such member
 abbrev pub type_of_shape : Option MemberShape → CType
 type_of_shape (Some s) = s.ctype
 type_of_shape None = ctype.Int
 
+-- the declared bounds of a member of a structure
 abbrev pub member_bounds : Structs → Member → MemberBounds
 member_bounds structs m = bounds_of_shape (shape_of structs m.tag m.number)
 
+-- the type of the member that the bounds of another one name
 abbrev pub named_type : Structs → ℕ → MemberBounds → Option CType
 named_type structs tag (mbounds.Named m c) = Some (type_of_shape (shape_of structs tag m))
 named_type structs tag _ = None
 
+-- whether a pointer is of a checked kind
 abbrev pub is_checked : Option Kind → Bool
 is_checked (Some kind.One) = true
 is_checked (Some kind.Arr) = true
 is_checked (Some kind.Nt) = true
 is_checked _ = false
 
+-- the type of the fresh variable that a member may need if it is a checked pointer and its bounds name a member
 abbrev pub member_fresh : Structs → CType → Option Member → Option CType
 member_fresh structs t None = None
 member_fresh structs t (Some m) = if is_checked (kind_of t) then named_type structs m.tag (member_bounds structs m) else None
 
+-- the type of the amount that the limits of a bounds cast count, if there are limits
 abbrev pub counted_there : Option LimitsView → Option CType
 counted_there None = None
 counted_there (Some l) = l.counted
@@ -75,6 +84,7 @@ may_need_of_node structs (Node-F.Tested w e l) t = counted_there l
 may_need_of_node structs (Node-F.Calloc w e x) t = Some ctype.Int
 may_need_of_node structs _ t = None
 
+-- the form of that amount
 abbrev pub amount_there : Structs → CType → Option LimitsView → Known → Option Form
 amount_there structs t None facts = None
 amount_there structs t (Some l) facts = l.amount (size_of structs (element_of t)) facts
@@ -95,20 +105,25 @@ abbrev pub most_after : ℕ → List View → ℕ
 most_after n [] = n
 most_after n (e ∷ es) = most_after (capped n e.most_fresh) es
 
+-- how many fresh variables the limits of a bounds cast need at most
 abbrev pub most_there : Option LimitsView → ℕ
 most_there None = 0
 most_there (Some l) = l.most_fresh
 
+-- how many fresh variables the parts of a node need at most
 abbrev pub most_of_node : NodeOfViews → ℕ
 most_of_node n = count_of_parts (λ e. e.most_fresh) most_there (most_after 0) n
 
+-- how many fresh variables an expression needs at most, its own included
 abbrev pub with_own_most : CType → NodeView → ℕ
 with_own_most t n = if is_some (n.may_need t) then capped n.most_fresh 1 else n.most_fresh
 
+-- the types of the fresh variables that the limits of a bounds cast need at a point
 abbrev pub fresh_there : Option LimitsView → State → List CType
 fresh_there None at = []
 fresh_there (Some l) at = l.fresh at
 
+-- the types of the fresh variables that the arguments of a call need at a point
 abbrev pub all_fresh : List View → State → List CType
 all_fresh [] at = []
 all_fresh (e ∷ es) at = e.fresh at ++ all_fresh es at

@@ -42,6 +42,7 @@ use Rattle.ckc_bounds_views.specs.Fresh.{member_of_node, with_types}
 use Rattle.ckc_bounds_views.specs.Arguments.{bases_by, variables_by}
 use Rattle.ckc_bounds_views.specs.Ranges.{pointer_range}
 
+-- whether a constant is a multiple of the size of an element
 abbrev pub is_multiple_of : ℕ → Option Constant → Bool
 is_multiple_of size None = false
 is_multiple_of size (Some c) = is_multiple (value_of c) size
@@ -50,9 +51,11 @@ is_multiple_of size (Some c) = is_multiple (value_of c) size
 abbrev pub counts_elements : View → Bool
 counts_elements e = is_integer e.ctype
 
+-- whether the limits `byte_count(e)` of a bounds cast count whole elements of a size
 abbrev pub counts_bytes : ℕ → View → Bool
 counts_bytes size e = is_integer e.ctype && ((size == 1) || is_multiple_of size e.number)
 
+-- the limits of a bounds cast with the ranges in them noted, or their first error; E603 if they have no such form
 abbrev pub limits_judged : LimitsOfViews → ℕ → ℕ → State → Outcome NotedLimits
 limits_judged (Limits-F.Count e pos) size fresh at =
     bind (e.judged fresh at) (λ a. unless (not (counts_elements e)) bad_limits pos (Ok (limits.Count a pos)))
@@ -62,15 +65,18 @@ limits_judged (Limits-F.Between e f pos) size fresh at =
     bind (e.judged fresh at) (λ a. bind (f.judged (fresh_behind e fresh at) at) (λ b. refused bad_limits pos))
 limits_judged (Limits-F.Unknown pos) size fresh at = refused bad_limits pos
 
+-- the same of limits that there may be
 abbrev pub there_judged : Option LimitsView → ℕ → ℕ → State → Outcome (Option NotedLimits)
 there_judged None size fresh at = Ok None
 there_judged (Some l) size fresh at = bind (l.judged size fresh at) (λ k. Ok (Some k))
 
+-- the arguments of a call with the ranges in them noted, or their first error
 abbrev pub all_judged : List View → ℕ → State → Outcome (List NotedExpr)
 all_judged [] fresh at = Ok []
 all_judged (e ∷ es) fresh at =
     bind (e.judged fresh at) (λ a. bind (all_judged es (fresh_behind e fresh at) at) (λ rest. Ok (a ∷ rest)))
 
+-- the operand of a unary operator with the ranges in it noted, or its first error
 abbrev pub unary_judged : TreeOp → View → ℕ → State → Outcome NotedExpr
 unary_judged op.Address e fresh at = e.operand fresh at
 unary_judged _ e fresh at = e.judged fresh at
@@ -100,15 +106,18 @@ node_judged frame (Node-F.Tested w e l) t fresh at =
 node_judged frame (Node-F.Call n es) t fresh at = bind (all_judged es fresh at) (λ args. Ok (node.Call n args))
 node_judged frame (Node-F.Calloc w e x) t fresh at = bind (e.judged fresh at) (λ a. Ok (node.Calloc w a x))
 
+-- whether a pointer is an `_Array_ptr` or an `_Nt_array_ptr`
 abbrev pub is_counted_kind : Option Kind → Bool
 is_counted_kind (Some kind.Arr) = true
 is_counted_kind (Some kind.Nt) = true
 is_counted_kind _ = false
 
+-- whether a pointer has no known range
 abbrev pub is_missing : Range → Bool
 is_missing range.Missing = true
 is_missing _ = false
 
+-- the error with this code at this place, if a condition holds
 abbrev pub fault_if : Bool → ℕ → Pos → Option Refusal
 fault_if broken code pos = if broken then Some (record { code = code; pos = pos }) else None
 
@@ -117,10 +126,12 @@ abbrev pub access_fault : View → Pos → ℕ → State → Option Refusal
 access_fault e pos fresh at =
     fault_if (is_counted_kind (kind_of e.ctype) && is_missing (e.range 0 fresh at)) unknown_bounds pos
 
+-- whether bounds are written at an object of file scope
 abbrev pub is_declared_object : Option (Option Bounds) → Bool
 is_declared_object (Some (Some b)) = true
 is_declared_object _ = false
 
+-- whether an expression is a member whose address is not taken
 abbrev pub member_has_none : Structs → Option Member → Bool
 member_has_none structs None = false
 member_has_none structs (Some m) = has_no_address structs m.tag m.number
@@ -130,6 +141,7 @@ abbrev pub has_none_of_node : Frame → NodeOfViews → Bool
 has_none_of_node frame (Node-F.Name (name.Static k)) = is_declared_object (slice_get frame.objects k)
 has_none_of_node frame n = member_has_none frame.structs (member_of_node n)
 
+-- the facts with what also holds of the range of a new value, if it has one
 abbrev pub extended_by : Range → Range → Bool → Known → Known
 extended_by (range.Known l u) (range.Known k before) allocated facts = extended (record { low = l; high = u }) before allocated facts
 extended_by _ _ allocated facts = facts
@@ -141,6 +153,7 @@ abbrev pub facts_for : View → ℕ → ℕ → Bool → State → Known
 facts_for e first fresh allocated at =
     extended_by (e.range first fresh at) (e.range first fresh (record at { widened = [] })) allocated (with_types (capped fresh 1) (e.fresh at) at.facts)
 
+-- whether bounds contain a value, once what they name is replaced
 abbrev pub contained_in : Bounds → Bool → Range → Known → (Known → List BaseBy) → (Known → List VariableBy) → Bool
 contained_in b null r facts bases variables = is_contained facts b null r (replaced_bounds (bases facts) (variables facts) b)
 
@@ -150,6 +163,7 @@ is_argument None e first fresh at bases variables = true
 is_argument (Some p) e first fresh at bases variables =
     contained_in p.bounds e.null (e.range first fresh at) (facts_for e first fresh false at) bases variables
 
+-- E602 at the first argument that is not contained in the bounds of its parameter
 abbrev pub arguments_fault : (Known → List BaseBy) → (Known → List VariableBy) → List Local → ℕ → List View → ℕ → ℕ → State → Option Refusal
 arguments_fault bases variables params n [] first fresh at = None
 arguments_fault bases variables params n (e ∷ es) first fresh at =
@@ -157,6 +171,7 @@ arguments_fault bases variables params n (e ∷ es) first fresh at =
     then arguments_fault bases variables params (capped n 1) es (capped first e.values) (fresh_behind e fresh at) at
     else Some (record { code = not_contained; pos = e.pos })
 
+-- E602 at the first argument of a call that is not contained, by what the head of the function says
 abbrev pub head_fault : Option HeadBounds → List View → ℕ → State → Option Refusal
 head_fault None es fresh at = None
 head_fault (Some h) es fresh at =
@@ -167,6 +182,7 @@ abbrev pub call_fault : Frame → Name → List View → ℕ → State → Optio
 call_fault frame (name.Function k) es fresh at = head_fault (slice_get frame.heads k) es fresh at
 call_fault frame _ es fresh at = None
 
+-- the error of a unary operator itself: E601 of `*`, E606 of `&`
 abbrev pub unary_fault : TreeOp → View → Pos → ℕ → State → Option Refusal
 unary_fault op.Deref e pos fresh at = access_fault e pos fresh at
 unary_fault op.Address e pos fresh at = fault_if e.no_address bounds_address pos
@@ -187,6 +203,7 @@ operand_fault_of_node frame (Node-F.Un op.Deref e) pos fresh at = None
 operand_fault_of_node frame (Node-F.Index e f) pos fresh at = None
 operand_fault_of_node frame n pos fresh at = fault_of_node frame n pos fresh at
 
+-- an outcome, unless there is an error
 abbrev pub by_fault : {A : Type 0} → Option Refusal → Outcome A → Outcome A
 by_fault None o = o
 by_fault (Some r) o = Err r
@@ -195,13 +212,16 @@ by_fault (Some r) o = Err r
 abbrev pub noted_range : Note → Range → Note
 noted_range note r = if is_pointer note.ctype then record note { range = r } else note
 
+-- an expression with its own range noted
 abbrev pub expr_made : Pos → Note → Range → NotedNode → NotedExpr
 expr_made pos note r n = record { node = n; pos = pos; note = noted_range note r }
 
+-- an expression with the range of each pointer in it noted, or its first error
 abbrev pub expr_judged : NodeView → Pos → Note → ℕ → State → Outcome NotedExpr
 expr_judged n pos note fresh at =
     bind (n.judged note.ctype fresh at) (λ m. by_fault (n.fault pos fresh at) (Ok (expr_made pos note (pointer_range note.ctype n 0 fresh at) m)))
 
+-- the same of the operand of `&`, where `*` and `[` are no access
 abbrev pub operand_judged : NodeView → Pos → Note → ℕ → State → Outcome NotedExpr
 operand_judged n pos note fresh at =
     bind (n.judged note.ctype fresh at) (λ m. by_fault (n.operand_fault pos fresh at) (Ok (expr_made pos note (pointer_range note.ctype n 0 fresh at) m)))

@@ -120,6 +120,7 @@ count_of_parts count there all _ = 0
 abbrev pub next_behind : ℕ → List CType → ℕ
 next_behind fresh ts = capped fresh (length ts)
 
+-- the number of the next fresh variable after those that an expression needs at a point
 abbrev pub fresh_behind : View → ℕ → State → ℕ
 fresh_behind e fresh at = next_behind fresh (e.fresh at)
 
@@ -128,6 +129,7 @@ abbrev pub with_last : {A : Type 0} → List A → Option A → List A
 with_last all None = all
 with_last all (Some a) = all ++ a ∷ []
 
+-- a list with one more in front, if there is one
 abbrev pub with_first : {A : Type 0} → Option A → List A → List A
 with_first None all = all
 with_first (Some a) all = a ∷ all

@@ -17,19 +17,23 @@ use Rattle.ckc_bounds_points.specs.Shown.{Known}
 use Rattle.ckc_bounds_points.specs.Forms.{sum_of_forms, difference_of_forms, base_form}
 use Rattle.ckc_bounds_views.specs.Parts.{LimitsView, View, NodeView, NodeOfViews, capped, count_of_parts}
 
+-- whether an object of file scope is an array
 abbrev pub is_array : Option StaticObject → Bool
 is_array (Some o) = is_some o.array
 is_array None = false
 
+-- the place that a name stands for: that of a local or of a static array
 abbrev pub named_place : Frame → Name → Option Form
 named_place frame (name.Local k) = Some (base_form (base.Local k))
 named_place frame (name.Static k) = if is_array (slice_get frame.statics k) then Some (base_form (base.Array k)) else None
 named_place frame _ = None
 
+-- how many pointers in the arguments of a call stand for themselves, beside n others
 abbrev pub values_after : ℕ → List View → ℕ
 values_after n [] = n
 values_after n (e ∷ es) = values_after (capped n e.values) es
 
+-- how many pointers in the limits of a bounds cast stand for themselves
 abbrev pub values_there : Option LimitsView → ℕ
 values_there None = 0
 values_there (Some l) = l.values
@@ -44,6 +48,7 @@ stands_alone frame (Node-F.Name n) = is_none (named_place frame n)
 stands_alone frame Node-F.Null = false
 stands_alone frame _ = true
 
+-- how many pointers in an expression stand for themselves, the expression included
 abbrev pub with_own : CType → NodeView → ℕ
 with_own t n = if is_pointer t && n.stands_alone then capped n.values 1 else n.values
 
@@ -55,6 +60,7 @@ binary_place first facts op.Add e f =
 binary_place first facts op.Sub e f = difference_of_forms (e.place first facts) (f.form facts)
 binary_place first facts _ e f = None
 
+-- the place of `&*p` and `&p[e]`
 abbrev pub unary_place : ℕ → Known → TreeOp → View → Option Form
 unary_place first facts op.Address e = e.target first facts
 unary_place first facts _ e = None
@@ -74,6 +80,7 @@ target_of_node (Node-F.Index e f) first facts =
     if is_raw_kind (kind_of e.ctype) then None else sum_of_forms (e.place first facts) (f.form facts)
 target_of_node _ first facts = None
 
+-- the place of a pointer that stands for itself
 abbrev pub own_place : NodeView → ℕ → Option Form
 own_place n first = if n.stands_alone then Some (base_form (base.Value (capped first n.values))) else None
 

@@ -44,6 +44,7 @@ range_by_type (Some kind.One) own = range_of_one own
 range_by_type (Some kind.Nt) own = range_from (base.Value own) (constant_form (pos 0))
 range_by_type _ own = range.Missing
 
+-- so many elements from a pointer up; it is missing if their number has no form
 abbrev pub range_up_to : ℕ → Option Form → Range
 range_up_to own None = range.Missing
 range_up_to own (Some k) = range_from (base.Value own) k
@@ -56,6 +57,7 @@ range_in_struct kind mbounds.NoForm own = range.Missing
 range_in_struct kind (mbounds.Fixed c) own = range_from (base.Value own.value) (constant_form c)
 range_in_struct kind (mbounds.Named m c) own = range_up_to own.value (moved_form (Some (fresh_form own.fresh)) c)
 
+-- the range of a checked pointer that is a member
 abbrev pub range_of_member : Structs → CType → Option Member → Own → Range
 range_of_member structs t None own = range.Missing
 range_of_member structs t (Some m) own =
@@ -66,11 +68,13 @@ abbrev pub range_of_object : Option (Option Bounds) → CType → ℕ → Range
 range_of_object (Some (Some b)) t own = range_of_ends (replaced_bounds (own_by own ∷ []) [] b)
 range_of_object _ t own = range_by_type (kind_of t) own
 
+-- the range of a named object of file scope, which is an array or a pointer
 abbrev pub range_of_static : Frame → ℕ → Option StaticObject → CType → ℕ → Range
 range_of_static frame k None t own = range_of_object (slice_get frame.objects k) t own
 range_of_static frame k (Some o) t own =
     if is_some o.array then range_of_array k o else range_of_object (slice_get frame.objects k) t own
 
+-- the range of a pointer or an array that is named
 abbrev pub range_of_name : Frame → Name → CType → ℕ → List ℕ → Range
 range_of_name frame (name.Local k) t own widened = range_of_local frame k widened
 range_of_name frame (name.Static k) t own widened = range_of_static frame k (slice_get frame.statics k) t own
@@ -82,15 +86,18 @@ range_of_operand e f first fresh at =
     if is_pointer e.ctype then e.range first fresh at
     else f.range (capped first e.values) (fresh_behind e fresh at) at
 
+-- the range of `*e` and of `&e`
 abbrev pub range_of_unary : TreeOp → View → CType → Own → ℕ → ℕ → State → Range
 range_of_unary op.Deref e t own first fresh at = range_by_type (kind_of t) own.value
 range_of_unary op.Address e t own first fresh at = e.address own first fresh at
 range_of_unary _ e t own first fresh at = range.Missing
 
+-- a form if there is one, or else a fresh variable
 abbrev pub form_or_fresh : Option Form → ℕ → Form
 form_or_fresh (Some k) fresh = k
 form_or_fresh None fresh = fresh_form fresh
 
+-- the range of a bounds cast with limits
 abbrev pub range_counted : Option CType → Option Form → Own → Range
 range_counted None k own = range.Missing
 range_counted (Some t) k own = range_from (base.Value own.value) (form_or_fresh k own.fresh)
@@ -106,6 +113,7 @@ range_of_result None es own first facts = range.Missing
 range_of_result (Some h) es own first facts =
     range_of_ends (replaced_bounds (bases_by h.params 0 first facts es ++ own_by own ∷ []) (variables_by h.params 0 facts es) h.bounds)
 
+-- the range of a call of a function of the source file
 abbrev pub range_of_call : Frame → Name → List View → ℕ → ℕ → Known → Range
 range_of_call frame (name.Function k) es own first facts = range_of_result (slice_get frame.heads k) es own first facts
 range_of_call frame _ es own first facts = range.Missing
@@ -115,6 +123,7 @@ range_of_call frame _ es own first facts = range.Missing
 abbrev pub range_of_allocation : Known → Option Form → Own → Range
 range_of_allocation facts k own = range_from (base.Value own.value) (form_or_fresh (in_type facts ctype.Int k) own.fresh)
 
+-- the range of a pointer, by its node and its type
 abbrev pub range_of_node : Frame → NodeOfViews → CType → Own → ℕ → ℕ → State → Range
 range_of_node frame (Node-F.Name n) t own first fresh at = range_of_name frame n t own.value at.widened
 range_of_node frame (Node-F.Text bytes) t own first fresh at = range_from (base.Value own.value) (constant_form (pos (length bytes)))
@@ -140,6 +149,7 @@ range_of_address (Node-F.Arrow e n spot) own first fresh at = if is_raw_kind (ki
 range_of_address (Node-F.Dot e n spot) own first fresh at = if is_raw_kind e.behind then range.Missing else range_of_one own.value
 range_of_address _ own first fresh at = range_of_one own.value
 
+-- the numbers of a pointer itself, after those in its parts
 abbrev pub own_numbers : NodeView → ℕ → ℕ → State → Own
 own_numbers n first fresh at = record { value = capped first n.values; fresh = next_behind fresh (n.fresh at) }
 

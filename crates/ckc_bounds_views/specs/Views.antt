@@ -19,24 +19,28 @@ use Rattle.ckc_bounds_views.specs.Fresh.{member_of_node, may_need_of_node, has_f
 use Rattle.ckc_bounds_views.specs.Ranges.{range_of_node, range_of_address, pointer_range}
 use Rattle.ckc_bounds_views.specs.Judged.{limits_judged, node_judged, has_none_of_node, fault_of_node, operand_fault_of_node, expr_judged, operand_judged}
 
+-- how many pointers in the limits of a bounds cast stand for themselves
 abbrev pub limits_values : LimitsOfViews → ℕ
 limits_values (Limits-F.Count e at) = e.values
 limits_values (Limits-F.ByteCount e at) = e.values
 limits_values (Limits-F.Between e f at) = capped e.values f.values
 limits_values (Limits-F.Unknown at) = 0
 
+-- how many fresh variables limits need at most
 abbrev pub limits_most : LimitsOfViews → ℕ
 limits_most (Limits-F.Count e pos) = e.most_fresh
 limits_most (Limits-F.ByteCount e pos) = e.most_fresh
 limits_most (Limits-F.Between e f pos) = capped e.most_fresh f.most_fresh
 limits_most (Limits-F.Unknown pos) = 0
 
+-- the types of the fresh variables that limits need at a point
 abbrev pub limits_fresh : LimitsOfViews → State → List CType
 limits_fresh (Limits-F.Count e pos) at = e.fresh at
 limits_fresh (Limits-F.ByteCount e pos) at = e.fresh at
 limits_fresh (Limits-F.Between e f pos) at = e.fresh at ++ f.fresh at
 limits_fresh (Limits-F.Unknown pos) at = []
 
+-- the type of the amount that limits count
 abbrev pub limits_counted : LimitsOfViews → Option CType
 limits_counted (Limits-F.Count e at) = Some e.ctype
 limits_counted (Limits-F.ByteCount e at) = Some e.ctype
@@ -48,6 +52,7 @@ limits_amount (Limits-F.Count e at) size facts = e.form facts
 limits_amount (Limits-F.ByteCount e at) size facts = elements size (e.form facts)
 limits_amount _ size facts = None
 
+-- what is said of limits, from what is said of their parts
 abbrev pub limits_view : LimitsOfViews → LimitsView
 limits_view l = record {
   values = limits_values l;
@@ -58,10 +63,12 @@ limits_view l = record {
   judged = limits_judged l;
 }
 
+-- whether a node is a `calloc`
 abbrev pub allocates_node : {A L M E : Type 0} → Node-F Name A L M E → Bool
 allocates_node (Node-F.Calloc w e x) = true
 allocates_node _ = false
 
+-- what is said of a node, from what is said of its parts
 abbrev pub node_view : Frame → NodeOfViews → NodeView
 node_view frame n = record {
   number = number_of_node frame n;

@@ -7,6 +7,7 @@ use Rattle.ckc_build_elaborate.specs.Functions.{functions_elaborated}
 use Rattle.ckc_build_elaborate.specs.Objects.{objects_elaborated}
 use Rattle.ckc_build_elaborate.specs.Shapes.{shapes_elaborated}
 
+-- the program of a typed text
 abbrev pub elaborated : Typed → Program
 elaborated p = record {
   objects = objects_elaborated p;

@@ -15,9 +15,11 @@ use Rattle.ckc_build_elaborate.specs.Statements.{alone, part_of, stmt_elaborated
 
 -- ---- string literals, in the order of the text
 
+-- how many string literals are in the head of a function
 abbrev pub literals_of_head : NotedHead → ℕ
 literals_of_head h = literals_of_decls h.params + literals_of_bounds h.bounds
 
+-- how many string literals that make a block are in an item of a text
 abbrev pub literals_of_item : NotedItem → ℕ
 literals_of_item (item.Directive d) = 0
 literals_of_item (item.Tag n at) = 0

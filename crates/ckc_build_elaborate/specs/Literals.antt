@@ -7,21 +7,26 @@ use Rattle.ckc_typed.specs.Trees.{NotedDecl, NotedInit, NotedExpr, NotedLimits}
 use Rattle.ckc_typed.specs.Declarations.{is_plain}
 use Rattle.ckc_build_values.specs.Expressions.{part_of, part_of_limits, all_literals, literals_if, literals_of}
 
+-- how many string literals are in an expression that may be left out, as behind `return`
 abbrev pub literals_of_value : Option NotedExpr → ℕ
 literals_of_value None = 0
 literals_of_value (Some e) = literals_of e
 
+-- how many string literals are in the bounds of a declaration, which may have none
 abbrev pub literals_of_bounds : Option NotedLimits → ℕ
 literals_of_bounds l = literals_if (option_map part_of_limits l)
 
+-- how many string literals are in an initialiser; a string that initialises an array makes no block
 abbrev pub literals_of_init : Bool → NotedInit → ℕ
 literals_of_init plain init.Nothing = 0
 literals_of_init plain (init.One e) = if plain then literals_of e else 0
 literals_of_init plain (init.Many es) = all_literals (map part_of es)
 
+-- how many string literals are in a declaration
 abbrev pub literals_of_decl : NotedDecl → ℕ
 literals_of_decl d = literals_of_bounds d.bounds + literals_of_init (is_plain d.length) d.init
 
+-- how many string literals are in several declarations
 abbrev pub literals_of_decls : List NotedDecl → ℕ
 literals_of_decls [] = 0
 literals_of_decls (d ∷ ds) = literals_of_decl d + literals_of_decls ds

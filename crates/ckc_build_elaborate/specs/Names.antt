@@ -5,6 +5,7 @@ use Rattle.ckc_syntax.specs.declared.tree.Item.TheVariants as item
 use Rattle.ckc_typed.specs.Trees.{NotedItem, NotedDecl}
 use Rattle.ckc_typed.specs.Environment.{same_name}
 
+-- the number of a function: how many with a body stand before it
 abbrev pub number_of : Name → List NotedItem → ℕ
 number_of n [] = 0
 number_of n (item.Function h body ∷ rest) = if same_name h.name n then 0 else number_of n rest + 1

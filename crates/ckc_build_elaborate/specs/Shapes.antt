@@ -12,10 +12,12 @@ use Rattle.ckc_source.specs.declared.program.Shape.{Shape}
 use Rattle.ckc_build_values.specs.Members.{offset_of}
 use Rattle.ckc_build_elaborate.specs.Lists.{numbered}
 
+-- whether a member has no declared bounds
 abbrev pub is_bare : MemberBounds → Bool
 is_bare bounds.Nothing = true
 is_bare _ = false
 
+-- whether the bounds of a member name the member with this number
 abbrev pub names : ℕ → MemberBounds → Bool
 names k (bounds.Named j c) = j == k
 names k _ = false
@@ -24,10 +26,12 @@ names k _ = false
 abbrev pub is_run : List MemberShape → MemberShape → Bool
 is_run members m = is_bare m.bounds && not (list_any (λ n. names m.name n.bounds) members)
 
+-- the member, where pointers with known limits may point to it
 abbrev pub run_of : Structs → ℕ → List MemberShape → MemberShape → List MemberRun
 run_of structs tag members m =
     if is_run members m then record { offset = offset_of structs tag m.name; ctype = m.ctype } ∷ [] else []
 
+-- the members of a structure that pointers with known limits may point to
 abbrev pub shape_of : Structs → ℕ → StructShape → List Shape
 shape_of structs tag s = record { runs = flat_map (run_of structs tag s.members) s.members } ∷ []
 
@@ -35,5 +39,6 @@ shape_of structs tag s = record { runs = flat_map (run_of structs tag s.members)
 abbrev pub one : StructShape → ℕ
 one s = 1
 
+-- the same of each structure of a text
 abbrev pub shapes_elaborated : Structs → List Shape
 shapes_elaborated structs = numbered (shape_of structs) one 0 structs.shapes

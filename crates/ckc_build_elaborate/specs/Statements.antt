@@ -34,6 +34,7 @@ pub record ActPart : Type 0 where
   pub assigns : Typed → List Variable → ℕ → List (Target × Right)
   pub literals : ℕ
 
+-- a single statement
 abbrev pub one : (Code → Code) → Statements
 one f = f ∷ []
 
@@ -41,26 +42,32 @@ one f = f ∷ []
 abbrev pub alone : Statements → Code
 alone ss = chained ss End
 
+-- what a statement becomes that may be left out, as behind `else`
 abbrev pub code_if : Option Part → Meaning Statements
 code_if None p locals result k = []
 code_if (Some s) p locals result k = s.code p locals result k
 
+-- what the statements of a block become, one after another
 abbrev pub all_code : List Part → Meaning Statements
 all_code ss p locals result k = numbered (λ j s. s.code p locals result j) (λ s. s.literals) k ss
 
+-- what the statements of a bundle assign
 abbrev pub all_assigns : List Part → Typed → List Variable → ℕ → List (Target × Right)
 all_assigns ss p locals k = numbered (λ j s. s.assigns p locals j) (λ s. s.literals) k ss
 
 -- ---- string literals, in the order of the text
 
+-- how many string literals are in a statement that may be left out, as behind `else`
 abbrev pub literals_if : Option Part → ℕ
 literals_if None = 0
 literals_if (Some s) = s.literals
 
+-- how many string literals are in the statements of a block
 abbrev pub all_literals : List Part → ℕ
 all_literals [] = 0
 all_literals (s ∷ ss) = s.literals + all_literals ss
 
+-- how many string literals are in a statement
 abbrev pub act_literals : Act-F Name Note ActPart Part → ℕ
 act_literals (Act-F.Block m ss) = all_literals ss
 act_literals Act-F.Empty = 0
@@ -78,9 +85,11 @@ act_literals (Act-F.Bundle ss) = all_literals ss
 
 -- ---- the assignments of a bundle: targets and what they are assigned
 
+-- an assignment of a bundle: its target and its right side
 abbrev pub assign : Typed → List Variable → ℕ → NotedExpr → NotedExpr → Target × Right
 assign p locals k e f = (target_of p locals k e, right_of p locals (k + literals_of e) (is_terminated e.note.ctype) f)
 
+-- what a statement of a bundle assigns
 abbrev pub act_assigns : Act-F Name Note ActPart Part → Typed → List Variable → ℕ → List (Target × Right)
 act_assigns (Act-F.Assign e f) p locals k = assign p locals k e f ∷ []
 act_assigns _ p locals k = []
@@ -93,6 +102,7 @@ turns p locals result s k e t body =
     Loop s (condition p locals k e) (alone (body.code p locals result (k + literals_of_value e + literals_if t)))
     (alone (code_if t p locals result (k + literals_of_value e)))
 
+-- what a statement becomes, at a place and in a mode
 abbrev pub act_code : Act-F Name Note ActPart Part → Pos → Mode → Meaning Statements
 act_code (Act-F.Block m ss) at mode p locals result k = all_code ss p locals result k
 act_code Act-F.Empty at mode p locals result k = []
@@ -115,15 +125,18 @@ act_code (Act-F.Bundle ss) at mode p locals result k = one (Bundle (spot at mode
 
 -- ---- the folds
 
+-- what a statement means, once its place and its mode are given
 abbrev pub act_parts : Act-F Name Note ActPart Part → ActPart
 act_parts a = record { code = act_code a; assigns = act_assigns a; literals = act_literals a }
 
+-- what a statement means at its own place and in its own mode
 abbrev pub stmt_parts : Stmt-F Name Note ActPart Part → Part
 stmt_parts s = record { code = s.body.code s.pos s.note.mode; assigns = s.body.assigns; literals = s.body.literals }
 
 abbrev pub part_of_act : NotedAct → ActPart
 part_of_act = fold-Act Name Note ActPart Part act_parts stmt_parts
 
+-- what a statement of a typed text means
 abbrev pub part_of : NotedStmt → Part
 part_of = fold-Stmt Name Note ActPart Part act_parts stmt_parts
 

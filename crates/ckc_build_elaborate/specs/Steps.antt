@@ -32,6 +32,7 @@ use Rattle.ckc_build_elaborate.specs.Literals.{literals_of_bounds}
 abbrev pub Statements : Type 0
 Statements = List (Code → Code)
 
+-- a place with the mode of the code there
 abbrev pub spot : Pos → Mode → Spot
 spot at mode = record { at = at; mode = mode }
 
@@ -44,19 +45,24 @@ pub record Destination : Type 0 where
   pub kept : Option Kept
   pub terminated : Bool
 
+-- where the result of a call goes that is a statement
 abbrev pub nowhere : Destination
 nowhere = record { target = Nothing; kept = None; terminated = false }
 
+-- whether a type is an `_Nt_array_ptr`
 abbrev pub is_terminated : CType → Bool
 is_terminated t = is_terminated_kind (kind_of t)
 
+-- the target that an object of this type at a place is
 abbrev pub memory : CType → Place → Target
 memory t q = Memory (width_of t) q.access q.pointer q.index
 
+-- the target that a name is: a local, or an object of the file in memory
 abbrev pub name_target : CType → Name → Place → Target
 name_target t (name.Local x) q = code.Variable x (width_of t)
 name_target t n q = memory t q
 
+-- the target that an expression is: a name, or a place in memory
 abbrev pub target_form : {L M E : Type 0} → CType → Place → Node-F Name Note L M E → Target
 target_form t q (Node-F.Name n) = name_target t n q
 target_form t q node = memory t q
@@ -65,11 +71,13 @@ target_form t q node = memory t q
 abbrev pub target_of : Typed → List Variable → ℕ → NotedExpr → Target
 target_of p locals k e = target_form e.note.ctype (place_elaborated p locals k e) (out-Node Name Note e.node)
 
+-- what keeps the result of a call that is assigned to a name: a local or a static object
 abbrev pub name_kept : Typed → CType → Name → Option Kept
 name_kept p t (name.Local x) = Some (kept.Local x (width_of t))
 name_kept p t (name.Static j) = Some (kept.Static (address_of p j) (width_of t))
 name_kept p t n = None
 
+-- the same of an expression, which keeps a result only where it is a name
 abbrev pub kept_form : {L M E : Type 0} → Typed → CType → Node-F Name Note L M E → Option Kept
 kept_form p t (Node-F.Name n) = name_kept p t n
 kept_form p t node = None
@@ -82,6 +90,7 @@ destination_of p locals k e = record {
   terminated = is_terminated e.note.ctype;
 }
 
+-- the target of the declaration of a local, which is that local
 abbrev pub local_target : CType → Name → Target
 local_target t (name.Local x) = code.Variable x (width_of t)
 local_target t n = Nothing
@@ -96,10 +105,12 @@ destination_for p t n = record { target = local_target t n; kept = name_kept p t
 abbrev pub block_of : Typed → CType → Bool → Pointee
 block_of p t terminated = record { element = t; size = size_of p.layout t; terminated = terminated }
 
+-- the right side of an assignment: a new block of `calloc`, or the value of an expression
 abbrev pub right_form : {L M : Type 0} → Typed → List Variable → ℕ → Bool → NotedExpr → Node-F Name Note L M NotedExpr → Right
 right_form p locals k terminated e (Node-F.Calloc w n x) = Fresh (block_of p (type_written w) terminated) (expr_elaborated p locals k n)
 right_form p locals k terminated e node = Value (expr_elaborated p locals k e)
 
+-- what is assigned where this expression stands on the right side
 abbrev pub right_of : Typed → List Variable → ℕ → Bool → NotedExpr → Right
 right_of p locals k terminated e = right_form p locals k terminated e (out-Node Name Note e.node)
 
@@ -110,6 +121,7 @@ abbrev pub argument : Typed → List Variable → ℕ → Option NotedDecl → N
 argument p locals k (Some d) e = converted (type_written d.ctype) (expr_elaborated p locals k e)
 argument p locals k None e = expr_elaborated p locals k e
 
+-- the arguments of a call, each converted to the type of its parameter
 abbrev pub arguments : Typed → List Variable → ℕ → List NotedDecl → List NotedExpr → List Expr
 arguments p locals k ds [] = []
 arguments p locals k [] (e ∷ es) = argument p locals k None e ∷ arguments p locals (k + literals_of e) [] es
@@ -130,6 +142,7 @@ called p locals s to k name.Getchar es at rest = Get s to.target rest
 called p locals s to k name.Putchar es at rest = Put s to.target (first_of p locals k es) rest
 called p locals s to k n es at rest = Assign s to.target (Value outside) rest
 
+-- the result of a call goes to a destination, or else the value of the expression
 abbrev pub assigned_form : {L M : Type 0} → Typed → List Variable → Spot → Destination → ℕ → NotedExpr → Node-F Name Note L M NotedExpr → Code → Code
 assigned_form p locals s to k e (Node-F.Call n es) rest = called p locals s to k n es e.pos rest
 assigned_form p locals s to k e node rest = Assign s to.target (right_of p locals k to.terminated e) rest

@@ -26,22 +26,27 @@ use Rattle.ckc_build_values.specs.Kinds.{count_of_kind, size_behind}
 use Rattle.ckc_build_values.specs.Names.{address_of}
 use Rattle.ckc_build_values.specs.Ends.{local_variable, end_behind, limits_between}
 
+-- the end of limits that is the pointer itself
 abbrev pub own_end : End
 own_end = end_behind Own None (pos 0)
 
+-- an end with a variable added to it, where it has none before
 abbrev pub with_variable : Option Variable → Variable → Base → ℤ → Option End
 with_variable None x base c = Some (end_behind base (Some x) c)
 with_variable (Some y) x base c = None
 
+-- an end so many elements further on, as a variable or a constant says
 abbrev pub plus : List variables.Variable → End → Option Name → ℤ → Option End
 plus locals e None c = Some (end_behind e.base e.variable (e.add +ℤ c))
 plus locals e (Some (name.Local k)) c = with_variable e.variable (local_variable locals k) e.base (e.add +ℤ c)
 plus locals e (Some n) c = None
 
+-- an end so many elements back, where their number is a constant
 abbrev pub less : End → Option Name → ℤ → Option End
 less e None c = Some (end_behind e.base e.variable (e.add -ℤ c))
 less e (Some n) c = None
 
+-- an end so many elements further on for `+`, or back for `-`
 abbrev pub shifted_by : List variables.Variable → TreeOp → End → Amount → Option End
 shifted_by locals op.Add e a = plus locals e a.variable a.number
 shifted_by locals op.Sub e a = less e a.variable a.number
@@ -58,14 +63,17 @@ end_named p (name.Local k) = Some (end_behind (Local k) None (pos 0))
 end_named p (name.Static k) = Some (end_behind (Fixed (address_of p k)) None (pos 0))
 end_named p n = None
 
+-- the end that an expression is, where it is the name of a pointer or an array
 abbrev pub pointer_form : {L M : Type 0} → Typed → Node-F Name Note L M NotedExpr → Option End
 pointer_form p (Node-F.Name n) = end_named p n
 pointer_form p _ = None
 
+-- a pointer, alone or with one amount behind it
 abbrev pub bound_form : Typed → List variables.Variable → NotedLayer → Option End
 bound_form p locals (Node-F.Bin o e f) = shifted locals o (pointer_form p (out-Node Name Note e.node)) (amount p.layout f)
 bound_form p locals form = pointer_form p form
 
+-- a pointer, alone or with one or two amounts behind it
 abbrev pub outer_form : Typed → List variables.Variable → NotedLayer → Option End
 outer_form p locals (Node-F.Bin o e f) = shifted locals o (bound_form p locals (out-Node Name Note e.node)) (amount p.layout f)
 outer_form p locals form = pointer_form p form
@@ -74,6 +82,7 @@ outer_form p locals form = pointer_form p form
 abbrev pub bound : Typed → List variables.Variable → NotedExpr → Option End
 bound p locals e = outer_form p locals (out-Node Name Note e.node)
 
+-- the limits of a pointer between two ends, where both are known
 abbrev pub limits_if : Structs → CType → Option End → Option End → Option Limits
 limits_if structs t (Some lower) (Some upper) = Some (limits_between structs t lower upper)
 limits_if structs t _ _ = None
@@ -82,10 +91,12 @@ limits_if structs t _ _ = None
 abbrev pub counted : Typed → List variables.Variable → CType → Option Amount → Option Limits
 counted p locals t a = limits_if p.layout t (Some own_end) (shifted locals op.Add (Some own_end) a)
 
+-- the limits that the declared bounds of a result say
 abbrev pub limits_form : Typed → List variables.Variable → CType → Limits-F Name Note NotedLimits NotedNode NotedExpr → Option Limits
 limits_form p locals t (Limits-F.Between e f at) = limits_if p.layout t (bound p locals e) (bound p locals f)
 limits_form p locals t form = counted p locals t (amount_of_form p.layout (size_behind p.layout t) form)
 
+-- the limits of a pointer to a fixed number of elements
 abbrev pub limits_of_count : Structs → CType → Option Count → Option Limits
 limits_of_count structs t (Some (count.Fixed c)) = limits_if structs t (Some own_end) (Some (end_behind Own None c))
 limits_of_count structs t _ = None

@@ -19,6 +19,7 @@ use Rattle.ckc_source.specs.declared.expr.Limits.{Limits}
 use Rattle.ckc_build_values.specs.Kinds.{integer_of, pointee_of}
 use Rattle.ckc_build_values.specs.Names.{address_of}
 
+-- the type of a local integer, and `int` where there is no such local
 abbrev pub integer_in_variable : Option variables.Variable → Integer
 integer_in_variable (Some v) = integer_of v.ctype
 integer_in_variable None = Int
@@ -27,9 +28,11 @@ integer_in_variable None = Int
 abbrev pub local_variable : List variables.Variable → ℕ → Variable
 local_variable locals k = record { local = k; form = integer_in_variable (variable_named locals (name.Local k)) }
 
+-- an end of limits, as far behind its base as a variable and a number say
 abbrev pub end_behind : Base → Option Variable → ℤ → End
 end_behind base x c = record { base = base; variable = x; add = c }
 
+-- the limits of a pointer of this type, from one end to the other
 abbrev pub limits_between : Structs → CType → End → End → Limits
 limits_between structs t lower upper = record { to = pointee_of structs t; lower = lower; upper = upper }
 
@@ -44,6 +47,7 @@ base_at p own None = Own
 abbrev pub variable_at : List variables.Variable → ℕ → Option Variable
 variable_at locals x = if x == 0 then None else Some (local_variable locals (x - 1))
 
+-- an end of the range of a local pointer, by its form
 abbrev pub end_at : Typed → List variables.Variable → ℕ → Form → End
 end_at p locals own f = end_behind (base_at p own f.base) (variable_at locals f.var) f.add
 

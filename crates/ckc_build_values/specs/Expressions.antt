@@ -45,6 +45,7 @@ static_in p t at k (Some kind.One) = Number (address_of p k)
 static_in p t at k (Some kind.Arr) = Array (address_of p k) (bytes_of p k)
 static_in p t at k (Some kind.Nt) = Array (address_of p k) (bytes_of p k)
 
+-- what a name reads: a local or an object of the file
 abbrev pub named : Typed → List Variable → Note → Pos → Name → Expr
 named p locals a at (name.Local k) = local_in p locals a.ctype k a.range
 named p locals a at (name.Static k) = static_in p a.ctype at k (array_of p k)
@@ -80,14 +81,17 @@ pub record LimitsPart : Type 0 where
 
 -- ---- string literals, in the order of the text
 
+-- how many string literals are in the arguments of a call
 abbrev pub all_literals : List Part → ℕ
 all_literals [] = 0
 all_literals (e ∷ es) = e.literals + all_literals es
 
+-- how many string literals are in the bounds of a cast, which may have none
 abbrev pub literals_if : Option LimitsPart → ℕ
 literals_if None = 0
 literals_if (Some l) = l.literals
 
+-- how many string literals are in an expression
 abbrev pub node_literals : Node-F Name Note LimitsPart NodePart Part → ℕ
 node_literals (Node-F.Number n unsigned) = 0
 node_literals (Node-F.Text bytes) = 1
@@ -108,6 +112,7 @@ node_literals (Node-F.Calloc w e x) = e.literals
 
 -- ---- places: of objects by their names, of elements and of members
 
+-- where an expression lies: at an object, an element or a member
 abbrev pub node_place : Node-F Name Note LimitsPart NodePart Part → Note → Pos → Meaning Place
 node_place (Node-F.Name n) a at p locals k = name_place p a.ctype at n
 node_place (Node-F.Un op.Deref e) a at p locals k = target_place p.layout e.ctype at (e.value p locals k)
@@ -120,6 +125,7 @@ node_place node a at p locals k = nowhere at
 
 -- ---- addresses: `&*p` is p, and `&p[e]` is p + e (ISO C11, 6.5.3.2)
 
+-- the address that `&` before an expression gives
 abbrev pub node_address : Node-F Name Note LimitsPart NodePart Part → Note → Pos → Meaning Expr
 node_address (Node-F.Un op.Deref e) a at p locals k = e.value p locals k
 node_address (Node-F.Index e f) a at p locals k =
@@ -128,6 +134,7 @@ node_address node a at p locals k = address_at p.layout a.ctype (node_place node
 
 -- ---- values
 
+-- the value of a unary operator before an operand
 abbrev pub unary_value : TreeOp → Part → Note → Pos → Meaning Expr
 unary_value op.Address e a at p locals k = e.address p locals k
 unary_value op.Deref e a at p locals k =
@@ -139,10 +146,12 @@ abbrev pub elements_if : Option LimitsPart → ℕ → Meaning Expr
 elements_if None size p locals k = Number 1
 elements_if (Some l) size p locals k = l.elements size p locals k
 
+-- the type of the number of elements in a bounds cast
 abbrev pub form_if : Option LimitsPart → Integer
 form_if None = Int
 form_if (Some l) = l.form
 
+-- what the value of an expression is in the program
 abbrev pub node_value : Node-F Name Note LimitsPart NodePart Part → Note → Pos → Meaning Expr
 node_value (Node-F.Number n unsigned) a at p locals k = Number n
 node_value (Node-F.Text bytes) a at p locals k = Array (address_of p k) (length bytes)
@@ -175,6 +184,7 @@ node_value (Node-F.Calloc w e x) a at p locals k = outside
 
 -- ---- the folds
 
+-- what an expression means, once its type and its place are given
 abbrev pub node_parts : Node-F Name Note LimitsPart NodePart Part → NodePart
 node_parts node = record {
   value = node_value node;
@@ -183,6 +193,7 @@ node_parts node = record {
   literals = node_literals node;
 }
 
+-- what an expression means with its own type and place
 abbrev pub expr_parts : Expr-F Name Note LimitsPart NodePart Part → Part
 expr_parts e = record {
   value = e.node.value e.note e.pos;
@@ -192,6 +203,7 @@ expr_parts e = record {
   literals = e.node.literals;
 }
 
+-- what the bounds in a bounds cast mean
 abbrev pub limits_parts : Limits-F Name Note LimitsPart NodePart Part → LimitsPart
 limits_parts (Limits-F.Count e at) = record {
   elements = λ size. e.value;
@@ -206,12 +218,14 @@ limits_parts (Limits-F.ByteCount e at) = record {
 limits_parts (Limits-F.Between e f at) = record { elements = λ size p locals k. outside; form = Int; literals = e.literals + f.literals }
 limits_parts (Limits-F.Unknown at) = record { elements = λ size p locals k. outside; form = Int; literals = 0 }
 
+-- what an expression of a typed text means
 abbrev pub part_of : NotedExpr → Part
 part_of = fold-Expr Name Note LimitsPart NodePart Part limits_parts node_parts expr_parts
 
 abbrev pub part_of_node : NotedNode → NodePart
 part_of_node = fold-Node Name Note LimitsPart NodePart Part limits_parts node_parts expr_parts
 
+-- what bounds in a typed text mean
 abbrev pub part_of_limits : NotedLimits → LimitsPart
 part_of_limits = fold-Limits Name Note LimitsPart NodePart Part limits_parts node_parts expr_parts
 

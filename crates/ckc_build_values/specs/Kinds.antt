@@ -20,6 +20,7 @@ use Rattle.ckc_source.specs.declared.expr.Count.TheVariants as count
 
 -- ---- integers
 
+-- the type of an integer by the outermost part of the type, `int` for what is none
 abbrev pub integer_in : CType-F CType → Integer
 integer_in CType-F.Int = Int
 integer_in CType-F.Unsigned = Unsigned
@@ -69,6 +70,7 @@ pointee_of structs t = record { element = element_of t; size = size_behind struc
 
 -- ---- structures
 
+-- the tag of a structure by the outermost part of the type, 0 for what is none
 abbrev pub tag_in : CType-F CType → ℕ
 tag_in CType-F.Int = 0
 tag_in CType-F.Unsigned = 0

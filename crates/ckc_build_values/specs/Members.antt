@@ -31,6 +31,7 @@ offset_of structs tag k = if has_member structs tag k then offset structs tag k 
 abbrev pub member_named : Structs → ℕ → Name → Option MemberShape
 member_named structs tag n = find (λ m. is_member_named n m.name) (members_of structs tag)
 
+-- the type of an integer member, and `int` where there is no such member
 abbrev pub integer_in_member : Option MemberShape → Integer
 integer_in_member (Some m) = integer_of m.ctype
 integer_in_member None = Int
@@ -46,6 +47,7 @@ count_by structs tag t (bounds.Named k c) =
     Some (count.Member (offset_of structs tag k) (integer_in_member (member_named structs tag (name.Member k))) c)
 count_by structs tag t bounds.NoForm = None
 
+-- how many elements a member points to, where there is such a member and that is known
 abbrev pub count_in : Structs → ℕ → Option MemberShape → Option Count
 count_in structs tag (Some m) = count_by structs tag m.ctype m.bounds
 count_in structs tag None = None

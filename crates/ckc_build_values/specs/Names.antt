@@ -19,6 +19,7 @@ use Rattle.ckc_build_values.specs.Kinds.{count_of_kind, size_behind}
 
 -- ---- addresses: string literals are static objects behind those that are declared
 
+-- the address of a static object, and 0 where there is none
 abbrev pub address_in : Option StaticObject → ℕ
 address_in (Some o) = o.at
 address_in None = 0
@@ -27,6 +28,7 @@ address_in None = 0
 abbrev pub address_of : Typed → ℕ → ℕ
 address_of p k = address_in (slice_get p.statics k)
 
+-- the kind of pointer that the use of a static array gives, and none for all else
 abbrev pub array_in : Option StaticObject → Option Kind
 array_in (Some o) = o.array
 array_in None = None
@@ -46,10 +48,12 @@ bytes_of p k = bytes_in p.layout (slice_get p.statics k)
 
 -- ---- how many elements a static pointer has (Checked C specification 0.9, section 3.1)
 
+-- whether an item declares the object of this name
 abbrev pub declares : Name → NotedItem → Bool
 declares n (item.Static d) = same_name d.name n
 declares n _ = false
 
+-- the bounds in the declaration of a static object, where it has them
 abbrev pub limits_in : Option NotedItem → Option NotedLimits
 limits_in (Some (item.Static d)) = d.bounds
 limits_in _ = None
@@ -58,6 +62,7 @@ limits_in _ = None
 abbrev pub limits_declared : Typed → Name → Option NotedLimits
 limits_declared p n = limits_in (find (declares n) p.tree.items)
 
+-- a constant number of elements, where the amount names no variable
 abbrev pub fixed_by : Option Name → ℤ → Option Count
 fixed_by None c = Some (count.Fixed c)
 fixed_by (Some n) c = None
@@ -67,9 +72,11 @@ abbrev pub fixed_count : Option Amount → Option Count
 fixed_count (Some a) = fixed_by a.variable a.number
 fixed_count None = None
 
+-- how many elements a static pointer has by its type and its declared bounds, where that is known
 abbrev pub count_declared : Structs → CType → Option NotedLimits → Option Count
 count_declared structs t None = count_of_kind (kind_of t)
 count_declared structs t (Some l) = fixed_count (amount_of_limits structs (size_behind structs t) l)
 
+-- how many elements the static pointer of this name has, where that is known
 abbrev pub count_of_static : Typed → CType → Name → Option Count
 count_of_static p t n = count_declared p.layout t (limits_declared p n)

@@ -30,6 +30,7 @@ pub record Place : Type 0 where
 abbrev pub place_of : Placed → Place
 place_of w = record { access = w.access; pointer = expr_of w.pointer; index = expr_of w.index }
 
+-- an element with an index, through a pointer of a kind
 abbrev pub place_through : Through → Pos → ℕ → Integer → Expr → Expr → Place
 place_through through at size index e f = record {
   access = record { through = through; at = at; size = size; index = index; offset = 0 };
@@ -49,6 +50,7 @@ element_place structs t at index e f = place_through (through_kind (kind_of t)) 
 abbrev pub target_place : Structs → CType → Pos → Expr → Place
 target_place structs t at e = element_place structs t at Int e (Number 0)
 
+-- the place so many bytes further on in the same element
 abbrev pub behind : ℕ → Place → Place
 behind bytes q = record q { access = record q.access { offset = q.access.offset + bytes } }
 
@@ -60,6 +62,7 @@ member_place structs tag n q = behind (offset_of structs tag (member_number n)) 
 abbrev pub nowhere : Pos → Place
 nowhere at = place_through Named at 0 Int (Number 0) (Number 0)
 
+-- the place of an object of the file, by its name
 abbrev pub name_place : Typed → CType → Pos → Name → Place
 name_place p t at (name.Static k) = object_place p t at k
 name_place p t at n = nowhere at

@@ -44,14 +44,17 @@ abbrev pub is_named : Through → Bool
 is_named Named = true
 is_named _ = false
 
+-- whether an expression is the number 1
 abbrev pub is_one : source.Expr → Bool
 is_one (source.Number n) = n == 1
 is_one _ = false
 
+-- whether limits are counted from the pointer that they belong to
 abbrev pub is_own : Base → Bool
 is_own bases.Own = true
 is_own _ = false
 
+-- whether an end of limits names no variable
 abbrev pub is_absent : Option Variable → Bool
 is_absent None = true
 is_absent (Some x) = false
@@ -64,6 +67,7 @@ is_fixed_end e add = is_own e.base && (is_absent e.variable && int_eq e.add add)
 abbrev pub are_single : ℕ → Limits → Bool
 are_single size limits = (limits.to.size == size) && (is_fixed_end limits.lower (pos 0) && is_fixed_end limits.upper (pos 1))
 
+-- whether a count is the constant 1
 abbrev pub is_single_count : Count → Bool
 is_single_count (counts.Fixed n) = int_eq n (pos 1)
 is_single_count (counts.Member offset form add) = false

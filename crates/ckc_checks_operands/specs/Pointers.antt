@@ -27,6 +27,7 @@ abbrev pub is_static : Access → source.Expr → Bool
 is_static access (source.Number a) = is_named access.through
 is_static access _ = false
 
+-- whether a count is a constant
 abbrev pub is_fixed : Count → Bool
 is_fixed (counts.Fixed n) = true
 is_fixed (counts.Member offset form add) = false

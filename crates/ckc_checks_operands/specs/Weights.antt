@@ -38,6 +38,7 @@ value_weight ranged (Tested size form at p k) =
     else 225 + value_weight true p + index_nodes k (value_weight false k)
 value_weight ranged (Trusted to form p k) = 60 * (range_nodes ranged + 1) + value_weight false p + value_weight false k
 
+-- what an expression weighs if its range is not needed
 abbrev pub expr_weight : Expr → ℕ
 expr_weight = value_weight false
 
@@ -46,10 +47,12 @@ abbrev pub access_weight : Access → (p i : Expr) → ℕ
 access_weight access p i =
     60 * access_nodes access.through p i + value_weight (takes_range access.through p) p + index_nodes i (expr_weight i)
 
+-- what the target of an assignment weighs: something in memory, or nothing
 abbrev pub target_weight : Target → ℕ
 target_weight (Memory width access p i) = 60 * guard_nodes access.through + access_weight access p i
 target_weight _ = 0
 
+-- what the right side of an assignment weighs
 abbrev pub right_weight : Right → ℕ
 right_weight (Value e) = expr_weight e
 right_weight (Fresh to e) = expr_weight e
@@ -59,10 +62,12 @@ abbrev pub assigns_weight : List (Target × Right) → ℕ
 assigns_weight [] = 0
 assigns_weight (a ∷ assigns) = 64 + target_weight a.0 + right_weight a.1 + assigns_weight assigns
 
+-- what the arguments of a call weigh
 abbrev pub arguments_weight : List Expr → ℕ
 arguments_weight [] = 0
 arguments_weight (e ∷ es) = 8 + expr_weight e + arguments_weight es
 
+-- what a statement weighs, together with those after it
 abbrev pub code_weight : Code → ℕ
 code_weight End = 0
 code_weight (Assign spot target right rest) = 64 + target_weight target + right_weight right + code_weight rest
@@ -77,9 +82,11 @@ code_weight (Continue rest) = 64 + code_weight rest
 code_weight (Return spot e rest) = 64 + expr_weight e + code_weight rest
 code_weight (Check spot e rest) = 64 + expr_weight e + code_weight rest
 
+-- what a function weighs, with its locals
 abbrev pub function_weight : Function → ℕ
 function_weight f = 64 + 64 * f.locals + code_weight f.body
 
+-- what all functions of a program weigh
 abbrev pub program_weight : Program → ℕ
 program_weight p = sum_by function_weight p.functions
 

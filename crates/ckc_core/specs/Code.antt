@@ -9,6 +9,7 @@ use Rattle.ckc_core.specs.declared.code.CoreStmt.{CoreStmt, CoreStmt-F, fold-Cor
 use Rattle.ckc_core.specs.declared.code.CoreFunc.{CoreFunc}
 use Rattle.ckc_core.specs.declared.code.Core.{Core}
 
+-- Expressions: a number, a local, a load, a binary operation, and the high word of a product.
 pub data Expr : Type 0 where
   Const : (number : ℕ) → Expr
   Local : (local : ℕ) → Expr

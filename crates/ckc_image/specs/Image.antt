@@ -39,6 +39,7 @@ ImageOf bytes entry code initial = IsProper entry code initial × (bytes ≡ ima
 abbrev pub four_at : List ℕ → ℕ → List ℕ
 four_at bytes at = take 4 (drop at bytes)
 
+-- the word in the four bytes from a place
 abbrev pub word_at : List ℕ → ℕ → ℕ
 word_at bytes at = from_le_bytes w32 (four_at bytes at)
 
@@ -46,9 +47,11 @@ word_at bytes at = from_le_bytes w32 (four_at bytes at)
 abbrev pub HasMagic : List ℕ → Type 0
 HasMagic bytes = four_at bytes 0 ≡ magic
 
+-- The version, which stands behind the magic, is 1.
 abbrev pub HasVersion : List ℕ → Type 0
 HasVersion bytes = four_at bytes 4 ≡ word_bytes 1
 
+-- The bytes are a header of 20 bytes, and the code and the initial bytes with the lengths that it says.
 abbrev pub HasLength : List ℕ → Type 0
 HasLength bytes = (20 ≤ length bytes) × (length bytes ≡ 20 + word_at bytes 12 + word_at bytes 16)
 
@@ -56,6 +59,7 @@ HasLength bytes = (20 ≤ length bytes) × (length bytes ≡ 20 + word_at bytes 
 abbrev pub HasLengths : List ℕ → Type 0
 HasLengths bytes = LengthsFit (word_at bytes 12) (word_at bytes 16)
 
+-- The entry that the header says is the address of a word of the code.
 abbrev pub HasEntry : List ℕ → Type 0
 HasEntry bytes = EntryFits (word_at bytes 8) (word_at bytes 12)
 

@@ -12,6 +12,7 @@ is_space b = b == 32 || b == 9 || b == 13
 abbrev pub is_feed : ℕ → Bool
 is_feed b = b == 10
 
+-- space, tab, carriage return and line feed
 abbrev pub is_blank : ℕ → Bool
 is_blank b = is_space b || is_feed b
 

@@ -17,9 +17,11 @@ pub record Part : Type 0 where
   pub bytes : List ℕ
   pub item : Item
 
+-- the bytes of the parts, one after another
 abbrev pub joined : List Part → List ℕ
 joined parts = flat_map (λ part. part.bytes) parts
 
+-- whether an item is the directive `#include <stdchecked.h>`
 abbrev pub is_stdchecked : Item → Bool
 is_stdchecked (Token (kinds.Directive Stdchecked)) = true
 is_stdchecked item = false
@@ -49,11 +51,13 @@ abbrev pub tokens_from : List ℕ → List Part → List Spelled
 tokens_from before [] = []
 tokens_from before (part ∷ parts) = token_at before part.bytes part.item ++ tokens_from (before ++ part.bytes) parts
 
+-- whether an item is one for which the text is refused
 abbrev pub is_broken : Item → Bool
 is_broken Gap = false
 is_broken (Token kind) = false
 is_broken (Broken code) = true
 
+-- None of the parts is broken.
 abbrev pub AreWhole : List Part → Type 0
 AreWhole parts = list_any (λ part. is_broken part.item) parts ≡ false
 

@@ -30,6 +30,7 @@ pub record IsPragma (word w : List ℕ) : Type 0 where
   pub c_some : 0 < length c
   pub whole : w ≡ codes "#" ++ (a ++ (codes "pragma" ++ (b ++ (codes "CHECKED_SCOPE" ++ (c ++ word)))))
 
+-- The bytes spell this directive, and no spaces stand behind it.
 abbrev pub IsDirective : List ℕ → Directive → Type 0
 IsDirective w Stdio = IsInclude (codes "<stdio.h>") w
 IsDirective w Stdlib = IsInclude (codes "<stdlib.h>") w
@@ -46,6 +47,7 @@ pub record IsDirectiveLine (w : List ℕ) : Type 0 where
   pub spaces_only : AllBytes is_space spaces
   pub is_directive : IsDirective front directive
 
+-- A `#` that may begin a directive begins one, or its whole line is refused as E105.
 abbrev pub DirectiveCases : List ℕ → Item → Type 0
 DirectiveCases w (Token (kinds.Directive d)) = IsDirective w d
 DirectiveCases w (Broken code) = (code ≡ bad_directive) × (0 < length w) × AllBytes (λ b. not (is_feed b)) w × (IsDirectiveLine w → ⊥)

@@ -13,8 +13,10 @@ marks =
     ∷ codes "&" ∷ codes "|" ∷ codes "^" ∷ codes "~" ∷ codes "!" ∷ codes "<<" ∷ codes "<=" ∷ codes ">=" ∷ codes "==" ∷ codes "!="
     ∷ codes "&&" ∷ codes "||" ∷ []
 
+-- whether the bytes spell a mark
 abbrev pub is_mark_text : List ℕ → Bool
 is_mark_text w = list_any (bytes_eq w) marks
 
+-- The bytes spell a mark, which is a token.
 abbrev pub IsMarkItem : List ℕ → Item → Type 0
 IsMarkItem w item = (is_mark_text w ≡ true) × (item ≡ Token Mark)

@@ -12,6 +12,7 @@ use Rattle.ckc_lexer.specs.Codes.{bad_literal}
 abbrev pub has_suffix : List ℕ → Bool
 has_suffix w = let last = slice_index w (length w - 1) in last == 117 || last == 85
 
+-- a number without a last `u` or `U`
 abbrev pub without_suffix : List ℕ → List ℕ
 without_suffix w = if has_suffix w then take (length w - 1) w else w
 
@@ -23,6 +24,7 @@ is_hexadecimal w = nat_lt 1 (length w) && slice_index w 0 == 48 && (slice_index 
 abbrev pub radix_of : List ℕ → ℕ
 radix_of w = if is_hexadecimal w then 16 else (if slice_index w 0 == 48 then 8 else 10)
 
+-- the digits of a number without a suffix: all of it but a `0x` or `0X` in front
 abbrev pub digits_of : List ℕ → List ℕ
 digits_of w = if is_hexadecimal w then drop 2 w else w
 
@@ -36,6 +38,7 @@ IsNumeral w n =
 abbrev pub IsNumber : List ℕ → ℕ → Bool → Type 0
 IsNumber w n unsigned = IsNumeral (without_suffix w) n × (unsigned ≡ (has_suffix w || nat_le (2 ^ 31) n))
 
+-- The bytes are a number, or they are none and are refused as E103.
 abbrev pub NumberCases : List ℕ → Item → Type 0
 NumberCases w (Token (Number n unsigned)) = IsNumber w n unsigned
 NumberCases w (Broken code) = (code ≡ bad_literal) × ((n : ℕ) (unsigned : Bool) → IsNumber w n unsigned → ⊥)

@@ -27,6 +27,7 @@ underscored_keywords =
     codes "_Complex" ∷ codes "_Generic" ∷ codes "_Imaginary" ∷ codes "_Noreturn" ∷ codes "_Static_assert" ∷
     codes "_Thread_local" ∷ codes "_Where" ∷ codes "_For_any" ∷ codes "_Itype_for_any" ∷ []
 
+-- the words that are keywords in every text
 abbrev pub keywords : List (List ℕ)
 keywords = plain_keywords ++ underscored_keywords
 

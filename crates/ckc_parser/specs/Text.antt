@@ -11,6 +11,7 @@ use Rattle.ckc_parser_grammar.specs.Values.{Value, tree}
 use Rattle.ckc_parser_grammar.specs.Derives.{Derives, syntax_error}
 use Rattle.ckc_parser_grammar.specs.Signs.{signs}
 
+-- the part that a whole text is
 abbrev pub start : Part
 start = g.text
 
@@ -28,6 +29,7 @@ abbrev pub FaultAt : List Spelled → List Spelled → Pos → Pos → Type 0
 FaultAt front [] end pos = (pos ≡ end) × ((v : Value) → DerivesValue front v → ⊥)
 FaultAt front (x ∷ more) end pos = (pos ≡ x.pos) × (Viable (front ++ x ∷ []) → ⊥)
 
+-- The fault of the tokens is at this place, and those before it begin a text.
 abbrev pub IsFault : List Spelled → Pos → Pos → Type 0
 IsFault xs end pos = (front : List Spelled) × (rest : List Spelled) × (xs ≡ front ++ rest) × Viable front × FaultAt front rest end pos
 

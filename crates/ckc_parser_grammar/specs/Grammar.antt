@@ -16,6 +16,7 @@ pub data Terminal : Type 0 where
   name_but_calloc : Terminal
   name_but_unknown : Terminal
 
+-- whether a token of the kind may stand as a name: `count` and the like may
 abbrev pub is_name : Kind → Bool
 is_name kind.Name = true
 is_name kind.Calloc = true
@@ -25,14 +26,17 @@ is_name kind.Bounds = true
 is_name kind.Unknown = true
 is_name _ = false
 
+-- whether a token of the kind may stand as a name other than `calloc`
 abbrev pub is_name_but_calloc : Kind → Bool
 is_name_but_calloc kind.Calloc = false
 is_name_but_calloc c = is_name c
 
+-- whether a token of the kind may stand as a name other than `unknown`
 abbrev pub is_name_but_unknown : Kind → Bool
 is_name_but_unknown kind.Unknown = false
 is_name_but_unknown c = is_name c
 
+-- whether a token of the kind is a `>`, also one directly behind another
 abbrev pub is_greater : Kind → Bool
 is_greater kind.Greater = true
 is_greater kind.GreaterNext = true
@@ -125,10 +129,12 @@ pub data Part : Type 0 where
   cast_limits : Part
   constant : Part
 
+-- what a production is made of: a token, or a part of the text
 pub data Symbol : Type 0 where
   t : Terminal → Symbol
   n : Part → Symbol
 
+-- the symbol for a token of this kind
 abbrev pub k : Kind → Symbol
 k c = t (one c)
 
@@ -542,6 +548,7 @@ abbrev pub not_else : Kind → Bool
 not_else kind.Else = false
 not_else _ = true
 
+-- whether a token of the kind may follow where the production was used
 abbrev pub allowed : Rule → Kind → Bool
 allowed NoElse following = not_else following
 allowed _ following = true

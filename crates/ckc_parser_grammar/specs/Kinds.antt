@@ -9,6 +9,7 @@ use Rattle.ckc_syntax.specs.declared.tokens.TokenKind.TheVariants as kinds
 use Rattle.ckc_parser_grammar.specs.declared.kind.Kind.{Kind}
 use Rattle.ckc_parser_grammar.specs.declared.kind.Kind.TheVariants.{End, Name, Calloc, Count, ByteCount, Bounds, Unknown, Number, Character, Text, Directive, Other, Int, Unsigned, Char, Void, Struct, Static, If, Else, While, For, Return, Break, Continue, Sizeof, Null, Eof, Ptr, ArrayPtr, NtArrayPtr, Checked, Unchecked, NtChecked, Bundled, Check, Tested, Trusted, RoundOpen, RoundClose, CurlyOpen, CurlyClose, SquareOpen, SquareClose, Less, Greater, GreaterNext, Comma, Semicolon, Colon, Question, Equals, Dot, Arrow, Plus, Minus, Star, Slash, Percent, Ampersand, Bar, Caret, Tilde, Exclamation, ShiftLeft, LessEquals, GreaterEquals, EqualsEquals, NotEquals, AndAnd, BarBar}
 
+-- whether two spellings are the same bytes
 abbrev pub is : List ℕ → List ℕ → Bool
 is [] [] = true
 is [] (c ∷ cs) = false
@@ -133,6 +134,7 @@ kind_by kinds.Text text = Text
 kind_by kinds.Mark text = kind_of_mark text
 kind_by (kinds.Directive d) text = Directive
 
+-- the kind of a token, by how the lexer reads it and how it is spelled
 abbrev pub kind_of_token : Spelled → Kind
 kind_of_token x = kind_by x.kind x.text
 

@@ -15,9 +15,11 @@ use Rattle.ckc_parser_grammar.specs.declared.parts.Arms.{Arms}
 use Rattle.ckc_parser_grammar.specs.declared.parts.Post.{Post}
 use Rattle.ckc_parser_grammar.specs.declared.parts.Post.TheVariants as post
 
+-- an expression of the tree, at its place
 abbrev pub expr_at : Node → Pos → Expr
 expr_at x pos = record { node = x; pos = pos; note = tt }
 
+-- a statement of the tree, at its place
 abbrev pub stmt_at : Act → Pos → Stmt
 stmt_at x pos = record { body = x; pos = pos; note = tt }
 
@@ -35,6 +37,7 @@ statics (d ∷ ds) = item.Static d ∷ statics ds
 abbrev pub local_of : Decl → Stmt
 local_of d = stmt_at (act.Local d) d.pos
 
+-- the same for each declared local of a list
 abbrev pub locals : List Decl → List Stmt
 locals [] = []
 locals (d ∷ ds) = local_of d ∷ locals ds
@@ -85,10 +88,12 @@ unfoldable pub joined_to : ℕ → Expr × List Step → Expr × List Step
 joined_to zero c = c
 joined_to (suc l) c = joined_to l (joined_at (suc l) c.0 c.1)
 
+-- an operand and the operators and operands behind it as one expression, the tightest operators first
 unfoldable pub joined : Expr → List Step → Expr
 unfolding joined_to
 joined e ss = (joined_to 10 (e, ss)).0
 
+-- the expression `e ? f : g`, or the condition alone where no `?` stands behind it
 abbrev pub picked : Expr → Option Arms → Expr
 picked e None = e
 picked e (Some a) = expr_at (node.Pick e a.yes a.no) a.pos

@@ -77,179 +77,224 @@ pub data Value : Type 0 where
 abbrev pub nowhere : Pos
 nowhere = record { line = 0; col = 0 }
 
+-- a name of no bytes, where a value is no token
 abbrev pub no_token : Spelled
 no_token = record { kind = kinds.Name; text = []; pos = nowhere }
 
+-- a `NULL` at no place, where a value is no expression
 abbrev pub no_expr : Expr
 no_expr = expr_at node.Null nowhere
 
+-- an empty statement at no place, where a value is no statement
 abbrev pub no_stmt : Stmt
 no_stmt = stmt_at act.Empty nowhere
 
+-- a directive, where a value is no item of a text
 abbrev pub no_item : Item
 no_item = item.Directive directives.Stdio
 
+-- an `int` without a name, where a value is no declaration
 abbrev pub no_decl : Decl
 no_decl = record { ctype = ctype.Int; name = no_token.text; length = lengths.Plain; bounds = None; init = inits.Nothing; pos = nowhere }
 
+-- the token that a value is
 abbrev pub as_token : Value → Spelled
 as_token (token t) = t
 as_token _ = no_token
 
+-- the items of a text that a value is
 abbrev pub as_items : Value → List Item
 as_items (items x) = x
 as_items _ = []
 
+-- the items of a text that a value makes of the tag before it
 abbrev pub as_items_of_name : Value → (Spelled → List Item)
 as_items_of_name (items_of_name x) = x
 as_items_of_name _ = λ t. []
 
+-- the items of a text that a value makes of the type before it
 abbrev pub as_items_of_base : Value → (TypeTree → List Item)
 as_items_of_base (items_of_base x) = x
 as_items_of_base _ = λ base. []
 
+-- the items that a value makes of the type without its stars, the type with them and the declared name
 abbrev pub as_items_of_declarator : Value → (TypeTree → TypeTree → Spelled → List Item)
 as_items_of_declarator (items_of_declarator x) = x
 as_items_of_declarator _ = λ base whole t. []
 
+-- the function or prototype that a value makes of the mode, the type of the result and the name before it
 abbrev pub as_item_of_head : Value → (Option Mode → TypeTree → Spelled → Item)
 as_item_of_head (item_of_head x) = x
 as_item_of_head _ = λ m result t. no_item
 
+-- the declaration that a value is
 abbrev pub as_decl : Value → Decl
 as_decl (decl x) = x
 as_decl _ = no_decl
 
+-- the declarations that a value is
 abbrev pub as_decls : Value → List Decl
 as_decls (decls x) = x
 as_decls _ = []
 
+-- the declaration that a value makes of the type before it
 abbrev pub as_decl_of_base : Value → (TypeTree → Decl)
 as_decl_of_base (decl_of_base x) = x
 as_decl_of_base _ = λ base. no_decl
 
+-- the declarations that a value makes of the type before them
 abbrev pub as_decls_of_base : Value → (TypeTree → List Decl)
 as_decls_of_base (decls_of_base x) = x
 as_decls_of_base _ = λ base. []
 
+-- the declaration that a value makes of the type and the name before it
 abbrev pub as_decl_of_name : Value → (TypeTree → Spelled → Decl)
 as_decl_of_name (decl_of_name x) = x
 as_decl_of_name _ = λ base t. no_decl
 
+-- what a value says of the declared object: that it is no array, or an array of some kind and length
 abbrev pub as_length : Value → Length
 as_length (length x) = x
 as_length _ = lengths.Plain
 
+-- the number in the brackets of an array, where one stands there
 abbrev pub as_size : Value → Option ℕ
 as_size (size x) = x
 as_size _ = None
 
+-- the initialiser that a value is
 abbrev pub as_init : Value → Init
 as_init (init x) = x
 as_init _ = inits.Nothing
 
+-- the mode that a value is: `_Checked` or `_Unchecked`
 abbrev pub as_mode : Value → Mode
 as_mode (mode x pos) = x
 as_mode _ = modes.Checked
 
+-- the type that a value is
 abbrev pub as_type : Value → TypeTree
 as_type (type_tree x) = x
 as_type _ = ctype.Int
 
+-- the places of the stars that a value is
 abbrev pub as_stars : Value → List Pos
 as_stars (stars x) = x
 as_stars _ = []
 
+-- the bounds that a value is: `count(e)`, `byte_count(e)` or `bounds(e, f)`
 abbrev pub as_limits : Value → Limits
 as_limits (limits x) = x
 as_limits _ = bounds.Unknown nowhere
 
+-- the bounds behind the `:` of a declaration, where it has them
 abbrev pub as_declared_limits : Value → Option Limits
 as_declared_limits (declared_limits x) = x
 as_declared_limits _ = None
 
+-- the bounds that a value makes of the place of the word `bounds` before it
 abbrev pub as_limits_at : Value → (Pos → Limits)
 as_limits_at (limits_at x) = x
 as_limits_at _ = λ pos. bounds.Unknown nowhere
 
+-- the bounds that a value makes of the place of `bounds` and of the token `unknown` before it
 abbrev pub as_limits_of_unknown : Value → (Pos → Spelled → Limits)
 as_limits_of_unknown (limits_of_unknown x) = x
 as_limits_of_unknown _ = λ pos t. bounds.Unknown nowhere
 
+-- the expression that a value is
 abbrev pub as_expr : Value → Expr
 as_expr (expr x) = x
 as_expr _ = no_expr
 
+-- the expressions that a value is
 abbrev pub as_exprs : Value → List Expr
 as_exprs (exprs x) = x
 as_exprs _ = []
 
+-- the expression that a value is, where it may be left out, as behind `return`
 abbrev pub as_value : Value → Option Expr
 as_value (value x) = x
 as_value _ = None
 
+-- the expression that a value makes of the place of the `(` before it
 abbrev pub as_expr_behind : Value → (Pos → Expr)
 as_expr_behind (expr_behind x) = x
 as_expr_behind _ = λ pos. no_expr
 
+-- the expression that a value makes of the name before it
 abbrev pub as_expr_of_name : Value → (Spelled → Expr)
 as_expr_of_name (expr_of_name x) = x
 as_expr_of_name _ = λ t. no_expr
 
+-- the expression that a value makes of the name and of the place of the `<` before it
 abbrev pub as_expr_of_less : Value → (Spelled → Pos → Expr)
 as_expr_of_less (expr_of_less x) = x
 as_expr_of_less _ = λ t pos. no_expr
 
+-- the two expressions behind the `?` of a value, where it has them
 abbrev pub as_arms : Value → Option Arms
 as_arms (arms x) = x
 as_arms (rest ss x) = x
 as_arms _ = None
 
+-- whether a second `>` follows a `>`
 abbrev pub as_next : Value → Bool
 as_next (second x) = x
 as_next _ = false
 
+-- the binary operators of a value, each with its right operand
 abbrev pub as_steps : Value → List Step
 as_steps (steps x) = x
 as_steps (rest x a) = x
 as_steps _ = []
 
+-- the `[e]`, `.m` or `->m` that a value is
 abbrev pub as_post : Value → Post
 as_post (post x) = x
 as_post _ = behind.Index no_expr nowhere
 
+-- the same of each that stands behind an expression
 abbrev pub as_posts : Value → List Post
 as_posts (posts x) = x
 as_posts _ = []
 
+-- the statement that a value is
 abbrev pub as_stmt : Value → Stmt
 as_stmt (stmt x) = x
 as_stmt _ = no_stmt
 
+-- the statement that a value is, where it may be left out, as behind `else`
 abbrev pub as_part : Value → Option Stmt
 as_part (part x) = x
 as_part _ = None
 
+-- the statements that a value is
 abbrev pub as_stmts : Value → List Stmt
 as_stmts (stmts x) = x
 as_stmts _ = []
 
+-- the statement that a value makes of the name before it
 abbrev pub as_stmt_of_name : Value → (Spelled → Stmt)
 as_stmt_of_name (stmt_of_name x) = x
 as_stmt_of_name _ = λ t. no_stmt
 
+-- the binary operator that a value is
 abbrev pub as_op : Value → TreeOp
 as_op (operator o pos) = o
 as_op _ = op.Minus
 
+-- the type to which a bounds cast converts
 abbrev pub type_of : Value → TypeTree
 type_of (cast t e l) = t
 type_of _ = ctype.Int
 
+-- the expression that a bounds cast converts
 abbrev pub operand_of : Value → Expr
 operand_of (cast t e l) = e
 operand_of _ = no_expr
 
+-- the bounds that a bounds cast gives, where it has them
 abbrev pub limits_of : Value → Option Limits
 limits_of (cast t e l) = l
 limits_of _ = None
@@ -261,16 +306,20 @@ place (operator o pos) = pos
 place (mode m pos) = pos
 place _ = nowhere
 
+-- the spelling of a name, a member or a string
 abbrev pub name_of : Value → Name
 name_of v = (as_token v).text
 
+-- the kind of the token that a value is
 abbrev pub kind_at : Value → Kind
 kind_at v = kind_of_token (as_token v)
 
+-- the number that a token spells
 abbrev pub number_of : TokenKind → ℕ
 number_of (kinds.Number number unsigned) = number
 number_of _ = 0
 
+-- the directive that a token is
 abbrev pub directive_of : TokenKind → Directive
 directive_of (kinds.Directive d) = d
 directive_of _ = directives.Stdio
@@ -279,6 +328,7 @@ directive_of _ = directives.Stdio
 abbrev pub named : Spelled → Expr
 named t = expr_at (node.Name t.text) t.pos
 
+-- a call of the name with these arguments, at the name
 abbrev pub called : Spelled → List Expr → Expr
 called t es = expr_at (node.Call t.text es) t.pos
 
@@ -286,12 +336,15 @@ called t es = expr_at (node.Call t.text es) t.pos
 abbrev pub whole : Expr → List Step → Option Arms → Expr
 whole e ss c = picked (joined e ss) c
 
+-- a binary operator with its place and its right operand
 abbrev pub step : Value → Value → Step
 step o e = record { op = as_op o; pos = place o; operand = as_expr e }
 
+-- a declaration of the name, at the name: its type, its length, its bounds and its initialiser
 abbrev pub declared : TypeTree → Spelled → Length → Option Limits → Init → Decl
 declared base t l b i = record { ctype = base; name = t.text; length = l; bounds = b; init = i; pos = t.pos }
 
+-- the type `struct` with this tag
 abbrev pub struct_type : Spelled → TypeTree
 struct_type t = ctype.Struct t.text t.pos
 

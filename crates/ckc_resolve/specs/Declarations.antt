@@ -14,6 +14,7 @@ use Rattle.ckc_resolve.specs.Scoping.{is_taken_here, with_local}
 use Rattle.ckc_resolve.specs.Types.{type_named}
 use Rattle.ckc_resolve.specs.Expressions.{expr_named, exprs_named, bounds_named}
 
+-- an initialiser with its names replaced
 abbrev pub init_named : Names → Scopes → Init → Outcome NamedInit
 init_named names scopes init.Nothing = Ok init.Nothing
 init_named names scopes (init.One e) = bind (expr_named names scopes e) (λ a. Ok (init.One a))

@@ -15,6 +15,7 @@ use Rattle.ckc_resolve.specs.Trees.{Limits, Node, Expr, NamedLimits, NamedNode, 
 use Rattle.ckc_resolve.specs.Meanings.{meaning_named, member_named}
 use Rattle.ckc_resolve.specs.Types.{type_named}
 
+-- bounds with their names replaced, or their first error
 abbrev pub OfLimits : Type 0
 OfLimits = Outcome NamedLimits
 
@@ -22,15 +23,18 @@ OfLimits = Outcome NamedLimits
 abbrev pub OfNode : Type 0
 OfNode = Pos → Outcome NamedNode
 
+-- an expression with its names replaced, or its first error
 abbrev pub OfExpr : Type 0
 OfExpr = Outcome NamedExpr
 
+-- bounds, by what their expressions become
 abbrev pub limits_parts : Limits-F Spelling (Unit {0}) OfLimits OfNode OfExpr → OfLimits
 limits_parts (Limits-F.Count e pos) = bind e (λ a. Ok (limits.Count a pos))
 limits_parts (Limits-F.ByteCount e pos) = bind e (λ a. Ok (limits.ByteCount a pos))
 limits_parts (Limits-F.Between e f pos) = bind e (λ a. bind f (λ b. Ok (limits.Between a b pos)))
 limits_parts (Limits-F.Unknown pos) = Ok (limits.Unknown pos)
 
+-- an expression, by what its operands, its arguments and its bounds become
 abbrev pub node_parts : Names → Scopes → Node-F Spelling (Unit {0}) OfLimits OfNode OfExpr → OfNode
 node_parts names scopes (Node-F.Number n unsigned) pos = Ok (node.Number n unsigned)
 node_parts names scopes (Node-F.Text bytes) pos = Ok (node.Text bytes)
@@ -49,25 +53,31 @@ node_parts names scopes (Node-F.Tested t e l) pos = bind (type_named names t) (�
 node_parts names scopes (Node-F.Call s es) pos = bind (in_order es) (λ args. bind (meaning_named names scopes s pos) (λ n. Ok (node.Call n args)))
 node_parts names scopes (Node-F.Calloc t e u) pos = bind (type_named names t) (λ v. bind e (λ a. bind (type_named names u) (λ w. Ok (node.Calloc v a w))))
 
+-- the same with the place of the expression
 abbrev pub expr_parts : Expr-F Spelling (Unit {0}) OfLimits OfNode OfExpr → OfExpr
 expr_parts e = bind (e.node e.pos) (λ n. Ok (record { node = n; pos = e.pos; note = tt }))
 
+-- bounds with their names replaced
 abbrev pub limits_named : Names → Scopes → Limits → OfLimits
 limits_named names scopes = fold-Limits Spelling (Unit {0}) OfLimits OfNode OfExpr limits_parts (node_parts names scopes) expr_parts
 
 abbrev pub node_named : Names → Scopes → Node → OfNode
 node_named names scopes = fold-Node Spelling (Unit {0}) OfLimits OfNode OfExpr limits_parts (node_parts names scopes) expr_parts
 
+-- an expression with its names replaced
 abbrev pub expr_named : Names → Scopes → Expr → OfExpr
 expr_named names scopes = fold-Expr Spelling (Unit {0}) OfLimits OfNode OfExpr limits_parts (node_parts names scopes) expr_parts
 
+-- the same of each expression of a list, from left to right
 abbrev pub exprs_named : Names → Scopes → List Expr → Outcome (List NamedExpr)
 exprs_named names scopes es = in_order (map (expr_named names scopes) es)
 
+-- the same of the bounds of a declaration, where it has them
 abbrev pub bounds_named : Names → Scopes → Option Limits → Outcome (Option NamedLimits)
 bounds_named names scopes None = Ok None
 bounds_named names scopes (Some l) = bind (limits_named names scopes l) (λ k. Ok (Some k))
 
+-- the same of an expression that may be left out, as behind `return`
 abbrev pub maybe_named : Names → Scopes → Option Expr → Outcome (Option NamedExpr)
 maybe_named names scopes None = Ok None
 maybe_named names scopes (Some e) = bind (expr_named names scopes e) (λ a. Ok (Some a))

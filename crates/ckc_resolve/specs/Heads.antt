@@ -12,9 +12,11 @@ use Rattle.ckc_resolve.specs.Types.{type_named}
 use Rattle.ckc_resolve.specs.Expressions.{bounds_named}
 use Rattle.ckc_resolve.specs.Declarations.{decl_named, unless_taken}
 
+-- what the spelling of a member means: the member with its number
 abbrev pub name_of_member : Names → Spelling → Name
 name_of_member names s = name.Member (number_of names.members s)
 
+-- what is visible after one more member
 abbrev pub with_member_name : Names → Scopes → Decl → Scopes
 with_member_name names scopes d = with_name scopes d.name (name_of_member names d.name)
 
@@ -28,12 +30,15 @@ member_named names all d before =
     bind (decl_named names all all (name_of_member names d.name) d) (λ e.
     unless_taken (is_among before d.name) d.pos (e, with_spelling before d.name))
 
+-- the members of a structure with their names replaced, each after those before it
 abbrev pub members_named : Names → Scopes → List Decl → List Spelling → Outcome (List NamedDecl × List Spelling)
 members_named names all ds = in_turn (map (member_named names all) ds)
 
+-- the members of a structure with their names replaced, or the first error in them
 abbrev pub struct_named : Names → List Decl → Outcome (List NamedDecl)
 struct_named names ds = bind (members_named names (member_scope names ds) ds []) (λ p. Ok p.0)
 
+-- what is visible after one more parameter
 abbrev pub with_param : Scopes → Decl → Scopes
 with_param scopes d = with_local scopes d.name
 
@@ -47,6 +52,7 @@ param_named names all d before =
     bind (decl_named names all all (name.Local before.next) d) (λ e.
     unless_taken (is_taken_here before d.name) d.pos (e, with_local before d.name))
 
+-- the parameters of a function with their names replaced, each after those before it
 abbrev pub params_named : Names → Scopes → List Decl → Scopes → Outcome (List NamedDecl × Scopes)
 params_named names all ds = in_turn (map (param_named names all) ds)
 

@@ -16,6 +16,7 @@ use Rattle.ckc_resolve.specs.Declarations.{decl_named, unless_taken}
 use Rattle.ckc_resolve.specs.Statements.{body_named}
 use Rattle.ckc_resolve.specs.Heads.{struct_named, head_named}
 
+-- what the spelling of a tag means: the tag with its number
 abbrev pub name_of_tag : Names → Spelling → Name
 name_of_tag names s = name.Tag (number_of names.tags s)
 
@@ -46,15 +47,18 @@ is_same h (Some g) = same_head h g
 abbrev pub if_defined : {A : Type 0} → List Item → Head → A → Outcome A
 if_defined all h a = if is_same h (first_head h.name all) then Ok a else refused undefined h.pos
 
+-- a structure with its names replaced; refused at its tag where the tag has a body already
 abbrev pub structure_named : Names → Names → Spelling → List Decl → Pos → Outcome NamedItem
 structure_named names before s members pos =
     bind (struct_named names members) (λ ds. unless_taken (is_among before.structs s) pos (item.Struct (name_of_tag names s) ds pos))
 
+-- an object of the file with its names replaced; refused at its name where the name is taken
 abbrev pub static_named : Names → Names → Decl → Outcome NamedItem
 static_named names before d =
     bind (decl_named names no_scope no_scope (name.Static (number_of names.statics d.name)) d) (λ e.
     unless_taken (is_taken_static before d.name) d.pos (item.Static e))
 
+-- a prototype with its names replaced; refused at its name where that is taken or no function has its head
 abbrev pub proto_named : Names → List Item → Names → Head → Outcome NamedItem
 proto_named names all before h =
     bind (head_named names h) (λ p. bind (unless_taken (is_taken_function before h.name) h.pos p.0) (λ g. if_defined all h (item.Proto g)))
@@ -74,9 +78,11 @@ item_named names all before (item.Static d) = static_named names before d
 item_named names all before (item.Proto h) = proto_named names all before h
 item_named names all before (item.Function h body) = function_named names before h body
 
+-- an item with its names replaced, and the names declared up to it
 abbrev pub item_in_turn : Names → List Item → Item → Names → Outcome (NamedItem × Names)
 item_in_turn names all i before = bind (item_named names all before i) (λ j. Ok (j, noted before i))
 
+-- the same of each item of a list
 abbrev pub items_named : Names → List Item → List Item → Names → Outcome (List NamedItem × Names)
 items_named names all is = in_turn (map (item_in_turn names all) is)
 

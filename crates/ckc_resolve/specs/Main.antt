@@ -11,17 +11,21 @@ use Rattle.ckc_resolve.specs.Codes.{no_main}
 use Rattle.ckc_resolve.specs.Spellings.{Spelling, number_of}
 use Rattle.ckc_resolve.specs.Trees.{Item, Head, Decl, TypeTree}
 
+-- whether the outermost part of a type is `int`
 abbrev pub is_int_form : TypeTree-F Spelling TypeTree → Bool
 is_int_form TypeTree-F.Int = true
 is_int_form form = false
 
+-- whether a type is `int`
 abbrev pub is_int : TypeTree → Bool
 is_int t = is_int_form (out-TypeTree Spelling t)
 
+-- whether a function has no parameters
 abbrev pub is_empty : List Decl → Bool
 is_empty [] = true
 is_empty ds = false
 
+-- the spelling `main`
 abbrev pub name_of_main : Spelling
 name_of_main = codes "main"
 
@@ -29,6 +33,7 @@ name_of_main = codes "main"
 abbrev pub is_main_head : Head → Bool
 is_main_head h = bytes_eq h.name name_of_main && (is_int h.result && (is_empty h.params && is_none h.bounds))
 
+-- whether an item is the function `main` with its body
 abbrev pub is_main : Item → Bool
 is_main (item.Function h body) = is_main_head h
 is_main i = false

@@ -12,9 +12,11 @@ use Rattle.ckc_resolve.specs.Codes.{undeclared}
 use Rattle.ckc_resolve.specs.Spellings.{Spelling, is_among, place_of}
 use Rattle.ckc_resolve.specs.Scoping.{found}
 
+-- the object of the file with this spelling, if there is one
 abbrev pub static_of : Names → Spelling → Option Name
 static_of names s = option_map (λ n. name.Static n) (place_of names.statics s)
 
+-- the function of the file with this spelling, if there is one
 abbrev pub function_of : Names → Spelling → Option Name
 function_of names s = option_map (λ n. name.Function n) (place_of names.functions s)
 
@@ -39,11 +41,14 @@ meaning_of names scopes s = option_or (found scopes.visible s) (of_file names s)
 abbrev pub tag_of : Names → Spelling → Option Name
 tag_of names s = if is_among names.structs s then option_map (λ n. name.Tag n) (place_of names.tags s) else None
 
+-- what a name in an expression means, or else E301 at the name
 abbrev pub meaning_named : Names → Scopes → Spelling → Pos → Outcome Name
 meaning_named names scopes s pos = there_or undeclared pos (meaning_of names scopes s)
 
+-- what a tag in a type means, or else E301 at the tag
 abbrev pub tag_named : Names → Spelling → Pos → Outcome Name
 tag_named names s pos = there_or undeclared pos (tag_of names s)
 
+-- what the name of a member means, or else E301 at the name
 abbrev pub member_named : Names → Spelling → Pos → Outcome Name
 member_named names s pos = there_or undeclared pos (member_of names s)

@@ -16,6 +16,7 @@ text_named tree =
     bind (all_named (names_of tree) tree.items) (λ items. bind (main_named (names_of tree) tree.items) (λ main.
     Ok (record { tree = record { items = items }; main = main })))
 
+-- the names phase
 abbrev pub naming : Phase Tree NamedText
 naming = phase_by text_named
 

@@ -10,5 +10,6 @@ use Rattle.ckc_resolve.specs.Trees.{Head}
 abbrev pub equal_heads : (g h : Head) → (b : Bool) × Decides b (placeless_head g ≡ placeless_head h)
 equal_heads g h = heads.equal_heads g h
 
+-- whether two heads of functions are the same, places aside
 abbrev pub same_head : Head → Head → Bool
 same_head g h = (equal_heads g h).0

@@ -11,9 +11,11 @@ use Rattle.ckc_resolve.specs.declared.scopes.Scopes.{Scopes}
 use Rattle.ckc_resolve.specs.Spellings.{Spelling, with_spelling}
 use Rattle.ckc_resolve.specs.Trees.{Tree, Item, Decl}
 
+-- the names of an empty text
 abbrev pub no_names : Names
 no_names = record { statics = []; functions = []; defined = []; tags = []; structs = []; members = [] }
 
+-- the spellings of members, with that of one more
 abbrev pub with_member : List Spelling → Decl → List Spelling
 with_member ms d = with_spelling ms d.name
 
@@ -35,6 +37,7 @@ names_of tree = fold noted no_names tree.items
 abbrev pub found : List Entry → Spelling → Option Name
 found es s = fold (λ before e. if bytes_eq s e.spelling then Some e.name else before) None es
 
+-- whether one of the declarations has this spelling
 abbrev pub is_declared : List Entry → Spelling → Bool
 is_declared es s = list_any (λ e. bytes_eq s e.spelling) es
 
@@ -50,6 +53,7 @@ is_reserved s = bytes_eq s (codes "getchar") || (bytes_eq s (codes "putchar") ||
 abbrev pub is_taken_here : Scopes → Spelling → Bool
 is_taken_here scopes s = is_reserved s || is_declared_here scopes s
 
+-- what is visible after one more declaration
 abbrev pub with_name : Scopes → Spelling → Name → Scopes
 with_name scopes s n = record scopes { visible = scopes.visible ++ record { spelling = s; name = n } ∷ [] }
 
@@ -65,5 +69,6 @@ opened scopes = record scopes { base = length scopes.visible }
 abbrev pub closed : Scopes → Scopes → Scopes
 closed outer inner = record inner { visible = take (length outer.visible) inner.visible; base = outer.base }
 
+-- a place that sees no declaration but those of the file
 abbrev pub no_scope : Scopes
 no_scope = record { visible = []; base = 0; next = 0 }

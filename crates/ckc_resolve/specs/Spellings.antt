@@ -4,6 +4,7 @@ use Rattle.std.specs.List.{list_any, position, position_or_len}
 use Rattle.std.specs.Str.{bytes_eq}
 pub use Rattle.ckc_syntax.specs.Trees.{Spelling}
 
+-- whether a spelling is in the list
 abbrev pub is_among : List Spelling → Spelling → Bool
 is_among ss s = list_any (bytes_eq s) ss
 

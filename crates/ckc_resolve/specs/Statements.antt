@@ -16,9 +16,11 @@ use Rattle.ckc_resolve.specs.Declarations.{local_named}
 abbrev pub OfAct : Type 0
 OfAct = Scopes → Outcome (NamedAct × Scopes)
 
+-- the same of a statement with its place
 abbrev pub OfStmt : Type 0
 OfStmt = Scopes → Outcome (NamedStmt × Scopes)
 
+-- the same of a statement that may be left out, as behind `else`
 abbrev pub part_in : Option OfStmt → Scopes → Outcome (Option NamedStmt × Scopes)
 part_in None scopes = Ok (None, scopes)
 part_in (Some s) scopes = bind (s scopes) (λ p. Ok (Some p.0, p.1))
@@ -41,12 +43,15 @@ act_parts names Act-F.Continue scopes = Ok (act.Continue, scopes)
 act_parts names (Act-F.Check e) scopes = bind (expr_named names scopes e) (λ a. Ok (act.Check a, scopes))
 act_parts names (Act-F.Bundle ss) scopes = bind (in_turn ss scopes) (λ p. Ok (act.Bundle p.0, p.1))
 
+-- a statement at its place, by what its parts become
 abbrev pub stmt_parts : Stmt-F Spelling (Unit {0}) OfAct OfStmt → OfStmt
 stmt_parts s scopes = bind (s.body scopes) (λ p. Ok (record { body = p.0; pos = s.pos; note = tt }, p.1))
 
+-- a statement without its place, with its names replaced, and what is visible behind it
 abbrev pub act_named : Names → Act → OfAct
 act_named names = fold-Act Spelling (Unit {0}) OfAct OfStmt (act_parts names) stmt_parts
 
+-- a statement at its place, with its names replaced, and what is visible behind it
 abbrev pub stmt_named : Names → Stmt → OfStmt
 stmt_named names = fold-Stmt Spelling (Unit {0}) OfAct OfStmt (act_parts names) stmt_parts
 
@@ -63,8 +68,10 @@ abbrev pub body_parts : Names → Act-F Spelling (Unit {0}) Act Stmt → Act →
 body_parts names (Act-F.Block mode ss) whole scopes = bind (stmts_named names ss scopes) (λ p. Ok (act.Block mode p.0, p.1))
 body_parts names layer whole scopes = act_named names whole scopes
 
+-- the body of a function with its names replaced, without its place
 abbrev pub body_act_named : Names → Act → Scopes → Outcome (NamedAct × Scopes)
 body_act_named names a scopes = body_parts names (out-Act Spelling (Unit {0}) a) a scopes
 
+-- the body of a function with its names replaced
 abbrev pub body_named : Names → Stmt → Scopes → Outcome (NamedStmt × Scopes)
 body_named names s scopes = bind (body_act_named names s.body scopes) (λ p. Ok (record { body = p.0; pos = s.pos; note = tt }, p.1))

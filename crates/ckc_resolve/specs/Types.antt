@@ -8,6 +8,7 @@ use Rattle.ckc_resolve.specs.Spellings.{Spelling}
 use Rattle.ckc_resolve.specs.Trees.{TypeTree, NamedType}
 use Rattle.ckc_resolve.specs.Meanings.{tag_named}
 
+-- a type, by what the type that it points to becomes
 abbrev pub type_parts : Names → TypeTree-F Spelling (Outcome NamedType) → Outcome NamedType
 type_parts names TypeTree-F.Int = Ok ctype.Int
 type_parts names TypeTree-F.Unsigned = Ok ctype.Unsigned
@@ -19,5 +20,6 @@ type_parts names (TypeTree-F.One t) = bind t (λ u. Ok (ctype.One u))
 type_parts names (TypeTree-F.Arr t) = bind t (λ u. Ok (ctype.Arr u))
 type_parts names (TypeTree-F.Nt t) = bind t (λ u. Ok (ctype.Nt u))
 
+-- a type with its tag replaced by what it means
 abbrev pub type_named : Names → TypeTree → Outcome NamedType
 type_named names = fold-TypeTree Spelling (Outcome NamedType) (type_parts names)

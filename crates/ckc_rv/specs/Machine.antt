@@ -52,6 +52,7 @@ pub record State : Type 0 where
   pub memory : Memory
   pub input : List ℕ
 
+-- the value of a register
 abbrev pub register : State → ℕ → ℕ
 register s r = slice_index s.x r
 
@@ -65,6 +66,7 @@ next_with s rd value = record s { x = with_register s.x rd value; pc = following
 
 -- ---- faults: each number is the place of the kind in the list fetch, word, align, load, store, break, call
 
+-- The machine halts with this kind of fault, at the pc.
 abbrev pub faults : ℕ → State → Move Event State
 faults kind s = Halts [] (Fault kind s.pc)
 
@@ -122,6 +124,7 @@ machine_step parts s =
     if is_code parts s.pc then executes s (option_and_then decoded (loaded s.memory 4 s.pc))
     else faults 0 s
 
+-- the machine of an image as steps of one instruction each
 abbrev pub machine_system : Parts → System Event State
 machine_system parts = record { step = machine_step parts; weight = λ s. 0 }
 

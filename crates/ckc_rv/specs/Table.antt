@@ -46,10 +46,12 @@ InRange Ebreak = Unit {0}
 
 -- ---- the formats: the fields of a word from its bit 31 down, as the manual draws them
 
+-- the R-format: operations on registers
 abbrev pub r_word : ℕ → ℕ → ℕ → ℕ → ℕ → ℕ → ℕ
 r_word funct7 rs2 rs1 funct3 rd opcode =
     funct7 * 2 ^ 25 + rs2 * 2 ^ 20 + rs1 * 2 ^ 15 + funct3 * 2 ^ 12 + rd * 2 ^ 7 + opcode
 
+-- the I-format: operations with an immediate, loads, JALR and FENCE
 abbrev pub i_word : ℕ → ℕ → ℕ → ℕ → ℕ → ℕ
 i_word immediate rs1 funct3 rd opcode =
     immediate * 2 ^ 20 + rs1 * 2 ^ 15 + funct3 * 2 ^ 12 + rd * 2 ^ 7 + opcode
@@ -65,6 +67,7 @@ b_word offset rs2 rs1 funct3 opcode =
     r_word (offset / 2 ^ 12 * 2 ^ 6 + offset / 2 ^ 5 % 2 ^ 6) rs2 rs1 funct3
     (offset % 2 ^ 5 + offset / 2 ^ 11 % 2) opcode
 
+-- the U-format: LUI and AUIPC
 abbrev pub u_word : ℕ → ℕ → ℕ → ℕ
 u_word upper rd opcode = upper * 2 ^ 12 + rd * 2 ^ 7 + opcode
 

@@ -14,6 +14,7 @@ use Rattle.ckc_rv_operations.specs.declared.operations.RegOp.TheVariants.{Add, S
 
 -- ---- the codes of the operations
 
+-- funct3 of a branch
 abbrev pub branch_funct3 : BranchOp → ℕ
 branch_funct3 Beq = 0
 branch_funct3 Bne = 1
@@ -22,6 +23,7 @@ branch_funct3 Bge = 5
 branch_funct3 Bltu = 6
 branch_funct3 Bgeu = 7
 
+-- funct3 of a load
 abbrev pub load_funct3 : LoadOp → ℕ
 load_funct3 Lb = 0
 load_funct3 Lh = 1
@@ -29,11 +31,13 @@ load_funct3 Lw = 2
 load_funct3 Lbu = 4
 load_funct3 Lhu = 5
 
+-- funct3 of a store
 abbrev pub store_funct3 : StoreOp → ℕ
 store_funct3 Sb = 0
 store_funct3 Sh = 1
 store_funct3 Sw = 2
 
+-- funct3 of an operation with an immediate
 abbrev pub imm_funct3 : ImmOp → ℕ
 imm_funct3 Addi = 0
 imm_funct3 Slti = 2
@@ -45,6 +49,7 @@ imm_funct3 Slli = 1
 imm_funct3 Srli = 5
 imm_funct3 Srai = 5
 
+-- funct3 of an operation on registers
 abbrev pub reg_funct3 : RegOp → ℕ
 reg_funct3 Add = 0
 reg_funct3 Sub = 0
@@ -65,6 +70,7 @@ reg_funct3 Divu = 5
 reg_funct3 Rem = 6
 reg_funct3 Remu = 7
 
+-- funct7 of an operation on registers, which is 1 for those of the extension M
 abbrev pub reg_funct7 : RegOp → ℕ
 reg_funct7 Add = 0
 reg_funct7 Sub = 0x20
@@ -80,6 +86,7 @@ reg_funct7 _ = 1
 
 -- ---- the operations by their codes
 
+-- the branch with this funct3
 abbrev pub branch_op : ℕ → Option BranchOp
 branch_op funct3 =
     if funct3 == 0 then Some Beq
@@ -90,6 +97,7 @@ branch_op funct3 =
     else if funct3 == 7 then Some Bgeu
     else None
 
+-- the load with this funct3
 abbrev pub load_op : ℕ → Option LoadOp
 load_op funct3 =
     if funct3 == 0 then Some Lb
@@ -99,6 +107,7 @@ load_op funct3 =
     else if funct3 == 5 then Some Lhu
     else None
 
+-- the store with this funct3
 abbrev pub store_op : ℕ → Option StoreOp
 store_op funct3 =
     if funct3 == 0 then Some Sb
@@ -106,9 +115,11 @@ store_op funct3 =
     else if funct3 == 2 then Some Sw
     else None
 
+-- the shift to the left by an immediate, whose funct7 is 0
 abbrev pub shift_left_op : ℕ → Option ImmOp
 shift_left_op funct7 = if funct7 == 0 then Some Slli else None
 
+-- the logical or arithmetic shift to the right by an immediate, by its funct7
 abbrev pub shift_right_op : ℕ → Option ImmOp
 shift_right_op funct7 =
     if funct7 == 0 then Some Srli
@@ -127,6 +138,7 @@ imm_op funct3 funct7 =
     else if funct3 == 6 then Some Ori
     else Some Andi
 
+-- the operation on registers with this funct3, where funct7 is 0
 abbrev pub base_op : ℕ → RegOp
 base_op funct3 =
     if funct3 == 0 then Add
@@ -138,6 +150,7 @@ base_op funct3 =
     else if funct3 == 6 then Or
     else And
 
+-- the multiplication, division or remainder with this funct3, where funct7 is 1
 abbrev pub product_op : ℕ → RegOp
 product_op funct3 =
     if funct3 == 0 then Mul
@@ -149,12 +162,14 @@ product_op funct3 =
     else if funct3 == 6 then Rem
     else Remu
 
+-- the subtraction or arithmetic shift to the right, where funct7 is 0x20
 abbrev pub other_op : ℕ → Option RegOp
 other_op funct3 =
     if funct3 == 0 then Some Sub
     else if funct3 == 5 then Some Sra
     else None
 
+-- the operation on registers with this funct3 and funct7
 abbrev pub reg_op : ℕ → ℕ → Option RegOp
 reg_op funct3 funct7 =
     if funct7 == 0 then Some (base_op funct3)

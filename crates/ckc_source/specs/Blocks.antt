@@ -42,6 +42,7 @@ with_number Byte bytes i n = slice_set bytes i (n % 256)
 with_number Word bytes i n =
     slice_set (slice_set (slice_set (slice_set bytes i (n % 256)) (i + 1) (n / 256 % 256)) (i + 2) (n / 65536 % 256)) (i + 3) (n / 16777216 % 256)
 
+-- whether an address is a multiple of the number of bytes that the access reads or writes
 abbrev pub is_aligned : Width → ℕ → Bool
 is_aligned width a = a % width_bytes width == 0
 
@@ -58,6 +59,7 @@ loaded width a blocks = if is_aligned width a then found width a blocks else Non
 abbrev pub lies_in : Width → ℕ → List Block → Bool
 lies_in width a blocks = is_aligned width a && list_any (has width a) blocks
 
+-- a block after a store of a number, which changes it where the access lies in it
 abbrev pub changed : Width → ℕ → ℕ → Block → Block
 changed width a n b = if has width a b then record b { bytes = with_number width b.bytes (a - b.base) n } else b
 

@@ -23,6 +23,7 @@ use Rattle.ckc_source.specs.declared.program.Shape.{Shape}
 use Rattle.ckc_source.specs.declared.program.FunctionTree.{FunctionTree}
 use Rattle.ckc_source.specs.declared.program.Program as programs
 
+-- an expression, with the checks that it makes and the places at which they stop
 pub data Expr : Type 0 where
   Number : (number : ℕ) → Expr
   Local : (local : ℕ) → Expr
@@ -42,11 +43,13 @@ pub data Expr : Type 0 where
   Tested : (size : ℕ) (form : Integer) (at : Pos) (pointer count : Expr) → Expr
   Trusted : (to : Pointee) (form : Integer) (pointer count : Expr) → Expr
 
+-- what an assignment writes: nothing, a local, or memory through a pointer at an index
 pub data Target : Type 0 where
   Nothing : Target
   Variable : (local : ℕ) (width : Width) → Target
   Memory : (width : Width) (access : Access) (pointer index : Expr) → Target
 
+-- what is assigned: the value of an expression, or a new block of `calloc`
 pub data Right : Type 0 where
   Value : (value : Expr) → Right
   Fresh : (to : Pointee) (count : Expr) → Right

@@ -52,6 +52,7 @@ abbrev pub given_some : {A B : Type 0} → Option A → (A → Result B Halt) �
 given_some (Some v) f = f v
 given_some None f = Err Stuck
 
+-- Evaluation stops at this check, at this place.
 abbrev pub stops : {A : Type 0} → Check → Pos → Result A Halt
 stops why at = Err (Stopped why at)
 
@@ -59,6 +60,7 @@ stops why at = Err (Stopped why at)
 abbrev pub plain : ℕ → Result Value Halt
 plain n = Ok (record { number = n; range = Without })
 
+-- a pointer whose range goes from the address `low` up to `high`
 abbrev pub ranged : ℕ → ℕ → ℕ → Result Value Halt
 ranged n low high = Ok (record { number = n; range = Within low high })
 
@@ -68,6 +70,7 @@ spanned a bytes = ranged a a (a + bytes)
 
 -- ---- reading a checked pointer
 
+-- A checked pointer that is not null is read with its range, and is stuck where the range is not true.
 abbrev pub reads_within : List Shape → List Block → Pointee → ℕ → ℤ → ℤ → Result Value Halt
 reads_within shapes blocks to n (pos low) (pos high) =
     if is_true shapes blocks to n low high then ranged n low high else Err Stuck
@@ -82,6 +85,7 @@ abbrev pub amount : List ℕ → Option Variable → ℤ → ℤ
 amount locals None add = add
 amount locals (Some x) add = exact x.form (slice_index locals x.local) +ℤ add
 
+-- the address from which an end of limits is counted
 abbrev pub base_address : List ℕ → ℕ → Base → ℕ
 base_address locals own base.Own = own
 base_address locals own (base.Local x) = slice_index locals x
@@ -98,6 +102,7 @@ reads_limited s limits n =
 
 -- ---- accesses
 
+-- the address, or a stop at the check `arith` where there is none
 abbrev pub at_address : Option ℕ → Pos → Result ℕ Halt
 at_address (Some a) at = Ok a
 at_address None at = stops check.Arith at
@@ -123,6 +128,7 @@ element_through through.One access p i = exact_element access p i
 element_through through.Array access p i = given (exact_element access p i) (in_range false p.range access.at)
 element_through through.Terminated access p i = given (exact_element access p i) (in_range true p.range access.at)
 
+-- the same, by the kind of pointer that the access itself goes through
 abbrev pub element : Access → Value → ℕ → Result ℕ Halt
 element access p i = element_through access.through access p i
 
@@ -130,6 +136,7 @@ element access p i = element_through access.through access p i
 abbrev pub place_in : ℕ → ℕ → ℕ
 place_in a offset = applied binary.Add a offset
 
+-- the value that a load gives, which is stuck where no block has it
 abbrev pub loads : Store → Width → ℕ → Result Value Halt
 loads s width a = given_some (loaded width a s.blocks) plain
 
@@ -147,9 +154,11 @@ loads_pointer s to count begin a =
 
 -- ---- operations
 
+-- the address so many elements behind or before a pointer, as an exact number that may be no address
 abbrev pub moved_exactly : Shift → ℕ → ℤ → ℤ
 moved_exactly shift n i = if shift.back then pos n -ℤ (pos shift.size *ℤ i) else elements_behind n shift.size i
 
+-- arithmetic on a checked pointer, which stops at `arith` from null and where the result is no address
 abbrev pub moves_checked : Shift → Value → ℕ → Result Value Halt
 moves_checked shift p i =
     if p.number == 0 then stops check.Arith shift.at
@@ -162,10 +171,12 @@ moves shift p i =
     if shift.checked then moves_checked shift p i
     else plain (applied (if shift.back then binary.Sub else binary.Add) p.number (applied binary.Mul shift.size i))
 
+-- a binary operation on integers, which stops at `divide` for a division by zero
 abbrev pub operates : Operation → Bool → Pos → ℕ → ℕ → Result Value Halt
 operates operation is_signed at a b =
     if divides operation && (b == 0) then stops check.Divide at else plain (computed operation is_signed a b)
 
+-- a pointer with the new bounds up to `upper`, or a stop at `cast` where they do not lie in its range
 abbrev pub tests_within : Range → Pos → ℕ → ℤ → Result Value Halt
 tests_within (Within low high) at n (pos upper) =
     if nat_le low n && nat_le n upper && nat_le upper high then ranged n n upper else stops check.Cast at

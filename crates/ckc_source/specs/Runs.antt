@@ -42,10 +42,12 @@ abbrev pub is_in_member : Pointee → ℕ → ℕ → ℕ → Block → MemberRu
 is_in_member to n low high b m =
     same_type to.element m.ctype && nat_le (m.offset + to.size) b.size && is_in_some_element b m.offset to.size n low high
 
+-- the members of a structure that are runs, and none where there is no structure
 abbrev pub runs_of : Option Shape → List MemberRun
 runs_of (Some shape) = shape.runs
 runs_of None = []
 
+-- the members of a type that are runs, which only a structure has
 abbrev pub runs_in : List Shape → CType-F CType → List MemberRun
 runs_in shapes (CType-F.Struct tag) = runs_of (slice_get shapes tag)
 runs_in shapes _ = []
@@ -54,6 +56,7 @@ runs_in shapes _ = []
 abbrev pub member_runs : List Shape → Block → List MemberRun
 member_runs shapes b = runs_in shapes (out-CType b.element)
 
+-- the range lies in a run of this block: the whole block, or a member of one of its elements
 abbrev pub is_in : List Shape → Pointee → ℕ → ℕ → ℕ → Block → Bool
 is_in shapes to n low high b =
     b.is_run

@@ -15,6 +15,7 @@ use Rattle.ckc_source.specs.LaidOut.{AreApart, HoldBytes}
 use Rattle.ckc_source.specs.States.{State, entered}
 use Rattle.ckc_source.specs.Steps.{source_step, spot_of}
 
+-- a program as a machine whose every step counts once
 abbrev pub source_system : Program → System Event State
 source_system p = record { step = source_step p; weight = λ s. 0 }
 
@@ -28,6 +29,7 @@ no_function = record {
   result = None;
 }
 
+-- a function of the program, or what stands there where it has none
 abbrev pub function_at : Option Function → Function
 function_at (Some f) = f
 function_at None = no_function
@@ -59,10 +61,12 @@ pub record IsOrderly (s : State) : Type 0 where
 
 -- ---- blame
 
+-- what is found from the next state on, and nothing where the run halts
 abbrev pub on_next : {A : Type 0} → (State → Option A) → Move Event State → Option A
 on_next go (Goes events next) = go next
 on_next go (Halts events standing) = None
 
+-- the place of this step where it is unchecked, and else what is found later
 abbrev pub by_mode : Spot → Option Pos → Mode → Option Pos
 by_mode spot later Unchecked = Some spot.at
 by_mode spot later Checked = later

@@ -58,6 +58,7 @@ begun (Break rest) go work = go Broken
 begun (Continue rest) go work = go Continued
 begun code go work = Rest code ∷ work
 
+-- the step of a `for`, where it has one, and then the loop again
 abbrev pub stepped : Code → Code → List Work → List Work
 stepped End loop work = Rest loop ∷ work
 stepped step loop work = Rest step ∷ Rest loop ∷ work

@@ -46,6 +46,7 @@ aims_at s width access range a =
     if lies_in width (place_in a access.offset) s.blocks
     then Ok (place.Memory (place_in a access.offset) width (terminator_at access.through range a access.at)) else Err halt.Stuck
 
+-- where an assignment is going to write
 abbrev pub aimed : Store → Target → Result Place Halt
 aimed s Nothing = Ok place.Nowhere
 aimed s (Variable x width) = Ok (place.Local x width)
@@ -57,10 +58,12 @@ abbrev pub refuses : Option Pos → ℕ → Result Place Halt → Result Place H
 refuses (Some at) n to = if n == 0 then to else stops check.Terminator at
 refuses None n to = to
 
+-- the place to write to, unless only zero may be written there and the value is another
 abbrev pub allowed : Place → ℕ → Result Place Halt
 allowed (place.Memory a width zero_alone) n = refuses zero_alone (kept_part width n) (Ok (place.Memory a width zero_alone))
 allowed to n = Ok to
 
+-- the state with the blocks that a store leaves, which is stuck where no block has the access
 abbrev pub with_blocks : State → Option (List Block) → Result State Halt
 with_blocks s blocks = given_some blocks (λ bs. Ok (record s { blocks = bs }))
 
@@ -74,6 +77,7 @@ writes (place.Memory a width zero_alone) n s = with_blocks s (stored width a n s
 abbrev pub Write : Type 0
 Write = Place × ℕ
 
+-- the state after several values are written, one after another
 abbrev pub all_written : List Write → State → Result State Halt
 all_written [] s = Ok s
 all_written (w ∷ ws) s = given (writes w.0 w.1 s) (all_written ws)
@@ -90,6 +94,7 @@ allocated s to count =
     then record { number = s.next; state = record s { blocks = s.blocks ++ fresh to s.next count ∷ []; next = next_place s.next count to.size } }
     else record { number = 0; state = s }
 
+-- the value of the right side of an assignment, and the state after it
 abbrev pub drawn : List Shape → State → Right → Result Drawn Halt
 drawn shapes s (Value e) = given (evaluated (store_of shapes s) e) (λ v. Ok (record { number = v.number; state = s }))
 drawn shapes s (Fresh to e) = given (evaluated (store_of shapes s) e) (λ v. Ok (allocated s to v.number))
@@ -99,6 +104,7 @@ pub record Planned : Type 0 where
   pub writes : List Write
   pub state : State
 
+-- what assignments are going to write, with one more in front
 abbrev pub and_then_written : Place → ℕ → Planned → Planned
 and_then_written to n p = record { writes = (to, n) ∷ p.writes; state = p.state }
 
@@ -115,6 +121,7 @@ bundled shapes s assigns = given (planned shapes s assigns) (λ p. all_written p
 
 -- ---- moves
 
+-- The run halts after these events: it stops at a check, or is stuck.
 abbrev pub halts : {A : Type 0} → List Event → Halt → Move Event A
 halts events (halt.Stopped why at) = Halts events (standing.Stopped why at)
 halts events halt.Stuck = Halts events standing.Stuck
@@ -124,6 +131,7 @@ abbrev pub comes_to : List Event → Result State Halt → Move Event State
 comes_to events (Ok s) = Goes events s
 comes_to events (Err h) = halts events h
 
+-- The step goes on with a value, or the run halts where there is none.
 abbrev pub and_moves : {A : Type 0} → Result A Halt → (A → Move Event State) → Move Event State
 and_moves (Ok v) f = f v
 and_moves (Err h) f = halts [] h
@@ -145,6 +153,7 @@ gets s to (b ∷ rest) = comes_to (Got (Some b) ∷ []) (writes_allowed to b (re
 abbrev pub puts : State → Place → ℕ → Move Event State
 puts s to n = comes_to (Puts (n % 256) ∷ []) (writes_allowed to (n % 256) s)
 
+-- A function is entered with these arguments, and the call in which that happens waits for its result.
 abbrev pub enters : State → Option Kept → List ℕ → Option Function → Move Event State
 enters s target values (Some f) =
     Goes [] (record s { frame = entered f values; callers = record { frame = s.frame; target = target } ∷ s.callers })
@@ -155,6 +164,7 @@ abbrev pub calls : List Function → State → Option Kept → ℕ → Pos → L
 calls functions s target callee at values =
     if has_room (active s) then enters s target values (slice_get functions callee) else Halts [] (standing.Stopped check.Depth at)
 
+-- the place that keeps the result of a call: a local or a static object
 abbrev pub kept_place : Kept → Place
 kept_place (kept.Local x width) = place.Local x width
 kept_place (kept.Static a width) = place.Memory a width None
@@ -208,11 +218,13 @@ works p s [] = returns p.shapes s s.callers 0
 works p s (Rest code ∷ work) = acts p s work code
 works p s (Turn code ∷ work) = Halts [] standing.Stuck
 
+-- one step of a program
 unfoldable pub source_step : Program → State → Move Event State
 source_step p s = works p s (settled s.frame.work)
 
 -- ---- where a step stands
 
+-- the place and the mode of the first of some statements, or those of the end of the function
 abbrev pub spot_in : Spot → Code → Spot
 spot_in end (Assign spot target right rest) = spot
 spot_in end (Bundle spot assigns rest) = spot
@@ -225,6 +237,7 @@ spot_in end (Return spot e rest) = spot
 spot_in end (Check spot e rest) = spot
 spot_in end _ = end
 
+-- the same of what comes next in a call
 abbrev pub spot_at : Spot → List Work → Spot
 spot_at end [] = end
 spot_at end (Rest code ∷ work) = spot_in end code

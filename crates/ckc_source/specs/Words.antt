@@ -16,6 +16,7 @@ exact Int word = signed word
 exact Unsigned word = pos word
 exact Char word = pos word
 
+-- whether an integer of the type takes a word, or a byte as `char` does
 abbrev pub width_of : Integer → Width
 width_of Int = Word
 width_of Unsigned = Word
@@ -61,6 +62,7 @@ computed Gt is_signed a b = applied (operator Lt is_signed) b a
 computed Ge is_signed a b = applied binary.Eq (applied (operator Lt is_signed) a b) 0
 computed operation is_signed a b = applied (operator operation is_signed) a b
 
+-- whether an operation is a division or a remainder
 abbrev pub divides : Operation → Bool
 divides Div = true
 divides Rem = true

@@ -16,12 +16,15 @@ are_digits_after lead most radix w =
 abbrev pub is_plain_piece : ℕ → List ℕ → Bool
 is_plain_piece quote w = length w == 1 && is_plain quote (slice_index w 0)
 
+-- an escape of a backslash and one character, such as `\n`
 abbrev pub is_simple : List ℕ → Bool
 is_simple w = length w == 2 && (slice_index w 0 == 92 && is_some (simple_escape (slice_index w 1)))
 
+-- an octal escape, such as `\101`
 abbrev pub is_octal : List ℕ → Bool
 is_octal w = slice_index w 0 == 92 && are_digits_after 1 3 8 w
 
+-- a hexadecimal escape, such as `\x41`
 abbrev pub is_hexadecimal : List ℕ → Bool
 is_hexadecimal w = slice_index w 0 == 92 && (slice_index w 1 == 120 && are_digits_after 2 2 16 w)
 
@@ -29,15 +32,19 @@ is_hexadecimal w = slice_index w 0 == 92 && (slice_index w 1 == 120 && are_digit
 abbrev pub hexadecimal_value : List ℕ → Option ℕ
 hexadecimal_value w = if is_hexadecimal w then Some (value_in 16 (drop 2 w)) else None
 
+-- the same for an octal escape, or else for a hexadecimal one
 abbrev pub octal_value : List ℕ → Option ℕ
 octal_value w = if is_octal w then Some (value_in 8 (drop 1 w)) else hexadecimal_value w
 
+-- the same for an escape of a backslash and one character, or else for one with digits
 abbrev pub simple_value : List ℕ → Option ℕ
 simple_value w = if is_simple w then Some (unwrap_or (simple_escape (slice_index w 1)) 0) else octal_value w
 
+-- the same for a character of a literal with this quote, in any of the four ways
 abbrev pub piece_value : ℕ → List ℕ → Option ℕ
 piece_value quote w = if is_plain_piece quote w then Some (slice_index w 0) else simple_value w
 
+-- a character of n bytes with its value, or where they are none a shorter one
 abbrev pub or_shorter : ℕ → Option ℕ → Option (ℕ × ℕ) → Option (ℕ × ℕ)
 or_shorter n (Some value) shorter = Some (n, value)
 or_shorter n None shorter = shorter
@@ -47,6 +54,7 @@ unfoldable pub longest_piece : ℕ → ℕ → List ℕ → Option (ℕ × ℕ)
 longest_piece quote zero w = None
 longest_piece quote (suc n) w = or_shorter (suc n) (piece_value quote (take (suc n) w)) (longest_piece quote n w)
 
+-- the value of a character and those of the characters behind it, and nothing where there is no character
 abbrev pub with_rest : (ℕ → List ℕ) → Option (ℕ × ℕ) → List ℕ
 with_rest rest None = []
 with_rest rest (Some p) = p.1 ∷ rest (p.0 - 1)

@@ -10,6 +10,7 @@ digit_value b =
     else (if is_between 65 70 b then b - 55
     else 16))
 
+-- whether a byte is a digit of the radix
 abbrev pub is_digit_in : ℕ → ℕ → Bool
 is_digit_in radix b = nat_lt (digit_value b) radix
 

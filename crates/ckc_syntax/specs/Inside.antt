@@ -15,12 +15,14 @@ use Rattle.ckc_syntax.specs.declared.tree.Expr.{Expr}
 use Rattle.ckc_syntax.specs.declared.tree.Act.{Act-F}
 use Rattle.ckc_syntax.specs.declared.tree.Stmt.{Stmt}
 
+-- what stands in bounds: in the amount, or in both ends
 abbrev pub inside_limits : {N A X L M : Type 0} → Limits-F N A L M (List X) → List X
 inside_limits (Limits-F.Count e pos) = e
 inside_limits (Limits-F.ByteCount e pos) = e
 inside_limits (Limits-F.Between e f pos) = e ++ f
 inside_limits (Limits-F.Unknown pos) = []
 
+-- what stands in an expression: in its operands, its arguments and its bounds
 abbrev pub inside_node : {N A X M : Type 0} → Node-F N A (List X) M (List X) → List X
 inside_node (Node-F.Number n unsigned) = []
 inside_node (Node-F.Text bytes) = []
@@ -43,11 +45,13 @@ inside_node (Node-F.Calloc t e u) = e
 abbrev pub inside_if : {P X : Type 0} → (P → List X) → Option P → List X
 inside_if of_part p = or_empty (option_map of_part p)
 
+-- what stands in an initialiser
 abbrev pub inside_init : {N A X : Type 0} → (Expr N A → List X) → Init N A → List X
 inside_init of_expr init.Nothing = []
 inside_init of_expr (init.One e) = of_expr e
 inside_init of_expr (init.Many es) = flat_map of_expr es
 
+-- what stands in a statement: in its expressions, its declaration and its inner statements
 abbrev pub inside_act : {N A X B : Type 0} → (Expr N A → List X) → (Decl N A → List X) → Act-F N A B (List X) → List X
 inside_act of_expr of_decl (Act-F.Block mode ss) = concatenation ss
 inside_act of_expr of_decl Act-F.Empty = []
@@ -63,6 +67,7 @@ inside_act of_expr of_decl Act-F.Continue = []
 inside_act of_expr of_decl (Act-F.Check e) = of_expr e
 inside_act of_expr of_decl (Act-F.Bundle ss) = concatenation ss
 
+-- what stands in an item of a text
 abbrev pub inside_item : {N A X : Type 0} → (Decl N A → List X) → (Head N A → List X) → (Stmt N A → List X) → Item N A → List X
 inside_item of_decl of_head of_stmt (item.Directive d) = []
 inside_item of_decl of_head of_stmt (item.Tag n pos) = []

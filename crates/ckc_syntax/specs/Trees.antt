@@ -14,39 +14,50 @@ use Rattle.ckc_syntax.specs.declared.tree.Node as nodes
 use Rattle.ckc_syntax.specs.declared.tree.Stmt as statements
 use Rattle.ckc_syntax.specs.declared.tree.Act as acts
 
+-- a name as the text spells it
 abbrev pub Spelling : Type 0
 Spelling = List ℕ
 
 abbrev pub Tree : Type 0
 Tree = trees.Tree Spelling (Unit {0})
 
+-- an item of a text: a directive, a tag, a structure, an object, a prototype or a function
 abbrev pub Item : Type 0
 Item = items.Item Spelling (Unit {0})
 
+-- the head of a function
 abbrev pub Head : Type 0
 Head = heads.Head Spelling (Unit {0})
 
+-- a type
 abbrev pub TypeTree : Type 0
 TypeTree = types.TypeTree Spelling
 
+-- a declared object, member, parameter or local
 abbrev pub Decl : Type 0
 Decl = decls.Decl Spelling (Unit {0})
 
+-- what a declared object begins as
 abbrev pub Init : Type 0
 Init = inits.Init Spelling (Unit {0})
 
+-- bounds: `count(e)`, `byte_count(e)`, `bounds(e, f)` or `bounds(unknown)`
 abbrev pub Limits : Type 0
 Limits = limits.Limits Spelling (Unit {0})
 
+-- an expression with its place
 abbrev pub Expr : Type 0
 Expr = exprs.Expr Spelling (Unit {0})
 
+-- what an expression is: a literal, a name, an operator with its operands, and so on
 abbrev pub Node : Type 0
 Node = nodes.Node Spelling (Unit {0})
 
+-- a statement with its place
 abbrev pub Stmt : Type 0
 Stmt = statements.Stmt Spelling (Unit {0})
 
+-- what a statement is: an assignment, an `if`, a block, and so on
 abbrev pub Act : Type 0
 Act = acts.Act Spelling (Unit {0})
 

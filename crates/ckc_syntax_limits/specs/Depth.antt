@@ -25,6 +25,7 @@ limits_depth (Limits-F.ByteCount e pos) = e
 limits_depth (Limits-F.Between e f pos) = max e f
 limits_depth (Limits-F.Unknown pos) = 0
 
+-- the depth of the operands, arguments and bounds of an expression
 abbrev pub node_depth : {N A : Type 0} → Node-F N A ℕ ℕ ℕ → ℕ
 node_depth (Node-F.Number n unsigned) = 0
 node_depth (Node-F.Text bytes) = 0
@@ -43,34 +44,42 @@ node_depth (Node-F.Tested t e limits) = max e (unwrap_or limits 0)
 node_depth (Node-F.Call n es) = greatest es
 node_depth (Node-F.Calloc t e u) = e
 
+-- the depth of an expression, which is one more than that of its parts
 abbrev pub expr_depth : {N A : Type 0} → Expr-F N A ℕ ℕ ℕ → ℕ
 expr_depth e = e.node + 1
 
+-- how deep the expressions in bounds are
 abbrev pub depth_of_limits : {N A : Type 0} → Limits N A → ℕ
 depth_of_limits {N} {A} = fold-Limits N A ℕ ℕ ℕ limits_depth node_depth expr_depth
 
 abbrev pub depth_of_node : {N A : Type 0} → Node N A → ℕ
 depth_of_node {N} {A} = fold-Node N A ℕ ℕ ℕ limits_depth node_depth expr_depth
 
+-- how deep an expression is
 abbrev pub depth_of_expr : {N A : Type 0} → Expr N A → ℕ
 depth_of_expr {N} {A} = fold-Expr N A ℕ ℕ ℕ limits_depth node_depth expr_depth
 
+-- the same of the bounds of a declaration, and 0 where it has none
 abbrev pub depth_of_bounds : {N A : Type 0} → Option (Limits N A) → ℕ
 depth_of_bounds None = 0
 depth_of_bounds (Some limits) = depth_of_limits limits
 
+-- how deep the expressions of an initialiser are
 abbrev pub depth_of_init : {N A : Type 0} → Init N A → ℕ
 depth_of_init init.Nothing = 0
 depth_of_init (init.One e) = depth_of_expr e
 depth_of_init (init.Many es) = greatest (map depth_of_expr es)
 
+-- how deep the bounds and the initialiser of a declaration are
 abbrev pub depth_of_decl : {N A : Type 0} → Decl N A → ℕ
 depth_of_decl d = max (depth_of_bounds d.bounds) (depth_of_init d.init)
 
+-- how deep an expression is that may be left out, as behind `return`
 abbrev pub depth_of_value : {N A : Type 0} → Option (Expr N A) → ℕ
 depth_of_value None = 0
 depth_of_value (Some e) = depth_of_expr e
 
+-- the depth of what stands in a statement
 abbrev pub act_depth : {N A : Type 0} → Act-F N A ℕ ℕ → ℕ
 act_depth (Act-F.Block mode ss) = greatest ss
 act_depth Act-F.Empty = 0
@@ -86,12 +95,14 @@ act_depth Act-F.Continue = 0
 act_depth (Act-F.Check e) = depth_of_expr e
 act_depth (Act-F.Bundle ss) = greatest ss
 
+-- the depth of a statement, which is one more than that of its parts
 abbrev pub stmt_depth : {N A : Type 0} → Stmt-F N A ℕ ℕ → ℕ
 stmt_depth s = s.body + 1
 
 abbrev pub depth_of_act : {N A : Type 0} → Act N A → ℕ
 depth_of_act {N} {A} = fold-Act N A ℕ ℕ act_depth stmt_depth
 
+-- how deep a statement is
 abbrev pub depth_of_stmt : {N A : Type 0} → Stmt N A → ℕ
 depth_of_stmt {N} {A} = fold-Stmt N A ℕ ℕ act_depth stmt_depth
 
@@ -99,12 +110,15 @@ abbrev pub depth_of_part : {N A : Type 0} → Option (Stmt N A) → ℕ
 depth_of_part None = 0
 depth_of_part (Some s) = depth_of_stmt s
 
+-- how deep the deepest of some declarations is
 abbrev pub depth_of_decls : {N A : Type 0} → List (Decl N A) → ℕ
 depth_of_decls ds = greatest (map depth_of_decl ds)
 
+-- how deep the parameters and the bounds of the result of a function are
 abbrev pub depth_of_head : {N A : Type 0} → Head N A → ℕ
 depth_of_head h = max (depth_of_decls h.params) (depth_of_bounds h.bounds)
 
+-- how deep an item of a text is
 abbrev pub depth_of_item : {N A : Type 0} → Item N A → ℕ
 depth_of_item (item.Directive d) = 0
 depth_of_item (item.Tag n pos) = 0

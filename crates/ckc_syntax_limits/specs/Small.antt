@@ -19,6 +19,7 @@ most_depth = 64
 abbrev pub most_in_function : ℕ
 most_in_function = 1000
 
+-- how many locals, its parameters among them, a function may have
 abbrev pub most_locals : ℕ
 most_locals = 255
 
@@ -26,15 +27,19 @@ most_locals = 255
 abbrev pub most_nodes : ℕ
 most_nodes = 16384
 
+-- how many functions with a body a text may have
 abbrev pub most_functions : ℕ
 most_functions = 512
 
+-- how many objects a text may have
 abbrev pub most_statics : ℕ
 most_statics = 1024
 
+-- how many string literals a text may have
 abbrev pub most_texts : ℕ
 most_texts = 1024
 
+-- how many marks are of a kind
 abbrev pub how_many : (Mark → Bool) → List Mark → ℕ
 how_many p ms = count_by p ms
 
@@ -43,10 +48,12 @@ pub record SmallFunction (marks : List Mark) : Type 0 where
   pub nodes : how_many is_node marks ≤ most_in_function
   pub locals : how_many is_local marks ≤ most_locals
 
+-- A function with a body keeps the limits of one function.
 abbrev pub SmallBody : {N A : Type 0} → Item N A → Type 0
 SmallBody (item.Function head body) = SmallFunction (marks_of_item (item.Function head body))
 SmallBody _ = Unit {0}
 
+-- An item keeps the limits of one item: it is not too deep, and its function is not too large.
 pub record SmallItem {N A : Type 0} (i : Item N A) : Type 0 where
   pub depth : depth_of_item i ≤ most_depth
   pub body : SmallBody i

@@ -14,6 +14,7 @@ use Rattle.ckc_typed.specs.declared.environment.Amount.{Amount}
 use Rattle.ckc_typed.specs.declared.environment.Constant.{Constant}
 use Rattle.ckc_typed.specs.Constants.{constant, value_of}
 
+-- the name that a node is
 abbrev pub variable_in_form : {A L M E : Type 0} → Node-F Name A L M E → Option Name
 variable_in_form (Node-F.Name n) = Some n
 variable_in_form _ = None
@@ -22,6 +23,7 @@ variable_in_form _ = None
 abbrev pub variable_in : {A : Type 0} → Expr Name A → Option Name
 variable_in {A} e = variable_in_form (out-Node Name A e.node)
 
+-- the number that a constant stands for, if there is one
 abbrev pub number_of : Option Constant → Option ℤ
 number_of (Some c) = Some (value_of c)
 number_of None = None
@@ -30,10 +32,12 @@ number_of None = None
 abbrev pub number_in : {A : Type 0} → Structs → Expr Name A → Option ℤ
 number_in structs e = number_of (constant structs e)
 
+-- a number with its sign changed, if there is one
 abbrev pub negative : Option ℤ → Option ℤ
 negative (Some c) = Some (neg_ℤ c)
 negative None = None
 
+-- a number alone
 abbrev pub fixed : ℤ → Amount
 fixed c = record { variable = None; number = c }
 
@@ -43,6 +47,7 @@ moved (Some n) (Some c) = Some (record { variable = Some n; number = c })
 moved (Some n) None = None
 moved None c = None
 
+-- the first of two amounts, if there is one, or else the second
 abbrev pub or_amount : Option Amount → Option Amount → Option Amount
 or_amount None other = other
 or_amount (Some a) other = Some a
@@ -53,11 +58,13 @@ sum_amount structs op.Add e f = or_amount (moved (variable_in e) (number_in stru
 sum_amount structs op.Sub e f = moved (variable_in e) (negative (number_in structs f))
 sum_amount structs _ e f = None
 
+-- the amount that a node is, if it is a variable, a sum or a difference
 abbrev pub amount_in_form : {A : Type 0} → Structs → Node-F Name A (Limits Name A) (Node Name A) (Expr Name A) → Option Amount
 amount_in_form structs (Node-F.Name n) = moved (Some n) (Some (pos 0))
 amount_in_form structs (Node-F.Bin o e f) = sum_amount structs o e f
 amount_in_form structs _ = None
 
+-- the amount of a constant, or else the one that the node of an expression is
 abbrev pub amount_by : {A : Type 0} → Structs → Expr Name A → Option ℤ → Option Amount
 amount_by structs e (Some c) = Some (fixed c)
 amount_by {A} structs e None = amount_in_form structs (out-Node Name A e.node)
@@ -66,9 +73,11 @@ amount_by {A} structs e None = amount_in_form structs (out-Node Name A e.node)
 abbrev pub amount : {A : Type 0} → Structs → Expr Name A → Option Amount
 amount structs e = amount_by structs e (number_in structs e)
 
+-- whether a number is a multiple of a size
 abbrev pub is_multiple : ℤ → ℕ → Bool
 is_multiple c size = nat_lt 0 size && int_eq (int_rem c (pos size)) (pos 0)
 
+-- how many elements of a size a constant number of bytes is, if it is a multiple of the size
 abbrev pub scaled : ℕ → Option ℤ → Option Amount
 scaled size (Some c) = if is_multiple c size then Some (fixed (int_div c (pos size))) else None
 scaled size None = None
@@ -77,6 +86,7 @@ scaled size None = None
 abbrev pub amount_of_bytes : {A : Type 0} → Structs → ℕ → Expr Name A → Option Amount
 amount_of_bytes structs size e = if size == 1 then amount structs e else scaled size (number_in structs e)
 
+-- how many elements of a size bounds count, by their form
 abbrev pub amount_of_form : {A : Type 0} → Structs → ℕ → Limits-F Name A (Limits Name A) (Node Name A) (Expr Name A) → Option Amount
 amount_of_form structs size (Limits-F.Count e at) = amount structs e
 amount_of_form structs size (Limits-F.ByteCount e at) = amount_of_bytes structs size e

@@ -16,6 +16,7 @@ use Rattle.ckc_syntax.specs.declared.tree.Expr.{Expr, Expr-F, fold-Expr}
 use Rattle.ckc_typed.specs.declared.environment.Constant.{Constant}
 use Rattle.ckc_typed.specs.Types.{type_written, is_scalar}
 
+-- whether a type has a size, by its outermost part
 abbrev pub is_laid_out_form : Structs → CType-F CType → Bool
 is_laid_out_form structs (CType-F.Struct tag) =
     is_some (slice_get structs.shapes tag) && (nat_lt 0 (length (members_of structs tag)) && (nat_le (length (members_of structs tag)) 16384 && list_all (λ m. is_scalar m.ctype) (members_of structs tag)))
@@ -30,19 +31,23 @@ is_laid_out structs t = is_laid_out_form structs (out-CType t)
 abbrev pub size_of : Structs → CType → ℕ
 size_of structs t = if is_laid_out structs t then size structs t else 0
 
+-- `-` before a constant is a constant of the same type; no other operator makes one
 abbrev pub negated : TreeOp → Option Constant → Option Constant
 negated op.Minus (Some c) = Some (record { word = applied Sub 0 c.word; unsigned = c.unsigned })
 negated _ _ = None
 
+-- Bounds are no constants.
 abbrev pub limits_constant : {A : Type 0} → Limits-F Name A (Unit {0}) (Option Constant) (Option Constant) → Unit {0}
 limits_constant l = tt
 
+-- the constant that a node is, from those that its parts are
 abbrev pub node_constant : {A : Type 0} → Structs → Node-F Name A (Unit {0}) (Option Constant) (Option Constant) → Option Constant
 node_constant structs (Node-F.Number n unsigned) = Some (record { word = n; unsigned = unsigned })
 node_constant structs (Node-F.Size t) = Some (record { word = size_of structs (type_written t); unsigned = true })
 node_constant structs (Node-F.Un o e) = negated o e
 node_constant structs _ = None
 
+-- the constant that an expression is, by its node
 abbrev pub expr_constant : {A : Type 0} → Expr-F Name A (Unit {0}) (Option Constant) (Option Constant) → Option Constant
 expr_constant e = e.node
 

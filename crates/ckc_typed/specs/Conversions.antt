@@ -11,15 +11,18 @@ use Rattle.ckc_typed.specs.Trees.{NotedExpr, NotedLimits}
 use Rattle.ckc_typed.specs.Types.{is_integer, is_pointer, is_char, element_of, kind_of, is_object_type}
 use Rattle.ckc_typed.specs.Operands.{same_element}
 
+-- whether a node is `NULL` or the number 0
 abbrev pub is_null_form : {A L M E : Type 0} → Node-F Name A L M E → Bool
 is_null_form Node-F.Null = true
 is_null_form (Node-F.Number n unsigned) = n == 0
 is_null_form _ = false
 
+-- whether a node is a string literal
 abbrev pub is_string_form : {A L M E : Type 0} → Node-F Name A L M E → Bool
 is_string_form (Node-F.Text bytes) = true
 is_string_form _ = false
 
+-- whether a node is a `calloc`
 abbrev pub is_allocation_form : {A L M E : Type 0} → Node-F Name A L M E → Bool
 is_allocation_form (Node-F.Calloc t e u) = true
 is_allocation_form _ = false
@@ -28,9 +31,11 @@ is_allocation_form _ = false
 abbrev pub is_null : NotedExpr → Bool
 is_null e = is_null_form (out-Node Name Note e.node)
 
+-- whether an expression is a string literal
 abbrev pub is_string : NotedExpr → Bool
 is_string e = is_string_form (out-Node Name Note e.node)
 
+-- whether an expression is a `calloc`
 abbrev pub is_allocation : NotedExpr → Bool
 is_allocation e = is_allocation_form (out-Node Name Note e.node)
 
@@ -53,10 +58,12 @@ abbrev pub kind_is_tested : Kind → Kind → Bool
 kind_is_tested kind.Raw k = false
 kind_is_tested j k = kind_converts j k
 
+-- whether two types are those of pointers, and the kind of the first may become that of the second
 abbrev pub kinds_allow : (Kind → Kind → Bool) → Option Kind → Option Kind → Bool
 kinds_allow allowed (Some j) (Some k) = allowed j k
 kinds_allow allowed _ _ = false
 
+-- whether a pointer is an `_Nt_array_ptr`
 abbrev pub is_terminated_kind : Option Kind → Bool
 is_terminated_kind (Some kind.Nt) = true
 is_terminated_kind _ = false
@@ -69,9 +76,11 @@ takes_string t e = is_string e && (is_terminated_kind (kind_of t) && is_char (el
 abbrev pub takes_allocation : CType → NotedExpr → Bool
 takes_allocation t e = is_allocation e && same_element t e.note.ctype
 
+-- whether an expression is a pointer to the same type, and its kind may become that of t
 abbrev pub takes_pointer : (Kind → Kind → Bool) → CType → NotedExpr → Bool
 takes_pointer allowed t e = same_element t e.note.ctype && kinds_allow allowed (kind_of e.note.ctype) (kind_of t)
 
+-- whether an expression may become a pointer of type t: null, a string, a `calloc` or another pointer
 abbrev pub pointer_takes : (Kind → Kind → Bool) → CType → NotedExpr → Bool
 pointer_takes allowed t e = is_null e || (takes_string t e || (takes_allocation t e || takes_pointer allowed t e))
 
@@ -87,6 +96,7 @@ is_tested t e = is_pointer t && pointer_takes kind_is_tested t e
 abbrev pub is_trusted : CType → NotedExpr → Bool
 is_trusted t e = same_element t e.note.ctype
 
+-- whether a cast to a pointer of the kind has limits exactly when it needs them
 abbrev pub limits_fit_kind : Option Kind → Bool → Bool
 limits_fit_kind (Some kind.Raw) there = false
 limits_fit_kind (Some kind.One) there = not there

@@ -25,14 +25,17 @@ use Rattle.ckc_typed.specs.Constants.{constant}
 use Rattle.ckc_typed.specs.Conversions.{is_null, converts}
 use Rattle.ckc_typed.specs.Expressions.{expr_typed, exprs_typed, bounds_typed}
 
+-- an initialiser with the types in it noted, or its first error
 abbrev pub init_typed : Globals → List Variable → Mode → Init → Outcome NotedInit
 init_typed globals variables mode init.Nothing = Ok init.Nothing
 init_typed globals variables mode (init.One e) = bind (expr_typed globals variables mode e) (λ a. Ok (init.One a))
 init_typed globals variables mode (init.Many es) = bind (exprs_typed globals variables mode es) (λ all. Ok (init.Many all))
 
+-- a declaration with its bounds and its initialiser noted
 abbrev pub decl_with : Decl → Option NotedLimits → NotedInit → NotedDecl
 decl_with d l i = record { ctype = d.ctype; name = d.name; length = d.length; bounds = l; init = i; pos = d.pos }
 
+-- a declaration with the types in its bounds and its initialiser noted, or their first error
 abbrev pub parts_typed : Globals → List Variable → Mode → Decl → Outcome NotedDecl
 parts_typed globals variables mode d = bind (bounds_typed globals variables mode d.bounds) (λ l. bind (init_typed globals variables mode d.init) (λ i. Ok (decl_with d l i)))
 
@@ -41,12 +44,15 @@ abbrev pub judged : Option ℕ → NotedDecl → Outcome NotedDecl
 judged None d = Ok d
 judged (Some code) d = refused code d.pos
 
+-- whether no array is declared
 abbrev pub is_plain : Length → Bool
 is_plain length = is_none (kind_of_array length)
 
+-- an error code, unless a condition holds
 abbrev pub fault_unless : Bool → ℕ → Option ℕ
 fault_unless holds code = if holds then None else Some code
 
+-- whether there is no initialiser
 abbrev pub is_nothing : NotedInit → Bool
 is_nothing init.Nothing = true
 is_nothing _ = false
@@ -59,6 +65,7 @@ is_scalar_declared d = is_scalar_type (type_written d.ctype)
 abbrev pub bare_fault : NotedDecl → Option ℕ
 bare_fault d = fault_unless (is_scalar_declared d && (is_plain d.length && is_nothing d.init)) bad_operands
 
+-- whether a pointer is of a checked kind
 abbrev pub is_checked_kind : Option Kind → Bool
 is_checked_kind (Some kind.Raw) = false
 is_checked_kind (Some _) = true
@@ -74,6 +81,7 @@ start_fault t (init.Many es) = Some bad_operands
 abbrev pub local_fault : NotedDecl → Option ℕ
 local_fault d = if is_scalar_declared d && is_plain d.length then start_fault (type_written d.ctype) d.init else Some bad_operands
 
+-- the bytes of a node that is a string literal
 abbrev pub string_in_form : {A L M E : Type 0} → Node-F Name A L M E → Option (List ℕ)
 string_in_form (Node-F.Text bytes) = Some bytes
 string_in_form _ = None
@@ -88,10 +96,12 @@ length_of_init init.Nothing = None
 length_of_init (init.One e) = option_map (λ bytes. length bytes + 1) (string_in e)
 length_of_init (init.Many es) = Some (length es)
 
+-- the length that is written, or else the one that the initialiser gives
 abbrev pub length_or : Option ℕ → NotedInit → Option ℕ
 length_or (Some n) i = Some n
 length_or None i = length_of_init i
 
+-- how many elements there are, if that is known; 1 of what is no array
 abbrev pub count_by : Length → NotedInit → Option ℕ
 count_by lengths.Plain i = Some 1
 count_by (lengths.Raw n pos) i = length_or n i
@@ -107,6 +117,7 @@ abbrev pub kept_zero : Length → ℕ
 kept_zero (lengths.Nt n) = 1
 kept_zero _ = 0
 
+-- whether what is declared may have the type: an integer type for the elements of an `_Nt_checked` array
 abbrev pub is_element_for : Length → CType → Bool
 is_element_for (lengths.Nt n) t = is_integer t
 is_element_for _ t = is_object_type t
@@ -115,6 +126,7 @@ is_element_for _ t = is_object_type t
 abbrev pub is_start : Structs → CType → NotedExpr → Bool
 is_start structs t e = (is_integer t && is_some (constant structs e)) || (is_pointer t && is_null e)
 
+-- whether an initialiser is a string that an array of `char` has room for
 abbrev pub string_fits : CType → ℕ → Option (List ℕ) → Bool
 string_fits t room (Some bytes) = is_char t && nat_le (length bytes) room
 string_fits t room None = false
@@ -139,16 +151,19 @@ count_fits structs d (Some n) = nat_le 1 n && init_fits structs (type_written d.
 abbrev pub is_element_declared : NotedDecl → Bool
 is_element_declared d = is_element_for d.length (type_written d.ctype)
 
+-- E401 if an object of file scope may not have its type, its length or its initialiser
 abbrev pub static_fault : Structs → NotedDecl → Option ℕ
 static_fault structs d = fault_unless (is_element_declared d && count_fits structs d (count_of d)) bad_operands
 
--- the parameters or members, from the first to the last
+-- a parameter or member with the types in it noted, or its first error
 abbrev pub bare_typed : Globals → List Variable → Mode → Decl → Outcome NotedDecl
 bare_typed globals variables mode d = bind (parts_typed globals variables mode d) (λ n. judged (bare_fault n) n)
 
+-- parameters or members with the types in them noted, in order, or their first error
 abbrev pub bares_typed : Globals → List Variable → Mode → List Decl → Outcome (List NotedDecl)
 bares_typed globals variables mode ds = in_order (map (bare_typed globals variables mode) ds)
 
+-- a declaration of a local with the types in it noted, or its first error
 abbrev pub local_typed : Globals → List Variable → Mode → Decl → Outcome NotedDecl
 local_typed globals variables mode d = bind (parts_typed globals variables mode d) (λ n. judged (local_fault n) n)
 

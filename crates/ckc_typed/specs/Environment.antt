@@ -27,6 +27,7 @@ use Rattle.ckc_typed.specs.declared.environment.Signature.{Signature}
 use Rattle.ckc_typed.specs.declared.environment.Variable.{Variable}
 use Rattle.ckc_typed.specs.Types.{type_written}
 
+-- whether two names mean the same thing
 abbrev pub same_name : Name → Name → Bool
 same_name (name.Local j) (name.Local k) = j == k
 same_name (name.Static j) (name.Static k) = j == k
@@ -44,18 +45,23 @@ kind_of_array (lengths.Raw n pos) = Some kind.Raw
 kind_of_array (lengths.Checked n) = Some kind.Arr
 kind_of_array (lengths.Nt n) = Some kind.Nt
 
+-- the object of file scope that is declared
 abbrev pub object_declared : {A : Type 0} → decls.Decl Name A → Object
 object_declared d = record { name = d.name; element = type_written d.ctype; array = kind_of_array d.length }
 
+-- the parameter, local or member that is declared, as a variable that an expression sees
 abbrev pub variable_declared : {A : Type 0} → decls.Decl Name A → Variable
 variable_declared d = record { name = d.name; ctype = type_written d.ctype }
 
+-- the type that is declared
 abbrev pub type_declared : {A : Type 0} → decls.Decl Name A → CType
 type_declared d = type_written d.ctype
 
+-- the name, the type of the result and the types of the parameters that a head declares
 abbrev pub signature_declared : {A : Type 0} → heads.Head Name A → Signature
 signature_declared h = record { name = h.name; result = type_written h.result; params = map type_declared h.params }
 
+-- the object that an item of a source file declares, if it declares one
 abbrev pub objects_of_item : {A : Type 0} → Item Name A → List Object
 objects_of_item (item.Static d) = object_declared d ∷ []
 objects_of_item _ = []
@@ -65,6 +71,7 @@ abbrev pub signatures_of_item : {A : Type 0} → Item Name A → List Signature
 signatures_of_item (item.Function h body) = signature_declared h ∷ []
 signatures_of_item _ = []
 
+-- the objects of file scope, in the order of the source file
 abbrev pub objects_of : {A : Type 0} → List (Item Name A) → List Object
 objects_of items = flat_map objects_of_item items
 
@@ -72,15 +79,19 @@ objects_of items = flat_map objects_of_item items
 abbrev pub getchar : Signature
 getchar = record { name = name.Getchar; result = ctype.Int; params = [] }
 
+-- `int putchar(int)`, which stands for every source file
 abbrev pub putchar : Signature
 putchar = record { name = name.Putchar; result = ctype.Int; params = ctype.Int ∷ [] }
 
+-- the functions that may be called: `getchar`, `putchar`, and those with a body in the source file
 abbrev pub signatures_of : {A : Type 0} → List (Item Name A) → List Signature
 signatures_of items = getchar ∷ putchar ∷ flat_map signatures_of_item items
 
+-- the locals that are declared in what a statement does, from those in its parts
 abbrev pub act_variables : {A : Type 0} → Act-F Name A (List Variable) (List Variable) → List Variable
 act_variables = inside_act (λ e. []) (λ d. variable_declared d ∷ [])
 
+-- A statement declares what is declared in what it does.
 abbrev pub stmt_variables : {A : Type 0} → Stmt-F Name A (List Variable) (List Variable) → List Variable
 stmt_variables s = s.body
 
@@ -94,6 +105,7 @@ locals_of_act {A} = fold-Act Name A (List Variable) (List Variable) act_variable
 abbrev pub locals_of_part : {A : Type 0} → Option (statements.Stmt Name A) → List Variable
 locals_of_part = inside_if locals_of
 
+-- the parameters of a function
 abbrev pub params_of : {A : Type 0} → heads.Head Name A → List Variable
 params_of h = map variable_declared h.params
 
@@ -101,15 +113,19 @@ params_of h = map variable_declared h.params
 abbrev pub variables_of : {A : Type 0} → heads.Head Name A → statements.Stmt Name A → List Variable
 variables_of h body = params_of h ++ locals_of body
 
+-- the object of file scope that a name means
 abbrev pub object_named : Globals → Name → Option Object
 object_named globals n = find (λ o. same_name o.name n) globals.objects
 
+-- the function that a name means
 abbrev pub signature_named : Globals → Name → Option Signature
 signature_named globals n = find (λ s. same_name s.name n) globals.functions
 
+-- the parameter or local that a name means
 abbrev pub variable_named : List Variable → Name → Option Variable
 variable_named variables n = find (λ v. same_name v.name n) variables
 
+-- whether a name means the member with the number k
 abbrev pub is_member_named : Name → ℕ → Bool
 is_member_named n k = same_name n (name.Member k)
 
@@ -122,9 +138,11 @@ abbrev pub used : CType → Option Kind → CType
 used element None = element
 used element (Some k) = ctype.Pointer k element
 
+-- the type of an object of file scope that is used in an expression
 abbrev pub object_type : Object → CType
 object_type o = used o.element o.array
 
+-- the type of a parameter or local, if there is one, or else of an object of file scope
 abbrev pub or_variable : Option Variable → Option Object → Option CType
 or_variable (Some v) o = Some v.ctype
 or_variable None o = option_map object_type o

@@ -30,6 +30,7 @@ use Rattle.ckc_typed.specs.Environment.{type_of_name, object_named, signature_na
 use Rattle.ckc_typed.specs.Operands.{unary_type, binary_type, choice_type, index_type, dot_type, arrow_type, is_cast, size_type}
 use Rattle.ckc_typed.specs.Conversions.{is_null, converts, is_tested, is_trusted, is_bounds_cast}
 
+-- an expression with its type and the mode of its scope noted
 abbrev pub noted : Mode → Pos → NotedNode → CType → NotedExpr
 noted mode pos n t = record { node = n; pos = pos; note = record { ctype = t; mode = mode; range = Missing } }
 
@@ -37,6 +38,7 @@ noted mode pos n t = record { node = n; pos = pos; note = record { ctype = t; mo
 abbrev pub in_row : Bool → Pos → Option CType → Outcome CType
 in_row void pos t = there_or (if void then bad_conversion else bad_operands) pos t
 
+-- the type of a number, by whether it is `unsigned`
 abbrev pub number_type : Bool → CType
 number_type unsigned = if unsigned then ctype.Unsigned else ctype.Int
 
@@ -46,14 +48,17 @@ abbrev pub string_type : Mode → CType
 string_type Checked = ctype.Pointer kind.Nt ctype.Char
 string_type Unchecked = ctype.Pointer kind.Raw ctype.Char
 
+-- the kind of the pointer that `&` gives in a scope
 abbrev pub address_kind : Mode → Kind
 address_kind Checked = kind.Arr
 address_kind Unchecked = kind.Raw
 
+-- whether there is an object of file scope and it is no array
 abbrev pub is_no_array : Option Object → Bool
 is_no_array (Some o) = is_none o.array
 is_no_array None = false
 
+-- whether a unary operator is `*`
 abbrev pub is_target_op : TreeOp → Bool
 is_target_op op.Deref = true
 is_target_op _ = false
@@ -66,9 +71,11 @@ is_placed_form (Node-F.Dot e n at) = true
 is_placed_form (Node-F.Arrow e n at) = true
 is_placed_form _ = false
 
+-- whether an expression is an element or a member: `*p`, `p[e]`, `x.m` or `p->m`
 abbrev pub is_placed : NotedExpr → Bool
 is_placed e = is_placed_form (out-Node Name Note e.node)
 
+-- whether a node is the name of an object of file scope that is no array
 abbrev pub is_object_form : {A L M E : Type 0} → Globals → Node-F Name A L M E → Bool
 is_object_form globals (Node-F.Name n) = is_no_array (object_named globals n)
 is_object_form globals _ = false
@@ -85,22 +92,28 @@ has_address globals e = is_object globals e || is_placed e
 abbrev pub address_typed : Globals → Mode → NotedExpr → Pos → Outcome CType
 address_typed globals mode e pos = unless (not (has_address globals e)) no_address pos (Ok (ctype.Pointer (address_kind mode) e.note.ctype))
 
+-- the type of a unary operator with its operand, or its error
 abbrev pub unary_typed : Globals → Mode → TreeOp → NotedExpr → Pos → Outcome CType
 unary_typed globals mode op.Address e pos = address_typed globals mode e pos
 unary_typed globals mode o e pos = in_row (is_void e.note.ctype) pos (unary_type o e.note.ctype)
 
+-- the type of a binary operator with its operands, or its error
 abbrev pub binary_typed : TreeOp → NotedExpr → NotedExpr → Pos → Outcome CType
 binary_typed o e f pos = in_row (is_void e.note.ctype || is_void f.note.ctype) pos (binary_type o e.note.ctype (is_null e) f.note.ctype (is_null f))
 
+-- the type of `e ? f : g`, or its error
 abbrev pub choice_typed : NotedExpr → NotedExpr → NotedExpr → Pos → Outcome CType
 choice_typed e f g pos = in_row (is_void e.note.ctype || (is_void f.note.ctype || is_void g.note.ctype)) pos (choice_type e.note.ctype f.note.ctype g.note.ctype)
 
+-- the type of `e[f]`, or its error
 abbrev pub index_typed : NotedExpr → NotedExpr → Pos → Outcome CType
 index_typed e f pos = in_row (is_void e.note.ctype || is_void f.note.ctype) pos (index_type e.note.ctype f.note.ctype)
 
+-- the type of `e.n`, or its error
 abbrev pub dot_typed : Globals → NotedExpr → Name → Pos → Outcome CType
 dot_typed globals e n pos = in_row (is_void e.note.ctype) pos (dot_type globals.structs e.note.ctype n)
 
+-- the type of `e->n`, or its error
 abbrev pub arrow_typed : Globals → NotedExpr → Name → Pos → Outcome CType
 arrow_typed globals e n pos = in_row (is_void e.note.ctype) pos (arrow_type globals.structs e.note.ctype n)
 
@@ -112,6 +125,7 @@ cast_typed t e pos = unless (not (is_object_type t)) bad_operands pos (unless (n
 abbrev pub tested_typed : CType → NotedExpr → Option NotedLimits → Pos → Outcome CType
 tested_typed t e l pos = unless (not (is_bounds_cast t l)) bad_operands pos (unless (not (is_tested t e)) bad_conversion pos (Ok t))
 
+-- the same of `_Assume_bounds_cast`
 abbrev pub trusted_typed : CType → NotedExpr → Option NotedLimits → Pos → Outcome CType
 trusted_typed t e l pos = unless (not (is_bounds_cast t l)) bad_operands pos (unless (not (is_trusted t e)) bad_conversion pos (Ok t))
 
@@ -128,6 +142,7 @@ result_typed s es pos = unless (not (length es == length s.params)) bad_call pos
 abbrev pub call_typed : Globals → Name → List NotedExpr → Pos → Outcome CType
 call_typed globals n es pos = bind (there_or bad_call pos (signature_named globals n)) (λ s. result_typed s es pos)
 
+-- whether `calloc<t>(e, sizeof(u))` has two types, a type of no object, or a count that is no integer
 abbrev pub is_no_allocation : CType → NotedExpr → CType → Bool
 is_no_allocation t e u = not (is_object_type t) || (not (same_type t u) || not (is_integer e.note.ctype))
 
@@ -136,6 +151,7 @@ is_no_allocation t e u = not (is_object_type t) || (not (same_type t u) || not (
 abbrev pub allocation_typed : CType → NotedExpr → CType → Pos → Outcome CType
 allocation_typed t e u pos = unless (is_no_allocation t e u) bad_call pos (Ok (ctype.Pointer kind.Arr t))
 
+-- bounds with the types in them noted, or their first error
 abbrev pub OfLimits : Type 0
 OfLimits = Outcome NotedLimits
 
@@ -143,9 +159,11 @@ OfLimits = Outcome NotedLimits
 abbrev pub OfNode : Type 0
 OfNode = Pos → Outcome NotedExpr
 
+-- an expression with the types in it noted, or its first error
 abbrev pub OfExpr : Type 0
 OfExpr = Outcome NotedExpr
 
+-- bounds, from what has become of their parts
 abbrev pub limits_parts : Limits-F Name (Unit {0}) OfLimits OfNode OfExpr → OfLimits
 limits_parts (Limits-F.Count e at) = bind e (λ a. Ok (limits.Count a at))
 limits_parts (Limits-F.ByteCount e at) = bind e (λ a. Ok (limits.ByteCount a at))
@@ -171,25 +189,31 @@ node_parts globals variables mode (Node-F.Tested w e l) pos = bind e (λ a. bind
 node_parts globals variables mode (Node-F.Call n es) pos = bind (in_order es) (λ args. bind (call_typed globals n args pos) (λ t. Ok (noted mode pos (node.Call n args) t)))
 node_parts globals variables mode (Node-F.Calloc w e x) pos = bind e (λ a. bind (allocation_typed (type_written w) a (type_written x) pos) (λ t. Ok (noted mode pos (node.Calloc w a x) t)))
 
+-- An expression is judged by its node, at its place.
 abbrev pub expr_parts : Expr-F Name (Unit {0}) OfLimits OfNode OfExpr → OfExpr
 expr_parts e = e.node e.pos
 
+-- bounds with the types in them noted, or their first error, for the variables and the mode of a scope
 abbrev pub limits_typed : Globals → List Variable → Mode → Limits → OfLimits
 limits_typed globals variables mode = fold-Limits Name (Unit {0}) OfLimits OfNode OfExpr limits_parts (node_parts globals variables mode) expr_parts
 
 abbrev pub node_typed : Globals → List Variable → Mode → Node → OfNode
 node_typed globals variables mode = fold-Node Name (Unit {0}) OfLimits OfNode OfExpr limits_parts (node_parts globals variables mode) expr_parts
 
+-- the same of an expression
 abbrev pub expr_typed : Globals → List Variable → Mode → Expr → OfExpr
 expr_typed globals variables mode = fold-Expr Name (Unit {0}) OfLimits OfNode OfExpr limits_parts (node_parts globals variables mode) expr_parts
 
+-- the same of each expression of a list
 abbrev pub exprs_typed : Globals → List Variable → Mode → List Expr → Outcome (List NotedExpr)
 exprs_typed globals variables mode es = in_order (map (expr_typed globals variables mode) es)
 
+-- the same of bounds that there may be
 abbrev pub bounds_typed : Globals → List Variable → Mode → Option Limits → Outcome (Option NotedLimits)
 bounds_typed globals variables mode None = Ok None
 bounds_typed globals variables mode (Some l) = bind (limits_typed globals variables mode l) (λ k. Ok (Some k))
 
+-- the same of an expression that there may be
 abbrev pub value_typed : Globals → List Variable → Mode → Option Expr → Outcome (Option NotedExpr)
 value_typed globals variables mode None = Ok None
 value_typed globals variables mode (Some e) = bind (expr_typed globals variables mode e) (λ a. Ok (Some a))

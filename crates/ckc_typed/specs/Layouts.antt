@@ -21,6 +21,7 @@ use Rattle.ckc_typed.specs.Environment.{same_name}
 use Rattle.ckc_typed.specs.Constants.{size_of}
 use Rattle.ckc_typed.specs.Amounts.{amount_of_form}
 
+-- the number of the member that a name means; 0 for any other name
 abbrev pub member_number : Name → ℕ
 member_number (name.Member k) = k
 member_number _ = 0
@@ -31,14 +32,17 @@ counted_by None c = bounds.Fixed c
 counted_by (Some (name.Member m)) c = bounds.Named m c
 counted_by (Some _) c = bounds.NoForm
 
+-- the bounds of a member, by the amount that they count, if they have one
 abbrev pub counted : Option Amount → MemberBounds
 counted (Some a) = counted_by a.variable a.number
 counted None = bounds.NoForm
 
+-- the bounds of a member, by the form that is written
 abbrev pub bounds_by : {A : Type 0} → Structs → ℕ → Limits-F Name A (Limits Name A) (Node Name A) (Expr Name A) → MemberBounds
 bounds_by structs size (Limits-F.Unknown at) = bounds.Unknown
 bounds_by structs size form = counted (amount_of_form structs size form)
 
+-- the bounds of a member of type t, if some are written
 abbrev pub bounds_of : {A : Type 0} → Structs → CType → Option (Limits Name A) → MemberBounds
 bounds_of structs t None = bounds.Nothing
 bounds_of {A} structs t (Some l) = bounds_by structs (size_of structs (element_of t)) (out-Limits Name A l)
@@ -47,6 +51,7 @@ bounds_of {A} structs t (Some l) = bounds_by structs (size_of structs (element_o
 abbrev pub bare_member : {A : Type 0} → Decl Name A → MemberShape
 bare_member d = record { name = member_number d.name; ctype = type_written d.ctype; bounds = bounds.Nothing }
 
+-- a member with its bounds
 abbrev pub bounded_member : {A : Type 0} → Structs → Decl Name A → MemberShape
 bounded_member structs d = record { name = member_number d.name; ctype = type_written d.ctype; bounds = bounds_of structs (type_written d.ctype) d.bounds }
 
@@ -60,10 +65,12 @@ abbrev pub members_declared : {A : Type 0} → List (Item Name A) → Name → L
 members_declared [] tag = []
 members_declared (i ∷ rest) tag = unwrap_or (members_in_item tag i) (members_declared rest tag)
 
+-- one more than the number of the tag that a name means; 0 for any other name
 abbrev pub behind_tag : Name → ℕ
 behind_tag (name.Tag k) = k + 1
 behind_tag _ = 0
 
+-- one more than the number of the tag that an item declares; 0 if it declares none
 abbrev pub tags_to : {A : Type 0} → Item Name A → ℕ
 tags_to (item.Tag n at) = behind_tag n
 tags_to (item.Struct n members at) = behind_tag n
@@ -73,16 +80,20 @@ tags_to _ = 0
 abbrev pub tag_count : {A : Type 0} → List (Item Name A) → ℕ
 tag_count items = fold (λ n i. max n (tags_to i)) 0 items
 
+-- the structure with the tag k, each member as it is wanted: with its bounds or without them
 abbrev pub shape_of : {A : Type 0} → (Decl Name A → MemberShape) → List (Item Name A) → ℕ → StructShape
 shape_of member items k = record { members = map member (members_declared items (name.Tag k)) }
 
+-- the structures with the tags from 0 to n - 1
 abbrev pub shapes_below : (ℕ → StructShape) → ℕ → List StructShape
 shapes_below shape zero = []
 shapes_below shape (suc n) = shapes_below shape n ++ shape n ∷ []
 
+-- the structures of a source file, each member as it is wanted
 abbrev pub structs_with : {A : Type 0} → (Decl Name A → MemberShape) → List (Item Name A) → Structs
 structs_with member items = record { shapes = shapes_below (shape_of member items) (tag_count items) }
 
+-- the structures of a source file without the bounds of their members
 abbrev pub bare_structs : {A : Type 0} → List (Item Name A) → Structs
 bare_structs items = structs_with bare_member items
 

@@ -21,6 +21,7 @@ promoted t = if is_unsigned t then ctype.Unsigned else ctype.Int
 abbrev pub common : CType → CType → CType
 common t u = if is_unsigned t || is_unsigned u then ctype.Unsigned else ctype.Int
 
+-- whether arithmetic moves pointers of a kind: all but `_Ptr`
 abbrev pub is_moved_kind : Option Kind → Bool
 is_moved_kind (Some kind.Raw) = true
 is_moved_kind (Some kind.One) = false
@@ -76,6 +77,7 @@ difference_type t u = if is_moved t && is_integer u then Some t else (if is_poin
 abbrev pub is_compared : CType → Bool → CType → Bool → Bool
 is_compared t null_t u null_u = (is_integer t && is_integer u) || (same_element t u || ((is_pointer t && null_u) || (null_t && is_pointer u)))
 
+-- the type of `==`, `!=`, `<`, `<=`, `>` and `>=`, which is `int`
 abbrev pub comparison_type : CType → Bool → CType → Bool → Option CType
 comparison_type t null_t u null_u = if is_compared t null_t u null_u then Some ctype.Int else None
 
@@ -87,6 +89,7 @@ index_type t u = if is_moved t && is_integer u then Some (element_of t) else Non
 abbrev pub choice_type : CType → CType → CType → Option CType
 choice_type t u v = if is_scalar t then arithmetic_type u v else None
 
+-- the type of a member, by the outermost part of the type of its structure
 abbrev pub member_in : Structs → Name → CType-F CType → Option CType
 member_in structs n (CType-F.Struct tag) = member_type structs tag n
 member_in structs n _ = None
@@ -103,6 +106,7 @@ arrow_type structs t n = dot_type structs (element_of t) n
 abbrev pub size_type : CType → Option CType
 size_type t = if is_object_type t then Some ctype.Unsigned else None
 
+-- whether a pointer is unchecked
 abbrev pub is_raw_kind : Option Kind → Bool
 is_raw_kind (Some kind.Raw) = true
 is_raw_kind _ = false

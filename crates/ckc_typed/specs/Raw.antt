@@ -11,12 +11,14 @@ use Rattle.ckc_syntax.specs.declared.tree.Length.TheVariants as lengths
 use Rattle.ckc_syntax.specs.declared.tree.Decl.{Decl}
 use Rattle.ckc_syntax.specs.declared.tree.Head.{Head}
 
+-- whether a kind of pointers is unchecked
 abbrev pub is_raw : Kind → Bool
 is_raw kind.Raw = true
 is_raw kind.One = false
 is_raw kind.Arr = false
 is_raw kind.Nt = false
 
+-- whether an unchecked pointer stands in a type, by its outermost part and what is known of the inner type
 abbrev pub raw_in_form : CType-F Bool → Bool
 raw_in_form CType-F.Int = false
 raw_in_form CType-F.Unsigned = false
@@ -29,6 +31,7 @@ raw_in_form (CType-F.Pointer kind inner) = is_raw kind || inner
 abbrev pub has_raw : CType → Bool
 has_raw = fold-CType Bool raw_in_form
 
+-- the places of the `*` of a written type, from those of its inner type
 abbrev pub stars_in_form : {N : Type 0} → TypeTree-F N (List Pos) → List Pos
 stars_in_form TypeTree-F.Int = []
 stars_in_form TypeTree-F.Unsigned = []

@@ -15,10 +15,12 @@ use Rattle.ckc_typed.specs.declared.typed.Typed.{Typed}
 use Rattle.ckc_typed.specs.Raw.{has_raw, raws_of_head}
 use Rattle.ckc_typed.specs.Walk.{Matter, written, value, called, assumed, Spot, walk}
 
+-- whether a name means the function with the number k
 abbrev pub is_function : ℕ → Name → Bool
 is_function k (name.Function j) = j == k
 is_function k _ = false
 
+-- whether a list of places is not empty
 abbrev pub is_some_place : List Pos → Bool
 is_some_place [] = false
 is_some_place (at ∷ rest) = true
@@ -27,6 +29,7 @@ is_some_place (at ∷ rest) = true
 abbrev pub is_raw_head : ℕ → Head Name Note → Bool
 is_raw_head k h = is_function k h.name && is_some_place (raws_of_head h)
 
+-- the same of the head of an item, if it has one
 abbrev pub is_raw_item : ℕ → Item Name Note → Bool
 is_raw_item k (item.Proto h) = is_raw_head k h
 is_raw_item k (item.Function h body) = is_raw_head k h
@@ -44,6 +47,7 @@ unchecked_pointer = 501
 abbrev pub assumed_cast : ℕ
 assumed_cast = 502
 
+-- E501, if a condition holds
 abbrev pub fault_where : Bool → Option ℕ
 fault_where b = if b then Some unchecked_pointer else None
 
@@ -54,6 +58,7 @@ fault_of_matter items (value ctype) = fault_where (has_raw ctype)
 fault_of_matter items (called k) = fault_where (is_raw_function items k)
 fault_of_matter items assumed = Some assumed_cast
 
+-- an error code, in a checked scope alone
 abbrev pub fault_in : Mode → Option ℕ → Option ℕ
 fault_in Checked fault = fault
 fault_in Unchecked fault = None
@@ -62,6 +67,7 @@ fault_in Unchecked fault = None
 abbrev pub fault_at : List (Item Name Note) → Spot → Option ℕ
 fault_at items s = fault_in s.mode (fault_of_matter items s.matter)
 
+-- A spot of a typed source file has no error.
 abbrev pub IsFine : Typed → Spot → Type 0
 IsFine p s = fault_at p.tree.items s ≡ None
 

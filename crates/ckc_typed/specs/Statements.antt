@@ -26,17 +26,21 @@ use Rattle.ckc_typed.specs.Conversions.{converts}
 use Rattle.ckc_typed.specs.Expressions.{expr_typed, value_typed, is_object, is_placed}
 use Rattle.ckc_typed.specs.Declarations.{local_typed}
 
+-- a statement with the type `void` and the mode of its scope noted
 abbrev pub stated : Mode → Pos → NotedAct → NotedStmt
 stated mode pos a = record { body = a; pos = pos; note = record { ctype = ctype.Void; mode = mode; range = Missing } }
 
+-- whether a node is the name of a parameter or local
 abbrev pub is_variable_form : {A L M E : Type 0} → List Variable → Node-F Name A L M E → Bool
 is_variable_form variables (Node-F.Name n) = is_some (variable_named variables n)
 is_variable_form variables _ = false
 
+-- whether a name means a function of the source file
 abbrev pub is_function : Name → Bool
 is_function (name.Function k) = true
 is_function _ = false
 
+-- whether a node is a call of a function of the source file
 abbrev pub is_call_form : {A L M E : Type 0} → Node-F Name A L M E → Bool
 is_call_form (Node-F.Call n es) = is_function n
 is_call_form _ = false
@@ -62,6 +66,7 @@ target_fits globals variables pos e f = unless (not (converts e.note.ctype f)) b
 abbrev pub scalar_fits : Pos → NotedExpr → Outcome (Unit {0})
 scalar_fits pos e = unless (not (is_scalar e.note.ctype)) (if is_void e.note.ctype then bad_conversion else bad_operands) pos (Ok tt)
 
+-- the same of a condition that may be left out
 abbrev pub scalar_there_fits : Pos → Option NotedExpr → Outcome (Unit {0})
 scalar_there_fits pos None = Ok tt
 scalar_there_fits pos (Some e) = scalar_fits pos e
@@ -83,12 +88,15 @@ loop_fits looped pos = unless (not looped) no_loop pos (Ok tt)
 abbrev pub OfStmt : Type 0
 OfStmt = Mode → Bool → Outcome NotedStmt
 
+-- the same of what a statement does, at a place
 abbrev pub OfAct : Type 0
 OfAct = Mode → Bool → Pos → Outcome NotedStmt
 
+-- statements with the types in them noted, in order, or their first error
 abbrev pub all_in : Mode → Bool → List OfStmt → Outcome (List NotedStmt)
 all_in mode looped ss = in_order (map (λ s. s mode looped) ss)
 
+-- the same of a statement that there may be
 abbrev pub part_in : Mode → Bool → Option OfStmt → Outcome (Option NotedStmt)
 part_in mode looped s = if_there (option_map (λ t. t mode looped) s)
 
@@ -113,11 +121,13 @@ act_parts globals variables result Act-F.Continue mode looped pos = bind (loop_f
 act_parts globals variables result (Act-F.Check e) mode looped pos = bind (expr_typed globals variables mode e) (λ a. bind (scalar_fits pos a) (λ u. Ok (stated mode pos (act.Check a))))
 act_parts globals variables result (Act-F.Bundle ss) mode looped pos = bind (all_in mode looped ss) (λ all. Ok (stated mode pos (act.Bundle all)))
 
+-- A statement is judged by what it does, at its place.
 abbrev pub stmt_parts : Stmt-F Name (Unit {0}) OfAct OfStmt → OfStmt
 stmt_parts s mode looped = s.body mode looped s.pos
 
 abbrev pub act_typed : Globals → List Variable → CType → Act → OfAct
 act_typed globals variables result = fold-Act Name (Unit {0}) OfAct OfStmt (act_parts globals variables result) stmt_parts
 
+-- a statement with the types in it noted, or its first error
 abbrev pub stmt_typed : Globals → List Variable → CType → Stmt → OfStmt
 stmt_typed globals variables result = fold-Stmt Name (Unit {0}) OfAct OfStmt (act_parts globals variables result) stmt_parts

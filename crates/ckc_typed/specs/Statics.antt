@@ -33,19 +33,24 @@ use Rattle.ckc_typed.specs.Declarations.{count_of, is_plain, string_in}
 abbrev pub Strings : Type 0
 Strings = List (List ℕ)
 
+-- the string literals in a node of an expression, itself or its parts
 abbrev pub node_strings : Node-F Name Note Strings Strings Strings → Strings
 node_strings (Node-F.Text bytes) = bytes ∷ []
 node_strings n = inside_node n
 
+-- What stands in an expression stands in its node.
 abbrev pub expr_strings : Expr-F Name Note Strings Strings Strings → Strings
 expr_strings e = e.node
 
+-- the string literals in bounds
 abbrev pub strings_of_limits : NotedLimits → Strings
 strings_of_limits = fold-Limits Name Note Strings Strings Strings inside_limits node_strings expr_strings
 
+-- the string literals in an expression
 abbrev pub strings_of_expr : NotedExpr → Strings
 strings_of_expr = fold-Expr Name Note Strings Strings Strings inside_limits node_strings expr_strings
 
+-- the string literals in bounds that there may be
 abbrev pub strings_of_bounds : Option NotedLimits → Strings
 strings_of_bounds = inside_if strings_of_limits
 
@@ -58,21 +63,27 @@ strings_of_init plain init.Nothing = []
 strings_of_init plain (init.One e) = if plain then strings_of_expr e else []
 strings_of_init plain (init.Many es) = flat_map strings_of_expr es
 
+-- the string literals in the bounds and then in the initialiser of a declaration
 abbrev pub strings_of_decl : NotedDecl → Strings
 strings_of_decl d = strings_of_bounds d.bounds ++ strings_of_init (is_plain d.length) d.init
 
+-- the string literals in what a statement does, from those in its parts
 abbrev pub act_strings : Act-F Name Note Strings Strings → Strings
 act_strings = inside_act strings_of_expr strings_of_decl
 
+-- What stands in a statement stands in what it does.
 abbrev pub stmt_strings : Stmt-F Name Note Strings Strings → Strings
 stmt_strings s = s.body
 
+-- the string literals in a statement
 abbrev pub strings_of_stmt : NotedStmt → Strings
 strings_of_stmt = fold-Stmt Name Note Strings Strings act_strings stmt_strings
 
+-- the string literals in the head of a function
 abbrev pub strings_of_head : NotedHead → Strings
 strings_of_head h = flat_map strings_of_decl h.params ++ strings_of_bounds h.bounds
 
+-- the string literals in an item of a source file
 abbrev pub strings_of_item : NotedItem → Strings
 strings_of_item = inside_item strings_of_decl strings_of_head strings_of_stmt
 
@@ -80,6 +91,7 @@ strings_of_item = inside_item strings_of_decl strings_of_head strings_of_stmt
 abbrev pub bytes_of : Structs → CType → NotedExpr → List ℕ
 bytes_of structs t e = take (if is_char t then 1 else 4) (to_le_bytes w32 (option_map_or (λ (c : Constant). c.word) (constant structs e) 0))
 
+-- the bytes of an initialiser that is no list: of a string, or of a constant
 abbrev pub bytes_of_one : Structs → CType → NotedExpr → Option (List ℕ) → List ℕ
 bytes_of_one structs t e (Some bytes) = bytes
 bytes_of_one structs t e None = bytes_of structs t e
@@ -90,17 +102,21 @@ initial_bytes structs t init.Nothing = []
 initial_bytes structs t (init.One e) = bytes_of_one structs t e (string_in e)
 initial_bytes structs t (init.Many es) = flat_map (bytes_of structs t) es
 
+-- whether an object is an `_Nt_checked` array
 abbrev pub is_terminated : Length → Bool
 is_terminated (lengths.Nt n) = true
 is_terminated _ = false
 
+-- the block of an object that is declared at file scope, without its place
 abbrev pub object_of : Structs → NotedDecl → StaticObject
 object_of structs d = record { at = 0; element = type_written d.ctype; array = kind_of_array d.length; count = unwrap_or (count_of d) 0; terminated = is_terminated d.length; initial = initial_bytes structs (type_written d.ctype) d.init }
 
+-- the block that an item of a source file declares, if it declares one
 abbrev pub objects_of_item : Structs → NotedItem → List StaticObject
 objects_of_item structs (item.Static d) = object_of structs d ∷ []
 objects_of_item structs _ = []
 
+-- the block of a string literal, without its place
 abbrev pub object_of_string : List ℕ → StaticObject
 object_of_string bytes = record { at = 0; element = ctype.Char; array = Some kind.Nt; count = length bytes + 1; terminated = true; initial = bytes }
 
@@ -112,6 +128,7 @@ blocks structs items = flat_map (objects_of_item structs) items ++ map object_of
 abbrev pub begin_behind : ℕ → ℕ
 begin_behind end = next_multiple_of (end + 8) 8
 
+-- where the block after an end ends itself
 abbrev pub end_of_block : Structs → ℕ → StaticObject → ℕ
 end_of_block structs end o = begin_behind end + size_of structs o.element * o.count
 

@@ -33,6 +33,7 @@ is_result_type t = is_void t || is_scalar_type t
 abbrev pub result_allowed : Head → Outcome (Unit {0})
 result_allowed h = unless (not (is_result_type (type_written h.result))) bad_operands h.pos (Ok tt)
 
+-- the head of a function with its parameters and its bounds noted
 abbrev pub head_with : Head → List NotedDecl → Option NotedLimits → NotedHead
 head_with h ps l = record { mode = h.mode; result = h.result; name = h.name; params = ps; bounds = l; pos = h.pos }
 
@@ -43,10 +44,12 @@ head_typed globals pragma h =
     bind (bares_typed globals (params_of h) (head_mode pragma h) h.params) (λ ps. bind (bounds_typed globals (params_of h) (head_mode pragma h) h.bounds) (λ l.
     bind (result_allowed h) (λ u. Ok (head_with h ps l))))
 
+-- a function with the types in it noted, or its first error
 abbrev pub function_typed : Globals → Mode → Head → Stmt → Outcome NotedItem
 function_typed globals pragma h body =
     bind (head_typed globals pragma h) (λ g. bind (stmt_typed globals (variables_of h body) (type_written h.result) body (head_mode pragma h) false) (λ b. Ok (item.Function g b)))
 
+-- an item of a source file with the types in it noted, or its first error
 abbrev pub item_typed : Globals → Mode → Item → Outcome NotedItem
 item_typed globals pragma (item.Directive d) = Ok (item.Directive d)
 item_typed globals pragma (item.Tag n pos) = Ok (item.Tag n pos)
@@ -55,6 +58,7 @@ item_typed globals pragma (item.Static d) = bind (static_typed globals pragma d)
 item_typed globals pragma (item.Proto h) = bind (head_typed globals pragma h) (λ g. Ok (item.Proto g))
 item_typed globals pragma (item.Function h body) = function_typed globals pragma h body
 
+-- the same of the items from one on, each in the mode of the last pragma before it
 abbrev pub items_typed : Globals → Mode → List Item → Outcome (List NotedItem)
 items_typed globals pragma [] = Ok []
 items_typed globals pragma (i ∷ rest) = bind (item_typed globals pragma i) (λ n. bind (items_typed globals (pragma_after pragma i) rest) (λ ns. Ok (n ∷ ns)))
@@ -67,6 +71,7 @@ globals_of items = record { structs = structs_of items; objects = objects_of ite
 abbrev pub laid_out : Structs → List NotedItem → Outcome (List StaticObject)
 laid_out structs items = unless (nat_lt statics_end (end_of_blocks structs data_start (blocks structs items))) late_statics start (Ok (placed structs data_start (blocks structs items)))
 
+-- a source file with the types in it noted and its static objects laid out, or its first error
 abbrev pub text_typed : Tree → ℕ → Outcome Typed
 text_typed tree main =
     bind (items_typed (globals_of tree.items) Unchecked tree.items) (λ items. bind (laid_out (structs_of tree.items) items) (λ statics.

@@ -40,6 +40,7 @@ pub record Spot : Type 0 where
   pub at : Pos
   pub matter : Matter
 
+-- a matter at a place, in a scope with a mode
 abbrev pub spot : Mode → Pos → Matter → Spot
 spot mode at matter = record { mode = mode; at = at; matter = matter }
 
@@ -52,10 +53,12 @@ pub record Within : Type 0 where
   pub parts : List Spot
   pub own : List Matter
 
+-- the function of the source file that a name means, as a list of at most one
 abbrev pub called_by : Name → List Matter
 called_by (name.Function k) = called k ∷ []
 called_by _ = []
 
+-- what is judged of a node itself: an `_Assume_bounds_cast`, and a function that is called
 abbrev pub own_matters : Node-F Name Note (List Spot) Within (List Spot) → List Matter
 own_matters (Node-F.Trusted t e limits) = assumed ∷ []
 own_matters (Node-F.Call n es) = called_by n
@@ -118,6 +121,7 @@ spots_of_head pragma h =
 abbrev pub spots_of_item : Mode → Item Name Note → List Spot
 spots_of_item pragma = inside_item (spots_of_decl pragma) (spots_of_head pragma) spots_of_stmt
 
+-- the mode of what follows a directive: a pragma sets it, an `#include` leaves it
 abbrev pub mode_of_directive : Mode → Directive → Mode
 mode_of_directive pragma directive.ScopeOn = Checked
 mode_of_directive pragma directive.ScopeOff = Unchecked

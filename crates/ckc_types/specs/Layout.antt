@@ -9,6 +9,7 @@ use Rattle.ckc_types.specs.declared.types.StructShape.{StructShape}
 use Rattle.ckc_types.specs.declared.types.Structs.{Structs}
 use Rattle.ckc_types.specs.Scalars.{scalar_size, scalar_align, size_of_form, align_of_form}
 
+-- the members of a structure, and none where there is no structure
 abbrev pub members_in : Option StructShape → List MemberShape
 members_in None = []
 members_in (Some shape) = shape.members
@@ -31,13 +32,16 @@ abbrev pub start_of : ℕ → ℕ → List MemberShape → ℕ
 start_of name at [] = at
 start_of name at (m ∷ ms) = if m.name == name then start at m else start_of name (start at m + scalar_size m.ctype) ms
 
+-- the alignment of a structure with these members
 abbrev pub struct_align : List MemberShape → ℕ
 struct_align [] = 1
 struct_align (m ∷ ms) = max (scalar_align m.ctype) (struct_align ms)
 
+-- the size of a structure with these members
 abbrev pub struct_size : List MemberShape → ℕ
 struct_size ms = next_multiple_of (end_of 0 ms) (struct_align ms)
 
+-- the size of a type, by its outermost part
 abbrev pub size_by_form : Structs → CType-F CType → ℕ
 size_by_form structs (CType-F.Struct tag) = struct_size (members_of structs tag)
 size_by_form structs form = size_of_form form
@@ -46,6 +50,7 @@ abbrev pub align_by_form : Structs → CType-F CType → ℕ
 align_by_form structs (CType-F.Struct tag) = struct_align (members_of structs tag)
 align_by_form structs form = align_of_form form
 
+-- how many bytes an object of the type takes, which is what `sizeof` gives
 abbrev pub size : Structs → CType → ℕ
 size structs t = size_by_form structs (out-CType t)
 

@@ -11,6 +11,7 @@ IsScalarForm CType-F.Void = ⊥
 IsScalarForm (CType-F.Struct tag) = ⊥
 IsScalarForm (CType-F.Pointer kind to) = Unit {0}
 
+-- the size of an integer or a pointer, and 0 for `void` and structures, which are no scalars
 abbrev pub size_of_form : CType-F CType → ℕ
 size_of_form CType-F.Int = 4
 size_of_form CType-F.Unsigned = 4
@@ -19,6 +20,7 @@ size_of_form CType-F.Void = 0
 size_of_form (CType-F.Struct tag) = 0
 size_of_form (CType-F.Pointer kind to) = 4
 
+-- the alignment of an integer or a pointer, and 1 for `void` and structures
 abbrev pub align_of_form : CType-F CType → ℕ
 align_of_form CType-F.Int = 4
 align_of_form CType-F.Unsigned = 4
@@ -31,8 +33,10 @@ align_of_form (CType-F.Pointer kind to) = 4
 abbrev pub IsScalar : CType → Type 0
 IsScalar t = IsScalarForm (out-CType t)
 
+-- how many bytes an integer or a pointer takes
 abbrev pub scalar_size : CType → ℕ
 scalar_size t = size_of_form (out-CType t)
 
+-- the number whose multiples are the addresses at which an integer or a pointer may lie
 abbrev pub scalar_align : CType → ℕ
 scalar_align t = align_of_form (out-CType t)
