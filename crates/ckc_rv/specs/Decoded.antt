@@ -2,7 +2,7 @@
 -- table relates word and instruction.
 use Rattle.std.specs.Prelude.{ℕ, ◌+◌, ◌*◌, ◌/◌, ◌%◌, ◌^◌, ◌==◌, ◌&&◌, nat_lt, if◌then◌else◌, ℤ, pos, ◌-ℤ◌, Some, None, Option}
 use Rattle.std.specs.Option.{option_map}
-pub use Rattle.ckc_rv_operations.specs.Codes.{branch_op, load_op, store_op, imm_op, base_op, product_op, reg_op}
+pub use Rattle.ckc_rv_operations.specs.Codes.{branch_op, load_op, store_op, imm_op, reg_op}
 use Rattle.ckc_rv_operations.specs.declared.operations.ImmOp.{ImmOp}
 use Rattle.ckc_rv_operations.specs.declared.operations.ImmOp.TheVariants.{Slli, Srli, Srai}
 use Rattle.ckc_rv.specs.declared.instructions.Instr.{Instr}

@@ -1,6 +1,7 @@
 -- The codes of the operations in a word (RISC-V unprivileged ISA manual, "RV32/64G Instruction Set Listings"): funct3 are
 -- its bits 14 to 12, funct7 its bits 31 to 25.
-use Rattle.std.specs.Prelude.{ℕ, ◌==◌, if◌then◌else◌, Option, None, Some}
+use Rattle.std.specs.Prelude.{ℕ, ◌==◌, Bool, true, ◌&&◌, [], ◌∷◌, Option}
+use Rattle.std.specs.List.{find}
 use Rattle.ckc_rv_operations.specs.declared.operations.BranchOp.{BranchOp}
 use Rattle.ckc_rv_operations.specs.declared.operations.BranchOp.TheVariants.{Beq, Bne, Blt, Bge, Bltu, Bgeu}
 use Rattle.ckc_rv_operations.specs.declared.operations.LoadOp.{LoadOp}
@@ -88,91 +89,31 @@ reg_funct7 _ = 1
 
 -- the branch with this funct3
 abbrev pub branch_op : ℕ → Option BranchOp
-branch_op funct3 =
-    if funct3 == 0 then Some Beq
-    else if funct3 == 1 then Some Bne
-    else if funct3 == 4 then Some Blt
-    else if funct3 == 5 then Some Bge
-    else if funct3 == 6 then Some Bltu
-    else if funct3 == 7 then Some Bgeu
-    else None
+branch_op funct3 = find (λ op. funct3 == branch_funct3 op) (Beq ∷ Bne ∷ Blt ∷ Bge ∷ Bltu ∷ Bgeu ∷ [])
 
 -- the load with this funct3
 abbrev pub load_op : ℕ → Option LoadOp
-load_op funct3 =
-    if funct3 == 0 then Some Lb
-    else if funct3 == 1 then Some Lh
-    else if funct3 == 2 then Some Lw
-    else if funct3 == 4 then Some Lbu
-    else if funct3 == 5 then Some Lhu
-    else None
+load_op funct3 = find (λ op. funct3 == load_funct3 op) (Lb ∷ Lh ∷ Lw ∷ Lbu ∷ Lhu ∷ [])
 
 -- the store with this funct3
 abbrev pub store_op : ℕ → Option StoreOp
-store_op funct3 =
-    if funct3 == 0 then Some Sb
-    else if funct3 == 1 then Some Sh
-    else if funct3 == 2 then Some Sw
-    else None
+store_op funct3 = find (λ op. funct3 == store_funct3 op) (Sb ∷ Sh ∷ Sw ∷ [])
 
--- the shift to the left by an immediate, whose funct7 is 0
-abbrev pub shift_left_op : ℕ → Option ImmOp
-shift_left_op funct7 = if funct7 == 0 then Some Slli else None
+-- whether an operation with an immediate may have this funct7, at which shifts alone look
+abbrev pub has_funct7 : ImmOp → ℕ → Bool
+has_funct7 Slli funct7 = funct7 == 0
+has_funct7 Srli funct7 = funct7 == 0
+has_funct7 Srai funct7 = funct7 == 0x20
+has_funct7 _ funct7 = true
 
--- the logical or arithmetic shift to the right by an immediate, by its funct7
-abbrev pub shift_right_op : ℕ → Option ImmOp
-shift_right_op funct7 =
-    if funct7 == 0 then Some Srli
-    else if funct7 == 0x20 then Some Srai
-    else None
-
--- the operation with an immediate, by funct3 and funct7; only shifts look at funct7
+-- the operation with an immediate with this funct3 and funct7
 abbrev pub imm_op : ℕ → ℕ → Option ImmOp
 imm_op funct3 funct7 =
-    if funct3 == 0 then Some Addi
-    else if funct3 == 1 then shift_left_op funct7
-    else if funct3 == 2 then Some Slti
-    else if funct3 == 3 then Some Sltiu
-    else if funct3 == 4 then Some Xori
-    else if funct3 == 5 then shift_right_op funct7
-    else if funct3 == 6 then Some Ori
-    else Some Andi
-
--- the operation on registers with this funct3, where funct7 is 0
-abbrev pub base_op : ℕ → RegOp
-base_op funct3 =
-    if funct3 == 0 then Add
-    else if funct3 == 1 then Sll
-    else if funct3 == 2 then Slt
-    else if funct3 == 3 then Sltu
-    else if funct3 == 4 then Xor
-    else if funct3 == 5 then Srl
-    else if funct3 == 6 then Or
-    else And
-
--- the multiplication, division or remainder with this funct3, where funct7 is 1
-abbrev pub product_op : ℕ → RegOp
-product_op funct3 =
-    if funct3 == 0 then Mul
-    else if funct3 == 1 then Mulh
-    else if funct3 == 2 then Mulhsu
-    else if funct3 == 3 then Mulhu
-    else if funct3 == 4 then Div
-    else if funct3 == 5 then Divu
-    else if funct3 == 6 then Rem
-    else Remu
-
--- the subtraction or arithmetic shift to the right, where funct7 is 0x20
-abbrev pub other_op : ℕ → Option RegOp
-other_op funct3 =
-    if funct3 == 0 then Some Sub
-    else if funct3 == 5 then Some Sra
-    else None
+    find (λ op. funct3 == imm_funct3 op && has_funct7 op funct7)
+    (Addi ∷ Slli ∷ Slti ∷ Sltiu ∷ Xori ∷ Srli ∷ Srai ∷ Ori ∷ Andi ∷ [])
 
 -- the operation on registers with this funct3 and funct7
 abbrev pub reg_op : ℕ → ℕ → Option RegOp
 reg_op funct3 funct7 =
-    if funct7 == 0 then Some (base_op funct3)
-    else if funct7 == 1 then Some (product_op funct3)
-    else if funct7 == 0x20 then other_op funct3
-    else None
+    find (λ op. funct7 == reg_funct7 op && funct3 == reg_funct3 op)
+    (Add ∷ Sll ∷ Slt ∷ Sltu ∷ Xor ∷ Srl ∷ Or ∷ And ∷ Mul ∷ Mulh ∷ Mulhsu ∷ Mulhu ∷ Div ∷ Divu ∷ Rem ∷ Remu ∷ Sub ∷ Sra ∷ [])

@@ -1,7 +1,8 @@
 //! The codes of the operations, and the operations of codes.
 
 ghost use Rattle.std.specs.Prelude.{◌≡◌, ◌<◌};
-ghost use Rattle.ckc_rv_operations.specs.Codes.{branch_funct3, load_funct3, store_funct3, imm_funct3, reg_funct3, reg_funct7, branch_op, load_op, store_op, shift_left_op, shift_right_op, imm_op, base_op, product_op, other_op, reg_op};
+ghost use Rattle.ckc_rv_operations.specs.Codes.{branch_funct3, load_funct3, store_funct3, imm_funct3, reg_funct3, reg_funct7, branch_op, load_op, store_op, imm_op, reg_op};
+ghost use Rattle.ckc_rv_operations.specs.code.Codes.{shift_left_op, shift_right_op, base_op, product_op, other_op};
 
 use crate::operations::{BranchOp, ImmOp, LoadOp, RegOp, StoreOp};
 
