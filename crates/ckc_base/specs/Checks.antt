@@ -1,3 +1,4 @@
+-- The numbers and names of the checks.
 use Rattle.std.specs.Prelude.{ℕ, ◌==◌, if◌then◌else◌, List, codes, Option, Some, None}
 use Rattle.ckc_base.specs.declared.runtime_checks.Check.{Check}
 use Rattle.ckc_base.specs.declared.runtime_checks.Check.TheVariants.{Null, Bounds, Terminator, Arith, Divide, Cast, Dynamic, Depth}

@@ -1,3 +1,4 @@
+-- What it is that one program follows another.
 use Rattle.std.specs.Prelude.{◌≡◌, ◌≢◌, ◌⊎◌, ℕ, ◌+◌, ◌*◌, ◌≤◌, List, ◌++◌}
 use Rattle.ckc_base.specs.Traces.{Standing, Going, Ended, Stopped, Stuck, Fault, Showing}
 

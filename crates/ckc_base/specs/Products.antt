@@ -1,3 +1,4 @@
+-- The upper word of a product.
 use Rattle.std.specs.Prelude.{ℕ, ◌*◌, ◌/◌, ◌^◌, Bool, if◌then◌else◌, ◌*ℤ◌}
 use Rattle.std.specs.Int.{int_shr}
 use Rattle.ckc_base.specs.Words.{signed, word_of}

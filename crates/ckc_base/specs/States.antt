@@ -1,3 +1,4 @@
+-- The state of a transition system after so many counted steps.
 use Rattle.std.specs.Prelude.{◌≡◌, ℕ, zero, suc, ◌+◌, List}
 use Rattle.ckc_base.specs.Steps.{Move, Goes, Halts, System}
 use Rattle.ckc_base.specs.Matching.{Stretch}

@@ -1,3 +1,4 @@
+-- Transition systems, and what they show after so many counted steps.
 use Rattle.std.specs.Prelude.{ℕ, zero, suc, List, [], ◌++◌}
 use Rattle.ckc_base.specs.Traces.{Standing, Going, Showing}
 

@@ -1,3 +1,4 @@
+-- What a run shows: events of input and output, and how it stands.
 use Rattle.std.specs.Prelude.{ℕ, List, [], ◌∷◌, Option}
 use Rattle.std.specs.List.{flat_map}
 use Rattle.ckc_base.specs.declared.places.Pos.{Pos}

@@ -1,3 +1,4 @@
+-- Words of 32 bits, their signed view, and the operations on them.
 use Rattle.std.specs.Prelude.{ℕ, ◌+◌, ◌-◌, ◌*◌, ◌/◌, ◌%◌, ◌^◌, ◌==◌, nat_lt, int_lt, Bool, not, if◌then◌else◌, ℤ, int_div, int_rem, bit_and, bit_or, bit_xor}
 use Rattle.std.specs.Int.{w32, cast_signed, cast_unsigned, int_shr}
 use Rattle.ckc_base.specs.declared.arithmetic.BinOp.{BinOp}

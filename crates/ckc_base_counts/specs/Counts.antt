@@ -1,3 +1,4 @@
+-- Counts that stand still at the end of their type.
 use Rattle.std.specs.Prelude.{◌≡◌, ◌⊎◌, ℕ, ◌+◌, ◌-◌, ◌^◌, ◌<◌, min}
 
 -- A count rose in a call where it is greater than before the call, or stands at its last value.
