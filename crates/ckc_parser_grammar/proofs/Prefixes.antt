@@ -8,7 +8,7 @@ use Rattle.ckc_parser_grammar.specs.Derives.{Sign, before, Derives}
 use Rattle.ckc_parser_grammar.specs.Derives as D
 use Rattle.ckc_parser_grammar.specs.code.Reading.{kind_of, pick, Takes, Stops}
 use Rattle.ckc_parser_grammar.specs.code.Reading as T
-use Rattle.ckc_parser_grammar.proofs.Tables.{plain, plain_all, opens, and_true, and_both, allowed_owed, pick_left, opens_owed, fits_here}
+use Rattle.ckc_parser_grammar.proofs.Tables.{of_fits, plain, plain_all, opens, and_true, and_both, allowed_owed, pick_left, opens_owed, fits_here}
 use Rattle.ckc_parser_grammar.proofs.Theory.{kind_before, or_left, read_of}
 use Rattle.ckc_parser_grammar.proofs.Samples.{sample, Fill, Real, real_both, map_both, fill_stack, fill_part}
 
@@ -103,7 +103,7 @@ begun_of (T.miss {c = c} {ss = ss} {a = a} f e) op k h =
     filled e (fill_stack (t c ∷ ss) (and_both (plain (t c)) (plain_all ss) (missed c (kind_of a) both.0 f) both.1) k h)
 begun_of (T.next {c = c} {ss = ss} {x = x} {a = a} f d) op k h =
     let s = begun_of d (plain_opens ss (kind_of a) (and_true (plain (t c) || fits c x.kind) (plain_all ss) op).1) k h in
-    record { front = x ∷ s.front; whole = ap (λ z. x ∷ z) s.whole; cs = s.cs; real = s.real; values = token x.token ∷ s.values; derived = D.read f s.derived; clear = λ e. absurd (cc) }
+    record { front = x ∷ s.front; whole = ap (λ z. x ∷ z) s.whole; cs = s.cs; real = s.real; values = token x.token ∷ s.values; derived = D.read (of_fits c x.kind f) s.derived; clear = λ e. absurd (cc) }
 begun_of (T.none {p = p} {ss = ss} f e) op k h = filled e (fill_part p ss (fill_stack ss op) k h)
 begun_of (T.inner {p = p} {ss = ss} {a = a} r pk d) op k h =
     let l = pick_left p (kind_of a) r pk in

@@ -93,7 +93,7 @@ fill_nil k h = record { cs = []; real = λ x. refl; values = []; derived = D.nil
 fill_read : (c : Terminal) (ss : List Symbol) → plain (t c) ≡ true → FillAll ss → FillAll (t c ∷ ss)
 fill_read c ss p rest k h =
     let f = rest k h in
-    record { cs = c ∷ f.cs; real = real_read c f.cs (spelled_of c p) f.real; values = token (sample c).token ∷ f.values; derived = D.read (of_fits (sample_fits c)) f.derived; clear = sample_open c p }
+    record { cs = c ∷ f.cs; real = real_read c f.cs (spelled_of c p) f.real; values = token (sample c).token ∷ f.values; derived = D.read (of_fits c (sample c).kind (sample_fits c)) f.derived; clear = sample_open c p }
 
 fill_by : (r : Rule) (ss : List Symbol) → FillAll (right r) → FillAll ss → FillAll (n (left r) ∷ ss)
 fill_by r ss inner rest k h =

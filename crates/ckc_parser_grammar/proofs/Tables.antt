@@ -192,22 +192,22 @@ pub is_number : (c : Kind) → (number c == number c) ≡ true
 is_number c = grind (arith, nat_tests)
 
 -- a token may stand for a terminal exactly where the parser's test says so
-pub fits_of : {x : Terminal} {c : Kind} → Fits x c → fits x c ≡ true
-fits_of {x = one k} {c = c} h = subst (λ d. (number k == number d) ≡ true) (sym h) (is_number k)
-fits_of {x = name} h = h
-fits_of {x = greater} h = h
-fits_of {x = sign} h = h
-fits_of {x = operator} h = h
-fits_of {x = literal} h = h
-fits_of {x = name_but_calloc} h = h
-fits_of {x = name_but_unknown} h = h
+pub fits_of : (x : Terminal) (c : Kind) → Fits x c → fits x c ≡ true
+fits_of (one k) c h = subst (λ d. (number k == number d) ≡ true) (sym h) (is_number k)
+fits_of name c h = h
+fits_of greater c h = h
+fits_of sign c h = h
+fits_of operator c h = h
+fits_of literal c h = h
+fits_of name_but_calloc c h = h
+fits_of name_but_unknown c h = h
 
-pub of_fits : {x : Terminal} {c : Kind} → fits x c ≡ true → Fits x c
-of_fits {x = one k} {c = c} h = sym (same_kind k c h)
-of_fits {x = name} h = h
-of_fits {x = greater} h = h
-of_fits {x = sign} h = h
-of_fits {x = operator} h = h
-of_fits {x = literal} h = h
-of_fits {x = name_but_calloc} h = h
-of_fits {x = name_but_unknown} h = h
+pub of_fits : (x : Terminal) (c : Kind) → fits x c ≡ true → Fits x c
+of_fits (one k) c h = sym (same_kind k c h)
+of_fits name c h = h
+of_fits greater c h = h
+of_fits sign c h = h
+of_fits operator c h = h
+of_fits literal c h = h
+of_fits name_but_calloc c h = h
+of_fits name_but_unknown c h = h

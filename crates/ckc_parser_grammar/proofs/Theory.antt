@@ -33,7 +33,7 @@ empty_of (D.by r (u ∷ us) ys ws l d al mk d2 split) e = absurd (cc)
 
 first_of : {ss : List Symbol} {zs : List Sign} {c : Kind} {vs : List Value} → Derives ss zs c vs → (x : Sign) (xs : List Sign) → zs ≡ x ∷ xs → begin_all ss x.kind ≡ true
 first_of D.nil x xs e = absurd (cc)
-first_of (D.read {c = c} {x = y} {xs = ys} f d) x xs e = let h : y ≡ x = cc in subst (λ z. fits c z.kind ≡ true) h (fits_of f)
+first_of (D.read {c = c} {x = y} {xs = ys} f d) x xs e = let h : y ≡ x = cc in subst (λ z. fits c z.kind ≡ true) h (fits_of c y.kind f)
 first_of (D.by {p = p} {next = c} r [] ys ws l d al mk d2 split) x xs e =
     or_right _ _ (and_both _ _ (subst (λ q. empty q ≡ true) l (empty_owed r c (empty_of d refl)).0) (first_of d2 x xs (split ∙ e)))
 first_of (D.by {p = p} r (u ∷ us) ys ws l d al mk d2 split) x xs e =
@@ -56,7 +56,7 @@ chosen_by p r (u ∷ us) more ws l fol d al =
 pub complete : {ss : List Symbol} {xs : List Sign} {c : Kind} {vs : List Value} → Derives ss xs c vs → (ys : List Sign) → kind_of ys ≡ c →
     room ss c ≡ true → ((k : Kind) → joins ss k ≡ true) → Takes ss (xs ++ ys) vs ys
 complete D.nil ys k rm j = T.done refl
-complete (D.read f d) ys k rm j = T.read (fits_of f) (complete d ys k rm j)
+complete (D.read {c = c} {x = x} f d) ys k rm j = T.read (fits_of c x.kind f) (complete d ys k rm j)
 complete (D.by {p = p} {ss = ss} {zs = zs} {next = c} {u = u} {vs = vs} r us rest ws l d al mk d2 split) ys k rm j =
     let more = rest ++ ys in
     let km : kind_of more ≡ before rest c = kind_before rest ys ∙ ap (λ q. before rest q) k in
@@ -77,9 +77,9 @@ pub record Read (ss : List Symbol) (a : List Sign) (vs : List Value) (b : List S
 
 pub read_of : {ss : List Symbol} {a : List Sign} {vs : List Value} {b : List Sign} → Takes ss a vs b → Read ss a vs b
 read_of (T.done e) = record { front = []; whole = e; derived = D.nil; moved = λ other h. T.done refl }
-read_of (T.read {x = x} f d) =
+read_of (T.read {c = c} {x = x} f d) =
     let s = read_of d in
-    record { front = x ∷ s.front; whole = ap (λ z. x ∷ z) s.whole; derived = D.read (of_fits f) s.derived; moved = λ other h. T.read f (s.moved other h) }
+    record { front = x ∷ s.front; whole = ap (λ z. x ∷ z) s.whole; derived = D.read (of_fits c x.kind f) s.derived; moved = λ other h. T.read f (s.moved other h) }
 read_of (T.by {p = p} {ss = ss} {a = a} {b = b} {u = u} {vs = vs} r m ws pk d al mk d2) =
     let s = read_of d in
     let q = read_of d2 in
