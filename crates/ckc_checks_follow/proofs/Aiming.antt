@@ -4,7 +4,6 @@ use Rattle.std.specs.Prelude.{Bool, true, false, if◌then◌else◌, Option, So
 use Rattle.ckc_base.specs.declared.places.Pos.{Pos}
 use Rattle.ckc_base.specs.Actions.{World}
 use Rattle.ckc_base.specs.Activations.{Values}
-use Rattle.ckc_base.proofs.Runs.{no_step}
 use Rattle.ckc_source.specs.declared.outcome.Range.{Range}
 use Rattle.ckc_source.specs.declared.outcome.Halt.TheVariants.{Stuck}
 use Rattle.ckc_source.specs.declared.outcome.Place.{Place}
@@ -17,7 +16,8 @@ use Rattle.ckc_core.specs.Code.{Code, Function}
 use Rattle.ckc_core.specs.Meaning.{Rest, Caller, value_of}
 use Rattle.ckc_checks_operands.specs.Compilable.{IsCompilableTarget}
 use Rattle.ckc_checks.specs.code.Inserted.{marked, reached_place, aim_code, target_count}
-use Rattle.ckc_checks_follow.proofs.Running.{machine, at}
+use Rattle.ckc_checks_follow.proofs.Paths.{no_quiet}
+use Rattle.ckc_checks_follow.proofs.Running.{at}
 use Rattle.ckc_checks_follow.proofs.Values.{Agree, Sees}
 use Rattle.ckc_checks_follow.proofs.Coming.{Below, Comes}
 use Rattle.ckc_checks_follow.proofs.Exprs.{reach_ended}
@@ -45,9 +45,9 @@ module _ (functions : List Function) (callers : List Caller) (world : World) whe
     pub aim_comes : (target : source.Target) (t : ℕ) (more : Code) (rest : Rest) (l : Values) → n ≤ t → IsCompilableTarget n target → Agree n s.locals l
         → Comes functions callers world 0 (aim_steps target t) (at callers world (aim_code target t more) rest l) (aimed s target) more rest (Aimed target t l)
     aim_comes source.Nothing t more rest l le h agree =
-        (0, at callers world more rest l, omega arith, omega arith, no_step (machine functions) (at callers world more rest l), (l, refl, ((λ x less. refl), refl)))
+        (0, at callers world more rest l, omega arith, omega arith, no_quiet functions (at callers world more rest l), (l, refl, ((λ x less. refl), refl)))
     aim_comes (source.Variable x width) t more rest l le h agree =
-        (0, at callers world more rest l, omega arith, omega arith, no_step (machine functions) (at callers world more rest l), (l, refl, ((λ x less. refl), refl)))
+        (0, at callers world more rest l, omega arith, omega arith, no_quiet functions (at callers world more rest l), (l, refl, ((λ x less. refl), refl)))
     aim_comes (source.Memory width access p i) t more rest l le h agree =
         let last = marked access.through p t more in
         let pointer = h.1 in

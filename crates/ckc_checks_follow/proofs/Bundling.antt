@@ -1,16 +1,14 @@
 -- A bundle finds all its places and values, and then all of them are written.
 use Rattle.std.proofs.Common.{◌≡◌, inr, ℕ, ◌^◌, ◌+◌, ◌*◌, ◌≤◌, ◌<◌, List, [], ◌∷◌, ◌++◌, length, refl, sym, ◌∙◌, ap, subst, arith}
 use Rattle.std.specs.Prelude.{Bool, true, false, if◌then◌else◌, slice_set, Option, Some, None, Result, Ok, Err, All}
-use Rattle.std.proofs.lemmas.List.Elements.{All-head, All-tail}
+use Rattle.std.proofs.lemmas.List.Elements.{All-nil, All-cons, All-head, All-tail}
 use Rattle.ckc_base.specs.declared.places.Pos.{Pos}
 use Rattle.ckc_base.specs.declared.arithmetic.Width.TheVariants.{Word}
 use Rattle.ckc_base.specs.Traces as standing
-use Rattle.ckc_base.specs.LongEvents.{Stored}
-use Rattle.ckc_base.specs.Matching.{Stretch}
+use Rattle.ckc_base.specs.LongEvents.{LongEvent, Stored}
 use Rattle.ckc_base.specs.Memory.{kept_part, value_at, memory_with, with_bytes, width_bytes, data_start, heap_has_room, next_place}
 use Rattle.ckc_base.specs.Actions.{World, Gives, with_value, allocates, allocates_at, allocates_in}
 use Rattle.ckc_base.specs.Activations.{Values, with_written}
-use Rattle.ckc_base.proofs.Runs.{no_step, then_stretch, then_closes}
 use Rattle.ckc_source.specs.declared.expr.Pointee.{Pointee}
 use Rattle.ckc_source.specs.declared.program.Shape.{Shape}
 use Rattle.ckc_source.specs.declared.outcome.Value.{Value}
@@ -30,7 +28,8 @@ use Rattle.ckc_core.specs.Meaning as C
 use Rattle.ckc_checks_operands.specs.Compilable.{target_nodes, right_nodes, assigns_nodes, expr_nodes, IsCompilableExpr, IsCompilableTarget, IsCompilableRight, IsCompilableAssign, IsCompilableFunction}
 use Rattle.ckc_checks_operands.specs.Operands.{kept_in, operand}
 use Rattle.ckc_checks.specs.code.Inserted.{reached_place, expr_code, aim_code, target_count, guarded, fixed, allowed_code, taken, written_there, valued, planned_code, behind_planned, plans_code, writes_code, bundle_code, statements}
-use Rattle.ckc_checks_follow.proofs.Running.{machine, Runs, then_runs, at, by_set, step_by}
+use Rattle.ckc_checks_follow.proofs.Paths.{Quiet, no_quiet, then_quiet, then_quiet_ends, quiet_by, Path, path_by, IsQuiet, no_path}
+use Rattle.ckc_checks_follow.proofs.Running.{Runs, then_runs, at, by_set}
 use Rattle.ckc_checks_follow.proofs.Flat.{allocated_same, stored_same}
 use Rattle.ckc_checks_follow.proofs.Values.{Sees, word_seen}
 use Rattle.ckc_checks_follow.proofs.Bounded.{GivesWord}
@@ -41,7 +40,7 @@ use Rattle.ckc_checks_follow.proofs.Aiming.{IsAt, Aimed, aim_steps, aim_comes}
 use Rattle.ckc_checks_follow.proofs.Exprs.{expr_comes, operand_comes}
 use Rattle.ckc_checks_follow.proofs.Relation.{Stands}
 use Rattle.ckc_checks_follow.proofs.Guarding.{check_steps, guard_few, check_few, IsMarked, marked_later, kept_value, kept_nodes, allows_any, guard_runs}
-use Rattle.ckc_checks_follow.proofs.Writing.{Written, same_state, then_comes_to, longer_written, written_other, set_local, store_step, kept_small}
+use Rattle.ckc_checks_follow.proofs.Writing.{Permits, PermitsAll, quiet, Written, same_state, then_comes_to, longer_written, written_other, set_local, store_step, kept_small}
 use Rattle.ckc_checks_follow.proofs.Acting.{core_of, Meets, IsReady, ready_below}
 
 -- ---- running on
@@ -49,11 +48,11 @@ use Rattle.ckc_checks_follow.proofs.Acting.{core_of, Meets, IsReady, ready_below
 module _ (functions : List Function) where
   -- what comes of an evaluation goes on for a few steps
   last_runs : {A : Type 0} (a b m n k : ℕ) (s : C.State) (x : Result A Halt) (Q : A → C.State → Type 0) (R : A → C.State → Type 0) → m + n ≤ k → Runs functions a m s x Q
-      → ((v : A) (u : C.State) → Q v u → (count : ℕ) × (w : C.State) × (b ≤ count) × (count ≤ n) × Stretch (machine functions) count [] u w × R v w)
+      → ((v : A) (u : C.State) → Q v u → (count : ℕ) × (w : C.State) × (b ≤ count) × (count ≤ n) × Quiet functions count u w × R v w)
       → Runs functions (a + b) k s x R
   last_runs a b m n k s (Ok v) Q R few r next =
       let q = next v r.1 r.5 in
-      (r.0 + q.0, q.1, omega (arith, r.2, q.2), omega (arith, r.3, q.3), then_stretch (machine functions) r.0 q.0 [] [] s r.1 q.1 r.4 q.4, q.5)
+      (r.0 + q.0, q.1, omega (arith, r.2, q.2), omega (arith, r.3, q.3), then_quiet functions r.0 q.0 s r.1 q.1 r.4 q.4, q.5)
   last_runs a b m n k s (Err (Stopped why place)) Q R few r next = (r.0, omega (arith, r.1), r.2)
   last_runs a b m n k s (Err Stuck) Q R few r next = tt
 
@@ -66,11 +65,11 @@ module _ (functions : List Function) where
 
   -- a stretch in front that is as long as is asked
   longer_runs : {A : Type 0} (count least n k : ℕ) (s u : C.State) (x : Result A Halt) (Q : A → C.State → Type 0) → count + n ≤ k → least ≤ count
-      → Stretch (machine functions) count [] s u → Runs functions 0 n u x Q → Runs functions least k s x Q
+      → Quiet functions count s u → Runs functions 0 n u x Q → Runs functions least k s x Q
   longer_runs count least n k s u (Ok v) Q few some path r =
-      (count + r.0, r.1, omega arith, omega (arith, r.3), then_stretch (machine functions) count r.0 [] [] s u r.1 path r.4, r.5)
+      (count + r.0, r.1, omega arith, omega (arith, r.3), then_quiet functions count r.0 s u r.1 path r.4, r.5)
   longer_runs count least n k s u (Err (Stopped why place)) Q few some path r =
-      (count + r.0, omega (arith, r.1), then_closes (machine functions) count r.0 [] [] s u (standing.Stopped why place) path r.2)
+      (count + r.0, omega (arith, r.1), then_quiet_ends functions count r.0 s u (standing.Stopped why place) path r.2)
   longer_runs count least n k s u (Err Stuck) Q few some path r = tt
 
   -- one evaluation that is as long as is asked, and then another
@@ -122,7 +121,7 @@ bundle_moves shapes s assigns = by (planned shapes s assigns)
     by (Ok plan) = refl
     by (Err h) = refl
 
-module _ (p : source.Program) (all : All (IsCompilableFunction p.functions) p.functions) (work : List Work) (looped : Bool) (ds : List C.Caller) (rest : C.Rest) (code : source.Code) where
+module _ (p : source.Program) (all : All (IsCompilableFunction p.functions) p.functions) (may : LongEvent → Type 0) (heap : (e : LongEvent) → IsQuiet e → may e) (work : List Work) (looped : Bool) (ds : List C.Caller) (rest : C.Rest) (code : source.Code) where
   abbrev core : List Function
   core = core_of p
 
@@ -134,7 +133,7 @@ module _ (p : source.Program) (all : All (IsCompilableFunction p.functions) p.fu
   in_memory s blocks next = record s { blocks = blocks; next = next }
 
   abbrev IsReadyAt : S.State → World → Values → Type 0
-  IsReadyAt s world l = IsReady p all s work looped ds world rest l
+  IsReadyAt s world l = IsReady p all may heap s work looped ds world rest l
 
   -- The place of a target is in the temporary t. The mark is behind it.
   abbrev IsPlaced : source.Target → ℕ → Values → Place → Type 0
@@ -220,16 +219,16 @@ module _ (p : source.Program) (all : All (IsCompilableFunction p.functions) p.fu
     sees = record { next = s.next; same = r.outside.memory; small = λ x h. r.small x }
 
     ready_at : (t : ℕ) (after : Values) → n ≤ t → Below t after l → IsReadyAt s world after
-    ready_at t after le below = ready_below p all s work looped ds world rest l after r (λ x less. below x (omega arith))
+    ready_at t after le below = ready_below p all may heap s work looped ds world rest l after r (λ x less. below x (omega arith))
 
     -- ---- places
 
     fixes : (target : source.Target) (t : ℕ) (more : Code) (before after : Values) (to : Place) → n ≤ t → IsReadyAt s world after → Below t after before → IsAt core ds world target t after to
-        → (count : ℕ) × (w : C.State) × (0 ≤ count) × (count ≤ fixed_steps target t) × Stretch (machine core) count [] (here (fixed target t more) after) w × Placed s world target t before more to w
+        → (count : ℕ) × (w : C.State) × (0 ≤ count) × (count ≤ fixed_steps target t) × Quiet core count (here (fixed target t more) after) w × Placed s world target t before more to w
     fixes source.Nothing t more before after to le ready below is =
-        (0, here more after, omega arith, omega arith, no_step (machine core) (here more after), record { after = after; is = refl; ready = ready; there = is; below = below })
+        (0, here more after, omega arith, omega arith, no_quiet core (here more after), record { after = after; is = refl; ready = ready; there = is; below = below })
     fixes (source.Variable x width) t more before after to le ready below is =
-        (0, here more after, omega arith, omega arith, no_step (machine core) (here more after), record { after = after; is = refl; ready = ready; there = is; below = below })
+        (0, here more after, omega arith, omega arith, no_quiet core (here more after), record { after = after; is = refl; ready = ready; there = is; below = below })
     fixes (source.Memory width access a i) t more before after to le ready below is =
         let d = reached_place access a i t in
         let last = with_written after t is.0 in (
@@ -241,7 +240,7 @@ module _ (p : source.Program) (all : All (IsCompilableFunction p.functions) p.fu
           record {
             after = last;
             is = refl;
-            ready = ready_below p all s work looped ds world rest after last ready (λ x less. written_below after t is.0 x (omega arith));
+            ready = ready_below p all may heap s work looped ds world rest after last ready (λ x less. written_below after t is.0 x (omega arith));
             there = (
               is.0,
               is.1,
@@ -261,7 +260,7 @@ module _ (p : source.Program) (all : All (IsCompilableFunction p.functions) p.fu
         (λ to u. (after : Values) × (u ≡ here (fixed target t more) after) × Aimed core ds world target t l to after) (Placed s world target t l more) (omega arith)
         (aim_comes core ds world n st sees target t (fixed target t more) rest l le h r.agree)
         (λ to u q.
-        subst (λ u. (count : ℕ) × (w : C.State) × (0 ≤ count) × (count ≤ fixed_steps target t) × Stretch (machine core) count [] u w × Placed s world target t l more to w) (sym q.1)
+        subst (λ u. (count : ℕ) × (w : C.State) × (0 ≤ count) × (count ≤ fixed_steps target t) × Quiet core count u w × Placed s world target t l more to w) (sym q.1)
         (fixes target t more l q.0 to le (ready_at t q.0 le q.2.0) q.2.0 q.2.1))
 
     -- ---- values
@@ -280,7 +279,7 @@ module _ (p : source.Program) (all : All (IsCompilableFunction p.functions) p.fu
           w,
           omega arith,
           omega arith,
-          no_step (machine core) w,
+          no_quiet core w,
           record {
             blocks = s.blocks;
             next = s.next;
@@ -304,12 +303,12 @@ module _ (p : source.Program) (all : All (IsCompilableFunction p.functions) p.fu
 
     -- a block is taken in both, or there is no room in both
     alloc_draws : (u number : ℕ) (pointee : Pointee) (e : Expr) (more : Code) (before after : Values) → n ≤ u → IsReadyAt s world after → Below u after before → value_of after world.memory e ≡ Some number
-        → (count : ℕ) × (w : C.State) × (1 ≤ count) × (count ≤ nodes e + 1) × Stretch (machine core) count [] (here (Alloc u e pointee.size more) after) w
+        → (count : ℕ) × (w : C.State) × (1 ≤ count) × (count ≤ nodes e + 1) × Quiet core count (here (Alloc u e pointee.size more) after) w
         × Draws s u before more (allocated (then_code s) pointee number) w
     alloc_draws u number pointee e more before after le ready below value = by (heap_has_room s.next number pointee.size) refl
       where
         by : (room : Bool) → heap_has_room s.next number pointee.size ≡ room
-            → (count : ℕ) × (w : C.State) × (1 ≤ count) × (count ≤ nodes e + 1) × Stretch (machine core) count [] (here (Alloc u e pointee.size more) after) w
+            → (count : ℕ) × (w : C.State) × (1 ≤ count) × (count ≤ nodes e + 1) × Quiet core count (here (Alloc u e pointee.size more) after) w
             × Draws s u before more (if room then record { number = s.next; state = record (then_code s) { blocks = s.blocks ++ fresh pointee s.next number ∷ []; next = next_place s.next number pointee.size } }
             else record { number = 0; state = then_code s }) w
         by true room =
@@ -322,8 +321,9 @@ module _ (p : source.Program) (all : All (IsCompilableFunction p.functions) p.fu
               at ds world2 more rest last,
               omega arith,
               omega arith,
-              step_by core (Stored data_start Word later ∷ []) now (at ds world2 more rest last)
-                  (goes ∙ ap (λ b. goes_by now more (if b then allocates_in world u s.next later (memory_with Word world.memory data_start later) else Gives [] u 0 world)) room),
+              path_by core IsQuiet (Stored data_start Word later ∷ []) now (at ds world2 more rest last)
+                  (goes ∙ ap (λ b. goes_by now more (if b then allocates_in world u s.next later (memory_with Word world.memory data_start later) else Gives [] u 0 world)) room)
+                  (All-cons IsQuiet (Stored data_start Word later) [] (refl, refl) (All-nil IsQuiet)) refl,
               record {
                 blocks = s.blocks ++ fresh pointee s.next number ∷ [];
                 next = later;
@@ -353,8 +353,8 @@ module _ (p : source.Program) (all : All (IsCompilableFunction p.functions) p.fu
               here more last,
               omega arith,
               omega arith,
-              step_by core [] now (here more last)
-                  (goes ∙ ap (λ b. goes_by now more (if b then allocates_in world u s.next later (memory_with Word world.memory data_start later) else Gives [] u 0 world)) room),
+              quiet_by core now (here more last)
+                  (goes ∙ ap (λ b. goes_by now more (if b then allocates_in world u s.next later (memory_with Word world.memory data_start later) else Gives [] u 0 world)) room) refl,
               record {
                 blocks = s.blocks;
                 next = s.next;
@@ -362,7 +362,7 @@ module _ (p : source.Program) (all : All (IsCompilableFunction p.functions) p.fu
                 after = last;
                 is = refl;
                 state = refl;
-                ready = ready_below p all s work looped ds world rest after last ready (λ x less. written_below after u 0 x (omega arith));
+                ready = ready_below p all may heap s work looped ds world rest after last ready (λ x less. written_below after u 0 x (omega arith));
                 value = written_same after u 0;
                 small = omega arith;
                 below = λ x less. written_below after u 0 x less ∙ below x less;
@@ -381,7 +381,7 @@ module _ (p : source.Program) (all : All (IsCompilableFunction p.functions) p.fu
         (λ v w. Draws s u l more (allocated (then_code s) pointee v.number) w) (omega (arith, operand_nodes e u))
         (operand_comes core ds world n st sees e u last rest l le h r.agree)
         (λ v w got.
-        subst (λ w. (count : ℕ) × (x : C.State) × (1 ≤ count) × (count ≤ nodes q + 1) × Stretch (machine core) count [] w x × Draws s u l more (allocated (then_code s) pointee v.number) x) (sym got.1)
+        subst (λ w. (count : ℕ) × (x : C.State) × (1 ≤ count) × (count ≤ nodes q + 1) × Quiet core count w x × Draws s u l more (allocated (then_code s) pointee v.number) x) (sym got.1)
         (alloc_draws u v.number pointee q more l got.0 le (ready_at u got.0 le got.2.0) got.2.0 (got.2.1 got.0 (λ x less. refl)))))
 
     draws : (right : source.Right) (u : ℕ) (more : Code) → n ≤ u → IsCompilableRight n right
@@ -443,7 +443,7 @@ module _ (p : source.Program) (all : All (IsCompilableFunction p.functions) p.fu
         w,
         omega arith,
         omega arith,
-        no_step (machine core) w,
+        no_quiet core w,
         record {
           blocks = got.blocks;
           next = got.next;
@@ -470,8 +470,8 @@ module _ (p : source.Program) (all : All (IsCompilableFunction p.functions) p.fu
     at ds world more rest l,
     omega arith,
     omega arith,
-    no_step (machine core) (at ds world more rest l),
-    record { blocks = s.blocks; next = s.next; world = world; after = l; is = refl; state = refl; ready = ready_below p all s work looped ds world rest l l r (λ x less. refl); there = tt; below = λ x less. refl },
+    no_quiet core (at ds world more rest l),
+    record { blocks = s.blocks; next = s.next; world = world; after = l; is = refl; state = refl; ready = ready_below p all may heap s work looped ds world rest l l r (λ x less. refl); there = tt; below = λ x less. refl },
   )
   plans_runs (a ∷ assigns) t more s world l r le h =
       let fit = IsCompilableAssign s.frame.function.locals in
@@ -482,8 +482,8 @@ module _ (p : source.Program) (all : All (IsCompilableFunction p.functions) p.fu
 
   -- ---- writes
 
-  first_written : (c m k : ℕ) (u w : C.State) (x : Result S.State Halt) → c + m ≤ k → Stretch (machine core) c [] u w → Written p.functions core 0 m w x → Written p.functions core 0 k u x
-  first_written c m k u w x few path h = longer_written p.functions core c 0 m k u w x few (omega arith) path h
+  first_written : (c m k : ℕ) (u w : C.State) (x : Result S.State Halt) → c + m ≤ k → Path core may c [] u w → Written p.functions core may heap 0 m w x → Written p.functions core may heap 0 k u x
+  first_written c m k u w x few path h = longer_written p.functions core may heap c 0 m k u w x few (omega arith) path h
 
   -- a state with other locals and other blocks
   abbrev wrote : S.State → List ℕ → List Block → S.State
@@ -491,35 +491,35 @@ module _ (p : source.Program) (all : All (IsCompilableFunction p.functions) p.fu
 
   -- a value is written to its place in both, and then comes the rest
   written_then : (s : S.State) (world : World) (l : Values) (target : source.Target) (t : ℕ) (to : Place) (value m : ℕ) (more : Code) (f : S.State → Result S.State Halt) → IsReadyAt s world l
-      → s.frame.function.locals ≤ t → IsCompilableTarget s.frame.function.locals target → IsPlaced target t l to → l (t + target_count target) ≡ Some value → value < 2 ^ 32
+      → s.frame.function.locals ≤ t → IsCompilableTarget s.frame.function.locals target → IsPlaced target t l to → l (t + target_count target) ≡ Some value → value < 2 ^ 32 → Permits may to value
       → ((locals : List ℕ) (blocks : List Block) (world2 : World) (l2 : Values) → IsReadyAt (wrote s locals blocks) world2 l2 → ((x : ℕ) → s.frame.function.locals ≤ x → l2 x ≡ l x)
-      → Written p.functions core 0 m (at ds world2 more rest l2) (f (then_code (wrote s locals blocks))))
-      → Written p.functions core 0 (5 + m) (at ds world (written_there target t (Local (t + target_count target)) more) rest l) (given (writes to value (then_code s)) f)
-  written_then s world l source.Nothing t to value m more f r le h is v small next =
+      → Written p.functions core may heap 0 m (at ds world2 more rest l2) (f (then_code (wrote s locals blocks))))
+      → Written p.functions core may heap 0 (5 + m) (at ds world (written_there target t (Local (t + target_count target)) more) rest l) (given (writes to value (then_code s)) f)
+  written_then s world l source.Nothing t to value m more f r le h is v small permit next =
       let u = at ds world more rest l in
-      subst (λ to. Written p.functions core 0 (5 + m) u (given (writes to value (then_code s)) f)) (sym is)
-      (first_written 0 m (5 + m) u u (f (then_code s)) (omega arith) (no_step (machine core) u)
+      subst (λ to. Written p.functions core may heap 0 (5 + m) u (given (writes to value (then_code s)) f)) (sym is)
+      (first_written 0 m (5 + m) u u (f (then_code s)) (omega arith) (no_path core may u)
       (next s.frame.locals s.blocks world l (record { behind = r.behind; callers = r.callers; outside = record { memory = r.outside.memory; input = r.outside.input; bytes = r.outside.bytes }; count = r.count; agree = r.agree; small = r.small }) (λ x less. refl)))
-  written_then s world l (source.Variable x width) t to value m more f r le h is v small next =
+  written_then s world l (source.Variable x width) t to value m more f r le h is v small permit next =
       let q = Local (t + 0) in
       let k = kept_in width false q in
       let after = with_written l x (kept_part width value) in
       let now = at ds world (Set x k more) rest l in
       let ready = set_local p.functions core s work looped ds world rest l after x (kept_part width value) r h (kept_small width value small) (written_same l x (kept_part width value))
       (λ y other less. written_other l x (kept_part width value) y other) in
-      subst (λ to. Written p.functions core 0 (5 + m) now (given (writes to value (then_code s)) f)) (sym is)
+      subst (λ to. Written p.functions core may heap 0 (5 + m) now (given (writes to value (then_code s)) f)) (sym is)
       (first_written (nodes k + 1) m (5 + m) now (at ds world more rest after) (f (then_code (wrote s (slice_set s.frame.locals x (kept_part width value)) s.blocks))) (omega (arith, kept_nodes width false q))
-      (by_set core ds world x k more rest l (kept_part width value) (kept_value l world.memory width false q value v (λ b. absurd cc)))
+      (quiet p.functions core may heap (nodes k + 1) now (at ds world more rest after) (by_set core ds world x k more rest l (kept_part width value) (kept_value l world.memory width false q value v (λ b. absurd cc))))
       (next (slice_set s.frame.locals x (kept_part width value)) s.blocks world after
       (record { behind = ready.behind; callers = ready.callers; outside = record { memory = ready.outside.memory; input = ready.outside.input; bytes = ready.outside.bytes }; count = ready.count; agree = ready.agree; small = ready.small })
       (λ y more. written_other l x (kept_part width value) y (inr (omega (arith, h))))))
-  written_then s world l (source.Memory width access i j) t to value m more f r le h is v small next =
+  written_then s world l (source.Memory width access i j) t to value m more f r le h is v small permit next =
       let now = at ds world (StoreTo width (Local t) (Local (t + target_count (source.Memory width access i j))) more) rest l in
-      subst (λ to. Written p.functions core 0 (5 + m) now (given (writes to value (then_code s)) f)) (sym is.2)
+      subst (λ to. Written p.functions core may heap 0 (5 + m) now (given (writes to value (then_code s)) f)) (sym is.2)
       (by (stored width is.0 value s.blocks) refl)
     where
       by : (o : Option (List Block)) → stored width is.0 value s.blocks ≡ o
-          → Written p.functions core 0 (5 + m) (at ds world (StoreTo width (Local t) (Local (t + target_count (source.Memory width access i j))) more) rest l) (given (with_blocks (then_code s) o) f)
+          → Written p.functions core may heap 0 (5 + m) (at ds world (StoreTo width (Local t) (Local (t + target_count (source.Memory width access i j))) more) rest l) (given (with_blocks (then_code s) o) f)
       by None found = tt
       by (Some bs) found =
           let q = Local (t + target_count (source.Memory width access i j)) in
@@ -528,49 +528,50 @@ module _ (p : source.Program) (all : All (IsCompilableFunction p.functions) p.fu
           let world2 : World = record world { memory = memory } in
           let same = stored_same width is.0 value s.next s.blocks bs world.memory r.outside.memory found in
           first_written 3 m (5 + m) now (at ds world2 more rest l) (f (then_code (wrote s s.frame.locals bs))) (omega arith)
-          (store_step p.functions core ds world width is.0 value (Local t) q more rest l memory is.4 v same.0)
+          (store_step p.functions core may heap ds world width is.0 value (Local t) q more rest l memory (subst (λ to. Permits may to value) is.2 permit) is.4 v same.0)
           (next s.frame.locals bs world2 l
           (record { behind = r.behind; callers = r.callers; outside = record { memory = same.1; input = r.outside.input; bytes = r.outside.bytes }; count = r.count; agree = r.agree; small = r.small })
           (λ x less. refl))
 
   writes_runs : (assigns : List (source.Target × source.Right)) (t : ℕ) (ws : List Write) (s : S.State) (world : World) (l : Values) → IsReadyAt s world l → s.frame.function.locals ≤ t
-      → Stands p.functions s.frame.function.locals looped (length work) code → All (IsCompilableAssign s.frame.function.locals) assigns → AreThere assigns t l ws
-      → Written p.functions core 0 (5 * length assigns) (at ds world (writes_code assigns t (statements s.frame.function.locals code)) rest l) (all_written ws (then_code s))
-  writes_runs [] t [] s world l r le good h there =
+      → Stands p.functions s.frame.function.locals looped (length work) code → All (IsCompilableAssign s.frame.function.locals) assigns → AreThere assigns t l ws → PermitsAll may ws
+      → Written p.functions core may heap 0 (5 * length assigns) (at ds world (writes_code assigns t (statements s.frame.function.locals code)) rest l) (all_written ws (then_code s))
+  writes_runs [] t [] s world l r le good h there permits =
       let u = at ds world (statements s.frame.function.locals code) rest l in
-      (0, u, omega arith, omega arith, no_step (machine core) u, same_state p.functions core s work looped ds world rest l code r good)
-  writes_runs [] t (w ∷ ws) s world l r le good h there = absurd there
-  writes_runs (a ∷ assigns) t [] s world l r le good h there = absurd there
-  writes_runs (a ∷ assigns) t (w ∷ ws) s world l r le good h there =
+      (0, u, omega arith, omega arith, no_path core may u, same_state p.functions core s work looped ds world rest l code r good)
+  writes_runs [] t (w ∷ ws) s world l r le good h there permits = absurd there
+  writes_runs (a ∷ assigns) t [] s world l r le good h there permits = absurd there
+  writes_runs (a ∷ assigns) t (w ∷ ws) s world l r le good h there permits =
       let fit = IsCompilableAssign s.frame.function.locals in
       let one = All-head fit a assigns h in
       let next_place = behind_planned a.0 t in
       let more = writes_code assigns next_place (statements s.frame.function.locals code) in
-      subst (λ (k : ℕ). Written p.functions core 0 k (at ds world (written_there a.0 t (Local (t + target_count a.0)) more) rest l) (all_written (w ∷ ws) (then_code s)))
+      subst (λ (k : ℕ). Written p.functions core may heap 0 k (at ds world (written_there a.0 t (Local (t + target_count a.0)) more) rest l) (all_written (w ∷ ws) (then_code s)))
       (omega arith)
-      (written_then s world l a.0 t w.0 w.1 (5 * length assigns) more (all_written ws) r le one.0 there.0 there.1 there.2
+      (written_then s world l a.0 t w.0 w.1 (5 * length assigns) more (all_written ws) r le one.0 there.0 there.1 there.2 permits.0
       (λ locals blocks world2 l2 r2 same. writes_runs assigns next_place ws (wrote s locals blocks) world2 l2 r2 (omega arith) good (All-tail fit a assigns h)
-      (are_later assigns next_place l l2 ws there.3 (λ x more. same x (omega arith)))))
+      (are_later assigns next_place l l2 ws there.3 (λ x more. same x (omega arith))) permits.1))
 
   -- ---- bundles
 
   pub bundle_meets : (assigns : List (source.Target × source.Right)) (k : ℕ) (s : S.State) (world : World) (l : Values) → IsReadyAt s world l → 1 ≤ length assigns
       → All (IsCompilableAssign s.frame.function.locals) assigns → Stands p.functions s.frame.function.locals looped (length work) code → 14 * assigns_nodes assigns ≤ k
-      → Meets p all s (at ds world (bundle_code assigns s.frame.function.locals (statements s.frame.function.locals code)) rest l) k (comes_to [] (bundled p.shapes (then_code s) assigns))
-  bundle_meets [] k s world l r some h good few = absurd (omega arith)
-  bundle_meets (a ∷ assigns) k s world l r some h good few =
+      → ((plan : Planned) → planned p.shapes (then_code s) assigns ≡ Ok plan → PermitsAll may plan.writes)
+      → Meets p all may heap (at ds world (bundle_code assigns s.frame.function.locals (statements s.frame.function.locals code)) rest l) k (comes_to [] (bundled p.shapes (then_code s) assigns))
+  bundle_meets [] k s world l r some h good few permits = absurd (omega arith)
+  bundle_meets (a ∷ assigns) k s world l r some h good few permits =
       let fit = IsCompilableAssign s.frame.function.locals in
       let t = s.frame.function.locals in
       let next_place = behind_planned a.0 t in
       let more = writes_code (a ∷ assigns) t (statements t code) in
       let now = at ds world (plans_code (a ∷ assigns) t more) rest l in
       let writing = 5 * length (a ∷ assigns) in
-      subst (Meets p all s now k) (sym (bundle_moves p.shapes (then_code s) (a ∷ assigns)))
-      (then_comes_to p.functions core 1 0 (plan_steps (a ∷ assigns)) writing k s now (planned p.shapes (then_code s) (a ∷ assigns)) (λ plan. all_written plan.writes plan.state) (Plans s (a ∷ assigns) t l more)
+      subst (Meets p all may heap now k) (sym (bundle_moves p.shapes (then_code s) (a ∷ assigns)))
+      (then_comes_to p.functions core may heap 1 0 (plan_steps (a ∷ assigns)) writing k now (planned p.shapes (then_code s) (a ∷ assigns)) (λ plan. all_written plan.writes plan.state) (Plans s (a ∷ assigns) t l more)
       (omega (arith, bundle_few (a ∷ assigns))) (omega arith)
       (plan_runs a assigns t (plan_steps assigns) (plan_steps (a ∷ assigns)) (plans_code assigns next_place more) more s world l r (omega arith) (All-head fit a assigns h) (omega arith)
       (λ blocks next world2 l2 r2. plans_runs assigns next_place more (in_memory s blocks next) world2 l2 r2 (omega arith) (All-tail fit a assigns h)))
       (λ plan w is got.
-      subst (λ w. Written p.functions core 0 writing w (all_written plan.writes plan.state)) (sym got.is)
-      (subst (λ (x : S.State). Written p.functions core 0 writing (at ds got.world more rest got.after) (all_written plan.writes x)) (sym got.state)
-      (writes_runs (a ∷ assigns) t plan.writes (in_memory s got.blocks got.next) got.world got.after got.ready (omega arith) good h got.there))))
+      subst (λ w. Written p.functions core may heap 0 writing w (all_written plan.writes plan.state)) (sym got.is)
+      (subst (λ (x : S.State). Written p.functions core may heap 0 writing (at ds got.world more rest got.after) (all_written plan.writes x)) (sym got.state)
+      (writes_runs (a ∷ assigns) t plan.writes (in_memory s got.blocks got.next) got.world got.after got.ready (omega arith) good h got.there (permits plan is)))))

@@ -5,7 +5,6 @@ use Rattle.ckc_base.specs.declared.places.Pos.{Pos}
 use Rattle.ckc_base.specs.declared.runtime_checks.Check.TheVariants as check
 use Rattle.ckc_base.specs.Actions.{World}
 use Rattle.ckc_base.specs.Activations.{Values, with_written}
-use Rattle.ckc_base.proofs.Runs.{no_step}
 use Rattle.ckc_source.specs.declared.expr.Operation.{Operation}
 use Rattle.ckc_source.specs.declared.outcome.Range.{Range}
 use Rattle.ckc_source.specs.declared.outcome.Range.TheVariants.{Without, Within}
@@ -20,7 +19,8 @@ use Rattle.ckc_core.specs.Meaning.{Rest, State, Caller, value_of, nodes}
 use Rattle.ckc_checks_operands.specs.Compilable.{IsCompilableExpr, HasRange, expr_nodes}
 use Rattle.ckc_checks_operands.specs.Operands.{is_direct, operated, held, keeps_index, direct}
 use Rattle.ckc_checks.specs.code.Inserted.{put_if, value_code, expr_code}
-use Rattle.ckc_checks_follow.proofs.Running.{machine, Runs, first_runs, later_runs, then_runs, at, by_set, by_pass, by_fail}
+use Rattle.ckc_checks_follow.proofs.Paths.{no_quiet}
+use Rattle.ckc_checks_follow.proofs.Running.{Runs, first_runs, later_runs, then_runs, at, by_set, by_pass, by_fail}
 use Rattle.ckc_checks_follow.proofs.Bounded.{GivesWord}
 use Rattle.ckc_checks_follow.proofs.Values.{IsValue, operated_value, Agree, Sees, word_seen, direct_value}
 use Rattle.ckc_checks_follow.proofs.Counts.{written_same, written_below, some_node, direct_nodes, value_steps, expr_steps, held_steps, operand_steps, index_steps}
@@ -155,7 +155,7 @@ module _ (functions : List Function) (callers : List Caller) (world : World) whe
         → ((later : Values) → Below (t + 1) later l → IsValue r (value_of later world.memory (direct e))) → GivesWord r
         → Comes 0 most (at callers world more rest l) r more rest (Held (direct e) t l)
     here e t most more rest l (Ok v) h word =
-        (0, at callers world more rest l, omega arith, omega arith, no_step (machine functions) (at callers world more rest l), (l, refl, ((λ x less. refl), h, word)))
+        (0, at callers world more rest l, omega arith, omega arith, no_quiet functions (at callers world more rest l), (l, refl, ((λ x less. refl), h, word)))
     here e t most more rest l (Err Stuck) h word = tt
     here e t most more rest l (Err (Stopped why place)) h word = absurd (h l (λ x less. refl))
 

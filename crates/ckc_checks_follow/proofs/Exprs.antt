@@ -6,7 +6,6 @@ use Rattle.std.specs.Prelude.{All, length, option_and_then, Bool, true, false, �
 use Rattle.ckc_base.specs.declared.places.Pos.{Pos}
 use Rattle.ckc_base.specs.Actions.{World}
 use Rattle.ckc_base.specs.Activations.{Values}
-use Rattle.ckc_base.proofs.Runs.{no_step}
 use Rattle.ckc_source.specs.declared.expr.Access.{Access}
 use Rattle.ckc_source.specs.declared.expr.Limits.{Limits}
 use Rattle.ckc_source.specs.declared.expr.Integer.{Integer}
@@ -21,7 +20,8 @@ use Rattle.ckc_core.specs.Meaning.{Rest, State, Caller, value_of, values_of, nod
 use Rattle.ckc_checks_operands.specs.Compilable.{IsAccess, IsCompilableExpr, IsCompilablePart, IsCast, index_nodes, value_nodes, expr_nodes, exprs_nodes}
 use Rattle.ckc_checks_operands.specs.Operands.{held, keeps_index, is_one, is_single, casts_one, operand}
 use Rattle.ckc_checks.specs.code.Inserted.{put_if, tested_code, no_range, value_code, access_code, expr_code, operand_code, operands_code, operands}
-use Rattle.ckc_checks_follow.proofs.Running.{machine, at}
+use Rattle.ckc_checks_follow.proofs.Paths.{no_quiet}
+use Rattle.ckc_checks_follow.proofs.Running.{at}
 use Rattle.ckc_checks_follow.proofs.Bounded.{AreSmall, small_cons}
 use Rattle.ckc_checks_follow.proofs.Single.{behind_one, tested_gives}
 use Rattle.ckc_checks_follow.proofs.Values.{Agree, Sees}
@@ -224,7 +224,7 @@ module _ (functions : List Function) (callers : List Caller) (world : World) whe
       at callers world more rest l,
       omega arith,
       omega arith,
-      no_step (machine functions) (at callers world more rest l),
+      no_quiet functions (at callers world more rest l),
       (l, refl, ((λ x less. refl), (λ later same. refl), refl, (λ i. omega arith))),
     )
     operands_comes (e ∷ es) t more rest l le h agree =
@@ -245,7 +245,7 @@ module _ (functions : List Function) (callers : List Caller) (world : World) whe
           at callers world more rest l2,
           omega arith,
           omega arith,
-          no_step (machine functions) (at callers world more rest l2),
+          no_quiet functions (at callers world more rest l2),
           (
             l2,
             refl,

@@ -1,6 +1,6 @@
 -- The blocks of the source stand in the flat memory of core code.
-use Rattle.std.proofs.Common.{◌≡◌, inr, ℕ, zero, suc, ◌+◌, ◌*◌, ◌/◌, ◌%◌, ◌^◌, ◌≤◌, ◌<◌, ◌==◌, List, [], ◌∷◌, ◌++◌, length, refl, sym, ◌∙◌, ap, subst, arith, mul_comm, le_refl}
-use Rattle.std.specs.Prelude.{Bool, true, false, ◌&&◌, if◌then◌else◌, nat_lt, nat_le, map, Option, Some, None, option_and_then}
+use Rattle.std.proofs.Common.{◌≡◌, inr, ℕ, zero, suc, ◌+◌, ◌-◌, ◌*◌, ◌/◌, ◌%◌, ◌^◌, ◌≤◌, ◌<◌, ◌==◌, List, [], ◌∷◌, ◌++◌, length, refl, sym, ◌∙◌, ap, subst, arith, mul_comm, le_refl}
+use Rattle.std.specs.Prelude.{Bool, IsTrue, true, false, ◌&&◌, ◌||◌, if◌then◌else◌, nat_lt, nat_le, map, Option, Some, None, option_and_then}
 use Rattle.std.specs.Option.{option_map}
 use Rattle.std.specs.List.{list_any}
 use Rattle.std.proofs.lemmas.Bool.{leb-true}
@@ -10,8 +10,8 @@ use Rattle.ckc_base.specs.declared.arithmetic.Width.TheVariants.{Byte, Word}
 use Rattle.ckc_base.specs.Memory.{Memory, bytes_from, with_byte, with_bytes, width_bytes, value_at, memory_with, data_start, data_end, heap_has_room, next_place}
 use Rattle.ckc_source.specs.declared.expr.Pointee.{Pointee}
 use Rattle.ckc_source.specs.LaidOut.{AreApart}
-use Rattle.ckc_source.specs.Blocks.{Block, end_of, has, loaded, changed, stored, fresh, first_place}
-use Rattle.ckc_source.proofs.Keeping.{apart_snoc, apart_changed}
+use Rattle.ckc_source.specs.Blocks.{Block, end_of, has, loaded, with_number, lies_in, changed, stored, fresh, first_place}
+use Rattle.ckc_source.proofs.Keeping.{apart_snoc, apart_changed, length_with}
 use Rattle.ckc_checks_follow.proofs.Bytes.{Spells, SameBytes, and_true, loaded_there, joined, none_left, ahead, past, written_digit, spells_kept, apart_ordered, any_within, stored_there}
 
 -- each byte of the memory is one
@@ -104,6 +104,27 @@ stored_is width a n bs cs e = by (a % width_bytes width == 0) (list_any (has wid
     by true true e = (refl, cc)
     by true false e = absurd cc
     by false any e = absurd cc
+
+same_has : (width : Width) (a n : ℕ) (b : Block) → has width a (changed width a n b) ≡ has width a b
+same_has width a n b = by (has width a b)
+  where
+    by : (inside : Bool) → has width a (if inside then record b { bytes = with_number width b.bytes (a - b.base) n } else b) ≡ has width a b
+    by true = ap (λ k. nat_le b.base a && nat_le (a + width_bytes width) (b.base + k)) (length_with width b.bytes (a - b.base) n)
+    by false = refl
+
+any_has : (width : Width) (a n : ℕ) (bs : List Block) → list_any (has width a) (map (changed width a n) bs) ≡ list_any (has width a) bs
+any_has width a n [] = refl
+any_has width a n (b ∷ bs) =
+    ap (λ c. c || list_any (has width a) (map (changed width a n) bs)) (same_has width a n b) ∙ ap (λ c. has width a b || c) (any_has width a n bs)
+
+-- what is stored lies in a block after the store
+pub stored_lies : (width : Width) (a n : ℕ) (bs cs : List Block) → stored width a n bs ≡ Some cs → IsTrue (lies_in width a cs)
+stored_lies width a n bs cs e = by (a % width_bytes width == 0) (list_any (has width a) bs) (any_has width a n bs) e
+  where
+    by : (even any : Bool) → list_any (has width a) (map (changed width a n) bs) ≡ any → (if even && any then Some (map (changed width a n) bs) else None) ≡ Some cs → IsTrue (even && list_any (has width a) cs)
+    by true true h e = let is : map (changed width a n) bs ≡ cs = cc in subst (λ l. IsTrue (list_any (has width a) l)) is h
+    by true false h e = absurd cc
+    by false any h e = absurd cc
 
 -- a store into a block that has the access
 pub stored_same : (width : Width) (a n next : ℕ) (bs cs : List Block) (memory : Memory) → SameMemory bs next memory → stored width a n bs ≡ Some cs

@@ -1,5 +1,5 @@
 -- Through a pointer to a null-terminated array zero alone is written at the upper bound.
-use Rattle.std.proofs.Common.{◌≡◌, ℕ, ◌^◌, ◌+◌, ◌*◌, ◌≤◌, ◌<◌, ◌==◌, List, [], refl, sym, ◌∙◌, ap, subst, arith}
+use Rattle.std.proofs.Common.{◌≡◌, ℕ, ◌^◌, ◌+◌, ◌*◌, ◌≤◌, ◌<◌, ◌==◌, List, refl, sym, ◌∙◌, ap, subst, arith}
 use Rattle.std.specs.Prelude.{Bool, true, false, not, if◌then◌else◌, Option, Some, None, Ok}
 use Rattle.ckc_base.specs.declared.arithmetic.BinOp.TheVariants as binary
 use Rattle.ckc_base.specs.declared.arithmetic.Width.{Width}
@@ -7,11 +7,9 @@ use Rattle.ckc_base.specs.declared.arithmetic.Width.TheVariants.{Byte, Word}
 use Rattle.ckc_base.specs.declared.places.Pos.{Pos}
 use Rattle.ckc_base.specs.declared.runtime_checks.Check.TheVariants as check
 use Rattle.ckc_base.specs.Words.{applied, flag}
-use Rattle.ckc_base.specs.Matching.{Stretch}
 use Rattle.ckc_base.specs.Memory.{Memory, kept_part}
 use Rattle.ckc_base.specs.Actions.{World}
 use Rattle.ckc_base.specs.Activations.{Values, with_written}
-use Rattle.ckc_base.proofs.Runs.{no_step}
 use Rattle.ckc_source.specs.declared.expr.Access.{Access}
 use Rattle.ckc_source.specs.declared.expr.Through.{Through}
 use Rattle.ckc_source.specs.declared.expr.Through.TheVariants.{Named, Raw, One, Array, Terminated}
@@ -28,7 +26,8 @@ use Rattle.ckc_checks_operands.specs.Compilable.{guard_nodes}
 use Rattle.ckc_checks_operands.specs.Operands.{kept_in, at_offset, element_of, held, keeps_index}
 use Rattle.ckc_checks_operands.specs.Pointers.{is_bounded, is_ranged, takes_range, index_far, below_end}
 use Rattle.ckc_checks.specs.code.Inserted.{marked, guarded}
-use Rattle.ckc_checks_follow.proofs.Running.{machine, Runs, at, by_set, by_pass, by_fail}
+use Rattle.ckc_checks_follow.proofs.Paths.{Quiet, no_quiet}
+use Rattle.ckc_checks_follow.proofs.Running.{Runs, at, by_set, by_pass, by_fail}
 use Rattle.ckc_checks_follow.proofs.Values.{Sees, low_value, at_offset_value}
 use Rattle.ckc_checks_follow.proofs.Counts.{written_same, written_below, range_end_nodes}
 use Rattle.ckc_checks_follow.proofs.Coming.{Below}
@@ -97,7 +96,7 @@ module _ (functions : List Function) (callers : List Caller) (world : World) (n 
   -- what finds a target comes to its mark, and to where its place is known
   abbrev pub Marks : (through : Through) (access : Access) (p index : source.Expr) (t : ℕ) (more : Code) (rest : Rest) (before l : Values) (range : Range) (q : ℕ) → Type 0
   Marks through access p index t more rest before l range q =
-      (count : ℕ) × (after : Values) × (count ≤ mark_steps through p t) × Stretch (machine functions) count [] (at callers world (marked through p t more) rest l) (at callers world more rest after)
+      (count : ℕ) × (after : Values) × (count ≤ mark_steps through p t) × Quiet functions count (at callers world (marked through p t more) rest l) (at callers world more rest after)
       × Below t after before × IsMarked through access.at t after (terminator_at through range q access.at)
       × ((later : Values) → Below (t + 2) later after → value_of later world.memory (at_offset access.offset (element_at through access p index t)) ≡ Some (place_in q access.offset))
 
@@ -105,13 +104,13 @@ module _ (functions : List Function) (callers : List Caller) (world : World) (n 
       → Below t l before × ((later : Values) → Below (t + 2) later l → value_of later world.memory (element_at through access p index t) ≡ Some q) × (q < 2 ^ 32)
       → Ended functions callers world n s sees through p t range q l → Marks through access p index t more rest before l range q
   mark_comes Named access p index t more rest before l range q r end =
-      (0, l, omega arith, no_step (machine functions) (at callers world more rest l), r.0, refl, λ later below. at_offset_value later world.memory access.offset (element_at Named access p index t) q (r.1 later below) r.2)
+      (0, l, omega arith, no_quiet functions (at callers world more rest l), r.0, refl, λ later below. at_offset_value later world.memory access.offset (element_at Named access p index t) q (r.1 later below) r.2)
   mark_comes Raw access p index t more rest before l range q r end =
-      (0, l, omega arith, no_step (machine functions) (at callers world more rest l), r.0, refl, λ later below. at_offset_value later world.memory access.offset (element_at Raw access p index t) q (r.1 later below) r.2)
+      (0, l, omega arith, no_quiet functions (at callers world more rest l), r.0, refl, λ later below. at_offset_value later world.memory access.offset (element_at Raw access p index t) q (r.1 later below) r.2)
   mark_comes One access p index t more rest before l range q r end =
-      (0, l, omega arith, no_step (machine functions) (at callers world more rest l), r.0, refl, λ later below. at_offset_value later world.memory access.offset (element_at One access p index t) q (r.1 later below) r.2)
+      (0, l, omega arith, no_quiet functions (at callers world more rest l), r.0, refl, λ later below. at_offset_value later world.memory access.offset (element_at One access p index t) q (r.1 later below) r.2)
   mark_comes Array access p index t more rest before l range q r end =
-      (0, l, omega arith, no_step (machine functions) (at callers world more rest l), r.0, refl, λ later below. at_offset_value later world.memory access.offset (element_at Array access p index t) q (r.1 later below) r.2)
+      (0, l, omega arith, no_quiet functions (at callers world more rest l), r.0, refl, λ later below. at_offset_value later world.memory access.offset (element_at Array access p index t) q (r.1 later below) r.2)
   mark_comes Terminated access p index t more rest before l Without q r end = absurd end
   mark_comes Terminated access p index t more rest before l (Within low high) q r end = by (q == high) refl
     where
@@ -155,7 +154,7 @@ module _ (functions : List Function) (callers : List Caller) (world : World) (re
   pub allows_any : (to : Place) (value most : ℕ) (more : Code) (l : Values) → allowed to value ≡ Ok to → Allows most more more l to value
   allows_any to value most more l e =
       subst (λ r. Runs functions 0 most (at callers world more rest l) r (λ into w. (into ≡ to) × (w ≡ at callers world more rest l))) (sym e)
-      (0, at callers world more rest l, omega arith, omega arith, no_step (machine functions) (at callers world more rest l), (refl, refl))
+      (0, at callers world more rest l, omega arith, omega arith, no_quiet functions (at callers world more rest l), (refl, refl))
 
   without_end : (width : Width) (a value : ℕ) (more : Code) (l : Values) (zero_alone : Option Pos) → zero_alone ≡ None → Allows 0 more more l (place.Memory a width zero_alone) value
   without_end width a value more l zero_alone is = allows_any (place.Memory a width zero_alone) value 0 more l (ap (λ z. refuses z (kept_part width value) (Ok (place.Memory a width zero_alone))) is)

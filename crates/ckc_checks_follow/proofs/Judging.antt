@@ -10,7 +10,6 @@ use Rattle.ckc_base.specs.declared.runtime_checks.Check.TheVariants as check
 use Rattle.ckc_base.specs.Words.{flag, applied}
 use Rattle.ckc_base.specs.Actions.{World}
 use Rattle.ckc_base.specs.Activations.{Values, with_written}
-use Rattle.ckc_base.proofs.Runs.{no_step}
 use Rattle.ckc_source.specs.declared.expr.Access.{Access}
 use Rattle.ckc_source.specs.declared.expr.Integer.{Integer}
 use Rattle.ckc_source.specs.declared.expr.Integer.TheVariants as integer
@@ -31,7 +30,8 @@ use Rattle.ckc_checks_operands.specs.Compilable.{IsZero, IsJudged, IsAccess, IsC
 use Rattle.ckc_checks_operands.specs.Operands.{operated, is_zero, shifted, element_of, held, keeps_index, operand}
 use Rattle.ckc_checks_operands.specs.Pointers.{below_end, is_bounded, is_ranged, takes_range, index_far, held_test, reads_signed, exact_test, range_test}
 use Rattle.ckc_checks.specs.code.Inserted.{put_if, reached_element, value_code, access_code, element_code, judged, reached_place, operation_code, expr_code}
-use Rattle.ckc_checks_follow.proofs.Running.{machine, first_runs, at, by_set, by_pass, by_fail}
+use Rattle.ckc_checks_follow.proofs.Paths.{no_quiet}
+use Rattle.ckc_checks_follow.proofs.Running.{first_runs, at, by_set, by_pass, by_fail}
 use Rattle.ckc_checks_follow.proofs.Bounded.{GivesWord}
 use Rattle.ckc_checks_follow.proofs.Values.{IsValue, Agree, Sees, word_seen, at_offset_value, zero_value, shifted_value}
 use Rattle.ckc_checks_follow.proofs.Ranges.{flag_zero, moved_word, moved_place, cancels, exact_place, exact_value, both_tests, is_under, range_value, under_moved, held_value_of, range_known}
@@ -168,7 +168,7 @@ module _ (functions : List Function) (callers : List Caller) (world : World) whe
         by true z =
             subst (λ r. Comes functions callers world 0 (14 * element_nodes far index - 46) (at callers world next rest l) r next rest (AtElement t l))
             (sym (first_element access v k (zero_word l (held (keeps_index true index) index w) k z j) low))
-            (0, at callers world next rest l, omega arith, omega arith, no_step (machine functions) (at callers world next rest l), (l, refl, ((λ x e. refl), h, low)))
+            (0, at callers world next rest l, omega arith, omega arith, no_quiet functions (at callers world next rest l), (l, refl, ((λ x e. refl), h, low)))
         by false z =
             then_also 14 6 (14 * element_nodes far index - 46) (at callers world (Check check.Arith access.at (exact_test false (reads_signed access.index) access.size (Local t) (held (keeps_index true index) index w)) (Set t (shifted false access.size (Local t) (held (keeps_index true index) index w)) next)) rest l)
             (at_address (as_address (elements_behind v access.size (exact access.index k))) access.at) (Set t (shifted false access.size (Local t) (held (keeps_index true index) index w)) next) next rest (λ q l'. (l' ≡ l) × (q ≡ moved_word false access.size k v)) (AtElement t l)
@@ -263,7 +263,7 @@ module _ (functions : List Function) (callers : List Caller) (world : World) whe
             (λ a l' e.
             subst (λ (m : Values). Comes functions callers world 0 0 (at callers world next rest m) (Ok a) next rest (AtElement t l)) (sym e.0)
             (subst (λ (b : ℕ). Comes functions callers world 0 0 (at callers world next rest l1) (Ok b) next rest (AtElement t l)) (sym e.1)
-            (0, at callers world next rest l1, omega arith, omega arith, no_step (machine functions) (at callers world next rest l1), (l1, refl, g))))))
+            (0, at callers world next rest l1, omega arith, omega arith, no_quiet functions (at callers world next rest l1), (l1, refl, g))))))
 
     -- the checks of an access
     judged_comes : (access : Access) (through : Through) (p index : source.Expr) (t : ℕ) (next : Code) (rest : Rest) (before l : Values) (x y : Value) → n ≤ t → Agree n s.locals l
@@ -276,7 +276,7 @@ module _ (functions : List Function) (callers : List Caller) (world : World) whe
       at callers world next rest l,
       omega arith,
       omega arith,
-      no_step (machine functions) (at callers world next rest l),
+      no_quiet functions (at callers world next rest l),
       (l, refl, (both.0, (λ later below. both.1 later below), both.3)),
     )
     judged_comes access Raw p index t next rest before l x y le agree un h both = (
@@ -284,7 +284,7 @@ module _ (functions : List Function) (callers : List Caller) (world : World) whe
       at callers world next rest l,
       omega arith,
       omega arith,
-      no_step (machine functions) (at callers world next rest l),
+      no_quiet functions (at callers world next rest l),
       (
         l,
         refl,

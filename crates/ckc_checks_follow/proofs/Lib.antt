@@ -1,3 +1,4 @@
+pub mod Paths
 pub mod Running
 pub mod Bytes
 pub mod Flat

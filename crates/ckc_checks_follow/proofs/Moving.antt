@@ -1,5 +1,5 @@
 -- Pointer arithmetic, branches and loads: core code puts the value into a temporary.
-use Rattle.std.proofs.Common.{◌≡◌, ◌⊎◌, inl, inr, ℕ, ◌^◌, ◌+◌, ◌-◌, ◌*◌, ◌%◌, ◌≤◌, ◌<◌, ◌==◌, List, [], refl, sym, ◌∙◌, ap, subst, arith}
+use Rattle.std.proofs.Common.{◌≡◌, ◌⊎◌, inl, inr, ℕ, ◌^◌, ◌+◌, ◌-◌, ◌*◌, ◌%◌, ◌≤◌, ◌<◌, ◌==◌, List, refl, sym, ◌∙◌, ap, subst, arith}
 use Rattle.std.specs.Prelude.{option_and_then, Bool, true, false, if◌then◌else◌, Some, None, Result, Ok, Err, ◌||◌, pos, ◌-ℤ◌, ◌*ℤ◌}
 use Rattle.std.proofs.lemmas.Int.{ints}
 use Rattle.std.proofs.Math.IntN.{*ℤ-zero}
@@ -9,10 +9,8 @@ use Rattle.ckc_base.specs.Memory.{value_at}
 use Rattle.ckc_base.specs.declared.places.Pos.{Pos}
 use Rattle.ckc_base.specs.declared.runtime_checks.Check.TheVariants as check
 use Rattle.ckc_base.specs.Words.{applied}
-use Rattle.ckc_base.specs.Matching.{Stretch}
 use Rattle.ckc_base.specs.Actions.{World}
 use Rattle.ckc_base.specs.Activations.{Values, with_written}
-use Rattle.ckc_base.proofs.Runs.{no_step, then_stretch}
 use Rattle.ckc_base.specs.declared.arithmetic.Width.{Width}
 use Rattle.ckc_source.specs.declared.expr.Access.{Access}
 use Rattle.ckc_source.specs.declared.expr.Count.{Count}
@@ -34,7 +32,8 @@ use Rattle.ckc_checks_operands.specs.Compilable.{IsCompilableExpr, IsChecked, sh
 use Rattle.ckc_checks_operands.specs.Operands.{low_byte, as_truth, is_zero, shifted, held, keeps_index, operand}
 use Rattle.ckc_checks_operands.specs.Pointers.{reads_signed, exact_test}
 use Rattle.ckc_checks.specs.code.Inserted.{value_code, unless_zero, exact_code, moved_code, reached_place, expr_code, operand_code}
-use Rattle.ckc_checks_follow.proofs.Running.{machine, first_runs, at, by_set, by_pass, by_fail, by_if, by_end}
+use Rattle.ckc_checks_follow.proofs.Paths.{Quiet, no_quiet, then_quiet}
+use Rattle.ckc_checks_follow.proofs.Running.{first_runs, at, by_set, by_pass, by_fail, by_if, by_end}
 use Rattle.ckc_checks_follow.proofs.Bounded.{Gives, reads_number}
 use Rattle.ckc_checks_follow.proofs.Values.{IsValue, low_value, Agree, Sees, load_value, pointer_value, none_moved, shifted_value}
 use Rattle.ckc_checks_follow.proofs.Ranges.{moved_word, moved_place}
@@ -83,7 +82,7 @@ module _ (functions : List Function) (callers : List Caller) (world : World) whe
               at callers world next rest l,
               omega arith,
               omega arith,
-              no_step (machine functions) (at callers world next rest l),
+              no_quiet functions (at callers world next rest l),
               (l, refl, (refl, same_word shift.back shift.size v k (zero_word functions callers world n s sees l (held (keeps_index true index) index w) k z j) low)),
             )
         by false z = exact_comes functions callers world n s sees shift.back shift.index shift.size k v u (held (keeps_index true index) index w) shift.at next rest l some small few low h j (index_alone index w)
@@ -223,7 +222,7 @@ module _ (functions : List Function) (callers : List Caller) (world : World) whe
     kept_number : (m t : ℕ) (more : Code) (rest : Rest) (before l : Values) (r : Result Value Halt) → Gives m r → Below t l before → l t ≡ Some m
         → Comes functions callers world 0 0 (at callers world more rest l) r more rest (Put functions callers world t before)
     kept_number m t more rest before l (Ok v) g below h =
-        (0, at callers world more rest l, omega arith, omega arith, no_step (machine functions) (at callers world more rest l), (l, refl, (below, h ∙ ap Some (sym g))))
+        (0, at callers world more rest l, omega arith, omega arith, no_quiet functions (at callers world more rest l), (l, refl, (below, h ∙ ap Some (sym g))))
     kept_number m t more rest before l (Err Stuck) g below h = tt
     kept_number m t more rest before l (Err (Stopped why place)) g below h = absurd g
 
@@ -249,12 +248,12 @@ module _ (functions : List Function) (callers : List Caller) (world : World) whe
     ended most st (Ok v) P more rest c =
         let q = c.5 in
         let w = at callers world more rest q.0 in
-        let path : Stretch (machine functions) c.0 [] st (at callers world End (Next more rest) q.0) = subst (λ u. Stretch (machine functions) c.0 [] st u) q.1 c.4 in (
+        let path : Quiet functions c.0 st (at callers world End (Next more rest) q.0) = subst (λ u. Quiet functions c.0 st u) q.1 c.4 in (
           c.0 + 1,
           w,
           omega arith,
           omega (arith, c.3),
-          then_stretch (machine functions) c.0 1 [] [] st (at callers world End (Next more rest) q.0) w path (by_end functions callers world more rest q.0),
+          then_quiet functions c.0 1 st (at callers world End (Next more rest) q.0) w path (by_end functions callers world more rest q.0),
           (q.0, refl, q.2),
         )
     ended most st (Err Stuck) P more rest c = tt
@@ -270,13 +269,13 @@ module _ (functions : List Function) (callers : List Caller) (world : World) whe
         let path = by_if functions callers world e one two more rest l x h in
         first_runs functions (nodes e + 1) 1 (m + 1) k (at callers world (If e one two more) rest l) (at callers world two (Next more rest) l) q
         (λ v u. (l' : Values) × (u ≡ at callers world more rest l') × P v l') few
-        (subst (λ (c : Bool). Stretch (machine functions) (nodes e + 1) [] (at callers world (If e one two more) rest l) (at callers world (if c then two else one) (Next more rest) l)) z path)
+        (subst (λ (c : Bool). Quiet functions (nodes e + 1) (at callers world (If e one two more) rest l) (at callers world (if c then two else one) (Next more rest) l)) z path)
         (ended m (at callers world two (Next more rest) l) q P more rest (on_zero z))
     chosen m k x e one two more rest l P r q false z few h on_zero on_other =
         let path = by_if functions callers world e one two more rest l x h in
         first_runs functions (nodes e + 1) 1 (m + 1) k (at callers world (If e one two more) rest l) (at callers world one (Next more rest) l) r
         (λ v u. (l' : Values) × (u ≡ at callers world more rest l') × P v l') few
-        (subst (λ (c : Bool). Stretch (machine functions) (nodes e + 1) [] (at callers world (If e one two more) rest l) (at callers world (if c then two else one) (Next more rest) l)) z path)
+        (subst (λ (c : Bool). Quiet functions (nodes e + 1) (at callers world (If e one two more) rest l) (at callers world (if c then two else one) (Next more rest) l)) z path)
         (ended m (at callers world one (Next more rest) l) r P more rest (on_other z))
 
     truth_value : (l : Values) (e : Expr) (x : ℕ) → value_of l world.memory e ≡ Some x → value_of l world.memory (as_truth e) ≡ Some (truth x)

@@ -1,5 +1,5 @@
 -- The code of a pointer puts its range behind it.
-use Rattle.std.proofs.Common.{◌≡◌, ◌⊎◌, inl, inr, ℕ, ◌^◌, ◌+◌, ◌-◌, ◌*◌, ◌≤◌, ◌<◌, ◌==◌, List, [], refl, sym, ◌∙◌, ap, subst, arith}
+use Rattle.std.proofs.Common.{◌≡◌, ◌⊎◌, inl, inr, ℕ, ◌^◌, ◌+◌, ◌-◌, ◌*◌, ◌≤◌, ◌<◌, ◌==◌, List, refl, sym, ◌∙◌, ap, subst, arith}
 use Rattle.std.specs.Prelude.{length, option_and_then, Bool, true, false, if◌then◌else◌, Some, None, Result, Ok, Err, not, slice_index, Option, ◌||◌, ℤ, pos, ◌+ℤ◌}
 use Rattle.ckc_base.specs.declared.arithmetic.BinOp.TheVariants as binary
 use Rattle.ckc_base.specs.declared.arithmetic.Width.TheVariants.{Word}
@@ -9,7 +9,6 @@ use Rattle.ckc_base.specs.declared.runtime_checks.Check.TheVariants as check
 use Rattle.ckc_base.specs.Words.{word_of, flag, applied}
 use Rattle.ckc_base.specs.Actions.{World}
 use Rattle.ckc_base.specs.Activations.{Values, with_written}
-use Rattle.ckc_base.proofs.Runs.{then_stretch}
 use Rattle.ckc_source.specs.declared.expr.Count.TheVariants as counts
 use Rattle.ckc_source.specs.declared.expr.Access.{Access}
 use Rattle.ckc_source.specs.declared.expr.Count.{Count}
@@ -32,7 +31,8 @@ use Rattle.ckc_checks_operands.specs.Compilable.{IsSmall, IsCount, IsCompilableE
 use Rattle.ckc_checks_operands.specs.Operands.{scaled, at_offset, held, keeps_index, operand}
 use Rattle.ckc_checks_operands.specs.Pointers.{end_at, length_at, cast_test}
 use Rattle.ckc_checks.specs.code.Inserted.{put_if, tested_code, no_range, reached_element, value_code, moved_code, reached_place, expr_code, operand_code}
-use Rattle.ckc_checks_follow.proofs.Running.{machine, first_runs, later_runs, at, by_set, by_pass, by_fail}
+use Rattle.ckc_checks_follow.proofs.Paths.{then_quiet}
+use Rattle.ckc_checks_follow.proofs.Running.{first_runs, later_runs, at, by_set, by_pass, by_fail}
 use Rattle.ckc_checks_follow.proofs.Bounded.{Gives, zero_of, reads_number}
 use Rattle.ckc_checks_follow.proofs.Values.{Agree, Sees, at_offset_value, scaled_value, direct_value}
 use Rattle.ckc_checks_follow.proofs.Bytes.{loaded_there}
@@ -82,7 +82,7 @@ module _ (functions : List Function) (callers : List Caller) (world : World) whe
           at callers world more rest l2,
           omega arith,
           omega arith,
-          then_stretch (machine functions) (nodes low + 1) (nodes length + 1) [] [] (at callers world (Set (t + 1) low (Set (t + 2) length more)) rest l) (at callers world (Set (t + 2) length more) rest l1) (at callers world more rest l2)
+          then_quiet functions (nodes low + 1) (nodes length + 1) (at callers world (Set (t + 1) low (Set (t + 2) length more)) rest l) (at callers world (Set (t + 2) length more) rest l1) (at callers world more rest l2)
               (by_set functions callers world (t + 1) low (Set (t + 2) length more) rest l a i) (by_set functions callers world (t + 2) length more rest l1 b j),
           (
             l2,
@@ -107,7 +107,7 @@ module _ (functions : List Function) (callers : List Caller) (world : World) whe
           at callers world more rest l2,
           omega arith,
           omega arith,
-          then_stretch (machine functions) (nodes length + 1) 2 [] [] (at callers world (Set (t + 2) length (Set (t + 1) (Local t) more)) rest l) (at callers world (Set (t + 1) (Local t) more) rest l1) (at callers world more rest l2)
+          then_quiet functions (nodes length + 1) 2 (at callers world (Set (t + 2) length (Set (t + 1) (Local t) more)) rest l) (at callers world (Set (t + 1) (Local t) more) rest l1) (at callers world more rest l2)
               (by_set functions callers world (t + 2) length (Set (t + 1) (Local t) more) rest l b j) (by_set functions callers world (t + 1) (Local t) more rest l1 a (written_below l (t + 2) b t (omega arith) ∙ h)),
           (
             l2,

@@ -1,23 +1,30 @@
 -- How states of a source program and of its core code are related.
-use Rattle.std.proofs.Common.{◌≡◌, ◌⊎◌, ℕ, ◌+◌, ◌≤◌, List, [], ◌∷◌, length}
+use Rattle.std.proofs.Common.{◌≡◌, ◌⊎◌, ℕ, suc, ◌+◌, ◌≤◌, List, [], ◌∷◌, length, refl, ap}
 use Rattle.std.specs.Prelude.{Bool, IsTrue, IfSome}
-use Rattle.ckc_base.specs.Matching.{Stretch}
 use Rattle.ckc_base.specs.Actions.{World}
+use Rattle.ckc_base.specs.LongEvents.{LongEvent, Stored, plain_events}
+use Rattle.ckc_base.proofs.Simulating.{Near}
 use Rattle.ckc_source.specs.declared.stmt.Spot.{Spot}
+use Rattle.ckc_source.specs.Blocks.{lies_in}
 use Rattle.ckc_source.specs.Code as source
 use Rattle.ckc_source.specs.LaidOut.{AreBytes}
 use Rattle.ckc_source.specs.States.{Work, Rest, Turn}
 use Rattle.ckc_source.specs.States as S
 use Rattle.ckc_core.specs.Code.{Code, End, If, Break, Function}
-use Rattle.ckc_core.specs.Meaning.{Stop, Next, Body, Step}
+use Rattle.ckc_core.specs.Meaning.{Stop, Next, Body, Step, core_system}
 use Rattle.ckc_core.specs.Meaning as C
 use Rattle.ckc_checks_operands.specs.Compilable.{IsCompilableCode, IsCompilableKept, code_nodes}
 use Rattle.ckc_checks_operands.specs.Operands.{operand}
 use Rattle.ckc_checks.specs.code.Inserted.{operand_code, statements, result_in, result_kept}
-use Rattle.ckc_checks_follow.proofs.Running.{machine}
+use Rattle.ckc_checks_follow.specs.Stores.{IsHeapWord, AreLevel}
 use Rattle.ckc_checks_follow.proofs.Flat.{SameMemory}
 use Rattle.ckc_checks_follow.proofs.Values.{Agree}
 use Rattle.ckc_checks_follow.proofs.Bounded.{AreSmall}
+
+-- the heap word is stored, or a place in a block
+abbrev pub MayLie : S.State → LongEvent → Type 0
+MayLie s (Stored at width value) = IsHeapWord at width ⊎ IsTrue (lies_in width at s.blocks)
+MayLie s event = Unit {0}
 
 -- one turn of a loop: its condition, and its body
 abbrev pub turn_code : ℕ → source.Expr → source.Code → Code
@@ -95,10 +102,16 @@ module _ (functions : List source.Function) where
     pub callers : SameCallers s.callers u.callers
     pub world : SameWorld s u.world
 
-  -- Core code comes to the same state in a few steps of which nothing is seen: at the entry of a function it sets locals.
-  pub record Related (core : List Function) (s : S.State) (u : C.State) : Type 0 where
-    pub count : ℕ
-    pub to : C.State
-    pub few : count ≤ 512
-    pub path : Stretch (machine core) count [] u to
-    pub same : SameState s to
+  -- Core code comes to the same state in a few steps of which nothing is seen: at the entry of a function it sets
+  -- locals, and behind a call it may store the result in a block.
+  abbrev pub Related : List Function → S.State → C.State → Type 0
+  Related core s u = Near (core_system core) plain_events MayLie AreLevel SameState 512 s u
+
+  same_count : (cs : List S.Caller) (ds : List C.Caller) → SameCallers cs ds → length cs ≡ length ds
+  same_count [] [] h = refl
+  same_count [] (d ∷ ds) h = absurd h
+  same_count (c ∷ cs) [] h = absurd h
+  same_count (c ∷ cs) (d ∷ ds) h = ap suc (same_count cs ds h.1)
+
+  pub same_level : (s : S.State) (u : C.State) → SameCallers s.callers u.callers → AreLevel s u
+  same_level s u h = ap (λ n. n + 1) (same_count s.callers u.callers h)

@@ -1,26 +1,19 @@
 -- Core code runs beside the evaluation of the source: what comes of an evaluation, and the single steps of core code.
 use Rattle.std.proofs.Common.{◌≡◌, ℕ, ◌+◌, ◌≤◌, ◌==◌, List, [], refl, ◌∙◌, ap, arith}
-use Rattle.std.specs.Prelude.{Bool, true, false, if◌then◌else◌, Some, Result, Ok, Err, flat_map}
+use Rattle.std.specs.Prelude.{Bool, true, false, if◌then◌else◌, Some, Result, Ok, Err}
 use Rattle.ckc_base.specs.declared.places.Pos.{Pos}
 use Rattle.ckc_base.specs.declared.runtime_checks.Check.{Check as CheckName}
 use Rattle.ckc_base.specs.Traces.{Event, Standing}
 use Rattle.ckc_base.specs.Traces as standing
-use Rattle.ckc_base.specs.LongEvents.{LongEvent, plain_events}
-use Rattle.ckc_base.specs.Steps.{Goes, Halts, System}
-use Rattle.ckc_base.specs.Matching.{Stretch, Closes}
+use Rattle.ckc_base.specs.Steps.{Goes}
 use Rattle.ckc_base.specs.Actions.{World, Gives, Done, Stops, with_value, checks}
 use Rattle.ckc_base.specs.Activations.{Values, with_written}
-use Rattle.ckc_base.proofs.Runs.{one_step, one_halt, then_stretch, then_closes}
-use Rattle.ckc_base.proofs.Seeing.{seen_move, seen_system}
 use Rattle.ckc_source.specs.declared.outcome.Halt.{Halt}
 use Rattle.ckc_source.specs.declared.outcome.Halt.TheVariants.{Stopped, Stuck}
 use Rattle.ckc_source.specs.Eval.{given}
 use Rattle.ckc_core.specs.Code.{Expr, Code, End, Set, Check, If, Loop, Function}
-use Rattle.ckc_core.specs.Meaning.{Rest, Next, Body, State, Caller, value_of, nodes, extra_steps, core_step, core_system, goes_by, goes_to, branches}
-
--- core code of which input and output are seen
-abbrev pub machine : List Function → System Event State
-machine functions = seen_system plain_events (core_system functions)
+use Rattle.ckc_core.specs.Meaning.{Rest, Next, Body, State, Caller, value_of, nodes, core_step, goes_by, goes_to, branches}
+use Rattle.ckc_checks_follow.proofs.Paths.{Quiet, QuietEnds, then_quiet, then_quiet_ends, quiet_by, ends_by, IsQuiet}
 
 -- the innermost call at this code
 abbrev pub at : List Caller → World → Code → Rest → Values → State
@@ -33,28 +26,28 @@ at callers world code rest locals =
 -- it stops as the evaluation does. Nothing is asked where the evaluation is stuck.
 abbrev pub Runs : {A : Type 0} → List Function → (least most : ℕ) → State → Result A Halt → (A → State → Type 0) → Type 0
 Runs functions least most s (Ok v) Q =
-    (count : ℕ) × (u : State) × (least ≤ count) × (count ≤ most) × Stretch (machine functions) count [] s u × Q v u
+    (count : ℕ) × (u : State) × (least ≤ count) × (count ≤ most) × Quiet functions count s u × Q v u
 Runs functions least most s (Err (Stopped why place)) Q =
-    (count : ℕ) × (count ≤ most) × Closes (machine functions) count [] s (standing.Stopped why place)
+    (count : ℕ) × (count ≤ most) × QuietEnds functions count s (standing.Stopped why place)
 Runs functions least most s (Err Stuck) Q = Unit {0}
 
 module _ (functions : List Function) where
   -- a stretch in front
   pub first_runs : {A : Type 0} (count least n k : ℕ) (s u : State) (x : Result A Halt) (Q : A → State → Type 0) → count + n ≤ k
-      → Stretch (machine functions) count [] s u → Runs functions least n u x Q → Runs functions least k s x Q
+      → Quiet functions count s u → Runs functions least n u x Q → Runs functions least k s x Q
   first_runs count least n k s u (Ok v) Q few path r =
-      (count + r.0, r.1, omega (arith, r.2), omega (arith, r.3), then_stretch (machine functions) count r.0 [] [] s u r.1 path r.4, r.5)
+      (count + r.0, r.1, omega (arith, r.2), omega (arith, r.3), then_quiet functions count r.0 s u r.1 path r.4, r.5)
   first_runs count least n k s u (Err (Stopped why place)) Q few path r =
-      (count + r.0, omega (arith, r.1), then_closes (machine functions) count r.0 [] [] s u (standing.Stopped why place) path r.2)
+      (count + r.0, omega (arith, r.1), then_quiet_ends functions count r.0 s u (standing.Stopped why place) path r.2)
   first_runs count least n k s u (Err Stuck) Q few path r = tt
 
   -- the same, where the stretch makes a step
   pub later_runs : {A : Type 0} (count n k : ℕ) (s u : State) (x : Result A Halt) (Q : A → State → Type 0) → count + n ≤ k → 1 ≤ count
-      → Stretch (machine functions) count [] s u → Runs functions 0 n u x Q → Runs functions 1 k s x Q
+      → Quiet functions count s u → Runs functions 0 n u x Q → Runs functions 1 k s x Q
   later_runs count n k s u (Ok v) Q few some path r =
-      (count + r.0, r.1, omega arith, omega (arith, r.3), then_stretch (machine functions) count r.0 [] [] s u r.1 path r.4, r.5)
+      (count + r.0, r.1, omega arith, omega (arith, r.3), then_quiet functions count r.0 s u r.1 path r.4, r.5)
   later_runs count n k s u (Err (Stopped why place)) Q few some path r =
-      (count + r.0, omega (arith, r.1), then_closes (machine functions) count r.0 [] [] s u (standing.Stopped why place) path r.2)
+      (count + r.0, omega (arith, r.1), then_quiet_ends functions count r.0 s u (standing.Stopped why place) path r.2)
   later_runs count n k s u (Err Stuck) Q few some path r = tt
 
   -- one evaluation and then another
@@ -67,57 +60,48 @@ module _ (functions : List Function) where
 
   -- ---- single steps
 
-  pub step_by : (events : List LongEvent) (s u : State) → core_step functions s ≡ Goes events u
-      → Stretch (machine functions) (extra_steps s.frame.code + 1) (flat_map plain_events events) s u
-  step_by events s u e =
-      one_step (machine functions) (flat_map plain_events events) s u (ap (seen_move plain_events) e)
-
-  pub halt_by : (s : State) (how : Standing) → core_step functions s ≡ Halts [] how
-      → Closes (machine functions) (extra_steps s.frame.code + 1) [] s how
-  halt_by s how e = one_halt (machine functions) [] s how (ap (seen_move plain_events) e)
-
   module _ (callers : List Caller) (world : World) where
     pub by_set : (x : ℕ) (e : Expr) (more : Code) (rest : Rest) (locals : Values) (v : ℕ) → value_of locals world.memory e ≡ Some v
-        → Stretch (machine functions) (nodes e + 1) [] (at callers world (Set x e more) rest locals) (at callers world more rest (with_written locals x v))
+        → Quiet functions (nodes e + 1) (at callers world (Set x e more) rest locals) (at callers world more rest (with_written locals x v))
     unfolding core_step
     by_set x e more rest locals v h =
-        step_by [] (at callers world (Set x e more) rest locals) (at callers world more rest (with_written locals x v))
-        (ap (λ o. goes_by (at callers world (Set x e more) rest locals) more (with_value o (λ v. Gives [] x v world))) h)
+        quiet_by functions (at callers world (Set x e more) rest locals) (at callers world more rest (with_written locals x v))
+        (ap (λ o. goes_by (at callers world (Set x e more) rest locals) more (with_value o (λ v. Gives [] x v world))) h) refl
 
     pub by_pass : (check : CheckName) (place : Pos) (e : Expr) (more : Code) (rest : Rest) (locals : Values) (v : ℕ) → value_of locals world.memory e ≡ Some v
-        → (v == 0) ≡ false → Stretch (machine functions) (nodes e + 1) [] (at callers world (Check check place e more) rest locals) (at callers world more rest locals)
+        → (v == 0) ≡ false → Quiet functions (nodes e + 1) (at callers world (Check check place e more) rest locals) (at callers world more rest locals)
     unfolding core_step
     by_pass check place e more rest locals v h z =
-        step_by [] (at callers world (Check check place e more) rest locals) (at callers world more rest locals)
+        quiet_by functions (at callers world (Check check place e more) rest locals) (at callers world more rest locals)
         (ap (λ o. goes_by (at callers world (Check check place e more) rest locals) more (with_value o (checks world check place))) h
-        ∙ ap (λ b. goes_by (at callers world (Check check place e more) rest locals) more (if b then Stops check place else Done [] world)) z)
+        ∙ ap (λ b. goes_by (at callers world (Check check place e more) rest locals) more (if b then Stops check place else Done [] world)) z) refl
 
     pub by_fail : (check : CheckName) (place : Pos) (e : Expr) (more : Code) (rest : Rest) (locals : Values) (v : ℕ) → value_of locals world.memory e ≡ Some v
-        → (v == 0) ≡ true → Closes (machine functions) (nodes e + 1) [] (at callers world (Check check place e more) rest locals) (standing.Stopped check place)
+        → (v == 0) ≡ true → QuietEnds functions (nodes e + 1) (at callers world (Check check place e more) rest locals) (standing.Stopped check place)
     unfolding core_step
     by_fail check place e more rest locals v h z =
-        halt_by (at callers world (Check check place e more) rest locals) (standing.Stopped check place)
+        ends_by functions IsQuiet (at callers world (Check check place e more) rest locals) (standing.Stopped check place)
         (ap (λ o. goes_by (at callers world (Check check place e more) rest locals) more (with_value o (checks world check place))) h
         ∙ ap (λ b. goes_by (at callers world (Check check place e more) rest locals) more (if b then Stops check place else Done [] world)) z)
 
     pub by_if : (e : Expr) (one two more : Code) (rest : Rest) (locals : Values) (v : ℕ) → value_of locals world.memory e ≡ Some v
-        → Stretch (machine functions) (nodes e + 1) [] (at callers world (If e one two more) rest locals) (at callers world (if v == 0 then two else one) (Next more rest) locals)
+        → Quiet functions (nodes e + 1) (at callers world (If e one two more) rest locals) (at callers world (if v == 0 then two else one) (Next more rest) locals)
     unfolding core_step
     by_if e one two more rest locals v h =
-        step_by [] (at callers world (If e one two more) rest locals) (at callers world (if v == 0 then two else one) (Next more rest) locals)
-        (ap (λ o. branches (at callers world (If e one two more) rest locals) one two more o) h ∙ chosen (v == 0))
+        quiet_by functions (at callers world (If e one two more) rest locals) (at callers world (if v == 0 then two else one) (Next more rest) locals)
+        (ap (λ o. branches (at callers world (If e one two more) rest locals) one two more o) h ∙ chosen (v == 0)) refl
       where
         chosen : (zero : Bool) → (if zero then goes_to (at callers world (If e one two more) rest locals) two (Next more rest) else goes_to (at callers world (If e one two more) rest locals) one (Next more rest))
             ≡ Goes [] (at callers world (if zero then two else one) (Next more rest) locals)
         chosen true = refl
         chosen false = refl
 
-    pub by_end : (more : Code) (rest : Rest) (locals : Values) → Stretch (machine functions) 1 [] (at callers world End (Next more rest) locals) (at callers world more rest locals)
+    pub by_end : (more : Code) (rest : Rest) (locals : Values) → Quiet functions 1 (at callers world End (Next more rest) locals) (at callers world more rest locals)
     unfolding core_step
-    by_end more rest locals = step_by [] (at callers world End (Next more rest) locals) (at callers world more rest locals) refl
+    by_end more rest locals = quiet_by functions (at callers world End (Next more rest) locals) (at callers world more rest locals) refl refl
 
     pub by_loop : (body step more : Code) (rest : Rest) (locals : Values)
-        → Stretch (machine functions) 1 [] (at callers world (Loop body step more) rest locals) (at callers world body (Body body step more rest) locals)
+        → Quiet functions 1 (at callers world (Loop body step more) rest locals) (at callers world body (Body body step more rest) locals)
     unfolding core_step
     by_loop body step more rest locals =
-        step_by [] (at callers world (Loop body step more) rest locals) (at callers world body (Body body step more rest) locals) refl
+        quiet_by functions (at callers world (Loop body step more) rest locals) (at callers world body (Body body step more rest) locals) refl refl

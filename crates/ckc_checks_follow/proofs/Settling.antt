@@ -1,8 +1,6 @@
 -- Ended lists, `break` and `continue` are no steps of the source, and steps of core code.
 use Rattle.std.proofs.Common.{◌≡◌, inl, inr, ℕ, suc, ◌+◌, ◌≤◌, List, [], ◌∷◌, length, refl, sym, ◌∙◌, ap, subst, arith}
 use Rattle.std.specs.Prelude.{Bool, false, IsTrue}
-use Rattle.ckc_base.specs.Matching.{Stretch}
-use Rattle.ckc_base.proofs.Runs.{no_step, then_stretch}
 use Rattle.ckc_source.specs.declared.stmt.Spot.{Spot}
 use Rattle.ckc_source.specs.Code as source
 use Rattle.ckc_source.specs.States.{Work, Rest, Turn, Leaving, Ended, Broken, Continued, begun, stepped, turned, behind, resumed, settled}
@@ -10,7 +8,7 @@ use Rattle.ckc_core.specs.Code.{Code, End, Break, Continue, Function}
 use Rattle.ckc_core.specs.Meaning.{Stop, Next, Body, Step, core_step, extra_steps, ends, breaks, continues, goes_to, runs}
 use Rattle.ckc_core.specs.Meaning as C
 use Rattle.ckc_checks.specs.code.Inserted.{statements}
-use Rattle.ckc_checks_follow.proofs.Running.{machine, step_by}
+use Rattle.ckc_checks_follow.proofs.Paths.{Quiet, no_quiet, then_quiet, quiet_by}
 use Rattle.ckc_checks_follow.proofs.Relation.{turn_code, Stands, IsLoop, Behind, Front}
 
 module _ (functions : List source.Function) (core : List Function) (t : ℕ) where
@@ -24,7 +22,7 @@ module _ (functions : List source.Function) (core : List Function) (t : ℕ) whe
     pub code : Code
     pub rest : C.Rest
     pub few : count ≤ most
-    pub path : Stretch (machine core) count [] s (placed s code rest)
+    pub path : Quiet core count s (placed s code rest)
     pub front : Front functions t work code rest
 
   -- the statements in front are left in this way, where `rest` is as far as core code has looked
@@ -39,22 +37,22 @@ module _ (functions : List source.Function) (core : List Function) (t : ℕ) whe
   May Continued looped = IsTrue looped
 
   one : (s : C.State) (code : Code) (c : Code) (rest : C.Rest) → s.frame.code ≡ code → extra_steps code ≡ 0 → runs core s code ≡ goes_to s c rest
-      → Stretch (machine core) 1 [] s (placed s c rest)
+      → Quiet core 1 s (placed s c rest)
   unfolding core_step
   one s code c rest e z h =
       let go : core_step core s ≡ goes_to s c rest = ap (runs core s) e ∙ h in
       let count : extra_steps s.frame.code + 1 ≡ 1 = ap (λ x. extra_steps x + 1) e ∙ ap (λ n. n + 1) z in
-      subst (λ n. Stretch (machine core) n [] s (placed s c rest)) count (step_by core [] s (placed s c rest) go)
+      subst (λ n. Quiet core n s (placed s c rest)) count (quiet_by core s (placed s c rest) go refl)
 
   -- one step in front of what settles
-  later : (most k : ℕ) (s : C.State) (c : Code) (rest : C.Rest) (work : List Work) → Stretch (machine core) 1 [] s (placed s c rest)
+  later : (most k : ℕ) (s : C.State) (c : Code) (rest : C.Rest) (work : List Work) → Quiet core 1 s (placed s c rest)
       → most + 1 ≤ k → Settles most (placed s c rest) work → Settles k s work
   later most k s c rest work path fits p = record {
     count = 1 + p.count;
     code = p.code;
     rest = p.rest;
     few = omega (arith, p.few);
-    path = then_stretch (machine core) 1 p.count [] [] s (placed s c rest) (placed s p.code p.rest) path p.path;
+    path = then_quiet core 1 p.count s (placed s c rest) (placed s p.code p.rest) path p.path;
     front = p.front;
   }
 
@@ -68,7 +66,7 @@ module _ (functions : List source.Function) (core : List Function) (t : ℕ) whe
     code = c;
     rest = rest;
     few = omega arith;
-    path = no_step (machine core) (placed s c rest);
+    path = no_quiet core (placed s c rest);
     front = f;
   }
 
@@ -153,7 +151,7 @@ module _ (functions : List source.Function) (core : List Function) (t : ℕ) whe
     code = s.frame.code;
     rest = s.frame.rest;
     few = omega arith;
-    path = no_step (machine core) s;
+    path = no_quiet core s;
     front = l;
   }
   settles [] Broken Stop looped s l may b = absurd (b may)
