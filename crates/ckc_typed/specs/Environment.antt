@@ -8,7 +8,7 @@ use Rattle.ckc_types.specs.declared.types.CType.{CType}
 use Rattle.ckc_types.specs.declared.types.CType.TheVariants as ctype
 use Rattle.ckc_types.specs.declared.types.Structs.{Structs}
 use Rattle.ckc_types.specs.Layout.{members_of}
-use Rattle.ckc_syntax.specs.Inside.{inside_if, inside_act}
+use Rattle.ckc_syntax.specs.Inside.{listed, inside_if, inside_act}
 use Rattle.ckc_syntax.specs.declared.tree.Name.{Name}
 use Rattle.ckc_syntax.specs.declared.tree.Name.TheVariants as name
 use Rattle.ckc_syntax.specs.declared.tree.Length.{Length}
@@ -79,7 +79,7 @@ abbrev pub signatures_of : {A : Type 0} → List (Item Name A) → List Signatur
 signatures_of items = getchar ∷ putchar ∷ flat_map signatures_of_item items
 
 abbrev pub act_variables : {A : Type 0} → Act-F Name A (List Variable) (List Variable) → List Variable
-act_variables = inside_act (λ e. []) (λ d. variable_declared d ∷ [])
+act_variables = inside_act listed (λ e. []) (λ d. variable_declared d ∷ []) (λ s. s)
 
 abbrev pub stmt_variables : {A : Type 0} → Stmt-F Name A (List Variable) (List Variable) → List Variable
 stmt_variables s = s.body
@@ -92,7 +92,7 @@ abbrev pub locals_of_act : {A : Type 0} → acts.Act Name A → List Variable
 locals_of_act {A} = fold-Act Name A (List Variable) (List Variable) act_variables stmt_variables
 
 abbrev pub locals_of_part : {A : Type 0} → Option (statements.Stmt Name A) → List Variable
-locals_of_part = inside_if locals_of
+locals_of_part = inside_if listed locals_of
 
 abbrev pub params_of : {A : Type 0} → heads.Head Name A → List Variable
 params_of h = map variable_declared h.params
