@@ -13,10 +13,10 @@ use Rattle.ckc_syntax.specs.declared.tree.Stmt.{Stmt}
 use Rattle.ckc_syntax.proofs.Insides.{each_same, if_same}
 use Rattle.ckc_typed_welltyped.specs.Noteless.{act_noteless, bare_expr, bare_init, bare_decl, bare_stmt, bare_head, bare_item}
 
-module _ {N A X : Type 0} (j : Joining X) where
-  two : (a b c d : X) → a ≡ c → b ≡ d → j.both a b ≡ j.both c d
-  two a b c d p q = ap (λ x. j.both x b) p ∙ ap (λ x. j.both c x) q
+two : {X : Type 0} (j : Joining X) (a b c d : X) → a ≡ c → b ≡ d → j.both a b ≡ j.both c d
+two j a b c d p q = ap (λ x. j.both x b) p ∙ ap (λ x. j.both c x) q
 
+module _ {N A X : Type 0} (j : Joining X) where
   pub init_same : (of_expr : Expr N (Unit {0}) → X) (with_expr : Expr N A → X) → ((e : Expr N A) → of_expr (bare_expr e) ≡ with_expr e)
       → (i : Init N A) → inside_init j of_expr (bare_init i) ≡ inside_init j with_expr i
   init_same of_expr with_expr exprs init.Nothing = refl
@@ -27,7 +27,7 @@ module _ {N A X : Type 0} (j : Joining X) where
       → ((e : Expr N A) → of_expr (bare_expr e) ≡ with_expr e) → ((d : Decl N A) → of_decl (bare_decl d) ≡ with_decl d)
       → (a : Act-F N A B S) → inside_act j of_expr of_decl of_stmt (act_noteless a) ≡ inside_act j with_expr with_decl of_stmt a
   act_same of_expr of_decl with_expr with_decl of_stmt exprs decls (Act-F.Local d) = decls d
-  act_same of_expr of_decl with_expr with_decl of_stmt exprs decls (Act-F.Assign e f) = two _ _ _ _ (exprs e) (exprs f)
+  act_same of_expr of_decl with_expr with_decl of_stmt exprs decls (Act-F.Assign e f) = two j _ _ _ _ (exprs e) (exprs f)
   act_same of_expr of_decl with_expr with_decl of_stmt exprs decls (Act-F.Call e) = exprs e
   act_same of_expr of_decl with_expr with_decl of_stmt exprs decls (Act-F.If e s t) = ap (λ x. j.both (j.both x (of_stmt s)) (inside_if j of_stmt t)) (exprs e)
   act_same of_expr of_decl with_expr with_decl of_stmt exprs decls (Act-F.While e s) = ap (λ x. j.both x (of_stmt s)) (exprs e)
@@ -46,4 +46,4 @@ module _ {N A X : Type 0} (j : Joining X) where
   item_same of_decl of_head of_stmt with_decl with_head with_stmt decls heads stmts (item.Struct n members at) = each_same j bare_decl of_decl with_decl decls members
   item_same of_decl of_head of_stmt with_decl with_head with_stmt decls heads stmts (item.Static d) = decls d
   item_same of_decl of_head of_stmt with_decl with_head with_stmt decls heads stmts (item.Proto h) = heads h
-  item_same of_decl of_head of_stmt with_decl with_head with_stmt decls heads stmts (item.Function h s) = two _ _ _ _ (heads h) (stmts s)
+  item_same of_decl of_head of_stmt with_decl with_head with_stmt decls heads stmts (item.Function h s) = two j _ _ _ _ (heads h) (stmts s)
