@@ -8,7 +8,8 @@ use Rattle.ckc_typed.specs.Trees.{NotedAct, NotedExpr, NotedStmt}
 use Rattle.ckc_bounds_points.specs.declared.frame.Local.{Local}
 use Rattle.ckc_bounds_points.specs.declared.frame.Frame.{Frame}
 use Rattle.ckc_bounds.specs.Declarations.{with_all}
-use Rattle.ckc_bounds_statements.specs.Paths.{all_declared, there_declared, path, path_of_act}
+use Rattle.ckc_bounds_statements.specs.code.Parts.{all_declared, there_declared}
+use Rattle.ckc_bounds_statements.specs.Paths.{path, path_of_act}
 use Rattle.ckc_bounds.proofs.Lists.{with_all_append}
 
 module _ (frame : Frame) (bounded : Bool) (old : List Local) where

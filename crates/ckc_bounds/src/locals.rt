@@ -3,7 +3,8 @@
 ghost use Rattle.std.specs.Prelude.{◌≡◌, ◌∷◌, [], ◌++◌, length, map, IfOk, OnOk};
 ghost use Rattle.std.specs.Option.{option_map};
 ghost use Rattle.ckc_bounds.specs.Declarations.{local_made, with_all};
-ghost use Rattle.ckc_bounds_statements.specs.Paths.{all_declared, there_declared, path, path_of_act};
+ghost use Rattle.ckc_bounds_statements.specs.code.Parts.{all_declared, there_declared};
+ghost use Rattle.ckc_bounds_statements.specs.Paths.{path, path_of_act};
 
 use crate::declared::known_bounds;
 use ckc_base::{Boxed, Seq};

@@ -6,6 +6,7 @@ use Rattle.ckc_base.specs.declared.arithmetic.Mode.{Mode}
 use Rattle.ckc_base.specs.Outcomes.{Outcome, bind, unless, refused, in_turn}
 use Rattle.ckc_types.specs.declared.types.CType.{CType}
 use Rattle.ckc_linear.specs.declared.forms.Form.{Form}
+use Rattle.ckc_syntax.specs.Inside.{listed, one_has, inside_if, inside_init, inside_run}
 use Rattle.ckc_syntax.specs.declared.tree.Name.{Name}
 use Rattle.ckc_syntax.specs.declared.tree.Name.TheVariants as name
 use Rattle.ckc_syntax.specs.declared.tree.Init.TheVariants as init
@@ -197,109 +198,36 @@ pub record ActPath : Type 0 where
 abbrev pub ActOfPaths : Type 0
 ActOfPaths = Act-F Name Note ActPath Path
 
-abbrev pub all_declared : List Path → List NotedDecl
-all_declared [] = []
-all_declared (s ∷ ss) = s.declared ++ all_declared ss
-
-abbrev pub there_declared : Option Path → List NotedDecl
-there_declared None = []
-there_declared (Some s) = s.declared
-
+-- the locals that are declared anywhere in what a statement does
 abbrev pub act_declared : ActOfPaths → List NotedDecl
-act_declared (Act-F.Block m ss) = all_declared ss
-act_declared (Act-F.Local d) = d ∷ []
-act_declared (Act-F.If e s t) = s.declared ++ there_declared t
-act_declared (Act-F.While e s) = s.declared
-act_declared (Act-F.For s e t u) = there_declared s ++ (u.declared ++ there_declared t)
-act_declared (Act-F.Bundle ss) = all_declared ss
-act_declared _ = []
+act_declared = inside_run listed (λ e. []) (λ d. d ∷ []) (λ (s : Path). s.declared)
 
 -- whether an expression may need a fresh variable
 unfoldable pub needs_expr : Frame → NotedExpr → Bool
 needs_expr frame e = not ((view frame e).most_fresh == 0)
 
-abbrev pub needs_some : Frame → List NotedExpr → Bool
-needs_some frame [] = false
-needs_some frame (e ∷ es) = needs_expr frame e || needs_some frame es
-
-abbrev pub needs_value : Frame → Option NotedExpr → Bool
-needs_value frame None = false
-needs_value frame (Some e) = needs_expr frame e
-
-abbrev pub needs_init : Frame → NotedInit → Bool
-needs_init frame init.Nothing = false
-needs_init frame (init.One e) = needs_expr frame e
-needs_init frame (init.Many es) = needs_some frame es
-
-abbrev pub some_need : Frame → List Path → Bool
-some_need frame [] = false
-some_need frame (s ∷ ss) = s.may_need frame || some_need frame ss
-
-abbrev pub there_needs : Frame → Option Path → Bool
-there_needs frame None = false
-there_needs frame (Some s) = s.may_need frame
-
+-- whether an expression in what a statement does may need a fresh variable
 abbrev pub act_needs : ActOfPaths → Frame → Bool
-act_needs (Act-F.Block m ss) frame = some_need frame ss
-act_needs (Act-F.Local d) frame = needs_init frame d.init
-act_needs (Act-F.Assign e f) frame = needs_expr frame e || needs_expr frame f
-act_needs (Act-F.Call e) frame = needs_expr frame e
-act_needs (Act-F.If e s t) frame = needs_expr frame e || (s.may_need frame || there_needs frame t)
-act_needs (Act-F.While e s) frame = needs_expr frame e || s.may_need frame
-act_needs (Act-F.For s e t u) frame = there_needs frame s || (needs_value frame e || (u.may_need frame || there_needs frame t))
-act_needs (Act-F.Return e) frame = needs_value frame e
-act_needs (Act-F.Check e) frame = needs_expr frame e
-act_needs (Act-F.Bundle ss) frame = some_need frame ss
-act_needs _ frame = false
+act_needs a frame = inside_run one_has (needs_expr frame) (λ (d : NotedDecl). inside_init one_has (needs_expr frame) d.init) (λ (s : Path). s.may_need frame) a
 
-abbrev pub all_assigned : List Path → List ℕ
-all_assigned [] = []
-all_assigned (s ∷ ss) = s.assigned ++ all_assigned ss
-
-abbrev pub there_assigned : Option Path → List ℕ
-there_assigned None = []
-there_assigned (Some s) = s.assigned
-
+-- the locals that what a statement does assigns; a declaration is an assignment
 abbrev pub act_assigned : ActOfPaths → List ℕ
-act_assigned (Act-F.Block m ss) = all_assigned ss
-act_assigned (Act-F.Local d) = local_in d.name
 act_assigned (Act-F.Assign e f) = target_in e
-act_assigned (Act-F.If e s t) = s.assigned ++ there_assigned t
-act_assigned (Act-F.While e s) = s.assigned
-act_assigned (Act-F.For s e t u) = there_assigned s ++ (u.assigned ++ there_assigned t)
-act_assigned (Act-F.Bundle ss) = all_assigned ss
-act_assigned _ = []
+act_assigned a = inside_run listed (λ e. []) (λ (d : NotedDecl). local_in d.name) (λ (s : Path). s.assigned) a
 
-abbrev pub some_break : List Path → Bool
-some_break [] = false
-some_break (s ∷ ss) = s.breaks || some_break ss
-
-abbrev pub there_breaks : Option Path → Bool
-there_breaks None = false
-there_breaks (Some s) = s.breaks
-
--- The `break` of a loop leaves that loop alone.
+-- The `break` and the `continue` of a loop stay in that loop.
 abbrev pub act_breaks : ActOfPaths → Bool
-act_breaks (Act-F.Block m ss) = some_break ss
-act_breaks (Act-F.Bundle ss) = some_break ss
-act_breaks (Act-F.If e s t) = s.breaks || there_breaks t
+act_breaks (Act-F.While e s) = false
+act_breaks (Act-F.For s e t u) = false
 act_breaks Act-F.Break = true
-act_breaks _ = false
+act_breaks a = inside_run one_has (λ e. false) (λ d. false) (λ (s : Path). s.breaks) a
 
-abbrev pub some_continue : List Path → Bool
-some_continue [] = false
-some_continue (s ∷ ss) = s.continues || some_continue ss
-
-abbrev pub there_continues : Option Path → Bool
-there_continues None = false
-there_continues (Some s) = s.continues
-
+-- whether a `continue` in what a statement does goes on with the loop around it
 abbrev pub act_continues : ActOfPaths → Bool
-act_continues (Act-F.Block m ss) = some_continue ss
-act_continues (Act-F.Bundle ss) = some_continue ss
-act_continues (Act-F.If e s t) = s.continues || there_continues t
+act_continues (Act-F.While e s) = false
+act_continues (Act-F.For s e t u) = false
 act_continues Act-F.Continue = true
-act_continues _ = false
+act_continues a = inside_run one_has (λ e. false) (λ d. false) (λ (s : Path). s.continues) a
 
 -- What is no assignment makes no bundle.
 abbrev pub act_part : ActOfPaths → Frame → Pos → Pos → Note → Here → Outcome (NotedStmt × Here)
@@ -399,7 +327,7 @@ to_step (Some at) here = record here { at = at }
 -- a `for`: its begin, its condition at the head of the loop, its body, and then its step
 abbrev pub for_judged : Frame → HeadBounds → Pos → Note → Option Path → Option NotedExpr → Option Path → Path → Here → Outcome (NotedStmt × Here)
 for_judged frame head at note s e t u here =
-    bind (part_judged frame head s here) (λ p. bind (for_started frame u.breaks u.continues e (loop_head frame (u.assigned ++ there_assigned t) p.1)) (λ q.
+    bind (part_judged frame head s here) (λ p. bind (for_started frame u.breaks u.continues e (loop_head frame (u.assigned ++ inside_if listed (λ (v : Path). v.assigned) t) p.1)) (λ q.
     bind (u.judged frame head q.1) (λ r. bind (part_judged frame head t (to_step q.0.step r.1)) (λ v.
     Ok (stated at note (act.For p.0 q.0.condition v.0 r.0), closed (length here.seen) (record v.1 { at = q.0.other }))))))
 

@@ -2,7 +2,8 @@
 
 ghost use Rattle.std.specs.Prelude.{◌≡◌, ◌++◌, ◌||◌, map, OnOk};
 ghost use Rattle.std.specs.Option.{option_map};
-ghost use Rattle.ckc_bounds_statements.specs.Paths.{local_in, target_in, all_assigned, there_assigned, some_break, there_breaks, some_continue, there_continues, path, path_of_act};
+ghost use Rattle.ckc_bounds_statements.specs.code.Parts.{all_assigned, there_assigned, some_break, there_breaks, some_continue, there_continues};
+ghost use Rattle.ckc_bounds_statements.specs.Paths.{local_in, target_in, path, path_of_act};
 
 use ckc_base::{Boxed, Seq};
 use ckc_syntax::{Act, Expr, Name, Node, Stmt};

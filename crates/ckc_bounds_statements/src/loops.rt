@@ -5,7 +5,8 @@ ghost use Rattle.std.specs.Option.{option_map};
 ghost use Rattle.ckc_base.specs.Outcomes.{StepsOutcome};
 ghost use Rattle.ckc_base.specs.Phases.{viewed};
 ghost use Rattle.ckc_bounds_points.specs.Flow.{state, joined};
-ghost use Rattle.ckc_bounds_statements.specs.Paths.{maybe_side, other_side, maybe_other, branched, loop_head, maybe_point, for_started, to_step, there_assigned, path};
+ghost use Rattle.ckc_bounds_statements.specs.code.Parts.{there_assigned};
+ghost use Rattle.ckc_bounds_statements.specs.Paths.{maybe_side, other_side, maybe_other, branched, loop_head, maybe_point, for_started, to_step, path};
 ghost use Rattle.ckc_bounds_statements.specs.Walks.{here};
 ghost use Rattle.ckc_bounds_statements.specs.code.Walks.{maybe_state, branch, start};
 

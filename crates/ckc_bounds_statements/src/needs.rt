@@ -2,7 +2,8 @@
 
 ghost use Rattle.std.specs.Prelude.{◌≡◌, map};
 ghost use Rattle.std.specs.Option.{option_map};
-ghost use Rattle.ckc_bounds_statements.specs.Paths.{needs_expr, needs_some, needs_value, needs_init, some_need, there_needs, path, path_of_act};
+ghost use Rattle.ckc_bounds_statements.specs.code.Parts.{needs_some, needs_value, needs_init, some_need, there_needs};
+ghost use Rattle.ckc_bounds_statements.specs.Paths.{needs_expr, path, path_of_act};
 
 use ckc_base::Boxed;
 use ckc_bounds_points::Frame;

@@ -17,7 +17,8 @@ use Rattle.ckc_typed.proofs.ActLayers.{ActSteps, ActProperty, KeptActLayer, Kept
 use Rattle.ckc_build_values.specs.Expressions as values
 use Rattle.ckc_build_values.proofs.Counted.{both, third, limits_counted, expr_counted}
 use Rattle.ckc_build_elaborate.specs.Literals.{literals_of_value, literals_of_bounds, literals_of_init, literals_of_decl, literals_of_decls}
-use Rattle.ckc_build_elaborate.specs.Statements.{ActPart, Part, act_parts, stmt_parts, all_literals, part_of}
+use Rattle.ckc_build_elaborate.specs.code.Statements.{all_literals}
+use Rattle.ckc_build_elaborate.specs.Statements.{ActPart, Part, act_parts, stmt_parts, part_of}
 use Rattle.ckc_build_elaborate.specs.Functions.{literals_of_head, literals_of_item}
 
 exprs : (es : List NotedExpr) → values.all_literals (map values.part_of es) ≡ length (flat_map strings_of_expr es)

@@ -1,5 +1,6 @@
 -- What functions mean (ISO C11, 6.9.1).
 use Rattle.std.specs.Prelude.{ℕ, ◌+◌, List, [], ◌∷◌, length}
+use Rattle.ckc_syntax.specs.Inside.{summed, inside_item}
 use Rattle.ckc_syntax.specs.declared.tree.Item.TheVariants as item
 use Rattle.ckc_typed.specs.declared.typed.Typed.{Typed}
 use Rattle.ckc_typed.specs.Trees.{NotedHead, NotedItem, NotedStmt}
@@ -21,12 +22,7 @@ literals_of_head h = literals_of_decls h.params + literals_of_bounds h.bounds
 
 -- how many string literals that make a block are in an item of a text
 abbrev pub literals_of_item : NotedItem → ℕ
-literals_of_item (item.Directive d) = 0
-literals_of_item (item.Tag n at) = 0
-literals_of_item (item.Struct n members at) = literals_of_decls members
-literals_of_item (item.Static d) = literals_of_decl d
-literals_of_item (item.Proto h) = literals_of_head h
-literals_of_item (item.Function h body) = literals_of_head h + (part_of body).literals
+literals_of_item = inside_item summed literals_of_decl literals_of_head (λ (s : NotedStmt). (part_of s).literals)
 
 -- ---- functions
 

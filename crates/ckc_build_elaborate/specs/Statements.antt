@@ -3,6 +3,7 @@ use Rattle.std.specs.Prelude.{ℕ, ◌+◌, List, [], ◌∷◌, ◌++◌, Optio
 use Rattle.ckc_base.specs.declared.places.Pos.{Pos}
 use Rattle.ckc_base.specs.declared.arithmetic.Mode.{Mode}
 use Rattle.ckc_types.specs.declared.types.CType.{CType}
+use Rattle.ckc_syntax.specs.Inside.{summed, inside_if, inside_act}
 use Rattle.ckc_syntax.specs.declared.tree.Name.{Name}
 use Rattle.ckc_syntax.specs.declared.tree.Act.{Act-F, fold-Act}
 use Rattle.ckc_syntax.specs.declared.tree.Stmt.{Stmt-F, fold-Stmt}
@@ -59,29 +60,11 @@ all_assigns ss p locals k = numbered (λ j s. s.assigns p locals j) (λ s. s.lit
 
 -- how many string literals are in a statement that may be left out, as behind `else`
 abbrev pub literals_if : Option Part → ℕ
-literals_if None = 0
-literals_if (Some s) = s.literals
-
--- how many string literals are in the statements of a block
-abbrev pub all_literals : List Part → ℕ
-all_literals [] = 0
-all_literals (s ∷ ss) = s.literals + all_literals ss
+literals_if = inside_if summed (λ (s : Part). s.literals)
 
 -- how many string literals are in a statement
 abbrev pub act_literals : Act-F Name Note ActPart Part → ℕ
-act_literals (Act-F.Block m ss) = all_literals ss
-act_literals Act-F.Empty = 0
-act_literals (Act-F.Local d) = literals_of_decl d
-act_literals (Act-F.Assign e f) = literals_of e + literals_of f
-act_literals (Act-F.Call e) = literals_of e
-act_literals (Act-F.If e s t) = literals_of e + s.literals + literals_if t
-act_literals (Act-F.While e s) = literals_of e + s.literals
-act_literals (Act-F.For s e t body) = literals_if s + literals_of_value e + literals_if t + body.literals
-act_literals (Act-F.Return e) = literals_of_value e
-act_literals Act-F.Break = 0
-act_literals Act-F.Continue = 0
-act_literals (Act-F.Check e) = literals_of e
-act_literals (Act-F.Bundle ss) = all_literals ss
+act_literals = inside_act summed literals_of literals_of_decl (λ (s : Part). s.literals)
 
 -- ---- the assignments of a bundle: targets and what they are assigned
 

@@ -3,7 +3,8 @@
 ghost use Rattle.std.specs.Prelude.{◌≡◌, ◌+◌, IfOk, map};
 ghost use Rattle.std.specs.Option.{option_map};
 ghost use Rattle.ckc_build_elaborate.specs.Literals.{literals_of_value, literals_of_bounds, literals_of_init, literals_of_decl, literals_of_decls};
-ghost use Rattle.ckc_build_elaborate.specs.Statements.{part_of, part_of_act, all_literals, literals_if};
+ghost use Rattle.ckc_build_elaborate.specs.code.Statements.{all_literals};
+ghost use Rattle.ckc_build_elaborate.specs.Statements.{part_of, part_of_act, literals_if};
 ghost use Rattle.ckc_build_elaborate.specs.Functions.{literals_of_head, literals_of_item};
 
 use ckc_base::Boxed;

@@ -14,7 +14,7 @@ use Rattle.ckc_syntax.specs.declared.tree.Limits.TheVariants as limits
 use Rattle.ckc_syntax.specs.declared.tree.Node.{Node-F, map-Node, roll-Node, fold-roll-Node}
 use Rattle.ckc_syntax.specs.declared.tree.Node.TheVariants as node
 use Rattle.ckc_syntax.specs.declared.tree.Expr.{Expr-F, map-Expr, ind-Expr, roll-Expr, fold-roll-Expr}
-use Rattle.ckc_syntax.specs.Inside.{inside_limits}
+use Rattle.ckc_syntax.specs.Inside.{listed, inside_limits}
 use Rattle.ckc_syntax_limits.specs.Marks.{Mark, node as mark, node_marks, expr_marks, marks_of_limits, marks_of_node, marks_of_expr}
 use Rattle.ckc_typed.specs.declared.typed.Note.{Note}
 use Rattle.ckc_typed.specs.declared.typed.Range.{Range}
@@ -58,15 +58,15 @@ abbrev Marks : Type 0
 Marks = List Mark
 
 limits_are : (x : LimitsLayer) → marks_of_limits (roll-Limits Name Note x)
-    ≡ inside_limits (map-Limits Name Note NotedLimits NotedNode NotedExpr Marks Marks Marks marks_of_limits marks_of_node marks_of_expr x)
-limits_are = fold-roll-Limits Name Note Marks Marks Marks inside_limits node_marks expr_marks
+    ≡ inside_limits listed (λ e. e) (map-Limits Name Note NotedLimits NotedNode NotedExpr Marks Marks Marks marks_of_limits marks_of_node marks_of_expr x)
+limits_are = fold-roll-Limits Name Note Marks Marks Marks (inside_limits listed (λ e. e)) node_marks expr_marks
 
 node_is : (x : NotedLayer) → marks_of_node (roll-Node Name Note x)
     ≡ node_marks (map-Node Name Note NotedLimits NotedNode NotedExpr Marks Marks Marks marks_of_limits marks_of_node marks_of_expr x)
-node_is = fold-roll-Node Name Note Marks Marks Marks inside_limits node_marks expr_marks
+node_is = fold-roll-Node Name Note Marks Marks Marks (inside_limits listed (λ e. e)) node_marks expr_marks
 
 limits_made : {l : NotedLimits} (x : LimitsLayer) → roll-Limits Name Note x ≡ l → marks_of_limits l
-    ≡ inside_limits (map-Limits Name Note NotedLimits NotedNode NotedExpr Marks Marks Marks marks_of_limits marks_of_node marks_of_expr x)
+    ≡ inside_limits listed (λ e. e) (map-Limits Name Note NotedLimits NotedNode NotedExpr Marks Marks Marks marks_of_limits marks_of_node marks_of_expr x)
 limits_made x made = ap marks_of_limits (sym made) ∙ limits_are x
 
 node_made : {n : NotedNode} (x : NotedLayer) → roll-Node Name Note x ≡ n → marks_of_node n
@@ -74,7 +74,7 @@ node_made : {n : NotedNode} (x : NotedLayer) → roll-Node Name Note x ≡ n →
 node_made x made = ap marks_of_node (sym made) ∙ node_is x
 
 pub expr_is : (e : NotedExpr) → marks_of_expr e ≡ mark ∷ marks_of_node e.node
-expr_is e = fold-roll-Expr Name Note Marks Marks Marks inside_limits node_marks expr_marks (record { node = e.node; pos = e.pos; note = e.note })
+expr_is e = fold-roll-Expr Name Note Marks Marks Marks (inside_limits listed (λ e. e)) node_marks expr_marks (record { node = e.node; pos = e.pos; note = e.note })
 
 abbrev there_marks : Option NotedLimits → Marks
 there_marks None = []
@@ -125,7 +125,7 @@ module _ (frame : Frame) where
   held_node = map-Node Name Note NotedLimits NotedNode NotedExpr Marks Marks Marks marks_of_limits marks_of_node marks_of_expr
 
   limits_step : (y : Limits-F Name Note KeptLimits KeptNode KeptExpr) (size fresh : ℕ) (at : State)
-      → Keeps marks_of_limits (inside_limits (held_limits (inner_limits y))) (limits_judged (limits_inside (inner_limits y)) size fresh at)
+      → Keeps marks_of_limits (inside_limits listed (λ e. e) (held_limits (inner_limits y))) (limits_judged (limits_inside (inner_limits y)) size fresh at)
   limits_step (Limits-F.Count k pos) size fresh at =
       bound _ _ _ _ _ _ (k.1.judged fresh at) (λ a h. kept marks_of_limits (marks_of_expr k.0) (not (counts_elements (view frame k.0))) bad_limits pos (Ok (limits.Count a pos)) (limits_made (Limits-F.Count a pos) (limits.rolls-Count a pos) ∙ h))
   limits_step (Limits-F.ByteCount k pos) size fresh at =
@@ -182,8 +182,8 @@ module _ (frame : Frame) where
   limits_by x y is = record {
     judged = λ size fresh at.
         let P : LimitsView → Marks → Type 0 = λ v ms. Keeps marks_of_limits ms (v.judged size fresh at) in
-        subst (λ ms. P (view_of_limits frame (roll-Limits Name Note x)) ms) (sym (limits_are x ∙ ap (λ z. inside_limits (held_limits z)) (sym is)))
-        (subst (λ v. P v (inside_limits (held_limits (inner_limits y))))
+        subst (λ ms. P (view_of_limits frame (roll-Limits Name Note x)) ms) (sym (limits_are x ∙ ap (λ z. inside_limits listed (λ e. e) (held_limits z)) (sym is)))
+        (subst (λ v. P v (inside_limits listed (λ e. e) (held_limits (inner_limits y))))
         (sym (fold-roll-Limits Name Note LimitsView NodeView View limits_view (node_view frame) expr_view x ∙ ap (λ z. limits_view (limits_inside z)) (sym is)))
         (limits_step y size fresh at));
   }
@@ -205,7 +205,7 @@ module _ (frame : Frame) where
   expr_by x y is =
       let viewed = sym (fold-roll-Expr Name Note LimitsView NodeView View limits_view (node_view frame) expr_view x ∙ ap (λ z. expr_view (expr_inside z)) (sym is)) in
       let counted : marks_of_expr (roll-Expr Name Note x) ≡ mark ∷ marks_of_node y.node.0 =
-      fold-roll-Expr Name Note Marks Marks Marks inside_limits node_marks expr_marks x ∙ ap (λ (z : Expr-F Name Note NotedLimits NotedNode NotedExpr). mark ∷ marks_of_node z.node) (sym is) in
+      fold-roll-Expr Name Note Marks Marks Marks (inside_limits listed (λ e. e)) node_marks expr_marks x ∙ ap (λ (z : Expr-F Name Note NotedLimits NotedNode NotedExpr). mark ∷ marks_of_node z.node) (sym is) in
       record {
         judged = λ fresh at.
             let P : View → Marks → Type 0 = λ v ms. Keeps marks_of_expr ms (v.judged fresh at) in

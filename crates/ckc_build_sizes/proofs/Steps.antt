@@ -9,7 +9,7 @@ use Rattle.ckc_syntax.specs.declared.tree.Name.TheVariants as name
 use Rattle.ckc_syntax.specs.declared.tree.Init.TheVariants as init
 use Rattle.ckc_syntax.specs.declared.tree.Node.{Node-F, out-Node, fold_out-Node}
 use Rattle.ckc_syntax.specs.declared.tree.Expr.{fold_out-Expr}
-use Rattle.ckc_syntax.specs.Inside.{inside_limits}
+use Rattle.ckc_syntax.specs.Inside.{listed, inside_limits}
 use Rattle.ckc_syntax_limits.specs.Marks.{node, node_marks, expr_marks, marks_of_expr, marks_of_bounds, marks_of_init, marks_of_decl, marks_of_value}
 use Rattle.ckc_typed.specs.declared.environment.Variable.{Variable}
 use Rattle.ckc_typed.specs.declared.typed.Note.{Note}
@@ -35,8 +35,8 @@ use Rattle.ckc_build_sizes.proofs.Values.{Marks, held_node, value_small, place_s
 
 layer_is : (e : NotedExpr) → marks_of_expr e ≡ node ∷ node_marks (held_node (out-Node Name Note e.node))
 layer_is e =
-    fold_out-Expr Name Note Marks Marks Marks inside_limits node_marks expr_marks e
-    ∙ ap (λ ms. node ∷ ms) (fold_out-Node Name Note Marks Marks Marks inside_limits node_marks expr_marks e.node)
+    fold_out-Expr Name Note Marks Marks Marks (inside_limits listed (λ e. e)) node_marks expr_marks e
+    ∙ ap (λ ms. node ∷ ms) (fold_out-Node Name Note Marks Marks Marks (inside_limits listed (λ e. e)) node_marks expr_marks e.node)
 
 abbrev Holds : NotedExpr → NotedLayer → Type 0
 Holds e x = marked (marks_of_expr e) ≡ 1 + marked (node_marks (held_node x))

@@ -10,7 +10,7 @@ use Rattle.ckc_syntax.specs.declared.tree.TreeOp.TheVariants as op
 use Rattle.ckc_syntax.specs.declared.tree.Limits.{Limits-F, map-Limits, roll-Limits, fold-roll-Limits}
 use Rattle.ckc_syntax.specs.declared.tree.Node.{Node-F, map-Node, roll-Node, fold-roll-Node}
 use Rattle.ckc_syntax.specs.declared.tree.Expr.{Expr-F, map-Expr, ind-Expr, roll-Expr, fold-roll-Expr}
-use Rattle.ckc_syntax.specs.Inside.{inside_limits}
+use Rattle.ckc_syntax.specs.Inside.{listed, inside_limits}
 use Rattle.ckc_syntax_limits.specs.Marks.{Mark, node_marks, expr_marks, marks_of_limits, marks_of_node, marks_of_expr}
 use Rattle.ckc_typed.specs.declared.environment.Variable.{Variable}
 use Rattle.ckc_typed.specs.declared.typed.Note.{Note}
@@ -108,7 +108,7 @@ count_holds m k h = (omega (arith, h, index_most k), omega (arith, h))
 none_holds : (m : ℕ) → CountHolds m outside
 none_holds m = (omega arith, omega arith)
 
-limits_step : (y : Limits-F Name Note KeptLimits KeptNode KeptExpr) → LimitsFits (inside_limits (held_limits (inner_limits y))) (limits_parts (part_limits (inner_limits y)))
+limits_step : (y : Limits-F Name Note KeptLimits KeptNode KeptExpr) → LimitsFits (inside_limits listed (λ e. e) (held_limits (inner_limits y))) (limits_parts (part_limits (inner_limits y)))
 limits_step (Limits-F.Count e at) = λ size p locals k.
     count_holds (marked (marks_of_expr e.0)) ((part_of e.0).value p locals k) (omega (arith, (e.1 p locals k).0 false))
 limits_step (Limits-F.ByteCount e at) = λ size p locals k.
@@ -274,19 +274,19 @@ carried P {a} {c} {b} {d} e f h = subst (λ x. P x b) (sym e) (subst (λ y. P c 
 
 limits_by : (x : Limits-F Name Note NotedLimits NotedNode NotedExpr) (y : Limits-F Name Note KeptLimits KeptNode KeptExpr) → inner_limits y ≡ x → LimitsSmall (roll-Limits Name Note x)
 limits_by x y is =
-    carried LimitsFits (fold-roll-Limits Name Note Marks Marks Marks inside_limits node_marks expr_marks x)
+    carried LimitsFits (fold-roll-Limits Name Note Marks Marks Marks (inside_limits listed (λ e. e)) node_marks expr_marks x)
     (fold-roll-Limits Name Note LimitsPart NodePart Part limits_parts node_parts expr_parts x)
-    (subst (λ z. LimitsFits (inside_limits (held_limits z)) (limits_parts (part_limits z))) is (limits_step y))
+    (subst (λ z. LimitsFits (inside_limits listed (λ e. e) (held_limits z)) (limits_parts (part_limits z))) is (limits_step y))
 
 node_by : (x : NotedLayer) (y : Node-F Name Note KeptLimits KeptNode KeptExpr) → inner_node y ≡ x → NodeSmall (roll-Node Name Note x)
 node_by x y is =
-    carried NodeFits (fold-roll-Node Name Note Marks Marks Marks inside_limits node_marks expr_marks x)
+    carried NodeFits (fold-roll-Node Name Note Marks Marks Marks (inside_limits listed (λ e. e)) node_marks expr_marks x)
     (fold-roll-Node Name Note LimitsPart NodePart Part limits_parts node_parts expr_parts x)
     (subst (λ z. NodeFits (node_marks (held_node z)) (node_parts (part_node z))) is (node_step y))
 
 expr_by : (x : Expr-F Name Note NotedLimits NotedNode NotedExpr) (y : Expr-F Name Note KeptLimits KeptNode KeptExpr) → inner_expr y ≡ x → ExprSmall (roll-Expr Name Note x)
 expr_by x y is =
-    carried ExprFits (fold-roll-Expr Name Note Marks Marks Marks inside_limits node_marks expr_marks x)
+    carried ExprFits (fold-roll-Expr Name Note Marks Marks Marks (inside_limits listed (λ e. e)) node_marks expr_marks x)
     (fold-roll-Expr Name Note LimitsPart NodePart Part limits_parts node_parts expr_parts x)
     (subst (λ z. ExprFits (expr_marks (held_expr z)) (expr_parts (part_expr z))) is (expr_step y))
 

@@ -10,7 +10,7 @@ use Rattle.ckc_syntax.proofs.Layers as kept
 use Rattle.ckc_syntax.proofs.Layers.{Steps, Property, LimitsLayer, NodeLayer, ExprLayer, inner_limits, inner_node, inner_expr, limits_made, node_made, expr_made, each_limits, each_expr}
 use Rattle.ckc_typed.specs.declared.typed.Note.{Note}
 use Rattle.ckc_typed.specs.Trees.{NotedLimits, NotedNode, NotedExpr}
-use Rattle.ckc_syntax.specs.Inside.{inside_limits}
+use Rattle.ckc_syntax.specs.Inside.{listed, inside_limits}
 use Rattle.ckc_typed.specs.Statics.{Strings, node_strings, expr_strings, strings_of_limits, strings_of_expr}
 use Rattle.ckc_build_values.specs.Expressions.{Part, NodePart, LimitsPart, limits_parts, node_parts, expr_parts, all_literals, part_of, literals_of, literals_of_limits}
 
@@ -18,7 +18,7 @@ abbrev counting : Steps Name Note LimitsPart NodePart Part
 counting = record { limits = limits_parts; node = node_parts; expr = expr_parts }
 
 abbrev strings_of_node : NotedNode → Strings
-strings_of_node = fold-Node Name Note Strings Strings Strings inside_limits node_strings expr_strings
+strings_of_node = fold-Node Name Note Strings Strings Strings (inside_limits listed (λ e. e)) node_strings expr_strings
 
 abbrev counted : Property Name Note LimitsPart NodePart Part
 counted = record {
@@ -46,7 +46,7 @@ each : (ks : List KeptExpr) → all_literals (map part_of (map (λ (k : KeptExpr
 each [] = refl
 each (k ∷ ks) = both (strings_of_expr k.0) _ _ _ k.1 (each ks)
 
-limits_step : (y : LimitsLayer counting counted) → (limits_made counting counted y).literals ≡ length (inside_limits (held_limits y))
+limits_step : (y : LimitsLayer counting counted) → (limits_made counting counted y).literals ≡ length (inside_limits listed (λ e. e) (held_limits y))
 limits_step (Limits-F.Count k at) = k.1
 limits_step (Limits-F.ByteCount k at) = k.1
 limits_step (Limits-F.Between k j at) = both (strings_of_expr k.0) (strings_of_expr j.0) _ _ k.1 j.1
@@ -74,13 +74,13 @@ node_step (Node-F.Calloc w k x) = k.1
 
 -- the same, of the literals of the whole layer
 limits_all : (y : LimitsLayer counting counted) → (limits_made counting counted y).literals ≡ length (strings_of_limits (roll-Limits Name Note (inner_limits counting counted y)))
-limits_all y = limits_step y ∙ ap length (sym (fold-roll-Limits Name Note Strings Strings Strings inside_limits node_strings expr_strings (inner_limits counting counted y)))
+limits_all y = limits_step y ∙ ap length (sym (fold-roll-Limits Name Note Strings Strings Strings (inside_limits listed (λ e. e)) node_strings expr_strings (inner_limits counting counted y)))
 
 node_all : (y : NodeLayer counting counted) → (node_made counting counted y).literals ≡ length (strings_of_node (roll-Node Name Note (inner_node counting counted y)))
-node_all y = node_step y ∙ ap length (sym (fold-roll-Node Name Note Strings Strings Strings inside_limits node_strings expr_strings (inner_node counting counted y)))
+node_all y = node_step y ∙ ap length (sym (fold-roll-Node Name Note Strings Strings Strings (inside_limits listed (λ e. e)) node_strings expr_strings (inner_node counting counted y)))
 
 expr_all : (y : ExprLayer counting counted) → (expr_made counting counted y).literals ≡ length (strings_of_expr (roll-Expr Name Note (inner_expr counting counted y)))
-expr_all y = y.node.1 ∙ ap length (sym (fold-roll-Expr Name Note Strings Strings Strings inside_limits node_strings expr_strings (inner_expr counting counted y)))
+expr_all y = y.node.1 ∙ ap length (sym (fold-roll-Expr Name Note Strings Strings Strings (inside_limits listed (λ e. e)) node_strings expr_strings (inner_expr counting counted y)))
 
 pub limits_counted : (l : NotedLimits) → literals_of_limits l ≡ length (strings_of_limits l)
 limits_counted = each_limits counting counted limits_all node_all expr_all

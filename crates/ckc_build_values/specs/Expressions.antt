@@ -1,9 +1,10 @@
 -- What expressions mean (ISO C11, 6.5; Checked C specification 0.9, section 3).
-use Rattle.std.specs.Prelude.{ℕ, ◌+◌, List, [], ◌∷◌, length, Option, None, Some}
+use Rattle.std.specs.Prelude.{ℕ, ◌+◌, List, length, Option, None, Some}
 use Rattle.ckc_base.specs.declared.places.Pos.{Pos}
 use Rattle.ckc_types.specs.declared.types.Kind.{Kind}
 use Rattle.ckc_types.specs.declared.types.Kind.TheVariants as kind
 use Rattle.ckc_types.specs.declared.types.CType.{CType}
+use Rattle.ckc_syntax.specs.Inside.{summed, inside_each, inside_if, inside_node}
 use Rattle.ckc_syntax.specs.declared.tree.Name.{Name}
 use Rattle.ckc_syntax.specs.declared.tree.Name.TheVariants as name
 use Rattle.ckc_syntax.specs.declared.tree.TreeOp.{TreeOp}
@@ -83,32 +84,16 @@ pub record LimitsPart : Type 0 where
 
 -- how many string literals are in the arguments of a call
 abbrev pub all_literals : List Part → ℕ
-all_literals [] = 0
-all_literals (e ∷ es) = e.literals + all_literals es
+all_literals = inside_each summed (λ (e : Part). e.literals)
 
 -- how many string literals are in the bounds of a cast, which may have none
 abbrev pub literals_if : Option LimitsPart → ℕ
-literals_if None = 0
-literals_if (Some l) = l.literals
+literals_if = inside_if summed (λ (l : LimitsPart). l.literals)
 
 -- how many string literals are in an expression
 abbrev pub node_literals : Node-F Name Note LimitsPart NodePart Part → ℕ
-node_literals (Node-F.Number n unsigned) = 0
 node_literals (Node-F.Text bytes) = 1
-node_literals Node-F.Null = 0
-node_literals (Node-F.Name n) = 0
-node_literals (Node-F.Un o e) = e.literals
-node_literals (Node-F.Bin o e f) = e.literals + f.literals
-node_literals (Node-F.Pick e f g) = e.literals + f.literals + g.literals
-node_literals (Node-F.Index e f) = e.literals + f.literals
-node_literals (Node-F.Dot e n at) = e.literals
-node_literals (Node-F.Arrow e n at) = e.literals
-node_literals (Node-F.Cast w e) = e.literals
-node_literals (Node-F.Size w) = 0
-node_literals (Node-F.Trusted w e l) = e.literals + literals_if l
-node_literals (Node-F.Tested w e l) = e.literals + literals_if l
-node_literals (Node-F.Call n es) = all_literals es
-node_literals (Node-F.Calloc w e x) = e.literals
+node_literals n = inside_node summed (λ (l : LimitsPart). l.literals) (λ (e : Part). e.literals) n
 
 -- ---- places: of objects by their names, of elements and of members
 

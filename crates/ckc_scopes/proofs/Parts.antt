@@ -15,6 +15,8 @@ use Rattle.ckc_syntax.specs.declared.tree.TypeTree.{TypeTree}
 use Rattle.ckc_syntax.specs.declared.tree.TreeOp.{TreeOp}
 use Rattle.ckc_syntax.specs.declared.tree.Stmt.{Stmt, the_lemmas as stmt_lemmas}
 use Rattle.ckc_syntax.specs.declared.tree.Act.TheVariants as act
+use Rattle.ckc_syntax.proofs.Insides.{each_found}
+use Rattle.ckc_syntax.specs.Inside.{listed, inside_each}
 use Rattle.ckc_typed.specs.declared.typed.Note.{Note}
 use Rattle.ckc_typed.specs.Walk.{Spot, within, value, spot, spots_of_limits, spots_of_bounds, spots_of_value, spots_of_part, spots_of_expr, spots_of_act, spots_of_stmt}
 
@@ -22,11 +24,11 @@ joined_is : {X : Type 0} (f : X → List Spot) (xs : List X) → concatenation (
 joined_is f [] = refl
 joined_is f (x ∷ xs) = ap (λ ys. f x ++ ys) (joined_is f xs)
 
-joined_of_call : (n : Name) (es : List (Expr Name Note)) → (within (nodes.Call n es)).parts ≡ concatenation (map spots_of_expr es)
+joined_of_call : (n : Name) (es : List (Expr Name Note)) → (within (nodes.Call n es)).parts ≡ inside_each listed (λ x. x) (map spots_of_expr es)
 joined_of_call n es = search (rules, expr_lemmas)
 
-pub parts_of_call : (n : Name) (es : List (Expr Name Note)) → (within (nodes.Call n es)).parts ≡ flat_map spots_of_expr es
-parts_of_call n es = joined_of_call n es ∙ joined_is spots_of_expr es
+pub parts_of_call : (n : Name) (es : List (Expr Name Note)) → (within (nodes.Call n es)).parts ≡ inside_each listed spots_of_expr es
+parts_of_call n es = joined_of_call n es ∙ each_found listed (λ x. x) spots_of_expr es
 
 pub parts_of_between : (e f : Expr Name Note) (pos : Pos) → spots_of_limits (limits.Between e f pos) ≡ spots_of_expr e ++ spots_of_expr f
 parts_of_between e f pos = search (rules, expr_lemmas)

@@ -4,6 +4,7 @@ ghost use Rattle.std.specs.Prelude.{◌≡◌, ◌∷◌, List, map, flat_map};
 ghost use Rattle.ckc_base.specs.declared.places.Pos.{Pos};
 ghost use Rattle.ckc_syntax.specs.declared.tree.Item.{Item};
 ghost use Rattle.ckc_syntax.specs.declared.tree.Name.{Name};
+ghost use Rattle.ckc_syntax.specs.Inside.{listed, inside_each};
 ghost use Rattle.ckc_typed.specs.declared.typed.Note.{Note};
 ghost use Rattle.ckc_typed.specs.Walk.{spot, written_at, value, called_by, within, spots_of_limits, spots_of_expr, spots_of_bounds, spots_of_value, spots_of_init};
 ghost use Rattle.ckc_scopes.specs.code.Verdict.{verdict, first};
@@ -146,7 +147,7 @@ pub fn expr_fits(e: &Expr<Name, Note>, items: &[Item<Name, Note>]) -> Result<(),
 
 #[cycle(expr_fits)]
 fn exprs_fit(es: &[Expr<Name, Note>], items: &[Item<Name, Note>]) -> Result<(), Refusal>
-    ensures { result ≡ verdict items.now (flat_map spots_of_expr es.now) }
+    ensures { result ≡ verdict items.now (inside_each listed spots_of_expr es.now) }
 {
     for e in es {
         expr_fits(e, items)?;

@@ -1,6 +1,7 @@
 //! Declarations and statements.
 
 ghost use Rattle.std.specs.Prelude.{◌≡◌, flat_map};
+ghost use Rattle.ckc_syntax.specs.Inside.{listed, inside_each};
 ghost use Rattle.ckc_typed.specs.Walk.{spots_of_decl, spots_of_act, spots_of_stmt, spots_of_part};
 ghost use Rattle.ckc_scopes.specs.code.Verdict.{verdict};
 
@@ -29,7 +30,7 @@ pub fn decls_fit(
     mode: Mode,
     items: &[Item<Name, Note>],
 ) -> Result<(), Refusal>
-    ensures { result ≡ verdict items.now (flat_map (spots_of_decl mode) decls.now) }
+    ensures { result ≡ verdict items.now (inside_each listed (spots_of_decl mode) decls.now) }
 {
     for decl in decls {
         decl_fits(decl, mode, items)?;

@@ -9,5 +9,6 @@ pub mod SameLists
 pub mod SameTypes
 pub mod SameNodes
 pub mod SameHeads
+pub mod Insides
 pub mod Layers
 pub mod Wrapping

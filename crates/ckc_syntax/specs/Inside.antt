@@ -1,8 +1,6 @@
--- What stands inside a tree, one level at a time: the list of a level is those of its parts, one after another in the
--- order of the text. Each part has its list in its place.
-use Rattle.std.specs.Prelude.{List, [], ◌++◌, flat_map, Option}
-use Rattle.std.specs.Option.{option_map}
-use Rattle.ckc_base.specs.Lists.{concatenation, or_empty}
+-- A walk over a tree, one level at a time: what is found in the parts of a level is put together in the order of the
+-- text. A walk says how it puts that together, what it finds in each kind of part, and its own rows.
+use Rattle.std.specs.Prelude.{ℕ, ◌+◌, max, Bool, true, false, ◌&&◌, ◌||◌, List, [], ◌∷◌, ◌++◌, Option, None, Some}
 use Rattle.ckc_syntax.specs.declared.tree.Item.{Item}
 use Rattle.ckc_syntax.specs.declared.tree.Item.TheVariants as item
 use Rattle.ckc_syntax.specs.declared.tree.Head.{Head}
@@ -15,63 +13,101 @@ use Rattle.ckc_syntax.specs.declared.tree.Expr.{Expr}
 use Rattle.ckc_syntax.specs.declared.tree.Act.{Act-F}
 use Rattle.ckc_syntax.specs.declared.tree.Stmt.{Stmt}
 
--- what stands in bounds: in the amount, or in both ends
-abbrev pub inside_limits : {N A X L M : Type 0} → Limits-F N A L M (List X) → List X
-inside_limits (Limits-F.Count e pos) = e
-inside_limits (Limits-F.ByteCount e pos) = e
-inside_limits (Limits-F.Between e f pos) = e ++ f
-inside_limits (Limits-F.Unknown pos) = []
+-- How a walk puts together what it finds: what it has where there is no part, and what two parts give.
+pub record Joining (X : Type 0) : Type 0 where
+  pub none : X
+  pub both : X → X → X
 
--- what stands in an expression: in its operands, its arguments and its bounds
-abbrev pub inside_node : {N A X M : Type 0} → Node-F N A (List X) M (List X) → List X
-inside_node (Node-F.Number n unsigned) = []
-inside_node (Node-F.Text bytes) = []
-inside_node Node-F.Null = []
-inside_node (Node-F.Name n) = []
-inside_node (Node-F.Un op e) = e
-inside_node (Node-F.Bin op e f) = e ++ f
-inside_node (Node-F.Pick e f g) = e ++ f ++ g
-inside_node (Node-F.Index e f) = e ++ f
-inside_node (Node-F.Dot e n pos) = e
-inside_node (Node-F.Arrow e n pos) = e
-inside_node (Node-F.Cast t e) = e
-inside_node (Node-F.Size t) = []
-inside_node (Node-F.Trusted t e limits) = e ++ or_empty limits
-inside_node (Node-F.Tested t e limits) = e ++ or_empty limits
-inside_node (Node-F.Call n es) = concatenation es
-inside_node (Node-F.Calloc t e u) = e
+-- one list after another
+abbrev pub listed : {A : Type 0} → Joining (List A)
+listed = record { none = []; both = λ xs ys. xs ++ ys }
 
--- what stands in a part that may be left out
-abbrev pub inside_if : {P X : Type 0} → (P → List X) → Option P → List X
-inside_if of_part p = or_empty (option_map of_part p)
+-- the greater number, or 0
+abbrev pub highest : Joining ℕ
+highest = record { none = 0; both = max }
 
--- what stands in an initialiser
-abbrev pub inside_init : {N A X : Type 0} → (Expr N A → List X) → Init N A → List X
-inside_init of_expr init.Nothing = []
-inside_init of_expr (init.One e) = of_expr e
-inside_init of_expr (init.Many es) = flat_map of_expr es
+-- the sum
+abbrev pub summed : Joining ℕ
+summed = record { none = 0; both = λ m n. m + n }
 
--- what stands in a statement: in its expressions, its declaration and its inner statements
-abbrev pub inside_act : {N A X B : Type 0} → (Expr N A → List X) → (Decl N A → List X) → Act-F N A B (List X) → List X
-inside_act of_expr of_decl (Act-F.Block mode ss) = concatenation ss
-inside_act of_expr of_decl Act-F.Empty = []
-inside_act of_expr of_decl (Act-F.Local d) = of_decl d
-inside_act of_expr of_decl (Act-F.Assign e f) = of_expr e ++ of_expr f
-inside_act of_expr of_decl (Act-F.Call e) = of_expr e
-inside_act of_expr of_decl (Act-F.If e s t) = of_expr e ++ s ++ or_empty t
-inside_act of_expr of_decl (Act-F.While e s) = of_expr e ++ s
-inside_act of_expr of_decl (Act-F.For s e t body) = or_empty s ++ inside_if of_expr e ++ or_empty t ++ body
-inside_act of_expr of_decl (Act-F.Return e) = inside_if of_expr e
-inside_act of_expr of_decl Act-F.Break = []
-inside_act of_expr of_decl Act-F.Continue = []
-inside_act of_expr of_decl (Act-F.Check e) = of_expr e
-inside_act of_expr of_decl (Act-F.Bundle ss) = concatenation ss
+-- whether each part has it
+abbrev pub all_have : Joining Bool
+all_have = record { none = true; both = λ a b. a && b }
 
--- what stands in an item of a text
-abbrev pub inside_item : {N A X : Type 0} → (Decl N A → List X) → (Head N A → List X) → (Stmt N A → List X) → Item N A → List X
-inside_item of_decl of_head of_stmt (item.Directive d) = []
-inside_item of_decl of_head of_stmt (item.Tag n pos) = []
-inside_item of_decl of_head of_stmt (item.Struct n members pos) = flat_map of_decl members
-inside_item of_decl of_head of_stmt (item.Static d) = of_decl d
-inside_item of_decl of_head of_stmt (item.Proto h) = of_head h
-inside_item of_decl of_head of_stmt (item.Function h body) = of_head h ++ of_stmt body
+-- whether a part has it
+abbrev pub one_has : Joining Bool
+one_has = record { none = false; both = λ a b. a || b }
+
+-- what is found in a list of parts
+abbrev pub inside_each : {P X : Type 0} → Joining X → (P → X) → List P → X
+inside_each j of_part [] = j.none
+inside_each j of_part (p ∷ ps) = j.both (of_part p) (inside_each j of_part ps)
+
+-- what is found in a part that may be left out
+abbrev pub inside_if : {P X : Type 0} → Joining X → (P → X) → Option P → X
+inside_if j of_part None = j.none
+inside_if j of_part (Some p) = of_part p
+
+-- what is found in bounds
+abbrev pub inside_limits : {N A L M E X : Type 0} → Joining X → (E → X) → Limits-F N A L M E → X
+inside_limits j of_expr (Limits-F.Count e pos) = of_expr e
+inside_limits j of_expr (Limits-F.ByteCount e pos) = of_expr e
+inside_limits j of_expr (Limits-F.Between e f pos) = j.both (of_expr e) (of_expr f)
+inside_limits j of_expr (Limits-F.Unknown pos) = j.none
+
+-- what is found in an expression
+abbrev pub inside_node : {N A L M E X : Type 0} → Joining X → (L → X) → (E → X) → Node-F N A L M E → X
+inside_node j of_limits of_expr (Node-F.Number n unsigned) = j.none
+inside_node j of_limits of_expr (Node-F.Text bytes) = j.none
+inside_node j of_limits of_expr Node-F.Null = j.none
+inside_node j of_limits of_expr (Node-F.Name n) = j.none
+inside_node j of_limits of_expr (Node-F.Un op e) = of_expr e
+inside_node j of_limits of_expr (Node-F.Bin op e f) = j.both (of_expr e) (of_expr f)
+inside_node j of_limits of_expr (Node-F.Pick e f g) = j.both (j.both (of_expr e) (of_expr f)) (of_expr g)
+inside_node j of_limits of_expr (Node-F.Index e f) = j.both (of_expr e) (of_expr f)
+inside_node j of_limits of_expr (Node-F.Dot e n pos) = of_expr e
+inside_node j of_limits of_expr (Node-F.Arrow e n pos) = of_expr e
+inside_node j of_limits of_expr (Node-F.Cast t e) = of_expr e
+inside_node j of_limits of_expr (Node-F.Size t) = j.none
+inside_node j of_limits of_expr (Node-F.Trusted t e limits) = j.both (of_expr e) (inside_if j of_limits limits)
+inside_node j of_limits of_expr (Node-F.Tested t e limits) = j.both (of_expr e) (inside_if j of_limits limits)
+inside_node j of_limits of_expr (Node-F.Call n es) = inside_each j of_expr es
+inside_node j of_limits of_expr (Node-F.Calloc t e u) = of_expr e
+
+-- what is found in an initialiser
+abbrev pub inside_init : {N A X : Type 0} → Joining X → (Expr N A → X) → Init N A → X
+inside_init j of_expr init.Nothing = j.none
+inside_init j of_expr (init.One e) = of_expr e
+inside_init j of_expr (init.Many es) = inside_each j of_expr es
+
+-- what is found in a statement
+abbrev pub inside_act : {N A B S X : Type 0} → Joining X → (Expr N A → X) → (Decl N A → X) → (S → X) → Act-F N A B S → X
+inside_act j of_expr of_decl of_stmt (Act-F.Block mode ss) = inside_each j of_stmt ss
+inside_act j of_expr of_decl of_stmt Act-F.Empty = j.none
+inside_act j of_expr of_decl of_stmt (Act-F.Local d) = of_decl d
+inside_act j of_expr of_decl of_stmt (Act-F.Assign e f) = j.both (of_expr e) (of_expr f)
+inside_act j of_expr of_decl of_stmt (Act-F.Call e) = of_expr e
+inside_act j of_expr of_decl of_stmt (Act-F.If e s t) = j.both (j.both (of_expr e) (of_stmt s)) (inside_if j of_stmt t)
+inside_act j of_expr of_decl of_stmt (Act-F.While e s) = j.both (of_expr e) (of_stmt s)
+inside_act j of_expr of_decl of_stmt (Act-F.For s e t body) =
+    j.both (j.both (j.both (inside_if j of_stmt s) (inside_if j of_expr e)) (inside_if j of_stmt t)) (of_stmt body)
+inside_act j of_expr of_decl of_stmt (Act-F.Return e) = inside_if j of_expr e
+inside_act j of_expr of_decl of_stmt Act-F.Break = j.none
+inside_act j of_expr of_decl of_stmt Act-F.Continue = j.none
+inside_act j of_expr of_decl of_stmt (Act-F.Check e) = of_expr e
+inside_act j of_expr of_decl of_stmt (Act-F.Bundle ss) = inside_each j of_stmt ss
+
+-- The same, where the step of a `for` comes after its body, as it runs.
+abbrev pub inside_run : {N A B S X : Type 0} → Joining X → (Expr N A → X) → (Decl N A → X) → (S → X) → Act-F N A B S → X
+inside_run j of_expr of_decl of_stmt (Act-F.For s e t body) =
+    j.both (inside_if j of_stmt s) (j.both (inside_if j of_expr e) (j.both (of_stmt body) (inside_if j of_stmt t)))
+inside_run j of_expr of_decl of_stmt a = inside_act j of_expr of_decl of_stmt a
+
+-- what is found in an item
+abbrev pub inside_item : {N A X : Type 0} → Joining X → (Decl N A → X) → (Head N A → X) → (Stmt N A → X) → Item N A → X
+inside_item j of_decl of_head of_stmt (item.Directive d) = j.none
+inside_item j of_decl of_head of_stmt (item.Tag n pos) = j.none
+inside_item j of_decl of_head of_stmt (item.Struct n members pos) = inside_each j of_decl members
+inside_item j of_decl of_head of_stmt (item.Static d) = of_decl d
+inside_item j of_decl of_head of_stmt (item.Proto h) = of_head h
+inside_item j of_decl of_head of_stmt (item.Function h body) = j.both (of_head h) (of_stmt body)

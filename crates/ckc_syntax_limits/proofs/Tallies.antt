@@ -26,6 +26,12 @@ pub tallied_turn : {X : Type 0} (f : X → List Mark) (t : Tally) (xs : List X) 
     tallied t (flat_map f (drop i xs)) ≡ tallied (tallied t (f x)) (flat_map f (drop (i + 1) xs))
 tallied_turn f t xs i x h e = rw (add-one, drop-cons xs i x) (ap (λ y. tallied t (f y ++ flat_map f (drop (suc i) xs))) (sym e) ∙ tallied_append t (f x) (flat_map f (drop (suc i) xs)))
 
+-- four parts one after another
+pub four_tallied : (t a b c d : Tally) (p v q m : List Mark) → a ≡ tallied t p → b ≡ tallied a v → c ≡ tallied b q → d ≡ tallied c m → d ≡ tallied t (p ++ v ++ q ++ m)
+four_tallied t a b c d p v q m e f g h =
+    h ∙ ap (λ x. tallied x m) (g ∙ ap (λ x. tallied x q) (f ∙ ap (λ x. tallied x v) e))
+    ∙ sym (tallied_append t (p ++ v ++ q) m ∙ ap (λ x. tallied x m) (tallied_append t (p ++ v) q ∙ ap (λ x. tallied x q) (tallied_append t p v)))
+
 joined_is : {X : Type 0} (f : X → List Mark) (xs : List X) → concatenation (map f xs) ≡ flat_map f xs
 joined_is f [] = refl
 joined_is f (x ∷ xs) = ap (λ ys. f x ++ ys) (joined_is f xs)

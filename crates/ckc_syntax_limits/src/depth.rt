@@ -1,7 +1,8 @@
 //! Whether a part of a tree is at most so deep. No call goes deeper than the bound that it is given.
 
-ghost use Rattle.std.specs.Prelude.{◌≤◌, ◌↔◌, IsTrue, map};
-ghost use Rattle.ckc_syntax_limits.specs.Depth.{depth_of_limits, depth_of_node, depth_of_expr, depth_of_bounds, depth_of_init, depth_of_decl, depth_of_value, depth_of_act, depth_of_stmt, depth_of_part, depth_of_decls, depth_of_head, depth_of_item, greatest};
+ghost use Rattle.std.specs.Prelude.{◌≤◌, ◌↔◌, IsTrue};
+ghost use Rattle.ckc_syntax.specs.Inside.{highest, inside_each, inside_if};
+ghost use Rattle.ckc_syntax_limits.specs.Depth.{depth_of_limits, depth_of_node, depth_of_expr, depth_of_bounds, depth_of_init, depth_of_decl, depth_of_value, depth_of_act, depth_of_stmt, depth_of_head, depth_of_item};
 
 use ckc_base::Boxed;
 use ckc_syntax::{Act, Decl, Expr, Head, Init, Item, Limits, Node, Stmt};
@@ -50,7 +51,7 @@ fn expr_within<N, A>(e: &Expr<N, A>, left: u32) -> bool
 
 #[cycle(expr_within)]
 fn exprs_within<N, A>(es: &[Expr<N, A>], left: u32) -> bool
-    ensures { IsTrue result ↔ (greatest (map depth_of_expr es.now) ≤ left) }
+    ensures { IsTrue result ↔ (inside_each highest depth_of_expr es.now ≤ left) }
 {
     for e in es {
         if !expr_within(e, left) {
@@ -95,7 +96,7 @@ fn decl_within<N, A>(decl: &Decl<N, A>, left: u32) -> bool
 }
 
 fn decls_within<N, A>(decls: &[Decl<N, A>], left: u32) -> bool
-    ensures { IsTrue result ↔ (depth_of_decls decls.now ≤ left) }
+    ensures { IsTrue result ↔ (inside_each highest depth_of_decl decls.now ≤ left) }
 {
     for decl in decls {
         if !decl_within(decl, left) {
@@ -139,7 +140,7 @@ fn stmt_within<N, A>(stmt: &Stmt<N, A>, left: u32) -> bool
 
 #[cycle(stmt_within)]
 fn part_within<N, A>(part: &Option<Boxed<Stmt<N, A>>>, left: u32) -> bool
-    ensures { IsTrue result ↔ (depth_of_part part.now ≤ left) }
+    ensures { IsTrue result ↔ (inside_if highest depth_of_stmt part.now ≤ left) }
 {
     match part {
         None => true,
@@ -149,7 +150,7 @@ fn part_within<N, A>(part: &Option<Boxed<Stmt<N, A>>>, left: u32) -> bool
 
 #[cycle(stmt_within)]
 fn stmts_within<N, A>(stmts: &[Stmt<N, A>], left: u32) -> bool
-    ensures { IsTrue result ↔ (greatest (map depth_of_stmt stmts.now) ≤ left) }
+    ensures { IsTrue result ↔ (inside_each highest depth_of_stmt stmts.now ≤ left) }
 {
     for stmt in stmts {
         if !stmt_within(stmt, left) {

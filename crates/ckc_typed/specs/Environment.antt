@@ -8,7 +8,7 @@ use Rattle.ckc_types.specs.declared.types.CType.{CType}
 use Rattle.ckc_types.specs.declared.types.CType.TheVariants as ctype
 use Rattle.ckc_types.specs.declared.types.Structs.{Structs}
 use Rattle.ckc_types.specs.Layout.{members_of}
-use Rattle.ckc_syntax.specs.Inside.{inside_if, inside_act}
+use Rattle.ckc_syntax.specs.Inside.{listed, inside_if, inside_act}
 use Rattle.ckc_syntax.specs.declared.tree.Name.{Name}
 use Rattle.ckc_syntax.specs.declared.tree.Name.TheVariants as name
 use Rattle.ckc_syntax.specs.declared.tree.Length.{Length}
@@ -89,7 +89,7 @@ signatures_of items = getchar ∷ putchar ∷ flat_map signatures_of_item items
 
 -- the locals that are declared in what a statement does, from those in its parts
 abbrev pub act_variables : {A : Type 0} → Act-F Name A (List Variable) (List Variable) → List Variable
-act_variables = inside_act (λ e. []) (λ d. variable_declared d ∷ [])
+act_variables = inside_act listed (λ e. []) (λ d. variable_declared d ∷ []) (λ s. s)
 
 -- A statement declares what is declared in what it does.
 abbrev pub stmt_variables : {A : Type 0} → Stmt-F Name A (List Variable) (List Variable) → List Variable
@@ -103,7 +103,7 @@ abbrev pub locals_of_act : {A : Type 0} → acts.Act Name A → List Variable
 locals_of_act {A} = fold-Act Name A (List Variable) (List Variable) act_variables stmt_variables
 
 abbrev pub locals_of_part : {A : Type 0} → Option (statements.Stmt Name A) → List Variable
-locals_of_part = inside_if locals_of
+locals_of_part = inside_if listed locals_of
 
 -- the parameters of a function
 abbrev pub params_of : {A : Type 0} → heads.Head Name A → List Variable

@@ -9,7 +9,7 @@ use Rattle.ckc_types.specs.declared.types.Kind.TheVariants as kind
 use Rattle.ckc_types.specs.declared.types.CType.{CType}
 use Rattle.ckc_types.specs.declared.types.CType.TheVariants as ctype
 use Rattle.ckc_types.specs.declared.types.Structs.{Structs}
-use Rattle.ckc_syntax.specs.Inside.{inside_limits, inside_node, inside_if, inside_act, inside_item}
+use Rattle.ckc_syntax.specs.Inside.{listed, inside_if, inside_limits, inside_node, inside_act, inside_item}
 use Rattle.ckc_syntax.specs.declared.tree.Name.{Name}
 use Rattle.ckc_syntax.specs.declared.tree.Init.TheVariants as init
 use Rattle.ckc_syntax.specs.declared.tree.Length.{Length}
@@ -36,7 +36,7 @@ Strings = List (List ℕ)
 -- the string literals in a node of an expression, itself or its parts
 abbrev pub node_strings : Node-F Name Note Strings Strings Strings → Strings
 node_strings (Node-F.Text bytes) = bytes ∷ []
-node_strings n = inside_node n
+node_strings n = inside_node listed (λ l. l) (λ e. e) n
 
 -- What stands in an expression stands in its node.
 abbrev pub expr_strings : Expr-F Name Note Strings Strings Strings → Strings
@@ -44,18 +44,18 @@ expr_strings e = e.node
 
 -- the string literals in bounds
 abbrev pub strings_of_limits : NotedLimits → Strings
-strings_of_limits = fold-Limits Name Note Strings Strings Strings inside_limits node_strings expr_strings
+strings_of_limits = fold-Limits Name Note Strings Strings Strings (inside_limits listed (λ e. e)) node_strings expr_strings
 
 -- the string literals in an expression
 abbrev pub strings_of_expr : NotedExpr → Strings
-strings_of_expr = fold-Expr Name Note Strings Strings Strings inside_limits node_strings expr_strings
+strings_of_expr = fold-Expr Name Note Strings Strings Strings (inside_limits listed (λ e. e)) node_strings expr_strings
 
 -- the string literals in bounds that there may be
 abbrev pub strings_of_bounds : Option NotedLimits → Strings
-strings_of_bounds = inside_if strings_of_limits
+strings_of_bounds = inside_if listed strings_of_limits
 
 abbrev pub strings_of_value : Option NotedExpr → Strings
-strings_of_value = inside_if strings_of_expr
+strings_of_value = inside_if listed strings_of_expr
 
 -- A string that initialises an array makes no block.
 abbrev pub strings_of_init : Bool → NotedInit → Strings
@@ -69,7 +69,7 @@ strings_of_decl d = strings_of_bounds d.bounds ++ strings_of_init (is_plain d.le
 
 -- the string literals in what a statement does, from those in its parts
 abbrev pub act_strings : Act-F Name Note Strings Strings → Strings
-act_strings = inside_act strings_of_expr strings_of_decl
+act_strings = inside_act listed strings_of_expr strings_of_decl (λ s. s)
 
 -- What stands in a statement stands in what it does.
 abbrev pub stmt_strings : Stmt-F Name Note Strings Strings → Strings
@@ -85,7 +85,7 @@ strings_of_head h = flat_map strings_of_decl h.params ++ strings_of_bounds h.bou
 
 -- the string literals in an item of a source file
 abbrev pub strings_of_item : NotedItem → Strings
-strings_of_item = inside_item strings_of_decl strings_of_head strings_of_stmt
+strings_of_item = inside_item listed strings_of_decl strings_of_head strings_of_stmt
 
 -- The bytes of a constant, the low one first; of a `char` the low one alone. Null is zero.
 abbrev pub bytes_of : Structs → CType → NotedExpr → List ℕ

@@ -1,13 +1,12 @@
 -- What a typed tree holds for the rules of checked scopes to judge, in walk order: items in the order of the text; in
 -- a declaration its type and limits, then its initialiser; in a statement or an expression its parts from left to
 -- right, then itself; in a `for` the step comes after the body.
-use Rattle.std.specs.Prelude.{ℕ, List, [], ◌∷◌, ◌++◌, Option, unwrap_or, map, flat_map}
-use Rattle.ckc_base.specs.Lists.{or_empty}
+use Rattle.std.specs.Prelude.{ℕ, List, [], ◌∷◌, ◌++◌, Option, unwrap_or, map}
 use Rattle.ckc_base.specs.declared.places.Pos.{Pos}
 use Rattle.ckc_base.specs.declared.arithmetic.Mode.{Mode}
 use Rattle.ckc_base.specs.declared.arithmetic.Mode.TheVariants.{Checked, Unchecked}
 use Rattle.ckc_types.specs.declared.types.CType.{CType}
-use Rattle.ckc_syntax.specs.Inside.{inside_limits, inside_node, inside_if, inside_init, inside_act, inside_item}
+use Rattle.ckc_syntax.specs.Inside.{listed, inside_each, inside_if, inside_limits, inside_node, inside_init, inside_run, inside_item}
 use Rattle.ckc_syntax.specs.declared.tokens.Directive.{Directive}
 use Rattle.ckc_syntax.specs.declared.tokens.Directive.TheVariants as directive
 use Rattle.ckc_syntax.specs.declared.tree.Name.{Name}
@@ -64,49 +63,57 @@ own_matters (Node-F.Trusted t e limits) = assumed ∷ []
 own_matters (Node-F.Call n es) = called_by n
 own_matters _ = []
 
+-- the spots of the parts of a node, and what is judged of the node itself
 abbrev pub node_spots : Node-F Name Note (List Spot) Within (List Spot) → Within
-node_spots n = record { parts = inside_node n; own = own_matters n }
+node_spots n = record { parts = inside_node listed (λ l. l) (λ e. e) n; own = own_matters n }
 
+-- the spots of an expression: those of its parts, then its type, then what else is judged of it
 abbrev pub expr_spots : Expr-F Name Note (List Spot) Within (List Spot) → List Spot
 expr_spots e = e.node.parts ++ map (spot e.note.mode e.pos) (value e.note.ctype ∷ e.node.own)
 
+-- the spots of bounds
 abbrev pub spots_of_limits : Limits Name Note → List Spot
-spots_of_limits = fold-Limits Name Note (List Spot) Within (List Spot) inside_limits node_spots expr_spots
+spots_of_limits = fold-Limits Name Note (List Spot) Within (List Spot) (inside_limits listed (λ e. e)) node_spots expr_spots
 
 abbrev pub within : Node Name Note → Within
-within = fold-Node Name Note (List Spot) Within (List Spot) inside_limits node_spots expr_spots
+within = fold-Node Name Note (List Spot) Within (List Spot) (inside_limits listed (λ e. e)) node_spots expr_spots
 
+-- the spots of an expression and its parts, from left to right
 abbrev pub spots_of_expr : Expr Name Note → List Spot
-spots_of_expr = fold-Expr Name Note (List Spot) Within (List Spot) inside_limits node_spots expr_spots
+spots_of_expr = fold-Expr Name Note (List Spot) Within (List Spot) (inside_limits listed (λ e. e)) node_spots expr_spots
 
+-- the same of bounds that there may be
 abbrev pub spots_of_bounds : Option (Limits Name Note) → List Spot
-spots_of_bounds = inside_if spots_of_limits
+spots_of_bounds = inside_if listed spots_of_limits
 
 abbrev pub spots_of_value : Option (Expr Name Note) → List Spot
-spots_of_value = inside_if spots_of_expr
+spots_of_value = inside_if listed spots_of_expr
 
+-- the spots of an initialiser
 abbrev pub spots_of_init : Init Name Note → List Spot
-spots_of_init = inside_init spots_of_expr
+spots_of_init = inside_init listed spots_of_expr
 
+-- the spots of a declaration: the unchecked pointers and arrays in it, then its bounds, then its initialiser
 abbrev pub spots_of_decl : Mode → Decl Name Note → List Spot
 spots_of_decl mode d = written_at mode (raws_of_decl d) ++ (spots_of_bounds d.bounds ++ spots_of_init d.init)
 
 -- A declaration that is a statement has the statement's mode.
 abbrev pub act_spots : Act-F Name Note (Mode → List Spot) (List Spot) → Mode → List Spot
-act_spots (Act-F.For s e t body) mode = or_empty s ++ (spots_of_value e ++ (body ++ or_empty t))
-act_spots a mode = inside_act spots_of_expr (spots_of_decl mode) a
+act_spots a mode = inside_run listed spots_of_expr (spots_of_decl mode) (λ s. s) a
 
+-- What is judged in a statement is judged in the mode that the statement notes.
 abbrev pub stmt_spots : Stmt-F Name Note (Mode → List Spot) (List Spot) → List Spot
 stmt_spots s = s.body s.note.mode
 
 abbrev pub spots_of_act : Act Name Note → Mode → List Spot
 spots_of_act = fold-Act Name Note (Mode → List Spot) (List Spot) act_spots stmt_spots
 
+-- the spots of a statement
 abbrev pub spots_of_stmt : Stmt Name Note → List Spot
 spots_of_stmt = fold-Stmt Name Note (Mode → List Spot) (List Spot) act_spots stmt_spots
 
 abbrev pub spots_of_part : Option (Stmt Name Note) → List Spot
-spots_of_part = inside_if spots_of_stmt
+spots_of_part = inside_if listed spots_of_stmt
 
 -- A head has its own mode, or that of the pragma before it.
 abbrev pub head_mode : {N A : Type 0} → Mode → Head N A → Mode
@@ -116,10 +123,11 @@ head_mode pragma h = unwrap_or h.mode pragma
 abbrev pub spots_of_head : Mode → Head Name Note → List Spot
 spots_of_head pragma h =
     let mode = head_mode pragma h in
-    written_at mode (stars h.result) ++ (flat_map (spots_of_decl mode) h.params ++ spots_of_bounds h.bounds)
+    written_at mode (stars h.result) ++ (inside_each listed (spots_of_decl mode) h.params ++ spots_of_bounds h.bounds)
 
+-- the spots of an item of a source file, in the mode of the last pragma before it
 abbrev pub spots_of_item : Mode → Item Name Note → List Spot
-spots_of_item pragma = inside_item (spots_of_decl pragma) (spots_of_head pragma) spots_of_stmt
+spots_of_item pragma = inside_item listed (spots_of_decl pragma) (spots_of_head pragma) spots_of_stmt
 
 -- the mode of what follows a directive: a pragma sets it, an `#include` leaves it
 abbrev pub mode_of_directive : Mode → Directive → Mode
@@ -134,6 +142,7 @@ abbrev pub pragma_after : {N A : Type 0} → Mode → Item N A → Mode
 pragma_after pragma (item.Directive d) = mode_of_directive pragma d
 pragma_after pragma _ = pragma
 
+-- the spots of the items of a source file, in order
 abbrev pub spots_of_items : Mode → List (Item Name Note) → List Spot
 spots_of_items pragma [] = []
 spots_of_items pragma (i ∷ rest) = spots_of_item pragma i ++ spots_of_items (pragma_after pragma i) rest

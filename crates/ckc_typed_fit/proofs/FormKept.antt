@@ -107,7 +107,7 @@ module _ (names : Names) where
     node_parts x d (nodes.name s n is) = plain refl refl
     node_parts x d (nodes.un op h) = plain (callless _ _ h) refl
     node_parts x d (nodes.bin op h i) = plain (both (callless _ _ h) (callless _ _ i)) refl
-    node_parts x d (nodes.pick h g f) = plain (both (callless _ _ h) (both (callless _ _ g) (callless _ _ f))) refl
+    node_parts x d (nodes.pick h g f) = plain (both (both (callless _ _ h) (callless _ _ g)) (callless _ _ f)) refl
     node_parts x d (nodes.index h i) = plain (both (callless _ _ h) (callless _ _ i)) refl
     node_parts x d (nodes.dot s n pos h is) = plain (callless _ _ h) refl
     node_parts x d (nodes.arrow s n pos h is) = plain (callless _ _ h) refl
@@ -204,8 +204,8 @@ module _ (names : Names) where
   act_parts before x d after (acts.assign e f a b h i) =
       ap (λ z. record { fine = z; assigns = true; declares = false }) (both (callless e a (expr_kept before e a h)) (right f b (expr_kept before f b i)))
   act_parts before x d after (acts.call e a h) = ap other (expr_kept before e a h).form
-  act_parts before x d after (acts.choice {s = s} {t = t} e a h i acts.nothing) = ap other (both (callless e a (expr_kept before e a h)) (ap (λ b. b && true) (fine s t i)))
-  act_parts before x d after (acts.choice {s = s} {t = t} e a h i (acts.just {s = o} {t = u} g)) = ap other (both (callless e a (expr_kept before e a h)) (both (fine s t i) (fine o u g)))
+  act_parts before x d after (acts.choice {s = s} {t = t} e a h i acts.nothing) = ap other (ap (λ b. b && true) (both (callless e a (expr_kept before e a h)) (fine s t i)))
+  act_parts before x d after (acts.choice {s = s} {t = t} e a h i (acts.just {s = o} {t = u} g)) = ap other (both (both (callless e a (expr_kept before e a h)) (fine s t i)) (fine o u g))
   act_parts before x d after (acts.while {s = s} {t = t} e a h i) = ap other (both (callless e a (expr_kept before e a h)) (fine s t i))
   act_parts before x d after (acts.for {s = s} {t = t} e a acts.nothing h i acts.nothing is) =
       ap other (both (value_kept (opened before) e a h) (fine s t i))

@@ -1,6 +1,6 @@
 -- The locals of a function are numbered in the order of the text.
 use Rattle.std.proofs.Common.{◌≡◌, ℕ, suc, ◌+◌, sym, refl, subst, List, [], ◌∷◌, ◌++◌, length, length-append, map, arith}
-use Rattle.std.specs.Prelude.{Ok, All}
+use Rattle.std.specs.Prelude.{Ok, All, Option}
 use Rattle.std.specs.List.{flat_map}
 use Rattle.std.proofs.lemmas.List.Elements.{All-nil, All-cons}
 use Rattle.ckc_syntax.specs.declared.tree.Name.{Name}
@@ -8,10 +8,12 @@ use Rattle.ckc_syntax.specs.declared.tree.Name.TheVariants as name
 use Rattle.ckc_syntax.specs.declared.tree.NamedText.{NamedText}
 use Rattle.ckc_syntax.specs.declared.tree.Act.{Act-F, map-Act, roll-Act, fold-Act, fold-roll-Act}
 use Rattle.ckc_syntax.specs.declared.tree.Stmt.{fold-roll-Stmt}
+use Rattle.ckc_syntax.specs.Inside.{listed, inside_if}
+use Rattle.ckc_syntax.proofs.Insides.{none_found}
 use Rattle.ckc_resolve.specs.declared.names.Names.{Names}
 use Rattle.ckc_resolve.specs.declared.scopes.Scopes.{Scopes}
 use Rattle.ckc_resolve.specs.Spellings.{Spelling}
-use Rattle.ckc_resolve.specs.Trees.{Tree, Item, Decl, Act, Stmt, NamedDecl, NamedAct, NamedStmt, NamedItem}
+use Rattle.ckc_resolve.specs.Trees.{Tree, Item, Decl, Act, Stmt, NamedDecl, NamedExpr, NamedAct, NamedStmt, NamedItem}
 use Rattle.ckc_resolve.specs.Scoping.{no_names, names_of, no_scope, with_local, is_taken_here, closed}
 use Rattle.ckc_resolve.specs.Declarations.{local_named}
 use Rattle.ckc_resolve.specs.Statements.{body_named}
@@ -72,9 +74,14 @@ module _ (names : Names) where
   two : {k l m : ℕ} {ns ms : List ℕ} → Counted k ns l → Counted l ms m → Counted k (ns ++ ms) m
   two {k} {l} {m} {ns} {ms} p q = both k l m ns ms p q
 
-  in_loop : {begun between : ℕ} (before inner after : Scopes) (first body step : List ℕ) → after ≡ closed before inner → Counted before.next first begun → Counted begun body between → Counted between step inner.next
-      → Counted before.next (first ++ (body ++ step)) after.next
-  in_loop before inner after first body step is p q r = subst (λ (z : Scopes). Counted before.next (first ++ (body ++ step)) z.next) (sym is) (two p (two q r))
+  -- an expression that may be left out declares nothing
+  silent : {k m : ℕ} (a : Option NamedExpr) (f : List ℕ → List ℕ) → Counted k (f []) m → Counted k (f (inside_if listed (λ (e : NamedExpr). []) a)) m
+  silent {k} {m} a f h = subst (λ ns. Counted k (f ns) m) (sym (none_found listed a)) h
+
+  in_loop : {begun between : ℕ} (before inner after : Scopes) (first body step : List ℕ) (a : Option NamedExpr) → after ≡ closed before inner → Counted before.next first begun → Counted begun body between → Counted between step inner.next
+      → Counted before.next (first ++ (inside_if listed (λ (e : NamedExpr). []) a ++ (body ++ step))) after.next
+  in_loop before inner after first body step a is p q r =
+      silent a (λ ns. first ++ (ns ++ (body ++ step))) (subst (λ (z : Scopes). Counted before.next (first ++ (body ++ step)) z.next) (sym is) (two p (two q r)))
 
   act_parts : (before : Scopes) (x : ActOf) (d : NamedActOf) (after : Scopes) → ActNamed names ActCounted before x d after → Counted before.next (act_locals (locals_inside d)) after.next
   act_parts before x d after (acts.block {ts = ts} m hs is) = subst (λ (z : Scopes). Counted before.next (flat_map (λ s. s) (map stmt_locals ts)) z.next) (sym is) (stmts_are _ _ ts _ hs)
@@ -88,14 +95,14 @@ module _ (names : Names) where
   act_parts before x d after (acts.choice {t = t} e a h s (acts.just {t = u} g)) = two (stmt_is t s) (stmt_is u g)
   act_parts before x d after (acts.while {t = t} e a h s) = stmt_is t s
   act_parts before x d after (acts.for {between = between} {t = t} e a acts.nothing h i acts.nothing is) =
-      in_loop before between after [] (stmt_locals t) [] is (nothing before.next) (stmt_is t i) (nothing between.next)
+      in_loop before between after [] (stmt_locals t) [] a is (nothing before.next) (stmt_is t i) (nothing between.next)
   act_parts before x d after (acts.for {inner = inner} {t = t} e a acts.nothing h i (acts.just {t = u} g) is) =
-      in_loop before inner after [] (stmt_locals t) (stmt_locals u) is (nothing before.next) (stmt_is t i) (stmt_is u g)
+      in_loop before inner after [] (stmt_locals t) (stmt_locals u) a is (nothing before.next) (stmt_is t i) (stmt_is u g)
   act_parts before x d after (acts.for {between = between} {t = t} e a (acts.just {t = u} f) h i acts.nothing is) =
-      in_loop before between after (stmt_locals u) (stmt_locals t) [] is (stmt_is u f) (stmt_is t i) (nothing between.next)
+      in_loop before between after (stmt_locals u) (stmt_locals t) [] a is (stmt_is u f) (stmt_is t i) (nothing between.next)
   act_parts before x d after (acts.for {inner = inner} {t = t} e a (acts.just {t = u} f) h i (acts.just {t = v} g) is) =
-      in_loop before inner after (stmt_locals u) (stmt_locals t) (stmt_locals v) is (stmt_is u f) (stmt_is t i) (stmt_is v g)
-  act_parts before x d after (acts.returns e a h) = nothing before.next
+      in_loop before inner after (stmt_locals u) (stmt_locals t) (stmt_locals v) a is (stmt_is u f) (stmt_is t i) (stmt_is v g)
+  act_parts before x d after (acts.returns e a h) = silent a (λ ns. ns) (nothing before.next)
   act_parts before x d after acts.breaks = nothing before.next
   act_parts before x d after acts.continues = nothing before.next
   act_parts before x d after (acts.check e a h) = nothing before.next

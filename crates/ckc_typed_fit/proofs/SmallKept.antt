@@ -12,9 +12,9 @@ use Rattle.ckc_syntax.specs.declared.tree.Expr.{fold-roll-Expr}
 use Rattle.ckc_syntax.specs.declared.tree.Init.TheVariants as init
 use Rattle.ckc_syntax.specs.declared.tree.Act.{Act-F, map-Act, roll-Act, fold-roll-Act}
 use Rattle.ckc_syntax.specs.declared.tree.Stmt.{fold-roll-Stmt}
-use Rattle.ckc_syntax.specs.Inside.{inside_limits}
+use Rattle.ckc_syntax.specs.Inside.{listed, highest, inside_each, inside_limits}
 use Rattle.ckc_syntax_limits.specs.Marks.{Mark, node, local, function, static, node_marks, expr_marks, marks_of_limits, marks_of_node, marks_of_expr, marks_of_bounds, marks_of_init, marks_of_decl, marks_of_value, act_marks, stmt_marks, marks_of_act, marks_of_stmt, marks_of_param, marks_of_head, marks_of_item, marks_of, is_node, is_text, is_function, is_static}
-use Rattle.ckc_syntax_limits.specs.Depth.{greatest, limits_depth, node_depth, expr_depth, depth_of_limits, depth_of_node, depth_of_expr, depth_of_bounds, depth_of_init, depth_of_decl, depth_of_value, act_depth, stmt_depth, depth_of_act, depth_of_stmt, depth_of_decls, depth_of_head, depth_of_item}
+use Rattle.ckc_syntax_limits.specs.Depth.{limits_depth, node_depth, expr_depth, depth_of_limits, depth_of_node, depth_of_expr, depth_of_bounds, depth_of_init, depth_of_decl, depth_of_value, act_depth, stmt_depth, depth_of_act, depth_of_stmt, depth_of_head, depth_of_item}
 use Rattle.ckc_syntax_limits.specs.Small.{how_many, SmallFunction, SmallBody, SmallItem, Small}
 use Rattle.ckc_resolve.specs.declared.names.Names.{Names}
 use Rattle.ckc_resolve.specs.declared.scopes.Scopes.{Scopes}
@@ -49,12 +49,12 @@ both : {ms ns ks ls : List Mark} {a b c d : ℕ} → SameSize ms ns a b → Same
 both p q = record { marks = two (λ xs ys. xs ++ ys) p.marks q.marks; depth = two max p.depth q.depth }
 
 three : {ms ns ks ls ps qs : List Mark} {a b c d e f : ℕ} → SameSize ms ns a b → SameSize ks ls c d → SameSize ps qs e f
-    → SameSize ((ms ++ ks) ++ ps) ((ns ++ ls) ++ qs) (max a (max c e)) (max b (max d f))
-three p q r = record { marks = (both (both p q) r).marks; depth = (both p (both q r)).depth }
+    → SameSize ((ms ++ ks) ++ ps) ((ns ++ ls) ++ qs) (max (max a c) e) (max (max b d) f)
+three p q r = both (both p q) r
 
 four : {ms ns ks ls ps qs rs ss : List Mark} {a b c d e f g h : ℕ} → SameSize ms ns a b → SameSize ks ls c d → SameSize ps qs e f → SameSize rs ss g h
-    → SameSize (((ms ++ ks) ++ ps) ++ rs) (((ns ++ ls) ++ qs) ++ ss) (max a (max c (max e g))) (max b (max d (max f h)))
-four p q r s = record { marks = (both (both (both p q) r) s).marks; depth = (both p (both q (both r s))).depth }
+    → SameSize (((ms ++ ks) ++ ps) ++ rs) (((ns ++ ls) ++ qs) ++ ss) (max (max (max a c) e) g) (max (max (max b d) f) h)
+four p q r s = both (three p q r) s
 
 led : {ms ns : List Mark} {a b : ℕ} → (m : Mark) → SameSize ms ns a b → SameSize (m ∷ ms) (m ∷ ns) a b
 led m p = record { marks = ap (λ xs. m ∷ xs) p.marks; depth = p.depth }
@@ -77,8 +77,8 @@ restated p q r s h = record { marks = p ∙ h.marks ∙ sym q; depth = r ∙ h.d
 
 expr_size : (e : Expr) (a : NamedExpr) → SameNode e.node a.node → SameExpr e a
 expr_size e a h =
-    restated (fold-roll-Expr Name (Unit {0}) (List Mark) (List Mark) (List Mark) inside_limits node_marks expr_marks (record { node = a.node; pos = a.pos; note = tt }))
-    (fold-roll-Expr Spelling (Unit {0}) (List Mark) (List Mark) (List Mark) inside_limits node_marks expr_marks (record { node = e.node; pos = e.pos; note = tt }))
+    restated (fold-roll-Expr Name (Unit {0}) (List Mark) (List Mark) (List Mark) (inside_limits listed (λ e. e)) node_marks expr_marks (record { node = a.node; pos = a.pos; note = tt }))
+    (fold-roll-Expr Spelling (Unit {0}) (List Mark) (List Mark) (List Mark) (inside_limits listed (λ e. e)) node_marks expr_marks (record { node = e.node; pos = e.pos; note = tt }))
     (fold-roll-Expr Name (Unit {0}) ℕ ℕ ℕ limits_depth node_depth expr_depth (record { node = a.node; pos = a.pos; note = tt }))
     (fold-roll-Expr Spelling (Unit {0}) ℕ ℕ ℕ limits_depth node_depth expr_depth (record { node = e.node; pos = e.pos; note = tt }))
     (deeper node h)
@@ -96,7 +96,7 @@ abbrev named_limits_depths : NamedLimitsOf → Limits-F Name (Unit {0}) ℕ ℕ 
 named_limits_depths = map-Limits Name (Unit {0}) NamedLimits NamedNode NamedExpr ℕ ℕ ℕ depth_of_limits depth_of_node depth_of_expr
 
 limits_parts : (x : LimitsOf) (d : NamedLimitsOf) → LimitsNamed (OfExprs SameNode) x d
-    → SameSize (inside_limits (named_limits_in d)) (inside_limits (limits_in x)) (limits_depth (named_limits_depths d)) (limits_depth (limits_depths x))
+    → SameSize (inside_limits listed (λ e. e) (named_limits_in d)) (inside_limits listed (λ e. e) (limits_in x)) (limits_depth (named_limits_depths d)) (limits_depth (limits_depths x))
 limits_parts x d (nodes.count pos h) = expr_size _ _ h
 limits_parts x d (nodes.byte_count pos h) = expr_size _ _ h
 limits_parts x d (nodes.between pos h i) = both (expr_size _ _ h) (expr_size _ _ i)
@@ -104,8 +104,8 @@ limits_parts x d (nodes.unknown pos) = empty
 
 limits_closed : (x : LimitsOf) (d : NamedLimitsOf) → LimitsNamed (OfExprs SameNode) x d → SameLimits (roll-Limits Spelling (Unit {0}) x) (roll-Limits Name (Unit {0}) d)
 limits_closed x d h =
-    restated (fold-roll-Limits Name (Unit {0}) (List Mark) (List Mark) (List Mark) inside_limits node_marks expr_marks d)
-    (fold-roll-Limits Spelling (Unit {0}) (List Mark) (List Mark) (List Mark) inside_limits node_marks expr_marks x)
+    restated (fold-roll-Limits Name (Unit {0}) (List Mark) (List Mark) (List Mark) (inside_limits listed (λ e. e)) node_marks expr_marks d)
+    (fold-roll-Limits Spelling (Unit {0}) (List Mark) (List Mark) (List Mark) (inside_limits listed (λ e. e)) node_marks expr_marks x)
     (fold-roll-Limits Name (Unit {0}) ℕ ℕ ℕ limits_depth node_depth expr_depth d)
     (fold-roll-Limits Spelling (Unit {0}) ℕ ℕ ℕ limits_depth node_depth expr_depth x)
     (limits_parts x d h)
@@ -123,7 +123,7 @@ abbrev named_node_depths : NamedNodeOf → Node-F Name (Unit {0}) ℕ ℕ ℕ
 named_node_depths = map-Node Name (Unit {0}) NamedLimits NamedNode NamedExpr ℕ ℕ ℕ depth_of_limits depth_of_node depth_of_expr
 
 abbrev SameExprs : List Expr → List NamedExpr → Type 0
-SameExprs es bs = SameSize (concatenation (map marks_of_expr bs)) (concatenation (map marks_of_expr es)) (greatest (map depth_of_expr bs)) (greatest (map depth_of_expr es))
+SameExprs es bs = SameSize (concatenation (map marks_of_expr bs)) (concatenation (map marks_of_expr es)) (inside_each highest (λ d. d) (map depth_of_expr bs)) (inside_each highest (λ d. d) (map depth_of_expr es))
 
 exprs_size : (es : List Expr) (bs : List NamedExpr) → Each (OfExprs SameNode) es bs → SameExprs es bs
 exprs_size es bs nodes.none = empty
@@ -154,8 +154,8 @@ module _ (names : Names) where
 
     nodes_closed : (x : NodeOf) (d : NamedNodeOf) → NodeNamed names scopes SameLimits (OfExprs SameNode) x d → SameNode (roll-Node Spelling (Unit {0}) x) (roll-Node Name (Unit {0}) d)
     nodes_closed x d h =
-        restated (fold-roll-Node Name (Unit {0}) (List Mark) (List Mark) (List Mark) inside_limits node_marks expr_marks d)
-        (fold-roll-Node Spelling (Unit {0}) (List Mark) (List Mark) (List Mark) inside_limits node_marks expr_marks x)
+        restated (fold-roll-Node Name (Unit {0}) (List Mark) (List Mark) (List Mark) (inside_limits listed (λ e. e)) node_marks expr_marks d)
+        (fold-roll-Node Spelling (Unit {0}) (List Mark) (List Mark) (List Mark) (inside_limits listed (λ e. e)) node_marks expr_marks x)
         (fold-roll-Node Name (Unit {0}) ℕ ℕ ℕ limits_depth node_depth expr_depth d)
         (fold-roll-Node Spelling (Unit {0}) ℕ ℕ ℕ limits_depth node_depth expr_depth x)
         (node_parts x d h)
@@ -220,7 +220,7 @@ module _ (names : Names) where
       (deeper node h)
 
   abbrev SameStmts : List Stmt → List NamedStmt → Type 0
-  SameStmts ss ts = SameSize (concatenation (map marks_of_stmt ts)) (concatenation (map marks_of_stmt ss)) (greatest (map depth_of_stmt ts)) (greatest (map depth_of_stmt ss))
+  SameStmts ss ts = SameSize (concatenation (map marks_of_stmt ts)) (concatenation (map marks_of_stmt ss)) (inside_each highest (λ d. d) (map depth_of_stmt ts)) (inside_each highest (λ d. d) (map depth_of_stmt ss))
 
   stmts_size : (before : Scopes) (ss : List Stmt) (ts : List NamedStmt) (after : Scopes) → StmtsNamed SameAct before ss ts after → SameStmts ss ts
   stmts_size before ss ts after acts.none = empty
@@ -288,12 +288,12 @@ module _ (names : Names) where
   -- ---- heads and items
 
   params_size : (all before : Scopes) (ds : List Decl) (es : List NamedDecl) (after : Scopes) → ParamsNamed names all before ds es after
-      → SameSize (flat_map marks_of_param es) (flat_map marks_of_param ds) (depth_of_decls es) (depth_of_decls ds)
+      → SameSize (flat_map marks_of_param es) (flat_map marks_of_param ds) (inside_each highest depth_of_decl es) (inside_each highest depth_of_decl ds)
   params_size all before ds es after items.no_params = empty
   params_size all before ds es after (items.param {d = d} {e = e} h new hs) = both (led local (decl_same _ _ _ d e h)) (params_size _ _ _ _ _ hs)
 
   members_size : (all : Scopes) (before : List Spelling) (ds : List Decl) (es : List NamedDecl) → MembersNamed names all before ds es
-      → SameSize (flat_map marks_of_decl es) (flat_map marks_of_decl ds) (depth_of_decls es) (depth_of_decls ds)
+      → SameSize (flat_map marks_of_decl es) (flat_map marks_of_decl ds) (inside_each highest depth_of_decl es) (inside_each highest depth_of_decl ds)
   members_size all before ds es items.no_members = empty
   members_size all before ds es (items.member {d = d} {e = e} h new hs) = both (decl_same _ _ _ d e h) (members_size _ _ _ _ hs)
 

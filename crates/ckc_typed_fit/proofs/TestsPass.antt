@@ -115,7 +115,7 @@ module _ (names : Names) (tests : Tests)
     node_step x d (nodes.name s n is) = name_passes scopes s n is
     node_step x d (nodes.un op h) = expr_passed _ h
     node_step x d (nodes.bin op h i) = both (expr_passed _ h) (expr_passed _ i)
-    node_step x d (nodes.pick h g f) = both (expr_passed _ h) (both (expr_passed _ g) (expr_passed _ f))
+    node_step x d (nodes.pick h g f) = both (both (expr_passed _ h) (expr_passed _ g)) (expr_passed _ f)
     node_step x d (nodes.index h i) = both (expr_passed _ h) (expr_passed _ i)
     node_step x d (nodes.dot s n pos h is) = both (expr_passed _ h) (member_passes s n is)
     node_step x d (nodes.arrow s n pos h is) = both (expr_passed _ h) (member_passes s n is)

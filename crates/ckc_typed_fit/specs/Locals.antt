@@ -1,7 +1,7 @@
 -- How the locals of a function are numbered.
-use Rattle.ckc_base.specs.Lists.{or_empty}
 use Rattle.std.specs.Prelude.{ℕ, List, [], ◌∷◌, ◌++◌}
 use Rattle.std.specs.List.{flat_map}
+use Rattle.ckc_syntax.specs.Inside.{listed, inside_run}
 use Rattle.ckc_syntax.specs.declared.tree.Name.{Name}
 use Rattle.ckc_syntax.specs.declared.tree.Name.TheVariants as name
 use Rattle.ckc_syntax.specs.declared.tree.Item.TheVariants as item
@@ -16,22 +16,9 @@ local_in n = []
 abbrev pub decl_local : NamedDecl → List ℕ
 decl_local d = local_in d.name
 
--- The numbers of the locals that a statement declares, as they come in the text; those of the step of a `for`, which can
--- have none, behind those of its body.
+-- the numbers of the locals that a statement declares, as they come in the text
 abbrev pub act_locals : Act-F Name (Unit {0}) (List ℕ) (List ℕ) → List ℕ
-act_locals (Act-F.Block mode ss) = flat_map (λ s. s) ss
-act_locals Act-F.Empty = []
-act_locals (Act-F.Local d) = decl_local d
-act_locals (Act-F.Assign e f) = []
-act_locals (Act-F.Call e) = []
-act_locals (Act-F.If e s t) = s ++ or_empty t
-act_locals (Act-F.While e s) = s
-act_locals (Act-F.For first e step body) = or_empty first ++ (body ++ or_empty step)
-act_locals (Act-F.Return e) = []
-act_locals Act-F.Break = []
-act_locals Act-F.Continue = []
-act_locals (Act-F.Check e) = []
-act_locals (Act-F.Bundle ss) = flat_map (λ s. s) ss
+act_locals = inside_run listed (λ e. []) decl_local (λ s. s)
 
 abbrev pub locals_in : Stmt-F Name (Unit {0}) (List ℕ) (List ℕ) → List ℕ
 locals_in s = s.body

@@ -1,6 +1,7 @@
 -- The names in a tree whose names are resolved, each put to a test where it stands.
-use Rattle.std.specs.Prelude.{Bool, true, ◌&&◌, List, [], ◌∷◌, ◌++◌, map, Option, None, Some, unwrap_or}
+use Rattle.std.specs.Prelude.{Bool, true, ◌&&◌, List, [], ◌∷◌, ◌++◌, map, Option, None, Some}
 use Rattle.std.specs.List.{list_all, flat_map}
+use Rattle.ckc_syntax.specs.Inside.{listed, all_have, inside_if, inside_limits, inside_node, inside_init, inside_item}
 use Rattle.ckc_syntax.specs.declared.tree.Name.{Name}
 use Rattle.ckc_syntax.specs.declared.tree.TypeTree.{TypeTree-F, fold-TypeTree}
 use Rattle.ckc_syntax.specs.declared.tree.Init.TheVariants as init
@@ -31,28 +32,19 @@ abbrev pub type_passes : Tests → NamedType → Bool
 type_passes tests = fold-TypeTree Name Bool (type_parts tests)
 
 abbrev pub limits_parts : Limits-F Name (Unit {0}) Bool Bool Bool → Bool
-limits_parts (Limits-F.Count e pos) = e
-limits_parts (Limits-F.ByteCount e pos) = e
-limits_parts (Limits-F.Between e f pos) = e && f
-limits_parts (Limits-F.Unknown pos) = true
+limits_parts = inside_limits all_have (λ e. e)
 
 abbrev pub node_parts : Tests → List Name → Node-F Name (Unit {0}) Bool Bool Bool → Bool
-node_parts tests visible (Node-F.Number n unsigned) = true
-node_parts tests visible (Node-F.Text bytes) = true
-node_parts tests visible Node-F.Null = true
 node_parts tests visible (Node-F.Name n) = tests.name visible n
-node_parts tests visible (Node-F.Un op e) = e
-node_parts tests visible (Node-F.Bin op e f) = e && f
-node_parts tests visible (Node-F.Pick e f g) = e && (f && g)
-node_parts tests visible (Node-F.Index e f) = e && f
 node_parts tests visible (Node-F.Dot e n pos) = e && tests.member n
 node_parts tests visible (Node-F.Arrow e n pos) = e && tests.member n
 node_parts tests visible (Node-F.Cast t e) = type_passes tests t && e
 node_parts tests visible (Node-F.Size t) = type_passes tests t
-node_parts tests visible (Node-F.Trusted t e l) = type_passes tests t && (e && unwrap_or l true)
-node_parts tests visible (Node-F.Tested t e l) = type_passes tests t && (e && unwrap_or l true)
+node_parts tests visible (Node-F.Trusted t e l) = type_passes tests t && (e && inside_if all_have (λ b. b) l)
+node_parts tests visible (Node-F.Tested t e l) = type_passes tests t && (e && inside_if all_have (λ b. b) l)
 node_parts tests visible (Node-F.Call n es) = list_all (λ e. e) es && tests.name visible n
 node_parts tests visible (Node-F.Calloc t e u) = type_passes tests t && (e && type_passes tests u)
+node_parts tests visible n = inside_node all_have (λ l. l) (λ e. e) n
 
 abbrev pub expr_parts : Expr-F Name (Unit {0}) Bool Bool Bool → Bool
 expr_parts e = e.node
@@ -67,17 +59,13 @@ abbrev pub expr_passes : Tests → List Name → NamedExpr → Bool
 expr_passes tests visible = fold-Expr Name (Unit {0}) Bool Bool Bool limits_parts (node_parts tests visible) expr_parts
 
 abbrev pub bounds_pass : Tests → List Name → Option NamedLimits → Bool
-bounds_pass tests visible None = true
-bounds_pass tests visible (Some l) = limits_pass tests visible l
+bounds_pass tests visible = inside_if all_have (limits_pass tests visible)
 
 abbrev pub value_passes : Tests → List Name → Option NamedExpr → Bool
-value_passes tests visible None = true
-value_passes tests visible (Some e) = expr_passes tests visible e
+value_passes tests visible = inside_if all_have (expr_passes tests visible)
 
 abbrev pub init_passes : Tests → List Name → NamedInit → Bool
-init_passes tests visible init.Nothing = true
-init_passes tests visible (init.One e) = expr_passes tests visible e
-init_passes tests visible (init.Many es) = list_all (expr_passes tests visible) es
+init_passes tests visible = inside_init all_have (expr_passes tests visible)
 
 -- A declaration: its bounds see the first names, its initialiser the second.
 abbrev pub decl_passes : Tests → List Name → List Name → NamedDecl → Bool
@@ -99,8 +87,7 @@ pass_in_turn [] visible = true
 pass_in_turn (s ∷ ss) visible = s.passes visible && pass_in_turn ss (visible ++ s.leaves)
 
 abbrev pub left_by_part : Option Walked → List Name
-left_by_part None = []
-left_by_part (Some s) = s.leaves
+left_by_part = inside_if listed (λ (s : Walked). s.leaves)
 
 abbrev pub part_passes : Option Walked → List Name → Bool
 part_passes None visible = true
@@ -154,12 +141,9 @@ head_passes tests h = type_passes tests h.result && (decls_pass tests h.params &
 
 -- The body of a function sees its parameters.
 abbrev pub item_passes : Tests → NamedItem → Bool
-item_passes tests (item.Directive d) = true
-item_passes tests (item.Tag n pos) = true
 item_passes tests (item.Struct n members pos) = decls_pass tests members
-item_passes tests (item.Static d) = decl_passes tests [] [] d
-item_passes tests (item.Proto h) = head_passes tests h
 item_passes tests (item.Function h body) = head_passes tests h && (walked tests body).passes (names_declared h.params)
+item_passes tests i = inside_item all_have (decl_passes tests [] []) (head_passes tests) (λ s. true) i
 
 -- whether each name in a tree passes
 abbrev pub items_pass : Tests → List NamedItem → Bool

@@ -29,7 +29,7 @@ use Rattle.ckc_parser_grammar.specs.Grammar.{Part, Symbol, t, n, Rule, left, rig
 use Rattle.ckc_parser_grammar.specs.Grammar as g
 use Rattle.ckc_parser_grammar.specs.Trees.{Name, Tree, Item, Head, TypeTree, Decl, Limits, Expr, Node, Stmt, Act, expr_at, stmt_at, statics, local_of, locals, function_of, posted, joined_at, joined_to, joined, level, picked, literal}
 use Rattle.ckc_parser_grammar.specs.Values as v
-use Rattle.ckc_parser_grammar.specs.Values.{Value, made, named, called, whole, step, declared, as_token, as_items, as_items_of_name, as_items_of_base, as_items_of_declarator, as_item_of_head, as_decl, as_decls, as_decl_of_base, as_decls_of_base, as_decl_of_name, as_init, as_limits, as_declared_limits, as_limits_at, as_limits_of_unknown, as_expr, as_exprs, as_value, as_expr_behind, as_expr_of_name, as_expr_of_less, as_arms, as_steps, as_post, as_posts, as_stmt, as_part, as_stmts, as_stmt_of_name, operand_of, limits_of, as_type}
+use Rattle.ckc_parser_grammar.specs.Values.{Value, made, named, called, whole, step, as_token, as_items, as_items_of_name, as_items_of_base, as_items_of_declarator, as_item_of_head, as_decl, as_decls, as_decl_of_base, as_decls_of_base, as_decl_of_name, as_init, as_limits, as_declared_limits, as_limits_at, as_limits_of_unknown, as_expr, as_exprs, as_value, as_expr_behind, as_expr_of_name, as_expr_of_less, as_arms, as_steps, as_post, as_posts, as_stmt, as_part, as_stmts, as_stmt_of_name, operand_of, limits_of, as_type}
 use Rattle.ckc_parser_grammar.specs.Derives.{Sign, Derives}
 use Rattle.ckc_parser_grammar.specs.Derives as D
 use Rattle.ckc_typed_welltyped.specs.Productions.{limits_callless, node_callless, expr_callless, callless_limits, callless_expr, callless_bounds, callless_value, call_form, is_call, is_right, callless_init, right_init, given_decl, given_local, Given, begins, steps, given_act, given_in, given_stmt, given_head, given_item, given_tree}
@@ -218,7 +218,7 @@ c_bin : (o : TreeOp) (e f : Expr) (pos : Pos) → C e → C f → C (expr_at (no
 c_bin o e f pos h k = at_is _ pos ∙ ap callless_node (sym (node.rolls-Bin o e f)) ∙ rolled_is (Node-F.Bin o e f) ∙ both _ _ h k
 
 c_pick : (e f i : Expr) (pos : Pos) → C e → C f → C i → C (expr_at (node.Pick e f i) pos)
-c_pick e f i pos h k l = at_is _ pos ∙ ap callless_node (sym (node.rolls-Pick e f i)) ∙ rolled_is (Node-F.Pick e f i) ∙ both _ _ h (both _ _ k l)
+c_pick e f i pos h k l = at_is _ pos ∙ ap callless_node (sym (node.rolls-Pick e f i)) ∙ rolled_is (Node-F.Pick e f i) ∙ both _ _ (both _ _ h k) l
 
 c_index : (e f : Expr) (pos : Pos) → C e → C f → C (expr_at (node.Index e f) pos)
 c_index e f pos h k = at_is _ pos ∙ ap callless_node (sym (node.rolls-Index e f)) ∙ rolled_is (Node-F.Index e f) ∙ both _ _ h k
@@ -370,8 +370,8 @@ s_block : (m : Option Mode) (ss : List Stmt) (pos : Pos) → LS ss → S (stmt_a
 s_block m ss pos h = fine_is _ pos _ (ap given_of (sym (act.rolls-Block m ss)) ∙ act_is (Act-F.Block m ss)) (mapped (λ x. x.fine) ss ∙ h)
 
 s_if : (e : Expr) (s : Stmt) (o : Option Stmt) (pos : Pos) → C e → S s → IfSome o S → S (stmt_at (act.If e s o) pos)
-s_if e s None pos h k l = fine_is _ pos _ (ap given_of (sym (act.rolls-If e s None)) ∙ act_is (Act-F.If e s None)) (both _ _ h (both _ _ k refl))
-s_if e s (Some u) pos h k l = fine_is _ pos _ (ap given_of (sym (act.rolls-If e s (Some u))) ∙ act_is (Act-F.If e s (Some u))) (both _ _ h (both _ _ k l))
+s_if e s None pos h k l = fine_is _ pos _ (ap given_of (sym (act.rolls-If e s None)) ∙ act_is (Act-F.If e s None)) (both _ _ (both _ _ h k) refl)
+s_if e s (Some u) pos h k l = fine_is _ pos _ (ap given_of (sym (act.rolls-If e s (Some u))) ∙ act_is (Act-F.If e s (Some u))) (both _ _ (both _ _ h k) l)
 
 s_for : (a : Option Stmt) (c : Option Expr) (b : Option Stmt) (s : Stmt) (pos : Pos) → begins (option_map given_stmt a) ≡ true → callless_value c ≡ true → steps (option_map given_stmt b) ≡ true → S s → S (stmt_at (act.For a c b s) pos)
 s_for None c None s pos i j k l = fine_is _ pos _ (ap given_of (sym (act.rolls-For None c None s)) ∙ act_is (Act-F.For None c None s)) (both _ _ i (both _ _ j (both _ _ k l)))

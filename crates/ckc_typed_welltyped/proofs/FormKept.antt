@@ -1,8 +1,7 @@
 -- The grammar gives a tree just where it gives the tree without its notes.
 use Rattle.std.proofs.Common.{◌≡◌, suc, Bool, true, false, ◌&&◌, ◌||◌, nat_le, List, [], ◌∷◌, length, map, refl, sym, ap, ◌∙◌, rules}
-use Rattle.std.specs.Prelude.{Option, Some, None}
+use Rattle.std.specs.Prelude.{Option}
 use Rattle.std.specs.Option.{option_map}
-use Rattle.std.specs.List.{list_all}
 use Rattle.ckc_syntax.specs.declared.tree.Tree.{Tree}
 use Rattle.ckc_syntax.specs.declared.tree.Item.{Item}
 use Rattle.ckc_syntax.specs.declared.tree.Item.TheVariants as item
@@ -19,15 +18,14 @@ use Rattle.ckc_syntax.specs.declared.tree.NamedText.{NamedText}
 use Rattle.ckc_typed.specs.declared.typed.Typed.{Typed}
 use Rattle.ckc_typed.specs.Texts.{named_typed}
 use Rattle.std.specs.Prelude.{Ok}
+use Rattle.ckc_syntax.specs.Inside.{all_have}
+use Rattle.ckc_syntax.proofs.Insides.{each_same, if_same}
 use Rattle.ckc_typed_welltyped.specs.Noteless.{limits_noteless, node_noteless, act_noteless, bare_limits, bare_node, bare_expr, bare_init, bare_decl, bare_stmt, bare_head, bare_item, without_notes}
-use Rattle.ckc_typed_welltyped.specs.Productions.{limits_callless, node_callless, expr_callless, callless_limits, callless_expr, callless_bounds, callless_value, call_form, is_call, is_right, callless_init, right_init, given_decl, given_local, Given, other, fine_part, begins, steps, given_act, given_in, given_stmt, given_head, given_item, given_tree}
+use Rattle.ckc_typed_welltyped.specs.Productions.{limits_callless, node_callless, expr_callless, callless_limits, callless_expr, callless_bounds, callless_value, call_form, is_call, is_right, callless_init, right_init, given_decl, given_local, Given, other, begins, steps, given_act, given_in, given_stmt, given_head, given_item, given_tree}
 use Rattle.ckc_typed_welltyped.proofs.Bares.{bared_node, bare_node_is, bare_expr_is}
+use Rattle.ckc_typed_welltyped.proofs.Insides.{init_same, act_same, item_same}
 use Rattle.ckc_typed_welltyped.proofs.Folds.{limits_folds, expr_folds, stmt_folds}
 use Rattle.ckc_typed_welltyped.proofs.Texts.{gives}
-
-all_same : {X Y : Type 0} (bare : X → Y) (f : Y → Bool) (g : X → Bool) → ((x : X) → f (bare x) ≡ g x) → (xs : List X) → list_all f (map bare xs) ≡ list_all g xs
-all_same bare f g each [] = refl
-all_same bare f g each (x ∷ xs) = ap (λ b. b && list_all f (map bare xs)) (each x) ∙ ap (λ b. g x && b) (all_same bare f g each xs)
 
 as_many : {X Y : Type 0} (bare : X → Y) (xs : List X) → length (map bare xs) ≡ length xs
 as_many bare [] = refl
@@ -55,15 +53,13 @@ module _ {N A : Type 0} where
   of_expr = expr_folds N A Bool Bool Bool limits_callless node_callless expr_callless limits_callless node_callless expr_callless limits_agree nodes_agree (λ x. refl)
 
   of_bounds : (l : Option (Limits N A)) → callless_bounds (option_map bare_limits l) ≡ callless_bounds l
-  of_bounds None = refl
-  of_bounds (Some l) = of_limits l
+  of_bounds = if_same all_have bare_limits callless_limits callless_limits of_limits
 
   of_value : (e : Option (Expr N A)) → callless_value (option_map bare_expr e) ≡ callless_value e
-  of_value None = refl
-  of_value (Some e) = of_expr e
+  of_value = if_same all_have bare_expr callless_expr callless_expr of_expr
 
   form_same : (d : Node-F N A (Limits N A) (Node N A) (Expr N A)) → call_form (bared_node N A d) ≡ call_form d
-  form_same (Node-F.Call n es) = all_same bare_expr callless_expr callless_expr of_expr es
+  form_same (Node-F.Call n es) = each_same all_have bare_expr callless_expr callless_expr of_expr es
   form_same (Node-F.Calloc t e u) = of_expr e
   form_same _ = refl
 
@@ -80,9 +76,7 @@ module _ {N A : Type 0} where
   of_right e = ap (λ b. b || callless_expr (bare_expr e)) (of_call e) ∙ ap (λ b. is_call e || b) (of_expr e)
 
   of_init : (i : Init N A) → callless_init (bare_init i) ≡ callless_init i
-  of_init init.Nothing = refl
-  of_init (init.One e) = of_expr e
-  of_init (init.Many es) = all_same bare_expr callless_expr callless_expr of_expr es
+  of_init = init_same all_have callless_expr callless_expr of_expr
 
   of_right_init : (i : Init N A) → right_init (bare_init i) ≡ right_init i
   of_right_init init.Nothing = refl
@@ -96,36 +90,27 @@ module _ {N A : Type 0} where
   of_local d = both_same _ _ _ _ (of_bounds d.bounds) (of_right_init d.init)
 
   acts_agree : (x : Act-F N A Given Given) → given_act (act_noteless x) ≡ given_act x
-  acts_agree (Act-F.Block m ss) = refl
-  acts_agree Act-F.Empty = refl
   acts_agree (Act-F.Local d) = ap (λ b. record { fine = b; assigns = false; declares = true }) (of_local d)
   acts_agree (Act-F.Assign e f) = ap (λ b. record { fine = b; assigns = true; declares = false }) (both_same _ _ _ _ (of_expr e) (of_right f))
   acts_agree (Act-F.Call e) = ap other (of_call e)
-  acts_agree (Act-F.If e s t) = ap (λ b. other (b && (s.fine && fine_part t))) (of_expr e)
-  acts_agree (Act-F.While e s) = ap (λ b. other (b && s.fine)) (of_expr e)
   acts_agree (Act-F.For s e t u) = ap (λ b. other (begins s && (b && (steps t && u.fine)))) (of_value e)
-  acts_agree (Act-F.Return e) = ap other (of_value e)
-  acts_agree Act-F.Break = refl
-  acts_agree Act-F.Continue = refl
-  acts_agree (Act-F.Check e) = ap other (of_expr e)
   acts_agree (Act-F.Bundle ss) = refl
+  acts_agree x = ap other (act_same all_have callless_expr given_local callless_expr given_local (λ (s : Given). s.fine) of_expr of_local x)
 
   of_stmt : (s : Stmt N A) → given_stmt (bare_stmt s) ≡ given_stmt s
   of_stmt = stmt_folds N A Given Given given_act given_in given_act given_in acts_agree (λ x. refl)
 
   of_head : (h : Head N A) → given_head (bare_head h) ≡ given_head h
-  of_head h = both_same _ _ _ _ (all_same bare_decl given_decl given_decl of_decl h.params) (of_bounds h.bounds)
+  of_head h = both_same _ _ _ _ (each_same all_have bare_decl given_decl given_decl of_decl h.params) (of_bounds h.bounds)
 
   of_item : (i : Item N A) → given_item (bare_item i) ≡ given_item i
-  of_item (item.Directive d) = refl
-  of_item (item.Tag n at) = refl
-  of_item (item.Struct n members at) = both_same _ _ _ _ (ap (nat_le 1) (as_many bare_decl members)) (all_same bare_decl given_decl given_decl of_decl members)
-  of_item (item.Static d) = of_decl d
-  of_item (item.Proto h) = of_head h
-  of_item (item.Function h body) = both_same _ _ _ _ (of_head h) (ap (λ (g : Given). g.fine) (of_stmt body))
+  of_item (item.Struct n members at) = both_same _ _ _ _ (ap (nat_le 1) (as_many bare_decl members)) (each_same all_have bare_decl given_decl given_decl of_decl members)
+  of_item i =
+      item_same all_have given_decl given_head (λ s. (given_stmt s).fine) given_decl given_head (λ s. (given_stmt s).fine) of_decl of_head
+      (λ s. ap (λ (g : Given). g.fine) (of_stmt s)) i
 
   pub of_tree : (t : Tree N A) → given_tree (without_notes t) ≡ given_tree t
-  of_tree t = all_same bare_item given_item given_item of_item t.items
+  of_tree t = each_same all_have bare_item given_item given_item of_item t.items
 
 pub form_stays : (t : NamedText) (p : Typed) → named_typed t ≡ Ok p → given_tree p.tree ≡ given_tree t.tree
 form_stays t p e = sym (of_tree p.tree) ∙ ap given_tree (gives t p e).tree

@@ -9,6 +9,7 @@ mod Acts
 mod TypedActs
 mod ActsBack
 mod Texts
+mod Insides
 mod Folds
 mod MarksKept
 mod DepthKept

@@ -1,9 +1,9 @@
 -- What the productions of the grammar give beside the types of trees (ISO C11, 6.5 to 6.9, with the choices of this
 -- language): where calls stand, what a call statement is, what a bundle holds, what begins and steps a `for`, and that a
 -- structure has a member.
-use Rattle.std.specs.Prelude.{Bool, true, false, ◌&&◌, ◌||◌, nat_le, length, Option, None, Some, unwrap_or}
-use Rattle.std.specs.Option.{option_map}
+use Rattle.std.specs.Prelude.{Bool, true, false, ◌&&◌, ◌||◌, nat_le, length, Option, None, Some}
 use Rattle.std.specs.List.{list_all}
+use Rattle.ckc_syntax.specs.Inside.{all_have, inside_if, inside_limits, inside_node, inside_init, inside_act, inside_item}
 use Rattle.ckc_syntax.specs.declared.tree.Tree.{Tree}
 use Rattle.ckc_syntax.specs.declared.tree.Item.{Item}
 use Rattle.ckc_syntax.specs.declared.tree.Item.TheVariants as item
@@ -19,28 +19,12 @@ use Rattle.ckc_syntax.specs.declared.tree.Stmt.{Stmt, Stmt-F, fold-Stmt}
 
 -- no call, anywhere in it
 abbrev pub limits_callless : {N A : Type 0} → Limits-F N A Bool Bool Bool → Bool
-limits_callless (Limits-F.Count e at) = e
-limits_callless (Limits-F.ByteCount e at) = e
-limits_callless (Limits-F.Between e f at) = e && f
-limits_callless (Limits-F.Unknown at) = true
+limits_callless = inside_limits all_have (λ e. e)
 
 abbrev pub node_callless : {N A : Type 0} → Node-F N A Bool Bool Bool → Bool
-node_callless (Node-F.Number n unsigned) = true
-node_callless (Node-F.Text bytes) = true
-node_callless Node-F.Null = true
-node_callless (Node-F.Name n) = true
-node_callless (Node-F.Un o e) = e
-node_callless (Node-F.Bin o e f) = e && f
-node_callless (Node-F.Pick e f g) = e && (f && g)
-node_callless (Node-F.Index e f) = e && f
-node_callless (Node-F.Dot e n at) = e
-node_callless (Node-F.Arrow e n at) = e
-node_callless (Node-F.Cast t e) = e
-node_callless (Node-F.Size t) = true
-node_callless (Node-F.Trusted t e l) = e && unwrap_or l true
-node_callless (Node-F.Tested t e l) = e && unwrap_or l true
 node_callless (Node-F.Call n es) = false
 node_callless (Node-F.Calloc t e u) = false
+node_callless n = inside_node all_have (λ l. l) (λ e. e) n
 
 abbrev pub expr_callless : {N A : Type 0} → Expr-F N A Bool Bool Bool → Bool
 expr_callless e = e.node
@@ -52,10 +36,10 @@ abbrev pub callless_expr : {N A : Type 0} → Expr N A → Bool
 callless_expr {N} {A} = fold-Expr N A Bool Bool Bool limits_callless node_callless expr_callless
 
 abbrev pub callless_bounds : {N A : Type 0} → Option (Limits N A) → Bool
-callless_bounds l = unwrap_or (option_map callless_limits l) true
+callless_bounds = inside_if all_have callless_limits
 
 abbrev pub callless_value : {N A : Type 0} → Option (Expr N A) → Bool
-callless_value e = unwrap_or (option_map callless_expr e) true
+callless_value = inside_if all_have callless_expr
 
 -- a call, with no call in its arguments
 abbrev pub call_form : {N A : Type 0} → Node-F N A (Limits N A) (Node N A) (Expr N A) → Bool
@@ -71,9 +55,7 @@ abbrev pub is_right : {N A : Type 0} → Expr N A → Bool
 is_right e = is_call e || callless_expr e
 
 abbrev pub callless_init : {N A : Type 0} → Init N A → Bool
-callless_init init.Nothing = true
-callless_init (init.One e) = callless_expr e
-callless_init (init.Many es) = list_all callless_expr es
+callless_init = inside_init all_have callless_expr
 
 abbrev pub right_init : {N A : Type 0} → Init N A → Bool
 right_init init.Nothing = true
@@ -98,8 +80,7 @@ abbrev pub other : Bool → Given
 other fine = record { fine = fine; assigns = false; declares = false }
 
 abbrev pub fine_part : Option Given → Bool
-fine_part None = true
-fine_part (Some s) = s.fine
+fine_part = inside_if all_have (λ (s : Given). s.fine)
 
 -- A `for` begins with one declaration or an assignment, or with nothing; its step is an assignment, or nothing.
 abbrev pub begins : Option Given → Bool
@@ -110,21 +91,14 @@ abbrev pub steps : Option Given → Bool
 steps None = true
 steps (Some s) = s.fine && s.assigns
 
--- A row for each kind of statement. A call statement is a call, and a bundle has 2 or more assignments.
+-- A call statement is a call, and a bundle has 2 or more assignments.
 abbrev pub given_act : {N A : Type 0} → Act-F N A Given Given → Given
-given_act (Act-F.Block m ss) = other (list_all (λ s. s.fine) ss)
-given_act Act-F.Empty = other true
 given_act (Act-F.Local d) = record { fine = given_local d; assigns = false; declares = true }
 given_act (Act-F.Assign e f) = record { fine = callless_expr e && is_right f; assigns = true; declares = false }
 given_act (Act-F.Call e) = other (is_call e)
-given_act (Act-F.If e s t) = other (callless_expr e && (s.fine && fine_part t))
-given_act (Act-F.While e s) = other (callless_expr e && s.fine)
 given_act (Act-F.For s e t body) = other (begins s && (callless_value e && (steps t && body.fine)))
-given_act (Act-F.Return e) = other (callless_value e)
-given_act Act-F.Break = other true
-given_act Act-F.Continue = other true
-given_act (Act-F.Check e) = other (callless_expr e)
 given_act (Act-F.Bundle ss) = other (nat_le 2 (length ss) && list_all (λ s. s.fine && s.assigns) ss)
+given_act a = other (inside_act all_have callless_expr given_local (λ (s : Given). s.fine) a)
 
 abbrev pub given_in : {N A : Type 0} → Stmt-F N A Given Given → Given
 given_in s = s.body
@@ -136,12 +110,8 @@ abbrev pub given_head : {N A : Type 0} → Head N A → Bool
 given_head h = list_all given_decl h.params && callless_bounds h.bounds
 
 abbrev pub given_item : {N A : Type 0} → Item N A → Bool
-given_item (item.Directive d) = true
-given_item (item.Tag n at) = true
 given_item (item.Struct n members at) = nat_le 1 (length members) && list_all given_decl members
-given_item (item.Static d) = given_decl d
-given_item (item.Proto h) = given_head h
-given_item (item.Function h body) = given_head h && (given_stmt body).fine
+given_item i = inside_item all_have given_decl given_head (λ s. (given_stmt s).fine) i
 
 -- whether the grammar gives such a tree
 abbrev pub given_tree : {N A : Type 0} → Tree N A → Bool

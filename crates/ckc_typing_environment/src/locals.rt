@@ -1,7 +1,7 @@
 //! The locals that a function declares.
 
 ghost use Rattle.std.specs.Prelude.{◌≡◌, [], ◌∷◌, ◌++◌, IfOk, OnOk, map};
-ghost use Rattle.ckc_base.specs.Lists.{concatenation};
+ghost use Rattle.ckc_syntax.specs.Inside.{listed, inside_each};
 ghost use Rattle.ckc_typed.specs.Environment.{variable_declared, locals_of, locals_of_act, locals_of_part, variables_of};
 
 use crate::environment::{variable_declared, variables_declared};
@@ -53,7 +53,7 @@ fn add_stmts<A>(
     all: &mut Seq<Variable>,
     ss: &[Stmt<Name, A>],
 ) -> Result<(), AllocError>
-    ensures { OnOk result (all.new ≡ all.old ++ concatenation (map locals_of ss.now)) }
+    ensures { OnOk result (all.new ≡ all.old ++ inside_each listed (λ x. x) (map locals_of ss.now)) }
 {
     for s in ss {
         add_stmt(alloc, all, s)?;

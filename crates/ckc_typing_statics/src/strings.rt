@@ -2,7 +2,7 @@
 
 ghost use Rattle.std.specs.Prelude.{◌≡◌, [], ◌∷◌, ◌++◌, IfOk, OnOk, map};
 ghost use Rattle.std.specs.List.{flat_map};
-ghost use Rattle.ckc_base.specs.Lists.{concatenation};
+ghost use Rattle.ckc_syntax.specs.Inside.{listed, inside_each};
 ghost use Rattle.ckc_typed.specs.Statics.{strings_of_limits, strings_of_expr, strings_of_bounds, strings_of_value, strings_of_init, strings_of_decl, strings_of_stmt, strings_of_head, strings_of_item};
 ghost use Rattle.ckc_typing_statics.specs.code.Parts.{strings_of_node, strings_of_act, strings_of_part};
 
@@ -72,7 +72,7 @@ fn add_expr(alloc: Global, all: &mut Seq<Bytes>, e: &Expr<Name, Note>) -> Result
 
 #[cycle(strings)]
 fn add_exprs(alloc: Global, all: &mut Seq<Bytes>, es: &[Expr<Name, Note>]) -> Result<(), AllocError>
-    ensures { OnOk result (all.new ≡ all.old ++ concatenation (map strings_of_expr es.now)) }
+    ensures { OnOk result (all.new ≡ all.old ++ inside_each listed (λ x. x) (map strings_of_expr es.now)) }
 {
     for e in es {
         add_expr(alloc, all, e)?;
@@ -203,7 +203,7 @@ fn add_stmt(alloc: Global, all: &mut Seq<Bytes>, s: &Stmt<Name, Note>) -> Result
 
 #[cycle(held)]
 fn add_stmts(alloc: Global, all: &mut Seq<Bytes>, ss: &[Stmt<Name, Note>]) -> Result<(), AllocError>
-    ensures { OnOk result (all.new ≡ all.old ++ concatenation (map strings_of_stmt ss.now)) }
+    ensures { OnOk result (all.new ≡ all.old ++ inside_each listed (λ x. x) (map strings_of_stmt ss.now)) }
 {
     for s in ss {
         add_stmt(alloc, all, s)?;

@@ -1,6 +1,7 @@
 use Rattle.std.proofs.Common.{◌≡◌, map, drop}
 use Rattle.ckc_bounds.specs.Declarations.{with_all}
-use Rattle.ckc_bounds_statements.specs.Paths.{all_declared, path}
+use Rattle.ckc_bounds_statements.specs.code.Parts.{all_declared}
+use Rattle.ckc_bounds_statements.specs.Paths.{path}
 use Rattle.ckc_bounds.proofs.locals.+locals.Given as goal
 
 -- what is left gives what the whole gives

@@ -1,6 +1,7 @@
 use Rattle.std.proofs.Common.{◌≡◌, ◌++◌, map, drop}
 use Rattle.std.specs.Prelude.{◌||◌}
-use Rattle.ckc_bounds_statements.specs.Paths.{all_assigned, some_break, some_continue, path}
+use Rattle.ckc_bounds_statements.specs.code.Parts.{all_assigned, some_break, some_continue}
+use Rattle.ckc_bounds_statements.specs.Paths.{path}
 use Rattle.ckc_bounds_statements.proofs.contents.+contents.Given as goal
 
 abbrev pub invariant-add_stmts-loop-s : goal.invariant-add_stmts-loop-s

@@ -1,5 +1,6 @@
 use Rattle.std.proofs.Common.{◌≡◌, map, drop}
-use Rattle.ckc_bounds_statements.specs.Paths.{some_need, path}
+use Rattle.ckc_bounds_statements.specs.code.Parts.{some_need}
+use Rattle.ckc_bounds_statements.specs.Paths.{path}
 use Rattle.ckc_bounds_statements.proofs.needs.+needs.Given as goal
 
 -- what is left decides

@@ -1,5 +1,5 @@
 use Rattle.std.proofs.Common.{◌≡◌, drop}
-use Rattle.ckc_bounds_statements.specs.Paths.{needs_some}
+use Rattle.ckc_bounds_statements.specs.code.Parts.{needs_some}
 use Rattle.ckc_bounds_statements.proofs.needs.needs_some.Given as goal
 
 -- what is left decides

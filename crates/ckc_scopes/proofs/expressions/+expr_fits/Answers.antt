@@ -1,7 +1,8 @@
 use Rattle.std.proofs.Common.{refl, ap, sym, ◌∙◌, ◌++◌}
-use Rattle.std.specs.Prelude.{flat_map, map, ◌∷◌}
+use Rattle.std.specs.Prelude.{map, ◌∷◌}
 use Rattle.ckc_syntax.specs.declared.tree.Name.{Name}
 use Rattle.ckc_syntax.specs.declared.tree.Expr.{out-Expr}
+use Rattle.ckc_syntax.specs.Inside.{listed, inside_each}
 use Rattle.ckc_typed.specs.declared.typed.Note.{Note}
 use Rattle.ckc_typed.specs.Walk.{within, spot, value, spots_of_expr, spots_of_bounds, spots_of_limits}
 use Rattle.ckc_scopes.specs.code.Verdict.{verdict}
@@ -82,7 +83,7 @@ parts_fit-returns-in_ok-expr_fits-in-Pick-2 t c =
 
 pub parts_fit-returns-in-Call : goal.parts_fit-returns-in-Call
 parts_fit-returns-in-Call t c =
-    let e = ap (λ n. (within n).parts) c.in-Call.is ∙ parts_of_call c.in-Call.field-0 c.in-Call.es ∙ ap (λ es. flat_map spots_of_expr es) (sym c.as_slice.ensures) in
+    let e = ap (λ n. (within n).parts) c.in-Call.is ∙ parts_of_call c.in-Call.field-0 c.in-Call.es ∙ ap (λ es. inside_each listed spots_of_expr es) (sym c.as_slice.ensures) in
     c.exprs_fit.ensures ∙ ap (λ ss. verdict c.args.items.now ss) (sym e)
 
 pub expr_fits-returns-in_err-parts_fit : goal.expr_fits-returns-in_err-parts_fit

@@ -1,11 +1,12 @@
-use Rattle.std.proofs.Common.{map, ap, sym, ◌∙◌}
-use Rattle.ckc_syntax_limits.specs.Depth.{depth_of_node, depth_of_expr, greatest}
+use Rattle.std.proofs.Common.{ap, sym, ◌∙◌}
+use Rattle.ckc_syntax.specs.Inside.{highest, inside_each}
+use Rattle.ckc_syntax_limits.specs.Depth.{depth_of_node, depth_of_expr}
 use Rattle.ckc_syntax_limits.proofs.Depths.{depth_of_call, stopped, turned, within_along}
 use Rattle.ckc_syntax_limits.proofs.depth.+expr_within.Goals as goal
 
 pub node_within-returns-in-Call : goal.node_within-returns-in-Call
 node_within-returns-in-Call g t c =
-    let e = ap depth_of_node c.in-Call.is ∙ depth_of_call c.in-Call.field-0 c.in-Call.es ∙ ap (λ es. greatest (map depth_of_expr es)) (sym c.as_slice.ensures) in
+    let e = ap depth_of_node c.in-Call.is ∙ depth_of_call c.in-Call.field-0 c.in-Call.es ∙ ap (λ es. inside_each highest depth_of_expr es) (sym c.as_slice.ensures) in
     within_along _ _ _ _ e c.exprs_within.ensures
 
 pub exprs_within-returns-then-not-expr_within : goal.exprs_within-returns-then-not-expr_within

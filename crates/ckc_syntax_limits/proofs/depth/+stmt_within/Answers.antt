@@ -1,5 +1,6 @@
-use Rattle.std.proofs.Common.{map, ap, sym, ◌∙◌}
-use Rattle.ckc_syntax_limits.specs.Depth.{depth_of_act, depth_of_stmt, greatest}
+use Rattle.std.proofs.Common.{ap, sym, ◌∙◌}
+use Rattle.ckc_syntax.specs.Inside.{highest, inside_each}
+use Rattle.ckc_syntax_limits.specs.Depth.{depth_of_act, depth_of_stmt}
 use Rattle.ckc_syntax_limits.proofs.Depths.{depth_of_block, depth_of_bundle, stopped, turned, within_along}
 use Rattle.ckc_syntax_limits.proofs.depth.+stmt_within.Goals as goal
 
@@ -13,10 +14,10 @@ stmts_within-loop-stmt-preserved g t c =
 
 pub act_within-returns-in-Block : goal.act_within-returns-in-Block
 act_within-returns-in-Block g t c =
-    let e = ap depth_of_act c.in-Block.is ∙ depth_of_block c.in-Block.field-0 c.in-Block.stmts ∙ ap (λ ss. greatest (map depth_of_stmt ss)) (sym c.as_slice.ensures) in
+    let e = ap depth_of_act c.in-Block.is ∙ depth_of_block c.in-Block.field-0 c.in-Block.stmts ∙ ap (λ ss. inside_each highest depth_of_stmt ss) (sym c.as_slice.ensures) in
     within_along _ _ _ _ e c.stmts_within.ensures
 
 pub act_within-returns-in-Bundle : goal.act_within-returns-in-Bundle
 act_within-returns-in-Bundle g t c =
-    let e = ap depth_of_act c.in-Bundle.is ∙ depth_of_bundle c.in-Bundle.stmts ∙ ap (λ ss. greatest (map depth_of_stmt ss)) (sym c.as_slice-in-Bundle.ensures) in
+    let e = ap depth_of_act c.in-Bundle.is ∙ depth_of_bundle c.in-Bundle.stmts ∙ ap (λ ss. inside_each highest depth_of_stmt ss) (sym c.as_slice-in-Bundle.ensures) in
     within_along _ _ _ _ e c.stmts_within-in-Bundle.ensures

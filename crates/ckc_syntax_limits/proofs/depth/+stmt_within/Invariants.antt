@@ -1,8 +1,9 @@
-use Rattle.std.proofs.Common.{◌≤◌, ◌↔◌, map, drop}
-use Rattle.ckc_syntax_limits.specs.Depth.{depth_of_stmt, greatest}
+use Rattle.std.proofs.Common.{◌≤◌, ◌↔◌, drop}
+use Rattle.ckc_syntax.specs.Inside.{highest, inside_each}
+use Rattle.ckc_syntax_limits.specs.Depth.{depth_of_stmt}
 use Rattle.ckc_syntax_limits.proofs.depth.+stmt_within.Given as goal
 
 -- what is left is shallow just where the whole is
 abbrev pub invariant-stmts_within-loop-stmt : goal.invariant-stmts_within-loop-stmt
 invariant-stmts_within-loop-stmt g l =
-    (greatest (map depth_of_stmt l.stmts) ≤ l.left) ↔ (greatest (map depth_of_stmt (drop l.stmt-index l.stmts)) ≤ l.left)
+    (inside_each highest depth_of_stmt l.stmts ≤ l.left) ↔ (inside_each highest depth_of_stmt (drop l.stmt-index l.stmts) ≤ l.left)

@@ -1,8 +1,8 @@
 use Rattle.std.proofs.Common.{◌+◌, drop, ap, sym, ◌∙◌}
 use Rattle.std.specs.Prelude.{flat_map}
-use Rattle.ckc_syntax_limits.specs.Marks.{marks_of_act, marks_of_stmt}
+use Rattle.ckc_syntax_limits.specs.Marks.{marks_of_value, marks_of_act, marks_of_stmt, marks_of_part}
 use Rattle.ckc_syntax_limits.specs.code.Tally.{tallied}
-use Rattle.ckc_syntax_limits.proofs.Tallies.{tallied_append, tallied_turn, marks_of_assign, marks_of_if, marks_of_while, marks_of_for, marks_of_block, marks_of_bundle}
+use Rattle.ckc_syntax_limits.proofs.Tallies.{tallied_append, tallied_turn, four_tallied, marks_of_assign, marks_of_if, marks_of_while, marks_of_for, marks_of_block, marks_of_bundle}
 use Rattle.ckc_syntax_limits.proofs.tally.+stmt_tally.Goals as goal
 
 pub stmts_tally-loop-stmt-preserved : goal.stmts_tally-loop-stmt-preserved
@@ -32,4 +32,10 @@ pub act_tally-returns-in-While : goal.act_tally-returns-in-While
 act_tally-returns-in-While g t c = rw (c.in-While.is, marks_of_while, tallied_append) (cc)
 
 pub act_tally-returns-in-For : goal.act_tally-returns-in-For
-act_tally-returns-in-For g t c = rw (c.in-For.is, marks_of_for, tallied_append, tallied_append, tallied_append) (cc)
+act_tally-returns-in-For g t c =
+    let whole = ap marks_of_act c.in-For.is ∙ marks_of_for c.in-For.first c.in-For.e c.in-For.step c.in-For.body in
+    four_tallied c.args.so_far c.part_tally-in-For.result c.value_tally-so_far.result c.part_tally-in-For-2.result _
+    (marks_of_part c.in-For.first) (marks_of_value c.in-For.e) (marks_of_part c.in-For.step) (marks_of_stmt c.in-For.body)
+    c.part_tally-in-For.ensures c.value_tally-so_far.ensures c.part_tally-in-For-2.ensures
+    (c.stmt_tally-in-For.ensures ∙ ap (λ s. tallied c.part_tally-in-For-2.result (marks_of_stmt s)) c.get-in-For.ensures)
+    ∙ ap (λ ms. tallied c.args.so_far ms) (sym whole)
