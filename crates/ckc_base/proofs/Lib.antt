@@ -13,3 +13,5 @@ pub mod Turns
 pub mod Sequels
 pub mod Gives
 pub mod Codes
+pub mod Joining
+pub mod Counting

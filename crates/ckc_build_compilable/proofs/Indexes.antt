@@ -3,7 +3,7 @@ use Rattle.std.proofs.Common.{◌≡◌, ℕ, refl}
 use Rattle.std.specs.Prelude.{Bool, true, false, if◌then◌else◌}
 use Rattle.ckc_source.specs.Code.{Expr, Number}
 use Rattle.ckc_checks_operands.specs.Compilable.{element_nodes, index_nodes}
-use Rattle.ckc_checks_operands.specs.Operands.{number_of, is_this, is_number}
+use Rattle.ckc_checks_operands.specs.code.Operands.{number_of, is_this, is_number}
 use Rattle.ckc_build_compilable.specs.code.Capped.{capped}
 
 pub elements_by : (far : Bool) (i : Expr)

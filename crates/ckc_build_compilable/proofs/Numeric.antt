@@ -4,8 +4,8 @@ use Rattle.std.specs.Prelude.{◌↔◌, ◌^◌, IsTrue}
 use Rattle.ckc_source.specs.declared.expr.Access.{Access}
 use Rattle.ckc_source.specs.Code.{Expr, Number}
 use Rattle.ckc_checks_operands.specs.Compilable.{IsZero, EndsLow}
-use Rattle.ckc_checks_operands.specs.Operands.{number_of, is_this, is_number}
-use Rattle.ckc_checks_operands.specs.Pointers.{static_place}
+use Rattle.ckc_checks_operands.specs.code.Operands.{number_of, is_this, is_number}
+use Rattle.ckc_checks_operands.specs.code.Pointers.{static_place}
 
 pub zero_by : (e : Expr) → IsTrue (is_this 0 (number_of e)) ↔ IsZero e
 zero_by (Number n) = (eqb-true n 0, eq-eqb n 0)

@@ -25,8 +25,7 @@ use Rattle.ckc_source.specs.declared.expr.Operation.TheVariants as operation
 use Rattle.ckc_source.specs.declared.expr.Through.{Through}
 use Rattle.ckc_source.specs.declared.expr.Through.TheVariants.{Named, Raw, One, Array as Arrays, Terminated}
 use Rattle.ckc_source.specs.Code.{Expr, Number, Local, Limited, Array, Load, Member, Address, Moved, Added, Binary, And, Or, Choice, Narrow, Bare, Tested, Trusted}
-use Rattle.ckc_checks_operands.specs.Operands.{casts_one}
-use Rattle.ckc_checks_operands.specs.Pointers.{is_ranged, takes_range}
+use Rattle.ckc_checks_operands.specs.Cases.{casts_one, is_ranged, takes_range}
 use Rattle.ckc_checks_operands.specs.Compilable.{element_nodes, access_nodes, shift_nodes, index_nodes, range_nodes}
 use Rattle.ckc_checks_operands.specs.Weights.{value_weight, expr_weight, access_weight}
 use Rattle.ckc_build_values.specs.Kinds.{through_kind, is_signed}

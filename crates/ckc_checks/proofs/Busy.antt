@@ -18,8 +18,9 @@ use Rattle.ckc_source.specs.declared.stmt.Kept.TheVariants as kept
 use Rattle.ckc_source.specs.Code as source
 use Rattle.ckc_source.specs.Words.{divides}
 use Rattle.ckc_core.specs.Code.{Expr, Local, Code, End, Set, Store, Check, Alloc, If, Loop, Break, Function}
-use Rattle.ckc_checks_operands.specs.Operands.{casts_one, shifted, is_direct, is_zero, operand, keeps_index, held}
-use Rattle.ckc_checks_operands.specs.Pointers.{is_bounded, takes_range, index_far, index_in, reads_signed, exact_test}
+use Rattle.ckc_checks_operands.specs.Cases.{casts_one, is_bounded, takes_range}
+use Rattle.ckc_checks_operands.specs.code.Operands.{shifted, is_direct, is_zero, operand, keeps_index, held}
+use Rattle.ckc_checks_operands.specs.code.Pointers.{index_far, index_in, reads_signed, exact_test}
 use Rattle.ckc_core.specs.Loops.{does_something, idle_in, idle_loops}
 use Rattle.ckc_checks.specs.code.Inserted.{unless_direct, put_if, unless_zero, operation_code, exact_code, moved_code, bounded_code, judged, pointer_at, index_at, reached_code, with_range, pointer_code, trusted_range, value_code, operand_code, operands_code, marked, aim_code, guarded, stored_code, written, assigned, taken, fixed, allowed_code, written_there, right_assigned, valued, behind_planned, plans_code, writes_code, result_kept, statements, zeroed, function_code, inserted}
 

@@ -6,8 +6,9 @@ use Rattle.ckc_source.specs.declared.expr.Through.TheVariants.{Named, Raw, One, 
 use Rattle.ckc_source.specs.declared.expr.Shift.{Shift}
 use Rattle.ckc_source.specs.Code as source
 use Rattle.ckc_checks_operands.specs.Compilable.{IsBounded, HasRange, IsJudged}
-use Rattle.ckc_checks_operands.specs.Operands.{casts_one, keeps_index}
-use Rattle.ckc_checks_operands.specs.Pointers.{is_ranged, takes_range, index_far}
+use Rattle.ckc_checks_operands.specs.Cases.{casts_one, is_ranged, takes_range}
+use Rattle.ckc_checks_operands.specs.code.Operands.{keeps_index}
+use Rattle.ckc_checks_operands.specs.code.Pointers.{index_far}
 use Rattle.ckc_checks.specs.code.Inserted.{range_room, room_if, access_room, value_room}
 
 pub far_one : (r : Bool) → 1 ≤ index_far r

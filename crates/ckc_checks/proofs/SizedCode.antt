@@ -16,8 +16,9 @@ use Rattle.ckc_core.specs.Code.{Expr, Local, Bin, Code, End, Set, Store, Check}
 use Rattle.ckc_core.specs.Sizes.{expr_size, code_size, function_size, program_size}
 use Rattle.ckc_checks_operands.specs.Compilable.{guard_nodes}
 use Rattle.ckc_checks_operands.specs.Weights.{expr_weight, target_weight, right_weight, assigns_weight, code_weight, function_weight, program_weight}
-use Rattle.ckc_checks_operands.specs.Operands.{low_byte, kept_in, operand}
-use Rattle.ckc_checks_operands.specs.Pointers.{below_end, range_end, is_ranged}
+use Rattle.ckc_checks_operands.specs.code.Operands.{low_byte, kept_in, operand}
+use Rattle.ckc_checks_operands.specs.Cases.{is_ranged}
+use Rattle.ckc_checks_operands.specs.code.Pointers.{below_end, range_end}
 use Rattle.ckc_checks.specs.code.Inserted.{reached_place, operand_code, operands, is_narrow, marked, aim_code, target_count, guarded, stored_code, written, fixed, allowed_code, written_there, right_assigned, valued, behind_planned, plans_code, writes_code, result_in, result_kept, statements, zeroed, function_code, inserted}
 use Rattle.ckc_checks.proofs.Sized.{set_sized, range_end_sized, expr_sized, access_sized, operand_sized, arguments_sized}
 

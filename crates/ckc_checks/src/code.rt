@@ -5,8 +5,9 @@ ghost use Rattle.ckc_core.specs.Code.{Expr, Code, code_of, stmt_of, expr_of};
 ghost use Rattle.ckc_source.specs.Code.{expr_of as source_of};
 ghost use Rattle.ckc_base.specs.declared.arithmetic.BinOp.TheVariants.{Sub};
 ghost use Rattle.ckc_base.specs.declared.arithmetic.Width.TheVariants.{Word};
-ghost use Rattle.ckc_checks_operands.specs.Operands.{as_truth, at_offset, low_byte, operated, held, keeps_index, place_at, operand};
-ghost use Rattle.ckc_checks_operands.specs.Pointers.{is_bounded, index_in, length_at, end_at};
+ghost use Rattle.ckc_checks_operands.specs.code.Operands.{as_truth, at_offset, low_byte, operated, held, keeps_index, place_at, operand};
+ghost use Rattle.ckc_checks_operands.specs.Cases.{is_bounded};
+ghost use Rattle.ckc_checks_operands.specs.code.Pointers.{index_in, length_at, end_at};
 ghost use Rattle.ckc_checks.specs.code.Inserted.{divide_check, operation_code, exact_code, moved_code, element_code, bounded_code, judged, pointer_at, index_at, reached_element, reached_place, with_range, no_range, pointer_code, tested_code, trusted_range, moved_range, access_code};
 ghost use Rattle.ckc_checks.specs.code.Building.{behind, reached_value, value_code_if, expr_code_if};
 

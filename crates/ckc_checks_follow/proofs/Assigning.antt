@@ -17,10 +17,10 @@ use Rattle.ckc_source.specs.States.{Work, Rest}
 use Rattle.ckc_source.specs.States as S
 use Rattle.ckc_source.specs.Steps.{store_of, aimed, allowed, writes, Write, Drawn, drawn, Planned, and_then_written, planned, bundled, at_work, and_moves, comes_to, gets, puts}
 use Rattle.ckc_core.specs.Code.{Local, Code, Get, Put, Function}
-use Rattle.ckc_core.specs.Meaning.{value_of, nodes, core_step, goes_by}
+use Rattle.ckc_core.specs.Meaning.{nodes}
 use Rattle.ckc_core.specs.Meaning as C
 use Rattle.ckc_checks_operands.specs.Compilable.{target_nodes, expr_nodes, IsCompilableExpr, IsCompilableTarget, IsCompilableFunction}
-use Rattle.ckc_checks_operands.specs.Operands.{low_byte, operand}
+use Rattle.ckc_checks_operands.specs.code.Operands.{low_byte, operand}
 use Rattle.ckc_checks.specs.code.Inserted.{operand_used, operand_code, aim_code, target_count, is_narrow, written, assigned, statements}
 use Rattle.ckc_checks_follow.specs.Stores.{next_byte}
 use Rattle.ckc_checks_follow.proofs.Paths.{IsQuiet, no_path}

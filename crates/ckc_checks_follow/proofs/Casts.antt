@@ -18,7 +18,7 @@ use Rattle.ckc_source.specs.Words.{exact, elements_behind}
 use Rattle.ckc_source.specs.Eval.{ranged, stops, tests_within}
 use Rattle.ckc_core.specs.Code.{Expr, Const, Local, Bin}
 use Rattle.ckc_core.specs.Meaning.{value_of, both}
-use Rattle.ckc_checks_operands.specs.Pointers.{below_or_at, held_test, bytes_left, bytes_fit, elements_fit, cast_test}
+use Rattle.ckc_checks_operands.specs.code.Pointers.{below_or_at, held_test, bytes_left, bytes_fit, elements_fit, cast_test}
 use Rattle.ckc_checks_follow.proofs.Exact.{low_signed, product_high}
 use Rattle.ckc_checks_follow.proofs.Ranges.{at_most_word, held_value_of}
 

@@ -23,8 +23,9 @@ use Rattle.ckc_source.specs.Code as source
 use Rattle.ckc_core.specs.Code.{Expr, Const, Local, Load, Bin}
 use Rattle.ckc_core.specs.Meaning.{nodes, all_nodes}
 use Rattle.ckc_checks_operands.specs.Compilable.{element_nodes, access_nodes, shift_nodes, index_nodes, value_nodes, expr_nodes, exprs_nodes}
-use Rattle.ckc_checks_operands.specs.Operands.{is_direct, operated, is_zero, scaled, shifted, at_offset, element_of, place_at, direct, operand, held, keeps_index, casts_one}
-use Rattle.ckc_checks_operands.specs.Pointers.{is_bounded, exact_test, base_at, amount_at, end_at, static_place, counted_end, range_end, range_test, is_ranged, takes_range, index_in, held_test, length_at, below_or_at, bytes_left, bytes_fit, elements_fit, cast_test}
+use Rattle.ckc_checks_operands.specs.Cases.{casts_one, is_bounded, is_ranged, takes_range}
+use Rattle.ckc_checks_operands.specs.code.Operands.{is_direct, operated, is_zero, scaled, shifted, at_offset, element_of, place_at, direct, operand, held, keeps_index}
+use Rattle.ckc_checks_operands.specs.code.Pointers.{exact_test, base_at, amount_at, end_at, static_place, counted_end, range_end, range_test, index_in, held_test, length_at, below_or_at, bytes_left, bytes_fit, elements_fit, cast_test}
 use Rattle.ckc_checks.specs.code.Inserted.{operands, pointer_at, index_at, reached_element, reached_place}
 
 -- ---- values that are written

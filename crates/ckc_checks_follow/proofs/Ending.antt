@@ -17,7 +17,7 @@ use Rattle.ckc_source.specs.Words.{exact, as_address, elements_behind}
 use Rattle.ckc_source.specs.Eval.{Store, given, stops, at_address, in_range, exact_element}
 use Rattle.ckc_core.specs.Code.{Expr, Local, Bin}
 use Rattle.ckc_core.specs.Meaning.{both, value_of}
-use Rattle.ckc_checks_operands.specs.Pointers.{range_end}
+use Rattle.ckc_checks_operands.specs.code.Pointers.{range_end}
 use Rattle.ckc_checks_follow.proofs.Values.{Agree}
 use Rattle.ckc_checks_follow.proofs.Ranges.{HasRange}
 use Rattle.ckc_checks_follow.proofs.Coming.{HasAt}

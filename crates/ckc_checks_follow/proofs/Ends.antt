@@ -19,7 +19,7 @@ use Rattle.ckc_source.specs.Eval.{amount, base_address, end_address}
 use Rattle.ckc_core.specs.Code as core
 use Rattle.ckc_core.specs.Meaning.{value_of}
 use Rattle.ckc_checks_operands.specs.Compilable.{IsSmall, IsBase, IsVariable, IsEnd}
-use Rattle.ckc_checks_operands.specs.Pointers.{base_at, amount_at, end_at}
+use Rattle.ckc_checks_operands.specs.code.Pointers.{base_at, amount_at, end_at}
 use Rattle.ckc_checks_follow.proofs.Exact.{low_signed, high_signed}
 use Rattle.ckc_checks_follow.proofs.Values.{Agree, at_offset_value, shifted_value}
 

@@ -9,7 +9,6 @@ use Rattle.std.proofs.Common.{length-append}
 use Rattle.ckc_base.specs.declared.arithmetic.Width.TheVariants.{Byte, Word}
 use Rattle.ckc_base.specs.declared.places.Pos.{Pos}
 use Rattle.ckc_base.specs.declared.runtime_checks.Check.TheVariants.{Depth}
-use Rattle.ckc_base.specs.Traces.{Event}
 use Rattle.ckc_base.specs.Traces as standing
 use Rattle.ckc_base.specs.LongEvents.{LongEvent, Plain, Stored, Entered, Returned}
 use Rattle.ckc_base.specs.Steps.{Goes, Halts}
@@ -33,7 +32,7 @@ use Rattle.ckc_core.specs.Code.{Const, Local, Code, Set, Store, Function}
 use Rattle.ckc_core.specs.Meaning.{Stop, core_step, core_system, extra_steps}
 use Rattle.ckc_core.specs.Meaning as C
 use Rattle.ckc_checks_operands.specs.Compilable.{HasParams, IsCompilableFunction, IsCompilableKept}
-use Rattle.ckc_checks_operands.specs.Operands.{low_byte}
+use Rattle.ckc_checks_operands.specs.code.Operands.{low_byte}
 use Rattle.ckc_checks.specs.code.Inserted.{statements, result_in, result_kept, zeroed, function_code}
 use Rattle.ckc_checks_follow.proofs.Paths.{Quiet, no_quiet, then_quiet, ends_by, looser, IsQuiet, stays}
 use Rattle.ckc_checks_follow.proofs.Running.{at, by_set}

@@ -13,7 +13,7 @@ use Rattle.ckc_base.specs.Words.{signed, word_of, flag, applied}
 use Rattle.ckc_source.specs.declared.expr.Integer.{Integer}
 use Rattle.ckc_source.specs.declared.expr.Integer.TheVariants as integer
 use Rattle.ckc_source.specs.Words.{exact, as_address}
-use Rattle.ckc_checks_operands.specs.Pointers.{reads_signed}
+use Rattle.ckc_checks_operands.specs.code.Pointers.{reads_signed}
 
 -- forward by a product that is not negative
 ahead_carries : (v p : ℕ) → v < 2 ^ 32 → p ≤ 18446744065119617025 → (carry : Bool) → nat_lt ((v + p % 2 ^ 32) % 2 ^ 32) v ≡ carry

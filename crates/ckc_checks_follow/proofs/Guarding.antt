@@ -23,8 +23,9 @@ use Rattle.ckc_source.specs.Steps.{terminator_at, refuses, allowed}
 use Rattle.ckc_core.specs.Code.{Expr, Const, Local, Bin, Code, Check, Function}
 use Rattle.ckc_core.specs.Meaning.{Rest, Caller, value_of, nodes}
 use Rattle.ckc_checks_operands.specs.Compilable.{guard_nodes}
-use Rattle.ckc_checks_operands.specs.Operands.{kept_in, at_offset, element_of, held, keeps_index}
-use Rattle.ckc_checks_operands.specs.Pointers.{is_bounded, is_ranged, takes_range, index_far, below_end}
+use Rattle.ckc_checks_operands.specs.code.Operands.{kept_in, at_offset, element_of, held, keeps_index}
+use Rattle.ckc_checks_operands.specs.Cases.{is_bounded, is_ranged, takes_range}
+use Rattle.ckc_checks_operands.specs.code.Pointers.{index_far, below_end}
 use Rattle.ckc_checks.specs.code.Inserted.{marked, guarded}
 use Rattle.ckc_checks_follow.proofs.Paths.{Quiet, no_quiet}
 use Rattle.ckc_checks_follow.proofs.Running.{Runs, at, by_set, by_pass, by_fail}

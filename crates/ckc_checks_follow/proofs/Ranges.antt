@@ -31,8 +31,9 @@ use Rattle.ckc_source.specs.Eval.{Store, given, given_both, stops, plain, end_ad
 use Rattle.ckc_core.specs.Code.{Expr, Const, Local, Load}
 use Rattle.ckc_core.specs.Meaning.{value_of, both}
 use Rattle.ckc_checks_operands.specs.Compilable.{AreEnds, IsCount, IsRanged, IsCompilableExpr}
-use Rattle.ckc_checks_operands.specs.Operands.{shifted, is_named}
-use Rattle.ckc_checks_operands.specs.Pointers.{reads_signed, exact_test, is_fixed, is_ranged, range_end, range_test, held_test}
+use Rattle.ckc_checks_operands.specs.Cases.{is_named, is_fixed, is_ranged}
+use Rattle.ckc_checks_operands.specs.code.Operands.{shifted}
+use Rattle.ckc_checks_operands.specs.code.Pointers.{reads_signed, exact_test, range_end, range_test, held_test}
 use Rattle.ckc_checks_follow.proofs.Exact.{carries, borrows, exact_ahead, exact_back}
 use Rattle.ckc_checks_follow.proofs.Values.{Agree, Sees, shifted_value}
 use Rattle.ckc_checks_follow.proofs.True.{true_ends}

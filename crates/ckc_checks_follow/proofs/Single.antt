@@ -29,7 +29,7 @@ use Rattle.ckc_source.specs.Blocks.{Block, loaded}
 use Rattle.ckc_source.specs.Runs.{is_true}
 use Rattle.ckc_source.specs.Words.{exact, elements_behind}
 use Rattle.ckc_source.specs.Eval.{Store, given, given_both, given_some, plain, ranged, spanned, stops, reads, reads_within, amount, base_address, end_address, element, place_in, counted, loads_pointer, tests, tests_within, trusts, evaluated}
-use Rattle.ckc_checks_operands.specs.Operands.{is_own, is_absent, is_fixed_end, is_one, is_single_count, is_single}
+use Rattle.ckc_checks_operands.specs.Cases.{is_own, is_absent, is_fixed_end, is_one, is_single_count, is_single}
 use Rattle.ckc_checks_follow.proofs.Bytes.{and_true}
 use Rattle.ckc_checks_follow.proofs.Bounded.{Gives, zero_of}
 

@@ -31,7 +31,8 @@ use Rattle.ckc_source.specs.Eval.{Store, given, given_both, given_some, plain, s
 use Rattle.ckc_core.specs.Code.{Expr, Const, Bin, Load}
 use Rattle.ckc_core.specs.Meaning.{value_of, both}
 use Rattle.ckc_checks_operands.specs.Compilable.{IsCompilableExpr}
-use Rattle.ckc_checks_operands.specs.Operands.{is_one, is_single, casts_one, is_unchecked, is_direct, operated, low_byte, is_zero, scaled, shifted, at_offset, element_of, place_at, direct}
+use Rattle.ckc_checks_operands.specs.Cases.{is_one, is_single, casts_one}
+use Rattle.ckc_checks_operands.specs.code.Operands.{is_unchecked, is_direct, operated, low_byte, is_zero, scaled, shifted, at_offset, element_of, place_at, direct}
 use Rattle.ckc_checks_follow.proofs.Bytes.{and_true, SameBytes, loaded_there}
 use Rattle.ckc_checks_follow.proofs.Flat.{SameMemory, loaded_word}
 use Rattle.ckc_checks_follow.proofs.Single.{behind_one, tested_gives}

@@ -4,8 +4,9 @@ use Rattle.std.specs.Prelude.{true, false, ◌&&◌, Some, None}
 use Rattle.ckc_source.specs.declared.expr.Access.{Access}
 use Rattle.ckc_source.specs.Eval.{place_in}
 use Rattle.ckc_source.specs.Code as source
-use Rattle.ckc_checks_operands.specs.Operands.{number_of, is_this, is_one, is_number, is_named}
-use Rattle.ckc_checks_operands.specs.Pointers.{is_static, static_place}
+use Rattle.ckc_checks_operands.specs.Cases.{is_one, is_named, is_static}
+use Rattle.ckc_checks_operands.specs.code.Operands.{number_of, is_this, is_number}
+use Rattle.ckc_checks_operands.specs.code.Pointers.{static_place}
 
 pub number_is : (e : source.Expr) (n : ℕ) → number_of e ≡ Some n → e ≡ source.Number n
 number_is (source.Number m) n h = let same : m ≡ n = cc in ap source.Number same

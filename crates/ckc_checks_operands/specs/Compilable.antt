@@ -18,8 +18,7 @@ use Rattle.ckc_source.specs.declared.expr.Through.TheVariants.{Named, Raw, One, 
 use Rattle.ckc_source.specs.declared.program.Object.{Object}
 use Rattle.ckc_source.specs.declared.stmt.Kept.{Kept}
 use Rattle.ckc_source.specs.declared.stmt.Kept.TheVariants as kept
-use Rattle.ckc_checks_operands.specs.Operands.{casts_one}
-use Rattle.ckc_checks_operands.specs.Pointers.{is_ranged, takes_range}
+use Rattle.ckc_checks_operands.specs.Cases.{casts_one, is_ranged, takes_range}
 use Rattle.ckc_source.specs.Code.{Expr, Number, Local, Limited, Array, Load, Member, Address, Moved, Added, Binary, And, Or, Choice, Narrow, Bare, Tested, Trusted, Target, Nothing, Variable, Memory, Right, Value, Fresh, Code, End, Assign, Bundle, Get, Put, Call, If, Loop, Break, Continue, Return, Check, Function, Program}
 
 -- ---- measures

@@ -1,4 +1,2 @@
-pub mod Compilable
-pub mod Operands
-pub mod Pointers
-pub mod Weights
+pub mod Cases
+pub mod code

@@ -4,8 +4,7 @@
 use Rattle.std.specs.Prelude.{ℕ, ◌+◌, ◌*◌, Bool, true, false, not, ◌&&◌, if◌then◌else◌, List, [], ◌∷◌, sum_by}
 use Rattle.ckc_source.specs.declared.expr.Access.{Access}
 use Rattle.ckc_source.specs.Code.{Expr, Number, Local, Limited, Array, Load, Member, Address, Moved, Added, Binary, And, Or, Choice, Narrow, Bare, Tested, Trusted, Target, Memory, Right, Value, Fresh, Code, End, Assign, Bundle, Get, Put, Call, If, Loop, Break, Continue, Return, Check, Function, Program}
-use Rattle.ckc_checks_operands.specs.Operands.{casts_one}
-use Rattle.ckc_checks_operands.specs.Pointers.{takes_range}
+use Rattle.ckc_checks_operands.specs.Cases.{casts_one, takes_range}
 use Rattle.ckc_checks_operands.specs.Compilable.{access_nodes, shift_nodes, index_nodes, range_nodes, guard_nodes}
 
 -- what an expression weighs, by whether its range is a value

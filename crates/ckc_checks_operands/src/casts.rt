@@ -2,7 +2,7 @@
 
 ghost use Rattle.std.specs.Prelude.{◌≡◌};
 ghost use Rattle.ckc_source.specs.Code.{expr_of as source_of};
-ghost use Rattle.ckc_checks_operands.specs.Operands.{is_one, is_own, is_absent, is_fixed_end, are_single, is_single_count, is_single, casts_one};
+ghost use Rattle.ckc_checks_operands.specs.Cases.{is_one, is_own, is_absent, is_fixed_end, are_single, is_single_count, is_single, casts_one};
 
 use crate::numbers::{is_this, number};
 use ckc_source::{Base, Count, End, ExprTree, Limits, Variable};

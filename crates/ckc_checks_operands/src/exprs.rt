@@ -4,7 +4,7 @@ ghost use Rattle.std.specs.Prelude.{◌≡◌, ◌+◌, max, IfOk, if◌then◌e
 ghost use Rattle.ckc_core.specs.Code.{Expr, expr_of};
 ghost use Rattle.ckc_source.specs.Code.{expr_of as source_of};
 ghost use Rattle.ckc_base.specs.declared.arithmetic.Width.TheVariants.{Word};
-ghost use Rattle.ckc_checks_operands.specs.Operands.{is_unchecked, is_direct, operated, low_byte, as_truth, is_zero, scaled, shifted, at_offset, element_of, place_at, direct, operand};
+ghost use Rattle.ckc_checks_operands.specs.code.Operands.{is_unchecked, is_direct, operated, low_byte, as_truth, is_zero, scaled, shifted, at_offset, element_of, place_at, direct, operand};
 
 use crate::casts::casts_one;
 use ckc_base::{BinOp, Boxed, Width};

@@ -5,8 +5,8 @@ ghost use Rattle.ckc_core.specs.Code.{Expr, expr_of};
 ghost use Rattle.ckc_source.specs.Code.{expr_of as source_of};
 ghost use Rattle.ckc_source.specs.Words.{width_of};
 ghost use Rattle.ckc_base.specs.declared.arithmetic.BinOp.TheVariants.{Or, Eq};
-ghost use Rattle.ckc_checks_operands.specs.Operands.{keeps_index, held};
-ghost use Rattle.ckc_checks_operands.specs.Pointers.{length_at, bytes_left, bytes_fit, elements_fit, cast_test};
+ghost use Rattle.ckc_checks_operands.specs.code.Operands.{keeps_index, held};
+ghost use Rattle.ckc_checks_operands.specs.code.Pointers.{length_at, bytes_left, bytes_fit, elements_fit, cast_test};
 
 use crate::exprs::{at_offset, scaled};
 use crate::ranges::{from_low, held, held_test, keeps_index};

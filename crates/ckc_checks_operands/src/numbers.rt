@@ -2,7 +2,7 @@
 
 ghost use Rattle.std.specs.Prelude.{◌≡◌};
 ghost use Rattle.ckc_source.specs.Code.{expr_of as source_of};
-ghost use Rattle.ckc_checks_operands.specs.Operands.{number_of, is_this, is_number};
+ghost use Rattle.ckc_checks_operands.specs.code.Operands.{number_of, is_this, is_number};
 
 use ckc_source::ExprTree;
 

@@ -5,8 +5,9 @@ ghost use Rattle.ckc_core.specs.Code.{Expr, expr_of};
 ghost use Rattle.ckc_source.specs.Code.{expr_of as source_of};
 ghost use Rattle.ckc_base.specs.declared.arithmetic.BinOp.TheVariants.{LtU, Sub};
 ghost use Rattle.ckc_base.specs.declared.arithmetic.Width.TheVariants.{Word};
-ghost use Rattle.ckc_checks_operands.specs.Operands.{keeps_index, held, shifted, is_named};
-ghost use Rattle.ckc_checks_operands.specs.Pointers.{below_end, is_bounded, reads_signed, exact_test, base_at, amount_at, end_at, static_place, counted_end, range_end, range_test, is_static, is_fixed, is_ranged, takes_range, index_far, index_in, held_test, bounds_test};
+ghost use Rattle.ckc_checks_operands.specs.Cases.{is_named, is_bounded, is_static, is_fixed, is_ranged, takes_range};
+ghost use Rattle.ckc_checks_operands.specs.code.Operands.{keeps_index, held, shifted};
+ghost use Rattle.ckc_checks_operands.specs.code.Pointers.{below_end, reads_signed, exact_test, base_at, amount_at, end_at, static_place, counted_end, range_end, range_test, index_far, index_in, held_test, bounds_test};
 
 use crate::exprs::{at_offset, operand, shifted};
 use crate::numbers::{is_number, number};

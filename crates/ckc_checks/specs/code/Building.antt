@@ -6,7 +6,7 @@ use Rattle.ckc_core.specs.declared.code.CoreStmt.{CoreStmt}
 use Rattle.ckc_core.specs.Code.{Const, Local, Load, Code, End, Set, Get, Put, Call, If, Loop, Break, Return, Check, code_of}
 use Rattle.ckc_source.specs.declared.stmt.Kept.{Kept}
 use Rattle.ckc_source.specs.Code as source
-use Rattle.ckc_checks_operands.specs.Operands.{operand, low_byte}
+use Rattle.ckc_checks_operands.specs.code.Operands.{operand, low_byte}
 use Rattle.ckc_checks.specs.code.Inserted.{put_if, room_if, reached_element, reached_place, with_range, no_range, pointer_code, value_code, value_room, expr_code, operand_code, operands_code, operands, operand_used, aim_code, target_count, written, result_in, result_kept}
 
 -- the code of statements from the last one to the first

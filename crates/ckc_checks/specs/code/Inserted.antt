@@ -21,8 +21,9 @@ use Rattle.ckc_source.specs.Code as source
 use Rattle.ckc_source.specs.Blocks.{block_of, place_behind, first_place}
 use Rattle.ckc_source.specs.Words.{divides}
 use Rattle.ckc_core.specs.Code.{Expr, Const, Local, Load, Bin, Code, End, Set, Store, Check, Call, Get, Put, Alloc, If, Loop, Break, Continue, Return, Function, Program}
-use Rattle.ckc_checks_operands.specs.Operands.{casts_one, is_direct, operated, low_byte, kept_in, as_truth, is_zero, scaled, shifted, at_offset, element_of, direct, operand, held, keeps_index}
-use Rattle.ckc_checks_operands.specs.Pointers.{is_bounded, takes_range, index_far, index_in, reads_signed, exact_test, end_at, bounds_test, below_end, length_at, cast_test, may_write}
+use Rattle.ckc_checks_operands.specs.Cases.{casts_one, is_bounded, takes_range}
+use Rattle.ckc_checks_operands.specs.code.Operands.{is_direct, operated, low_byte, kept_in, as_truth, is_zero, scaled, shifted, at_offset, element_of, direct, operand, held, keeps_index}
+use Rattle.ckc_checks_operands.specs.code.Pointers.{index_far, index_in, reads_signed, exact_test, end_at, bounds_test, below_end, length_at, cast_test, may_write}
 
 -- ---- expressions
 

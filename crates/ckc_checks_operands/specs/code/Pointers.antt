@@ -1,12 +1,10 @@
 -- The ranges of pointers and the tests of accesses, of pointer arithmetic and of bounds casts, as expressions of core
 -- code. They mirror what the code makes and need not be believed, but for `is_ranged` and `takes_range`.
-use Rattle.std.specs.Prelude.{ℕ, ℤ, ◌+◌, ◌==◌, Bool, true, false, not, ◌&&◌, if◌then◌else◌, Option, Some, None}
+use Rattle.std.specs.Prelude.{ℕ, ℤ, ◌+◌, ◌==◌, Bool, true, false, not, if◌then◌else◌, Option, Some, None}
 use Rattle.ckc_base.specs.declared.arithmetic.BinOp.TheVariants as binary
 use Rattle.ckc_base.specs.declared.arithmetic.Width.TheVariants as width
 use Rattle.ckc_base.specs.Words.{word_of, applied}
 use Rattle.ckc_source.specs.declared.expr.Access.{Access}
-use Rattle.ckc_source.specs.declared.expr.Through.{Through}
-use Rattle.ckc_source.specs.declared.expr.Through.TheVariants.{Array, Terminated}
 use Rattle.ckc_source.specs.declared.expr.Count.{Count}
 use Rattle.ckc_source.specs.declared.expr.Count.TheVariants as counts
 use Rattle.ckc_source.specs.declared.expr.Base.{Base}
@@ -19,39 +17,9 @@ use Rattle.ckc_source.specs.Code as source
 use Rattle.ckc_source.specs.Eval.{place_in}
 use Rattle.ckc_source.specs.Words.{width_of}
 use Rattle.ckc_core.specs.Code.{Expr, Const, Local, Load, Bin, High}
-use Rattle.ckc_checks_operands.specs.Operands.{is_named, scaled, shifted, at_offset}
+use Rattle.ckc_checks_operands.specs.code.Operands.{scaled, shifted, at_offset}
 pub use Rattle.ckc_checks_guards.specs.code.Guards.{below_or_at, upper_test, may_write}
-
--- a static object at its place
-abbrev pub is_static : Access → source.Expr → Bool
-is_static access (source.Number a) = is_named access.through
-is_static access _ = false
-
--- whether a count is a constant
-abbrev pub is_fixed : Count → Bool
-is_fixed (counts.Fixed n) = true
-is_fixed (counts.Member offset form add) = false
-
--- A pointer whose range is computed where it is tested: a local with limits, a named array, a static pointer with a
--- fixed count, the address of a static object, or one of these moved.
-abbrev pub is_ranged : source.Expr → Bool
-is_ranged (source.Limited x limits) = true
-is_ranged (source.Array at bytes) = true
-is_ranged (source.Member to count access p i) = is_static access p && is_fixed count
-is_ranged (source.Address bytes access p i) = is_static access p
-is_ranged (source.Moved shift p i) = shift.checked && is_ranged p
-is_ranged (source.Added shift i p) = shift.checked && is_ranged p
-is_ranged _ = false
-
--- an access that is judged by the range of its pointer
-abbrev pub is_bounded : Through → Bool
-is_bounded Array = true
-is_bounded Terminated = true
-is_bounded _ = false
-
--- The range of any other pointer goes to the two temporaries behind it: its lower bound, and how many bytes it has.
-abbrev pub takes_range : Through → source.Expr → Bool
-takes_range through p = is_bounded through && not (is_ranged p)
+use Rattle.ckc_checks_operands.specs.Cases.{is_ranged, takes_range}
 
 -- how far behind its pointer an index is
 abbrev pub index_far : Bool → ℕ

@@ -1,20 +1,14 @@
 -- Expressions of core code for those of a source program that need no code in front of them. They mirror what the code
 -- makes and need not be believed.
-use Rattle.std.specs.Prelude.{ℕ, ℤ, pos, Bool, true, false, not, ◌&&◌, ◌==◌, if◌then◌else◌, Option, Some, None}
-use Rattle.std.specs.Ordering.{int_eq}
+use Rattle.std.specs.Prelude.{ℕ, Bool, true, false, not, ◌&&◌, ◌==◌, if◌then◌else◌, Option, Some, None}
 use Rattle.ckc_base.specs.declared.arithmetic.BinOp.TheVariants as binary
 use Rattle.ckc_base.specs.declared.arithmetic.Width.TheVariants as width
 use Rattle.ckc_base.specs.Words.{applied}
 use Rattle.ckc_source.specs.declared.expr.Access.{Access}
 use Rattle.ckc_source.specs.declared.expr.Through.{Through}
 use Rattle.ckc_source.specs.declared.expr.Through.TheVariants.{Named, Raw}
-use Rattle.ckc_source.specs.declared.expr.Count.{Count}
 use Rattle.ckc_source.specs.declared.expr.Count.TheVariants as counts
-use Rattle.ckc_source.specs.declared.expr.Base.{Base}
 use Rattle.ckc_source.specs.declared.expr.Base.TheVariants as bases
-use Rattle.ckc_source.specs.declared.expr.End.{End as LimitsEnd}
-use Rattle.ckc_source.specs.declared.expr.Limits.{Limits}
-use Rattle.ckc_source.specs.declared.expr.Variable.{Variable}
 use Rattle.ckc_source.specs.declared.expr.Operation.{Operation}
 use Rattle.ckc_source.specs.declared.expr.Operation.TheVariants.{Lt, Le, Gt, Ge}
 use Rattle.ckc_source.specs.Code as source
@@ -22,6 +16,7 @@ use Rattle.ckc_source.specs.Eval.{place_in}
 use Rattle.ckc_source.specs.Words.{operator, divides}
 use Rattle.ckc_core.specs.Code.{Expr, Const, Local, Load, Bin}
 pub use Rattle.ckc_checks_guards.specs.code.Guards.{low_byte, kept_in}
+use Rattle.ckc_checks_operands.specs.Cases.{casts_one}
 
 -- the number that an expression is
 abbrev pub number_of : source.Expr → Option ℕ
@@ -38,53 +33,6 @@ abbrev pub is_unchecked : Through → Bool
 is_unchecked Named = true
 is_unchecked Raw = true
 is_unchecked _ = false
-
--- an access to a static object
-abbrev pub is_named : Through → Bool
-is_named Named = true
-is_named _ = false
-
--- whether an expression is the number 1
-abbrev pub is_one : source.Expr → Bool
-is_one (source.Number n) = n == 1
-is_one _ = false
-
--- whether limits are counted from the pointer that they belong to
-abbrev pub is_own : Base → Bool
-is_own bases.Own = true
-is_own _ = false
-
--- whether an end of limits names no variable
-abbrev pub is_absent : Option Variable → Bool
-is_absent None = true
-is_absent (Some x) = false
-
--- an end of limits that lies so many elements behind the pointer itself
-abbrev pub is_fixed_end : LimitsEnd → ℤ → Bool
-is_fixed_end e add = is_own e.base && (is_absent e.variable && int_eq e.add add)
-
--- limits of one element of a size
-abbrev pub are_single : ℕ → Limits → Bool
-are_single size limits = (limits.to.size == size) && (is_fixed_end limits.lower (pos 0) && is_fixed_end limits.upper (pos 1))
-
--- whether a count is the constant 1
-abbrev pub is_single_count : Count → Bool
-is_single_count (counts.Fixed n) = int_eq n (pos 1)
-is_single_count (counts.Member offset form add) = false
-
--- a pointer to one element of a size, or null
-abbrev pub is_single : ℕ → source.Expr → Bool
-is_single size (source.Number n) = n == 0
-is_single size (source.Limited x limits) = are_single size limits
-is_single size (source.Member to count access p i) = (to.size == size) && is_single_count count
-is_single size (source.Address bytes access p i) = bytes == size
-is_single size (source.Tested same form at p k) = (same == size) && is_one k
-is_single size (source.Trusted to form p k) = (to.size == size) && is_one k
-is_single size _ = false
-
--- A bounds cast of a pointer to one element, to one element of the same size, has no test.
-abbrev pub casts_one : ℕ → (p k : source.Expr) → Bool
-casts_one size p k = is_one k && is_single size p
 
 -- A direct expression is one expression of core code: it has no division, no remainder, no branch and no check.
 abbrev pub is_direct : source.Expr → Bool
