@@ -1,2 +1,4 @@
 pub mod Cases
+pub mod Compilable
+pub mod Weights
 pub mod code
