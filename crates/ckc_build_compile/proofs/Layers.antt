@@ -1,14 +1,14 @@
 -- How the promises of the layers join.
-use Rattle.std.proofs.Common.{◌≡◌, ℕ, ◌+◌, ◌≤◌, List, sym, subst, arith, lit≤}
-use Rattle.ckc_base.specs.Traces.{Event, Showing}
-use Rattle.ckc_base.specs.Follows.{Follows}
+use Rattle.std.proofs.Common.{◌≡◌, ◌≢◌, ◌⊎◌, inl, inr, ℕ, ◌+◌, ◌≤◌, List, sym, subst, arith, lit≤}
+use Rattle.ckc_base.specs.Traces.{Event, Standing, Going, Ended, Stopped, Stuck, Fault, Showing}
+use Rattle.ckc_base.specs.Follows.{IsSafe, IsBorneOut, Follows}
 use Rattle.ckc_base.proofs.Following.{follows_trans}
 use Rattle.ckc_source.specs.Code as source
 use Rattle.ckc_source.specs.LaidOut.{AreBytes, IsLaidOut}
 use Rattle.ckc_source.specs.Source.{source}
 use Rattle.ckc_checks_operands.specs.Compilable.{IsCompilable}
 use Rattle.ckc_checks.specs.code.Inserted.{inserted}
-use Rattle.ckc_checks_follow.proofs.Follows.{core_follows}
+use Rattle.ckc_checks_follow.proofs.Follows.{core_follows, core_listed}
 use Rattle.ckc_core.specs.Code as core
 use Rattle.ckc_core.specs.Meaning.{core_detail, core_meaning}
 use Rattle.ckc_tac.specs.declared.code.Tac.{Tac}
@@ -16,8 +16,10 @@ use Rattle.ckc_tac.specs.Meaning.{tac_detail}
 use Rattle.ckc_tac.specs.code.Meaning.{tac_meaning}
 use Rattle.ckc_frame.specs.declared.code.Placed.{Placed}
 use Rattle.ckc_frame.specs.Meaning.{placed_detail, placed_meaning}
-use Rattle.ckc_emit.specs.Promise.{FollowsPlaced}
+use Rattle.ckc_emit.specs.Promise.{FollowsPlaced, ListsStores}
 use Rattle.ckc_rv.specs.Machine.{Parts, machine}
+use Rattle.ckc_build_compile.specs.Confined.{ConfinesStores, NeverFaults}
+use Rattle.ckc_build_compile.proofs.Confining.{machine_listed}
 use Rattle.ckc_build_compile.proofs.Composed.{follows_detail, follows_within, all_bytes}
 
 pub lowered_follows : (p : source.Program) (k : core.Program) (t : Tac) → IsCompilable p → IsLaidOut p → k ≡ inserted p
@@ -46,3 +48,43 @@ machine_follows a q parts placed emit input bytes =
 -- a program that weighs so much fits into an image
 pub code_fits : (weight size : ℕ) → size ≤ weight → weight ≤ 4193275 → size + 5 ≤ 4193280
 code_fits weight size h k = omega arith
+
+-- placed code follows core code in detail
+pub detail_follows : (k : core.Program) (t : Tac) (q : Placed) → ((input : List ℕ) → Follows (core_detail k input) (tac_detail t input) 4)
+    → ((input : List ℕ) → Follows (tac_detail t input) (placed_detail q input) 1) → (input : List ℕ) → Follows (core_detail k input) (placed_detail q input) 5
+detail_follows k t q lower assign input = follows_trans (core_detail k input) (tac_detail t input) (placed_detail q input) 4 1 (lower input) (assign input)
+
+-- ---- what the machine of a program that is never stuck does
+
+safe_standing : (s : Standing) → IsSafe s → s ≢ Stuck
+safe_standing Going h e = cc
+safe_standing (Ended value) h e = cc
+safe_standing (Stopped check at) h e = cc
+safe_standing Stuck h e = h
+safe_standing (Fault kind pc) h e = h
+
+borne_out : {E : Type 0} (a : ℕ → Showing E) (b : Showing E) → ((n : ℕ) → (a n).standing ≢ Stuck) → ((n : ℕ) × (((a n).standing ≡ Stuck) ⊎ IsBorneOut (a n) b)) → (n : ℕ) × IsBorneOut (a n) b
+borne_out a b safe p = (p.0, elim p.1 [ inl stuck ↦ absurd (safe p.0 stuck) | inr borne ↦ borne ])
+
+pub never_faults : (p : source.Program) (parts : Parts) (c : ℕ) → ((input : List ℕ) → AreBytes input → Follows (source p input) (machine parts input) c) → NeverFaults p parts
+never_faults p parts c follows input bytes safe k =
+    let f = follows input bytes in
+    let b = borne_out (source p input) (machine parts input k) safe (f.back k) in
+    b.1.safe
+
+pub confines_stores : (p : source.Program) (q : Placed) (parts : Parts) → IsCompilable p → IsLaidOut p
+    → ((input : List ℕ) → Follows (core_detail (inserted p) input) (placed_detail q input) 5) → ListsStores q parts → ConfinesStores p parts
+confines_stores p q parts form laid detail listed input bytes safe =
+    let core = core_follows p form laid input bytes in
+    let core_safe : (n : ℕ) → (core_detail (inserted p) input n).standing ≢ Stuck =
+    λ n.
+    let b = borne_out (source p input) (core_meaning (inserted p) input n) safe (core.back n) in
+    safe_standing (core_detail (inserted p) input n).standing b.1.safe in
+    let d = detail input in
+    let follow : (j : ℕ) → (n : ℕ) × IsBorneOut (core_detail (inserted p) input n) (placed_detail q input j) =
+    λ j. borne_out (core_detail (inserted p) input) (placed_detail q input j) core_safe (d.back j) in
+    let placed_safe : (j : ℕ) → (placed_detail q input j).standing ≢ Stuck =
+    λ j. let b = follow j in safe_standing (placed_detail q input j).standing b.1.safe in
+    machine_listed p (inserted p) q parts input (core_listed p form laid input bytes safe)
+    (λ j. let b = follow j in (b.0, b.1.begins))
+    (listed input (all_bytes input bytes) placed_safe)

@@ -1,2 +1,6 @@
 pub mod Composed
+pub mod Joining
+pub mod Counting
+pub mod Events
+pub mod Confining
 pub mod Layers

@@ -7,14 +7,18 @@ ghost use Rattle.ckc_source.specs.LaidOut.{AreBytes, IsLaidOut};
 ghost use Rattle.ckc_source.specs.Source.{source};
 ghost use Rattle.ckc_checks_operands.specs.Compilable.{IsCompilable};
 ghost use Rattle.ckc_checks_operands.specs.Weights.{program_weight, most_weight};
+ghost use Rattle.ckc_checks.specs.code.Inserted.{inserted};
+ghost use Rattle.ckc_core.specs.Meaning.{core_detail};
+ghost use Rattle.ckc_tac.specs.Meaning.{tac_detail};
 ghost use Rattle.ckc_tac.specs.code.Meaning.{tac_meaning};
 ghost use Rattle.ckc_tac.specs.Sizes.{program_size as tac_size};
 ghost use Rattle.ckc_tac.specs.WellFormed.{IsWellFormed as IsWellFormedTac, HasFewRegisters};
-ghost use Rattle.ckc_frame.specs.Meaning.{placed_meaning};
+ghost use Rattle.ckc_frame.specs.Meaning.{placed_detail, placed_meaning};
 ghost use Rattle.ckc_frame.specs.WellFormed.{IsWellFormed, program_size};
 ghost use Rattle.ckc_emit.specs.CodeSize.{code_size};
-ghost use Rattle.ckc_emit.specs.Promise.{FollowsPlaced};
+ghost use Rattle.ckc_emit.specs.Promise.{FollowsPlaced, ListsStores};
 ghost use Rattle.ckc_build_compile.specs.Compiled.{FollowsSource, machine_parts};
+ghost use Rattle.ckc_build_compile.specs.Confined.{ConfinesStores, NeverFaults};
 
 use ckc_asm_lines::assemble;
 use ckc_assign::assign;
@@ -37,6 +41,8 @@ fn lowered(alloc: Global, p: &Program) -> Result<Tac, AllocError>
     ensures initial { IfOk result (λ t. length t.initial ≤ longest_statics) }
     ensures follows { IfOk result (λ t. (input : List ℕ) → AreBytes input →
         Follows (source (program_of p.now) input) (tac_meaning t input) 400004) }
+    ensures detail { IfOk result (λ t. (input : List ℕ) →
+        Follows (core_detail (inserted (program_of p.now)) input) (tac_detail t input) 4) }
 {
     let c = insert(alloc, p)?;
     let t = lower(alloc, &c)?;
@@ -52,6 +58,8 @@ fn placed(alloc: Global, p: &Program) -> Result<Placed, AllocError>
     ensures initial { IfOk result (λ q. length q.initial ≤ longest_statics) }
     ensures follows { IfOk result (λ q. (input : List ℕ) → AreBytes input →
         Follows (source (program_of p.now) input) (placed_meaning q input) 400005) }
+    ensures detail { IfOk result (λ q. (input : List ℕ) →
+        Follows (core_detail (inserted (program_of p.now)) input) (placed_detail q input) 5) }
 {
     let t = lowered(alloc, p)?;
     let q = assign(alloc, &t)?;
@@ -64,6 +72,7 @@ fn assembled(alloc: Global, q: &Placed) -> Result<Parts, AllocError>
     requires fits { code_size q.now ≤ most_instructions }
     requires initial { length q.now.initial ≤ longest_data }
     ensures follows { IfOk result (λ parts. FollowsPlaced q.now (machine_parts parts)) }
+    ensures listed { IfOk result (λ parts. ListsStores q.now (machine_parts parts)) }
     ensures size { IfOk result (λ parts. length parts.code ≤ 4 * code_size q.now) }
 {
     let l = emit(alloc, q)?;
@@ -80,6 +89,13 @@ pub fn compile(alloc: Global, p: &Program) -> Result<Parts, AllocError>
     // an image has room for 4,193,280 instructions, of which the start takes five
     requires small { program_weight (program_of p.now) ≤ most_weight }
     ensures follows { IfOk result (FollowsSource (program_of p.now)) }
+
+    // where the program is never stuck, each store lies in a block, in a frame or in the heap word,
+    // or the program's step plans it, and the machine is never at a fault
+    ensures confined { IfOk result (λ parts.
+        ConfinesStores (program_of p.now) (machine_parts parts)) }
+    ensures faultless { IfOk result (λ parts.
+        NeverFaults (program_of p.now) (machine_parts parts)) }
 
     // an instruction has four bytes, and the start is five
     ensures size { IfOk result (λ parts. length parts.code ≤

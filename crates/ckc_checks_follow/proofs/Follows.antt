@@ -150,9 +150,9 @@ module _ (p : source.Program) (all : All (IsCompilableFunction p.functions) p.fu
   }
 
   abbrev Simulating : S.State → C.State → Move Event S.State → Type 0
-  Simulating s u move = SimulatedBy machine (λ (e : Event). e ∷ []) plain_events (MayDo p) AreLevel (SameState p.functions) (λ s. 0) 512 90532 s u move
+  Simulating s u move = SimulatedBy machine (λ (e : Event). e ∷ []) plain_events (MayDo p) AreLevel (SameState p.functions) (λ s. 0) 512 90021 s u move
 
-  simulating : (s : S.State) (u : C.State) (move : Move Event S.State) → AreLevel s u → Meets p all (MayDo p s) (quiet_may s) u 90532 move → Simulating s u move
+  simulating : (s : S.State) (u : C.State) (move : Move Event S.State) → AreLevel s u → Meets p all (MayDo p s) (quiet_may s) u 90021 move → Simulating s u move
   simulating s u (Goes events next) level m = record {
     count = m.count;
     lower = m.events;
@@ -195,8 +195,8 @@ module _ (p : source.Program) (all : All (IsCompilableFunction p.functions) p.fu
       (plan_permits may (plans p s (settled s.frame.work)) (λ at width value is. inr (inr is))) in
       let good = front_meets may heap s u.callers u.world u.frame.locals r.callers r.world f.count f.agree f.small work q.code q.rest q.front permits in
       simulating s u (works p s (settled s.frame.work)) (same_level p.functions s u r.callers)
-      (subst (λ (work : List Work). Meets p all may heap u 90532 (works p s (settled work))) (sym f.next)
-      (first_matched p.functions core may heap q.count 84020 90532 u w (works p s work) (omega (arith, q.few, f.stands.few)) q.path good))
+      (subst (λ (work : List Work). Meets p all may heap u 90021 (works p s (settled work))) (sym f.next)
+      (first_matched p.functions core may heap q.count 84020 90021 u w (works p s work) (omega (arith, q.few, f.stands.few)) q.path good))
 
 -- ---- first states
 
@@ -243,12 +243,12 @@ module _ (p : source.Program) (i : IsCompilable p) (laid : IsLaidOut p) (input :
       let seen : (n : ℕ) → narrowed one (upper.source p input n) ≡ upper.source p input n =
       λ n. ap (λ l. record { trace = l; standing = (upper.source p input n).standing }) (each_seen (upper.source p input n).trace) in
       subst (λ a. Follows a (core_meaning (inserted p) input) 100000) (fun_ext seen)
-      (follows_by_simulation (source_system p) (core_system (core_of p)) one plain_events (MayDo p) AreLevel (SameState p.functions) (λ s. 0) 512 (λ s. 90532) 100000
+      (follows_by_simulation (source_system p) (core_system (core_of p)) one plain_events (MayDo p) AreLevel (SameState p.functions) (λ s. 0) 512 (λ s. 90021) 100000
       (λ s. omega arith) (step_meets p i.functions) s u starts)
 
   -- the steps of core code can be listed beside those of the source program
   pub core_listed : ((n : ℕ) → (upper.source p input n).standing ≢ Stuck) → (k : ℕ)
       → Listing (source_system p) (core_system (core_of p)) (λ (e : Event). e ∷ []) plain_events (MayDo p) AreLevel s u k
   core_listed safe k =
-      listing_by_simulation (source_system p) (core_system (core_of p)) (λ (e : Event). e ∷ []) plain_events (MayDo p) AreLevel (SameState p.functions) (λ s. 0) 512 (λ s. 90532)
+      listing_by_simulation (source_system p) (core_system (core_of p)) (λ (e : Event). e ∷ []) plain_events (MayDo p) AreLevel (SameState p.functions) (λ s. 0) 512 (λ s. 90021)
       (step_meets p i.functions) s u starts safe k

@@ -11,5 +11,6 @@ assemble-requires c = c.in_ok-l.ensures.can
 pub returns : goal.returns
 returns c = record {
   follows = c.in_ok-l.ensures.follows (machine_parts c.in_ok-parts.parts) c.in_ok-parts.ensures;
+  listed = c.in_ok-l.ensures.listed (machine_parts c.in_ok-parts.parts) c.in_ok-parts.ensures;
   size = omega (arith, c.in_ok-parts.ensures.whole, c.in_ok-l.ensures.size);
 }
