@@ -1,8 +1,9 @@
 -- Facts that are true of values stay true of what is added to them and of what is left of them.
-use Rattle.std.proofs.Common.{◌≡◌, ◌≢◌, refl, ℕ, Bool, true, false, List, [], ◌∷◌, ℤ, ◌+ℤ◌, ◌≤ℤ◌, arith}
-use Rattle.std.specs.Prelude.{pos, not, cond, nat_lt, ◌^◌, ◌&&◌, ◌+◌, if◌then◌else◌, Option, None, Some, neg_ℤ, ◌++◌}
+use Rattle.std.proofs.Common.{◌⊎◌, inl, inr, ◌||◌, ◌≡◌, ◌≢◌, refl, ℕ, Bool, true, false, List, [], ◌∷◌, ℤ, ◌+ℤ◌, ◌≤ℤ◌, arith}
+use Rattle.std.specs.Prelude.{◌==◌, pos, not, cond, nat_lt, ◌^◌, ◌&&◌, ◌+◌, if◌then◌else◌, Option, None, Some, neg_ℤ, ◌++◌}
 use Rattle.std.specs.List.{All, filter}
 use Rattle.std.proofs.lemmas.Int.{ints}
+use Rattle.std.proofs.lemmas.Bool.Decides.{nat_tests}
 use Rattle.std.proofs.lemmas.List.Elements.{All-nil, All-cons, All-head, All-tail, All-push}
 use Rattle.ckc_linear.specs.declared.facts.Fact.{Fact}
 use Rattle.ckc_linear.specs.Facts.{Satisfies, names}
@@ -13,6 +14,13 @@ use Rattle.ckc_bounds_known.specs.Shown.{Known, is_within, reaches, is_shown}
 use Rattle.ckc_bounds_known.specs.Ranges.{fits, with_fact, with_range}
 use Rattle.ckc_blame_sound.specs.Values.{IsBetween}
 use Rattle.ckc_bounds_known.proofs.Reaching.{and_cases, chain_found}
+
+pub same : (a b : ℕ) → (a == b) ≡ true → a ≡ b
+same a b e = grind (arith, nat_tests)
+
+pub one_of : (a b : Bool) → (a || b) ≡ true → (a ≡ true) ⊎ (b ≡ true)
+one_of true b h = inl refl
+one_of false b h = inr h
 
 abbrev pub Hold : (ℕ → ℤ) → List Fact → Type 0
 Hold value fs = All (Satisfies value) fs

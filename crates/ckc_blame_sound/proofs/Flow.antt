@@ -1,7 +1,7 @@
 -- Facts are true behind an assignment, where branches join, at the head of a loop and at the begin of a function.
-use Rattle.std.proofs.Common.{◌≡◌, ◌≢◌, ◌⊎◌, inl, inr, ⊎_elim, refl, sym, ap, subst, ◌∙◌, ℕ, zero, suc, ◌+◌, Bool, true, false, ◌||◌, List, [], ◌∷◌, length, ℤ, ◌+ℤ◌, arith}
+use Rattle.std.proofs.Common.{◌≡◌, ◌≢◌, ⊎_elim, refl, sym, ap, subst, ◌∙◌, ℕ, zero, suc, ◌+◌, Bool, true, false, List, [], ◌∷◌, length, ℤ, ◌+ℤ◌, arith}
 use Rattle.std.specs.Prelude.{◌^◌, ◌<◌, ◌==◌, ◌&&◌, cond, if◌then◌else◌, pos, neg_ℤ, slice_get, slice_index, slice_set, Option, None, Some, IfSome}
-use Rattle.std.specs.List.{All, filter, list_any}
+use Rattle.std.specs.List.{filter, list_any}
 use Rattle.std.specs.Ordering.{int_eq}
 use Rattle.std.proofs.lemmas.Int.{ints}
 use Rattle.std.proofs.lemmas.Bool.Decides.{nat_tests, eqb_tells, Decides-int_eq}
@@ -23,13 +23,10 @@ use Rattle.ckc_bounds_points.specs.Flow.{State, stays_small, moved, assigned_fac
 use Rattle.ckc_source.specs.Words.{exact}
 use Rattle.ckc_build_values.specs.Kinds.{integer_in, integer_of}
 use Rattle.ckc_blame_sound.specs.Values.{value_in, value, AreTrue, number_of, IsWordOf, IsBetween, HoldWords}
-use Rattle.ckc_blame_sound.proofs.Facts.{Hold, fact_added, range_added, rest_holds}
+use Rattle.ckc_blame_sound.proofs.Facts.{same, one_of, Hold, fact_added, range_added, rest_holds}
 
 differs : (a b : ℕ) → (a == b) ≡ false → a ≢ b
 differs a b e d = let t : (a == b) ≡ true = grind (arith, nat_tests) in cc
-
-same : (a b : ℕ) → (a == b) ≡ true → a ≡ b
-same a b e = grind (arith, nat_tests)
 
 -- ---- an assignment
 
@@ -172,10 +169,6 @@ module _ (frame : Frame) (locals : List ℕ) (words : HoldWords frame locals) wh
 and_both : (a b : Bool) → (a && b) ≡ true → (a ≡ true) × (b ≡ true)
 and_both true b h = (refl, h)
 and_both false b h = absurd (cc)
-
-one_of : (a b : Bool) → (a || b) ≡ true → (a ≡ true) ⊎ (b ≡ true)
-one_of true b h = inl refl
-one_of false b h = inr h
 
 same_says : (value : ℕ → ℤ) (f g : Fact) → same_fact f g ≡ true → Satisfies value g → Satisfies value f
 same_says value f g e h =
