@@ -1,0 +1,9 @@
+pub mod Words
+pub mod Claims
+pub mod Types
+pub mod Sums
+pub mod Sides
+pub mod Nodes
+pub mod Leaves
+pub mod Exprs
+pub mod Holding

@@ -1,0 +1,63 @@
+//! What follows from the definitions alone, each the contract of a function that does nothing. Nothing is asked of the mode
+//! of the code that ran before: the laws hold after unchecked steps too.
+
+ghost use Rattle.std.specs.Prelude.{◌≡◌, ℕ, ◌==◌, ◌<◌, ◌^◌, true, not, if◌then◌else◌, Bool, List, length, slice_set, Option, Some, Ok};
+ghost use Rattle.ckc_base.specs.Memory.{kept_part};
+ghost use Rattle.ckc_linear.specs.declared.forms.Form.{Form};
+ghost use Rattle.ckc_typed.specs.declared.environment.Globals.{Globals};
+ghost use Rattle.ckc_typed.specs.Trees.{NotedExpr};
+ghost use Rattle.ckc_bounds_points.specs.declared.frame.Frame.{Frame};
+ghost use Rattle.ckc_bounds_points.specs.declared.frame.Local.{Local};
+ghost use Rattle.ckc_bounds_points.specs.Shown.{Known};
+ghost use Rattle.ckc_bounds_points.specs.Frames.{local_at};
+ghost use Rattle.ckc_bounds_points.specs.Flow.{State, assigned};
+ghost use Rattle.ckc_bounds_views.specs.Views.{view};
+ghost use Rattle.ckc_bounds_statements.specs.Paths.{Here, side_of, value_form};
+ghost use Rattle.ckc_source.specs.declared.outcome.Value.{Value};
+ghost use Rattle.ckc_source.specs.Code.{Expr};
+ghost use Rattle.ckc_source.specs.Eval.{Store, evaluated};
+ghost use Rattle.ckc_build_values.specs.Kinds.{width_of};
+ghost use Rattle.ckc_build_values.specs.Expressions.{expr_elaborated};
+ghost use Rattle.ckc_blame_sound.specs.Settings.{Setting};
+ghost use Rattle.ckc_blame_sound.specs.Values.{AreTrue, HoldWords};
+ghost use Rattle.ckc_blame_sound.specs.Steps.{IsCondition};
+ghost use Rattle.ckc_blame_numbers.specs.Typed.{IsTyped, IsTypedIf, Agrees};
+ghost use Rattle.ckc_blame_numbers.specs.Exact.{IsExact};
+
+/// Where the facts of a point are true, the form that an expression has there stands for exactly the integer that the
+/// expression comes to, if it comes to a value.
+pub fn forms_are_exact()
+    ensures { (globals : Globals) (s : Setting) (e : NotedExpr) (literals : ℕ) (facts : Known)
+        (f : Form) (store : Store) (v : Value) → Agrees globals s → IsTyped globals s e
+        → HoldWords s.frame store.locals → AreTrue s.frame store.locals facts
+        → (view s.frame e).form facts ≡ Some f
+        → evaluated store (expr_elaborated s.text s.variables literals e) ≡ Ok v
+        → IsExact s.frame store.locals e.note.ctype f v.number }
+{}
+
+/// What a condition says on a side of it is true where it comes to that side.
+pub fn conditions_tell()
+    ensures { (globals : Globals) (s : Setting) (e : NotedExpr) (literals : ℕ) (at : State)
+        (side : Bool) (store : Store) (v : Value) → Agrees globals s → IsTyped globals s e
+        → HoldWords s.frame store.locals → AreTrue s.frame store.locals at.facts
+        → evaluated store (expr_elaborated s.text s.variables literals e) ≡ Ok v
+        → (v.number == 0) ≡ not side
+        → AreTrue s.frame store.locals (side_of s.frame side e at).facts }
+{}
+
+/// The facts of the next point are true behind a condition, and behind the assignment of a value to a local.
+pub fn facts_hold()
+    ensures condition { (globals : Globals) (s : Setting) (here yes no : Here) (e : Expr)
+        (store : Store) (v : Value) → Agrees globals s → (c : IsCondition s here e yes no)
+        → IsTypedIf globals s c.after → HoldWords s.frame store.locals
+        → AreTrue s.frame store.locals here.at.facts → evaluated store e ≡ Ok v
+        → AreTrue s.frame store.locals (if v.number == 0 then no else yes).at.facts }
+    ensures assignment { (globals : Globals) (s : Setting) (k literals : ℕ) (l : Local)
+        (e : NotedExpr) (at : State) (store : Store) (v : Value) → Agrees globals s
+        → IsTyped globals s e → HoldWords s.frame store.locals → at.reached ≡ true
+        → AreTrue s.frame store.locals at.facts → local_at s.frame k ≡ Some l
+        → k < length store.locals → v.number < 2 ^ 32
+        → evaluated store (expr_elaborated s.text s.variables literals e) ≡ Ok v
+        → AreTrue s.frame (slice_set store.locals k (kept_part (width_of l.ctype) v.number))
+        (assigned s.frame k (value_form s.frame l.ctype e at.facts) at).facts }
+{}

@@ -1,0 +1,5 @@
+pub mod Facts
+pub mod Flow
+pub mod Kept
+pub mod Joined
+pub mod Typed
