@@ -1,0 +1,1 @@
+/* profile.h has what is needed of it */
