@@ -17,7 +17,8 @@ use Rattle.ckc_source.specs.Code.{Program}
 use Rattle.ckc_source.specs.LaidOut.{AreBytes}
 use Rattle.ckc_source.specs.Source.{source}
 use Rattle.ckc_build.specs.Built.{Built}
-use Rattle.ckc_cli_commands.specs.Running.{Seen, Shown, ShownOver, Ran, fed}
+use Rattle.ckc_cli_commands.specs.World.{World, fed}
+use Rattle.ckc_cli_commands.specs.Running.{Shown, ShownOver, Ran}
 use Rattle.ckc_cli.specs.Agreeing.{OverInput, OfInput, PrintedFirst, ComesToBeStuck, ComesTo, ComesBy, StandsInTime, PutsInTime, enough}
 
 -- what a front of a trace puts is a front of what the trace puts
@@ -115,21 +116,21 @@ bytes_alone : (more : List ℕ) → given_bytes.AreBytes more → AreBytes (more
 bytes_alone [] h = tt
 bytes_alone (b ∷ more) h = (h.0, bytes_alone more h.1)
 
-module _ (text : List ℕ) (parts : Parts) (built : Built text parts) (limit : ℕ) (old new : Seen) (untaken : Type 0) where
+module _ (text : List ℕ) (parts : Parts) (built : Built text parts) (limit : ℕ) (before after : World) (untaken : Type 0) where
   abbrev Runs : Observed → Type 0
-  Runs o = Ran parts limit old new untaken o
+  Runs o = Ran parts limit before after untaken o
 
   -- what a run shows over one input, where no object failed
   record Plain (o : Observed) (given left : List ℕ) : Type 0 where
     says : Says o (machine parts given limit).standing
-    put : Printed old.sink.written new.sink.written (output (machine parts given limit).trace)
+    put : Printed before.output.written after.output.written (output (machine parts given limit).trace)
     took : given ≡ taken (machine parts given limit).trace ++ left
 
-  over_input : (o : Observed) → ((given : List ℕ) (a b : Seen) → ShownOver parts given limit a b o → Shown parts given limit a b o) → Runs o
-      → (Holds : List ℕ → List ℕ → Type 0) → ((given left : List ℕ) → AreBytes given → Plain o given left → Holds given left) → OverInput old new Holds
+  over_input : (o : Observed) → ((given : List ℕ) (a b : World) → ShownOver parts given limit a b o → Shown parts given limit a b o) → Runs o
+      → (Holds : List ℕ → List ℕ → Type 0) → ((given left : List ℕ) → AreBytes given → Plain o given left → Holds given left) → OverInput before after Holds
   over_input o plain ran Holds h = record {
     told = λ given e.
-        let s = plain given old new (ran.shown given e) in
+        let s = plain given before after (ran.shown given e) in
         let t = s.took given e in
         (t.0, t.1, λ bytes. h given t.0 bytes (record { says = s.stands; put = s.put; took = t.2 }));
     any = (
@@ -137,30 +138,30 @@ module _ (text : List ℕ) (parts : Parts) (built : Built text parts) (limit : �
       ran.any.1,
       λ rest may bytes.
           let given = ran.any.0 ++ rest in
-          let s = plain given (fed given old) (fed rest new) (ran.any.2 rest may) in
+          let s = plain given (fed given before) (fed rest after) (ran.any.2 rest may) in
           let t = s.took given refl in
           let same : t.0 ≡ rest = (let e = t.1 in cc) in
           h given rest bytes (record { says = s.stands; put = s.put; took = t.2 ∙ ap (λ l. taken (machine parts given limit).trace ++ l) same }),
     );
   }
 
-  pub ran_ended : (value : ℕ) → Runs (observed.Ended value) → OverInput old new (λ given left. ComesToBeStuck built.program given ⊎ ComesTo built.program (Ended value) old.sink.written new.sink.written given left)
+  pub ran_ended : (value : ℕ) → Runs (observed.Ended value) → OverInput before after (λ given left. ComesToBeStuck built.program given ⊎ ComesTo built.program (Ended value) before.output.written after.output.written given left)
   ran_ended value ran =
-      over_input (observed.Ended value) (λ given a b s. s) ran (λ given left. ComesToBeStuck built.program given ⊎ ComesTo built.program (Ended value) old.sink.written new.sink.written given left)
-      (λ given left bytes s. over_as built.program parts given (built.follows given bytes) limit left old.sink.written new.sink.written s.put s.took (Ended value) tt s.says)
+      over_input (observed.Ended value) (λ given a b s. s) ran (λ given left. ComesToBeStuck built.program given ⊎ ComesTo built.program (Ended value) before.output.written after.output.written given left)
+      (λ given left bytes s. over_as built.program parts given (built.follows given bytes) limit left before.output.written after.output.written s.put s.took (Ended value) tt s.says)
 
   pub ran_stopped : (check : Check) (at : Pos) → Runs (observed.Stopped check at)
-      → OverInput old new (λ given left. ComesToBeStuck built.program given ⊎ ComesTo built.program (Stopped check at) old.sink.written new.sink.written given left)
+      → OverInput before after (λ given left. ComesToBeStuck built.program given ⊎ ComesTo built.program (Stopped check at) before.output.written after.output.written given left)
   ran_stopped check at ran =
-      over_input (observed.Stopped check at) (λ given a b s. s) ran (λ given left. ComesToBeStuck built.program given ⊎ ComesTo built.program (Stopped check at) old.sink.written new.sink.written given left)
-      (λ given left bytes s. over_as built.program parts given (built.follows given bytes) limit left old.sink.written new.sink.written s.put s.took (Stopped check at) tt s.says)
+      over_input (observed.Stopped check at) (λ given a b s. s) ran (λ given left. ComesToBeStuck built.program given ⊎ ComesTo built.program (Stopped check at) before.output.written after.output.written given left)
+      (λ given left bytes s. over_as built.program parts given (built.follows given bytes) limit left before.output.written after.output.written s.put s.took (Stopped check at) tt s.says)
 
-  pub ran_going : Runs observed.Going → OverInput old new (λ given left. ComesToBeStuck built.program given ⊎ ComesBy built.program old.sink.written new.sink.written given left)
+  pub ran_going : Runs observed.Going → OverInput before after (λ given left. ComesToBeStuck built.program given ⊎ ComesBy built.program before.output.written after.output.written given left)
   ran_going ran =
-      over_input observed.Going (λ given a b s. s) ran (λ given left. ComesToBeStuck built.program given ⊎ ComesBy built.program old.sink.written new.sink.written given left)
-      (λ given left bytes s. goes_as built.program parts given (built.follows given bytes) limit left old.sink.written new.sink.written s.put s.took)
+      over_input observed.Going (λ given a b s. s) ran (λ given left. ComesToBeStuck built.program given ⊎ ComesBy built.program before.output.written after.output.written given left)
+      (λ given left bytes s. goes_as built.program parts given (built.follows given bytes) limit left before.output.written after.output.written s.put s.took)
 
-  pub ran_faulty : (kind : FaultKind) (pc : ℕ) → Runs (observed.Fault kind pc) → OverInput old new (λ given left. ComesToBeStuck built.program given)
+  pub ran_faulty : (kind : FaultKind) (pc : ℕ) → Runs (observed.Fault kind pc) → OverInput before after (λ given left. ComesToBeStuck built.program given)
   ran_faulty kind pc ran =
       over_input (observed.Fault kind pc) (λ given a b s. s) ran (λ given left. ComesToBeStuck built.program given)
       (λ given left bytes s. fault_as built.program parts given (built.follows given bytes) limit (kind_number kind) pc s.says)
@@ -168,7 +169,7 @@ module _ (text : List ℕ) (parts : Parts) (built : Built text parts) (limit : �
   -- ---- where no object fails
 
   module _ (o : Observed) (read : o ≢ observed.ReadFault) (write : o ≢ observed.WriteFault) (ran : Runs o) where
-    plainly : (given : List ℕ) (a b : Seen) (q : Observed) → q ≢ observed.ReadFault → q ≢ observed.WriteFault → ShownOver parts given limit a b q → Shown parts given limit a b q
+    plainly : (given : List ℕ) (a b : World) (q : Observed) → q ≢ observed.ReadFault → q ≢ observed.WriteFault → ShownOver parts given limit a b q → Shown parts given limit a b q
     plainly given a b (observed.Ended v) r w s = s
     plainly given a b (observed.Stopped check at) r w s = s
     plainly given a b observed.Going r w s = s
@@ -182,24 +183,24 @@ module _ (text : List ℕ) (parts : Parts) (built : Built text parts) (limit : �
       bytes : AreBytes given
       holds : Holds given
       says : Says o (machine parts given limit).standing
-      put : Printed old.sink.written new.sink.written (output (machine parts given limit).trace)
+      put : Printed before.output.written after.output.written (output (machine parts given limit).trace)
 
-    some_input : (Holds : List ℕ → Type 0) → OfInput old.source.left Holds → Some_input Holds
+    some_input : (Holds : List ℕ → Type 0) → OfInput before.input.left Holds → Some_input Holds
     some_input Holds (inl q) =
-        let s = plainly q.0 old new o read write (ran.shown q.0 q.1) in
+        let s = plainly q.0 before after o read write (ran.shown q.0 q.1) in
         record { given = q.0; bytes = q.2; holds = q.3; says = s.stands; put = s.put }
     some_input Holds (inr q) =
         let all = ran.any.0 ++ [] in
         let are = bytes_alone ran.any.0 ran.any.1.bytes in
-        let s = plainly all (fed all old) (fed [] new) o read write (ran.any.2 [] (λ e. refl)) in
+        let s = plainly all (fed all before) (fed [] after) o read write (ran.any.2 [] (λ e. refl)) in
         record { given = all; bytes = are; holds = q all are; says = s.stands; put = s.put }
 
-    pub ran_in_time : (stands : Standing) → IsOver stands → OfInput old.source.left (StandsInTime built.program limit stands) → Says o stands
+    pub ran_in_time : (stands : Standing) → IsOver stands → OfInput before.input.left (StandsInTime built.program limit stands) → Says o stands
     ran_in_time stands over h =
         let s = some_input (StandsInTime built.program limit stands) h in
         subst (Says o) (in_time built.program parts s.given (built.follows s.given s.bytes) stands over s.holds.0 limit s.holds.2 s.holds.1) s.says
 
-    pub ran_put : (bytes : List ℕ) → OfInput old.source.left (PutsInTime built.program limit bytes) → PrintedFirst old.sink.written new.sink.written bytes
+    pub ran_put : (bytes : List ℕ) → OfInput before.input.left (PutsInTime built.program limit bytes) → PrintedFirst before.output.written after.output.written bytes
     ran_put bytes h =
         let s = some_input (PutsInTime built.program limit bytes) h in
         let begins = reached built.program parts s.given (built.follows s.given s.bytes) s.holds.0 limit s.holds.2 s.holds.1 in (

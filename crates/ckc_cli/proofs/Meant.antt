@@ -1,30 +1,32 @@
 -- What comes of `interp`.
-use Rattle.std.proofs.Common.{◌≡◌, ◌≢◌, ◌⊎◌, inl, inr, ℕ, ◌≤◌, ◌<◌, List, [], Option, Some, refl, sym, ap, subst, ◌∙◌, arith}
+use Rattle.std.proofs.Common.{◌≡◌, ◌≢◌, ◌⊎◌, inl, inr, ℕ, ◌≤◌, ◌<◌, List, [], ◌∷◌, Option, Some, refl, sym, ap, subst, ◌∙◌, arith}
 use Rattle.std.proofs.lemmas.Bool.{cases_lt}
 use Rattle.ckc_base.specs.declared.places.Pos.{Pos}
 use Rattle.ckc_base.specs.declared.runtime_checks.Check.{Check}
 use Rattle.ckc_base.specs.Traces.{Event, Standing, Going, Ended, Stopped, Stuck, Showing}
 use Rattle.ckc_base.proofs.Runs.{shown-later}
-use Rattle.ckc_outside.specs.Outside.{Stored}
 use Rattle.ckc_source.specs.Code.{Program}
 use Rattle.ckc_source.specs.Source.{source_system, first_state, place_after, unchecked_since}
 use Rattle.ckc_interp.specs.declared.seen.Seen as seens
 use Rattle.ckc_interp.specs.declared.seen.Seen.TheVariants as seen
 use Rattle.ckc_interp.specs.Runs.{Interprets, Comes}
 use Rattle.ckc_build.specs.Meanings.{HasMeaning}
-use Rattle.ckc_build.proofs.Programs.{meanings_exact}
 use Rattle.ckc_cli_commands.specs.declared.status.Status.{Status}
 use Rattle.ckc_cli_commands.specs.declared.status.Status.TheVariants as status
-use Rattle.ckc_cli_commands.specs.Words.{Command, Interp, Reads}
-use Rattle.ckc_cli_commands.specs.Commands.{Lists, Executes, Means}
-use Rattle.ckc_cli_commands.specs.Running.{Seen}
-use Rattle.ckc_cli_commands.specs.Interpreting.{Interpreted, ShowsAs, ShowsMeaning, IsStuckFirst, meant_status, standing_after}
-use Rattle.ckc_cli_commands.specs.Causes.{Holds, Over, Given, StoreIsFine, AllIsFine}
-use Rattle.ckc_cli_commands.specs.Commands.{name_of}
+use Rattle.ckc_cli_commands.specs.World.{World, Untouched}
+use Rattle.ckc_cli_commands.specs.Words.{Command, Interp}
+use Rattle.ckc_cli_commands.specs.Outcomes as outcome
+use Rattle.ckc_cli_commands.specs.Outcomes.{Outcome}
+use Rattle.ckc_cli_commands.specs.Commands.{a_text, fetches_of, Reads, Makes}
+use Rattle.ckc_cli_commands.specs.Interpreting.{Interpreted, ShowsAs, meant_status}
+use Rattle.ckc_cli_commands.specs.Causes as causes
+use Rattle.ckc_cli_commands.specs.Causes.{HoldsEach, Caused, usage, obeyed, not_fetched, fetched, made}
+use Rattle.ckc_cli.specs.Objects.{Tells, OfFile, StoreIsFine, AllIsFine}
+use Rattle.ckc_cli.specs.Meaning.{Meaning, ShowsMeaning, IsStuckFirst, standing_after}
 use Rattle.ckc_cli.proofs.OneCommand.{reads_once}
+use Rattle.ckc_cli.proofs.OneOutcome.{Form, formed, meant_by}
 use Rattle.ckc_cli.proofs.Always as always
-use Rattle.ckc_cli.proofs.Statuses as by
-use Rattle.ckc_cli.proofs.Statuses.{same_meant, not_meant, by_usage, by_store, by_refusal, by_bad, by_keeping, by_not_keeping, by_memory, by_keeping_memory, by_listing, by_cut_listing, by_running, by_meaning}
+use Rattle.ckc_cli.proofs.Statuses.{same_meant, not_meant}
 
 -- ---- how a program stands at the limit
 
@@ -110,97 +112,97 @@ module _ (p : Program) (given : List ℕ) where
 
 -- ---- at the top
 
-module _ (words : List (List ℕ)) (old new : Seen) (before after : Stored) (quiet untaken unasked : Type 0) where
-  abbrev Leaf : Status → Type 0
-  Leaf s = by.Leaf words old new before after quiet untaken unasked s
+module _ (words : List (List ℕ)) (before after : World) (same : Untouched) (name : List ℕ) (limit : ℕ) (asked : Reads words (Interp name limit)) (s : Status) (cause : Caused words before after same s) where
+  -- what the command makes of the bytes, it makes of the one text
+  over_meant : (bytes : List (List ℕ)) → HoldsEach before.store.files (a_text name ∷ []) bytes → (p : Program) (most : ℕ) → Makes (Interp name limit) bytes (outcome.Interprets p most)
+      → (o : seens.Seen) → Interpreted p most before after o → OfFile before.store.files name (ShowsMeaning limit before after o)
+  over_meant bytes h p most x o run =
+      let m = meant_by name limit most bytes p x in
+      let held = subst (HoldsEach before.store.files (a_text name ∷ [])) m.1 h in
+      (m.0, held.0, (p, m.2, subst (λ k. Interpreted p k before after o) (formed (Interp name limit) bytes (outcome.Interprets p most) x) run))
 
-  of_interp : (command : Command) (bytes name : List ℕ) (limit most : ℕ) (p : Program) (o : seens.Seen) → command ≡ Interp name limit → Means command bytes p most → Interpreted p most old new o
-      → ShowsMeaning limit old new o command bytes
-  of_interp command bytes name limit most p o e x ran =
-      let m = subst (λ (c : Command). Means c bytes p most) e x in
-      (p, m.1, subst (λ k. Interpreted p k old new o) m.0 ran)
+  module _ (command : Command) (r : Reads words command) (bytes : List (List ℕ)) (h : HoldsEach before.store.files (fetches_of command) bytes) where
+    is : command ≡ Interp name limit
+    is = reads_once words command (Interp name limit) r asked
 
-  module _ (name : List ℕ) (limit : ℕ) (asked : Reads words (Interp name limit)) where
-    lists_none : (command : Command) (bytes text : List ℕ) → Reads words command → Lists command bytes text → ⊥
-    lists_none command bytes text r x = subst (λ (c : Command). Lists c bytes text) (reads_once words command (Interp name limit) r asked) x
+    form : (o : Outcome) → Makes command bytes o → Form o (Interp name limit)
+    form o x = subst (Form o) is (formed command bytes o x)
 
-    runs_none : (command : Command) (bytes : List ℕ) → Reads words command → (parts : _) (most : ℕ) → Executes command bytes parts most → ⊥
-    runs_none command bytes r parts most x = subst (λ (c : Command). Executes c bytes parts most) (reads_once words command (Interp name limit) r asked) x
+    -- a run of a meaning
+    run_of : (p : Program) (most : ℕ) → Makes command bytes (outcome.Interprets p most) → (o wanted : seens.Seen) → meant_status o ≡ meant_status wanted → Interpreted p most before after o
+        → OfFile before.store.files name (ShowsMeaning limit before after wanted)
+    run_of p most x o wanted e run =
+        over_meant bytes (subst (λ (c : Command). HoldsEach before.store.files (fetches_of c) bytes) is h) p most (subst (λ (c : Command). Makes c bytes (outcome.Interprets p most)) is x) wanted
+        (subst (Interpreted p most before after) (same_meant o wanted e) run)
 
-    over_meant : (command : Command) → Reads words command → (bytes : List ℕ) → Holds before.files (name_of command) bytes → (p : Program) (most : ℕ) → Means command bytes p most
-        → (o : seens.Seen) → Interpreted p most old new o → Over words before.files (ShowsMeaning limit old new o)
-    over_meant command r bytes h p most x o ran =
-        record { command = command; reads = r; bytes = bytes; holds = h; are = of_interp command bytes name limit most p o (reads_once words command (Interp name limit) r asked) x ran }
+    shown_comes : (o : Outcome) → Makes command bytes o → causes.Comes o before after same s → (wanted : seens.Seen) → s ≡ meant_status wanted → OfFile before.store.files name (ShowsMeaning limit before after wanted)
+    shown_comes (outcome.Refuses fault) x c wanted q = absurd (not_meant wanted (status.Refused fault) (sym q ∙ c.0) refl)
+    shown_comes (outcome.IsBad part) x c wanted q = absurd (not_meant wanted (status.BadImage part) (sym q ∙ c.0) refl)
+    shown_comes (outcome.Keeps place image) x c wanted q = absurd (form (outcome.Keeps place image) x)
+    shown_comes (outcome.Puts text) x c wanted q = absurd (form (outcome.Puts text) x)
+    shown_comes (outcome.Executes parts most) x c wanted q = absurd (form (outcome.Executes parts most) x)
+    shown_comes (outcome.Interprets p most) x c wanted q = run_of p most x c.0.0 wanted (sym c.0.1 ∙ q) c.0.2
 
-    pub interp_by : (s : Status) → Leaf s → (wanted : seens.Seen) → wanted ≢ seen.Memory → s ≡ meant_status wanted → Over words before.files (ShowsMeaning limit old new wanted)
-    interp_by s (by_usage none e a b k) wanted m q = absurd (not_meant wanted status.Usage (sym q ∙ e) refl)
-    interp_by s (by_store command r rose lacks e i) wanted m q = absurd (not_meant wanted status.StoreFault (sym q ∙ e) refl)
-    interp_by s (by_refusal command r bytes h fault x e i) wanted m q = absurd (not_meant wanted (status.Refused fault) (sym q ∙ e) refl)
-    interp_by s (by_bad command r bytes h k x e i) wanted m q = absurd (not_meant wanted (status.BadImage k) (sym q ∙ e) refl)
-    interp_by s (by_keeping command r bytes h place image x e k a b) wanted m q = absurd (not_meant wanted status.Done (sym q ∙ e) refl)
-    interp_by s (by_not_keeping command r bytes h place image x e k rose t a b) wanted m q = absurd (not_meant wanted status.StoreFault (sym q ∙ e) refl)
-    interp_by s (by_memory command r e a b f) wanted m q = absurd (m (same_meant wanted seen.Memory (sym q ∙ e)))
-    interp_by s (by_keeping_memory command r bytes h place image x e k a b) wanted m q = absurd (m (same_meant wanted seen.Memory (sym q ∙ e)))
-    interp_by s (by_listing command r bytes h text x e p f b) wanted m q = absurd (lists_none command bytes text r x)
-    interp_by s (by_cut_listing command r bytes h text x e rose p f b) wanted m q = absurd (lists_none command bytes text r x)
-    interp_by s (by_running command r bytes h parts most x o e ran f) wanted m q = absurd (runs_none command bytes r parts most x)
-    interp_by s (by_meaning command r bytes h p most x o e ran f) wanted m q =
-        over_meant command r bytes h p most x wanted (subst (Interpreted p most old new) (same_meant o wanted (sym e ∙ q)) ran)
+  shown_by : (wanted : seens.Seen) → wanted ≢ seen.Memory → s ≡ meant_status wanted → OfFile before.store.files name (ShowsMeaning limit before after wanted)
+  shown_by wanted m q = by_cause cause
+    where
+      by_cause : Caused words before after same s → OfFile before.store.files name (ShowsMeaning limit before after wanted)
+      by_cause (usage none e i k) = absurd (none (Interp name limit) asked)
+      by_cause (obeyed command r (not_fetched (causes.failed e rose lacks) i)) = absurd (not_meant wanted status.StoreFault (sym q ∙ e) refl)
+      by_cause (obeyed command r (not_fetched (causes.no_memory e) i)) = absurd (m (same_meant wanted seen.Memory (sym q ∙ e)))
+      by_cause (obeyed command r (fetched bytes h (causes.no_memory e i))) = absurd (m (same_meant wanted seen.Memory (sym q ∙ e)))
+      by_cause (obeyed command r (fetched bytes h (made o x c))) = shown_comes command r bytes h o x c wanted q
 
-    pub memory_by : (s : Status) → Leaf s → s ≡ status.Memory → (quiet × untaken) ⊎ Over words before.files (ShowsMeaning limit old new seen.Memory)
-    memory_by s (by_usage none e a b k) q = inl (a, b)
-    memory_by s (by_store command r rose lacks e i) q = inl (i.put, i.took)
-    memory_by s (by_refusal command r bytes h fault x e i) q = inl (i.put, i.took)
-    memory_by s (by_bad command r bytes h k x e i) q = inl (i.put, i.took)
-    memory_by s (by_keeping command r bytes h place image x e k a b) q = inl (a, b)
-    memory_by s (by_not_keeping command r bytes h place image x e k rose t a b) q = inl (a, b)
-    memory_by s (by_memory command r e a b f) q = inl (a, b)
-    memory_by s (by_keeping_memory command r bytes h place image x e k a b) q = inl (a, b)
-    memory_by s (by_listing command r bytes h text x e p f b) q = absurd (lists_none command bytes text r x)
-    memory_by s (by_cut_listing command r bytes h text x e rose p f b) q = absurd (lists_none command bytes text r x)
-    memory_by s (by_running command r bytes h parts most x o e ran f) q = absurd (runs_none command bytes r parts most x)
-    memory_by s (by_meaning command r bytes h p most x o e ran f) q =
-        inr (over_meant command r bytes h p most x seen.Memory (subst (Interpreted p most old new) (same_meant o seen.Memory (sym e ∙ q)) ran))
+  memory_by : s ≡ status.Memory → (same.output × same.input) ⊎ OfFile before.store.files name (ShowsMeaning limit before after seen.Memory)
+  memory_by q = by_cause cause
+    where
+      by_cause : Caused words before after same s → (same.output × same.input) ⊎ OfFile before.store.files name (ShowsMeaning limit before after seen.Memory)
+      by_cause (usage none e i k) = inl (i.put, i.took)
+      by_cause (obeyed command r (not_fetched u i)) = inl (i.put, i.took)
+      by_cause (obeyed command r (fetched bytes h (causes.no_memory e i))) = inl (i.put, i.took)
+      by_cause (obeyed command r (fetched bytes h (made o x c))) = inr (shown_comes command r bytes h o x c seen.Memory q)
 
-  module _ (s : Status) (l : Leaf s) (name text : List ℕ) (limit : ℕ) (p : Program) (g : Given words before.files (Interp name limit) text) (m : HasMeaning text p) where
-    pub interp_always : StoreIsFine before after → ShowsAs p limit old new s ⊎ (s ≡ status.Memory)
-    interp_always fine = same (always.meant_always words old new before after quiet untaken unasked (Interp name limit) text g fine s l p limit (refl, m))
+  always_by : (text : List ℕ) (p : Program) → Tells before.store.files name text → StoreIsFine before.store after.store → HasMeaning text p → ShowsAs p limit before after s ⊎ (s ≡ status.Memory)
+  always_by text p t fine m = always.meant_always words before after same (Interp name limit) (text ∷ []) (record { reads = asked; told = (t, tt) }) fine s cause p limit (p, m, refl)
+
+  pub meaning : Meaning name limit before after same s
+  meaning = record { shown = shown_by; memory = memory_by; always = always_by }
+
+-- ---- where no object fails
+
+module _ (name : List ℕ) (limit : ℕ) (before after : World) (same : Untouched) (s : Status) (meaning : Meaning name limit before after same s)
+    (text : List ℕ) (p : Program) (there : Tells before.store.files name text) (m : HasMeaning text p) where
+  module _ (given : List ℕ) (told : before.input.left ≡ Some given) (fine : AllIsFine before after) where
+    -- what every run that no object cuts short shows
+    by_told : (t : Status) → ((o : seens.Seen) (left : List ℕ) → Interprets p limit before.output.written after.output.written o given left → o ≢ seen.ReadFault → o ≢ seen.WriteFault
+        → (meant_status o ≡ t) ⊎ (meant_status o ≡ status.Memory)) → (s ≡ t) ⊎ (s ≡ status.Memory)
+    by_told t h = shown_as (meaning.always text p there fine.store m)
       where
-        same : ((other : Program) × (most : ℕ) × Means (Interp name limit) text other most × ShowsAs other most old new s) ⊎ (s ≡ status.Memory) → ShowsAs p limit old new s ⊎ (s ≡ status.Memory)
-        same (inl x) = inl (subst (λ q. ShowsAs q limit old new s) (meanings_exact.made_once text x.0 p x.2.1 m) (subst (λ k. ShowsAs x.0 k old new s) x.2.0 x.3))
-        same (inr e) = inr e
+        as_status : (o : seens.Seen) → s ≡ meant_status o → (meant_status o ≡ t) ⊎ (meant_status o ≡ status.Memory) → (s ≡ t) ⊎ (s ≡ status.Memory)
+        as_status o e (inl q) = inl (e ∙ q)
+        as_status o e (inr q) = inr (e ∙ q)
 
-    module _ (given : List ℕ) (told : old.source.left ≡ Some given) (fine : AllIsFine old new before after) where
-      -- what every run that no object cuts short shows
-      by_told : (t : Status) → ((o : seens.Seen) (left : List ℕ) → Interprets p limit old.sink.written new.sink.written o given left → o ≢ seen.ReadFault → o ≢ seen.WriteFault
-          → (meant_status o ≡ t) ⊎ (meant_status o ≡ status.Memory)) → (s ≡ t) ⊎ (s ≡ status.Memory)
-      by_told t h = shown_as (interp_always fine.store)
-        where
-          as_status : (o : seens.Seen) → s ≡ meant_status o → (meant_status o ≡ t) ⊎ (meant_status o ≡ status.Memory) → (s ≡ t) ⊎ (s ≡ status.Memory)
-          as_status o e (inl q) = inl (e ∙ q)
-          as_status o e (inr q) = inr (e ∙ q)
+        shown_as : ShowsAs p limit before after s ⊎ (s ≡ status.Memory) → (s ≡ t) ⊎ (s ≡ status.Memory)
+        shown_as (inl x) =
+            let run = x.2.told given told in
+            as_status x.0 x.1 (h x.0 run.0 run.2 (λ q. fine.input (x.2.read_fault q)) (λ q. fine.output (x.2.write_fault q)))
+        shown_as (inr e) = inr e
 
-          shown_as : ShowsAs p limit old new s ⊎ (s ≡ status.Memory) → (s ≡ t) ⊎ (s ≡ status.Memory)
-          shown_as (inl x) =
-              let run = x.2.told given told in
-              as_status x.0 x.1 (h x.0 run.0 run.2 (λ q. fine.input (x.2.read_fault q)) (λ q. fine.output (x.2.write_fault q)))
-          shown_as (inr e) = inr e
+    pub ended_always : (n value : ℕ) → n ≤ limit → standing_after p given n ≡ Ended value → (s ≡ status.Ended value) ⊎ (s ≡ status.Memory)
+    ended_always n value le e =
+        let final = stays p given n limit (Ended value) e (λ q. cc) le in
+        by_told (status.Ended value) (λ o left x r w. ended_at p given limit before.output.written after.output.written left value final o (at_limit p given limit before.output.written after.output.written left o x) r w)
 
-      pub ended_always : (n value : ℕ) → n ≤ limit → standing_after p given n ≡ Ended value → (s ≡ status.Ended value) ⊎ (s ≡ status.Memory)
-      ended_always n value le e =
-          let final = stays p given n limit (Ended value) e (λ q. cc) le in
-          by_told (status.Ended value) (λ o left x r w. ended_at p given limit old.sink.written new.sink.written left value final o (at_limit p given limit old.sink.written new.sink.written left o x) r w)
+    pub stopped_always : (n : ℕ) (check : Check) (at : Pos) → n ≤ limit → standing_after p given n ≡ Stopped check at → (s ≡ status.Stopped check at) ⊎ (s ≡ status.Memory)
+    stopped_always n check at le e =
+        let final = stays p given n limit (Stopped check at) e (λ q. cc) le in
+        by_told (status.Stopped check at) (λ o left x r w. stopped_at p given limit before.output.written after.output.written left check at final o (at_limit p given limit before.output.written after.output.written left o x) r w)
 
-      pub stopped_always : (n : ℕ) (check : Check) (at : Pos) → n ≤ limit → standing_after p given n ≡ Stopped check at → (s ≡ status.Stopped check at) ⊎ (s ≡ status.Memory)
-      stopped_always n check at le e =
-          let final = stays p given n limit (Stopped check at) e (λ q. cc) le in
-          by_told (status.Stopped check at) (λ o left x r w. stopped_at p given limit old.sink.written new.sink.written left check at final o (at_limit p given limit old.sink.written new.sink.written left o x) r w)
+    pub going_always : standing_after p given limit ≡ Going → (s ≡ status.Going) ⊎ (s ≡ status.Memory)
+    going_always e = by_told status.Going (λ o left x r w. going_at p given limit before.output.written after.output.written left e o (at_limit p given limit before.output.written after.output.written left o x) r w)
 
-      pub going_always : standing_after p given limit ≡ Going → (s ≡ status.Going) ⊎ (s ≡ status.Memory)
-      going_always e = by_told status.Going (λ o left x r w. going_at p given limit old.sink.written new.sink.written left e o (at_limit p given limit old.sink.written new.sink.written left o x) r w)
-
-      pub stuck_always : (n : ℕ) → n ≤ limit → IsStuckFirst p given n → (s ≡ status.Stuck (place_after p given n) (unchecked_since p given n)) ⊎ (s ≡ status.Memory)
-      stuck_always n le f =
-          let final = stays p given n limit Stuck f.stuck (λ q. cc) le in
-          by_told (status.Stuck (place_after p given n) (unchecked_since p given n))
-          (λ o left x r w. stuck_at p given limit old.sink.written new.sink.written left n f final o x (at_limit p given limit old.sink.written new.sink.written left o x) r w)
+    pub stuck_always : (n : ℕ) → n ≤ limit → IsStuckFirst p given n → (s ≡ status.Stuck (place_after p given n) (unchecked_since p given n)) ⊎ (s ≡ status.Memory)
+    stuck_always n le f =
+        let final = stays p given n limit Stuck f.stuck (λ q. cc) le in
+        by_told (status.Stuck (place_after p given n) (unchecked_since p given n))
+        (λ o left x r w. stuck_at p given limit before.output.written after.output.written left n f final o x (at_limit p given limit before.output.written after.output.written left o x) r w)

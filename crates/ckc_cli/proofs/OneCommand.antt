@@ -1,6 +1,7 @@
 -- Words read one command.
 use Rattle.std.proofs.Common.{◌≡◌, inl, inr, ℕ, List, [], ◌∷◌, get_or, arith, sym, ap, subst, ◌∙◌}
-use Rattle.ckc_cli_commands.specs.Words.{Command, Build, Assemble, Exec, Interp, Run, Show, keyword, IsLimit, NameAndLimit, Arguments, Reads}
+use Rattle.ckc_cli_commands.specs.Words.{Command, Build, Assemble, Exec, Interp, Run, Show, IsLimit, NameAndLimit}
+use Rattle.ckc_cli_commands.specs.Commands.{row_of, Reads}
 use Rattle.ckc_cli_commands.proofs.Wording.{head_is, tail_is}
 
 limit_once : (word : List ℕ) (limit other : ℕ) → IsLimit word limit → IsLimit word other → limit ≡ other
@@ -20,7 +21,7 @@ name_once more name other limit most (inr p) (inr q) =
     let e = pair_is name p.0 other q.0 (sym p.1 ∙ q.1) in
     (e.0, limit_once q.0 limit most (subst (λ w. IsLimit w limit) e.1 p.2) q.2)
 
-same_arguments : (more : List (List ℕ)) (c d : Command) → keyword c ≡ keyword d → Arguments more c → Arguments more d → c ≡ d
+same_arguments : (more : List (List ℕ)) (c d : Command) → (row_of c).keyword ≡ (row_of d).keyword → (row_of c).Arguments more → (row_of d).Arguments more → c ≡ d
 same_arguments more (Build text image) (Build text' image') k p q = let e = pair_is text image text' image' (sym p ∙ q) in ap (λ t. Build t image) e.0 ∙ ap (λ i. Build text' i) e.1
 same_arguments more (Build text image) (Assemble text' image') k p q = absurd (omega (arith, ap (λ (l : List ℕ). get_or l 0 0) k))
 same_arguments more (Build text image) (Exec text' limit') k p q = absurd (omega (arith, ap (λ (l : List ℕ). get_or l 0 0) k))
@@ -61,4 +62,4 @@ same_arguments more (Show image) (Show image') k p q = ap Show (head_is image im
 pub reads_once : (words : List (List ℕ)) (c d : Command) → Reads words c → Reads words d → c ≡ d
 reads_once words c d p q =
     let e = sym p.1 ∙ q.1 in
-    same_arguments q.0 c d (head_is (keyword c) (keyword d) p.0 q.0 e) (subst (λ (l : List (List ℕ)). Arguments l c) (tail_is (keyword c) (keyword d) p.0 q.0 e) p.2) q.2
+    same_arguments q.0 c d (head_is (row_of c).keyword (row_of d).keyword p.0 q.0 e) (subst (λ (l : List (List ℕ)). (row_of c).Arguments l) (tail_is (row_of c).keyword (row_of d).keyword p.0 q.0 e) p.2) q.2

@@ -1,26 +1,24 @@
--- How each status comes, and what is known of it.
-use Rattle.std.proofs.Common.{◌≡◌, ◌≢◌, ◌↔◌, inl, inr, ℕ, Bool, true, false, List, None, Some, Ok, Err, IsTrue, refl, sym, ap, subst, ◌∙◌}
-use Rattle.std.specs.FinMap as fin
-use Rattle.ckc_base.specs.declared.places.Refusal.{Refusal}
-use Rattle.ckc_outside.specs.declared.traits.StoreError.TheVariants as error
-use Rattle.ckc_outside.specs.Outside.{Files, Rose}
+-- What each status says.
+use Rattle.std.proofs.Common.{◌≡◌, ◌≢◌, ◌↔◌, inl, inr, ℕ, Bool, true, false, List, Option, refl, sym, ap, subst, ◌∙◌}
+use Rattle.ckc_base.specs.declared.places.Pos.{Pos}
+use Rattle.ckc_outside.specs.Outside.{Rose}
 use Rattle.ckc_rv.specs.Machine.{Parts}
+use Rattle.ckc_source.specs.Code.{Program}
 use Rattle.ckc_machine.specs.declared.observed.Observed.{Observed}
 use Rattle.ckc_machine.specs.declared.observed.Observed.TheVariants as observed
-use Rattle.ckc_outside.specs.Given.{Printed}
-use Rattle.ckc_cli_commands.specs.declared.status.Status.{Status}
-use Rattle.ckc_cli_commands.specs.declared.status.Status.TheVariants as status
-use Rattle.ckc_cli_commands.specs.Words.{Command, Build, Assemble, Exec, Interp, Run, Show, Reads}
-use Rattle.ckc_cli_commands.specs.Commands.{name_of, Refuses, IsBad, Keeps, Lists, Executes, Means}
-use Rattle.ckc_cli_commands.specs.Running.{Seen, Ran, Ends, shows, Listed, whole, front, ListedFront, status_of, shows_run}
-use Rattle.ckc_cli_commands.specs.Running as running
-use Rattle.ckc_source.specs.Code.{Program}
 use Rattle.ckc_interp.specs.declared.seen.Seen as seens
 use Rattle.ckc_interp.specs.declared.seen.Seen.TheVariants as seen
+use Rattle.ckc_cli_commands.specs.declared.status.Status.{Status}
+use Rattle.ckc_cli_commands.specs.declared.status.Status.TheVariants as status
+use Rattle.ckc_cli_commands.specs.World.{World, Untouched}
+use Rattle.ckc_cli_commands.specs.Words.{Command, Interp}
+use Rattle.ckc_cli_commands.specs.Outcomes.{Outcome, Refuses, IsBad, Keeps, Puts, Executes, Interprets}
+use Rattle.ckc_cli_commands.specs.Commands.{fetches_of, Reads, Makes}
+use Rattle.ckc_cli_commands.specs.Running.{Ran, Listed, whole, front, status_of}
 use Rattle.ckc_cli_commands.specs.Interpreting.{Interpreted, meant_status}
-use Rattle.ckc_outside.specs.Outside.{Stored}
-use Rattle.ckc_cli_commands.specs.Causes.{Holds, Kept, Unkept, KeptOnce, Idle, Came, Unfetched, Obeyed, Caused, Over, IsDone, IsRun, IsCutShort}
-use Rattle.ckc_cli_commands.specs.Causes as causes
+use Rattle.ckc_cli_commands.specs.Causes.{HoldsEach, Idle, Keeping, kept, failed, no_memory, Comes, made, not_fetched, fetched, Caused, usage, obeyed}
+use Rattle.ckc_cli.proofs.OneOutcome.{formed, interpreter}
+use Rattle.ckc_cli.specs.Laws.{Over, IsDone, IsRun, IsMeant, IsCutShort, shows_run}
 
 -- what was observed, of a status that shows it
 observed_by : Status → Observed
@@ -51,7 +49,7 @@ shows_true (observed.Fault kind pc) = refl
 shows_true observed.ReadFault = refl
 shows_true observed.WriteFault = refl
 
-true_false : ◌≡◌ {A = Bool} true false → ⊥
+pub true_false : ◌≡◌ {A = Bool} true false → ⊥
 true_false e = cc
 
 pub not_shown : (o : Observed) (s : Status) → status_of o ≡ s → shows_run s ≡ false → ⊥
@@ -98,7 +96,7 @@ pub not_meant : (o : seens.Seen) (s : Status) → meant_status o ≡ s → shows
 not_meant o s e f = true_false (sym (meant_true o) ∙ ap shows_meaning e ∙ f)
 
 -- a run of a meaning whose status shows no run is out of memory
-unshown_meant : (o : seens.Seen) → shows_run (meant_status o) ≡ false → meant_status o ≡ status.Memory
+pub unshown_meant : (o : seens.Seen) → shows_run (meant_status o) ≡ false → meant_status o ≡ status.Memory
 unshown_meant (seen.Ended value) f = absurd (true_false f)
 unshown_meant (seen.Stopped check at) f = absurd (true_false f)
 unshown_meant seen.Going f = absurd (true_false f)
@@ -107,203 +105,93 @@ unshown_meant seen.ReadFault f = absurd (true_false f)
 unshown_meant seen.WriteFault f = absurd (true_false f)
 unshown_meant seen.Memory f = refl
 
--- a command that runs a meaning
-pub means_interp : (command : Command) (bytes : List ℕ) (p : Program) (limit : ℕ) → Means command bytes p limit → (name : List ℕ) × (most : ℕ) × (command ≡ Interp name most)
-means_interp (Build text image) bytes p limit x = absurd x
-means_interp (Assemble text image) bytes p limit x = absurd x
-means_interp (Exec text most) bytes p limit x = absurd x
-means_interp (Interp text most) bytes p limit x = (text, most, refl)
-means_interp (Run image most) bytes p limit x = absurd x
-means_interp (Show image) bytes p limit x = absurd x
+module _ (words : List (List ℕ)) (before after : World) (same : Untouched) where
+  -- what a status says
+  abbrev pub Says : Status → Type 0
+  Says status.Usage = ((command : Command) → ¬ Reads words command) × Idle before after same × same.store
+  Says (status.Refused fault) = Over words before.store.files (λ command bytes. Makes command bytes (Refuses fault))
+  Says (status.BadImage part) = Over words before.store.files (λ command bytes. Makes command bytes (IsBad part))
+  Says status.Done = Over words before.store.files (IsDone before after)
+  Says (status.Ended value) = Over words before.store.files (IsRun before after same (observed.Ended value))
+  Says (status.Stopped check at) = Over words before.store.files (IsRun before after same (observed.Stopped check at))
+  Says status.Going = Over words before.store.files (IsRun before after same observed.Going)
+  Says (status.MachineFault kind pc) = Over words before.store.files (IsRun before after same (observed.Fault kind pc))
+  Says (status.Stuck at since) = Over words before.store.files (IsMeant before after (status.Stuck at since))
+  Says status.ReadFault = Rose before.input.faults after.input.faults × Over words before.store.files (IsRun before after same observed.ReadFault)
+  Says status.WriteFault = Rose before.output.faults after.output.faults × Over words before.store.files (IsCutShort before after same)
+  Says status.StoreFault = Rose before.store.faults after.store.faults
+  Says status.Memory = Unit {0}
 
-same_refusal : (a b : Refusal) → status.Refused a ≡ status.Refused b → a ≡ b
-same_refusal a b e = cc
+  module _ (command : Command) (reads : Reads words command) (bytes : List (List ℕ)) (holds : HoldsEach before.store.files (fetches_of command) bytes) where
+    over : (Are : Command → List (List ℕ) → Type 0) → Are command bytes → Over words before.store.files Are
+    over Are x = record { command = command; reads = reads; bytes = bytes; holds = holds; are = x }
 
-same_part : (a b : ℕ) → status.BadImage a ≡ status.BadImage b → a ≡ b
-same_part a b e = cc
+    ran_says : (parts : Parts) (limit : ℕ) → Makes command bytes (Executes parts limit) → (o : Observed) → Ran parts limit before after same.input o → Says (status_of o)
+    ran_says parts limit x (observed.Ended value) r = over (IsRun before after same (observed.Ended value)) (inl (parts, limit, x, r))
+    ran_says parts limit x (observed.Stopped check at) r = over (IsRun before after same (observed.Stopped check at)) (inl (parts, limit, x, r))
+    ran_says parts limit x observed.Going r = over (IsRun before after same observed.Going) (inl (parts, limit, x, r))
+    ran_says parts limit x (observed.Fault kind pc) r = over (IsRun before after same (observed.Fault kind pc)) (inl (parts, limit, x, r))
+    ran_says parts limit x observed.ReadFault r = (r.read_fault refl, over (IsRun before after same observed.ReadFault) (inl (parts, limit, x, r)))
+    ran_says parts limit x observed.WriteFault r = (r.write_fault refl, over (IsCutShort before after same) (inl (inl (parts, limit, x, r))))
 
-module _ (words : List (List ℕ)) (old new : Seen) (before after : Stored) (quiet untaken unasked : Type 0) where
-  abbrev IsIdle : Type 0
-  IsIdle = Idle before after quiet untaken
+    meant_says : (p : Program) (limit : ℕ) → Makes command bytes (Interprets p limit) → (o : seens.Seen) → Interpreted p limit before after o → Says (meant_status o)
+    meant_says p limit x (seen.Ended value) r = over (IsRun before after same (observed.Ended value)) (inr (p, limit, x, (seen.Ended value, refl, r)))
+    meant_says p limit x (seen.Stopped check at) r = over (IsRun before after same (observed.Stopped check at)) (inr (p, limit, x, (seen.Stopped check at, refl, r)))
+    meant_says p limit x seen.Going r = over (IsRun before after same observed.Going) (inr (p, limit, x, (seen.Going, refl, r)))
+    meant_says p limit x (seen.Stuck at since) r = over (IsMeant before after (status.Stuck at since)) (p, limit, x, (seen.Stuck at since, refl, r))
+    meant_says p limit x seen.ReadFault r = (r.read_fault refl, over (IsRun before after same observed.ReadFault) (inr (p, limit, x, (seen.ReadFault, refl, r))))
+    meant_says p limit x seen.WriteFault r = (r.write_fault refl, over (IsCutShort before after same) (inl (inr (p, limit, x, (seen.WriteFault, refl, r)))))
+    meant_says p limit x seen.Memory r = tt
 
-  -- how a status comes
-  pub data Leaf (s : Status) : Type 0 where
-    by_usage : ((command : Command) → ¬ Reads words command) → s ≡ status.Usage → quiet → untaken → unasked → Leaf s
-    by_store : (command : Command) → Reads words command → Rose before.faults after.faults
-        → ((here : Files) → IsTrue before.steady → before.files ≡ Some here → fin.get here (name_of command) ≡ None) → s ≡ status.StoreFault → IsIdle → Leaf s
-    by_refusal : (command : Command) → Reads words command → (bytes : List ℕ) → Holds before.files (name_of command) bytes
-        → (fault : Refusal) → Refuses command bytes fault → s ≡ status.Refused fault → IsIdle → Leaf s
-    by_bad : (command : Command) → Reads words command → (bytes : List ℕ) → Holds before.files (name_of command) bytes
-        → (k : ℕ) → IsBad command bytes k → s ≡ status.BadImage k → IsIdle → Leaf s
-    by_keeping : (command : Command) → Reads words command → (bytes : List ℕ) → Holds before.files (name_of command) bytes
-        → (name image : List ℕ) → Keeps command bytes name image → s ≡ status.Done → KeptOnce before after name image (Ok tt) → quiet → untaken → Leaf s
-    by_not_keeping : (command : Command) → Reads words command → (bytes : List ℕ) → Holds before.files (name_of command) bytes
-        → (name image : List ℕ) → Keeps command bytes name image → s ≡ status.StoreFault → KeptOnce before after name image (Err error.Failed)
-        → Rose before.faults after.faults → ¬ IsTrue before.steady → quiet → untaken → Leaf s
-    by_memory : (command : Command) → Reads words command → s ≡ status.Memory → quiet → untaken → Unkept before after → Leaf s
-    by_keeping_memory : (command : Command) → Reads words command → (bytes : List ℕ) → Holds before.files (name_of command) bytes
-        → (name image : List ℕ) → Keeps command bytes name image → s ≡ status.Memory → KeptOnce before after name image (Err error.Memory) → quiet → untaken → Leaf s
-    by_listing : (command : Command) → Reads words command → (bytes : List ℕ) → Holds before.files (name_of command) bytes
-        → (text : List ℕ) → Lists command bytes text → s ≡ status.Done → Printed old.sink.written new.sink.written text → Unkept before after → untaken → Leaf s
-    by_cut_listing : (command : Command) → Reads words command → (bytes : List ℕ) → Holds before.files (name_of command) bytes
-        → (text : List ℕ) → Lists command bytes text → s ≡ status.WriteFault → Rose old.sink.faults new.sink.faults → ListedFront old.sink.written new.sink.written text
-        → Unkept before after → untaken → Leaf s
-    by_running : (command : Command) → Reads words command → (bytes : List ℕ) → Holds before.files (name_of command) bytes
-        → (parts : Parts) (limit : ℕ) → Executes command bytes parts limit → (o : Observed) → s ≡ status_of o → Ran parts limit old new untaken o → Unkept before after → Leaf s
-    by_meaning : (command : Command) → Reads words command → (bytes : List ℕ) → Holds before.files (name_of command) bytes
-        → (p : Program) (limit : ℕ) → Means command bytes p limit → (o : seens.Seen) → s ≡ meant_status o → Interpreted p limit old new o → Unkept before after → Leaf s
+    keeping_says : (s : Status) (name image : List ℕ) → Makes command bytes (Keeps name image) → Keeping name image before.store after.store s → Says s
+    keeping_says s name image x (kept e k) = subst Says (sym e) (over (IsDone before after) (inl (name, image, x, k.files)))
+    keeping_says s name image x (failed e k rose t) = subst Says (sym e) rose
+    keeping_says s name image x (no_memory e k) = subst Says (sym e) tt
 
-  came_leaf : (s : Status) (command : Command) (bytes : List ℕ) → Reads words command → Holds before.files (name_of command) bytes → Came command bytes old new before after quiet untaken s → Leaf s
-  came_leaf s command bytes r h (causes.refused fault x e i) = by_refusal command r bytes h fault x e i
-  came_leaf s command bytes r h (causes.bad_image k x e i) = by_bad command r bytes h k x e i
-  came_leaf s command bytes r h (causes.kept name image x e k a b) = by_keeping command r bytes h name image x e k a b
-  came_leaf s command bytes r h (causes.not_kept name image x e k rose t a b) = by_not_keeping command r bytes h name image x e k rose t a b
-  came_leaf s command bytes r h (causes.not_kept_for_memory name image x e k a b) = by_keeping_memory command r bytes h name image x e k a b
-  came_leaf s command bytes r h (causes.listed text x (whole e p) f b) = by_listing command r bytes h text x e p f b
-  came_leaf s command bytes r h (causes.listed text x (front e rose p) f b) = by_cut_listing command r bytes h text x e rose p f b
-  came_leaf s command bytes r h (causes.ran parts limit x (shows o e ran) f) = by_running command r bytes h parts limit x o e ran f
-  came_leaf s command bytes r h (causes.ran parts limit x (running.no_memory e a b) f) = by_memory command r e a b f
-  came_leaf s command bytes r h (causes.meant p limit x run f) = by_meaning command r bytes h p limit x run.0 run.1 run.2 f
-  came_leaf s command bytes r h (causes.no_memory e i) = by_memory command r e i.put i.took i.unkept
+    listed_says : (s : Status) (text : List ℕ) → Makes command bytes (Puts text) → Listed text before.output.written after.output.written before.output.faults after.output.faults s → Says s
+    listed_says s text x (whole e p) = subst Says (sym e) (over (IsDone before after) (inr (text, x, p)))
+    listed_says s text x (front e rose p) = subst Says (sym e) (rose, over (IsCutShort before after same) (inr (text, x, p)))
 
-  pub leaf : (s : Status) → Caused words old new before after quiet untaken unasked s → Leaf s
-  leaf s (causes.usage none e a b k) = by_usage none e a b k
-  leaf s (causes.obeyed command r (causes.not_fetched (causes.failed e rose lacks) i)) = by_store command r rose lacks e i
-  leaf s (causes.obeyed command r (causes.not_fetched (causes.no_memory e) i)) = by_memory command r e i.put i.took i.unkept
-  leaf s (causes.obeyed command r (causes.fetched bytes h c)) = came_leaf s command bytes r h c
+    comes_says : (s : Status) (o : Outcome) → Makes command bytes o → Comes o before after same s → Says s
+    comes_says s (Refuses fault) x c = subst Says (sym c.0) (over (λ command bytes. Makes command bytes (Refuses fault)) x)
+    comes_says s (IsBad part) x c = subst Says (sym c.0) (over (λ command bytes. Makes command bytes (IsBad part)) x)
+    comes_says s (Keeps name image) x c = keeping_says s name image x c.0
+    comes_says s (Puts text) x c = listed_says s text x c.0
+    comes_says s (Executes parts limit) x c = subst Says (sym c.0.1) (ran_says parts limit x c.0.0 c.0.2)
+    comes_says s (Interprets p limit) x c = subst Says (sym c.0.1) (meant_says p limit x c.0.0 c.0.2)
 
-  pub refused_by : (s : Status) → Leaf s → (wanted : Refusal) → s ≡ status.Refused wanted → Over words before.files (λ command bytes. Refuses command bytes wanted)
-  refused_by s (by_usage none e a b k) wanted q = absurd (let z : status.Usage ≡ status.Refused wanted = sym e ∙ q in cc)
-  refused_by s (by_store command r rose lacks e i) wanted q = absurd (let z : status.StoreFault ≡ status.Refused wanted = sym e ∙ q in cc)
-  refused_by s (by_refusal command r bytes h fault x e i) wanted q = record { command = command; reads = r; bytes = bytes; holds = h; are = subst (Refuses command bytes) (same_refusal fault wanted (sym e ∙ q)) x }
-  refused_by s (by_bad command r bytes h k x e i) wanted q = absurd (let z : status.BadImage k ≡ status.Refused wanted = sym e ∙ q in cc)
-  refused_by s (by_keeping command r bytes h name image x e k a b) wanted q = absurd (let z : status.Done ≡ status.Refused wanted = sym e ∙ q in cc)
-  refused_by s (by_not_keeping command r bytes h name image x e k rose t a b) wanted q = absurd (let z : status.StoreFault ≡ status.Refused wanted = sym e ∙ q in cc)
-  refused_by s (by_memory command r e a b f) wanted q = absurd (let z : status.Memory ≡ status.Refused wanted = sym e ∙ q in cc)
-  refused_by s (by_keeping_memory command r bytes h name image x e k a b) wanted q = absurd (let z : status.Memory ≡ status.Refused wanted = sym e ∙ q in cc)
-  refused_by s (by_listing command r bytes h text x e p f b) wanted q = absurd (let z : status.Done ≡ status.Refused wanted = sym e ∙ q in cc)
-  refused_by s (by_cut_listing command r bytes h text x e rose p f b) wanted q = absurd (let z : status.WriteFault ≡ status.Refused wanted = sym e ∙ q in cc)
-  refused_by s (by_running command r bytes h parts limit x o e ran f) wanted q = absurd (not_shown o (status.Refused wanted) (sym e ∙ q) refl)
-  refused_by s (by_meaning command r bytes h p limit x o e ran f) wanted q = absurd (not_meant o (status.Refused wanted) (sym e ∙ q) refl)
+  says : (s : Status) → Caused words before after same s → Says s
+  says s (usage none e i k) = subst Says (sym e) (none, i, k)
+  says s (obeyed command r (not_fetched (failed e rose lacks) i)) = subst Says (sym e) rose
+  says s (obeyed command r (not_fetched (no_memory e) i)) = subst Says (sym e) tt
+  says s (obeyed command r (fetched bytes h (made o x c))) = comes_says command r bytes h s o x c
+  says s (obeyed command r (fetched bytes h (no_memory e i))) = subst Says (sym e) tt
 
-  pub bad_by : (s : Status) → Leaf s → (wanted : ℕ) → s ≡ status.BadImage wanted → Over words before.files (λ command bytes. IsBad command bytes wanted)
-  bad_by s (by_usage none e a b k) wanted q = absurd (let z : status.Usage ≡ status.BadImage wanted = sym e ∙ q in cc)
-  bad_by s (by_store command r rose lacks e i) wanted q = absurd (let z : status.StoreFault ≡ status.BadImage wanted = sym e ∙ q in cc)
-  bad_by s (by_refusal command r bytes h fault x e i) wanted q = absurd (let z : status.Refused fault ≡ status.BadImage wanted = sym e ∙ q in cc)
-  bad_by s (by_bad command r bytes h k x e i) wanted q = record { command = command; reads = r; bytes = bytes; holds = h; are = subst (IsBad command bytes) (same_part k wanted (sym e ∙ q)) x }
-  bad_by s (by_keeping command r bytes h name image x e k a b) wanted q = absurd (let z : status.Done ≡ status.BadImage wanted = sym e ∙ q in cc)
-  bad_by s (by_not_keeping command r bytes h name image x e k rose t a b) wanted q = absurd (let z : status.StoreFault ≡ status.BadImage wanted = sym e ∙ q in cc)
-  bad_by s (by_memory command r e a b f) wanted q = absurd (let z : status.Memory ≡ status.BadImage wanted = sym e ∙ q in cc)
-  bad_by s (by_keeping_memory command r bytes h name image x e k a b) wanted q = absurd (let z : status.Memory ≡ status.BadImage wanted = sym e ∙ q in cc)
-  bad_by s (by_listing command r bytes h text x e p f b) wanted q = absurd (let z : status.Done ≡ status.BadImage wanted = sym e ∙ q in cc)
-  bad_by s (by_cut_listing command r bytes h text x e rose p f b) wanted q = absurd (let z : status.WriteFault ≡ status.BadImage wanted = sym e ∙ q in cc)
-  bad_by s (by_running command r bytes h parts limit x o e ran f) wanted q = absurd (not_shown o (status.BadImage wanted) (sym e ∙ q) refl)
-  bad_by s (by_meaning command r bytes h p limit x o e ran f) wanted q = absurd (not_meant o (status.BadImage wanted) (sym e ∙ q) refl)
+  -- what the cause of a status that is known says
+  pub says_of : (s wanted : Status) → Caused words before after same s → s ≡ wanted → Says wanted
+  says_of s wanted c e = subst Says e (says s c)
 
-  pub done_by : (s : Status) → Leaf s → s ≡ status.Done → Over words before.files (IsDone old new before after)
-  done_by s (by_usage none e a b k) q = absurd (let z : status.Usage ≡ status.Done = sym e ∙ q in cc)
-  done_by s (by_store command r rose lacks e i) q = absurd (let z : status.StoreFault ≡ status.Done = sym e ∙ q in cc)
-  done_by s (by_refusal command r bytes h fault x e i) q = absurd (let z : status.Refused fault ≡ status.Done = sym e ∙ q in cc)
-  done_by s (by_bad command r bytes h k x e i) q = absurd (let z : status.BadImage k ≡ status.Done = sym e ∙ q in cc)
-  done_by s (by_keeping command r bytes h name image x e k a b) q = record { command = command; reads = r; bytes = bytes; holds = h; are = inl (name, image, x, k.files) }
-  done_by s (by_not_keeping command r bytes h name image x e k rose t a b) q = absurd (let z : status.StoreFault ≡ status.Done = sym e ∙ q in cc)
-  done_by s (by_memory command r e a b f) q = absurd (let z : status.Memory ≡ status.Done = sym e ∙ q in cc)
-  done_by s (by_keeping_memory command r bytes h name image x e k a b) q = absurd (let z : status.Memory ≡ status.Done = sym e ∙ q in cc)
-  done_by s (by_listing command r bytes h text x e p f b) q = record { command = command; reads = r; bytes = bytes; holds = h; are = inr (text, x, p) }
-  done_by s (by_cut_listing command r bytes h text x e rose p f b) q = absurd (let z : status.WriteFault ≡ status.Done = sym e ∙ q in cc)
-  done_by s (by_running command r bytes h parts limit x o e ran f) q = absurd (not_shown o (status.Done) (sym e ∙ q) refl)
-  done_by s (by_meaning command r bytes h p limit x o e ran f) q = absurd (not_meant o status.Done (sym e ∙ q) refl)
+  shown_of : (o : Observed) → o ≢ observed.WriteFault → Says (status_of o) → Over words before.store.files (IsRun before after same o)
+  shown_of (observed.Ended value) n x = x
+  shown_of (observed.Stopped check at) n x = x
+  shown_of observed.Going n x = x
+  shown_of (observed.Fault kind pc) n x = x
+  shown_of observed.ReadFault n x = x.1
+  shown_of observed.WriteFault n x = absurd (n refl)
 
-  pub store_fault_by : (s : Status) → Leaf s → s ≡ status.StoreFault → Rose before.faults after.faults
-  store_fault_by s (by_usage none e a b k) q = absurd (let z : status.Usage ≡ status.StoreFault = sym e ∙ q in cc)
-  store_fault_by s (by_store command r rose lacks e i) q = rose
-  store_fault_by s (by_refusal command r bytes h fault x e i) q = absurd (let z : status.Refused fault ≡ status.StoreFault = sym e ∙ q in cc)
-  store_fault_by s (by_bad command r bytes h k x e i) q = absurd (let z : status.BadImage k ≡ status.StoreFault = sym e ∙ q in cc)
-  store_fault_by s (by_keeping command r bytes h name image x e k a b) q = absurd (let z : status.Done ≡ status.StoreFault = sym e ∙ q in cc)
-  store_fault_by s (by_not_keeping command r bytes h name image x e k rose t a b) q = rose
-  store_fault_by s (by_memory command r e a b f) q = absurd (let z : status.Memory ≡ status.StoreFault = sym e ∙ q in cc)
-  store_fault_by s (by_keeping_memory command r bytes h name image x e k a b) q = absurd (let z : status.Memory ≡ status.StoreFault = sym e ∙ q in cc)
-  store_fault_by s (by_listing command r bytes h text x e p f b) q = absurd (let z : status.Done ≡ status.StoreFault = sym e ∙ q in cc)
-  store_fault_by s (by_cut_listing command r bytes h text x e rose p f b) q = absurd (let z : status.WriteFault ≡ status.StoreFault = sym e ∙ q in cc)
-  store_fault_by s (by_running command r bytes h parts limit x o e ran f) q = absurd (not_shown o (status.StoreFault) (sym e ∙ q) refl)
-  store_fault_by s (by_meaning command r bytes h p limit x o e ran f) q = absurd (not_meant o status.StoreFault (sym e ∙ q) refl)
+  pub shown_by : (s : Status) → Caused words before after same s → (o : Observed) → o ≢ observed.WriteFault → s ≡ status_of o → Over words before.store.files (IsRun before after same o)
+  shown_by s c o n e = shown_of o n (says_of s (status_of o) c e)
 
-  pub write_fault_by : (s : Status) → Leaf s → s ≡ status.WriteFault → Rose old.sink.faults new.sink.faults × Over words before.files (IsCutShort old new untaken)
-  write_fault_by s (by_usage none e a b k) q = absurd (let z : status.Usage ≡ status.WriteFault = sym e ∙ q in cc)
-  write_fault_by s (by_store command r rose lacks e i) q = absurd (let z : status.StoreFault ≡ status.WriteFault = sym e ∙ q in cc)
-  write_fault_by s (by_refusal command r bytes h fault x e i) q = absurd (let z : status.Refused fault ≡ status.WriteFault = sym e ∙ q in cc)
-  write_fault_by s (by_bad command r bytes h k x e i) q = absurd (let z : status.BadImage k ≡ status.WriteFault = sym e ∙ q in cc)
-  write_fault_by s (by_keeping command r bytes h name image x e k a b) q = absurd (let z : status.Done ≡ status.WriteFault = sym e ∙ q in cc)
-  write_fault_by s (by_not_keeping command r bytes h name image x e k rose t a b) q = absurd (let z : status.StoreFault ≡ status.WriteFault = sym e ∙ q in cc)
-  write_fault_by s (by_memory command r e a b f) q = absurd (let z : status.Memory ≡ status.WriteFault = sym e ∙ q in cc)
-  write_fault_by s (by_keeping_memory command r bytes h name image x e k a b) q = absurd (let z : status.Memory ≡ status.WriteFault = sym e ∙ q in cc)
-  write_fault_by s (by_listing command r bytes h text x e p f b) q = absurd (let z : status.Done ≡ status.WriteFault = sym e ∙ q in cc)
-  write_fault_by s (by_cut_listing command r bytes h text x e rose p f b) q = (rose, record { command = command; reads = r; bytes = bytes; holds = h; are = inr (text, x, p) })
-  write_fault_by s (by_running command r bytes h parts limit x o e ran f) q = let same = same_shown o observed.WriteFault (sym e ∙ q) in (ran.write_fault same, record { command = command; reads = r; bytes = bytes; holds = h; are = inl (inl (parts, limit, x, subst (Ran parts limit old new untaken) same ran)) })
-  write_fault_by s (by_meaning command r bytes h p limit x o e ran f) q = (ran.write_fault (same_meant o seen.WriteFault (sym e ∙ q)), record { command = command; reads = r; bytes = bytes; holds = h; are = inl (inr (p, limit, x, (o, sym q ∙ e, ran))) })
-
-  pub shown_by : (s : Status) → Leaf s → (wanted : Observed) → wanted ≢ observed.WriteFault → s ≡ status_of wanted → Over words before.files (IsRun old new untaken wanted)
-  shown_by s (by_usage none e a b k) wanted w q = absurd (not_shown wanted (status.Usage) (sym q ∙ e) refl)
-  shown_by s (by_store command r rose lacks e i) wanted w q = absurd (not_shown wanted (status.StoreFault) (sym q ∙ e) refl)
-  shown_by s (by_refusal command r bytes h fault x e i) wanted w q = absurd (not_shown wanted (status.Refused fault) (sym q ∙ e) refl)
-  shown_by s (by_bad command r bytes h k x e i) wanted w q = absurd (not_shown wanted (status.BadImage k) (sym q ∙ e) refl)
-  shown_by s (by_keeping command r bytes h name image x e k a b) wanted w q = absurd (not_shown wanted (status.Done) (sym q ∙ e) refl)
-  shown_by s (by_not_keeping command r bytes h name image x e k rose t a b) wanted w q = absurd (not_shown wanted (status.StoreFault) (sym q ∙ e) refl)
-  shown_by s (by_memory command r e a b f) wanted w q = absurd (not_shown wanted (status.Memory) (sym q ∙ e) refl)
-  shown_by s (by_keeping_memory command r bytes h name image x e k a b) wanted w q = absurd (not_shown wanted (status.Memory) (sym q ∙ e) refl)
-  shown_by s (by_listing command r bytes h text x e p f b) wanted w q = absurd (not_shown wanted (status.Done) (sym q ∙ e) refl)
-  shown_by s (by_cut_listing command r bytes h text x e rose p f b) wanted w q = absurd (w (same_shown wanted observed.WriteFault (sym q ∙ e)))
-  shown_by s (by_running command r bytes h parts limit x o e ran f) wanted w q = record { command = command; reads = r; bytes = bytes; holds = h; are = inl (parts, limit, x, subst (Ran parts limit old new untaken) (same_shown o wanted (sym e ∙ q)) ran) }
-  shown_by s (by_meaning command r bytes h p limit x o e ran f) wanted w q = record { command = command; reads = r; bytes = bytes; holds = h; are = inr (p, limit, x, (o, sym q ∙ e, ran)) }
-
-  pub usage_by : (s : Status) → Leaf s → s ≡ status.Usage → ((command : Command) → ¬ Reads words command) × quiet × untaken × unasked
-  usage_by s (by_usage none e a b k) q = (none, a, b, k)
-  usage_by s (by_store command r rose lacks e i) q = absurd (let z : status.StoreFault ≡ status.Usage = sym e ∙ q in cc)
-  usage_by s (by_refusal command r bytes h fault x e i) q = absurd (let z : status.Refused fault ≡ status.Usage = sym e ∙ q in cc)
-  usage_by s (by_bad command r bytes h k x e i) q = absurd (let z : status.BadImage k ≡ status.Usage = sym e ∙ q in cc)
-  usage_by s (by_keeping command r bytes h name image x e k a b) q = absurd (let z : status.Done ≡ status.Usage = sym e ∙ q in cc)
-  usage_by s (by_not_keeping command r bytes h name image x e k rose t a b) q = absurd (let z : status.StoreFault ≡ status.Usage = sym e ∙ q in cc)
-  usage_by s (by_memory command r e a b f) q = absurd (let z : status.Memory ≡ status.Usage = sym e ∙ q in cc)
-  usage_by s (by_keeping_memory command r bytes h name image x e k a b) q = absurd (let z : status.Memory ≡ status.Usage = sym e ∙ q in cc)
-  usage_by s (by_listing command r bytes h text x e p f b) q = absurd (let z : status.Done ≡ status.Usage = sym e ∙ q in cc)
-  usage_by s (by_cut_listing command r bytes h text x e rose p f b) q = absurd (let z : status.WriteFault ≡ status.Usage = sym e ∙ q in cc)
-  usage_by s (by_running command r bytes h parts limit x o e ran f) q = absurd (not_shown o status.Usage (sym e ∙ q) refl)
-  usage_by s (by_meaning command r bytes h p limit x o e ran f) q = absurd (not_meant o status.Usage (sym e ∙ q) refl)
-
-  -- no meaning is asked for where memory ran out
-  abbrev pub NoneAsked : Status → Type 0
-  NoneAsked s = (name : List ℕ) (limit : ℕ) → s ≡ status.Memory → ¬ Reads words (Interp name limit)
-
-  -- under these statuses nothing was put or taken
-  pub idle_by : (s : Status) → Leaf s → shows_run s ≡ false → s ≢ status.Done → NoneAsked s → quiet × untaken
-  idle_by s (by_usage none e a b k) w d n = (a, b)
-  idle_by s (by_store command r rose lacks e i) w d n = (i.put, i.took)
-  idle_by s (by_refusal command r bytes h fault x e i) w d n = (i.put, i.took)
-  idle_by s (by_bad command r bytes h k x e i) w d n = (i.put, i.took)
-  idle_by s (by_keeping command r bytes h name image x e k a b) w d n = (a, b)
-  idle_by s (by_not_keeping command r bytes h name image x e k rose t a b) w d n = (a, b)
-  idle_by s (by_memory command r e a b f) w d n = (a, b)
-  idle_by s (by_keeping_memory command r bytes h name image x e k a b) w d n = (a, b)
-  idle_by s (by_listing command r bytes h text x e p f b) w d n = absurd (d e)
-  idle_by s (by_cut_listing command r bytes h text x e rose p f b) w d n = absurd (true_false (ap shows_run (sym e) ∙ w))
-  idle_by s (by_running command r bytes h parts limit x o e ran f) w d n = absurd (not_shown o s (sym e) w)
-  idle_by s (by_meaning command r bytes h p limit x o e ran f) w d n =
-      let c = means_interp command bytes p limit x in
-      absurd (n c.0 c.1 (e ∙ unshown_meant o (ap shows_run (sym e) ∙ w)) (subst (λ (c : Command). Reads words c) c.2 r))
-
-  pub usage_is : (s : Status) → Leaf s → (s ≡ status.Usage) ↔ ((command : Command) → ¬ Reads words command)
-  usage_is s l = ((λ e. (usage_by s l e).0), (λ none. only s l none))
+  pub usage_is : (s : Status) → Caused words before after same s → (s ≡ status.Usage) ↔ ((command : Command) → ¬ Reads words command)
+  usage_is s c = ((λ e. (says_of s status.Usage c e).0), (λ none. only c none))
     where
-      only : (s : Status) → Leaf s → ((command : Command) → ¬ Reads words command) → s ≡ status.Usage
-      only s (by_usage none e a b k) n = e
-      only s (by_store command r rose lacks e i) n = absurd (n command r)
-      only s (by_refusal command r bytes h fault x e i) n = absurd (n command r)
-      only s (by_bad command r bytes h k x e i) n = absurd (n command r)
-      only s (by_keeping command r bytes h name image x e k a b) n = absurd (n command r)
-      only s (by_not_keeping command r bytes h name image x e k rose t a b) n = absurd (n command r)
-      only s (by_memory command r e a b f) n = absurd (n command r)
-      only s (by_keeping_memory command r bytes h name image x e k a b) n = absurd (n command r)
-      only s (by_listing command r bytes h text x e p f b) n = absurd (n command r)
-      only s (by_cut_listing command r bytes h text x e rose p f b) n = absurd (n command r)
-      only s (by_running command r bytes h parts limit x o e ran f) n = absurd (n command r)
-      only s (by_meaning command r bytes h p limit x o e ran f) n = absurd (n command r)
+      only : Caused words before after same s → ((command : Command) → ¬ Reads words command) → s ≡ status.Usage
+      only (usage none e i k) n = e
+      only (obeyed command r o) n = absurd (n command r)
+
+  -- `interp` alone is stuck
+  pub stuck_by : (s : Status) → Caused words before after same s → (at : Pos) (since : Option Pos) → s ≡ status.Stuck at since → (name : List ℕ) × (limit : ℕ) × Reads words (Interp name limit)
+  stuck_by s c at since e =
+      let x = says_of s (status.Stuck at since) c e in
+      let i = interpreter x.command x.are.0 x.are.1 (formed x.command x.bytes (Interprets x.are.0 x.are.1) x.are.2) in
+      (i.0, x.are.1, subst (Reads words) i.1 x.reads)

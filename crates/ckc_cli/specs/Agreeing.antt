@@ -1,32 +1,29 @@
 -- What `exec` shows, beside the meaning of its text.
 use Rattle.std.specs.Prelude.{◌≡◌, ◌≢◌, ◌⊎◌, ℕ, ◌+◌, ◌*◌, ◌≤◌, List, ◌++◌, Option, Some}
-use Rattle.ckc_base.specs.Traces.{Standing, Stuck, output}
+use Rattle.ckc_base.specs.declared.places.Pos.{Pos}
+use Rattle.ckc_base.specs.declared.runtime_checks.Check.{Check}
+use Rattle.ckc_base.specs.Traces.{Standing, Ended, Stopped, Stuck, output}
 use Rattle.ckc_base.specs.Follows.{IsPrefix}
-use Rattle.ckc_rv.specs.Machine.{Parts}
-use Rattle.ckc_machine.specs.declared.observed.Observed.{Observed}
 use Rattle.ckc_outside.specs.Given.{taken, Printed, OverAny, WhereTold}
+use Rattle.ckc_machine.specs.declared.observed.FaultKind.{FaultKind}
 use Rattle.ckc_source.specs.Code.{Program}
 use Rattle.ckc_source.specs.LaidOut.{AreBytes}
 use Rattle.ckc_source.specs.Source.{source}
 use Rattle.ckc_build.specs.Meanings.{HasMeaning}
-use Rattle.ckc_build.specs.Built.{Built, most_for_a_step}
+use Rattle.ckc_build.specs.Built.{most_for_a_step}
 use Rattle.ckc_cli_commands.specs.declared.status.Status.{Status}
-use Rattle.ckc_cli_commands.specs.Words.{Command}
-use Rattle.ckc_cli_commands.specs.Running.{Seen, Ran, status_of}
-use Rattle.ckc_cli_commands.specs.Interpreting.{standing_after}
-
--- The machine of an image of the text was run, and the status is what it showed.
-abbrev pub RanBuilt : List ℕ → ℕ → Seen → Seen → Type 0 → Status → Type 0
-RanBuilt text limit old new untaken s =
-    (parts : Parts) × (o : Observed) × Built text parts × (s ≡ status_of o) × Ran parts limit old new untaken o
+use Rattle.ckc_cli_commands.specs.declared.status.Status.TheVariants as status
+use Rattle.ckc_cli_commands.specs.World.{World}
+use Rattle.ckc_cli.specs.Objects.{Tells, OfFile, AllIsFine}
+use Rattle.ckc_cli.specs.Meaning.{standing_after}
 
 -- ---- inputs
 
 -- Where the input is one of bytes, something holds of what was left of it before and of what is left then: over what
 -- the input tells to be left, and over any input, whatever may come behind the bytes that it gave.
-pub record OverInput (old new : Seen) (Holds : List ℕ → List ℕ → Type 0) : Type 0 where
-  pub told : WhereTold old.source.left new.source.left (λ given left. AreBytes given → Holds given left)
-  pub any : OverAny old.source new.source (λ given left. AreBytes given → Holds given left)
+pub record OverInput (before after : World) (Holds : List ℕ → List ℕ → Type 0) : Type 0 where
+  pub told : WhereTold before.input.left after.input.left (λ given left. AreBytes given → Holds given left)
+  pub any : OverAny before.input after.input (λ given left. AreBytes given → Holds given left)
 
 -- something holds of the bytes that the input tells to be left, or of any
 abbrev pub OfInput : Option (List ℕ) → (List ℕ → Type 0) → Type 0
@@ -67,19 +64,19 @@ pub record ComesBy (p : Program) (old new : Option (List ℕ)) (given left : Lis
   pub took : TookPart given left (taken (source p given steps).trace)
 
 -- The text has a meaning, which comes to stand so, with the bytes that were put and taken, or to be stuck.
-abbrev pub StandsAsMeant : Standing → Seen → Seen → Command → List ℕ → Type 0
-StandsAsMeant stands old new command text =
-    (p : Program) × HasMeaning text p × OverInput old new (λ given left. ComesToBeStuck p given ⊎ ComesTo p stands old.sink.written new.sink.written given left)
+abbrev pub StandsAsMeant : Standing → World → World → List ℕ → Type 0
+StandsAsMeant stands before after text =
+    (p : Program) × HasMeaning text p × OverInput before after (λ given left. ComesToBeStuck p given ⊎ ComesTo p stands before.output.written after.output.written given left)
 
 -- The text has a meaning, which comes to have put what was put and taken what was taken, and perhaps more, or to be
 -- stuck.
-abbrev pub GoesAsMeant : Seen → Seen → Command → List ℕ → Type 0
-GoesAsMeant old new command text =
-    (p : Program) × HasMeaning text p × OverInput old new (λ given left. ComesToBeStuck p given ⊎ ComesBy p old.sink.written new.sink.written given left)
+abbrev pub GoesAsMeant : World → World → List ℕ → Type 0
+GoesAsMeant before after text =
+    (p : Program) × HasMeaning text p × OverInput before after (λ given left. ComesToBeStuck p given ⊎ ComesBy p before.output.written after.output.written given left)
 
 -- The text has a meaning, which comes to be stuck.
-abbrev pub IsStuckAsMeant : Seen → Seen → Command → List ℕ → Type 0
-IsStuckAsMeant old new command text = (p : Program) × HasMeaning text p × OverInput old new (λ given left. ComesToBeStuck p given)
+abbrev pub IsStuckAsMeant : World → World → List ℕ → Type 0
+IsStuckAsMeant before after text = (p : Program) × HasMeaning text p × OverInput before after (λ given left. ComesToBeStuck p given)
 
 -- ---- in time
 
@@ -95,3 +92,22 @@ StandsInTime p limit stands given = (n : ℕ) × (enough n ≤ limit) × (standi
 abbrev pub PutsInTime : Program → ℕ → List ℕ → List ℕ → Type 0
 PutsInTime p limit bytes given =
     (n : ℕ) × (enough n ≤ limit) × (standing_after p given n ≢ Stuck) × (output (source p given n).trace ≡ bytes)
+
+-- ---- the headline
+
+-- `exec` with a name and a limit ends, and stops at a check, only as the meaning of the text does, with the bytes that
+-- it puts and takes, or where the meaning comes to be stuck. Where the limit is reached, the bytes that were put and
+-- taken are a front of those that the meaning puts and takes. A fault of the machine is shown only where the meaning
+-- comes to be stuck. Where no object fails, it always ends and stops as the meaning does in time, and what the meaning
+-- puts in time was put, but for want of memory.
+pub record Headline (name : List ℕ) (limit : ℕ) (before after : World) (s : Status) : Type 0 where
+  pub ended : (value : ℕ) → s ≡ status.Ended value → OfFile before.store.files name (StandsAsMeant (Ended value) before after)
+  pub ended_always : (value : ℕ) (text : List ℕ) (p : Program) → Tells before.store.files name text → HasMeaning text p → AllIsFine before after
+      → OfInput before.input.left (StandsInTime p limit (Ended value)) → (s ≡ status.Ended value) ⊎ (s ≡ status.Memory)
+  pub stopped : (check : Check) (at : Pos) → s ≡ status.Stopped check at → OfFile before.store.files name (StandsAsMeant (Stopped check at) before after)
+  pub stopped_always : (check : Check) (at : Pos) (text : List ℕ) (p : Program) → Tells before.store.files name text → HasMeaning text p → AllIsFine before after
+      → OfInput before.input.left (StandsInTime p limit (Stopped check at)) → (s ≡ status.Stopped check at) ⊎ (s ≡ status.Memory)
+  pub going : s ≡ status.Going → OfFile before.store.files name (GoesAsMeant before after)
+  pub put_always : (bytes text : List ℕ) (p : Program) → Tells before.store.files name text → HasMeaning text p → AllIsFine before after
+      → OfInput before.input.left (PutsInTime p limit bytes) → PrintedFirst before.output.written after.output.written bytes ⊎ (s ≡ status.Memory)
+  pub faultless : (kind : FaultKind) (pc : ℕ) → s ≡ status.MachineFault kind pc → OfFile before.store.files name (IsStuckAsMeant before after)

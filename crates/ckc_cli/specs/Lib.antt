@@ -1,1 +1,4 @@
+pub mod Objects
 pub mod Agreeing
+pub mod Meaning
+pub mod Laws

@@ -1,5 +1,5 @@
 -- What fetching gives, with a status for each failure.
-use Rattle.std.proofs.Common.{◌≡◌, ℕ, List, Ok, Err, refl, subst}
+use Rattle.std.proofs.Common.{◌≡◌, inl, ℕ, List, [], ◌∷◌, Ok, Err, refl, subst}
 use Rattle.ckc_outside.specs.declared.traits.Fetched.{Fetched}
 use Rattle.ckc_outside.specs.declared.traits.Fetched.TheVariants.{Whole, Longer}
 use Rattle.ckc_outside.specs.declared.traits.StoreError.{StoreError}
@@ -16,7 +16,7 @@ given (Whole bytes) name limit before after h = h
 given Longer name limit before after h = h
 
 pub failed : (e : StoreError) (name : List ℕ) (limit : ℕ) (before after : Stored) → e ≡ Failed → Gives name limit before after (Err e)
-    → Unfetched name before after status.StoreFault
+    → Unfetched (record { name = name; most = limit } ∷ []) before after status.StoreFault
 failed e name limit before after is h =
     let f = subst (λ (e : StoreError). Gives name limit before after (Err e)) is h in
-    causes.failed refl f.0 f.1
+    causes.failed refl f.0 (inl f.1)

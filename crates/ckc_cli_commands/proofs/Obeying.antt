@@ -1,5 +1,5 @@
 -- What comes of each command, from what its parts gave.
-use Rattle.std.proofs.Common.{◌≡◌, inl, inr, ℕ, ◌<◌, ◌≤◌, List, length, Some, Result, Ok, Err, refl, ap, subst, ◌∙◌, arith}
+use Rattle.std.proofs.Common.{◌≡◌, inl, inr, ℕ, ◌<◌, ◌≤◌, List, [], ◌∷◌, length, Some, Result, Ok, Err, refl, ap, subst, ◌∙◌, arith}
 use Rattle.ckc_outside.specs.declared.traits.Fetched.{Fetched}
 use Rattle.ckc_outside.specs.declared.traits.Fetched.TheVariants.{Whole, Longer}
 use Rattle.ckc_outside.specs.declared.traits.StoreError as errors
@@ -15,9 +15,11 @@ use Rattle.ckc_base.specs.declared.fault.Fault.TheVariants as faults
 use Rattle.ckc_cli_commands.specs.declared.status.Status.{Status}
 use Rattle.ckc_cli_commands.specs.Words.{Command, Exec, Run, Show}
 use Rattle.ckc_build.specs.Built.{IsImage, Built}
-use Rattle.ckc_cli_commands.specs.Commands.{longest_image, Refuses}
-use Rattle.ckc_cli_commands.specs.Running.{Seen, Ends, Listed}
-use Rattle.ckc_cli_commands.specs.code.Running.{proper, bad, OverImage}
+use Rattle.ckc_cli_commands.specs.World.{World, Untouched}
+use Rattle.ckc_cli_commands.specs.Outcomes as outcome
+use Rattle.ckc_cli_commands.specs.Commands.{longest_image, Makes}
+use Rattle.ckc_cli_commands.specs.Running.{Listed}
+use Rattle.ckc_cli_commands.specs.code.Running.{Ends, shows, no_memory, proper, bad, OverImage}
 use Rattle.ckc_cli_commands.specs.Causes as causes
 use Rattle.ckc_outside.specs.Outside.{Stored}
 use Rattle.ckc_cli_commands.specs.Causes.{Holds, Unkept, KeptOnce, Idle, Came}
@@ -39,32 +41,38 @@ same_image bytes p q i j =
 
 -- ---- over bytes
 
-module _ (old new : Seen) (before after : Stored) (quiet untaken : Type 0) (s : Status) where
-  pub came_as : (command : Command) (bytes other : List ℕ) → bytes ≡ other → Came command bytes old new before after quiet untaken s → Came command other old new before after quiet untaken s
-  came_as command bytes other e c = subst (λ (b : List ℕ). Came command b old new before after quiet untaken s) e c
+module _ (before after : World) (same : Untouched) (s : Status) where
+  pub came_as : (command : Command) (bytes other : List ℕ) → bytes ≡ other → Came command (bytes ∷ []) before after same s → Came command (other ∷ []) before after same s
+  came_as command bytes other e c = subst (λ (b : List ℕ). Came command (b ∷ []) before after same s) e c
 
   -- a phase whose errors are those of the command
-  pub faulted : {B : Type 0} (p : Phase (List ℕ) B) (command : Command) (bytes : List ℕ) (fault : Fault) → ((r : Refusal) → p.Refuses bytes r → Refuses command bytes r)
-      → Answers p bytes (Err fault) → s ≡ fault_status fault → Idle before after quiet untaken → Came command bytes old new before after quiet untaken s
-  faulted {B} p command bytes (faults.Refused refusal) refuses h e idle = causes.refused refusal (refuses refusal h) e idle
+  pub faulted : {B : Type 0} (p : Phase (List ℕ) B) (command : Command) (bytes : List ℕ) (fault : Fault) → ((r : Refusal) → p.Refuses bytes r → Makes command (bytes ∷ []) (outcome.Refuses r))
+      → Answers p bytes (Err fault) → s ≡ fault_status fault → Idle before after same → Came command (bytes ∷ []) before after same s
+  faulted {B} p command bytes (faults.Refused refusal) refuses h e idle = causes.made (outcome.Refuses refusal) (refuses refusal h) (e, idle)
   faulted {B} p command bytes faults.Memory refuses h e idle = causes.no_memory e idle
 
+  -- what comes of running an image that the command is to run
+  run_ended : (command : Command) (bytes : List ℕ) (limit : ℕ) (parts : Parts) → Makes command (bytes ∷ []) (outcome.Executes parts limit) → Ends parts limit before after same s
+      → Unkept before.store after.store → Came command (bytes ∷ []) before after same s
+  run_ended command bytes limit parts x (shows o e ran) f = causes.made (outcome.Executes parts limit) x ((o, e, ran), f)
+  run_ended command bytes limit parts x (no_memory e a b) f = causes.no_memory e (record { unkept = f; put = a; took = b })
+
   pub exec_came : (text bytes image : List ℕ) (limit : ℕ) (parts : Parts) → Built bytes parts → IsImage image parts
-      → OverImage image (λ p. Ends p limit old new quiet untaken s) (quiet × untaken) s → Unkept before after → Came (Exec text limit) bytes old new before after quiet untaken s
+      → OverImage image (λ p. Ends p limit before after same s) (same.output × same.input) s → Unkept before.store after.store → Came (Exec text limit) (bytes ∷ []) before after same s
   exec_came text bytes image limit parts built i (proper q j ends) f =
-      causes.ran parts limit (refl, built) (subst (λ (p : Parts). Ends p limit old new quiet untaken s) (same_image image q parts j i) ends) f
+      run_ended (Exec text limit) bytes limit parts (parts, built, refl) (subst (λ (p : Parts). Ends p limit before after same s) (same_image image q parts j i) ends) f
   exec_came text bytes image limit parts built i (bad k first e idle) f = absurd (never_bad image parts.entry parts.code parts.initial i k first)
 
   pub run_came : (name bytes : List ℕ) (limit : ℕ) → length bytes ≤ longest_image
-      → OverImage bytes (λ p. Ends p limit old new quiet untaken s) (quiet × untaken) s → Unkept before after → Came (Run name limit) bytes old new before after quiet untaken s
-  run_came name bytes limit le (proper q j ends) f = causes.ran q limit (refl, j) ends f
-  run_came name bytes limit le (bad k first e idle) f = causes.bad_image k (inr (le, first)) e (record { unkept = f; put = idle.0; took = idle.1 })
+      → OverImage bytes (λ p. Ends p limit before after same s) (same.output × same.input) s → Unkept before.store after.store → Came (Run name limit) (bytes ∷ []) before after same s
+  run_came name bytes limit le (proper q j ends) f = run_ended (Run name limit) bytes limit q (q, j, refl) ends f
+  run_came name bytes limit le (bad k first e idle) f = causes.made (outcome.IsBad k) (inr (le, first)) (e, record { unkept = f; put = idle.0; took = idle.1 })
 
-  pub list_came : (name bytes : List ℕ) → length bytes ≤ longest_image → untaken
-      → OverImage bytes (λ p. Listed (listing p.entry p.code p.initial) old.sink.written new.sink.written old.sink.faults new.sink.faults s) quiet s → Unkept before after
-      → Came (Show name) bytes old new before after quiet untaken s
-  list_came name bytes le took (proper q j l) f = causes.listed (listing q.entry q.code q.initial) (q, j, refl) l f took
-  list_came name bytes le took (bad k first e idle) f = causes.bad_image k (inr (le, first)) e (record { unkept = f; put = idle; took = took })
+  pub list_came : (name bytes : List ℕ) → length bytes ≤ longest_image → same.input
+      → OverImage bytes (λ p. Listed (listing p.entry p.code p.initial) before.output.written after.output.written before.output.faults after.output.faults s) same.output s
+      → Unkept before.store after.store → Came (Show name) (bytes ∷ []) before after same s
+  list_came name bytes le took (proper q j l) f = causes.made (outcome.Puts (listing q.entry q.code q.initial)) (q, j, refl) (l, f, took)
+  list_came name bytes le took (bad k first e idle) f = causes.made (outcome.IsBad k) (inr (le, first)) (e, record { unkept = f; put = idle; took = took })
 
 -- ---- what is kept
 

@@ -10,7 +10,8 @@ use Rattle.ckc_machine.specs.declared.machine.Machine.{Machine}
 use Rattle.ckc_outside.specs.Given.{taken, Printed, Took, OverAny}
 use Rattle.ckc_machine.specs.Points.{since}
 use Rattle.ckc_machine.specs.Runs.{Says, IsAt, AsksNothing, Arrives, Runs, answer_of}
-use Rattle.ckc_cli_commands.specs.Running.{Seen, Shown, ShownOver, Ran, fed}
+use Rattle.ckc_cli_commands.specs.World.{World, fed}
+use Rattle.ckc_cli_commands.specs.Running.{Shown, ShownOver, Ran}
 
 -- from the start on, all of the trace is since
 from_start : (parts : Parts) (given : List ℕ) (limit : ℕ) → since parts given 0 limit ≡ (machine parts given limit).trace
@@ -32,18 +33,18 @@ first_going parts given m left at = going_says (answer_of m) at.answer
 zero_more : (limit : ℕ) → 0 + limit ≡ limit
 zero_more limit = omega arith
 
-module _ (parts : Parts) (given : List ℕ) (limit : ℕ) (m : Machine) (old new : Seen) where
-  arrived : (o : Observed) → answer_of m ≡ o → Arrives parts given 0 limit m old.source.left new.source.left old.sink.written new.sink.written → Shown parts given limit old new o
+module _ (parts : Parts) (given : List ℕ) (limit : ℕ) (m : Machine) (old new : World) where
+  arrived : (o : Observed) → answer_of m ≡ o → Arrives parts given 0 limit m old.input.left new.input.left old.output.written new.output.written → Shown parts given limit old new o
   arrived o answer a =
-      let at : IsAt parts given limit m new.source.left = subst (λ k. IsAt parts given k m new.source.left) (zero_more limit) a.at in
+      let at : IsAt parts given limit m new.input.left = subst (λ k. IsAt parts given k m new.input.left) (zero_more limit) a.at in
       record {
         stands = subst (λ (x : Observed). Says x (machine parts given limit).standing) answer at.answer;
-        put = subst (λ t. Printed old.sink.written new.sink.written (output t)) (ap (since parts given 0) (zero_more limit) ∙ from_start parts given limit) a.put;
-        took = subst (λ t. Took old.source.left new.source.left (taken t)) (ap (since parts given 0) (zero_more limit) ∙ from_start parts given limit) a.took;
+        put = subst (λ t. Printed old.output.written new.output.written (output t)) (ap (since parts given 0) (zero_more limit) ∙ from_start parts given limit) a.put;
+        took = subst (λ t. Took old.input.left new.input.left (taken t)) (ap (since parts given 0) (zero_more limit) ∙ from_start parts given limit) a.took;
       }
 
   pub shown_over : (o : Observed) → answer_of m ≡ o
-      → Runs parts given 0 limit m old.source.left new.source.left old.sink.written new.sink.written old.source.faults new.source.faults old.sink.faults new.sink.faults o → ShownOver parts given limit old new o
+      → Runs parts given 0 limit m old.input.left new.input.left old.output.written new.output.written old.input.faults new.input.faults old.output.faults new.output.faults o → ShownOver parts given limit old new o
   shown_over (observed.Ended value) answer r = arrived (observed.Ended value) answer r
   shown_over (observed.Stopped check at) answer r = arrived (observed.Stopped check at) answer r
   shown_over observed.Going answer r = arrived observed.Going answer r
@@ -51,16 +52,16 @@ module _ (parts : Parts) (given : List ℕ) (limit : ℕ) (m : Machine) (old new
   shown_over observed.ReadFault answer r = r
   shown_over observed.WriteFault answer r = r
 
-module _ (parts : Parts) (limit : ℕ) (first last : Machine) (untaken : Type 0) (old new : Seen) (o : Observed) where
+module _ (parts : Parts) (limit : ℕ) (first last : Machine) (untaken : Type 0) (old new : World) (o : Observed) where
   pub ran_of : ((given : List ℕ) → IsAt parts given 0 first (Some given)) → answer_of last ≡ o
-      → ((parts : Parts) (given : List ℕ) (k : ℕ) → IsAt parts given k first old.source.left
-      → Runs parts given k limit last old.source.left new.source.left old.sink.written new.sink.written old.source.faults new.source.faults old.sink.faults new.sink.faults o)
+      → ((parts : Parts) (given : List ℕ) (k : ℕ) → IsAt parts given k first old.input.left
+      → Runs parts given k limit last old.input.left new.input.left old.output.written new.output.written old.input.faults new.input.faults old.output.faults new.output.faults o)
       → ((parts : Parts) (given : List ℕ) (k : ℕ) (left : Option (List ℕ)) → IsAt parts given k first left → AsksNothing parts given k limit
-      → untaken × Runs parts given k limit last left left old.sink.written new.sink.written old.source.faults new.source.faults old.sink.faults new.sink.faults o)
-      → OverAny old.source new.source (λ left left'. (parts : Parts) (given : List ℕ) (k : ℕ) → IsAt parts given k first (Some left)
-      → Runs parts given k limit last (Some left) (Some left') old.sink.written new.sink.written old.source.faults new.source.faults old.sink.faults new.sink.faults o)
-      → (answer_of first ≡ observed.Going → o ≡ observed.ReadFault → Rose old.source.faults new.source.faults)
-      → (answer_of first ≡ observed.Going → o ≡ observed.WriteFault → Rose old.sink.faults new.sink.faults)
+      → untaken × Runs parts given k limit last left left old.output.written new.output.written old.input.faults new.input.faults old.output.faults new.output.faults o)
+      → OverAny old.input new.input (λ left left'. (parts : Parts) (given : List ℕ) (k : ℕ) → IsAt parts given k first (Some left)
+      → Runs parts given k limit last (Some left) (Some left') old.output.written new.output.written old.input.faults new.input.faults old.output.faults new.output.faults o)
+      → (answer_of first ≡ observed.Going → o ≡ observed.ReadFault → Rose old.input.faults new.input.faults)
+      → (answer_of first ≡ observed.Going → o ≡ observed.WriteFault → Rose old.output.faults new.output.faults)
       → Ran parts limit old new untaken o
   ran_of at answer exact silent any read write = record {
     shown = λ given e. shown_over parts given limit last old new o answer (exact parts given 0 (subst (λ l. IsAt parts given 0 first l) (sym e) (at given)));

@@ -3,7 +3,8 @@ use Rattle.std.proofs.Common.{◌≡◌, ◌≢◌, ℕ, List, ◌∷◌, Option
 use Rattle.ckc_cli_commands.specs.declared.words.Command as commands
 use Rattle.ckc_cli_commands.specs.declared.words.Keyword.{Keyword}
 use Rattle.ckc_cli_commands.specs.declared.words.Keyword.TheVariants as keywords
-use Rattle.ckc_cli_commands.specs.Words.{Command, Build, Assemble, Exec, Interp, Run, Show, keyword, NameAndLimit, Arguments, Reads}
+use Rattle.ckc_cli_commands.specs.Words.{Command, Build, Assemble, Exec, Interp, Run, Show, NameAndLimit}
+use Rattle.ckc_cli_commands.specs.Commands.{row_of, Reads}
 use Rattle.ckc_cli_commands.specs.Commanded.{command_is}
 use Rattle.ckc_cli_commands.specs.code.Commanded.{spelling, HasArguments}
 
@@ -32,7 +33,7 @@ no_run more none (Run image limit) h = none image limit h.1
 no_run more none (Show image) h = omega (arith, ap (λ (l : List ℕ). get_or l 0 0) h.0)
 
 -- the first word of a command is spelled so
-spelled : (command : Command) → (k : Keyword) × (keyword command ≡ spelling k)
+spelled : (command : Command) → (k : Keyword) × ((row_of command).keyword ≡ spelling k)
 spelled (Build text image) = (keywords.Build, refl)
 spelled (Assemble text image) = (keywords.Assemble, refl)
 spelled (Exec text limit) = (keywords.Exec, refl)
@@ -49,12 +50,12 @@ tail_is a b cs ds e = cc
 pub none_word : (words : List (List ℕ)) (name : List ℕ) (more : List (List ℕ)) → words ≡ name ∷ more → ((k : Keyword) → name ≢ spelling k) → (command : Command) → Reads words command → ⊥
 none_word words name more e none command r =
     let k = spelled command in
-    none k.0 (head_is name (keyword command) more r.0 (sym e ∙ r.1) ∙ k.1)
+    none k.0 (head_is name (row_of command).keyword more r.0 (sym e ∙ r.1) ∙ k.1)
 
 pub with_word : (words : List (List ℕ)) (name : List ℕ) (more : List (List ℕ)) (k : Keyword) (o : Option commands.Command) → words ≡ name ∷ more → name ≡ spelling k
     → MatchOption o ((command : Command) → ¬ HasArguments k more command) (λ c. HasArguments k more (command_is c))
     → MatchOption o ((command : Command) → ¬ Reads words command) (λ c. Reads words (command_is c))
 with_word words name more k None e s m = λ command r.
     let same = sym e ∙ r.1 in
-    m command (sym (head_is name (keyword command) more r.0 same) ∙ s, subst (λ (l : List (List ℕ)). Arguments l command) (sym (tail_is name (keyword command) more r.0 same)) r.2)
+    m command (sym (head_is name (row_of command).keyword more r.0 same) ∙ s, subst (λ (l : List (List ℕ)). (row_of command).Arguments l) (sym (tail_is name (row_of command).keyword more r.0 same)) r.2)
 with_word words name more k (Some c) e s m = (more, e ∙ ap (λ (n : List ℕ). n ∷ more) (s ∙ sym m.0), m.1)

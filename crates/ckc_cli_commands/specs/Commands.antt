@@ -1,15 +1,15 @@
--- What the commands fetch, and what they make of it. Each family has a row for a command that it says something of.
-use Rattle.std.specs.Prelude.{◌≡◌, ◌⊎◌, ℕ, ◌<◌, ◌≤◌, List, length, Option, None, Some}
+-- The commands, a row for each: the words, what is fetched, and what is made of it.
+use Rattle.std.specs.Prelude.{◌≡◌, ◌⊎◌, ℕ, ◌<◌, ◌≤◌, List, [], ◌∷◌, length, codes}
 use Rattle.ckc_base.specs.declared.places.Refusal.{Refusal}
 use Rattle.ckc_base.specs.Places.{longest_text}
 use Rattle.ckc_rv.specs.Machine.{Parts}
 use Rattle.ckc_image.specs.Image.{FirstBad}
 use Rattle.ckc_asm_listing.specs.Listing.{listing}
 use Rattle.ckc_asm.specs.Phase.{assembling}
-use Rattle.ckc_cli_commands.specs.Words.{Command, Build, Assemble, Exec, Interp, Run, Show, Reads}
 use Rattle.ckc_build.specs.Built.{Built, IsImage}
 use Rattle.ckc_build.specs.Meanings.{HasMeaning, FirstFault}
-use Rattle.ckc_source.specs.Code.{Program}
+use Rattle.ckc_cli_commands.specs.Words.{Command, Build, Assemble, Exec, Interp, Run, Show, NameAndLimit}
+use Rattle.ckc_cli_commands.specs.Outcomes.{Outcome, Refuses, IsBad, Keeps, Puts, Executes, Interprets}
 
 -- ---- what is fetched
 
@@ -17,82 +17,100 @@ use Rattle.ckc_source.specs.Code.{Program}
 abbrev pub longest_image : ℕ
 longest_image = 33550356
 
--- a name, and how many bytes under it are taken at most
+-- A name, and how many bytes under it are read at most: of a longer file only that it is longer is told to the command.
 pub record Fetch : Type 0 where
   pub name : List ℕ
   pub most : ℕ
 
+-- the file of a text
 abbrev pub a_text : List ℕ → Fetch
 a_text name = record { name = name; most = longest_text }
 
+-- the file of an image
 abbrev pub an_image : List ℕ → Fetch
 an_image name = record { name = name; most = longest_image }
 
--- what a command fetches
-abbrev pub fetch_of : Command → Fetch
-fetch_of (Build text image) = a_text text
-fetch_of (Assemble text image) = a_text text
-fetch_of (Exec text limit) = a_text text
-fetch_of (Interp text limit) = a_text text
-fetch_of (Run image limit) = an_image image
-fetch_of (Show image) = an_image image
-
--- the name whose bytes are fetched
-abbrev pub name_of : Command → List ℕ
-name_of command = (fetch_of command).name
-
 -- ---- what is made of it
 
--- the name under which an image is kept, where the command keeps one
-abbrev pub kept_name : Command → Option (List ℕ)
-kept_name (Build text image) = Some image
-kept_name (Assemble text image) = Some image
-kept_name _ = None
+-- A text is refused, or an outcome comes of what is made of it.
+abbrev pub OfText : {B : Type 0} → (List ℕ → Refusal → Type 0) → (List ℕ → B → Type 0) → (B → Outcome) → List ℕ → Outcome → Type 0
+OfText IsRefused IsMade outcome text (Refuses fault) = IsRefused text fault
+OfText {B} IsRefused IsMade outcome text o = (made : B) × IsMade text made × (o ≡ outcome made)
 
--- the words are those of a command that keeps an image under the name
-abbrev pub AsksToKeep : List (List ℕ) → List ℕ → Type 0
-AsksToKeep words name = (command : Command) × Reads words command × (kept_name command ≡ Some name)
+-- an image of the parts that are made of a text
+abbrev pub AsImage : (List ℕ → Parts → Type 0) → List ℕ → List ℕ → Type 0
+AsImage IsMade text image = (parts : Parts) × IsMade text parts × IsImage image parts
 
 -- k is the first part that disagrees, and 3 where there are too many bytes
 abbrev pub BadBytes : List ℕ → ℕ → Type 0
 BadBytes bytes k = ((longest_image < length bytes) × (k ≡ 3)) ⊎ ((length bytes ≤ longest_image) × FirstBad bytes k)
 
--- the text is refused
-abbrev pub Refuses : Command → List ℕ → Refusal → Type 0
-Refuses (Build text image) bytes fault = FirstFault bytes fault
-Refuses (Assemble text image) bytes fault = assembling.Refuses bytes fault
-Refuses (Exec text limit) bytes fault = FirstFault bytes fault
-Refuses (Interp text limit) bytes fault = FirstFault bytes fault
-Refuses _ bytes fault = ⊥
+-- Bytes are no image, or an outcome comes of the parts of the image.
+abbrev pub OfImage : (Parts → Outcome) → List ℕ → Outcome → Type 0
+OfImage outcome bytes (IsBad part) = BadBytes bytes part
+OfImage outcome bytes o = (parts : Parts) × IsImage bytes parts × (o ≡ outcome parts)
 
--- the bytes are no image
-abbrev pub IsBad : Command → List ℕ → ℕ → Type 0
-IsBad (Run image limit) bytes k = BadBytes bytes k
-IsBad (Show image) bytes k = BadBytes bytes k
-IsBad _ bytes k = ⊥
+-- an outcome comes of the one list of bytes that was fetched
+abbrev pub OfOne : (List ℕ → Outcome → Type 0) → List (List ℕ) → Outcome → Type 0
+OfOne Comes (bytes ∷ []) o = Comes bytes o
+OfOne Comes fetched o = ⊥
 
--- the parts are those that the command makes of the text, to keep them
-abbrev pub Makes : Command → List ℕ → Parts → Type 0
-Makes (Build text image) bytes parts = Built bytes parts
-Makes (Assemble text image) bytes parts = assembling.Makes bytes parts
-Makes _ bytes parts = ⊥
+-- ---- the commands
 
--- an image of these parts is kept under a name
-abbrev pub Keeps : Command → List ℕ → List ℕ → List ℕ → Type 0
-Keeps command bytes name kept = (kept_name command ≡ Some name) × ((parts : Parts) × Makes command bytes parts × IsImage kept parts)
+-- A command: its first word, the other words, what it fetches, in this order, and the outcome that comes of the bytes.
+pub record Row : Type 1 where
+  pub keyword : List ℕ
+  pub Arguments : List (List ℕ) → Type 0
+  pub fetches : List Fetch
+  pub Makes : List (List ℕ) → Outcome → Type 0
 
--- a listing is put
-abbrev pub Lists : Command → List ℕ → List ℕ → Type 0
-Lists (Show image) bytes text = (parts : Parts) × IsImage bytes parts × (text ≡ listing parts.entry parts.code parts.initial)
-Lists _ bytes text = ⊥
+-- the row of each command
+abbrev pub row_of : Command → Row
+row_of (Build text image) = record {
+  keyword = codes "build";
+  Arguments = λ words. words ≡ text ∷ image ∷ [];
+  fetches = a_text text ∷ [];
+  Makes = OfOne (OfText FirstFault (AsImage Built) (Keeps image));
+}
+row_of (Assemble text image) = record {
+  keyword = codes "asm";
+  Arguments = λ words. words ≡ text ∷ image ∷ [];
+  fetches = a_text text ∷ [];
+  Makes = OfOne (OfText assembling.Refuses (AsImage assembling.Makes) (Keeps image));
+}
+row_of (Exec text limit) = record {
+  keyword = codes "exec";
+  Arguments = λ words. NameAndLimit words text limit;
+  fetches = a_text text ∷ [];
+  Makes = OfOne (OfText FirstFault Built (λ parts. Executes parts limit));
+}
+row_of (Interp text limit) = record {
+  keyword = codes "interp";
+  Arguments = λ words. NameAndLimit words text limit;
+  fetches = a_text text ∷ [];
+  Makes = OfOne (OfText FirstFault HasMeaning (λ p. Interprets p limit));
+}
+row_of (Run image limit) = record {
+  keyword = codes "run";
+  Arguments = λ words. NameAndLimit words image limit;
+  fetches = an_image image ∷ [];
+  Makes = OfOne (OfImage (λ parts. Executes parts limit));
+}
+row_of (Show image) = record {
+  keyword = codes "list";
+  Arguments = λ words. words ≡ image ∷ [];
+  fetches = an_image image ∷ [];
+  Makes = OfOne (OfImage (λ parts. Puts (listing parts.entry parts.code parts.initial)));
+}
 
--- the machine of an image is run
-abbrev pub Executes : Command → List ℕ → Parts → ℕ → Type 0
-Executes (Exec text limit) bytes parts most = (most ≡ limit) × Built bytes parts
-Executes (Run image limit) bytes parts most = (most ≡ limit) × IsImage bytes parts
-Executes _ bytes parts most = ⊥
+-- The words are those of the command. They are compared byte for byte, and a name may be any word.
+abbrev pub Reads : List (List ℕ) → Command → Type 0
+Reads words command = (more : List (List ℕ)) × (words ≡ (row_of command).keyword ∷ more) × (row_of command).Arguments more
 
--- the meaning of a text is run
-abbrev pub Means : Command → List ℕ → Program → ℕ → Type 0
-Means (Interp text limit) bytes p most = (most ≡ limit) × HasMeaning bytes p
-Means _ bytes p most = ⊥
+-- what a command fetches
+abbrev pub fetches_of : Command → List Fetch
+fetches_of command = (row_of command).fetches
+
+-- the outcomes that come of a command over the bytes that it fetched
+abbrev pub Makes : Command → List (List ℕ) → Outcome → Type 0
+Makes command = (row_of command).Makes

@@ -1,5 +1,7 @@
 pub mod Report
+pub mod World
 pub mod Words
+pub mod Outcomes
 pub mod Commanded
 pub mod Commands
 pub mod Running

@@ -1,5 +1,5 @@
 -- The words of the command line.
-use Rattle.std.specs.Prelude.{◌≡◌, ◌≤◌, ◌⊎◌, List, [], ◌∷◌, ℕ, codes, length, map, String}
+use Rattle.std.specs.Prelude.{◌≡◌, ◌≤◌, ◌⊎◌, List, [], ◌∷◌, ℕ, length, map, String}
 use Rattle.std.specs.Str.Parse.{IsNumeral, digits_value}
 use Rattle.std.specs.String.{string_bytes}
 use Rattle.std.specs.declared.alloc.Global.{Global}
@@ -28,28 +28,6 @@ pub record IsLimit (word : List ℕ) (limit : ℕ) : Type 0 where
 abbrev pub NameAndLimit : List (List ℕ) → List ℕ → ℕ → Type 0
 NameAndLimit words name limit =
     ((words ≡ name ∷ []) × (limit ≡ usual_limit)) ⊎ ((word : List ℕ) × (words ≡ name ∷ word ∷ []) × IsLimit word limit)
-
--- the first word of a command
-abbrev pub keyword : Command → List ℕ
-keyword (Build text image) = codes "build"
-keyword (Assemble text image) = codes "asm"
-keyword (Exec text limit) = codes "exec"
-keyword (Interp text limit) = codes "interp"
-keyword (Run image limit) = codes "run"
-keyword (Show image) = codes "list"
-
--- the other words
-abbrev pub Arguments : List (List ℕ) → Command → Type 0
-Arguments words (Build text image) = words ≡ text ∷ image ∷ []
-Arguments words (Assemble text image) = words ≡ text ∷ image ∷ []
-Arguments words (Exec text limit) = NameAndLimit words text limit
-Arguments words (Interp text limit) = NameAndLimit words text limit
-Arguments words (Run image limit) = NameAndLimit words image limit
-Arguments words (Show image) = words ≡ image ∷ []
-
--- The words are those of the command. They are compared byte for byte, and a name may be any word.
-abbrev pub Reads : List (List ℕ) → Command → Type 0
-Reads words command = (more : List (List ℕ)) × (words ≡ keyword command ∷ more) × Arguments more command
 
 -- the bytes of each word
 abbrev pub bytes_of : List (String Global) → List (List ℕ)

@@ -1,10 +1,11 @@
 //! The commands, one function for each.
-ghost use Rattle.std.specs.Prelude.{◌≡◌, ℕ, ◌≤◌, List};
+ghost use Rattle.std.specs.Prelude.{◌≡◌, ℕ, ◌≤◌, List, [], ◌∷◌};
 ghost use Rattle.ckc_base.specs.Places.{at_start, long_text};
 ghost use Rattle.ckc_cli_commands.specs.Words as w;
-ghost use Rattle.ckc_cli_commands.specs.Commands.{Keeps};
-ghost use Rattle.ckc_cli_commands.specs.Running.{Seen, seen_of, putting};
-ghost use Rattle.ckc_outside.specs.Outside.{Stored};
+ghost use Rattle.ckc_cli_commands.specs.Outcomes as outcome;
+ghost use Rattle.ckc_cli_commands.specs.Commands.{Makes};
+ghost use Rattle.ckc_cli_commands.specs.World.{world, streams, not_given, output_alone};
+ghost use Rattle.ckc_outside.specs.Outside.{SeenSource, SeenSink, Stored};
 ghost use Rattle.ckc_cli_commands.specs.Causes.{OnlyFetched, Unkept, Came, Obeyed};
 ghost use Rattle.ckc_cli_commands.specs.code.Judging.{fault_status};
 ghost use Rattle.ckc_cli_commands.specs.code.Fetching.{Fetches};
@@ -31,9 +32,10 @@ const TOO_MANY_BYTES: u8 = 3;
 
 /// `build TEXT IMAGE`
 pub fn build_text<F: Store>(alloc: Global, text: &str, image: &str, store: &mut F) -> Status
-    ensures cause { (seen : Seen) → Obeyed (w.Build text.now image.now) seen seen
-        (F.seen store.old) (F.seen store.new)
-        (Unit {0}) (Unit {0}) result }
+    ensures cause { (input : SeenSource) (output error error' : SeenSink)
+        → Obeyed (w.Build text.now image.now)
+        (world input output error (F.seen store.old))
+        (world input output error' (F.seen store.new)) not_given result }
     ensures counts { (F.seen store.old).faults ≤ (F.seen store.new).faults }
 {
     match fetch(alloc, text, TEXT_LIMIT, store) {
@@ -45,11 +47,11 @@ pub fn build_text<F: Store>(alloc: Global, text: &str, image: &str, store: &mut 
 
 /// Builds a text and keeps its image.
 fn build_bytes<F: Store>(alloc: Global, bytes: &[u8], image: &str, store: &mut F) -> Status
-    ensures cause { (text : List ℕ) (seen : Seen) (before : Stored)
-        → OnlyFetched before (F.seen store.old)
-        → Came (w.Build text image.now) bytes.now seen seen before
-        (F.seen store.new)
-        (Unit {0}) (Unit {0}) result }
+    ensures cause { (text : List ℕ) (input : SeenSource) (output error error' : SeenSink)
+        (before : Stored) → OnlyFetched before (F.seen store.old)
+        → Came (w.Build text image.now) (bytes.now ∷ [])
+        (world input output error before)
+        (world input output error' (F.seen store.new)) not_given result }
     ensures counts { (F.seen store.old).faults ≤ (F.seen store.new).faults }
 {
     match build(alloc, bytes) {
@@ -60,9 +62,10 @@ fn build_bytes<F: Store>(alloc: Global, bytes: &[u8], image: &str, store: &mut F
 
 /// `asm TEXT IMAGE`
 pub fn assemble_text<F: Store>(alloc: Global, text: &str, image: &str, store: &mut F) -> Status
-    ensures cause { (seen : Seen) → Obeyed (w.Assemble text.now image.now) seen seen
-        (F.seen store.old) (F.seen store.new)
-        (Unit {0}) (Unit {0}) result }
+    ensures cause { (input : SeenSource) (output error error' : SeenSink)
+        → Obeyed (w.Assemble text.now image.now)
+        (world input output error (F.seen store.old))
+        (world input output error' (F.seen store.new)) not_given result }
     ensures counts { (F.seen store.old).faults ≤ (F.seen store.new).faults }
 {
     match fetch(alloc, text, TEXT_LIMIT, store) {
@@ -74,11 +77,11 @@ pub fn assemble_text<F: Store>(alloc: Global, text: &str, image: &str, store: &m
 
 /// Assembles a text and keeps its image.
 fn assemble_bytes<F: Store>(alloc: Global, bytes: &[u8], image: &str, store: &mut F) -> Status
-    ensures cause { (text : List ℕ) (seen : Seen) (before : Stored)
-        → OnlyFetched before (F.seen store.old)
-        → Came (w.Assemble text image.now) bytes.now seen seen before
-        (F.seen store.new)
-        (Unit {0}) (Unit {0}) result }
+    ensures cause { (text : List ℕ) (input : SeenSource) (output error error' : SeenSink)
+        (before : Stored) → OnlyFetched before (F.seen store.old)
+        → Came (w.Assemble text image.now) (bytes.now ∷ [])
+        (world input output error before)
+        (world input output error' (F.seen store.new)) not_given result }
     ensures counts { (F.seen store.old).faults ≤ (F.seen store.new).faults }
 {
     match assemble(alloc, bytes) {
@@ -89,10 +92,13 @@ fn assemble_bytes<F: Store>(alloc: Global, bytes: &[u8], image: &str, store: &mu
 
 /// Keeps an image under its name, last of all.
 fn keep_image<F: Store>(name: &str, image: &[u8], store: &mut F) -> Status
-    ensures cause { (command : w.Command) (bytes : List ℕ) (seen : Seen) (before : Stored)
-        → Keeps command bytes name.now image.now → OnlyFetched before (F.seen store.old)
-        → Came command bytes seen seen before (F.seen store.new)
-        (Unit {0}) (Unit {0}) result }
+    ensures cause { (command : w.Command) (fetched : List (List ℕ)) (input : SeenSource)
+        (output error error' : SeenSink) (before : Stored)
+        → Makes command fetched (outcome.Keeps name.now image.now)
+        → OnlyFetched before (F.seen store.old)
+        → Came command fetched
+        (world input output error before)
+        (world input output error' (F.seen store.new)) not_given result }
     ensures counts { (F.seen store.old).faults ≤ (F.seen store.new).faults }
 {
     match keep_file(name, image, store) {
@@ -111,11 +117,10 @@ pub fn exec_text<S: Source, O: Sink, F: Store>(
     out: &mut O,
     store: &mut F,
 ) -> Status
-    ensures cause { Obeyed (w.Exec text.now limit)
-        (seen_of (S.seen input.old) (O.seen out.old))
-        (seen_of (S.seen input.new) (O.seen out.new))
-        (F.seen store.old) (F.seen store.new)
-        (out.new ≡ out.old) (input.new ≡ input.old) result }
+    ensures cause { (error error' : SeenSink) → Obeyed (w.Exec text.now limit)
+        (world (S.seen input.old) (O.seen out.old) error (F.seen store.old))
+        (world (S.seen input.new) (O.seen out.new) error' (F.seen store.new))
+        (streams input.old input.new out.old out.new) result }
     ensures input_counts { (S.seen input.old).faults ≤ (S.seen input.new).faults }
     ensures out_counts { (O.seen out.old).faults ≤ (O.seen out.new).faults }
     ensures store_counts { (F.seen store.old).faults ≤ (F.seen store.new).faults }
@@ -135,11 +140,11 @@ fn exec_bytes<S: Source, O: Sink>(
     input: &mut S,
     out: &mut O,
 ) -> Status
-    ensures cause { (text : List ℕ) (before after : Stored) → Unkept before after
-        → Came (w.Exec text limit) bytes.now
-        (seen_of (S.seen input.old) (O.seen out.old))
-        (seen_of (S.seen input.new) (O.seen out.new))
-        before after (out.new ≡ out.old) (input.new ≡ input.old) result }
+    ensures cause { (text : List ℕ) (error error' : SeenSink) (before after : Stored)
+        → Unkept before after → Came (w.Exec text limit) (bytes.now ∷ [])
+        (world (S.seen input.old) (O.seen out.old) error before)
+        (world (S.seen input.new) (O.seen out.new) error' after)
+        (streams input.old input.new out.old out.new) result }
     ensures input_counts { (S.seen input.old).faults ≤ (S.seen input.new).faults }
     ensures out_counts { (O.seen out.old).faults ≤ (O.seen out.new).faults }
 {
@@ -158,11 +163,10 @@ pub fn interp_text<S: Source, O: Sink, F: Store>(
     out: &mut O,
     store: &mut F,
 ) -> Status
-    ensures cause { Obeyed (w.Interp text.now limit)
-        (seen_of (S.seen input.old) (O.seen out.old))
-        (seen_of (S.seen input.new) (O.seen out.new))
-        (F.seen store.old) (F.seen store.new)
-        (out.new ≡ out.old) (input.new ≡ input.old) result }
+    ensures cause { (error error' : SeenSink) → Obeyed (w.Interp text.now limit)
+        (world (S.seen input.old) (O.seen out.old) error (F.seen store.old))
+        (world (S.seen input.new) (O.seen out.new) error' (F.seen store.new))
+        (streams input.old input.new out.old out.new) result }
     ensures input_counts { (S.seen input.old).faults ≤ (S.seen input.new).faults }
     ensures out_counts { (O.seen out.old).faults ≤ (O.seen out.new).faults }
     ensures store_counts { (F.seen store.old).faults ≤ (F.seen store.new).faults }
@@ -182,11 +186,11 @@ fn interp_bytes<S: Source, O: Sink>(
     input: &mut S,
     out: &mut O,
 ) -> Status
-    ensures cause { (text : List ℕ) (before after : Stored) → Unkept before after
-        → Came (w.Interp text limit) bytes.now
-        (seen_of (S.seen input.old) (O.seen out.old))
-        (seen_of (S.seen input.new) (O.seen out.new))
-        before after (out.new ≡ out.old) (input.new ≡ input.old) result }
+    ensures cause { (text : List ℕ) (error error' : SeenSink) (before after : Stored)
+        → Unkept before after → Came (w.Interp text limit) (bytes.now ∷ [])
+        (world (S.seen input.old) (O.seen out.old) error before)
+        (world (S.seen input.new) (O.seen out.new) error' after)
+        (streams input.old input.new out.old out.new) result }
     ensures input_counts { (S.seen input.old).faults ≤ (S.seen input.new).faults }
     ensures out_counts { (O.seen out.old).faults ≤ (O.seen out.new).faults }
 {
@@ -210,11 +214,10 @@ pub fn run_image<S: Source, O: Sink, F: Store>(
     out: &mut O,
     store: &mut F,
 ) -> Status
-    ensures cause { Obeyed (w.Run image.now limit)
-        (seen_of (S.seen input.old) (O.seen out.old))
-        (seen_of (S.seen input.new) (O.seen out.new))
-        (F.seen store.old) (F.seen store.new)
-        (out.new ≡ out.old) (input.new ≡ input.old) result }
+    ensures cause { (error error' : SeenSink) → Obeyed (w.Run image.now limit)
+        (world (S.seen input.old) (O.seen out.old) error (F.seen store.old))
+        (world (S.seen input.new) (O.seen out.new) error' (F.seen store.new))
+        (streams input.old input.new out.old out.new) result }
     ensures input_counts { (S.seen input.old).faults ≤ (S.seen input.new).faults }
     ensures out_counts { (O.seen out.old).faults ≤ (O.seen out.new).faults }
     ensures store_counts { (F.seen store.old).faults ≤ (F.seen store.new).faults }
@@ -233,11 +236,10 @@ pub fn list_image<O: Sink, F: Store>(
     out: &mut O,
     store: &mut F,
 ) -> Status
-    ensures cause { (seen : Seen) → Obeyed (w.Show image.now)
-        (putting seen (O.seen out.old))
-        (putting seen (O.seen out.new))
-        (F.seen store.old) (F.seen store.new)
-        (out.new ≡ out.old) (Unit {0}) result }
+    ensures cause { (input : SeenSource) (error error' : SeenSink) → Obeyed (w.Show image.now)
+        (world input (O.seen out.old) error (F.seen store.old))
+        (world input (O.seen out.new) error' (F.seen store.new))
+        (output_alone out.old out.new) result }
     ensures out_counts { (O.seen out.old).faults ≤ (O.seen out.new).faults }
     ensures store_counts { (F.seen store.old).faults ≤ (F.seen store.new).faults }
 {

@@ -3,8 +3,10 @@ ghost use Rattle.std.specs.Prelude.{◌≡◌, ◌≤◌};
 ghost use Rattle.ckc_rv.specs.Machine.{Parts};
 ghost use Rattle.ckc_asm_listing.specs.Listing.{listing};
 ghost use Rattle.ckc_cli_commands.specs.Interpreting.{meant_status};
-ghost use Rattle.ckc_cli_commands.specs.Running.{Ends, Listed, seen_of, status_of};
-ghost use Rattle.ckc_cli_commands.specs.code.Running.{OverImage};
+ghost use Rattle.ckc_outside.specs.Outside.{SeenSink, Stored};
+ghost use Rattle.ckc_cli_commands.specs.World.{world, streams};
+ghost use Rattle.ckc_cli_commands.specs.Running.{Listed, status_of};
+ghost use Rattle.ckc_cli_commands.specs.code.Running.{Ends, OverImage};
 
 use crate::status::Status;
 use ckc_asm_listing::list;
@@ -22,10 +24,11 @@ pub fn run_bytes<S: Source, O: Sink>(
     input: &mut S,
     out: &mut O,
 ) -> Status
-    ensures over { OverImage image.now (λ parts. Ends parts limit
-        (seen_of (S.seen input.old) (O.seen out.old))
-        (seen_of (S.seen input.new) (O.seen out.new))
-        (out.new ≡ out.old) (input.new ≡ input.old) result)
+    ensures over { (error error' : SeenSink) (before after : Stored)
+        → OverImage image.now (λ parts. Ends parts limit
+        (world (S.seen input.old) (O.seen out.old) error before)
+        (world (S.seen input.new) (O.seen out.new) error' after)
+        (streams input.old input.new out.old out.new) result)
         ((out.new ≡ out.old) × (input.new ≡ input.old)) result }
     ensures input_counts { (S.seen input.old).faults ≤ (S.seen input.new).faults }
     ensures out_counts { (O.seen out.old).faults ≤ (O.seen out.new).faults }
@@ -46,10 +49,10 @@ fn run_view<'a, S: Source, O: Sink>(
 ) -> Status
     ensures ran { (parts : Parts) → parts.entry ≡ view.entry.entry
         → parts.code ≡ view.entry.code.now → parts.initial ≡ view.entry.initial.now
-        → Ends parts limit
-        (seen_of (S.seen input.old) (O.seen out.old))
-        (seen_of (S.seen input.new) (O.seen out.new))
-        (out.new ≡ out.old) (input.new ≡ input.old) result }
+        → (error error' : SeenSink) (before after : Stored) → Ends parts limit
+        (world (S.seen input.old) (O.seen out.old) error before)
+        (world (S.seen input.new) (O.seen out.new) error' after)
+        (streams input.old input.new out.old out.new) result }
     ensures input_counts { (S.seen input.old).faults ≤ (S.seen input.new).faults }
     ensures out_counts { (O.seen out.old).faults ≤ (O.seen out.new).faults }
 {

@@ -1,7 +1,8 @@
 //! The words of the command line.
 ghost use Rattle.std.specs.Prelude.{◌≡◌, ◌≢◌, ℕ, List, MatchOption};
 ghost use Rattle.ckc_cli_commands.specs.Words as w;
-ghost use Rattle.ckc_cli_commands.specs.Words.{Reads, IsLimit, NameAndLimit, bytes_of};
+ghost use Rattle.ckc_cli_commands.specs.Words.{IsLimit, NameAndLimit, bytes_of};
+ghost use Rattle.ckc_cli_commands.specs.Commands.{Reads};
 ghost use Rattle.ckc_cli_commands.specs.Commanded.{command_is};
 ghost use Rattle.ckc_cli_commands.specs.code.Commanded.{spelling, HasArguments, IsTwo, IsOne};
 

@@ -1,47 +1,47 @@
 -- What comes of a command, with less told of the objects, and for the command of the definition.
 use Rattle.std.proofs.Common.{◌≡◌, ℕ, List, sym, ap, subst, ◌∙◌}
+use Rattle.ckc_machine.specs.declared.observed.Observed.{Observed}
 use Rattle.ckc_rv.specs.Machine.{Parts}
-use Rattle.ckc_outside.specs.Outside.{Stored}
 use Rattle.ckc_cli_commands.specs.declared.status.Status.{Status}
 use Rattle.ckc_cli_commands.specs.declared.words.Command as commands
 use Rattle.ckc_cli_commands.specs.Commanded.{command_is}
+use Rattle.ckc_cli_commands.specs.World.{World, Untouched}
 use Rattle.ckc_cli_commands.specs.Words.{Command}
-use Rattle.ckc_cli_commands.specs.Running.{Seen, Ends, shows}
-use Rattle.ckc_cli_commands.specs.Running as running
-use Rattle.ckc_cli_commands.specs.Causes as causes
-use Rattle.ckc_cli_commands.specs.Causes.{Idle, Came, Obeyed}
+use Rattle.ckc_cli_commands.specs.Outcomes.{Outcome, Refuses, IsBad, Keeps, Puts, Executes, Interprets}
+use Rattle.ckc_cli_commands.specs.Running.{Ran}
+use Rattle.ckc_cli_commands.specs.Causes.{Idle, Comes, Came, made, no_memory, Obeyed, not_fetched, fetched}
 
-module _ (old new : Seen) (before after : Stored) (quiet untaken quiet' untaken' : Type 0) (s : Status) (q : quiet → quiet') (u : untaken → untaken') where
-  idle_as : Idle before after quiet untaken → Idle before after quiet' untaken'
-  idle_as i = record { unkept = i.unkept; put = q i.put; took = u i.took }
+module _ (before after : World) (given wanted : Untouched) (s : Status) (put : given.output → wanted.output) (took : given.input → wanted.input) where
+  idle_as : Idle before after given → Idle before after wanted
+  idle_as i = record { unkept = i.unkept; put = put i.put; took = took i.took }
 
-  ends_as : (parts : Parts) (limit : ℕ) → Ends parts limit old new quiet untaken s → Ends parts limit old new quiet' untaken' s
-  ends_as parts limit (shows o e r) = shows o e (record {
+  ran_as : (parts : Parts) (limit : ℕ) (o : Observed) → Ran parts limit before after given.input o → Ran parts limit before after wanted.input o
+  ran_as parts limit o r = record {
     shown = r.shown;
     any = r.any;
-    silent = λ given nothing. let p = r.silent given nothing in (u p.0, p.1);
+    silent = λ bytes nothing. let p = r.silent bytes nothing in (took p.0, p.1);
     read_fault = r.read_fault;
     write_fault = r.write_fault;
-  })
-  ends_as parts limit (running.no_memory e a b) = running.no_memory e (q a) (u b)
+  }
 
-  came_with : (command : Command) (bytes : List ℕ) → Came command bytes old new before after quiet untaken s → Came command bytes old new before after quiet' untaken' s
-  came_with command bytes (causes.refused fault h e i) = causes.refused fault h e (idle_as i)
-  came_with command bytes (causes.bad_image k h e i) = causes.bad_image k h e (idle_as i)
-  came_with command bytes (causes.kept name image h e k a b) = causes.kept name image h e k (q a) (u b)
-  came_with command bytes (causes.not_kept name image h e k r t a b) = causes.not_kept name image h e k r t (q a) (u b)
-  came_with command bytes (causes.not_kept_for_memory name image h e k a b) = causes.not_kept_for_memory name image h e k (q a) (u b)
-  came_with command bytes (causes.listed text h l f b) = causes.listed text h l f (u b)
-  came_with command bytes (causes.ran parts limit h ends f) = causes.ran parts limit h (ends_as parts limit ends) f
-  came_with command bytes (causes.meant p limit h run f) = causes.meant p limit h run f
-  came_with command bytes (causes.no_memory e i) = causes.no_memory e (idle_as i)
+  comes_as : (o : Outcome) → Comes o before after given s → Comes o before after wanted s
+  comes_as (Refuses fault) c = (c.0, idle_as c.1)
+  comes_as (IsBad part) c = (c.0, idle_as c.1)
+  comes_as (Keeps name bytes) c = (c.0, put c.1, took c.2)
+  comes_as (Puts text) c = (c.0, c.1, took c.2)
+  comes_as (Executes parts limit) c = ((c.0.0, c.0.1, ran_as parts limit c.0.0 c.0.2), c.1)
+  comes_as (Interprets p limit) c = c
 
-  pub obeyed_with : (command : Command) → Obeyed command old new before after quiet untaken s → Obeyed command old new before after quiet' untaken' s
-  obeyed_with command (causes.not_fetched n i) = causes.not_fetched n (idle_as i)
-  obeyed_with command (causes.fetched bytes h c) = causes.fetched bytes h (came_with command bytes c)
+  came_as : (command : Command) (bytes : List (List ℕ)) → Came command bytes before after given s → Came command bytes before after wanted s
+  came_as command bytes (made o h c) = made o h (comes_as o c)
+  came_as command bytes (no_memory e i) = no_memory e (idle_as i)
+
+  pub obeyed_with : (command : Command) → Obeyed command before after given s → Obeyed command before after wanted s
+  obeyed_with command (not_fetched n i) = not_fetched n (idle_as i)
+  obeyed_with command (fetched bytes h c) = fetched bytes h (came_as command bytes c)
 
 -- the command of the code is that of the definition
-pub command_as : (old new : Seen) (before after : Stored) (quiet untaken : Type 0) (s : Status) (command : Command) (given wanted : commands.Command) → given ≡ wanted → command_is wanted ≡ command
-    → Obeyed command old new before after quiet untaken s → Obeyed (command_is given) old new before after quiet untaken s
-command_as old new before after quiet untaken s command given wanted e f o =
-    subst (λ (c : Command). Obeyed c old new before after quiet untaken s) (sym (ap command_is e ∙ f)) o
+pub command_as : (before after : World) (same : Untouched) (s : Status) (command : Command) (given wanted : commands.Command) → given ≡ wanted → command_is wanted ≡ command
+    → Obeyed command before after same s → Obeyed (command_is given) before after same s
+command_as before after same s command given wanted e f o =
+    subst (λ (c : Command). Obeyed c before after same s) (sym (ap command_is e ∙ f)) o

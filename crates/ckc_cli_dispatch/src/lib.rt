@@ -1,10 +1,11 @@
 //! From the words of the command line to what the command does, and to its status.
 #![tactic(auto)]
 
-ghost use Rattle.std.specs.Prelude.{◌≡◌, ◌≤◌};
+ghost use Rattle.std.specs.Prelude.{◌≤◌};
 ghost use Rattle.ckc_cli_commands.specs.Words.{bytes_of};
 ghost use Rattle.ckc_cli_commands.specs.Commanded.{command_is};
-ghost use Rattle.ckc_cli_commands.specs.Running.{seen_of};
+ghost use Rattle.ckc_outside.specs.Outside.{SeenSink};
+ghost use Rattle.ckc_cli_commands.specs.World.{world, streams, untouched};
 ghost use Rattle.ckc_cli_commands.specs.Causes.{Caused, Obeyed};
 
 use ckc_cli_commands::{
@@ -22,11 +23,10 @@ pub fn asked<S: Source, O: Sink, F: Store>(
     out: &mut O,
     store: &mut F,
 ) -> Status
-    ensures cause { Caused (bytes_of words.now)
-        (seen_of (S.seen input.old) (O.seen out.old))
-        (seen_of (S.seen input.new) (O.seen out.new))
-        (F.seen store.old) (F.seen store.new)
-        (out.new ≡ out.old) (input.new ≡ input.old) (store.new ≡ store.old) result }
+    ensures cause { (error error' : SeenSink) → Caused (bytes_of words.now)
+        (world (S.seen input.old) (O.seen out.old) error (F.seen store.old))
+        (world (S.seen input.new) (O.seen out.new) error' (F.seen store.new))
+        (untouched input.old input.new out.old out.new store.old store.new) result }
     ensures input_counts { (S.seen input.old).faults ≤ (S.seen input.new).faults }
     ensures out_counts { (O.seen out.old).faults ≤ (O.seen out.new).faults }
     ensures store_counts { (F.seen store.old).faults ≤ (F.seen store.new).faults }
@@ -45,11 +45,10 @@ fn obey<'a, S: Source, O: Sink, F: Store>(
     out: &mut O,
     store: &mut F,
 ) -> Status
-    ensures cause { Obeyed (command_is command.entry)
-        (seen_of (S.seen input.old) (O.seen out.old))
-        (seen_of (S.seen input.new) (O.seen out.new))
-        (F.seen store.old) (F.seen store.new)
-        (out.new ≡ out.old) (input.new ≡ input.old) result }
+    ensures cause { (error error' : SeenSink) → Obeyed (command_is command.entry)
+        (world (S.seen input.old) (O.seen out.old) error (F.seen store.old))
+        (world (S.seen input.new) (O.seen out.new) error' (F.seen store.new))
+        (streams input.old input.new out.old out.new) result }
     ensures input_counts { (S.seen input.old).faults ≤ (S.seen input.new).faults }
     ensures out_counts { (O.seen out.old).faults ≤ (O.seen out.new).faults }
     ensures store_counts { (F.seen store.old).faults ≤ (F.seen store.new).faults }

@@ -1,7 +1,7 @@
 -- How the words of a command are told apart.
 use Rattle.std.specs.Prelude.{◌≡◌, ℕ, List, [], ◌∷◌, codes}
-use Rattle.ckc_cli_commands.specs.Words.{Command, Build, Assemble, Exec, Interp, Run, Arguments}
-use Rattle.ckc_cli_commands.specs.Words as w
+use Rattle.ckc_cli_commands.specs.Words.{Command}
+use Rattle.ckc_cli_commands.specs.Commands.{row_of}
 use Rattle.ckc_cli_commands.specs.declared.words.Keyword.{Keyword}
 use Rattle.ckc_cli_commands.specs.declared.words.Keyword.TheVariants as keyword
 
@@ -15,7 +15,7 @@ spelling keyword.List = codes "list"
 
 -- the words are the arguments of a command with this first word
 abbrev pub HasArguments : Keyword → List (List ℕ) → Command → Type 0
-HasArguments k words c = (w.keyword c ≡ spelling k) × Arguments words c
+HasArguments k words c = ((row_of c).keyword ≡ spelling k) × (row_of c).Arguments words
 
 -- one word, and two
 abbrev pub IsOne : List (List ℕ) → List ℕ → Type 0

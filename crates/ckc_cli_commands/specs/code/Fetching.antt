@@ -1,5 +1,5 @@
 -- What fetching gives.
-use Rattle.std.specs.Prelude.{ℕ, ◌<◌, ◌≤◌, List, length, Result, Ok, Err}
+use Rattle.std.specs.Prelude.{[], ◌∷◌, ℕ, ◌<◌, ◌≤◌, List, length, Result, Ok, Err}
 use Rattle.ckc_outside.specs.declared.traits.Fetched.{Fetched}
 use Rattle.ckc_outside.specs.declared.traits.Fetched.TheVariants.{Whole, Longer}
 use Rattle.ckc_cli_commands.specs.declared.status.Status.{Status}
@@ -10,4 +10,4 @@ use Rattle.ckc_cli_commands.specs.Causes.{Holds, Unfetched}
 abbrev pub Fetches : List ℕ → ℕ → Stored → Stored → Result Fetched Status → Type 0
 Fetches name limit before after (Ok (Whole bytes)) = Holds before.files name bytes × (length bytes ≤ limit)
 Fetches name limit before after (Ok Longer) = (bytes : List ℕ) × Holds before.files name bytes × (limit < length bytes)
-Fetches name limit before after (Err s) = Unfetched name before after s
+Fetches name limit before after (Err s) = Unfetched (record { name = name; most = limit } ∷ []) before after s

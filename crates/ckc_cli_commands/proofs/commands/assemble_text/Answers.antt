@@ -1,28 +1,30 @@
-use Rattle.std.proofs.Common.{refl}
+use Rattle.std.proofs.Common.{[], ◌∷◌, refl}
 use Rattle.ckc_cli_commands.specs.Words.{Assemble}
 use Rattle.ckc_outside.specs.Outside.{Stored}
-use Rattle.ckc_cli_commands.specs.Causes.{refused, fetched}
+use Rattle.ckc_cli_commands.specs.World.{world, not_given}
+use Rattle.ckc_cli_commands.specs.Outcomes as outcome
+use Rattle.ckc_cli_commands.specs.Causes.{made, fetched}
 use Rattle.ckc_asm.specs.Faults.{too_long}
 use Rattle.ckc_base.specs.Places.{at_start}
 use Rattle.ckc_cli_commands.proofs.Obeying.{over_limit, whole_of, came_as}
 use Rattle.ckc_cli_commands.proofs.commands.assemble_text.Goals as goal
 
 pub returns-in-Ok-Longer-clause-cause : goal.returns-in-Ok-Longer-clause-cause
-returns-in-Ok-Longer-clause-cause g c = λ seen.
+returns-in-Ok-Longer-clause-cause g c = λ input output error error'.
     let store = c.args.store.now in
     let before : Stored = g.F.Store.seen store in
     let after : Stored = g.F.Store.seen c.fetch.new.store in
     let p = over_limit c.in-Ok-Longer.field-0 c.args.text.now 262144 before after c.in-Ok-Longer.field-0-is c.in-Ok-Longer.ensures.fetches in
-    fetched p.0 p.1 (refused (at_start 201) (too_long p.2 refl refl) c.too_long.ensures (record { unkept = c.fetch.ensures.only.unkept; put = tt; took = tt }))
+    fetched (p.0 ∷ []) (p.1, tt) (made (outcome.Refuses (at_start 201)) (too_long p.2 refl refl) (c.too_long.ensures, record { unkept = c.fetch.ensures.only.unkept; put = tt; took = tt }))
 
 pub returns-in-Ok-Whole-clause-cause : goal.returns-in-Ok-Whole-clause-cause
-returns-in-Ok-Whole-clause-cause g c = λ seen.
+returns-in-Ok-Whole-clause-cause g c = λ input output error error'.
     let store = c.args.store.now in
     let last = c.assemble_bytes.new.store in
     let before : Stored = g.F.Store.seen store in
     let middle : Stored = g.F.Store.seen c.fetch.new.store in
     let after : Stored = g.F.Store.seen last in
     let p = whole_of c.in-Ok-Whole.field-0 c.in-Ok-Whole.bytes c.args.text.now 262144 before middle c.in-Ok-Whole.field-0-is c.in-Ok-Whole.ensures.fetches in
-    fetched c.in-Ok-Whole.bytes p.0
-    (came_as seen seen before after (Unit {0}) (Unit {0}) c.assemble_bytes.result (Assemble c.args.text.now c.args.image.now) c.as_slice.result.now c.in-Ok-Whole.bytes c.as_slice.ensures
-    (c.assemble_bytes.ensures.cause c.args.text.now seen before c.fetch.ensures.only))
+    fetched (c.in-Ok-Whole.bytes ∷ []) (p.0, tt)
+    (came_as (world input output error before) (world input output error' after) not_given c.assemble_bytes.result (Assemble c.args.text.now c.args.image.now) c.as_slice.result.now c.in-Ok-Whole.bytes c.as_slice.ensures
+    (c.assemble_bytes.ensures.cause c.args.text.now input output error error' before c.fetch.ensures.only))

@@ -1,35 +1,34 @@
-use Rattle.std.proofs.Common.{◌≡◌, ℕ, List, inl, refl, subst}
-use Rattle.ckc_cli_commands.specs.Running.{Seen, Ends, seen_of}
-use Rattle.ckc_cli_commands.specs.code.Running.{OverImage}
+use Rattle.std.proofs.Common.{◌≡◌, ℕ, List, [], ◌∷◌, inl, refl, subst}
+use Rattle.ckc_cli_commands.specs.World.{World, Untouched, world, streams}
+use Rattle.ckc_cli_commands.specs.Outcomes as outcome
+use Rattle.ckc_cli_commands.specs.code.Running.{Ends, OverImage}
 use Rattle.ckc_outside.specs.Outside.{Stored}
-use Rattle.ckc_cli_commands.specs.Causes.{bad_image, fetched}
+use Rattle.ckc_cli_commands.specs.Causes.{made, fetched}
 use Rattle.ckc_cli_commands.proofs.Obeying.{over_limit, whole_of, run_came}
 use Rattle.ckc_cli_commands.proofs.commands.run_image.Goals as goal
 
 pub returns-in-Ok-Longer-clause-cause : goal.returns-in-Ok-Longer-clause-cause
-returns-in-Ok-Longer-clause-cause g c =
+returns-in-Ok-Longer-clause-cause g c = λ error error'.
     let input = c.args.input.now in
     let out = c.args.out.now in
     let store = c.args.store.now in
     let before : Stored = g.F.Store.seen store in
     let after : Stored = g.F.Store.seen c.fetch.new.store in
-    let old : Seen = seen_of (g.S.Source.seen input) (g.O.Sink.seen out) in
     let p = over_limit c.in-Ok-Longer.field-0 c.args.image.now 33550356 before after c.in-Ok-Longer.field-0-is c.in-Ok-Longer.ensures.fetches in
-    fetched p.0 p.1 (bad_image 3 (inl (p.2, refl)) refl (record { unkept = c.fetch.ensures.only.unkept; put = refl; took = refl }))
+    fetched (p.0 ∷ []) (p.1, tt) (made (outcome.IsBad 3) (inl (p.2, refl)) (refl, record { unkept = c.fetch.ensures.only.unkept; put = refl; took = refl }))
 
 pub returns-in-Ok-Whole-clause-cause : goal.returns-in-Ok-Whole-clause-cause
-returns-in-Ok-Whole-clause-cause g c =
+returns-in-Ok-Whole-clause-cause g c = λ error error'.
     let input = c.args.input.now in
     let out = c.args.out.now in
     let store = c.args.store.now in
     let before : Stored = g.F.Store.seen store in
     let after : Stored = g.F.Store.seen c.fetch.new.store in
-    let old : Seen = seen_of (g.S.Source.seen input) (g.O.Sink.seen out) in
-    let new : Seen = seen_of (g.S.Source.seen c.run_bytes.new.input) (g.O.Sink.seen c.run_bytes.new.out) in
+    let w : World = world (g.S.Source.seen input) (g.O.Sink.seen out) error before in
+    let w' : World = world (g.S.Source.seen c.run_bytes.new.input) (g.O.Sink.seen c.run_bytes.new.out) error' after in
     let p = whole_of c.in-Ok-Whole.field-0 c.in-Ok-Whole.bytes c.args.image.now 33550356 before after c.in-Ok-Whole.field-0-is c.in-Ok-Whole.ensures.fetches in
-    let quiet = c.run_bytes.new.out ≡ out in
-    let untaken = c.run_bytes.new.input ≡ input in
+    let left : Untouched = streams input c.run_bytes.new.input out c.run_bytes.new.out in
     let same : c.as_slice.result.now ≡ c.in-Ok-Whole.bytes = c.as_slice.ensures in
-    fetched c.in-Ok-Whole.bytes p.0
-    (run_came old new before after quiet untaken c.run_bytes.result c.args.image.now c.in-Ok-Whole.bytes c.args.limit p.1
-    (subst (λ (b : List ℕ). OverImage b (λ q. Ends q c.args.limit old new quiet untaken c.run_bytes.result) (quiet × untaken) c.run_bytes.result) same c.run_bytes.ensures.over) c.fetch.ensures.only.unkept)
+    fetched (c.in-Ok-Whole.bytes ∷ []) (p.0, tt)
+    (run_came w w' left c.run_bytes.result c.args.image.now c.in-Ok-Whole.bytes c.args.limit p.1
+    (subst (λ (b : List ℕ). OverImage b (λ q. Ends q c.args.limit w w' left c.run_bytes.result) (left.output × left.input) c.run_bytes.result) same (c.run_bytes.ensures.over error error' before after)) c.fetch.ensures.only.unkept)

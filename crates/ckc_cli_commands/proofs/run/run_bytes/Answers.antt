@@ -4,10 +4,10 @@ use Rattle.ckc_cli_commands.specs.code.Running.{proper, bad}
 use Rattle.ckc_cli_commands.proofs.run.run_bytes.Goals as goal
 
 pub returns-in-Err-clause-over : goal.returns-in-Err-clause-over
-returns-in-Err-clause-over g c = bad c.in-Err.bad.0 c.in-Err.ensures.parts refl (refl, refl)
+returns-in-Err-clause-over g c = λ error error' before after. bad c.in-Err.bad.0 c.in-Err.ensures.parts refl (refl, refl)
 
 pub returns-in-Ok-clause-over : goal.returns-in-Ok-clause-over
-returns-in-Ok-clause-over g c =
+returns-in-Ok-clause-over g c = λ error error' before after.
     let v = c.in-Ok.view in
     let parts : Parts = record { entry = v.entry; code = v.code.now; initial = v.initial.now } in
-    proper parts c.in-Ok.ensures.parts (c.run_view.ensures.ran parts refl refl refl)
+    proper parts c.in-Ok.ensures.parts (c.run_view.ensures.ran parts refl refl refl error error' before after)

@@ -1,0 +1,215 @@
+-- A command makes one outcome of the bytes that it fetched, but for which image, and each of its form.
+use Rattle.std.proofs.Common.{rules, ◌≡◌, ◌⊎◌, inl, inr, ℕ, ◌≤◌, List, [], ◌∷◌, ◌++◌, length, length-append, refl, sym, ap, subst, ◌∙◌, arith}
+use Rattle.ckc_base.specs.declared.places.Refusal.{Refusal}
+use Rattle.ckc_rv.specs.Machine.{Parts}
+use Rattle.ckc_image.specs.Image.{magic, word_bytes, FirstBad}
+use Rattle.ckc_image.proofs.Agreement.{never_bad, same_parts}
+use Rattle.ckc_asm_listing.specs.Listing.{listing}
+use Rattle.ckc_asm.specs.Phase.{assembling}
+use Rattle.ckc_asm.proofs.Exactness.{assembling_exact}
+use Rattle.ckc_build.specs.Built.{Built, IsImage}
+use Rattle.ckc_build.specs.Meanings.{HasMeaning, FirstFault}
+use Rattle.ckc_build.proofs.Programs.{meanings_exact}
+use Rattle.ckc_source.specs.Code.{Program}
+use Rattle.ckc_cli_commands.specs.Words.{Command, Build, Assemble, Exec, Interp, Run, Show}
+use Rattle.ckc_cli_commands.specs.Outcomes.{Outcome, Refuses, IsBad, Keeps, Puts, Executes, Interprets}
+use Rattle.ckc_cli_commands.specs.Commands.{BadBytes, longest_image, OfText, OfImage, OfOne, AsImage, Makes}
+use Rattle.ckc_cli.specs.Laws.{Agrees}
+
+-- ---- images
+
+-- an image is no longer than the longest
+image_short : (bytes : List ℕ) (parts : Parts) → IsImage bytes parts → length bytes ≤ longest_image
+image_short bytes parts i =
+    let w = word_bytes in
+    let e = parts.entry in
+    let c = length parts.code in
+    let d = length parts.initial in
+    omega (
+      arith,
+      ap length i.1,
+      length-append magic (w 1 ++ w e ++ w c ++ w d ++ parts.code ++ parts.initial),
+      length-append (w 1) (w e ++ w c ++ w d ++ parts.code ++ parts.initial),
+      length-append (w e) (w c ++ w d ++ parts.code ++ parts.initial),
+      length-append (w c) (w d ++ parts.code ++ parts.initial),
+      length-append (w d) (parts.code ++ parts.initial),
+      length-append parts.code parts.initial,
+      i.0.0.2,
+      i.0.0.3,
+    )
+
+pub one_bad : (bytes : List ℕ) (k j : ℕ) → FirstBad bytes k → FirstBad bytes j → k ≡ j
+one_bad bytes k j p q = search rules
+
+never_bad_bytes : (bytes : List ℕ) (parts : Parts) (k : ℕ) → IsImage bytes parts → BadBytes bytes k → ⊥
+never_bad_bytes bytes parts k i (inl b) = omega (arith, image_short bytes parts i, b.0)
+never_bad_bytes bytes parts k i (inr b) = never_bad bytes parts.entry parts.code parts.initial i k b.1
+
+bad_bytes_once : (bytes : List ℕ) (k j : ℕ) → BadBytes bytes k → BadBytes bytes j → k ≡ j
+bad_bytes_once bytes k j (inl p) (inl q) = p.1 ∙ sym q.1
+bad_bytes_once bytes k j (inl p) (inr q) = absurd (omega (arith, p.0, q.0))
+bad_bytes_once bytes k j (inr p) (inl q) = absurd (omega (arith, p.0, q.0))
+bad_bytes_once bytes k j (inr p) (inr q) = one_bad bytes k j p.1 q.1
+
+-- ---- one outcome
+
+-- both of two outcomes are these
+moved : (o other a b : Outcome) → o ≡ a → other ≡ b → Agrees a b → Agrees o other
+moved o other a b p q h = subst (λ (x : Outcome). Agrees x other) (sym p) (subst (λ (x : Outcome). Agrees a x) (sym q) h)
+
+module _ {B : Type 0} (IsRefused : List ℕ → Refusal → Type 0) (IsMade : List ℕ → B → Type 0) (outcome : B → Outcome) where
+  text_of : (text : List ℕ) (o : Outcome) → OfText IsRefused IsMade outcome text o
+      → ((fault : Refusal) × (o ≡ Refuses fault) × IsRefused text fault) ⊎ ((made : B) × (o ≡ outcome made) × IsMade text made)
+  text_of text (Refuses fault) h = inl (fault, refl, h)
+  text_of text (IsBad part) h = inr (h.0, h.2, h.1)
+  text_of text (Keeps name bytes) h = inr (h.0, h.2, h.1)
+  text_of text (Puts bytes) h = inr (h.0, h.2, h.1)
+  text_of text (Executes parts limit) h = inr (h.0, h.2, h.1)
+  text_of text (Interprets program limit) h = inr (h.0, h.2, h.1)
+
+  texts_agree : ((text : List ℕ) (fault other : Refusal) → IsRefused text fault → IsRefused text other → fault ≡ other)
+      → ((text : List ℕ) (fault : Refusal) (made : B) → IsRefused text fault → IsMade text made → ⊥)
+      → ((text : List ℕ) (made other : B) → IsMade text made → IsMade text other → Agrees (outcome made) (outcome other))
+      → (text : List ℕ) (o other : Outcome) → OfText IsRefused IsMade outcome text o → OfText IsRefused IsMade outcome text other → Agrees o other
+  texts_agree once never same text o other p q = by_both (text_of text o p) (text_of text other q)
+    where
+      by_both : ((fault : Refusal) × (o ≡ Refuses fault) × IsRefused text fault) ⊎ ((made : B) × (o ≡ outcome made) × IsMade text made)
+          → ((fault : Refusal) × (other ≡ Refuses fault) × IsRefused text fault) ⊎ ((made : B) × (other ≡ outcome made) × IsMade text made) → Agrees o other
+      by_both (inl x) (inl y) = moved o other (Refuses x.0) (Refuses y.0) x.1 y.1 (once text x.0 y.0 x.2 y.2)
+      by_both (inl x) (inr y) = absurd (never text x.0 y.0 x.2 y.2)
+      by_both (inr x) (inl y) = absurd (never text y.0 x.0 y.2 x.2)
+      by_both (inr x) (inr y) = moved o other (outcome x.0) (outcome y.0) x.1 y.1 (same text x.0 y.0 x.2 y.2)
+
+module _ (outcome : Parts → Outcome) where
+  image_of : (bytes : List ℕ) (o : Outcome) → OfImage outcome bytes o → ((part : ℕ) × (o ≡ IsBad part) × BadBytes bytes part) ⊎ ((parts : Parts) × (o ≡ outcome parts) × IsImage bytes parts)
+  image_of bytes (Refuses fault) h = inr (h.0, h.2, h.1)
+  image_of bytes (IsBad part) h = inl (part, refl, h)
+  image_of bytes (Keeps name image) h = inr (h.0, h.2, h.1)
+  image_of bytes (Puts text) h = inr (h.0, h.2, h.1)
+  image_of bytes (Executes parts limit) h = inr (h.0, h.2, h.1)
+  image_of bytes (Interprets program limit) h = inr (h.0, h.2, h.1)
+
+  images_agree : ((bytes : List ℕ) (parts other : Parts) → IsImage bytes parts → IsImage bytes other → Agrees (outcome parts) (outcome other))
+      → (bytes : List ℕ) (o other : Outcome) → OfImage outcome bytes o → OfImage outcome bytes other → Agrees o other
+  images_agree same bytes o other p q = by_both (image_of bytes o p) (image_of bytes other q)
+    where
+      by_both : ((part : ℕ) × (o ≡ IsBad part) × BadBytes bytes part) ⊎ ((parts : Parts) × (o ≡ outcome parts) × IsImage bytes parts)
+          → ((part : ℕ) × (other ≡ IsBad part) × BadBytes bytes part) ⊎ ((parts : Parts) × (other ≡ outcome parts) × IsImage bytes parts) → Agrees o other
+      by_both (inl x) (inl y) = moved o other (IsBad x.0) (IsBad y.0) x.1 y.1 (bad_bytes_once bytes x.0 y.0 x.2 y.2)
+      by_both (inl x) (inr y) = absurd (never_bad_bytes bytes y.0 x.0 y.2 x.2)
+      by_both (inr x) (inl y) = absurd (never_bad_bytes bytes x.0 y.0 x.2 y.2)
+      by_both (inr x) (inr y) = moved o other (outcome x.0) (outcome y.0) x.1 y.1 (same bytes x.0 y.0 x.2 y.2)
+
+ones_agree : (Comes : List ℕ → Outcome → Type 0) → ((bytes : List ℕ) (o other : Outcome) → Comes bytes o → Comes bytes other → Agrees o other)
+    → (fetched : List (List ℕ)) (o other : Outcome) → OfOne Comes fetched o → OfOne Comes fetched other → Agrees o other
+ones_agree Comes h [] o other p q = absurd p
+ones_agree Comes h (bytes ∷ []) o other p q = h bytes o other p q
+ones_agree Comes h (bytes ∷ more ∷ rest) o other p q = absurd p
+
+same_listing : (bytes : List ℕ) (p q : Parts) → IsImage bytes p → IsImage bytes q → listing p.entry p.code p.initial ≡ listing q.entry q.code q.initial
+same_listing bytes p q i j =
+    let e = same_parts bytes p.entry q.entry p.code q.code p.initial q.initial i j in
+    λ k. listing (e.0 k) (e.1 k) (e.2 k)
+
+pub one_outcome : (command : Command) (fetched : List (List ℕ)) (o other : Outcome) → Makes command fetched o → Makes command fetched other → Agrees o other
+one_outcome (Build text image) =
+    ones_agree (OfText FirstFault (AsImage Built) (Keeps image))
+    (texts_agree FirstFault (AsImage Built) (Keeps image) meanings_exact.refused_once (λ t f made r m. meanings_exact.never_both t m.1.program f m.1.means r) (λ t made other m n. refl))
+one_outcome (Assemble text image) =
+    ones_agree (OfText assembling.Refuses (AsImage assembling.Makes) (Keeps image))
+    (texts_agree assembling.Refuses (AsImage assembling.Makes) (Keeps image) assembling_exact.refused_once (λ t f made r m. assembling_exact.never_both t m.0 f m.1 r) (λ t made other m n. refl))
+one_outcome (Exec text limit) =
+    ones_agree (OfText FirstFault Built (λ parts. Executes parts limit))
+    (texts_agree FirstFault Built (λ parts. Executes parts limit) meanings_exact.refused_once (λ t f made r m. meanings_exact.never_both t m.program f m.means r) (λ t made other m n. refl))
+one_outcome (Interp text limit) =
+    ones_agree (OfText FirstFault HasMeaning (λ p. Interprets p limit))
+    (texts_agree FirstFault HasMeaning (λ p. Interprets p limit) meanings_exact.refused_once (λ t f made r m. meanings_exact.never_both t made f m r)
+    (λ t made other m n. (meanings_exact.made_once t made other m n, refl)))
+one_outcome (Run image limit) = ones_agree (OfImage (λ parts. Executes parts limit)) (images_agree (λ parts. Executes parts limit) (λ b parts other m n. refl))
+one_outcome (Show image) =
+    ones_agree (OfImage (λ parts. Puts (listing parts.entry parts.code parts.initial))) (images_agree (λ parts. Puts (listing parts.entry parts.code parts.initial)) same_listing)
+
+-- ---- forms
+
+-- which outcomes may come of a command
+abbrev pub Form : Outcome → Command → Type 0
+Form (Refuses fault) command = Unit {0}
+Form (IsBad part) command = Unit {0}
+Form (Keeps name bytes) (Build text image) = name ≡ image
+Form (Keeps name bytes) (Assemble text image) = name ≡ image
+Form (Puts text) (Show image) = Unit {0}
+Form (Executes parts limit) (Exec text most) = limit ≡ most
+Form (Executes parts limit) (Run image most) = limit ≡ most
+Form (Interprets program limit) (Interp text most) = limit ≡ most
+Form o command = ⊥
+
+formed_text : {B : Type 0} (IsRefused : List ℕ → Refusal → Type 0) (IsMade : List ℕ → B → Type 0) (outcome : B → Outcome) (command : Command) → ((made : B) → Form (outcome made) command)
+    → (text : List ℕ) (o : Outcome) → OfText IsRefused IsMade outcome text o → Form o command
+formed_text IsRefused IsMade outcome command h text o x = by_case (text_of IsRefused IsMade outcome text o x)
+  where
+    by_case : ((fault : Refusal) × (o ≡ Refuses fault) × IsRefused text fault) ⊎ ((made : _) × (o ≡ outcome made) × IsMade text made) → Form o command
+    by_case (inl r) = subst (λ (x : Outcome). Form x command) (sym r.1) tt
+    by_case (inr m) = subst (λ (x : Outcome). Form x command) (sym m.1) (h m.0)
+
+formed_image : (outcome : Parts → Outcome) (command : Command) → ((parts : Parts) → Form (outcome parts) command) → (bytes : List ℕ) (o : Outcome) → OfImage outcome bytes o → Form o command
+formed_image outcome command h bytes o x = by_case (image_of outcome bytes o x)
+  where
+    by_case : ((part : ℕ) × (o ≡ IsBad part) × BadBytes bytes part) ⊎ ((parts : Parts) × (o ≡ outcome parts) × IsImage bytes parts) → Form o command
+    by_case (inl b) = subst (λ (x : Outcome). Form x command) (sym b.1) tt
+    by_case (inr m) = subst (λ (x : Outcome). Form x command) (sym m.1) (h m.0)
+
+formed_one : (Comes : List ℕ → Outcome → Type 0) (command : Command) → ((bytes : List ℕ) (o : Outcome) → Comes bytes o → Form o command)
+    → (fetched : List (List ℕ)) (o : Outcome) → OfOne Comes fetched o → Form o command
+formed_one Comes command h [] o x = absurd x
+formed_one Comes command h (bytes ∷ []) o x = h bytes o x
+formed_one Comes command h (bytes ∷ more ∷ rest) o x = absurd x
+
+pub formed : (command : Command) (fetched : List (List ℕ)) (o : Outcome) → Makes command fetched o → Form o command
+formed (Build text image) =
+    formed_one (OfText FirstFault (AsImage Built) (Keeps image)) (Build text image) (formed_text FirstFault (AsImage Built) (Keeps image) (Build text image) (λ made. refl))
+formed (Assemble text image) =
+    formed_one (OfText assembling.Refuses (AsImage assembling.Makes) (Keeps image)) (Assemble text image)
+    (formed_text assembling.Refuses (AsImage assembling.Makes) (Keeps image) (Assemble text image) (λ made. refl))
+formed (Exec text limit) =
+    formed_one (OfText FirstFault Built (λ parts. Executes parts limit)) (Exec text limit) (formed_text FirstFault Built (λ parts. Executes parts limit) (Exec text limit) (λ made. refl))
+formed (Interp text limit) =
+    formed_one (OfText FirstFault HasMeaning (λ p. Interprets p limit)) (Interp text limit) (formed_text FirstFault HasMeaning (λ p. Interprets p limit) (Interp text limit) (λ made. refl))
+formed (Run image limit) = formed_one (OfImage (λ parts. Executes parts limit)) (Run image limit) (formed_image (λ parts. Executes parts limit) (Run image limit) (λ parts. refl))
+formed (Show image) =
+    formed_one (OfImage (λ parts. Puts (listing parts.entry parts.code parts.initial))) (Show image)
+    (formed_image (λ parts. Puts (listing parts.entry parts.code parts.initial)) (Show image) (λ parts. tt))
+
+-- which command keeps bytes under a name, and which runs a meaning
+pub keeper : (command : Command) (name bytes : List ℕ) → Form (Keeps name bytes) command → (text : List ℕ) × ((command ≡ Build text name) ⊎ (command ≡ Assemble text name))
+keeper (Build text image) name bytes f = (text, inl (ap (Build text) (sym f)))
+keeper (Assemble text image) name bytes f = (text, inr (ap (Assemble text) (sym f)))
+keeper (Exec text limit) name bytes f = absurd f
+keeper (Interp text limit) name bytes f = absurd f
+keeper (Run image limit) name bytes f = absurd f
+keeper (Show image) name bytes f = absurd f
+
+pub interpreter : (command : Command) (p : Program) (limit : ℕ) → Form (Interprets p limit) command → (name : List ℕ) × (command ≡ Interp name limit)
+interpreter (Build text image) p limit f = absurd f
+interpreter (Assemble text image) p limit f = absurd f
+interpreter (Exec text most) p limit f = absurd f
+interpreter (Interp text most) p limit f = (text, ap (Interp text) (sym f))
+interpreter (Run image most) p limit f = absurd f
+interpreter (Show image) p limit f = absurd f
+
+-- ---- what `exec` and `interp` make of one text
+
+same_parts_of : (parts made : Parts) (limit most : ℕ) → Executes parts limit ≡ Executes made most → parts ≡ made
+same_parts_of parts made limit most e = cc
+
+same_program_of : (p q : Program) (limit most : ℕ) → Interprets p limit ≡ Interprets q most → p ≡ q
+same_program_of p q limit most e = cc
+
+pub built_by : (name : List ℕ) (limit most : ℕ) (fetched : List (List ℕ)) (parts : Parts) → Makes (Exec name limit) fetched (Executes parts most) → (text : List ℕ) × (fetched ≡ text ∷ []) × Built text parts
+built_by name limit most [] parts x = absurd x
+built_by name limit most (text ∷ []) parts x = (text, refl, subst (Built text) (sym (same_parts_of parts x.0 most limit x.2)) x.1)
+built_by name limit most (text ∷ more ∷ rest) parts x = absurd x
+
+pub meant_by : (name : List ℕ) (limit most : ℕ) (fetched : List (List ℕ)) (p : Program) → Makes (Interp name limit) fetched (Interprets p most) → (text : List ℕ) × (fetched ≡ text ∷ []) × HasMeaning text p
+meant_by name limit most [] p x = absurd x
+meant_by name limit most (text ∷ []) p x = (text, refl, subst (HasMeaning text) (sym (same_program_of p x.0 most limit x.2)) x.1)
+meant_by name limit most (text ∷ more ∷ rest) p x = absurd x
