@@ -6,7 +6,8 @@ use Rattle.ckc_base.specs.Lists.{concatenation, or_empty}
 use Rattle.ckc_base.specs.declared.places.Pos.{Pos}
 use Rattle.ckc_base.specs.declared.arithmetic.Mode.{Mode}
 use Rattle.ckc_types.specs.declared.types.CType.{CType}
-use Rattle.ckc_syntax.specs.Inside.{inside_if}
+use Rattle.ckc_syntax.specs.Inside.{listed}
+use Rattle.ckc_syntax.proofs.Insides.{none_found}
 use Rattle.ckc_syntax.specs.declared.tree.Name.{Name}
 use Rattle.ckc_syntax.specs.declared.tree.Act.{Act-F, map-Act, roll-Act, fold-roll-Act}
 use Rattle.ckc_syntax.specs.declared.tree.Stmt.{Stmt-F, map-Stmt, ind-Stmt, roll-Stmt, fold-roll-Stmt}
@@ -199,14 +200,10 @@ locals_inside (Act-F.For s e t body) = or_empty s ++ or_empty t ++ body
 locals_inside (Act-F.Return e) = []
 locals_inside a = act_variables a
 
-none_inside : (e : Option NotedExpr) → inside_if {P = NotedExpr} {X = Variable} (λ f. []) e ≡ []
-none_inside None = refl
-none_inside (Some e) = refl
-
 all_inside : (x : Act-F Name Note Variables Variables) → act_variables x ≡ locals_inside x
 all_inside (Act-F.For s e t body) =
-    ap (λ vs. or_empty s ++ vs ++ or_empty t ++ body) (none_inside e) ∙ ap (λ vs. vs ++ or_empty t ++ body) (append-nil (or_empty s))
-all_inside (Act-F.Return e) = none_inside e
+    ap (λ vs. or_empty s ++ vs ++ or_empty t ++ body) (none_found (listed {A = Variable}) e) ∙ ap (λ vs. vs ++ or_empty t ++ body) (append-nil (or_empty s))
+all_inside (Act-F.Return e) = none_found (listed {A = Variable}) e
 all_inside _ = refl
 
 act_step : (y : Act-F Name Note KeptAct KeptStmt) → ActFits (act_marks (held_act (inner_act y))) (act_parts (part_act (inner_act y))) (locals_inside (local_act (inner_act y)))
