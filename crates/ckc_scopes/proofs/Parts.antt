@@ -1,8 +1,8 @@
 -- The spots of the parts of nodes and statements.
-use Rattle.std.proofs.Common.{rules, refl, ◌≡◌, List, [], ◌∷◌, ◌++◌, ap, ◌∙◌, Option, None, Some}
+use Rattle.std.proofs.Common.{rules, refl, ◌≡◌, List, ◌∷◌, ◌++◌, ◌∙◌, Option, None, Some}
 use Rattle.std.specs.Prelude.{flat_map, map, option_map}
 use Rattle.std.proofs.lemmas.List.{append_assoc}
-use Rattle.ckc_base.specs.Lists.{concatenation, or_empty}
+use Rattle.ckc_base.specs.Lists.{or_empty}
 use Rattle.ckc_base.specs.declared.arithmetic.Mode.{Mode}
 use Rattle.ckc_base.specs.declared.places.Pos.{Pos}
 use Rattle.ckc_syntax.specs.declared.tree.Name.{Name}
@@ -18,11 +18,7 @@ use Rattle.ckc_syntax.specs.declared.tree.Act.TheVariants as act
 use Rattle.ckc_syntax.proofs.Insides.{each_found}
 use Rattle.ckc_syntax.specs.Inside.{listed, inside_each}
 use Rattle.ckc_typed.specs.declared.typed.Note.{Note}
-use Rattle.ckc_typed.specs.Walk.{Spot, within, value, spot, spots_of_limits, spots_of_bounds, spots_of_value, spots_of_part, spots_of_expr, spots_of_act, spots_of_stmt}
-
-joined_is : {X : Type 0} (f : X → List Spot) (xs : List X) → concatenation (map f xs) ≡ flat_map f xs
-joined_is f [] = refl
-joined_is f (x ∷ xs) = ap (λ ys. f x ++ ys) (joined_is f xs)
+use Rattle.ckc_typed.specs.Walk.{within, value, spot, spots_of_limits, spots_of_bounds, spots_of_value, spots_of_part, spots_of_expr, spots_of_act, spots_of_stmt}
 
 joined_of_call : (n : Name) (es : List (Expr Name Note)) → (within (nodes.Call n es)).parts ≡ inside_each listed (λ x. x) (map spots_of_expr es)
 joined_of_call n es = search (rules, expr_lemmas)
@@ -65,17 +61,17 @@ pub spots_of_whole : (e : Expr Name Note) →
     spots_of_expr e ≡ (within (out-Expr Name Note e).node).parts ++ map (spot (out-Expr Name Note e).note.mode (out-Expr Name Note e).pos) (value (out-Expr Name Note e).note.ctype ∷ (within (out-Expr Name Note e).node).own)
 spots_of_whole e = search (rules, expr_lemmas)
 
-joined_of_block : (m : Option Mode) (ss : List (Stmt Name Note)) (mode : Mode) → spots_of_act (act.Block m ss) mode ≡ concatenation (map spots_of_stmt ss)
+joined_of_block : (m : Option Mode) (ss : List (Stmt Name Note)) (mode : Mode) → spots_of_act (act.Block m ss) mode ≡ inside_each listed (λ x. x) (map spots_of_stmt ss)
 joined_of_block m ss mode = search (rules, stmt_lemmas)
 
 pub parts_of_block : (m : Option Mode) (ss : List (Stmt Name Note)) (mode : Mode) → spots_of_act (act.Block m ss) mode ≡ flat_map spots_of_stmt ss
-parts_of_block m ss mode = joined_of_block m ss mode ∙ joined_is spots_of_stmt ss
+parts_of_block m ss mode = joined_of_block m ss mode ∙ each_found listed (λ x. x) spots_of_stmt ss
 
-joined_of_bundle : (ss : List (Stmt Name Note)) (mode : Mode) → spots_of_act (act.Bundle ss) mode ≡ concatenation (map spots_of_stmt ss)
+joined_of_bundle : (ss : List (Stmt Name Note)) (mode : Mode) → spots_of_act (act.Bundle ss) mode ≡ inside_each listed (λ x. x) (map spots_of_stmt ss)
 joined_of_bundle ss mode = search (rules, stmt_lemmas)
 
 pub parts_of_bundle : (ss : List (Stmt Name Note)) (mode : Mode) → spots_of_act (act.Bundle ss) mode ≡ flat_map spots_of_stmt ss
-parts_of_bundle ss mode = joined_of_bundle ss mode ∙ joined_is spots_of_stmt ss
+parts_of_bundle ss mode = joined_of_bundle ss mode ∙ each_found listed (λ x. x) spots_of_stmt ss
 
 held_is : (s : Option (Stmt Name Note)) → or_empty (option_map spots_of_stmt s) ≡ spots_of_part s
 held_is None = refl
