@@ -1,8 +1,7 @@
 -- Forms are exact, conditions tell, and so the facts of the next point are true.
 use Rattle.std.proofs.Common.{◌≡◌, refl, sym, ap, subst, ◌∙◌, ℕ, Bool, true, false, arith}
-use Rattle.std.specs.Prelude.{◌==◌, ◌<◌, ◌^◌, ◌%◌, not, if◌then◌else◌, length, slice_set, Option, None, Some, IfSome, Ok, Err}
+use Rattle.std.specs.Prelude.{◌==◌, ◌<◌, ◌^◌, ◌%◌, not, if◌then◌else◌, length, slice_set, Option, None, Some, IfSome, Ok}
 use Rattle.ckc_base.specs.declared.arithmetic.Width.TheVariants.{Byte, Word}
-use Rattle.ckc_base.specs.Outcomes.{Outcome, bind}
 use Rattle.ckc_base.specs.Memory.{kept_part}
 use Rattle.ckc_linear.specs.declared.forms.Form.{Form}
 use Rattle.ckc_typed.specs.declared.environment.Globals.{Globals}
@@ -13,9 +12,8 @@ use Rattle.ckc_bounds_points.specs.Shown.{Known}
 use Rattle.ckc_bounds_points.specs.Frames.{local_at}
 use Rattle.ckc_bounds_points.specs.Flow.{State, assigned}
 use Rattle.ckc_bounds_points.specs.Forms.{in_type}
-use Rattle.ckc_bounds_views.specs.Parts.{fresh_behind}
 use Rattle.ckc_bounds_views.specs.Views.{view}
-use Rattle.ckc_bounds_statements.specs.Paths.{Here, expr_judged, value_judged, maybe_judged, maybe_side, side_of, value_form}
+use Rattle.ckc_bounds_statements.specs.Paths.{Here, maybe_side, side_of, value_form}
 use Rattle.ckc_source.specs.declared.outcome.Value.{Value}
 use Rattle.ckc_source.specs.Code.{Expr}
 use Rattle.ckc_source.specs.Eval.{Store, evaluated}
@@ -24,7 +22,6 @@ use Rattle.ckc_build_values.specs.Kinds.{width_of}
 use Rattle.ckc_build_values.specs.Expressions.{expr_elaborated}
 use Rattle.ckc_blame_sound.specs.Settings.{Setting}
 use Rattle.ckc_blame_sound.specs.Values.{value, value_in, number_of, AreTrue, HoldWords, IsWordOf, IsNumberOf}
-use Rattle.ckc_blame_sound.specs.Steps.{IsCondition}
 use Rattle.ckc_blame_sound.proofs.Flow.{facts_assigned_hold, integer_value}
 use Rattle.ckc_blame_sound.proofs.Typed.{number_in_type}
 use Rattle.ckc_blame_numbers.specs.Typed.{IsTyped, IsTypedIf, Agrees}
@@ -81,33 +78,13 @@ module _ (globals : Globals) (s : Setting) (agrees : Agrees globals s) where
 
   -- ---- conditions
 
-  pair_same : {A B : Type 0} (a b : A) (c d : B) → ◌≡◌ {A = Outcome (A × B)} (Ok (a, c)) (Ok (b, d)) → (a ≡ b) × (c ≡ d)
-  pair_same {A} {B} a b c d e = let p : ◌≡◌ {A = A × B} (a, c) (b, d) = cc in (ap (λ (x : A × B). x.0) p, ap (λ (x : A × B). x.1) p)
-
-  abbrev judged_at : NotedExpr → Here → Outcome NotedExpr → Outcome (Option NotedExpr × Here)
-  judged_at e here o =
-      bind (bind {B = NotedExpr × Here} o (λ g. Ok (g, record here { next = fresh_behind (view s.frame e) here.next here.at }))) (λ p. Ok (Some p.0, p.1))
-
-  stays_by : (e : NotedExpr) (here : Here) (f : Option NotedExpr) (behind : Here) (o : Outcome NotedExpr) → judged_at e here o ≡ Ok (f, behind) → behind.at ≡ here.at
-  stays_by e here f behind (Ok g) h = sym (ap (λ (x : Here). x.at) (pair_same {A = Option NotedExpr} (Some g) f (record here { next = fresh_behind (view s.frame e) here.next here.at }) behind h).1)
-  stays_by e here f behind (Err r) h = absurd (cc)
-
-  -- a value that is judged leaves the point
-  value_stays : (e : NotedExpr) (here : Here) (f : Option NotedExpr) (behind : Here) → maybe_judged s.frame (Some e) here ≡ Ok (f, behind) → behind.at ≡ here.at
-  unfolding value_judged
-  value_stays e here f behind h = stays_by e here f behind (expr_judged s.frame e here) h
-
-  condition_stays : (before after : Option NotedExpr) (here behind : Here) → maybe_judged s.frame before here ≡ Ok (after, behind) → behind.at ≡ here.at
-  condition_stays None after here behind h = sym (ap (λ (x : Here). x.at) (pair_same {A = Option NotedExpr} None after here behind h).1)
-  condition_stays (Some e) after here behind h = value_stays e here after behind h
-
   module _ (yes no behind : Here) (e : Expr) (literals : ℕ) (store : Store) (v : Value) (words : HoldWords s.frame store.locals) (all : AreTrue s.frame store.locals behind.at.facts)
       (is : evaluated store e ≡ Ok v) where
     abbrev Told : Bool → Type 0
     Told b = AreTrue s.frame store.locals (if b then no else yes).at.facts
 
     -- the side that a condition comes to
-    side_comes : (after : Option NotedExpr) → IsTypedIf globals s after → e ≡ condition s.text s.variables literals after
+    pub side_comes : (after : Option NotedExpr) → IsTypedIf globals s after → e ≡ condition s.text s.variables literals after
         → yes ≡ record behind { at = maybe_side s.frame true after behind.at } → no ≡ record behind { at = maybe_side s.frame false after behind.at }
         → (b : Bool) → (v.number == 0) ≡ b → Told b
     side_comes (Some f) typed made y n true zero_is =
@@ -121,9 +98,3 @@ module _ (globals : Globals) (s : Setting) (agrees : Agrees globals s) where
         let none : (v.number == 0) ≡ false = ap (λ m. m == 0) one in
         absurd (cc)
     side_comes None typed made y n false zero_is = subst (λ (h : Here). AreTrue s.frame store.locals h.at.facts) (sym y) all
-
-  pub condition_holds : (here yes no : Here) (e : Expr) (store : Store) (v : Value) (c : IsCondition s here e yes no) → IsTypedIf globals s c.after → HoldWords s.frame store.locals
-      → AreTrue s.frame store.locals here.at.facts → evaluated store e ≡ Ok v → AreTrue s.frame store.locals (if v.number == 0 then no else yes).at.facts
-  condition_holds here sure other e store v c typed words all is =
-      let stays : c.behind.at ≡ here.at = condition_stays c.before c.after here c.behind c.judged in
-      side_comes sure other c.behind e c.literals store v words (subst (λ (at : State). AreTrue s.frame store.locals at.facts) (sym stays) all) is c.after typed c.becomes c.true_side c.false_side (v.number == 0) refl

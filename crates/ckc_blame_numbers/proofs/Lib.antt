@@ -7,3 +7,5 @@ pub mod Nodes
 pub mod Leaves
 pub mod Exprs
 pub mod Holding
+pub mod Judging
+pub mod Statements

@@ -1,2 +1,3 @@
 pub mod Typed
 pub mod Exact
+pub mod Assigned

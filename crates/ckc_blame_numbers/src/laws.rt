@@ -5,7 +5,7 @@ ghost use Rattle.std.specs.Prelude.{◌≡◌, ℕ, ◌==◌, ◌<◌, ◌^◌, 
 ghost use Rattle.ckc_base.specs.Memory.{kept_part};
 ghost use Rattle.ckc_linear.specs.declared.forms.Form.{Form};
 ghost use Rattle.ckc_typed.specs.declared.environment.Globals.{Globals};
-ghost use Rattle.ckc_typed.specs.Trees.{NotedExpr};
+ghost use Rattle.ckc_typed.specs.Trees.{NotedExpr, NotedInit};
 ghost use Rattle.ckc_bounds_points.specs.declared.frame.Frame.{Frame};
 ghost use Rattle.ckc_bounds_points.specs.declared.frame.Local.{Local};
 ghost use Rattle.ckc_bounds_points.specs.Shown.{Known};
@@ -22,6 +22,7 @@ ghost use Rattle.ckc_blame_sound.specs.Settings.{Setting};
 ghost use Rattle.ckc_blame_sound.specs.Values.{AreTrue, HoldWords};
 ghost use Rattle.ckc_blame_sound.specs.Steps.{IsCondition};
 ghost use Rattle.ckc_blame_numbers.specs.Typed.{IsTyped, IsTypedIf, Agrees};
+ghost use Rattle.ckc_blame_numbers.specs.Assigned.{IsAssignment, IsDeclaration, Begins};
 ghost use Rattle.ckc_blame_numbers.specs.Exact.{IsExact};
 
 /// Where the facts of a point are true, the form that an expression has there stands for exactly the integer that the
@@ -45,19 +46,35 @@ pub fn conditions_tell()
         → AreTrue s.frame store.locals (side_of s.frame side e at).facts }
 {}
 
-/// The facts of the next point are true behind a condition, and behind the assignment of a value to a local.
+/// What judging makes of a typed expression is typed, and has its type.
+pub fn judging_keeps_types()
+    ensures { (globals : Globals) (s : Setting) (e f : NotedExpr) (fresh : ℕ) (at : State) →
+        IsTyped globals s e → (view s.frame e).judged fresh at ≡ Ok f
+        → IsTyped globals s f × (f.note.ctype ≡ e.note.ctype) }
+{}
+
+/// The facts of the next point are true behind a condition, on the side that it comes to, and behind an assignment or a
+/// declaration of a local, with the word that it keeps.
 pub fn facts_hold()
     ensures condition { (globals : Globals) (s : Setting) (here yes no : Here) (e : Expr)
         (store : Store) (v : Value) → Agrees globals s → (c : IsCondition s here e yes no)
-        → IsTypedIf globals s c.after → HoldWords s.frame store.locals
+        → IsTypedIf globals s c.before → HoldWords s.frame store.locals
         → AreTrue s.frame store.locals here.at.facts → evaluated store e ≡ Ok v
         → AreTrue s.frame store.locals (if v.number == 0 then no else yes).at.facts }
-    ensures assignment { (globals : Globals) (s : Setting) (k literals : ℕ) (l : Local)
-        (e : NotedExpr) (at : State) (store : Store) (v : Value) → Agrees globals s
-        → IsTyped globals s e → HoldWords s.frame store.locals → at.reached ≡ true
-        → AreTrue s.frame store.locals at.facts → local_at s.frame k ≡ Some l
+    ensures assignment { (globals : Globals) (s : Setting) (here there : Here) (k literals : ℕ)
+        (l : Local) (value : NotedExpr) (store : Store) (v : Value) → Agrees globals s
+        → IsAssignment globals s here k l value there → here.at.reached ≡ true
+        → HoldWords s.frame store.locals → AreTrue s.frame store.locals here.at.facts
         → k < length store.locals → v.number < 2 ^ 32
-        → evaluated store (expr_elaborated s.text s.variables literals e) ≡ Ok v
+        → evaluated store (expr_elaborated s.text s.variables literals value) ≡ Ok v
         → AreTrue s.frame (slice_set store.locals k (kept_part (width_of l.ctype) v.number))
-        (assigned s.frame k (value_form s.frame l.ctype e at.facts) at).facts }
+        there.at.facts }
+    ensures declaration { (globals : Globals) (s : Setting) (here there : Here) (k literals : ℕ)
+        (l : Local) (first : NotedInit) (e : Expr) (store : Store) (v : Value) → Agrees globals s
+        → IsDeclaration globals s here k l first there → here.at.reached ≡ true
+        → HoldWords s.frame store.locals → AreTrue s.frame store.locals here.at.facts
+        → k < length store.locals → v.number < 2 ^ 32 → Begins s literals first e
+        → evaluated store e ≡ Ok v
+        → AreTrue s.frame (slice_set store.locals k (kept_part (width_of l.ctype) v.number))
+        there.at.facts }
 {}

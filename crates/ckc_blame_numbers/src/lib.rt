@@ -3,4 +3,4 @@
 
 mod laws;
 
-pub use laws::{conditions_tell, facts_hold, forms_are_exact};
+pub use laws::{conditions_tell, facts_hold, forms_are_exact, judging_keeps_types};

@@ -1,4 +1,4 @@
-mod Nodes
+pub mod Nodes
 mod Rows
 mod Held
 mod Bares
