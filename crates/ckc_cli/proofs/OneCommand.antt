@@ -1,65 +1,58 @@
 -- Words read one command.
-use Rattle.std.proofs.Common.{◌≡◌, inl, inr, ℕ, List, [], ◌∷◌, get_or, arith, sym, ap, subst, ◌∙◌}
-use Rattle.ckc_cli_commands.specs.Words.{Command, Build, Assemble, Exec, Interp, Run, Show, IsLimit, NameAndLimit}
+use Rattle.std.proofs.Common.{◌≡◌, inl, inr, ℕ, ◌+◌, ◌*◌, ◌==◌, cond, List, [], ◌∷◌, get_or, codes, sym, ap, ◌∙◌}
+use Rattle.std.specs.Str.Parse.{digits_value}
+use Rattle.ckc_cli_commands.specs.Words.{Command, Build, Assemble, Exec, Interp, Run, Show, NameAndLimit, usual_limit}
 use Rattle.ckc_cli_commands.specs.Commands.{row_of, Reads}
 use Rattle.ckc_cli_commands.proofs.Wording.{head_is, tail_is}
 
-limit_once : (word : List ℕ) (limit other : ℕ) → IsLimit word limit → IsLimit word other → limit ≡ other
-limit_once word limit other p q = p.value ∙ sym q.value
+-- the first and the second of some words, and the limit that the second says
+abbrev first : List (List ℕ) → List ℕ
+first [] = []
+first (word ∷ more) = word
 
-pair_is : (a b c d : List ℕ) → a ∷ b ∷ [] ≡ c ∷ d ∷ [] → (a ≡ c) × (b ≡ d)
-pair_is a b c d e = (cc, cc)
+abbrev second : List (List ℕ) → List ℕ
+second [] = []
+second (word ∷ []) = []
+second (word ∷ other ∷ more) = other
 
-one_two : (a b c : List ℕ) → a ∷ [] ≡ b ∷ c ∷ [] → ⊥
-one_two a b c e = cc
+abbrev limit_in : List (List ℕ) → ℕ
+limit_in [] = usual_limit
+limit_in (word ∷ []) = usual_limit
+limit_in (word ∷ other ∷ more) = digits_value 10 other
 
-name_once : (more : List (List ℕ)) (name other : List ℕ) (limit most : ℕ) → NameAndLimit more name limit → NameAndLimit more other most → (name ≡ other) × (limit ≡ most)
-name_once more name other limit most (inl p) (inl q) = (head_is name other [] [] (sym p.0 ∙ q.0), p.1 ∙ sym q.1)
-name_once more name other limit most (inl p) (inr q) = absurd (one_two name other q.0 (sym p.0 ∙ q.1))
-name_once more name other limit most (inr p) (inl q) = absurd (one_two other name p.0 (sym q.0 ∙ p.1))
-name_once more name other limit most (inr p) (inr q) =
-    let e = pair_is name p.0 other q.0 (sym p.1 ∙ q.1) in
-    (e.0, limit_once q.0 limit most (subst (λ w. IsLimit w limit) e.1 p.2) q.2)
+-- the first two letters of a word
+abbrev letters : List ℕ → ℕ
+letters word = 256 * get_or word 0 0 + get_or word 1 0
 
-same_arguments : (more : List (List ℕ)) (c d : Command) → (row_of c).keyword ≡ (row_of d).keyword → (row_of c).Arguments more → (row_of d).Arguments more → c ≡ d
-same_arguments more (Build text image) (Build text' image') k p q = let e = pair_is text image text' image' (sym p ∙ q) in ap (λ t. Build t image) e.0 ∙ ap (λ i. Build text' i) e.1
-same_arguments more (Build text image) (Assemble text' image') k p q = absurd (omega (arith, ap (λ (l : List ℕ). get_or l 0 0) k))
-same_arguments more (Build text image) (Exec text' limit') k p q = absurd (omega (arith, ap (λ (l : List ℕ). get_or l 0 0) k))
-same_arguments more (Build text image) (Interp text' limit') k p q = absurd (omega (arith, ap (λ (l : List ℕ). get_or l 0 0) k))
-same_arguments more (Build text image) (Run image' limit') k p q = absurd (omega (arith, ap (λ (l : List ℕ). get_or l 0 0) k))
-same_arguments more (Build text image) (Show image') k p q = absurd (omega (arith, ap (λ (l : List ℕ). get_or l 0 0) k))
-same_arguments more (Assemble text image) (Build text' image') k p q = absurd (omega (arith, ap (λ (l : List ℕ). get_or l 0 0) k))
-same_arguments more (Assemble text image) (Assemble text' image') k p q = let e = pair_is text image text' image' (sym p ∙ q) in ap (λ t. Assemble t image) e.0 ∙ ap (λ i. Assemble text' i) e.1
-same_arguments more (Assemble text image) (Exec text' limit') k p q = absurd (omega (arith, ap (λ (l : List ℕ). get_or l 0 0) k))
-same_arguments more (Assemble text image) (Interp text' limit') k p q = absurd (omega (arith, ap (λ (l : List ℕ). get_or l 0 0) k))
-same_arguments more (Assemble text image) (Run image' limit') k p q = absurd (omega (arith, ap (λ (l : List ℕ). get_or l 0 0) k))
-same_arguments more (Assemble text image) (Show image') k p q = absurd (omega (arith, ap (λ (l : List ℕ). get_or l 0 0) k))
-same_arguments more (Exec text limit) (Build text' image') k p q = absurd (omega (arith, ap (λ (l : List ℕ). get_or l 0 0) k))
-same_arguments more (Exec text limit) (Assemble text' image') k p q = absurd (omega (arith, ap (λ (l : List ℕ). get_or l 0 0) k))
-same_arguments more (Exec text limit) (Exec text' limit') k p q = let e = name_once more text text' limit limit' p q in ap (λ t. Exec t limit) e.0 ∙ ap (λ l. Exec text' l) e.1
-same_arguments more (Exec text limit) (Interp text' limit') k p q = absurd (omega (arith, ap (λ (l : List ℕ). get_or l 0 0) k))
-same_arguments more (Exec text limit) (Run image' limit') k p q = absurd (omega (arith, ap (λ (l : List ℕ). get_or l 0 0) k))
-same_arguments more (Exec text limit) (Show image') k p q = absurd (omega (arith, ap (λ (l : List ℕ). get_or l 0 0) k))
-same_arguments more (Interp text limit) (Build text' image') k p q = absurd (omega (arith, ap (λ (l : List ℕ). get_or l 0 0) k))
-same_arguments more (Interp text limit) (Assemble text' image') k p q = absurd (omega (arith, ap (λ (l : List ℕ). get_or l 0 0) k))
-same_arguments more (Interp text limit) (Exec text' limit') k p q = absurd (omega (arith, ap (λ (l : List ℕ). get_or l 0 0) k))
-same_arguments more (Interp text limit) (Interp text' limit') k p q = let e = name_once more text text' limit limit' p q in ap (λ t. Interp t limit) e.0 ∙ ap (λ l. Interp text' l) e.1
-same_arguments more (Interp text limit) (Run image' limit') k p q = absurd (omega (arith, ap (λ (l : List ℕ). get_or l 0 0) k))
-same_arguments more (Interp text limit) (Show image') k p q = absurd (omega (arith, ap (λ (l : List ℕ). get_or l 0 0) k))
-same_arguments more (Run image limit) (Build text' image') k p q = absurd (omega (arith, ap (λ (l : List ℕ). get_or l 0 0) k))
-same_arguments more (Run image limit) (Assemble text' image') k p q = absurd (omega (arith, ap (λ (l : List ℕ). get_or l 0 0) k))
-same_arguments more (Run image limit) (Exec text' limit') k p q = absurd (omega (arith, ap (λ (l : List ℕ). get_or l 0 0) k))
-same_arguments more (Run image limit) (Interp text' limit') k p q = absurd (omega (arith, ap (λ (l : List ℕ). get_or l 0 0) k))
-same_arguments more (Run image limit) (Run image' limit') k p q = let e = name_once more image image' limit limit' p q in ap (λ t. Run t limit) e.0 ∙ ap (λ l. Run image' l) e.1
-same_arguments more (Run image limit) (Show image') k p q = absurd (omega (arith, ap (λ (l : List ℕ). get_or l 0 0) k))
-same_arguments more (Show image) (Build text' image') k p q = absurd (omega (arith, ap (λ (l : List ℕ). get_or l 0 0) k))
-same_arguments more (Show image) (Assemble text' image') k p q = absurd (omega (arith, ap (λ (l : List ℕ). get_or l 0 0) k))
-same_arguments more (Show image) (Exec text' limit') k p q = absurd (omega (arith, ap (λ (l : List ℕ). get_or l 0 0) k))
-same_arguments more (Show image) (Interp text' limit') k p q = absurd (omega (arith, ap (λ (l : List ℕ). get_or l 0 0) k))
-same_arguments more (Show image) (Run image' limit') k p q = absurd (omega (arith, ap (λ (l : List ℕ). get_or l 0 0) k))
-same_arguments more (Show image) (Show image') k p q = ap Show (head_is image image' [] [] (sym p ∙ q))
+-- the command that words read, where they read one
+abbrev read_as : ℕ → List (List ℕ) → Command
+read_as k more =
+    cond (k == letters (codes "build")) (Build (first more) (second more))
+    (cond (k == letters (codes "asm")) (Assemble (first more) (second more))
+    (cond (k == letters (codes "exec")) (Exec (first more) (limit_in more))
+    (cond (k == letters (codes "interp")) (Interp (first more) (limit_in more))
+    (cond (k == letters (codes "run")) (Run (first more) (limit_in more))
+    (Show (first more))))))
+
+first_is : (more : List (List ℕ)) (name : List ℕ) (limit : ℕ) → NameAndLimit more name limit → first more ≡ name
+first_is more name limit (inl p) = ap first p.0
+first_is more name limit (inr p) = ap first p.1
+
+limit_is : (more : List (List ℕ)) (name : List ℕ) (limit : ℕ) → NameAndLimit more name limit → limit_in more ≡ limit
+limit_is more name limit (inl p) = ap limit_in p.0 ∙ sym p.1
+limit_is more name limit (inr p) = ap limit_in p.1 ∙ sym p.2.value
+
+reads_as : (more : List (List ℕ)) (c : Command) → (row_of c).Arguments more → read_as (letters (row_of c).keyword) more ≡ c
+reads_as more (Build text image) a = ap (λ (m : List (List ℕ)). Build (first m) (second m)) a
+reads_as more (Assemble text image) a = ap (λ (m : List (List ℕ)). Assemble (first m) (second m)) a
+reads_as more (Exec text limit) a = ap (λ t. Exec t (limit_in more)) (first_is more text limit a) ∙ ap (λ l. Exec text l) (limit_is more text limit a)
+reads_as more (Interp text limit) a = ap (λ t. Interp t (limit_in more)) (first_is more text limit a) ∙ ap (λ l. Interp text l) (limit_is more text limit a)
+reads_as more (Run image limit) a = ap (λ t. Run t (limit_in more)) (first_is more image limit a) ∙ ap (λ l. Run image l) (limit_is more image limit a)
+reads_as more (Show image) a = ap (λ (m : List (List ℕ)). Show (first m)) a
 
 pub reads_once : (words : List (List ℕ)) (c d : Command) → Reads words c → Reads words d → c ≡ d
 reads_once words c d p q =
     let e = sym p.1 ∙ q.1 in
-    same_arguments q.0 c d (head_is (row_of c).keyword (row_of d).keyword p.0 q.0 e) (subst (λ (l : List (List ℕ)). (row_of c).Arguments l) (tail_is (row_of c).keyword (row_of d).keyword p.0 q.0 e) p.2) q.2
+    let k = head_is (row_of c).keyword (row_of d).keyword p.0 q.0 e in
+    let m = tail_is (row_of c).keyword (row_of d).keyword p.0 q.0 e in
+    sym (reads_as p.0 c p.2) ∙ ap (λ (w : List ℕ). read_as (letters w) p.0) k ∙ ap (λ (l : List (List ℕ)). read_as (letters (row_of d).keyword) l) m ∙ reads_as q.0 d q.2

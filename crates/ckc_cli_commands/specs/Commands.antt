@@ -64,44 +64,22 @@ pub record Row : Type 1 where
   pub fetches : List Fetch
   pub Makes : List (List ℕ) → Outcome → Type 0
 
+-- a command that fetches one file
+abbrev pub one_file : List ℕ → (List (List ℕ) → Type 0) → Fetch → (List ℕ → Outcome → Type 0) → Row
+one_file keyword Arguments fetch Comes = record { keyword = keyword; Arguments = Arguments; fetches = fetch ∷ []; Makes = OfOne Comes }
+
 -- the row of each command
 abbrev pub row_of : Command → Row
-row_of (Build text image) = record {
-  keyword = codes "build";
-  Arguments = λ words. words ≡ text ∷ image ∷ [];
-  fetches = a_text text ∷ [];
-  Makes = OfOne (OfText FirstFault (AsImage Built) (Keeps image));
-}
-row_of (Assemble text image) = record {
-  keyword = codes "asm";
-  Arguments = λ words. words ≡ text ∷ image ∷ [];
-  fetches = a_text text ∷ [];
-  Makes = OfOne (OfText assembling.Refuses (AsImage assembling.Makes) (Keeps image));
-}
-row_of (Exec text limit) = record {
-  keyword = codes "exec";
-  Arguments = λ words. NameAndLimit words text limit;
-  fetches = a_text text ∷ [];
-  Makes = OfOne (OfText FirstFault Built (λ parts. Executes parts limit));
-}
-row_of (Interp text limit) = record {
-  keyword = codes "interp";
-  Arguments = λ words. NameAndLimit words text limit;
-  fetches = a_text text ∷ [];
-  Makes = OfOne (OfText FirstFault HasMeaning (λ p. Interprets p limit));
-}
-row_of (Run image limit) = record {
-  keyword = codes "run";
-  Arguments = λ words. NameAndLimit words image limit;
-  fetches = an_image image ∷ [];
-  Makes = OfOne (OfImage (λ parts. Executes parts limit));
-}
-row_of (Show image) = record {
-  keyword = codes "list";
-  Arguments = λ words. words ≡ image ∷ [];
-  fetches = an_image image ∷ [];
-  Makes = OfOne (OfImage (λ parts. Puts (listing parts.entry parts.code parts.initial)));
-}
+row_of (Build text image) = one_file (codes "build") (λ words. words ≡ text ∷ image ∷ []) (a_text text) (OfText FirstFault (AsImage Built) (Keeps image))
+row_of (Assemble text image) =
+    one_file (codes "asm") (λ words. words ≡ text ∷ image ∷ []) (a_text text) (OfText assembling.Refuses (AsImage assembling.Makes) (Keeps image))
+row_of (Exec text limit) =
+    one_file (codes "exec") (λ words. NameAndLimit words text limit) (a_text text) (OfText FirstFault Built (λ parts. Executes parts limit))
+row_of (Interp text limit) =
+    one_file (codes "interp") (λ words. NameAndLimit words text limit) (a_text text) (OfText FirstFault HasMeaning (λ p. Interprets p limit))
+row_of (Run image limit) = one_file (codes "run") (λ words. NameAndLimit words image limit) (an_image image) (OfImage (λ parts. Executes parts limit))
+row_of (Show image) =
+    one_file (codes "list") (λ words. words ≡ image ∷ []) (an_image image) (OfImage (λ parts. Puts (listing parts.entry parts.code parts.initial)))
 
 -- The words are those of the command. They are compared byte for byte, and a name may be any word.
 abbrev pub Reads : List (List ℕ) → Command → Type 0
