@@ -10,6 +10,7 @@ use Rattle.ckc_checks_operands.specs.Weights.{program_weight}
 use Rattle.ckc_build_elaborate.specs.Elaborated.{elaborated}
 use Rattle.ckc_image.specs.declared.parts.Parts as parts
 use Rattle.ckc_build_compile.specs.Compiled.{FollowsSource, machine_parts}
+use Rattle.ckc_build_compile.specs.Confined.{ConfinesStores, NeverFaults}
 use Rattle.ckc_build.specs.Meanings.{judging, elaborating, meanings}
 use Rattle.ckc_build.specs.Built.{IsImage, building}
 use Rattle.ckc_build.specs.Sizes.{HasShortCode}
@@ -47,11 +48,12 @@ module _ (text : List ℕ) where
   -- an image of the program, as it is made
   abbrev pub IsMade : Program → List ℕ → Type 0
   IsMade p image =
-      (made : parts.Parts) × FollowsSource p made × (length made.code ≤ 4 * (program_weight p + 5)) × IsImage image (machine_parts made)
+      (made : parts.Parts) × FollowsSource p made × (length made.code ≤ 4 * (program_weight p + 5))
+      × ConfinesStores p (machine_parts made) × NeverFaults p (machine_parts made) × IsImage image (machine_parts made)
 
   pub built_of : (p : Program) (image : List ℕ) → Exact meanings text (Ok p) → IsMade p image → building.Makes text image
-  built_of p image x q = (machine_parts q.0, record { program = p; means = x.answers; follows = q.1 }, q.3)
+  built_of p image x q = (machine_parts q.0, record { program = p; means = x.answers; follows = q.1; confined = q.3; faultless = q.4 }, q.5)
 
   pub short_of : (p : Program) (image : List ℕ) → Exact meanings text (Ok p) → IsMade p image → HasShortCode text image
   short_of p image x q =
-      (machine_parts q.0, q.3, λ other m. subst (λ z. length q.0.code ≤ 4 * (program_weight z + 5)) (meanings_exact.made_once text p other x.answers m) q.2)
+      (machine_parts q.0, q.5, λ other m. subst (λ z. length q.0.code ≤ 4 * (program_weight z + 5)) (meanings_exact.made_once text p other x.answers m) q.2)

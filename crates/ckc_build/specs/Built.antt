@@ -2,6 +2,7 @@
 use Rattle.std.specs.Prelude.{ℕ, List, Vec}
 use Rattle.std.specs.declared.alloc.Global.{Global}
 pub use Rattle.ckc_build_compile.specs.Compiled.{most_for_a_step}
+use Rattle.ckc_build_compile.specs.Confined.{ConfinesStores, NeverFaults}
 use Rattle.ckc_base.specs.Follows.{Follows}
 use Rattle.ckc_base.specs.Phases.{Phase}
 use Rattle.ckc_rv.specs.Machine.{Parts, machine}
@@ -16,11 +17,14 @@ abbrev pub IsImage : List ℕ → Parts → Type 0
 IsImage bytes parts = ImageOf bytes parts.entry parts.code parts.initial
 
 -- The parts are those of an image of a text: for every input of bytes its machine follows the meaning of the text,
--- within so many instructions for each step and as many more.
+-- within so many instructions for each step and as many more. Where the meaning is never stuck, each store lies in a
+-- block, in a frame or in the heap word, or the meaning's step plans it, and no run of the machine is at a fault.
 pub record Built (text : List ℕ) (parts : Parts) : Type 0 where
   pub program : Program
   pub means : HasMeaning text program
   pub follows : (input : List ℕ) → AreBytes input → Follows (source program input) (machine parts input) most_for_a_step
+  pub confined : ConfinesStores program parts
+  pub faultless : NeverFaults program parts
 
 -- From a text to an image of it, or to its first error. Which of its images comes is left open.
 abbrev pub building : Phase (List ℕ) (List ℕ)

@@ -7,6 +7,7 @@ ghost use Rattle.ckc_source.specs.LaidOut.{IsLaidOut};
 ghost use Rattle.ckc_checks_operands.specs.Compilable.{IsCompilable};
 ghost use Rattle.ckc_checks_operands.specs.Weights.{program_weight, most_weight};
 ghost use Rattle.ckc_build_compile.specs.Compiled.{FollowsSource, machine_parts};
+ghost use Rattle.ckc_build_compile.specs.Confined.{ConfinesStores, NeverFaults};
 ghost use Rattle.ckc_build.specs.Built.{IsImage, building, bytes_of};
 ghost use Rattle.ckc_build.specs.Sizes.{HasShortCode};
 
@@ -49,6 +50,8 @@ fn image_of(alloc: Global, p: &Program) -> Result<Vec<u8>, AllocError>
     requires small { program_weight (program_of p.now) ≤ most_weight }
     ensures { IfOk result (λ image. (made : parts.Parts) × FollowsSource (program_of p.now) made
         × (length made.code ≤ 4 * (program_weight (program_of p.now) + 5))
+        × ConfinesStores (program_of p.now) (machine_parts made)
+        × NeverFaults (program_of p.now) (machine_parts made)
         × IsImage image.items (machine_parts made)) }
 {
     match compile(alloc, p) {
