@@ -28,8 +28,8 @@ use Rattle.ckc_rv.specs.Detailed.{MachineEvent, Outside, Wrote, outside_events, 
 use Rattle.ckc_rv.specs.Machine as M
 use Rattle.ckc_checks_follow.specs.Stores.{MayDo, AreLevel}
 use Rattle.ckc_build_compile.specs.Confined.{IsInFrame, MayWrite}
-use Rattle.ckc_build_compile.proofs.Joining.{Grows, data_in, seen_more, SameCalls, Quietly, Showing, Joined, joins, joined_rises}
-use Rattle.ckc_build_compile.proofs.Counting.{run_grows, active_counted, same_active}
+use Rattle.ckc_base.proofs.Joining.{Grows, data_in, seen_more, SameCalls, Quietly, Showing, Joined, joins, joined_rises}
+use Rattle.ckc_base.proofs.Counting.{run_grows, active_counted, same_active}
 use Rattle.ckc_build_compile.proofs.Events.{core_fine, placed_fine, machine_short}
 
 -- ---- events

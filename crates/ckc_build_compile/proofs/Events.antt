@@ -29,7 +29,7 @@ use Rattle.ckc_rv.specs.Decoded.{decoded}
 use Rattle.ckc_rv.specs.Effects.{effect_of, load_bytes, store_bytes}
 use Rattle.ckc_rv.specs.Machine as M
 use Rattle.ckc_rv.specs.Detailed.{with_writes, writes_of, writes_by, writes_at, detailed_step}
-use Rattle.ckc_build_compile.proofs.Counting.{IsShort, Counts}
+use Rattle.ckc_base.proofs.Counting.{IsShort, Counts}
 
 -- ---- actions
 

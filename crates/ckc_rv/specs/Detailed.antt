@@ -31,6 +31,7 @@ abbrev pub writes_by : State → Option Instr → List MachineEvent
 writes_by s (Some i) = writes_of (effect_of i s.pc s.x)
 writes_by s None = []
 
+-- the store of the next instruction, if it stores
 abbrev pub writes_at : State → List MachineEvent
 writes_at s = writes_by s (option_and_then decoded (loaded s.memory 4 s.pc))
 
@@ -39,9 +40,11 @@ abbrev pub with_writes : List MachineEvent → Move Event State → Move Machine
 with_writes writes (Goes events next) = Goes (map (λ e. Outside e) events ++ writes) next
 with_writes writes (Halts events standing) = Halts (map (λ e. Outside e) events) standing
 
+-- the next step of the machine, with its store
 unfoldable pub detailed_step : Parts → State → Move MachineEvent State
 detailed_step parts s = with_writes (writes_at s) (machine_step parts s)
 
+-- the machine of an image as a system of steps that show their stores
 abbrev pub detailed_system : Parts → System MachineEvent State
 detailed_system parts = record { step = detailed_step parts; weight = λ s. 0 }
 

@@ -113,6 +113,7 @@ load_bytes Lw = 4
 load_bytes Lbu = 1
 load_bytes Lhu = 2
 
+-- how many bytes a store writes
 abbrev pub store_bytes : StoreOp → ℕ
 store_bytes Sb = 1
 store_bytes Sh = 2
