@@ -20,11 +20,11 @@ use Rattle.ckc_source.specs.declared.stmt.Kept.{Kept}
 use Rattle.ckc_source.specs.Code as source
 use Rattle.ckc_source.specs.LaidOut.{AreBytes}
 use Rattle.ckc_source.specs.Eval.{Store, given, plain, evaluated, all_evaluated}
-use Rattle.ckc_source.specs.States.{Work, Rest, Turn}
+use Rattle.ckc_source.specs.States.{Work, Rest}
 use Rattle.ckc_source.specs.States as S
 use Rattle.ckc_source.specs.Steps.{store_of, aimed, allowed, writes, all_written, Planned, and_then_written, Drawn, drawn, bundled, at_work, and_moves, comes_to, writes_allowed, gets, puts, calls, returns}
 use Rattle.ckc_core.specs.Code.{Expr, Local, Code, Check, Call, Get, Put, If, Return, Function}
-use Rattle.ckc_core.specs.Meaning.{Stop, Next, Body, value_of, nodes, all_nodes, extra_steps, core_step, goes_by, returns_value}
+use Rattle.ckc_core.specs.Meaning.{Next, value_of, nodes, all_nodes, core_step, goes_by, returns_value}
 use Rattle.ckc_core.specs.Meaning as C
 use Rattle.ckc_checks_operands.specs.Compilable.{IsCompilableExpr, IsCompilablePart, IsCompilableTarget, IsCompilableKept, IsCompilableFunction, HasParams, expr_nodes, exprs_nodes, code_nodes}
 use Rattle.ckc_checks_operands.specs.Operands.{low_byte, operand}
@@ -35,7 +35,7 @@ use Rattle.ckc_checks_follow.specs.Stores.{next_byte}
 use Rattle.ckc_checks_follow.proofs.Values.{Sees, low_value}
 use Rattle.ckc_checks_follow.proofs.Aiming.{IsAt, Aimed, aim_steps, aim_comes, at_later}
 use Rattle.ckc_checks_follow.proofs.Counts.{expr_steps, operand_steps, operands_steps, operand_nodes, operands_nodes, operands_count, written_same, written_below}
-use Rattle.ckc_checks_follow.proofs.Coming.{Below, Comes, Held}
+use Rattle.ckc_checks_follow.proofs.Coming.{Below, Held}
 use Rattle.ckc_checks_follow.proofs.Exprs.{AllHeld, expr_comes, operand_comes, operands_comes}
 use Rattle.ckc_checks_follow.proofs.Coming as X
 use Rattle.ckc_checks_follow.proofs.Relation.{Stands}

@@ -17,7 +17,7 @@ use Rattle.ckc_source.specs.States.{Work, Rest}
 use Rattle.ckc_source.specs.States as S
 use Rattle.ckc_source.specs.Steps.{store_of, aimed, allowed, writes, Write, Drawn, drawn, Planned, and_then_written, planned, bundled, at_work, and_moves, comes_to, gets, puts}
 use Rattle.ckc_core.specs.Code.{Local, Code, Get, Put, Function}
-use Rattle.ckc_core.specs.Meaning.{value_of, nodes, core_step, goes_by}
+use Rattle.ckc_core.specs.Meaning.{nodes}
 use Rattle.ckc_core.specs.Meaning as C
 use Rattle.ckc_checks_operands.specs.Compilable.{target_nodes, expr_nodes, IsCompilableExpr, IsCompilableTarget, IsCompilableFunction}
 use Rattle.ckc_checks_operands.specs.Operands.{low_byte, operand}

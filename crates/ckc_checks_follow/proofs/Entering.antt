@@ -9,7 +9,6 @@ use Rattle.std.proofs.Common.{length-append}
 use Rattle.ckc_base.specs.declared.arithmetic.Width.TheVariants.{Byte, Word}
 use Rattle.ckc_base.specs.declared.places.Pos.{Pos}
 use Rattle.ckc_base.specs.declared.runtime_checks.Check.TheVariants.{Depth}
-use Rattle.ckc_base.specs.Traces.{Event}
 use Rattle.ckc_base.specs.Traces as standing
 use Rattle.ckc_base.specs.LongEvents.{LongEvent, Plain, Stored, Entered, Returned}
 use Rattle.ckc_base.specs.Steps.{Goes, Halts}

@@ -10,11 +10,11 @@ use Rattle.ckc_source.specs.declared.outcome.Halt.{Halt}
 use Rattle.ckc_source.specs.declared.stmt.Spot.{Spot}
 use Rattle.ckc_source.specs.Code as source
 use Rattle.ckc_source.specs.Eval.{Store, given, evaluated}
-use Rattle.ckc_source.specs.States.{Work, Rest, Turn, settled}
+use Rattle.ckc_source.specs.States.{Work, Rest, Turn}
 use Rattle.ckc_source.specs.States as S
 use Rattle.ckc_source.specs.Steps.{store_of, Planned, planned, at_work, and_moves, acts}
 use Rattle.ckc_core.specs.Code.{Code, End, If, Break, Loop}
-use Rattle.ckc_core.specs.Meaning.{Stop, Next, Body, Step, value_of, nodes, core_step}
+use Rattle.ckc_core.specs.Meaning.{Next, Body, nodes, core_step}
 use Rattle.ckc_core.specs.Meaning as C
 use Rattle.ckc_checks_operands.specs.Compilable.{IsCompilableAssign, IsCompilableFunction, expr_nodes}
 use Rattle.ckc_checks_operands.specs.Operands.{operand}
