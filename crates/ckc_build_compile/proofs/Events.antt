@@ -73,10 +73,20 @@ alloc_act world target size n =
     valued (value_at Word world.memory data_start) (allocates_at world target n size)
     (λ place. allocates_act world target n size place (heap_has_room place n size) (memory_with Word world.memory data_start (next_place place n size)))
 
--- ---- core code
-
 abbrev pub IsFine : {S : Type 0} → (S → ℕ) → S → Move LongEvent S → Type 0
 IsFine active s move = IsShort move × Counts active s move
+
+-- a move with such events to a state with as many active calls
+given_fine : {S : Type 0} (active : S → ℕ) (s : S) (events : List LongEvent) (next : S) → IsData events → active next ≡ active s → IsFine active s (Goes events next)
+given_fine active s [] next h same = (tt, ap (λ n. n + 0) same)
+given_fine active s (Plain event ∷ []) next h same = (tt, ap (λ n. n + 0) same)
+given_fine active s (Stored at width value ∷ []) next h same = (tt, ap (λ n. n + 0) same)
+given_fine active s (Plain event ∷ e ∷ events) next h same = absurd h
+given_fine active s (Stored at width value ∷ e ∷ events) next h same = absurd h
+given_fine active s (Entered ∷ events) next h same = absurd h
+given_fine active s (Returned ∷ events) next h same = absurd h
+
+-- ---- core code
 
 module _ (functions : List core.Function) (s : C.State) where
   abbrev Fine : Move LongEvent C.State → Type 0
@@ -108,18 +118,9 @@ module _ (functions : List core.Function) (s : C.State) where
   continues_fine (C.Body body step code after) = (tt, refl)
   continues_fine (C.Step body step code after) = (tt, (refl, refl))
 
-  given_fine : (events : List LongEvent) (next : C.State) → IsData events → C.active next ≡ C.active s → Fine (Goes events next)
-  given_fine [] next h same = (tt, ap (λ n. n + 0) same)
-  given_fine (Plain event ∷ []) next h same = (tt, ap (λ n. n + 0) same)
-  given_fine (Stored at width value ∷ []) next h same = (tt, ap (λ n. n + 0) same)
-  given_fine (Plain event ∷ e ∷ events) next h same = absurd h
-  given_fine (Stored at width value ∷ e ∷ events) next h same = absurd h
-  given_fine (Entered ∷ events) next h same = absurd h
-  given_fine (Returned ∷ events) next h same = absurd h
-
   acts_fine : (code : core.Code) (o : Outcome) → IsAction o → Fine (C.goes_by s code o)
-  acts_fine code (Gives events x value world) h = given_fine events _ h refl
-  acts_fine code (Done events world) h = given_fine events _ h refl
+  acts_fine code (Gives events x value world) h = given_fine C.active s events _ h refl
+  acts_fine code (Done events world) h = given_fine C.active s events _ h refl
   acts_fine code (Stops check at) h = (tt, (refl, refl))
   acts_fine code Lost h = (tt, (refl, refl))
 
@@ -187,18 +188,9 @@ module _ (functions : List PlacedFunc) (s : F.State) where
   places_returned (c ∷ callers) (Some n) e = let count = ap length e in (tt, omega (arith, count))
   places_returned (c ∷ callers) None e = (tt, (refl, refl))
 
-  places_given : (events : List LongEvent) (next : F.State) → IsData events → F.active next ≡ F.active s → FineHere (Goes events next)
-  places_given [] next h same = (tt, ap (λ n. n + 0) same)
-  places_given (Plain event ∷ []) next h same = (tt, ap (λ n. n + 0) same)
-  places_given (Stored at width value ∷ []) next h same = (tt, ap (λ n. n + 0) same)
-  places_given (Plain event ∷ e ∷ events) next h same = absurd h
-  places_given (Stored at width value ∷ e ∷ events) next h same = absurd h
-  places_given (Entered ∷ events) next h same = absurd h
-  places_given (Returned ∷ events) next h same = absurd h
-
   places_act : (ops : List TacOp) (o : Outcome) → IsAction o → FineHere (F.goes_by s ops o)
-  places_act ops (Gives events x value world) h = places_given events _ h refl
-  places_act ops (Done events world) h = places_given events _ h refl
+  places_act ops (Gives events x value world) h = given_fine F.active s events _ h refl
+  places_act ops (Done events world) h = given_fine F.active s events _ h refl
   places_act ops (Stops check at) h = (tt, (refl, refl))
   places_act ops Lost h = (tt, (refl, refl))
 

@@ -3,7 +3,6 @@ use Rattle.std.proofs.Common.{◌≡◌, ℕ, ◌+◌, ◌≤◌, ◌==◌, List
 use Rattle.std.specs.Prelude.{Bool, true, false, if◌then◌else◌, Some, Result, Ok, Err}
 use Rattle.ckc_base.specs.declared.places.Pos.{Pos}
 use Rattle.ckc_base.specs.declared.runtime_checks.Check.{Check as CheckName}
-use Rattle.ckc_base.specs.Traces.{Event, Standing}
 use Rattle.ckc_base.specs.Traces as standing
 use Rattle.ckc_base.specs.Steps.{Goes}
 use Rattle.ckc_base.specs.Actions.{World, Gives, Done, Stops, with_value, checks}
