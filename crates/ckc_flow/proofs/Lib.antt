@@ -1,0 +1,4 @@
+mod Lists
+mod Marks
+mod Exact
+mod Rounds
