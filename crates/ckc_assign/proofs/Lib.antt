@@ -1,4 +1,8 @@
-pub mod Slots
-pub mod Pairs
+pub mod Outcomes
+pub mod Values
+pub mod Calls
+pub mod Growing
+pub mod Scanned
 pub mod Simulated
-pub mod Placed
+pub mod Follows
+pub mod Assigned

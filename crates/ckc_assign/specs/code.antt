@@ -1,1 +1,4 @@
-pub mod InSlots
+pub mod Ranges
+pub mod Homes
+pub mod Kept
+pub mod Assigned

@@ -1,8 +1,11 @@
-//! Three-address code to placed code: each register gets a slot of the frame of its own.
+//! Three-address code to placed code: registers get places by linear scan over their live ranges.
 #![tactic(auto)]
 
 mod copies;
-mod places;
+mod homes;
+mod kept;
+pub mod laws;
 mod program;
+mod ranges;
 
 pub use program::assign;

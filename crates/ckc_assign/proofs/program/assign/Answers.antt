@@ -1,23 +1,24 @@
-use Rattle.std.proofs.Common.{◌≡◌, sym, subst, Result, Ok, Err, IfOk}
-use Rattle.ckc_assign.proofs.Placed.{code_is, whole_is, apart_is, size_is, follows_is}
+use Rattle.std.proofs.Common.{◌∙◌, List, refl, sym, subst}
+use Rattle.ckc_tac.specs.declared.code.TacFunc.{TacFunc}
+use Rattle.ckc_frame.specs.declared.code.Placed.{Placed}
+use Rattle.ckc_frame.specs.declared.code.PlacedFunc.{PlacedFunc}
+use Rattle.ckc_assign.specs.code.Assigned.{AreAssigned}
+use Rattle.ckc_assign.proofs.Assigned.{code_is, whole_is, follows_of, size_is}
 use Rattle.ckc_assign.proofs.program.assign.Goals as goal
 
--- what is one value has what that value has
-has_of : {A E : Type 0} (r : Result A E) (a : A) (P : A → Type 0) → P a → IfOk r (λ x. x ≡ a) → IfOk r P
-has_of (Ok x) a P h e = subst P (sym e) h
-has_of (Err f) a P h e = tt
-
-pub returns-clause-code : goal.returns-clause-code
-returns-clause-code c = has_of c.placed.result _ _ (code_is c.args.t.now) c.placed.ensures
-
-pub returns-clause-whole : goal.returns-clause-whole
-returns-clause-whole c = has_of c.placed.result _ _ (whole_is c.args.t.now c.requires.whole c.requires.few) c.placed.ensures
-
-pub returns-clause-follows : goal.returns-clause-follows
-returns-clause-follows c = has_of c.placed.result _ _ (follows_is c.args.t.now c.requires.whole c.requires.few) c.placed.ensures
-
-pub returns-clause-apart : goal.returns-clause-apart
-returns-clause-apart c = has_of c.placed.result _ _ (apart_is c.args.t.now c.requires.few) c.placed.ensures
-
-pub returns-clause-size : goal.returns-clause-size
-returns-clause-size c = has_of c.placed.result _ _ (size_is c.args.t.now) c.placed.ensures
+pub returns : goal.returns
+returns c =
+    let t = c.args.t.now in
+    let p : Placed = record { initial = c.in_ok-initial.initial; funcs = c.from_vec.result; main = t.main } in
+    let a : AreAssigned t.funcs p.funcs =
+    subst (λ (l : List PlacedFunc). AreAssigned t.funcs l) (sym c.from_vec.ensures)
+    (subst (λ (l : List TacFunc). AreAssigned l c.in_ok-funcs.funcs.items) c.as_slice.ensures c.in_ok-funcs.ensures) in
+    let e = code_is t p (c.in_ok-initial.ensures ∙ c.as_slice-2.ensures) refl a in
+    record {
+      code = e;
+      whole = whole_is t p e c.requires.whole a;
+      apart = a.apart;
+      keeps = a.keeps;
+      size = size_is t p e;
+      follows = follows_of t p e c.requires.whole a;
+    }
