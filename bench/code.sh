@@ -1,6 +1,7 @@
 #!/bin/bash
 # How many instructions the machine runs for programs: the least LIMIT with which `ccc exec` does not answer that the
-# limit was reached.
+# limit was reached. Those of code/ work on arrays, lists and words; of some there is a second form that is wholly
+# checked.
 . "$(dirname "$0")/workspace.sh"
 reaches_limit() { # limit program input
   printf '%s' "$3" | "$top/ccc" exec "$2" "$1" > "$work/said" 2>&1
@@ -43,3 +44,6 @@ count 'a calculator' "$top/examples/calculator.c" '2*(3+4)-10/3
 '
 count 'sorting of eight numbers' "$top/examples/sorter.c" '8 7 6 5 4 3 2 1
 '
+for program in "$top"/bench/code/*.c; do
+  count "$(basename "$program" .c | tr _ ' ')" "$program" ''
+done

@@ -1,6 +1,6 @@
 //! The registers that are live at the beginning of each block.
 ghost use Rattle.std.specs.Prelude.{◌≡◌, ◌<◌, [], get_or, length, replicate, false, IfOk, List};
-ghost use Rattle.std.specs.Bool.{MatchBool, OnFalse};
+ghost use Rattle.std.specs.Bool.{MatchBool};
 ghost use Rattle.ckc_flow.specs.Live.{AreExact};
 ghost use Rattle.ckc_flow.specs.code.Rows.{made};
 ghost use Rattle.ckc_flow.specs.code.Rounds.{AreClosed, AreSound, HasMore, IsWithin, Visits, unset_in};

@@ -1,5 +1,5 @@
 //! The registers that are live in front of operations and of the end of a block, from those that are live behind.
-ghost use Rattle.std.specs.Prelude.{◌≡◌, [], ◌∷◌, ◌++◌, get_or, length, set, false, List};
+ghost use Rattle.std.specs.Prelude.{◌≡◌, [], ◌∷◌, get_or, length, set, false, List};
 ghost use Rattle.ckc_tac.specs.declared.code.TacFunc.{TacFunc};
 ghost use Rattle.ckc_tac.specs.declared.code.TacOp.{TacOp};
 ghost use Rattle.ckc_tac.specs.declared.code.TacEnd.{TacEnd};
