@@ -34,6 +34,7 @@ pub record IsRow (globals : Globals) (s : Setting) (n : NotedLayer) (note : Note
   pub bare : is_integer note.ctype ≡ true → note.range ≡ Missing
   pub word : IsWordNode s.frame.structs n
 
+-- the row of an expression
 abbrev pub HasRow : Globals → Setting → Expr-F Name Note NotedLimits NotedNode NotedExpr → Type 0
 HasRow globals s e = IsRow globals s (out-Node Name Note e.node) e.note
 
@@ -41,17 +42,17 @@ HasRow globals s e = IsRow globals s (out-Node Name Note e.node) e.note
 abbrev pub IsTyped : Globals → Setting → NotedExpr → Type 0
 IsTyped globals s = every-Expr Name Note AnyLimits AnyNode (HasRow globals s)
 
+-- the same of one that may be left out
+abbrev pub IsTypedIf : Globals → Setting → Option NotedExpr → Type 0
+IsTypedIf globals s e = IfSome e (IsTyped globals s)
+
 -- The frame that a function is judged by has the structures of its text, and its locals have their declared types.
 pub record Agrees (globals : Globals) (s : Setting) : Type 0 where
   pub structs : s.frame.structs ≡ s.text.layout
   pub locals : (k : ℕ) (l : Local) (t : CType) → local_at s.frame k ≡ Some l
       → type_of_name globals s.variables (name.Local k) ≡ Some t → l.ctype ≡ t
 
--- the same of one that may be left out
-abbrev pub IsTypedIf : Globals → Setting → Option NotedExpr → Type 0
-IsTypedIf globals s e = IfSome e (IsTyped globals s)
-
--- No local has a list in braces.
+-- An initialiser of a local is typed. No local has a list in braces.
 abbrev pub IsTypedInit : Globals → Setting → NotedInit → Type 0
 IsTypedInit globals s init.Nothing = Unit {0}
 IsTypedInit globals s (init.One e) = IsTyped globals s e
@@ -65,5 +66,6 @@ IsTypedAct globals s (Act-F.Local d) =
     × ((k : ℕ) (l : Local) → d.name ≡ name.Local k → local_at s.frame k ≡ Some l → l.ctype ≡ type_written d.ctype)
 IsTypedAct globals s a = Unit {0}
 
+-- the same of a statement
 abbrev pub IsTypedStmt : Globals → Setting → NotedStmt → Type 0
 IsTypedStmt globals s st = IsTypedAct globals s (out-Act Name Note st.body)
