@@ -9,3 +9,4 @@ pub mod Exprs
 pub mod Holding
 pub mod Judging
 pub mod Statements
+pub mod Stepping

@@ -29,7 +29,7 @@ use Rattle.ckc_bounds_stores.specs.Targets.{local_named, local_in, local_of}
 use Rattle.ckc_bounds_stores.specs.Stores.{with_store, stores_of, numbered, assigned_local, after, first_fault, unless_refused, stored_placed}
 use Rattle.ckc_bounds_views.specs.Parts.{fresh_behind}
 use Rattle.ckc_bounds_views.specs.Views.{view}
-use Rattle.ckc_bounds_statements.specs.Paths.{Here, value_judged, values_judged, maybe_judged, init_judged, starts_within, started, start_form, declared_here, bounds_judged, decl_judged, stated, sides_judged, stores_judged, behind_stores, value_form}
+use Rattle.ckc_bounds_statements.specs.Paths.{Here, value_judged, values_judged, maybe_judged, init_judged, starts_within, started, start_form, declared_here, bounds_judged, decl_judged, stated, sides_judged, stores_judged, behind_stores, assign_judged, local_judged, value_form}
 use Rattle.ckc_base.specs.declared.arithmetic.Width.TheVariants.{Byte, Word}
 use Rattle.ckc_source.specs.declared.expr.Integer.{Integer}
 use Rattle.ckc_source.specs.declared.expr.Integer.TheVariants.{Int, Unsigned, Char}
@@ -44,7 +44,7 @@ use Rattle.ckc_blame_sound.specs.Values.{AreTrue, HoldWords, IsWordOf}
 use Rattle.ckc_blame_sound.proofs.Flow.{facts_assigned_hold, integer_value}
 use Rattle.ckc_blame_sound.specs.Steps.{IsCondition}
 use Rattle.ckc_blame_numbers.specs.Typed.{IsRow, HasRow, IsTyped, IsTypedIf, Agrees}
-use Rattle.ckc_blame_numbers.specs.Assigned.{IsAssignment, IsDeclaration, Begins}
+use Rattle.ckc_blame_numbers.specs.code.Assigned.{IsAssignment, IsDeclaration, Begins}
 use Rattle.ckc_blame_numbers.proofs.Types.{none_is_some}
 use Rattle.ckc_blame_numbers.proofs.Claims.{plain_is}
 use Rattle.ckc_blame_numbers.proofs.Judging.{IsAlike, IsGood, Gives, outline, expr_judged as judging}
@@ -52,17 +52,17 @@ use Rattle.ckc_blame_numbers.proofs.Holding.{assignment_holds, side_comes}
 
 -- ---- what is Ok
 
-made_of : {A B : Type 0} (o : Outcome A) (h : A → Outcome B) (b : B) → bind o h ≡ Ok b → (a : A) × (o ≡ Ok a) × (h a ≡ Ok b)
+pub made_of : {A B : Type 0} (o : Outcome A) (h : A → Outcome B) (b : B) → bind o h ≡ Ok b → (a : A) × (o ≡ Ok a) × (h a ≡ Ok b)
 made_of (Ok a) h b e = (a, refl, e)
 made_of (Err r) h b e = absurd (cc)
 
-pair_same : {A B : Type 0} (a b : A) (c d : B) → ◌≡◌ {A = Outcome (A × B)} (Ok (a, c)) (Ok (b, d)) → (a ≡ b) × (c ≡ d)
+pub pair_same : {A B : Type 0} (a b : A) (c d : B) → ◌≡◌ {A = Outcome (A × B)} (Ok (a, c)) (Ok (b, d)) → (a ≡ b) × (c ≡ d)
 pair_same {A} {B} a b c d e = let p : ◌≡◌ {A = A × B} (a, c) (b, d) = cc in (ap (λ (x : A × B). x.0) p, ap (λ (x : A × B). x.1) p)
 
 ok_is : {A : Type 0} (a b : A) → ◌≡◌ {A = Outcome A} (Ok a) (Ok b) → a ≡ b
 ok_is a b e = cc
 
-passes : {A : Type 0} (b : Bool) (code : ℕ) (at : Pos) (o : Outcome A) (a : A) → unless b code at o ≡ Ok a → o ≡ Ok a
+pub passes : {A : Type 0} (b : Bool) (code : ℕ) (at : Pos) (o : Outcome A) (a : A) → unless b code at o ≡ Ok a → o ≡ Ok a
 passes true code at o a e = absurd (cc)
 passes false code at o a e = e
 
@@ -119,7 +119,7 @@ module _ (globals : Globals) (s : Setting) where
 
   -- ---- assignments
 
-  out_assign : (e f : NotedExpr) → out-Act Name Note (act.Assign e f) ≡ Act-F.Assign e f
+  pub out_assign : (e f : NotedExpr) → out-Act Name Note (act.Assign e f) ≡ Act-F.Assign e f
   out_assign e f = search (rules, the_lemmas)
 
   abbrev Bare : Type 0
@@ -145,7 +145,7 @@ module _ (globals : Globals) (s : Setting) where
   typed_name mode (Node-F.Name n) t k h e = subst (λ m. type_of_name globals s.variables m ≡ Some t) (is_named n k e) h
   typed_name mode n t k h e = none_is_some k e
 
-  local_type : (agrees : Agrees globals s) (e : NotedExpr) (k : ℕ) (l : Local) → IsTyped globals s e → local_of e ≡ Some k → local_at s.frame k ≡ Some l → l.ctype ≡ e.note.ctype
+  pub local_type : (agrees : Agrees globals s) (e : NotedExpr) (k : ℕ) (l : Local) → IsTyped globals s e → local_of e ≡ Some k → local_at s.frame k ≡ Some l → l.ctype ≡ e.note.ctype
   local_type agrees e k l w named there =
       let row : IsRow globals s (out-Node Name Note e.node) e.note = every_here-Expr Name Note AnyLimits AnyNode (HasRow globals s) e w in
       agrees.locals k l e.note.ctype there (typed_name row.mode (out-Node Name Note e.node) e.note.ctype k row.row named)
@@ -175,6 +175,43 @@ module _ (globals : Globals) (s : Setting) where
       let o : ◌≡◌ {A = Act-F Name Note NotedAct NotedStmt} (Act-F.Assign a f) (Act-F.Assign b g) =
       sym (out_assign a f) ∙ ap (λ (x : NotedStmt). out-Act Name Note x.body) e ∙ out_assign b g in
       (cc, cc)
+
+  -- what a judged assignment becomes
+  pub assign_made : (spot : Pos) (note : Note) (e f : NotedExpr) (here : Here) (st : NotedStmt) (there : Here) → IsTyped globals s e → assign_judged s.frame s.head spot note e f here ≡ Ok (st, there)
+      → (a : NotedExpr) × (b : NotedExpr) × (st ≡ stated spot note (act.Assign a b)) × (local_of a ≡ local_of e) × (a.note.ctype ≡ e.note.ctype)
+  assign_made spot note e f here st there w h =
+      let m = made_of (sides_judged s.frame spot note e f here) (λ p. bind (behind_stores s.frame s.head (p.0 ∷ []) here.next p.1) (λ h. Ok (p.0, h))) (st, there) h in
+      let n = made_of (behind_stores s.frame s.head (m.0.0 ∷ []) here.next m.0.1) (λ h. Ok (m.0.0, h)) (st, there) m.2 in
+      let last = pair_same m.0.0 st n.0 there n.2 in
+      let p = made_of (value_judged s.frame e here) (λ p. bind (value_judged s.frame f p.1) (λ q. Ok (stated spot note (act.Assign p.0 q.0), q.1))) m.0 m.1 in
+      let q = made_of (value_judged s.frame f p.0.1) (λ q. Ok (stated spot note (act.Assign p.0.0 q.0), q.1)) m.0 p.2 in
+      let both : ◌≡◌ {A = NotedStmt × Here} (stated spot note (act.Assign p.0.0 q.0.0), q.0.1) m.0 = ok_is (stated spot note (act.Assign p.0.0 q.0.0), q.0.1) m.0 q.2 in
+      let t = stays e here p.0.0 p.0.1 w p.1 in
+      (p.0.0, q.0.0, sym (ap (λ (x : NotedStmt × Here). x.0) both ∙ last.0), local_same e p.0.0 t.alike, t.alike.ctype)
+
+  -- what a judged declaration becomes
+  pub local_made : (spot : Pos) (note : Note) (d : NotedDecl) (here : Here) (st : NotedStmt) (there : Here) → local_judged s.frame spot note d here ≡ Ok (st, there)
+      → (first : NotedInit) × (st ≡ stated spot note (act.Local (record d { init = first }))) × ((es : List NotedExpr) → first ≡ init.Many es → (fs : List NotedExpr) × (d.init ≡ init.Many fs))
+  local_made spot note d here st there h =
+      let m = made_of (decl_judged s.frame d here) (λ p. Ok (stated spot note (act.Local p.0), p.1)) (st, there) h in
+      let last = pair_same (stated spot note (act.Local m.0.0)) st m.0.1 there m.2 in
+      let n = made_of (bounds_judged s.frame d here) (λ b. bind (init_judged s.frame d.init here) (λ p.
+      unless (not (starts_within s.frame d.name p.0 here.next p.1)) not_contained d.pos (Ok (record d { init = p.0 }, declared_here s.frame d p.0 p.1)))) m.0 m.1 in
+      let i = made_of (init_judged s.frame d.init here) (λ p.
+      unless (not (starts_within s.frame d.name p.0 here.next p.1)) not_contained d.pos (Ok (record d { init = p.0 }, declared_here s.frame d p.0 p.1))) m.0 n.2 in
+      let j = passes (not (starts_within s.frame d.name i.0.0 here.next i.0.1)) not_contained d.pos (Ok (record d { init = i.0.0 }, declared_here s.frame d i.0.0 i.0.1)) m.0 i.2 in
+      let made : ◌≡◌ {A = NotedDecl × Here} (record d { init = i.0.0 }, declared_here s.frame d i.0.0 i.0.1) m.0 =
+      ok_is (record d { init = i.0.0 }, declared_here s.frame d i.0.0 i.0.1) m.0 j in
+      (i.0.0, sym (ap (λ (x : NotedDecl × Here). stated spot note (act.Local x.0)) made ∙ last.0), λ es many. many_before d.init i.0.0 i.0.1 i.1 es many)
+    where
+      many_before : (x first : NotedInit) (h : Here) → init_judged s.frame x here ≡ Ok (first, h) → (es : List NotedExpr) → first ≡ init.Many es → (fs : List NotedExpr) × (x ≡ init.Many fs)
+      many_before init.Nothing first h is es many = let p = pair_same {A = NotedInit} init.Nothing first here h is in let no : ◌≡◌ {A = NotedInit} init.Nothing (init.Many es) = p.0 ∙ many in absurd (cc)
+      many_before (init.One e) first h is es many =
+          let m = made_of (value_judged s.frame e here) (λ p. Ok (init.One p.0, p.1)) (first, h) is in
+          let p = pair_same {A = NotedInit} (init.One m.0.0) first m.0.1 h m.2 in
+          let no : ◌≡◌ {A = NotedInit} (init.One m.0.0) (init.Many es) = p.0 ∙ many in
+          absurd (cc)
+      many_before (init.Many fs) first h is es many = (fs, refl)
 
   -- the point behind a judged assignment
   pub assigned_is : (agrees : Agrees globals s) (here there : Here) (k : ℕ) (l : Local) (value : NotedExpr) (a : IsAssignment globals s here k l value there)
@@ -207,7 +244,7 @@ module _ (globals : Globals) (s : Setting) where
 
   -- ---- declarations
 
-  out_local : (d : NotedDecl) → out-Act Name Note (act.Local d) ≡ Act-F.Local d
+  pub out_local : (d : NotedDecl) → out-Act Name Note (act.Local d) ≡ Act-F.Local d
   out_local d = search (rules, the_lemmas)
 
   local_is : (spot : Pos) (note : Note) (d e : NotedDecl) → ◌≡◌ {A = NotedStmt} (stated spot note (act.Local d)) (stated spot note (act.Local e)) → d ≡ e
@@ -237,7 +274,7 @@ module _ (globals : Globals) (s : Setting) where
       absurd (subst (λ (i : NotedInit). Begins s literals i e) (sym p.0) b)
 
   -- the point behind a judged declaration
-  declared_is : (here there : Here) (k : ℕ) (l : Local) (first : NotedInit) (literals : ℕ) (e : Expr) → Begins s literals first e → (a : IsDeclaration globals s here k l first there)
+  pub declared_is : (here there : Here) (k : ℕ) (l : Local) (first : NotedInit) (literals : ℕ) (e : Expr) → Begins s literals first e → (a : IsDeclaration globals s here k l first there)
       → (there.at ≡ assigned s.frame k (start_form s.frame l.ctype first here.at.facts) here.at) × InitTyped first
   declared_is here there k l first literals e b a =
       let d : NotedDecl = record a.decl { init = first } in

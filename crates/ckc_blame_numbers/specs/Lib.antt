@@ -1,3 +1,3 @@
 pub mod Typed
 pub mod Exact
-pub mod Assigned
+pub mod code

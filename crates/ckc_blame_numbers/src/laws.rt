@@ -1,28 +1,31 @@
 //! What follows from the definitions alone, each the contract of a function that does nothing. Nothing is asked of the mode
 //! of the code that ran before: the laws hold after unchecked steps too.
 
-ghost use Rattle.std.specs.Prelude.{◌≡◌, ℕ, ◌==◌, ◌<◌, ◌^◌, true, not, if◌then◌else◌, Bool, List, length, slice_set, Option, Some, Ok};
-ghost use Rattle.ckc_base.specs.Memory.{kept_part};
+ghost use Rattle.std.specs.Prelude.{◌≡◌, ℕ, ◌==◌, ◌<◌, ◌^◌, true, not, if◌then◌else◌, Bool, List, [], ◌∷◌, length, Option, Some, Ok};
+ghost use Rattle.ckc_base.specs.declared.arithmetic.Width.{Width};
 ghost use Rattle.ckc_linear.specs.declared.forms.Form.{Form};
 ghost use Rattle.ckc_typed.specs.declared.environment.Globals.{Globals};
-ghost use Rattle.ckc_typed.specs.Trees.{NotedExpr, NotedInit};
+ghost use Rattle.ckc_typed.specs.Trees.{NotedExpr};
 ghost use Rattle.ckc_bounds_points.specs.declared.frame.Frame.{Frame};
 ghost use Rattle.ckc_bounds_points.specs.declared.frame.Local.{Local};
 ghost use Rattle.ckc_bounds_points.specs.Shown.{Known};
 ghost use Rattle.ckc_bounds_points.specs.Frames.{local_at};
-ghost use Rattle.ckc_bounds_points.specs.Flow.{State, assigned};
+ghost use Rattle.ckc_bounds_points.specs.Flow.{State};
 ghost use Rattle.ckc_bounds_views.specs.Views.{view};
-ghost use Rattle.ckc_bounds_statements.specs.Paths.{Here, side_of, value_form};
+ghost use Rattle.ckc_bounds_statements.specs.Paths.{Here, side_of};
 ghost use Rattle.ckc_source.specs.declared.outcome.Value.{Value};
-ghost use Rattle.ckc_source.specs.Code.{Expr};
+ghost use Rattle.ckc_source.specs.declared.program.Shape.{Shape};
+ghost use Rattle.ckc_source.specs.declared.stmt.Spot.{Spot};
+ghost use Rattle.ckc_source.specs.Code as code;
+ghost use Rattle.ckc_source.specs.Code.{Expr, Variable, Assign};
+ghost use Rattle.ckc_source.specs.States as states;
+ghost use Rattle.ckc_source.specs.Steps.{store_of, bundled};
 ghost use Rattle.ckc_source.specs.Eval.{Store, evaluated};
-ghost use Rattle.ckc_build_values.specs.Kinds.{width_of};
 ghost use Rattle.ckc_build_values.specs.Expressions.{expr_elaborated};
 ghost use Rattle.ckc_blame_sound.specs.Settings.{Setting};
 ghost use Rattle.ckc_blame_sound.specs.Values.{AreTrue, HoldWords};
-ghost use Rattle.ckc_blame_sound.specs.Steps.{IsCondition};
-ghost use Rattle.ckc_blame_numbers.specs.Typed.{IsTyped, IsTypedIf, Agrees};
-ghost use Rattle.ckc_blame_numbers.specs.Assigned.{IsAssignment, IsDeclaration, Begins};
+ghost use Rattle.ckc_blame_sound.specs.Steps.{IsStep, IsCondition};
+ghost use Rattle.ckc_blame_numbers.specs.Typed.{IsTyped, IsTypedIf, IsTypedStmt, Agrees};
 ghost use Rattle.ckc_blame_numbers.specs.Exact.{IsExact};
 
 /// Where the facts of a point are true, the form that an expression has there stands for exactly the integer that the
@@ -53,28 +56,23 @@ pub fn judging_keeps_types()
         → IsTyped globals s f × (f.note.ctype ≡ e.note.ctype) }
 {}
 
-/// The facts of the next point are true behind a condition, on the side that it comes to, and behind an assignment or a
-/// declaration of a local, with the word that it keeps.
+/// The facts of the next point are true behind a condition, on the side that it comes to, and in the state behind an
+/// assignment to a local, a declaration being one.
 pub fn facts_hold()
     ensures condition { (globals : Globals) (s : Setting) (here yes no : Here) (e : Expr)
         (store : Store) (v : Value) → Agrees globals s → (c : IsCondition s here e yes no)
         → IsTypedIf globals s c.before → HoldWords s.frame store.locals
         → AreTrue s.frame store.locals here.at.facts → evaluated store e ≡ Ok v
         → AreTrue s.frame store.locals (if v.number == 0 then no else yes).at.facts }
-    ensures assignment { (globals : Globals) (s : Setting) (here there : Here) (k literals : ℕ)
-        (l : Local) (value : NotedExpr) (store : Store) (v : Value) → Agrees globals s
-        → IsAssignment globals s here k l value there → here.at.reached ≡ true
-        → HoldWords s.frame store.locals → AreTrue s.frame store.locals here.at.facts
-        → k < length store.locals → v.number < 2 ^ 32
-        → evaluated store (expr_elaborated s.text s.variables literals value) ≡ Ok v
-        → AreTrue s.frame (slice_set store.locals k (kept_part (width_of l.ctype) v.number))
-        there.at.facts }
-    ensures declaration { (globals : Globals) (s : Setting) (here there : Here) (k literals : ℕ)
-        (l : Local) (first : NotedInit) (e : Expr) (store : Store) (v : Value) → Agrees globals s
-        → IsDeclaration globals s here k l first there → here.at.reached ≡ true
-        → HoldWords s.frame store.locals → AreTrue s.frame store.locals here.at.facts
-        → k < length store.locals → v.number < 2 ^ 32 → Begins s literals first e
-        → evaluated store e ≡ Ok v
-        → AreTrue s.frame (slice_set store.locals k (kept_part (width_of l.ctype) v.number))
-        there.at.facts }
+    ensures assignment { (globals : Globals) (s : Setting) (here there : Here) (spot : Spot)
+        (k : ℕ) (width : Width) (e : Expr) (l : Local) (shapes : List Shape)
+        (before after : states.State) → Agrees globals s
+        → (c : IsStep s here (Assign spot (Variable k width) (code.Value e)) there)
+        → IsTypedStmt globals s c.before → here.at.reached ≡ true
+        → HoldWords s.frame before.frame.locals
+        → AreTrue s.frame before.frame.locals here.at.facts → local_at s.frame k ≡ Some l
+        → k < length before.frame.locals
+        → ((v : Value) → evaluated (store_of shapes before) e ≡ Ok v → v.number < 2 ^ 32)
+        → bundled shapes before ((Variable k width, code.Value e) ∷ []) ≡ Ok after
+        → AreTrue s.frame after.frame.locals there.at.facts }
 {}

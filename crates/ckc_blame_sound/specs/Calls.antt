@@ -87,6 +87,7 @@ IsPassedAs false s facts locals parameter e n =
     IfSome (in_type facts parameter.ctype ((view s.frame e).form facts))
     (λ f. exact (integer_of parameter.ctype) n ≡ number_of (value s.frame locals) f)
 
+-- which of the two it is, by the parameter's type
 abbrev pub IsPassed : Setting → Known → List ℕ → Local → NotedExpr → ℕ → Type 0
 IsPassed s facts locals parameter e n = IsPassedAs (is_pointer parameter.ctype) s facts locals parameter e n
 
@@ -100,7 +101,7 @@ ArePassed s facts locals parameters es entry =
 
 -- A call waits for another one, which was entered with these values: the point of the step that called it holds, what comes
 -- behind that step is judged, and the parameters still have what the arguments stand for there.
-pub record Waits (p : Typed) (blocks : List Block) (caller : Caller) (s : Setting) (called : Setting) (callee : Function) (entry : List ℕ) : Type 0 where
+pub record Waits (p : Typed) (blocks : List Block) (caller : Caller) (s called : Setting) (callee : Function) (entry : List ℕ) : Type 0 where
   pub function : IsFunction p s caller.frame.function
   pub spot : Spot
   pub number : ℕ

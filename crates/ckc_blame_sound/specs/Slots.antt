@@ -27,6 +27,7 @@ abbrev pub slot_by : Structs → ℕ → CType → Option Count → List Slot
 slot_by structs offset t (Some n) = record { offset = offset; to = pointee_of structs t; count = n } ∷ []
 slot_by structs offset t None = []
 
+-- the slot that a member is, if it is one
 abbrev pub slot_of_member : Structs → ℕ → MemberShape → List Slot
 slot_of_member structs tag m = slot_by structs (offset_of structs tag m.name) m.ctype (count_by structs tag m.ctype m.bounds)
 
@@ -36,6 +37,7 @@ abbrev pub slots_in : Typed → ℕ → CType → CType-F CType → List Slot
 slots_in p number t (CType-F.Struct tag) = flat_map (slot_of_member p.layout tag) (members_of p.layout tag)
 slots_in p number t _ = slot_by p.layout 0 t (count_of_static p t (name.Static number))
 
+-- the same, of a type as it is
 abbrev pub slots_of : Typed → ℕ → CType → List Slot
 slots_of p number t = slots_in p number t (out-CType t)
 
