@@ -1,4 +1,4 @@
-ghost use Rattle.std.specs.Prelude.{◌≡◌, ◌≤◌, All, IfOk, List, ℕ, take};
+ghost use Rattle.std.specs.Prelude.{◌≡◌, ◌≤◌, All, IfOk, List, ℕ};
 ghost use Rattle.ckc_base.specs.Follows.{Follows};
 ghost use Rattle.ckc_tac.specs.WellFormed as tac;
 ghost use Rattle.ckc_tac.specs.Meaning.{tac_detail};
