@@ -1,5 +1,4 @@
 -- The commands of the code as those of the definition.
-use Rattle.std.specs.Prelude.{List}
 use Rattle.ckc_cli_commands.specs.Words.{Command, Build, Assemble, Exec, Interp, Run, Show}
 use Rattle.ckc_cli_commands.specs.declared.words.Command as commands
 use Rattle.ckc_cli_commands.specs.declared.words.Command.TheVariants as command
