@@ -1,0 +1,15 @@
+pub mod Stores
+pub mod Parts
+pub mod Same
+pub mod Places
+pub mod Ranges
+pub mod Apart
+pub mod Kept
+pub mod Bytes
+pub mod Fresh
+pub mod Objects
+pub mod Reached
+pub mod Truths
+pub mod Written
+pub mod Filled
+pub mod Made

@@ -1,0 +1,9 @@
+//! An access through a true range lies in one block, and a store keeps what memory holds.
+#![tactic(auto)]
+
+mod laws;
+
+pub use laws::{
+    accesses_lie_in_blocks, blocks_are_made, bounds_reach, objects_lie_in_blocks,
+    pointers_stay_true, stores_keep_blocks, writes_keep_blocks,
+};
