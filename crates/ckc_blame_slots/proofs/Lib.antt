@@ -13,3 +13,4 @@ pub mod Truths
 pub mod Written
 pub mod Filled
 pub mod Made
+pub mod Aimed

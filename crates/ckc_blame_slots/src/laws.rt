@@ -12,7 +12,9 @@ ghost use Rattle.ckc_typed.specs.Constants.{size_of};
 ghost use Rattle.ckc_source.specs.declared.expr.Access.{Access};
 ghost use Rattle.ckc_source.specs.declared.expr.Pointee.{Pointee};
 ghost use Rattle.ckc_source.specs.declared.expr.Through.TheVariants as through;
+ghost use Rattle.ckc_source.specs.declared.outcome.Place.{Place};
 ghost use Rattle.ckc_source.specs.declared.outcome.Place.TheVariants as place;
+ghost use Rattle.ckc_source.specs.declared.outcome.Range.{Range};
 ghost use Rattle.ckc_source.specs.declared.outcome.Range.TheVariants.{Within};
 ghost use Rattle.ckc_source.specs.declared.outcome.Value.{Value};
 ghost use Rattle.ckc_source.specs.declared.program.Shape.{Shape};
@@ -21,13 +23,19 @@ ghost use Rattle.ckc_source.specs.Eval.{Store, element, place_in, counted, reads
 ghost use Rattle.ckc_source.specs.Words.{elements_behind};
 ghost use Rattle.ckc_source.specs.Runs.{is_true};
 ghost use Rattle.ckc_source.specs.States.{State};
-ghost use Rattle.ckc_source.specs.Steps.{Write, all_written};
+ghost use Rattle.ckc_source.specs.Steps.{Write, all_written, aims_at, allowed, terminator_at};
 ghost use Rattle.ckc_build_values.specs.Names.{address_of};
 ghost use Rattle.ckc_build_elaborate.specs.Shapes.{shapes_elaborated};
+ghost use Rattle.ckc_blame_sound.specs.Sound.{Sound};
 ghost use Rattle.ckc_blame_sound.specs.Slots.{Slot, IsFilled, AreFilled};
 ghost use Rattle.ckc_blame_slots.specs.Cells.{AreDisjoint, IsPart, IsCell, HaveOwnNames, IsReached, AreSound, IsMade};
 ghost use Rattle.ckc_blame_slots.specs.Limited.{AreSlotParts, AreSparedOrFilled, store_with};
-ghost use Rattle.ckc_blame_slots.specs.Writes.{AreCellWrites, AreElsewhere};
+ghost use Rattle.ckc_blame_slots.specs.Writes.{IsCellWrite, AreCellWrites, AreElsewhere};
+
+/// The blocks of a sound state are sound.
+pub fn states_have_sound_blocks()
+    ensures { (p : Typed) (s : State) → Sound p s → AreSound p s.blocks s.next }
+{}
 
 /// The element that an access goes to through a checked pointer with a range is one that the range reaches.
 pub fn bounds_reach()
@@ -70,6 +78,29 @@ pub fn objects_lie_in_blocks()
         (o : StaticObject) → AreSound p blocks next → slice_get p.statics k ≡ Some o
         → o.terminated ≡ false → 0 < o.count → IsPart p.layout o.element offset width
         → IsCell p.layout blocks (address_of p k + offset) width false }
+{}
+
+/// A target in memory at an integer or a pointer of an element is not stuck, and what is written to it after the test for
+/// the terminator is only zero where only zero may be written.
+pub fn targets_are_written()
+    ensures there { (p : Typed) (next : ℕ) (store : Store) (width : Width) (access : Access)
+        (range : Range) (a : ℕ) (z : Bool) → AreSound p store.blocks next
+        → IsCell p.layout store.blocks (a + access.offset) width z
+        → aims_at store width access range a ≡ Ok (place.Memory (place_in a access.offset) width
+        (terminator_at access.through range a access.at)) }
+    ensures ranged { (p : Typed) (blocks : List Block) (next : ℕ) (width : Width) (access : Access)
+        (low high a n : ℕ) (w : Place) → AreSound p blocks next
+        → IsCell p.layout blocks (a + access.offset) width (a == high)
+        → (access.through ≡ through.Terminated) ⊎ (a < high) → n < 2 ^ 32
+        → allowed (place.Memory (place_in a access.offset) width
+        (terminator_at access.through (Within low high) a access.at)) n ≡ Ok w
+        → IsCellWrite p.layout blocks w n }
+    ensures named { (p : Typed) (blocks : List Block) (next : ℕ) (width : Width) (access : Access)
+        (range : Range) (a n : ℕ) (w : Place) → AreSound p blocks next
+        → IsCell p.layout blocks (a + access.offset) width false → n < 2 ^ 32
+        → allowed (place.Memory (place_in a access.offset) width
+        (terminator_at access.through range a access.at)) n ≡ Ok w
+        → IsCellWrite p.layout blocks w n }
 {}
 
 /// A store changes the bytes of its access alone; one to an integer or a pointer of an element keeps the blocks as they
