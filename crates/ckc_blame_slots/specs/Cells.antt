@@ -33,6 +33,7 @@ pub record IsOfMember (structs : Structs) (tag offset : ℕ) (width : Width) : T
   pub there : offset ≡ offset_of structs tag member.name
   pub wide : width ≡ width_of member.ctype
 
+-- which of the two it is, by the form of the type
 abbrev pub IsPartIn : Structs → CType → CType-F CType → ℕ → Width → Type 0
 IsPartIn structs t (CType-F.Struct tag) offset width = IsOfMember structs tag offset width
 IsPartIn structs t _ offset width = (offset ≡ 0) × (width ≡ width_of t)
