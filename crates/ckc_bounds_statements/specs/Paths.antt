@@ -6,7 +6,7 @@ use Rattle.ckc_base.specs.declared.arithmetic.Mode.{Mode}
 use Rattle.ckc_base.specs.Outcomes.{Outcome, bind, unless, refused, in_turn}
 use Rattle.ckc_types.specs.declared.types.CType.{CType}
 use Rattle.ckc_linear.specs.declared.forms.Form.{Form}
-use Rattle.ckc_syntax.specs.Inside.{listed, one_has, inside_if, inside_init, inside_run}
+use Rattle.ckc_syntax.specs.Inside.{listed, one_has, inside_if, inside_init, inside_act, inside_run}
 use Rattle.ckc_syntax.specs.declared.tree.Name.{Name}
 use Rattle.ckc_syntax.specs.declared.tree.Name.TheVariants as name
 use Rattle.ckc_syntax.specs.declared.tree.Init.TheVariants as init
@@ -220,14 +220,14 @@ abbrev pub act_breaks : ActOfPaths → Bool
 act_breaks (Act-F.While e s) = false
 act_breaks (Act-F.For s e t u) = false
 act_breaks Act-F.Break = true
-act_breaks a = inside_run one_has (λ e. false) (λ d. false) (λ (s : Path). s.breaks) a
+act_breaks a = inside_act one_has (λ e. false) (λ d. false) (λ (s : Path). s.breaks) a
 
 -- whether a `continue` in what a statement does goes on with the loop around it
 abbrev pub act_continues : ActOfPaths → Bool
 act_continues (Act-F.While e s) = false
 act_continues (Act-F.For s e t u) = false
 act_continues Act-F.Continue = true
-act_continues a = inside_run one_has (λ e. false) (λ d. false) (λ (s : Path). s.continues) a
+act_continues a = inside_act one_has (λ e. false) (λ d. false) (λ (s : Path). s.continues) a
 
 -- What is no assignment makes no bundle.
 abbrev pub act_part : ActOfPaths → Frame → Pos → Pos → Note → Here → Outcome (NotedStmt × Here)

@@ -48,7 +48,8 @@ fn add_act(act: &Act<Name, Note>, all: &mut Contents) -> Result<(), AllocError>
         (all.new.continues ≡ (all.old.continues || (path_of_act act.now).continues)) }
 {
     match act {
-        Act::Block(_, ss) | Act::Bundle(ss) => add_stmts(ss.as_slice(), all),
+        Act::Block(_, ss) => add_stmts(ss.as_slice(), all),
+        Act::Bundle(ss) => add_stmts(ss.as_slice(), all),
         Act::Local(d) => add_name(d.get().name, &mut all.assigned),
         Act::Assign(e, _) => add_target(e.get(), &mut all.assigned),
         Act::If(_, s, t) => {

@@ -53,7 +53,8 @@ fn add_stmts<A>(
     all: &mut Seq<Variable>,
     ss: &[Stmt<Name, A>],
 ) -> Result<(), AllocError>
-    ensures { OnOk result (all.new ≡ all.old ++ inside_each listed (λ x. x) (map locals_of ss.now)) }
+    ensures { OnOk result
+        (all.new ≡ all.old ++ inside_each listed (λ x. x) (map locals_of ss.now)) }
 {
     for s in ss {
         add_stmt(alloc, all, s)?;

@@ -72,7 +72,8 @@ fn add_expr(alloc: Global, all: &mut Seq<Bytes>, e: &Expr<Name, Note>) -> Result
 
 #[cycle(strings)]
 fn add_exprs(alloc: Global, all: &mut Seq<Bytes>, es: &[Expr<Name, Note>]) -> Result<(), AllocError>
-    ensures { OnOk result (all.new ≡ all.old ++ inside_each listed (λ x. x) (map strings_of_expr es.now)) }
+    ensures { OnOk result
+        (all.new ≡ all.old ++ inside_each listed (λ x. x) (map strings_of_expr es.now)) }
 {
     for e in es {
         add_expr(alloc, all, e)?;
@@ -203,7 +204,8 @@ fn add_stmt(alloc: Global, all: &mut Seq<Bytes>, s: &Stmt<Name, Note>) -> Result
 
 #[cycle(held)]
 fn add_stmts(alloc: Global, all: &mut Seq<Bytes>, ss: &[Stmt<Name, Note>]) -> Result<(), AllocError>
-    ensures { OnOk result (all.new ≡ all.old ++ inside_each listed (λ x. x) (map strings_of_stmt ss.now)) }
+    ensures { OnOk result
+        (all.new ≡ all.old ++ inside_each listed (λ x. x) (map strings_of_stmt ss.now)) }
 {
     for s in ss {
         add_stmt(alloc, all, s)?;
