@@ -1,13 +1,12 @@
 -- Three runs beside one another. The lowest shows the data events of the middle one, a step of the middle one at a time,
 -- and the middle one shows what the upper one does, event for event. Where each shows at most one event a step, each
 -- step of the lowest has a step of the upper one at which both have shown the same data.
-use Rattle.std.proofs.Common.{◌≡◌, ◌⊎◌, inl, inr, ℕ, zero, suc, ◌+◌, ◌≤◌, ◌<◌, List, [], ◌∷◌, ◌++◌, length, append-nil, refl, sym, ◌∙◌, ap, subst, arith, length-append}
+use Rattle.std.proofs.Common.{◌≡◌, ◌⊎◌, inl, inr, ℕ, zero, suc, ◌+◌, ◌≤◌, ◌<◌, List, [], ◌∷◌, ◌++◌, length, append_assoc, append-nil, refl, sym, ◌∙◌, ap, subst, arith, length-append}
 use Rattle.std.specs.Prelude.{flat_map}
 use Rattle.std.proofs.lemmas.List.{append_cancel_left}
 use Rattle.std.proofs.lemmas.Grind.{flat_map-append}
 use Rattle.ckc_base.specs.LongEvents.{LongEvent, Plain, Stored, Entered, Returned, data_events}
 use Rattle.ckc_base.specs.Follows.{IsPrefix}
-use Rattle.ckc_base.proofs.Following.{prefix_trans}
 use Rattle.ckc_base.proofs.Travelling.{below_or_from}
 
 -- ---- traces that grow
@@ -35,6 +34,9 @@ prefix_length xs ys p =
     let e : length ys ≡ length xs + length p.0 = ap length p.1 ∙ length-append xs p.0 in
     omega (arith, e)
 
+prefix_then : {E : Type 0} (xs ys zs : List E) → IsPrefix xs ys → IsPrefix ys zs → IsPrefix xs zs
+prefix_then xs ys zs p q = (p.0 ++ q.0, q.1 ∙ ap (λ l. l ++ q.0) p.1 ∙ append_assoc xs p.0 q.0)
+
 prefix_seen : {E F : Type 0} (f : E → List F) (xs ys : List E) → IsPrefix xs ys → IsPrefix (flat_map f xs) (flat_map f ys)
 prefix_seen f xs ys p = (flat_map f p.0, ap (flat_map f) p.1 ∙ flat_map-append f xs p.0)
 
@@ -51,7 +53,7 @@ module _ {E : Type 0} (t : ℕ → List E) (grows : Grows t) where
       ([], ap t e ∙ sym (append-nil (t n)))
   grown_by n (suc k) =
       let e : n + suc k ≡ n + k + 1 = omega arith in
-      subst (λ m. IsPrefix (t n) (t m)) (sym e) (prefix_trans (t n) (t (n + k)) (t (n + k + 1)) (grown_by n k) (grown (n + k)))
+      subst (λ m. IsPrefix (t n) (t m)) (sym e) (prefix_then (t n) (t (n + k)) (t (n + k + 1)) (grown_by n k) (grown (n + k)))
 
   pub earlier : (n m : ℕ) → n ≤ m → IsPrefix (t n) (t m)
   earlier n m h = elim (below_or_from m n) [
@@ -268,7 +270,7 @@ module _ (upper middle lowest : ℕ → List LongEvent) (upper_grows : Grows upp
           let one = at_most_one shown shown_grows n in
           let now : length (shown n) ≡ length (lowest i) = omega (arith, before, there, one, longer) in
           let after : length (shown (n + 1)) ≡ length (lowest (i + 1)) = omega (arith, before, there, one, longer) in
-          let small : IsPrefix (lowest i) (shown last) = prefix_trans (lowest i) (lowest (i + 1)) (shown last) (event ∷ [], e) p in
+          let small : IsPrefix (lowest i) (shown last) = prefix_then (lowest i) (lowest (i + 1)) (shown last) (event ∷ [], e) p in
           let same : shown n ≡ lowest i = same_front (shown n) (lowest i) (shown last) (earlier shown shown_grows n last (omega arith)) small now in
           let next : shown (n + 1) ≡ lowest (i + 1) = same_front (shown (n + 1)) (lowest (i + 1)) (shown last) (earlier shown shown_grows (n + 1) last (omega arith)) p after in
           (n, same, record { event = event; shows = e; does = does n same next (upper_grows n); first = g })
@@ -296,7 +298,7 @@ module _ (upper middle lowest : ℕ → List LongEvent) (upper_grows : Grows upp
         )
     | inr p ↦
         let r = reach (k + 1) in
-        let n = shows_next i r.0 p.0 p.1 (prefix_trans (lowest (i + 1)) (data_in (middle (k + 1))) (shown r.0) later (prefix_seen data_events (middle (k + 1)) (upper r.0) r.1)) in
+        let n = shows_next i r.0 p.0 p.1 (prefix_then (lowest (i + 1)) (data_in (middle (k + 1))) (shown r.0) later (prefix_seen data_events (middle (k + 1)) (upper r.0) r.1)) in
         (n.0, record { same = n.1; next = inr n.2 })
   ]
 
