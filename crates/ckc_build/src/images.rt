@@ -9,7 +9,6 @@ ghost use Rattle.ckc_checks_operands.specs.Weights.{program_weight, most_weight}
 ghost use Rattle.ckc_build_compile.specs.Compiled.{FollowsSource, machine_parts};
 ghost use Rattle.ckc_build_compile.specs.Confined.{ConfinesStores, NeverFaults};
 ghost use Rattle.ckc_build.specs.Built.{IsImage, building, bytes_of};
-ghost use Rattle.ckc_build.specs.Sizes.{HasShortCode};
 
 use crate::laws::programs_fit;
 use crate::meanings::program;
@@ -24,7 +23,6 @@ use std::alloc::{AllocError, Global};
 pub fn build(alloc: Global, text: &[u8]) -> Result<Vec<u8>, Fault>
     // Ok of an image of the text, whose machine follows its meaning; a refusal for its first error.
     ensures answers { Answers building text.now (viewed bytes_of result) }
-    ensures short { IfOk result (λ image. HasShortCode text.now image.items) }
 {
     match program(alloc, text) {
         Err(fault) => Err(fault),
