@@ -29,7 +29,7 @@ use Rattle.ckc_asm.proofs.LabelUses.{four_bytes, AreWordsBelow, words_none, word
 
 -- ---- lists
 
--- where nothing is the first with a property, nothing has it
+-- if nothing is the first with a property, nothing has it
 none_of : {A : Type 0} (P : ℕ → A → Type 0) (xs : List A) → ((k : ℕ) (x : A) → IsFirst P xs k x → ⊥) → NoneHas P xs
 none_of {A} P xs never k x at p = below (suc k) k x (omega arith) at p
   where

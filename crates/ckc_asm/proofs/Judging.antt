@@ -186,7 +186,7 @@ rows_few text lines rows given e short read is =
     let count = read_few lines (statements_in rows) read in
     omega (arith, few, count, rows_size rows, ap length is, short)
 
--- what holds in any case holds where there is a result
+-- what holds in any case holds if there is a result
 pub ok_of : {T E : Type 0} (r : Result T E) (P : Type 0) → P → IfOk r (λ x. P)
 ok_of (Ok x) P h = h
 ok_of (Err e) P h = tt

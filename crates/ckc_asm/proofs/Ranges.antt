@@ -1,4 +1,4 @@
--- An item has a word exactly where its number is in range.
+-- An item has a word exactly when its number is in range.
 use Rattle.std.proofs.Common.{◌≡◌, ℕ, ℤ, List, Some, refl, ◌↔◌}
 use Rattle.std.specs.List.{slice_get}
 use Rattle.ckc_rv.specs.declared.instructions.Instr.TheVariants as instr

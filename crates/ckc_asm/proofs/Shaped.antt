@@ -1,4 +1,4 @@
--- What each item has that is read: registers below 32, and a word or `.entry` where it names a label.
+-- What each item has that is read: registers below 32, and a word or `.entry` if it names a label.
 use Rattle.std.proofs.Common.{◌≡◌, ℕ, ◌-◌, ◌<◌, Bool, true, false, cond, ◌&&◌, ◌==◌, nat_lt, List, [], ◌∷◌, length, Option, Some, None, refl, ◌⊎◌, inl, inr, subst, arith}
 use Rattle.std.specs.Prelude.{unwrap_or, option_and_then}
 use Rattle.std.specs.Char.{is_digit}
@@ -50,7 +50,7 @@ choice_each : {A : Type 0} (P : A → Type 0) (b : Bool) (x y : Option A) → Ea
 choice_each P true x y h k = h
 choice_each P false x y h k = k
 
--- the same, where something is known of the first
+-- the same, if something is known of the first
 with_each : {A B : Type 0} (Q : A → Type 0) (P : B → Type 0) (o : Option A) (f : A → Option B) → Each Q o → ((x : A) → Q x → Each P (f x)) → Each P (option_and_then f o)
 with_each Q P None f q h = tt
 with_each Q P (Some x) f q h = h x q

@@ -123,19 +123,19 @@ IsOperand s w = s.operand ≡ w
 abbrev pub WholeFault : List Statement → ℕ → Pos → Type 0
 WholeFault statements code place = IsNoImage statements × (code ≡ no_image) × (place ≡ start)
 
--- E804, or where it does not hold E805
+-- E804, or if that does not hold, E805
 abbrev pub NumberFault : List Statement → ℕ → Pos → Type 0
 NumberFault statements code place =
     (IsAt (HasNoWord statements) IsOperand statements place × (code ≡ out_of_range))
     ⊎ (NoneHas (HasNoWord statements) statements × WholeFault statements code place)
 
--- E802, or where it does not hold the next
+-- E802, or if that does not hold, the next
 abbrev pub NameFault : List Statement → ℕ → Pos → Type 0
 NameFault statements code place =
     (IsAt (NamesNothing statements) IsOperand statements place × (code ≡ unknown_label))
     ⊎ (NoneHas (NamesNothing statements) statements × NumberFault statements code place)
 
--- E803, or where it does not hold the next
+-- E803, or if that does not hold, the next
 abbrev pub LabelFault : List Statement → ℕ → Pos → Type 0
 LabelFault statements code place =
     (IsAt (HasOldLabel statements) IsLabel statements place × (code ≡ second_label))

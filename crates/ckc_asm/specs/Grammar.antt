@@ -13,7 +13,7 @@ use Rattle.ckc_asm.specs.Names.{register}
 use Rattle.ckc_asm.specs.Spelled.{is_name, IsNumber, IsByte, IsKind}
 use Rattle.ckc_asm.specs.Items.{Statement, item, no_word, texts, operand_index}
 
--- ---- the words behind the name of a kind
+-- ---- the words after the name of a kind
 
 -- `a, b`
 abbrev pub pair : List ℕ → List ℕ → List (List ℕ)
@@ -102,7 +102,7 @@ pub record OfBytes (words : List (List ℕ)) (i : Item) : Type 0 where
   pub spelled : AreBytes words bytes
   pub is : i ≡ item (form.Data bytes) Nothing
 
--- The words behind the name of a kind are those of the item.
+-- The words after the name of a kind are those of the item.
 unfoldable pub HasWords : Kind → List (List ℕ) → Item → Type 0
 HasWords kind.Lui words i = OfOne words (λ rd. form.Lui rd) IsPlain i
 HasWords kind.Auipc words i = OfOne words (λ rd. form.Auipc rd) IsPlain i

@@ -46,7 +46,7 @@ pub record Statement : Type 0 where
   pub item : Item
   pub operand : Word
 
--- an empty word, where a statement has no number and names no label
+-- an empty word, if a statement has no number and names no label
 abbrev pub no_word : Word
 no_word = record { col = 0; text = [] }
 

@@ -27,7 +27,7 @@ width_of f = 4
 abbrev pub size_of : Statement → ℕ
 size_of s = width_of s.item.form
 
--- where the k-th statement stands: behind those before it, from 0x00001000
+-- where the k-th statement stands: after those before it, from 0x00001000
 abbrev pub offset_of : List Statement → ℕ → ℕ
 offset_of statements k = sum_by size_of (take k statements)
 
@@ -94,7 +94,7 @@ IsEntryOf statements name Nothing z = ⊥
 IsEntryOf statements name (Number n) z = z ≡ n
 IsEntryOf statements name Named z = (target : ℕ) × IsLabelAt statements name target × (z ≡ pos target)
 
--- The program begins at this address: the one that `.entry` says, or 0x00001000 where no line is a `.entry`.
+-- The program begins at this address: the one that `.entry` says, or 0x00001000 if no line is a `.entry`.
 pub data Enters (statements : List Statement) (z : ℤ) : Type 0 where
   first : ((k : ℕ) (s : Statement) → slice_get statements k ≡ Some s → IsEntry s.item.form → ⊥) → z ≡ pos code_start → Enters statements z
   there : (k : ℕ) (s : Statement) → slice_get statements k ≡ Some s → IsEntry s.item.form → IsEntryOf statements s.operand.text s.item.operand z → Enters statements z

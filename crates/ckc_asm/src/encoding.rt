@@ -7,7 +7,7 @@ ghost use Rattle.ckc_asm.specs.Program.{IsWordOf};
 use crate::items::Form;
 use ckc_rv::{Instr, encode, in_range};
 
-/// The word of an item with this number or distance, where one has it.
+/// The word of an item with this number or distance, if one has it.
 pub fn word_of(form: &Form, value: i64) -> Option<u32>
     ensures { MatchOption result ((word : ℕ) → IsWordOf form.now value word → ⊥)
         (λ word. IsWordOf form.now value word) }

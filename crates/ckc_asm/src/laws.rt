@@ -20,7 +20,7 @@ pub fn codes()
         (r.code ≡ 201) ⊎ ((801 ≤ r.code) × (r.code ≤ 805)) }
 {}
 
-/// An item with a number has a word exactly where the number is in range, and even where it is an offset of a branch
+/// An item with a number has a word exactly when the number is in range, and is even if it is an offset of a branch
 /// or of JAL.
 pub fn words_by_range()
     ensures { (text : List ℕ) (statements : List Statement) (k : ℕ) (s : Statement) (z : ℤ) →

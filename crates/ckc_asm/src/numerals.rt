@@ -67,7 +67,7 @@ fn is_hexadecimal(w: &[u8]) -> bool
     w.len() > 1 && w[0] == b'0' && w[1] == b'x'
 }
 
-/// What digits stand for, or `BEYOND` where it is more.
+/// What digits stand for, or `BEYOND` if it is more.
 fn numeral_of(radix: u32, w: &[u8]) -> Option<u64>
     requires radix { (1 ≤ radix) × (radix ≤ 16) }
     ensures value { result ≡ numeral_of radix w.now }

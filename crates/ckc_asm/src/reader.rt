@@ -15,7 +15,7 @@ use ckc_base::{Fault, LONG_TEXT, LONGEST_TEXT, START, refused};
 use ckc_image::Parts;
 use std::alloc::Global;
 
-/// The parts that a text of assembly stands for, which are the only ones; or its first fault: 201 at its start where
+/// The parts that a text of assembly stands for, which are the only ones; or its first fault: 201 at its start if
 /// it has over 262,144 bytes; else the first of 801 (a line of no form, or a second `.entry`), 803 (a label a second
 /// time), 802 (a label that stands nowhere), 804 (a number or distance out of range) and 805 (no image) that holds, at
 /// its first place.

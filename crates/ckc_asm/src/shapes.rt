@@ -1,4 +1,4 @@
-//! The shapes of the words behind a name.
+//! The shapes of the words after a name.
 ghost use Rattle.std.specs.Prelude.{◌≡◌, ◌∷◌, [], None, Some, MatchOption};
 ghost use Rattle.ckc_asm.specs.code.Rows.{texts_of};
 ghost use Rattle.ckc_asm.specs.code.Found.{is_sign, one, two, three, based};

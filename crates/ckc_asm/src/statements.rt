@@ -62,7 +62,7 @@ fn has_entered(entered: bool, form: &Form) -> bool
     entered || is_entry(form)
 }
 
-/// The statement of a line, which is refused where it has none, or a second `.entry`.
+/// The statement of a line, which is refused if it has none, or a second `.entry`.
 fn next_row<'a>(alloc: Global, line: &'a [u8], number: u32, entered: bool) -> Result<Row<'a>, Fault>
     requires { length line.now ≤ longest_text }
     ensures row { IfOk result (λ row. (reading line.now ≡ Some (statement_in row))
@@ -95,7 +95,7 @@ fn no_form(line: u32) -> Fault
     refused(NO_FORM, Pos { line, col: 1 })
 }
 
-/// The statement of a line, where its form is right.
+/// The statement of a line, if its form is right.
 fn row_of<'a>(alloc: Global, line: &'a [u8]) -> Result<Option<Row<'a>>, AllocError>
     requires { length line.now ≤ longest_text }
     ensures row { IfOk result (λ row. option_map statement_in row ≡ reading line.now) }

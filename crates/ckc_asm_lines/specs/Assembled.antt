@@ -59,7 +59,7 @@ pub record IsFar (rd address target : ℕ) (bytes : List ℕ) : Type 0 where
   pub second : IsWord (instr.Jalr rd 26 lower) (drop 4 bytes)
   pub leads : moved (applied binary.Add address (upper * 2 ^ 12)) lower ≡ target
 
--- the bytes of a line at an address, where labels stand at addresses
+-- the bytes of a line at an address, if labels stand at these addresses
 abbrev pub IsCode : (ℕ → ℕ → Type 0) → ℕ → Line → List ℕ → Type 0
 IsCode stands address (Label label) bytes = bytes ≡ []
 IsCode stands address (Plain i) bytes = IsWord i bytes
@@ -101,7 +101,7 @@ CanStand lines address (Branch op rs1 rs2 label) =
     × ((target : ℕ) → StandsAt lines label target → IsOffset (2 ^ 12) (distance address target))
 CanStand lines address (Far rd label) = (rd < 32) × StandsOnce lines label
 
--- Each line can stand where it stands, the start stands once with an instruction behind it, and all fits.
+-- Each line can stand where it stands, the start stands once with an instruction after it, and all fits.
 pub record CanAssemble (lines : List Line) (start : ℕ) (initial : List ℕ) : Type 0 where
   pub each : (k : ℕ) (line : Line) → slice_get lines k ≡ Some line → CanStand lines (address_of lines k) line
   pub once : StandsOnce lines start

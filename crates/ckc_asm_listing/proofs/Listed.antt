@@ -114,7 +114,7 @@ last_line blank =
     let P : Form → Type 0 = λ g. IsEntry g → ⊥ in
     line [] blank.statement [] [] refl blank.reads blank.unlabelled (subst P (sym f) (λ z. z)) size (λ all a. no_place (sym size) refl) (sym (ap data_bytes f)) nil
 
--- statements behind one that takes no place
+-- statements after one that takes no place
 later : (s : Statement) (ss : List Statement) (k : ℕ) → size_of s ≡ 0 → offset_of (s ∷ ss) (suc k) ≡ offset_of ss k
 later s ss k size = omega (arith, size, sum_by-cons size_of s (take k ss))
 
@@ -242,7 +242,7 @@ take_add n m xs =
     let back : drop n (take (n + m) xs) ≡ take m (drop n xs) = drop-take n m xs in
     sym (take-append-drop n (take (n + m) xs)) ∙ rw (front, back) refl
 
--- a piece and the pieces behind it
+-- a piece and the pieces after it
 piece : (width a n : ℕ) (xs : List ℕ) → take width (drop (width * a) xs) ++ take (width * n) (drop (width * (a + 1)) xs) ≡ take (width * suc n) (drop (width * a) xs)
 piece width a n xs =
     let ys = drop (width * a) xs in

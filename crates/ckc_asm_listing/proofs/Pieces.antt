@@ -30,7 +30,7 @@ put_none s = record {
 text_of-append : (xs ys : List (List ℕ)) → text_of (xs ++ ys) ≡ text_of xs ++ text_of ys
 text_of-append xs ys = flat_map-append ended xs ys
 
--- lines behind lines
+-- lines after lines
 pub put_more : (xs ys : List (List ℕ)) (r s t : SeenSink) → HasPut xs r s → HasPut ys s t → HasPut (xs ++ ys) r t
 put_more xs ys r s t one two = record {
   counts = omega (arith, one.counts, two.counts);

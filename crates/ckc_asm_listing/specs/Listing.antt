@@ -39,7 +39,7 @@ instr_text (Fence sets) = named (codes "fence") (decimal sets)
 instr_text Ecall = codes "ecall"
 instr_text Ebreak = codes "ebreak"
 
--- a word's instruction, or `.word` where the table has none for it
+-- a word's instruction, or `.word` if the table has none for it
 abbrev pub instr_or_word : Option Instr → ℕ → List ℕ
 instr_or_word (Some i) word = instr_text i
 instr_or_word None word = named (codes ".word") (hexadecimal 8 word)

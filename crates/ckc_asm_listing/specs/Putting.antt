@@ -8,7 +8,7 @@ unfoldable pub many_more : ℕ → ℕ → ℕ
 many_more zero n = n
 many_more (suc count) n = one_more (many_more count n)
 
--- as many pieces as lines, or at most as many where one failed
+-- as many pieces as lines, or at most as many if one failed
 abbrev pub PutsPieces : ℕ → Result (Unit {0}) Failed → ℕ → ℕ → Type 0
 PutsPieces count (Ok done) old new = new ≡ many_more count old
 PutsPieces count (Err failed) old new = (k : ℕ) × (k ≤ count) × (new ≡ many_more k old)

@@ -20,7 +20,7 @@ use Rattle.ckc_flow.specs.Live.{is_register, reads, target_of}
 
 -- ---- where a value goes
 
--- an outcome gives its value to the target, and is done without one only where there is none
+-- an outcome gives its value to the target, and is done without one only if there is none
 abbrev pub GoesTo : Option ℕ → Outcome → Type 0
 GoesTo target (Gives events t value world) = target ≡ Some t
 GoesTo target (Done events world) = target ≡ None

@@ -1,5 +1,5 @@
--- Placed code takes the steps of the three-address code, one for one, where registers that are live at once have places
--- of their own and calls keep what is live behind them.
+-- Placed code takes the steps of the three-address code, one for one, if registers that are live at once have places
+-- of their own and calls keep what is live after them.
 use Rattle.std.proofs.Common.{◌≡◌, ◌≢◌, inl, inr, ⊎_elim, ◌⊎◌, ℕ, zero, suc, ◌+◌, ◌*◌, ◌<◌, ◌==◌, if◌then◌else◌, Bool, true, false, List, [], ◌∷◌, ◌++◌, ◌||◌, length, map, get_or, Option, None, Some, refl, sym, ap, subst, ◌∙◌, arith, append_assoc}
 use Rattle.std.specs.Prelude.{All, IfSome}
 use Rattle.std.specs.List.{slice_get, list_any}
@@ -321,7 +321,7 @@ module _ (placed : List PlacedFunc) where
       over : IsOpOver functions f.code.regs op
       over = All-head (IsOpOver functions f.code.regs) op ops (ops_over f p.frame.number p.frame.block p.frame.front (op ∷ ops) p.frame.fine here)
 
-      -- what is live behind and not written is live here
+      -- what is live afterwards and not written is live here
       before : (r : ℕ) → r < f.code.regs → IsLive f.code.blocks r ops p.frame.block.end → target_of op ≢ Some r
           → IfSome (p.frame.registers r) (λ v. p.frame.places (home f.homes r) ≡ Some v)
       before r h live not = p.frame.agree r h (subst (λ l. IsLive f.code.blocks r l p.frame.block.end) (sym is) (read_later not live)) (none_some r)

@@ -15,7 +15,7 @@ pub written_other : (values : Values) (t v q : ℕ) → q ≢ t → with_written
 unfolding with_written
 written_other values t v q e = grind (arith, nat_tests)
 
--- the parameters are at their homes where no other one has the same home
+-- the parameters are at their homes if no other one has the same home
 pub entry_at : (homes : List Place) (values : List ℕ) (k r i v : ℕ) → k + i ≡ r → slice_get values i ≡ Some v
     → ((q : ℕ) → q < k + length values → q ≢ r → home homes q ≢ home homes r) → entry_places homes k values (home homes r) ≡ Some v
 unfolding entry_places

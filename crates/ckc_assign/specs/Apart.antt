@@ -10,13 +10,13 @@ use Rattle.ckc_frame.specs.declared.code.PlacedFunc.{PlacedFunc}
 use Rattle.ckc_frame.specs.Meaning.{calls_in_front, is_call}
 use Rattle.ckc_frame.specs.Places.{home, marks_of}
 
--- A place of the code: in the block with this number, behind some of its operations and in front of the others.
+-- A place of the code: in the block with this number, after some of its operations and in front of the others.
 pub record IsPlace (f : TacFunc) (b : ℕ) (block : TacBlock) (front ops : List TacOp) : Type 0 where
   pub there : slice_get f.blocks b ≡ Some block
   pub split : block.ops ≡ front ++ ops
 
--- Two registers have two places of the frame where both are live, where one is written and the other is live behind
--- that, and where one is a parameter and the other is live at the entry.
+-- Two registers have two places of the frame if both are live, if one is written and the other is live after
+-- that, and if one is a parameter and the other is live at the entry.
 pub record AreApart (f : PlacedFunc) : Type 0 where
   pub live : (b : ℕ) (block : TacBlock) (front ops : List TacOp) (r q : ℕ) → IsPlace f.code b block front ops
       → r < f.code.regs → q < f.code.regs → r ≢ q → IsLive f.code.blocks r ops block.end → IsLive f.code.blocks q ops block.end
@@ -32,7 +32,7 @@ pub record AreApart (f : PlacedFunc) : Type 0 where
 abbrev pub calls_before : TacFunc → ℕ → List TacOp → ℕ
 calls_before f b front = calls_in_front f.blocks b + sum_by is_call front
 
--- A call keeps exactly the registers that are live behind it, its target apart.
+-- A call keeps exactly the registers that are live after it, its target apart.
 pub record KeepsLive (f : PlacedFunc) : Type 0 where
   pub keeps : (b : ℕ) (block : TacBlock) (front ops : List TacOp) (target : Option ℕ) (callee : ℕ) (arguments : List ℕ) (at : Pos) (r : ℕ)
       → IsPlace f.code b block front (Call target callee arguments at ∷ ops) → r < f.code.regs

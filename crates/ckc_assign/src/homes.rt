@@ -1,5 +1,5 @@
 //! Places for registers by linear scan: in the order in which their ranges begin, each takes a machine register whose
-//! last range has ended, and a slot of its own where there is none.
+//! last range has ended, and a slot of its own if there is none.
 ghost use Rattle.std.specs.Prelude.{◌≡◌, ◌≤◌, ◌<◌, ◌↔◌, get_or, length, IfOk, IfSome, IsTrue};
 ghost use Rattle.ckc_assign.specs.code.Homes.{AreFirst, IsScan, LieApart, first_home};
 

@@ -10,7 +10,7 @@ use ckc_flow::{before_end, before_op};
 use ckc_tac::{TacFunc, TacOp};
 use std::alloc::{AllocError, Global};
 
-/// A row for each call, in the order of the code: the registers that are live behind it, its target apart.
+/// A row for each call, in the order of the code: the registers that are live after it, its target apart.
 pub fn kept_of(alloc: Global, f: &TacFunc, live: &[Seq<bool>]) -> Result<Vec<Seq<bool>>, AllocError>
     requires { AreExact f.now live.now }
     ensures { IfOk result (λ kept. AllKept f.now f.now.blocks kept.items) }
@@ -41,7 +41,7 @@ fn put_all(
     Ok(())
 }
 
-/// The rows of the calls among operations, last first, from the registers that are live behind them all.
+/// The rows of the calls among operations, last first, from the registers that are live after them all.
 fn rows_of(alloc: Global, ops: &[TacOp], row: &mut [bool]) -> Result<Vec<Seq<bool>>, AllocError>
     ensures { IfOk result (λ rows. (f : TacFunc) (end : TacEnd)
         → IsExact f [] end row.old → AreKept f end ops.now (reverse rows.items)) }

@@ -19,7 +19,7 @@ use ckc_tac::{Tac, TacFunc};
 use std::alloc::{AllocError, Global};
 
 /// The program with a place for each register of each function, by linear scan over live ranges. Registers that are
-/// live at once never share a place, and a call keeps exactly what is live behind it. The code, and with it the initial
+/// live at once never share a place, and a call keeps exactly what is live after it. The code, and with it the initial
 /// bytes, is as it was. The placed program does what the program does, calls, returns and stores to the data region
 /// included, in as many steps.
 pub fn assign(alloc: Global, t: &Tac) -> Result<Placed, AllocError>

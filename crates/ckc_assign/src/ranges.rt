@@ -11,7 +11,7 @@ use ckc_flow::before_end;
 use ckc_tac::{Operand, TacBlock, TacFunc, TacOp};
 use std::alloc::{AllocError, Global};
 
-/// The first and the last place at which a register is in use; there is none where the first is greater.
+/// The first and the last place at which a register is in use; there is none if the first is greater.
 #[derive(Clone, Copy)]
 pub struct Range {
     pub first: u32,
@@ -51,7 +51,7 @@ fn see_all(
     Ok(())
 }
 
-/// Sees the registers that a block uses, from a place on, and tells the place behind it.
+/// Sees the registers that a block uses, from a place on, and tells the place after it.
 fn see_block(
     block: &TacBlock,
     live: &[Seq<bool>],

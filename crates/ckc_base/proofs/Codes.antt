@@ -34,7 +34,7 @@ module _ (IsCode : ℕ → Type 0) where
   turned f h [] s = tt
   turned f h (x ∷ xs) s = bound (f x s) _ (h x s) (λ p. bound (in_turn (map f xs) p.1) _ (turned f h xs p.1) (λ q. tt))
 
-  -- the same where each part comes with its claim
+  -- the same if each part comes with its claim
   pub listed_parts : {X A : Type 0} (f : X → Outcome A) (ks : List ((x : X) × HasCode (f x))) → HasCode (in_order (map f (map (λ k. k.0) ks)))
   listed_parts f [] = tt
   listed_parts f (k ∷ ks) = bound (f k.0) _ k.1 (λ a. bound (in_order (map f (map (λ k. k.0) ks))) _ (listed_parts f ks) (λ rest. tt))

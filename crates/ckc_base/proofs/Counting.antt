@@ -79,6 +79,6 @@ module _ {S : Type 0} (m : System LongEvent S) (active : S → ℕ) (counts : (s
   pub active_counted : (s : S) (n : ℕ) → active (state_at m s n) + returned (meaning m s n).trace ≡ active s + entered (meaning m s n).trace
   active_counted s n = counted (active s) n (m.weight s) [] s (omega arith)
 
--- where two runs have done the same calls and returns from as many active calls, as many are active
+-- if two runs have done the same calls and returns from as many active calls, as many are active
 pub same_active : (a b c : ℕ) (xs ys : List LongEvent) → a + returned xs ≡ c + entered xs → b + returned ys ≡ c + entered ys → SameCalls xs ys → a ≡ b
 same_active a b c xs ys h k s = omega (arith, h, k, s.ins, s.outs)

@@ -15,7 +15,7 @@ stops {A} {B} o whole r y x e h a k = subst {A = Result B Fault} (λ z. AnswersO
     by (fault.Refused f) a = k f a
     by fault.Memory a = tt
 
--- the part leaves something behind it, and so does the whole
+-- the part leaves something after it, and so does the whole
 pub step_stops : {A B S T : Type 0} (o : Outcome (A × S)) (now : S) (whole : Outcome (B × T)) (new : T) (r : Result B Fault) (y x : Fault) → r ≡ Err y → y ≡ x → StepsOutcome {A = A} (Err x) now o → ((f : Refusal) → o ≡ Err f → whole ≡ Err f) → StepsOutcome r new whole
 step_stops {A} {B} o now whole new r y x e h a k = subst {A = Result B Fault} (λ z. StepsOutcome z new whole) (sym (e ∙ ap (λ z. Err z) h)) (by x a)
   where

@@ -15,18 +15,18 @@ pub bound : {A B : Type 0} (P : A → Type 0) (Q : B → Type 0) (o : Outcome A)
 bound P Q (Ok a) f h k = k a h
 bound P Q (Err r) f h k = tt
 
--- the same where what is made is wrapped before it is used
+-- the same if what is made is wrapped before it is used
 pub through : {A B C : Type 0} (P : A → Type 0) (Q : B → Type 0) (o : Outcome A) (wrap : A → C) (f : C → Outcome B) → Gives P o → ((a : A) → P a → Gives Q (f (wrap a)))
     → Gives Q (bind (bind o (λ a. Ok (wrap a))) f)
 through P Q (Ok a) wrap f h k = k a h
 through P Q (Err r) wrap f h k = tt
 
--- what is made where nothing is broken
+-- what is made if nothing is broken
 pub where_unbroken : {A : Type 0} (P : A → Type 0) (broken : Bool) (code : ℕ) (pos : Pos) (a : A) → (broken ≡ false → P a) → Gives P (unless broken code pos (Ok a))
 where_unbroken P true code pos a h = tt
 where_unbroken P false code pos a h = h refl
 
--- what is made where a test passes
+-- what is made if a test passes
 pub where_true : {A : Type 0} (P : A → Type 0) (b : Bool) (code : ℕ) (pos : Pos) (a : A) → (b ≡ true → P a) → Gives P (if b then Ok a else refused code pos)
 where_true P true code pos a h = h refl
 where_true P false code pos a h = tt

@@ -1,5 +1,5 @@
 -- Three runs beside one another. The lowest shows the data events of the middle one, a step of the middle one at a time,
--- and the middle one shows what the upper one does, event for event. Where each shows at most one event a step, each
+-- and the middle one shows what the upper one does, event for event. If each shows at most one event a step, each
 -- step of the lowest has a step of the upper one at which both have shown the same data.
 use Rattle.std.proofs.Common.{◌≡◌, ◌⊎◌, inl, inr, ℕ, zero, suc, ◌+◌, ◌≤◌, ◌<◌, List, [], ◌∷◌, ◌++◌, length, append_assoc, append-nil, refl, sym, ◌∙◌, ap, subst, arith, length-append}
 use Rattle.std.specs.Prelude.{flat_map}

@@ -118,7 +118,7 @@ module _ {E F G S T : Type 0} (a : System E S) (b : System F T) (f : E → List 
       let P : S → Type 0 = λ u. All (May u) new in
       subst P (sym (at_wait s)) (All-between (May s) below es (lower i below t).trace new (lower (i + 1) below t).trace h (begins below t i) e p)
 
-  -- the trace at the first step behind the wait
+  -- the trace at the first step after the wait
   moved_trace : (before : List E) (s next : S) (events : List E) → a.step s ≡ Goes events next → (upper (a.weight s + 1) before s).trace ≡ before ++ events
   unfolding shown
   moved_trace before s next events e =
@@ -205,7 +205,7 @@ module _ {E F G S T : Type 0} (a : System E S) (b : System F T) (f : E → List 
         allows_within below w.lower s t i w.keeps.allowed (until_end below t w.to w.count w.lower (i + 1) w.travels (omega arith));
   }
 
-  -- a listing over a stretch and what comes behind it
+  -- a listing over a stretch and what comes after it
   listed_long : (near most : ℕ) (measure : S → ℕ) (R : S → T → Type 0) (before : List E) (below : List F) (s next : S) (t : T) (events : List E) (k r : ℕ) → a.step s ≡ Goes events next
       → flat_map f before ≡ flat_map g below → (w : Simulated near measure R most s t events next) → k ≡ w.count + r
       → Listed (before ++ events) (below ++ w.lower) next w.to r → Listed before below s t k

@@ -64,7 +64,7 @@ second_holds false b e = absurd (cc)
 pub both_hold : (a b : Bool) → a ≡ true → b ≡ true → (a && b) ≡ true
 both_hold a b e f = ap (λ c. c && b) e ∙ f
 
--- the parts of a list, where each gives what it was made of and a fact
+-- the parts of a list, if each gives what it was made of and a fact
 pub each_made : {X Y : Type 0} (f : X → Outcome Y) (bare : Y → X) (P : Y → Type 0) → ((x : X) (y : Y) → f x ≡ Ok y → (bare y ≡ x) × P y) → (xs : List X) (ys : List Y) → in_order (map f xs) ≡ Ok ys → (map bare ys ≡ xs) × AllByRecursion P ys
 each_made f bare P each [] ys h = subst (λ zs. (map bare zs ≡ []) × AllByRecursion P zs) (ok_same [] ys h) (refl, tt)
 each_made f bare P each (x ∷ xs) ys h =

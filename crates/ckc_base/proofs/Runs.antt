@@ -1,4 +1,4 @@
--- A lower system follows an upper one where each step of the upper is matched by some steps of the lower.
+-- A lower system follows an upper one if each step of the upper is matched by some steps of the lower.
 use Rattle.std.proofs.Common.{◌≡◌, ◌≢◌, ◌⊎◌, inl, inr, ℕ, zero, suc, ◌+◌, ◌-◌, ◌*◌, ◌≤◌, ◌<◌, List, [], ◌++◌, append_assoc, append-nil, refl, sym, ◌∙◌, ap, subst, arith}
 use Rattle.std.proofs.Math.Nat.{mul-le-mul_left}
 use Rattle.ckc_base.specs.Traces.{Standing, Going, Ended, Stopped, Stuck, Fault, Showing}
@@ -131,7 +131,7 @@ borne_out_earlier {E} x y z later safe e =
 
 -- One move of the upper system is matched from the state t of the lower one, in at most most steps: by a stretch
 -- with the same events to a related state, of at least one step unless a measure falls; or by a halt of the same
--- standing. Nothing is asked where the upper system is stuck.
+-- standing. Nothing is asked if the upper system is stuck.
 abbrev pub Matched : {E S T : Type 0} → System E T → (S → T → Type 0) → (S → ℕ) → S → T → ℕ → Move E S → Type 0
 Matched {E} {S} {T} m R measure s t most (Goes events next) =
     (count : ℕ) × (u : T) × (count ≤ most) × ((1 ≤ count) ⊎ (measure next < measure s)) × Stretch m count events t u × R next u
@@ -177,7 +177,7 @@ module _ {E S T : Type 0} (a : System E S) (b : System E T) (R : S → T → Typ
   forward_move w n later trace s t (Halts events standing) e again (inr m) h =
       (m.0 + 0, bound_halt w n later m.0 e m.1, m.3.shows 0 trace)
 
-  -- where the upper system still waits, both show nothing new
+  -- if the upper system still waits, both show nothing new
   forward_waiting : (n : ℕ) (trace : List E) (s : S) (t : T) → n ≤ a.weight s → Comes (c * (n + 1)) trace t (upper n trace s)
   unfolding shown
   forward_waiting n trace s t h = (0, omega arith, sym (shown-waiting a n (a.weight s) trace s h))

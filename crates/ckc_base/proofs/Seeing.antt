@@ -33,7 +33,7 @@ shown-seen f m (suc n) zero trace s =
     (λ t u. shown-seen f m n (m.weight u) t u)
 shown-seen f m (suc n) (suc wait) trace s = shown-seen f m n wait trace s
 
--- a showing behind what was shown before
+-- a showing after what was shown before
 abbrev behind : {E : Type 0} → List E → Showing E → Showing E
 behind before a = record { trace = before ++ a.trace; standing = a.standing }
 

@@ -110,7 +110,7 @@ module _ {E F G S T : Type 0} (b : System F T) (f : E → List G) (g : F → Lis
     subst (λ es. Closes (seen_system g b) m.count es t standing) m.seen (closes_seen g b m.count m.lower t standing m.closes),
   )
 
--- Where each move is simulated from related states, the lower system follows the upper one in what is seen, from
+-- If each move is simulated from related states, the lower system follows the upper one in what is seen, from
 -- each near state.
 pub follows_by_simulation : {E F G S T : Type 0} (a : System E S) (b : System F T) (f : E → List G) (g : F → List G) (May : S → F → Type 0)
     (Beside : S → T → Type 0) (R : S → T → Type 0) (measure : S → ℕ) (near : ℕ) (most : S → ℕ) (c : ℕ)

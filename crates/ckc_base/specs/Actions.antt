@@ -36,7 +36,7 @@ abbrev pub stores : World → Width → ℕ → ℕ → Outcome
 stores world width a value =
     stores_in world (Stored a width (kept_part width value)) (memory_with width world.memory a value)
 
--- a check stops where its value is zero
+-- a check stops if its value is zero
 abbrev pub checks : World → Check → Pos → ℕ → Outcome
 checks world check at value = if value == 0 then Stops check at else Done [] world
 

@@ -22,7 +22,7 @@ IsOver (Fault kind pc) = ⊥
 abbrev pub IsPrefix : {E : Type 0} → List E → List E → Type 0
 IsPrefix {E} xs ys = (rest : List E) × (ys ≡ xs ++ rest)
 
--- What b shows is borne out by what a shows: b is safe, its events are the first of a's, and where b is over, a
+-- What b shows is borne out by what a shows: b is safe, its events are the first of a's, and if b is over, a
 -- shows the same.
 pub record IsBorneOut {E : Type 0} (a b : Showing E) : Type 0 where
   pub safe : IsSafe b.standing

@@ -8,7 +8,7 @@ abbrev pub seen_trace : {E G S : Type 0} → (E → List G) → System E S → S
 seen_trace f a s n = flat_map f (meaning a s n).trace
 
 -- The step i of the lower run b stands at the step n of the upper run a: all that is seen at n is seen at i, all that
--- is seen at i is seen by the upper step behind n, and the lower state stands beside the upper one.
+-- is seen at i is seen by the upper step after n, and the lower state stands beside the upper one.
 pub record StandsAt {E F G S T : Type 0} (a : System E S) (b : System F T) (f : E → List G) (g : F → List G) (Beside : S → T → Type 0)
     (s : S) (t : T) (i n : ℕ) : Type 0 where
   pub reached : IsPrefix (seen_trace f a s n) (seen_trace g b t i)

@@ -6,7 +6,7 @@ abbrev pub concatenation : {A : Type 0} → List (List A) → List A
 concatenation [] = []
 concatenation (xs ∷ rest) = xs ++ concatenation rest
 
--- the list, or none of its elements where it is left out
+-- the list, or none of its elements if it is left out
 abbrev pub or_empty : {A : Type 0} → Option (List A) → List A
 or_empty None = []
 or_empty (Some xs) = xs

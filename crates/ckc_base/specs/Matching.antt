@@ -13,7 +13,7 @@ pub record Closes {E S : Type 0} (m : System E S) (count : ℕ) (events : List E
 
 -- One move of the upper system, from the state s, is matched by the lower one from the state t in at most `most`
 -- steps: by a stretch with the same events to the next pair of states, of at least one step unless a measure
--- falls; or by a halt with the same standing. Nothing is asked where the upper system is stuck.
+-- falls; or by a halt with the same standing. Nothing is asked if the upper system is stuck.
 -- A pair of states that belong together is a p, and upper p and lower p are the two.
 abbrev pub MatchedBy : {E S T P : Type 0} → System E T → (P → S) → (P → T) → (S → ℕ) → S → T → ℕ → Move E S → Type 0
 MatchedBy {E} {S} {T} {P} m upper lower measure s t most (Goes events next) =

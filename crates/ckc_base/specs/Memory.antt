@@ -16,7 +16,7 @@ is_data a = not (nat_lt a data_start) && nat_lt a data_end
 unfoldable pub first_memory : List ℕ → Memory
 first_memory initial a = if is_data a then Some (slice_index initial (a - data_start)) else None
 
--- the number that so many bytes from an address on spell, the lowest first, where all are there
+-- the number that so many bytes from an address on spell, the lowest first, if all are there
 unfoldable pub bytes_from : Memory → ℕ → ℕ → Option ℕ
 bytes_from memory zero a = Some 0
 bytes_from memory (suc count) a =
@@ -41,12 +41,12 @@ abbrev pub kept_part : Width → ℕ → ℕ
 kept_part Byte value = value % 256
 kept_part Word value = value
 
--- the value at an address, where the access is aligned and within the region
+-- the value at an address, if the access is aligned and within the region
 abbrev pub value_at : Width → Memory → ℕ → Option ℕ
 value_at width memory a =
     if a % width_bytes width == 0 then bytes_from memory (width_bytes width) a else None
 
--- the memory after a store, where the access is aligned and within the region
+-- the memory after a store, if the access is aligned and within the region
 abbrev pub memory_with : Width → Memory → ℕ → ℕ → Option Memory
 memory_with width memory a value =
     if a % width_bytes width == 0 && is_data a then Some (with_bytes memory (width_bytes width) a value) else None
@@ -54,12 +54,12 @@ memory_with width memory a value =
 -- ---- the heap
 
 -- The heap word is the first word of the region and holds the place of the next heap block. A block of so many
--- elements of a size begins there. There is none where the count is not positive as a signed word, or where it
+-- elements of a size begins there. There is none if the count is not positive as a signed word, or if it
 -- would end past the region.
 abbrev pub heap_has_room : (place count size : ℕ) → Bool
 heap_has_room place count size =
     nat_lt 0 count && nat_lt count (2 ^ 31) && nat_le (place + count * size) data_end
 
--- the place of the block behind one: the least multiple of 8 that is at least 8 past its end
+-- the place of the block after one: the least multiple of 8 that is at least 8 past its end
 abbrev pub next_place : (place count size : ℕ) → ℕ
 next_place place count size = (place + count * size + 15) / 8 * 8

@@ -19,7 +19,7 @@ bind (Err r) f = Err r
 abbrev pub refused : {A : Type 0} → ℕ → Pos → Outcome A
 refused code pos = Err (record { code = code; pos = pos })
 
--- what a part becomes where it keeps a rule
+-- what a part becomes if it keeps a rule
 abbrev pub unless : {A : Type 0} → Bool → ℕ → Pos → Outcome A → Outcome A
 unless broken code pos o = if broken then refused code pos else o
 

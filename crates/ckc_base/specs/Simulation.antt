@@ -1,4 +1,4 @@
--- How a lower system goes beside an upper one, where each has events that the other does not show. Of both only what
+-- How a lower system goes beside an upper one, if each has events that the other does not show. Of both only what
 -- is seen is compared: f gives what is seen of an upper event, and g what is seen of a lower one, perhaps nothing.
 use Rattle.std.specs.Prelude.{◌≡◌, ◌⊎◌, ℕ, ◌≤◌, ◌<◌, List, [], All, flat_map}
 use Rattle.ckc_base.specs.Traces.{Standing, Stuck}
@@ -24,7 +24,7 @@ pub record Nears {F G T : Type 0} (b : System F T) (g : F → List G) (May : F �
 
 -- One move of the upper system from the state s is simulated by the lower one from the state t, in at most `most`
 -- steps: the lower system travels, with the same to be seen, to a state that is near to the one related to the next
--- state, in at least one step unless a measure falls; or it halts with the same standing. Nothing is asked where the
+-- state, in at least one step unless a measure falls; or it halts with the same standing. Nothing is asked if the
 -- upper system is stuck.
 pub record Simulates {E F G S T : Type 0} (b : System F T) (f : E → List G) (g : F → List G) (May : S → F → Type 0) (Beside : S → T → Type 0)
     (R : S → T → Type 0) (measure : S → ℕ) (near most : ℕ) (s : S) (t : T) (events : List E) (next : S) : Type 0 where

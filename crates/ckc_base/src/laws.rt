@@ -7,7 +7,7 @@ ghost use Rattle.ckc_base.specs.Matching.{MatchedBy};
 ghost use Rattle.ckc_base.specs.Simulation.{Nears, SimulatedBy};
 ghost use Rattle.ckc_base.specs.Listing.{Listing};
 
-/// What is matched step by step follows: where pairs of states are given so that each step of the upper system is
+/// What is matched step by step follows: if pairs of states are given so that each step of the upper system is
 /// matched by steps of the lower one that lead to a pair again, within c steps for each one counted, the lower system
 /// follows the upper one from each pair.
 pub fn following_by_steps<E, S, T, P>()
@@ -24,14 +24,14 @@ pub fn following_composes<E>()
         → Follows a d (e * (c + 1)) }
 {}
 
-/// Where following holds of detailed traces, it holds of the traces in which each detailed event is seen as some
+/// If following holds of detailed traces, it holds of the traces in which each detailed event is seen as some
 /// events of input and output, perhaps none.
 pub fn following_narrows<E>()
     ensures { (f : E → List Event) (a b : ℕ → Showing E) (c : ℕ) → Follows a b c
         → Follows (λ n. narrowed f (a n)) (λ k. narrowed f (b k)) c }
 {}
 
-/// What is simulated follows in what is seen: where the related pairs of states are given, each step of the upper
+/// What is simulated follows in what is seen: if the related pairs of states are given, each step of the upper
 /// system from such a pair is simulated by steps of the lower one that end near to such a pair again, and each needs
 /// at most c steps for each one counted, the lower system follows the upper one from each state near to a pair.
 pub fn following_by_simulation<E, F, G, S, T>()
@@ -46,7 +46,7 @@ pub fn following_by_simulation<E, F, G, S, T>()
         → Follows (λ n. narrowed f (meaning a s n)) (λ k. narrowed g (meaning b t k)) c }
 {}
 
-/// A run that is simulated can be listed beside the upper one, where that one is never stuck: each of its steps
+/// A run that is simulated can be listed beside the upper one, if that one is never stuck: each of its steps
 /// stands at a step of the upper run, and what it does next is allowed there.
 pub fn listing_by_simulation<E, F, G, S, T>()
     ensures { (a : System E S) (b : System F T) (f : E → List G) (g : F → List G)

@@ -70,14 +70,14 @@ impl<T> Seq<T> {
         self.items.is_empty()
     }
 
-    /// The element with the index, from 0, where there is one.
+    /// The element with the index, from 0, if there is one.
     pub fn get(&self, at: usize) -> Option<&T>
         ensures { option_copied result ≡ slice_get self.now at }
     {
         self.items.get(at)
     }
 
-    /// Takes the last element out, where there is one.
+    /// Takes the last element out, if there is one.
     pub fn pop(&mut self) -> Option<T>
         ensures { MatchOption result ((self.old ≡ []) × (self.new ≡ []))
             (λ last. self.old ≡ self.new ++ last ∷ []) }

@@ -1,7 +1,7 @@
 -- Counts that stand still at the end of their type.
 use Rattle.std.specs.Prelude.{◌≡◌, ◌⊎◌, ℕ, ◌+◌, ◌-◌, ◌^◌, ◌<◌, min}
 
--- A count rose in a call where it is greater than before the call, or stands at its last value.
+-- A count rose in a call if it is greater than before the call, or stands at its last value.
 abbrev pub Rose : ℕ → ℕ → Type 0
 Rose old new = (old < new) ⊎ (new ≡ 2 ^ 64 - 1)
 

@@ -34,7 +34,7 @@ pub fn most_facts(vars: u32) -> u32
     vars + 1
 }
 
-/// Whether an image of so many bytes has its header, code and initial bytes, and nothing behind them.
+/// Whether an image of so many bytes has its header, code and initial bytes, and nothing after them.
 pub fn is_image_length(length: usize, code: usize, initial: usize) -> bool
     requires { (code < 2 ^ 32) × (initial < 2 ^ 32) }
     ensures { IsTrue result ↔ (length ≡ 20 + code + initial) }

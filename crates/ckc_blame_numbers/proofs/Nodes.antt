@@ -109,7 +109,7 @@ module _ (frame : Frame) where
 -- two parts with what is said of them and what they become
 module _ (frame : Frame) (t u : CType) (e f : View) (v w : ℕ → Expr) (claims_e : Claims frame t e.number e.variable e.form e.side v)
     (claims_f : Claims frame u f.number f.variable f.form f.side w) where
-  -- what the two parts come to where both are evaluated
+  -- what the two parts come to if both are evaluated
   pub record Both (facts : Known) (j k : ℕ) (locals : List ℕ) (a b : ℕ) : Type 0 where
     pub left : Comes frame facts (v j)
     pub right : Comes frame facts (w k)
@@ -172,7 +172,7 @@ module _ (frame : Frame) (t u : CType) (e f : View) (v w : ℕ → Expr) (claims
 
 -- ---- operators
 
--- the two operands of an operation, where both are evaluated
+-- the two operands of an operation, if both are evaluated
 module _ (frame : Frame) (t u : CType) (e f : View) (v w : ℕ → Expr) (claims_e : Claims frame t e.number e.variable e.form e.side v)
     (claims_f : Claims frame u f.number f.variable f.form f.side w) (facts : Known) (store : Store) (words : HoldWords frame store.locals)
     (all : AreTrue frame store.locals facts) (j k : ℕ) (a b : Value) (left : evaluated store (v j) ≡ Ok a) (right : evaluated store (w k) ≡ Ok b) where

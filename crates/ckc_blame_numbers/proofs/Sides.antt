@@ -153,7 +153,7 @@ module _ (frame : Frame) (t : CType) (value' : ℕ → Expr) (facts : Known) (k 
   pub local_fits : (f : Form) (is : IsVariable frame t value' f) → IsWordOf t c.value.number
   local_fits f is = subst (λ n. IsWordOf t n) (sym (local_word f is)) (subst (λ u. IsWordOf u (slice_index c.store.locals is.number)) is.same (c.words is.number is.local is.there))
 
-  -- a local is read as its value, where it is compared in its type
+  -- a local is read as its value, if it is compared in its type
   local_read : (f : Form) → IsVariable frame t value' f → (uns a b : Bool) → is_unsigned t ≡ a → is_char t ≡ b → (uns ≡ true → a ≡ true) → (uns ≡ false → a ≡ false)
       → number_of (value frame c.store.locals) f ≡ read (not uns) c.value.number
   local_read f is true a b u h up down = local_value f is ∙ ap (λ i. exact i c.value.number) (unsigned_is t is.integer (u ∙ up refl))
@@ -208,7 +208,7 @@ nonzero_same frame op.Ne e f side at = by f.is_zero
     by false = refl
 nonzero_same frame o e f side at = refl
 
--- A side of a comparison has facts that are true, where its operands are read so.
+-- A side of a comparison has facts that are true, if its operands are read so.
 pub operands_hold : (frame : Frame) (locals : List ℕ) (o : TreeOp) (e f : View) (side s : Bool) (a b : ℕ) (at : State) → is_comparison o ≡ true
     → (computed (operation_of o) s a b == 0) ≡ not side → AreTrue frame locals at.facts → (x y : Option Form)
     → ((g h : Form) → x ≡ Some g → y ≡ Some h → (number_of (value frame locals) g ≡ read s a) × (number_of (value frame locals) h ≡ read s b))

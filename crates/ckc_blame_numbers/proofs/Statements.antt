@@ -1,4 +1,4 @@
--- The facts of the point behind a judged assignment or declaration of a local are true.
+-- The facts of the point after a judged assignment or declaration of a local are true.
 use Rattle.std.proofs.Common.{◌≡◌, refl, sym, ap, subst, ◌∙◌, ℕ, Bool, true, false, List, [], ◌∷◌, rules, arith}
 use Rattle.std.specs.Prelude.{◌<◌, ◌^◌, ◌==◌, not, if◌then◌else◌, pos, length, slice_set, Option, None, Some, Ok, Err}
 use Rattle.ckc_base.specs.declared.places.Pos.{Pos}
@@ -150,7 +150,7 @@ module _ (globals : Globals) (s : Setting) where
       let row : IsRow globals s (out-Node Name Note e.node) e.note = every_here-Expr Name Note AnyLimits AnyNode (HasRow globals s) e w in
       agrees.locals k l e.note.ctype there (typed_name row.mode (out-Node Name Note e.node) e.note.ctype k row.row named)
 
-  -- what is known behind assignments, whatever they owe
+  -- what is known after assignments, whatever they owe
   known_behind : (b : Bool) (r : Option Refusal) (at there : State) → (if b then Ok at else unless_refused r at) ≡ Ok there → at ≡ there
   known_behind true r at there e = cc
   known_behind false None at there e = cc
@@ -213,7 +213,7 @@ module _ (globals : Globals) (s : Setting) where
           absurd (cc)
       many_before (init.Many fs) first h is es many = (fs, refl)
 
-  -- the point behind a judged assignment
+  -- the point after a judged assignment
   pub assigned_is : (agrees : Agrees globals s) (here there : Here) (k : ℕ) (l : Local) (value : NotedExpr) (a : IsAssignment globals s here k l value there)
       → (there.at ≡ assigned s.frame k (value_form s.frame l.ctype value here.at.facts) here.at) × IsTyped globals s value
   unfolding value_form
@@ -273,7 +273,7 @@ module _ (globals : Globals) (s : Setting) where
       let p = pair_same {A = NotedInit} (init.Many m.0.0) first m.0.1 there m.2 in
       absurd (subst (λ (i : NotedInit). Begins s literals i e) (sym p.0) b)
 
-  -- the point behind a judged declaration
+  -- the point after a judged declaration
   pub declared_is : (here there : Here) (k : ℕ) (l : Local) (first : NotedInit) (literals : ℕ) (e : Expr) → Begins s literals first e → (a : IsDeclaration globals s here k l first there)
       → (there.at ≡ assigned s.frame k (start_form s.frame l.ctype first here.at.facts) here.at) × InitTyped first
   declared_is here there k l first literals e b a =

@@ -1,4 +1,4 @@
--- The facts of the point behind a step that writes a local are true.
+-- The facts of the point after a step that writes a local are true.
 use Rattle.std.proofs.Common.{◌≡◌, refl, sym, ap, subst, ◌∙◌, ℕ, ◌+◌, Bool, true, false, List, [], ◌∷◌, map, ⊎_elim, rules, arith}
 use Rattle.std.specs.Prelude.{◌<◌, ◌^◌, ◌%◌, not, if◌then◌else◌, length, slice_index, slice_set, Option, None, Some, Result, Ok, Err}
 use Rattle.ckc_base.specs.declared.arithmetic.Width.{Width}
@@ -144,7 +144,7 @@ module _ (s : Setting) where
   local_written t (name.Local j) k w h = (cc, cc)
   local_written t n k w h = absurd (cc)
 
--- ---- the point behind such a step
+-- ---- the point after such a step
 
 out_call : (e : NotedExpr) → out-Act Name Note (act.Call e) ≡ Act-F.Call e
 out_call e = search (rules, the_lemmas)
@@ -312,7 +312,7 @@ module _ (globals : Globals) (s : Setting) (agrees : Agrees globals s) (here the
       by (Act-F.Bundle ss) is simple = as_bundle ss is
       by d is simple = absurd (cc)
 
-  -- ---- the point behind the step
+  -- ---- the point after the step
 
   still_reached : (form : Option Form) → here.at.reached ≡ true → (assigned_point s.frame k form here.at).reached ≡ true
   still_reached form reached =
@@ -364,7 +364,7 @@ module _ (globals : Globals) (s : Setting) (agrees : Agrees globals s) (here the
             subst (λ x. AreTrue s.frame (now x) there.at.facts) (sym width)
             (goes (behind_declaration globals s agrees here step.behind k literals l store v reached words all within small first e a begins is) (start_form s.frame l.ctype first here.at.facts) p.0)
 
-  -- the same of the state behind the step
+  -- the same of the state after the step
   pub state_holds : (shapes : List Shape) (before after : states.State) → IsTypedStmt globals s step.before → here.at.reached ≡ true → HoldWords s.frame before.frame.locals
       → AreTrue s.frame before.frame.locals here.at.facts → k < length before.frame.locals → ((v : Drawn) → evaluated (store_of shapes before) e ≡ Ok v → v.number < 2 ^ 32)
       → bundled shapes before ((Variable k w, Value e) ∷ []) ≡ Ok after → AreTrue s.frame after.frame.locals there.at.facts

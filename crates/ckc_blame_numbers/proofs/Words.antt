@@ -46,7 +46,7 @@ in_wide Int z r = let a = r.0 in let b = r.1 in (a, omega (arith, ints))
 in_wide Unsigned z r = let a = r.0 in let b = r.1 in (omega (arith, ints), b)
 in_wide Char z r = let a = r.0 in let b = r.1 in (omega (arith, ints), omega (arith, ints))
 
--- A sum modulo 2^32 of words that stand for two integers stands for their sum where that is a number of the type.
+-- A sum modulo 2^32 of words that stand for two integers stands for their sum if that is a number of the type.
 pub sum_is : (t : Integer) (a b : ℕ) (x y : ℤ) → a < 2 ^ 32 → b < 2 ^ 32 → (x ≡ pos a) ⊎ (x ≡ pos a -ℤ pos (2 ^ 32)) → (y ≡ pos b) ⊎ (y ≡ pos b -ℤ pos (2 ^ 32))
     → InType t (x +ℤ y) → exact t ((a + b) % 2 ^ 32) ≡ x +ℤ y
 sum_is t a b x y h k p q r = read_back t ((a + b) % 2 ^ 32) (x +ℤ y) (omega arith) r (by p q)
@@ -64,7 +64,7 @@ difference_is t a b x y h k p q r = read_back t ((a + (2 ^ 32 - b)) % 2 ^ 32) (x
         → (x -ℤ y ≡ pos ((a + (2 ^ 32 - b)) % 2 ^ 32)) ⊎ (x -ℤ y ≡ pos ((a + (2 ^ 32 - b)) % 2 ^ 32) -ℤ pos (2 ^ 32))
     by p q = let w = in_wide t (x -ℤ y) r in let low = w.0 in let high = w.1 in grind (arith, ints)
 
--- The lowest byte of a word stands for the same integer where that is a number of `char`.
+-- The lowest byte of a word stands for the same integer if that is a number of `char`.
 pub narrowed_is : (n : ℕ) (z : ℤ) → (z ≡ pos n) ⊎ (z ≡ pos n -ℤ pos (2 ^ 32)) → n < 2 ^ 32 → InType Char z → pos (n % 256) ≡ z
 narrowed_is n z (inl e) h r = let a : pos 0 ≤ℤ z = r.0 in let b : z ≤ℤ pos 255 = r.1 in omega (arith, ints)
 narrowed_is n z (inr e) h r = let a : pos 0 ≤ℤ z = r.0 in absurd (omega (arith, ints))
@@ -76,7 +76,7 @@ abbrev pub read : Bool → ℕ → ℤ
 read true n = signed n
 read false n = pos n
 
--- what an operation says of two integers where it is true
+-- what an operation says of two integers if it is true
 abbrev pub Says : Operation → ℤ → ℤ → Type 0
 Says Lt x y = (x +ℤ pos 1) ≤ℤ y
 Says Le x y = x ≤ℤ y
@@ -132,7 +132,7 @@ said_true Ge false a b e = nat_not_less a b (not_true _ e)
 said_true Eq s a b e = ap (read s) (nat_same a b (flag_true _ e))
 said_true o s a b e = tt
 
--- the operation that holds where another one does not
+-- the operation that holds if another one does not
 abbrev pub contrary : Operation → Operation
 contrary Lt = Ge
 contrary Le = Gt

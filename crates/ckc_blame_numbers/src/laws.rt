@@ -28,7 +28,7 @@ ghost use Rattle.ckc_blame_sound.specs.Steps.{IsStep, IsCondition};
 ghost use Rattle.ckc_blame_numbers.specs.Typed.{IsTyped, IsTypedIf, IsTypedStmt, Agrees};
 ghost use Rattle.ckc_blame_numbers.specs.Exact.{IsExact};
 
-/// Where the facts of a point are true, the form that an expression has there stands for exactly the integer that the
+/// If the facts of a point are true, the form that an expression has there stands for exactly the integer that the
 /// expression comes to, if it comes to a value.
 pub fn forms_are_exact()
     ensures { (globals : Globals) (s : Setting) (e : NotedExpr) (literals : ℕ) (facts : Known)
@@ -39,7 +39,7 @@ pub fn forms_are_exact()
         → IsExact s.frame store.locals e.note.ctype f v.number }
 {}
 
-/// What a condition says on a side of it is true where it comes to that side.
+/// What a condition says on a side of it is true if it comes to that side.
 pub fn conditions_tell()
     ensures { (globals : Globals) (s : Setting) (e : NotedExpr) (literals : ℕ) (at : State)
         (side : Bool) (store : Store) (v : Value) → Agrees globals s → IsTyped globals s e
@@ -56,7 +56,7 @@ pub fn judging_keeps_types()
         → IsTyped globals s f × (f.note.ctype ≡ e.note.ctype) }
 {}
 
-/// The facts of the next point are true behind a condition, on the side that it comes to, and in the state behind an
+/// The facts of the next point are true after a condition, on the side that it comes to, and in the state after an
 /// assignment to a local, a declaration being one.
 pub fn facts_hold()
     ensures condition { (globals : Globals) (s : Setting) (here yes no : Here) (e : Expr)

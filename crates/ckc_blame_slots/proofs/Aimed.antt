@@ -49,7 +49,7 @@ tested_at low high a at = by (a == high)
     by true = refl
     by false = refl
 
--- where only zero may be written, only zero is
+-- if only zero may be written, only zero is
 refused : (zero_alone : Option Pos) (k : ℕ) (to w : Place) → refuses zero_alone k (Ok to) ≡ Ok w → (to ≡ w) × (is_some zero_alone ≡ true → k ≡ 0)
 refused None k to w e = (cc, λ h. absurd (no h))
   where

@@ -28,7 +28,7 @@ use Rattle.ckc_blame_slots.proofs.Written.{KeepsAll}
 
 -- ---- one slot
 
--- a pointer is read as before where the same is in memory and the same ranges are true
+-- a pointer is read as before if the same is in memory and the same ranges are true
 module _ (shapes : List Shape) (bs cs : List Block) (ls ms : List ℕ)
     (truths : (to : Pointee) (i low high : ℕ) → is_true shapes cs to i low high ≡ is_true shapes bs to i low high) where
   same_within : (to : Pointee) (n : ℕ) (low high : ℤ) → reads_within shapes cs to n low high ≡ reads_within shapes bs to n low high

@@ -1,4 +1,4 @@
--- A new block lies behind the others, its elements are zero, and what was found and true stays so.
+-- A new block lies after the others, its elements are zero, and what was found and true stays so.
 use Rattle.std.proofs.Common.{◌≡◌, ℕ, zero, suc, ◌+◌, ◌-◌, ◌*◌, ◌/◌, ◌%◌, ◌≤◌, ◌<◌, List, [], ◌∷◌, ◌++◌, length, replicate, refl, ◌∙◌, ap, arith, le_refl}
 use Rattle.std.proofs.lemmas.List.{length-replicate}
 use Rattle.std.specs.Prelude.{Bool, true, false, nat_le, nat_lt, ◌&&◌, ◌||◌, if◌then◌else◌, slice_index, slice_get, Some, None}

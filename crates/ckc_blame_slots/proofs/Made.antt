@@ -1,4 +1,4 @@
--- The checked pointers that memory holds are true where a new block is made: in it they are null.
+-- The checked pointers that memory holds are true when a new block is made: in it they are null.
 use Rattle.std.proofs.Common.{◌≡◌, ◌⊎◌, ⊎_elim, inl, inr, ℕ, zero, suc, ◌+◌, ◌-◌, ◌*◌, ◌≤◌, ◌<◌, ◌==◌, List, [], ◌∷◌, ◌++◌, refl, sym, ◌∙◌, ap, subst, arith}
 use Rattle.std.specs.Prelude.{Bool, true, false, ◌||◌, if◌then◌else◌, slice_get, ℤ, pos, negsuc, ◌+ℤ◌, Option, Some, None, Result, Ok, Err, IsOk}
 use Rattle.std.specs.List.{list_any, Contains}

@@ -69,7 +69,7 @@ object_cell p bs objects k o e plain some offset width part =
 
 -- ---- members
 
--- the members of a structure that pointers may point to, where it has this number
+-- the members of a structure that pointers may point to, if it has this number
 abbrev made_shape : Structs → ℕ → StructShape → Shape
 made_shape structs tag s = record { runs = flat_map (run_of structs tag s.members) s.members }
 

@@ -12,7 +12,7 @@ use Rattle.ckc_blame_slots.proofs.Parts.{Lies}
 
 -- ---- numbers
 
--- an address as far behind another as some elements
+-- an address as far after another as some elements
 pub elements_between : (s base a : ℕ) → base ≤ a → a % s ≡ base % s → (i : ℕ) × (a ≡ base + i * s)
 elements_between s base a h e =
     let x = mod-add-div a s in

@@ -19,7 +19,7 @@ inside width a b h =
 
 -- ---- bytes
 
--- a byte before or behind those that are written
+-- a byte before or after those that are written
 pub byte_other : (width : Width) (bytes : List ℕ) (i n k : ℕ) → (k < i) ⊎ (i + width_bytes width ≤ k)
     → slice_index (with_number width bytes i n) k ≡ slice_index bytes k
 byte_other Byte bytes i n k h = get_or-set_other bytes i k (n % 256) 0 (apart h)

@@ -25,7 +25,7 @@ use Rattle.ckc_build_values.specs.Members.{offset_of}
 abbrev pub AreDisjoint : (a : ℕ) → Width → (c : ℕ) → Width → Type 0
 AreDisjoint a width c other = (a + width_bytes width ≤ c) ⊎ (c + width_bytes other ≤ a)
 
--- An access of a width, so many bytes behind the begin of a structure, is one of a member.
+-- An access of a width, so many bytes after the begin of a structure, is one of a member.
 pub record IsOfMember (structs : Structs) (tag offset : ℕ) (width : Width) : Type 0 where
   pub front : List MemberShape
   pub member : MemberShape
@@ -38,13 +38,13 @@ abbrev pub IsPartIn : Structs → CType → CType-F CType → ℕ → Width → 
 IsPartIn structs t (CType-F.Struct tag) offset width = IsOfMember structs tag offset width
 IsPartIn structs t _ offset width = (offset ≡ 0) × (width ≡ width_of t)
 
--- An access of a width, so many bytes behind the begin of an element, is one of the element, or of a member of it where it
+-- An access of a width, so many bytes after the begin of an element, is one of the element, or of a member of it if it
 -- is a structure.
 abbrev pub IsPart : Structs → CType → ℕ → Width → Type 0
 IsPart structs t offset width = IsPartIn structs t (out-CType t) offset width
 
--- An access of a width at an address is one of an element of a block, or of a member of it. Where the flag does not say that
--- only zero may be written, it is not in the last element of a null-terminated block.
+-- An access of a width at an address is one of an element of a block, or of a member of it. If the flag does not say
+-- that only zero may be written, it is not in the last element of a null-terminated block.
 pub record IsCell (structs : Structs) (blocks : List Block) (a : ℕ) (width : Width) (zero_alone : Bool) : Type 0 where
   pub number : ℕ
   pub block : Block
@@ -75,7 +75,7 @@ HaveOwnNames structs =
     (tag : ℕ) (front back : List MemberShape) (m : MemberShape) → members_of structs tag ≡ front ++ m ∷ back → All (λ n. n.name ≢ m.name) front
 
 -- The element at an address is one that a pointer n with this range reaches: it lies a number of elements from n, and in the
--- range, or at the end of it where the elements are those of a null-terminated array.
+-- range, or at the end of it if the elements are those of a null-terminated array.
 pub record IsReached (to : Pointee) (n low high a : ℕ) : Type 0 where
   pub away : a % to.size ≡ n % to.size
   pub behind : low ≤ a

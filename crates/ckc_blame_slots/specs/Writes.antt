@@ -8,7 +8,7 @@ use Rattle.ckc_source.specs.Blocks.{Block}
 use Rattle.ckc_source.specs.Steps.{Write}
 use Rattle.ckc_blame_slots.specs.Cells.{IsCell}
 
--- A word is written to an integer or a pointer of an element, and only zero where only that may be written.
+-- A word is written to an integer or a pointer of an element, and only zero if only that may be written.
 abbrev pub IsCellWrite : Structs → List Block → Place → ℕ → Type 0
 IsCellWrite structs blocks (place.Memory a width zero_alone) n =
     IsCell structs blocks a width (is_some zero_alone) × (is_some zero_alone ≡ true → kept_part width n ≡ 0) × (n < 2 ^ 32)

@@ -81,7 +81,7 @@ pub fn objects_lie_in_blocks()
 {}
 
 /// A target in memory at an integer or a pointer of an element is not stuck, and what is written to it after the test for
-/// the terminator is only zero where only zero may be written.
+/// the terminator is only zero if only zero may be written.
 pub fn targets_are_written()
     ensures there { (p : Typed) (next : ℕ) (store : Store) (width : Width) (access : Access)
         (range : Range) (a : ℕ) (z : Bool) → AreSound p store.blocks next
@@ -155,8 +155,9 @@ pub fn writes_keep_blocks()
         → is_true shapes t.blocks to i low high ≡ is_true shapes s.blocks to i low high }
 {}
 
-/// Each checked pointer in memory may be read within its bounds after writes to integers and pointers of elements, where
-/// each that they write to, or to a member that its bounds read, may be read so after them; and where a new block is made.
+/// Each checked pointer in memory may be read within its bounds after writes to integers and pointers of elements, if
+/// each that they write to, or to a member that its bounds read, may be read so after them; and when a new block is
+/// made.
 pub fn pointers_stay_true()
     ensures writes { (p : Typed) (next : ℕ) (ws : List Write) (s t : State) (shapes : List Shape)
         (locals after : List ℕ) → AreSlotParts p → AreSound p s.blocks next
@@ -176,7 +177,7 @@ pub fn pointers_stay_true()
         → AreFilled p (store_with shapes (blocks ++ fresh to next count ∷ []) after) }
 {}
 
-/// A new block lies behind the others, each of which is as it was: what was read is read, each integer and pointer of an
+/// A new block lies after the others, each of which is as it was: what was read is read, each integer and pointer of an
 /// element is one, and each range that was true is true.
 pub fn blocks_are_made()
     ensures sound { (p : Typed) (blocks : List Block) (next count : ℕ) (to : Pointee) →

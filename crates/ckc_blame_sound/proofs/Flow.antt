@@ -1,4 +1,4 @@
--- Facts are true behind an assignment, where branches join, at the head of a loop and at the begin of a function.
+-- Facts are true after an assignment, where branches join, at the head of a loop and at the begin of a function.
 use Rattle.std.proofs.Common.{◌≡◌, ◌≢◌, ⊎_elim, refl, sym, ap, subst, ◌∙◌, ℕ, zero, suc, ◌+◌, Bool, true, false, List, [], ◌∷◌, length, ℤ, ◌+ℤ◌, arith}
 use Rattle.std.specs.Prelude.{◌^◌, ◌<◌, ◌==◌, ◌&&◌, cond, if◌then◌else◌, pos, neg_ℤ, slice_get, slice_index, slice_set, Option, None, Some, IfSome}
 use Rattle.std.specs.List.{filter, list_any}
@@ -38,7 +38,7 @@ module _ (x : ℕ) (before after : ℕ → ℤ) (others : (v : ℕ) → v ≢ x 
       (All-weaker (Satisfies before) (λ f. Satisfies after (shifted x c f)) (λ f s. shifted_holds x before after others f c grown s) small
       (All-filter (stays_small x c) (Satisfies before) facts.list h))
 
-  -- what is left where the facts on x go
+  -- what is left if the facts on x go
   left_hold : (r : Option Interval) (facts : Known) → after 0 ≡ pos 0 → IsBetween r (after x) → Hold before facts.list → Hold after (with_range x r (forgotten x facts)).list
   left_hold r facts origin lies h = range_added after x r (forgotten x facts) origin lies (rest_holds x before after others facts.list h)
 
@@ -132,7 +132,7 @@ module _ (frame : Frame) (locals : List ℕ) (k n : ℕ) where
       kept : (f : Fact) → Satisfies (value frame locals) f → Satisfies (value frame now) f
       kept f s = let a = zero_at f.x in let b = zero_at f.y in omega (arith, ints)
 
-  -- Facts are true behind an assignment of a word to a local, where its form stands for what the word does.
+  -- Facts are true after an assignment of a word to a local, if its form stands for what the word does.
   pub facts_assigned_hold : (l : Local) (form : Option Form) (at : State) → at.reached ≡ true → local_at frame k ≡ Some l → k < length locals → IsWordOf l.ctype n
       → (is_integer l.ctype ≡ true → IfSome form (λ f. value_in (Some l) n ≡ number_of (value frame locals) f)) → AreTrue frame locals at.facts
       → AreTrue frame now (assigned frame k form at).facts

@@ -73,12 +73,12 @@ address_at s locals (Some (base.Local k)) = Some (slice_index locals k)
 address_at s locals (Some (base.Array k)) = Some (address_of s.text k)
 address_at s locals _ = None
 
--- A word is the address that a place stands for, where that lies from a local pointer or a static array.
+-- A word is the address that a place stands for, if that lies from a local pointer or a static array.
 abbrev pub IsAddress : Setting → List ℕ → ℕ → ℕ → Form → Type 0
 IsAddress s locals size n f =
     IfSome (address_at s locals f.base) (λ a. pos n ≡ elements_behind a size (number_of (value s.frame locals) f))
 
--- A parameter was entered with what its argument stands for at a point, where that is a form over locals and static arrays
+-- A parameter was entered with what its argument stands for at a point, if that is a form over locals and static arrays
 -- alone: a pointer with the argument's place, an integer with its form in the parameter's type.
 abbrev pub IsPassedAs : Bool → Setting → Known → List ℕ → Local → NotedExpr → ℕ → Type 0
 IsPassedAs true s facts locals parameter e n =
@@ -100,7 +100,7 @@ ArePassed s facts locals parameters es entry =
 -- ---- calls that wait
 
 -- A call waits for another one, which was entered with these values: the point of the step that called it holds, what comes
--- behind that step is judged, and the parameters still have what the arguments stand for there.
+-- after that step is judged, and the parameters still have what the arguments stand for there.
 pub record Waits (p : Typed) (blocks : List Block) (caller : Caller) (s called : Setting) (callee : Function) (entry : List ℕ) : Type 0 where
   pub function : IsFunction p s caller.frame.function
   pub spot : Spot

@@ -1,4 +1,4 @@
--- Statements that are judged from a point on, each from the point behind the one before it, with the points that control
+-- Statements that are judged from a point on, each from the point after the one before it, with the points that control
 -- leaves them for.
 use Rattle.std.specs.Prelude.{List, [], ◌∷◌}
 use Rattle.ckc_bounds_statements.specs.Paths.{Here}
@@ -8,25 +8,25 @@ use Rattle.ckc_blame_sound.specs.Settings.{Setting}
 use Rattle.ckc_blame_sound.specs.Points.{GoesTo}
 use Rattle.ckc_blame_sound.specs.Steps.{IsStep, IsCondition}
 
--- where control is behind some statements, behind a `break` in them and behind a `continue`
+-- where control is after some statements, after a `break` in them and after a `continue`
 pub record Exits : Type 0 where
   pub ends : Here
   pub breaks : Here
   pub continues : Here
 
--- the same, but for where control is behind the statements
+-- the same, but for where control is after the statements
 abbrev pub ending : Exits → Here → Exits
 ending exits there = record exits { ends = there }
 
 -- the points of an `if`: the two sides of its condition, the begin of its second branch, whose fresh variables have the
--- numbers behind those of the first, and behind it
+-- numbers after those of the first, and after it
 pub record Branches : Type 0 where
   pub yes : Here
   pub no : Here
   pub other : Here
   pub behind : Here
 
--- the points of a loop: its head, the two sides of its condition, its step, and behind it
+-- the points of a loop: its head, the two sides of its condition, its step, and after it
 pub record Turns : Type 0 where
   pub head : Here
   pub yes : Here
@@ -69,7 +69,7 @@ Judged s (Loop spot e body step rest) exits here =
 Judged s (Return spot e rest) exits here = Then s here (Return spot e) (Judged s rest exits)
 Judged s (Check spot e rest) exits here = Then s here (Check spot e) (Judged s rest exits)
 
--- A turn of the loop in front is done: control goes to its step, by `continue` too, and by `break` behind the loop.
+-- A turn of the loop in front is done: control goes to its step, by `continue` too, and by `break` past the loop.
 abbrev pub IsTurn : Setting → Code → Turns → Exits → Exits → Type 0
 IsTurn s (Loop spot e body step rest) l exits outer =
     IsLoop s e l (Judged s body) (Judged s step) × GoesTo s.frame exits.ends l.step × GoesTo s.frame exits.continues l.step

@@ -21,7 +21,7 @@ IsReadable s store k t (range.Known low high) =
     IsOk (reads_limited store (limits_at s.text s.variables t k low high) (slice_index store.locals k))
 IsReadable s store k t _ = Unit {0}
 
--- the local k may be read within its declared bounds, one element further where it is among these widened ones
+-- the local k may be read within its declared bounds, one element further if it is among these widened ones
 abbrev pub IsBounded : Setting → Store → List ℕ → ℕ → Option Local → Type 0
 IsBounded s store widened k (Some l) = IsReadable s store k l.ctype (range_of_local s.frame k widened)
 IsBounded s store widened k None = Unit {0}
@@ -32,7 +32,7 @@ AreBounded s store widened seen = (k : ℕ) → Contains seen k → IsBounded s 
 
 -- A point of a function holds of a store, in a call that was entered with these values of its parameters: control may be
 -- there; the locals are as many as the function has, and each holds a word of its type; the facts are true; each pointer
--- in scope may be read within its bounds, and where it is widened one element further; the parameters that the bounds of
+-- in scope may be read within its bounds, and if it is widened one element further; the parameters that the bounds of
 -- the result name have the values that they were entered with.
 pub record HoldsAt (s : Setting) (store : Store) (entry : List ℕ) (here : Here) : Type 0 where
   pub reached : here.at.reached ≡ true
@@ -51,7 +51,7 @@ pub record IsKnown (frame : Frame) (here there : State) : Type 0 where
   pub facts : (locals : List ℕ) → HoldWords frame locals → AreTrue frame locals here.facts → AreTrue frame locals there.facts
   pub widened : (k : ℕ) → Contains there.widened k → Contains here.widened k
 
--- Control goes from a point to another one, where it comes to it at all: no more is known there, and no more is in scope.
+-- Control goes from a point to another one, if it comes to it at all: no more is known there, and no more is in scope.
 pub record GoesTo (frame : Frame) (here there : Here) : Type 0 where
   pub known : here.at.reached ≡ true → IsKnown frame here.at there.at
   pub seen : (k : ℕ) → Contains there.seen k → Contains here.seen k

@@ -15,14 +15,14 @@ use Rattle.ckc_build_values.specs.Kinds.{pointee_of}
 use Rattle.ckc_build_values.specs.Members.{offset_of, count_by}
 use Rattle.ckc_build_values.specs.Names.{count_of_static}
 
--- A slot of an element: a checked pointer of which the number of elements is known, so many bytes behind the begin of the
--- element.
+-- A slot of an element: a checked pointer of which the number of elements is known, so many bytes after the begin of
+-- the element.
 pub record Slot : Type 0 where
   pub offset : ℕ
   pub to : Pointee
   pub count : Count
 
--- a pointer of a type, where the number of its elements is known
+-- a pointer of a type, if the number of its elements is known
 abbrev pub slot_by : Structs → ℕ → CType → Option Count → List Slot
 slot_by structs offset t (Some n) = record { offset = offset; to = pointee_of structs t; count = n } ∷ []
 slot_by structs offset t None = []

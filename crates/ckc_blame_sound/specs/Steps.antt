@@ -32,7 +32,7 @@ pub record IsStep (s : Setting) (here : Here) (step : Code → Code) (there : He
   pub becomes : stmt_elaborated s.text s.variables s.result literals after ≡ step ∷ []
   pub goes : GoesTo s.frame behind there
 
--- A condition is judged at a point and becomes this expression; where it is true control is at a second point, and where
+-- A condition is judged at a point and becomes this expression; if it is true control is at a second point, and if
 -- it is false at a third. One that is left out is true.
 pub record IsCondition (s : Setting) (here : Here) (e : Expr) (yes no : Here) : Type 0 where
   pub before : Option NotedExpr

@@ -1,4 +1,4 @@
--- The numbers that variables and forms stand for where locals have values.
+-- The numbers that variables and forms stand for if locals have values.
 use Rattle.std.specs.Prelude.{◌≡◌, ℕ, zero, suc, ◌<◌, ◌^◌, if◌then◌else◌, ℤ, pos, ◌+ℤ◌, ◌≤ℤ◌, List, slice_index, Option, None, Some}
 use Rattle.std.specs.List.{All}
 use Rattle.ckc_types.specs.declared.types.CType.{CType}
@@ -14,7 +14,7 @@ use Rattle.ckc_bounds_points.specs.Frames.{local_at}
 use Rattle.ckc_source.specs.Words.{exact}
 use Rattle.ckc_build_values.specs.Kinds.{integer_of}
 
--- what a word in a local stands for: the integer that it is in the type of the local, and 0 where that is no integer type
+-- what a word in a local stands for: the integer that it is in the type of the local, and 0 if that is no integer type
 abbrev pub value_in : Option Local → ℕ → ℤ
 value_in (Some l) n = if is_integer l.ctype then exact (integer_of l.ctype) n else pos 0
 value_in None n = pos 0

@@ -33,7 +33,7 @@ pub fn points_keep()
         GoesTo s.frame here there → HoldsAt s store entry here → HoldsAt s store entry there }
 {}
 
-/// Facts are true behind the assignment of a word to a local, where its form stands for what the word does.
+/// Facts are true after the assignment of a word to a local, if its form stands for what the word does.
 pub fn assignments_hold()
     ensures { (frame : Frame) (locals : List ℕ) (k n : ℕ) (l : Local) (form : Option Form)
         (at : State) → at.reached ≡ true → local_at frame k ≡ Some l → k < length locals

@@ -38,6 +38,6 @@ module _ {X A : Type 0} (f : X → Outcome A) (xs : List X) (i : ℕ) (x : X) (h
 pub each_end : {X A : Type 0} (f : X → Outcome A) (xs : List X) (i : ℕ) (whole : Outcome (Unit {0})) → whole ≡ each (map f (drop i xs)) → length xs ≤ i → whole ≡ Ok tt
 each_end f xs i whole kept h = kept ∙ ap (λ l. each (map f l)) (drop_all i xs h)
 
--- one more of the same behind a list
+-- one more of the same after a list
 pub one_more : {A : Type 0} (xs : List A) (n : ℕ) (a : A) → (xs ++ replicate n a) ++ a ∷ [] ≡ xs ++ replicate (n + 1) a
 one_more xs n a = append_assoc xs (replicate n a) (a ∷ []) ∙ ap (λ ys. xs ++ ys) (replicate-append-replicate n 1 a)

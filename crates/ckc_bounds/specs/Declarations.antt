@@ -51,7 +51,7 @@ abbrev pub local_made : Frame → Bool → ℕ → NotedDecl → Local
 local_made frame false k d = bare (type_written d.ctype)
 local_made frame true k d = record { ctype = type_written d.ctype; bounds = known_or_not (decl_bounds frame (holder.Local k) d) }
 
--- Locals are numbered in the order of their declarations, each by its place behind those before it.
+-- Locals are numbered in the order of their declarations, each by its place after those before it.
 abbrev pub with_all : Frame → Bool → List Local → List NotedDecl → List Local
 with_all frame bounded ls [] = ls
 with_all frame bounded ls (d ∷ ds) = with_all frame bounded (ls ++ local_made frame bounded (length ls) d ∷ []) ds
@@ -113,7 +113,7 @@ with_item frame heads (item.Proto h) = with_head frame heads h
 with_item frame heads (item.Function h body) = with_head frame heads h
 with_item frame heads _ = heads
 
--- the heads of functions by their numbers, behind some that are known
+-- the heads of functions by their numbers, after some that are known
 abbrev pub heads_from : Frame → List HeadBounds → List NotedItem → List HeadBounds
 heads_from frame heads [] = heads
 heads_from frame heads (i ∷ is) = heads_from frame (with_item frame heads i) is

@@ -46,7 +46,7 @@ abbrev pub counted : Frame → HeadBounds → NotedHead → NotedStmt → ℕ �
 counted frame head h body n = needed_from n ((path body).judged frame head (begin_in frame true h n))
 
 -- How many fresh variables a function needs, in a frame of its parameters and locals: a first walk through it counts them,
--- in which chains are no longer than these allow. Where no expression may need one, there is nothing to count.
+-- in which chains are no longer than these allow. If no expression may need one, there is nothing to count.
 abbrev pub fresh_needed : Frame → HeadBounds → NotedHead → NotedStmt → ℕ → ℕ
 fresh_needed frame head h body n =
     if (path body).may_need frame then counted frame head h body n else 0

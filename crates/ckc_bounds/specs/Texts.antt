@@ -30,7 +30,7 @@ abbrev pub body_judged : Frame → NotedHead → NotedStmt → Outcome NotedStmt
 body_judged frame h body =
     bind ((path body).judged (function_frame frame h body) (head_bounds frame h) (begin_of frame h body)) (λ p. Ok p.0)
 
--- a head, where its bounds have such forms
+-- a head, if its bounds have such forms
 abbrev pub head_kept : Frame → NotedHead → Outcome NotedHead
 head_kept frame h = bind (head_judged (types_in frame h.params) h) (λ b. Ok h)
 

@@ -149,7 +149,7 @@ fn add_nameless(all: &mut Seq<Local>, n: u32) -> Result<(), AllocError>
     Ok(())
 }
 
-/// Puts so many fresh variables behind the locals of a frame.
+/// Puts so many fresh variables after the locals of a frame.
 fn set_fresh(alloc: Global, frame: &mut Frame, n: u32) -> Result<(), AllocError>
     ensures { OnOk result (frame.new ≡ with_nameless n frame.old) }
 {

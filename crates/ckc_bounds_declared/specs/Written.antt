@@ -141,7 +141,7 @@ bound_with frame h t None = None
 bound_with frame h t (Some p) = sum_of_forms (named_base frame t p.name) (amount_form frame h p.by)
 
 -- An end of `bounds(f, g)`: a pointer, a pointer and an amount, or a pointer less a constant. `p + n - 1` and `p + n + 1`
--- are p and the amount behind it, as they are spelled.
+-- are p and the amount after it, as they are spelled.
 abbrev pub bound : Frame → Holder → CType → NotedExpr → Option Form
 bound frame h t e = bound_with frame h t (node_pieces frame.structs (out-Node Name Note e.node))
 
@@ -183,7 +183,7 @@ bounds_of_kind b (Some kind.One) = bounds.Known (base_form b) (record { base = S
 bounds_of_kind b (Some kind.Nt) = bounds.Known (base_form b) (base_form b)
 bounds_of_kind b _ = bounds.Unknown
 
--- Where none are written: a `_Ptr` is `count(1)`, an `_Nt_array_ptr` is `count(0)`, else they are unknown.
+-- If none are written: a `_Ptr` is `count(1)`, an `_Nt_array_ptr` is `count(0)`, else they are unknown.
 abbrev pub bounds_by_type : Base → CType → Bounds
 bounds_by_type b t = bounds_of_kind b (kind_of t)
 
@@ -203,7 +203,7 @@ abbrev pub bounds_taken : Frame → Holder → CType → Length → NotedLimits 
 bounds_taken frame h t length l =
     if takes_bounds t length then bounds_written frame h t (out-Limits Name Note l) else None
 
--- What a declaration's bounds are, or E603 at their first token where they have no such form: `count(n + 1)` is
+-- What a declaration's bounds are, or E603 at their first token if they have no such form: `count(n + 1)` is
 -- (p, p + n + 1), and `count(n * 2)` is refused.
 abbrev pub bounds_declared : Frame → Holder → CType → Length → Option NotedLimits → Outcome Bounds
 bounds_declared frame h t length None = Ok (bounds_by_type (own h) t)

@@ -37,7 +37,7 @@ pub enum Holder {
     Member(u32),
 }
 
-/// An end of bounds: the pointer or array that is named, and the amount behind it, where it has a form.
+/// An end of bounds: the pointer or array that is named, and the amount after it, if it has a form.
 #[derive(Clone, Copy)]
 struct Pieces {
     pub name: Name,
@@ -99,7 +99,7 @@ fn amount_with(frame: &Frame, holder: Holder, name: Option<Name>, c: i64) -> Opt
     }
 }
 
-/// The form of an amount, where it has one.
+/// The form of an amount, if it has one.
 fn amount_form(frame: &Frame, holder: Holder, amount: Option<Amount>) -> Option<Form>
     ensures { result ≡ amount_form frame.now holder amount }
 {
@@ -178,7 +178,7 @@ fn array_base(frame: &Frame, t: &CType, k: u32) -> Option<Form>
     }
 }
 
-/// The local checked pointer or static checked array that is named, where it has the element type of `t`.
+/// The local checked pointer or static checked array that is named, if it has the element type of `t`.
 fn named_base(frame: &Frame, t: &CType, name: Name) -> Option<Form>
     ensures { result ≡ named_base frame.now t.now name }
 {
@@ -344,7 +344,7 @@ fn takes_bounds(t: &CType, length: Length) -> bool
     }
 }
 
-/// The bounds of a pointer where none are written, by its type.
+/// The bounds of a pointer if none are written, by its type.
 pub fn bounds_by_type(base: Base, t: &CType) -> Bounds
     ensures { result ≡ bounds_by_type base t.now }
 {
@@ -389,7 +389,7 @@ fn bounds_taken(
     Ok(None)
 }
 
-/// What a declaration's bounds are, or E603 at their first token where they have no such form. Where none are written, the
+/// What a declaration's bounds are, or E603 at their first token if they have no such form. If none are written, the
 /// bounds of its type.
 pub fn bounds_declared(
     alloc: Global,

@@ -176,7 +176,7 @@ fn add_fresh(
     add_some(all, own)
 }
 
-/// The number behind those of some fresh variables.
+/// The number after those of some fresh variables.
 fn next_behind(first: u32, types: &[CType]) -> u32
     ensures { result ≡ next_behind first types.now }
 {
@@ -186,7 +186,7 @@ fn next_behind(first: u32, types: &[CType]) -> u32
     }
 }
 
-/// The number of the next fresh variable behind those that the parts of a node need at a point.
+/// The number of the next fresh variable after those that the parts of a node need at a point.
 pub fn behind_parts(
     work: &mut Work,
     frame: &Frame,
@@ -202,7 +202,7 @@ pub fn behind_parts(
     Ok(next_behind(first, all.as_slice()))
 }
 
-/// The number of the next fresh variable behind those that an expression needs at a point.
+/// The number of the next fresh variable after those that an expression needs at a point.
 pub fn fresh_behind(
     work: &mut Work,
     frame: &Frame,

@@ -37,7 +37,7 @@ fn range_of_one(own: u32) -> Range
     range_from(Base::Value(own), constant_form(1))
 }
 
-/// The range of a pointer of a type where no bounds are written.
+/// The range of a pointer of a type if no bounds are written.
 fn range_by_type(t: &CType, own: u32) -> Range
     ensures { result ≡ range_by_type (kind_of t.now) own }
 {

@@ -99,8 +99,8 @@ fn is_argument(
     )
 }
 
-/// Whether the argument with a number is contained in the bounds of its parameter. Where nothing is known of those, and
-/// where there is none, it is.
+/// Whether the argument with a number is contained in the bounds of its parameter. If nothing is known of those, or
+/// if there is none, it is.
 fn is_argument_at(
     work: &mut Work,
     frame: &Frame,

@@ -160,7 +160,7 @@ pub fn fault_of_node(
     }
 }
 
-/// The fault of a node itself where it is the operand of `&`: in `&*p` and `&p[k]` there is no access.
+/// The fault of a node itself if it is the operand of `&`: in `&*p` and `&p[k]` there is no access.
 pub fn operand_fault_of_node(
     work: &mut Work,
     frame: &Frame,

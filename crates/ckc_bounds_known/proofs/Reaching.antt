@@ -1,4 +1,4 @@
--- The search for a chain finds one exactly where there is one.
+-- The search for a chain finds one exactly when there is one.
 use Rattle.std.proofs.Common.{◌≡◌, ◌⊎◌, inl, inr, ⊎_elim, ap, sym, refl, ◌∙◌, ℕ, zero, suc, ◌+◌, ◌^◌, ◌<◌, ◌≤◌, Bool, true, false, List, [], ◌∷◌, length, ℤ, pos, ◌-ℤ◌, ◌≤ℤ◌, arith, rules}
 use Rattle.std.specs.Prelude.{◌==◌, nat_lt, ◌&&◌, ◌||◌, int_le, IsTrue, ◌↔◌}
 use Rattle.std.specs.List.{Contains, list_any}

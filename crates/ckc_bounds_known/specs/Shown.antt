@@ -22,7 +22,7 @@ reaches zero facts x y c = (x == y) && int_le (pos 0) c
 reaches (suc most) facts x y c =
     ((x == y) && int_le (pos 0) c) || list_any (λ f. (f.x == x) && reaches most facts f.y y (c -ℤ f.c)) facts
 
--- The fact follows from others by a chain, where its variables are there and its number is within 2^50 either way. From
+-- The fact follows from others by a chain, if its variables are there and its number is within 2^50 either way. From
 -- `i - n <= -1` and `n - 0 <= 8` follows `i - 0 <= 7`.
 abbrev pub is_shown : Known → Fact → Bool
 is_shown facts f =

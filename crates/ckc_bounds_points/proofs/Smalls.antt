@@ -14,7 +14,7 @@ within_by limit n h =
     let both = and_cases (int_le (neg_ℤ (pos limit)) n) (int_le n (pos limit)) h in
     record { low = most_by (neg_ℤ (pos limit)) n both.0; high = most_by n (pos limit) both.1 }
 
--- what is kept stays small where it is shifted
+-- what is kept stays small if it is shifted
 pub kept_small : (x : ℕ) (c d : ℤ) (before after : List Fact) → after ≡ filter (stays_small x c) before → c ≡ d →
     All (λ f. IsWithin (2 ^ 50) (shifted x d f).c) after
 kept_small x c d before after is same =

@@ -34,7 +34,7 @@ with_equal x f facts =
     then with_fact (record { x = f.var; y = x; c = neg_ℤ f.add }) (with_fact (record { x = x; y = f.var; c = f.add }) facts)
     else facts
 
--- A fact stays within 2^50 where x grows by c.
+-- A fact stays within 2^50 if x grows by c.
 abbrev pub stays_small : ℕ → ℤ → Fact → Bool
 stays_small x c f = is_within (2 ^ 50) f.c && is_within (2 ^ 50) (shifted x c f).c
 
@@ -43,7 +43,7 @@ abbrev pub moved : ℕ → ℤ → Known → Known
 moved x c facts = record facts { list = map (shifted x c) (filter (stays_small x c) facts.list) }
 
 -- A variable that is assigned a form of its own moves its facts: after `i = i + 1`, `i - n <= -1` is `i - n <= 0`. Else
--- its facts go, and where the new value has another form, that is known: after `i = n - 1`, `i - n <= -1` and
+-- its facts go, and if the new value has another form, that is known: after `i = n - 1`, `i - n <= -1` and
 -- `n - i <= 1`. The range of its type stays.
 abbrev pub assigned_facts : ℕ → Option Interval → Option Form → Known → Known
 assigned_facts x r None facts = with_range x r (forgotten x facts)
@@ -89,7 +89,7 @@ local_assigned frame k None form at = at
 local_assigned frame k (Some l) form at =
     record at { facts = facts_assigned k l form at.facts; widened = unwidened frame k at.widened }
 
--- The point after an assignment to the local k, of a new value with a form where it is an integer that has one. A
+-- The point after an assignment to the local k, of a new value with a form if it is an integer that has one. A
 -- declaration is an assignment too. A point that cannot be reached stays as it is.
 abbrev pub assigned : Frame → ℕ → Option Form → State → State
 assigned frame k form at = if at.reached then local_assigned frame k (local_at frame k) form at else at

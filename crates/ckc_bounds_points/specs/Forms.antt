@@ -27,8 +27,8 @@ within_interval facts f None = None
 within_interval facts f (Some r) =
     if is_small f.add && (is_shown facts (below f r) && is_shown facts (above f r)) then Some f else None
 
--- The form of a value in an integer type, where the facts entail that the exact one lies in the type's range: `n - 1` is
--- a form of `int` where they show -2,147,483,648 <= n - 1, and no form without that.
+-- The form of a value in an integer type, if the facts entail that the exact one lies in the type's range: `n - 1` is
+-- a form of `int` if they show -2,147,483,648 <= n - 1, and no form without that.
 abbrev pub in_type : Known → CType → Option Form → Option Form
 in_type facts t None = None
 in_type facts t (Some f) = within_interval facts f (range_of t)

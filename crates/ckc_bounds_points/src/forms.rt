@@ -33,7 +33,7 @@ pub fn base_form(base: Base) -> Form
     }
 }
 
-/// A form and a number, where both are small.
+/// A form and a number, if both are small.
 pub fn moved_form(form: Option<Form>, c: i64) -> Option<Form>
     ensures { result ≡ moved_form form c }
 {
@@ -70,7 +70,7 @@ fn within_interval(
     }
 }
 
-/// The form of a value in an integer type, where the facts entail that the exact value lies in the type's range.
+/// The form of a value in an integer type, if the facts entail that the exact value lies in the type's range.
 pub fn in_type(
     work: &mut Work,
     facts: &Facts,

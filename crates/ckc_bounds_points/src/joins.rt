@@ -86,7 +86,7 @@ fn ranges(alloc: Global, frame: &Frame) -> Result<Facts, AllocError>
     Ok(facts)
 }
 
-/// The point at the begin of a function, or, where `reached` is not set, one that cannot be reached: the ranges of types
+/// The point at the begin of a function, or, if `reached` is not set, one that cannot be reached: the ranges of types
 /// are all that is known there.
 fn bare_point(alloc: Global, frame: &Frame, reached: bool) -> Result<Point, AllocError>
     ensures { IfOk result (λ at. state at ≡ record (entry frame.now) { reached = reached }) }

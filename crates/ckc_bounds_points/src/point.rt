@@ -96,7 +96,7 @@ fn shifted_number(x: u32, c: i64, f: &Fact) -> i64
     }
 }
 
-/// Whether a fact stays within 2^50 where `x` grows by `c`.
+/// Whether a fact stays within 2^50 if `x` grows by `c`.
 fn stays_small(x: u32, c: i64, f: &Fact) -> bool
     requires { IsWithin (2 ^ 50) c }
     ensures { result ≡ stays_small x c f.now }
@@ -209,7 +209,7 @@ fn facts_assigned(
     Ok(())
 }
 
-/// Goes on over an assignment to the local k, of a new value with a form where it is an integer that has one.
+/// Goes on over an assignment to the local k, of a new value with a form if it is an integer that has one.
 pub fn assign(
     alloc: Global,
     frame: &Frame,

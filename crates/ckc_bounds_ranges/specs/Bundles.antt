@@ -144,7 +144,7 @@ may_follow earlier t = not (list_any (is_in_the_way t) earlier)
 abbrev pub names_earlier : List Target → Expr Name Note → Bool
 names_earlier earlier e = list_any (λ t. (mention e).names t) earlier
 
--- the target, where the assignment may stand behind those with earlier targets
+-- the target, if the assignment may stand after those with earlier targets
 abbrev pub target_behind : List Target → Option Target → Expr Name Note → Option Target
 target_behind earlier None f = None
 target_behind earlier (Some t) f =

@@ -30,7 +30,7 @@ with_element false r facts = facts
 with_element true r facts = with_less r.low r.high facts
 
 -- What also holds of a range (l, u) whose upper end was `before` without widening: l <= before, u - l <= 16,777,216, and
--- l + 1 <= u of an allocation. They are known where l and u have one base, for this judgement alone.
+-- l + 1 <= u of an allocation. They are known if l and u have one base, for this judgement alone.
 abbrev pub extended : Ends → Form → Bool → Known → Known
 extended r before allocated facts =
     if same_base r.low.base r.high.base

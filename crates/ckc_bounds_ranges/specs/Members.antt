@@ -34,7 +34,7 @@ is_declared structs tag m = list_any (λ s. (s.name == m) && has_bounds s.bounds
 abbrev pub names_another : Structs → ℕ → ℕ → Bool
 names_another structs tag m = list_any (λ s. (s.name == m) && names_some s.bounds) (members_of structs tag)
 
--- A member takes part in bounds where its bounds name a member, or another member's bounds name it: of
+-- A member takes part in bounds if its bounds name a member, or another member's bounds name it: of
 -- `int n; _Array_ptr<int> p : count(n);` both.
 abbrev pub takes_part : Structs → ℕ → ℕ → Bool
 takes_part structs tag m = names_another structs tag m || is_named structs tag m
@@ -43,7 +43,7 @@ takes_part structs tag m = names_another structs tag m || is_named structs tag m
 abbrev pub has_no_address : Structs → ℕ → ℕ → Bool
 has_no_address structs tag m = takes_part structs tag m || is_declared structs tag m
 
--- Alone such a member is assigned only null, and only where it has bounds and no bounds name it.
+-- Alone such a member is assigned only null, and only if it has bounds and no bounds name it.
 abbrev pub may_be_assigned_alone : Structs → ℕ → ℕ → Bool → Bool
 may_be_assigned_alone structs tag m null =
     not (takes_part structs tag m) || (is_declared structs tag m && (not (is_named structs tag m) && null))

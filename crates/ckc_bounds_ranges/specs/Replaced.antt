@@ -9,7 +9,7 @@ use Rattle.ckc_bounds_ranges.specs.declared.replacements.BaseBy.{BaseBy}
 use Rattle.ckc_bounds_ranges.specs.declared.replacements.VariableBy.{VariableBy}
 use Rattle.ckc_bounds_ranges.specs.declared.containment.Ends.{Ends}
 
--- the place that stands for a base, where it has one
+-- the place that stands for a base, if it has one
 abbrev pub place_for : List BaseBy → Base → Option Form
 place_for [] b = Some (base_form b)
 place_for (r ∷ rest) b = if same_base (Some r.base) (Some b) then r.by else place_for rest b
@@ -19,13 +19,13 @@ abbrev pub base_replaced : List BaseBy → Option Base → Option Form
 base_replaced bases None = Some (record { base = None; var = 0; add = pos 0 })
 base_replaced bases (Some b) = place_for bases b
 
--- the form that stands for a variable, where it has one
+-- the form that stands for a variable, if it has one
 abbrev pub variable_replaced : List VariableBy → ℕ → Option Form
 variable_replaced [] x = Some (record { base = None; var = x; add = pos 0 })
 variable_replaced (r ∷ rest) x = if r.var == x then r.by else variable_replaced rest x
 
 -- A form with its base and its variable replaced: at `p = q + 1` with `p : count(n)`, the upper bound p + n is q + 1 + n.
--- It is none where what stands for one of them is none, and where it would have two variables.
+-- It is none if what stands for one of them is none, or if it would have two variables.
 abbrev pub replaced : List BaseBy → List VariableBy → Form → Option Form
 replaced bases variables f = moved_form (sum_of_forms (base_replaced bases f.base) (variable_replaced variables f.var)) f.add
 
@@ -35,7 +35,7 @@ both_ends (Some f) (Some g) = Some (record { low = f; high = g })
 both_ends (Some f) None = None
 both_ends None g = None
 
--- Known bounds with what they name replaced, where both ends then have a form.
+-- Known bounds with what they name replaced, if both ends then have a form.
 abbrev pub replaced_bounds : List BaseBy → List VariableBy → Bounds → Option Ends
 replaced_bounds bases variables bounds.Unknown = None
 replaced_bounds bases variables (bounds.Known low high) = both_ends (replaced bases variables low) (replaced bases variables high)

@@ -29,7 +29,7 @@ abbrev pub range_of_bounds : Bounds → Range
 range_of_bounds bounds.Unknown = range.Missing
 range_of_bounds (bounds.Known low high) = range.Known low high
 
--- what is left of bounds with what they name replaced: none where an end has no form
+-- what is left of bounds with what they name replaced: none if an end has no form
 abbrev pub range_of_ends : Option Ends → Range
 range_of_ends None = range.Missing
 range_of_ends (Some r) = range.Known r.low r.high
@@ -44,7 +44,7 @@ abbrev pub range_by : Option Local → Bool → Range
 range_by None wide = range.Missing
 range_by (Some l) wide = if wide then range_widened l.bounds else range_of_bounds l.bounds
 
--- A local pointer has its declared bounds, with one element more where it is widened.
+-- A local pointer has its declared bounds, with one element more if it is widened.
 abbrev pub range_of_local : Frame → ℕ → List ℕ → Range
 range_of_local frame k widened = range_by (local_at frame k) (list_any (λ p. p == k) widened)
 

@@ -175,7 +175,7 @@ fn is_call(e: &Expr<Name, Note>) -> bool
     }
 }
 
-/// Whether a target may not stand behind another one: it is the same, or one is no local and no member of its structure.
+/// Whether a target may not stand after another one: it is the same, or one is no local and no member of its structure.
 fn is_in_the_way(t: Target, s: Target) -> bool
     ensures { result ≡ is_in_the_way t s }
 {
@@ -219,7 +219,7 @@ fn target_behind(
     }
 }
 
-/// The target of an assignment, where it may stand behind those with earlier targets.
+/// The target of an assignment, if it may stand after those with earlier targets.
 fn next_target(earlier: &[Target], s: &Stmt<Name, Note>) -> Option<Target>
     ensures { result ≡ next_target earlier.now s.now }
 {

@@ -7,14 +7,14 @@ use crate::containment::Ends;
 use ckc_bounds_points::{Bounds, base_form, moved_form, same_base, sum_of_forms};
 use ckc_linear::{Base, Form};
 
-/// The place that stands for a base, where it has one.
+/// The place that stands for a base, if it has one.
 #[derive(Clone, Copy)]
 pub struct BaseBy {
     pub base: Base,
     pub by: Option<Form>,
 }
 
-/// The form that stands for a variable, where it has one.
+/// The form that stands for a variable, if it has one.
 #[derive(Clone, Copy)]
 pub struct VariableBy {
     pub var: u32,
@@ -60,7 +60,7 @@ fn variable_replaced(variables: &[VariableBy], x: u32) -> Option<Form>
     })
 }
 
-/// A form with its base and its variable replaced, where it then has one variable at most.
+/// A form with its base and its variable replaced, if it then has one variable at most.
 fn replaced(bases: &[BaseBy], variables: &[VariableBy], f: Form) -> Option<Form>
     ensures { result ≡ replaced bases.now variables.now f }
 {
@@ -83,7 +83,7 @@ fn both_ends(low: Option<Form>, high: Option<Form>) -> Option<Ends>
     }
 }
 
-/// Known bounds with what they name replaced, where both ends then have a form.
+/// Known bounds with what they name replaced, if both ends then have a form.
 pub fn replaced_bounds(bases: &[BaseBy], variables: &[VariableBy], bounds: &Bounds) -> Option<Ends>
     ensures { result ≡ replaced_bounds bases.now variables.now bounds.now }
 {

@@ -67,7 +67,7 @@ fn is_wide(widened: &[u32], k: u32) -> bool
     widened.iter().any(|p| *p == k)
 }
 
-/// The range of a local pointer: its declared bounds, with one element more where it is widened.
+/// The range of a local pointer: its declared bounds, with one element more if it is widened.
 pub fn range_of_local(frame: &Frame, k: u32, widened: &[u32]) -> Range
     ensures { result ≡ range_of_local frame.now k widened.now }
 {

@@ -1,5 +1,5 @@
--- Statements: what is judged on the way through them, and what is known behind them (Checked C specification 0.9, section
--- 3, on the checking of bounds; ISO C11, 6.8).
+-- Statements: what is judged on the way through them, and what is known after them (Checked C specification 0.9,
+-- section 3, on the checking of bounds; ISO C11, 6.8).
 use Rattle.std.specs.Prelude.{ℕ, Bool, true, false, not, ◌==◌, ◌||◌, if◌then◌else◌, pos, List, [], ◌∷◌, ◌++◌, map, take, length, Option, None, Some, Ok}
 use Rattle.ckc_base.specs.declared.places.Pos.{Pos}
 use Rattle.ckc_base.specs.declared.arithmetic.Mode.{Mode}
@@ -95,7 +95,7 @@ starts_within frame _ _ first here = true
 unfoldable pub value_form : Frame → CType → NotedExpr → Known → Option Form
 value_form frame t e facts = in_type facts t ((view frame e).form facts)
 
--- the form of what an integer begins with: where nothing is written, of 0
+-- the form of what an integer begins with: if nothing is written, of 0
 abbrev pub start_form : Frame → CType → NotedInit → Known → Option Form
 start_form frame t init.Nothing facts = Some (constant_form (pos 0))
 start_form frame t (init.One e) facts = value_form frame t e facts
@@ -137,7 +137,7 @@ stores_judged frame head ss first here =
     if here.counting then Ok (passed frame (stores_of ss) first here.at)
     else stored frame head.bounds here.seen (stores_of ss) first here.at
 
--- behind assignments that are judged as one, of which the first expression has the given first fresh variable
+-- after assignments that are judged as one, of which the first expression has the given first fresh variable
 abbrev pub behind_stores : Frame → HeadBounds → List NotedStmt → ℕ → Here → Outcome Here
 behind_stores frame head ss first here = bind (stores_judged frame head ss first here) (λ at. Ok (record here { at = at }))
 
@@ -150,12 +150,12 @@ assign_judged frame head at note e f here =
 abbrev pub call_judged : Frame → Pos → Note → NotedExpr → Here → Outcome (NotedStmt × Here)
 call_judged frame at note e here = bind (value_judged frame e here) (λ p. Ok (stated at note (act.Call p.0), p.1))
 
--- Behind `_Dynamic_check(e)` the condition e is true.
+-- After `_Dynamic_check(e)` the condition e is true.
 abbrev pub check_judged : Frame → Pos → Note → NotedExpr → Here → Outcome (NotedStmt × Here)
 check_judged frame at note e here =
     bind (value_judged frame e here) (λ p. Ok (stated at note (act.Check p.0), record p.1 { at = side_of frame true p.0 p.1.at }))
 
--- What stands behind `return`, `break` and `continue` cannot be reached.
+-- What stands after `return`, `break` and `continue` cannot be reached.
 abbrev pub gone : Frame → Here → Here
 gone frame here = record here { at = unreached frame }
 
@@ -174,7 +174,7 @@ return_judged frame head at note e here =
 -- - the locals that it assigns, a declaration being an assignment;
 -- - whether a `break` in it leaves the loop around it, and whether a `continue` goes on with that, by its text;
 -- - what it becomes as a part of the bundle at a place: an assignment, whose sides are judged;
--- - what it becomes, and what is known behind it.
+-- - what it becomes, and what is known after it.
 pub record Path : Type 0 where
   pub declared : List NotedDecl
   pub may_need : Frame → Bool
@@ -184,7 +184,7 @@ pub record Path : Type 0 where
   pub part : Frame → Pos → Here → Outcome (NotedStmt × Here)
   pub judged : Frame → HeadBounds → Here → Outcome (NotedStmt × Here)
 
--- the same of what a statement does, where it stands at a place and has a note
+-- the same of what a statement does, if it stands at a place and has a note
 pub record ActPath : Type 0 where
   pub declared : List NotedDecl
   pub may_need : Frame → Bool
@@ -277,7 +277,7 @@ pub record Start : Type 0 where
   pub other : State
   pub step : Option State
 
--- Behind a loop that a `break` leaves nothing is known of its condition.
+-- After a loop that a `break` leaves nothing is known of its condition.
 abbrev pub other_side : Frame → Bool → NotedExpr → State → State
 other_side frame true e at = at
 other_side frame false e at = side_of frame false e at
@@ -292,7 +292,7 @@ abbrev pub branched : Frame → Bool → NotedExpr → Here → Outcome (Branch 
 branched frame left e here =
     bind (value_judged frame e here) (λ p. Ok (record { condition = p.0; other = other_side frame left p.0 p.1.at }, record p.1 { at = side_of frame true p.0 p.1.at }))
 
--- The two branches begin on the two sides of the condition. Behind the `if` holds what holds in both ends.
+-- The two branches begin on the two sides of the condition. After the `if` holds what holds in both ends.
 abbrev pub if_judged : Frame → HeadBounds → Pos → Note → NotedExpr → Path → Option Path → Here → Outcome (NotedStmt × Here)
 if_judged frame head at note e s t here =
     bind (branched frame false e here) (λ p. bind (s.judged frame head p.1) (λ q. bind (part_judged frame head t (record q.1 { at = p.0.other })) (λ r.
@@ -319,7 +319,7 @@ for_started frame left continued e here =
     bind (maybe_judged frame e here) (λ p.
     Ok (record { condition = p.0; other = maybe_other frame left p.0 p.1.at; step = maybe_point continued p.1.at }, record p.1 { at = maybe_side frame true p.0 p.1.at }))
 
--- The step has what the end of the body has, or what the head has where a `continue` leads to it.
+-- The step has what the end of the body has, or what the head has if a `continue` leads to it.
 abbrev pub to_step : Option State → Here → Here
 to_step None here = here
 to_step (Some at) here = record here { at = at }

@@ -110,7 +110,7 @@ fn begin(
     }
 }
 
-/// Goes on behind a declaration.
+/// Goes on after a declaration.
 fn pass_decl(
     work: &mut Work,
     frame: &Frame,
@@ -179,7 +179,7 @@ pub fn sides(
     Ok(stated(at, note, Act::Assign(e, f)))
 }
 
-/// Goes on behind assignments that are judged as one.
+/// Goes on after assignments that are judged as one.
 pub fn pass_stores(
     work: &mut Work,
     frame: &Frame,

@@ -1,4 +1,4 @@
-//! Statements: what is judged on the way through them, and what is known behind them.
+//! Statements: what is judged on the way through them, and what is known after them.
 #![tactic(auto)]
 
 mod acts;

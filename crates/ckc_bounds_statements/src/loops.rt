@@ -207,7 +207,7 @@ pub fn enter_for(
     judge_start(work, frame, left, continued, e, walk)
 }
 
-/// Goes on to the step of a loop: from its head where a `continue` leads there.
+/// Goes on to the step of a loop: from its head if a `continue` leads there.
 pub fn to_step(step: Option<Point>, walk: &mut Walk)
     ensures { here walk.new ≡ to_step (maybe_state step) (here walk.old) }
 {

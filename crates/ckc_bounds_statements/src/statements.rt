@@ -152,7 +152,7 @@ fn judge_act(
     }
 }
 
-/// Judges a statement, notes the ranges in it, and goes on behind it.
+/// Judges a statement, notes the ranges in it, and goes on after it.
 #[cycle(stmt)]
 pub fn judge_stmt(
     work: &mut Work,
@@ -205,7 +205,7 @@ fn judge_stmts(
     Ok(all)
 }
 
-/// A statement, where there is one.
+/// A statement, if there is one.
 #[cycle(stmt)]
 fn judge_part(
     work: &mut Work,

@@ -257,8 +257,8 @@ unless_refused (Some r) at = Err r
 unfoldable pub stored_placed : Frame → Bounds → List ℕ → List Placed → State → Outcome State
 stored_placed frame result scope ps at = unless_refused (first_fault frame result scope ps at) (after frame at.facts ps at)
 
--- The point after an assignment, or after those of a bundle, or their first error: E602 where a target is not contained in
--- its bounds, E604 where another pointer is not and where the bounds of the result lose what they name, E605 where a
+-- The point after an assignment, or after those of a bundle, or their first error: E602 if a target is not contained in
+-- its bounds, E604 if another pointer is not or if the bounds of the result lose what they name, E605 if a
 -- member that takes part in bounds is not assigned as it must be. All right sides stand in old values.
 abbrev pub stored : Frame → Bounds → List ℕ → List Store → ℕ → State → Outcome State
 stored frame result scope ss fresh at = stored_placed frame result scope (numbered frame at 0 fresh ss) at

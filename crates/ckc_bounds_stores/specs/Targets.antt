@@ -42,7 +42,7 @@ member_variable m = capped m 1
 abbrev pub counted : Form → Bounds
 counted k = bounds.Known (base_form (base.Value 0)) k
 
--- The bounds of a member, from its value, the base `Value 0`: where none are written those of its type, and else as many
+-- The bounds of a member, from its value, the base `Value 0`: if none are written those of its type, and else as many
 -- elements as are written.
 abbrev pub bounds_by_member : CType → MemberBounds → Bounds
 bounds_by_member t written.Nothing = bounds_by_type (base.Value 0) t

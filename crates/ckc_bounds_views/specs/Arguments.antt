@@ -11,7 +11,7 @@ use Rattle.ckc_bounds_ranges.specs.declared.replacements.BaseBy.{BaseBy}
 use Rattle.ckc_bounds_ranges.specs.declared.replacements.VariableBy.{VariableBy}
 use Rattle.ckc_bounds_views.specs.Parts.{View, capped, with_first}
 
--- what stands for the parameter that the base of bounds is, where it is a pointer
+-- what stands for the parameter that the base of bounds is, if it is a pointer
 abbrev pub base_by : Option Local → ℕ → Option Form → Option BaseBy
 base_by None n f = None
 base_by (Some p) n f = if is_pointer p.ctype then Some (record { base = base.Local n; by = f }) else None

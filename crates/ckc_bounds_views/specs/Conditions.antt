@@ -77,7 +77,7 @@ said op.Ge x y facts = with_most y x facts
 said op.Eq x y facts = with_most y x (with_most x y facts)
 said _ x y facts = facts
 
--- the comparison that holds where another one does not
+-- the comparison that holds if another one does not
 abbrev pub opposite : TreeOp → TreeOp
 opposite op.Lt = op.Ge
 opposite op.Le = op.Gt
@@ -111,8 +111,8 @@ abbrev pub operand_of : Bool → View → Option Constant → Option Form
 operand_of unsigned e (Some c) = constant_operand unsigned (value_of c)
 operand_of unsigned e None = if unsigned && not (is_unsigned e.ctype) then None else e.variable
 
--- An operand of a comparison that gives facts: a local or a constant, where it compares as `int`, and an `unsigned`
--- local or a constant that is not negative, where it compares as `unsigned`.
+-- An operand of a comparison that gives facts: a local or a constant, if it compares as `int`, and an `unsigned`
+-- local or a constant that is not negative, if it compares as `unsigned`.
 abbrev pub operand : Bool → View → Option Form
 operand unsigned e = operand_of unsigned e e.number
 

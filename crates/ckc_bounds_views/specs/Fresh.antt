@@ -1,4 +1,4 @@
--- Fresh variables: the numbers that ranges name and that no local holds. An expression has one where it needs it.
+-- Fresh variables: the numbers that ranges name and that no local holds. An expression has one if it needs it.
 use Rattle.std.specs.Prelude.{ℕ, ◌==◌, Bool, true, false, if◌then◌else◌, pos, Option, None, Some, is_some, List, [], ◌∷◌, ◌++◌, find}
 use Rattle.ckc_types.specs.declared.types.Kind.{Kind}
 use Rattle.ckc_types.specs.declared.types.Kind.TheVariants as kind
@@ -128,7 +128,7 @@ abbrev pub all_fresh : List View → State → List CType
 all_fresh [] at = []
 all_fresh (e ∷ es) at = e.fresh at ++ all_fresh es at
 
--- A right operand needs what it needs at its own point. Where none of its parts may need one, there is no need to look.
+-- A right operand needs what it needs at its own point. If none of its parts may need one, there is no need to look.
 abbrev pub right_fresh : TreeOp → View → View → State → List CType
 right_fresh o e f at = if f.most_fresh == 0 then [] else f.fresh (right_point o e at)
 

@@ -74,6 +74,6 @@ constant_or (Some c) f = Some (constant_form (value_of c))
 constant_or None f = f
 
 -- The integer form of an expression: a constant and a local are themselves, and `e + c`, `c + e`, `e - c` and a
--- conversion have the form of their parts where the exact result is shown to lie in the type.
+-- conversion have the form of their parts if the exact result is shown to lie in the type.
 abbrev pub integer_form : CType → Option Constant → Option Form → Option Form
 integer_form t c f = if is_integer t then constant_or c f else None

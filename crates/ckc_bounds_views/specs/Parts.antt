@@ -116,7 +116,7 @@ count_of_parts count there all (Node-F.Call n es) = all es
 count_of_parts count there all (Node-F.Calloc w e x) = count e
 count_of_parts count there all _ = 0
 
--- the number of the next fresh variable behind some that are needed, and behind those that an expression needs at a point
+-- the number of the next fresh variable after some that are needed, and after those that an expression needs at a point
 abbrev pub next_behind : ℕ → List CType → ℕ
 next_behind fresh ts = capped fresh (length ts)
 
@@ -124,7 +124,7 @@ next_behind fresh ts = capped fresh (length ts)
 abbrev pub fresh_behind : View → ℕ → State → ℕ
 fresh_behind e fresh at = next_behind fresh (e.fresh at)
 
--- a list with one more at its end or in front, where there is one
+-- a list with one more at its end or in front, if there is one
 abbrev pub with_last : {A : Type 0} → List A → Option A → List A
 with_last all None = all
 with_last all (Some a) = all ++ a ∷ []

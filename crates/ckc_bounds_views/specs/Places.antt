@@ -84,7 +84,7 @@ target_of_node _ first facts = None
 abbrev pub own_place : NodeView → ℕ → Option Form
 own_place n first = if n.stands_alone then Some (base_form (base.Value (capped first n.values))) else None
 
--- The place of a pointer: `p + 1` is one element behind p. One that has no place by its parts stands for itself, and has
--- the number behind those of the values in its parts. Null has none.
+-- The place of a pointer: `p + 1` is one element after p. One that has no place by its parts stands for itself, and has
+-- the number after those of the values in its parts. Null has none.
 abbrev pub pointer_place : CType → NodeView → ℕ → Known → Option Form
 pointer_place t n first facts = if is_pointer t then option_or (n.place t first facts) (own_place n first) else None

@@ -38,7 +38,7 @@ use Rattle.ckc_bounds_views.specs.Arguments.{bases_by, variables_by, own_by}
 abbrev pub range_of_one : ℕ → Range
 range_of_one own = range_from (base.Value own) (constant_form (pos 1))
 
--- where no bounds are written: of a `_Ptr` one element, of an `_Nt_array_ptr` none, else nothing is known
+-- if no bounds are written: of a `_Ptr` one element, of an `_Nt_array_ptr` none, else nothing is known
 abbrev pub range_by_type : Option Kind → ℕ → Range
 range_by_type (Some kind.One) own = range_of_one own
 range_by_type (Some kind.Nt) own = range_from (base.Value own) (constant_form (pos 0))

@@ -97,7 +97,7 @@ node_view frame n = record {
 }
 
 -- The integer form of an expression: a constant and a local are themselves, and `e + c`, `c + e`, `e - c` and a
--- conversion have the form of their parts where the exact result is shown to lie in the type.
+-- conversion have the form of their parts if the exact result is shown to lie in the type.
 abbrev pub expr_view : Expr-F Name Note LimitsView NodeView View → View
 expr_view e = record {
   pos = e.pos;

@@ -17,7 +17,7 @@ use ckc_typed::Note;
 use ckc_typed::types::is_pointer;
 use std::alloc::AllocError;
 
-/// Adds an element, where there is one.
+/// Adds an element, if there is one.
 pub fn add_some<T: Drop>(all: &mut Seq<T>, item: Option<T>) -> Result<(), AllocError>
     ensures { OnOk result (all.new ≡ with_last all.old item) }
 {

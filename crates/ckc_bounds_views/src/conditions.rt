@@ -281,7 +281,7 @@ pub fn narrow(alloc: Global, wide: &[u32], at: &mut Point) -> Result<(), AllocEr
     Ok(())
 }
 
-/// The point at which the right operand of an operator is judged: behind `&&` and `||` a side of the left one.
+/// The point at which the right operand of an operator is judged: after `&&` and `||` a side of the left one.
 pub fn right_point(
     work: &mut Work,
     frame: &Frame,

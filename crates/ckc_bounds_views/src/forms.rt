@@ -162,7 +162,7 @@ fn linear(
 }
 
 /// The integer form of an expression under facts: a constant and a local are themselves, and `e + c`, `c + e`, `e - c`
-/// and a conversion have the form of their parts where the exact result is shown to lie in the type.
+/// and a conversion have the form of their parts if the exact result is shown to lie in the type.
 #[cycle(form)]
 pub fn form(
     work: &mut Work,

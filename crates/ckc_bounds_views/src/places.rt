@@ -211,8 +211,8 @@ fn own_place(frame: &Frame, node: &Node<Name, Note>, first: u32) -> Option<Form>
     }
 }
 
-/// The place of a pointer, by the number of the first value in it: of `p + 1` one element behind p. One that has no place
-/// by its parts stands for itself.
+/// The place of a pointer, by the number of the first value in it: of `p + 1` one element after p. One that has no
+/// place by its parts stands for itself.
 #[cycle(place)]
 pub fn place(
     work: &mut Work,

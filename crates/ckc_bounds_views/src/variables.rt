@@ -25,7 +25,7 @@ pub struct Member {
     pub number: u32,
 }
 
-/// The numbers that a pointer has where it stands for itself and where it needs a fresh variable.
+/// The numbers that a pointer has: one if it stands for itself, and one if it needs a fresh variable.
 #[derive(Clone, Copy)]
 pub struct Own {
     pub value: u32,

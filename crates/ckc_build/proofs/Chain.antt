@@ -39,7 +39,7 @@ typing_exact = phase_by_exact named_typed
 bounding_exact : IsExact bounding
 bounding_exact = phase_by_exact text_judged
 
--- what comes behind the types, behind the names and behind the limits
+-- what comes after the types, after the names and after the limits
 abbrev pub ranging : Phase Typed Typed
 ranging = scoping >=> bounding
 
@@ -95,7 +95,7 @@ module _ {A B C : Type 0} (p : Phase A B) (q : Phase B C) (exact : IsExact p) (n
 pub stops : (text : List ℕ) (answer : Result Typed Fault) (e : Fault) → IsErrAnd answer (λ other. other ≡ e) → Exact judging text (Err e) → Exact judging text answer
 stops text answer e is x = let p = err_from_is_err_and answer is in subst (Exact judging text) (sym (p.1 ∙ ap (λ y. Err y) p.2)) x
 
--- ---- a text is read, and then a phase behind that comes
+-- ---- a text is read, and then a phase comes after that
 
 module _ {B : Type 0} (q : Phase SpelledTree B) (next : IsExact q) (text : List ℕ) where
   lex_ends : (e : Fault) → Exact lexing text (Err e) → Exact (reading >=> q) text (Err e)

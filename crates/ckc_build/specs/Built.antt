@@ -18,7 +18,7 @@ abbrev pub IsImage : List ℕ → Parts → Type 0
 IsImage bytes parts = ImageOf bytes parts.entry parts.code parts.initial
 
 -- The parts are those of an image of a text: for every input of bytes its machine follows the meaning of the text,
--- within so many instructions for each step and as many more. Where the meaning is never stuck, each store lies in a
+-- within so many instructions for each step and as many more. If the meaning is never stuck, each store lies in a
 -- block, in a frame or in the heap word, or the meaning's step plans it, and no run of the machine is at a fault. Its
 -- code has four bytes for each instruction that the program weighs, and for five more.
 pub record Built (text : List ℕ) (parts : Parts) : Type 0 where

@@ -15,7 +15,7 @@ pub fn hold_bytes(objects: &[Object])
     }
 }
 
-/// An object holds bytes: its first ones, and zeros behind them.
+/// An object holds bytes: its first ones, and zeros after them.
 fn holds_bytes(object: &Object, initial: &[u8])
     requires { initial.now ≡ object.now.initial }
     ensures { AreBytes (block_of object.now).bytes }

@@ -83,7 +83,7 @@ fn index_nodes(i: &ExprTree, count: u64) -> u64
     if is_number(i) { 0 } else { count }
 }
 
-/// How many nodes the range of a value counts for, where it is a value.
+/// How many nodes the range of a value counts for, if it is a value.
 fn range_nodes(ranged: bool) -> u64
     ensures { result ≡ range_nodes ranged }
 {

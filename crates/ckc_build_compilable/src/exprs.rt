@@ -197,7 +197,7 @@ fn is_access(access: Access, p: &ExprTree, i: &ExprTree, locals: u32) -> bool
         && is_judged(access.through, access.size, p, i, locals)
 }
 
-/// Whether pointer arithmetic that is checked, where the flag says so, can be tested.
+/// Whether pointer arithmetic that is checked, if the flag says so, can be tested.
 fn is_checked(checked: bool, shift: Shift) -> bool
     ensures { IsTrue result ↔ IsChecked checked shift }
 {

@@ -176,7 +176,7 @@ module _ (p : source.Program) (k : core.Program) (q : Placed) (parts : M.Parts) 
   abbrev Joint : ℕ → ℕ → ℕ → Type 0
   Joint i j n = Joined upper middle lowest upper_grows middle_grows lowest_grows begins reach i j n
 
-  -- as many calls are active where as many were entered and returned
+  -- as many calls are active if as many were entered and returned
   level : (n j : ℕ) → SameCalls (upper n) (middle j) → C.active (state_at (C.core_system k.functions) c0 n) ≡ F.active (state_at (F.placed_system q.funcs) q0 j)
   level n j same =
       same_active (C.active (state_at (C.core_system k.functions) c0 n)) (F.active (state_at (F.placed_system q.funcs) q0 j)) 1 (upper n) (middle j)

@@ -81,7 +81,7 @@ fn assembled(alloc: Global, q: &Placed) -> Result<Parts, AllocError>
 }
 
 /// The parts of an image of a program, or want of memory. The machine that runs them reads and puts the same
-/// bytes as the program, and ends with the same value or stops at the same check and place. Nothing is said of where the
+/// bytes as the program, and ends with the same value or stops at the same check and place. Nothing is said if the
 /// program is stuck.
 pub fn compile(alloc: Global, p: &Program) -> Result<Parts, AllocError>
     requires form { IsCompilable (program_of p.now) }
@@ -90,7 +90,7 @@ pub fn compile(alloc: Global, p: &Program) -> Result<Parts, AllocError>
     requires small { program_weight (program_of p.now) ≤ most_weight }
     ensures follows { IfOk result (FollowsSource (program_of p.now)) }
 
-    // where the program is never stuck, each store lies in a block, in a frame or in the heap word,
+    // if the program is never stuck, each store lies in a block, in a frame or in the heap word,
     // or the program's step plans it, and the machine is never at a fault
     ensures confined { IfOk result (λ parts.
         ConfinesStores (program_of p.now) (machine_parts parts)) }

@@ -67,7 +67,7 @@ module _ {X Y C : Type 0} (h : Y → X) (make : ℕ → X → List C) (counts : 
     pub numbered_end : length ys ≤ i → done ≡ whole
     numbered_end l = sym (append-nil done) ∙ ap (λ d. done ++ numbered make counts k (map h d)) (sym (drop_all i ys l)) ∙ kept
 
--- the same, where the elements are as they stand
+-- the same, if the elements are as they stand
 module _ {X C : Type 0} (make : ℕ → X → List C) (counts : X → ℕ) where
   map_same : (xs : List X) → map (λ x. x) xs ≡ xs
   map_same [] = refl

@@ -42,6 +42,6 @@ abbrev pub functions_in : Typed → ℕ → NotedItem → List Function
 functions_in p k (item.Function h body) = function_elaborated p k h body ∷ []
 functions_in p k _ = []
 
--- the functions with a body; the string literals come behind the declared objects
+-- the functions with a body; the string literals come after the declared objects
 abbrev pub functions_elaborated : Typed → List Function
 functions_elaborated p = numbered (functions_in p) literals_of_item (count_declared p.tree.items) p.tree.items

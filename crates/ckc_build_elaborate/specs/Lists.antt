@@ -1,7 +1,7 @@
 -- Lists that are gone through: two of them one beside the other, and one in which each element has a number.
 use Rattle.std.specs.Prelude.{ℕ, ◌+◌, List, [], ◌∷◌, ◌++◌, Option, None, Some}
 
--- what is made of each element of the second list, with the one at its place in the first, where there is one
+-- what is made of each element of the second list, with the one at its place in the first, if there is one
 abbrev pub beside : {A B C : Type 0} → (Option A → B → C) → List A → List B → List C
 beside f xs [] = []
 beside f [] (y ∷ ys) = f None y ∷ beside f [] ys

@@ -8,7 +8,7 @@ use Rattle.ckc_typed.specs.Trees.{NotedDecl, NotedInit, NotedExpr, NotedLimits}
 use Rattle.ckc_typed.specs.Declarations.{is_plain}
 use Rattle.ckc_build_values.specs.Expressions.{part_of, part_of_limits, all_literals, literals_if, literals_of}
 
--- how many string literals are in an expression that may be left out, as behind `return`
+-- how many string literals are in an expression that may be left out, as after `return`
 abbrev pub literals_of_value : Option NotedExpr → ℕ
 literals_of_value = inside_if summed literals_of
 

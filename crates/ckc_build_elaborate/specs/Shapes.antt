@@ -26,7 +26,7 @@ names k _ = false
 abbrev pub is_run : List MemberShape → MemberShape → Bool
 is_run members m = is_bare m.bounds && not (list_any (λ n. names m.name n.bounds) members)
 
--- the member, where pointers with known limits may point to it
+-- the member, if pointers with known limits may point to it
 abbrev pub run_of : Structs → ℕ → List MemberShape → MemberShape → List MemberRun
 run_of structs tag members m =
     if is_run members m then record { offset = offset_of structs tag m.name; ctype = m.ctype } ∷ [] else []

@@ -19,7 +19,7 @@ use Rattle.ckc_build_elaborate.specs.Literals.{literals_of_value, literals_of_de
 use Rattle.ckc_build_elaborate.specs.Steps.{Statements, spot, nowhere, destination_of, target_of, is_terminated, right_of, assigned, declared, returned, condition}
 
 -- What a part of a function means in a typed text, with the variables of the function and the type of its result,
--- where the next string literal has this number among the static objects.
+-- if the next string literal has this number among the static objects.
 abbrev pub Meaning : Type 0 → Type 0
 Meaning A = Typed → List Variable → CType → ℕ → A
 
@@ -39,11 +39,11 @@ pub record ActPart : Type 0 where
 abbrev pub one : (Code → Code) → Statements
 one f = f ∷ []
 
--- statements with none behind them
+-- statements with none after them
 abbrev pub alone : Statements → Code
 alone ss = chained ss End
 
--- what a statement becomes that may be left out, as behind `else`
+-- what a statement becomes that may be left out, as after `else`
 abbrev pub code_if : Option Part → Meaning Statements
 code_if None p locals result k = []
 code_if (Some s) p locals result k = s.code p locals result k
@@ -58,7 +58,7 @@ all_assigns ss p locals k = numbered (λ j s. s.assigns p locals j) (λ s. s.lit
 
 -- ---- string literals, in the order of the text
 
--- how many string literals are in a statement that may be left out, as behind `else`
+-- how many string literals are in a statement that may be left out, as after `else`
 abbrev pub literals_if : Option Part → ℕ
 literals_if = inside_if summed (λ (s : Part). s.literals)
 

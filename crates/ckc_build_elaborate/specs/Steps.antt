@@ -38,7 +38,7 @@ spot at mode = record { at = at; mode = mode }
 
 -- ---- destinations
 
--- Where a value goes: what it is written to, what keeps it where it is the result of a call, and whether a block that
+-- Where a value goes: what it is written to, what keeps it if it is the result of a call, and whether a block that
 -- is made for it is null-terminated.
 pub record Destination : Type 0 where
   pub target : Target
@@ -57,7 +57,7 @@ is_terminated t = is_terminated_kind (kind_of t)
 abbrev pub memory : CType → Place → Target
 memory t q = Memory (width_of t) q.access q.pointer q.index
 
--- the target that a name is: a local, or an object of the file in memory
+-- the target that a name is: a local, or an object of file scope in memory
 abbrev pub name_target : CType → Name → Place → Target
 name_target t (name.Local x) q = code.Variable x (width_of t)
 name_target t n q = memory t q
@@ -77,7 +77,7 @@ name_kept p t (name.Local x) = Some (kept.Local x (width_of t))
 name_kept p t (name.Static j) = Some (kept.Static (address_of p j) (width_of t))
 name_kept p t n = None
 
--- the same of an expression, which keeps a result only where it is a name
+-- the same of an expression, which keeps a result only if it is a name
 abbrev pub kept_form : {L M E : Type 0} → Typed → CType → Node-F Name Note L M E → Option Kept
 kept_form p t (Node-F.Name n) = name_kept p t n
 kept_form p t node = None
@@ -110,7 +110,7 @@ abbrev pub right_form : {L M : Type 0} → Typed → List Variable → ℕ → B
 right_form p locals k terminated e (Node-F.Calloc w n x) = Fresh (block_of p (type_written w) terminated) (expr_elaborated p locals k n)
 right_form p locals k terminated e node = Value (expr_elaborated p locals k e)
 
--- what is assigned where this expression stands on the right side
+-- what is assigned if this expression stands on the right side
 abbrev pub right_of : Typed → List Variable → ℕ → Bool → NotedExpr → Right
 right_of p locals k terminated e = right_form p locals k terminated e (out-Node Name Note e.node)
 
@@ -132,7 +132,7 @@ abbrev pub first_of : Typed → List Variable → ℕ → List NotedExpr → Exp
 first_of p locals k [] = outside
 first_of p locals k (e ∷ es) = expr_elaborated p locals k e
 
--- Where a function is called, the step of the call stands at its name; every other step stands at the statement.
+-- If a function is called, the step of the call stands at its name; every other step stands at the statement.
 -- `getchar` and `putchar` are those of ISO C11, 7.21.7.6 and 7.21.7.8.
 abbrev pub called : Typed → List Variable → Spot → Destination → ℕ → Name → List NotedExpr → Pos → Code → Code
 called p locals s to k (name.Function f) es at rest =

@@ -22,7 +22,7 @@ use ckc_typed::{Note, Variable};
 use ckc_types::CType;
 use std::alloc::{AllocError, Global};
 
-/// Where a value goes: what it is written to, what keeps it where it is the result of a call, and whether a block that
+/// Where a value goes: what it is written to, what keeps it if it is the result of a call, and whether a block that
 /// is made for it is null-terminated.
 #[derive(Drop)]
 pub struct Destination {

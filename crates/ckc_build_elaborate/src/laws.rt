@@ -28,7 +28,7 @@ pub fn functions_are_there()
         number_of n p.tree.items < length (elaborated p).functions }
 {}
 
-/// The objects of a program are laid out, where the static objects of the typed text lie apart and have room for the
+/// The objects of a program are laid out, if the static objects of the typed text lie apart and have room for the
 /// bytes that they begin with, as the types phase makes them, and the objects hold bytes.
 pub fn objects_are_laid_out()
     ensures laid_out { (p : Typed) → LieApart p.layout p.statics → HaveRoom p.layout p.statics →

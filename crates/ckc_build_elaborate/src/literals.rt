@@ -14,7 +14,7 @@ use ckc_typed::Note;
 use ckc_typed::types::is_plain;
 use std::alloc::AllocError;
 
-/// A number, and one more for each string literal in a value, where there is one.
+/// A number, and one more for each string literal in a value, if there is one.
 pub fn in_value(e: &Option<Boxed<Expr<Name, Note>>>, before: u32) -> Result<u32, AllocError>
     ensures { IfOk result (λ n. n ≡ before + literals_of_value e.now) }
 {
@@ -108,7 +108,7 @@ fn in_stmts(ss: &[Stmt<Name, Note>], before: u32) -> Result<u32, AllocError>
     Ok(n)
 }
 
-/// A number, and one more for each string literal in a part of a statement, where there is one.
+/// A number, and one more for each string literal in a part of a statement, if there is one.
 #[cycle(literals)]
 pub fn in_part(s: &Option<Boxed<Stmt<Name, Note>>>, before: u32) -> Result<u32, AllocError>
     ensures { IfOk result (λ n. n ≡ before + literals_if (option_map part_of s.now)) }

@@ -97,7 +97,7 @@ fn assigns(
     Ok(all)
 }
 
-/// Statements, and one more behind them.
+/// Statements, and one more after them.
 fn behind(all: Seq<StmtTree>, s: StmtTree) -> Result<Seq<StmtTree>, AllocError>
     ensures { IfOk result (λ more. map stmt_of more ≡ map stmt_of all ++ stmt_of s ∷ []) }
 {
@@ -204,7 +204,7 @@ pub fn stmt(
     act(alloc, typed, locals, &s.body, spot, gives, first)
 }
 
-/// The number of the next string literal behind a statement. Behind the last one there is none, so that the blocks in a
+/// The number of the next string literal after a statement. After the last one there is none, so that the blocks in a
 /// block are not counted once more for each block around them.
 fn number_behind(s: &Stmt<Name, Note>, last: bool, next: u32) -> Result<u32, AllocError>
     ensures { IfOk result (λ n. last ≡ false → n ≡ next + (part_of s.now).literals) }

@@ -159,7 +159,7 @@ fn pointer(typed: &Typed, e: &Expr<Name, Note>) -> Option<End>
     }
 }
 
-/// A pointer, alone or with an amount behind it.
+/// A pointer, alone or with an amount after it.
 fn near(
     alloc: Global,
     typed: &Typed,
@@ -178,7 +178,7 @@ fn near(
     }
 }
 
-/// A pointer, alone or with one or two amounts behind it.
+/// A pointer, alone or with one or two amounts after it.
 fn bound(
     alloc: Global,
     typed: &Typed,
@@ -236,7 +236,7 @@ fn limits_written(
     }
 }
 
-/// As many elements behind the pointer as bounds count.
+/// As many elements after the pointer as bounds count.
 fn counted(
     alloc: Global,
     typed: &Typed,
@@ -276,7 +276,7 @@ fn limits_of_count(
     }
 }
 
-/// The limits of a result of a type, where they are known.
+/// The limits of a result of a type, if they are known.
 pub fn result_limits(
     alloc: Global,
     typed: &Typed,

@@ -38,7 +38,7 @@ use Rattle.ckc_build_values.specs.Expressions.{local_in, static_in, named}
 abbrev pub place_weight : Place → ℕ
 place_weight q = access_weight q.access q.pointer q.index
 
--- An expression weighs less than so much by 120, or by 110 where its range is a value.
+-- An expression weighs less than so much by 120, or by 110 if its range is a value.
 abbrev pub Weighs : ℕ → Expr → Type 0
 Weighs m e = (r : Bool) → value_weight r e + 120 ≤ m + 10 * range_nodes r
 
@@ -64,7 +64,7 @@ and_right : (a b : Bool) → (a && b) ≡ true → b ≡ true
 and_right true b h = h
 and_right false b h = absurd cc
 
--- where a range is computed where it is tested, it would weigh as much as a value
+-- if a range is computed where it is tested, it would weigh as much as a value
 ranged_more : (e : Expr) → is_ranged e ≡ true → value_weight false e + 60 ≤ value_weight true e
 ranged_more (Limited x limits) h = omega arith
 ranged_more (Array at bytes) h = omega arith

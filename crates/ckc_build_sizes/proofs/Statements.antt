@@ -289,7 +289,7 @@ stmt_by x y is =
 stmt_fits : (s : NotedStmt) → StmtSmall s
 stmt_fits = ind-Stmt Name Note ActSmall StmtSmall act_by stmt_by
 
--- a statement with none behind it
+-- a statement with none after it
 pub stmt_small : (p : Typed) (locals : List Variable) (result : CType) (k : ℕ) (s : NotedStmt)
     → code_weight (alone ((part_of s).code p locals result k)) + 64 * length (locals_of s) ≤ 240 * marked (marks_of_stmt s)
 stmt_small p locals result k s = omega (arith, (stmt_fits s).0 p locals result k End)

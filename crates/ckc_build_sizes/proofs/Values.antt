@@ -1,4 +1,4 @@
--- The value of an expression and its address weigh at most 240 for each node of the text, less 120, or less 110 where
+-- The value of an expression and its address weigh at most 240 for each node of the text, less 120, or less 110 if
 -- their range is a value; its place weighs 170 less.
 use Rattle.std.proofs.Common.{◌≡◌, ℕ, ◌+◌, ◌*◌, ◌≤◌, Bool, false, List, [], ◌++◌, map, length, sym, subst, arith}
 use Rattle.std.specs.Prelude.{Some, None}

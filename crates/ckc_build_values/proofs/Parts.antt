@@ -30,7 +30,7 @@ pub node_part : (n : NotedNode) (x : Node-F Name Note NotedLimits NotedNode Note
     → part_of_node n ≡ node_parts (map-Node Name Note NotedLimits NotedNode NotedExpr LimitsPart NodePart Part part_of_limits part_of_node part_of x)
 node_part n x is = ap part_of_node is ∙ fold-roll-Node Name Note LimitsPart NodePart Part limits_parts node_parts expr_parts x
 
--- Two operands, the second of which has its literals behind those of the first; the code reads each operand anew
+-- Two operands, the second of which has its literals after those of the first; the code reads each operand anew
 -- for its value, its literals and its type.
 module _ {E : Type 0} (p : Typed) (locals : List Variable) (k : ℕ) (n : NotedNode) (a : Note) (at : Pos) (layout : Structs)
     (e e1 e2 e3 f f1 f2 : NotedExpr) (left right : Expr) (second : ℕ) (r : Result ExprTree E)

@@ -19,7 +19,7 @@ use Rattle.ckc_source.specs.declared.expr.Limits.{Limits}
 use Rattle.ckc_build_values.specs.Kinds.{integer_of, pointee_of}
 use Rattle.ckc_build_values.specs.Names.{address_of}
 
--- the type of a local integer, and `int` where there is no such local
+-- the type of a local integer, and `int` if there is no such local
 abbrev pub integer_in_variable : Option variables.Variable → Integer
 integer_in_variable (Some v) = integer_of v.ctype
 integer_in_variable None = Int
@@ -28,7 +28,7 @@ integer_in_variable None = Int
 abbrev pub local_variable : List variables.Variable → ℕ → Variable
 local_variable locals k = record { local = k; form = integer_in_variable (variable_named locals (name.Local k)) }
 
--- an end of limits, as far behind its base as a variable and a number say
+-- an end of limits, as far after its base as a variable and a number say
 abbrev pub end_behind : Base → Option Variable → ℤ → End
 end_behind base x c = record { base = base; variable = x; add = c }
 

@@ -46,7 +46,7 @@ static_in p t at k (Some kind.One) = Number (address_of p k)
 static_in p t at k (Some kind.Arr) = Array (address_of p k) (bytes_of p k)
 static_in p t at k (Some kind.Nt) = Array (address_of p k) (bytes_of p k)
 
--- what a name reads: a local or an object of the file
+-- what a name reads: a local or an object of file scope
 abbrev pub named : Typed → List Variable → Note → Pos → Name → Expr
 named p locals a at (name.Local k) = local_in p locals a.ctype k a.range
 named p locals a at (name.Static k) = static_in p a.ctype at k (array_of p k)
@@ -54,12 +54,12 @@ named p locals a at n = outside
 
 -- ---- what the parts of an expression mean
 
--- What an expression means in a typed text, in a function with these variables, where the next string literal has
+-- What an expression means in a typed text, in a function with these variables, if the next string literal has
 -- this number among the static objects.
 abbrev pub Meaning : Type 0 → Type 0
 Meaning A = Typed → List Variable → ℕ → A
 
--- An expression: its value, its place where it has one, its address, its type, and how many string literals it has.
+-- An expression: its value, its place if it has one, its address, its type, and how many string literals it has.
 pub record Part : Type 0 where
   pub value : Meaning Expr
   pub place : Meaning Place

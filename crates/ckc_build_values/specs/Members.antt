@@ -23,7 +23,7 @@ use Rattle.ckc_build_values.specs.Kinds.{integer_of, count_of_kind}
 abbrev pub has_member : Structs → ℕ → ℕ → Bool
 has_member structs tag k = nat_lt 0 (size_of structs (ctype.Struct tag)) && list_any (λ m. m.name == k) (members_of structs tag)
 
--- how many bytes lie before a member in its structure, 0 where there is no such member
+-- how many bytes lie before a member in its structure, 0 if there is no such member
 abbrev pub offset_of : Structs → ℕ → ℕ → ℕ
 offset_of structs tag k = if has_member structs tag k then offset structs tag k else 0
 
@@ -31,7 +31,7 @@ offset_of structs tag k = if has_member structs tag k then offset structs tag k 
 abbrev pub member_named : Structs → ℕ → Name → Option MemberShape
 member_named structs tag n = find (λ m. is_member_named n m.name) (members_of structs tag)
 
--- the type of an integer member, and `int` where there is no such member
+-- the type of an integer member, and `int` if there is no such member
 abbrev pub integer_in_member : Option MemberShape → Integer
 integer_in_member (Some m) = integer_of m.ctype
 integer_in_member None = Int
@@ -47,11 +47,11 @@ count_by structs tag t (bounds.Named k c) =
     Some (count.Member (offset_of structs tag k) (integer_in_member (member_named structs tag (name.Member k))) c)
 count_by structs tag t bounds.NoForm = None
 
--- how many elements a member points to, where there is such a member and that is known
+-- how many elements a member points to, if there is such a member and that is known
 abbrev pub count_in : Structs → ℕ → Option MemberShape → Option Count
 count_in structs tag (Some m) = count_by structs tag m.ctype m.bounds
 count_in structs tag None = None
 
--- how many elements the member of the structure with a tag points to, where it is a pointer of which that is known
+-- how many elements the member of the structure with a tag points to, if it is a pointer of which that is known
 abbrev pub count_of_member : Structs → ℕ → Name → Option Count
 count_of_member structs tag n = count_in structs tag (member_named structs tag n)

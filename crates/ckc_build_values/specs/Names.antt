@@ -17,9 +17,9 @@ use Rattle.ckc_source.specs.declared.expr.Count.{Count}
 use Rattle.ckc_source.specs.declared.expr.Count.TheVariants as count
 use Rattle.ckc_build_values.specs.Kinds.{count_of_kind, size_behind}
 
--- ---- addresses: string literals are static objects behind those that are declared
+-- ---- addresses: string literals are static objects after those that are declared
 
--- the address of a static object, and 0 where there is none
+-- the address of a static object, and 0 if there is none
 abbrev pub address_in : Option StaticObject → ℕ
 address_in (Some o) = o.at
 address_in None = 0
@@ -33,16 +33,16 @@ abbrev pub array_in : Option StaticObject → Option Kind
 array_in (Some o) = o.array
 array_in None = None
 
--- the kind of pointer that the use of the static object with a number gives, where it is an array
+-- the kind of pointer that the use of the static object with a number gives, if it is an array
 abbrev pub array_of : Typed → ℕ → Option Kind
 array_of p k = array_in (slice_get p.statics k)
 
--- the last element of a null-terminated array lies behind its upper bound
+-- the last element of a null-terminated array lies after its upper bound
 abbrev pub bytes_in : Structs → Option StaticObject → ℕ
 bytes_in structs (Some o) = size_of structs o.element * (o.count - (if o.terminated then 1 else 0))
 bytes_in structs None = 0
 
--- how many bytes the upper bound of a static array lies behind its begin
+-- how many bytes the upper bound of a static array lies after its begin
 abbrev pub bytes_of : Typed → ℕ → ℕ
 bytes_of p k = bytes_in p.layout (slice_get p.statics k)
 
@@ -53,7 +53,7 @@ abbrev pub declares : Name → NotedItem → Bool
 declares n (item.Static d) = same_name d.name n
 declares n _ = false
 
--- the bounds in the declaration of a static object, where it has them
+-- the bounds in the declaration of a static object, if it has them
 abbrev pub limits_in : Option NotedItem → Option NotedLimits
 limits_in (Some (item.Static d)) = d.bounds
 limits_in _ = None
@@ -62,7 +62,7 @@ limits_in _ = None
 abbrev pub limits_declared : Typed → Name → Option NotedLimits
 limits_declared p n = limits_in (find (declares n) p.tree.items)
 
--- a constant number of elements, where the amount names no variable
+-- a constant number of elements, if the amount names no variable
 abbrev pub fixed_by : Option Name → ℤ → Option Count
 fixed_by None c = Some (count.Fixed c)
 fixed_by (Some n) c = None
@@ -72,11 +72,11 @@ abbrev pub fixed_count : Option Amount → Option Count
 fixed_count (Some a) = fixed_by a.variable a.number
 fixed_count None = None
 
--- how many elements a static pointer has by its type and its declared bounds, where that is known
+-- how many elements a static pointer has by its type and its declared bounds, if that is known
 abbrev pub count_declared : Structs → CType → Option NotedLimits → Option Count
 count_declared structs t None = count_of_kind (kind_of t)
 count_declared structs t (Some l) = fixed_count (amount_of_limits structs (size_behind structs t) l)
 
--- how many elements the static pointer of this name has, where that is known
+-- how many elements the static pointer of this name has, if that is known
 abbrev pub count_of_static : Typed → CType → Name → Option Count
 count_of_static p t n = count_declared p.layout t (limits_declared p n)

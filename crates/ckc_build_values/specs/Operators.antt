@@ -30,7 +30,7 @@ is_signed_at o t u = is_signed t && is_signed u
 abbrev pub converted : CType → Expr → Expr
 converted t e = if is_char t then Narrow e else e
 
--- A pointer that is cast to `T *` keeps its range where it points to T.
+-- A pointer that is cast to `T *` keeps its range if it points to T.
 abbrev pub cast : CType → CType → Expr → Expr
 cast t u e = if is_pointer t && not (same_element t u) then Bare e else converted t e
 

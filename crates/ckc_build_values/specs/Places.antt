@@ -62,7 +62,7 @@ member_place structs tag n q = behind (offset_of structs tag (member_number n)) 
 abbrev pub nowhere : Pos → Place
 nowhere at = place_through Named at 0 Int (Number 0) (Number 0)
 
--- the place of an object of the file, by its name
+-- the place of an object of file scope, by its name
 abbrev pub name_place : Typed → CType → Pos → Name → Place
 name_place p t at (name.Static k) = object_place p t at k
 name_place p t at n = nowhere at

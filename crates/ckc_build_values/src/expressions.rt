@@ -407,7 +407,7 @@ fn node_value(
     }
 }
 
-/// What an expression means, where the next string literal has a number among the static objects.
+/// What an expression means, if the next string literal has this number among the static objects.
 #[cycle(expr)]
 pub fn value(
     alloc: Global,

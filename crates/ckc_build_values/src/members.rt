@@ -35,7 +35,7 @@ fn has_member(structs: &Structs, tag: u32, k: u32) -> bool
     has_size(structs, tag) && is_among(members_of(structs, tag), k)
 }
 
-/// How many bytes lie before a member in its structure, 0 where there is no such member.
+/// How many bytes lie before a member in its structure, 0 if there is no such member.
 pub fn offset_of(structs: &Structs, tag: u32, k: u32) -> u32
     ensures { result ≡ offset_of structs.now tag k }
 {
@@ -97,7 +97,7 @@ fn count_by(
     }
 }
 
-/// How many elements a member points to, where it is a pointer of which that is known.
+/// How many elements a member points to, if it is a pointer of which that is known.
 pub fn count_of_member(structs: &Structs, tag: u32, n: Name) -> Result<Option<Count>, AllocError>
     ensures { IfOk result (λ c. c ≡ count_of_member structs.now tag n) }
 {

@@ -27,7 +27,7 @@ pub fn address_of(typed: &Typed, k: u32) -> u32
     }
 }
 
-/// The kind of pointer that the use of a static object gives, where it is an array.
+/// The kind of pointer that the use of a static object gives, if it is an array.
 pub fn array_of(typed: &Typed, k: u32) -> Option<Kind>
     ensures { result ≡ array_of typed.now k }
 {
@@ -48,7 +48,7 @@ fn bounded(o: &StaticObject) -> u32
     }
 }
 
-/// How many bytes the upper bound of a static array lies behind its begin.
+/// How many bytes the upper bound of a static array lies after its begin.
 pub fn bytes_of(typed: &Typed, k: u32) -> Result<u32, AllocError>
     ensures { IfOk result (λ n. n ≡ bytes_of typed.now k) }
 {
@@ -114,7 +114,7 @@ fn fixed_count(a: Option<Amount>) -> Result<Option<Count>, AllocError>
     }
 }
 
-/// How many elements a static pointer has, where that is known.
+/// How many elements a static pointer has, if that is known.
 pub fn count_of_static(
     alloc: Global,
     typed: &Text,

@@ -12,7 +12,7 @@ use ckc_typed::{Note, Typed};
 use ckc_types::Structs;
 use std::marker::Model;
 
-/// A typed text, and whether one of its static objects is declared with bounds: where none is, nothing has to be walked
+/// A typed text, and whether one of its static objects is declared with bounds: if none is, nothing has to be walked
 /// through to know that. A contract sees the text alone.
 #[derive(Drop)]
 pub struct Text<'a> {

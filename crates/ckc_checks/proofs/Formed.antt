@@ -382,7 +382,7 @@ module _ (few locals : ℕ) (more : few ≤ locals) where
     cast_by_over true size how at p k t rest c hk plain on_p on_k fits over = plain rest fits over
     cast_by_over false size how at p k t rest c hk plain on_p on_k fits over = cast_value_over size how at p k t rest c.0 c.1.1 hk (on_p c.2) on_k fits over
 
-    -- the code of a value, with its range where the flag says so
+    -- the code of a value, with its range if the flag says so
     value_over : (r : Bool) (e : source.Expr) (t : ℕ) (rest : Code) → IsCompilableExpr few e → Has few r e → t + value_room r e ≤ locals → Over rest → Over (value_code r e t rest)
     value_over r (source.Binary o s at a b) t rest h has fits over =
         let least = range_more r (max (operand_room a) (1 + operand_room b)) in

@@ -50,7 +50,7 @@ value_room_some r (source.Local x) = range_far r 1 (omega arith)
 value_room_some r (source.Limited x limits) = range_far r 1 (omega arith)
 value_room_some r (source.Array at bytes) = range_far r 1 (omega arith)
 
--- the numbers of a range, where it is one that is needed
+-- the numbers of a range, if it is one that is needed
 abbrev pub Has : ℕ → Bool → source.Expr → Type 0
 Has locals true e = HasRange locals e
 Has locals false e = Unit {0}

@@ -208,7 +208,7 @@ exact_sized : (back signs : Bool) (size : ℕ) (a i : Expr) → expr_size (exact
 exact_sized true signs size a i = omega (arith, shifted_sized true size a i)
 exact_sized false signs size a i = omega (arith, shifted_sized false size a i)
 
--- an operand, where it goes to a temporary in any case or not
+-- an operand, whether it goes to a temporary in any case or not
 put_sized : (r always : Bool) (e : source.Expr) (t : ℕ) (rest : Code) → code_size (value_code r e t rest) ≤ value_weight r e + code_size rest
     → code_size (put_if always e (value_code r e t) rest) + 2 * expr_size (held always e t) ≤ value_weight r e + code_size rest
 put_sized r true e t rest h = omega (arith, h)
@@ -384,7 +384,7 @@ moved_by true shift a i t rest none h =
 moved_by false shift a i t rest none h =
     omega (arith, exact_sized shift.back (reads_signed shift.index) shift.size a i, shifted_sized shift.back shift.size a i, set_sized (shifted shift.back shift.size a i), h)
 
--- pointer arithmetic, its pointer in front of its index or behind it
+-- pointer arithmetic, its pointer in front of its index or after it
 moved_sized : (shift : Shift) (checked : Bool) (a : Expr) (i : source.Expr) (v t : ℕ) (rest : Code) → (checked ≡ true → expr_size a ≡ 0)
     → code_size (let there = Set t (shifted shift.back shift.size a (held (keeps_index checked i) i v)) rest in
     if checked then exact_code shift a (held (keeps_index checked i) i v) there else there)

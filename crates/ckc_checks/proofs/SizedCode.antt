@@ -80,7 +80,7 @@ allowed_sized source.Nothing t rest = omega arith
 allowed_sized (source.Variable x w) t rest = omega arith
 allowed_sized (source.Memory w access p i) t rest = guarded_sized access.through access.at w false t (t + target_count (source.Memory w access p i)) rest
 
--- A value is written behind what finds the place of the target.
+-- A value is written after what finds the place of the target.
 aimed_sized : (target : source.Target) (t n : ℕ) (is_byte : Bool) (value : Expr) (rest inner : Code)
     → code_size inner + expr_size value ≤ n + code_size (written target t is_byte value rest)
     → code_size (aim_code target t inner) ≤ 22 + target_weight target + n + code_size rest

@@ -57,7 +57,7 @@ fn set_alone(alloc: Global, t: u32, value: CoreExpr) -> Result<Seq<CoreStmt>, Al
     Ok(code)
 }
 
-/// A list that sets a local to 1 where the value of an operand is not zero, and else to 0.
+/// A list that sets a local to 1 if the value of an operand is not zero, and else to 0.
 fn truth_alone(alloc: Global, e: &ExprTree, t: u32) -> Result<Seq<CoreStmt>, AllocError>
     ensures { IfOk result (λ code. behind code ≡
         Code.Set t (as_truth (operand (source_of e.now) t)) Code.End) }
@@ -83,7 +83,7 @@ pub fn fork(
     front(code, CoreStmt::If(condition, in_order(one), in_order(two)))
 }
 
-/// Puts the check of a divisor in front, where the operation divides.
+/// Puts the check of a divisor in front, if the operation divides.
 fn check_divisor(
     alloc: Global,
     operation: Operation,
@@ -254,7 +254,7 @@ pub fn place(
     at_offset(alloc, access.offset, to)
 }
 
-/// Puts statements in front that set the two temporaries behind t to a range, where the flag says so.
+/// Puts statements in front that set the two temporaries after t to a range, if the flag says so.
 fn with_range(
     ranged: bool,
     t: u32,
@@ -281,7 +281,7 @@ fn no_range(ranged: bool, t: u32, code: &mut Seq<CoreStmt>) -> Result<(), AllocE
     with_range(ranged, t, CoreExpr::Const(0), CoreExpr::Const(0), code)
 }
 
-/// Puts statements in front that set t to a local, and those behind it to the range that limits say.
+/// Puts statements in front that set t to a local, and those after it to the range that limits say.
 fn limited(
     alloc: Global,
     ranged: bool,
@@ -321,7 +321,7 @@ fn load_place(
     front(code, CoreStmt::Set(t, value))
 }
 
-/// Puts statements in front that load a pointer into t from an offset behind the address in `first`, and its range.
+/// Puts statements in front that load a pointer into t from an offset after the address in `first`, and its range.
 fn counted(
     alloc: Global,
     size: u32,
@@ -433,7 +433,7 @@ fn trust(
     Ok(())
 }
 
-/// Puts statements in front that move a range, where the flag says so, from one temporary further on to those behind t.
+/// Puts statements in front that move a range, if the flag says so, from one temporary further on to those after t.
 fn moved_range(ranged: bool, t: u32, code: &mut Seq<CoreStmt>) -> Result<(), AllocError>
     ensures { OnOk result (behind code.new ≡ moved_range ranged t (behind code.old)) }
 {
@@ -571,8 +571,8 @@ fn reached(
     Ok(())
 }
 
-/// Puts the code in front that writes the value of an expression to the local t, and where the first flag says so its
-/// range to the two locals behind it. A direct expression has such code only where the second flag says so.
+/// Puts the code in front that writes the value of an expression to the local t, and if the first flag says so its
+/// range to the two locals after it. A direct expression has such code only if the second flag says so.
 pub fn value(
     alloc: Global,
     e: &ExprTree,

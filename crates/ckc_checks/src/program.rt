@@ -66,7 +66,7 @@ fn functions(alloc: Global, funcs: &[FunctionTree]) -> Result<Seq<CoreFunc>, All
     Ok(done)
 }
 
-/// The address behind the block of an object; one past 2^32 - 1 is taken for want of memory.
+/// The address after the block of an object; one past 2^32 - 1 is taken for want of memory.
 #[tactic(auto, using(crate::proofs::BlockLengths::filled_length))]
 fn end_of(o: &Object) -> Result<u32, AllocError>
     ensures { IfOk result (λ n. n ≡ end_of (block_of o.now)) }
@@ -82,7 +82,7 @@ fn end_of(o: &Object) -> Result<u32, AllocError>
     sum(o.at, initial.max(bytes))
 }
 
-/// The place of the first heap block, behind the objects.
+/// The place of the first heap block, after the objects.
 fn heap_place(objects: &[Object]) -> Result<u32, AllocError>
     ensures { IfOk result (λ n. n ≡ place_behind first_place (map block_of objects.now)) }
 {
@@ -125,10 +125,10 @@ fn copy(from: &[u8], bytes: &mut Bytes) -> Result<(), AllocError>
     Ok(())
 }
 
-/// The address behind the heap's word.
+/// The address after the heap's word.
 const BEHIND_HEAP_WORD: u32 = DATA_START + 4;
 
-/// Adds the first bytes of objects behind those up to their places.
+/// Adds the first bytes of objects after those up to their places.
 fn add_objects(objects: &[Object], bytes: &mut Bytes) -> Result<(), AllocError>
     ensures { OnOk result (bytes.new ≡ bytes.old ++ image (data_start + 4) objects.now) }
 {
@@ -168,10 +168,10 @@ fn program(alloc: Global, p: &Program) -> Result<Core, AllocError>
 }
 
 /// The core code of a program that can be compiled, with all checks written out: before each division the test of the
-/// divisor, before each access through a checked pointer the tests for null and, where it points to an array, of its
+/// divisor, before each access through a checked pointer the tests for null and, if it points to an array, of its
 /// place and its bounds, before a write at the upper bound of an `_Nt_array_ptr` that only zero goes there, the tests of
-/// checked pointer arithmetic, the dynamic checks, and the depth of calls. The temporaries of a function stand behind its
-/// locals.
+/// checked pointer arithmetic, the dynamic checks, and the depth of calls. The temporaries of a function stand after
+/// its locals.
 pub fn insert(alloc: Global, p: &Program) -> Result<Core, AllocError>
     requires form { IsCompilable (source_program p.now) }
     requires laid { IsLaidOut (source_program p.now) }

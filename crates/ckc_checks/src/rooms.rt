@@ -20,7 +20,7 @@ fn range_room(ranged: bool, room: u32) -> u32
     }
 }
 
-/// How many temporaries the code of an expression needs, with its range where the first flag says so; that of a direct
+/// How many temporaries the code of an expression needs, with its range if the first flag says so; that of a direct
 /// one has none unless the second flag says so.
 fn value_room(e: &ExprTree, ranged: bool, always: bool) -> Result<u32, AllocError>
     ensures { IfOk result (λ n. n ≡ value_room_if ranged always (expr_of e.now)) }

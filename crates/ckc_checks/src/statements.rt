@@ -40,7 +40,7 @@ fn is_narrow(e: &ExprTree) -> bool
     }
 }
 
-/// Puts the check of the value in u in front, where zero alone may be written to the element in t, by whether the value
+/// Puts the check of the value in u in front, if zero alone may be written to the element in t, by whether the value
 /// is a byte already.
 fn guard(
     alloc: Global,
@@ -64,7 +64,7 @@ fn guard(
     }
 }
 
-/// Puts a statement in front that stores a value, behind its check, in which it is in u.
+/// Puts a statement in front that stores a value, after its check, in which it is in u.
 fn store(
     alloc: Global,
     access: Access,
@@ -127,7 +127,7 @@ fn write(
     }
 }
 
-/// Puts a statement in front that says in t + 1 whether the element in t is below the upper bound of its pointer, where
+/// Puts a statement in front that says in t + 1 whether the element in t is below the upper bound of its pointer, if
 /// zero alone may be written there.
 fn mark(
     alloc: Global,
@@ -206,7 +206,7 @@ fn fix(
     }
 }
 
-/// Puts the check of the value behind the temporaries of a target in front.
+/// Puts the check of the value after the temporaries of a target in front.
 fn allow(
     alloc: Global,
     target: &TargetTree,
@@ -308,7 +308,7 @@ fn plan(alloc: Global, a: &Assign, t: u32, code: &mut Seq<CoreStmt>) -> Result<(
     aim(alloc, &a.target, t, code)
 }
 
-/// The temporaries behind those of an assignment that has them from t on.
+/// The temporaries after those of an assignment that has them from t on.
 fn behind_planned(target: &TargetTree, t: u32) -> Result<u32, AllocError>
     ensures { IfOk result (λ n. n ≡ behind_planned (target_of target.now) t) }
 {
@@ -528,7 +528,7 @@ fn break_alone(alloc: Global) -> Result<Seq<CoreStmt>, AllocError>
     Ok(code)
 }
 
-/// Puts a loop in front, which is left where its condition is zero.
+/// Puts a loop in front, which is left if its condition is zero.
 fn turn(
     alloc: Global,
     e: &ExprTree,

@@ -30,7 +30,7 @@ aim_steps (source.Memory width access p i) t = found_steps access p i t + mark_s
 aim_steps target t = 0
 
 module _ (functions : List Function) (callers : List Caller) (world : World) where
-  -- The target is at this place, as long as the locals up to t + 1 stay. Behind its element it is marked.
+  -- The target is at this place, as long as the locals up to t + 1 stay. After its element it is marked.
   abbrev pub IsAt : source.Target → ℕ → Values → Place → Type 0
   IsAt source.Nothing t l to = to ≡ place.Nowhere
   IsAt (source.Variable x width) t l to = to ≡ place.Local x width

@@ -1,4 +1,4 @@
--- Values are words, where the locals and what is loaded are.
+-- Values are words, if the locals and what is loaded are.
 use Rattle.std.proofs.Common.{◌≡◌, ℕ, zero, suc, ◌%◌, ◌^◌, ◌<◌, ◌==◌, List, ◌∷◌, refl, sym, subst, arith}
 use Rattle.std.specs.Prelude.{nat_lt, nat_le, if◌then◌else◌, Bool, true, false, ◌&&◌, slice_index, Option, Some, None, Result, Ok, Err, ℤ, pos, negsuc}
 use Rattle.std.proofs.lemmas.Bool.{eqb-true}
@@ -32,13 +32,13 @@ use Rattle.ckc_checks_operands.specs.Compilable.{IsCompilableExpr}
 
 -- ---- what an evaluation gives
 
--- a number, where there is a value
+-- a number, if there is a value
 abbrev pub Gives : ℕ → Result Value Halt → Type 0
 Gives n (Ok v) = v.number ≡ n
 Gives n (Err Stuck) = Unit {0}
 Gives n (Err (Stopped why at)) = ⊥
 
--- a word, where there is a value
+-- a word, if there is a value
 abbrev pub GivesWord : Result Value Halt → Type 0
 GivesWord (Ok v) = v.number < 2 ^ 32
 GivesWord (Err h) = Unit {0}

@@ -135,7 +135,7 @@ module _ (p : source.Program) (all : All (IsCompilableFunction p.functions) p.fu
   abbrev IsReadyAt : S.State → World → Values → Type 0
   IsReadyAt s world l = IsReady p all may heap s work looped ds world rest l
 
-  -- The place of a target is in the temporary t. The mark is behind it.
+  -- The place of a target is in the temporary t. The mark is after it.
   abbrev IsPlaced : source.Target → ℕ → Values → Place → Type 0
   IsPlaced source.Nothing t l to = to ≡ place.Nowhere
   IsPlaced (source.Variable x width) t l to = to ≡ place.Local x width
@@ -148,14 +148,14 @@ module _ (p : source.Program) (all : All (IsCompilableFunction p.functions) p.fu
   placed_later (source.Memory width access i j) t before l to is same next =
       (is.0, is.1, is.2, marked_later access.through access.at t before l is.1 is.3 next, same ∙ is.4)
 
-  -- the same, where the temporaries of the target stay
+  -- the same, if the temporaries of the target stay
   placed_below : (target : source.Target) (t : ℕ) (before l : Values) (to : Place) → IsPlaced target t before to → Below (t + target_count target) l before → IsPlaced target t l to
   placed_below source.Nothing t before l to is below = is
   placed_below (source.Variable x width) t before l to is below = is
   placed_below (source.Memory width access i j) t before l to is below =
       placed_later (source.Memory width access i j) t before l to is (below t (omega arith)) (below (t + 1) (omega arith))
 
-  -- the value behind the temporaries of a target is one that may be written there
+  -- the value after the temporaries of a target is one that may be written there
   allowed_runs : (target : source.Target) (t value : ℕ) (to : Place) (more : Code) (world : World) (l : Values) → IsPlaced target t l to → l (t + target_count target) ≡ Some value
       → Runs core 0 (allow_steps target) (at ds world (allowed_code target t more) rest l) (allowed to value) (λ into w. (into ≡ to) × (w ≡ at ds world more rest l))
   allowed_runs source.Nothing t value to more world l is v = allows_any core ds world rest to value 0 more l (ap (λ to. allowed to value) is ∙ ap Ok (sym is))
@@ -402,7 +402,7 @@ module _ (p : source.Program) (all : All (IsCompilableFunction p.functions) p.fu
     are_later assigns (behind_planned a.0 t) before l ws h.3 (λ x more. same x (omega arith)),
   )
 
-  -- an assignment, where those behind it are known to be found
+  -- an assignment, if those after it are known to be found
   plan_runs : (a : source.Target × source.Right) (assigns : List (source.Target × source.Right)) (t m k : ℕ) (inner more : Code) (s : S.State) (world : World) (l : Values) → IsReadyAt s world l
       → s.frame.function.locals ≤ t → IsCompilableAssign s.frame.function.locals a → 14 * (target_nodes a.0 + right_nodes a.1) + 1 + m ≤ k
       → ((blocks : List Block) (next : ℕ) (world2 : World) (l2 : Values) → IsReadyAt (in_memory s blocks next) world2 l2

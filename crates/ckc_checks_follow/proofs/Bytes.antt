@@ -231,7 +231,7 @@ pub spells_kept : (memory : Memory) (count base a n : ℕ) (bytes : List ℕ) �
 spells_kept memory count base a n bytes s (inl h) = λ j l. ahead memory count a n (base + j) (omega arith) ∙ s j l
 spells_kept memory count base a n bytes s (inr h) = λ j l. past memory count a n (base + j) (omega arith) ∙ s j l
 
--- blocks behind the access are as they were
+-- blocks after the access are as they were
 changed_above : (width : Width) (a n low limit : ℕ) (memory : Memory) (bs : List Block) → AreApart low bs limit → a + width_bytes width ≤ low → 1 ≤ width_bytes width
     → SameBytes bs memory → SameBytes (map (changed width a n) bs) (with_bytes memory (width_bytes width) a n)
 changed_above width a n low limit memory [] apart l one s = tt

@@ -74,7 +74,7 @@ fits_product size k d some = by (nat_le (k * size) d) refl
             let le : k * size ≤ d = law.0 fits in
             absurd (let wrong : nat_le (k * size) d ≡ true = grind (arith, nat_tests) in let no : true ≡ false = sym wrong ∙ e in cc)
 
--- so many elements of two bytes or more have a count that is not negative, where they fit in some bytes
+-- so many elements of two bytes or more have a count that is not negative, if they fit in some bytes
 wide_small : (size : ℕ) (form : Integer) (k d : ℕ) → 2 ≤ size → d < 2 ^ 32 → nat_le k (d / size) ≡ (is_small form k && nat_le k (d / size))
 wide_small size integer.Unsigned k d wide few = refl
 wide_small size integer.Char k d wide few = refl

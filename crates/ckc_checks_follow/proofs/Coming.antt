@@ -46,7 +46,7 @@ abbrev pub IsRangeOf : Range → (low length : ℕ) → Type 0
 IsRangeOf (Within a b) low length = (a ≡ low) × (b ≡ low + length)
 IsRangeOf Without low length = Unit {0}
 
--- a range is in the two temporaries behind t
+-- a range is in the two temporaries after t
 abbrev pub HasAt : Range → ℕ → Values → Type 0
 HasAt range t l =
     (low length : ℕ) × (l (t + 1) ≡ Some low) × (l (t + 2) ≡ Some length) × (low < 2 ^ 32) × (length < 2 ^ 32) × IsRangeOf range low length
@@ -64,7 +64,7 @@ module _ (functions : List Function) (callers : List Caller) (world : World) whe
       then_runs functions least m n k st x f (λ v u. (l : Values) × (u ≡ at callers world more rest l) × P v l) R few c
       (λ v u q. subst (λ u. Runs functions least n u (f v) R) (sym q.1) (next v q.0 q.2))
 
-  -- the same, where the first one makes a step
+  -- the same, if the first one makes a step
   pub then_first : {A B : Type 0} (m n k : ℕ) (st : State) (x : Result A Halt) (f : A → Result B Halt) (last more : Code) (rest : Rest) (P : A → Values → Type 0) (R : B → Values → Type 0)
       → m + n ≤ k → Comes 1 m st x last rest P → ((v : A) (l : Values) → P v l → Comes 0 n (at callers world last rest l) (f v) more rest R)
       → Comes 1 k st (given x f) more rest R
@@ -79,7 +79,7 @@ module _ (functions : List Function) (callers : List Caller) (world : World) whe
   abbrev pub Put : ℕ → Values → Value → Values → Type 0
   Put t before v l = Below t l before × (l t ≡ Some v.number)
 
-  -- the same, and its range behind it
+  -- the same, and its range after it
   abbrev pub PutRange : ℕ → Values → Value → Values → Type 0
   PutRange t before v l = Below t l before × (l t ≡ Some v.number) × HasAt v.range t l
 
@@ -140,7 +140,7 @@ module _ (functions : List Function) (callers : List Caller) (world : World) whe
     RangeClaim e = (t : ℕ) (more : Code) (rest : Rest) (l : Values) → n ≤ t → IsCompilableExpr n e → HasRange n e → Agree n s.locals l
         → Comes 1 (value_steps true e) (at callers world (value_code true e t more) rest l) (evaluated s e) more rest (PutRange t l)
 
-    -- an operand in so many steps, in a temporary in any case where the flag says so
+    -- an operand in so many steps, in a temporary in any case if the flag says so
     abbrev pub HeldIn : (ℕ → ℕ) → Bool → source.Expr → Type 0
     HeldIn steps always e = (t : ℕ) (more : Code) (rest : Rest) (l : Values) → n ≤ t → IsCompilableExpr n e → Agree n s.locals l
         → Comes 0 (steps t) (at callers world (put_if always e (expr_code e t) more) rest l) (evaluated s e) more rest (Held (held always e t) t l)
@@ -202,7 +202,7 @@ module _ (functions : List Function) (callers : List Caller) (world : World) whe
         set_value (direct e) t more rest l (evaluated s e) (expr_steps e) (omega (arith, direct_nodes e, some_node e))
         (direct_value n s world.memory l e sees agree h d)
 
-    -- where an operand gave a value, its expression still has it
+    -- if an operand gave a value, its expression still has it
     pub held_value : (e : Expr) (t : ℕ) (before l : Values) (v : Value) → Held e t before v l → value_of l world.memory e ≡ Some v.number
     held_value e t before l v h = h.1 l (λ x less. refl)
 

@@ -1,4 +1,4 @@
--- The ends of limits, computed in words, are the exact ones where these are words.
+-- The ends of limits, computed in words, are the exact ones if these are words.
 use Rattle.std.proofs.Common.{◌≡◌, ℕ, suc, ◌+◌, ◌-◌, ◌*◌, ◌/◌, ◌%◌, ◌^◌, ◌≤◌, ◌<◌, List, refl, sym, ◌∙◌, ap, arith}
 use Rattle.std.specs.Prelude.{ℤ, pos, negsuc, neg_ℤ, ◌+ℤ◌, ◌*ℤ◌, nat_lt, Bool, true, false, slice_index, Option, Some, None}
 use Rattle.std.proofs.lemmas.Int.{ints}
@@ -82,7 +82,7 @@ divided t = omega arith
 times : (size a b : ℕ) → size * (a + b) ≡ size * a + size * b
 times size a b = grind arith
 
--- the word of an end is the end, where that is a word
+-- the word of an end is the end, if that is a word
 pub end_word : (size p k e : ℕ) (z : ℤ) → IsWord z 8589934592 k → pos p +ℤ (pos size *ℤ z) ≡ pos e → e < 2 ^ 32 → (p + (size * k) % 2 ^ 32) % 2 ^ 32 ≡ e
 end_word size p k e (pos m) w h less =
     let t = w.0 in

@@ -148,7 +148,7 @@ module _ (functions : List source.Function) (all : All (IsCompilableFunction fun
 
   -- ---- returns
 
-  -- Behind a call core code is near to where the source has kept the result.
+  -- After a call core code is near to where the source has kept the result.
   abbrev Keeps : C.State → Result S.State Halt → Type 0
   Keeps u (Ok s) = Related functions core s u
   Keeps u (Err Stuck) = Unit {0}

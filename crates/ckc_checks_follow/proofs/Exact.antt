@@ -1,4 +1,4 @@
--- The exact address of an element, tested in 32 bits: the address behind or in front by so many elements is one where the
+-- The exact address of an element, tested in 32 bits: the address so many elements after or before is one if the
 -- upper word of the product and the carry (or the borrow) of the sum (or difference) of words cancel.
 use Rattle.std.proofs.Common.{◌≡◌, ℕ, zero, suc, ◌+◌, ◌-◌, ◌*◌, ◌/◌, ◌%◌, ◌^◌, ◌≤◌, ◌<◌, ◌==◌, nat_lt, nat_le, if◌then◌else◌, Bool, true, false, refl, sym, ◌∙◌, ap, arith}
 use Rattle.std.proofs.lemmas.Bool.Decides.{nat_tests}
@@ -113,7 +113,7 @@ chosen true false x y e h = absurd (let wrong : true ≡ false = sym e in cc)
 chosen false true x y e h = absurd (let wrong : true ≡ false = e in cc)
 chosen false false x y e h = refl
 
--- whether the upper word of a product and the carry behind an address cancel
+-- whether the upper word of a product and the carry after an address cancel
 abbrev pub carries : ℕ → ℕ → ℕ → Bool
 carries high v sum = (high + flag (nat_lt sum v)) % 2 ^ 32 == 0
 
@@ -177,7 +177,7 @@ high_high size i one h k l =
     ap (λ z. word_of (int_shr (z *ℤ signed i) 32)) (low_signed size h) ∙ ap (λ z. word_of (int_shr z 32)) (product_high size i one h k l)
     ∙ shifted_negsuc (q - 1) (omega (arith, small))
 
--- ---- an element behind an address, exactly
+-- ---- an element after an address, exactly
 
 pub exact_ahead : (form : Integer) (size i v : ℕ) → 1 ≤ size → size < 2 ^ 31 → i < 2 ^ 32 → v < 2 ^ 32
     → as_address (pos v +ℤ (pos size *ℤ exact form i)) ≡ (if carries (high_product (reads_signed form) size i) v (applied binary.Add v (applied binary.Mul size i)) then Some (applied binary.Add v (applied binary.Mul size i)) else None)

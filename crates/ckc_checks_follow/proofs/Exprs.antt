@@ -73,7 +73,7 @@ module _ (functions : List Function) (callers : List Caller) (world : World) whe
     tested_range : (size : ℕ) (how : Integer) (place : Pos) (p k : source.Expr) → RangeClaim functions callers world n s sees p → Claim functions callers world n s sees k → RangeClaim functions callers world n s sees (source.Tested size how place p k)
     tested_range size how place p k range_p claim_k t more rest l le h has agree = cast_range functions callers world n s sees size how place p k t more rest l range_p claim_k has.1.0 has.1.1 le h.1 has.2 h.2 agree
 
-    -- the code of an expression puts its value into the temporary t, and its range behind it where that is asked for
+    -- the code of an expression puts its value into the temporary t, and its range after it if that is asked for
     claims : (e : source.Expr) → Claim functions callers world n s sees e × RangeClaim functions callers world n s sees e
     claims (source.Number k) =
         let claim : Claim functions callers world n s sees (source.Number k) = λ t more rest l le h agree. leaf functions callers world n s sees (source.Number k) t more rest l h agree refl in
@@ -190,7 +190,7 @@ module _ (functions : List Function) (callers : List Caller) (world : World) whe
     reach_comes {A} access p i t least m k last more rest l f R le h hp hi agree few next =
         found_comes functions callers world n s sees access p i t least m k last more rest l f R (expr_comes p) (range_comes p) (expr_comes i) le h hp hi agree few next
 
-    -- the same, where it is known whether the element is at the upper bound
+    -- the same, if it is known whether the element is at the upper bound
     pub reach_ended : {A : Type 0} (access : Access) (p i : source.Expr) (t least m k : ℕ) (last more : Code) (rest : Rest) (l : Values) (f : Value → ℕ → Result A Halt) (R : A → Values → Type 0)
         → n ≤ t → IsAccess n access p i → IsCompilableExpr n p → IsCompilableExpr n i → Agree n s.locals l → found_steps access p i t + m ≤ k
         → ((x : Value) (q : ℕ) (l3 : Values) → Found functions callers world n s sees access p i t l q l3 → Ended functions callers world n s sees access.through p t x.range q l3 → Comes functions callers world least m (at callers world last rest l3) (f x q) more rest R)

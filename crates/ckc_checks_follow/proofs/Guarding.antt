@@ -71,7 +71,7 @@ check_few Array = omega arith
 
 -- ---- the mark
 
--- The mark behind the element says whether zero alone may be written there, and at which place that is checked.
+-- The mark after the element says whether zero alone may be written there, and at which place that is checked.
 abbrev pub IsMarked : Through → Pos → ℕ → Values → Option Pos → Type 0
 IsMarked Terminated spot t l None = l (t + 1) ≡ Some 1
 IsMarked Terminated spot t l (Some checked) = (checked ≡ spot) × (l (t + 1) ≡ Some 0)
@@ -147,7 +147,7 @@ kept_nodes Byte false e = omega arith
 kept_nodes Word is_byte e = omega arith
 
 module _ (functions : List Function) (callers : List Caller) (world : World) (rest : Rest) where
-  -- code comes to the same code with the same locals, where the value may be written to the place
+  -- code comes to the same code with the same locals, if the value may be written to the place
   abbrev pub Allows : ℕ → Code → Code → Values → Place → ℕ → Type 0
   Allows most from more l to value =
       Runs functions 0 most (at callers world from rest l) (allowed to value) (λ into w. (into ≡ to) × (w ≡ at callers world more rest l))

@@ -332,7 +332,7 @@ module _ (functions : List Function) (callers : List Caller) (world : World) whe
     has_later range t u l later more below has =
         (has.0, has.1, below (t + 1) (omega arith) ∙ has.2, below (t + 2) (omega arith) ∙ has.3, has.4, has.5, has.6)
 
-    -- A pointer and its range are in temporaries, and behind them is another value.
+    -- A pointer and its range are in temporaries, and after them is another value.
     abbrev pub BothFar : Expr → ℕ → Values → Value → Value → Values → Type 0
     BothFar b t before x y l =
         Below t l before × (l t ≡ Some x.number) × HasAt x.range t l × (value_of l world.memory b ≡ Some y.number) × (x.number < 2 ^ 32) × (y.number < 2 ^ 32)
@@ -505,7 +505,7 @@ module _ (functions : List Function) (callers : List Caller) (world : World) whe
     found_comes {A} access p i t least m k last more rest l f R claim_p range_p claim_i le h hp hi agree few next =
         found_by access access.through p i t least m k last more rest l f R claim_p range_p claim_i le h.3 hp hi agree few (λ x q l3 r end eq. next x q l3 r eq)
 
-    -- the same, where it is known whether the element is at the upper bound
+    -- the same, if it is known whether the element is at the upper bound
     pub found_ended : {A : Type 0} (access : Access) (p i : source.Expr) (t least m k : ℕ) (last more : Code) (rest : Rest) (l : Values) (f : Value → ℕ → Result A Halt) (R : A → Values → Type 0)
         → Claim functions callers world n s sees p → RangeClaim functions callers world n s sees p → Claim functions callers world n s sees i → n ≤ t → IsAccess n access p i → IsCompilableExpr n p → IsCompilableExpr n i → Agree n s.locals l
         → found_steps access p i t + m ≤ k
@@ -515,7 +515,7 @@ module _ (functions : List Function) (callers : List Caller) (world : World) whe
     found_ended {A} access p i t least m k last more rest l f R claim_p range_p claim_i le h hp hi agree few next =
         found_by access access.through p i t least m k last more rest l f R claim_p range_p claim_i le h.3 hp hi agree few (λ x q l3 r end eq. next x q l3 r end)
 
-    -- the place of an access, where its element is in reach
+    -- the place of an access, if its element is in reach
     pub place_value : (access : Access) (p i : source.Expr) (t q : ℕ) (before l later : Values) → Found access p i t before q l → Below (t + 2) later l
         → value_of later world.memory (reached_place access p i t) ≡ Some (place_in q access.offset)
     place_value access p i t q before l later found below =

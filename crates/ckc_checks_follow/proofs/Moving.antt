@@ -137,7 +137,7 @@ module _ (functions : List Function) (callers : List Caller) (world : World) whe
             (set_moves (shifted shift.back shift.size (Local u) (held (keeps_index true i) i w)) t more rest l (record { number = q; range = x.range }) x.range 6 (omega (arith, shifted_nodes shift.back shift.size (Local u) (held (keeps_index true i) i w), one)) (inl refl)
             (shifted_value l world.memory shift.back shift.size (Local u) (held (keeps_index true i) i w) x.number y.number h j low few ∙ ap Some (sym e.1)))))
 
-    -- a pointer that is held is moved, which goes to a temporary where it is checked
+    -- a pointer that is held is moved, which goes to a temporary if it is checked
     pub move_comes : (shift : Shift) (r checked : Bool) (p i : source.Expr) (x y : Value) (u w t : ℕ) (more : Code) (rest : Rest) (l : Values) → IsChecked checked shift
         → value_of l world.memory (held (r || checked) p u) ≡ Some x.number → value_of l world.memory (held (keeps_index checked i) i w) ≡ Some y.number → x.number < 2 ^ 32 → y.number < 2 ^ 32
         → Comes functions callers world 1 (move_steps checked (nodes (held (r || checked) p u)) (nodes (held (keeps_index checked i) i w)))
@@ -242,7 +242,7 @@ module _ (functions : List Function) (callers : List Caller) (world : World) whe
 
     -- ---- branches
 
-    -- what comes of a branch, in front of the code behind it
+    -- what comes of a branch, in front of the code after it
     ended : (most : ℕ) (st : State) (r : Result Value Halt) (P : Value → Values → Type 0) (more : Code) (rest : Rest)
         → Comes functions callers world 1 most st r End (Next more rest) P → Comes functions callers world 1 (most + 1) st r more rest P
     ended most st (Ok v) P more rest c =

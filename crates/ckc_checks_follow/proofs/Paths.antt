@@ -96,7 +96,7 @@ module _ (functions : List Function) where
       level = λ j. ap active (halted machine j (extra_steps s.frame.code) s [] how e);
     }
 
-    -- what is kept behind a path is kept from its start
+    -- what is kept after a path is kept from its start
     pub keeps_behind : (c d : ℕ) (xs : List Event) (fs : List LongEvent) (s u : State) (p : Path functions may c xs s u) → Keeps machine may (IsLevel u) d fs u
         → Keeps machine may (IsLevel s) (c + d) (p.events ++ fs) s
     keeps_behind c d xs fs s u p q =

@@ -104,7 +104,7 @@ both_tests false false = refl
 pub at_most_word : (a b : ℕ) → applied binary.Eq (applied binary.LtU b a) 0 ≡ flag (nat_le a b)
 at_most_word a b = ap flag (flag_zero (nat_lt b a) ∙ sym (le_is a b))
 
--- an address is below an upper bound, or at it where that counts too
+-- an address is below an upper bound, or at it if that counts too
 abbrev pub is_under : Bool → ℕ → ℕ → Bool
 is_under last q high = if last then nat_le q high else nat_lt q high
 

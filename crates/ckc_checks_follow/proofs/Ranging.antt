@@ -1,4 +1,4 @@
--- The code of a pointer puts its range behind it.
+-- The code of a pointer puts its range after it.
 use Rattle.std.proofs.Common.{◌≡◌, ◌⊎◌, inl, inr, ℕ, ◌^◌, ◌+◌, ◌-◌, ◌*◌, ◌≤◌, ◌<◌, ◌==◌, List, refl, sym, ◌∙◌, ap, subst, arith}
 use Rattle.std.specs.Prelude.{length, option_and_then, Bool, true, false, if◌then◌else◌, Some, None, Result, Ok, Err, not, slice_index, Option, ◌||◌, ℤ, pos, ◌+ℤ◌}
 use Rattle.ckc_base.specs.declared.arithmetic.BinOp.TheVariants as binary
@@ -71,7 +71,7 @@ module _ (functions : List Function) (callers : List Caller) (world : World) whe
     loads_none (Some m) = refl
     loads_none None = tt
 
-    -- two words go behind a value that is in t
+    -- two words are put after a value that is in t
     two_set : (low length : Expr) (t a b : ℕ) (more : Code) (rest : Rest) (before l : Values) (v : Value) → Below t l before → l t ≡ Some v.number
         → value_of l world.memory low ≡ Some a → value_of (with_written l (t + 1) a) world.memory length ≡ Some b → a < 2 ^ 32 → b < 2 ^ 32 → IsRangeOf v.range a b
         → Comes functions callers world 0 (nodes low + nodes length + 2) (at callers world (Set (t + 1) low (Set (t + 2) length more)) rest l) (Ok v) more rest (PutRange functions callers world t before)
@@ -95,7 +95,7 @@ module _ (functions : List Function) (callers : List Caller) (world : World) whe
           ),
         )
 
-    -- the same, the length first, where the lower bound is the value
+    -- the same, the length first, if the lower bound is the value
     own_set : (length : Expr) (t b : ℕ) (more : Code) (rest : Rest) (before l : Values) (v : Value) → Below t l before → l t ≡ Some v.number
         → value_of l world.memory length ≡ Some b → v.number < 2 ^ 32 → b < 2 ^ 32 → IsRangeOf v.range v.number b
         → Comes functions callers world 0 (nodes length + 3) (at callers world (Set (t + 2) length (Set (t + 1) (Local t) more)) rest l) (Ok v) more rest (PutRange functions callers world t before)
@@ -164,7 +164,7 @@ module _ (functions : List Function) (callers : List Caller) (world : World) whe
     same_kind one two low length (inl e) is = subst (λ range. IsRangeOf range low length) (sym e) is
     same_kind one two low length (inr e) is = subst (λ range. IsRangeOf range low length) (sym e) tt
 
-    -- one evaluation, and a few steps behind it that keep its value
+    -- one evaluation, and a few steps after it that keep its value
     moved_then : (m k j : ℕ) (st : State) (r : Result Value Halt) (last more : Code) (rest : Rest) (P R : Value → Values → Type 0) → m + k ≤ j → Comes functions callers world 1 m st r last rest P
         → ((v : Value) (l : Values) → P v l → Comes functions callers world 0 k (at callers world last rest l) (Ok v) more rest R) → Comes functions callers world 1 j st r more rest R
     moved_then m k j st (Ok v) last more rest P R few c next =
@@ -187,7 +187,7 @@ module _ (functions : List Function) (callers : List Caller) (world : World) whe
             inl (sym (ap range_in null))
         by false z = inr (ap (λ k. k == 0) number_is ∙ z)
 
-    -- the range of a pointer that is read, where its ends are these words
+    -- the range of a pointer that is read, if its ends are these words
     read_words : (to : Pointee) (m : ℕ) (from to_end : ℤ) (v : Value) (low high : ℕ) → reads s.shapes s.blocks to m from to_end ≡ Ok v → low < 2 ^ 32 → high < 2 ^ 32
         → ((a : ℕ) → from ≡ pos a → a < 2 ^ 32 → a ≡ low) → ((b : ℕ) → to_end ≡ pos b → b < 2 ^ 32 → b ≡ high) → IsRangeOf v.range low (applied binary.Sub high low)
     read_words to m from to_end v low high e small few is_low is_high = by (read_kind to m from to_end v e)
@@ -261,7 +261,7 @@ module _ (functions : List Function) (callers : List Caller) (world : World) whe
     counted_set to z w m t length more rest before l word small below h value (Err (Stopped why place)) e =
         absurd (let no : Gives m (Err (Stopped why place)) = subst (Gives m) e (reads_number s.shapes s.blocks to m (pos m) (elements_behind m to.size z)) in no)
 
-    -- a pointer with a count is loaded from behind the address of its structure, which is in t + 1
+    -- a pointer with a count is loaded from a place after the address of its structure, which is in t + 1
     member_set : (to : Pointee) (count : Count) (q t : ℕ) (more : Code) (rest : Rest) (before l : Values) (offset : ℕ) → IsCount count → offset < 2 ^ 32 → q < 2 ^ 32 → Below t l before → l (t + 1) ≡ Some q
         → (o : Option ℕ) → loaded Word (place_in q offset) s.blocks ≡ o
         → Comes functions callers world 1 16 (at callers world (Set t (Load Word (at_offset offset (Local (t + 1)))) (Set (t + 2) (length_at to.size count (t + 1)) (Set (t + 1) (Local t) more))) rest l)
@@ -289,7 +289,7 @@ module _ (functions : List Function) (callers : List Caller) (world : World) whe
         below1 : Below t l1 before
         below1 = λ x less. written_below l t m x less ∙ below x less
 
-        -- the two that come behind
+        -- the two that come after
         then_set : (length : Expr) (z : ℤ) (w : ℕ) → nodes length ≤ 8 → IsWord z 8589934592 w → value_of l1 world.memory length ≡ Some (applied binary.Mul to.size w)
             → Comes functions callers world 1 16 (at callers world (Set t (Load Word place) (Set (t + 2) length (Set (t + 1) (Local t) more))) rest l)
             (reads s.shapes s.blocks to m (pos m) (elements_behind m to.size z)) more rest (PutRange functions callers world t before)

@@ -42,7 +42,7 @@ module _ (functions : List source.Function) where
       (spot : Spot) × (e : source.Expr) × (body step rest : source.Code) × (code ≡ source.Loop spot e body step rest)
       × (b ≡ turn_code t e body) × (s ≡ statements t step) × (r ≡ statements t rest)
 
-  -- What comes behind the statements that run is the same in both. The flag says that they stand in the body of a loop.
+  -- What comes after the statements that run is the same in both. The flag says that they stand in the body of a loop.
   abbrev pub Behind : ℕ → Bool → List Work → C.Rest → Type 0
   Behind t looped [] Stop = IsTrue looped → ⊥
   Behind t looped (Rest code ∷ work) (Next c after) =
@@ -58,7 +58,7 @@ module _ (functions : List source.Function) where
   IsTurning t looped code work c rest =
       (s r : Code) × (after : C.Rest) × (rest ≡ Body c s r after) × IsLoop t code c s r × Behind t looped work after
 
-  -- What comes next, where ended lists are gone, is the same in both.
+  -- What comes next, if ended lists are gone, is the same in both.
   abbrev pub Front : ℕ → List Work → Code → C.Rest → Type 0
   Front t [] c rest = (c ≡ End) × (rest ≡ Stop)
   Front t (Rest code ∷ work) c rest =
@@ -103,7 +103,7 @@ module _ (functions : List source.Function) where
     pub world : SameWorld s u.world
 
   -- Core code comes to the same state in a few steps of which nothing is seen: at the entry of a function it sets
-  -- locals, and behind a call it may store the result in a block.
+  -- locals, and after a call it may store the result in a block.
   abbrev pub Related : List Function → S.State → C.State → Type 0
   Related core s u = Near (core_system core) plain_events MayLie AreLevel SameState 512 s u
 

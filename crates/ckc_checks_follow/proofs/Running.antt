@@ -22,7 +22,7 @@ at callers world code rest locals =
 -- ---- what comes of an evaluation
 
 -- From a state core code comes, in at least and in at most so many steps and with nothing seen, to where a value is had; or
--- it stops as the evaluation does. Nothing is asked where the evaluation is stuck.
+-- it stops as the evaluation does. Nothing is asked if the evaluation is stuck.
 abbrev pub Runs : {A : Type 0} → List Function → (least most : ℕ) → State → Result A Halt → (A → State → Type 0) → Type 0
 Runs functions least most s (Ok v) Q =
     (count : ℕ) × (u : State) × (least ≤ count) × (count ≤ most) × Quiet functions count s u × Q v u
@@ -40,7 +40,7 @@ module _ (functions : List Function) where
       (count + r.0, omega (arith, r.1), then_quiet_ends functions count r.0 s u (standing.Stopped why place) path r.2)
   first_runs count least n k s u (Err Stuck) Q few path r = tt
 
-  -- the same, where the stretch makes a step
+  -- the same, if the stretch makes a step
   pub later_runs : {A : Type 0} (count n k : ℕ) (s u : State) (x : Result A Halt) (Q : A → State → Type 0) → count + n ≤ k → 1 ≤ count
       → Quiet functions count s u → Runs functions 0 n u x Q → Runs functions 1 k s x Q
   later_runs count n k s u (Ok v) Q few some path r =

@@ -133,7 +133,7 @@ module _ (functions : List source.Function) (core : List Function) (t : ℕ) whe
       (around, subst (Stands functions t around (length work)) l.5 st, inr (s', r, after, refl, subst (λ c. IsLoop functions t c b s' r) l.5 l, h)) in
       subst (λ c. Settles most (placed s b (Body b s' r after)) (begun c (λ how. resumed how work) work)) (sym l.5) good
 
-  -- behind a loop
+  -- after a loop
   passing : (code : source.Code) (b s' r : Code) (around : Bool) (work : List Work) (after : C.Rest) (s : C.State) → Again work
       → IsLoop functions t code b s' r → Stands functions t around (length work) code → Behind functions t around work after
       → Settles (length work + 1) (placed s r after) (begun (behind code) (λ how. resumed how work) work)

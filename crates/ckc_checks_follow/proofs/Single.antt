@@ -145,7 +145,7 @@ one_is : (s : Store) (k : source.Expr) → is_one k ≡ true → evaluated s k �
 one_is s (source.Number n) h = ap plain (eqb-true n 1 h)
 one_is s k h = absurd cc
 
--- a value behind one that is 1
+-- a value after one that is 1
 pub behind_one : (s : Store) (k : source.Expr) (r : Result Value Halt) (f : Value → Value → Result Value Halt) → is_one k ≡ true
     → given_both r (evaluated s k) f ≡ given r (λ v. f v (record { number = 1; range = Without }))
 behind_one s k r f h = ap (λ q. given_both r q f) (one_is s k h)

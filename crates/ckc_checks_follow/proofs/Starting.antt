@@ -84,7 +84,7 @@ objects_spelled memory a low limit (o ∷ objects) agrees apart le region = (
       apart.1 (omega (arith, block_length o)) region,
 )
 
--- the first memory behind the heap word
+-- the first memory after the heap word
 first_agrees : (objects : List Object) (x : ℕ) → data_start + 4 ≤ x → x < data_end
     → first_memory (first_bytes objects) x ≡ Some (slice_index (image (data_start + 4) objects) (x - (data_start + 4)))
 unfolding first_memory
@@ -100,7 +100,7 @@ objects_same : (objects : List Object) (limit : ℕ) → AreApart first_place (m
 objects_same objects limit apart region =
     objects_spelled (first_memory (first_bytes objects)) (data_start + 4) first_place limit objects (first_agrees objects) apart (omega arith) region
 
--- ---- behind the objects
+-- ---- after the objects
 
 apart_wider : (low limit wide : ℕ) (bs : List Block) → AreApart low bs limit → limit ≤ wide → AreApart low bs wide
 apart_wider low limit wide [] apart h = omega arith

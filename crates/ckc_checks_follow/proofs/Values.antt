@@ -42,7 +42,7 @@ not_true : (p : Bool) → not p ≡ true → p ≡ false
 not_true true h = absurd cc
 not_true false h = refl
 
--- An evaluation has the value that is there. It stops nowhere, and nothing is asked where it is stuck.
+-- An evaluation has the value that is there. It stops nowhere, and nothing is asked if it is stuck.
 abbrev pub IsValue : Result Value Halt → Option ℕ → Type 0
 IsValue (Ok v) o = o ≡ Some v.number
 IsValue (Err Stuck) o = Unit {0}

@@ -116,7 +116,7 @@ least_of source.Nothing = 0
 least_of target = 1
 
 module _ (functions : List source.Function) (core : List Function) where
-  -- The parts of a state, with this work behind the statements in front, and of the core state that is the same.
+  -- The parts of a state, with this work after the statements in front, and of the core state that is the same.
   pub record Ready (s : S.State) (work : List Work) (looped : Bool) (ds : List C.Caller) (world : World) (rest : C.Rest) (l : Values) : Type 0 where
     pub behind : Behind functions s.frame.function.locals looped work rest
     pub callers : SameCallers functions s.callers ds
@@ -256,7 +256,7 @@ module _ (functions : List source.Function) (core : List Function) where
         inr (r.0, omega (arith, r.1), tt, quiet_ends r.0 u (standing.Stopped why place) r.2)
     then_matched m n k u (Err Stuck) f Q few r next = inl refl
 
-    -- what is written behind a path with these events
+    -- what is written after a path with these events
     pub then_written : (c least n k : ℕ) (events : List Event) (u w : C.State) (r : Result S.State Halt) → c + n ≤ k → 1 ≤ c + least
         → Path core may c events u w → Written least n w r → Matches u k (comes_to events r)
     then_written c least n k events u w (Ok t) few some path h =
@@ -271,7 +271,7 @@ module _ (functions : List source.Function) (core : List Function) where
           subst (λ es. PathEnds core may (c + h.0) es u (standing.Stopped why at)) (append-nil events) (then_ends core may c h.0 events [] u w (standing.Stopped why at) path h.2),
         )
 
-    -- what is written behind an evaluation
+    -- what is written after an evaluation
     pub then_comes_to : {A : Type 0} (first least m n k : ℕ) (u : C.State) (x : Result A Halt) (g : A → Result S.State Halt) (Q : A → C.State → Type 0)
         → m + n ≤ k → 1 ≤ first + least → Runs core first m u x Q → ((v : A) (w : C.State) → x ≡ Ok v → Q v w → Written least n w (g v))
         → Matches u k (and_moves x (λ v. comes_to [] (g v)))
@@ -281,7 +281,7 @@ module _ (functions : List source.Function) (core : List Function) where
         inr (r.0, omega (arith, r.1), tt, quiet_ends r.0 u (standing.Stopped why place) r.2)
     then_comes_to first least m n k u (Err Stuck) g Q few some r next = inl refl
 
-    -- a write to the place may be made, where the value may be written there
+    -- a write to the place may be made, if the value may be written there
     abbrev pub IsAllowed : Place → ℕ → Type 0
     IsAllowed to n = allowed to n ≡ Ok to → Permits may to n
 
@@ -386,7 +386,7 @@ module _ (functions : List source.Function) (core : List Function) where
         (more_steps 1 (nodes d + nodes e + 1) k u (writes (place.Memory a width None) n s1) few
         (stores_same s work looped ds world rest l code width a n d e (good (ap (λ z. refuses z (kept_part width n) (Ok (place.Memory a width zero_alone))) is)) r st g h (stored width a n s.blocks) refl))
 
-    -- a value is stored in both, behind its check
+    -- a value is stored in both, after its check
     stored_written : (through : Through) (s : S.State) (work : List Work) (looped : Bool) (ds : List C.Caller) (world : World) (rest : C.Rest) (l : Values) (code : source.Code) (spot : Pos) (width : Width) (is_byte : Bool)
         (t u a n : ℕ) (zero_alone : Option Pos) (d e : Expr) → IsAllowed (place.Memory a width zero_alone) n → Ready s work looped ds world rest l → Stands functions s.frame.function.locals looped (length work) code → s.frame.function.locals ≤ t → t + 2 ≤ u
         → IsMarked through spot t l zero_alone → ((later : Values) → Below (t + 2) later l → value_of later world.memory d ≡ Some a) → value_of l world.memory e ≡ Some n → (is_byte ≡ true → n < 256)

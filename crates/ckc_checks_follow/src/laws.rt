@@ -12,7 +12,7 @@ pub fn core_follows_source()
     ensures { (p : Program) → IsCompilable p → IsLaidOut p → IsFollowedByCore p }
 {}
 
-/// Where a program is never stuck, its core code stores in the program's blocks, in the heap word, and where the program
+/// If a program is never stuck, its core code stores in the program's blocks, in the heap word, and where the program
 /// writes: the steps of both can be listed side by side, with the same input and output and as many active calls, so that
 /// each store of core code is one that the program may make at its step there.
 pub fn core_stores_are_listed()

@@ -27,7 +27,7 @@ pub fn below_or_at(alloc: Global, a: CoreExpr, b: CoreExpr) -> Result<CoreExpr, 
     binary(alloc, BinOp::Eq, above, CoreExpr::Const(0))
 }
 
-/// Whether an address is below an upper bound, or at it where that counts too.
+/// Whether an address is below an upper bound, or at it if that counts too.
 pub fn upper_test(
     alloc: Global,
     last: bool,

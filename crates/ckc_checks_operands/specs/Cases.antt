@@ -33,7 +33,7 @@ abbrev pub is_absent : Option Variable → Bool
 is_absent None = true
 is_absent (Some x) = false
 
--- an end of limits that lies so many elements behind the pointer itself
+-- an end of limits that lies so many elements after the pointer itself
 abbrev pub is_fixed_end : LimitsEnd → ℤ → Bool
 is_fixed_end e add = is_own e.base && (is_absent e.variable && int_eq e.add add)
 
@@ -87,6 +87,6 @@ is_bounded Array = true
 is_bounded Terminated = true
 is_bounded _ = false
 
--- The range of any other pointer goes to the two temporaries behind it: its lower bound, and how many bytes it has.
+-- The range of any other pointer goes to the two temporaries after it: its lower bound, and how many bytes it has.
 abbrev pub takes_range : Through → source.Expr → Bool
 takes_range through p = is_bounded through && not (is_ranged p)

@@ -61,7 +61,7 @@ abbrev pub shift_nodes : Bool → ℕ
 shift_nodes true = 3
 shift_nodes false = 1
 
--- an index counts for nothing where it is a number
+-- an index counts for nothing if it is a number
 abbrev pub index_nodes : Expr → ℕ → ℕ
 index_nodes (Number n) count = 0
 index_nodes i count = count
@@ -231,7 +231,7 @@ IsChecked true shift = IsPlace shift.at × (1 ≤ shift.size) × (shift.size < 2
 abbrev pub IsShift : Shift → Type 0
 IsShift shift = (shift.size < 2 ^ 32) × IsChecked shift.checked shift
 
--- a bounds cast that is tested, where the flag does not say that it needs no test
+-- a bounds cast that is tested, if the flag does not say that it needs no test
 abbrev pub IsCast : ℕ → Bool → ℕ → Pos → Expr → Type 0
 IsCast locals true size at p = Unit {0}
 IsCast locals false size at p = IsPlace at × IsTestedSize size × HasRange locals p
@@ -296,7 +296,7 @@ abbrev pub HasParams : ℕ → Option Function → Type 0
 HasParams count (Some f) = f.params ≡ count
 HasParams count None = ⊥
 
--- Calls have as many arguments as the function has parameters, and `break` and `continue` stand only where the flag says
+-- Calls have as many arguments as the function has parameters, and `break` and `continue` stand only if the flag says
 -- that it is the body of a loop.
 abbrev pub IsCompilableCode : List Function → ℕ → Bool → Code → Type 0
 IsCompilableCode functions locals looped End = Unit {0}

@@ -33,7 +33,7 @@ fn is_absent(variable: Option<Variable>) -> bool
     }
 }
 
-/// Whether an end of limits lies so many elements behind the pointer itself.
+/// Whether an end of limits lies so many elements after the pointer itself.
 fn is_fixed_end(e: End, add: i32) -> bool
     ensures { result ≡ is_fixed_end e add }
 {

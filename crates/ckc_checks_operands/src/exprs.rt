@@ -53,7 +53,7 @@ pub fn is_direct(e: &ExprTree) -> bool
     }
 }
 
-/// An operation of the source: a > b is b < a, and a <= b is where a > b is not.
+/// An operation of the source: a > b is b < a, and a <= b holds if a > b does not.
 pub fn operated(
     alloc: Global,
     operation: Operation,
@@ -78,7 +78,7 @@ pub fn operated(
     }
 }
 
-/// 1 where a value is not zero, and else 0.
+/// 1 if a value is not zero, and else 0.
 pub fn as_truth(alloc: Global, e: CoreExpr) -> Result<CoreExpr, AllocError>
     ensures { IfOk result (λ c. expr_of c ≡ as_truth (expr_of e)) }
 {
@@ -98,7 +98,7 @@ pub fn is_zero(e: &CoreExpr) -> bool
     }
 }
 
-/// An operation with a constant on the right, which is left out where the flag says so.
+/// An operation with a constant on the right, which is left out if the flag says so.
 fn with_constant(
     alloc: Global,
     none: bool,

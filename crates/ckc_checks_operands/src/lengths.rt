@@ -41,7 +41,7 @@ pub fn length_at(alloc: Global, size: u32, count: Count, u: u32) -> Result<CoreE
     }
 }
 
-/// How many bytes of its range lie behind the pointer in t.
+/// How many bytes of its range lie after the pointer in t.
 fn bytes_left(alloc: Global, t: u32) -> Result<CoreExpr, AllocError>
     ensures { IfOk result (λ c. expr_of c ≡ bytes_left t) }
 {
@@ -51,7 +51,7 @@ fn bytes_left(alloc: Global, t: u32) -> Result<CoreExpr, AllocError>
     binary(alloc, BinOp::Sub, CoreExpr::Local(length), from)
 }
 
-/// Whether so many bytes lie behind the pointer in t in its range, with their count in the temporary `next`.
+/// Whether so many bytes lie after the pointer in t in its range, with their count in the temporary `next`.
 fn bytes_fit(
     alloc: Global,
     form: Integer,
@@ -75,7 +75,7 @@ fn bytes_fit(
     }
 }
 
-/// Whether so many elements of a size lie there. A negative count of them needs no test where an element has two bytes or
+/// Whether so many elements of a size lie there. A negative count of them needs no test if an element has two bytes or
 /// more: as a word it is 2^31 at least, and so many elements lie in no range.
 fn elements_fit(
     alloc: Global,

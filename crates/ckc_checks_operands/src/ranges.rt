@@ -85,7 +85,7 @@ pub fn takes_range(through: Through, p: &ExprTree) -> bool
     is_bounded(through) && !is_ranged(p)
 }
 
-/// How far behind its pointer an index is.
+/// How far after its pointer an index is.
 pub fn index_far(ranged: bool) -> u32
     ensures { result ≡ index_far ranged }
 {
@@ -109,7 +109,7 @@ pub fn keeps_index(checked: bool, i: &ExprTree) -> bool
     checked && !is_number(i)
 }
 
-/// Where the value of an operand is, which is always in the temporary t where the flag says so.
+/// Where the value of an operand is, which is always in the temporary t if the flag says so.
 pub fn held(alloc: Global, always: bool, e: &ExprTree, t: u32) -> Result<CoreExpr, AllocError>
     ensures { IfOk result (λ c. expr_of c ≡ held always (source_of e.now) t) }
 {
@@ -144,7 +144,7 @@ fn high_word(
     Ok(CoreExpr::High(is_signed, a, b))
 }
 
-/// Whether the address in a temporary is carried over, or borrows, where an index is added or subtracted.
+/// Whether the address in a temporary is carried over, or borrows, if an index is added or subtracted.
 fn carry(
     alloc: Global,
     back: bool,
@@ -258,7 +258,7 @@ fn counted_end(
     }
 }
 
-/// An end of the range of a pointer, the upper one where the flag says so.
+/// An end of the range of a pointer, the upper one if the flag says so.
 fn range_end(alloc: Global, upper: bool, p: &ExprTree) -> Result<CoreExpr, AllocError>
     ensures { IfOk result (λ c. expr_of c ≡ range_end upper (source_of p.now)) }
 {
@@ -315,14 +315,14 @@ fn range_test(alloc: Global, last: bool, p: &ExprTree, t: u32) -> Result<CoreExp
     binary(alloc, BinOp::And, above, below)
 }
 
-/// How far the address in a temporary is behind a lower bound in another one.
+/// How far the address in a temporary is after a lower bound in another one.
 pub fn from_low(alloc: Global, t: u32, low: u32) -> Result<CoreExpr, AllocError>
     ensures { IfOk result (λ c. expr_of c ≡ Expr.Bin Sub (Expr.Local t) (Expr.Local low)) }
 {
     binary(alloc, BinOp::Sub, CoreExpr::Local(t), CoreExpr::Local(low))
 }
 
-/// Whether the address in a temporary lies in the range in the two behind it.
+/// Whether the address in a temporary lies in the range in the two after it.
 pub fn held_test(alloc: Global, last: bool, t: u32) -> Result<CoreExpr, AllocError>
     ensures { IfOk result (λ c. expr_of c ≡ held_test last t) }
 {

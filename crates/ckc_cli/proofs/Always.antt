@@ -1,4 +1,4 @@
--- What comes always: where the store tells the bytes, and no fault of the store is in the way, or memory.
+-- What comes always, if the store tells the bytes, and no fault of the store is in the way, or memory.
 use Rattle.std.proofs.Common.{◌≡◌, ◌⊎◌, inl, inr, ℕ, List, [], ◌∷◌, Option, None, Some, IsTrue, refl, sym, ap, subst, ◌∙◌}
 use Rattle.ckc_base.specs.declared.places.Refusal.{Refusal}
 use Rattle.ckc_outside.specs.Outside.{Files, Stored, Rose}

@@ -120,7 +120,7 @@ module _ (text : List ℕ) (parts : Parts) (built : Built text parts) (limit : �
   abbrev Runs : Observed → Type 0
   Runs o = Ran parts limit before after untaken o
 
-  -- what a run shows over one input, where no object failed
+  -- what a run shows over one input, if no object failed
   record Plain (o : Observed) (given left : List ℕ) : Type 0 where
     says : Says o (machine parts given limit).standing
     put : Printed before.output.written after.output.written (output (machine parts given limit).trace)
@@ -166,7 +166,7 @@ module _ (text : List ℕ) (parts : Parts) (built : Built text parts) (limit : �
       over_input (observed.Fault kind pc) (λ given a b s. s) ran (λ given left. ComesToBeStuck built.program given)
       (λ given left bytes s. fault_as built.program parts given (built.follows given bytes) limit (kind_number kind) pc s.says)
 
-  -- ---- where no object fails
+  -- ---- if no object fails
 
   module _ (o : Observed) (read : o ≢ observed.ReadFault) (write : o ≢ observed.WriteFault) (ran : Runs o) where
     plainly : (given : List ℕ) (a b : World) (q : Observed) → q ≢ observed.ReadFault → q ≢ observed.WriteFault → ShownOver parts given limit a b q → Shown parts given limit a b q

@@ -24,7 +24,7 @@ use Rattle.ckc_cli.proofs.OneCommand.{reads_once}
 use Rattle.ckc_cli.proofs.OneOutcome.{Form, formed, keeper, interpreter}
 use Rattle.ckc_cli.proofs.Statuses.{true_false, not_shown, unshown_meant}
 
--- another name is not found where bytes were put under this one
+-- another name is not found if bytes were put under this one
 apart : (name other : List ℕ) → other ≢ name → eq_by_cmp (slice_cmp nat_cmp) other name ≡ false
 apart name other n = by_test (bytes_eq name other) refl
   where
@@ -44,7 +44,7 @@ rose_by_one : (n m : ℕ) → m ≡ one_more n → Rose n m
 rose_by_one n m e = grind (arith, e)
 
 module _ (words : List (List ℕ)) (before after : World) (same : Untouched) where
-  -- no meaning is asked for where memory ran out
+  -- no meaning is asked for if memory ran out
   abbrev pub NoneAsked : Status → Type 0
   NoneAsked s = (name : List ℕ) (limit : ℕ) → s ≡ status.Memory → ¬ Reads words (Interp name limit)
 

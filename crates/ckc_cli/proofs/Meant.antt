@@ -168,7 +168,7 @@ module _ (words : List (List ℕ)) (before after : World) (same : Untouched) (na
   pub meaning : Meaning name limit before after same s
   meaning = record { shown = shown_by; memory = memory_by; always = always_by }
 
--- ---- where no object fails
+-- ---- if no object fails
 
 module _ (name : List ℕ) (limit : ℕ) (before after : World) (same : Untouched) (s : Status) (meaning : Meaning name limit before after same s)
     (text : List ℕ) (p : Program) (there : Tells before.store.files name text) (m : HasMeaning text p) where

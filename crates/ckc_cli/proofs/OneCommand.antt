@@ -24,7 +24,7 @@ limit_in (word ∷ other ∷ more) = digits_value 10 other
 abbrev letters : List ℕ → ℕ
 letters word = 256 * get_or word 0 0 + get_or word 1 0
 
--- the command that words read, where they read one
+-- the command that words read, if they read one
 abbrev read_as : ℕ → List (List ℕ) → Command
 read_as k more =
     cond (k == letters (codes "build")) (Build (first more) (second more))

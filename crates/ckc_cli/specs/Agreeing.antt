@@ -19,8 +19,8 @@ use Rattle.ckc_cli.specs.Meaning.{standing_after}
 
 -- ---- inputs
 
--- Where the input is one of bytes, something holds of what was left of it before and of what is left then: over what
--- the input tells to be left, and over any input, whatever may come behind the bytes that it gave.
+-- If the input is one of bytes, something holds of what was left of it before and of what is left then: over what
+-- the input tells to be left, and over any input, whatever may come after the bytes that it gave.
 pub record OverInput (before after : World) (Holds : List ℕ → List ℕ → Type 0) : Type 0 where
   pub told : WhereTold before.input.left after.input.left (λ given left. AreBytes given → Holds given left)
   pub any : OverAny before.input after.input (λ given left. AreBytes given → Holds given left)
@@ -32,11 +32,11 @@ OfInput told Holds =
 
 -- ---- what was put and taken
 
--- where what was written is told, what came after it is a front of these bytes
+-- if what was written is told, what came after it is a front of these bytes
 abbrev pub PrintedPart : Option (List ℕ) → Option (List ℕ) → List ℕ → Type 0
 PrintedPart old new bytes = (put : List ℕ) × IsPrefix put bytes × Printed old new put
 
--- where what was written is told, these bytes are a front of what came after it
+-- if what was written is told, these bytes are a front of what came after it
 abbrev pub PrintedFirst : Option (List ℕ) → Option (List ℕ) → List ℕ → Type 0
 PrintedFirst old new bytes = (put : List ℕ) × IsPrefix bytes put × Printed old new put
 
@@ -96,9 +96,9 @@ PutsInTime p limit bytes given =
 -- ---- the headline
 
 -- `exec` with a name and a limit ends, and stops at a check, only as the meaning of the text does, with the bytes that
--- it puts and takes, or where the meaning comes to be stuck. Where the limit is reached, the bytes that were put and
--- taken are a front of those that the meaning puts and takes. A fault of the machine is shown only where the meaning
--- comes to be stuck. Where no object fails, it always ends and stops as the meaning does in time, and what the meaning
+-- it puts and takes, or if the meaning comes to be stuck. If the limit is reached, the bytes that were put and
+-- taken are a front of those that the meaning puts and takes. A fault of the machine is shown only if the meaning
+-- comes to be stuck. If no object fails, it always ends and stops as the meaning does in time, and what the meaning
 -- puts in time was put, but for want of memory.
 pub record Headline (name : List ℕ) (limit : ℕ) (before after : World) (s : Status) : Type 0 where
   pub ended : (value : ℕ) → s ≡ status.Ended value → OfFile before.store.files name (StandsAsMeant (Ended value) before after)

@@ -48,7 +48,7 @@ AsksToKeep words name = (text : List ℕ) × (Reads words (Build text name) ⊎ 
 
 -- ---- outcomes
 
--- Two outcomes are the same, but for which image is kept or run where a text has several.
+-- Two outcomes are the same, but for which image is kept or run if a text has several.
 abbrev pub Agrees : Outcome → Outcome → Type 0
 Agrees (Refuses fault) (Refuses other) = fault ≡ other
 Agrees (IsBad part) (IsBad other) = part ≡ other
@@ -94,7 +94,7 @@ abbrev pub RanBuilt : List ℕ → ℕ → World → World → Untouched → Sta
 RanBuilt text limit before after same s =
     (parts : Parts) × (o : Observed) × Built text parts × (s ≡ status_of o) × Ran parts limit before after same.input o
 
--- Where the files are told, every name but this one holds what it held.
+-- If the files are told, every name but this one holds what it held.
 abbrev pub KeepsOthers : List ℕ → Option Files → Option Files → Type 0
 KeepsOthers name files files' =
     (here : Files) → files ≡ Some here → (kept : Files) × (files' ≡ Some kept) × ((other : List ℕ) → other ≢ name → fin.get kept other ≡ fin.get here other)

@@ -1,4 +1,4 @@
-//! Laws: what is so where a status comes.
+//! Laws: what is so if a status comes.
 ghost use Rattle.std.specs.Prelude.{◌≡◌, ◌≢◌, ◌↔◌, ℕ, List, IsTrue, Option};
 ghost use Rattle.ckc_base.specs.declared.places.Refusal.{Refusal};
 ghost use Rattle.ckc_base.specs.declared.places.Pos.{Pos};
@@ -14,7 +14,7 @@ use ckc_cli_commands::Status;
 
 /// Each status comes only with its cause.
 pub fn statuses_have_causes<S, O, F>()
-    // Usage comes exactly where no command has the words, and then nothing is fetched.
+    // Usage comes exactly when no command has the words, and then nothing is fetched.
     ensures usage { FromCause S O F (λ words before after same s.
         (s ≡ Status.Usage) ↔ ((command : Command) → ¬ Reads words command)) }
     ensures unasked { FromCause S O F (λ words before after same s.
@@ -30,7 +30,7 @@ pub fn statuses_have_causes<S, O, F>()
         (part : ℕ) → s ≡ Status.BadImage part → Over words before.store.files
         (λ command bytes. Makes command bytes (outcome.IsBad part))) }
 
-    // Done comes only where an image was kept or a listing put.
+    // Done comes only if an image was kept or a listing put.
     ensures done { FromCause S O F (λ words before after same s.
         s ≡ Status.Done → Over words before.store.files (IsDone before after)) }
 
@@ -46,7 +46,7 @@ pub fn statuses_have_causes<S, O, F>()
         → (name : List ℕ) × (limit : ℕ) × Reads words (Interp name limit)) }
 {}
 
-/// The faults of the objects come only where their counts rose.
+/// The faults of the objects come only if their counts rose.
 pub fn faults_have_causes<S, O, F>()
     ensures read_fault { FromCause S O F (λ words before after same s.
         s ≡ Status.ReadFault → Rose before.input.faults after.input.faults) }

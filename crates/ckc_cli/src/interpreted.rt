@@ -42,7 +42,7 @@ pub fn interp_shows<S, O, F>()
         (ShowsMeaning limit before after Seen.Memory)) }
 {}
 
-/// It always does so where the input is told and no object fails.
+/// It always does so if the input is told and no object fails.
 pub fn interp_shows_always<S, O, F>()
     ensures interp_ended_always { FromCause S O F (λ words before after same s.
         (name text given : List ℕ) (limit n value : ℕ) (p : Program)

@@ -7,9 +7,9 @@ ghost use Rattle.ckc_cli.specs.Laws.{FromCause, Over, AsksToKeep, HasImage, Keep
 
 use ckc_cli_commands::Status;
 
-/// Where nothing is put and taken.
+/// When nothing is put and taken.
 pub fn calls_touch<S, O, F>()
-    // Only where `interp` runs out of memory may bytes have been put or taken before.
+    // Only if `interp` runs out of memory may bytes have been put or taken before.
     ensures idle_quietly { FromCause S O F (λ words before after same s.
         shows_run s ≡ false → s ≢ Status.Done
         → ((name : List ℕ) (limit : ℕ) → s ≡ Status.Memory → ¬ Reads words (Interp name limit))
@@ -38,14 +38,14 @@ pub fn files_stay<S, O, F>()
     ensures refused_keeps { FromCause S O F (λ words before after same s.
         s ≢ Status.Done → s ≢ Status.StoreFault → s ≢ Status.Memory
         → after.store.files ≡ before.store.files) }
-    // Where no call of keep was made the files are as they were, whatever the status.
+    // If no call of keep was made the files are as they were, whatever the status.
     ensures unkept_files { FromCause S O F (λ words before after same s.
         ¬ Rose before.store.keeps after.store.keeps
         → after.store.files ≡ before.store.files) }
 {}
 
 /// At most one call of keep is made, of an image that the command is to keep, and none but for build and asm; it is done
-/// only where the status is Done.
+/// only if the status is Done.
 pub fn calls_keep<S, O, F>()
     ensures keeps_once { FromCause S O F (λ words before after same s.
         (after.store.keeps ≡ before.store.keeps)

@@ -1,4 +1,4 @@
-//! Laws: which statuses come always, where the store tells the bytes, but for want of memory and a fault of the store
+//! Laws: which statuses come always, if the store tells the bytes, but for want of memory and a fault of the store
 //! that matters.
 ghost use Rattle.std.specs.Prelude.{◌≡◌, ◌⊎◌, ℕ, List, [], ◌∷◌};
 ghost use Rattle.ckc_base.specs.declared.places.Refusal.{Refusal};

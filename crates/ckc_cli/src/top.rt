@@ -59,7 +59,7 @@ pub fn ccc<S: Source, O: Sink, E: Sink, F: Store>(
     status
 }
 
-/// Puts the line of a status, where it has one.
+/// Puts the line of a status, if it has one.
 fn tell<E: Sink>(status: &Status, err: &mut E)
     ensures report { Reported (report_of status.now)
         (E.seen err.old).written (E.seen err.new).written

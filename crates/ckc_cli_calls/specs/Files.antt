@@ -12,7 +12,7 @@ use Rattle.ckc_outside.specs.Outside.{Files, Stored, Rose, one_more, after_keep}
 abbrev pub Holds : Option Files → List ℕ → List ℕ → Type 0
 Holds files name bytes = (here : Files) → files ≡ Some here → fin.get here name ≡ Some bytes
 
--- what keeping the bytes under a name leaves, where the files are told
+-- what keeping the bytes under a name leaves, if the files are told
 abbrev pub Kept : Option Files → List ℕ → List ℕ → Result (Unit {0}) StoreError → Option Files → Type 0
 Kept files name bytes result files' = (here : Files) → files ≡ Some here → outside.Keeps here name bytes result files'
 
@@ -34,7 +34,7 @@ pub record KeptOnce (before after : Stored) (name bytes : List ℕ) (result : Re
   pub keeps : after.keeps ≡ one_more before.keeps
   pub kept : after.kept ≡ after_keep result before.kept
 
--- a steady store that tells its files fails only where it lacks the name
+-- a steady store that tells its files fails only if it lacks the name
 abbrev pub IsLacking : Stored → List ℕ → Type 0
 IsLacking before name = (here : Files) → IsTrue before.steady → before.files ≡ Some here → fin.get here name ≡ None
 

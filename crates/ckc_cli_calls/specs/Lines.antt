@@ -2,14 +2,14 @@
 use Rattle.std.specs.Prelude.{◌≡◌, ◌⊎◌, ℕ, List, [], ◌∷◌, ◌++◌, take, Option, Some}
 use Rattle.ckc_outside.specs.Outside.{one_more}
 
--- The line was put in one call: all of it, or a front of it where the count of the sink rose. A line that is empty
+-- The line was put in one call: all of it, or a front of it if the count of the sink rose. A line that is empty
 -- is not put.
 abbrev pub Reported : List ℕ → Option (List ℕ) → Option (List ℕ) → Type 0 → Type 0
 Reported [] old new rose = new ≡ old
 Reported (c ∷ line) old new rose =
     (before : List ℕ) → old ≡ Some before → (new ≡ Some (before ++ c ∷ line)) ⊎ (rose × (k : ℕ) × (new ≡ Some (before ++ take k (c ∷ line))))
 
--- how many pieces were put, where an empty line is not put
+-- how many pieces were put; an empty line is not put
 abbrev pub puts_after : List ℕ → ℕ → ℕ
 puts_after [] n = n
 puts_after (c ∷ line) n = one_more n

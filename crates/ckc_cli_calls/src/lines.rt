@@ -4,7 +4,7 @@ ghost use Rattle.ckc_cli_calls.specs.Lines.{Reported, puts_after};
 
 use ckc_outside::Sink;
 
-/// Puts a line, where it is not empty, in one call.
+/// Puts a line, if it is not empty, in one call.
 pub fn put_line<E: Sink>(line: &[u8], err: &mut E)
     ensures report { Reported line.now (E.seen err.old).written (E.seen err.new).written
         (Rose (E.seen err.old).faults (E.seen err.new).faults) }

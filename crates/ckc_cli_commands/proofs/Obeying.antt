@@ -81,7 +81,7 @@ pub rose_from : (a b c : ℕ) → a ≤ b → Rose b c → Rose a c
 rose_from a b c h (inl r) = inl (omega (arith, h, r))
 rose_from a b c h (inr r) = inr r
 
--- what one call of keep leaves, where nothing was kept before it
+-- what one call of keep leaves, if nothing was kept before it
 pub kept_once : (before middle after : Stored) (name bytes : List ℕ) (given result : Result (Unit {0}) errors.StoreError) → given ≡ result → Unkept before middle
     → ((here : Files) → middle.files ≡ Some here → outside.Keeps here name bytes given after.files)
     → after.keeps ≡ one_more middle.keeps → after.kept ≡ after_keep given middle.kept → KeptOnce before after name bytes result

@@ -41,7 +41,7 @@ OfText {B} IsRefused IsMade outcome text o = (made : B) × IsMade text made × (
 abbrev pub AsImage : (List ℕ → Parts → Type 0) → List ℕ → List ℕ → Type 0
 AsImage IsMade text image = (parts : Parts) × IsMade text parts × IsImage image parts
 
--- k is the first part that disagrees, and 3 where there are too many bytes
+-- k is the first part that disagrees, and 3 if there are too many bytes
 abbrev pub BadBytes : List ℕ → ℕ → Type 0
 BadBytes bytes k = ((longest_image < length bytes) × (k ≡ 3)) ⊎ ((length bytes ≤ longest_image) × FirstBad bytes k)
 

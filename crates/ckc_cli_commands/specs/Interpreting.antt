@@ -11,7 +11,7 @@ use Rattle.ckc_cli_commands.specs.declared.status.Status.TheVariants as status
 use Rattle.ckc_cli_commands.specs.World.{World}
 
 -- A run of the meaning of a program within a limit of steps shows this: over what the input tells to be left, and over
--- any input, whatever may come behind the bytes that it gave. A fault of an object comes only where its count rose.
+-- any input, whatever may come after the bytes that it gave. A fault of an object comes only if its count rose.
 pub record Interpreted (p : Program) (limit : ℕ) (before after : World) (o : seens.Seen) : Type 0 where
   pub told : WhereTold before.input.left after.input.left (Interprets p limit before.output.written after.output.written o)
   pub any : OverAny before.input after.input (Interprets p limit before.output.written after.output.written o)

@@ -60,7 +60,7 @@ report_words WriteFault = codes "fault: output"
 report_words StoreFault = codes "fault: store"
 report_words Memory = codes "fault: memory"
 
--- the words of a status and LF, or nothing where it has none
+-- the words of a status and LF, or nothing if it has none
 abbrev pub ended_line : List ℕ → List ℕ
 ended_line [] = []
 ended_line (c ∷ words) = c ∷ words ++ 10 ∷ []

@@ -26,8 +26,8 @@ ShownOver parts given limit before after observed.WriteFault =
     FailsToPut parts given 0 limit after.input.left before.output.written after.output.written before.output.faults after.output.faults
 ShownOver parts given limit before after o = Shown parts given limit before after o
 
--- What is shown over what the source tells to be left, and over any source, whatever may come behind the bytes that it
--- gave; nothing is taken from a source where no instruction asks for a byte. A fault of an object comes only where its
+-- What is shown over what the source tells to be left, and over any source, whatever may come after the bytes that it
+-- gave; nothing is taken from a source if no instruction asks for a byte. A fault of an object comes only if its
 -- count rose.
 pub record Ran (parts : Parts) (limit : ℕ) (before after : World) (untaken : Type 0) (o : Observed) : Type 0 where
   pub shown : (given : List ℕ) → before.input.left ≡ Some given → ShownOver parts given limit before after o
@@ -45,7 +45,7 @@ status_of (observed.Fault kind pc) = status.MachineFault kind pc
 status_of observed.ReadFault = status.ReadFault
 status_of observed.WriteFault = status.WriteFault
 
--- where what was written is told, a front of these bytes came after it
+-- if what was written is told, a front of these bytes came after it
 abbrev pub ListedFront : Option (List ℕ) → Option (List ℕ) → List ℕ → Type 0
 ListedFront old new bytes = (before : List ℕ) → old ≡ Some before → (k : ℕ) × (new ≡ Some (before ++ take k bytes))
 

@@ -13,7 +13,7 @@ pub data Command : Type 0 where
   Run : (image : List ℕ) (limit : ℕ) → Command
   Show : (image : List ℕ) → Command
 
--- the limit where the words say none
+-- the limit if the words say none
 abbrev pub usual_limit : ℕ
 usual_limit = 1000000000
 
@@ -24,7 +24,7 @@ pub record IsLimit (word : List ℕ) (limit : ℕ) : Type 0 where
   pub value : limit ≡ digits_value 10 word
   pub positive : 1 ≤ limit
 
--- a name and perhaps a limit behind it
+-- a name and perhaps a limit after it
 abbrev pub NameAndLimit : List (List ℕ) → List ℕ → ℕ → Type 0
 NameAndLimit words name limit =
     ((words ≡ name ∷ []) × (limit ≡ usual_limit)) ⊎ ((word : List ℕ) × (words ≡ name ∷ word ∷ []) × IsLimit word limit)

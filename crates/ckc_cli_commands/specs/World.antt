@@ -23,7 +23,7 @@ pub record Untouched : Type 1 where
   pub output : Type 0
   pub store : Type 0
 
--- an object was not touched where it is the same after the call
+-- an object was not touched if it is the same after the call
 abbrev pub untouched : {S O F : Type 0} → S → S → O → O → F → F → Untouched
 untouched input input' out out' store store' = record { input = input' ≡ input; output = out' ≡ out; store = store' ≡ store }
 

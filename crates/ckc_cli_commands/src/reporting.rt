@@ -9,7 +9,7 @@ use ckc_asm_listing::TextLine;
 use ckc_base::{Check, Pos, Refusal, check_name};
 use ckc_machine::FaultKind;
 
-/// The line of a status, LF included; nothing where the status has none.
+/// The line of a status, LF included; nothing if the status has none.
 pub fn report(status: &Status) -> TextLine
     ensures { result ≡ report_of status.now }
 {

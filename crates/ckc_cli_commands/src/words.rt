@@ -28,7 +28,7 @@ enum Keyword {
     List,
 }
 
-/// The limit where the words say none.
+/// The limit if the words say none.
 const USUAL_LIMIT: u64 = 1_000_000_000;
 
 /// The command that the words are.

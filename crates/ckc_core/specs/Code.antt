@@ -17,7 +17,7 @@ pub data Expr : Type 0 where
   Bin : (op : BinOp) (left right : Expr) → Expr
   High : (is_signed : Bool) (left right : Expr) → Expr
 
--- Statements, each with those that come behind it; End is the end of a list.
+-- Statements, each with those that come after it; End is the end of a list.
 pub data Code : Type 0 where
   End : Code
   Set : (local : ℕ) (value : Expr) (rest : Code) → Code

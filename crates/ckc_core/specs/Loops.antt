@@ -9,7 +9,7 @@ does_something (Break rest) = false
 does_something (Continue rest) = false
 does_something code = true
 
--- How many loops have a body that does nothing. What stands behind a Break, a Continue or a Return never runs.
+-- How many loops have a body that does nothing. What stands after a Break, a Continue or a Return never runs.
 abbrev pub idle_in : Code → ℕ
 idle_in End = 0
 idle_in (Set x e rest) = idle_in rest

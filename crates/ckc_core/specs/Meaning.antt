@@ -19,7 +19,7 @@ use Rattle.ckc_core.specs.Code.{Expr, Const, Local, Load, Bin, High, Code, End, 
 abbrev pub both : (ℕ → ℕ → ℕ) → Option ℕ → Option ℕ → Option ℕ
 both f x y = option_and_then (λ a. option_map (f a) y) x
 
--- the value of an expression; none where it reads a local that is not written, or loads where it may not
+-- the value of an expression; none if it reads a local that is not written, or loads where it may not
 abbrev pub value_of : Values → Memory → Expr → Option ℕ
 value_of locals memory (Const n) = Some n
 value_of locals memory (Local x) = locals x
@@ -47,15 +47,15 @@ all_nodes (e ∷ es) = nodes e + all_nodes es
 
 -- ---- states
 
--- What comes behind the statements that run: the end of the function; the statements behind an `If`; or, in the body
--- or in the step of a loop, the loop, the statements behind it, and what comes behind those.
+-- What comes after the statements that run: the end of the function; the statements after an `If`; or, in the body
+-- or in the step of a loop, the loop, the statements after it, and what comes after those.
 pub data Rest : Type 0 where
   Stop : Rest
   Next : (code : Code) (after : Rest) → Rest
   Body : (body step code : Code) (after : Rest) → Rest
   Step : (body step code : Code) (after : Rest) → Rest
 
--- an active call: the statements that come next, what comes behind them, and the locals
+-- an active call: the statements that come next, what comes after them, and the locals
 pub record Frame : Type 0 where
   pub code : Code
   pub rest : Rest
@@ -81,7 +81,7 @@ active s = length s.callers + 1
 abbrev pub goes_to : State → Code → Rest → Move LongEvent State
 goes_to s code rest = Goes [] (record s { frame = record s.frame { code = code; rest = rest } })
 
--- a statement's action is done, and the statements behind it come next
+-- a statement's action is done, and the statements after it come next
 abbrev pub goes_by : State → Code → Outcome → Move LongEvent State
 goes_by s code (Gives events x value world) =
     Goes events (record s { frame = record s.frame { code = code; locals = with_written s.frame.locals x value }; world = world })
@@ -126,7 +126,7 @@ ends s (Next code after) = goes_to s code after
 ends s (Body body step code after) = goes_to s step (Step body step code after)
 ends s (Step body step code after) = goes_to s body (Body body step code after)
 
--- a `Break` goes behind the innermost loop in whose body it stands
+-- a `Break` goes to what comes after the innermost loop in whose body it stands
 abbrev pub breaks : State → Rest → Move LongEvent State
 breaks s Stop = Halts [] Stuck
 breaks s (Next code after) = breaks s after

@@ -20,7 +20,7 @@ abbrev pub IsPlace : Pos → Type 0
 IsPlace at = (at.line < 2 ^ 32) × (at.col < 2 ^ 32)
 
 -- The statements name locals and functions that are there, calls have as many arguments as the function has
--- parameters, and Break and Continue stand only where the flag says that it is the body of a loop.
+-- parameters, and Break and Continue stand only if the flag says that this is the body of a loop.
 abbrev pub IsCodeOver : List Function → ℕ → Bool → Code → Type 0
 IsCodeOver functions locals looped End = Unit {0}
 IsCodeOver functions locals looped (Set x e rest) =

@@ -9,7 +9,7 @@ pub struct Core {
     pub main: u32,
 }
 
-/// A function: its locals are numbered from 0, and the first of them are its parameters. It gives 0 where its
+/// A function: its locals are numbered from 0, and the first of them are its parameters. It gives 0 if its
 /// body comes to its end.
 #[derive(Drop)]
 pub struct CoreFunc {
@@ -18,7 +18,7 @@ pub struct CoreFunc {
     pub body: Seq<CoreStmt>,
 }
 
-/// An expression. It gives a word and changes nothing. `High` is the upper word of a product, signed where the
+/// An expression. It gives a word and changes nothing. `High` is the upper word of a product, signed if the
 /// flag says so.
 #[derive(Drop)]
 pub enum CoreExpr {
@@ -33,7 +33,7 @@ pub enum CoreExpr {
 /// that gets a byte or the place of a block.
 ///
 /// - `Store` has the address, then the value.
-/// - `Check` stops where its expression is zero.
+/// - `Check` stops if its expression is zero.
 /// - `Call` has the number of the function and the place at which a call too deep stops.
 /// - `Alloc` has the count of elements and the size of one.
 /// - `Loop` has the body and the step. It goes on until a `Break` in the body; `Continue` goes to the step.

@@ -1,4 +1,4 @@
--- The heap: a block is claimed where it fits.
+-- The heap: a block is claimed if it fits.
 use Rattle.std.proofs.Common.{◌≡◌, inl, inr, ℕ, zero, suc, ◌+◌, ◌-◌, ◌*◌, ◌/◌, ◌%◌, ◌^◌, ◌≤◌, ◌<◌, ◌==◌, nat_lt, not, ◌&&◌, if◌then◌else◌, false, sym, ap, ◌∙◌, arith}
 use Rattle.std.specs.Prelude.{nat_le}
 use Rattle.std.proofs.lemmas.Int.{ints}
@@ -10,7 +10,7 @@ use Rattle.ckc_rv_operations.specs.declared.operations.BranchOp.TheVariants.{Bge
 use Rattle.ckc_rv_operations.specs.declared.operations.RegOp.TheVariants.{Divu, Srl, Sll}
 use Rattle.ckc_emit.proofs.Tests.{lt_is, lt_not, le_is, le_not}
 
--- the first branch is taken where the count is not positive
+-- the first branch is taken if the count is not positive
 pub not_positive : (n : ℕ) → n < 2 ^ 32 → is_taken Bge 0 n ≡ not (nat_lt 0 n && nat_lt n (2 ^ 31))
 not_positive n h = grind (arith, ints, nat_tests)
 
@@ -31,7 +31,7 @@ quotient_step room size =
     let g : (room / suc size + 1) * suc size ≡ suc size * (room / suc size) + suc size = omega (arith, add-mul (room / suc size) 1 (suc size), mul_comm (room / suc size) (suc size)) in
     omega arith
 
--- a block of count elements fits where its count is at most the quotient of the room
+-- a block of count elements fits if its count is at most the quotient of the room
 pub fits_by_quotient : (room count size : ℕ) → room < 2 ^ 32 → count < 2 ^ 31 → nat_lt (reg_value Divu room size) count ≡ not (nat_le (count * size) room)
 fits_by_quotient room count zero h k =
     let none : count * 0 ≡ 0 = omega arith in

@@ -36,7 +36,7 @@ use Rattle.ckc_emit.proofs.Tests.{eq_is, or_first, or_second}
 
 -- ---- the values of arguments
 
--- what of a list of values is known, where the first and the rest are
+-- what of a list of values is known, if the first and the rest are
 pub record IsSplit (o : Option ℕ) (more : Option (List ℕ)) (values : List ℕ) : Type 0 where
   pub first : ℕ
   pub rest : List ℕ
@@ -242,7 +242,7 @@ module _ (c : Code) where
 
   -- ---- one call too many
 
-  -- Where the frame is the lowest, the machine stops, after the registers are saved.
+  -- If the frame is the lowest, the machine stops, after the registers are saved.
   pub record TooDeep (xs : List Line) (l : Local) (at : Pos) : Type 0 where
     pub mid : Local
     pub ys : List Line

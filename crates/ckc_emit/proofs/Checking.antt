@@ -50,7 +50,7 @@ small_count : (n : ℕ) → n < 2048 → constant_count n ≡ 1
 small_count n h = ap (λ u. if u == 0 || is_round n then 1 else 2) (upper_zero n h)
 
 module _ (c : Code) where
-  -- the lines behind those that set a register
+  -- the lines after those that set a register
   skip_by : (pc : ℕ) (i j k m : Instr) (rest : List Line) (a b : Bool)
       → LinesAt c pc (if a then line.Plain i ∷ rest else (if b then line.Plain j ∷ rest else (line.Plain k ∷ line.Plain m ∷ rest))) → LinesAt c (pc + (if a || b then 1 else 2) * 4) rest
   skip_by pc i j k m rest true b at = at.1

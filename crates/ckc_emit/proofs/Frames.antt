@@ -21,7 +21,7 @@ use Rattle.ckc_emit.proofs.Homes.{HasPlaces, IsFramed}
 use Rattle.ckc_emit.proofs.Relation.{HasWorld}
 
 module _ (functions : List PlacedFunc) (c : Code) where
-  -- The function of a frame, the block behind its own, and the lines behind its own; where there is such a block, it
+  -- The function of a frame, the block after its own, and the lines after its own; if there is such a block, it
   -- begins with its label.
   pub record InFunction (frame : Frame) : Type 0 where
     pub index : ℕ
@@ -40,7 +40,7 @@ module _ (functions : List PlacedFunc) (c : Code) where
       ops_lines functions frame.function frame.calls_before frame.ops
       (end_lines frame.function (label_of functions i.index + 1) i.next frame.end i.behind)
 
-  -- A caller waits for the call whose frame begins at an address: the return address there leads to its lines behind
+  -- A caller waits for the call whose frame begins at an address: the return address there leads to its lines after
   -- the call, and its places are in its own frame, right above. Those of its machine registers that it still has are
   -- kept by the call.
   pub record IsWaiting (words : ℕ → ℕ) (base : ℕ) (caller : Caller) : Type 0 where

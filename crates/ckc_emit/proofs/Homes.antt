@@ -45,7 +45,7 @@ registers_apart k j h i apart e = apart (elim (cases_lt k 4) as (λ _. j ≡ k) 
   ]
 ])
 
--- the place has the value, where the frame is at x2
+-- the place has the value, if the frame is at x2
 abbrev pub HasValue : Local → Place → ℕ → Type 0
 HasValue l (Reg k) v = l.x (register_of k) ≡ v
 HasValue l (Slot k) v = l.words (l.x 2 + (k * 4 + 64)) ≡ v
@@ -284,7 +284,7 @@ module _ (c : Code) where
       (omega arith, omega arith)
   source_low (Slot k) h = (omega arith, omega arith)
 
-  -- The register of a place is set, or x5 where the place is a slot, and then the place is written.
+  -- The register of a place is set, or x5 if the place is a slot, and then the place is written.
   pub write_after : (a b : ℕ) (xs : List Line) (t : Place) (v : ℕ) (rest : List Line) (l : Local) → IsFramed l → IsPlace t
       → Sets c a b xs (write_lines t 5 rest) l (source_of t 5) v → Writes a (b + 3) xs rest l t v
   write_after a b xs (Reg k) v rest l f h s = writes_loosened a b a (b + 3) xs rest l (Reg k) v (omega arith) (omega arith) (register_writes a b xs rest l k v h s)

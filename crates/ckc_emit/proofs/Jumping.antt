@@ -18,7 +18,7 @@ set_zero x rd v = elim (cases_eq rd 0) as (λ _. set x rd v 0 ≡ x 0) [
 ]
 
 module _ (c : Code) where
-  -- Two instructions later the machine is at a label, with the address behind them in the link register.
+  -- Two instructions later the machine is at a label, with the address after them in the link register.
   pub record GoesFar (l : Local) (pc rd label : ℕ) : Type 0 where
     pub next : Local
     pub travels : Travels (detailed_system c.parts) 2 [] (state_of c.parts l pc) (state_of c.parts next (c.label label))

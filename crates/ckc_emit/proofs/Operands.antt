@@ -29,7 +29,7 @@ abbrev pub HasOperand : Local → PlacedOperand → ℕ → Type 0
 HasOperand l (At p) v = HasValue l p v
 HasOperand l (Number n) v = n ≡ v
 
--- the value of an operand, where places have values
+-- the value of an operand, if places have values
 abbrev pub operand_value : Values → PlacedOperand → Option ℕ
 operand_value places (At p) = places (number_of p)
 operand_value places (Number n) = Some n

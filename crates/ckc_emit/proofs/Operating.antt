@@ -42,7 +42,7 @@ module _ (functions : List PlacedFunc) (c : Code) (s : State) (l : Local) (pc : 
   over : All (IsOpOver codes f.code.regs) (op ∷ ops)
   over = subst (All (IsOpOver codes f.code.regs)) all r.at.ops_over
 
-  -- the lines of the operation stand here, in front of those of the operations behind it
+  -- the lines of the operation stand here, in front of those of the operations after it
   pub stands : LinesAt c pc (op_lines functions f n op (ops_lines functions f (n + is_call op) ops tail))
   stands = subst (λ list. LinesAt c pc (ops_lines functions f n list tail)) all r.here
 

@@ -31,7 +31,7 @@ pub record FarAt (c : Code) (pc rd label : ℕ) : Type 0 where
   pub leads : moved ((pc + upper * 2 ^ 12) % 2 ^ 32) lower ≡ c.label label
   pub aligned : c.label label % 4 ≡ 0
 
--- The lines stand at an address and behind it. Nothing is said of near jumps and branches, which are not emitted.
+-- The lines stand at an address and after it. Nothing is said of near jumps and branches, which are not emitted.
 abbrev pub LinesAt : Code → ℕ → List Line → Type 0
 LinesAt c pc [] = Unit {0}
 LinesAt c pc (Label label ∷ lines) = (c.label label ≡ pc) × LinesAt c pc lines

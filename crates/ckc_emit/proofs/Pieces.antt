@@ -14,7 +14,7 @@ use Rattle.ckc_asm_lines.specs.Assembled.{size_of, is_label}
 use Rattle.ckc_emit.specs.Spared.{SparesByInstr}
 use Rattle.ckc_emit.proofs.Paths.{Code, LinesAt}
 
--- a line that can be assembled where the labels are those below a number
+-- a line that can be assembled if the labels are those below a number
 abbrev pub IsSound : ℕ → Line → Type 0
 IsSound labels (Label label) = Unit {0}
 IsSound labels (Plain i) = InRange i × SparesByInstr i
@@ -138,6 +138,6 @@ module _ (labels : ℕ) where
   either_adds true p q = p refl
   either_adds false p q = q refl
 
-  -- where lines stand, the lines that others are added to stand behind them
+  -- where lines stand, the lines that others are added to stand after them
   pub stand_behind : (c : Code) (pc a b m : ℕ) (xs ys : List Line) → Adds labels a b m xs ys → LinesAt c pc xs → (to : ℕ) × LinesAt c to ys
   stand_behind c pc a b m xs ys p at = behind c pc p.front ys (subst (LinesAt c pc) p.is at)

@@ -107,7 +107,7 @@ module _ (c : Code) where
 
   -- ---- what the caller does
 
-  -- The machine comes to the lines behind the call, where the caller has its places again, and the result.
+  -- The machine comes to the lines after the call, where the caller has its places again, and the result.
   pub record ComesBack (xs ys : List Line) (l : Local) (base : ℕ) (places : Values) : Type 0 where
     next : Local
     events : List MachineEvent

@@ -47,7 +47,7 @@ module _ (c : Code) where
     high = subst (λ b. b + 16384 ≤ memory_end) (sym e) f.high;
   }
 
-  -- the lines behind a register that is restored, or not
+  -- the lines after a register that is restored, or not
   abbrev Later : (ℕ → Bool) → ℕ → ℕ → List Line → Type 0
   Later test count k rest = (m : Local) → IsFramed m → Restores test count k (restores_lines test count k rest) rest m
 

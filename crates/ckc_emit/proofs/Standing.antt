@@ -15,20 +15,20 @@ use Rattle.ckc_emit.proofs.Paths.{Code, LinesAt}
 abbrev pub block_label : List PlacedFunc → (index b : ℕ) → ℕ
 block_label functions index b = label_of functions index + 1 + b
 
--- where there is such a block, the lines begin with its label
+-- if there is such a block, the lines begin with its label
 abbrev pub BeginsWith : List PlacedFunc → (index : ℕ) → List TacBlock → (b : ℕ) → List Line → Type 0
 BeginsWith functions index blocks b lines =
     (block : TacBlock) → slice_get blocks b ≡ Some block → (more : List Line) × (lines ≡ Label (block_label functions index b) ∷ more)
 
 module _ (functions : List PlacedFunc) (c : Code) where
-  -- the lines of a block stand behind its label, and behind them the next block
+  -- the lines of a block stand after its label, and after them the next block
   pub record BlockStands (index : ℕ) (f : PlacedFunc) (b : ℕ) (block : TacBlock) : Type 0 where
     pub behind : List Line
     pub there : LinesAt c (c.label (block_label functions index b))
         (ops_lines functions f (calls_in_front f.code.blocks b) block.ops (end_lines f (label_of functions index + 1) (b + 1) block.end behind))
     pub next : BeginsWith functions index f.code.blocks (b + 1) behind
 
-  -- the store of the return address stands at the label of a function, and behind it its first block
+  -- the store of the return address stands at the label of a function, and after it its first block
   pub record EntryStands (index : ℕ) (f : PlacedFunc) : Type 0 where
     pub behind : List Line
     pub there : LinesAt c (c.label (label_of functions index)) (store_lines 1 2 0 behind)

@@ -139,7 +139,7 @@ module _ (parts : Parts) (l : Local) (pc : ℕ) where
       ∙ ap (λ b. let o : Outcome = if b then (if moved pc z % 4 == 0 then outcome.Next 0 0 (moved pc z) else outcome.BadTarget) else outcome.Next 0 0 (following pc) in with_writes (writes_of o) (by_outcome (state_of parts l pc) o)) (taken_is op rs1 rs2 false h1 h2 e)
       ∙ ap (λ q. Goes [] (state_of parts l q)) (next_pc at.low)
 
-  -- a load, where its address is aligned and there
+  -- a load, if its address is aligned and there
   pub load_step : (op : LoadOp) (rd rs1 : ℕ) (z : ℤ) (a n : ℕ) → At parts pc (Load op rd rs1 z) → rd < 32 → rs1 < 32
       → moved (l.x rs1) z ≡ a → a % load_bytes op ≡ 0 → loaded (memory_of parts l.bytes l.words) (load_bytes op) a ≡ Some n
       → detailed_step parts (state_of parts l pc) ≡ Goes [] (state_of parts (with_x l (set l.x rd (load_value op n))) (pc + 4))
@@ -156,7 +156,7 @@ module _ (parts : Parts) (l : Local) (pc : ℕ) where
   writable : (a : ℕ) → data_start ≤ a → a < memory_end → is_writable a ≡ true
   writable a low high = grind (arith, nat_tests)
 
-  -- a store, where its address is aligned and may be written
+  -- a store, if its address is aligned and may be written
   pub store_step : (op : StoreOp) (rs1 rs2 : ℕ) (z : ℤ) (a : ℕ) (bytes words : ℕ → ℕ) → At parts pc (Store op rs1 rs2 z) → rs1 < 32 → rs2 < 32
       → moved (l.x rs1) z ≡ a → a % store_bytes op ≡ 0 → data_start ≤ a → a < memory_end
       → stored (memory_of parts l.bytes l.words) (store_bytes op) a (l.x rs2) ≡ memory_of parts bytes words

@@ -63,7 +63,7 @@ label_more fs i f h e =
     sum_by_more labels_in fs i f h ∙ ap (λ g. sum_by labels_in (take i fs) + labels_in g) (sym e) in
     omega (arith, one)
 
--- all labels are below that behind the last function
+-- all labels are below that after the last function
 pub label_below : (fs : List PlacedFunc) (i : ℕ) (f : PlacedFunc) → i < length fs → f ≡ get_or fs i f → label_of fs i + (length f.code.blocks + 1) ≤ label_of fs (length fs)
 label_below fs i f h e =
     let all : take (length fs) fs ≡ fs = take_all (length fs) fs (omega arith) in

@@ -9,7 +9,7 @@ use Rattle.ckc_base.specs.Words.{signed, word_of}
 use Rattle.ckc_base.specs.Products.{high_product}
 use Rattle.ckc_base.proofs.WordValues.{natural_word}
 
--- two words are equal where their difference is zero
+-- two words are equal if their difference is zero
 pub equal_flag : (x y : ℕ) → x < 2 ^ 32 → y < 2 ^ 32 → nat_lt ((x + (2 ^ 32 - y)) % 2 ^ 32) 1 ≡ (x == y)
 equal_flag x y h k = grind (arith, nat_tests)
 

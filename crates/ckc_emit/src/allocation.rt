@@ -13,7 +13,7 @@ use ckc_rv::{BranchOp, ImmOp, Instr, LoadOp, RegOp, StoreOp};
 use std::alloc::AllocError;
 
 /// Sets x10 to the place of a new block of x5 elements of a size and moves the heap word past it; or sets it to 0
-/// where the count is not positive or the block does not fit.
+/// if the count is not positive or the block does not fit.
 pub fn put_alloc(
     out: &mut Vec<Line>,
     t: Place,
@@ -31,7 +31,7 @@ pub fn put_alloc(
     put_settle(out, t, 10)
 }
 
-/// Leads past the claim, with x10 zero, where x5 elements of x6 bytes do not fit; else x11 is the heap word.
+/// Leads past the claim, with x10 zero, if x5 elements of x6 bytes do not fit; else x11 is the heap word.
 fn put_room(out: &mut Vec<Line>) -> Result<(), AllocError>
     ensures { OnOk result (Emits out.old.items out.new.items room_lines) }
 {

@@ -149,7 +149,7 @@ fn put_ops(
     Ok(calls)
 }
 
-/// The lines of a block's end, where another block or function follows.
+/// The lines of a block's end, if another block or function follows.
 fn put_end(
     out: &mut Vec<Line>,
     f: &PlacedFunc,
@@ -188,7 +188,7 @@ fn is_passing(block: &TacBlock) -> bool
     block.ops.is_empty() && matches!(block.end, TacEnd::Jump(_))
 }
 
-/// Whether a jump to a block is left out: where the block comes next, unless it only jumps on. So no two steps without
+/// Whether a jump to a block is left out: if the block comes next, unless it only jumps on. So no two steps without
 /// an instruction follow each other.
 fn is_left_out(blocks: &[TacBlock], next: u32, b: u32) -> bool
     requires { b < length blocks.now }
@@ -226,7 +226,7 @@ fn put_jump(out: &mut Vec<Line>, first: u32, next: u32, b: u32) -> Result<(), Al
     Ok(())
 }
 
-/// The branch that is taken where a comparison holds.
+/// The branch that is taken if a comparison holds.
 fn holding(c: Comparison) -> BranchOp
     ensures { result ≡ holding_of c }
 {
@@ -238,7 +238,7 @@ fn holding(c: Comparison) -> BranchOp
     }
 }
 
-/// The branch that is taken where a comparison does not hold.
+/// The branch that is taken if a comparison does not hold.
 fn failing(c: Comparison) -> BranchOp
     ensures { result ≡ failing_of c }
 {
@@ -250,7 +250,7 @@ fn failing(c: Comparison) -> BranchOp
     }
 }
 
-/// Goes to a block where a comparison of two operands holds, and else to another one.
+/// Goes to a block if a comparison of two operands holds, and else to another one.
 fn put_branch(
     out: &mut Vec<Line>,
     c: Comparison,

@@ -285,7 +285,7 @@ pub fn put_data_store(
     put(out, Instr::Store(store_op(width), ra, rb, 0))
 }
 
-/// The program stops at a check where an operand is zero.
+/// The program stops at a check if an operand is zero.
 pub fn put_test(
     out: &mut Vec<Line>,
     check: Check,

@@ -26,7 +26,7 @@ fn put_stop(out: &mut Vec<Line>, check: Check, at: Pos) -> Result<(), AllocError
     put_ask(out, 3)
 }
 
-/// A branch over itself and the stop behind it.
+/// A branch over itself and the stop after it.
 fn over_stop(rs1: u8, rs2: u8, at: Pos) -> Instr
     ensures { result ≡ over_stop_of rs1 rs2 at }
 {

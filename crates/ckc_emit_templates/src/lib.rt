@@ -1,4 +1,4 @@
-//! Short sequences of instructions that are put behind others: constants, words of a frame, environment calls, the
+//! Short sequences of instructions that are put after others: constants, words of a frame, environment calls, the
 //! registers that a call keeps, and the start of a program.
 #![tactic(auto)]
 

@@ -1,4 +1,4 @@
--- Rows that are exact behind an operation are exact in front of it, and rows of all blocks make an exact one of an end.
+-- Rows that are exact after an operation are exact in front of it, and rows of all blocks make an exact one of an end.
 use Rattle.std.proofs.Common.{◌≡◌, ⊎_elim, ℕ, ◌≤◌, ◌<◌, Bool, true, List, [], ◌∷◌, length, get_or, Some, subst, ◌∙◌, arith}
 use Rattle.std.proofs.lemmas.Option.{slice_get-get_or}
 use Rattle.std.proofs.lemmas.Bool.{cases_lt}

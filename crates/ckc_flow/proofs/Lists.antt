@@ -21,7 +21,7 @@ none_next (x ∷ xs) (y ∷ ys) (suc i) h e = ap (λ l. (x || y) ∷ l) (none_ne
 pub joined_mark : (xs ys : List Bool) (i : ℕ) → i < length xs → i < length ys → get_or xs i false ≡ true → joined (take (i + 1) xs) ys ≡ set (joined (take i xs) ys) i true
 joined_mark xs ys i h k e = let n : i + 1 ≡ suc i = omega arith in ap (λ m. joined (take m xs) ys) n ∙ mark_next xs ys i h k e
 
--- one that is not set changes nothing, and there is none behind the other row
+-- one that is not set changes nothing, and there is none after the end of the other row
 pub joined_none : (xs ys : List Bool) (i : ℕ) → i < length ys → get_or xs i false ≡ false → joined (take (i + 1) xs) ys ≡ joined (take i xs) ys
 joined_none xs ys i h e = let n : i + 1 ≡ suc i = omega arith in ap (λ m. joined (take m xs) ys) n ∙ none_next xs ys i h e
 

@@ -129,7 +129,7 @@ called : (target : Option ℕ) (row : List Bool) (r : ℕ) → Has (cleared targ
 called (Some t) row r e = written t r row e
 called None row r e = (none_apart r, e)
 
--- a mark in front of an operation is of a register that it reads, or stood behind it and is not written
+-- a mark in front of an operation is of a register that it reads, or stood after it and is not written
 pub passed_from : (op : TacOp) (row : List Bool) (r : ℕ) → Has (passed op row) r → FromBehind op row r
 passed_from (Const t n) row r e = inr (written t r row e)
 passed_from (Copy t a) row r e = ⊎_elim (λ h. inl h) (λ h. inr (written t r row h)) (set_from (set row t false) a r e)

@@ -64,7 +64,7 @@ pub data IsLive (blocks : List TacBlock) (r : ℕ) : List TacOp → TacEnd → T
   read_in_block : {end : TacEnd} (b : ℕ) (block : TacBlock) → leads_to b end ≡ true → slice_get blocks b ≡ Some block
       → IsLive blocks r block.ops block.end → IsLive blocks r [] end
 
--- A row has a mark for each register of a function, and it is set exactly where the register is live.
+-- A row has a mark for each register of a function, and it is set exactly when the register is live.
 pub record IsExact (f : TacFunc) (ops : List TacOp) (end : TacEnd) (row : List Bool) : Type 0 where
   pub long : length row ≡ f.regs
   pub exact : (r : ℕ) → r < f.regs → (get_or row r false ≡ true) ↔ IsLive f.blocks r ops end

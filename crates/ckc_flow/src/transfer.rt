@@ -1,4 +1,4 @@
-//! The registers that are live in front of operations and of the end of a block, from those that are live behind.
+//! The registers that are live in front of operations and of the end of a block, from those that are live after them.
 ghost use Rattle.std.specs.Prelude.{◌≡◌, [], ◌∷◌, get_or, length, set, false, List};
 ghost use Rattle.ckc_tac.specs.declared.code.TacFunc.{TacFunc};
 ghost use Rattle.ckc_tac.specs.declared.code.TacOp.{TacOp};
@@ -9,7 +9,7 @@ ghost use Rattle.ckc_flow.specs.code.Rows.{all_marked, cleared, ended, joined, m
 use ckc_base::Seq;
 use ckc_tac::{Operand, TacEnd, TacOp};
 
-/// Makes the row of the registers live in front of an operation of the row of those live behind it.
+/// Makes the row of the registers live in front of an operation of the row of those live after it.
 pub fn before_op(op: &TacOp, row: &mut [bool])
     ensures exact { (f : TacFunc) (ops : List TacOp) (end : TacEnd)
         → IsExact f ops end row.old → IsExact f (op.now ∷ ops) end row.new }
@@ -17,7 +17,7 @@ pub fn before_op(op: &TacOp, row: &mut [bool])
     pass(op, row);
 }
 
-/// Leaves in a row the registers live in front of the end of a block, where each block has a row of those live at its
+/// Leaves in a row the registers live in front of the end of a block, if each block has a row of those live at its
 /// beginning.
 pub fn before_end(end: &TacEnd, rows: &[Seq<bool>], row: &mut [bool])
     ensures exact { (f : TacFunc) → AreExact f rows.now → length row.old ≡ f.regs
@@ -26,7 +26,7 @@ pub fn before_end(end: &TacEnd, rows: &[Seq<bool>], row: &mut [bool])
     meet(end, rows, row);
 }
 
-/// Makes the row in front of an operation of the one behind it.
+/// Makes the row in front of an operation of the one after it.
 pub fn pass(op: &TacOp, row: &mut [bool])
     ensures { row.new ≡ passed op.now row.old }
 {
@@ -60,7 +60,7 @@ pub fn pass(op: &TacOp, row: &mut [bool])
     }
 }
 
-/// Makes the row in front of operations of the one behind them.
+/// Makes the row in front of operations of the one after them.
 pub fn pass_all(ops: &[TacOp], row: &mut [bool])
     ensures { row.new ≡ passed_all ops.now row.old }
 {

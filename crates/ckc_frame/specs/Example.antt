@@ -6,7 +6,7 @@ use Rattle.ckc_tac.specs.Example.{example_main, example_callee, example_events}
 use Rattle.ckc_frame.specs.declared.code.Place.TheVariants.{Reg, Slot}
 use Rattle.ckc_frame.specs.declared.code.Placed.{Placed}
 
--- the flag says whether the call keeps the byte that is put behind it, in the register 5
+-- the flag says whether the call keeps the byte that is put after it, in the register 5
 abbrev pub example : (keeps : Bool) → Placed
 example keeps = record {
   initial = [];

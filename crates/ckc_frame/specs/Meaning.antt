@@ -65,7 +65,7 @@ calls_in_front blocks b = sum_by calls_in (take b blocks)
 
 -- ---- steps
 
--- an operation's action is done, and the operations behind it come next
+-- an operation's action is done, and the operations after it come next
 abbrev pub goes_by : State → List TacOp → Outcome → Move LongEvent State
 goes_by s ops (Gives events t value world) =
     Goes events (record s {
@@ -108,7 +108,7 @@ returns s (caller ∷ callers) (Some value) =
 returns s [] None = Halts [] Stuck
 returns s (caller ∷ callers) None = Halts [] Stuck
 
--- the caller behind its call: of its machine registers those are left that the call keeps
+-- the caller after its call: of its machine registers those are left that the call keeps
 abbrev pub waits : Frame → List TacOp → Frame
 waits f ops = record f {
   ops = ops;

@@ -15,7 +15,7 @@ abbrev pub number_of : Place → ℕ
 number_of (Reg r) = r
 number_of (Slot s) = register_count + s
 
--- the place of a register by its number; one without a place is behind all places
+-- the place of a register by its number; one without a place is after all places
 abbrev pub number_of_home : Option Place → ℕ
 number_of_home (Some place) = number_of place
 number_of_home None = register_count + slot_count

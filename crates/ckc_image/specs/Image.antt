@@ -47,7 +47,7 @@ word_at bytes at = from_le_bytes w32 (four_at bytes at)
 abbrev pub HasMagic : List ℕ → Type 0
 HasMagic bytes = four_at bytes 0 ≡ magic
 
--- The version, which stands behind the magic, is 1.
+-- The version, which stands after the magic, is 1.
 abbrev pub HasVersion : List ℕ → Type 0
 HasVersion bytes = four_at bytes 4 ≡ word_bytes 1
 

@@ -1,4 +1,4 @@
--- What a source gave, and what may be left behind it.
+-- What a source gave, and what may be left after it.
 use Rattle.std.proofs.Common.{◌≡◌, inl, inr, ℕ, List, [], ◌∷◌, ◌++◌, Option, Some, None, Bool, IsTrue, Ok, slice_get, drop, refl, sym, ap, subst, ◌∙◌, append_assoc}
 use Rattle.ckc_outside.specs.Outside.{GivesNext, SeenSource}
 use Rattle.ckc_outside.specs.Given.{Gave, Took, OverAny, WhereTold}

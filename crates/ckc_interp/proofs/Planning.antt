@@ -44,7 +44,7 @@ pub planned_stops : (shapes : List Shape) (s : State) (a : Target × Right) (res
     → planned_one shapes s a ≡ Err why → planned shapes s (a ∷ rest) ≡ Err why
 planned_stops shapes s a rest why e = planned-cons shapes s a rest ∙ ap (λ x. given x (then_planned shapes rest)) e
 
--- ---- behind what is planned already
+-- ---- after what is planned already
 
 abbrev pub plans : List Write → Result Planned Halt → Result Planned Halt
 plans before x = given x (λ p. Ok (planned_behind before p))

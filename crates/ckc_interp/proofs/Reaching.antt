@@ -29,7 +29,7 @@ noted_one : (spot : Spot) (later : Option Pos) (mode : Mode) → later ≡ None 
 noted_one spot later Unchecked e = refl
 noted_one spot later Checked e = e
 
--- one more step, behind a first one
+-- one more step, after a first one
 noted_next : (spot : Spot) (mode : Mode) (next later : Option Pos) (last : Spot) → (mode ≡ Checked → later ≡ noted next last)
     → by_mode spot later mode ≡ noted (by_mode spot next mode) last
 noted_next spot Unchecked next later last h = refl

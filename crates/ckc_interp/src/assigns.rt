@@ -41,7 +41,7 @@ fn allowed(to: Place, n: u32) -> Result<Place, Halt>
     }
 }
 
-/// Writes a local, where there is one.
+/// Writes a local, if there is one.
 fn write_local(locals: &mut [u32], x: u32, n: u32)
     ensures { locals.new ≡ slice_set locals.old x n }
 {
@@ -86,7 +86,7 @@ impl<'a> Run<'a> {
         }
     }
 
-    /// The place of a block of so many elements, or null where there is no room for one.
+    /// The place of a block of so many elements, or null if there is no room for one.
     fn allocate(&mut self, alloc: Global, to: &'a Pointee, count: u32) -> Result<u32, AllocError>
         ensures done { IfOk result (λ n. allocated
             (core_of self.old) to.entry.now count ≡ record {

@@ -147,7 +147,7 @@ impl<'a> Run<'a> {
     }
 }
 
-/// What stands where there is no function.
+/// What stands if there is no function.
 fn no_function(alloc: Global) -> FunctionTree
     ensures { function_of result ≡ no_function }
 {
@@ -171,7 +171,7 @@ fn word_of(byte: u8) -> u32
     u32::from(byte)
 }
 
-/// The function with a number, where there is one.
+/// The function with a number, if there is one.
 fn function_at<'a>(
     functions: &'a [FunctionTree],
     number: u32,
@@ -247,12 +247,12 @@ pub fn interp<S: Source, O: Sink>(
     ensures exact { WhereTold (S.seen input.old).left (S.seen input.new).left (Interprets
         (program_of p.now) limit (O.seen out.old).written (O.seen out.new).written result) }
 
-    // Over any source, whatever may come behind the bytes that it gave, the same holds of the input with both.
+    // Over any source, whatever may come after the bytes that it gave, the same holds of the input with both.
     ensures any { OverAny (S.seen input.old) (S.seen input.new)
         (Interprets (program_of p.now) limit (O.seen out.old).written (O.seen out.new).written
         result) }
 
-    // A fault of an object is answered only where its count rose.
+    // A fault of an object is answered only if its count rose.
     ensures read_fault { result ≡ Seen.ReadFault
         → Rose (S.seen input.old).faults (S.seen input.new).faults }
     ensures write_fault { result ≡ Seen.WriteFault

@@ -10,7 +10,7 @@ ghost use Rattle.ckc_interp.specs.code.Views.{work_of, next_of_call, leaving_of,
 use ckc_source::StmtTree;
 use std::alloc::AllocError;
 
-/// What comes next: statements; or, behind the body of a loop, the loop and the statements behind it.
+/// What comes next: statements; or, after the body of a loop, the loop and the statements after it.
 #[derive(Clone, Copy)]
 pub enum Work<'a> {
     Rest(&'a [StmtTree]),
@@ -25,7 +25,7 @@ enum Leaving {
     Continued,
 }
 
-/// How a statement is left at once, where it is.
+/// How a statement is left at once, if it is.
 fn leaving_at(statement: &StmtTree) -> Option<Leaving>
     ensures { option_map leaving_of result ≡ leaving_in (code_of (statement.now ∷ [])) }
 {
@@ -44,7 +44,7 @@ fn leaving_at(statement: &StmtTree) -> Option<Leaving>
     }
 }
 
-/// How statements are left at once, where they are.
+/// How statements are left at once, if they are.
 fn leaving_in(code: &[StmtTree]) -> Option<Leaving>
     ensures { option_map leaving_of result ≡ leaving_in (code_of code.now) }
 {
@@ -54,7 +54,7 @@ fn leaving_in(code: &[StmtTree]) -> Option<Leaving>
     }
 }
 
-/// The statements behind the loop in front.
+/// The statements after the loop in front.
 fn behind(code: &[StmtTree]) -> &[StmtTree]
     ensures { code_of result.now ≡ behind (code_of code.now) }
 {
@@ -64,7 +64,7 @@ fn behind(code: &[StmtTree]) -> &[StmtTree]
     }
 }
 
-/// What is done after each turn of the loop in front, where it is anything.
+/// What is done after each turn of the loop in front, if it is anything.
 fn step_of(code: &[StmtTree]) -> Option<&[StmtTree]>
     ensures { step_in (code_of code.now) ≡ option_map code_of (option_copied result) }
 {
@@ -99,7 +99,7 @@ pub fn push_turn<'a>(work: &mut Vec<Work<'a>>, code: &'a [StmtTree]) -> Result<(
     Ok(())
 }
 
-/// Takes what is in front of the work, where there is anything.
+/// Takes what is in front of the work, if there is anything.
 pub fn take_front<'a>(work: &mut Vec<Work<'a>>) -> Option<Work<'a>>
     ensures front { MatchOption result (next_of_call work.old.items ≡ [])
         (λ w. next_of_call work.old.items ≡ work_of w ∷ next_of_call work.new.items) }

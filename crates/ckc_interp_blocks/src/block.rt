@@ -111,7 +111,7 @@ fn runs_in<'a>(shapes: &'a Seq<Shape>, element: &CType) -> &'a [MemberRun]
 }
 
 impl<'a> Block<'a> {
-    /// The address behind the last byte.
+    /// The address after the last byte.
     pub fn end(&self) -> u64
         requires { length self.now.bytes.items < 2 ^ 63 }
         ensures { result ≡ end_of (view self.now) }
@@ -162,7 +162,7 @@ impl<'a> Block<'a> {
         }
     }
 
-    /// Whether a span lies in the run of a size behind the begin of an element, which is not behind its low end.
+    /// Whether a span lies in the run of a size after the begin of an element, which is not after its low end.
     fn is_at_element(&self, offset: u32, size: u32, s: Span, i: u64) -> bool
         requires { self.now.base + (i * self.now.size + offset) ≤ s.low }
         ensures { result ≡ is_at_element (view self.now) offset size s.number s.low s.high i }
@@ -204,7 +204,7 @@ impl<'a> Block<'a> {
         self.is_near(offset, size, s, last)
     }
 
-    /// The same, where the last element in which the run begins before the span is given.
+    /// The same, if the last element in which the run begins before the span is given.
     fn is_near(&self, offset: u32, size: u32, s: Span, last: u64) -> bool
         requires some { 0 < size }
         requires fits { offset + size ≤ self.now.size }

@@ -106,7 +106,7 @@ impl<'a> Blocks<'a> {
         }
     }
 
-    /// The number at an address, where the access is aligned and lies in one block.
+    /// The number at an address, if the access is aligned and lies in one block.
     pub fn load(&self, width: Width, a: u32) -> Option<u32>
         ensures { result ≡ loaded width a (blocks_of self.now) }
     {
@@ -116,7 +116,7 @@ impl<'a> Blocks<'a> {
         }
     }
 
-    /// Stores the lowest bytes of a number at an address, where the access is aligned and lies in one block; says
+    /// Stores the lowest bytes of a number at an address, if the access is aligned and lies in one block; says
     /// whether it did.
     pub fn store(&mut self, width: Width, a: u32, n: u32) -> bool
         ensures stored { stored width a n (blocks_of self.old) ≡ (if result then Some
@@ -134,7 +134,7 @@ impl<'a> Blocks<'a> {
         }
     }
 
-    /// The index of the block in which an access lies, where it is aligned and there is one.
+    /// The index of the block in which an access lies, if it is aligned and there is one.
     fn holder(&self, width: Width, a: u32) -> Option<usize>
         ensures { MatchOption result (lies_in width a (blocks_of self.now) ≡ false)
             (λ i. (i < vec_len self.now.blocks) × IsHolder width a (blocks_of self.now) i) }

@@ -18,7 +18,7 @@ pub fn plain(n: u32) -> Value
     }
 }
 
-/// An address, where there is one, and else a stop.
+/// An address, if there is one, and else a stop.
 fn at_address(a: Option<u32>, at: Pos) -> Result<u32, Halt>
     ensures { result ≡ at_address a at }
 {
@@ -39,7 +39,7 @@ fn exact_element(access: Access, p: Value, i: u32) -> Result<u32, Halt>
     at_address(as_address(place), access.at)
 }
 
-/// An address in a range, of which the upper bound counts too where the flag says so.
+/// An address in a range, of which the upper bound counts too if the flag says so.
 fn in_range(last: bool, range: Range, at: Pos, a: u32) -> Result<u32, Halt>
     ensures { result ≡ in_range last range at a }
 {
@@ -140,7 +140,7 @@ pub fn operates(
     }
 }
 
-/// The new range, where it lies in the old one.
+/// The new range, if it lies in the old one.
 fn tests_within(range: Range, at: Pos, n: u32, upper: i128) -> Result<Value, Halt>
     ensures { result ≡ tests_within range at n upper }
 {

@@ -20,7 +20,7 @@ pub fn exact(form: Integer, word: u32) -> i64
     }
 }
 
-/// An integer as an address, where it is one.
+/// An integer as an address, if it is one.
 pub fn as_address(z: i128) -> Option<u32>
     ensures { result ≡ as_address z }
 {
@@ -35,7 +35,7 @@ pub fn as_address(z: i128) -> Option<u32>
     }
 }
 
-/// So many elements of a size behind an address, exactly.
+/// So many elements of a size after an address, exactly.
 pub fn elements_behind(a: u32, size: u32, count: i64) -> i128
     ensures { result ≡ elements_behind a size count }
 {

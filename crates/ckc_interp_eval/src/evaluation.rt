@@ -13,14 +13,14 @@ use ckc_source::{
     Access, Count, ExprTree, Halt, Place, Pointee, Range, TargetTree, Through, Value,
 };
 
-/// 1 where a word is not zero, and else 0.
+/// 1 if a word is not zero, and else 0.
 fn truth(word: u32) -> u32
     ensures { result ≡ truth word }
 {
     u32::from(word != 0)
 }
 
-/// The place of the check for the terminator, where an access goes to the upper bound of an `_Nt_array_ptr`.
+/// The place of the check for the terminator, if an access goes to the upper bound of an `_Nt_array_ptr`.
 fn terminator_at(through: Through, range: Range, a: u32, at: Pos) -> Option<Pos>
     ensures { result ≡ terminator_at through range a at }
 {

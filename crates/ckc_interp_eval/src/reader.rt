@@ -17,7 +17,7 @@ pub struct Reader<'r, 'a> {
     pub locals: &'r [u32],
 }
 
-/// The value of a local, 0 where there is none.
+/// The value of a local, 0 if there is none.
 fn local_in(locals: &[u32], x: u32) -> u32
     ensures { result ≡ slice_index locals.now x }
 {
@@ -49,7 +49,7 @@ fn width_of(form: Integer) -> Width
 impl<'r, 'a> Reader<'r, 'a> {
     ghost use Rattle.ckc_interp_eval.specs.Stores.{store_of};
 
-    /// The value of a local, 0 where there is none.
+    /// The value of a local, 0 if there is none.
     pub fn local(&self, x: u32) -> u32
         ensures { result ≡ slice_index self.now.locals.now x }
     {

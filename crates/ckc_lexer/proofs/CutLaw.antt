@@ -49,7 +49,7 @@ longest_part context before text n item e l = record {
 
 -- ---- a chain of parts
 
--- the text is these parts behind those before it, and a rest
+-- the text is these parts after those before it, and a rest
 abbrev Chain : List Part → List ℕ → List Part → List ℕ → Type 0
 Chain before text [] rest = text ≡ rest
 Chain before text (part ∷ parts) rest = (tail : List ℕ) × (text ≡ part.bytes ++ tail) × IsPart before part tail × Chain (before ++ part ∷ []) tail parts rest
@@ -112,7 +112,7 @@ any_push (p ∷ before) part = ap (λ t. is_stdchecked p.item || t) (any_push be
 joined_push : (before : List Part) (part : Part) → joined (before ++ part ∷ []) ≡ joined before ++ part.bytes
 joined_push before part = flat_map-append (λ (p : Part). p.bytes) before (part ∷ []) ∙ ap (λ w. joined before ++ w) (append-nil part.bytes)
 
--- the state of a reading behind these parts
+-- the state of a reading after these parts
 record IsBehind (before : List Part) (here : Here) (checked : Bool) : Type 0 where
   place : here ≡ here_of (joined before)
   said : checked ≡ has_checked before

@@ -35,7 +35,7 @@ module _ (text : List ℕ) (line len : ℕ) (run : IsRun (λ b. not (is_feed b))
   in_line : (k : ℕ) → k < line → get_or (take line text) k 0 ≡ get_or text k 0
   in_line k lt = get_or-take line text k 0 lt
 
-  -- behind it there are spaces to the end of the line
+  -- after it there are spaces to the end of the line
   space_at : (k : ℕ) → len ≤ k → k < line → is_space (get_or text k 0) ≡ true
   space_at k le lt = sym (ap is_space (in_line k lt)) ∙ trim.spaces k le (let e = line_size in omega arith)
 

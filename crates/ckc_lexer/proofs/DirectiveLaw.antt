@@ -35,7 +35,7 @@ strip_word word rest =
     let yes_it : bytes_eq word (take (length word) (word ++ rest)) ≡ true = (bytes_eq-Decides word (take (length word) (word ++ rest))).1 (sym front) in
     ap (λ b. cond b (Some (drop (length word) (word ++ rest))) None) yes_it ∙ ap Some (drop_at word rest (length word) refl)
 
--- spaces in front, and what stands behind them
+-- spaces in front, and what stands after them
 spaces_split : (text : List ℕ) → text ≡ take (prefix_len is_space text) text ++ behind_spaces text
 spaces_split text = sym (take-append-drop (prefix_len is_space text) text)
 

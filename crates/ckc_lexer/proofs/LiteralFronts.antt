@@ -28,7 +28,7 @@ digit_at lead most radix w u k d le lt =
     let e : lead + (k - lead) ≡ k = omega arith in
     ltb-true _ _ (ap (λ i. is_digit_in radix (get_or w i 0)) (sym e) ∙ (sym (ap (is_digit_in radix) (get_or-drop lead w (k - lead) 0)) ∙ d.digits (k - lead) (omega arith)))
 
--- a quote behind the first byte of an escape ends it
+-- a quote after the first byte of an escape ends it
 escape_quote : {q : ℕ} → IsQuote q → (w : List ℕ) (u k : ℕ) → IsEscape w u → 0 < k → k < length w → get_or w k 0 ≡ q → k + 1 ≡ length w
 escape_quote q w u k (simple two b e) some lt at = omega arith
 escape_quote q w u k (octal b d) some lt at =
@@ -143,7 +143,7 @@ module _ {q : ℕ} (i : IsQuote q) (text : List ℕ) (some : 0 < length text) wh
       let behind = length-drop 1 text in
       is_run i l.1 (drop 1 text) (m - 1) (omega arith) (ap (λ j. drop 1 (take j text)) (sym whole) ∙ drop-take 1 (m - 1) text)
 
-  -- what is read forward behind the quote is the only literal at the front
+  -- what is read forward after the quote is the only literal at the front
   pub only_literal : (n : ℕ) (vs : List ℕ) → get_or text 0 0 ≡ q → Run q (drop 1 text) n vs → IsOnlyLiteral q text (1 + n) vs
   only_literal n vs at r =
       let k = run_length r in
@@ -160,11 +160,11 @@ module _ {q : ℕ} (i : IsQuote q) (text : List ℕ) (some : 0 < length text) wh
             omega (arith, e, c.0);
       }
 
--- no characters where there is none at the front
+-- no characters if there is none at the front
 no_run : {q : ℕ} {text vs : List ℕ} {n v : ℕ} → NoFront (IsPiece q) text → Run q text n (v ∷ vs) → ⊥
 no_run none (go l r e) = none _ _ l.some l.within l.spelled
 
--- where a character stands at the front and no other follows, the quote does
+-- if a character stands at the front and no other follows, the quote does
 run_one : {q : ℕ} {text : List ℕ} {n k v u : ℕ} → Longest (IsPiece q) text n v → Run q text k (u ∷ []) → (n < length text) × (get_or text n 0 ≡ q)
 run_one {q} {text} {n} l (go {n = n'} {m = m'} l' r e) =
     let same = longest_once (piece_once q) l l' in

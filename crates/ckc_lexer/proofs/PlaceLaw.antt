@@ -1,4 +1,4 @@
--- The place behind bytes, counted byte by byte, is the one that the bytes decide.
+-- The place after bytes, counted byte by byte, is the one that the bytes decide.
 use Rattle.std.proofs.Common.{◌≡◌, ℕ, ◌+◌, Bool, true, false, ◌||◌, ◌&&◌, cond, List, [], ◌∷◌, ◌++◌, length, filter, sym, refl, ap, ◌∙◌, ⊎_elim, arith}
 use Rattle.std.specs.List.{list_any, list_all}
 use Rattle.std.proofs.lemmas.Bool.{cases_Bool}
@@ -9,7 +9,7 @@ use Rattle.ckc_lexer.specs.Places.{last_line, place_after, is_fresh_after}
 use Rattle.ckc_lexer.specs.code.Reading.{step, moved}
 use Rattle.ckc_lexer.specs.code.Reading.{start}
 
--- the place behind these bytes, and whether its line has only blanks
+-- the place after these bytes, and whether its line has only blanks
 unfoldable pub here_of : List ℕ → Here
 here_of before = record { line = (place_after before).line; col = (place_after before).col; fresh = is_fresh_after before }
 

@@ -139,7 +139,7 @@ no_longest : (context : Context) (b : ℕ) (bs : List ℕ) → ((n : ℕ) (item 
 no_longest context b bs never =
     some_item context b (λ item s. no_front (Spells context) (b ∷ bs) never (length (b ∷ bs)) 1 item (omega arith) (omega arith) (omega arith) s)
 
--- how the rest of a text ends is how the text ends, behind its first item
+-- how the rest of a text ends, after its first item, is how the text ends
 module _ (here : Here) (checked : Bool) (text : List ℕ) (never : (o : Outcome (List Spelled)) → ¬ Reads here checked text o) where
   step_on : (n : ℕ) (item : Item) → Longest (Spells (context_at here checked)) text n item →
       ((there : Here) (said : Bool) → ((o : Outcome (List Spelled)) → ¬ Reads there said (drop n text) o) → ⊥) → ⊥

@@ -11,7 +11,7 @@ use Rattle.ckc_lexer.specs.Codes.{open_comment}
 abbrev pub IsLineComment : List ℕ → Type 0
 IsLineComment w = (2 ≤ length w) × (slice_index w 1 ≡ 47) × AllBytes (λ b. not (is_feed b)) w
 
--- `/*` and what follows it, with no `*/` behind these two bytes
+-- `/*` and what follows it, with no `*/` after these two bytes
 pub record IsOpen (w : List ℕ) : Type 0 where
   pub begun : 2 ≤ length w
   pub star : slice_index w 1 ≡ 42

@@ -40,13 +40,13 @@ pub record IsCut (text : List ℕ) (parts : List Part) (rest : List ℕ) : Type 
   pub whole : text ≡ joined parts ++ rest
   pub each : (before : List Part) (part : Part) (after : List Part) → parts ≡ before ++ part ∷ after → IsPart before part (joined after ++ rest)
 
--- the token of a part behind these bytes, if it has one
+-- the token of a part after these bytes, if it has one
 abbrev pub token_at : List ℕ → List ℕ → Item → List Spelled
 token_at before bytes Gap = []
 token_at before bytes (Token kind) = record { kind = kind; text = bytes; pos = place_after before } ∷ []
 token_at before bytes (Broken code) = []
 
--- the tokens of parts behind these bytes
+-- the tokens of parts after these bytes
 abbrev pub tokens_from : List ℕ → List Part → List Spelled
 tokens_from before [] = []
 tokens_from before (part ∷ parts) = token_at before part.bytes part.item ++ tokens_from (before ++ part.bytes) parts
@@ -78,7 +78,7 @@ pub record FirstBroken (text : List ℕ) (fault : Refusal) : Type 0 where
   pub broken : part.item ≡ Broken fault.code
   pub place : fault.pos ≡ place_after (joined before)
 
--- The fault for which a text is refused: 201 at its start where it is too long, else the first in it.
+-- The fault for which a text is refused: 201 at its start if it is too long, else the first in it.
 abbrev pub FirstFault : List ℕ → Refusal → Type 0
 FirstFault text fault =
     ((longest_text < length text) × (fault ≡ at_start long_text))

@@ -30,7 +30,7 @@ pub record IsPragma (word w : List ℕ) : Type 0 where
   pub c_some : 0 < length c
   pub whole : w ≡ codes "#" ++ (a ++ (codes "pragma" ++ (b ++ (codes "CHECKED_SCOPE" ++ (c ++ word)))))
 
--- The bytes spell this directive, and no spaces stand behind it.
+-- The bytes spell this directive, and no spaces stand after it.
 abbrev pub IsDirective : List ℕ → Directive → Type 0
 IsDirective w Stdio = IsInclude (codes "<stdio.h>") w
 IsDirective w Stdlib = IsInclude (codes "<stdlib.h>") w
@@ -38,7 +38,7 @@ IsDirective w Stdchecked = IsInclude (codes "<stdchecked.h>") w
 IsDirective w ScopeOn = IsPragma (codes "on") w ⊎ IsPragma (codes "ON") w
 IsDirective w ScopeOff = IsPragma (codes "off") w ⊎ IsPragma (codes "OFF") w
 
--- the whole is a directive with spaces behind it
+-- the whole is a directive with spaces after it
 pub record IsDirectiveLine (w : List ℕ) : Type 0 where
   pub front : List ℕ
   pub spaces : List ℕ

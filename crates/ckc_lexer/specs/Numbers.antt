@@ -20,7 +20,7 @@ without_suffix w = if has_suffix w then take (length w - 1) w else w
 abbrev pub is_hexadecimal : List ℕ → Bool
 is_hexadecimal w = nat_lt 1 (length w) && slice_index w 0 == 48 && (slice_index w 1 == 120 || slice_index w 1 == 88)
 
--- hexadecimal behind `0x`, octal with a leading 0, else decimal
+-- hexadecimal after `0x`, octal with a leading 0, else decimal
 abbrev pub radix_of : List ℕ → ℕ
 radix_of w = if is_hexadecimal w then 16 else (if slice_index w 0 == 48 then 8 else 10)
 

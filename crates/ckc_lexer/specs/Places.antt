@@ -4,12 +4,12 @@ use Rattle.std.specs.List.{list_any, list_all}
 use Rattle.ckc_base.specs.declared.places.Pos.{Pos}
 use Rattle.ckc_lexer.specs.Bytes.{is_feed, is_blank}
 
--- the bytes behind the last line feed
+-- the bytes after the last line feed
 abbrev pub last_line : List ℕ → List ℕ
 last_line [] = []
 last_line (b ∷ bs) = if list_any is_feed (b ∷ bs) then last_line bs else b ∷ bs
 
--- the place behind these bytes of a text: a line for each line feed, and a column for each byte of the line
+-- the place after these bytes of a text: a line for each line feed, and a column for each byte of the line
 abbrev pub place_after : List ℕ → Pos
 place_after before = record { line = 1 + length (filter is_feed before); col = 1 + length (last_line before) }
 

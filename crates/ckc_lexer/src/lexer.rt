@@ -25,7 +25,7 @@ use std::str;
 /// The tokens of a text. Each lends its bytes of the text, and no byte is copied. Lines and columns count from
 /// 1, a column counts bytes, and only LF ends a line.
 ///
-/// A text is refused for its first fault: 201 at its start where it has over 262,144 bytes; else, in the order
+/// A text is refused for its first fault: 201 at its start if it has over 262,144 bytes; else, in the order
 /// of the text, 101 for a byte outside comments that begins no token, 102 for a comment that is open at the
 /// end, 103 for a bad number, character or string, 104 for a name of over 63 bytes, 105 for a line begun by
 /// `#` that is no directive, each at its first byte. Where memory runs out is left open.
@@ -116,7 +116,7 @@ fn text_of(bytes: &[u8]) -> &str
     unsafe { str::from_utf8_unchecked(bytes) }
 }
 
-/// The place behind a word.
+/// The place after a word.
 fn moved(mut here: Here, word: &[u8]) -> Here
     requires line { here.line + length word.now < 2 ^ 32 }
     requires col { here.col + length word.now < 2 ^ 32 }

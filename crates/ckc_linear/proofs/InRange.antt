@@ -6,7 +6,7 @@ use Rattle.std.proofs.lemmas.List.Elements.{All-map, All-push, All-same}
 use Rattle.ckc_linear.specs.declared.facts.Fact.{Fact}
 use Rattle.ckc_linear.specs.Facts.{IsInRange, IsWithin, shifted}
 
--- one more fact, or the same ones where there is no memory
+-- one more fact, or the same ones if there is no memory
 pub added_in_range : {E : Type 0} (vars : ℕ) (r : Result (Unit {0}) E) (before after : List Fact) (f : Fact) → All (IsInRange vars) before → IsInRange vars f →
     OnOk r (after ≡ before ++ f ∷ []) → OnErr r (after ≡ before) → All (IsInRange vars) after
 added_in_range vars (Ok u) before after f all one ok err = All-same (IsInRange vars) after _ ok (All-push (IsInRange vars) before f all one)

@@ -88,7 +88,7 @@ pub round_more : (facts : List Fact) (i : ℕ) (f : Fact) (b : Bool) (sums next 
 round_more facts i f b sums next after within is left so_far lowers =
     next_round facts i f within is sums next after so_far (step_of f sums next after left b lowers)
 
--- where no fact has lowered a sum, the row is as it was
+-- if no fact has lowered a sum, the row is as it was
 pub same_more : (f : Fact) (was b : Bool) (sums next after : List ℤ) → OnFalse was (next ≡ sums) → Lowers f sums next after b →
     OnFalse (was || b) (after ≡ sums)
 same_more f true b sums next after same lowers = tt

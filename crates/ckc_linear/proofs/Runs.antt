@@ -81,7 +81,7 @@ module _ {X : Type 0} {p : X → Bool} {xs ys : List X} {k i : ℕ} where
         long = ap length made ∙ length-paste ys k (drop i ys) r (omega arith) rest_long ∙ h.long;
       }
 
--- where two lists are the same from a place on, the element there is the same
+-- if two lists are the same from a place on, the element there is the same
 same_there : {X : Type 0} (i : ℕ) (xs ys : List X) (f : X) → drop i ys ≡ drop i xs → f ≡ get_or ys i f → f ≡ get_or xs i f
 same_there {X} i xs ys f e is =
     let at : (zs : List X) → get_or (drop i zs) 0 f ≡ get_or zs i f = λ zs. get_or-drop i zs 0 f ∙ ap (λ n. get_or zs n f) (omega arith) in

@@ -71,7 +71,7 @@ module _ (vars : ℕ) (facts : List Fact) (in_range : All (IsInRange vars) facts
       let rest = least_always y most row long small is round f.y walk (fact_in_range f leads.0).right leads.2 in
       subst (λ u. (sum_at row u <ℤ none) × (sum_at row u ≤ℤ total (f ∷ walk))) leads.1 (behind y row row f walk long small round leads.0 rest)
 
-  -- where a round changes nothing, no later one does
+  -- if a round changes nothing, no later one does
   pub row_settled : (y most later : ℕ) (row : List ℤ) → length row ≡ vars → All IsSmall row → most ≤ later →
       IsRow facts y most row → IsRound facts row row → IsRow facts y later row
   row_settled y most later row long small le is round = record {

@@ -14,7 +14,7 @@ pub record IsInRange (vars : ℕ) (f : Fact) : Type 0 where
   pub right : f.y < vars
   pub number : IsWithin (2 ^ 50) f.c
 
--- the fact holds where the variables have these values
+-- the fact holds if the variables have these values
 abbrev pub Satisfies : (ℕ → ℤ) → Fact → Type 0
 Satisfies value f = value f.x ≤ℤ (value f.y +ℤ f.c)
 
@@ -22,13 +22,13 @@ Satisfies value f = value f.x ≤ℤ (value f.y +ℤ f.c)
 abbrev pub names : ℕ → Fact → Bool
 names x f = (f.x == x) || (f.y == x)
 
--- how the number of a fact changes where x grows by c: whether x is on the left, and on the right
+-- how the number of a fact changes if x grows by c: whether x is on the left, and on the right
 abbrev pub change : Bool → Bool → ℤ → ℤ
 change true false c = c
 change false true c = neg_ℤ c
 change true true c = pos 0
 change false false c = pos 0
 
--- the fact after x has grown by c: c more where x is on the left alone, c less where it is on the right alone
+-- the fact after x has grown by c: c more if x is on the left alone, c less if it is on the right alone
 abbrev pub shifted : ℕ → ℤ → Fact → Fact
 shifted x c f = record f { c = f.c +ℤ change (f.x == x) (f.y == x) c }

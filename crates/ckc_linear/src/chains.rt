@@ -37,7 +37,7 @@ fn find_sums(facts: &Facts, y: u32, sums: &mut [i64], next: &mut [i64])
     sums[y as usize] = 0;
     for _most in 0..most_facts(facts.vars) {
         next.copy_from_slice(sums);
-        // Where a round lowers no sum, no later one does.
+        // If a round lowers no sum, no later one does.
         if !round(facts, sums, next) {
             return;
         }

@@ -11,13 +11,13 @@ pub fn chains_hold()
         All (Satisfies value) facts → Chain vars facts x y c → value x ≤ℤ (value y +ℤ c) }
 {}
 
-/// A fact that does not name `x` stays true where `x` alone changes.
+/// A fact that does not name `x` stays true if `x` alone changes.
 pub fn others_hold()
     ensures { (f : Fact) (x : ℕ) (before after : ℕ → ℤ) → ((v : ℕ) → v ≢ x → after v ≡ before v) →
         names x f ≡ false → Satisfies before f → Satisfies after f }
 {}
 
-/// A shifted fact is true where `x` has grown by `c`.
+/// A shifted fact is true if `x` has grown by `c`.
 pub fn shifted_hold()
     ensures { (f : Fact) (x : ℕ) (c : ℤ) (before after : ℕ → ℤ)
         → ((v : ℕ) → v ≢ x → after v ≡ before v) →

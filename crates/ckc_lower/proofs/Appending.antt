@@ -24,7 +24,7 @@ temporary-blocks : (want : Option ℕ) (t : ℕ) (b : Builder) → (with_tempora
 temporary-blocks (Some d) t b = refl
 temporary-blocks None t b = refl
 
--- two parts behind one another
+-- two parts, one after the other
 in_turn : (old first second all : List TacOp) → all ≡ (old ++ first) ++ second → all ≡ old ++ (first ++ second)
 in_turn old first second all e = e ∙ append_assoc old first second
 
@@ -209,7 +209,7 @@ pub empty_where : (fresh : Bool) (b : Builder) → b.ops ≡ [] → IsEmptyWhere
 empty_where true b h = h
 empty_where false b h = tt
 
--- behind built code a block is open that has no operations
+-- after built code a block is open that has no operations
 pub built-ops : (t : ℕ) (fresh : Bool) (code : Code) (exit : Option ℕ) (loop : Option Targets) (b : Builder) → IsEmptyWhere fresh b → (built t fresh code exit loop b).ops ≡ []
 built-ops t fresh End exit loop b h = left-ops fresh exit b h
 built-ops t fresh (Set x e rest) exit loop b h = built-ops t false rest exit loop _ tt
@@ -339,7 +339,7 @@ module _ (blocks : ℕ) where
   step_good (Some l) some h = h.1
   step_good None some h = some
 
-  -- Control leads to one of so many blocks, where those that the code ends are among them.
+  -- Control leads to one of so many blocks, if those that the code ends are among them.
   pub goal_good : (code : Code) (at : ℕ) (exit : Option ℕ) (loop : Option Targets) → at + block_count true (is_some exit) code ≤ blocks
       → IsExitGood exit → IsLoopGood loop → 0 < blocks → goal code at exit loop < blocks
   goal_good End at (Some to) loop room x l some = x

@@ -59,7 +59,7 @@ still : (after before : Values) (r : ℕ) (value : Option ℕ) → after r ≡ b
 still after before r value e h = e ∙ h
 
 module _ (functions : List TacFunc) (blocks : List TacBlock) (end : TacEnd) (callers : List Caller) (world : World) where
-  -- The operations of the expressions lead to those behind them, with the values in their registers; what lies below t
+  -- The operations of the expressions lead to those after them, with the values in their registers; what lies below t
   -- stays.
   pub record ComputesAll (es : List Expr) (t : ℕ) (vs : List ℕ) (more : List TacOp) (registers : Values) : Type 0 where
     pub count : ℕ
@@ -69,7 +69,7 @@ module _ (functions : List TacFunc) (blocks : List TacBlock) (end : TacEnd) (cal
     pub values : values_in after (registers_of es t) ≡ Some vs
     pub same : (x : ℕ) → x < t → after x ≡ registers x
 
-  -- The operations of an argument lead to those behind them, with the value in its register; what lies below t stays.
+  -- The operations of an argument lead to those after them, with the value in its register; what lies below t stays.
   record ComputesOne (e : Expr) (t v : ℕ) (more : List TacOp) (registers : Values) : Type 0 where
     count : ℕ
     after : Values

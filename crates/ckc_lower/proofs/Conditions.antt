@@ -121,8 +121,8 @@ abbrev pub flipped : Bool → Bool → Bool
 flipped false b = b
 flipped true b = not b
 
--- Both sides have values, and the comparison holds of them where the expression is not zero, or where it is, if the
--- test is turned.
+-- Both sides have values, and the comparison holds of them if the expression is not zero, or, if the test is
+-- turned, if it is zero.
 pub record Decides (values : Values) (memory : Memory) (s : Test) (v : ℕ) (turned : Bool) : Type 0 where
   pub x : ℕ
   pub y : ℕ

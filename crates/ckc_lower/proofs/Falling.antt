@@ -1,4 +1,4 @@
--- A lower system follows an upper one where each step of the upper is matched by some steps of the lower, or by none
+-- A lower system follows an upper one if each step of the upper is matched by some steps of the lower, or by none
 -- while a measure of the pair of states falls.
 use Rattle.std.proofs.Common.{◌≡◌, ◌⊎◌, ℕ, zero, suc, ◌+◌, ◌*◌, ◌≤◌, ◌<◌, List, [], ◌++◌, refl, subst}
 use Rattle.std.proofs.Math.Path.{fun_ext}

@@ -41,7 +41,7 @@ idle-push (j ∷ ks) k = omega (arith, idle-push ks k)
 
 -- ---- ends of blocks
 
--- The open block may come to only jump where it is not fresh and has no operation.
+-- The open block may come to only jump if it is not fresh and has no operation.
 abbrev owed : Bool → List TacOp → ℕ
 owed true ops = 0
 owed false [] = 1

@@ -1,4 +1,4 @@
--- A list of statements behind its first ones.
+-- A list of statements after its first ones.
 use Rattle.std.proofs.Common.{◌≡◌, ℕ, zero, suc, ◌+◌, ◌<◌, List, [], ◌∷◌, length, get_or, drop, sym, ◌∙◌, ap, subst, arith}
 use Rattle.std.specs.Prelude.{Bool, true, not, Option, Some, None, map}
 use Rattle.ckc_base.specs.declared.arithmetic.Width.{Width}
@@ -13,7 +13,7 @@ use Rattle.ckc_lower.specs.declared.builder.Builder.{Builder}
 use Rattle.ckc_lower.specs.declared.builder.Targets.{Targets}
 use Rattle.ckc_lower.specs.code.Built.{passes, join_of, forked, entered, targets_of, built}
 
--- the statements from one on are it and those behind it
+-- the statements from one on are it and those after it
 code-from : (stmts : List CoreStmt) (i : ℕ) (s t : CoreStmt) → i < length stmts → s ≡ get_or stmts i s → s ≡ t
     → code_of (drop i stmts) ≡ stmt_of t (code_of (drop (i + 1) stmts))
 code-from [] i s t h is e = absurd (omega arith)

@@ -50,8 +50,8 @@ Leaves ops end None = (ops ≡ []) × (end ≡ ends.Return (Number 0))
 abbrev pub loop_of : (out step : ℕ) → Option Targets
 loop_of out step = Some (record { out = out; step = step })
 
--- From these operations and this end on the blocks run the code, over t locals: behind it they go to the exit, and out of
--- the innermost loop where it says.
+-- From these operations and this end on the blocks run the code, over t locals: after it they go to the exit, and out
+-- of the innermost loop where it says.
 abbrev pub Runs : List TacBlock → ℕ → Code → List TacOp → TacEnd → Option ℕ → Option Targets → Type 0
 Runs blocks t End ops end exit loop = Leaves ops end exit
 Runs blocks t (Set x e rest) ops end exit loop =
@@ -110,13 +110,13 @@ Stands blocks t code ops end exit loop =
 abbrev pub StandsAt : List TacBlock → ℕ → ℕ → Code → Option ℕ → Option Targets → Type 0
 StandsAt blocks t i code exit loop = At blocks i (λ ops end. Stands blocks t code ops end exit loop)
 
--- a loop with what stands behind it: its block head, where its step leads, and what is behind it
+-- a loop with what stands after it: its block head, where its step leads, and what is after it
 pub record LoopRuns (blocks : List TacBlock) (t head to_step out : ℕ) (body step code : Code) (exit : Option ℕ) (loop : Option Targets) : Type 0 where
   pub body_runs : RunsAt blocks t head body (Some to_step) (loop_of out to_step)
   pub step_runs : LeadsTo blocks t to_step step (Some head) None
   pub behind : LeadsTo blocks t out code exit loop
 
--- what comes behind the statements that run stands at the exit, and out of the innermost loop where it says
+-- what comes after the statements that run stands at the exit, and out of the innermost loop where it says
 abbrev pub Continues : List TacBlock → ℕ → Rest → Option ℕ → Option Targets → Type 0
 Continues blocks t Stop exit loop = (exit ≡ None) × (loop ≡ None)
 Continues blocks t (Next code after) exit loop =

@@ -44,7 +44,7 @@ unfolding size
 size-temporary (Some d) t b = refl
 size-temporary None t b = refl
 
--- what an expression adds where its value is wanted in a register, or anywhere
+-- what an expression adds if its value is wanted in a register, or anywhere
 abbrev wanted_size : Option ℕ → Expr → ℕ
 wanted_size (Some d) e = set_size e
 wanted_size None e = expr_size e

@@ -30,7 +30,7 @@ ended_at : (b : Builder) (end : TacEnd) (blocks : List TacBlock) → IsPrefix (w
 ended_at b end blocks p =
     ap (λ (x : List TacBlock). slice_get x (length b.blocks)) p.1 ∙ get_behind b.blocks p.0 (record { ops = b.ops; end = end })
 
--- The block that a builder has open runs the code behind the operations that it has so far.
+-- The block that a builder has open runs the code after the operations that it has so far.
 pub record Opens (blocks : List TacBlock) (t : ℕ) (code : Code) (exit : Option ℕ) (loop : Option Targets) (b : Builder) : Type 0 where
   pub block : TacBlock
   pub more : List TacOp
@@ -47,7 +47,7 @@ runs_at blocks t i code exit loop b o none e =
       subst (λ x. Runs blocks t code x o.block.end exit loop) (sym same) o.runs,
     )
 
--- the same block opens a statement and, behind its operations, what comes behind the statement
+-- the same block opens a statement and, after its operations, what comes after the statement
 widened : (blocks : List TacBlock) (t : ℕ) (code rest : Code) (exit : Option ℕ) (loop : Option Targets) (b c : Builder) (new : List TacOp)
     → c.blocks ≡ b.blocks → c.ops ≡ b.ops ++ new
     → ((more : List TacOp) (end : TacEnd) → Runs blocks t rest more end exit loop → Runs blocks t code (new ++ more) end exit loop)
@@ -120,7 +120,7 @@ module _ (functions : List Function) (blocks : List TacBlock) (t : ℕ) where
       → Runs blocks t code [] (ends.Jump to) exit loop → Opens blocks t code exit loop b
   jumped code exit loop b to p r = closed blocks t code exit loop b b [] (ends.Jump to) refl (no_more b) p r
 
-  -- where control leads that is to run code behind a fresh block
+  -- where control leads that is to run code after a fresh block
   led : (code : Code) (at : ℕ) (exit : Option ℕ) (loop : Option Targets) → IsExitThere exit → IsLoopThere loop → 0 < length blocks
       → (IsKept true code exit → RunsAt blocks t at code exit loop) → LeadsTo blocks t (goal code at exit loop) code exit loop
   led End at (Some to) loop x l some own = (refl, there_below blocks to x)

@@ -70,7 +70,7 @@ module _ (functions : List Function) (lowered : List TacFunc) (s : C.State) (blo
   next_frame code rest locals g exit loop r c a =
       record { locals = t; exit = exit; loop_at = loop; stands = inl r; continues = c; agree = a }
 
-  -- an outcome that an operation comes to, behind some steps
+  -- an outcome that an operation comes to, after some steps
   by_outcome : (end : TacEnd) (u : T.State) (count most : ℕ) (code : Code) (o : TacOp) (more : List TacOp) (after : Values) (exit : Option ℕ) (loop : Option Targets) (out : Outcome)
       → Stretch (tac_system lowered) count [] u (point end (o ∷ more) after)
       → tac_step lowered (point end (o ∷ more) after) ≡ T.goes_by (point end (o ∷ more) after) more out → extra_of o ≡ 0 → count + 1 ≤ most
@@ -161,7 +161,7 @@ module _ (functions : List Function) (lowered : List TacFunc) (s : C.State) (blo
         then_stretch (tac_system lowered) count 1 [] [] u v w path last,
       )
 
-  -- no step, where the code stands here already
+  -- no step, if the code stands here already
   by_none : (code : Code) (rest : Rest) (end : TacEnd) (ops : List TacOp) (registers : Values) (exit : Option ℕ) (loop : Option Targets) (most : ℕ)
       → (st : Stands blocks t code ops end exit loop) → Continues blocks t rest exit loop → Agree t registers values
       → turns_of code rest st < remaining
@@ -303,7 +303,7 @@ module _ (functions : List Function) (lowered : List TacFunc) (s : C.State) (blo
   by_choice false one two code one_at two_at join end u count most after exit loop path e few p q r c agree =
       by_jump end u count most one_at one (Next code s.frame.rest) after (Some join) loop path e few (arrives one_at one (Some join) loop p) (join, exit, refl, r, c) agree
 
-  -- a branch whose targets are exchanged where its test is turned
+  -- a branch whose targets are exchanged if its test is turned
   goes_picked : (goes : ℕ → Move LongEvent T.State) (turned b : Bool) (one two : ℕ)
       → (if b then goes (picked turned two one) else goes (picked turned one two)) ≡ (if flipped turned b then goes two else goes one)
   goes_picked goes false b one two = refl

@@ -53,7 +53,7 @@ free_more (Load width a) t = omega arith
 free_more (Bin o p q) t = omega arith
 free_more (High s p q) t = omega arith
 
--- the value of an expression stays where the registers below the temporaries that are free beside it stay
+-- the value of an expression stays if the registers below the temporaries that are free beside it stay
 pub operand_stays : (e : Expr) (locals t : ℕ) (after later : Values) → locals ≤ t → IsExprOver locals e → ((x : ℕ) → x < free_from e t → later x ≡ after x)
     → value_in later (operand_of e None t) ≡ value_in after (operand_of e None t)
 operand_stays (Const n) locals t after later l h same = refl
@@ -170,7 +170,7 @@ module _ (functions : List TacFunc) (blocks : List TacBlock) (end : TacEnd) (cal
   at ops registers =
       record { frame = record { blocks = blocks; ops = ops; end = end; registers = registers }; callers = callers; world = world }
 
-  -- The operations of an expression lead, in at most as many steps as it has nodes, to the operations behind them, with
+  -- The operations of an expression lead, in at most as many steps as it has nodes, to the operations after them, with
   -- the value in its register; of the registers below t only the wanted one is another.
   pub record Computes (e : Expr) (want : Option ℕ) (t v : ℕ) (more : List TacOp) (registers : Values) : Type 0 where
     pub count : ℕ

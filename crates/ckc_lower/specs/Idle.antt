@@ -18,6 +18,6 @@ only_jumps b = jumps_alone b.ops b.end
 abbrev pub idle_blocks_in : TacFunc → ℕ
 idle_blocks_in f = count_by only_jumps f.blocks
 
--- How many blocks of a program only jump. Where there is none, no jump and no branch goes to one.
+-- How many blocks of a program only jump. If there is none, no jump and no branch goes to one.
 abbrev pub idle_blocks : Tac → ℕ
 idle_blocks t = sum_by idle_blocks_in t.funcs

@@ -10,7 +10,7 @@ use ckc_core::{CoreExpr, CoreStmt};
 use ckc_tac::{Comparison, Operand, TacEnd, TacOp};
 use std::alloc::{AllocError, Global};
 
-/// Whether the statements go on to what comes behind them, or out of them, before they do anything.
+/// Whether the statements go on to what comes after them, or out of them, before they do anything.
 fn is_passing(stmts: &[CoreStmt]) -> bool
     ensures { result ≡ passes (code_of stmts.now) }
 {
@@ -29,7 +29,7 @@ fn goal(stmts: &[CoreStmt], at: u32, exit: Option<u32>, loop_at: Option<Targets>
     }
 }
 
-/// How many blocks the statements end, behind which a block comes. Where the open block is fresh, statements that pass
+/// How many blocks the statements end, after which a block comes. If the open block is fresh, statements that pass
 /// make no block of it.
 fn count_blocks(stmts: &[CoreStmt], is_fresh: bool) -> Result<u32, AllocError>
     ensures { IfOk result (λ n. n ≡ block_count is_fresh true (code_of stmts.now)) }
@@ -72,7 +72,7 @@ fn last_block(is_fresh: bool) -> u32
     if is_fresh { 0 } else { 1 }
 }
 
-/// The statements behind the one at a place.
+/// The statements after the one at a place.
 fn after(stmts: &[CoreStmt], i: usize) -> &[CoreStmt]
     requires { i < length stmts.now }
     ensures { result.now ≡ drop (i + 1) stmts.now }
@@ -80,7 +80,7 @@ fn after(stmts: &[CoreStmt], i: usize) -> &[CoreStmt]
     &stmts[i + 1..]
 }
 
-/// The number of the block behind those of the statements, which begin at a block.
+/// The number of the block after those of the statements, which begin at a block.
 fn behind(at: u32, stmts: &[CoreStmt]) -> Result<u32, AllocError>
     ensures { IfOk result (λ n. n ≡ at + block_count true true (code_of stmts.now)) }
 {
@@ -97,7 +97,7 @@ fn behind_body(at: u32, body: &[CoreStmt]) -> Result<u32, AllocError>
 }
 
 impl Builder {
-    /// The number of the block behind the open one.
+    /// The number of the block after the open one.
     fn next_block(&self) -> Result<u32, AllocError>
         ensures { IfOk result (λ n. n ≡ length self.now.blocks + 1) }
     {
@@ -206,8 +206,8 @@ impl Builder {
         self.op(TacOp::Alloc(x, operand(e, locals), size))
     }
 
-    /// Ends the open block with a branch to one block where a comparison of two expressions holds, else to another one;
-    /// the other way round where it is turned.
+    /// Ends the open block with a branch to one block if a comparison of two expressions holds, else to another one;
+    /// the other way round if it is turned.
     fn compare(
         &mut self,
         alloc: Global,
@@ -233,7 +233,7 @@ impl Builder {
         self.end(alloc, TacEnd::Branch(comparison, p, q, first, second))
     }
 
-    /// The same where an expression is not zero.
+    /// The same if an expression is not zero.
     fn compare_zero(
         &mut self,
         alloc: Global,
@@ -257,7 +257,7 @@ impl Builder {
         )
     }
 
-    /// The same where a condition holds.
+    /// The same if a condition holds.
     fn branch(
         &mut self,
         alloc: Global,
@@ -288,7 +288,7 @@ impl Builder {
         }
     }
 
-    /// Ends the open block with a branch to where two lists lead, and tells where both go on: to the rest, behind them.
+    /// Ends the open block with a branch to where two lists lead, and tells where both go on: to the rest, after them.
     fn fork(
         &mut self,
         alloc: Global,
@@ -343,7 +343,7 @@ impl Builder {
         }
     }
 
-    /// Ends the open block behind the last statement of a list.
+    /// Ends the open block after the last statement of a list.
     fn leave(&mut self, alloc: Global, is_fresh: bool, exit: Option<u32>) -> Result<(), AllocError>
         ensures { OnOk result (self.new ≡ left is_fresh exit self.old) }
     {
@@ -375,9 +375,9 @@ fn targets(
 }
 
 impl Builder {
-    /// Builds the statements behind what stands, up to the end of their last block; `is_fresh` tells whether the open
+    /// Builds the statements after what stands, up to the end of their last block; `is_fresh` tells whether the open
     /// block has no operation, and no other control comes to it. `locals` is the first temporary, `exit` the block
-    /// behind the statements, where there is one, and `loop_at` the innermost loop.
+    /// after the statements, if there is one, and `loop_at` the innermost loop.
     pub fn code(
         &mut self,
         alloc: Global,
@@ -459,7 +459,7 @@ impl Builder {
     }
 }
 
-/// One of two numbers, the second where it is turned.
+/// One of two numbers, the second if it is turned.
 fn picked(turned: bool, one: u32, two: u32) -> u32
     ensures { result ≡ picked_of turned one two }
 {

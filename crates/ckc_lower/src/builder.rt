@@ -34,7 +34,7 @@ pub fn free_after(e: &CoreExpr, t: u32) -> u32
     }
 }
 
-/// The same, where the value is in a register.
+/// The same, if the value is in a register.
 pub fn register_after(e: &CoreExpr, t: u32) -> u32
     requires { t + 1 < 2 ^ 32 }
     ensures { result ≡ free_past (expr_of e.now) t }
@@ -69,7 +69,7 @@ fn is_even(op: BinOp) -> bool
     }
 }
 
-/// An operation on two operands. A number comes second where it may.
+/// An operation on two operands. A number comes second if it may.
 fn bin(op: BinOp, d: u32, a: Operand, b: Operand) -> TacOp
     ensures { result ≡ bin_of op d a b }
 {

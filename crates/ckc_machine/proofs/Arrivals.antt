@@ -309,7 +309,7 @@ pub runs_going : (parts : Parts) (input : List ℕ) (k : ℕ) (m : Machine) (lef
 runs_going parts input k m left left' written written' faults faults' puts puts' e a =
     subst (λ (o : Observed). Runs parts input k 1 m left left' written written' faults faults' puts puts' o) (sym e) a
 
--- what is left stays where the source stays
+-- what is left stays if the source stays
 pub fed_same : (told : Option (List ℕ)) (silent : Type 0) (left left' : Option (List ℕ)) → IsFed told told silent left left' → left' ≡ left
 fed_same told silent left left' (inl f) = f.1 ∙ sym f.0
 fed_same told silent left left' (inr f) = f.1

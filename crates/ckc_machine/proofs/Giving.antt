@@ -1,4 +1,4 @@
--- What a source gave, and what may come behind it.
+-- What a source gave, and what may come after it.
 use Rattle.std.proofs.Common.{◌≡◌, ◌^◌, ◌<◌, ℕ, List, [], ◌∷◌, ◌++◌, drop, slice_get, Option, None, Some, Ok, IfSome, IsTrue, refl, sym, subst, ◌∙◌, append_assoc}
 pub use Rattle.ckc_outside.proofs.Giving.{no_answer, one_answer}
 use Rattle.ckc_outside.proofs.Giving.{both_none, gave_nothing, gave_both}

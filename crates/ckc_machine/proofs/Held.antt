@@ -331,7 +331,7 @@ store_within Sw a h = omega arith
 
 -- ---- the memory at the start
 
--- byte i of what lies behind a place, which is 0 past the end
+-- byte i of what lies from a place on, which is 0 past the end
 pub byte_behind : (xs : List ℕ) (at i : ℕ) → get_or (take (length xs - at) (drop at xs)) i 0 ≡ get_or xs (at + i) 0
 byte_behind xs at i = elim (cases_lt (at + i) (length xs)) as (λ _. get_or (take (length xs - at) (drop at xs)) i 0 ≡ get_or xs (at + i) 0) [
   | inl h ↦ get_or-take (length xs - at) (drop at xs) i 0 (omega arith) ∙ get_or-drop at xs i 0
@@ -355,7 +355,7 @@ filled_more words now bytes i word same others before here k l = elim (cases_lt 
 zero_byte : (i : ℕ) → i < 4 → byte_of 0 i ≡ 0
 zero_byte = below_4 (λ i. byte_of 0 i ≡ 0) refl refl refl refl
 
--- where all words of the bytes are filled and the others are 0
+-- if all words of the bytes are filled and the others are 0
 pub filled_all : (words bytes : List ℕ) (i : ℕ) → length bytes ≤ 4 * i → ((k : ℕ) → k < 4 * i → byte_in words k ≡ get_or bytes k 0) → ((j : ℕ) → i ≤ j → get_or words j 0 ≡ 0)
     → (k : ℕ) → byte_in words k ≡ get_or bytes k 0
 filled_all words bytes i h filled zero' k = elim (cases_lt k (4 * i)) as (λ _. byte_in words k ≡ get_or bytes k 0) [

@@ -34,7 +34,7 @@ Says (Fault kind pc) standing = standing ≡ standings.Fault (kind_number kind) 
 Says ReadFault standing = ⊥
 Says WriteFault standing = ⊥
 
--- what a machine last answered; Going where it was not run
+-- what a machine last answered; Going if it was not run
 abbrev pub answer_of : Machine → Observed
 answer_of m = m.answer
 

@@ -74,7 +74,7 @@ impl<'a> Machine<'a> {
             (S.seen input.old).faults (S.seen input.new).faults
             (O.seen out.old).faults (O.seen out.new).faults result }
 
-        // Where none of those instructions asks for a byte, the same holds over any source, which is left as it is.
+        // If none of those instructions asks for a byte, the same holds over any source, which is left as it is.
         ensures silent { (parts : Parts) (given : List ℕ) (k : ℕ) (left : Option (List ℕ))
             → IsAt parts given k self.old left → AsksNothing parts given k limit
             → (input.new ≡ input.old)
@@ -83,7 +83,7 @@ impl<'a> Machine<'a> {
             (S.seen input.old).faults (S.seen input.new).faults
             (O.seen out.old).faults (O.seen out.new).faults result }
 
-        // Over any source, whatever may come behind the bytes that it gave, the same holds of the input with both.
+        // Over any source, whatever may come after the bytes that it gave, the same holds of the input with both.
         ensures any { OverAny (S.seen input.old) (S.seen input.new)
             (λ left left'. (parts : Parts) (given : List ℕ) (k : ℕ)
             → IsAt parts given k self.old (Some left)
@@ -92,7 +92,7 @@ impl<'a> Machine<'a> {
             (S.seen input.old).faults (S.seen input.new).faults
             (O.seen out.old).faults (O.seen out.new).faults result) }
 
-        // A fault of an object is first answered only where its count rose.
+        // A fault of an object is first answered only if its count rose.
         ensures read_fault { answer_of self.old ≡ Observed.Going → result ≡ Observed.ReadFault
             → Rose (S.seen input.old).faults (S.seen input.new).faults }
         ensures write_fault { answer_of self.old ≡ Observed.Going → result ≡ Observed.WriteFault

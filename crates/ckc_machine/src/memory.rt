@@ -41,7 +41,7 @@ fn fill(region: &mut Region, bytes: &[u8])
     }
 }
 
-/// The word of the first four bytes; where there are fewer, the others are 0.
+/// The word of the first four bytes; if there are fewer, the others are 0.
 fn first_word(bytes: &[u8]) -> u32
     ensures { (i : ℕ) → i < 4 → byte_of result i ≡ slice_index bytes.now i }
 {
@@ -88,7 +88,7 @@ impl<'a> Memory<'a> {
         })
     }
 
-    /// The word at an address of the code, where an instruction lies there.
+    /// The word at an address of the code, if an instruction lies there.
     #[inline(always)]
     pub fn fetch(&self, pc: u32) -> Option<u32>
         ensures { (parts : Parts) → parts.code ≡ self.now.code.now
@@ -121,7 +121,7 @@ impl<'a> Memory<'a> {
         }
     }
 
-    /// The word at an address that is a multiple of 4, where it is mapped.
+    /// The word at an address that is a multiple of 4, if it is mapped.
     #[inline(always)]
     fn word(&self, a: u32) -> Option<u32>
         requires { a % 4 ≡ 0 }
@@ -146,7 +146,7 @@ impl<'a> Memory<'a> {
         }
     }
 
-    /// What a load at an aligned address gives, where its bytes are mapped.
+    /// What a load at an aligned address gives, if its bytes are mapped.
     #[inline(always)]
     pub fn load(&self, op: LoadOp, a: u32) -> Option<u32>
         requires { a % load_bytes op ≡ 0 }

@@ -8,7 +8,7 @@ const REGION_WORDS: usize = 0x40_0000;
 /// How many words are zeroed at once.
 const PART_WORDS: usize = 0x1000;
 
-/// The words of a region, as far as one was put; those behind are 0. It takes all its memory when it is made, and
+/// The words of a region, as far as one was put; those after it are 0. It takes all its memory when it is made, and
 /// touches it only as far as a word is put.
 #[derive(Drop)]
 pub struct Region {

@@ -24,7 +24,7 @@ fn main(rt: HostRuntime) -> ExitCode {
     ExitCode::from(status.exit())
 }
 
-/// The words of the command line without the program's name. Where they cannot be had, since a word is not UTF-8 or
+/// The words of the command line without the program's name. If they cannot be had, since a word is not UTF-8 or
 /// for want of memory, there are none, which no command reads.
 fn command_words(rt: &(impl Env + AllocGlobal)) -> Vec<String> {
     let mut words = Vec::new(rt.alloc());

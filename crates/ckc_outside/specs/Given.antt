@@ -17,13 +17,13 @@ got_byte (Put byte) = []
 abbrev pub taken : List Event → List ℕ
 taken trace = flat_map got_byte trace
 
--- where what is left is told, these bytes were taken from it
+-- if what is left is told, these bytes were taken from it
 abbrev pub Took : Option (List ℕ) → Option (List ℕ) → List ℕ → Type 0
 Took old new bytes =
     (before : List ℕ) → old ≡ Some before
     → (after : List ℕ) × (new ≡ Some after) × (before ≡ bytes ++ after)
 
--- where what is left is told, something holds of what was left before and of what is left then
+-- if what is left is told, something holds of what was left before and of what is left then
 abbrev pub WhereTold : Option (List ℕ) → Option (List ℕ) → (List ℕ → List ℕ → Type 0) → Type 0
 WhereTold told told' Holds =
     (before : List ℕ) → told ≡ Some before
@@ -36,7 +36,7 @@ unfoldable pub after_answers : ℕ → List ℕ → ℕ
 after_answers n [] = n
 after_answers n (byte ∷ more) = after_answers (one_more n) more
 
--- What a source gave: as many numbers as it counted, each a byte, and none where it had ended. Where it had ended it
+-- What a source gave: as many numbers as it counted, each a byte, and none if it had ended. If it had ended it
 -- stays so.
 pub record Gave (old new : SeenSource) (more : List ℕ) : Type 0 where
   pub count : new.answers ≡ after_answers old.answers more
@@ -44,11 +44,11 @@ pub record Gave (old new : SeenSource) (more : List ℕ) : Type 0 where
   pub none : IsTrue old.ended → more ≡ []
   pub stays : IsTrue old.ended → IsTrue new.ended
 
--- what may come behind the bytes that a source gave: anything, and nothing where it has ended
+-- what may come after the bytes that a source gave: anything, and nothing if it has ended
 abbrev pub MayCome : Bool → List ℕ → Type 0
 MayCome ended rest = IsTrue ended → rest ≡ []
 
--- The source gave some bytes, and whatever may come behind them, something holds of what was left before, which is the
+-- The source gave some bytes, and whatever may come after them, something holds of what was left before, which is the
 -- bytes and what may come, and of what is left then.
 abbrev pub OverAny : SeenSource → SeenSource → (List ℕ → List ℕ → Type 0) → Type 0
 OverAny old new Holds =
@@ -57,11 +57,11 @@ OverAny old new Holds =
 
 -- ---- what was put
 
--- where what was written is told, these bytes came after it
+-- if what was written is told, these bytes came after it
 abbrev pub Printed : Option (List ℕ) → Option (List ℕ) → List ℕ → Type 0
 Printed old new bytes = (before : List ℕ) → old ≡ Some before → new ≡ Some (before ++ bytes)
 
--- where what was written is told, a front of these bytes came after it, of at least so many
+-- if what was written is told, a front of these bytes came after it, of at least so many
 abbrev pub PrintedFront : Option (List ℕ) → Option (List ℕ) → ℕ → List ℕ → Type 0
 PrintedFront old new least bytes =
     (before : List ℕ) → old ≡ Some before

@@ -19,6 +19,6 @@ plan_of s = record { listed = s.plan.fail.now; calls = s.plan.calls; faults = s.
 abbrev pub seen_of : MemSink → SeenSink
 seen_of s = record { written = Some (written_of s); puts = (plan_of s).calls; faults = (plan_of s).faults }
 
--- whether a piece does not fit behind what is written
+-- whether a piece does not fit after what is written
 abbrev pub overflows : MemSink → List ℕ → Bool
 overflows s piece = nat_lt (room_of s) (s.len + length piece)

@@ -13,7 +13,7 @@ use Rattle.ckc_outside.specs.declared.traits.Fetched.TheVariants.{Whole, Longer}
 abbrev pub Files : Type 0
 Files = map.FinMap (slice_cmp nat_cmp) (List ℕ)
 
--- What is seen of a source: the bytes that are left, where it tells them; whether it said that there is no byte, and
+-- What is seen of a source: the bytes that are left, if it tells them; whether it said that there is no byte, and
 -- gives none from then on; how many bytes it gave, and how many faults there were.
 pub record SeenSource : Type 0 where
   pub left : Option (List ℕ)
@@ -21,14 +21,14 @@ pub record SeenSource : Type 0 where
   pub answers : ℕ
   pub faults : ℕ
 
--- What is seen of a sink: the bytes that were written, where it tells them; how many pieces were put, those that failed
+-- What is seen of a sink: the bytes that were written, if it tells them; how many pieces were put, those that failed
 -- too, and how many faults there were.
 pub record SeenSink : Type 0 where
   pub written : Option (List ℕ)
   pub puts : ℕ
   pub faults : ℕ
 
--- What is seen of a store: its files, where it tells them; whether it is steady; how many faults there were, how many
+-- What is seen of a store: its files, if it tells them; whether it is steady; how many faults there were, how many
 -- calls of keep, and how many of these were done.
 pub record Stored : Type 0 where
   pub files : Option Files
@@ -49,18 +49,18 @@ after_next (Ok None) n = n
 after_next (Ok (Some byte)) n = one_more n
 after_next (Err failed) n = n
 
--- What next gives where bytes are left: the first, which is taken, or None exactly where there is none. After a
+-- What next gives if these bytes are left: the first, which is taken, or None exactly when there is none. After a
 -- failure they are still left.
 abbrev pub GivesNext : List ℕ → Result (Option ℕ) Failed → Option (List ℕ) → Type 0
 GivesNext bytes (Ok given) left = (given ≡ slice_get bytes 0) × (left ≡ Some (drop 1 bytes))
 GivesNext bytes (Err failed) left = left ≡ Some bytes
 
--- What put leaves where bytes were written: the piece after them, or a prefix of it after a failure.
+-- What put leaves if these bytes were written: the piece after them, or a prefix of it after a failure.
 abbrev pub Puts : List ℕ → List ℕ → Result (Unit {0}) Failed → Option (List ℕ) → Type 0
 Puts bytes piece (Ok done) written = written ≡ Some (bytes ++ piece)
 Puts bytes piece (Err failed) written = (k : ℕ) × (written ≡ Some (bytes ++ take k piece))
 
--- What fetch gives for a name: its bytes where they are at most limit many, and Longer where there are more.
+-- What fetch gives for a name: its bytes if they are at most limit many, and Longer if there are more.
 abbrev pub GivesFile : Option (List ℕ) → ℕ → Result fetches.Fetched errors.StoreError → Type 0
 GivesFile file limit (Ok (Whole bytes)) = (file ≡ Some bytes) × (length bytes ≤ limit)
 GivesFile file limit (Ok Longer) = (bytes : List ℕ) × (file ≡ Some bytes) × (limit < length bytes)

@@ -62,12 +62,12 @@ pub trait Sink {
 
 /// A store of named files.
 pub trait Store {
-    /// What is seen of it. It may tell its files by name. Where it is steady it stays so, never fails to keep, and
+    /// What is seen of it. It may tell its files by name. If it is steady it stays so, never fails to keep, and
     /// fails to fetch only a name that it lacks. The counts of the faults, of the calls of `keep` and of those that
     /// were done stand still at 2^64 - 1.
     ghost seen: { Self → Stored };
 
-    /// The bytes under a name, where they are at most `limit` many. A missing name is a fault.
+    /// The bytes under a name, if they are at most `limit` many. A missing name is a fault.
     fn fetch(&mut self, alloc: Global, name: &str, limit: u64) -> Result<Fetched, StoreError>
         ensures counts { (seen self.old).faults ≤ (seen self.new).faults }
         ensures failed { IsErrOf result StoreError.Failed

@@ -35,7 +35,7 @@ no_value xs none v d =
     let t = is_tree v (shape_derived g.text (signs xs) kind.End v d) in
     none t.0 (subst (λ z. DerivesValue xs z) t.1 d)
 
--- Where no fault stands, each longer front is viable too, up to the end, which is a fault then.
+-- If no fault stands, each longer front is viable too, up to the end, which is a fault then.
 no_longest : (xs : List Spelled) (end : Pos) → ((v : Value) → DerivesValue xs v → ⊥) → ((pos : Pos) → IsFault xs end pos → ⊥) →
     (front rest : List Spelled) → xs ≡ front ++ rest → Viable front → ⊥
 no_longest xs end none faults front [] e v =

@@ -1,4 +1,4 @@
--- What is read stands in a list, behind what stood there.
+-- What is read stands in a list, after what stood there.
 use Rattle.std.proofs.Common.{◌≡◌, List, [], ◌∷◌, ◌++◌, true, refl, sym, ap, subst, ◌∙◌, append_assoc, append-nil}
 use Rattle.std.specs.Prelude.{Some, Result}
 use Rattle.ckc_parser_grammar.specs.declared.kind.Kind.{Kind}
@@ -12,7 +12,7 @@ use Rattle.ckc_parser.specs.code.Parts.{Puts}
 use Rattle.ckc_parser_grammar.proofs.Steps.{by_rule, stop_rule, turned}
 use Rattle.ckc_parser_grammar.proofs.Onward.{Onward, at_start, one_turn, last_turn, stop_turn}
 
--- what more stands behind what is put
+-- what more stands after what is put
 pub behind : {X : Type 0} (was is xs more : List X) → was ++ xs ≡ is → was ++ (xs ++ more) ≡ is ++ more
 behind was is xs more h = sym (append_assoc was xs more) ∙ ap (λ z. z ++ more) h
 

@@ -20,7 +20,7 @@ use Rattle.ckc_parser_grammar.proofs.Samples.{sample, sample_token}
 use Rattle.ckc_parser_grammar.proofs.Theory.{complete, read_of, same_read, clash}
 use Rattle.ckc_parser_grammar.proofs.Prefixes.{stopped_of, begun_of, relax}
 
--- no token, behind which the first one stands
+-- no token, after which the first one stands
 abbrev pub nobody : Spelled
 nobody = record { kind = kinds.Text; text = []; pos = record { line = 0; col = 0 } }
 

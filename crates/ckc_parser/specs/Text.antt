@@ -23,7 +23,7 @@ DerivesValue xs v = Derives (n start ∷ []) (signs xs) kind.End (v ∷ [])
 abbrev pub Viable : List Spelled → Type 0
 Viable xs = (ys : List Spelled) × (v : Value) × DerivesValue (xs ++ ys) v
 
--- The fault is at the first token with which the tokens so far are not viable, or at the end where all are and
+-- The fault is at the first token with which the tokens so far are not viable, or at the end if all are and
 -- derive nothing.
 abbrev pub FaultAt : List Spelled → List Spelled → Pos → Pos → Type 0
 FaultAt front [] end pos = (pos ≡ end) × ((v : Value) → DerivesValue front v → ⊥)

@@ -36,7 +36,7 @@ fn declaration_of<'a>(
     }
 }
 
-/// A base with the stars behind it, and a name.
+/// A base with the stars after it, and a name.
 pub fn named_type<'a>(
     reader: &mut Reader<'a>,
     alloc: Global,
@@ -51,7 +51,7 @@ pub fn named_type<'a>(
     Ok((ctype, name))
 }
 
-/// A member or a parameter behind the base of its type.
+/// A member or a parameter after the base of its type.
 fn slot<'a>(
     reader: &mut Reader<'a>,
     alloc: Global,
@@ -96,7 +96,7 @@ pub fn member<'a>(
     slots(reader, alloc, all, &base)
 }
 
-/// What stands behind the name of a static.
+/// What stands after the name of a static.
 pub fn object_rest<'a>(
     reader: &mut Reader<'a>,
     alloc: Global,
@@ -114,7 +114,7 @@ pub fn object_rest<'a>(
     put_static(reader, alloc, all, ctype, name, length, bounds, init)
 }
 
-/// A static behind the base of its type.
+/// A static after the base of its type.
 fn object<'a>(
     reader: &mut Reader<'a>,
     alloc: Global,
@@ -144,7 +144,7 @@ pub fn objects<'a>(
     reader.skip(Kind::Semicolon)
 }
 
-/// A local behind the base of its type.
+/// A local after the base of its type.
 pub fn local<'a>(
     reader: &mut Reader<'a>,
     alloc: Global,
@@ -160,7 +160,7 @@ pub fn local<'a>(
     declaration_of(reader, alloc, named.0, named.1, bounds, init)
 }
 
-/// A local behind the base of its type, as a statement.
+/// A local after the base of its type, as a statement.
 fn one_local<'a>(
     reader: &mut Reader<'a>,
     alloc: Global,

@@ -70,7 +70,7 @@ fn result_type<'a>(reader: &mut Reader<'a>, alloc: Global) -> Result<CType<'a>, 
     type_name(reader, alloc)
 }
 
-/// What goes on behind `struct` and a name.
+/// What goes on after `struct` and a name.
 fn structure<'a>(
     reader: &mut Reader<'a>,
     alloc: Global,
@@ -147,7 +147,7 @@ fn structured<'a>(
     declarators(reader, alloc, all, base)
 }
 
-/// What is declared behind a base.
+/// What is declared after a base.
 fn declarators<'a>(
     reader: &mut Reader<'a>,
     alloc: Global,
@@ -161,7 +161,7 @@ fn declarators<'a>(
     declarator(reader, alloc, all, &base, named.0, named.1)
 }
 
-/// What goes on behind a base, stars and a name: a head, or statics.
+/// What goes on after a base, stars and a name: a head, or statics.
 fn declarator<'a>(
     reader: &mut Reader<'a>,
     alloc: Global,
@@ -244,7 +244,7 @@ fn based<'a>(reader: &mut Reader<'a>, alloc: Global, all: &mut Items<'a>) -> Res
     declarators(reader, alloc, all, base)
 }
 
-/// What stands behind `static`.
+/// What stands after `static`.
 fn declaration<'a>(reader: &mut Reader<'a>, alloc: Global, all: &mut Items<'a>) -> Result<(), Stop>
     ensures gives { Puts (λ y. v.as_items y) (g.n g.declaration)
         all.old (ahead reader.old) result all.new (ahead reader.new) }
@@ -322,7 +322,7 @@ fn declared_item<'a>(
     declared(reader, alloc, all)
 }
 
-/// One item of a text, where there is one more.
+/// One item of a text, if there is one more.
 fn item<'a>(reader: &mut Reader<'a>, alloc: Global, all: &mut Items<'a>) -> Result<(), Stop>
     requires more { has_more (kind_of (ahead reader.now)) ≡ true }
     ensures turns { Answered (λ x. IsItem all.old (ahead reader.old) all.new (ahead reader.new))

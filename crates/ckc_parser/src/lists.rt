@@ -14,7 +14,7 @@ use ckc_parser_grammar::{
 use ckc_syntax::{Decl, Head, Init, Item, Length, Spelling, Stmt, Token};
 use std::alloc::Global;
 
-/// The items of a text that are read so far. What reads more puts them behind these, since a list that an exit has to
+/// The items of a text that are read so far. What reads more puts them after these, since a list that an exit has to
 /// drop is dear to prove.
 pub type Items<'a> = Seq<Item<Spelling<'a>, ()>>;
 
@@ -27,7 +27,7 @@ pub type Declarations<'a> = Seq<Decl<Spelling<'a>, ()>>;
 /// The head of a function.
 pub type Heading<'a> = Boxed<Head<Spelling<'a>, ()>>;
 
-/// Puts an item behind those of a list. The reader stands first, here and below, so that lifetimes are counted as in
+/// Puts an item after those of a list. The reader stands first, here and below, so that lifetimes are counted as in
 /// the callers, which is proved sooner.
 fn put_item<'a>(
     reader: &Reader<'a>,
@@ -168,7 +168,7 @@ fn put_stmt<'a>(
     }
 }
 
-/// Puts a statement behind those of a list.
+/// Puts a statement after those of a list.
 pub fn put_statement<'a>(
     reader: &Reader<'a>,
     all: &mut Statements<'a>,

@@ -71,7 +71,7 @@ pub fn block<'a>(reader: &mut Reader<'a>, alloc: Global) -> Result<Statement<'a>
     block_at(reader, alloc, None, open.pos)
 }
 
-/// A block behind its `{`.
+/// A block after its `{`.
 #[cycle(stmt)]
 fn block_at<'a>(
     reader: &mut Reader<'a>,
@@ -112,7 +112,7 @@ fn if_stmt<'a>(reader: &mut Reader<'a>, alloc: Global) -> Result<Statement<'a>, 
     statement_at(reader, alloc, Act::If(condition, body, other), mark.pos)
 }
 
-/// The `else` of the nearest `if`, where there is one.
+/// The `else` of the nearest `if`, if there is one.
 #[cycle(stmt)]
 fn otherwise<'a>(reader: &mut Reader<'a>, alloc: Global) -> Result<Option<Statement<'a>>, Stop>
     ensures gives { Gives (λ y. v.as_part y) (g.n g.otherwise) (ahead reader.old) result
@@ -212,7 +212,7 @@ fn assign_stmt<'a>(reader: &mut Reader<'a>, alloc: Global) -> Result<Statement<'
     assigned(reader, alloc, target)
 }
 
-/// An assignment behind its target.
+/// An assignment after its target.
 fn assigned<'a>(
     reader: &mut Reader<'a>,
     alloc: Global,
@@ -226,7 +226,7 @@ fn assigned<'a>(
     ended(reader, alloc, Act::Assign(target, value), equals.pos)
 }
 
-/// A statement, and the `;` behind it.
+/// A statement, and the `;` after it.
 fn ended<'a>(
     reader: &mut Reader<'a>,
     alloc: Global,
@@ -278,7 +278,7 @@ fn calloc_first_stmt<'a>(reader: &mut Reader<'a>, alloc: Global) -> Result<State
     calloc_stmt(reader, alloc, name)
 }
 
-/// What goes on behind the name that begins a statement.
+/// What goes on after the name that begins a statement.
 fn named_stmt<'a>(
     reader: &mut Reader<'a>,
     alloc: Global,
@@ -294,7 +294,7 @@ fn named_stmt<'a>(
     }
 }
 
-/// A call as a statement, behind its name.
+/// A call as a statement, after its name.
 fn call_stmt<'a>(
     reader: &mut Reader<'a>,
     alloc: Global,
@@ -311,7 +311,7 @@ fn call_stmt<'a>(
     ended(reader, alloc, Act::Call(call), name.pos)
 }
 
-/// An assignment, behind the name that its target begins with.
+/// An assignment, after the name that its target begins with.
 fn named_assign<'a>(
     reader: &mut Reader<'a>,
     alloc: Global,
@@ -327,7 +327,7 @@ fn named_assign<'a>(
     assigned(reader, alloc, target)
 }
 
-/// What goes on behind `calloc` that begins a statement.
+/// What goes on after `calloc` that begins a statement.
 fn calloc_stmt<'a>(
     reader: &mut Reader<'a>,
     alloc: Global,
@@ -359,7 +359,7 @@ fn calloc_type_stmt<'a>(
     ended(reader, alloc, Act::Call(call), name.pos)
 }
 
-/// An expression that may be left out, and the `;` behind it.
+/// An expression that may be left out, and the `;` after it.
 fn condition<'a>(reader: &mut Reader<'a>, alloc: Global) -> Result<Option<Expression<'a>>, Stop>
     ensures gives { Gives (λ y. v.as_value y) (g.n g.condition) (ahead reader.old) result
         (ahead reader.new) }
@@ -373,7 +373,7 @@ fn condition<'a>(reader: &mut Reader<'a>, alloc: Global) -> Result<Option<Expres
     Ok(Some(value))
 }
 
-/// What a `for` begins with, and the `;` behind it.
+/// What a `for` begins with, and the `;` after it.
 fn for_start<'a>(reader: &mut Reader<'a>, alloc: Global) -> Result<Option<Statement<'a>>, Stop>
     ensures gives { Gives (λ y. v.as_part y) (g.n g.for_start) (ahead reader.old) result
         (ahead reader.new) }
@@ -417,7 +417,7 @@ fn local_statement<'a>(
     }
 }
 
-/// The step of a `for`, and the `)` behind it.
+/// The step of a `for`, and the `)` after it.
 fn for_step<'a>(reader: &mut Reader<'a>, alloc: Global) -> Result<Option<Statement<'a>>, Stop>
     ensures gives { Gives (λ y. v.as_part y) (g.n g.for_step) (ahead reader.old) result
         (ahead reader.new) }
@@ -454,7 +454,7 @@ fn bundled<'a>(reader: &mut Reader<'a>, alloc: Global, all: &mut Statements<'a>)
     assigns(reader, alloc, all)
 }
 
-/// An assignment, and the `;` behind it.
+/// An assignment, and the `;` after it.
 fn one_assign<'a>(
     reader: &mut Reader<'a>,
     alloc: Global,

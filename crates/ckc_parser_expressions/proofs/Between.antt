@@ -1,4 +1,4 @@
--- Two bounds behind `bounds (`, where `unknown` is not alone there: they are read as an expression, a `,` and an
+-- Two bounds after `bounds (`, if `unknown` is not alone there: they are read as an expression, a `,` and an
 -- expression, whatever the first one begins with.
 use Rattle.std.proofs.Common.{◌≡◌, List, [], ◌∷◌, true, false, refl, sym, ap, subst, ◌∙◌, Some}
 use Rattle.ckc_base.specs.declared.places.Pos.{Pos}
@@ -50,7 +50,7 @@ stop_inner r h (T.none pk e) = absurd (cc)
 stop_inner {p} {a} {b} r h (T.inner q pk d) = subst (λ z. Stops (right z) a b) (one_rule q r (pick p (kind_of a)) pk h) d
 stop_inner r h (T.after q m ws pk d al d2) = elim d2 [ ]
 
--- the first symbol stops, or the others do behind it
+-- the first symbol stops, or the others do after it
 data Halt (s : Symbol) (ss : List Symbol) (a b : List Sign) : Type 0 where
   here : Stops (s ∷ []) a b → Halt s ss a b
   later : (v : Value) (m : List Sign) → Takes (s ∷ []) a (v ∷ []) m → Stops ss m b → Halt s ss a b
@@ -108,7 +108,7 @@ not_close {b = b} h f (T.read {x = x} {a = c} q (T.done e)) r =
 abbrev pub ends : List Symbol
 ends = k kind.Comma ∷ n g.expr ∷ k kind.RoundClose ∷ []
 
--- What the first operand behind `bounds (` leads to: what is read behind it makes the bounds.
+-- What the first operand after `bounds (` leads to: what is read after it makes the bounds.
 record Opened (a q : List Sign) (u : Value) : Type 0 where
   taken : (r c e d : Value) (b : List Sign) → Takes (n g.expr_rest ∷ ends) q (r ∷ c ∷ e ∷ d ∷ []) b →
       (w : Value) × Takes (n g.bounds_rest ∷ []) a (w ∷ []) b × ((pos : Pos) → as_limits_at w pos ≡ bounds.Between (as_expr (made g.Expr (u ∷ r ∷ []))) (as_expr e) pos)
@@ -171,7 +171,7 @@ opened_by a q u f (unknown h) first =
       stopped = λ b x. stop_rule g.Unknown pk (then_stops word (stop_rule g.UnknownName upk (then_stops y.rest x)));
     }
 
--- the same where the first operand is not read whole
+-- the same if the first operand is not read whole
 no_name : (a b : List Sign) → is_name (kind_of a) ≡ true → Stops (t g.name ∷ []) a b → ⊥
 no_name a b h (T.miss f e) = absurd (cc)
 no_name a b h (T.next f d) = elim d [ ]
@@ -201,7 +201,7 @@ halt_by : (a b : List Sign) → is_unknown_alone a ≡ false → Halt (n g.unary
 halt_by a b f (here s) = shut_by_start a b f (start_of (kind_of a)) s
 halt_by a b f (later u m d s) = (opened_by a m u f (start_of (kind_of a)) d).stopped b (here_stops _ s)
 
--- where the first expression stops, and what it leads to where it is read
+-- if the first expression stops, and what it leads to if it is read
 pub halt_of : (a b : List Sign) → is_unknown_alone a ≡ false → Stops (n g.expr ∷ []) a b → Stops (n g.bounds_rest ∷ []) a b
 halt_of a b f d = halt_by a b f (halt (stop_inner g.Expr refl d))
 

@@ -1,4 +1,4 @@
--- An expression behind the name `calloc`, as it is read behind every other name.
+-- An expression after the name `calloc`, as it is read after every other name.
 use Rattle.std.proofs.Common.{◌≡◌, List, [], ◌∷◌, ◌⊎◌, inl, inr, ⊎_elim, refl, sym, ap, subst, ◌∙◌}
 use Rattle.std.specs.Prelude.{Option, Some, Result}
 use Rattle.ckc_syntax.specs.Spelled.{Spelled}
@@ -15,7 +15,7 @@ use Rattle.ckc_parser_grammar.specs.code.Reading as T
 use Rattle.ckc_parser_grammar.specs.code.Marked.{Gives, Reads}
 use Rattle.ckc_parser_grammar.proofs.Steps.{also_all, then_all, here_all, also, here_stops, then_stops, by_rule, stop_rule, turned}
 
--- what may go on behind `calloc` where no `(` and no `<` does
+-- what may go on after `calloc` if no `(` and no `<` does
 data Class (c : Kind) : Type 0 where
   by_post : pick g.calloc_value c ≡ Some g.CallocPost → pick g.posts c ≡ Some g.Posts → Class c
   by_step : pick g.calloc_value c ≡ Some g.CallocStep → pick g.posts c ≡ Some g.NoPosts → pick g.tail c ≡ Some g.Step → pick g.operation c ≡ Some g.OtherOperation → Class c
@@ -189,7 +189,7 @@ module _ (t : Spelled) where
   found a b vs (by_step pk pp pt po) d = found_step a b vs pk pp pt po d
   found a b vs (by_name pk pp pt) d = found_name a b vs pk pp pt d
 
--- where the operator and its operand are read, and reading stops behind them
+-- if the operator and its operand are read, and reading stops after them
 operand_stops : {m b : List Sign} → Stops (n g.unary ∷ n g.tail ∷ []) m b → Stops (n g.unary ∷ n g.expr_rest ∷ []) m b
 operand_stops (T.none h e) = T.none h e
 operand_stops (T.inner r pk d) = T.inner r pk d
@@ -201,7 +201,7 @@ step_stops a b po d = ⊎_elim
     (λ (s : (m : List Sign) × (ws : List Value) × Takes (n g.operation_but_less ∷ []) a ws m × Stops (n g.unary ∷ n g.tail ∷ []) m b). then_all s.2 (operand_stops s.3))
     (stopped g.OtherOperation po d)
 
--- a whole step is read, and reading stops behind it
+-- a whole step is read, and reading stops after it
 behind_step : (a m b : List Sign) (vs : List Value) → pick g.operation (kind_of a) ≡ Some g.OtherOperation → Takes (n g.operation ∷ n g.unary ∷ n g.tail ∷ []) a vs m → Stops (n g.choice ∷ []) m b → Stops (n g.operation_but_less ∷ n g.unary ∷ n g.expr_rest ∷ []) a b
 behind_step a m b vs po d s =
     let o = opened g.OtherOperation po d in

@@ -1,4 +1,4 @@
--- What stands behind a primary expression, one after another.
+-- What stands after a primary expression, one after another.
 use Rattle.std.proofs.Common.{◌≡◌, List, [], ◌∷◌, refl}
 use Rattle.ckc_parser_grammar.specs.Trees.{posted}
 use Rattle.ckc_parser_grammar.specs.declared.parts.Post.{Post}

@@ -34,7 +34,7 @@ pub fn expr<'a>(reader: &mut Reader<'a>, alloc: Global) -> Result<Expression<'a>
     Ok(joined)
 }
 
-/// What goes on with an expression behind an operand, in front of which some operators with operands may stand.
+/// What goes on with an expression after an operand, in front of which some operators with operands may stand.
 #[cycle(expr)]
 pub fn expr_rest<'a>(
     reader: &mut Reader<'a>,
@@ -74,7 +74,7 @@ fn tail<'a>(
     Ok(steps)
 }
 
-/// The arms of `? :`, where a `?` is next (ISO C11, 6.5.15).
+/// The arms of `? :`, if a `?` is next (ISO C11, 6.5.15).
 #[cycle(expr)]
 fn choice<'a>(reader: &mut Reader<'a>, alloc: Global) -> Result<Option<Arms<'a>>, Stop>
     ensures parses { Parses (λ x. arms x) (g.n g.choice) (ahead reader.old) result
@@ -169,7 +169,7 @@ fn round<'a>(reader: &mut Reader<'a>, alloc: Global) -> Result<Expression<'a>, S
     }
 }
 
-/// A cast behind its `(`, which is its place (ISO C11, 6.5.4).
+/// A cast after its `(`, which is its place (ISO C11, 6.5.4).
 #[cycle(expr)]
 fn cast<'a>(reader: &mut Reader<'a>, alloc: Global, pos: Pos) -> Result<Expression<'a>, Stop>
     ensures reads { Reads (g.right g.Cast) (λ x vs. as_expr_behind (made g.Cast vs) pos ≡ x)
@@ -183,7 +183,7 @@ fn cast<'a>(reader: &mut Reader<'a>, alloc: Global, pos: Pos) -> Result<Expressi
     Ok(whole)
 }
 
-/// An expression in parentheses behind its `(`, with what stands behind it.
+/// An expression in parentheses after its `(`, with what stands after it.
 #[cycle(expr)]
 fn paren<'a>(reader: &mut Reader<'a>, alloc: Global) -> Result<Expression<'a>, Stop>
     ensures reads { Reads (g.right g.Paren)
@@ -196,7 +196,7 @@ fn paren<'a>(reader: &mut Reader<'a>, alloc: Global) -> Result<Expression<'a>, S
     posts(reader, alloc, inner)
 }
 
-/// A constant or a bounds cast, with what stands behind it.
+/// A constant or a bounds cast, with what stands after it.
 #[cycle(expr)]
 fn postfix<'a>(reader: &mut Reader<'a>, alloc: Global) -> Result<Expression<'a>, Stop>
     ensures reads { Reads (g.right g.Postfix) (Makes g.Postfix (λ x. expr x)) (ahead reader.old)
@@ -207,7 +207,7 @@ fn postfix<'a>(reader: &mut Reader<'a>, alloc: Global) -> Result<Expression<'a>,
     posts(reader, alloc, operand)
 }
 
-/// `[e]`, `.m` and `->m` behind an expression (ISO C11, 6.5.2).
+/// `[e]`, `.m` and `->m` after an expression (ISO C11, 6.5.2).
 #[cycle(expr)]
 pub fn posts<'a>(
     reader: &mut Reader<'a>,
@@ -225,7 +225,7 @@ pub fn posts<'a>(
     Ok(whole)
 }
 
-/// One of `[e]`, `.m` and `->m` behind an expression.
+/// One of `[e]`, `.m` and `->m` after an expression.
 #[cycle(expr)]
 fn post<'a>(
     reader: &mut Reader<'a>,
@@ -245,7 +245,7 @@ fn post<'a>(
     }
 }
 
-/// An index behind an expression (ISO C11, 6.5.2.1).
+/// An index after an expression (ISO C11, 6.5.2.1).
 #[cycle(expr)]
 fn index<'a>(
     reader: &mut Reader<'a>,
@@ -265,7 +265,7 @@ fn index<'a>(
     Ok(whole)
 }
 
-/// A member of a structure behind an expression (ISO C11, 6.5.2.3).
+/// A member of a structure after an expression (ISO C11, 6.5.2.3).
 fn dot<'a>(
     reader: &mut Reader<'a>,
     alloc: Global,
@@ -287,7 +287,7 @@ fn dot<'a>(
     Ok(whole)
 }
 
-/// A member of a structure that is pointed to, behind an expression (ISO C11, 6.5.2.3).
+/// A member of a structure that is pointed to, after an expression (ISO C11, 6.5.2.3).
 fn arrow<'a>(
     reader: &mut Reader<'a>,
     alloc: Global,
@@ -343,7 +343,7 @@ fn bounds_cast<'a>(
     Ok(whole)
 }
 
-/// The type of a bounds cast in `<` and `>`, with the `(` behind it.
+/// The type of a bounds cast in `<` and `>`, with the `(` after it.
 fn cast_type<'a>(reader: &mut Reader<'a>, alloc: Global) -> Result<CType<'a>, Stop>
     ensures reads { Reads (cast_type) (λ x vs. IsSecond (type_tree x) vs) (ahead reader.old) result
         (ahead reader.new) }
@@ -354,7 +354,7 @@ fn cast_type<'a>(reader: &mut Reader<'a>, alloc: Global) -> Result<CType<'a>, St
     Ok(ctype)
 }
 
-/// The bounds of a bounds cast, where some are given, and its `)`.
+/// The bounds of a bounds cast, if some are given, and its `)`.
 #[cycle(expr)]
 fn cast_limits<'a>(reader: &mut Reader<'a>, alloc: Global) -> Result<Option<Bounds<'a>>, Stop>
     ensures parses { Parses (λ x. declared_limits x) (g.n g.cast_limits) (ahead reader.old) result
@@ -428,7 +428,7 @@ fn bounds<'a>(reader: &mut Reader<'a>, alloc: Global) -> Result<Bounds<'a>, Stop
     }
 }
 
-/// `unknown` and its `)` behind `bounds (`.
+/// `unknown` and its `)` after `bounds (`.
 fn unknown<'a>(reader: &mut Reader<'a>, alloc: Global, pos: Pos) -> Result<Bounds<'a>, Stop>
     ensures reads { Reads (g.k Kind.Unknown ∷ g.k Kind.RoundClose ∷ [])
         (λ x vs. x ≡ bounds.Unknown pos) (ahead reader.old) result (ahead reader.new) }
@@ -440,7 +440,7 @@ fn unknown<'a>(reader: &mut Reader<'a>, alloc: Global, pos: Pos) -> Result<Bound
     Ok(whole)
 }
 
-/// Two bounds behind `bounds (`, whose place is given.
+/// Two bounds after `bounds (`, whose place is given.
 #[cycle(expr)]
 fn between<'a>(reader: &mut Reader<'a>, alloc: Global, pos: Pos) -> Result<Bounds<'a>, Stop>
     ensures gives { is_unknown_alone (ahead reader.old) ≡ false

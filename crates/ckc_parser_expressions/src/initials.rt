@@ -16,7 +16,7 @@ use ckc_parser_grammar::{
 use ckc_syntax::{Decl, Expr, Init, Item, Length, Spelling, Stmt, Token};
 use std::alloc::Global;
 
-/// The bounds of a declaration, where there are some.
+/// The bounds of a declaration, if there are some.
 pub fn declared_limits<'a>(
     reader: &mut Reader<'a>,
     alloc: Global,
@@ -96,7 +96,7 @@ fn nt_array<'a>(reader: &mut Reader<'a>) -> Result<Length, Stop>
     Ok(Length::Nt(size.0))
 }
 
-/// The number in the brackets of an array, where there is one.
+/// The number in the brackets of an array, if there is one.
 fn size<'a>(reader: &mut Reader<'a>) -> Result<Option<u32>, Stop>
     ensures gives { Gives (λ y. v.as_size y) (g.n g.size) (ahead reader.old) result
         (ahead reader.new) }

@@ -78,7 +78,7 @@ fn greater<'a>(reader: &mut Reader<'a>) -> Result<Operation, Stop>
     })
 }
 
-/// Whether a `>` stands directly behind a `>`, which is then taken.
+/// Whether a `>` stands directly after a `>`, which is then taken.
 fn second<'a>(reader: &mut Reader<'a>) -> Result<bool, Stop>
     ensures parses { Parses (λ x. second x) (g.n g.second) (ahead reader.old) result
         (ahead reader.new) }

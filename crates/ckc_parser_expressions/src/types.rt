@@ -11,7 +11,7 @@ use ckc_parser_grammar::{CType, Class, Kind, Reader, Stop};
 use ckc_syntax::{Spelling, TypeTree};
 use std::alloc::Global;
 
-/// The stars behind a type, which each make a pointer type (ISO C11, 6.7.6).
+/// The stars after a type, which each make a pointer type (ISO C11, 6.7.6).
 pub fn starred<'a>(
     reader: &mut Reader<'a>,
     alloc: Global,
@@ -29,7 +29,7 @@ pub fn starred<'a>(
     Ok(ctype)
 }
 
-/// A type: a base with stars behind it.
+/// A type: a base with stars after it.
 #[cycle(types)]
 pub fn type_name<'a>(reader: &mut Reader<'a>, alloc: Global) -> Result<CType<'a>, Stop>
     ensures parses { Parses (λ x. type_tree x) (g.n g.type_name) (ahead reader.old) result
@@ -117,7 +117,7 @@ fn unsigned_base<'a>(reader: &mut Reader<'a>, alloc: Global) -> Result<CType<'a>
     Ok(base)
 }
 
-/// The `int` that may stand behind `unsigned`.
+/// The `int` that may stand after `unsigned`.
 fn unsigned_rest<'a>(reader: &mut Reader<'a>) -> Result<(), Stop>
     ensures parses { Parses (λ x. nothing) (g.n g.unsigned_rest) (ahead reader.old) result
         (ahead reader.new) }

@@ -66,7 +66,7 @@ fn other_value<'a>(reader: &mut Reader<'a>, alloc: Global) -> Result<Expression<
     Ok(whole)
 }
 
-/// What goes on behind a name but `calloc`: a call, or an expression.
+/// What goes on after a name but `calloc`: a call, or an expression.
 fn named_value<'a>(
     reader: &mut Reader<'a>,
     alloc: Global,
@@ -116,7 +116,7 @@ fn calloc_call<'a>(
     Ok(whole)
 }
 
-/// An expression behind the name that it begins with.
+/// An expression after the name that it begins with.
 fn name_expr<'a>(
     reader: &mut Reader<'a>,
     alloc: Global,
@@ -134,7 +134,7 @@ fn name_expr<'a>(
     Ok(whole)
 }
 
-/// What goes on behind `calloc`: a call, a call with a type, or an expression.
+/// What goes on after `calloc`: a call, a call with a type, or an expression.
 fn calloc_value<'a>(
     reader: &mut Reader<'a>,
     alloc: Global,
@@ -151,7 +151,7 @@ fn calloc_value<'a>(
     }
 }
 
-/// `<` behind `calloc`.
+/// `<` after `calloc`.
 fn calloc_less<'a>(
     reader: &mut Reader<'a>,
     alloc: Global,
@@ -166,7 +166,7 @@ fn calloc_less<'a>(
     behind_less(reader, alloc, name, mark)
 }
 
-/// What goes on behind `calloc <`: a type, or an operand.
+/// What goes on after `calloc <`: a type, or an operand.
 fn behind_less<'a>(
     reader: &mut Reader<'a>,
     alloc: Global,
@@ -273,7 +273,7 @@ fn more_arguments<'a>(
     Ok(all)
 }
 
-/// A call of `calloc` behind its `<`.
+/// A call of `calloc` after its `<`.
 pub fn allocation<'a>(
     reader: &mut Reader<'a>,
     alloc: Global,
@@ -290,7 +290,7 @@ pub fn allocation<'a>(
     Ok(whole)
 }
 
-/// The type behind `calloc <`, with the `>` and the `(` behind it.
+/// The type after `calloc <`, with the `>` and the `(` after it.
 fn allocated_type<'a>(reader: &mut Reader<'a>, alloc: Global) -> Result<CType<'a>, Stop>
     ensures reads { Reads allocated_type (λ x vs. IsLead (v.type_tree x) vs) (ahead reader.old)
         result (ahead reader.new) }
@@ -302,7 +302,7 @@ fn allocated_type<'a>(reader: &mut Reader<'a>, alloc: Global) -> Result<CType<'a
     Ok(ctype)
 }
 
-/// The `sizeof` of a type as the last argument of `calloc`, with the `,` before it and the `)` behind it.
+/// The `sizeof` of a type as the last argument of `calloc`, with the `,` before it and the `)` after it.
 fn allocated_size<'a>(reader: &mut Reader<'a>, alloc: Global) -> Result<CType<'a>, Stop>
     ensures reads { Reads allocated_size (λ x vs. IsFourth (v.type_tree x) vs) (ahead reader.old)
         result (ahead reader.new) }

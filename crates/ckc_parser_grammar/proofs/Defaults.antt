@@ -1,4 +1,4 @@
--- The production that a part has where the next token begins none of its others.
+-- The production that a part has if the next token begins none of its others.
 use Rattle.std.proofs.Common.{◌≡◌, List, [], ◌∷◌, Bool, true, false, ◌==◌, refl, None, Some, Option}
 use Rattle.ckc_parser_grammar.specs.declared.kind.Kind.{Kind}
 use Rattle.ckc_parser_grammar.specs.declared.kind.Kind.TheVariants as kind

@@ -24,7 +24,7 @@ is_level m l e = grind (arith, nat_tests)
 pub not_level : (m l : ℕ) → (m ≡ l → ⊥) → (m == l) ≡ false
 not_level m l e = grind (arith, nat_tests)
 
--- a step of another level stands behind what is joined
+-- a step of another level stands after what is joined
 pub attach_push : (l : ℕ) (e : Expr) (xs : List Step) (s : Step) (ss : List Step) → (level s.op == l) ≡ false → attached l e (xs ++ s ∷ []) ss ≡ attached l e xs (s ∷ ss)
 attach_push l e [] s ss h = other_level (level s.op == l) e l s ss refl h
 attach_push l e (x ∷ xs) s ss h =
@@ -68,7 +68,7 @@ unfolding joined_to
 nothing_left zero e = refl
 nothing_left (suc m) e = nothing_left m e
 
--- so nothing may be left to join where no step is left, nor behind the last pass
+-- so nothing may be left to join if no step is left, nor after the last pass
 pub done_empty : (empty : Bool) (m : ℕ) (e : Expr) (ss : List Step) → (empty ≡ true → ss ≡ []) → OnFalse (not empty) (joined_to m (e, ss) ≡ (e, ss))
 done_empty true m e ss h = ap (λ z. joined_to m (e, z)) (h refl) ∙ nothing_left m e ∙ ap (λ z. (e, z)) (sym (h refl))
 done_empty false m e ss h = tt

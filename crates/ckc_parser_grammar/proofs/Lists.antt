@@ -15,7 +15,7 @@ same2 f {b = b} {c = c} e h = ap (λ x. f x c) e ∙ ap (λ y. f b y) h
 pub same3 : {A B C D : Type 0} (f : A → B → C → D) {a b : A} {c d : B} {x y : C} → a ≡ b → c ≡ d → x ≡ y → f a c x ≡ f b d y
 same3 f {b = b} {c = c} {d = d} {x = x} e h k = ap (λ z. f z c x) e ∙ ap (λ z. f b z x) h ∙ ap (λ z. f b d z) k
 
--- the next item, put behind those so far
+-- the next item, put after those so far
 pub next_item : {X : Type 0} (all next : List X) (whole more : List X) (x y : X) → whole ≡ all ++ (x ∷ more) → x ≡ y → next ≡ all ++ y ∷ [] → whole ≡ next ++ more
 next_item all next whole more x y e h k =
     e ∙ ap (λ z. all ++ (z ∷ more)) h ∙ sym (append_assoc all (y ∷ []) more) ∙ ap (λ z. z ++ more) (sym k)

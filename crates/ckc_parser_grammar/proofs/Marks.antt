@@ -16,7 +16,7 @@ pub signs_both : (x : Spelled) (xs ys : List Spelled) → signs_after x (xs ++ y
 signs_both x [] ys = refl
 signs_both x (y ∷ xs) ys = ap (λ z. record { kind = kind_after x y; token = y } ∷ z) (signs_both y xs ys)
 
--- A token at column 0 stands directly behind none.
+-- A token at column 0 stands directly after none.
 never : (a p : Bool) (m : ℕ) → (a && (p && (m + 1 == 0))) ≡ false
 never false p m = refl
 never true false m = refl

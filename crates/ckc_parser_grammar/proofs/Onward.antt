@@ -29,7 +29,7 @@ one_turn G H p r ss start mid next xs rt pk al d g o = (
   λ b e. o.1 b (stop_rule r pk (subst (λ z. Stops z mid b) (sym rt) (then_all d e))),
 )
 
--- the end, where the part is not begun once more
+-- the end, if the part is not begun once more
 pub last_turn : (G : Value → Value → Type 0) (p : Part) (r : Rule) (start mid next : List Sign) (xs : List Value) →
     pick p (kind_of mid) ≡ Some r → ((k : Kind) → allowed r k ≡ true) → Takes (right r) mid xs next → Onward G (n p) start mid →
     (w : Value) × Takes (n p ∷ []) start (w ∷ []) next × G (made r xs) w

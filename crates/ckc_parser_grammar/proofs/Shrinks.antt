@@ -41,7 +41,7 @@ length_ahead k (x ∷ xs) = ap (λ i. suc i) (length_after (spelled x) (map spel
     length_map [] = refl
     length_map (x ∷ xs) = ap (λ i. suc i) (length_map xs)
 
--- what a reader has left behind symbols that are not all empty
+-- what a reader has left after symbols that are not all empty
 pub fewer : {ss : List Symbol} {vs : List Value} (old new : Reader) → Takes ss (ahead old) vs (ahead new) → empty_all ss ≡ false → length new.rest.now < length old.rest.now
 fewer old new d e =
     let i = (shrinks d).1 e in

@@ -48,7 +48,7 @@ joins (n p ∷ ss) c = implies (begin_all ss c) (follows p c) && joins ss c
 abbrev pub is_spelled : Kind → Bool
 is_spelled c = number (kind_of_token (spelled c)) == number c
 
--- `else` and the second `>` of a shift begin a list of symbols only where they are the next token, and stand
+-- `else` and the second `>` of a shift begin a list of symbols only if they are the next token, and stand
 -- nowhere else in it
 abbrev pub plain : Symbol → Bool
 plain (t x) = not (fits x kind.Else) && is_spelled (sample_kind x)
@@ -191,7 +191,7 @@ same_kind c d h = sym (kind_at c) ∙ ap (λ i. get_or all_kinds i kind.End) (sa
 pub is_number : (c : Kind) → (number c == number c) ≡ true
 is_number c = grind (arith, nat_tests)
 
--- a token may stand for a terminal exactly where the parser's test says so
+-- a token may stand for a terminal exactly when the parser's test says so
 pub fits_of : (x : Terminal) (c : Kind) → Fits x c → fits x c ≡ true
 fits_of (one k) c h = subst (λ d. (number k == number d) ≡ true) (sym h) (is_number k)
 fits_of name c h = h

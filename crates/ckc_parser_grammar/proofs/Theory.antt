@@ -40,7 +40,7 @@ first_of (D.by {p = p} r (u ∷ us) ys ws l d al mk d2 split) x xs e =
     let h : u ≡ x = cc in
     or_left _ _ (subst (λ z. begins p z.kind ≡ true) h (subst (λ q. begins q u.kind ≡ true) l (begin_owed r u.kind (first_of d u us refl)).0))
 
--- what a derivation holds is read, where what follows may follow
+-- what a derivation holds is read, if what follows may follow
 may_follow : (p : Part) (ss : List Symbol) (rest : List Sign) (c : Kind) (vs : List Value) → Derives ss rest c vs →
     room (n p ∷ ss) c ≡ true → ((k : Kind) → joins (n p ∷ ss) k ≡ true) → follows p (before rest c) ≡ true
 may_follow p ss [] c vs d rm j = implied _ _ (and_true _ _ rm).0 (empty_of d refl)

@@ -36,7 +36,7 @@ abbrev pub is_name_but_unknown : Kind → Bool
 is_name_but_unknown kind.Unknown = false
 is_name_but_unknown c = is_name c
 
--- whether a token of the kind is a `>`, also one directly behind another
+-- whether a token of the kind is a `>`, also one directly after another
 abbrev pub is_greater : Kind → Bool
 is_greater kind.Greater = true
 is_greater kind.GreaterNext = true
@@ -318,12 +318,12 @@ production Structure = (items, k kind.Struct ∷ t name ∷ n structure ∷ n it
 production Static = (items, k kind.Static ∷ n declaration ∷ n items ∷ [])
 production Declaration = (items, n declared ∷ n items ∷ [])
 production NoItems = (items, [])
--- Behind `struct` and a name: the `;` of a tag line, the members of a structure, or what is declared with that type
+-- After `struct` and a name: the `;` of a tag line, the members of a structure, or what is declared with that type
 -- as its base. Each starts with another token, so the choice is made there.
 production Tag = (structure, k kind.Semicolon ∷ [])
 production Members = (structure, k kind.CurlyOpen ∷ n member ∷ n members ∷ k kind.CurlyClose ∷ k kind.Semicolon ∷ [])
 production Structured = (structure, n declarators ∷ [])
--- Behind `static`: no tag line and no structure.
+-- After `static`: no tag line and no structure.
 production StaticStruct = (declaration, k kind.Struct ∷ t name ∷ n declarators ∷ [])
 production StaticOther = (declaration, n declared ∷ [])
 -- statics | proto | func, unless a structure is the base: a head with a mode or with the result `void`, or a base
@@ -331,7 +331,7 @@ production StaticOther = (declaration, n declared ∷ [])
 production Moded = (declared, n mode ∷ n result_type ∷ t name ∷ n head ∷ [])
 production Voided = (declared, k kind.Void ∷ t name ∷ n head ∷ [])
 production Based = (declared, n scalar ∷ n declarators ∷ [])
--- Behind a base: stars and a name; then a head goes on at `(`, and everything else is an object with more objects.
+-- After a base: stars and a name; then a head goes on at `(`, and everything else is an object with more objects.
 -- statics = base object { "," object } ";"
 production Declarators = (declarators, n stars ∷ t name ∷ n declarator ∷ [])
 production Headed = (declarator, n head ∷ [])
@@ -352,14 +352,14 @@ production Initial = (initial, k kind.Equals ∷ n initializer ∷ [])
 production NoInitial = (initial, [])
 production ListInitial = (initializer, k kind.CurlyOpen ∷ n expr ∷ n list_rest ∷ [])
 production OneInitial = (initializer, n expr ∷ [])
--- Behind an expression of a list: a `,`, behind which the list may end, or the end.
+-- After an expression of a list: a `,`, after which the list may end, or the end.
 production ListComma = (list_rest, k kind.Comma ∷ n list_more ∷ [])
 production ListEnd = (list_rest, k kind.CurlyClose ∷ [])
 production ListClose = (list_more, k kind.CurlyClose ∷ [])
 production ListNext = (list_more, n expr ∷ n list_rest ∷ [])
 -- proto = head ";" and func = head block, where
 -- head = [ mode ] ( "void" | base stars ) name "(" [ "void" | param { "," param } ] ")" [ ":" limits ].
--- The part `head` is what stands behind the name, with the `;` or the block.
+-- The part `head` is what stands after the name, with the `;` or the block.
 production Head = (head, k kind.RoundOpen ∷ n params ∷ n declared_limits ∷ n body ∷ [])
 production Prototype = (body, k kind.Semicolon ∷ [])
 production Body = (body, k kind.CurlyOpen ∷ n block_items ∷ [])
@@ -405,14 +405,14 @@ production NoStars = (stars, [])
 production Count = (limits, k kind.Count ∷ k kind.RoundOpen ∷ n expr ∷ k kind.RoundClose ∷ [])
 production ByteCount = (limits, k kind.ByteCount ∷ k kind.RoundOpen ∷ n expr ∷ k kind.RoundClose ∷ [])
 production BoundsOf = (limits, k kind.Bounds ∷ k kind.RoundOpen ∷ n bounds_rest ∷ [])
--- Behind `bounds (`: `unknown` alone, or an expression that begins with the name `unknown`, with another name, or
+-- After `bounds (`: `unknown` alone, or an expression that begins with the name `unknown`, with another name, or
 -- with no name.
 production Unknown = (bounds_rest, k kind.Unknown ∷ n unknown_rest ∷ [])
 production BetweenNamed = (bounds_rest, t name_but_unknown ∷ n posts ∷ n expr_rest ∷ k kind.Comma ∷ n expr ∷ k kind.RoundClose ∷ [])
 production Between = (bounds_rest, n first ∷ n expr_rest ∷ k kind.Comma ∷ n expr ∷ k kind.RoundClose ∷ [])
 production UnknownEnd = (unknown_rest, k kind.RoundClose ∷ [])
 production UnknownName = (unknown_rest, n posts ∷ n expr_rest ∷ k kind.Comma ∷ n expr ∷ k kind.RoundClose ∷ [])
--- block = "{" { local ";" | stmt } "}", behind its `{`
+-- block = "{" { local ";" | stmt } "}", after its `{`
 production EndBlock = (block_items, k kind.CurlyClose ∷ [])
 production Locals = (block_items, n locals ∷ n block_items ∷ [])
 production Stmts = (block_items, n stmt ∷ n block_items ∷ [])
@@ -430,7 +430,7 @@ production NamedValue = (value, t name_but_calloc ∷ n named_value ∷ [])
 production Value = (value, n first ∷ n expr_rest ∷ [])
 production CallValue = (named_value, k kind.RoundOpen ∷ n arguments ∷ [])
 production ExprValue = (named_value, n posts ∷ n expr_rest ∷ [])
--- Behind `calloc` in a value: the arguments of a call; a `<`, which begins a type or is an operator; or what goes on
+-- After `calloc` in a value: the arguments of a call; a `<`, which begins a type or is an operator; or what goes on
 -- with the name `calloc` as an expression, by a post, by another operator, or without both.
 production CallocCall = (calloc_value, k kind.RoundOpen ∷ n arguments ∷ [])
 production CallocLess = (calloc_value, k kind.Less ∷ n less ∷ [])
@@ -440,7 +440,7 @@ production CallocName = (calloc_value, n choice ∷ [])
 production LessOperand = (less, n unary ∷ n expr_rest ∷ [])
 production LessType = (less, n allocation ∷ [])
 -- call = name "(" [ expr { "," expr } ] ")" | "calloc" "<" type ">" "(" expr "," "sizeof" "(" type ")" ")",
--- behind `(` and behind `<`
+-- after `(` and after `<`
 production NoArguments = (arguments, k kind.RoundClose ∷ [])
 production Arguments = (arguments, n expr ∷ n more_arguments ∷ [])
 production MoreArguments = (more_arguments, k kind.Comma ∷ n expr ∷ n more_arguments ∷ [])
@@ -466,7 +466,7 @@ production Bundle = (stmt, k kind.Bundled ∷ k kind.CurlyOpen ∷ n assign ∷ 
 production CallocStmt = (stmt, k kind.Calloc ∷ n calloc_stmt ∷ [])
 production NamedStmt = (stmt, t name_but_calloc ∷ n named_stmt ∷ [])
 production AssignStmt = (stmt, n first ∷ k kind.Equals ∷ n value ∷ k kind.Semicolon ∷ [])
--- Behind a name that begins a statement: a call goes on at `(`, an assignment with posts and `=`. Behind `calloc` a
+-- After a name that begins a statement: a call goes on at `(`, an assignment with posts and `=`. After `calloc` a
 -- call goes on also at `<`, since no assignment does.
 production CallocTypeStmt = (calloc_stmt, k kind.Less ∷ n allocation ∷ k kind.Semicolon ∷ [])
 production CallocNameStmt = (calloc_stmt, n named_stmt ∷ [])
@@ -499,7 +499,7 @@ production Step = (tail, n operation ∷ n unary ∷ n tail ∷ [])
 production NoTail = (tail, [])
 production LessOperation = (operation, k kind.Less ∷ [])
 production OtherOperation = (operation, n operation_but_less ∷ [])
--- the operators but `<`: `>>` is a `>` with another directly behind it
+-- the operators but `<`: `>>` is a `>` with another directly after it
 production Operator = (operation_but_less, t operator ∷ [])
 production Greater = (operation_but_less, t greater ∷ n second ∷ [])
 production Second = (second, k kind.GreaterNext ∷ [])
@@ -512,7 +512,7 @@ production Signed = (first, t sign ∷ n unary ∷ [])
 production Round = (first, k kind.RoundOpen ∷ n round ∷ [])
 production Sizeof = (first, k kind.Sizeof ∷ k kind.RoundOpen ∷ n type_name ∷ k kind.RoundClose ∷ [])
 production Postfix = (first, n primary ∷ n posts ∷ [])
--- Behind `(`: a base begins the type of a cast, everything else an expression.
+-- After `(`: a base begins the type of a cast, everything else an expression.
 production Paren = (round, n expr ∷ k kind.RoundClose ∷ n posts ∷ [])
 production Cast = (round, n type_name ∷ k kind.RoundClose ∷ n unary ∷ [])
 -- postfix = primary { "[" expr "]" | "." name | "->" name }

@@ -23,7 +23,7 @@ expr_at x pos = record { node = x; pos = pos; note = tt }
 abbrev pub stmt_at : Act → Pos → Stmt
 stmt_at x pos = record { body = x; pos = pos; note = tt }
 
--- a type behind which stars stand, the first one innermost
+-- a type after which stars stand, the first one innermost
 abbrev pub starred : TypeTree → List Pos → TypeTree
 starred base [] = base
 starred base (pos ∷ ps) = starred (ctype.Raw base pos) ps
@@ -47,7 +47,7 @@ abbrev pub function_of : Head → Option Stmt → Item
 function_of h None = item.Proto h
 function_of h (Some body) = item.Function h body
 
--- an expression behind which `[e]`, `.m` and `->m` stand
+-- an expression after which `[e]`, `.m` and `->m` stand
 abbrev pub posted : Expr → List Post → Expr
 posted e [] = e
 posted e (post.Index i pos ∷ ps) = posted (expr_at (node.Index e i) pos) ps
@@ -88,12 +88,12 @@ unfoldable pub joined_to : ℕ → Expr × List Step → Expr × List Step
 joined_to zero c = c
 joined_to (suc l) c = joined_to l (joined_at (suc l) c.0 c.1)
 
--- an operand and the operators and operands behind it as one expression, the tightest operators first
+-- an operand and the operators and operands after it as one expression, the tightest operators first
 unfoldable pub joined : Expr → List Step → Expr
 unfolding joined_to
 joined e ss = (joined_to 10 (e, ss)).0
 
--- the expression `e ? f : g`, or the condition alone where no `?` stands behind it
+-- the expression `e ? f : g`, or the condition alone if no `?` stands after it
 abbrev pub picked : Expr → Option Arms → Expr
 picked e None = e
 picked e (Some a) = expr_at (node.Pick e a.yes a.no) a.pos

@@ -29,7 +29,7 @@ use Rattle.ckc_parser_grammar.specs.Grammar.{Rule}
 use Rattle.ckc_syntax.specs.Decoded.{decoded}
 use Rattle.ckc_parser_grammar.specs.Trees.{Name, Tree, Item, TypeTree, Decl, Init, Limits, Expr, Stmt, expr_at, stmt_at, starred, statics, local_of, locals, function_of, posted, joined, picked, literal}
 
--- A value of some part. A part that stands behind something has what it makes of that: a name, a type, a place.
+-- A value of some part. A part that stands after something has what it makes of that: a name, a type, a place.
 pub data Value : Type 0 where
   nothing : Value
   token : Spelled → Value
@@ -77,23 +77,23 @@ pub data Value : Type 0 where
 abbrev pub nowhere : Pos
 nowhere = record { line = 0; col = 0 }
 
--- a name of no bytes, where a value is no token
+-- a name of no bytes, if a value is no token
 abbrev pub no_token : Spelled
 no_token = record { kind = kinds.Name; text = []; pos = nowhere }
 
--- a `NULL` at no place, where a value is no expression
+-- a `NULL` at no place, if a value is no expression
 abbrev pub no_expr : Expr
 no_expr = expr_at node.Null nowhere
 
--- an empty statement at no place, where a value is no statement
+-- an empty statement at no place, if a value is no statement
 abbrev pub no_stmt : Stmt
 no_stmt = stmt_at act.Empty nowhere
 
--- a directive, where a value is no item of a text
+-- a directive, if a value is no item of a text
 abbrev pub no_item : Item
 no_item = item.Directive directives.Stdio
 
--- an `int` without a name, where a value is no declaration
+-- an `int` without a name, if a value is no declaration
 abbrev pub no_decl : Decl
 no_decl = record { ctype = ctype.Int; name = no_token.text; length = lengths.Plain; bounds = None; init = inits.Nothing; pos = nowhere }
 
@@ -157,7 +157,7 @@ abbrev pub as_length : Value → Length
 as_length (length x) = x
 as_length _ = lengths.Plain
 
--- the number in the brackets of an array, where one stands there
+-- the number in the brackets of an array, if one stands there
 abbrev pub as_size : Value → Option ℕ
 as_size (size x) = x
 as_size _ = None
@@ -187,7 +187,7 @@ abbrev pub as_limits : Value → Limits
 as_limits (limits x) = x
 as_limits _ = bounds.Unknown nowhere
 
--- the bounds behind the `:` of a declaration, where it has them
+-- the bounds after the `:` of a declaration, if it has them
 abbrev pub as_declared_limits : Value → Option Limits
 as_declared_limits (declared_limits x) = x
 as_declared_limits _ = None
@@ -212,7 +212,7 @@ abbrev pub as_exprs : Value → List Expr
 as_exprs (exprs x) = x
 as_exprs _ = []
 
--- the expression that a value is, where it may be left out, as behind `return`
+-- the expression that a value is, where it may be left out, as after `return`
 abbrev pub as_value : Value → Option Expr
 as_value (value x) = x
 as_value _ = None
@@ -232,7 +232,7 @@ abbrev pub as_expr_of_less : Value → (Spelled → Pos → Expr)
 as_expr_of_less (expr_of_less x) = x
 as_expr_of_less _ = λ t pos. no_expr
 
--- the two expressions behind the `?` of a value, where it has them
+-- the two expressions after the `?` of a value, if it has them
 abbrev pub as_arms : Value → Option Arms
 as_arms (arms x) = x
 as_arms (rest ss x) = x
@@ -254,7 +254,7 @@ abbrev pub as_post : Value → Post
 as_post (post x) = x
 as_post _ = behind.Index no_expr nowhere
 
--- the same of each that stands behind an expression
+-- the same of each that stands after an expression
 abbrev pub as_posts : Value → List Post
 as_posts (posts x) = x
 as_posts _ = []
@@ -264,7 +264,7 @@ abbrev pub as_stmt : Value → Stmt
 as_stmt (stmt x) = x
 as_stmt _ = no_stmt
 
--- the statement that a value is, where it may be left out, as behind `else`
+-- the statement that a value is, where it may be left out, as after `else`
 abbrev pub as_part : Value → Option Stmt
 as_part (part x) = x
 as_part _ = None
@@ -294,7 +294,7 @@ abbrev pub operand_of : Value → Expr
 operand_of (cast t e l) = e
 operand_of _ = no_expr
 
--- the bounds that a bounds cast gives, where it has them
+-- the bounds that a bounds cast gives, if it has them
 abbrev pub limits_of : Value → Option Limits
 limits_of (cast t e l) = l
 limits_of _ = None
@@ -332,7 +332,7 @@ named t = expr_at (node.Name t.text) t.pos
 abbrev pub called : Spelled → List Expr → Expr
 called t es = expr_at (node.Call t.text es) t.pos
 
--- an operand with the operators and operands behind it, and the arms of `? :`
+-- an operand with the operators and operands after it, and the arms of `? :`
 abbrev pub whole : Expr → List Step → Option Arms → Expr
 whole e ss c = picked (joined e ss) c
 

@@ -11,7 +11,7 @@ use ckc_base::{Boxed, Pos, Seq};
 use ckc_syntax::{Expr, Node, TreeOp};
 use std::alloc::{AllocError, Global};
 
-/// An operand with what goes on behind it: the operands joined by how tight the operators between them are, and the
+/// An operand with what goes on after it: the operands joined by how tight the operators between them are, and the
 /// arms of `? :`.
 pub fn whole<'a>(
     alloc: Global,
@@ -25,7 +25,7 @@ pub fn whole<'a>(
     picked(alloc, joined, arms)
 }
 
-/// A condition with its arms, where it has some.
+/// A condition with its arms, if it has some.
 fn picked<'a>(
     alloc: Global,
     condition: Expression<'a>,
@@ -64,7 +64,7 @@ fn joined<'a>(
     Ok(first)
 }
 
-/// Whether something may be left to join: not behind the last pass, nor where no operator is left.
+/// Whether something may be left to join: not after the last pass, nor if no operator is left.
 fn goes_on<'a>(tightness: u32, chain: &Chain<'a>) -> bool
     ensures more { OnTrue result (0 < tightness) }
     ensures done { OnFalse result (joined_to tightness (chain.now.first, chain.now.steps)
@@ -73,7 +73,7 @@ fn goes_on<'a>(tightness: u32, chain: &Chain<'a>) -> bool
     tightness > 0 && !chain.steps.is_empty()
 }
 
-/// An operand, and the operators with operands behind it.
+/// An operand, and the operators with operands after it.
 #[derive(Drop)]
 pub struct Chain<'a> {
     pub first: Expression<'a>,

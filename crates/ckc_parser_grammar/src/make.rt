@@ -184,7 +184,7 @@ pub fn one_of<T: Drop>(alloc: Global, item: Boxed<T>) -> Result<Seq<T>, AllocErr
     one(alloc, item.into_inner())
 }
 
-/// Puts what is in a box behind the items of a list.
+/// Puts what is in a box after the items of a list.
 pub fn add<T: Drop>(all: &mut Seq<T>, item: Boxed<T>) -> Result<(), AllocError>
     ensures { OnOk result (all.new ≡ all.old ++ item ∷ []) }
 {

@@ -131,7 +131,7 @@ pub fn begins_type(kind: Kind) -> bool
     }
 }
 
-/// Whether a token goes on behind a primary expression.
+/// Whether a token goes on after a primary expression.
 pub fn begins_post(kind: Kind) -> bool
     ensures { result ≡ begins_post kind }
 {

@@ -69,14 +69,14 @@ pub struct Arms<'a> {
     pub no: Expression<'a>,
 }
 
-/// What goes on with an expression behind its first operand.
+/// What goes on with an expression after its first operand.
 #[derive(Drop)]
 pub struct Rest<'a> {
     pub steps: Seq<Step<'a>>,
     pub arms: Option<Arms<'a>>,
 }
 
-/// What stands behind a primary expression: `[e]`, `.m` or `->m`, with the place of the member's name and, last, of
+/// What stands after a primary expression: `[e]`, `.m` or `->m`, with the place of the member's name and, last, of
 /// its mark.
 #[derive(Drop)]
 pub enum Post<'a> {

@@ -94,7 +94,7 @@ fn is_of(class: Class, kind: Kind) -> bool
     }
 }
 
-/// The kind of a token behind another.
+/// The kind of a token after another.
 fn kind_behind(before: &Token, token: &Token) -> Kind
     ensures { result ≡ kind_after (spelled before.now) (spelled token.now) }
 {
@@ -111,7 +111,7 @@ fn kind_behind(before: &Token, token: &Token) -> Kind
     }
 }
 
-/// Whether a token stands directly behind a `>`.
+/// Whether a token stands directly after a `>`.
 fn is_adjacent(before: &Token, token: &Token) -> bool
     ensures { result ≡ adjacent (spelled before.now) (spelled token.now) }
 {
@@ -202,7 +202,7 @@ impl<'a> Reader<'a> {
         }
     }
 
-    /// Takes the next token where it is of a kind, and tells whether it is.
+    /// Takes the next token if it is of a kind, and tells whether it is.
     pub fn eats(&mut self, kind: Kind) -> bool
         requires { kind ≢ Kind.End }
         ensures next { OnTrue result (kind_of (ahead self.old) ≡ kind) }
@@ -237,7 +237,7 @@ impl<'a> Reader<'a> {
         }
     }
 
-    /// Whether `unknown` is next, with a `)` behind it.
+    /// Whether `unknown` is next, with a `)` after it.
     pub fn is_unknown_alone(&self) -> bool
         ensures { result ≡ is_unknown_alone (ahead self.now) }
     {

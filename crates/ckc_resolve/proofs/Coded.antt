@@ -29,7 +29,7 @@ pub taken : {A : Type 0} (b : Bool) (pos : Pos) (a : A) → HasCode (unless_take
 taken true pos a = second_code
 taken false pos a = tt
 
--- what is made where a test passes
+-- what is made if a test passes
 pub tested : {A : Type 0} {code : ℕ} (b : Bool) (pos : Pos) (a : A) → IsCode code → HasCode (if b then Ok a else refused code pos)
 tested true pos a h = tt
 tested false pos a h = h

@@ -98,7 +98,7 @@ all_note names (i ∷ is) h = by (is_main i) refl (λ t. all_note (noted names i
 unwrapped : (a b : NamedText) → ◌≡◌ {A = Outcome NamedText} (Ok a) (Ok b) → a ≡ b
 unwrapped a b e = cc
 
--- where no want of a main is told, there is one
+-- if no want of a main is told, there is one
 told : (b : Bool) (o : Outcome (List NamedItem)) (n : ℕ) (text : NamedText)
     → bind o (λ items. bind (cond b (Ok n) (refused no_main start)) (λ main. Ok (record { tree = record { items = items }; main = main }))) ≡ Ok text → (b ≡ true) × (n ≡ text.main)
 told true (Ok items) n text h = (refl, ap (λ t. t.main) (unwrapped _ text h))

@@ -3,7 +3,7 @@ use Rattle.std.proofs.Common.{◌≡◌, ◌<◌, ◌≤◌, ℕ, suc, ◌+◌, 
 use Rattle.std.specs.List.{list_any}
 use Rattle.std.proofs.lemmas.List.{drop_all}
 
--- what is left has such an element just where the whole does
+-- what is left has such an element exactly when the whole does
 module _ {X : Type 0} (p : X → Bool) (xs : List X) (i : ℕ) (kept : list_any p xs ≡ list_any p (drop i xs)) where
   module _ (x : X) (here : i < length xs) (is : x ≡ get_or xs i x) where
     any_turn : list_any p xs ≡ (p x || list_any p (drop (i + 1) xs))

@@ -26,7 +26,7 @@ decl_named names within outside n d =
     bind (type_named names d.ctype) (λ t. bind (bounds_named names within d.bounds) (λ b. bind (init_named names outside d.init) (λ i.
     Ok (record { ctype = t; name = n; length = d.length; bounds = b; init = i; pos = d.pos }))))
 
--- refused where the name is declared already, or no text may declare it
+-- refused if the name is declared already, or no text may declare it
 abbrev pub unless_taken : {A : Type 0} → Bool → Pos → A → Outcome A
 unless_taken taken pos a = unless taken declared_twice pos (Ok a)
 

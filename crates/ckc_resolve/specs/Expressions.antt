@@ -72,12 +72,12 @@ expr_named names scopes = fold-Expr Spelling (Unit {0}) OfLimits OfNode OfExpr l
 abbrev pub exprs_named : Names → Scopes → List Expr → Outcome (List NamedExpr)
 exprs_named names scopes es = in_order (map (expr_named names scopes) es)
 
--- the same of the bounds of a declaration, where it has them
+-- the same of the bounds of a declaration, if it has them
 abbrev pub bounds_named : Names → Scopes → Option Limits → Outcome (Option NamedLimits)
 bounds_named names scopes None = Ok None
 bounds_named names scopes (Some l) = bind (limits_named names scopes l) (λ k. Ok (Some k))
 
--- the same of an expression that may be left out, as behind `return`
+-- the same of an expression that may be left out, as after `return`
 abbrev pub maybe_named : Names → Scopes → Option Expr → Outcome (Option NamedExpr)
 maybe_named names scopes None = Ok None
 maybe_named names scopes (Some e) = bind (expr_named names scopes e) (λ a. Ok (Some a))

@@ -13,7 +13,7 @@ entry_of slot = record { spelling = slot.spelling; name = slot.name }
 abbrev pub entries_of : List Slot → List Entry
 entries_of slots = map entry_of slots
 
--- one place further; at the front where there is no later one
+-- one place further; at the front if there is no later one
 abbrev pub later_or : Option ℕ → Option ℕ → Option ℕ
 later_or (Some i) first = Some (i + 1)
 later_or None first = first
@@ -23,7 +23,7 @@ abbrev pub last_at : Spelling → List Entry → Option ℕ
 last_at s [] = None
 last_at s (e ∷ es) = later_or (last_at s es) (if bytes_eq s e.spelling then Some 0 else None)
 
--- for each declaration the place of the one of the same spelling before it, where some stand before all
+-- for each declaration the place of the one of the same spelling before it, if some stand before all
 abbrev pub hidden_by : List Entry → List Entry → List (Option ℕ)
 hidden_by before [] = []
 hidden_by before (e ∷ es) = last_at e.spelling before ∷ hidden_by (before ++ e ∷ []) es

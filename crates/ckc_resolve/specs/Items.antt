@@ -43,27 +43,27 @@ abbrev pub is_same : Head → Option Head → Bool
 is_same h None = false
 is_same h (Some g) = same_head h g
 
--- refused where no function of the name has a body, or the first that has one has another head
+-- refused if no function of the name has a body, or the first that has one has another head
 abbrev pub if_defined : {A : Type 0} → List Item → Head → A → Outcome A
 if_defined all h a = if is_same h (first_head h.name all) then Ok a else refused undefined h.pos
 
--- a structure with its names replaced; refused at its tag where the tag has a body already
+-- a structure with its names replaced; refused at its tag if the tag has a body already
 abbrev pub structure_named : Names → Names → Spelling → List Decl → Pos → Outcome NamedItem
 structure_named names before s members pos =
     bind (struct_named names members) (λ ds. unless_taken (is_among before.structs s) pos (item.Struct (name_of_tag names s) ds pos))
 
--- an object of the file with its names replaced; refused at its name where the name is taken
+-- an object of file scope with its names replaced; refused at its name if the name is taken
 abbrev pub static_named : Names → Names → Decl → Outcome NamedItem
 static_named names before d =
     bind (decl_named names no_scope no_scope (name.Static (number_of names.statics d.name)) d) (λ e.
     unless_taken (is_taken_static before d.name) d.pos (item.Static e))
 
--- a prototype with its names replaced; refused at its name where that is taken or no function has its head
+-- a prototype with its names replaced; refused at its name if that is taken or no function has its head
 abbrev pub proto_named : Names → List Item → Names → Head → Outcome NamedItem
 proto_named names all before h =
     bind (head_named names h) (λ p. bind (unless_taken (is_taken_function before h.name) h.pos p.0) (λ g. if_defined all h (item.Proto g)))
 
--- The body is judged behind the head.
+-- The body is judged after the head.
 abbrev pub function_named : Names → Names → Head → Stmt → Outcome NamedItem
 function_named names before h body =
     bind (head_named names h) (λ p. bind (unless_taken (is_taken_function before h.name || is_among before.defined h.name) h.pos p.0) (λ g.

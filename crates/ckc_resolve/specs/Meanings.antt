@@ -12,11 +12,11 @@ use Rattle.ckc_resolve.specs.Codes.{undeclared}
 use Rattle.ckc_resolve.specs.Spellings.{Spelling, is_among, place_of}
 use Rattle.ckc_resolve.specs.Scoping.{found}
 
--- the object of the file with this spelling, if there is one
+-- the object of file scope with this spelling, if there is one
 abbrev pub static_of : Names → Spelling → Option Name
 static_of names s = option_map (λ n. name.Static n) (place_of names.statics s)
 
--- the function of the file with this spelling, if there is one
+-- the function of file scope with this spelling, if there is one
 abbrev pub function_of : Names → Spelling → Option Name
 function_of names s = option_map (λ n. name.Function n) (place_of names.functions s)
 
@@ -28,12 +28,12 @@ member_of names s = option_map (λ n. name.Member n) (place_of names.members s)
 abbrev pub built_in : Spelling → Option Name
 built_in s = if bytes_eq s (codes "getchar") then Some name.Getchar else (if bytes_eq s (codes "putchar") then Some name.Putchar else None)
 
--- A name that no local hides is an object of the file, or else a function of it, or else a built-in one. `calloc` is
+-- A name that no local hides is an object of file scope, or else a function of it, or else a built-in one. `calloc` is
 -- none: it begins a form of its own, and no text declares it.
 abbrev pub of_file : Names → Spelling → Option Name
 of_file names s = if bytes_eq s (codes "calloc") then None else option_or (static_of names s) (option_or (function_of names s) (built_in s))
 
--- A name in an expression, called or not, is the innermost declaration that is visible, or else a name of the file.
+-- A name in an expression, called or not, is the innermost declaration that is visible, or else a name of file scope.
 abbrev pub meaning_of : Names → Scopes → Spelling → Option Name
 meaning_of names scopes s = option_or (found scopes.visible s) (of_file names s)
 

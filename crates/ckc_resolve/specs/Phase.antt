@@ -20,6 +20,6 @@ text_named tree =
 abbrev pub naming : Phase Tree NamedText
 naming = phase_by text_named
 
--- the place of `main` among the functions, where the tree declares it
+-- the place of `main` among the functions, if the tree declares it
 abbrev pub place_of_main : Tree → Option ℕ
 place_of_main tree = place_of (names_of tree).functions name_of_main

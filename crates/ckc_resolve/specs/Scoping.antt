@@ -65,10 +65,10 @@ with_local scopes s = record (with_name scopes s (name.Local scopes.next)) { nex
 abbrev pub opened : Scopes → Scopes
 opened scopes = record scopes { base = length scopes.visible }
 
--- the end of the innermost scope, behind which the declarations of the outer ones are visible
+-- the end of the innermost scope, after which the declarations of the outer ones are visible
 abbrev pub closed : Scopes → Scopes → Scopes
 closed outer inner = record inner { visible = take (length outer.visible) inner.visible; base = outer.base }
 
--- a place that sees no declaration but those of the file
+-- a place that sees no declaration but those of file scope
 abbrev pub no_scope : Scopes
 no_scope = record { visible = []; base = 0; next = 0 }

@@ -12,7 +12,7 @@ is_among ss s = list_any (bytes_eq s) ss
 abbrev pub with_spelling : List Spelling → Spelling → List Spelling
 with_spelling ss s = if is_among ss s then ss else ss ++ s ∷ []
 
--- its number from 0, where it is there
+-- its number from 0, if it is there
 abbrev pub place_of : List Spelling → Spelling → Option ℕ
 place_of ss s = position (bytes_eq s) ss
 

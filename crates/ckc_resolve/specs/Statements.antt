@@ -1,4 +1,4 @@
--- Statements with their names replaced by what they mean, and what is visible behind them.
+-- Statements with their names replaced by what they mean, and what is visible after them.
 use Rattle.std.specs.Prelude.{List, Ok, Option, Some, None, map}
 use Rattle.ckc_syntax.specs.declared.tree.Act.{Act-F, fold-Act, out-Act}
 use Rattle.ckc_syntax.specs.declared.tree.Act.TheVariants as act
@@ -12,7 +12,7 @@ use Rattle.ckc_resolve.specs.Scoping.{opened, closed}
 use Rattle.ckc_resolve.specs.Expressions.{expr_named, maybe_named}
 use Rattle.ckc_resolve.specs.Declarations.{local_named}
 
--- from what is visible before to the statement and what is visible behind it
+-- from what is visible before to the statement and what is visible after it
 abbrev pub OfAct : Type 0
 OfAct = Scopes → Outcome (NamedAct × Scopes)
 
@@ -20,7 +20,7 @@ OfAct = Scopes → Outcome (NamedAct × Scopes)
 abbrev pub OfStmt : Type 0
 OfStmt = Scopes → Outcome (NamedStmt × Scopes)
 
--- the same of a statement that may be left out, as behind `else`
+-- the same of a statement that may be left out, as after `else`
 abbrev pub part_in : Option OfStmt → Scopes → Outcome (Option NamedStmt × Scopes)
 part_in None scopes = Ok (None, scopes)
 part_in (Some s) scopes = bind (s scopes) (λ p. Ok (Some p.0, p.1))
@@ -47,11 +47,11 @@ act_parts names (Act-F.Bundle ss) scopes = bind (in_turn ss scopes) (λ p. Ok (a
 abbrev pub stmt_parts : Stmt-F Spelling (Unit {0}) OfAct OfStmt → OfStmt
 stmt_parts s scopes = bind (s.body scopes) (λ p. Ok (record { body = p.0; pos = s.pos; note = tt }, p.1))
 
--- a statement without its place, with its names replaced, and what is visible behind it
+-- a statement without its place, with its names replaced, and what is visible after it
 abbrev pub act_named : Names → Act → OfAct
 act_named names = fold-Act Spelling (Unit {0}) OfAct OfStmt (act_parts names) stmt_parts
 
--- a statement at its place, with its names replaced, and what is visible behind it
+-- a statement at its place, with its names replaced, and what is visible after it
 abbrev pub stmt_named : Names → Stmt → OfStmt
 stmt_named names = fold-Stmt Spelling (Unit {0}) OfAct OfStmt (act_parts names) stmt_parts
 

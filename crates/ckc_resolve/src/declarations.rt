@@ -94,7 +94,7 @@ fn own_bounds<'a>(
     Ok(bounds)
 }
 
-/// A local, which is declared behind its initialiser.
+/// A local, which is declared after its initialiser.
 pub fn named_local<'a>(
     alloc: Global,
     names: &Names<'a>,

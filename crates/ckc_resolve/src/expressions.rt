@@ -162,7 +162,7 @@ pub fn named_exprs<'a>(
     Ok(all)
 }
 
-/// Bounds, where there are some.
+/// Bounds, if there are some.
 #[cycle(expr)]
 pub fn named_bounds<'a>(
     alloc: Global,

@@ -128,7 +128,7 @@ fn named_params<'a>(
     Ok(out)
 }
 
-/// A head. Behind it `body`, which is empty before, has the scope of its parameters.
+/// A head. After it `body`, which is empty before, has the scope of its parameters.
 pub fn named_head<'a>(
     alloc: Global,
     names: &Names<'a>,

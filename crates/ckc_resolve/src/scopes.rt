@@ -109,7 +109,7 @@ impl<'a> Scopes<'a> {
     }
 }
 
-/// The number behind a number; where it does not fit, that is taken for want of memory.
+/// The number after a number; if it does not fit, that is taken for want of memory.
 fn following(n: u32) -> Result<u32, Fault>
     ensures { AnswersOutcome result (Ok (n + 1)) }
 {

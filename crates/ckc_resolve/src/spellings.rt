@@ -73,7 +73,7 @@ impl<'a> Spellings<'a> {
         self.set.contains(s.as_str())
     }
 
-    /// The number of a spelling, where it is there.
+    /// The number of a spelling, if it is there.
     pub fn find(&self, s: &Spelling<'a>) -> Option<u32>
         ensures { result ≡ place_of self.now s.now }
     {

@@ -138,7 +138,7 @@ impl<'a> Visible<'a> {
         }
     }
 
-    /// Whether a spelling is declared behind the first declarations.
+    /// Whether a spelling is declared after the first declarations.
     pub fn has_behind(&self, base: usize, s: &Spelling<'a>) -> bool
         ensures { result ≡ is_declared (drop base self.now) s.now }
     {

@@ -37,7 +37,7 @@ seen_with trace events writes e =
     ∙ ap (λ l. flat_map outside_events (map (λ e. Outside e) events) ++ l) e
     ∙ append-nil (flat_map outside_events (map (λ e. Outside e) events)) ∙ seen_outside events)
 
--- what a move leads to, where what is shown from the next state on is the same
+-- what a move leads to, if what is shown from the next state on is the same
 after_narrowed : (go : List MachineEvent → State → Showing MachineEvent) (on : List Event → State → Showing Event) (trace : List MachineEvent) (writes : List MachineEvent) (move : Move Event State)
     → flat_map outside_events writes ≡ [] → ((t : List MachineEvent) (u : State) → narrowed outside_events (go t u) ≡ on (flat_map outside_events t) u)
     → narrowed outside_events (after go trace (with_writes writes move)) ≡ after on (flat_map outside_events trace) move

@@ -1,4 +1,4 @@
--- The function from words to instructions answers exactly where the table relates word and instruction.
+-- The function from words to instructions answers exactly when the table relates word and instruction.
 use Rattle.std.proofs.Common.{◌≡◌, ℕ, ◌+◌, ◌*◌, ◌/◌, ◌%◌, ◌^◌, ◌<◌, ◌==◌, ◌&&◌, ℤ, Option, Some, None, IfSome, Bool, true, false, cond, refl, ap, arith, ◌∙◌, ◌↔◌, lit<, subst}
 use Rattle.std.proofs.lemmas.Bool.{eqb-true, ltb-true}
 use Rattle.std.specs.Option.{option_map}
@@ -353,7 +353,7 @@ row_found word = some_where _ _ _ (λ t.
     some_if _ _ _ _ (λ o. fence_row word below (eqb-true _ _ o)) (λ _.
     some_where (word % 2 ^ 7 == 0x73) (decoded_system word) (λ i. Decodes word i) (λ o. system_row word))))))))))))
 
--- The decoder answers an instruction exactly where the word is the instruction's.
+-- The decoder answers an instruction exactly when the word is the instruction's.
 pub decoded_law : (word : ℕ) (i : Instr) → (decoded word ≡ Some i) ↔ Decodes word i
 decoded_law word i = (
   λ (e : decoded word ≡ Some i). subst (λ (o : Option Instr). IfSome o (λ j. Decodes word j)) e (row_found word),
@@ -364,7 +364,7 @@ none_or : (o : Option Instr) → ((i : Instr) → o ≡ Some i → ⊥) → o �
 none_or None h = refl
 none_or (Some i) h = absurd (h i refl)
 
--- It answers None exactly where no row has the word.
+-- It answers None exactly when no row has the word.
 pub decoded_none : (word : ℕ) → (decoded word ≡ None) ↔ ((i : Instr) → ¬ Decodes word i)
 decoded_none word = (
   λ (e : decoded word ≡ None) i d. let found : decoded word ≡ Some i = (decoded_law word i).1 d in cc,

@@ -1,4 +1,4 @@
--- The instruction of a word as a function: which row has the word. Its law is that it answers exactly where the
+-- The instruction of a word as a function: which row has the word. Its law is that it answers exactly when the
 -- table relates word and instruction.
 use Rattle.std.specs.Prelude.{ℕ, ◌+◌, ◌*◌, ◌/◌, ◌%◌, ◌^◌, ◌==◌, ◌&&◌, nat_lt, if◌then◌else◌, ℤ, pos, ◌-ℤ◌, Some, None, Option}
 use Rattle.std.specs.Option.{option_map}
@@ -63,36 +63,36 @@ imm_of _ word = i_immediate word
 
 -- ---- the instruction, for each opcode that has several
 
--- a JALR, where funct3 is 0
+-- a JALR, if funct3 is 0
 abbrev pub decoded_jalr : ℕ → Option Instr
 decoded_jalr word =
     if funct3_of word == 0 then Some (Jalr (rd_of word) (rs1_of word) (i_immediate word)) else None
 
--- a branch, where funct3 is that of one
+-- a branch, if funct3 is that of one
 abbrev pub decoded_branch : ℕ → Option Instr
 decoded_branch word =
     option_map (λ op. Branch op (rs1_of word) (rs2_of word) (b_offset word))
     (branch_op (funct3_of word))
 
--- a load, where funct3 is that of one
+-- a load, if funct3 is that of one
 abbrev pub decoded_load : ℕ → Option Instr
 decoded_load word =
     option_map (λ op. Load op (rd_of word) (rs1_of word) (i_immediate word))
     (load_op (funct3_of word))
 
--- a store, where funct3 is that of one
+-- a store, if funct3 is that of one
 abbrev pub decoded_store : ℕ → Option Instr
 decoded_store word =
     option_map (λ op. Store op (rs1_of word) (rs2_of word) (s_immediate word))
     (store_op (funct3_of word))
 
--- an operation with an immediate, where funct3 and funct7 are those of one
+-- an operation with an immediate, if funct3 and funct7 are those of one
 abbrev pub decoded_imm : ℕ → Option Instr
 decoded_imm word =
     option_map (λ op. Imm op (rd_of word) (rs1_of word) (imm_of op word))
     (imm_op (funct3_of word) (funct7_of word))
 
--- an operation on registers, where funct3 and funct7 are those of one
+-- an operation on registers, if funct3 and funct7 are those of one
 abbrev pub decoded_reg : ℕ → Option Instr
 decoded_reg word =
     option_map (λ op. Reg op (rd_of word) (rs1_of word) (rs2_of word))
@@ -124,6 +124,6 @@ by_opcode opcode word =
     else if opcode == 0x73 then decoded_system word
     else None
 
--- the instruction of a word, where the table has one for it
+-- the instruction of a word, if the table has one for it
 unfoldable pub decoded : ℕ → Option Instr
 decoded word = if nat_lt word (2 ^ 32) then by_opcode (word % 2 ^ 7) word else None

@@ -94,7 +94,7 @@ calls s =
 
 -- ---- steps
 
--- a load's value for rd, where its bytes are mapped
+-- a load's value for rd, if its bytes are mapped
 abbrev pub loads : State → LoadOp → ℕ → Option ℕ → Move Event State
 loads s op rd (Some n) = Goes [] (next_with s rd (load_value op n))
 loads s op rd None = faults 3 s

@@ -11,7 +11,7 @@ use Rattle.ckc_rv.specs.Decoded.{decoded}
 abbrev pub effect_if : Option Instr → ℕ → List ℕ → Option Outcome
 effect_if i pc x = option_map (λ i. effect_of i pc x) i
 
--- the effect of the word's instruction; None where it has none
+-- the effect of the word's instruction; None if it has none
 abbrev pub outcome_of : ℕ → ℕ → List ℕ → Option Outcome
 outcome_of word pc x = effect_if (decoded word) pc x
 

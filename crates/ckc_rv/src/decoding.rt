@@ -5,7 +5,7 @@ ghost use Rattle.ckc_rv.specs.Decoded.{decoded, decoded_jalr, decoded_branch, de
 use crate::instructions::Instr;
 use ckc_rv_operations::{BranchOp, ImmOp, LoadOp, RegOp, StoreOp};
 
-/// The instruction of a word, or None where the table has no row with the word (RISC-V unprivileged ISA manual,
+/// The instruction of a word, or None if the table has no row with the word (RISC-V unprivileged ISA manual,
 /// RV32/64G instruction set listings). A FENCE has rd, rs1 and the bits 31 to 28 zero.
 pub fn decode(word: u32) -> Option<Instr>
     ensures found { (i : Instr) → (result ≡ Some i) ↔ Decodes word i }

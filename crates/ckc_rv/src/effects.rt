@@ -115,7 +115,7 @@ pub(crate) fn register_form(op: ImmOp) -> RegOp
     }
 }
 
-// Inlined, so that the simulator needs no jump for the operation behind the one for the opcode.
+// Inlined, so that the simulator needs no jump for the operation after the one for the opcode.
 #[inline(always)]
 pub(crate) fn computed(op: RegOp, a: u32, b: u32) -> u32
     ensures { result ≡ reg_value op a b }

@@ -7,7 +7,7 @@ ghost use Rattle.ckc_rv.specs.Decoded.{decoded};
 ghost use Rattle.ckc_rv.specs.Machine.{Parts, machine};
 ghost use Rattle.ckc_rv.specs.Detailed.{outside_events, detailed_machine};
 
-/// The table read as a function finds an instruction exactly where the table relates word and instruction.
+/// The table read as a function finds an instruction exactly when the table relates word and instruction.
 pub fn decoded_by_rows()
     ensures { (word : ℕ) (i : Instr) → (decoded word ≡ Some i) ↔ Decodes word i }
 {}

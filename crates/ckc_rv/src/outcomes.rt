@@ -15,7 +15,7 @@ use crate::effects::{computed, displaced, going_on, jump, register, register_for
 use crate::registers::{Outcome, Regs};
 use ckc_rv_operations::{BranchOp, ImmOp, LoadOp, RegOp, StoreOp};
 
-/// What the word's instruction does at pc, or None where the word is no instruction (RISC-V unprivileged ISA manual,
+/// What the word's instruction does at pc, or None if the word is no instruction (RISC-V unprivileged ISA manual,
 /// RV32I and "M"): `decode` and then `effect`, without the instruction between.
 #[inline(always)]
 pub fn word_effect(word: u32, pc: u32, regs: &Regs) -> Option<Outcome>

@@ -1,4 +1,4 @@
--- The phase that judges checked scopes: it makes the same typed text where nothing in it is at fault.
+-- The phase that judges checked scopes: it makes the same typed text if nothing in it is at fault.
 use Rattle.std.specs.Prelude.{◌≡◌}
 use Rattle.ckc_base.specs.Phases.{Phase}
 use Rattle.ckc_typed.specs.declared.typed.Typed.{Typed}

@@ -155,7 +155,7 @@ fn exprs_fit(es: &[Expr<Name, Note>], items: &[Item<Name, Note>]) -> Result<(), 
     Ok(())
 }
 
-/// Judges limits, where there are some.
+/// Judges limits, if there are some.
 #[cycle(expr_fits)]
 pub fn bounds_fit(
     bounds: &Option<Boxed<Limits<Name, Note>>>,
@@ -169,7 +169,7 @@ pub fn bounds_fit(
     }
 }
 
-/// Judges an expression, where there is one.
+/// Judges an expression, if there is one.
 pub fn value_fits(
     value: &Option<Boxed<Expr<Name, Note>>>,
     items: &[Item<Name, Note>],

@@ -11,7 +11,7 @@ use ckc_typed::Typed;
 /// unchecked pointer or array that is declared there, at an expression with an unchecked pointer in its type, or at
 /// a call of a function with one in its head, and E502 at an `_Assume_bounds_cast`. It takes no memory.
 pub fn scopes(p: Typed) -> Result<Typed, Fault>
-    // Ok of the same text where it is scoped, a refusal for exactly its first fault, both ways.
+    // Ok of the same text if it is scoped, a refusal for exactly its first fault, both ways.
     ensures exact { Exact scoping p result }
     ensures no_memory { IfErr result (λ e. ¬ (e ≡ Memory)) }
 {

@@ -122,7 +122,7 @@ all_written_good [] s o = o
 all_written_good (w ∷ ws) s o =
     then_good IsOrderly IsOrderly (writes w.0 w.1 s) (all_written ws) (writes_good w.0 w.1 s o) (λ u p. all_written_good ws u p)
 
--- `allocated`, where it is known whether there is room
+-- `allocated`, if it is known whether there is room
 abbrev grown : State → Pointee → ℕ → Bool → Drawn
 grown s to count room =
     if room

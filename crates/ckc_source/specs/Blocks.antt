@@ -21,7 +21,7 @@ pub record Block : Type 0 where
   pub is_run : Bool
   pub bytes : List ℕ
 
--- the address behind the last byte of a block
+-- the address after the last byte of a block
 abbrev pub end_of : Block → ℕ
 end_of b = b.base + length b.bytes
 
@@ -51,7 +51,7 @@ unfoldable pub found : Width → ℕ → List Block → Option ℕ
 found width a [] = None
 found width a (b ∷ blocks) = if has width a b then Some (number_at width b.bytes (a - b.base)) else found width a blocks
 
--- what a load gives: the number there, where the access is aligned and lies in one block
+-- what a load gives: the number there, if the access is aligned and lies in one block
 abbrev pub loaded : Width → ℕ → List Block → Option ℕ
 loaded width a blocks = if is_aligned width a then found width a blocks else None
 
@@ -59,11 +59,11 @@ loaded width a blocks = if is_aligned width a then found width a blocks else Non
 abbrev pub lies_in : Width → ℕ → List Block → Bool
 lies_in width a blocks = is_aligned width a && list_any (has width a) blocks
 
--- a block after a store of a number, which changes it where the access lies in it
+-- a block after a store of a number, which changes it if the access lies in it
 abbrev pub changed : Width → ℕ → ℕ → Block → Block
 changed width a n b = if has width a b then record b { bytes = with_number width b.bytes (a - b.base) n } else b
 
--- the blocks after a store of a number, where the access is aligned and lies in one block
+-- the blocks after a store of a number, if the access is aligned and lies in one block
 abbrev pub stored : Width → ℕ → ℕ → List Block → Option (List Block)
 stored width a n blocks = if lies_in width a blocks then Some (map (changed width a n) blocks) else None
 
@@ -93,7 +93,7 @@ fresh to base count = record {
   bytes = replicate (to.size * count) 0;
 }
 
--- The place of the block behind a list of blocks: 0x02000008 is the first, and each later one is the least multiple of
+-- The place of the block after a list of blocks: 0x02000008 is the first, and each later one is the least multiple of
 -- 8 that is at least 8 past the end of the block before it.
 abbrev pub place_behind : ℕ → List Block → ℕ
 place_behind place [] = place

@@ -54,7 +54,7 @@ pub data Right : Type 0 where
   Value : (value : Expr) → Right
   Fresh : (to : Pointee) (count : Expr) → Right
 
--- Statements, each with those that come behind it; End is the end of a list.
+-- Statements, each with those that come after it; End is the end of a list.
 pub data Code : Type 0 where
   End : Code
   Assign : (spot : Spot) (target : Target) (right : Right) (rest : Code) → Code

@@ -47,7 +47,7 @@ given (Err h) f = Err h
 abbrev pub given_both : {A B C : Type 0} → Result A Halt → Result B Halt → (A → B → Result C Halt) → Result C Halt
 given_both x y f = given x (λ v. given y (f v))
 
--- evaluation goes on with what memory has, and is stuck where there is nothing
+-- evaluation goes on with what memory has, and is stuck if there is nothing
 abbrev pub given_some : {A B : Type 0} → Option A → (A → Result B Halt) → Result B Halt
 given_some (Some v) f = f v
 given_some None f = Err Stuck
@@ -70,7 +70,7 @@ spanned a bytes = ranged a a (a + bytes)
 
 -- ---- reading a checked pointer
 
--- A checked pointer that is not null is read with its range, and is stuck where the range is not true.
+-- A checked pointer that is not null is read with its range, and is stuck if the range is not true.
 abbrev pub reads_within : List Shape → List Block → Pointee → ℕ → ℤ → ℤ → Result Value Halt
 reads_within shapes blocks to n (pos low) (pos high) =
     if is_true shapes blocks to n low high then ranged n low high else Err Stuck
@@ -102,7 +102,7 @@ reads_limited s limits n =
 
 -- ---- accesses
 
--- the address, or a stop at the check `arith` where there is none
+-- the address, or a stop at the check `arith` if there is none
 abbrev pub at_address : Option ℕ → Pos → Result ℕ Halt
 at_address (Some a) at = Ok a
 at_address None at = stops check.Arith at
@@ -113,7 +113,7 @@ exact_element access p i =
     if p.number == 0 then stops check.Null access.at
     else at_address (as_address (elements_behind p.number access.size (exact access.index i))) access.at
 
--- an address in a range, of which the upper bound counts too where the flag says so
+-- an address in a range, of which the upper bound counts too if the flag says so
 abbrev pub in_range : Bool → Range → Pos → ℕ → Result ℕ Halt
 in_range last (Within low high) at a =
     if nat_le low a && (if last then nat_le a high else nat_lt a high) then Ok a else stops check.Bounds at
@@ -136,7 +136,7 @@ element access p i = element_through access.through access p i
 abbrev pub place_in : ℕ → ℕ → ℕ
 place_in a offset = applied binary.Add a offset
 
--- the value that a load gives, which is stuck where no block has it
+-- the value that a load gives, which is stuck if no block has it
 abbrev pub loads : Store → Width → ℕ → Result Value Halt
 loads s width a = given_some (loaded width a s.blocks) plain
 
@@ -146,7 +146,7 @@ counted s begin (count.Fixed n) = Ok n
 counted s begin (count.Member offset form add) =
     given_some (loaded (width_of form) (place_in begin offset) s.blocks) (λ m. Ok (exact form m +ℤ add))
 
--- A pointer in memory is read; the member that its limits name is read too, also where it is null.
+-- A pointer in memory is read; the member that its limits name is read too, also if it is null.
 abbrev pub loads_pointer : Store → Pointee → Count → ℕ → ℕ → Result Value Halt
 loads_pointer s to count begin a =
     given_some (loaded Word a s.blocks) (λ n.
@@ -154,11 +154,11 @@ loads_pointer s to count begin a =
 
 -- ---- operations
 
--- the address so many elements behind or before a pointer, as an exact number that may be no address
+-- the address so many elements after or before a pointer, as an exact number that may be no address
 abbrev pub moved_exactly : Shift → ℕ → ℤ → ℤ
 moved_exactly shift n i = if shift.back then pos n -ℤ (pos shift.size *ℤ i) else elements_behind n shift.size i
 
--- arithmetic on a checked pointer, which stops at `arith` from null and where the result is no address
+-- arithmetic on a checked pointer, which stops at `arith` from null and if the result is no address
 abbrev pub moves_checked : Shift → Value → ℕ → Result Value Halt
 moves_checked shift p i =
     if p.number == 0 then stops check.Arith shift.at
@@ -176,7 +176,7 @@ abbrev pub operates : Operation → Bool → Pos → ℕ → ℕ → Result Valu
 operates operation is_signed at a b =
     if divides operation && (b == 0) then stops check.Divide at else plain (computed operation is_signed a b)
 
--- a pointer with the new bounds up to `upper`, or a stop at `cast` where they do not lie in its range
+-- a pointer with the new bounds up to `upper`, or a stop at `cast` if they do not lie in its range
 abbrev pub tests_within : Range → Pos → ℕ → ℤ → Result Value Halt
 tests_within (Within low high) at n (pos upper) =
     if nat_le low n && nat_le n upper && nat_le upper high then ranged n n upper else stops check.Cast at

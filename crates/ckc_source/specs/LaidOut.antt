@@ -5,7 +5,7 @@ use Rattle.ckc_base.specs.Memory.{data_end}
 use Rattle.ckc_source.specs.Code.{Program}
 use Rattle.ckc_source.specs.Blocks.{Block, end_of, block_of, place_behind, first_place}
 
--- The blocks lie in order from an address on, each begins behind the end of the one before it, and the last one ends
+-- The blocks lie in order from an address on, each begins after the end of the one before it, and the last one ends
 -- before a place.
 abbrev pub AreApart : ℕ → List Block → ℕ → Type 0
 AreApart low [] place = low ≤ place

@@ -28,11 +28,11 @@ unfoldable pub any_below : ℕ → (ℕ → Bool) → Bool
 any_below zero test = false
 any_below (suc n) test = test n || any_below n test
 
--- the range lies in the run of so many bytes behind an address, which lies in the block
+-- the range lies in the run of so many bytes after an address, which lies in the block
 abbrev pub is_at : Block → (begin size n low high : ℕ) → Bool
 is_at b begin size n low high = nat_le (begin + size) (end_of b) && is_within begin (begin + size) size n low high
 
--- the same, behind the begin of some element of the block
+-- the same, after the begin of some element of the block
 abbrev pub is_in_some_element : Block → (offset size n low high : ℕ) → Bool
 is_in_some_element b offset size n low high =
     any_below b.count (λ i. is_at b (b.base + (i * b.size + offset)) size n low high)
@@ -42,7 +42,7 @@ abbrev pub is_in_member : Pointee → ℕ → ℕ → ℕ → Block → MemberRu
 is_in_member to n low high b m =
     same_type to.element m.ctype && nat_le (m.offset + to.size) b.size && is_in_some_element b m.offset to.size n low high
 
--- the members of a structure that are runs, and none where there is no structure
+-- the members of a structure that are runs, and none if there is no structure
 abbrev pub runs_of : Option Shape → List MemberRun
 runs_of (Some shape) = shape.runs
 runs_of None = []

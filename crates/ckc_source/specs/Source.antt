@@ -1,4 +1,4 @@
--- The meaning of a program: what it shows after so many steps, with an input; and whose fault it is where it is stuck
+-- The meaning of a program: what it shows after so many steps, with an input; and whose fault it is if it is stuck
 -- (Ruef, Lampropoulos, Sweet, Tarditi and Hicks, "Achieving Safety Incrementally with Checked C", POST 2019: unchecked
 -- code is to blame).
 use Rattle.std.specs.Prelude.{ℕ, zero, suc, List, [], map, slice_get, Option, Some, None, length, ◌≤◌}
@@ -29,7 +29,7 @@ no_function = record {
   result = None;
 }
 
--- a function of the program, or what stands there where it has none
+-- a function of the program, or what stands there if it has none
 abbrev pub function_at : Option Function → Function
 function_at (Some f) = f
 function_at None = no_function
@@ -48,7 +48,7 @@ first_state p input = record {
 abbrev pub source : Program → List ℕ → ℕ → Showing Event
 source p input = meaning (source_system p) (first_state p input)
 
--- the place of the last of the first n steps, or of the next one where it has not halted
+-- the place of the last of the first n steps, or of the next one if it has not halted
 abbrev pub place_after : Program → List ℕ → ℕ → Pos
 place_after p input n = (spot_of (state_at (source_system p) (first_state p input) n)).at
 
@@ -61,12 +61,12 @@ pub record IsOrderly (s : State) : Type 0 where
 
 -- ---- blame
 
--- what is found from the next state on, and nothing where the run halts
+-- what is found from the next state on, and nothing if the run halts
 abbrev pub on_next : {A : Type 0} → (State → Option A) → Move Event State → Option A
 on_next go (Goes events next) = go next
 on_next go (Halts events standing) = None
 
--- the place of this step where it is unchecked, and else what is found later
+-- the place of this step if it is unchecked, and else what is found later
 abbrev pub by_mode : Spot → Option Pos → Mode → Option Pos
 by_mode spot later Unchecked = Some spot.at
 by_mode spot later Checked = later

@@ -4,7 +4,7 @@ use Rattle.ckc_source.specs.declared.stmt.Kept.{Kept}
 use Rattle.ckc_source.specs.Code.{Code, End, Loop, Break, Continue, Function}
 use Rattle.ckc_source.specs.Blocks.{Block}
 
--- What comes next in a call: statements; or, behind the body of a loop, the loop and the statements behind it.
+-- What comes next in a call: statements; or, after the body of a loop, the loop and the statements after it.
 pub data Work : Type 0 where
   Rest : (code : Code) → Work
   Turn : (code : Code) → Work
@@ -58,7 +58,7 @@ begun (Break rest) go work = go Broken
 begun (Continue rest) go work = go Continued
 begun code go work = Rest code ∷ work
 
--- the step of a `for`, where it has one, and then the loop again
+-- the step of a `for`, if it has one, and then the loop again
 abbrev pub stepped : Code → Code → List Work → List Work
 stepped End loop work = Rest loop ∷ work
 stepped step loop work = Rest step ∷ Rest loop ∷ work
@@ -68,12 +68,12 @@ abbrev pub turned : Code → List Work → List Work
 turned (Loop spot e body step rest) work = stepped step (Loop spot e body step rest) work
 turned code work = Rest code ∷ work
 
--- the statements behind the loop in front
+-- the statements after the loop in front
 abbrev pub behind : Code → Code
 behind (Loop spot e body step rest) = rest
 behind code = code
 
--- What comes next where the statements in front are left: `break` leaves the innermost loop (ISO C11, 6.8.6.3), and
+-- What comes next if the statements in front are left: `break` leaves the innermost loop (ISO C11, 6.8.6.3), and
 -- `continue` the turn of it (6.8.6.2).
 unfoldable pub resumed : Leaving → List Work → List Work
 resumed how [] = []

@@ -40,7 +40,7 @@ abbrev pub terminator_at : Through → Range → ℕ → Pos → Option Pos
 terminator_at through.Terminated (Within low high) a at = if a == high then Some at else None
 terminator_at _ _ a at = None
 
--- A target in memory is judged when it is evaluated: it is stuck where it is misaligned or does not lie in one block.
+-- A target in memory is judged when it is evaluated: it is stuck if it is misaligned or does not lie in one block.
 abbrev pub aims_at : Store → Width → Access → Range → ℕ → Result Place Halt
 aims_at s width access range a =
     if lies_in width (place_in a access.offset) s.blocks
@@ -63,7 +63,7 @@ abbrev pub allowed : Place → ℕ → Result Place Halt
 allowed (place.Memory a width zero_alone) n = refuses zero_alone (kept_part width n) (Ok (place.Memory a width zero_alone))
 allowed to n = Ok to
 
--- the state with the blocks that a store leaves, which is stuck where no block has the access
+-- the state with the blocks that a store leaves, which is stuck if no block has the access
 abbrev pub with_blocks : State → Option (List Block) → Result State Halt
 with_blocks s blocks = given_some blocks (λ bs. Ok (record s { blocks = bs }))
 
@@ -87,7 +87,7 @@ pub record Drawn : Type 0 where
   pub number : ℕ
   pub state : State
 
--- `calloc` of so many elements: a block where there is room for one, and else null (ISO C11, 7.22.3.2)
+-- `calloc` of so many elements: a block if there is room for one, and else null (ISO C11, 7.22.3.2)
 abbrev pub allocated : State → Pointee → ℕ → Drawn
 allocated s to count =
     if heap_has_room s.next count to.size
@@ -131,7 +131,7 @@ abbrev pub comes_to : List Event → Result State Halt → Move Event State
 comes_to events (Ok s) = Goes events s
 comes_to events (Err h) = halts events h
 
--- The step goes on with a value, or the run halts where there is none.
+-- The step goes on with a value, or the run halts if there is none.
 abbrev pub and_moves : {A : Type 0} → Result A Halt → (A → Move Event State) → Move Event State
 and_moves (Ok v) f = f v
 and_moves (Err h) f = halts [] h
@@ -140,11 +140,11 @@ and_moves (Err h) f = halts [] h
 abbrev pub at_work : State → List Work → State
 at_work s work = record s { frame = record s.frame { work = work } }
 
--- a value that comes with an event is written where it may be
+-- a value that comes with an event is written if it may be
 abbrev pub writes_allowed : Place → ℕ → State → Result State Halt
 writes_allowed to n s = given (allowed to n) (λ to. writes to n s)
 
--- `getchar`: the next byte, or -1 where there is none (ISO C11, 7.21.7.6)
+-- `getchar`: the next byte, or -1 if there is none (ISO C11, 7.21.7.6)
 abbrev pub gets : State → Place → List ℕ → Move Event State
 gets s to [] = comes_to (Got None ∷ []) (writes_allowed to (2 ^ 32 - 1) s)
 gets s to (b ∷ rest) = comes_to (Got (Some b) ∷ []) (writes_allowed to b (record s { input = rest }))
@@ -187,7 +187,7 @@ returns shapes s [] n = Halts [] (standing.Ended n)
 returns shapes s (caller ∷ callers) n =
     comes_to [] (hands shapes (record s { frame = caller.frame; callers = callers }) s.frame.function.result s.frame.entry caller.target n)
 
--- the step of the statement in front, in a state in which those behind it come next
+-- the step of the statement in front, in a state in which those after it come next
 abbrev pub acts : Program → State → List Work → Code → Move Event State
 acts p s work (Assign spot target right rest) =
     comes_to [] (bundled p.shapes (at_work s (Rest rest ∷ work)) ((target, right) ∷ []))

@@ -22,16 +22,16 @@ width_of Int = Word
 width_of Unsigned = Word
 width_of Char = Byte
 
--- an integer as an address, where it is one
+-- an integer as an address, if it is one
 abbrev pub as_address : ℤ → Option ℕ
 as_address (pos n) = if nat_lt n (2 ^ 32) then Some n else None
 as_address (negsuc n) = None
 
--- so many elements of a size behind an address, exactly
+-- so many elements of a size after an address, exactly
 abbrev pub elements_behind : ℕ → ℕ → ℤ → ℤ
 elements_behind a size count = pos a +ℤ (pos size *ℤ count)
 
--- 1 where a word is not zero, and else 0
+-- 1 if a word is not zero, and else 0
 abbrev pub truth : ℕ → ℕ
 truth word = applied binary.Ne word 0
 
@@ -55,7 +55,7 @@ operator Ne is_signed = binary.Ne
 operator _ true = binary.LtS
 operator _ false = binary.LtU
 
--- what an operation gives; a > b is b < a, and a <= b is where a > b is not
+-- what an operation gives; a > b is b < a, and a <= b holds if a > b does not
 abbrev pub computed : Operation → Bool → ℕ → ℕ → ℕ
 computed Le is_signed a b = applied binary.Eq (applied (operator Lt is_signed) b a) 0
 computed Gt is_signed a b = applied (operator Lt is_signed) b a

@@ -45,7 +45,7 @@ pub enum Through {
 }
 
 /// An access to an element, or to a member of it: how it is judged and at which place it stops, the size of an
-/// element, the type of the index, and how many bytes the member lies behind the element's begin.
+/// element, the type of the index, and how many bytes the member lies after the element's begin.
 #[derive(Clone, Copy)]
 pub struct Access {
     pub through: Through,
@@ -90,7 +90,7 @@ pub enum Base {
     Fixed(u32),
 }
 
-/// An end of limits: so many elements behind its base as the variable, where there is one, and the number say
+/// An end of limits: so many elements after its base as the variable, if there is one, and the number say
 /// (Checked C specification 0.9, section 3, on bounds expressions).
 #[derive(Clone, Copy)]
 pub struct End {
@@ -108,7 +108,7 @@ pub struct Limits {
 }
 
 /// How many elements a pointer in memory has: a number of them, or as many as an integer member of the same
-/// structure says, which lies so many bytes behind the begin of the structure, and a number more.
+/// structure says, which lies so many bytes after the begin of the structure, and a number more.
 #[derive(Clone, Copy)]
 pub enum Count {
     Fixed(i32),
@@ -119,12 +119,12 @@ pub enum Count {
 ///
 /// - `Number` is an integer; null is the number 0.
 /// - `Local` is a local with no known limits, `Limited` a pointer with limits.
-/// - `Array` is a named array or a string literal: its address, and how many bytes its upper bound lies behind it.
+/// - `Array` is a named array or a string literal: its address, and how many bytes its upper bound lies after it.
 /// - `Load` and `Member` read memory through a pointer at an index: a value with no known limits, or a pointer of
 ///   which the count of elements is known.
 /// - `Address` is the address of so many bytes there, with the checks of an access.
 /// - `Moved` has the pointer before the index, `Added` the index before the pointer.
-/// - `Binary` reads its operands as signed where the flag says so.
+/// - `Binary` reads its operands as signed if the flag says so.
 /// - `Narrow` is the conversion to `char`. `Bare` is the conversion of a pointer to another type: it has no range.
 /// - `Tested` and `Trusted` are the two bounds casts to a count of elements.
 #[derive(Drop)]

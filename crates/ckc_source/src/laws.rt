@@ -18,7 +18,7 @@ pub fn source_goes_on()
         → (source p input n).standing ≢ Going → source p input k ≡ source p input n }
 {}
 
-/// Each state of a run is orderly, where the static objects and the string literals lie apart and begin as bytes.
+/// Each state of a run is orderly, if the static objects and the string literals lie apart and begin as bytes.
 pub fn states_are_orderly()
     ensures { (p : Program) (input : List ℕ) (n : ℕ) → IsLaidOut p
         → IsOrderly (state_at (source_system p) (first_state p input) n) }

@@ -6,7 +6,7 @@ ghost use Rattle.ckc_source.specs.Words.{operator, divides};
 use crate::expr::Operation;
 use ckc_base::BinOp;
 
-/// The first where the flag says so, and else the second.
+/// The first if the flag says so, and else the second.
 pub fn chosen(first: bool, one: BinOp, two: BinOp) -> BinOp
     ensures { result ≡ (if first then one else two) }
 {

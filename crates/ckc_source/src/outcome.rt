@@ -2,7 +2,7 @@
 
 use ckc_base::{Check, Pos, Width};
 
-/// The range of a pointer, where it has one: from an address up to another.
+/// The range of a pointer, if it has one: from an address up to another.
 #[derive(Clone, Copy)]
 pub enum Range {
     Without,
@@ -23,7 +23,7 @@ pub enum Halt {
     Stuck,
 }
 
-/// Where an assignment writes: nowhere, to a local, or to an address. Where only zero may be written there, it has the
+/// Where an assignment writes: nowhere, to a local, or to an address. If only zero may be written there, it has the
 /// place at which another value stops.
 #[derive(Clone, Copy)]
 pub enum Place {

@@ -33,7 +33,7 @@ pub struct Shape {
 }
 
 /// A function: where the step of falling off its end stands, how many parameters and how many locals it has, its
-/// parameters first among them, its body, and the limits of its result, where it is a pointer with known limits.
+/// parameters first among them, its body, and the limits of its result, if it is a pointer with known limits.
 #[derive(Drop)]
 pub struct FunctionTree {
     pub end: Spot,

@@ -10,7 +10,7 @@ pub struct Spot {
     pub mode: Mode,
 }
 
-/// What an assignment writes: nothing, where a call is a statement; a local; or memory, through a pointer at an index.
+/// What an assignment writes: nothing, if a call is a statement; a local; or memory, through a pointer at an index.
 /// A value that is written to a `char` is converted to its lowest byte.
 #[derive(Drop)]
 pub enum TargetTree {

@@ -44,7 +44,7 @@ digits_more radix ds n below here k h = ⊎_elim (λ (lt : k < n). below k lt) (
 pub value_next : (radix : ℕ) (ds : List ℕ) (i v d : ℕ) → v ≡ value_in radix (take i ds) → d ≡ digit_value (get_or ds i 0) → i < length ds → v * radix + d ≡ value_in radix (take (i + 1) ds)
 value_next radix ds i v d p q h = (λ j. p j * radix + q j) ∙ sym (value_step radix ds i h)
 
--- Where the next digit may not be taken, the digits so far are as many as may be.
+-- If the next digit may not be taken, the digits so far are as many as may be.
 pub most_digits : (most radix : ℕ) (text : List ℕ) (n value : ℕ) → 0 < radix → n < length text → n ≤ most → value ≡ value_in radix (take n text) → value < 256 → ((k : ℕ) → k < n → is_digit_in radix (get_or text k 0) ≡ true) → (most ≤ n) ⊎ ((radix ≤ digit_value (get_or text n 0)) ⊎ (255 < value * radix + digit_value (get_or text n 0))) → IsMostDigits most radix text n value
 most_digits most radix text n value low within few stands small digits stop = record {
   within = omega arith;
@@ -75,7 +75,7 @@ all_digits most radix text value few stands small digits = record {
   no_more = λ m lt le at_most all less. omega (arith, lt, le);
 }
 
--- behind the bytes in front, no front has more digits
+-- after the bytes in front, no front has more digits
 pub no_more_digits : (lead most radix : ℕ) (text : List ℕ) (n value : ℕ) → lead ≤ length text → IsMostDigits most radix (drop lead text) n value → (m u : ℕ) → m ≤ length text → IsDigitsAfter lead most radix (take m text) u → m ≤ lead + n
 no_more_digits lead most radix text n value in_text d m u le s =
     let size = length-take-le m text le in

@@ -13,7 +13,7 @@ not_octal b lt small u e = ⊎_elim
     (λ (n : is_none (simple_escape b) ≡ true). false≢true (sym (ap is_none e) ∙ n))
     (or_cases (not (nat_lt (digit_value b) 8)) (is_none (simple_escape b)) (agree_below_at (λ b. not (nat_lt (digit_value b) 8) || is_none (simple_escape b)) (λ b. true) 256 b refl lt))
 
--- the byte behind the backslash of digits that follow it at once
+-- the byte after the backslash of digits that follow it at once
 pub first_octal : (w : List ℕ) (u : ℕ) → IsDigitsAfter 1 3 8 w u → digit_value (get_or w 1 0) < 8
 first_octal w u d =
     let size = length-drop 1 w in
@@ -82,7 +82,7 @@ same_answer P Q text (Some p) to from h = record {
   longest = λ m u lt le q. h.longest m u lt le (from m u (let a = h.some in omega arith) le q);
 }
 
--- a letter behind the backslash, which begins no digits
+-- a letter after the backslash, which begins no digits
 pub simple_longest : (text : List ℕ) (value : ℕ) → 1 < length text → get_or text 0 0 ≡ 92 → (get_or text 1 0 ≡ 120 → ⊥) → 8 ≤ digit_value (get_or text 1 0) → simple_escape (get_or text 1 0) ≡ Some value → Longest IsEscape text 2 value
 simple_longest text value long b not_x large e =
     let size = length-take-le 2 text (omega arith) in
@@ -93,6 +93,6 @@ simple_longest text value long b not_x large e =
       longest = λ m u lt le s. omega (arith, (only_simple text m le u not_x large s).0);
     }
 
--- no escape where the byte behind the backslash is none of those that may come
+-- no escape if the byte after the backslash is none of those that may come
 pub no_escape : (text : List ℕ) → (get_or text 1 0 ≡ 120 → ⊥) → 8 ≤ digit_value (get_or text 1 0) → simple_escape (get_or text 1 0) ≡ None → NoFront IsEscape text
 no_escape text not_x large e m u some le s = false≢true (sym (sym (ap is_none e) ∙ ap is_none (only_simple text m le u not_x large s).1))

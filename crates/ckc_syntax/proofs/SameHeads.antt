@@ -1,4 +1,4 @@
--- Declarations and heads are the same but for their places just where they are equal without them.
+-- Declarations and heads are the same but for their places exactly when they are equal without them.
 use Rattle.std.proofs.Common.{◌≡◌, ℕ, Bool, List, ap, refl}
 use Rattle.std.specs.Bool.{Decides}
 use Rattle.std.specs.Prelude.{Option, Some, None}

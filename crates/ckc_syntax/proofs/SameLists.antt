@@ -30,7 +30,7 @@ module _ {X : Type 0} (same : X → X → Bool) where
     pub stops : (x y : X) → i < length xs → i < length ys → x ≡ get_or xs i x → y ≡ get_or ys i y → same x y ≡ false → from i xs ys ≡ false
     stops x y h k e f b = turn x y h k e f ∙ ap (λ c. c && from (i + 1) xs ys) b
 
-    -- behind a pair that is the same the others decide
+    -- after a pair that is the same the others decide
     pub goes_on : (x y : X) → i < length xs → i < length ys → x ≡ get_or xs i x → y ≡ get_or ys i y → same x y ≡ true → from i xs ys ≡ from (i + 1) xs ys
     goes_on x y h k e f b = turn x y h k e f ∙ ap (λ c. c && from (i + 1) xs ys) b
 

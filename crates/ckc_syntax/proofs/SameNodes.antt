@@ -1,4 +1,4 @@
--- Expressions and bounds are the same but for their places just where they are equal without them.
+-- Expressions and bounds are the same but for their places exactly when they are equal without them.
 use Rattle.std.proofs.Common.{rules, ◌≡◌, ℕ, ◌∙◌, ap, sym, refl, Bool, true, false, List, [], ◌∷◌, get_or}
 use Rattle.std.specs.Prelude.{Option, Some, None}
 use Rattle.ckc_base.specs.Places.{start}

@@ -1,4 +1,4 @@
--- Types are the same but for their places just where they are equal without them.
+-- Types are the same but for their places exactly when they are equal without them.
 use Rattle.std.proofs.Common.{rules, ◌≡◌, ℕ, ◌∙◌, ap, sym, refl, Bool}
 use Rattle.ckc_base.specs.Places.{start}
 use Rattle.ckc_syntax.specs.declared.tree.TypeTree.{TypeTree-F, map-TypeTree, ind-TypeTree, out-TypeTree, roll-TypeTree, fold-roll-TypeTree, fold_out-TypeTree, the_lemmas as type_lemmas}

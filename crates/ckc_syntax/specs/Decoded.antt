@@ -1,4 +1,4 @@
--- The bytes that a string's spelling stands for, as a function. Where the spelling is no literal, they are those of
+-- The bytes that a string's spelling stands for, as a function. If the spelling is no literal, they are those of
 -- the characters that it has in front.
 use Rattle.std.specs.Prelude.{ℕ, zero, suc, ◌+◌, ◌-◌, Bool, ◌&&◌, ◌==◌, nat_lt, nat_le, if◌then◌else◌, List, [], ◌∷◌, length, take, drop, slice_index, Option, Some, None, is_some}
 use Rattle.std.specs.Option.{unwrap_or}
@@ -6,7 +6,7 @@ use Rattle.std.specs.List.{list_all}
 use Rattle.ckc_syntax.specs.Digits.{is_digit_in, value_in}
 use Rattle.ckc_syntax.specs.Literals.{is_plain, simple_escape}
 
--- behind `lead` bytes one to `most` digits, which stand for a number below 256
+-- after `lead` bytes one to `most` digits, which stand for a number below 256
 abbrev pub are_digits_after : ℕ → ℕ → ℕ → List ℕ → Bool
 are_digits_after lead most radix w =
     nat_lt lead (length w) && (nat_le (length w) (lead + most)
@@ -28,7 +28,7 @@ is_octal w = slice_index w 0 == 92 && are_digits_after 1 3 8 w
 abbrev pub is_hexadecimal : List ℕ → Bool
 is_hexadecimal w = slice_index w 0 == 92 && (slice_index w 1 == 120 && are_digits_after 2 2 16 w)
 
--- the value of the bytes where all of them are one character
+-- the value of the bytes if all of them are one character
 abbrev pub hexadecimal_value : List ℕ → Option ℕ
 hexadecimal_value w = if is_hexadecimal w then Some (value_in 16 (drop 2 w)) else None
 
@@ -44,7 +44,7 @@ simple_value w = if is_simple w then Some (unwrap_or (simple_escape (slice_index
 abbrev pub piece_value : ℕ → List ℕ → Option ℕ
 piece_value quote w = if is_plain_piece quote w then Some (slice_index w 0) else simple_value w
 
--- a character of n bytes with its value, or where they are none a shorter one
+-- a character of n bytes with its value, or if they are none, a shorter one
 abbrev pub or_shorter : ℕ → Option ℕ → Option (ℕ × ℕ) → Option (ℕ × ℕ)
 or_shorter n (Some value) shorter = Some (n, value)
 or_shorter n None shorter = shorter
@@ -54,12 +54,12 @@ unfoldable pub longest_piece : ℕ → ℕ → List ℕ → Option (ℕ × ℕ)
 longest_piece quote zero w = None
 longest_piece quote (suc n) w = or_shorter (suc n) (piece_value quote (take (suc n) w)) (longest_piece quote n w)
 
--- the value of a character and those of the characters behind it, and nothing where there is no character
+-- the value of a character and those of the characters after it, and nothing if there is no character
 abbrev pub with_rest : (ℕ → List ℕ) → Option (ℕ × ℕ) → List ℕ
 with_rest rest None = []
 with_rest rest (Some p) = p.1 ∷ rest (p.0 - 1)
 
--- the values of the characters behind the first n bytes, each the longest at its place, as far as they go
+-- the values of the characters after the first n bytes, each the longest at its place, as far as they go
 unfoldable pub characters_behind : ℕ → ℕ → List ℕ → List ℕ
 characters_behind quote n [] = []
 characters_behind quote (suc n) (b ∷ w) = characters_behind quote n w

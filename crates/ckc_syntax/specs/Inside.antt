@@ -13,7 +13,7 @@ use Rattle.ckc_syntax.specs.declared.tree.Expr.{Expr}
 use Rattle.ckc_syntax.specs.declared.tree.Act.{Act-F}
 use Rattle.ckc_syntax.specs.declared.tree.Stmt.{Stmt}
 
--- How a walk puts together what it finds: what it has where there is no part, and what two parts give.
+-- How a walk puts together what it finds: what it has if there is no part, and what two parts give.
 pub record Joining (X : Type 0) : Type 0 where
   pub none : X
   pub both : X → X → X

@@ -8,7 +8,7 @@ use Rattle.ckc_syntax.specs.Digits.{is_digit_in, value_in}
 abbrev pub is_plain : ℕ → ℕ → Bool
 is_plain quote b = is_between 32 126 b && not (b == quote) && not (b == 92)
 
--- what the letter behind a backslash stands for: n t r a b f v \ ' " ?
+-- what the letter after a backslash stands for: n t r a b f v \ ' " ?
 abbrev pub simple_escape : ℕ → Option ℕ
 simple_escape b =
     if b == 110 then Some 10
@@ -21,7 +21,7 @@ simple_escape b =
     else (if b == 92 || b == 39 || b == 34 || b == 63 then Some b
     else None)))))))
 
--- behind `lead` bytes one to `most` digits, which stand for a number below 256
+-- after `lead` bytes one to `most` digits, which stand for a number below 256
 pub record IsDigitsAfter (lead most radix : ℕ) (w : List ℕ) (value : ℕ) : Type 0 where
   pub some : lead < length w
   pub few : length w ≤ lead + most
@@ -29,7 +29,7 @@ pub record IsDigitsAfter (lead most radix : ℕ) (w : List ℕ) (value : ℕ) : 
   pub stands_for : value ≡ value_in radix (drop lead w)
   pub small : value < 256
 
--- An escape: behind a backslash a letter, one to three octal digits, or `x` and one or two hexadecimal
+-- An escape: after a backslash a letter, one to three octal digits, or `x` and one or two hexadecimal
 -- digits.
 pub data IsEscape (w : List ℕ) (value : ℕ) : Type 0 where
   simple : length w ≡ 2 → slice_index w 0 ≡ 92 → simple_escape (slice_index w 1) ≡ Some value → IsEscape w value

@@ -1,5 +1,5 @@
 -- Types, expressions, declarations and heads without their places, whatever their names are: each place is set to the
--- start of a text, and all else stands. Two are alike but for their places just where these are equal.
+-- start of a text, and all else stands. Two are alike but for their places exactly when these are equal.
 use Rattle.std.specs.Prelude.{map, Option, Some, None}
 use Rattle.ckc_base.specs.Places.{start}
 use Rattle.ckc_syntax.specs.declared.tree.TypeTree.{TypeTree, TypeTree-F, fold-TypeTree, roll-TypeTree}
@@ -84,7 +84,7 @@ placeless_node {N} {A} = fold-Node N A (Limits N A) (Node N A) (Expr N A) limits
 abbrev pub placeless_expr : {N A : Type 0} → Expr N A → Expr N A
 placeless_expr {N} {A} = fold-Expr N A (Limits N A) (Node N A) (Expr N A) limits_rolled node_rolled expr_rolled
 
--- the same of the bounds of a declaration, where it has them
+-- the same of the bounds of a declaration, if it has them
 abbrev pub placeless_bounds : {N A : Type 0} → Option (Limits N A) → Option (Limits N A)
 placeless_bounds None = None
 placeless_bounds (Some l) = Some (placeless_limits l)

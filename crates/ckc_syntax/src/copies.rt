@@ -83,7 +83,7 @@ fn copied_limits<N: ExactClone, A: ExactClone>(
     }
 }
 
-/// The same bounds, where some are written.
+/// The same bounds, if some are written.
 #[cycle(copied)]
 pub fn copied_bounds<N: ExactClone, A: ExactClone>(
     alloc: Global,

@@ -98,7 +98,7 @@ fn simple_escape(b: u8) -> Option<u8>
     }
 }
 
-/// An escape with digits behind `lead` bytes: as many as there are, up to `most`, with a value below 256.
+/// An escape with digits after `lead` bytes: as many as there are, up to `most`, with a value below 256.
 fn digits_after(lead: usize, most: usize, radix: u64, text: &[u8]) -> Option<Piece>
     requires lead { lead ≤ length text.now }
     requires low { 0 < radix }

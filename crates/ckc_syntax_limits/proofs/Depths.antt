@@ -29,7 +29,7 @@ bundle_depths ss = search (rules, stmt_lemmas)
 pub depth_of_bundle : {N A : Type 0} (ss : List (Stmt N A)) → depth_of_act (act.Bundle ss) ≡ inside_each highest depth_of_stmt ss
 depth_of_bundle ss = bundle_depths ss ∙ each_found highest (λ d. d) depth_of_stmt ss
 
--- One turn of a loop over parts. What is left is shallow just where the whole is.
+-- One turn of a loop over parts. What is left is shallow exactly when the whole is.
 module _ {X : Type 0} (f : X → ℕ) where
   pub greatest_turn : (xs : List X) (i : ℕ) (x : X) → i < length xs → x ≡ get_or xs i x → inside_each highest f (drop i xs) ≡ max (f x) (inside_each highest f (drop (i + 1) xs))
   greatest_turn xs i x h e = rw (add-one, drop-cons xs i x) (ap (λ y. max (f y) (inside_each highest f (drop (suc i) xs))) (sym e))

@@ -77,7 +77,7 @@ functions_count = part_count is_function (λ t. t.functions) (λ t m. elim m as 
 statics_count : (t : Tally) (ms : List Mark) → (tallied t ms).statics ≡ counts is_static t.statics ms
 statics_count = part_count is_static (λ t. t.statics) (λ t m. elim m as (λ m. (counted t m).statics ≡ cond (is_static m) (raised t.statics) t.statics) [ node ↦ refl | local ↦ refl | text ↦ refl | function ↦ refl | static ↦ refl ])
 
--- a count that stands still is over a small limit just where the number is
+-- a count that stands still is over a small limit exactly when the number is
 same_over : (limit n code : ℕ) (pos : Pos) → limit < 2 ^ 32 - 1 → over limit (min n (2 ^ 32 - 1)) code pos ≡ over limit n code pos
 same_over limit n code pos h = grind (arith, nat_tests)
 
@@ -185,7 +185,7 @@ pub small_ok : {N A X : Type 0} (tree : Tree N A) (r : Result X Refusal) → Jud
 small_ok tree (Ok x) h = (λ o. (small_is tree).1 h, λ s. refl)
 small_ok tree (Err e) h = (λ o. cc, λ s. let none = (small_is tree).0 s in let some = h.1 in cc)
 
--- a tree has one first refusal, and none where it is small
+-- a tree has one first refusal, and none if it is small
 pub same_first : {X : Type 0} (x y : X) (xs : List X) → IsFirst x xs → IsFirst y xs → x ≡ y
 same_first x y xs h k = let a = h.1 in let b = k.1 in cc
 

@@ -36,11 +36,11 @@ depth_of_node {N} {A} = fold-Node N A ℕ ℕ ℕ limits_depth node_depth expr_d
 abbrev pub depth_of_expr : {N A : Type 0} → Expr N A → ℕ
 depth_of_expr {N} {A} = fold-Expr N A ℕ ℕ ℕ limits_depth node_depth expr_depth
 
--- how deep the bounds of a declaration are, and 0 where it has none
+-- how deep the bounds of a declaration are, and 0 if it has none
 abbrev pub depth_of_bounds : {N A : Type 0} → Option (Limits N A) → ℕ
 depth_of_bounds = inside_if highest depth_of_limits
 
--- how deep an expression is that may be left out, as behind `return`
+-- how deep an expression is that may be left out, as after `return`
 abbrev pub depth_of_value : {N A : Type 0} → Option (Expr N A) → ℕ
 depth_of_value = inside_if highest depth_of_expr
 

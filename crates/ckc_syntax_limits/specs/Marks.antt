@@ -42,7 +42,7 @@ marks_of_node {N} {A} = fold-Node N A (List Mark) (List Mark) (List Mark) (insid
 abbrev pub marks_of_expr : {N A : Type 0} → Expr N A → List Mark
 marks_of_expr {N} {A} = fold-Expr N A (List Mark) (List Mark) (List Mark) (inside_limits listed (λ e. e)) node_marks expr_marks
 
--- the marks of the bounds of a declaration, where it has them
+-- the marks of the bounds of a declaration, if it has them
 abbrev pub marks_of_bounds : {N A : Type 0} → Option (Limits N A) → List Mark
 marks_of_bounds = inside_if listed marks_of_limits
 

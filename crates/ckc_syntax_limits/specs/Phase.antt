@@ -1,4 +1,4 @@
--- The phase that keeps texts small: it makes the same tree where the tree keeps each limit.
+-- The phase that keeps texts small: it makes the same tree if the tree keeps each limit.
 use Rattle.std.specs.Prelude.{◌≡◌}
 use Rattle.ckc_base.specs.Phases.{Phase}
 use Rattle.ckc_syntax.specs.declared.tree.Tree.{Tree}

@@ -58,7 +58,7 @@ pub record SmallItem {N A : Type 0} (i : Item N A) : Type 0 where
   pub depth : depth_of_item i ≤ most_depth
   pub body : SmallBody i
 
--- A tree is small where it keeps each limit.
+-- A tree is small if it keeps each limit.
 pub record Small {N A : Type 0} (tree : Tree N A) : Type 0 where
   pub each : AllByRecursion SmallItem tree.items
   pub nodes : how_many is_node (marks_of tree) ≤ most_nodes
@@ -66,7 +66,7 @@ pub record Small {N A : Type 0} (tree : Tree N A) : Type 0 where
   pub statics : how_many is_static (marks_of tree) ≤ most_statics
   pub texts : how_many is_text (marks_of tree) ≤ most_texts
 
--- a refusal at a place, where the number is over the limit
+-- a refusal at a place, if the number is over the limit
 abbrev pub over : ℕ → ℕ → ℕ → Pos → List Refusal
 over limit number code pos = if nat_lt limit number then record { code = code; pos = pos } ∷ [] else []
 

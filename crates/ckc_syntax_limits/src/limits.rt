@@ -47,7 +47,7 @@ pub const TOO_MANY_ITEMS: u16 = 205;
 /// E202, then for a function E203 and E204, each at the declared name or tag; then for the whole text E203 and
 /// E205, at 1:1. It takes no memory.
 pub fn fits<N, A>(tree: &Tree<N, A>) -> Result<(), Fault>
-    // Ok where the tree is small, a refusal for exactly the first limit that is broken, both ways.
+    // Ok if the tree is small, a refusal for exactly the first limit that is broken, both ways.
     ensures exact { Exact limiting tree.now (viewed (λ _. tree.now) result) }
     // It takes no memory.
     ensures no_memory { IfErr result (λ e. ¬ (e ≡ Memory)) }

@@ -15,7 +15,7 @@ use Rattle.ckc_tac.specs.declared.code.TacEnd.TheVariants.{Jump, Branch, Return}
 abbrev pub place : Pos
 place = record { line = 3; col = 7 }
 
--- It gets a byte. Where that is 65, it calls a function that stores it, and puts it; else it reads a register that is
+-- It gets a byte. If that is 65, it calls a function that stores it, and puts it; else it reads a register that is
 -- not written.
 abbrev pub example_main : TacFunc
 example_main = record {

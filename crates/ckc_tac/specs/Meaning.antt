@@ -45,7 +45,7 @@ active s = length s.callers + 1
 
 -- ---- steps
 
--- an operation's action is done, and the operations behind it come next
+-- an operation's action is done, and the operations after it come next
 abbrev pub goes_by : State → List TacOp → Outcome → Move LongEvent State
 goes_by s ops (Gives events t value world) =
     Goes events (record s { frame = record s.frame { ops = ops; registers = with_written s.frame.registers t value }; world = world })

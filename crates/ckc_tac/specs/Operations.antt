@@ -27,7 +27,7 @@ operation_of LtU = binary.LtU
 operation_of Eq = binary.Eq
 operation_of Ne = binary.Ne
 
--- 1 where a comparison holds, else 0, where both operands have a value
+-- if both operands have a value: 1 if a comparison holds, else 0
 abbrev pub compared : Comparison → Option ℕ → Option ℕ → Option ℕ
 compared comparison (Some x) (Some y) = Some (applied (operation_of comparison) x y)
 compared comparison (Some x) None = None
@@ -51,7 +51,7 @@ outcome_of registers world (Get t) = gets world t
 outcome_of registers world (Put a) = with_value (value_in registers a) (puts world)
 outcome_of registers world (Alloc t a size) = with_value (value_in registers a) (λ n. allocates world t n size)
 
--- the values of registers, where each has one
+-- the values of registers, if each has one
 abbrev pub values_in : Values → List ℕ → Option (List ℕ)
 values_in registers [] = Some []
 values_in registers (r ∷ rs) =

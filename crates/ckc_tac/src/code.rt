@@ -33,9 +33,9 @@ pub enum Operand {
 
 /// An operation. A register that is written comes first, then what is read.
 ///
-/// - `High` is the upper word of a product, signed where the flag says so.
+/// - `High` is the upper word of a product, signed if the flag says so.
 /// - `Store` has the address, then the value.
-/// - `Check` stops where its operand is zero.
+/// - `Check` stops if its operand is zero.
 /// - `Call` has the number of the function, the registers of the arguments, and the place at which a call too deep
 ///   stops.
 /// - `Alloc` has the count of elements and the size of one.
@@ -63,7 +63,7 @@ pub enum Comparison {
     Ne,
 }
 
-/// The end of a block: control goes to a block, or to the first of two where a comparison of two operands holds, else
+/// The end of a block: control goes to a block, or to the first of two if a comparison of two operands holds, else
 /// to the second, or back to the caller with a value.
 #[derive(Clone, Copy)]
 pub enum TacEnd {

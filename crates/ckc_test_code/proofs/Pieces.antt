@@ -9,7 +9,7 @@ use Rattle.ckc_test_code.specs.code.Fine.{IsFine, IsStmt, IsBody}
 pub none_fine : (params : List ℕ) (locals : ℕ) (looped : Bool) → IsBody params locals looped []
 none_fine params locals looped = record { over = λ functions e rest h. h; limits = λ rest h. h }
 
--- a statement behind others
+-- a statement after others
 pub chained_push : (stmts : List CoreStmt) (s : CoreStmt) (rest : Code) → chained (map stmt_of (stmts ++ s ∷ [])) rest ≡ chained (map stmt_of stmts) (stmt_of s rest)
 chained_push [] s rest = refl
 chained_push (x ∷ xs) s rest = ap (stmt_of x) (chained_push xs s rest)

@@ -42,7 +42,7 @@ impl Drop for Desk<'_> {
     }
 }
 
-/// Does a case twice, the second time with call 1 of standard error failing in each call of `ccc`, where nothing is to
+/// Does a case twice, the second time with call 1 of standard error failing in each call of `ccc`, if nothing is to
 /// be on standard error. Tells what did not come as wanted.
 pub fn run_case(lines: &str, page: &mut Page) {
     run_once(lines, &[], page);

@@ -39,7 +39,7 @@ fn is_wanted(parts: &Parts) -> bool {
         && parts.initial.as_slice() == [1, 2].as_slice()
 }
 
-/// Labels in front, behind and in the middle, and each kind of line.
+/// Labels in front, at the end and in the middle, and each kind of line.
 fn assembled(alloc: Global) -> Result<Parts, AllocError> {
     let lines = [
         Line::Label(7),

@@ -54,7 +54,7 @@ pub fn run_machine(lines: &str, page: &mut Page) {
 }
 
 impl Given {
-    /// Reads a line. Those that are done later stand behind the others.
+    /// Reads a line. Those that are done later stand after the others.
     fn take(&mut self, line: &str, page: &mut Page) {
         let (key, rest) = split_word(line);
         match key {

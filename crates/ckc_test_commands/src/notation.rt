@@ -23,12 +23,12 @@ pub fn image_of(parts: &str, page: &mut Page) -> Vec<u8> {
     image
 }
 
-/// How many bytes there are, or 0 where there are too many.
+/// How many bytes there are, or 0 if there are too many.
 fn length_of(bytes: &[u8]) -> u32 {
     u32::try_from(bytes.len()).unwrap_or(0)
 }
 
-/// The word in front of the first blank, and what stands behind it.
+/// The word in front of the first blank, and what stands after it.
 pub fn split_word(text: &str) -> (&str, &str) {
     match text.split_once(' ') {
         Some(parts) => parts,

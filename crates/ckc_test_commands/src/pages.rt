@@ -1,8 +1,8 @@
-//! Pages of the documents: each program of a page, with the line on standard error that the page tells behind it.
+//! Pages of the documents: each program of a page, with the line on standard error that the page tells after it.
 use crate::commands::{run_case, tell};
 use ckc_test_trials::{File, Page, Report};
 
-/// Where a page stands: outside a program, within one, or behind one whose line has not come yet.
+/// Where a page stands: outside a program, within one, or after one whose line has not come yet.
 #[derive(Clone, Copy)]
 enum Part {
     Outside,

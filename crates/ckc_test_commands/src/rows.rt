@@ -2,7 +2,7 @@
 use crate::notation::split_word;
 use ckc_test_trials::Page;
 
-/// The lines of a case: what stands in front of the text, between it and what is wanted, and behind that.
+/// The lines of a case: what stands in front of the text, between it and what is wanted, and after that.
 struct Frame(&'static str, &'static str, &'static str);
 
 /// The lines of the cases of a command. `asm` asks nothing of input and output.

@@ -5,7 +5,7 @@ use ckc_test_trials::Page;
 use ckc_typed::Note;
 use ckc_types::CType;
 
-/// The body of the last item, where that is a function.
+/// The body of the last item, if that is a function.
 fn last_body<N, A>(tree: &Tree<N, A>) -> Option<&Stmt<N, A>> {
     match tree.items.as_slice().last() {
         Some(Item::Function(_, body)) => Some(body.get()),
@@ -43,7 +43,7 @@ impl Noted for Note {
 }
 
 /// Writes the type of the condition, call, right side or initialiser in the last statement of the last function, or
-/// `fine` where there is none.
+/// `fine` if there is none.
 pub fn put_last_type<N, A: Noted>(page: &mut Page, tree: &Tree<N, A>) {
     match last_body(tree) {
         Some(body) => put_type_in(page, body),

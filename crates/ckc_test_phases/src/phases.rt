@@ -1,5 +1,5 @@
 //! A text through the phases, up to the one of which something is asked. What a phase has made of it is left to the end
-//! of the process. What only reads a tree is generic: the prover takes much longer where it sees the types of trees.
+//! of the process. What only reads a tree is generic: the prover takes much longer if it sees the types of trees.
 use crate::parts::{last_statement, last_value, put_last_type};
 use crate::source::{Written, put_expr, put_objects, put_place, put_statement, put_tokens};
 use ckc_base::{Fault, Pos, Refusal};

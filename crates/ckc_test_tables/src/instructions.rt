@@ -134,7 +134,7 @@ fn signed(text: &str, page: &mut Page) -> i32 {
     }
 }
 
-/// The value whose name in the code this is. Where none has it, the page keeps that, and there is the other value.
+/// The value whose name in the code this is. If none has it, the page keeps that, and there is the other value.
 fn spelled<T: Copy + Debug>(all: &[T], otherwise: T, name: &str, page: &mut Page) -> T {
     for value in all {
         let mut spelling = Page::new(page.alloc());

@@ -47,7 +47,7 @@ fn put_byte(byte: Option<u8>, page: &mut Page) {
     }
 }
 
-/// Writes bytes behind the others, with a blank in front.
+/// Writes bytes after the others, with a blank in front.
 pub fn put_last(bytes: &[u8], page: &mut Page) {
     page.put_word("");
     page.put_bytes(bytes);

@@ -5,7 +5,7 @@ ghost use Rattle.std.specs.Prelude.{◌≤◌, length, IfOk};
 use std::io;
 use std::io::{ErrorKind, Read, Write};
 
-/// Gives the bytes of a word, which are numbers between dots, as `7.255`. Behind the last word is the end.
+/// Gives the bytes of a word, which are numbers between dots, as `7.255`. After the last word is the end.
 #[derive(Drop)]
 pub struct ScriptedReader<'a> {
     words: &'a [&'a str],
@@ -54,7 +54,7 @@ fn failure(word: &str) -> io::Error {
     }
 }
 
-/// Takes as many bytes as a word says. Behind the last word each call fails.
+/// Takes as many bytes as a word says. After the last word each call fails.
 #[derive(Drop)]
 pub struct ScriptedWriter<'a> {
     words: &'a [&'a str],

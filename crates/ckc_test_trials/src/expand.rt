@@ -15,7 +15,7 @@ struct Repetition {
     start: usize,
 }
 
-/// What the next byte is: itself, the letter behind a backslash, the first or second digit of `\xNN`, a digit of a
+/// What the next byte is: itself, the letter after a backslash, the first or second digit of `\xNN`, a digit of a
 /// number of times, or a letter of the name that begins there.
 #[derive(Clone, Copy)]
 enum State {
@@ -36,7 +36,7 @@ struct Field<'a> {
     state: State,
 }
 
-/// The bytes that a field stands for: `\{3*ab}` is `ababab`, and `$name` is the text of the name, where there are names.
+/// The bytes that a field stands for: `\{3*ab}` is `ababab`, and `$name` is the text of the name, if there are names.
 pub fn expanded(raw: &[u8], names: &[Named], page: &mut Page) -> Vec<u8> {
     let mut field = Field {
         names,
@@ -99,7 +99,7 @@ impl Field<'_> {
         }
     }
 
-    /// Takes a digit of a number of times, or the mark behind it, with which the piece begins.
+    /// Takes a digit of a number of times, or the mark after it, with which the piece begins.
     fn counted(&mut self, times: u32, byte: u8, page: &mut Page) -> State {
         match byte {
             b'0'..=b'9' => {

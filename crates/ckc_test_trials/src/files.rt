@@ -40,7 +40,7 @@ pub struct Report {
 }
 
 /// Tries the cases of the files that the words of the command line name, a line each: prints each that differs and each
-/// malformed line, and a count for each file. The status is a failure where a line failed.
+/// malformed line, and a count for each file. The status is a failure if a line failed.
 pub fn run_words<R: Env + Files + Print + AllocGlobal, J: Judge>(
     rt: &R,
     judge: &J,
@@ -61,7 +61,7 @@ impl Report {
         }
     }
 
-    /// Prints it. The status is a failure where something failed.
+    /// Prints it. The status is a failure if something failed.
     pub fn print<R: Print>(self, rt: &R) -> io::Result<ExitCode> {
         rt.print(self.page.text())?;
         Ok(if self.failed == 0 && self.page.wrong().is_none() {

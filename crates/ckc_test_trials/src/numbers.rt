@@ -1,4 +1,4 @@
-//! Words, numbers and bytes that a field spells. Where it does not, the page keeps that, and there is some other value.
+//! Words, numbers and bytes that a field spells. If it does not, the page keeps that, and there is some other value.
 use crate::page::Page;
 use std::str;
 
@@ -35,7 +35,7 @@ impl Page {
         words
     }
 
-    /// What stands in front of a mark, and what stands behind it.
+    /// What stands in front of a mark, and what stands after it.
     pub fn parts_of<'a>(&mut self, text: &'a str, mark: &str) -> (&'a str, &'a str) {
         match text.split_once(mark) {
             Some(parts) => parts,
@@ -46,7 +46,7 @@ impl Page {
         }
     }
 
-    /// The number that is written in decimal, or behind `0x` in hexadecimal.
+    /// The number that is written in decimal, or after `0x` in hexadecimal.
     pub fn number_of(&mut self, text: &str) -> i64 {
         let read = match text.strip_prefix("0x") {
             Some(digits) => i64::from_str_radix(digits, 16),

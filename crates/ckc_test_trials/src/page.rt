@@ -3,7 +3,7 @@ use std::fmt::{Debug, Display};
 use std::io::Write;
 use std::str;
 
-/// What is wrong where an allocation fails.
+/// What is wrong if an allocation fails.
 const MEMORY: &str = "out of memory";
 
 /// Text as it is written, and the first thing that is wrong with it or with what is read for it. No method fails, so
@@ -72,7 +72,7 @@ impl Page {
         }
     }
 
-    /// Writes a word behind the others, with a blank in front.
+    /// Writes a word after the others, with a blank in front.
     pub fn put_word(&mut self, word: &str) {
         if !self.bytes.is_empty() {
             self.put(" ");
@@ -87,7 +87,7 @@ impl Page {
         }
     }
 
-    /// Writes a word in hexadecimal digits, behind `0x`.
+    /// Writes a word in hexadecimal digits, after `0x`.
     pub fn put_hex(&mut self, word: u32) {
         if write!(self.bytes, "{word:#x}").is_err() {
             self.lacks_memory();

@@ -19,7 +19,7 @@ impl Reader {
         }
     }
 
-    /// The fields of the case of a line, or none where it gives a name or a form.
+    /// The fields of the case of a line, or none if it gives a name or a form.
     pub fn read(&mut self, line: &str, page: &mut Page) -> Vec<Vec<u8>> {
         let raw = cut(line.as_bytes(), page);
         if line.starts_with("form ") {
@@ -75,7 +75,7 @@ impl Reader {
     }
 }
 
-/// The fields of a line as they are written, between the bars that do not stand behind a backslash.
+/// The fields of a line as they are written, between the bars that do not stand after a backslash.
 fn cut(line: &[u8], page: &mut Page) -> Vec<Vec<u8>> {
     let mut fields = Vec::new(page.alloc());
     let mut field = Vec::new(page.alloc());

@@ -28,7 +28,7 @@ abbrev pub number_of : Option Constant → Option ℤ
 number_of (Some c) = Some (value_of c)
 number_of None = None
 
--- the number that an expression stands for, where it is a constant
+-- the number that an expression stands for, if it is a constant
 abbrev pub number_in : {A : Type 0} → Structs → Expr Name A → Option ℤ
 number_in structs e = number_of (constant structs e)
 
@@ -69,7 +69,7 @@ abbrev pub amount_by : {A : Type 0} → Structs → Expr Name A → Option ℤ �
 amount_by structs e (Some c) = Some (fixed c)
 amount_by {A} structs e None = amount_in_form structs (out-Node Name A e.node)
 
--- the amount that an expression is, where it is one
+-- the amount that an expression is, if it is one
 abbrev pub amount : {A : Type 0} → Structs → Expr Name A → Option Amount
 amount structs e = amount_by structs e (number_in structs e)
 
@@ -82,7 +82,7 @@ abbrev pub scaled : ℕ → Option ℤ → Option Amount
 scaled size (Some c) = if is_multiple c size then Some (fixed (int_div c (pos size))) else None
 scaled size None = None
 
--- How many elements so many bytes are: where an element has one byte as many, else a constant multiple of its size.
+-- How many elements so many bytes are: if an element has one byte, as many, else a constant multiple of its size.
 abbrev pub amount_of_bytes : {A : Type 0} → Structs → ℕ → Expr Name A → Option Amount
 amount_of_bytes structs size e = if size == 1 then amount structs e else scaled size (number_in structs e)
 
@@ -93,6 +93,6 @@ amount_of_form structs size (Limits-F.ByteCount e at) = amount_of_bytes structs 
 amount_of_form structs size (Limits-F.Between e f at) = None
 amount_of_form structs size (Limits-F.Unknown at) = None
 
--- How many elements of a size bounds count, where they count some.
+-- How many elements of a size bounds count, if they count some.
 abbrev pub amount_of_limits : {A : Type 0} → Structs → ℕ → Limits Name A → Option Amount
 amount_of_limits {A} structs size l = amount_of_form structs size (out-Limits Name A l)

@@ -27,7 +27,7 @@ is_laid_out_form structs _ = true
 abbrev pub is_laid_out : Structs → CType → Bool
 is_laid_out structs t = is_laid_out_form structs (out-CType t)
 
--- the size of a type in bytes, 0 where it has none
+-- the size of a type in bytes, 0 if it has none
 abbrev pub size_of : Structs → CType → ℕ
 size_of structs t = if is_laid_out structs t then size structs t else 0
 

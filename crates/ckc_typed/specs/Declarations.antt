@@ -108,7 +108,7 @@ count_by (lengths.Raw n pos) i = length_or n i
 count_by (lengths.Checked n) i = length_or n i
 count_by (lengths.Nt n) i = length_or n i
 
--- how many elements an object of file scope has, where that is known
+-- how many elements an object of file scope has, if that is known
 abbrev pub count_of : NotedDecl → Option ℕ
 count_of d = count_by d.length d.init
 
@@ -122,7 +122,7 @@ abbrev pub is_element_for : Length → CType → Bool
 is_element_for (lengths.Nt n) t = is_integer t
 is_element_for _ t = is_object_type t
 
--- An object of file scope begins as a constant, or null where it is a pointer.
+-- An object of file scope begins as a constant, or null if it is a pointer.
 abbrev pub is_start : Structs → CType → NotedExpr → Bool
 is_start structs t e = (is_integer t && is_some (constant structs e)) || (is_pointer t && is_null e)
 
@@ -141,7 +141,7 @@ init_fits structs t plain room init.Nothing = true
 init_fits structs t plain room (init.One e) = one_fits structs t plain room e
 init_fits structs t plain room (init.Many es) = not plain && (is_scalar t && (nat_le (length es) room && list_all (is_start structs t) es))
 
--- A length is at least 1. Where it is left out, an initialiser gives it. An `_Nt_checked` array whose length only a
+-- A length is at least 1. If it is left out, an initialiser gives it. An `_Nt_checked` array whose length only a
 -- list gives has no element for its zero, so it is refused.
 abbrev pub count_fits : Structs → NotedDecl → Option ℕ → Bool
 count_fits structs d None = false

@@ -1,5 +1,5 @@
 -- What a text declares (ISO C11, 6.2.1): its objects of file scope and its functions, and the variables that an
--- expression sees beside them, whatever its tree notes. Where a tree names what it does not declare, nothing is found.
+-- expression sees beside them, whatever its tree notes. If a tree names what it does not declare, nothing is found.
 use Rattle.std.specs.Prelude.{ℕ, ◌==◌, Bool, true, false, List, [], ◌∷◌, ◌++◌, map, flat_map, find, Option, None, Some}
 use Rattle.std.specs.Option.{option_map}
 use Rattle.ckc_types.specs.declared.types.Kind.{Kind}

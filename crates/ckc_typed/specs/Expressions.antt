@@ -34,7 +34,7 @@ use Rattle.ckc_typed.specs.Conversions.{is_null, converts, is_tested, is_trusted
 abbrev pub noted : Mode → Pos → NotedNode → CType → NotedExpr
 noted mode pos n t = record { node = n; pos = pos; note = record { ctype = t; mode = mode; range = Missing } }
 
--- E401 where the operands are in no row, but E402 where one is the value of a call that gives none.
+-- E401 if the operands are in no row, but E402 if one is the value of a call that gives none.
 abbrev pub in_row : Bool → Pos → Option CType → Outcome CType
 in_row void pos t = there_or (if void then bad_conversion else bad_operands) pos t
 

@@ -60,7 +60,7 @@ abbrev pub members_in_item : {A : Type 0} → Name → Item Name A → Option (L
 members_in_item tag (item.Struct n members at) = if same_name n tag then Some members else None
 members_in_item tag _ = None
 
--- the members of the first structure with a tag, none where only tag lines name it
+-- the members of the first structure with a tag, none if only tag lines name it
 abbrev pub members_declared : {A : Type 0} → List (Item Name A) → Name → List (Decl Name A)
 members_declared [] tag = []
 members_declared (i ∷ rest) tag = unwrap_or (members_in_item tag i) (members_declared rest tag)

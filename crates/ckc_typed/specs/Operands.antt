@@ -13,7 +13,7 @@ use Rattle.ckc_syntax.specs.declared.tree.TreeOp.TheVariants as op
 use Rattle.ckc_typed.specs.Types.{is_integer, is_pointer, is_void, is_unsigned, is_scalar, element_of, kind_of, is_object_type, same_type}
 use Rattle.ckc_typed.specs.Environment.{member_type}
 
--- `char` becomes `int` where it is an operand.
+-- `char` becomes `int` if it is an operand.
 abbrev pub promoted : CType → CType
 promoted t = if is_unsigned t then ctype.Unsigned else ctype.Int
 

@@ -63,7 +63,7 @@ abbrev pub fault_in : Mode → Option ℕ → Option ℕ
 fault_in Checked fault = fault
 fault_in Unchecked fault = None
 
--- The number of the refusal for a spot, where it is at fault. In an unchecked scope nothing is.
+-- The number of the refusal for a spot, if it is at fault. In an unchecked scope nothing is.
 abbrev pub fault_at : List (Item Name Note) → Spot → Option ℕ
 fault_at items s = fault_in s.mode (fault_of_matter items s.matter)
 
@@ -71,7 +71,7 @@ fault_at items s = fault_in s.mode (fault_of_matter items s.matter)
 abbrev pub IsFine : Typed → Spot → Type 0
 IsFine p s = fault_at p.tree.items s ≡ None
 
--- A typed text is scoped where no spot is at fault.
+-- A typed text is scoped if no spot is at fault.
 abbrev pub Scoped : Typed → Type 0
 Scoped p = All (IsFine p) (walk p)
 

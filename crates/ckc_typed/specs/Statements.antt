@@ -53,7 +53,7 @@ is_named globals variables e = is_variable_form variables (out-Node Name Note e.
 abbrev pub is_text_call : NotedExpr → Bool
 is_text_call e = is_call_form (out-Node Name Note e.node)
 
--- A target is a local, or what has an address, and a scalar. Where the right side calls a function of the text, it is a
+-- A target is a local, or what has an address, and a scalar. If the right side calls a function of the text, it is a
 -- local or an object by its name.
 abbrev pub is_target : Globals → List Variable → NotedExpr → NotedExpr → Bool
 is_target globals variables e f = is_scalar e.note.ctype && (is_named globals variables e || (is_placed e && not (is_text_call f)))
@@ -62,7 +62,7 @@ is_target globals variables e f = is_scalar e.note.ctype && (is_named globals va
 abbrev pub target_fits : Globals → List Variable → Pos → NotedExpr → NotedExpr → Outcome (Unit {0})
 target_fits globals variables pos e f = unless (not (converts e.note.ctype f)) bad_conversion pos (unless (not (is_target globals variables e f)) bad_target pos (Ok tt))
 
--- E401: the condition is no scalar, but E402 where it is the value of a call that gives none.
+-- E401: the condition is no scalar, but E402 if it is the value of a call that gives none.
 abbrev pub scalar_fits : Pos → NotedExpr → Outcome (Unit {0})
 scalar_fits pos e = unless (not (is_scalar e.note.ctype)) (if is_void e.note.ctype then bad_conversion else bad_operands) pos (Ok tt)
 

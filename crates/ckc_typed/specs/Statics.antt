@@ -1,6 +1,6 @@
 -- Where objects lie that live as long as the program (ISO C11, 6.2.4 and 6.7.9): the declared ones come first, in the
 -- order of the text, then a block for each string literal that initialises no array, in the order of the text, with a
--- zero byte behind its bytes. At 0x02000000 lies a word of the heap's. Each block begins at the least multiple of 8
+-- zero byte after its bytes. At 0x02000000 lies a word of the heap's. Each block begins at the least multiple of 8
 -- that is at least 8 bytes past the end of what lies before it.
 use Rattle.std.specs.Option.{option_map_or}
 use Rattle.std.specs.Prelude.{ℕ, ◌+◌, ◌*◌, Bool, true, false, if◌then◌else◌, List, [], ◌∷◌, ◌++◌, length, take, map, flat_map, Option, None, Some, unwrap_or}
@@ -124,7 +124,7 @@ object_of_string bytes = record { at = 0; element = ctype.Char; array = Some kin
 abbrev pub blocks : Structs → List NotedItem → List StaticObject
 blocks structs items = flat_map (objects_of_item structs) items ++ map object_of_string (flat_map strings_of_item items)
 
--- where the block behind an end begins
+-- where the block after an end begins
 abbrev pub begin_behind : ℕ → ℕ
 begin_behind end = next_multiple_of (end + 8) 8
 
@@ -132,7 +132,7 @@ begin_behind end = next_multiple_of (end + 8) 8
 abbrev pub end_of_block : Structs → ℕ → StaticObject → ℕ
 end_of_block structs end o = begin_behind end + size_of structs o.element * o.count
 
--- the blocks at their places behind an end
+-- the blocks at their places after an end
 abbrev pub placed : Structs → ℕ → List StaticObject → List StaticObject
 placed structs end [] = []
 placed structs end (o ∷ os) = record o { at = begin_behind end } ∷ placed structs (end_of_block structs end o) os

@@ -119,7 +119,7 @@ object_parts CType-F.Void = None
 object_parts (CType-F.Struct tag) = Some false
 object_parts (CType-F.Pointer k t) = pointer_parts k t
 
--- Whether a type is an integer type; none where it is no type of an object. `void` is none, and neither is an
+-- Whether a type is an integer type; none if it is no type of an object. `void` is none, and neither is an
 -- `_Nt_array_ptr` to anything but an integer type.
 abbrev pub integer_object : CType → Option Bool
 integer_object = fold-CType (Option Bool) object_parts

@@ -137,7 +137,7 @@ mode_of_directive pragma directive.Stdio = pragma
 mode_of_directive pragma directive.Stdlib = pragma
 mode_of_directive pragma directive.Stdchecked = pragma
 
--- the mode of what follows an item, where no head says another
+-- the mode of what follows an item, if no head says another
 abbrev pub pragma_after : {N A : Type 0} → Mode → Item N A → Mode
 pragma_after pragma (item.Directive d) = mode_of_directive pragma d
 pragma_after pragma _ = pragma

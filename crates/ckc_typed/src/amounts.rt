@@ -30,7 +30,7 @@ fn number_of(c: Option<Constant>) -> Option<i64>
     }
 }
 
-/// The number that an expression stands for, where it is a constant.
+/// The number that an expression stands for, if it is a constant.
 fn number_in<A>(
     alloc: Global,
     structs: &Structs,
@@ -94,7 +94,7 @@ fn or_amount(amount: Option<Amount>, other: Option<Amount>) -> Option<Amount>
     }
 }
 
-/// The negative of the number that an expression stands for, where it is a constant.
+/// The negative of the number that an expression stands for, if it is a constant.
 pub fn negative_in<A>(
     alloc: Global,
     structs: &Structs,
@@ -145,7 +145,7 @@ fn amount_in<A>(
     }
 }
 
-/// The amount that an expression is, where it is one.
+/// The amount that an expression is, if it is one.
 pub fn amount<A>(
     alloc: Global,
     structs: &Structs,
@@ -197,7 +197,7 @@ fn amount_of_bytes<A>(
     Ok(scaled(size, c))
 }
 
-/// How many elements of a size bounds count, where they count some.
+/// How many elements of a size bounds count, if they count some.
 pub fn amount_of_limits<A>(
     alloc: Global,
     structs: &Structs,

@@ -15,7 +15,7 @@ use ckc_syntax::{Expr, Name, Node, TreeOp};
 use ckc_types::{CType, MemberShape, Structs, size};
 use std::alloc::{AllocError, Global};
 
-/// The members of the structure with a tag, none where there is no such structure.
+/// The members of the structure with a tag, none if there is no such structure.
 pub fn members_of(structs: &Structs, tag: u32) -> &[MemberShape]
     ensures { result.now ≡ members_of structs.now tag }
 {
@@ -47,7 +47,7 @@ fn is_laid_out(structs: &Structs, t: &CType) -> bool
     }
 }
 
-/// The size of a type in bytes, 0 where it has none.
+/// The size of a type in bytes, 0 if it has none.
 pub fn size_of(structs: &Structs, t: &CType) -> u32
     ensures { result ≡ size_of structs.now t.now }
 {
@@ -104,7 +104,7 @@ fn constant_of_node<A>(
     }
 }
 
-/// The constant that an expression is, where it is one.
+/// The constant that an expression is, if it is one.
 #[cycle(constant)]
 pub fn constant<A>(
     alloc: Global,

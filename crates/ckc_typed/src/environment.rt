@@ -11,7 +11,7 @@ pub struct Globals {
     pub functions: Seq<Signature>,
 }
 
-/// An object of file scope: the type of its elements, and the kind of pointer that its use gives where it is an array.
+/// An object of file scope: the type of its elements, and the kind of pointer that its use gives if it is an array.
 #[derive(Drop)]
 pub struct Object {
     pub name: Name,
@@ -27,14 +27,14 @@ pub struct Signature {
     pub params: Seq<CType>,
 }
 
-/// A parameter or local of a function, or a member where bounds name it.
+/// A parameter or local of a function, or a member if bounds name it.
 #[derive(Drop)]
 pub struct Variable {
     pub name: Name,
     pub ctype: CType,
 }
 
-/// An amount of elements or bytes in bounds: a variable, where there is one, and a number that is added to it.
+/// An amount of elements or bytes in bounds: a variable, if there is one, and a number that is added to it.
 #[derive(Clone, Copy)]
 pub struct Amount {
     pub variable: Option<Name>,

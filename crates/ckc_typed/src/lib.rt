@@ -4,7 +4,7 @@
 //! What types the parts of a text have, and what it is that a typed tree keeps the rules of checked scopes, stands in
 //! `specs/`. `types`, `operands`, `conversions`, `literals`, `constants` and `amounts` compute what written types,
 //! operators, casts, literals, constant expressions and amounts stand for, `lookups` what a name stands for, and
-//! `modes` the mode of a head and behind an item.
+//! `modes` the mode of a head and after an item.
 #![tactic(auto)]
 
 pub mod amounts;

@@ -46,7 +46,7 @@ fn local_named(variables: &[Variable], k: u32) -> Option<&Variable>
     variables.iter().find(|v| is_local(v.name, k))
 }
 
-/// The variable with a name, where there is one.
+/// The variable with a name, if there is one.
 pub fn variable_named(variables: &[Variable], n: Name) -> Option<&Variable>
     ensures { option_copied result ≡ variable_named variables.now n }
 {

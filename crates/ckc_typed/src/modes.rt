@@ -23,7 +23,7 @@ fn mode_of_directive(pragma: Mode, d: Directive) -> Mode
     }
 }
 
-/// The mode of the pragma behind an item.
+/// The mode of the pragma after an item.
 pub fn pragma_after<N, A>(pragma: Mode, item: &Item<N, A>) -> Mode
     ensures { result ≡ pragma_after pragma item.now }
 {

@@ -35,7 +35,7 @@ impl ExactClone for Note {
 }
 
 /// An object that lives as long as the program: its address, the type of its elements, the kind of pointer that its use
-/// gives where it is an array, how many elements there are, whether the last one stays zero, and the bytes that it begins
+/// gives if it is an array, how many elements there are, whether the last one stays zero, and the bytes that it begins
 /// with. A string literal is one too.
 #[derive(Drop)]
 pub struct StaticObject {

@@ -181,7 +181,7 @@ pub fn element_of(alloc: Global, t: &CType) -> Result<CType, AllocError>
     }
 }
 
-/// Whether a type is an integer type; none where it is no type of an object. Of the pointers around a type that is
+/// Whether a type is an integer type; none if it is no type of an object. Of the pointers around a type that is
 /// none itself only the innermost matters, unless an `_Nt_array_ptr` stands around another pointer.
 fn integer_object(t: &CType) -> Option<bool>
     ensures { result ≡ integer_object t.now }
@@ -213,7 +213,7 @@ fn is_terminated(pointer: Option<Kind>) -> bool
     }
 }
 
-/// Whether a type in a pointer, where there is one, is an integer type; none where it is no type of an object.
+/// Whether a type in a pointer, if there is one, is an integer type; none if it is no type of an object.
 fn within(around: Option<Kind>, integer: Option<bool>) -> Option<bool>
     ensures { result ≡ within around integer }
 {

@@ -44,7 +44,7 @@ both_are true b e = (refl, e)
 both_are false b e = absurd cc
 
 module _ (names : Names) (all : List Item) where
-  -- where an item passes a test, one that it becomes is as the test says
+  -- if an item passes a test, one that it becomes is as the test says
   one_of : (test : Item → Bool) (P : NamedItem → Type 0) → ((before : Names) (i : Item) (j : NamedItem) → ItemNamed names all before i j → test i ≡ true → P j)
       → (before : Names) (is : List Item) (js : List NamedItem) → ItemsNamed names all before is js → list_any test is ≡ true → Any P js
   one_of test P each before is js items.none e = absurd cc

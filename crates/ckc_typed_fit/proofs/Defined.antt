@@ -1,4 +1,4 @@
--- Where the first function of a name that has a body has a head, some function with a body has it.
+-- If the first function of a name that has a body has a head, some function with a body has it.
 use Rattle.std.proofs.Common.{◌≡◌, Bool, true, false, ◌||◌, cond, List, [], ◌∷◌, Some, refl}
 use Rattle.std.specs.List.{list_any}
 use Rattle.std.specs.Str.{bytes_eq}

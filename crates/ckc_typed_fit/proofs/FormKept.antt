@@ -1,4 +1,4 @@
--- A tree keeps its form where its names are resolved: calls stand in the same places, and so do the parts of bundles, of
+-- A tree keeps its form if its names are resolved: calls stand in the same places, and so do the parts of bundles, of
 -- `for` and of structures.
 use Rattle.std.proofs.Common.{◌≡◌, ◌∙◌, sym, ap, refl, suc, Bool, true, false, ◌&&◌, ◌||◌, nat_le, List, ◌∷◌, length, map, rules}
 use Rattle.std.specs.Prelude.{Ok, Option, Some}
@@ -41,7 +41,7 @@ both {a} {b} {c} {d} p q = ap (λ x. x && b) p ∙ ap (λ x. c && x) q
 abbrev callless_node : {N A : Type 0} → trees.Node N A → Bool
 callless_node {N} {A} = fold-Node N A Bool Bool Bool limits_callless node_callless expr_callless
 
--- calls stand in the same places, and the one is a call where the other is
+-- calls stand in the same places, and the one is a call if the other is
 pub record SameNode (n : Node) (m : NamedNode) : Type 0 where
   pub callless : callless_node m ≡ callless_node n
   pub form : call_form (out-Node Name (Unit {0}) m) ≡ call_form (out-Node Spelling (Unit {0}) n)

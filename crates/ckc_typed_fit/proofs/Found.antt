@@ -33,7 +33,7 @@ use Rattle.ckc_typed_fit.proofs.TestsPass.{names_in, items_seen}
 one_of_one : (n : ℕ) → is_one_of (n ∷ []) n ≡ true
 one_of_one n = ap (λ b. b || false) ((unsigned_Decides n n).1 refl)
 
--- where a spelling has a place, this is its number, and it is there
+-- if a spelling has a place, this is its number, and it is there
 placed_below : (s : Spelling) (ss : List Spelling) → number_of ss s < length ss → is_among ss s ≡ true
 placed_below s [] h = absurd (omega (arith, h))
 placed_below s (x ∷ xs) h = by (bytes_eq s x) h (placed_below s xs)

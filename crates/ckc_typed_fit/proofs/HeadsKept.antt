@@ -187,7 +187,7 @@ module _ (names : Names) where
   scope_kept [] before = refl
   scope_kept (d ∷ ds) before = scope_kept ds (with_local before d.name)
 
-  -- a head, where its bounds see such a scope
+  -- a head, if its bounds see such a scope
   abbrev head_in : Head → Scopes → Outcome (NamedHead × Scopes)
   head_in h s =
       bind (type_named names h.result) (λ t. bind (params_named names s h.params no_scope) (λ p. bind (bounds_named names s h.bounds) (λ b.

@@ -23,7 +23,7 @@ ActOf = Act-F Spelling (Unit {0}) Act Stmt
 abbrev pub NamedActOf : Type 0
 NamedActOf = Act-F Name (Unit {0}) NamedAct NamedStmt
 
--- a claim on a statement, the one that it becomes, and what is visible before and behind them
+-- a claim on a statement, the one that it becomes, and what is visible before and after them
 abbrev pub Claim : Type 1
 Claim = Scopes → Act → NamedAct → Scopes → Type 0
 

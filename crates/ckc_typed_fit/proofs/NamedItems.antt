@@ -47,7 +47,7 @@ decl_is names within outside n d =
     bound (λ i. init_named names outside d.init ≡ Ok i) (DeclNamed names within outside n d) _ _ (itself (init_named names outside d.init)) (λ i e.
     record { ctype = a; bounds = c; init = e; named = refl; length = refl })))
 
--- a declaration that is not taken, with what is visible behind it
+-- a declaration that is not taken, with what is visible after it
 pub record Declared {S : Type 0} (P : NamedDecl → Type 0) (taken : Bool) (left : S) (p : NamedDecl × S) : Type 0 where
   pub declared : P p.0
   pub new : taken ≡ false
@@ -127,7 +127,7 @@ module _ (names : Names) where
 
   -- ---- items
 
-  -- an item among all, behind those that declare the names before it
+  -- an item among all, after those that declare the names before it
   pub data ItemNamed (all : List Item) (before : Names) : Item → NamedItem → Type 0 where
     directive : (d : Directive) → ItemNamed all before (item.Directive d) (item.Directive d)
     tag : (s : Spelling) (pos : Pos) → ItemNamed all before (item.Tag s pos) (item.Tag (name_of_tag names s) pos)

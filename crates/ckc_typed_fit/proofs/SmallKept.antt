@@ -1,4 +1,4 @@
--- A tree has the marks and the depths of the tree of the spellings, so it keeps the limits of a text where that does.
+-- A tree has the marks and the depths of the tree of the spellings, so it keeps the limits of a text if that does.
 use Rattle.std.proofs.Common.{◌≡◌, ℕ, ◌+◌, ◌≤◌, max, sym, ap, refl, subst, ◌∙◌, List, [], ◌∷◌, ◌++◌, map}
 use Rattle.std.specs.Prelude.{Ok, Option}
 use Rattle.std.specs.List.{flat_map, AllByRecursion}

@@ -60,7 +60,7 @@ among_with s ss = by (is_among ss s) refl
     by true e = e
     by false e = among_last s ss
 
--- a spelling that is there where one more is noted
+-- a spelling that is there if one more is noted
 pub noted_one : (ss : List Spelling) (s x : Spelling) → is_among (with_spelling ss x) s ≡ true → (is_among ss s ≡ true) ⊎ (s ≡ x)
 noted_one ss s x = by (is_among ss x)
   where

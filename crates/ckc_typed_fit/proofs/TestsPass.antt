@@ -1,4 +1,4 @@
--- Where a test passes of all that a name can mean, it passes of each name of a tree whose names are resolved.
+-- If a test passes of all that a name can mean, it passes of each name of a tree whose names are resolved.
 use Rattle.std.proofs.Common.{◌≡◌, sym, ap, refl, subst, ◌∙◌, Bool, true, ◌&&◌, List, [], ◌∷◌, ◌++◌, length, map, take, append_assoc, append-nil}
 use Rattle.std.specs.Prelude.{Ok, Option, Some, None, fold}
 use Rattle.std.specs.List.{list_all}
@@ -167,7 +167,7 @@ module _ (names : Names) (tests : Tests)
 
   -- ---- statements
 
-  -- a statement passes where it stands, and what is visible behind it is what it leaves behind what was visible before
+  -- a statement passes where it stands, and what is visible after it is what it leaves after what was visible before
   pub record Passes (before : Scopes) (w : Walked) (after : Scopes) : Type 0 where
     pub passes : w.passes (names_in before) ≡ true
     pub leaves : List Entry
@@ -314,7 +314,7 @@ module _ (names : Names) (tests : Tests)
 
   -- ---- heads and items
 
-  -- what is visible behind parameters is what was visible before them and their names
+  -- what is visible after parameters is what was visible before them and their names
   params_behind : (all before : Scopes) (ds : List Decl) (es : List NamedDecl) (after : Scopes) → ParamsNamed names all before ds es after
       → (names_in after ≡ names_in before ++ names_declared es) × (fold with_param before ds ≡ after)
   params_behind all before ds es after items.no_params = (sym (append-nil (names_in before)), refl)

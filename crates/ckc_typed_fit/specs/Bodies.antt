@@ -20,7 +20,7 @@ abbrev pub Defines : NamedHead → NamedItem → Type 0
 Defines h (item.Function g body) = placeless_head h ≡ placeless_head g
 Defines h i = ⊥
 
--- where an item is a prototype, some function has its head and a body
+-- if an item is a prototype, some function has its head and a body
 abbrev pub IsDefined : List NamedItem → NamedItem → Type 0
 IsDefined items (item.Proto h) = Any (Defines h) items
 IsDefined items i = Unit {0}

@@ -13,8 +13,8 @@ use Rattle.ckc_syntax.specs.declared.tree.Act.{Act-F, fold-Act}
 use Rattle.ckc_syntax.specs.declared.tree.Stmt.{Stmt-F, fold-Stmt}
 use Rattle.ckc_resolve.specs.Trees.{NamedType, NamedDecl, NamedInit, NamedLimits, NamedNode, NamedExpr, NamedHead, NamedAct, NamedStmt, NamedItem}
 
--- What is asked of a name in an expression, where the file's names and some others are visible; of a member behind `.` or
--- `->`; and of the tag in a type.
+-- What is asked of a name in an expression, if the names of file scope and some others are visible; of a member after
+-- `.` or `->`; and of the tag in a type.
 pub record Tests : Type 0 where
   pub name : List Name → Name → Bool
   pub member : Name → Bool
@@ -73,7 +73,7 @@ decl_passes tests within outside d = type_passes tests d.ctype && (bounds_pass t
 
 -- ---- statements
 
--- the names that a statement leaves visible behind it, and whether its own names pass where some are visible before it
+-- the names that a statement leaves visible after it, and whether its own names pass if some are visible before it
 pub record Walked : Type 0 where
   pub leaves : List Name
   pub passes : List Name → Bool
@@ -93,8 +93,8 @@ abbrev pub part_passes : Option Walked → List Name → Bool
 part_passes None visible = true
 part_passes (Some s) visible = s.passes visible
 
--- A local is visible in its own bounds and behind its declaration, to the end of its block; not in its own initialiser. A
--- `for` is a block of its own, whose step stands behind its body.
+-- A local is visible in its own bounds and after its declaration, to the end of its block; not in its own initialiser.
+-- A `for` is a block of its own, whose step stands after its body.
 abbrev pub act_walked : Tests → Act-F Name (Unit {0}) Walked Walked → Walked
 act_walked tests (Act-F.Block mode ss) = record { leaves = []; passes = pass_in_turn ss }
 act_walked tests Act-F.Empty = record { leaves = []; passes = λ visible. true }

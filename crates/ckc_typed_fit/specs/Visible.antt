@@ -21,7 +21,7 @@ is_of_file items name.Getchar = true
 is_of_file items name.Putchar = true
 is_of_file items _ = false
 
--- a name in an expression, where some locals, parameters or members are visible beside the names of the file
+-- a name in an expression, if some locals, parameters or members are visible beside the names of file scope
 abbrev pub is_visible : List NamedItem → List Name → Name → Bool
 is_visible items visible n = list_any (same_name n) visible || is_of_file items n
 

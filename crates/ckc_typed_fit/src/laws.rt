@@ -13,8 +13,8 @@ ghost use Rattle.ckc_typed_fit.specs.Members.{item_members, AreDifferent};
 ghost use Rattle.ckc_typed_fit.specs.Numbers.{static_numbers, CountsFrom, function_numbers, tag_numbers, CountsUp};
 ghost use Rattle.ckc_typed_fit.specs.Visible.{NamesAreVisible, TagsHaveBodies};
 
-/// The grammar gives a tree whose names are resolved just where it gives the tree of the spellings: calls stand in the
-/// same places, and so do the parts of bundles, of `for` and of structures.
+/// The grammar gives a tree whose names are resolved exactly when it gives the tree of the spellings: calls stand in
+/// the same places, and so do the parts of bundles, of `for` and of structures.
 pub fn names_keep_form()
     ensures form { (t : Tree) (n : NamedText) →
         naming.Makes t n → given_tree n.tree ≡ given_tree t }
@@ -48,7 +48,7 @@ pub fn members_differ()
         naming.Makes t n → All (λ i. AreDifferent (item_members i)) n.tree.items }
 {}
 
-/// A text whose names are resolved keeps the limits of a text where the text of the spellings does.
+/// A text whose names are resolved keeps the limits of a text if the text of the spellings does.
 pub fn small_stays()
     ensures small { (t : Tree) (n : NamedText) → naming.Makes t n → Small t → Small n.tree }
 {}

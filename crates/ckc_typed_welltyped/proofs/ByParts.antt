@@ -1,4 +1,4 @@
--- Expressions, bounds and statements are well typed just where they have their rows and their parts are well typed.
+-- Expressions, bounds and statements are well typed exactly when they have their rows and their parts are well typed.
 use Rattle.std.proofs.Common.{◌≡◌, ◌↔◌, Bool, List, [], ◌∷◌, map, refl, sym, ap, subst, ◌∙◌, rules}
 use Rattle.std.specs.Prelude.{Some, None}
 use Rattle.std.specs.List.{AllByRecursion}

@@ -1,4 +1,4 @@
--- The grammar gives a tree just where it gives the tree without its notes.
+-- The grammar gives a tree exactly when it gives the tree without its notes.
 use Rattle.std.proofs.Common.{◌≡◌, suc, Bool, true, false, ◌&&◌, ◌||◌, nat_le, List, [], ◌∷◌, length, map, refl, sym, ap, ◌∙◌, rules}
 use Rattle.std.specs.Prelude.{Option}
 use Rattle.std.specs.Option.{option_map}

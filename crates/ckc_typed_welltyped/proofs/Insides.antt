@@ -1,4 +1,4 @@
--- What a walk finds in a statement or an item is what it finds without their notes, where that is so of their parts.
+-- What a walk finds in a statement or an item is what it finds without their notes, if that is so of their parts.
 use Rattle.std.proofs.Common.{◌≡◌, refl, ap, ◌∙◌}
 use Rattle.ckc_syntax.specs.Inside.{Joining, inside_if, inside_init, inside_act, inside_item}
 use Rattle.ckc_syntax.specs.declared.tree.Item.{Item}

@@ -89,7 +89,7 @@ module _ (globals : Globals) (variables : List Variable) (mode : Mode) where
   abbrev pub bare_node_layer : Node-F Name Note FitLimits FitNode FitExpr → NotedLayer
   bare_node_layer = map-Node Name Note FitLimits FitNode FitExpr NotedLimits NotedNode NotedExpr (λ e. e.0) (λ e. e.0) (λ e. e.0)
 
-  -- bounds and nodes are well typed where their parts are
+  -- bounds and nodes are well typed if their parts are
   pub limits_fit : (z : Limits-F Name Note FitLimits FitNode FitExpr) → WellTypedLimits globals variables mode (limits_of (bare_limits_layer z))
   limits_fit z =
       subst (WellTypedLimits globals variables mode) (limits_rolled (bare_limits_layer z))

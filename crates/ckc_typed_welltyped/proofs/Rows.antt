@@ -1,4 +1,4 @@
--- The rows of the tables: where the type that an expression gets is Ok, and which it is.
+-- The rows of the tables: when the type that an expression gets is Ok, and which it is.
 use Rattle.std.proofs.Common.{◌≡◌, ◌↔◌, ℕ, suc, Bool, true, false, not, List, [], ◌∷◌, length, refl, sym, ap, ◌∙◌, arith}
 use Rattle.std.specs.Prelude.{Option, Some, None, Ok, ◌==◌, ◌||◌, if◌then◌else◌}
 use Rattle.std.proofs.lemmas.Bool.Decides.{nat_tests}

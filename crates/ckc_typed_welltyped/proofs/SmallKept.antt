@@ -1,4 +1,4 @@
--- A tree keeps the limits of a text where the tree without its notes does.
+-- A tree keeps the limits of a text if the tree without its notes does.
 use Rattle.std.proofs.Common.{◌≤◌, List, [], ◌∷◌, map, subst}
 use Rattle.std.specs.List.{AllByRecursion}
 use Rattle.ckc_syntax.specs.declared.tree.Tree.{Tree}

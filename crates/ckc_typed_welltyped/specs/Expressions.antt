@@ -76,7 +76,7 @@ AnyLimits l = Unit {0}
 abbrev pub AnyNode : NotedLayer → Type 0
 AnyNode n = Unit {0}
 
--- An expression is well typed where it and each expression in it, however deep, has its row. So are bounds.
+-- An expression is well typed if it and each expression in it, however deep, has its row. So are bounds.
 abbrev pub WellTypedExpr : Globals → List Variable → Mode → NotedExpr → Type 0
 WellTypedExpr globals variables mode = every-Expr Name Note AnyLimits AnyNode (IsNoted globals variables mode)
 

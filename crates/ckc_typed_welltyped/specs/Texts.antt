@@ -48,7 +48,7 @@ abbrev pub WellTypedItems : Globals → Mode → List NotedItem → Type 0
 WellTypedItems globals pragma [] = Unit {0}
 WellTypedItems globals pragma (i ∷ rest) = WellTypedItem globals pragma i × WellTypedItems globals (pragma_after pragma (bare_item i)) rest
 
--- A text is unchecked where it has no pragma. Its structures are those that it declares, and its static objects lie in
+-- A text is unchecked if it has no pragma. Its structures are those that it declares, and its static objects lie in
 -- their order and do not end too late.
 pub record WellTyped (p : Typed) : Type 0 where
   pub items : WellTypedItems (globals_of (without_notes p.tree).items) Unchecked p.tree.items
@@ -56,7 +56,7 @@ pub record WellTyped (p : Typed) : Type 0 where
   pub statics : p.statics ≡ placed p.layout data_start (blocks p.layout p.tree.items)
   pub ends : end_of_blocks p.layout data_start (blocks p.layout p.tree.items) ≤ statics_end
 
--- A text has these types where it is the typed text without its notes, and that is well typed.
+-- A text has these types if it is the typed text without its notes, and that is well typed.
 pub record TypedAs (t : NamedText) (p : Typed) : Type 0 where
   pub tree : without_notes p.tree ≡ t.tree
   pub main : p.main ≡ t.main

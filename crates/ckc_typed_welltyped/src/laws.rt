@@ -27,7 +27,7 @@ ghost use Rattle.ckc_typed_welltyped.specs.Given.{GivesExactly};
 ghost use Rattle.ckc_typed_welltyped.specs.Productions.{given_tree};
 ghost use Rattle.ckc_typed_welltyped.specs.Texts.{TypedAs, WellTypedItem};
 
-/// A text becomes a typed text exactly where this is well typed, and is the text without its notes.
+/// A text becomes a typed text exactly when this is well typed, and is the text without its notes.
 pub fn texts_exactly()
     ensures exact { (t : NamedText) (p : Typed) → (named_typed t ≡ Ok p) ↔ TypedAs t p }
 {}
@@ -44,7 +44,7 @@ pub fn same_tree()
     ensures main { (t : NamedText) (p : Typed) → named_typed t ≡ Ok p → p.main ≡ t.main }
 {}
 
-/// An expression becomes one with notes exactly where this is well typed, and is it without its notes; so do bounds.
+/// An expression becomes one with notes exactly when this is well typed, and is it without its notes; so do bounds.
 pub fn expressions_exactly()
     ensures expressions { (g : Globals) (v : List Variable) (m : Mode) →
         GivesExactly (expr_typed g v m) bare_expr (WellTypedExpr g v m) }
@@ -76,7 +76,7 @@ pub fn items_exactly()
         GivesExactly (item_typed g pragma) bare_item (WellTypedItem g pragma) }
 {}
 
-/// An expression is well typed exactly where it has its row and its direct parts are well typed, and bounds where their
+/// An expression is well typed exactly when it has its row and its direct parts are well typed, and bounds when their
 /// expressions are.
 pub fn expressions_by_parts()
     ensures expressions { (g : Globals) (v : List Variable) (m : Mode) (e : NotedExpr) →
@@ -85,7 +85,7 @@ pub fn expressions_by_parts()
         WellTypedLimits g v m l ↔ LimitsParts g v m (out-Limits Name Note l) }
 {}
 
-/// A statement is well typed exactly where it has its row, in which its direct parts are well typed, and its note.
+/// A statement is well typed exactly when it has its row, in which its direct parts are well typed, and its note.
 pub fn statements_by_parts()
     ensures statements { (g : Globals) (v : List Variable) (result : CType) (s : NotedStmt)
         (m : Mode) (looped : Bool) →
@@ -93,7 +93,7 @@ pub fn statements_by_parts()
 {}
 
 /// Item by item a typed text has the nodes, locals, string literals, functions and objects of its text and its depth. So
-/// it keeps the limits of a text where the text does.
+/// it keeps the limits of a text if the text does.
 pub fn counts_stay()
     ensures marks { (t : NamedText) (p : Typed) → named_typed t ≡ Ok p →
         map marks_of_item p.tree.items ≡ map marks_of_item t.tree.items }
@@ -103,8 +103,8 @@ pub fn counts_stay()
         → Small p.tree }
 {}
 
-/// The grammar gives the tree of a typed text just where it gives the tree of the text: calls stand in the same places,
-/// and so do the parts of bundles, of `for` and of structures.
+/// The grammar gives the tree of a typed text exactly when it gives the tree of the text: calls stand in the same
+/// places, and so do the parts of bundles, of `for` and of structures.
 pub fn form_stays()
     ensures form { (t : NamedText) (p : Typed) → named_typed t ≡ Ok p → given_tree p.tree
         ≡ given_tree t.tree }

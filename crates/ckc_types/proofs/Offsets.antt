@@ -60,7 +60,7 @@ module _ (structs : Structs) (tag : ℕ) where
       end_of 0 (front ++ m ∷ []) ≡ offset structs tag m.name + scalar_size m.ctype
   ends front m s = end_along 0 front (m ∷ []) ∙ ap (λ at. at + scalar_size m.ctype) (sym (offset_is front m s))
 
-  -- what stands behind a member begins where it ends, or later
+  -- what stands after a member begins where it ends, or later
   ends_before : (front rest : List MemberShape) (m : MemberShape) → Stands structs tag front m →
       offset structs tag m.name + scalar_size m.ctype ≤ end_of 0 (front ++ m ∷ rest)
   ends_before front rest m s =

@@ -9,12 +9,12 @@ use Rattle.ckc_types.specs.declared.types.StructShape.{StructShape}
 use Rattle.ckc_types.specs.declared.types.Structs.{Structs}
 use Rattle.ckc_types.specs.Scalars.{scalar_size, scalar_align, size_of_form, align_of_form}
 
--- the members of a structure, and none where there is no structure
+-- the members of a structure, and none if there is no structure
 abbrev pub members_in : Option StructShape → List MemberShape
 members_in None = []
 members_in (Some shape) = shape.members
 
--- the members of the structure with a tag, none where there is no such structure
+-- the members of the structure with a tag, none if there is no such structure
 abbrev pub members_of : Structs → ℕ → List MemberShape
 members_of structs tag = members_in (slice_get structs.shapes tag)
 
@@ -22,7 +22,7 @@ members_of structs tag = members_in (slice_get structs.shapes tag)
 abbrev pub start : ℕ → MemberShape → ℕ
 start at m = next_multiple_of at (scalar_align m.ctype)
 
--- where the last member ends, if the first comes behind `at`
+-- where the last member ends, if the first comes after `at`
 abbrev pub end_of : ℕ → List MemberShape → ℕ
 end_of at [] = at
 end_of at (m ∷ ms) = end_of (start at m + scalar_size m.ctype) ms

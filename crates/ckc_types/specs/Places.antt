@@ -5,7 +5,7 @@ use Rattle.ckc_types.specs.declared.types.MemberShape.{MemberShape}
 use Rattle.ckc_types.specs.declared.types.Structs.{Structs}
 use Rattle.ckc_types.specs.Layout.{members_of}
 
--- In the structure with the tag, m stands behind the members `front`, none of which has its name.
+-- In the structure with the tag, m stands after the members `front`, none of which has its name.
 pub record Stands (structs : Structs) (tag : ℕ) (front : List MemberShape) (m : MemberShape) : Type 0 where
   pub back : List MemberShape
   pub split : members_of structs tag ≡ front ++ m ∷ back

@@ -23,7 +23,7 @@ same_form (CType-F.Struct j) (CType-F.Struct k) = j == k
 same_form (CType-F.Pointer j t) (CType-F.Pointer k u) = same_kind j k && t u
 same_form _ _ = false
 
--- the same, where the second type is given whole
+-- the same, if the second type is given whole
 abbrev pub same_parts : CType-F (CType → Bool) → CType → Bool
 same_parts t u = same_form t (out-CType u)
 

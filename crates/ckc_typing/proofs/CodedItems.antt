@@ -36,7 +36,7 @@ use Rattle.ckc_typed.specs.Layouts.{structs_of}
 use Rattle.ckc_typing.specs.Phase.{IsTypeCode}
 use Rattle.ckc_typing.proofs.Coded.{Coded, is_206, is_401, is_402, is_403, is_406, is_407, expr_coded, exprs_coded, bounds_coded, value_coded}
 
--- a fault of a declaration, where there is one, has such a code
+-- a fault of a declaration, if there is one, has such a code
 abbrev CodedFault : Option ℕ → Type 0
 CodedFault None = Unit {0}
 CodedFault (Some code) = IsTypeCode code

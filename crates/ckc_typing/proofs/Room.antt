@@ -46,7 +46,7 @@ both : (a b : Bool) → (a && b) ≡ true → (a ≡ true) × (b ≡ true)
 both true b e = (refl, e)
 both false b e = absurd (false_is_true e)
 
--- neither side holds where each has a part that does not
+-- neither side holds if each has a part that does not
 neither : (a b : Bool) → ((a && false) || (b && false)) ≡ true → ⊥
 neither true true e = cc
 neither true false e = cc

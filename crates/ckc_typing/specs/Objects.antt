@@ -9,7 +9,7 @@ use Rattle.ckc_typed.specs.declared.typed.StaticObject.{StaticObject}
 use Rattle.ckc_typed.specs.Trees.{NotedItem, NotedDecl}
 use Rattle.ckc_typed.specs.Constants.{size_of}
 
--- the address behind the last byte of an object
+-- the address after the last byte of an object
 abbrev pub end_of : Structs → StaticObject → ℕ
 end_of structs o = o.at + size_of structs o.element * o.count
 

@@ -158,7 +158,7 @@ pub fn typed_exprs(
     Ok(all)
 }
 
-/// Bounds, where there are some.
+/// Bounds, if there are some.
 #[cycle(expr)]
 pub fn typed_bounds(
     alloc: Global,
@@ -179,7 +179,7 @@ pub fn typed_bounds(
     }
 }
 
-/// An expression, where there is one.
+/// An expression, if there is one.
 pub fn typed_value(
     alloc: Global,
     globals: &FileScope,

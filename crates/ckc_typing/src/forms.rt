@@ -103,7 +103,7 @@ pub fn check(mode: Mode, pos: Pos, e: Boxed<Expr<Name, Note>>) -> Result<Stmt<Na
     Ok(stated(mode, pos, Act::Check(e)))
 }
 
-/// Judges that a condition is a scalar, where there is one.
+/// Judges that a condition is a scalar, if there is one.
 fn scalar_there_fits(pos: Pos, e: &Option<Boxed<Expr<Name, Note>>>) -> Result<(), Fault>
     ensures { AnswersOutcome result (scalar_there_fits pos e.now) }
 {

@@ -56,7 +56,7 @@ fn head_with(
     })
 }
 
-/// The head, where a function may give a result of its type.
+/// The head, if a function may give a result of its type.
 fn made_head(
     alloc: Global,
     h: &Head<Name, ()>,

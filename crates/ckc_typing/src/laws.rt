@@ -32,7 +32,7 @@ pub fn statics_have_room()
     ensures room { (t : NamedText) (p : Typed) → typing.Makes t p → HaveRoom p.layout p.statics }
 {}
 
-/// Static object k is the one that is declared as k-th, and is named k, where the objects are numbered in the order of
+/// Static object k is the one that is declared as k-th, and is named k, if the objects are numbered in the order of
 /// the text.
 pub fn statics_are_named()
     ensures named { (t : NamedText) (p : Typed) → typing.Makes t p

@@ -171,7 +171,7 @@ fn typed_stmts(
     Ok(all)
 }
 
-/// A statement, where there is one.
+/// A statement, if there is one.
 #[cycle(stmt)]
 fn typed_part(
     alloc: Global,

@@ -47,7 +47,7 @@ module _ {A : Type 0} (place : A → Option ℕ) where
     at_its_place xs (Some k) w e = sym (found 0 xs k (w ∙ ap (λ m. Some m) (sym (zero-add k))) e)
     at_its_place xs None w e = sym (missing 0 xs w e)
 
--- A name whose place is n is the same as another exactly where the place of that one is n.
+-- A name whose place is n is the same as another exactly when the place of that one is n.
 object_tells : (x w : Name) (n : ℕ) → is_place (place_of_object x) n ≡ true → same_name x w ≡ is_place (place_of_object w) n
 object_tells (name.Static j) (name.Static k) n e = let s : j ≡ n = eqb-true j n e in grind (arith, nat_tests)
 object_tells (name.Static j) (name.Local k) n e = refl

@@ -11,7 +11,7 @@ abbrev pub place_of_object : Name → Option ℕ
 place_of_object (name.Static k) = Some k
 place_of_object n = None
 
--- the place of a function among those of a text, behind `getchar` and `putchar`
+-- the place of a function among those of a text, after `getchar` and `putchar`
 abbrev pub place_of_function : Name → Option ℕ
 place_of_function name.Getchar = Some 0
 place_of_function name.Putchar = Some 1
@@ -22,7 +22,7 @@ abbrev pub is_place : Option ℕ → ℕ → Bool
 is_place (Some k) n = k == n
 is_place None n = false
 
--- whether each element has the place at which it is, where the first one is at a place n
+-- whether each element has the place at which it is, if the first one is at a place n
 abbrev pub are_numbered : {A : Type 0} → (A → Option ℕ) → ℕ → List A → Bool
 are_numbered place n [] = true
 are_numbered place n (x ∷ xs) = is_place (place x) n && are_numbered place (suc n) xs

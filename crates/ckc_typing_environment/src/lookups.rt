@@ -43,7 +43,7 @@ fn object_type_named(
     }
 }
 
-/// The type of a name that is used in an expression, where it is declared.
+/// The type of a name that is used in an expression, if it is declared.
 pub fn type_of_name(
     alloc: Global,
     globals: &FileScope,

@@ -70,7 +70,7 @@ fn is_place(place: Option<usize>, at: usize) -> bool
     }
 }
 
-/// What is at a place, where there is one.
+/// What is at a place, if there is one.
 fn at_place<T>(items: &[T], place: Option<usize>) -> Option<&T>
     ensures { option_copied result ≡ at_place place items.now }
 {
@@ -133,7 +133,7 @@ impl<'a> FileScope<'a> {
         &self.globals.structs
     }
 
-    /// The object of file scope with a name, where there is one.
+    /// The object of file scope with a name, if there is one.
     #[tactic(auto, using(crate::proofs::Numbered::object_found))]
     pub fn object_named(&self, n: Name) -> Option<&'a Object>
         ensures { option_copied result ≡ object_named self.now n }
@@ -146,7 +146,7 @@ impl<'a> FileScope<'a> {
         }
     }
 
-    /// The type of the function with a name, where there is one.
+    /// The type of the function with a name, if there is one.
     #[tactic(auto, using(crate::proofs::Numbered::signature_found))]
     pub fn signature_named(&self, n: Name) -> Option<&'a Signature>
         ensures { option_copied result ≡ signature_named self.now n }

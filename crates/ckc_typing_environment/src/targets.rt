@@ -1,4 +1,4 @@
-//! What may stand before an `=` or behind a `&`, and what a function may return.
+//! What may stand before an `=` or after a `&`, and what a function may return.
 
 ghost use Rattle.std.specs.Prelude.{◌≡◌};
 ghost use Rattle.ckc_syntax.specs.declared.tree.Node.{out-Node};

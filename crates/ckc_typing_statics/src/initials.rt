@@ -52,7 +52,7 @@ fn length_or(length: Option<u32>, init: &Init<Name, Note>) -> Option<usize>
     }
 }
 
-/// How many elements an object of file scope has, where that is known.
+/// How many elements an object of file scope has, if that is known.
 pub fn count_of(d: &Decl<Name, Note>) -> Option<usize>
     ensures { result ≡ count_of d.now }
 {

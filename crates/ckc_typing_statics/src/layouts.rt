@@ -128,7 +128,7 @@ fn tag_count(items: &[Item<Name, ()>]) -> usize
     count
 }
 
-/// A member with its bounds, where the sizes of structures are known, which bounds in bytes need.
+/// A member with its bounds, if the sizes of structures are known, which bounds in bytes need.
 fn member(
     alloc: Global,
     known: Option<&Structs>,

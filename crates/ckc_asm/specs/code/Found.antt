@@ -34,7 +34,7 @@ kinds =
 unfoldable pub kind_of : List ℕ → Option Kind
 kind_of name = find (λ k. bytes_eq (kind_name k) name) kinds
 
--- ---- the words behind the name
+-- ---- the words after the name
 
 abbrev pub is_sign : ℕ → List ℕ → Bool
 is_sign b w = bytes_eq w (b ∷ [])
@@ -125,7 +125,7 @@ data_of words =
 abbrev pub number_operand : List ℕ → Option Operand
 number_operand w = option_map Number (number_of w)
 
--- the item of a kind with these words behind its name
+-- the item of a kind with these words after its name
 unfoldable pub item_with : Kind → List (List ℕ) → Option Item
 item_with kind.Lui words = one_register words (λ rd. form.Lui rd) number_operand
 item_with kind.Auipc words = one_register words (λ rd. form.Auipc rd) number_operand
@@ -167,6 +167,6 @@ labelled _ = None
 unfoldable pub statement_of : List Word → Option Statement
 statement_of words = if has_label words then labelled words else statement_with None words
 
--- the statement of a line, where its form is right
+-- the statement of a line, if its form is right
 abbrev pub reading : List ℕ → Option Statement
 reading line = statement_of (cut 1 line)

@@ -11,7 +11,7 @@ abbrev pub without : Option ℕ → List Bool → List Bool
 without (Some t) row = set row t false
 without None row = row
 
--- the row of a call, from the registers that are live behind it
+-- the row of a call, from the registers that are live after it
 abbrev pub call_row : TacOp → List Bool → List (List Bool)
 call_row (Call target callee arguments at) row = without target row ∷ []
 call_row op row = []

@@ -18,7 +18,7 @@ use Rattle.ckc_blame_sound.specs.Settings.{Setting}
 use Rattle.ckc_blame_numbers.specs.Typed.{IsTyped}
 
 -- The assignment to the local k, which is declared as l, is judged at a point: its right side becomes `value`, and the next
--- point is behind it.
+-- point is after it.
 pub record IsAssignment (globals : Globals) (s : Setting) (here : Here) (k : ℕ) (l : Local) (value : NotedExpr) (there : Here) : Type 0 where
   pub pos : Pos
   pub note : Note
@@ -31,7 +31,7 @@ pub record IsAssignment (globals : Globals) (s : Setting) (here : Here) (k : ℕ
   pub local : local_at s.frame k ≡ Some l
   pub judged : assign_judged s.frame s.head pos note target right here ≡ Ok (stated pos note (act.Assign place value), there)
 
--- The declaration of the local k is judged at a point: its initialiser becomes `first`, and the next point is behind it.
+-- The declaration of the local k is judged at a point: its initialiser becomes `first`, and the next point is after it.
 pub record IsDeclaration (globals : Globals) (s : Setting) (here : Here) (k : ℕ) (l : Local) (first : NotedInit) (there : Here) : Type 0 where
   pub pos : Pos
   pub note : Note
@@ -42,7 +42,7 @@ pub record IsDeclaration (globals : Globals) (s : Setting) (here : Here) (k : �
   pub typed_init : (e : NotedExpr) → decl.init ≡ init.One e → IsTyped globals s e
   pub judged : local_judged s.frame pos note decl here ≡ Ok (stated pos note (act.Local (record decl { init = first })), there)
 
--- What a local begins with is 0 where nothing is written, and else the value of the initialiser.
+-- What a local begins with is 0 if nothing is written, and else the value of the initialiser.
 abbrev pub Begins : Setting → ℕ → NotedInit → Expr → Type 0
 Begins s literals init.Nothing e = e ≡ Number 0
 Begins s literals (init.One f) e = e ≡ expr_elaborated s.text s.variables literals f

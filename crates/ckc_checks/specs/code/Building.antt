@@ -13,7 +13,7 @@ use Rattle.ckc_checks.specs.code.Inserted.{put_if, room_if, reached_element, rea
 unfoldable pub behind : List CoreStmt → Code
 behind statements = code_of (reverse statements)
 
--- what gives the value of an access, behind its pointer, its index and its checks
+-- what gives the value of an access, after its pointer, its index and its checks
 abbrev pub reached_value : Bool → source.Expr → ℕ → Code → Code
 reached_value ranged (source.Load width access p i) t rest =
     Set t (Load width (reached_place access p i t)) (no_range ranged t rest)
@@ -23,7 +23,7 @@ reached_value ranged (source.Address bytes access p i) t rest =
     Set t (reached_place access p i t) (with_range ranged t (Local t) (Const bytes) rest)
 reached_value ranged e t rest = rest
 
--- the code of an expression, where the flag says so also that of a direct one
+-- the code of an expression, if the flag says so also that of a direct one
 abbrev pub value_code_if : Bool → Bool → source.Expr → ℕ → Code → Code
 value_code_if ranged always e t rest = put_if always e (value_code ranged e t) rest
 

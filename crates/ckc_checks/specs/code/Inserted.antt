@@ -27,7 +27,7 @@ use Rattle.ckc_checks_operands.specs.code.Pointers.{index_far, index_in, reads_s
 
 -- ---- expressions
 
--- what puts the value of an expression into a temporary stands in front only where it is not direct
+-- what puts the value of an expression into a temporary stands in front only if it is not direct
 abbrev pub unless_direct : source.Expr → (Code → Code) → Code → Code
 unless_direct e code rest = if is_direct e then rest else code rest
 
@@ -72,7 +72,7 @@ bounded_code last access p i t rest =
     Check check.Null access.at (Local t) (element_code access i t
     (Check check.Bounds access.at (bounds_test last p t) rest))
 
--- The checks of an access. Behind those of an access to an element of an array the temporary t has the element.
+-- The checks of an access. After those of an access to an element of an array the temporary t has the element.
 abbrev pub judged : Through → Access → source.Expr → (a i : Expr) → ℕ → Code → Code
 judged Named access p a i t rest = rest
 judged Raw access p a i t rest = rest
@@ -93,7 +93,7 @@ reached_code access p i on_p on_i t rest =
     put_if (is_bounded access.through) p on_p (put_if (keeps_index (is_bounded access.through) i) i on_i
     (judged access.through access p (pointer_at access p t) (index_at access i (index_in access p t)) t rest))
 
--- the element of an access, behind that, and its place
+-- the element of an access, after that, and its place
 abbrev pub reached_element : Access → (p i : source.Expr) → ℕ → Expr
 reached_element access p i t =
     element_of access.through access.size (pointer_at access p t) (index_at access i (index_in access p t))
@@ -103,7 +103,7 @@ reached_place access p i t = at_offset access.offset (reached_element access p i
 
 -- ---- ranges that are values
 
--- a range goes to the two temporaries behind t, where the flag says so
+-- a range goes to the two temporaries after t, if the flag says so
 abbrev pub with_range : Bool → ℕ → Expr → Expr → Code → Code
 with_range true t low length rest = Set (t + 1) low (Set (t + 2) length rest)
 with_range false t low length rest = rest
@@ -134,8 +134,8 @@ trusted_range false size k t rest = rest
 abbrev pub moved_range : Bool → ℕ → Code → Code
 moved_range ranged t rest = with_range ranged t (Local (t + 2)) (Local (t + 3)) rest
 
--- The value of an expression goes to the local t, and where the flag says so its range behind it; then comes the rest. Of
--- the locals only those from t on are written. The code of the operands is made of `expr_code e t` behind
+-- The value of an expression goes to the local t, and if the flag says so its range after it; then comes the rest. Of
+-- the locals only those from t on are written. The code of the operands is made of `expr_code e t` after
 -- `unless_direct e`.
 abbrev pub value_code : Bool → source.Expr → ℕ → Code → Code
 value_code ranged (source.Limited x limits) t rest =
@@ -204,11 +204,11 @@ abbrev pub operands : List source.Expr → ℕ → List Expr
 operands [] t = []
 operands (e ∷ es) t = operand e t ∷ operands es (t + 1)
 
--- how many locals from t on `operand_code` may write, where its expression alone would write so many
+-- how many locals from t on `operand_code` may write, if its expression alone would write so many
 abbrev pub unless_direct_room : source.Expr → ℕ → ℕ
 unless_direct_room e room = if is_direct e then 0 else room
 
--- the same, where it writes them in any case where the flag says so
+-- the same, but it writes them in any case if the flag says so
 abbrev pub room_if : Bool → source.Expr → ℕ → ℕ
 room_if always e room = if always then room else unless_direct_room e room
 
@@ -298,7 +298,7 @@ guarded Terminated at width is_byte t u rest =
     Check check.Terminator at (may_write width is_byte t u) rest
 guarded _ at width is_byte t u rest = rest
 
--- A value is stored at a place, behind its check.
+-- A value is stored at a place, after its check.
 abbrev pub stored_code : Through → Pos → Width → Bool → (t u : ℕ) → (to e : Expr) → Code → Code
 stored_code Terminated at width is_byte t u to e rest =
     Set u e (guarded Terminated at width is_byte t u (Store width to (Local u) rest))
@@ -315,7 +315,7 @@ written (source.Memory width access p i) t is_byte e rest =
 abbrev pub operand_used : source.Expr → ℕ → (Expr → Code) → Code
 operand_used e t go = operand_code e t (go (operand e t))
 
--- A value is assigned. Where nothing is assigned, it goes to the temporary t.
+-- A value is assigned. If nothing is assigned, it goes to the temporary t.
 abbrev pub assigned : source.Target → source.Expr → ℕ → Code → Code
 assigned source.Nothing e t rest = expr_code e t rest
 assigned target e t rest =
@@ -330,7 +330,7 @@ abbrev pub fixed : source.Target → ℕ → Code → Code
 fixed (source.Memory width access p i) t rest = Set t (reached_place access p i t) rest
 fixed _ t rest = rest
 
--- the check of the value behind the temporaries of a target
+-- the check of the value after the temporaries of a target
 abbrev pub allowed_code : source.Target → ℕ → Code → Code
 allowed_code (source.Memory width access p i) t rest =
     guarded access.through access.at width false t (t + target_count (source.Memory width access p i)) rest
@@ -361,7 +361,7 @@ abbrev pub planned_code : source.Target → source.Right → ℕ → Code → Co
 planned_code target right t rest =
     aim_code target t (fixed target t (valued right (t + target_count target) (allowed_code target t rest)))
 
--- the temporaries behind those
+-- the temporaries after those
 abbrev pub behind_planned : source.Target → ℕ → ℕ
 behind_planned target t = t + target_count target + 1
 
@@ -468,7 +468,7 @@ abbrev pub zeroed : (x count : ℕ) → Code → Code
 zeroed x zero rest = rest
 zeroed x (suc count) rest = Set x (Const 0) (zeroed (x + 1) count rest)
 
--- The temporaries stand behind the locals, which begin at zero but for the parameters.
+-- The temporaries stand after the locals, which begin at zero but for the parameters.
 abbrev pub function_code : source.Function → Function
 function_code f = record {
   params = f.params;
@@ -485,7 +485,7 @@ image a (o ∷ objects) = replicate (o.at - a) 0 ++ o.initial ++ image (o.at + l
 abbrev pub word_bytes : ℕ → List ℕ
 word_bytes n = n % 256 ∷ n / 256 % 256 ∷ n / 65536 % 256 ∷ n / 16777216 % 256 ∷ []
 
--- The data region begins with the heap word, which is the place behind the objects.
+-- The data region begins with the heap word, which is the place after the objects.
 abbrev pub first_bytes : List Object → List ℕ
 first_bytes objects = word_bytes (place_behind first_place (map block_of objects)) ++ image (data_start + 4) objects
 

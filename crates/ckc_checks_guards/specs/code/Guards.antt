@@ -16,7 +16,7 @@ kept_in width.Word is_byte e = e
 abbrev pub below_or_at : Expr → Expr → Expr
 below_or_at a b = Bin binary.Eq (Bin binary.LtU b a) (Const 0)
 
--- whether an address lies in a range, of which the upper bound counts too where the flag says so
+-- whether an address lies in a range, of which the upper bound counts too if the flag says so
 abbrev pub upper_test : Bool → Expr → Expr → Expr
 upper_test last a high = if last then below_or_at a high else Bin binary.LtU a high
 

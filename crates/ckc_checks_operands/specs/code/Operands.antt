@@ -51,7 +51,7 @@ is_direct (source.Tested size form at p k) = casts_one size p k && is_direct p
 is_direct (source.Trusted to form p k) = is_direct p && is_direct k
 is_direct _ = true
 
--- a > b is b < a, and a <= b is where a > b is not
+-- a > b is b < a, and a <= b holds if a > b does not
 abbrev pub operated : Operation → Bool → Expr → Expr → Expr
 operated Le is_signed a b = Bin binary.Eq (Bin (operator Lt is_signed) b a) (Const 0)
 operated Gt is_signed a b = Bin (operator Lt is_signed) b a
@@ -110,7 +110,7 @@ direct _ = Const 0
 abbrev pub operand : source.Expr → ℕ → Expr
 operand e t = if is_direct e then direct e else Local t
 
--- an operand that goes to the temporary t in any case, where the flag says so
+-- an operand that goes to the temporary t in any case, if the flag says so
 abbrev pub held : Bool → source.Expr → ℕ → Expr
 held always e t = if always then Local t else operand e t
 
@@ -118,6 +118,6 @@ abbrev pub is_number : source.Expr → Bool
 is_number (source.Number n) = true
 is_number _ = false
 
--- an index that goes to a temporary in any case, where the flag says so, but for a number
+-- an index that goes to a temporary in any case, if the flag says so, but for a number
 abbrev pub keeps_index : Bool → source.Expr → Bool
 keeps_index checked i = checked && not (is_number i)

@@ -21,7 +21,7 @@ use Rattle.ckc_checks_operands.specs.code.Operands.{scaled, shifted, at_offset}
 pub use Rattle.ckc_checks_guards.specs.code.Guards.{below_or_at, upper_test, may_write}
 use Rattle.ckc_checks_operands.specs.Cases.{is_ranged, takes_range}
 
--- how far behind its pointer an index is
+-- how far after its pointer an index is
 abbrev pub index_far : Bool → ℕ
 index_far true = 3
 index_far false = 1
@@ -30,7 +30,7 @@ abbrev pub reads_signed : Integer → Bool
 reads_signed integer.Int = true
 reads_signed _ = false
 
--- The address so many elements further on, or back, is one where the upper word of the product and the carry or borrow
+-- The address so many elements further on, or back, is one if the upper word of the product and the carry or borrow
 -- cancel.
 abbrev pub exact_test : (back is_signed : Bool) → ℕ → Expr → Expr → Expr
 exact_test back is_signed size a i =
@@ -60,7 +60,7 @@ abbrev pub counted_end : Bool → ℕ → Count → Expr → Expr
 counted_end upper size (counts.Fixed n) e = if upper then shifted false size e (Const (word_of n)) else e
 counted_end upper size (counts.Member offset form add) e = Const 0
 
--- An end of the range of a pointer, the upper one where the flag says so: of a local with limits, of a named array, of a
+-- An end of the range of a pointer, the upper one if the flag says so: of a local with limits, of a named array, of a
 -- static pointer, or of the address of a static object. Pointer arithmetic keeps it.
 abbrev pub range_end : Bool → source.Expr → Expr
 range_end upper (source.Limited x limits) = end_at x limits.to.size (if upper then limits.upper else limits.lower)
@@ -76,7 +76,7 @@ range_end upper _ = Const 0
 abbrev pub range_test : Bool → source.Expr → Expr → Expr
 range_test last p a = Bin binary.And (below_or_at (range_end false p) a) (upper_test last a (range_end true p))
 
--- the same for a range in the two temporaries behind the address
+-- the same for a range in the two temporaries after the address
 abbrev pub held_test : Bool → ℕ → Expr
 held_test last t =
     Bin binary.And (below_or_at (Local (t + 1)) (Local t))
@@ -95,7 +95,7 @@ length_at size (counts.Fixed n) u = Const (applied binary.Mul size (word_of n))
 length_at size (counts.Member offset form add) u =
     scaled size (at_offset (word_of add) (Load (width_of form) (at_offset offset (Local u))))
 
--- how many bytes of its range lie behind the pointer in t
+-- how many bytes of its range lie after the pointer in t
 abbrev pub bytes_left : ℕ → Expr
 bytes_left t = Bin binary.Sub (Local (t + 2)) (Bin binary.Sub (Local t) (Local (t + 1)))
 
@@ -111,7 +111,7 @@ elements_fit size form k t =
     if size == 1 then bytes_fit form k t else below_or_at k (Bin binary.DivU (bytes_left t) (Const size))
 
 -- Whether the bounds of a cast lie in the range of the pointer in t: the pointer is not below it, and so many elements
--- of a size behind the pointer are not above it.
+-- of a size after the pointer are not above it.
 abbrev pub cast_test : ℕ → Integer → Expr → ℕ → Expr
 cast_test size form k t = Bin binary.And (held_test true t) (elements_fit size form k t)
 

@@ -67,7 +67,7 @@ abbrev pub result_lines : List Place → Option ℕ → List Line → List Line
 result_lines homes None rest = rest
 result_lines homes (Some t) rest = settle_lines (place_at homes t) 10 rest
 
--- what a caller does after its call, before the operations behind it
+-- what a caller does after its call, before the operations after it
 abbrev pub back_lines : List Place → List Bool → Option ℕ → List Line → List Line
 back_lines homes marks target rest =
     Plain (Lui 8 4) ∷ Plain (Reg Add 2 2 8) ∷

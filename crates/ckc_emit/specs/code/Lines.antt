@@ -41,7 +41,7 @@ stop_lines check at rest =
     constant_lines 10 (number_of check)
     (constant_lines 11 at.line (constant_lines 12 at.col (ask_lines 3 rest)))
 
--- a branch over itself and the stop behind it, where two registers differ
+-- a branch over itself and the stop after it, if two registers differ
 abbrev pub over_stop_of : ℕ → ℕ → Pos → Instr
 over_stop_of rs1 rs2 at =
     Branch Bne rs1 rs2 (pos ((constant_count at.line + constant_count at.col + 4) * 4))
@@ -58,7 +58,7 @@ abbrev pub offset_of : Place → ℕ
 offset_of (place.Reg k) = k * 4 + 16
 offset_of (place.Slot k) = k * 4 + 64
 
--- the register that has the value of a place, where a scratch register has that of a slot
+-- the register that has the value of a place, if a scratch register has that of a slot
 abbrev pub source_of : Place → ℕ → ℕ
 source_of (place.Reg k) scratch = register_of k
 source_of (place.Slot k) scratch = scratch
@@ -83,7 +83,7 @@ fetch_lines rd (place.Slot k) rest = load_lines rd 2 (k * 4 + 64) rest
 
 -- ---- operands
 
--- the register that has the value of an operand, where a scratch register has that of a slot or a number; 0 is in x0
+-- the register that has the value of an operand, if a scratch register has that of a slot or a number; 0 is in x0
 abbrev pub register_with : PlacedOperand → ℕ → ℕ
 register_with (At p) scratch = source_of p scratch
 register_with (Number n) scratch = if n == 0 then 0 else scratch

@@ -1,5 +1,5 @@
 -- The lines of blocks, functions and programs. Labels are numbers: 0 is the start, then each function has one, and
--- behind it one for each of its blocks.
+-- after it one for each of its blocks.
 use Rattle.std.specs.Prelude.{ℕ, ◌+◌, ◌==◌, not, ◌&&◌, if◌then◌else◌, Bool, true, false, List, [], ◌∷◌, length, slice_get, sum_by, take, Option, Some, None, pos, ◌≡◌, ◌<◌, map, slice_index}
 use Rattle.ckc_rv_operations.specs.declared.operations.BranchOp.{BranchOp}
 use Rattle.ckc_rv_operations.specs.declared.operations.BranchOp.TheVariants.{Beq, Bne, Blt, Bge, Bltu, Bgeu}
@@ -74,7 +74,7 @@ ops_lines functions f n [] rest = rest
 ops_lines functions f n (op ∷ ops) rest =
     op_lines functions f n op (ops_lines functions f (n + is_call op) ops rest)
 
--- to a block; nothing where it comes next
+-- to a block; nothing if it comes next
 abbrev pub jump_lines : (first next b : ℕ) → List Line → List Line
 jump_lines first next b rest = if b == next then rest else Far 0 (first + b) ∷ rest
 
@@ -82,14 +82,14 @@ jump_lines first next b rest = if b == next then rest else Far 0 (first + b) ∷
 abbrev pub over_lines : BranchOp → (ra rb label : ℕ) → List Line → List Line
 over_lines op ra rb label rest = Plain (BranchInstr op ra rb (pos 12)) ∷ Far 0 label ∷ rest
 
--- the branch that is taken where a comparison holds
+-- the branch that is taken if a comparison holds
 abbrev pub holding : Comparison → BranchOp
 holding LtS = Blt
 holding LtU = Bltu
 holding Eq = Beq
 holding Ne = Bne
 
--- the branch that is taken where it does not
+-- the branch that is taken if it does not
 abbrev pub failing : Comparison → BranchOp
 failing LtS = Bge
 failing LtU = Bgeu
@@ -143,7 +143,7 @@ end_lines f first next (Return a) rest = return_lines (operand_at f.homes a) res
 
 -- ---- blocks, functions, programs
 
--- a block, where so many calls stand before it in the function
+-- a block before which so many calls stand in the function
 abbrev pub block_lines : List PlacedFunc → PlacedFunc → (first b calls_before : ℕ) → TacBlock
     → List Line → List Line
 block_lines functions f first b n block rest =

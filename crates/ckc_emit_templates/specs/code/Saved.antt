@@ -29,7 +29,7 @@ saves_lines = each_lines save_lines
 abbrev pub restores_lines : (ℕ → Bool) → (count k : ℕ) → List Line → List Line
 restores_lines = each_lines restore_lines
 
--- a register is saved in the frame, or restored from it, where it is marked
+-- a register is saved in the frame, or restored from it, if it is marked
 abbrev pub kept_lines : (restores marked : Bool) → ℕ → List Line → List Line
 kept_lines false = save_lines
 kept_lines true = restore_lines

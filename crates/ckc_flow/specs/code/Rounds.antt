@@ -28,7 +28,7 @@ pub record AreSound (blocks : List TacBlock) (regs : ℕ) (rows : List (List Boo
   pub sound : (b r : ℕ) (block : TacBlock) → slice_get blocks b ≡ Some block → get_or (get_or rows b []) r false ≡ true
       → IsLive blocks r block.ops block.end
 
--- from one block on, the rows of the blocks behind make nothing live that a row lacks
+-- from one block on, the rows of the blocks after a block make nothing live that its row lacks
 abbrev pub AreClosed : List TacBlock → ℕ → ℕ → List (List Bool) → Type 0
 AreClosed blocks regs from rows =
     (b : ℕ) (block : TacBlock) → from ≤ b → slice_get blocks b ≡ Some block → IsWithin (made rows regs block) (get_or rows b [])

@@ -21,7 +21,7 @@ abbrev pub cleared : Option ℕ → List Bool → List Bool
 cleared (Some t) row = set row t false
 cleared None row = row
 
--- the row in front of an operation, from the one behind it
+-- the row in front of an operation, from the one after it
 abbrev pub passed : TacOp → List Bool → List Bool
 passed (Const t n) row = set row t false
 passed (Copy t a) row = set (set row t false) a true

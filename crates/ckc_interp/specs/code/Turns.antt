@@ -87,7 +87,7 @@ abbrev pub planned_one_as : Result Write Halt → State → Result (Write × Sta
 planned_one_as (Ok w) s = Ok (w, s)
 planned_one_as (Err why) s = Err why
 
--- writes that are planned behind others
+-- writes that are planned after others
 abbrev pub planned_behind : List Write → Planned → Planned
 planned_behind writes p = record { writes = writes ++ p.writes; state = p.state }
 
@@ -167,11 +167,11 @@ Steps p s u blame blame' written written' (Some seen.Memory) = (written' ≡ wri
 
 -- ---- what a source gave
 
--- what may be left behind the bytes that a source gave: what may come behind them, or what it tells
+-- what may be left after the bytes that a source gave: what may come after them, or what it tells
 abbrev pub MayBeLeft : Bool → Option (List ℕ) → List ℕ → List ℕ → Type 0
 MayBeLeft ended told more rest = MayCome ended rest ⊎ (told ≡ Some (more ++ rest))
 
--- The source gave some bytes, and whatever may be left behind them, something holds of what was left before and then.
+-- The source gave some bytes, and whatever may be left after them, something holds of what was left before and then.
 abbrev pub Fed : SeenSource → SeenSource → (List ℕ → List ℕ → Type 0) → Type 0
 Fed old new Holds =
     (more : List ℕ) × Gave old new more × Took old.left new.left more

@@ -52,7 +52,7 @@ leaving_of leavings.Ended = states.Ended
 leaving_of leavings.Broken = states.Broken
 leaving_of leavings.Continued = states.Continued
 
--- how statements are left at once, where they are
+-- how statements are left at once, if they are
 abbrev pub leaving_in : Code → Option states.Leaving
 leaving_in code.End = Some states.Ended
 leaving_in (code.Break rest) = Some states.Broken
@@ -63,12 +63,12 @@ abbrev pub unless_ended : Code → Option states.Leaving → Option Code
 unless_ended step (Some states.Ended) = None
 unless_ended step _ = Some step
 
--- what is done after each turn of the loop in front, where it is anything
+-- what is done after each turn of the loop in front, if it is anything
 abbrev pub step_in : Code → Option Code
 step_in (code.Loop spot e body step rest) = unless_ended step (leaving_in step)
 step_in _ = None
 
--- what comes next where statements are left, or begin
+-- what comes next if statements are left, or begin
 abbrev pub when_left : Option Leaving → List states.Work → List states.Work
 when_left (Some how) work = states.resumed (leaving_of how) work
 when_left None work = work

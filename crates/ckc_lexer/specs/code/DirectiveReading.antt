@@ -5,15 +5,15 @@ use Rattle.ckc_syntax.specs.declared.tokens.Directive.{Directive}
 use Rattle.ckc_syntax.specs.declared.tokens.Directive.TheVariants.{Stdio, Stdlib, Stdchecked, ScopeOn, ScopeOff}
 use Rattle.ckc_lexer.specs.Bytes.{is_space}
 
--- what stands behind the word at the front
+-- what stands after the word at the front
 abbrev pub strip : List ℕ → List ℕ → Option (List ℕ)
 strip word text = if starts_with nat_eq text word then Some (drop (length word) text) else None
 
--- what stands behind the spaces at the front
+-- what stands after the spaces at the front
 abbrev pub behind_spaces : List ℕ → List ℕ
 behind_spaces text = drop (prefix_len is_space text) text
 
--- the same where there is a space
+-- the same if there is a space
 abbrev pub behind_some_spaces : List ℕ → Option (List ℕ)
 behind_some_spaces text = if prefix_len is_space text == 0 then None else Some (behind_spaces text)
 
@@ -34,7 +34,7 @@ infixl 10 ◌>>=◌
 abbrev pub ◌>>=◌ : {A B : Type 0} → Option A → (A → Option B) → Option B
 o >>= f = option_and_then f o
 
--- what stands behind `pragma`
+-- what stands after `pragma`
 unfoldable pub pragma_of : List ℕ → Option Directive
 pragma_of text = do
   a ← behind_some_spaces text
@@ -42,12 +42,12 @@ pragma_of text = do
   c ← behind_some_spaces b
   scope_of c
 
--- a header behind `include`, else a scope behind `pragma`
+-- a header after `include`, else a scope after `pragma`
 unfoldable pub include_or_pragma : Option (List ℕ) → Option (List ℕ) → Option Directive
 include_or_pragma (Some rest) other = header_of (behind_spaces rest)
 include_or_pragma None other = other >>= pragma_of
 
--- what stands behind `#`
+-- what stands after `#`
 unfoldable pub body_of : List ℕ → Option Directive
 body_of text = include_or_pragma (strip (codes "include") (behind_spaces text)) (strip (codes "pragma") (behind_spaces text))
 

@@ -23,7 +23,7 @@ pub record IsRow (facts : List Fact) (y most : ℕ) (row : List ℤ) : Type 0 wh
 abbrev pub IsSmall : ℤ → Type 0
 IsSmall sum = sum <ℤ none → IsWithin (2 ^ 60) sum
 
--- What one fact makes of a row: where there is a sum at its right variable and the fact's number with it is less than
+-- What one fact makes of a row: if there is a sum at its right variable and the fact's number with it is less than
 -- what stands at the left variable, it stands there.
 abbrev pub Lowers : Fact → List ℤ → List ℤ → List ℤ → Bool → Type 0
 Lowers f sums old new lowered = MatchBool lowered

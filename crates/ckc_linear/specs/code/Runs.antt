@@ -8,7 +8,7 @@ use Rattle.ckc_linear.specs.Facts.{names}
 abbrev pub AllStay : ℕ → List Fact → Type 0
 AllStay x facts = filter (λ f. not (names x f)) facts ≡ facts
 
--- the first n facts do not name x, and the one behind them does
+-- the first n facts do not name x, and the one after them does
 pub record AreOthers (x : ℕ) (facts : List Fact) (n : ℕ) : Type 0 where
   pub within : n ≤ length facts
   pub stay : AllStay x (take n facts)

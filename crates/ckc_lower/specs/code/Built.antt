@@ -54,7 +54,7 @@ abbrev pub is_number : Operand → Bool
 is_number (Register r) = false
 is_number (Number n) = true
 
--- an operation on two operands; a number comes second where it may
+-- an operation on two operands; a number comes second if it may
 abbrev pub bin_of : BinOp → ℕ → Operand → Operand → TacOp
 bin_of o d a b = if is_even o && is_number a then op.Bin o d b a else op.Bin o d a b
 
@@ -107,7 +107,7 @@ registers_of (e ∷ es) t = register_of e t ∷ registers_of es (free_past e t)
 
 -- ---- conditions
 
--- What a condition compares: it holds where the comparison holds, or where not, if it is turned.
+-- What a condition compares: it holds if the comparison holds, or, if it is turned, if that does not.
 pub record Test : Type 0 where
   pub comparison : Comparison
   pub left : Expr
@@ -137,14 +137,14 @@ abbrev pub test_of : Expr → (turned : Bool) → Test
 test_of (Bin o p q) turned = test_of_bin o p q (is_zero q) (test_of p) turned
 test_of e turned = test Ne e (Const 0) turned
 
--- one of two, the second where it is turned
+-- one of two, the second if it is turned
 abbrev pub picked : Bool → ℕ → ℕ → ℕ
 picked false one two = one
 picked true one two = two
 
 -- ---- statements
 
--- whether the code goes on to what comes behind it, or out of it, before it does anything
+-- whether the code goes on to what comes after it, or out of it, before it does anything
 abbrev pub passes : Code → Bool
 passes End = true
 passes (Break rest) = true
@@ -167,8 +167,8 @@ goal (Break rest) at exit loop = out_of loop
 goal (Continue rest) at exit loop = step_of loop
 goal code at exit loop = at
 
--- How many blocks the code ends. A fresh one is open, with no operation, where no control comes to it in another way
--- than for this code: code that passes makes no block of it. The flag tells whether a block comes behind the code.
+-- How many blocks the code ends. A fresh one is open, with no operation, and no control comes to it in another way
+-- than for this code: code that passes makes no block of it. The flag tells whether a block comes after the code.
 abbrev pub block_count : (fresh behind : Bool) → Code → ℕ
 block_count true true End = 0
 block_count true false End = 1
@@ -220,7 +220,7 @@ branch_of s t one two =
 abbrev pub tested : ℕ → Test → (one two : ℕ) → Builder → Builder
 tested t s one two b = with_end (with_value s.right None (free_from s.left t) (with_value s.left None t b)) (branch_of s t one two)
 
--- where the two parts of an If stand, and what comes behind it
+-- where the two parts of an If stand, and what comes after it
 abbrev pub one_at : Builder → ℕ
 one_at b = length b.blocks + 1
 
@@ -258,8 +258,8 @@ targets_of body step rest exit loop head = record {
   step = goal step (step_at body head) (Some head) None;
 }
 
--- The code is built behind what stands; fresh tells whether the open block is, t is the first temporary, exit the block
--- behind the code, and loop the innermost loop. What stands behind a Break, a Continue or a Return is never reached and
+-- The code is built after what stands; fresh tells whether the open block is, t is the first temporary, exit the block
+-- after the code, and loop the innermost loop. What stands after a Break, a Continue or a Return is never reached and
 -- not built.
 abbrev pub built : ℕ → (fresh : Bool) → Code → Option ℕ → Option Targets → Builder → Builder
 built t fresh End exit loop b = left fresh exit b

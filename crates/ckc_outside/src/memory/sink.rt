@@ -3,7 +3,7 @@ ghost use Rattle.std.specs.Prelude.{◌≡◌, ◌+◌, ◌-◌, ◌≤◌, ◌+
 use super::plan::Plan;
 use crate::traits::{Failed, Sink};
 
-/// A sink into memory, which fails at the calls that are listed and where a piece does not fit.
+/// A sink into memory, which fails at the calls that are listed and if a piece does not fit.
 #[derive(Drop)]
 pub struct MemSink<'a> {
     room: &'a mut [u8],
@@ -53,7 +53,7 @@ impl<'a> Sink for MemSink<'a> {
         ensures told { (bytes : List ℕ) → Some (written_of self.old) ≡ Some bytes
             → Puts bytes piece.now result (Some (written_of self.new)) }
         ensures once { (plan_of self.new).calls ≡ one_more (plan_of self.old).calls }
-        // A call fails exactly where it is listed or the piece does not fit, and then the count of faults goes up
+        // A call fails exactly when it is listed or the piece does not fit, and then the count of faults goes up
         // by one.
         ensures fails { is_err result ≡ (is_listed (plan_of self.old).listed
             (plan_of self.old).calls || overflows self.old piece.now) }
@@ -79,7 +79,7 @@ impl<'a> Sink for MemSink<'a> {
     }
 }
 
-/// Copies as much of a piece as fits behind the first `len` bytes, and says where it ends.
+/// Copies as much of a piece as fits after the first `len` bytes, and says where it ends.
 fn append(room: &mut [u8], len: usize, piece: &[u8]) -> usize
     requires { len ≤ length room.old }
     ensures bytes { take result room.new ≡ take len room.old ++ take (result - len) piece.now }

@@ -44,7 +44,7 @@ impl<'a> Source for MemSource<'a> {
         ensures stays { IsTrue (has_ended self.old) → IsTrue (has_ended self.new) }
         ensures nothing { IsTrue (has_ended self.old) → GivesNothing result }
         ensures answered { self.new.answers ≡ after_next result self.old.answers }
-        // A call fails exactly where it is listed, and then the count of faults goes up by one.
+        // A call fails exactly when it is listed, and then the count of faults goes up by one.
         ensures fails { is_err result ≡ is_listed (plan_of self.old).listed
             (plan_of self.old).calls }
         ensures plan { plan_of self.new ≡ after_call (plan_of self.old) (is_err result) }

@@ -12,7 +12,7 @@ use ckc_base_counts::one_more;
 use std::alloc::{AllocError, Global};
 use std::collections::BTreeMap;
 
-/// A store in memory, which fails at the calls that are listed and where a name is missing.
+/// A store in memory, which fails at the calls that are listed and if a name is missing.
 #[derive(Drop)]
 pub struct MemStore<'a> {
     alloc: Global,
@@ -74,7 +74,7 @@ impl<'a> Store for MemStore<'a> {
             → IsErrOf result StoreError.Failed → map.get here name.now ≡ None }
         ensures unkept { (seen_of self.new).keeps ≡ (seen_of self.old).keeps }
         ensures undone { (seen_of self.new).kept ≡ (seen_of self.old).kept }
-        // A call fails exactly where it is listed or the name is missing, and then the count of faults goes up by
+        // A call fails exactly when it is listed or the name is missing, and then the count of faults goes up by
         // one.
         ensures fails { has_failed result
             ≡ (is_listed (plan_of self.old).listed (plan_of self.old).calls || is_none (map.get
@@ -107,7 +107,7 @@ impl<'a> Store for MemStore<'a> {
             × (result ≢ Err StoreError.Failed) }
         ensures once { (seen_of self.new).keeps ≡ one_more (seen_of self.old).keeps }
         ensures done { (seen_of self.new).kept ≡ after_keep result (seen_of self.old).kept }
-        // A call fails exactly where it is listed, and then the count of faults goes up by one. Any `Err` changes
+        // A call fails exactly when it is listed, and then the count of faults goes up by one. Any `Err` changes
         // nothing here.
         ensures fails { has_failed result ≡ is_listed (plan_of self.old).listed
             (plan_of self.old).calls }

@@ -75,7 +75,7 @@ fn replace_real<R: Files>(
     }
 }
 
-/// Writes a new file beside a name and gives it that name. Where a step fails, the new file is removed.
+/// Writes a new file beside a name and gives it that name. If a step fails, the new file is removed.
 fn replace<R: Files>(
     rt: &R,
     alloc: Global,
@@ -129,7 +129,7 @@ fn name_beside(alloc: Global, name: Path<'_>, n: u32) -> Result<PathBuf, AllocEr
     name.with_file_name(alloc, own.as_str())
 }
 
-/// Writes the new file, gives it the old one's permissions and, where the system lets, its owner, and waits until the
+/// Writes the new file, gives it the old one's permissions and, if the system lets it, its owner, and waits until the
 /// bytes are on the disk. The file is closed then.
 fn fill<R: Files>(
     rt: &R,

@@ -61,7 +61,7 @@ pub fn write_whole<W: Write>(writer: &mut W, piece: &[u8]) -> Result<(), Failed>
     flush(writer)
 }
 
-/// One write, begun again where it was interrupted. One that is interrupted each time is a failure.
+/// One write, begun again if it was interrupted. One that is interrupted each time is a failure.
 fn write_some<W: Write>(writer: &mut W, bytes: &[u8]) -> Result<usize, Failed>
     ensures { IfOk result (λ count. count ≤ length bytes.now) }
 {

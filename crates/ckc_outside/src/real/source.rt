@@ -6,7 +6,7 @@ use std::io::{ErrorKind, Read};
 
 const ROOM: usize = 4096;
 
-/// The bytes of a reader, as standard input. A read that gives no byte is the end, also where more could be read
+/// The bytes of a reader, as standard input. A read that gives no byte is the end, also if more could be read
 /// later, as at a terminal.
 #[derive(Drop)]
 pub struct RealSource<R> {
@@ -77,7 +77,7 @@ impl<R: Read> Source for RealSource<R> {
 /// How many times a call is made that is interrupted each time.
 pub const TRIES: u32 = 1000;
 
-/// One read, begun again where it was interrupted. One that is interrupted each time is a failure.
+/// One read, begun again if it was interrupted. One that is interrupted each time is a failure.
 pub fn read_some<R: Read>(reader: &mut R, room: &mut [u8]) -> Result<usize, Failed>
     ensures { IfOk result (λ count. count ≤ length room.new) }
 {

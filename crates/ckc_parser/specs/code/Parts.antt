@@ -23,7 +23,7 @@ abbrev pub HoldsOrMemory : {X : Type 0} → (X → Type 0) → Result X Stop →
 HoldsOrMemory G (Ok x) = G x
 HoldsOrMemory G (Err e) = IsMemory e
 
--- A part is taken, and what its value is worth stands in a list behind what stood there.
+-- A part is taken, and what its value is worth stands in a list after what stood there.
 abbrev pub Puts : {X Y : Type 0} → (Value → List X) → Symbol → List X → List Sign → Result Y Stop → List X → List Sign → Type 0
 Puts worth s was old r is new = Answered (λ x. (v : Value) × Takes (s ∷ []) old (v ∷ []) new × (was ++ worth v ≡ is)) (s ∷ []) old r new
 
@@ -39,7 +39,7 @@ abbrev pub PutsMembers : {Y : Type 0} → List Decl → List Sign → Result Y S
 PutsMembers was old r is new =
     Answered (λ x. (o : Value) × (a : Value) × (b : Value) × (c : Value) × (d : Value) × Takes (right g.Members) old (o ∷ a ∷ b ∷ c ∷ d ∷ []) new × (was ++ (as_decls a ++ as_decls b) ≡ is)) (right g.Members) old r new
 
--- an assignment behind its target
+-- an assignment after its target
 abbrev pub assignment : List Symbol
 assignment = k kind.Equals ∷ n g.value ∷ k kind.Semicolon ∷ []
 

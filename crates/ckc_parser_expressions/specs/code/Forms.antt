@@ -25,7 +25,7 @@ abbrev pub Bracketed : List Sign → Result (Option ℕ × Pos) Stop → List Si
 Bracketed old r new =
     Answered (λ x. (a : Value) × (s : Value) × (b : Value) × Takes in_brackets old (a ∷ s ∷ b ∷ []) new × ((as_size s, place a) ≡ x)) in_brackets old r new
 
--- the type of a bounds cast in `<` and `>`, with the `(` behind it
+-- the type of a bounds cast in `<` and `>`, with the `(` after it
 abbrev pub cast_type : List Symbol
 cast_type = k kind.Less ∷ n type_name ∷ t greater ∷ k kind.RoundOpen ∷ []
 
@@ -54,6 +54,6 @@ sized word = k word ∷ k kind.RoundOpen ∷ n expr ∷ k kind.RoundClose ∷ []
 abbrev pub IsSized : Kind → Limits → List Value → Type 0
 IsSized word x vs = (a : Value) × (b : Value) × (e : Value) × (c : Value) × (vs ≡ a ∷ b ∷ e ∷ c ∷ []) × (sized_of word (as_expr e) (place a) ≡ x)
 
--- two bounds behind `bounds (`, whose place is given
+-- two bounds after `bounds (`, whose place is given
 abbrev pub IsBetween : Pos → Limits → Value → Type 0
 IsBetween pos x v = as_limits_at v pos ≡ x

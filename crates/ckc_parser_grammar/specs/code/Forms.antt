@@ -23,14 +23,14 @@ begins_type kind.ArrayPtr = true
 begins_type kind.NtArrayPtr = true
 begins_type _ = false
 
--- the kinds that go on behind a primary expression
+-- the kinds that go on after a primary expression
 abbrev pub begins_post : Kind → Bool
 begins_post kind.SquareOpen = true
 begins_post kind.Dot = true
 begins_post kind.Arrow = true
 begins_post _ = false
 
--- `unknown` with the `)` behind it
+-- `unknown` with the `)` after it
 abbrev pub alone : Kind → Kind → Bool
 alone kind.Unknown kind.RoundClose = true
 alone _ _ = false

@@ -16,7 +16,7 @@ shift_right_op funct7 =
     else if funct7 == 0x20 then Some Srai
     else None
 
--- the operation on registers with this funct3, where funct7 is 0
+-- the operation on registers with this funct3, if funct7 is 0
 abbrev pub base_op : ℕ → RegOp
 base_op funct3 =
     if funct3 == 0 then Add
@@ -28,7 +28,7 @@ base_op funct3 =
     else if funct3 == 6 then Or
     else And
 
--- the multiplication, division or remainder with this funct3, where funct7 is 1
+-- the multiplication, division or remainder with this funct3, if funct7 is 1
 abbrev pub product_op : ℕ → RegOp
 product_op funct3 =
     if funct3 == 0 then Mul
@@ -40,7 +40,7 @@ product_op funct3 =
     else if funct3 == 6 then Rem
     else Remu
 
--- the subtraction or arithmetic shift to the right, where funct7 is 0x20
+-- the subtraction or arithmetic shift to the right, if funct7 is 0x20
 abbrev pub other_op : ℕ → Option RegOp
 other_op funct3 =
     if funct3 == 0 then Some Sub

@@ -3,7 +3,7 @@ use super::types::put_type;
 use ckc_test_trials::Page;
 use ckc_typed::StaticObject;
 
-/// Writes objects, each by its address without its first byte, the type of its elements, their number, `!` where the
+/// Writes objects, each by its address without its first byte, the type of its elements, their number, `!` if the
 /// last one stays zero, and the bytes that it begins with.
 pub fn put_objects(page: &mut Page, objects: &[StaticObject]) {
     for (index, object) in objects.iter().enumerate() {

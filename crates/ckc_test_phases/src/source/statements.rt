@@ -54,7 +54,7 @@ fn put_bounds<N: Written, A>(page: &mut Page, bounds: &Option<Boxed<Limits<N, A>
     }
 }
 
-/// Writes a word for a mode, where there is one.
+/// Writes a word for a mode, if there is one.
 fn put_mode(page: &mut Page, mode: Option<Mode>) {
     match mode {
         None => {}

@@ -8,6 +8,6 @@ use Rattle.ckc_base.specs.MemoryMap.{statics_end}
 use Rattle.ckc_typed.specs.Statics.{placed, end_of_blocks}
 use Rattle.ckc_base.specs.Places.{start}
 
--- the blocks behind an end
+-- the blocks after an end
 abbrev pub placed_behind : Structs → ℕ → List StaticObject → Outcome (List StaticObject)
 placed_behind structs end os = unless (nat_lt statics_end (end_of_blocks structs end os)) late_statics start (Ok (placed structs end os))

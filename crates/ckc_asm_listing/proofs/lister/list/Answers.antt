@@ -1,4 +1,4 @@
--- The lines of the entry, of the code and of the initial bytes, one behind another.
+-- The lines of the entry, of the code and of the initial bytes, one after another.
 use Rattle.std.proofs.lemmas.Result.{err_from_is_err_and}
 use Rattle.ckc_asm_listing.specs.Listing.{entry_text}
 use Rattle.ckc_asm_listing.proofs.Pieces.{put_more, fail_more, fail_first}

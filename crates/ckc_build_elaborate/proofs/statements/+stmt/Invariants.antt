@@ -3,7 +3,7 @@ use Rattle.ckc_source.specs.Code.{stmt_of}
 use Rattle.ckc_build_elaborate.specs.code.Statements.{stmts_elaborated}
 use Rattle.ckc_build_elaborate.proofs.statements.+stmt.Given as goal
 
--- behind the last statement no number is known, and nothing is left
+-- after the last statement no number is known, and nothing is left
 abbrev pub invariant-stmts-loop-k : goal.invariant-stmts-loop-k
 invariant-stmts-loop-k l = record {
   left : l.k < length l.ss → map stmt_of l.all.items ++ stmts_elaborated l.typed l.locals l.gives l.next (drop l.k l.ss)

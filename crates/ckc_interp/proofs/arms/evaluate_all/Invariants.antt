@@ -5,7 +5,7 @@ use Rattle.ckc_interp_eval.specs.Stores.{store_of}
 use Rattle.ckc_interp.proofs.Planning.{listed_behind}
 use Rattle.ckc_interp.proofs.arms.evaluate_all.Given as goal
 
--- what is left comes behind the numbers so far
+-- what is left comes after the numbers so far
 abbrev pub invariant-loop-e : goal.invariant-loop-e
 invariant-loop-e l =
     let s = store_of l.fn.reader in

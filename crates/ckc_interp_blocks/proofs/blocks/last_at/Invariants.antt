@@ -2,7 +2,7 @@ use Rattle.std.proofs.Common.{◌≡◌, ℕ, suc, ◌-◌, ◌<◌, ◌≤◌, 
 use Rattle.ckc_interp_blocks.specs.declared.block.Block.{Block}
 use Rattle.ckc_interp_blocks.proofs.blocks.last_at.Given as goal
 
--- what lies before low begins at the address or before it, and what lies at high behind it
+-- what lies before low begins at the address or before it, and what lies at high after it
 abbrev pub invariant-loop-low : goal.invariant-loop-low
 invariant-loop-low l = record {
   low : l.low ≤ l.high;

@@ -1,7 +1,7 @@
 use Rattle.std.proofs.Common.{◌≡◌, ℕ, ◌+◌, ◌-◌, ◌<◌, ◌≤◌, length, get_or}
 use Rattle.ckc_lexer.proofs.comments.block_at.Given as goal
 
--- no `*/` so far behind the first two bytes
+-- no `*/` so far after the first two bytes
 abbrev pub invariant-loop-len : goal.invariant-loop-len
 invariant-loop-len l = record {
   behind : 2 ≤ l.len;

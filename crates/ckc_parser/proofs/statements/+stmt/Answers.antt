@@ -191,7 +191,7 @@ pub for_stmt-returns-clause-reads : goal.for_stmt-returns-clause-reads
 for_stmt-returns-clause-reads t c =
     finished _ _ _ _ _ c.statement_at.result (λ x e. (v.token (spelled c.in_ok-mark.mark) ∷ v.token (spelled c.in_ok-open.open) ∷ c.in_ok-start.ensures.gives.0 ∷ c.in_ok-condition.ensures.gives.0 ∷ c.in_ok-step.ensures.gives.0 ∷ c.in_ok-body.ensures.gives.0 ∷ [], (also c.in_ok-mark.ensures.parses (also c.in_ok-open.ensures.parses (also c.in_ok-start.ensures.gives.1 (also c.in_ok-condition.ensures.gives.1 (also c.in_ok-step.ensures.gives.1 c.in_ok-body.ensures.gives.1))))), same2 (λ z w. trees.stmt_at (act.For z w (v.as_part c.in_ok-step.ensures.gives.0) (v.as_stmt c.in_ok-body.ensures.gives.0)) c.in_ok-mark.mark.pos) c.in_ok-start.ensures.gives.2 c.in_ok-condition.ensures.gives.2 ∙ same2 (λ z w. trees.stmt_at (act.For c.in_ok-start.start c.in_ok-condition.condition z w) c.in_ok-mark.mark.pos) c.in_ok-step.ensures.gives.2 c.in_ok-body.ensures.gives.2 ∙ e)) c.statement_at.ensures
 
--- a statement is next where no type and no end is
+-- a statement is next if no type and no end is
 goes_on : (c : Kind) → begins_type c ≡ false → (c ≡ kind.CurlyClose → ⊥) → pick g.block_items c ≡ Some g.Stmts
 goes_on c h = remains (λ k. not (begins_type k)) (kind.CurlyClose ∷ []) g.block_items g.Stmts refl c (ap (λ b. not b) h)
 

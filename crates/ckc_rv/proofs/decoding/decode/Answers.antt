@@ -1,4 +1,4 @@
--- The decoder of the definitions answers exactly where the table relates word and instruction.
+-- The decoder of the definitions answers exactly when the table relates word and instruction.
 use Rattle.ckc_rv.proofs.Rows.{decoded_law, decoded_none, decoded_fits}
 use Rattle.ckc_rv.proofs.decoding.decode.Goals as goal
 

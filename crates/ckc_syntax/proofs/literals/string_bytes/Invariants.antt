@@ -2,7 +2,7 @@ use Rattle.std.proofs.Common.{◌≡◌, ◌-◌, ◌≤◌, ◌++◌, length}
 use Rattle.ckc_syntax.specs.Decoded.{decoded, characters_behind}
 use Rattle.ckc_syntax.proofs.literals.string_bytes.Given as goal
 
--- the bytes so far, with those of the characters behind them, are those of the whole
+-- the bytes so far, with those of the characters after them, are those of the whole
 abbrev pub invariant-loop-piece : goal.invariant-loop-piece
 invariant-loop-piece l = record {
   within : l.at ≤ length l.text;

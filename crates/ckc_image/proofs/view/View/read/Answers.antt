@@ -1,4 +1,4 @@
--- The parts agree one after another exactly where the equation holds.
+-- The parts agree one after another exactly when the equation holds.
 use Rattle.std.proofs.Common.{◌≡◌, ◌+◌, ◌-◌, take, drop, sym, ap, ◌∙◌, rules, arith}
 use Rattle.ckc_image.specs.Image.{word_at, FirstBad}
 use Rattle.ckc_image.proofs.Agreement.{never_bad, same_parts, image_from_parts, rest_is}

@@ -6,7 +6,7 @@ use Rattle.ckc_interp.specs.code.Views.{core_of}
 use Rattle.ckc_interp.proofs.Planning.{plans}
 use Rattle.ckc_interp.proofs.run.Run.plan.Given as goal
 
--- what is left is planned behind what is planned so far
+-- what is left is planned after what is planned so far
 abbrev pub invariant-loop-a : goal.invariant-loop-a
 invariant-loop-a l =
     let shapes = shapes_of l.fn.self.blocks in
