@@ -30,7 +30,7 @@ static uint32_t slice_hash(const char *name) {
   return (uint32_t)(state ^ state >> 32);
 }
 
-// A name whose third word is the state behind the first two: the next product is 0, whatever the fourth word is.
+// A name whose third word is the state after the first two: the next product is 0, whatever the fourth word is.
 static void put_front(char *name) {
   for (;;) {
     uint64_t x, y, state;

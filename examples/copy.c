@@ -1,10 +1,10 @@
-/* Greets the name on each line of the input, in plain C. `append` copies a text behind another into a buffer of sixteen
+/* Greets the name on each line of the input, in plain C. `append` copies a text after another into a buffer of sixteen
    bytes and trusts that both fit: a name of eleven bytes or more does not. */
 char name[64];
 char greeting[16];
 char end[8] = "!\n";
 
-/* copies a text into a buffer from a place on; the place behind the copy */
+/* copies a text into a buffer from a place on; the place after the copy */
 int append(char *to, int at, char *from) {
   int n = 0;
   while (from[n]) {

@@ -8,7 +8,7 @@ char name nt_checked[64];
 char greeting nt_checked[17];
 char end nt_checked[8] = "!\n";
 
-/* copies a text into a buffer from a place on; the place behind the copy */
+/* copies a text into a buffer from a place on; the place after the copy */
 int append(nt_array_ptr<char> to : count(size), int size, int at, nt_array_ptr<char> from) {
   int n = 0;
   nt_array_ptr<char> bytes : count(n) = from;

@@ -1,4 +1,4 @@
-/* copy.c half converted: `append` takes the buffer with its length, and stops where a name does not fit. `main` still
+/* copy.c half converted: `append` takes the buffer with its length, and stops if a name does not fit. `main` still
    writes the name by a plain pointer, and keeps its length below 64 by itself. */
 #include <stdchecked.h>
 
@@ -6,7 +6,7 @@ char name nt_checked[64];
 char greeting nt_checked[17];
 char end nt_checked[8] = "!\n";
 
-/* copies a text into a buffer from a place on; the place behind the copy */
+/* copies a text into a buffer from a place on; the place after the copy */
 checked int append(nt_array_ptr<char> to : count(size), int size, int at, nt_array_ptr<char> from) {
   int n = 0;
   nt_array_ptr<char> bytes : count(n) = from;

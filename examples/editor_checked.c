@@ -30,7 +30,7 @@ int read_line(void) {
   return 1;
 }
 
-/* a line with the bytes of the buffer from a place on, or null where memory is out */
+/* a line with the bytes of the buffer from a place on, or null if memory is out */
 ptr<struct line> line_of(int from) {
   int i;
   int size = used > from ? used - from : 0;
@@ -94,7 +94,7 @@ void show(nt_array_ptr<char> text) {
   putchar('\n');
 }
 
-/* the digit at a place of the buffer, with the one behind it if there are two */
+/* the digit at a place of the buffer, with the one after it if there are two */
 int number(int at) {
   int tens = input[at] - '0';
   if (input[at + 1] < '0')

@@ -34,7 +34,7 @@ void sort(array_ptr<int> list : count(size), int size) {
   }
 }
 
-/* the next number of the input, or -1 where none comes */
+/* the next number of the input, or -1 if none comes */
 int number(void) {
   int byte = getchar();
   int value = 0;

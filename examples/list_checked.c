@@ -10,7 +10,7 @@ struct node pool[64];
 int used;
 _Ptr<struct node> first;
 
-/* a fresh node, or null where the pool is used up */
+/* a fresh node, or null if the pool is used up */
 _Ptr<struct node> take(int letter) {
   if (used == 64)
     return NULL;

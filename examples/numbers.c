@@ -1,5 +1,5 @@
 /* Adds the numbers of a line. `number` takes the line with its length, and stops reading at the first byte that is no
-   digit. A line that ends in a digit has no such byte: reading on stops at the check `bounds`, just behind the line. */
+   digit. A line that ends in a digit has no such byte: reading on stops at the check `bounds`, just after the line. */
 #include <stdio.h>
 #include <stdchecked.h>
 
@@ -8,15 +8,15 @@
 char line checked[80];
 int length;
 
-/* behind the blanks from here on */
+/* after the blanks from here on */
 int skip(array_ptr<char> text : count(size), int size, int at) {
   while (at < size && text[at] <= ' ')
     at = at + 1;
   return at;
 }
 
-/* behind the digits from here on */
-int behind(array_ptr<char> text : count(size), int size, int at) {
+/* after the digits from here on */
+int end_of_digits(array_ptr<char> text : count(size), int size, int at) {
   while (text[at] >= '0' && text[at] <= '9')
     at = at + 1;
   return at;
@@ -35,7 +35,7 @@ int sum(array_ptr<char> text : count(size), int size) {
   int total = 0;
   int at = skip(text, size, 0);
   while (at < size) {
-    int end = behind(text, size, at);
+    int end = end_of_digits(text, size, at);
     int value = number(text, size, at, end);
     if (end == at)
       return total;

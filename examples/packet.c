@@ -1,5 +1,5 @@
 /* Answers packets, each on a line: a digit that says how many bytes follow, and the bytes. The answer repeats so many
-   bytes as the packet said. A packet that says more than it has would give away what lies behind it in memory; here the
+   bytes as the packet said. A packet that says more than it has would give away what lies after it in memory; here the
    check `bounds` stops it. Length and bytes are set in one bundle, so that they never disagree. */
 #include <stdio.h>
 #include <stdlib.h>

@@ -32,7 +32,7 @@ void put(ptr<struct ring> ring, int byte) {
     ring->first = (ring->first + 1) % ring->size;
 }
 
-/* the oldest byte, or -1 where there is none */
+/* the oldest byte, or -1 if there is none */
 int take(ptr<struct ring> ring) {
   int byte;
   if (ring->used == 0)

@@ -1,5 +1,5 @@
 /* Reads eight numbers and writes them in order. There are no arrays: a call has the numbers as its parameters, and
-   where two neighbours are out of order it calls itself with these exchanged. */
+   if two neighbours are out of order it calls itself with these exchanged. */
 int read(void) {
   int value = 0;
   int c = getchar();

@@ -12,7 +12,7 @@ struct entry *bucket[32];
 int written;
 int used;
 
-/* whether the entry is the word that stands behind the letters */
+/* whether the entry is the word that stands after the letters */
 int same(struct entry *here, int length) {
   int i;
   if (here->length != length)
@@ -23,7 +23,7 @@ int same(struct entry *here, int length) {
   return 1;
 }
 
-/* counts the word that stands behind the letters */
+/* counts the word that stands after the letters */
 void count(int length, int hash) {
   struct entry *here = bucket[hash];
   int found = 0;

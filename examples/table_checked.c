@@ -13,7 +13,7 @@ _Ptr<struct entry> bucket[32];
 int written;
 int used;
 
-/* a letter of an entry, or of the word that stands behind the letters */
+/* a letter of an entry, or of the word that stands after the letters */
 int letter(int at) {
   return letters[at];
 }
@@ -30,7 +30,7 @@ void begin_chain(int hash, _Ptr<struct entry> entry) {
   bucket[hash] = entry;
 }
 
-/* a fresh entry, or null where the pool is used up */
+/* a fresh entry, or null if the pool is used up */
 _Ptr<struct entry> take(void) {
   if (used == 256)
     return NULL;
@@ -40,7 +40,7 @@ _Ptr<struct entry> take(void) {
 
 #pragma CHECKED_SCOPE on
 
-/* whether the entry is the word that stands behind the letters */
+/* whether the entry is the word that stands after the letters */
 int same(_Ptr<struct entry> here, int length) {
   int i;
   if (here->length != length)
@@ -54,7 +54,7 @@ int same(_Ptr<struct entry> here, int length) {
   return 1;
 }
 
-/* counts the word that stands behind the letters */
+/* counts the word that stands after the letters */
 void count(int length, int hash) {
   _Ptr<struct entry> front = chain(hash);
   _Ptr<struct entry> here = front;

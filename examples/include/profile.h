@@ -2,6 +2,8 @@
 #define const
 #define volatile
 #define inline
+#define restrict
+#define register
 #define int8_t int
 #define int16_t int
 #define int32_t int

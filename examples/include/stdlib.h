@@ -1,1 +1,2 @@
-/* profile.h has what is needed of it */
+#define EXIT_SUCCESS 0
+#define EXIT_FAILURE 1

@@ -1,0 +1,1 @@
+#define assert(condition) _Dynamic_check(condition)

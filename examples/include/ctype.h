@@ -1,0 +1,1 @@
+/* the language has none of its functions: write the comparisons */
