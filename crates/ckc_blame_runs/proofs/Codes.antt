@@ -154,11 +154,11 @@ abbrev condition_test : Option NotedExpr → Bool
 condition_test e = inside_if all_have (λ (f : NotedExpr). true) e
 
 -- of two tests that hold together, each holds
-left : (a b : Bool) → a && b ≡ true → a ≡ true
+pub left : (a b : Bool) → a && b ≡ true → a ≡ true
 left true b e = refl
 left false b e = e
 
-right : (a b : Bool) → a && b ≡ true → b ≡ true
+pub right : (a b : Bool) → a && b ≡ true → b ≡ true
 right true b e = e
 right false b e = cc
 

@@ -20,7 +20,7 @@ use Rattle.ckc_build_elaborate.specs.Objects.{objects_elaborated, count_declared
 use Rattle.ckc_build_elaborate.specs.Elaborated.{elaborated}
 use Rattle.ckc_build_elaborate.proofs.There.{is_there}
 use Rattle.ckc_blame_runs.specs.Checked.{checked_stmt, checked_item, WhollyChecked}
-use Rattle.ckc_blame_runs.proofs.Codes.{body_checked, mode_checked}
+use Rattle.ckc_blame_runs.proofs.Codes.{body_checked, left, mode_checked, right}
 use Rattle.ckc_blame_runs.proofs.Runs.{IsChecked, AreAll, IsGood, entered_good, never_unchecked}
 
 unfoldable AreListed : List Function → Type 0
@@ -40,14 +40,6 @@ listed_get (g ∷ fs) (suc k) f a e = listed_get fs k f a.1 e
 function_checked : (p : Typed) (k : ℕ) (h : NotedHead) (body : NotedStmt) → checked_stmt body ≡ true → IsChecked (function_elaborated p k h body)
 function_checked p k h body c =
     record { end = mode_checked body c; body = body_checked p (variables_of h body) (type_written h.result) (k + literals_of_head h) body c }
-
-left : (a b : Bool) → a && b ≡ true → a ≡ true
-left true b e = refl
-left false b e = e
-
-right : (a b : Bool) → a && b ≡ true → b ≡ true
-right true b e = e
-right false b e = cc
 
 items_checked : (p : Typed) (k : ℕ) (items : List NotedItem) → inside_each all_have checked_item items ≡ true → AreListed (numbered (functions_in p) literals_of_item k items)
 unfolding AreListed
