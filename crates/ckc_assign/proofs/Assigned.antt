@@ -2,14 +2,15 @@
 use Rattle.std.proofs.Common.{◌≡◌, ◌≢◌, ◌⊎◌, inl, inr, ⊎_elim, ℕ, ◌+◌, ◌≤◌, ◌<◌, Bool, true, false, List, [], ◌∷◌, ◌++◌, length, map, get_or, Option, Some, None, refl, sym, ap, subst, ◌∙◌, append_assoc, append-nil, arith}
 use Rattle.std.specs.Prelude.{◌↔◌}
 use Rattle.std.proofs.lemmas.Bool.{cases_eq}
-use Rattle.std.proofs.lemmas.Option.{slice_get_within}
+use Rattle.std.proofs.lemmas.Option.{slice_get_within, get_or_from_slice_get}
 use Rattle.std.proofs.lemmas.List.{length-append, get_or_at, map-append}
-use Rattle.std.proofs.lemmas.List.Elements.{All-nil, All-push}
+use Rattle.std.proofs.lemmas.List.Elements.{All-nil, All-push, All-weaker}
 use Rattle.ckc_tac.specs.declared.code.TacBlock.{TacBlock}
 use Rattle.ckc_tac.specs.declared.code.TacFunc.{TacFunc}
 use Rattle.ckc_tac.specs.declared.code.TacOp.{TacOp}
 use Rattle.ckc_flow.specs.Live.{IsLive, read_here, read_later, target_of, reads}
 use Rattle.ckc_frame.specs.declared.code.Place.{Place}
+use Rattle.ckc_frame.specs.declared.code.Place.TheVariants.{Slot}
 use Rattle.ckc_frame.specs.declared.code.PlacedFunc.{PlacedFunc}
 use Rattle.ckc_frame.specs.Places.{home, marks_of}
 use Rattle.ckc_base.specs.Follows.{Follows}
@@ -22,10 +23,11 @@ use Rattle.ckc_frame.specs.Meaning.{placed_detail}
 use Rattle.ckc_frame.specs.WellFormed.{IsPlacedWhole, IsWellFormed, code_of, program_size}
 use Rattle.ckc_assign.specs.declared.ranges.Range.{Range}
 use Rattle.ckc_assign.specs.Apart.{IsPlace, AreApart, KeepsLive}
+use Rattle.ckc_assign.specs.Slots.{IsUsedAt, live_there, written_there, entered_there, IsInRange, UsesFewSlots}
 use Rattle.ckc_assign.specs.code.Assigned.{IsAssigned, AreAssigned}
-use Rattle.ckc_assign.specs.code.Homes.{LieApart}
+use Rattle.ckc_assign.specs.code.Homes.{home_of, BeginLate, IsFair, LieApart}
 use Rattle.ckc_assign.specs.code.Kept.{AllKept}
-use Rattle.ckc_assign.specs.code.Ranges.{Covers, no_op, first_place, SeesBlock, SeesAll}
+use Rattle.ckc_assign.specs.code.Ranges.{Covers, range_of, no_op, first_place, SeesBlock, SeesAll}
 use Rattle.ckc_assign.proofs.Follows.{follows_is}
 use Rattle.ckc_assign.proofs.Calls.{row_at, length-all, long_all}
 
@@ -90,9 +92,28 @@ module _ (f : TacFunc) (block : TacBlock) (place : ℕ) (old ranges : List Range
       let (q, ge, d) = down ops front r h e live in
       (omega (arith, c.0), omega (arith, d.1))
 
+-- ---- the places of a range are those of the definition
+
+used_late : (f : TacFunc) (r n : ℕ) → IsUsedAt f r n → 1 ≤ n
+used_late f r n (live_there b block front ops at e live) = omega (arith, e)
+used_late f r n (written_there b block front ops op at e t) = omega (arith, e)
+used_late f r n (entered_there e param) = omega (arith, e)
+
+pub begin_late : (f : TacFunc) (ranges : List Range) → SeesAll f ranges → BeginLate ranges
+begin_late f ranges s r used = used_late f r (range_of ranges r).first (s.tight r used).0
+
+in_range : (f : TacFunc) (ranges : List Range) → SeesAll f ranges → (p r : ℕ) → Covers ranges r p → IsInRange f p r
+in_range f ranges s p r c =
+    let ends = s.tight r (omega (arith, c.0, c.1)) in
+    record {
+      first = ((range_of ranges r).first, c.0, ends.0);
+      last = ((range_of ranges r).last, c.1, ends.1);
+    }
+
 -- ---- a function
 
-module _ (f : TacFunc) (ranges : List Range) (homes : List Place) (kept : List (List Bool)) (s : SeesAll f ranges) (l : LieApart ranges homes) (a : AllKept f f.blocks kept) where
+module _ (f : TacFunc) (ranges : List Range) (homes : List Place) (kept : List (List Bool)) (s : SeesAll f ranges) (l : LieApart ranges homes) (fair : (r : ℕ) → IsFair ranges homes r)
+    (a : AllKept f f.blocks kept) where
   abbrev placed : PlacedFunc
   placed = record { code = f; homes = homes; kept = kept }
 
@@ -141,6 +162,20 @@ module _ (f : TacFunc) (ranges : List Range) (homes : List Place) (kept : List (
         subst (λ (o : Option (List Bool)). (get_or (marks_of o) r false ≡ true) ↔ (IsLive f.blocks r ops block.end × (target ≢ Some r))) (sym found.1) (found.2.exact r h);
   }
 
+  pub uses_few_slots : UsesFewSlots placed
+  uses_few_slots r slot e =
+      let at : home_of homes r ≡ Slot slot = get_or_from_slice_get homes r (Slot slot) (Slot 0) e in
+      let low = slice_get_within homes r (Slot slot) e in
+      let m = fair r slot (omega (arith, low, l.long)) at in
+      record {
+        place = m.place;
+        here = in_range f ranges s m.place r m.here;
+        others = m.others;
+        many = m.many;
+        distinct = m.distinct;
+        meet = All-weaker (λ q. Covers ranges q m.place) (IsInRange f m.place) (in_range f ranges s m.place) m.others m.meet;
+      }
+
   pub is_whole : IsPlacedWhole placed
   is_whole = record {
     homes = l.long ∙ s.long;
@@ -150,12 +185,13 @@ module _ (f : TacFunc) (ranges : List Range) (homes : List Place) (kept : List (
   }
 
 pub assigned : (f code : TacFunc) (ranges : List Range) (homes : List Place) (kept : List (List Bool)) → code ≡ f → SeesAll f ranges → LieApart ranges homes
-    → AllKept f f.blocks kept → IsAssigned f (record { code = code; homes = homes; kept = kept })
-assigned f code ranges homes kept e s l a = subst (λ (g : TacFunc). IsAssigned f (record { code = g; homes = homes; kept = kept })) (sym e) (record {
+    → ((r : ℕ) → IsFair ranges homes r) → AllKept f f.blocks kept → IsAssigned f (record { code = code; homes = homes; kept = kept })
+assigned f code ranges homes kept e s l fair a = subst (λ (g : TacFunc). IsAssigned f (record { code = g; homes = homes; kept = kept })) (sym e) (record {
   code = refl;
-  whole = is_whole f ranges homes kept s l a;
-  apart = are_apart f ranges homes kept s l a;
-  keeps = keeps_live f ranges homes kept s l a;
+  whole = is_whole f ranges homes kept s l fair a;
+  apart = are_apart f ranges homes kept s l fair a;
+  keeps = keeps_live f ranges homes kept s l fair a;
+  slots = uses_few_slots f ranges homes kept s l fair a;
 })
 
 -- ---- functions
@@ -166,6 +202,7 @@ none_assigned = record {
   whole = All-nil IsPlacedWhole;
   apart = All-nil AreApart;
   keeps = All-nil KeepsLive;
+  slots = All-nil UsesFewSlots;
 }
 
 pub one_assigned : (fs : List TacFunc) (ps : List PlacedFunc) (f : TacFunc) (p : PlacedFunc) → AreAssigned fs ps → IsAssigned f p → AreAssigned (fs ++ f ∷ []) (ps ++ p ∷ [])
@@ -174,6 +211,7 @@ one_assigned fs ps f p a i = record {
   whole = All-push IsPlacedWhole ps p a.whole i.whole;
   apart = All-push AreApart ps p a.apart i.apart;
   keeps = All-push KeepsLive ps p a.keeps i.keeps;
+  slots = All-push UsesFewSlots ps p a.slots i.slots;
 }
 
 -- ---- the program

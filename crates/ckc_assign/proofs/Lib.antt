@@ -3,6 +3,7 @@ pub mod Values
 pub mod Calls
 pub mod Growing
 pub mod Scanned
+pub mod Fair
 pub mod Simulated
 pub mod Follows
 pub mod Assigned

@@ -1,9 +1,7 @@
 -- Linear scan: registers whose ranges meet get places of their own.
-use Rattle.std.proofs.Common.{◌≡◌, ◌≢◌, inl, inr, ⊎_elim, ℕ, suc, ◌≤◌, ◌<◌, nat_lt, if◌then◌else◌, Bool, true, false, List, [], ◌∷◌, length, get_or, set, refl, sym, ap, subst, ◌∙◌, arith}
+use Rattle.std.proofs.Common.{◌≡◌, ◌≢◌, ⊎_elim, ℕ, suc, ◌≤◌, ◌<◌, nat_lt, if◌then◌else◌, Bool, true, false, List, [], ◌∷◌, length, refl, sym, ap, subst, ◌∙◌, arith}
 use Rattle.std.specs.Prelude.{All}
-use Rattle.std.proofs.lemmas.Bool.{cases_eq}
 use Rattle.std.proofs.lemmas.Bool.Decides.{nat_tests}
-use Rattle.std.proofs.lemmas.List.{length-set, get_or-set_same, get_or-set_other}
 use Rattle.std.proofs.lemmas.List.Elements.{All-nil, All-cons}
 use Rattle.std.proofs.lemmas.Option.{slice_get-get_or}
 use Rattle.ckc_frame.specs.declared.code.Place.{Place}
@@ -12,7 +10,7 @@ use Rattle.ckc_frame.specs.Places.{home, number_of, number_of_home}
 use Rattle.ckc_frame.specs.WellFormed.{IsPlace}
 use Rattle.ckc_assign.specs.declared.ranges.Range.{Range}
 use Rattle.ckc_assign.specs.code.Ranges.{range_of, Covers}
-use Rattle.ckc_assign.specs.code.Homes.{first_home, home_of, AreFirst, IsUsed, IsScan, LieApart}
+use Rattle.ckc_assign.specs.code.Homes.{first_home, home_of, AreFirst, IsScan, LieApart}
 
 -- ---- the first homes
 
@@ -25,6 +23,13 @@ used_slot range r h = ap (λ b. if b then Reg 0 else Slot r) (test_ge range.last
 first_is_place : (b : Bool) (r : ℕ) → r < 4064 → IsPlace (if b then Reg 0 else Slot r)
 first_is_place true r h = omega arith
 first_is_place false r h = h
+
+test_not : (a b : ℕ) → nat_lt a b ≡ false → b ≤ a
+test_not a b e = grind (arith, nat_tests)
+
+slot_test : (b : Bool) (r s : ℕ) → (if b then Reg 0 else Slot r) ≡ Slot s → b ≡ false
+slot_test true r s e = absurd cc
+slot_test false r s e = refl
 
 first_slot : (b : Bool) (r s : ℕ) → (if b then Reg 0 else Slot r) ≡ Slot s → s ≡ r
 first_slot true r s e = absurd cc
@@ -40,85 +45,10 @@ scan_first ranges busy homes few wide a = record {
   wide = wide;
   places = λ r h. subst IsPlace (sym (a.first r h)) (first_is_place (nat_lt (range_of ranges r).last (range_of ranges r).first) r (omega arith));
   slots = λ r s h e. first_slot (nat_lt (range_of ranges r).last (range_of ranges r).first) r s (sym (a.first r h) ∙ e);
+  needed = λ r s h e. let range = range_of ranges r in test_not range.last range.first (slot_test (nat_lt range.last range.first) r s (sym (a.first r h) ∙ e));
   ended = λ r h k u e. absurd (not_reg r h (sym (used_slot (range_of ranges r) r u) ∙ sym (a.first r k) ∙ e));
   apart = λ r q h k m ne u v e f. absurd (not_reg r h (sym (used_slot (range_of ranges r) r u) ∙ sym (a.first r k) ∙ e));
 }
-
--- ---- one more register
-
-module _ (ranges : List Range) (busy : List ℕ) (homes : List Place) (s : IsScan ranges busy homes) (r h : ℕ)
-    (there : r < length ranges) (used : IsUsed ranges r) (below : h < 12) (free : get_or busy h 0 < (range_of ranges r).first) where
-  abbrev busy' : List ℕ
-  busy' = set busy h (range_of ranges r).last
-
-  abbrev homes' : List Place
-  homes' = set homes r (Reg h)
-
-  here : home_of homes' r ≡ Reg h
-  here = get_or-set_same homes r (Reg h) (Slot 0) (omega (arith, s.long))
-
-  other : (q : ℕ) → q ≢ r → home_of homes' q ≡ home_of homes q
-  other q ne = get_or-set_other homes r q (Reg h) (Slot 0) ne
-
-  busy_here : get_or busy' h 0 ≡ (range_of ranges r).last
-  busy_here = get_or-set_same busy h (range_of ranges r).last 0 (omega (arith, s.wide))
-
-  busy_other : (k : ℕ) → k ≢ h → get_or busy' k 0 ≡ get_or busy k 0
-  busy_other k ne = get_or-set_other busy h k (range_of ranges r).last 0 ne
-
-  reg_is : (k : ℕ) → Reg h ≡ Reg k → h ≡ k
-  reg_is k e = cc
-
-  reg_no_slot : (k : ℕ) → Reg h ≡ Slot k → ⊥
-  reg_no_slot k e = absurd cc
-
-  -- an earlier one at the same machine register has ended
-  before : (q k : ℕ) → q < length ranges → IsUsed ranges q → home_of homes q ≡ Reg k → h ≡ k → (range_of ranges q).last < (range_of ranges r).first
-  before q k m u e is = let l = s.ended q k m u e in let f : get_or busy k 0 < (range_of ranges r).first = subst (λ n. get_or busy n 0 < (range_of ranges r).first) is free in omega arith
-
-  ended_after : (q k : ℕ) → q < length ranges → IsUsed ranges q → home_of homes' q ≡ Reg k → (range_of ranges q).last ≤ get_or busy' k 0
-  ended_after q k m u e = ⊎_elim
-      (λ (is : q ≡ r).
-      let same : h ≡ k = reg_is k (sym here ∙ subst (λ n. home_of homes' n ≡ Reg k) is e) in
-      let last : get_or busy' k 0 ≡ (range_of ranges r).last = subst (λ n. get_or busy' n 0 ≡ (range_of ranges r).last) same busy_here in
-      let this : (range_of ranges q).last ≡ (range_of ranges r).last = ap (λ n. (range_of ranges n).last) is in
-      omega arith)
-      (λ (ne : q ≡ r → ⊥).
-      let e' = sym (other q ne) ∙ e in
-      ⊎_elim
-      (λ (same : h ≡ k).
-      let l = before q k m u e' same in
-      let last : get_or busy' k 0 ≡ (range_of ranges r).last = subst (λ n. get_or busy' n 0 ≡ (range_of ranges r).last) same busy_here in
-      omega arith)
-      (λ (apart : h ≡ k → ⊥). let l = s.ended q k m u e' in let b = busy_other k (λ x. apart (sym x)) in omega arith)
-      (cases_eq h k))
-      (cases_eq q r)
-
-  pub scan_more : IsScan ranges busy' homes'
-  scan_more = record {
-    few = s.few;
-    long = length-set homes r (Reg h) ∙ s.long;
-    wide = length-set busy h (range_of ranges r).last ∙ s.wide;
-    places = λ q m. ⊎_elim
-        (λ (is : q ≡ r). subst IsPlace (sym (ap (home_of homes') is ∙ here)) below)
-        (λ (ne : q ≡ r → ⊥). subst IsPlace (sym (other q ne)) (s.places q m)) (cases_eq q r);
-    slots = λ q k m e. ⊎_elim
-        (λ (is : q ≡ r). absurd (reg_no_slot k (sym here ∙ subst (λ n. home_of homes' n ≡ Slot k) is e)))
-        (λ (ne : q ≡ r → ⊥). s.slots q k m (sym (other q ne) ∙ e)) (cases_eq q r);
-    ended = ended_after;
-    apart = λ a b k m n ne u v e f. ⊎_elim
-        (λ (is : a ≡ r).
-        let same : h ≡ k = reg_is k (sym here ∙ subst (λ n. home_of homes' n ≡ Reg k) is e) in
-        let l = before b k n v (sym (other b (λ x. ne (is ∙ sym x))) ∙ f) same in
-        inr (subst (λ n. (range_of ranges b).last < (range_of ranges n).first) (sym is) l))
-        (λ (na : a ≡ r → ⊥). ⊎_elim
-        (λ (is : b ≡ r).
-        let same : h ≡ k = reg_is k (sym here ∙ subst (λ n. home_of homes' n ≡ Reg k) is f) in
-        let l = before a k m u (sym (other a na) ∙ e) same in
-        inl (subst (λ n. (range_of ranges a).last < (range_of ranges n).first) (sym is) l))
-        (λ (nb : b ≡ r → ⊥). s.apart a b k m n ne u v (sym (other a na) ∙ e) (sym (other b nb) ∙ f)) (cases_eq b r))
-        (cases_eq a r);
-  }
 
 -- ---- all of them
 

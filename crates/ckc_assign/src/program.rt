@@ -6,6 +6,7 @@ ghost use Rattle.ckc_frame.specs.Meaning.{placed_detail};
 ghost use Rattle.ckc_frame.specs.WellFormed as frame;
 ghost use Rattle.ckc_tac.specs.Sizes.{program_size as tac_size};
 ghost use Rattle.ckc_assign.specs.Apart.{AreApart, KeepsLive};
+ghost use Rattle.ckc_assign.specs.Slots.{UsesFewSlots};
 ghost use Rattle.ckc_assign.specs.code.Assigned.{AreAssigned, IsAssigned};
 
 use crate::copies::copy_of;
@@ -19,9 +20,9 @@ use ckc_tac::{Tac, TacFunc};
 use std::alloc::{AllocError, Global};
 
 /// The program with a place for each register of each function, by linear scan over live ranges. Registers that are
-/// live at once never share a place, and a call keeps exactly what is live after it. The code, and with it the initial
-/// bytes, is as it was. The placed program does what the program does, calls, returns and stores to the data region
-/// included, in as many steps.
+/// live at once never share a place, a call keeps exactly what is live after it, and a register has a slot only if more
+/// than twelve ranges meet at some place of its own. The code, and with it the initial bytes, is as it was. The placed
+/// program does what the program does, calls, returns and stores to the data region included, in as many steps.
 pub fn assign(alloc: Global, t: &Tac) -> Result<Placed, AllocError>
     requires whole { tac.IsWellFormed t.now }
     requires few { tac.HasFewRegisters t.now }
@@ -29,6 +30,7 @@ pub fn assign(alloc: Global, t: &Tac) -> Result<Placed, AllocError>
     ensures whole { IfOk result (λ p. frame.IsWellFormed p) }
     ensures apart { IfOk result (λ p. All AreApart p.funcs) }
     ensures keeps { IfOk result (λ p. All KeepsLive p.funcs) }
+    ensures slots { IfOk result (λ p. All UsesFewSlots p.funcs) }
     ensures size { IfOk result (λ p. frame.program_size p ≡ tac_size t.now) }
     ensures follows { IfOk result
         (λ p. (input : List ℕ) → Follows (tac_detail t.now input) (placed_detail p input) 1) }

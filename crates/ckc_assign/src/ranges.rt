@@ -1,10 +1,10 @@
 //! The live ranges of registers. The places of a function are numbered in the order of blocks and operations, from 1:
 //! one in front of each operation and of each end of a block.
-ghost use Rattle.std.specs.Prelude.{◌≡◌, ◌||◌, ◌==◌, ◌<◌, ◌+◌, [], get_or, length, true, false, Some, OnOk, IfOk};
+ghost use Rattle.std.specs.Prelude.{◌≡◌, ◌||◌, ◌==◌, ◌<◌, ◌+◌, [], get_or, length, true, false, ℕ, Some, OnOk, IfOk};
 ghost use Rattle.std.specs.List.{list_any};
 ghost use Rattle.ckc_tac.specs.declared.code.TacFunc.{TacFunc};
 ghost use Rattle.ckc_flow.specs.Live.{AreExact, IsExact, is_register, reads, target_of};
-ghost use Rattle.ckc_assign.specs.code.Ranges.{Sees, SeesAll, SeesBlock, reach};
+ghost use Rattle.ckc_assign.specs.code.Ranges.{HasRange, PassesBlock, Sees, SeesAll, reach};
 
 use ckc_base::{Seq, sum};
 use ckc_flow::before_end;
@@ -40,6 +40,7 @@ fn see_all(
     requires live { AreExact f.now live.now }
     requires row { length row.old ≡ f.now.regs }
     requires ranges { length ranges.old ≡ f.now.regs }
+    requires unused { (r : ℕ) → HasRange ranges.old r → ⊥ }
     ensures { OnOk result (SeesAll f.now ranges.new) }
 {
     see_params(f.params, ranges);
@@ -65,7 +66,7 @@ fn see_block(
     ensures seen { OnOk result ((f : TacFunc) → AreExact f live.now → length row.old ≡ f.regs
         → IsExact f block.now.ops block.now.end (get_or live.now b [])
         → length ranges.old ≡ f.regs
-        → SeesBlock f block.now place ranges.old ranges.new) }
+        → PassesBlock f block.now place ranges.old ranges.new) }
 {
     see_row(live[b].as_slice(), place, ranges);
     let mut at = place;

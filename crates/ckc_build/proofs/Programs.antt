@@ -1,5 +1,5 @@
 -- The program that a text means.
-use Rattle.std.proofs.Common.{◌≡◌, ℕ, ◌+◌, ◌*◌, ◌≤◌, List, length, Result, Ok, Err, IfOk, sym, ap}
+use Rattle.std.proofs.Common.{◌≡◌, ℕ, ◌+◌, ◌*◌, ◌≤◌, List, length, Result, Ok, Err, IfOk, sym, ap, subst}
 use Rattle.ckc_base.specs.declared.fault.Fault.{Fault}
 use Rattle.ckc_base.specs.declared.fault.Fault.TheVariants as fault
 use Rattle.ckc_base.specs.Phases.{IsExact, Answers, Exact}
@@ -13,6 +13,7 @@ use Rattle.ckc_build_compile.specs.Compiled.{FollowsSource, machine_parts}
 use Rattle.ckc_build_compile.specs.Confined.{ConfinesStores, NeverFaults}
 use Rattle.ckc_build.specs.Meanings.{judging, elaborating, meanings}
 use Rattle.ckc_build.specs.Built.{IsImage, building}
+use Rattle.ckc_build.specs.Sizes.{HasShortCode}
 use Rattle.ckc_build.proofs.Chain.{judging_exact, exact_err}
 
 elaborating_exact : IsExact elaborating
@@ -51,4 +52,8 @@ module _ (text : List ℕ) where
       × ConfinesStores p (machine_parts made) × NeverFaults p (machine_parts made) × IsImage image (machine_parts made)
 
   pub built_of : (p : Program) (image : List ℕ) → Exact meanings text (Ok p) → IsMade p image → building.Makes text image
-  built_of p image x q = (machine_parts q.0, record { program = p; means = x.answers; follows = q.1; confined = q.3; faultless = q.4; small = q.2 }, q.5)
+  built_of p image x q = (machine_parts q.0, record { program = p; means = x.answers; follows = q.1; confined = q.3; faultless = q.4 }, q.5)
+
+  pub short_of : (p : Program) (image : List ℕ) → Exact meanings text (Ok p) → IsMade p image → HasShortCode text image
+  short_of p image x q =
+      (machine_parts q.0, q.5, λ other m. subst (λ z. length q.0.code ≤ 4 * (program_weight z + 5)) (meanings_exact.made_once text p other x.answers m) q.2)

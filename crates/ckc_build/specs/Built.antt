@@ -1,5 +1,5 @@
 -- The images of texts that have a meaning.
-use Rattle.std.specs.Prelude.{ℕ, ◌+◌, ◌*◌, ◌≤◌, List, length, Vec}
+use Rattle.std.specs.Prelude.{ℕ, List, Vec}
 use Rattle.std.specs.declared.alloc.Global.{Global}
 pub use Rattle.ckc_build_compile.specs.Compiled.{most_for_a_step}
 use Rattle.ckc_build_compile.specs.Confined.{ConfinesStores, NeverFaults}
@@ -10,7 +10,6 @@ use Rattle.ckc_image.specs.Image.{ImageOf}
 use Rattle.ckc_source.specs.Code.{Program}
 use Rattle.ckc_source.specs.LaidOut.{AreBytes}
 use Rattle.ckc_source.specs.Source.{source}
-use Rattle.ckc_checks_operands.specs.Weights.{program_weight}
 use Rattle.ckc_build.specs.Meanings.{HasMeaning, FirstFault}
 
 -- the bytes are an image of the parts
@@ -19,15 +18,13 @@ IsImage bytes parts = ImageOf bytes parts.entry parts.code parts.initial
 
 -- The parts are those of an image of a text: for every input of bytes its machine follows the meaning of the text,
 -- within so many instructions for each step and as many more. If the meaning is never stuck, each store lies in a
--- block, in a frame or in the heap word, or the meaning's step plans it, and no run of the machine is at a fault. Its
--- code has four bytes for each instruction that the program weighs, and for five more.
+-- block, in a frame or in the heap word, or the meaning's step plans it, and no run of the machine is at a fault.
 pub record Built (text : List ℕ) (parts : Parts) : Type 0 where
   pub program : Program
   pub means : HasMeaning text program
   pub follows : (input : List ℕ) → AreBytes input → Follows (source program input) (machine parts input) most_for_a_step
   pub confined : ConfinesStores program parts
   pub faultless : NeverFaults program parts
-  pub small : length parts.code ≤ 4 * (program_weight program + 5)
 
 -- From a text to an image of it, or to its first error. Which of its images comes is left open.
 abbrev pub building : Phase (List ℕ) (List ℕ)

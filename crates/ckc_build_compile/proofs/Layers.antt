@@ -1,14 +1,12 @@
 -- How the promises of the layers join.
-use Rattle.std.proofs.Common.{◌≡◌, ◌≢◌, ◌⊎◌, inl, inr, ℕ, ◌+◌, ◌≤◌, List, sym, subst, arith, lit≤}
+use Rattle.std.proofs.Common.{◌≡◌, ◌≢◌, ◌⊎◌, inl, inr, ℕ, ◌+◌, ◌≤◌, List, arith, lit≤}
 use Rattle.ckc_base.specs.Traces.{Event, Standing, Going, Ended, Stopped, Stuck, Fault, Showing}
 use Rattle.ckc_base.specs.Follows.{IsSafe, IsBorneOut, Follows}
 use Rattle.ckc_base.proofs.Following.{follows_trans}
 use Rattle.ckc_source.specs.Code as source
-use Rattle.ckc_source.specs.LaidOut.{AreBytes, IsLaidOut}
+use Rattle.ckc_source.specs.LaidOut.{AreBytes}
 use Rattle.ckc_source.specs.Source.{source}
-use Rattle.ckc_checks_operands.specs.Compilable.{IsCompilable}
-use Rattle.ckc_checks.specs.code.Inserted.{inserted}
-use Rattle.ckc_checks_follow.proofs.Follows.{core_follows, core_listed}
+use Rattle.ckc_checks_follow.specs.Followed.{IsFollowedByCore}
 use Rattle.ckc_core.specs.Code as core
 use Rattle.ckc_core.specs.Meaning.{core_detail, core_meaning}
 use Rattle.ckc_tac.specs.declared.code.Tac.{Tac}
@@ -18,17 +16,16 @@ use Rattle.ckc_frame.specs.declared.code.Placed.{Placed}
 use Rattle.ckc_frame.specs.Meaning.{placed_detail, placed_meaning}
 use Rattle.ckc_emit.specs.Promise.{FollowsPlaced, ListsStores}
 use Rattle.ckc_rv.specs.Machine.{Parts, machine}
+use Rattle.ckc_build_compile.specs.code.Layers.{HasCore}
 use Rattle.ckc_build_compile.specs.Confined.{ConfinesStores, NeverFaults}
 use Rattle.ckc_build_compile.proofs.Confining.{machine_listed}
 use Rattle.ckc_build_compile.proofs.Composed.{follows_detail, follows_within, all_bytes}
 
-pub lowered_follows : (p : source.Program) (k : core.Program) (t : Tac) → IsCompilable p → IsLaidOut p → k ≡ inserted p
+pub lowered_follows : (p : source.Program) (k : core.Program) (t : Tac) → IsFollowedByCore p k
     → ((input : List ℕ) → Follows (core_detail k input) (tac_detail t input) 4)
     → (input : List ℕ) → AreBytes input → Follows (source p input) (tac_meaning t input) 400004
-lowered_follows p k t form laid made lower input bytes =
-    let P : core.Program → Type 0 = λ x. Follows (source p input) (core_meaning x input) 100000 in
-    follows_detail (source p input) (core_detail k input) (tac_detail t input) 100000 4
-    (subst P (sym made) (core_follows p form laid input bytes)) (lower input)
+lowered_follows p k t insert lower input bytes =
+    follows_detail (source p input) (core_detail k input) (tac_detail t input) 100000 4 (insert input bytes) (lower input)
 
 pub placed_follows : (a : List ℕ → ℕ → Showing Event) (t : Tac) (q : Placed)
     → ((input : List ℕ) → AreBytes input → Follows (a input) (tac_meaning t input) 400004)
@@ -50,9 +47,14 @@ pub code_fits : (weight size : ℕ) → size ≤ weight → weight ≤ 4193275 �
 code_fits weight size h k = omega arith
 
 -- placed code follows core code in detail
-pub detail_follows : (k : core.Program) (t : Tac) (q : Placed) → ((input : List ℕ) → Follows (core_detail k input) (tac_detail t input) 4)
-    → ((input : List ℕ) → Follows (tac_detail t input) (placed_detail q input) 1) → (input : List ℕ) → Follows (core_detail k input) (placed_detail q input) 5
-detail_follows k t q lower assign input = follows_trans (core_detail k input) (tac_detail t input) (placed_detail q input) 4 1 (lower input) (assign input)
+pub has_core : (p : source.Program) (t : Tac) (q : Placed) → HasCore p (tac_detail t) 4
+    → ((input : List ℕ) → Follows (tac_detail t input) (placed_detail q input) 1) → HasCore p (placed_detail q) 5
+has_core p t q h assign = record {
+  core = h.core;
+  follows = h.follows;
+  stores = h.stores;
+  below = λ input. follows_trans (core_detail h.core input) (tac_detail t input) (placed_detail q input) 4 1 (h.below input) (assign input);
+}
 
 -- ---- what the machine of a program that is never stuck does
 
@@ -72,19 +74,19 @@ never_faults p parts c follows input bytes safe k =
     let b = borne_out (source p input) (machine parts input k) safe (f.back k) in
     b.1.safe
 
-pub confines_stores : (p : source.Program) (q : Placed) (parts : Parts) → IsCompilable p → IsLaidOut p
-    → ((input : List ℕ) → Follows (core_detail (inserted p) input) (placed_detail q input) 5) → ListsStores q parts → ConfinesStores p parts
-confines_stores p q parts form laid detail listed input bytes safe =
-    let core = core_follows p form laid input bytes in
-    let core_safe : (n : ℕ) → (core_detail (inserted p) input n).standing ≢ Stuck =
+pub confines_stores : (p : source.Program) (q : Placed) (parts : Parts) → HasCore p (placed_detail q) 5 → ListsStores q parts → ConfinesStores p parts
+confines_stores p q parts h listed input bytes safe =
+    let k = h.core in
+    let core = h.follows input bytes in
+    let core_safe : (n : ℕ) → (core_detail k input n).standing ≢ Stuck =
     λ n.
-    let b = borne_out (source p input) (core_meaning (inserted p) input n) safe (core.back n) in
-    safe_standing (core_detail (inserted p) input n).standing b.1.safe in
-    let d = detail input in
-    let follow : (j : ℕ) → (n : ℕ) × IsBorneOut (core_detail (inserted p) input n) (placed_detail q input j) =
-    λ j. borne_out (core_detail (inserted p) input) (placed_detail q input j) core_safe (d.back j) in
+    let b = borne_out (source p input) (core_meaning k input n) safe (core.back n) in
+    safe_standing (core_detail k input n).standing b.1.safe in
+    let d = h.below input in
+    let follow : (j : ℕ) → (n : ℕ) × IsBorneOut (core_detail k input n) (placed_detail q input j) =
+    λ j. borne_out (core_detail k input) (placed_detail q input j) core_safe (d.back j) in
     let placed_safe : (j : ℕ) → (placed_detail q input j).standing ≢ Stuck =
     λ j. let b = follow j in safe_standing (placed_detail q input j).standing b.1.safe in
-    machine_listed p (inserted p) q parts input (core_listed p form laid input bytes safe)
+    machine_listed p k q parts input (h.stores input bytes safe)
     (λ j. let b = follow j in (b.0, b.1.begins))
     (listed input (all_bytes input bytes) placed_safe)

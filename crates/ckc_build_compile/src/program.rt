@@ -7,8 +7,6 @@ ghost use Rattle.ckc_source.specs.LaidOut.{AreBytes, IsLaidOut};
 ghost use Rattle.ckc_source.specs.Source.{source};
 ghost use Rattle.ckc_checks_operands.specs.Compilable.{IsCompilable};
 ghost use Rattle.ckc_checks_operands.specs.Weights.{program_weight, most_weight};
-ghost use Rattle.ckc_checks.specs.code.Inserted.{inserted};
-ghost use Rattle.ckc_core.specs.Meaning.{core_detail};
 ghost use Rattle.ckc_tac.specs.Meaning.{tac_detail};
 ghost use Rattle.ckc_tac.specs.code.Meaning.{tac_meaning};
 ghost use Rattle.ckc_tac.specs.Sizes.{program_size as tac_size};
@@ -17,6 +15,7 @@ ghost use Rattle.ckc_frame.specs.Meaning.{placed_detail, placed_meaning};
 ghost use Rattle.ckc_frame.specs.WellFormed.{IsWellFormed, program_size};
 ghost use Rattle.ckc_emit.specs.CodeSize.{code_size};
 ghost use Rattle.ckc_emit.specs.Promise.{FollowsPlaced, ListsStores};
+ghost use Rattle.ckc_build_compile.specs.code.Layers.{HasCore};
 ghost use Rattle.ckc_build_compile.specs.Compiled.{FollowsSource, machine_parts};
 ghost use Rattle.ckc_build_compile.specs.Confined.{ConfinesStores, NeverFaults};
 
@@ -41,8 +40,7 @@ fn lowered(alloc: Global, p: &Program) -> Result<Tac, AllocError>
     ensures initial { IfOk result (λ t. length t.initial ≤ longest_statics) }
     ensures follows { IfOk result (λ t. (input : List ℕ) → AreBytes input →
         Follows (source (program_of p.now) input) (tac_meaning t input) 400004) }
-    ensures detail { IfOk result (λ t. (input : List ℕ) →
-        Follows (core_detail (inserted (program_of p.now)) input) (tac_detail t input) 4) }
+    ensures detail { IfOk result (λ t. HasCore (program_of p.now) (tac_detail t) 4) }
 {
     let c = insert(alloc, p)?;
     let t = lower(alloc, &c)?;
@@ -58,8 +56,7 @@ fn placed(alloc: Global, p: &Program) -> Result<Placed, AllocError>
     ensures initial { IfOk result (λ q. length q.initial ≤ longest_statics) }
     ensures follows { IfOk result (λ q. (input : List ℕ) → AreBytes input →
         Follows (source (program_of p.now) input) (placed_meaning q input) 400005) }
-    ensures detail { IfOk result (λ q. (input : List ℕ) →
-        Follows (core_detail (inserted (program_of p.now)) input) (placed_detail q input) 5) }
+    ensures detail { IfOk result (λ q. HasCore (program_of p.now) (placed_detail q) 5) }
 {
     let t = lowered(alloc, p)?;
     let q = assign(alloc, &t)?;

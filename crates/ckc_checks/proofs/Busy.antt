@@ -22,7 +22,7 @@ use Rattle.ckc_checks_operands.specs.Cases.{casts_one, is_bounded, takes_range}
 use Rattle.ckc_checks_operands.specs.code.Operands.{shifted, is_direct, is_zero, operand, keeps_index, held}
 use Rattle.ckc_checks_operands.specs.code.Pointers.{index_far, index_in, reads_signed, exact_test}
 use Rattle.ckc_core.specs.Loops.{does_something, idle_in, idle_loops}
-use Rattle.ckc_checks.specs.code.Inserted.{unless_direct, put_if, unless_zero, operation_code, exact_code, moved_code, bounded_code, judged, pointer_at, index_at, reached_code, with_range, pointer_code, trusted_range, value_code, operand_code, operands_code, marked, aim_code, guarded, stored_code, written, assigned, taken, fixed, allowed_code, written_there, right_assigned, valued, behind_planned, plans_code, writes_code, result_kept, statements, zeroed, function_code, inserted}
+use Rattle.ckc_checks_follow.specs.code.Inserted.{unless_direct, put_if, unless_zero, operation_code, exact_code, moved_code, bounded_code, judged, pointer_at, index_at, reached_code, with_range, pointer_code, trusted_range, value_code, operand_code, operands_code, marked, aim_code, guarded, stored_code, written, assigned, taken, fixed, allowed_code, written_there, right_assigned, valued, behind_planned, plans_code, writes_code, result_kept, statements, zeroed, function_code, inserted}
 
 -- no loop in it does nothing, and if the flag says so it does something itself
 pub record Fine (w : Bool) (c : Code) : Type 0 where

@@ -39,7 +39,7 @@ use Rattle.ckc_checks_operands.specs.Compilable.{IsBase, IsVariable, IsSmall, Is
 use Rattle.ckc_checks_operands.specs.Cases.{casts_one, is_bounded, is_ranged, takes_range}
 use Rattle.ckc_checks_operands.specs.code.Operands.{is_direct, operated, low_byte, kept_in, as_truth, is_zero, scaled, shifted, at_offset, element_of, place_at, held, keeps_index, direct, operand}
 use Rattle.ckc_checks_operands.specs.code.Pointers.{reads_signed, exact_test, base_at, amount_at, end_at, counted_end, range_end, upper_test, range_test, static_place, index_far, index_in, held_test, bounds_test, length_at, below_or_at, bytes_left, bytes_fit, cast_test}
-use Rattle.ckc_checks.specs.code.Inserted.{put_if, room_if, exact_code, bounded_code, judged, pointer_at, index_at, reached_place, operation_code, expr_code, operand_code, operands_code, operands, expr_room, operand_room, operands_room, is_narrow, marked, aim_code, target_count, guarded, stored_code, written, fixed, allowed_code, written_there, right_assigned, valued, behind_planned, plans_code, writes_code, bundle_code, target_room, guard_room, aimed_room, assigned_room, valued_room, bundle_room, result_in, result_kept, statements, room, zeroed, function_code, inserted, reached_element, access_room, value_room, with_range, no_range, pointer_code, tested_code, trusted_range, moved_range, value_code, access_code}
+use Rattle.ckc_checks_follow.specs.code.Inserted.{put_if, room_if, exact_code, bounded_code, judged, pointer_at, index_at, reached_place, operation_code, expr_code, operand_code, operands_code, operands, expr_room, operand_room, operands_room, is_narrow, marked, aim_code, target_count, guarded, stored_code, written, fixed, allowed_code, written_there, right_assigned, valued, behind_planned, plans_code, writes_code, bundle_code, target_room, guard_room, aimed_room, assigned_room, valued_room, bundle_room, result_in, result_kept, statements, room, zeroed, function_code, inserted, reached_element, access_room, value_room, with_range, no_range, pointer_code, tested_code, trusted_range, moved_range, value_code, access_code}
 
 -- an expression needs a temporary for its value
 pub expr_room_some : (e : source.Expr) → 1 ≤ expr_room e

@@ -9,7 +9,7 @@ use Rattle.ckc_source.specs.Code.{Program}
 use Rattle.ckc_source.specs.Blocks.{block_of, end_of}
 use Rattle.ckc_source.specs.LaidOut.{AreApart, IsLaidOut}
 use Rattle.ckc_checks_operands.specs.Compilable.{BeginsLow, IsCompilable}
-use Rattle.ckc_checks.specs.code.Inserted.{image, first_bytes}
+use Rattle.ckc_checks_follow.specs.code.Inserted.{image, first_bytes}
 
 image_length : (objects : List Object) (a low place : ℕ) → a ≤ low → a ≤ data_start + 4194304 → AreApart low (map block_of objects) place → All BeginsLow objects
     → a + length (image a objects) ≤ data_start + 4194304

@@ -9,7 +9,7 @@ use Rattle.ckc_checks_operands.specs.Compilable.{IsBounded, HasRange, IsJudged}
 use Rattle.ckc_checks_operands.specs.Cases.{casts_one, is_ranged, takes_range}
 use Rattle.ckc_checks_operands.specs.code.Operands.{keeps_index}
 use Rattle.ckc_checks_operands.specs.code.Pointers.{index_far}
-use Rattle.ckc_checks.specs.code.Inserted.{range_room, room_if, access_room, value_room}
+use Rattle.ckc_checks_follow.specs.code.Inserted.{range_room, room_if, access_room, value_room}
 
 pub far_one : (r : Bool) → 1 ≤ index_far r
 far_one true = omega arith

@@ -28,7 +28,7 @@ use Rattle.ckc_checks_operands.specs.Weights.{value_weight, expr_weight, access_
 use Rattle.ckc_checks_operands.specs.Cases.{casts_one, is_bounded, is_ranged, takes_range}
 use Rattle.ckc_checks_operands.specs.code.Operands.{is_direct, operated, low_byte, as_truth, is_zero, scaled, shifted, at_offset, element_of, place_at, held, keeps_index, direct, operand}
 use Rattle.ckc_checks_operands.specs.code.Pointers.{reads_signed, exact_test, base_at, amount_at, end_at, static_place, counted_end, range_end, range_test, index_far, index_in, held_test, bounds_test, length_at, below_or_at, bytes_left, bytes_fit, elements_fit}
-use Rattle.ckc_checks.specs.code.Inserted.{put_if, exact_code, moved_code, element_code, bounded_code, judged, reached_place, operation_code, expr_code, operand_code, operands_code, operands, reached_element, access_code, value_code, with_range, no_range, pointer_code, tested_code, trusted_range, moved_range}
+use Rattle.ckc_checks_follow.specs.code.Inserted.{put_if, exact_code, moved_code, element_code, bounded_code, judged, reached_place, operation_code, expr_code, operand_code, operands_code, operands, reached_element, access_code, value_code, with_range, no_range, pointer_code, tested_code, trusted_range, moved_range}
 use Rattle.ckc_source.specs.declared.expr.Integer.{Integer}
 use Rattle.ckc_source.specs.declared.expr.Integer.TheVariants as integer
 use Rattle.ckc_source.specs.declared.expr.Limits.{Limits}

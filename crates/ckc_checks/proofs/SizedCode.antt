@@ -19,7 +19,7 @@ use Rattle.ckc_checks_operands.specs.Weights.{expr_weight, target_weight, right_
 use Rattle.ckc_checks_operands.specs.code.Operands.{low_byte, kept_in, operand}
 use Rattle.ckc_checks_operands.specs.Cases.{is_ranged}
 use Rattle.ckc_checks_operands.specs.code.Pointers.{below_end, range_end}
-use Rattle.ckc_checks.specs.code.Inserted.{reached_place, operand_code, operands, is_narrow, marked, aim_code, target_count, guarded, stored_code, written, fixed, allowed_code, written_there, right_assigned, valued, behind_planned, plans_code, writes_code, result_in, result_kept, statements, zeroed, function_code, inserted}
+use Rattle.ckc_checks_follow.specs.code.Inserted.{reached_place, operand_code, operands, is_narrow, marked, aim_code, target_count, guarded, stored_code, written, fixed, allowed_code, written_there, right_assigned, valued, behind_planned, plans_code, writes_code, result_in, result_kept, statements, zeroed, function_code, inserted}
 use Rattle.ckc_checks.proofs.Sized.{set_sized, range_end_sized, expr_sized, access_sized, operand_sized, arguments_sized}
 
 -- ---- where zero alone may be written

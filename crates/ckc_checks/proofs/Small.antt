@@ -31,7 +31,7 @@ use Rattle.ckc_checks_operands.specs.Compilable.{IsCompilablePart, IsCompilableT
 use Rattle.ckc_checks_operands.specs.Cases.{casts_one, is_bounded, is_ranged, takes_range}
 use Rattle.ckc_checks_operands.specs.code.Operands.{is_direct, operated, low_byte, as_truth, is_zero, scaled, shifted, at_offset, element_of, place_at, held, keeps_index, direct, operand}
 use Rattle.ckc_checks_operands.specs.code.Pointers.{reads_signed, exact_test, base_at, amount_at, end_at, static_place, counted_end, range_end, range_test, index_far, index_in, held_test, bounds_test, length_at, below_or_at, bytes_left, bytes_fit, elements_fit, cast_test}
-use Rattle.ckc_checks.specs.code.Inserted.{put_if, room_if, exact_code, bounded_code, judged, pointer_at, index_at, reached_place, operation_code, expr_code, operand_code, operands_code, operands, operand_room, operands_room, is_narrow, marked, aim_code, target_count, guarded, stored_code, written, fixed, allowed_code, written_there, right_assigned, valued, behind_planned, plans_code, writes_code, aimed_room, assigned_room, valued_room, bundle_room, result_kept, statements, room, zeroed, function_code, inserted, reached_element, access_code, access_room, value_room, range_room, value_code, with_range, no_range, pointer_code, tested_code, trusted_range, moved_range}
+use Rattle.ckc_checks_follow.specs.code.Inserted.{put_if, room_if, exact_code, bounded_code, judged, pointer_at, index_at, reached_place, operation_code, expr_code, operand_code, operands_code, operands, operand_room, operands_room, is_narrow, marked, aim_code, target_count, guarded, stored_code, written, fixed, allowed_code, written_there, right_assigned, valued, behind_planned, plans_code, writes_code, aimed_room, assigned_room, valued_room, bundle_room, result_kept, statements, room, zeroed, function_code, inserted, reached_element, access_code, access_room, value_room, range_room, value_code, with_range, no_range, pointer_code, tested_code, trusted_range, moved_range}
 use Rattle.ckc_source.specs.declared.expr.Integer.{Integer}
 use Rattle.ckc_source.specs.declared.expr.Integer.TheVariants as integer
 use Rattle.ckc_source.specs.declared.expr.Limits.{Limits}

@@ -7,7 +7,7 @@ use Rattle.ckc_source.specs.declared.expr.Through.TheVariants.{Named, Raw, One, 
 use Rattle.ckc_source.specs.Code.{Expr, Number, Local, Limited, Array, Load, Member, Address, Moved, Added, Binary, And, Or, Choice, Narrow, Bare, Tested, Trusted, Target, Nothing, Variable, Memory, Right, Value, Fresh, Code, End, Assign, Bundle, Get, Put, Call, If, Loop, Break, Continue, Return, Check, Function, Program}
 use Rattle.ckc_core.specs.Sizes.{program_size}
 use Rattle.ckc_checks_operands.specs.Cases.{casts_one, is_ranged, takes_range}
-use Rattle.ckc_checks.specs.code.Inserted.{inserted}
+use Rattle.ckc_checks_follow.specs.code.Inserted.{inserted}
 use Rattle.ckc_checks_operands.specs.Compilable.{element_nodes, access_nodes, shift_nodes, index_nodes, range_nodes, value_nodes, expr_nodes, exprs_nodes, target_nodes, right_nodes, assigns_nodes, code_nodes, function_nodes, program_nodes}
 use Rattle.ckc_checks_operands.specs.Weights.{value_weight, expr_weight, arguments_weight, target_weight, right_weight, assigns_weight, code_weight, function_weight, program_weight}
 use Rattle.ckc_checks.proofs.SizedCode.{inserted_weighed}

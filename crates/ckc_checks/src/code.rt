@@ -8,7 +8,7 @@ ghost use Rattle.ckc_base.specs.declared.arithmetic.Width.TheVariants.{Word};
 ghost use Rattle.ckc_checks_operands.specs.code.Operands.{as_truth, at_offset, low_byte, operated, held, keeps_index, place_at, operand};
 ghost use Rattle.ckc_checks_operands.specs.Cases.{is_bounded};
 ghost use Rattle.ckc_checks_operands.specs.code.Pointers.{index_in, length_at, end_at};
-ghost use Rattle.ckc_checks.specs.code.Inserted.{divide_check, operation_code, exact_code, moved_code, element_code, bounded_code, judged, pointer_at, index_at, reached_element, reached_place, with_range, no_range, pointer_code, tested_code, trusted_range, moved_range, access_code};
+ghost use Rattle.ckc_checks_follow.specs.code.Inserted.{divide_check, operation_code, exact_code, moved_code, element_code, bounded_code, judged, pointer_at, index_at, reached_element, reached_place, with_range, no_range, pointer_code, tested_code, trusted_range, moved_range, access_code};
 ghost use Rattle.ckc_checks.specs.code.Building.{behind, reached_value, value_code_if, expr_code_if};
 
 use ckc_base::{BinOp, Boxed, Check, Pos, Seq, Width, sum};

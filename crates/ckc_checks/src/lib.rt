@@ -2,8 +2,10 @@
 #![tactic(auto)]
 
 mod code;
+mod laws;
 mod program;
 mod rooms;
 mod statements;
 
+pub use laws::checks_stay;
 pub use program::insert;

@@ -13,7 +13,9 @@ ghost use Rattle.ckc_checks_operands.specs.Weights.{program_weight};
 ghost use Rattle.ckc_source.specs.LaidOut.{IsLaidOut};
 ghost use Rattle.ckc_source.specs.Blocks.{block_of, end_of, place_behind, first_place};
 ghost use Rattle.ckc_source.specs.Code.{function_of as source_function, program_of as source_program};
-ghost use Rattle.ckc_checks.specs.code.Inserted.{zeroed, function_code, image, word_bytes, first_bytes, inserted};
+ghost use Rattle.ckc_checks_follow.specs.code.Inserted.{zeroed, function_code, image, word_bytes, first_bytes, inserted};
+ghost use Rattle.ckc_checks_follow.specs.Followed.{IsFollowedByCore};
+ghost use Rattle.ckc_checks_follow.specs.Stores.{ListsStores};
 ghost use Rattle.ckc_checks.specs.code.Building.{behind};
 
 use crate::code::{front, in_order, nothing};
@@ -176,6 +178,12 @@ pub fn insert(alloc: Global, p: &Program) -> Result<Core, AllocError>
     requires form { IsCompilable (source_program p.now) }
     requires laid { IsLaidOut (source_program p.now) }
     ensures code { IfOk result (λ c. core_program c ≡ inserted (source_program p.now)) }
+
+    // it reads and puts what the program does, and ends or stops where that does
+    ensures follows { IfOk result (λ c. IsFollowedByCore (source_program p.now) (core_program c)) }
+
+    // it stores only in the program's blocks, in the heap word, and where the program writes
+    ensures stores { IfOk result (λ c. ListsStores (source_program p.now) (core_program c)) }
     ensures formed { IfOk result (λ c. IsWellFormed (core_program c)) }
     ensures limits { IfOk result (λ c. IsWithinLimits (core_program c)) }
 

@@ -2,7 +2,7 @@
 
 ghost use Rattle.std.specs.Prelude.{◌≡◌, ◌+◌, max, map, IfOk, if◌then◌else◌, false};
 ghost use Rattle.ckc_source.specs.Code.{code_of, expr_of, target_of, right_of, assign_of};
-ghost use Rattle.ckc_checks.specs.code.Inserted.{expr_room, operand_room, operands_room, target_count, target_room, guard_room, aimed_room, assigned_room, valued_room, bundle_room, room, range_room};
+ghost use Rattle.ckc_checks_follow.specs.code.Inserted.{expr_room, operand_room, operands_room, target_count, target_room, guard_room, aimed_room, assigned_room, valued_room, bundle_room, room, range_room};
 ghost use Rattle.ckc_checks.specs.code.Building.{value_room_if};
 
 use ckc_base::sum;

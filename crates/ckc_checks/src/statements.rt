@@ -4,7 +4,7 @@ ghost use Rattle.std.specs.Prelude.{◌≡◌, ◌+◌, true, false, map, IfOk, 
 ghost use Rattle.ckc_core.specs.Code.{Expr, Code, code_of, expr_of};
 ghost use Rattle.ckc_source.specs.Code.{expr_of as source_of, target_of, right_of, assign_of, code_of as source_code};
 ghost use Rattle.ckc_checks_operands.specs.code.Operands.{low_byte, operand};
-ghost use Rattle.ckc_checks.specs.code.Inserted.{operands, operands_code, is_narrow, marked, aim_code, target_count, guarded, stored_code, written, operand_used, assigned, taken, fixed, allowed_code, written_there, right_assigned, valued, planned_code, behind_planned, plans_code, writes_code, bundle_code, result_in, result_kept, statements};
+ghost use Rattle.ckc_checks_follow.specs.code.Inserted.{operands, operands_code, is_narrow, marked, aim_code, target_count, guarded, stored_code, written, operand_used, assigned, taken, fixed, allowed_code, written_there, right_assigned, valued, planned_code, behind_planned, plans_code, writes_code, bundle_code, result_in, result_kept, statements};
 ghost use Rattle.ckc_checks.specs.code.Building.{behind, expr_code_if, get_code, put_code, call_code, branch_code, loop_code, return_code, check_code};
 
 use crate::code::{expr, fork, front, in_order, nothing, place, reach};

@@ -28,7 +28,7 @@ use Rattle.ckc_core.specs.Meaning.{Next, value_of, nodes, all_nodes, core_step, 
 use Rattle.ckc_core.specs.Meaning as C
 use Rattle.ckc_checks_operands.specs.Compilable.{IsCompilableExpr, IsCompilablePart, IsCompilableTarget, IsCompilableKept, IsCompilableFunction, HasParams, expr_nodes, exprs_nodes, code_nodes}
 use Rattle.ckc_checks_operands.specs.code.Operands.{low_byte, operand}
-use Rattle.ckc_checks.specs.code.Inserted.{operand_used, operand_code, aim_code, target_count, expr_code, operands_code, operands, is_narrow, written, result_in, result_kept, statements, function_code}
+use Rattle.ckc_checks_follow.specs.code.Inserted.{operand_used, operand_code, aim_code, target_count, expr_code, operands_code, operands, is_narrow, written, result_in, result_kept, statements, function_code}
 use Rattle.ckc_checks_follow.proofs.Paths.{Quiet, Path, path_by, looser_ends, IsQuiet, no_path}
 use Rattle.ckc_checks_follow.proofs.Running.{at, by_pass, by_fail, by_if}
 use Rattle.ckc_checks_follow.specs.Stores.{next_byte}

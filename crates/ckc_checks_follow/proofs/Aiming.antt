@@ -15,7 +15,7 @@ use Rattle.ckc_source.specs.Steps.{terminator_at, aims_at, aimed}
 use Rattle.ckc_core.specs.Code.{Code, Function}
 use Rattle.ckc_core.specs.Meaning.{Rest, Caller, value_of}
 use Rattle.ckc_checks_operands.specs.Compilable.{IsCompilableTarget}
-use Rattle.ckc_checks.specs.code.Inserted.{marked, reached_place, aim_code, target_count}
+use Rattle.ckc_checks_follow.specs.code.Inserted.{marked, reached_place, aim_code, target_count}
 use Rattle.ckc_checks_follow.proofs.Paths.{no_quiet}
 use Rattle.ckc_checks_follow.proofs.Running.{at}
 use Rattle.ckc_checks_follow.proofs.Values.{Agree, Sees}

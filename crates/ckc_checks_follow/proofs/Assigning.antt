@@ -21,7 +21,7 @@ use Rattle.ckc_core.specs.Meaning.{nodes}
 use Rattle.ckc_core.specs.Meaning as C
 use Rattle.ckc_checks_operands.specs.Compilable.{target_nodes, expr_nodes, IsCompilableExpr, IsCompilableTarget, IsCompilableFunction}
 use Rattle.ckc_checks_operands.specs.code.Operands.{low_byte, operand}
-use Rattle.ckc_checks.specs.code.Inserted.{operand_used, operand_code, aim_code, target_count, is_narrow, written, assigned, statements}
+use Rattle.ckc_checks_follow.specs.code.Inserted.{operand_used, operand_code, aim_code, target_count, is_narrow, written, assigned, statements}
 use Rattle.ckc_checks_follow.specs.Stores.{next_byte}
 use Rattle.ckc_checks_follow.proofs.Paths.{IsQuiet, no_path}
 use Rattle.ckc_checks_follow.proofs.Running.{at}

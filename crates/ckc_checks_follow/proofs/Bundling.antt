@@ -27,7 +27,7 @@ use Rattle.ckc_core.specs.Meaning.{value_of, nodes, core_step, goes_by}
 use Rattle.ckc_core.specs.Meaning as C
 use Rattle.ckc_checks_operands.specs.Compilable.{target_nodes, right_nodes, assigns_nodes, expr_nodes, IsCompilableExpr, IsCompilableTarget, IsCompilableRight, IsCompilableAssign, IsCompilableFunction}
 use Rattle.ckc_checks_operands.specs.code.Operands.{kept_in, operand}
-use Rattle.ckc_checks.specs.code.Inserted.{reached_place, expr_code, aim_code, target_count, guarded, fixed, allowed_code, taken, written_there, valued, planned_code, behind_planned, plans_code, writes_code, bundle_code, statements}
+use Rattle.ckc_checks_follow.specs.code.Inserted.{reached_place, expr_code, aim_code, target_count, guarded, fixed, allowed_code, taken, written_there, valued, planned_code, behind_planned, plans_code, writes_code, bundle_code, statements}
 use Rattle.ckc_checks_follow.proofs.Paths.{Quiet, no_quiet, then_quiet, then_quiet_ends, quiet_by, Path, path_by, IsQuiet, no_path}
 use Rattle.ckc_checks_follow.proofs.Running.{Runs, then_runs, at, by_set}
 use Rattle.ckc_checks_follow.proofs.Flat.{allocated_same, stored_same}

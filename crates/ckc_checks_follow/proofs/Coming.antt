@@ -18,7 +18,7 @@ use Rattle.ckc_core.specs.Code.{Expr, Local, Code, Set, Check, Function}
 use Rattle.ckc_core.specs.Meaning.{Rest, State, Caller, value_of, nodes}
 use Rattle.ckc_checks_operands.specs.Compilable.{IsCompilableExpr, HasRange, expr_nodes}
 use Rattle.ckc_checks_operands.specs.code.Operands.{is_direct, operated, held, keeps_index, direct}
-use Rattle.ckc_checks.specs.code.Inserted.{put_if, value_code, expr_code}
+use Rattle.ckc_checks_follow.specs.code.Inserted.{put_if, value_code, expr_code}
 use Rattle.ckc_checks_follow.proofs.Paths.{no_quiet}
 use Rattle.ckc_checks_follow.proofs.Running.{Runs, first_runs, later_runs, then_runs, at, by_set, by_pass, by_fail}
 use Rattle.ckc_checks_follow.proofs.Bounded.{GivesWord}

@@ -26,7 +26,7 @@ use Rattle.ckc_checks_operands.specs.Compilable.{element_nodes, access_nodes, sh
 use Rattle.ckc_checks_operands.specs.Cases.{casts_one, is_bounded, is_ranged, takes_range}
 use Rattle.ckc_checks_operands.specs.code.Operands.{is_direct, operated, is_zero, scaled, shifted, at_offset, element_of, place_at, direct, operand, held, keeps_index}
 use Rattle.ckc_checks_operands.specs.code.Pointers.{exact_test, base_at, amount_at, end_at, static_place, counted_end, range_end, range_test, index_in, held_test, length_at, below_or_at, bytes_left, bytes_fit, elements_fit, cast_test}
-use Rattle.ckc_checks.specs.code.Inserted.{operands, pointer_at, index_at, reached_element, reached_place}
+use Rattle.ckc_checks_follow.specs.code.Inserted.{operands, pointer_at, index_at, reached_element, reached_place}
 
 -- ---- values that are written
 

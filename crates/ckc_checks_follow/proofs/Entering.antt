@@ -33,7 +33,7 @@ use Rattle.ckc_core.specs.Meaning.{Stop, core_step, core_system, extra_steps}
 use Rattle.ckc_core.specs.Meaning as C
 use Rattle.ckc_checks_operands.specs.Compilable.{HasParams, IsCompilableFunction, IsCompilableKept}
 use Rattle.ckc_checks_operands.specs.code.Operands.{low_byte}
-use Rattle.ckc_checks.specs.code.Inserted.{statements, result_in, result_kept, zeroed, function_code}
+use Rattle.ckc_checks_follow.specs.code.Inserted.{statements, result_in, result_kept, zeroed, function_code}
 use Rattle.ckc_checks_follow.proofs.Paths.{Quiet, no_quiet, then_quiet, ends_by, looser, IsQuiet, stays}
 use Rattle.ckc_checks_follow.proofs.Running.{at, by_set}
 use Rattle.ckc_checks_follow.proofs.Flat.{stored_lies}

@@ -20,7 +20,7 @@ use Rattle.ckc_core.specs.Meaning.{Rest, State, Caller, value_of, values_of, nod
 use Rattle.ckc_checks_operands.specs.Compilable.{IsAccess, IsCompilableExpr, IsCompilablePart, IsCast, index_nodes, value_nodes, expr_nodes, exprs_nodes}
 use Rattle.ckc_checks_operands.specs.Cases.{is_one, is_single, casts_one}
 use Rattle.ckc_checks_operands.specs.code.Operands.{held, keeps_index, operand}
-use Rattle.ckc_checks.specs.code.Inserted.{put_if, tested_code, no_range, value_code, access_code, expr_code, operand_code, operands_code, operands}
+use Rattle.ckc_checks_follow.specs.code.Inserted.{put_if, tested_code, no_range, value_code, access_code, expr_code, operand_code, operands_code, operands}
 use Rattle.ckc_checks_follow.proofs.Paths.{no_quiet}
 use Rattle.ckc_checks_follow.proofs.Running.{at}
 use Rattle.ckc_checks_follow.proofs.Bounded.{AreSmall, small_cons}

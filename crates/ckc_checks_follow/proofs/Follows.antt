@@ -31,7 +31,7 @@ use Rattle.ckc_core.specs.Code.{Code, End, Function}
 use Rattle.ckc_core.specs.Meaning.{Stop, Body, core_step, core_system, core_meaning, body_of}
 use Rattle.ckc_core.specs.Meaning as C
 use Rattle.ckc_checks_operands.specs.Compilable.{IsCompilableFunction, IsCompilable, HasParams}
-use Rattle.ckc_checks.specs.code.Inserted.{statements, function_code, inserted}
+use Rattle.ckc_checks_follow.specs.code.Inserted.{statements, function_code, inserted}
 use Rattle.ckc_checks_follow.specs.Stores.{plans, IsOf, IsAmong, IsPlanned, MayDo, AreLevel}
 use Rattle.ckc_checks_follow.proofs.Paths.{no_quiet, IsQuiet}
 use Rattle.ckc_checks_follow.proofs.Running.{at}

@@ -26,7 +26,7 @@ use Rattle.ckc_checks_operands.specs.Compilable.{guard_nodes}
 use Rattle.ckc_checks_operands.specs.code.Operands.{kept_in, at_offset, element_of, held, keeps_index}
 use Rattle.ckc_checks_operands.specs.Cases.{is_bounded, is_ranged, takes_range}
 use Rattle.ckc_checks_operands.specs.code.Pointers.{index_far, below_end}
-use Rattle.ckc_checks.specs.code.Inserted.{marked, guarded}
+use Rattle.ckc_checks_follow.specs.code.Inserted.{marked, guarded}
 use Rattle.ckc_checks_follow.proofs.Paths.{Quiet, no_quiet}
 use Rattle.ckc_checks_follow.proofs.Running.{Runs, at, by_set, by_pass, by_fail}
 use Rattle.ckc_checks_follow.proofs.Values.{Sees, low_value, at_offset_value}

@@ -30,7 +30,7 @@ use Rattle.ckc_checks_operands.specs.Compilable.{IsZero, IsJudged, IsAccess, IsC
 use Rattle.ckc_checks_operands.specs.code.Operands.{operated, is_zero, shifted, element_of, held, keeps_index, operand}
 use Rattle.ckc_checks_operands.specs.Cases.{is_bounded, is_ranged, takes_range}
 use Rattle.ckc_checks_operands.specs.code.Pointers.{below_end, index_far, held_test, reads_signed, exact_test, range_test}
-use Rattle.ckc_checks.specs.code.Inserted.{put_if, reached_element, value_code, access_code, element_code, judged, reached_place, operation_code, expr_code}
+use Rattle.ckc_checks_follow.specs.code.Inserted.{put_if, reached_element, value_code, access_code, element_code, judged, reached_place, operation_code, expr_code}
 use Rattle.ckc_checks_follow.proofs.Paths.{no_quiet}
 use Rattle.ckc_checks_follow.proofs.Running.{first_runs, at, by_set, by_pass, by_fail}
 use Rattle.ckc_checks_follow.proofs.Bounded.{GivesWord}

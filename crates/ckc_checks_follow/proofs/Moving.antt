@@ -31,7 +31,7 @@ use Rattle.ckc_core.specs.Meaning.{Rest, Next, State, Caller, value_of, both, no
 use Rattle.ckc_checks_operands.specs.Compilable.{IsCompilableExpr, IsChecked, shift_nodes, value_nodes, expr_nodes}
 use Rattle.ckc_checks_operands.specs.code.Operands.{low_byte, as_truth, is_zero, shifted, held, keeps_index, operand}
 use Rattle.ckc_checks_operands.specs.code.Pointers.{reads_signed, exact_test}
-use Rattle.ckc_checks.specs.code.Inserted.{value_code, unless_zero, exact_code, moved_code, reached_place, expr_code, operand_code}
+use Rattle.ckc_checks_follow.specs.code.Inserted.{value_code, unless_zero, exact_code, moved_code, reached_place, expr_code, operand_code}
 use Rattle.ckc_checks_follow.proofs.Paths.{Quiet, no_quiet, then_quiet}
 use Rattle.ckc_checks_follow.proofs.Running.{first_runs, at, by_set, by_pass, by_fail, by_if, by_end}
 use Rattle.ckc_checks_follow.proofs.Bounded.{Gives, reads_number}

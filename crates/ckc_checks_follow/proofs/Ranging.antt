@@ -30,7 +30,7 @@ use Rattle.ckc_core.specs.Meaning.{Rest, State, Caller, value_of, both, nodes}
 use Rattle.ckc_checks_operands.specs.Compilable.{IsSmall, IsCount, IsCompilableExpr, HasRange, index_nodes, value_nodes, expr_nodes}
 use Rattle.ckc_checks_operands.specs.code.Operands.{scaled, at_offset, held, keeps_index, operand}
 use Rattle.ckc_checks_operands.specs.code.Pointers.{end_at, length_at, cast_test}
-use Rattle.ckc_checks.specs.code.Inserted.{put_if, tested_code, no_range, reached_element, value_code, moved_code, reached_place, expr_code, operand_code}
+use Rattle.ckc_checks_follow.specs.code.Inserted.{put_if, tested_code, no_range, reached_element, value_code, moved_code, reached_place, expr_code, operand_code}
 use Rattle.ckc_checks_follow.proofs.Paths.{then_quiet}
 use Rattle.ckc_checks_follow.proofs.Running.{first_runs, later_runs, at, by_set, by_pass, by_fail}
 use Rattle.ckc_checks_follow.proofs.Bounded.{Gives, zero_of, reads_number}

@@ -15,7 +15,7 @@ use Rattle.ckc_core.specs.Meaning.{Stop, Next, Body, Step, core_system}
 use Rattle.ckc_core.specs.Meaning as C
 use Rattle.ckc_checks_operands.specs.Compilable.{IsCompilableCode, IsCompilableKept, code_nodes}
 use Rattle.ckc_checks_operands.specs.code.Operands.{operand}
-use Rattle.ckc_checks.specs.code.Inserted.{operand_code, statements, result_in, result_kept}
+use Rattle.ckc_checks_follow.specs.code.Inserted.{operand_code, statements, result_in, result_kept}
 use Rattle.ckc_checks_follow.specs.Stores.{IsHeapWord, AreLevel}
 use Rattle.ckc_checks_follow.proofs.Flat.{SameMemory}
 use Rattle.ckc_checks_follow.proofs.Values.{Agree}

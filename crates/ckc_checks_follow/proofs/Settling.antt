@@ -7,7 +7,7 @@ use Rattle.ckc_source.specs.States.{Work, Rest, Turn, Leaving, Ended, Broken, Co
 use Rattle.ckc_core.specs.Code.{Code, End, Break, Continue, Function}
 use Rattle.ckc_core.specs.Meaning.{Stop, Next, Body, Step, core_step, extra_steps, ends, breaks, continues, goes_to, runs}
 use Rattle.ckc_core.specs.Meaning as C
-use Rattle.ckc_checks.specs.code.Inserted.{statements}
+use Rattle.ckc_checks_follow.specs.code.Inserted.{statements}
 use Rattle.ckc_checks_follow.proofs.Paths.{Quiet, no_quiet, then_quiet, quiet_by}
 use Rattle.ckc_checks_follow.proofs.Relation.{turn_code, Stands, IsLoop, Behind, Front}
 

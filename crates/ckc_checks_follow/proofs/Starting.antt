@@ -7,7 +7,7 @@ use Rattle.ckc_base.proofs.Travelling.{below_or_from}
 use Rattle.ckc_source.specs.declared.program.Object.{Object}
 use Rattle.ckc_source.specs.Blocks.{Block, block_of, end_of, place_behind, first_place}
 use Rattle.ckc_source.specs.LaidOut.{AreApart, AreBytes, HoldBytes}
-use Rattle.ckc_checks.specs.code.Inserted.{image, word_bytes, first_bytes}
+use Rattle.ckc_checks_follow.specs.code.Inserted.{image, word_bytes, first_bytes}
 use Rattle.ckc_checks_follow.proofs.Bytes.{Spells, SameBytes, joined, none_left, apart_ordered, in_data}
 use Rattle.ckc_checks_follow.proofs.Flat.{HoldsBytes, SameMemory}
 

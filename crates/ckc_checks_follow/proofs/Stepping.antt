@@ -18,7 +18,7 @@ use Rattle.ckc_core.specs.Meaning.{Next, Body, nodes, core_step}
 use Rattle.ckc_core.specs.Meaning as C
 use Rattle.ckc_checks_operands.specs.Compilable.{IsCompilableAssign, IsCompilableFunction, expr_nodes}
 use Rattle.ckc_checks_operands.specs.code.Operands.{operand}
-use Rattle.ckc_checks.specs.code.Inserted.{statements}
+use Rattle.ckc_checks_follow.specs.code.Inserted.{statements}
 use Rattle.ckc_checks_follow.specs.Stores.{plans}
 use Rattle.ckc_checks_follow.proofs.Paths.{Quiet, then_quiet, quiet_by, IsQuiet}
 use Rattle.ckc_checks_follow.proofs.Running.{at, by_if, by_end, by_loop}

@@ -35,7 +35,7 @@ use Rattle.ckc_core.specs.Meaning.{value_of, nodes, core_step, core_system, goes
 use Rattle.ckc_core.specs.Meaning as C
 use Rattle.ckc_checks_operands.specs.Compilable.{IsCompilableTarget}
 use Rattle.ckc_checks_operands.specs.code.Operands.{kept_in}
-use Rattle.ckc_checks.specs.code.Inserted.{reached_place, target_count, guarded, stored_code, written, statements}
+use Rattle.ckc_checks_follow.specs.code.Inserted.{reached_place, target_count, guarded, stored_code, written, statements}
 use Rattle.ckc_checks_follow.proofs.Paths.{Quiet, QuietEnds, Path, PathEnds, then_path, then_ends, path_by, looser, looser_ends, IsQuiet, no_path, IsLevel, keeps_behind}
 use Rattle.ckc_checks_follow.proofs.Running.{Runs, at, by_set}
 use Rattle.ckc_checks_follow.proofs.Flat.{stored_same}

@@ -18,7 +18,7 @@ use Rattle.ckc_source.specs.States.{Work, Rest, State, active, settled}
 use Rattle.ckc_source.specs.Steps.{store_of, aimed, Write, planned, at_work}
 use Rattle.ckc_core.specs.Meaning.{core_system}
 use Rattle.ckc_core.specs.Meaning as core
-use Rattle.ckc_checks.specs.code.Inserted.{inserted}
+use Rattle.ckc_core.specs.Code as code
 
 -- the value of `getchar`
 abbrev pub next_byte : List ℕ → ℕ
@@ -71,8 +71,8 @@ AreLevel s t = active s ≡ core.active t
 
 -- With an input with which the program is never stuck, the steps of core code can be listed beside those of the
 -- program: input and output are the same, as many calls are active, and each store is one that may be made.
-abbrev pub ListsStores : Program → Type 0
-ListsStores p =
+abbrev pub ListsStores : Program → code.Program → Type 0
+ListsStores p c =
     (input : List ℕ) → AreBytes input → ((n : ℕ) → (source p input n).standing ≢ Stuck) → (k : ℕ)
-    → Listing (source_system p) (core_system (inserted p).functions) (λ (e : Event). e ∷ []) plain_events
-    (MayDo p) AreLevel (first_state p input) (core.first_state (inserted p) input) k
+    → Listing (source_system p) (core_system c.functions) (λ (e : Event). e ∷ []) plain_events
+    (MayDo p) AreLevel (first_state p input) (core.first_state c input) k

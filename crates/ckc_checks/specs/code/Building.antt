@@ -7,7 +7,7 @@ use Rattle.ckc_core.specs.Code.{Const, Local, Load, Code, End, Set, Get, Put, Ca
 use Rattle.ckc_source.specs.declared.stmt.Kept.{Kept}
 use Rattle.ckc_source.specs.Code as source
 use Rattle.ckc_checks_operands.specs.code.Operands.{operand, low_byte}
-use Rattle.ckc_checks.specs.code.Inserted.{put_if, room_if, reached_element, reached_place, with_range, no_range, pointer_code, value_code, value_room, expr_code, operand_code, operands_code, operands, operand_used, aim_code, target_count, written, result_in, result_kept}
+use Rattle.ckc_checks_follow.specs.code.Inserted.{put_if, room_if, reached_element, reached_place, with_range, no_range, pointer_code, value_code, value_room, expr_code, operand_code, operands_code, operands, operand_used, aim_code, target_count, written, result_in, result_kept}
 
 -- the code of statements from the last one to the first
 unfoldable pub behind : List CoreStmt → Code

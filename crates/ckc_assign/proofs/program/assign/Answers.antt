@@ -19,6 +19,7 @@ returns c =
       whole = whole_is t p e c.requires.whole a;
       apart = a.apart;
       keeps = a.keeps;
+      slots = a.slots;
       size = size_is t p e;
       follows = follows_of t p e c.requires.whole a;
     }

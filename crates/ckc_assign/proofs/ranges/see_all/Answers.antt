@@ -1,14 +1,14 @@
 use Rattle.std.proofs.Common.{◌≡◌, ◌∙◌, length, refl, ap, subst, Some, arith}
 use Rattle.std.specs.List.{slice_get}
 use Rattle.std.proofs.lemmas.Option.{slice_get_read}
-use Rattle.ckc_assign.specs.code.Ranges.{SeesBlock, SeesFirst}
+use Rattle.ckc_assign.specs.code.Ranges.{PassesBlock, SeesFirst}
 use Rattle.ckc_assign.proofs.Growing.{first_none, first_more, place_more}
 use Rattle.ckc_assign.proofs.ranges.see_all.Goals as goal
 
 pub loop-b-init : goal.loop-b-init
 loop-b-init c = record {
   place = refl;
-  seen = first_none c.args.f.now c.args.ranges.now c.see_params.new.ranges c.requires.ranges c.see_params.ensures;
+  seen = first_none c.args.f.now c.args.ranges.now c.see_params.new.ranges c.requires.ranges c.requires.unused c.see_params.ensures;
 }
 
 pub loop-b-preserved : goal.loop-b-preserved
@@ -24,7 +24,7 @@ loop-b-preserved c =
     record {
       place = c.in_ok-place.ensures.place ∙ place_more f b block c.loop-b.place at c.loop-b.invariant.place;
       seen = first_more f b block c.loop-b.ranges c.see_block.new.ranges at c.loop-b.invariant.seen
-          (subst (λ n. SeesBlock f block n c.loop-b.ranges c.see_block.new.ranges) c.loop-b.invariant.place seen);
+          (subst (λ n. PassesBlock f block n c.loop-b.ranges c.see_block.new.ranges) c.loop-b.invariant.place seen);
     }
 
 pub returns : goal.returns

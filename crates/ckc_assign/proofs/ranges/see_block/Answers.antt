@@ -28,7 +28,7 @@ loop-op-preserved c =
       seen = ops_more ops i c.args.place c.loop-op.at c.in_ok-next.next op c.see_row.new.ranges c.loop-op.ranges c.see_reads.new.ranges c.see_target.new.ranges
           c.loop-op.invariant.place next is c.loop-op.invariant.seen c.see_reads.ensures
           (sees_as c.in_ok-next.next (λ r. c.target.result ≡ Some r) (λ r. target_of op ≡ Some r) c.see_reads.new.ranges c.see_target.new.ranges c.see_target.ensures
-          (λ r e. c.target.ensures ∙ e));
+          (λ r e. c.target.ensures ∙ e) (λ r e. sym c.target.ensures ∙ e));
     }
 
 pub returns-clause-seen : goal.returns-clause-seen

@@ -21,7 +21,7 @@ loop-r-preserved c =
           let h = w.if-r-ranges.true in
           let e = w.ranges-is ∙ ap (set old r) (w.with_place.ensures ∙ ap (λ x. reach x place) (get_or_default old r zero_range unused h)) in
           subst (Sees (λ q. (r ≡ q) × (get_or row q false ≡ true)) place old) (sym e)
-          (sees_as place (λ q. r ≡ q) (λ q. (r ≡ q) × (get_or row q false ≡ true)) old (set old r (reach (range_of old r) place)) (sees_set place old r h) (λ q m. m.0))
+          (sees_as place (λ q. r ≡ q) (λ q. (r ≡ q) × (get_or row q false ≡ true)) old (set old r (reach (range_of old r) place)) (sees_set place old r h) (λ q m. m.0) (λ q m. (m, subst (λ n. get_or row n false ≡ true) m w.if-row-r.true)))
       | else-r-ranges w ↦
           subst (Sees (λ q. (r ≡ q) × (get_or row q false ≡ true)) place old) (sym w.ranges-is)
           (sees_same place (λ q. (r ≡ q) × (get_or row q false ≡ true)) old (λ q h m.
@@ -33,3 +33,4 @@ loop-r-preserved c =
     sees_then place (λ q. (q < r) × (get_or row q false ≡ true)) (λ q. (r ≡ q) × (get_or row q false ≡ true)) (λ q. (q < r + 1) × (get_or row q false ≡ true))
     c.args.ranges.now old c.if-r-ranges.ranges c.loop-r.invariant now
     (λ q h. ⊎_elim (λ (less : q < r). inl (less, h.1)) (λ (more : r ≤ q). inr (omega (arith, h.0), h.1)) (cases_lt q r))
+    (λ q h. (omega (arith, h.0), h.1)) (λ q h. (omega (arith, h.0), h.1))

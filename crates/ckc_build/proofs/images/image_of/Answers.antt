@@ -1,12 +1,28 @@
-use Rattle.ckc_build.proofs.Programs.{on_ok}
+use Rattle.ckc_source.specs.Code.{program_of}
+use Rattle.ckc_build.proofs.Programs.{built_of, short_of}
 use Rattle.ckc_build.proofs.images.image_of.Goals as goal
 
-pub returns-in-Ok : goal.returns-in-Ok
-returns-in-Ok c = on_ok c.write.result (λ image is. (
-  c.in-Ok.parts,
-  c.in-Ok.ensures.follows,
-  c.in-Ok.ensures.size,
-  c.in-Ok.ensures.confined,
-  c.in-Ok.ensures.faultless,
-  is,
-)) c.write.ensures
+pub compile-requires-clause-small : goal.compile-requires-clause-small
+compile-requires-clause-small c = c.programs_fit.ensures c.args.text.now (program_of c.args.p.now) c.requires.means.answers
+
+pub returns-clause-answers : goal.returns-clause-answers
+returns-clause-answers c =
+    built_of c.args.text.now (program_of c.args.p.now) c.in-Ok-write.image.items c.requires.means (
+      c.in-Ok.parts,
+      c.in-Ok.ensures.follows,
+      c.in-Ok.ensures.size,
+      c.in-Ok.ensures.confined,
+      c.in-Ok.ensures.faultless,
+      c.in-Ok-write.ensures,
+    )
+
+pub returns-clause-short : goal.returns-clause-short
+returns-clause-short c =
+    short_of c.args.text.now (program_of c.args.p.now) c.in-Ok-write.image.items c.requires.means (
+      c.in-Ok.parts,
+      c.in-Ok.ensures.follows,
+      c.in-Ok.ensures.size,
+      c.in-Ok.ensures.confined,
+      c.in-Ok.ensures.faultless,
+      c.in-Ok-write.ensures,
+    )

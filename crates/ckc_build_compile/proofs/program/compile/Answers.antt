@@ -21,8 +21,7 @@ pub returns : goal.returns
 returns c = record {
   follows = machine_follows (source (program_of c.args.p.now)) c.in_ok-q.q (machine_parts c.in_ok-parts.parts)
       c.in_ok-q.ensures.follows c.in_ok-parts.ensures.follows;
-  confined = confines_stores (program_of c.args.p.now) c.in_ok-q.q (machine_parts c.in_ok-parts.parts) c.requires.form c.requires.laid
-      c.in_ok-q.ensures.detail c.in_ok-parts.ensures.listed;
+  confined = confines_stores (program_of c.args.p.now) c.in_ok-q.q (machine_parts c.in_ok-parts.parts) c.in_ok-q.ensures.detail c.in_ok-parts.ensures.listed;
   faultless = never_faults (program_of c.args.p.now) (machine_parts c.in_ok-parts.parts) most_for_a_step
       (machine_follows (source (program_of c.args.p.now)) c.in_ok-q.q (machine_parts c.in_ok-parts.parts)
       c.in_ok-q.ensures.follows c.in_ok-parts.ensures.follows);

@@ -1,9 +1,6 @@
 use Rattle.std.proofs.Common.{ℕ, ◌≤◌, List, length, sym, subst, arith}
 use Rattle.ckc_source.specs.Code.{program_of}
-use Rattle.ckc_base.specs.Follows.{Follows}
 use Rattle.ckc_core.specs.Code as core
-use Rattle.ckc_core.specs.Meaning.{core_detail}
-use Rattle.ckc_tac.specs.Meaning.{tac_detail}
 use Rattle.ckc_build_compile.proofs.Layers.{lowered_follows}
 use Rattle.ckc_build_compile.proofs.program.lowered.Goals as goal
 
@@ -16,9 +13,11 @@ returns c = record {
   few = c.in_ok-t.ensures.few_registers;
   size = omega (arith, c.in_ok-t.ensures.size, c.in_ok-c.ensures.weight);
   initial = let P : List ℕ → Type 0 = λ l. length l ≤ 4194304 in subst P (sym c.in_ok-t.ensures.initial) c.in_ok-c.ensures.initial;
-  follows = lowered_follows (program_of c.args.p.now) (core.program_of c.in_ok-c.c) c.in_ok-t.t c.requires.form c.requires.laid
-      c.in_ok-c.ensures.code c.in_ok-t.ensures.follows;
-  detail =
-      let P : core.Program → Type 0 = λ k. (input : List ℕ) → Follows (core_detail k input) (tac_detail c.in_ok-t.t input) 4 in
-      subst P c.in_ok-c.ensures.code c.in_ok-t.ensures.follows;
+  follows = lowered_follows (program_of c.args.p.now) (core.program_of c.in_ok-c.c) c.in_ok-t.t c.in_ok-c.ensures.follows c.in_ok-t.ensures.follows;
+  detail = record {
+    core = core.program_of c.in_ok-c.c;
+    follows = c.in_ok-c.ensures.follows;
+    stores = c.in_ok-c.ensures.stores;
+    below = c.in_ok-t.ensures.follows;
+  };
 }

@@ -7,6 +7,9 @@ use Rattle.ckc_core.specs.WellFormed.{IsWellFormed}
 use Rattle.ckc_source.specs.Code.{program_of}
 use Rattle.ckc_checks_operands.specs.Compilable.{program_nodes}
 use Rattle.ckc_checks_operands.specs.Weights.{program_weight}
+use Rattle.ckc_checks_follow.specs.Followed.{IsFollowedByCore}
+use Rattle.ckc_checks_follow.specs.Stores.{ListsStores}
+use Rattle.ckc_checks_follow.proofs.Follows.{core_follows, core_listed}
 use Rattle.ckc_checks.proofs.Busy.{inserted_busy}
 use Rattle.ckc_checks.proofs.Formed.{inserted_formed}
 use Rattle.ckc_checks.proofs.Image.{first_bytes_length}
@@ -42,3 +45,15 @@ pub returns-clause-loops : goal.returns-clause-loops
 returns-clause-loops c =
     let P : core.Program → Type 0 = λ q. idle_loops q ≡ 0 in
     subst P (sym c.in_ok-c.ensures) (inserted_busy (program_of c.args.p.now))
+
+pub returns-clause-follows : goal.returns-clause-follows
+returns-clause-follows c =
+    let p = program_of c.args.p.now in
+    let P : core.Program → Type 0 = λ q. IsFollowedByCore p q in
+    subst P (sym c.in_ok-c.ensures) (λ input bytes. core_follows p c.requires.form c.requires.laid input bytes)
+
+pub returns-clause-stores : goal.returns-clause-stores
+returns-clause-stores c =
+    let p = program_of c.args.p.now in
+    let P : core.Program → Type 0 = λ q. ListsStores p q in
+    subst P (sym c.in_ok-c.ensures) (λ input bytes safe k. core_listed p c.requires.form c.requires.laid input bytes safe k)

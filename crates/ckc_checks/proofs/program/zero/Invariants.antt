@@ -1,5 +1,5 @@
 use Rattle.std.proofs.Common.{◌≡◌, ◌+◌, ◌-◌, ◌≤◌}
-use Rattle.ckc_checks.specs.code.Inserted.{zeroed}
+use Rattle.ckc_checks_follow.specs.code.Inserted.{zeroed}
 use Rattle.ckc_checks.specs.code.Building.{behind}
 use Rattle.ckc_checks.proofs.program.zero.Given as goal
 

@@ -1,6 +1,6 @@
 use Rattle.std.proofs.Common.{◌≡◌, ◌≤◌, drop, length}
 use Rattle.ckc_source.specs.Code.{code_of}
-use Rattle.ckc_checks.specs.code.Inserted.{room}
+use Rattle.ckc_checks_follow.specs.code.Inserted.{room}
 use Rattle.ckc_checks.proofs.rooms.+room.Given as goal
 
 abbrev pub decreases-room : goal.decreases-room

@@ -1,6 +1,6 @@
 use Rattle.std.proofs.Common.{◌≡◌, ◌≤◌, drop, map, length}
 use Rattle.ckc_source.specs.Code.{assign_of}
-use Rattle.ckc_checks.specs.code.Inserted.{bundle_room}
+use Rattle.ckc_checks_follow.specs.code.Inserted.{bundle_room}
 use Rattle.ckc_checks.proofs.rooms.bundle_room.Given as goal
 
 abbrev pub invariant-loop-i : goal.invariant-loop-i

@@ -13,7 +13,7 @@ use Rattle.ckc_source.specs.declared.stmt.Spot.{Spot}
 use Rattle.ckc_source.specs.declared.stmt.TargetTree.{TargetTree}
 use Rattle.ckc_source.specs.declared.expr.ExprTree.{ExprTree}
 use Rattle.ckc_source.specs.Code as source
-use Rattle.ckc_checks.specs.code.Inserted.{right_assigned, bundle_code, statements}
+use Rattle.ckc_checks_follow.specs.code.Inserted.{right_assigned, bundle_code, statements}
 use Rattle.ckc_checks.specs.code.Building.{behind, get_code, put_code, call_code, branch_code, loop_code, return_code, check_code}
 use Rattle.ckc_checks.proofs.statements.+statements.Goals as goal
 

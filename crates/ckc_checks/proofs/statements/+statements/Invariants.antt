@@ -1,6 +1,6 @@
 use Rattle.std.proofs.Common.{◌≡◌, ◌≤◌, drop, length}
 use Rattle.ckc_source.specs.Code.{code_of as source_code}
-use Rattle.ckc_checks.specs.code.Inserted.{statements}
+use Rattle.ckc_checks_follow.specs.code.Inserted.{statements}
 use Rattle.ckc_checks.specs.code.Building.{behind}
 use Rattle.ckc_checks.proofs.statements.+statements.Given as goal
 

@@ -1,6 +1,6 @@
 use Rattle.std.proofs.Common.{◌≡◌, ◌+◌, ◌≤◌, drop, map, length}
 use Rattle.ckc_source.specs.Code.{expr_of as source_of}
-use Rattle.ckc_checks.specs.code.Inserted.{operands_code}
+use Rattle.ckc_checks_follow.specs.code.Inserted.{operands_code}
 use Rattle.ckc_checks.specs.code.Building.{behind}
 use Rattle.ckc_checks.proofs.statements.before_call.Given as goal
 

@@ -1,7 +1,7 @@
 use Rattle.std.proofs.Common.{◌≡◌, ◌++◌, drop, map}
 use Rattle.ckc_core.specs.Code.{expr_of}
 use Rattle.ckc_source.specs.Code.{expr_of as source_of}
-use Rattle.ckc_checks.specs.code.Inserted.{operands}
+use Rattle.ckc_checks_follow.specs.code.Inserted.{operands}
 use Rattle.ckc_checks.proofs.statements.operands.Given as goal
 
 abbrev pub invariant-loop-e : goal.invariant-loop-e
