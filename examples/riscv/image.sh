@@ -1,12 +1,14 @@
 #!/usr/bin/env bash
 # Makes an image of a C file by clang and lld: image.sh hello.c hello.image
+# Another compiler by its words in CC, and OBJCOPY; other options in FLAGS.
 set -eu
 work=$(mktemp -d)
 trap 'rm -rf "$work"' EXIT
-clang --target=riscv32 -march=rv32im -mabi=ilp32 -O2 -ffreestanding -nostdlib -fuse-ld=lld -Wl,-T,"${0%/*}/image.ld" -o "$work/elf" "$1"
-llvm-objcopy -O binary -j .text "$work/elf" "$work/code"
-llvm-objcopy -O binary -j .data "$work/elf" "$work/data"
-python3 - "$work/code" "$work/data" > "$2" <<'END'
+${CC-clang --target=riscv32 -fuse-ld=lld} -march=rv32im -mabi=ilp32 ${FLAGS--O2} -ffreestanding -nostdlib -Wl,-T,"${0%/*}/image.ld" -o "$work/elf" "$1"
+for part in text data; do
+  ${OBJCOPY-llvm-objcopy} -O binary -j ".$part" "$work/elf" "$work/$part"
+done
+python3 - "$work/text" "$work/data" > "$2" <<'END'
 import struct, sys
 code, data = (open(name, 'rb').read() for name in sys.argv[1:])
 code += bytes(-len(code) % 4)
