@@ -1,2 +1,4 @@
 pub mod Bounded
 pub mod Members
+pub mod Kept
+pub mod SameViews

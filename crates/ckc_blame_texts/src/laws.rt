@@ -1,10 +1,22 @@
 //! What follows from the definitions alone, each the contract of a function that does nothing.
 
+ghost use Rattle.std.specs.Prelude.{◌≡◌, ℕ, Ok};
 ghost use Rattle.ckc_typed.specs.declared.typed.Typed.{Typed};
+ghost use Rattle.ckc_typed.specs.Trees.{NotedExpr};
+ghost use Rattle.ckc_bounds_points.specs.declared.frame.Frame.{Frame};
+ghost use Rattle.ckc_bounds_points.specs.Flow.{State};
+ghost use Rattle.ckc_bounds_views.specs.Views.{view};
 ghost use Rattle.ckc_blame_slots.specs.Cells.{HaveOwnNames};
 ghost use Rattle.ckc_blame_texts.specs.Judged.{IsJudged};
 
 /// No member of a structure of a judged text has the name of another one.
 pub fn members_have_own_names()
     ensures { (p : Typed) → IsJudged p → HaveOwnNames p.layout }
+{}
+
+/// Whatever is said of an expression is said of what judging makes of it, in each frame: the ranges that are noted in it
+/// count for nothing.
+pub fn judging_keeps_views()
+    ensures { (frame other : Frame) (e f : NotedExpr) (fresh : ℕ) (at : State) →
+        (view frame e).judged fresh at ≡ Ok f → view other f ≡ view other e }
 {}
