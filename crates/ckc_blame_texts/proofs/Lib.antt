@@ -2,3 +2,4 @@ pub mod Bounded
 pub mod Members
 pub mod Kept
 pub mod SameViews
+pub mod Bares

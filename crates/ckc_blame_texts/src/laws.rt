@@ -3,9 +3,11 @@
 ghost use Rattle.std.specs.Prelude.{◌≡◌, ℕ, Ok};
 ghost use Rattle.ckc_typed.specs.declared.typed.Typed.{Typed};
 ghost use Rattle.ckc_typed.specs.Trees.{NotedExpr};
+ghost use Rattle.ckc_typed_welltyped.specs.Noteless.{without_notes};
 ghost use Rattle.ckc_bounds_points.specs.declared.frame.Frame.{Frame};
 ghost use Rattle.ckc_bounds_points.specs.Flow.{State};
 ghost use Rattle.ckc_bounds_views.specs.Views.{view};
+ghost use Rattle.ckc_bounds.specs.Phase.{bounding};
 ghost use Rattle.ckc_blame_slots.specs.Cells.{HaveOwnNames};
 ghost use Rattle.ckc_blame_texts.specs.Judged.{IsJudged};
 
@@ -19,4 +21,9 @@ pub fn members_have_own_names()
 pub fn judging_keeps_views()
     ensures { (frame other : Frame) (e f : NotedExpr) (fresh : ℕ) (at : State) →
         (view frame e).judged fresh at ≡ Ok f → view other f ≡ view other e }
+{}
+
+/// The bounds phase changes notes in the tree of a text alone.
+pub fn judging_keeps_trees()
+    ensures { (q p : Typed) → bounding.Makes q p → without_notes p.tree ≡ without_notes q.tree }
 {}
