@@ -105,19 +105,19 @@ local_kept frame d h =
 
 -- ---- statements
 
-abbrev Layer : Type 0
+abbrev pub Layer : Type 0
 Layer = Act-F Name Note NotedAct NotedStmt
 
-abbrev BareLayer : Type 0
+abbrev pub BareLayer : Type 0
 BareLayer = Act-F Name (Unit {0}) (BareAct Name) (BareStmt Name)
 
-abbrev bared : Layer → BareLayer
+abbrev pub bared : Layer → BareLayer
 bared x = act_noteless (map-Act Name Note NotedAct NotedStmt (BareAct Name) (BareStmt Name) bare_act bare_stmt x)
 
-abbrev placed : Pos → BareAct Name → BareStmt Name
+abbrev pub placed : Pos → BareAct Name → BareStmt Name
 placed at a = record { body = a; pos = at; note = tt }
 
-abbrev rolled : BareLayer → BareAct Name
+abbrev pub rolled : BareLayer → BareAct Name
 rolled x = roll-Act Name (Unit {0}) x
 
 -- a statement that does so much

@@ -3,3 +3,6 @@ pub mod Members
 pub mod Kept
 pub mod SameViews
 pub mod Bares
+pub mod Numbers
+pub mod Locals
+pub mod Functions

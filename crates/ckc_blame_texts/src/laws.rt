@@ -1,15 +1,19 @@
 //! What follows from the definitions alone, each the contract of a function that does nothing.
 
-ghost use Rattle.std.specs.Prelude.{◌≡◌, ℕ, Ok};
+ghost use Rattle.std.specs.Prelude.{◌≡◌, ℕ, map, Ok};
+ghost use Rattle.std.specs.List.{Contains};
+ghost use Rattle.ckc_syntax.specs.declared.tree.Item.TheVariants as item;
 ghost use Rattle.ckc_typed.specs.declared.typed.Typed.{Typed};
-ghost use Rattle.ckc_typed.specs.Trees.{NotedExpr};
+ghost use Rattle.ckc_typed.specs.Trees.{NotedDecl, NotedExpr, NotedHead, NotedStmt};
 ghost use Rattle.ckc_typed_welltyped.specs.Noteless.{without_notes};
 ghost use Rattle.ckc_bounds_points.specs.declared.frame.Frame.{Frame};
 ghost use Rattle.ckc_bounds_points.specs.Flow.{State};
 ghost use Rattle.ckc_bounds_views.specs.Views.{view};
+ghost use Rattle.ckc_bounds.specs.Frames.{all_of};
 ghost use Rattle.ckc_bounds.specs.Phase.{bounding};
 ghost use Rattle.ckc_blame_slots.specs.Cells.{HaveOwnNames};
 ghost use Rattle.ckc_blame_texts.specs.Judged.{IsJudged};
+ghost use Rattle.ckc_blame_texts.specs.Numbered.{AreLocals};
 
 /// No member of a structure of a judged text has the name of another one.
 pub fn members_have_own_names()
@@ -26,4 +30,12 @@ pub fn judging_keeps_views()
 /// The bounds phase changes notes in the tree of a text alone.
 pub fn judging_keeps_trees()
     ensures { (q p : Typed) → bounding.Makes q p → without_notes p.tree ≡ without_notes q.tree }
+{}
+
+/// The parameters and then the other locals of a function have the numbers from 0 on, in the order in which the frames of
+/// its judgement have them.
+pub fn locals_are_numbered()
+    ensures { (p : Typed) (h : NotedHead) (body : NotedStmt) → IsJudged p
+        → Contains p.tree.items (item.Function h body)
+        → AreLocals 0 (map (λ (d : NotedDecl). d.name) (all_of h body)) }
 {}

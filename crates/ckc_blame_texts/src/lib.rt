@@ -3,4 +3,6 @@
 
 mod laws;
 
-pub use laws::{judging_keeps_trees, judging_keeps_views, members_have_own_names};
+pub use laws::{
+    judging_keeps_trees, judging_keeps_views, locals_are_numbered, members_have_own_names,
+};
