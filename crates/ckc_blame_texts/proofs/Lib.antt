@@ -6,3 +6,4 @@ pub mod Bares
 pub mod Numbers
 pub mod Locals
 pub mod Functions
+pub mod Frames

@@ -11,8 +11,11 @@ ghost use Rattle.ckc_bounds_points.specs.Flow.{State};
 ghost use Rattle.ckc_bounds_views.specs.Views.{view};
 ghost use Rattle.ckc_bounds.specs.Frames.{all_of};
 ghost use Rattle.ckc_bounds.specs.Phase.{bounding};
+ghost use Rattle.ckc_source.specs.Code.{Function};
+ghost use Rattle.ckc_blame_sound.specs.Settings.{Setting, IsFunction};
+ghost use Rattle.ckc_blame_numbers.specs.Typed.{Agrees};
 ghost use Rattle.ckc_blame_slots.specs.Cells.{HaveOwnNames};
-ghost use Rattle.ckc_blame_texts.specs.Judged.{IsJudged};
+ghost use Rattle.ckc_blame_texts.specs.Judged.{IsJudged, globals_in};
 ghost use Rattle.ckc_blame_texts.specs.Numbered.{AreLocals};
 
 /// No member of a structure of a judged text has the name of another one.
@@ -38,4 +41,10 @@ pub fn locals_are_numbered()
     ensures { (p : Typed) (h : NotedHead) (body : NotedStmt) → IsJudged p
         → Contains p.tree.items (item.Function h body)
         → AreLocals 0 (map (λ (d : NotedDecl). d.name) (all_of h body)) }
+{}
+
+/// The frame of each function agrees with what the text and the function declare.
+pub fn frames_agree()
+    ensures { (p : Typed) (s : Setting) (f : Function) → IsJudged p → IsFunction p s f
+        → Agrees (globals_in p) s }
 {}
