@@ -7,3 +7,6 @@ pub mod Numbers
 pub mod Locals
 pub mod Functions
 pub mod Frames
+pub mod Sizes
+pub mod Every
+pub mod Typed

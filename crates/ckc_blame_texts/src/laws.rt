@@ -1,10 +1,16 @@
 //! What follows from the definitions alone, each the contract of a function that does nothing.
 
-ghost use Rattle.std.specs.Prelude.{◌≡◌, ℕ, map, Ok};
+ghost use Rattle.std.specs.Prelude.{◌≡◌, ℕ, ◌<◌, ◌^◌, map, Ok};
 ghost use Rattle.std.specs.List.{Contains};
+ghost use Rattle.ckc_base.specs.declared.arithmetic.Mode.{Mode};
+ghost use Rattle.ckc_types.specs.declared.types.CType.{CType};
+ghost use Rattle.ckc_types.specs.declared.types.Structs.{Structs};
 ghost use Rattle.ckc_syntax.specs.declared.tree.Item.TheVariants as item;
+ghost use Rattle.ckc_typed.specs.declared.environment.Globals.{Globals};
 ghost use Rattle.ckc_typed.specs.declared.typed.Typed.{Typed};
 ghost use Rattle.ckc_typed.specs.Trees.{NotedDecl, NotedExpr, NotedHead, NotedStmt};
+ghost use Rattle.ckc_typed.specs.Constants.{size_of};
+ghost use Rattle.ckc_typed_welltyped.specs.Expressions.{WellTypedExpr};
 ghost use Rattle.ckc_typed_welltyped.specs.Noteless.{without_notes};
 ghost use Rattle.ckc_bounds_points.specs.declared.frame.Frame.{Frame};
 ghost use Rattle.ckc_bounds_points.specs.Flow.{State};
@@ -13,10 +19,11 @@ ghost use Rattle.ckc_bounds.specs.Frames.{all_of};
 ghost use Rattle.ckc_bounds.specs.Phase.{bounding};
 ghost use Rattle.ckc_source.specs.Code.{Function};
 ghost use Rattle.ckc_blame_sound.specs.Settings.{Setting, IsFunction};
-ghost use Rattle.ckc_blame_numbers.specs.Typed.{Agrees};
+ghost use Rattle.ckc_blame_numbers.specs.Typed.{Agrees, IsTyped};
 ghost use Rattle.ckc_blame_slots.specs.Cells.{HaveOwnNames};
 ghost use Rattle.ckc_blame_texts.specs.Judged.{IsJudged, globals_in};
 ghost use Rattle.ckc_blame_texts.specs.Numbered.{AreLocals};
+ghost use Rattle.ckc_blame_texts.specs.Words.{HasWords};
 
 /// No member of a structure of a judged text has the name of another one.
 pub fn members_have_own_names()
@@ -47,4 +54,15 @@ pub fn locals_are_numbered()
 pub fn frames_agree()
     ensures { (p : Typed) (s : Setting) (f : Function) → IsJudged p → IsFunction p s f
         → Agrees (globals_in p) s }
+{}
+
+/// The size of a type is a word, whatever the structures are.
+pub fn sizes_are_words()
+    ensures { (structs : Structs) (t : CType) → size_of structs t < 2 ^ 32 }
+{}
+
+/// An expression that is well typed among the variables of a function, and has only words as literals, is typed there.
+pub fn expressions_are_typed()
+    ensures { (globals : Globals) (s : Setting) (mode : Mode) (e : NotedExpr) →
+        WellTypedExpr globals s.variables mode e → HasWords e → IsTyped globals s e }
 {}

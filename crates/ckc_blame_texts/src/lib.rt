@@ -4,5 +4,6 @@
 mod laws;
 
 pub use laws::{
-    judging_keeps_trees, judging_keeps_views, locals_are_numbered, members_have_own_names,
+    expressions_are_typed, frames_agree, judging_keeps_trees, judging_keeps_views,
+    locals_are_numbered, members_have_own_names, sizes_are_words,
 };
