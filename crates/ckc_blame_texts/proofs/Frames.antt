@@ -35,7 +35,7 @@ use Rattle.ckc_source.specs.Code.{Function}
 use Rattle.ckc_blame_sound.specs.Settings.{Setting, IsFunction, frame_of_text, setting_of}
 use Rattle.ckc_blame_numbers.specs.Typed.{Agrees}
 use Rattle.ckc_blame_texts.specs.Judged.{IsJudged, globals_in}
-use Rattle.ckc_blame_texts.specs.Numbered.{AreLocals}
+use Rattle.ckc_blame_texts.specs.Numbered.{AreLocals, HaveTypes}
 use Rattle.ckc_blame_texts.proofs.Functions.{tree_named, numbered}
 use Rattle.ckc_blame_texts.proofs.Locals.{names_declared, variables_declared, stmt_declares}
 
@@ -195,27 +195,38 @@ statics_named p j =
     subst (λ (t : Tree). All IsStaticNamed (objects_of t.items)) (sym (tree_named p j))
     (objects_named (names_of j.spelled) j.spelled.items no_names j.spelled.items j.named.tree.items (text_is j.spelled j.named j.has_names).items)
 
+-- the local of a frame has the type at its number
+frame_type : (p : Typed) (h : NotedHead) (body : NotedStmt) (k : ℕ) (l : Local) (t : CType) → local_at (function_frame (frame_of_text p) h body) k ≡ Some l
+    → slice_get (types_declared (all_of h body)) k ≡ Some t → l.ctype ≡ t
+frame_type p h body k l t at types =
+    let frame = frame_of_text p in
+    let long : length (types_declared (all_of h body)) ≡ length (declared_in frame (all_of h body)) =
+    ap length (sym (declared_types frame (all_of h body))) ∙ length-map (declared_in frame (all_of h body)) (λ (x : Local). x.ctype) in
+    elim (frame_local frame h body k l at) [
+      | inl f ↦ same (sym (ap (λ ts. slice_get ts k) (declared_types frame (all_of h body))) ∙ slice_get-map (λ (x : Local). x.ctype) (declared_in frame (all_of h body)) k ∙ ap (option_map (λ (x : Local). x.ctype)) f) types
+      | inr f ↦ absurd (past (length (declared_in frame (all_of h body))) f (subst (λ m. k < m) long (slice_get_within (types_declared (all_of h body)) k t types)))
+    ]
+  where
+    same : {ts : Option CType} → ts ≡ Some l.ctype → ts ≡ Some t → l.ctype ≡ t
+    same e f = cc
+
+    past : (n : ℕ) → n ≤ k → k < n → ⊥
+    past n a b = omega (arith, a, b)
+
 setting_agrees : (p : Typed) (h : NotedHead) (body : NotedStmt) → IsJudged p → Contains p.tree.items (item.Function h body) → Agrees (globals_in p) (setting_of p h body)
 unfolding setting_of
 setting_agrees p h body j there = record {
   structs = refl;
-  locals = λ k l t at type.
-      let n = numbered p h body j there in
-      let frame = frame_of_text p in
-      let types : slice_get (types_declared (all_of h body)) k ≡ Some t = named_type (globals_in p) h body k t n (statics_named p j) type in
-      let long : length (types_declared (all_of h body)) ≡ length (declared_in frame (all_of h body)) =
-      ap length (sym (declared_types frame (all_of h body))) ∙ length-map (declared_in frame (all_of h body)) (λ (x : Local). x.ctype) in
-      elim (frame_local frame h body k l at) [
-        | inl f ↦ same l t (sym (ap (λ ts. slice_get ts k) (declared_types frame (all_of h body))) ∙ slice_get-map (λ (x : Local). x.ctype) (declared_in frame (all_of h body)) k ∙ ap (option_map (λ (x : Local). x.ctype)) f) types
-        | inr f ↦ absurd (past (length (declared_in frame (all_of h body))) k f (subst (λ m. k < m) long (slice_get_within (types_declared (all_of h body)) k t types)))
-      ];
+  locals = λ k l t at type. frame_type p h body k l t at (named_type (globals_in p) h body k t (numbered p h body j there) (statics_named p j) type);
 }
-  where
-    same : (l : Local) (t : CType) {ts : Option CType} → ts ≡ Some l.ctype → ts ≡ Some t → l.ctype ≡ t
-    same l t e f = cc
 
-    past : (n k : ℕ) → n ≤ k → k < n → ⊥
-    past n k a b = omega (arith, a, b)
+setting_types : (p : Typed) (h : NotedHead) (body : NotedStmt) → IsJudged p → Contains p.tree.items (item.Function h body) → HaveTypes (setting_of p h body).frame (setting_of p h body).variables
+unfolding setting_of
+setting_types p h body j there v k l is named at =
+    frame_type p h body k l v.ctype at (All-contains (HasType (types_declared (all_of h body))) (variables_of h body) v (variables_have h body (numbered p h body j there)) is k named)
 
 pub frames_agree : (p : Typed) (s : Setting) (f : Function) → IsJudged p → IsFunction p s f → Agrees (globals_in p) s
 frames_agree p s f j is = subst (Agrees (globals_in p)) (sym is.judged) (setting_agrees p is.head is.body j is.there)
+
+pub variables_have_types : (p : Typed) (s : Setting) (f : Function) → IsJudged p → IsFunction p s f → HaveTypes s.frame s.variables
+variables_have_types p s f j is = subst (λ (z : Setting). HaveTypes z.frame z.variables) (sym is.judged) (setting_types p is.head is.body j is.there)

@@ -1,17 +1,21 @@
 //! What follows from the definitions alone, each the contract of a function that does nothing.
 
-ghost use Rattle.std.specs.Prelude.{◌≡◌, ℕ, ◌<◌, ◌^◌, map, Ok};
+ghost use Rattle.std.specs.Prelude.{◌≡◌, ℕ, Bool, ◌<◌, ◌^◌, map, Ok};
 ghost use Rattle.std.specs.List.{Contains};
 ghost use Rattle.ckc_base.specs.declared.arithmetic.Mode.{Mode};
 ghost use Rattle.ckc_types.specs.declared.types.CType.{CType};
 ghost use Rattle.ckc_types.specs.declared.types.Structs.{Structs};
+ghost use Rattle.ckc_syntax.specs.declared.tree.Name.{Name};
+ghost use Rattle.ckc_syntax.specs.declared.tree.Act.{out-Act};
 ghost use Rattle.ckc_syntax.specs.declared.tree.Item.TheVariants as item;
 ghost use Rattle.ckc_typed.specs.declared.environment.Globals.{Globals};
+ghost use Rattle.ckc_typed.specs.declared.typed.Note.{Note};
 ghost use Rattle.ckc_typed.specs.declared.typed.Typed.{Typed};
 ghost use Rattle.ckc_typed.specs.Trees.{NotedDecl, NotedExpr, NotedHead, NotedStmt};
 ghost use Rattle.ckc_typed.specs.Constants.{size_of};
 ghost use Rattle.ckc_typed_welltyped.specs.Expressions.{WellTypedExpr};
 ghost use Rattle.ckc_typed_welltyped.specs.Noteless.{without_notes};
+ghost use Rattle.ckc_typed_welltyped.specs.Parts.{StmtByParts};
 ghost use Rattle.ckc_bounds_points.specs.declared.frame.Frame.{Frame};
 ghost use Rattle.ckc_bounds_points.specs.Flow.{State};
 ghost use Rattle.ckc_bounds_views.specs.Views.{view};
@@ -19,11 +23,11 @@ ghost use Rattle.ckc_bounds.specs.Frames.{all_of};
 ghost use Rattle.ckc_bounds.specs.Phase.{bounding};
 ghost use Rattle.ckc_source.specs.Code.{Function};
 ghost use Rattle.ckc_blame_sound.specs.Settings.{Setting, IsFunction};
-ghost use Rattle.ckc_blame_numbers.specs.Typed.{Agrees, IsTyped};
+ghost use Rattle.ckc_blame_numbers.specs.Typed.{Agrees, IsTyped, IsTypedStmt};
 ghost use Rattle.ckc_blame_slots.specs.Cells.{HaveOwnNames};
 ghost use Rattle.ckc_blame_texts.specs.Judged.{IsJudged, globals_in};
-ghost use Rattle.ckc_blame_texts.specs.Numbered.{AreLocals};
-ghost use Rattle.ckc_blame_texts.specs.Words.{HasWords};
+ghost use Rattle.ckc_blame_texts.specs.Numbered.{AreLocals, HaveTypes, IsKnownIn};
+ghost use Rattle.ckc_blame_texts.specs.Words.{HasWords, HasWordsAct};
 
 /// No member of a structure of a judged text has the name of another one.
 pub fn members_have_own_names()
@@ -50,10 +54,13 @@ pub fn locals_are_numbered()
         → AreLocals 0 (map (λ (d : NotedDecl). d.name) (all_of h body)) }
 {}
 
-/// The frame of each function agrees with what the text and the function declare.
+/// The frame of each function agrees with what the text and the function declare: each local has the type of its name, and
+/// each variable has that of its local.
 pub fn frames_agree()
-    ensures { (p : Typed) (s : Setting) (f : Function) → IsJudged p → IsFunction p s f
+    ensures agree { (p : Typed) (s : Setting) (f : Function) → IsJudged p → IsFunction p s f
         → Agrees (globals_in p) s }
+    ensures types { (p : Typed) (s : Setting) (f : Function) → IsJudged p → IsFunction p s f
+        → HaveTypes s.frame s.variables }
 {}
 
 /// The size of a type is a word, whatever the structures are.
@@ -65,4 +72,14 @@ pub fn sizes_are_words()
 pub fn expressions_are_typed()
     ensures { (globals : Globals) (s : Setting) (mode : Mode) (e : NotedExpr) →
         WellTypedExpr globals s.variables mode e → HasWords e → IsTyped globals s e }
+{}
+
+/// A statement that is well typed among the variables of a function, has only words as literals, and declares none but
+/// these variables, is typed there.
+pub fn statements_are_typed()
+    ensures { (globals : Globals) (s : Setting) (result : CType) (st : NotedStmt) (mode : Mode)
+        (looped : Bool) → HaveTypes s.frame s.variables
+        → StmtByParts globals s.variables result st mode looped
+        → HasWordsAct (out-Act Name Note st.body)
+        → IsKnownIn s.variables (out-Act Name Note st.body) → IsTypedStmt globals s st }
 {}

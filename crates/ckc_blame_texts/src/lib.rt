@@ -5,5 +5,5 @@ mod laws;
 
 pub use laws::{
     expressions_are_typed, frames_agree, judging_keeps_trees, judging_keeps_views,
-    locals_are_numbered, members_have_own_names, sizes_are_words,
+    locals_are_numbered, members_have_own_names, sizes_are_words, statements_are_typed,
 };
