@@ -1,11 +1,11 @@
 -- The frame of a function agrees with the types of its variables.
 use Rattle.std.proofs.Common.{◌≡◌, ◌∙◌, sym, ap, subst, refl, inl, inr, ℕ, zero, suc, ◌+◌, ◌<◌, ◌≤◌, List, [], ◌∷◌, ◌++◌, map, length, length-append, append-nil, append_assoc, replicate, arith}
-use Rattle.std.specs.Prelude.{◌⊎◌, All, Bool, true, false, if◌then◌else◌, Option, Some, None, find, slice_get}
+use Rattle.std.specs.Prelude.{◌⊎◌, All, Bool, true, false, Option, Some, None, find, slice_get}
 use Rattle.std.specs.List.{Contains}
 use Rattle.std.specs.List.Sorted.{IsPermutation}
 use Rattle.std.specs.Option.{option_map}
 use Rattle.std.proofs.lemmas.List.{map-append, length-map}
-use Rattle.std.proofs.lemmas.List.Elements.{All-nil, All-cons, All-head, All-tail, All-contains, All-contains_itself}
+use Rattle.std.proofs.lemmas.List.Elements.{All-nil, All-cons, All-contains, All-contains_itself}
 use Rattle.std.proofs.lemmas.List.Sorted.{IsPermutation-refl, IsPermutation-append, IsPermutation-sym, Contains-permutation}
 use Rattle.std.proofs.lemmas.Option.{slice_get-map, slice_get_within}
 use Rattle.std.proofs.lemmas.Bool.{eqb-true}
@@ -36,23 +36,11 @@ use Rattle.ckc_blame_sound.specs.Settings.{Setting, IsFunction, frame_of_text, s
 use Rattle.ckc_blame_numbers.specs.Typed.{Agrees}
 use Rattle.ckc_blame_texts.specs.Judged.{IsJudged, globals_in}
 use Rattle.ckc_blame_texts.specs.Numbered.{AreLocals, HaveTypes}
+use Rattle.ckc_blame_texts.proofs.Lists.{all_by, found}
 use Rattle.ckc_blame_texts.proofs.Functions.{tree_named, numbered}
 use Rattle.ckc_blame_texts.proofs.Locals.{names_declared, variables_declared, stmt_declares}
 
 -- ---- lists
-
-all_by : {A : Type 0} (P Q : A → Type 0) → ((x : A) → P x → Q x) → (xs : List A) → All P xs → All Q xs
-all_by P Q f [] h = All-nil Q
-all_by P Q f (x ∷ xs) h = All-cons Q x xs (f x (All-head P x xs h)) (all_by P Q f xs (All-tail P x xs h))
-
--- what is so of all is so of what is found, and that passes the test
-found : {A : Type 0} (P : A → Type 0) (p : A → Bool) (xs : List A) (v : A) → All P xs → find p xs ≡ Some v → P v × (p v ≡ true)
-found P p [] v h e = absurd cc
-found {A} P p (x ∷ xs) v h e = by (p x) refl e (λ f. found P p xs v (All-tail P x xs h) f)
-  where
-    by : (b : Bool) → p x ≡ b → (if b then Some x else find p xs) ≡ Some v → (find p xs ≡ Some v → P v × (p v ≡ true)) → P v × (p v ≡ true)
-    by true is f later = let same : x ≡ v = cc in (subst P same (All-head P x xs h), subst (λ y. p y ≡ true) same is)
-    by false is f later = later f
 
 -- what stands after a list
 seam : {A : Type 0} (xs : List A) (y : A) (ys : List A) → slice_get (xs ++ y ∷ ys) (length xs) ≡ Some y

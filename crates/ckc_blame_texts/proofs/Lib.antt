@@ -10,3 +10,5 @@ pub mod Frames
 pub mod Sizes
 pub mod Every
 pub mod Typed
+pub mod Lists
+pub mod Accesses

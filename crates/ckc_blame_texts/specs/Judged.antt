@@ -9,7 +9,8 @@ use Rattle.ckc_typed_welltyped.specs.Noteless.{without_notes}
 use Rattle.ckc_typed_welltyped.specs.Texts.{TypedAs}
 use Rattle.ckc_bounds.specs.Phase.{bounding}
 
--- The names of a tree were replaced by what they mean, then it got its types, and its bounds were judged: that is the text p.
+-- The names of a tree were replaced by what they mean, then it got its types, and then its bounds were judged: that
+-- is the text p.
 pub record IsJudged (p : Typed) : Type 0 where
   pub spelled : Tree
   pub named : NamedText

@@ -19,7 +19,9 @@ AreLocals k (n ∷ ns) = (n ≡ name.Local k) × AreLocals (k + 1) ns
 
 -- A variable that is a local has the type that the frame gives its number.
 abbrev pub HaveTypes : Frame → List Variable → Type 0
-HaveTypes frame variables = (v : Variable) (k : ℕ) (l : Local) → Contains variables v → v.name ≡ name.Local k → local_at frame k ≡ Some l → l.ctype ≡ v.ctype
+HaveTypes frame variables =
+    (v : Variable) (k : ℕ) (l : Local) → Contains variables v → v.name ≡ name.Local k → local_at frame k ≡ Some l
+    → l.ctype ≡ v.ctype
 
 -- what a statement declares, if it is a declaration, is among some variables
 abbrev pub IsKnownIn : List Variable → Act-F Name Note NotedAct NotedStmt → Type 0

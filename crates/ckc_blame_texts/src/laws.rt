@@ -1,30 +1,42 @@
 //! What follows from the definitions alone, each the contract of a function that does nothing.
 
-ghost use Rattle.std.specs.Prelude.{◌≡◌, ℕ, Bool, ◌<◌, ◌^◌, map, Ok};
+ghost use Rattle.std.specs.Prelude.{◌≡◌, ℕ, Bool, ◌<◌, ◌^◌, true, map, Some, Ok};
 ghost use Rattle.std.specs.List.{Contains};
 ghost use Rattle.ckc_base.specs.declared.arithmetic.Mode.{Mode};
 ghost use Rattle.ckc_types.specs.declared.types.CType.{CType};
+ghost use Rattle.ckc_types.specs.declared.types.CType.TheVariants as ctype;
 ghost use Rattle.ckc_types.specs.declared.types.Structs.{Structs};
+ghost use Rattle.ckc_base.specs.Phases.{◌>=>◌};
 ghost use Rattle.ckc_syntax.specs.declared.tree.Name.{Name};
+ghost use Rattle.ckc_syntax.specs.declared.tree.Name.TheVariants as name;
 ghost use Rattle.ckc_syntax.specs.declared.tree.Act.{out-Act};
+ghost use Rattle.ckc_syntax.specs.declared.tree.NamedText.{NamedText};
 ghost use Rattle.ckc_syntax.specs.declared.tree.Item.TheVariants as item;
 ghost use Rattle.ckc_typed.specs.declared.environment.Globals.{Globals};
 ghost use Rattle.ckc_typed.specs.declared.typed.Note.{Note};
 ghost use Rattle.ckc_typed.specs.declared.typed.Typed.{Typed};
 ghost use Rattle.ckc_typed.specs.Trees.{NotedDecl, NotedExpr, NotedHead, NotedStmt};
 ghost use Rattle.ckc_typed.specs.Constants.{size_of};
+ghost use Rattle.ckc_typed.specs.Types.{is_scalar};
+ghost use Rattle.ckc_typed.specs.Environment.{member_type};
+ghost use Rattle.ckc_resolve.specs.Trees.{Tree};
+ghost use Rattle.ckc_resolve.specs.Phase.{naming};
+ghost use Rattle.ckc_scopes.specs.Phase.{scoping};
 ghost use Rattle.ckc_typed_welltyped.specs.Expressions.{WellTypedExpr};
 ghost use Rattle.ckc_typed_welltyped.specs.Noteless.{without_notes};
 ghost use Rattle.ckc_typed_welltyped.specs.Parts.{StmtByParts};
+ghost use Rattle.ckc_typed_welltyped.specs.Texts.{TypedAs};
 ghost use Rattle.ckc_bounds_points.specs.declared.frame.Frame.{Frame};
 ghost use Rattle.ckc_bounds_points.specs.Flow.{State};
 ghost use Rattle.ckc_bounds_views.specs.Views.{view};
 ghost use Rattle.ckc_bounds.specs.Frames.{all_of};
 ghost use Rattle.ckc_bounds.specs.Phase.{bounding};
+ghost use Rattle.ckc_build_values.specs.Kinds.{width_of};
+ghost use Rattle.ckc_build_values.specs.Members.{offset_of};
 ghost use Rattle.ckc_source.specs.Code.{Function};
 ghost use Rattle.ckc_blame_sound.specs.Settings.{Setting, IsFunction};
 ghost use Rattle.ckc_blame_numbers.specs.Typed.{Agrees, IsTyped, IsTypedStmt};
-ghost use Rattle.ckc_blame_slots.specs.Cells.{HaveOwnNames};
+ghost use Rattle.ckc_blame_slots.specs.Cells.{HaveOwnNames, IsPart};
 ghost use Rattle.ckc_blame_texts.specs.Judged.{IsJudged, globals_in};
 ghost use Rattle.ckc_blame_texts.specs.Numbered.{AreLocals, HaveTypes, IsKnownIn};
 ghost use Rattle.ckc_blame_texts.specs.Words.{HasWords, HasWordsAct};
@@ -82,4 +94,21 @@ pub fn statements_are_typed()
         → StmtByParts globals s.variables result st mode looped
         → HasWordsAct (out-Act Name Note st.body)
         → IsKnownIn s.variables (out-Act Name Note st.body) → IsTypedStmt globals s st }
+{}
+
+/// What is read of an element is a part of it: the whole, if it is an integer or a pointer, or a member of a structure by
+/// its name.
+pub fn accesses_are_parts()
+    ensures members { (structs : Structs) (tag k : ℕ) (t : CType) →
+        member_type structs tag (name.Member k) ≡ Some t
+        → IsPart structs (ctype.Struct tag) (offset_of structs tag k) (width_of t) }
+    ensures scalars { (structs : Structs) (t : CType) → is_scalar t ≡ true
+        → IsPart structs t 0 (width_of t) }
+{}
+
+/// What the phases make of a tree is judged: its names are replaced, it gets its types, and its scopes and its bounds are
+/// judged.
+pub fn phases_judge()
+    ensures { (tree : Tree) (named : NamedText) (typed p : Typed) → naming.Makes tree named
+        → TypedAs named typed → (scoping >=> bounding).Makes typed p → IsJudged p }
 {}
