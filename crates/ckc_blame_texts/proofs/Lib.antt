@@ -12,3 +12,5 @@ pub mod Every
 pub mod Typed
 pub mod Lists
 pub mod Accesses
+pub mod Bounds
+pub mod Slots

@@ -3,6 +3,7 @@
 ghost use Rattle.std.specs.Prelude.{◌≡◌, ℕ, Bool, ◌<◌, ◌^◌, true, map, Some, Ok};
 ghost use Rattle.std.specs.List.{Contains};
 ghost use Rattle.ckc_base.specs.declared.arithmetic.Mode.{Mode};
+ghost use Rattle.ckc_base.specs.declared.arithmetic.Width.TheVariants.{Word};
 ghost use Rattle.ckc_types.specs.declared.types.CType.{CType};
 ghost use Rattle.ckc_types.specs.declared.types.CType.TheVariants as ctype;
 ghost use Rattle.ckc_types.specs.declared.types.Structs.{Structs};
@@ -36,7 +37,9 @@ ghost use Rattle.ckc_build_values.specs.Members.{offset_of};
 ghost use Rattle.ckc_source.specs.Code.{Function};
 ghost use Rattle.ckc_blame_sound.specs.Settings.{Setting, IsFunction};
 ghost use Rattle.ckc_blame_numbers.specs.Typed.{Agrees, IsTyped, IsTypedStmt};
+ghost use Rattle.ckc_blame_sound.specs.Slots.{Slot, slots_of};
 ghost use Rattle.ckc_blame_slots.specs.Cells.{HaveOwnNames, IsPart};
+ghost use Rattle.ckc_blame_slots.specs.Limited.{IsElementAt};
 ghost use Rattle.ckc_blame_texts.specs.Judged.{IsJudged, globals_in};
 ghost use Rattle.ckc_blame_texts.specs.Numbered.{AreLocals, HaveTypes, IsKnownIn};
 ghost use Rattle.ckc_blame_texts.specs.Words.{HasWords, HasWordsAct};
@@ -111,4 +114,11 @@ pub fn accesses_are_parts()
 pub fn phases_judge()
     ensures { (tree : Tree) (named : NamedText) (typed p : Typed) → naming.Makes tree named
         → TypedAs named typed → (scoping >=> bounding).Makes typed p → IsJudged p }
+{}
+
+/// Bounds stand on pointers alone: a slot of an element is a pointer of it.
+pub fn slots_are_pointers()
+    ensures { (p : Typed) (number : ℕ) (t : CType) (slot : Slot) → IsJudged p
+        → IsElementAt p number t → Contains (slots_of p number t) slot
+        → IsPart p.layout t slot.offset Word }
 {}
