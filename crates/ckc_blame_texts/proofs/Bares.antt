@@ -295,7 +295,7 @@ object_kept : (frame : Frame) (d : NotedDecl) → Keeps bare_decl (bare_decl d) 
 object_kept frame d =
     bound none tt bare_decl _ _ _ (any (bounds_there frame d)) (λ b z. bound init_first (bare_init d.init) bare_decl _ _ _ (init_kept frame d.init (outside frame)) (λ p h. decl_kept d p.0 h))
 
-body_kept : (frame : Frame) (h : NotedHead) (body : NotedStmt) → Keeps bare_stmt (bare_stmt body) (body_judged frame h body)
+pub body_kept : (frame : Frame) (h : NotedHead) (body : NotedStmt) → Keeps bare_stmt (bare_stmt body) (body_judged frame h body)
 body_kept frame h body =
     bound stmt_first (bare_stmt body) bare_stmt _ _ _ ((stmt_kept (function_frame frame h body) body).judged (head_bounds frame h) (begin_of frame h body)) (λ p g. g)
 

@@ -14,3 +14,4 @@ pub mod Lists
 pub mod Accesses
 pub mod Bounds
 pub mod Slots
+pub mod Bodies

@@ -46,9 +46,11 @@ moved ds ns vs ws m h = record { names = h.names; variables = IsPermutation-tran
 
 pub record ActDeclares (a : NotedAct) : Type 0 where
   pub is : IsDeclared (path_of_act a).declared (names_of_act (bare_act a)) (locals_of_act a)
+  pub same : locals_of_act (bare_act a) ≡ locals_of_act a
 
 pub record StmtDeclares (s : NotedStmt) : Type 0 where
   pub is : IsDeclared (path s).declared (stmt_names (bare_stmt s)) (locals_of s)
+  pub same : locals_of (bare_stmt s) ≡ locals_of s
 
 abbrev KeptAct : Type 0
 KeptAct = (a : NotedAct) × ActDeclares a
@@ -126,8 +128,59 @@ act_step Act-F.Continue = nothing
 act_step (Act-F.Check e) = nothing
 act_step (Act-F.Bundle ks) = each ks
 
+-- ---- the same without notes
+
+abbrev variables_bare : BareLayer → Act-F Name (Unit {0}) (List Variable) (List Variable)
+variables_bare = map-Act Name (Unit {0}) (BareAct Name) (BareStmt Name) (List Variable) (List Variable) locals_of_act locals_of
+
+each_same : (ks : List KeptStmt) → inside_each listed (λ vs. vs) (map (λ (s : BareStmt Name). locals_of s) (map bare_stmt (firsts ks))) ≡ inside_each listed (λ vs. vs) (map (λ (s : NotedStmt). locals_of s) (firsts ks))
+each_same [] = refl
+each_same (k ∷ ks) = two (λ xs ys. xs ++ ys) k.1.same (each_same ks)
+
+silent_same : (e : Option NotedExpr) → inside_if {X = List Variable} listed (λ f. []) (option_map bare_expr e) ≡ inside_if listed (λ (f : NotedExpr). []) e
+silent_same None = refl
+silent_same (Some e) = refl
+
+for_same : (e : Option NotedExpr) {vs ws us vs' ws' us' : List Variable} → vs' ≡ vs → us' ≡ us → ws' ≡ ws
+    → ((vs' ++ inside_if listed (λ f. []) (option_map bare_expr e)) ++ us') ++ ws' ≡ ((vs ++ inside_if listed (λ (f : NotedExpr). []) e) ++ us) ++ ws
+for_same e f g h = two (λ xs ys. xs ++ ys) (two (λ xs ys. xs ++ ys) (two (λ xs ys. xs ++ ys) f (silent_same e)) g) h
+
+step_same : (y : Act-F Name Note KeptAct KeptStmt) → act_variables (variables_bare (bared (inner_act y))) ≡ act_variables (variables_in (inner_act y))
+step_same (Act-F.Block m ks) = each_same ks
+step_same Act-F.Empty = refl
+step_same (Act-F.Local d) = refl
+step_same (Act-F.Assign e f) = refl
+step_same (Act-F.Call e) = refl
+step_same (Act-F.If e k None) = ap (λ xs. xs ++ []) k.1.same
+step_same (Act-F.If e k (Some j)) = two (λ xs ys. xs ++ ys) k.1.same j.1.same
+step_same (Act-F.While e k) = k.1.same
+step_same (Act-F.For None e None k) = for_same e {vs = []} {us = []} {vs' = []} {us' = []} refl refl k.1.same
+step_same (Act-F.For None e (Some j) k) = for_same e {vs = []} {vs' = []} refl j.1.same k.1.same
+step_same (Act-F.For (Some l) e None k) = for_same e {us = []} {us' = []} l.1.same refl k.1.same
+step_same (Act-F.For (Some l) e (Some j) k) = for_same e l.1.same j.1.same k.1.same
+step_same (Act-F.Return e) = silent_same e
+step_same Act-F.Break = refl
+step_same Act-F.Continue = refl
+step_same (Act-F.Check e) = refl
+step_same (Act-F.Bundle ks) = each_same ks
+
+act_same : (x : Layer) → act_variables (variables_bare (bared x)) ≡ act_variables (variables_in x) → locals_of_act (bare_act (roll-Act Name Note x)) ≡ locals_of_act (roll-Act Name Note x)
+act_same x h =
+    ap locals_of_act (fold-roll-Act Name Note (BareAct Name) (BareStmt Name) act_bared stmt_bared x)
+    ∙ fold-roll-Act Name (Unit {0}) (List Variable) (List Variable) act_variables stmt_variables (bared x) ∙ h
+    ∙ sym (fold-roll-Act Name Note (List Variable) (List Variable) act_variables stmt_variables x)
+
+stmt_same : (x : Stmt-F Name Note NotedAct NotedStmt) → locals_of_act (bare_act x.body) ≡ locals_of_act x.body → locals_of (bare_stmt (roll-Stmt Name Note x)) ≡ locals_of (roll-Stmt Name Note x)
+stmt_same x h =
+    ap (λ (b : BareStmt Name). locals_of b) (fold-roll-Stmt Name Note (BareAct Name) (BareStmt Name) act_bared stmt_bared x)
+    ∙ fold-roll-Stmt Name (Unit {0}) (List Variable) (List Variable) act_variables stmt_variables (record { body = bare_act x.body; pos = x.pos; note = tt }) ∙ h
+    ∙ sym (fold-roll-Stmt Name Note (List Variable) (List Variable) act_variables stmt_variables x)
+
 act_by : (x : Layer) (y : Act-F Name Note KeptAct KeptStmt) → inner_act y ≡ x → ActDeclares (roll-Act Name Note x)
-act_by x y is = record { is = subst (λ z. IsDeclared (path_of_act z).declared (names_of_act (bare_act z)) (locals_of_act z)) (ap (roll-Act Name Note) is) (here (inner_act y) (act_step y)) }
+act_by x y is = record {
+  is = subst (λ z. IsDeclared (path_of_act z).declared (names_of_act (bare_act z)) (locals_of_act z)) (ap (roll-Act Name Note) is) (here (inner_act y) (act_step y));
+  same = subst (λ z. locals_of_act (bare_act z) ≡ locals_of_act z) (ap (roll-Act Name Note) is) (act_same (inner_act y) (step_same y));
+}
   where
     here : (x : Layer) → Declares x → IsDeclared (path_of_act (roll-Act Name Note x)).declared (names_of_act (bare_act (roll-Act Name Note x))) (locals_of_act (roll-Act Name Note x))
     here x h =
@@ -141,7 +194,10 @@ act_by x y is = record { is = subst (λ z. IsDeclared (path_of_act z).declared (
         }
 
 stmt_by : (x : Stmt-F Name Note NotedAct NotedStmt) (y : Stmt-F Name Note KeptAct KeptStmt) → inner_stmt y ≡ x → StmtDeclares (roll-Stmt Name Note x)
-stmt_by x y is = record { is = subst (λ z. IsDeclared (path z).declared (stmt_names (bare_stmt z)) (locals_of z)) (ap (roll-Stmt Name Note) is) (here (inner_stmt y) y.body.1.is) }
+stmt_by x y is = record {
+  is = subst (λ z. IsDeclared (path z).declared (stmt_names (bare_stmt z)) (locals_of z)) (ap (roll-Stmt Name Note) is) (here (inner_stmt y) y.body.1.is);
+  same = subst (λ z. locals_of (bare_stmt z) ≡ locals_of z) (ap (roll-Stmt Name Note) is) (stmt_same (inner_stmt y) y.body.1.same);
+}
   where
     here : (x : Stmt-F Name Note NotedAct NotedStmt) → IsDeclared (path_of_act x.body).declared (names_of_act (bare_act x.body)) (locals_of_act x.body)
         → IsDeclared (path (roll-Stmt Name Note x)).declared (stmt_names (bare_stmt (roll-Stmt Name Note x))) (locals_of (roll-Stmt Name Note x))

@@ -40,7 +40,7 @@ ghost use Rattle.ckc_blame_numbers.specs.Typed.{Agrees, IsTyped, IsTypedStmt};
 ghost use Rattle.ckc_blame_sound.specs.Slots.{Slot, slots_of};
 ghost use Rattle.ckc_blame_slots.specs.Cells.{HaveOwnNames, IsPart};
 ghost use Rattle.ckc_blame_slots.specs.Limited.{IsElementAt};
-ghost use Rattle.ckc_blame_texts.specs.Judged.{IsJudged, globals_in};
+ghost use Rattle.ckc_blame_texts.specs.Judged.{IsJudged, IsBodyJudged, globals_in};
 ghost use Rattle.ckc_blame_texts.specs.Numbered.{AreLocals, HaveTypes, IsKnownIn};
 ghost use Rattle.ckc_blame_texts.specs.Words.{HasWords, HasWordsAct};
 
@@ -121,4 +121,12 @@ pub fn slots_are_pointers()
     ensures { (p : Typed) (number : ℕ) (t : CType) (slot : Slot) → IsJudged p
         → IsElementAt p number t → Contains (slots_of p number t) slot
         → IsPart p.layout t slot.offset Word }
+{}
+
+/// The body of each function of a judged text is what judging made of a statement that is well typed among the variables of
+/// the function.
+pub fn bodies_are_typed()
+    ensures { (p : Typed) (j : IsJudged p) (h : NotedHead) (body : NotedStmt) →
+        Contains p.tree.items (item.Function h body)
+        → IsBodyJudged (globals_in p) j.typed h body }
 {}
