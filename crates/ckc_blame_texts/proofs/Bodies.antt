@@ -24,7 +24,7 @@ use Rattle.ckc_bounds.specs.Texts.{members_judged, object_judged, body_judged, h
 use Rattle.ckc_blame_sound.specs.Settings.{frame_of_text}
 use Rattle.ckc_blame_texts.specs.Judged.{IsJudged, IsBodyJudged, globals_in}
 use Rattle.ckc_blame_texts.proofs.Bares.{body_kept}
-use Rattle.ckc_blame_texts.proofs.Bounded.{is_bounded}
+use Rattle.ckc_blame_texts.proofs.Bounded.{is_bounded, anything}
 use Rattle.ckc_blame_texts.proofs.Functions.{tree_named}
 use Rattle.ckc_blame_texts.proofs.Kept.{Keeps, two}
 use Rattle.ckc_blame_texts.proofs.Locals.{stmt_declares}
@@ -43,19 +43,15 @@ abbrev Became : Frame → NotedItem → NotedItem → Type 0
 Became frame (item.Function h before) j = BecameFunction frame h before j
 Became frame i j = IsNoFunction j
 
-any : {A : Type 0} (o : Outcome A) → Gives (λ (a : A). Unit {0}) o
-any (Ok a) = tt
-any (Err r) = tt
-
 head_same : (frame : Frame) (h : NotedHead) → Gives (λ (g : NotedHead). g ≡ h) (head_kept frame h)
-head_same frame h = bound (λ b. Unit {0}) (λ (g : NotedHead). g ≡ h) _ _ (any (head_judged (types_in frame h.params) h)) (λ b z. refl)
+head_same frame h = bound (λ b. Unit {0}) (λ (g : NotedHead). g ≡ h) _ _ (anything (head_judged (types_in frame h.params) h)) (λ b z. refl)
 
 became : (frame : Frame) (i : NotedItem) → Gives (Became frame i) (item_judged frame i)
 became frame (item.Directive d) = tt
 became frame (item.Tag n at) = tt
-became frame (item.Struct n ms at) = bound (λ u. Unit {0}) IsNoFunction _ _ (any (members_judged frame (member_holder n) ms)) (λ u z. tt)
-became frame (item.Static d) = bound (λ e. Unit {0}) IsNoFunction _ _ (any (object_judged frame d)) (λ e z. tt)
-became frame (item.Proto h) = bound (λ g. Unit {0}) IsNoFunction _ _ (any (head_kept frame h)) (λ g z. tt)
+became frame (item.Struct n ms at) = bound (λ u. Unit {0}) IsNoFunction _ _ (anything (members_judged frame (member_holder n) ms)) (λ u z. tt)
+became frame (item.Static d) = bound (λ e. Unit {0}) IsNoFunction _ _ (anything (object_judged frame d)) (λ e z. tt)
+became frame (item.Proto h) = bound (λ g. Unit {0}) IsNoFunction _ _ (anything (head_kept frame h)) (λ g z. tt)
 became frame (item.Function h before) =
     bound (λ (g : NotedHead). g ≡ h) (BecameFunction frame h before) _ _ (head_same frame h) (λ g is.
     bound (λ s. body_judged frame h before ≡ Ok s) (BecameFunction frame h before) _ _ (itself (body_judged frame h before)) (λ s e.

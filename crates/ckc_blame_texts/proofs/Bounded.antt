@@ -1,7 +1,8 @@
 -- The bounds phase leaves a text as it is, but for the ranges in its tree.
 use Rattle.std.proofs.Common.{◌≡◌, refl, List}
-use Rattle.std.specs.Prelude.{Ok}
-use Rattle.ckc_base.proofs.Gives.{given_from, bound, itself}
+use Rattle.std.specs.Prelude.{Ok, Err}
+use Rattle.ckc_base.specs.Outcomes.{Outcome}
+use Rattle.ckc_base.proofs.Gives.{Gives, given_from, bound, itself}
 use Rattle.ckc_typed.specs.declared.typed.Typed.{Typed}
 use Rattle.ckc_typed.specs.Trees.{NotedItem}
 use Rattle.ckc_bounds.specs.Frames.{text_frame}
@@ -22,3 +23,8 @@ is_bounded q p e =
 
 pub layout_kept : (q p : Typed) → text_judged q ≡ Ok p → p.layout ≡ q.layout
 layout_kept q p e = (is_bounded q p e).layout
+
+-- nothing is said of what is made
+pub anything : {A : Type 0} (o : Outcome A) → Gives (λ (a : A). Unit {0}) o
+anything (Ok a) = tt
+anything (Err r) = tt

@@ -32,7 +32,7 @@ use Rattle.ckc_bounds.specs.Declarations.{member_holder}
 use Rattle.ckc_bounds.specs.Frames.{text_frame}
 use Rattle.ckc_bounds.specs.Texts.{outside, members_judged, object_judged, body_judged, head_kept, item_judged, items_judged}
 use Rattle.ckc_blame_texts.specs.Judged.{IsJudged}
-use Rattle.ckc_blame_texts.proofs.Bounded.{is_bounded}
+use Rattle.ckc_blame_texts.proofs.Bounded.{is_bounded, anything}
 
 -- What is declared with bounds is a pointer that may have some.
 abbrev pub IsBoundable : {A : Type 0} → Decl Name A → Type 0
@@ -43,10 +43,6 @@ abbrev pub AreBoundable : {A : Type 0} → Item Name A → Type 0
 AreBoundable (item.Struct n members at) = All IsBoundable members
 AreBoundable (item.Static d) = IsBoundable d
 AreBoundable i = Unit {0}
-
-anything : {A : Type 0} (o : Outcome A) → Gives (λ (a : A). Unit {0}) o
-anything (Ok a) = tt
-anything (Err r) = tt
 
 taken : (takes b : Bool) (l : NotedLimits) → takes ≡ b → (o : Option Bounds) → Gives (λ (x : Bounds). true ≡ true → takes ≡ true) (there_or bad_limits (place_of_limits l) (if b then o else None))
 taken takes false l e o = tt

@@ -1,13 +1,13 @@
 -- The frame of a function agrees with the types of its variables.
-use Rattle.std.proofs.Common.{◌≡◌, ◌∙◌, sym, ap, subst, refl, inl, inr, ℕ, zero, suc, ◌+◌, ◌<◌, ◌≤◌, List, [], ◌∷◌, ◌++◌, map, length, length-append, append-nil, append_assoc, replicate, arith}
+use Rattle.std.proofs.Common.{◌≡◌, ◌∙◌, sym, ap, subst, refl, inl, inr, ℕ, zero, suc, ◌+◌, ◌<◌, ◌≤◌, List, [], ◌∷◌, ◌++◌, map, length, length-append, append-nil, append_assoc, get_or, replicate, arith}
 use Rattle.std.specs.Prelude.{◌⊎◌, All, Bool, true, false, Option, Some, None, find, slice_get}
 use Rattle.std.specs.List.{Contains}
 use Rattle.std.specs.List.Sorted.{IsPermutation}
 use Rattle.std.specs.Option.{option_map}
 use Rattle.std.proofs.lemmas.List.{map-append, length-map}
 use Rattle.std.proofs.lemmas.List.Elements.{All-nil, All-cons, All-contains, All-contains_itself}
-use Rattle.std.proofs.lemmas.List.Sorted.{IsPermutation-refl, IsPermutation-append, IsPermutation-sym, Contains-permutation}
-use Rattle.std.proofs.lemmas.Option.{slice_get-map, slice_get_within}
+use Rattle.std.proofs.lemmas.List.Sorted.{IsPermutation-refl, IsPermutation-append, IsPermutation-sym, Contains-permutation, length_permutation}
+use Rattle.std.proofs.lemmas.Option.{slice_get-map, slice_get_within, slice_get-get_or}
 use Rattle.std.proofs.lemmas.Bool.{eqb-true}
 use Rattle.ckc_types.specs.declared.types.CType.{CType}
 use Rattle.ckc_syntax.specs.declared.tree.Name.{Name}
@@ -36,16 +36,11 @@ use Rattle.ckc_blame_sound.specs.Settings.{Setting, IsFunction, frame_of_text, s
 use Rattle.ckc_blame_numbers.specs.Typed.{Agrees}
 use Rattle.ckc_blame_texts.specs.Judged.{IsJudged, globals_in}
 use Rattle.ckc_blame_texts.specs.Numbered.{AreLocals, HaveTypes}
-use Rattle.ckc_blame_texts.proofs.Lists.{all_by, found}
+use Rattle.ckc_blame_texts.proofs.Lists.{all_by, found, seam, more_at}
 use Rattle.ckc_blame_texts.proofs.Functions.{tree_named, numbered}
 use Rattle.ckc_blame_texts.proofs.Locals.{names_declared, variables_declared, stmt_declares}
 
 -- ---- lists
-
--- what stands after a list
-seam : {A : Type 0} (xs : List A) (y : A) (ys : List A) → slice_get (xs ++ y ∷ ys) (length xs) ≡ Some y
-seam [] y ys = refl
-seam (x ∷ xs) y ys = seam xs y ys
 
 first_at : (m : ℕ) (ls : List Local) (k : ℕ) (l : Local) → slice_get (first_of m ls) k ≡ Some l → (k < m) × (slice_get ls k ≡ Some l)
 first_at zero ls k l e = absurd cc
@@ -218,3 +213,46 @@ frames_agree p s f j is = subst (Agrees (globals_in p)) (sym is.judged) (setting
 
 pub variables_have_types : (p : Typed) (s : Setting) (f : Function) → IsJudged p → IsFunction p s f → HaveTypes s.frame s.variables
 variables_have_types p s f j is = subst (λ (z : Setting). HaveTypes z.frame z.variables) (sym is.judged) (setting_types p is.head is.body j is.there)
+
+-- ---- how many locals there are
+
+first_keeps : (m : ℕ) (ls : List Local) (k : ℕ) (l : Local) → k < m → slice_get ls k ≡ Some l → slice_get (first_of m ls) k ≡ Some l
+first_keeps zero ls k l h e = absurd (omega (arith, h))
+first_keeps (suc m) [] k l h e = absurd cc
+first_keeps (suc m) (x ∷ ls) zero l h e = e
+first_keeps (suc m) (x ∷ ls) (suc k) l h e = first_keeps m ls k l (omega (arith, h)) e
+
+-- there are as many locals as variables
+locals_counted : (frame : Frame) (h : NotedHead) (body : NotedStmt) → length (declared_in frame (all_of h body)) ≡ length (variables_of h body)
+locals_counted frame h body =
+    let ds = all_of h body in
+    sym (length-map (declared_in frame ds) (λ (x : Local). x.ctype)) ∙ ap length (declared_types frame ds) ∙ length-map ds (λ (d : NotedDecl). type_written d.ctype)
+    ∙ sym (length-map ds (λ (d : NotedDecl). variable_declared d)) ∙ sym (length_permutation (variables_declared ds) (variables_of h body) (variables_moved h body))
+
+frame_has : (frame : Frame) (h : NotedHead) (body : NotedStmt) (k : ℕ) → k < length (variables_of h body) → length (variables_of h body) < 1024
+    → (l : Local) × (local_at (function_frame frame h body) k ≡ Some l)
+unfolding few_of
+frame_has frame h body k less few =
+    let D = declared_in frame (all_of h body) in
+    let n = fresh_needed (locals_frame frame h body) (head_bounds frame h) h body (first_fresh h body) in
+    let long : length D ≡ length (variables_of h body) = locals_counted frame h body in
+    let l = get_or D k nameless in
+    let there : slice_get D k ≡ Some l = slice_get-get_or D k nameless (subst (λ m. k < m) (sym long) less) in
+    let below : k < 1023 = omega (arith, less, few) in
+    (l, first_keeps 1023 (first_of 1023 D ++ replicate n nameless) k l below (more_at (first_of 1023 D) (replicate n nameless) k l (first_keeps 1023 D k l below there)))
+
+pub locals_are_there : (p : Typed) (s : Setting) (f : Function) (k : ℕ) → IsFunction p s f → k < length s.variables → length s.variables < 1024
+    → (l : Local) × (local_at s.frame k ≡ Some l)
+unfolding setting_of
+locals_are_there p s f k is less few =
+    let P : Setting → Type 0 = λ z. k < length z.variables → length z.variables < 1024 → (l : Local) × (local_at z.frame k ≡ Some l) in
+    subst P (sym is.judged) (λ a b. frame_has (frame_of_text p) is.head is.body k a b) less few
+
+pub function_counts : (p : Typed) (s : Setting) (f : Function) → IsFunction p s f → (f.locals ≡ length s.variables) × (f.params ≡ length s.head.params)
+unfolding setting_of
+function_counts p s f is =
+    let P : Setting → Type 0 = λ z. (f.locals ≡ length z.variables) × (f.params ≡ length z.head.params) in
+    let h = is.head in
+    let params : length h.params ≡ length (declared_in (frame_of_text p) h.params) =
+    sym (length-map h.params (λ (d : NotedDecl). type_written d.ctype)) ∙ ap length (sym (declared_types (frame_of_text p) h.params)) ∙ length-map (declared_in (frame_of_text p) h.params) (λ (x : Local). x.ctype) in
+    subst P (sym is.judged) (ap (λ (g : Function). g.locals) is.runs, ap (λ (g : Function). g.params) is.runs ∙ params)

@@ -1,6 +1,6 @@
--- What is so of all elements of a list.
-use Rattle.std.proofs.Common.{◌≡◌, subst, refl, List, [], ◌∷◌}
-use Rattle.std.specs.Prelude.{All, Bool, true, false, if◌then◌else◌, Some, find}
+-- Elements of lists.
+use Rattle.std.proofs.Common.{◌≡◌, subst, refl, ℕ, zero, suc, List, [], ◌∷◌, ◌++◌, length}
+use Rattle.std.specs.Prelude.{All, Bool, true, false, if◌then◌else◌, Some, find, slice_get}
 use Rattle.std.proofs.lemmas.List.Elements.{All-nil, All-cons, All-head, All-tail}
 
 -- what follows from what is so of each of some is so of each
@@ -16,3 +16,14 @@ found {A} P p (x ∷ xs) v h e = by (p x) refl e (λ f. found P p xs v (All-tail
     by : (b : Bool) → p x ≡ b → (if b then Some x else find p xs) ≡ Some v → (find p xs ≡ Some v → P v × (p v ≡ true)) → P v × (p v ≡ true)
     by true is f later = let same : x ≡ v = cc in (subst P same (All-head P x xs h), subst (λ y. p y ≡ true) same is)
     by false is f later = later f
+
+-- what stands after a list
+pub seam : {A : Type 0} (xs : List A) (y : A) (ys : List A) → slice_get (xs ++ y ∷ ys) (length xs) ≡ Some y
+seam [] y ys = refl
+seam (x ∷ xs) y ys = seam xs y ys
+
+-- what stands in a list stands there if more comes after it
+pub more_at : {A : Type 0} (xs ys : List A) (k : ℕ) (x : A) → slice_get xs k ≡ Some x → slice_get (xs ++ ys) k ≡ Some x
+more_at [] ys k x e = absurd cc
+more_at (y ∷ xs) ys zero x e = e
+more_at (y ∷ xs) ys (suc k) x e = more_at xs ys k x e

@@ -1,5 +1,5 @@
 -- Slots are pointers of the elements that they are in.
-use Rattle.std.proofs.Common.{◌≡◌, ◌∙◌, sym, ap, subst, refl, ℕ, zero, suc, ◌+◌, List, [], ◌∷◌, ◌++◌, map, length, length-append, append_assoc}
+use Rattle.std.proofs.Common.{◌≡◌, ◌∙◌, sym, ap, subst, refl, ℕ, ◌+◌, List, [], ◌∷◌, ◌++◌, map, length, length-append, append_assoc}
 use Rattle.std.specs.Prelude.{All, Bool, true, false, if◌then◌else◌, Option, Some, None, IfSome, find, slice_get, is_some}
 use Rattle.std.specs.List.{Contains, flat_map}
 use Rattle.std.specs.Option.{option_map}
@@ -47,7 +47,7 @@ use Rattle.ckc_blame_texts.specs.Judged.{IsJudged}
 use Rattle.ckc_blame_texts.proofs.Bounded.{is_bounded}
 use Rattle.ckc_blame_texts.proofs.Bounds.{IsBoundable, AreBoundable, text_boundable, items_bare, members_boundable, pointer_no_char, boundable_no_char}
 use Rattle.ckc_blame_texts.proofs.Functions.{tree_named}
-use Rattle.ckc_blame_texts.proofs.Lists.{found}
+use Rattle.ckc_blame_texts.proofs.Lists.{found, seam, more_at}
 use Rattle.ckc_blame_texts.proofs.Members.{members_are, have_own_names}
 
 word_wide : (t : CType) → is_char t ≡ false → Word ≡ width_of t
@@ -159,15 +159,6 @@ types_bare (item.Tag n at ∷ is) = types_bare is
 types_bare (item.Struct n ms at ∷ is) = types_bare is
 types_bare (item.Proto g ∷ is) = types_bare is
 types_bare (item.Function g body ∷ is) = types_bare is
-
-seam : {A : Type 0} (xs : List A) (y : A) (ys : List A) → slice_get (xs ++ y ∷ ys) (length xs) ≡ Some y
-seam [] y ys = refl
-seam (x ∷ xs) y ys = seam xs y ys
-
-more_at : {A : Type 0} (xs ys : List A) (k : ℕ) (x : A) → slice_get xs k ≡ Some x → slice_get (xs ++ ys) k ≡ Some x
-more_at [] ys k x e = absurd cc
-more_at (y ∷ xs) ys zero x e = e
-more_at (y ∷ xs) ys (suc k) x e = more_at xs ys k x e
 
 -- the object that is found by a name has the type at its number
 type_found : (front : List CType) (is : List NotedItem) (n : ℕ) (d : NotedDecl) → StaticsFrom (length front) is → find (declares (name.Static n)) is ≡ Some (item.Static d)

@@ -1,6 +1,6 @@
 //! What follows from the definitions alone, each the contract of a function that does nothing.
 
-ghost use Rattle.std.specs.Prelude.{◌≡◌, ℕ, Bool, ◌<◌, ◌^◌, true, map, Some, Ok};
+ghost use Rattle.std.specs.Prelude.{◌≡◌, ℕ, Bool, ◌<◌, ◌^◌, true, map, Some, Ok, length};
 ghost use Rattle.std.specs.List.{Contains};
 ghost use Rattle.ckc_base.specs.declared.arithmetic.Mode.{Mode};
 ghost use Rattle.ckc_base.specs.declared.arithmetic.Width.TheVariants.{Word};
@@ -28,6 +28,8 @@ ghost use Rattle.ckc_typed_welltyped.specs.Noteless.{without_notes};
 ghost use Rattle.ckc_typed_welltyped.specs.Parts.{StmtByParts};
 ghost use Rattle.ckc_typed_welltyped.specs.Texts.{TypedAs};
 ghost use Rattle.ckc_bounds_points.specs.declared.frame.Frame.{Frame};
+ghost use Rattle.ckc_bounds_points.specs.declared.frame.Local.{Local};
+ghost use Rattle.ckc_bounds_points.specs.Frames.{local_at};
 ghost use Rattle.ckc_bounds_points.specs.Flow.{State};
 ghost use Rattle.ckc_bounds_views.specs.Views.{view};
 ghost use Rattle.ckc_bounds.specs.Frames.{all_of};
@@ -49,8 +51,8 @@ pub fn members_have_own_names()
     ensures { (p : Typed) → IsJudged p → HaveOwnNames p.layout }
 {}
 
-/// Whatever is said of an expression is said of what judging makes of it, in each frame: the ranges that are noted in it
-/// count for nothing.
+/// Whatever is said of an expression is said of what judging makes of it, in each frame: the ranges that are noted in
+/// it count for nothing.
 pub fn judging_keeps_views()
     ensures { (frame other : Frame) (e f : NotedExpr) (fresh : ℕ) (at : State) →
         (view frame e).judged fresh at ≡ Ok f → view other f ≡ view other e }
@@ -61,21 +63,27 @@ pub fn judging_keeps_trees()
     ensures { (q p : Typed) → bounding.Makes q p → without_notes p.tree ≡ without_notes q.tree }
 {}
 
-/// The parameters and then the other locals of a function have the numbers from 0 on, in the order in which the frames of
-/// its judgement have them.
+/// The parameters and then the other locals of a function have the numbers from 0 on, in the order in which the
+/// frames of its judgement have them.
 pub fn locals_are_numbered()
     ensures { (p : Typed) (h : NotedHead) (body : NotedStmt) → IsJudged p
         → Contains p.tree.items (item.Function h body)
         → AreLocals 0 (map (λ (d : NotedDecl). d.name) (all_of h body)) }
 {}
 
-/// The frame of each function agrees with what the text and the function declare: each local has the type of its name, and
-/// each variable has that of its local.
+/// The frame of each function agrees with what the text and the function declare: each local has the type of its
+/// name, each variable has that of its local, and no local is cut off if there are fewer than 1,024. The function
+/// runs with as many locals and parameters.
 pub fn frames_agree()
     ensures agree { (p : Typed) (s : Setting) (f : Function) → IsJudged p → IsFunction p s f
         → Agrees (globals_in p) s }
     ensures types { (p : Typed) (s : Setting) (f : Function) → IsJudged p → IsFunction p s f
         → HaveTypes s.frame s.variables }
+    ensures there { (p : Typed) (s : Setting) (f : Function) (k : ℕ) → IsFunction p s f
+        → k < length s.variables → length s.variables < 1024
+        → (l : Local) × (local_at s.frame k ≡ Some l) }
+    ensures counts { (p : Typed) (s : Setting) (f : Function) → IsFunction p s f
+        → (f.locals ≡ length s.variables) × (f.params ≡ length s.head.params) }
 {}
 
 /// The size of a type is a word, whatever the structures are.
@@ -83,14 +91,15 @@ pub fn sizes_are_words()
     ensures { (structs : Structs) (t : CType) → size_of structs t < 2 ^ 32 }
 {}
 
-/// An expression that is well typed among the variables of a function, and has only words as literals, is typed there.
+/// An expression that is well typed among the variables of a function, and has only words as literals, is typed
+/// there.
 pub fn expressions_are_typed()
     ensures { (globals : Globals) (s : Setting) (mode : Mode) (e : NotedExpr) →
         WellTypedExpr globals s.variables mode e → HasWords e → IsTyped globals s e }
 {}
 
-/// A statement that is well typed among the variables of a function, has only words as literals, and declares none but
-/// these variables, is typed there.
+/// A statement that is well typed among the variables of a function, has only words as literals, and declares none
+/// but these variables, is typed there.
 pub fn statements_are_typed()
     ensures { (globals : Globals) (s : Setting) (result : CType) (st : NotedStmt) (mode : Mode)
         (looped : Bool) → HaveTypes s.frame s.variables
@@ -99,8 +108,8 @@ pub fn statements_are_typed()
         → IsKnownIn s.variables (out-Act Name Note st.body) → IsTypedStmt globals s st }
 {}
 
-/// What is read of an element is a part of it: the whole, if it is an integer or a pointer, or a member of a structure by
-/// its name.
+/// What is read of an element is a part of it: the whole, if it is an integer or a pointer, or a member of a
+/// structure by its name.
 pub fn accesses_are_parts()
     ensures members { (structs : Structs) (tag k : ℕ) (t : CType) →
         member_type structs tag (name.Member k) ≡ Some t
@@ -109,8 +118,8 @@ pub fn accesses_are_parts()
         → IsPart structs t 0 (width_of t) }
 {}
 
-/// What the phases make of a tree is judged: its names are replaced, it gets its types, and its scopes and its bounds are
-/// judged.
+/// What the phases make of a tree is judged: its names are replaced, it gets its types, and its scopes and its bounds
+/// are judged.
 pub fn phases_judge()
     ensures { (tree : Tree) (named : NamedText) (typed p : Typed) → naming.Makes tree named
         → TypedAs named typed → (scoping >=> bounding).Makes typed p → IsJudged p }
@@ -123,8 +132,8 @@ pub fn slots_are_pointers()
         → IsPart p.layout t slot.offset Word }
 {}
 
-/// The body of each function of a judged text is what judging made of a statement that is well typed among the variables of
-/// the function.
+/// The body of each function of a judged text is what judging made of a statement that is well typed among the
+/// variables of the function.
 pub fn bodies_are_typed()
     ensures { (p : Typed) (j : IsJudged p) (h : NotedHead) (body : NotedStmt) →
         Contains p.tree.items (item.Function h body)
