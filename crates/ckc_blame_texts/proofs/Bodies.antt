@@ -2,7 +2,8 @@
 use Rattle.std.proofs.Common.{◌≡◌, ◌∙◌, sym, ap, subst, refl, List, [], ◌∷◌, ◌++◌, map}
 use Rattle.std.specs.Prelude.{All, Ok, Err, false}
 use Rattle.std.specs.List.{Contains}
-use Rattle.std.proofs.lemmas.List.Elements.{All-nil, All-cons, All-head, All-tail, All-contains, All-contains_itself}
+use Rattle.std.proofs.lemmas.List.Elements.{All-nil, All-cons, All-head, All-tail, All-contains, All-contains_itself, Contains-append_right}
+use Rattle.std.proofs.lemmas.List.Sorted.{Contains-permutation}
 use Rattle.ckc_base.specs.declared.arithmetic.Mode.{Mode}
 use Rattle.ckc_base.specs.declared.arithmetic.Mode.TheVariants.{Unchecked}
 use Rattle.ckc_base.specs.Outcomes.{Outcome}
@@ -10,7 +11,7 @@ use Rattle.ckc_base.proofs.Gives.{Gives, given_from, bound, itself}
 use Rattle.ckc_syntax.specs.declared.tree.Item.TheVariants as item
 use Rattle.ckc_typed.specs.declared.environment.Globals.{Globals}
 use Rattle.ckc_typed.specs.declared.typed.Typed.{Typed}
-use Rattle.ckc_typed.specs.Environment.{variable_declared, variables_of, locals_of}
+use Rattle.ckc_typed.specs.Environment.{variable_declared, params_of, variables_of, locals_of}
 use Rattle.ckc_typed.specs.Texts.{globals_of}
 use Rattle.ckc_typed.specs.Trees.{Tree, Decl, NotedDecl, NotedHead, NotedStmt, NotedItem}
 use Rattle.ckc_typed.specs.Types.{type_written}
@@ -19,15 +20,16 @@ use Rattle.ckc_typed_welltyped.specs.Noteless.{bare_decl, bare_head, bare_stmt, 
 use Rattle.ckc_typed_welltyped.specs.Statements.{WellTypedStmt}
 use Rattle.ckc_typed_welltyped.specs.Texts.{WellTypedItem, WellTypedItems}
 use Rattle.ckc_bounds_points.specs.declared.frame.Frame.{Frame}
+use Rattle.ckc_bounds_statements.specs.Paths.{path}
 use Rattle.ckc_bounds.specs.Declarations.{member_holder, types_in, head_judged}
 use Rattle.ckc_bounds.specs.Texts.{members_judged, object_judged, body_judged, head_kept, item_judged, items_judged}
 use Rattle.ckc_blame_sound.specs.Settings.{frame_of_text}
 use Rattle.ckc_blame_texts.specs.Judged.{IsJudged, IsBodyJudged, globals_in}
 use Rattle.ckc_blame_texts.proofs.Bares.{body_kept}
 use Rattle.ckc_blame_texts.proofs.Bounded.{is_bounded, anything}
-use Rattle.ckc_blame_texts.proofs.Functions.{tree_named}
+use Rattle.ckc_blame_texts.proofs.Functions.{tree_named, all_made}
 use Rattle.ckc_blame_texts.proofs.Kept.{Keeps, two}
-use Rattle.ckc_blame_texts.proofs.Locals.{stmt_declares}
+use Rattle.ckc_blame_texts.proofs.Locals.{variables_declared, stmt_declares}
 
 -- ---- what an item became
 
@@ -129,3 +131,22 @@ bodies_are_typed p j h body there =
     let same : globals_of (without_notes q.tree).items ≡ globals_in p = ap (λ (t : Tree). globals_of t.items) (j.has_types.tree ∙ sym (tree_named p j)) in
     subst (λ (g : Globals). IsBodyJudged g q h body) same
     (body_is p j globals h body (All-contains (CameFrom frame globals (Contains q.tree.items)) p.tree.items (item.Function h body) all there))
+
+-- ---- what is declared
+
+contains_made : {A B : Type 0} (f : A → B) (xs : List A) (x : A) → Contains xs x → Contains (map f xs) (f x)
+contains_made f xs x h = All-contains (λ y. Contains (map f xs) (f y)) xs x (all_made (Contains (map f xs)) f xs (All-contains_itself (map f xs))) h
+
+locals_same : (before body : NotedStmt) → bare_stmt body ≡ bare_stmt before → locals_of before ≡ locals_of body
+locals_same before body e = sym (stmt_declares before).same ∙ ap (λ s. locals_of s) (sym e) ∙ (stmt_declares body).same
+
+-- what is declared in the body before it was judged is among the variables of the function
+pub declared_known : (globals : Globals) (typed : Typed) (h : NotedHead) (body : NotedStmt) (b : IsBodyJudged globals typed h body) (d : NotedDecl) → Contains (path b.before).declared d
+    → Contains (variables_of h body) (variable_declared d)
+declared_known globals typed h body b d there =
+    let same = locals_same b.before body (body_same (frame_of_text typed) h b.before body b.judged) in
+    let moved = (stmt_declares b.before).is.variables in
+    Contains-append_right (params_of h) (locals_of body) (variable_declared d)
+    (subst (λ vs. Contains vs (variable_declared d)) same
+    (Contains-permutation (variables_declared (path b.before).declared) (locals_of b.before) (variable_declared d) moved
+    (contains_made (λ (e : NotedDecl). variable_declared e) (path b.before).declared d there)))

@@ -32,7 +32,7 @@ function_names h body =
     ∙ sym (map-append (λ (d : NotedDecl). d.name) h.params (path body).declared)
 
 -- what is so of all that is made from some is so of each, made
-all_made : {A B : Type 0} (P : B → Type 0) (f : A → B) (xs : List A) → All P (map f xs) → All (λ x. P (f x)) xs
+pub all_made : {A B : Type 0} (P : B → Type 0) (f : A → B) (xs : List A) → All P (map f xs) → All (λ x. P (f x)) xs
 all_made P f [] h = All-nil (λ x. P (f x))
 all_made P f (x ∷ xs) h = All-cons (λ y. P (f y)) x xs (All-head P (f x) (map f xs) h) (all_made P f xs (All-tail P (f x) (map f xs) h))
 

@@ -19,7 +19,7 @@ ghost use Rattle.ckc_typed.specs.declared.typed.Typed.{Typed};
 ghost use Rattle.ckc_typed.specs.Trees.{NotedDecl, NotedExpr, NotedHead, NotedStmt};
 ghost use Rattle.ckc_typed.specs.Constants.{size_of};
 ghost use Rattle.ckc_typed.specs.Types.{is_scalar};
-ghost use Rattle.ckc_typed.specs.Environment.{member_type};
+ghost use Rattle.ckc_typed.specs.Environment.{member_type, variable_declared, variables_of};
 ghost use Rattle.ckc_resolve.specs.Trees.{Tree};
 ghost use Rattle.ckc_resolve.specs.Phase.{naming};
 ghost use Rattle.ckc_scopes.specs.Phase.{scoping};
@@ -32,6 +32,7 @@ ghost use Rattle.ckc_bounds_points.specs.declared.frame.Local.{Local};
 ghost use Rattle.ckc_bounds_points.specs.Frames.{local_at};
 ghost use Rattle.ckc_bounds_points.specs.Flow.{State};
 ghost use Rattle.ckc_bounds_views.specs.Views.{view};
+ghost use Rattle.ckc_bounds_statements.specs.Paths.{path};
 ghost use Rattle.ckc_bounds.specs.Frames.{all_of};
 ghost use Rattle.ckc_bounds.specs.Phase.{bounding};
 ghost use Rattle.ckc_build_values.specs.Kinds.{width_of};
@@ -133,9 +134,12 @@ pub fn slots_are_pointers()
 {}
 
 /// The body of each function of a judged text is what judging made of a statement that is well typed among the
-/// variables of the function.
+/// variables of the function, and declares no others.
 pub fn bodies_are_typed()
-    ensures { (p : Typed) (j : IsJudged p) (h : NotedHead) (body : NotedStmt) →
+    ensures typed { (p : Typed) (j : IsJudged p) (h : NotedHead) (body : NotedStmt) →
         Contains p.tree.items (item.Function h body)
         → IsBodyJudged (globals_in p) j.typed h body }
+    ensures known { (globals : Globals) (typed : Typed) (h : NotedHead) (body : NotedStmt)
+        (b : IsBodyJudged globals typed h body) (d : NotedDecl) →
+        Contains (path b.before).declared d → Contains (variables_of h body) (variable_declared d) }
 {}
