@@ -1,5 +1,5 @@
 -- Well typed expressions whose literals are words are typed as the laws of numbers ask.
-use Rattle.std.specs.Prelude.{Bool}
+use Rattle.std.specs.Prelude.{Bool, Option, None, Some, IfSome}
 use Rattle.ckc_base.specs.declared.arithmetic.Mode.{Mode}
 use Rattle.ckc_types.specs.declared.types.CType.{CType}
 use Rattle.ckc_types.specs.declared.types.Structs.{Structs}
@@ -17,7 +17,7 @@ use Rattle.ckc_typed_welltyped.specs.Declarations.{WellTypedInit, StartsLocal}
 use Rattle.ckc_typed_welltyped.specs.Statements.{act_rows, WellTypedStmt}
 use Rattle.ckc_typed_welltyped.specs.Parts.{StmtByParts}
 use Rattle.ckc_blame_sound.specs.Settings.{Setting}
-use Rattle.ckc_blame_numbers.specs.Typed.{IsWordNode, HasRow, IsTyped, IsTypedInit, IsTypedAct, IsTypedStmt}
+use Rattle.ckc_blame_numbers.specs.Typed.{IsWordNode, HasRow, IsTyped, IsTypedIf, IsTypedInit, IsTypedAct, IsTypedStmt}
 use Rattle.ckc_blame_texts.specs.Words.{IsWordLiteral, HasWord, HasWords, HasWordsInit, HasWordsAct}
 use Rattle.ckc_blame_texts.specs.Numbered.{HaveTypes, IsKnownIn}
 use Rattle.ckc_blame_texts.proofs.Every.{ExprLayer, each_follows}
@@ -51,3 +51,8 @@ act_typed globals s result a mode looped types row h known = tt
 pub statements_are_typed : (globals : Globals) (s : Setting) (result : CType) (st : NotedStmt) (mode : Mode) (looped : Bool) → HaveTypes s.frame s.variables
     → StmtByParts globals s.variables result st mode looped → HasWordsAct (out-Act Name Note st.body) → IsKnownIn s.variables (out-Act Name Note st.body) → IsTypedStmt globals s st
 statements_are_typed globals s result st mode looped types w h known = act_typed globals s result (out-Act Name Note st.body) mode looped types w.row h known
+
+-- a condition, which may be left out
+pub conditions_are_typed : (globals : Globals) (s : Setting) (mode : Mode) (e : Option NotedExpr) → IfSome e (WellTypedExpr globals s.variables mode) → IfSome e HasWords → IsTypedIf globals s e
+conditions_are_typed globals s mode None w h = tt
+conditions_are_typed globals s mode (Some e) w h = expressions_are_typed globals s mode e w h

@@ -1,6 +1,6 @@
 //! What follows from the definitions alone, each the contract of a function that does nothing.
 
-ghost use Rattle.std.specs.Prelude.{◌≡◌, ℕ, Bool, ◌<◌, ◌^◌, true, map, Some, Ok, length};
+ghost use Rattle.std.specs.Prelude.{◌≡◌, ℕ, Bool, ◌<◌, ◌^◌, true, map, Option, Some, IfSome, Ok, length};
 ghost use Rattle.std.specs.List.{Contains};
 ghost use Rattle.ckc_base.specs.declared.arithmetic.Mode.{Mode};
 ghost use Rattle.ckc_base.specs.declared.arithmetic.Width.TheVariants.{Word};
@@ -39,7 +39,7 @@ ghost use Rattle.ckc_build_values.specs.Kinds.{width_of};
 ghost use Rattle.ckc_build_values.specs.Members.{offset_of};
 ghost use Rattle.ckc_source.specs.Code.{Function};
 ghost use Rattle.ckc_blame_sound.specs.Settings.{Setting, IsFunction};
-ghost use Rattle.ckc_blame_numbers.specs.Typed.{Agrees, IsTyped, IsTypedStmt};
+ghost use Rattle.ckc_blame_numbers.specs.Typed.{Agrees, IsTyped, IsTypedIf, IsTypedStmt};
 ghost use Rattle.ckc_blame_sound.specs.Slots.{Slot, slots_of};
 ghost use Rattle.ckc_blame_slots.specs.Cells.{HaveOwnNames, IsPart};
 ghost use Rattle.ckc_blame_slots.specs.Limited.{IsElementAt};
@@ -95,8 +95,11 @@ pub fn sizes_are_words()
 /// An expression that is well typed among the variables of a function, and has only words as literals, is typed
 /// there.
 pub fn expressions_are_typed()
-    ensures { (globals : Globals) (s : Setting) (mode : Mode) (e : NotedExpr) →
+    ensures whole { (globals : Globals) (s : Setting) (mode : Mode) (e : NotedExpr) →
         WellTypedExpr globals s.variables mode e → HasWords e → IsTyped globals s e }
+    ensures maybe { (globals : Globals) (s : Setting) (mode : Mode) (e : Option NotedExpr) →
+        IfSome e (WellTypedExpr globals s.variables mode) → IfSome e HasWords
+        → IsTypedIf globals s e }
 {}
 
 /// A statement that is well typed among the variables of a function, has only words as literals, and declares none
