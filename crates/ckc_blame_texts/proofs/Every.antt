@@ -1,5 +1,5 @@
 -- Where two rules hold of each expression in an expression, what follows from both does.
-use Rattle.std.proofs.Common.{◌≡◌, sym, subst, refl, List, [], ◌∷◌, map, ap, rules}
+use Rattle.std.proofs.Common.{◌≡◌, sym, subst, refl, List, [], ◌∷◌, map, ap}
 use Rattle.std.specs.Prelude.{Option, Some, None}
 use Rattle.ckc_syntax.specs.declared.tree.Name.{Name}
 use Rattle.ckc_syntax.specs.declared.tree.Limits.{Limits-F, map-Limits, roll-Limits, every-Limits, every_held-Limits, every_made-Limits}

@@ -10,7 +10,6 @@ use Rattle.std.proofs.lemmas.Bool.{eqb-true}
 use Rattle.ckc_base.specs.declared.arithmetic.Width.TheVariants.{Byte, Word}
 use Rattle.ckc_types.specs.declared.types.CType.{CType, CType-F, out-CType}
 use Rattle.ckc_types.specs.declared.types.Kind.{Kind}
-use Rattle.ckc_types.specs.declared.types.MemberBounds.TheVariants as bounds
 use Rattle.ckc_types.specs.declared.types.MemberShape.{MemberShape}
 use Rattle.ckc_types.specs.declared.types.Structs.{Structs}
 use Rattle.ckc_types.specs.Layout.{members_of}
