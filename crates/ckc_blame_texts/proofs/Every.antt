@@ -1,4 +1,4 @@
--- Where two rules hold of each expression in an expression, what follows from both does.
+-- If two rules hold of each expression in an expression, so does what follows from both.
 use Rattle.std.proofs.Common.{◌≡◌, sym, subst, refl, List, [], ◌∷◌, map, ap}
 use Rattle.std.specs.Prelude.{Option, Some, None}
 use Rattle.ckc_syntax.specs.declared.tree.Name.{Name}

@@ -122,7 +122,7 @@ shape_numbers structs (d ∷ ds) = ap (λ ns. member_number d.name ∷ ns) (shap
 abbrev NamesIn : List MemberShape → List ℕ
 NamesIn ms = map (λ (m : MemberShape). m.name) ms
 
--- what is so of all is so of one behind some others
+-- what is so of all is so of one after some others
 later : (n : ℕ) (front back : List MemberShape) (m : MemberShape) → All (λ k. k ≢ n) (NamesIn (front ++ m ∷ back)) → m.name ≢ n
 later n [] back m h = All-head (λ k. k ≢ n) m.name (NamesIn back) h
 later n (f ∷ fs) back m h = later n fs back m (All-tail (λ k. k ≢ n) f.name (NamesIn (fs ++ m ∷ back)) h)
