@@ -22,13 +22,14 @@ use Rattle.ckc_blame_sound.specs.Slots.{Slot, slots_of, IsFilled, AreFilled}
 use Rattle.ckc_blame_slots.specs.Cells.{IsPart, IsCell, AreSound}
 use Rattle.ckc_blame_slots.specs.Writes.{AreElsewhere}
 use Rattle.ckc_blame_slots.specs.Limited.{IsCountPart, AreSlotParts, IsCountSpared, IsSpared, store_with, AreSparedOrFilled}
+use Rattle.ckc_blame_slots.proofs.Objects.{element_at}
 use Rattle.ckc_blame_slots.proofs.Apart.{cell_address}
 use Rattle.ckc_blame_slots.proofs.Reached.{place_is}
 use Rattle.ckc_blame_slots.proofs.Written.{KeepsAll}
 
 -- ---- one slot
 
--- a pointer is read as before if the same is in memory and the same ranges are true
+-- a pointer is read as before where the same is in memory and the same ranges are true
 module _ (shapes : List Shape) (bs cs : List Block) (ls ms : List ℕ)
     (truths : (to : Pointee) (i low high : ℕ) → is_true shapes cs to i low high ≡ is_true shapes bs to i low high) where
   same_within : (to : Pointee) (n : ℕ) (low high : ℤ) → reads_within shapes cs to n low high ≡ reads_within shapes bs to n low high
@@ -110,7 +111,7 @@ module _ (p : Typed) (parts : AreSlotParts p) (shapes : List Shape) (ls ms : Lis
       → IsSpared ws (b.base + i * b.size) slot → IsFilled (store_with shapes s.blocks ls) (b.base + i * b.size) slot
       → IsFilled (store_with shapes t.blocks ms) (b.base + i * b.size) slot
   spared_filled number i b slot e h there spared filled =
-      let part = parts number b.element slot there in
+      let part = parts number b.element slot (element_at p s.blocks sound.memory.objects number b e) there in
       let same = same_loads shapes s.blocks t.blocks ls ms (keeps.truths shapes) slot.to slot.count (b.base + i * b.size) (place_in (b.base + i * b.size) slot.offset)
       (spared_load number i b slot.offset Word e h part.pointer spared.pointer) (spared_count number i b slot.count e h part.counted spared.counted) in
       subst (λ (r : Result Value Halt). IsOk r) (sym same) filled

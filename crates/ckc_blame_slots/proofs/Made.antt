@@ -1,4 +1,4 @@
--- The checked pointers that memory holds are true when a new block is made: in it they are null.
+-- The checked pointers that memory holds are true where a new block is made: in it they are null.
 use Rattle.std.proofs.Common.{◌≡◌, ◌⊎◌, ⊎_elim, inl, inr, ℕ, zero, suc, ◌+◌, ◌-◌, ◌*◌, ◌≤◌, ◌<◌, ◌==◌, List, [], ◌∷◌, ◌++◌, refl, sym, ◌∙◌, ap, subst, arith}
 use Rattle.std.specs.Prelude.{Bool, true, false, ◌||◌, if◌then◌else◌, slice_get, ℤ, pos, negsuc, ◌+ℤ◌, Option, Some, None, Result, Ok, Err, IsOk}
 use Rattle.std.specs.List.{list_any, Contains}
@@ -19,6 +19,7 @@ use Rattle.ckc_source.specs.Eval.{given, given_some, place_in, counted, reads, r
 use Rattle.ckc_blame_sound.specs.Slots.{Slot, slots_of, IsFilled, AreFilled}
 use Rattle.ckc_blame_slots.specs.Cells.{IsPart, AreSound, IsMade}
 use Rattle.ckc_blame_slots.specs.Limited.{IsCountPart, AreSlotParts, store_with}
+use Rattle.ckc_blame_slots.proofs.Objects.{element_at}
 use Rattle.ckc_blame_slots.proofs.Stores.{inside, lies_parts}
 use Rattle.ckc_blame_slots.proofs.Apart.{cell_there}
 use Rattle.ckc_blame_slots.proofs.Fresh.{zero_number, loaded_before, true_before, sound_with}
@@ -127,7 +128,8 @@ module _ (p : Typed) (parts : AreSlotParts p) (shapes : List Shape) (ls ms : Lis
   new_filled : (number i : ℕ) (slot : Slot) → slice_get after number ≡ Some (fresh to next count) → i < count → Contains (slots_of p number to.element) slot
       → IsFilled (store_with shapes after ms) (next + i * to.size) slot
   new_filled number i slot e h there =
-      let part = parts number to.element slot there in
+      let grown = sound_with p bs next to count sound made in
+      let part = parts number to.element slot (element_at p after grown.memory.objects number (fresh to next count) e) there in
       let m = zero_count number i slot.count e h part.counted in
       filled_by (store_with shapes after ms) slot (next + i * to.size) 0 m.0 (zero_load number i slot.offset Word e h part.pointer) m.1 refl
 

@@ -1,6 +1,6 @@
 -- The block of a static object, and the members that pointers with known limits may point to.
 use Rattle.std.proofs.Common.{◌≡◌, ℕ, zero, suc, ◌+◌, ◌<◌, List, [], ◌∷◌, ◌++◌, refl, sym, ◌∙◌, ap, subst, arith}
-use Rattle.std.specs.Prelude.{Bool, true, false, slice_get, Option, Some, None, if◌then◌else◌}
+use Rattle.std.specs.Prelude.{Bool, true, false, slice_get, Option, Some, None, IfSome, if◌then◌else◌}
 use Rattle.std.specs.List.{flat_map}
 use Rattle.ckc_base.specs.declared.arithmetic.Width.{Width}
 use Rattle.ckc_types.specs.declared.types.MemberShape.{MemberShape}
@@ -21,6 +21,7 @@ use Rattle.ckc_build_elaborate.specs.Objects.{object_elaborated, objects_elabora
 use Rattle.ckc_build_elaborate.specs.Shapes.{is_run, run_of, shape_of, one, shapes_elaborated}
 use Rattle.ckc_blame_sound.specs.Sound.{AreObjects}
 use Rattle.ckc_blame_slots.specs.Cells.{IsPart, IsCell, IsMemberRun, AreMembers, HaveOwnNames}
+use Rattle.ckc_blame_slots.specs.Limited.{IsElementAt}
 
 -- ---- static objects
 
@@ -67,9 +68,21 @@ object_cell p bs objects k o e plain some offset width part =
     different : false ≡ true → ⊥
     different e = absurd cc
 
+-- the elements of the block of a static object are of its type
+pub element_at : (p : Typed) (bs : List Block) → AreObjects (objects_elaborated p) bs → (k : ℕ) (b : Block) → slice_get bs k ≡ Some b → IsElementAt p k b.element
+element_at p bs objects k b e = by (slice_get p.statics k) refl
+  where
+    by : (o : Option StaticObject) → slice_get p.statics k ≡ o → IfSome o (λ x. x.element ≡ b.element)
+    by None f = tt
+    by (Some o) f =
+        let made = beside_at (object_elaborated p.layout) (flat_map run_in p.tree.items) p.statics k o f in
+        let at = object_at (objects_elaborated p) bs objects k (object_elaborated p.layout made.0 o) made.1 in
+        let same : at.0 ≡ b = cc in
+        sym (sym (ap (λ (c : Block). c.element) same) ∙ ap (λ (c : Block). c.element) at.2)
+
 -- ---- members
 
--- the members of a structure that pointers may point to, if it has this number
+-- the members of a structure that pointers may point to, where it has this number
 abbrev made_shape : Structs → ℕ → StructShape → Shape
 made_shape structs tag s = record { runs = flat_map (run_of structs tag s.members) s.members }
 

@@ -1,5 +1,5 @@
 -- The checked pointers that memory holds, and the members that their bounds read.
-use Rattle.std.specs.Prelude.{◌≡◌, ◌⊎◌, ℕ, ◌+◌, ◌*◌, ◌<◌, List, slice_get, Some}
+use Rattle.std.specs.Prelude.{◌≡◌, ◌⊎◌, ℕ, ◌+◌, ◌*◌, ◌<◌, List, slice_get, Some, IfSome}
 use Rattle.std.specs.List.{Contains}
 use Rattle.ckc_base.specs.declared.arithmetic.Width.TheVariants.{Word}
 use Rattle.ckc_types.specs.declared.types.CType.{CType}
@@ -26,9 +26,16 @@ pub record IsSlotPart (structs : Structs) (t : CType) (slot : Slot) : Type 0 whe
   pub pointer : IsPart structs t slot.offset Word
   pub counted : IsCountPart structs t slot.count
 
--- this of the slots of each type
+-- Elements of the type may lie in the block with a number: if that is the block of a static object, they are of its
+-- type.
+abbrev pub IsElementAt : Typed → ℕ → CType → Type 0
+IsElementAt p number t = IfSome (slice_get p.statics number) (λ o. o.element ≡ t)
+
+-- this of the slots of each type in each block in which elements of it may lie
 abbrev pub AreSlotParts : Typed → Type 0
-AreSlotParts p = (number : ℕ) (t : CType) (slot : Slot) → Contains (slots_of p number t) slot → IsSlotPart p.layout t slot
+AreSlotParts p =
+    (number : ℕ) (t : CType) (slot : Slot) → IsElementAt p number t → Contains (slots_of p number t) slot
+    → IsSlotPart p.layout t slot
 
 -- no write is to the member that a count names, in the element at an address
 abbrev pub IsCountSpared : List Write → ℕ → Count → Type 0

@@ -1,0 +1,17 @@
+pub mod Bounded
+pub mod Members
+pub mod Kept
+pub mod SameViews
+pub mod Bares
+pub mod Numbers
+pub mod Locals
+pub mod Functions
+pub mod Frames
+pub mod Sizes
+pub mod Every
+pub mod Typed
+pub mod Lists
+pub mod Accesses
+pub mod Bounds
+pub mod Slots
+pub mod Bodies
