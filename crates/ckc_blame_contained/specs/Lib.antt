@@ -1,0 +1,2 @@
+pub mod Valuations
+pub mod Containment

@@ -1,0 +1,43 @@
+//! What follows from the definitions alone, each the contract of a function that does nothing.
+
+ghost use Rattle.std.specs.Prelude.{◌≡◌, ◌≢◌, ℕ, Bool, true, List, pos, Some};
+ghost use Rattle.std.specs.List.{All};
+ghost use Rattle.ckc_linear.specs.declared.forms.Form.{Form};
+ghost use Rattle.ckc_typed.specs.declared.typed.Range.{Range};
+ghost use Rattle.ckc_typed.specs.declared.typed.Typed.{Typed};
+ghost use Rattle.ckc_bounds_points.specs.declared.frame.Bounds.TheVariants as bounds;
+ghost use Rattle.ckc_bounds_points.specs.Shown.{Known};
+ghost use Rattle.ckc_bounds_ranges.specs.declared.replacements.BaseBy.{BaseBy};
+ghost use Rattle.ckc_bounds_ranges.specs.declared.replacements.VariableBy.{VariableBy};
+ghost use Rattle.ckc_bounds_ranges.specs.Replaced.{replaced};
+ghost use Rattle.ckc_bounds_views.specs.Judged.{extended_by};
+ghost use Rattle.ckc_bounds_stores.specs.Values.{Value, holds};
+ghost use Rattle.ckc_blame_sound.specs.Sound.{IsPlaced};
+ghost use Rattle.ckc_blame_contained.specs.Valuations.{Valuation, form_address, AreFacts, IsReplaced};
+ghost use Rattle.ckc_blame_contained.specs.Containment.{Memory, IsReadBetween, IsJudged, IsRanged};
+
+/// A form with its base and its variable replaced stands before for the address that it stands for itself after, if
+/// what replaces them stands for as much.
+pub fn limits_move()
+    ensures { (bases : List BaseBy) (variables : List VariableBy) (size : ℕ)
+        (before after : Valuation) (f g : Form) → before.number 0 ≡ pos 0
+        → IsReplaced bases variables size before after f → replaced bases variables f ≡ Some g
+        → form_address before size g ≡ form_address after size f }
+{}
+
+/// Bounds that contain a pointer once what they name is replaced may be read within after that, if what replaces it
+/// stands for as much wherever the facts of the judgement are true. What more is known in the judgement is true of a
+/// pointer that is not null.
+pub fn contained_is_true()
+    ensures bounds { (m : Memory) (before after : Valuation) (n : ℕ) (value : Value)
+        (bases : List BaseBy) (variables : List VariableBy) (low high : Form) →
+        before.number 0 ≡ pos 0 → IsJudged m before n value
+        → (AreFacts before value.facts → IsReplaced bases variables m.to.size before after low
+        × IsReplaced bases variables m.to.size before after high)
+        → holds value (bounds.Known low high) bases variables ≡ true
+        → IsReadBetween m after n low high }
+    ensures facts { (p : Typed) (m : Memory) (v : Valuation) (n : ℕ) (r before : Range)
+        (allocated : Bool) (facts : Known) → All (IsPlaced p) m.blocks
+        → IsRanged m v n r before allocated → n ≢ 0 → AreFacts v facts
+        → AreFacts v (extended_by r before allocated facts) }
+{}

@@ -1,0 +1,6 @@
+//! What it means that the bounds of a pointer are contained in its range, in the states of a program.
+#![tactic(auto)]
+
+mod laws;
+
+pub use laws::{contained_is_true, limits_move};
