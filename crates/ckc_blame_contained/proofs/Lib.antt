@@ -1,4 +1,12 @@
+pub mod Tests
 pub mod Numbers
 pub mod Moved
 pub mod Narrower
 pub mod Contained
+pub mod Ends
+pub mod Found
+pub mod New
+pub mod Faults
+pub mod Kept
+pub mod Assigned
+pub mod Locals

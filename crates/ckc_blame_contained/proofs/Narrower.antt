@@ -1,5 +1,5 @@
 -- A range that lies in a true one, a number of elements from its ends, is true.
-use Rattle.std.proofs.Common.{◌≡◌, ◌⊎◌, ⊎_elim, inl, inr, ℕ, zero, suc, ◌+◌, ◌*◌, ◌%◌, ◌≤◌, ◌<◌, List, [], ◌∷◌, refl, ◌∙◌, arith}
+use Rattle.std.proofs.Common.{◌≡◌, ⊎_elim, ℕ, zero, suc, ◌+◌, ◌*◌, ◌%◌, ◌≤◌, ◌<◌, List, [], ◌∷◌, ◌∙◌, arith}
 use Rattle.std.specs.Prelude.{Bool, true, false, not, ◌==◌, ◌-◌, nat_le, nat_lt, ◌&&◌, ◌||◌, if◌then◌else◌}
 use Rattle.std.specs.List.{list_any, All}
 use Rattle.std.proofs.lemmas.List.Elements.{All-head, All-tail}
@@ -13,28 +13,16 @@ use Rattle.ckc_source.specs.declared.program.Shape.{Shape}
 use Rattle.ckc_source.specs.Blocks.{Block, end_of, first_place}
 use Rattle.ckc_source.specs.Runs.{is_within, is_in_block, any_below, is_at, is_in_some_element, is_in_member, member_runs, is_in, is_true}
 use Rattle.ckc_blame_sound.specs.Sound.{IsPlaced}
+use Rattle.ckc_blame_sound.proofs.Facts.{one_of}
+use Rattle.ckc_blame_contained.proofs.Tests.{left_of, right_of, and_of}
 
 -- ---- tests
-
-and_of : (a b : Bool) → a ≡ true → b ≡ true → (a && b) ≡ true
-and_of a b p q = rw (p, q) refl
-
-either : (a b : Bool) → (a || b) ≡ true → (a ≡ true) ⊎ (b ≡ true)
-either true b h = inl refl
-either false b h = inr h
-
-left_of : (a b : Bool) → a ≡ true → (a || b) ≡ true
-left_of a b p = rw p refl
-
-right_of : (a b : Bool) → b ≡ true → (a || b) ≡ true
-right_of true b p = refl
-right_of false b p = p
 
 and_more : (a b c : Bool) → (b ≡ true → c ≡ true) → (a && b) ≡ true → (a && c) ≡ true
 and_more a b c h e = let p = and_parts a b e in and_of a c p.0 (h p.1)
 
 or_more : (a b c d : Bool) → (a ≡ true → c ≡ true) → (b ≡ true → d ≡ true) → (a || b) ≡ true → (c || d) ≡ true
-or_more a b c d h k e = ⊎_elim (λ p. left_of c d (h p)) (λ p. right_of c d (k p)) (either a b e)
+or_more a b c d h k e = ⊎_elim (λ p. left_of c d (h p)) (λ p. right_of c d (k p)) (one_of a b e)
 
 any_more : {X : Type 0} (p q : X → Bool) → ((x : X) → p x ≡ true → q x ≡ true) → (xs : List X) → list_any p xs ≡ true → list_any q xs ≡ true
 any_more p q h [] e = e
@@ -167,14 +155,14 @@ module _ (p : Typed) (shapes : List Shape) (to : Pointee) (n low high : ℕ) whe
       let q = and_parts (nat_le (begin + to.size) (end_of b)) (is_within begin (begin + to.size) to.size n low high) h in
       lies_at b begin (begin + to.size) placed (omega arith) (leb-true (begin + to.size) (end_of b) q.0) (within begin (begin + to.size) to.size n low high q.1))
       (λ h. below_lies b placed offset k h)
-      (either (is_at b (b.base + (k * b.size + offset)) to.size n low high) (any_below k (λ i. is_at b (b.base + (i * b.size + offset)) to.size n low high)) e)
+      (one_of (is_at b (b.base + (k * b.size + offset)) to.size n low high) (any_below k (λ i. is_at b (b.base + (i * b.size + offset)) to.size n low high)) e)
 
   members_lie : (b : Block) → IsPlaced p b → (ms : List MemberRun) → list_any (is_in_member to n low high b) ms ≡ true → Lies to.size low high
   members_lie b placed [] e = absurd cc
   members_lie b placed (m ∷ ms) e = ⊎_elim
       (λ h. below_lies b placed m.offset b.count (and_parts (same_type to.element m.ctype && nat_le (m.offset + to.size) b.size) (is_in_some_element b m.offset to.size n low high) h).1)
       (λ h. members_lie b placed ms h)
-      (either (is_in_member to n low high b m) (list_any (is_in_member to n low high b) ms) e)
+      (one_of (is_in_member to n low high b m) (list_any (is_in_member to n low high b) ms) e)
 
   one_lies : (b : Block) → IsPlaced p b → is_in shapes to n low high b ≡ true → Lies to.size low high
   one_lies b placed e =
@@ -182,11 +170,11 @@ module _ (p : Typed) (shapes : List Shape) (to : Pointee) (n low high : ℕ) whe
       ⊎_elim
       (λ h. block_lies b placed h)
       (λ h. members_lie b placed (member_runs shapes b) (and_parts (not to.terminated) runs h).1)
-      (either (is_in_block to n low high b) (not to.terminated && runs) (and_parts b.is_run (is_in_block to n low high b || (not to.terminated && runs)) e).1)
+      (one_of (is_in_block to n low high b) (not to.terminated && runs) (and_parts b.is_run (is_in_block to n low high b || (not to.terminated && runs)) e).1)
 
   pub true_lies : (blocks : List Block) → All (IsPlaced p) blocks → is_true shapes blocks to n low high ≡ true → Lies to.size low high
   true_lies [] placed e = absurd cc
   true_lies (b ∷ bs) placed e = ⊎_elim
       (λ h. one_lies b (All-head (IsPlaced p) b bs placed) h)
       (λ h. true_lies bs (All-tail (IsPlaced p) b bs placed) h)
-      (either (is_in shapes to n low high b) (is_true shapes bs to n low high) e)
+      (one_of (is_in shapes to n low high b) (is_true shapes bs to n low high) e)

@@ -1,2 +1,4 @@
 pub mod Valuations
 pub mod Containment
+pub mod Ends
+pub mod Given

@@ -1,20 +1,28 @@
 //! What follows from the definitions alone, each the contract of a function that does nothing.
 
-ghost use Rattle.std.specs.Prelude.{◌≡◌, ◌≢◌, ℕ, Bool, true, List, pos, Some};
+ghost use Rattle.std.specs.Prelude.{◌≡◌, ◌≢◌, ℕ, Bool, true, List, [], pos, Some, Ok};
 ghost use Rattle.std.specs.List.{All};
 ghost use Rattle.ckc_linear.specs.declared.forms.Form.{Form};
 ghost use Rattle.ckc_typed.specs.declared.typed.Range.{Range};
 ghost use Rattle.ckc_typed.specs.declared.typed.Typed.{Typed};
 ghost use Rattle.ckc_bounds_points.specs.declared.frame.Bounds.TheVariants as bounds;
+ghost use Rattle.ckc_bounds_points.specs.declared.frame.Bounds.{Bounds};
+ghost use Rattle.ckc_bounds_points.specs.Flow.{State};
 ghost use Rattle.ckc_bounds_points.specs.Shown.{Known};
 ghost use Rattle.ckc_bounds_ranges.specs.declared.replacements.BaseBy.{BaseBy};
 ghost use Rattle.ckc_bounds_ranges.specs.declared.replacements.VariableBy.{VariableBy};
 ghost use Rattle.ckc_bounds_ranges.specs.Replaced.{replaced};
 ghost use Rattle.ckc_bounds_views.specs.Judged.{extended_by};
 ghost use Rattle.ckc_bounds_stores.specs.Values.{Value, holds};
+ghost use Rattle.ckc_bounds_stores.specs.Stores.{Placed, stored_placed};
+ghost use Rattle.ckc_source.specs.Eval.{Store};
+ghost use Rattle.ckc_blame_sound.specs.Points.{AreBounded};
+ghost use Rattle.ckc_blame_sound.specs.Settings.{Setting};
 ghost use Rattle.ckc_blame_sound.specs.Sound.{IsPlaced};
-ghost use Rattle.ckc_blame_contained.specs.Valuations.{Valuation, form_address, AreFacts, IsReplaced};
+ghost use Rattle.ckc_blame_contained.specs.Valuations.{Valuation, form_address, AreFacts, IsReplaced, IsValuationOf};
 ghost use Rattle.ckc_blame_contained.specs.Containment.{Memory, IsReadBetween, IsJudged, IsRanged};
+ghost use Rattle.ckc_blame_contained.specs.Ends.{HaveEnds};
+ghost use Rattle.ckc_blame_contained.specs.Given.{AreAssigned, StayTrue};
 
 /// A form with its base and its variable replaced stands before for the address that it stands for itself after, if
 /// what replaces them stands for as much.
@@ -40,4 +48,17 @@ pub fn contained_is_true()
         (allocated : Bool) (facts : Known) → All (IsPlaced p) m.blocks
         → IsRanged m v n r before allocated → n ≢ 0 → AreFacts v facts
         → AreFacts v (extended_by r before allocated facts) }
+{}
+
+/// Each local pointer in scope may be read within its bounds, and one element further if it is widened, after assignments
+/// to locals that are judged as one, which a single assignment is too.
+pub fn assignments_keep_bounds()
+    ensures { (s : Setting) (before after : Store) (v : Valuation) (seen : List ℕ)
+        (at there : State) (ps : List Placed) (result : Bounds) → at.reached ≡ true
+        → HaveEnds s → IsValuationOf s before.locals v → AreFacts v at.facts
+        → All (IsPlaced s.text) after.blocks → StayTrue before after
+        → AreAssigned s before after v at ps → AreBounded s before [] seen
+        → AreBounded s before at.widened seen
+        → stored_placed s.frame result seen ps at ≡ Ok there
+        → AreBounded s after [] seen × AreBounded s after there.widened seen }
 {}
