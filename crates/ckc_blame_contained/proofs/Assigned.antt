@@ -38,7 +38,7 @@ use Rattle.ckc_blame_contained.proofs.New.{new_judged, same_judged}
 use Rattle.ckc_blame_contained.proofs.Faults.{unless_none, untouched}
 use Rattle.ckc_blame_contained.proofs.Kept.{range_ends, within_after, local_kept}
 
-some_equal : {A : Type 0} (a b : A) → ◌≡◌ {A = Option A} (Some a) (Some b) → a ≡ b
+pub some_equal : {A : Type 0} (a b : A) → ◌≡◌ {A = Option A} (Some a) (Some b) → a ≡ b
 some_equal a b e = cc
 
 -- a local that is not assigned keeps its value

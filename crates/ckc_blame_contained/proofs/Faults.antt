@@ -100,12 +100,12 @@ module _ (frame : Frame) (facts : Known) (k : ℕ) where
       × ((j : ℕ) (l : Local) → local_at frame j ≡ Some l → widening_names frame j k ≡ true → find (assigns_local j) ps ≡ None)
 
   -- one assignment
-  record OneWide (o : Option ℕ) (at next : State) : Type 0 where
-    reached : next.reached ≡ true
-    wide : list_any (λ p. p == k) next.widened ≡ true
+  pub record OneWide (o : Option ℕ) (at next : State) : Type 0 where
+    pub reached : next.reached ≡ true
+    pub wide : list_any (λ p. p == k) next.widened ≡ true
         → (list_any (λ p. p == k) at.widened ≡ true) × ((j : ℕ) (l : Local) → local_at frame j ≡ Some l → widening_names frame j k ≡ true → assigns j o ≡ false)
 
-  one_wide : (form : Option Form) (at : State) → at.reached ≡ true → (o : Option ℕ) → OneWide o at (assigned_local frame form at o)
+  pub one_wide : (form : Option Form) (at : State) → at.reached ≡ true → (o : Option ℕ) → OneWide o at (assigned_local frame form at o)
   one_wide form at reached None = record { reached = reached; wide = λ w. (w, λ j l there names. refl) }
   one_wide form at reached (Some i) =
       subst (λ (b : Bool). OneWide (Some i) at (if b then local_assigned frame i (local_at frame i) form at else at)) (sym reached) (by (local_at frame i) refl)

@@ -10,3 +10,5 @@ pub mod Faults
 pub mod Kept
 pub mod Assigned
 pub mod Locals
+pub mod Own
+pub mod Declared

@@ -38,7 +38,7 @@ module _ (s : Setting) (old now : Store) (v : Valuation) (seen : List ℕ) (at t
   known_after k l is low high b c =
       subst (λ r. IsReadable s now k l.ctype (range_of_bounds r)) (sym b)
       (by_find s old now v (valuation_of s now.locals) at ps are will assigned placed stay known k l is low high
-      (subst (AreEnds s (size_behind s.text.layout l.ctype)) b (ends k l is)) b
+      (subst (AreEnds s (size_behind s.text.layout l.ctype)) b (ends k l is).ends) b
       (subst (IsBounded s old at.widened k) is (widened k c)) (subst (IsBounded s old [] k) is (bounded k c))
       (find (assigns_local k) ps) (subst (λ o. IsAssigned s now v at (find (assigns_local k) ps) o (slice_index old.locals k) (slice_index now.locals k)) is (assigned k))
       (sym (ap (fault_of_local s.frame ps at k) is ∙ ap (fault_by_bounds s.frame ps at k) b) ∙ stored.locals k c))
@@ -58,7 +58,7 @@ module _ (s : Setting) (old now : Store) (v : Valuation) (seen : List ℕ) (at t
   wide_after : (k : ℕ) (l : Local) → local_at s.frame k ≡ Some l → Contains seen k → list_any (λ p. p == k) there.widened ≡ true
       → IsReadable s now k l.ctype (range_by (Some l) true)
   wide_after k l is c wide =
-      local_kept old now stay s v (valuation_of s now.locals) are will k l.ctype l true (ends k l is) (kept k l is (left_of (k == k) (in_bounds_of k (local_at s.frame k)) (eq-eqb k k refl)))
+      local_kept old now stay s v (valuation_of s now.locals) are will k l.ctype l true (ends k l is).ends (kept k l is (left_of (k == k) (in_bounds_of k (local_at s.frame k)) (eq-eqb k k refl)))
       (λ j named. kept_named j named)
       (subst (λ b. IsReadable s old k l.ctype (range_by (Some l) b)) before.0
       (subst (λ o. IsReadable s old k l.ctype (range_by o (list_any (λ p. p == k) at.widened))) is
@@ -73,7 +73,7 @@ module _ (s : Setting) (old now : Store) (v : Valuation) (seen : List ℕ) (at t
 
       kept_named : (j : ℕ) → in_bounds j l.bounds ≡ true → slice_index now.locals j ≡ slice_index old.locals j
       kept_named j named =
-          let m = bounds_named s (size_behind s.text.layout l.ctype) l.bounds (ends k l is) j named in
+          let m = bounds_named s (size_behind s.text.layout l.ctype) l.bounds (ends k l is).ends j named in
           kept j m.0 m.1 (right_of (k == j) (in_bounds_of j (local_at s.frame k)) (ap (in_bounds_of j) is ∙ named))
 
   pub widened_after : AreBounded s now there.widened seen

@@ -48,6 +48,11 @@ abbrev pub AreEnds : Setting → ℕ → Bounds → Type 0
 AreEnds s size bounds.Unknown = Unit {0}
 AreEnds s size (bounds.Known low high) = IsEnd s size low × IsEnd s size high
 
--- this of each local of a function, by the size of what it points to
+-- The bounds of a local have such ends, by the size of what it points to, and no integer has bounds.
+pub record HasEnds (s : Setting) (l : Local) : Type 0 where
+  pub ends : AreEnds s (size_behind s.text.layout l.ctype) l.bounds
+  pub integer : is_integer l.ctype ≡ true → l.bounds ≡ bounds.Unknown
+
+-- this of each local of a function
 abbrev pub HaveEnds : Setting → Type 0
-HaveEnds s = (k : ℕ) (l : Local) → local_at s.frame k ≡ Some l → AreEnds s (size_behind s.text.layout l.ctype) l.bounds
+HaveEnds s = (k : ℕ) (l : Local) → local_at s.frame k ≡ Some l → HasEnds s l

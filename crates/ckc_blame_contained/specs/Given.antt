@@ -1,19 +1,20 @@
 -- What evaluation gives to what is assigned.
-use Rattle.std.specs.Prelude.{◌≡◌, ◌≢◌, ℕ, true, pos, List, [], ◌∷◌, slice_index, Option, None, Some}
-use Rattle.std.specs.List.{find}
+use Rattle.std.specs.Prelude.{◌≡◌, ◌≢◌, ℕ, true, false, pos, List, [], ◌∷◌, slice_index, Option, None, Some}
+use Rattle.std.specs.List.{find, Contains}
 use Rattle.ckc_linear.specs.declared.forms.Form.{Form}
+use Rattle.ckc_syntax.specs.declared.tree.Init.TheVariants as init
 use Rattle.ckc_types.specs.declared.types.CType.{CType}
-use Rattle.ckc_typed.specs.Trees.{NotedExpr}
+use Rattle.ckc_typed.specs.Trees.{NotedExpr, NotedInit}
 use Rattle.ckc_bounds_points.specs.declared.frame.Local.{Local}
 use Rattle.ckc_bounds_points.specs.declared.frame.Frame.{Frame}
 use Rattle.ckc_bounds_points.specs.Shown.{Known}
 use Rattle.ckc_bounds_points.specs.Frames.{local_at}
-use Rattle.ckc_bounds_points.specs.Flow.{State}
+use Rattle.ckc_bounds_points.specs.Flow.{State, in_bounds_of}
 use Rattle.ckc_bounds_views.specs.Parts.{capped}
 use Rattle.ckc_bounds_views.specs.Views.{view}
 use Rattle.ckc_bounds_stores.specs.declared.values.Numbered.{Numbered}
 use Rattle.ckc_bounds_stores.specs.Values.{narrow, has_element, range_received}
-use Rattle.ckc_bounds_stores.specs.Stores.{Placed, received, place_of, assigns_local}
+use Rattle.ckc_bounds_stores.specs.Stores.{Placed, received, place_of, assigns_local, initialised}
 use Rattle.ckc_source.specs.Eval.{Store}
 use Rattle.ckc_source.specs.Runs.{is_true}
 use Rattle.ckc_source.specs.Words.{exact}
@@ -41,6 +42,14 @@ pub record IsNew (frame : Frame) (m : Memory) (v : Valuation) (t : CType) (e : N
   pub ranged : IsRanged m v n (range_received frame t e from at) (range_received frame t e from (narrow at))
       (has_element t (view frame e).allocates)
   pub fresh : n ≢ 0 → AreNumbersOf v (capped from.fresh 1) ((view frame e).fresh at)
+
+-- What is known of the word n that an expression gives to a pointer of type t: wherever facts are true the place of the
+-- expression is its address; and what is known of a new value.
+pub record IsFrom (frame : Frame) (m : Memory) (v : Valuation) (t : CType) (e : NotedExpr) (from : Numbered) (at : State)
+    (n : ℕ) : Type 0 where
+  pub place : (facts : Known) (f : Form) → AreFacts v facts → (view frame e).place from.value facts ≡ Some f
+      → form_address v m.to.size f ≡ pos n
+  pub value : IsNew frame m v t e from at n
 
 -- What is known of the word n that an assignment gives to a local: wherever facts are true, the place of the right side
 -- is its address, and the form of that in the type of the local is its number; and what is known of a new value.
@@ -70,3 +79,20 @@ AreAssigned s before after v at ps =
 abbrev pub StayTrue : Store → Store → Type 0
 StayTrue before after = (to : Pointee) (n low high : ℕ) → is_true before.shapes before.blocks to n low high ≡ true
     → is_true after.shapes after.blocks to n low high ≡ true
+
+-- The other locals keep their values, if one is declared.
+abbrev pub OthersStay : List ℕ → List ℕ → ℕ → Type 0
+OthersStay before after k = (j : ℕ) → j ≢ k → slice_index after j ≡ slice_index before j
+
+-- The word n that a local begins with is 0 if no initialiser is written, and else what the initialiser gives, which is
+-- contained in the bounds of the local k.
+abbrev pub IsBegun : Setting → Store → Valuation → State → ℕ → Local → NotedInit → ℕ → ℕ → Type 0
+IsBegun s store v at k l init.Nothing fresh n = n ≡ 0
+IsBegun s store v at k l (init.One e) fresh n =
+    IsFrom s.frame (memory_of s store l.ctype) v l.ctype e (record { value = 0; fresh = fresh }) at n
+    × (initialised s.frame k e fresh at ≡ true)
+IsBegun s store v at k l (init.Many es) fresh n = ⊥
+
+-- The bounds of no local in scope name the local k.
+abbrev pub IsUnnamed : Setting → List ℕ → ℕ → Type 0
+IsUnnamed s seen k = (j : ℕ) → Contains seen j → in_bounds_of k (local_at s.frame j) ≡ false

@@ -1,13 +1,16 @@
 //! What follows from the definitions alone, each the contract of a function that does nothing.
 
-ghost use Rattle.std.specs.Prelude.{◌≡◌, ◌≢◌, ℕ, Bool, true, List, [], pos, Some, Ok};
+ghost use Rattle.std.specs.Prelude.{◌≡◌, ◌≢◌, ℕ, Bool, true, List, [], ◌∷◌, ◌++◌, slice_index, pos, Option, Some, Ok};
 ghost use Rattle.std.specs.List.{All};
 ghost use Rattle.ckc_linear.specs.declared.forms.Form.{Form};
 ghost use Rattle.ckc_typed.specs.declared.typed.Range.{Range};
 ghost use Rattle.ckc_typed.specs.declared.typed.Typed.{Typed};
+ghost use Rattle.ckc_typed.specs.Trees.{NotedInit};
 ghost use Rattle.ckc_bounds_points.specs.declared.frame.Bounds.TheVariants as bounds;
 ghost use Rattle.ckc_bounds_points.specs.declared.frame.Bounds.{Bounds};
-ghost use Rattle.ckc_bounds_points.specs.Flow.{State};
+ghost use Rattle.ckc_bounds_points.specs.declared.frame.Local.{Local};
+ghost use Rattle.ckc_bounds_points.specs.Flow.{State, assigned};
+ghost use Rattle.ckc_bounds_points.specs.Frames.{local_at};
 ghost use Rattle.ckc_bounds_points.specs.Shown.{Known};
 ghost use Rattle.ckc_bounds_ranges.specs.declared.replacements.BaseBy.{BaseBy};
 ghost use Rattle.ckc_bounds_ranges.specs.declared.replacements.VariableBy.{VariableBy};
@@ -22,7 +25,7 @@ ghost use Rattle.ckc_blame_sound.specs.Sound.{IsPlaced};
 ghost use Rattle.ckc_blame_contained.specs.Valuations.{Valuation, form_address, AreFacts, IsReplaced, IsValuationOf};
 ghost use Rattle.ckc_blame_contained.specs.Containment.{Memory, IsReadBetween, IsJudged, IsRanged};
 ghost use Rattle.ckc_blame_contained.specs.Ends.{HaveEnds};
-ghost use Rattle.ckc_blame_contained.specs.Given.{AreAssigned, StayTrue};
+ghost use Rattle.ckc_blame_contained.specs.Given.{AreAssigned, IsBegun, IsUnnamed, OthersStay, StayTrue};
 
 /// A form with its base and its variable replaced stands before for the address that it stands for itself after, if
 /// what replaces them stands for as much.
@@ -61,4 +64,17 @@ pub fn assignments_keep_bounds()
         → AreBounded s before at.widened seen
         → stored_placed s.frame result seen ps at ≡ Ok there
         → AreBounded s after [] seen × AreBounded s after there.widened seen }
+{}
+
+/// The same after a declaration, of the local that it declares too.
+pub fn declarations_keep_bounds()
+    ensures { (s : Setting) (before after : Store) (v : Valuation) (seen : List ℕ) (at : State)
+        (k fresh : ℕ) (l : Local) (i : NotedInit) (form : Option Form) → at.reached ≡ true
+        → HaveEnds s → IsValuationOf s before.locals v → AreFacts v at.facts
+        → All (IsPlaced s.text) after.blocks → StayTrue before after
+        → local_at s.frame k ≡ Some l → OthersStay before.locals after.locals k
+        → IsBegun s after v at k l i fresh (slice_index after.locals k) → IsUnnamed s seen k
+        → AreBounded s before [] seen → AreBounded s before at.widened seen
+        → AreBounded s after [] (seen ++ k ∷ [])
+        × AreBounded s after (assigned s.frame k form at).widened (seen ++ k ∷ []) }
 {}

@@ -3,4 +3,4 @@
 
 mod laws;
 
-pub use laws::{assignments_keep_bounds, contained_is_true, limits_move};
+pub use laws::{assignments_keep_bounds, contained_is_true, declarations_keep_bounds, limits_move};
