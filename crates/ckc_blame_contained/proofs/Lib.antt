@@ -12,3 +12,6 @@ pub mod Assigned
 pub mod Locals
 pub mod Own
 pub mod Declared
+pub mod Passed
+pub mod Called
+pub mod Returned

@@ -28,7 +28,7 @@ use Rattle.ckc_blame_contained.specs.Containment.{Memory, IsReadWithin, IsJudged
 use Rattle.ckc_blame_contained.specs.Given.{AreNumbersOf, IsNew}
 use Rattle.ckc_blame_contained.proofs.Contained.{more_known}
 
-types_added : (v : Valuation) → v.number 0 ≡ pos 0 → (x : ℕ) (ts : List CType) (facts : Known) → AreNumbersOf v x ts → AreFacts v facts → AreFacts v (with_types x ts facts)
+pub types_added : (v : Valuation) → v.number 0 ≡ pos 0 → (x : ℕ) (ts : List CType) (facts : Known) → AreNumbersOf v x ts → AreFacts v facts → AreFacts v (with_types x ts facts)
 types_added v zero_is x [] facts are all = all
 types_added v zero_is x (t ∷ ts) facts are all =
     types_added v zero_is (capped x 1) ts (with_range x (range_of t) facts) are.1 (range_added v.number x (range_of t) facts zero_is are.0 all)

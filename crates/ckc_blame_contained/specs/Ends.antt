@@ -4,7 +4,7 @@ use Rattle.ckc_linear.specs.declared.forms.Base.{Base}
 use Rattle.ckc_linear.specs.declared.forms.Base.TheVariants as base
 use Rattle.ckc_linear.specs.declared.forms.Form.{Form}
 use Rattle.ckc_syntax.specs.declared.tree.Name.TheVariants as name
-use Rattle.ckc_typed.specs.Types.{is_integer}
+use Rattle.ckc_typed.specs.Types.{is_integer, is_pointer}
 use Rattle.ckc_typed.specs.Environment.{variable_named}
 use Rattle.ckc_bounds_points.specs.declared.frame.Bounds.{Bounds}
 use Rattle.ckc_bounds_points.specs.declared.frame.Bounds.TheVariants as bounds
@@ -26,10 +26,11 @@ abbrev pub IsCounted : Setting → ℕ → Type 0
 IsCounted s zero = Unit {0}
 IsCounted s (suc k) = IsCounter s k
 
--- A local points to elements of a size.
+-- A local is a pointer to elements of a size.
 pub record HasElements (s : Setting) (size k : ℕ) : Type 0 where
   pub local : Local
   pub there : local_at s.frame k ≡ Some local
+  pub pointer : is_pointer local.ctype ≡ true
   pub sized : size_behind s.text.layout local.ctype ≡ size
 
 -- A base is a local pointer to elements of a size, or a static array.

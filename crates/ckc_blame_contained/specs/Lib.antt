@@ -2,3 +2,4 @@ pub mod Valuations
 pub mod Containment
 pub mod Ends
 pub mod Given
+pub mod Passed

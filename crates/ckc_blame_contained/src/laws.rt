@@ -1,31 +1,37 @@
 //! What follows from the definitions alone, each the contract of a function that does nothing.
 
-ghost use Rattle.std.specs.Prelude.{◌≡◌, ◌≢◌, ℕ, Bool, true, List, [], ◌∷◌, ◌++◌, slice_index, pos, Option, Some, Ok};
+ghost use Rattle.std.specs.Prelude.{◌≡◌, ◌≢◌, ℕ, Bool, true, List, [], ◌∷◌, ◌++◌, ◌<◌, length, slice_index, pos, Option, None, Some, Ok};
 ghost use Rattle.std.specs.List.{All};
+ghost use Rattle.ckc_linear.specs.declared.forms.Base.TheVariants as base;
 ghost use Rattle.ckc_linear.specs.declared.forms.Form.{Form};
 ghost use Rattle.ckc_typed.specs.declared.typed.Range.{Range};
 ghost use Rattle.ckc_typed.specs.declared.typed.Typed.{Typed};
-ghost use Rattle.ckc_typed.specs.Trees.{NotedInit};
+ghost use Rattle.ckc_typed.specs.Trees.{NotedExpr, NotedInit};
 ghost use Rattle.ckc_bounds_points.specs.declared.frame.Bounds.TheVariants as bounds;
 ghost use Rattle.ckc_bounds_points.specs.declared.frame.Bounds.{Bounds};
+ghost use Rattle.ckc_bounds_points.specs.declared.frame.HeadBounds.{HeadBounds};
 ghost use Rattle.ckc_bounds_points.specs.declared.frame.Local.{Local};
-ghost use Rattle.ckc_bounds_points.specs.Flow.{State, assigned};
+ghost use Rattle.ckc_bounds_points.specs.Flow.{State, assigned, in_bounds};
 ghost use Rattle.ckc_bounds_points.specs.Frames.{local_at};
 ghost use Rattle.ckc_bounds_points.specs.Shown.{Known};
 ghost use Rattle.ckc_bounds_ranges.specs.declared.replacements.BaseBy.{BaseBy};
 ghost use Rattle.ckc_bounds_ranges.specs.declared.replacements.VariableBy.{VariableBy};
 ghost use Rattle.ckc_bounds_ranges.specs.Replaced.{replaced};
-ghost use Rattle.ckc_bounds_views.specs.Judged.{extended_by};
+ghost use Rattle.ckc_bounds_views.specs.Judged.{extended_by, head_fault};
+ghost use Rattle.ckc_bounds_views.specs.Parts.{View};
+ghost use Rattle.ckc_bounds_views.specs.Ranges.{range_of_result};
 ghost use Rattle.ckc_bounds_stores.specs.Values.{Value, holds};
-ghost use Rattle.ckc_bounds_stores.specs.Stores.{Placed, stored_placed};
+ghost use Rattle.ckc_bounds_stores.specs.Stores.{Placed, stored_placed, returned};
 ghost use Rattle.ckc_source.specs.Eval.{Store};
-ghost use Rattle.ckc_blame_sound.specs.Points.{AreBounded};
+ghost use Rattle.ckc_build_values.specs.Kinds.{size_behind};
+ghost use Rattle.ckc_blame_sound.specs.Points.{AreBounded, IsBounded};
 ghost use Rattle.ckc_blame_sound.specs.Settings.{Setting};
 ghost use Rattle.ckc_blame_sound.specs.Sound.{IsPlaced};
 ghost use Rattle.ckc_blame_contained.specs.Valuations.{Valuation, form_address, AreFacts, IsReplaced, IsValuationOf};
-ghost use Rattle.ckc_blame_contained.specs.Containment.{Memory, IsReadBetween, IsJudged, IsRanged};
+ghost use Rattle.ckc_blame_contained.specs.Containment.{Memory, IsReadBetween, IsReadWithin, IsJudged, IsRanged};
 ghost use Rattle.ckc_blame_contained.specs.Ends.{HaveEnds};
-ghost use Rattle.ckc_blame_contained.specs.Given.{AreAssigned, IsBegun, IsUnnamed, OthersStay, StayTrue};
+ghost use Rattle.ckc_blame_contained.specs.Passed.{AreArguments, AreNewArguments, AreParameters, IsResult};
+ghost use Rattle.ckc_blame_contained.specs.Given.{memory_of, AreAssigned, IsBegun, IsFrom, IsUnnamed, OthersStay, StayTrue};
 
 /// A form with its base and its variable replaced stands before for the address that it stands for itself after, if
 /// what replaces them stands for as much.
@@ -77,4 +83,44 @@ pub fn declarations_keep_bounds()
         → AreBounded s before [] seen → AreBounded s before at.widened seen
         → AreBounded s after [] (seen ++ k ∷ [])
         × AreBounded s after (assigned s.frame k form at).widened (seen ++ k ∷ []) }
+{}
+
+/// At the begin of a call each parameter may be read within its bounds, if the arguments are contained in them.
+pub fn calls_begin_bounded()
+    ensures { (s called : Setting) (store : Store) (v : Valuation) (at : State) (es : List View)
+        (fresh : ℕ) (h : HeadBounds) (entry locals : List ℕ) → called.text ≡ s.text
+        → HaveEnds called → AreParameters called h.params → length es ≡ length h.params
+        → IsValuationOf s store.locals v → AreFacts v at.facts
+        → All (IsPlaced called.text) store.blocks
+        → ((facts : Known) → AreFacts v facts
+        → AreArguments called.text.layout v facts h.params entry 0 0 es)
+        → AreNewArguments called store v h.params entry at 0 0 fresh es
+        → ((k : ℕ) → k < length h.params → slice_index locals k ≡ slice_index entry k)
+        → head_fault (Some h) es fresh at ≡ None → (k : ℕ) → k < length h.params
+        → IsBounded called (record store { locals = locals }) [] k (local_at called.frame k) }
+{}
+
+/// A result that is contained in its bounds at the `return` may be read within them with the values that the parameters
+/// were entered with, and so within the range of the call with the values of the locals where it was made.
+pub fn results_are_bounded()
+    ensures returned { (s : Setting) (store : Store) (v w : Valuation) (at : State)
+        (e : NotedExpr) (fresh n : ℕ) (entry : List ℕ) (low high : Form) →
+        IsValuationOf s store.locals v → IsValuationOf s entry w
+        → w.address (Some (base.Value 0)) ≡ pos n → s.head.bounds ≡ bounds.Known low high
+        → IsResult s (size_behind s.text.layout s.head.result) s.head.params low high
+        → ((k : ℕ) → in_bounds k s.head.bounds ≡ true
+        → slice_index store.locals k ≡ slice_index entry k)
+        → AreFacts v at.facts → All (IsPlaced s.text) store.blocks
+        → IsFrom s.frame (memory_of s store s.head.result) v s.head.result e
+        (record { value = 0; fresh = fresh }) at n → returned s.frame s.head e fresh at ≡ true
+        → IsReadBetween (memory_of s store s.head.result) w n low high }
+    ensures called { (s called : Setting) (locals entry : List ℕ) (m : Memory) (v w : Valuation)
+        (facts : Known) (h : HeadBounds) (es : List View) (first own n : ℕ) (low high : Form) →
+        called.text ≡ s.text → AreParameters called h.params → length es ≡ length h.params
+        → IsValuationOf s locals v → IsValuationOf called entry w
+        → AreArguments called.text.layout v facts h.params entry 0 first es
+        → v.address (Some (base.Value own)) ≡ pos n → w.address (Some (base.Value 0)) ≡ pos n
+        → IsResult called m.to.size h.params low high → h.bounds ≡ bounds.Known low high
+        → IsReadBetween m w n low high
+        → IsReadWithin m v n (range_of_result (Some h) es own first facts) }
 {}

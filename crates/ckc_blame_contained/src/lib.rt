@@ -3,4 +3,7 @@
 
 mod laws;
 
-pub use laws::{assignments_keep_bounds, contained_is_true, declarations_keep_bounds, limits_move};
+pub use laws::{
+    assignments_keep_bounds, calls_begin_bounded, contained_is_true, declarations_keep_bounds,
+    limits_move, results_are_bounded,
+};
