@@ -133,6 +133,14 @@ between facts l u (Some f) (Some g) e =
     let b = and_parts (is_at_most facts f g) (is_at_most facts g u) a.1 in
     record { from = f; upto = g; low = refl; high = refl; begins = a.0; ordered = b.0; ends = b.1 }
 
+-- so many elements further the remainder is the same
+same_even : (h k s n : ℕ) → h ≡ k + s * n → k % s ≡ h % s
+same_even h k s n e = sym (ap (λ j. j % s) e ∙ add-mul-mod_self_left k s n)
+
+-- a form with the base of another one
+at_base : (v : Valuation) (size : ℕ) (f : Form) (b : Option Base) (k : ℕ) → b ≡ f.base → v.address b +ℤ (pos size *ℤ number_of v.number f) ≡ pos k → form_address v size f ≡ pos k
+at_base v size f b k e h = ap (λ o. v.address o +ℤ (pos size *ℤ number_of v.number f)) (sym e) ∙ h
+
 module _ (m : Memory) (before after : Valuation) (n : ℕ) where
   within_true : (facts : Known) (l u f g : Form) → AreFacts before facts → IsTrueAt m n (form_address before m.to.size l) (form_address before m.to.size u)
       → is_at_most facts l f ≡ true → is_at_most facts f g ≡ true → is_at_most facts g u ≡ true
@@ -150,11 +158,13 @@ module _ (m : Memory) (before after : Valuation) (n : ℕ) where
       let one = so_far s t.low origin x y (sym t.begins) a.1 in
       let two = so_far s (t.low + s * one.0) origin y z (sym one.1) b.1 in
       let three = so_far s (t.low + s * one.0 + s * two.0) origin z w (sym two.1) c.1 in
-      let begins : form_address before s f ≡ pos (t.low + s * one.0) = ap (λ o. before.address o +ℤ (pos s *ℤ y)) (sym a.0) ∙ one.1 in
-      let to_g : g.base ≡ l.base = sym b.0 ∙ sym a.0 in
+      let mid = t.low + s * one.0 + s * two.0 in
+      let to_g : l.base ≡ g.base = a.0 ∙ b.0 in
       let to_u : l.base ≡ u.base = a.0 ∙ (b.0 ∙ c.0) in
-      let ends : form_address before s g ≡ pos (t.low + s * one.0 + s * two.0) = ap (λ o. before.address o +ℤ (pos s *ℤ z)) to_g ∙ two.1 in
-      let top : pos t.high ≡ pos (t.low + s * one.0 + s * two.0 + s * three.0) = sym t.ends ∙ (ap (λ o. before.address o +ℤ (pos s *ℤ w)) (sym to_u) ∙ three.1) in
+      let begins = at_base before s f l.base (t.low + s * one.0) a.0 one.1 in
+      let ends = at_base before s g l.base mid to_g two.1 in
+      let top = at_base before s u l.base (mid + s * three.0) to_u three.1 in
+      let last = t.ends in
       let high : t.high ≡ t.low + s * one.0 + s * two.0 + s * three.0 = omega (arith, ints) in
       record {
         low = t.low + s * one.0;
@@ -163,7 +173,7 @@ module _ (m : Memory) (before after : Valuation) (n : ℕ) where
         ends = ends;
         holds = closer_true m.shapes m.to n t.low t.high (t.low + s * one.0) (t.low + s * one.0 + s * two.0) (omega arith) (omega arith) (omega arith)
             (add-mul-mod_self_left t.low s one.0)
-            (sym (ap (λ k. k % s) high ∙ add-mul-mod_self_left (t.low + s * one.0 + s * two.0) s three.0))
+            (same_even t.high mid s three.0 high)
             m.blocks t.holds;
       }
 

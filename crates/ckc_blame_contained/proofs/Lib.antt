@@ -15,3 +15,4 @@ pub mod Declared
 pub mod Passed
 pub mod Called
 pub mod Returned
+pub mod Memory

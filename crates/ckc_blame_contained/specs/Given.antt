@@ -36,8 +36,8 @@ AreNumbersOf v x (t ∷ ts) = IsNumberOf t (v.number x) × AreNumbersOf v (cappe
 
 -- What is known of the word n that an expression gives to a place of type t: it is null if the expression is; it may be
 -- read within the range of the expression; and if it is not null, fresh variables stand for numbers of their types.
-pub record IsNew (frame : Frame) (m : Memory) (v : Valuation) (t : CType) (e : NotedExpr) (from : Numbered) (at : State)
-    (n : ℕ) : Type 0 where
+pub record IsNew (frame : Frame) (m : Memory) (v : Valuation) (t : CType) (e : NotedExpr) (from : Numbered)
+    (at : State) (n : ℕ) : Type 0 where
   pub null : (view frame e).null ≡ true → n ≡ 0
   pub ranged : IsRanged m v n (range_received frame t e from at) (range_received frame t e from (narrow at))
       (has_element t (view frame e).allocates)
@@ -45,8 +45,8 @@ pub record IsNew (frame : Frame) (m : Memory) (v : Valuation) (t : CType) (e : N
 
 -- What is known of the word n that an expression gives to a pointer of type t: wherever facts are true the place of the
 -- expression is its address; and what is known of a new value.
-pub record IsFrom (frame : Frame) (m : Memory) (v : Valuation) (t : CType) (e : NotedExpr) (from : Numbered) (at : State)
-    (n : ℕ) : Type 0 where
+pub record IsFrom (frame : Frame) (m : Memory) (v : Valuation) (t : CType) (e : NotedExpr) (from : Numbered)
+    (at : State) (n : ℕ) : Type 0 where
   pub place : (facts : Known) (f : Form) → AreFacts v facts → (view frame e).place from.value facts ≡ Some f
       → form_address v m.to.size f ≡ pos n
   pub value : IsNew frame m v t e from at n

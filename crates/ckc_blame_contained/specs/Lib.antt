@@ -3,3 +3,4 @@ pub mod Containment
 pub mod Ends
 pub mod Given
 pub mod Passed
+pub mod Memory

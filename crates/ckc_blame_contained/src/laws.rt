@@ -1,7 +1,10 @@
 //! What follows from the definitions alone, each the contract of a function that does nothing.
 
-ghost use Rattle.std.specs.Prelude.{◌≡◌, ◌≢◌, ℕ, Bool, true, List, [], ◌∷◌, ◌++◌, ◌<◌, length, slice_index, pos, Option, None, Some, Ok};
-ghost use Rattle.std.specs.List.{All};
+ghost use Rattle.std.specs.Prelude.{◌≡◌, ◌≢◌, ℕ, Bool, true, List, [], ◌∷◌, ◌++◌, ◌<◌, length, slice_index, ℤ, pos, Option, None, Some, Ok, IsOk};
+ghost use Rattle.std.specs.List.{All, Contains};
+ghost use Rattle.ckc_types.specs.declared.types.CType.{CType};
+ghost use Rattle.ckc_types.specs.declared.types.MemberBounds.{MemberBounds};
+ghost use Rattle.ckc_types.specs.declared.types.Structs.{Structs};
 ghost use Rattle.ckc_linear.specs.declared.forms.Base.TheVariants as base;
 ghost use Rattle.ckc_linear.specs.declared.forms.Form.{Form};
 ghost use Rattle.ckc_typed.specs.declared.typed.Range.{Range};
@@ -21,15 +24,20 @@ ghost use Rattle.ckc_bounds_views.specs.Judged.{extended_by, head_fault};
 ghost use Rattle.ckc_bounds_views.specs.Parts.{View};
 ghost use Rattle.ckc_bounds_views.specs.Ranges.{range_of_result};
 ghost use Rattle.ckc_bounds_stores.specs.Values.{Value, holds};
+ghost use Rattle.ckc_bounds_stores.specs.Targets.{local_of, memory_bounds, bounds_by_member};
 ghost use Rattle.ckc_bounds_stores.specs.Stores.{Placed, stored_placed, returned};
-ghost use Rattle.ckc_source.specs.Eval.{Store};
+ghost use Rattle.ckc_source.specs.declared.expr.Count.{Count};
+ghost use Rattle.ckc_source.specs.Eval.{Store, reads};
+ghost use Rattle.ckc_source.specs.Words.{elements_behind};
 ghost use Rattle.ckc_build_values.specs.Kinds.{size_behind};
+ghost use Rattle.ckc_build_values.specs.Members.{count_by};
 ghost use Rattle.ckc_blame_sound.specs.Points.{AreBounded, IsBounded};
 ghost use Rattle.ckc_blame_sound.specs.Settings.{Setting};
 ghost use Rattle.ckc_blame_sound.specs.Sound.{IsPlaced};
 ghost use Rattle.ckc_blame_contained.specs.Valuations.{Valuation, form_address, AreFacts, IsReplaced, IsValuationOf};
 ghost use Rattle.ckc_blame_contained.specs.Containment.{Memory, IsReadBetween, IsReadWithin, IsJudged, IsRanged};
 ghost use Rattle.ckc_blame_contained.specs.Ends.{HaveEnds};
+ghost use Rattle.ckc_blame_contained.specs.Memory.{AreMembersGiven, AreOwn, IsCountedBy};
 ghost use Rattle.ckc_blame_contained.specs.Passed.{AreArguments, AreNewArguments, AreParameters, IsResult};
 ghost use Rattle.ckc_blame_contained.specs.Given.{memory_of, AreAssigned, IsBegun, IsFrom, IsUnnamed, OthersStay, StayTrue};
 
@@ -123,4 +131,26 @@ pub fn results_are_bounded()
         → IsResult called m.to.size h.params low high → h.bounds ≡ bounds.Known low high
         → IsReadBetween m w n low high
         → IsReadWithin m v n (range_of_result (Some h) es own first facts) }
+{}
+
+/// A pointer in memory may be read within its bounds after an assignment to it, alone or in a bundle. Of a member those
+/// bounds end as many elements after it as a program counts.
+pub fn memory_is_bounded()
+    ensures target { (s : Setting) (store : Store) (before after : Valuation) (seen : List ℕ)
+        (at there : State) (ps : List Placed) (result : Bounds) (p : Placed) (n : ℕ)
+        (low high : Form) → before.number 0 ≡ pos 0 → after.number 0 ≡ pos 0
+        → after.address (Some (base.Value 0)) ≡ pos n → AreFacts before at.facts
+        → All (IsPlaced s.text) store.blocks
+        → IsFrom s.frame (memory_of s store p.target.note.ctype) before p.target.note.ctype
+        p.right p.from at n → AreMembersGiven s before after ps → AreOwn low high
+        → Contains ps p → local_of p.target ≡ None
+        → memory_bounds s.frame p.target ≡ bounds.Known low high
+        → stored_placed s.frame result seen ps at ≡ Ok there
+        → IsReadBetween (memory_of s store p.target.note.ctype) after n low high }
+    ensures counted { (structs : Structs) (tag n : ℕ) (t : CType) (m : Memory) (v : Valuation)
+        (b : MemberBounds) (count : Count) (z : ℤ) (low high : Form) → v.number 0 ≡ pos 0
+        → v.address (Some (base.Value 0)) ≡ pos n → bounds_by_member t b ≡ bounds.Known low high
+        → count_by structs tag t b ≡ Some count → IsCountedBy v b count z
+        → IsReadBetween m v n low high
+        → IsOk (reads m.shapes m.blocks m.to n (pos n) (elements_behind n m.to.size z)) }
 {}
