@@ -16,3 +16,4 @@ pub mod Passed
 pub mod Called
 pub mod Returned
 pub mod Memory
+pub mod Members

@@ -1,9 +1,11 @@
 //! What follows from the definitions alone, each the contract of a function that does nothing.
 
-ghost use Rattle.std.specs.Prelude.{◌≡◌, ◌≢◌, ℕ, Bool, true, List, [], ◌∷◌, ◌++◌, ◌<◌, length, slice_index, ℤ, pos, Option, None, Some, Ok, IsOk};
+ghost use Rattle.std.specs.Prelude.{◌≡◌, ◌≢◌, ◌⊎◌, ℕ, Bool, true, List, [], ◌∷◌, ◌++◌, ◌<◌, length, slice_index, ℤ, pos, Option, None, Some, Ok, IsOk};
 ghost use Rattle.std.specs.List.{All, Contains};
 ghost use Rattle.ckc_types.specs.declared.types.CType.{CType};
 ghost use Rattle.ckc_types.specs.declared.types.MemberBounds.{MemberBounds};
+ghost use Rattle.ckc_types.specs.declared.types.MemberShape.{MemberShape};
+ghost use Rattle.ckc_types.specs.Layout.{members_of};
 ghost use Rattle.ckc_types.specs.declared.types.Structs.{Structs};
 ghost use Rattle.ckc_linear.specs.declared.forms.Base.TheVariants as base;
 ghost use Rattle.ckc_linear.specs.declared.forms.Form.{Form};
@@ -19,13 +21,16 @@ ghost use Rattle.ckc_bounds_points.specs.Frames.{local_at};
 ghost use Rattle.ckc_bounds_points.specs.Shown.{Known};
 ghost use Rattle.ckc_bounds_ranges.specs.declared.replacements.BaseBy.{BaseBy};
 ghost use Rattle.ckc_bounds_ranges.specs.declared.replacements.VariableBy.{VariableBy};
+ghost use Rattle.ckc_bounds_ranges.specs.Members.{is_covered, is_touched};
 ghost use Rattle.ckc_bounds_ranges.specs.Replaced.{replaced};
+ghost use Rattle.ckc_bounds_views.specs.declared.variables.Member.{Member};
+ghost use Rattle.ckc_bounds_views.specs.Views.{view};
 ghost use Rattle.ckc_bounds_views.specs.Judged.{extended_by, head_fault};
 ghost use Rattle.ckc_bounds_views.specs.Parts.{View};
 ghost use Rattle.ckc_bounds_views.specs.Ranges.{range_of_result};
 ghost use Rattle.ckc_bounds_stores.specs.Values.{Value, holds};
 ghost use Rattle.ckc_bounds_stores.specs.Targets.{local_of, memory_bounds, bounds_by_member};
-ghost use Rattle.ckc_bounds_stores.specs.Stores.{Placed, stored_placed, returned};
+ghost use Rattle.ckc_bounds_stores.specs.Stores.{Placed, members_assigned, stored_placed, returned};
 ghost use Rattle.ckc_source.specs.declared.expr.Count.{Count};
 ghost use Rattle.ckc_source.specs.Eval.{Store, reads};
 ghost use Rattle.ckc_source.specs.Words.{elements_behind};
@@ -153,4 +158,16 @@ pub fn memory_is_bounded()
         → count_by structs tag t b ≡ Some count → IsCountedBy v b count z
         → IsReadBetween m v n low high
         → IsOk (reads m.shapes m.blocks m.to n (pos n) (elements_behind n m.to.size z)) }
+{}
+
+/// Each member that an assignment to a member touches is assigned too, and so is the one that its bounds name, or else it
+/// is that member itself, and gets null.
+pub fn members_are_covered()
+    ensures { (s : Setting) (seen : List ℕ) (at there : State) (ps : List Placed)
+        (result : Bounds) (p : Placed) (m : Member) (shape : MemberShape) → Contains ps p
+        → local_of p.target ≡ None → (view s.frame p.target).member ≡ Some m
+        → stored_placed s.frame result seen ps at ≡ Ok there
+        → Contains (members_of s.frame.structs m.tag) shape → is_touched m.number shape ≡ true
+        → (is_covered (members_assigned s.frame ps) shape shape.bounds ≡ true)
+        ⊎ ((shape.name ≡ m.number) × ((view s.frame p.right).null ≡ true)) }
 {}
