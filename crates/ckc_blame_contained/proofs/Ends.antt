@@ -60,7 +60,7 @@ module _ (s : Setting) (locals : List ℕ) (v : Valuation) (are : IsValuationOf 
       by true e = ap (λ j. pos (slice_index locals j)) (sym (eqb-true k own e))
       by false e = refl
 
-  amount_is : (x : ℕ) (c : ℤ) → IsCounted s x → amount locals (variable_at s.variables x) c ≡ v.number x +ℤ c
+  pub amount_is : (x : ℕ) (c : ℤ) → IsCounted s x → amount locals (variable_at s.variables x) c ≡ v.number x +ℤ c
   amount_is zero c h = let z = are.zero in omega (arith, ints)
   amount_is (suc k) c h = ap (λ b. amount locals (if b then None else Some (local_variable s.variables (suc k - 1))) c) not_zero ∙ by (suc k - 1) (omega arith)
     where

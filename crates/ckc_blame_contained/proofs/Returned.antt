@@ -1,7 +1,7 @@
 -- A result may be read within its bounds under the values that the parameters were entered with, and so within the range
 -- of its call.
-use Rattle.std.proofs.Common.{◌≡◌, ℕ, zero, suc, ◌+◌, ◌==◌, ◌<◌, refl, sym, ◌∙◌, ap, subst, List, [], ◌∷◌, ◌++◌, length, arith}
-use Rattle.std.specs.Prelude.{true, false, pos, slice_get, slice_index, Option, None, Some, IsOk}
+use Rattle.std.proofs.Common.{◌≡◌, ℕ, zero, suc, ◌+◌, ◌==◌, ◌<◌, refl, sym, ◌∙◌, ap, subst, List, [], ◌∷◌, ◌++◌, length, ◌+ℤ◌, arith}
+use Rattle.std.specs.Prelude.{true, false, pos, ◌*ℤ◌, slice_get, slice_index, Option, None, Some, IsOk}
 use Rattle.std.specs.List.{All}
 use Rattle.std.proofs.lemmas.Bool.{eq-eqb}
 use Rattle.ckc_linear.specs.declared.forms.Base.{Base}
@@ -24,9 +24,10 @@ use Rattle.ckc_bounds_views.specs.Views.{view}
 use Rattle.ckc_bounds_stores.specs.declared.values.Numbered.{Numbered}
 use Rattle.ckc_bounds_stores.specs.Values.{new_value, holds}
 use Rattle.ckc_bounds_stores.specs.Stores.{own_place, holds_from}
-use Rattle.ckc_source.specs.Eval.{Store, reads}
+use Rattle.ckc_source.specs.Eval.{Store, amount, base_address, end_address, reads, reads_limited}
 use Rattle.ckc_source.specs.Words.{exact}
-use Rattle.ckc_build_values.specs.Kinds.{integer_of, size_behind}
+use Rattle.ckc_build_values.specs.Kinds.{integer_of, size_behind, pointee_of}
+use Rattle.ckc_build_values.specs.Ends.{variable_at}
 use Rattle.ckc_build_values.specs.Names.{address_of}
 use Rattle.ckc_blame_sound.specs.Settings.{Setting}
 use Rattle.ckc_blame_sound.specs.Sound.{IsPlaced}
@@ -34,9 +35,10 @@ use Rattle.ckc_blame_contained.specs.Valuations.{Valuation, form_address, AreFac
 use Rattle.ckc_blame_contained.specs.Containment.{Memory, IsReadBetween, IsReadWithin}
 use Rattle.ckc_blame_contained.specs.Ends.{IsCounted}
 use Rattle.ckc_blame_contained.specs.Given.{memory_of, IsFrom}
-use Rattle.ckc_blame_contained.specs.Passed.{AreArguments, AreParameters, IsResultBase, IsResultEnd, IsResult}
+use Rattle.ckc_blame_contained.specs.Passed.{AreArguments, AreParameters, IsResultBase, IsResultEnd, IsResult, result_base, result_end, result_between}
 use Rattle.ckc_blame_contained.proofs.Tests.{left_of, right_of}
 use Rattle.ckc_blame_contained.proofs.Contained.{contained_reads}
+use Rattle.ckc_blame_contained.proofs.Ends.{amount_is}
 use Rattle.ckc_blame_contained.proofs.Moved.{form_moved}
 use Rattle.ckc_blame_contained.proofs.New.{new_judged}
 use Rattle.ckc_blame_contained.proofs.Assigned.{base_address_is, some_equal}
@@ -139,3 +141,24 @@ module _ (s c : Setting) (locals entry : List ℕ) (m : Memory) (v w : Valuation
           let last_is = form_moved bs vs m.to.size v w high g are.zero (end_there high ends.high_end (λ j e. ends.named j (right_of (in_form j low) (in_form j high) e))) e in
           subst (λ x. IsOk (reads m.shapes m.blocks m.to n x (form_address v m.to.size g))) (sym first_is)
           (subst (λ y. IsOk (reads m.shapes m.blocks m.to n (form_address w m.to.size low) y)) (sym last_is) read)
+
+-- ---- as a program reads it
+
+module _ (s : Setting) (store : Store) (w : Valuation) (entry : List ℕ) (n : ℕ) (low high : Form) (will : IsValuationOf s entry w) (own : w.address (Some (base.Value 0)) ≡ pos n) where
+  result_base_is : (size : ℕ) (b : Option Base) → IsResultBase s size b → pos (base_address entry n (result_base s b)) ≡ w.address b
+  result_base_is size None h = absurd h
+  result_base_is size (Some (base.Local k)) h = sym (will.pointer k)
+  result_base_is size (Some (base.Array k)) h = sym (will.array k)
+  result_base_is size (Some (base.Value k)) h = sym own ∙ ap (λ i. w.address (Some (base.Value i))) (sym h)
+
+  result_end_is : (size : ℕ) (f : Form) → IsResultEnd s size f → end_address entry size n (result_end s f) ≡ form_address w size f
+  result_end_is size f h =
+      ap (λ z. z +ℤ (pos size *ℤ amount entry (variable_at s.variables f.var) f.add)) (result_base_is size f.base h.base)
+      ∙ ap (λ z. w.address f.base +ℤ (pos size *ℤ z)) (amount_is s entry w will f.var f.add h.variable)
+
+  pub result_reads : IsResultEnd s (size_behind s.text.layout s.head.result) low → IsResultEnd s (size_behind s.text.layout s.head.result) high
+      → IsReadBetween (memory_of s store s.head.result) w n low high → IsOk (reads_limited (record store { locals = entry }) (result_between s low high) n)
+  result_reads first last h =
+      let size = size_behind s.text.layout s.head.result in
+      subst (λ y. IsOk (reads store.shapes store.blocks (pointee_of s.text.layout s.head.result) n (end_address entry size n (result_end s low)) y)) (sym (result_end_is size high last))
+      (subst (λ x. IsOk (reads store.shapes store.blocks (pointee_of s.text.layout s.head.result) n x (form_address w size high))) (sym (result_end_is size low first)) h)

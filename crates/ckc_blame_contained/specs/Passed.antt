@@ -12,9 +12,15 @@ use Rattle.ckc_bounds_points.specs.Frames.{local_at}
 use Rattle.ckc_bounds_points.specs.Flow.{State, in_bounds}
 use Rattle.ckc_bounds_points.specs.Forms.{in_type}
 use Rattle.ckc_bounds_views.specs.Parts.{View, capped, fresh_behind}
+use Rattle.ckc_source.specs.declared.expr.Base as ends
+use Rattle.ckc_source.specs.declared.expr.Base.TheVariants as lies
+use Rattle.ckc_source.specs.declared.expr.End.{End}
+use Rattle.ckc_source.specs.declared.expr.Limits.{Limits}
 use Rattle.ckc_source.specs.Eval.{Store}
 use Rattle.ckc_source.specs.Words.{exact}
+use Rattle.ckc_build_values.specs.Ends.{end_behind, limits_between, variable_at}
 use Rattle.ckc_build_values.specs.Kinds.{integer_of, size_behind}
+use Rattle.ckc_build_values.specs.Names.{address_of}
 use Rattle.ckc_blame_sound.specs.Settings.{Setting}
 use Rattle.ckc_blame_sound.specs.Values.{number_of}
 use Rattle.ckc_blame_contained.specs.Valuations.{Valuation, form_address}
@@ -84,3 +90,17 @@ pub record IsResult (s : Setting) (size : ℕ) (params : List Local) (low high :
   pub low_end : IsResultEnd s size low
   pub high_end : IsResultEnd s size high
   pub named : (j : ℕ) → in_bounds j (bounds.Known low high) ≡ true → j < length params
+
+-- what a form of the bounds of a result lies at: the result itself, a parameter or a static array
+abbrev pub result_base : Setting → Option Base → ends.Base
+result_base s (Some (base.Local k)) = lies.Local k
+result_base s (Some (base.Array k)) = lies.Fixed (address_of s.text k)
+result_base s _ = lies.Own
+
+-- an end of the bounds of a result as a program has it
+abbrev pub result_end : Setting → Form → End
+result_end s f = end_behind (result_base s f.base) (variable_at s.variables f.var) f.add
+
+-- the bounds of a result as a program has them, from a form up to another
+abbrev pub result_between : Setting → Form → Form → Limits
+result_between s low high = limits_between s.text.layout s.head.result (result_end s low) (result_end s high)

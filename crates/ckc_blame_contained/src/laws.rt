@@ -32,7 +32,7 @@ ghost use Rattle.ckc_bounds_stores.specs.Values.{Value, holds};
 ghost use Rattle.ckc_bounds_stores.specs.Targets.{local_of, memory_bounds, bounds_by_member};
 ghost use Rattle.ckc_bounds_stores.specs.Stores.{Placed, members_assigned, stored_placed, returned};
 ghost use Rattle.ckc_source.specs.declared.expr.Count.{Count};
-ghost use Rattle.ckc_source.specs.Eval.{Store, reads};
+ghost use Rattle.ckc_source.specs.Eval.{Store, reads, reads_limited};
 ghost use Rattle.ckc_source.specs.Words.{elements_behind};
 ghost use Rattle.ckc_build_values.specs.Kinds.{size_behind};
 ghost use Rattle.ckc_build_values.specs.Members.{count_by};
@@ -43,7 +43,7 @@ ghost use Rattle.ckc_blame_contained.specs.Valuations.{Valuation, form_address, 
 ghost use Rattle.ckc_blame_contained.specs.Containment.{Memory, IsReadBetween, IsReadWithin, IsJudged, IsRanged};
 ghost use Rattle.ckc_blame_contained.specs.Ends.{HaveEnds};
 ghost use Rattle.ckc_blame_contained.specs.Memory.{AreMembersGiven, AreOwn, IsCountedBy};
-ghost use Rattle.ckc_blame_contained.specs.Passed.{AreArguments, AreNewArguments, AreParameters, IsResult};
+ghost use Rattle.ckc_blame_contained.specs.Passed.{AreArguments, AreNewArguments, AreParameters, IsResult, result_between};
 ghost use Rattle.ckc_blame_contained.specs.Given.{memory_of, AreAssigned, IsBegun, IsFrom, IsUnnamed, OthersStay, StayTrue};
 
 /// A form with its base and its variable replaced stands before for the address that it stands for itself after, if
@@ -127,6 +127,11 @@ pub fn results_are_bounded()
         → IsFrom s.frame (memory_of s store s.head.result) v s.head.result e
         (record { value = 0; fresh = fresh }) at n → returned s.frame s.head e fresh at ≡ true
         → IsReadBetween (memory_of s store s.head.result) w n low high }
+    ensures read { (s : Setting) (store : Store) (w : Valuation) (entry : List ℕ) (n : ℕ)
+        (low high : Form) → IsValuationOf s entry w → w.address (Some (base.Value 0)) ≡ pos n
+        → IsResult s (size_behind s.text.layout s.head.result) s.head.params low high
+        → IsReadBetween (memory_of s store s.head.result) w n low high
+        → IsOk (reads_limited (record store { locals = entry }) (result_between s low high) n) }
     ensures called { (s called : Setting) (locals entry : List ℕ) (m : Memory) (v w : Valuation)
         (facts : Known) (h : HeadBounds) (es : List View) (first own n : ℕ) (low high : Form) →
         called.text ≡ s.text → AreParameters called h.params → length es ≡ length h.params
