@@ -38,7 +38,7 @@ address_of_base s locals _ = pos 0
 pub valuation_of : Setting → List ℕ → Valuation
 valuation_of s locals = record { number = value s.frame locals; address = address_of_base s locals }
 
-number_there : (s : Setting) (locals : List ℕ) (k : ℕ) (l : Local) → local_at s.frame k ≡ Some l → is_integer l.ctype ≡ true
+pub number_there : (s : Setting) (locals : List ℕ) (k : ℕ) (l : Local) → local_at s.frame k ≡ Some l → is_integer l.ctype ≡ true
     → value s.frame locals (suc k) ≡ exact (integer_of l.ctype) (slice_index locals k)
 number_there s locals k l there i =
     ap (λ o. value_in o (slice_index locals k)) there ∙ ap (λ b. if b then exact (integer_of l.ctype) (slice_index locals k) else pos 0) i

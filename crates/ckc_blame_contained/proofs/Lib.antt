@@ -17,3 +17,4 @@ pub mod Called
 pub mod Returned
 pub mod Memory
 pub mod Members
+pub mod Agree

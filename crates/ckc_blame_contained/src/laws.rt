@@ -39,12 +39,21 @@ ghost use Rattle.ckc_build_values.specs.Members.{count_by};
 ghost use Rattle.ckc_blame_sound.specs.Points.{AreBounded, IsBounded};
 ghost use Rattle.ckc_blame_sound.specs.Settings.{Setting};
 ghost use Rattle.ckc_blame_sound.specs.Sound.{IsPlaced};
-ghost use Rattle.ckc_blame_contained.specs.Valuations.{Valuation, form_address, AreFacts, IsReplaced, IsValuationOf};
+ghost use Rattle.ckc_blame_sound.specs.Values.{AreTrue};
+ghost use Rattle.ckc_blame_contained.specs.Valuations.{Valuation, form_address, AreFacts, IsReplaced, IsValuationOf, NamesIntegers};
 ghost use Rattle.ckc_blame_contained.specs.Containment.{Memory, IsReadBetween, IsReadWithin, IsJudged, IsRanged};
 ghost use Rattle.ckc_blame_contained.specs.Ends.{HaveEnds};
 ghost use Rattle.ckc_blame_contained.specs.Memory.{AreMembersGiven, AreOwn, IsCountedBy};
 ghost use Rattle.ckc_blame_contained.specs.Passed.{AreArguments, AreNewArguments, AreParameters, IsResult, result_between};
 ghost use Rattle.ckc_blame_contained.specs.Given.{memory_of, AreAssigned, IsBegun, IsFrom, IsUnnamed, OthersStay, StayTrue};
+
+/// Facts that name the number zero and integer locals alone are true of each valuation that gives locals their values,
+/// whatever it gives to fresh variables.
+pub fn valuations_agree()
+    ensures { (s : Setting) (locals : List ℕ) (v : Valuation) (facts : Known) →
+        IsValuationOf s locals v → All (NamesIntegers s.frame) facts.list
+        → AreTrue s.frame locals facts → AreFacts v facts }
+{}
 
 /// A form with its base and its variable replaced stands before for the address that it stands for itself after, if
 /// what replaces them stands for as much.
