@@ -3,7 +3,7 @@ use Rattle.std.proofs.Common.{◌≡◌, ⊎_elim, ℕ, zero, suc, ◌+◌, ◌*
 use Rattle.std.specs.Prelude.{Bool, true, false, not, ◌==◌, ◌-◌, nat_le, nat_lt, ◌&&◌, ◌||◌, if◌then◌else◌}
 use Rattle.std.specs.List.{list_any, All}
 use Rattle.std.proofs.lemmas.List.Elements.{All-head, All-tail}
-use Rattle.std.proofs.lemmas.Bool.{and_parts, leb-true, ltb-true, eqb-true, le-leb, eq-eqb, lt-ltb}
+use Rattle.std.proofs.lemmas.Bool.{and_parts, leb-true, le-leb, eq-eqb, lt-ltb}
 use Rattle.ckc_base.specs.Memory.{data_end}
 use Rattle.ckc_types.specs.Same.{same_type}
 use Rattle.ckc_typed.specs.declared.typed.Typed.{Typed}
@@ -14,6 +14,7 @@ use Rattle.ckc_source.specs.Blocks.{Block, end_of, first_place}
 use Rattle.ckc_source.specs.Runs.{is_within, is_in_block, any_below, is_at, is_in_some_element, is_in_member, member_runs, is_in, is_true}
 use Rattle.ckc_blame_sound.specs.Sound.{IsPlaced}
 use Rattle.ckc_blame_sound.proofs.Facts.{one_of}
+use Rattle.ckc_blame_slots.proofs.Ranges.{Within, within}
 use Rattle.ckc_blame_contained.proofs.Tests.{left_of, right_of, and_of}
 
 -- ---- tests
@@ -34,33 +35,6 @@ below_more p q h zero e = e
 below_more p q h (suc k) e = or_more (p k) (any_below k p) (q k) (any_below k q) (h k) (below_more p q h k) e
 
 -- ---- what is within
-
-pub record Within (begin end size n low high : ℕ) : Type 0 where
-  pub sized : 0 < size
-  pub begins : begin ≤ low
-  pub ordered : low ≤ high
-  pub ends : high ≤ end
-  pub low_even : low % size ≡ begin % size
-  pub high_even : high % size ≡ begin % size
-  pub even : n % size ≡ begin % size
-
-pub within : (begin end size n low high : ℕ) → is_within begin end size n low high ≡ true → Within begin end size n low high
-within begin end size n low high e =
-    let a = and_parts (nat_lt 0 size && nat_le begin low && nat_le low high && nat_le high end && (low % size == begin % size) && (high % size == begin % size)) (n % size == begin % size) e in
-    let b = and_parts (nat_lt 0 size && nat_le begin low && nat_le low high && nat_le high end && (low % size == begin % size)) (high % size == begin % size) a.0 in
-    let c = and_parts (nat_lt 0 size && nat_le begin low && nat_le low high && nat_le high end) (low % size == begin % size) b.0 in
-    let d = and_parts (nat_lt 0 size && nat_le begin low && nat_le low high) (nat_le high end) c.0 in
-    let f = and_parts (nat_lt 0 size && nat_le begin low) (nat_le low high) d.0 in
-    let g = and_parts (nat_lt 0 size) (nat_le begin low) f.0 in
-    record {
-      sized = ltb-true 0 size g.0;
-      begins = leb-true begin low g.1;
-      ordered = leb-true low high f.1;
-      ends = leb-true high end d.1;
-      low_even = eqb-true (low % size) (begin % size) c.1;
-      high_even = eqb-true (high % size) (begin % size) b.1;
-      even = eqb-true (n % size) (begin % size) a.1;
-    }
 
 is_within_of : (begin end size n low high : ℕ) → Within begin end size n low high → is_within begin end size n low high ≡ true
 is_within_of begin end size n low high w =
