@@ -1,0 +1,6 @@
+pub mod Valuations
+pub mod Containment
+pub mod Ends
+pub mod Given
+pub mod Passed
+pub mod Memory
