@@ -1,1 +1,14 @@
 pub mod Views
+pub mod Numbers
+pub mod Claims
+pub mod Reading
+pub mod Moving
+pub mod Forms
+pub mod Rows
+pub mod Nodes
+pub mod Binary
+pub mod Sums
+pub mod Inside
+pub mod Leaves
+pub mod Exprs
+pub mod Whole

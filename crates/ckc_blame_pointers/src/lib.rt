@@ -3,4 +3,4 @@
 
 mod laws;
 
-pub use laws::judging_keeps_views;
+pub use laws::{expressions_are_not_stuck, judging_keeps_views};

@@ -1,0 +1,98 @@
+-- The expressions of which it is said what they come to, and what is taken for granted of the text around them.
+use Rattle.std.specs.Prelude.{◌≡◌, ◌⊎◌, ◌+◌, ◌<◌, ◌^◌, ℕ, false, true, List, Option, None, Some}
+use Rattle.std.specs.List.{Contains}
+use Rattle.ckc_linear.specs.declared.forms.Base.{Base}
+use Rattle.ckc_linear.specs.declared.forms.Base.TheVariants as base
+use Rattle.ckc_linear.specs.declared.forms.Form.{Form}
+use Rattle.ckc_syntax.specs.declared.tree.Name.{Name}
+use Rattle.ckc_syntax.specs.declared.tree.Name.TheVariants as name
+use Rattle.ckc_syntax.specs.declared.tree.TreeOp.{TreeOp}
+use Rattle.ckc_syntax.specs.declared.tree.TreeOp.TheVariants as op
+use Rattle.ckc_syntax.specs.declared.tree.Node.{Node-F, out-Node}
+use Rattle.ckc_syntax.specs.declared.tree.Expr.{Expr-F, every-Expr}
+use Rattle.ckc_typed.specs.declared.typed.Note.{Note}
+use Rattle.ckc_typed.specs.declared.environment.Variable.{Variable}
+use Rattle.ckc_typed.specs.Environment.{variable_named}
+use Rattle.ckc_typed.specs.Operands.{is_raw_kind}
+use Rattle.ckc_typed.specs.Trees.{NotedLimits, NotedNode, NotedExpr, NotedLayer}
+use Rattle.ckc_typed.specs.Types.{kind_of, is_integer, is_scalar}
+use Rattle.ckc_typed_welltyped.specs.Expressions.{AnyLimits, AnyNode}
+use Rattle.ckc_bounds_points.specs.declared.frame.Bounds.{Bounds}
+use Rattle.ckc_bounds_points.specs.declared.frame.Bounds.TheVariants as bounds
+use Rattle.ckc_bounds_points.specs.declared.frame.Local.{Local}
+use Rattle.ckc_bounds_points.specs.Frames.{local_at}
+use Rattle.ckc_build_values.specs.Kinds.{size_behind}
+use Rattle.ckc_blame_sound.specs.Settings.{Setting}
+
+-- ---- the locals of a function
+
+-- a local that is in scope
+pub record IsInScope (s : Setting) (seen : List ℕ) (k : ℕ) : Type 0 where
+  pub seen_there : Contains seen k
+  pub local : Local
+  pub there : local_at s.frame k ≡ Some local
+  pub scalar : is_scalar local.ctype ≡ true
+
+-- a local that is an integer, as it is judged and as it runs
+pub record IsIntegerLocal (s : Setting) (k : ℕ) : Type 0 where
+  pub local : Local
+  pub variable : Variable
+  pub there : local_at s.frame k ≡ Some local
+  pub integer : is_integer local.ctype ≡ true
+  pub named : variable_named s.variables (name.Local k) ≡ Some variable
+
+-- the variable 0 or that of an integer local
+abbrev pub IsLocalVariable : Setting → ℕ → Type 0
+IsLocalVariable s x = (x ≡ 0) ⊎ ((k : ℕ) × (x ≡ k + 1) × IsIntegerLocal s k)
+
+-- a base that is a local or a static array
+abbrev pub IsLocalBase : Option Base → Type 0
+IsLocalBase (Some (base.Local k)) = Unit {0}
+IsLocalBase (Some (base.Array k)) = Unit {0}
+IsLocalBase _ = ⊥
+
+-- a form over locals and static arrays alone
+pub record IsLocalForm (s : Setting) (f : Form) : Type 0 where
+  pub based : IsLocalBase f.base
+  pub variable : IsLocalVariable s f.var
+
+-- the same of both ends of bounds
+abbrev pub AreLocalBounds : Setting → Bounds → Type 0
+AreLocalBounds s bounds.Unknown = Unit {0}
+AreLocalBounds s (bounds.Known low high) = IsLocalForm s low × IsLocalForm s high
+
+-- The declared bounds of locals name locals and static arrays alone.
+abbrev pub DeclareLocals : Setting → Type 0
+DeclareLocals s = (k : ℕ) (l : Local) → local_at s.frame k ≡ Some l → AreLocalBounds s l.bounds
+
+-- ---- expressions
+
+-- the unary operators on integers, and `!`
+abbrev pub IsArithmetic : TreeOp → Type 0
+IsArithmetic op.Minus = Unit {0}
+IsArithmetic op.Plus = Unit {0}
+IsArithmetic op.Flip = Unit {0}
+IsArithmetic op.Not = Unit {0}
+IsArithmetic _ = ⊥
+
+-- The nodes of which it is said what they come to: numbers, `sizeof`, `NULL`, locals in scope, operators, `?:` and casts.
+abbrev pub IsCoveredNode : Setting → List ℕ → NotedLayer → Type 0
+IsCoveredNode s seen (Node-F.Number n unsigned) = Unit {0}
+IsCoveredNode s seen (Node-F.Size w) = Unit {0}
+IsCoveredNode s seen Node-F.Null = Unit {0}
+IsCoveredNode s seen (Node-F.Name (name.Local k)) = IsInScope s seen k
+IsCoveredNode s seen (Node-F.Un o e) = IsArithmetic o
+IsCoveredNode s seen (Node-F.Bin o e f) = Unit {0}
+IsCoveredNode s seen (Node-F.Pick e f g) = Unit {0}
+IsCoveredNode s seen (Node-F.Cast w e) = Unit {0}
+IsCoveredNode s seen _ = ⊥
+
+-- Such an expression is no unchecked pointer, and the size of what it points to is a word.
+pub record IsCoveredExpr (s : Setting) (seen : List ℕ) (e : Expr-F Name Note NotedLimits NotedNode NotedExpr) : Type 0 where
+  pub node : IsCoveredNode s seen (out-Node Name Note e.node)
+  pub checked : is_raw_kind (kind_of e.note.ctype) ≡ false
+  pub sized : size_behind s.text.layout e.note.ctype < 2 ^ 32
+
+-- An expression and each expression in it, however deep, is such a one.
+abbrev pub IsCovered : Setting → List ℕ → NotedExpr → Type 0
+IsCovered s seen = every-Expr Name Note AnyLimits AnyNode (IsCoveredExpr s seen)
