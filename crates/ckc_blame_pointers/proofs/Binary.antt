@@ -128,7 +128,7 @@ module _ (s : Setting) (store : Store) (entry : List ℕ) where
       -- what is an integer, and tells no more than a comparison
       number_claims : (o : TreeOp) → Wide r → tells_more o ≡ false → (p : Value) → p.number < 2 ^ 32 → Result' o p
       number_claims o wide quiet p small =
-          integer_claims s store entry here h r (node o) (no_pointer r wide.wide.integer) refl p (wide_small r wide p.number small) (λ e. absurd (cc))
+          integer_claims s store entry here h r (node o) (no_pointer r wide.wide.integer) refl p (wide_small r wide p.number small) (λ e. absurd (cc)) (λ e. absurd (cc))
           (λ b side. compared o quiet (view s.frame e) (view s.frame f) b)
 
       pub other_claims : (o : TreeOp) → is_sum o ≡ false → tells_more o ≡ false → binary_type o e.note.ctype m f.note.ctype n ≡ Some r
@@ -144,7 +144,7 @@ module _ (s : Setting) (store : Store) (entry : List ℕ) where
           both_go_on (ExprClaims here e) (ExprClaims here f) (Result' op.Ne) (evaluated store v) (evaluated store w)
           (λ x y. operates operation.Ne (is_signed_at op.Ne e.note.ctype f.note.ctype) place x.number y.number) left right
           (λ x y is there c d.
-          integer_claims s store entry here h r (node op.Ne) (no_pointer r wide.wide.integer) refl _ (wide_small r wide (flag (not (x.number == y.number))) (flag_small (not (x.number == y.number)))) (λ e. absurd (cc))
+          integer_claims s store entry here h r (node op.Ne) (no_pointer r wide.wide.integer) refl _ (wide_small r wide (flag (not (x.number == y.number))) (flag_small (not (x.number == y.number)))) (λ e. absurd (cc)) (λ e. absurd (cc))
           (λ b side. unequal (view s.frame e) (view s.frame f) b x.number y.number side d.zero c.wide))
         where
           wide : Wide r
@@ -165,7 +165,7 @@ module _ (s : Setting) (store : Store) (entry : List ℕ) where
             wide = int_row (is_scalar e.note.ctype && is_scalar f.note.ctype) r row
 
             made : (k : ℕ) → k < 2 ^ 32 → ((b : Bool) → (k == 0) ≡ not b → SideGoes s store entry here (and_side (view s.frame e) (view s.frame f) b here.at)) → IsNotStuck (Result' op.AndThen) (plain k)
-            made k small sides = integer_claims s store entry here h r (node op.AndThen) (no_pointer r wide.wide.integer) refl _ (wide_small r wide k small) (λ e. absurd (cc)) sides
+            made k small sides = integer_claims s store entry here h r (node op.AndThen) (no_pointer r wide.wide.integer) refl _ (wide_small r wide k small) (λ e. absurd (cc)) (λ e. absurd (cc)) sides
 
             by : (x : Value) → evaluated store v ≡ Ok x → ExprClaims here e x → (b : Bool) → (x.number == 0) ≡ b
                 → IsNotStuck (Result' op.AndThen) (if b then plain 0 else given (evaluated store w) (λ y. plain (truth y.number)))
@@ -209,7 +209,7 @@ module _ (s : Setting) (store : Store) (entry : List ℕ) where
             wide = int_row (is_scalar e.note.ctype && is_scalar f.note.ctype) r row
 
             made : (k : ℕ) → k < 2 ^ 32 → ((b : Bool) → (k == 0) ≡ not b → SideGoes s store entry here (or_side (view s.frame e) (view s.frame f) b here.at)) → IsNotStuck (Result' op.OrElse) (plain k)
-            made k small sides = integer_claims s store entry here h r (node op.OrElse) (no_pointer r wide.wide.integer) refl _ (wide_small r wide k small) (λ e. absurd (cc)) sides
+            made k small sides = integer_claims s store entry here h r (node op.OrElse) (no_pointer r wide.wide.integer) refl _ (wide_small r wide k small) (λ e. absurd (cc)) (λ e. absurd (cc)) sides
 
             by : (x : Value) → evaluated store v ≡ Ok x → ExprClaims here e x → (b : Bool) → (x.number == 0) ≡ b
                 → IsNotStuck (Result' op.OrElse) (if b then given (evaluated store w) (λ y. plain (truth y.number)) else plain 1)

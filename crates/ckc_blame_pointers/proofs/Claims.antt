@@ -106,11 +106,11 @@ module _ (s : Setting) (store : Store) (entry : List ℕ) where
 
   -- ---- what is no pointer
 
-  pub not_placed : (here : Here) (t : CType) (n : NodeView) (limit first fresh : ℕ) (before : Valuation) (p : Value) → is_pointer t ≡ false
+  pub not_placed : (here : Here) (t : CType) (n : NodeView) (limit first fresh : ℕ) (before : Valuation) (p : Value) → is_pointer t ≡ false → (n.null ≡ true → p.number ≡ 0)
       → Placed here t limit (pointer_place t n first here.at.facts) (pointer_range t n first fresh here.at) first fresh before p
-  not_placed here t n limit first fresh before p e =
+  not_placed here t n limit first fresh before p e null =
       subst (λ (f : Option Form). Placed here t limit f (pointer_range t n first fresh here.at) first fresh before p) (sym place_none)
-      (by n.null (pointer_range t n first fresh here.at) range_none)
+      (by n.null (pointer_range t n first fresh here.at) range_none null)
     where
       place_none : pointer_place t n first here.at.facts ≡ None
       place_none = by_pointer (is_pointer t) e
@@ -122,6 +122,6 @@ module _ (s : Setting) (store : Store) (entry : List ℕ) where
       range_none : pointer_range t n first fresh here.at ≡ (if n.null then range.Any else range.Missing)
       range_none = ap (λ (b : Bool). if n.null then range.Any else (if b then n.range t (own_numbers n first fresh here.at) first fresh here.at else range.Missing)) e
 
-      by : (b : Bool) (r : Range) → r ≡ (if b then range.Any else range.Missing) → Placed here t limit None r first fresh before p
-      by true r is = subst (λ (r : Range). Placed here t limit None r first fresh before p) (sym is) (record { after = before; place_below = tt; range_below = tt; extends = record { addresses = λ n h. refl; numbers = λ x h. refl }; place_is = tt; range_is = tt })
-      by false r is = subst (λ (r : Range). Placed here t limit None r first fresh before p) (sym is) (record { after = before; place_below = tt; range_below = tt; extends = record { addresses = λ n h. refl; numbers = λ x h. refl }; place_is = tt; range_is = tt })
+      by : (b : Bool) (r : Range) → r ≡ (if b then range.Any else range.Missing) → (b ≡ true → p.number ≡ 0) → Placed here t limit None r first fresh before p
+      by true r is null = subst (λ (r : Range). Placed here t limit None r first fresh before p) (sym is) (record { after = before; place_below = tt; range_below = tt; extends = record { addresses = λ n h. refl; numbers = λ x h. refl }; place_is = tt; range_is = null refl })
+      by false r is null = subst (λ (r : Range). Placed here t limit None r first fresh before p) (sym is) (record { after = before; place_below = tt; range_below = tt; extends = record { addresses = λ n h. refl; numbers = λ x h. refl }; place_is = tt; range_is = tt })

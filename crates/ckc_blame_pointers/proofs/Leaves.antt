@@ -73,13 +73,13 @@ module _ (s : Setting) (store : Store) (entry : List ℕ) (here : Here) (h : Hol
   pub number_claims : (n : ℕ) (unsigned : Bool) (t : CType) → is_integer t ≡ true → is_char t ≡ false → n < 2 ^ 32
       → IsNotStuck (NodeClaims s store entry here h t (node_view s.frame (Node-F.Number n unsigned))) (plain n)
   number_claims n unsigned t integer wide small =
-      integer_claims s store entry here h t (node_view s.frame (Node-F.Number n unsigned)) (no_pointer t integer) refl (record { number = n; range = Without }) (wide_word t n wide small) (eqb-true n 0)
+      integer_claims s store entry here h t (node_view s.frame (Node-F.Number n unsigned)) (no_pointer t integer) refl (record { number = n; range = Without }) (wide_word t n wide small) (eqb-true n 0) (eqb-true n 0)
       (λ b e. subst (SideGoes s store entry here) (sym (nothing_read s store entry (λ facts. None) b here.at)) (stays s store entry here h))
 
   pub size_claims : (w : TypeTree) (n : ℕ) (t : CType) → is_integer t ≡ true → is_char t ≡ false → n < 2 ^ 32
       → IsNotStuck (NodeClaims s store entry here h t (node_view s.frame (Node-F.Size w))) (plain n)
   size_claims w n t integer wide small =
-      quiet_claims s store entry here h t (node_view s.frame (Node-F.Size w)) (no_pointer t integer) refl refl (λ b. nothing_read s store entry (λ facts. None) b here.at) (record { number = n; range = Without }) (wide_word t n wide small)
+      quiet_claims s store entry here h t (node_view s.frame (Node-F.Size w)) (no_pointer t integer) refl refl refl (λ b. nothing_read s store entry (λ facts. None) b here.at) (record { number = n; range = Without }) (wide_word t n wide small)
 
   -- ---- null
 
@@ -88,7 +88,7 @@ module _ (s : Setting) (store : Store) (entry : List ℕ) (here : Here) (h : Hol
     word = zero_word t;
     placed = λ first fresh before low little are fits.
         subst (λ (f : Option Form). Placed s store entry here t (first + with_own t (node_view s.frame Node-F.Null)) f range.Any first fresh before (record { number = 0; range = Without })) (sym (none (is_pointer t)))
-        (record { after = before; place_below = tt; range_below = tt; extends = record { addresses = λ n h. refl; numbers = λ x h. refl }; place_is = tt; range_is = tt });
+        (record { after = before; place_below = tt; range_below = tt; extends = record { addresses = λ n h. refl; numbers = λ x h. refl }; place_is = tt; range_is = refl });
     zero = λ e. refl;
     wide = λ e. narrow s store entry here h (node_view s.frame Node-F.Null) refl;
     sides = λ b e. subst (SideGoes s store entry here) (sym (nothing_read s store entry (λ facts. None) b here.at)) (stays s store entry here h);
@@ -143,7 +143,7 @@ module _ (s : Setting) (store : Store) (entry : List ℕ) (here : Here) (h : Hol
         by : (a b : Bool) → is_integer kept ≡ a → is_pointer kept ≡ b → (a || b) ≡ true → IsNotStuck (NodeClaims s store entry here h kept node) (evaluated store (local_in s.text s.variables kept k r))
         by true b i p e =
             subst (λ r. IsNotStuck (NodeClaims s store entry here h kept node) (evaluated store (local_in s.text s.variables kept k r))) (sym (bare i))
-            (quiet_claims s store entry here h kept node (no_pointer kept i) refl refl (λ b. nothing_read s store entry (λ facts. None) b here.at) (record { number = slice_index store.locals k; range = Without }) word_is)
+            (quiet_claims s store entry here h kept node (no_pointer kept i) refl refl refl (λ b. nothing_read s store entry (λ facts. None) b here.at) (record { number = slice_index store.locals k; range = Without }) word_is)
         by false true i p e =
             subst (λ r. IsNotStuck (NodeClaims s store entry here h kept node) (evaluated store (local_in s.text s.variables kept k r))) (sym (noted p))
             (weaker (evaluated store (local_in s.text s.variables kept k (range_of_local s.frame k here.at.widened)))
@@ -165,7 +165,7 @@ module _ (s : Setting) (store : Store) (entry : List ℕ) (here : Here) (h : Hol
     pub minus_claims : sign_type e.note.ctype ≡ Some r → IsNotStuck (NodeClaims s store entry here h r (unary op.Minus)) (evaluated store (Binary operation.Sub true place (Number 0) v))
     minus_claims row =
         weaker (evaluated store (Binary operation.Sub true place (Number 0) v)) (operation_word store operation.Sub true place (Number 0) v zero_small small_inside) (λ p is k.
-        quiet_claims s store entry here h r (unary op.Minus) (no_pointer r (sign_wide row).wide.integer) refl refl (λ b. nothing_read s store entry (λ facts. None) b here.at) p (wide_small r (sign_wide row) p.number k))
+        quiet_claims s store entry here h r (unary op.Minus) (no_pointer r (sign_wide row).wide.integer) refl refl refl (λ b. nothing_read s store entry (λ facts. None) b here.at) p (wide_small r (sign_wide row) p.number k))
       where
         zero_small : IsNotStuck IsSmall (plain 0)
         zero_small = omega arith
@@ -173,12 +173,12 @@ module _ (s : Setting) (store : Store) (entry : List ℕ) (here : Here) (h : Hol
     pub plus_claims : sign_type e.note.ctype ≡ Some r → IsNotStuck (NodeClaims s store entry here h r (unary op.Plus)) (evaluated store v)
     plus_claims row =
         weaker (evaluated store v) small_inside (λ p is k.
-        quiet_claims s store entry here h r (unary op.Plus) (no_pointer r (sign_wide row).wide.integer) refl refl (λ b. nothing_read s store entry (λ facts. None) b here.at) p (wide_small r (sign_wide row) p.number k))
+        quiet_claims s store entry here h r (unary op.Plus) (no_pointer r (sign_wide row).wide.integer) refl refl refl (λ b. nothing_read s store entry (λ facts. None) b here.at) p (wide_small r (sign_wide row) p.number k))
 
     pub flip_claims : sign_type e.note.ctype ≡ Some r → IsNotStuck (NodeClaims s store entry here h r (unary op.Flip)) (evaluated store (Binary operation.Xor true place v (Number 0xFFFFFFFF)))
     flip_claims row =
         weaker (evaluated store (Binary operation.Xor true place v (Number 0xFFFFFFFF))) (operation_word store operation.Xor true place v (Number 0xFFFFFFFF) small_inside ones_small) (λ p is k.
-        quiet_claims s store entry here h r (unary op.Flip) (no_pointer r (sign_wide row).wide.integer) refl refl (λ b. nothing_read s store entry (λ facts. None) b here.at) p (wide_small r (sign_wide row) p.number k))
+        quiet_claims s store entry here h r (unary op.Flip) (no_pointer r (sign_wide row).wide.integer) refl refl refl (λ b. nothing_read s store entry (λ facts. None) b here.at) p (wide_small r (sign_wide row) p.number k))
       where
         ones_small : IsNotStuck IsSmall (plain 0xFFFFFFFF)
         ones_small = omega arith
@@ -187,7 +187,7 @@ module _ (s : Setting) (store : Store) (entry : List ℕ) (here : Here) (h : Hol
     not_claims row =
         goes_on (ExprClaims s store entry here e) (NodeClaims s store entry here h r (unary op.Not)) (evaluated store v) (λ x. plain (flag (x.number == 0))) inside (λ x is c.
         integer_claims s store entry here h r (unary op.Not) (no_pointer r wide.wide.integer) refl (record { number = flag (x.number == 0); range = Without })
-        (wide_small r wide (flag (x.number == 0)) (flag_small (x.number == 0))) (λ e. absurd (cc)) (λ b side. c.sides (not b) (not_side (x.number == 0) b side)))
+        (wide_small r wide (flag (x.number == 0)) (flag_small (x.number == 0))) (λ e. absurd (cc)) (λ e. absurd (cc)) (λ b side. c.sides (not b) (not_side (x.number == 0) b side)))
       where
         wide : Wide r
         wide = int_row (is_scalar e.note.ctype) r row
@@ -215,7 +215,7 @@ module _ (s : Setting) (store : Store) (entry : List ℕ) (here : Here) (h : Hol
         become = ap (λ (b : Bool). if b && not (same_element r u) then Bare v else converted r v) (no_pointer r integer)
 
         quiet : (p : Value) → IsWordOf r p.number → NodeClaims s store entry here h r made p
-        quiet p word = quiet_claims s store entry here h r made (no_pointer r integer) refl refl (λ b. nothing_read s store entry (λ facts. None) b here.at) p word
+        quiet p word = quiet_claims s store entry here h r made (no_pointer r integer) refl refl refl (λ b. nothing_read s store entry (λ facts. None) b here.at) p word
 
         by : (b : Bool) → is_char r ≡ b → IsNotStuck (NodeClaims s store entry here h r made) (evaluated store (if b then Narrow v else v))
         by true c =
@@ -243,7 +243,7 @@ module _ (s : Setting) (store : Store) (entry : List ℕ) (here : Here) (h : Hol
           wide_of false e = absurd (cc)
 
       quiet : (p : Value) → p.number < 2 ^ 32 → NodeClaims s store entry here h r made p
-      quiet p k = quiet_claims s store entry here h r made (no_pointer r wide.wide.integer) refl refl (λ b. nothing_read s store entry (λ facts. None) b here.at) p (wide_small r wide p.number k)
+      quiet p k = quiet_claims s store entry here h r made (no_pointer r wide.wide.integer) refl refl refl (λ b. nothing_read s store entry (λ facts. None) b here.at) p (wide_small r wide p.number k)
 
       by : (b : Bool) → IsNotStuck (NodeClaims s store entry here h r made) (if b then evaluated store w else evaluated store v)
       by true = weaker (evaluated store w) (small_value s store entry here g (evaluated store w) third) (λ x is k. quiet x k)

@@ -10,5 +10,7 @@ pub mod Binary
 pub mod Sums
 pub mod Inside
 pub mod Leaves
+pub mod Loads
+pub mod Elements
 pub mod Exprs
 pub mod Whole

@@ -108,7 +108,7 @@ module _ (s : Setting) (store : Store) (entry : List ℕ) (here : Here) (t : CTy
         by false e = absurd (cc)
 
     -- the place of the sum
-    sum_at : (o q : Option Form) → place ≡ o → form ≡ q → (h : Form) → sum_of_forms o q ≡ Some h
+    pub sum_at : (o q : Option Form) → place ≡ o → form ≡ q → (h : Form) → sum_of_forms o q ≡ Some h
         → (pos a ≡ address_by s store.locals p.after size h) × ((n : ℕ) → limit ≤ n → BaseBelow n h.base)
     sum_at None q there index h e = absurd (cc)
     sum_at (Some f) None there index h e = absurd (cc)
@@ -163,7 +163,7 @@ module _ (s : Setting) (store : Store) (entry : List ℕ) (here : Here) (t : CTy
     range_on : (after : Valuation) → ((f : Form) → BaseBelow limit f.base → address_by s store.locals after size f ≡ address_by s store.locals p.after size f) → (v.number ≡ 0 → ⊥)
         → (q : Range) → r ≡ q → IsInRange s store after t q (record { number = a; range = v.range })
     range_on after same not_null range.Missing e = tt
-    range_on after same not_null range.Any e = tt
+    range_on after same not_null range.Any e = absurd (not_null (subst (λ q. IsInRange s store p.after t q v) e p.range_is))
     range_on after same not_null (range.Known low high) e = ⊎_elim (λ null. absurd (not_null null)) (λ (ends : HasEnds s store p.after t low high v). inr (record {
       from = ends.from;
       to = ends.to;

@@ -1,6 +1,7 @@
 -- The claims of nodes without a pointer of their own, and of those that move one.
 use Rattle.std.proofs.Common.{◌≡◌, ◌⊎◌, inl, inr, ⊎_elim, refl, sym, ap, subst, ◌∙◌, ℕ, Bool, true, false, List, arith}
 use Rattle.std.specs.Prelude.{◌+◌, ◌%◌, ◌==◌, ◌<◌, ◌≤◌, ◌^◌, ◌&&◌, ◌||◌, not, if◌then◌else◌, nat_lt, slice_index, ℤ, pos, negsuc, ◌+ℤ◌, ◌-ℤ◌, ◌*ℤ◌, neg_ℤ, Option, None, Some, IfSome, Result, Ok, Err}
+use Rattle.std.specs.List.{list_any}
 use Rattle.std.specs.Option.{option_or}
 use Rattle.std.proofs.lemmas.Bool.{eqb-true, ltb-true}
 use Rattle.std.proofs.lemmas.Int.{ints}
@@ -16,12 +17,14 @@ use Rattle.ckc_linear.specs.declared.forms.Form.{Form}
 use Rattle.ckc_typed.specs.declared.typed.Range.{Range}
 use Rattle.ckc_typed.specs.declared.typed.Range.TheVariants as range
 use Rattle.ckc_typed.specs.Types.{is_integer, is_pointer, is_char, is_scalar, kind_of}
+use Rattle.ckc_bounds_points.specs.declared.frame.Bounds.{Bounds}
+use Rattle.ckc_bounds_points.specs.declared.frame.Bounds.TheVariants as bounds
 use Rattle.ckc_bounds_points.specs.declared.frame.Local.{Local}
 use Rattle.ckc_bounds_points.specs.Shown.{Known}
 use Rattle.ckc_bounds_points.specs.Frames.{local_at}
 use Rattle.ckc_bounds_points.specs.Flow.{State}
-use Rattle.ckc_bounds_points.specs.Forms.{base_form, sum_of_forms}
-use Rattle.ckc_bounds_ranges.specs.Rows.{range_of_local}
+use Rattle.ckc_bounds_points.specs.Forms.{base_form, moved_form, sum_of_forms}
+use Rattle.ckc_bounds_ranges.specs.Rows.{range_moved, range_of_bounds, range_widened, range_by, range_of_local}
 use Rattle.ckc_bounds_views.specs.Parts.{NodeView, capped}
 use Rattle.ckc_bounds_views.specs.Conditions.{widening}
 use Rattle.ckc_bounds_views.specs.Places.{with_own, pointer_place}
@@ -80,21 +83,21 @@ module _ (s : Setting) (store : Store) (entry : List ℕ) (here : Here) (h : Hol
   narrow n none = subst (λ k. AreBounded s store (widening s.frame k (n.target 0 here.at.facts) here.at).widened here.seen) (sym none) h.widened
 
   -- what is no pointer
-  pub integer_claims : (t : CType) (n : NodeView) → is_pointer t ≡ false → n.behind ≡ None → (p : Value) → IsWordOf t p.number → (n.is_zero ≡ true → p.number ≡ 0)
+  pub integer_claims : (t : CType) (n : NodeView) → is_pointer t ≡ false → n.behind ≡ None → (p : Value) → IsWordOf t p.number → (n.null ≡ true → p.number ≡ 0) → (n.is_zero ≡ true → p.number ≡ 0)
       → ((b : Bool) → (p.number == 0) ≡ not b → SideGoes s store entry here (n.side b here.at)) → NodeClaims t n p
-  integer_claims t n bare none p word zero sides = record {
+  integer_claims t n bare none p word null zero sides = record {
     word = word;
-    placed = λ first fresh before low small are fits. not_placed s store entry here t n (first + with_own t n) first fresh before p bare;
+    placed = λ first fresh before low small are fits. not_placed s store entry here t n (first + with_own t n) first fresh before p bare null;
     zero = zero;
     wide = λ e. narrow n none;
     sides = sides;
   }
 
   -- ... and leaves the point
-  pub quiet_claims : (t : CType) (n : NodeView) → is_pointer t ≡ false → n.behind ≡ None → n.is_zero ≡ false → ((b : Bool) → n.side b here.at ≡ here.at)
+  pub quiet_claims : (t : CType) (n : NodeView) → is_pointer t ≡ false → n.behind ≡ None → n.null ≡ false → n.is_zero ≡ false → ((b : Bool) → n.side b here.at ≡ here.at)
       → (p : Value) → IsWordOf t p.number → NodeClaims t n p
-  quiet_claims t n bare none some same p word =
-      integer_claims t n bare none p word (λ e. absurd (cc)) (λ b e. subst (SideGoes s store entry here) (sym (same b)) (stays s store entry here h))
+  quiet_claims t n bare none known some same p word =
+      integer_claims t n bare none p word (λ e. absurd (cc)) (λ e. absurd (cc)) (λ b e. subst (SideGoes s store entry here) (sym (same b)) (stays s store entry here h))
 
   -- ---- a local
 
@@ -111,6 +114,23 @@ module _ (s : Setting) (store : Store) (entry : List ℕ) (here : Here) (h : Hol
         by (Some (base.Value j)) g = absurd g
         by None g = tt
 
+    not_any : (o : Option Local) (wide : Bool) → range_by o wide ≡ range.Any → ⊥
+    not_any None wide e = absurd (cc)
+    not_any (Some l) false e = by l.bounds e
+      where
+        by : (b : Bounds) → range_of_bounds b ≡ range.Any → ⊥
+        by bounds.Unknown e = absurd (cc)
+        by (bounds.Known low high) e = absurd (cc)
+    not_any (Some l) true e = by l.bounds e
+      where
+        by : (b : Bounds) → range_widened b ≡ range.Any → ⊥
+        by bounds.Unknown e = absurd (cc)
+        by (bounds.Known low high) e = one (moved_form (Some high) (pos 1)) e
+          where
+            one : (o : Option Form) → range_moved low o ≡ range.Any → ⊥
+            one None e = absurd (cc)
+            one (Some f) e = absurd (cc)
+
     -- what a pointer local is read as
     abbrev pub LocalComes : Range → Value → Type 0
     LocalComes r p = (p.number ≡ word_there)
@@ -118,7 +138,7 @@ module _ (s : Setting) (store : Store) (entry : List ℕ) (here : Here) (h : Hol
 
     pub local_comes : (r : Range) → r ≡ range_of_local s.frame k here.at.widened → IsNotStuck (LocalComes r) (evaluated store (local_in s.text s.variables scope.local.ctype k r))
     local_comes range.Missing e = (refl, λ limit. tt, λ v fits. tt)
-    local_comes range.Any e = (refl, λ limit. tt, λ v fits. tt)
+    local_comes range.Any e = absurd (not_any (local_at s.frame k) (list_any (λ p. p == k) here.at.widened) (sym e))
     local_comes (range.Known low high) e =
         weaker (evaluated store (local_in s.text s.variables scope.local.ctype k (range.Known low high)))
         (local_reads s store entry here h k scope.local scope.there scope.seen_there low high (sym e))

@@ -79,10 +79,10 @@ pub record HasRoom (first a b : ℕ) : Type 0 where
 pub has_room : (first a b : ℕ) → first + capped (capped a b) 1 + 1 < 2 ^ 32 → HasRoom first a b
 has_room first a b h = record { left = omega arith; right = omega arith; more = omega arith; over = omega arith; next = omega arith; own = omega arith }
 
-capped_more : (m n : ℕ) → m < 2 ^ 32 → m ≤ capped m n
+pub capped_more : (m n : ℕ) → m < 2 ^ 32 → m ≤ capped m n
 capped_more m n h = omega arith
 
-capped_small : (m n : ℕ) → capped m n < 2 ^ 32
+pub capped_small : (m n : ℕ) → capped m n < 2 ^ 32
 capped_small m n = omega arith
 
 -- ---- an index as a form
@@ -123,7 +123,7 @@ module _ (s : Setting) (store : Store) (entry : List ℕ) (here : Here) (h : Hol
     range_is = q.range_is;
   }
 
-  fresh_on : (fresh more : ℕ) → fresh ≤ more → AreFresh s.frame fresh → AreFresh s.frame more
+  pub fresh_on : (fresh more : ℕ) → fresh ≤ more → AreFresh s.frame fresh → AreFresh s.frame more
   fresh_on fresh more less are k l above there = are k l (omega arith) there
 
   -- ---- a pointer that is moved
@@ -293,7 +293,7 @@ module _ (s : Setting) (store : Store) (entry : List ℕ) (here : Here) (h : Hol
         → IsNotStuck (NodeClaims s store entry here h r (node o)) (evaluated store x)
     number_claims o same wide x small =
         weaker (evaluated store x) small (λ p is k.
-        integer_claims s store entry here h r (node o) (no_pointer r wide.wide.integer) refl p (wide_small r wide p.number k) (λ e. absurd (cc))
+        integer_claims s store entry here h r (node o) (no_pointer r wide.wide.integer) refl p (wide_small r wide p.number k) (λ e. absurd (cc)) (λ e. absurd (cc))
         (λ b side. subst (SideGoes s store entry here) (sym (same b)) (stays s store entry here h)))
 
     small_left : IsNotStuck IsSmall (evaluated store v)

@@ -1,6 +1,7 @@
 -- The expressions of which it is said what they come to, and what is taken for granted of the text around them.
 use Rattle.std.specs.Prelude.{◌≡◌, ◌⊎◌, ◌+◌, ◌<◌, ◌^◌, ℕ, false, true, List, Option, None, Some}
 use Rattle.std.specs.List.{Contains}
+use Rattle.ckc_types.specs.declared.types.Kind.TheVariants as kind
 use Rattle.ckc_linear.specs.declared.forms.Base.{Base}
 use Rattle.ckc_linear.specs.declared.forms.Base.TheVariants as base
 use Rattle.ckc_linear.specs.declared.forms.Form.{Form}
@@ -15,14 +16,26 @@ use Rattle.ckc_typed.specs.declared.environment.Variable.{Variable}
 use Rattle.ckc_typed.specs.Environment.{variable_named}
 use Rattle.ckc_typed.specs.Operands.{is_raw_kind}
 use Rattle.ckc_typed.specs.Trees.{NotedLimits, NotedNode, NotedExpr, NotedLayer}
-use Rattle.ckc_typed.specs.Types.{kind_of, is_integer, is_scalar}
+use Rattle.ckc_typed.specs.Types.{kind_of, element_of, is_integer, is_scalar}
 use Rattle.ckc_typed_welltyped.specs.Expressions.{AnyLimits, AnyNode}
 use Rattle.ckc_bounds_points.specs.declared.frame.Bounds.{Bounds}
 use Rattle.ckc_bounds_points.specs.declared.frame.Bounds.TheVariants as bounds
 use Rattle.ckc_bounds_points.specs.declared.frame.Local.{Local}
 use Rattle.ckc_bounds_points.specs.Frames.{local_at}
+use Rattle.ckc_bounds_views.specs.Views.{view}
+use Rattle.ckc_source.specs.Eval.{Store}
 use Rattle.ckc_build_values.specs.Kinds.{size_behind}
+use Rattle.ckc_build_elaborate.specs.Shapes.{shapes_elaborated}
 use Rattle.ckc_blame_sound.specs.Settings.{Setting}
+use Rattle.ckc_blame_slots.specs.Cells.{AreSound, HaveOwnNames}
+
+-- ---- memory
+
+-- The blocks of a store are those of a sound state, and its structures are those of the text.
+pub record IsSoundStore (s : Setting) (store : Store) (next : ℕ) : Type 0 where
+  pub sound : AreSound s.text store.blocks next
+  pub shapes : store.shapes ≡ shapes_elaborated s.text.layout
+  pub names : HaveOwnNames s.text.layout
 
 -- ---- the locals of a function
 
@@ -75,22 +88,35 @@ IsArithmetic op.Flip = Unit {0}
 IsArithmetic op.Not = Unit {0}
 IsArithmetic _ = ⊥
 
--- The nodes of which it is said what they come to: numbers, `sizeof`, `NULL`, locals in scope, operators, `?:` and casts.
+-- what `*` and `[` read: an integer, through an `_Array_ptr`
+pub record IsElement (e : NotedExpr) : Type 0 where
+  pub counted : kind_of e.note.ctype ≡ Some kind.Arr
+  pub integer : is_integer (element_of e.note.ctype) ≡ true
+
+-- the operands of unary operators
+abbrev pub IsCoveredUnary : TreeOp → NotedExpr → Type 0
+IsCoveredUnary op.Deref e = IsElement e
+IsCoveredUnary o e = IsArithmetic o
+
+-- The nodes of which it is said what they come to: numbers, `sizeof`, `NULL`, locals in scope, operators, `?:`, casts, and
+-- integers that are read through pointers.
 abbrev pub IsCoveredNode : Setting → List ℕ → NotedLayer → Type 0
 IsCoveredNode s seen (Node-F.Number n unsigned) = Unit {0}
 IsCoveredNode s seen (Node-F.Size w) = Unit {0}
 IsCoveredNode s seen Node-F.Null = Unit {0}
 IsCoveredNode s seen (Node-F.Name (name.Local k)) = IsInScope s seen k
-IsCoveredNode s seen (Node-F.Un o e) = IsArithmetic o
+IsCoveredNode s seen (Node-F.Un o e) = IsCoveredUnary o e
 IsCoveredNode s seen (Node-F.Bin o e f) = Unit {0}
 IsCoveredNode s seen (Node-F.Pick e f g) = Unit {0}
 IsCoveredNode s seen (Node-F.Cast w e) = Unit {0}
+IsCoveredNode s seen (Node-F.Index e f) = IsElement e
 IsCoveredNode s seen _ = ⊥
 
--- Such an expression is no unchecked pointer, and the size of what it points to is a word.
+-- Such an expression is no unchecked pointer, the size of what it points to is a word, and so is the number of its values.
 pub record IsCoveredExpr (s : Setting) (seen : List ℕ) (e : Expr-F Name Note NotedLimits NotedNode NotedExpr) : Type 0 where
   pub node : IsCoveredNode s seen (out-Node Name Note e.node)
   pub checked : is_raw_kind (kind_of e.note.ctype) ≡ false
+  pub few : (view s.frame (record { node = e.node; pos = e.pos; note = e.note })).values + 1 < 2 ^ 32
   pub sized : size_behind s.text.layout e.note.ctype < 2 ^ 32
 
 -- An expression and each expression in it, however deep, is such a one.

@@ -70,7 +70,8 @@ pub record HasEnds (s : Setting) (store : Store) (v : Valuation) (t : CType) (lo
   pub high_is : pos to ≡ address_by s store.locals v (size_behind s.text.layout t) high
   pub true_there : is_true store.shapes store.blocks (pointee_of s.text.layout t) p.number from to ≡ true
 
--- A pointer that is not null has its range, if that is known.
+-- A pointer that is not null has its range, if that is known. One that may be used for any range is null.
 abbrev pub IsInRange : Setting → Store → Valuation → CType → noted.Range → Value → Type 0
 IsInRange s store v t (range.Known low high) p = (p.number ≡ 0) ⊎ HasEnds s store v t low high p
-IsInRange s store v t _ p = Unit {0}
+IsInRange s store v t range.Any p = p.number ≡ 0
+IsInRange s store v t range.Missing p = Unit {0}
