@@ -9,7 +9,9 @@ use Rattle.ckc_linear.specs.declared.forms.Base.TheVariants as base
 use Rattle.ckc_linear.specs.declared.forms.Form.{Form}
 use Rattle.ckc_typed.specs.declared.typed.Range.{Range}
 use Rattle.ckc_typed.specs.declared.typed.Range.TheVariants as range
-use Rattle.ckc_typed.specs.Types.{is_pointer}
+use Rattle.ckc_typed.specs.Types.{is_pointer, element_of}
+use Rattle.ckc_bounds_points.specs.declared.frame.Local.{Local}
+use Rattle.ckc_bounds_points.specs.Frames.{local_at}
 use Rattle.ckc_bounds_points.specs.Shown.{Known}
 use Rattle.ckc_bounds_points.specs.Flow.{State}
 use Rattle.ckc_bounds_views.specs.Parts.{NodeView}
@@ -54,12 +56,18 @@ abbrev pub RangeBelow : ℕ → Range → Type 0
 RangeBelow limit (range.Known low high) = BaseBelow limit low.base × BaseBelow limit high.base
 RangeBelow limit _ = Unit {0}
 
+-- a base that is a local points to what the local points to
+abbrev pub IsOfLocal : Setting → CType → Option Base → Type 0
+IsOfLocal s t (Some (base.Local k)) = (l : Local) → local_at s.frame k ≡ Some l → element_of l.ctype ≡ element_of t
+IsOfLocal s t _ = Unit {0}
+
 module _ (s : Setting) (store : Store) (entry : List ℕ) where
   -- where a pointer is, by forms whose values have numbers below a limit, in numbers that begin here
   pub record Placed (here : Here) (t : CType) (limit : ℕ) (place : Option Form) (r : Range) (first fresh : ℕ) (before : Valuation) (p : Value) : Type 0 where
     pub after : Valuation
     pub place_below : IfSome place (λ f. BaseBelow limit f.base)
     pub range_below : RangeBelow limit r
+    pub of_local : IfSome place (λ f. IsOfLocal s t f.base)
     pub extends : Extends first fresh before after
     pub place_is : IsAtPlace s store.locals after t place p.number
     pub range_is : IsInRange s store after t r p
@@ -123,5 +131,5 @@ module _ (s : Setting) (store : Store) (entry : List ℕ) where
       range_none = ap (λ (b : Bool). if n.null then range.Any else (if b then n.range t (own_numbers n first fresh here.at) first fresh here.at else range.Missing)) e
 
       by : (b : Bool) (r : Range) → r ≡ (if b then range.Any else range.Missing) → (b ≡ true → p.number ≡ 0) → Placed here t limit None r first fresh before p
-      by true r is null = subst (λ (r : Range). Placed here t limit None r first fresh before p) (sym is) (record { after = before; place_below = tt; range_below = tt; extends = record { addresses = λ n h. refl; numbers = λ x h. refl }; place_is = tt; range_is = null refl })
-      by false r is null = subst (λ (r : Range). Placed here t limit None r first fresh before p) (sym is) (record { after = before; place_below = tt; range_below = tt; extends = record { addresses = λ n h. refl; numbers = λ x h. refl }; place_is = tt; range_is = tt })
+      by true r is null = subst (λ (r : Range). Placed here t limit None r first fresh before p) (sym is) (record { after = before; place_below = tt; range_below = tt; of_local = tt; extends = record { addresses = λ n h. refl; numbers = λ x h. refl }; place_is = tt; range_is = null refl })
+      by false r is null = subst (λ (r : Range). Placed here t limit None r first fresh before p) (sym is) (record { after = before; place_below = tt; range_below = tt; of_local = tt; extends = record { addresses = λ n h. refl; numbers = λ x h. refl }; place_is = tt; range_is = tt })

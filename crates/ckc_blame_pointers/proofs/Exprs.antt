@@ -1,7 +1,8 @@
 -- The claims of all expressions that are covered, by induction.
 use Rattle.std.proofs.Common.{◌≡◌, inl, inr, refl, sym, ap, subst, ◌∙◌, ℕ, ◌+◌, Bool, true, false, List}
-use Rattle.std.specs.Prelude.{◌==◌, ◌<◌, ◌^◌, ◌&&◌, not, length, if◌then◌else◌, Option, None, Some, Result, Ok, Err}
+use Rattle.std.specs.Prelude.{◌==◌, ◌<◌, ◌^◌, ◌&&◌, not, length, pos, if◌then◌else◌, Option, None, Some, Result, Ok, Err}
 use Rattle.ckc_base.specs.declared.places.Pos.{Pos}
+use Rattle.ckc_types.specs.declared.types.Kind.{Kind}
 use Rattle.ckc_types.specs.declared.types.Kind.TheVariants as kind
 use Rattle.ckc_types.specs.declared.types.CType.{CType}
 use Rattle.ckc_linear.specs.declared.forms.Form.{Form}
@@ -35,7 +36,7 @@ use Rattle.ckc_source.specs.declared.expr.Integer.{Integer}
 use Rattle.ckc_source.specs.declared.expr.Integer.TheVariants.{Int}
 use Rattle.ckc_source.specs.Code.{Expr, Number}
 use Rattle.ckc_source.specs.Eval.{Store, evaluated}
-use Rattle.ckc_source.specs.Words.{exact}
+use Rattle.ckc_source.specs.Words.{exact, elements_behind}
 use Rattle.ckc_build_values.specs.Kinds.{integer_of, size_behind, count_of_kind}
 use Rattle.ckc_build_values.specs.Places.{element_place, target_place, read_at}
 use Rattle.ckc_build_values.specs.Expressions.{Part, NodePart, LimitsPart, local_in, limits_parts, node_parts, expr_parts, node_value, part_of, part_of_node, part_of_limits}
@@ -47,7 +48,7 @@ use Rattle.ckc_blame_numbers.specs.Typed.{IsRow, HasRow, IsTyped, Agrees}
 use Rattle.ckc_blame_numbers.proofs.Exprs as numbers
 use Rattle.ckc_blame_numbers.proofs.Holding.{form_exact, side_told}
 use Rattle.ckc_blame_numbers.proofs.Types.{IsWide, number_wide, size_wide}
-use Rattle.ckc_blame_pointers.specs.Valuations.{AreFresh}
+use Rattle.ckc_blame_pointers.specs.Valuations.{AreFresh, address_by}
 use Rattle.ckc_blame_pointers.specs.Covered.{DeclareLocals, IsSoundStore, IsElement, IsCoveredNode, IsCoveredExpr, IsCovered}
 use Rattle.ckc_blame_pointers.specs.Meant.{IsNotStuck}
 use Rattle.ckc_blame_pointers.proofs.Claims.{Claims, holds_on}
@@ -57,7 +58,8 @@ use Rattle.ckc_blame_pointers.proofs.Nodes.{NodeClaims}
 use Rattle.ckc_blame_pointers.proofs.Rows.{is_sum, tells_more}
 use Rattle.ckc_blame_pointers.proofs.Binary.{ExprClaims, other_claims, unequal_claims, and_claims, or_claims}
 use Rattle.ckc_blame_pointers.proofs.Sums.{IsIndex, capped_more, capped_small, fresh_on, sum_claims, difference_claims}
-use Rattle.ckc_blame_pointers.proofs.Elements.{ranged_pointer, element_claims, narrow_array}
+use Rattle.ckc_blame_pointers.proofs.Elements.{at_pointer, IsRanged, ranged_pointer, Widens, target_aims, element_aims, element_claims, wide_terminated, narrow_array}
+use Rattle.ckc_blame_pointers.proofs.Claims.{IsOfLocal}
 use Rattle.ckc_blame_pointers.proofs.Loads.{no_count}
 use Rattle.ckc_blame_pointers.proofs.Leaves.{number_claims, size_claims, null_claims, local_claims, minus_claims, plus_claims, flip_claims, not_claims, cast_claims, choice_claims}
 
@@ -191,21 +193,35 @@ module _ (globals : Globals) (s : Setting) (agrees : Agrees globals s) (declares
 
     -- `*p` and `p[e]`
     read_claims : (n : NodeOfViews) (e : KeptExpr) → IsElement e.0 → (place : Pos) (index : Integer) (v w : Expr) (R : Value → Type 0) → IsNotStuck (ExprClaims s store entry here e.0) (evaluated store v)
-        → IsNotStuck R (evaluated store w) → (view s.frame e.0).values + 1 < 2 ^ 32 → (fresh : ℕ) → fresh < 2 ^ 32 → AreFresh s.frame fresh → access_fault (view s.frame e.0) place fresh here.at ≡ None
+        → IsNotStuck R (evaluated store w) → (few : (view s.frame e.0).values + 1 < 2 ^ 32) (fresh : ℕ) (little : fresh < 2 ^ 32) (are : AreFresh s.frame fresh) → access_fault (view s.frame e.0) place fresh here.at ≡ None
         → (node_view s.frame n).null ≡ false → (node_view s.frame n).is_zero ≡ false
-        → ((b : Bool) → (node_view s.frame n).side b here.at ≡ widening_side s.frame (node_view s.frame n).behind ((node_view s.frame n).target 0) b here.at) → (node_view s.frame n).behind ≡ Some kind.Arr
+        → ((b : Bool) → (node_view s.frame n).side b here.at ≡ widening_side s.frame (node_view s.frame n).behind ((node_view s.frame n).target 0) b here.at) → (node_view s.frame n).behind ≡ kind_of e.0.note.ctype
+        → ((x : Value) (c : ExprClaims s store entry here e.0 x) (j : Value) → evaluated store w ≡ Ok j → (a : ℕ) → pos a ≡ elements_behind x.number (size_behind s.text.layout e.0.note.ctype) (exact index j.number)
+        → (f : Form) → (node_view s.frame n).target 0 here.at.facts ≡ Some f
+        → (pos a ≡ address_by s store.locals (at_pointer s store entry next ready here h e.0 fresh few little are x c).after (size_behind s.text.layout e.0.note.ctype) f) × IsOfLocal s e.0.note.ctype f.base)
         → IsNotStuck (NodeClaims s store entry here h (element_of e.0.note.ctype) (node_view s.frame n))
         (evaluated store (read_at s.text.layout (element_of e.0.note.ctype) (count_of_kind (kind_of (element_of e.0.note.ctype))) (element_place s.text.layout e.0.note.ctype place index v w)))
-    read_claims n e node place index v w R left right few fresh little are fault known some same behind =
+    read_claims n e node place index v w R left right few fresh little are fault known some same behind aims =
         subst (λ x. IsNotStuck (NodeClaims s store entry here h (element_of e.0.note.ctype) (node_view s.frame n)) (evaluated store x))
         (sym (ap (λ o. read_at s.text.layout (element_of e.0.note.ctype) o (element_place s.text.layout e.0.note.ctype place index v w)) (no_count (element_of e.0.note.ctype) node.integer)))
         (element_claims s store entry next ready here h e.0 fresh few little are place index v w R left right counted node.integer
-        (ranged_pointer s store entry next ready here h e.0 fresh few little are place (ap is_counted_kind (ap kind_of (viewed_type e.0)) ∙ counted) fault) (node_view s.frame n) known some same
-        (narrow_array s store entry next ready here h e.0 fresh few little are place index v w R left right counted node.integer
-        (ranged_pointer s store entry next ready here h e.0 fresh few little are place (ap is_counted_kind (ap kind_of (viewed_type e.0)) ∙ counted) fault) (node_view s.frame n) behind))
+        ranged (node_view s.frame n) known some same (widens (kind_of e.0.note.ctype) refl counted))
       where
         counted : is_counted_kind (kind_of e.0.note.ctype) ≡ true
-        counted = ap is_counted_kind node.counted
+        counted = node.counted
+
+        ranged : (x : Value) → ExprClaims s store entry here e.0 x → IsRanged s store entry next ready here h e.0 fresh few little are x
+        ranged = ranged_pointer s store entry next ready here h e.0 fresh few little are place (ap is_counted_kind (ap kind_of (viewed_type e.0)) ∙ counted) fault
+
+        widens : (q : Option Kind) → kind_of e.0.note.ctype ≡ q → is_counted_kind q ≡ true
+            → Widens s store entry next ready here h e.0 fresh few little are place index v w R left right counted node.integer ranged (node_view s.frame n)
+        widens (Some kind.Arr) is c = narrow_array s store entry next ready here h e.0 fresh few little are place index v w R left right counted node.integer ranged (node_view s.frame n) (behind ∙ is)
+        widens (Some kind.Nt) is c =
+            wide_terminated s store entry next ready here h e.0 fresh few little are place index v w R left right counted node.integer ranged globals agrees declares (node_view s.frame n) (behind ∙ is)
+            (λ x j c d there a at f target. aims x c j there a at f target)
+        widens (Some kind.One) is c = absurd (cc)
+        widens (Some kind.Raw) is c = absurd (cc)
+        widens None is c = absurd (cc)
 
     covered_sized : (e : NotedExpr) → IsCovered s here.seen e → size_behind s.text.layout e.note.ctype < 2 ^ 32
     covered_sized e c = (every_here-Expr Name Note AnyLimits AnyNode (IsCoveredExpr s here.seen) e c).sized
@@ -263,7 +279,7 @@ module _ (globals : Globals) (s : Setting) (agrees : Agrees globals s) (declares
         subst (λ t. Of t (part_of e.0).ctype) is (subst (λ u. Of (element_of e.0.note.ctype) u) (sym (parted_type e.0))
         (read_claims (Node-F.Un op.Deref (view s.frame e.0)) e node place Int ((part_of e.0).value s.text s.variables k) (Number 0) (λ x. Unit {0})
         (e.1.claims typed here covered h fresh little are (one_part (λ a. Node-F.Un op.Deref a) (λ a b e. cc) _ e.0 judged) k) tt (covered_few e.0 covered) fresh little are fault
-        refl refl (λ b. refl) (ap kind_of (viewed_type e.0) ∙ node.counted)))
+        refl refl (λ b. refl) (ap kind_of (viewed_type e.0)) (λ x c j there a at f target. target_aims s store entry next ready here h e.0 fresh (covered_few e.0 covered) little are x c j there a at f target)))
       where
         is : element_of e.0.note.ctype ≡ note.ctype
         is = some_if (is_pointer e.0.note.ctype && not (is_void (element_of e.0.note.ctype))) (element_of e.0.note.ctype) note.ctype row.row
@@ -273,20 +289,23 @@ module _ (globals : Globals) (s : Setting) (agrees : Agrees globals s) (declares
             (evaluated store (read_at s.text.layout t (count_of_kind (kind_of t)) (target_place s.text.layout u place ((part_of e.0).value s.text s.variables k))))
     node_step (Node-F.Index e f) note place row typed covered node checked fresh little are fault judged noted k =
         let parts = two_parts (λ a b. Node-F.Index a b) (λ a b c d e. (cc, cc)) _ _ e.0 f.0 judged in
-        subst (λ t. Of t (part_of e.0).ctype) is (subst (λ u. Of (element_of e.0.note.ctype) u) (sym (parted_type e.0))
-        (read_claims (Node-F.Index (view s.frame e.0) (view s.frame f.0)) e node place (integer_of (part_of f.0).ctype) ((part_of e.0).value s.text s.variables k)
+        subst (λ t. Of t (part_of e.0).ctype (part_of f.0).ctype) is (subst (λ u. Of (element_of e.0.note.ctype) u (part_of f.0).ctype) (sym (parted_type e.0)) (subst (λ q. Of (element_of e.0.note.ctype) e.0.note.ctype q) (sym (parted_type f.0))
+        (read_claims (Node-F.Index (view s.frame e.0) (view s.frame f.0)) e node place (integer_of f.0.note.ctype) ((part_of e.0).value s.text s.variables k)
         ((part_of f.0).value s.text s.variables (k + (part_of e.0).literals)) (ExprClaims s store entry here f.0)
         (e.1.claims typed.0 here covered.0 h fresh little are parts.0 k)
         (f.1.claims typed.1 here covered.1 h _ (little_on e.0 fresh) (are_on e.0 fresh little are) parts.1 (k + (part_of e.0).literals))
-        (covered_few e.0 covered.0) fresh little are fault refl refl (λ b. refl) (ap kind_of (viewed_type e.0) ∙ node.counted)))
+        (covered_few e.0 covered.0) fresh little are fault refl refl (λ b. refl) (ap kind_of (viewed_type e.0))
+        (λ x c j there a at g target. element_aims s store entry next ready here h e.0 fresh (covered_few e.0 covered.0) little are x c (exact (integer_of f.0.note.ctype) j.number) ((view s.frame f.0).form here.at.facts)
+        (index_of here h f.0 typed.1 (k + (part_of e.0).literals) j there) a at (is_raw_kind (kind_of (view s.frame e.0).ctype))
+        (ap is_raw_kind (ap kind_of (viewed_type e.0)) ∙ (every_here-Expr Name Note AnyLimits AnyNode (IsCoveredExpr s here.seen) e.0 covered.0).checked) g target))))
       where
         is : element_of e.0.note.ctype ≡ note.ctype
         is = some_if (is_moved e.0.note.ctype && is_integer f.0.note.ctype) (element_of e.0.note.ctype) note.ctype row.row
 
-        Of : CType → CType → Type 0
-        Of t u = IsNotStuck (NodeClaims s store entry here h t (node_view s.frame (Node-F.Index (view s.frame e.0) (view s.frame f.0))))
+        Of : CType → CType → CType → Type 0
+        Of t u q = IsNotStuck (NodeClaims s store entry here h t (node_view s.frame (Node-F.Index (view s.frame e.0) (view s.frame f.0))))
             (evaluated store (read_at s.text.layout t (count_of_kind (kind_of t))
-            (element_place s.text.layout u place (integer_of (part_of f.0).ctype) ((part_of e.0).value s.text s.variables k) ((part_of f.0).value s.text s.variables (k + (part_of e.0).literals)))))
+            (element_place s.text.layout u place (integer_of q) ((part_of e.0).value s.text s.variables k) ((part_of f.0).value s.text s.variables (k + (part_of e.0).literals)))))
     node_step y note place row typed covered node checked fresh little are fault judged noted k = absurd node
 
   -- ---- the induction

@@ -19,7 +19,8 @@ use Rattle.ckc_typed.specs.declared.typed.Range.{Range}
 use Rattle.ckc_typed.specs.declared.typed.Range.TheVariants as range
 use Rattle.ckc_typed.specs.Operands.{is_raw_kind, same_element, sign_type, truth_type, arithmetic_type, choice_type, is_cast}
 use Rattle.ckc_typed.specs.Trees.{NotedExpr, TypeTree}
-use Rattle.ckc_typed.specs.Types.{is_integer, is_pointer, is_char, is_scalar, is_object_type, kind_of}
+use Rattle.ckc_typed.specs.Types.{is_integer, is_pointer, is_char, is_scalar, is_object_type, kind_of, element_of}
+use Rattle.ckc_bounds_points.specs.declared.frame.Local as locals
 use Rattle.ckc_bounds_points.specs.Frames.{local_at}
 use Rattle.ckc_bounds_points.specs.Flow.{State}
 use Rattle.ckc_bounds_points.specs.Forms.{base_form}
@@ -40,7 +41,7 @@ use Rattle.ckc_blame_sound.specs.Settings.{Setting}
 use Rattle.ckc_blame_sound.specs.Values.{IsWordOf}
 use Rattle.ckc_blame_sound.specs.Points.{HoldsAt}
 use Rattle.ckc_blame_numbers.specs.Typed.{Agrees}
-use Rattle.ckc_blame_numbers.proofs.Types.{no_pointer, word_wide, wide_word, byte_word, sign_row}
+use Rattle.ckc_blame_numbers.proofs.Types.{some_is, no_pointer, word_wide, wide_word, byte_word, sign_row}
 use Rattle.ckc_blame_pointers.specs.Valuations.{Valuation, Fits, AreFresh, IsInRange}
 use Rattle.ckc_blame_pointers.specs.Covered.{DeclareLocals, IsInScope}
 use Rattle.ckc_blame_pointers.specs.Meant.{IsNotStuck}
@@ -88,7 +89,7 @@ module _ (s : Setting) (store : Store) (entry : List ℕ) (here : Here) (h : Hol
     word = zero_word t;
     placed = λ first fresh before low little are fits.
         subst (λ (f : Option Form). Placed s store entry here t (first + with_own t (node_view s.frame Node-F.Null)) f range.Any first fresh before (record { number = 0; range = Without })) (sym (none (is_pointer t)))
-        (record { after = before; place_below = tt; range_below = tt; extends = record { addresses = λ n h. refl; numbers = λ x h. refl }; place_is = tt; range_is = refl });
+        (record { after = before; place_below = tt; range_below = tt; of_local = tt; extends = record { addresses = λ n h. refl; numbers = λ x h. refl }; place_is = tt; range_is = refl });
     zero = λ e. refl;
     wide = λ e. narrow s store entry here h (node_view s.frame Node-F.Null) refl;
     sides = λ b e. subst (SideGoes s store entry here) (sym (nothing_read s store entry (λ facts. None) b here.at)) (stays s store entry here h);
@@ -110,6 +111,9 @@ module _ (s : Setting) (store : Store) (entry : List ℕ) (here : Here) (h : Hol
     word_is : IsWordOf kept (slice_index store.locals k)
     word_is = h.words k scope.local scope.there
 
+    local_same : (l : locals.Local) → local_at s.frame k ≡ Some l → scope.local ≡ l
+    local_same l there = some_is scope.local l (sym scope.there ∙ there)
+
     pointer_local : is_pointer kept ≡ true → (p : Value) → LocalComes s store entry here h globals agrees declares k scope (range_of_local s.frame k here.at.widened) p
         → NodeClaims s store entry here h kept node p
     pointer_local pointer p c = record {
@@ -119,6 +123,7 @@ module _ (s : Setting) (store : Store) (entry : List ℕ) (here : Here) (h : Hol
           (subst (λ (r : Range). Placed s store entry here kept (first + with_own kept node) (Some (base_form (base.Local k))) r first fresh before p) (sym range_there) (record {
             after = before;
             place_below = tt;
+            of_local = λ l there. let same : scope.local ≡ l = local_same l there in ap (λ (l : locals.Local). element_of l.ctype) (sym same);
             range_below = c.1 (first + with_own kept node);
             extends = record { addresses = λ n h. refl; numbers = λ x h. refl };
             place_is = ap pos c.0 ∙ sym (at_base s store entry here kept before (fits 0 (inl refl)) (base.Local k));

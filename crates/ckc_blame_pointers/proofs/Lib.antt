@@ -14,3 +14,5 @@ pub mod Loads
 pub mod Elements
 pub mod Exprs
 pub mod Whole
+pub mod Widening
+pub mod Wider

@@ -186,6 +186,43 @@ module _ (access : Access) (v : Value) (i : ℕ) where
       by (inl t) = array_reached to access v i low high a range size t e
       by (inr (t, k)) = terminated_reached to access v i low high a range size t k e
 
+module _ (access : Access) (v : Value) (i a : ℕ) where
+  address_is : (z : ℤ) → at_address (as_address z) access.at ≡ Ok a → z ≡ pos a
+  address_is (pos n) e = by (nat_lt n (2 ^ 32)) e
+    where
+      by : (b : Bool) → at_address (if b then Some n else None) access.at ≡ Ok a → pos n ≡ pos a
+      by true e = let same : n ≡ a = cc in ap pos same
+      by false e = absurd (cc)
+  address_is (negsuc n) e = absurd (cc)
+
+  exact_is : exact_element access v i ≡ Ok a → elements_behind v.number access.size (exact access.index i) ≡ pos a
+  exact_is e = by (v.number == 0) e
+    where
+      by : (b : Bool) → (if b then stops check.Null access.at else at_address (as_address (elements_behind v.number access.size (exact access.index i))) access.at) ≡ Ok a
+          → elements_behind v.number access.size (exact access.index i) ≡ pos a
+      by true e = absurd (cc)
+      by false e = address_is (elements_behind v.number access.size (exact access.index i)) e
+
+  range_is : (last : Bool) (r : ranges.Range) (c : ℕ) → in_range last r access.at c ≡ Ok a → c ≡ a
+  range_is last (Within low high) c e = by (nat_le low c && (if last then nat_le c high else nat_lt c high)) e
+    where
+      by : (b : Bool) → (if b then Ok c else stops check.Bounds access.at) ≡ Ok a → c ≡ a
+      by true e = cc
+      by false e = absurd (cc)
+  range_is last Without c e = absurd (cc)
+
+  both_is : (last : Bool) (x : Result ℕ Halt) → given x (in_range last v.range access.at) ≡ Ok a → x ≡ Ok a
+  both_is last (Ok c) e = ap Ok (range_is last v.range c e)
+  both_is last (Err why) e = absurd (cc)
+
+  -- the address that a tested access goes to is exact
+  pub element_is : (to : Pointee) → IsTested access.through to → element access v i ≡ Ok a → pos a ≡ elements_behind v.number access.size (exact access.index i)
+  element_is to tested e = by tested.tested
+    where
+      by : (access.through ≡ through.Array) ⊎ ((access.through ≡ through.Terminated) × (to.terminated ≡ true)) → pos a ≡ elements_behind v.number access.size (exact access.index i)
+      by (inl t) = sym (exact_is (both_is false (exact_element access v i) (sym (ap (λ x. element_through x access v i) t) ∙ e)))
+      by (inr (t, k)) = sym (exact_is (both_is true (exact_element access v i) (sym (ap (λ x. element_through x access v i) t) ∙ e)))
+
 -- a checked pointer that is no `_Ptr` is tested
 tested_in : (f : CType-F CType) (element : CType) (size : ℕ) → is_counted_kind (kind_in f) ≡ true
     → IsTested (through_kind (kind_in f)) (record { element = element; size = size; terminated = is_terminated_kind (kind_in f) })

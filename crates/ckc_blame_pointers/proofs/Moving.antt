@@ -22,7 +22,7 @@ use Rattle.ckc_blame_sound.specs.Settings.{Setting}
 use Rattle.ckc_blame_sound.specs.Values.{value, number_of}
 use Rattle.ckc_blame_pointers.specs.Valuations.{Valuation, IsKnownVariable, Fits, AreFresh, Extends, address_in, address_by, IsAtPlace, HasEnds, IsInRange}
 use Rattle.ckc_blame_pointers.proofs.Numbers.{times_negative, elements_twice, away, true_same}
-use Rattle.ckc_blame_pointers.proofs.Claims.{BaseBelow, RangeBelow, Placed}
+use Rattle.ckc_blame_pointers.proofs.Claims.{BaseBelow, RangeBelow, IsOfLocal, Placed}
 
 -- a valuation in which one more value has an address
 abbrev pub with_address : ℕ → ℕ → Valuation → Valuation
@@ -109,7 +109,7 @@ module _ (s : Setting) (store : Store) (entry : List ℕ) (here : Here) (t : CTy
 
     -- the place of the sum
     pub sum_at : (o q : Option Form) → place ≡ o → form ≡ q → (h : Form) → sum_of_forms o q ≡ Some h
-        → (pos a ≡ address_by s store.locals p.after size h) × ((n : ℕ) → limit ≤ n → BaseBelow n h.base)
+        → (pos a ≡ address_by s store.locals p.after size h) × ((n : ℕ) → limit ≤ n → BaseBelow n h.base) × IsOfLocal s t h.base
     sum_at None q there index h e = absurd (cc)
     sum_at (Some f) None there index h e = absurd (cc)
     sum_at (Some f) (Some g) there index h e = by (g.var == 0) (f.var == 0) refl refl e
@@ -120,6 +120,9 @@ module _ (s : Setting) (store : Store) (entry : List ℕ) (here : Here) (t : CTy
         below : BaseBelow limit f.base
         below = subst (λ (o : Option Form). IfSome o (λ f. BaseBelow limit f.base)) there p.place_below
 
+        of_local : IsOfLocal s t f.base
+        of_local = subst (λ (o : Option Form). IfSome o (λ f. IsOfLocal s t f.base)) there p.of_local
+
         index_is : z ≡ number_of p.after.numbers g
         index_is = (form_is g index).0 ∙ ap (λ x. x +ℤ g.add) (sym (fits g.var (form_is g index).1))
 
@@ -128,7 +131,7 @@ module _ (s : Setting) (store : Store) (entry : List ℕ) (here : Here) (t : CTy
 
         by : (b c : Bool) → (g.var == 0) ≡ b → (f.var == 0) ≡ c
             → (if b then moved_form (Some f) g.add else (if c then moved_form (Some (record f { var = g.var })) g.add else None)) ≡ Some h
-            → (pos a ≡ address_by s store.locals p.after size h) × ((n : ℕ) → limit ≤ n → BaseBelow n h.base)
+            → (pos a ≡ address_by s store.locals p.after size h) × ((n : ℕ) → limit ≤ n → BaseBelow n h.base) × IsOfLocal s t h.base
         by true c i j e =
             let moved : record f { add = f.add +ℤ g.add } ≡ h = moved_small f h g.add e in
             let none : g.var ≡ 0 = eqb-true g.var 0 i in
@@ -136,6 +139,7 @@ module _ (s : Setting) (store : Store) (entry : List ℕ) (here : Here) (t : CTy
               subst (λ h. pos a ≡ address_by s store.locals p.after size h) moved
                   (moved_to f (record f { add = f.add +ℤ g.add }) (number_of p.after.numbers f) g.add at_place refl (index_is ∙ alone first_is) (again (p.after.numbers f.var)) refl),
               λ n more. subst (λ (h : Form). BaseBelow n h.base) moved (base_weaker limit n f.base more below),
+              subst (λ (h : Form). IsOfLocal s t h.base) moved of_local,
             )
           where
             alone : p.after.numbers g.var ≡ pos 0 → p.after.numbers g.var +ℤ g.add ≡ g.add
@@ -150,6 +154,7 @@ module _ (s : Setting) (store : Store) (entry : List ℕ) (here : Here) (t : CTy
               subst (λ h. pos a ≡ address_by s store.locals p.after size h) moved
                   (moved_to f (record f { var = g.var; add = f.add +ℤ g.add }) f.add (number_of p.after.numbers g) at_place (alone first_is) index_is (again (p.after.numbers g.var)) refl),
               λ n more. subst (λ (h : Form). BaseBelow n h.base) moved (base_weaker limit n f.base more below),
+              subst (λ (h : Form). IsOfLocal s t h.base) moved of_local,
             )
           where
             alone : p.after.numbers f.var ≡ pos 0 → p.after.numbers f.var +ℤ f.add ≡ f.add
@@ -186,6 +191,7 @@ module _ (s : Setting) (store : Store) (entry : List ℕ) (here : Here) (t : CTy
           after = p.after;
           place_below = base_weaker n most h.base (omega arith) ((sum_at place form refl refl h e).1 n over);
           range_below = range_weaker limit most r (omega arith) p.range_below;
+          of_local = (sum_at place form refl refl h e).2;
           extends = p.extends;
           place_is = (sum_at place form refl refl h e).0;
           range_is = range_on p.after (λ f b. refl) not_null r refl;
@@ -194,6 +200,7 @@ module _ (s : Setting) (store : Store) (entry : List ℕ) (here : Here) (t : CTy
           after = with_address n a p.after;
           place_below = under;
           range_below = range_weaker limit most r (omega arith) p.range_below;
+          of_local = tt;
           extends = record {
             addresses = λ k below. address_kept n a p.after k (omega arith) ∙ p.extends.addresses k below;
             numbers = p.extends.numbers;

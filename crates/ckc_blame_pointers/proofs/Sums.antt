@@ -118,6 +118,7 @@ module _ (s : Setting) (store : Store) (entry : List ℕ) (here : Here) (h : Hol
     after = q.after;
     place_below = q.place_below;
     range_below = q.range_below;
+    of_local = q.of_local;
     extends = record { addresses = λ n below. q.extends.addresses n (omega arith); numbers = λ x below. q.extends.numbers x (omega arith) };
     place_is = q.place_is;
     range_is = q.range_is;

@@ -1,7 +1,6 @@
 -- The expressions of which it is said what they come to, and what is taken for granted of the text around them.
 use Rattle.std.specs.Prelude.{◌≡◌, ◌⊎◌, ◌+◌, ◌<◌, ◌^◌, ℕ, false, true, List, Option, None, Some}
 use Rattle.std.specs.List.{Contains}
-use Rattle.ckc_types.specs.declared.types.Kind.TheVariants as kind
 use Rattle.ckc_linear.specs.declared.forms.Base.{Base}
 use Rattle.ckc_linear.specs.declared.forms.Base.TheVariants as base
 use Rattle.ckc_linear.specs.declared.forms.Form.{Form}
@@ -22,6 +21,7 @@ use Rattle.ckc_bounds_points.specs.declared.frame.Bounds.{Bounds}
 use Rattle.ckc_bounds_points.specs.declared.frame.Bounds.TheVariants as bounds
 use Rattle.ckc_bounds_points.specs.declared.frame.Local.{Local}
 use Rattle.ckc_bounds_points.specs.Frames.{local_at}
+use Rattle.ckc_bounds_views.specs.Judged.{is_counted_kind}
 use Rattle.ckc_bounds_views.specs.Views.{view}
 use Rattle.ckc_source.specs.Eval.{Store}
 use Rattle.ckc_build_values.specs.Kinds.{size_behind}
@@ -88,9 +88,9 @@ IsArithmetic op.Flip = Unit {0}
 IsArithmetic op.Not = Unit {0}
 IsArithmetic _ = ⊥
 
--- what `*` and `[` read: an integer, through an `_Array_ptr`
+-- what `*` and `[` read: an integer, through an `_Array_ptr` or an `_Nt_array_ptr`
 pub record IsElement (e : NotedExpr) : Type 0 where
-  pub counted : kind_of e.note.ctype ≡ Some kind.Arr
+  pub counted : is_counted_kind (kind_of e.note.ctype) ≡ true
   pub integer : is_integer (element_of e.note.ctype) ≡ true
 
 -- the operands of unary operators
