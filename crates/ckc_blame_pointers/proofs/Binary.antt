@@ -1,50 +1,36 @@
 -- The claims of binary operators follow from those of their operands.
-use Rattle.std.proofs.Common.{◌≡◌, inl, inr, refl, sym, ap, subst, ◌∙◌, ℕ, Bool, true, false, arith}
-use Rattle.std.specs.Prelude.{◌+◌, ◌==◌, ◌<◌, ◌≤◌, ◌^◌, ◌&&◌, ◌||◌, not, if◌then◌else◌, ℤ, pos, ◌+ℤ◌, ◌-ℤ◌, ◌*ℤ◌, neg_ℤ, Option, None, Some, Result, Ok, Err, List, [], ◌∷◌, ◌++◌}
-use Rattle.std.specs.Option.{option_or}
-use Rattle.std.proofs.lemmas.Bool.{eqb-true}
-use Rattle.std.proofs.lemmas.Int.{ints}
+use Rattle.std.proofs.Common.{◌≡◌, refl, sym, subst, ◌∙◌, ℕ, Bool, true, false, arith}
+use Rattle.std.specs.Prelude.{◌==◌, ◌<◌, ◌^◌, ◌&&◌, not, if◌then◌else◌, Option, None, Some, Result, Ok, List, [], ◌∷◌, ◌++◌}
 use Rattle.ckc_base.specs.declared.places.Pos.{Pos}
 use Rattle.ckc_base.specs.Words.{flag}
 use Rattle.ckc_types.specs.declared.types.CType.{CType}
 use Rattle.ckc_types.specs.declared.types.Structs.{Structs}
-use Rattle.ckc_linear.specs.declared.forms.Base.TheVariants as base
 use Rattle.ckc_linear.specs.declared.forms.Form.{Form}
 use Rattle.ckc_syntax.specs.declared.tree.Node.{Node-F}
 use Rattle.ckc_syntax.specs.declared.tree.TreeOp.{TreeOp}
 use Rattle.ckc_syntax.specs.declared.tree.TreeOp.TheVariants as op
-use Rattle.ckc_typed.specs.declared.typed.Range.{Range}
-use Rattle.ckc_typed.specs.declared.typed.Range.TheVariants as range
-use Rattle.ckc_typed.specs.Operands.{is_raw_kind, binary_type, both_type}
+use Rattle.ckc_typed.specs.Operands.{binary_type, both_type}
 use Rattle.ckc_typed.specs.Trees.{NotedExpr}
-use Rattle.ckc_typed.specs.Types.{is_integer, is_pointer, is_scalar, kind_of}
+use Rattle.ckc_typed.specs.Types.{is_scalar}
 use Rattle.ckc_bounds_points.specs.Flow.{State}
-use Rattle.ckc_bounds_points.specs.Forms.{is_small, constant_form, base_form, sum_of_forms, negative_form, negative_of}
-use Rattle.ckc_bounds_views.specs.Parts.{View, NodeView, capped}
-use Rattle.ckc_bounds_views.specs.Conditions.{wider, widened_by, read_place, widening, widening_side, is_comparison, holding, said, operand, compares_unsigned, nonzero_side, by_operands, comparison_side, narrowed, right_point, and_side, or_side, binary_side}
-use Rattle.ckc_bounds_views.specs.Places.{with_own, binary_place, own_place, pointer_place}
-use Rattle.ckc_bounds_views.specs.Ranges.{range_of_operand, own_numbers, pointer_range}
+use Rattle.ckc_bounds_views.specs.Parts.{View, NodeView}
+use Rattle.ckc_bounds_views.specs.Conditions.{wider, widened_by, read_place, widening, widening_side, operand, compares_unsigned, nonzero_side, by_operands, narrowed, right_point, and_side, or_side, binary_side}
 use Rattle.ckc_bounds_views.specs.Views.{node_view, view}
 use Rattle.ckc_bounds_statements.specs.Paths.{Here}
 use Rattle.ckc_source.specs.declared.expr.Operation.TheVariants as operation
 use Rattle.ckc_source.specs.declared.outcome.Halt.{Halt}
 use Rattle.ckc_source.specs.declared.outcome.Value.{Value}
-use Rattle.ckc_source.specs.Code.{Expr, Number, Binary, And, Or, Moved, Added}
-use Rattle.ckc_source.specs.Eval.{Store, given, given_both, plain, operates, moved_exactly, moves, evaluated}
-use Rattle.ckc_source.specs.Words.{exact, truth, elements_behind}
-use Rattle.ckc_build_values.specs.Kinds.{integer_of, size_behind}
-use Rattle.ckc_build_values.specs.Operators.{is_signed_at, shift, distance, of_operands}
+use Rattle.ckc_source.specs.Code.{Expr, And, Or}
+use Rattle.ckc_source.specs.Eval.{Store, given, plain, operates, evaluated}
+use Rattle.ckc_source.specs.Words.{truth}
+use Rattle.ckc_build_values.specs.Operators.{is_signed_at, of_operands}
 use Rattle.ckc_blame_sound.specs.Settings.{Setting}
-use Rattle.ckc_blame_sound.specs.Values.{value, number_of, IsWordOf}
 use Rattle.ckc_blame_sound.specs.Points.{AreBounded, HoldsAt}
 use Rattle.ckc_blame_numbers.proofs.Types.{no_pointer, word_wide}
-use Rattle.ckc_blame_pointers.specs.Valuations.{Valuation, IsKnownVariable, Fits, AreFresh, Extends}
 use Rattle.ckc_blame_pointers.specs.Meant.{IsNotStuck}
-use Rattle.ckc_blame_pointers.proofs.Claims.{Placed, SideGoes, Claims, weaker, goes_on, both_go_on, stays}
-use Rattle.ckc_blame_pointers.proofs.Moving.{still_fits, moved_placed}
-use Rattle.ckc_blame_pointers.proofs.Numbers.{times_negative}
-use Rattle.ckc_blame_pointers.proofs.Nodes.{moved_goes, NodeClaims, narrow, integer_claims}
-use Rattle.ckc_blame_pointers.proofs.Rows.{IsSmall, truth_word, operation_word, Wide, wide_small, int_row, is_sum, other_row, tells_more, other_word, pointer_word, left_row, right_row, plain_row, less_row, distance_row, plain_less_row}
+use Rattle.ckc_blame_pointers.proofs.Claims.{SideGoes, Claims, weaker, goes_on, both_go_on, stays}
+use Rattle.ckc_blame_pointers.proofs.Nodes.{NodeClaims, integer_claims}
+use Rattle.ckc_blame_pointers.proofs.Rows.{IsSmall, truth_word, Wide, wide_small, int_row, is_sum, other_row, tells_more, other_word}
 
 truth_false : (b : Bool) → (flag (not b) == 0) ≡ false → b ≡ false
 truth_false true e = e

@@ -1,6 +1,6 @@
 -- What is claimed of an expression, by what is said of it and by what it becomes.
-use Rattle.std.proofs.Common.{◌≡◌, refl, sym, ap, subst, ◌∙◌, ℕ, Bool, true, false, List, []}
-use Rattle.std.specs.Prelude.{◌==◌, ◌<◌, ◌≤◌, ◌^◌, ◌+◌, IfSome, not, if◌then◌else◌, Option, None, Some, Result, Ok, Err}
+use Rattle.std.proofs.Common.{◌≡◌, refl, sym, ap, subst, ℕ, Bool, true, false, List}
+use Rattle.std.specs.Prelude.{◌==◌, ◌<◌, ◌^◌, ◌+◌, IfSome, not, if◌then◌else◌, Option, None, Some, Result, Ok, Err}
 use Rattle.std.specs.Option.{option_or}
 use Rattle.ckc_types.specs.declared.types.Kind.{Kind}
 use Rattle.ckc_types.specs.declared.types.CType.{CType}
@@ -15,7 +15,7 @@ use Rattle.ckc_bounds_points.specs.Frames.{local_at}
 use Rattle.ckc_bounds_points.specs.Shown.{Known}
 use Rattle.ckc_bounds_points.specs.Flow.{State}
 use Rattle.ckc_bounds_views.specs.Parts.{NodeView}
-use Rattle.ckc_bounds_views.specs.Conditions.{widening, widening_side, widened_by, read_place, wider}
+use Rattle.ckc_bounds_views.specs.Conditions.{widening, widening_side}
 use Rattle.ckc_bounds_views.specs.Places.{own_place, pointer_place}
 use Rattle.ckc_bounds_views.specs.Ranges.{own_numbers, pointer_range}
 use Rattle.ckc_bounds_statements.specs.Paths.{Here}

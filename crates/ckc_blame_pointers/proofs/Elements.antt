@@ -1,20 +1,17 @@
 -- The claims of `*p` and `p[e]`, where an integer is read.
-use Rattle.std.proofs.Common.{◌≡◌, ◌⊎◌, inl, inr, ⊎_elim, refl, sym, ap, subst, ◌∙◌, ℕ, Bool, true, false, List, arith}
-use Rattle.std.specs.Prelude.{◌+◌, ◌==◌, ◌<◌, ◌^◌, ◌&&◌, not, if◌then◌else◌, ℤ, pos, ◌+ℤ◌, ◌*ℤ◌, ◌*◌, IfSome, Option, None, Some, Result, Ok, Err}
+use Rattle.std.proofs.Common.{◌≡◌, ◌⊎◌, inl, inr, refl, sym, ap, subst, ◌∙◌, ℕ, Bool, true, false, List, arith}
+use Rattle.std.specs.Prelude.{◌+◌, ◌==◌, ◌<◌, ◌^◌, ◌&&◌, not, if◌then◌else◌, ℤ, pos, ◌*ℤ◌, ◌*◌, IfSome, Option, None, Some, Ok}
 use Rattle.ckc_base.specs.declared.places.Pos.{Pos}
-use Rattle.ckc_types.specs.declared.types.Kind.{Kind}
 use Rattle.ckc_types.specs.declared.types.Kind.TheVariants as kind
-use Rattle.ckc_types.specs.declared.types.CType.{CType}
 use Rattle.ckc_linear.specs.declared.forms.Form.{Form}
 use Rattle.ckc_typed.specs.declared.typed.Range.{Range}
 use Rattle.ckc_typed.specs.declared.typed.Range.TheVariants as range
 use Rattle.ckc_typed.specs.Trees.{NotedExpr}
-use Rattle.ckc_typed.specs.Types.{is_integer, is_pointer, kind_of, element_of}
-use Rattle.ckc_bounds_points.specs.Flow.{State}
+use Rattle.ckc_typed.specs.Types.{is_integer, kind_of, element_of}
 use Rattle.ckc_bounds_points.specs.Codes.{unknown_bounds}
 use Rattle.ckc_bounds_views.specs.Conditions.{wider, widened_by, read_place, widening, widening_side}
 use Rattle.ckc_bounds_views.specs.Judged.{is_counted_kind, is_missing, fault_if, access_fault}
-use Rattle.ckc_bounds_views.specs.Parts.{NodeView, View}
+use Rattle.ckc_bounds_views.specs.Parts.{NodeView}
 use Rattle.ckc_bounds_views.specs.Views.{view}
 use Rattle.ckc_bounds_statements.specs.Paths.{Here}
 use Rattle.ckc_source.specs.declared.expr.Access.{Access}
@@ -32,10 +29,10 @@ use Rattle.ckc_blame_numbers.proofs.Types.{no_pointer}
 use Rattle.ckc_blame_numbers.specs.Typed.{Agrees}
 use Rattle.ckc_typed.specs.declared.environment.Globals.{Globals}
 use Rattle.ckc_source.specs.Words.{exact, elements_behind}
-use Rattle.ckc_blame_pointers.specs.Valuations.{Valuation, address_by, IsAtPlace, Fits, AreFresh, HasEnds, IsInRange}
+use Rattle.ckc_blame_pointers.specs.Valuations.{Valuation, address_by, IsAtPlace, AreFresh, HasEnds, IsInRange}
 use Rattle.ckc_blame_pointers.specs.Covered.{DeclareLocals, IsSoundStore}
 use Rattle.ckc_blame_pointers.specs.Meant.{IsNotStuck}
-use Rattle.ckc_blame_pointers.proofs.Claims.{IsOfLocal, Placed, SideGoes, Claims, both_go_on, stays, not_placed}
+use Rattle.ckc_blame_pointers.proofs.Claims.{IsOfLocal, Placed, SideGoes, both_go_on, stays, not_placed}
 use Rattle.ckc_blame_pointers.proofs.Nodes.{NodeClaims}
 use Rattle.ckc_blame_pointers.proofs.Binary.{ExprClaims, wider_goes}
 use Rattle.ckc_blame_pointers.proofs.Moving.{still_fits, sum_at}

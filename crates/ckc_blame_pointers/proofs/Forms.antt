@@ -22,7 +22,7 @@ use Rattle.ckc_bounds_points.specs.Frames.{local_at, variable_of, variable}
 use Rattle.ckc_bounds_points.specs.Forms.{is_small, below, above, constant_form, moved_form, within_interval, in_type}
 use Rattle.ckc_bounds_views.specs.declared.forms.Step.{Step}
 use Rattle.ckc_bounds_views.specs.Parts.{LimitsView, NodeView, View, NodeOfViews}
-use Rattle.ckc_bounds_views.specs.Integers.{step_of, form_after, form_of_node, constant_or, integer_form}
+use Rattle.ckc_bounds_views.specs.Integers.{step_of, form_after, form_of_node, constant_or}
 use Rattle.ckc_bounds_views.specs.Views.{limits_view, node_view, expr_view, view_of_limits, view_of_node, view}
 use Rattle.ckc_blame_pointers.specs.Valuations.{IsKnownVariable}
 

@@ -1,6 +1,6 @@
 -- The claims of numbers, of null, of locals, of unary operators, of `?:` and of casts.
-use Rattle.std.proofs.Common.{◌≡◌, ◌⊎◌, inl, inr, refl, sym, ap, subst, ◌∙◌, ℕ, Bool, true, false, List, arith}
-use Rattle.std.specs.Prelude.{◌+◌, ◌%◌, ◌==◌, ◌<◌, ◌^◌, ◌&&◌, ◌||◌, not, if◌then◌else◌, slice_index, pos, Option, None, Some, Result, Ok, Err}
+use Rattle.std.proofs.Common.{◌≡◌, inl, refl, sym, ap, subst, ◌∙◌, ℕ, Bool, true, false, List, arith}
+use Rattle.std.specs.Prelude.{◌+◌, ◌%◌, ◌==◌, ◌<◌, ◌^◌, ◌&&◌, ◌||◌, not, if◌then◌else◌, slice_index, pos, Option, None, Some}
 use Rattle.std.specs.Option.{option_or}
 use Rattle.std.proofs.lemmas.Bool.{eqb-true}
 use Rattle.ckc_base.specs.declared.places.Pos.{Pos}
@@ -8,13 +8,11 @@ use Rattle.ckc_base.specs.Words.{flag}
 use Rattle.ckc_types.specs.declared.types.CType.{CType}
 use Rattle.ckc_linear.specs.declared.forms.Base.TheVariants as base
 use Rattle.ckc_linear.specs.declared.forms.Form.{Form}
-use Rattle.ckc_syntax.specs.declared.tree.Name.{Name}
 use Rattle.ckc_syntax.specs.declared.tree.Name.TheVariants as name
 use Rattle.ckc_syntax.specs.declared.tree.Node.{Node-F}
 use Rattle.ckc_syntax.specs.declared.tree.TreeOp.{TreeOp}
 use Rattle.ckc_syntax.specs.declared.tree.TreeOp.TheVariants as op
 use Rattle.ckc_typed.specs.declared.environment.Globals.{Globals}
-use Rattle.ckc_typed.specs.declared.typed.Note.{Note}
 use Rattle.ckc_typed.specs.declared.typed.Range.{Range}
 use Rattle.ckc_typed.specs.declared.typed.Range.TheVariants as range
 use Rattle.ckc_typed.specs.Operands.{is_raw_kind, same_element, sign_type, truth_type, arithmetic_type, choice_type, is_cast}
@@ -22,33 +20,31 @@ use Rattle.ckc_typed.specs.Trees.{NotedExpr, TypeTree}
 use Rattle.ckc_typed.specs.Types.{is_integer, is_pointer, is_char, is_scalar, is_object_type, kind_of, element_of}
 use Rattle.ckc_bounds_points.specs.declared.frame.Local as locals
 use Rattle.ckc_bounds_points.specs.Frames.{local_at}
-use Rattle.ckc_bounds_points.specs.Flow.{State}
 use Rattle.ckc_bounds_points.specs.Forms.{base_form}
 use Rattle.ckc_bounds_ranges.specs.Rows.{range_of_local}
-use Rattle.ckc_bounds_views.specs.Parts.{NodeView, capped}
-use Rattle.ckc_bounds_views.specs.Places.{with_own, pointer_place}
+use Rattle.ckc_bounds_views.specs.Parts.{NodeView}
+use Rattle.ckc_bounds_views.specs.Places.{with_own}
 use Rattle.ckc_bounds_views.specs.Ranges.{pointer_range}
 use Rattle.ckc_bounds_views.specs.Views.{node_view, view}
 use Rattle.ckc_bounds_statements.specs.Paths.{Here}
 use Rattle.ckc_source.specs.declared.expr.Operation.TheVariants as operation
 use Rattle.ckc_source.specs.declared.outcome.Range.TheVariants.{Without}
 use Rattle.ckc_source.specs.declared.outcome.Value.{Value}
-use Rattle.ckc_source.specs.Code.{Expr, Number, Local, Binary, Choice, Narrow, Bare}
-use Rattle.ckc_source.specs.Eval.{Store, given, plain, evaluated}
+use Rattle.ckc_source.specs.Code.{Expr, Number, Binary, Choice, Narrow, Bare}
+use Rattle.ckc_source.specs.Eval.{Store, plain, evaluated}
 use Rattle.ckc_build_values.specs.Operators.{converted, cast}
 use Rattle.ckc_build_values.specs.Expressions.{local_in}
 use Rattle.ckc_blame_sound.specs.Settings.{Setting}
 use Rattle.ckc_blame_sound.specs.Values.{IsWordOf}
 use Rattle.ckc_blame_sound.specs.Points.{HoldsAt}
 use Rattle.ckc_blame_numbers.specs.Typed.{Agrees}
-use Rattle.ckc_blame_numbers.proofs.Types.{some_is, no_pointer, word_wide, wide_word, byte_word, sign_row}
-use Rattle.ckc_blame_pointers.specs.Valuations.{Valuation, Fits, AreFresh, IsInRange}
+use Rattle.ckc_blame_numbers.proofs.Types.{some_is, no_pointer, wide_word, byte_word, sign_row}
 use Rattle.ckc_blame_pointers.specs.Covered.{DeclareLocals, IsInScope}
 use Rattle.ckc_blame_pointers.specs.Meant.{IsNotStuck}
-use Rattle.ckc_blame_pointers.proofs.Claims.{Placed, SideGoes, Claims, BaseBelow, RangeBelow, weaker, goes_on, stays, nothing_read}
+use Rattle.ckc_blame_pointers.proofs.Claims.{Placed, SideGoes, weaker, goes_on, stays, nothing_read}
 use Rattle.ckc_blame_pointers.proofs.Moving.{at_base}
 use Rattle.ckc_blame_pointers.proofs.Nodes.{NodeClaims, narrow, integer_claims, quiet_claims, LocalComes, local_comes}
-use Rattle.ckc_blame_pointers.proofs.Rows.{IsSmall, operation_word, Wide, wide_small, int_row, arithmetic_wide, pointer_word}
+use Rattle.ckc_blame_pointers.proofs.Rows.{IsSmall, operation_word, Wide, wide_small, int_row, arithmetic_wide}
 use Rattle.ckc_blame_pointers.proofs.Binary.{ExprClaims, small_value}
 
 zero_word : (t : CType) → IsWordOf t 0

@@ -1,20 +1,16 @@
 -- An element that is read through a checked pointer within its range.
-use Rattle.std.proofs.Common.{◌≡◌, ◌⊎◌, inl, inr, ⊎_elim, refl, sym, ap, subst, ◌∙◌, ℕ, zero, suc, Bool, true, false, List, [], ◌∷◌, arith}
-use Rattle.std.specs.Prelude.{◌+◌, ◌-◌, ◌*◌, ◌==◌, ◌<◌, ◌≤◌, ◌^◌, ◌&&◌, if◌then◌else◌, nat_lt, nat_le, slice_index, ℤ, pos, negsuc, Option, None, Some, Result, Ok, Err}
+use Rattle.std.proofs.Common.{◌≡◌, ◌⊎◌, inl, inr, refl, sym, ap, subst, ◌∙◌, ℕ, zero, suc, Bool, true, false, List, [], ◌∷◌, arith}
+use Rattle.std.specs.Prelude.{◌+◌, ◌-◌, ◌==◌, ◌<◌, ◌^◌, ◌&&◌, if◌then◌else◌, nat_lt, nat_le, slice_index, ℤ, pos, negsuc, Option, None, Some, Result, Ok, Err}
 use Rattle.ckc_base.specs.declared.arithmetic.Width.{Width}
 use Rattle.ckc_base.specs.declared.arithmetic.Width.TheVariants.{Byte, Word}
-use Rattle.ckc_base.specs.declared.places.Pos.{Pos}
 use Rattle.ckc_base.specs.declared.runtime_checks.Check.TheVariants as check
 use Rattle.ckc_base.specs.Lists.{AreBytes}
 use Rattle.ckc_types.specs.declared.types.Kind.{Kind}
 use Rattle.ckc_types.specs.declared.types.Kind.TheVariants as kind
 use Rattle.ckc_types.specs.declared.types.CType.{CType, CType-F, out-CType}
 use Rattle.ckc_types.specs.declared.types.Structs.{Structs}
-use Rattle.ckc_typed.specs.declared.typed.Typed.{Typed}
 use Rattle.ckc_typed.specs.Types.{is_integer, is_integer_form, is_char, kind_of, kind_in, element_of}
-use Rattle.ckc_typed.specs.Constants.{size_of}
 use Rattle.ckc_typed.specs.Conversions.{is_terminated_kind}
-use Rattle.ckc_linear.specs.declared.forms.Form.{Form}
 use Rattle.ckc_bounds_views.specs.Judged.{is_counted_kind}
 use Rattle.ckc_source.specs.declared.expr.Access.{Access}
 use Rattle.ckc_source.specs.declared.expr.Pointee.{Pointee}
@@ -40,7 +36,6 @@ use Rattle.ckc_blame_slots.proofs.Objects.{are_members}
 use Rattle.ckc_blame_slots.proofs.Ranges.{true_cell}
 use Rattle.ckc_blame_slots.proofs.Reached.{array_reached, terminated_reached, place_is}
 use Rattle.ckc_blame_slots.proofs.Stores.{load_goes}
-use Rattle.ckc_blame_pointers.specs.Valuations.{Valuation, HasEnds}
 use Rattle.ckc_blame_pointers.specs.Meant.{IsNotStuck}
 
 -- ---- the words that memory holds

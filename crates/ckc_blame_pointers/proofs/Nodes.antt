@@ -1,55 +1,47 @@
 -- The claims of nodes without a pointer of their own, and of those that move one.
-use Rattle.std.proofs.Common.{◌≡◌, ◌⊎◌, inl, inr, ⊎_elim, refl, sym, ap, subst, ◌∙◌, ℕ, Bool, true, false, List, arith}
-use Rattle.std.specs.Prelude.{◌+◌, ◌%◌, ◌==◌, ◌<◌, ◌≤◌, ◌^◌, ◌&&◌, ◌||◌, not, if◌then◌else◌, nat_lt, slice_index, ℤ, pos, negsuc, ◌+ℤ◌, ◌-ℤ◌, ◌*ℤ◌, neg_ℤ, Option, None, Some, IfSome, Result, Ok, Err}
+use Rattle.std.proofs.Common.{◌≡◌, ◌⊎◌, inl, inr, refl, sym, ap, subst, ◌∙◌, ℕ, Bool, true, false, List}
+use Rattle.std.specs.Prelude.{◌+◌, ◌==◌, ◌<◌, ◌^◌, not, if◌then◌else◌, nat_lt, slice_index, ℤ, pos, negsuc, Option, None, Some, Ok}
 use Rattle.std.specs.List.{list_any}
-use Rattle.std.specs.Option.{option_or}
-use Rattle.std.proofs.lemmas.Bool.{eqb-true, ltb-true}
-use Rattle.std.proofs.lemmas.Int.{ints}
+use Rattle.std.proofs.lemmas.Bool.{ltb-true}
 use Rattle.ckc_base.specs.declared.arithmetic.BinOp.TheVariants as binary
-use Rattle.ckc_base.specs.declared.places.Pos.{Pos}
 use Rattle.ckc_base.specs.Words.{applied}
 use Rattle.ckc_base.specs.declared.runtime_checks.Check.TheVariants as check
 use Rattle.ckc_types.specs.declared.types.CType.{CType}
-use Rattle.ckc_types.specs.declared.types.Structs.{Structs}
 use Rattle.ckc_linear.specs.declared.forms.Base.{Base}
 use Rattle.ckc_linear.specs.declared.forms.Base.TheVariants as base
 use Rattle.ckc_linear.specs.declared.forms.Form.{Form}
 use Rattle.ckc_typed.specs.declared.typed.Range.{Range}
 use Rattle.ckc_typed.specs.declared.typed.Range.TheVariants as range
-use Rattle.ckc_typed.specs.Types.{is_integer, is_pointer, is_char, is_scalar, kind_of}
+use Rattle.ckc_typed.specs.Types.{is_pointer}
 use Rattle.ckc_bounds_points.specs.declared.frame.Bounds.{Bounds}
 use Rattle.ckc_bounds_points.specs.declared.frame.Bounds.TheVariants as bounds
 use Rattle.ckc_bounds_points.specs.declared.frame.Local.{Local}
-use Rattle.ckc_bounds_points.specs.Shown.{Known}
 use Rattle.ckc_bounds_points.specs.Frames.{local_at}
-use Rattle.ckc_bounds_points.specs.Flow.{State}
-use Rattle.ckc_bounds_points.specs.Forms.{base_form, moved_form, sum_of_forms}
+use Rattle.ckc_bounds_points.specs.Forms.{moved_form}
 use Rattle.ckc_bounds_ranges.specs.Rows.{range_moved, range_of_bounds, range_widened, range_by, range_of_local}
-use Rattle.ckc_bounds_views.specs.Parts.{NodeView, capped}
+use Rattle.ckc_bounds_views.specs.Parts.{NodeView}
 use Rattle.ckc_bounds_views.specs.Conditions.{widening}
 use Rattle.ckc_bounds_views.specs.Places.{with_own, pointer_place}
 use Rattle.ckc_bounds_views.specs.Ranges.{pointer_range}
 use Rattle.ckc_bounds_statements.specs.Paths.{Here}
 use Rattle.ckc_source.specs.declared.expr.Shift.{Shift}
 use Rattle.ckc_source.specs.declared.outcome.Value.{Value}
-use Rattle.ckc_source.specs.Code.{Expr}
-use Rattle.ckc_source.specs.Eval.{Store, stops, plain, at_address, given, given_both, operates, moved_exactly, moves_checked, moves, end_address, evaluated}
+use Rattle.ckc_source.specs.Eval.{Store, stops, plain, at_address, given, moved_exactly, moves_checked, moves, end_address, evaluated}
 use Rattle.ckc_source.specs.Runs.{is_true}
-use Rattle.ckc_source.specs.Words.{exact, as_address, elements_behind}
+use Rattle.ckc_source.specs.Words.{exact, as_address}
 use Rattle.ckc_build_values.specs.Kinds.{pointee_of, size_behind}
 use Rattle.ckc_build_values.specs.Ends.{end_at}
 use Rattle.ckc_build_values.specs.Expressions.{local_in}
 use Rattle.ckc_blame_sound.specs.Settings.{Setting}
-use Rattle.ckc_blame_sound.specs.Values.{value, number_of, IsWordOf}
+use Rattle.ckc_blame_sound.specs.Values.{IsWordOf}
 use Rattle.ckc_blame_sound.specs.Points.{AreBounded, HoldsAt}
 use Rattle.ckc_typed.specs.declared.environment.Globals.{Globals}
 use Rattle.ckc_blame_numbers.specs.Typed.{Agrees}
-use Rattle.ckc_blame_pointers.specs.Valuations.{Valuation, IsKnownVariable, Fits, AreFresh, Extends, IsAtPlace, HasEnds, IsInRange}
+use Rattle.ckc_blame_pointers.specs.Valuations.{Valuation, Fits, HasEnds, IsInRange}
 use Rattle.ckc_blame_pointers.specs.Covered.{IsLocalBase, IsLocalForm, DeclareLocals, IsInScope}
 use Rattle.ckc_blame_pointers.specs.Meant.{IsNotStuck}
-use Rattle.ckc_blame_pointers.proofs.Claims.{BaseBelow, RangeBelow, Placed, SideGoes, Claims, weaker, goes_on, both_go_on, stays, not_placed}
-use Rattle.ckc_blame_pointers.proofs.Moving.{at_base, still_fits, moved_placed}
-use Rattle.ckc_blame_pointers.proofs.Reading.{Ranged, Reads, end_is, range_local, local_reads}
+use Rattle.ckc_blame_pointers.proofs.Claims.{BaseBelow, RangeBelow, SideGoes, Claims, weaker, stays, not_placed}
+use Rattle.ckc_blame_pointers.proofs.Reading.{Ranged, end_is, range_local, local_reads}
 
 -- a pointer that is moved without wrapping, unless that stops
 pub moved_goes : (Q : Value → Type 0) (shift : Shift) (v : Value) (k : ℕ) → shift.checked ≡ true

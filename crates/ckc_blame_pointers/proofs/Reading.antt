@@ -1,6 +1,6 @@
 -- A local pointer is read within its bounds, between the addresses that these stand for.
-use Rattle.std.proofs.Common.{◌≡◌, ◌⊎◌, inl, inr, ⊎_elim, refl, sym, ap, subst, ◌∙◌, ℕ, ◌+◌, ◌-◌, Bool, true, false, List, length, arith}
-use Rattle.std.specs.Prelude.{◌==◌, ◌<◌, ◌≤◌, ◌&&◌, if◌then◌else◌, slice_index, ℤ, pos, negsuc, ◌+ℤ◌, ◌*ℤ◌, Option, None, Some, Result, Ok, Err, IsOk}
+use Rattle.std.proofs.Common.{◌≡◌, ◌⊎◌, inl, inr, refl, sym, ap, subst, ◌∙◌, ℕ, ◌+◌, ◌-◌, Bool, true, false, List, arith}
+use Rattle.std.specs.Prelude.{◌==◌, ◌&&◌, if◌then◌else◌, slice_index, ℤ, pos, negsuc, ◌+ℤ◌, Option, None, Some, Err, IsOk}
 use Rattle.std.specs.List.{Contains, list_any}
 use Rattle.std.proofs.lemmas.Bool.{eqb-true}
 use Rattle.std.proofs.lemmas.Bool.Decides.{nat_tests}
@@ -8,35 +8,32 @@ use Rattle.std.proofs.lemmas.Int.{ints}
 use Rattle.ckc_linear.specs.declared.forms.Base.{Base}
 use Rattle.ckc_linear.specs.declared.forms.Base.TheVariants as base
 use Rattle.ckc_linear.specs.declared.forms.Form.{Form}
-use Rattle.ckc_types.specs.declared.types.CType.{CType}
 use Rattle.ckc_syntax.specs.declared.tree.Name.TheVariants as name
 use Rattle.ckc_typed.specs.declared.environment.Globals.{Globals}
-use Rattle.ckc_typed.specs.declared.typed.Range as noted
 use Rattle.ckc_typed.specs.declared.typed.Range.TheVariants as range
-use Rattle.ckc_typed.specs.Environment.{variable_named, object_named, or_variable, type_of_name}
+use Rattle.ckc_typed.specs.Environment.{object_named, or_variable}
 use Rattle.ckc_bounds_points.specs.declared.frame.Bounds.{Bounds}
 use Rattle.ckc_bounds_points.specs.declared.frame.Bounds.TheVariants as bounds
 use Rattle.ckc_bounds_points.specs.declared.frame.Local.{Local}
 use Rattle.ckc_bounds_points.specs.Frames.{local_at}
-use Rattle.ckc_bounds_points.specs.Forms.{is_small, moved_form}
+use Rattle.ckc_bounds_points.specs.Forms.{is_small}
 use Rattle.ckc_bounds_ranges.specs.Rows.{range_moved, range_of_bounds, range_widened, range_by, range_of_local}
 use Rattle.ckc_bounds_statements.specs.Paths.{Here}
 use Rattle.ckc_source.specs.declared.expr.Base.TheVariants.{Own, Local as OtherLocal}
 use Rattle.ckc_source.specs.declared.expr.Pointee.{Pointee}
 use Rattle.ckc_source.specs.declared.program.Shape.{Shape}
-use Rattle.ckc_source.specs.declared.outcome.Halt.{Halt}
 use Rattle.ckc_source.specs.declared.outcome.Halt.TheVariants as halt
 use Rattle.ckc_source.specs.declared.outcome.Range.TheVariants.{Within}
 use Rattle.ckc_source.specs.declared.outcome.Value.{Value}
 use Rattle.ckc_source.specs.Blocks.{Block}
 use Rattle.ckc_source.specs.Code.{Limited}
-use Rattle.ckc_source.specs.Eval.{Store, plain, ranged, reads_within, reads, amount, base_address, end_address, reads_limited, evaluated}
+use Rattle.ckc_source.specs.Eval.{Store, plain, ranged, reads_within, reads, amount, base_address, end_address, evaluated}
 use Rattle.ckc_source.specs.Runs.{is_true}
 use Rattle.ckc_source.specs.Words.{exact, elements_behind}
 use Rattle.ckc_build_values.specs.Kinds.{integer_of, pointee_of, size_behind}
 use Rattle.ckc_build_values.specs.Ends.{integer_in_variable, local_variable, base_at, variable_at, end_at, limits_at}
 use Rattle.ckc_blame_sound.specs.Settings.{Setting}
-use Rattle.ckc_blame_sound.specs.Values.{value, value_in, number_of}
+use Rattle.ckc_blame_sound.specs.Values.{value, number_of}
 use Rattle.ckc_blame_sound.specs.Points.{IsReadable, IsBounded, HoldsAt}
 use Rattle.ckc_blame_sound.proofs.Flow.{variable_value, integer_value}
 use Rattle.ckc_blame_numbers.specs.Typed.{Agrees}

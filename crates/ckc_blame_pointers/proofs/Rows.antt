@@ -1,30 +1,28 @@
 -- The words that operations give, and the types of their rows.
-use Rattle.std.proofs.Common.{◌≡◌, inl, inr, refl, sym, ap, subst, ◌∙◌, ℕ, Bool, true, false, arith}
-use Rattle.std.specs.Prelude.{◌<◌, ◌^◌, ◌==◌, ◌&&◌, ◌||◌, not, if◌then◌else◌, Option, None, Some, Result, Ok, Err}
+use Rattle.std.proofs.Common.{◌≡◌, refl, sym, ap, subst, ◌∙◌, ℕ, Bool, true, false, arith}
+use Rattle.std.specs.Prelude.{◌<◌, ◌^◌, ◌==◌, ◌&&◌, ◌||◌, not, if◌then◌else◌, Option, None, Some}
 use Rattle.ckc_base.specs.declared.arithmetic.BinOp.TheVariants as binary
 use Rattle.ckc_base.specs.declared.places.Pos.{Pos}
 use Rattle.ckc_base.specs.declared.runtime_checks.Check.TheVariants as check
-use Rattle.ckc_base.specs.Words.{applied}
 use Rattle.ckc_base.proofs.WordValues.{applied_word}
 use Rattle.ckc_types.specs.declared.types.CType.{CType, CType-F, out-CType}
 use Rattle.ckc_types.specs.declared.types.CType.TheVariants as ctype
 use Rattle.ckc_types.specs.declared.types.Structs.{Structs}
 use Rattle.ckc_syntax.specs.declared.tree.TreeOp.{TreeOp}
 use Rattle.ckc_syntax.specs.declared.tree.TreeOp.TheVariants as op
-use Rattle.ckc_typed.specs.Operands.{promoted, common, is_moved, is_moved_kind, sum_type, distance_type, difference_type, arithmetic_type, shift_type, both_type, truth_type, comparison_type, binary_type, same_element}
-use Rattle.ckc_typed.specs.Types.{is_integer, is_pointer, is_pointer_form, is_integer_form, is_char, is_char_form, is_unsigned, is_scalar, is_void, element_of, kind_in, same_type}
+use Rattle.ckc_typed.specs.Operands.{promoted, common, is_moved, is_moved_kind, sum_type, distance_type, difference_type, arithmetic_type, shift_type, binary_type, same_element}
+use Rattle.ckc_typed.specs.Types.{is_integer, is_pointer, is_pointer_form, is_integer_form, is_char_form, is_unsigned, is_scalar, is_void, element_of, kind_in, same_type}
 use Rattle.ckc_source.specs.declared.expr.Operation.{Operation}
 use Rattle.ckc_source.specs.declared.expr.Operation.TheVariants as operation
-use Rattle.ckc_source.specs.declared.outcome.Halt.{Halt}
 use Rattle.ckc_source.specs.declared.outcome.Value.{Value}
-use Rattle.ckc_source.specs.Code.{Expr, Number, Binary, And, Or}
-use Rattle.ckc_source.specs.Eval.{Store, stops, given, plain, operates, evaluated}
+use Rattle.ckc_source.specs.Code.{Expr, Binary}
+use Rattle.ckc_source.specs.Eval.{Store, stops, plain, operates, evaluated}
 use Rattle.ckc_source.specs.Words.{truth, operator, computed, divides}
-use Rattle.ckc_build_values.specs.Operators.{is_signed_at, binary as binary_of, of_operands}
+use Rattle.ckc_build_values.specs.Operators.{is_signed_at, of_operands}
 use Rattle.ckc_blame_sound.specs.Values.{IsWordOf}
 use Rattle.ckc_blame_numbers.proofs.Types.{some_is, none_is_some, IsWide, wide_type, arithmetic_row, wide_word}
 use Rattle.ckc_blame_pointers.specs.Meant.{IsNotStuck}
-use Rattle.ckc_blame_pointers.proofs.Claims.{weaker, goes_on, both_go_on}
+use Rattle.ckc_blame_pointers.proofs.Claims.{both_go_on}
 
 -- ---- words
 

@@ -1,6 +1,6 @@
 -- The claims of `+` and `-`: they move a pointer, or are of integers.
-use Rattle.std.proofs.Common.{◌≡◌, inl, inr, refl, sym, ap, subst, ◌∙◌, ℕ, Bool, true, false, List, arith}
-use Rattle.std.specs.Prelude.{◌+◌, ◌-◌, ◌==◌, ◌<◌, ◌≤◌, ◌^◌, ◌&&◌, not, min, length, if◌then◌else◌, ℤ, pos, ◌+ℤ◌, ◌-ℤ◌, ◌*ℤ◌, neg_ℤ, Option, None, Some, Result, Ok, Err}
+use Rattle.std.proofs.Common.{◌≡◌, inl, refl, sym, ap, subst, ◌∙◌, ℕ, Bool, true, false, List, arith}
+use Rattle.std.specs.Prelude.{◌+◌, ◌==◌, ◌<◌, ◌≤◌, ◌^◌, ◌&&◌, length, if◌then◌else◌, ℤ, pos, ◌+ℤ◌, ◌-ℤ◌, ◌*ℤ◌, neg_ℤ, Option, None, Some, Ok}
 use Rattle.std.specs.Option.{option_or}
 use Rattle.std.proofs.lemmas.Bool.{eqb-true, and_parts}
 use Rattle.std.proofs.lemmas.Int.{ints}
@@ -19,18 +19,16 @@ use Rattle.ckc_typed.specs.Declarations.{is_checked_kind}
 use Rattle.ckc_typed.specs.Operands.{is_raw_kind, sum_type, difference_type}
 use Rattle.ckc_typed.specs.Trees.{NotedExpr}
 use Rattle.ckc_typed.specs.Types.{is_pointer, is_pointer_form, kind_of, kind_in}
-use Rattle.ckc_bounds_points.specs.Flow.{State}
-use Rattle.ckc_bounds_points.specs.Forms.{is_small, constant_form, base_form, sum_of_forms, negative_form, negative_of}
-use Rattle.ckc_bounds_views.specs.Parts.{View, NodeView, capped, fresh_behind}
-use Rattle.ckc_bounds_views.specs.Places.{with_own, binary_place, own_place, pointer_place}
+use Rattle.ckc_bounds_points.specs.Forms.{is_small, constant_form, base_form, sum_of_forms, negative_of}
+use Rattle.ckc_bounds_views.specs.Parts.{NodeView, capped, fresh_behind}
+use Rattle.ckc_bounds_views.specs.Places.{with_own, binary_place, pointer_place}
 use Rattle.ckc_bounds_views.specs.Ranges.{range_of_operand, pointer_range}
 use Rattle.ckc_bounds_views.specs.Views.{node_view, view}
 use Rattle.ckc_bounds_statements.specs.Paths.{Here}
 use Rattle.ckc_source.specs.declared.expr.Operation.TheVariants as operation
-use Rattle.ckc_source.specs.declared.expr.Shift.{Shift}
 use Rattle.ckc_source.specs.declared.outcome.Value.{Value}
 use Rattle.ckc_source.specs.Code.{Expr, Number, Binary, Moved, Added}
-use Rattle.ckc_source.specs.Eval.{Store, given, given_both, plain, operates, moved_exactly, moves, evaluated}
+use Rattle.ckc_source.specs.Eval.{Store, moves, evaluated}
 use Rattle.ckc_source.specs.Words.{exact, elements_behind}
 use Rattle.ckc_build_values.specs.Kinds.{integer_of, size_behind}
 use Rattle.ckc_build_values.specs.Operators.{is_signed_at, shift, distance, of_operands}
@@ -38,9 +36,9 @@ use Rattle.ckc_blame_sound.specs.Settings.{Setting}
 use Rattle.ckc_blame_sound.specs.Values.{value, number_of}
 use Rattle.ckc_blame_sound.specs.Points.{HoldsAt}
 use Rattle.ckc_blame_numbers.proofs.Types.{no_pointer}
-use Rattle.ckc_blame_pointers.specs.Valuations.{Valuation, IsKnownVariable, Fits, AreFresh, Extends}
+use Rattle.ckc_blame_pointers.specs.Valuations.{Valuation, IsKnownVariable, Fits, AreFresh}
 use Rattle.ckc_blame_pointers.specs.Meant.{IsNotStuck}
-use Rattle.ckc_blame_pointers.proofs.Claims.{Placed, SideGoes, Claims, weaker, both_go_on, stays}
+use Rattle.ckc_blame_pointers.proofs.Claims.{Placed, SideGoes, weaker, both_go_on, stays}
 use Rattle.ckc_blame_pointers.proofs.Moving.{still_fits, moved_placed}
 use Rattle.ckc_blame_pointers.proofs.Numbers.{times_negative}
 use Rattle.ckc_blame_pointers.proofs.Nodes.{moved_goes, NodeClaims, narrow, integer_claims}

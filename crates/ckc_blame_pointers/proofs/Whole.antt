@@ -1,9 +1,8 @@
 -- What becomes of a judged expression is what it is judged to be.
-use Rattle.std.proofs.Common.{◌≡◌, refl, sym, ap, subst, ◌∙◌, ℕ, Bool, List}
-use Rattle.std.specs.Prelude.{◌==◌, ◌<◌, ◌^◌, not, Ok}
+use Rattle.std.proofs.Common.{◌≡◌, sym, subst, ℕ, List}
+use Rattle.std.specs.Prelude.{◌<◌, ◌^◌, Ok}
 use Rattle.ckc_typed.specs.declared.environment.Globals.{Globals}
 use Rattle.ckc_typed.specs.Trees.{NotedExpr}
-use Rattle.ckc_types.specs.declared.types.CType.{CType}
 use Rattle.ckc_bounds_views.specs.Parts.{View}
 use Rattle.ckc_bounds_views.specs.Views.{view}
 use Rattle.ckc_bounds_statements.specs.Paths.{Here}
@@ -20,7 +19,7 @@ use Rattle.ckc_blame_pointers.specs.Covered.{DeclareLocals, IsSoundStore, IsCove
 use Rattle.ckc_blame_pointers.specs.Valuations.{AreFresh}
 use Rattle.ckc_blame_pointers.specs.Meant.{IsNotStuck, HasPlace, IsMeant}
 use Rattle.ckc_blame_pointers.proofs.Binary.{ExprClaims}
-use Rattle.ckc_blame_pointers.proofs.Claims.{Placed, weaker}
+use Rattle.ckc_blame_pointers.proofs.Claims.{weaker}
 use Rattle.ckc_blame_pointers.proofs.Exprs.{point_of, expr_claims}
 use Rattle.ckc_blame_pointers.proofs.Views.{judged_same}
 

@@ -1,6 +1,6 @@
 -- What is read at the upper bound of a null-terminated local widens it where that is not zero.
-use Rattle.std.proofs.Common.{◌≡◌, ◌⊎◌, inl, inr, ⊎_elim, refl, sym, ap, subst, ◌∙◌, ℕ, Bool, true, false, List, [], ◌∷◌, ◌++◌, arith}
-use Rattle.std.specs.Prelude.{◌+◌, ◌*◌, ◌==◌, ◌<◌, ◌&&◌, ◌||◌, not, if◌then◌else◌, slice_index, ℤ, pos, negsuc, ◌+ℤ◌, ◌*ℤ◌, Option, None, Some, Result, Ok, Err, IsOk}
+use Rattle.std.proofs.Common.{◌≡◌, refl, sym, ap, subst, ◌∙◌, ℕ, Bool, true, false, List, [], ◌∷◌, ◌++◌, arith}
+use Rattle.std.specs.Prelude.{◌+◌, ◌*◌, ◌==◌, ◌&&◌, ◌||◌, if◌then◌else◌, slice_index, ℤ, pos, negsuc, ◌+ℤ◌, ◌*ℤ◌, Option, None, Some, Err, IsOk}
 use Rattle.std.specs.List.{Contains, list_any}
 use Rattle.std.specs.Ordering.{int_eq}
 use Rattle.std.proofs.Math.IntN.{pos-*ℤ-pos}
@@ -21,8 +21,7 @@ use Rattle.ckc_bounds_points.specs.declared.frame.Bounds.{Bounds}
 use Rattle.ckc_bounds_points.specs.declared.frame.Bounds.TheVariants as bounds
 use Rattle.ckc_bounds_points.specs.declared.frame.Local.{Local}
 use Rattle.ckc_bounds_points.specs.Frames.{local_at}
-use Rattle.ckc_bounds_points.specs.Flow.{State}
-use Rattle.ckc_bounds_points.specs.Forms.{is_small, moved_form, same_base, same_form}
+use Rattle.ckc_bounds_points.specs.Forms.{is_small, same_base}
 use Rattle.ckc_bounds_ranges.specs.Rows.{range_moved, range_of_bounds, range_widened, range_by, range_of_local}
 use Rattle.ckc_bounds_views.specs.Conditions.{is_upper_of, is_upper, upper_local, wider}
 use Rattle.ckc_bounds_statements.specs.Paths.{Here}
@@ -30,11 +29,11 @@ use Rattle.ckc_source.specs.declared.expr.Pointee.{Pointee}
 use Rattle.ckc_source.specs.declared.program.Shape.{Shape}
 use Rattle.ckc_source.specs.declared.outcome.Halt.TheVariants as halt
 use Rattle.ckc_source.specs.Blocks.{Block, loaded}
-use Rattle.ckc_source.specs.Eval.{Store, plain, ranged, reads_within, reads, end_address, reads_limited}
+use Rattle.ckc_source.specs.Eval.{Store, plain, ranged, reads_within, reads, end_address}
 use Rattle.ckc_source.specs.Runs.{is_true}
 use Rattle.ckc_source.specs.Words.{elements_behind}
 use Rattle.ckc_build_values.specs.Kinds.{width_of, pointee_of, size_behind}
-use Rattle.ckc_build_values.specs.Ends.{end_at, limits_at}
+use Rattle.ckc_build_values.specs.Ends.{end_at}
 use Rattle.ckc_blame_sound.specs.Settings.{Setting}
 use Rattle.ckc_blame_sound.specs.Values.{number_of}
 use Rattle.ckc_blame_sound.specs.Points.{IsReadable, IsBounded, AreBounded, HoldsAt}
