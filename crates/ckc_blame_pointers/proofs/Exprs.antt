@@ -60,6 +60,7 @@ use Rattle.ckc_blame_pointers.proofs.Sums.{IsIndex, capped_more, capped_small, f
 use Rattle.ckc_blame_pointers.proofs.Elements.{at_pointer, IsRanged, ranged_pointer, Widens, target_aims, element_aims, element_claims, wide_terminated, narrow_array}
 use Rattle.ckc_blame_pointers.proofs.Claims.{IsOfLocal}
 use Rattle.ckc_blame_pointers.proofs.Loads.{no_count}
+use Rattle.ckc_blame_pointers.proofs.Statics.{static_claims}
 use Rattle.ckc_blame_pointers.proofs.Leaves.{number_claims, size_claims, null_claims, local_claims, minus_claims, plus_claims, flip_claims, not_claims, cast_claims, choice_claims}
 
 module _ (globals : Globals) (s : Setting) (agrees : Agrees globals s) (declares : DeclareLocals s) (store : Store) (entry : List ℕ) (next : ℕ) (ready : IsSoundStore s store next) where
@@ -68,7 +69,7 @@ module _ (globals : Globals) (s : Setting) (agrees : Agrees globals s) (declares
 
   record NodeHolds (n : NotedNode) : Type 0 where
     pub claims : (note : Note) (place : Pos) → IsRow globals s (out-Node Name Note n) note → EveryNode (HasRow globals s) n
-        → (here : Here) → EveryNode (IsCoveredExpr s here.seen) n → IsCoveredNode s here.seen (out-Node Name Note n) → is_raw_kind (kind_of note.ctype) ≡ false
+        → (here : Here) → EveryNode (IsCoveredExpr s here.seen) n → IsCoveredNode s here.seen note.ctype (out-Node Name Note n) → is_raw_kind (kind_of note.ctype) ≡ false
         → (h : HoldsAt s store entry here) (fresh : ℕ) → fresh < 2 ^ 32 → AreFresh s.frame fresh → (view_of_node s.frame n).judged note.ctype fresh here.at ≡ Ok n
         → (view_of_node s.frame n).fault place fresh here.at ≡ None
         → (is_pointer note.ctype ≡ true → note.range ≡ pointer_range note.ctype (view_of_node s.frame n) 0 fresh here.at)
@@ -226,7 +227,7 @@ module _ (globals : Globals) (s : Setting) (agrees : Agrees globals s) (declares
     covered_sized e c = (every_here-Expr Name Note AnyLimits AnyNode (IsCoveredExpr s here.seen) e c).sized
 
     node_step : (y : Node-F Name Note KeptLimits KeptNode KeptExpr) (note : Note) (place : Pos) → IsRow globals s (inner_node y) note → PartsEvery (HasRow globals s) (inner_node y)
-        → PartsEvery (IsCoveredExpr s here.seen) (inner_node y) → IsCoveredNode s here.seen (inner_node y) → is_raw_kind (kind_of note.ctype) ≡ false
+        → PartsEvery (IsCoveredExpr s here.seen) (inner_node y) → IsCoveredNode s here.seen note.ctype (inner_node y) → is_raw_kind (kind_of note.ctype) ≡ false
         → (fresh : ℕ) → fresh < 2 ^ 32 → AreFresh s.frame fresh → fault_of_node s.frame (viewed_node (inner_node y)) place fresh here.at ≡ None → node_judged s.frame (viewed_node (inner_node y)) note.ctype fresh here.at ≡ Ok (node_of (inner_node y))
         → (is_pointer note.ctype ≡ true → note.range ≡ pointer_range note.ctype (node_view s.frame (viewed_node (inner_node y))) 0 fresh here.at)
         → (k : ℕ) → Made (inner_node y) note place k
@@ -246,6 +247,8 @@ module _ (globals : Globals) (s : Setting) (agrees : Agrees globals s) (declares
 
         noted_is : is_pointer note.ctype ≡ true → note.range ≡ range_of_local s.frame j here.at.widened
         noted_is p = noted p ∙ ap (λ b. if b then range_of_local s.frame j here.at.widened else range.Missing) p
+    node_step (Node-F.Name (name.Static j)) note place row typed covered node checked fresh little are fault judged noted k =
+        static_claims s store entry next ready here h note.ctype j node place
     node_step (Node-F.Un op.Minus e) note place row typed covered node checked fresh little are fault judged noted k =
         minus_claims s store entry here h e.0 note.ctype place ((part_of e.0).value s.text s.variables k)
         (e.1.claims typed here covered h fresh little are (one_part (λ a. Node-F.Un op.Minus a) (λ a b e. cc) _ e.0 judged) k) row.row
@@ -323,7 +326,7 @@ module _ (globals : Globals) (s : Setting) (agrees : Agrees globals s) (declares
         (node_step here h y note place (subst (λ z. IsRow globals s z note) out row)
         (subst (PartsEvery (HasRow globals s)) out (parts_every (HasRow globals s) (roll-Node Name Note (inner_node y)) typed))
         (subst (PartsEvery (IsCoveredExpr s here.seen)) out (parts_every (IsCoveredExpr s here.seen) (roll-Node Name Note (inner_node y)) covered))
-        (subst (IsCoveredNode s here.seen) out node) checked fresh little are
+        (subst (IsCoveredNode s here.seen note.ctype) out node) checked fresh little are
         (subst (λ (n : NodeView). n.fault place fresh here.at ≡ None) n_is fault)
         (subst (λ (n : NodeView). n.judged note.ctype fresh here.at ≡ Ok (node_of (inner_node y))) n_is (judged ∙ ap Ok (node_rolled (inner_node y))))
         (λ p. subst (λ (n : NodeView). note.range ≡ pointer_range note.ctype n 0 fresh here.at) n_is (noted p)) k));

@@ -16,3 +16,4 @@ pub mod Exprs
 pub mod Whole
 pub mod Widening
 pub mod Wider
+pub mod Statics

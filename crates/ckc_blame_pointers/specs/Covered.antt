@@ -1,6 +1,7 @@
 -- The expressions of which it is said what they come to, and what is taken for granted of the text around them.
-use Rattle.std.specs.Prelude.{◌≡◌, ◌⊎◌, ◌+◌, ◌<◌, ◌^◌, ℕ, false, true, List, Option, Some}
+use Rattle.std.specs.Prelude.{◌≡◌, ◌⊎◌, ◌+◌, ◌<◌, ◌^◌, ℕ, false, true, List, slice_get, Option, None, Some}
 use Rattle.std.specs.List.{Contains}
+use Rattle.ckc_types.specs.declared.types.CType.{CType}
 use Rattle.ckc_linear.specs.declared.forms.Base.{Base}
 use Rattle.ckc_linear.specs.declared.forms.Base.TheVariants as base
 use Rattle.ckc_linear.specs.declared.forms.Form.{Form}
@@ -11,6 +12,7 @@ use Rattle.ckc_syntax.specs.declared.tree.TreeOp.TheVariants as op
 use Rattle.ckc_syntax.specs.declared.tree.Node.{Node-F, out-Node}
 use Rattle.ckc_syntax.specs.declared.tree.Expr.{Expr-F, every-Expr}
 use Rattle.ckc_typed.specs.declared.typed.Note.{Note}
+use Rattle.ckc_typed.specs.declared.typed.StaticObject.{StaticObject}
 use Rattle.ckc_typed.specs.declared.environment.Variable.{Variable}
 use Rattle.ckc_typed.specs.Environment.{variable_named}
 use Rattle.ckc_typed.specs.Operands.{is_raw_kind}
@@ -25,6 +27,7 @@ use Rattle.ckc_bounds_views.specs.Judged.{is_counted_kind}
 use Rattle.ckc_bounds_views.specs.Views.{view}
 use Rattle.ckc_source.specs.Eval.{Store}
 use Rattle.ckc_build_values.specs.Kinds.{size_behind}
+use Rattle.ckc_build_values.specs.Names.{count_of_static}
 use Rattle.ckc_build_elaborate.specs.Shapes.{shapes_elaborated}
 use Rattle.ckc_blame_sound.specs.Settings.{Setting}
 use Rattle.ckc_blame_slots.specs.Cells.{AreSound, HaveOwnNames}
@@ -78,6 +81,19 @@ AreLocalBounds s (bounds.Known low high) = IsLocalForm s low × IsLocalForm s hi
 abbrev pub DeclareLocals : Setting → Type 0
 DeclareLocals s = (k : ℕ) (l : Local) → local_at s.frame k ≡ Some l → AreLocalBounds s l.bounds
 
+-- ---- static objects
+
+-- a static object that is one integer of a type
+pub record IsStaticInteger (s : Setting) (t : CType) (k : ℕ) : Type 0 where
+  pub object : StaticObject
+  pub there : slice_get s.text.statics k ≡ Some object
+  pub single : object.array ≡ None
+  pub plain : object.terminated ≡ false
+  pub some : 0 < object.count
+  pub element : object.element ≡ t
+  pub integer : is_integer t ≡ true
+  pub bare : count_of_static s.text t (name.Static k) ≡ None
+
 -- ---- expressions
 
 -- the unary operators on integers, and `!`
@@ -98,23 +114,24 @@ abbrev pub IsCoveredUnary : TreeOp → NotedExpr → Type 0
 IsCoveredUnary op.Deref e = IsElement e
 IsCoveredUnary o e = IsArithmetic o
 
--- The nodes of which it is said what they come to: numbers, `sizeof`, `NULL`, locals in scope, operators, `?:`, casts, and
--- integers that are read through pointers.
-abbrev pub IsCoveredNode : Setting → List ℕ → NotedLayer → Type 0
-IsCoveredNode s seen (Node-F.Number n unsigned) = Unit {0}
-IsCoveredNode s seen (Node-F.Size w) = Unit {0}
-IsCoveredNode s seen Node-F.Null = Unit {0}
-IsCoveredNode s seen (Node-F.Name (name.Local k)) = IsInScope s seen k
-IsCoveredNode s seen (Node-F.Un o e) = IsCoveredUnary o e
-IsCoveredNode s seen (Node-F.Bin o e f) = Unit {0}
-IsCoveredNode s seen (Node-F.Pick e f g) = Unit {0}
-IsCoveredNode s seen (Node-F.Cast w e) = Unit {0}
-IsCoveredNode s seen (Node-F.Index e f) = IsElement e
-IsCoveredNode s seen _ = ⊥
+-- The nodes of a type of which it is said what they come to: numbers, `sizeof`, `NULL`, locals in scope, static integers,
+-- operators, `?:`, casts, and integers that are read through pointers.
+abbrev pub IsCoveredNode : Setting → List ℕ → CType → NotedLayer → Type 0
+IsCoveredNode s seen t (Node-F.Number n unsigned) = Unit {0}
+IsCoveredNode s seen t (Node-F.Size w) = Unit {0}
+IsCoveredNode s seen t Node-F.Null = Unit {0}
+IsCoveredNode s seen t (Node-F.Name (name.Local k)) = IsInScope s seen k
+IsCoveredNode s seen t (Node-F.Name (name.Static k)) = IsStaticInteger s t k
+IsCoveredNode s seen t (Node-F.Un o e) = IsCoveredUnary o e
+IsCoveredNode s seen t (Node-F.Bin o e f) = Unit {0}
+IsCoveredNode s seen t (Node-F.Pick e f g) = Unit {0}
+IsCoveredNode s seen t (Node-F.Cast w e) = Unit {0}
+IsCoveredNode s seen t (Node-F.Index e f) = IsElement e
+IsCoveredNode s seen t _ = ⊥
 
 -- Such an expression is no unchecked pointer, the size of what it points to is a word, and so is the number of its values.
 pub record IsCoveredExpr (s : Setting) (seen : List ℕ) (e : Expr-F Name Note NotedLimits NotedNode NotedExpr) : Type 0 where
-  pub node : IsCoveredNode s seen (out-Node Name Note e.node)
+  pub node : IsCoveredNode s seen e.note.ctype (out-Node Name Note e.node)
   pub checked : is_raw_kind (kind_of e.note.ctype) ≡ false
   pub few : (view s.frame (record { node = e.node; pos = e.pos; note = e.note })).values + 1 < 2 ^ 32
   pub sized : size_behind s.text.layout e.note.ctype < 2 ^ 32
