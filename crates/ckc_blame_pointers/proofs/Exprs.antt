@@ -1,5 +1,5 @@
 -- The claims of all expressions that are covered, by induction.
-use Rattle.std.proofs.Common.{◌≡◌, refl, sym, ap, subst, ◌∙◌, ℕ, ◌+◌, Bool, true, false, List}
+use Rattle.std.proofs.Common.{⊎_elim, ◌≡◌, refl, sym, ap, subst, ◌∙◌, ℕ, ◌+◌, Bool, true, false, List}
 use Rattle.std.specs.Prelude.{◌==◌, ◌<◌, ◌^◌, ◌&&◌, not, length, pos, if◌then◌else◌, Option, None, Some, Ok}
 use Rattle.ckc_base.specs.declared.places.Pos.{Pos}
 use Rattle.ckc_types.specs.declared.types.Kind.{Kind}
@@ -61,6 +61,7 @@ use Rattle.ckc_blame_pointers.proofs.Elements.{at_pointer, IsRanged, ranged_poin
 use Rattle.ckc_blame_pointers.proofs.Claims.{IsOfLocal}
 use Rattle.ckc_blame_pointers.proofs.Loads.{no_count}
 use Rattle.ckc_blame_pointers.proofs.Statics.{static_claims}
+use Rattle.ckc_blame_pointers.proofs.Arrays.{array_claims}
 use Rattle.ckc_blame_pointers.proofs.Leaves.{number_claims, size_claims, null_claims, local_claims, minus_claims, plus_claims, flip_claims, not_claims, cast_claims, choice_claims}
 
 module _ (globals : Globals) (s : Setting) (agrees : Agrees globals s) (declares : DeclareLocals s) (store : Store) (entry : List ℕ) (next : ℕ) (ready : IsSoundStore s store next) where
@@ -248,7 +249,7 @@ module _ (globals : Globals) (s : Setting) (agrees : Agrees globals s) (declares
         noted_is : is_pointer note.ctype ≡ true → note.range ≡ range_of_local s.frame j here.at.widened
         noted_is p = noted p ∙ ap (λ b. if b then range_of_local s.frame j here.at.widened else range.Missing) p
     node_step (Node-F.Name (name.Static j)) note place row typed covered node checked fresh little are fault judged noted k =
-        static_claims s store entry next ready here h note.ctype j node place
+        ⊎_elim (λ c. static_claims s store entry next ready here h note.ctype j c place) (λ c. array_claims s store entry next ready here h note.ctype j c place) node
     node_step (Node-F.Un op.Minus e) note place row typed covered node checked fresh little are fault judged noted k =
         minus_claims s store entry here h e.0 note.ctype place ((part_of e.0).value s.text s.variables k)
         (e.1.claims typed here covered h fresh little are (one_part (λ a. Node-F.Un op.Minus a) (λ a b e. cc) _ e.0 judged) k) row.row

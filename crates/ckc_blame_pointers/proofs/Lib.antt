@@ -17,3 +17,4 @@ pub mod Whole
 pub mod Widening
 pub mod Wider
 pub mod Statics
+pub mod Arrays

@@ -27,7 +27,7 @@ use Rattle.ckc_blame_slots.proofs.Ranges.{Within, within, some_of}
 use Rattle.ckc_blame_slots.proofs.Same.{same_equal}
 use Rattle.ckc_blame_pointers.proofs.Loads.{integer_part}
 
-any_at : {X : Type 0} (p : X → Bool) (xs : List X) (k : ℕ) (x : X) → slice_get xs k ≡ Some x → p x ≡ true → list_any p xs ≡ true
+pub any_at : {X : Type 0} (p : X → Bool) (xs : List X) (k : ℕ) (x : X) → slice_get xs k ≡ Some x → p x ≡ true → list_any p xs ≡ true
 any_at p [] k x e h = absurd (cc)
 any_at p (y ∷ xs) zero x e h = let same : y ≡ x = cc in ap (λ b. b || list_any p xs) (ap p same ∙ h)
 any_at p (y ∷ xs) (suc k) x e h = ap (λ b. p y || b) (any_at p xs k x e h) ∙ either (p y)
@@ -130,24 +130,27 @@ module _ (p : Typed) (bs : List Block) (next : ℕ) (sound : AreSound p bs next)
 one_more : (a s : ℕ) → (a + s) % s ≡ a % s
 one_more a s = let e : a + s ≡ a + s * 1 = omega arith in ap (λ x. x % s) e ∙ add-mul-mod_self_left a s 1
 
+all_true : {q0 q1 q2 q3 q4 q5 q6 : Bool} → q0 ≡ true → q1 ≡ true → q2 ≡ true → q3 ≡ true → q4 ≡ true → q5 ≡ true → q6 ≡ true → (q0 && q1 && q2 && q3 && q4 && q5 && q6) ≡ true
+all_true {q0} {q1} {q2} {q3} {q4} {q5} {q6} a b c d e f g =
+    ap (λ x. x && q1 && q2 && q3 && q4 && q5 && q6) a ∙ ap (λ x. x && q2 && q3 && q4 && q5 && q6) b ∙ ap (λ x. x && q3 && q4 && q5 && q6) c ∙ ap (λ x. x && q4 && q5 && q6) d
+    ∙ ap (λ x. x && q5 && q6) e ∙ ap (λ x. x && q6) f ∙ g
+
+-- what the test of a range in a run asks
+pub within_tests : (begin end s n low high : ℕ) → 0 < s → begin ≤ low → low ≤ high → high ≤ end → low % s ≡ begin % s → high % s ≡ begin % s → n % s ≡ begin % s
+    → is_within begin end s n low high ≡ true
+within_tests begin end s n low high p0 p1 p2 p3 p4 p5 p6 =
+    let t0 : nat_lt 0 s ≡ true = grind (arith, nat_tests) in
+    let t1 : nat_le begin low ≡ true = grind (arith, nat_tests) in
+    let t2 : nat_le low high ≡ true = grind (arith, nat_tests) in
+    let t3 : nat_le high end ≡ true = grind (arith, nat_tests) in
+    let t4 : (low % s == begin % s) ≡ true = grind (arith, nat_tests) in
+    let t5 : (high % s == begin % s) ≡ true = grind (arith, nat_tests) in
+    let t6 : (n % s == begin % s) ≡ true = grind (arith, nat_tests) in
+    all_true t0 t1 t2 t3 t4 t5 t6
+
 longer_within : (begin end s n low a : ℕ) → Within begin end s n low a → a + s ≤ end → is_within begin end s n low (a + s) ≡ true
-longer_within begin end s n low a w h = tests w.sized w.begins (omega (arith, w.ordered)) h w.low_even (one_more a s ∙ w.high_even) w.even
-  where
-    tests : 0 < s → begin ≤ low → low ≤ a + s → a + s ≤ end → low % s ≡ begin % s → (a + s) % s ≡ begin % s → n % s ≡ begin % s → is_within begin end s n low (a + s) ≡ true
-    tests p0 p1 p2 p3 p4 p5 p6 =
-        let t0 : nat_lt 0 s ≡ true = grind (arith, nat_tests) in
-        let t1 : nat_le begin low ≡ true = grind (arith, nat_tests) in
-        let t2 : nat_le low (a + s) ≡ true = grind (arith, nat_tests) in
-        let t3 : nat_le (a + s) end ≡ true = grind (arith, nat_tests) in
-        let t4 : (low % s == begin % s) ≡ true = grind (arith, nat_tests) in
-        let t5 : ((a + s) % s == begin % s) ≡ true = grind (arith, nat_tests) in
-        let t6 : (n % s == begin % s) ≡ true = grind (arith, nat_tests) in
-        all_true t0 t1 t2 t3 t4 t5 t6
-      where
-        all_true : {q0 q1 q2 q3 q4 q5 q6 : Bool} → q0 ≡ true → q1 ≡ true → q2 ≡ true → q3 ≡ true → q4 ≡ true → q5 ≡ true → q6 ≡ true → (q0 && q1 && q2 && q3 && q4 && q5 && q6) ≡ true
-        all_true {q0} {q1} {q2} {q3} {q4} {q5} {q6} a b c d e f g =
-            ap (λ x. x && q1 && q2 && q3 && q4 && q5 && q6) a ∙ ap (λ x. x && q2 && q3 && q4 && q5 && q6) b ∙ ap (λ x. x && q3 && q4 && q5 && q6) c ∙ ap (λ x. x && q4 && q5 && q6) d
-            ∙ ap (λ x. x && q5 && q6) e ∙ ap (λ x. x && q6) f ∙ g
+longer_within begin end s n low a w h =
+    within_tests begin end s n low (a + s) w.sized w.begins (omega (arith, w.ordered)) h w.low_even (one_more a s ∙ w.high_even) w.even
 
 -- an element before the last one is followed by one
 element_before : (s begin final a : ℕ) → begin ≤ a → a ≤ final → a % s ≡ begin % s → (i : ℕ) → final ≡ begin + i * s → (a ≢ final) → a + s ≤ final

@@ -1,6 +1,7 @@
 -- The expressions of which it is said what they come to, and what is taken for granted of the text around them.
 use Rattle.std.specs.Prelude.{◌≡◌, ◌⊎◌, ◌+◌, ◌<◌, ◌^◌, ℕ, false, true, List, slice_get, Option, None, Some}
 use Rattle.std.specs.List.{Contains}
+use Rattle.ckc_types.specs.declared.types.Kind.{Kind}
 use Rattle.ckc_types.specs.declared.types.CType.{CType}
 use Rattle.ckc_linear.specs.declared.forms.Base.{Base}
 use Rattle.ckc_linear.specs.declared.forms.Base.TheVariants as base
@@ -14,10 +15,11 @@ use Rattle.ckc_syntax.specs.declared.tree.Expr.{Expr-F, every-Expr}
 use Rattle.ckc_typed.specs.declared.typed.Note.{Note}
 use Rattle.ckc_typed.specs.declared.typed.StaticObject.{StaticObject}
 use Rattle.ckc_typed.specs.declared.environment.Variable.{Variable}
+use Rattle.ckc_typed.specs.Conversions.{is_terminated_kind}
 use Rattle.ckc_typed.specs.Environment.{variable_named}
 use Rattle.ckc_typed.specs.Operands.{is_raw_kind}
 use Rattle.ckc_typed.specs.Trees.{NotedLimits, NotedNode, NotedExpr, NotedLayer}
-use Rattle.ckc_typed.specs.Types.{kind_of, element_of, is_integer, is_scalar}
+use Rattle.ckc_typed.specs.Types.{kind_of, element_of, is_integer, is_pointer, is_scalar}
 use Rattle.ckc_typed_welltyped.specs.Expressions.{AnyLimits, AnyNode}
 use Rattle.ckc_bounds_points.specs.declared.frame.Bounds.{Bounds}
 use Rattle.ckc_bounds_points.specs.declared.frame.Bounds.TheVariants as bounds
@@ -28,6 +30,7 @@ use Rattle.ckc_bounds_views.specs.Views.{view}
 use Rattle.ckc_source.specs.Eval.{Store}
 use Rattle.ckc_build_values.specs.Kinds.{size_behind}
 use Rattle.ckc_build_values.specs.Names.{count_of_static}
+use Rattle.ckc_build_elaborate.specs.Objects.{object_elaborated, objects_elaborated}
 use Rattle.ckc_build_elaborate.specs.Shapes.{shapes_elaborated}
 use Rattle.ckc_blame_sound.specs.Settings.{Setting}
 use Rattle.ckc_blame_slots.specs.Cells.{AreSound, HaveOwnNames}
@@ -94,6 +97,20 @@ pub record IsStaticInteger (s : Setting) (t : CType) (k : ℕ) : Type 0 where
   pub integer : is_integer t ≡ true
   pub bare : count_of_static s.text t (name.Static k) ≡ None
 
+-- a static object that is an array, as a pointer of a type to its first element; it is declared without bounds
+pub record IsStaticArray (s : Setting) (t : CType) (k : ℕ) : Type 0 where
+  pub object : StaticObject
+  pub there : slice_get s.text.statics k ≡ Some object
+  pub judged : slice_get s.frame.statics k ≡ Some object
+  pub kind : Kind
+  pub array : object.array ≡ Some kind
+  pub counted : is_counted_kind (Some kind) ≡ true
+  pub ends : object.terminated ≡ is_terminated_kind (Some kind)
+  pub free : slice_get (objects_elaborated s.text) k ≡ Some (object_elaborated s.text.layout (Some true) object)
+  pub pointer : is_pointer t ≡ true
+  pub kind_is : kind_of t ≡ Some kind
+  pub element : element_of t ≡ object.element
+
 -- ---- expressions
 
 -- the unary operators on integers, and `!`
@@ -114,14 +131,14 @@ abbrev pub IsCoveredUnary : TreeOp → NotedExpr → Type 0
 IsCoveredUnary op.Deref e = IsElement e
 IsCoveredUnary o e = IsArithmetic o
 
--- The nodes of a type of which it is said what they come to: numbers, `sizeof`, `NULL`, locals in scope, static integers,
--- operators, `?:`, casts, and integers that are read through pointers.
+-- The nodes of a type of which it is said what they come to: numbers, `sizeof`, `NULL`, locals in scope, static integers
+-- and arrays, operators, `?:`, casts, and integers that are read through pointers.
 abbrev pub IsCoveredNode : Setting → List ℕ → CType → NotedLayer → Type 0
 IsCoveredNode s seen t (Node-F.Number n unsigned) = Unit {0}
 IsCoveredNode s seen t (Node-F.Size w) = Unit {0}
 IsCoveredNode s seen t Node-F.Null = Unit {0}
 IsCoveredNode s seen t (Node-F.Name (name.Local k)) = IsInScope s seen k
-IsCoveredNode s seen t (Node-F.Name (name.Static k)) = IsStaticInteger s t k
+IsCoveredNode s seen t (Node-F.Name (name.Static k)) = IsStaticInteger s t k ⊎ IsStaticArray s t k
 IsCoveredNode s seen t (Node-F.Un o e) = IsCoveredUnary o e
 IsCoveredNode s seen t (Node-F.Bin o e f) = Unit {0}
 IsCoveredNode s seen t (Node-F.Pick e f g) = Unit {0}
