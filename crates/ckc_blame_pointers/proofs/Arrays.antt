@@ -1,6 +1,6 @@
 -- The claims of a static array by its name.
-use Rattle.std.proofs.Common.{◌≡◌, ◌⊎◌, inl, inr, refl, sym, ap, subst, ◌∙◌, ℕ, zero, suc, Bool, true, false, List, [], ◌∷◌, rules, arith}
-use Rattle.std.specs.Prelude.{◌+◌, ◌-◌, ◌*◌, ◌%◌, ◌==◌, ◌<◌, ◌≤◌, ◌^◌, ◌&&◌, ◌||◌, not, if◌then◌else◌, nat_lt, nat_le, slice_get, length, ℤ, pos, ◌+ℤ◌, ◌*ℤ◌, Option, None, Some, is_some}
+use Rattle.std.proofs.Common.{◌≡◌, inl, inr, refl, sym, ap, subst, ◌∙◌, ℕ, zero, suc, Bool, true, false, List, [], ◌∷◌, rules, arith}
+use Rattle.std.specs.Prelude.{◌+◌, ◌-◌, ◌*◌, ◌%◌, ◌==◌, ◌<◌, ◌^◌, ◌&&◌, ◌||◌, not, if◌then◌else◌, slice_get, length, pos, ◌+ℤ◌, ◌*ℤ◌, Option, None, Some, is_some}
 use Rattle.std.specs.Option.{option_or}
 use Rattle.std.specs.List.{list_any}
 use Rattle.std.proofs.Math.IntN.{pos-*ℤ-pos}
@@ -18,24 +18,22 @@ use Rattle.ckc_syntax.specs.declared.tree.Node.{Node-F}
 use Rattle.ckc_base.specs.declared.places.Pos.{Pos}
 use Rattle.ckc_typed.specs.declared.typed.Range.{Range}
 use Rattle.ckc_typed.specs.declared.typed.Range.TheVariants as range
-use Rattle.ckc_typed.specs.declared.typed.StaticObject.{StaticObject}
 use Rattle.ckc_typed.specs.Constants.{size_of}
 use Rattle.ckc_typed.specs.Conversions.{is_terminated_kind}
-use Rattle.ckc_typed.specs.Types.{is_pointer, kind_of, element_of}
+use Rattle.ckc_typed.specs.Types.{kind_of}
 use Rattle.ckc_bounds_points.specs.Forms.{constant_form, base_form}
 use Rattle.ckc_bounds_ranges.specs.Rows.{readable, range_of_array}
 use Rattle.ckc_bounds_views.specs.Judged.{is_counted_kind}
-use Rattle.ckc_bounds_views.specs.Parts.{NodeView, capped}
+use Rattle.ckc_bounds_views.specs.Parts.{NodeView}
 use Rattle.ckc_bounds_views.specs.Places.{is_array, own_place, with_own, pointer_place}
 use Rattle.ckc_bounds_views.specs.Ranges.{own_numbers, range_of_object, range_of_static, pointer_range}
 use Rattle.ckc_bounds_views.specs.Views.{node_view}
 use Rattle.ckc_bounds_statements.specs.Paths.{Here}
-use Rattle.ckc_source.specs.declared.expr.Pointee.{Pointee}
 use Rattle.ckc_source.specs.declared.outcome.Range.TheVariants.{Within}
 use Rattle.ckc_source.specs.declared.outcome.Value.{Value}
 use Rattle.ckc_source.specs.declared.program.Object.{Object}
 use Rattle.ckc_source.specs.Blocks.{Block, block_of, end_of}
-use Rattle.ckc_source.specs.Code.{Expr, Array}
+use Rattle.ckc_source.specs.Code.{Array}
 use Rattle.ckc_source.specs.Eval.{Store, evaluated}
 use Rattle.ckc_source.specs.Runs.{is_within, is_in_block, is_in_member, member_runs, is_in, is_true}
 use Rattle.ckc_source.specs.Words.{elements_behind}
@@ -47,7 +45,7 @@ use Rattle.ckc_blame_sound.specs.Settings.{Setting}
 use Rattle.ckc_blame_sound.specs.Sound.{AreObjects, IsTerminated, IsPlaced}
 use Rattle.ckc_blame_sound.specs.Points.{HoldsAt}
 use Rattle.ckc_blame_slots.proofs.Apart.{placed_at}
-use Rattle.ckc_blame_pointers.specs.Valuations.{Valuation, Fits, IsInRange}
+use Rattle.ckc_blame_pointers.specs.Valuations.{Valuation}
 use Rattle.ckc_blame_pointers.specs.Covered.{IsSoundStore, IsStaticArray}
 use Rattle.ckc_blame_pointers.specs.Meant.{IsNotStuck}
 use Rattle.ckc_blame_pointers.proofs.Claims.{Placed, SideGoes, stays, nothing_read}

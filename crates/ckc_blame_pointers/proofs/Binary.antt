@@ -40,7 +40,7 @@ truth_true : (b : Bool) → (flag (not b) == 0) ≡ true → b ≡ true
 truth_true true e = refl
 truth_true false e = e
 
-flag_small : (b : Bool) → flag b < 2 ^ 32
+pub flag_small : (b : Bool) → flag b < 2 ^ 32
 flag_small true = omega arith
 flag_small false = omega arith
 

@@ -45,7 +45,8 @@ use Rattle.ckc_blame_pointers.proofs.Claims.{Placed, SideGoes, weaker, goes_on, 
 use Rattle.ckc_blame_pointers.proofs.Moving.{at_base}
 use Rattle.ckc_blame_pointers.proofs.Nodes.{NodeClaims, narrow, integer_claims, quiet_claims, LocalComes, local_comes}
 use Rattle.ckc_blame_pointers.proofs.Rows.{IsSmall, operation_word, Wide, wide_small, int_row, arithmetic_wide}
-use Rattle.ckc_blame_pointers.proofs.Binary.{ExprClaims, small_value}
+use Rattle.ckc_blame_pointers.proofs.Binary.{ExprClaims, small_value, flag_small}
+use Rattle.ckc_blame_numbers.proofs.Nodes.{not_side}
 
 zero_word : (t : CType) → IsWordOf t 0
 zero_word t = by (is_char t)
@@ -53,16 +54,6 @@ zero_word t = by (is_char t)
     by : (b : Bool) → 0 < (if b then 256 else 2 ^ 32)
     by true = omega arith
     by false = omega arith
-
-flag_small : (b : Bool) → flag b < 2 ^ 32
-flag_small true = omega arith
-flag_small false = omega arith
-
-not_side : (x b : Bool) → (flag x == 0) ≡ not b → x ≡ not (not b)
-not_side true true e = refl
-not_side true false e = sym e
-not_side false true e = sym e
-not_side false false e = refl
 
 module _ (s : Setting) (store : Store) (entry : List ℕ) (here : Here) (h : HoldsAt s store entry here) where
   -- ---- numbers

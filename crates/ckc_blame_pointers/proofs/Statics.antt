@@ -11,11 +11,11 @@ use Rattle.ckc_bounds_views.specs.Views.{node_view}
 use Rattle.ckc_bounds_statements.specs.Paths.{Here}
 use Rattle.ckc_source.specs.declared.outcome.Range.TheVariants.{Without}
 use Rattle.ckc_source.specs.Blocks.{loaded}
-use Rattle.ckc_source.specs.Code.{Expr, Load, Number}
+use Rattle.ckc_source.specs.Code.{Load, Number}
 use Rattle.ckc_source.specs.Eval.{Store, given_some, loads, place_in, plain, evaluated}
 use Rattle.ckc_build_values.specs.Expressions.{static_in}
 use Rattle.ckc_build_values.specs.Kinds.{width_of}
-use Rattle.ckc_build_values.specs.Names.{address_of, array_in, array_of, count_of_static}
+use Rattle.ckc_build_values.specs.Names.{address_of, array_in, array_of}
 use Rattle.ckc_build_values.specs.Places.{object_place, read_at}
 use Rattle.ckc_blame_sound.specs.Settings.{Setting}
 use Rattle.ckc_blame_sound.specs.Points.{HoldsAt}
