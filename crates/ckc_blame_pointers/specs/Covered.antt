@@ -131,8 +131,8 @@ abbrev pub IsCoveredUnary : TreeOp → NotedExpr → Type 0
 IsCoveredUnary op.Deref e = IsElement e
 IsCoveredUnary o e = IsArithmetic o
 
--- The nodes of a type of which it is said what they come to: numbers, `sizeof`, `NULL`, locals in scope, static integers
--- and arrays, operators, `?:`, casts, and integers that are read through pointers.
+-- The nodes of a type of which it is said what they come to: numbers, `sizeof`, `NULL`, locals in scope, static
+-- integers and arrays, operators, `?:`, casts, and integers that are read through pointers.
 abbrev pub IsCoveredNode : Setting → List ℕ → CType → NotedLayer → Type 0
 IsCoveredNode s seen t (Node-F.Number n unsigned) = Unit {0}
 IsCoveredNode s seen t (Node-F.Size w) = Unit {0}
@@ -146,8 +146,10 @@ IsCoveredNode s seen t (Node-F.Cast w e) = Unit {0}
 IsCoveredNode s seen t (Node-F.Index e f) = IsElement e
 IsCoveredNode s seen t _ = ⊥
 
--- Such an expression is no unchecked pointer, the size of what it points to is a word, and so is the number of its values.
-pub record IsCoveredExpr (s : Setting) (seen : List ℕ) (e : Expr-F Name Note NotedLimits NotedNode NotedExpr) : Type 0 where
+-- Such an expression is no unchecked pointer, the size of what it points to is a word, and so is the number of its
+-- values.
+pub record IsCoveredExpr (s : Setting) (seen : List ℕ) (e : Expr-F Name Note NotedLimits NotedNode NotedExpr)
+    : Type 0 where
   pub node : IsCoveredNode s seen e.note.ctype (out-Node Name Note e.node)
   pub checked : is_raw_kind (kind_of e.note.ctype) ≡ false
   pub few : (view s.frame (record { node = e.node; pos = e.pos; note = e.note })).values + 1 < 2 ^ 32

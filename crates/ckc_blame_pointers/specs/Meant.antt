@@ -17,18 +17,20 @@ IsNotStuck P (Ok v) = P v
 IsNotStuck P (Err (halt.Stopped why at)) = Unit {0}
 IsNotStuck P (Err halt.Stuck) = ⊥
 
--- some numbers for the values and the fresh variables of an expression, where these are numbered from here on, under which
--- a pointer is where it is judged to be
-pub record HasPlace (s : Setting) (store : Store) (here : Here) (e : View) (first fresh : ℕ) (before : Valuation) (p : Value) : Type 0 where
+-- A pointer is where it is judged to be, under some numbers for the values and the fresh variables of its expression,
+-- which are numbered from here on.
+pub record HasPlace (s : Setting) (store : Store) (here : Here) (e : View) (first fresh : ℕ) (before : Valuation)
+    (p : Value) : Type 0 where
   pub after : Valuation
   pub extends : Extends first fresh before after
   pub place : IsAtPlace s store.locals after e.ctype (e.place first here.at.facts) p.number
   pub range : IsInRange s store after e.ctype (e.range first fresh here.at) p
 
--- An expression comes to what it is judged to be at a point: to a word of its type, which is where its place says, within
--- its range; and on the side that it comes to as a condition, the point that is judged to be there holds.
+-- An expression comes to what it is judged to be at a point: to a word of its type, which is where its place says, and
+-- within its range; and on the side that it comes to as a condition, the point that is judged to be there holds.
 pub record IsMeant (s : Setting) (store : Store) (entry : List ℕ) (here : Here) (e : View) (p : Value) : Type 0 where
   pub word : IsWordOf e.ctype p.number
-  pub placed : (first fresh : ℕ) (before : Valuation) → first + e.values + 1 < 2 ^ 32 → fresh < 2 ^ 32 → AreFresh s.frame fresh
-      → Fits s.frame store.locals before → HasPlace s store here e first fresh before p
-  pub sides : (side : Bool) → (p.number == 0) ≡ not side → HoldsAt s store entry (record here { at = e.side side here.at })
+  pub placed : (first fresh : ℕ) (before : Valuation) → first + e.values + 1 < 2 ^ 32 → fresh < 2 ^ 32
+      → AreFresh s.frame fresh → Fits s.frame store.locals before → HasPlace s store here e first fresh before p
+  pub sides : (side : Bool) → (p.number == 0) ≡ not side
+      → HoldsAt s store entry (record here { at = e.side side here.at })

@@ -38,8 +38,8 @@ Fits frame locals v = (x : ℕ) → IsKnownVariable frame x → v.numbers x ≡ 
 abbrev pub AreFresh : Frame → ℕ → Type 0
 AreFresh frame fresh = (k : ℕ) (l : Local) → fresh ≤ k → local_at frame k ≡ Some l → is_integer l.ctype ≡ false
 
--- A valuation says the same as another one of what is numbered below: of values below the first of some, and of variables
--- up to that of the local in front of the first fresh one.
+-- A valuation says the same as another one of what is numbered below: of values below the first of some, and of
+-- variables up to that of the local in front of the first fresh one.
 pub record Extends (first fresh : ℕ) (before after : Valuation) : Type 0 where
   pub addresses : (n : ℕ) → n < first → after.addresses n ≡ before.addresses n
   pub numbers : (x : ℕ) → x ≤ fresh → after.numbers x ≡ before.numbers x
@@ -62,7 +62,8 @@ IsAtPlace s locals v t place n =
     IfSome place (λ f. pos n ≡ address_by s locals v (size_behind s.text.layout t) f)
 
 -- A pointer of a type has its range: it is between the addresses that the two ends stand for, and it is true.
-pub record HasEnds (s : Setting) (store : Store) (v : Valuation) (t : CType) (low high : Form) (p : Value) : Type 0 where
+pub record HasEnds (s : Setting) (store : Store) (v : Valuation) (t : CType) (low high : Form) (p : Value)
+    : Type 0 where
   pub from : ℕ
   pub to : ℕ
   pub range : p.range ≡ Within from to
