@@ -1,0 +1,196 @@
+-- The claims of `*p` and `p[e]`, where an integer is read.
+use Rattle.std.proofs.Common.{◌≡◌, ◌⊎◌, inl, inr, refl, sym, ap, subst, ◌∙◌, ℕ, Bool, true, false, List, arith}
+use Rattle.std.specs.Prelude.{◌+◌, ◌==◌, ◌<◌, ◌^◌, ◌&&◌, not, if◌then◌else◌, ℤ, pos, ◌*ℤ◌, ◌*◌, IfSome, Option, None, Some, Ok}
+use Rattle.ckc_base.specs.declared.places.Pos.{Pos}
+use Rattle.ckc_types.specs.declared.types.Kind.TheVariants as kind
+use Rattle.ckc_linear.specs.declared.forms.Form.{Form}
+use Rattle.ckc_typed.specs.declared.typed.Range.{Range}
+use Rattle.ckc_typed.specs.declared.typed.Range.TheVariants as range
+use Rattle.ckc_typed.specs.Trees.{NotedExpr}
+use Rattle.ckc_typed.specs.Types.{is_integer, kind_of, element_of}
+use Rattle.ckc_bounds_points.specs.Codes.{unknown_bounds}
+use Rattle.ckc_bounds_views.specs.Conditions.{wider, widened_by, read_place, widening, widening_side}
+use Rattle.ckc_bounds_views.specs.Judged.{is_counted_kind, is_missing, fault_if, access_fault}
+use Rattle.ckc_bounds_views.specs.Parts.{NodeView}
+use Rattle.ckc_bounds_views.specs.Views.{view}
+use Rattle.ckc_bounds_statements.specs.Paths.{Here}
+use Rattle.ckc_source.specs.declared.expr.Access.{Access}
+use Rattle.ckc_source.specs.declared.expr.Integer.{Integer}
+use Rattle.ckc_source.specs.declared.outcome.Range.TheVariants.{Within, Without}
+use Rattle.ckc_source.specs.declared.outcome.Value.{Value}
+use Rattle.ckc_source.specs.Blocks.{loaded}
+use Rattle.ckc_source.specs.Code.{Expr, Load}
+use Rattle.ckc_source.specs.Eval.{Store, plain, given, element, place_in, loads, evaluated}
+use Rattle.ckc_build_values.specs.Kinds.{width_of, through_kind, pointee_of, size_behind}
+use Rattle.ckc_blame_sound.specs.Settings.{Setting}
+use Rattle.ckc_blame_sound.specs.Values.{value, IsWordOf}
+use Rattle.ckc_blame_sound.specs.Points.{AreBounded, HoldsAt}
+use Rattle.ckc_blame_numbers.proofs.Types.{no_pointer}
+use Rattle.ckc_blame_numbers.specs.Typed.{Agrees}
+use Rattle.ckc_typed.specs.declared.environment.Globals.{Globals}
+use Rattle.ckc_source.specs.Words.{exact, elements_behind}
+use Rattle.ckc_blame_pointers.specs.Valuations.{Valuation, address_by, IsAtPlace, AreFresh, HasEnds, IsInRange}
+use Rattle.ckc_blame_pointers.specs.Covered.{DeclareLocals, IsSoundStore}
+use Rattle.ckc_blame_pointers.specs.Meant.{IsNotStuck}
+use Rattle.ckc_blame_pointers.proofs.Claims.{IsOfLocal, Placed, SideGoes, both_go_on, stays, not_placed}
+use Rattle.ckc_blame_pointers.proofs.Nodes.{NodeClaims}
+use Rattle.ckc_blame_pointers.proofs.Binary.{ExprClaims, wider_goes}
+use Rattle.ckc_blame_pointers.proofs.Moving.{still_fits, sum_at}
+use Rattle.ckc_blame_pointers.proofs.Sums.{IsIndex}
+use Rattle.ckc_blame_numbers.proofs.Claims.{plain_is}
+use Rattle.ckc_source.specs.declared.expr.Integer.TheVariants.{Int}
+use Rattle.ckc_bounds_points.specs.Forms.{sum_of_forms}
+use Rattle.std.proofs.Math.IntN.{pos-*ℤ-pos}
+use Rattle.std.proofs.lemmas.Int.{ints}
+use Rattle.ckc_blame_pointers.proofs.Wider.{place_widens}
+use Rattle.ckc_blame_pointers.proofs.Loads.{element_is, IsTested, element_goes, reached_by, tested_pointer, element_loads}
+
+-- the valuation that says nothing of values
+abbrev pub bare_valuation : Setting → List ℕ → Valuation
+bare_valuation s locals = record { numbers = value s.frame locals; addresses = λ n. 0 }
+
+module _ (s : Setting) (store : Store) (entry : List ℕ) (next : ℕ) (ready : IsSoundStore s store next) (here : Here) (h : HoldsAt s store entry here) where
+  module _ (e : NotedExpr) (fresh : ℕ) (few : (view s.frame e).values + 1 < 2 ^ 32) (little : fresh < 2 ^ 32) (are : AreFresh s.frame fresh) where
+    -- where the pointer is, in numbers that begin with the least
+    pub at_pointer : (x : Value) → ExprClaims s store entry here e x
+        → Placed s store entry here e.note.ctype (0 + (view s.frame e).values) ((view s.frame e).place 0 here.at.facts) ((view s.frame e).range 0 fresh here.at) 0 fresh (bare_valuation s store.locals) x
+    at_pointer x c = c.placed 0 fresh (bare_valuation s store.locals) (from_zero (view s.frame e).values few) little are (λ y known. refl)
+      where
+        from_zero : (n : ℕ) → n + 1 < 2 ^ 32 → 0 + n + 1 < 2 ^ 32
+        from_zero n h = omega arith
+
+    -- what `*` reads lies where the pointer's place says
+    pub target_aims : (x : Value) (c : ExprClaims s store entry here e x) (k : Value) → plain 0 ≡ Ok k → (a : ℕ) → pos a ≡ elements_behind x.number (size_behind s.text.layout e.note.ctype) (exact Int k.number)
+        → (f : Form) → (view s.frame e).place 0 here.at.facts ≡ Some f
+        → (pos a ≡ address_by s store.locals (at_pointer x c).after (size_behind s.text.layout e.note.ctype) f) × IsOfLocal s e.note.ctype f.base
+    target_aims x c k zero a is f there =
+        let none : k.number ≡ 0 = plain_is 0 k zero in (
+          is ∙ ap (λ n. elements_behind x.number (size_behind s.text.layout e.note.ctype) (exact Int n)) none ∙ nothing_behind x.number (size_behind s.text.layout e.note.ctype)
+              ∙ subst (λ o. IsAtPlace s store.locals (at_pointer x c).after e.note.ctype o x.number) there (at_pointer x c).place_is,
+          subst (λ (o : Option Form). IfSome o (λ f. IsOfLocal s e.note.ctype f.base)) there (at_pointer x c).of_local,
+        )
+      where
+        nothing_behind : (n size : ℕ) → elements_behind n size (pos 0) ≡ pos n
+        nothing_behind n size =
+            let product : pos size *ℤ pos 0 ≡ pos (size * 0) = pos-*ℤ-pos size 0 in
+            let same : size * 0 ≡ 0 = omega arith in
+            let product_is : pos size *ℤ pos 0 ≡ pos 0 = product ∙ ap pos same in
+            omega (arith, ints)
+
+    -- and what `[` reads so many elements behind it
+    pub element_aims : (x : Value) (c : ExprClaims s store entry here e x) (z : ℤ) (form : Option Form) → IsIndex s store.locals z form → (a : ℕ)
+        → pos a ≡ elements_behind x.number (size_behind s.text.layout e.note.ctype) z → (raw : Bool) → raw ≡ false
+        → (f : Form) → (if raw then None else sum_of_forms ((view s.frame e).place 0 here.at.facts) form) ≡ Some f
+        → (pos a ≡ address_by s store.locals (at_pointer x c).after (size_behind s.text.layout e.note.ctype) f) × IsOfLocal s e.note.ctype f.base
+    element_aims x c z form index a is true checked f e' = absurd (cc)
+    element_aims x c z form index a is false checked f e' =
+        let r = sum_at s store entry here e.note.ctype (0 + (view s.frame e).values) 0 ((view s.frame e).place 0 here.at.facts) ((view s.frame e).range 0 fresh here.at) 0 fresh (bare_valuation s store.locals) x (at_pointer x c)
+        (still_fits s store.locals 0 fresh (bare_valuation s store.locals) (at_pointer x c).after are (λ y known. refl) (at_pointer x c).extends) z form index a is
+        ((view s.frame e).place 0 here.at.facts) form refl refl f e' in
+        (r.0, r.2)
+
+    -- the range of a pointer that is read through is true, unless that is null
+    unfoldable pub IsRanged : Value → Type 0
+    IsRanged x = (x.number ≡ 0) ⊎ ((v : Valuation) × (low : Form) × (high : Form) × HasEnds s store v e.note.ctype low high x)
+
+    no_fault : (b : Bool) (spot : Pos) → fault_if (true && b) unknown_bounds spot ≡ None → b ≡ false
+    no_fault true spot e = absurd (cc)
+    no_fault false spot e = refl
+
+    pub ranged_pointer : (spot : Pos) → is_counted_kind (kind_of (view s.frame e).ctype) ≡ true → access_fault (view s.frame e) spot fresh here.at ≡ None → (x : Value) → ExprClaims s store entry here e x → IsRanged x
+    unfolding IsRanged
+    ranged_pointer spot counted none x c =
+        by ((view s.frame e).range 0 fresh here.at) (no_fault (is_missing ((view s.frame e).range 0 fresh here.at)) spot (sym (ap (λ b. fault_if (b && is_missing ((view s.frame e).range 0 fresh here.at)) unknown_bounds spot) counted) ∙ none))
+        (at_pointer x c).range_is
+      where
+        by : (r : Range) → is_missing r ≡ false → IsInRange s store (at_pointer x c).after e.note.ctype r x → (x.number ≡ 0) ⊎ ((v : Valuation) × (low : Form) × (high : Form) × HasEnds s store v e.note.ctype low high x)
+        by range.Missing m i = absurd (cc)
+        by range.Any m i = inl i
+        by (range.Known low high) m (inl z) = inl z
+        by (range.Known low high) m (inr g) = inr ((at_pointer x c).after, low, high, g)
+
+    module _ (place : Pos) (index : Integer) (v w : Expr) (R : Value → Type 0) (left : IsNotStuck (ExprClaims s store entry here e) (evaluated store v)) (right : IsNotStuck R (evaluated store w))
+        (counted : is_counted_kind (kind_of e.note.ctype) ≡ true) (integer : is_integer (element_of e.note.ctype) ≡ true) (ranged : (x : Value) → ExprClaims s store entry here e x → IsRanged x) where
+      abbrev access : Access
+      access = record { through = through_kind (kind_of e.note.ctype); at = place; size = size_behind s.text.layout e.note.ctype; index = index; offset = 0 }
+
+      -- what is not zero widens
+      abbrev pub Widens : NodeView → Type 0
+      Widens n = (x k : Value) → evaluated store v ≡ Ok x → evaluated store w ≡ Ok k → ExprClaims s store entry here e x → R k → (a m : ℕ) → element access x k.number ≡ Ok a
+          → (x.number ≡ 0 → ⊥) → loaded (width_of (element_of e.note.ctype)) (a + 0) store.blocks ≡ Some m → (m == 0) ≡ false
+          → AreBounded s store (widening s.frame n.behind (n.target 0 here.at.facts) here.at).widened here.seen
+
+      read_sides : (n : NodeView) (m : ℕ) → ((m == 0) ≡ false → AreBounded s store (widening s.frame n.behind (n.target 0 here.at.facts) here.at).widened here.seen) → (b : Bool) → (m == 0) ≡ not b
+          → SideGoes s store entry here (widening_side s.frame n.behind (n.target 0) b here.at)
+      read_sides n m wide true side = wider_goes s store entry here h (widened_by s.frame (read_place n.behind (n.target 0 here.at.facts))) (wide side)
+      read_sides n m wide false side = stays s store entry here h
+
+      pub element_claims : (n : NodeView) → n.null ≡ false → n.is_zero ≡ false → ((b : Bool) → n.side b here.at ≡ widening_side s.frame n.behind (n.target 0) b here.at) → Widens n
+          → IsNotStuck (NodeClaims s store entry here h (element_of e.note.ctype) n) (evaluated store (Load (width_of (element_of e.note.ctype)) access v w))
+      unfolding IsRanged
+      element_claims n known some same wide =
+          both_go_on (ExprClaims s store entry here e) R (NodeClaims s store entry here h (element_of e.note.ctype) n) (evaluated store v) (evaluated store w)
+          (λ x k. given (element access x k.number) (λ a. loads store (width_of (element_of e.note.ctype)) (place_in a 0))) left right
+          (λ x k is there c d. reads x k is there c d (ranged x c))
+        where
+          tested : IsTested access.through (pointee_of s.text.layout e.note.ctype)
+          tested = tested_pointer s.text.layout e.note.ctype counted
+
+          made : (m : ℕ) → IsWordOf (element_of e.note.ctype) m → ((m == 0) ≡ false → AreBounded s store (widening s.frame n.behind (n.target 0 here.at.facts) here.at).widened here.seen)
+              → NodeClaims s store entry here h (element_of e.note.ctype) n (record { number = m; range = Without })
+          made m word bounded = record {
+            word = word;
+            placed = λ first fresh before low little are fits. not_placed s store entry here (element_of e.note.ctype) n _ first fresh before (record { number = m; range = Without }) (no_pointer (element_of e.note.ctype) integer) (λ e. absurd (cc));
+            zero = λ e. absurd (cc);
+            wide = bounded;
+            sides = λ b side. subst (SideGoes s store entry here) (sym (same b)) (read_sides n m bounded b side);
+          }
+
+          ends_of : (x : Value) → (x.number ≡ 0) ⊎ ((v : Valuation) × (low : Form) × (high : Form) × HasEnds s store v e.note.ctype low high x) → (x.number ≡ 0) ⊎ ((low : ℕ) × (high : ℕ) × (x.range ≡ Within low high))
+          ends_of x (inl z) = inl z
+          ends_of x (inr (v, low, high, g)) = inr (g.from, g.to, g.range)
+
+          reads : (x k : Value) → evaluated store v ≡ Ok x → evaluated store w ≡ Ok k → ExprClaims s store entry here e x → R k
+              → (x.number ≡ 0) ⊎ ((v : Valuation) × (low : Form) × (high : Form) × HasEnds s store v e.note.ctype low high x)
+              → IsNotStuck (NodeClaims s store entry here h (element_of e.note.ctype) n) (given (element access x k.number) (λ a. loads store (width_of (element_of e.note.ctype)) (place_in a 0)))
+          reads x k is there c d r =
+              element_goes access x k.number (NodeClaims s store entry here h (element_of e.note.ctype) n) (λ a. loads store (width_of (element_of e.note.ctype)) (place_in a 0)) (pointee_of s.text.layout e.note.ctype) tested (ends_of x r)
+              (λ a not_null at. at_element a not_null at r)
+            where
+              at_element : (a : ℕ) → (x.number ≡ 0 → ⊥) → element access x k.number ≡ Ok a → (x.number ≡ 0) ⊎ ((v : Valuation) × (low : Form) × (high : Form) × HasEnds s store v e.note.ctype low high x)
+                  → IsNotStuck (NodeClaims s store entry here h (element_of e.note.ctype) n) (loads store (width_of (element_of e.note.ctype)) (place_in a 0))
+              at_element a not_null at (inl z) = absurd (not_null z)
+              at_element a not_null at (inr (u, low, high, g)) =
+                  element_loads s store next ready.sound ready.names ready.shapes (NodeClaims s store entry here h (element_of e.note.ctype) n) e.note.ctype x.number g.from g.to a integer g.true_there
+                  (reached_by access x k.number (pointee_of s.text.layout e.note.ctype) g.from g.to a tested refl g.range at)
+                  (λ m there_m word. made m word (λ z. wide x k is there c d a m at not_null there_m z))
+
+      -- the place that is judged to be read is where the element lies
+      abbrev pub Aims : NodeView → Type 0
+      Aims n = (x k : Value) (c : ExprClaims s store entry here e x) → R k → evaluated store w ≡ Ok k → (a : ℕ) → pos a ≡ elements_behind x.number (size_behind s.text.layout e.note.ctype) (exact index k.number)
+          → (f : Form) → n.target 0 here.at.facts ≡ Some f
+          → (pos a ≡ address_by s store.locals (at_pointer x c).after (size_behind s.text.layout e.note.ctype) f) × IsOfLocal s e.note.ctype f.base
+
+      -- through an `_Nt_array_ptr` a local may be widened
+      pub wide_terminated : (globals : Globals) → Agrees globals s → DeclareLocals s → (n : NodeView) → n.behind ≡ Some kind.Nt → Aims n → Widens n
+      wide_terminated globals agrees declares n is aims = λ x k is' there c d a m at not_null got z.
+          let exactly = element_is access x k.number a (pointee_of s.text.layout e.note.ctype) (tested_pointer s.text.layout e.note.ctype counted) at in
+          subst (λ q. AreBounded s store (widening s.frame q (n.target 0 here.at.facts) here.at).widened here.seen) (sym is)
+          (by x c a m (n.target 0 here.at.facts) (λ f there'. aims x k c d there a exactly f there') (subst (λ b. loaded (width_of (element_of e.note.ctype)) b store.blocks ≡ Some m) (none_more a) got) z)
+        where
+          none_more : (a : ℕ) → a + 0 ≡ a
+          none_more a = omega arith
+
+          by : (x : Value) (c : ExprClaims s store entry here e x) (a m : ℕ) (o : Option Form)
+              → ((f : Form) → o ≡ Some f → (pos a ≡ address_by s store.locals (at_pointer x c).after (size_behind s.text.layout e.note.ctype) f) × IsOfLocal s e.note.ctype f.base)
+              → loaded (width_of (element_of e.note.ctype)) a store.blocks ≡ Some m → (m == 0) ≡ false → AreBounded s store (wider (widened_by s.frame o) here.at).widened here.seen
+          by x c a m None aims got z = h.widened
+          by x c a m (Some f) aims got z =
+              place_widens globals s agrees declares store entry next ready here h (at_pointer x c).after
+              (still_fits s store.locals 0 fresh (bare_valuation s store.locals) (at_pointer x c).after are (λ y known. refl) (at_pointer x c).extends) f a m e.note.ctype (aims f refl).0 got z integer
+              (λ k l based there. subst (IsOfLocal s e.note.ctype) based (aims f refl).1 l there)
+
+      -- through an `_Array_ptr` nothing is widened
+      pub narrow_array : (n : NodeView) → n.behind ≡ Some kind.Arr → Widens n
+      narrow_array n is = λ x k is' there c d a m at not_null got z.
+          subst (λ q. AreBounded s store (widening s.frame q (n.target 0 here.at.facts) here.at).widened here.seen) (sym is) h.widened

@@ -1,0 +1,359 @@
+-- The claims of all expressions that are covered, by induction.
+use Rattle.std.proofs.Common.{⊎_elim, ◌≡◌, refl, sym, ap, subst, ◌∙◌, ℕ, ◌+◌, Bool, true, false, List}
+use Rattle.std.specs.Prelude.{◌==◌, ◌<◌, ◌^◌, ◌&&◌, not, length, pos, if◌then◌else◌, Option, None, Some, Ok}
+use Rattle.ckc_base.specs.declared.places.Pos.{Pos}
+use Rattle.ckc_types.specs.declared.types.Kind.{Kind}
+use Rattle.ckc_types.specs.declared.types.Kind.TheVariants as kind
+use Rattle.ckc_types.specs.declared.types.CType.{CType}
+use Rattle.ckc_linear.specs.declared.forms.Form.{Form}
+use Rattle.ckc_syntax.specs.declared.tree.Name.{Name}
+use Rattle.ckc_syntax.specs.declared.tree.Name.TheVariants as name
+use Rattle.ckc_syntax.specs.declared.tree.TreeOp.{TreeOp}
+use Rattle.ckc_syntax.specs.declared.tree.TreeOp.TheVariants as op
+use Rattle.ckc_syntax.specs.declared.tree.Limits.{Limits-F, map-Limits, roll-Limits}
+use Rattle.ckc_syntax.specs.declared.tree.Node.{Node-F, map-Node, out-Node, roll-Node, fold-roll-Node}
+use Rattle.ckc_syntax.specs.declared.tree.Expr.{Expr-F, map-Expr, ind-Expr, roll-Expr, fold-roll-Expr, every_here-Expr}
+use Rattle.ckc_typed.specs.declared.environment.Globals.{Globals}
+use Rattle.ckc_typed.specs.declared.typed.Note.{Note}
+use Rattle.ckc_typed.specs.declared.typed.Range.TheVariants as range
+use Rattle.ckc_typed.specs.Constants.{size_of}
+use Rattle.ckc_typed.specs.Conversions.{is_null}
+use Rattle.ckc_typed.specs.Operands.{is_raw_kind, is_moved}
+use Rattle.ckc_typed.specs.Trees.{NotedLimits, NotedNode, NotedExpr, NotedLayer}
+use Rattle.ckc_typed.specs.Types.{type_written, is_integer, is_pointer, is_void, kind_of, element_of}
+use Rattle.ckc_typed_welltyped.specs.Expressions.{AnyLimits, AnyNode}
+use Rattle.ckc_typed_welltyped.proofs.Nodes.{node_of, node_rolled}
+use Rattle.ckc_bounds_points.specs.Flow.{State}
+use Rattle.ckc_bounds_ranges.specs.Rows.{range_of_local}
+use Rattle.ckc_bounds_views.specs.Parts.{LimitsView, NodeView, View, NodeOfViews, fresh_behind}
+use Rattle.ckc_bounds_views.specs.Conditions.{right_point, widening_side}
+use Rattle.ckc_bounds_views.specs.Judged.{is_counted_kind, access_fault, fault_of_node, node_judged}
+use Rattle.ckc_bounds_views.specs.Ranges.{pointer_range}
+use Rattle.ckc_bounds_views.specs.Views.{limits_view, node_view, expr_view, view_of_limits, view_of_node, view}
+use Rattle.ckc_bounds_statements.specs.Paths.{Here, side_of}
+use Rattle.ckc_source.specs.declared.outcome.Value.{Value}
+use Rattle.ckc_source.specs.declared.expr.Integer.{Integer}
+use Rattle.ckc_source.specs.declared.expr.Integer.TheVariants.{Int}
+use Rattle.ckc_source.specs.Code.{Expr, Number}
+use Rattle.ckc_source.specs.Eval.{Store, evaluated}
+use Rattle.ckc_source.specs.Words.{exact, elements_behind}
+use Rattle.ckc_build_values.specs.Kinds.{integer_of, size_behind, count_of_kind}
+use Rattle.ckc_build_values.specs.Places.{element_place, target_place, read_at}
+use Rattle.ckc_build_values.specs.Expressions.{Part, NodePart, LimitsPart, local_in, limits_parts, node_parts, expr_parts, node_value, part_of, part_of_node, part_of_limits}
+use Rattle.ckc_build_values.specs.Operators.{of_operands}
+use Rattle.ckc_blame_sound.specs.Settings.{Setting}
+use Rattle.ckc_blame_sound.specs.Values.{AreTrue}
+use Rattle.ckc_blame_sound.specs.Points.{HoldsAt}
+use Rattle.ckc_blame_numbers.specs.Typed.{IsRow, HasRow, IsTyped, Agrees}
+use Rattle.ckc_blame_numbers.proofs.Exprs as numbers
+use Rattle.ckc_blame_numbers.proofs.Holding.{form_exact, side_told}
+use Rattle.ckc_blame_numbers.proofs.Types.{IsWide, number_wide, size_wide}
+use Rattle.ckc_blame_pointers.specs.Valuations.{AreFresh, address_by}
+use Rattle.ckc_blame_pointers.specs.Covered.{DeclareLocals, IsSoundStore, IsElement, IsCoveredNode, IsCoveredExpr, IsCovered}
+use Rattle.ckc_blame_pointers.specs.Meant.{IsNotStuck}
+use Rattle.ckc_blame_pointers.proofs.Claims.{Claims, holds_on}
+use Rattle.ckc_blame_pointers.proofs.Forms.{form_known}
+use Rattle.ckc_blame_pointers.proofs.Inside.{EveryNode, PartsEvery, parts_every, node_every, node_out, one_part, two_parts, three_parts, IsJudged, judged_is}
+use Rattle.ckc_blame_pointers.proofs.Nodes.{NodeClaims}
+use Rattle.ckc_blame_pointers.proofs.Binary.{ExprClaims, other_claims, unequal_claims, and_claims, or_claims}
+use Rattle.ckc_blame_pointers.proofs.Sums.{IsIndex, capped_more, capped_small, fresh_on, sum_claims, difference_claims}
+use Rattle.ckc_blame_pointers.proofs.Elements.{at_pointer, IsRanged, ranged_pointer, Widens, target_aims, element_aims, element_claims, wide_terminated, narrow_array}
+use Rattle.ckc_blame_pointers.proofs.Claims.{IsOfLocal}
+use Rattle.ckc_blame_pointers.proofs.Loads.{no_count}
+use Rattle.ckc_blame_pointers.proofs.Statics.{static_claims}
+use Rattle.ckc_blame_pointers.proofs.Arrays.{array_claims}
+use Rattle.ckc_blame_pointers.proofs.Leaves.{number_claims, size_claims, null_claims, local_claims, minus_claims, plus_claims, flip_claims, not_claims, cast_claims, choice_claims}
+
+module _ (globals : Globals) (s : Setting) (agrees : Agrees globals s) (declares : DeclareLocals s) (store : Store) (entry : List ℕ) (next : ℕ) (ready : IsSoundStore s store next) where
+  record AnyLimitsHold (l : NotedLimits) : Type 0 where
+    pub any : Unit {0}
+
+  record NodeHolds (n : NotedNode) : Type 0 where
+    pub claims : (note : Note) (place : Pos) → IsRow globals s (out-Node Name Note n) note → EveryNode (HasRow globals s) n
+        → (here : Here) → EveryNode (IsCoveredExpr s here.seen) n → IsCoveredNode s here.seen note.ctype (out-Node Name Note n) → is_raw_kind (kind_of note.ctype) ≡ false
+        → (h : HoldsAt s store entry here) (fresh : ℕ) → fresh < 2 ^ 32 → AreFresh s.frame fresh → (view_of_node s.frame n).judged note.ctype fresh here.at ≡ Ok n
+        → (view_of_node s.frame n).fault place fresh here.at ≡ None
+        → (is_pointer note.ctype ≡ true → note.range ≡ pointer_range note.ctype (view_of_node s.frame n) 0 fresh here.at)
+        → (k : ℕ) → IsNotStuck (NodeClaims s store entry here h note.ctype (view_of_node s.frame n)) (evaluated store ((part_of_node n).value note place s.text s.variables k))
+
+  record ExprHolds (e : NotedExpr) : Type 0 where
+    pub claims : IsTyped globals s e → (here : Here) → IsCovered s here.seen e → HoldsAt s store entry here → (fresh : ℕ) → fresh < 2 ^ 32 → AreFresh s.frame fresh → (view s.frame e).judged fresh here.at ≡ Ok e
+        → (k : ℕ) → IsNotStuck (ExprClaims s store entry here e) (evaluated store ((part_of e).value s.text s.variables k))
+
+  abbrev KeptLimits : Type 0
+  KeptLimits = (l : NotedLimits) × AnyLimitsHold l
+
+  abbrev KeptNode : Type 0
+  KeptNode = (n : NotedNode) × NodeHolds n
+
+  abbrev KeptExpr : Type 0
+  KeptExpr = (e : NotedExpr) × ExprHolds e
+
+  abbrev inner_node : Node-F Name Note KeptLimits KeptNode KeptExpr → NotedLayer
+  inner_node = map-Node Name Note KeptLimits KeptNode KeptExpr NotedLimits NotedNode NotedExpr (λ e. e.0) (λ e. e.0) (λ e. e.0)
+
+  abbrev inner_limits : Limits-F Name Note KeptLimits KeptNode KeptExpr → Limits-F Name Note NotedLimits NotedNode NotedExpr
+  inner_limits = map-Limits Name Note KeptLimits KeptNode KeptExpr NotedLimits NotedNode NotedExpr (λ e. e.0) (λ e. e.0) (λ e. e.0)
+
+  abbrev inner_expr : Expr-F Name Note KeptLimits KeptNode KeptExpr → Expr-F Name Note NotedLimits NotedNode NotedExpr
+  inner_expr = map-Expr Name Note KeptLimits KeptNode KeptExpr NotedLimits NotedNode NotedExpr (λ e. e.0) (λ e. e.0) (λ e. e.0)
+
+  abbrev viewed_node : NotedLayer → NodeOfViews
+  viewed_node = map-Node Name Note NotedLimits NotedNode NotedExpr LimitsView NodeView View (view_of_limits s.frame) (view_of_node s.frame) (view s.frame)
+
+  abbrev viewed_expr : Expr-F Name Note NotedLimits NotedNode NotedExpr → Expr-F Name Note LimitsView NodeView View
+  viewed_expr = map-Expr Name Note NotedLimits NotedNode NotedExpr LimitsView NodeView View (view_of_limits s.frame) (view_of_node s.frame) (view s.frame)
+
+  abbrev part_node : NotedLayer → Node-F Name Note LimitsPart NodePart Part
+  part_node = map-Node Name Note NotedLimits NotedNode NotedExpr LimitsPart NodePart Part part_of_limits part_of_node part_of
+
+  abbrev part_expr : Expr-F Name Note NotedLimits NotedNode NotedExpr → Expr-F Name Note LimitsPart NodePart Part
+  part_expr = map-Expr Name Note NotedLimits NotedNode NotedExpr LimitsPart NodePart Part part_of_limits part_of_node part_of
+
+  viewed_type : (e : NotedExpr) → (view s.frame e).ctype ≡ e.note.ctype
+  viewed_type e = (numbers.expr_holds globals s agrees e).viewed
+
+  parted_type : (e : NotedExpr) → (part_of e).ctype ≡ e.note.ctype
+  parted_type e = (numbers.expr_holds globals s agrees e).parted
+
+  -- ---- a part at a point
+
+  module _ (here : Here) (h : HoldsAt s store entry here) (e : NotedExpr) (typed : IsTyped globals s e) (k : ℕ) (x : Value) (is : evaluated store ((part_of e).value s.text s.variables k) ≡ Ok x) where
+    -- its form is what it comes to
+    index_of : IsIndex s store.locals (exact (integer_of e.note.ctype) x.number) ((view s.frame e).form here.at.facts)
+    index_of g there = ((form_exact globals s agrees e k store x typed h.words is here.at.facts g h.facts there).number, form_known s.frame e here.at.facts g there)
+
+    facts_told : (b : Bool) → (x.number == 0) ≡ not b → AreTrue s.frame store.locals ((view s.frame e).side b here.at).facts
+    unfolding side_of
+    facts_told b side = side_told globals s agrees e k store x typed h.words is here.at b h.facts side
+
+    -- the point on the side that it comes to holds
+    pub point_of : ExprClaims s store entry here e x → (b : Bool) → (x.number == 0) ≡ not b → HoldsAt s store entry (record here { at = (view s.frame e).side b here.at })
+    point_of c b side = holds_on s store entry here ((view s.frame e).side b here.at) h (c.sides b side) (facts_told b side)
+
+  -- ---- a node
+
+  module _ (here : Here) (h : HoldsAt s store entry here) where
+    little_on : (e : NotedExpr) (fresh : ℕ) → fresh_behind (view s.frame e) fresh here.at < 2 ^ 32
+    little_on e fresh = capped_small fresh (length ((view s.frame e).fresh here.at))
+
+    are_on : (e : NotedExpr) (fresh : ℕ) → fresh < 2 ^ 32 → AreFresh s.frame fresh → AreFresh s.frame (fresh_behind (view s.frame e) fresh here.at)
+    are_on e fresh little are =
+        fresh_on s store entry here h fresh (fresh_behind (view s.frame e) fresh here.at) (capped_more fresh (length ((view s.frame e).fresh here.at)) little) are
+
+    abbrev Made : NotedLayer → Note → Pos → ℕ → Type 0
+    Made x note place k = IsNotStuck (NodeClaims s store entry here h note.ctype (node_view s.frame (viewed_node x))) (evaluated store (node_value (part_node x) note place s.text s.variables k))
+
+    module _ (e f : KeptExpr) (typed : IsTyped globals s e.0 × IsTyped globals s f.0) (covered : IsCovered s here.seen e.0 × IsCovered s here.seen f.0) (fresh : ℕ) (little : fresh < 2 ^ 32) (are : AreFresh s.frame fresh)
+        (k : ℕ) where
+      abbrev v : Expr
+      v = (part_of e.0).value s.text s.variables k
+
+      abbrev w : Expr
+      w = (part_of f.0).value s.text s.variables (k + (part_of e.0).literals)
+
+      abbrev IsLeft : Type 0
+      IsLeft = (view s.frame e.0).judged fresh here.at ≡ Ok e.0
+
+      abbrev IsRight : State → Type 0
+      IsRight at = (view s.frame f.0).judged (fresh_behind (view s.frame e.0) fresh here.at) at ≡ Ok f.0
+
+      left_claims : IsLeft → IsNotStuck (ExprClaims s store entry here e.0) (evaluated store v)
+      left_claims is = e.1.claims typed.0 here covered.0 h fresh little are is k
+
+      right_claims : (at : State) → IsRight at → HoldsAt s store entry (record here { at = at }) → IsNotStuck (ExprClaims s store entry (record here { at = at }) f.0) (evaluated store w)
+      right_claims at is holds = f.1.claims typed.1 (record here { at = at }) covered.1 holds (fresh_behind (view s.frame e.0) fresh here.at) (little_on e.0 fresh) (are_on e.0 fresh little are) is (k + (part_of e.0).literals)
+
+      binary_step : (o : TreeOp) (note : Note) (place : Pos) → IsRow globals s (Node-F.Bin o e.0 f.0) note → is_raw_kind (kind_of note.ctype) ≡ false → size_behind s.text.layout e.0.note.ctype < 2 ^ 32
+          → IsLeft → IsRight (right_point o (view s.frame e.0) here.at)
+          → IsNotStuck (NodeClaims s store entry here h note.ctype (node_view s.frame (Node-F.Bin o (view s.frame e.0) (view s.frame f.0))))
+          (evaluated store (of_operands s.text.layout o e.0.note.ctype f.0.note.ctype place v w))
+      binary_step op.AndThen note place row checked sized left right =
+          and_claims s store entry here h s.text.layout e.0 f.0 note.ctype place v w (left_claims left) (is_null e.0) (is_null f.0)
+          (λ x is c b side. point_of here h e.0 typed.0 k x is c b side) row.row (right_claims _ right)
+      binary_step op.OrElse note place row checked sized left right =
+          or_claims s store entry here h s.text.layout e.0 f.0 note.ctype place v w (left_claims left) (is_null e.0) (is_null f.0)
+          (λ x is c b side. point_of here h e.0 typed.0 k x is c b side) row.row (right_claims _ right)
+      binary_step op.Ne note place row checked sized left right =
+          unequal_claims s store entry here h s.text.layout e.0 f.0 note.ctype place v w (left_claims left) (is_null e.0) (is_null f.0) row.row (right_claims here.at right h)
+      binary_step op.Add note place row checked sized left right =
+          sum_claims s store entry here h e.0 f.0 note.ctype place v w (left_claims left) (right_claims here.at right h) (viewed_type e.0)
+          (λ x is. index_of here h e.0 typed.0 k x is) (λ x is. index_of here h f.0 typed.1 (k + (part_of e.0).literals) x is) checked row.row
+      binary_step op.Sub note place row checked sized left right =
+          difference_claims s store entry here h e.0 f.0 note.ctype place v w (left_claims left) (right_claims here.at right h) (viewed_type e.0)
+          (λ x is. index_of here h e.0 typed.0 k x is) (λ x is. index_of here h f.0 typed.1 (k + (part_of e.0).literals) x is) sized checked row.row
+      binary_step o note place row checked sized left right =
+          other_claims s store entry here h s.text.layout e.0 f.0 note.ctype place v w (left_claims left) (is_null e.0) (is_null f.0) o refl refl row.row (right_claims here.at right h)
+
+    covered_few : (e : NotedExpr) → IsCovered s here.seen e → (view s.frame e).values + 1 < 2 ^ 32
+    covered_few e c = (every_here-Expr Name Note AnyLimits AnyNode (IsCoveredExpr s here.seen) e c).few
+
+    some_if : (b : Bool) (t r : CType) → ◌≡◌ {A = Option CType} (if b then Some t else None) (Some r) → t ≡ r
+    some_if true t r e = cc
+    some_if false t r e = absurd (cc)
+
+    -- `*p` and `p[e]`
+    read_claims : (n : NodeOfViews) (e : KeptExpr) → IsElement e.0 → (place : Pos) (index : Integer) (v w : Expr) (R : Value → Type 0) → IsNotStuck (ExprClaims s store entry here e.0) (evaluated store v)
+        → IsNotStuck R (evaluated store w) → (few : (view s.frame e.0).values + 1 < 2 ^ 32) (fresh : ℕ) (little : fresh < 2 ^ 32) (are : AreFresh s.frame fresh) → access_fault (view s.frame e.0) place fresh here.at ≡ None
+        → (node_view s.frame n).null ≡ false → (node_view s.frame n).is_zero ≡ false
+        → ((b : Bool) → (node_view s.frame n).side b here.at ≡ widening_side s.frame (node_view s.frame n).behind ((node_view s.frame n).target 0) b here.at) → (node_view s.frame n).behind ≡ kind_of e.0.note.ctype
+        → ((x : Value) (c : ExprClaims s store entry here e.0 x) (j : Value) → evaluated store w ≡ Ok j → (a : ℕ) → pos a ≡ elements_behind x.number (size_behind s.text.layout e.0.note.ctype) (exact index j.number)
+        → (f : Form) → (node_view s.frame n).target 0 here.at.facts ≡ Some f
+        → (pos a ≡ address_by s store.locals (at_pointer s store entry next ready here h e.0 fresh few little are x c).after (size_behind s.text.layout e.0.note.ctype) f) × IsOfLocal s e.0.note.ctype f.base)
+        → IsNotStuck (NodeClaims s store entry here h (element_of e.0.note.ctype) (node_view s.frame n))
+        (evaluated store (read_at s.text.layout (element_of e.0.note.ctype) (count_of_kind (kind_of (element_of e.0.note.ctype))) (element_place s.text.layout e.0.note.ctype place index v w)))
+    read_claims n e node place index v w R left right few fresh little are fault known some same behind aims =
+        subst (λ x. IsNotStuck (NodeClaims s store entry here h (element_of e.0.note.ctype) (node_view s.frame n)) (evaluated store x))
+        (sym (ap (λ o. read_at s.text.layout (element_of e.0.note.ctype) o (element_place s.text.layout e.0.note.ctype place index v w)) (no_count (element_of e.0.note.ctype) node.integer)))
+        (element_claims s store entry next ready here h e.0 fresh few little are place index v w R left right counted node.integer
+        ranged (node_view s.frame n) known some same (widens (kind_of e.0.note.ctype) refl counted))
+      where
+        counted : is_counted_kind (kind_of e.0.note.ctype) ≡ true
+        counted = node.counted
+
+        ranged : (x : Value) → ExprClaims s store entry here e.0 x → IsRanged s store entry next ready here h e.0 fresh few little are x
+        ranged = ranged_pointer s store entry next ready here h e.0 fresh few little are place (ap is_counted_kind (ap kind_of (viewed_type e.0)) ∙ counted) fault
+
+        widens : (q : Option Kind) → kind_of e.0.note.ctype ≡ q → is_counted_kind q ≡ true
+            → Widens s store entry next ready here h e.0 fresh few little are place index v w R left right counted node.integer ranged (node_view s.frame n)
+        widens (Some kind.Arr) is c = narrow_array s store entry next ready here h e.0 fresh few little are place index v w R left right counted node.integer ranged (node_view s.frame n) (behind ∙ is)
+        widens (Some kind.Nt) is c =
+            wide_terminated s store entry next ready here h e.0 fresh few little are place index v w R left right counted node.integer ranged globals agrees declares (node_view s.frame n) (behind ∙ is)
+            (λ x j c d there a at f target. aims x c j there a at f target)
+        widens (Some kind.One) is c = absurd (cc)
+        widens (Some kind.Raw) is c = absurd (cc)
+        widens None is c = absurd (cc)
+
+    covered_sized : (e : NotedExpr) → IsCovered s here.seen e → size_behind s.text.layout e.note.ctype < 2 ^ 32
+    covered_sized e c = (every_here-Expr Name Note AnyLimits AnyNode (IsCoveredExpr s here.seen) e c).sized
+
+    node_step : (y : Node-F Name Note KeptLimits KeptNode KeptExpr) (note : Note) (place : Pos) → IsRow globals s (inner_node y) note → PartsEvery (HasRow globals s) (inner_node y)
+        → PartsEvery (IsCoveredExpr s here.seen) (inner_node y) → IsCoveredNode s here.seen note.ctype (inner_node y) → is_raw_kind (kind_of note.ctype) ≡ false
+        → (fresh : ℕ) → fresh < 2 ^ 32 → AreFresh s.frame fresh → fault_of_node s.frame (viewed_node (inner_node y)) place fresh here.at ≡ None → node_judged s.frame (viewed_node (inner_node y)) note.ctype fresh here.at ≡ Ok (node_of (inner_node y))
+        → (is_pointer note.ctype ≡ true → note.range ≡ pointer_range note.ctype (node_view s.frame (viewed_node (inner_node y))) 0 fresh here.at)
+        → (k : ℕ) → Made (inner_node y) note place k
+    node_step (Node-F.Number n uns) note place row typed covered node checked fresh little are fault judged noted k =
+        let wide : IsWide note.ctype uns = subst (λ t. IsWide t uns) (sym row.row) (number_wide uns) in
+        number_claims s store entry here h n uns note.ctype wide.integer wide.wide row.word
+    node_step (Node-F.Size w) note place row typed covered node checked fresh little are fault judged noted k =
+        let wide : IsWide note.ctype true = size_wide (type_written w) note.ctype row.row in
+        size_claims s store entry here h w (size_of s.text.layout (type_written w)) note.ctype wide.integer wide.wide (subst (λ structs. size_of structs (type_written w) < 2 ^ 32) agrees.structs row.word)
+    node_step Node-F.Null note place row typed covered node checked fresh little are fault judged noted k = null_claims s store entry here h note.ctype
+    node_step (Node-F.Name (name.Local j)) note place row typed covered node checked fresh little are fault judged noted k =
+        subst (λ t. IsNotStuck (NodeClaims s store entry here h t (node_view s.frame (Node-F.Name (name.Local j)))) (evaluated store (local_in s.text s.variables t j note.range))) same
+        (local_claims s store entry here h globals agrees declares j node note.range (λ i. row.bare (subst (λ t. is_integer t ≡ true) same i)) (λ p. noted_is (subst (λ t. is_pointer t ≡ true) same p)))
+      where
+        same : node.local.ctype ≡ note.ctype
+        same = agrees.locals j node.local note.ctype node.there row.row
+
+        noted_is : is_pointer note.ctype ≡ true → note.range ≡ range_of_local s.frame j here.at.widened
+        noted_is p = noted p ∙ ap (λ b. if b then range_of_local s.frame j here.at.widened else range.Missing) p
+    node_step (Node-F.Name (name.Static j)) note place row typed covered node checked fresh little are fault judged noted k =
+        ⊎_elim (λ c. static_claims s store entry next ready here h note.ctype j c place) (λ c. array_claims s store entry next ready here h note.ctype j c place) node
+    node_step (Node-F.Un op.Minus e) note place row typed covered node checked fresh little are fault judged noted k =
+        minus_claims s store entry here h e.0 note.ctype place ((part_of e.0).value s.text s.variables k)
+        (e.1.claims typed here covered h fresh little are (one_part (λ a. Node-F.Un op.Minus a) (λ a b e. cc) _ e.0 judged) k) row.row
+    node_step (Node-F.Un op.Plus e) note place row typed covered node checked fresh little are fault judged noted k =
+        plus_claims s store entry here h e.0 note.ctype place ((part_of e.0).value s.text s.variables k)
+        (e.1.claims typed here covered h fresh little are (one_part (λ a. Node-F.Un op.Plus a) (λ a b e. cc) _ e.0 judged) k) row.row
+    node_step (Node-F.Un op.Flip e) note place row typed covered node checked fresh little are fault judged noted k =
+        flip_claims s store entry here h e.0 note.ctype place ((part_of e.0).value s.text s.variables k)
+        (e.1.claims typed here covered h fresh little are (one_part (λ a. Node-F.Un op.Flip a) (λ a b e. cc) _ e.0 judged) k) row.row
+    node_step (Node-F.Un op.Not e) note place row typed covered node checked fresh little are fault judged noted k =
+        not_claims s store entry here h e.0 note.ctype place ((part_of e.0).value s.text s.variables k)
+        (e.1.claims typed here covered h fresh little are (one_part (λ a. Node-F.Un op.Not a) (λ a b e. cc) _ e.0 judged) k) row.row
+    node_step (Node-F.Bin o e f) note place row typed covered node checked fresh little are fault judged noted k =
+        let parts = two_parts (λ a b. Node-F.Bin o a b) (λ a b c d e. (cc, cc)) _ _ e.0 f.0 judged in
+        subst (λ t. Of t (part_of f.0).ctype) (sym (parted_type e.0)) (subst (λ u. Of e.0.note.ctype u) (sym (parted_type f.0))
+        (binary_step e f typed covered fresh little are k o note place row checked (covered_sized e.0 covered.0) parts.0 parts.1))
+      where
+        Of : CType → CType → Type 0
+        Of t u = IsNotStuck (NodeClaims s store entry here h note.ctype (node_view s.frame (Node-F.Bin o (view s.frame e.0) (view s.frame f.0))))
+            (evaluated store (of_operands s.text.layout o t u place ((part_of e.0).value s.text s.variables k) ((part_of f.0).value s.text s.variables (k + (part_of e.0).literals))))
+    node_step (Node-F.Pick e f g) note place row typed covered node checked fresh little are fault judged noted k =
+        let parts = three_parts _ _ _ e.0 f.0 g.0 judged in
+        choice_claims s store entry here h e.0 f.0 g.0 note.ctype ((part_of e.0).value s.text s.variables k) ((part_of f.0).value s.text s.variables (k + (part_of e.0).literals))
+        ((part_of g.0).value s.text s.variables (k + (part_of e.0).literals + (part_of f.0).literals)) (e.1.claims typed.0 here covered.0 h fresh little are parts.0 k) (f.1.claims typed.1 here covered.1 h _ (little_on e.0 fresh) (are_on e.0 fresh little are) parts.1 (k + (part_of e.0).literals))
+        (g.1.claims typed.2 here covered.2 h _ (little_on f.0 _) (are_on f.0 _ (little_on e.0 fresh) (are_on e.0 fresh little are)) parts.2 (k + (part_of e.0).literals + (part_of f.0).literals)) row.row
+    node_step (Node-F.Cast w e) note place row typed covered node checked fresh little are fault judged noted k =
+        cast_claims s store entry here h e.0 note.ctype place ((part_of e.0).value s.text s.variables k)
+        (e.1.claims typed here covered h fresh little are (one_part (λ a. Node-F.Cast w a) (λ a b e. cc) _ e.0 judged) k) w (type_written w) (part_of e.0).ctype (is_null e.0) row.row.1 checked row.row.0
+    node_step (Node-F.Un op.Deref e) note place row typed covered node checked fresh little are fault judged noted k =
+        subst (λ t. Of t (part_of e.0).ctype) is (subst (λ u. Of (element_of e.0.note.ctype) u) (sym (parted_type e.0))
+        (read_claims (Node-F.Un op.Deref (view s.frame e.0)) e node place Int ((part_of e.0).value s.text s.variables k) (Number 0) (λ x. Unit {0})
+        (e.1.claims typed here covered h fresh little are (one_part (λ a. Node-F.Un op.Deref a) (λ a b e. cc) _ e.0 judged) k) tt (covered_few e.0 covered) fresh little are fault
+        refl refl (λ b. refl) (ap kind_of (viewed_type e.0)) (λ x c j there a at f target. target_aims s store entry next ready here h e.0 fresh (covered_few e.0 covered) little are x c j there a at f target)))
+      where
+        is : element_of e.0.note.ctype ≡ note.ctype
+        is = some_if (is_pointer e.0.note.ctype && not (is_void (element_of e.0.note.ctype))) (element_of e.0.note.ctype) note.ctype row.row
+
+        Of : CType → CType → Type 0
+        Of t u = IsNotStuck (NodeClaims s store entry here h t (node_view s.frame (Node-F.Un op.Deref (view s.frame e.0))))
+            (evaluated store (read_at s.text.layout t (count_of_kind (kind_of t)) (target_place s.text.layout u place ((part_of e.0).value s.text s.variables k))))
+    node_step (Node-F.Index e f) note place row typed covered node checked fresh little are fault judged noted k =
+        let parts = two_parts (λ a b. Node-F.Index a b) (λ a b c d e. (cc, cc)) _ _ e.0 f.0 judged in
+        subst (λ t. Of t (part_of e.0).ctype (part_of f.0).ctype) is (subst (λ u. Of (element_of e.0.note.ctype) u (part_of f.0).ctype) (sym (parted_type e.0)) (subst (λ q. Of (element_of e.0.note.ctype) e.0.note.ctype q) (sym (parted_type f.0))
+        (read_claims (Node-F.Index (view s.frame e.0) (view s.frame f.0)) e node place (integer_of f.0.note.ctype) ((part_of e.0).value s.text s.variables k)
+        ((part_of f.0).value s.text s.variables (k + (part_of e.0).literals)) (ExprClaims s store entry here f.0)
+        (e.1.claims typed.0 here covered.0 h fresh little are parts.0 k)
+        (f.1.claims typed.1 here covered.1 h _ (little_on e.0 fresh) (are_on e.0 fresh little are) parts.1 (k + (part_of e.0).literals))
+        (covered_few e.0 covered.0) fresh little are fault refl refl (λ b. refl) (ap kind_of (viewed_type e.0))
+        (λ x c j there a at g target. element_aims s store entry next ready here h e.0 fresh (covered_few e.0 covered.0) little are x c (exact (integer_of f.0.note.ctype) j.number) ((view s.frame f.0).form here.at.facts)
+        (index_of here h f.0 typed.1 (k + (part_of e.0).literals) j there) a at (is_raw_kind (kind_of (view s.frame e.0).ctype))
+        (ap is_raw_kind (ap kind_of (viewed_type e.0)) ∙ (every_here-Expr Name Note AnyLimits AnyNode (IsCoveredExpr s here.seen) e.0 covered.0).checked) g target))))
+      where
+        is : element_of e.0.note.ctype ≡ note.ctype
+        is = some_if (is_moved e.0.note.ctype && is_integer f.0.note.ctype) (element_of e.0.note.ctype) note.ctype row.row
+
+        Of : CType → CType → CType → Type 0
+        Of t u q = IsNotStuck (NodeClaims s store entry here h t (node_view s.frame (Node-F.Index (view s.frame e.0) (view s.frame f.0))))
+            (evaluated store (read_at s.text.layout t (count_of_kind (kind_of t))
+            (element_place s.text.layout u place (integer_of q) ((part_of e.0).value s.text s.variables k) ((part_of f.0).value s.text s.variables (k + (part_of e.0).literals)))))
+    node_step y note place row typed covered node checked fresh little are fault judged noted k = absurd node
+
+  -- ---- the induction
+
+  node_by : (x : NotedLayer) (y : Node-F Name Note KeptLimits KeptNode KeptExpr) → inner_node y ≡ x → NodeHolds (roll-Node Name Note x)
+  node_by x y is = subst (λ x. NodeHolds (roll-Node Name Note x)) is (record {
+    claims = λ note place row typed here covered node checked h fresh little are judged fault noted k.
+        let out : out-Node Name Note (roll-Node Name Note (inner_node y)) ≡ inner_node y = node_out (inner_node y) in
+        let n_is : view_of_node s.frame (roll-Node Name Note (inner_node y)) ≡ node_view s.frame (viewed_node (inner_node y)) =
+        fold-roll-Node Name Note LimitsView NodeView View limits_view (node_view s.frame) expr_view (inner_node y) in
+        let q_is : part_of_node (roll-Node Name Note (inner_node y)) ≡ node_parts (part_node (inner_node y)) =
+        fold-roll-Node Name Note LimitsPart NodePart Part limits_parts node_parts expr_parts (inner_node y) in
+        let P : NodeView → NodePart → Type 0 = λ n q. IsNotStuck (NodeClaims s store entry here h note.ctype n) (evaluated store (q.value note place s.text s.variables k)) in
+        subst (λ n. P n (part_of_node (roll-Node Name Note (inner_node y)))) (sym n_is)
+        (subst (λ q. P (node_view s.frame (viewed_node (inner_node y))) q) (sym q_is)
+        (node_step here h y note place (subst (λ z. IsRow globals s z note) out row)
+        (subst (PartsEvery (HasRow globals s)) out (parts_every (HasRow globals s) (roll-Node Name Note (inner_node y)) typed))
+        (subst (PartsEvery (IsCoveredExpr s here.seen)) out (parts_every (IsCoveredExpr s here.seen) (roll-Node Name Note (inner_node y)) covered))
+        (subst (IsCoveredNode s here.seen note.ctype) out node) checked fresh little are
+        (subst (λ (n : NodeView). n.fault place fresh here.at ≡ None) n_is fault)
+        (subst (λ (n : NodeView). n.judged note.ctype fresh here.at ≡ Ok (node_of (inner_node y))) n_is (judged ∙ ap Ok (node_rolled (inner_node y))))
+        (λ p. subst (λ (n : NodeView). note.range ≡ pointer_range note.ctype n 0 fresh here.at) n_is (noted p)) k));
+  })
+
+  limits_by : (x : Limits-F Name Note NotedLimits NotedNode NotedExpr) (y : Limits-F Name Note KeptLimits KeptNode KeptExpr) → inner_limits y ≡ x → AnyLimitsHold (roll-Limits Name Note x)
+  limits_by x y is = record { any = tt }
+
+  expr_by : (x : Expr-F Name Note NotedLimits NotedNode NotedExpr) (y : Expr-F Name Note KeptLimits KeptNode KeptExpr) → inner_expr y ≡ x → ExprHolds (roll-Expr Name Note x)
+  expr_by x y is = subst (λ x. ExprHolds (roll-Expr Name Note x)) is (record {
+    claims = λ typed here covered h fresh little are judged k.
+        let e : NotedExpr = roll-Expr Name Note (inner_expr y) in
+        let v_is : view s.frame e ≡ expr_view (viewed_expr (inner_expr y)) = fold-roll-Expr Name Note LimitsView NodeView View limits_view (node_view s.frame) expr_view (inner_expr y) in
+        let q_is : part_of e ≡ expr_parts (part_expr (inner_expr y)) = fold-roll-Expr Name Note LimitsPart NodePart Part limits_parts node_parts expr_parts (inner_expr y) in
+        let P : View → Part → Type 0 = λ v q. IsNotStuck (Claims s store entry here y.note.ctype v.values v.place v.range v.behind v.target v.is_zero v.side) (evaluated store (q.value s.text s.variables k)) in
+        let seen : IsJudged (view_of_node s.frame y.node.0) y.pos y.note y.node.0 fresh here.at =
+        judged_is (view_of_node s.frame y.node.0) y.pos y.note y.node.0 fresh here.at (subst (λ (v : View). v.judged fresh here.at ≡ Ok e) v_is judged) in
+        let row : IsRow globals s (out-Node Name Note y.node.0) y.note = every_here-Expr Name Note AnyLimits AnyNode (HasRow globals s) e typed in
+        let cover : IsCoveredExpr s here.seen (record { node = y.node.0; pos = y.pos; note = y.note }) = every_here-Expr Name Note AnyLimits AnyNode (IsCoveredExpr s here.seen) e covered in
+        subst (λ v. P v (part_of e)) (sym v_is) (subst (λ q. P (expr_view (viewed_expr (inner_expr y))) q) (sym q_is)
+        (y.node.1.claims y.note y.pos row (node_every (HasRow globals s) e typed) here (node_every (IsCoveredExpr s here.seen) e covered) cover.node cover.checked h fresh little are seen.node seen.fault seen.range k));
+  })
+
+  expr_holds : (e : NotedExpr) → ExprHolds e
+  expr_holds = ind-Expr Name Note AnyLimitsHold NodeHolds ExprHolds limits_by node_by expr_by
+
+  pub expr_claims : (e : NotedExpr) → IsTyped globals s e → (here : Here) → IsCovered s here.seen e → HoldsAt s store entry here → (fresh : ℕ) → fresh < 2 ^ 32 → AreFresh s.frame fresh → (view s.frame e).judged fresh here.at ≡ Ok e
+      → (k : ℕ) → IsNotStuck (ExprClaims s store entry here e) (evaluated store ((part_of e).value s.text s.variables k))
+  expr_claims e = (expr_holds e).claims

@@ -1,0 +1,137 @@
+-- The parts of an expression of which a rule holds everywhere, and of one that has been judged.
+use Rattle.std.proofs.Common.{◌≡◌, refl, sym, ap, subst, ◌∙◌, ℕ, Bool, true, false, rules}
+use Rattle.std.specs.Prelude.{if◌then◌else◌, Option, None, Some, Ok, Err}
+use Rattle.ckc_base.specs.declared.places.Pos.{Pos}
+use Rattle.ckc_base.specs.declared.places.Refusal.{Refusal}
+use Rattle.ckc_base.specs.Outcomes.{Outcome, bind}
+use Rattle.ckc_syntax.specs.declared.tree.Name.{Name}
+use Rattle.ckc_syntax.specs.declared.tree.Limits.{every-Limits}
+use Rattle.ckc_syntax.specs.declared.tree.Node.{Node-F, map-Node, out-Node, roll-Node, every-Node, every_held-Node, the_lemmas}
+use Rattle.ckc_syntax.specs.declared.tree.Node.TheVariants as node
+use Rattle.ckc_syntax.specs.declared.tree.Expr.{Expr-F, every-Expr, every_held-Expr}
+use Rattle.ckc_typed.specs.declared.typed.Note.{Note}
+use Rattle.ckc_typed.specs.declared.typed.Range.{Range}
+use Rattle.ckc_typed.specs.Trees.{NotedLimits, NotedNode, NotedExpr, NotedLayer}
+use Rattle.ckc_typed.specs.Types.{is_pointer}
+use Rattle.ckc_typed_welltyped.specs.Expressions.{AnyLimits, AnyNode}
+use Rattle.ckc_typed_welltyped.proofs.Nodes.{node_of, node_rolled}
+use Rattle.ckc_bounds_points.specs.Flow.{State}
+use Rattle.ckc_bounds_views.specs.Judged.{by_fault, expr_made, expr_judged}
+use Rattle.ckc_bounds_views.specs.Parts.{NodeView}
+use Rattle.ckc_bounds_views.specs.Ranges.{pointer_range}
+
+-- ---- parts
+
+module _ (P : Expr-F Name Note NotedLimits NotedNode NotedExpr → Type 0) where
+  abbrev pub Every : NotedExpr → Type 0
+  Every = every-Expr Name Note AnyLimits AnyNode P
+
+  abbrev pub EveryNode : NotedNode → Type 0
+  EveryNode = every-Node Name Note AnyLimits AnyNode P
+
+  -- the rule holds of the parts of a layer
+  abbrev pub PartsEvery : NotedLayer → Type 0
+  PartsEvery (Node-F.Un o e) = Every e
+  PartsEvery (Node-F.Bin o e f) = Every e × Every f
+  PartsEvery (Node-F.Pick e f g) = Every e × Every f × Every g
+  PartsEvery (Node-F.Index e f) = Every e × Every f
+  PartsEvery (Node-F.Cast w e) = Every e
+  PartsEvery n = Unit {0}
+
+  abbrev FitLimits : Type 0
+  FitLimits = (l : NotedLimits) × every-Limits Name Note AnyLimits AnyNode P l
+
+  abbrev FitNode : Type 0
+  FitNode = (n : NotedNode) × EveryNode n
+
+  abbrev FitExpr : Type 0
+  FitExpr = (e : NotedExpr) × Every e
+
+  abbrev bare_node : Node-F Name Note FitLimits FitNode FitExpr → NotedLayer
+  bare_node = map-Node Name Note FitLimits FitNode FitExpr NotedLimits NotedNode NotedExpr (λ e. e.0) (λ e. e.0) (λ e. e.0)
+
+  parts_of : (z : Node-F Name Note FitLimits FitNode FitExpr) → PartsEvery (bare_node z)
+  parts_of (Node-F.Un o e) = e.1
+  parts_of (Node-F.Bin o e f) = (e.1, f.1)
+  parts_of (Node-F.Pick e f g) = (e.1, f.1, g.1)
+  parts_of (Node-F.Index e f) = (e.1, f.1)
+  parts_of (Node-F.Cast w e) = e.1
+  parts_of z = tt
+
+  pub parts_every : (n : NotedNode) → EveryNode n → PartsEvery (out-Node Name Note n)
+  parts_every n w =
+      let h = every_held-Node Name Note AnyLimits AnyNode P n w in
+      subst PartsEvery h.1 (parts_of h.0)
+
+  pub node_every : (e : NotedExpr) → Every e → EveryNode e.node
+  node_every e w =
+      let h = every_held-Expr Name Note AnyLimits AnyNode P e w in
+      subst EveryNode (ap (λ (d : Expr-F Name Note NotedLimits NotedNode NotedExpr). d.node) h.1) h.0.node.1
+
+-- ---- what has been judged
+
+pub node_out : (x : NotedLayer) → out-Node Name Note (roll-Node Name Note x) ≡ x
+node_out x = search (rules, the_lemmas)
+
+node_is : (x : NotedLayer) → out-Node Name Note (node_of x) ≡ x
+node_is x = ap (out-Node Name Note) (sym (node_rolled x)) ∙ node_out x
+
+same_layer : (x z : NotedLayer) → ◌≡◌ {A = Outcome NotedNode} (Ok (node_of x)) (Ok (node_of z)) → x ≡ z
+same_layer x z e = let same : node_of x ≡ node_of z = cc in sym (node_is x) ∙ ap (out-Node Name Note) same ∙ node_is z
+
+bind_is : {A B : Type 0} (o : Outcome A) (f : A → Outcome B) (b : B) → bind o f ≡ Ok b → (a : A) × (o ≡ Ok a) × (f a ≡ Ok b)
+bind_is (Ok a) f b e = (a, refl, e)
+bind_is (Err r) f b e = absurd (cc)
+
+pub one_part : (made : NotedExpr → NotedLayer) → ((a b : NotedExpr) → made a ≡ made b → a ≡ b) → (o : Outcome NotedExpr) (e : NotedExpr)
+    → bind o (λ a. Ok (node_of (made a))) ≡ Ok (node_of (made e)) → o ≡ Ok e
+one_part made same o e is =
+    let b = bind_is o (λ a. Ok (node_of (made a))) (node_of (made e)) is in
+    b.1 ∙ ap Ok (same b.0 e (same_layer (made b.0) (made e) b.2))
+
+pub two_parts : (made : NotedExpr → NotedExpr → NotedLayer) → ((a b c d : NotedExpr) → made a c ≡ made b d → (a ≡ b) × (c ≡ d)) → (o q : Outcome NotedExpr) (e f : NotedExpr)
+    → bind o (λ a. bind q (λ b. Ok (node_of (made a b)))) ≡ Ok (node_of (made e f)) → (o ≡ Ok e) × (q ≡ Ok f)
+two_parts made same o q e f is =
+    let b = bind_is o (λ a. bind q (λ b. Ok (node_of (made a b)))) (node_of (made e f)) is in
+    let c = bind_is q (λ c. Ok (node_of (made b.0 c))) (node_of (made e f)) b.2 in
+    let both = same b.0 e c.0 f (same_layer (made b.0 c.0) (made e f) c.2) in
+    (b.1 ∙ ap Ok both.0, c.1 ∙ ap Ok both.1)
+
+pub three_parts : (o q p : Outcome NotedExpr) (e f g : NotedExpr)
+    → bind o (λ a. bind q (λ b. bind p (λ c. Ok (node.Pick a b c)))) ≡ Ok (node.Pick e f g) → (o ≡ Ok e) × (q ≡ Ok f) × (p ≡ Ok g)
+three_parts o q p e f g is =
+    let b = bind_is o (λ a. bind q (λ b. bind p (λ c. Ok (node.Pick a b c)))) (node.Pick e f g) is in
+    let c = bind_is q (λ c. bind p (λ d. Ok (node.Pick b.0 c d))) (node.Pick e f g) b.2 in
+    let d = bind_is p (λ d. Ok (node.Pick b.0 c.0 d)) (node.Pick e f g) c.2 in
+    let same : ◌≡◌ {A = NotedLayer} (Node-F.Pick b.0 c.0 d.0) (Node-F.Pick e f g) = same_layer (Node-F.Pick b.0 c.0 d.0) (Node-F.Pick e f g) d.2 in
+    let x : b.0 ≡ e = cc in
+    let y : c.0 ≡ f = cc in
+    let z : d.0 ≡ g = cc in
+    (b.1 ∙ ap Ok x, c.1 ∙ ap Ok y, d.1 ∙ ap Ok z)
+
+-- What an expression that has been judged says of its node and of its range.
+pub record IsJudged (n : NodeView) (pos : Pos) (note : Note) (m : NotedNode) (fresh : ℕ) (at : State) : Type 0 where
+  pub node : n.judged note.ctype fresh at ≡ Ok m
+  pub fault : n.fault pos fresh at ≡ None
+  pub range : is_pointer note.ctype ≡ true → note.range ≡ pointer_range note.ctype n 0 fresh at
+
+pub judged_is : (n : NodeView) (pos : Pos) (note : Note) (m : NotedNode) (fresh : ℕ) (at : State) → expr_judged n pos note fresh at ≡ Ok (record { node = m; pos = pos; note = note })
+    → IsJudged n pos note m fresh at
+judged_is n pos note m fresh at e =
+    let b = bind_is (n.judged note.ctype fresh at) (λ m. by_fault (n.fault pos fresh at) (Ok (expr_made pos note (pointer_range note.ctype n 0 fresh at) m))) (record { node = m; pos = pos; note = note }) e in
+    by_node b.0 b.1 (n.fault pos fresh at) refl b.2
+  where
+    range_of : (r : Range) (b : Bool) → (if b then record note { range = r } else note) ≡ note → b ≡ true → note.range ≡ r
+    range_of r true e i = ap (λ (n : Note). n.range) (sym e)
+    range_of r false e i = absurd (cc)
+
+    by_node : (q : NotedNode) → n.judged note.ctype fresh at ≡ Ok q → (o : Option Refusal) → n.fault pos fresh at ≡ o
+        → by_fault o (Ok (expr_made pos note (pointer_range note.ctype n 0 fresh at) q)) ≡ Ok (record { node = m; pos = pos; note = note }) → IsJudged n pos note m fresh at
+    by_node q there None fault e =
+        let same : expr_made pos note (pointer_range note.ctype n 0 fresh at) q ≡ record { node = m; pos = pos; note = note } = cc in
+        record {
+          node = there ∙ ap Ok (ap (λ (x : NotedExpr). x.node) same);
+          fault = fault;
+          range = λ p. range_of (pointer_range note.ctype n 0 fresh at) (is_pointer note.ctype) (ap (λ (x : NotedExpr). x.note) same) p;
+        }
+    by_node q there (Some r) fault e = absurd (cc)

@@ -1,0 +1,340 @@
+-- The claims of `+` and `-`: they move a pointer, or are of integers.
+use Rattle.std.proofs.Common.{◌≡◌, inl, refl, sym, ap, subst, ◌∙◌, ℕ, Bool, true, false, List, arith}
+use Rattle.std.specs.Prelude.{◌+◌, ◌==◌, ◌<◌, ◌≤◌, ◌^◌, ◌&&◌, length, if◌then◌else◌, ℤ, pos, ◌+ℤ◌, ◌-ℤ◌, ◌*ℤ◌, neg_ℤ, Option, None, Some, Ok}
+use Rattle.std.specs.Option.{option_or}
+use Rattle.std.proofs.lemmas.Bool.{eqb-true, and_parts}
+use Rattle.std.proofs.lemmas.Int.{ints}
+use Rattle.ckc_base.specs.declared.places.Pos.{Pos}
+use Rattle.ckc_types.specs.declared.types.Kind.{Kind}
+use Rattle.ckc_types.specs.declared.types.Kind.TheVariants as kind
+use Rattle.ckc_types.specs.declared.types.CType.{CType, CType-F, out-CType}
+use Rattle.ckc_linear.specs.declared.forms.Base.TheVariants as base
+use Rattle.ckc_linear.specs.declared.forms.Form.{Form}
+use Rattle.ckc_syntax.specs.declared.tree.Node.{Node-F}
+use Rattle.ckc_syntax.specs.declared.tree.TreeOp.{TreeOp}
+use Rattle.ckc_syntax.specs.declared.tree.TreeOp.TheVariants as op
+use Rattle.ckc_typed.specs.declared.typed.Range.{Range}
+use Rattle.ckc_typed.specs.declared.typed.Range.TheVariants as range
+use Rattle.ckc_typed.specs.Declarations.{is_checked_kind}
+use Rattle.ckc_typed.specs.Operands.{is_raw_kind, sum_type, difference_type}
+use Rattle.ckc_typed.specs.Trees.{NotedExpr}
+use Rattle.ckc_typed.specs.Types.{is_pointer, is_pointer_form, kind_of, kind_in}
+use Rattle.ckc_bounds_points.specs.Forms.{is_small, constant_form, base_form, sum_of_forms, negative_of}
+use Rattle.ckc_bounds_views.specs.Parts.{NodeView, capped, fresh_behind}
+use Rattle.ckc_bounds_views.specs.Places.{with_own, binary_place, pointer_place}
+use Rattle.ckc_bounds_views.specs.Ranges.{range_of_operand, pointer_range}
+use Rattle.ckc_bounds_views.specs.Views.{node_view, view}
+use Rattle.ckc_bounds_statements.specs.Paths.{Here}
+use Rattle.ckc_source.specs.declared.expr.Operation.TheVariants as operation
+use Rattle.ckc_source.specs.declared.outcome.Value.{Value}
+use Rattle.ckc_source.specs.Code.{Expr, Number, Binary, Moved, Added}
+use Rattle.ckc_source.specs.Eval.{Store, moves, evaluated}
+use Rattle.ckc_source.specs.Words.{exact, elements_behind}
+use Rattle.ckc_build_values.specs.Kinds.{integer_of, size_behind}
+use Rattle.ckc_build_values.specs.Operators.{is_signed_at, shift, distance, of_operands}
+use Rattle.ckc_blame_sound.specs.Settings.{Setting}
+use Rattle.ckc_blame_sound.specs.Values.{value, number_of}
+use Rattle.ckc_blame_sound.specs.Points.{HoldsAt}
+use Rattle.ckc_blame_numbers.proofs.Types.{no_pointer}
+use Rattle.ckc_blame_pointers.specs.Valuations.{Valuation, IsKnownVariable, Fits, AreFresh}
+use Rattle.ckc_blame_pointers.specs.Meant.{IsNotStuck}
+use Rattle.ckc_blame_pointers.proofs.Claims.{Placed, SideGoes, weaker, both_go_on, stays}
+use Rattle.ckc_blame_pointers.proofs.Moving.{still_fits, moved_placed}
+use Rattle.ckc_blame_pointers.proofs.Numbers.{times_negative}
+use Rattle.ckc_blame_pointers.proofs.Nodes.{moved_goes, NodeClaims, narrow, integer_claims}
+use Rattle.ckc_blame_pointers.proofs.Rows.{IsSmall, operation_word, Wide, wide_small, pointer_word, left_row, right_row, plain_row, less_row, distance_row, plain_less_row}
+use Rattle.ckc_blame_pointers.proofs.Binary.{ExprClaims, small_value}
+
+checked_in : (f : CType-F CType) → is_pointer_form f ≡ true → is_raw_kind (kind_in f) ≡ false → is_checked_kind (kind_in f) ≡ true
+checked_in (CType-F.Pointer k t) p e = by k e
+  where
+    by : (k : Kind) → is_raw_kind (Some k) ≡ false → is_checked_kind (Some k) ≡ true
+    by kind.Raw e = sym e
+    by kind.One e = refl
+    by kind.Arr e = refl
+    by kind.Nt e = refl
+checked_in CType-F.Int p e = absurd (cc)
+checked_in CType-F.Unsigned p e = absurd (cc)
+checked_in CType-F.Char p e = absurd (cc)
+checked_in CType-F.Void p e = absurd (cc)
+checked_in (CType-F.Struct tag) p e = absurd (cc)
+
+-- a pointer that is not unchecked is a checked one
+pub checked_pointer : (t : CType) → is_pointer t ≡ true → is_raw_kind (kind_of t) ≡ false → is_checked_kind (kind_of t) ≡ true
+checked_pointer t p e = checked_in (out-CType t) p e
+
+-- ---- how values are numbered
+
+-- where there is room for the values of two operands, and one more
+pub record HasRoom (first a b : ℕ) : Type 0 where
+  pub left : first + a + 1 < 2 ^ 32
+  pub right : capped first a + b + 1 < 2 ^ 32
+  pub more : first ≤ capped first a
+  pub over : first + a ≤ capped first (capped a b)
+  pub next : capped first a + b ≤ capped first (capped a b)
+  pub own : capped first (capped a b) < first + capped (capped a b) 1
+
+pub has_room : (first a b : ℕ) → first + capped (capped a b) 1 + 1 < 2 ^ 32 → HasRoom first a b
+has_room first a b h = record { left = omega arith; right = omega arith; more = omega arith; over = omega arith; next = omega arith; own = omega arith }
+
+pub capped_more : (m n : ℕ) → m < 2 ^ 32 → m ≤ capped m n
+capped_more m n h = omega arith
+
+pub capped_small : (m n : ℕ) → capped m n < 2 ^ 32
+capped_small m n = omega arith
+
+-- ---- an index as a form
+
+module _ (s : Setting) (locals : List ℕ) where
+  abbrev pub IsIndex : ℤ → Option Form → Type 0
+  IsIndex z o = (g : Form) → o ≡ Some g → (z ≡ number_of (value s.frame locals) g) × IsKnownVariable s.frame g.var
+
+  negative_index : (z : ℤ) (o : Option Form) → IsIndex z o → IsIndex (neg_ℤ z) (negative_of o)
+  negative_index z None is g e = absurd (cc)
+  negative_index z (Some f) is g e = by ((f.var == 0) && is_small f.add) refl e
+    where
+      turned : f.var ≡ 0 → z ≡ value s.frame locals f.var +ℤ f.add → neg_ℤ z ≡ pos 0 +ℤ neg_ℤ f.add
+      turned zero e =
+          let first : value s.frame locals f.var ≡ pos 0 = ap (value s.frame locals) zero in
+          omega (arith, ints)
+
+      by : (b : Bool) → ((f.var == 0) && is_small f.add) ≡ b → ◌≡◌ {A = Option Form} (if b then Some (constant_form (neg_ℤ f.add)) else None) (Some g)
+          → (neg_ℤ z ≡ number_of (value s.frame locals) g) × IsKnownVariable s.frame g.var
+      by true h e =
+          let same : constant_form (neg_ℤ f.add) ≡ g = cc in
+          let parts = and_parts (f.var == 0) (is_small f.add) h in (
+            subst (λ g. neg_ℤ z ≡ number_of (value s.frame locals) g) same (turned (eqb-true f.var 0 parts.0) (is f refl).0),
+            subst (λ (g : Form). IsKnownVariable s.frame g.var) same (inl refl),
+          )
+      by false h e = absurd (cc)
+
+module _ (s : Setting) (store : Store) (entry : List ℕ) (here : Here) (h : HoldsAt s store entry here) where
+  -- numbers that begin further on begin here too
+  placed_from : (t : CType) (limit : ℕ) (place : Option Form) (r : Range) (first fresh next more : ℕ) (before : Valuation) (p : Value) → first ≤ next → fresh ≤ more
+      → Placed s store entry here t limit place r next more before p → Placed s store entry here t limit place r first fresh before p
+  placed_from t limit place r first fresh next more before p a b q = record {
+    after = q.after;
+    place_below = q.place_below;
+    range_below = q.range_below;
+    of_local = q.of_local;
+    extends = record { addresses = λ n below. q.extends.addresses n (omega arith); numbers = λ x below. q.extends.numbers x (omega arith) };
+    place_is = q.place_is;
+    range_is = q.range_is;
+  }
+
+  pub fresh_on : (fresh more : ℕ) → fresh ≤ more → AreFresh s.frame fresh → AreFresh s.frame more
+  fresh_on fresh more less are k l above there = are k l (omega arith) there
+
+  -- ---- a pointer that is moved
+
+  -- how the numbers of the pointer begin, and what is said of the sum
+  record IsMoved (k : NotedExpr) (n : NodeView) (form : Option Form) (next more : ℕ → ℕ) : Type 0 where
+    pub pointer : is_pointer k.note.ctype ≡ true
+    pub quiet : n.behind ≡ None
+    pub some : n.is_zero ≡ false
+    pub stays_there : (b : Bool) → n.side b here.at ≡ here.at
+    pub place : (first : ℕ) → pointer_place k.note.ctype n first here.at.facts
+        ≡ option_or (sum_of_forms ((view s.frame k).place (next first) here.at.facts) form) (Some (base_form (base.Value (capped first n.values))))
+    pub range : (first fresh : ℕ) → pointer_range k.note.ctype n first fresh here.at ≡ (view s.frame k).range (next first) (more fresh) here.at
+    pub room : (first : ℕ) → first + with_own k.note.ctype n + 1 < 2 ^ 32 → (next first + (view s.frame k).values + 1 < 2 ^ 32) × (first ≤ next first)
+        × (next first + (view s.frame k).values ≤ capped first n.values) × (capped first n.values < first + with_own k.note.ctype n)
+    pub later : (fresh : ℕ) → fresh < 2 ^ 32 → (fresh ≤ more fresh) × (more fresh < 2 ^ 32)
+
+  moved_claims : (k : NotedExpr) (n : NodeView) (form : Option Form) (next more : ℕ → ℕ) → IsMoved k n form next more → (x : Value) → ExprClaims s store entry here k x
+      → (z : ℤ) → IsIndex s store.locals z form → (a : ℕ) → (x.number ≡ 0 → ⊥) → pos a ≡ elements_behind x.number (size_behind s.text.layout k.note.ctype) z → a < 2 ^ 32
+      → NodeClaims s store entry here h k.note.ctype n (record { number = a; range = x.range })
+  moved_claims k n form next more m x c z index a some is small = record {
+    word = pointer_word k.note.ctype m.pointer a small;
+    placed = λ first fresh before low little are fits. placed_so first fresh before (m.room first low) (m.later fresh little) are fits;
+    zero = λ e. absurd (cc);
+    wide = λ e. narrow s store entry here h n m.quiet;
+    sides = λ b e. subst (SideGoes s store entry here) (sym (m.stays_there b)) (stays s store entry here h);
+  }
+    where
+      placed_so : (first fresh : ℕ) (before : Valuation)
+          → (next first + (view s.frame k).values + 1 < 2 ^ 32) × (first ≤ next first) × (next first + (view s.frame k).values ≤ capped first n.values) × (capped first n.values < first + with_own k.note.ctype n)
+          → (fresh ≤ more fresh) × (more fresh < 2 ^ 32) → AreFresh s.frame fresh → Fits s.frame store.locals before
+          → Placed s store entry here k.note.ctype (first + with_own k.note.ctype n) (pointer_place k.note.ctype n first here.at.facts) (pointer_range k.note.ctype n first fresh here.at) first fresh before
+          (record { number = a; range = x.range })
+      placed_so first fresh before room late are fits =
+          let fresh_there = fresh_on fresh (more fresh) late.0 are in
+          let p = c.placed (next first) (more fresh) before room.0 late.1 fresh_there fits in
+          let most = first + with_own k.note.ctype n in
+          let up : next first ≤ capped first n.values = omega (arith, room.2) in
+          subst (λ g. Placed s store entry here k.note.ctype most g (pointer_range k.note.ctype n first fresh here.at) first fresh before (record { number = a; range = x.range })) (sym (m.place first))
+          (subst (λ g. Placed s store entry here k.note.ctype most (option_or (sum_of_forms ((view s.frame k).place (next first) here.at.facts) form) (Some (base_form (base.Value (capped first n.values))))) g first fresh before
+          (record { number = a; range = x.range })) (sym (m.range first fresh))
+          (placed_from k.note.ctype most _ _ first fresh (next first) (more fresh) before _ room.1 late.0
+          (moved_placed s store entry here k.note.ctype (next first + (view s.frame k).values) most ((view s.frame k).place (next first) here.at.facts) ((view s.frame k).range (next first) (more fresh) here.at)
+          (next first) (more fresh) before x p (still_fits s store.locals (next first) (more fresh) before p.after fresh_there fits p.extends) z form index a is (capped first n.values) up room.2 room.3 some)))
+
+  -- ---- `+` and `-`
+
+  module _ (e f : NotedExpr) (r : CType) (place : Pos) (v w : Expr) (left : IsNotStuck (ExprClaims s store entry here e) (evaluated store v)) (right : IsNotStuck (ExprClaims s store entry here f) (evaluated store w))
+      (viewed : (view s.frame e).ctype ≡ e.note.ctype)
+      (left_form : (x : Value) → evaluated store v ≡ Ok x → IsIndex s store.locals (exact (integer_of e.note.ctype) x.number) ((view s.frame e).form here.at.facts))
+      (right_form : (x : Value) → evaluated store w ≡ Ok x → IsIndex s store.locals (exact (integer_of f.note.ctype) x.number) ((view s.frame f).form here.at.facts)) where
+    abbrev node : TreeOp → NodeView
+    node o = node_view s.frame (Node-F.Bin o (view s.frame e) (view s.frame f))
+
+    module _ (pointer : is_pointer e.note.ctype ≡ true) (checked : is_raw_kind (kind_of e.note.ctype) ≡ false) where
+      view_pointer : is_pointer (view s.frame e).ctype ≡ true
+      view_pointer = ap is_pointer viewed ∙ pointer
+
+      own_room : (o : TreeOp) (first : ℕ) → first + with_own e.note.ctype (node o) + 1 < 2 ^ 32
+          → (first + (view s.frame e).values + 1 < 2 ^ 32) × (first ≤ first) × (first + (view s.frame e).values ≤ capped first (node o).values) × (capped first (node o).values < first + with_own e.note.ctype (node o))
+      own_room o first low =
+          let own : with_own e.note.ctype (node o) ≡ capped (capped (view s.frame e).values (view s.frame f).values) 1 =
+          ap (λ b. if b && true then capped (capped (view s.frame e).values (view s.frame f).values) 1 else capped (view s.frame e).values (view s.frame f).values) pointer in
+          let room = has_room first (view s.frame e).values (view s.frame f).values (subst (λ n. first + n + 1 < 2 ^ 32) own low) in
+          (room.left, omega arith, room.over, subst (λ n. capped first (node o).values < first + n) (sym own) room.own)
+
+      range_there : (o : TreeOp) (first fresh : ℕ) → pointer_range e.note.ctype (node o) first fresh here.at ≡ (view s.frame e).range first fresh here.at
+      range_there o first fresh =
+          ap (λ b. if b then (if is_raw_kind (kind_of e.note.ctype) then range.Missing else range_of_operand (view s.frame e) (view s.frame f) first fresh here.at) else range.Missing) pointer
+          ∙ ap (λ b. if b then range.Missing else range_of_operand (view s.frame e) (view s.frame f) first fresh here.at) checked
+          ∙ ap (λ b. if b then (view s.frame e).range first fresh here.at else (view s.frame f).range (capped first (view s.frame e).values) (fresh_behind (view s.frame e) fresh here.at) here.at) view_pointer
+
+      place_there : (o : TreeOp) (form : Option Form) (first : ℕ) → binary_place first here.at.facts o (view s.frame e) (view s.frame f) ≡ sum_of_forms ((view s.frame e).place first here.at.facts) form
+          → pointer_place e.note.ctype (node o) first here.at.facts
+          ≡ option_or (sum_of_forms ((view s.frame e).place first here.at.facts) form) (Some (base_form (base.Value (capped first (node o).values))))
+      place_there o form first is =
+          ap (λ b. if b then option_or (if is_raw_kind (kind_of e.note.ctype) then None else binary_place first here.at.facts o (view s.frame e) (view s.frame f))
+          (Some (base_form (base.Value (capped first (node o).values)))) else None) pointer
+          ∙ ap (λ b. option_or (if b then None else binary_place first here.at.facts o (view s.frame e) (view s.frame f)) (Some (base_form (base.Value (capped first (node o).values))))) checked
+          ∙ ap (λ q. option_or q (Some (base_form (base.Value (capped first (node o).values))))) is
+
+      left_moved : IsMoved e (node op.Add) ((view s.frame f).form here.at.facts) (λ n. n) (λ n. n)
+      left_moved = record {
+        pointer = pointer;
+        quiet = refl;
+        some = refl;
+        stays_there = λ b. refl;
+        place = λ first. place_there op.Add ((view s.frame f).form here.at.facts) first
+            (ap (λ b. if b then sum_of_forms ((view s.frame e).place first here.at.facts) ((view s.frame f).form here.at.facts)
+            else sum_of_forms ((view s.frame f).place (capped first (view s.frame e).values) here.at.facts) ((view s.frame e).form here.at.facts)) view_pointer);
+        range = range_there op.Add;
+        room = own_room op.Add;
+        later = λ fresh little. (omega arith, little);
+      }
+
+      less_moved : IsMoved e (node op.Sub) (negative_of ((view s.frame f).form here.at.facts)) (λ n. n) (λ n. n)
+      less_moved = record {
+        pointer = pointer;
+        quiet = refl;
+        some = refl;
+        stays_there = λ b. refl;
+        place = λ first. place_there op.Sub (negative_of ((view s.frame f).form here.at.facts)) first refl;
+        range = range_there op.Sub;
+        room = own_room op.Sub;
+        later = λ fresh little. (omega arith, little);
+      }
+
+      pub more_claims : IsNotStuck (NodeClaims s store entry here h e.note.ctype (node op.Add)) (evaluated store (Moved (shift s.text.layout e.note.ctype f.note.ctype place false) v w))
+      more_claims =
+          both_go_on (ExprClaims s store entry here e) (ExprClaims s store entry here f) (NodeClaims s store entry here h e.note.ctype (node op.Add)) (evaluated store v) (evaluated store w)
+          (λ x y. moves (shift s.text.layout e.note.ctype f.note.ctype place false) x y.number) left right
+          (λ x y is there c d. moved_goes (NodeClaims s store entry here h e.note.ctype (node op.Add)) (shift s.text.layout e.note.ctype f.note.ctype place false) x y.number (checked_pointer e.note.ctype pointer checked)
+          (λ a some at small. moved_claims e (node op.Add) _ (λ n. n) (λ n. n) left_moved x c (exact (integer_of f.note.ctype) y.number) (right_form y there) a some (sym at) small))
+
+      pub less_claims : IsNotStuck (NodeClaims s store entry here h e.note.ctype (node op.Sub)) (evaluated store (Moved (shift s.text.layout e.note.ctype f.note.ctype place true) v w))
+      less_claims =
+          both_go_on (ExprClaims s store entry here e) (ExprClaims s store entry here f) (NodeClaims s store entry here h e.note.ctype (node op.Sub)) (evaluated store v) (evaluated store w)
+          (λ x y. moves (shift s.text.layout e.note.ctype f.note.ctype place true) x y.number) left right
+          (λ x y is there c d. moved_goes (NodeClaims s store entry here h e.note.ctype (node op.Sub)) (shift s.text.layout e.note.ctype f.note.ctype place true) x y.number (checked_pointer e.note.ctype pointer checked)
+          (λ a some at small. moved_claims e (node op.Sub) _ (λ n. n) (λ n. n) less_moved x c (neg_ℤ (exact (integer_of f.note.ctype) y.number))
+          (negative_index s store.locals (exact (integer_of f.note.ctype) y.number) ((view s.frame f).form here.at.facts) (right_form y there)) a some
+          (sym at ∙ back x.number (size_behind s.text.layout e.note.ctype) (exact (integer_of f.note.ctype) y.number)) small))
+        where
+          back : (n size : ℕ) (i : ℤ) → pos n -ℤ (pos size *ℤ i) ≡ elements_behind n size (neg_ℤ i)
+          back n size i =
+              let turned : pos size *ℤ neg_ℤ i ≡ neg_ℤ (pos size *ℤ i) = times_negative size i in
+              omega (arith, ints)
+
+    -- the pointer is the right operand
+    module _ (bare : is_pointer e.note.ctype ≡ false) (pointer : is_pointer f.note.ctype ≡ true) (checked : is_raw_kind (kind_of f.note.ctype) ≡ false) where
+      view_bare : is_pointer (view s.frame e).ctype ≡ false
+      view_bare = ap is_pointer viewed ∙ bare
+
+      right_moved : IsMoved f (node op.Add) ((view s.frame e).form here.at.facts) (λ n. capped n (view s.frame e).values) (λ n. fresh_behind (view s.frame e) n here.at)
+      right_moved = record {
+        pointer = pointer;
+        quiet = refl;
+        some = refl;
+        stays_there = λ b. refl;
+        place = λ first.
+            ap (λ b. if b then option_or (if is_raw_kind (kind_of f.note.ctype) then None else binary_place first here.at.facts op.Add (view s.frame e) (view s.frame f))
+            (Some (base_form (base.Value (capped first (node op.Add).values)))) else None) pointer
+            ∙ ap (λ b. option_or (if b then None else binary_place first here.at.facts op.Add (view s.frame e) (view s.frame f)) (Some (base_form (base.Value (capped first (node op.Add).values))))) checked
+            ∙ ap (λ b. option_or (if b then sum_of_forms ((view s.frame e).place first here.at.facts) ((view s.frame f).form here.at.facts)
+            else sum_of_forms ((view s.frame f).place (capped first (view s.frame e).values) here.at.facts) ((view s.frame e).form here.at.facts))
+            (Some (base_form (base.Value (capped first (node op.Add).values))))) view_bare;
+        range = λ first fresh.
+            ap (λ b. if b then (if is_raw_kind (kind_of f.note.ctype) then range.Missing else range_of_operand (view s.frame e) (view s.frame f) first fresh here.at) else range.Missing) pointer
+            ∙ ap (λ b. if b then range.Missing else range_of_operand (view s.frame e) (view s.frame f) first fresh here.at) checked
+            ∙ ap (λ b. if b then (view s.frame e).range first fresh here.at else (view s.frame f).range (capped first (view s.frame e).values) (fresh_behind (view s.frame e) fresh here.at) here.at) view_bare;
+        room = λ first low.
+            let own : with_own f.note.ctype (node op.Add) ≡ capped (capped (view s.frame e).values (view s.frame f).values) 1 =
+            ap (λ b. if b && true then capped (capped (view s.frame e).values (view s.frame f).values) 1 else capped (view s.frame e).values (view s.frame f).values) pointer in
+            let room = has_room first (view s.frame e).values (view s.frame f).values (subst (λ n. first + n + 1 < 2 ^ 32) own low) in
+            (room.right, room.more, room.next, subst (λ n. capped first (node op.Add).values < first + n) (sym own) room.own);
+        later = λ fresh little. (capped_more fresh (length ((view s.frame e).fresh here.at)) little, capped_small fresh (length ((view s.frame e).fresh here.at)));
+      }
+
+      pub added_claims : IsNotStuck (NodeClaims s store entry here h f.note.ctype (node op.Add)) (evaluated store (Added (shift s.text.layout f.note.ctype e.note.ctype place false) v w))
+      added_claims =
+          both_go_on (ExprClaims s store entry here e) (ExprClaims s store entry here f) (NodeClaims s store entry here h f.note.ctype (node op.Add)) (evaluated store v) (evaluated store w)
+          (λ y x. moves (shift s.text.layout f.note.ctype e.note.ctype place false) x y.number) left right
+          (λ y x there is d c. moved_goes (NodeClaims s store entry here h f.note.ctype (node op.Add)) (shift s.text.layout f.note.ctype e.note.ctype place false) x y.number (checked_pointer f.note.ctype pointer checked)
+          (λ a some at small. moved_claims f (node op.Add) _ _ _ right_moved x c (exact (integer_of e.note.ctype) y.number) (left_form y there) a some (sym at) small))
+
+    number_claims : (o : TreeOp) → ((b : Bool) → (node o).side b here.at ≡ here.at) → Wide r → (x : Expr) → IsNotStuck IsSmall (evaluated store x)
+        → IsNotStuck (NodeClaims s store entry here h r (node o)) (evaluated store x)
+    number_claims o same wide x small =
+        weaker (evaluated store x) small (λ p is k.
+        integer_claims s store entry here h r (node o) (no_pointer r wide.wide.integer) refl p (wide_small r wide p.number k) (λ e. absurd (cc)) (λ e. absurd (cc))
+        (λ b side. subst (SideGoes s store entry here) (sym (same b)) (stays s store entry here h)))
+
+    small_left : IsNotStuck IsSmall (evaluated store v)
+    small_left = small_value s store entry here e (evaluated store v) left
+
+    small_right : IsNotStuck IsSmall (evaluated store w)
+    small_right = small_value s store entry here f (evaluated store w) right
+
+    pub sum_claims : is_raw_kind (kind_of r) ≡ false → sum_type e.note.ctype f.note.ctype ≡ Some r
+        → IsNotStuck (NodeClaims s store entry here h r (node op.Add)) (evaluated store (of_operands s.text.layout op.Add e.note.ctype f.note.ctype place v w))
+    sum_claims checked row = by (is_pointer e.note.ctype) (is_pointer f.note.ctype) refl refl
+      where
+        by : (a b : Bool) → is_pointer e.note.ctype ≡ a → is_pointer f.note.ctype ≡ b → IsNotStuck (NodeClaims s store entry here h r (node op.Add))
+            (evaluated store (if a then Moved (shift s.text.layout e.note.ctype f.note.ctype place false) v w
+            else (if b then Added (shift s.text.layout f.note.ctype e.note.ctype place false) v w else Binary operation.Add (is_signed_at op.Add e.note.ctype f.note.ctype) place v w)))
+        by true b p q =
+            let is = (left_row e.note.ctype f.note.ctype r p row).0 in
+            subst (λ t. IsNotStuck (NodeClaims s store entry here h t (node op.Add)) (evaluated store (Moved (shift s.text.layout e.note.ctype f.note.ctype place false) v w))) (sym is)
+            (more_claims p (subst (λ t. is_raw_kind (kind_of t) ≡ false) is checked))
+        by false true p q =
+            let is = (right_row e.note.ctype f.note.ctype r p q row).0 in
+            subst (λ t. IsNotStuck (NodeClaims s store entry here h t (node op.Add)) (evaluated store (Added (shift s.text.layout f.note.ctype e.note.ctype place false) v w))) (sym is)
+            (added_claims p q (subst (λ t. is_raw_kind (kind_of t) ≡ false) is checked))
+        by false false p q =
+            number_claims op.Add (λ b. refl) (plain_row e.note.ctype f.note.ctype r p q row) (Binary operation.Add (is_signed_at op.Add e.note.ctype f.note.ctype) place v w)
+            (operation_word store operation.Add (is_signed_at op.Add e.note.ctype f.note.ctype) place v w small_left small_right)
+
+    pub difference_claims : size_behind s.text.layout e.note.ctype < 2 ^ 32 → is_raw_kind (kind_of r) ≡ false → difference_type e.note.ctype f.note.ctype ≡ Some r
+        → IsNotStuck (NodeClaims s store entry here h r (node op.Sub)) (evaluated store (of_operands s.text.layout op.Sub e.note.ctype f.note.ctype place v w))
+    difference_claims sized checked row = by (is_pointer e.note.ctype) (is_pointer f.note.ctype) refl refl
+      where
+        by : (a b : Bool) → is_pointer e.note.ctype ≡ a → is_pointer f.note.ctype ≡ b → IsNotStuck (NodeClaims s store entry here h r (node op.Sub))
+            (evaluated store (if a then (if b then distance s.text.layout e.note.ctype place v w else Moved (shift s.text.layout e.note.ctype f.note.ctype place true) v w)
+            else Binary operation.Sub (is_signed_at op.Sub e.note.ctype f.note.ctype) place v w))
+        by true true p q =
+            number_claims op.Sub (λ b. refl) (distance_row e.note.ctype f.note.ctype r p q row) (distance s.text.layout e.note.ctype place v w)
+            (operation_word store operation.Div true place (Binary operation.Sub true place v w) (Number (size_behind s.text.layout e.note.ctype))
+            (operation_word store operation.Sub true place v w small_left small_right) sized)
+        by true false p q =
+            let is = (less_row e.note.ctype f.note.ctype r p q row).0 in
+            subst (λ t. IsNotStuck (NodeClaims s store entry here h t (node op.Sub)) (evaluated store (Moved (shift s.text.layout e.note.ctype f.note.ctype place true) v w))) (sym is)
+            (less_claims p (subst (λ t. is_raw_kind (kind_of t) ≡ false) is checked))
+        by false b p q =
+            number_claims op.Sub (λ b. refl) (plain_less_row e.note.ctype f.note.ctype r p row) (Binary operation.Sub (is_signed_at op.Sub e.note.ctype f.note.ctype) place v w)
+            (operation_word store operation.Sub (is_signed_at op.Sub e.note.ctype f.note.ctype) place v w small_left small_right)

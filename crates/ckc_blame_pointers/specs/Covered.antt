@@ -1,0 +1,160 @@
+-- The expressions of which it is said what they come to, and what is taken for granted of the text around them.
+use Rattle.std.specs.Prelude.{◌≡◌, ◌⊎◌, ◌+◌, ◌<◌, ◌^◌, ℕ, false, true, List, slice_get, Option, None, Some}
+use Rattle.std.specs.List.{Contains}
+use Rattle.ckc_types.specs.declared.types.Kind.{Kind}
+use Rattle.ckc_types.specs.declared.types.CType.{CType}
+use Rattle.ckc_linear.specs.declared.forms.Base.{Base}
+use Rattle.ckc_linear.specs.declared.forms.Base.TheVariants as base
+use Rattle.ckc_linear.specs.declared.forms.Form.{Form}
+use Rattle.ckc_syntax.specs.declared.tree.Name.{Name}
+use Rattle.ckc_syntax.specs.declared.tree.Name.TheVariants as name
+use Rattle.ckc_syntax.specs.declared.tree.TreeOp.{TreeOp}
+use Rattle.ckc_syntax.specs.declared.tree.TreeOp.TheVariants as op
+use Rattle.ckc_syntax.specs.declared.tree.Node.{Node-F, out-Node}
+use Rattle.ckc_syntax.specs.declared.tree.Expr.{Expr-F, every-Expr}
+use Rattle.ckc_typed.specs.declared.typed.Note.{Note}
+use Rattle.ckc_typed.specs.declared.typed.StaticObject.{StaticObject}
+use Rattle.ckc_typed.specs.declared.environment.Variable.{Variable}
+use Rattle.ckc_typed.specs.Conversions.{is_terminated_kind}
+use Rattle.ckc_typed.specs.Environment.{variable_named}
+use Rattle.ckc_typed.specs.Operands.{is_raw_kind}
+use Rattle.ckc_typed.specs.Trees.{NotedLimits, NotedNode, NotedExpr, NotedLayer}
+use Rattle.ckc_typed.specs.Types.{kind_of, element_of, is_integer, is_pointer, is_scalar}
+use Rattle.ckc_typed_welltyped.specs.Expressions.{AnyLimits, AnyNode}
+use Rattle.ckc_bounds_points.specs.declared.frame.Bounds.{Bounds}
+use Rattle.ckc_bounds_points.specs.declared.frame.Bounds.TheVariants as bounds
+use Rattle.ckc_bounds_points.specs.declared.frame.Local.{Local}
+use Rattle.ckc_bounds_points.specs.Frames.{local_at}
+use Rattle.ckc_bounds_views.specs.Judged.{is_counted_kind}
+use Rattle.ckc_bounds_views.specs.Views.{view}
+use Rattle.ckc_source.specs.Eval.{Store}
+use Rattle.ckc_build_values.specs.Kinds.{size_behind}
+use Rattle.ckc_build_values.specs.Names.{count_of_static}
+use Rattle.ckc_build_elaborate.specs.Objects.{object_elaborated, objects_elaborated}
+use Rattle.ckc_build_elaborate.specs.Shapes.{shapes_elaborated}
+use Rattle.ckc_blame_sound.specs.Settings.{Setting}
+use Rattle.ckc_blame_slots.specs.Cells.{AreSound, HaveOwnNames}
+
+-- ---- memory
+
+-- The blocks of a store are those of a sound state, and its structures are those of the text.
+pub record IsSoundStore (s : Setting) (store : Store) (next : ℕ) : Type 0 where
+  pub sound : AreSound s.text store.blocks next
+  pub shapes : store.shapes ≡ shapes_elaborated s.text.layout
+  pub names : HaveOwnNames s.text.layout
+
+-- ---- the locals of a function
+
+-- a local that is in scope
+pub record IsInScope (s : Setting) (seen : List ℕ) (k : ℕ) : Type 0 where
+  pub seen_there : Contains seen k
+  pub local : Local
+  pub there : local_at s.frame k ≡ Some local
+  pub scalar : is_scalar local.ctype ≡ true
+
+-- a local that is an integer, as it is judged and as it runs
+pub record IsIntegerLocal (s : Setting) (k : ℕ) : Type 0 where
+  pub local : Local
+  pub variable : Variable
+  pub there : local_at s.frame k ≡ Some local
+  pub integer : is_integer local.ctype ≡ true
+  pub named : variable_named s.variables (name.Local k) ≡ Some variable
+
+-- the variable 0 or that of an integer local
+abbrev pub IsLocalVariable : Setting → ℕ → Type 0
+IsLocalVariable s x = (x ≡ 0) ⊎ ((k : ℕ) × (x ≡ k + 1) × IsIntegerLocal s k)
+
+-- a base that is a local or a static array
+abbrev pub IsLocalBase : Option Base → Type 0
+IsLocalBase (Some (base.Local k)) = Unit {0}
+IsLocalBase (Some (base.Array k)) = Unit {0}
+IsLocalBase _ = ⊥
+
+-- a form over locals and static arrays alone
+pub record IsLocalForm (s : Setting) (f : Form) : Type 0 where
+  pub based : IsLocalBase f.base
+  pub variable : IsLocalVariable s f.var
+
+-- the same of both ends of bounds
+abbrev pub AreLocalBounds : Setting → Bounds → Type 0
+AreLocalBounds s bounds.Unknown = Unit {0}
+AreLocalBounds s (bounds.Known low high) = IsLocalForm s low × IsLocalForm s high
+
+-- The declared bounds of locals name locals and static arrays alone.
+abbrev pub DeclareLocals : Setting → Type 0
+DeclareLocals s = (k : ℕ) (l : Local) → local_at s.frame k ≡ Some l → AreLocalBounds s l.bounds
+
+-- ---- static objects
+
+-- a static object that is one integer of a type
+pub record IsStaticInteger (s : Setting) (t : CType) (k : ℕ) : Type 0 where
+  pub object : StaticObject
+  pub there : slice_get s.text.statics k ≡ Some object
+  pub single : object.array ≡ None
+  pub plain : object.terminated ≡ false
+  pub some : 0 < object.count
+  pub element : object.element ≡ t
+  pub integer : is_integer t ≡ true
+  pub bare : count_of_static s.text t (name.Static k) ≡ None
+
+-- a static object that is an array, as a pointer of a type to its first element; it is declared without bounds
+pub record IsStaticArray (s : Setting) (t : CType) (k : ℕ) : Type 0 where
+  pub object : StaticObject
+  pub there : slice_get s.text.statics k ≡ Some object
+  pub judged : slice_get s.frame.statics k ≡ Some object
+  pub kind : Kind
+  pub array : object.array ≡ Some kind
+  pub counted : is_counted_kind (Some kind) ≡ true
+  pub ends : object.terminated ≡ is_terminated_kind (Some kind)
+  pub free : slice_get (objects_elaborated s.text) k ≡ Some (object_elaborated s.text.layout (Some true) object)
+  pub pointer : is_pointer t ≡ true
+  pub kind_is : kind_of t ≡ Some kind
+  pub element : element_of t ≡ object.element
+
+-- ---- expressions
+
+-- the unary operators on integers, and `!`
+abbrev pub IsArithmetic : TreeOp → Type 0
+IsArithmetic op.Minus = Unit {0}
+IsArithmetic op.Plus = Unit {0}
+IsArithmetic op.Flip = Unit {0}
+IsArithmetic op.Not = Unit {0}
+IsArithmetic _ = ⊥
+
+-- what `*` and `[` read: an integer, through an `_Array_ptr` or an `_Nt_array_ptr`
+pub record IsElement (e : NotedExpr) : Type 0 where
+  pub counted : is_counted_kind (kind_of e.note.ctype) ≡ true
+  pub integer : is_integer (element_of e.note.ctype) ≡ true
+
+-- the operands of unary operators
+abbrev pub IsCoveredUnary : TreeOp → NotedExpr → Type 0
+IsCoveredUnary op.Deref e = IsElement e
+IsCoveredUnary o e = IsArithmetic o
+
+-- The nodes of a type of which it is said what they come to: numbers, `sizeof`, `NULL`, locals in scope, static
+-- integers and arrays, operators, `?:`, casts, and integers that are read through pointers.
+abbrev pub IsCoveredNode : Setting → List ℕ → CType → NotedLayer → Type 0
+IsCoveredNode s seen t (Node-F.Number n unsigned) = Unit {0}
+IsCoveredNode s seen t (Node-F.Size w) = Unit {0}
+IsCoveredNode s seen t Node-F.Null = Unit {0}
+IsCoveredNode s seen t (Node-F.Name (name.Local k)) = IsInScope s seen k
+IsCoveredNode s seen t (Node-F.Name (name.Static k)) = IsStaticInteger s t k ⊎ IsStaticArray s t k
+IsCoveredNode s seen t (Node-F.Un o e) = IsCoveredUnary o e
+IsCoveredNode s seen t (Node-F.Bin o e f) = Unit {0}
+IsCoveredNode s seen t (Node-F.Pick e f g) = Unit {0}
+IsCoveredNode s seen t (Node-F.Cast w e) = Unit {0}
+IsCoveredNode s seen t (Node-F.Index e f) = IsElement e
+IsCoveredNode s seen t _ = ⊥
+
+-- Such an expression is no unchecked pointer, the size of what it points to is a word, and so is the number of its
+-- values.
+pub record IsCoveredExpr (s : Setting) (seen : List ℕ) (e : Expr-F Name Note NotedLimits NotedNode NotedExpr)
+    : Type 0 where
+  pub node : IsCoveredNode s seen e.note.ctype (out-Node Name Note e.node)
+  pub checked : is_raw_kind (kind_of e.note.ctype) ≡ false
+  pub few : (view s.frame (record { node = e.node; pos = e.pos; note = e.note })).values + 1 < 2 ^ 32
+  pub sized : size_behind s.text.layout e.note.ctype < 2 ^ 32
+
+-- An expression and each expression in it, however deep, is such a one.
+abbrev pub IsCovered : Setting → List ℕ → NotedExpr → Type 0
+IsCovered s seen = every-Expr Name Note AnyLimits AnyNode (IsCoveredExpr s seen)

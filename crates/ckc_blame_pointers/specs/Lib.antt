@@ -1,0 +1,3 @@
+pub mod Valuations
+pub mod Covered
+pub mod Meant

@@ -1,0 +1,36 @@
+-- What a judged expression comes to in a store in which its point holds.
+use Rattle.std.specs.Prelude.{◌≡◌, ◌+◌, ◌==◌, ◌<◌, ◌^◌, ℕ, Bool, not, List, Result, Ok, Err}
+use Rattle.ckc_bounds_views.specs.Parts.{View}
+use Rattle.ckc_bounds_statements.specs.Paths.{Here}
+use Rattle.ckc_source.specs.declared.outcome.Halt.{Halt}
+use Rattle.ckc_source.specs.declared.outcome.Halt.TheVariants as halt
+use Rattle.ckc_source.specs.declared.outcome.Value.{Value}
+use Rattle.ckc_source.specs.Eval.{Store}
+use Rattle.ckc_blame_sound.specs.Settings.{Setting}
+use Rattle.ckc_blame_sound.specs.Values.{IsWordOf}
+use Rattle.ckc_blame_sound.specs.Points.{HoldsAt}
+use Rattle.ckc_blame_pointers.specs.Valuations.{Valuation, Fits, AreFresh, Extends, IsAtPlace, IsInRange}
+
+-- An evaluation gives a value of which this holds, or stops at a named check. It is not stuck.
+abbrev pub IsNotStuck : (Value → Type 0) → Result Value Halt → Type 0
+IsNotStuck P (Ok v) = P v
+IsNotStuck P (Err (halt.Stopped why at)) = Unit {0}
+IsNotStuck P (Err halt.Stuck) = ⊥
+
+-- A pointer is where it is judged to be, under some numbers for the values and the fresh variables of its expression,
+-- which are numbered from here on.
+pub record HasPlace (s : Setting) (store : Store) (here : Here) (e : View) (first fresh : ℕ) (before : Valuation)
+    (p : Value) : Type 0 where
+  pub after : Valuation
+  pub extends : Extends first fresh before after
+  pub place : IsAtPlace s store.locals after e.ctype (e.place first here.at.facts) p.number
+  pub range : IsInRange s store after e.ctype (e.range first fresh here.at) p
+
+-- An expression comes to what it is judged to be at a point: to a word of its type, which is where its place says, and
+-- within its range; and on the side that it comes to as a condition, the point that is judged to be there holds.
+pub record IsMeant (s : Setting) (store : Store) (entry : List ℕ) (here : Here) (e : View) (p : Value) : Type 0 where
+  pub word : IsWordOf e.ctype p.number
+  pub placed : (first fresh : ℕ) (before : Valuation) → first + e.values + 1 < 2 ^ 32 → fresh < 2 ^ 32
+      → AreFresh s.frame fresh → Fits s.frame store.locals before → HasPlace s store here e first fresh before p
+  pub sides : (side : Bool) → (p.number == 0) ≡ not side
+      → HoldsAt s store entry (record here { at = e.side side here.at })

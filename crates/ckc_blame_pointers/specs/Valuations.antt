@@ -1,0 +1,78 @@
+-- What forms over values and fresh variables stand for: a valuation says it.
+use Rattle.std.specs.Prelude.{◌≡◌, ◌⊎◌, ℕ, ◌<◌, ◌≤◌, ◌+◌, true, false, List, slice_index, ℤ, pos, Option, None, Some, IfSome}
+use Rattle.ckc_types.specs.declared.types.CType.{CType}
+use Rattle.ckc_linear.specs.declared.forms.Base.{Base}
+use Rattle.ckc_linear.specs.declared.forms.Base.TheVariants as base
+use Rattle.ckc_linear.specs.declared.forms.Form.{Form}
+use Rattle.ckc_typed.specs.declared.typed.Range as noted
+use Rattle.ckc_typed.specs.declared.typed.Range.TheVariants as range
+use Rattle.ckc_typed.specs.Types.{is_integer}
+use Rattle.ckc_bounds_points.specs.declared.frame.Frame.{Frame}
+use Rattle.ckc_bounds_points.specs.declared.frame.Local.{Local}
+use Rattle.ckc_bounds_points.specs.Frames.{local_at}
+use Rattle.ckc_source.specs.declared.outcome.Range.TheVariants.{Within}
+use Rattle.ckc_source.specs.declared.outcome.Value.{Value}
+use Rattle.ckc_source.specs.Eval.{Store}
+use Rattle.ckc_source.specs.Runs.{is_true}
+use Rattle.ckc_source.specs.Words.{elements_behind}
+use Rattle.ckc_build_values.specs.Kinds.{pointee_of, size_behind}
+use Rattle.ckc_build_values.specs.Names.{address_of}
+use Rattle.ckc_blame_sound.specs.Settings.{Setting}
+use Rattle.ckc_blame_sound.specs.Values.{value, number_of}
+
+-- the numbers that the variables of forms stand for, and the addresses that pointers stand for which are their own base
+pub record Valuation : Type 0 where
+  pub numbers : ℕ → ℤ
+  pub addresses : ℕ → ℕ
+
+-- the variable 0, or that of an integer local; no other variable stands in facts and in forms of integers
+abbrev pub IsKnownVariable : Frame → ℕ → Type 0
+IsKnownVariable frame x =
+    (x ≡ 0) ⊎ ((k : ℕ) × (l : Local) × (x ≡ k + 1) × (local_at frame k ≡ Some l) × (is_integer l.ctype ≡ true))
+
+-- A valuation gives these their own numbers. Of fresh variables it may say anything.
+abbrev pub Fits : Frame → List ℕ → Valuation → Type 0
+Fits frame locals v = (x : ℕ) → IsKnownVariable frame x → v.numbers x ≡ value frame locals x
+
+-- The locals from a number on are no integers, so their variables are fresh ones.
+abbrev pub AreFresh : Frame → ℕ → Type 0
+AreFresh frame fresh = (k : ℕ) (l : Local) → fresh ≤ k → local_at frame k ≡ Some l → is_integer l.ctype ≡ false
+
+-- A valuation says the same as another one of what is numbered below: of values below the first of some, and of
+-- variables up to that of the local in front of the first fresh one.
+pub record Extends (first fresh : ℕ) (before after : Valuation) : Type 0 where
+  pub addresses : (n : ℕ) → n < first → after.addresses n ≡ before.addresses n
+  pub numbers : (x : ℕ) → x ≤ fresh → after.numbers x ≡ before.numbers x
+
+-- the address of the base of a form
+abbrev pub address_in : Setting → List ℕ → Valuation → Option Base → ℕ
+address_in s locals v (Some (base.Local k)) = slice_index locals k
+address_in s locals v (Some (base.Array k)) = address_of s.text k
+address_in s locals v (Some (base.Value n)) = v.addresses n
+address_in s locals v None = 0
+
+-- the address that a form with a base stands for, where the elements of a pointer have this size: an exact number, that
+-- may be no address
+abbrev pub address_by : Setting → List ℕ → Valuation → ℕ → Form → ℤ
+address_by s locals v size f = elements_behind (address_in s locals v f.base) size (number_of v.numbers f)
+
+-- A pointer of a type has the address that its place stands for, if it has a place.
+abbrev pub IsAtPlace : Setting → List ℕ → Valuation → CType → Option Form → ℕ → Type 0
+IsAtPlace s locals v t place n =
+    IfSome place (λ f. pos n ≡ address_by s locals v (size_behind s.text.layout t) f)
+
+-- A pointer of a type has its range: it is between the addresses that the two ends stand for, and it is true.
+pub record HasEnds (s : Setting) (store : Store) (v : Valuation) (t : CType) (low high : Form) (p : Value)
+    : Type 0 where
+  pub from : ℕ
+  pub to : ℕ
+  pub range : p.range ≡ Within from to
+  pub low_is : pos from ≡ address_by s store.locals v (size_behind s.text.layout t) low
+  pub high_is : pos to ≡ address_by s store.locals v (size_behind s.text.layout t) high
+  pub true_there : is_true store.shapes store.blocks (pointee_of s.text.layout t) p.number from to ≡ true
+
+-- A pointer that is not null has its range, if that is known. One that may be used for any range is null.
+abbrev pub IsInRange : Setting → Store → Valuation → CType → noted.Range → Value → Type 0
+IsInRange s store v t (range.Known low high) p = (p.number ≡ 0) ⊎ HasEnds s store v t low high p
+IsInRange s store v t range.Any p = p.number ≡ 0
+IsInRange s store v t range.Missing p = Unit {0}

@@ -1,0 +1,6 @@
+//! What the pointers of judged expressions come to.
+#![tactic(auto)]
+
+mod laws;
+
+pub use laws::expressions_are_not_stuck;
