@@ -1,0 +1,10 @@
+pub mod Adds
+pub mod Flow
+pub mod Heads
+pub mod Pieces
+pub mod Codes
+pub mod Exits
+pub mod Compound
+pub mod Loops
+pub mod Walk
+pub mod Whole

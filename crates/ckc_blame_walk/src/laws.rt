@@ -1,0 +1,34 @@
+//! What follows from the definitions alone, each the contract of a function that does nothing.
+
+ghost use Rattle.std.specs.Prelude.{◌≡◌, ℕ, true, false, List, Ok};
+ghost use Rattle.ckc_typed.specs.Trees.{NotedStmt};
+ghost use Rattle.ckc_bounds_points.specs.declared.frame.Frame.{Frame};
+ghost use Rattle.ckc_bounds_points.specs.Flow.{State, less};
+ghost use Rattle.ckc_bounds_statements.specs.Paths.{Here, path};
+ghost use Rattle.ckc_source.specs.Code.{Code, chained};
+ghost use Rattle.ckc_build_elaborate.specs.Statements.{stmt_elaborated};
+ghost use Rattle.ckc_blame_sound.specs.Settings.{Setting};
+ghost use Rattle.ckc_blame_sound.specs.Judged.{Exits, Judged};
+ghost use Rattle.ckc_blame_walk.specs.Walks.{nesting_of, AreSmall, IsLeft, Stays, MayLeave};
+
+/// A fact or a widening at the head of a loop names nothing that the loop assigns, and what names nothing that a statement
+/// assigns is still known after it. A fact on the range of a type names its variable, and is true of all words.
+pub fn loops_keep_their_heads()
+    ensures head { (frame : Frame) (ks : List ℕ) (at : State) → at.reached ≡ true
+        → IsLeft frame ks (less frame ks at) at }
+    ensures statement { (s : Setting) (st after : NotedStmt) (here there : Here) →
+        (nesting_of st).fine ≡ true → (path st).judged s.frame s.head here ≡ Ok (after, there)
+        → Stays s.frame (path st).assigned here.at there.at }
+{}
+
+/// The code of a statement that the walk has judged is judged from the point where the walk came to it, if the code after
+/// it is judged from the point where the walk left it, and each `break` and `continue` that leaves it may leave it there.
+pub fn walks_are_judged()
+    ensures { (s : Setting) (st after : NotedStmt) (here there : Here) (literals : ℕ)
+        (exits : Exits) (rest : Code) → (nesting_of st).fine ≡ true → here.counting ≡ false
+        → AreSmall here.at.facts → (path st).judged s.frame s.head here ≡ Ok (after, there)
+        → MayLeave s.frame (path st).assigned (path st).breaks (path st).continues here exits
+        → Judged s rest exits there
+        → Judged s (chained (stmt_elaborated s.text s.variables s.result literals after) rest)
+        exits here }
+{}

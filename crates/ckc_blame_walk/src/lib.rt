@@ -1,0 +1,6 @@
+//! The code of each function of a judged text is judged from its entry point.
+#![tactic(auto)]
+
+mod laws;
+
+pub use laws::{loops_keep_their_heads, walks_are_judged};
