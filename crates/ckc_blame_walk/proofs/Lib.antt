@@ -8,3 +8,5 @@ pub mod Compound
 pub mod Loops
 pub mod Walk
 pub mod Whole
+pub mod Functions
+pub mod Views

@@ -55,7 +55,7 @@ given P a p = record { made = λ b e. let same : a ≡ b = cc in subst P same p 
 pub unless_gives : {A : Type 0} (P : A → Type 0) (b : Bool) (code : ℕ) (at : Pos) (o : Outcome A) → Gives P o → Gives P (unless b code at o)
 unless_gives P b code at o h = record { made = λ a e. h.made a (unbroken b code at o a e).1 }
 
-faulted : {A : Type 0} (P : A → Type 0) (r : Option Refusal) (o : Outcome A) → Gives P o → Gives P (by_fault r o)
+pub faulted : {A : Type 0} (P : A → Type 0) (r : Option Refusal) (o : Outcome A) → Gives P o → Gives P (by_fault r o)
 faulted P None o h = h
 faulted P (Some r) o h = record { made = λ a e. absurd (cc) }
 

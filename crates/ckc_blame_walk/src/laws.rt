@@ -1,15 +1,19 @@
 //! What follows from the definitions alone, each the contract of a function that does nothing.
 
 ghost use Rattle.std.specs.Prelude.{◌≡◌, ℕ, true, false, List, Ok};
-ghost use Rattle.ckc_typed.specs.Trees.{NotedStmt};
+ghost use Rattle.ckc_typed.specs.Trees.{NotedExpr, NotedHead, NotedStmt};
 ghost use Rattle.ckc_bounds_points.specs.declared.frame.Frame.{Frame};
 ghost use Rattle.ckc_bounds_points.specs.Flow.{State, less};
+ghost use Rattle.ckc_bounds_views.specs.Views.{view};
 ghost use Rattle.ckc_bounds_statements.specs.Paths.{Here, path};
+ghost use Rattle.ckc_bounds.specs.Declarations.{head_bounds};
+ghost use Rattle.ckc_bounds.specs.Frames.{begin_in, first_fresh, function_frame};
+ghost use Rattle.ckc_bounds.specs.Texts.{body_judged};
 ghost use Rattle.ckc_source.specs.Code.{Code, chained};
-ghost use Rattle.ckc_build_elaborate.specs.Statements.{stmt_elaborated};
+ghost use Rattle.ckc_build_elaborate.specs.Statements.{alone, stmt_elaborated};
 ghost use Rattle.ckc_blame_sound.specs.Settings.{Setting};
 ghost use Rattle.ckc_blame_sound.specs.Judged.{Exits, Judged};
-ghost use Rattle.ckc_blame_walk.specs.Walks.{nesting_of, AreSmall, IsLeft, Stays, MayLeave};
+ghost use Rattle.ckc_blame_walk.specs.Walks.{nesting_of, AreSmall, IsLeft, Stays, MayLeave, leaving};
 
 /// A fact or a widening at the head of a loop names nothing that the loop assigns, and what names nothing that a statement
 /// assigns is still known after it. A fact on the range of a type names its variable, and is true of all words.
@@ -31,4 +35,20 @@ pub fn walks_are_judged()
         → Judged s rest exits there
         → Judged s (chained (stmt_elaborated s.text s.variables s.result literals after) rest)
         exits here }
+{}
+
+/// What is said of a judged expression, in any frame, is what was said of it before.
+pub fn judging_keeps_views()
+    ensures { (frame inside : Frame) (e f : NotedExpr) (fresh : ℕ) (at : State) →
+        (view frame e).judged fresh at ≡ Ok f → view inside f ≡ view inside e }
+{}
+
+/// The code of the judged body of a function is judged from its first point, in the frame that the body was judged in.
+pub fn functions_are_judged()
+    ensures { (s : Setting) (frame : Frame) (head : NotedHead) (body after : NotedStmt)
+        (literals : ℕ) → (nesting_of body).fine ≡ true
+        → s.frame ≡ function_frame frame head body → s.head ≡ head_bounds frame head
+        → body_judged frame head body ≡ Ok after
+        → Judged s (alone (stmt_elaborated s.text s.variables s.result literals after))
+        leaving (begin_in s.frame false head (first_fresh head body)) }
 {}

@@ -3,4 +3,6 @@
 
 mod laws;
 
-pub use laws::{loops_keep_their_heads, walks_are_judged};
+pub use laws::{
+    functions_are_judged, judging_keeps_views, loops_keep_their_heads, walks_are_judged,
+};
