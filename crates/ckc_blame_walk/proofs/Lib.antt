@@ -10,3 +10,8 @@ pub mod Walk
 pub mod Whole
 pub mod Functions
 pub mod Views
+pub mod Texts
+pub mod Twins
+pub mod Acts
+pub mod Again
+pub mod Frames

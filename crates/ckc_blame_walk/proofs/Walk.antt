@@ -44,7 +44,7 @@ use Rattle.ckc_blame_walk.proofs.Loops.{while_gives, for_gives}
 gives_weaker : {A : Type 0} (P Q : A → Type 0) (o : Outcome A) → ((a : A) → P a → Q a) → Gives P o → Gives Q o
 gives_weaker P Q o f h = record { made = λ a e. f a (h.made a e) }
 
-unless_nested : {A B : Type 0} (P : B → Type 0) (b : Bool) (code : ℕ) (at : Pos) (o : Outcome A) (g : A → Outcome B) → Gives P (bind o g) → Gives P (bind (unless b code at o) g)
+pub unless_nested : {A B : Type 0} (P : B → Type 0) (b : Bool) (code : ℕ) (at : Pos) (o : Outcome A) (g : A → Outcome B) → Gives P (bind o g) → Gives P (bind (unless b code at o) g)
 unless_nested P true code at o g h = record { made = λ a e. absurd (cc) }
 unless_nested P false code at o g h = h
 

@@ -7,8 +7,9 @@ use Rattle.ckc_syntax.specs.Inside.{all_have, inside_each}
 use Rattle.ckc_syntax.specs.declared.tree.Name.{Name}
 use Rattle.ckc_syntax.specs.declared.tree.Act.{Act-F, fold-Act}
 use Rattle.ckc_syntax.specs.declared.tree.Stmt.{Stmt-F, fold-Stmt}
+use Rattle.ckc_syntax.specs.declared.tree.Item.TheVariants as item
 use Rattle.ckc_typed.specs.declared.typed.Note.{Note}
-use Rattle.ckc_typed.specs.Trees.{NotedAct, NotedStmt}
+use Rattle.ckc_typed.specs.Trees.{NotedAct, NotedHead, NotedItem, NotedStmt}
 use Rattle.ckc_typed.specs.Types.{is_integer}
 use Rattle.ckc_bounds_points.specs.declared.frame.Frame.{Frame}
 use Rattle.ckc_bounds_points.specs.Frames.{local_at}
@@ -132,3 +133,8 @@ nowhere = record {
 -- Wherever control leaves a function, nothing is asked of it.
 abbrev pub leaving : Exits
 leaving = record { ends = nowhere; breaks = nowhere; continues = nowhere }
+
+-- In the body of each function of a text each statement stands where the grammar lets it.
+abbrev pub AreNested : List NotedItem → Type 0
+AreNested items =
+    (head : NotedHead) (body : NotedStmt) → Contains items (item.Function head body) → (nesting_of body).fine ≡ true

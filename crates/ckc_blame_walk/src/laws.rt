@@ -1,19 +1,22 @@
 //! What follows from the definitions alone, each the contract of a function that does nothing.
 
 ghost use Rattle.std.specs.Prelude.{◌≡◌, ℕ, true, false, List, Ok};
+ghost use Rattle.std.specs.List.{Contains};
+ghost use Rattle.ckc_syntax.specs.declared.tree.Item.TheVariants as item;
+ghost use Rattle.ckc_typed.specs.declared.typed.Typed.{Typed};
 ghost use Rattle.ckc_typed.specs.Trees.{NotedExpr, NotedHead, NotedStmt};
 ghost use Rattle.ckc_bounds_points.specs.declared.frame.Frame.{Frame};
 ghost use Rattle.ckc_bounds_points.specs.Flow.{State, less};
 ghost use Rattle.ckc_bounds_views.specs.Views.{view};
 ghost use Rattle.ckc_bounds_statements.specs.Paths.{Here, path};
-ghost use Rattle.ckc_bounds.specs.Declarations.{head_bounds};
-ghost use Rattle.ckc_bounds.specs.Frames.{begin_in, first_fresh, function_frame};
+ghost use Rattle.ckc_bounds.specs.Frames.{begin_in, first_fresh};
 ghost use Rattle.ckc_bounds.specs.Texts.{body_judged};
-ghost use Rattle.ckc_source.specs.Code.{Code, chained};
-ghost use Rattle.ckc_build_elaborate.specs.Statements.{alone, stmt_elaborated};
-ghost use Rattle.ckc_blame_sound.specs.Settings.{Setting};
+ghost use Rattle.ckc_bounds.specs.Phase.{bounding};
+ghost use Rattle.ckc_source.specs.Code.{Code, Function, chained};
+ghost use Rattle.ckc_build_elaborate.specs.Statements.{stmt_elaborated};
+ghost use Rattle.ckc_blame_sound.specs.Settings.{Setting, IsFunction, frame_of_text};
 ghost use Rattle.ckc_blame_sound.specs.Judged.{Exits, Judged};
-ghost use Rattle.ckc_blame_walk.specs.Walks.{nesting_of, AreSmall, IsLeft, Stays, MayLeave, leaving};
+ghost use Rattle.ckc_blame_walk.specs.Walks.{nesting_of, AreSmall, IsLeft, Stays, MayLeave, AreNested, leaving};
 
 /// A fact or a widening at the head of a loop names nothing that the loop assigns, and what names nothing that a statement
 /// assigns is still known after it. A fact on the range of a type names its variable, and is true of all words.
@@ -43,12 +46,20 @@ pub fn judging_keeps_views()
         (view frame e).judged fresh at ≡ Ok f → view inside f ≡ view inside e }
 {}
 
-/// The code of the judged body of a function is judged from its first point, in the frame that the body was judged in.
+/// The code of each function of a judged text is judged from its first point, where the ranges of types are all that is
+/// known.
 pub fn functions_are_judged()
-    ensures { (s : Setting) (frame : Frame) (head : NotedHead) (body after : NotedStmt)
-        (literals : ℕ) → (nesting_of body).fine ≡ true
-        → s.frame ≡ function_frame frame head body → s.head ≡ head_bounds frame head
-        → body_judged frame head body ≡ Ok after
-        → Judged s (alone (stmt_elaborated s.text s.variables s.result literals after))
-        leaving (begin_in s.frame false head (first_fresh head body)) }
+    ensures { (q p : Typed) (s : Setting) (f : Function) → bounding.Makes q p
+        → AreNested q.tree.items → (is : IsFunction p s f)
+        → Judged s f.body leaving
+        (begin_in s.frame false is.head (first_fresh is.head is.body)) }
+{}
+
+/// A judged text has the frame of the text before it was judged, and each function of it comes from one there.
+pub fn judging_keeps_frames()
+    ensures frame { (q p : Typed) → bounding.Makes q p → frame_of_text p ≡ frame_of_text q }
+    ensures function { (q p : Typed) (head : NotedHead) (body : NotedStmt) → bounding.Makes q p
+        → Contains p.tree.items (item.Function head body)
+        → (before : NotedStmt) × Contains q.tree.items (item.Function head before)
+        × (body_judged (frame_of_text p) head before ≡ Ok body) }
 {}

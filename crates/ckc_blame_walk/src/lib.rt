@@ -4,5 +4,6 @@
 mod laws;
 
 pub use laws::{
-    functions_are_judged, judging_keeps_views, loops_keep_their_heads, walks_are_judged,
+    functions_are_judged, judging_keeps_frames, judging_keeps_views, loops_keep_their_heads,
+    walks_are_judged,
 };
