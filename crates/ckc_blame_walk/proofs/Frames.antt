@@ -101,3 +101,7 @@ text_goes q p s f makes fine is =
     subst (λ (c : Code). Judged s c leaving (begin_in s.frame false is.head (first_fresh is.head is.body))) code
     (subst (λ n. Judged s (alone (stmt_elaborated s.text s.variables s.result k is.body)) leaving (begin_in s.frame false is.head n))
     (sym (fresh_same (frame_of_text p) is.head is.body b.before twin)) h)
+
+-- a judged function has the frame of the function before it was judged
+pub function_frames_same : (frame : Frame) (h : NotedHead) (before body : NotedStmt) → body_judged frame h before ≡ Ok body → function_frame frame h body ≡ function_frame frame h before
+function_frames_same frame h before body judged = frame_same frame h body before (body_twin frame h before body judged)

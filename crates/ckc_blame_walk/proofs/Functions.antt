@@ -19,7 +19,7 @@ use Rattle.ckc_blame_sound.specs.Values.{value}
 use Rattle.ckc_linear.specs.Facts.{Satisfies}
 use Rattle.ckc_blame_sound.specs.Points.{GoesTo}
 use Rattle.ckc_blame_sound.specs.Judged.{Judged}
-use Rattle.ckc_blame_walk.specs.Walks.{nesting_of, AreSmall, IsExit, nowhere, leaving}
+use Rattle.ckc_blame_walk.specs.Walks.{nesting_of, AreSmall, IsExit, empty_point, leaving}
 use Rattle.ckc_blame_walk.proofs.Codes.{goes_nowhere}
 use Rattle.ckc_blame_walk.proofs.Walk.{ranges_small}
 use Rattle.ckc_blame_walk.proofs.Whole.{statement_judged}
@@ -28,8 +28,8 @@ none_in : {X : Type 0} (x : X) → Contains {X = X} [] x → ⊥
 none_in x c = absurd (omega (arith, c.1))
 
 -- from everywhere control may go to where nothing is known
-to_nowhere : (frame : Frame) (here : Here) → GoesTo frame here nowhere
-to_nowhere frame here = record {
+to_empty : (frame : Frame) (here : Here) → GoesTo frame here empty_point
+to_empty frame here = record {
   known = λ r. record {
     reached = refl;
     facts = λ locals words h. All-nil (Satisfies (value frame locals));
@@ -38,10 +38,10 @@ to_nowhere frame here = record {
   seen = λ k c. absurd (none_in k c);
 }
 
-nowhere_exit : (frame : Frame) (ks : List ℕ) (here : Here) → IsExit frame ks here nowhere
-nowhere_exit frame ks here = record {
-  point = nowhere;
-  goes = goes_nowhere nowhere;
+empty_exit : (frame : Frame) (ks : List ℕ) (here : Here) → IsExit frame ks here empty_point
+empty_exit frame ks here = record {
+  point = empty_point;
+  goes = goes_nowhere empty_point;
   reached = λ r. refl;
   left = λ r. record { facts = λ f c. absurd (none_in f c); widened = λ p c. absurd (none_in p c) };
   seen = λ k c. absurd (none_in k c);
@@ -57,10 +57,10 @@ unfolding Judged
 body_goes s head n body after there k fine walk =
     statement_judged s body after (begin_in s.frame false head n) there k leaving _ fine refl (entry_small s.frame) walk
     (record {
-      breaks = λ b. nowhere_exit s.frame (path body).assigned (begin_in s.frame false head n);
-      continues = λ c. nowhere_exit s.frame (path body).assigned (begin_in s.frame false head n);
+      breaks = λ b. empty_exit s.frame (path body).assigned (begin_in s.frame false head n);
+      continues = λ c. empty_exit s.frame (path body).assigned (begin_in s.frame false head n);
     })
-    (to_nowhere s.frame there)
+    (to_empty s.frame there)
 
 -- The code of a judged body is judged in the frame that it was judged in.
 pub function_goes : (s : Setting) (frame : Frame) (head : NotedHead) (body after : NotedStmt) (k : ℕ) → (nesting_of body).fine ≡ true → s.frame ≡ function_frame frame head body

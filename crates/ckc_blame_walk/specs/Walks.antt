@@ -90,8 +90,8 @@ StaysWide frame p k = IfSome (local_at frame k) (λ l. widening_names frame k p 
 abbrev pub IsAlways : Frame → Fact → Type 0
 IsAlways frame f = (locals : List ℕ) → HoldWords frame locals → Satisfies (value frame locals) f
 
--- What is known at a point and is named by no assignment to these locals is known at a later one, if control comes to it;
--- and facts stay small.
+-- What is known at a point and is named by no assignment to these locals is known at a later one, if control comes to
+-- it; and facts stay small.
 pub record Stays (frame : Frame) (ks : List ℕ) (at after : State) : Type 0 where
   pub reached : after.reached ≡ true → at.reached ≡ true
   pub facts : after.reached ≡ true → (f : Fact) → is_within (2 ^ 50) f.c ≡ true → All (IsSpared frame f) ks
@@ -107,8 +107,8 @@ pub record IsLeft (frame : Frame) (ks : List ℕ) (at there : State) : Type 0 wh
       → (Contains there.facts.list f × All (IsSpared frame f) ks) ⊎ IsAlways frame f
   pub widened : (p : ℕ) → Contains at.widened p → Contains there.widened p × All (StaysWide frame p) ks
 
--- Control may leave a statement for an exit, a point past the loop around it or at its step, from any place in it: from a
--- point at which the statement is judged that has all that is known at the exit, however often these locals are assigned.
+-- Control may leave a statement for an exit, a point past the loop around it or at its step, from any place in it: the
+-- point at which the statement is judged has all that is known at the exit, however often these locals are assigned.
 pub record IsExit (frame : Frame) (ks : List ℕ) (here exit : Here) : Type 0 where
   pub point : Here
   pub goes : GoesTo frame point exit
@@ -122,8 +122,8 @@ pub record MayLeave (frame : Frame) (ks : List ℕ) (left turned : Bool) (here :
   pub continues : turned ≡ true → IsExit frame ks here exits.continues
 
 -- the point at which nothing is known and nothing is in scope
-abbrev pub nowhere : Here
-nowhere = record {
+abbrev pub empty_point : Here
+empty_point = record {
   seen = [];
   at = record { reached = true; facts = record { vars = 0; list = [] }; widened = [] };
   next = 0;
@@ -132,7 +132,7 @@ nowhere = record {
 
 -- Wherever control leaves a function, nothing is asked of it.
 abbrev pub leaving : Exits
-leaving = record { ends = nowhere; breaks = nowhere; continues = nowhere }
+leaving = record { ends = empty_point; breaks = empty_point; continues = empty_point }
 
 -- In the body of each function of a text each statement stands where the grammar lets it.
 abbrev pub AreNested : List NotedItem → Type 0

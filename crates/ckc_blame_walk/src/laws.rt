@@ -9,7 +9,7 @@ ghost use Rattle.ckc_bounds_points.specs.declared.frame.Frame.{Frame};
 ghost use Rattle.ckc_bounds_points.specs.Flow.{State, less};
 ghost use Rattle.ckc_bounds_views.specs.Views.{view};
 ghost use Rattle.ckc_bounds_statements.specs.Paths.{Here, path};
-ghost use Rattle.ckc_bounds.specs.Frames.{begin_in, first_fresh};
+ghost use Rattle.ckc_bounds.specs.Frames.{begin_in, first_fresh, function_frame};
 ghost use Rattle.ckc_bounds.specs.Texts.{body_judged};
 ghost use Rattle.ckc_bounds.specs.Phase.{bounding};
 ghost use Rattle.ckc_source.specs.Code.{Code, Function, chained};
@@ -55,11 +55,15 @@ pub fn functions_are_judged()
         (begin_in s.frame false is.head (first_fresh is.head is.body)) }
 {}
 
-/// A judged text has the frame of the text before it was judged, and each function of it comes from one there.
+/// A judged text has the frame of the text before it was judged, and each function of it comes from one there and has the
+/// frame of that one.
 pub fn judging_keeps_frames()
     ensures frame { (q p : Typed) → bounding.Makes q p → frame_of_text p ≡ frame_of_text q }
     ensures function { (q p : Typed) (head : NotedHead) (body : NotedStmt) → bounding.Makes q p
         → Contains p.tree.items (item.Function head body)
         → (before : NotedStmt) × Contains q.tree.items (item.Function head before)
         × (body_judged (frame_of_text p) head before ≡ Ok body) }
+    ensures locals { (frame : Frame) (head : NotedHead) (before body : NotedStmt) →
+        body_judged frame head before ≡ Ok body
+        → function_frame frame head body ≡ function_frame frame head before }
 {}
