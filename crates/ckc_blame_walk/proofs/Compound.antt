@@ -1,0 +1,280 @@
+-- What statements with parts leave, and that their code is judged if that of their parts is.
+use Rattle.std.proofs.Common.{◌≡◌, inl, inr, refl, sym, ap, subst, ◌∙◌, ℕ, Bool, true, false, List, [], ◌++◌, length, take, append-nil, append_assoc, rules}
+use Rattle.std.specs.Prelude.{◌||◌, ◌+◌, not, Option, None, Some, Ok}
+use Rattle.std.specs.List.{Contains}
+use Rattle.std.proofs.Math.Seq.{take-append_seam}
+use Rattle.std.proofs.lemmas.List.Elements.{Contains-append_left}
+use Rattle.ckc_base.specs.declared.places.Pos.{Pos}
+use Rattle.ckc_base.specs.declared.arithmetic.Mode.{Mode}
+use Rattle.ckc_base.specs.Outcomes.{Outcome, bind}
+use Rattle.ckc_syntax.specs.Inside.{listed, one_has, inside_if}
+use Rattle.ckc_syntax.specs.declared.tree.Name.{Name}
+use Rattle.ckc_syntax.specs.declared.tree.Act.{Act-F, map-Act, out-Act, roll-Act, fold-roll-Act, the_lemmas}
+use Rattle.ckc_syntax.specs.declared.tree.Act.TheVariants as act
+use Rattle.ckc_syntax.specs.declared.tree.Stmt.{fold-roll-Stmt}
+use Rattle.ckc_typed.specs.declared.typed.Note.{Note}
+use Rattle.ckc_typed.specs.Trees.{NotedAct, NotedExpr, NotedStmt}
+use Rattle.ckc_bounds_known.proofs.Reaching.{and_cases}
+use Rattle.ckc_bounds_points.specs.Flow.{joined}
+use Rattle.ckc_bounds_statements.specs.Paths.{Here, value_judged, side_of, Path, stated, part_judged, if_judged}
+use Rattle.ckc_source.specs.Code.{Code, If, chained}
+use Rattle.ckc_build_values.specs.Expressions.{expr_elaborated, literals_of}
+use Rattle.ckc_build_elaborate.specs.Steps.{spot}
+use Rattle.ckc_build_elaborate.specs.Statements.{Part, ActPart, one, alone, code_if, act_code, act_parts, stmt_parts, part_of, part_of_act, stmt_elaborated}
+use Rattle.ckc_blame_sound.specs.Settings.{Setting}
+use Rattle.ckc_blame_sound.specs.Points.{GoesTo}
+use Rattle.ckc_blame_sound.specs.Steps.{IsCondition}
+use Rattle.ckc_blame_sound.specs.Judged.{Exits, ending, Branches, Judged}
+use Rattle.ckc_blame_sound.proofs.Joined.{first_known, second_known}
+use Rattle.ckc_blame_walk.specs.Walks.{Nesting, is_branch, is_branch_if, AreSmall, MayLeave, Stays}
+use Rattle.ckc_blame_walk.proofs.Adds.{Adds, side_adds}
+use Rattle.ckc_blame_walk.proofs.Flow.{stays_none, stays_adding, stays_through, stays_front, stays_back}
+use Rattle.ckc_blame_walk.proofs.Heads.{stays_joined}
+use Rattle.ckc_blame_walk.proofs.Pieces.{Gives, through, nested, given, Moved, value_moves}
+use Rattle.ckc_blame_walk.proofs.Codes.{goes_nowhere, goes_through, IsCode, closed_code}
+use Rattle.ckc_blame_walk.proofs.Exits.{may_first, may_second, may_adding}
+
+-- ---- what is in scope
+
+-- The second list begins with the first.
+pub record Extends (before after : List ℕ) : Type 0 where
+  pub more : List ℕ
+  pub is : after ≡ before ++ more
+
+pub extends_none : (a b : List ℕ) → b ≡ a → Extends a b
+extends_none a b e = record { more = []; is = e ∙ sym (append-nil a) }
+
+pub extends_through : (a b c : List ℕ) → Extends a b → Extends b c → Extends a c
+extends_through a b c h g = record { more = h.more ++ g.more; is = g.is ∙ ap (λ x. x ++ g.more) h.is ∙ append_assoc a h.more g.more }
+
+pub extended_has : (a b : List ℕ) → Extends a b → (k : ℕ) → Contains a k → Contains b k
+extended_has a b h k c = subst (λ x. Contains x k) (sym h.is) (Contains-append_left a h.more k c)
+
+pub extended_front : (a b : List ℕ) → Extends a b → take (length a) b ≡ a
+extended_front a b h = ap (take (length a)) h.is ∙ take-append_seam a h.more
+
+pub same_has : (a b : List ℕ) → b ≡ a → (k : ℕ) → Contains b k → Contains a k
+same_has a b e k c = subst (λ x. Contains x k) e c
+
+-- ---- the claims
+
+-- the parts that statements mean
+abbrev pub part_if : Option NotedStmt → Option Part
+part_if None = None
+part_if (Some s) = Some (part_of s)
+
+abbrev pub assigned_if : Option Path → List ℕ
+assigned_if = inside_if listed (λ (v : Path). v.assigned)
+
+abbrev pub breaks_if : Option Path → Bool
+breaks_if = inside_if one_has (λ (v : Path). v.breaks)
+
+abbrev pub continues_if : Option Path → Bool
+continues_if = inside_if one_has (λ (v : Path). v.continues)
+
+abbrev pub fine_if : Option Nesting → Bool
+fine_if None = true
+fine_if (Some s) = s.fine
+
+abbrev pub is_plain_if : Option Nesting → Bool
+is_plain_if None = true
+is_plain_if (Some s) = s.declares || s.assigns
+
+module _ (s : Setting) where
+  -- what a judged statement leaves, and that its code leads there
+  pub record Next (ks : List ℕ) (nest : Nesting) (left turned : Bool) (here : Here) (p : NotedStmt × Here) : Type 0 where
+    pub extends : Extends here.seen p.1.seen
+    pub same : nest.declares ≡ false → p.1.seen ≡ here.seen
+    pub counting : p.1.counting ≡ here.counting
+    pub stays : Stays s.frame ks here.at p.1.at
+    pub code : here.counting ≡ false → AreSmall here.at.facts → (k : ℕ) (exits : Exits) → MayLeave s.frame ks left turned here exits
+        → IsCode s (stmt_elaborated s.text s.variables s.result k p.0) exits here p.1
+
+  -- the same of a statement that may be left out
+  pub record NextIf (ks : List ℕ) (nest : Option Nesting) (left turned : Bool) (here : Here) (p : Option NotedStmt × Here) : Type 0 where
+    pub extends : Extends here.seen p.1.seen
+    pub same : is_branch_if nest ≡ true → p.1.seen ≡ here.seen
+    pub counting : p.1.counting ≡ here.counting
+    pub stays : Stays s.frame ks here.at p.1.at
+    pub code : here.counting ≡ false → AreSmall here.at.facts → (k : ℕ) (exits : Exits) → MayLeave s.frame ks left turned here exits
+        → IsCode s (code_if (part_if p.0) s.text s.variables s.result k) exits here p.1
+
+  pub record Whole (path : Path) (nest : Nesting) : Type 0 where
+    pub judged : nest.fine ≡ true → (here : Here) → Gives (Next path.assigned nest path.breaks path.continues here) (path.judged s.frame s.head here)
+    pub plain : (nest.declares || nest.assigns) ≡ true → (path.breaks ≡ false) × (path.continues ≡ false)
+
+  pub record WholeIf (path : Option Path) (nest : Option Nesting) : Type 0 where
+    pub judged : fine_if nest ≡ true → (here : Here)
+        → Gives (NextIf (assigned_if path) nest (breaks_if path) (continues_if path) here) (part_judged s.frame s.head path here)
+    pub plain : is_plain_if nest ≡ true → (breaks_if path ≡ false) × (continues_if path ≡ false)
+
+  pub whole_none : WholeIf None None
+  whole_none = record {
+    judged = λ fine here. given (NextIf [] None false false here) (None, here) (record {
+      extends = extends_none here.seen here.seen refl;
+      same = λ e. refl;
+      counting = refl;
+      stays = stays_none s.frame [] here.at;
+      code = λ c small k exits may. inl (refl, refl);
+    });
+    plain = λ e. (refl, refl);
+  }
+
+  pub is_false : (b : Bool) → not b ≡ true → b ≡ false
+  is_false true e = absurd (cc)
+  is_false false e = refl
+
+  pub whole_some : (path : Path) (nest : Nesting) → Whole path nest → WholeIf (Some path) (Some nest)
+  whole_some path nest w = record {
+    judged = λ fine here.
+        through (NextIf path.assigned (Some nest) path.breaks path.continues here) (path.judged s.frame s.head here) (λ p. Ok (Some p.0, p.1)) (λ p is.
+        let n : Next path.assigned nest path.breaks path.continues here p = (w.judged fine here).made p is in
+        given (NextIf path.assigned (Some nest) path.breaks path.continues here) (Some p.0, p.1) (record {
+          extends = n.extends;
+          same = λ e. n.same (is_false nest.declares (and_cases nest.fine (not nest.declares) e).1);
+          counting = n.counting;
+          stays = n.stays;
+          code = n.code;
+        }));
+    plain = w.plain;
+  }
+
+  -- ---- what statements become
+
+  act_out : (x : Act-F Name Note NotedAct NotedStmt) → out-Act Name Note (roll-Act Name Note x) ≡ x
+  act_out x = search (rules, the_lemmas)
+
+  abbrev pub part_act : Act-F Name Note NotedAct NotedStmt → Act-F Name Note ActPart Part
+  part_act = map-Act Name Note NotedAct NotedStmt ActPart Part part_of_act part_of
+
+  pub code_is : (at : Pos) (note : Note) (x : Act-F Name Note NotedAct NotedStmt) (a : NotedAct) (k : ℕ) → roll-Act Name Note x ≡ a
+      → stmt_elaborated s.text s.variables s.result k (stated at note a) ≡ act_code (part_act x) at note.mode s.text s.variables s.result k
+  code_is at note x a k made =
+      ap (λ (p : Part). p.code s.text s.variables s.result k) (fold-roll-Stmt Name Note ActPart Part act_parts stmt_parts (record { body = a; pos = at; note = note }))
+      ∙ ap (λ (p : ActPart). p.code at note.mode s.text s.variables s.result k)
+      (ap part_of_act (sym made) ∙ fold-roll-Act Name Note ActPart Part act_parts stmt_parts x)
+
+  if_code : (at : Pos) (mode : Mode) (e : NotedExpr) (q : NotedStmt) (r : Option NotedStmt) (k : ℕ)
+      → act_code (part_act (Act-F.If e q r)) at mode s.text s.variables s.result k
+      ≡ one (If (spot at mode) (expr_elaborated s.text s.variables k e) (alone ((part_of q).code s.text s.variables s.result (k + literals_of e)))
+      (alone (code_if (part_if r) s.text s.variables s.result (k + literals_of e + (part_of q).literals))))
+  if_code at mode e q None k = refl
+  if_code at mode e q (Some r) k = refl
+
+  -- ---- an `if`
+
+  module _ (at : Pos) (note : Note) (e : NotedExpr) (path : Path) (nest : Nesting) (w : Whole path nest) (path2 : Option Path) (nest2 : Option Nesting) (w2 : WholeIf path2 nest2)
+      (one_branch : is_branch nest ≡ true) (other_branch : is_branch_if nest2 ≡ true) (mine : Nesting) (here : Here) where
+    abbrev ks : List ℕ
+    ks = path.assigned
+
+    abbrev js : List ℕ
+    js = assigned_if path2
+
+    module _ (v : NotedExpr × Here) (is : value_judged s.frame e here ≡ Ok v) where
+      moved : Moved here v.1
+      moved = (value_moves s.frame e here).made v is
+
+      abbrev yes : Here
+      yes = record v.1 { at = side_of s.frame true v.0 v.1.at }
+
+      abbrev no : Here
+      no = record v.1 { at = side_of s.frame false v.0 v.1.at }
+
+      adds : (b : Bool) → Adds here.at (side_of s.frame b v.0 v.1.at)
+      unfolding side_of
+      adds b = subst (λ a. Adds a (side_of s.frame b v.0 v.1.at)) moved.at (side_adds s.frame v.0 b v.1.at)
+
+      if_condition : (k : ℕ) → IsCondition s here (expr_elaborated s.text s.variables k v.0) yes no
+      if_condition k = record {
+        before = Some e;
+        after = Some v.0;
+        literals = k;
+        behind = v.1;
+        judged = ap (λ (o : Outcome (NotedExpr × Here)). bind o (λ p. Ok (Some p.0, p.1))) is;
+        becomes = refl;
+        true_side = refl;
+        false_side = refl;
+      }
+
+      module _ (q : NotedStmt × Here) (first : Next ks nest path.breaks path.continues yes q) where
+        abbrev other : Here
+        other = record q.1 { at = side_of s.frame false v.0 v.1.at }
+
+        seen_first : q.1.seen ≡ here.seen
+        seen_first = first.same (is_false nest.declares (and_cases nest.fine (not nest.declares) one_branch).1) ∙ moved.seen
+
+        module _ (r : Option NotedStmt × Here) (second : NextIf js nest2 (breaks_if path2) (continues_if path2) other r) where
+          abbrev there : Here
+          there = record r.1 { at = joined q.1.at r.1.at }
+
+          seen_second : r.1.seen ≡ q.1.seen
+          seen_second = second.same other_branch
+
+          if_stays : Stays s.frame (ks ++ js) here.at (joined q.1.at r.1.at)
+          if_stays =
+              stays_joined s.frame (ks ++ js) here.at q.1.at r.1.at
+              (stays_front s.frame ks js here.at q.1.at (stays_through s.frame [] ks here.at yes.at q.1.at (stays_adding s.frame here.at yes.at (adds true)) first.stays))
+              (stays_back s.frame ks js here.at r.1.at (stays_through s.frame [] js here.at other.at r.1.at (stays_adding s.frame here.at other.at (adds false)) second.stays))
+
+          module _ (count : here.counting ≡ false) (small : AreSmall here.at.facts) (k : ℕ) (exits : Exits)
+              (may : MayLeave s.frame (ks ++ js) (path.breaks || breaks_if path2) (path.continues || continues_if path2) here exits) (next : Here) (rest : Code)
+              (goes : GoesTo s.frame there next) (behind : Judged s rest exits next) where
+            abbrev branches : Branches
+            branches = record { yes = yes; no = no; other = other; behind = next }
+
+            one_ends : GoesTo s.frame q.1 next
+            one_ends = goes_through q.1 there next (record { known = λ reached. first_known s.frame q.1.at r.1.at reached; seen = λ k c. same_has q.1.seen r.1.seen seen_second k c }) goes
+
+            two_ends : GoesTo s.frame r.1 next
+            two_ends = goes_through r.1 there next (record { known = λ reached. second_known s.frame q.1.at r.1.at reached; seen = λ k c. c }) goes
+
+            one_may : MayLeave s.frame ks path.breaks path.continues yes (ending exits next)
+            one_may =
+                may_adding s.frame ks path.breaks path.continues here yes (ending exits next) (adds true) (same_has yes.seen here.seen (sym moved.seen))
+                (may_first s.frame ks js path.breaks (breaks_if path2) path.continues (continues_if path2) here (ending exits next) (record { breaks = may.breaks; continues = may.continues }))
+
+            two_may : MayLeave s.frame js (breaks_if path2) (continues_if path2) other (ending exits next)
+            two_may =
+                may_adding s.frame js (breaks_if path2) (continues_if path2) here other (ending exits next) (adds false) (same_has other.seen here.seen (sym seen_first))
+                (may_second s.frame ks js path.breaks (breaks_if path2) path.continues (continues_if path2) here (ending exits next) (record { breaks = may.breaks; continues = may.continues }))
+
+            if_judged_code : Judged s (If (spot at note.mode) (expr_elaborated s.text s.variables k v.0) (alone ((part_of q.0).code s.text s.variables s.result (k + literals_of v.0)))
+                (alone (code_if (part_if r.0) s.text s.variables s.result (k + literals_of v.0 + (part_of q.0).literals))) rest) exits here
+            unfolding Judged
+            if_judged_code = (
+              branches,
+              if_condition k,
+              closed_code s (stmt_elaborated s.text s.variables s.result (k + literals_of v.0) q.0) (ending exits next) yes q.1 one_ends
+                  (first.code (moved.counting ∙ count) ((adds true).more.small small) (k + literals_of v.0) (ending exits next) one_may),
+              record { known = λ reached. (goes_nowhere no).known reached; seen = λ k c. same_has no.seen q.1.seen (seen_first ∙ sym moved.seen) k c },
+              closed_code s (code_if (part_if r.0) s.text s.variables s.result (k + literals_of v.0 + (part_of q.0).literals)) (ending exits next) other r.1 two_ends
+                  (second.code (first.counting ∙ moved.counting ∙ count) ((adds false).more.small small) (k + literals_of v.0 + (part_of q.0).literals) (ending exits next) two_may),
+              behind,
+            )
+
+          if_next : Next (ks ++ js) mine (path.breaks || breaks_if path2) (path.continues || continues_if path2) here (stated at note (act.If v.0 q.0 r.0), there)
+          if_next = record {
+            extends = extends_none here.seen r.1.seen (seen_second ∙ seen_first);
+            same = λ d. seen_second ∙ seen_first;
+            counting = second.counting ∙ first.counting ∙ moved.counting;
+            stays = if_stays;
+            code = λ count small k exits may. inr (λ next rest goes behind.
+                subst (λ fs. Judged s (chained fs rest) exits here)
+                (sym (code_is at note (Act-F.If v.0 q.0 r.0) (act.If v.0 q.0 r.0) k (act.rolls-If v.0 q.0 r.0) ∙ if_code at note.mode v.0 q.0 r.0 k))
+                (if_judged_code count small k exits may next rest goes behind));
+          }
+
+    pub if_gives : Gives (Next (ks ++ js) mine (path.breaks || breaks_if path2) (path.continues || continues_if path2) here) (if_judged s.frame s.head at note e path path2 here)
+    if_gives =
+        nested (Next (ks ++ js) mine (path.breaks || breaks_if path2) (path.continues || continues_if path2) here) (value_judged s.frame e here) _ _ (λ v is.
+        through (Next (ks ++ js) mine (path.breaks || breaks_if path2) (path.continues || continues_if path2) here) (path.judged s.frame s.head (yes v is)) _ (λ q one_is.
+        through (Next (ks ++ js) mine (path.breaks || breaks_if path2) (path.continues || continues_if path2) here) (part_judged s.frame s.head path2 (record q.1 { at = side_of s.frame false v.0 v.1.at })) _ (λ r two_is.
+        let first : Next ks nest path.breaks path.continues (yes v is) q = (w.judged (and_cases nest.fine (not nest.declares) one_branch).0 (yes v is)).made q one_is in
+        let second = (w2.judged (branch_fine nest2 other_branch) (record q.1 { at = side_of s.frame false v.0 v.1.at })).made r two_is in
+        given (Next (ks ++ js) mine (path.breaks || breaks_if path2) (path.continues || continues_if path2) here)
+        (stated at note (act.If v.0 q.0 r.0), record r.1 { at = joined q.1.at r.1.at }) (if_next v is q first r second))))
+      where
+        branch_fine : (n : Option Nesting) → is_branch_if n ≡ true → fine_if n ≡ true
+        branch_fine None h = refl
+        branch_fine (Some n) h = (and_cases n.fine (not n.declares) h).0

@@ -1,0 +1,107 @@
+-- A judged function has the frame of the function before it was judged, so its code is judged from its first point.
+use Rattle.std.proofs.Common.{◌≡◌, refl, sym, ap, subst, ◌∙◌, ℕ, suc, ◌+◌, Bool, true, false, List, [], ◌∷◌, ◌++◌, map, length}
+use Rattle.std.specs.Prelude.{◌-◌, if◌then◌else◌, Ok, Err}
+use Rattle.ckc_base.specs.Outcomes.{Outcome}
+use Rattle.ckc_base.proofs.Outcomes.{made_of}
+use Rattle.ckc_typed.specs.declared.typed.Typed.{Typed}
+use Rattle.ckc_typed.specs.Trees.{NotedDecl, NotedHead, NotedStmt}
+use Rattle.ckc_bounds_points.specs.declared.frame.Local.{Local}
+use Rattle.ckc_bounds_points.specs.declared.frame.HeadBounds.{HeadBounds}
+use Rattle.ckc_bounds_points.specs.declared.frame.Frame.{Frame}
+use Rattle.ckc_bounds_statements.specs.Paths.{Here, path}
+use Rattle.ckc_bounds.specs.Declarations.{local_made, with_all, with_locals, types_in, declared_in, head_bounds}
+use Rattle.ckc_bounds.specs.Frames.{all_of, begin_in, begin_of, needed_from, fresh_needed, with_nameless, locals_frame, first_fresh, function_frame}
+use Rattle.ckc_bounds.specs.Texts.{body_judged}
+use Rattle.ckc_bounds.specs.Phase.{bounding}
+use Rattle.ckc_source.specs.Code.{Code, Function}
+use Rattle.ckc_build_elaborate.specs.Functions.{literals_of_head}
+use Rattle.ckc_build_elaborate.specs.Statements.{alone, stmt_elaborated}
+use Rattle.ckc_blame_sound.specs.Settings.{Setting, frame_of_text, setting_of, IsFunction}
+use Rattle.ckc_blame_sound.specs.Judged.{Judged}
+use Rattle.ckc_blame_walk.specs.Walks.{AreNested, leaving}
+use Rattle.ckc_blame_walk.proofs.Twins.{Agree, SameHere, bare, Twin}
+use Rattle.ckc_blame_walk.proofs.Acts.{bare_both}
+use Rattle.ckc_blame_walk.proofs.Again.{stmt_again}
+use Rattle.ckc_blame_walk.proofs.Texts.{Before, SameText, text_same}
+use Rattle.ckc_blame_walk.proofs.Functions.{function_goes}
+
+-- ---- a frame reads no initialiser
+
+local_bare : (frame : Frame) (b : Bool) (k : ℕ) (d : NotedDecl) → local_made frame b k (bare d) ≡ local_made frame b k d
+local_bare frame true k d = refl
+local_bare frame false k d = refl
+
+all_bare : (frame : Frame) (b : Bool) (ls : List Local) (ds : List NotedDecl) → with_all frame b ls (map bare ds) ≡ with_all frame b ls ds
+all_bare frame b ls [] = refl
+all_bare frame b ls (d ∷ ds) =
+    ap (λ l. with_all frame b (ls ++ l ∷ []) (map bare ds)) (local_bare frame b (length ls) d) ∙ all_bare frame b (ls ++ local_made frame b (length ls) d ∷ []) ds
+
+all_same : (frame : Frame) (b : Bool) (ds es : List NotedDecl) → map bare ds ≡ map bare es → with_all frame b [] ds ≡ with_all frame b [] es
+all_same frame b ds es e = sym (all_bare frame b [] ds) ∙ ap (with_all frame b []) e ∙ all_bare frame b [] es
+
+declared_same : (frame : Frame) (ds es : List NotedDecl) → map bare ds ≡ map bare es → declared_in frame ds ≡ declared_in frame es
+declared_same frame ds es e =
+    ap (λ ls. with_all (with_locals frame ls) true [] ds) (all_same frame false ds es e) ∙ all_same (types_in frame es) true ds es e
+
+as_many : (ds : List NotedDecl) → length (map bare ds) ≡ length ds
+as_many [] = refl
+as_many (d ∷ ds) = ap suc (as_many ds)
+
+needed_same : (n : ℕ) (o q : Outcome (NotedStmt × Here)) → Agree SameHere o q → needed_from n o ≡ needed_from n q
+needed_same n (Ok p) (Ok q) h = ap (λ (x : Here). x.next - n) h.0
+needed_same n (Err p) (Err q) h = refl
+needed_same n (Ok p) (Err q) h = absurd h
+needed_same n (Err p) (Ok q) h = absurd h
+
+module _ (frame : Frame) (h : NotedHead) (after before : NotedStmt) (twin : Twin (path after) (path before)) where
+  declared_bare : map bare (all_of h after) ≡ map bare (all_of h before)
+  declared_bare = bare_both h.params h.params (path after).declared (path before).declared refl twin.declared
+
+  pub fresh_same : first_fresh h after ≡ first_fresh h before
+  fresh_same = sym (as_many (all_of h after)) ∙ ap length declared_bare ∙ as_many (all_of h before)
+
+  locals_same : locals_frame frame h after ≡ locals_frame frame h before
+  locals_same = ap (with_locals frame) (declared_same frame (all_of h after) (all_of h before) declared_bare)
+
+  needs : (inside : Frame) (head : HeadBounds) (n : ℕ) → fresh_needed inside head h after n ≡ fresh_needed inside head h before n
+  needs inside head n =
+      ap (λ b. if b then needed_from n ((path after).judged inside head (begin_in inside true h n)) else 0) (twin.may_need inside)
+      ∙ ap (λ m. if (path before).may_need inside then m else 0)
+      (needed_same n ((path after).judged inside head (begin_in inside true h n)) ((path before).judged inside head (begin_in inside true h n)) (twin.judged inside head (begin_in inside true h n) refl))
+
+  pub frame_same : function_frame frame h after ≡ function_frame frame h before
+  frame_same =
+      let head = head_bounds frame h in
+      ap (λ g. with_nameless (fresh_needed g head h after (first_fresh h after)) g) locals_same
+      ∙ ap (λ n. with_nameless (fresh_needed (locals_frame frame h before) head h after n) (locals_frame frame h before)) fresh_same
+      ∙ ap (λ m. with_nameless m (locals_frame frame h before)) (needs (locals_frame frame h before) head (first_fresh h before))
+
+-- what a body becomes is its twin
+body_twin : (frame : Frame) (h : NotedHead) (before after : NotedStmt) → body_judged frame h before ≡ Ok after → Twin (path after) (path before)
+body_twin frame h before after judged =
+    let walk = made_of ((path before).judged (function_frame frame h before) (head_bounds frame h) (begin_of frame h before)) (λ p. Ok p.0) after judged in
+    let same : walk.0.0 ≡ after = cc in
+    subst (λ (x : NotedStmt). Twin (path x) (path before)) same (((stmt_again (function_frame frame h before) before).judged (head_bounds frame h) (begin_of frame h before)).made walk.0 walk.1)
+
+-- the code of a function of a judged text
+pub text_goes : (q p : Typed) (s : Setting) (f : Function) → bounding.Makes q p → AreNested q.tree.items → (is : IsFunction p s f)
+    → Judged s f.body leaving (begin_in s.frame false is.head (first_fresh is.head is.body))
+unfolding setting_of
+text_goes q p s f makes fine is =
+    let same : SameText q p = text_same q p makes in
+    let b : Before (frame_of_text p) q.tree.items is.head is.body = same.function is.head is.body is.there in
+    let twin : Twin (path is.body) (path b.before) = body_twin (frame_of_text p) is.head b.before is.body b.judged in
+    let frame_is : s.frame ≡ function_frame (frame_of_text p) is.head b.before =
+    ap (λ (x : Setting). x.frame) is.judged ∙ frame_same (frame_of_text p) is.head is.body b.before twin in
+    let head_is : s.head ≡ head_bounds (frame_of_text p) is.head = ap (λ (x : Setting). x.head) is.judged in
+    let k : ℕ = is.literals + literals_of_head is.head in
+    let code : alone (stmt_elaborated s.text s.variables s.result k is.body) ≡ f.body =
+    ap (λ (x : Setting). alone (stmt_elaborated x.text x.variables x.result k is.body)) is.judged ∙ sym (ap (λ (x : Function). x.body) is.runs) in
+    let h = function_goes s (frame_of_text p) is.head b.before is.body k (fine is.head b.before b.there) frame_is head_is b.judged in
+    subst (λ (c : Code). Judged s c leaving (begin_in s.frame false is.head (first_fresh is.head is.body))) code
+    (subst (λ n. Judged s (alone (stmt_elaborated s.text s.variables s.result k is.body)) leaving (begin_in s.frame false is.head n))
+    (sym (fresh_same (frame_of_text p) is.head is.body b.before twin)) h)
+
+-- a judged function has the frame of the function before it was judged
+pub function_frames_same : (frame : Frame) (h : NotedHead) (before body : NotedStmt) → body_judged frame h before ≡ Ok body → function_frame frame h body ≡ function_frame frame h before
+function_frames_same frame h before body judged = frame_same frame h body before (body_twin frame h before body judged)

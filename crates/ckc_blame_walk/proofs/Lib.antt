@@ -1,0 +1,16 @@
+pub mod Adds
+pub mod Flow
+pub mod Heads
+pub mod Pieces
+pub mod Codes
+pub mod Exits
+pub mod Compound
+pub mod Loops
+pub mod Walk
+pub mod Whole
+pub mod Functions
+pub mod Texts
+pub mod Twins
+pub mod Acts
+pub mod Again
+pub mod Frames

@@ -1,0 +1,376 @@
+-- What loops leave, and that their code is judged if that of their parts is.
+use Rattle.std.proofs.Common.{◌≡◌, inr, refl, sym, ap, subst, ◌∙◌, ℕ, Bool, true, false, List, [], ◌++◌, length, append-nil}
+use Rattle.std.specs.Prelude.{◌||◌, ◌+◌, not, Option, None, Some, Ok}
+use Rattle.std.specs.List.{Contains}
+use Rattle.ckc_base.specs.declared.places.Pos.{Pos}
+use Rattle.ckc_base.specs.declared.arithmetic.Mode.{Mode}
+use Rattle.ckc_base.specs.Outcomes.{Outcome, bind}
+use Rattle.ckc_syntax.specs.declared.tree.Act.{Act-F}
+use Rattle.ckc_syntax.specs.declared.tree.Act.TheVariants as act
+use Rattle.ckc_typed.specs.declared.typed.Note.{Note}
+use Rattle.ckc_typed.specs.Trees.{NotedExpr, NotedStmt}
+use Rattle.ckc_bounds_known.proofs.Reaching.{and_cases}
+use Rattle.ckc_bounds_points.specs.declared.frame.Frame.{Frame}
+use Rattle.ckc_bounds_points.specs.Flow.{State}
+use Rattle.ckc_bounds_statements.specs.Paths.{Here, value_judged, maybe_judged, side_of, maybe_side, other_side, maybe_other, Path, stated, part_judged, closed, loop_head, while_judged, maybe_point, to_step, for_judged}
+use Rattle.ckc_source.specs.Code.{Code, End, Loop, chained}
+use Rattle.ckc_build_values.specs.Expressions.{expr_elaborated, literals_of}
+use Rattle.ckc_build_elaborate.specs.Literals.{literals_of_value}
+use Rattle.ckc_build_elaborate.specs.Steps.{spot, condition}
+use Rattle.ckc_build_elaborate.specs.Statements.{one, alone, code_if, literals_if, turns, act_code, part_of, stmt_elaborated}
+use Rattle.ckc_blame_sound.specs.Settings.{Setting}
+use Rattle.ckc_blame_sound.specs.Points.{IsKnown, GoesTo}
+use Rattle.ckc_blame_sound.specs.Steps.{IsCondition}
+use Rattle.ckc_blame_sound.specs.Judged.{Exits, Turns, in_body, in_step, Judged}
+use Rattle.ckc_blame_sound.proofs.Joined.{less_known}
+use Rattle.ckc_blame_walk.specs.Walks.{Nesting, is_branch, begins, steps, AreSmall, IsLeft, IsExit, MayLeave, Stays}
+use Rattle.ckc_blame_walk.proofs.Adds.{Adds, adds_none, side_adds}
+use Rattle.ckc_blame_walk.proofs.Flow.{stays_adding, stays_through, stays_back, stays_less}
+use Rattle.ckc_blame_walk.proofs.Pieces.{Gives, through, nested, given, Moved, value_moves, maybe_moves}
+use Rattle.ckc_blame_walk.proofs.Codes.{goes_nowhere, goes_through, IsCode, both_code, closed_code}
+use Rattle.ckc_blame_walk.proofs.Exits.{known_before, left_back, exit_front, exit_after, exit_end, loop_left, may_not}
+use Rattle.ckc_blame_walk.proofs.Compound.{Extends, extends_none, extends_through, extended_has, extended_front, same_has, part_if, assigned_if, breaks_if, continues_if, fine_if, is_plain_if, Next, NextIf, Whole, WholeIf, is_false, part_act, code_is}
+
+-- ---- the sides of a condition that may be left out
+
+module _ (frame : Frame) where
+  pub maybe_adds : (b : Bool) (e : Option NotedExpr) (at : State) → Adds at (maybe_side frame b e at)
+  unfolding side_of
+  maybe_adds b None at = adds_none at
+  maybe_adds b (Some e) at = side_adds frame e b at
+
+  -- the point after a loop, if a `break` leaves it and if none does
+  pub other_adds : (left : Bool) (e : Option NotedExpr) (at : State) → Adds at (maybe_other frame left e at)
+  unfolding side_of
+  other_adds left None at = adds_none at
+  other_adds true (Some e) at = adds_none at
+  other_adds false (Some e) at = side_adds frame e false at
+
+  pub left_other : (left : Bool) (e : Option NotedExpr) (at : State) → left ≡ true → maybe_other frame left e at ≡ at
+  left_other left None at h = refl
+  left_other true (Some e) at h = refl
+  left_other false (Some e) at h = absurd (cc)
+
+  -- Control goes from the false side of the condition to the point after the loop.
+  pub side_known : (left : Bool) (e : Option NotedExpr) (at : State) → (maybe_side frame false e at).reached ≡ true → IsKnown frame (maybe_side frame false e at) (maybe_other frame left e at)
+  unfolding side_of
+  side_known left None at reached = record { reached = reached; facts = λ locals words h. h; widened = λ k c. c }
+  side_known true (Some e) at reached = known_before frame at (side_of frame false e at) (sym (side_adds frame e false at).reached ∙ reached) (side_adds frame e false at)
+  side_known false (Some e) at reached = record { reached = reached; facts = λ locals words h. h; widened = λ k c. c }
+
+  pub stays_more : (ks : List ℕ) (a b c : State) → Stays frame ks a b → Adds b c → Stays frame ks a c
+  stays_more ks a b c h g = subst (λ xs. Stays frame xs a c) (append-nil ks) (stays_through frame ks [] a b c h (stays_adding frame b c g))
+
+module _ (s : Setting) where
+  -- ---- a `while`
+
+  module _ (at : Pos) (note : Note) (e : NotedExpr) (path : Path) (nest : Nesting) (w : Whole s path nest) (branch : is_branch nest ≡ true) (mine : Nesting) (left turned : Bool) (here : Here) where
+    abbrev ks : List ℕ
+    ks = path.assigned
+
+    abbrev head : Here
+    head = loop_head s.frame ks here
+
+    module _ (v : NotedExpr × Here) (is : value_judged s.frame e head ≡ Ok v) where
+      moved : Moved head v.1
+      moved = (value_moves s.frame e head).made v is
+
+      abbrev yes : Here
+      yes = record v.1 { at = side_of s.frame true v.0 v.1.at }
+
+      abbrev no : Here
+      no = record v.1 { at = side_of s.frame false v.0 v.1.at }
+
+      yes_adds : Adds head.at yes.at
+      yes_adds = subst (λ a. Adds a yes.at) moved.at (maybe_adds s.frame true (Some v.0) v.1.at)
+
+      while_condition : (k : ℕ) → IsCondition s head (expr_elaborated s.text s.variables k v.0) yes no
+      while_condition k = record {
+        before = Some e;
+        after = Some v.0;
+        literals = k;
+        behind = v.1;
+        judged = ap (λ (o : Outcome (NotedExpr × Here)). bind o (λ p. Ok (Some p.0, p.1))) is;
+        becomes = refl;
+        true_side = refl;
+        false_side = refl;
+      }
+
+      -- a point at which the loop's head is known
+      head_exit : (x exit : Here) → x.at ≡ head.at → ((k : ℕ) → Contains x.seen k → Contains yes.seen k) → GoesTo s.frame x exit → IsExit s.frame ks yes exit
+      head_exit x exit same seen goes = record {
+        point = x;
+        goes = goes;
+        reached = λ r. ap (λ (a : State). a.reached) same ∙ sym yes_adds.reached ∙ r;
+        left = λ r. subst (λ a. IsLeft s.frame ks a yes.at) (sym same) (loop_left s.frame ks here.at yes.at yes_adds r);
+        seen = seen;
+      }
+
+      module _ (q : NotedStmt × Here) (body : Next s ks nest path.breaks path.continues yes q) where
+        abbrev there : Here
+        there = record q.1 { at = other_side s.frame path.breaks v.0 v.1.at }
+
+        seen_body : q.1.seen ≡ v.1.seen
+        seen_body = body.same (is_false s nest.declares (and_cases nest.fine (not nest.declares) branch).1)
+
+        module _ (count : here.counting ≡ false) (small : AreSmall here.at.facts) (k : ℕ) (next : Here) (goes : GoesTo s.frame there next) where
+          abbrev points : Turns
+          points = record { head = head; yes = yes; no = no; step = head; behind = next }
+
+          yes_small : AreSmall yes.at.facts
+          yes_small = yes_adds.more.small ((stays_less s.frame ks here.at).small small)
+
+          to_head : IsExit s.frame ks yes head
+          to_head = head_exit head head refl (same_has yes.seen here.seen (sym moved.seen)) (goes_nowhere head)
+
+          body_may : MayLeave s.frame ks path.breaks path.continues yes (in_body points)
+          body_may = record {
+            breaks = λ b. head_exit there next (left_other s.frame path.breaks (Some v.0) v.1.at b ∙ moved.at) (same_has yes.seen q.1.seen seen_body) goes;
+            continues = λ c. to_head;
+          }
+
+          while_judged_code : (exits : Exits) (rest : Code) → Judged s rest exits next
+              → Judged s (Loop (spot at note.mode) (expr_elaborated s.text s.variables k v.0) (alone ((part_of q.0).code s.text s.variables s.result (k + literals_of v.0))) End rest) exits here
+          unfolding Judged
+          while_judged_code exits rest behind = (
+            points,
+            record { known = λ reached. less_known s.frame ks here.at reached; seen = λ k c. c },
+            (
+              while_condition k,
+              goes_through no there next (record { known = λ reached. side_known s.frame path.breaks (Some v.0) v.1.at reached; seen = λ k c. same_has no.seen q.1.seen seen_body k c }) goes,
+              closed_code s (stmt_elaborated s.text s.variables s.result (k + literals_of v.0) q.0) (in_body points) yes q.1
+                  (exit_end s.frame ks yes q.1 head yes_small body.stays (extended_has yes.seen q.1.seen body.extends) to_head)
+                  (body.code (moved.counting ∙ count) yes_small (k + literals_of v.0) (in_body points) body_may),
+              goes_nowhere head,
+            ),
+            behind,
+          )
+
+        while_next : Next s ks mine left turned here (stated at note (act.While v.0 q.0), there)
+        while_next = record {
+          extends = extends_none here.seen q.1.seen (seen_body ∙ moved.seen);
+          same = λ d. seen_body ∙ moved.seen;
+          counting = body.counting ∙ moved.counting;
+          stays = stays_more s.frame ks here.at v.1.at there.at (subst (λ a. Stays s.frame ks here.at a) (sym moved.at) (stays_less s.frame ks here.at)) (other_adds s.frame path.breaks (Some v.0) v.1.at);
+          code = λ count small k exits may. inr (λ next rest goes behind.
+              subst (λ fs. Judged s (chained fs rest) exits here) (sym (code_is s at note (Act-F.While v.0 q.0) (act.While v.0 q.0) k (act.rolls-While v.0 q.0)))
+              (while_judged_code count small k next goes exits rest behind));
+        }
+
+    pub while_gives : Gives (Next s ks mine left turned here) (while_judged s.frame s.head at note e path here)
+    while_gives =
+        nested (Next s ks mine left turned here) (value_judged s.frame e head) _ _ (λ v is.
+        through (Next s ks mine left turned here) (path.judged s.frame s.head (yes v is)) _ (λ q body_is.
+        given (Next s ks mine left turned here) (stated at note (act.While v.0 q.0), record q.1 { at = other_side s.frame path.breaks v.0 v.1.at })
+        (while_next v is q ((w.judged (and_cases nest.fine (not nest.declares) branch).0 (yes v is)).made q body_is))))
+
+  -- ---- a `for`
+
+  for_code : (at : Pos) (mode : Mode) (a : Option NotedStmt) (c : Option NotedExpr) (t : Option NotedStmt) (u : NotedStmt) (k : ℕ)
+      → act_code (part_act s (Act-F.For a c t u)) at mode s.text s.variables s.result k
+      ≡ code_if (part_if a) s.text s.variables s.result k ++ one (turns s.text s.variables s.result (spot at mode) (k + literals_if (part_if a)) c (part_if t) (part_of u))
+  for_code at mode None c None u k = refl
+  for_code at mode None c (Some t) u k = refl
+  for_code at mode (Some a) c None u k = refl
+  for_code at mode (Some a) c (Some t) u k = refl
+
+  module _ (at : Pos) (note : Note) (init : Option Path) (init_nest : Option Nesting) (wi : WholeIf s init init_nest) (begin : begins init_nest ≡ true) (e : Option NotedExpr)
+      (step : Option Path) (step_nest : Option Nesting) (ws : WholeIf s step step_nest) (stepping : steps step_nest ≡ true)
+      (path : Path) (nest : Nesting) (w : Whole s path nest) (branch : is_branch nest ≡ true) (mine : Nesting) (left turned : Bool) (es : List ℕ) (here : Here) where
+    abbrev is : List ℕ
+    is = assigned_if init
+
+    abbrev us : List ℕ
+    us = path.assigned
+
+    abbrev ts : List ℕ
+    ts = assigned_if step
+
+    begins_plain : (n : Option Nesting) → begins n ≡ true → (fine_if n ≡ true) × (is_plain_if n ≡ true)
+    begins_plain None h = (refl, refl)
+    begins_plain (Some n) h = and_cases n.fine (n.declares || n.assigns) h
+
+    steps_plain : (n : Option Nesting) → steps n ≡ true → (fine_if n ≡ true) × (is_plain_if n ≡ true)
+    steps_plain None h = (refl, refl)
+    steps_plain (Some n) h = let g = and_cases n.fine n.assigns h in (g.0, by n.declares n.assigns g.1)
+      where
+        by : (a b : Bool) → b ≡ true → (a || b) ≡ true
+        by true b h = refl
+        by false b h = h
+
+    module _ (p : Option NotedStmt × Here) (first : NextIf s is init_nest (breaks_if init) (continues_if init) here p) where
+      abbrev for_head : Here
+      for_head = loop_head s.frame (us ++ ts) p.1
+
+      module _ (v : Option NotedExpr × Here) (judged : maybe_judged s.frame e for_head ≡ Ok v) where
+        for_moved : Moved for_head v.1
+        for_moved = (maybe_moves s.frame e for_head).made v judged
+
+        abbrev for_yes : Here
+        for_yes = record v.1 { at = maybe_side s.frame true v.0 v.1.at }
+
+        abbrev for_no : Here
+        for_no = record v.1 { at = maybe_side s.frame false v.0 v.1.at }
+
+        for_adds : Adds for_head.at for_yes.at
+        for_adds = subst (λ a. Adds a for_yes.at) for_moved.at (maybe_adds s.frame true v.0 v.1.at)
+
+        for_condition : (k : ℕ) → IsCondition s for_head (condition s.text s.variables k v.0) for_yes for_no
+        for_condition k = record { before = e; after = v.0; literals = k; behind = v.1; judged = judged; becomes = refl; true_side = refl; false_side = refl }
+
+        for_exit : (x exit : Here) → x.at ≡ for_head.at → ((k : ℕ) → Contains x.seen k → Contains for_yes.seen k) → GoesTo s.frame x exit → IsExit s.frame (us ++ ts) for_yes exit
+        for_exit x exit same seen goes = record {
+          point = x;
+          goes = goes;
+          reached = λ r. ap (λ (a : State). a.reached) same ∙ sym for_adds.reached ∙ r;
+          left = λ r. subst (λ a. IsLeft s.frame (us ++ ts) a for_yes.at) (sym same) (loop_left s.frame (us ++ ts) p.1.at for_yes.at for_adds r);
+          seen = seen;
+        }
+
+        module _ (q : NotedStmt × Here) (body : Next s us nest path.breaks path.continues for_yes q) where
+          for_seen : q.1.seen ≡ v.1.seen
+          for_seen = body.same (is_false s nest.declares (and_cases nest.fine (not nest.declares) branch).1)
+
+          -- where the step begins
+          abbrev step_at : Bool → Here
+          step_at b = to_step (maybe_point b v.1.at) q.1
+
+          step_seen : (b : Bool) → (step_at b).seen ≡ q.1.seen
+          step_seen true = refl
+          step_seen false = refl
+
+          step_counting : (b : Bool) → (step_at b).counting ≡ q.1.counting
+          step_counting true = refl
+          step_counting false = refl
+
+          module _ (small : AreSmall p.1.at.facts) where
+            head_small : AreSmall for_head.at.facts
+            head_small = (stays_less s.frame (us ++ ts) p.1.at).small small
+
+            for_small : AreSmall for_yes.at.facts
+            for_small = for_adds.more.small head_small
+
+            step_small : (b : Bool) → AreSmall (step_at b).at.facts
+            step_small true = subst (λ (a : State). AreSmall a.facts) (sym for_moved.at) head_small
+            step_small false = body.stays.small for_small
+
+            step_exit : IsExit s.frame us for_yes (step_at true)
+            step_exit = exit_front s.frame us ts for_yes (step_at true) (for_exit (step_at true) (step_at true) for_moved.at (same_has for_yes.seen q.1.seen for_seen) (goes_nowhere (step_at true)))
+
+            -- the end of the body goes to the step
+            to_the_step : (b : Bool) → GoesTo s.frame q.1 (step_at b)
+            to_the_step true = exit_end s.frame us for_yes q.1 (step_at true) for_small body.stays (extended_has for_yes.seen q.1.seen body.extends) step_exit
+            to_the_step false = goes_nowhere q.1
+
+            -- and the step to the head
+            head_left : IsExit s.frame (us ++ ts) for_yes for_head
+            head_left = for_exit for_head for_head refl (same_has for_yes.seen for_head.seen (sym for_moved.seen)) (goes_nowhere for_head)
+
+            head_after : (b : Bool) → IsExit s.frame ts (step_at b) for_head
+            head_after true = record {
+              point = for_head;
+              goes = goes_nowhere for_head;
+              reached = λ r. ap (λ (a : State). a.reached) (sym for_moved.at) ∙ r;
+              left = λ r. subst (λ a. IsLeft s.frame ts for_head.at a) (sym for_moved.at)
+                  (left_back s.frame us ts for_head.at for_head.at (loop_left s.frame (us ++ ts) p.1.at for_head.at (adds_none for_head.at) (ap (λ (a : State). a.reached) (sym for_moved.at) ∙ r)));
+              seen = same_has q.1.seen for_head.seen (sym (for_seen ∙ for_moved.seen));
+            }
+            head_after false = exit_after s.frame us ts for_yes q.1 for_head for_small body.stays (extended_has for_yes.seen q.1.seen body.extends) head_left
+
+          module _ (x : Option NotedStmt × Here) (last : NextIf s ts step_nest (breaks_if step) (continues_if step) (step_at path.continues) x) where
+            abbrev ended : Here
+            ended = record x.1 { at = maybe_other s.frame path.breaks v.0 v.1.at }
+
+            abbrev for_there : Here
+            for_there = closed (length here.seen) ended
+
+            seen_last : Extends here.seen x.1.seen
+            seen_last =
+                extends_through here.seen p.1.seen x.1.seen first.extends
+                (extends_through p.1.seen q.1.seen x.1.seen (extends_none p.1.seen q.1.seen (for_seen ∙ for_moved.seen))
+                (extends_through q.1.seen (step_at path.continues).seen x.1.seen (extends_none q.1.seen (step_at path.continues).seen (step_seen path.continues)) last.extends))
+
+            seen_closed : for_there.seen ≡ here.seen
+            seen_closed = extended_front here.seen x.1.seen seen_last
+
+            module _ (count : here.counting ≡ false) (small : AreSmall here.at.facts) (k : ℕ) (next : Here) (goes : GoesTo s.frame for_there next) where
+              abbrev for_points : Turns
+              for_points = record { head = for_head; yes = for_yes; no = for_no; step = step_at path.continues; behind = next }
+
+              begun_small : AreSmall p.1.at.facts
+              begun_small = first.stays.small small
+
+              yes_count : for_yes.counting ≡ false
+              yes_count = for_moved.counting ∙ first.counting ∙ count
+
+              has_closed : (k : ℕ) → Contains for_there.seen k → Contains v.1.seen k
+              has_closed k c = subst (λ (l : List ℕ). Contains l k) (sym for_moved.seen) (extended_has here.seen p.1.seen first.extends k (same_has here.seen for_there.seen seen_closed k c))
+
+              for_may : MayLeave s.frame us path.breaks path.continues for_yes (in_body for_points)
+              for_may = record {
+                breaks = λ b. exit_front s.frame us ts for_yes next (for_exit for_there next (left_other s.frame path.breaks v.0 v.1.at b ∙ for_moved.at) has_closed goes);
+                continues = λ c. subst (λ b. IsExit s.frame us for_yes (step_at b)) (sym c) (step_exit begun_small);
+              }
+
+              step_may : MayLeave s.frame ts (breaks_if step) (continues_if step) (step_at path.continues) (in_step for_points)
+              step_may =
+                  let plain = ws.plain (steps_plain step_nest stepping).1 in
+                  may_not s.frame ts (breaks_if step) (continues_if step) (step_at path.continues) (in_step for_points) plain.0 plain.1
+
+              for_judged_code : (exits : Exits) (rest : Code) → Judged s rest exits next
+                  → Judged s (turns s.text s.variables s.result (spot at note.mode) k v.0 (part_if x.0) (part_of q.0) rest) exits p.1
+              unfolding Judged
+              for_judged_code exits rest behind = (
+                for_points,
+                record { known = λ reached. less_known s.frame (us ++ ts) p.1.at reached; seen = λ k c. c },
+                (
+                  for_condition k,
+                  goes_through for_no for_there next (record { known = λ reached. side_known s.frame path.breaks v.0 v.1.at reached; seen = has_closed }) goes,
+                  closed_code s (stmt_elaborated s.text s.variables s.result (k + literals_of_value v.0 + literals_if (part_if x.0)) q.0) (in_body for_points) for_yes q.1
+                      (to_the_step begun_small path.continues)
+                      (body.code yes_count (for_small begun_small) (k + literals_of_value v.0 + literals_if (part_if x.0)) (in_body for_points) for_may),
+                  closed_code s (code_if (part_if x.0) s.text s.variables s.result (k + literals_of_value v.0)) (in_step for_points) (step_at path.continues) x.1
+                      (exit_end s.frame ts (step_at path.continues) x.1 for_head (step_small begun_small path.continues) last.stays (extended_has (step_at path.continues).seen x.1.seen last.extends)
+                      (head_after begun_small path.continues))
+                      (last.code (step_counting path.continues ∙ body.counting ∙ yes_count) (step_small begun_small path.continues) (k + literals_of_value v.0) (in_step for_points) step_may),
+                ),
+                behind,
+              )
+
+            for_stays : Stays s.frame (is ++ (es ++ (us ++ ts))) here.at for_there.at
+            for_stays =
+                stays_through s.frame is (es ++ (us ++ ts)) here.at p.1.at for_there.at first.stays
+                (stays_back s.frame es (us ++ ts) p.1.at for_there.at
+                (stays_more s.frame (us ++ ts) p.1.at v.1.at for_there.at
+                (subst (λ a. Stays s.frame (us ++ ts) p.1.at a) (sym for_moved.at) (stays_less s.frame (us ++ ts) p.1.at)) (other_adds s.frame path.breaks v.0 v.1.at)))
+
+            for_next : Next s (is ++ (es ++ (us ++ ts))) mine left turned here (stated at note (act.For p.0 v.0 x.0 q.0), for_there)
+            for_next = record {
+              extends = extends_none here.seen for_there.seen seen_closed;
+              same = λ d. seen_closed;
+              counting = last.counting ∙ step_counting path.continues ∙ body.counting ∙ for_moved.counting ∙ first.counting;
+              stays = for_stays;
+              code = λ count small k exits may.
+                  let n = k + literals_if (part_if p.0) in
+                  let plain = wi.plain (begins_plain init_nest begin).1 in
+                  subst (λ fs. IsCode s fs exits here for_there)
+                  (sym (code_is s at note (Act-F.For p.0 v.0 x.0 q.0) (act.For p.0 v.0 x.0 q.0) k (act.rolls-For p.0 v.0 x.0 q.0) ∙ for_code at note.mode p.0 v.0 x.0 q.0 k))
+                  (both_code s (code_if (part_if p.0) s.text s.variables s.result k) (one (turns s.text s.variables s.result (spot at note.mode) n v.0 (part_if x.0) (part_of q.0))) exits here p.1 for_there
+                  (first.code count small k exits (may_not s.frame is (breaks_if init) (continues_if init) here exits plain.0 plain.1))
+                  (inr (λ next rest goes behind. for_judged_code count small n next goes exits rest behind)));
+            }
+
+    abbrev ForNext : NotedStmt × Here → Type 0
+    ForNext = Next s (is ++ (es ++ (us ++ ts))) mine left turned here
+
+    pub for_gives : Gives ForNext (for_judged s.frame s.head at note init e step path here)
+    for_gives =
+        through ForNext (part_judged s.frame s.head init here) _ (λ p init_is.
+        let first : NextIf s is init_nest (breaks_if init) (continues_if init) here p = (wi.judged (begins_plain init_nest begin).0 here).made p init_is in
+        nested ForNext (maybe_judged s.frame e (loop_head s.frame (us ++ ts) p.1)) _ _ (λ v judged.
+        through ForNext (path.judged s.frame s.head (record v.1 { at = maybe_side s.frame true v.0 v.1.at })) _ (λ q body_is.
+        let body = (w.judged (and_cases nest.fine (not nest.declares) branch).0 (record v.1 { at = maybe_side s.frame true v.0 v.1.at })).made q body_is in
+        through ForNext (part_judged s.frame s.head step (to_step (maybe_point path.continues v.1.at) q.1)) _ (λ x step_is.
+        let last = (ws.judged (steps_plain step_nest stepping).0 (to_step (maybe_point path.continues v.1.at) q.1)).made x step_is in
+        given ForNext (stated at note (act.For p.0 v.0 x.0 q.0), closed (length here.seen) (record x.1 { at = maybe_other s.frame path.breaks v.0 v.1.at }))
+        (for_next p first v judged q body x last)))))

@@ -1,0 +1,32 @@
+-- Statements are judged and keep what they do not assign.
+use Rattle.std.proofs.Common.{◌≡◌, inl, inr, sym, subst, ℕ, true, false}
+use Rattle.std.specs.Prelude.{Ok}
+use Rattle.ckc_typed.specs.Trees.{NotedStmt}
+use Rattle.ckc_bounds_statements.specs.Paths.{Here, path}
+use Rattle.ckc_source.specs.Code.{Code, chained}
+use Rattle.ckc_build_elaborate.specs.Statements.{stmt_elaborated}
+use Rattle.ckc_blame_sound.specs.Settings.{Setting}
+use Rattle.ckc_blame_sound.specs.Judged.{Exits, Judged}
+use Rattle.ckc_blame_walk.specs.Walks.{nesting_of, AreSmall, Stays, MayLeave}
+use Rattle.ckc_blame_walk.proofs.Codes.{goes_nowhere, IsCode}
+use Rattle.ckc_blame_walk.proofs.Compound.{Next}
+use Rattle.ckc_blame_walk.proofs.Walk.{all_hold}
+
+pub statement_next : (s : Setting) (st after : NotedStmt) (here there : Here) → (nesting_of st).fine ≡ true → (path st).judged s.frame s.head here ≡ Ok (after, there)
+    → Next s (path st).assigned (nesting_of st) (path st).breaks (path st).continues here (after, there)
+statement_next s st after here there fine walk = ((all_hold s st).whole.judged fine here).made (after, there) walk
+
+pub statement_stays : (s : Setting) (st after : NotedStmt) (here there : Here) → (nesting_of st).fine ≡ true → (path st).judged s.frame s.head here ≡ Ok (after, there)
+    → Stays s.frame (path st).assigned here.at there.at
+statement_stays s st after here there fine walk = (statement_next s st after here there fine walk).stays
+
+pub statement_judged : (s : Setting) (st after : NotedStmt) (here there : Here) (literals : ℕ) (exits : Exits) (rest : Code) → (nesting_of st).fine ≡ true → here.counting ≡ false
+    → AreSmall here.at.facts → (path st).judged s.frame s.head here ≡ Ok (after, there) → MayLeave s.frame (path st).assigned (path st).breaks (path st).continues here exits
+    → Judged s rest exits there → Judged s (chained (stmt_elaborated s.text s.variables s.result literals after) rest) exits here
+statement_judged s st after here there literals exits rest fine count small walk may behind =
+    by ((statement_next s st after here there fine walk).code count small literals exits may)
+  where
+    by : IsCode s (stmt_elaborated s.text s.variables s.result literals after) exits here there
+        → Judged s (chained (stmt_elaborated s.text s.variables s.result literals after) rest) exits here
+    by (inl h) = subst (λ fs. Judged s (chained fs rest) exits here) (sym h.0) (subst (λ x. Judged s rest exits x) h.1 behind)
+    by (inr h) = h there rest (goes_nowhere there) behind
