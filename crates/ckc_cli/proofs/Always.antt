@@ -9,13 +9,13 @@ use Rattle.ckc_cli_commands.specs.declared.status.Status.{Status}
 use Rattle.ckc_cli_commands.specs.declared.status.Status.TheVariants as status
 use Rattle.ckc_cli_commands.specs.World.{World, Untouched}
 use Rattle.ckc_cli_commands.specs.Words.{Command}
-use Rattle.ckc_cli_commands.specs.Outcomes.{Outcome, Refuses, IsBad, Keeps, Puts, Executes, Interprets}
+use Rattle.ckc_cli_commands.specs.Outcomes.{Outcome, Refuses, IsBad, Keeps, Puts, PutsLine, Executes, Interprets}
 use Rattle.ckc_cli_commands.specs.Commands.{Fetch, fetches_of, Reads, Makes}
 use Rattle.ckc_cli_commands.specs.Running.{Ran, Listed, whole, front, status_of}
 use Rattle.ckc_cli_commands.specs.Interpreting.{ShowsAs}
 use Rattle.ckc_cli_commands.specs.Causes.{Each, Holds, HoldsEach, LacksFirst, IsLacking, Keeping, kept, failed, no_memory, Comes, made, not_fetched, fetched, Caused, usage, obeyed}
 use Rattle.ckc_cli.specs.Objects.{Tells, StoreIsFine}
-use Rattle.ckc_cli.specs.Laws.{Given, Agrees}
+use Rattle.ckc_cli.specs.Laws.{Given, Agrees, PutsText}
 use Rattle.ckc_cli.proofs.OneOutcome.{one_outcome}
 use Rattle.ckc_cli.proofs.OneCommand.{reads_once}
 use Rattle.ckc_cli.proofs.Statuses.{not_shown, not_meant}
@@ -108,6 +108,7 @@ module _ (words : List (List ℕ)) (before after : World) (same : Untouched) (co
         by_case (IsBad part) y a comes = absurd a
         by_case (Keeps name image) y a comes = absurd a
         by_case (Puts text) y a comes = absurd a
+        by_case (PutsLine line) y a comes = absurd a
         by_case (Executes parts limit) y a comes = absurd a
         by_case (Interprets p limit) y a comes = absurd a
 
@@ -119,6 +120,7 @@ module _ (words : List (List ℕ)) (before after : World) (same : Untouched) (co
         by_case (IsBad other) y a comes = inl (comes.0 ∙ ap status.BadImage (sym a))
         by_case (Keeps name image) y a comes = absurd a
         by_case (Puts text) y a comes = absurd a
+        by_case (PutsLine line) y a comes = absurd a
         by_case (Executes parts limit) y a comes = absurd a
         by_case (Interprets p limit) y a comes = absurd a
 
@@ -130,17 +132,29 @@ module _ (words : List (List ℕ)) (before after : World) (same : Untouched) (co
         by_case (IsBad part) y a comes = absurd a
         by_case (Keeps other bytes) y a comes = kept_fine s other bytes comes.0
         by_case (Puts text) y a comes = absurd a
+        by_case (PutsLine line) y a comes = absurd a
         by_case (Executes parts limit) y a comes = absurd a
         by_case (Interprets p limit) y a comes = absurd a
 
-    pub listed_always : (text : List ℕ) → Makes command bytes (Puts text) → ¬ Rose before.output.faults after.output.faults → (s ≡ status.Done) ⊎ (s ≡ status.Memory)
-    listed_always text x n = by_outcome (Puts text) x (s ≡ status.Done) by_case
+    pub listed_always : (text : List ℕ) → PutsText command bytes text → ¬ Rose before.output.faults after.output.faults → (s ≡ status.Done) ⊎ (s ≡ status.Memory)
+    listed_always text (inl x) n = by_outcome (Puts text) x (s ≡ status.Done) by_case
       where
         by_case : (o : Outcome) → Makes command bytes o → Agrees (Puts text) o → Comes o before after same s → (s ≡ status.Done) ⊎ (s ≡ status.Memory)
         by_case (Refuses fault) y a comes = absurd a
         by_case (IsBad part) y a comes = absurd a
         by_case (Keeps name image) y a comes = absurd a
         by_case (Puts other) y a comes = inl (listed_fine s other comes.0 n)
+        by_case (PutsLine line) y a comes = absurd a
+        by_case (Executes parts limit) y a comes = absurd a
+        by_case (Interprets p limit) y a comes = absurd a
+    listed_always text (inr x) n = by_outcome (PutsLine text) x (s ≡ status.Done) by_case
+      where
+        by_case : (o : Outcome) → Makes command bytes o → Agrees (PutsLine text) o → Comes o before after same s → (s ≡ status.Done) ⊎ (s ≡ status.Memory)
+        by_case (Refuses fault) y a comes = absurd a
+        by_case (IsBad part) y a comes = absurd a
+        by_case (Keeps name image) y a comes = absurd a
+        by_case (Puts other) y a comes = absurd a
+        by_case (PutsLine line) y a comes = inl (listed_fine s line comes.0 n)
         by_case (Executes parts limit) y a comes = absurd a
         by_case (Interprets p limit) y a comes = absurd a
 
@@ -156,6 +170,7 @@ module _ (words : List (List ℕ)) (before after : World) (same : Untouched) (co
         by_case (IsBad part) y a comes = absurd a
         by_case (Keeps name image) y a comes = absurd a
         by_case (Puts text) y a comes = absurd a
+        by_case (PutsLine line) y a comes = absurd a
         by_case (Executes others most) y a comes = inl (others, most, comes.0.0, y, comes.0.1, comes.0.2)
         by_case (Interprets p most) y a comes = absurd a
 
@@ -167,6 +182,7 @@ module _ (words : List (List ℕ)) (before after : World) (same : Untouched) (co
         by_case (IsBad part) y a comes = absurd a
         by_case (Keeps name image) y a comes = absurd a
         by_case (Puts text) y a comes = absurd a
+        by_case (PutsLine line) y a comes = absurd a
         by_case (Executes parts most) y a comes = absurd a
         by_case (Interprets other most) y a comes = inl (subst (λ (q : Program). ShowsAs q limit before after s) (sym a.0) (subst (λ k. ShowsAs other k before after s) (sym a.1) comes.0))
 
@@ -187,6 +203,7 @@ module _ (words : List (List ℕ)) (before after : World) (same : Untouched) (co
         by_case (IsBad part) comes = let z : status.BadImage part ≡ status.StoreFault = sym comes.0 ∙ q in cc
         by_case (Keeps name image) comes = done_or_memory (kept_fine s name image comes.0)
         by_case (Puts text) comes = by_listing text comes.0
+        by_case (PutsLine line) comes = by_listing line comes.0
         by_case (Executes parts limit) comes = not_shown comes.0.0 status.StoreFault (sym comes.0.1 ∙ q) refl
         by_case (Interprets p limit) comes = not_meant comes.0.0 status.StoreFault (sym comes.0.1 ∙ q) refl
 

@@ -16,7 +16,7 @@ use Rattle.ckc_cli_commands.specs.declared.status.Status.{Status}
 use Rattle.ckc_cli_commands.specs.declared.status.Status.TheVariants as status
 use Rattle.ckc_cli_commands.specs.World.{World, Untouched}
 use Rattle.ckc_cli_commands.specs.Words.{Command, Build, Exec}
-use Rattle.ckc_cli_commands.specs.Outcomes.{Outcome, Refuses, IsBad, Keeps, Puts, Executes, Interprets}
+use Rattle.ckc_cli_commands.specs.Outcomes.{Outcome, Refuses, IsBad, Keeps, Puts, PutsLine, Executes, Interprets}
 use Rattle.ckc_cli_commands.specs.Commands.{a_text, fetches_of, Reads, Makes}
 use Rattle.ckc_cli_commands.specs.Running.{Ran, status_of}
 use Rattle.ckc_cli_commands.specs.Causes.{HoldsEach, Comes, Caused}
@@ -46,6 +46,7 @@ module _ (words : List (List ℕ)) (before after : World) (same : Untouched) (s 
       by_outcome (IsBad part) x c = absurd (bad_is_kept part name x.0 x.2)
       by_outcome (Keeps place image) x c = always.kept_fine words before after same (Build source name) (text ∷ []) g fine s place image c.0
       by_outcome (Puts listing) x c = absurd (formed (Build source name) (text ∷ []) (Puts listing) x)
+      by_outcome (PutsLine line) x c = absurd (formed (Build source name) (text ∷ []) (PutsLine line) x)
       by_outcome (Executes parts most) x c = absurd (formed (Build source name) (text ∷ []) (Executes parts most) x)
       by_outcome (Interprets q most) x c = absurd (formed (Build source name) (text ∷ []) (Interprets q most) x)
 
@@ -63,6 +64,7 @@ module _ (words : List (List ℕ)) (before after : World) (same : Untouched) (s 
         by_outcome (IsBad part) x c = absurd (bad_is_run part x.0 limit x.2)
         by_outcome (Keeps place image) x c = absurd (formed (Exec name limit) (text ∷ []) (Keeps place image) x)
         by_outcome (Puts listing) x c = absurd (formed (Exec name limit) (text ∷ []) (Puts listing) x)
+        by_outcome (PutsLine line) x c = absurd (formed (Exec name limit) (text ∷ []) (PutsLine line) x)
         by_outcome (Executes parts most) x c =
             let b = built_by name limit most (text ∷ []) parts x in
             let text_is : b.0 ≡ text = (let e = b.1 in cc) in

@@ -14,8 +14,8 @@ use Rattle.ckc_outside.specs.Outside.{Files, Rose, one_more}
 use Rattle.ckc_cli_commands.specs.declared.status.Status.{Status}
 use Rattle.ckc_cli_commands.specs.declared.status.Status.TheVariants as status
 use Rattle.ckc_cli_commands.specs.World.{World, Untouched}
-use Rattle.ckc_cli_commands.specs.Words.{Command, Build, Assemble, Interp, Show}
-use Rattle.ckc_cli_commands.specs.Outcomes.{Outcome, Refuses, IsBad, Keeps, Puts, Executes, Interprets}
+use Rattle.ckc_cli_commands.specs.Words.{Command, Build, Assemble, Interp, Show, Judge}
+use Rattle.ckc_cli_commands.specs.Outcomes.{Outcome, Refuses, IsBad, Keeps, Puts, PutsLine, Executes, Interprets}
 use Rattle.ckc_cli_commands.specs.Commands.{fetches_of, Reads, Makes}
 use Rattle.ckc_cli_commands.specs.Running.{Listed, whole, front}
 use Rattle.ckc_cli_commands.specs.Causes.{HoldsEach, Kept, Unkept, Keeping, kept, failed, no_memory, Comes, made, not_fetched, fetched, Caused, usage, obeyed}
@@ -60,6 +60,7 @@ module _ (words : List (List ℕ)) (before after : World) (same : Untouched) whe
     idle_comes s (IsBad part) x c w d n = (c.1.put, c.1.took)
     idle_comes s (Keeps name image) x c w d n = (c.1, c.2)
     idle_comes s (Puts text) x c w d n = absurd (idle_listing s text c.0 w d)
+    idle_comes s (PutsLine line) x c w d n = absurd (idle_listing s line c.0 w d)
     idle_comes s (Executes parts limit) x c w d n = absurd (not_shown c.0.0 s (sym c.0.1) w)
     idle_comes s (Interprets p limit) x c w d n =
         let i = interpreter command p limit (formed command bytes (Interprets p limit) x) in
@@ -79,6 +80,8 @@ module _ (words : List (List ℕ)) (before after : World) (same : Untouched) whe
   keeper_comes s (Keeps name image) command text target is f c = (c.1, c.2)
   keeper_comes s (Puts listing) command text target (inl e) f c = absurd (subst (Form (Puts listing)) e f)
   keeper_comes s (Puts listing) command text target (inr e) f c = absurd (subst (Form (Puts listing)) e f)
+  keeper_comes s (PutsLine line) command text target (inl e) f c = absurd (subst (Form (PutsLine line)) e f)
+  keeper_comes s (PutsLine line) command text target (inr e) f c = absurd (subst (Form (PutsLine line)) e f)
   keeper_comes s (Executes parts limit) command text target (inl e) f c = absurd (subst (Form (Executes parts limit)) e f)
   keeper_comes s (Executes parts limit) command text target (inr e) f c = absurd (subst (Form (Executes parts limit)) e f)
   keeper_comes s (Interprets p limit) command text target (inl e) f c = absurd (subst (Form (Interprets p limit)) e f)
@@ -103,6 +106,7 @@ module _ (words : List (List ℕ)) (before after : World) (same : Untouched) whe
   list_comes s (IsBad part) target f c = c.1.took
   list_comes s (Keeps name image) target f c = c.2
   list_comes s (Puts listing) target f c = c.2
+  list_comes s (PutsLine line) target f c = absurd f
   list_comes s (Executes parts limit) target f c = absurd f
   list_comes s (Interprets p limit) target f c = absurd f
 
@@ -112,6 +116,22 @@ module _ (words : List (List ℕ)) (before after : World) (same : Untouched) whe
   list_takes_nothing s (obeyed command r (fetched bytes h (no_memory e i))) target w = i.took
   list_takes_nothing s (obeyed command r (fetched bytes h (made o x c))) target w =
       list_comes s o target (subst (Form o) (reads_once words command (Show target) r w) (formed command bytes o x)) c
+
+  check_comes : (s : Status) (o : Outcome) (target : List ℕ) → Form o (Judge target) → Comes o before after same s → same.input
+  check_comes s (Refuses fault) target f c = c.1.took
+  check_comes s (IsBad part) target f c = c.1.took
+  check_comes s (Keeps name image) target f c = c.2
+  check_comes s (Puts listing) target f c = c.2
+  check_comes s (PutsLine line) target f c = c.3
+  check_comes s (Executes parts limit) target f c = absurd f
+  check_comes s (Interprets p limit) target f c = absurd f
+
+  pub check_takes_nothing : (s : Status) → Caused words before after same s → (target : List ℕ) → Reads words (Judge target) → same.input
+  check_takes_nothing s (usage none e i k) target w = i.took
+  check_takes_nothing s (obeyed command r (not_fetched u i)) target w = i.took
+  check_takes_nothing s (obeyed command r (fetched bytes h (no_memory e i))) target w = i.took
+  check_takes_nothing s (obeyed command r (fetched bytes h (made o x c))) target w =
+      check_comes s o target (subst (Form o) (reads_once words command (Judge target) r w) (formed command bytes o x)) c
 
   -- ---- what was kept
 
@@ -127,6 +147,7 @@ module _ (words : List (List ℕ)) (before after : World) (same : Untouched) whe
   left_comes s command r bytes h (IsBad part) x c = nothing c.1.unkept
   left_comes s command r bytes h (Keeps name image) x c = one command r bytes h name image x c.0
   left_comes s command r bytes h (Puts text) x c = nothing c.1
+  left_comes s command r bytes h (PutsLine line) x c = nothing c.2
   left_comes s command r bytes h (Executes parts limit) x c = nothing c.1
   left_comes s command r bytes h (Interprets p limit) x c = nothing c.1
 

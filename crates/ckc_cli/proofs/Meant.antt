@@ -140,6 +140,7 @@ module _ (words : List (List ℕ)) (before after : World) (same : Untouched) (na
     shown_comes (outcome.IsBad part) x c wanted q = absurd (not_meant wanted (status.BadImage part) (sym q ∙ c.0) refl)
     shown_comes (outcome.Keeps place image) x c wanted q = absurd (form (outcome.Keeps place image) x)
     shown_comes (outcome.Puts text) x c wanted q = absurd (form (outcome.Puts text) x)
+    shown_comes (outcome.PutsLine line) x c wanted q = absurd (form (outcome.PutsLine line) x)
     shown_comes (outcome.Executes parts most) x c wanted q = absurd (form (outcome.Executes parts most) x)
     shown_comes (outcome.Interprets p most) x c wanted q = run_of p most x c.0.0 wanted (sym c.0.1 ∙ q) c.0.2
 

@@ -1,7 +1,7 @@
 -- Words read one command.
 use Rattle.std.proofs.Common.{◌≡◌, inl, inr, ℕ, ◌+◌, ◌*◌, ◌==◌, cond, List, [], ◌∷◌, get_or, codes, sym, ap, ◌∙◌}
 use Rattle.std.specs.Str.Parse.{digits_value}
-use Rattle.ckc_cli_commands.specs.Words.{Command, Build, Assemble, Exec, Interp, Run, Show, NameAndLimit, usual_limit}
+use Rattle.ckc_cli_commands.specs.Words.{Command, Build, Assemble, Exec, Interp, Run, Show, Judge, NameAndLimit, usual_limit}
 use Rattle.ckc_cli_commands.specs.Commands.{row_of, Reads}
 use Rattle.ckc_cli_commands.proofs.Wording.{head_is, tail_is}
 
@@ -32,7 +32,8 @@ read_as k more =
     (cond (k == letters (codes "exec")) (Exec (first more) (limit_in more))
     (cond (k == letters (codes "interp")) (Interp (first more) (limit_in more))
     (cond (k == letters (codes "run")) (Run (first more) (limit_in more))
-    (Show (first more))))))
+    (cond (k == letters (codes "list")) (Show (first more))
+    (Judge (first more)))))))
 
 first_is : (more : List (List ℕ)) (name : List ℕ) (limit : ℕ) → NameAndLimit more name limit → first more ≡ name
 first_is more name limit (inl p) = ap first p.0
@@ -49,6 +50,7 @@ reads_as more (Exec text limit) a = ap (λ t. Exec t (limit_in more)) (first_is 
 reads_as more (Interp text limit) a = ap (λ t. Interp t (limit_in more)) (first_is more text limit a) ∙ ap (λ l. Interp text l) (limit_is more text limit a)
 reads_as more (Run image limit) a = ap (λ t. Run t (limit_in more)) (first_is more image limit a) ∙ ap (λ l. Run image l) (limit_is more image limit a)
 reads_as more (Show image) a = ap (λ (m : List (List ℕ)). Show (first m)) a
+reads_as more (Judge text) a = ap (λ (m : List (List ℕ)). Judge (first m)) a
 
 pub reads_once : (words : List (List ℕ)) (c d : Command) → Reads words c → Reads words d → c ≡ d
 reads_once words c d p q =

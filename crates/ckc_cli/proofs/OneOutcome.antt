@@ -8,11 +8,14 @@ use Rattle.ckc_asm_listing.specs.Listing.{listing}
 use Rattle.ckc_asm.specs.Phase.{assembling}
 use Rattle.ckc_asm.proofs.Exactness.{assembling_exact}
 use Rattle.ckc_build.specs.Built.{Built, IsImage}
-use Rattle.ckc_build.specs.Meanings.{HasMeaning, FirstFault}
+use Rattle.ckc_build_elaborate.specs.Elaborated.{elaborated}
+use Rattle.ckc_build.specs.Meanings.{judging, HasMeaning, FirstFault}
+use Rattle.ckc_build.proofs.Chain.{judging_exact}
 use Rattle.ckc_build.proofs.Programs.{meanings_exact}
 use Rattle.ckc_source.specs.Code.{Program}
-use Rattle.ckc_cli_commands.specs.Words.{Command, Build, Assemble, Exec, Interp, Run, Show}
-use Rattle.ckc_cli_commands.specs.Outcomes.{Outcome, Refuses, IsBad, Keeps, Puts, Executes, Interprets}
+use Rattle.ckc_cli_commands.specs.Words.{Command, Build, Assemble, Exec, Interp, Run, Show, Judge}
+use Rattle.ckc_cli_commands.specs.Outcomes.{Outcome, Refuses, IsBad, Keeps, Puts, PutsLine, Executes, Interprets}
+use Rattle.ckc_cli_commands.specs.Checking.{checked_line}
 use Rattle.ckc_cli_commands.specs.Commands.{BadBytes, longest_image, OfText, OfImage, OfOne, AsImage, Makes}
 use Rattle.ckc_cli.specs.Laws.{Agrees}
 
@@ -64,6 +67,7 @@ module _ {B : Type 0} (IsRefused : List ℕ → Refusal → Type 0) (IsMade : Li
   text_of text (IsBad part) h = inr (h.0, h.2, h.1)
   text_of text (Keeps name bytes) h = inr (h.0, h.2, h.1)
   text_of text (Puts bytes) h = inr (h.0, h.2, h.1)
+  text_of text (PutsLine line) h = inr (h.0, h.2, h.1)
   text_of text (Executes parts limit) h = inr (h.0, h.2, h.1)
   text_of text (Interprets program limit) h = inr (h.0, h.2, h.1)
 
@@ -86,6 +90,7 @@ module _ (outcome : Parts → Outcome) where
   image_of bytes (IsBad part) h = inl (part, refl, h)
   image_of bytes (Keeps name image) h = inr (h.0, h.2, h.1)
   image_of bytes (Puts text) h = inr (h.0, h.2, h.1)
+  image_of bytes (PutsLine line) h = inr (h.0, h.2, h.1)
   image_of bytes (Executes parts limit) h = inr (h.0, h.2, h.1)
   image_of bytes (Interprets program limit) h = inr (h.0, h.2, h.1)
 
@@ -128,6 +133,10 @@ one_outcome (Interp text limit) =
 one_outcome (Run image limit) = ones_agree (OfImage (λ parts. Executes parts limit)) (images_agree (λ parts. Executes parts limit) (λ b parts other m n. refl))
 one_outcome (Show image) =
     ones_agree (OfImage (λ parts. Puts (listing parts.entry parts.code parts.initial))) (images_agree (λ parts. Puts (listing parts.entry parts.code parts.initial)) same_listing)
+one_outcome (Judge text) =
+    ones_agree (OfText FirstFault judging.Makes (λ p. PutsLine (checked_line p)))
+    (texts_agree FirstFault judging.Makes (λ p. PutsLine (checked_line p)) meanings_exact.refused_once (λ t f made r m. meanings_exact.never_both t (elaborated made) f (made, m, refl) r)
+    (λ t made other m n. ap checked_line (judging_exact.made_once t made other m n)))
 
 -- ---- forms
 
@@ -138,6 +147,7 @@ Form (IsBad part) command = Unit {0}
 Form (Keeps name bytes) (Build text image) = name ≡ image
 Form (Keeps name bytes) (Assemble text image) = name ≡ image
 Form (Puts text) (Show image) = Unit {0}
+Form (PutsLine line) (Judge text) = Unit {0}
 Form (Executes parts limit) (Exec text most) = limit ≡ most
 Form (Executes parts limit) (Run image most) = limit ≡ most
 Form (Interprets program limit) (Interp text most) = limit ≡ most
@@ -178,6 +188,9 @@ formed (Run image limit) = formed_one (OfImage (λ parts. Executes parts limit))
 formed (Show image) =
     formed_one (OfImage (λ parts. Puts (listing parts.entry parts.code parts.initial))) (Show image)
     (formed_image (λ parts. Puts (listing parts.entry parts.code parts.initial)) (Show image) (λ parts. tt))
+formed (Judge text) =
+    formed_one (OfText FirstFault judging.Makes (λ p. PutsLine (checked_line p))) (Judge text)
+    (formed_text FirstFault judging.Makes (λ p. PutsLine (checked_line p)) (Judge text) (λ made. tt))
 
 -- which command keeps bytes under a name, and which runs a meaning
 pub keeper : (command : Command) (name bytes : List ℕ) → Form (Keeps name bytes) command → (text : List ℕ) × ((command ≡ Build text name) ⊎ (command ≡ Assemble text name))
@@ -187,6 +200,7 @@ keeper (Exec text limit) name bytes f = absurd f
 keeper (Interp text limit) name bytes f = absurd f
 keeper (Run image limit) name bytes f = absurd f
 keeper (Show image) name bytes f = absurd f
+keeper (Judge text) name bytes f = absurd f
 
 pub interpreter : (command : Command) (p : Program) (limit : ℕ) → Form (Interprets p limit) command → (name : List ℕ) × (command ≡ Interp name limit)
 interpreter (Build text image) p limit f = absurd f
@@ -195,6 +209,7 @@ interpreter (Exec text most) p limit f = absurd f
 interpreter (Interp text most) p limit f = (text, ap (Interp text) (sym f))
 interpreter (Run image most) p limit f = absurd f
 interpreter (Show image) p limit f = absurd f
+interpreter (Judge text) p limit f = absurd f
 
 -- ---- what `exec` and `interp` make of one text
 

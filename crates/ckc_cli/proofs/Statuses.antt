@@ -12,13 +12,13 @@ use Rattle.ckc_cli_commands.specs.declared.status.Status.{Status}
 use Rattle.ckc_cli_commands.specs.declared.status.Status.TheVariants as status
 use Rattle.ckc_cli_commands.specs.World.{World, Untouched}
 use Rattle.ckc_cli_commands.specs.Words.{Command, Interp}
-use Rattle.ckc_cli_commands.specs.Outcomes.{Outcome, Refuses, IsBad, Keeps, Puts, Executes, Interprets}
+use Rattle.ckc_cli_commands.specs.Outcomes.{Outcome, Refuses, IsBad, Keeps, Puts, PutsLine, Executes, Interprets}
 use Rattle.ckc_cli_commands.specs.Commands.{fetches_of, Reads, Makes}
 use Rattle.ckc_cli_commands.specs.Running.{Ran, Listed, whole, front, status_of}
 use Rattle.ckc_cli_commands.specs.Interpreting.{Interpreted, meant_status}
 use Rattle.ckc_cli_commands.specs.Causes.{HoldsEach, Idle, Keeping, kept, failed, no_memory, Comes, made, not_fetched, fetched, Caused, usage, obeyed}
 use Rattle.ckc_cli.proofs.OneOutcome.{formed, interpreter}
-use Rattle.ckc_cli.specs.Laws.{Over, IsDone, IsRun, IsMeant, IsCutShort, shows_run}
+use Rattle.ckc_cli.specs.Laws.{Over, PutsText, IsDone, IsRun, IsMeant, IsCutShort, shows_run}
 
 -- what was observed, of a status that shows it
 observed_by : Status → Observed
@@ -148,7 +148,7 @@ module _ (words : List (List ℕ)) (before after : World) (same : Untouched) whe
     keeping_says s name image x (failed e k rose t) = subst Says (sym e) rose
     keeping_says s name image x (no_memory e k) = subst Says (sym e) tt
 
-    listed_says : (s : Status) (text : List ℕ) → Makes command bytes (Puts text) → Listed text before.output.written after.output.written before.output.faults after.output.faults s → Says s
+    listed_says : (s : Status) (text : List ℕ) → PutsText command bytes text → Listed text before.output.written after.output.written before.output.faults after.output.faults s → Says s
     listed_says s text x (whole e p) = subst Says (sym e) (over (IsDone before after) (inr (text, x, p)))
     listed_says s text x (front e rose p) = subst Says (sym e) (rose, over (IsCutShort before after same) (inr (text, x, p)))
 
@@ -156,7 +156,8 @@ module _ (words : List (List ℕ)) (before after : World) (same : Untouched) whe
     comes_says s (Refuses fault) x c = subst Says (sym c.0) (over (λ command bytes. Makes command bytes (Refuses fault)) x)
     comes_says s (IsBad part) x c = subst Says (sym c.0) (over (λ command bytes. Makes command bytes (IsBad part)) x)
     comes_says s (Keeps name image) x c = keeping_says s name image x c.0
-    comes_says s (Puts text) x c = listed_says s text x c.0
+    comes_says s (Puts text) x c = listed_says s text (inl x) c.0
+    comes_says s (PutsLine line) x c = listed_says s line (inr x) c.0
     comes_says s (Executes parts limit) x c = subst Says (sym c.0.1) (ran_says parts limit x c.0.0 c.0.2)
     comes_says s (Interprets p limit) x c = subst Says (sym c.0.1) (meant_says p limit x c.0.0 c.0.2)
 

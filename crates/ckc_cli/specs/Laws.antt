@@ -12,7 +12,7 @@ use Rattle.ckc_cli_commands.specs.declared.status.Status.{Status}
 use Rattle.ckc_cli_commands.specs.declared.status.Status.TheVariants as status
 use Rattle.ckc_cli_commands.specs.World.{World, Untouched, untouched}
 use Rattle.ckc_cli_commands.specs.Words.{Command, Build, Assemble}
-use Rattle.ckc_cli_commands.specs.Outcomes.{Outcome, Refuses, IsBad, Keeps, Puts, Executes, Interprets}
+use Rattle.ckc_cli_commands.specs.Outcomes.{Outcome, Refuses, IsBad, Keeps, Puts, PutsLine, Executes, Interprets}
 use Rattle.ckc_cli_commands.specs.Commands.{fetches_of, Reads, Makes}
 use Rattle.ckc_cli_commands.specs.Running.{Ran, ListedFront, status_of}
 use Rattle.ckc_cli_commands.specs.Interpreting.{ShowsAs}
@@ -54,6 +54,7 @@ Agrees (Refuses fault) (Refuses other) = fault ≡ other
 Agrees (IsBad part) (IsBad other) = part ≡ other
 Agrees (Keeps name bytes) (Keeps other image) = name ≡ other
 Agrees (Puts text) (Puts other) = text ≡ other
+Agrees (PutsLine line) (PutsLine other) = line ≡ other
 Agrees (Executes parts limit) (Executes other most) = limit ≡ most
 Agrees (Interprets program limit) (Interprets other most) = (program ≡ other) × (limit ≡ most)
 Agrees o other = ⊥
@@ -64,11 +65,15 @@ Agrees o other = ⊥
 abbrev pub HasImage : Command → List (List ℕ) → Type 0
 HasImage command bytes = (name : List ℕ) × (image : List ℕ) × Makes command bytes (Keeps name image)
 
--- an image was kept, or a listing put
+-- a text is put, in some calls or as a line in one
+abbrev pub PutsText : Command → List (List ℕ) → List ℕ → Type 0
+PutsText command bytes text = Makes command bytes (Puts text) ⊎ Makes command bytes (PutsLine text)
+
+-- an image was kept, or a text put
 abbrev pub IsDone : World → World → Command → List (List ℕ) → Type 0
 IsDone before after command bytes =
     ((name : List ℕ) × (image : List ℕ) × Makes command bytes (Keeps name image) × Kept before.store.files name image (Ok tt) after.store.files)
-    ⊎ ((text : List ℕ) × Makes command bytes (Puts text) × Printed before.output.written after.output.written text)
+    ⊎ ((text : List ℕ) × PutsText command bytes text × Printed before.output.written after.output.written text)
 
 -- the machine of an image was run, and showed this
 abbrev pub IsShown : World → World → Untouched → Observed → Command → List (List ℕ) → Type 0
@@ -83,11 +88,11 @@ IsMeant before after s command bytes = (p : Program) × (limit : ℕ) × Makes c
 abbrev pub IsRun : World → World → Untouched → Observed → Command → List (List ℕ) → Type 0
 IsRun before after same o command bytes = IsShown before after same o command bytes ⊎ IsMeant before after (status_of o) command bytes
 
--- the output failed in a run, or in a listing
+-- the output failed in a run, or as a text was put
 abbrev pub IsCutShort : World → World → Untouched → Command → List (List ℕ) → Type 0
 IsCutShort before after same command bytes =
     IsRun before after same observed.WriteFault command bytes
-    ⊎ ((text : List ℕ) × Makes command bytes (Puts text) × ListedFront before.output.written after.output.written text)
+    ⊎ ((text : List ℕ) × PutsText command bytes text × ListedFront before.output.written after.output.written text)
 
 -- The machine of an image of the text was run, and the status is what it showed.
 abbrev pub RanBuilt : List ℕ → ℕ → World → World → Untouched → Status → Type 0

@@ -1,4 +1,5 @@
 pub mod Objects
 pub mod Agreeing
 pub mod Meaning
+pub mod Checking
 pub mod Laws

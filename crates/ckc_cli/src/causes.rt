@@ -30,7 +30,7 @@ pub fn statuses_have_causes<S, O, F>()
         (part : ℕ) → s ≡ Status.BadImage part → Over words before.store.files
         (λ command bytes. Makes command bytes (outcome.IsBad part))) }
 
-    // Done comes only if an image was kept or a listing put.
+    // Done comes only if an image was kept or a text put.
     ensures done { FromCause S O F (λ words before after same s.
         s ≡ Status.Done → Over words before.store.files (IsDone before after)) }
 

@@ -1,7 +1,7 @@
 //! Laws: what a call leaves.
 ghost use Rattle.std.specs.Prelude.{◌≡◌, ◌≢◌, ◌⊎◌, ℕ, List, false};
 ghost use Rattle.ckc_outside.specs.Outside.{Rose, one_more};
-ghost use Rattle.ckc_cli_commands.specs.Words.{Interp, Show};
+ghost use Rattle.ckc_cli_commands.specs.Words.{Interp, Show, Judge};
 ghost use Rattle.ckc_cli_commands.specs.Commands.{Reads};
 ghost use Rattle.ckc_cli.specs.Laws.{FromCause, Over, AsksToKeep, HasImage, KeepsOthers, shows_run};
 
@@ -18,13 +18,15 @@ pub fn calls_touch<S, O, F>()
         shows_run s ≡ false → s ≢ Status.Done
         → ((name : List ℕ) (limit : ℕ) → s ≡ Status.Memory → ¬ Reads words (Interp name limit))
         → same.input) }
-    // build and asm put nothing and take nothing, and list takes nothing.
+    // build and asm put nothing and take nothing, and list and check take nothing.
     ensures kept_quietly { FromCause S O F (λ words before after same s.
         (name : List ℕ) → AsksToKeep words name → same.output) }
     ensures kept_untaken { FromCause S O F (λ words before after same s.
         (name : List ℕ) → AsksToKeep words name → same.input) }
     ensures listed_untaken { FromCause S O F (λ words before after same s.
         (name : List ℕ) → Reads words (Show name) → same.input) }
+    ensures checked_untaken { FromCause S O F (λ words before after same s.
+        (name : List ℕ) → Reads words (Judge name) → same.input) }
 {}
 
 /// Which files are as they were.

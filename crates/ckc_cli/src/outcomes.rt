@@ -14,7 +14,7 @@ ghost use Rattle.ckc_cli_commands.specs.Commands.{Makes};
 ghost use Rattle.ckc_cli_commands.specs.Running.{Ran, status_of};
 ghost use Rattle.ckc_cli_commands.specs.Causes.{Comes};
 ghost use Rattle.ckc_cli.specs.Objects.{StoreIsFine};
-ghost use Rattle.ckc_cli.specs.Laws.{FromCause, Given, Agrees, RanBuilt};
+ghost use Rattle.ckc_cli.specs.Laws.{FromCause, Given, Agrees, PutsText, RanBuilt};
 
 use ckc_cli_commands::Status;
 
@@ -56,7 +56,7 @@ pub fn causes_give_statuses<S, O, F>()
     ensures listed_always { FromCause S O F (λ words before after same s.
         (command : Command) (bytes : List (List ℕ)) (text : List ℕ)
         → Given words before.store.files command bytes → StoreIsFine before.store after.store
-        → Makes command bytes (outcome.Puts text) → ¬ Rose before.output.faults after.output.faults
+        → PutsText command bytes text → ¬ Rose before.output.faults after.output.faults
         → (s ≡ Status.Done) ⊎ (s ≡ Status.Memory)) }
     ensures shown_always { FromCause S O F (λ words before after same s.
         (command : Command) (bytes : List (List ℕ)) (parts : Parts) (limit : ℕ)

@@ -1,12 +1,13 @@
 ghost use Rattle.std.specs.Prelude.{ℕ, List, ◌≡◌, ◌≤◌};
 ghost use Rattle.ckc_outside.specs.Outside.{Rose};
-ghost use Rattle.ckc_cli_commands.specs.Words.{Exec, Interp, bytes_of};
+ghost use Rattle.ckc_cli_commands.specs.Words.{Exec, Interp, Judge, bytes_of};
 ghost use Rattle.ckc_cli_commands.specs.Commands.{Reads};
 ghost use Rattle.ckc_cli_commands.specs.World.{world, untouched};
 ghost use Rattle.ckc_cli_commands.specs.Causes.{Caused, Reported, puts_after};
 ghost use Rattle.ckc_cli_commands.specs.Report.{report_of};
 ghost use Rattle.ckc_cli.specs.Agreeing.{Headline};
 ghost use Rattle.ckc_cli.specs.Meaning.{Meaning};
+ghost use Rattle.ckc_cli.specs.Checking.{Checking};
 ghost use Rattle.ckc_cli.specs.Objects.{Counts};
 
 use ckc_cli_calls::put_line;
@@ -43,6 +44,12 @@ pub fn ccc<S: Source, O: Sink, E: Sink, F: Store>(
         (world (S.seen input.old) (O.seen out.old) (E.seen err.old) (F.seen store.old))
         (world (S.seen input.new) (O.seen out.new) (E.seen err.new) (F.seen store.new))
         (untouched input.old input.new out.old out.new store.old store.new) result }
+
+    // `check` says whether the text is wholly checked.
+    ensures check { (name : List ℕ)
+        → Reads (bytes_of words.now) (Judge name) → Checking name
+        (world (S.seen input.old) (O.seen out.old) (E.seen err.old) (F.seen store.old))
+        (world (S.seen input.new) (O.seen out.new) (E.seen err.new) (F.seen store.new)) result }
 
     // The report of the status is put on err in one call; a fault of err changes no status.
     ensures report { Reported (report_of result) (E.seen err.old).written (E.seen err.new).written

@@ -1,7 +1,7 @@
 -- When each status of a call comes, and what it leaves.
 use Rattle.std.specs.Prelude.{◌≡◌, ◌⊎◌, ℕ, List, [], ◌∷◌, IsTrue, Option, Ok, Err}
 use Rattle.ckc_outside.specs.declared.traits.StoreError.TheVariants as error
-use Rattle.ckc_outside.specs.Outside.{Files, Stored, Rose}
+use Rattle.ckc_outside.specs.Outside.{Files, Stored, Rose, one_more}
 use Rattle.ckc_machine.specs.declared.observed.Observed.{Observed}
 pub use Rattle.ckc_cli_calls.specs.Files.{Holds, Kept, Unkept, OnlyFetched, KeptOnce, IsLacking}
 pub use Rattle.ckc_cli_calls.specs.Lines.{Reported, puts_after}
@@ -9,7 +9,7 @@ use Rattle.ckc_cli_commands.specs.declared.status.Status.{Status}
 use Rattle.ckc_cli_commands.specs.declared.status.Status.TheVariants as status
 use Rattle.ckc_cli_commands.specs.World.{World, Untouched}
 use Rattle.ckc_cli_commands.specs.Words.{Command}
-use Rattle.ckc_cli_commands.specs.Outcomes.{Outcome, Refuses, IsBad, Keeps, Puts, Executes, Interprets}
+use Rattle.ckc_cli_commands.specs.Outcomes.{Outcome, Refuses, IsBad, Keeps, Puts, PutsLine, Executes, Interprets}
 use Rattle.ckc_cli_commands.specs.Commands.{Fetch, fetches_of, Reads, Makes}
 use Rattle.ckc_cli_commands.specs.Running.{Ran, Listed, status_of}
 use Rattle.ckc_cli_commands.specs.Interpreting.{ShowsAs}
@@ -36,6 +36,9 @@ Comes (IsBad part) before after same s = (s ≡ status.BadImage part) × Idle be
 Comes (Keeps name bytes) before after same s = Keeping name bytes before.store after.store s × same.output × same.input
 Comes (Puts text) before after same s =
     Listed text before.output.written after.output.written before.output.faults after.output.faults s × Unkept before.store after.store × same.input
+Comes (PutsLine line) before after same s =
+    Listed line before.output.written after.output.written before.output.faults after.output.faults s
+    × (after.output.puts ≡ one_more before.output.puts) × Unkept before.store after.store × same.input
 Comes (Executes parts limit) before after same s =
     ((o : Observed) × (s ≡ status_of o) × Ran parts limit before after same.input o) × Unkept before.store after.store
 Comes (Interprets p limit) before after same s = ShowsAs p limit before after s × Unkept before.store after.store

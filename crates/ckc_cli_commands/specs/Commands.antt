@@ -7,9 +7,10 @@ use Rattle.ckc_image.specs.Image.{FirstBad}
 use Rattle.ckc_asm_listing.specs.Listing.{listing}
 use Rattle.ckc_asm.specs.Phase.{assembling}
 use Rattle.ckc_build.specs.Built.{Built, IsImage}
-use Rattle.ckc_build.specs.Meanings.{HasMeaning, FirstFault}
-use Rattle.ckc_cli_commands.specs.Words.{Command, Build, Assemble, Exec, Interp, Run, Show, NameAndLimit}
-use Rattle.ckc_cli_commands.specs.Outcomes.{Outcome, Refuses, IsBad, Keeps, Puts, Executes, Interprets}
+use Rattle.ckc_build.specs.Meanings.{judging, HasMeaning, FirstFault}
+use Rattle.ckc_cli_commands.specs.Words.{Command, Build, Assemble, Exec, Interp, Run, Show, Judge, NameAndLimit}
+use Rattle.ckc_cli_commands.specs.Outcomes.{Outcome, Refuses, IsBad, Keeps, Puts, PutsLine, Executes, Interprets}
+use Rattle.ckc_cli_commands.specs.Checking.{checked_line}
 
 -- ---- what is fetched
 
@@ -80,6 +81,9 @@ row_of (Interp text limit) =
 row_of (Run image limit) = one_file (codes "run") (λ words. NameAndLimit words image limit) (an_image image) (OfImage (λ parts. Executes parts limit))
 row_of (Show image) =
     one_file (codes "list") (λ words. words ≡ image ∷ []) (an_image image) (OfImage (λ parts. Puts (listing parts.entry parts.code parts.initial)))
+row_of (Judge text) =
+    one_file (codes "check") (λ words. words ≡ text ∷ []) (a_text text)
+    (OfText FirstFault judging.Makes (λ p. PutsLine (checked_line p)))
 
 -- The words are those of the command. They are compared byte for byte, and a name may be any word.
 abbrev pub Reads : List (List ℕ) → Command → Type 0

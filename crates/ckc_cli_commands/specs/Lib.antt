@@ -3,6 +3,7 @@ pub mod World
 pub mod Words
 pub mod Outcomes
 pub mod Commanded
+pub mod Checking
 pub mod Commands
 pub mod Running
 pub mod Causes

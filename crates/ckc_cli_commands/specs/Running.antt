@@ -49,7 +49,7 @@ status_of observed.WriteFault = status.WriteFault
 abbrev pub ListedFront : Option (List ℕ) → Option (List ℕ) → List ℕ → Type 0
 ListedFront old new bytes = (before : List ℕ) → old ≡ Some before → (k : ℕ) × (new ≡ Some (before ++ take k bytes))
 
--- What comes of listing an image.
+-- What comes of putting a text, as a listing.
 pub data Listed (text : List ℕ) (old new : Option (List ℕ)) (faults faults' : ℕ) (s : Status) : Type 0 where
   whole : s ≡ status.Done → Printed old new text → Listed text old new faults faults' s
   front : s ≡ status.WriteFault → Rose faults faults' → ListedFront old new text → Listed text old new faults faults' s

@@ -12,6 +12,7 @@ pub data Command : Type 0 where
   Interp : (text : List ℕ) (limit : ℕ) → Command
   Run : (image : List ℕ) (limit : ℕ) → Command
   Show : (image : List ℕ) → Command
+  Judge : (text : List ℕ) → Command
 
 -- the limit if the words say none
 abbrev pub usual_limit : ℕ

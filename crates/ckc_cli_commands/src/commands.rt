@@ -11,10 +11,11 @@ ghost use Rattle.ckc_cli_commands.specs.code.Judging.{fault_status};
 ghost use Rattle.ckc_cli_commands.specs.code.Fetching.{Fetches};
 
 use crate::assembly::assemble;
+use crate::checking::say_checked;
 use crate::run::{list_bytes, meant, run_bytes};
 use crate::status::Status;
 use ckc_base::{Fault, LONG_TEXT, LONGEST_TEXT, Refusal, START};
-use ckc_build::{build, program};
+use ckc_build::{build, judge, program};
 use ckc_cli_calls::{fetch_file, keep_file};
 use ckc_interp::interp;
 use ckc_outside::{Fetched, Sink, Source, Store, StoreError};
@@ -247,6 +248,47 @@ pub fn list_image<O: Sink, F: Store>(
         Err(status) => status,
         Ok(Fetched::Longer) => Status::BadImage(TOO_MANY_BYTES),
         Ok(Fetched::Whole(bytes)) => list_bytes(bytes.as_slice(), out),
+    }
+}
+
+/// `check TEXT`
+pub fn check_text<O: Sink, F: Store>(
+    alloc: Global,
+    text: &str,
+    out: &mut O,
+    store: &mut F,
+) -> Status
+    ensures cause { (input : SeenSource) (error error' : SeenSink) → Obeyed (w.Judge text.now)
+        (world input (O.seen out.old) error (F.seen store.old))
+        (world input (O.seen out.new) error' (F.seen store.new))
+        (output_alone out.old out.new) result }
+    ensures out_counts { (O.seen out.old).faults ≤ (O.seen out.new).faults }
+    ensures store_counts { (F.seen store.old).faults ≤ (F.seen store.new).faults }
+{
+    match fetch(alloc, text, TEXT_LIMIT, store) {
+        Err(status) => status,
+        Ok(Fetched::Longer) => too_long(),
+        Ok(Fetched::Whole(bytes)) => check_bytes(alloc, bytes.as_slice(), out),
+    }
+}
+
+/// Judges a text, and says whether it is wholly checked.
+fn check_bytes<O: Sink>(alloc: Global, bytes: &[u8], out: &mut O) -> Status
+    ensures cause { (text : List ℕ) (input : SeenSource) (error error' : SeenSink)
+        (before after : Stored) → Unkept before after → Came (w.Judge text) (bytes.now ∷ [])
+        (world input (O.seen out.old) error before)
+        (world input (O.seen out.new) error' after)
+        (output_alone out.old out.new) result }
+    ensures out_counts { (O.seen out.old).faults ≤ (O.seen out.new).faults }
+{
+    match judge(alloc, bytes) {
+        Err(fault) => status_of(fault),
+        Ok(typed) => {
+            let status = say_checked(&typed, out);
+            // The tree is left to the end of the process, which gives its memory back at once.
+            forget(typed);
+            status
+        }
     }
 }
 

@@ -2,6 +2,7 @@
 #![tactic(auto)]
 
 mod assembly;
+mod checking;
 mod commands;
 mod reporting;
 mod run;
@@ -9,7 +10,9 @@ mod status;
 mod words;
 
 pub use ckc_machine::FaultKind;
-pub use commands::{assemble_text, build_text, exec_text, interp_text, list_image, run_image};
+pub use commands::{
+    assemble_text, build_text, check_text, exec_text, interp_text, list_image, run_image,
+};
 pub use reporting::report;
 pub use status::Status;
 pub use words::{Command, command_of};

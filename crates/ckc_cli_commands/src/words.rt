@@ -15,6 +15,7 @@ pub enum Command<'a> {
     Interp(&'a str, u64),
     Run(&'a str, u64),
     List(&'a str),
+    Check(&'a str),
 }
 
 /// The first word of a command.
@@ -26,6 +27,7 @@ enum Keyword {
     Interp,
     Run,
     List,
+    Check,
 }
 
 /// The limit if the words say none.
@@ -56,6 +58,7 @@ fn keyword_of(name: &str) -> Option<Keyword>
         "interp" => Some(Keyword::Interp),
         "run" => Some(Keyword::Run),
         "list" => Some(Keyword::List),
+        "check" => Some(Keyword::Check),
         _ => None,
     }
 }
@@ -90,6 +93,10 @@ fn command_with(keyword: Keyword, more: &[String]) -> Option<Command<'_>>
         Keyword::List => match one_name(more) {
             None => None,
             Some(image) => Some(Command::List(image)),
+        },
+        Keyword::Check => match one_name(more) {
+            None => None,
+            Some(text) => Some(Command::Check(text)),
         },
     }
 }

@@ -7,7 +7,7 @@ use Rattle.ckc_cli_commands.specs.declared.words.Command as commands
 use Rattle.ckc_cli_commands.specs.Commanded.{command_is}
 use Rattle.ckc_cli_commands.specs.World.{World, Untouched}
 use Rattle.ckc_cli_commands.specs.Words.{Command}
-use Rattle.ckc_cli_commands.specs.Outcomes.{Outcome, Refuses, IsBad, Keeps, Puts, Executes, Interprets}
+use Rattle.ckc_cli_commands.specs.Outcomes.{Outcome, Refuses, IsBad, Keeps, Puts, PutsLine, Executes, Interprets}
 use Rattle.ckc_cli_commands.specs.Running.{Ran}
 use Rattle.ckc_cli_commands.specs.Causes.{Idle, Comes, Came, made, no_memory, Obeyed, not_fetched, fetched}
 
@@ -29,6 +29,7 @@ module _ (before after : World) (given wanted : Untouched) (s : Status) (put : g
   comes_as (IsBad part) c = (c.0, idle_as c.1)
   comes_as (Keeps name bytes) c = (c.0, put c.1, took c.2)
   comes_as (Puts text) c = (c.0, c.1, took c.2)
+  comes_as (PutsLine line) c = (c.0, c.1, c.2, took c.3)
   comes_as (Executes parts limit) c = ((c.0.0, c.0.1, ran_as parts limit c.0.0 c.0.2), c.1)
   comes_as (Interprets p limit) c = c
 

@@ -9,8 +9,8 @@ ghost use Rattle.ckc_cli_commands.specs.World.{world, streams, untouched};
 ghost use Rattle.ckc_cli_commands.specs.Causes.{Caused, Obeyed};
 
 use ckc_cli_commands::{
-    Command, Status, assemble_text, build_text, command_of, exec_text, interp_text, list_image,
-    run_image,
+    Command, Status, assemble_text, build_text, check_text, command_of, exec_text, interp_text,
+    list_image, run_image,
 };
 use ckc_outside::{Sink, Source, Store};
 use std::alloc::Global;
@@ -60,5 +60,6 @@ fn obey<'a, S: Source, O: Sink, F: Store>(
         Command::Interp(text, limit) => interp_text(alloc, text, limit, input, out, store),
         Command::Run(image, limit) => run_image(alloc, image, limit, input, out, store),
         Command::List(image) => list_image(alloc, image, out, store),
+        Command::Check(text) => check_text(alloc, text, out, store),
     }
 }

@@ -1,5 +1,5 @@
 use Rattle.std.proofs.Common.{refl}
-use Rattle.ckc_cli_commands.specs.Words.{Command, Build, Assemble, Exec, Interp, Run, Show}
+use Rattle.ckc_cli_commands.specs.Words.{Command, Build, Assemble, Exec, Interp, Run, Show, Judge}
 use Rattle.ckc_cli_commands.specs.declared.words.Command.TheVariants as command
 use Rattle.ckc_cli_commands.specs.World.{World, Untouched, world, streams, not_given, output_alone}
 use Rattle.ckc_cli_dispatch.proofs.Narrowed.{obeyed_with, command_as}
@@ -68,3 +68,16 @@ returns-in-List-clause-cause g c = λ error error'.
     let is : Command = Show c.in-List.image.now in
     command_as w w' wanted s is c.args.command (command.List c.in-List.image) c.in-List.is refl
     (obeyed_with w w' (output_alone out out') wanted s (λ e. e) (λ _. refl) is (c.list_image.ensures.cause (g.S.Source.seen input) error error'))
+
+pub returns-in-Check-clause-cause : goal.returns-in-Check-clause-cause
+returns-in-Check-clause-cause g c = λ error error'.
+    let input = c.args.input.now in
+    let out = c.args.out.now in
+    let out' = c.check_text.new.out in
+    let w : World = world (g.S.Source.seen input) (g.O.Sink.seen out) error (g.F.Store.seen c.args.store.now) in
+    let w' : World = world (g.S.Source.seen input) (g.O.Sink.seen out') error' (g.F.Store.seen c.check_text.new.store) in
+    let wanted : Untouched = streams input input out out' in
+    let s = c.check_text.result in
+    let is : Command = Judge c.in-Check.text.now in
+    command_as w w' wanted s is c.args.command (command.Check c.in-Check.text) c.in-Check.is refl
+    (obeyed_with w w' (output_alone out out') wanted s (λ e. e) (λ _. refl) is (c.check_text.ensures.cause (g.S.Source.seen input) error error'))

@@ -21,3 +21,7 @@ returns-clause-kept_untaken g c = λ words before after input input' out out' st
 pub returns-clause-listed_untaken : goal.returns-clause-listed_untaken
 returns-clause-listed_untaken g c = λ words before after input input' out out' store store' s cause name w.
     left.list_takes_nothing words before after (untouched input input' out out' store store') s cause name w
+
+pub returns-clause-checked_untaken : goal.returns-clause-checked_untaken
+returns-clause-checked_untaken g c = λ words before after input input' out out' store store' s cause name w.
+    left.check_takes_nothing words before after (untouched input input' out out' store store') s cause name w
