@@ -1,5 +1,5 @@
 //! The registers that are live at the beginning of each block.
-ghost use Rattle.std.specs.Prelude.{◌≡◌, ◌<◌, ◌≤◌, ◌+◌, if◌then◌else◌, length, replicate, true, false, IfOk, OnOk};
+ghost use Rattle.std.specs.Prelude.{◌≡◌, ◌<◌, ◌≤◌, ◌+◌, if◌then◌else◌, [], get_or, length, replicate, true, false, IfOk, OnOk, List};
 ghost use Rattle.std.specs.Bool.{MatchBool};
 ghost use Rattle.ckc_flow.specs.Live.{AreExact};
 ghost use Rattle.ckc_flow.specs.code.Rows.{made};
