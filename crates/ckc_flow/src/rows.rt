@@ -1,5 +1,5 @@
 //! The registers that are live at the beginning of each block.
-ghost use Rattle.std.specs.Prelude.{◌≡◌, ◌<◌, ◌≤◌, ◌+◌, if◌then◌else◌, [], get_or, length, replicate, true, false, IfOk, OnOk, List};
+ghost use Rattle.std.specs.Prelude.{◌≡◌, ◌<◌, [], get_or, length, replicate, false, IfOk, List};
 ghost use Rattle.std.specs.Bool.{MatchBool};
 ghost use Rattle.ckc_flow.specs.Live.{AreExact};
 ghost use Rattle.ckc_flow.specs.code.Rows.{made};
@@ -7,7 +7,7 @@ ghost use Rattle.ckc_flow.specs.code.Rounds.{AreClosed, AreSound, HasMore, IsWit
 
 use crate::transfer::{add, meet, pass_all};
 use ckc_base::Seq;
-use ckc_tac::{TacBlock, TacEnd, TacFunc};
+use ckc_tac::{TacBlock, TacFunc};
 use std::alloc::{AllocError, Global};
 
 /// A row for each block, with a mark for each register: whether it is live at the beginning of the block.
@@ -24,14 +24,12 @@ pub fn live(alloc: Global, f: &TacFunc) -> Result<LiveRows, AllocError>
     let blocks = f.blocks.as_slice();
     let mut rows = empty_rows(alloc, blocks.len(), f.regs)?;
     let mut row = vec![in alloc; false; f.regs as usize]?;
-    let mut changed = vec![in alloc; true; blocks.len()]?;
-    complete(
-        alloc,
-        blocks,
-        &mut rows,
-        row.as_mut_slice(),
-        changed.as_mut_slice(),
-    )?;
+    'rounds: loop {
+        let grown = round(alloc, blocks, &mut rows, row.as_mut_slice())?;
+        if !grown {
+            break;
+        }
+    }
     Ok(LiveRows {
         before: Seq::from_vec(rows),
     })
@@ -46,115 +44,6 @@ fn empty_rows(alloc: Global, blocks: usize, regs: u32) -> Result<Vec<Seq<bool>>,
         rows.push(Seq::from_vec(row))?;
     }
     Ok(rows)
-}
-
-/// Adds to rows until a round through all blocks finds nothing more.
-fn complete(
-    alloc: Global,
-    blocks: &[TacBlock],
-    rows: &mut Vec<Seq<bool>>,
-    row: &mut [bool],
-    changed: &mut [bool],
-) -> Result<(), AllocError>
-    requires { AreSound blocks.now (length row.old) rows.old.items }
-    ensures sound { OnOk result (AreSound blocks.now (length row.old) rows.new.items) }
-    ensures closed { OnOk result (AreClosed blocks.now (length row.old) 0 rows.new.items) }
-{
-    'rounds: loop {
-        settle(alloc, blocks, rows, row, changed)?;
-        let grown = round(alloc, blocks, rows, row)?;
-        if !grown {
-            break;
-        }
-    }
-    Ok(())
-}
-
-/// Visits blocks until no row grows, each only if the row of a block that it leads to grew when it was last passed. What
-/// the marks overlook a round finds.
-fn settle(
-    alloc: Global,
-    blocks: &[TacBlock],
-    rows: &mut Vec<Seq<bool>>,
-    row: &mut [bool],
-    changed: &mut [bool],
-) -> Result<(), AllocError>
-    requires { AreSound blocks.now (length row.old) rows.old.items }
-    ensures sound { OnOk result (AreSound blocks.now (length row.old) rows.new.items) }
-    ensures fewer { OnOk result (unset_in rows.new.items ≤ unset_in rows.old.items) }
-{
-    'passes: loop {
-        let grown = pass(alloc, blocks, rows, row, changed)?;
-        if !grown {
-            break;
-        }
-    }
-    Ok(())
-}
-
-/// Goes once through the blocks, last first, and says whether a row grew.
-fn pass(
-    alloc: Global,
-    blocks: &[TacBlock],
-    rows: &mut Vec<Seq<bool>>,
-    row: &mut [bool],
-    changed: &mut [bool],
-) -> Result<bool, AllocError>
-    requires { AreSound blocks.now (length row.old) rows.old.items }
-    ensures sound { IfOk result (λ grown. AreSound blocks.now (length row.old) rows.new.items) }
-    ensures fewer { IfOk result (λ grown.
-        unset_in rows.new.items + (if grown then 1 else 0) ≤ unset_in rows.old.items) }
-{
-    let mut grown = false;
-    let mut b = blocks.len();
-    'down: while b > 0 {
-        b -= 1;
-        if revisit(alloc, &blocks[b], b, rows, row, changed)? {
-            grown = true;
-        }
-    }
-    Ok(grown)
-}
-
-/// Visits a block if a block that it leads to has changed, and marks whether its row grew.
-fn revisit(
-    alloc: Global,
-    block: &TacBlock,
-    b: usize,
-    rows: &mut Vec<Seq<bool>>,
-    row: &mut [bool],
-    changed: &mut [bool],
-) -> Result<bool, AllocError>
-    requires there { b < length rows.old.items }
-    ensures { IfOk result (λ grown. MatchBool grown
-        (Visits (made rows.old.items (length row.old) block.now) b rows.old.items rows.new.items true)
-        (rows.new.items ≡ rows.old.items)) }
-{
-    if !is_stale(&block.end, changed) {
-        mark(changed, b, false);
-        return Ok(false);
-    }
-    let grown = visit(alloc, block, b, rows, row)?;
-    mark(changed, b, grown);
-    Ok(grown)
-}
-
-fn is_stale(end: &TacEnd, changed: &[bool]) -> bool {
-    match end {
-        TacEnd::Jump(to) => is_marked(changed, *to),
-        TacEnd::Branch(_, _, _, one, two) => is_marked(changed, *one) || is_marked(changed, *two),
-        TacEnd::Return(_) => false,
-    }
-}
-
-fn is_marked(marks: &[bool], b: u32) -> bool {
-    (b as usize) < marks.len() && marks[b as usize]
-}
-
-fn mark(marks: &mut [bool], b: usize, to: bool) {
-    if b < marks.len() {
-        marks[b] = to;
-    }
 }
 
 /// Goes once through all blocks, last first, and says whether a register was found to be live that was not known.
