@@ -1,15 +1,18 @@
 //! Cases of `ccc` over objects in memory: lines that are done one after another.
 use crate::notation::{bytes_of, image_of, number_of, numbers_of, split_word, words_of};
 use crate::statuses::status_of;
+use crate::watching::{put_stores, run_watched};
 use ckc_cli::{Status, ccc, report};
 use ckc_outside::{Fetched, MemSink, MemSource, MemStore, Sink, Store};
 use ckc_test_trials::{Page, Report};
+use ckc_test_watch::Stores;
 
 /// How many bytes a call may put on its output.
 const ROOM: usize = 65536;
 
 /// A case under way: the objects of the next call, the file that was named last, and what the last call left, as far as
-/// no line has told it yet. Whether its exit status was told, and how many calls there were.
+/// no line has told it yet. Whether its exit status was told, where the stores of a run that was watched went, if that was
+/// not told, and how many calls there were.
 struct Desk<'a> {
     err_fails: &'a [u64],
     input: Vec<u8>,
@@ -21,6 +24,7 @@ struct Desk<'a> {
     out: Vec<u8>,
     err: Vec<u8>,
     told: bool,
+    stores: Option<Stores>,
     calls: u32,
 }
 
@@ -37,6 +41,7 @@ impl Drop for Desk<'_> {
             out: _out,
             err: _err,
             told: _,
+            stores: _,
             calls: _,
         } = self;
     }
@@ -95,6 +100,7 @@ impl<'a> Desk<'a> {
             out: Vec::new(alloc),
             err: Vec::new(alloc),
             told: true,
+            stores: None,
             calls: 0,
         }
     }
@@ -106,6 +112,8 @@ impl<'a> Desk<'a> {
             "input" => self.input = bytes_of(rest, page),
             "ccc" => self.call(store, rest, page),
             "report" => self.report(rest, page),
+            "watch" => self.watch(store, rest, page),
+            "stores" => self.judge_stores(rest, page),
             "exit" | "status" | "out" | "err" => self.judge(key, rest, page),
             "|" => self.add_line(store, rest, page),
             _ => {
@@ -180,17 +188,56 @@ impl<'a> Desk<'a> {
     fn report(&mut self, rest: &str, page: &mut Page) {
         self.settle(page);
         self.status = status_of(rest, page);
+        self.put_report(page);
+    }
+
+    /// Puts the line of the status on standard error.
+    fn put_report(&mut self, page: &mut Page) {
         let mut room = [0u8; 128];
         let mut err = MemSink::new(&mut room, self.err_fails);
         let _ = err.put(report(&self.status).as_bytes());
         page.append(&mut self.err, err.written());
     }
 
-    /// Judges the last call, of which the exit status is to be told, and begins the next. What was not told of output
-    /// and standard error is that nothing is there.
+    /// `watch TEXT IMAGE`: runs the image of a wholly checked text, in place of a call, on a machine that watches its
+    /// stores.
+    fn watch(&mut self, store: &mut MemStore<'_>, rest: &str, page: &mut Page) {
+        self.settle(page);
+        let (text, image) = split_word(rest);
+        let text = kept(store, text, page);
+        let image = kept(store, image, page);
+        let ran = run_watched(
+            text.as_slice(),
+            image.as_slice(),
+            self.input.as_slice(),
+            &mut self.out,
+            page,
+        );
+        if let Some((status, stores)) = ran {
+            self.status = status;
+            self.stores = Some(stores);
+        }
+        self.put_report(page);
+    }
+
+    /// `stores HEAP BLOCKS` or `stores outside ADDRESS`: judges where the stores of the last run went.
+    fn judge_stores(&mut self, wanted: &str, page: &mut Page) {
+        match self.stores {
+            Some(stores) => {
+                let mut came = Page::new(page.alloc());
+                put_stores(&stores, &mut came);
+                want(came.text() == wanted, page);
+                self.stores = None;
+            }
+            None => page.refuse("no run was watched"),
+        }
+    }
+
+    /// Judges the last call, of which the exit status and the stores that were watched are to be told, and begins the
+    /// next. What was not told of output and standard error is that nothing is there.
     fn settle(&mut self, page: &mut Page) {
         want(
-            self.told && self.out.is_empty() && self.err.is_empty(),
+            self.told && self.stores.is_none() && self.out.is_empty() && self.err.is_empty(),
             page,
         );
         self.told = false;
@@ -235,6 +282,10 @@ impl<'a> Desk<'a> {
         page.put_escaped(self.out.as_slice());
         page.put(", err ");
         page.put_escaped(self.err.as_slice());
+        if let Some(stores) = self.stores {
+            page.put(", stores ");
+            put_stores(&stores, page);
+        }
     }
 }
 
@@ -260,6 +311,17 @@ pub fn tell(head: &str, page: &Page, report: &mut Report) {
 pub fn want(holds: bool, page: &mut Page) {
     if !holds {
         page.refuse("differs");
+    }
+}
+
+/// What the store has there.
+fn kept(store: &mut MemStore<'_>, name: &str, page: &mut Page) -> Vec<u8> {
+    match store.fetch(page.alloc(), name, u64::MAX) {
+        Ok(Fetched::Whole(bytes)) => bytes.into_vec(),
+        _ => {
+            page.refuse("nothing is kept");
+            Vec::new(page.alloc())
+        }
     }
 }
 

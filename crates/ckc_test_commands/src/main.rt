@@ -11,6 +11,7 @@ mod pages;
 mod rows;
 mod sizes;
 mod statuses;
+mod watching;
 
 use ckc_test_trials::{File, Page, Report, files_named};
 use code::Runs;

@@ -17,6 +17,11 @@ fn frame_of(command: &str) -> Option<Frame> {
             "\nfails input 1\nfails out 1\nccc asm text image\n",
             "\nlacks image",
         )),
+        "watch" => Some(Frame(
+            "file text ",
+            "\nccc build text image\nexit 0\nstatus Done\nwatch text image\n",
+            "",
+        )),
         "parts" => Some(Frame(
             "file text ",
             "\nfails input 1\nfails out 1\nccc asm text image\nexit 0\nstatus Done\nparts image ",
@@ -46,7 +51,11 @@ pub fn lines_of(row: &str, lines: &mut Page) {
             lines.put(before);
             lines.put(text.strip_prefix(' ').unwrap_or(text));
             lines.put(between);
-            put_wanted(command, wanted, lines);
+            if command == "watch" {
+                put_watched(wanted, lines);
+            } else {
+                put_wanted(command, wanted, lines);
+            }
             lines.put(after);
         }
         None => lines.refuse("no form has the row"),
@@ -76,6 +85,18 @@ fn put_wanted(command: &str, wanted: &str, lines: &mut Page) {
         lines.put(rest);
         lines.put("\\n");
     }
+}
+
+/// Writes what is wanted of a run that is watched: how many stores go to the heap word and into blocks, and then the rest
+/// as of a call.
+fn put_watched(wanted: &str, lines: &mut Page) {
+    let (heap, rest) = split_word(wanted);
+    let (blocks, rest) = split_word(rest);
+    put_wanted("watch", rest, lines);
+    lines.put("\nstores ");
+    lines.put(heap);
+    lines.put(" ");
+    lines.put(blocks);
 }
 
 fn put_ended(rest: &str, lines: &mut Page) {
