@@ -13,10 +13,10 @@ returns-in-Err-clause-cause g c = λ text input error error' before after unkept
     let out = c.args.out.now in
     let w : World = world input (g.O.Sink.seen out) error before in
     let w' : World = world input (g.O.Sink.seen out) error' after in
-    faulted w w' (output_alone out out) c.status_of.result judging (Judge text) c.args.bytes.now c.in-Err.fault (λ r f. inl f) c.in-Err.ensures.answers c.status_of.ensures
+    faulted w w' (output_alone out out) c.status_of.result judging (Judge text) c.args.bytes.now c.in-Err.fault (λ r f. inl f) c.in-Err.ensures.exact.answers c.status_of.ensures
     (record { unkept = unkept; put = refl; took = tt })
 
 pub returns-in-Ok-clause-cause : goal.returns-in-Ok-clause-cause
 returns-in-Ok-clause-cause g c = λ text input error error' before after unkept.
     let said = c.say_checked-status.ensures in
-    causes.made (outcome.PutsLine (checked_line c.in-Ok.typed)) (c.in-Ok.typed, c.in-Ok.ensures.answers, refl) (said.listed, said.once, unkept, tt)
+    causes.made (outcome.PutsLine (checked_line c.in-Ok.typed)) (c.in-Ok.typed, c.in-Ok.ensures.exact.answers, refl) (said.listed, said.once, unkept, tt)
