@@ -21,7 +21,7 @@ use Rattle.ckc_build_elaborate.specs.Statements.{one, alone, code_if, literals_i
 use Rattle.ckc_blame_sound.specs.Settings.{Setting}
 use Rattle.ckc_blame_sound.specs.Points.{IsKnown, GoesTo}
 use Rattle.ckc_blame_sound.specs.Steps.{IsCondition}
-use Rattle.ckc_blame_sound.specs.Judged.{Exits, Turns, in_body, in_step, Judged}
+use Rattle.ckc_blame_sound.specs.Judged.{Exits, ending, Turns, in_body, Judged}
 use Rattle.ckc_blame_sound.proofs.Joined.{less_known}
 use Rattle.ckc_blame_walk.specs.Walks.{Nesting, is_branch, begins, steps, AreSmall, IsLeft, IsExit, MayLeave, Stays}
 use Rattle.ckc_blame_walk.proofs.Adds.{Adds, adds_none, side_adds}
@@ -141,7 +141,7 @@ module _ (s : Setting) where
               closed_code s (stmt_elaborated s.text s.variables s.result (k + literals_of v.0) q.0) (in_body points) yes q.1
                   (exit_end s.frame ks yes q.1 head yes_small body.stays (extended_has yes.seen q.1.seen body.extends) to_head)
                   (body.code (moved.counting ∙ count) yes_small (k + literals_of v.0) (in_body points) body_may),
-              goes_nowhere head,
+              λ exits. goes_nowhere head,
             ),
             behind,
           )
@@ -312,10 +312,10 @@ module _ (s : Setting) where
                 continues = λ c. subst (λ b. IsExit s.frame us for_yes (step_at b)) (sym c) (step_exit begun_small);
               }
 
-              step_may : MayLeave s.frame ts (breaks_if step) (continues_if step) (step_at path.continues) (in_step for_points)
-              step_may =
+              step_may : (exits : Exits) → MayLeave s.frame ts (breaks_if step) (continues_if step) (step_at path.continues) (ending exits for_head)
+              step_may exits =
                   let plain = ws.plain (steps_plain step_nest stepping).1 in
-                  may_not s.frame ts (breaks_if step) (continues_if step) (step_at path.continues) (in_step for_points) plain.0 plain.1
+                  may_not s.frame ts (breaks_if step) (continues_if step) (step_at path.continues) (ending exits for_head) plain.0 plain.1
 
               for_judged_code : (exits : Exits) (rest : Code) → Judged s rest exits next
                   → Judged s (turns s.text s.variables s.result (spot at note.mode) k v.0 (part_if x.0) (part_of q.0) rest) exits p.1
@@ -329,10 +329,11 @@ module _ (s : Setting) where
                   closed_code s (stmt_elaborated s.text s.variables s.result (k + literals_of_value v.0 + literals_if (part_if x.0)) q.0) (in_body for_points) for_yes q.1
                       (to_the_step begun_small path.continues)
                       (body.code yes_count (for_small begun_small) (k + literals_of_value v.0 + literals_if (part_if x.0)) (in_body for_points) for_may),
-                  closed_code s (code_if (part_if x.0) s.text s.variables s.result (k + literals_of_value v.0)) (in_step for_points) (step_at path.continues) x.1
+                  λ exits.
+                  closed_code s (code_if (part_if x.0) s.text s.variables s.result (k + literals_of_value v.0)) (ending exits for_head) (step_at path.continues) x.1
                       (exit_end s.frame ts (step_at path.continues) x.1 for_head (step_small begun_small path.continues) last.stays (extended_has (step_at path.continues).seen x.1.seen last.extends)
                       (head_after begun_small path.continues))
-                      (last.code (step_counting path.continues ∙ body.counting ∙ yes_count) (step_small begun_small path.continues) (k + literals_of_value v.0) (in_step for_points) step_may),
+                      (last.code (step_counting path.continues ∙ body.counting ∙ yes_count) (step_small begun_small path.continues) (k + literals_of_value v.0) (ending exits for_head) (step_may exits)),
                 ),
                 behind,
               )
