@@ -1,0 +1,105 @@
+//! What follows from the definitions alone, each the contract of a function that does nothing.
+
+ghost use Rattle.std.specs.Prelude.{◌≡◌, ◌≢◌, ℕ, true, List, [], ◌∷◌, Err};
+ghost use Rattle.ckc_base.specs.Lists.{AreBytes};
+ghost use Rattle.ckc_base.specs.Steps.{Halts};
+ghost use Rattle.ckc_base.specs.Traces.{Ended};
+ghost use Rattle.ckc_typed.specs.declared.typed.Typed.{Typed};
+ghost use Rattle.ckc_bounds_statements.specs.Paths.{Here};
+ghost use Rattle.ckc_source.specs.declared.outcome.Halt.TheVariants as halt;
+ghost use Rattle.ckc_source.specs.declared.program.Shape.{Shape};
+ghost use Rattle.ckc_source.specs.declared.stmt.Spot.{Spot};
+ghost use Rattle.ckc_source.specs.Blocks.{Block};
+ghost use Rattle.ckc_source.specs.Code.{Code, Expr, Function, If, Loop, Return};
+ghost use Rattle.ckc_source.specs.Eval.{Store, evaluated};
+ghost use Rattle.ckc_source.specs.States as states;
+ghost use Rattle.ckc_source.specs.States.{State, Caller, Work, Rest, Turn, settled};
+ghost use Rattle.ckc_source.specs.Steps.{source_step};
+ghost use Rattle.ckc_build_elaborate.specs.Elaborated.{elaborated};
+ghost use Rattle.ckc_build_elaborate.specs.Shapes.{shapes_elaborated};
+ghost use Rattle.ckc_blame_sound.specs.Settings.{Setting};
+ghost use Rattle.ckc_blame_sound.specs.Points.{HoldsAt};
+ghost use Rattle.ckc_blame_sound.specs.Calls.{store_in, Stands, AreWaiting};
+ghost use Rattle.ckc_blame_sound.specs.Slots.{AreFilled};
+ghost use Rattle.ckc_blame_sound.specs.Sound.{Sound};
+ghost use Rattle.ckc_blame_runs.specs.Moves.{IsSoundMove};
+ghost use Rattle.ckc_blame_slots.specs.Cells.{AreSound};
+ghost use Rattle.ckc_blame_slots.specs.Limited.{store_with};
+ghost use Rattle.ckc_blame_control.specs.Ready.{IsReady, Begins, Faces, is_step};
+ghost use Rattle.ckc_blame_control.specs.Decided.{IsDecided};
+ghost use Rattle.ckc_blame_control.specs.Kept.{KeepRanges, IsSameCall};
+
+/// What comes next in a call, from the next step on, is judged from a point that holds if what came
+/// next before was: the ends of statements, `break`, `continue` and turns of loops lead to such
+/// points. It begins with a step.
+pub fn settling_keeps_points()
+    ensures stands { (p : Typed) (blocks : List Block) (frame : states.Frame) (s : Setting) →
+        Stands p blocks frame s
+        → IsReady s (store_in p blocks frame) frame.entry frame.work }
+    ensures ready { (s : Setting) (store : Store) (entry : List ℕ) (work : List Work) →
+        IsReady s store entry work → IsReady s store entry (settled work) }
+    ensures begins { (s : Setting) (store : Store) (entry : List ℕ) (work next : List Work)
+        (code : Code) → IsReady s store entry work → settled work ≡ Rest code ∷ next
+        → (is_step code ≡ true) × Begins s store entry code next }
+    ensures turns { (s : Setting) (store : Store) (entry : List ℕ) (work next : List Work)
+        (code : Code) → IsReady s store entry work → settled work ≢ Turn code ∷ next }
+{}
+
+/// An `if` or a loop that is the next step of a sound state leads to a sound state, or stops, if its
+/// condition leads to a side that holds.
+pub fn conditions_stay_sound()
+    ensures branch { (p : Typed) (s : State) (h : Sound p s) (spot : Spot) (e : Expr)
+        (one two rest : Code) (next : List Work) →
+        settled s.frame.work ≡ Rest (If spot e one two rest) ∷ next
+        → IsDecided h.setting (store_in p s.blocks s.frame) s.frame.entry e
+        → IsSoundMove p (source_step (elaborated p) s) }
+    ensures turn { (p : Typed) (s : State) (h : Sound p s) (spot : Spot) (e : Expr)
+        (body step rest : Code) (next : List Work) →
+        settled s.frame.work ≡ Rest (Loop spot e body step rest) ∷ next
+        → IsDecided h.setting (store_in p s.blocks s.frame) s.frame.entry e
+        → IsSoundMove p (source_step (elaborated p) s) }
+{}
+
+/// The run ends if the first call falls off its end, and if it returns a value.
+pub fn first_calls_end()
+    ensures falls { (p : Typed) (s : State) → settled s.frame.work ≡ [] → s.callers ≡ []
+        → source_step (elaborated p) s ≡ Halts [] (Ended 0) }
+    ensures returns { (p : Typed) (s : State) (spot : Spot) (e : Expr) (rest : Code)
+        (next : List Work) → settled s.frame.work ≡ Rest (Return spot e rest) ∷ next
+        → s.callers ≡ [] → evaluated (store_in p s.blocks s.frame) e ≢ Err halt.Stuck
+        → IsSoundMove p (source_step (elaborated p) s) }
+{}
+
+/// A point that holds still holds, and each call that waits still waits, in blocks in which each range
+/// that was true is true.
+pub fn points_outlive_stores()
+    ensures point { (s : Setting) (shapes : List Shape) (before after : List Block)
+        (locals entry : List ℕ) (here : Here) → KeepRanges shapes before after
+        → HoldsAt s (store_with shapes before locals) entry here
+        → HoldsAt s (store_with shapes after locals) entry here }
+    ensures calls { (p : Typed) (before after : List Block) (callers : List Caller)
+        (called : Setting) (callee : Function) (entry : List ℕ) →
+        KeepRanges (shapes_elaborated p.layout) before after
+        → AreWaiting p before callers called callee entry
+        → AreWaiting p after callers called callee entry }
+{}
+
+/// A state after a sound one, in the same call, is sound if its blocks are, each range that was true is
+/// true, each checked pointer in memory may be read, and what comes next is judged from a point that
+/// holds. After the step in front that is the point that it leads to.
+pub fn states_stay_sound()
+    ensures ready { (p : Typed) (s t : State) (h : Sound p s) → IsSameCall s t
+        → KeepRanges (shapes_elaborated p.layout) s.blocks t.blocks
+        → AreSound p t.blocks t.next → AreFilled p (store_in p t.blocks t.frame)
+        → AreBytes t.input
+        → IsReady h.setting (store_in p t.blocks t.frame) t.frame.entry t.frame.work
+        → Sound p t }
+    ensures step { (p : Typed) (s t : State) (h : Sound p s) (step : Code → Code)
+        (next : List Work)
+        (f : Faces h.setting (store_in p s.blocks s.frame) s.frame.entry step next) →
+        IsSameCall s t → KeepRanges (shapes_elaborated p.layout) s.blocks t.blocks
+        → AreSound p t.blocks t.next → AreFilled p (store_in p t.blocks t.frame)
+        → AreBytes t.input → t.frame.work ≡ next
+        → HoldsAt h.setting (store_in p t.blocks t.frame) t.frame.entry f.exits.ends
+        → Sound p t }
+{}

@@ -1,0 +1,9 @@
+//! What is no assignment and no call keeps a state sound.
+#![tactic(auto)]
+
+mod laws;
+
+pub use laws::{
+    conditions_stay_sound, first_calls_end, points_outlive_stores, settling_keeps_points,
+    states_stay_sound,
+};
