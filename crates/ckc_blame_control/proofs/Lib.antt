@@ -2,3 +2,4 @@ pub mod Settled
 pub mod Moved
 pub mod Conditions
 pub mod Kept
+pub mod Faced

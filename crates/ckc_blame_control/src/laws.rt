@@ -1,6 +1,6 @@
 //! What follows from the definitions alone, each the contract of a function that does nothing.
 
-ghost use Rattle.std.specs.Prelude.{◌≡◌, ◌≢◌, ℕ, true, List, [], ◌∷◌, Err};
+ghost use Rattle.std.specs.Prelude.{◌≡◌, ◌≢◌, ℕ, true, List, [], ◌∷◌, Option, Err};
 ghost use Rattle.ckc_base.specs.Lists.{AreBytes};
 ghost use Rattle.ckc_base.specs.Steps.{Halts};
 ghost use Rattle.ckc_base.specs.Traces.{Ended};
@@ -8,9 +8,10 @@ ghost use Rattle.ckc_typed.specs.declared.typed.Typed.{Typed};
 ghost use Rattle.ckc_bounds_statements.specs.Paths.{Here};
 ghost use Rattle.ckc_source.specs.declared.outcome.Halt.TheVariants as halt;
 ghost use Rattle.ckc_source.specs.declared.program.Shape.{Shape};
+ghost use Rattle.ckc_source.specs.declared.stmt.Kept.{Kept};
 ghost use Rattle.ckc_source.specs.declared.stmt.Spot.{Spot};
 ghost use Rattle.ckc_source.specs.Blocks.{Block};
-ghost use Rattle.ckc_source.specs.Code.{Code, Expr, Function, If, Loop, Return};
+ghost use Rattle.ckc_source.specs.Code.{Code, Expr, Target, Right, Assign, Bundle, Get, Put, Call, If, Loop, Return, Check, Function};
 ghost use Rattle.ckc_source.specs.Eval.{Store, evaluated};
 ghost use Rattle.ckc_source.specs.States as states;
 ghost use Rattle.ckc_source.specs.States.{State, Caller, Work, Rest, Turn, settled};
@@ -43,6 +44,41 @@ pub fn settling_keeps_points()
         → (is_step code ≡ true) × Begins s store entry code next }
     ensures turns { (s : Setting) (store : Store) (entry : List ℕ) (work next : List Work)
         (code : Code) → IsReady s store entry work → settled work ≢ Turn code ∷ next }
+{}
+
+/// A step that comes next is judged at a point that holds, and what comes after it from the point that
+/// it leads to.
+pub fn steps_are_judged()
+    ensures assignment { (s : Setting) (store : Store) (entry : List ℕ) (work next : List Work)
+        (spot : Spot) (target : Target) (right : Right) (rest : Code) →
+        IsReady s store entry work
+        → settled work ≡ Rest (Assign spot target right rest) ∷ next
+        → Faces s store entry (Assign spot target right) (Rest rest ∷ next) }
+    ensures bundle { (s : Setting) (store : Store) (entry : List ℕ) (work next : List Work)
+        (spot : Spot) (assigns : List (Target × Right)) (rest : Code) →
+        IsReady s store entry work → settled work ≡ Rest (Bundle spot assigns rest) ∷ next
+        → Faces s store entry (Bundle spot assigns) (Rest rest ∷ next) }
+    ensures get { (s : Setting) (store : Store) (entry : List ℕ) (work next : List Work)
+        (spot : Spot) (target : Target) (rest : Code) → IsReady s store entry work
+        → settled work ≡ Rest (Get spot target rest) ∷ next
+        → Faces s store entry (Get spot target) (Rest rest ∷ next) }
+    ensures put { (s : Setting) (store : Store) (entry : List ℕ) (work next : List Work)
+        (spot : Spot) (target : Target) (e : Expr) (rest : Code) → IsReady s store entry work
+        → settled work ≡ Rest (Put spot target e rest) ∷ next
+        → Faces s store entry (Put spot target e) (Rest rest ∷ next) }
+    ensures call { (s : Setting) (store : Store) (entry : List ℕ) (work next : List Work)
+        (spot : Spot) (target : Option Kept) (number : ℕ) (es : List Expr) (rest : Code) →
+        IsReady s store entry work
+        → settled work ≡ Rest (Call spot target number es rest) ∷ next
+        → Faces s store entry (Call spot target number es) (Rest rest ∷ next) }
+    ensures returns { (s : Setting) (store : Store) (entry : List ℕ) (work next : List Work)
+        (spot : Spot) (e : Expr) (rest : Code) → IsReady s store entry work
+        → settled work ≡ Rest (Return spot e rest) ∷ next
+        → Faces s store entry (Return spot e) (Rest rest ∷ next) }
+    ensures check { (s : Setting) (store : Store) (entry : List ℕ) (work next : List Work)
+        (spot : Spot) (e : Expr) (rest : Code) → IsReady s store entry work
+        → settled work ≡ Rest (Check spot e rest) ∷ next
+        → Faces s store entry (Check spot e) (Rest rest ∷ next) }
 {}
 
 /// An `if` or a loop that is the next step of a sound state leads to a sound state, or stops, if its

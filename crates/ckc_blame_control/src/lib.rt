@@ -5,5 +5,5 @@ mod laws;
 
 pub use laws::{
     conditions_stay_sound, first_calls_end, points_outlive_stores, settling_keeps_points,
-    states_stay_sound,
+    states_stay_sound, steps_are_judged,
 };
