@@ -1,15 +1,16 @@
 -- Conditions keep a state sound: `if`, loops and dynamic checks.
 use Rattle.std.proofs.Common.{◌≡◌, ℕ, List, [], ◌∷◌}
 use Rattle.std.specs.Prelude.{◌==◌, Bool, true, false, if◌then◌else◌, Result, Ok, Err}
-use Rattle.ckc_base.specs.Steps.{Move, Goes}
-use Rattle.ckc_base.specs.Traces.{Event}
+use Rattle.ckc_base.specs.Steps.{Move, Goes, Halts}
+use Rattle.ckc_base.specs.Traces.{Event, Stopped}
+use Rattle.ckc_base.specs.declared.runtime_checks.Check.TheVariants as check
 use Rattle.ckc_typed.specs.declared.typed.Typed.{Typed}
 use Rattle.ckc_bounds_statements.specs.Paths.{Here}
 use Rattle.ckc_source.specs.declared.outcome.Halt.{Halt}
 use Rattle.ckc_source.specs.declared.outcome.Halt.TheVariants as halt
 use Rattle.ckc_source.specs.declared.outcome.Value.{Value}
 use Rattle.ckc_source.specs.declared.stmt.Spot.{Spot}
-use Rattle.ckc_source.specs.Code.{Code, Expr, If, Loop}
+use Rattle.ckc_source.specs.Code.{Code, Expr, If, Loop, Check}
 use Rattle.ckc_source.specs.Eval.{Store, evaluated}
 use Rattle.ckc_source.specs.States.{Work, Rest, Turn, State, settled}
 use Rattle.ckc_source.specs.Steps.{and_moves, at_work, source_step}
@@ -21,9 +22,11 @@ use Rattle.ckc_blame_sound.specs.Calls.{store_in}
 use Rattle.ckc_blame_sound.specs.Sound.{Sound}
 use Rattle.ckc_blame_sound.proofs.Kept.{point_kept}
 use Rattle.ckc_blame_runs.specs.Moves.{IsSoundMove}
-use Rattle.ckc_blame_control.specs.Ready.{IsReady, Begins}
+use Rattle.ckc_blame_control.specs.Ready.{IsReady, Begins, Faces}
 use Rattle.ckc_blame_control.specs.Decided.{LeadsTo, IsDecided}
 use Rattle.ckc_blame_control.proofs.Settled.{stays, ready_begins}
+use Rattle.ckc_blame_control.proofs.Checks.{Tests, check_tests}
+use Rattle.ckc_blame_control.proofs.Faced.{faces_check}
 use Rattle.ckc_blame_control.proofs.Moved.{stopped, stands_ready, sound_at, move_by}
 
 module _ (s : Setting) (store : Store) (entry : List ℕ) where
@@ -105,3 +108,22 @@ module _ (p : Typed) (s : State) (h : Sound p s) where
       (λ v g.
       sound_at p s h (if v.number == 0 then Rest rest ∷ next else Rest body ∷ Turn loop ∷ next)
       (loop_ready h.setting store s.frame.entry spot e body step rest next b.exits b.judged.0 b.judged.2 b.judged.3 b.work (v.number == 0) g)))
+
+  pub check_sound : (spot : Spot) (e : Expr) (rest : Code) (next : List Work) → settled s.frame.work ≡ Rest (Check spot e rest) ∷ next → IsDecidedHere e
+      → IsSoundMove p (source_step (elaborated p) s)
+  check_sound spot e rest next is d =
+      let f : Faces h.setting store s.frame.entry (Check spot e) (Rest rest ∷ next) = faces_check h.setting store s.frame.entry s.frame.work next (stands_ready p s h) spot e rest is in
+      let t : Tests h.setting f.here e f.exits.ends = check_tests h.setting f.here f.exits.ends spot e f.judged in
+      let go : HoldsAt h.setting store s.frame.entry t.one → Sound p (at_work s (Rest rest ∷ next)) =
+      λ g. sound_at p s h (Rest rest ∷ next) (record { exits = f.exits; work = f.work; holds = point_kept h.setting store s.frame.entry t.one f.exits.ends t.goes g }) in
+      move_by p s (Rest (Check spot e rest) ∷ next) is
+      (decided_moves h.setting store s.frame.entry p t.one t.other (evaluated store e)
+      (λ v. if v.number == 0 then Halts [] (Stopped check.Dynamic spot.at) else Goes [] (at_work s (Rest rest ∷ next)))
+      (d f.here t.one t.other t.is f.holds)
+      (λ v g. by (v.number == 0) t go g))
+    where
+      by : (zero : Bool) {here there : Here} (t : Tests h.setting here e there) → (HoldsAt h.setting store s.frame.entry t.one → Sound p (at_work s (Rest rest ∷ next)))
+          → HoldsAt h.setting store s.frame.entry (if zero then t.other else t.one)
+          → IsSoundMove p (if zero then Halts [] (Stopped check.Dynamic spot.at) else Goes [] (at_work s (Rest rest ∷ next)))
+      by true t go g = stopped check.Dynamic spot.at
+      by false t go g = go g

@@ -3,3 +3,4 @@ pub mod Moved
 pub mod Conditions
 pub mod Kept
 pub mod Faced
+pub mod Checks

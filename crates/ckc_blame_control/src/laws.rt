@@ -81,12 +81,16 @@ pub fn steps_are_judged()
         → Faces s store entry (Check spot e) (Rest rest ∷ next) }
 {}
 
-/// An `if` or a loop that is the next step of a sound state leads to a sound state, or stops, if its
-/// condition leads to a side that holds.
+/// An `if`, a loop or a dynamic check that is the next step of a sound state leads to a sound state, or
+/// stops, if its condition leads to a side that holds.
 pub fn conditions_stay_sound()
     ensures branch { (p : Typed) (s : State) (h : Sound p s) (spot : Spot) (e : Expr)
         (one two rest : Code) (next : List Work) →
         settled s.frame.work ≡ Rest (If spot e one two rest) ∷ next
+        → IsDecided h.setting (store_in p s.blocks s.frame) s.frame.entry e
+        → IsSoundMove p (source_step (elaborated p) s) }
+    ensures check { (p : Typed) (s : State) (h : Sound p s) (spot : Spot) (e : Expr)
+        (rest : Code) (next : List Work) → settled s.frame.work ≡ Rest (Check spot e rest) ∷ next
         → IsDecided h.setting (store_in p s.blocks s.frame) s.frame.entry e
         → IsSoundMove p (source_step (elaborated p) s) }
     ensures turn { (p : Typed) (s : State) (h : Sound p s) (spot : Spot) (e : Expr)
