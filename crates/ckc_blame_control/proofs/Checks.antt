@@ -85,9 +85,6 @@ out_assign e f = search (rules, the_lemmas)
 out_local : (d : NotedDecl) → out-Act Name Note (act.Local d) ≡ Act-F.Local d
 out_local d = search (rules, the_lemmas)
 
-same_value : {A : Type 0} (a b : A) → ◌≡◌ {A = Outcome A} (Ok a) (Ok b) → a ≡ b
-same_value a b e = cc
-
 module _ (s : Setting) (here there : Here) (sp : Spot) (e : Expr) (step : IsStep s here (Check sp e) there) where
   -- what the statement is judged as, by its layer
   judged_as : (d : ActLayer) → out-Act Name Note step.before.body ≡ d → act_judged (viewed d) s.frame s.head step.before.pos step.before.note here ≡ Ok (step.after, step.behind)
@@ -156,9 +153,8 @@ module _ (s : Setting) (here there : Here) (sp : Spot) (e : Expr) (step : IsStep
       let last = pair_same m.0.0 step.after n.0 step.behind n.2 in
       let x = made_of (value_judged s.frame p here) (λ a. bind (value_judged s.frame q a.1) (λ b. Ok (stated step.before.pos step.before.note (act.Assign a.0 b.0), b.1))) m.0 m.1 in
       let y = made_of (value_judged s.frame q x.0.1) (λ b. Ok (stated step.before.pos step.before.note (act.Assign x.0.0 b.0), b.1)) m.0 x.2 in
-      let both : ◌≡◌ {A = NotedStmt × Here} (stated step.before.pos step.before.note (act.Assign x.0.0 y.0.0), y.0.1) m.0 =
-      same_value (stated step.before.pos step.before.note (act.Assign x.0.0 y.0.0), y.0.1) m.0 y.2 in
-      let made : stated step.before.pos step.before.note (act.Assign x.0.0 y.0.0) ≡ step.after = ap (λ (z : NotedStmt × Here). z.0) both ∙ last.0 in
+      let both = pair_same (stated step.before.pos step.before.note (act.Assign x.0.0 y.0.0)) m.0.0 y.0.1 m.0.1 y.2 in
+      let made : stated step.before.pos step.before.note (act.Assign x.0.0 y.0.0) ≡ step.after = both.0 ∙ last.0 in
       no_other (Act-F.Assign x.0.0 y.0.0) (layer_of (act.Assign x.0.0 y.0.0) (Act-F.Assign x.0.0 y.0.0) made (out_assign x.0.0 y.0.0))
       (assigned s.text s.variables at (destination_of s.text s.variables step.literals x.0.0) (step.literals + literals_of x.0.0) y.0.0) refl
       (assigned_other s.text s.variables at (destination_of s.text s.variables step.literals x.0.0) (step.literals + literals_of x.0.0) y.0.0)

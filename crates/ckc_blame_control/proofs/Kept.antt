@@ -1,6 +1,6 @@
 -- Points that hold and calls that wait stay so if each range that was true is true.
-use Rattle.std.proofs.Common.{◌≡◌, ℕ, List, [], ◌∷◌, refl, sym, subst}
-use Rattle.std.specs.Prelude.{◌≤◌, length, Bool, true, false, ◌==◌, if◌then◌else◌, ℤ, pos, negsuc, Option, None, Some, Err, IsOk}
+use Rattle.std.proofs.Common.{◌≡◌, ℕ, List, [], ◌∷◌, refl, sym, subst, ◌∙◌, ◌++◌}
+use Rattle.std.specs.Prelude.{Ok, ◌≤◌, length, Bool, true, false, ◌==◌, if◌then◌else◌, ℤ, pos, negsuc, Option, None, Some, Err, IsOk}
 use Rattle.ckc_base.specs.Lists.{AreBytes}
 use Rattle.ckc_types.specs.declared.types.CType.{CType}
 use Rattle.ckc_typed.specs.declared.typed.Typed.{Typed}
@@ -27,6 +27,10 @@ use Rattle.ckc_blame_sound.specs.Slots.{AreFilled}
 use Rattle.ckc_blame_sound.specs.Sound.{Sound}
 use Rattle.ckc_blame_slots.specs.Cells.{AreSound}
 use Rattle.ckc_blame_slots.specs.Limited.{store_with}
+use Rattle.ckc_blame_slots.specs.Writes.{AreCellWrites}
+use Rattle.ckc_blame_slots.proofs.Written.{all_keep}
+use Rattle.ckc_blame_slots.proofs.Fresh.{true_before}
+use Rattle.ckc_source.specs.Steps.{Write, all_written}
 use Rattle.ckc_blame_control.specs.Ready.{IsReady, Faces}
 use Rattle.ckc_blame_control.specs.Kept.{KeepRanges, IsSameCall}
 
@@ -97,6 +101,15 @@ module _ (p : Typed) (before after : List Block) (keep : KeepRanges (shapes_elab
   waiting_kept [] called callee entry w = tt
   waiting_kept (caller ∷ callers) called callee entry w =
       (w.0, waits_kept caller w.0 called callee entry w.1, waiting_kept callers w.0 caller.frame.function caller.frame.entry w.2)
+
+-- ---- blocks that keep ranges
+
+pub writes_keep_ranges : (p : Typed) (next : ℕ) (ws : List Write) (s t : State) (shapes : List Shape) → AreSound p s.blocks next → AreCellWrites p.layout s.blocks ws → all_written ws s ≡ Ok t
+    → KeepRanges shapes s.blocks t.blocks
+writes_keep_ranges p next ws s t shapes sound cells is to n low high e = (all_keep p next ws s t sound cells is).truths shapes to n low high ∙ e
+
+pub blocks_keep_ranges : (shapes : List Shape) (before more : List Block) → KeepRanges shapes before (before ++ more)
+blocks_keep_ranges shapes before more to n low high e = true_before shapes before more to n low high e
 
 -- ---- states
 

@@ -4,3 +4,5 @@ pub mod Conditions
 pub mod Kept
 pub mod Faced
 pub mod Checks
+pub mod Called
+pub mod Whole

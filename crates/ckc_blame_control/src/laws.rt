@@ -1,6 +1,7 @@
 //! What follows from the definitions alone, each the contract of a function that does nothing.
 
-ghost use Rattle.std.specs.Prelude.{◌≡◌, ◌≢◌, ℕ, true, List, [], ◌∷◌, Option, Err};
+ghost use Rattle.std.specs.Prelude.{◌≡◌, ◌≢◌, ℕ, true, List, [], ◌∷◌, ◌++◌, slice_get, Option, Some, Ok, Err};
+ghost use Rattle.ckc_base.specs.Activations.{has_room};
 ghost use Rattle.ckc_base.specs.Lists.{AreBytes};
 ghost use Rattle.ckc_base.specs.Steps.{Halts};
 ghost use Rattle.ckc_base.specs.Traces.{Ended};
@@ -14,21 +15,24 @@ ghost use Rattle.ckc_source.specs.Blocks.{Block};
 ghost use Rattle.ckc_source.specs.Code.{Code, Expr, Target, Right, Assign, Bundle, Get, Put, Call, If, Loop, Return, Check, Function};
 ghost use Rattle.ckc_source.specs.Eval.{Store, evaluated};
 ghost use Rattle.ckc_source.specs.States as states;
-ghost use Rattle.ckc_source.specs.States.{State, Caller, Work, Rest, Turn, settled};
-ghost use Rattle.ckc_source.specs.Steps.{source_step};
+ghost use Rattle.ckc_source.specs.States.{State, Caller, Work, Rest, Turn, active, entered, settled};
+ghost use Rattle.ckc_source.specs.Steps.{Write, all_written, source_step};
 ghost use Rattle.ckc_build_elaborate.specs.Elaborated.{elaborated};
+ghost use Rattle.ckc_build_elaborate.specs.Functions.{functions_elaborated};
 ghost use Rattle.ckc_build_elaborate.specs.Shapes.{shapes_elaborated};
-ghost use Rattle.ckc_blame_sound.specs.Settings.{Setting};
+ghost use Rattle.ckc_blame_sound.specs.Settings.{Setting, IsFunction};
 ghost use Rattle.ckc_blame_sound.specs.Points.{HoldsAt};
-ghost use Rattle.ckc_blame_sound.specs.Calls.{store_in, Stands, AreWaiting};
+ghost use Rattle.ckc_blame_sound.specs.Calls.{store_in, arguments_of, ArePassed, Stands, Waits, AreWaiting};
 ghost use Rattle.ckc_blame_sound.specs.Slots.{AreFilled};
 ghost use Rattle.ckc_blame_sound.specs.Sound.{Sound};
-ghost use Rattle.ckc_blame_runs.specs.Moves.{IsSoundMove};
+ghost use Rattle.ckc_blame_runs.specs.Moves.{IsSoundMove, StaysSound};
 ghost use Rattle.ckc_blame_slots.specs.Cells.{AreSound};
 ghost use Rattle.ckc_blame_slots.specs.Limited.{store_with};
+ghost use Rattle.ckc_blame_slots.specs.Writes.{AreCellWrites};
 ghost use Rattle.ckc_blame_control.specs.Ready.{IsReady, Begins, Faces, is_step};
 ghost use Rattle.ckc_blame_control.specs.Decided.{IsDecided};
-ghost use Rattle.ckc_blame_control.specs.Kept.{KeepRanges, IsSameCall};
+ghost use Rattle.ckc_blame_control.specs.Whole.{KeepSound};
+ghost use Rattle.ckc_blame_control.specs.Kept.{KeepRanges, IsSameCall, IsBack, inside};
 
 /// What comes next in a call, from the next step on, is judged from a point that holds if what came
 /// next before was: the ends of statements, `break`, `continue` and turns of loops lead to such
@@ -111,7 +115,8 @@ pub fn first_calls_end()
 {}
 
 /// A point that holds still holds, and each call that waits still waits, in blocks in which each range
-/// that was true is true.
+/// that was true is true. That is so after writes to integers and pointers of elements, and if blocks
+/// are made.
 pub fn points_outlive_stores()
     ensures point { (s : Setting) (shapes : List Shape) (before after : List Block)
         (locals entry : List ℕ) (here : Here) → KeepRanges shapes before after
@@ -122,6 +127,14 @@ pub fn points_outlive_stores()
         KeepRanges (shapes_elaborated p.layout) before after
         → AreWaiting p before callers called callee entry
         → AreWaiting p after callers called callee entry }
+    ensures writes { (p : Typed) (next : ℕ) (ws : List Write) (s t : State)
+        (shapes : List Shape) → AreSound p s.blocks next → AreCellWrites p.layout s.blocks ws
+        → all_written ws s ≡ Ok t → KeepRanges shapes s.blocks t.blocks }
+    ensures block { (shapes : List Shape) (before more : List Block) →
+        KeepRanges shapes before (before ++ more) }
+    ensures both { (shapes : List Shape) (before between after : List Block) →
+        KeepRanges shapes before between → KeepRanges shapes between after
+        → KeepRanges shapes before after }
 {}
 
 /// A state after a sound one, in the same call, is sound if its blocks are, each range that was true is
@@ -142,4 +155,44 @@ pub fn states_stay_sound()
         → AreBytes t.input → t.frame.work ≡ next
         → HoldsAt h.setting (store_in p t.blocks t.frame) t.frame.entry f.exits.ends
         → Sound p t }
+{}
+
+/// The state in a function that was called is sound if what the function begins with is judged from a
+/// point that holds, and its parameters have what the arguments stand for.
+pub fn calls_enter_soundly()
+    ensures { (p : Typed) (s : State) (h : Sound p s) (called : Setting) (spot : Spot)
+        (target : Option Kept) (number : ℕ) (es : List Expr) (next : List Work)
+        (callee : Function) (values : List ℕ)
+        (f : Faces h.setting (store_in p s.blocks s.frame) s.frame.entry
+        (Call spot target number es) next) → has_room (active s) ≡ true
+        → slice_get (functions_elaborated p) number ≡ Some callee → IsFunction p called callee
+        → ArePassed h.setting f.here.at.facts s.frame.locals called.head.params
+        (arguments_of f.judged.before) values
+        → IsReady called (store_in p s.blocks (entered callee values)) values
+        (Rest callee.body ∷ [])
+        → Sound p (inside s next target callee values) }
+{}
+
+/// A sound state has a call in front of those that wait, if one does; and the state after a return to
+/// it is sound if the point after its own call holds there.
+pub fn calls_return_soundly()
+    ensures front { (p : Typed) (s : State) (h : Sound p s) (caller : Caller)
+        (callers : List Caller) → s.callers ≡ caller ∷ callers
+        → (w : Setting) × Waits p s.blocks caller w h.setting s.frame.function s.frame.entry
+        × AreWaiting p s.blocks callers w caller.frame.function caller.frame.entry }
+    ensures sound { (p : Typed) (s t : State) (h : Sound p s) (caller : Caller)
+        (callers : List Caller) (w : Setting)
+        (waits : Waits p s.blocks caller w h.setting s.frame.function s.frame.entry) →
+        s.callers ≡ caller ∷ callers
+        → AreWaiting p s.blocks callers w caller.frame.function caller.frame.entry
+        → IsBack caller callers t → KeepRanges (shapes_elaborated p.layout) s.blocks t.blocks
+        → AreSound p t.blocks t.next → AreFilled p (store_in p t.blocks t.frame)
+        → AreBytes t.input
+        → HoldsAt w (store_in p t.blocks t.frame) t.frame.entry waits.exits.ends → Sound p t }
+{}
+
+/// Each checked step from a sound state keeps it sound if assignments, calls and returns do, and
+/// conditions lead to sides that hold.
+pub fn checked_steps_stay_sound()
+    ensures { (p : Typed) → KeepSound p → StaysSound p }
 {}
