@@ -127,6 +127,7 @@ module _ (s : Setting) (here there : Here) (sp : Spot) (e : Expr) (step : IsStep
           after = Some m.0.0;
           literals = step.literals;
           behind = m.0.1;
+          counting = step.counting;
           judged = ap (λ (o : Outcome (NotedExpr × Here)). bind o (λ p. Ok (Some p.0, p.1))) m.1;
           becomes = same_check code;
           true_side = refl;
