@@ -5,4 +5,5 @@ pub mod Kept
 pub mod Faced
 pub mod Checks
 pub mod Called
+pub mod Sides
 pub mod Whole

@@ -1,5 +1,7 @@
 -- Conditions lead to points that hold.
-use Rattle.std.specs.Prelude.{ℕ, ◌==◌, if◌then◌else◌, List, Result, Ok, Err}
+use Rattle.std.specs.Prelude.{◌≡◌, ℕ, Bool, not, ◌==◌, if◌then◌else◌, List, Result, Ok, Err}
+use Rattle.ckc_typed.specs.Trees.{NotedExpr}
+use Rattle.ckc_bounds_views.specs.Views.{view}
 use Rattle.ckc_bounds_statements.specs.Paths.{Here}
 use Rattle.ckc_source.specs.declared.outcome.Halt.{Halt}
 use Rattle.ckc_source.specs.declared.outcome.Halt.TheVariants as halt
@@ -21,3 +23,12 @@ abbrev pub IsDecided : Setting → Store → List ℕ → Expr → Type 0
 IsDecided s store entry e =
     (here one other : Here) → IsCondition s here e one other → HoldsAt s store entry here
     → LeadsTo s store entry one other (evaluated store e)
+
+-- The point on the side of an expression that it comes to holds, or the expression stops at a named check. It is not
+-- stuck.
+abbrev pub HasSides : Setting → Store → List ℕ → Here → NotedExpr → Result Value Halt → Type 0
+HasSides s store entry here e (Ok v) =
+    (side : Bool) → (v.number == 0) ≡ not side
+    → HoldsAt s store entry (record here { at = (view s.frame e).side side here.at })
+HasSides s store entry here e (Err (halt.Stopped why at)) = Unit {0}
+HasSides s store entry here e (Err halt.Stuck) = ⊥

@@ -1,11 +1,12 @@
 //! What follows from the definitions alone, each the contract of a function that does nothing.
 
-ghost use Rattle.std.specs.Prelude.{◌≡◌, ◌≢◌, ℕ, true, List, [], ◌∷◌, ◌++◌, slice_get, Option, Some, Ok, Err};
+ghost use Rattle.std.specs.Prelude.{◌≡◌, ◌≢◌, ℕ, true, List, [], ◌∷◌, ◌++◌, slice_get, Option, None, Some, Ok, Err};
 ghost use Rattle.ckc_base.specs.Activations.{has_room};
 ghost use Rattle.ckc_base.specs.Lists.{AreBytes};
 ghost use Rattle.ckc_base.specs.Steps.{Halts};
 ghost use Rattle.ckc_base.specs.Traces.{Ended};
 ghost use Rattle.ckc_typed.specs.declared.typed.Typed.{Typed};
+ghost use Rattle.ckc_typed.specs.Trees.{NotedExpr};
 ghost use Rattle.ckc_bounds_statements.specs.Paths.{Here};
 ghost use Rattle.ckc_source.specs.declared.outcome.Halt.TheVariants as halt;
 ghost use Rattle.ckc_source.specs.declared.program.Shape.{Shape};
@@ -22,6 +23,7 @@ ghost use Rattle.ckc_build_elaborate.specs.Functions.{functions_elaborated};
 ghost use Rattle.ckc_build_elaborate.specs.Shapes.{shapes_elaborated};
 ghost use Rattle.ckc_blame_sound.specs.Settings.{Setting, IsFunction};
 ghost use Rattle.ckc_blame_sound.specs.Points.{HoldsAt};
+ghost use Rattle.ckc_blame_sound.specs.Steps.{IsCondition};
 ghost use Rattle.ckc_blame_sound.specs.Calls.{store_in, arguments_of, ArePassed, Stands, Waits, AreWaiting};
 ghost use Rattle.ckc_blame_sound.specs.Slots.{AreFilled};
 ghost use Rattle.ckc_blame_sound.specs.Sound.{Sound};
@@ -30,7 +32,7 @@ ghost use Rattle.ckc_blame_slots.specs.Cells.{AreSound};
 ghost use Rattle.ckc_blame_slots.specs.Limited.{store_with};
 ghost use Rattle.ckc_blame_slots.specs.Writes.{AreCellWrites};
 ghost use Rattle.ckc_blame_control.specs.Ready.{IsReady, Begins, Faces, is_step};
-ghost use Rattle.ckc_blame_control.specs.Decided.{IsDecided};
+ghost use Rattle.ckc_blame_control.specs.Decided.{LeadsTo, IsDecided, HasSides};
 ghost use Rattle.ckc_blame_control.specs.Whole.{KeepSound};
 ghost use Rattle.ckc_blame_control.specs.Kept.{KeepRanges, IsSameCall, IsBack, inside};
 
@@ -102,6 +104,17 @@ pub fn conditions_stay_sound()
         settled s.frame.work ≡ Rest (Loop spot e body step rest) ∷ next
         → IsDecided h.setting (store_in p s.blocks s.frame) s.frame.entry e
         → IsSoundMove p (source_step (elaborated p) s) }
+{}
+
+/// A condition leads to a side that holds if that of its expression does, and if it is left out.
+pub fn conditions_have_sides()
+    ensures some { (s : Setting) (store : Store) (entry : List ℕ) (here one other : Here)
+        (e : Expr) (c : IsCondition s here e one other) (f : NotedExpr) → c.before ≡ Some f
+        → HasSides s store entry here f (evaluated store e)
+        → LeadsTo s store entry one other (evaluated store e) }
+    ensures none { (s : Setting) (store : Store) (entry : List ℕ) (here one other : Here)
+        (e : Expr) (c : IsCondition s here e one other) → c.before ≡ None
+        → HoldsAt s store entry here → LeadsTo s store entry one other (evaluated store e) }
 {}
 
 /// The run ends if the first call falls off its end, and if it returns a value.
