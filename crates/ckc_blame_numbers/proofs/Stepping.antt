@@ -65,19 +65,19 @@ ActLayer = Act-F Name Note NotedAct NotedStmt
 
 -- ---- what a statement is judged as, and what it becomes, by its layer
 
-abbrev viewed : ActLayer → Act-F Name Note ActPath Path
+abbrev pub viewed : ActLayer → Act-F Name Note ActPath Path
 viewed = map-Act Name Note NotedAct NotedStmt ActPath Path path_of_act path
 
-judged_is : (st : NotedStmt) (frame : Frame) (head : HeadBounds) (here : Here)
+pub judged_is : (st : NotedStmt) (frame : Frame) (head : HeadBounds) (here : Here)
     → (path st).judged frame head here ≡ act_judged (viewed (out-Act Name Note st.body)) frame head st.pos st.note here
 judged_is st frame head here =
     ap (λ (p : Path). p.judged frame head here) (fold-roll-Stmt Name Note ActPath Path act_path stmt_path (record { body = st.body; pos = st.pos; note = st.note }))
     ∙ ap (λ (a : ActPath). a.judged frame head st.pos st.note here) (ap path_of_act (sym (act_back st.body)) ∙ fold-roll-Act Name Note ActPath Path act_path stmt_path (out-Act Name Note st.body))
 
-abbrev parted : ActLayer → Act-F Name Note ActPart StmtPart
+abbrev pub parted : ActLayer → Act-F Name Note ActPart StmtPart
 parted = map-Act Name Note NotedAct NotedStmt ActPart StmtPart part_of_act part_of
 
-code_is : (s : Setting) (literals : ℕ) (st : NotedStmt)
+pub code_is : (s : Setting) (literals : ℕ) (st : NotedStmt)
     → stmt_elaborated s.text s.variables s.result literals st ≡ act_code (parted (out-Act Name Note st.body)) st.pos st.note.mode s.text s.variables s.result literals
 code_is s literals st =
     ap (λ (p : StmtPart). p.code s.text s.variables s.result literals)
@@ -146,20 +146,20 @@ module _ (s : Setting) where
 
 -- ---- the point after such a step
 
-out_call : (e : NotedExpr) → out-Act Name Note (act.Call e) ≡ Act-F.Call e
+pub out_call : (e : NotedExpr) → out-Act Name Note (act.Call e) ≡ Act-F.Call e
 out_call e = search (rules, the_lemmas)
 
-out_return : (e : Option NotedExpr) → out-Act Name Note (act.Return e) ≡ Act-F.Return e
+pub out_return : (e : Option NotedExpr) → out-Act Name Note (act.Return e) ≡ Act-F.Return e
 out_return e = search (rules, the_lemmas)
 
-out_check : (e : NotedExpr) → out-Act Name Note (act.Check e) ≡ Act-F.Check e
+pub out_check : (e : NotedExpr) → out-Act Name Note (act.Check e) ≡ Act-F.Check e
 out_check e = search (rules, the_lemmas)
 
-out_bundle : (ss : _) → out-Act Name Note (act.Bundle ss) ≡ Act-F.Bundle ss
+pub out_bundle : (ss : _) → out-Act Name Note (act.Bundle ss) ≡ Act-F.Bundle ss
 out_bundle ss = search (rules, the_lemmas)
 
 -- one step in front of nothing
-first_step : (f g : Code → Code) → ◌≡◌ {A = List (Code → Code)} (f ∷ []) (g ∷ []) → f End ≡ g End
+pub first_step : (f g : Code → Code) → ◌≡◌ {A = List (Code → Code)} (f ∷ []) (g ∷ []) → f End ≡ g End
 first_step f g e = let p : f ≡ g = cc in ap (λ (h : Code → Code). h End) p
 
 module _ (globals : Globals) (s : Setting) (agrees : Agrees globals s) (here there : Here) (sp : Spot) (k : ℕ) (w : Width) (e : Expr)

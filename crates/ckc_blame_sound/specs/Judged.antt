@@ -38,14 +38,12 @@ pub record Turns : Type 0 where
 abbrev pub in_body : Turns → Exits
 in_body l = record { ends = l.step; breaks = l.behind; continues = l.step }
 
--- The step of a loop goes back to its head.
-abbrev pub in_step : Turns → Exits
-in_step l = record { ends = l.head; breaks = l.behind; continues = l.step }
-
--- The parts of a loop are judged from its points, each of which is as good for every turn.
+-- The parts of a loop are judged from its points, each of which is as good for every turn. The step goes back to the
+-- head; it has no `break` and no `continue`, so that it is judged wherever these would lead to.
 abbrev pub IsLoop : Setting → Expr → Turns → (Exits → Here → Type 0) → (Exits → Here → Type 0) → Type 0
 IsLoop s e l body step =
-    IsCondition s l.head e l.yes l.no × GoesTo s.frame l.no l.behind × body (in_body l) l.yes × step (in_step l) l.step
+    IsCondition s l.head e l.yes l.no × GoesTo s.frame l.no l.behind × body (in_body l) l.yes
+    × ((exits : Exits) → step (ending exits l.head) l.step)
 
 -- a step is judged, and then the rest
 abbrev pub Then : Setting → Here → (Code → Code) → (Here → Type 0) → Type 0

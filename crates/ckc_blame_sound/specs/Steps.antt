@@ -21,24 +21,27 @@ is_simple (Act-F.Check e) = true
 is_simple (Act-F.Bundle ss) = true
 is_simple a = false
 
--- A statement is judged at a point, what becomes of it is this one step, and control goes from there to another point.
+-- A statement is judged at a point, and not only counted; what becomes of it is this one step, and control goes from
+-- there to another point.
 pub record IsStep (s : Setting) (here : Here) (step : Code → Code) (there : Here) : Type 0 where
   pub before : NotedStmt
   pub after : NotedStmt
   pub literals : ℕ
   pub behind : Here
   pub simple : is_simple (out-Act Name Note before.body) ≡ true
+  pub counting : here.counting ≡ false
   pub judged : (path before).judged s.frame s.head here ≡ Ok (after, behind)
   pub becomes : stmt_elaborated s.text s.variables s.result literals after ≡ step ∷ []
   pub goes : GoesTo s.frame behind there
 
--- A condition is judged at a point and becomes this expression; if it is true control is at a second point, and if
--- it is false at a third. One that is left out is true.
+-- A condition is judged at a point, and not only counted, and becomes this expression; if it is true control is at a
+-- second point, and if it is false at a third. One that is left out is true.
 pub record IsCondition (s : Setting) (here : Here) (e : Expr) (yes no : Here) : Type 0 where
   pub before : Option NotedExpr
   pub after : Option NotedExpr
   pub literals : ℕ
   pub behind : Here
+  pub counting : here.counting ≡ false
   pub judged : maybe_judged s.frame before here ≡ Ok (after, behind)
   pub becomes : e ≡ condition s.text s.variables literals after
   pub true_side : yes ≡ record behind { at = maybe_side s.frame true after behind.at }

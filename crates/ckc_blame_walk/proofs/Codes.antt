@@ -1,6 +1,6 @@
 -- The code of a statement is judged, if that of the rest is: of one that is a single step, and of one after another.
 use Rattle.std.proofs.Common.{◌≡◌, ◌⊎◌, inl, inr, refl, sym, ap, subst, ◌∙◌, ℕ, true, List, [], ◌∷◌, ◌++◌}
-use Rattle.std.specs.Prelude.{Ok}
+use Rattle.std.specs.Prelude.{false, Ok}
 use Rattle.ckc_base.specs.declared.places.Pos.{Pos}
 use Rattle.ckc_syntax.specs.declared.tree.Name.{Name}
 use Rattle.ckc_syntax.specs.declared.tree.Name.TheVariants as name
@@ -81,11 +81,11 @@ module _ (s : Setting) where
 
   -- a statement that is a step by itself
   pub step_code : (before after : NotedStmt) (here there : Here) (k : ℕ) (exits : Exits) (f : Code → Code) → is_simple (out-Act Name Note before.body) ≡ true
-      → IsWalk before here (after, there) → stmt_elaborated s.text s.variables s.result k after ≡ f ∷ [] → GoesOn f → IsCode (stmt_elaborated s.text s.variables s.result k after) exits here there
-  step_code before after here there k exits f simple walk becomes on =
+      → here.counting ≡ false → IsWalk before here (after, there) → stmt_elaborated s.text s.variables s.result k after ≡ f ∷ [] → GoesOn f → IsCode (stmt_elaborated s.text s.variables s.result k after) exits here there
+  step_code before after here there k exits f simple count walk becomes on =
       inr (λ next rest goes h.
       let step : IsStep s here f next =
-      record { before = before; after = after; literals = k; behind = there; simple = simple; judged = walk; becomes = becomes; goes = goes } in
+      record { before = before; after = after; literals = k; behind = there; simple = simple; counting = count; judged = walk; becomes = becomes; goes = goes } in
       subst (λ fs. Judged s (chained fs rest) exits here) (sym becomes) (on rest exits here (next, step, h)))
 
   chained_both : (fs gs : List (Code → Code)) (rest : Code) → chained (fs ++ gs) rest ≡ chained fs (chained gs rest)

@@ -185,8 +185,9 @@ module _ (s : Setting) where
       unfolding side_of
       adds b = subst (λ a. Adds a (side_of s.frame b v.0 v.1.at)) moved.at (side_adds s.frame v.0 b v.1.at)
 
-      if_condition : (k : ℕ) → IsCondition s here (expr_elaborated s.text s.variables k v.0) yes no
-      if_condition k = record {
+      if_condition : (k : ℕ) → here.counting ≡ false → IsCondition s here (expr_elaborated s.text s.variables k v.0) yes no
+      if_condition k count = record {
+        counting = count;
         before = Some e;
         after = Some v.0;
         literals = k;
@@ -244,7 +245,7 @@ module _ (s : Setting) where
             unfolding Judged
             if_judged_code = (
               branches,
-              if_condition k,
+              if_condition k count,
               closed_code s (stmt_elaborated s.text s.variables s.result (k + literals_of v.0) q.0) (ending exits next) yes q.1 one_ends
                   (first.code (moved.counting ∙ count) ((adds true).more.small small) (k + literals_of v.0) (ending exits next) one_may),
               record { known = λ reached. (goes_nowhere no).known reached; seen = λ k c. same_has no.seen q.1.seen (seen_first ∙ sym moved.seen) k c },

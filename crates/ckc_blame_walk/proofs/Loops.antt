@@ -21,7 +21,7 @@ use Rattle.ckc_build_elaborate.specs.Statements.{one, alone, code_if, literals_i
 use Rattle.ckc_blame_sound.specs.Settings.{Setting}
 use Rattle.ckc_blame_sound.specs.Points.{IsKnown, GoesTo}
 use Rattle.ckc_blame_sound.specs.Steps.{IsCondition}
-use Rattle.ckc_blame_sound.specs.Judged.{Exits, Turns, in_body, in_step, Judged}
+use Rattle.ckc_blame_sound.specs.Judged.{Exits, ending, Turns, in_body, Judged}
 use Rattle.ckc_blame_sound.proofs.Joined.{less_known}
 use Rattle.ckc_blame_walk.specs.Walks.{Nesting, is_branch, begins, steps, AreSmall, IsLeft, IsExit, MayLeave, Stays}
 use Rattle.ckc_blame_walk.proofs.Adds.{Adds, adds_none, side_adds}
@@ -84,8 +84,9 @@ module _ (s : Setting) where
       yes_adds : Adds head.at yes.at
       yes_adds = subst (λ a. Adds a yes.at) moved.at (maybe_adds s.frame true (Some v.0) v.1.at)
 
-      while_condition : (k : ℕ) → IsCondition s head (expr_elaborated s.text s.variables k v.0) yes no
-      while_condition k = record {
+      while_condition : (k : ℕ) → here.counting ≡ false → IsCondition s head (expr_elaborated s.text s.variables k v.0) yes no
+      while_condition k count = record {
+        counting = count;
         before = Some e;
         after = Some v.0;
         literals = k;
@@ -136,12 +137,12 @@ module _ (s : Setting) where
             points,
             record { known = λ reached. less_known s.frame ks here.at reached; seen = λ k c. c },
             (
-              while_condition k,
+              while_condition k count,
               goes_through no there next (record { known = λ reached. side_known s.frame path.breaks (Some v.0) v.1.at reached; seen = λ k c. same_has no.seen q.1.seen seen_body k c }) goes,
               closed_code s (stmt_elaborated s.text s.variables s.result (k + literals_of v.0) q.0) (in_body points) yes q.1
                   (exit_end s.frame ks yes q.1 head yes_small body.stays (extended_has yes.seen q.1.seen body.extends) to_head)
                   (body.code (moved.counting ∙ count) yes_small (k + literals_of v.0) (in_body points) body_may),
-              goes_nowhere head,
+              λ exits. goes_nowhere head,
             ),
             behind,
           )
@@ -215,8 +216,8 @@ module _ (s : Setting) where
         for_adds : Adds for_head.at for_yes.at
         for_adds = subst (λ a. Adds a for_yes.at) for_moved.at (maybe_adds s.frame true v.0 v.1.at)
 
-        for_condition : (k : ℕ) → IsCondition s for_head (condition s.text s.variables k v.0) for_yes for_no
-        for_condition k = record { before = e; after = v.0; literals = k; behind = v.1; judged = judged; becomes = refl; true_side = refl; false_side = refl }
+        for_condition : (k : ℕ) → for_head.counting ≡ false → IsCondition s for_head (condition s.text s.variables k v.0) for_yes for_no
+        for_condition k count = record { before = e; after = v.0; literals = k; behind = v.1; counting = count; judged = judged; becomes = refl; true_side = refl; false_side = refl }
 
         for_exit : (x exit : Here) → x.at ≡ for_head.at → ((k : ℕ) → Contains x.seen k → Contains for_yes.seen k) → GoesTo s.frame x exit → IsExit s.frame (us ++ ts) for_yes exit
         for_exit x exit same seen goes = record {
@@ -312,10 +313,10 @@ module _ (s : Setting) where
                 continues = λ c. subst (λ b. IsExit s.frame us for_yes (step_at b)) (sym c) (step_exit begun_small);
               }
 
-              step_may : MayLeave s.frame ts (breaks_if step) (continues_if step) (step_at path.continues) (in_step for_points)
-              step_may =
+              step_may : (exits : Exits) → MayLeave s.frame ts (breaks_if step) (continues_if step) (step_at path.continues) (ending exits for_head)
+              step_may exits =
                   let plain = ws.plain (steps_plain step_nest stepping).1 in
-                  may_not s.frame ts (breaks_if step) (continues_if step) (step_at path.continues) (in_step for_points) plain.0 plain.1
+                  may_not s.frame ts (breaks_if step) (continues_if step) (step_at path.continues) (ending exits for_head) plain.0 plain.1
 
               for_judged_code : (exits : Exits) (rest : Code) → Judged s rest exits next
                   → Judged s (turns s.text s.variables s.result (spot at note.mode) k v.0 (part_if x.0) (part_of q.0) rest) exits p.1
@@ -324,15 +325,16 @@ module _ (s : Setting) where
                 for_points,
                 record { known = λ reached. less_known s.frame (us ++ ts) p.1.at reached; seen = λ k c. c },
                 (
-                  for_condition k,
+                  for_condition k (first.counting ∙ count),
                   goes_through for_no for_there next (record { known = λ reached. side_known s.frame path.breaks v.0 v.1.at reached; seen = has_closed }) goes,
                   closed_code s (stmt_elaborated s.text s.variables s.result (k + literals_of_value v.0 + literals_if (part_if x.0)) q.0) (in_body for_points) for_yes q.1
                       (to_the_step begun_small path.continues)
                       (body.code yes_count (for_small begun_small) (k + literals_of_value v.0 + literals_if (part_if x.0)) (in_body for_points) for_may),
-                  closed_code s (code_if (part_if x.0) s.text s.variables s.result (k + literals_of_value v.0)) (in_step for_points) (step_at path.continues) x.1
+                  λ exits.
+                      closed_code s (code_if (part_if x.0) s.text s.variables s.result (k + literals_of_value v.0)) (ending exits for_head) (step_at path.continues) x.1
                       (exit_end s.frame ts (step_at path.continues) x.1 for_head (step_small begun_small path.continues) last.stays (extended_has (step_at path.continues).seen x.1.seen last.extends)
                       (head_after begun_small path.continues))
-                      (last.code (step_counting path.continues ∙ body.counting ∙ yes_count) (step_small begun_small path.continues) (k + literals_of_value v.0) (in_step for_points) step_may),
+                      (last.code (step_counting path.continues ∙ body.counting ∙ yes_count) (step_small begun_small path.continues) (k + literals_of_value v.0) (ending exits for_head) (step_may exits)),
                 ),
                 behind,
               )

@@ -215,7 +215,7 @@ module _ (s : Setting) where
       stays = stays;
       code = λ count small k exits may.
           let f = becomes k in
-          step_code s before (stated at note b) here there k exits f.0 (ap is_simple same ∙ simple) walk f.1 f.2;
+          step_code s before (stated at note b) here there k exits f.0 (ap is_simple same ∙ simple) count walk f.1 f.2;
     }
 
     -- a step in the same scope

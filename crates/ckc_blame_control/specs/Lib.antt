@@ -1,0 +1,4 @@
+pub mod Ready
+pub mod Decided
+pub mod Kept
+pub mod Whole
