@@ -1,0 +1,41 @@
+//! What follows from the definitions alone, each the contract of a function that does nothing.
+
+ghost use Rattle.std.specs.Prelude.{ℕ, List};
+ghost use Rattle.ckc_base.specs.Lists.{AreBytes};
+ghost use Rattle.ckc_typed.specs.declared.typed.Typed.{Typed};
+ghost use Rattle.ckc_source.specs.Blocks.{Block};
+ghost use Rattle.ckc_source.specs.Code.{Function};
+ghost use Rattle.ckc_source.specs.Source.{first_state};
+ghost use Rattle.ckc_source.specs.States.{entered};
+ghost use Rattle.ckc_build_elaborate.specs.Elaborated.{elaborated};
+ghost use Rattle.ckc_build_elaborate.specs.Shapes.{shapes_elaborated};
+ghost use Rattle.ckc_blame_sound.specs.Settings.{Setting, IsFunction};
+ghost use Rattle.ckc_blame_sound.specs.Slots.{AreFilled};
+ghost use Rattle.ckc_blame_sound.specs.Calls.{Stands};
+ghost use Rattle.ckc_blame_sound.specs.Sound.{Sound};
+ghost use Rattle.ckc_blame_slots.specs.Cells.{AreSound};
+ghost use Rattle.ckc_blame_slots.specs.Limited.{store_with};
+ghost use Rattle.ckc_blame_first.specs.Entries.{IsCodeJudged, MayEnter};
+ghost use Rattle.ckc_blame_first.specs.Ready.{first_blocks, next_behind, HasObjects, HasFunctions};
+
+/// A function that is entered with values that it may be entered with stands at its first point, if its code is judged
+/// from there.
+pub fn functions_are_entered()
+    ensures { (p : Typed) (blocks : List Block) (s : Setting) (f : Function) (values : List ℕ)
+        (i : IsFunction p s f) → IsCodeJudged s i.head f.body
+        → MayEnter p blocks s f i.head values → Stands p blocks (entered f values) s }
+{}
+
+/// The static objects and string literals of a judged text lie as they must, null-terminated ones end with zero, and each
+/// checked pointer in them is null, so that it may be read.
+pub fn objects_are_sound()
+    ensures sound { (q p : Typed) → HasObjects q p → AreSound p (first_blocks p) (next_behind p) }
+    ensures filled { (q p : Typed) (locals : List ℕ) → HasObjects q p
+        → AreFilled p (store_with (shapes_elaborated p.layout) (first_blocks p) locals) }
+{}
+
+/// The first state of the program of a judged text is sound, with any input of bytes: `main` stands at its first point.
+pub fn first_state_is_sound()
+    ensures { (q p : Typed) (input : List ℕ) → HasObjects q p → HasFunctions p → AreBytes input
+        → Sound p (first_state (elaborated p) input) }
+{}
