@@ -5,3 +5,6 @@ pub mod Filled
 pub mod Memory
 pub mod Main
 pub mod First
+pub mod Mains
+pub mod Slots
+pub mod Judged

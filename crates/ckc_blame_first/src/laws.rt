@@ -5,6 +5,7 @@ ghost use Rattle.ckc_base.specs.Lists.{AreBytes};
 ghost use Rattle.ckc_typed.specs.declared.typed.Typed.{Typed};
 ghost use Rattle.ckc_source.specs.Blocks.{Block};
 ghost use Rattle.ckc_source.specs.Code.{Function};
+ghost use Rattle.ckc_source.specs.LaidOut.{IsLaidOut};
 ghost use Rattle.ckc_source.specs.Source.{first_state};
 ghost use Rattle.ckc_source.specs.States.{entered};
 ghost use Rattle.ckc_build_elaborate.specs.Elaborated.{elaborated};
@@ -14,9 +15,11 @@ ghost use Rattle.ckc_blame_sound.specs.Slots.{AreFilled};
 ghost use Rattle.ckc_blame_sound.specs.Calls.{Stands};
 ghost use Rattle.ckc_blame_sound.specs.Sound.{Sound};
 ghost use Rattle.ckc_blame_slots.specs.Cells.{AreSound};
-ghost use Rattle.ckc_blame_slots.specs.Limited.{store_with};
+ghost use Rattle.ckc_blame_slots.specs.Limited.{AreSlotParts, store_with};
+ghost use Rattle.ckc_blame_texts.specs.Judged.{IsJudged};
+ghost use Rattle.ckc_blame_walk.specs.Walks.{AreNested};
 ghost use Rattle.ckc_blame_first.specs.Entries.{IsCodeJudged, MayEnter};
-ghost use Rattle.ckc_blame_first.specs.Ready.{first_blocks, next_behind, HasObjects, HasFunctions};
+ghost use Rattle.ckc_blame_first.specs.Ready.{first_blocks, next_behind, HaveSizes, HasObjects, HasFunctions};
 
 /// A function that is entered with values that it may be entered with stands at its first point, if its code is judged
 /// from there.
@@ -36,6 +39,9 @@ pub fn objects_are_sound()
 
 /// The first state of the program of a judged text is sound, with any input of bytes: `main` stands at its first point.
 pub fn first_state_is_sound()
-    ensures { (q p : Typed) (input : List ℕ) → HasObjects q p → HasFunctions p → AreBytes input
+    ensures ready { (q p : Typed) (input : List ℕ) → HasObjects q p → HasFunctions p
+        → AreBytes input → Sound p (first_state (elaborated p) input) }
+    ensures judged { (p : Typed) (input : List ℕ) (j : IsJudged p) → AreNested j.typed.tree.items
+        → HaveSizes p → AreSlotParts p → IsLaidOut (elaborated p) → AreBytes input
         → Sound p (first_state (elaborated p) input) }
 {}
