@@ -1,7 +1,9 @@
 -- Judged texts have what the first state of a program needs.
-use Rattle.std.proofs.Common.{ℕ, List}
+use Rattle.std.proofs.Common.{◌≡◌, ℕ, true, List}
 use Rattle.ckc_base.specs.Lists.{AreBytes}
+use Rattle.ckc_syntax_limits.specs.Small.{Small}
 use Rattle.ckc_typed.specs.declared.typed.Typed.{Typed}
+use Rattle.ckc_typed_welltyped.specs.Productions.{given_tree}
 use Rattle.ckc_bounds.specs.Frames.{first_fresh}
 use Rattle.ckc_source.specs.LaidOut.{IsLaidOut}
 use Rattle.ckc_source.specs.Source.{first_state}
@@ -15,6 +17,7 @@ use Rattle.ckc_blame_first.specs.Ready.{HaveSizes, HasObjects, HasFunctions}
 use Rattle.ckc_blame_first.proofs.First.{first_state_sound}
 use Rattle.ckc_blame_first.proofs.Mains.{main_bare}
 use Rattle.ckc_blame_first.proofs.Slots.{pointer_slots}
+use Rattle.ckc_blame_first.proofs.Sized.{objects_sized}
 
 pub has_objects : (p : Typed) (j : IsJudged p) → HaveSizes p → AreSlotParts p → IsLaidOut (elaborated p) → HasObjects j.typed p
 has_objects p j sizes parts laid = record {
@@ -34,7 +37,7 @@ has_functions p j nested =
       bare = main.bare;
     }
 
-pub judged_sound : (p : Typed) (input : List ℕ) (j : IsJudged p) → AreNested j.typed.tree.items → HaveSizes p → AreSlotParts p → IsLaidOut (elaborated p)
-    → AreBytes input → Sound p (first_state (elaborated p) input)
-judged_sound p input j nested sizes parts laid bytes =
-    first_state_sound j.typed p input (has_objects p j sizes parts laid) (has_functions p j nested) bytes
+pub judged_sound : (p : Typed) (input : List ℕ) (j : IsJudged p) → given_tree j.named.tree ≡ true → Small j.named.tree → AreNested j.typed.tree.items
+    → AreSlotParts p → IsLaidOut (elaborated p) → AreBytes input → Sound p (first_state (elaborated p) input)
+judged_sound p input j given small nested parts laid bytes =
+    first_state_sound j.typed p input (has_objects p j (objects_sized p j given small) parts laid) (has_functions p j nested) bytes

@@ -8,3 +8,5 @@ pub mod First
 pub mod Mains
 pub mod Slots
 pub mod Judged
+pub mod Sizes
+pub mod Sized

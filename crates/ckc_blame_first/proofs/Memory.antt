@@ -29,7 +29,7 @@ use Rattle.ckc_blame_first.proofs.Placed.{IsLaid, placed_laid, all_placed, are_o
 use Rattle.ckc_blame_first.proofs.Filled.{first_filled}
 
 -- the bounds phase keeps structures and static objects
-judged_same : (q p : Typed) (o : Outcome (List NotedItem)) → bind o (λ items. Ok (record q { tree = record { items = items } })) ≡ Ok p
+pub judged_same : (q p : Typed) (o : Outcome (List NotedItem)) → bind o (λ items. Ok (record q { tree = record { items = items } })) ≡ Ok p
     → (q.layout ≡ p.layout) × (q.statics ≡ p.statics)
 judged_same q p (Ok items) e =
     let same : record q { tree = record { items = items } } ≡ p = cc in

@@ -95,7 +95,7 @@ module _ (structs : Structs) where
   scalar_size (CType-F.Struct tag) h = absurd cc
   scalar_size (CType-F.Pointer k t) h = omega arith
 
-  char_size : (x : CType-F CType) → is_char_form x ≡ true → (1 ≤ form_size x) × (is_integer_form x ≡ true)
+  pub char_size : (x : CType-F CType) → is_char_form x ≡ true → (1 ≤ form_size x) × (is_integer_form x ≡ true)
   char_size CType-F.Char h = (omega arith, refl)
   char_size CType-F.Int h = absurd cc
   char_size CType-F.Unsigned h = absurd cc

@@ -1,8 +1,10 @@
 //! What follows from the definitions alone, each the contract of a function that does nothing.
 
-ghost use Rattle.std.specs.Prelude.{ℕ, List};
+ghost use Rattle.std.specs.Prelude.{◌≡◌, ℕ, true, List};
 ghost use Rattle.ckc_base.specs.Lists.{AreBytes};
+ghost use Rattle.ckc_syntax_limits.specs.Small.{Small};
 ghost use Rattle.ckc_typed.specs.declared.typed.Typed.{Typed};
+ghost use Rattle.ckc_typed_welltyped.specs.Productions.{given_tree};
 ghost use Rattle.ckc_source.specs.Blocks.{Block};
 ghost use Rattle.ckc_source.specs.Code.{Function};
 ghost use Rattle.ckc_source.specs.LaidOut.{IsLaidOut};
@@ -37,11 +39,19 @@ pub fn objects_are_sound()
         → AreFilled p (store_with (shapes_elaborated p.layout) (first_blocks p) locals) }
 {}
 
+/// The elements of the static objects of a judged text have sizes, if the grammar gives its tree and the tree keeps the
+/// limits of a text: each structure that a type names has a body.
+pub fn objects_have_sizes()
+    ensures { (p : Typed) (j : IsJudged p) → given_tree j.named.tree ≡ true → Small j.named.tree
+        → HaveSizes p }
+{}
+
 /// The first state of the program of a judged text is sound, with any input of bytes: `main` stands at its first point.
 pub fn first_state_is_sound()
     ensures ready { (q p : Typed) (input : List ℕ) → HasObjects q p → HasFunctions p
         → AreBytes input → Sound p (first_state (elaborated p) input) }
-    ensures judged { (p : Typed) (input : List ℕ) (j : IsJudged p) → AreNested j.typed.tree.items
-        → HaveSizes p → AreSlotParts p → IsLaidOut (elaborated p) → AreBytes input
+    ensures judged { (p : Typed) (input : List ℕ) (j : IsJudged p)
+        → given_tree j.named.tree ≡ true → Small j.named.tree → AreNested j.typed.tree.items
+        → AreSlotParts p → IsLaidOut (elaborated p) → AreBytes input
         → Sound p (first_state (elaborated p) input) }
 {}

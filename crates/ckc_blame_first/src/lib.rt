@@ -3,4 +3,6 @@
 
 mod laws;
 
-pub use laws::{first_state_is_sound, functions_are_entered, objects_are_sound};
+pub use laws::{
+    first_state_is_sound, functions_are_entered, objects_are_sound, objects_have_sizes,
+};
