@@ -32,7 +32,9 @@ AreCodesJudged p = (s : Setting) (f : Function) (i : IsFunction p s f) → IsCod
 -- A function may be entered with these values: they are as many as its parameters, each is a word of the type of its
 -- parameter, and each checked pointer among the parameters may be read within its declared bounds, as the locals of the
 -- new call are.
-pub record MayEnter (p : Typed) (blocks : List Block) (s : Setting) (f : Function) (head : NotedHead) (values : List ℕ) : Type 0 where
+pub record MayEnter (p : Typed) (blocks : List Block) (s : Setting) (f : Function) (head : NotedHead) (values : List ℕ)
+    : Type 0 where
   pub counted : length values ≡ length s.head.params
-  pub words : (k : ℕ) (l : Local) → k < length values → local_at s.frame k ≡ Some l → IsWordOf l.ctype (slice_index values k)
+  pub words : (k : ℕ) (l : Local) → k < length values → local_at s.frame k ≡ Some l
+      → IsWordOf l.ctype (slice_index values k)
   pub bounded : AreBounded s (store_in p blocks (entered f values)) [] (params_seen head)

@@ -34,8 +34,8 @@ next_behind p = place_behind first_place (first_blocks p)
 abbrev pub HaveSizes : Typed → Type 0
 HaveSizes p = All (λ (o : StaticObject). 0 < size_of p.layout o.element) p.statics
 
--- A slot of an element of a type is a pointer of it, and the member that its count names is an integer of it; the element
--- itself is no integer.
+-- A slot of an element of a type is a pointer of it, and the member that its count names is an integer of it; the
+-- element itself is no integer.
 pub record IsPointerSlot (structs : Structs) (t : CType) (slot : Slot) : Type 0 where
   pub part : IsSlotPart structs t slot
   pub other : is_integer t ≡ false

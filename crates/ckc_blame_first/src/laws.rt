@@ -23,30 +23,31 @@ ghost use Rattle.ckc_blame_walk.specs.Walks.{AreNested};
 ghost use Rattle.ckc_blame_first.specs.Entries.{IsCodeJudged, MayEnter};
 ghost use Rattle.ckc_blame_first.specs.Ready.{first_blocks, next_behind, HaveSizes, HasObjects, HasFunctions};
 
-/// A function that is entered with values that it may be entered with stands at its first point, if its code is judged
-/// from there.
+/// A function that is entered with values that it may be entered with stands at its first point, if its code is
+/// judged from there.
 pub fn functions_are_entered()
     ensures { (p : Typed) (blocks : List Block) (s : Setting) (f : Function) (values : List ℕ)
         (i : IsFunction p s f) → IsCodeJudged s i.head f.body
         → MayEnter p blocks s f i.head values → Stands p blocks (entered f values) s }
 {}
 
-/// The static objects and string literals of a judged text lie as they must, null-terminated ones end with zero, and each
-/// checked pointer in them is null, so that it may be read.
+/// The static objects and string literals of a judged text lie as they must, null-terminated ones end with zero, and
+/// each checked pointer in them is null, so that it may be read.
 pub fn objects_are_sound()
     ensures sound { (q p : Typed) → HasObjects q p → AreSound p (first_blocks p) (next_behind p) }
     ensures filled { (q p : Typed) (locals : List ℕ) → HasObjects q p
         → AreFilled p (store_with (shapes_elaborated p.layout) (first_blocks p) locals) }
 {}
 
-/// The elements of the static objects of a judged text have sizes, if the grammar gives its tree and the tree keeps the
-/// limits of a text: each structure that a type names has a body.
+/// The elements of the static objects of a judged text have sizes, if the grammar gives its tree and the tree keeps
+/// the limits of a text: each structure that a type names has a body.
 pub fn objects_have_sizes()
     ensures { (p : Typed) (j : IsJudged p) → given_tree j.named.tree ≡ true → Small j.named.tree
         → HaveSizes p }
 {}
 
-/// The first state of the program of a judged text is sound, with any input of bytes: `main` stands at its first point.
+/// The first state of the program of a judged text is sound, with any input of bytes: `main` stands at its first
+/// point.
 pub fn first_state_is_sound()
     ensures ready { (q p : Typed) (input : List ℕ) → HasObjects q p → HasFunctions p
         → AreBytes input → Sound p (first_state (elaborated p) input) }
