@@ -10,3 +10,4 @@ pub mod Slots
 pub mod Judged
 pub mod Sizes
 pub mod Sized
+pub mod Counts

@@ -1,8 +1,11 @@
 -- What is asked of a judged text, so that the first state of its program is sound.
-use Rattle.std.specs.Prelude.{◌≡◌, ℕ, ◌<◌, false, List, [], map, slice_get, Some}
+use Rattle.std.specs.Prelude.{◌≡◌, ℕ, ℤ, ◌<◌, false, List, [], map, slice_get, Some, IsSome}
 use Rattle.std.specs.List.{All, Contains}
 use Rattle.ckc_types.specs.declared.types.CType.{CType}
+use Rattle.ckc_types.specs.declared.types.MemberBounds.TheVariants as bounds
+use Rattle.ckc_types.specs.declared.types.MemberShape.{MemberShape}
 use Rattle.ckc_types.specs.declared.types.Structs.{Structs}
+use Rattle.ckc_types.specs.Layout.{members_of}
 use Rattle.ckc_syntax.specs.declared.tree.Name.TheVariants as name
 use Rattle.ckc_typed.specs.declared.typed.StaticObject.{StaticObject}
 use Rattle.ckc_typed.specs.declared.typed.Typed.{Typed}
@@ -12,6 +15,7 @@ use Rattle.ckc_typed_welltyped.specs.Texts.{WellTyped}
 use Rattle.ckc_bounds.specs.Phase.{bounding}
 use Rattle.ckc_source.specs.Blocks.{Block, block_of, place_behind, first_place}
 use Rattle.ckc_source.specs.LaidOut.{IsLaidOut}
+use Rattle.ckc_build_values.specs.Members.{member_named}
 use Rattle.ckc_build_elaborate.specs.Bodies.{IsDefined}
 use Rattle.ckc_build_elaborate.specs.Elaborated.{elaborated}
 use Rattle.ckc_build_elaborate.specs.Names.{params_of}
@@ -45,6 +49,12 @@ abbrev pub HavePointerSlots : Typed → Type 0
 HavePointerSlots p =
     (k : ℕ) (o : StaticObject) (slot : Slot) → slice_get p.statics k ≡ Some o → Contains (slots_of p k o.element) slot
     → IsPointerSlot p.layout o.element slot
+
+-- The bounds of a member name another member of the same structure, if they name one.
+abbrev pub NameMembers : Structs → Type 0
+NameMembers structs =
+    (tag k : ℕ) (c : ℤ) (m : MemberShape) → Contains (members_of structs tag) m → m.bounds ≡ bounds.Named k c
+    → IsSome (member_named structs tag (name.Member k))
 
 -- A well typed text q has become the text p when its bounds were judged. The static objects of p have sizes, and their
 -- slots are pointers; they lie apart as those of a program must, and begin as bytes.

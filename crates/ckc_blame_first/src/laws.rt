@@ -21,7 +21,7 @@ ghost use Rattle.ckc_blame_slots.specs.Limited.{AreSlotParts, store_with};
 ghost use Rattle.ckc_blame_texts.specs.Judged.{IsJudged};
 ghost use Rattle.ckc_blame_walk.specs.Walks.{AreNested};
 ghost use Rattle.ckc_blame_first.specs.Entries.{IsCodeJudged, MayEnter};
-ghost use Rattle.ckc_blame_first.specs.Ready.{first_blocks, next_behind, HaveSizes, HasObjects, HasFunctions};
+ghost use Rattle.ckc_blame_first.specs.Ready.{first_blocks, next_behind, HaveSizes, NameMembers, HasObjects, HasFunctions};
 
 /// A function that is entered with values that it may be entered with stands at its first point, if its code is
 /// judged from there.
@@ -44,6 +44,12 @@ pub fn objects_are_sound()
 pub fn objects_have_sizes()
     ensures { (p : Typed) (j : IsJudged p) → given_tree j.named.tree ≡ true → Small j.named.tree
         → HaveSizes p }
+{}
+
+/// A slot of an element in a judged text is a pointer of the element, and the member that its count names is a part of
+/// the element too, if the bounds of members name members of the same structure.
+pub fn slots_are_parts()
+    ensures { (p : Typed) → IsJudged p → NameMembers p.layout → AreSlotParts p }
 {}
 
 /// The first state of the program of a judged text is sound, with any input of bytes: `main` stands at its first
