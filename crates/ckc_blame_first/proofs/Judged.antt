@@ -15,7 +15,9 @@ use Rattle.ckc_blame_walk.specs.Walks.{AreNested, leaving}
 use Rattle.ckc_blame_walk.proofs.Frames.{text_goes}
 use Rattle.ckc_blame_first.specs.Ready.{HaveSizes, HasObjects, HasFunctions}
 use Rattle.ckc_blame_first.proofs.First.{first_state_sound}
+use Rattle.ckc_blame_first.proofs.Counts.{slot_parts}
 use Rattle.ckc_blame_first.proofs.Mains.{main_bare}
+use Rattle.ckc_blame_first.proofs.Named.{members_named}
 use Rattle.ckc_blame_first.proofs.Slots.{pointer_slots}
 use Rattle.ckc_blame_first.proofs.Sized.{objects_sized}
 
@@ -38,6 +40,6 @@ has_functions p j nested =
     }
 
 pub judged_sound : (p : Typed) (input : List ℕ) (j : IsJudged p) → given_tree j.named.tree ≡ true → Small j.named.tree → AreNested j.typed.tree.items
-    → AreSlotParts p → IsLaidOut (elaborated p) → AreBytes input → Sound p (first_state (elaborated p) input)
-judged_sound p input j given small nested parts laid bytes =
-    first_state_sound j.typed p input (has_objects p j (objects_sized p j given small) parts laid) (has_functions p j nested) bytes
+    → IsLaidOut (elaborated p) → AreBytes input → Sound p (first_state (elaborated p) input)
+judged_sound p input j given small nested laid bytes =
+    first_state_sound j.typed p input (has_objects p j (objects_sized p j given small) (slot_parts p j (members_named p j)) laid) (has_functions p j nested) bytes

@@ -11,3 +11,5 @@ pub mod Judged
 pub mod Sizes
 pub mod Sized
 pub mod Counts
+pub mod Bounds
+pub mod Named

@@ -46,10 +46,11 @@ pub fn objects_have_sizes()
         → HaveSizes p }
 {}
 
-/// A slot of an element in a judged text is a pointer of the element, and the member that its count names is a part of
-/// the element too, if the bounds of members name members of the same structure.
+/// The bounds of members name members of the same structure. So a slot of an element in a judged text is a pointer of
+/// the element, and the member that its count names is a part of the element too.
 pub fn slots_are_parts()
-    ensures { (p : Typed) → IsJudged p → NameMembers p.layout → AreSlotParts p }
+    ensures named { (p : Typed) → IsJudged p → NameMembers p.layout }
+    ensures parts { (p : Typed) → IsJudged p → AreSlotParts p }
 {}
 
 /// The first state of the program of a judged text is sound, with any input of bytes: `main` stands at its first
@@ -59,6 +60,5 @@ pub fn first_state_is_sound()
         → AreBytes input → Sound p (first_state (elaborated p) input) }
     ensures judged { (p : Typed) (input : List ℕ) (j : IsJudged p)
         → given_tree j.named.tree ≡ true → Small j.named.tree → AreNested j.typed.tree.items
-        → AreSlotParts p → IsLaidOut (elaborated p) → AreBytes input
-        → Sound p (first_state (elaborated p) input) }
+        → IsLaidOut (elaborated p) → AreBytes input → Sound p (first_state (elaborated p) input) }
 {}
