@@ -1,20 +1,17 @@
 -- The first blocks of the program of a judged text are sound.
-use Rattle.std.proofs.Common.{◌≡◌, ◌≤◌, ℕ, ◌+◌, List, [], ◌∷◌, refl, sym, ap, subst, arith}
-use Rattle.std.specs.Prelude.{Ok, Err}
+use Rattle.std.proofs.Common.{◌≡◌, ◌≤◌, ℕ, ◌+◌, List, [], ◌∷◌, refl, sym, subst, arith}
+use Rattle.std.specs.Prelude.{Ok}
 use Rattle.std.specs.List.{All, flat_map}
 use Rattle.ckc_base.specs.declared.arithmetic.Mode.TheVariants.{Unchecked}
 use Rattle.ckc_base.specs.MemoryMap.{data_start}
-use Rattle.ckc_base.specs.Outcomes.{Outcome, bind}
 use Rattle.ckc_types.specs.declared.types.Structs.{Structs}
 use Rattle.ckc_typed.specs.declared.typed.StaticObject.{StaticObject}
 use Rattle.ckc_typed.specs.declared.typed.Typed.{Typed}
-use Rattle.ckc_typed.specs.Trees.{NotedItem}
 use Rattle.ckc_typed.specs.Statics.{blocks}
 use Rattle.ckc_typed.specs.Texts.{globals_of}
 use Rattle.ckc_typed_welltyped.specs.Noteless.{without_notes}
 use Rattle.ckc_typed_welltyped.specs.Texts.{WellTyped}
-use Rattle.ckc_bounds.specs.Frames.{text_frame}
-use Rattle.ckc_bounds.specs.Texts.{items_judged, text_judged}
+use Rattle.ckc_bounds.specs.Texts.{text_judged}
 use Rattle.ckc_source.specs.Blocks.{Block, end_of, first_place}
 use Rattle.ckc_source.specs.LaidOut.{AreApart}
 use Rattle.ckc_source.proofs.Keeping.{from_zero}
@@ -23,18 +20,11 @@ use Rattle.ckc_build_elaborate.specs.Shapes.{shapes_elaborated}
 use Rattle.ckc_blame_sound.specs.Slots.{AreFilled}
 use Rattle.ckc_blame_slots.specs.Cells.{AreSound}
 use Rattle.ckc_blame_slots.specs.Limited.{store_with}
+use Rattle.ckc_blame_texts.proofs.Bounded.{is_bounded}
 use Rattle.ckc_blame_first.specs.Ready.{first_blocks, next_behind, HasObjects}
 use Rattle.ckc_blame_first.proofs.Starts.{IsBegun, blocks_begun}
 use Rattle.ckc_blame_first.proofs.Placed.{IsLaid, placed_laid, all_placed, are_objects, place_even}
 use Rattle.ckc_blame_first.proofs.Filled.{first_filled}
-
--- the bounds phase keeps structures and static objects
-pub judged_same : (q p : Typed) (o : Outcome (List NotedItem)) → bind o (λ items. Ok (record q { tree = record { items = items } })) ≡ Ok p
-    → (q.layout ≡ p.layout) × (q.statics ≡ p.statics)
-judged_same q p (Ok items) e =
-    let same : record q { tree = record { items = items } } ≡ p = cc in
-    (ap (λ (x : Typed). x.layout) same, ap (λ (x : Typed). x.statics) same)
-judged_same q p (Err r) e = absurd cc
 
 abbrev AreLaid : Structs → List StaticObject → Type 0
 AreLaid structs os = All (IsLaid structs) os
@@ -48,8 +38,8 @@ typed_laid q w =
 
 statics_laid : (q p : Typed) → WellTyped q → text_judged q ≡ Ok p → AreLaid p.layout p.statics
 statics_laid q p w e =
-    let same = judged_same q p (items_judged (text_frame q.layout q.statics q.tree.items) q.tree.items) e in
-    subst (λ (s : Structs). AreLaid s p.statics) same.0 (subst (AreLaid q.layout) same.1 (typed_laid q w))
+    let same = is_bounded q p e in
+    subst (λ (s : Structs). AreLaid s p.statics) (sym same.layout) (subst (AreLaid q.layout) (sym same.statics) (typed_laid q w))
 
 least : (low : ℕ) (bs : List Block) (next : ℕ) → AreApart low bs next → low ≤ next
 least low [] next a = a

@@ -37,12 +37,10 @@ use Rattle.ckc_typed_fit.proofs.Found.{tags_have_bodies}
 use Rattle.ckc_typed_welltyped.specs.Noteless.{bare_item, without_notes}
 use Rattle.ckc_typed_welltyped.specs.Productions.{given_item, given_tree}
 use Rattle.ckc_typed_welltyped.specs.Texts.{WellTypedItem, WellTypedItems}
-use Rattle.ckc_bounds.specs.Frames.{text_frame}
-use Rattle.ckc_bounds.specs.Texts.{items_judged}
 use Rattle.ckc_blame_texts.specs.Judged.{IsJudged}
 use Rattle.ckc_blame_first.specs.Ready.{HaveSizes}
 use Rattle.ckc_blame_first.proofs.Starts.{char_size}
-use Rattle.ckc_blame_first.proofs.Memory.{judged_same}
+use Rattle.ckc_blame_texts.proofs.Bounded.{is_bounded}
 use Rattle.ckc_blame_first.proofs.Sizes.{HasMembers, all_members, sized, tag_sized}
 
 -- each tag has a body
@@ -186,5 +184,5 @@ objects_sized p j given small =
     (items_sized js members globals Unchecked q.tree.items w.items passes) (strings_sized (structs_of js) (flat_map strings_of_item q.tree.items)) in
     let typed : All (HasSize q.layout) (blocks q.layout q.tree.items) = subst (λ s. All (HasSize s) (blocks s q.tree.items)) (sym w.layout) first in
     let laid : All (HasSize q.layout) q.statics = subst (λ os. All (HasSize q.layout) os) (sym w.statics) (placed_sized q.layout (blocks q.layout q.tree.items) data_start typed) in
-    let kept = judged_same q p (items_judged (text_frame q.layout q.statics q.tree.items) q.tree.items) j.has_bounds in
-    subst (λ s. All (HasSize s) p.statics) kept.0 (subst (λ os. All (HasSize q.layout) os) kept.1 laid)
+    let kept = is_bounded q p j.has_bounds in
+    subst (λ s. All (HasSize s) p.statics) (sym kept.layout) (subst (λ os. All (HasSize q.layout) os) (sym kept.statics) laid)
