@@ -1,0 +1,15 @@
+pub mod Entered
+pub mod Starts
+pub mod Placed
+pub mod Filled
+pub mod Memory
+pub mod Main
+pub mod First
+pub mod Mains
+pub mod Slots
+pub mod Judged
+pub mod Sizes
+pub mod Sized
+pub mod Counts
+pub mod Bounds
+pub mod Named
