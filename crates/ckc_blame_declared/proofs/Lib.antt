@@ -1,0 +1,4 @@
+pub mod Ends
+pub mod Locals
+pub mod HaveEnds
+pub mod Heads

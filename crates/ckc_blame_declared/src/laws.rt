@@ -1,0 +1,26 @@
+//! What follows from the definitions alone, each the contract of a function that does nothing.
+
+ghost use Rattle.std.specs.Prelude.{◌≡◌};
+ghost use Rattle.ckc_linear.specs.declared.forms.Form.{Form};
+ghost use Rattle.ckc_typed.specs.declared.typed.Typed.{Typed};
+ghost use Rattle.ckc_bounds_points.specs.declared.frame.Bounds.TheVariants as bounds;
+ghost use Rattle.ckc_source.specs.Code.{Function};
+ghost use Rattle.ckc_build_values.specs.Kinds.{size_behind};
+ghost use Rattle.ckc_blame_sound.specs.Settings.{Setting, IsFunction};
+ghost use Rattle.ckc_blame_contained.specs.Ends.{HaveEnds};
+ghost use Rattle.ckc_blame_contained.specs.Passed.{IsResult};
+ghost use Rattle.ckc_blame_texts.specs.Judged.{IsJudged};
+
+/// The bounds of each local of a judged text lie from local pointers to elements of the same size and static arrays, as
+/// far as integer locals say, which a program reads in their types. No integer has bounds.
+pub fn locals_have_ends()
+    ensures { (p : Typed) (s : Setting) (f : Function) → IsJudged p → IsFunction p s f → HaveEnds s }
+{}
+
+/// The bounds of each result lie from such places or from the result itself, as far as such integers say, and name
+/// parameters alone.
+pub fn results_have_ends()
+    ensures { (p : Typed) (s : Setting) (f : Function) (low high : Form) → IsJudged p
+        → IsFunction p s f → s.head.bounds ≡ bounds.Known low high
+        → IsResult s (size_behind s.text.layout s.head.result) s.head.params low high }
+{}

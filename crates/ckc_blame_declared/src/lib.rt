@@ -1,0 +1,6 @@
+//! What declarations say of bounds is told alike to the judgement and to the program.
+#![tactic(auto)]
+
+mod laws;
+
+pub use laws::{locals_have_ends, results_have_ends};
