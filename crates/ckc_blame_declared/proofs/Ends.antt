@@ -248,7 +248,7 @@ by_type_is frame h t = by (kind_of t) refl
     by (Some kind.Arr) e = tt
     by None e = tt
 
-there_is : (P : Bounds → Type 0) (code : ℕ) (at : Pos) (o : Option Bounds) → IfSome o P → Gives P (there_or code at o)
+pub there_is : (P : Bounds → Type 0) (code : ℕ) (at : Pos) (o : Option Bounds) → IfSome o P → Gives P (there_or code at o)
 there_is P code at None h = tt
 there_is P code at (Some b) h = h
 

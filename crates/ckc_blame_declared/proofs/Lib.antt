@@ -2,3 +2,4 @@ pub mod Ends
 pub mod Locals
 pub mod HaveEnds
 pub mod Heads
+pub mod Own

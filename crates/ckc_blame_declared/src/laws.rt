@@ -3,11 +3,14 @@
 ghost use Rattle.std.specs.Prelude.{◌≡◌};
 ghost use Rattle.ckc_linear.specs.declared.forms.Form.{Form};
 ghost use Rattle.ckc_typed.specs.declared.typed.Typed.{Typed};
+ghost use Rattle.ckc_typed.specs.Trees.{NotedExpr};
 ghost use Rattle.ckc_bounds_points.specs.declared.frame.Bounds.TheVariants as bounds;
+ghost use Rattle.ckc_bounds_stores.specs.Targets.{memory_bounds};
 ghost use Rattle.ckc_source.specs.Code.{Function};
 ghost use Rattle.ckc_build_values.specs.Kinds.{size_behind};
 ghost use Rattle.ckc_blame_sound.specs.Settings.{Setting, IsFunction};
 ghost use Rattle.ckc_blame_contained.specs.Ends.{HaveEnds};
+ghost use Rattle.ckc_blame_contained.specs.Memory.{AreOwn};
 ghost use Rattle.ckc_blame_contained.specs.Passed.{IsResult};
 ghost use Rattle.ckc_blame_texts.specs.Judged.{IsJudged};
 
@@ -23,4 +26,10 @@ pub fn results_have_ends()
     ensures { (p : Typed) (s : Setting) (f : Function) (low high : Form) → IsJudged p
         → IsFunction p s f → s.head.bounds ≡ bounds.Known low high
         → IsResult s (size_behind s.text.layout s.head.result) s.head.params low high }
+{}
+
+/// The bounds of a pointer in memory lie from its own value, whatever declares them.
+pub fn memory_bounds_are_own()
+    ensures { (p : Typed) (s : Setting) (f : Function) (e : NotedExpr) (low high : Form) →
+        IsFunction p s f → memory_bounds s.frame e ≡ bounds.Known low high → AreOwn low high }
 {}
