@@ -3,3 +3,5 @@ pub mod Locals
 pub mod HaveEnds
 pub mod Heads
 pub mod Own
+pub mod More
+pub mod Parameters

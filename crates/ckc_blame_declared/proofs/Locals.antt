@@ -62,7 +62,7 @@ contains_at xs k x e =
     same y f = cc
 
 -- what stands in a list
-some_at : {A : Type 0} (xs : List A) (k : ℕ) → k < length xs → (x : A) × (slice_get xs k ≡ Some x)
+pub some_at : {A : Type 0} (xs : List A) (k : ℕ) → k < length xs → (x : A) × (slice_get xs k ≡ Some x)
 some_at [] k h = absurd (omega (arith, h))
 some_at (x ∷ xs) zero h = (x, refl)
 some_at (x ∷ xs) (suc k) h = some_at xs k (omega (arith, h))
@@ -157,7 +157,7 @@ local_is frame h body k l e =
 
 -- ---- variables
 
-name_at : (n : ℕ) (ns : List Name) (k : ℕ) (m : Name) → AreLocals n ns → slice_get ns k ≡ Some m → m ≡ name.Local (n + k)
+pub name_at : (n : ℕ) (ns : List Name) (k : ℕ) (m : Name) → AreLocals n ns → slice_get ns k ≡ Some m → m ≡ name.Local (n + k)
 name_at n [] k m h e = absurd cc
 name_at n (x ∷ ns) zero m h e = let same : x ≡ m = cc in sym same ∙ h.0 ∙ ap name.Local (next n)
   where
@@ -177,7 +177,7 @@ pub record IsVariable (variables : List Variable) (k : ℕ) (t : CType) : Type 0
   pub named : variable_named variables (name.Local k) ≡ Some variable
   pub same : t ≡ variable.ctype
 
-from_zero : (k : ℕ) → 0 + k ≡ k
+pub from_zero : (k : ℕ) → 0 + k ≡ k
 from_zero k = omega arith
 
 declared_variable : (h : NotedHead) (body : NotedStmt) (k : ℕ) (d : NotedDecl) → AreLocals 0 (names_declared (all_of h body)) → slice_get (all_of h body) k ≡ Some d

@@ -1,6 +1,6 @@
 //! What follows from the definitions alone, each the contract of a function that does nothing.
 
-ghost use Rattle.std.specs.Prelude.{◌≡◌};
+ghost use Rattle.std.specs.Prelude.{◌≡◌, ◌<◌, length};
 ghost use Rattle.ckc_linear.specs.declared.forms.Form.{Form};
 ghost use Rattle.ckc_typed.specs.declared.typed.Typed.{Typed};
 ghost use Rattle.ckc_typed.specs.Trees.{NotedExpr};
@@ -11,7 +11,7 @@ ghost use Rattle.ckc_build_values.specs.Kinds.{size_behind};
 ghost use Rattle.ckc_blame_sound.specs.Settings.{Setting, IsFunction};
 ghost use Rattle.ckc_blame_contained.specs.Ends.{HaveEnds};
 ghost use Rattle.ckc_blame_contained.specs.Memory.{AreOwn};
-ghost use Rattle.ckc_blame_contained.specs.Passed.{IsResult};
+ghost use Rattle.ckc_blame_contained.specs.Passed.{AreParameters, IsResult};
 ghost use Rattle.ckc_blame_texts.specs.Judged.{IsJudged};
 
 /// The bounds of each local of a judged text lie from local pointers to elements of the same size and static arrays, as
@@ -32,4 +32,10 @@ pub fn results_have_ends()
 pub fn memory_bounds_are_own()
     ensures { (p : Typed) (s : Setting) (f : Function) (e : NotedExpr) (low high : Form) →
         IsFunction p s f → memory_bounds s.frame e ≡ bounds.Known low high → AreOwn low high }
+{}
+
+/// The parameters that the head of a function tells are its first locals, and their bounds name parameters alone.
+pub fn parameters_are_locals()
+    ensures { (p : Typed) (s : Setting) (f : Function) → IsJudged p → IsFunction p s f
+        → length s.variables < 1024 → AreParameters s s.head.params }
 {}

@@ -3,4 +3,4 @@
 
 mod laws;
 
-pub use laws::{locals_have_ends, memory_bounds_are_own, results_have_ends};
+pub use laws::{locals_have_ends, memory_bounds_are_own, parameters_are_locals, results_have_ends};

@@ -223,7 +223,7 @@ first_keeps (suc m) (x ∷ ls) zero l h e = e
 first_keeps (suc m) (x ∷ ls) (suc k) l h e = first_keeps m ls k l (omega (arith, h)) e
 
 -- there are as many locals as variables
-locals_counted : (frame : Frame) (h : NotedHead) (body : NotedStmt) → length (declared_in frame (all_of h body)) ≡ length (variables_of h body)
+pub locals_counted : (frame : Frame) (h : NotedHead) (body : NotedStmt) → length (declared_in frame (all_of h body)) ≡ length (variables_of h body)
 locals_counted frame h body =
     let ds = all_of h body in
     sym (length-map (declared_in frame ds) (λ (x : Local). x.ctype)) ∙ ap length (declared_types frame ds) ∙ length-map ds (λ (d : NotedDecl). type_written d.ctype)
