@@ -5,3 +5,4 @@ pub mod Heads
 pub mod Own
 pub mod More
 pub mod Parameters
+pub mod Results

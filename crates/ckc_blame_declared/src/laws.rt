@@ -1,6 +1,6 @@
 //! What follows from the definitions alone, each the contract of a function that does nothing.
 
-ghost use Rattle.std.specs.Prelude.{◌≡◌, ◌<◌, length};
+ghost use Rattle.std.specs.Prelude.{◌≡◌, ◌<◌, length, Some};
 ghost use Rattle.ckc_linear.specs.declared.forms.Form.{Form};
 ghost use Rattle.ckc_typed.specs.declared.typed.Typed.{Typed};
 ghost use Rattle.ckc_typed.specs.Trees.{NotedExpr};
@@ -11,7 +11,7 @@ ghost use Rattle.ckc_build_values.specs.Kinds.{size_behind};
 ghost use Rattle.ckc_blame_sound.specs.Settings.{Setting, IsFunction};
 ghost use Rattle.ckc_blame_contained.specs.Ends.{HaveEnds};
 ghost use Rattle.ckc_blame_contained.specs.Memory.{AreOwn};
-ghost use Rattle.ckc_blame_contained.specs.Passed.{AreParameters, IsResult};
+ghost use Rattle.ckc_blame_contained.specs.Passed.{AreParameters, IsResult, result_between};
 ghost use Rattle.ckc_blame_texts.specs.Judged.{IsJudged};
 
 /// The bounds of each local of a judged text lie from local pointers to elements of the same size and static arrays, as
@@ -38,4 +38,10 @@ pub fn memory_bounds_are_own()
 pub fn parameters_are_locals()
     ensures { (p : Typed) (s : Setting) (f : Function) → IsJudged p → IsFunction p s f
         → length s.variables < 1024 → AreParameters s s.head.params }
+{}
+
+/// If the bounds that a head tells of a result are known, a program reads a result between the same two ends.
+pub fn results_are_told()
+    ensures { (p : Typed) (s : Setting) (f : Function) (low high : Form) → IsFunction p s f
+        → s.head.bounds ≡ bounds.Known low high → f.result ≡ Some (result_between s low high) }
 {}

@@ -3,4 +3,7 @@
 
 mod laws;
 
-pub use laws::{locals_have_ends, memory_bounds_are_own, parameters_are_locals, results_have_ends};
+pub use laws::{
+    locals_have_ends, memory_bounds_are_own, parameters_are_locals, results_are_told,
+    results_have_ends,
+};
