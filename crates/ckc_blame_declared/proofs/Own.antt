@@ -3,6 +3,7 @@ use Rattle.std.proofs.Common.{◌≡◌, sym, subst, refl, ℕ, zero, suc, List,
 use Rattle.std.specs.Prelude.{Bool, true, false, if◌then◌else◌, Option, Some, None, slice_get, unwrap_or, IfSome}
 use Rattle.ckc_base.proofs.Gives.{Gives}
 use Rattle.ckc_types.specs.declared.types.CType.{CType}
+use Rattle.ckc_types.specs.declared.types.Structs.{Structs}
 use Rattle.ckc_types.specs.declared.types.Kind.{Kind}
 use Rattle.ckc_types.specs.declared.types.Kind.TheVariants as kind
 use Rattle.ckc_types.specs.declared.types.MemberBounds.{MemberBounds}
@@ -35,6 +36,9 @@ use Rattle.ckc_bounds_views.specs.Views.{view}
 use Rattle.ckc_bounds.specs.Declarations.{object_bounds, object_bounds_in, objects_of}
 use Rattle.ckc_bounds.specs.Frames.{structs_frame}
 use Rattle.ckc_source.specs.Code.{Function}
+use Rattle.ckc_source.specs.declared.expr.Count.{Count}
+use Rattle.ckc_build_values.specs.Kinds.{count_of_kind}
+use Rattle.ckc_build_values.specs.Members.{count_by}
 use Rattle.ckc_blame_sound.specs.Settings.{Setting, IsFunction, setting_of}
 use Rattle.ckc_blame_contained.specs.Memory.{AreOwn}
 use Rattle.ckc_blame_declared.proofs.Ends.{there_is}
@@ -138,3 +142,23 @@ setting_owns p h body = own_memory (setting_of p h body).frame (own_objects (str
 
 pub memory_bounds_are_own : (p : Typed) (s : Setting) (f : Function) (e : NotedExpr) (low high : Form) → IsFunction p s f → memory_bounds s.frame e ≡ bounds.Known low high → AreOwn low high
 memory_bounds_are_own p s f e low high is k = subst Owns (sym is.judged) (setting_owns p is.head is.body) e low high k
+
+-- ---- what a program counts
+
+abbrev AreKnown : Bounds → Type 0
+AreKnown b = (low : Form) × (high : Form) × (b ≡ bounds.Known low high)
+
+counted_kind : (k : Option Kind) (count : Count) → count_of_kind k ≡ Some count → AreKnown (bounds_of_kind (base.Value 0) k)
+counted_kind (Some kind.One) count e = (_, _, refl)
+counted_kind (Some kind.Nt) count e = (_, _, refl)
+counted_kind (Some kind.Raw) count e = absurd cc
+counted_kind (Some kind.Arr) count e = absurd cc
+counted_kind None count e = absurd cc
+
+pub counted_members_have_bounds : (structs : Structs) (tag : ℕ) (t : CType) (b : MemberBounds) (count : Count) → count_by structs tag t b ≡ Some count
+    → (low : Form) × (high : Form) × (bounds_by_member t b ≡ bounds.Known low high)
+counted_members_have_bounds structs tag t written.Nothing count e = counted_kind (kind_of t) count e
+counted_members_have_bounds structs tag t written.Unknown count e = absurd cc
+counted_members_have_bounds structs tag t written.NoForm count e = absurd cc
+counted_members_have_bounds structs tag t (written.Fixed c) count e = (_, _, refl)
+counted_members_have_bounds structs tag t (written.Named m c) count e = (_, _, refl)

@@ -1,13 +1,18 @@
 //! What follows from the definitions alone, each the contract of a function that does nothing.
 
-ghost use Rattle.std.specs.Prelude.{◌≡◌, ◌<◌, length, Some};
+ghost use Rattle.std.specs.Prelude.{◌≡◌, ℕ, ◌<◌, length, Some};
 ghost use Rattle.ckc_linear.specs.declared.forms.Form.{Form};
+ghost use Rattle.ckc_types.specs.declared.types.CType.{CType};
+ghost use Rattle.ckc_types.specs.declared.types.MemberBounds.{MemberBounds};
+ghost use Rattle.ckc_types.specs.declared.types.Structs.{Structs};
 ghost use Rattle.ckc_typed.specs.declared.typed.Typed.{Typed};
 ghost use Rattle.ckc_typed.specs.Trees.{NotedExpr};
 ghost use Rattle.ckc_bounds_points.specs.declared.frame.Bounds.TheVariants as bounds;
-ghost use Rattle.ckc_bounds_stores.specs.Targets.{memory_bounds};
+ghost use Rattle.ckc_bounds_stores.specs.Targets.{bounds_by_member, memory_bounds};
 ghost use Rattle.ckc_source.specs.Code.{Function};
+ghost use Rattle.ckc_source.specs.declared.expr.Count.{Count};
 ghost use Rattle.ckc_build_values.specs.Kinds.{size_behind};
+ghost use Rattle.ckc_build_values.specs.Members.{count_by};
 ghost use Rattle.ckc_blame_sound.specs.Settings.{Setting, IsFunction};
 ghost use Rattle.ckc_blame_contained.specs.Ends.{HaveEnds};
 ghost use Rattle.ckc_blame_contained.specs.Memory.{AreOwn};
@@ -44,4 +49,11 @@ pub fn parameters_are_locals()
 pub fn results_are_told()
     ensures { (p : Typed) (s : Setting) (f : Function) (low high : Form) → IsFunction p s f
         → s.head.bounds ≡ bounds.Known low high → f.result ≡ Some (result_between s low high) }
+{}
+
+/// The judgement knows the bounds of each member of which a program counts the elements.
+pub fn counted_members_have_bounds()
+    ensures { (structs : Structs) (tag : ℕ) (t : CType) (b : MemberBounds) (count : Count) →
+        count_by structs tag t b ≡ Some count
+        → (low : Form) × (high : Form) × (bounds_by_member t b ≡ bounds.Known low high) }
 {}
