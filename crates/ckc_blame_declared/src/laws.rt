@@ -22,7 +22,8 @@ ghost use Rattle.ckc_blame_texts.specs.Judged.{IsJudged};
 /// The bounds of each local of a judged text lie from local pointers to elements of the same size and static arrays, as
 /// far as integer locals say, which a program reads in their types. No integer has bounds.
 pub fn locals_have_ends()
-    ensures { (p : Typed) (s : Setting) (f : Function) → IsJudged p → IsFunction p s f → HaveEnds s }
+    ensures { (p : Typed) (s : Setting) (f : Function) → IsJudged p → IsFunction p s f
+        → HaveEnds s }
 {}
 
 /// The bounds of each result lie from such places or from the result itself, as far as such integers say, and name
