@@ -42,7 +42,7 @@ use Rattle.ckc_blame_texts.proofs.Locals.{names_declared, variables_declared, st
 
 -- ---- lists
 
-first_at : (m : ℕ) (ls : List Local) (k : ℕ) (l : Local) → slice_get (first_of m ls) k ≡ Some l → (k < m) × (slice_get ls k ≡ Some l)
+pub first_at : (m : ℕ) (ls : List Local) (k : ℕ) (l : Local) → slice_get (first_of m ls) k ≡ Some l → (k < m) × (slice_get ls k ≡ Some l)
 first_at zero ls k l e = absurd cc
 first_at (suc m) [] k l e = absurd cc
 first_at (suc m) (x ∷ ls) zero l e = (omega arith, e)
@@ -62,17 +62,17 @@ append_at (x ∷ xs) ys (suc k) l e = elim (append_at xs ys k l e) [ inl f ↦ i
 
 -- ---- the locals of a frame
 
-abbrev types_of : List Local → List CType
+abbrev pub types_of : List Local → List CType
 types_of ls = map (λ (l : Local). l.ctype) ls
 
-abbrev types_declared : List NotedDecl → List CType
+abbrev pub types_declared : List NotedDecl → List CType
 types_declared ds = map (λ (d : NotedDecl). type_written d.ctype) ds
 
 made_type : (frame : Frame) (b : Bool) (k : ℕ) (d : NotedDecl) → (local_made frame b k d).ctype ≡ type_written d.ctype
 made_type frame true k d = refl
 made_type frame false k d = refl
 
-all_types : (frame : Frame) (b : Bool) (ls : List Local) (ds : List NotedDecl) → types_of (with_all frame b ls ds) ≡ types_of ls ++ types_declared ds
+pub all_types : (frame : Frame) (b : Bool) (ls : List Local) (ds : List NotedDecl) → types_of (with_all frame b ls ds) ≡ types_of ls ++ types_declared ds
 all_types frame b ls [] = sym (append-nil (types_of ls))
 all_types frame b ls (d ∷ ds) =
     all_types frame b (ls ++ local_made frame b (length ls) d ∷ []) ds
@@ -80,7 +80,7 @@ all_types frame b ls (d ∷ ds) =
     ∙ append_assoc (types_of ls) ((local_made frame b (length ls) d).ctype ∷ []) (types_declared ds)
     ∙ ap (λ t. types_of ls ++ t ∷ types_declared ds) (made_type frame b (length ls) d)
 
-declared_types : (frame : Frame) (ds : List NotedDecl) → types_of (declared_in frame ds) ≡ types_declared ds
+pub declared_types : (frame : Frame) (ds : List NotedDecl) → types_of (declared_in frame ds) ≡ types_declared ds
 declared_types frame ds = all_types (types_in frame ds) true [] ds
 
 -- a local of a frame is declared, or comes after all that are
@@ -151,7 +151,7 @@ no_object : (os : List Object) (k : ℕ) (o : Object) → All IsStaticNamed os �
 no_object os k o h e =
     let f = found IsStaticNamed (λ (x : Object). same_name x.name (name.Local k)) os o h e in static_no_local o.name f.0.0 k f.0.1 f.1
 
-local_named : (n : Name) (k : ℕ) → same_name n (name.Local k) ≡ true → n ≡ name.Local k
+pub local_named : (n : Name) (k : ℕ) → same_name n (name.Local k) ≡ true → n ≡ name.Local k
 local_named (name.Local j) k e = ap name.Local (eqb-true j k e)
 local_named (name.Static j) k e = absurd cc
 local_named (name.Function j) k e = absurd cc
@@ -203,7 +203,7 @@ setting_agrees p h body j there = record {
   locals = λ k l t at type. frame_type p h body k l t at (named_type (globals_in p) h body k t (numbered p h body j there) (statics_named p j) type);
 }
 
-setting_types : (p : Typed) (h : NotedHead) (body : NotedStmt) → IsJudged p → Contains p.tree.items (item.Function h body) → HaveTypes (setting_of p h body).frame (setting_of p h body).variables
+pub setting_types : (p : Typed) (h : NotedHead) (body : NotedStmt) → IsJudged p → Contains p.tree.items (item.Function h body) → HaveTypes (setting_of p h body).frame (setting_of p h body).variables
 unfolding setting_of
 setting_types p h body j there v k l is named at =
     frame_type p h body k l v.ctype at (All-contains (HasType (types_declared (all_of h body))) (variables_of h body) v (variables_have h body (numbered p h body j there)) is k named)
@@ -216,14 +216,14 @@ variables_have_types p s f j is = subst (λ (z : Setting). HaveTypes z.frame z.v
 
 -- ---- how many locals there are
 
-first_keeps : (m : ℕ) (ls : List Local) (k : ℕ) (l : Local) → k < m → slice_get ls k ≡ Some l → slice_get (first_of m ls) k ≡ Some l
+pub first_keeps : (m : ℕ) (ls : List Local) (k : ℕ) (l : Local) → k < m → slice_get ls k ≡ Some l → slice_get (first_of m ls) k ≡ Some l
 first_keeps zero ls k l h e = absurd (omega (arith, h))
 first_keeps (suc m) [] k l h e = absurd cc
 first_keeps (suc m) (x ∷ ls) zero l h e = e
 first_keeps (suc m) (x ∷ ls) (suc k) l h e = first_keeps m ls k l (omega (arith, h)) e
 
 -- there are as many locals as variables
-locals_counted : (frame : Frame) (h : NotedHead) (body : NotedStmt) → length (declared_in frame (all_of h body)) ≡ length (variables_of h body)
+pub locals_counted : (frame : Frame) (h : NotedHead) (body : NotedStmt) → length (declared_in frame (all_of h body)) ≡ length (variables_of h body)
 locals_counted frame h body =
     let ds = all_of h body in
     sym (length-map (declared_in frame ds) (λ (x : Local). x.ctype)) ∙ ap length (declared_types frame ds) ∙ length-map ds (λ (d : NotedDecl). type_written d.ctype)

@@ -1,0 +1,221 @@
+-- The locals of a function, and the types that bounds are declared among.
+use Rattle.std.proofs.Common.{◌≡◌, ◌∙◌, sym, ap, subst, refl, inl, inr, arith, ℕ, zero, suc, ◌+◌, ◌<◌, List, [], ◌∷◌, ◌++◌, length, get_or, replicate}
+use Rattle.std.specs.Prelude.{◌⊎◌, Bool, true, false, if◌then◌else◌, Option, Some, None, find, slice_get, Ok, Err}
+use Rattle.std.specs.List.{Contains}
+use Rattle.std.specs.Option.{option_map}
+use Rattle.std.proofs.lemmas.List.{map-append, length-map}
+use Rattle.std.proofs.lemmas.List.Elements.{All-contains_itself, Contains-get_or, at_from_Contains}
+use Rattle.std.proofs.lemmas.List.Sorted.{Contains-permutation}
+use Rattle.std.proofs.lemmas.Option.{slice_get-map, slice_get_within, slice_get-get_or, slice_get_read}
+use Rattle.ckc_base.specs.Outcomes.{Outcome}
+use Rattle.ckc_base.proofs.Gives.{Gives}
+use Rattle.ckc_syntax.specs.declared.tree.Name.{Name}
+use Rattle.ckc_syntax.specs.declared.tree.Name.TheVariants as name
+use Rattle.ckc_syntax.specs.declared.tree.Item.TheVariants as item
+use Rattle.ckc_types.specs.declared.types.CType.{CType}
+use Rattle.ckc_typed.specs.declared.environment.Variable.{Variable}
+use Rattle.ckc_typed.specs.declared.typed.Typed.{Typed}
+use Rattle.ckc_typed.specs.Environment.{same_name, variable_declared, variable_named, variables_of}
+use Rattle.ckc_typed.specs.Trees.{NotedDecl, NotedHead, NotedStmt}
+use Rattle.ckc_typed.specs.Types.{type_written}
+use Rattle.ckc_bounds_points.specs.declared.frame.Bounds.{Bounds}
+use Rattle.ckc_bounds_points.specs.declared.frame.Bounds.TheVariants as bounds
+use Rattle.ckc_bounds_points.specs.declared.frame.Frame.{Frame}
+use Rattle.ckc_bounds_points.specs.declared.frame.Local.{Local}
+use Rattle.ckc_bounds_points.specs.Frames.{local_at}
+use Rattle.ckc_bounds_declared.specs.declared.limits.Holder.TheVariants as holder
+use Rattle.ckc_bounds.specs.Declarations.{few_of, first_of, known_or_not, local_made, with_all, types_in, declared_in, head_bounds}
+use Rattle.ckc_bounds.specs.Frames.{all_of, first_fresh, fresh_needed, function_frame, locals_frame, nameless}
+use Rattle.ckc_blame_sound.specs.Settings.{frame_of_text, setting_of}
+use Rattle.ckc_blame_texts.specs.Judged.{IsJudged}
+use Rattle.ckc_blame_texts.specs.Numbered.{AreLocals}
+use Rattle.ckc_blame_texts.proofs.Frames.{first_at, first_keeps, types_of, types_declared, all_types, declared_types, local_named, setting_types, variables_moved}
+use Rattle.ckc_blame_texts.proofs.Functions.{numbered}
+use Rattle.ckc_blame_texts.proofs.Lists.{found, more_at}
+use Rattle.ckc_blame_texts.proofs.Locals.{names_declared, variables_declared}
+use Rattle.ckc_blame_declared.proofs.Ends.{AreKnown, declared_is}
+
+-- ---- lists
+
+at_end : (xs : List Local) (y : Local) (k : ℕ) (l : Local) → slice_get (xs ++ y ∷ []) k ≡ Some l → (slice_get xs k ≡ Some l) ⊎ ((k ≡ length xs) × (l ≡ y))
+at_end [] y zero l e = inr (refl, cc)
+at_end [] y (suc k) l e = absurd cc
+at_end (x ∷ xs) y zero l e = inl e
+at_end (x ∷ xs) y (suc k) l e = elim (at_end xs y k l e) [ inl f ↦ inl f | inr f ↦ inr (ap suc f.0, f.1) ]
+
+repeated_at : (n : ℕ) (y : Local) (k : ℕ) (l : Local) → slice_get (replicate n y) k ≡ Some l → l ≡ y
+repeated_at zero y k l e = absurd cc
+repeated_at (suc n) y zero l e = cc
+repeated_at (suc n) y (suc k) l e = repeated_at n y k l e
+
+before_at : (xs : List Local) (n : ℕ) (y : Local) (k : ℕ) (l : Local) → slice_get (xs ++ replicate n y) k ≡ Some l → (slice_get xs k ≡ Some l) ⊎ (l ≡ y)
+before_at [] n y k l e = inr (repeated_at n y k l e)
+before_at (x ∷ xs) n y zero l e = inl e
+before_at (x ∷ xs) n y (suc k) l e = before_at xs n y k l e
+
+pub contains_at : {A : Type 0} (xs : List A) (k : ℕ) (x : A) → slice_get xs k ≡ Some x → Contains xs x
+contains_at xs k x e =
+    let less = slice_get_within xs k x e in
+    subst (Contains xs) (same (get_or xs k x) (slice_get-get_or xs k x less)) (Contains-get_or xs k x less)
+  where
+    same : (y : _) → slice_get xs k ≡ Some y → y ≡ x
+    same y f = cc
+
+-- what stands in a list
+pub some_at : {A : Type 0} (xs : List A) (k : ℕ) → k < length xs → (x : A) × (slice_get xs k ≡ Some x)
+some_at [] k h = absurd (omega (arith, h))
+some_at (x ∷ xs) zero h = (x, refl)
+some_at (x ∷ xs) (suc k) h = some_at xs k (omega (arith, h))
+
+not_none : {A : Type 0} (p : A → Bool) (xs : List A) (k : ℕ) (x : A) → slice_get xs k ≡ Some x → p x ≡ true → find p xs ≡ None → ⊥
+not_none p [] k x e t n = absurd cc
+not_none {A} p (y ∷ xs) zero x e t n =
+    let same : y ≡ x = cc in
+    let passes : p y ≡ true = subst (λ z. p z ≡ true) (sym same) t in
+    by (p y) passes n
+  where
+    by : (b : Bool) → b ≡ true → (if b then Some y else find p xs) ≡ None → ⊥
+    by true f g = absurd cc
+    by false f g = absurd cc
+not_none {A} p (y ∷ xs) (suc k) x e t n = by (p y) n (λ g. not_none p xs k x e t g)
+  where
+    by : (b : Bool) → (if b then Some y else find p xs) ≡ None → (find p xs ≡ None → ⊥) → ⊥
+    by true g later = absurd cc
+    by false g later = later g
+
+-- ---- what is declared
+
+made_at : (frame : Frame) (b : Bool) (ls : List Local) (ds : List NotedDecl) (k : ℕ) (l : Local) → slice_get (with_all frame b ls ds) k ≡ Some l
+    → (slice_get ls k ≡ Some l) ⊎ ((d : NotedDecl) × (l ≡ local_made frame b k d))
+made_at frame b ls [] k l e = inl e
+made_at frame b ls (d ∷ ds) k l e =
+    elim (made_at frame b (ls ++ local_made frame b (length ls) d ∷ []) ds k l e) [
+      | inl f ↦ elim (at_end ls (local_made frame b (length ls) d) k l f) [ inl g ↦ inl g | inr g ↦ inr (d, g.1 ∙ ap (λ n. local_made frame b n d) (sym g.0)) ]
+      | inr f ↦ inr f
+    ]
+
+declared_at : (frame : Frame) (ds : List NotedDecl) (k : ℕ) (l : Local) → slice_get (declared_in frame ds) k ≡ Some l → (d : NotedDecl) × (l ≡ local_made (types_in frame ds) true k d)
+declared_at frame ds k l e = elim (made_at (types_in frame ds) true [] ds k l e) [ inl f ↦ absurd cc | inr f ↦ f ]
+
+pub known : (P : Bounds → Type 0) → P bounds.Unknown → (o : Outcome Bounds) → Gives P o → P (known_or_not o)
+known P u (Ok b) h = h
+known P u (Err r) h = u
+
+-- the bounds of a local that is declared
+pub bounds_known : (frame : Frame) (ds : List NotedDecl) (k : ℕ) (l : Local) → slice_get (declared_in frame ds) k ≡ Some l → AreKnown (types_in frame ds) (holder.Local k) l.ctype l.bounds
+bounds_known frame ds k l e =
+    let made = declared_at frame ds k l e in
+    let d = made.0 in
+    subst (λ (x : Local). AreKnown (types_in frame ds) (holder.Local k) x.ctype x.bounds) (sym made.1)
+    (known (AreKnown (types_in frame ds) (holder.Local k) (type_written d.ctype)) tt _ (declared_is (types_in frame ds) (holder.Local k) (type_written d.ctype) d.length d.bounds refl))
+
+-- a local that is declared where types are known
+pub record IsThere (frame : Frame) (ds : List NotedDecl) (k : ℕ) (t : CType) : Type 0 where
+  pub local : Local
+  pub there : slice_get (declared_in frame ds) k ≡ Some local
+  pub same : local.ctype ≡ t
+  pub few : k < 1023
+
+pub declared_there : (frame : Frame) (ds es : List NotedDecl) (k : ℕ) (a : Local) → local_at (types_in frame ds) k ≡ Some a → IsThere frame (ds ++ es) k a.ctype
+unfolding few_of
+declared_there frame ds es k a e =
+    let one = first_at 1023 (with_all frame false [] ds) k a e in
+    let typed : slice_get (types_declared ds) k ≡ Some a.ctype =
+    sym (ap (λ ts. slice_get ts k) (all_types frame false [] ds)) ∙ slice_get-map (λ (x : Local). x.ctype) (with_all frame false [] ds) k ∙ ap (option_map (λ (x : Local). x.ctype)) one.1 in
+    let more : slice_get (types_declared (ds ++ es)) k ≡ Some a.ctype =
+    ap (λ ts. slice_get ts k) (map-append (λ (d : NotedDecl). type_written d.ctype) ds es) ∙ more_at (types_declared ds) (types_declared es) k a.ctype typed in
+    let D = declared_in frame (ds ++ es) in
+    let all : slice_get (types_of D) k ≡ Some a.ctype = ap (λ ts. slice_get ts k) (declared_types frame (ds ++ es)) ∙ more in
+    let less : k < length D = subst (λ n. k < n) (length-map D (λ (x : Local). x.ctype)) (slice_get_within (types_of D) k a.ctype all) in
+    let l = get_or D k nameless in
+    let there : slice_get D k ≡ Some l = slice_get-get_or D k nameless less in
+    let few : k < 1023 = one.0 in
+    record { local = l; there = there; same = ctype l there (sym (slice_get-map (λ (x : Local). x.ctype) D k) ∙ all); few = few }
+  where
+    ctype : (l : Local) → slice_get (declared_in frame (ds ++ es)) k ≡ Some l → option_map (λ (x : Local). x.ctype) (slice_get (declared_in frame (ds ++ es)) k) ≡ Some a.ctype → l.ctype ≡ a.ctype
+    ctype l f g = let h : Some l.ctype ≡ Some a.ctype = sym (ap (option_map (λ (x : Local). x.ctype)) f) ∙ g in cc
+
+-- ---- the locals of a frame
+
+pub local_there : (frame : Frame) (h : NotedHead) (body : NotedStmt) (k : ℕ) (l : Local) → slice_get (declared_in frame (all_of h body)) k ≡ Some l → k < 1023
+    → local_at (function_frame frame h body) k ≡ Some l
+unfolding few_of
+local_there frame h body k l e few =
+    let D = declared_in frame (all_of h body) in
+    let n = fresh_needed (locals_frame frame h body) (head_bounds frame h) h body (first_fresh h body) in
+    first_keeps 1023 (first_of 1023 D ++ replicate n nameless) k l few (more_at (first_of 1023 D) (replicate n nameless) k l (first_keeps 1023 D k l few e))
+
+-- a local of a frame is declared, or is fresh
+pub local_is : (frame : Frame) (h : NotedHead) (body : NotedStmt) (k : ℕ) (l : Local) → local_at (function_frame frame h body) k ≡ Some l
+    → (slice_get (declared_in frame (all_of h body)) k ≡ Some l) ⊎ (l ≡ nameless)
+unfolding few_of
+local_is frame h body k l e =
+    let D = declared_in frame (all_of h body) in
+    let n = fresh_needed (locals_frame frame h body) (head_bounds frame h) h body (first_fresh h body) in
+    let one = first_at 1023 (first_of 1023 D ++ replicate n nameless) k l e in
+    elim (before_at (first_of 1023 D) n nameless k l one.1) [ inl f ↦ inl (first_at 1023 D k l f).1 | inr f ↦ inr f ]
+
+-- ---- variables
+
+pub name_at : (n : ℕ) (ns : List Name) (k : ℕ) (m : Name) → AreLocals n ns → slice_get ns k ≡ Some m → m ≡ name.Local (n + k)
+name_at n [] k m h e = absurd cc
+name_at n (x ∷ ns) zero m h e = let same : x ≡ m = cc in sym same ∙ h.0 ∙ ap name.Local (next n)
+  where
+    next : (i : ℕ) → i ≡ i + 0
+    next i = omega arith
+name_at n (x ∷ ns) (suc k) m h e = name_at (n + 1) ns k m h.1 e ∙ ap name.Local (next n k)
+  where
+    next : (i j : ℕ) → (i + 1) + j ≡ i + suc j
+    next i j = omega arith
+
+same_local : (k : ℕ) → same_name (name.Local k) (name.Local k) ≡ true
+same_local k = grind arith
+
+-- the variable that a local of a frame is
+pub record IsVariable (variables : List Variable) (k : ℕ) (t : CType) : Type 0 where
+  pub variable : Variable
+  pub named : variable_named variables (name.Local k) ≡ Some variable
+  pub same : t ≡ variable.ctype
+
+pub from_zero : (k : ℕ) → 0 + k ≡ k
+from_zero k = omega arith
+
+declared_variable : (h : NotedHead) (body : NotedStmt) (k : ℕ) (d : NotedDecl) → AreLocals 0 (names_declared (all_of h body)) → slice_get (all_of h body) k ≡ Some d
+    → (v : Variable) × Contains (variables_of h body) v × (same_name v.name (name.Local k) ≡ true)
+declared_variable h body k d ns e =
+    let ds = all_of h body in
+    let named : d.name ≡ name.Local k =
+    name_at 0 (names_declared ds) k d.name ns (slice_get-map (λ (x : NotedDecl). x.name) ds k ∙ ap (option_map (λ (x : NotedDecl). x.name)) e) ∙ ap name.Local (from_zero k) in
+    let there : Contains (variables_declared ds) (variable_declared d) =
+    contains_at (variables_declared ds) k (variable_declared d) (slice_get-map (λ (x : NotedDecl). variable_declared x) ds k ∙ ap (option_map (λ (x : NotedDecl). variable_declared x)) e) in (
+      variable_declared d,
+      Contains-permutation (variables_declared ds) (variables_of h body) (variable_declared d) (variables_moved h body) there,
+      subst (λ n. same_name n (name.Local k) ≡ true) (sym named) (same_local k),
+    )
+
+-- what is found among variables, one of which has the name
+found_variable : (variables : List Variable) (k : ℕ) → ((v : Variable) × Contains variables v × (same_name v.name (name.Local k) ≡ true))
+    → (v : Variable) × (variable_named variables (name.Local k) ≡ Some v) × Contains variables v × (v.name ≡ name.Local k)
+found_variable variables k there = by (variable_named variables (name.Local k)) refl
+  where
+    by : (o : Option Variable) → variable_named variables (name.Local k) ≡ o → (v : Variable) × (variable_named variables (name.Local k) ≡ Some v) × Contains variables v × (v.name ≡ name.Local k)
+    by (Some v) e =
+        let f = found (Contains variables) (λ (x : Variable). same_name x.name (name.Local k)) variables v (All-contains_itself variables) e in
+        (v, e, f.0, local_named v.name k f.1)
+    by None e =
+        let at = at_from_Contains variables there.0 there.1 in
+        absurd (not_none (λ (x : Variable). same_name x.name (name.Local k)) variables at.0 there.0 (slice_get_read variables (length variables) at.0 there.0 refl at.1 (sym (at.2 there.0))) there.2 e)
+
+-- A local of the frame of a function is the variable with its name, and has the type of that.
+pub variable_there : (p : Typed) (h : NotedHead) (body : NotedStmt) (k : ℕ) (l : Local) → IsJudged p → Contains p.tree.items (item.Function h body)
+    → slice_get (declared_in (frame_of_text p) (all_of h body)) k ≡ Some l → k < 1023 → IsVariable (variables_of h body) k l.ctype
+unfolding setting_of
+variable_there p h body k l j there e few =
+    let frame = frame_of_text p in
+    let ds = all_of h body in
+    let typed : slice_get (types_declared ds) k ≡ Some l.ctype =
+    sym (ap (λ ts. slice_get ts k) (declared_types frame ds)) ∙ slice_get-map (λ (x : Local). x.ctype) (declared_in frame ds) k ∙ ap (option_map (λ (x : Local). x.ctype)) e in
+    let less : k < length ds = subst (λ n. k < n) (length-map ds (λ (x : NotedDecl). type_written x.ctype)) (slice_get_within (types_declared ds) k l.ctype typed) in
+    let one = some_at ds k less in
+    let v = found_variable (variables_of h body) k (declared_variable h body k one.0 (numbered p h body j there) one.1) in
+    record { variable = v.0; named = v.1; same = setting_types p h body j there v.0 k l v.2 v.3 (local_there frame h body k l e few) }

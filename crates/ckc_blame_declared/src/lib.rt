@@ -1,0 +1,9 @@
+//! What declarations say of bounds is told alike to the judgement and to the program.
+#![tactic(auto)]
+
+mod laws;
+
+pub use laws::{
+    counted_members_have_bounds, locals_have_ends, memory_bounds_are_own, parameters_are_locals,
+    results_are_told, results_have_ends,
+};
