@@ -3,6 +3,7 @@ use Rattle.std.proofs.Common.{◌≡◌, ◌⊎◌, inl, inr, refl, sym, ap, sub
 use Rattle.std.specs.Prelude.{◌+◌, ◌==◌, ◌<◌, ◌^◌, ◌&&◌, not, if◌then◌else◌, ℤ, pos, ◌*ℤ◌, ◌*◌, IfSome, Option, None, Some, Ok}
 use Rattle.ckc_base.specs.declared.places.Pos.{Pos}
 use Rattle.ckc_types.specs.declared.types.Kind.TheVariants as kind
+use Rattle.ckc_types.specs.declared.types.CType.{CType}
 use Rattle.ckc_linear.specs.declared.forms.Form.{Form}
 use Rattle.ckc_typed.specs.declared.typed.Range.{Range}
 use Rattle.ckc_typed.specs.declared.typed.Range.TheVariants as range
@@ -32,7 +33,7 @@ use Rattle.ckc_source.specs.Words.{exact, elements_behind}
 use Rattle.ckc_blame_pointers.specs.Valuations.{Valuation, address_by, IsAtPlace, AreFresh, HasEnds, IsInRange}
 use Rattle.ckc_blame_pointers.specs.Covered.{DeclareLocals, IsSoundStore}
 use Rattle.ckc_blame_pointers.specs.Meant.{IsNotStuck}
-use Rattle.ckc_blame_pointers.proofs.Claims.{IsOfLocal, Placed, SideGoes, both_go_on, stays, not_placed}
+use Rattle.ckc_blame_pointers.proofs.Claims.{IsOfLocal, Placed, SideGoes, no_one, both_go_on, stays, not_placed}
 use Rattle.ckc_blame_pointers.proofs.Nodes.{NodeClaims}
 use Rattle.ckc_blame_pointers.proofs.Binary.{ExprClaims, wider_goes}
 use Rattle.ckc_blame_pointers.proofs.Moving.{still_fits, sum_at}
@@ -50,6 +51,24 @@ abbrev pub bare_valuation : Setting → List ℕ → Valuation
 bare_valuation s locals = record { numbers = value s.frame locals; addresses = λ n. 0 }
 
 module _ (s : Setting) (store : Store) (entry : List ℕ) (next : ℕ) (ready : IsSoundStore s store next) (here : Here) (h : HoldsAt s store entry here) where
+  read_sides : (n : NodeView) (m : ℕ) → ((m == 0) ≡ false → AreBounded s store (widening s.frame n.behind (n.target 0 here.at.facts) here.at).widened here.seen) → (b : Bool) → (m == 0) ≡ not b
+      → SideGoes s store entry here (widening_side s.frame n.behind (n.target 0) b here.at)
+  read_sides n m wide true side = wider_goes s store entry here h (widened_by s.frame (read_place n.behind (n.target 0 here.at.facts))) (wide side)
+  read_sides n m wide false side = stays s store entry here h
+
+  -- an integer that is read
+  pub integer_read : (t : CType) (n : NodeView) → is_integer t ≡ true → n.null ≡ false → n.is_zero ≡ false → ((b : Bool) → n.side b here.at ≡ widening_side s.frame n.behind (n.target 0) b here.at) → (m : ℕ) → IsWordOf t m
+      → ((m == 0) ≡ false → AreBounded s store (widening s.frame n.behind (n.target 0 here.at.facts) here.at).widened here.seen)
+      → NodeClaims s store entry here h t n (record { number = m; range = Without })
+  integer_read t n integer known some same m word bounded = record {
+    word = word;
+    placed = λ first fresh before low little are fits. not_placed s store entry here t n _ first fresh before (record { number = m; range = Without }) (no_pointer t integer) (λ e. absurd (cc));
+    one = no_one s store entry t m (no_pointer t integer);
+    zero = λ e. absurd (cc);
+    wide = bounded;
+    sides = λ b side. subst (SideGoes s store entry here) (sym (same b)) (read_sides n m bounded b side);
+  }
+
   module _ (e : NotedExpr) (fresh : ℕ) (few : (view s.frame e).values + 1 < 2 ^ 32) (little : fresh < 2 ^ 32) (are : AreFresh s.frame fresh) where
     -- where the pointer is, in numbers that begin with the least
     pub at_pointer : (x : Value) → ExprClaims s store entry here e x
@@ -120,11 +139,6 @@ module _ (s : Setting) (store : Store) (entry : List ℕ) (next : ℕ) (ready : 
           → (x.number ≡ 0 → ⊥) → loaded (width_of (element_of e.note.ctype)) (a + 0) store.blocks ≡ Some m → (m == 0) ≡ false
           → AreBounded s store (widening s.frame n.behind (n.target 0 here.at.facts) here.at).widened here.seen
 
-      read_sides : (n : NodeView) (m : ℕ) → ((m == 0) ≡ false → AreBounded s store (widening s.frame n.behind (n.target 0 here.at.facts) here.at).widened here.seen) → (b : Bool) → (m == 0) ≡ not b
-          → SideGoes s store entry here (widening_side s.frame n.behind (n.target 0) b here.at)
-      read_sides n m wide true side = wider_goes s store entry here h (widened_by s.frame (read_place n.behind (n.target 0 here.at.facts))) (wide side)
-      read_sides n m wide false side = stays s store entry here h
-
       pub element_claims : (n : NodeView) → n.null ≡ false → n.is_zero ≡ false → ((b : Bool) → n.side b here.at ≡ widening_side s.frame n.behind (n.target 0) b here.at) → Widens n
           → IsNotStuck (NodeClaims s store entry here h (element_of e.note.ctype) n) (evaluated store (Load (width_of (element_of e.note.ctype)) access v w))
       unfolding IsRanged
@@ -135,16 +149,6 @@ module _ (s : Setting) (store : Store) (entry : List ℕ) (next : ℕ) (ready : 
         where
           tested : IsTested access.through (pointee_of s.text.layout e.note.ctype)
           tested = tested_pointer s.text.layout e.note.ctype counted
-
-          made : (m : ℕ) → IsWordOf (element_of e.note.ctype) m → ((m == 0) ≡ false → AreBounded s store (widening s.frame n.behind (n.target 0 here.at.facts) here.at).widened here.seen)
-              → NodeClaims s store entry here h (element_of e.note.ctype) n (record { number = m; range = Without })
-          made m word bounded = record {
-            word = word;
-            placed = λ first fresh before low little are fits. not_placed s store entry here (element_of e.note.ctype) n _ first fresh before (record { number = m; range = Without }) (no_pointer (element_of e.note.ctype) integer) (λ e. absurd (cc));
-            zero = λ e. absurd (cc);
-            wide = bounded;
-            sides = λ b side. subst (SideGoes s store entry here) (sym (same b)) (read_sides n m bounded b side);
-          }
 
           ends_of : (x : Value) → (x.number ≡ 0) ⊎ ((v : Valuation) × (low : Form) × (high : Form) × HasEnds s store v e.note.ctype low high x) → (x.number ≡ 0) ⊎ ((low : ℕ) × (high : ℕ) × (x.range ≡ Within low high))
           ends_of x (inl z) = inl z
@@ -163,7 +167,7 @@ module _ (s : Setting) (store : Store) (entry : List ℕ) (next : ℕ) (ready : 
               at_element a not_null at (inr (u, low, high, g)) =
                   element_loads s store next ready.sound ready.names ready.shapes (NodeClaims s store entry here h (element_of e.note.ctype) n) e.note.ctype x.number g.from g.to a integer g.true_there
                   (reached_by access x k.number (pointee_of s.text.layout e.note.ctype) g.from g.to a tested refl g.range at)
-                  (λ m there_m word. made m word (λ z. wide x k is there c d a m at not_null there_m z))
+                  (λ m there_m word. integer_read (element_of e.note.ctype) n integer known some same m word (λ z. wide x k is there c d a m at not_null there_m z))
 
       -- the place that is judged to be read is where the element lies
       abbrev pub Aims : NodeView → Type 0

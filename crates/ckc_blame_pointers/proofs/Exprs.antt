@@ -49,7 +49,7 @@ use Rattle.ckc_blame_numbers.proofs.Exprs as numbers
 use Rattle.ckc_blame_numbers.proofs.Holding.{form_exact, side_told}
 use Rattle.ckc_blame_numbers.proofs.Types.{IsWide, number_wide, size_wide}
 use Rattle.ckc_blame_pointers.specs.Valuations.{AreFresh, address_by}
-use Rattle.ckc_blame_pointers.specs.Covered.{DeclareLocals, IsSoundStore, IsElement, IsCoveredNode, IsCoveredExpr, IsCovered}
+use Rattle.ckc_blame_pointers.specs.Covered.{DeclareLocals, IsSoundStore, IsElement, IsSingle, IsCoveredNode, IsCoveredExpr, IsCovered}
 use Rattle.ckc_blame_pointers.specs.Meant.{IsNotStuck}
 use Rattle.ckc_blame_pointers.proofs.Claims.{Claims, holds_on}
 use Rattle.ckc_blame_pointers.proofs.Forms.{form_known}
@@ -60,6 +60,7 @@ use Rattle.ckc_blame_pointers.proofs.Sums.{IsIndex, capped_more, capped_small, f
 use Rattle.ckc_blame_pointers.proofs.Elements.{at_pointer, IsRanged, ranged_pointer, Widens, target_aims, element_aims, element_claims, wide_terminated, narrow_array}
 use Rattle.ckc_blame_pointers.proofs.Claims.{IsOfLocal}
 use Rattle.ckc_blame_pointers.proofs.Loads.{no_count}
+use Rattle.ckc_blame_pointers.proofs.Single.{single_claims}
 use Rattle.ckc_blame_pointers.proofs.Statics.{static_claims}
 use Rattle.ckc_blame_pointers.proofs.Arrays.{array_claims}
 use Rattle.ckc_blame_pointers.proofs.Leaves.{number_claims, size_claims, null_claims, local_claims, minus_claims, plus_claims, flip_claims, not_claims, cast_claims, choice_claims}
@@ -279,10 +280,7 @@ module _ (globals : Globals) (s : Setting) (agrees : Agrees globals s) (declares
         cast_claims s store entry here h e.0 note.ctype place ((part_of e.0).value s.text s.variables k)
         (e.1.claims typed here covered h fresh little are (one_part (λ a. Node-F.Cast w a) (λ a b e. cc) _ e.0 judged) k) w (type_written w) (part_of e.0).ctype (is_null e.0) row.row.1 checked row.row.0
     node_step (Node-F.Un op.Deref e) note place row typed covered node checked fresh little are fault judged noted k =
-        subst (λ t. Of t (part_of e.0).ctype) is (subst (λ u. Of (element_of e.0.note.ctype) u) (sym (parted_type e.0))
-        (read_claims (Node-F.Un op.Deref (view s.frame e.0)) e node place Int ((part_of e.0).value s.text s.variables k) (Number 0) (λ x. Unit {0})
-        (e.1.claims typed here covered h fresh little are (one_part (λ a. Node-F.Un op.Deref a) (λ a b e. cc) _ e.0 judged) k) tt (covered_few e.0 covered) fresh little are fault
-        refl refl (λ b. refl) (ap kind_of (viewed_type e.0)) (λ x c j there a at f target. target_aims s store entry next ready here h e.0 fresh (covered_few e.0 covered) little are x c j there a at f target)))
+        subst (λ t. Of t (part_of e.0).ctype) is (subst (λ u. Of (element_of e.0.note.ctype) u) (sym (parted_type e.0)) (⊎_elim several single node))
       where
         is : element_of e.0.note.ctype ≡ note.ctype
         is = some_if (is_pointer e.0.note.ctype && not (is_void (element_of e.0.note.ctype))) (element_of e.0.note.ctype) note.ctype row.row
@@ -290,6 +288,22 @@ module _ (globals : Globals) (s : Setting) (agrees : Agrees globals s) (declares
         Of : CType → CType → Type 0
         Of t u = IsNotStuck (NodeClaims s store entry here h t (node_view s.frame (Node-F.Un op.Deref (view s.frame e.0))))
             (evaluated store (read_at s.text.layout t (count_of_kind (kind_of t)) (target_place s.text.layout u place ((part_of e.0).value s.text s.variables k))))
+
+        inside : IsNotStuck (ExprClaims s store entry here e.0) (evaluated store ((part_of e.0).value s.text s.variables k))
+        inside = e.1.claims typed here covered h fresh little are (one_part (λ a. Node-F.Un op.Deref a) (λ a b e. cc) _ e.0 judged) k
+
+        single : IsSingle s e.0 → Of (element_of e.0.note.ctype) e.0.note.ctype
+        single node =
+            subst (λ x. IsNotStuck (NodeClaims s store entry here h (element_of e.0.note.ctype) (node_view s.frame (Node-F.Un op.Deref (view s.frame e.0)))) (evaluated store x))
+            (sym (ap (λ o. read_at s.text.layout (element_of e.0.note.ctype) o (target_place s.text.layout e.0.note.ctype place ((part_of e.0).value s.text s.variables k))) (no_count (element_of e.0.note.ctype) node.integer)))
+            (single_claims s store entry next ready here h e.0 node place ((part_of e.0).value s.text s.variables k) inside (node_view s.frame (Node-F.Un op.Deref (view s.frame e.0)))
+            refl refl (λ b. refl) (ap kind_of (viewed_type e.0) ∙ node.single))
+
+        several : IsElement e.0 → Of (element_of e.0.note.ctype) e.0.note.ctype
+        several node =
+            read_claims (Node-F.Un op.Deref (view s.frame e.0)) e node place Int ((part_of e.0).value s.text s.variables k) (Number 0) (λ x. Unit {0})
+            inside tt (covered_few e.0 covered) fresh little are fault
+            refl refl (λ b. refl) (ap kind_of (viewed_type e.0)) (λ x c j there a at f target. target_aims s store entry next ready here h e.0 fresh (covered_few e.0 covered) little are x c j there a at f target)
     node_step (Node-F.Index e f) note place row typed covered node checked fresh little are fault judged noted k =
         let parts = two_parts (λ a b. Node-F.Index a b) (λ a b c d e. (cc, cc)) _ _ e.0 f.0 judged in
         subst (λ t. Of t (part_of e.0).ctype (part_of f.0).ctype) is (subst (λ u. Of (element_of e.0.note.ctype) u (part_of f.0).ctype) (sym (parted_type e.0)) (subst (λ q. Of (element_of e.0.note.ctype) e.0.note.ctype q) (sym (parted_type f.0))

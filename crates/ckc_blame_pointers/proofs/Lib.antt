@@ -17,3 +17,5 @@ pub mod Widening
 pub mod Wider
 pub mod Statics
 pub mod Arrays
+pub mod Ones
+pub mod Single

@@ -10,7 +10,9 @@ use Rattle.ckc_types.specs.declared.types.Kind.TheVariants as kind
 use Rattle.ckc_types.specs.declared.types.CType.{CType, CType-F, out-CType}
 use Rattle.ckc_types.specs.declared.types.Structs.{Structs}
 use Rattle.ckc_typed.specs.Types.{is_integer, is_integer_form, is_char, kind_of, kind_in, element_of}
+use Rattle.ckc_typed.specs.Constants.{size_of}
 use Rattle.ckc_typed.specs.Conversions.{is_terminated_kind}
+use Rattle.ckc_blame_slots.proofs.Parts.{sized_form}
 use Rattle.ckc_bounds_views.specs.Judged.{is_counted_kind}
 use Rattle.ckc_source.specs.declared.expr.Access.{Access}
 use Rattle.ckc_source.specs.declared.expr.Pointee.{Pointee}
@@ -88,6 +90,17 @@ integer_part_in structs t (CType-F.Pointer k u) i = absurd (cc)
 pub integer_part : (structs : Structs) (t : CType) → is_integer t ≡ true → IsPart structs t 0 (width_of t)
 integer_part structs t i = integer_part_in structs t (out-CType t) i
 
+integer_sized_in : (structs : Structs) (f : CType-F CType) → is_integer_form f ≡ true → 0 < sized_form structs f
+integer_sized_in structs CType-F.Int i = omega arith
+integer_sized_in structs CType-F.Unsigned i = omega arith
+integer_sized_in structs CType-F.Char i = omega arith
+integer_sized_in structs CType-F.Void i = absurd (cc)
+integer_sized_in structs (CType-F.Struct tag) i = absurd (cc)
+integer_sized_in structs (CType-F.Pointer k u) i = absurd (cc)
+
+pub integer_sized : (structs : Structs) (t : CType) → is_integer t ≡ true → 0 < size_of structs t
+integer_sized structs t i = integer_sized_in structs (out-CType t) i
+
 no_kind_in : (f : CType-F CType) → is_integer_form f ≡ true → kind_in f ≡ None
 no_kind_in CType-F.Int i = refl
 no_kind_in CType-F.Unsigned i = refl
@@ -161,6 +174,16 @@ module _ (access : Access) (v : Value) (i : ℕ) where
       by (Err (halt.Stopped why at)) e = tt
       by (Err halt.Stuck) e = exact_stuck e
 
+  -- what an access to an exact element goes to
+  pub exact_goes : (Q : Value → Type 0) (g : ℕ → Result Value Halt) → ((a : ℕ) → (v.number ≡ 0 → ⊥) → exact_element access v i ≡ Ok a → IsNotStuck Q (g a))
+      → IsNotStuck Q (given (exact_element access v i) g)
+  exact_goes Q g next = by (exact_element access v i) refl
+    where
+      by : (x : Result ℕ Halt) → exact_element access v i ≡ x → IsNotStuck Q (given x g)
+      by (Ok a) e = next a (λ z. let stop = null_stops z in absurd (cc)) e
+      by (Err (halt.Stopped why at)) e = tt
+      by (Err halt.Stuck) e = exact_stuck e
+
   pub element_goes : (Q : Value → Type 0) (g : ℕ → Result Value Halt) (to : Pointee) → IsTested access.through to → ((v.number ≡ 0) ⊎ ((low : ℕ) × (high : ℕ) × (v.range ≡ Within low high)))
       → ((a : ℕ) → (v.number ≡ 0 → ⊥) → element access v i ≡ Ok a → IsNotStuck Q (g a)) → IsNotStuck Q (given (element access v i) g)
   element_goes Q g to tested ranged next = by tested.tested
@@ -190,7 +213,7 @@ module _ (access : Access) (v : Value) (i a : ℕ) where
       by false e = absurd (cc)
   address_is (negsuc n) e = absurd (cc)
 
-  exact_is : exact_element access v i ≡ Ok a → elements_behind v.number access.size (exact access.index i) ≡ pos a
+  pub exact_is : exact_element access v i ≡ Ok a → elements_behind v.number access.size (exact access.index i) ≡ pos a
   exact_is e = by (v.number == 0) e
     where
       by : (b : Bool) → (if b then stops check.Null access.at else at_address (as_address (elements_behind v.number access.size (exact access.index i))) access.at) ≡ Ok a

@@ -2,6 +2,7 @@
 use Rattle.std.specs.Prelude.{◌≡◌, ◌⊎◌, ◌+◌, ◌<◌, ◌^◌, ℕ, false, true, List, slice_get, Option, None, Some}
 use Rattle.std.specs.List.{Contains}
 use Rattle.ckc_types.specs.declared.types.Kind.{Kind}
+use Rattle.ckc_types.specs.declared.types.Kind.TheVariants as kind
 use Rattle.ckc_types.specs.declared.types.CType.{CType}
 use Rattle.ckc_linear.specs.declared.forms.Base.{Base}
 use Rattle.ckc_linear.specs.declared.forms.Base.TheVariants as base
@@ -25,6 +26,7 @@ use Rattle.ckc_bounds_points.specs.declared.frame.Bounds.{Bounds}
 use Rattle.ckc_bounds_points.specs.declared.frame.Bounds.TheVariants as bounds
 use Rattle.ckc_bounds_points.specs.declared.frame.Local.{Local}
 use Rattle.ckc_bounds_points.specs.Frames.{local_at}
+use Rattle.ckc_bounds_declared.specs.Written.{bounds_of_kind}
 use Rattle.ckc_bounds_views.specs.Judged.{is_counted_kind}
 use Rattle.ckc_bounds_views.specs.Views.{view}
 use Rattle.ckc_source.specs.Eval.{Store}
@@ -84,6 +86,12 @@ AreLocalBounds s (bounds.Known low high) = IsLocalForm s low × IsLocalForm s hi
 abbrev pub DeclareLocals : Setting → Type 0
 DeclareLocals s = (k : ℕ) (l : Local) → local_at s.frame k ≡ Some l → AreLocalBounds s l.bounds
 
+-- Locals that are `_Ptr` have the bounds of their type, one element.
+abbrev pub DeclareOnes : Setting → Type 0
+DeclareOnes s =
+    (k : ℕ) (l : Local) → local_at s.frame k ≡ Some l → kind_of l.ctype ≡ Some kind.One
+    → l.bounds ≡ bounds_of_kind (base.Local k) (Some kind.One)
+
 -- ---- static objects
 
 -- a static object that is one integer of a type
@@ -126,10 +134,16 @@ pub record IsElement (e : NotedExpr) : Type 0 where
   pub counted : is_counted_kind (kind_of e.note.ctype) ≡ true
   pub integer : is_integer (element_of e.note.ctype) ≡ true
 
+-- what `*` reads through a `_Ptr`: an integer
+pub record IsSingle (s : Setting) (e : NotedExpr) : Type 0 where
+  pub single : kind_of e.note.ctype ≡ Some kind.One
+  pub integer : is_integer (element_of e.note.ctype) ≡ true
+  pub declared : DeclareOnes s
+
 -- the operands of unary operators
-abbrev pub IsCoveredUnary : TreeOp → NotedExpr → Type 0
-IsCoveredUnary op.Deref e = IsElement e
-IsCoveredUnary o e = IsArithmetic o
+abbrev pub IsCoveredUnary : Setting → TreeOp → NotedExpr → Type 0
+IsCoveredUnary s op.Deref e = IsElement e ⊎ IsSingle s e
+IsCoveredUnary s o e = IsArithmetic o
 
 -- The nodes of a type of which it is said what they come to: numbers, `sizeof`, `NULL`, locals in scope, static
 -- integers and arrays, operators, `?:`, casts, and integers that are read through pointers.
@@ -139,7 +153,7 @@ IsCoveredNode s seen t (Node-F.Size w) = Unit {0}
 IsCoveredNode s seen t Node-F.Null = Unit {0}
 IsCoveredNode s seen t (Node-F.Name (name.Local k)) = IsInScope s seen k
 IsCoveredNode s seen t (Node-F.Name (name.Static k)) = IsStaticInteger s t k ⊎ IsStaticArray s t k
-IsCoveredNode s seen t (Node-F.Un o e) = IsCoveredUnary o e
+IsCoveredNode s seen t (Node-F.Un o e) = IsCoveredUnary s o e
 IsCoveredNode s seen t (Node-F.Bin o e f) = Unit {0}
 IsCoveredNode s seen t (Node-F.Pick e f g) = Unit {0}
 IsCoveredNode s seen t (Node-F.Cast w e) = Unit {0}
