@@ -12,6 +12,7 @@ use Rattle.ckc_typed.specs.Types.{is_integer, kind_of, element_of}
 use Rattle.ckc_bounds_points.specs.Codes.{unknown_bounds}
 use Rattle.ckc_bounds_views.specs.Conditions.{wider, widened_by, read_place, widening, widening_side}
 use Rattle.ckc_bounds_views.specs.Judged.{is_counted_kind, is_missing, fault_if, access_fault}
+use Rattle.ckc_bounds_points.specs.Flow.{State}
 use Rattle.ckc_bounds_views.specs.Parts.{NodeView}
 use Rattle.ckc_bounds_views.specs.Views.{view}
 use Rattle.ckc_bounds_statements.specs.Paths.{Here}
@@ -24,6 +25,7 @@ use Rattle.ckc_source.specs.Code.{Expr, Load}
 use Rattle.ckc_source.specs.Eval.{Store, plain, given, element, place_in, loads, evaluated}
 use Rattle.ckc_build_values.specs.Kinds.{width_of, through_kind, pointee_of, size_behind}
 use Rattle.ckc_blame_sound.specs.Settings.{Setting}
+use Rattle.ckc_blame_slots.specs.Cells.{IsPart}
 use Rattle.ckc_blame_sound.specs.Values.{value, IsWordOf}
 use Rattle.ckc_blame_sound.specs.Points.{AreBounded, HoldsAt}
 use Rattle.ckc_blame_numbers.proofs.Types.{no_pointer}
@@ -44,7 +46,7 @@ use Rattle.ckc_bounds_points.specs.Forms.{sum_of_forms}
 use Rattle.std.proofs.Math.IntN.{pos-*ℤ-pos}
 use Rattle.std.proofs.lemmas.Int.{ints}
 use Rattle.ckc_blame_pointers.proofs.Wider.{place_widens}
-use Rattle.ckc_blame_pointers.proofs.Loads.{element_is, IsTested, element_goes, reached_by, tested_pointer, element_loads}
+use Rattle.ckc_blame_pointers.proofs.Loads.{integer_part, element_is, IsTested, element_goes, reached_by, tested_pointer, part_loads}
 
 -- the valuation that says nothing of values
 abbrev pub bare_valuation : Setting → List ℕ → Valuation
@@ -129,22 +131,23 @@ module _ (s : Setting) (store : Store) (entry : List ℕ) (next : ℕ) (ready : 
         by (range.Known low high) m (inr g) = inr ((at_pointer x c).after, low, high, g)
 
     module _ (place : Pos) (index : Integer) (v w : Expr) (R : Value → Type 0) (left : IsNotStuck (ExprClaims s store entry here e) (evaluated store v)) (right : IsNotStuck R (evaluated store w))
-        (counted : is_counted_kind (kind_of e.note.ctype) ≡ true) (integer : is_integer (element_of e.note.ctype) ≡ true) (ranged : (x : Value) → ExprClaims s store entry here e x → IsRanged x) where
+        (counted : is_counted_kind (kind_of e.note.ctype) ≡ true) (ranged : (x : Value) → ExprClaims s store entry here e x → IsRanged x)
+        (offset : ℕ) (u : CType) (part : IsPart s.text.layout (element_of e.note.ctype) offset (width_of u)) where
       abbrev access : Access
-      access = record { through = through_kind (kind_of e.note.ctype); at = place; size = size_behind s.text.layout e.note.ctype; index = index; offset = 0 }
+      access = record { through = through_kind (kind_of e.note.ctype); at = place; size = size_behind s.text.layout e.note.ctype; index = index; offset = offset }
 
       -- what is not zero widens
       abbrev pub Widens : NodeView → Type 0
       Widens n = (x k : Value) → evaluated store v ≡ Ok x → evaluated store w ≡ Ok k → ExprClaims s store entry here e x → R k → (a m : ℕ) → element access x k.number ≡ Ok a
-          → (x.number ≡ 0 → ⊥) → loaded (width_of (element_of e.note.ctype)) (a + 0) store.blocks ≡ Some m → (m == 0) ≡ false
+          → (x.number ≡ 0 → ⊥) → loaded (width_of u) (a + offset) store.blocks ≡ Some m → (m == 0) ≡ false
           → AreBounded s store (widening s.frame n.behind (n.target 0 here.at.facts) here.at).widened here.seen
 
-      pub element_claims : (n : NodeView) → n.null ≡ false → n.is_zero ≡ false → ((b : Bool) → n.side b here.at ≡ widening_side s.frame n.behind (n.target 0) b here.at) → Widens n
-          → IsNotStuck (NodeClaims s store entry here h (element_of e.note.ctype) n) (evaluated store (Load (width_of (element_of e.note.ctype)) access v w))
+      pub element_claims : is_integer u ≡ true → (n : NodeView) → n.null ≡ false → n.is_zero ≡ false → ((b : Bool) → n.side b here.at ≡ widening_side s.frame n.behind (n.target 0) b here.at) → Widens n
+          → IsNotStuck (NodeClaims s store entry here h u n) (evaluated store (Load (width_of u) access v w))
       unfolding IsRanged
-      element_claims n known some same wide =
-          both_go_on (ExprClaims s store entry here e) R (NodeClaims s store entry here h (element_of e.note.ctype) n) (evaluated store v) (evaluated store w)
-          (λ x k. given (element access x k.number) (λ a. loads store (width_of (element_of e.note.ctype)) (place_in a 0))) left right
+      element_claims integer n known some same wide =
+          both_go_on (ExprClaims s store entry here e) R (NodeClaims s store entry here h u n) (evaluated store v) (evaluated store w)
+          (λ x k. given (element access x k.number) (λ a. loads store (width_of u) (place_in a offset))) left right
           (λ x k is there c d. reads x k is there c d (ranged x c))
         where
           tested : IsTested access.through (pointee_of s.text.layout e.note.ctype)
@@ -156,18 +159,31 @@ module _ (s : Setting) (store : Store) (entry : List ℕ) (next : ℕ) (ready : 
 
           reads : (x k : Value) → evaluated store v ≡ Ok x → evaluated store w ≡ Ok k → ExprClaims s store entry here e x → R k
               → (x.number ≡ 0) ⊎ ((v : Valuation) × (low : Form) × (high : Form) × HasEnds s store v e.note.ctype low high x)
-              → IsNotStuck (NodeClaims s store entry here h (element_of e.note.ctype) n) (given (element access x k.number) (λ a. loads store (width_of (element_of e.note.ctype)) (place_in a 0)))
+              → IsNotStuck (NodeClaims s store entry here h u n) (given (element access x k.number) (λ a. loads store (width_of u) (place_in a offset)))
           reads x k is there c d r =
-              element_goes access x k.number (NodeClaims s store entry here h (element_of e.note.ctype) n) (λ a. loads store (width_of (element_of e.note.ctype)) (place_in a 0)) (pointee_of s.text.layout e.note.ctype) tested (ends_of x r)
+              element_goes access x k.number (NodeClaims s store entry here h u n) (λ a. loads store (width_of u) (place_in a offset)) (pointee_of s.text.layout e.note.ctype) tested (ends_of x r)
               (λ a not_null at. at_element a not_null at r)
             where
               at_element : (a : ℕ) → (x.number ≡ 0 → ⊥) → element access x k.number ≡ Ok a → (x.number ≡ 0) ⊎ ((v : Valuation) × (low : Form) × (high : Form) × HasEnds s store v e.note.ctype low high x)
-                  → IsNotStuck (NodeClaims s store entry here h (element_of e.note.ctype) n) (loads store (width_of (element_of e.note.ctype)) (place_in a 0))
+                  → IsNotStuck (NodeClaims s store entry here h u n) (loads store (width_of u) (place_in a offset))
               at_element a not_null at (inl z) = absurd (not_null z)
-              at_element a not_null at (inr (u, low, high, g)) =
-                  element_loads s store next ready.sound ready.names ready.shapes (NodeClaims s store entry here h (element_of e.note.ctype) n) e.note.ctype x.number g.from g.to a integer g.true_there
+              at_element a not_null at (inr (q, low, high, g)) =
+                  part_loads s store next ready.sound ready.names ready.shapes (NodeClaims s store entry here h u n) e.note.ctype x.number g.from g.to a offset u part g.true_there
                   (reached_by access x k.number (pointee_of s.text.layout e.note.ctype) g.from g.to a tested refl g.range at)
-                  (λ m there_m word. integer_read (element_of e.note.ctype) n integer known some same m word (λ z. wide x k is there c d a m at not_null there_m z))
+                  (λ m there_m word. integer_read u n integer known some same m word (λ z. wide x k is there c d a m at not_null there_m z))
+
+      -- what reads through no pointer that is null-terminated widens nothing
+      pub narrow_there : (n : NodeView) → widening s.frame n.behind (n.target 0 here.at.facts) here.at ≡ here.at → Widens n
+      narrow_there n is = λ x k is' there c d a m at not_null got z.
+          subst (λ (at : State). AreBounded s store at.widened here.seen) (sym is) h.widened
+
+    module _ (place : Pos) (index : Integer) (v w : Expr) (R : Value → Type 0) (left : IsNotStuck (ExprClaims s store entry here e) (evaluated store v)) (right : IsNotStuck R (evaluated store w))
+        (counted : is_counted_kind (kind_of e.note.ctype) ≡ true) (integer : is_integer (element_of e.note.ctype) ≡ true) (ranged : (x : Value) → ExprClaims s store entry here e x → IsRanged x) where
+      abbrev access_there : Access
+      access_there = record { through = through_kind (kind_of e.note.ctype); at = place; size = size_behind s.text.layout e.note.ctype; index = index; offset = 0 }
+
+      abbrev pub WidensThere : NodeView → Type 0
+      WidensThere = Widens place index v w R left right counted ranged 0 (element_of e.note.ctype) (integer_part s.text.layout (element_of e.note.ctype) integer)
 
       -- the place that is judged to be read is where the element lies
       abbrev pub Aims : NodeView → Type 0
@@ -176,9 +192,9 @@ module _ (s : Setting) (store : Store) (entry : List ℕ) (next : ℕ) (ready : 
           → (pos a ≡ address_by s store.locals (at_pointer x c).after (size_behind s.text.layout e.note.ctype) f) × IsOfLocal s e.note.ctype f.base
 
       -- through an `_Nt_array_ptr` a local may be widened
-      pub wide_terminated : (globals : Globals) → Agrees globals s → DeclareLocals s → (n : NodeView) → n.behind ≡ Some kind.Nt → Aims n → Widens n
+      pub wide_terminated : (globals : Globals) → Agrees globals s → DeclareLocals s → (n : NodeView) → n.behind ≡ Some kind.Nt → Aims n → WidensThere n
       wide_terminated globals agrees declares n is aims = λ x k is' there c d a m at not_null got z.
-          let exactly = element_is access x k.number a (pointee_of s.text.layout e.note.ctype) (tested_pointer s.text.layout e.note.ctype counted) at in
+          let exactly = element_is access_there x k.number a (pointee_of s.text.layout e.note.ctype) (tested_pointer s.text.layout e.note.ctype counted) at in
           subst (λ q. AreBounded s store (widening s.frame q (n.target 0 here.at.facts) here.at).widened here.seen) (sym is)
           (by x c a m (n.target 0 here.at.facts) (λ f there'. aims x k c d there a exactly f there') (subst (λ b. loaded (width_of (element_of e.note.ctype)) b store.blocks ≡ Some m) (none_more a) got) z)
         where
@@ -193,8 +209,3 @@ module _ (s : Setting) (store : Store) (entry : List ℕ) (next : ℕ) (ready : 
               place_widens globals s agrees declares store entry next ready here h (at_pointer x c).after
               (still_fits s store.locals 0 fresh (bare_valuation s store.locals) (at_pointer x c).after are (λ y known. refl) (at_pointer x c).extends) f a m e.note.ctype (aims f refl).0 got z integer
               (λ k l based there. subst (IsOfLocal s e.note.ctype) based (aims f refl).1 l there)
-
-      -- through an `_Array_ptr` nothing is widened
-      pub narrow_array : (n : NodeView) → n.behind ≡ Some kind.Arr → Widens n
-      narrow_array n is = λ x k is' there c d a m at not_null got z.
-          subst (λ q. AreBounded s store (widening s.frame q (n.target 0 here.at.facts) here.at).widened here.seen) (sym is) h.widened

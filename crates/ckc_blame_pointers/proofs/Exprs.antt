@@ -26,7 +26,7 @@ use Rattle.ckc_typed_welltyped.proofs.Nodes.{node_of, node_rolled}
 use Rattle.ckc_bounds_points.specs.Flow.{State}
 use Rattle.ckc_bounds_ranges.specs.Rows.{range_of_local}
 use Rattle.ckc_bounds_views.specs.Parts.{LimitsView, NodeView, View, NodeOfViews, fresh_behind}
-use Rattle.ckc_bounds_views.specs.Conditions.{right_point, widening_side}
+use Rattle.ckc_bounds_views.specs.Conditions.{right_point, widening, widening_side}
 use Rattle.ckc_bounds_views.specs.Judged.{is_counted_kind, access_fault, fault_of_node, node_judged}
 use Rattle.ckc_bounds_views.specs.Ranges.{pointer_range}
 use Rattle.ckc_bounds_views.specs.Views.{limits_view, node_view, expr_view, view_of_limits, view_of_node, view}
@@ -37,8 +37,10 @@ use Rattle.ckc_source.specs.declared.expr.Integer.TheVariants.{Int}
 use Rattle.ckc_source.specs.Code.{Expr, Number}
 use Rattle.ckc_source.specs.Eval.{Store, evaluated}
 use Rattle.ckc_source.specs.Words.{exact, elements_behind}
-use Rattle.ckc_build_values.specs.Kinds.{integer_of, size_behind, count_of_kind}
-use Rattle.ckc_build_values.specs.Places.{element_place, target_place, read_at}
+use Rattle.ckc_typed.specs.Layouts.{member_number}
+use Rattle.ckc_build_values.specs.Kinds.{integer_of, width_of, size_behind, count_of_kind, tag_of}
+use Rattle.ckc_build_values.specs.Members.{offset_of, count_of_member}
+use Rattle.ckc_build_values.specs.Places.{element_place, target_place, member_place, read_at}
 use Rattle.ckc_build_values.specs.Expressions.{Part, NodePart, LimitsPart, local_in, limits_parts, node_parts, expr_parts, node_value, part_of, part_of_node, part_of_limits}
 use Rattle.ckc_build_values.specs.Operators.{of_operands}
 use Rattle.ckc_blame_sound.specs.Settings.{Setting}
@@ -49,7 +51,7 @@ use Rattle.ckc_blame_numbers.proofs.Exprs as numbers
 use Rattle.ckc_blame_numbers.proofs.Holding.{form_exact, side_told}
 use Rattle.ckc_blame_numbers.proofs.Types.{IsWide, number_wide, size_wide}
 use Rattle.ckc_blame_pointers.specs.Valuations.{AreFresh, address_by}
-use Rattle.ckc_blame_pointers.specs.Covered.{DeclareLocals, IsSoundStore, IsElement, IsSingle, IsCoveredNode, IsCoveredExpr, IsCovered}
+use Rattle.ckc_blame_pointers.specs.Covered.{DeclareLocals, DeclareOnes, IsSoundStore, IsElement, IsSingle, IsCoveredNode, IsCoveredExpr, IsCovered}
 use Rattle.ckc_blame_pointers.specs.Meant.{IsNotStuck}
 use Rattle.ckc_blame_pointers.proofs.Claims.{Claims, holds_on}
 use Rattle.ckc_blame_pointers.proofs.Forms.{form_known}
@@ -57,9 +59,11 @@ use Rattle.ckc_blame_pointers.proofs.Inside.{EveryNode, PartsEvery, parts_every,
 use Rattle.ckc_blame_pointers.proofs.Nodes.{NodeClaims}
 use Rattle.ckc_blame_pointers.proofs.Binary.{ExprClaims, other_claims, unequal_claims, and_claims, or_claims}
 use Rattle.ckc_blame_pointers.proofs.Sums.{IsIndex, capped_more, capped_small, fresh_on, sum_claims, difference_claims}
-use Rattle.ckc_blame_pointers.proofs.Elements.{at_pointer, IsRanged, ranged_pointer, Widens, target_aims, element_aims, element_claims, wide_terminated, narrow_array}
+use Rattle.ckc_blame_pointers.proofs.Elements.{at_pointer, IsRanged, ranged_pointer, WidensThere, target_aims, element_aims, element_claims, wide_terminated, narrow_there}
 use Rattle.ckc_blame_pointers.proofs.Claims.{IsOfLocal}
-use Rattle.ckc_blame_pointers.proofs.Loads.{no_count}
+use Rattle.ckc_blame_pointers.proofs.Loads.{integer_part, no_count}
+use Rattle.ckc_blame_slots.specs.Cells.{IsPart}
+use Rattle.ckc_blame_pointers.proofs.Members.{member_behind}
 use Rattle.ckc_blame_pointers.proofs.Single.{single_claims}
 use Rattle.ckc_blame_pointers.proofs.Statics.{static_claims}
 use Rattle.ckc_blame_pointers.proofs.Arrays.{array_claims}
@@ -206,8 +210,8 @@ module _ (globals : Globals) (s : Setting) (agrees : Agrees globals s) (declares
     read_claims n e node place index v w R left right few fresh little are fault known some same behind aims =
         subst (λ x. IsNotStuck (NodeClaims s store entry here h (element_of e.0.note.ctype) (node_view s.frame n)) (evaluated store x))
         (sym (ap (λ o. read_at s.text.layout (element_of e.0.note.ctype) o (element_place s.text.layout e.0.note.ctype place index v w)) (no_count (element_of e.0.note.ctype) node.integer)))
-        (element_claims s store entry next ready here h e.0 fresh few little are place index v w R left right counted node.integer
-        ranged (node_view s.frame n) known some same (widens (kind_of e.0.note.ctype) refl counted))
+        (element_claims s store entry next ready here h e.0 fresh few little are place index v w R left right counted
+        ranged 0 (element_of e.0.note.ctype) (integer_part s.text.layout (element_of e.0.note.ctype) node.integer) node.integer (node_view s.frame n) known some same (widens (kind_of e.0.note.ctype) refl counted))
       where
         counted : is_counted_kind (kind_of e.0.note.ctype) ≡ true
         counted = node.counted
@@ -216,8 +220,10 @@ module _ (globals : Globals) (s : Setting) (agrees : Agrees globals s) (declares
         ranged = ranged_pointer s store entry next ready here h e.0 fresh few little are place (ap is_counted_kind (ap kind_of (viewed_type e.0)) ∙ counted) fault
 
         widens : (q : Option Kind) → kind_of e.0.note.ctype ≡ q → is_counted_kind q ≡ true
-            → Widens s store entry next ready here h e.0 fresh few little are place index v w R left right counted node.integer ranged (node_view s.frame n)
-        widens (Some kind.Arr) is c = narrow_array s store entry next ready here h e.0 fresh few little are place index v w R left right counted node.integer ranged (node_view s.frame n) (behind ∙ is)
+            → WidensThere s store entry next ready here h e.0 fresh few little are place index v w R left right counted node.integer ranged (node_view s.frame n)
+        widens (Some kind.Arr) is c =
+            narrow_there s store entry next ready here h e.0 fresh few little are place index v w R left right counted ranged 0 (element_of e.0.note.ctype)
+            (integer_part s.text.layout (element_of e.0.note.ctype) node.integer) (node_view s.frame n) (ap (λ q. widening s.frame q ((node_view s.frame n).target 0 here.at.facts) here.at) (behind ∙ is))
         widens (Some kind.Nt) is c =
             wide_terminated s store entry next ready here h e.0 fresh few little are place index v w R left right counted node.integer ranged globals agrees declares (node_view s.frame n) (behind ∙ is)
             (λ x j c d there a at f target. aims x c j there a at f target)
@@ -296,8 +302,9 @@ module _ (globals : Globals) (s : Setting) (agrees : Agrees globals s) (declares
         single node =
             subst (λ x. IsNotStuck (NodeClaims s store entry here h (element_of e.0.note.ctype) (node_view s.frame (Node-F.Un op.Deref (view s.frame e.0)))) (evaluated store x))
             (sym (ap (λ o. read_at s.text.layout (element_of e.0.note.ctype) o (target_place s.text.layout e.0.note.ctype place ((part_of e.0).value s.text s.variables k))) (no_count (element_of e.0.note.ctype) node.integer)))
-            (single_claims s store entry next ready here h e.0 node place ((part_of e.0).value s.text s.variables k) inside (node_view s.frame (Node-F.Un op.Deref (view s.frame e.0)))
-            refl refl (λ b. refl) (ap kind_of (viewed_type e.0) ∙ node.single))
+            (single_claims s store entry next ready here h e.0 node.single node.declared place ((part_of e.0).value s.text s.variables k) inside 0 (element_of e.0.note.ctype)
+            (integer_part s.text.layout (element_of e.0.note.ctype) node.integer) node.integer (node_view s.frame (Node-F.Un op.Deref (view s.frame e.0)))
+            refl refl (λ b. refl) (ap (λ q. widening s.frame q ((view s.frame e.0).place 0 here.at.facts) here.at) (ap kind_of (viewed_type e.0) ∙ node.single)))
 
         several : IsElement e.0 → Of (element_of e.0.note.ctype) e.0.note.ctype
         several node =
@@ -323,6 +330,44 @@ module _ (globals : Globals) (s : Setting) (agrees : Agrees globals s) (declares
         Of t u q = IsNotStuck (NodeClaims s store entry here h t (node_view s.frame (Node-F.Index (view s.frame e.0) (view s.frame f.0))))
             (evaluated store (read_at s.text.layout t (count_of_kind (kind_of t))
             (element_place s.text.layout u place (integer_of q) ((part_of e.0).value s.text s.variables k) ((part_of f.0).value s.text s.variables (k + (part_of e.0).literals)))))
+    node_step (Node-F.Arrow e n spot) note place row typed covered node checked fresh little are fault judged noted k =
+        subst Of (sym (parted_type e.0)) (subst (λ x. IsNotStuck (NodeClaims s store entry here h note.ctype made) (evaluated store x))
+        (sym (ap (λ o. read_at s.text.layout note.ctype o (member_place s.text.layout tag n (target_place s.text.layout e.0.note.ctype place v))) node.member.bare)) (⊎_elim several single node.through))
+      where
+        made : NodeView
+        made = node_view s.frame (Node-F.Arrow (view s.frame e.0) n spot)
+
+        v : Expr
+        v = (part_of e.0).value s.text s.variables k
+
+        tag : ℕ
+        tag = tag_of (element_of e.0.note.ctype)
+
+        Of : CType → Type 0
+        Of u = IsNotStuck (NodeClaims s store entry here h note.ctype made)
+            (evaluated store (read_at s.text.layout note.ctype (count_of_member s.text.layout (tag_of (element_of u)) n) (member_place s.text.layout (tag_of (element_of u)) n (target_place s.text.layout u place v))))
+
+        Read : Type 0
+        Read = IsNotStuck (NodeClaims s store entry here h note.ctype made) (evaluated store (read_at s.text.layout note.ctype None (member_place s.text.layout tag n (target_place s.text.layout e.0.note.ctype place v))))
+
+        part : IsPart s.text.layout (element_of e.0.note.ctype) (0 + offset_of s.text.layout tag (member_number n)) (width_of note.ctype)
+        part = member_behind s.text.layout (element_of e.0.note.ctype) n note.ctype node.member.number node.member.named node.member.there
+
+        inside : IsNotStuck (ExprClaims s store entry here e.0) (evaluated store v)
+        inside = e.1.claims typed here covered h fresh little are (one_part (λ a. Node-F.Arrow a n spot) (λ a b e. cc) _ e.0 judged) k
+
+        single : (kind_of e.0.note.ctype ≡ Some kind.One) × DeclareOnes s → Read
+        single one = single_claims s store entry next ready here h e.0 one.0 one.1 place v inside (0 + offset_of s.text.layout tag (member_number n)) note.ctype part node.member.integer made refl refl (λ b. refl) refl
+
+        several : is_counted_kind (kind_of e.0.note.ctype) ≡ true → Read
+        several counted =
+            element_claims s store entry next ready here h e.0 fresh (covered_few e.0 covered) little are place Int v (Number 0) (λ x. Unit {0}) inside tt counted ranged
+            (0 + offset_of s.text.layout tag (member_number n)) note.ctype part node.member.integer made refl refl (λ b. refl)
+            (narrow_there s store entry next ready here h e.0 fresh (covered_few e.0 covered) little are place Int v (Number 0) (λ x. Unit {0}) inside tt counted ranged
+            (0 + offset_of s.text.layout tag (member_number n)) note.ctype part made refl)
+          where
+            ranged : (x : Value) → ExprClaims s store entry here e.0 x → IsRanged s store entry next ready here h e.0 fresh (covered_few e.0 covered) little are x
+            ranged = ranged_pointer s store entry next ready here h e.0 fresh (covered_few e.0 covered) little are place (ap is_counted_kind (ap kind_of (viewed_type e.0)) ∙ counted) fault
     node_step y note place row typed covered node checked fresh little are fault judged noted k = absurd node
 
   -- ---- the induction

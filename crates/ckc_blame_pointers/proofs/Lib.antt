@@ -19,3 +19,5 @@ pub mod Statics
 pub mod Arrays
 pub mod Ones
 pub mod Single
+pub mod Truths
+pub mod Members

@@ -10,9 +10,7 @@ use Rattle.ckc_types.specs.declared.types.Kind.TheVariants as kind
 use Rattle.ckc_types.specs.declared.types.CType.{CType, CType-F, out-CType}
 use Rattle.ckc_types.specs.declared.types.Structs.{Structs}
 use Rattle.ckc_typed.specs.Types.{is_integer, is_integer_form, is_char, kind_of, kind_in, element_of}
-use Rattle.ckc_typed.specs.Constants.{size_of}
 use Rattle.ckc_typed.specs.Conversions.{is_terminated_kind}
-use Rattle.ckc_blame_slots.proofs.Parts.{sized_form}
 use Rattle.ckc_bounds_views.specs.Judged.{is_counted_kind}
 use Rattle.ckc_source.specs.declared.expr.Access.{Access}
 use Rattle.ckc_source.specs.declared.expr.Pointee.{Pointee}
@@ -89,17 +87,6 @@ integer_part_in structs t (CType-F.Pointer k u) i = absurd (cc)
 
 pub integer_part : (structs : Structs) (t : CType) → is_integer t ≡ true → IsPart structs t 0 (width_of t)
 integer_part structs t i = integer_part_in structs t (out-CType t) i
-
-integer_sized_in : (structs : Structs) (f : CType-F CType) → is_integer_form f ≡ true → 0 < sized_form structs f
-integer_sized_in structs CType-F.Int i = omega arith
-integer_sized_in structs CType-F.Unsigned i = omega arith
-integer_sized_in structs CType-F.Char i = omega arith
-integer_sized_in structs CType-F.Void i = absurd (cc)
-integer_sized_in structs (CType-F.Struct tag) i = absurd (cc)
-integer_sized_in structs (CType-F.Pointer k u) i = absurd (cc)
-
-pub integer_sized : (structs : Structs) (t : CType) → is_integer t ≡ true → 0 < size_of structs t
-integer_sized structs t i = integer_sized_in structs (out-CType t) i
 
 no_kind_in : (f : CType-F CType) → is_integer_form f ≡ true → kind_in f ≡ None
 no_kind_in CType-F.Int i = refl
@@ -263,24 +250,24 @@ tested_pointer structs t e = tested_in (out-CType t) (element_of t) (size_behind
 -- ---- a load
 
 module _ (s : Setting) (store : Store) (next : ℕ) (sound : AreSound s.text store.blocks next) (own : HaveOwnNames s.text.layout) (shapes : store.shapes ≡ shapes_elaborated s.text.layout) where
-  -- the integer at an element that is reached
-  pub element_loads : (Q : Value → Type 0) (t : CType) (n low high a : ℕ) → is_integer (element_of t) ≡ true
+  -- the integer or the pointer at an element that is reached, or at a member of it
+  pub part_loads : (Q : Value → Type 0) (t : CType) (n low high a offset : ℕ) (u : CType) → IsPart s.text.layout (element_of t) offset (width_of u)
       → is_true store.shapes store.blocks (pointee_of s.text.layout t) n low high ≡ true → IsReached (pointee_of s.text.layout t) n low high a
-      → ((m : ℕ) → loaded (width_of (element_of t)) (a + 0) store.blocks ≡ Some m → IsWordOf (element_of t) m → Q (record { number = m; range = Without }))
-      → IsNotStuck Q (loads store (width_of (element_of t)) (place_in a 0))
-  element_loads Q t n low high a integer true_there reached out =
-      subst (λ x. IsNotStuck Q (loads store width x)) (sym (place_is a 0 width (cell_address s.text store.blocks sound.memory.placed (a + 0) width (a == high) cell).1)) (by (loaded width (a + 0) store.blocks) refl)
+      → ((m : ℕ) → loaded (width_of u) (a + offset) store.blocks ≡ Some m → IsWordOf u m → Q (record { number = m; range = Without }))
+      → IsNotStuck Q (loads store (width_of u) (place_in a offset))
+  part_loads Q t n low high a offset u part true_there reached out =
+      subst (λ x. IsNotStuck Q (loads store width x)) (sym (place_is a offset width (cell_address s.text store.blocks sound.memory.placed (a + offset) width (a == high) cell).1)) (by (loaded width (a + offset) store.blocks) refl)
     where
       width : Width
-      width = width_of (element_of t)
+      width = width_of u
 
-      cell : IsCell s.text.layout store.blocks (a + 0) width (a == high)
-      cell = true_cell s.text (shapes_elaborated s.text.layout) store.blocks (pointee_of s.text.layout t) n low high a 0 width sound.memory.placed (are_members s.text.layout own) refl
-          (subst (λ sh. is_true sh store.blocks (pointee_of s.text.layout t) n low high ≡ true) shapes true_there) reached (integer_part s.text.layout (element_of t) integer)
+      cell : IsCell s.text.layout store.blocks (a + offset) width (a == high)
+      cell = true_cell s.text (shapes_elaborated s.text.layout) store.blocks (pointee_of s.text.layout t) n low high a offset width sound.memory.placed (are_members s.text.layout own) refl
+          (subst (λ sh. is_true sh store.blocks (pointee_of s.text.layout t) n low high ≡ true) shapes true_there) reached part
 
-      there : (m : ℕ) × (loaded width (a + 0) store.blocks ≡ Some m)
-      there = load_goes width (a + 0) store.blocks (cell_there s.text store.blocks sound.memory.placed (a + 0) width (a == high) cell)
+      there : (m : ℕ) × (loaded width (a + offset) store.blocks ≡ Some m)
+      there = load_goes width (a + offset) store.blocks (cell_there s.text store.blocks sound.memory.placed (a + offset) width (a == high) cell)
 
-      by : (o : Option ℕ) → loaded width (a + 0) store.blocks ≡ o → IsNotStuck Q (given_some o plain)
-      by (Some m) e = out m e (word_loaded (element_of t) m (loaded_in width (a + 0) store.blocks sound.bytes m e))
-      by None e = let got : loaded width (a + 0) store.blocks ≡ Some there.0 = there.1 in absurd (cc)
+      by : (o : Option ℕ) → loaded width (a + offset) store.blocks ≡ o → IsNotStuck Q (given_some o plain)
+      by (Some m) e = out m e (word_loaded u m (loaded_in width (a + offset) store.blocks sound.bytes m e))
+      by None e = let got : loaded width (a + offset) store.blocks ≡ Some there.0 = there.1 in absurd (cc)

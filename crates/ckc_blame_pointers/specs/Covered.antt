@@ -18,7 +18,7 @@ use Rattle.ckc_typed.specs.declared.typed.StaticObject.{StaticObject}
 use Rattle.ckc_typed.specs.declared.environment.Variable.{Variable}
 use Rattle.ckc_typed.specs.Conversions.{is_terminated_kind}
 use Rattle.ckc_typed.specs.Environment.{variable_named}
-use Rattle.ckc_typed.specs.Operands.{is_raw_kind}
+use Rattle.ckc_typed.specs.Operands.{is_raw_kind, dot_type}
 use Rattle.ckc_typed.specs.Trees.{NotedLimits, NotedNode, NotedExpr, NotedLayer}
 use Rattle.ckc_typed.specs.Types.{kind_of, element_of, is_integer, is_pointer, is_scalar}
 use Rattle.ckc_typed_welltyped.specs.Expressions.{AnyLimits, AnyNode}
@@ -30,7 +30,8 @@ use Rattle.ckc_bounds_declared.specs.Written.{bounds_of_kind}
 use Rattle.ckc_bounds_views.specs.Judged.{is_counted_kind}
 use Rattle.ckc_bounds_views.specs.Views.{view}
 use Rattle.ckc_source.specs.Eval.{Store}
-use Rattle.ckc_build_values.specs.Kinds.{size_behind}
+use Rattle.ckc_build_values.specs.Kinds.{size_behind, tag_of}
+use Rattle.ckc_build_values.specs.Members.{count_of_member}
 use Rattle.ckc_build_values.specs.Names.{count_of_static}
 use Rattle.ckc_build_elaborate.specs.Objects.{object_elaborated, objects_elaborated}
 use Rattle.ckc_build_elaborate.specs.Shapes.{shapes_elaborated}
@@ -140,13 +141,26 @@ pub record IsSingle (s : Setting) (e : NotedExpr) : Type 0 where
   pub integer : is_integer (element_of e.note.ctype) ≡ true
   pub declared : DeclareOnes s
 
+-- an integer that is a member of a structure of a type
+pub record IsIntegerMember (s : Setting) (u t : CType) (n : Name) : Type 0 where
+  pub number : ℕ
+  pub named : n ≡ name.Member number
+  pub there : dot_type s.text.layout u n ≡ Some t
+  pub integer : is_integer t ≡ true
+  pub bare : count_of_member s.text.layout (tag_of u) n ≡ None
+
+-- what `->` reads: an integer, through a checked pointer
+pub record IsArrow (s : Setting) (e : NotedExpr) (n : Name) (t : CType) : Type 0 where
+  pub member : IsIntegerMember s (element_of e.note.ctype) t n
+  pub through : (is_counted_kind (kind_of e.note.ctype) ≡ true) ⊎ ((kind_of e.note.ctype ≡ Some kind.One) × DeclareOnes s)
+
 -- the operands of unary operators
 abbrev pub IsCoveredUnary : Setting → TreeOp → NotedExpr → Type 0
 IsCoveredUnary s op.Deref e = IsElement e ⊎ IsSingle s e
 IsCoveredUnary s o e = IsArithmetic o
 
 -- The nodes of a type of which it is said what they come to: numbers, `sizeof`, `NULL`, locals in scope, static
--- integers and arrays, operators, `?:`, casts, and integers that are read through pointers.
+-- integers and arrays, operators, `?:`, casts, and integers that are read through pointers, also by `->`.
 abbrev pub IsCoveredNode : Setting → List ℕ → CType → NotedLayer → Type 0
 IsCoveredNode s seen t (Node-F.Number n unsigned) = Unit {0}
 IsCoveredNode s seen t (Node-F.Size w) = Unit {0}
@@ -158,6 +172,7 @@ IsCoveredNode s seen t (Node-F.Bin o e f) = Unit {0}
 IsCoveredNode s seen t (Node-F.Pick e f g) = Unit {0}
 IsCoveredNode s seen t (Node-F.Cast w e) = Unit {0}
 IsCoveredNode s seen t (Node-F.Index e f) = IsElement e
+IsCoveredNode s seen t (Node-F.Arrow e n spot) = IsArrow s e n t
 IsCoveredNode s seen t _ = ⊥
 
 -- Such an expression is no unchecked pointer, the size of what it points to is a word, and so is the number of its
