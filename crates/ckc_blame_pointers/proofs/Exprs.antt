@@ -5,6 +5,7 @@ use Rattle.ckc_base.specs.declared.places.Pos.{Pos}
 use Rattle.ckc_types.specs.declared.types.Kind.{Kind}
 use Rattle.ckc_types.specs.declared.types.Kind.TheVariants as kind
 use Rattle.ckc_types.specs.declared.types.CType.{CType}
+use Rattle.ckc_types.specs.declared.types.CType.TheVariants as ctype
 use Rattle.ckc_linear.specs.declared.forms.Form.{Form}
 use Rattle.ckc_syntax.specs.declared.tree.Name.{Name}
 use Rattle.ckc_syntax.specs.declared.tree.Name.TheVariants as name
@@ -18,7 +19,8 @@ use Rattle.ckc_typed.specs.declared.typed.Note.{Note}
 use Rattle.ckc_typed.specs.declared.typed.Range.TheVariants as range
 use Rattle.ckc_typed.specs.Constants.{size_of}
 use Rattle.ckc_typed.specs.Conversions.{is_null}
-use Rattle.ckc_typed.specs.Operands.{is_raw_kind, is_moved}
+use Rattle.ckc_typed.specs.Operands.{is_raw_kind, is_moved, arithmetic_type}
+use Rattle.ckc_typed.specs.Expressions.{address_kind, has_address}
 use Rattle.ckc_typed.specs.Trees.{NotedLimits, NotedNode, NotedExpr, NotedLayer}
 use Rattle.ckc_typed.specs.Types.{type_written, is_integer, is_pointer, is_void, kind_of, element_of}
 use Rattle.ckc_typed_welltyped.specs.Expressions.{AnyLimits, AnyNode}
@@ -41,7 +43,7 @@ use Rattle.ckc_typed.specs.Layouts.{member_number}
 use Rattle.ckc_build_values.specs.Kinds.{integer_of, width_of, size_behind, count_of_kind, tag_of}
 use Rattle.ckc_build_values.specs.Members.{offset_of, count_of_member}
 use Rattle.ckc_build_values.specs.Places.{element_place, target_place, member_place, read_at}
-use Rattle.ckc_build_values.specs.Expressions.{Part, NodePart, LimitsPart, local_in, limits_parts, node_parts, expr_parts, node_value, part_of, part_of_node, part_of_limits}
+use Rattle.ckc_build_values.specs.Expressions.{node_address, Part, NodePart, LimitsPart, local_in, limits_parts, node_parts, expr_parts, node_value, part_of, part_of_node, part_of_limits}
 use Rattle.ckc_build_values.specs.Operators.{of_operands}
 use Rattle.ckc_blame_sound.specs.Settings.{Setting}
 use Rattle.ckc_blame_sound.specs.Values.{AreTrue}
@@ -49,13 +51,13 @@ use Rattle.ckc_blame_sound.specs.Points.{HoldsAt}
 use Rattle.ckc_blame_numbers.specs.Typed.{IsRow, HasRow, IsTyped, Agrees}
 use Rattle.ckc_blame_numbers.proofs.Exprs as numbers
 use Rattle.ckc_blame_numbers.proofs.Holding.{form_exact, side_told}
-use Rattle.ckc_blame_numbers.proofs.Types.{IsWide, number_wide, size_wide}
+use Rattle.ckc_blame_numbers.proofs.Types.{no_pointer, IsWide, number_wide, size_wide}
 use Rattle.ckc_blame_pointers.specs.Valuations.{AreFresh, address_by}
-use Rattle.ckc_blame_pointers.specs.Covered.{DeclareLocals, DeclareOnes, IsSoundStore, IsElement, IsSingle, IsCoveredNode, IsCoveredExpr, IsCovered}
+use Rattle.ckc_blame_pointers.specs.Covered.{DeclareLocals, DeclareOnes, IsSoundStore, IsElement, IsSingle, IsAddressed, IsCoveredNode, IsCoveredExpr, IsCovered}
 use Rattle.ckc_blame_pointers.specs.Meant.{IsNotStuck}
-use Rattle.ckc_blame_pointers.proofs.Claims.{Claims, holds_on}
+use Rattle.ckc_blame_pointers.proofs.Claims.{Claims, weaker, holds_on}
 use Rattle.ckc_blame_pointers.proofs.Forms.{form_known}
-use Rattle.ckc_blame_pointers.proofs.Inside.{EveryNode, PartsEvery, parts_every, node_every, node_out, one_part, two_parts, three_parts, IsJudged, judged_is}
+use Rattle.ckc_blame_pointers.proofs.Inside.{EveryNode, PartsEvery, parts_every, node_every, node_out, one_part, two_parts, three_parts, IsJudged, judged_is, operand_is}
 use Rattle.ckc_blame_pointers.proofs.Nodes.{NodeClaims}
 use Rattle.ckc_blame_pointers.proofs.Binary.{ExprClaims, other_claims, unequal_claims, and_claims, or_claims}
 use Rattle.ckc_blame_pointers.proofs.Sums.{IsIndex, capped_more, capped_small, fresh_on, sum_claims, difference_claims}
@@ -63,6 +65,8 @@ use Rattle.ckc_blame_pointers.proofs.Elements.{at_pointer, IsRanged, ranged_poin
 use Rattle.ckc_blame_pointers.proofs.Claims.{IsOfLocal}
 use Rattle.ckc_blame_pointers.proofs.Loads.{integer_part, no_count}
 use Rattle.ckc_blame_slots.specs.Cells.{IsPart}
+use Rattle.ckc_blame_pointers.proofs.Addresses.{address_row, target_claims, index_claims}
+use Rattle.ckc_blame_pointers.proofs.Rows.{counted_pointer}
 use Rattle.ckc_blame_pointers.proofs.Members.{member_behind}
 use Rattle.ckc_blame_pointers.proofs.Single.{single_claims}
 use Rattle.ckc_blame_pointers.proofs.Statics.{static_claims}
@@ -80,10 +84,20 @@ module _ (globals : Globals) (s : Setting) (agrees : Agrees globals s) (declares
         → (view_of_node s.frame n).fault place fresh here.at ≡ None
         → (is_pointer note.ctype ≡ true → note.range ≡ pointer_range note.ctype (view_of_node s.frame n) 0 fresh here.at)
         → (k : ℕ) → IsNotStuck (NodeClaims s store entry here h note.ctype (view_of_node s.frame n)) (evaluated store ((part_of_node n).value note place s.text s.variables k))
+    -- the address of such a place
+    pub address : (note : Note) (place : Pos) → IsRow globals s (out-Node Name Note n) note → EveryNode (HasRow globals s) n
+        → (here : Here) → EveryNode (IsCoveredExpr s here.seen) n → IsCoveredNode s here.seen note.ctype (out-Node Name Note n) → IsAddressed (out-Node Name Note n)
+        → (h : HoldsAt s store entry here) (fresh : ℕ) → fresh < 2 ^ 32 → AreFresh s.frame fresh → (view_of_node s.frame n).judged note.ctype fresh here.at ≡ Ok n
+        → (r : CType) → is_pointer r ≡ true → kind_of r ≡ Some kind.Arr → element_of r ≡ note.ctype
+        → (k : ℕ) → IsNotStuck (NodeClaims s store entry here h r (node_view s.frame (Node-F.Un op.Address (expr_view (record { node = view_of_node s.frame n; pos = place; note = note })))))
+        (evaluated store ((part_of_node n).address note place s.text s.variables k))
 
   record ExprHolds (e : NotedExpr) : Type 0 where
     pub claims : IsTyped globals s e → (here : Here) → IsCovered s here.seen e → HoldsAt s store entry here → (fresh : ℕ) → fresh < 2 ^ 32 → AreFresh s.frame fresh → (view s.frame e).judged fresh here.at ≡ Ok e
         → (k : ℕ) → IsNotStuck (ExprClaims s store entry here e) (evaluated store ((part_of e).value s.text s.variables k))
+    pub address : IsTyped globals s e → (here : Here) → IsCovered s here.seen e → IsAddressed (out-Node Name Note e.node) → (h : HoldsAt s store entry here) (fresh : ℕ) → fresh < 2 ^ 32 → AreFresh s.frame fresh
+        → (view s.frame e).operand fresh here.at ≡ Ok e → (r : CType) → is_pointer r ≡ true → kind_of r ≡ Some kind.Arr → element_of r ≡ e.note.ctype
+        → (k : ℕ) → IsNotStuck (NodeClaims s store entry here h r (node_view s.frame (Node-F.Un op.Address (view s.frame e)))) (evaluated store ((part_of e).address s.text s.variables k))
 
   abbrev KeptLimits : Type 0
   KeptLimits = (l : NotedLimits) × AnyLimitsHold l
@@ -196,6 +210,10 @@ module _ (globals : Globals) (s : Setting) (agrees : Agrees globals s) (declares
     some_if : (b : Bool) (t r : CType) → ◌≡◌ {A = Option CType} (if b then Some t else None) (Some r) → t ≡ r
     some_if true t r e = cc
     some_if false t r e = absurd (cc)
+
+    true_if : (b : Bool) (t r : CType) → ◌≡◌ {A = Option CType} (if b then Some t else None) (Some r) → b ≡ true
+    true_if true t r e = refl
+    true_if false t r e = absurd (cc)
 
     -- `*p` and `p[e]`
     read_claims : (n : NodeOfViews) (e : KeptExpr) → IsElement e.0 → (place : Pos) (index : Integer) (v w : Expr) (R : Value → Type 0) → IsNotStuck (ExprClaims s store entry here e.0) (evaluated store v)
@@ -311,6 +329,9 @@ module _ (globals : Globals) (s : Setting) (agrees : Agrees globals s) (declares
             read_claims (Node-F.Un op.Deref (view s.frame e.0)) e node place Int ((part_of e.0).value s.text s.variables k) (Number 0) (λ x. Unit {0})
             inside tt (covered_few e.0 covered) fresh little are fault
             refl refl (λ b. refl) (ap kind_of (viewed_type e.0)) (λ x c j there a at f target. target_aims s store entry next ready here h e.0 fresh (covered_few e.0 covered) little are x c j there a at f target)
+    node_step (Node-F.Un op.Address e) note place row typed covered node checked fresh little are fault judged noted k =
+        let t = address_row row.mode e.0.note.ctype note.ctype (some_if (has_address globals e.0) (ctype.Pointer (address_kind row.mode) e.0.note.ctype) note.ctype row.row) checked in
+        e.1.address typed here covered node h fresh little are (one_part (λ a. Node-F.Un op.Address a) (λ a b e. cc) _ e.0 judged) note.ctype t.0 t.1 t.2 k
     node_step (Node-F.Index e f) note place row typed covered node checked fresh little are fault judged noted k =
         let parts = two_parts (λ a b. Node-F.Index a b) (λ a b c d e. (cc, cc)) _ _ e.0 f.0 judged in
         subst (λ t. Of t (part_of e.0).ctype (part_of f.0).ctype) is (subst (λ u. Of (element_of e.0.note.ctype) u (part_of f.0).ctype) (sym (parted_type e.0)) (subst (λ q. Of (element_of e.0.note.ctype) e.0.note.ctype q) (sym (parted_type f.0))
@@ -370,6 +391,56 @@ module _ (globals : Globals) (s : Setting) (agrees : Agrees globals s) (declares
             ranged = ranged_pointer s store entry next ready here h e.0 fresh (covered_few e.0 covered) little are place (ap is_counted_kind (ap kind_of (viewed_type e.0)) ∙ counted) fault
     node_step y note place row typed covered node checked fresh little are fault judged noted k = absurd node
 
+    -- ---- the address of a place
+
+    address_step : (y : Node-F Name Note KeptLimits KeptNode KeptExpr) (note : Note) (place : Pos) → IsRow globals s (inner_node y) note → PartsEvery (HasRow globals s) (inner_node y)
+        → PartsEvery (IsCoveredExpr s here.seen) (inner_node y) → IsCoveredNode s here.seen note.ctype (inner_node y) → IsAddressed (inner_node y)
+        → (fresh : ℕ) → fresh < 2 ^ 32 → AreFresh s.frame fresh → node_judged s.frame (viewed_node (inner_node y)) note.ctype fresh here.at ≡ Ok (node_of (inner_node y))
+        → (r : CType) → is_pointer r ≡ true → kind_of r ≡ Some kind.Arr → element_of r ≡ note.ctype
+        → (k : ℕ) → IsNotStuck (NodeClaims s store entry here h r (node_view s.frame (Node-F.Un op.Address (expr_view (record { node = node_view s.frame (viewed_node (inner_node y)); pos = place; note = note })))))
+        (evaluated store (node_address (part_node (inner_node y)) note place s.text s.variables k))
+    address_step (Node-F.Un op.Deref e) note place row typed covered node addressed fresh little are judged r pointer array element k =
+        weaker (evaluated store ((part_of e.0).value s.text s.variables k)) (e.1.claims typed here covered h fresh little are (one_part (λ a. Node-F.Un op.Deref a) (λ a b e. cc) _ e.0 judged) k)
+        (λ x there c. target_claims s store entry here h e.0 note place bare r pointer array (element ∙ sym is) x c)
+      where
+        is : element_of e.0.note.ctype ≡ note.ctype
+        is = some_if (is_pointer e.0.note.ctype && not (is_void (element_of e.0.note.ctype))) (element_of e.0.note.ctype) note.ctype row.row
+
+        bare : is_pointer note.ctype ≡ false
+        bare = no_pointer note.ctype (subst (λ t. is_integer t ≡ true) is (⊎_elim (λ (n : IsElement e.0). n.integer) (λ (n : IsSingle s e.0). n.integer) node))
+    address_step (Node-F.Index e f) note place row typed covered node addressed fresh little are judged r pointer array element k =
+        let parts = two_parts (λ a b. Node-F.Index a b) (λ a b c d e. (cc, cc)) _ _ e.0 f.0 judged in
+        let small = covered_sized e.0 covered.0 in
+        subst (λ t. Of t (part_of f.0).ctype) (sym (parted_type e.0)) (subst (λ u. Of e.0.note.ctype u) (sym (parted_type f.0))
+        (weaker (evaluated store (of_operands s.text.layout op.Add e.0.note.ctype f.0.note.ctype place v w))
+        (sum_claims s store entry here h e.0 f.0 e.0.note.ctype place v w (left_claims e f typed covered fresh little are k parts.0) (right_claims e f typed covered fresh little are k here.at parts.1 h) (viewed_type e.0)
+        (λ x is. index_of here h e.0 typed.0 k x is) (λ x is. index_of here h f.0 typed.1 (k + (part_of e.0).literals) x is) checked
+        (ap (λ b. if b then Some e.0.note.ctype else (if is_integer e.0.note.ctype && is_moved f.0.note.ctype then Some f.0.note.ctype else arithmetic_type e.0.note.ctype f.0.note.ctype)) moved))
+        (λ x there c. index_claims s store entry here h e.0 note place bare r pointer array (element ∙ sym is) f.0 (counted_pointer e.0.note.ctype node.counted) checked (viewed_type e.0) x c)))
+      where
+        v : Expr
+        v = (part_of e.0).value s.text s.variables k
+
+        w : Expr
+        w = (part_of f.0).value s.text s.variables (k + (part_of e.0).literals)
+
+        Of : CType → CType → Type 0
+        Of t u = IsNotStuck (NodeClaims s store entry here h r (node_view s.frame (Node-F.Un op.Address (expr_view (record { node = node_view s.frame (Node-F.Index (view s.frame e.0) (view s.frame f.0)); pos = place; note = note })))))
+            (evaluated store (of_operands s.text.layout op.Add t u place v w))
+
+        checked : is_raw_kind (kind_of e.0.note.ctype) ≡ false
+        checked = (every_here-Expr Name Note AnyLimits AnyNode (IsCoveredExpr s here.seen) e.0 covered.0).checked
+
+        moved : (is_moved e.0.note.ctype && is_integer f.0.note.ctype) ≡ true
+        moved = true_if (is_moved e.0.note.ctype && is_integer f.0.note.ctype) (element_of e.0.note.ctype) note.ctype row.row
+
+        is : element_of e.0.note.ctype ≡ note.ctype
+        is = some_if (is_moved e.0.note.ctype && is_integer f.0.note.ctype) (element_of e.0.note.ctype) note.ctype row.row
+
+        bare : is_pointer note.ctype ≡ false
+        bare = no_pointer note.ctype (subst (λ t. is_integer t ≡ true) is node.integer)
+    address_step y note place row typed covered node addressed fresh little are judged r pointer array element k = absurd addressed
+
   -- ---- the induction
 
   node_by : (x : NotedLayer) (y : Node-F Name Note KeptLimits KeptNode KeptExpr) → inner_node y ≡ x → NodeHolds (roll-Node Name Note x)
@@ -390,6 +461,21 @@ module _ (globals : Globals) (s : Setting) (agrees : Agrees globals s) (declares
         (subst (λ (n : NodeView). n.fault place fresh here.at ≡ None) n_is fault)
         (subst (λ (n : NodeView). n.judged note.ctype fresh here.at ≡ Ok (node_of (inner_node y))) n_is (judged ∙ ap Ok (node_rolled (inner_node y))))
         (λ p. subst (λ (n : NodeView). note.range ≡ pointer_range note.ctype n 0 fresh here.at) n_is (noted p)) k));
+    address = λ note place row typed here covered node addressed h fresh little are judged r pointer array element k.
+        let out : out-Node Name Note (roll-Node Name Note (inner_node y)) ≡ inner_node y = node_out (inner_node y) in
+        let n_is : view_of_node s.frame (roll-Node Name Note (inner_node y)) ≡ node_view s.frame (viewed_node (inner_node y)) =
+        fold-roll-Node Name Note LimitsView NodeView View limits_view (node_view s.frame) expr_view (inner_node y) in
+        let q_is : part_of_node (roll-Node Name Note (inner_node y)) ≡ node_parts (part_node (inner_node y)) =
+        fold-roll-Node Name Note LimitsPart NodePart Part limits_parts node_parts expr_parts (inner_node y) in
+        let P : NodeView → NodePart → Type 0 =
+        λ n q. IsNotStuck (NodeClaims s store entry here h r (node_view s.frame (Node-F.Un op.Address (expr_view (record { node = n; pos = place; note = note }))))) (evaluated store (q.address note place s.text s.variables k)) in
+        subst (λ n. P n (part_of_node (roll-Node Name Note (inner_node y)))) (sym n_is)
+        (subst (λ q. P (node_view s.frame (viewed_node (inner_node y))) q) (sym q_is)
+        (address_step here h y note place (subst (λ z. IsRow globals s z note) out row)
+        (subst (PartsEvery (HasRow globals s)) out (parts_every (HasRow globals s) (roll-Node Name Note (inner_node y)) typed))
+        (subst (PartsEvery (IsCoveredExpr s here.seen)) out (parts_every (IsCoveredExpr s here.seen) (roll-Node Name Note (inner_node y)) covered))
+        (subst (IsCoveredNode s here.seen note.ctype) out node) (subst IsAddressed out addressed) fresh little are
+        (subst (λ (n : NodeView). n.judged note.ctype fresh here.at ≡ Ok (node_of (inner_node y))) n_is (judged ∙ ap Ok (node_rolled (inner_node y)))) r pointer array element k));
   })
 
   limits_by : (x : Limits-F Name Note NotedLimits NotedNode NotedExpr) (y : Limits-F Name Note KeptLimits KeptNode KeptExpr) → inner_limits y ≡ x → AnyLimitsHold (roll-Limits Name Note x)
@@ -408,6 +494,17 @@ module _ (globals : Globals) (s : Setting) (agrees : Agrees globals s) (declares
         let cover : IsCoveredExpr s here.seen (record { node = y.node.0; pos = y.pos; note = y.note }) = every_here-Expr Name Note AnyLimits AnyNode (IsCoveredExpr s here.seen) e covered in
         subst (λ v. P v (part_of e)) (sym v_is) (subst (λ q. P (expr_view (viewed_expr (inner_expr y))) q) (sym q_is)
         (y.node.1.claims y.note y.pos row (node_every (HasRow globals s) e typed) here (node_every (IsCoveredExpr s here.seen) e covered) cover.node cover.checked h fresh little are seen.node seen.fault seen.range k));
+    address = λ typed here covered addressed h fresh little are judged r pointer array element k.
+        let e : NotedExpr = roll-Expr Name Note (inner_expr y) in
+        let v_is : view s.frame e ≡ expr_view (viewed_expr (inner_expr y)) = fold-roll-Expr Name Note LimitsView NodeView View limits_view (node_view s.frame) expr_view (inner_expr y) in
+        let q_is : part_of e ≡ expr_parts (part_expr (inner_expr y)) = fold-roll-Expr Name Note LimitsPart NodePart Part limits_parts node_parts expr_parts (inner_expr y) in
+        let P : View → Part → Type 0 = λ v q. IsNotStuck (NodeClaims s store entry here h r (node_view s.frame (Node-F.Un op.Address v))) (evaluated store (q.address s.text s.variables k)) in
+        let seen : (view_of_node s.frame y.node.0).judged y.note.ctype fresh here.at ≡ Ok y.node.0 =
+        operand_is (view_of_node s.frame y.node.0) y.pos y.note y.node.0 fresh here.at (subst (λ (v : View). v.operand fresh here.at ≡ Ok e) v_is judged) in
+        let row : IsRow globals s (out-Node Name Note y.node.0) y.note = every_here-Expr Name Note AnyLimits AnyNode (HasRow globals s) e typed in
+        let cover : IsCoveredExpr s here.seen (record { node = y.node.0; pos = y.pos; note = y.note }) = every_here-Expr Name Note AnyLimits AnyNode (IsCoveredExpr s here.seen) e covered in
+        subst (λ v. P v (part_of e)) (sym v_is) (subst (λ q. P (expr_view (viewed_expr (inner_expr y))) q) (sym q_is)
+        (y.node.1.address y.note y.pos row (node_every (HasRow globals s) e typed) here (node_every (IsCoveredExpr s here.seen) e covered) cover.node addressed h fresh little are seen r pointer array element k));
   })
 
   expr_holds : (e : NotedExpr) → ExprHolds e

@@ -16,7 +16,7 @@ use Rattle.ckc_typed.specs.Types.{is_pointer}
 use Rattle.ckc_typed_welltyped.specs.Expressions.{AnyLimits, AnyNode}
 use Rattle.ckc_typed_welltyped.proofs.Nodes.{node_of, node_rolled}
 use Rattle.ckc_bounds_points.specs.Flow.{State}
-use Rattle.ckc_bounds_views.specs.Judged.{by_fault, expr_made, expr_judged}
+use Rattle.ckc_bounds_views.specs.Judged.{by_fault, expr_made, expr_judged, operand_judged}
 use Rattle.ckc_bounds_views.specs.Parts.{NodeView}
 use Rattle.ckc_bounds_views.specs.Ranges.{pointer_range}
 
@@ -137,3 +137,8 @@ judged_is n pos note m fresh at e =
           range = λ p. range_of (pointer_range note.ctype n 0 fresh at) (is_pointer note.ctype) (ap (λ (x : NotedExpr). x.note) same) p;
         }
     by_node q there (Some r) fault e = absurd (cc)
+
+-- the same of its node, if it is the operand of `&`
+pub operand_is : (n : NodeView) (pos : Pos) (note : Note) (m : NotedNode) (fresh : ℕ) (at : State) → operand_judged n pos note fresh at ≡ Ok (record { node = m; pos = pos; note = note })
+    → n.judged note.ctype fresh at ≡ Ok m
+operand_is n pos note m fresh at e = (judged_is (record n { fault = n.operand_fault }) pos note m fresh at e).node

@@ -21,3 +21,4 @@ pub mod Ones
 pub mod Single
 pub mod Truths
 pub mod Members
+pub mod Addresses

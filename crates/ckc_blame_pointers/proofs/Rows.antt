@@ -11,7 +11,8 @@ use Rattle.ckc_types.specs.declared.types.Structs.{Structs}
 use Rattle.ckc_syntax.specs.declared.tree.TreeOp.{TreeOp}
 use Rattle.ckc_syntax.specs.declared.tree.TreeOp.TheVariants as op
 use Rattle.ckc_typed.specs.Operands.{promoted, common, is_moved, is_moved_kind, sum_type, distance_type, difference_type, arithmetic_type, shift_type, binary_type, same_element}
-use Rattle.ckc_typed.specs.Types.{is_integer, is_pointer, is_pointer_form, is_integer_form, is_char_form, is_unsigned, is_scalar, is_void, element_of, kind_in, same_type}
+use Rattle.ckc_bounds_views.specs.Judged.{is_counted_kind}
+use Rattle.ckc_typed.specs.Types.{is_integer, is_pointer, is_pointer_form, is_integer_form, is_char_form, is_unsigned, is_scalar, is_void, element_of, kind_of, kind_in, same_type}
 use Rattle.ckc_source.specs.declared.expr.Operation.{Operation}
 use Rattle.ckc_source.specs.declared.expr.Operation.TheVariants as operation
 use Rattle.ckc_source.specs.declared.outcome.Value.{Value}
@@ -166,6 +167,17 @@ no_moved_in CType-F.Unsigned e = refl
 no_moved_in CType-F.Char e = refl
 no_moved_in CType-F.Void e = refl
 no_moved_in (CType-F.Struct tag) e = refl
+
+counted_pointer_in : (f : CType-F CType) → is_counted_kind (kind_in f) ≡ true → is_pointer_form f ≡ true
+counted_pointer_in (CType-F.Pointer k t) e = refl
+counted_pointer_in CType-F.Int e = absurd (cc)
+counted_pointer_in CType-F.Unsigned e = absurd (cc)
+counted_pointer_in CType-F.Char e = absurd (cc)
+counted_pointer_in CType-F.Void e = absurd (cc)
+counted_pointer_in (CType-F.Struct tag) e = absurd (cc)
+
+pub counted_pointer : (t : CType) → is_counted_kind (kind_of t) ≡ true → is_pointer t ≡ true
+counted_pointer t e = counted_pointer_in (out-CType t) e
 
 no_moved : (t : CType) → is_pointer t ≡ false → is_moved t ≡ false
 no_moved t e = no_moved_in (out-CType t) e

@@ -154,13 +154,21 @@ pub record IsArrow (s : Setting) (e : NotedExpr) (n : Name) (t : CType) : Type 0
   pub member : IsIntegerMember s (element_of e.note.ctype) t n
   pub through : (is_counted_kind (kind_of e.note.ctype) ≡ true) ⊎ ((kind_of e.note.ctype ≡ Some kind.One) × DeclareOnes s)
 
+-- `*p` and `p[e]`, of which `&` gives the address
+abbrev pub IsAddressed : NotedLayer → Type 0
+IsAddressed (Node-F.Un op.Deref e) = Unit {0}
+IsAddressed (Node-F.Index e f) = Unit {0}
+IsAddressed _ = ⊥
+
 -- the operands of unary operators
 abbrev pub IsCoveredUnary : Setting → TreeOp → NotedExpr → Type 0
 IsCoveredUnary s op.Deref e = IsElement e ⊎ IsSingle s e
+IsCoveredUnary s op.Address e = IsAddressed (out-Node Name Note e.node)
 IsCoveredUnary s o e = IsArithmetic o
 
 -- The nodes of a type of which it is said what they come to: numbers, `sizeof`, `NULL`, locals in scope, static
--- integers and arrays, operators, `?:`, casts, and integers that are read through pointers, also by `->`.
+-- integers and arrays, operators, `?:`, casts, integers that are read through pointers, also by `->`, and their addresses
+-- `&*p` and `&p[e]`.
 abbrev pub IsCoveredNode : Setting → List ℕ → CType → NotedLayer → Type 0
 IsCoveredNode s seen t (Node-F.Number n unsigned) = Unit {0}
 IsCoveredNode s seen t (Node-F.Size w) = Unit {0}
