@@ -95,7 +95,7 @@ type_same = ind-CType IsSame (λ x y is.
 
 -- ---- the block of an array
 
-object_at : (os : List Object) (bs : List Block) → AreObjects os bs → (k : ℕ) (o : Object) → slice_get os k ≡ Some o
+pub object_at : (os : List Object) (bs : List Block) → AreObjects os bs → (k : ℕ) (o : Object) → slice_get os k ≡ Some o
     → (b : Block) × (slice_get bs k ≡ Some b) × (b ≡ record (block_of o) { bytes = b.bytes })
 object_at [] bs h k o e = absurd cc
 object_at (c ∷ os) [] h k o e = absurd h

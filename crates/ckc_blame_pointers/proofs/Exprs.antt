@@ -71,6 +71,7 @@ use Rattle.ckc_blame_pointers.proofs.Members.{member_behind}
 use Rattle.ckc_blame_pointers.proofs.Single.{single_claims}
 use Rattle.ckc_blame_pointers.proofs.Statics.{static_claims}
 use Rattle.ckc_blame_pointers.proofs.Arrays.{array_claims}
+use Rattle.ckc_blame_pointers.proofs.Pointers.{pointer_claims}
 use Rattle.ckc_blame_pointers.proofs.Leaves.{number_claims, size_claims, null_claims, local_claims, minus_claims, plus_claims, flip_claims, not_claims, cast_claims, choice_claims}
 
 module _ (globals : Globals) (s : Setting) (agrees : Agrees globals s) (declares : DeclareLocals s) (store : Store) (entry : List ℕ) (next : ℕ) (ready : IsSoundStore s store next) where
@@ -79,23 +80,23 @@ module _ (globals : Globals) (s : Setting) (agrees : Agrees globals s) (declares
 
   record NodeHolds (n : NotedNode) : Type 0 where
     pub claims : (note : Note) (place : Pos) → IsRow globals s (out-Node Name Note n) note → EveryNode (HasRow globals s) n
-        → (here : Here) → EveryNode (IsCoveredExpr s here.seen) n → IsCoveredNode s here.seen note.ctype (out-Node Name Note n) → is_raw_kind (kind_of note.ctype) ≡ false
+        → (here : Here) → EveryNode (IsCoveredExpr s store here.seen) n → IsCoveredNode s store here.seen note.ctype (out-Node Name Note n) → is_raw_kind (kind_of note.ctype) ≡ false
         → (h : HoldsAt s store entry here) (fresh : ℕ) → fresh < 2 ^ 32 → AreFresh s.frame fresh → (view_of_node s.frame n).judged note.ctype fresh here.at ≡ Ok n
         → (view_of_node s.frame n).fault place fresh here.at ≡ None
         → (is_pointer note.ctype ≡ true → note.range ≡ pointer_range note.ctype (view_of_node s.frame n) 0 fresh here.at)
         → (k : ℕ) → IsNotStuck (NodeClaims s store entry here h note.ctype (view_of_node s.frame n)) (evaluated store ((part_of_node n).value note place s.text s.variables k))
     -- the address of such a place
     pub address : (note : Note) (place : Pos) → IsRow globals s (out-Node Name Note n) note → EveryNode (HasRow globals s) n
-        → (here : Here) → EveryNode (IsCoveredExpr s here.seen) n → IsCoveredNode s here.seen note.ctype (out-Node Name Note n) → IsAddressed (out-Node Name Note n)
+        → (here : Here) → EveryNode (IsCoveredExpr s store here.seen) n → IsCoveredNode s store here.seen note.ctype (out-Node Name Note n) → IsAddressed (out-Node Name Note n)
         → (h : HoldsAt s store entry here) (fresh : ℕ) → fresh < 2 ^ 32 → AreFresh s.frame fresh → (view_of_node s.frame n).judged note.ctype fresh here.at ≡ Ok n
         → (r : CType) → is_pointer r ≡ true → kind_of r ≡ Some kind.Arr → element_of r ≡ note.ctype
         → (k : ℕ) → IsNotStuck (NodeClaims s store entry here h r (node_view s.frame (Node-F.Un op.Address (expr_view (record { node = view_of_node s.frame n; pos = place; note = note })))))
         (evaluated store ((part_of_node n).address note place s.text s.variables k))
 
   record ExprHolds (e : NotedExpr) : Type 0 where
-    pub claims : IsTyped globals s e → (here : Here) → IsCovered s here.seen e → HoldsAt s store entry here → (fresh : ℕ) → fresh < 2 ^ 32 → AreFresh s.frame fresh → (view s.frame e).judged fresh here.at ≡ Ok e
+    pub claims : IsTyped globals s e → (here : Here) → IsCovered s store here.seen e → HoldsAt s store entry here → (fresh : ℕ) → fresh < 2 ^ 32 → AreFresh s.frame fresh → (view s.frame e).judged fresh here.at ≡ Ok e
         → (k : ℕ) → IsNotStuck (ExprClaims s store entry here e) (evaluated store ((part_of e).value s.text s.variables k))
-    pub address : IsTyped globals s e → (here : Here) → IsCovered s here.seen e → IsAddressed (out-Node Name Note e.node) → (h : HoldsAt s store entry here) (fresh : ℕ) → fresh < 2 ^ 32 → AreFresh s.frame fresh
+    pub address : IsTyped globals s e → (here : Here) → IsCovered s store here.seen e → IsAddressed (out-Node Name Note e.node) → (h : HoldsAt s store entry here) (fresh : ℕ) → fresh < 2 ^ 32 → AreFresh s.frame fresh
         → (view s.frame e).operand fresh here.at ≡ Ok e → (r : CType) → is_pointer r ≡ true → kind_of r ≡ Some kind.Arr → element_of r ≡ e.note.ctype
         → (k : ℕ) → IsNotStuck (NodeClaims s store entry here h r (node_view s.frame (Node-F.Un op.Address (view s.frame e)))) (evaluated store ((part_of e).address s.text s.variables k))
 
@@ -163,7 +164,7 @@ module _ (globals : Globals) (s : Setting) (agrees : Agrees globals s) (declares
     abbrev Made : NotedLayer → Note → Pos → ℕ → Type 0
     Made x note place k = IsNotStuck (NodeClaims s store entry here h note.ctype (node_view s.frame (viewed_node x))) (evaluated store (node_value (part_node x) note place s.text s.variables k))
 
-    module _ (e f : KeptExpr) (typed : IsTyped globals s e.0 × IsTyped globals s f.0) (covered : IsCovered s here.seen e.0 × IsCovered s here.seen f.0) (fresh : ℕ) (little : fresh < 2 ^ 32) (are : AreFresh s.frame fresh)
+    module _ (e f : KeptExpr) (typed : IsTyped globals s e.0 × IsTyped globals s f.0) (covered : IsCovered s store here.seen e.0 × IsCovered s store here.seen f.0) (fresh : ℕ) (little : fresh < 2 ^ 32) (are : AreFresh s.frame fresh)
         (k : ℕ) where
       abbrev v : Expr
       v = (part_of e.0).value s.text s.variables k
@@ -204,8 +205,8 @@ module _ (globals : Globals) (s : Setting) (agrees : Agrees globals s) (declares
       binary_step o note place row checked sized left right =
           other_claims s store entry here h s.text.layout e.0 f.0 note.ctype place v w (left_claims left) (is_null e.0) (is_null f.0) o refl refl row.row (right_claims here.at right h)
 
-    covered_few : (e : NotedExpr) → IsCovered s here.seen e → (view s.frame e).values + 1 < 2 ^ 32
-    covered_few e c = (every_here-Expr Name Note AnyLimits AnyNode (IsCoveredExpr s here.seen) e c).few
+    covered_few : (e : NotedExpr) → IsCovered s store here.seen e → (view s.frame e).values + 1 < 2 ^ 32
+    covered_few e c = (every_here-Expr Name Note AnyLimits AnyNode (IsCoveredExpr s store here.seen) e c).few
 
     some_if : (b : Bool) (t r : CType) → ◌≡◌ {A = Option CType} (if b then Some t else None) (Some r) → t ≡ r
     some_if true t r e = cc
@@ -249,11 +250,11 @@ module _ (globals : Globals) (s : Setting) (agrees : Agrees globals s) (declares
         widens (Some kind.Raw) is c = absurd (cc)
         widens None is c = absurd (cc)
 
-    covered_sized : (e : NotedExpr) → IsCovered s here.seen e → size_behind s.text.layout e.note.ctype < 2 ^ 32
-    covered_sized e c = (every_here-Expr Name Note AnyLimits AnyNode (IsCoveredExpr s here.seen) e c).sized
+    covered_sized : (e : NotedExpr) → IsCovered s store here.seen e → size_behind s.text.layout e.note.ctype < 2 ^ 32
+    covered_sized e c = (every_here-Expr Name Note AnyLimits AnyNode (IsCoveredExpr s store here.seen) e c).sized
 
     node_step : (y : Node-F Name Note KeptLimits KeptNode KeptExpr) (note : Note) (place : Pos) → IsRow globals s (inner_node y) note → PartsEvery (HasRow globals s) (inner_node y)
-        → PartsEvery (IsCoveredExpr s here.seen) (inner_node y) → IsCoveredNode s here.seen note.ctype (inner_node y) → is_raw_kind (kind_of note.ctype) ≡ false
+        → PartsEvery (IsCoveredExpr s store here.seen) (inner_node y) → IsCoveredNode s store here.seen note.ctype (inner_node y) → is_raw_kind (kind_of note.ctype) ≡ false
         → (fresh : ℕ) → fresh < 2 ^ 32 → AreFresh s.frame fresh → fault_of_node s.frame (viewed_node (inner_node y)) place fresh here.at ≡ None → node_judged s.frame (viewed_node (inner_node y)) note.ctype fresh here.at ≡ Ok (node_of (inner_node y))
         → (is_pointer note.ctype ≡ true → note.range ≡ pointer_range note.ctype (node_view s.frame (viewed_node (inner_node y))) 0 fresh here.at)
         → (k : ℕ) → Made (inner_node y) note place k
@@ -274,7 +275,7 @@ module _ (globals : Globals) (s : Setting) (agrees : Agrees globals s) (declares
         noted_is : is_pointer note.ctype ≡ true → note.range ≡ range_of_local s.frame j here.at.widened
         noted_is p = noted p ∙ ap (λ b. if b then range_of_local s.frame j here.at.widened else range.Missing) p
     node_step (Node-F.Name (name.Static j)) note place row typed covered node checked fresh little are fault judged noted k =
-        ⊎_elim (λ c. static_claims s store entry next ready here h note.ctype j c place) (λ c. array_claims s store entry next ready here h note.ctype j c place) node
+        ⊎_elim (λ c. static_claims s store entry next ready here h note.ctype j c place) (λ c. ⊎_elim (λ c. array_claims s store entry next ready here h note.ctype j c place) (λ c. pointer_claims s store entry next ready here h note.ctype j c place) c) node
     node_step (Node-F.Un op.Minus e) note place row typed covered node checked fresh little are fault judged noted k =
         minus_claims s store entry here h e.0 note.ctype place ((part_of e.0).value s.text s.variables k)
         (e.1.claims typed here covered h fresh little are (one_part (λ a. Node-F.Un op.Minus a) (λ a b e. cc) _ e.0 judged) k) row.row
@@ -342,7 +343,7 @@ module _ (globals : Globals) (s : Setting) (agrees : Agrees globals s) (declares
         (covered_few e.0 covered.0) fresh little are fault refl refl (λ b. refl) (ap kind_of (viewed_type e.0))
         (λ x c j there a at g target. element_aims s store entry next ready here h e.0 fresh (covered_few e.0 covered.0) little are x c (exact (integer_of f.0.note.ctype) j.number) ((view s.frame f.0).form here.at.facts)
         (index_of here h f.0 typed.1 (k + (part_of e.0).literals) j there) a at (is_raw_kind (kind_of (view s.frame e.0).ctype))
-        (ap is_raw_kind (ap kind_of (viewed_type e.0)) ∙ (every_here-Expr Name Note AnyLimits AnyNode (IsCoveredExpr s here.seen) e.0 covered.0).checked) g target))))
+        (ap is_raw_kind (ap kind_of (viewed_type e.0)) ∙ (every_here-Expr Name Note AnyLimits AnyNode (IsCoveredExpr s store here.seen) e.0 covered.0).checked) g target))))
       where
         is : element_of e.0.note.ctype ≡ note.ctype
         is = some_if (is_moved e.0.note.ctype && is_integer f.0.note.ctype) (element_of e.0.note.ctype) note.ctype row.row
@@ -394,7 +395,7 @@ module _ (globals : Globals) (s : Setting) (agrees : Agrees globals s) (declares
     -- ---- the address of a place
 
     address_step : (y : Node-F Name Note KeptLimits KeptNode KeptExpr) (note : Note) (place : Pos) → IsRow globals s (inner_node y) note → PartsEvery (HasRow globals s) (inner_node y)
-        → PartsEvery (IsCoveredExpr s here.seen) (inner_node y) → IsCoveredNode s here.seen note.ctype (inner_node y) → IsAddressed (inner_node y)
+        → PartsEvery (IsCoveredExpr s store here.seen) (inner_node y) → IsCoveredNode s store here.seen note.ctype (inner_node y) → IsAddressed (inner_node y)
         → (fresh : ℕ) → fresh < 2 ^ 32 → AreFresh s.frame fresh → node_judged s.frame (viewed_node (inner_node y)) note.ctype fresh here.at ≡ Ok (node_of (inner_node y))
         → (r : CType) → is_pointer r ≡ true → kind_of r ≡ Some kind.Arr → element_of r ≡ note.ctype
         → (k : ℕ) → IsNotStuck (NodeClaims s store entry here h r (node_view s.frame (Node-F.Un op.Address (expr_view (record { node = node_view s.frame (viewed_node (inner_node y)); pos = place; note = note })))))
@@ -429,7 +430,7 @@ module _ (globals : Globals) (s : Setting) (agrees : Agrees globals s) (declares
             (evaluated store (of_operands s.text.layout op.Add t u place v w))
 
         checked : is_raw_kind (kind_of e.0.note.ctype) ≡ false
-        checked = (every_here-Expr Name Note AnyLimits AnyNode (IsCoveredExpr s here.seen) e.0 covered.0).checked
+        checked = (every_here-Expr Name Note AnyLimits AnyNode (IsCoveredExpr s store here.seen) e.0 covered.0).checked
 
         moved : (is_moved e.0.note.ctype && is_integer f.0.note.ctype) ≡ true
         moved = true_if (is_moved e.0.note.ctype && is_integer f.0.note.ctype) (element_of e.0.note.ctype) note.ctype row.row
@@ -456,8 +457,8 @@ module _ (globals : Globals) (s : Setting) (agrees : Agrees globals s) (declares
         (subst (λ q. P (node_view s.frame (viewed_node (inner_node y))) q) (sym q_is)
         (node_step here h y note place (subst (λ z. IsRow globals s z note) out row)
         (subst (PartsEvery (HasRow globals s)) out (parts_every (HasRow globals s) (roll-Node Name Note (inner_node y)) typed))
-        (subst (PartsEvery (IsCoveredExpr s here.seen)) out (parts_every (IsCoveredExpr s here.seen) (roll-Node Name Note (inner_node y)) covered))
-        (subst (IsCoveredNode s here.seen note.ctype) out node) checked fresh little are
+        (subst (PartsEvery (IsCoveredExpr s store here.seen)) out (parts_every (IsCoveredExpr s store here.seen) (roll-Node Name Note (inner_node y)) covered))
+        (subst (IsCoveredNode s store here.seen note.ctype) out node) checked fresh little are
         (subst (λ (n : NodeView). n.fault place fresh here.at ≡ None) n_is fault)
         (subst (λ (n : NodeView). n.judged note.ctype fresh here.at ≡ Ok (node_of (inner_node y))) n_is (judged ∙ ap Ok (node_rolled (inner_node y))))
         (λ p. subst (λ (n : NodeView). note.range ≡ pointer_range note.ctype n 0 fresh here.at) n_is (noted p)) k));
@@ -473,8 +474,8 @@ module _ (globals : Globals) (s : Setting) (agrees : Agrees globals s) (declares
         (subst (λ q. P (node_view s.frame (viewed_node (inner_node y))) q) (sym q_is)
         (address_step here h y note place (subst (λ z. IsRow globals s z note) out row)
         (subst (PartsEvery (HasRow globals s)) out (parts_every (HasRow globals s) (roll-Node Name Note (inner_node y)) typed))
-        (subst (PartsEvery (IsCoveredExpr s here.seen)) out (parts_every (IsCoveredExpr s here.seen) (roll-Node Name Note (inner_node y)) covered))
-        (subst (IsCoveredNode s here.seen note.ctype) out node) (subst IsAddressed out addressed) fresh little are
+        (subst (PartsEvery (IsCoveredExpr s store here.seen)) out (parts_every (IsCoveredExpr s store here.seen) (roll-Node Name Note (inner_node y)) covered))
+        (subst (IsCoveredNode s store here.seen note.ctype) out node) (subst IsAddressed out addressed) fresh little are
         (subst (λ (n : NodeView). n.judged note.ctype fresh here.at ≡ Ok (node_of (inner_node y))) n_is (judged ∙ ap Ok (node_rolled (inner_node y)))) r pointer array element k));
   })
 
@@ -491,9 +492,9 @@ module _ (globals : Globals) (s : Setting) (agrees : Agrees globals s) (declares
         let seen : IsJudged (view_of_node s.frame y.node.0) y.pos y.note y.node.0 fresh here.at =
         judged_is (view_of_node s.frame y.node.0) y.pos y.note y.node.0 fresh here.at (subst (λ (v : View). v.judged fresh here.at ≡ Ok e) v_is judged) in
         let row : IsRow globals s (out-Node Name Note y.node.0) y.note = every_here-Expr Name Note AnyLimits AnyNode (HasRow globals s) e typed in
-        let cover : IsCoveredExpr s here.seen (record { node = y.node.0; pos = y.pos; note = y.note }) = every_here-Expr Name Note AnyLimits AnyNode (IsCoveredExpr s here.seen) e covered in
+        let cover : IsCoveredExpr s store here.seen (record { node = y.node.0; pos = y.pos; note = y.note }) = every_here-Expr Name Note AnyLimits AnyNode (IsCoveredExpr s store here.seen) e covered in
         subst (λ v. P v (part_of e)) (sym v_is) (subst (λ q. P (expr_view (viewed_expr (inner_expr y))) q) (sym q_is)
-        (y.node.1.claims y.note y.pos row (node_every (HasRow globals s) e typed) here (node_every (IsCoveredExpr s here.seen) e covered) cover.node cover.checked h fresh little are seen.node seen.fault seen.range k));
+        (y.node.1.claims y.note y.pos row (node_every (HasRow globals s) e typed) here (node_every (IsCoveredExpr s store here.seen) e covered) cover.node cover.checked h fresh little are seen.node seen.fault seen.range k));
     address = λ typed here covered addressed h fresh little are judged r pointer array element k.
         let e : NotedExpr = roll-Expr Name Note (inner_expr y) in
         let v_is : view s.frame e ≡ expr_view (viewed_expr (inner_expr y)) = fold-roll-Expr Name Note LimitsView NodeView View limits_view (node_view s.frame) expr_view (inner_expr y) in
@@ -502,14 +503,14 @@ module _ (globals : Globals) (s : Setting) (agrees : Agrees globals s) (declares
         let seen : (view_of_node s.frame y.node.0).judged y.note.ctype fresh here.at ≡ Ok y.node.0 =
         operand_is (view_of_node s.frame y.node.0) y.pos y.note y.node.0 fresh here.at (subst (λ (v : View). v.operand fresh here.at ≡ Ok e) v_is judged) in
         let row : IsRow globals s (out-Node Name Note y.node.0) y.note = every_here-Expr Name Note AnyLimits AnyNode (HasRow globals s) e typed in
-        let cover : IsCoveredExpr s here.seen (record { node = y.node.0; pos = y.pos; note = y.note }) = every_here-Expr Name Note AnyLimits AnyNode (IsCoveredExpr s here.seen) e covered in
+        let cover : IsCoveredExpr s store here.seen (record { node = y.node.0; pos = y.pos; note = y.note }) = every_here-Expr Name Note AnyLimits AnyNode (IsCoveredExpr s store here.seen) e covered in
         subst (λ v. P v (part_of e)) (sym v_is) (subst (λ q. P (expr_view (viewed_expr (inner_expr y))) q) (sym q_is)
-        (y.node.1.address y.note y.pos row (node_every (HasRow globals s) e typed) here (node_every (IsCoveredExpr s here.seen) e covered) cover.node addressed h fresh little are seen r pointer array element k));
+        (y.node.1.address y.note y.pos row (node_every (HasRow globals s) e typed) here (node_every (IsCoveredExpr s store here.seen) e covered) cover.node addressed h fresh little are seen r pointer array element k));
   })
 
   expr_holds : (e : NotedExpr) → ExprHolds e
   expr_holds = ind-Expr Name Note AnyLimitsHold NodeHolds ExprHolds limits_by node_by expr_by
 
-  pub expr_claims : (e : NotedExpr) → IsTyped globals s e → (here : Here) → IsCovered s here.seen e → HoldsAt s store entry here → (fresh : ℕ) → fresh < 2 ^ 32 → AreFresh s.frame fresh → (view s.frame e).judged fresh here.at ≡ Ok e
+  pub expr_claims : (e : NotedExpr) → IsTyped globals s e → (here : Here) → IsCovered s store here.seen e → HoldsAt s store entry here → (fresh : ℕ) → fresh < 2 ^ 32 → AreFresh s.frame fresh → (view s.frame e).judged fresh here.at ≡ Ok e
       → (k : ℕ) → IsNotStuck (ExprClaims s store entry here e) (evaluated store ((part_of e).value s.text s.variables k))
   expr_claims e = (expr_holds e).claims

@@ -22,3 +22,5 @@ pub mod Single
 pub mod Truths
 pub mod Members
 pub mod Addresses
+pub mod Own
+pub mod Pointers

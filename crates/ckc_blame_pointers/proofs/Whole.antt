@@ -38,7 +38,7 @@ module _ (globals : Globals) (s : Setting) (agrees : Agrees globals s) (declares
       viewed : (view s.frame e).ctype ≡ e.note.ctype
       viewed = (numbers.expr_holds globals s agrees e).viewed
 
-  pub judged_meant : (before after : NotedExpr) (fresh literals : ℕ) → fresh < 2 ^ 32 → AreFresh s.frame fresh → IsTyped globals s before → (view s.frame before).judged fresh here.at ≡ Ok after → IsCovered s here.seen after
+  pub judged_meant : (before after : NotedExpr) (fresh literals : ℕ) → fresh < 2 ^ 32 → AreFresh s.frame fresh → IsTyped globals s before → (view s.frame before).judged fresh here.at ≡ Ok after → IsCovered s store here.seen after
       → HoldsAt s store entry here → IsNotStuck (IsMeant s store entry here (view s.frame before)) (evaluated store (expr_elaborated s.text s.variables literals after))
   judged_meant before after fresh literals little are typed is covered h =
       let same : view s.frame after ≡ view s.frame before = same_view s.frame before after fresh here.at is s.frame in

@@ -1,5 +1,5 @@
 -- The expressions of which it is said what they come to, and what is taken for granted of the text around them.
-use Rattle.std.specs.Prelude.{◌≡◌, ◌⊎◌, ◌+◌, ◌<◌, ◌^◌, ℕ, false, true, List, slice_get, Option, None, Some}
+use Rattle.std.specs.Prelude.{◌≡◌, ◌⊎◌, ◌+◌, ◌<◌, ◌^◌, ℕ, Bool, false, true, List, slice_get, Option, None, Some}
 use Rattle.std.specs.List.{Contains}
 use Rattle.ckc_types.specs.declared.types.Kind.{Kind}
 use Rattle.ckc_types.specs.declared.types.Kind.TheVariants as kind
@@ -27,15 +27,16 @@ use Rattle.ckc_bounds_points.specs.declared.frame.Bounds.TheVariants as bounds
 use Rattle.ckc_bounds_points.specs.declared.frame.Local.{Local}
 use Rattle.ckc_bounds_points.specs.Frames.{local_at}
 use Rattle.ckc_bounds_declared.specs.Written.{bounds_of_kind}
-use Rattle.ckc_bounds_views.specs.Judged.{is_counted_kind}
+use Rattle.ckc_bounds_views.specs.Judged.{is_counted_kind, is_declared_object}
 use Rattle.ckc_bounds_views.specs.Views.{view}
 use Rattle.ckc_source.specs.Eval.{Store}
-use Rattle.ckc_build_values.specs.Kinds.{size_behind, tag_of}
+use Rattle.ckc_build_values.specs.Kinds.{size_behind, count_of_kind, tag_of}
 use Rattle.ckc_build_values.specs.Members.{count_of_member}
 use Rattle.ckc_build_values.specs.Names.{count_of_static}
 use Rattle.ckc_build_elaborate.specs.Objects.{object_elaborated, objects_elaborated}
 use Rattle.ckc_build_elaborate.specs.Shapes.{shapes_elaborated}
 use Rattle.ckc_blame_sound.specs.Settings.{Setting}
+use Rattle.ckc_blame_sound.specs.Slots.{AreFilled}
 use Rattle.ckc_blame_slots.specs.Cells.{AreSound, HaveOwnNames}
 
 -- ---- memory
@@ -120,6 +121,22 @@ pub record IsStaticArray (s : Setting) (t : CType) (k : ℕ) : Type 0 where
   pub kind_is : kind_of t ≡ Some kind
   pub element : element_of t ≡ object.element
 
+-- a static object that is one pointer of a type, declared without bounds; the pointers that memory holds are in bounds
+pub record IsStaticPointer (s : Setting) (store : Store) (t : CType) (k : ℕ) : Type 0 where
+  pub object : StaticObject
+  pub there : slice_get s.text.statics k ≡ Some object
+  pub judged : slice_get s.frame.statics k ≡ Some object
+  pub is_run : Option Bool
+  pub placed : slice_get (objects_elaborated s.text) k ≡ Some (object_elaborated s.text.layout is_run object)
+  pub single : object.array ≡ None
+  pub plain : object.terminated ≡ false
+  pub some : 0 < object.count
+  pub element : object.element ≡ t
+  pub pointer : is_pointer t ≡ true
+  pub bare : is_declared_object (slice_get s.frame.objects k) ≡ false
+  pub counted : count_of_static s.text t (name.Static k) ≡ count_of_kind (kind_of t)
+  pub filled : AreFilled s.text store
+
 -- ---- expressions
 
 -- the unary operators on integers, and `!`
@@ -167,31 +184,31 @@ IsCoveredUnary s op.Address e = IsAddressed (out-Node Name Note e.node)
 IsCoveredUnary s o e = IsArithmetic o
 
 -- The nodes of a type of which it is said what they come to: numbers, `sizeof`, `NULL`, locals in scope, static
--- integers and arrays, operators, `?:`, casts, integers that are read through pointers, also by `->`, and their addresses
+-- integers, arrays and pointers, operators, `?:`, casts, integers that are read through pointers, also by `->`, and their addresses
 -- `&*p` and `&p[e]`.
-abbrev pub IsCoveredNode : Setting → List ℕ → CType → NotedLayer → Type 0
-IsCoveredNode s seen t (Node-F.Number n unsigned) = Unit {0}
-IsCoveredNode s seen t (Node-F.Size w) = Unit {0}
-IsCoveredNode s seen t Node-F.Null = Unit {0}
-IsCoveredNode s seen t (Node-F.Name (name.Local k)) = IsInScope s seen k
-IsCoveredNode s seen t (Node-F.Name (name.Static k)) = IsStaticInteger s t k ⊎ IsStaticArray s t k
-IsCoveredNode s seen t (Node-F.Un o e) = IsCoveredUnary s o e
-IsCoveredNode s seen t (Node-F.Bin o e f) = Unit {0}
-IsCoveredNode s seen t (Node-F.Pick e f g) = Unit {0}
-IsCoveredNode s seen t (Node-F.Cast w e) = Unit {0}
-IsCoveredNode s seen t (Node-F.Index e f) = IsElement e
-IsCoveredNode s seen t (Node-F.Arrow e n spot) = IsArrow s e n t
-IsCoveredNode s seen t _ = ⊥
+abbrev pub IsCoveredNode : Setting → Store → List ℕ → CType → NotedLayer → Type 0
+IsCoveredNode s store seen t (Node-F.Number n unsigned) = Unit {0}
+IsCoveredNode s store seen t (Node-F.Size w) = Unit {0}
+IsCoveredNode s store seen t Node-F.Null = Unit {0}
+IsCoveredNode s store seen t (Node-F.Name (name.Local k)) = IsInScope s seen k
+IsCoveredNode s store seen t (Node-F.Name (name.Static k)) = IsStaticInteger s t k ⊎ (IsStaticArray s t k ⊎ IsStaticPointer s store t k)
+IsCoveredNode s store seen t (Node-F.Un o e) = IsCoveredUnary s o e
+IsCoveredNode s store seen t (Node-F.Bin o e f) = Unit {0}
+IsCoveredNode s store seen t (Node-F.Pick e f g) = Unit {0}
+IsCoveredNode s store seen t (Node-F.Cast w e) = Unit {0}
+IsCoveredNode s store seen t (Node-F.Index e f) = IsElement e
+IsCoveredNode s store seen t (Node-F.Arrow e n spot) = IsArrow s e n t
+IsCoveredNode s store seen t _ = ⊥
 
 -- Such an expression is no unchecked pointer, the size of what it points to is a word, and so is the number of its
 -- values.
-pub record IsCoveredExpr (s : Setting) (seen : List ℕ) (e : Expr-F Name Note NotedLimits NotedNode NotedExpr)
+pub record IsCoveredExpr (s : Setting) (store : Store) (seen : List ℕ) (e : Expr-F Name Note NotedLimits NotedNode NotedExpr)
     : Type 0 where
-  pub node : IsCoveredNode s seen e.note.ctype (out-Node Name Note e.node)
+  pub node : IsCoveredNode s store seen e.note.ctype (out-Node Name Note e.node)
   pub checked : is_raw_kind (kind_of e.note.ctype) ≡ false
   pub few : (view s.frame (record { node = e.node; pos = e.pos; note = e.note })).values + 1 < 2 ^ 32
   pub sized : size_behind s.text.layout e.note.ctype < 2 ^ 32
 
 -- An expression and each expression in it, however deep, is such a one.
-abbrev pub IsCovered : Setting → List ℕ → NotedExpr → Type 0
-IsCovered s seen = every-Expr Name Note AnyLimits AnyNode (IsCoveredExpr s seen)
+abbrev pub IsCovered : Setting → Store → List ℕ → NotedExpr → Type 0
+IsCovered s store seen = every-Expr Name Note AnyLimits AnyNode (IsCoveredExpr s store seen)
