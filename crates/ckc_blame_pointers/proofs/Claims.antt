@@ -29,7 +29,7 @@ use Rattle.ckc_build_values.specs.Kinds.{pointee_of, size_behind}
 use Rattle.ckc_blame_sound.specs.Settings.{Setting}
 use Rattle.ckc_blame_sound.specs.Values.{AreTrue, IsWordOf}
 use Rattle.ckc_blame_sound.specs.Points.{AreBounded, HoldsAt}
-use Rattle.ckc_blame_pointers.specs.Valuations.{Valuation, Fits, AreFresh, Extends, IsAtPlace, IsInRange}
+use Rattle.ckc_blame_pointers.specs.Valuations.{Valuation, Fits, AreFresh, Extends, IsAtPlace, IsInRange, BaseBelow, RangeBelow}
 use Rattle.ckc_blame_pointers.specs.Covered.{DeclareOnes}
 use Rattle.ckc_blame_pointers.specs.Meant.{IsNotStuck}
 
@@ -49,16 +49,6 @@ goes_on P Q (Err halt.Stuck) f h next = h
 pub both_go_on : (P Q R : Value → Type 0) (x y : Result Value Halt) (f : Value → Value → Result Value Halt) → IsNotStuck P x → IsNotStuck Q y
     → ((v w : Value) → x ≡ Ok v → y ≡ Ok w → P v → Q w → IsNotStuck R (f v w)) → IsNotStuck R (given_both x y f)
 both_go_on P Q R x y f h k next = goes_on P R x (λ v. given y (f v)) h (λ v is p. goes_on Q R y (f v) k (λ w there q. next v w is there p q))
-
--- a base is no value from a number on
-abbrev pub BaseBelow : ℕ → Option Base → Type 0
-BaseBelow limit (Some (base.Value n)) = n < limit
-BaseBelow limit _ = Unit {0}
-
--- nor are those of the ends of a range
-abbrev pub RangeBelow : ℕ → Range → Type 0
-RangeBelow limit (range.Known low high) = BaseBelow limit low.base × BaseBelow limit high.base
-RangeBelow limit _ = Unit {0}
 
 -- a base that is a local points to what the local points to
 abbrev pub IsOfLocal : Setting → CType → Option Base → Type 0

@@ -37,10 +37,10 @@ use Rattle.ckc_blame_sound.specs.Values.{IsWordOf}
 use Rattle.ckc_blame_sound.specs.Points.{AreBounded, HoldsAt}
 use Rattle.ckc_typed.specs.declared.environment.Globals.{Globals}
 use Rattle.ckc_blame_numbers.specs.Typed.{Agrees}
-use Rattle.ckc_blame_pointers.specs.Valuations.{Valuation, Fits, HasEnds, IsInRange}
+use Rattle.ckc_blame_pointers.specs.Valuations.{Valuation, Fits, HasEnds, IsInRange, BaseBelow, RangeBelow}
 use Rattle.ckc_blame_pointers.specs.Covered.{IsLocalBase, IsLocalForm, DeclareLocals, IsInScope}
 use Rattle.ckc_blame_pointers.specs.Meant.{IsNotStuck}
-use Rattle.ckc_blame_pointers.proofs.Claims.{BaseBelow, RangeBelow, SideGoes, Claims, no_one, weaker, stays, not_placed}
+use Rattle.ckc_blame_pointers.proofs.Claims.{SideGoes, Claims, no_one, weaker, stays, not_placed}
 use Rattle.ckc_blame_pointers.proofs.Reading.{Ranged, end_is, range_local, local_reads}
 
 -- a pointer that is moved without wrapping, unless that stops

@@ -31,9 +31,9 @@ use Rattle.ckc_source.specs.Words.{elements_behind}
 use Rattle.ckc_build_values.specs.Kinds.{pointee_of, size_behind, count_of_kind}
 use Rattle.ckc_blame_sound.specs.Settings.{Setting}
 use Rattle.ckc_blame_sound.specs.Points.{HoldsAt}
-use Rattle.ckc_blame_pointers.specs.Valuations.{Valuation, address_by, HasEnds, IsInRange}
+use Rattle.ckc_blame_pointers.specs.Valuations.{Valuation, address_by, HasEnds, IsInRange, RangeBelow}
 use Rattle.ckc_blame_pointers.specs.Meant.{IsNotStuck}
-use Rattle.ckc_blame_pointers.proofs.Claims.{RangeBelow, Placed, SideGoes, weaker, stays}
+use Rattle.ckc_blame_pointers.proofs.Claims.{Placed, SideGoes, weaker, stays}
 use Rattle.ckc_blame_pointers.proofs.Loads.{loaded_in}
 use Rattle.ckc_blame_pointers.proofs.Moving.{with_address, address_added, address_kept, at_base}
 use Rattle.ckc_blame_pointers.proofs.Nodes.{NodeClaims, narrow}

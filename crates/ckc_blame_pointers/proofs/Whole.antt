@@ -31,7 +31,7 @@ module _ (globals : Globals) (s : Setting) (agrees : Agrees globals s) (declares
     placed = λ first fresh before low little are fits.
         let q = c.placed first fresh before low little are fits in
         subst (λ t. HasPlace s store here (record (view s.frame e) { ctype = t }) first fresh before p) (sym viewed)
-        (record { after = q.after; extends = q.extends; place = q.place_is; range = q.range_is });
+        (record { after = q.after; extends = q.extends; place_below = q.place_below; range_below = q.range_below; place = q.place_is; range = q.range_is });
     sides = λ b side. point_of globals s agrees declares store entry next ready here h e typed k p is c b side;
   }
     where
