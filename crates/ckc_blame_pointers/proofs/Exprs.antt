@@ -53,7 +53,7 @@ use Rattle.ckc_blame_numbers.proofs.Exprs as numbers
 use Rattle.ckc_blame_numbers.proofs.Holding.{form_exact, side_told}
 use Rattle.ckc_blame_numbers.proofs.Types.{no_pointer, IsWide, number_wide, size_wide}
 use Rattle.ckc_blame_pointers.specs.Valuations.{AreFresh, address_by}
-use Rattle.ckc_blame_pointers.specs.Covered.{DeclareLocals, DeclareOnes, IsSoundStore, IsElement, IsSingle, IsAddressed, IsCoveredNode, IsCoveredExpr, IsCovered}
+use Rattle.ckc_blame_pointers.specs.Covered.{DeclareLocals, DeclareOnes, IsSoundStore, IsElement, IsSingle, IsArrow, IsPointerArrow, IsAddressed, IsCoveredNode, IsCoveredExpr, IsCovered}
 use Rattle.ckc_blame_pointers.specs.Meant.{IsNotStuck}
 use Rattle.ckc_blame_pointers.proofs.Claims.{Claims, weaker, holds_on}
 use Rattle.ckc_blame_pointers.proofs.Forms.{form_known}
@@ -67,6 +67,7 @@ use Rattle.ckc_blame_pointers.proofs.Loads.{integer_part, no_count}
 use Rattle.ckc_blame_slots.specs.Cells.{IsPart}
 use Rattle.ckc_blame_pointers.proofs.Addresses.{address_row, target_claims, index_claims}
 use Rattle.ckc_blame_pointers.proofs.Rows.{counted_pointer}
+use Rattle.ckc_blame_pointers.proofs.Arrows.{count_there, arrow_claims}
 use Rattle.ckc_blame_pointers.proofs.Members.{member_behind}
 use Rattle.ckc_blame_pointers.proofs.Single.{single_claims}
 use Rattle.ckc_blame_pointers.proofs.Statics.{static_claims}
@@ -353,8 +354,7 @@ module _ (globals : Globals) (s : Setting) (agrees : Agrees globals s) (declares
             (evaluated store (read_at s.text.layout t (count_of_kind (kind_of t))
             (element_place s.text.layout u place (integer_of q) ((part_of e.0).value s.text s.variables k) ((part_of f.0).value s.text s.variables (k + (part_of e.0).literals)))))
     node_step (Node-F.Arrow e n spot) note place row typed covered node checked fresh little are fault judged noted k =
-        subst Of (sym (parted_type e.0)) (subst (λ x. IsNotStuck (NodeClaims s store entry here h note.ctype made) (evaluated store x))
-        (sym (ap (λ o. read_at s.text.layout note.ctype o (member_place s.text.layout tag n (target_place s.text.layout e.0.note.ctype place v))) node.member.bare)) (⊎_elim several single node.through))
+        subst Of (sym (parted_type e.0)) (⊎_elim number address node)
       where
         made : NodeView
         made = node_view s.frame (Node-F.Arrow (view s.frame e.0) n spot)
@@ -372,24 +372,36 @@ module _ (globals : Globals) (s : Setting) (agrees : Agrees globals s) (declares
         Read : Type 0
         Read = IsNotStuck (NodeClaims s store entry here h note.ctype made) (evaluated store (read_at s.text.layout note.ctype None (member_place s.text.layout tag n (target_place s.text.layout e.0.note.ctype place v))))
 
-        part : IsPart s.text.layout (element_of e.0.note.ctype) (0 + offset_of s.text.layout tag (member_number n)) (width_of note.ctype)
-        part = member_behind s.text.layout (element_of e.0.note.ctype) n note.ctype node.member.number node.member.named node.member.there
-
         inside : IsNotStuck (ExprClaims s store entry here e.0) (evaluated store v)
         inside = e.1.claims typed here covered h fresh little are (one_part (λ a. Node-F.Arrow a n spot) (λ a b e. cc) _ e.0 judged) k
 
-        single : (kind_of e.0.note.ctype ≡ Some kind.One) × DeclareOnes s → Read
-        single one = single_claims s store entry next ready here h e.0 one.0 one.1 place v inside (0 + offset_of s.text.layout tag (member_number n)) note.ctype part node.member.integer made refl refl (λ b. refl) refl
+        ranged : is_counted_kind (kind_of e.0.note.ctype) ≡ true → (x : Value) → ExprClaims s store entry here e.0 x → IsRanged s store entry next ready here h e.0 fresh (covered_few e.0 covered) little are x
+        ranged counted = ranged_pointer s store entry next ready here h e.0 fresh (covered_few e.0 covered) little are place (ap is_counted_kind (ap kind_of (viewed_type e.0)) ∙ counted) fault
 
-        several : is_counted_kind (kind_of e.0.note.ctype) ≡ true → Read
-        several counted =
-            element_claims s store entry next ready here h e.0 fresh (covered_few e.0 covered) little are place Int v (Number 0) (λ x. Unit {0}) inside tt counted ranged
-            (0 + offset_of s.text.layout tag (member_number n)) note.ctype part node.member.integer made refl refl (λ b. refl)
-            (narrow_there s store entry next ready here h e.0 fresh (covered_few e.0 covered) little are place Int v (Number 0) (λ x. Unit {0}) inside tt counted ranged
-            (0 + offset_of s.text.layout tag (member_number n)) note.ctype part made refl)
-          where
-            ranged : (x : Value) → ExprClaims s store entry here e.0 x → IsRanged s store entry next ready here h e.0 fresh (covered_few e.0 covered) little are x
-            ranged = ranged_pointer s store entry next ready here h e.0 fresh (covered_few e.0 covered) little are place (ap is_counted_kind (ap kind_of (viewed_type e.0)) ∙ counted) fault
+        part : IsArrow s e.0 n note.ctype → IsPart s.text.layout (element_of e.0.note.ctype) (0 + offset_of s.text.layout tag (member_number n)) (width_of note.ctype)
+        part node = member_behind s.text.layout (element_of e.0.note.ctype) n note.ctype node.member.number node.member.named node.member.there
+
+        single : IsArrow s e.0 n note.ctype → (kind_of e.0.note.ctype ≡ Some kind.One) × DeclareOnes s → Read
+        single node one = single_claims s store entry next ready here h e.0 one.0 one.1 place v inside (0 + offset_of s.text.layout tag (member_number n)) note.ctype (part node) node.member.integer made refl refl (λ b. refl) refl
+
+        several : IsArrow s e.0 n note.ctype → is_counted_kind (kind_of e.0.note.ctype) ≡ true → Read
+        several node counted =
+            element_claims s store entry next ready here h e.0 fresh (covered_few e.0 covered) little are place Int v (Number 0) (λ x. Unit {0}) inside tt counted (ranged counted)
+            (0 + offset_of s.text.layout tag (member_number n)) note.ctype (part node) node.member.integer made refl refl (λ b. refl)
+            (narrow_there s store entry next ready here h e.0 fresh (covered_few e.0 covered) little are place Int v (Number 0) (λ x. Unit {0}) inside tt counted (ranged counted)
+            (0 + offset_of s.text.layout tag (member_number n)) note.ctype (part node) made refl)
+
+        address : IsPointerArrow s store e.0 n note.ctype → Of e.0.note.ctype
+        address node =
+            subst (λ x. IsNotStuck (NodeClaims s store entry here h note.ctype made) (evaluated store x))
+            (sym (ap (λ o. read_at s.text.layout note.ctype o (member_place s.text.layout tag n (target_place s.text.layout e.0.note.ctype place v)))
+            (count_there s store entry next ready here h e.0 n spot note.ctype node (viewed_type e.0) fresh (covered_few e.0 covered) little are place v inside ranged)))
+            (arrow_claims s store entry next ready here h e.0 n spot note.ctype node (viewed_type e.0) fresh (covered_few e.0 covered) little are place v inside ranged)
+
+        number : IsArrow s e.0 n note.ctype → Of e.0.note.ctype
+        number node =
+            subst (λ x. IsNotStuck (NodeClaims s store entry here h note.ctype made) (evaluated store x))
+            (sym (ap (λ o. read_at s.text.layout note.ctype o (member_place s.text.layout tag n (target_place s.text.layout e.0.note.ctype place v))) node.member.bare)) (⊎_elim (several node) (single node) node.through)
     node_step y note place row typed covered node checked fresh little are fault judged noted k = absurd node
 
     -- ---- the address of a place

@@ -24,3 +24,5 @@ pub mod Members
 pub mod Addresses
 pub mod Own
 pub mod Pointers
+pub mod Structures
+pub mod Arrows

@@ -1,9 +1,12 @@
 -- The expressions of which it is said what they come to, and what is taken for granted of the text around them.
-use Rattle.std.specs.Prelude.{◌≡◌, ◌⊎◌, ◌+◌, ◌<◌, ◌^◌, ℕ, Bool, false, true, List, slice_get, Option, None, Some}
+use Rattle.std.specs.Prelude.{◌≡◌, ◌⊎◌, ◌+◌, ◌<◌, ◌^◌, ℕ, Bool, false, true, List, slice_get, ℤ, Option, None, Some}
 use Rattle.std.specs.List.{Contains}
 use Rattle.ckc_types.specs.declared.types.Kind.{Kind}
 use Rattle.ckc_types.specs.declared.types.Kind.TheVariants as kind
-use Rattle.ckc_types.specs.declared.types.CType.{CType}
+use Rattle.ckc_types.specs.declared.types.CType.{CType, CType-F, out-CType}
+use Rattle.ckc_types.specs.declared.types.MemberShape.{MemberShape}
+use Rattle.ckc_types.specs.declared.types.MemberBounds.TheVariants as mbounds
+use Rattle.ckc_source.specs.declared.expr.Count.TheVariants as count
 use Rattle.ckc_linear.specs.declared.forms.Base.{Base}
 use Rattle.ckc_linear.specs.declared.forms.Base.TheVariants as base
 use Rattle.ckc_linear.specs.declared.forms.Form.{Form}
@@ -27,11 +30,12 @@ use Rattle.ckc_bounds_points.specs.declared.frame.Bounds.TheVariants as bounds
 use Rattle.ckc_bounds_points.specs.declared.frame.Local.{Local}
 use Rattle.ckc_bounds_points.specs.Frames.{local_at}
 use Rattle.ckc_bounds_declared.specs.Written.{bounds_of_kind}
+use Rattle.ckc_bounds_views.specs.Fresh.{member_bounds}
 use Rattle.ckc_bounds_views.specs.Judged.{is_counted_kind, is_declared_object}
 use Rattle.ckc_bounds_views.specs.Views.{view}
 use Rattle.ckc_source.specs.Eval.{Store}
 use Rattle.ckc_build_values.specs.Kinds.{size_behind, count_of_kind, tag_of}
-use Rattle.ckc_build_values.specs.Members.{count_of_member}
+use Rattle.ckc_build_values.specs.Members.{member_named, count_of_member}
 use Rattle.ckc_build_values.specs.Names.{count_of_static}
 use Rattle.ckc_build_elaborate.specs.Objects.{object_elaborated, objects_elaborated}
 use Rattle.ckc_build_elaborate.specs.Shapes.{shapes_elaborated}
@@ -171,6 +175,23 @@ pub record IsArrow (s : Setting) (e : NotedExpr) (n : Name) (t : CType) : Type 0
   pub member : IsIntegerMember s (element_of e.note.ctype) t n
   pub through : (is_counted_kind (kind_of e.note.ctype) ≡ true) ⊎ ((kind_of e.note.ctype ≡ Some kind.One) × DeclareOnes s)
 
+-- what else `->` reads: a `_Ptr` or an `_Nt_array_ptr` without bounds; the pointers that memory holds are in bounds
+pub record IsPointerArrow (s : Setting) (store : Store) (e : NotedExpr) (n : Name) (t : CType) : Type 0 where
+  pub tag : ℕ
+  pub struct : out-CType (element_of e.note.ctype) ≡ CType-F.Struct tag
+  pub number : ℕ
+  pub named : n ≡ name.Member number
+  pub member : MemberShape
+  pub found : member_named s.text.layout tag n ≡ Some member
+  pub type : member.ctype ≡ t
+  pub pointer : is_pointer t ≡ true
+  pub elements : ℤ
+  pub counted : count_of_kind (kind_of t) ≡ Some (count.Fixed elements)
+  pub bare : member.bounds ≡ mbounds.Nothing
+  pub judged : member_bounds s.frame.structs (record { tag = tag; number = number }) ≡ mbounds.Nothing
+  pub through : (kind_of e.note.ctype ≡ Some kind.Arr) ⊎ ((kind_of e.note.ctype ≡ Some kind.One) × DeclareOnes s)
+  pub filled : AreFilled s.text store
+
 -- `*p` and `p[e]`, of which `&` gives the address
 abbrev pub IsAddressed : NotedLayer → Type 0
 IsAddressed (Node-F.Un op.Deref e) = Unit {0}
@@ -184,8 +205,8 @@ IsCoveredUnary s op.Address e = IsAddressed (out-Node Name Note e.node)
 IsCoveredUnary s o e = IsArithmetic o
 
 -- The nodes of a type of which it is said what they come to: numbers, `sizeof`, `NULL`, locals in scope, static
--- integers, arrays and pointers, operators, `?:`, casts, integers that are read through pointers, also by `->`, and their addresses
--- `&*p` and `&p[e]`.
+-- integers, arrays and pointers, operators, `?:`, casts, integers that are read through pointers, what `->` reads, `&*p`
+-- and `&p[e]`.
 abbrev pub IsCoveredNode : Setting → Store → List ℕ → CType → NotedLayer → Type 0
 IsCoveredNode s store seen t (Node-F.Number n unsigned) = Unit {0}
 IsCoveredNode s store seen t (Node-F.Size w) = Unit {0}
@@ -197,7 +218,7 @@ IsCoveredNode s store seen t (Node-F.Bin o e f) = Unit {0}
 IsCoveredNode s store seen t (Node-F.Pick e f g) = Unit {0}
 IsCoveredNode s store seen t (Node-F.Cast w e) = Unit {0}
 IsCoveredNode s store seen t (Node-F.Index e f) = IsElement e
-IsCoveredNode s store seen t (Node-F.Arrow e n spot) = IsArrow s e n t
+IsCoveredNode s store seen t (Node-F.Arrow e n spot) = IsArrow s e n t ⊎ IsPointerArrow s store e n t
 IsCoveredNode s store seen t _ = ⊥
 
 -- Such an expression is no unchecked pointer, the size of what it points to is a word, and so is the number of its
