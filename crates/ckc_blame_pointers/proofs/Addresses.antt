@@ -1,6 +1,6 @@
 -- The claims of `&*p` and `&p[e]`, which are those of p and of `p + e`, as pointers of another kind.
 use Rattle.std.proofs.Common.{◌≡◌, ◌⊎◌, inl, inr, ⊎_elim, refl, sym, ap, subst, ◌∙◌, ℕ, Bool, true, false, List, arith, rules}
-use Rattle.std.specs.Prelude.{◌+◌, ◌<◌, ◌≤◌, ◌^◌, ◌==◌, ◌&&◌, not, if◌then◌else◌, ℤ, pos, IfSome, Option, None, Some}
+use Rattle.std.specs.Prelude.{◌+◌, ◌<◌, ◌≤◌, ◌^◌, ◌&&◌, if◌then◌else◌, pos, IfSome, Option, None, Some}
 use Rattle.std.specs.Option.{option_or}
 use Rattle.ckc_types.specs.declared.types.Kind.TheVariants as kind
 use Rattle.ckc_types.specs.declared.types.Kind.{Kind}
@@ -23,9 +23,8 @@ use Rattle.ckc_typed.specs.declared.typed.Range.TheVariants as range
 use Rattle.ckc_typed.specs.Constants.{size_of}
 use Rattle.ckc_typed.specs.Conversions.{is_terminated_kind}
 use Rattle.ckc_typed.specs.Types.{is_pointer, is_pointer_form, kind_of, kind_in, element_of, element_in}
-use Rattle.ckc_bounds_points.specs.declared.frame.Local.{Local}
 use Rattle.ckc_bounds_points.specs.Forms.{base_form, sum_of_forms}
-use Rattle.ckc_bounds_views.specs.Parts.{NodeView, View, capped, fresh_behind}
+use Rattle.ckc_bounds_views.specs.Parts.{NodeView, capped, fresh_behind}
 use Rattle.ckc_bounds_views.specs.Places.{with_own, binary_place, pointer_place}
 use Rattle.ckc_bounds_views.specs.Ranges.{range_of_operand, pointer_range}
 use Rattle.ckc_bounds_views.specs.Views.{node_view, expr_view, view}

@@ -1,10 +1,8 @@
 -- The claims of `p->m`, where a pointer is read.
 use Rattle.std.proofs.Common.{◌≡◌, ◌⊎◌, inl, inr, ⊎_elim, refl, sym, ap, subst, ◌∙◌, ℕ, Bool, true, false, List, [], ◌∷◌, ◌++◌, arith}
-use Rattle.std.specs.Prelude.{◌+◌, ◌*◌, ◌==◌, ◌<◌, ◌≤◌, ◌^◌, if◌then◌else◌, find, flat_map, ℤ, pos, ◌*ℤ◌, Option, None, Some, Result, Ok, IsOk}
+use Rattle.std.specs.Prelude.{◌+◌, ◌<◌, ◌^◌, if◌then◌else◌, find, flat_map, pos, Option, None, Some, Result, IsOk}
 use Rattle.std.specs.List.{Contains}
-use Rattle.std.proofs.Math.IntN.{pos-*ℤ-pos}
 use Rattle.std.proofs.lemmas.Bool.{eqb-true}
-use Rattle.std.proofs.lemmas.Int.{ints}
 use Rattle.std.proofs.lemmas.List.Elements.{Contains-append_left, Contains-append_right}
 use Rattle.ckc_base.specs.declared.places.Pos.{Pos}
 use Rattle.ckc_types.specs.declared.types.Kind.{Kind}
@@ -20,9 +18,9 @@ use Rattle.ckc_typed.specs.Conversions.{is_terminated_kind}
 use Rattle.ckc_typed.specs.Environment.{is_member_named}
 use Rattle.ckc_typed.specs.Layouts.{member_number}
 use Rattle.ckc_typed.specs.Trees.{NotedExpr}
-use Rattle.ckc_typed.specs.Types.{is_pointer, kind_of, element_of}
+use Rattle.ckc_typed.specs.Types.{kind_of, element_of}
 use Rattle.ckc_bounds_views.specs.declared.variables.Own.{Own}
-use Rattle.ckc_bounds_views.specs.Fresh.{is_checked, member_in, member_bounds}
+use Rattle.ckc_bounds_views.specs.Fresh.{is_checked, member_in}
 use Rattle.ckc_bounds_views.specs.Judged.{is_counted_kind}
 use Rattle.ckc_bounds_views.specs.Parts.{NodeView}
 use Rattle.ckc_bounds_views.specs.Ranges.{range_by_type, range_in_struct, range_of_member}
@@ -33,10 +31,9 @@ use Rattle.ckc_source.specs.declared.expr.Count.TheVariants as count
 use Rattle.ckc_source.specs.declared.expr.Integer.TheVariants.{Int}
 use Rattle.ckc_source.specs.declared.expr.Pointee.{Pointee}
 use Rattle.ckc_source.specs.declared.outcome.Halt.{Halt}
-use Rattle.ckc_source.specs.declared.outcome.Range.TheVariants.{Within}
 use Rattle.ckc_source.specs.declared.outcome.Value.{Value}
 use Rattle.ckc_source.specs.Code.{Expr, Member, Number}
-use Rattle.ckc_source.specs.Eval.{Store, given, element, element_through, exact_element, place_in, loads_pointer, evaluated}
+use Rattle.ckc_source.specs.Eval.{Store, given, element, element_through, place_in, loads_pointer, evaluated}
 use Rattle.ckc_source.specs.Runs.{is_true}
 use Rattle.ckc_source.specs.Words.{elements_behind}
 use Rattle.ckc_build_elaborate.specs.Shapes.{shapes_elaborated}
@@ -48,7 +45,6 @@ use Rattle.ckc_blame_sound.specs.Slots.{Slot, slot_by, slot_of_member, slots_in,
 use Rattle.ckc_blame_slots.specs.Cells.{IsReached}
 use Rattle.ckc_blame_slots.proofs.Objects.{are_members}
 use Rattle.ckc_blame_slots.proofs.Ranges.{contains_at}
-use Rattle.ckc_blame_slots.proofs.Reached.{itself_reached}
 use Rattle.ckc_blame_pointers.specs.Valuations.{Valuation, AreFresh, HasEnds}
 use Rattle.ckc_linear.specs.declared.forms.Form.{Form}
 use Rattle.ckc_blame_pointers.specs.Covered.{DeclareOnes, IsSoundStore, IsPointerArrow}
@@ -58,29 +54,11 @@ use Rattle.ckc_blame_pointers.proofs.Binary.{ExprClaims}
 use Rattle.ckc_blame_pointers.proofs.Elements.{IsRanged}
 use Rattle.ckc_blame_pointers.proofs.Loads.{IsTested, element_goes, exact_goes, exact_is, reached_by, tested_pointer}
 use Rattle.ckc_blame_pointers.proofs.Nodes.{NodeClaims}
-use Rattle.ckc_blame_pointers.proofs.Own.{fixed_reads, own_claims}
+use Rattle.ckc_blame_pointers.proofs.Own.{fixed_reads, own_claims, same_count}
 use Rattle.ckc_blame_pointers.proofs.Reading.{Ranged}
 use Rattle.ckc_blame_pointers.proofs.Structures.{IsWholeElement, whole_element}
-use Rattle.ckc_blame_pointers.proofs.Truths.{true_sized}
-
-nothing_behind : (n size : ℕ) → elements_behind n size (pos 0) ≡ pos n
-nothing_behind n size =
-    let product : pos size *ℤ pos 0 ≡ pos (size * 0) = pos-*ℤ-pos size 0 in
-    let none : size * 0 ≡ 0 = omega arith in
-    let product_is : pos size *ℤ pos 0 ≡ pos 0 = product ∙ ap pos none in
-    omega (arith, ints)
-
-same_number : (m n : ℕ) → pos m ≡ pos n → m ≡ n
-same_number m n e = omega (arith, ints)
-
-larger : (n size : ℕ) → 0 < size → n < n + size
-larger n size h = omega arith
-
-least : (n : ℕ) → n ≤ n
-least n = omega arith
-
-same_count : (c z : ℤ) → ◌≡◌ {A = Option _} (Some (count.Fixed c)) (Some (count.Fixed z)) → c ≡ z
-same_count c z e = cc
+use Rattle.ckc_blame_pointers.proofs.Truths.{first_reached}
+use Rattle.ckc_blame_pointers.proofs.Numbers.{nothing_behind, same_number}
 
 -- the slots of the first member that passes a test are among those of all, and it passes
 found_slot : (f : MemberShape → List Slot) (p : MemberShape → Bool) (ms : List MemberShape) (m : MemberShape) → find p ms ≡ Some m → (slot : Slot) → Contains (f m) slot → Contains (flat_map f ms) slot × (p m ≡ true)
@@ -218,9 +196,7 @@ module _ (s : Setting) (store : Store) (entry : List ℕ) (next : ℕ) (ready : 
       by a some is (inr points) =
           subst (λ b. IsNotStuck Made (got b)) (sym is)
           (at_range x.number x.number (x.number + size_behind s.text.layout e.note.ctype) x.number points
-          (itself_reached (pointee_of s.text.layout e.note.ctype) x.number x.number (x.number + size_behind s.text.layout e.note.ctype) (least x.number)
-          (larger x.number (size_behind s.text.layout e.note.ctype)
-          (true_sized (pointee_of s.text.layout e.note.ctype) x.number x.number (x.number + size_behind s.text.layout e.note.ctype) store.shapes store.blocks points))))
+          (first_reached store.shapes store.blocks (pointee_of s.text.layout e.note.ctype) x.number points))
 
   pub arrow_claims : IsNotStuck Made (evaluated store (Member to (count.Fixed c.elements) access v (Number 0)))
   arrow_claims =

@@ -1,6 +1,6 @@
 -- The claims of `*p` and `p[e]`, where an integer is read.
 use Rattle.std.proofs.Common.{◌≡◌, ◌⊎◌, inl, inr, refl, sym, ap, subst, ◌∙◌, ℕ, Bool, true, false, List, arith}
-use Rattle.std.specs.Prelude.{◌+◌, ◌==◌, ◌<◌, ◌^◌, ◌&&◌, not, if◌then◌else◌, ℤ, pos, ◌*ℤ◌, ◌*◌, IfSome, Option, None, Some, Ok}
+use Rattle.std.specs.Prelude.{◌+◌, ◌==◌, ◌<◌, ◌^◌, ◌&&◌, not, if◌then◌else◌, ℤ, pos, ◌*◌, IfSome, Option, None, Some, Ok}
 use Rattle.ckc_base.specs.declared.places.Pos.{Pos}
 use Rattle.ckc_types.specs.declared.types.Kind.TheVariants as kind
 use Rattle.ckc_types.specs.declared.types.CType.{CType}
@@ -38,13 +38,12 @@ use Rattle.ckc_blame_pointers.specs.Meant.{IsNotStuck}
 use Rattle.ckc_blame_pointers.proofs.Claims.{IsOfLocal, Placed, SideGoes, no_one, both_go_on, stays, not_placed}
 use Rattle.ckc_blame_pointers.proofs.Nodes.{NodeClaims}
 use Rattle.ckc_blame_pointers.proofs.Binary.{ExprClaims, wider_goes}
+use Rattle.ckc_blame_pointers.proofs.Numbers.{nothing_behind}
 use Rattle.ckc_blame_pointers.proofs.Moving.{still_fits, sum_at}
 use Rattle.ckc_blame_pointers.proofs.Sums.{IsIndex}
 use Rattle.ckc_blame_numbers.proofs.Claims.{plain_is}
 use Rattle.ckc_source.specs.declared.expr.Integer.TheVariants.{Int}
 use Rattle.ckc_bounds_points.specs.Forms.{sum_of_forms}
-use Rattle.std.proofs.Math.IntN.{pos-*ℤ-pos}
-use Rattle.std.proofs.lemmas.Int.{ints}
 use Rattle.ckc_blame_pointers.proofs.Wider.{place_widens}
 use Rattle.ckc_blame_pointers.proofs.Loads.{integer_part, element_is, IsTested, element_goes, reached_by, tested_pointer, part_loads}
 
@@ -90,13 +89,6 @@ module _ (s : Setting) (store : Store) (entry : List ℕ) (next : ℕ) (ready : 
               ∙ subst (λ o. IsAtPlace s store.locals (at_pointer x c).after e.note.ctype o x.number) there (at_pointer x c).place_is,
           subst (λ (o : Option Form). IfSome o (λ f. IsOfLocal s e.note.ctype f.base)) there (at_pointer x c).of_local,
         )
-      where
-        nothing_behind : (n size : ℕ) → elements_behind n size (pos 0) ≡ pos n
-        nothing_behind n size =
-            let product : pos size *ℤ pos 0 ≡ pos (size * 0) = pos-*ℤ-pos size 0 in
-            let same : size * 0 ≡ 0 = omega arith in
-            let product_is : pos size *ℤ pos 0 ≡ pos 0 = product ∙ ap pos same in
-            omega (arith, ints)
 
     -- and what `[` reads so many elements behind it
     pub element_aims : (x : Value) (c : ExprClaims s store entry here e x) (z : ℤ) (form : Option Form) → IsIndex s store.locals z form → (a : ℕ)

@@ -1,6 +1,6 @@
 -- A member of a structure is a part of it.
 use Rattle.std.proofs.Common.{◌≡◌, sym, ap, subst, ◌∙◌, ℕ, ◌+◌, rules, arith}
-use Rattle.std.specs.Prelude.{Option, None, Some}
+use Rattle.std.specs.Prelude.{Some}
 use Rattle.ckc_types.specs.declared.types.CType.{CType, CType-F, out-CType, the_lemmas}
 use Rattle.ckc_types.specs.declared.types.CType.TheVariants as ctype
 use Rattle.ckc_types.specs.declared.types.Structs.{Structs}

@@ -1,6 +1,6 @@
 -- A local that is a `_Ptr` points to one element.
-use Rattle.std.proofs.Common.{◌≡◌, ◌⊎◌, inl, inr, refl, sym, ap, subst, ◌∙◌, ℕ, ◌+◌, true, false, List, [], arith}
-use Rattle.std.specs.Prelude.{◌*◌, slice_index, ℤ, pos, ◌+ℤ◌, ◌*ℤ◌, Option, Some, None, Result, Ok, Err, IsOk}
+use Rattle.std.proofs.Common.{◌≡◌, ◌⊎◌, inl, inr, refl, ap, subst, ◌∙◌, ℕ, ◌+◌, true, false, List, [], arith}
+use Rattle.std.specs.Prelude.{◌*◌, slice_index, ℤ, pos, ◌+ℤ◌, ◌*ℤ◌, Some, Result, Ok, Err, IsOk}
 use Rattle.std.specs.List.{Contains}
 use Rattle.std.proofs.Math.IntN.{pos-*ℤ-pos}
 use Rattle.std.proofs.lemmas.Int.{ints}
@@ -8,7 +8,6 @@ use Rattle.ckc_types.specs.declared.types.Kind.TheVariants as kind
 use Rattle.ckc_linear.specs.declared.forms.Base.TheVariants as base
 use Rattle.ckc_linear.specs.declared.forms.Form.{Form}
 use Rattle.ckc_typed.specs.declared.environment.Globals.{Globals}
-use Rattle.ckc_typed.specs.declared.typed.Range.{Range}
 use Rattle.ckc_typed.specs.declared.typed.Range.TheVariants as range
 use Rattle.ckc_typed.specs.Types.{kind_of}
 use Rattle.ckc_bounds_points.specs.declared.frame.Local.{Local}
@@ -18,19 +17,20 @@ use Rattle.ckc_bounds_ranges.specs.Rows.{range_of_bounds, range_by, range_of_loc
 use Rattle.ckc_bounds_statements.specs.Paths.{Here}
 use Rattle.ckc_source.specs.declared.outcome.Halt.{Halt}
 use Rattle.ckc_source.specs.declared.outcome.Value.{Value}
-use Rattle.ckc_source.specs.Eval.{Store, reads, end_address}
+use Rattle.ckc_source.specs.Eval.{Store, end_address}
 use Rattle.ckc_source.specs.Runs.{is_true}
 use Rattle.ckc_source.specs.Words.{elements_behind}
 use Rattle.ckc_build_values.specs.Ends.{end_at}
 use Rattle.ckc_build_values.specs.Kinds.{pointee_of, size_behind}
 use Rattle.ckc_blame_sound.specs.Settings.{Setting}
-use Rattle.ckc_blame_sound.specs.Values.{value, number_of}
+use Rattle.ckc_blame_sound.specs.Values.{value}
 use Rattle.ckc_blame_sound.specs.Points.{IsReadable, IsBounded, HoldsAt}
 use Rattle.ckc_blame_numbers.specs.Typed.{Agrees}
-use Rattle.ckc_blame_pointers.specs.Valuations.{Valuation, address_by}
+use Rattle.ckc_blame_pointers.specs.Valuations.{Valuation}
 use Rattle.ckc_blame_pointers.specs.Covered.{IsLocalForm, DeclareLocals, DeclareOnes}
 use Rattle.ckc_blame_pointers.specs.Meant.{IsNotStuck}
 use Rattle.ckc_blame_pointers.proofs.Reading.{Ranged, Reads, reads_gives, end_is, range_local}
+use Rattle.ckc_blame_pointers.proofs.Numbers.{same_number}
 
 ok_gives : (P : Value → Type 0) (x : Result Value Halt) → IsOk x → IsNotStuck P x → (v : Value) × P v
 ok_gives P (Ok v) ok h = (v, h)
@@ -49,9 +49,6 @@ one_element n size =
     let same : size * 1 ≡ size = omega arith in
     let product_is : pos size *ℤ pos 1 ≡ pos size = product ∙ ap pos same in
     omega (arith, ints)
-
-same_number : (m n : ℕ) → pos m ≡ pos n → m ≡ n
-same_number m n e = omega (arith, ints)
 
 pub local_one : (globals : Globals) (s : Setting) → Agrees globals s → DeclareLocals s → DeclareOnes s → (store : Store) (entry : List ℕ) (here : Here) → HoldsAt s store entry here
     → (k : ℕ) (l : Local) → local_at s.frame k ≡ Some l → Contains here.seen k → kind_of l.ctype ≡ Some kind.One

@@ -1,16 +1,13 @@
 -- The claims of a pointer that stands for itself and has the bounds of its kind.
 use Rattle.std.proofs.Common.{◌≡◌, ◌⊎◌, inl, inr, refl, sym, ap, subst, ◌∙◌, ℕ, Bool, true, false, List, arith}
-use Rattle.std.specs.Prelude.{◌+◌, ◌*◌, ◌<◌, ◌≤◌, ◌^◌, ◌==◌, ◌&&◌, not, if◌then◌else◌, ℤ, pos, ◌+ℤ◌, ◌*ℤ◌, Option, None, Some, Result, Ok, Err, IsOk}
+use Rattle.std.specs.Prelude.{◌+◌, ◌<◌, ◌≤◌, ◌^◌, ◌&&◌, if◌then◌else◌, ℤ, pos, ◌+ℤ◌, Option, None, Some, IsOk}
 use Rattle.std.specs.Option.{option_or}
-use Rattle.std.proofs.Math.IntN.{pos-*ℤ-pos}
 use Rattle.std.proofs.lemmas.Int.{ints}
 use Rattle.ckc_base.specs.declared.arithmetic.Width.TheVariants.{Word}
 use Rattle.ckc_types.specs.declared.types.Kind.{Kind}
 use Rattle.ckc_types.specs.declared.types.Kind.TheVariants as kind
 use Rattle.ckc_types.specs.declared.types.CType.{CType}
 use Rattle.ckc_linear.specs.declared.forms.Base.TheVariants as base
-use Rattle.ckc_linear.specs.declared.forms.Form.{Form}
-use Rattle.ckc_typed.specs.declared.typed.Range.{Range}
 use Rattle.ckc_typed.specs.declared.typed.Range.TheVariants as range
 use Rattle.ckc_typed.specs.Types.{is_pointer, kind_of}
 use Rattle.ckc_bounds_points.specs.Forms.{base_form, constant_form}
@@ -20,6 +17,7 @@ use Rattle.ckc_bounds_views.specs.Parts.{NodeView, capped}
 use Rattle.ckc_bounds_views.specs.Places.{with_own, own_place, pointer_place}
 use Rattle.ckc_bounds_views.specs.Ranges.{range_by_type, own_numbers, pointer_range}
 use Rattle.ckc_bounds_statements.specs.Paths.{Here}
+use Rattle.ckc_source.specs.declared.expr.Count.{Count}
 use Rattle.ckc_source.specs.declared.expr.Count.TheVariants as count
 use Rattle.ckc_source.specs.declared.expr.Pointee.{Pointee}
 use Rattle.ckc_source.specs.declared.outcome.Value.{Value}
@@ -31,24 +29,18 @@ use Rattle.ckc_source.specs.Words.{elements_behind}
 use Rattle.ckc_build_values.specs.Kinds.{pointee_of, size_behind, count_of_kind}
 use Rattle.ckc_blame_sound.specs.Settings.{Setting}
 use Rattle.ckc_blame_sound.specs.Points.{HoldsAt}
-use Rattle.ckc_blame_pointers.specs.Valuations.{Valuation, address_by, HasEnds, IsInRange, RangeBelow}
+use Rattle.ckc_blame_pointers.specs.Valuations.{Valuation, address_by, IsInRange, RangeBelow}
 use Rattle.ckc_blame_pointers.specs.Meant.{IsNotStuck}
 use Rattle.ckc_blame_pointers.proofs.Claims.{Placed, SideGoes, weaker, stays}
 use Rattle.ckc_blame_pointers.proofs.Loads.{loaded_in}
 use Rattle.ckc_blame_pointers.proofs.Moving.{with_address, address_added, address_kept, at_base}
 use Rattle.ckc_blame_pointers.proofs.Nodes.{NodeClaims, narrow}
-use Rattle.ckc_blame_pointers.proofs.Reading.{Ranged, Reads, reads_gives}
+use Rattle.ckc_blame_pointers.proofs.Reading.{Ranged, reads_gives}
 use Rattle.ckc_blame_pointers.proofs.Rows.{pointer_word}
+use Rattle.ckc_blame_pointers.proofs.Numbers.{same_number, one_behind}
 
-same_number : (m n : ℕ) → pos m ≡ pos n → m ≡ n
-same_number m n e = omega (arith, ints)
-
-one_behind : (n size : ℕ) → elements_behind n size (pos 1) ≡ pos (n + size)
-one_behind n size =
-    let product : pos size *ℤ pos 1 ≡ pos (size * 1) = pos-*ℤ-pos size 1 in
-    let same : size * 1 ≡ size = omega arith in
-    let product_is : pos size *ℤ pos 1 ≡ pos size = product ∙ ap pos same in
-    omega (arith, ints)
+pub same_count : (c z : ℤ) → ◌≡◌ {A = Option Count} (Some (count.Fixed c)) (Some (count.Fixed z)) → c ≡ z
+same_count c z e = cc
 
 -- A pointer in memory that has a constant number of elements and may be read is a word, and null or in range.
 pub fixed_reads : (store : Store) → HoldBytes store.blocks → (to : Pointee) (c : ℤ) (begin a : ℕ) → IsOk (loads_pointer store to (count.Fixed c) begin a)

@@ -1,5 +1,5 @@
 -- The claims of a static pointer by its name.
-use Rattle.std.proofs.Common.{◌≡◌, ◌⊎◌, inl, inr, refl, sym, ap, subst, ◌∙◌, ℕ, Bool, true, false, List, [], ◌∷◌, arith}
+use Rattle.std.proofs.Common.{◌≡◌, ◌⊎◌, refl, sym, ap, subst, ◌∙◌, ℕ, Bool, true, false, List, [], ◌∷◌, arith}
 use Rattle.std.specs.Prelude.{◌+◌, ◌*◌, ◌<◌, ◌^◌, ◌||◌, slice_get, if◌then◌else◌, ℤ, pos, Option, None, Some, IsOk, is_some, is_none}
 use Rattle.std.specs.List.{Contains}
 use Rattle.ckc_base.specs.declared.places.Pos.{Pos}
@@ -38,7 +38,7 @@ use Rattle.ckc_build_values.specs.Names.{address_in, address_of, array_in, array
 use Rattle.ckc_build_values.specs.Places.{object_place, read_at}
 use Rattle.ckc_blame_sound.specs.Settings.{Setting}
 use Rattle.ckc_blame_sound.specs.Points.{HoldsAt}
-use Rattle.ckc_blame_sound.specs.Slots.{Slot, slot_by, slots_in, slots_of, IsFilled}
+use Rattle.ckc_blame_sound.specs.Slots.{Slot, slot_by, slots_in, slots_of}
 use Rattle.ckc_blame_slots.proofs.Ranges.{contains_at}
 use Rattle.ckc_blame_pointers.specs.Covered.{IsSoundStore, IsStaticPointer}
 use Rattle.ckc_blame_pointers.specs.Meant.{IsNotStuck}
@@ -46,7 +46,7 @@ use Rattle.ckc_blame_pointers.proofs.Arrays.{object_at}
 use Rattle.ckc_blame_pointers.proofs.Claims.{weaker, nothing_read}
 use Rattle.ckc_blame_pointers.proofs.Nodes.{NodeClaims}
 use Rattle.ckc_blame_pointers.proofs.Reading.{Ranged}
-use Rattle.ckc_blame_pointers.proofs.Own.{fixed_reads, own_claims}
+use Rattle.ckc_blame_pointers.proofs.Own.{fixed_reads, own_claims, same_count}
 use Rattle.ckc_blame_slots.specs.Cells.{IsCell, IsPart}
 use Rattle.ckc_blame_slots.proofs.Apart.{cell_there, cell_address}
 use Rattle.ckc_blame_slots.proofs.Objects.{object_cell}
@@ -62,9 +62,6 @@ not_member (Some kind.One) at f z e = absurd (cc)
 not_member (Some kind.Arr) at f z e = absurd (cc)
 not_member (Some kind.Nt) at f z e = absurd (cc)
 not_member None at f z e = absurd (cc)
-
-same_count : (c z : ℤ) → ◌≡◌ {A = Option Count} (Some (count.Fixed c)) (Some (count.Fixed z)) → c ≡ z
-same_count c z e = cc
 
 object_range : (o : Option (Option Bounds)) (t : CType) (n : ℕ) → is_declared_object o ≡ false → range_of_object o t n ≡ range_by_type (kind_of t) n
 object_range (Some (Some b)) t n e = absurd (cc)

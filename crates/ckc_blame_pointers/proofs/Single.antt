@@ -1,8 +1,6 @@
 -- The claims of what is read through a `_Ptr`: an integer, or one that is a member.
-use Rattle.std.proofs.Common.{◌≡◌, ◌⊎◌, inl, inr, refl, sym, ap, subst, ◌∙◌, ℕ, Bool, true, false, List, arith}
-use Rattle.std.specs.Prelude.{◌+◌, ◌==◌, ◌<◌, ◌≤◌, ◌*◌, ℤ, pos, ◌*ℤ◌, Option, Some, None, Ok}
-use Rattle.std.proofs.Math.IntN.{pos-*ℤ-pos}
-use Rattle.std.proofs.lemmas.Int.{ints}
+use Rattle.std.proofs.Common.{◌≡◌, ◌⊎◌, inl, inr, sym, ap, subst, ◌∙◌, ℕ, Bool, true, false, List}
+use Rattle.std.specs.Prelude.{◌+◌, Some}
 use Rattle.ckc_base.specs.declared.places.Pos.{Pos}
 use Rattle.ckc_types.specs.declared.types.Kind.TheVariants as kind
 use Rattle.ckc_types.specs.declared.types.CType.{CType}
@@ -18,13 +16,11 @@ use Rattle.ckc_source.specs.declared.outcome.Value.{Value}
 use Rattle.ckc_source.specs.Code.{Expr, Load, Number}
 use Rattle.ckc_source.specs.Eval.{Store, given, element, element_through, exact_element, place_in, loads, evaluated}
 use Rattle.ckc_source.specs.Runs.{is_true}
-use Rattle.ckc_source.specs.Words.{elements_behind}
 use Rattle.ckc_build_values.specs.Kinds.{width_of, through_kind, pointee_of, size_behind}
 use Rattle.ckc_blame_sound.specs.Settings.{Setting}
 use Rattle.ckc_blame_sound.specs.Points.{AreBounded, HoldsAt}
 use Rattle.ckc_blame_slots.specs.Cells.{IsPart}
-use Rattle.ckc_blame_slots.proofs.Reached.{itself_reached}
-use Rattle.ckc_blame_pointers.proofs.Truths.{true_sized}
+use Rattle.ckc_blame_pointers.proofs.Truths.{first_reached}
 use Rattle.ckc_blame_pointers.specs.Covered.{DeclareOnes, IsSoundStore}
 use Rattle.ckc_blame_pointers.specs.Meant.{IsNotStuck}
 use Rattle.ckc_blame_pointers.proofs.Claims.{goes_on}
@@ -32,22 +28,7 @@ use Rattle.ckc_blame_pointers.proofs.Nodes.{NodeClaims}
 use Rattle.ckc_blame_pointers.proofs.Binary.{ExprClaims}
 use Rattle.ckc_blame_pointers.proofs.Loads.{exact_goes, exact_is, part_loads}
 use Rattle.ckc_blame_pointers.proofs.Elements.{integer_read}
-
-nothing_behind : (n size : ℕ) → elements_behind n size (pos 0) ≡ pos n
-nothing_behind n size =
-    let product : pos size *ℤ pos 0 ≡ pos (size * 0) = pos-*ℤ-pos size 0 in
-    let none : size * 0 ≡ 0 = omega arith in
-    let product_is : pos size *ℤ pos 0 ≡ pos 0 = product ∙ ap pos none in
-    omega (arith, ints)
-
-same_number : (m n : ℕ) → pos m ≡ pos n → m ≡ n
-same_number m n e = omega (arith, ints)
-
-larger : (n size : ℕ) → 0 < size → n < n + size
-larger n size h = omega arith
-
-least : (n : ℕ) → n ≤ n
-least n = omega arith
+use Rattle.ckc_blame_pointers.proofs.Numbers.{nothing_behind, same_number}
 
 module _ (s : Setting) (store : Store) (entry : List ℕ) (next : ℕ) (ready : IsSoundStore s store next) (here : Here) (h : HoldsAt s store entry here) (e : NotedExpr) (single : kind_of e.note.ctype ≡ Some kind.One) (declared : DeclareOnes s) (place : Pos) (v : Expr)
     (left : IsNotStuck (ExprClaims s store entry here e) (evaluated store v)) (offset : ℕ) (u : CType) (part : IsPart s.text.layout (element_of e.note.ctype) offset (width_of u)) (integer : is_integer u ≡ true) where
@@ -77,7 +58,7 @@ module _ (s : Setting) (store : Store) (entry : List ℕ) (next : ℕ) (ready : 
       at_itself m a points is =
           subst (λ b. IsNotStuck (NodeClaims s store entry here h u n) (loads store (width_of u) (place_in b offset))) (sym is)
           (part_loads s store next ready.sound ready.names ready.shapes (NodeClaims s store entry here h u n) e.note.ctype m m (m + size_behind s.text.layout e.note.ctype) m offset u part points
-          (itself_reached (pointee_of s.text.layout e.note.ctype) m m (m + size_behind s.text.layout e.note.ctype) (least m) (larger m (size_behind s.text.layout e.note.ctype) (true_sized (pointee_of s.text.layout e.note.ctype) m m (m + size_behind s.text.layout e.note.ctype) store.shapes store.blocks points)))
+          (first_reached store.shapes store.blocks (pointee_of s.text.layout e.note.ctype) m points)
           (λ c there word. integer_read s store entry next ready here h u n integer known some same c word (λ z. narrow)))
 
       reads : (x : Value) (a : ℕ) → (x.number ≡ 0 → ⊥) → a ≡ x.number → (x.number ≡ 0) ⊎ Points x.number

@@ -1,6 +1,6 @@
 -- A structure that a true range reaches is an element of a block.
-use Rattle.std.proofs.Common.{◌≡◌, ◌⊎◌, inl, inr, ⊎_elim, refl, sym, ap, subst, ◌∙◌, ℕ, ◌+◌, ◌-◌, Bool, true, false, List, arith}
-use Rattle.std.specs.Prelude.{◌*◌, ◌<◌, ◌&&◌, ◌||◌, not, if◌then◌else◌, slice_get, nat_le, Option, Some}
+use Rattle.std.proofs.Common.{◌≡◌, ◌⊎◌, ⊎_elim, refl, sym, ap, subst, ◌∙◌, ℕ, ◌+◌, ◌-◌, Bool, true, false, List, arith}
+use Rattle.std.specs.Prelude.{◌*◌, ◌<◌, ◌&&◌, ◌||◌, not, if◌then◌else◌, slice_get, nat_le, Some}
 use Rattle.std.specs.List.{list_any, All}
 use Rattle.std.proofs.lemmas.Bool.{and_parts}
 use Rattle.std.proofs.lemmas.List.Elements.{All-contains}
@@ -20,6 +20,7 @@ use Rattle.ckc_blame_slots.proofs.Parts.{HasSize, sized_form, scalar_member}
 use Rattle.ckc_blame_slots.proofs.Places.{elements_between, fewer}
 use Rattle.ckc_blame_slots.proofs.Ranges.{Within, within, some_of, contains_at}
 use Rattle.ckc_blame_slots.proofs.Same.{same_equal}
+use Rattle.ckc_blame_pointers.proofs.Truths.{either}
 
 -- the element of a block of a type at an address
 pub record IsWholeElement (blocks : List Block) (u : CType) (a : ℕ) : Type 0 where
@@ -30,10 +31,6 @@ pub record IsWholeElement (blocks : List Block) (u : CType) (a : ℕ) : Type 0 w
   pub below : index < block.count
   pub address : a ≡ block.base + index * block.size
   pub element : block.element ≡ u
-
-either : (a b : Bool) → (a || b) ≡ true → (a ≡ true) ⊎ (b ≡ true)
-either true b h = inl refl
-either false b h = inr h
 
 module _ (p : Typed) (blocks : List Block) (to : Pointee) (sized : to.size ≡ size_of p.layout to.element) (tag : ℕ) (form : out-CType to.element ≡ CType-F.Struct tag) (bare : to.terminated ≡ false)
     (n low high a : ℕ) (r : IsReached to n low high a) where

@@ -1,6 +1,6 @@
 -- What a true range says.
-use Rattle.std.proofs.Common.{◌≡◌, ◌⊎◌, ⊎_elim, inl, inr, refl, ℕ, ◌+◌, ◌-◌, Bool, true, false, List, [], ◌∷◌}
-use Rattle.std.specs.Prelude.{◌*◌, ◌<◌, ◌&&◌, ◌||◌, not, if◌then◌else◌, nat_le}
+use Rattle.std.proofs.Common.{◌≡◌, ◌⊎◌, ⊎_elim, inl, inr, refl, ℕ, ◌+◌, ◌-◌, Bool, true, false, List, [], ◌∷◌, arith}
+use Rattle.std.specs.Prelude.{◌*◌, ◌<◌, ◌≤◌, ◌&&◌, ◌||◌, not, if◌then◌else◌, nat_le}
 use Rattle.std.specs.List.{list_any}
 use Rattle.ckc_types.specs.declared.types.CType.{CType}
 use Rattle.ckc_types.specs.Same.{same_type}
@@ -9,10 +9,12 @@ use Rattle.ckc_source.specs.declared.program.MemberRun.{MemberRun}
 use Rattle.ckc_source.specs.declared.program.Shape.{Shape}
 use Rattle.ckc_source.specs.Blocks.{Block, end_of}
 use Rattle.ckc_source.specs.Runs.{is_within, is_in_block, is_at, is_in_some_element, is_in_member, member_runs, is_in, is_true}
+use Rattle.ckc_blame_slots.specs.Cells.{IsReached}
+use Rattle.ckc_blame_slots.proofs.Reached.{itself_reached}
 use Rattle.ckc_blame_slots.proofs.Ranges.{within, some_below, some_of}
 use Rattle.std.proofs.lemmas.Bool.{and_parts}
 
-either : (a b : Bool) → (a || b) ≡ true → (a ≡ true) ⊎ (b ≡ true)
+pub either : (a b : Bool) → (a || b) ≡ true → (a ≡ true) ⊎ (b ≡ true)
 either true b h = inl refl
 either false b h = inr h
 
@@ -88,3 +90,13 @@ module _ (to : Pointee) (n low high : ℕ) where
       (λ h. block_sized b h)
       (λ h. let m = some_of (is_in_member to n low high b) (member_runs shapes b) (and_parts (not to.terminated) runs h).1 in member_sized b m.1 m.3)
       (either (is_in_block to n low high b) (not to.terminated && runs) s.1)
+
+-- The element at the begin of a true range is reached.
+pub first_reached : (shapes : List Shape) (blocks : List Block) (to : Pointee) (n : ℕ) → is_true shapes blocks to n n (n + to.size) ≡ true → IsReached to n n (n + to.size) n
+first_reached shapes blocks to n e = itself_reached to n n (n + to.size) (least n) (larger n to.size (true_sized to n n (n + to.size) shapes blocks e))
+  where
+    least : (n : ℕ) → n ≤ n
+    least n = omega arith
+
+    larger : (n size : ℕ) → 0 < size → n < n + size
+    larger n size h = omega arith
