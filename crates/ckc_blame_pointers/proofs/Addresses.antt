@@ -1,5 +1,5 @@
 -- The claims of `&*p` and `&p[e]`, which are those of p and of `p + e`, as pointers of another kind.
-use Rattle.std.proofs.Common.{◌≡◌, ◌⊎◌, inl, inr, ⊎_elim, refl, sym, ap, subst, ◌∙◌, ℕ, Bool, true, false, List, arith, rules}
+use Rattle.std.proofs.Common.{◌≡◌, inl, inr, ⊎_elim, refl, sym, ap, subst, ◌∙◌, ℕ, Bool, true, false, List, arith, rules}
 use Rattle.std.specs.Prelude.{◌+◌, ◌<◌, ◌≤◌, ◌^◌, ◌&&◌, if◌then◌else◌, pos, IfSome, Option, None, Some}
 use Rattle.std.specs.Option.{option_or}
 use Rattle.ckc_types.specs.declared.types.Kind.TheVariants as kind

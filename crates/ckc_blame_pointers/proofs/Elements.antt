@@ -1,6 +1,6 @@
 -- The claims of `*p` and `p[e]`, where an integer is read.
 use Rattle.std.proofs.Common.{◌≡◌, ◌⊎◌, inl, inr, refl, sym, ap, subst, ◌∙◌, ℕ, Bool, true, false, List, arith}
-use Rattle.std.specs.Prelude.{◌+◌, ◌==◌, ◌<◌, ◌^◌, ◌&&◌, not, if◌then◌else◌, ℤ, pos, ◌*◌, IfSome, Option, None, Some, Ok}
+use Rattle.std.specs.Prelude.{◌+◌, ◌==◌, ◌<◌, ◌^◌, ◌&&◌, not, if◌then◌else◌, ℤ, pos, IfSome, Option, None, Some, Ok}
 use Rattle.ckc_base.specs.declared.places.Pos.{Pos}
 use Rattle.ckc_types.specs.declared.types.Kind.TheVariants as kind
 use Rattle.ckc_types.specs.declared.types.CType.{CType}
