@@ -173,7 +173,8 @@ pub record IsIntegerMember (s : Setting) (u t : CType) (n : Name) : Type 0 where
 -- what `->` reads: an integer, through a checked pointer
 pub record IsArrow (s : Setting) (e : NotedExpr) (n : Name) (t : CType) : Type 0 where
   pub member : IsIntegerMember s (element_of e.note.ctype) t n
-  pub through : (is_counted_kind (kind_of e.note.ctype) ≡ true) ⊎ ((kind_of e.note.ctype ≡ Some kind.One) × DeclareOnes s)
+  pub through : (is_counted_kind (kind_of e.note.ctype) ≡ true)
+      ⊎ ((kind_of e.note.ctype ≡ Some kind.One) × DeclareOnes s)
 
 -- what else `->` reads: a `_Ptr` or an `_Nt_array_ptr` without bounds; the pointers that memory holds are in bounds
 pub record IsPointerArrow (s : Setting) (store : Store) (e : NotedExpr) (n : Name) (t : CType) : Type 0 where
@@ -205,14 +206,15 @@ IsCoveredUnary s op.Address e = IsAddressed (out-Node Name Note e.node)
 IsCoveredUnary s o e = IsArithmetic o
 
 -- The nodes of a type of which it is said what they come to: numbers, `sizeof`, `NULL`, locals in scope, static
--- integers, arrays and pointers, operators, `?:`, casts, integers that are read through pointers, what `->` reads, `&*p`
--- and `&p[e]`.
+-- integers, arrays and pointers, operators, `?:`, casts, integers that are read through pointers, what `->` reads,
+-- `&*p` and `&p[e]`.
 abbrev pub IsCoveredNode : Setting → Store → List ℕ → CType → NotedLayer → Type 0
 IsCoveredNode s store seen t (Node-F.Number n unsigned) = Unit {0}
 IsCoveredNode s store seen t (Node-F.Size w) = Unit {0}
 IsCoveredNode s store seen t Node-F.Null = Unit {0}
 IsCoveredNode s store seen t (Node-F.Name (name.Local k)) = IsInScope s seen k
-IsCoveredNode s store seen t (Node-F.Name (name.Static k)) = IsStaticInteger s t k ⊎ (IsStaticArray s t k ⊎ IsStaticPointer s store t k)
+IsCoveredNode s store seen t (Node-F.Name (name.Static k)) =
+    IsStaticInteger s t k ⊎ (IsStaticArray s t k ⊎ IsStaticPointer s store t k)
 IsCoveredNode s store seen t (Node-F.Un o e) = IsCoveredUnary s o e
 IsCoveredNode s store seen t (Node-F.Bin o e f) = Unit {0}
 IsCoveredNode s store seen t (Node-F.Pick e f g) = Unit {0}
@@ -223,8 +225,8 @@ IsCoveredNode s store seen t _ = ⊥
 
 -- Such an expression is no unchecked pointer, the size of what it points to is a word, and so is the number of its
 -- values.
-pub record IsCoveredExpr (s : Setting) (store : Store) (seen : List ℕ) (e : Expr-F Name Note NotedLimits NotedNode NotedExpr)
-    : Type 0 where
+pub record IsCoveredExpr (s : Setting) (store : Store) (seen : List ℕ)
+    (e : Expr-F Name Note NotedLimits NotedNode NotedExpr) : Type 0 where
   pub node : IsCoveredNode s store seen e.note.ctype (out-Node Name Note e.node)
   pub checked : is_raw_kind (kind_of e.note.ctype) ≡ false
   pub few : (view s.frame (record { node = e.node; pos = e.pos; note = e.note })).values + 1 < 2 ^ 32
