@@ -51,6 +51,7 @@ use Rattle.ckc_blame_pointers.specs.Meant.{IsNotStuck}
 use Rattle.ckc_blame_pointers.proofs.Claims.{Placed, SideGoes, stays, nothing_read}
 use Rattle.ckc_blame_pointers.proofs.Moving.{at_base}
 use Rattle.ckc_blame_pointers.proofs.Nodes.{NodeClaims, narrow}
+use Rattle.ckc_blame_numbers.proofs.Types.{some_is}
 use Rattle.ckc_blame_pointers.proofs.Rows.{pointer_word}
 use Rattle.ckc_blame_pointers.proofs.Widening.{any_at, within_tests}
 
@@ -94,7 +95,7 @@ type_same = ind-CType IsSame (λ x y is.
 
 -- ---- the block of an array
 
-object_at : (os : List Object) (bs : List Block) → AreObjects os bs → (k : ℕ) (o : Object) → slice_get os k ≡ Some o
+pub object_at : (os : List Object) (bs : List Block) → AreObjects os bs → (k : ℕ) (o : Object) → slice_get os k ≡ Some o
     → (b : Block) × (slice_get bs k ≡ Some b) × (b ≡ record (block_of o) { bytes = b.bytes })
 object_at [] bs h k o e = absurd cc
 object_at (c ∷ os) [] h k o e = absurd h
@@ -260,6 +261,7 @@ module _ (s : Setting) (store : Store) (entry : List ℕ) (next : ℕ) (ready : 
                 true_there = array_true;
               });
             }));
+        one = λ ones e. let same : c.kind ≡ kind.One = some_is c.kind kind.One (sym c.kind_is ∙ e) in let single : is_counted_kind (Some c.kind) ≡ false = ap (λ q. is_counted_kind (Some q)) same in let counted = c.counted in absurd (cc);
         zero = λ e. absurd (cc);
         wide = λ e. narrow s store entry here h node refl;
         sides = λ b e. subst (SideGoes s store entry here) (sym (nothing_read s store entry (λ facts. None) b here.at)) (stays s store entry here h);

@@ -1,15 +1,16 @@
 -- What is claimed of an expression, by what is said of it and by what it becomes.
-use Rattle.std.proofs.Common.{◌≡◌, refl, sym, ap, subst, ℕ, Bool, true, false, List}
+use Rattle.std.proofs.Common.{◌≡◌, ◌⊎◌, refl, sym, ap, subst, ℕ, Bool, true, false, List}
 use Rattle.std.specs.Prelude.{◌==◌, ◌<◌, ◌^◌, ◌+◌, IfSome, not, if◌then◌else◌, Option, None, Some, Result, Ok, Err}
 use Rattle.std.specs.Option.{option_or}
 use Rattle.ckc_types.specs.declared.types.Kind.{Kind}
-use Rattle.ckc_types.specs.declared.types.CType.{CType}
+use Rattle.ckc_types.specs.declared.types.Kind.TheVariants as kind
+use Rattle.ckc_types.specs.declared.types.CType.{CType, CType-F, out-CType}
 use Rattle.ckc_linear.specs.declared.forms.Base.{Base}
 use Rattle.ckc_linear.specs.declared.forms.Base.TheVariants as base
 use Rattle.ckc_linear.specs.declared.forms.Form.{Form}
 use Rattle.ckc_typed.specs.declared.typed.Range.{Range}
 use Rattle.ckc_typed.specs.declared.typed.Range.TheVariants as range
-use Rattle.ckc_typed.specs.Types.{is_pointer, element_of}
+use Rattle.ckc_typed.specs.Types.{is_pointer, is_pointer_form, kind_of, kind_in, element_of}
 use Rattle.ckc_bounds_points.specs.declared.frame.Local.{Local}
 use Rattle.ckc_bounds_points.specs.Frames.{local_at}
 use Rattle.ckc_bounds_points.specs.Shown.{Known}
@@ -23,10 +24,13 @@ use Rattle.ckc_source.specs.declared.outcome.Value.{Value}
 use Rattle.ckc_source.specs.declared.outcome.Halt.{Halt}
 use Rattle.ckc_source.specs.declared.outcome.Halt.TheVariants as halt
 use Rattle.ckc_source.specs.Eval.{Store, given, given_both}
+use Rattle.ckc_source.specs.Runs.{is_true}
+use Rattle.ckc_build_values.specs.Kinds.{pointee_of, size_behind}
 use Rattle.ckc_blame_sound.specs.Settings.{Setting}
 use Rattle.ckc_blame_sound.specs.Values.{AreTrue, IsWordOf}
 use Rattle.ckc_blame_sound.specs.Points.{AreBounded, HoldsAt}
-use Rattle.ckc_blame_pointers.specs.Valuations.{Valuation, Fits, AreFresh, Extends, IsAtPlace, IsInRange}
+use Rattle.ckc_blame_pointers.specs.Valuations.{Valuation, Fits, AreFresh, Extends, IsAtPlace, IsInRange, BaseBelow, RangeBelow}
+use Rattle.ckc_blame_pointers.specs.Covered.{DeclareOnes}
 use Rattle.ckc_blame_pointers.specs.Meant.{IsNotStuck}
 
 -- ---- evaluations that are not stuck
@@ -46,22 +50,29 @@ pub both_go_on : (P Q R : Value → Type 0) (x y : Result Value Halt) (f : Value
     → ((v w : Value) → x ≡ Ok v → y ≡ Ok w → P v → Q w → IsNotStuck R (f v w)) → IsNotStuck R (given_both x y f)
 both_go_on P Q R x y f h k next = goes_on P R x (λ v. given y (f v)) h (λ v is p. goes_on Q R y (f v) k (λ w there q. next v w is there p q))
 
--- a base is no value from a number on
-abbrev pub BaseBelow : ℕ → Option Base → Type 0
-BaseBelow limit (Some (base.Value n)) = n < limit
-BaseBelow limit _ = Unit {0}
-
--- nor are those of the ends of a range
-abbrev pub RangeBelow : ℕ → Range → Type 0
-RangeBelow limit (range.Known low high) = BaseBelow limit low.base × BaseBelow limit high.base
-RangeBelow limit _ = Unit {0}
-
 -- a base that is a local points to what the local points to
 abbrev pub IsOfLocal : Setting → CType → Option Base → Type 0
 IsOfLocal s t (Some (base.Local k)) = (l : Local) → local_at s.frame k ≡ Some l → element_of l.ctype ≡ element_of t
 IsOfLocal s t _ = Unit {0}
 
+not_one_in : (f : CType-F CType) → is_pointer_form f ≡ false → kind_in f ≡ Some kind.One → ⊥
+not_one_in (CType-F.Pointer k t) p e = absurd (cc)
+not_one_in CType-F.Int p e = absurd (cc)
+not_one_in CType-F.Unsigned p e = absurd (cc)
+not_one_in CType-F.Char p e = absurd (cc)
+not_one_in CType-F.Void p e = absurd (cc)
+not_one_in (CType-F.Struct tag) p e = absurd (cc)
+
 module _ (s : Setting) (store : Store) (entry : List ℕ) where
+  -- A `_Ptr` that is not null points to an element, if those of locals have the bounds of one.
+  abbrev pub IsOne : CType → ℕ → Type 0
+  IsOne t n =
+      DeclareOnes s → kind_of t ≡ Some kind.One
+      → (n ≡ 0) ⊎ (is_true store.shapes store.blocks (pointee_of s.text.layout t) n n (n + size_behind s.text.layout t) ≡ true)
+
+  pub no_one : (t : CType) (n : ℕ) → is_pointer t ≡ false → IsOne t n
+  no_one t n e ones one = absurd (not_one_in (out-CType t) e one)
+
   -- where a pointer is, by forms whose values have numbers below a limit, in numbers that begin here
   pub record Placed (here : Here) (t : CType) (limit : ℕ) (place : Option Form) (r : Range) (first fresh : ℕ) (before : Valuation) (p : Value) : Type 0 where
     pub after : Valuation
@@ -82,6 +93,7 @@ module _ (s : Setting) (store : Store) (entry : List ℕ) where
     pub word : IsWordOf t p.number
     pub placed : (first fresh : ℕ) (before : Valuation) → first + values + 1 < 2 ^ 32 → fresh < 2 ^ 32 → AreFresh s.frame fresh → Fits s.frame store.locals before
         → Placed here t (first + values) (place first here.at.facts) (r first fresh here.at) first fresh before p
+    pub one : IsOne t p.number
     pub zero : is_zero ≡ true → p.number ≡ 0
     pub wide : (p.number == 0) ≡ false → AreBounded s store (widening s.frame behind (target 0 here.at.facts) here.at).widened here.seen
     pub sides : (b : Bool) → (p.number == 0) ≡ not b → SideGoes here (side b here.at)

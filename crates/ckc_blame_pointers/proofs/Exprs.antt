@@ -5,6 +5,7 @@ use Rattle.ckc_base.specs.declared.places.Pos.{Pos}
 use Rattle.ckc_types.specs.declared.types.Kind.{Kind}
 use Rattle.ckc_types.specs.declared.types.Kind.TheVariants as kind
 use Rattle.ckc_types.specs.declared.types.CType.{CType}
+use Rattle.ckc_types.specs.declared.types.CType.TheVariants as ctype
 use Rattle.ckc_linear.specs.declared.forms.Form.{Form}
 use Rattle.ckc_syntax.specs.declared.tree.Name.{Name}
 use Rattle.ckc_syntax.specs.declared.tree.Name.TheVariants as name
@@ -18,7 +19,8 @@ use Rattle.ckc_typed.specs.declared.typed.Note.{Note}
 use Rattle.ckc_typed.specs.declared.typed.Range.TheVariants as range
 use Rattle.ckc_typed.specs.Constants.{size_of}
 use Rattle.ckc_typed.specs.Conversions.{is_null}
-use Rattle.ckc_typed.specs.Operands.{is_raw_kind, is_moved}
+use Rattle.ckc_typed.specs.Operands.{is_raw_kind, is_moved, arithmetic_type}
+use Rattle.ckc_typed.specs.Expressions.{address_kind, has_address}
 use Rattle.ckc_typed.specs.Trees.{NotedLimits, NotedNode, NotedExpr, NotedLayer}
 use Rattle.ckc_typed.specs.Types.{type_written, is_integer, is_pointer, is_void, kind_of, element_of}
 use Rattle.ckc_typed_welltyped.specs.Expressions.{AnyLimits, AnyNode}
@@ -26,7 +28,7 @@ use Rattle.ckc_typed_welltyped.proofs.Nodes.{node_of, node_rolled}
 use Rattle.ckc_bounds_points.specs.Flow.{State}
 use Rattle.ckc_bounds_ranges.specs.Rows.{range_of_local}
 use Rattle.ckc_bounds_views.specs.Parts.{LimitsView, NodeView, View, NodeOfViews, fresh_behind}
-use Rattle.ckc_bounds_views.specs.Conditions.{right_point, widening_side}
+use Rattle.ckc_bounds_views.specs.Conditions.{right_point, widening, widening_side}
 use Rattle.ckc_bounds_views.specs.Judged.{is_counted_kind, access_fault, fault_of_node, node_judged}
 use Rattle.ckc_bounds_views.specs.Ranges.{pointer_range}
 use Rattle.ckc_bounds_views.specs.Views.{limits_view, node_view, expr_view, view_of_limits, view_of_node, view}
@@ -37,9 +39,11 @@ use Rattle.ckc_source.specs.declared.expr.Integer.TheVariants.{Int}
 use Rattle.ckc_source.specs.Code.{Expr, Number}
 use Rattle.ckc_source.specs.Eval.{Store, evaluated}
 use Rattle.ckc_source.specs.Words.{exact, elements_behind}
-use Rattle.ckc_build_values.specs.Kinds.{integer_of, size_behind, count_of_kind}
-use Rattle.ckc_build_values.specs.Places.{element_place, target_place, read_at}
-use Rattle.ckc_build_values.specs.Expressions.{Part, NodePart, LimitsPart, local_in, limits_parts, node_parts, expr_parts, node_value, part_of, part_of_node, part_of_limits}
+use Rattle.ckc_typed.specs.Layouts.{member_number}
+use Rattle.ckc_build_values.specs.Kinds.{integer_of, width_of, size_behind, count_of_kind, tag_of}
+use Rattle.ckc_build_values.specs.Members.{offset_of, count_of_member}
+use Rattle.ckc_build_values.specs.Places.{element_place, target_place, member_place, read_at}
+use Rattle.ckc_build_values.specs.Expressions.{node_address, Part, NodePart, LimitsPart, local_in, limits_parts, node_parts, expr_parts, node_value, part_of, part_of_node, part_of_limits}
 use Rattle.ckc_build_values.specs.Operators.{of_operands}
 use Rattle.ckc_blame_sound.specs.Settings.{Setting}
 use Rattle.ckc_blame_sound.specs.Values.{AreTrue}
@@ -47,21 +51,28 @@ use Rattle.ckc_blame_sound.specs.Points.{HoldsAt}
 use Rattle.ckc_blame_numbers.specs.Typed.{IsRow, HasRow, IsTyped, Agrees}
 use Rattle.ckc_blame_numbers.proofs.Exprs as numbers
 use Rattle.ckc_blame_numbers.proofs.Holding.{form_exact, side_told}
-use Rattle.ckc_blame_numbers.proofs.Types.{IsWide, number_wide, size_wide}
+use Rattle.ckc_blame_numbers.proofs.Types.{no_pointer, IsWide, number_wide, size_wide}
 use Rattle.ckc_blame_pointers.specs.Valuations.{AreFresh, address_by}
-use Rattle.ckc_blame_pointers.specs.Covered.{DeclareLocals, IsSoundStore, IsElement, IsCoveredNode, IsCoveredExpr, IsCovered}
+use Rattle.ckc_blame_pointers.specs.Covered.{DeclareLocals, DeclareOnes, IsSoundStore, IsElement, IsSingle, IsArrow, IsPointerArrow, IsAddressed, IsCoveredNode, IsCoveredExpr, IsCovered}
 use Rattle.ckc_blame_pointers.specs.Meant.{IsNotStuck}
-use Rattle.ckc_blame_pointers.proofs.Claims.{Claims, holds_on}
+use Rattle.ckc_blame_pointers.proofs.Claims.{Claims, weaker, holds_on}
 use Rattle.ckc_blame_pointers.proofs.Forms.{form_known}
-use Rattle.ckc_blame_pointers.proofs.Inside.{EveryNode, PartsEvery, parts_every, node_every, node_out, one_part, two_parts, three_parts, IsJudged, judged_is}
+use Rattle.ckc_blame_pointers.proofs.Inside.{EveryNode, PartsEvery, parts_every, node_every, node_out, one_part, two_parts, three_parts, IsJudged, judged_is, operand_is}
 use Rattle.ckc_blame_pointers.proofs.Nodes.{NodeClaims}
 use Rattle.ckc_blame_pointers.proofs.Binary.{ExprClaims, other_claims, unequal_claims, and_claims, or_claims}
 use Rattle.ckc_blame_pointers.proofs.Sums.{IsIndex, capped_more, capped_small, fresh_on, sum_claims, difference_claims}
-use Rattle.ckc_blame_pointers.proofs.Elements.{at_pointer, IsRanged, ranged_pointer, Widens, target_aims, element_aims, element_claims, wide_terminated, narrow_array}
+use Rattle.ckc_blame_pointers.proofs.Elements.{at_pointer, IsRanged, ranged_pointer, WidensThere, target_aims, element_aims, element_claims, wide_terminated, narrow_there}
 use Rattle.ckc_blame_pointers.proofs.Claims.{IsOfLocal}
-use Rattle.ckc_blame_pointers.proofs.Loads.{no_count}
+use Rattle.ckc_blame_pointers.proofs.Loads.{integer_part, no_count}
+use Rattle.ckc_blame_slots.specs.Cells.{IsPart}
+use Rattle.ckc_blame_pointers.proofs.Addresses.{address_row, target_claims, index_claims}
+use Rattle.ckc_blame_pointers.proofs.Rows.{counted_pointer}
+use Rattle.ckc_blame_pointers.proofs.Arrows.{count_there, arrow_claims}
+use Rattle.ckc_blame_pointers.proofs.Members.{member_behind}
+use Rattle.ckc_blame_pointers.proofs.Single.{single_claims}
 use Rattle.ckc_blame_pointers.proofs.Statics.{static_claims}
 use Rattle.ckc_blame_pointers.proofs.Arrays.{array_claims}
+use Rattle.ckc_blame_pointers.proofs.Pointers.{pointer_claims}
 use Rattle.ckc_blame_pointers.proofs.Leaves.{number_claims, size_claims, null_claims, local_claims, minus_claims, plus_claims, flip_claims, not_claims, cast_claims, choice_claims}
 
 module _ (globals : Globals) (s : Setting) (agrees : Agrees globals s) (declares : DeclareLocals s) (store : Store) (entry : List ℕ) (next : ℕ) (ready : IsSoundStore s store next) where
@@ -70,15 +81,25 @@ module _ (globals : Globals) (s : Setting) (agrees : Agrees globals s) (declares
 
   record NodeHolds (n : NotedNode) : Type 0 where
     pub claims : (note : Note) (place : Pos) → IsRow globals s (out-Node Name Note n) note → EveryNode (HasRow globals s) n
-        → (here : Here) → EveryNode (IsCoveredExpr s here.seen) n → IsCoveredNode s here.seen note.ctype (out-Node Name Note n) → is_raw_kind (kind_of note.ctype) ≡ false
+        → (here : Here) → EveryNode (IsCoveredExpr s store here.seen) n → IsCoveredNode s store here.seen note.ctype (out-Node Name Note n) → is_raw_kind (kind_of note.ctype) ≡ false
         → (h : HoldsAt s store entry here) (fresh : ℕ) → fresh < 2 ^ 32 → AreFresh s.frame fresh → (view_of_node s.frame n).judged note.ctype fresh here.at ≡ Ok n
         → (view_of_node s.frame n).fault place fresh here.at ≡ None
         → (is_pointer note.ctype ≡ true → note.range ≡ pointer_range note.ctype (view_of_node s.frame n) 0 fresh here.at)
         → (k : ℕ) → IsNotStuck (NodeClaims s store entry here h note.ctype (view_of_node s.frame n)) (evaluated store ((part_of_node n).value note place s.text s.variables k))
+    -- the address of such a place
+    pub address : (note : Note) (place : Pos) → IsRow globals s (out-Node Name Note n) note → EveryNode (HasRow globals s) n
+        → (here : Here) → EveryNode (IsCoveredExpr s store here.seen) n → IsCoveredNode s store here.seen note.ctype (out-Node Name Note n) → IsAddressed (out-Node Name Note n)
+        → (h : HoldsAt s store entry here) (fresh : ℕ) → fresh < 2 ^ 32 → AreFresh s.frame fresh → (view_of_node s.frame n).judged note.ctype fresh here.at ≡ Ok n
+        → (r : CType) → is_pointer r ≡ true → kind_of r ≡ Some kind.Arr → element_of r ≡ note.ctype
+        → (k : ℕ) → IsNotStuck (NodeClaims s store entry here h r (node_view s.frame (Node-F.Un op.Address (expr_view (record { node = view_of_node s.frame n; pos = place; note = note })))))
+        (evaluated store ((part_of_node n).address note place s.text s.variables k))
 
   record ExprHolds (e : NotedExpr) : Type 0 where
-    pub claims : IsTyped globals s e → (here : Here) → IsCovered s here.seen e → HoldsAt s store entry here → (fresh : ℕ) → fresh < 2 ^ 32 → AreFresh s.frame fresh → (view s.frame e).judged fresh here.at ≡ Ok e
+    pub claims : IsTyped globals s e → (here : Here) → IsCovered s store here.seen e → HoldsAt s store entry here → (fresh : ℕ) → fresh < 2 ^ 32 → AreFresh s.frame fresh → (view s.frame e).judged fresh here.at ≡ Ok e
         → (k : ℕ) → IsNotStuck (ExprClaims s store entry here e) (evaluated store ((part_of e).value s.text s.variables k))
+    pub address : IsTyped globals s e → (here : Here) → IsCovered s store here.seen e → IsAddressed (out-Node Name Note e.node) → (h : HoldsAt s store entry here) (fresh : ℕ) → fresh < 2 ^ 32 → AreFresh s.frame fresh
+        → (view s.frame e).operand fresh here.at ≡ Ok e → (r : CType) → is_pointer r ≡ true → kind_of r ≡ Some kind.Arr → element_of r ≡ e.note.ctype
+        → (k : ℕ) → IsNotStuck (NodeClaims s store entry here h r (node_view s.frame (Node-F.Un op.Address (view s.frame e)))) (evaluated store ((part_of e).address s.text s.variables k))
 
   abbrev KeptLimits : Type 0
   KeptLimits = (l : NotedLimits) × AnyLimitsHold l
@@ -144,7 +165,7 @@ module _ (globals : Globals) (s : Setting) (agrees : Agrees globals s) (declares
     abbrev Made : NotedLayer → Note → Pos → ℕ → Type 0
     Made x note place k = IsNotStuck (NodeClaims s store entry here h note.ctype (node_view s.frame (viewed_node x))) (evaluated store (node_value (part_node x) note place s.text s.variables k))
 
-    module _ (e f : KeptExpr) (typed : IsTyped globals s e.0 × IsTyped globals s f.0) (covered : IsCovered s here.seen e.0 × IsCovered s here.seen f.0) (fresh : ℕ) (little : fresh < 2 ^ 32) (are : AreFresh s.frame fresh)
+    module _ (e f : KeptExpr) (typed : IsTyped globals s e.0 × IsTyped globals s f.0) (covered : IsCovered s store here.seen e.0 × IsCovered s store here.seen f.0) (fresh : ℕ) (little : fresh < 2 ^ 32) (are : AreFresh s.frame fresh)
         (k : ℕ) where
       abbrev v : Expr
       v = (part_of e.0).value s.text s.variables k
@@ -185,12 +206,16 @@ module _ (globals : Globals) (s : Setting) (agrees : Agrees globals s) (declares
       binary_step o note place row checked sized left right =
           other_claims s store entry here h s.text.layout e.0 f.0 note.ctype place v w (left_claims left) (is_null e.0) (is_null f.0) o refl refl row.row (right_claims here.at right h)
 
-    covered_few : (e : NotedExpr) → IsCovered s here.seen e → (view s.frame e).values + 1 < 2 ^ 32
-    covered_few e c = (every_here-Expr Name Note AnyLimits AnyNode (IsCoveredExpr s here.seen) e c).few
+    covered_few : (e : NotedExpr) → IsCovered s store here.seen e → (view s.frame e).values + 1 < 2 ^ 32
+    covered_few e c = (every_here-Expr Name Note AnyLimits AnyNode (IsCoveredExpr s store here.seen) e c).few
 
     some_if : (b : Bool) (t r : CType) → ◌≡◌ {A = Option CType} (if b then Some t else None) (Some r) → t ≡ r
     some_if true t r e = cc
     some_if false t r e = absurd (cc)
+
+    true_if : (b : Bool) (t r : CType) → ◌≡◌ {A = Option CType} (if b then Some t else None) (Some r) → b ≡ true
+    true_if true t r e = refl
+    true_if false t r e = absurd (cc)
 
     -- `*p` and `p[e]`
     read_claims : (n : NodeOfViews) (e : KeptExpr) → IsElement e.0 → (place : Pos) (index : Integer) (v w : Expr) (R : Value → Type 0) → IsNotStuck (ExprClaims s store entry here e.0) (evaluated store v)
@@ -205,8 +230,8 @@ module _ (globals : Globals) (s : Setting) (agrees : Agrees globals s) (declares
     read_claims n e node place index v w R left right few fresh little are fault known some same behind aims =
         subst (λ x. IsNotStuck (NodeClaims s store entry here h (element_of e.0.note.ctype) (node_view s.frame n)) (evaluated store x))
         (sym (ap (λ o. read_at s.text.layout (element_of e.0.note.ctype) o (element_place s.text.layout e.0.note.ctype place index v w)) (no_count (element_of e.0.note.ctype) node.integer)))
-        (element_claims s store entry next ready here h e.0 fresh few little are place index v w R left right counted node.integer
-        ranged (node_view s.frame n) known some same (widens (kind_of e.0.note.ctype) refl counted))
+        (element_claims s store entry next ready here h e.0 fresh few little are place index v w R left right counted
+        ranged 0 (element_of e.0.note.ctype) (integer_part s.text.layout (element_of e.0.note.ctype) node.integer) node.integer (node_view s.frame n) known some same (widens (kind_of e.0.note.ctype) refl counted))
       where
         counted : is_counted_kind (kind_of e.0.note.ctype) ≡ true
         counted = node.counted
@@ -215,8 +240,10 @@ module _ (globals : Globals) (s : Setting) (agrees : Agrees globals s) (declares
         ranged = ranged_pointer s store entry next ready here h e.0 fresh few little are place (ap is_counted_kind (ap kind_of (viewed_type e.0)) ∙ counted) fault
 
         widens : (q : Option Kind) → kind_of e.0.note.ctype ≡ q → is_counted_kind q ≡ true
-            → Widens s store entry next ready here h e.0 fresh few little are place index v w R left right counted node.integer ranged (node_view s.frame n)
-        widens (Some kind.Arr) is c = narrow_array s store entry next ready here h e.0 fresh few little are place index v w R left right counted node.integer ranged (node_view s.frame n) (behind ∙ is)
+            → WidensThere s store entry next ready here h e.0 fresh few little are place index v w R left right counted node.integer ranged (node_view s.frame n)
+        widens (Some kind.Arr) is c =
+            narrow_there s store entry next ready here h e.0 fresh few little are place index v w R left right counted ranged 0 (element_of e.0.note.ctype)
+            (integer_part s.text.layout (element_of e.0.note.ctype) node.integer) (node_view s.frame n) (ap (λ q. widening s.frame q ((node_view s.frame n).target 0 here.at.facts) here.at) (behind ∙ is))
         widens (Some kind.Nt) is c =
             wide_terminated s store entry next ready here h e.0 fresh few little are place index v w R left right counted node.integer ranged globals agrees declares (node_view s.frame n) (behind ∙ is)
             (λ x j c d there a at f target. aims x c j there a at f target)
@@ -224,11 +251,11 @@ module _ (globals : Globals) (s : Setting) (agrees : Agrees globals s) (declares
         widens (Some kind.Raw) is c = absurd (cc)
         widens None is c = absurd (cc)
 
-    covered_sized : (e : NotedExpr) → IsCovered s here.seen e → size_behind s.text.layout e.note.ctype < 2 ^ 32
-    covered_sized e c = (every_here-Expr Name Note AnyLimits AnyNode (IsCoveredExpr s here.seen) e c).sized
+    covered_sized : (e : NotedExpr) → IsCovered s store here.seen e → size_behind s.text.layout e.note.ctype < 2 ^ 32
+    covered_sized e c = (every_here-Expr Name Note AnyLimits AnyNode (IsCoveredExpr s store here.seen) e c).sized
 
     node_step : (y : Node-F Name Note KeptLimits KeptNode KeptExpr) (note : Note) (place : Pos) → IsRow globals s (inner_node y) note → PartsEvery (HasRow globals s) (inner_node y)
-        → PartsEvery (IsCoveredExpr s here.seen) (inner_node y) → IsCoveredNode s here.seen note.ctype (inner_node y) → is_raw_kind (kind_of note.ctype) ≡ false
+        → PartsEvery (IsCoveredExpr s store here.seen) (inner_node y) → IsCoveredNode s store here.seen note.ctype (inner_node y) → is_raw_kind (kind_of note.ctype) ≡ false
         → (fresh : ℕ) → fresh < 2 ^ 32 → AreFresh s.frame fresh → fault_of_node s.frame (viewed_node (inner_node y)) place fresh here.at ≡ None → node_judged s.frame (viewed_node (inner_node y)) note.ctype fresh here.at ≡ Ok (node_of (inner_node y))
         → (is_pointer note.ctype ≡ true → note.range ≡ pointer_range note.ctype (node_view s.frame (viewed_node (inner_node y))) 0 fresh here.at)
         → (k : ℕ) → Made (inner_node y) note place k
@@ -249,7 +276,7 @@ module _ (globals : Globals) (s : Setting) (agrees : Agrees globals s) (declares
         noted_is : is_pointer note.ctype ≡ true → note.range ≡ range_of_local s.frame j here.at.widened
         noted_is p = noted p ∙ ap (λ b. if b then range_of_local s.frame j here.at.widened else range.Missing) p
     node_step (Node-F.Name (name.Static j)) note place row typed covered node checked fresh little are fault judged noted k =
-        ⊎_elim (λ c. static_claims s store entry next ready here h note.ctype j c place) (λ c. array_claims s store entry next ready here h note.ctype j c place) node
+        ⊎_elim (λ c. static_claims s store entry next ready here h note.ctype j c place) (λ c. ⊎_elim (λ c. array_claims s store entry next ready here h note.ctype j c place) (λ c. pointer_claims s store entry next ready here h note.ctype j c place) c) node
     node_step (Node-F.Un op.Minus e) note place row typed covered node checked fresh little are fault judged noted k =
         minus_claims s store entry here h e.0 note.ctype place ((part_of e.0).value s.text s.variables k)
         (e.1.claims typed here covered h fresh little are (one_part (λ a. Node-F.Un op.Minus a) (λ a b e. cc) _ e.0 judged) k) row.row
@@ -279,10 +306,7 @@ module _ (globals : Globals) (s : Setting) (agrees : Agrees globals s) (declares
         cast_claims s store entry here h e.0 note.ctype place ((part_of e.0).value s.text s.variables k)
         (e.1.claims typed here covered h fresh little are (one_part (λ a. Node-F.Cast w a) (λ a b e. cc) _ e.0 judged) k) w (type_written w) (part_of e.0).ctype (is_null e.0) row.row.1 checked row.row.0
     node_step (Node-F.Un op.Deref e) note place row typed covered node checked fresh little are fault judged noted k =
-        subst (λ t. Of t (part_of e.0).ctype) is (subst (λ u. Of (element_of e.0.note.ctype) u) (sym (parted_type e.0))
-        (read_claims (Node-F.Un op.Deref (view s.frame e.0)) e node place Int ((part_of e.0).value s.text s.variables k) (Number 0) (λ x. Unit {0})
-        (e.1.claims typed here covered h fresh little are (one_part (λ a. Node-F.Un op.Deref a) (λ a b e. cc) _ e.0 judged) k) tt (covered_few e.0 covered) fresh little are fault
-        refl refl (λ b. refl) (ap kind_of (viewed_type e.0)) (λ x c j there a at f target. target_aims s store entry next ready here h e.0 fresh (covered_few e.0 covered) little are x c j there a at f target)))
+        subst (λ t. Of t (part_of e.0).ctype) is (subst (λ u. Of (element_of e.0.note.ctype) u) (sym (parted_type e.0)) (⊎_elim several single node))
       where
         is : element_of e.0.note.ctype ≡ note.ctype
         is = some_if (is_pointer e.0.note.ctype && not (is_void (element_of e.0.note.ctype))) (element_of e.0.note.ctype) note.ctype row.row
@@ -290,6 +314,26 @@ module _ (globals : Globals) (s : Setting) (agrees : Agrees globals s) (declares
         Of : CType → CType → Type 0
         Of t u = IsNotStuck (NodeClaims s store entry here h t (node_view s.frame (Node-F.Un op.Deref (view s.frame e.0))))
             (evaluated store (read_at s.text.layout t (count_of_kind (kind_of t)) (target_place s.text.layout u place ((part_of e.0).value s.text s.variables k))))
+
+        inside : IsNotStuck (ExprClaims s store entry here e.0) (evaluated store ((part_of e.0).value s.text s.variables k))
+        inside = e.1.claims typed here covered h fresh little are (one_part (λ a. Node-F.Un op.Deref a) (λ a b e. cc) _ e.0 judged) k
+
+        single : IsSingle s e.0 → Of (element_of e.0.note.ctype) e.0.note.ctype
+        single node =
+            subst (λ x. IsNotStuck (NodeClaims s store entry here h (element_of e.0.note.ctype) (node_view s.frame (Node-F.Un op.Deref (view s.frame e.0)))) (evaluated store x))
+            (sym (ap (λ o. read_at s.text.layout (element_of e.0.note.ctype) o (target_place s.text.layout e.0.note.ctype place ((part_of e.0).value s.text s.variables k))) (no_count (element_of e.0.note.ctype) node.integer)))
+            (single_claims s store entry next ready here h e.0 node.single node.declared place ((part_of e.0).value s.text s.variables k) inside 0 (element_of e.0.note.ctype)
+            (integer_part s.text.layout (element_of e.0.note.ctype) node.integer) node.integer (node_view s.frame (Node-F.Un op.Deref (view s.frame e.0)))
+            refl refl (λ b. refl) (ap (λ q. widening s.frame q ((view s.frame e.0).place 0 here.at.facts) here.at) (ap kind_of (viewed_type e.0) ∙ node.single)))
+
+        several : IsElement e.0 → Of (element_of e.0.note.ctype) e.0.note.ctype
+        several node =
+            read_claims (Node-F.Un op.Deref (view s.frame e.0)) e node place Int ((part_of e.0).value s.text s.variables k) (Number 0) (λ x. Unit {0})
+            inside tt (covered_few e.0 covered) fresh little are fault
+            refl refl (λ b. refl) (ap kind_of (viewed_type e.0)) (λ x c j there a at f target. target_aims s store entry next ready here h e.0 fresh (covered_few e.0 covered) little are x c j there a at f target)
+    node_step (Node-F.Un op.Address e) note place row typed covered node checked fresh little are fault judged noted k =
+        let t = address_row row.mode e.0.note.ctype note.ctype (some_if (has_address globals e.0) (ctype.Pointer (address_kind row.mode) e.0.note.ctype) note.ctype row.row) checked in
+        e.1.address typed here covered node h fresh little are (one_part (λ a. Node-F.Un op.Address a) (λ a b e. cc) _ e.0 judged) note.ctype t.0 t.1 t.2 k
     node_step (Node-F.Index e f) note place row typed covered node checked fresh little are fault judged noted k =
         let parts = two_parts (λ a b. Node-F.Index a b) (λ a b c d e. (cc, cc)) _ _ e.0 f.0 judged in
         subst (λ t. Of t (part_of e.0).ctype (part_of f.0).ctype) is (subst (λ u. Of (element_of e.0.note.ctype) u (part_of f.0).ctype) (sym (parted_type e.0)) (subst (λ q. Of (element_of e.0.note.ctype) e.0.note.ctype q) (sym (parted_type f.0))
@@ -300,7 +344,7 @@ module _ (globals : Globals) (s : Setting) (agrees : Agrees globals s) (declares
         (covered_few e.0 covered.0) fresh little are fault refl refl (λ b. refl) (ap kind_of (viewed_type e.0))
         (λ x c j there a at g target. element_aims s store entry next ready here h e.0 fresh (covered_few e.0 covered.0) little are x c (exact (integer_of f.0.note.ctype) j.number) ((view s.frame f.0).form here.at.facts)
         (index_of here h f.0 typed.1 (k + (part_of e.0).literals) j there) a at (is_raw_kind (kind_of (view s.frame e.0).ctype))
-        (ap is_raw_kind (ap kind_of (viewed_type e.0)) ∙ (every_here-Expr Name Note AnyLimits AnyNode (IsCoveredExpr s here.seen) e.0 covered.0).checked) g target))))
+        (ap is_raw_kind (ap kind_of (viewed_type e.0)) ∙ (every_here-Expr Name Note AnyLimits AnyNode (IsCoveredExpr s store here.seen) e.0 covered.0).checked) g target))))
       where
         is : element_of e.0.note.ctype ≡ note.ctype
         is = some_if (is_moved e.0.note.ctype && is_integer f.0.note.ctype) (element_of e.0.note.ctype) note.ctype row.row
@@ -309,7 +353,106 @@ module _ (globals : Globals) (s : Setting) (agrees : Agrees globals s) (declares
         Of t u q = IsNotStuck (NodeClaims s store entry here h t (node_view s.frame (Node-F.Index (view s.frame e.0) (view s.frame f.0))))
             (evaluated store (read_at s.text.layout t (count_of_kind (kind_of t))
             (element_place s.text.layout u place (integer_of q) ((part_of e.0).value s.text s.variables k) ((part_of f.0).value s.text s.variables (k + (part_of e.0).literals)))))
+    node_step (Node-F.Arrow e n spot) note place row typed covered node checked fresh little are fault judged noted k =
+        subst Of (sym (parted_type e.0)) (⊎_elim number address node)
+      where
+        made : NodeView
+        made = node_view s.frame (Node-F.Arrow (view s.frame e.0) n spot)
+
+        v : Expr
+        v = (part_of e.0).value s.text s.variables k
+
+        tag : ℕ
+        tag = tag_of (element_of e.0.note.ctype)
+
+        Of : CType → Type 0
+        Of u = IsNotStuck (NodeClaims s store entry here h note.ctype made)
+            (evaluated store (read_at s.text.layout note.ctype (count_of_member s.text.layout (tag_of (element_of u)) n) (member_place s.text.layout (tag_of (element_of u)) n (target_place s.text.layout u place v))))
+
+        Read : Type 0
+        Read = IsNotStuck (NodeClaims s store entry here h note.ctype made) (evaluated store (read_at s.text.layout note.ctype None (member_place s.text.layout tag n (target_place s.text.layout e.0.note.ctype place v))))
+
+        inside : IsNotStuck (ExprClaims s store entry here e.0) (evaluated store v)
+        inside = e.1.claims typed here covered h fresh little are (one_part (λ a. Node-F.Arrow a n spot) (λ a b e. cc) _ e.0 judged) k
+
+        ranged : is_counted_kind (kind_of e.0.note.ctype) ≡ true → (x : Value) → ExprClaims s store entry here e.0 x → IsRanged s store entry next ready here h e.0 fresh (covered_few e.0 covered) little are x
+        ranged counted = ranged_pointer s store entry next ready here h e.0 fresh (covered_few e.0 covered) little are place (ap is_counted_kind (ap kind_of (viewed_type e.0)) ∙ counted) fault
+
+        part : IsArrow s e.0 n note.ctype → IsPart s.text.layout (element_of e.0.note.ctype) (0 + offset_of s.text.layout tag (member_number n)) (width_of note.ctype)
+        part node = member_behind s.text.layout (element_of e.0.note.ctype) n note.ctype node.member.number node.member.named node.member.there
+
+        single : IsArrow s e.0 n note.ctype → (kind_of e.0.note.ctype ≡ Some kind.One) × DeclareOnes s → Read
+        single node one = single_claims s store entry next ready here h e.0 one.0 one.1 place v inside (0 + offset_of s.text.layout tag (member_number n)) note.ctype (part node) node.member.integer made refl refl (λ b. refl) refl
+
+        several : IsArrow s e.0 n note.ctype → is_counted_kind (kind_of e.0.note.ctype) ≡ true → Read
+        several node counted =
+            element_claims s store entry next ready here h e.0 fresh (covered_few e.0 covered) little are place Int v (Number 0) (λ x. Unit {0}) inside tt counted (ranged counted)
+            (0 + offset_of s.text.layout tag (member_number n)) note.ctype (part node) node.member.integer made refl refl (λ b. refl)
+            (narrow_there s store entry next ready here h e.0 fresh (covered_few e.0 covered) little are place Int v (Number 0) (λ x. Unit {0}) inside tt counted (ranged counted)
+            (0 + offset_of s.text.layout tag (member_number n)) note.ctype (part node) made refl)
+
+        address : IsPointerArrow s store e.0 n note.ctype → Of e.0.note.ctype
+        address node =
+            subst (λ x. IsNotStuck (NodeClaims s store entry here h note.ctype made) (evaluated store x))
+            (sym (ap (λ o. read_at s.text.layout note.ctype o (member_place s.text.layout tag n (target_place s.text.layout e.0.note.ctype place v)))
+            (count_there s store entry next ready here h e.0 n spot note.ctype node (viewed_type e.0) fresh (covered_few e.0 covered) little are place v inside ranged)))
+            (arrow_claims s store entry next ready here h e.0 n spot note.ctype node (viewed_type e.0) fresh (covered_few e.0 covered) little are place v inside ranged)
+
+        number : IsArrow s e.0 n note.ctype → Of e.0.note.ctype
+        number node =
+            subst (λ x. IsNotStuck (NodeClaims s store entry here h note.ctype made) (evaluated store x))
+            (sym (ap (λ o. read_at s.text.layout note.ctype o (member_place s.text.layout tag n (target_place s.text.layout e.0.note.ctype place v))) node.member.bare)) (⊎_elim (several node) (single node) node.through)
     node_step y note place row typed covered node checked fresh little are fault judged noted k = absurd node
+
+    -- ---- the address of a place
+
+    address_step : (y : Node-F Name Note KeptLimits KeptNode KeptExpr) (note : Note) (place : Pos) → IsRow globals s (inner_node y) note → PartsEvery (HasRow globals s) (inner_node y)
+        → PartsEvery (IsCoveredExpr s store here.seen) (inner_node y) → IsCoveredNode s store here.seen note.ctype (inner_node y) → IsAddressed (inner_node y)
+        → (fresh : ℕ) → fresh < 2 ^ 32 → AreFresh s.frame fresh → node_judged s.frame (viewed_node (inner_node y)) note.ctype fresh here.at ≡ Ok (node_of (inner_node y))
+        → (r : CType) → is_pointer r ≡ true → kind_of r ≡ Some kind.Arr → element_of r ≡ note.ctype
+        → (k : ℕ) → IsNotStuck (NodeClaims s store entry here h r (node_view s.frame (Node-F.Un op.Address (expr_view (record { node = node_view s.frame (viewed_node (inner_node y)); pos = place; note = note })))))
+        (evaluated store (node_address (part_node (inner_node y)) note place s.text s.variables k))
+    address_step (Node-F.Un op.Deref e) note place row typed covered node addressed fresh little are judged r pointer array element k =
+        weaker (evaluated store ((part_of e.0).value s.text s.variables k)) (e.1.claims typed here covered h fresh little are (one_part (λ a. Node-F.Un op.Deref a) (λ a b e. cc) _ e.0 judged) k)
+        (λ x there c. target_claims s store entry here h e.0 note place bare r pointer array (element ∙ sym is) x c)
+      where
+        is : element_of e.0.note.ctype ≡ note.ctype
+        is = some_if (is_pointer e.0.note.ctype && not (is_void (element_of e.0.note.ctype))) (element_of e.0.note.ctype) note.ctype row.row
+
+        bare : is_pointer note.ctype ≡ false
+        bare = no_pointer note.ctype (subst (λ t. is_integer t ≡ true) is (⊎_elim (λ (n : IsElement e.0). n.integer) (λ (n : IsSingle s e.0). n.integer) node))
+    address_step (Node-F.Index e f) note place row typed covered node addressed fresh little are judged r pointer array element k =
+        let parts = two_parts (λ a b. Node-F.Index a b) (λ a b c d e. (cc, cc)) _ _ e.0 f.0 judged in
+        let small = covered_sized e.0 covered.0 in
+        subst (λ t. Of t (part_of f.0).ctype) (sym (parted_type e.0)) (subst (λ u. Of e.0.note.ctype u) (sym (parted_type f.0))
+        (weaker (evaluated store (of_operands s.text.layout op.Add e.0.note.ctype f.0.note.ctype place v w))
+        (sum_claims s store entry here h e.0 f.0 e.0.note.ctype place v w (left_claims e f typed covered fresh little are k parts.0) (right_claims e f typed covered fresh little are k here.at parts.1 h) (viewed_type e.0)
+        (λ x is. index_of here h e.0 typed.0 k x is) (λ x is. index_of here h f.0 typed.1 (k + (part_of e.0).literals) x is) checked
+        (ap (λ b. if b then Some e.0.note.ctype else (if is_integer e.0.note.ctype && is_moved f.0.note.ctype then Some f.0.note.ctype else arithmetic_type e.0.note.ctype f.0.note.ctype)) moved))
+        (λ x there c. index_claims s store entry here h e.0 note place bare r pointer array (element ∙ sym is) f.0 (counted_pointer e.0.note.ctype node.counted) checked (viewed_type e.0) x c)))
+      where
+        v : Expr
+        v = (part_of e.0).value s.text s.variables k
+
+        w : Expr
+        w = (part_of f.0).value s.text s.variables (k + (part_of e.0).literals)
+
+        Of : CType → CType → Type 0
+        Of t u = IsNotStuck (NodeClaims s store entry here h r (node_view s.frame (Node-F.Un op.Address (expr_view (record { node = node_view s.frame (Node-F.Index (view s.frame e.0) (view s.frame f.0)); pos = place; note = note })))))
+            (evaluated store (of_operands s.text.layout op.Add t u place v w))
+
+        checked : is_raw_kind (kind_of e.0.note.ctype) ≡ false
+        checked = (every_here-Expr Name Note AnyLimits AnyNode (IsCoveredExpr s store here.seen) e.0 covered.0).checked
+
+        moved : (is_moved e.0.note.ctype && is_integer f.0.note.ctype) ≡ true
+        moved = true_if (is_moved e.0.note.ctype && is_integer f.0.note.ctype) (element_of e.0.note.ctype) note.ctype row.row
+
+        is : element_of e.0.note.ctype ≡ note.ctype
+        is = some_if (is_moved e.0.note.ctype && is_integer f.0.note.ctype) (element_of e.0.note.ctype) note.ctype row.row
+
+        bare : is_pointer note.ctype ≡ false
+        bare = no_pointer note.ctype (subst (λ t. is_integer t ≡ true) is node.integer)
+    address_step y note place row typed covered node addressed fresh little are judged r pointer array element k = absurd addressed
 
   -- ---- the induction
 
@@ -326,11 +469,26 @@ module _ (globals : Globals) (s : Setting) (agrees : Agrees globals s) (declares
         (subst (λ q. P (node_view s.frame (viewed_node (inner_node y))) q) (sym q_is)
         (node_step here h y note place (subst (λ z. IsRow globals s z note) out row)
         (subst (PartsEvery (HasRow globals s)) out (parts_every (HasRow globals s) (roll-Node Name Note (inner_node y)) typed))
-        (subst (PartsEvery (IsCoveredExpr s here.seen)) out (parts_every (IsCoveredExpr s here.seen) (roll-Node Name Note (inner_node y)) covered))
-        (subst (IsCoveredNode s here.seen note.ctype) out node) checked fresh little are
+        (subst (PartsEvery (IsCoveredExpr s store here.seen)) out (parts_every (IsCoveredExpr s store here.seen) (roll-Node Name Note (inner_node y)) covered))
+        (subst (IsCoveredNode s store here.seen note.ctype) out node) checked fresh little are
         (subst (λ (n : NodeView). n.fault place fresh here.at ≡ None) n_is fault)
         (subst (λ (n : NodeView). n.judged note.ctype fresh here.at ≡ Ok (node_of (inner_node y))) n_is (judged ∙ ap Ok (node_rolled (inner_node y))))
         (λ p. subst (λ (n : NodeView). note.range ≡ pointer_range note.ctype n 0 fresh here.at) n_is (noted p)) k));
+    address = λ note place row typed here covered node addressed h fresh little are judged r pointer array element k.
+        let out : out-Node Name Note (roll-Node Name Note (inner_node y)) ≡ inner_node y = node_out (inner_node y) in
+        let n_is : view_of_node s.frame (roll-Node Name Note (inner_node y)) ≡ node_view s.frame (viewed_node (inner_node y)) =
+        fold-roll-Node Name Note LimitsView NodeView View limits_view (node_view s.frame) expr_view (inner_node y) in
+        let q_is : part_of_node (roll-Node Name Note (inner_node y)) ≡ node_parts (part_node (inner_node y)) =
+        fold-roll-Node Name Note LimitsPart NodePart Part limits_parts node_parts expr_parts (inner_node y) in
+        let P : NodeView → NodePart → Type 0 =
+        λ n q. IsNotStuck (NodeClaims s store entry here h r (node_view s.frame (Node-F.Un op.Address (expr_view (record { node = n; pos = place; note = note }))))) (evaluated store (q.address note place s.text s.variables k)) in
+        subst (λ n. P n (part_of_node (roll-Node Name Note (inner_node y)))) (sym n_is)
+        (subst (λ q. P (node_view s.frame (viewed_node (inner_node y))) q) (sym q_is)
+        (address_step here h y note place (subst (λ z. IsRow globals s z note) out row)
+        (subst (PartsEvery (HasRow globals s)) out (parts_every (HasRow globals s) (roll-Node Name Note (inner_node y)) typed))
+        (subst (PartsEvery (IsCoveredExpr s store here.seen)) out (parts_every (IsCoveredExpr s store here.seen) (roll-Node Name Note (inner_node y)) covered))
+        (subst (IsCoveredNode s store here.seen note.ctype) out node) (subst IsAddressed out addressed) fresh little are
+        (subst (λ (n : NodeView). n.judged note.ctype fresh here.at ≡ Ok (node_of (inner_node y))) n_is (judged ∙ ap Ok (node_rolled (inner_node y)))) r pointer array element k));
   })
 
   limits_by : (x : Limits-F Name Note NotedLimits NotedNode NotedExpr) (y : Limits-F Name Note KeptLimits KeptNode KeptExpr) → inner_limits y ≡ x → AnyLimitsHold (roll-Limits Name Note x)
@@ -346,14 +504,25 @@ module _ (globals : Globals) (s : Setting) (agrees : Agrees globals s) (declares
         let seen : IsJudged (view_of_node s.frame y.node.0) y.pos y.note y.node.0 fresh here.at =
         judged_is (view_of_node s.frame y.node.0) y.pos y.note y.node.0 fresh here.at (subst (λ (v : View). v.judged fresh here.at ≡ Ok e) v_is judged) in
         let row : IsRow globals s (out-Node Name Note y.node.0) y.note = every_here-Expr Name Note AnyLimits AnyNode (HasRow globals s) e typed in
-        let cover : IsCoveredExpr s here.seen (record { node = y.node.0; pos = y.pos; note = y.note }) = every_here-Expr Name Note AnyLimits AnyNode (IsCoveredExpr s here.seen) e covered in
+        let cover : IsCoveredExpr s store here.seen (record { node = y.node.0; pos = y.pos; note = y.note }) = every_here-Expr Name Note AnyLimits AnyNode (IsCoveredExpr s store here.seen) e covered in
         subst (λ v. P v (part_of e)) (sym v_is) (subst (λ q. P (expr_view (viewed_expr (inner_expr y))) q) (sym q_is)
-        (y.node.1.claims y.note y.pos row (node_every (HasRow globals s) e typed) here (node_every (IsCoveredExpr s here.seen) e covered) cover.node cover.checked h fresh little are seen.node seen.fault seen.range k));
+        (y.node.1.claims y.note y.pos row (node_every (HasRow globals s) e typed) here (node_every (IsCoveredExpr s store here.seen) e covered) cover.node cover.checked h fresh little are seen.node seen.fault seen.range k));
+    address = λ typed here covered addressed h fresh little are judged r pointer array element k.
+        let e : NotedExpr = roll-Expr Name Note (inner_expr y) in
+        let v_is : view s.frame e ≡ expr_view (viewed_expr (inner_expr y)) = fold-roll-Expr Name Note LimitsView NodeView View limits_view (node_view s.frame) expr_view (inner_expr y) in
+        let q_is : part_of e ≡ expr_parts (part_expr (inner_expr y)) = fold-roll-Expr Name Note LimitsPart NodePart Part limits_parts node_parts expr_parts (inner_expr y) in
+        let P : View → Part → Type 0 = λ v q. IsNotStuck (NodeClaims s store entry here h r (node_view s.frame (Node-F.Un op.Address v))) (evaluated store (q.address s.text s.variables k)) in
+        let seen : (view_of_node s.frame y.node.0).judged y.note.ctype fresh here.at ≡ Ok y.node.0 =
+        operand_is (view_of_node s.frame y.node.0) y.pos y.note y.node.0 fresh here.at (subst (λ (v : View). v.operand fresh here.at ≡ Ok e) v_is judged) in
+        let row : IsRow globals s (out-Node Name Note y.node.0) y.note = every_here-Expr Name Note AnyLimits AnyNode (HasRow globals s) e typed in
+        let cover : IsCoveredExpr s store here.seen (record { node = y.node.0; pos = y.pos; note = y.note }) = every_here-Expr Name Note AnyLimits AnyNode (IsCoveredExpr s store here.seen) e covered in
+        subst (λ v. P v (part_of e)) (sym v_is) (subst (λ q. P (expr_view (viewed_expr (inner_expr y))) q) (sym q_is)
+        (y.node.1.address y.note y.pos row (node_every (HasRow globals s) e typed) here (node_every (IsCoveredExpr s store here.seen) e covered) cover.node addressed h fresh little are seen r pointer array element k));
   })
 
   expr_holds : (e : NotedExpr) → ExprHolds e
   expr_holds = ind-Expr Name Note AnyLimitsHold NodeHolds ExprHolds limits_by node_by expr_by
 
-  pub expr_claims : (e : NotedExpr) → IsTyped globals s e → (here : Here) → IsCovered s here.seen e → HoldsAt s store entry here → (fresh : ℕ) → fresh < 2 ^ 32 → AreFresh s.frame fresh → (view s.frame e).judged fresh here.at ≡ Ok e
+  pub expr_claims : (e : NotedExpr) → IsTyped globals s e → (here : Here) → IsCovered s store here.seen e → HoldsAt s store entry here → (fresh : ℕ) → fresh < 2 ^ 32 → AreFresh s.frame fresh → (view s.frame e).judged fresh here.at ≡ Ok e
       → (k : ℕ) → IsNotStuck (ExprClaims s store entry here e) (evaluated store ((part_of e).value s.text s.variables k))
   expr_claims e = (expr_holds e).claims

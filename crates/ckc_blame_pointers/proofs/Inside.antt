@@ -16,7 +16,7 @@ use Rattle.ckc_typed.specs.Types.{is_pointer}
 use Rattle.ckc_typed_welltyped.specs.Expressions.{AnyLimits, AnyNode}
 use Rattle.ckc_typed_welltyped.proofs.Nodes.{node_of, node_rolled}
 use Rattle.ckc_bounds_points.specs.Flow.{State}
-use Rattle.ckc_bounds_views.specs.Judged.{by_fault, expr_made, expr_judged}
+use Rattle.ckc_bounds_views.specs.Judged.{by_fault, expr_made, expr_judged, operand_judged}
 use Rattle.ckc_bounds_views.specs.Parts.{NodeView}
 use Rattle.ckc_bounds_views.specs.Ranges.{pointer_range}
 
@@ -36,6 +36,7 @@ module _ (P : Expr-F Name Note NotedLimits NotedNode NotedExpr → Type 0) where
   PartsEvery (Node-F.Pick e f g) = Every e × Every f × Every g
   PartsEvery (Node-F.Index e f) = Every e × Every f
   PartsEvery (Node-F.Cast w e) = Every e
+  PartsEvery (Node-F.Arrow e n spot) = Every e
   PartsEvery n = Unit {0}
 
   abbrev FitLimits : Type 0
@@ -56,6 +57,7 @@ module _ (P : Expr-F Name Note NotedLimits NotedNode NotedExpr → Type 0) where
   parts_of (Node-F.Pick e f g) = (e.1, f.1, g.1)
   parts_of (Node-F.Index e f) = (e.1, f.1)
   parts_of (Node-F.Cast w e) = e.1
+  parts_of (Node-F.Arrow e n spot) = e.1
   parts_of z = tt
 
   pub parts_every : (n : NotedNode) → EveryNode n → PartsEvery (out-Node Name Note n)
@@ -135,3 +137,8 @@ judged_is n pos note m fresh at e =
           range = λ p. range_of (pointer_range note.ctype n 0 fresh at) (is_pointer note.ctype) (ap (λ (x : NotedExpr). x.note) same) p;
         }
     by_node q there (Some r) fault e = absurd (cc)
+
+-- the same of its node, if it is the operand of `&`
+pub operand_is : (n : NodeView) (pos : Pos) (note : Note) (m : NotedNode) (fresh : ℕ) (at : State) → operand_judged n pos note fresh at ≡ Ok (record { node = m; pos = pos; note = note })
+    → n.judged note.ctype fresh at ≡ Ok m
+operand_is n pos note m fresh at e = (judged_is (record n { fault = n.operand_fault }) pos note m fresh at e).node

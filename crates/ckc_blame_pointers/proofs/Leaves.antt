@@ -1,5 +1,5 @@
 -- The claims of numbers, of null, of locals, of unary operators, of `?:` and of casts.
-use Rattle.std.proofs.Common.{◌≡◌, inl, refl, sym, ap, subst, ◌∙◌, ℕ, Bool, true, false, List, arith}
+use Rattle.std.proofs.Common.{◌≡◌, ◌⊎◌, inl, refl, sym, ap, subst, ◌∙◌, ℕ, Bool, true, false, List, arith}
 use Rattle.std.specs.Prelude.{◌+◌, ◌%◌, ◌==◌, ◌<◌, ◌^◌, ◌&&◌, ◌||◌, not, if◌then◌else◌, slice_index, pos, Option, None, Some}
 use Rattle.std.specs.Option.{option_or}
 use Rattle.std.proofs.lemmas.Bool.{eqb-true}
@@ -32,6 +32,9 @@ use Rattle.ckc_source.specs.declared.outcome.Range.TheVariants.{Without}
 use Rattle.ckc_source.specs.declared.outcome.Value.{Value}
 use Rattle.ckc_source.specs.Code.{Expr, Number, Binary, Choice, Narrow, Bare}
 use Rattle.ckc_source.specs.Eval.{Store, plain, evaluated}
+use Rattle.ckc_source.specs.Runs.{is_true}
+use Rattle.ckc_build_values.specs.Kinds.{pointee_of, size_behind}
+use Rattle.ckc_blame_pointers.proofs.Ones.{local_one}
 use Rattle.ckc_build_values.specs.Operators.{converted, cast}
 use Rattle.ckc_build_values.specs.Expressions.{local_in}
 use Rattle.ckc_blame_sound.specs.Settings.{Setting}
@@ -77,6 +80,7 @@ module _ (s : Setting) (store : Store) (entry : List ℕ) (here : Here) (h : Hol
     placed = λ first fresh before low little are fits.
         subst (λ (f : Option Form). Placed s store entry here t (first + with_own t (node_view s.frame Node-F.Null)) f range.Any first fresh before (record { number = 0; range = Without })) (sym (none (is_pointer t)))
         (record { after = before; place_below = tt; range_below = tt; of_local = tt; extends = record { addresses = λ n h. refl; numbers = λ x h. refl }; place_is = tt; range_is = refl });
+    one = λ ones e. inl refl;
     zero = λ e. refl;
     wide = λ e. narrow s store entry here h (node_view s.frame Node-F.Null) refl;
     sides = λ b e. subst (SideGoes s store entry here) (sym (nothing_read s store entry (λ facts. None) b here.at)) (stays s store entry here h);
@@ -116,6 +120,9 @@ module _ (s : Setting) (store : Store) (entry : List ℕ) (here : Here) (h : Hol
             place_is = ap pos c.0 ∙ sym (at_base s store entry here kept before (fits 0 (inl refl)) (base.Local k));
             range_is = c.2 before fits;
           }));
+      one = λ ones e.
+          subst (λ n. (n ≡ 0) ⊎ (is_true store.shapes store.blocks (pointee_of s.text.layout kept) n n (n + size_behind s.text.layout kept) ≡ true)) (sym c.0)
+          (local_one globals s agrees declares ones store entry here h k scope.local scope.there scope.seen_there e);
       zero = λ e. absurd (cc);
       wide = λ e. narrow s store entry here h node refl;
       sides = λ b e. subst (SideGoes s store entry here) (sym (nothing_read s store entry (λ facts. None) b here.at)) (stays s store entry here h);

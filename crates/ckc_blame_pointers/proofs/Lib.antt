@@ -17,3 +17,12 @@ pub mod Widening
 pub mod Wider
 pub mod Statics
 pub mod Arrays
+pub mod Ones
+pub mod Single
+pub mod Truths
+pub mod Members
+pub mod Addresses
+pub mod Own
+pub mod Pointers
+pub mod Structures
+pub mod Arrows

@@ -161,6 +161,16 @@ module _ (access : Access) (v : Value) (i : ℕ) where
       by (Err (halt.Stopped why at)) e = tt
       by (Err halt.Stuck) e = exact_stuck e
 
+  -- what an access to an exact element goes to
+  pub exact_goes : (Q : Value → Type 0) (g : ℕ → Result Value Halt) → ((a : ℕ) → (v.number ≡ 0 → ⊥) → exact_element access v i ≡ Ok a → IsNotStuck Q (g a))
+      → IsNotStuck Q (given (exact_element access v i) g)
+  exact_goes Q g next = by (exact_element access v i) refl
+    where
+      by : (x : Result ℕ Halt) → exact_element access v i ≡ x → IsNotStuck Q (given x g)
+      by (Ok a) e = next a (λ z. let stop = null_stops z in absurd (cc)) e
+      by (Err (halt.Stopped why at)) e = tt
+      by (Err halt.Stuck) e = exact_stuck e
+
   pub element_goes : (Q : Value → Type 0) (g : ℕ → Result Value Halt) (to : Pointee) → IsTested access.through to → ((v.number ≡ 0) ⊎ ((low : ℕ) × (high : ℕ) × (v.range ≡ Within low high)))
       → ((a : ℕ) → (v.number ≡ 0 → ⊥) → element access v i ≡ Ok a → IsNotStuck Q (g a)) → IsNotStuck Q (given (element access v i) g)
   element_goes Q g to tested ranged next = by tested.tested
@@ -190,7 +200,7 @@ module _ (access : Access) (v : Value) (i a : ℕ) where
       by false e = absurd (cc)
   address_is (negsuc n) e = absurd (cc)
 
-  exact_is : exact_element access v i ≡ Ok a → elements_behind v.number access.size (exact access.index i) ≡ pos a
+  pub exact_is : exact_element access v i ≡ Ok a → elements_behind v.number access.size (exact access.index i) ≡ pos a
   exact_is e = by (v.number == 0) e
     where
       by : (b : Bool) → (if b then stops check.Null access.at else at_address (as_address (elements_behind v.number access.size (exact access.index i))) access.at) ≡ Ok a
@@ -240,24 +250,24 @@ tested_pointer structs t e = tested_in (out-CType t) (element_of t) (size_behind
 -- ---- a load
 
 module _ (s : Setting) (store : Store) (next : ℕ) (sound : AreSound s.text store.blocks next) (own : HaveOwnNames s.text.layout) (shapes : store.shapes ≡ shapes_elaborated s.text.layout) where
-  -- the integer at an element that is reached
-  pub element_loads : (Q : Value → Type 0) (t : CType) (n low high a : ℕ) → is_integer (element_of t) ≡ true
+  -- the integer or the pointer at an element that is reached, or at a member of it
+  pub part_loads : (Q : Value → Type 0) (t : CType) (n low high a offset : ℕ) (u : CType) → IsPart s.text.layout (element_of t) offset (width_of u)
       → is_true store.shapes store.blocks (pointee_of s.text.layout t) n low high ≡ true → IsReached (pointee_of s.text.layout t) n low high a
-      → ((m : ℕ) → loaded (width_of (element_of t)) (a + 0) store.blocks ≡ Some m → IsWordOf (element_of t) m → Q (record { number = m; range = Without }))
-      → IsNotStuck Q (loads store (width_of (element_of t)) (place_in a 0))
-  element_loads Q t n low high a integer true_there reached out =
-      subst (λ x. IsNotStuck Q (loads store width x)) (sym (place_is a 0 width (cell_address s.text store.blocks sound.memory.placed (a + 0) width (a == high) cell).1)) (by (loaded width (a + 0) store.blocks) refl)
+      → ((m : ℕ) → loaded (width_of u) (a + offset) store.blocks ≡ Some m → IsWordOf u m → Q (record { number = m; range = Without }))
+      → IsNotStuck Q (loads store (width_of u) (place_in a offset))
+  part_loads Q t n low high a offset u part true_there reached out =
+      subst (λ x. IsNotStuck Q (loads store width x)) (sym (place_is a offset width (cell_address s.text store.blocks sound.memory.placed (a + offset) width (a == high) cell).1)) (by (loaded width (a + offset) store.blocks) refl)
     where
       width : Width
-      width = width_of (element_of t)
+      width = width_of u
 
-      cell : IsCell s.text.layout store.blocks (a + 0) width (a == high)
-      cell = true_cell s.text (shapes_elaborated s.text.layout) store.blocks (pointee_of s.text.layout t) n low high a 0 width sound.memory.placed (are_members s.text.layout own) refl
-          (subst (λ sh. is_true sh store.blocks (pointee_of s.text.layout t) n low high ≡ true) shapes true_there) reached (integer_part s.text.layout (element_of t) integer)
+      cell : IsCell s.text.layout store.blocks (a + offset) width (a == high)
+      cell = true_cell s.text (shapes_elaborated s.text.layout) store.blocks (pointee_of s.text.layout t) n low high a offset width sound.memory.placed (are_members s.text.layout own) refl
+          (subst (λ sh. is_true sh store.blocks (pointee_of s.text.layout t) n low high ≡ true) shapes true_there) reached part
 
-      there : (m : ℕ) × (loaded width (a + 0) store.blocks ≡ Some m)
-      there = load_goes width (a + 0) store.blocks (cell_there s.text store.blocks sound.memory.placed (a + 0) width (a == high) cell)
+      there : (m : ℕ) × (loaded width (a + offset) store.blocks ≡ Some m)
+      there = load_goes width (a + offset) store.blocks (cell_there s.text store.blocks sound.memory.placed (a + offset) width (a == high) cell)
 
-      by : (o : Option ℕ) → loaded width (a + 0) store.blocks ≡ o → IsNotStuck Q (given_some o plain)
-      by (Some m) e = out m e (word_loaded (element_of t) m (loaded_in width (a + 0) store.blocks sound.bytes m e))
-      by None e = let got : loaded width (a + 0) store.blocks ≡ Some there.0 = there.1 in absurd (cc)
+      by : (o : Option ℕ) → loaded width (a + offset) store.blocks ≡ o → IsNotStuck Q (given_some o plain)
+      by (Some m) e = out m e (word_loaded u m (loaded_in width (a + offset) store.blocks sound.bytes m e))
+      by None e = let got : loaded width (a + offset) store.blocks ≡ Some there.0 = there.1 in absurd (cc)

@@ -37,10 +37,10 @@ use Rattle.ckc_blame_sound.specs.Values.{IsWordOf}
 use Rattle.ckc_blame_sound.specs.Points.{AreBounded, HoldsAt}
 use Rattle.ckc_typed.specs.declared.environment.Globals.{Globals}
 use Rattle.ckc_blame_numbers.specs.Typed.{Agrees}
-use Rattle.ckc_blame_pointers.specs.Valuations.{Valuation, Fits, HasEnds, IsInRange}
+use Rattle.ckc_blame_pointers.specs.Valuations.{Valuation, Fits, HasEnds, IsInRange, BaseBelow, RangeBelow}
 use Rattle.ckc_blame_pointers.specs.Covered.{IsLocalBase, IsLocalForm, DeclareLocals, IsInScope}
 use Rattle.ckc_blame_pointers.specs.Meant.{IsNotStuck}
-use Rattle.ckc_blame_pointers.proofs.Claims.{BaseBelow, RangeBelow, SideGoes, Claims, weaker, stays, not_placed}
+use Rattle.ckc_blame_pointers.proofs.Claims.{SideGoes, Claims, no_one, weaker, stays, not_placed}
 use Rattle.ckc_blame_pointers.proofs.Reading.{Ranged, end_is, range_local, local_reads}
 
 -- a pointer that is moved without wrapping, unless that stops
@@ -80,6 +80,7 @@ module _ (s : Setting) (store : Store) (entry : List ℕ) (here : Here) (h : Hol
   integer_claims t n bare none p word null zero sides = record {
     word = word;
     placed = λ first fresh before low small are fits. not_placed s store entry here t n (first + with_own t n) first fresh before p bare null;
+    one = no_one s store entry t p.number bare;
     zero = zero;
     wide = λ e. narrow n none;
     sides = sides;

@@ -108,3 +108,22 @@ module _ (shapes : List Shape) (to : Pointee) (n m low high : ℕ) (same : m % t
 
   pub true_same : (blocks : List Block) → is_true shapes blocks to m low high ≡ is_true shapes blocks to n low high
   true_same blocks = ap (λ test. list_any test blocks) (fun_ext in_same)
+
+-- ---- elements behind an address
+
+pub same_number : (m n : ℕ) → pos m ≡ pos n → m ≡ n
+same_number m n e = omega (arith, ints)
+
+pub nothing_behind : (n size : ℕ) → elements_behind n size (pos 0) ≡ pos n
+nothing_behind n size =
+    let product : pos size *ℤ pos 0 ≡ pos (size * 0) = pos-*ℤ-pos size 0 in
+    let none : size * 0 ≡ 0 = omega arith in
+    let product_is : pos size *ℤ pos 0 ≡ pos 0 = product ∙ ap pos none in
+    omega (arith, ints)
+
+pub one_behind : (n size : ℕ) → elements_behind n size (pos 1) ≡ pos (n + size)
+one_behind n size =
+    let product : pos size *ℤ pos 1 ≡ pos (size * 1) = pos-*ℤ-pos size 1 in
+    let same : size * 1 ≡ size = omega arith in
+    let product_is : pos size *ℤ pos 1 ≡ pos size = product ∙ ap pos same in
+    omega (arith, ints)

@@ -11,7 +11,8 @@ use Rattle.ckc_types.specs.declared.types.Structs.{Structs}
 use Rattle.ckc_syntax.specs.declared.tree.TreeOp.{TreeOp}
 use Rattle.ckc_syntax.specs.declared.tree.TreeOp.TheVariants as op
 use Rattle.ckc_typed.specs.Operands.{promoted, common, is_moved, is_moved_kind, sum_type, distance_type, difference_type, arithmetic_type, shift_type, binary_type, same_element}
-use Rattle.ckc_typed.specs.Types.{is_integer, is_pointer, is_pointer_form, is_integer_form, is_char_form, is_unsigned, is_scalar, is_void, element_of, kind_in, same_type}
+use Rattle.ckc_bounds_views.specs.Judged.{is_counted_kind}
+use Rattle.ckc_typed.specs.Types.{is_integer, is_pointer, is_pointer_form, is_integer_form, is_char_form, is_unsigned, is_scalar, is_void, element_of, kind_of, kind_in, same_type}
 use Rattle.ckc_source.specs.declared.expr.Operation.{Operation}
 use Rattle.ckc_source.specs.declared.expr.Operation.TheVariants as operation
 use Rattle.ckc_source.specs.declared.outcome.Value.{Value}
@@ -167,37 +168,49 @@ no_moved_in CType-F.Char e = refl
 no_moved_in CType-F.Void e = refl
 no_moved_in (CType-F.Struct tag) e = refl
 
+counted_pointer_in : (f : CType-F CType) → is_counted_kind (kind_in f) ≡ true → is_pointer_form f ≡ true
+counted_pointer_in (CType-F.Pointer k t) e = refl
+counted_pointer_in CType-F.Int e = absurd (cc)
+counted_pointer_in CType-F.Unsigned e = absurd (cc)
+counted_pointer_in CType-F.Char e = absurd (cc)
+counted_pointer_in CType-F.Void e = absurd (cc)
+counted_pointer_in (CType-F.Struct tag) e = absurd (cc)
+
+pub counted_pointer : (t : CType) → is_counted_kind (kind_of t) ≡ true → is_pointer t ≡ true
+counted_pointer t e = counted_pointer_in (out-CType t) e
+
 no_moved : (t : CType) → is_pointer t ≡ false → is_moved t ≡ false
 no_moved t e = no_moved_in (out-CType t) e
 
 module _ (t u r : CType) where
   -- a pointer and an integer
-  pub left_row : is_pointer t ≡ true → sum_type t u ≡ Some r → (r ≡ t) × (is_integer u ≡ true)
-  left_row p e = by (is_moved t) (is_integer u) refl e
+  pub left_row : is_pointer t ≡ true → sum_type t u ≡ Some r → (r ≡ t) × (is_integer u ≡ true) × (is_moved t ≡ true)
+  left_row p e = by (is_moved t) (is_integer u) refl refl e
     where
       rest : (b : Bool) → (if is_integer t && is_moved u then Some u else (if is_integer t && b then Some (common t u) else None)) ≡ None
       rest b = ap (λ i. if i && is_moved u then Some u else (if i && b then Some (common t u) else None)) (pointer_no_integer t p)
 
-      by : (a b : Bool) → is_integer u ≡ b
+      by : (a b : Bool) → is_moved t ≡ a → is_integer u ≡ b
           → (if a && b then Some t else (if is_integer t && is_moved u then Some u else (if is_integer t && b then Some (common t u) else None))) ≡ Some r
-          → (r ≡ t) × (is_integer u ≡ true)
-      by true true i e = (sym (some_is t r e), i)
-      by true false i e = none_is_some r (sym (rest false) ∙ e)
-      by false b i e = none_is_some r (sym (rest b) ∙ e)
+          → (r ≡ t) × (is_integer u ≡ true) × (is_moved t ≡ true)
+      by true true m i e = (sym (some_is t r e), i, m)
+      by true false m i e = none_is_some r (sym (rest false) ∙ e)
+      by false b m i e = none_is_some r (sym (rest b) ∙ e)
 
   -- an integer and a pointer
-  pub right_row : is_pointer t ≡ false → is_pointer u ≡ true → sum_type t u ≡ Some r → (r ≡ u) × (is_integer t ≡ true)
-  right_row p q e = by (is_integer t) (is_moved u) refl (sym left ∙ e)
+  pub right_row : is_pointer t ≡ false → is_pointer u ≡ true → sum_type t u ≡ Some r → (r ≡ u) × (is_integer t ≡ true) × (is_moved u ≡ true)
+  right_row p q e = by (is_integer t) (is_moved u) refl refl (sym left ∙ e)
     where
       left : sum_type t u ≡ (if is_integer t && is_moved u then Some u else (if is_integer t && false then Some (common t u) else None))
       left =
           ap (λ a. if a && is_integer u then Some t else (if is_integer t && is_moved u then Some u else (if is_integer t && is_integer u then Some (common t u) else None))) (no_moved t p)
           ∙ ap (λ b. if is_integer t && is_moved u then Some u else (if is_integer t && b then Some (common t u) else None)) (pointer_no_integer u q)
 
-      by : (a b : Bool) → is_integer t ≡ a → (if a && b then Some u else (if a && false then Some (common t u) else None)) ≡ Some r → (r ≡ u) × (is_integer t ≡ true)
-      by true true i e = (sym (some_is u r e), i)
-      by true false i e = none_is_some r e
-      by false b i e = none_is_some r e
+      by : (a b : Bool) → is_integer t ≡ a → is_moved u ≡ b → (if a && b then Some u else (if a && false then Some (common t u) else None)) ≡ Some r
+          → (r ≡ u) × (is_integer t ≡ true) × (is_moved u ≡ true)
+      by true true i m e = (sym (some_is u r e), i, m)
+      by true false i m e = none_is_some r e
+      by false b i m e = none_is_some r e
 
   -- two integers
   pub plain_row : is_pointer t ≡ false → is_pointer u ≡ false → sum_type t u ≡ Some r → Wide r
@@ -220,16 +233,17 @@ module _ (t u r : CType) where
       by false = refl
 
   -- a pointer less an integer
-  pub less_row : is_pointer t ≡ true → is_pointer u ≡ false → difference_type t u ≡ Some r → (r ≡ t) × (is_integer u ≡ true)
-  less_row p q e = by (is_moved t) (is_integer u) refl e
+  pub less_row : is_pointer t ≡ true → is_pointer u ≡ false → difference_type t u ≡ Some r → (r ≡ t) × (is_integer u ≡ true) × (is_moved t ≡ true)
+  less_row p q e = by (is_moved t) (is_integer u) refl refl e
     where
       rest : (if is_pointer t then distance_type t u else arithmetic_type t u) ≡ None
       rest = ap (λ b. if b then distance_type t u else arithmetic_type t u) p ∙ no_distance q
 
-      by : (a b : Bool) → is_integer u ≡ b → (if a && b then Some t else (if is_pointer t then distance_type t u else arithmetic_type t u)) ≡ Some r → (r ≡ t) × (is_integer u ≡ true)
-      by true true i e = (sym (some_is t r e), i)
-      by true false i e = none_is_some r (sym rest ∙ e)
-      by false b i e = none_is_some r (sym rest ∙ e)
+      by : (a b : Bool) → is_moved t ≡ a → is_integer u ≡ b → (if a && b then Some t else (if is_pointer t then distance_type t u else arithmetic_type t u)) ≡ Some r
+          → (r ≡ t) × (is_integer u ≡ true) × (is_moved t ≡ true)
+      by true true m i e = (sym (some_is t r e), i, m)
+      by true false m i e = none_is_some r (sym rest ∙ e)
+      by false b m i e = none_is_some r (sym rest ∙ e)
 
   -- two pointers
   pub distance_row : is_pointer t ≡ true → is_pointer u ≡ true → difference_type t u ≡ Some r → Wide r

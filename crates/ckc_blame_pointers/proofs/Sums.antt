@@ -16,7 +16,7 @@ use Rattle.ckc_syntax.specs.declared.tree.TreeOp.TheVariants as op
 use Rattle.ckc_typed.specs.declared.typed.Range.{Range}
 use Rattle.ckc_typed.specs.declared.typed.Range.TheVariants as range
 use Rattle.ckc_typed.specs.Declarations.{is_checked_kind}
-use Rattle.ckc_typed.specs.Operands.{is_raw_kind, sum_type, difference_type}
+use Rattle.ckc_typed.specs.Operands.{is_raw_kind, sum_type, difference_type, is_moved, is_moved_kind}
 use Rattle.ckc_typed.specs.Trees.{NotedExpr}
 use Rattle.ckc_typed.specs.Types.{is_pointer, is_pointer_form, kind_of, kind_in}
 use Rattle.ckc_bounds_points.specs.Forms.{is_small, constant_form, base_form, sum_of_forms, negative_of}
@@ -130,6 +130,7 @@ module _ (s : Setting) (store : Store) (entry : List ℕ) (here : Here) (h : Hol
   -- how the numbers of the pointer begin, and what is said of the sum
   record IsMoved (k : NotedExpr) (n : NodeView) (form : Option Form) (next more : ℕ → ℕ) : Type 0 where
     pub pointer : is_pointer k.note.ctype ≡ true
+    pub moved : is_moved k.note.ctype ≡ true
     pub quiet : n.behind ≡ None
     pub some : n.is_zero ≡ false
     pub stays_there : (b : Bool) → n.side b here.at ≡ here.at
@@ -146,6 +147,7 @@ module _ (s : Setting) (store : Store) (entry : List ℕ) (here : Here) (h : Hol
   moved_claims k n form next more m x c z index a some is small = record {
     word = pointer_word k.note.ctype m.pointer a small;
     placed = λ first fresh before low little are fits. placed_so first fresh before (m.room first low) (m.later fresh little) are fits;
+    one = λ ones e. let single : is_moved k.note.ctype ≡ false = ap is_moved_kind e in let other = m.moved in absurd (cc);
     zero = λ e. absurd (cc);
     wide = λ e. narrow s store entry here h n m.quiet;
     sides = λ b e. subst (SideGoes s store entry here) (sym (m.stays_there b)) (stays s store entry here h);
@@ -177,7 +179,7 @@ module _ (s : Setting) (store : Store) (entry : List ℕ) (here : Here) (h : Hol
     abbrev node : TreeOp → NodeView
     node o = node_view s.frame (Node-F.Bin o (view s.frame e) (view s.frame f))
 
-    module _ (pointer : is_pointer e.note.ctype ≡ true) (checked : is_raw_kind (kind_of e.note.ctype) ≡ false) where
+    module _ (pointer : is_pointer e.note.ctype ≡ true) (moved : is_moved e.note.ctype ≡ true) (checked : is_raw_kind (kind_of e.note.ctype) ≡ false) where
       view_pointer : is_pointer (view s.frame e).ctype ≡ true
       view_pointer = ap is_pointer viewed ∙ pointer
 
@@ -207,6 +209,7 @@ module _ (s : Setting) (store : Store) (entry : List ℕ) (here : Here) (h : Hol
       left_moved : IsMoved e (node op.Add) ((view s.frame f).form here.at.facts) (λ n. n) (λ n. n)
       left_moved = record {
         pointer = pointer;
+        moved = moved;
         quiet = refl;
         some = refl;
         stays_there = λ b. refl;
@@ -221,6 +224,7 @@ module _ (s : Setting) (store : Store) (entry : List ℕ) (here : Here) (h : Hol
       less_moved : IsMoved e (node op.Sub) (negative_of ((view s.frame f).form here.at.facts)) (λ n. n) (λ n. n)
       less_moved = record {
         pointer = pointer;
+        moved = moved;
         quiet = refl;
         some = refl;
         stays_there = λ b. refl;
@@ -252,13 +256,14 @@ module _ (s : Setting) (store : Store) (entry : List ℕ) (here : Here) (h : Hol
               omega (arith, ints)
 
     -- the pointer is the right operand
-    module _ (bare : is_pointer e.note.ctype ≡ false) (pointer : is_pointer f.note.ctype ≡ true) (checked : is_raw_kind (kind_of f.note.ctype) ≡ false) where
+    module _ (bare : is_pointer e.note.ctype ≡ false) (pointer : is_pointer f.note.ctype ≡ true) (moved : is_moved f.note.ctype ≡ true) (checked : is_raw_kind (kind_of f.note.ctype) ≡ false) where
       view_bare : is_pointer (view s.frame e).ctype ≡ false
       view_bare = ap is_pointer viewed ∙ bare
 
       right_moved : IsMoved f (node op.Add) ((view s.frame e).form here.at.facts) (λ n. capped n (view s.frame e).values) (λ n. fresh_behind (view s.frame e) n here.at)
       right_moved = record {
         pointer = pointer;
+        moved = moved;
         quiet = refl;
         some = refl;
         stays_there = λ b. refl;
@@ -309,13 +314,15 @@ module _ (s : Setting) (store : Store) (entry : List ℕ) (here : Here) (h : Hol
             (evaluated store (if a then Moved (shift s.text.layout e.note.ctype f.note.ctype place false) v w
             else (if b then Added (shift s.text.layout f.note.ctype e.note.ctype place false) v w else Binary operation.Add (is_signed_at op.Add e.note.ctype f.note.ctype) place v w)))
         by true b p q =
-            let is = (left_row e.note.ctype f.note.ctype r p row).0 in
+            let row_is = left_row e.note.ctype f.note.ctype r p row in
+            let is = row_is.0 in
             subst (λ t. IsNotStuck (NodeClaims s store entry here h t (node op.Add)) (evaluated store (Moved (shift s.text.layout e.note.ctype f.note.ctype place false) v w))) (sym is)
-            (more_claims p (subst (λ t. is_raw_kind (kind_of t) ≡ false) is checked))
+            (more_claims p row_is.2 (subst (λ t. is_raw_kind (kind_of t) ≡ false) is checked))
         by false true p q =
-            let is = (right_row e.note.ctype f.note.ctype r p q row).0 in
+            let row_is = right_row e.note.ctype f.note.ctype r p q row in
+            let is = row_is.0 in
             subst (λ t. IsNotStuck (NodeClaims s store entry here h t (node op.Add)) (evaluated store (Added (shift s.text.layout f.note.ctype e.note.ctype place false) v w))) (sym is)
-            (added_claims p q (subst (λ t. is_raw_kind (kind_of t) ≡ false) is checked))
+            (added_claims p q row_is.2 (subst (λ t. is_raw_kind (kind_of t) ≡ false) is checked))
         by false false p q =
             number_claims op.Add (λ b. refl) (plain_row e.note.ctype f.note.ctype r p q row) (Binary operation.Add (is_signed_at op.Add e.note.ctype f.note.ctype) place v w)
             (operation_word store operation.Add (is_signed_at op.Add e.note.ctype f.note.ctype) place v w small_left small_right)
@@ -332,9 +339,10 @@ module _ (s : Setting) (store : Store) (entry : List ℕ) (here : Here) (h : Hol
             (operation_word store operation.Div true place (Binary operation.Sub true place v w) (Number (size_behind s.text.layout e.note.ctype))
             (operation_word store operation.Sub true place v w small_left small_right) sized)
         by true false p q =
-            let is = (less_row e.note.ctype f.note.ctype r p q row).0 in
+            let row_is = less_row e.note.ctype f.note.ctype r p q row in
+            let is = row_is.0 in
             subst (λ t. IsNotStuck (NodeClaims s store entry here h t (node op.Sub)) (evaluated store (Moved (shift s.text.layout e.note.ctype f.note.ctype place true) v w))) (sym is)
-            (less_claims p (subst (λ t. is_raw_kind (kind_of t) ≡ false) is checked))
+            (less_claims p row_is.2 (subst (λ t. is_raw_kind (kind_of t) ≡ false) is checked))
         by false b p q =
             number_claims op.Sub (λ b. refl) (plain_less_row e.note.ctype f.note.ctype r p row) (Binary operation.Sub (is_signed_at op.Sub e.note.ctype f.note.ctype) place v w)
             (operation_word store operation.Sub (is_signed_at op.Sub e.note.ctype f.note.ctype) place v w small_left small_right)

@@ -31,14 +31,14 @@ module _ (globals : Globals) (s : Setting) (agrees : Agrees globals s) (declares
     placed = λ first fresh before low little are fits.
         let q = c.placed first fresh before low little are fits in
         subst (λ t. HasPlace s store here (record (view s.frame e) { ctype = t }) first fresh before p) (sym viewed)
-        (record { after = q.after; extends = q.extends; place = q.place_is; range = q.range_is });
+        (record { after = q.after; extends = q.extends; place_below = q.place_below; range_below = q.range_below; place = q.place_is; range = q.range_is });
     sides = λ b side. point_of globals s agrees declares store entry next ready here h e typed k p is c b side;
   }
     where
       viewed : (view s.frame e).ctype ≡ e.note.ctype
       viewed = (numbers.expr_holds globals s agrees e).viewed
 
-  pub judged_meant : (before after : NotedExpr) (fresh literals : ℕ) → fresh < 2 ^ 32 → AreFresh s.frame fresh → IsTyped globals s before → (view s.frame before).judged fresh here.at ≡ Ok after → IsCovered s here.seen after
+  pub judged_meant : (before after : NotedExpr) (fresh literals : ℕ) → fresh < 2 ^ 32 → AreFresh s.frame fresh → IsTyped globals s before → (view s.frame before).judged fresh here.at ≡ Ok after → IsCovered s store here.seen after
       → HoldsAt s store entry here → IsNotStuck (IsMeant s store entry here (view s.frame before)) (evaluated store (expr_elaborated s.text s.variables literals after))
   judged_meant before after fresh literals little are typed is covered h =
       let same : view s.frame after ≡ view s.frame before = same_view s.frame before after fresh here.at is s.frame in

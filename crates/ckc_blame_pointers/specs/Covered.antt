@@ -1,8 +1,12 @@
 -- The expressions of which it is said what they come to, and what is taken for granted of the text around them.
-use Rattle.std.specs.Prelude.{◌≡◌, ◌⊎◌, ◌+◌, ◌<◌, ◌^◌, ℕ, false, true, List, slice_get, Option, None, Some}
+use Rattle.std.specs.Prelude.{◌≡◌, ◌⊎◌, ◌+◌, ◌<◌, ◌^◌, ℕ, Bool, false, true, List, slice_get, ℤ, Option, None, Some}
 use Rattle.std.specs.List.{Contains}
 use Rattle.ckc_types.specs.declared.types.Kind.{Kind}
-use Rattle.ckc_types.specs.declared.types.CType.{CType}
+use Rattle.ckc_types.specs.declared.types.Kind.TheVariants as kind
+use Rattle.ckc_types.specs.declared.types.CType.{CType, CType-F, out-CType}
+use Rattle.ckc_types.specs.declared.types.MemberShape.{MemberShape}
+use Rattle.ckc_types.specs.declared.types.MemberBounds.TheVariants as mbounds
+use Rattle.ckc_source.specs.declared.expr.Count.TheVariants as count
 use Rattle.ckc_linear.specs.declared.forms.Base.{Base}
 use Rattle.ckc_linear.specs.declared.forms.Base.TheVariants as base
 use Rattle.ckc_linear.specs.declared.forms.Form.{Form}
@@ -17,7 +21,7 @@ use Rattle.ckc_typed.specs.declared.typed.StaticObject.{StaticObject}
 use Rattle.ckc_typed.specs.declared.environment.Variable.{Variable}
 use Rattle.ckc_typed.specs.Conversions.{is_terminated_kind}
 use Rattle.ckc_typed.specs.Environment.{variable_named}
-use Rattle.ckc_typed.specs.Operands.{is_raw_kind}
+use Rattle.ckc_typed.specs.Operands.{is_raw_kind, dot_type}
 use Rattle.ckc_typed.specs.Trees.{NotedLimits, NotedNode, NotedExpr, NotedLayer}
 use Rattle.ckc_typed.specs.Types.{kind_of, element_of, is_integer, is_pointer, is_scalar}
 use Rattle.ckc_typed_welltyped.specs.Expressions.{AnyLimits, AnyNode}
@@ -25,14 +29,18 @@ use Rattle.ckc_bounds_points.specs.declared.frame.Bounds.{Bounds}
 use Rattle.ckc_bounds_points.specs.declared.frame.Bounds.TheVariants as bounds
 use Rattle.ckc_bounds_points.specs.declared.frame.Local.{Local}
 use Rattle.ckc_bounds_points.specs.Frames.{local_at}
-use Rattle.ckc_bounds_views.specs.Judged.{is_counted_kind}
+use Rattle.ckc_bounds_declared.specs.Written.{bounds_of_kind}
+use Rattle.ckc_bounds_views.specs.Fresh.{member_bounds}
+use Rattle.ckc_bounds_views.specs.Judged.{is_counted_kind, is_declared_object}
 use Rattle.ckc_bounds_views.specs.Views.{view}
 use Rattle.ckc_source.specs.Eval.{Store}
-use Rattle.ckc_build_values.specs.Kinds.{size_behind}
+use Rattle.ckc_build_values.specs.Kinds.{size_behind, count_of_kind, tag_of}
+use Rattle.ckc_build_values.specs.Members.{member_named, count_of_member}
 use Rattle.ckc_build_values.specs.Names.{count_of_static}
 use Rattle.ckc_build_elaborate.specs.Objects.{object_elaborated, objects_elaborated}
 use Rattle.ckc_build_elaborate.specs.Shapes.{shapes_elaborated}
 use Rattle.ckc_blame_sound.specs.Settings.{Setting}
+use Rattle.ckc_blame_sound.specs.Slots.{AreFilled}
 use Rattle.ckc_blame_slots.specs.Cells.{AreSound, HaveOwnNames}
 
 -- ---- memory
@@ -84,6 +92,12 @@ AreLocalBounds s (bounds.Known low high) = IsLocalForm s low × IsLocalForm s hi
 abbrev pub DeclareLocals : Setting → Type 0
 DeclareLocals s = (k : ℕ) (l : Local) → local_at s.frame k ≡ Some l → AreLocalBounds s l.bounds
 
+-- Locals that are `_Ptr` have the bounds of their type, one element.
+abbrev pub DeclareOnes : Setting → Type 0
+DeclareOnes s =
+    (k : ℕ) (l : Local) → local_at s.frame k ≡ Some l → kind_of l.ctype ≡ Some kind.One
+    → l.bounds ≡ bounds_of_kind (base.Local k) (Some kind.One)
+
 -- ---- static objects
 
 -- a static object that is one integer of a type
@@ -111,6 +125,22 @@ pub record IsStaticArray (s : Setting) (t : CType) (k : ℕ) : Type 0 where
   pub kind_is : kind_of t ≡ Some kind
   pub element : element_of t ≡ object.element
 
+-- a static object that is one pointer of a type, declared without bounds; the pointers that memory holds are in bounds
+pub record IsStaticPointer (s : Setting) (store : Store) (t : CType) (k : ℕ) : Type 0 where
+  pub object : StaticObject
+  pub there : slice_get s.text.statics k ≡ Some object
+  pub judged : slice_get s.frame.statics k ≡ Some object
+  pub is_run : Option Bool
+  pub placed : slice_get (objects_elaborated s.text) k ≡ Some (object_elaborated s.text.layout is_run object)
+  pub single : object.array ≡ None
+  pub plain : object.terminated ≡ false
+  pub some : 0 < object.count
+  pub element : object.element ≡ t
+  pub pointer : is_pointer t ≡ true
+  pub bare : is_declared_object (slice_get s.frame.objects k) ≡ false
+  pub counted : count_of_static s.text t (name.Static k) ≡ count_of_kind (kind_of t)
+  pub filled : AreFilled s.text store
+
 -- ---- expressions
 
 -- the unary operators on integers, and `!`
@@ -126,35 +156,82 @@ pub record IsElement (e : NotedExpr) : Type 0 where
   pub counted : is_counted_kind (kind_of e.note.ctype) ≡ true
   pub integer : is_integer (element_of e.note.ctype) ≡ true
 
+-- what `*` reads through a `_Ptr`: an integer
+pub record IsSingle (s : Setting) (e : NotedExpr) : Type 0 where
+  pub single : kind_of e.note.ctype ≡ Some kind.One
+  pub integer : is_integer (element_of e.note.ctype) ≡ true
+  pub declared : DeclareOnes s
+
+-- an integer that is a member of a structure of a type
+pub record IsIntegerMember (s : Setting) (u t : CType) (n : Name) : Type 0 where
+  pub number : ℕ
+  pub named : n ≡ name.Member number
+  pub there : dot_type s.text.layout u n ≡ Some t
+  pub integer : is_integer t ≡ true
+  pub bare : count_of_member s.text.layout (tag_of u) n ≡ None
+
+-- what `->` reads: an integer, through a checked pointer
+pub record IsArrow (s : Setting) (e : NotedExpr) (n : Name) (t : CType) : Type 0 where
+  pub member : IsIntegerMember s (element_of e.note.ctype) t n
+  pub through : (is_counted_kind (kind_of e.note.ctype) ≡ true)
+      ⊎ ((kind_of e.note.ctype ≡ Some kind.One) × DeclareOnes s)
+
+-- what else `->` reads: a `_Ptr` or an `_Nt_array_ptr` without bounds; the pointers that memory holds are in bounds
+pub record IsPointerArrow (s : Setting) (store : Store) (e : NotedExpr) (n : Name) (t : CType) : Type 0 where
+  pub tag : ℕ
+  pub struct : out-CType (element_of e.note.ctype) ≡ CType-F.Struct tag
+  pub number : ℕ
+  pub named : n ≡ name.Member number
+  pub member : MemberShape
+  pub found : member_named s.text.layout tag n ≡ Some member
+  pub type : member.ctype ≡ t
+  pub pointer : is_pointer t ≡ true
+  pub elements : ℤ
+  pub counted : count_of_kind (kind_of t) ≡ Some (count.Fixed elements)
+  pub bare : member.bounds ≡ mbounds.Nothing
+  pub judged : member_bounds s.frame.structs (record { tag = tag; number = number }) ≡ mbounds.Nothing
+  pub through : (kind_of e.note.ctype ≡ Some kind.Arr) ⊎ ((kind_of e.note.ctype ≡ Some kind.One) × DeclareOnes s)
+  pub filled : AreFilled s.text store
+
+-- `*p` and `p[e]`, of which `&` gives the address
+abbrev pub IsAddressed : NotedLayer → Type 0
+IsAddressed (Node-F.Un op.Deref e) = Unit {0}
+IsAddressed (Node-F.Index e f) = Unit {0}
+IsAddressed _ = ⊥
+
 -- the operands of unary operators
-abbrev pub IsCoveredUnary : TreeOp → NotedExpr → Type 0
-IsCoveredUnary op.Deref e = IsElement e
-IsCoveredUnary o e = IsArithmetic o
+abbrev pub IsCoveredUnary : Setting → TreeOp → NotedExpr → Type 0
+IsCoveredUnary s op.Deref e = IsElement e ⊎ IsSingle s e
+IsCoveredUnary s op.Address e = IsAddressed (out-Node Name Note e.node)
+IsCoveredUnary s o e = IsArithmetic o
 
 -- The nodes of a type of which it is said what they come to: numbers, `sizeof`, `NULL`, locals in scope, static
--- integers and arrays, operators, `?:`, casts, and integers that are read through pointers.
-abbrev pub IsCoveredNode : Setting → List ℕ → CType → NotedLayer → Type 0
-IsCoveredNode s seen t (Node-F.Number n unsigned) = Unit {0}
-IsCoveredNode s seen t (Node-F.Size w) = Unit {0}
-IsCoveredNode s seen t Node-F.Null = Unit {0}
-IsCoveredNode s seen t (Node-F.Name (name.Local k)) = IsInScope s seen k
-IsCoveredNode s seen t (Node-F.Name (name.Static k)) = IsStaticInteger s t k ⊎ IsStaticArray s t k
-IsCoveredNode s seen t (Node-F.Un o e) = IsCoveredUnary o e
-IsCoveredNode s seen t (Node-F.Bin o e f) = Unit {0}
-IsCoveredNode s seen t (Node-F.Pick e f g) = Unit {0}
-IsCoveredNode s seen t (Node-F.Cast w e) = Unit {0}
-IsCoveredNode s seen t (Node-F.Index e f) = IsElement e
-IsCoveredNode s seen t _ = ⊥
+-- integers, arrays and pointers, operators, `?:`, casts, integers that are read through pointers, what `->` reads,
+-- `&*p` and `&p[e]`.
+abbrev pub IsCoveredNode : Setting → Store → List ℕ → CType → NotedLayer → Type 0
+IsCoveredNode s store seen t (Node-F.Number n unsigned) = Unit {0}
+IsCoveredNode s store seen t (Node-F.Size w) = Unit {0}
+IsCoveredNode s store seen t Node-F.Null = Unit {0}
+IsCoveredNode s store seen t (Node-F.Name (name.Local k)) = IsInScope s seen k
+IsCoveredNode s store seen t (Node-F.Name (name.Static k)) =
+    IsStaticInteger s t k ⊎ (IsStaticArray s t k ⊎ IsStaticPointer s store t k)
+IsCoveredNode s store seen t (Node-F.Un o e) = IsCoveredUnary s o e
+IsCoveredNode s store seen t (Node-F.Bin o e f) = Unit {0}
+IsCoveredNode s store seen t (Node-F.Pick e f g) = Unit {0}
+IsCoveredNode s store seen t (Node-F.Cast w e) = Unit {0}
+IsCoveredNode s store seen t (Node-F.Index e f) = IsElement e
+IsCoveredNode s store seen t (Node-F.Arrow e n spot) = IsArrow s e n t ⊎ IsPointerArrow s store e n t
+IsCoveredNode s store seen t _ = ⊥
 
 -- Such an expression is no unchecked pointer, the size of what it points to is a word, and so is the number of its
 -- values.
-pub record IsCoveredExpr (s : Setting) (seen : List ℕ) (e : Expr-F Name Note NotedLimits NotedNode NotedExpr)
-    : Type 0 where
-  pub node : IsCoveredNode s seen e.note.ctype (out-Node Name Note e.node)
+pub record IsCoveredExpr (s : Setting) (store : Store) (seen : List ℕ)
+    (e : Expr-F Name Note NotedLimits NotedNode NotedExpr) : Type 0 where
+  pub node : IsCoveredNode s store seen e.note.ctype (out-Node Name Note e.node)
   pub checked : is_raw_kind (kind_of e.note.ctype) ≡ false
   pub few : (view s.frame (record { node = e.node; pos = e.pos; note = e.note })).values + 1 < 2 ^ 32
   pub sized : size_behind s.text.layout e.note.ctype < 2 ^ 32
 
 -- An expression and each expression in it, however deep, is such a one.
-abbrev pub IsCovered : Setting → List ℕ → NotedExpr → Type 0
-IsCovered s seen = every-Expr Name Note AnyLimits AnyNode (IsCoveredExpr s seen)
+abbrev pub IsCovered : Setting → Store → List ℕ → NotedExpr → Type 0
+IsCovered s store seen = every-Expr Name Note AnyLimits AnyNode (IsCoveredExpr s store seen)

@@ -1,5 +1,5 @@
 -- What a judged expression comes to in a store in which its point holds.
-use Rattle.std.specs.Prelude.{◌≡◌, ◌+◌, ◌==◌, ◌<◌, ◌^◌, ℕ, Bool, not, List, Result, Ok, Err}
+use Rattle.std.specs.Prelude.{◌≡◌, ◌+◌, ◌==◌, ◌<◌, ◌^◌, ℕ, Bool, not, IfSome, List, Result, Ok, Err}
 use Rattle.ckc_bounds_views.specs.Parts.{View}
 use Rattle.ckc_bounds_statements.specs.Paths.{Here}
 use Rattle.ckc_source.specs.declared.outcome.Halt.{Halt}
@@ -9,7 +9,7 @@ use Rattle.ckc_source.specs.Eval.{Store}
 use Rattle.ckc_blame_sound.specs.Settings.{Setting}
 use Rattle.ckc_blame_sound.specs.Values.{IsWordOf}
 use Rattle.ckc_blame_sound.specs.Points.{HoldsAt}
-use Rattle.ckc_blame_pointers.specs.Valuations.{Valuation, Fits, AreFresh, Extends, IsAtPlace, IsInRange}
+use Rattle.ckc_blame_pointers.specs.Valuations.{Valuation, BaseBelow, RangeBelow, Fits, AreFresh, Extends, IsAtPlace, IsInRange}
 
 -- An evaluation gives a value of which this holds, or stops at a named check. It is not stuck.
 abbrev pub IsNotStuck : (Value → Type 0) → Result Value Halt → Type 0
@@ -18,11 +18,13 @@ IsNotStuck P (Err (halt.Stopped why at)) = Unit {0}
 IsNotStuck P (Err halt.Stuck) = ⊥
 
 -- A pointer is where it is judged to be, under some numbers for the values and the fresh variables of its expression,
--- which are numbered from here on.
+-- which are numbered from here on, as many as the expression has.
 pub record HasPlace (s : Setting) (store : Store) (here : Here) (e : View) (first fresh : ℕ) (before : Valuation)
     (p : Value) : Type 0 where
   pub after : Valuation
   pub extends : Extends first fresh before after
+  pub place_below : IfSome (e.place first here.at.facts) (λ f. BaseBelow (first + e.values) f.base)
+  pub range_below : RangeBelow (first + e.values) (e.range first fresh here.at)
   pub place : IsAtPlace s store.locals after e.ctype (e.place first here.at.facts) p.number
   pub range : IsInRange s store after e.ctype (e.range first fresh here.at) p
 

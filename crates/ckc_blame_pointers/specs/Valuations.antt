@@ -76,3 +76,15 @@ abbrev pub IsInRange : Setting → Store → Valuation → CType → noted.Range
 IsInRange s store v t (range.Known low high) p = (p.number ≡ 0) ⊎ HasEnds s store v t low high p
 IsInRange s store v t range.Any p = p.number ≡ 0
 IsInRange s store v t range.Missing p = Unit {0}
+
+-- ---- the numbers of values
+
+-- a base is no value from a number on
+abbrev pub BaseBelow : ℕ → Option Base → Type 0
+BaseBelow limit (Some (base.Value n)) = n < limit
+BaseBelow limit _ = Unit {0}
+
+-- nor are those of the ends of a range
+abbrev pub RangeBelow : ℕ → noted.Range → Type 0
+RangeBelow limit (range.Known low high) = BaseBelow limit low.base × BaseBelow limit high.base
+RangeBelow limit _ = Unit {0}

@@ -14,15 +14,16 @@ ghost use Rattle.ckc_blame_pointers.specs.Valuations.{AreFresh};
 ghost use Rattle.ckc_blame_pointers.specs.Covered.{DeclareLocals, IsSoundStore, IsCovered};
 ghost use Rattle.ckc_blame_pointers.specs.Meant.{IsNotStuck, IsMeant};
 
-/// What becomes of a judged expression gives a value that is as it is judged to be, or stops at a named check. It is not
-/// stuck. This is said of numbers, `sizeof`, `NULL`, locals in scope, static integers and arrays, operators, `?:`, casts,
-/// and of integers that are read through `_Array_ptr` and `_Nt_array_ptr`; and of no unchecked pointers.
+/// What becomes of a judged expression gives a value that is as it is judged to be, or stops at a named check. It is
+/// not stuck. This is said of numbers, `sizeof`, `NULL`, locals in scope, static integers and arrays, operators, `?:`,
+/// casts, static pointers and members without bounds, integers that are read through checked pointers, `&*p` and
+/// `&p[e]`; and of no unchecked pointers.
 pub fn expressions_are_not_stuck()
     ensures { (globals : Globals) (s : Setting) (entry : List ℕ) (here : Here)
         (before after : NotedExpr) (fresh literals next : ℕ) (store : Store) → Agrees globals s
         → DeclareLocals s → IsSoundStore s store next → fresh < 2 ^ 32 → AreFresh s.frame fresh
         → IsTyped globals s before
-        → (view s.frame before).judged fresh here.at ≡ Ok after → IsCovered s here.seen after
+        → (view s.frame before).judged fresh here.at ≡ Ok after → IsCovered s store here.seen after
         → HoldsAt s store entry here
         → IsNotStuck (IsMeant s store entry here (view s.frame before))
         (evaluated store (expr_elaborated s.text s.variables literals after)) }

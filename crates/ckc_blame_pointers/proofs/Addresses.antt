@@ -1,0 +1,276 @@
+-- The claims of `&*p` and `&p[e]`, which are those of p and of `p + e`, as pointers of another kind.
+use Rattle.std.proofs.Common.{◌≡◌, inl, inr, ⊎_elim, refl, sym, ap, subst, ◌∙◌, ℕ, Bool, true, false, List, arith, rules}
+use Rattle.std.specs.Prelude.{◌+◌, ◌<◌, ◌≤◌, ◌^◌, ◌&&◌, if◌then◌else◌, pos, IfSome, Option, None, Some}
+use Rattle.std.specs.Option.{option_or}
+use Rattle.ckc_types.specs.declared.types.Kind.TheVariants as kind
+use Rattle.ckc_types.specs.declared.types.Kind.{Kind}
+use Rattle.ckc_types.specs.declared.types.CType.{CType, CType-F, out-CType, the_lemmas}
+use Rattle.ckc_types.specs.declared.types.CType.TheVariants as ctype
+use Rattle.ckc_base.specs.declared.places.Pos.{Pos}
+use Rattle.ckc_base.specs.declared.arithmetic.Mode.{Mode}
+use Rattle.ckc_base.specs.declared.arithmetic.Mode.TheVariants.{Checked, Unchecked}
+use Rattle.ckc_syntax.specs.declared.tree.Node.{Node-F}
+use Rattle.ckc_syntax.specs.declared.tree.TreeOp.TheVariants as op
+use Rattle.ckc_typed.specs.declared.typed.Note.{Note}
+use Rattle.ckc_typed.specs.Expressions.{address_kind}
+use Rattle.ckc_typed.specs.Operands.{is_raw_kind}
+use Rattle.ckc_typed.specs.Trees.{NotedExpr}
+use Rattle.ckc_linear.specs.declared.forms.Base.{Base}
+use Rattle.ckc_linear.specs.declared.forms.Base.TheVariants as base
+use Rattle.ckc_linear.specs.declared.forms.Form.{Form}
+use Rattle.ckc_typed.specs.declared.typed.Range.{Range}
+use Rattle.ckc_typed.specs.declared.typed.Range.TheVariants as range
+use Rattle.ckc_typed.specs.Constants.{size_of}
+use Rattle.ckc_typed.specs.Conversions.{is_terminated_kind}
+use Rattle.ckc_typed.specs.Types.{is_pointer, is_pointer_form, kind_of, kind_in, element_of, element_in}
+use Rattle.ckc_bounds_points.specs.Forms.{base_form, sum_of_forms}
+use Rattle.ckc_bounds_views.specs.Parts.{NodeView, capped, fresh_behind}
+use Rattle.ckc_bounds_views.specs.Places.{with_own, binary_place, pointer_place}
+use Rattle.ckc_bounds_views.specs.Ranges.{range_of_operand, pointer_range}
+use Rattle.ckc_bounds_views.specs.Views.{node_view, expr_view, view}
+use Rattle.ckc_bounds_statements.specs.Paths.{Here}
+use Rattle.ckc_source.specs.declared.outcome.Value.{Value}
+use Rattle.ckc_source.specs.Eval.{Store}
+use Rattle.ckc_source.specs.Runs.{is_true}
+use Rattle.ckc_build_values.specs.Kinds.{pointee_of, size_behind}
+use Rattle.ckc_blame_sound.specs.Settings.{Setting}
+use Rattle.ckc_blame_sound.specs.Points.{HoldsAt}
+use Rattle.ckc_blame_pointers.specs.Valuations.{Valuation, Fits, AreFresh, address_by, IsAtPlace, HasEnds, IsInRange, BaseBelow, RangeBelow}
+use Rattle.ckc_blame_pointers.proofs.Claims.{IsOfLocal, Placed, SideGoes, stays, nothing_read}
+use Rattle.ckc_blame_pointers.proofs.Moving.{with_address, address_added, address_kept, base_weaker, range_weaker, address_same, at_base, still_fits}
+use Rattle.ckc_blame_numbers.proofs.Types.{word_wide}
+use Rattle.ckc_blame_pointers.proofs.Binary.{ExprClaims}
+use Rattle.ckc_blame_pointers.proofs.Nodes.{NodeClaims, narrow}
+use Rattle.ckc_blame_pointers.proofs.Rows.{pointer_word}
+use Rattle.ckc_blame_pointers.proofs.Truths.{true_bare}
+
+module _ (s : Setting) (store : Store) (entry : List ℕ) (here : Here) where
+  -- ---- a pointer that stands for itself if it has no place
+
+  module _ (t : CType) (limit most : ℕ) (place : Option Form) (r : Range) (first fresh : ℕ) (before : Valuation) (v : Value) (p : Placed s store entry here t limit place r first fresh before v)
+      (zero : p.after.numbers 0 ≡ pos 0) (n : ℕ) (from : first ≤ n) (over : limit ≤ n) (under : n < most) where
+    abbrev after : Valuation
+    after = with_address n v.number p.after
+
+    range_there : (q : Range) → r ≡ q → IsInRange s store after t q v
+    range_there range.Missing e = tt
+    range_there range.Any e = subst (λ q. IsInRange s store p.after t q v) e p.range_is
+    range_there (range.Known low high) e = ⊎_elim (λ null. inl null) (λ (ends : HasEnds s store p.after t low high v). inr (record {
+      from = ends.from;
+      to = ends.to;
+      range = ends.range;
+      low_is = ends.low_is ∙ sym (address_same s store entry here t p.after n v.number low (base_weaker limit n low.base over below.0));
+      high_is = ends.high_is ∙ sym (address_same s store entry here t p.after n v.number high (base_weaker limit n high.base over below.1));
+      true_there = ends.true_there;
+    })) (subst (λ q. IsInRange s store p.after t q v) e p.range_is)
+      where
+        below : BaseBelow limit low.base × BaseBelow limit high.base
+        below = subst (RangeBelow limit) e p.range_below
+
+    wider_limit : limit ≤ most
+    wider_limit = omega (arith, over, under)
+
+    pub or_own : Placed s store entry here t most (option_or place (Some (base_form (base.Value n)))) r first fresh before v
+    or_own = by place refl
+      where
+        by : (o : Option Form) → place ≡ o → Placed s store entry here t most (option_or o (Some (base_form (base.Value n)))) r first fresh before v
+        by (Some h) e = record {
+          after = p.after;
+          place_below = base_weaker limit most h.base wider_limit (subst (λ (o : Option Form). IfSome o (λ f. BaseBelow limit f.base)) e p.place_below);
+          range_below = range_weaker limit most r wider_limit p.range_below;
+          of_local = subst (λ (o : Option Form). IfSome o (λ f. IsOfLocal s t f.base)) e p.of_local;
+          extends = p.extends;
+          place_is = subst (λ o. IsAtPlace s store.locals p.after t o v.number) e p.place_is;
+          range_is = p.range_is;
+        }
+        by None e = record {
+          after = after;
+          place_below = under;
+          range_below = range_weaker limit most r wider_limit p.range_below;
+          of_local = tt;
+          extends = record {
+            addresses = λ k below. address_kept n v.number p.after k (less k below from) ∙ p.extends.addresses k below;
+            numbers = p.extends.numbers;
+          };
+          place_is = sym (at_base s store entry here t after zero (base.Value n) ∙ ap pos (address_added n v.number p.after));
+          range_is = range_there r refl;
+        }
+          where
+            less : (k : ℕ) → k < first → first ≤ n → k < n
+            less k below from = omega arith
+
+  -- ---- a pointer of another type
+
+  module _ (t r : CType) (same : element_of r ≡ element_of t) (bare : is_terminated_kind (kind_of r) ≡ false) where
+    size_same : size_behind s.text.layout t ≡ size_behind s.text.layout r
+    size_same = ap (size_of s.text.layout) (sym same)
+
+    of_there : (b : Option Base) → IsOfLocal s t b → IsOfLocal s r b
+    of_there (Some (base.Local k)) h = λ l there. h l there ∙ sym same
+    of_there (Some (base.Array k)) h = tt
+    of_there (Some (base.Value k)) h = tt
+    of_there None h = tt
+
+    true_there : (n low high : ℕ) → is_true store.shapes store.blocks (pointee_of s.text.layout t) n low high ≡ true → is_true store.shapes store.blocks (pointee_of s.text.layout r) n low high ≡ true
+    true_there n low high e =
+        subst (λ q. is_true store.shapes store.blocks (record { element = q; size = size_of s.text.layout q; terminated = is_terminated_kind (kind_of r) }) n low high ≡ true) (sym same)
+        (subst (λ c. is_true store.shapes store.blocks (record { element = element_of t; size = size_behind s.text.layout t; terminated = c }) n low high ≡ true) (sym bare)
+        (true_bare (element_of t) (size_behind s.text.layout t) (is_terminated_kind (kind_of t)) n low high store.shapes store.blocks e))
+
+    in_range : (v : Valuation) (q : Range) (p : Value) → IsInRange s store v t q p → IsInRange s store v r q p
+    in_range v range.Missing p h = tt
+    in_range v range.Any p h = h
+    in_range v (range.Known low high) p h = ⊎_elim (λ null. inl null) (λ (ends : HasEnds s store v t low high p). inr (record {
+      from = ends.from;
+      to = ends.to;
+      range = ends.range;
+      low_is = ends.low_is ∙ ap (λ n. address_by s store.locals v n low) size_same;
+      high_is = ends.high_is ∙ ap (λ n. address_by s store.locals v n high) size_same;
+      true_there = true_there p.number ends.from ends.to ends.true_there;
+    })) h
+
+    at_place : (v : Valuation) (o : Option Form) (n : ℕ) → IsAtPlace s store.locals v t o n → IsAtPlace s store.locals v r o n
+    at_place v None n h = tt
+    at_place v (Some f) n h = h ∙ ap (λ n. address_by s store.locals v n f) size_same
+
+    of_place : (o : Option Form) → IfSome o (λ f. IsOfLocal s t f.base) → IfSome o (λ f. IsOfLocal s r f.base)
+    of_place None h = tt
+    of_place (Some f) h = of_there f.base h
+
+    pub retyped : (limit : ℕ) (place : Option Form) (q : Range) (first fresh : ℕ) (before : Valuation) (p : Value) → Placed s store entry here t limit place q first fresh before p
+        → Placed s store entry here r limit place q first fresh before p
+    retyped limit place q first fresh before p h = record {
+      after = h.after;
+      place_below = h.place_below;
+      range_below = h.range_below;
+      of_local = of_place place h.of_local;
+      extends = h.extends;
+      place_is = at_place h.after place p.number h.place_is;
+      range_is = in_range h.after q p h.range_is;
+    }
+
+-- ---- the claims of an address
+
+module _ (s : Setting) (store : Store) (entry : List ℕ) (here : Here) (h : HoldsAt s store entry here) where
+  -- what has the place and the range of a pointer to the same elements, by whatever numbers
+  pub address_claims : (t r : CType) → element_of r ≡ element_of t → is_pointer r ≡ true → kind_of r ≡ Some kind.Arr → (n : NodeView) → n.behind ≡ None → n.is_zero ≡ false → ((b : Bool) → n.side b here.at ≡ here.at) → (p : Value) → p.number < 2 ^ 32
+      → ((first fresh : ℕ) (before : Valuation) → first + with_own r n + 1 < 2 ^ 32 → fresh < 2 ^ 32 → AreFresh s.frame fresh → Fits s.frame store.locals before
+      → Placed s store entry here t (first + with_own r n) (pointer_place r n first here.at.facts) (pointer_range r n first fresh here.at) first fresh before p)
+      → NodeClaims s store entry here h r n p
+  address_claims t r same pointer array n none some quiet p small placed = record {
+    word = pointer_word r pointer p.number small;
+    placed = λ first fresh before low little are fits.
+        retyped s store entry here t r same (ap is_terminated_kind array) (first + with_own r n) (pointer_place r n first here.at.facts) (pointer_range r n first fresh here.at) first fresh before p
+        (placed first fresh before low little are fits);
+    one = λ ones one. let other = array in absurd (cc);
+    zero = λ e. let other = some in absurd (cc);
+    wide = λ e. narrow s store entry here h n none;
+    sides = λ b e. subst (SideGoes s store entry here) (sym (quiet b)) (stays s store entry here h);
+  }
+
+-- ---- `&*p` and `&p[e]`
+
+pointer_form : (k : Kind) (t : CType) → out-CType (ctype.Pointer k t) ≡ CType-F.Pointer k t
+pointer_form k t = search (rules, the_lemmas)
+
+-- an address that is no unchecked pointer
+pub address_row : (mode : Mode) (t u : CType) → ctype.Pointer (address_kind mode) t ≡ u → is_raw_kind (kind_of u) ≡ false → (is_pointer u ≡ true) × (kind_of u ≡ Some kind.Arr) × (element_of u ≡ t)
+address_row Checked t u e raw =
+    (ap is_pointer (sym e) ∙ ap is_pointer_form (pointer_form kind.Arr t), ap kind_of (sym e) ∙ ap kind_in (pointer_form kind.Arr t), ap element_of (sym e) ∙ ap element_in (pointer_form kind.Arr t))
+address_row Unchecked t u e raw =
+    let unchecked : is_raw_kind (kind_of u) ≡ true = ap (λ u. is_raw_kind (kind_of u)) (sym e) ∙ ap (λ f. is_raw_kind (kind_in f)) (pointer_form kind.Raw t) in absurd (cc)
+
+module _ (s : Setting) (store : Store) (entry : List ℕ) (here : Here) (h : HoldsAt s store entry here) (e : NotedExpr) (note : Note) (place : Pos) (bare : is_pointer note.ctype ≡ false) (r : CType)
+    (pointer : is_pointer r ≡ true) (array : kind_of r ≡ Some kind.Arr) (same : element_of r ≡ element_of e.note.ctype) where
+  abbrev pub address_view : NodeView → NodeView
+  address_view n = node_view s.frame (Node-F.Un op.Address (expr_view (record { node = n; pos = place; note = note })))
+
+  placed_as : (t : CType) (m n : ℕ) (a b : Option Form) (q z : Range) (first fresh : ℕ) (before : Valuation) (p : Value) → m ≡ n → a ≡ b → q ≡ z → Placed s store entry here t n b z first fresh before p
+      → Placed s store entry here t m a q first fresh before p
+  placed_as t m n a b q z first fresh before p i j k c =
+      subst (λ m. Placed s store entry here t m a q first fresh before p) (sym i) (subst (λ a. Placed s store entry here t n a q first fresh before p) (sym j)
+      (subst (λ q. Placed s store entry here t n b q first fresh before p) (sym k) c))
+
+  pub target_claims : (x : Value) → ExprClaims s store entry here e x → NodeClaims s store entry here h r (address_view (node_view s.frame (Node-F.Un op.Deref (view s.frame e)))) x
+  target_claims x c =
+      address_claims s store entry here h e.note.ctype r same pointer array made refl refl (λ b. nothing_read s store entry (λ facts. None) b here.at) x (word_wide e.note.ctype x.number c.word)
+      (λ first fresh before low little are fits. placed_so first fresh before (room first (view s.frame e).values (subst (λ m. first + m + 1 < 2 ^ 32) own_is low)) little are fits)
+    where
+      made : NodeView
+      made = address_view (node_view s.frame (Node-F.Un op.Deref (view s.frame e)))
+
+      values_is : made.values ≡ (view s.frame e).values
+      values_is = ap (λ b. if b && true then capped (view s.frame e).values 1 else (view s.frame e).values) bare
+
+      own_is : with_own r made ≡ capped (view s.frame e).values 1
+      own_is = ap (λ b. if b && true then capped made.values 1 else made.values) pointer ∙ ap (λ n. capped n 1) values_is
+
+      place_is : (first : ℕ) → pointer_place r made first here.at.facts ≡ option_or ((view s.frame e).place first here.at.facts) (Some (base_form (base.Value (capped first (view s.frame e).values))))
+      place_is first =
+          ap (λ b. if b then option_or ((view s.frame e).place first here.at.facts) (Some (base_form (base.Value (capped first made.values)))) else None) pointer
+          ∙ ap (λ n. option_or ((view s.frame e).place first here.at.facts) (Some (base_form (base.Value (capped first n))))) values_is
+
+      range_is : (first fresh : ℕ) → pointer_range r made first fresh here.at ≡ (view s.frame e).range first fresh here.at
+      range_is first fresh = ap (λ b. if b then (view s.frame e).range first fresh here.at else range.Missing) pointer
+
+      room : (first n : ℕ) → first + capped n 1 + 1 < 2 ^ 32 → (first + n + 1 < 2 ^ 32) × (first ≤ capped first n) × (first + n ≤ capped first n) × (capped first n < first + capped n 1)
+      room first n low = (omega arith, omega arith, omega arith, omega arith)
+
+      placed_so : (first fresh : ℕ) (before : Valuation)
+          → (first + (view s.frame e).values + 1 < 2 ^ 32) × (first ≤ capped first (view s.frame e).values) × (first + (view s.frame e).values ≤ capped first (view s.frame e).values)
+          × (capped first (view s.frame e).values < first + capped (view s.frame e).values 1)
+          → fresh < 2 ^ 32 → AreFresh s.frame fresh → Fits s.frame store.locals before
+          → Placed s store entry here e.note.ctype (first + with_own r made) (pointer_place r made first here.at.facts) (pointer_range r made first fresh here.at) first fresh before x
+      placed_so first fresh before there little are fits =
+          let p = c.placed first fresh before there.0 little are fits in
+          placed_as e.note.ctype _ _ _ _ _ _ first fresh before x (ap (λ m. first + m) own_is) (place_is first) (range_is first fresh)
+          (or_own s store entry here e.note.ctype (first + (view s.frame e).values) (first + capped (view s.frame e).values 1) ((view s.frame e).place first here.at.facts) ((view s.frame e).range first fresh here.at)
+          first fresh before x p (still_fits s store.locals first fresh before p.after are fits p.extends 0 (inl refl)) (capped first (view s.frame e).values) there.1 there.2 there.3)
+
+  pub index_claims : (f : NotedExpr) → is_pointer e.note.ctype ≡ true → is_raw_kind (kind_of e.note.ctype) ≡ false → (view s.frame e).ctype ≡ e.note.ctype → (x : Value)
+      → NodeClaims s store entry here h e.note.ctype (node_view s.frame (Node-F.Bin op.Add (view s.frame e) (view s.frame f))) x
+      → NodeClaims s store entry here h r (address_view (node_view s.frame (Node-F.Index (view s.frame e) (view s.frame f)))) x
+  index_claims f from checked viewed x c =
+      address_claims s store entry here h e.note.ctype r same pointer array made refl refl (λ b. nothing_read s store entry (λ facts. None) b here.at) x (word_wide e.note.ctype x.number c.word)
+      (λ first fresh before low little are fits.
+      placed_as e.note.ctype _ _ _ _ _ _ first fresh before x (ap (λ m. first + m) own_is) (place_is first) (range_is first fresh) (c.placed first fresh before (subst (λ m. first + m + 1 < 2 ^ 32) own_is low) little are fits))
+    where
+      made : NodeView
+      made = address_view (node_view s.frame (Node-F.Index (view s.frame e) (view s.frame f)))
+
+      sum : NodeView
+      sum = node_view s.frame (Node-F.Bin op.Add (view s.frame e) (view s.frame f))
+
+      raw : is_raw_kind (kind_of (view s.frame e).ctype) ≡ false
+      raw = ap (λ t. is_raw_kind (kind_of t)) viewed ∙ checked
+
+      view_pointer : is_pointer (view s.frame e).ctype ≡ true
+      view_pointer = ap is_pointer viewed ∙ from
+
+      values_is : made.values ≡ sum.values
+      values_is = ap (λ b. if b && true then capped sum.values 1 else sum.values) bare
+
+      own_is : with_own r made ≡ with_own e.note.ctype sum
+      own_is =
+          ap (λ b. if b && true then capped made.values 1 else made.values) pointer ∙ ap (λ n. capped n 1) values_is ∙ sym (ap (λ b. if b && true then capped sum.values 1 else sum.values) from)
+
+      own_form : ℕ → Option Form
+      own_form n = Some (base_form (base.Value n))
+
+      place_is : (first : ℕ) → pointer_place r made first here.at.facts ≡ pointer_place e.note.ctype sum first here.at.facts
+      place_is first =
+          ap (λ b. if b then option_or (if is_raw_kind (kind_of (view s.frame e).ctype) then None else sum_of_forms ((view s.frame e).place first here.at.facts) ((view s.frame f).form here.at.facts)) (own_form (capped first made.values)) else None) pointer
+          ∙ ap (λ b. option_or (if b then None else sum_of_forms ((view s.frame e).place first here.at.facts) ((view s.frame f).form here.at.facts)) (own_form (capped first made.values))) raw
+          ∙ ap (λ n. option_or (sum_of_forms ((view s.frame e).place first here.at.facts) ((view s.frame f).form here.at.facts)) (own_form (capped first n))) values_is
+          ∙ sym (ap (λ b. if b then option_or (if is_raw_kind (kind_of e.note.ctype) then None else binary_place first here.at.facts op.Add (view s.frame e) (view s.frame f)) (own_form (capped first sum.values)) else None) from
+          ∙ ap (λ b. option_or (if b then None else binary_place first here.at.facts op.Add (view s.frame e) (view s.frame f)) (own_form (capped first sum.values))) checked
+          ∙ ap (λ b. option_or (if b then sum_of_forms ((view s.frame e).place first here.at.facts) ((view s.frame f).form here.at.facts)
+          else sum_of_forms ((view s.frame f).place (capped first (view s.frame e).values) here.at.facts) ((view s.frame e).form here.at.facts)) (own_form (capped first sum.values))) view_pointer)
+
+      range_is : (first fresh : ℕ) → pointer_range r made first fresh here.at ≡ pointer_range e.note.ctype sum first fresh here.at
+      range_is first fresh =
+          ap (λ b. if b then (if is_raw_kind (kind_of (view s.frame e).ctype) then range.Missing else (view s.frame e).range first fresh here.at) else range.Missing) pointer
+          ∙ ap (λ b. if b then range.Missing else (view s.frame e).range first fresh here.at) raw
+          ∙ sym (ap (λ b. if b then (if is_raw_kind (kind_of e.note.ctype) then range.Missing else range_of_operand (view s.frame e) (view s.frame f) first fresh here.at) else range.Missing) from
+          ∙ ap (λ b. if b then range.Missing else range_of_operand (view s.frame e) (view s.frame f) first fresh here.at) checked
+          ∙ ap (λ b. if b then (view s.frame e).range first fresh here.at else (view s.frame f).range (capped first (view s.frame e).values) (fresh_behind (view s.frame e) fresh here.at) here.at) view_pointer)
