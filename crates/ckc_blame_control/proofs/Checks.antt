@@ -13,6 +13,8 @@ use Rattle.ckc_typed.specs.declared.environment.Variable.{Variable}
 use Rattle.ckc_typed.specs.declared.typed.Note.{Note}
 use Rattle.ckc_typed.specs.declared.typed.Typed.{Typed}
 use Rattle.ckc_typed.specs.Trees.{NotedDecl, NotedExpr, NotedInit, NotedLayer, NotedStmt}
+use Rattle.ckc_typed_welltyped.specs.Statements as rows
+use Rattle.ckc_typed_welltyped.specs.Statements.{act_rows, WellTypedStmt}
 use Rattle.ckc_bounds_points.specs.Codes.{not_contained, bad_bundle}
 use Rattle.ckc_bounds_statements.specs.Paths.{Here, path, value_judged, maybe_judged, side_of, is_returned, gone, parts_judged, is_good, bundle_judged, sides_judged, behind_stores, decl_judged, stated, act_judged}
 use Rattle.ckc_source.specs.declared.stmt.Spot.{Spot}
@@ -23,8 +25,10 @@ use Rattle.ckc_build_elaborate.specs.Steps.{Destination, spot, nowhere, destinat
 use Rattle.ckc_build_elaborate.specs.Statements.{all_assigns, act_code, part_of}
 use Rattle.ckc_blame_sound.specs.Settings.{Setting}
 use Rattle.ckc_blame_sound.specs.Points.{GoesTo}
+use Rattle.ckc_blame_sound.specs.Bodies.{globals_of_text}
 use Rattle.ckc_blame_sound.specs.Steps.{is_simple, IsStep, IsCondition}
 use Rattle.ckc_blame_numbers.proofs.Statements.{made_of, pair_same, passes}
+use Rattle.ckc_blame_control.proofs.Typed.{by_parts}
 use Rattle.ckc_blame_numbers.proofs.Stepping.{ActLayer, viewed, judged_is, parted, code_is, out_call, out_return, out_check, out_bundle, first_step}
 
 -- An expression is a condition at a point, and control goes from its true side to another point.
@@ -86,6 +90,11 @@ out_local : (d : NotedDecl) → out-Act Name Note (act.Local d) ≡ Act-F.Local 
 out_local d = search (rules, the_lemmas)
 
 module _ (s : Setting) (here there : Here) (sp : Spot) (e : Expr) (step : IsStep s here (Check sp e) there) where
+  check_inside : (x : NotedExpr) → out-Act Name Note step.before.body ≡ Act-F.Check x → rows.IsCondition (globals_of_text s.text) s.variables step.inside.mode x
+  check_inside x is =
+      subst (λ (y : ActLayer). act_rows (globals_of_text s.text) s.variables s.result (WellTypedStmt (globals_of_text s.text) s.variables s.result) y step.inside.mode step.inside.looped) is
+      (by_parts s step.before step.inside).row
+
   -- what the statement is judged as, by its layer
   judged_as : (d : ActLayer) → out-Act Name Note step.before.body ≡ d → act_judged (viewed d) s.frame s.head step.before.pos step.before.note here ≡ Ok (step.after, step.behind)
   judged_as d is =
@@ -127,6 +136,8 @@ module _ (s : Setting) (here there : Here) (sp : Spot) (e : Expr) (step : IsStep
           after = Some m.0.0;
           literals = step.literals;
           behind = m.0.1;
+          inside = record { mode = step.inside.mode; typed = check_inside x is };
+          fresh = step.fresh;
           counting = step.counting;
           judged = ap (λ (o : Outcome (NotedExpr × Here)). bind o (λ p. Ok (Some p.0, p.1))) m.1;
           becomes = same_check code;

@@ -3,6 +3,7 @@ pub mod Moved
 pub mod Conditions
 pub mod Kept
 pub mod Faced
+pub mod Typed
 pub mod Checks
 pub mod Called
 pub mod Sides

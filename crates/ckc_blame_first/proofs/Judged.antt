@@ -34,7 +34,7 @@ pub has_functions : (p : Typed) (j : IsJudged p) → AreNested j.typed.tree.item
 has_functions p j nested =
     let main = main_bare p j in
     record {
-      codes = λ s f i. record { exits = leaving; fresh = first_fresh i.head i.body; judged = text_goes j.typed p s f j.has_bounds nested i };
+      codes = λ s f i. record { exits = leaving; fresh = first_fresh i.head i.body; judged = text_goes p s f j nested i };
       defined = main.defined;
       bare = main.bare;
     }

@@ -57,7 +57,7 @@ use Rattle.ckc_blame_numbers.specs.Typed.{IsTyped, Agrees, IsTypedInit, IsTypedA
 use Rattle.ckc_blame_numbers.proofs.Statements.{made_of, pair_same, passes, assign_made, local_made, local_type, out_assign, out_local, assigned_is, declared_is, behind_assignment, behind_declaration}
 use Rattle.ckc_blame_numbers.specs.code.Assigned.{IsAssignment, IsDeclaration, Begins}
 
-act_back : (a : NotedAct) → roll-Act Name Note (out-Act Name Note a) ≡ a
+pub act_back : (a : NotedAct) → roll-Act Name Note (out-Act Name Note a) ≡ a
 act_back a = search (rules, the_lemmas)
 
 abbrev pub ActLayer : Type 0

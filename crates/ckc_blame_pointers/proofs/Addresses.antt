@@ -35,7 +35,8 @@ use Rattle.ckc_source.specs.Runs.{is_true}
 use Rattle.ckc_build_values.specs.Kinds.{pointee_of, size_behind}
 use Rattle.ckc_blame_sound.specs.Settings.{Setting}
 use Rattle.ckc_blame_sound.specs.Points.{HoldsAt}
-use Rattle.ckc_blame_pointers.specs.Valuations.{Valuation, Fits, AreFresh, address_by, IsAtPlace, HasEnds, IsInRange, BaseBelow, RangeBelow}
+use Rattle.ckc_blame_sound.specs.Bodies.{AreFresh}
+use Rattle.ckc_blame_pointers.specs.Valuations.{Valuation, Fits, address_by, IsAtPlace, HasEnds, IsInRange, BaseBelow, RangeBelow}
 use Rattle.ckc_blame_pointers.proofs.Claims.{IsOfLocal, Placed, SideGoes, stays, nothing_read}
 use Rattle.ckc_blame_pointers.proofs.Moving.{with_address, address_added, address_kept, base_weaker, range_weaker, address_same, at_base, still_fits}
 use Rattle.ckc_blame_numbers.proofs.Types.{word_wide}

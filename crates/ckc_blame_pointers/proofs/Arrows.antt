@@ -44,7 +44,8 @@ use Rattle.ckc_blame_sound.specs.Slots.{Slot, slot_by, slot_of_member, slots_in,
 use Rattle.ckc_blame_slots.specs.Cells.{IsReached}
 use Rattle.ckc_blame_slots.proofs.Objects.{are_members}
 use Rattle.ckc_blame_slots.proofs.Ranges.{contains_at}
-use Rattle.ckc_blame_pointers.specs.Valuations.{Valuation, AreFresh, HasEnds}
+use Rattle.ckc_blame_sound.specs.Bodies.{AreFresh}
+use Rattle.ckc_blame_pointers.specs.Valuations.{Valuation, HasEnds}
 use Rattle.ckc_linear.specs.declared.forms.Form.{Form}
 use Rattle.ckc_blame_pointers.specs.Covered.{DeclareOnes, IsSoundStore, IsPointerArrow}
 use Rattle.ckc_blame_pointers.specs.Meant.{IsNotStuck}

@@ -29,7 +29,8 @@ use Rattle.ckc_build_values.specs.Kinds.{pointee_of, size_behind}
 use Rattle.ckc_blame_sound.specs.Settings.{Setting}
 use Rattle.ckc_blame_sound.specs.Values.{AreTrue, IsWordOf}
 use Rattle.ckc_blame_sound.specs.Points.{AreBounded, HoldsAt}
-use Rattle.ckc_blame_pointers.specs.Valuations.{Valuation, Fits, AreFresh, Extends, IsAtPlace, IsInRange, BaseBelow, RangeBelow}
+use Rattle.ckc_blame_sound.specs.Bodies.{AreFresh}
+use Rattle.ckc_blame_pointers.specs.Valuations.{Valuation, Fits, Extends, IsAtPlace, IsInRange, BaseBelow, RangeBelow}
 use Rattle.ckc_blame_pointers.specs.Covered.{DeclareOnes}
 use Rattle.ckc_blame_pointers.specs.Meant.{IsNotStuck}
 

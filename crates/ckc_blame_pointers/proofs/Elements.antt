@@ -32,7 +32,8 @@ use Rattle.ckc_blame_numbers.proofs.Types.{no_pointer}
 use Rattle.ckc_blame_numbers.specs.Typed.{Agrees}
 use Rattle.ckc_typed.specs.declared.environment.Globals.{Globals}
 use Rattle.ckc_source.specs.Words.{exact, elements_behind}
-use Rattle.ckc_blame_pointers.specs.Valuations.{Valuation, address_by, IsAtPlace, AreFresh, HasEnds, IsInRange}
+use Rattle.ckc_blame_sound.specs.Bodies.{AreFresh}
+use Rattle.ckc_blame_pointers.specs.Valuations.{Valuation, address_by, IsAtPlace, HasEnds, IsInRange}
 use Rattle.ckc_blame_pointers.specs.Covered.{DeclareLocals, IsSoundStore}
 use Rattle.ckc_blame_pointers.specs.Meant.{IsNotStuck}
 use Rattle.ckc_blame_pointers.proofs.Claims.{IsOfLocal, Placed, SideGoes, no_one, both_go_on, stays, not_placed}

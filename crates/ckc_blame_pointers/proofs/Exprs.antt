@@ -52,7 +52,8 @@ use Rattle.ckc_blame_numbers.specs.Typed.{IsRow, HasRow, IsTyped, Agrees}
 use Rattle.ckc_blame_numbers.proofs.Exprs as numbers
 use Rattle.ckc_blame_numbers.proofs.Holding.{form_exact, side_told}
 use Rattle.ckc_blame_numbers.proofs.Types.{no_pointer, IsWide, number_wide, size_wide}
-use Rattle.ckc_blame_pointers.specs.Valuations.{AreFresh, address_by}
+use Rattle.ckc_blame_sound.specs.Bodies.{AreFresh}
+use Rattle.ckc_blame_pointers.specs.Valuations.{address_by}
 use Rattle.ckc_blame_pointers.specs.Covered.{DeclareLocals, DeclareOnes, IsSoundStore, IsElement, IsSingle, IsArrow, IsPointerArrow, IsAddressed, IsCoveredNode, IsCoveredExpr, IsCovered}
 use Rattle.ckc_blame_pointers.specs.Meant.{IsNotStuck}
 use Rattle.ckc_blame_pointers.proofs.Claims.{Claims, weaker, holds_on}

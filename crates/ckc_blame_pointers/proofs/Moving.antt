@@ -19,7 +19,8 @@ use Rattle.ckc_source.specs.Words.{elements_behind}
 use Rattle.ckc_build_values.specs.Kinds.{pointee_of, size_behind}
 use Rattle.ckc_blame_sound.specs.Settings.{Setting}
 use Rattle.ckc_blame_sound.specs.Values.{value, number_of}
-use Rattle.ckc_blame_pointers.specs.Valuations.{Valuation, IsKnownVariable, Fits, AreFresh, Extends, address_in, address_by, IsAtPlace, HasEnds, IsInRange, BaseBelow, RangeBelow}
+use Rattle.ckc_blame_sound.specs.Bodies.{AreFresh}
+use Rattle.ckc_blame_pointers.specs.Valuations.{Valuation, IsKnownVariable, Fits, Extends, address_in, address_by, IsAtPlace, HasEnds, IsInRange, BaseBelow, RangeBelow}
 use Rattle.ckc_blame_pointers.proofs.Numbers.{times_negative, elements_twice, away, true_same}
 use Rattle.ckc_blame_pointers.proofs.Claims.{IsOfLocal, Placed}
 

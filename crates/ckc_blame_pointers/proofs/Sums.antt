@@ -36,7 +36,8 @@ use Rattle.ckc_blame_sound.specs.Settings.{Setting}
 use Rattle.ckc_blame_sound.specs.Values.{value, number_of}
 use Rattle.ckc_blame_sound.specs.Points.{HoldsAt}
 use Rattle.ckc_blame_numbers.proofs.Types.{no_pointer}
-use Rattle.ckc_blame_pointers.specs.Valuations.{Valuation, IsKnownVariable, Fits, AreFresh}
+use Rattle.ckc_blame_sound.specs.Bodies.{AreFresh}
+use Rattle.ckc_blame_pointers.specs.Valuations.{Valuation, IsKnownVariable, Fits}
 use Rattle.ckc_blame_pointers.specs.Meant.{IsNotStuck}
 use Rattle.ckc_blame_pointers.proofs.Claims.{Placed, SideGoes, weaker, both_go_on, stays}
 use Rattle.ckc_blame_pointers.proofs.Moving.{still_fits, moved_placed}

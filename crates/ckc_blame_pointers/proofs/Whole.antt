@@ -16,7 +16,7 @@ use Rattle.ckc_blame_numbers.specs.Typed.{IsTyped, Agrees}
 use Rattle.ckc_blame_numbers.proofs.Exprs as numbers
 use Rattle.ckc_blame_numbers.proofs.Judging.{judged_typed}
 use Rattle.ckc_blame_pointers.specs.Covered.{DeclareLocals, IsSoundStore, IsCovered}
-use Rattle.ckc_blame_pointers.specs.Valuations.{AreFresh}
+use Rattle.ckc_blame_sound.specs.Bodies.{AreFresh}
 use Rattle.ckc_blame_pointers.specs.Meant.{IsNotStuck, HasPlace, IsMeant}
 use Rattle.ckc_blame_pointers.proofs.Binary.{ExprClaims}
 use Rattle.ckc_blame_pointers.proofs.Claims.{weaker}

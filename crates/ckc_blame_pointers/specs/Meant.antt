@@ -9,7 +9,8 @@ use Rattle.ckc_source.specs.Eval.{Store}
 use Rattle.ckc_blame_sound.specs.Settings.{Setting}
 use Rattle.ckc_blame_sound.specs.Values.{IsWordOf}
 use Rattle.ckc_blame_sound.specs.Points.{HoldsAt}
-use Rattle.ckc_blame_pointers.specs.Valuations.{Valuation, BaseBelow, RangeBelow, Fits, AreFresh, Extends, IsAtPlace, IsInRange}
+use Rattle.ckc_blame_sound.specs.Bodies.{AreFresh}
+use Rattle.ckc_blame_pointers.specs.Valuations.{Valuation, BaseBelow, RangeBelow, Fits, Extends, IsAtPlace, IsInRange}
 
 -- An evaluation gives a value of which this holds, or stops at a named check. It is not stuck.
 abbrev pub IsNotStuck : (Value → Type 0) → Result Value Halt → Type 0

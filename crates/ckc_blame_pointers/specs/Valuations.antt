@@ -1,5 +1,5 @@
 -- What forms over values and fresh variables stand for: a valuation says it.
-use Rattle.std.specs.Prelude.{◌≡◌, ◌⊎◌, ℕ, ◌<◌, ◌≤◌, ◌+◌, true, false, List, slice_index, ℤ, pos, Option, None, Some, IfSome}
+use Rattle.std.specs.Prelude.{◌≡◌, ◌⊎◌, ℕ, ◌<◌, ◌≤◌, ◌+◌, true, List, slice_index, ℤ, pos, Option, None, Some, IfSome}
 use Rattle.ckc_types.specs.declared.types.CType.{CType}
 use Rattle.ckc_linear.specs.declared.forms.Base.{Base}
 use Rattle.ckc_linear.specs.declared.forms.Base.TheVariants as base
@@ -33,10 +33,6 @@ IsKnownVariable frame x =
 -- A valuation gives these their own numbers. Of fresh variables it may say anything.
 abbrev pub Fits : Frame → List ℕ → Valuation → Type 0
 Fits frame locals v = (x : ℕ) → IsKnownVariable frame x → v.numbers x ≡ value frame locals x
-
--- The locals from a number on are no integers, so their variables are fresh ones.
-abbrev pub AreFresh : Frame → ℕ → Type 0
-AreFresh frame fresh = (k : ℕ) (l : Local) → fresh ≤ k → local_at frame k ≡ Some l → is_integer l.ctype ≡ false
 
 -- A valuation says the same as another one of what is numbered below: of values below the first of some, and of
 -- variables up to that of the local in front of the first fresh one.

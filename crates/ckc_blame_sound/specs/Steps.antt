@@ -10,6 +10,7 @@ use Rattle.ckc_build_elaborate.specs.Statements.{stmt_elaborated}
 use Rattle.ckc_build_elaborate.specs.Steps.{condition}
 use Rattle.ckc_blame_sound.specs.Settings.{Setting}
 use Rattle.ckc_blame_sound.specs.Points.{GoesTo}
+use Rattle.ckc_blame_sound.specs.Bodies.{IsInBody, IsTestInBody, IsNextFresh}
 
 -- a statement that is a step by itself: no block, no `if` and no loop
 abbrev pub is_simple : Act-F Name Note NotedAct NotedStmt → Bool
@@ -21,26 +22,30 @@ is_simple (Act-F.Check e) = true
 is_simple (Act-F.Bundle ss) = true
 is_simple a = false
 
--- A statement is judged at a point, and not only counted; what becomes of it is this one step, and control goes from
--- there to another point.
+-- A statement of the function is judged at a point, and not only counted; what becomes of it is this one step, and
+-- control goes from there to another point.
 pub record IsStep (s : Setting) (here : Here) (step : Code → Code) (there : Here) : Type 0 where
   pub before : NotedStmt
   pub after : NotedStmt
   pub literals : ℕ
   pub behind : Here
   pub simple : is_simple (out-Act Name Note before.body) ≡ true
+  pub inside : IsInBody s before
+  pub fresh : IsNextFresh s here.next
   pub counting : here.counting ≡ false
   pub judged : (path before).judged s.frame s.head here ≡ Ok (after, behind)
   pub becomes : stmt_elaborated s.text s.variables s.result literals after ≡ step ∷ []
   pub goes : GoesTo s.frame behind there
 
--- A condition is judged at a point, and not only counted, and becomes this expression; if it is true control is at a
--- second point, and if it is false at a third. One that is left out is true.
+-- A condition of the function is judged at a point, and not only counted, and becomes this expression; if it is true
+-- control is at a second point, and if it is false at a third. One that is left out is true.
 pub record IsCondition (s : Setting) (here : Here) (e : Expr) (yes no : Here) : Type 0 where
   pub before : Option NotedExpr
   pub after : Option NotedExpr
   pub literals : ℕ
   pub behind : Here
+  pub inside : IsTestInBody s before
+  pub fresh : IsNextFresh s here.next
   pub counting : here.counting ≡ false
   pub judged : maybe_judged s.frame before here ≡ Ok (after, behind)
   pub becomes : e ≡ condition s.text s.variables literals after

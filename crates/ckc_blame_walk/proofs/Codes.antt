@@ -1,6 +1,6 @@
 -- The code of a statement is judged, if that of the rest is: of one that is a single step, and of one after another.
 use Rattle.std.proofs.Common.{◌≡◌, ◌⊎◌, inl, inr, refl, sym, ap, subst, ◌∙◌, ℕ, true, List, [], ◌∷◌, ◌++◌}
-use Rattle.std.specs.Prelude.{false, Ok}
+use Rattle.std.specs.Prelude.{Ok}
 use Rattle.ckc_base.specs.declared.places.Pos.{Pos}
 use Rattle.ckc_syntax.specs.declared.tree.Name.{Name}
 use Rattle.ckc_syntax.specs.declared.tree.Name.TheVariants as name
@@ -18,7 +18,9 @@ use Rattle.ckc_build_elaborate.specs.Statements.{stmt_elaborated}
 use Rattle.ckc_blame_sound.specs.Settings.{Setting}
 use Rattle.ckc_blame_sound.specs.Points.{IsKnown, GoesTo}
 use Rattle.ckc_blame_sound.specs.Steps.{is_simple, IsStep}
+use Rattle.ckc_blame_sound.specs.Bodies.{IsInBody}
 use Rattle.ckc_blame_sound.specs.Judged.{Exits, Then, Judged}
+use Rattle.ckc_blame_walk.proofs.Onward.{IsOn}
 
 -- ---- control
 
@@ -80,13 +82,13 @@ module _ (s : Setting) where
   IsWalk before here p = (path before).judged s.frame s.head here ≡ Ok p
 
   -- a statement that is a step by itself
-  pub step_code : (before after : NotedStmt) (here there : Here) (k : ℕ) (exits : Exits) (f : Code → Code) → is_simple (out-Act Name Note before.body) ≡ true
-      → here.counting ≡ false → IsWalk before here (after, there) → stmt_elaborated s.text s.variables s.result k after ≡ f ∷ [] → GoesOn f → IsCode (stmt_elaborated s.text s.variables s.result k after) exits here there
-  step_code before after here there k exits f simple count walk becomes on =
+  pub step_code : {Claimed : Type 0} (before after : NotedStmt) (here there : Here) (k : ℕ) (exits : Exits) (f : Code → Code) → is_simple (out-Act Name Note before.body) ≡ true
+      → (Claimed → IsInBody s before) → IsOn s Claimed here → IsWalk before here (after, there) → stmt_elaborated s.text s.variables s.result k after ≡ f ∷ [] → GoesOn f → IsCode (stmt_elaborated s.text s.variables s.result k after) exits here there
+  step_code before after here there k exits f simple inside on walk becomes goes_on =
       inr (λ next rest goes h.
       let step : IsStep s here f next =
-      record { before = before; after = after; literals = k; behind = there; simple = simple; counting = count; judged = walk; becomes = becomes; goes = goes } in
-      subst (λ fs. Judged s (chained fs rest) exits here) (sym becomes) (on rest exits here (next, step, h)))
+      record { before = before; after = after; literals = k; behind = there; simple = simple; inside = inside on.claimed; fresh = on.fresh; counting = on.counts; judged = walk; becomes = becomes; goes = goes } in
+      subst (λ fs. Judged s (chained fs rest) exits here) (sym becomes) (goes_on rest exits here (next, step, h)))
 
   chained_both : (fs gs : List (Code → Code)) (rest : Code) → chained (fs ++ gs) rest ≡ chained fs (chained gs rest)
   chained_both [] gs rest = refl

@@ -23,6 +23,7 @@ use Rattle.ckc_build_elaborate.specs.Steps.{spot}
 use Rattle.ckc_build_elaborate.specs.Statements.{Part, ActPart, one, alone, code_if, act_code, act_parts, stmt_parts, part_of, part_of_act, stmt_elaborated}
 use Rattle.ckc_blame_sound.specs.Settings.{Setting}
 use Rattle.ckc_blame_sound.specs.Points.{GoesTo}
+use Rattle.ckc_blame_sound.specs.Bodies.{IsTestInBody}
 use Rattle.ckc_blame_sound.specs.Steps.{IsCondition}
 use Rattle.ckc_blame_sound.specs.Judged.{Exits, ending, Branches, Judged}
 use Rattle.ckc_blame_sound.proofs.Joined.{first_known, second_known}
@@ -30,6 +31,7 @@ use Rattle.ckc_blame_walk.specs.Walks.{Nesting, is_branch, is_branch_if, AreSmal
 use Rattle.ckc_blame_walk.proofs.Adds.{Adds, side_adds}
 use Rattle.ckc_blame_walk.proofs.Flow.{stays_none, stays_adding, stays_through, stays_front, stays_back}
 use Rattle.ckc_blame_walk.proofs.Heads.{stays_joined}
+use Rattle.ckc_blame_walk.proofs.Onward.{Onward, IsOn, onward_none, onward_through, on_there}
 use Rattle.ckc_blame_walk.proofs.Pieces.{Gives, through, nested, given, Moved, value_moves}
 use Rattle.ckc_blame_walk.proofs.Codes.{goes_nowhere, goes_through, IsCode, closed_code}
 use Rattle.ckc_blame_walk.proofs.Exits.{may_first, may_second, may_adding}
@@ -80,23 +82,23 @@ abbrev pub is_plain_if : Option Nesting → Bool
 is_plain_if None = true
 is_plain_if (Some s) = s.declares || s.assigns
 
-module _ (s : Setting) where
+module _ (s : Setting) (Claimed : Type 0) where
   -- what a judged statement leaves, and that its code leads there
   pub record Next (ks : List ℕ) (nest : Nesting) (left turned : Bool) (here : Here) (p : NotedStmt × Here) : Type 0 where
     pub extends : Extends here.seen p.1.seen
     pub same : nest.declares ≡ false → p.1.seen ≡ here.seen
-    pub counting : p.1.counting ≡ here.counting
+    pub onward : Onward here p.1
     pub stays : Stays s.frame ks here.at p.1.at
-    pub code : here.counting ≡ false → AreSmall here.at.facts → (k : ℕ) (exits : Exits) → MayLeave s.frame ks left turned here exits
+    pub code : IsOn s Claimed here → AreSmall here.at.facts → (k : ℕ) (exits : Exits) → MayLeave s.frame ks left turned here exits
         → IsCode s (stmt_elaborated s.text s.variables s.result k p.0) exits here p.1
 
   -- the same of a statement that may be left out
   pub record NextIf (ks : List ℕ) (nest : Option Nesting) (left turned : Bool) (here : Here) (p : Option NotedStmt × Here) : Type 0 where
     pub extends : Extends here.seen p.1.seen
     pub same : is_branch_if nest ≡ true → p.1.seen ≡ here.seen
-    pub counting : p.1.counting ≡ here.counting
+    pub onward : Onward here p.1
     pub stays : Stays s.frame ks here.at p.1.at
-    pub code : here.counting ≡ false → AreSmall here.at.facts → (k : ℕ) (exits : Exits) → MayLeave s.frame ks left turned here exits
+    pub code : IsOn s Claimed here → AreSmall here.at.facts → (k : ℕ) (exits : Exits) → MayLeave s.frame ks left turned here exits
         → IsCode s (code_if (part_if p.0) s.text s.variables s.result k) exits here p.1
 
   pub record Whole (path : Path) (nest : Nesting) : Type 0 where
@@ -113,9 +115,9 @@ module _ (s : Setting) where
     judged = λ fine here. given (NextIf [] None false false here) (None, here) (record {
       extends = extends_none here.seen here.seen refl;
       same = λ e. refl;
-      counting = refl;
+      onward = onward_none here;
       stays = stays_none s.frame [] here.at;
-      code = λ c small k exits may. inl (refl, refl);
+      code = λ on small k exits may. inl (refl, refl);
     });
     plain = λ e. (refl, refl);
   }
@@ -132,7 +134,7 @@ module _ (s : Setting) where
         given (NextIf path.assigned (Some nest) path.breaks path.continues here) (Some p.0, p.1) (record {
           extends = n.extends;
           same = λ e. n.same (is_false nest.declares (and_cases nest.fine (not nest.declares) e).1);
-          counting = n.counting;
+          onward = n.onward;
           stays = n.stays;
           code = n.code;
         }));
@@ -164,7 +166,7 @@ module _ (s : Setting) where
   -- ---- an `if`
 
   module _ (at : Pos) (note : Note) (e : NotedExpr) (path : Path) (nest : Nesting) (w : Whole path nest) (path2 : Option Path) (nest2 : Option Nesting) (w2 : WholeIf path2 nest2)
-      (one_branch : is_branch nest ≡ true) (other_branch : is_branch_if nest2 ≡ true) (mine : Nesting) (here : Here) where
+      (one_branch : is_branch nest ≡ true) (other_branch : is_branch_if nest2 ≡ true) (inside : Claimed → IsTestInBody s (Some e)) (mine : Nesting) (here : Here) where
     abbrev ks : List ℕ
     ks = path.assigned
 
@@ -185,9 +187,11 @@ module _ (s : Setting) where
       unfolding side_of
       adds b = subst (λ a. Adds a (side_of s.frame b v.0 v.1.at)) moved.at (side_adds s.frame v.0 b v.1.at)
 
-      if_condition : (k : ℕ) → here.counting ≡ false → IsCondition s here (expr_elaborated s.text s.variables k v.0) yes no
-      if_condition k count = record {
-        counting = count;
+      if_condition : (k : ℕ) → IsOn s Claimed here → IsCondition s here (expr_elaborated s.text s.variables k v.0) yes no
+      if_condition k on = record {
+        inside = inside on.claimed;
+        fresh = on.fresh;
+        counting = on.counts;
         before = Some e;
         after = Some v.0;
         literals = k;
@@ -218,7 +222,7 @@ module _ (s : Setting) where
               (stays_front s.frame ks js here.at q.1.at (stays_through s.frame [] ks here.at yes.at q.1.at (stays_adding s.frame here.at yes.at (adds true)) first.stays))
               (stays_back s.frame ks js here.at r.1.at (stays_through s.frame [] js here.at other.at r.1.at (stays_adding s.frame here.at other.at (adds false)) second.stays))
 
-          module _ (count : here.counting ≡ false) (small : AreSmall here.at.facts) (k : ℕ) (exits : Exits)
+          module _ (on : IsOn s Claimed here) (small : AreSmall here.at.facts) (k : ℕ) (exits : Exits)
               (may : MayLeave s.frame (ks ++ js) (path.breaks || breaks_if path2) (path.continues || continues_if path2) here exits) (next : Here) (rest : Code)
               (goes : GoesTo s.frame there next) (behind : Judged s rest exits next) where
             abbrev branches : Branches
@@ -245,12 +249,12 @@ module _ (s : Setting) where
             unfolding Judged
             if_judged_code = (
               branches,
-              if_condition k count,
+              if_condition k on,
               closed_code s (stmt_elaborated s.text s.variables s.result (k + literals_of v.0) q.0) (ending exits next) yes q.1 one_ends
-                  (first.code (moved.counting ∙ count) ((adds true).more.small small) (k + literals_of v.0) (ending exits next) one_may),
+                  (first.code (on_there s here yes moved.onward on) ((adds true).more.small small) (k + literals_of v.0) (ending exits next) one_may),
               record { known = λ reached. (goes_nowhere no).known reached; seen = λ k c. same_has no.seen q.1.seen (seen_first ∙ sym moved.seen) k c },
               closed_code s (code_if (part_if r.0) s.text s.variables s.result (k + literals_of v.0 + (part_of q.0).literals)) (ending exits next) other r.1 two_ends
-                  (second.code (first.counting ∙ moved.counting ∙ count) ((adds false).more.small small) (k + literals_of v.0 + (part_of q.0).literals) (ending exits next) two_may),
+                  (second.code (on_there s here other (onward_through here yes other moved.onward first.onward) on) ((adds false).more.small small) (k + literals_of v.0 + (part_of q.0).literals) (ending exits next) two_may),
               behind,
             )
 
@@ -258,12 +262,12 @@ module _ (s : Setting) where
           if_next = record {
             extends = extends_none here.seen r.1.seen (seen_second ∙ seen_first);
             same = λ d. seen_second ∙ seen_first;
-            counting = second.counting ∙ first.counting ∙ moved.counting;
+            onward = onward_through here other there (onward_through here yes other moved.onward first.onward) second.onward;
             stays = if_stays;
-            code = λ count small k exits may. inr (λ next rest goes behind.
+            code = λ on small k exits may. inr (λ next rest goes behind.
                 subst (λ fs. Judged s (chained fs rest) exits here)
                 (sym (code_is at note (Act-F.If v.0 q.0 r.0) (act.If v.0 q.0 r.0) k (act.rolls-If v.0 q.0 r.0) ∙ if_code at note.mode v.0 q.0 r.0 k))
-                (if_judged_code count small k exits may next rest goes behind));
+                (if_judged_code on small k exits may next rest goes behind));
           }
 
     pub if_gives : Gives (Next (ks ++ js) mine (path.breaks || breaks_if path2) (path.continues || continues_if path2) here) (if_judged s.frame s.head at note e path path2 here)

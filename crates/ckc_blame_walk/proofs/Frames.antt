@@ -1,9 +1,12 @@
 -- A judged function has the frame of the function before it was judged, so its code is judged from its first point.
-use Rattle.std.proofs.Common.{◌≡◌, refl, sym, ap, subst, ◌∙◌, ℕ, suc, ◌+◌, Bool, true, false, List, [], ◌∷◌, ◌++◌, map, length}
-use Rattle.std.specs.Prelude.{◌-◌, if◌then◌else◌, Ok, Err}
+use Rattle.std.proofs.Common.{◌≡◌, refl, sym, ap, subst, ◌∙◌, ℕ, suc, ◌+◌, Bool, true, false, List, [], ◌∷◌, ◌++◌, map, length, arith}
+use Rattle.std.specs.Prelude.{◌<◌, ◌≤◌, ◌-◌, ◌^◌, if◌then◌else◌, Ok, Err}
+use Rattle.std.proofs.lemmas.List.{length-map}
+use Rattle.std.proofs.lemmas.List.Sorted.{length_permutation}
 use Rattle.ckc_base.specs.Outcomes.{Outcome}
 use Rattle.ckc_base.proofs.Outcomes.{made_of}
 use Rattle.ckc_typed.specs.declared.typed.Typed.{Typed}
+use Rattle.ckc_typed.specs.Environment.{variable_declared, variables_of}
 use Rattle.ckc_typed.specs.Trees.{NotedDecl, NotedHead, NotedStmt}
 use Rattle.ckc_bounds_points.specs.declared.frame.Local.{Local}
 use Rattle.ckc_bounds_points.specs.declared.frame.HeadBounds.{HeadBounds}
@@ -12,17 +15,21 @@ use Rattle.ckc_bounds_statements.specs.Paths.{Here, path}
 use Rattle.ckc_bounds.specs.Declarations.{local_made, with_all, with_locals, types_in, declared_in, head_bounds}
 use Rattle.ckc_bounds.specs.Frames.{all_of, begin_in, begin_of, needed_from, fresh_needed, with_nameless, locals_frame, first_fresh, function_frame}
 use Rattle.ckc_bounds.specs.Texts.{body_judged}
-use Rattle.ckc_bounds.specs.Phase.{bounding}
 use Rattle.ckc_source.specs.Code.{Code, Function}
 use Rattle.ckc_build_elaborate.specs.Functions.{literals_of_head}
 use Rattle.ckc_build_elaborate.specs.Statements.{alone, stmt_elaborated}
 use Rattle.ckc_blame_sound.specs.Settings.{Setting, frame_of_text, setting_of, IsFunction}
+use Rattle.ckc_blame_sound.specs.Bodies.{IsInBody, IsNextFresh}
 use Rattle.ckc_blame_sound.specs.Judged.{Judged}
+use Rattle.ckc_blame_texts.specs.Judged.{IsJudged, IsBodyJudged, globals_in}
+use Rattle.ckc_blame_texts.proofs.Bodies.{bodies_are_typed, declared_known}
+use Rattle.ckc_blame_texts.proofs.Frames.{variables_moved}
+use Rattle.ckc_blame_texts.proofs.Locals.{variables_declared}
 use Rattle.ckc_blame_walk.specs.Walks.{AreNested, leaving}
 use Rattle.ckc_blame_walk.proofs.Twins.{Agree, SameHere, bare, Twin}
 use Rattle.ckc_blame_walk.proofs.Acts.{bare_both}
 use Rattle.ckc_blame_walk.proofs.Again.{stmt_again}
-use Rattle.ckc_blame_walk.proofs.Texts.{Before, SameText, text_same}
+use Rattle.ckc_blame_walk.proofs.Texts.{SameText, text_same}
 use Rattle.ckc_blame_walk.proofs.Functions.{function_goes}
 
 -- ---- a frame reads no initialiser
@@ -83,24 +90,48 @@ body_twin frame h before after judged =
     let same : walk.0.0 ≡ after = cc in
     subst (λ (x : NotedStmt). Twin (path x) (path before)) same (((stmt_again (function_frame frame h before) before).judged (head_bounds frame h) (begin_of frame h before)).made walk.0 walk.1)
 
+-- ---- the body of a function of a judged text
+
+-- there are as many variables as declarations
+variables_counted : (h : NotedHead) (body : NotedStmt) → first_fresh h body ≡ length (variables_of h body)
+variables_counted h body =
+    let ds = all_of h body in
+    sym (length-map ds (λ (d : NotedDecl). variable_declared d)) ∙ sym (length_permutation (variables_declared ds) (variables_of h body) (variables_moved h body))
+
+setting_inside : (p : Typed) (j : IsJudged p) (h : NotedHead) (body : NotedStmt) (b : IsBodyJudged (globals_in p) j.typed h body) → IsInBody (setting_of p h body) b.before
+unfolding setting_of
+setting_inside p j h body b = record { mode = b.mode; looped = false; typed = b.fits; known = declared_known (globals_in p) j.typed h body b }
+
+setting_fresh : (p : Typed) (h : NotedHead) (body : NotedStmt) → IsNextFresh (setting_of p h body) (first_fresh h body)
+unfolding setting_of
+setting_fresh p h body few =
+    let same = variables_counted h body in
+    let n = length (variables_of h body) in
+    subst (λ m. (n ≤ m) × (m < 2 ^ 32)) (sym same) (omega arith, few)
+
 -- the code of a function of a judged text
-pub text_goes : (q p : Typed) (s : Setting) (f : Function) → bounding.Makes q p → AreNested q.tree.items → (is : IsFunction p s f)
+pub text_goes : (p : Typed) (s : Setting) (f : Function) (j : IsJudged p) → AreNested j.typed.tree.items → (is : IsFunction p s f)
     → Judged s f.body leaving (begin_in s.frame false is.head (first_fresh is.head is.body))
 unfolding setting_of
-text_goes q p s f makes fine is =
-    let same : SameText q p = text_same q p makes in
-    let b : Before (frame_of_text p) q.tree.items is.head is.body = same.function is.head is.body is.there in
-    let twin : Twin (path is.body) (path b.before) = body_twin (frame_of_text p) is.head b.before is.body b.judged in
+text_goes p s f j fine is =
+    let same : SameText j.typed p = text_same j.typed p j.has_bounds in
+    let b : IsBodyJudged (globals_in p) j.typed is.head is.body = bodies_are_typed p j is.head is.body is.there in
+    let judged : body_judged (frame_of_text p) is.head b.before ≡ Ok is.body = ap (λ g. body_judged g is.head b.before) same.frame ∙ b.judged in
+    let twin : Twin (path is.body) (path b.before) = body_twin (frame_of_text p) is.head b.before is.body judged in
+    let firsts : first_fresh is.head is.body ≡ first_fresh is.head b.before = fresh_same (frame_of_text p) is.head is.body b.before twin in
+    let inside : IsInBody s b.before = subst (λ x. IsInBody x b.before) (sym is.judged) (setting_inside p j is.head is.body b) in
+    let fresh : IsNextFresh s (first_fresh is.head b.before) =
+    subst (IsNextFresh s) firsts (subst (λ x. IsNextFresh x (first_fresh is.head is.body)) (sym is.judged) (setting_fresh p is.head is.body)) in
     let frame_is : s.frame ≡ function_frame (frame_of_text p) is.head b.before =
     ap (λ (x : Setting). x.frame) is.judged ∙ frame_same (frame_of_text p) is.head is.body b.before twin in
     let head_is : s.head ≡ head_bounds (frame_of_text p) is.head = ap (λ (x : Setting). x.head) is.judged in
     let k : ℕ = is.literals + literals_of_head is.head in
     let code : alone (stmt_elaborated s.text s.variables s.result k is.body) ≡ f.body =
     ap (λ (x : Setting). alone (stmt_elaborated x.text x.variables x.result k is.body)) is.judged ∙ sym (ap (λ (x : Function). x.body) is.runs) in
-    let h = function_goes s (frame_of_text p) is.head b.before is.body k (fine is.head b.before b.there) frame_is head_is b.judged in
+    let h = function_goes s (frame_of_text p) is.head b.before is.body k (fine is.head b.before b.there) inside fresh frame_is head_is judged in
     subst (λ (c : Code). Judged s c leaving (begin_in s.frame false is.head (first_fresh is.head is.body))) code
     (subst (λ n. Judged s (alone (stmt_elaborated s.text s.variables s.result k is.body)) leaving (begin_in s.frame false is.head n))
-    (sym (fresh_same (frame_of_text p) is.head is.body b.before twin)) h)
+    (sym firsts) h)
 
 -- a judged function has the frame of the function before it was judged
 pub function_frames_same : (frame : Frame) (h : NotedHead) (before body : NotedStmt) → body_judged frame h before ≡ Ok body → function_frame frame h body ≡ function_frame frame h before

@@ -18,6 +18,7 @@ use Rattle.ckc_blame_sound.specs.Settings.{Setting}
 use Rattle.ckc_blame_sound.specs.Values.{value}
 use Rattle.ckc_linear.specs.Facts.{Satisfies}
 use Rattle.ckc_blame_sound.specs.Points.{GoesTo}
+use Rattle.ckc_blame_sound.specs.Bodies.{IsInBody, IsNextFresh}
 use Rattle.ckc_blame_sound.specs.Judged.{Judged}
 use Rattle.ckc_blame_walk.specs.Walks.{nesting_of, AreSmall, IsExit, empty_point, leaving}
 use Rattle.ckc_blame_walk.proofs.Codes.{goes_nowhere}
@@ -50,12 +51,12 @@ empty_exit frame ks here = record {
 pub entry_small : (frame : Frame) → AreSmall (entry frame).facts
 entry_small frame = ranges_small 1 frame.locals (record { vars = length frame.locals + 1; list = [] }) (All-nil (λ (f : Fact). is_within (2 ^ 50) f.c ≡ true))
 
-pub body_goes : (s : Setting) (head : NotedHead) (n : ℕ) (body after : NotedStmt) (there : Here) (k : ℕ) → (nesting_of body).fine ≡ true
+pub body_goes : (s : Setting) (head : NotedHead) (n : ℕ) (body after : NotedStmt) (there : Here) (k : ℕ) → (nesting_of body).fine ≡ true → IsInBody s body → IsNextFresh s n
     → (path body).judged s.frame s.head (begin_in s.frame false head n) ≡ Ok (after, there)
     → Judged s (alone (stmt_elaborated s.text s.variables s.result k after)) leaving (begin_in s.frame false head n)
 unfolding Judged
-body_goes s head n body after there k fine walk =
-    statement_judged s body after (begin_in s.frame false head n) there k leaving _ fine refl (entry_small s.frame) walk
+body_goes s head n body after there k fine inside fresh walk =
+    statement_judged s body after (begin_in s.frame false head n) there k leaving _ fine inside fresh refl (entry_small s.frame) walk
     (record {
       breaks = λ b. empty_exit s.frame (path body).assigned (begin_in s.frame false head n);
       continues = λ c. empty_exit s.frame (path body).assigned (begin_in s.frame false head n);
@@ -63,10 +64,10 @@ body_goes s head n body after there k fine walk =
     (to_empty s.frame there)
 
 -- The code of a judged body is judged in the frame that it was judged in.
-pub function_goes : (s : Setting) (frame : Frame) (head : NotedHead) (body after : NotedStmt) (k : ℕ) → (nesting_of body).fine ≡ true → s.frame ≡ function_frame frame head body
+pub function_goes : (s : Setting) (frame : Frame) (head : NotedHead) (body after : NotedStmt) (k : ℕ) → (nesting_of body).fine ≡ true → IsInBody s body → IsNextFresh s (first_fresh head body) → s.frame ≡ function_frame frame head body
     → s.head ≡ head_bounds frame head → body_judged frame head body ≡ Ok after
     → Judged s (alone (stmt_elaborated s.text s.variables s.result k after)) leaving (begin_in s.frame false head (first_fresh head body))
-function_goes s frame head body after k fine frame_is head_is judged =
+function_goes s frame head body after k fine inside fresh frame_is head_is judged =
     let walk = made_of ((path body).judged (function_frame frame head body) (head_bounds frame head) (begin_of frame head body)) (λ p. Ok p.0) after judged in
     let there : Here = walk.0.1 in
     let same : walk.0.0 ≡ after = cc in
@@ -74,4 +75,4 @@ function_goes s frame head body after k fine frame_is head_is judged =
     ap (λ f. (path body).judged f s.head (begin_in f false head (first_fresh head body))) frame_is
     ∙ ap (λ h. (path body).judged (function_frame frame head body) h (begin_of frame head body)) head_is
     ∙ walk.1 ∙ ap (λ (x : NotedStmt). Ok (x, there)) same in
-    body_goes s head (first_fresh head body) body after there k fine moved
+    body_goes s head (first_fresh head body) body after there k fine inside fresh moved

@@ -1,6 +1,8 @@
 pub mod Adds
 pub mod Flow
 pub mod Heads
+pub mod Onward
+pub mod Inside
 pub mod Pieces
 pub mod Codes
 pub mod Exits

@@ -20,12 +20,14 @@ use Rattle.ckc_build_elaborate.specs.Steps.{spot, condition}
 use Rattle.ckc_build_elaborate.specs.Statements.{one, alone, code_if, literals_if, turns, act_code, part_of, stmt_elaborated}
 use Rattle.ckc_blame_sound.specs.Settings.{Setting}
 use Rattle.ckc_blame_sound.specs.Points.{IsKnown, GoesTo}
+use Rattle.ckc_blame_sound.specs.Bodies.{IsTestInBody}
 use Rattle.ckc_blame_sound.specs.Steps.{IsCondition}
 use Rattle.ckc_blame_sound.specs.Judged.{Exits, ending, Turns, in_body, Judged}
 use Rattle.ckc_blame_sound.proofs.Joined.{less_known}
 use Rattle.ckc_blame_walk.specs.Walks.{Nesting, is_branch, begins, steps, AreSmall, IsLeft, IsExit, MayLeave, Stays}
 use Rattle.ckc_blame_walk.proofs.Adds.{Adds, adds_none, side_adds}
 use Rattle.ckc_blame_walk.proofs.Flow.{stays_adding, stays_through, stays_back, stays_less}
+use Rattle.ckc_blame_walk.proofs.Onward.{Onward, IsOn, onward_none, onward_through, on_there}
 use Rattle.ckc_blame_walk.proofs.Pieces.{Gives, through, nested, given, Moved, value_moves, maybe_moves}
 use Rattle.ckc_blame_walk.proofs.Codes.{goes_nowhere, goes_through, IsCode, both_code, closed_code}
 use Rattle.ckc_blame_walk.proofs.Exits.{known_before, left_back, exit_front, exit_after, exit_end, loop_left, may_not}
@@ -61,10 +63,10 @@ module _ (frame : Frame) where
   pub stays_more : (ks : List ℕ) (a b c : State) → Stays frame ks a b → Adds b c → Stays frame ks a c
   stays_more ks a b c h g = subst (λ xs. Stays frame xs a c) (append-nil ks) (stays_through frame ks [] a b c h (stays_adding frame b c g))
 
-module _ (s : Setting) where
+module _ (s : Setting) (Claimed : Type 0) where
   -- ---- a `while`
 
-  module _ (at : Pos) (note : Note) (e : NotedExpr) (path : Path) (nest : Nesting) (w : Whole s path nest) (branch : is_branch nest ≡ true) (mine : Nesting) (left turned : Bool) (here : Here) where
+  module _ (at : Pos) (note : Note) (e : NotedExpr) (path : Path) (nest : Nesting) (w : Whole s Claimed path nest) (branch : is_branch nest ≡ true) (inside : Claimed → IsTestInBody s (Some e)) (mine : Nesting) (left turned : Bool) (here : Here) where
     abbrev ks : List ℕ
     ks = path.assigned
 
@@ -84,9 +86,11 @@ module _ (s : Setting) where
       yes_adds : Adds head.at yes.at
       yes_adds = subst (λ a. Adds a yes.at) moved.at (maybe_adds s.frame true (Some v.0) v.1.at)
 
-      while_condition : (k : ℕ) → here.counting ≡ false → IsCondition s head (expr_elaborated s.text s.variables k v.0) yes no
-      while_condition k count = record {
-        counting = count;
+      while_condition : (k : ℕ) → IsOn s Claimed here → IsCondition s head (expr_elaborated s.text s.variables k v.0) yes no
+      while_condition k on = record {
+        inside = inside on.claimed;
+        fresh = on.fresh;
+        counting = on.counts;
         before = Some e;
         after = Some v.0;
         literals = k;
@@ -107,14 +111,14 @@ module _ (s : Setting) where
         seen = seen;
       }
 
-      module _ (q : NotedStmt × Here) (body : Next s ks nest path.breaks path.continues yes q) where
+      module _ (q : NotedStmt × Here) (body : Next s Claimed ks nest path.breaks path.continues yes q) where
         abbrev there : Here
         there = record q.1 { at = other_side s.frame path.breaks v.0 v.1.at }
 
         seen_body : q.1.seen ≡ v.1.seen
-        seen_body = body.same (is_false s nest.declares (and_cases nest.fine (not nest.declares) branch).1)
+        seen_body = body.same (is_false s Claimed nest.declares (and_cases nest.fine (not nest.declares) branch).1)
 
-        module _ (count : here.counting ≡ false) (small : AreSmall here.at.facts) (k : ℕ) (next : Here) (goes : GoesTo s.frame there next) where
+        module _ (on : IsOn s Claimed here) (small : AreSmall here.at.facts) (k : ℕ) (next : Here) (goes : GoesTo s.frame there next) where
           abbrev points : Turns
           points = record { head = head; yes = yes; no = no; step = head; behind = next }
 
@@ -137,47 +141,47 @@ module _ (s : Setting) where
             points,
             record { known = λ reached. less_known s.frame ks here.at reached; seen = λ k c. c },
             (
-              while_condition k count,
+              while_condition k on,
               goes_through no there next (record { known = λ reached. side_known s.frame path.breaks (Some v.0) v.1.at reached; seen = λ k c. same_has no.seen q.1.seen seen_body k c }) goes,
               closed_code s (stmt_elaborated s.text s.variables s.result (k + literals_of v.0) q.0) (in_body points) yes q.1
                   (exit_end s.frame ks yes q.1 head yes_small body.stays (extended_has yes.seen q.1.seen body.extends) to_head)
-                  (body.code (moved.counting ∙ count) yes_small (k + literals_of v.0) (in_body points) body_may),
+                  (body.code (on_there s head yes moved.onward on) yes_small (k + literals_of v.0) (in_body points) body_may),
               λ exits. goes_nowhere head,
             ),
             behind,
           )
 
-        while_next : Next s ks mine left turned here (stated at note (act.While v.0 q.0), there)
+        while_next : Next s Claimed ks mine left turned here (stated at note (act.While v.0 q.0), there)
         while_next = record {
           extends = extends_none here.seen q.1.seen (seen_body ∙ moved.seen);
           same = λ d. seen_body ∙ moved.seen;
-          counting = body.counting ∙ moved.counting;
+          onward = onward_through here yes there moved.onward body.onward;
           stays = stays_more s.frame ks here.at v.1.at there.at (subst (λ a. Stays s.frame ks here.at a) (sym moved.at) (stays_less s.frame ks here.at)) (other_adds s.frame path.breaks (Some v.0) v.1.at);
-          code = λ count small k exits may. inr (λ next rest goes behind.
-              subst (λ fs. Judged s (chained fs rest) exits here) (sym (code_is s at note (Act-F.While v.0 q.0) (act.While v.0 q.0) k (act.rolls-While v.0 q.0)))
-              (while_judged_code count small k next goes exits rest behind));
+          code = λ on small k exits may. inr (λ next rest goes behind.
+              subst (λ fs. Judged s (chained fs rest) exits here) (sym (code_is s Claimed at note (Act-F.While v.0 q.0) (act.While v.0 q.0) k (act.rolls-While v.0 q.0)))
+              (while_judged_code on small k next goes exits rest behind));
         }
 
-    pub while_gives : Gives (Next s ks mine left turned here) (while_judged s.frame s.head at note e path here)
+    pub while_gives : Gives (Next s Claimed ks mine left turned here) (while_judged s.frame s.head at note e path here)
     while_gives =
-        nested (Next s ks mine left turned here) (value_judged s.frame e head) _ _ (λ v is.
-        through (Next s ks mine left turned here) (path.judged s.frame s.head (yes v is)) _ (λ q body_is.
-        given (Next s ks mine left turned here) (stated at note (act.While v.0 q.0), record q.1 { at = other_side s.frame path.breaks v.0 v.1.at })
+        nested (Next s Claimed ks mine left turned here) (value_judged s.frame e head) _ _ (λ v is.
+        through (Next s Claimed ks mine left turned here) (path.judged s.frame s.head (yes v is)) _ (λ q body_is.
+        given (Next s Claimed ks mine left turned here) (stated at note (act.While v.0 q.0), record q.1 { at = other_side s.frame path.breaks v.0 v.1.at })
         (while_next v is q ((w.judged (and_cases nest.fine (not nest.declares) branch).0 (yes v is)).made q body_is))))
 
   -- ---- a `for`
 
   for_code : (at : Pos) (mode : Mode) (a : Option NotedStmt) (c : Option NotedExpr) (t : Option NotedStmt) (u : NotedStmt) (k : ℕ)
-      → act_code (part_act s (Act-F.For a c t u)) at mode s.text s.variables s.result k
+      → act_code (part_act s Claimed (Act-F.For a c t u)) at mode s.text s.variables s.result k
       ≡ code_if (part_if a) s.text s.variables s.result k ++ one (turns s.text s.variables s.result (spot at mode) (k + literals_if (part_if a)) c (part_if t) (part_of u))
   for_code at mode None c None u k = refl
   for_code at mode None c (Some t) u k = refl
   for_code at mode (Some a) c None u k = refl
   for_code at mode (Some a) c (Some t) u k = refl
 
-  module _ (at : Pos) (note : Note) (init : Option Path) (init_nest : Option Nesting) (wi : WholeIf s init init_nest) (begin : begins init_nest ≡ true) (e : Option NotedExpr)
-      (step : Option Path) (step_nest : Option Nesting) (ws : WholeIf s step step_nest) (stepping : steps step_nest ≡ true)
-      (path : Path) (nest : Nesting) (w : Whole s path nest) (branch : is_branch nest ≡ true) (mine : Nesting) (left turned : Bool) (es : List ℕ) (here : Here) where
+  module _ (at : Pos) (note : Note) (init : Option Path) (init_nest : Option Nesting) (wi : WholeIf s Claimed init init_nest) (begin : begins init_nest ≡ true) (e : Option NotedExpr)
+      (step : Option Path) (step_nest : Option Nesting) (ws : WholeIf s Claimed step step_nest) (stepping : steps step_nest ≡ true)
+      (path : Path) (nest : Nesting) (w : Whole s Claimed path nest) (branch : is_branch nest ≡ true) (inside : Claimed → IsTestInBody s e) (mine : Nesting) (left turned : Bool) (es : List ℕ) (here : Here) where
     abbrev is : List ℕ
     is = assigned_if init
 
@@ -199,7 +203,7 @@ module _ (s : Setting) where
         by true b h = refl
         by false b h = h
 
-    module _ (p : Option NotedStmt × Here) (first : NextIf s is init_nest (breaks_if init) (continues_if init) here p) where
+    module _ (p : Option NotedStmt × Here) (first : NextIf s Claimed is init_nest (breaks_if init) (continues_if init) here p) where
       abbrev for_head : Here
       for_head = loop_head s.frame (us ++ ts) p.1
 
@@ -216,8 +220,8 @@ module _ (s : Setting) where
         for_adds : Adds for_head.at for_yes.at
         for_adds = subst (λ a. Adds a for_yes.at) for_moved.at (maybe_adds s.frame true v.0 v.1.at)
 
-        for_condition : (k : ℕ) → for_head.counting ≡ false → IsCondition s for_head (condition s.text s.variables k v.0) for_yes for_no
-        for_condition k count = record { before = e; after = v.0; literals = k; behind = v.1; counting = count; judged = judged; becomes = refl; true_side = refl; false_side = refl }
+        for_condition : (k : ℕ) → IsOn s Claimed for_head → IsCondition s for_head (condition s.text s.variables k v.0) for_yes for_no
+        for_condition k on = record { before = e; after = v.0; literals = k; behind = v.1; inside = inside on.claimed; fresh = on.fresh; counting = on.counts; judged = judged; becomes = refl; true_side = refl; false_side = refl }
 
         for_exit : (x exit : Here) → x.at ≡ for_head.at → ((k : ℕ) → Contains x.seen k → Contains for_yes.seen k) → GoesTo s.frame x exit → IsExit s.frame (us ++ ts) for_yes exit
         for_exit x exit same seen goes = record {
@@ -228,9 +232,9 @@ module _ (s : Setting) where
           seen = seen;
         }
 
-        module _ (q : NotedStmt × Here) (body : Next s us nest path.breaks path.continues for_yes q) where
+        module _ (q : NotedStmt × Here) (body : Next s Claimed us nest path.breaks path.continues for_yes q) where
           for_seen : q.1.seen ≡ v.1.seen
-          for_seen = body.same (is_false s nest.declares (and_cases nest.fine (not nest.declares) branch).1)
+          for_seen = body.same (is_false s Claimed nest.declares (and_cases nest.fine (not nest.declares) branch).1)
 
           -- where the step begins
           abbrev step_at : Bool → Here
@@ -240,9 +244,12 @@ module _ (s : Setting) where
           step_seen true = refl
           step_seen false = refl
 
-          step_counting : (b : Bool) → (step_at b).counting ≡ q.1.counting
-          step_counting true = refl
-          step_counting false = refl
+          step_onward : (b : Bool) → Onward q.1 (step_at b)
+          step_onward true = onward_none q.1
+          step_onward false = onward_none q.1
+
+          to_step_onward : (b : Bool) → Onward for_yes (step_at b)
+          to_step_onward b = onward_through for_yes q.1 (step_at b) body.onward (step_onward b)
 
           module _ (small : AreSmall p.1.at.facts) where
             head_small : AreSmall for_head.at.facts
@@ -278,7 +285,7 @@ module _ (s : Setting) where
             }
             head_after false = exit_after s.frame us ts for_yes q.1 for_head for_small body.stays (extended_has for_yes.seen q.1.seen body.extends) head_left
 
-          module _ (x : Option NotedStmt × Here) (last : NextIf s ts step_nest (breaks_if step) (continues_if step) (step_at path.continues) x) where
+          module _ (x : Option NotedStmt × Here) (last : NextIf s Claimed ts step_nest (breaks_if step) (continues_if step) (step_at path.continues) x) where
             abbrev ended : Here
             ended = record x.1 { at = maybe_other s.frame path.breaks v.0 v.1.at }
 
@@ -294,15 +301,18 @@ module _ (s : Setting) where
             seen_closed : for_there.seen ≡ here.seen
             seen_closed = extended_front here.seen x.1.seen seen_last
 
-            module _ (count : here.counting ≡ false) (small : AreSmall here.at.facts) (k : ℕ) (next : Here) (goes : GoesTo s.frame for_there next) where
+            module _ (on : IsOn s Claimed here) (small : AreSmall here.at.facts) (k : ℕ) (next : Here) (goes : GoesTo s.frame for_there next) where
               abbrev for_points : Turns
               for_points = record { head = for_head; yes = for_yes; no = for_no; step = step_at path.continues; behind = next }
 
               begun_small : AreSmall p.1.at.facts
               begun_small = first.stays.small small
 
-              yes_count : for_yes.counting ≡ false
-              yes_count = for_moved.counting ∙ first.counting ∙ count
+              head_on : IsOn s Claimed for_head
+              head_on = on_there s here for_head first.onward on
+
+              yes_on : IsOn s Claimed for_yes
+              yes_on = on_there s for_head for_yes for_moved.onward head_on
 
               has_closed : (k : ℕ) → Contains for_there.seen k → Contains v.1.seen k
               has_closed k c = subst (λ (l : List ℕ). Contains l k) (sym for_moved.seen) (extended_has here.seen p.1.seen first.extends k (same_has here.seen for_there.seen seen_closed k c))
@@ -325,16 +335,16 @@ module _ (s : Setting) where
                 for_points,
                 record { known = λ reached. less_known s.frame (us ++ ts) p.1.at reached; seen = λ k c. c },
                 (
-                  for_condition k (first.counting ∙ count),
+                  for_condition k head_on,
                   goes_through for_no for_there next (record { known = λ reached. side_known s.frame path.breaks v.0 v.1.at reached; seen = has_closed }) goes,
                   closed_code s (stmt_elaborated s.text s.variables s.result (k + literals_of_value v.0 + literals_if (part_if x.0)) q.0) (in_body for_points) for_yes q.1
                       (to_the_step begun_small path.continues)
-                      (body.code yes_count (for_small begun_small) (k + literals_of_value v.0 + literals_if (part_if x.0)) (in_body for_points) for_may),
+                      (body.code yes_on (for_small begun_small) (k + literals_of_value v.0 + literals_if (part_if x.0)) (in_body for_points) for_may),
                   λ exits.
                       closed_code s (code_if (part_if x.0) s.text s.variables s.result (k + literals_of_value v.0)) (ending exits for_head) (step_at path.continues) x.1
                       (exit_end s.frame ts (step_at path.continues) x.1 for_head (step_small begun_small path.continues) last.stays (extended_has (step_at path.continues).seen x.1.seen last.extends)
                       (head_after begun_small path.continues))
-                      (last.code (step_counting path.continues ∙ body.counting ∙ yes_count) (step_small begun_small path.continues) (k + literals_of_value v.0) (ending exits for_head) (step_may exits)),
+                      (last.code (on_there s for_yes (step_at path.continues) (to_step_onward path.continues) yes_on) (step_small begun_small path.continues) (k + literals_of_value v.0) (ending exits for_head) (step_may exits)),
                 ),
                 behind,
               )
@@ -346,29 +356,30 @@ module _ (s : Setting) where
                 (stays_more s.frame (us ++ ts) p.1.at v.1.at for_there.at
                 (subst (λ a. Stays s.frame (us ++ ts) p.1.at a) (sym for_moved.at) (stays_less s.frame (us ++ ts) p.1.at)) (other_adds s.frame path.breaks v.0 v.1.at)))
 
-            for_next : Next s (is ++ (es ++ (us ++ ts))) mine left turned here (stated at note (act.For p.0 v.0 x.0 q.0), for_there)
+            for_next : Next s Claimed (is ++ (es ++ (us ++ ts))) mine left turned here (stated at note (act.For p.0 v.0 x.0 q.0), for_there)
             for_next = record {
               extends = extends_none here.seen for_there.seen seen_closed;
               same = λ d. seen_closed;
-              counting = last.counting ∙ step_counting path.continues ∙ body.counting ∙ for_moved.counting ∙ first.counting;
+              onward = onward_through here for_yes for_there (onward_through here for_head for_yes first.onward for_moved.onward)
+                  (onward_through for_yes (step_at path.continues) for_there (to_step_onward path.continues) last.onward);
               stays = for_stays;
-              code = λ count small k exits may.
+              code = λ on small k exits may.
                   let n = k + literals_if (part_if p.0) in
                   let plain = wi.plain (begins_plain init_nest begin).1 in
                   subst (λ fs. IsCode s fs exits here for_there)
-                  (sym (code_is s at note (Act-F.For p.0 v.0 x.0 q.0) (act.For p.0 v.0 x.0 q.0) k (act.rolls-For p.0 v.0 x.0 q.0) ∙ for_code at note.mode p.0 v.0 x.0 q.0 k))
+                  (sym (code_is s Claimed at note (Act-F.For p.0 v.0 x.0 q.0) (act.For p.0 v.0 x.0 q.0) k (act.rolls-For p.0 v.0 x.0 q.0) ∙ for_code at note.mode p.0 v.0 x.0 q.0 k))
                   (both_code s (code_if (part_if p.0) s.text s.variables s.result k) (one (turns s.text s.variables s.result (spot at note.mode) n v.0 (part_if x.0) (part_of q.0))) exits here p.1 for_there
-                  (first.code count small k exits (may_not s.frame is (breaks_if init) (continues_if init) here exits plain.0 plain.1))
-                  (inr (λ next rest goes behind. for_judged_code count small n next goes exits rest behind)));
+                  (first.code on small k exits (may_not s.frame is (breaks_if init) (continues_if init) here exits plain.0 plain.1))
+                  (inr (λ next rest goes behind. for_judged_code on small n next goes exits rest behind)));
             }
 
     abbrev ForNext : NotedStmt × Here → Type 0
-    ForNext = Next s (is ++ (es ++ (us ++ ts))) mine left turned here
+    ForNext = Next s Claimed (is ++ (es ++ (us ++ ts))) mine left turned here
 
     pub for_gives : Gives ForNext (for_judged s.frame s.head at note init e step path here)
     for_gives =
         through ForNext (part_judged s.frame s.head init here) _ (λ p init_is.
-        let first : NextIf s is init_nest (breaks_if init) (continues_if init) here p = (wi.judged (begins_plain init_nest begin).0 here).made p init_is in
+        let first : NextIf s Claimed is init_nest (breaks_if init) (continues_if init) here p = (wi.judged (begins_plain init_nest begin).0 here).made p init_is in
         nested ForNext (maybe_judged s.frame e (loop_head s.frame (us ++ ts) p.1)) _ _ (λ v judged.
         through ForNext (path.judged s.frame s.head (record v.1 { at = maybe_side s.frame true v.0 v.1.at })) _ (λ q body_is.
         let body = (w.judged (and_cases nest.fine (not nest.declares) branch).0 (record v.1 { at = maybe_side s.frame true v.0 v.1.at })).made q body_is in

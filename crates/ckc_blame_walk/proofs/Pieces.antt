@@ -1,5 +1,5 @@
 -- What the parts of a statement leave: an expression the point, an assignment all that does not name what it assigns.
-use Rattle.std.proofs.Common.{◌≡◌, refl, sym, ap, subst, ◌∙◌, ℕ, Bool, true, false, List, [], ◌∷◌, ◌++◌, map, rules}
+use Rattle.std.proofs.Common.{◌≡◌, refl, sym, ap, subst, ◌∙◌, ℕ, Bool, true, false, List, [], ◌∷◌, ◌++◌, map, length, rules}
 use Rattle.std.specs.Prelude.{if◌then◌else◌, Option, None, Some, Ok, Err}
 use Rattle.ckc_base.specs.declared.places.Pos.{Pos}
 use Rattle.ckc_base.specs.declared.places.Refusal.{Refusal}
@@ -32,6 +32,7 @@ use Rattle.ckc_bounds_statements.specs.Paths as paths
 use Rattle.ckc_bounds_statements.specs.Paths.{Here, expr_judged, value_judged, values_judged, maybe_judged, init_judged, target_in, local_in_node, starts_within, start_form, started, declared_here, bounds_judged, decl_judged, stated, sides_judged, stores_judged, behind_stores}
 use Rattle.ckc_blame_walk.specs.Walks.{Stays}
 use Rattle.ckc_blame_walk.proofs.Flow.{stays_none, stays_through, stays_assigned}
+use Rattle.ckc_blame_walk.proofs.Onward.{Onward, onward_none, onward_through, onward_capped}
 
 -- ---- outcomes
 
@@ -65,20 +66,20 @@ faulted P (Some r) o h = record { made = λ a e. absurd (cc) }
 pub record Moved (here there : Here) : Type 0 where
   pub seen : there.seen ≡ here.seen
   pub at : there.at ≡ here.at
-  pub counting : there.counting ≡ here.counting
+  pub onward : Onward here there
 
 pub moved_not : (here : Here) → Moved here here
-moved_not here = record { seen = refl; at = refl; counting = refl }
+moved_not here = record { seen = refl; at = refl; onward = onward_none here }
 
 pub moved_through : (a b c : Here) → Moved a b → Moved b c → Moved a c
-moved_through a b c h g = record { seen = g.seen ∙ h.seen; at = g.at ∙ h.at; counting = g.counting ∙ h.counting }
+moved_through a b c h g = record { seen = g.seen ∙ h.seen; at = g.at ∙ h.at; onward = onward_through a b c h.onward g.onward }
 
 module _ (frame : Frame) where
   pub value_moves : (e : NotedExpr) (here : Here) → Gives (λ p. Moved here p.1) (value_judged frame e here)
   unfolding value_judged
   value_moves e here =
       through (λ (p : NotedExpr × Here). Moved here p.1) (expr_judged frame e here) (λ f. Ok (f, record here { next = fresh_behind (view frame e) here.next here.at })) (λ f is.
-      given (λ (p : NotedExpr × Here). Moved here p.1) (f, record here { next = fresh_behind (view frame e) here.next here.at }) (record { seen = refl; at = refl; counting = refl }))
+      given (λ (p : NotedExpr × Here). Moved here p.1) (f, record here { next = fresh_behind (view frame e) here.next here.at }) (record { seen = refl; at = refl; onward = record { same = refl; grown = onward_capped here.next (length ((view frame e).fresh here.at)) } }))
 
   pub values_move : (es : List NotedExpr) (here : Here) → Gives (λ p. Moved here p.1) (values_judged frame es here)
   values_move [] here = given (λ (p : List NotedExpr × Here). Moved here p.1) ([], here) (moved_not here)
@@ -245,10 +246,10 @@ module _ (frame : Frame) where
 
   pub record Stored (ks : List ℕ) (here there : Here) : Type 0 where
     pub seen : there.seen ≡ here.seen
-    pub counting : there.counting ≡ here.counting
+    pub onward : Onward here there
     pub stays : Stays frame ks here.at there.at
 
   pub stores_stay : (head : HeadBounds) (ss : List NotedStmt) (first : ℕ) (here : Here) → Gives (Stored (locals_of (stores_of ss)) here) (behind_stores frame head ss first here)
   stores_stay head ss first here =
       through (Stored (locals_of (stores_of ss)) here) _ _ (λ at is.
-      given (Stored (locals_of (stores_of ss)) here) (record here { at = at }) (record { seen = refl; counting = refl; stays = (stored_stays head ss first here).made at is }))
+      given (Stored (locals_of (stores_of ss)) here) (record here { at = at }) (record { seen = refl; onward = onward_none here; stays = (stored_stays head ss first here).made at is }))

@@ -1,6 +1,7 @@
 -- The code of each statement is judged, by induction.
 use Rattle.std.proofs.Common.{◌≡◌, inl, inr, refl, sym, ap, subst, ◌∙◌, ℕ, Bool, true, false, List, [], ◌∷◌, ◌++◌, length, take, map, append-nil, rules}
 use Rattle.std.specs.Prelude.{◌&&◌, ◌||◌, ◌+◌, ◌^◌, not, Option, None, Some, Ok}
+use Rattle.std.specs.List.{AllByRecursion}
 use Rattle.std.proofs.lemmas.List.Elements.{All-nil}
 use Rattle.ckc_base.specs.declared.places.Pos.{Pos}
 use Rattle.ckc_base.specs.Outcomes.{Outcome, bind, unless, refused}
@@ -30,11 +31,14 @@ use Rattle.ckc_build_values.specs.Expressions.{expr_elaborated, literals_of}
 use Rattle.ckc_build_elaborate.specs.Steps.{spot, nowhere, destination_of, destination_for, assigned, declared, returned}
 use Rattle.ckc_build_elaborate.specs.Statements.{all_code, all_assigns, part_of, stmt_elaborated}
 use Rattle.ckc_blame_sound.specs.Settings.{Setting}
+use Rattle.ckc_blame_sound.specs.Bodies.{IsInBody}
 use Rattle.ckc_blame_sound.specs.Steps.{is_simple}
 use Rattle.ckc_blame_sound.specs.Judged.{Exits, Judged}
 use Rattle.ckc_blame_walk.specs.Walks.{Nesting, is_branch, begins, steps, nesting_by, nesting_in, nesting_of_act, nesting_of, AreSmall, MayLeave, Stays}
 use Rattle.ckc_blame_walk.proofs.Adds.{Adds, range_more, side_adds}
 use Rattle.ckc_blame_walk.proofs.Flow.{stays_none, stays_adding, stays_through, stays_assigned}
+use Rattle.ckc_blame_walk.proofs.Onward.{Onward, IsOn, onward_none, onward_through, on_there}
+use Rattle.ckc_blame_walk.proofs.Inside.{PartsInBody, parts_inside}
 use Rattle.ckc_blame_walk.proofs.Pieces.{Gives, through, nested, given, unless_gives, Moved, moved_not, moved_through, value_moves, maybe_moves, init_moves, value_named, locals_of, as_list, named_list, Stored, stores_stay}
 use Rattle.ckc_blame_walk.proofs.Codes.{goes_nowhere, IsWalk, IsCode, GoesOn, step_code, both_code, further_code, started_on, assigned_on}
 use Rattle.ckc_blame_walk.proofs.Exits.{exit_goes, may_first, may_after}
@@ -62,7 +66,7 @@ stays_gone frame ks at = record {
   small = λ s. ranges_small 1 frame.locals (record { vars = length frame.locals + 1; list = [] }) (All-nil (λ (f : Fact). is_within (2 ^ 50) f.c ≡ true));
 }
 
-module _ (s : Setting) where
+module _ (s : Setting) (Claimed : Type 0) where
   pub record PartNext (ks : List ℕ) (here : Here) (p : NotedStmt × Here) : Type 0 where
     pub moved : Moved here p.1
     pub stores : (rest : List NotedStmt) → locals_of s.frame (stores_of (p.0 ∷ rest)) ≡ ks ++ locals_of s.frame (stores_of rest)
@@ -73,14 +77,14 @@ module _ (s : Setting) where
 
   record AllNext (ks : List ℕ) (left turned : Bool) (here : Here) (p : List NotedStmt × Here) : Type 0 where
     pub extends : Extends here.seen p.1.seen
-    pub counting : p.1.counting ≡ here.counting
+    pub onward : Onward here p.1
     pub stays : Stays s.frame ks here.at p.1.at
-    pub code : here.counting ≡ false → AreSmall here.at.facts → (k : ℕ) (exits : Exits) → MayLeave s.frame ks left turned here exits
+    pub code : IsOn s Claimed here → AreSmall here.at.facts → (k : ℕ) (exits : Exits) → MayLeave s.frame ks left turned here exits
         → IsCode s (all_code (map part_of p.0) s.text s.variables s.result k) exits here p.1
 
   record ActHolds (path : ActPath) (nest : Nesting) (a : NotedAct) : Type 0 where
-    pub judged : nest.fine ≡ true → (at : Pos) (note : Note) (here : Here)
-        → Gives (λ p. IsWalk s (stated at note a) here p → Next s path.assigned nest path.breaks path.continues here p) (path.judged s.frame s.head at note here)
+    pub judged : nest.fine ≡ true → (at : Pos) (note : Note) → (Claimed → IsInBody s (stated at note a)) → (here : Here)
+        → Gives (λ p. IsWalk s (stated at note a) here p → Next s Claimed path.assigned nest path.breaks path.continues here p) (path.judged s.frame s.head at note here)
     pub part : (bundle at : Pos) (note : Note) (here : Here) → Gives (PartNext path.assigned here) (path.part s.frame bundle at note here)
     pub plain : (nest.declares || nest.assigns) ≡ true → (path.breaks ≡ false) × (path.continues ≡ false)
 
@@ -88,7 +92,7 @@ module _ (s : Setting) where
     pub holds : ActHolds (path_of_act a) (nesting_of_act a) a
 
   pub record StmtHolds (st : NotedStmt) : Type 0 where
-    pub whole : Whole s (path st) (nesting_of st)
+    pub whole : (Claimed → IsInBody s st) → Whole s Claimed (path st) (nesting_of st)
     pub part : (bundle : Pos) (here : Here) → Gives (PartNext (path st).assigned here) ((path st).part s.frame bundle here)
 
   abbrev KeptAct : Type 0
@@ -135,28 +139,28 @@ module _ (s : Setting) where
   abbrev fine_in : List KeptStmt → Bool
   fine_in ks = inside_each all_have (λ (v : Nesting). v.fine) (map nesting_of (map (λ (k : KeptStmt). k.0) ks))
 
-  all_gives : (ks : List KeptStmt) → fine_in ks ≡ true → (here : Here) → Gives (AllNext (assigned_in ks) (breaks_in ks) (continues_in ks) here) (all_judged s.frame s.head (paths_of ks) here)
+  all_gives : (ks : List KeptStmt) → fine_in ks ≡ true → (Claimed → AllByRecursion (IsInBody s) (map (λ (k : KeptStmt). k.0) ks)) → (here : Here) → Gives (AllNext (assigned_in ks) (breaks_in ks) (continues_in ks) here) (all_judged s.frame s.head (paths_of ks) here)
   unfolding all_judged
-  all_gives [] fine here = given (AllNext [] false false here) ([], here) (record {
+  all_gives [] fine inside here = given (AllNext [] false false here) ([], here) (record {
     extends = extends_none here.seen here.seen refl;
-    counting = refl;
+    onward = onward_none here;
     stays = stays_none s.frame [] here.at;
-    code = λ count small k exits may. inl (refl, refl);
+    code = λ on small k exits may. inl (refl, refl);
   })
-  all_gives (k ∷ ks) fine here =
+  all_gives (k ∷ ks) fine inside here =
       let fines = and_cases (nesting_of k.0).fine (fine_in ks) fine in
       through (AllNext (assigned_in (k ∷ ks)) (breaks_in (k ∷ ks)) (continues_in (k ∷ ks)) here) ((path k.0).judged s.frame s.head here) _ (λ p is.
       through (AllNext (assigned_in (k ∷ ks)) (breaks_in (k ∷ ks)) (continues_in (k ∷ ks)) here) (all_judged s.frame s.head (paths_of ks) p.1) _ (λ q rest_is.
-      let one : Next s (path k.0).assigned (nesting_of k.0) (path k.0).breaks (path k.0).continues here p = (k.1.whole.judged fines.0 here).made p is in
-      let rest : AllNext (assigned_in ks) (breaks_in ks) (continues_in ks) p.1 q = (all_gives ks fines.1 p.1).made q rest_is in
+      let one : Next s Claimed (path k.0).assigned (nesting_of k.0) (path k.0).breaks (path k.0).continues here p = ((k.1.whole (λ a. (inside a).0)).judged fines.0 here).made p is in
+      let rest : AllNext (assigned_in ks) (breaks_in ks) (continues_in ks) p.1 q = (all_gives ks fines.1 (λ a. (inside a).1) p.1).made q rest_is in
       given (AllNext (assigned_in (k ∷ ks)) (breaks_in (k ∷ ks)) (continues_in (k ∷ ks)) here) (p.0 ∷ q.0, q.1) (record {
         extends = extends_through here.seen p.1.seen q.1.seen one.extends rest.extends;
-        counting = rest.counting ∙ one.counting;
+        onward = onward_through here p.1 q.1 one.onward rest.onward;
         stays = stays_through s.frame (path k.0).assigned (assigned_in ks) here.at p.1.at q.1.at one.stays rest.stays;
-        code = λ count small n exits may.
+        code = λ on small n exits may.
             both_code s (stmt_elaborated s.text s.variables s.result n p.0) (all_code (map part_of q.0) s.text s.variables s.result (n + (part_of p.0).literals)) exits here p.1 q.1
-            (one.code count small n exits (may_first s.frame (path k.0).assigned (assigned_in ks) (path k.0).breaks (breaks_in ks) (path k.0).continues (continues_in ks) here exits may))
-            (rest.code (one.counting ∙ count) (one.stays.small small) (n + (part_of p.0).literals) exits
+            (one.code on small n exits (may_first s.frame (path k.0).assigned (assigned_in ks) (path k.0).breaks (breaks_in ks) (path k.0).continues (continues_in ks) here exits may))
+            (rest.code (on_there s here p.1 one.onward on) (one.stays.small small) (n + (part_of p.0).literals) exits
             (may_after s.frame (path k.0).assigned (assigned_in ks) (path k.0).breaks (breaks_in ks) (path k.0).continues (continues_in ks) here p.1 exits small one.stays
             (extended_has here.seen p.1.seen one.extends) may));
       })))
@@ -176,52 +180,52 @@ module _ (s : Setting) where
 
   -- ---- a block
 
-  block_gives : (m : _) (ks : List KeptStmt) → fine_in ks ≡ true → (mine : Nesting) (at : Pos) (note : Note) (here : Here)
-      → Gives (Next s (assigned_in ks) mine (breaks_in ks) (continues_in ks) here) (block_judged s.frame s.head at note m (paths_of ks) here)
-  block_gives m ks fine mine at note here =
-      through (Next s (assigned_in ks) mine (breaks_in ks) (continues_in ks) here) (all_judged s.frame s.head (paths_of ks) here) _ (λ p is.
-      let all : AllNext (assigned_in ks) (breaks_in ks) (continues_in ks) here p = (all_gives ks fine here).made p is in
+  block_gives : (m : _) (ks : List KeptStmt) → fine_in ks ≡ true → (Claimed → AllByRecursion (IsInBody s) (map (λ (k : KeptStmt). k.0) ks)) → (mine : Nesting) (at : Pos) (note : Note) (here : Here)
+      → Gives (Next s Claimed (assigned_in ks) mine (breaks_in ks) (continues_in ks) here) (block_judged s.frame s.head at note m (paths_of ks) here)
+  block_gives m ks fine inside mine at note here =
+      through (Next s Claimed (assigned_in ks) mine (breaks_in ks) (continues_in ks) here) (all_judged s.frame s.head (paths_of ks) here) _ (λ p is.
+      let all : AllNext (assigned_in ks) (breaks_in ks) (continues_in ks) here p = (all_gives ks fine inside here).made p is in
       let there : Here = closed (length here.seen) p.1 in
       let front : there.seen ≡ here.seen = extended_front here.seen p.1.seen all.extends in
-      given (Next s (assigned_in ks) mine (breaks_in ks) (continues_in ks) here) (stated at note (act.Block m p.0), there) (record {
+      given (Next s Claimed (assigned_in ks) mine (breaks_in ks) (continues_in ks) here) (stated at note (act.Block m p.0), there) (record {
         extends = extends_none here.seen there.seen front;
         same = λ d. front;
-        counting = all.counting;
+        onward = all.onward;
         stays = all.stays;
-        code = λ count small k exits may.
-            subst (λ fs. IsCode s fs exits here there) (sym (code_is s at note (Act-F.Block m p.0) (act.Block m p.0) k (act.rolls-Block m p.0)))
+        code = λ on small k exits may.
+            subst (λ fs. IsCode s fs exits here there) (sym (code_is s Claimed at note (Act-F.Block m p.0) (act.Block m p.0) k (act.rolls-Block m p.0)))
             (further_code s (all_code (map part_of p.0) s.text s.variables s.result k) exits here p.1 there
             (record { known = (goes_nowhere p.1).known; seen = λ n c. extended_has here.seen p.1.seen all.extends n (same_has here.seen there.seen front n c) })
             (λ e. ap (λ (h : Here). record h { seen = take (length here.seen) h.seen }) e ∙ ap (λ x. record here { seen = x }) (extended_front here.seen here.seen (extends_none here.seen here.seen refl)))
-            (all.code count small k exits may));
+            (all.code on small k exits may));
       }))
 
   -- ---- statements that are a step
 
-  module _ (a : NotedAct) (x : Act-F Name Note NotedAct NotedStmt) (same : out-Act Name Note a ≡ x) (simple : is_simple x ≡ true) (at : Pos) (note : Note) (ks : List ℕ) (mine : Nesting) (left turned : Bool) (here : Here) where
+  module _ (a : NotedAct) (x : Act-F Name Note NotedAct NotedStmt) (same : out-Act Name Note a ≡ x) (simple : is_simple x ≡ true) (at : Pos) (note : Note) (inside : Claimed → IsInBody s (stated at note a)) (ks : List ℕ) (mine : Nesting) (left turned : Bool) (here : Here) where
     abbrev before : NotedStmt
     before = stated at note a
 
     abbrev Simple : NotedStmt × Here → Type 0
-    Simple p = IsWalk s before here p → Next s ks mine left turned here p
+    Simple p = IsWalk s before here p → Next s Claimed ks mine left turned here p
 
     -- a step to a point with more in scope
-    step_next : (b : NotedAct) (there : Here) → Extends here.seen there.seen → (mine.declares ≡ false → there.seen ≡ here.seen) → there.counting ≡ here.counting → Stays s.frame ks here.at there.at
+    step_next : (b : NotedAct) (there : Here) → Extends here.seen there.seen → (mine.declares ≡ false → there.seen ≡ here.seen) → Onward here there → Stays s.frame ks here.at there.at
         → ((k : ℕ) → (f : Code → Code) × (stmt_elaborated s.text s.variables s.result k (stated at note b) ≡ f ∷ []) × GoesOn s f) → Simple (stated at note b, there)
-    step_next b there extends plain counting stays becomes walk = record {
+    step_next b there extends plain onward stays becomes walk = record {
       extends = extends;
       same = plain;
-      counting = counting;
+      onward = onward;
       stays = stays;
-      code = λ count small k exits may.
+      code = λ on small k exits may.
           let f = becomes k in
-          step_code s before (stated at note b) here there k exits f.0 (ap is_simple same ∙ simple) count walk f.1 f.2;
+          step_code s before (stated at note b) here there k exits f.0 (ap is_simple same ∙ simple) inside on walk f.1 f.2;
     }
 
     -- a step in the same scope
-    in_scope : (b : NotedAct) (there : Here) → there.seen ≡ here.seen → there.counting ≡ here.counting → Stays s.frame ks here.at there.at
+    in_scope : (b : NotedAct) (there : Here) → there.seen ≡ here.seen → Onward here there → Stays s.frame ks here.at there.at
         → ((k : ℕ) → (f : Code → Code) × (stmt_elaborated s.text s.variables s.result k (stated at note b) ≡ f ∷ []) × GoesOn s f) → Simple (stated at note b, there)
-    in_scope b there seen counting stays becomes = step_next b there (extends_none here.seen there.seen seen) (λ d. seen) counting stays becomes
+    in_scope b there seen onward stays becomes = step_next b there (extends_none here.seen there.seen seen) (λ d. seen) onward stays becomes
 
   out_assign : (a b : NotedExpr) → out-Act Name Note (act.Assign a b) ≡ Act-F.Assign a b
   out_assign a b = search (rules, the_lemmas)
@@ -244,9 +248,9 @@ module _ (s : Setting) where
           stores = assigns_first at note p.0 q.0 e ((value_named s.frame e here).made p is);
         })))
 
-    module _ (a : NotedAct) (same : out-Act Name Note a ≡ Act-F.Assign e f) (mine : Nesting) (left turned : Bool) where
+    module _ (a : NotedAct) (same : out-Act Name Note a ≡ Act-F.Assign e f) (inside : Claimed → IsInBody s (stated at note a)) (mine : Nesting) (left turned : Bool) where
       abbrev Assigned : NotedStmt × Here → Type 0
-      Assigned p = IsWalk s (stated at note a) here p → Next s (target_in e) mine left turned here p
+      Assigned p = IsWalk s (stated at note a) here p → Next s Claimed (target_in e) mine left turned here p
 
       assign_gives : Gives Assigned (assign_judged s.frame s.head at note e f here)
       assign_gives =
@@ -259,11 +263,11 @@ module _ (s : Setting) where
           through Assigned (behind_stores s.frame s.head (st ∷ []) here.next q.1) _ (λ h stored.
           let left_there : Stored s.frame (locals_of s.frame (stores_of (st ∷ []))) q.1 h = (stores_stay s.frame s.head (st ∷ []) here.next q.1).made h stored in
           given Assigned (st, h)
-          (in_scope a (Act-F.Assign e f) same refl at note (target_in e) mine left turned here (act.Assign p.0 q.0) h (left_there.seen ∙ moved.seen) (left_there.counting ∙ moved.counting)
+          (in_scope a (Act-F.Assign e f) same refl at note inside (target_in e) mine left turned here (act.Assign p.0 q.0) h (left_there.seen ∙ moved.seen) (onward_through here q.1 h moved.onward left_there.onward)
           (subst (λ ks. Stays s.frame ks here.at h.at) ks_is (subst (λ x. Stays s.frame (locals_of s.frame (stores_of (st ∷ []))) x h.at) moved.at left_there.stays))
           (λ k. (
             assigned s.text s.variables (spot at note.mode) (destination_of s.text s.variables k p.0) (k + literals_of p.0) q.0,
-            code_is s at note (Act-F.Assign p.0 q.0) (act.Assign p.0 q.0) k (act.rolls-Assign p.0 q.0),
+            code_is s Claimed at note (Act-F.Assign p.0 q.0) (act.Assign p.0 q.0) k (act.rolls-Assign p.0 q.0),
             assigned_on s (spot at note.mode) (destination_of s.text s.variables k p.0) (k + literals_of p.0) q.0,
           ))))))
 
@@ -276,9 +280,9 @@ module _ (s : Setting) where
       by (name.Local k) = stays_assigned s.frame k (start_form s.frame (type_written d.ctype) i at.facts) at
       by n = stays_none s.frame [] at
 
-  module _ (a : NotedAct) (at : Pos) (note : Note) (here : Here) where
+  module _ (a : NotedAct) (at : Pos) (note : Note) (inside : Claimed → IsInBody s (stated at note a)) (here : Here) where
     abbrev Walked : List ℕ → Nesting → Bool → Bool → NotedStmt × Here → Type 0
-    Walked ks mine left turned p = IsWalk s (stated at note a) here p → Next s ks mine left turned here p
+    Walked ks mine left turned p = IsWalk s (stated at note a) here p → Next s Claimed ks mine left turned here p
 
     local_gives : (d : NotedDecl) → out-Act Name Note a ≡ Act-F.Local d → (mine : Nesting) → mine.declares ≡ true → (left turned : Bool)
         → Gives (Walked (local_in d.name) mine left turned) (local_judged s.frame at note d here)
@@ -290,12 +294,12 @@ module _ (s : Setting) where
         let e : NotedDecl = record d { init = i.0 } in
         let there : Here = declared_here s.frame d i.0 i.1 in
         given (Walked (local_in d.name) mine left turned) (stated at note (act.Local e), there)
-        (step_next a (Act-F.Local d) same refl at note (local_in d.name) mine left turned here (act.Local e) there
-        (record { more = local_in d.name; is = ap (λ l. l ++ local_in d.name) moved.seen }) (λ n. absurd (cc)) moved.counting
+        (step_next a (Act-F.Local d) same refl at note inside (local_in d.name) mine left turned here (act.Local e) there
+        (record { more = local_in d.name; is = ap (λ l. l ++ local_in d.name) moved.seen }) (λ n. absurd (cc)) moved.onward
         (subst (λ x. Stays s.frame (local_in d.name) x there.at) moved.at (stays_declared d i.0 i.1.at))
         (λ k. (
           declared s.text s.variables (spot at note.mode) k e,
-          code_is s at note (Act-F.Local e) (act.Local e) k (act.rolls-Local e),
+          code_is s Claimed at note (Act-F.Local e) (act.Local e) k (act.rolls-Local e),
           started_on s (spot at note.mode) (destination_for s.text (type_written d.ctype) d.name) (k + literals_of_bounds d.bounds) i.0,
         ))))))
 
@@ -304,11 +308,11 @@ module _ (s : Setting) where
         through (Walked [] mine left turned) (value_judged s.frame e here) _ (λ p is.
         let moved : Moved here p.1 = (value_moves s.frame e here).made p is in
         given (Walked [] mine left turned) (stated at note (act.Call p.0), p.1)
-        (in_scope a (Act-F.Call e) same refl at note [] mine left turned here (act.Call p.0) p.1 moved.seen moved.counting
+        (in_scope a (Act-F.Call e) same refl at note inside [] mine left turned here (act.Call p.0) p.1 moved.seen moved.onward
         (subst (λ x. Stays s.frame [] here.at x) (sym moved.at) (stays_none s.frame [] here.at))
         (λ k. (
           assigned s.text s.variables (spot p.0.pos note.mode) nowhere k p.0,
-          code_is s at note (Act-F.Call p.0) (act.Call p.0) k (act.rolls-Call p.0),
+          code_is s Claimed at note (Act-F.Call p.0) (act.Call p.0) k (act.rolls-Call p.0),
           assigned_on s (spot p.0.pos note.mode) nowhere k p.0,
         ))))
 
@@ -319,10 +323,10 @@ module _ (s : Setting) where
         let moved : Moved here p.1 = (maybe_moves s.frame e here).made p is in
         unless_gives (Walked ks mine left turned) (not (is_returned s.frame s.head p.0 here.next p.1)) not_contained at (Ok (stated at note (act.Return p.0), gone s.frame p.1))
         (given (Walked ks mine left turned) (stated at note (act.Return p.0), gone s.frame p.1)
-        (in_scope a (Act-F.Return e) same refl at note ks mine left turned here (act.Return p.0) (gone s.frame p.1) moved.seen moved.counting (stays_gone s.frame ks here.at)
+        (in_scope a (Act-F.Return e) same refl at note inside ks mine left turned here (act.Return p.0) (gone s.frame p.1) moved.seen moved.onward (stays_gone s.frame ks here.at)
         (λ k. (
           Return (spot at note.mode) (returned s.text s.variables s.result k p.0),
-          code_is s at note (Act-F.Return p.0) (act.Return p.0) k (act.rolls-Return p.0),
+          code_is s Claimed at note (Act-F.Return p.0) (act.Return p.0) k (act.rolls-Return p.0),
           (λ rest exits h j. j),
         )))))
 
@@ -333,11 +337,11 @@ module _ (s : Setting) where
         let moved : Moved here p.1 = (value_moves s.frame e here).made p is in
         let there : Here = record p.1 { at = side_of s.frame true p.0 p.1.at } in
         given (Walked [] mine left turned) (stated at note (act.Check p.0), there)
-        (in_scope a (Act-F.Check e) same refl at note [] mine left turned here (act.Check p.0) there moved.seen moved.counting
+        (in_scope a (Act-F.Check e) same refl at note inside [] mine left turned here (act.Check p.0) there moved.seen moved.onward
         (stays_adding s.frame here.at there.at (subst (λ x. Adds x there.at) moved.at (side_adds s.frame p.0 true p.1.at)))
         (λ k. (
           Check (spot at note.mode) (expr_elaborated s.text s.variables k p.0),
-          code_is s at note (Act-F.Check p.0) (act.Check p.0) k (act.rolls-Check p.0),
+          code_is s Claimed at note (Act-F.Check p.0) (act.Check p.0) k (act.rolls-Check p.0),
           (λ rest exits h j. j),
         ))))
 
@@ -352,12 +356,12 @@ module _ (s : Setting) where
         (through (Walked (assigned_in ks) mine left turned) (behind_stores s.frame s.head p.0 here.next p.1) _ (λ h stored.
         let there : Stored s.frame (locals_of s.frame (stores_of p.0)) p.1 h = (stores_stay s.frame s.head p.0 here.next p.1).made h stored in
         given (Walked (assigned_in ks) mine left turned) (stated at note (act.Bundle p.0), h)
-        (in_scope a (Act-F.Bundle (map (λ (k : KeptStmt). k.0) ks)) same refl at note (assigned_in ks) mine left turned here (act.Bundle p.0) h
-        (there.seen ∙ all.moved.seen) (there.counting ∙ all.moved.counting)
+        (in_scope a (Act-F.Bundle (map (λ (k : KeptStmt). k.0) ks)) same refl at note inside (assigned_in ks) mine left turned here (act.Bundle p.0) h
+        (there.seen ∙ all.moved.seen) (onward_through here p.1 h all.moved.onward there.onward)
         (subst (λ ks. Stays s.frame ks here.at h.at) all.stores (subst (λ x. Stays s.frame (locals_of s.frame (stores_of p.0)) x h.at) all.moved.at there.stays))
         (λ k. (
           Bundle (spot at note.mode) (all_assigns (map part_of p.0) s.text s.variables k),
-          code_is s at note (Act-F.Bundle p.0) (act.Bundle p.0) k (act.rolls-Bundle p.0),
+          code_is s Claimed at note (Act-F.Bundle p.0) (act.Bundle p.0) k (act.rolls-Bundle p.0),
           (λ rest exits h j. j),
         ))))))
 
@@ -374,132 +378,140 @@ module _ (s : Setting) where
   act_step : (y : Act-F Name Note KeptAct KeptStmt) → ActStep y
   unfolding Judged
   act_step (Act-F.Block m ks) = record {
-    judged = λ fine at note here. through_parts _ here _ _ (block_gives m ks fine (nesting_by (act_nested (inner_act (Act-F.Block m ks)))) at note here);
+    judged = λ fine at note inside here. through_parts _ here _ _ (block_gives m ks fine (λ a. parts_inside s at note (inner_act (Act-F.Block m ks)) (inside a)) (nesting_by (act_nested (inner_act (Act-F.Block m ks)))) at note here);
     part = λ bundle at note here. no_part _ here bundle;
     plain = λ e. absurd (cc);
   }
   act_step Act-F.Empty = record {
-    judged = λ fine at note here. given _ (stated at note act.Empty, here) (λ walk. record {
+    judged = λ fine at note inside here. given _ (stated at note act.Empty, here) (λ walk. record {
       extends = extends_none here.seen here.seen refl;
       same = λ d. refl;
-      counting = refl;
+      onward = onward_none here;
       stays = stays_none s.frame [] here.at;
-      code = λ count small k exits may. inl (code_is s at note Act-F.Empty act.Empty k act.rolls-Empty, refl);
+      code = λ on small k exits may. inl (code_is s Claimed at note Act-F.Empty act.Empty k act.rolls-Empty, refl);
     });
     part = λ bundle at note here. no_part _ here bundle;
     plain = λ e. absurd (cc);
   }
   act_step (Act-F.Local d) = record {
-    judged = λ fine at note here. local_gives (roll-Act Name Note (Act-F.Local d)) at note here d (act_out (Act-F.Local d)) (nesting_by (Act-F.Local d)) refl false false;
+    judged = λ fine at note inside here. local_gives (roll-Act Name Note (Act-F.Local d)) at note inside here d (act_out (Act-F.Local d)) (nesting_by (Act-F.Local d)) refl false false;
     part = λ bundle at note here. no_part _ here bundle;
     plain = λ e. (refl, refl);
   }
   act_step (Act-F.Assign e f) = record {
-    judged = λ fine at note here. assign_gives e f at note here (roll-Act Name Note (Act-F.Assign e f)) (act_out (Act-F.Assign e f)) (nesting_by (Act-F.Assign e f)) false false;
+    judged = λ fine at note inside here. assign_gives e f at note here (roll-Act Name Note (Act-F.Assign e f)) (act_out (Act-F.Assign e f)) inside (nesting_by (Act-F.Assign e f)) false false;
     part = λ bundle at note here. part_gives e f at note here;
     plain = λ e. (refl, refl);
   }
   act_step (Act-F.Call e) = record {
-    judged = λ fine at note here. call_gives (roll-Act Name Note (Act-F.Call e)) at note here e (act_out (Act-F.Call e)) (nesting_by (Act-F.Call e)) false false;
+    judged = λ fine at note inside here. call_gives (roll-Act Name Note (Act-F.Call e)) at note inside here e (act_out (Act-F.Call e)) (nesting_by (Act-F.Call e)) false false;
     part = λ bundle at note here. no_part _ here bundle;
     plain = λ e. absurd (cc);
   }
   act_step (Act-F.If e k None) = record {
-    judged = λ fine at note here.
+    judged = λ fine at note inside here.
         let b = and_cases (is_branch (nesting_of k.0)) true fine in
-        through_parts _ here _ _ (if_gives s at note e (path k.0) (nesting_of k.0) k.1.whole None None (whole_none s) b.0 refl (nesting_by (act_nested (inner_act (Act-F.If e k None)))) here);
+        let i : Claimed → PartsInBody s (inner_act (Act-F.If e k None)) = λ a. parts_inside s at note (inner_act (Act-F.If e k None)) (inside a) in
+        through_parts _ here _ _ (if_gives s Claimed at note e (path k.0) (nesting_of k.0) (k.1.whole (λ a. (i a).1)) None None (whole_none s Claimed) b.0 refl (λ a. (i a).0) (nesting_by (act_nested (inner_act (Act-F.If e k None)))) here);
     part = λ bundle at note here. no_part _ here bundle;
     plain = λ e. absurd (cc);
   }
   act_step (Act-F.If e k (Some j)) = record {
-    judged = λ fine at note here.
+    judged = λ fine at note inside here.
         let b = and_cases (is_branch (nesting_of k.0)) (is_branch (nesting_of j.0)) fine in
-        through_parts _ here _ _ (if_gives s at note e (path k.0) (nesting_of k.0) k.1.whole (Some (path j.0)) (Some (nesting_of j.0)) (whole_some s (path j.0) (nesting_of j.0) j.1.whole) b.0 b.1
+        let i : Claimed → PartsInBody s (inner_act (Act-F.If e k (Some j))) = λ a. parts_inside s at note (inner_act (Act-F.If e k (Some j))) (inside a) in
+        through_parts _ here _ _ (if_gives s Claimed at note e (path k.0) (nesting_of k.0) (k.1.whole (λ a. (i a).1)) (Some (path j.0)) (Some (nesting_of j.0)) (whole_some s Claimed (path j.0) (nesting_of j.0) (j.1.whole (λ a. (i a).2))) b.0 b.1 (λ a. (i a).0)
         (nesting_by (act_nested (inner_act (Act-F.If e k (Some j))))) here);
     part = λ bundle at note here. no_part _ here bundle;
     plain = λ e. absurd (cc);
   }
   act_step (Act-F.While e k) = record {
-    judged = λ fine at note here. through_parts _ here _ _ (while_gives s at note e (path k.0) (nesting_of k.0) k.1.whole fine (nesting_by (act_nested (inner_act (Act-F.While e k)))) false false here);
+    judged = λ fine at note inside here.
+        let i : Claimed → PartsInBody s (inner_act (Act-F.While e k)) = λ a. parts_inside s at note (inner_act (Act-F.While e k)) (inside a) in
+        through_parts _ here _ _ (while_gives s Claimed at note e (path k.0) (nesting_of k.0) (k.1.whole (λ a. (i a).1)) fine (λ a. (i a).0) (nesting_by (act_nested (inner_act (Act-F.While e k)))) false false here);
     part = λ bundle at note here. no_part _ here bundle;
     plain = λ e. absurd (cc);
   }
   act_step (Act-F.Return e) = record {
-    judged = λ fine at note here. return_gives (roll-Act Name Note (Act-F.Return e)) at note here e (act_out (Act-F.Return e)) _ (nesting_by (Act-F.Return e)) _ _;
+    judged = λ fine at note inside here. return_gives (roll-Act Name Note (Act-F.Return e)) at note inside here e (act_out (Act-F.Return e)) _ (nesting_by (Act-F.Return e)) _ _;
     part = λ bundle at note here. no_part _ here bundle;
     plain = λ e. absurd (cc);
   }
   act_step (Act-F.Check e) = record {
-    judged = λ fine at note here. check_gives (roll-Act Name Note (Act-F.Check e)) at note here e (act_out (Act-F.Check e)) (nesting_by (Act-F.Check e)) false false;
+    judged = λ fine at note inside here. check_gives (roll-Act Name Note (Act-F.Check e)) at note inside here e (act_out (Act-F.Check e)) (nesting_by (Act-F.Check e)) false false;
     part = λ bundle at note here. no_part _ here bundle;
     plain = λ e. absurd (cc);
   }
   act_step (Act-F.Bundle ks) = record {
-    judged = λ fine at note here. bundle_gives (roll-Act Name Note (inner_act (Act-F.Bundle ks))) at note here ks (act_out (inner_act (Act-F.Bundle ks)))
+    judged = λ fine at note inside here. bundle_gives (roll-Act Name Note (inner_act (Act-F.Bundle ks))) at note inside here ks (act_out (inner_act (Act-F.Bundle ks)))
         (nesting_by (act_nested (inner_act (Act-F.Bundle ks)))) (breaks_in ks) (continues_in ks);
     part = λ bundle at note here. no_part _ here bundle;
     plain = λ e. absurd (cc);
   }
   act_step Act-F.Break = record {
-    judged = λ fine at note here. given _ (stated at note act.Break, gone s.frame here) (λ walk. record {
+    judged = λ fine at note inside here. given _ (stated at note act.Break, gone s.frame here) (λ walk. record {
       extends = extends_none here.seen here.seen refl;
       same = λ d. refl;
-      counting = refl;
+      onward = onward_none here;
       stays = stays_gone s.frame [] here.at;
-      code = λ count small k exits may. inr (λ next rest goes j.
-          subst (λ fs. Judged s (chained fs rest) exits here) (sym (code_is s at note Act-F.Break act.Break k act.rolls-Break)) (exit_goes s.frame [] here exits.breaks (may.breaks refl)));
+      code = λ on small k exits may. inr (λ next rest goes j.
+          subst (λ fs. Judged s (chained fs rest) exits here) (sym (code_is s Claimed at note Act-F.Break act.Break k act.rolls-Break)) (exit_goes s.frame [] here exits.breaks (may.breaks refl)));
     });
     part = λ bundle at note here. no_part _ here bundle;
     plain = λ e. absurd (cc);
   }
   act_step Act-F.Continue = record {
-    judged = λ fine at note here. given _ (stated at note act.Continue, gone s.frame here) (λ walk. record {
+    judged = λ fine at note inside here. given _ (stated at note act.Continue, gone s.frame here) (λ walk. record {
       extends = extends_none here.seen here.seen refl;
       same = λ d. refl;
-      counting = refl;
+      onward = onward_none here;
       stays = stays_gone s.frame [] here.at;
-      code = λ count small k exits may. inr (λ next rest goes j.
-          subst (λ fs. Judged s (chained fs rest) exits here) (sym (code_is s at note Act-F.Continue act.Continue k act.rolls-Continue)) (exit_goes s.frame [] here exits.continues (may.continues refl)));
+      code = λ on small k exits may. inr (λ next rest goes j.
+          subst (λ fs. Judged s (chained fs rest) exits here) (sym (code_is s Claimed at note Act-F.Continue act.Continue k act.rolls-Continue)) (exit_goes s.frame [] here exits.continues (may.continues refl)));
     });
     part = λ bundle at note here. no_part _ here bundle;
     plain = λ e. absurd (cc);
   }
   act_step (Act-F.For None e None k) = record {
-    judged = λ fine at note here.
+    judged = λ fine at note inside here.
+        let i : Claimed → PartsInBody s (inner_act (Act-F.For None e None k)) = λ a. parts_inside s at note (inner_act (Act-F.For None e None k)) (inside a) in
         let b = and_cases true (true && is_branch (nesting_of k.0)) fine in
         let c = and_cases true (is_branch (nesting_of k.0)) b.1 in
-        through_parts _ here _ _ (for_gives s at note None None (whole_none s) b.0 e
-        None None (whole_none s) c.0 (path k.0) (nesting_of k.0) k.1.whole c.1
+        through_parts _ here _ _ (for_gives s Claimed at note None None (whole_none s Claimed) b.0 e
+        None None (whole_none s Claimed) c.0 (path k.0) (nesting_of k.0) (k.1.whole (λ a. (i a).3)) c.1 (λ a. (i a).1)
         (nesting_by (act_nested (inner_act (Act-F.For None e None k)))) false false (inside_if listed (λ e. []) e) here);
     part = λ bundle at note here. no_part _ here bundle;
     plain = λ e. absurd (cc);
   }
   act_step (Act-F.For None e (Some j) k) = record {
-    judged = λ fine at note here.
+    judged = λ fine at note inside here.
+        let i : Claimed → PartsInBody s (inner_act (Act-F.For None e (Some j) k)) = λ a. parts_inside s at note (inner_act (Act-F.For None e (Some j) k)) (inside a) in
         let b = and_cases true ((steps (Some (nesting_of j.0))) && is_branch (nesting_of k.0)) fine in
         let c = and_cases (steps (Some (nesting_of j.0))) (is_branch (nesting_of k.0)) b.1 in
-        through_parts _ here _ _ (for_gives s at note None None (whole_none s) b.0 e
-        (Some (path j.0)) (Some (nesting_of j.0)) (whole_some s (path j.0) (nesting_of j.0) j.1.whole) c.0 (path k.0) (nesting_of k.0) k.1.whole c.1
+        through_parts _ here _ _ (for_gives s Claimed at note None None (whole_none s Claimed) b.0 e
+        (Some (path j.0)) (Some (nesting_of j.0)) (whole_some s Claimed (path j.0) (nesting_of j.0) (j.1.whole (λ a. (i a).2))) c.0 (path k.0) (nesting_of k.0) (k.1.whole (λ a. (i a).3)) c.1 (λ a. (i a).1)
         (nesting_by (act_nested (inner_act (Act-F.For None e (Some j) k)))) false false (inside_if listed (λ e. []) e) here);
     part = λ bundle at note here. no_part _ here bundle;
     plain = λ e. absurd (cc);
   }
   act_step (Act-F.For (Some l) e None k) = record {
-    judged = λ fine at note here.
+    judged = λ fine at note inside here.
+        let i : Claimed → PartsInBody s (inner_act (Act-F.For (Some l) e None k)) = λ a. parts_inside s at note (inner_act (Act-F.For (Some l) e None k)) (inside a) in
         let b = and_cases (begins (Some (nesting_of l.0))) (true && is_branch (nesting_of k.0)) fine in
         let c = and_cases true (is_branch (nesting_of k.0)) b.1 in
-        through_parts _ here _ _ (for_gives s at note (Some (path l.0)) (Some (nesting_of l.0)) (whole_some s (path l.0) (nesting_of l.0) l.1.whole) b.0 e
-        None None (whole_none s) c.0 (path k.0) (nesting_of k.0) k.1.whole c.1
+        through_parts _ here _ _ (for_gives s Claimed at note (Some (path l.0)) (Some (nesting_of l.0)) (whole_some s Claimed (path l.0) (nesting_of l.0) (l.1.whole (λ a. (i a).0))) b.0 e
+        None None (whole_none s Claimed) c.0 (path k.0) (nesting_of k.0) (k.1.whole (λ a. (i a).3)) c.1 (λ a. (i a).1)
         (nesting_by (act_nested (inner_act (Act-F.For (Some l) e None k)))) false false (inside_if listed (λ e. []) e) here);
     part = λ bundle at note here. no_part _ here bundle;
     plain = λ e. absurd (cc);
   }
   act_step (Act-F.For (Some l) e (Some j) k) = record {
-    judged = λ fine at note here.
+    judged = λ fine at note inside here.
+        let i : Claimed → PartsInBody s (inner_act (Act-F.For (Some l) e (Some j) k)) = λ a. parts_inside s at note (inner_act (Act-F.For (Some l) e (Some j) k)) (inside a) in
         let b = and_cases (begins (Some (nesting_of l.0))) ((steps (Some (nesting_of j.0))) && is_branch (nesting_of k.0)) fine in
         let c = and_cases (steps (Some (nesting_of j.0))) (is_branch (nesting_of k.0)) b.1 in
-        through_parts _ here _ _ (for_gives s at note (Some (path l.0)) (Some (nesting_of l.0)) (whole_some s (path l.0) (nesting_of l.0) l.1.whole) b.0 e
-        (Some (path j.0)) (Some (nesting_of j.0)) (whole_some s (path j.0) (nesting_of j.0) j.1.whole) c.0 (path k.0) (nesting_of k.0) k.1.whole c.1
+        through_parts _ here _ _ (for_gives s Claimed at note (Some (path l.0)) (Some (nesting_of l.0)) (whole_some s Claimed (path l.0) (nesting_of l.0) (l.1.whole (λ a. (i a).0))) b.0 e
+        (Some (path j.0)) (Some (nesting_of j.0)) (whole_some s Claimed (path j.0) (nesting_of j.0) (j.1.whole (λ a. (i a).2))) c.0 (path k.0) (nesting_of k.0) (k.1.whole (λ a. (i a).3)) c.1 (λ a. (i a).1)
         (nesting_by (act_nested (inner_act (Act-F.For (Some l) e (Some j) k)))) false false (inside_if listed (λ e. []) e) here);
     part = λ bundle at note here. no_part _ here bundle;
     plain = λ e. absurd (cc);
@@ -525,10 +537,10 @@ module _ (s : Setting) where
           let paths : path (stated at note a) ≡ stmt_path (stmt_inside z) = fold-roll-Stmt Name Note ActPath Path act_path stmt_path z in
           let nests : nesting_of (stated at note a) ≡ nesting_of_act a = fold-roll-Stmt Name Note Nesting Nesting nesting_by nesting_in z in
           record {
-            whole = subst (λ p. Whole s p (nesting_of (stated at note a))) (sym paths)
-                (subst (λ n. Whole s (stmt_path (stmt_inside z)) n) (sym nests) (record {
+            whole = λ inside. subst (λ p. Whole s Claimed p (nesting_of (stated at note a))) (sym paths)
+                (subst (λ n. Whole s Claimed (stmt_path (stmt_inside z)) n) (sym nests) (record {
                   judged = λ fine here. record {
-                    made = λ p walk. (h.judged fine at note here).made p walk (ap (λ (q : Path). q.judged s.frame s.head here) paths ∙ walk);
+                    made = λ p walk. (h.judged fine at note inside here).made p walk (ap (λ (q : Path). q.judged s.frame s.head here) paths ∙ walk);
                   };
                   plain = h.plain;
                 }));

@@ -14,7 +14,9 @@ ghost use Rattle.ckc_bounds.specs.Phase.{bounding};
 ghost use Rattle.ckc_source.specs.Code.{Code, Function, chained};
 ghost use Rattle.ckc_build_elaborate.specs.Statements.{stmt_elaborated};
 ghost use Rattle.ckc_blame_sound.specs.Settings.{Setting, IsFunction, frame_of_text};
+ghost use Rattle.ckc_blame_sound.specs.Bodies.{IsInBody, IsNextFresh};
 ghost use Rattle.ckc_blame_sound.specs.Judged.{Exits, Judged};
+ghost use Rattle.ckc_blame_texts.specs.Judged.{IsJudged};
 ghost use Rattle.ckc_blame_walk.specs.Walks.{nesting_of, AreSmall, IsLeft, Stays, MayLeave, AreNested, leaving};
 
 /// A fact or a widening at the head of a loop names nothing that the loop assigns, and what names nothing that a statement
@@ -27,12 +29,12 @@ pub fn loops_keep_their_heads()
         → Stays s.frame (path st).assigned here.at there.at }
 {}
 
-/// The code of a statement that the walk has judged is judged from the point where the walk came to it, if the code after
+/// The code of a statement of a function that the walk has judged is judged from the point where the walk came to it, if the code after
 /// it is judged from the point where the walk left it, and each `break` and `continue` that leaves it may leave it there.
 pub fn walks_are_judged()
     ensures { (s : Setting) (st after : NotedStmt) (here there : Here) (literals : ℕ)
-        (exits : Exits) (rest : Code) → (nesting_of st).fine ≡ true → here.counting ≡ false
-        → AreSmall here.at.facts → (path st).judged s.frame s.head here ≡ Ok (after, there)
+        (exits : Exits) (rest : Code) → (nesting_of st).fine ≡ true → IsInBody s st
+        → IsNextFresh s here.next → here.counting ≡ false → AreSmall here.at.facts → (path st).judged s.frame s.head here ≡ Ok (after, there)
         → MayLeave s.frame (path st).assigned (path st).breaks (path st).continues here exits
         → Judged s rest exits there
         → Judged s (chained (stmt_elaborated s.text s.variables s.result literals after) rest)
@@ -42,8 +44,8 @@ pub fn walks_are_judged()
 /// The code of each function of a judged text is judged from its first point, where the ranges of types are all that is
 /// known.
 pub fn functions_are_judged()
-    ensures { (q p : Typed) (s : Setting) (f : Function) → bounding.Makes q p
-        → AreNested q.tree.items → (is : IsFunction p s f)
+    ensures { (p : Typed) (s : Setting) (f : Function) (j : IsJudged p)
+        → AreNested j.typed.tree.items → (is : IsFunction p s f)
         → Judged s f.body leaving
         (begin_in s.frame false is.head (first_fresh is.head is.body)) }
 {}

@@ -14,6 +14,6 @@ mod Folds
 mod MarksKept
 mod DepthKept
 mod SmallKept
-mod ByParts
+pub mod ByParts
 mod Exactly
 mod FormKept

@@ -1,0 +1,43 @@
+-- What stands in the body of a function before it is judged, and the numbers of fresh variables there.
+use Rattle.std.specs.Prelude.{◌≡◌, ℕ, ◌<◌, ◌≤◌, ◌^◌, Bool, false, length, Option, Some, IfSome}
+use Rattle.std.specs.List.{Contains}
+use Rattle.ckc_base.specs.declared.arithmetic.Mode.{Mode}
+use Rattle.ckc_typed.specs.declared.environment.Globals.{Globals}
+use Rattle.ckc_typed.specs.declared.typed.Typed.{Typed}
+use Rattle.ckc_typed.specs.Environment.{variable_declared}
+use Rattle.ckc_typed.specs.Texts.{globals_of}
+use Rattle.ckc_typed.specs.Trees.{NotedDecl, NotedExpr, NotedStmt}
+use Rattle.ckc_typed.specs.Types.{is_integer}
+use Rattle.ckc_typed_welltyped.specs.Noteless.{without_notes}
+use Rattle.ckc_typed_welltyped.specs.Statements as rows
+use Rattle.ckc_typed_welltyped.specs.Statements.{WellTypedStmt}
+use Rattle.ckc_bounds_points.specs.declared.frame.Frame.{Frame}
+use Rattle.ckc_bounds_points.specs.declared.frame.Local.{Local}
+use Rattle.ckc_bounds_points.specs.Frames.{local_at}
+use Rattle.ckc_bounds_statements.specs.Paths.{path}
+use Rattle.ckc_blame_sound.specs.Settings.{Setting}
+
+-- what a whole text declares
+abbrev pub globals_of_text : Typed → Globals
+globals_of_text p = globals_of (without_notes p.tree).items
+
+-- A statement may stand in the body of a function, before it is judged: it is well typed among the variables of the
+-- function, and declares no others.
+pub record IsInBody (s : Setting) (st : NotedStmt) : Type 0 where
+  pub mode : Mode
+  pub looped : Bool
+  pub typed : WellTypedStmt (globals_of_text s.text) s.variables s.result st mode looped
+  pub known : (d : NotedDecl) → Contains (path st).declared d → Contains s.variables (variable_declared d)
+
+-- A condition may stand there: it is a well typed scalar, if it is not left out.
+pub record IsTestInBody (s : Setting) (e : Option NotedExpr) : Type 0 where
+  pub mode : Mode
+  pub typed : IfSome e (rows.IsCondition (globals_of_text s.text) s.variables mode)
+
+-- The next fresh variable has a number after those of the variables of the function, and a word.
+abbrev pub IsNextFresh : Setting → ℕ → Type 0
+IsNextFresh s n = length s.variables < 2 ^ 32 → (length s.variables ≤ n) × (n < 2 ^ 32)
+
+-- The locals from a number on are no integers, so their variables are fresh ones.
+abbrev pub AreFresh : Frame → ℕ → Type 0
+AreFresh frame fresh = (k : ℕ) (l : Local) → fresh ≤ k → local_at frame k ≡ Some l → is_integer l.ctype ≡ false
