@@ -23,3 +23,4 @@ pub mod Shapes
 pub mod Placed
 pub mod Stay
 pub mod Spared
+pub mod Alone

@@ -34,7 +34,7 @@ use Rattle.ckc_blame_contained.proofs.Placed.{member_part}
 use Rattle.ckc_blame_contained.proofs.Stay.{slot_stays}
 
 -- two pairs of numbers are one pair, or not
-pair_known : (k j i i2 : ℕ) → ((k ≡ j) × (i ≡ i2)) ⊎ ((k ≡ j) × (i ≡ i2) → ⊥)
+pub pair_known : (k j i i2 : ℕ) → ((k ≡ j) × (i ≡ i2)) ⊎ ((k ≡ j) × (i ≡ i2) → ⊥)
 pair_known k j i i2 =
     ⊎_elim
     (λ less. inr (λ e. let same = e.0 in absurd (omega arith)))

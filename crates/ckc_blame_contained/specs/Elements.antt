@@ -8,15 +8,20 @@ use Rattle.ckc_types.specs.declared.types.MemberBounds.TheVariants as written
 use Rattle.ckc_types.specs.declared.types.MemberShape.{MemberShape}
 use Rattle.ckc_types.specs.declared.types.Structs.{Structs}
 use Rattle.ckc_types.specs.Layout.{members_of}
+use Rattle.ckc_linear.specs.declared.forms.Base.TheVariants as base
 use Rattle.ckc_linear.specs.declared.forms.Form.{Form}
+use Rattle.ckc_syntax.specs.declared.tree.Name.TheVariants as name
+use Rattle.ckc_bounds_points.specs.declared.frame.Bounds.{Bounds}
 use Rattle.ckc_bounds_points.specs.declared.frame.Bounds.TheVariants as bounds
 use Rattle.ckc_bounds_points.specs.Shown.{Known}
 use Rattle.ckc_bounds_points.specs.Flow.{State}
 use Rattle.ckc_bounds_declared.specs.Written.{is_integer_member}
 use Rattle.ckc_bounds_views.specs.declared.variables.Member.{Member}
 use Rattle.ckc_bounds_views.specs.Views.{view}
-use Rattle.ckc_bounds_stores.specs.Targets.{local_of, member_variable, memory_bounds}
+use Rattle.ckc_bounds_stores.specs.Targets.{counted, local_of, member_variable, memory_bounds}
 use Rattle.ckc_bounds_stores.specs.Stores.{Placed, received}
+use Rattle.ckc_source.specs.declared.expr.Count.{Count}
+use Rattle.ckc_source.specs.declared.expr.Count.TheVariants as count
 use Rattle.ckc_source.specs.declared.outcome.Place.{Place}
 use Rattle.ckc_source.specs.declared.outcome.Place.TheVariants as place
 use Rattle.ckc_source.specs.Blocks.{Block}
@@ -25,6 +30,7 @@ use Rattle.ckc_source.specs.Steps.{Write}
 use Rattle.ckc_source.specs.Words.{exact}
 use Rattle.ckc_build_values.specs.Kinds.{integer_of, width_of}
 use Rattle.ckc_build_values.specs.Members.{offset_of}
+use Rattle.ckc_build_values.specs.Names.{count_of_static}
 use Rattle.ckc_blame_sound.specs.Settings.{Setting}
 use Rattle.ckc_blame_sound.specs.Values.{number_of}
 use Rattle.ckc_blame_slots.specs.Writes.{IsElsewhere, AreElsewhere}
@@ -48,8 +54,8 @@ abbrev pub number_kept : CType → ℕ → ℤ
 number_kept t n = exact (integer_of t) (kept_part (width_of t) n)
 
 -- An assignment to the member m of the element that begins at an address writes a word there. The member has the number
--- of that word after, which is what the form of the right side stands for before, wherever facts are true. If the bounds
--- of the member are known, the word is a pointer that is read in the store after.
+-- of that word after, which is what the form of the right side stands for before, wherever facts are true. If the
+-- bounds of the member are known, the word is a pointer that is read in the store after.
 pub record IsMemberWritten (s : Setting) (after : Store) (v w : Valuation) (at : State) (tag begin : ℕ) (p : Placed)
     (m : Member) (to : Write) : Type 0 where
   pub local : local_of p.target ≡ None
@@ -90,3 +96,23 @@ IsLast _ ws = Unit {0}
 unfoldable pub AreWrittenOnce : List Write → Type 0
 AreWrittenOnce [] = Unit {0}
 AreWrittenOnce (to ∷ ws) = IsLast to.0 ws × AreWrittenOnce ws
+
+-- bounds from a pointer's own value count so many elements, a constant
+abbrev pub AreCounted : Bounds → Count → Type 0
+AreCounted b (count.Fixed c) = b ≡ counted (record { base = Some (base.Value 0); var = 0; add = c })
+AreCounted b (count.Member offset form add) = ⊥
+
+-- An assignment writes a word to the element of type t at an address, in the block with a number. If it is known how
+-- many elements a pointer there has, the bounds of the target count as many, and the word is a pointer that is read in
+-- the store after.
+pub record IsElementWritten (s : Setting) (after : Store) (v : Valuation) (at : State) (number : ℕ) (t : CType)
+    (begin : ℕ) (p : Placed) (to : Write) : Type 0 where
+  pub local : local_of p.target ≡ None
+  pub alone : (view s.frame p.target).member ≡ None
+  pub same : p.target.note.ctype ≡ t
+  pub zero_alone : Option Pos
+  pub goes : to.0 ≡ place.Memory begin (width_of t) zero_alone
+  pub counts : (n : Count) → count_of_static s.text t (name.Static number) ≡ Some n
+      → AreCounted (memory_bounds s.frame p.target) n
+  pub pointer : (n : Count) → count_of_static s.text t (name.Static number) ≡ Some n
+      → IsFrom s.frame (memory_of s after p.target.note.ctype) v p.target.note.ctype p.right p.from at to.1

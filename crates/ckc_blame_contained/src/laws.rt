@@ -1,6 +1,6 @@
 //! What follows from the definitions alone, each the contract of a function that does nothing.
 
-ghost use Rattle.std.specs.Prelude.{◌≡◌, ◌≢◌, ◌⊎◌, ℕ, ◌+◌, ◌*◌, Bool, true, List, [], ◌∷◌, ◌++◌, ◌<◌, length, slice_index, ℤ, pos, Option, None, Some, Ok, IsOk};
+ghost use Rattle.std.specs.Prelude.{◌≡◌, ◌≢◌, ◌⊎◌, ℕ, ◌+◌, ◌*◌, Bool, true, List, [], ◌∷◌, ◌++◌, ◌<◌, length, slice_get, slice_index, ℤ, pos, Option, None, Some, Ok, IsOk};
 ghost use Rattle.std.specs.List.{All, Contains};
 ghost use Rattle.ckc_types.specs.declared.types.CType.{CType};
 ghost use Rattle.ckc_types.specs.declared.types.MemberBounds.{MemberBounds};
@@ -12,6 +12,7 @@ ghost use Rattle.ckc_linear.specs.declared.forms.Form.{Form};
 ghost use Rattle.ckc_typed.specs.declared.typed.Range.{Range};
 ghost use Rattle.ckc_typed.specs.declared.typed.Typed.{Typed};
 ghost use Rattle.ckc_typed.specs.Trees.{NotedExpr, NotedInit};
+ghost use Rattle.ckc_typed.specs.Types.{is_scalar};
 ghost use Rattle.ckc_bounds_points.specs.declared.frame.Bounds.TheVariants as bounds;
 ghost use Rattle.ckc_bounds_points.specs.declared.frame.Bounds.{Bounds};
 ghost use Rattle.ckc_bounds_points.specs.declared.frame.HeadBounds.{HeadBounds};
@@ -52,7 +53,7 @@ ghost use Rattle.ckc_blame_contained.specs.Valuations.{Valuation, form_address, 
 ghost use Rattle.ckc_blame_contained.specs.Containment.{Memory, IsReadBetween, IsReadWithin, IsJudged, IsRanged};
 ghost use Rattle.ckc_blame_contained.specs.Ends.{HaveEnds};
 ghost use Rattle.ckc_blame_contained.specs.Memory.{AreMembersGiven, AreOwn, IsCountedBy};
-ghost use Rattle.ckc_blame_contained.specs.Elements.{AreTargetsWritten, AreWrittenOnce, IsStructure, NameMembers};
+ghost use Rattle.ckc_blame_contained.specs.Elements.{AreTargetsWritten, AreWrittenOnce, IsElementWritten, IsStructure, NameMembers};
 ghost use Rattle.ckc_blame_contained.specs.Passed.{AreArguments, AreNewArguments, AreParameters, IsResult, result_between};
 ghost use Rattle.ckc_blame_contained.specs.Given.{memory_of, AreAssigned, IsBegun, IsFrom, IsUnnamed, OthersStay, StayTrue};
 
@@ -209,5 +210,20 @@ pub fn members_stay_filled()
         → AreTargetsWritten s (store_with shapes after.blocks locals) v w at tag
         (b.base + i * b.size) ps ws → AreWrittenOnce ws
         → AreFilled s.text (store_with shapes before.blocks old)
+        → AreFilled s.text (store_with shapes after.blocks locals) }
+{}
+
+/// The same after an assignment alone to an element that is no structure: an integer or a pointer of an array, or a
+/// static one.
+pub fn elements_stay_filled()
+    ensures { (s : Setting) (next : ℕ) (to : Write) (before after : states.State)
+        (number i : ℕ) (b : Block) (shapes : List Shape) (old locals : List ℕ) (v : Valuation)
+        (at there : State) (p : Placed) (seen : List ℕ) (result : Bounds) → AreSlotParts s.text
+        → AreSound s.text before.blocks next → AreCellWrites s.text.layout before.blocks (to ∷ [])
+        → all_written (to ∷ []) before ≡ Ok after → slice_get before.blocks number ≡ Some b
+        → i < b.count → is_scalar b.element ≡ true → v.number 0 ≡ pos 0 → AreFacts v at.facts
+        → stored_placed s.frame result seen (p ∷ []) at ≡ Ok there
+        → IsElementWritten s (store_with shapes after.blocks locals) v at number b.element
+        (b.base + i * b.size) p to → AreFilled s.text (store_with shapes before.blocks old)
         → AreFilled s.text (store_with shapes after.blocks locals) }
 {}
