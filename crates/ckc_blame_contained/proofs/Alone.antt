@@ -82,7 +82,7 @@ pub record IsOnlySlot (structs : Structs) (t : CType) (o : Option Count) (slot :
   pub counts : o ≡ Some many
   pub is : slot ≡ record { offset = 0; to = pointee_of structs t; count = many }
 
-only_slot : (structs : Structs) (t : CType) (o : Option Count) (slot : Slot) → Contains (slot_by structs 0 t o) slot → IsOnlySlot structs t o slot
+pub only_slot : (structs : Structs) (t : CType) (o : Option Count) (slot : Slot) → Contains (slot_by structs 0 t o) slot → IsOnlySlot structs t o slot
 only_slot structs t o slot c = All-contains (IsOnlySlot structs t o) (slot_by structs 0 t o) slot (by o) c
   where
     by : (o : Option Count) → All (IsOnlySlot structs t o) (slot_by structs 0 t o)

@@ -24,3 +24,4 @@ pub mod Placed
 pub mod Stay
 pub mod Spared
 pub mod Alone
+pub mod Counts

@@ -2,6 +2,7 @@
 
 ghost use Rattle.std.specs.Prelude.{◌≡◌, ◌≢◌, ◌⊎◌, ℕ, ◌+◌, ◌*◌, Bool, true, List, [], ◌∷◌, ◌++◌, ◌<◌, length, slice_get, slice_index, ℤ, pos, Option, None, Some, Ok, IsOk};
 ghost use Rattle.std.specs.List.{All, Contains};
+ghost use Rattle.ckc_base.specs.declared.arithmetic.Width.TheVariants.{Word};
 ghost use Rattle.ckc_types.specs.declared.types.CType.{CType};
 ghost use Rattle.ckc_types.specs.declared.types.MemberBounds.{MemberBounds};
 ghost use Rattle.ckc_types.specs.declared.types.MemberShape.{MemberShape};
@@ -43,11 +44,11 @@ ghost use Rattle.ckc_build_values.specs.Kinds.{size_behind};
 ghost use Rattle.ckc_build_values.specs.Members.{count_by};
 ghost use Rattle.ckc_blame_sound.specs.Points.{AreBounded, IsBounded};
 ghost use Rattle.ckc_blame_sound.specs.Settings.{Setting};
-ghost use Rattle.ckc_blame_sound.specs.Slots.{AreFilled};
+ghost use Rattle.ckc_blame_sound.specs.Slots.{AreFilled, Slot, slots_of};
 ghost use Rattle.ckc_blame_sound.specs.Sound.{IsPlaced};
 ghost use Rattle.ckc_blame_sound.specs.Values.{AreTrue};
-ghost use Rattle.ckc_blame_slots.specs.Cells.{AreSound, HaveOwnNames};
-ghost use Rattle.ckc_blame_slots.specs.Limited.{AreSlotParts, store_with};
+ghost use Rattle.ckc_blame_slots.specs.Cells.{AreSound, HaveOwnNames, IsPart};
+ghost use Rattle.ckc_blame_slots.specs.Limited.{AreSlotParts, IsElementAt, store_with};
 ghost use Rattle.ckc_blame_slots.specs.Writes.{AreCellWrites};
 ghost use Rattle.ckc_blame_contained.specs.Valuations.{Valuation, form_address, AreFacts, IsReplaced, IsValuationOf, NamesIntegers};
 ghost use Rattle.ckc_blame_contained.specs.Containment.{Memory, IsReadBetween, IsReadWithin, IsJudged, IsRanged};
@@ -226,4 +227,13 @@ pub fn elements_stay_filled()
         → IsElementWritten s (store_with shapes after.blocks locals) v at number b.element
         (b.base + i * b.size) p to → AreFilled s.text (store_with shapes before.blocks old)
         → AreFilled s.text (store_with shapes after.blocks locals) }
+{}
+
+/// What the bounds of a slot name is a part of its element too, if the bounds of members name integer members and no two
+/// members of a structure have one name.
+pub fn slots_are_parts()
+    ensures { (p : Typed) → HaveOwnNames p.layout → NameMembers p.layout
+        → ((number : ℕ) (t : CType) (slot : Slot) → IsElementAt p number t
+        → Contains (slots_of p number t) slot → IsPart p.layout t slot.offset Word)
+        → AreSlotParts p }
 {}
