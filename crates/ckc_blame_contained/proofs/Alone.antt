@@ -40,7 +40,7 @@ use Rattle.ckc_blame_slots.specs.Writes.{AreCellWrites, AreElsewhere, IsElsewher
 use Rattle.ckc_blame_slots.proofs.Apart.{elements_apart}
 use Rattle.ckc_blame_slots.proofs.Filled.{filled_after, filled_by, part_cell, part_place}
 use Rattle.ckc_blame_slots.proofs.Objects.{element_at}
-use Rattle.ckc_blame_slots.proofs.Ranges.{contains_at}
+use Rattle.ckc_blame_slots.proofs.Ranges.{contains_at, scalar_part}
 use Rattle.ckc_blame_slots.proofs.Written.{all_keep, laid, last_write}
 use Rattle.ckc_blame_contained.specs.Valuations.{Valuation, AreFacts}
 use Rattle.ckc_blame_contained.specs.Containment.{IsReadBetween}
@@ -65,24 +65,13 @@ scalar_itself structs t e = by (out-CType t) e
     by (CType-F.Struct tag) e = absurd cc
     by (CType-F.Pointer k u) e = (refl, refl)
 
-scalar_word : (structs : Structs) (t : CType) → is_scalar t ≡ true → (offset : ℕ) (width : Width) → IsPart structs t offset width → width ≡ width_of t
-scalar_word structs t e offset width part = by (out-CType t) e part
-  where
-    by : (f : CType-F CType) → (is_integer_form f || is_pointer_form f) ≡ true → IsPartIn structs t f offset width → width ≡ width_of t
-    by CType-F.Int e p = p.1
-    by CType-F.Unsigned e p = p.1
-    by CType-F.Char e p = p.1
-    by CType-F.Void e p = absurd cc
-    by (CType-F.Struct tag) e p = absurd cc
-    by (CType-F.Pointer k u) e p = p.1
-
 -- its only slot
 pub record IsOnlySlot (structs : Structs) (t : CType) (o : Option Count) (slot : Slot) : Type 0 where
   pub many : Count
   pub counts : o ≡ Some many
   pub is : slot ≡ record { offset = 0; to = pointee_of structs t; count = many }
 
-only_slot : (structs : Structs) (t : CType) (o : Option Count) (slot : Slot) → Contains (slot_by structs 0 t o) slot → IsOnlySlot structs t o slot
+pub only_slot : (structs : Structs) (t : CType) (o : Option Count) (slot : Slot) → Contains (slot_by structs 0 t o) slot → IsOnlySlot structs t o slot
 only_slot structs t o slot c = All-contains (IsOnlySlot structs t o) (slot_by structs 0 t o) slot (by o) c
   where
     by : (o : Option Count) → All (IsOnlySlot structs t o) (slot_by structs 0 t o)
@@ -149,7 +138,7 @@ module _ (s : Setting) (parts : AreSlotParts s.text) (next : ℕ) (to : Write) (
         let read = memory_read s store v value at (p ∷ []) p n low high zero_is zero_is refl known placed from (given, tt) (record { begins = refl; ends = refl }) result one.local c fine in
         let counted = member_counted s.text.layout 0 b.element (memory_of s store b.element) value n zero_is refl (written.Fixed z) (count.Fixed z) z low high refl refl refl
         (subst (λ t. IsReadBetween (memory_of s store t) value n low high) one.same read) in
-        let wide = scalar_word s.text.layout b.element scalar slot.offset Word part.pointer in
+        let wide = (scalar_part s.text.layout b.element slot.offset Word scalar part.pointer).1 in
         let is : slot ≡ record { offset = 0; to = pointee_of s.text.layout b.element; count = count.Fixed z } =
         h.is ∙ ap (λ k. record { offset = 0; to = pointee_of s.text.layout b.element; count = k }) e in
         subst (IsFilled store begin) (sym is)

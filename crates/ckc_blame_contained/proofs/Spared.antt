@@ -27,7 +27,7 @@ use Rattle.ckc_blame_slots.proofs.Filled.{filled_after}
 use Rattle.ckc_blame_slots.proofs.Objects.{element_at}
 use Rattle.ckc_blame_slots.proofs.Written.{all_keep, laid}
 use Rattle.ckc_blame_contained.specs.Valuations.{Valuation, AreFacts}
-use Rattle.ckc_blame_contained.specs.Elements.{NameMembers, IsStructure, AreTargetsWritten, AreWrittenOnce}
+use Rattle.ckc_blame_contained.specs.Elements.{NameIntegerMembers, IsStructure, AreTargetsWritten, AreWrittenOnce}
 use Rattle.ckc_blame_contained.proofs.Targets.{targets_elsewhere}
 use Rattle.ckc_blame_contained.proofs.Shapes.{member_there}
 use Rattle.ckc_blame_contained.proofs.Placed.{member_part}
@@ -47,7 +47,7 @@ pair_known k j i i2 =
     m)
     (three k j)
 
-module _ (s : Setting) (same_structs : s.frame.structs ≡ s.text.layout) (own : HaveOwnNames s.text.layout) (names : NameMembers s.text.layout) (parts : AreSlotParts s.text)
+module _ (s : Setting) (same_structs : s.frame.structs ≡ s.text.layout) (own : HaveOwnNames s.text.layout) (names : NameIntegerMembers s.text.layout) (parts : AreSlotParts s.text)
     (next : ℕ) (ws : List Write) (before after : states.State) (sound : AreSound s.text before.blocks next) (cells : AreCellWrites s.text.layout before.blocks ws)
     (done : all_written ws before ≡ Ok after) (number i tag : ℕ) (b : Block) (structure : IsStructure before.blocks number i tag b) (shapes : List Shape) (locals : List ℕ)
     (v w : Valuation) (zero_is : v.number 0 ≡ pos 0) (zero_too : w.number 0 ≡ pos 0) (at : State) (known : AreFacts v at.facts) (ps : List Placed)

@@ -49,7 +49,7 @@ use Rattle.ckc_blame_contained.specs.Valuations.{Valuation, AreFacts}
 use Rattle.ckc_blame_contained.specs.Containment.{IsReadBetween}
 use Rattle.ckc_blame_contained.specs.Given.{memory_of}
 use Rattle.ckc_blame_contained.specs.Memory.{IsCountedBy}
-use Rattle.ckc_blame_contained.specs.Elements.{NameMembers, IsStructure, AreTargetsWritten, AreWrittenOnce}
+use Rattle.ckc_blame_contained.specs.Elements.{NameIntegerMembers, IsStructure, AreTargetsWritten, AreWrittenOnce}
 use Rattle.ckc_blame_contained.proofs.Tests.{left_of, right_of}
 use Rattle.ckc_blame_contained.proofs.Faults.{good}
 use Rattle.ckc_blame_contained.proofs.Memory.{memory_read, member_counted}
@@ -68,7 +68,7 @@ covered_itself targets m written.NoForm e = e
 covered_itself targets m (written.Fixed c) e = e
 covered_itself targets m (written.Named k c) e = (and_parts (is_target targets m.name) (is_target targets k) e).0
 
-module _ (s : Setting) (same_structs : s.frame.structs ≡ s.text.layout) (own : HaveOwnNames s.text.layout) (names : NameMembers s.text.layout) (parts : AreSlotParts s.text)
+module _ (s : Setting) (same_structs : s.frame.structs ≡ s.text.layout) (own : HaveOwnNames s.text.layout) (names : NameIntegerMembers s.text.layout) (parts : AreSlotParts s.text)
     (next : ℕ) (ws : List Write) (before after : states.State) (sound : AreSound s.text before.blocks next) (cells : AreCellWrites s.text.layout before.blocks ws)
     (done : all_written ws before ≡ Ok after) (number i tag : ℕ) (b : Block) (structure : IsStructure before.blocks number i tag b) (shapes : List Shape) (locals : List ℕ)
     (v w : Valuation) (zero_is : v.number 0 ≡ pos 0) (zero_too : w.number 0 ≡ pos 0) (at : State) (known : AreFacts v at.facts) (ps : List Placed)

@@ -38,8 +38,8 @@ use Rattle.ckc_blame_contained.specs.Valuations.{Valuation, AreFacts}
 use Rattle.ckc_blame_contained.specs.Given.{memory_of, IsFrom}
 
 -- The bounds of a member name no other thing than an integer member of its structure.
-abbrev pub NameMembers : Structs → Type 0
-NameMembers structs =
+abbrev pub NameIntegerMembers : Structs → Type 0
+NameIntegerMembers structs =
     (tag j : ℕ) (c : ℤ) (shape : MemberShape) → Contains (members_of structs tag) shape
     → shape.bounds ≡ written.Named j c → is_integer_member structs tag j ≡ true
 

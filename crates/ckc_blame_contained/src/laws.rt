@@ -2,6 +2,7 @@
 
 ghost use Rattle.std.specs.Prelude.{◌≡◌, ◌≢◌, ◌⊎◌, ℕ, ◌+◌, ◌*◌, Bool, true, List, [], ◌∷◌, ◌++◌, ◌<◌, length, slice_get, slice_index, ℤ, pos, Option, None, Some, Ok, IsOk};
 ghost use Rattle.std.specs.List.{All, Contains};
+ghost use Rattle.ckc_base.specs.declared.arithmetic.Width.TheVariants.{Word};
 ghost use Rattle.ckc_types.specs.declared.types.CType.{CType};
 ghost use Rattle.ckc_types.specs.declared.types.MemberBounds.{MemberBounds};
 ghost use Rattle.ckc_types.specs.declared.types.MemberShape.{MemberShape};
@@ -53,7 +54,7 @@ ghost use Rattle.ckc_blame_contained.specs.Valuations.{Valuation, form_address, 
 ghost use Rattle.ckc_blame_contained.specs.Containment.{Memory, IsReadBetween, IsReadWithin, IsJudged, IsRanged};
 ghost use Rattle.ckc_blame_contained.specs.Ends.{HaveEnds};
 ghost use Rattle.ckc_blame_contained.specs.Memory.{AreMembersGiven, AreOwn, IsCountedBy};
-ghost use Rattle.ckc_blame_contained.specs.Elements.{AreTargetsWritten, AreWrittenOnce, IsElementWritten, IsStructure, NameMembers};
+ghost use Rattle.ckc_blame_contained.specs.Elements.{AreTargetsWritten, AreWrittenOnce, IsElementWritten, IsStructure, NameIntegerMembers};
 ghost use Rattle.ckc_blame_contained.specs.Passed.{AreArguments, AreNewArguments, AreParameters, IsResult, result_between};
 ghost use Rattle.ckc_blame_contained.specs.Given.{memory_of, AreAssigned, IsBegun, IsFrom, IsUnnamed, OthersStay, StayTrue};
 
@@ -203,7 +204,7 @@ pub fn members_stay_filled()
         (number i tag : ℕ) (b : Block) (shapes : List Shape) (old locals : List ℕ)
         (v w : Valuation) (at there : State) (ps : List Placed) (seen : List ℕ)
         (result : Bounds) → s.frame.structs ≡ s.text.layout → HaveOwnNames s.text.layout
-        → NameMembers s.text.layout → AreSlotParts s.text → AreSound s.text before.blocks next
+        → NameIntegerMembers s.text.layout → AreSlotParts s.text → AreSound s.text before.blocks next
         → AreCellWrites s.text.layout before.blocks ws → all_written ws before ≡ Ok after
         → IsStructure before.blocks number i tag b → v.number 0 ≡ pos 0 → w.number 0 ≡ pos 0
         → AreFacts v at.facts → stored_placed s.frame result seen ps at ≡ Ok there
