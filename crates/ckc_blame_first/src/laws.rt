@@ -19,7 +19,7 @@ ghost use Rattle.ckc_blame_sound.specs.Sound.{Sound};
 ghost use Rattle.ckc_blame_slots.specs.Cells.{AreSound};
 ghost use Rattle.ckc_blame_slots.specs.Limited.{AreSlotParts, store_with};
 ghost use Rattle.ckc_blame_texts.specs.Judged.{IsJudged};
-ghost use Rattle.ckc_blame_walk.specs.Walks.{AreNested};
+ghost use Rattle.ckc_blame_nested.specs.Nested.{AreNested};
 ghost use Rattle.ckc_blame_first.specs.Entries.{IsCodeJudged, MayEnter};
 ghost use Rattle.ckc_blame_first.specs.Ready.{first_blocks, next_behind, HaveSizes, NameMembers, HasObjects, HasFunctions};
 

@@ -18,7 +18,8 @@ use Rattle.ckc_build_elaborate.specs.Functions.{literals_of_head}
 use Rattle.ckc_build_elaborate.specs.Statements.{alone, stmt_elaborated}
 use Rattle.ckc_blame_sound.specs.Settings.{Setting, frame_of_text, setting_of, IsFunction}
 use Rattle.ckc_blame_sound.specs.Judged.{Judged}
-use Rattle.ckc_blame_walk.specs.Walks.{AreNested, leaving}
+use Rattle.ckc_blame_nested.specs.Nested.{AreNested}
+use Rattle.ckc_blame_walk.specs.Walks.{leaving}
 use Rattle.ckc_blame_walk.proofs.Twins.{Agree, SameHere, bare, Twin}
 use Rattle.ckc_blame_walk.proofs.Acts.{bare_both}
 use Rattle.ckc_blame_walk.proofs.Again.{stmt_again}

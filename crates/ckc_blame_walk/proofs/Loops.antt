@@ -23,7 +23,8 @@ use Rattle.ckc_blame_sound.specs.Points.{IsKnown, GoesTo}
 use Rattle.ckc_blame_sound.specs.Steps.{IsCondition}
 use Rattle.ckc_blame_sound.specs.Judged.{Exits, ending, Turns, in_body, Judged}
 use Rattle.ckc_blame_sound.proofs.Joined.{less_known}
-use Rattle.ckc_blame_walk.specs.Walks.{Nesting, is_branch, begins, steps, AreSmall, IsLeft, IsExit, MayLeave, Stays}
+use Rattle.ckc_blame_nested.specs.Nested.{Nesting, is_branch, begins, steps}
+use Rattle.ckc_blame_walk.specs.Walks.{AreSmall, IsLeft, IsExit, MayLeave, Stays}
 use Rattle.ckc_blame_walk.proofs.Adds.{Adds, adds_none, side_adds}
 use Rattle.ckc_blame_walk.proofs.Flow.{stays_adding, stays_through, stays_back, stays_less}
 use Rattle.ckc_blame_walk.proofs.Pieces.{Gives, through, nested, given, Moved, value_moves, maybe_moves}
