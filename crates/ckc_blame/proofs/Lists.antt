@@ -6,7 +6,7 @@ use Rattle.ckc_syntax.specs.declared.tree.Stmt.{the_lemmas as stmt_lemmas}
 use Rattle.ckc_syntax.specs.declared.tree.Act.TheVariants as act
 use Rattle.ckc_syntax.proofs.Insides.{each_found}
 use Rattle.ckc_typed.specs.Trees.{NotedStmt}
-use Rattle.ckc_blame_runs.specs.Checked.{checked_act, checked_stmt}
+use Rattle.ckc_blame.specs.Checked.{checked_act, checked_stmt}
 
 -- parts in which nothing stands
 pub nothing_inside : {X : Type 0} (xs : List X) → inside_each all_have (λ (_ : X). true) xs ≡ true

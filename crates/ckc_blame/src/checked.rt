@@ -1,7 +1,7 @@
 //! Whether each statement of a text stands in a checked scope.
 ghost use Rattle.std.specs.Prelude.{◌≡◌, ◌↔◌, IsTrue};
 ghost use Rattle.ckc_syntax.specs.Inside.{all_have, inside_each};
-ghost use Rattle.ckc_blame_runs.specs.Checked.{is_checked, checked_act, checked_stmt, checked_part, checked_item, WhollyChecked};
+ghost use Rattle.ckc_blame.specs.Checked.{is_checked, checked_act, checked_stmt, checked_part, checked_item, WhollyChecked};
 
 use ckc_base::{Boxed, Mode};
 use ckc_syntax::{Act, Item, Name, Stmt};

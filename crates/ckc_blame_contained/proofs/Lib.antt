@@ -18,3 +18,9 @@ pub mod Returned
 pub mod Memory
 pub mod Members
 pub mod Agree
+pub mod Targets
+pub mod Shapes
+pub mod Placed
+pub mod Stay
+pub mod Spared
+pub mod Alone

@@ -4,3 +4,4 @@ pub mod Ends
 pub mod Given
 pub mod Passed
 pub mod Memory
+pub mod Elements

@@ -1,7 +1,8 @@
 //! What follows from the definitions alone, each the contract of a function that does nothing.
 
-ghost use Rattle.std.specs.Prelude.{◌≡◌, ◌≢◌, ◌⊎◌, ℕ, Bool, true, List, [], ◌∷◌, ◌++◌, ◌<◌, length, slice_index, ℤ, pos, Option, None, Some, Ok, IsOk};
+ghost use Rattle.std.specs.Prelude.{◌≡◌, ◌≢◌, ◌⊎◌, ℕ, ◌+◌, ◌*◌, Bool, true, List, [], ◌∷◌, ◌++◌, ◌<◌, length, slice_get, slice_index, ℤ, pos, Option, None, Some, Ok, IsOk};
 ghost use Rattle.std.specs.List.{All, Contains};
+ghost use Rattle.ckc_base.specs.declared.arithmetic.Width.TheVariants.{Word};
 ghost use Rattle.ckc_types.specs.declared.types.CType.{CType};
 ghost use Rattle.ckc_types.specs.declared.types.MemberBounds.{MemberBounds};
 ghost use Rattle.ckc_types.specs.declared.types.MemberShape.{MemberShape};
@@ -12,6 +13,7 @@ ghost use Rattle.ckc_linear.specs.declared.forms.Form.{Form};
 ghost use Rattle.ckc_typed.specs.declared.typed.Range.{Range};
 ghost use Rattle.ckc_typed.specs.declared.typed.Typed.{Typed};
 ghost use Rattle.ckc_typed.specs.Trees.{NotedExpr, NotedInit};
+ghost use Rattle.ckc_typed.specs.Types.{is_scalar};
 ghost use Rattle.ckc_bounds_points.specs.declared.frame.Bounds.TheVariants as bounds;
 ghost use Rattle.ckc_bounds_points.specs.declared.frame.Bounds.{Bounds};
 ghost use Rattle.ckc_bounds_points.specs.declared.frame.HeadBounds.{HeadBounds};
@@ -32,18 +34,27 @@ ghost use Rattle.ckc_bounds_stores.specs.Values.{Value, holds};
 ghost use Rattle.ckc_bounds_stores.specs.Targets.{local_of, memory_bounds, bounds_by_member};
 ghost use Rattle.ckc_bounds_stores.specs.Stores.{Placed, members_assigned, stored_placed, returned};
 ghost use Rattle.ckc_source.specs.declared.expr.Count.{Count};
+ghost use Rattle.ckc_source.specs.declared.program.Shape.{Shape};
+ghost use Rattle.ckc_source.specs.Blocks.{Block};
 ghost use Rattle.ckc_source.specs.Eval.{Store, reads, reads_limited};
+ghost use Rattle.ckc_source.specs.States as states;
+ghost use Rattle.ckc_source.specs.Steps.{Write, all_written};
 ghost use Rattle.ckc_source.specs.Words.{elements_behind};
 ghost use Rattle.ckc_build_values.specs.Kinds.{size_behind};
 ghost use Rattle.ckc_build_values.specs.Members.{count_by};
 ghost use Rattle.ckc_blame_sound.specs.Points.{AreBounded, IsBounded};
 ghost use Rattle.ckc_blame_sound.specs.Settings.{Setting};
+ghost use Rattle.ckc_blame_sound.specs.Slots.{AreFilled};
 ghost use Rattle.ckc_blame_sound.specs.Sound.{IsPlaced};
 ghost use Rattle.ckc_blame_sound.specs.Values.{AreTrue};
+ghost use Rattle.ckc_blame_slots.specs.Cells.{AreSound, HaveOwnNames};
+ghost use Rattle.ckc_blame_slots.specs.Limited.{AreSlotParts, store_with};
+ghost use Rattle.ckc_blame_slots.specs.Writes.{AreCellWrites};
 ghost use Rattle.ckc_blame_contained.specs.Valuations.{Valuation, form_address, AreFacts, IsReplaced, IsValuationOf, NamesIntegers};
 ghost use Rattle.ckc_blame_contained.specs.Containment.{Memory, IsReadBetween, IsReadWithin, IsJudged, IsRanged};
 ghost use Rattle.ckc_blame_contained.specs.Ends.{HaveEnds};
 ghost use Rattle.ckc_blame_contained.specs.Memory.{AreMembersGiven, AreOwn, IsCountedBy};
+ghost use Rattle.ckc_blame_contained.specs.Elements.{AreTargetsWritten, AreWrittenOnce, IsElementWritten, IsStructure, NameIntegerMembers};
 ghost use Rattle.ckc_blame_contained.specs.Passed.{AreArguments, AreNewArguments, AreParameters, IsResult, result_between};
 ghost use Rattle.ckc_blame_contained.specs.Given.{memory_of, AreAssigned, IsBegun, IsFrom, IsUnnamed, OthersStay, StayTrue};
 
@@ -184,4 +195,36 @@ pub fn members_are_covered()
         → Contains (members_of s.frame.structs m.tag) shape → is_touched m.number shape ≡ true
         → (is_covered (members_assigned s.frame ps) shape shape.bounds ≡ true)
         ⊎ ((shape.name ≡ m.number) × ((view s.frame p.right).null ≡ true)) }
+{}
+
+/// Each checked pointer in memory may be read within its bounds after assignments to members of one element that are
+/// judged as one, in a bundle or alone, if none is assigned twice. Locals may be assigned too.
+pub fn members_stay_filled()
+    ensures { (s : Setting) (next : ℕ) (ws : List Write) (before after : states.State)
+        (number i tag : ℕ) (b : Block) (shapes : List Shape) (old locals : List ℕ)
+        (v w : Valuation) (at there : State) (ps : List Placed) (seen : List ℕ)
+        (result : Bounds) → s.frame.structs ≡ s.text.layout → HaveOwnNames s.text.layout
+        → NameIntegerMembers s.text.layout → AreSlotParts s.text → AreSound s.text before.blocks next
+        → AreCellWrites s.text.layout before.blocks ws → all_written ws before ≡ Ok after
+        → IsStructure before.blocks number i tag b → v.number 0 ≡ pos 0 → w.number 0 ≡ pos 0
+        → AreFacts v at.facts → stored_placed s.frame result seen ps at ≡ Ok there
+        → AreTargetsWritten s (store_with shapes after.blocks locals) v w at tag
+        (b.base + i * b.size) ps ws → AreWrittenOnce ws
+        → AreFilled s.text (store_with shapes before.blocks old)
+        → AreFilled s.text (store_with shapes after.blocks locals) }
+{}
+
+/// The same after an assignment alone to an element that is no structure: an integer or a pointer of an array, or a
+/// static one.
+pub fn elements_stay_filled()
+    ensures { (s : Setting) (next : ℕ) (to : Write) (before after : states.State)
+        (number i : ℕ) (b : Block) (shapes : List Shape) (old locals : List ℕ) (v : Valuation)
+        (at there : State) (p : Placed) (seen : List ℕ) (result : Bounds) → AreSlotParts s.text
+        → AreSound s.text before.blocks next → AreCellWrites s.text.layout before.blocks (to ∷ [])
+        → all_written (to ∷ []) before ≡ Ok after → slice_get before.blocks number ≡ Some b
+        → i < b.count → is_scalar b.element ≡ true → v.number 0 ≡ pos 0 → AreFacts v at.facts
+        → stored_placed s.frame result seen (p ∷ []) at ≡ Ok there
+        → IsElementWritten s (store_with shapes after.blocks locals) v at number b.element
+        (b.base + i * b.size) p to → AreFilled s.text (store_with shapes before.blocks old)
+        → AreFilled s.text (store_with shapes after.blocks locals) }
 {}

@@ -5,5 +5,6 @@ mod laws;
 
 pub use laws::{
     assignments_keep_bounds, calls_begin_bounded, contained_is_true, declarations_keep_bounds,
-    limits_move, members_are_covered, memory_is_bounded, results_are_bounded, valuations_agree,
+    elements_stay_filled, limits_move, members_are_covered, members_stay_filled, memory_is_bounded,
+    results_are_bounded, valuations_agree,
 };

@@ -11,7 +11,8 @@ use Rattle.ckc_build_elaborate.specs.Elaborated.{elaborated}
 use Rattle.ckc_blame_sound.specs.Sound.{Sound}
 use Rattle.ckc_blame_slots.specs.Limited.{AreSlotParts}
 use Rattle.ckc_blame_texts.specs.Judged.{IsJudged}
-use Rattle.ckc_blame_walk.specs.Walks.{AreNested, leaving}
+use Rattle.ckc_blame_nested.specs.Nested.{AreNested}
+use Rattle.ckc_blame_walk.specs.Walks.{leaving}
 use Rattle.ckc_blame_walk.proofs.Frames.{text_goes}
 use Rattle.ckc_blame_first.specs.Ready.{HaveSizes, HasObjects, HasFunctions}
 use Rattle.ckc_blame_first.proofs.First.{first_state_sound}

@@ -2,6 +2,15 @@
 
 ghost use Rattle.std.specs.Prelude.{◌≡◌, ℕ, true, List};
 ghost use Rattle.ckc_base.specs.Lists.{AreBytes};
+ghost use Rattle.ckc_base.specs.Phases.{◌>=>◌};
+ghost use Rattle.ckc_syntax.specs.Spelled.{Tokens};
+ghost use Rattle.ckc_syntax.specs.declared.tree.NamedText.{NamedText};
+ghost use Rattle.ckc_parser.specs.Phase.{parsing};
+ghost use Rattle.ckc_parser.specs.Text.{SpelledTree};
+ghost use Rattle.ckc_resolve.specs.Phase.{naming};
+ghost use Rattle.ckc_scopes.specs.Phase.{scoping};
+ghost use Rattle.ckc_bounds.specs.Phase.{bounding};
+ghost use Rattle.ckc_typed_welltyped.specs.Texts.{TypedAs};
 ghost use Rattle.ckc_syntax_limits.specs.Small.{Small};
 ghost use Rattle.ckc_typed.specs.declared.typed.Typed.{Typed};
 ghost use Rattle.ckc_typed_welltyped.specs.Productions.{given_tree};
@@ -19,9 +28,13 @@ ghost use Rattle.ckc_blame_sound.specs.Sound.{Sound};
 ghost use Rattle.ckc_blame_slots.specs.Cells.{AreSound};
 ghost use Rattle.ckc_blame_slots.specs.Limited.{AreSlotParts, store_with};
 ghost use Rattle.ckc_blame_texts.specs.Judged.{IsJudged};
-ghost use Rattle.ckc_blame_walk.specs.Walks.{AreNested};
+ghost use Rattle.ckc_blame_nested.specs.Nested.{AreNested};
 ghost use Rattle.ckc_blame_first.specs.Entries.{IsCodeJudged, MayEnter};
 ghost use Rattle.ckc_blame_first.specs.Ready.{first_blocks, next_behind, HaveSizes, NameMembers, HasObjects, HasFunctions};
+
+use ckc_blame_nested::judged_texts_are_nested;
+use ckc_typed_fit::{names_keep_form, small_stays};
+use ckc_typed_wellformed::trees_are_given;
 
 /// A function that is entered with values that it may be entered with stands at its first point, if its code is
 /// judged from there.
@@ -62,3 +75,18 @@ pub fn first_state_is_sound()
         → given_tree j.named.tree ≡ true → Small j.named.tree → AreNested j.typed.tree.items
         → IsLaidOut (elaborated p) → AreBytes input → Sound p (first_state (elaborated p) input) }
 {}
+
+/// So it is if the phases make the text of tokens: the grammar gives its tree, names and types keep what the grammar
+/// gives, and the limits of a text.
+pub fn phases_begin_soundly()
+    ensures { (tokens : Tokens) (whole : SpelledTree) (named : NamedText) (typed p : Typed)
+        (input : List ℕ) → parsing.Makes tokens whole → Small whole → naming.Makes whole named
+        → TypedAs named typed → (scoping >=> bounding).Makes typed p → IsLaidOut (elaborated p)
+        → AreBytes input → Sound p (first_state (elaborated p) input) }
+{
+    trees_are_given();
+    names_keep_form();
+    small_stays();
+    judged_texts_are_nested();
+    first_state_is_sound();
+}

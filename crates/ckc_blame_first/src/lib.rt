@@ -5,5 +5,5 @@ mod laws;
 
 pub use laws::{
     first_state_is_sound, functions_are_entered, objects_are_sound, objects_have_sizes,
-    slots_are_parts,
+    phases_begin_soundly, slots_are_parts,
 };

@@ -22,7 +22,7 @@ use Rattle.ckc_build_values.specs.Expressions.{expr_elaborated, literals_of}
 use Rattle.ckc_build_elaborate.specs.Literals.{literals_of_bounds, literals_of_value}
 use Rattle.ckc_build_elaborate.specs.Steps.{condition, destination_of, nowhere, Statements, Destination, spot, assigned, assigned_form, called, started, declared, destination_for}
 use Rattle.ckc_build_elaborate.specs.Statements.{Part, ActPart, act_parts, stmt_parts, part_of, part_of_act, all_code, code_if, literals_if, turns, alone}
-use Rattle.ckc_blame_runs.specs.Checked.{is_checked, act_checked, stmt_checked, checked_act, checked_stmt}
+use Rattle.ckc_blame.specs.Checked.{is_checked, act_checked, stmt_checked, checked_act, checked_stmt}
 
 -- Each step of code has mode Checked.
 unfoldable pub AreChecked : Code → Type 0

@@ -25,7 +25,7 @@ use Rattle.ckc_source.specs.Eval.{given, evaluated, all_evaluated}
 use Rattle.ckc_source.specs.Source.{first_unchecked, by_mode, on_next}
 use Rattle.ckc_source.specs.States.{Work, Rest, Turn, Frame, Caller, State, Leaving, Ended, Broken, Continued, begun, stepped, turned, behind, resumed, settled, entered, active}
 use Rattle.ckc_source.specs.Steps.{store_of, aimed, allowed, writes, all_written, Write, Drawn, allocated, drawn, Planned, and_then_written, planned, bundled, halts, comes_to, and_moves, at_work, writes_allowed, with_blocks, gets, puts, enters, calls, kept_place, reads_result, hands, returns, acts, works, source_step, spot_in, spot_at, spot_of}
-use Rattle.ckc_blame_runs.specs.Checked.{is_checked}
+use Rattle.ckc_blame.specs.Checked.{is_checked}
 use Rattle.ckc_blame_runs.proofs.Codes.{AreChecked}
 
 -- ---- what comes next

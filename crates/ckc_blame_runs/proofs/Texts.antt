@@ -19,7 +19,7 @@ use Rattle.ckc_build_elaborate.specs.Functions.{functions_in, function_elaborate
 use Rattle.ckc_build_elaborate.specs.Objects.{objects_elaborated, count_declared}
 use Rattle.ckc_build_elaborate.specs.Elaborated.{elaborated}
 use Rattle.ckc_build_elaborate.proofs.There.{is_there}
-use Rattle.ckc_blame_runs.specs.Checked.{checked_stmt, checked_item, WhollyChecked}
+use Rattle.ckc_blame.specs.Checked.{checked_stmt, checked_item, WhollyChecked}
 use Rattle.ckc_blame_runs.proofs.Codes.{body_checked, left, mode_checked, right}
 use Rattle.ckc_blame_runs.proofs.Runs.{IsChecked, AreAll, IsGood, entered_good, never_unchecked}
 

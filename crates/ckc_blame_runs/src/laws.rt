@@ -8,7 +8,7 @@ ghost use Rattle.ckc_source.specs.Source.{first_state, source, unchecked_since};
 ghost use Rattle.ckc_build_elaborate.specs.Bodies.{IsDefined};
 ghost use Rattle.ckc_build_elaborate.specs.Elaborated.{elaborated};
 ghost use Rattle.ckc_blame_sound.specs.Sound.{Sound};
-ghost use Rattle.ckc_blame_runs.specs.Checked.{WhollyChecked};
+ghost use Rattle.ckc_blame.specs.Checked.{WhollyChecked};
 ghost use Rattle.ckc_blame_runs.specs.Moves.{StaysSound};
 
 /// A run of a wholly checked text that defines its `main` takes no step in unchecked code, whatever the input and however

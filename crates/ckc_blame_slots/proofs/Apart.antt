@@ -1,10 +1,11 @@
 -- Two accesses to parts of elements are one, or share no byte.
-use Rattle.std.proofs.Common.{◌≡◌, ◌⊎◌, ⊎_elim, inl, inr, ℕ, zero, suc, ◌+◌, ◌*◌, ◌≤◌, ◌<◌, List, [], ◌∷◌, ◌++◌, refl, sym, ◌∙◌, ap, subst, arith}
+use Rattle.std.proofs.Common.{◌≡◌, ◌≢◌, ◌⊎◌, ⊎_elim, inl, inr, ℕ, zero, suc, ◌+◌, ◌*◌, ◌≤◌, ◌<◌, List, [], ◌∷◌, ◌++◌, refl, sym, ◌∙◌, ap, subst, arith}
 use Rattle.std.specs.Prelude.{Bool, true, slice_get, Some}
 use Rattle.std.specs.List.{All}
 use Rattle.std.proofs.lemmas.List.Elements.{All-contains}
 use Rattle.std.proofs.Math.Nat.{mul_comm}
 use Rattle.ckc_base.specs.declared.arithmetic.Width.{Width}
+use Rattle.ckc_base.specs.declared.arithmetic.Width.TheVariants.{Byte, Word}
 use Rattle.ckc_base.specs.Memory.{width_bytes, data_end}
 use Rattle.ckc_types.specs.declared.types.CType.{CType, CType-F, out-CType}
 use Rattle.ckc_types.specs.declared.types.MemberShape.{MemberShape}
@@ -48,6 +49,10 @@ two_places {X} (x ∷ front) back (y ∷ front2) back2 m m2 e =
     (λ h. inr (⊎_elim (λ k. inl (k.0, cc)) (λ k. inr (k.0, cc)) h))
     (two_places front back front2 back2 m m2 rest)
 
+width_some : (width : Width) → 0 < width_bytes width
+width_some Byte = omega arith
+width_some Word = omega arith
+
 module _ (structs : Structs) (tag : ℕ) (sized : HasSize structs tag) where
   member_before : (front front2 : List MemberShape) (m n : MemberShape) (s : Stands structs tag front m) (t : Stands structs tag front2 n)
       → (between : List MemberShape) → front2 ≡ front ++ m ∷ between
@@ -73,6 +78,20 @@ module _ (structs : Structs) (tag : ℕ) (sized : HasSize structs tag) where
       (λ k. let less = member_before q.front p.front q.member p.member q.stands p.stands k.0 k.1 in inr (omega arith))
       h))
       (two_places p.front p.stands.back q.front q.stands.back p.member q.member (sym p.stands.split ∙ q.stands.split))
+
+  -- members with different names begin at different places
+  pub offsets_differ : (front front2 : List MemberShape) (m n : MemberShape) → Stands structs tag front m → Stands structs tag front2 n → m.name ≢ n.name
+      → offset_of structs tag m.name ≢ offset_of structs tag n.name
+  offsets_differ front front2 m n s t new e =
+      let wide = width_some (width_of m.ctype) in
+      let wide2 = width_some (width_of n.ctype) in
+      ⊎_elim
+      (λ h. new (ap (λ (x : MemberShape). x.name) h.1))
+      (λ h. ⊎_elim
+      (λ k. let less = member_before front front2 m n s t k.0 k.1 in absurd (omega arith))
+      (λ k. let less = member_before front2 front n m t s k.0 k.1 in absurd (omega arith))
+      h)
+      (two_places front s.back front2 t.back m n (sym s.split ∙ t.split))
 
 -- ---- parts of one type
 
@@ -222,3 +241,52 @@ cells_apart p bs laid a width z c other y one two =
         (subst (λ (b : Block). IsPart p.layout b.element two.offset other) (sym e) two.part) one.below
         (subst (λ (b : Block). two.index < b.count) (sym e) two.below) one.address
         (two.address ∙ ap (λ (b : Block). b.base + two.index * b.size + two.offset) (sym e))
+
+-- parts of different elements begin at different addresses
+pub elements_apart : (p : Typed) (bs : List Block) → AreLaid p bs → (k j i i2 : ℕ) (b c : Block) (at : ℕ) (width : Width) (at2 : ℕ) (other : Width)
+    → slice_get bs k ≡ Some b → slice_get bs j ≡ Some c → i < b.count → i2 < c.count → IsPart p.layout b.element at width → IsPart p.layout c.element at2 other
+    → ((k ≡ j) × (i ≡ i2)) ⊎ (b.base + i * b.size + at ≢ c.base + i2 * c.size + at2)
+elements_apart p bs laid k j i i2 b c at width at2 other e f h l q r =
+    let x = spans p b i at width (placed_at p bs laid.placed k b e) h q in
+    let w = spans p c i2 at2 other (placed_at p bs laid.placed j c f) l r in
+    let wide = width_some width in
+    let wide2 = width_some other in
+    let x1 = x.from in
+    let x2 = x.to in
+    let x3 = x.end in
+    let w1 = w.from in
+    let w2 = w.to in
+    let w3 = w.end in
+    ⊎_elim
+    (λ less. let room = behind laid.low bs laid.place k j b c laid.apart e f less in inr (λ same. absurd (omega arith)))
+    (λ m. ⊎_elim
+    (λ even. one even (same even))
+    (λ less. let room = behind laid.low bs laid.place j k c b laid.apart f e less in inr (λ same. absurd (omega arith)))
+    m)
+    (three k j)
+  where
+    same : k ≡ j → b ≡ c
+    same even = let again : Some b ≡ Some c = sym e ∙ ap (slice_get bs) even ∙ f in cc
+
+    one : k ≡ j → b ≡ c → ((k ≡ j) × (i ≡ i2)) ⊎ (b.base + i * b.size + at ≢ c.base + i2 * c.size + at2)
+    one even it =
+        subst (λ (d : Block). ((k ≡ j) × (i ≡ i2)) ⊎ (b.base + i * b.size + at ≢ d.base + i2 * d.size + at2)) it
+        (in_block even (subst (λ (d : Block). i2 < d.count) (sym it) l) (subst (λ (d : Block). IsPart p.layout d.element at2 other) (sym it) r))
+      where
+        in_block : k ≡ j → i2 < b.count → IsPart p.layout b.element at2 other → ((k ≡ j) × (i ≡ i2)) ⊎ (b.base + i * b.size + at ≢ b.base + i2 * b.size + at2)
+        in_block even l r =
+            let x = spans p b i at width (placed_at p bs laid.placed k b e) h q in
+            let w = spans p b i2 at2 other (placed_at p bs laid.placed k b e) l r in
+            let wide = width_some width in
+            let wide2 = width_some other in
+            let x1 = x.from in
+            let x2 = x.to in
+            let w1 = w.from in
+            let w2 = w.to in
+            ⊎_elim
+            (λ less. let room = element_between b.size i i2 less in inr (λ same. absurd (omega arith)))
+            (λ m. ⊎_elim
+            (λ is. inl (even, is))
+            (λ less. let room = element_between b.size i2 i less in inr (λ same. absurd (omega arith)))
+            m)
+            (three i i2)

@@ -88,7 +88,7 @@ contains_at xs k x e =
     subst (Contains xs) (get_or_from_slice_get xs k x x e) (Contains-get_or xs k x h)
 
 -- an integer or a pointer is its only part
-scalar_part : (structs : Structs) (t : CType) (offset : ℕ) (width : Width) → is_scalar t ≡ true → IsPart structs t offset width
+pub scalar_part : (structs : Structs) (t : CType) (offset : ℕ) (width : Width) → is_scalar t ≡ true → IsPart structs t offset width
     → (offset ≡ 0) × (width ≡ width_of t)
 scalar_part structs t offset width h part = by (out-CType t) h part
   where

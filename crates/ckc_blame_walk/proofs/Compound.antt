@@ -27,7 +27,8 @@ use Rattle.ckc_blame_sound.specs.Bodies.{IsTestInBody}
 use Rattle.ckc_blame_sound.specs.Steps.{IsCondition}
 use Rattle.ckc_blame_sound.specs.Judged.{Exits, ending, Branches, Judged}
 use Rattle.ckc_blame_sound.proofs.Joined.{first_known, second_known}
-use Rattle.ckc_blame_walk.specs.Walks.{Nesting, is_branch, is_branch_if, AreSmall, MayLeave, Stays}
+use Rattle.ckc_blame_nested.specs.Nested.{Nesting, is_branch, is_branch_if}
+use Rattle.ckc_blame_walk.specs.Walks.{AreSmall, MayLeave, Stays}
 use Rattle.ckc_blame_walk.proofs.Adds.{Adds, side_adds}
 use Rattle.ckc_blame_walk.proofs.Flow.{stays_none, stays_adding, stays_through, stays_front, stays_back}
 use Rattle.ckc_blame_walk.proofs.Heads.{stays_joined}

@@ -25,7 +25,8 @@ use Rattle.ckc_blame_texts.specs.Judged.{IsJudged, IsBodyJudged, globals_in}
 use Rattle.ckc_blame_texts.proofs.Bodies.{bodies_are_typed, declared_known}
 use Rattle.ckc_blame_texts.proofs.Frames.{variables_moved}
 use Rattle.ckc_blame_texts.proofs.Locals.{variables_declared}
-use Rattle.ckc_blame_walk.specs.Walks.{AreNested, leaving}
+use Rattle.ckc_blame_nested.specs.Nested.{AreNested}
+use Rattle.ckc_blame_walk.specs.Walks.{leaving}
 use Rattle.ckc_blame_walk.proofs.Twins.{Agree, SameHere, bare, Twin}
 use Rattle.ckc_blame_walk.proofs.Acts.{bare_both}
 use Rattle.ckc_blame_walk.proofs.Again.{stmt_again}

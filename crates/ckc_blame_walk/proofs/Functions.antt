@@ -20,7 +20,8 @@ use Rattle.ckc_linear.specs.Facts.{Satisfies}
 use Rattle.ckc_blame_sound.specs.Points.{GoesTo}
 use Rattle.ckc_blame_sound.specs.Bodies.{IsInBody, IsNextFresh}
 use Rattle.ckc_blame_sound.specs.Judged.{Judged}
-use Rattle.ckc_blame_walk.specs.Walks.{nesting_of, AreSmall, IsExit, empty_point, leaving}
+use Rattle.ckc_blame_nested.specs.Nested.{nesting_of}
+use Rattle.ckc_blame_walk.specs.Walks.{AreSmall, IsExit, empty_point, leaving}
 use Rattle.ckc_blame_walk.proofs.Codes.{goes_nowhere}
 use Rattle.ckc_blame_walk.proofs.Walk.{ranges_small}
 use Rattle.ckc_blame_walk.proofs.Whole.{statement_judged}

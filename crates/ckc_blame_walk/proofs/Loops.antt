@@ -24,7 +24,8 @@ use Rattle.ckc_blame_sound.specs.Bodies.{IsTestInBody}
 use Rattle.ckc_blame_sound.specs.Steps.{IsCondition}
 use Rattle.ckc_blame_sound.specs.Judged.{Exits, ending, Turns, in_body, Judged}
 use Rattle.ckc_blame_sound.proofs.Joined.{less_known}
-use Rattle.ckc_blame_walk.specs.Walks.{Nesting, is_branch, begins, steps, AreSmall, IsLeft, IsExit, MayLeave, Stays}
+use Rattle.ckc_blame_nested.specs.Nested.{Nesting, is_branch, begins, steps}
+use Rattle.ckc_blame_walk.specs.Walks.{AreSmall, IsLeft, IsExit, MayLeave, Stays}
 use Rattle.ckc_blame_walk.proofs.Adds.{Adds, adds_none, side_adds}
 use Rattle.ckc_blame_walk.proofs.Flow.{stays_adding, stays_through, stays_back, stays_less}
 use Rattle.ckc_blame_walk.proofs.Onward.{Onward, IsOn, onward_none, onward_through, on_there}

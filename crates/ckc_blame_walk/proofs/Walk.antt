@@ -34,7 +34,8 @@ use Rattle.ckc_blame_sound.specs.Settings.{Setting}
 use Rattle.ckc_blame_sound.specs.Bodies.{IsInBody}
 use Rattle.ckc_blame_sound.specs.Steps.{is_simple}
 use Rattle.ckc_blame_sound.specs.Judged.{Exits, Judged}
-use Rattle.ckc_blame_walk.specs.Walks.{Nesting, is_branch, begins, steps, nesting_by, nesting_in, nesting_of_act, nesting_of, AreSmall, MayLeave, Stays}
+use Rattle.ckc_blame_nested.specs.Nested.{Nesting, is_branch, begins, steps, nesting_by, nesting_in, nesting_of_act, nesting_of}
+use Rattle.ckc_blame_walk.specs.Walks.{AreSmall, MayLeave, Stays}
 use Rattle.ckc_blame_walk.proofs.Adds.{Adds, range_more, side_adds}
 use Rattle.ckc_blame_walk.proofs.Flow.{stays_none, stays_adding, stays_through, stays_assigned}
 use Rattle.ckc_blame_walk.proofs.Onward.{Onward, IsOn, onward_none, onward_through, on_there}

@@ -8,7 +8,8 @@ use Rattle.ckc_build_elaborate.specs.Statements.{stmt_elaborated}
 use Rattle.ckc_blame_sound.specs.Settings.{Setting}
 use Rattle.ckc_blame_sound.specs.Bodies.{IsInBody, IsNextFresh}
 use Rattle.ckc_blame_sound.specs.Judged.{Exits, Judged}
-use Rattle.ckc_blame_walk.specs.Walks.{nesting_of, AreSmall, Stays, MayLeave}
+use Rattle.ckc_blame_nested.specs.Nested.{nesting_of}
+use Rattle.ckc_blame_walk.specs.Walks.{AreSmall, Stays, MayLeave}
 use Rattle.ckc_blame_walk.proofs.Codes.{goes_nowhere, IsCode}
 use Rattle.ckc_blame_walk.proofs.Compound.{Next}
 use Rattle.ckc_blame_walk.proofs.Walk.{all_hold}

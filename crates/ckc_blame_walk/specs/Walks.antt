@@ -1,15 +1,8 @@
--- What is asked of a statement that is judged and of the points of a walk through it, so that its code is judged.
-use Rattle.std.specs.Prelude.{◌≡◌, ℕ, ◌+◌, ◌^◌, Bool, true, false, not, ◌&&◌, ◌||◌, ◌⊎◌, List, [], Option, None, Some, IfSome}
+-- What is asked of the points of a walk through a statement that is judged, so that its code is judged.
+use Rattle.std.specs.Prelude.{◌≡◌, ℕ, ◌+◌, ◌^◌, Bool, true, false, ◌⊎◌, List, [], IfSome}
 use Rattle.std.specs.List.{All, Contains}
 use Rattle.ckc_linear.specs.declared.facts.Fact.{Fact}
 use Rattle.ckc_linear.specs.Facts.{Satisfies, names}
-use Rattle.ckc_syntax.specs.Inside.{all_have, inside_each}
-use Rattle.ckc_syntax.specs.declared.tree.Name.{Name}
-use Rattle.ckc_syntax.specs.declared.tree.Act.{Act-F, fold-Act}
-use Rattle.ckc_syntax.specs.declared.tree.Stmt.{Stmt-F, fold-Stmt}
-use Rattle.ckc_syntax.specs.declared.tree.Item.TheVariants as item
-use Rattle.ckc_typed.specs.declared.typed.Note.{Note}
-use Rattle.ckc_typed.specs.Trees.{NotedAct, NotedHead, NotedItem, NotedStmt}
 use Rattle.ckc_typed.specs.Types.{is_integer}
 use Rattle.ckc_bounds_points.specs.declared.frame.Frame.{Frame}
 use Rattle.ckc_bounds_points.specs.Frames.{local_at}
@@ -19,60 +12,6 @@ use Rattle.ckc_bounds_statements.specs.Paths.{Here}
 use Rattle.ckc_blame_sound.specs.Values.{value, HoldWords}
 use Rattle.ckc_blame_sound.specs.Points.{GoesTo}
 use Rattle.ckc_blame_sound.specs.Judged.{Exits}
-
--- ---- where declarations stand
-
--- Whether each statement in a statement stands where the grammar lets it (ISO C11, 6.8: a declaration stands in a block
--- or begins a `for`, and is no branch and no body), and whether the statement is a declaration or an assignment.
-pub record Nesting : Type 0 where
-  pub fine : Bool
-  pub declares : Bool
-  pub assigns : Bool
-
--- a statement that is neither
-abbrev pub plain : Bool → Nesting
-plain fine = record { fine = fine; declares = false; assigns = false }
-
--- a branch or a body
-abbrev pub is_branch : Nesting → Bool
-is_branch s = s.fine && not s.declares
-
--- the same of a branch that may be left out
-abbrev pub is_branch_if : Option Nesting → Bool
-is_branch_if None = true
-is_branch_if (Some s) = is_branch s
-
--- what a `for` begins with: a declaration, an assignment or nothing
-abbrev pub begins : Option Nesting → Bool
-begins None = true
-begins (Some s) = s.fine && (s.declares || s.assigns)
-
--- the step of a `for`: an assignment or nothing
-abbrev pub steps : Option Nesting → Bool
-steps None = true
-steps (Some s) = s.fine && s.assigns
-
--- the same of what a statement does
-abbrev pub nesting_by : Act-F Name Note Nesting Nesting → Nesting
-nesting_by (Act-F.Block m ss) = plain (inside_each all_have (λ (s : Nesting). s.fine) ss)
-nesting_by (Act-F.Local d) = record { fine = true; declares = true; assigns = false }
-nesting_by (Act-F.Assign e f) = record { fine = true; declares = false; assigns = true }
-nesting_by (Act-F.If e s t) = plain (is_branch s && is_branch_if t)
-nesting_by (Act-F.While e s) = plain (is_branch s)
-nesting_by (Act-F.For s e t body) = plain (begins s && (steps t && is_branch body))
-nesting_by _ = plain true
-
--- a statement is placed as what it does
-abbrev pub nesting_in : Stmt-F Name Note Nesting Nesting → Nesting
-nesting_in s = s.body
-
-abbrev pub nesting_of_act : NotedAct → Nesting
-nesting_of_act = fold-Act Name Note Nesting Nesting nesting_by nesting_in
-
-abbrev pub nesting_of : NotedStmt → Nesting
-nesting_of = fold-Stmt Name Note Nesting Nesting nesting_by nesting_in
-
--- ---- what is known at a point
 
 -- The number of each fact is within 2^50.
 abbrev pub AreSmall : Known → Type 0
@@ -133,8 +72,3 @@ empty_point = record {
 -- Wherever control leaves a function, nothing is asked of it.
 abbrev pub leaving : Exits
 leaving = record { ends = empty_point; breaks = empty_point; continues = empty_point }
-
--- In the body of each function of a text each statement stands where the grammar lets it.
-abbrev pub AreNested : List NotedItem → Type 0
-AreNested items =
-    (head : NotedHead) (body : NotedStmt) → Contains items (item.Function head body) → (nesting_of body).fine ≡ true

@@ -17,7 +17,8 @@ ghost use Rattle.ckc_blame_sound.specs.Settings.{Setting, IsFunction, frame_of_t
 ghost use Rattle.ckc_blame_sound.specs.Bodies.{IsInBody, IsNextFresh};
 ghost use Rattle.ckc_blame_sound.specs.Judged.{Exits, Judged};
 ghost use Rattle.ckc_blame_texts.specs.Judged.{IsJudged};
-ghost use Rattle.ckc_blame_walk.specs.Walks.{nesting_of, AreSmall, IsLeft, Stays, MayLeave, AreNested, leaving};
+ghost use Rattle.ckc_blame_nested.specs.Nested.{nesting_of, AreNested};
+ghost use Rattle.ckc_blame_walk.specs.Walks.{AreSmall, IsLeft, Stays, MayLeave, leaving};
 
 /// A fact or a widening at the head of a loop names nothing that the loop assigns, and what names nothing that a statement
 /// assigns is still known after it. A fact on the range of a type names its variable, and is true of all words.

@@ -1,7 +1,7 @@
 -- What `check` says of a text.
 use Rattle.std.specs.Prelude.{ℕ, if◌then◌else◌, List, [], ◌∷◌, ◌++◌, codes}
 use Rattle.ckc_typed.specs.declared.typed.Typed.{Typed}
-use Rattle.ckc_blame_runs.specs.Checked.{checked_text}
+use Rattle.ckc_blame.specs.Checked.{checked_text}
 
 -- the words that say whether a text is wholly checked
 abbrev pub checked_words : Typed → List ℕ

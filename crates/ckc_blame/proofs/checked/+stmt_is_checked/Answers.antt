@@ -1,6 +1,6 @@
 use Rattle.std.proofs.Common.{ap, sym, ◌∙◌}
 use Rattle.ckc_syntax.specs.Inside.{all_have, inside_each}
-use Rattle.ckc_blame_runs.specs.Checked.{checked_act, checked_stmt}
+use Rattle.ckc_blame.specs.Checked.{checked_act, checked_stmt}
 use Rattle.ckc_blame.proofs.Lists.{checked_block, checked_bundle}
 use Rattle.ckc_blame.proofs.checked.+stmt_is_checked.Goals as goal
 

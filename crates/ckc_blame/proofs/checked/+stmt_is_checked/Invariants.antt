@@ -1,6 +1,6 @@
 use Rattle.std.proofs.Common.{◌≡◌, drop}
 use Rattle.ckc_syntax.specs.Inside.{all_have, inside_each}
-use Rattle.ckc_blame_runs.specs.Checked.{checked_stmt}
+use Rattle.ckc_blame.specs.Checked.{checked_stmt}
 use Rattle.ckc_blame.proofs.checked.+stmt_is_checked.Given as goal
 
 -- what is left is checked exactly if the whole is

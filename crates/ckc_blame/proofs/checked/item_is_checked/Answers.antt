@@ -1,5 +1,5 @@
 use Rattle.std.proofs.Common.{sym, ap, ◌∙◌}
-use Rattle.ckc_blame_runs.specs.Checked.{checked_item}
+use Rattle.ckc_blame.specs.Checked.{checked_item}
 use Rattle.ckc_blame.proofs.Lists.{nothing_inside}
 use Rattle.ckc_blame.proofs.checked.item_is_checked.Goals as goal
 

@@ -1,0 +1,5 @@
+mod Items
+mod Grammar
+mod Named
+mod Noteless
+mod Whole
