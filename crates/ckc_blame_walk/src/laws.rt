@@ -30,12 +30,13 @@ pub fn loops_keep_their_heads()
         → Stays s.frame (path st).assigned here.at there.at }
 {}
 
-/// The code of a statement of a function that the walk has judged is judged from the point where the walk came to it, if the code after
-/// it is judged from the point where the walk left it, and each `break` and `continue` that leaves it may leave it there.
+/// The code of a statement of a function that the walk has judged is judged from the point where the walk came to it, if
+/// the code after it is judged from the point where the walk left it, and each `break` and `continue` that leaves it may leave it there.
 pub fn walks_are_judged()
     ensures { (s : Setting) (st after : NotedStmt) (here there : Here) (literals : ℕ)
         (exits : Exits) (rest : Code) → (nesting_of st).fine ≡ true → IsInBody s st
-        → IsNextFresh s here.next → here.counting ≡ false → AreSmall here.at.facts → (path st).judged s.frame s.head here ≡ Ok (after, there)
+        → IsNextFresh s here.next → here.counting ≡ false → AreSmall here.at.facts
+        → (path st).judged s.frame s.head here ≡ Ok (after, there)
         → MayLeave s.frame (path st).assigned (path st).breaks (path st).continues here exits
         → Judged s rest exits there
         → Judged s (chained (stmt_elaborated s.text s.variables s.result literals after) rest)
