@@ -57,7 +57,7 @@ use Rattle.ckc_blame_pointers.specs.Valuations.{address_by}
 use Rattle.ckc_blame_pointers.specs.Covered.{DeclareLocals, DeclareOnes, IsSoundStore, IsElement, IsSingle, IsArrow, IsPointerArrow, IsAddressed, IsCoveredNode, IsCoveredExpr, IsCovered}
 use Rattle.ckc_blame_pointers.specs.Meant.{IsNotStuck}
 use Rattle.ckc_blame_pointers.proofs.Claims.{Claims, weaker, holds_on}
-use Rattle.ckc_blame_pointers.proofs.Forms.{form_known}
+use Rattle.ckc_blame_numbers.proofs.Known.{form_known}
 use Rattle.ckc_blame_pointers.proofs.Inside.{EveryNode, PartsEvery, parts_every, node_every, node_out, one_part, two_parts, three_parts, IsJudged, judged_is, operand_is}
 use Rattle.ckc_blame_pointers.proofs.Nodes.{NodeClaims}
 use Rattle.ckc_blame_pointers.proofs.Binary.{ExprClaims, other_claims, unequal_claims, and_claims, or_claims}

@@ -2,7 +2,6 @@ pub mod Numbers
 pub mod Claims
 pub mod Reading
 pub mod Moving
-pub mod Forms
 pub mod Rows
 pub mod Nodes
 pub mod Binary
