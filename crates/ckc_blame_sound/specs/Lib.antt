@@ -1,5 +1,7 @@
 pub mod Settings
 pub mod Values
+pub mod Valuations
+pub mod Arguments
 pub mod Points
 pub mod Bodies
 pub mod Steps
