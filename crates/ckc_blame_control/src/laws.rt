@@ -1,12 +1,13 @@
 //! What follows from the definitions alone, each the contract of a function that does nothing.
 
-ghost use Rattle.std.specs.Prelude.{◌≡◌, ◌≢◌, ℕ, ◌<◌, ◌^◌, true, List, [], ◌∷◌, ◌++◌, length, slice_get, Option, None, Some, Ok, Err};
+ghost use Rattle.std.specs.Prelude.{◌≡◌, ◌≢◌, ℕ, ◌<◌, ◌^◌, true, List, [], ◌∷◌, ◌++◌, length, map, slice_get, Option, None, Some, IfSome, Ok, Err};
 ghost use Rattle.ckc_base.specs.Activations.{has_room};
 ghost use Rattle.ckc_base.specs.Lists.{AreBytes};
 ghost use Rattle.ckc_base.specs.Steps.{Halts};
 ghost use Rattle.ckc_base.specs.Traces.{Ended};
 ghost use Rattle.ckc_typed.specs.declared.typed.Typed.{Typed};
 ghost use Rattle.ckc_typed.specs.Trees.{NotedExpr};
+ghost use Rattle.ckc_bounds_views.specs.Views.{view};
 ghost use Rattle.ckc_bounds_statements.specs.Paths.{Here};
 ghost use Rattle.ckc_source.specs.declared.outcome.Halt.TheVariants as halt;
 ghost use Rattle.ckc_source.specs.declared.program.Shape.{Shape};
@@ -176,7 +177,7 @@ pub fn states_stay_sound()
 {}
 
 /// The state in a function that was called is sound if what the function begins with is judged from a
-/// point that holds, and its parameters have what the arguments stand for.
+/// point that holds, and the arguments stand for what its parameters have.
 pub fn calls_enter_soundly()
     ensures { (p : Typed) (s : State) (h : Sound p s) (called : Setting) (spot : Spot)
         (target : Option Kept) (number : ℕ) (es : List Expr) (next : List Work)
@@ -184,8 +185,8 @@ pub fn calls_enter_soundly()
         (f : Faces h.setting (store_in p s.blocks s.frame) s.frame.entry
         (Call spot target number es) next) → has_room (active s) ≡ true
         → slice_get (functions_elaborated p) number ≡ Some callee → IsFunction p called callee
-        → ArePassed h.setting f.here.at.facts s.frame.locals called.head.params
-        (arguments_of f.judged.before) values
+        → ((n : ℕ) → ArePassed h.setting called f.here s.frame.locals values
+        (map (view h.setting.frame) (arguments_of f.judged.before)) n)
         → IsReady called (store_in p s.blocks (entered callee values)) values
         (Rest callee.body ∷ [])
         → Sound p (inside s next target callee values) }
