@@ -8,8 +8,8 @@ use Rattle.ckc_blame_sound.specs.Values.{NamesIntegers}
 use Rattle.ckc_blame_sound.specs.Bodies.{AreFresh}
 use Rattle.ckc_blame_numbers.specs.Typed.{Agrees}
 
--- The frame agrees with what the text and the function declare, the locals from the next fresh one on are no integers, and
--- it has a word as its number; each fact names the number zero and integer locals alone.
+-- The frame agrees with what the text and the function declare, the locals from the next fresh one on are no integers,
+-- and it has a word as its number; each fact names the number zero and integer locals alone.
 pub record IsKnownPoint (globals : Globals) (s : Setting) (here : Here) : Type 0 where
   pub agrees : Agrees globals s
   pub fresh : AreFresh s.frame here.next
