@@ -1,0 +1,5 @@
+mod Tokens
+mod Grammar
+mod Named
+mod Noteless
+mod Chain

@@ -1,0 +1,42 @@
+//! What follows from the definitions alone, each the contract of a function that does nothing.
+
+ghost use Rattle.std.specs.Prelude.{◌≡◌, ℕ, List, [], ◌∷◌, true};
+ghost use Rattle.ckc_syntax.specs.Spelled.{Tokens};
+ghost use Rattle.ckc_syntax.specs.declared.tree.NamedText.{NamedText};
+ghost use Rattle.ckc_lexer.specs.Phase.{lexing};
+ghost use Rattle.ckc_parser_grammar.specs.declared.kind.Kind.{Kind};
+ghost use Rattle.ckc_parser_grammar.specs.Grammar as g;
+ghost use Rattle.ckc_parser_grammar.specs.Grammar.{n};
+ghost use Rattle.ckc_parser_grammar.specs.Trees.{Tree};
+ghost use Rattle.ckc_parser_grammar.specs.Values.{tree};
+ghost use Rattle.ckc_parser_grammar.specs.Derives.{Sign, Derives};
+ghost use Rattle.ckc_parser.specs.Phase.{parsing};
+ghost use Rattle.ckc_resolve.specs.Phase.{naming};
+ghost use Rattle.ckc_typed.specs.declared.typed.Typed.{Typed};
+ghost use Rattle.ckc_typed_welltyped.specs.Texts.{TypedAs};
+ghost use Rattle.ckc_blame_words.specs.Literals.{HoldWords, SignsHoldWords, tree_has_words};
+
+/// The tokens that the lexer makes hold words: a larger number is refused, and a character is a byte.
+pub fn tokens_hold_words()
+    ensures { (text : List ℕ) (tokens : Tokens) → lexing.Makes text tokens → HoldWords tokens.list }
+{}
+
+/// In the tree that such tokens derive each literal number is a word.
+pub fn trees_have_words()
+    ensures derived { (xs : List Sign) (next : Kind) (whole : Tree) → SignsHoldWords xs
+        → Derives (n g.text ∷ []) xs next (tree whole ∷ []) → tree_has_words whole ≡ true }
+    ensures parsed { (tokens : Tokens) (whole : Tree) → HoldWords tokens.list
+        → parsing.Makes tokens whole → tree_has_words whole ≡ true }
+{}
+
+/// The literals of a tree stay if its names are resolved.
+pub fn names_keep_words()
+    ensures { (whole : Tree) (named : NamedText) → naming.Makes whole named
+        → tree_has_words named.tree ≡ tree_has_words whole }
+{}
+
+/// They stay if it gets its types.
+pub fn types_keep_words()
+    ensures { (named : NamedText) (typed : Typed) → TypedAs named typed
+        → tree_has_words typed.tree ≡ tree_has_words named.tree }
+{}

@@ -1,0 +1,6 @@
+//! The literals of every text that the phases accept are words of 32 bits.
+#![tactic(auto)]
+
+mod laws;
+
+pub use laws::{names_keep_words, tokens_hold_words, trees_have_words, types_keep_words};
