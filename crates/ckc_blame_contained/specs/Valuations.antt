@@ -1,13 +1,11 @@
 -- What the variables and the bases of forms stand for, and what forms do then.
-use Rattle.std.specs.Prelude.{◌≡◌, ℕ, zero, suc, true, ℤ, pos, ◌+ℤ◌, ◌*ℤ◌, List, slice_index, Option, None, Some}
+use Rattle.std.specs.Prelude.{◌≡◌, ℕ, suc, true, ℤ, pos, ◌+ℤ◌, ◌*ℤ◌, List, slice_index, Option, Some}
 use Rattle.std.specs.List.{All}
 use Rattle.ckc_linear.specs.declared.forms.Base.{Base}
 use Rattle.ckc_linear.specs.declared.forms.Base.TheVariants as base
 use Rattle.ckc_linear.specs.declared.forms.Form.{Form}
-use Rattle.ckc_linear.specs.declared.facts.Fact.{Fact}
 use Rattle.ckc_linear.specs.Facts.{Satisfies}
 use Rattle.ckc_typed.specs.Types.{is_integer}
-use Rattle.ckc_bounds_points.specs.declared.frame.Frame.{Frame}
 use Rattle.ckc_bounds_points.specs.declared.frame.Local.{Local}
 use Rattle.ckc_bounds_points.specs.Shown.{Known}
 use Rattle.ckc_bounds_points.specs.Frames.{local_at}
@@ -41,20 +39,6 @@ pub record IsValuationOf (s : Setting) (locals : List ℕ) (v : Valuation) : Typ
       → v.number (suc k) ≡ exact (integer_of l.ctype) (slice_index locals k)
   pub pointer : (k : ℕ) → v.address (Some (base.Local k)) ≡ pos (slice_index locals k)
   pub array : (k : ℕ) → v.address (Some (base.Array k)) ≡ pos (address_of s.text k)
-
--- There is such a local, and it is an integer.
-abbrev pub IsIntegerLocal : Option Local → Type 0
-IsIntegerLocal (Some l) = is_integer l.ctype ≡ true
-IsIntegerLocal None = ⊥
-
--- A variable is the number zero or an integer local.
-abbrev pub IsInteger : Frame → ℕ → Type 0
-IsInteger frame zero = Unit {0}
-IsInteger frame (suc k) = IsIntegerLocal (local_at frame k)
-
--- A fact names no variable but these.
-abbrev pub NamesIntegers : Frame → Fact → Type 0
-NamesIntegers frame f = IsInteger frame f.x × IsInteger frame f.y
 
 -- What replaces the base and the variable of a form, if there is something, stands for as much before as they do after.
 pub record IsReplaced (bases : List BaseBy) (variables : List VariableBy) (size : ℕ) (before after : Valuation)

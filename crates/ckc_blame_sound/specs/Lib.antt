@@ -1,6 +1,7 @@
 pub mod Settings
 pub mod Values
 pub mod Points
+pub mod Words
 pub mod Bodies
 pub mod Steps
 pub mod Judged
