@@ -3,3 +3,5 @@ mod Grammar
 mod Named
 mod Noteless
 mod Chain
+mod Words
+mod Whole

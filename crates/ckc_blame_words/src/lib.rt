@@ -3,4 +3,7 @@
 
 mod laws;
 
-pub use laws::{names_keep_words, tokens_hold_words, trees_have_words, types_keep_words};
+pub use laws::{
+    judging_keeps_words, literals_are_words, names_keep_words, tokens_hold_words, trees_have_words,
+    types_keep_words,
+};
