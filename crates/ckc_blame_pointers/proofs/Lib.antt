@@ -1,3 +1,6 @@
+pub mod Later
+pub mod Unwidened
+pub mod Later
 pub mod Numbers
 pub mod Claims
 pub mod Reading
