@@ -72,6 +72,11 @@ zero_number t = by (out-CType t)
     by (CType-F.Struct tag) = tt
     by (CType-F.Pointer k u) = tt
 
+-- zero is of the type of the fresh variable that an expression needs itself, if it needs one
+pub zero_typed : (o : Option CType) → IfSome o (λ t. IsNumberOf t (pos 0))
+zero_typed None = tt
+zero_typed (Some t) = zero_number t
+
 -- a valuation in which the variables after a number stand for zero
 abbrev pub with_zeros : ℕ → Valuation → Valuation
 with_zeros fresh v = record v { numbers = λ x. if nat_le x fresh then v.numbers x else pos 0 }

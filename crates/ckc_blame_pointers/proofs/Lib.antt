@@ -1,4 +1,3 @@
-pub mod Later
 pub mod Unwidened
 pub mod Later
 pub mod Numbers
