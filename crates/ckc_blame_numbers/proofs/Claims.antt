@@ -1,5 +1,5 @@
 -- What is claimed of an expression, by what is said of it and by what it becomes.
-use Rattle.std.proofs.Common.{◌≡◌, refl, sym, ap, ℕ, Bool, true, false}
+use Rattle.std.proofs.Common.{◌≡◌, inl, refl, sym, ap, ℕ, Bool, true, false, ℤ}
 use Rattle.std.specs.Prelude.{◌+◌, ◌==◌, ◌<◌, ◌^◌, not, pos, Option, None, Some, Result, Ok, Err}
 use Rattle.ckc_types.specs.declared.types.CType.{CType}
 use Rattle.ckc_linear.specs.declared.forms.Form.{Form}
@@ -14,8 +14,9 @@ use Rattle.ckc_source.specs.declared.outcome.Value.{Value}
 use Rattle.ckc_source.specs.declared.outcome.Halt.{Halt}
 use Rattle.ckc_source.specs.Code.{Expr, Local as LocalExpr}
 use Rattle.ckc_source.specs.Eval.{Store, given, given_both, plain, evaluated}
-use Rattle.ckc_blame_sound.specs.Values.{AreTrue, HoldWords}
-use Rattle.ckc_blame_numbers.specs.Exact.{IsExact}
+use Rattle.ckc_blame_sound.specs.Values.{HoldWords}
+use Rattle.ckc_blame_sound.specs.Variables.{HaveValues, AreTrueBy}
+use Rattle.ckc_blame_numbers.specs.Exact.{IsExactBy}
 
 module _ (frame : Frame) where
   -- the word of a constant is its value in every store
@@ -36,19 +37,25 @@ module _ (frame : Frame) where
     pub form : f ≡ record { base = None; var = number + 1; add = pos 0 }
     pub value_is : (k : ℕ) → value k ≡ LocalExpr number
 
-  -- a value that an expression has in a store in which the facts are true
+  -- a value that an expression has in a store, with numbers of variables of which the facts are true
   pub record Comes (facts : Known) (e : Expr) : Type 0 where
     pub store : Store
     pub words : HoldWords frame store.locals
-    pub facts_hold : AreTrue frame store.locals facts
+    pub numbers : ℕ → ℤ
+    pub fits : HaveValues frame store.locals numbers
+    pub facts_hold : AreTrueBy numbers facts
     pub value : Value
     pub is : evaluated store e ≡ Ok value
+
+  -- the variable 0 has the number zero
+  pub zero_is : (facts : Known) (e : Expr) (c : Comes facts e) → c.numbers 0 ≡ pos 0
+  zero_is facts e c = c.fits 0 (inl refl)
 
   pub record Claims (t : CType) (number : Option Constant) (variable : Option Form) (form : Known → Option Form) (side : Bool → State → State) (value : ℕ → Expr) : Type 0 where
     pub constant : (c : Constant) → number ≡ Some c → IsConstant t value c
     pub local : (f : Form) → variable ≡ Some f → IsVariable t value f
-    pub exact : (facts : Known) (k : ℕ) (c : Comes facts (value k)) (f : Form) → form facts ≡ Some f → IsExact frame c.store.locals t f c.value.number
-    pub sides : (at : State) (k : ℕ) (c : Comes at.facts (value k)) (b : Bool) → (c.value.number == 0) ≡ not b → AreTrue frame c.store.locals (side b at).facts
+    pub exact : (facts : Known) (k : ℕ) (c : Comes facts (value k)) (f : Form) → form facts ≡ Some f → IsExactBy c.numbers t f c.value.number
+    pub sides : (at : State) (k : ℕ) (c : Comes at.facts (value k)) (b : Bool) → (c.value.number == 0) ≡ not b → AreTrueBy c.numbers (side b at).facts
 
 -- ---- values that come of values
 

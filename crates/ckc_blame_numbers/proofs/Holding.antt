@@ -1,8 +1,9 @@
 -- Forms are exact, conditions tell, and so the facts of the next point are true.
-use Rattle.std.proofs.Common.{◌≡◌, refl, sym, ap, subst, ◌∙◌, ℕ, Bool, true, false, arith}
+use Rattle.std.proofs.Common.{◌≡◌, inl, refl, sym, ap, subst, ◌∙◌, ℕ, Bool, true, false, ℤ, arith}
 use Rattle.std.specs.Prelude.{◌==◌, ◌<◌, ◌^◌, ◌%◌, not, if◌then◌else◌, length, slice_set, Option, None, Some, IfSome, Ok}
 use Rattle.ckc_base.specs.declared.arithmetic.Width.TheVariants.{Byte, Word}
 use Rattle.ckc_base.specs.Memory.{kept_part}
+use Rattle.ckc_types.specs.declared.types.CType.{CType}
 use Rattle.ckc_linear.specs.declared.forms.Form.{Form}
 use Rattle.ckc_typed.specs.declared.environment.Globals.{Globals}
 use Rattle.ckc_typed.specs.Trees.{NotedExpr}
@@ -17,15 +18,17 @@ use Rattle.ckc_bounds_statements.specs.Paths.{Here, maybe_side, side_of, value_f
 use Rattle.ckc_source.specs.declared.outcome.Value.{Value}
 use Rattle.ckc_source.specs.Code.{Expr}
 use Rattle.ckc_source.specs.Eval.{Store, evaluated}
+use Rattle.ckc_source.specs.Words.{exact}
 use Rattle.ckc_build_elaborate.specs.Steps.{condition}
-use Rattle.ckc_build_values.specs.Kinds.{width_of}
+use Rattle.ckc_build_values.specs.Kinds.{width_of, integer_of}
 use Rattle.ckc_build_values.specs.Expressions.{expr_elaborated}
 use Rattle.ckc_blame_sound.specs.Settings.{Setting}
 use Rattle.ckc_blame_sound.specs.Values.{value, value_in, number_of, AreTrue, HoldWords, IsWordOf, IsNumberOf}
+use Rattle.ckc_blame_sound.specs.Variables.{HaveValues, AreTrueBy}
 use Rattle.ckc_blame_sound.proofs.Flow.{facts_assigned_hold, integer_value}
 use Rattle.ckc_blame_sound.proofs.Typed.{number_in_type}
 use Rattle.ckc_blame_numbers.specs.Typed.{IsTyped, IsTypedIf, Agrees}
-use Rattle.ckc_blame_numbers.specs.Exact.{IsExact}
+use Rattle.ckc_blame_numbers.specs.Exact.{IsExactBy, IsExact}
 use Rattle.ckc_blame_numbers.proofs.Claims.{Comes, plain_is}
 use Rattle.ckc_blame_numbers.proofs.Types.{wide_word, byte_word}
 use Rattle.ckc_blame_numbers.proofs.Sums.{byte_exact, word_exact}
@@ -34,15 +37,37 @@ use Rattle.ckc_blame_numbers.proofs.Exprs.{expr_holds}
 module _ (globals : Globals) (s : Setting) (agrees : Agrees globals s) where
   module _ (e : NotedExpr) (literals : ℕ) (store : Store) (v : Value) (typed : IsTyped globals s e) (words : HoldWords s.frame store.locals)
       (is : evaluated store (expr_elaborated s.text s.variables literals e) ≡ Ok v) where
-    abbrev come : (facts : Known) → AreTrue s.frame store.locals facts → Comes s.frame facts (expr_elaborated s.text s.variables literals e)
-    come facts all = record { store = store; words = words; facts_hold = all; value = v; is = is }
+    -- by numbers of variables that give the locals theirs
+    module _ (numbers : ℕ → ℤ) (fits : HaveValues s.frame store.locals numbers) where
+      abbrev come : (facts : Known) → AreTrueBy numbers facts → Comes s.frame facts (expr_elaborated s.text s.variables literals e)
+      come facts all = record { store = store; words = words; numbers = numbers; fits = fits; facts_hold = all; value = v; is = is }
+
+      pub exact_by : (facts : Known) → AreTrueBy numbers facts → (f : Form) → (view s.frame e).form facts ≡ Some f → IsExactBy numbers e.note.ctype f v.number
+      exact_by facts all f there = ((expr_holds globals s agrees e).claims typed).exact facts literals (come facts all) f there
+
+      pub form_exact_in : (facts : Known) → AreTrueBy numbers facts → (f : Form) → (view s.frame e).form facts ≡ Some f → exact (integer_of e.note.ctype) v.number ≡ number_of numbers f
+      form_exact_in facts all f there = (exact_by facts all f there).number
+
+      -- what is received in a type is a number of it
+      pub received_exact : (facts : Known) → AreTrueBy numbers facts → (t : CType) (f : Form) → in_type facts t ((view s.frame e).form facts) ≡ Some f
+          → IsExactBy numbers e.note.ctype f v.number × IsNumberOf t (number_of numbers f)
+      received_exact facts all t f there =
+          let n = number_in_type numbers (fits 0 (inl refl)) facts all t ((view s.frame e).form facts) f there in
+          (exact_by facts all f n.0, n.1)
+
+      pub side_told_by : (at : State) (side : Bool) → AreTrueBy numbers at.facts → (v.number == 0) ≡ not side → AreTrueBy numbers (side_of s.frame side e at).facts
+      unfolding side_of
+      side_told_by at side all zero_is = ((expr_holds globals s agrees e).claims typed).sides at literals (come at.facts all) side zero_is
+
+    -- the values of the locals are such numbers
+    abbrev own : HaveValues s.frame store.locals (value s.frame store.locals)
+    own = λ x known. refl
 
     pub form_exact : (facts : Known) (f : Form) → AreTrue s.frame store.locals facts → (view s.frame e).form facts ≡ Some f → IsExact s.frame store.locals e.note.ctype f v.number
-    form_exact facts f all there = ((expr_holds globals s agrees e).claims typed).exact facts literals (come facts all) f there
+    form_exact facts f all there = exact_by (value s.frame store.locals) own facts all f there
 
     pub side_told : (at : State) (side : Bool) → AreTrue s.frame store.locals at.facts → (v.number == 0) ≡ not side → AreTrue s.frame store.locals (side_of s.frame side e at).facts
-    unfolding side_of
-    side_told at side all zero_is = ((expr_holds globals s agrees e).claims typed).sides at literals (come at.facts all) side zero_is
+    side_told at side all zero_is = side_told_by (value s.frame store.locals) own at side all zero_is
 
     -- the word that is kept is what the form of the value in the type of the local stands for
     kept_exact : (l : Local) (facts : Known) → AreTrue s.frame store.locals facts → is_integer l.ctype ≡ true
@@ -52,8 +77,8 @@ module _ (globals : Globals) (s : Setting) (agrees : Agrees globals s) where
       where
         kept_by : (f : Form) → IsExact s.frame store.locals e.note.ctype f v.number → IsNumberOf l.ctype (number_of (value s.frame store.locals) f) → (b : Bool) → is_char l.ctype ≡ b
             → IsExact s.frame store.locals l.ctype f (kept_part (if b then Byte else Word) v.number)
-        kept_by f x r true c = byte_exact s.frame store.locals l.ctype e.note.ctype f v.number i c x r
-        kept_by f x r false c = word_exact s.frame store.locals l.ctype e.note.ctype f v.number i c x r
+        kept_by f x r true c = byte_exact (value s.frame store.locals) l.ctype e.note.ctype f v.number i c x r
+        kept_by f x r false c = word_exact (value s.frame store.locals) l.ctype e.note.ctype f v.number i c x r
 
         by : (o : Option Form) → in_type facts l.ctype ((view s.frame e).form facts) ≡ o
             → IfSome o (λ f. value_in (Some l) (kept_part (width_of l.ctype) v.number) ≡ number_of (value s.frame store.locals) f)

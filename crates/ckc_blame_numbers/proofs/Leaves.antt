@@ -31,11 +31,12 @@ use Rattle.ckc_source.specs.Eval.{given, plain, operates, evaluated}
 use Rattle.ckc_build_values.specs.Expressions.{local_in, named}
 use Rattle.ckc_build_values.specs.Operators.{converted, cast}
 use Rattle.ckc_blame_sound.specs.Settings.{Setting}
-use Rattle.ckc_blame_sound.specs.Values.{value, AreTrue, number_of, IsNumberOf}
+use Rattle.ckc_blame_sound.specs.Values.{number_of, IsNumberOf}
+use Rattle.ckc_blame_sound.specs.Variables.{AreTrueBy}
 use Rattle.ckc_blame_sound.proofs.Typed.{number_in_type}
 use Rattle.ckc_blame_numbers.specs.Typed.{Agrees}
-use Rattle.ckc_blame_numbers.specs.Exact.{IsExact}
-use Rattle.ckc_blame_numbers.proofs.Claims.{IsConstant, IsVariable, Comes, Claims, given_is, plain_is}
+use Rattle.ckc_blame_numbers.specs.Exact.{IsExactBy}
+use Rattle.ckc_blame_numbers.proofs.Claims.{IsConstant, IsVariable, Comes, zero_is, Claims, given_is, plain_is}
 use Rattle.ckc_blame_numbers.proofs.Types.{some_is, none_is_some, IsWide, number_wide, size_wide, sign_row, no_pointer, in_type_integer}
 use Rattle.ckc_blame_numbers.proofs.Sums.{byte_exact, word_exact}
 use Rattle.ckc_blame_numbers.proofs.Nodes.{no_claims, constant_claims, local_claims, form_claims, not_side}
@@ -88,7 +89,7 @@ module _ (frame : Frame) where
       (λ at k c b side.
       let z = given_is (evaluated c.store (v k)) (λ (x : Value). plain (flag (x.number == 0))) c.value c.is in
       let n : c.value.number ≡ flag (z.0.number == 0) = plain_is (flag (z.0.number == 0)) c.value z.2 in
-      let inside : Comes frame at.facts (v k) = record { store = c.store; words = c.words; facts_hold = c.facts_hold; value = z.0; is = z.1 } in
+      let inside : Comes frame at.facts (v k) = record { store = c.store; words = c.words; numbers = c.numbers; fits = c.fits; facts_hold = c.facts_hold; value = z.0; is = z.1 } in
       claims.sides at k inside (not b) (not_side (z.0.number == 0) b (ap (λ m. m == 0) (sym n) ∙ side)))
 
   -- a conversion to an integer type
@@ -97,28 +98,28 @@ module _ (frame : Frame) where
       → Claims frame r None None (λ facts. in_type facts r (form facts)) side (λ k. cast t x (v k))
   cast_claims t u r x number variable' form inner side v claims same is =
       form_claims frame r (λ facts. in_type facts r (form facts)) side (λ k. cast t x (v k))
-      (λ facts k c g h. exactly facts k c g h) (λ at k c b h. subst (AreTrue frame c.store.locals) (sym (same b at)) c.facts_hold)
+      (λ facts k c g h. exactly facts k c g h) (λ at k c b h. subst (AreTrueBy c.numbers) (sym (same b at)) c.facts_hold)
     where
       -- the value before the conversion
       before : (k : ℕ) → is_integer r ≡ true → cast t x (v k) ≡ converted r (v k)
       before k i = ap (λ y. cast y x (v k)) (sym is) ∙ ap (λ (b : Bool). if b && not (same_element r x) then Bare (v k) else converted r (v k)) (no_pointer r i)
 
-      exactly : (facts : Known) (k : ℕ) (c : Comes frame facts (cast t x (v k))) (g : Form) → in_type facts r (form facts) ≡ Some g → IsExact frame c.store.locals r g c.value.number
+      exactly : (facts : Known) (k : ℕ) (c : Comes frame facts (cast t x (v k))) (g : Form) → in_type facts r (form facts) ≡ Some g → IsExactBy c.numbers r g c.value.number
       exactly facts k c g h =
           let i : is_integer r ≡ true = in_type_integer facts r (form facts) g h in
-          let f = number_in_type (value frame c.store.locals) refl facts c.facts_hold r (form facts) g h in
+          let f = number_in_type c.numbers (zero_is frame facts (cast t x (v k)) c) facts c.facts_hold r (form facts) g h in
           by i f.0 f.1 (is_char r) refl (sym (ap (evaluated c.store) (before k i)) ∙ c.is)
         where
-          by : is_integer r ≡ true → form facts ≡ Some g → IsNumberOf r (number_of (value frame c.store.locals) g) → (b : Bool) → is_char r ≡ b
-              → evaluated c.store (if b then Narrow (v k) else v k) ≡ Ok c.value → IsExact frame c.store.locals r g c.value.number
+          by : is_integer r ≡ true → form facts ≡ Some g → IsNumberOf r (number_of c.numbers g) → (b : Bool) → is_char r ≡ b
+              → evaluated c.store (if b then Narrow (v k) else v k) ≡ Ok c.value → IsExactBy c.numbers r g c.value.number
           by i there within true narrow e =
               let z = given_is (evaluated c.store (v k)) (λ (y : Value). plain (y.number % 256)) c.value e in
-              let inside : Comes frame facts (v k) = record { store = c.store; words = c.words; facts_hold = c.facts_hold; value = z.0; is = z.1 } in
-              subst (IsExact frame c.store.locals r g) (sym (plain_is (z.0.number % 256) c.value z.2))
-              (byte_exact frame c.store.locals r u g z.0.number i narrow (claims.exact facts k inside g there) within)
+              let inside : Comes frame facts (v k) = record { store = c.store; words = c.words; numbers = c.numbers; fits = c.fits; facts_hold = c.facts_hold; value = z.0; is = z.1 } in
+              subst (IsExactBy c.numbers r g) (sym (plain_is (z.0.number % 256) c.value z.2))
+              (byte_exact c.numbers r u g z.0.number i narrow (claims.exact facts k inside g there) within)
           by i there within false narrow e =
-              let inside : Comes frame facts (v k) = record { store = c.store; words = c.words; facts_hold = c.facts_hold; value = c.value; is = e } in
-              word_exact frame c.store.locals r u g c.value.number i narrow (claims.exact facts k inside g there) within
+              let inside : Comes frame facts (v k) = record { store = c.store; words = c.words; numbers = c.numbers; fits = c.fits; facts_hold = c.facts_hold; value = c.value; is = e } in
+              word_exact c.numbers r u g c.value.number i narrow (claims.exact facts k inside g there) within
 
 -- a name
 module _ (globals : Globals) (s : Setting) (agrees : Agrees globals s) where

@@ -6,6 +6,7 @@ pub mod Sides
 pub mod Nodes
 pub mod Leaves
 pub mod Exprs
+pub mod Known
 pub mod Holding
 pub mod Judging
 pub mod Statements

@@ -1,5 +1,5 @@
 -- What comparisons say of their operands is true.
-use Rattle.std.proofs.Common.{◌≡◌, ⊎_elim, refl, sym, ap, subst, ◌∙◌, ℕ, Bool, true, false, List, [], ◌∷◌, ℤ, ◌+ℤ◌, ◌≤ℤ◌, arith}
+use Rattle.std.proofs.Common.{◌≡◌, inr, ⊎_elim, refl, sym, ap, subst, ◌∙◌, ℕ, Bool, true, false, [], ◌∷◌, ℤ, ◌+ℤ◌, ◌≤ℤ◌, arith}
 use Rattle.std.specs.Prelude.{◌+◌, ◌<◌, ◌≤◌, ◌^◌, ◌==◌, ◌&&◌, not, int_lt, if◌then◌else◌, ◌++◌, slice_index, pos, ◌-ℤ◌, Option, None, Some}
 use Rattle.std.proofs.lemmas.Int.{ints}
 use Rattle.ckc_base.specs.Words.{signed}
@@ -24,12 +24,13 @@ use Rattle.ckc_source.specs.Code.{Expr}
 use Rattle.ckc_source.specs.Eval.{evaluated}
 use Rattle.ckc_source.specs.Words.{exact, computed}
 use Rattle.ckc_build_values.specs.Kinds.{integer_of}
-use Rattle.ckc_blame_sound.specs.Values.{value, AreTrue, number_of, IsWordOf}
+use Rattle.ckc_blame_sound.specs.Values.{value, number_of, IsWordOf}
+use Rattle.ckc_blame_sound.specs.Variables.{AreTrueBy}
 use Rattle.ckc_blame_sound.proofs.Facts.{Hold, fact_added}
 use Rattle.ckc_blame_sound.proofs.Flow.{variable_value, integer_value}
 use Rattle.ckc_blame_numbers.proofs.Words.{read, Says, contrary, compares, said_true, said_false, signed_is}
 use Rattle.ckc_blame_numbers.proofs.Types.{some_is, none_is_some, unsigned_is, char_is, int_is, word_byte}
-use Rattle.ckc_blame_numbers.proofs.Claims.{IsConstant, IsVariable, Comes, Claims, plain_is}
+use Rattle.ckc_blame_numbers.proofs.Claims.{IsConstant, IsVariable, Comes, zero_is, Claims, plain_is}
 
 -- ---- the facts of a comparison
 
@@ -137,7 +138,7 @@ module _ (frame : Frame) (t : CType) (value' : ℕ → Expr) (facts : Known) (k 
   pub local_word : (f : Form) (is : IsVariable frame t value' f) → c.value.number ≡ slice_index c.store.locals is.number
   local_word f is = plain_is (slice_index c.store.locals is.number) c.value (sym (ap (evaluated c.store) (is.value_is k)) ∙ c.is)
 
-  pub local_value : (f : Form) (is : IsVariable frame t value' f) → number_of (value frame c.store.locals) f ≡ exact (integer_of t) c.value.number
+  pub local_value : (f : Form) (is : IsVariable frame t value' f) → number_of c.numbers f ≡ exact (integer_of t) c.value.number
   local_value f is =
       let word : c.value.number ≡ slice_index c.store.locals is.number = local_word f is in
       let whole : is_integer is.local.ctype ≡ true = subst (λ u. is_integer u ≡ true) (sym is.same) is.integer in
@@ -145,7 +146,8 @@ module _ (frame : Frame) (t : CType) (value' : ℕ → Expr) (facts : Known) (k 
       variable_value frame c.store.locals is.number is.local is.there ∙ integer_value is.local (slice_index c.store.locals is.number) whole in
       let typed : exact (integer_of is.local.ctype) (slice_index c.store.locals is.number) ≡ exact (integer_of t) c.value.number =
       ap (λ u. exact (integer_of u) (slice_index c.store.locals is.number)) is.same ∙ ap (exact (integer_of t)) (sym word) in
-      ap (number_of (value frame c.store.locals)) is.form ∙ none_more (value frame c.store.locals (is.number + 1)) ∙ at ∙ typed
+      let own : c.numbers (is.number + 1) ≡ value frame c.store.locals (is.number + 1) = c.fits (is.number + 1) (inr (is.number, is.local, refl, is.there, whole)) in
+      ap (number_of c.numbers) is.form ∙ none_more (c.numbers (is.number + 1)) ∙ own ∙ at ∙ typed
     where
       none_more : (z : ℤ) → z +ℤ pos 0 ≡ z
       none_more z = omega (arith, ints)
@@ -155,7 +157,7 @@ module _ (frame : Frame) (t : CType) (value' : ℕ → Expr) (facts : Known) (k 
 
   -- a local is read as its value, if it is compared in its type
   local_read : (f : Form) → IsVariable frame t value' f → (uns a b : Bool) → is_unsigned t ≡ a → is_char t ≡ b → (uns ≡ true → a ≡ true) → (uns ≡ false → a ≡ false)
-      → number_of (value frame c.store.locals) f ≡ read (not uns) c.value.number
+      → number_of c.numbers f ≡ read (not uns) c.value.number
   local_read f is true a b u h up down = local_value f is ∙ ap (λ i. exact i c.value.number) (unsigned_is t is.integer (u ∙ up refl))
   local_read f is false a true u h up down =
       local_value f is ∙ ap (λ i. exact i c.value.number) (char_is t h) ∙ sym (signed_low c.value.number (word_byte t c.value.number h (local_fits f is)))
@@ -164,11 +166,11 @@ module _ (frame : Frame) (t : CType) (value' : ℕ → Expr) (facts : Known) (k 
   module _ (e : View) (typed : e.ctype ≡ t) (claims : Claims frame t e.number e.variable e.form e.side value') where
     -- What an operand of a comparison stands for is what the comparison reads, if it reads an unsigned type as unsigned.
     pub operand_read : (uns : Bool) (f : Form) → (uns ≡ false → is_unsigned t ≡ false) → operand uns e ≡ Some f
-        → (is_integer t ≡ true) × (number_of (value frame c.store.locals) f ≡ read (not uns) c.value.number)
+        → (is_integer t ≡ true) × (number_of c.numbers f ≡ read (not uns) c.value.number)
     operand_read uns f only h = by e.number refl h
       where
         by_local : (b : Bool) → uns ≡ b → (a : Bool) → is_unsigned t ≡ a → ◌≡◌ {A = Option Form} (if b && not a then None else e.variable) (Some f)
-            → (is_integer t ≡ true) × (number_of (value frame c.store.locals) f ≡ read (not uns) c.value.number)
+            → (is_integer t ≡ true) × (number_of c.numbers f ≡ read (not uns) c.value.number)
         by_local true n false u v = none_is_some f v
         by_local true n true u v =
             let is : IsVariable frame t value' f = claims.local f v in
@@ -178,10 +180,10 @@ module _ (frame : Frame) (t : CType) (value' : ℕ → Expr) (facts : Known) (k 
             (is.integer, local_read f is uns (is_unsigned t) (is_char t) refl refl (λ m. absurd (cc)) only)
 
         by : (o : Option Constant) → e.number ≡ o → operand_of uns e o ≡ Some f
-            → (is_integer t ≡ true) × (number_of (value frame c.store.locals) f ≡ read (not uns) c.value.number)
+            → (is_integer t ≡ true) × (number_of c.numbers f ≡ read (not uns) c.value.number)
         by (Some d) there h =
             let is : IsConstant frame t value' d = claims.constant d there in
-            let r = constant_read (value frame c.store.locals) refl d.word d.unsigned uns (value_of d) f refl is.word (λ n. sym is.unsigned ∙ only n) h in
+            let r = constant_read c.numbers (zero_is frame facts (value' k) c) d.word d.unsigned uns (value_of d) f refl is.word (λ n. sym is.unsigned ∙ only n) h in
             (is.integer, r ∙ ap (read (not uns)) (sym (constant_word d is)))
         by None there h =
             by_local uns refl (is_unsigned t) refl (subst (λ u. ◌≡◌ {A = Option Form} (if uns && not (is_unsigned u) then None else e.variable) (Some f)) typed h)
@@ -209,22 +211,22 @@ nonzero_same frame op.Ne e f side at = by f.is_zero
 nonzero_same frame o e f side at = refl
 
 -- A side of a comparison has facts that are true, if its operands are read so.
-pub operands_hold : (frame : Frame) (locals : List ℕ) (o : TreeOp) (e f : View) (side s : Bool) (a b : ℕ) (at : State) → is_comparison o ≡ true
-    → (computed (operation_of o) s a b == 0) ≡ not side → AreTrue frame locals at.facts → (x y : Option Form)
-    → ((g h : Form) → x ≡ Some g → y ≡ Some h → (number_of (value frame locals) g ≡ read s a) × (number_of (value frame locals) h ≡ read s b))
-    → AreTrue frame locals (by_operands frame o e f side x y at).facts
-operands_hold frame locals o e f side s a b at c v all (Some g) (Some h) says = by at.reached
+pub operands_hold : (frame : Frame) (numbers : ℕ → ℤ) (o : TreeOp) (e f : View) (side s : Bool) (a b : ℕ) (at : State) → is_comparison o ≡ true
+    → (computed (operation_of o) s a b == 0) ≡ not side → AreTrueBy numbers at.facts → (x y : Option Form)
+    → ((g h : Form) → x ≡ Some g → y ≡ Some h → (number_of numbers g ≡ read s a) × (number_of numbers h ≡ read s b))
+    → AreTrueBy numbers (by_operands frame o e f side x y at).facts
+operands_hold frame numbers o e f side s a b at c v all (Some g) (Some h) says = by at.reached
   where
-    both : (number_of (value frame locals) g ≡ read s a) × (number_of (value frame locals) h ≡ read s b)
+    both : (number_of numbers g ≡ read s a) × (number_of numbers h ≡ read s b)
     both = says g h refl refl
 
-    claim : Says (operation_of (holding o side)) (number_of (value frame locals) g) (number_of (value frame locals) h)
+    claim : Says (operation_of (holding o side)) (number_of numbers g) (number_of numbers h)
     claim =
-        subst (λ n. Says (operation_of (holding o side)) n (number_of (value frame locals) h)) (sym both.0)
+        subst (λ n. Says (operation_of (holding o side)) n (number_of numbers h)) (sym both.0)
         (subst (λ n. Says (operation_of (holding o side)) (read s a) n) (sym both.1) (holding_says o s side a b c v))
 
-    by : (r : Bool) → AreTrue frame locals (if r then record at { facts = said (holding o side) g h at.facts } else at).facts
-    by true = said_holds (value frame locals) (holding o side) g h at.facts claim all
+    by : (r : Bool) → AreTrueBy numbers (if r then record at { facts = said (holding o side) g h at.facts } else at).facts
+    by true = said_holds numbers (holding o side) g h at.facts claim all
     by false = all
-operands_hold frame locals o e f side s a b at c v all (Some g) None says = subst (AreTrue frame locals) (sym (nonzero_same frame o e f side at)) all
-operands_hold frame locals o e f side s a b at c v all None y says = subst (AreTrue frame locals) (sym (nonzero_same frame o e f side at)) all
+operands_hold frame numbers o e f side s a b at c v all (Some g) None says = subst (AreTrueBy numbers) (sym (nonzero_same frame o e f side at)) all
+operands_hold frame numbers o e f side s a b at c v all None y says = subst (AreTrueBy numbers) (sym (nonzero_same frame o e f side at)) all

@@ -1,8 +1,9 @@
 //! What follows from the definitions alone, each the contract of a function that does nothing. Nothing is asked of the mode
 //! of the code that ran before: the laws hold after unchecked steps too.
 
-ghost use Rattle.std.specs.Prelude.{◌≡◌, ℕ, ◌==◌, ◌<◌, ◌^◌, true, not, if◌then◌else◌, Bool, List, [], ◌∷◌, length, Option, Some, Ok};
+ghost use Rattle.std.specs.Prelude.{◌≡◌, ℕ, ◌==◌, ◌<◌, ◌^◌, true, not, if◌then◌else◌, Bool, List, [], ◌∷◌, length, ℤ, Option, Some, Ok};
 ghost use Rattle.ckc_base.specs.declared.arithmetic.Width.{Width};
+ghost use Rattle.ckc_types.specs.declared.types.CType.{CType};
 ghost use Rattle.ckc_linear.specs.declared.forms.Form.{Form};
 ghost use Rattle.ckc_typed.specs.declared.environment.Globals.{Globals};
 ghost use Rattle.ckc_typed.specs.Trees.{NotedExpr};
@@ -11,6 +12,7 @@ ghost use Rattle.ckc_bounds_points.specs.declared.frame.Local.{Local};
 ghost use Rattle.ckc_bounds_points.specs.Shown.{Known};
 ghost use Rattle.ckc_bounds_points.specs.Frames.{local_at};
 ghost use Rattle.ckc_bounds_points.specs.Flow.{State};
+ghost use Rattle.ckc_bounds_points.specs.Forms.{in_type};
 ghost use Rattle.ckc_bounds_views.specs.Views.{view};
 ghost use Rattle.ckc_bounds_statements.specs.Paths.{Here, side_of};
 ghost use Rattle.ckc_source.specs.declared.outcome.Value.{Value};
@@ -23,20 +25,38 @@ ghost use Rattle.ckc_source.specs.Steps.{store_of, bundled};
 ghost use Rattle.ckc_source.specs.Eval.{Store, evaluated};
 ghost use Rattle.ckc_build_values.specs.Expressions.{expr_elaborated};
 ghost use Rattle.ckc_blame_sound.specs.Settings.{Setting};
-ghost use Rattle.ckc_blame_sound.specs.Values.{AreTrue, HoldWords};
+ghost use Rattle.ckc_blame_sound.specs.Values.{AreTrue, HoldWords, IsNumberOf, number_of};
+ghost use Rattle.ckc_blame_sound.specs.Variables.{AreTrueBy, HaveValues, IsKnownVariable};
 ghost use Rattle.ckc_blame_sound.specs.Steps.{IsStep, IsCondition};
 ghost use Rattle.ckc_blame_numbers.specs.Typed.{IsTyped, IsTypedIf, IsTypedStmt, Agrees};
-ghost use Rattle.ckc_blame_numbers.specs.Exact.{IsExact};
+ghost use Rattle.ckc_blame_numbers.specs.Exact.{IsExact, IsExactBy};
 
 /// If the facts of a point are true, the form that an expression has there stands for exactly the integer that the
-/// expression comes to, if it comes to a value.
+/// expression comes to, if it comes to a value: by the values of the locals, and by any numbers of variables that give the
+/// locals theirs. The form names no other variable. What is received in an integer type is a number of it.
 pub fn forms_are_exact()
-    ensures { (globals : Globals) (s : Setting) (e : NotedExpr) (literals : ℕ) (facts : Known)
+    ensures own { (globals : Globals) (s : Setting) (e : NotedExpr) (literals : ℕ) (facts : Known)
         (f : Form) (store : Store) (v : Value) → Agrees globals s → IsTyped globals s e
         → HoldWords s.frame store.locals → AreTrue s.frame store.locals facts
         → (view s.frame e).form facts ≡ Some f
         → evaluated store (expr_elaborated s.text s.variables literals e) ≡ Ok v
         → IsExact s.frame store.locals e.note.ctype f v.number }
+    ensures under { (globals : Globals) (s : Setting) (e : NotedExpr) (literals : ℕ) (facts : Known)
+        (f : Form) (store : Store) (v : Value) (numbers : ℕ → ℤ) → Agrees globals s
+        → IsTyped globals s e → HoldWords s.frame store.locals
+        → HaveValues s.frame store.locals numbers → AreTrueBy numbers facts
+        → (view s.frame e).form facts ≡ Some f
+        → evaluated store (expr_elaborated s.text s.variables literals e) ≡ Ok v
+        → IsExactBy numbers e.note.ctype f v.number }
+    ensures received { (globals : Globals) (s : Setting) (e : NotedExpr) (literals : ℕ)
+        (facts : Known) (t : CType) (f : Form) (store : Store) (v : Value) (numbers : ℕ → ℤ)
+        → Agrees globals s → IsTyped globals s e → HoldWords s.frame store.locals
+        → HaveValues s.frame store.locals numbers → AreTrueBy numbers facts
+        → in_type facts t ((view s.frame e).form facts) ≡ Some f
+        → evaluated store (expr_elaborated s.text s.variables literals e) ≡ Ok v
+        → IsExactBy numbers e.note.ctype f v.number × IsNumberOf t (number_of numbers f) }
+    ensures named { (frame : Frame) (e : NotedExpr) (facts : Known) (f : Form)
+        → (view frame e).form facts ≡ Some f → IsKnownVariable frame f.var }
 {}
 
 /// What a condition says on a side of it is true if it comes to that side.

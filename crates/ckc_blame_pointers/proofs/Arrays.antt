@@ -1,6 +1,6 @@
 -- The claims of a static array by its name.
 use Rattle.std.proofs.Common.{◌≡◌, inl, inr, refl, sym, ap, subst, ◌∙◌, ℕ, zero, suc, Bool, true, false, List, [], ◌∷◌, rules, arith}
-use Rattle.std.specs.Prelude.{◌+◌, ◌-◌, ◌*◌, ◌%◌, ◌==◌, ◌<◌, ◌^◌, ◌&&◌, ◌||◌, not, if◌then◌else◌, slice_get, length, pos, ◌+ℤ◌, ◌*ℤ◌, Option, None, Some, is_some}
+use Rattle.std.specs.Prelude.{◌+◌, ◌-◌, ◌*◌, ◌%◌, ◌==◌, ◌<◌, ◌^◌, ◌&&◌, ◌||◌, not, if◌then◌else◌, slice_get, length, pos, ◌+ℤ◌, ◌*ℤ◌, None, Some, is_some}
 use Rattle.std.specs.Option.{option_or}
 use Rattle.std.specs.List.{list_any}
 use Rattle.std.proofs.Math.IntN.{pos-*ℤ-pos}
@@ -16,7 +16,6 @@ use Rattle.ckc_linear.specs.declared.forms.Form.{Form}
 use Rattle.ckc_syntax.specs.declared.tree.Name.TheVariants as name
 use Rattle.ckc_syntax.specs.declared.tree.Node.{Node-F}
 use Rattle.ckc_base.specs.declared.places.Pos.{Pos}
-use Rattle.ckc_typed.specs.declared.typed.Range.{Range}
 use Rattle.ckc_typed.specs.declared.typed.Range.TheVariants as range
 use Rattle.ckc_typed.specs.Constants.{size_of}
 use Rattle.ckc_typed.specs.Conversions.{is_terminated_kind}

@@ -25,7 +25,6 @@ use Rattle.ckc_typed.specs.Trees.{NotedLimits, NotedNode, NotedExpr, NotedLayer}
 use Rattle.ckc_typed.specs.Types.{type_written, is_integer, is_pointer, is_void, kind_of, element_of}
 use Rattle.ckc_typed_welltyped.specs.Expressions.{AnyLimits, AnyNode}
 use Rattle.ckc_typed_welltyped.proofs.Nodes.{node_of, node_rolled}
-use Rattle.ckc_bounds_points.specs.Shown.{Known}
 use Rattle.ckc_bounds_points.specs.Flow.{State}
 use Rattle.ckc_bounds_ranges.specs.Rows.{range_of_local}
 use Rattle.ckc_bounds_views.specs.Parts.{LimitsView, NodeView, View, NodeOfViews, fresh_behind}
@@ -45,21 +44,21 @@ use Rattle.ckc_typed.specs.Layouts.{member_number}
 use Rattle.ckc_build_values.specs.Kinds.{integer_of, width_of, size_behind, count_of_kind, tag_of}
 use Rattle.ckc_build_values.specs.Members.{offset_of, count_of_member}
 use Rattle.ckc_build_values.specs.Places.{element_place, target_place, member_place, read_at}
-use Rattle.ckc_build_values.specs.Expressions.{node_address, Part, NodePart, LimitsPart, local_in, expr_elaborated, limits_parts, node_parts, expr_parts, node_value, part_of, part_of_node, part_of_limits}
+use Rattle.ckc_build_values.specs.Expressions.{node_address, Part, NodePart, LimitsPart, local_in, limits_parts, node_parts, expr_parts, node_value, part_of, part_of_node, part_of_limits}
 use Rattle.ckc_build_values.specs.Operators.{of_operands}
 use Rattle.ckc_blame_sound.specs.Settings.{Setting}
-use Rattle.ckc_blame_sound.specs.Values.{AreTrue, HoldWords, number_of}
+use Rattle.ckc_blame_sound.specs.Values.{AreTrue}
 use Rattle.ckc_blame_sound.specs.Points.{HoldsAt}
 use Rattle.ckc_blame_numbers.specs.Typed.{IsRow, HasRow, IsTyped, Agrees}
 use Rattle.ckc_blame_numbers.proofs.Exprs as numbers
-use Rattle.ckc_blame_numbers.proofs.Holding.{form_exact, side_told}
+use Rattle.ckc_blame_numbers.proofs.Holding.{form_exact, form_exact_in, side_told}
 use Rattle.ckc_blame_numbers.proofs.Types.{no_pointer, IsWide, number_wide, size_wide}
 use Rattle.ckc_blame_sound.specs.Bodies.{AreFresh}
-use Rattle.ckc_blame_pointers.specs.Valuations.{Valuation, Fits, AreTrueIn, address_by}
+use Rattle.ckc_blame_pointers.specs.Valuations.{address_by}
 use Rattle.ckc_blame_pointers.specs.Covered.{DeclareLocals, DeclareOnes, IsSoundStore, IsElement, IsSingle, IsArrow, IsPointerArrow, IsAddressed, IsCoveredNode, IsCoveredExpr, IsCovered}
 use Rattle.ckc_blame_pointers.specs.Meant.{IsNotStuck}
 use Rattle.ckc_blame_pointers.proofs.Claims.{Claims, weaker, holds_on}
-use Rattle.ckc_blame_pointers.proofs.Forms.{form_known}
+use Rattle.ckc_blame_numbers.proofs.Known.{form_known}
 use Rattle.ckc_blame_pointers.proofs.Inside.{EveryNode, PartsEvery, parts_every, node_every, node_out, one_part, two_parts, three_parts, IsJudged, judged_is, operand_is}
 use Rattle.ckc_blame_pointers.proofs.Nodes.{node_fresh, NodeClaims}
 use Rattle.ckc_blame_pointers.proofs.Binary.{ExprClaims, other_claims, unequal_claims, and_claims, or_claims}
@@ -80,12 +79,7 @@ use Rattle.ckc_blame_pointers.proofs.Arrays.{array_claims}
 use Rattle.ckc_blame_pointers.proofs.Pointers.{pointer_claims}
 use Rattle.ckc_blame_pointers.proofs.Leaves.{number_claims, size_claims, null_claims, local_claims, minus_claims, plus_claims, flip_claims, not_claims, cast_claims, choice_claims}
 
--- The form of an integer is what it comes to under each valuation, by any facts that are true of that.
-abbrev pub IsFormExact : Globals → Setting → Type 0
-IsFormExact globals s = (e : NotedExpr) (literals : ℕ) (store : Store) (x : Value) → IsTyped globals s e → HoldWords s.frame store.locals → evaluated store (expr_elaborated s.text s.variables literals e) ≡ Ok x
-    → (v : Valuation) → Fits s.frame store.locals v → (facts : Known) (f : Form) → AreTrueIn v facts → (view s.frame e).form facts ≡ Some f → exact (integer_of e.note.ctype) x.number ≡ number_of v.numbers f
-
-module _ (globals : Globals) (s : Setting) (agrees : Agrees globals s) (exact_in : IsFormExact globals s) (declares : DeclareLocals s) (store : Store) (entry : List ℕ) (next : ℕ) (ready : IsSoundStore s store next) where
+module _ (globals : Globals) (s : Setting) (agrees : Agrees globals s) (declares : DeclareLocals s) (store : Store) (entry : List ℕ) (next : ℕ) (ready : IsSoundStore s store next) where
   record AnyLimitsHold (l : NotedLimits) : Type 0 where
     pub any : Unit {0}
 
@@ -155,7 +149,7 @@ module _ (globals : Globals) (s : Setting) (agrees : Agrees globals s) (exact_in
     index_of v fits facts (inl same) g there =
         let at_point : (view s.frame e).form here.at.facts ≡ Some g = ap (view s.frame e).form (sym same) ∙ there in
         (form_exact globals s agrees e k store x typed h.words is here.at.facts g h.facts at_point).number ∙ ap (λ n. n +ℤ g.add) (sym (fits g.var (form_known s.frame e here.at.facts g at_point)))
-    index_of v fits facts (inr told) g there = exact_in e k store x typed h.words is v fits facts g told there
+    index_of v fits facts (inr told) g there = form_exact_in globals s agrees e k store x typed h.words is v.numbers fits facts told g there
 
     facts_told : (b : Bool) → (x.number == 0) ≡ not b → AreTrue s.frame store.locals ((view s.frame e).side b here.at).facts
     unfolding side_of

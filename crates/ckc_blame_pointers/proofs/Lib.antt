@@ -4,7 +4,6 @@ pub mod Numbers
 pub mod Claims
 pub mod Reading
 pub mod Moving
-pub mod Forms
 pub mod Rows
 pub mod Nodes
 pub mod Binary

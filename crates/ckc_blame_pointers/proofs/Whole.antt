@@ -21,11 +21,11 @@ use Rattle.ckc_blame_sound.specs.Bodies.{AreFresh}
 use Rattle.ckc_blame_pointers.specs.Meant.{IsNotStuck, HasPlace, IsMeant}
 use Rattle.ckc_blame_pointers.proofs.Binary.{ExprClaims}
 use Rattle.ckc_blame_pointers.proofs.Claims.{weaker}
-use Rattle.ckc_blame_pointers.proofs.Exprs.{IsFormExact, point_of, expr_claims}
+use Rattle.ckc_blame_pointers.proofs.Exprs.{point_of, expr_claims}
 use Rattle.ckc_blame_pointers.proofs.Later.{extends_self}
 use Rattle.ckc_blame_texts.proofs.SameViews.{same_view}
 
-module _ (globals : Globals) (s : Setting) (agrees : Agrees globals s) (exact_in : IsFormExact globals s) (declares : DeclareLocals s) (store : Store) (entry : List ℕ) (next : ℕ) (ready : IsSoundStore s store next) (here : Here) where
+module _ (globals : Globals) (s : Setting) (agrees : Agrees globals s) (declares : DeclareLocals s) (store : Store) (entry : List ℕ) (next : ℕ) (ready : IsSoundStore s store next) (here : Here) where
   meant : (e : NotedExpr) → IsTyped globals s e → HoldsAt s store entry here → (k : ℕ) (p : Value) → evaluated store (expr_elaborated s.text s.variables k e) ≡ Ok p
       → ExprClaims s store entry here e p → IsMeant s store entry here (view s.frame e) p
   meant e typed h k p is c = record {
@@ -44,7 +44,7 @@ module _ (globals : Globals) (s : Setting) (agrees : Agrees globals s) (exact_in
           readable = q.readable;
           numbers = q.numbers;
         });
-    sides = λ b side. point_of globals s agrees exact_in declares store entry next ready here h e typed k p is c b side;
+    sides = λ b side. point_of globals s agrees declares store entry next ready here h e typed k p is c b side;
   }
     where
       viewed : (view s.frame e).ctype ≡ e.note.ctype
@@ -60,5 +60,5 @@ module _ (globals : Globals) (s : Setting) (agrees : Agrees globals s) (exact_in
       let good : IsTyped globals s after = (judged_typed globals s before after fresh here.at typed is).0 in
       subst (λ v. IsNotStuck (IsMeant s store entry here v) (evaluated store (expr_elaborated s.text s.variables literals after))) same
       (weaker (evaluated store (expr_elaborated s.text s.variables literals after))
-      (expr_claims globals s agrees exact_in declares store entry next ready after good here covered h fresh (subst (λ (v : View). fresh + length (v.fresh here.at) < 2 ^ 32) (sym same) little) are (subst (λ (v : View). v.judged fresh here.at ≡ Ok after) (sym same) is) literals)
+      (expr_claims globals s agrees declares store entry next ready after good here covered h fresh (subst (λ (v : View). fresh + length (v.fresh here.at) < 2 ^ 32) (sym same) little) are (subst (λ (v : View). v.judged fresh here.at ≡ Ok after) (sym same) is) literals)
       (λ p there c. meant after good h literals p there c))

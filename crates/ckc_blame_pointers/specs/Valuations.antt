@@ -1,17 +1,12 @@
 -- What forms over values and fresh variables stand for: a valuation says it.
-use Rattle.std.specs.Prelude.{◌≡◌, ◌⊎◌, ℕ, ◌<◌, ◌≤◌, ◌+◌, true, List, [], ◌∷◌, slice_index, ℤ, pos, Option, None, Some, IfSome}
-use Rattle.std.specs.List.{All}
+use Rattle.std.specs.Prelude.{◌≡◌, ◌⊎◌, ℕ, ◌<◌, ◌≤◌, true, List, [], ◌∷◌, slice_index, ℤ, pos, Option, None, Some, IfSome}
 use Rattle.ckc_types.specs.declared.types.CType.{CType}
 use Rattle.ckc_linear.specs.declared.forms.Base.{Base}
 use Rattle.ckc_linear.specs.declared.forms.Base.TheVariants as base
 use Rattle.ckc_linear.specs.declared.forms.Form.{Form}
-use Rattle.ckc_linear.specs.Facts.{Satisfies}
 use Rattle.ckc_typed.specs.declared.typed.Range as noted
 use Rattle.ckc_typed.specs.declared.typed.Range.TheVariants as range
-use Rattle.ckc_typed.specs.Types.{is_integer}
 use Rattle.ckc_bounds_points.specs.declared.frame.Frame.{Frame}
-use Rattle.ckc_bounds_points.specs.declared.frame.Local.{Local}
-use Rattle.ckc_bounds_points.specs.Frames.{local_at}
 use Rattle.ckc_bounds_points.specs.Shown.{Known}
 use Rattle.ckc_bounds_views.specs.Parts.{capped}
 use Rattle.ckc_source.specs.declared.outcome.Range.TheVariants.{Within}
@@ -22,21 +17,17 @@ use Rattle.ckc_source.specs.Words.{elements_behind}
 use Rattle.ckc_build_values.specs.Kinds.{pointee_of, size_behind}
 use Rattle.ckc_build_values.specs.Names.{address_of}
 use Rattle.ckc_blame_sound.specs.Settings.{Setting}
-use Rattle.ckc_blame_sound.specs.Values.{value, number_of, IsNumberOf}
+use Rattle.ckc_blame_sound.specs.Values.{number_of, IsNumberOf}
+use Rattle.ckc_blame_sound.specs.Variables.{HaveValues, AreTrueBy}
 
 -- the numbers that the variables of forms stand for, and the addresses that pointers stand for which are their own base
 pub record Valuation : Type 0 where
   pub numbers : ℕ → ℤ
   pub addresses : ℕ → ℕ
 
--- the variable 0, or that of an integer local; no other variable stands in facts and in forms of integers
-abbrev pub IsKnownVariable : Frame → ℕ → Type 0
-IsKnownVariable frame x =
-    (x ≡ 0) ⊎ ((k : ℕ) × (l : Local) × (x ≡ k + 1) × (local_at frame k ≡ Some l) × (is_integer l.ctype ≡ true))
-
--- A valuation gives these their own numbers. Of fresh variables it may say anything.
+-- A valuation gives the variable 0 and those of integer locals their own numbers. Of fresh variables it may say anything.
 abbrev pub Fits : Frame → List ℕ → Valuation → Type 0
-Fits frame locals v = (x : ℕ) → IsKnownVariable frame x → v.numbers x ≡ value frame locals x
+Fits frame locals v = HaveValues frame locals v.numbers
 
 -- A valuation says the same as another one of what is numbered below: of values below the first of some, and of
 -- variables up to that of the local in front of the first fresh one.
@@ -46,7 +37,7 @@ pub record Extends (first fresh : ℕ) (before after : Valuation) : Type 0 where
 
 -- Facts are true of the numbers of a valuation.
 abbrev pub AreTrueIn : Valuation → Known → Type 0
-AreTrueIn v facts = All (Satisfies v.numbers) facts.list
+AreTrueIn v facts = AreTrueBy v.numbers facts
 
 -- Variables, of which the first is variable x, stand for numbers of their types.
 abbrev pub AreNumbers : (ℕ → ℤ) → ℕ → List CType → Type 0

@@ -1,5 +1,6 @@
 pub mod Settings
 pub mod Values
+pub mod Variables
 pub mod Points
 pub mod Bodies
 pub mod Steps

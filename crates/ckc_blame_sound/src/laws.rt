@@ -1,6 +1,6 @@
 //! What follows from the definitions alone, each the contract of a function that does nothing.
 
-ghost use Rattle.std.specs.Prelude.{◌≡◌, ℕ, ◌<◌, true, List, length, slice_set, Option, None, Some, IfSome};
+ghost use Rattle.std.specs.Prelude.{◌≡◌, ℕ, ℤ, pos, ◌<◌, true, List, length, slice_set, Option, None, Some, IfSome};
 ghost use Rattle.ckc_types.specs.declared.types.CType.{CType};
 ghost use Rattle.ckc_linear.specs.declared.facts.Fact.{Fact};
 ghost use Rattle.ckc_linear.specs.declared.forms.Form.{Form};
@@ -16,15 +16,22 @@ ghost use Rattle.ckc_bounds_statements.specs.Paths.{Here};
 ghost use Rattle.ckc_source.specs.Eval.{Store};
 ghost use Rattle.ckc_blame_sound.specs.Settings.{Setting};
 ghost use Rattle.ckc_blame_sound.specs.Values.{value, value_in, AreTrue, number_of, IsWordOf, HoldWords, IsNumberOf};
+ghost use Rattle.ckc_blame_sound.specs.Variables.{AreTrueBy};
 ghost use Rattle.ckc_blame_sound.specs.Points.{HoldsAt, IsKnown, GoesTo};
 
-/// What facts show is true wherever they are, and a form in an integer type stands for a number of that type.
+/// What facts show is true wherever they are, and a form in an integer type stands for a number of that type: by the values
+/// of the locals, and by any numbers of variables.
 pub fn shown_is_true()
     ensures shown { (frame : Frame) (locals : List ℕ) (facts : Known) (f : Fact) →
         AreTrue frame locals facts → is_shown facts f ≡ true → Satisfies (value frame locals) f }
     ensures in_type { (frame : Frame) (locals : List ℕ) (facts : Known) (t : CType)
         (form : Option Form) (f : Form) → AreTrue frame locals facts → in_type facts t form ≡ Some f
         → (form ≡ Some f) × IsNumberOf t (number_of (value frame locals) f) }
+    ensures shown_by { (numbers : ℕ → ℤ) (facts : Known) (f : Fact) →
+        AreTrueBy numbers facts → is_shown facts f ≡ true → Satisfies numbers f }
+    ensures in_type_by { (numbers : ℕ → ℤ) (facts : Known) (t : CType) (form : Option Form)
+        (f : Form) → numbers 0 ≡ pos 0 → AreTrueBy numbers facts → in_type facts t form ≡ Some f
+        → (form ≡ Some f) × IsNumberOf t (number_of numbers f) }
 {}
 
 /// What holds at a point holds at each point that control goes to from there.

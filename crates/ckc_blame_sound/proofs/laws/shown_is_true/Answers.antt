@@ -8,4 +8,6 @@ pub returns : goal.returns
 returns c = record {
   shown = λ frame locals facts f all shown. shown_true facts (value frame locals) f all shown;
   in_type = λ frame locals facts t form f all e. number_in_type (value frame locals) refl facts all t form f e;
+  shown_by = λ numbers facts f all shown. shown_true facts numbers f all shown;
+  in_type_by = λ numbers facts t form f zero_is all e. number_in_type numbers zero_is facts all t form f e;
 }

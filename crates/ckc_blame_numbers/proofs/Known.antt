@@ -24,7 +24,7 @@ use Rattle.ckc_bounds_views.specs.declared.forms.Step.{Step}
 use Rattle.ckc_bounds_views.specs.Parts.{LimitsView, NodeView, View, NodeOfViews}
 use Rattle.ckc_bounds_views.specs.Integers.{step_of, form_after, form_of_node, constant_or}
 use Rattle.ckc_bounds_views.specs.Views.{limits_view, node_view, expr_view, view_of_limits, view_of_node, view}
-use Rattle.ckc_blame_pointers.specs.Valuations.{IsKnownVariable}
+use Rattle.ckc_blame_sound.specs.Variables.{IsKnownVariable}
 
 module _ (frame : Frame) where
   -- a form of an integer, if there is one, is over known variables
