@@ -1,6 +1,6 @@
 -- The claims of `&*p` and `&p[e]`, which are those of p and of `p + e`, as pointers of another kind.
-use Rattle.std.proofs.Common.{◌≡◌, inl, inr, ⊎_elim, refl, sym, ap, subst, ◌∙◌, ℕ, Bool, true, false, List, arith, rules}
-use Rattle.std.specs.Prelude.{◌+◌, ◌<◌, ◌≤◌, ◌^◌, ◌&&◌, if◌then◌else◌, pos, IfSome, Option, None, Some}
+use Rattle.std.proofs.Common.{◌≡◌, inl, inr, ⊎_elim, refl, sym, ap, subst, ◌∙◌, ℕ, Bool, true, false, List, ◌++◌, arith, rules}
+use Rattle.std.specs.Prelude.{◌+◌, ◌<◌, ◌≤◌, ◌^◌, ◌&&◌, length, if◌then◌else◌, pos, IfSome, Option, None, Some}
 use Rattle.std.specs.Option.{option_or}
 use Rattle.ckc_types.specs.declared.types.Kind.TheVariants as kind
 use Rattle.ckc_types.specs.declared.types.Kind.{Kind}
@@ -23,8 +23,10 @@ use Rattle.ckc_typed.specs.declared.typed.Range.TheVariants as range
 use Rattle.ckc_typed.specs.Constants.{size_of}
 use Rattle.ckc_typed.specs.Conversions.{is_terminated_kind}
 use Rattle.ckc_typed.specs.Types.{is_pointer, is_pointer_form, kind_of, kind_in, element_of, element_in}
+use Rattle.ckc_bounds_points.specs.Shown.{Known}
+use Rattle.ckc_bounds_points.specs.Flow.{State}
 use Rattle.ckc_bounds_points.specs.Forms.{base_form, sum_of_forms}
-use Rattle.ckc_bounds_views.specs.Parts.{NodeView, capped, fresh_behind}
+use Rattle.ckc_bounds_views.specs.Parts.{NodeView, capped, next_behind, fresh_behind}
 use Rattle.ckc_bounds_views.specs.Places.{with_own, binary_place, pointer_place}
 use Rattle.ckc_bounds_views.specs.Ranges.{range_of_operand, pointer_range}
 use Rattle.ckc_bounds_views.specs.Views.{node_view, expr_view, view}
@@ -36,69 +38,64 @@ use Rattle.ckc_build_values.specs.Kinds.{pointee_of, size_behind}
 use Rattle.ckc_blame_sound.specs.Settings.{Setting}
 use Rattle.ckc_blame_sound.specs.Points.{HoldsAt}
 use Rattle.ckc_blame_sound.specs.Bodies.{AreFresh}
-use Rattle.ckc_blame_pointers.specs.Valuations.{Valuation, Fits, address_by, IsAtPlace, HasEnds, IsInRange, BaseBelow, RangeBelow}
-use Rattle.ckc_blame_pointers.proofs.Claims.{IsOfLocal, Placed, SideGoes, stays, nothing_read}
-use Rattle.ckc_blame_pointers.proofs.Moving.{with_address, address_added, address_kept, base_weaker, range_weaker, address_same, at_base, still_fits}
+use Rattle.ckc_blame_pointers.specs.Valuations.{Valuation, Fits, Extends, address_by, IsAtPlace, HasEnds, IsInRange, IsReadIn, BaseBelow}
+use Rattle.ckc_blame_pointers.proofs.Claims.{IsOfLocal, Placed, SideGoes, stays, nothing_read, placed_as}
+use Rattle.ckc_blame_pointers.proofs.Moving.{with_address, address_added, address_kept, base_weaker, range_weaker, at_base}
+use Rattle.ckc_blame_pointers.proofs.Later.{extends_less, extends_on, still_fits, next_more}
+use Rattle.ckc_blame_pointers.proofs.Unwidened.{right_fresh_is}
 use Rattle.ckc_blame_numbers.proofs.Types.{word_wide}
 use Rattle.ckc_blame_pointers.proofs.Binary.{ExprClaims}
-use Rattle.ckc_blame_pointers.proofs.Nodes.{NodeClaims, narrow}
+use Rattle.ckc_blame_pointers.proofs.Nodes.{node_fresh, NodeClaims, narrow}
 use Rattle.ckc_blame_pointers.proofs.Rows.{pointer_word}
 use Rattle.ckc_blame_pointers.proofs.Truths.{true_bare}
 
 module _ (s : Setting) (store : Store) (entry : List ℕ) (here : Here) where
   -- ---- a pointer that stands for itself if it has no place
 
-  module _ (t : CType) (limit most : ℕ) (place : Option Form) (r : Range) (first fresh : ℕ) (before : Valuation) (v : Value) (p : Placed s store entry here t limit place r first fresh before v)
-      (zero : p.after.numbers 0 ≡ pos 0) (n : ℕ) (from : first ≤ n) (over : limit ≤ n) (under : n < most) where
+  module _ (t : CType) (limit most : ℕ) (place : Known → Option Form) (r : State → Range) (types : List CType) (first fresh : ℕ) (before : Valuation) (v : Value) (p : Placed s store entry here t limit place r types first fresh before v)
+      (little : fresh + length types < 2 ^ 32) (are : AreFresh s.frame fresh) (fits : Fits s.frame store.locals before) (n : ℕ) (from : first ≤ n) (over : limit ≤ n) (under : n < most) where
     abbrev after : Valuation
     after = with_address n v.number p.after
 
-    range_there : (q : Range) → r ≡ q → IsInRange s store after t q v
-    range_there range.Missing e = tt
-    range_there range.Any e = subst (λ q. IsInRange s store p.after t q v) e p.range_is
-    range_there (range.Known low high) e = ⊎_elim (λ null. inl null) (λ (ends : HasEnds s store p.after t low high v). inr (record {
-      from = ends.from;
-      to = ends.to;
-      range = ends.range;
-      low_is = ends.low_is ∙ sym (address_same s store entry here t p.after n v.number low (base_weaker limit n low.base over below.0));
-      high_is = ends.high_is ∙ sym (address_same s store entry here t p.after n v.number high (base_weaker limit n high.base over below.1));
-      true_there = ends.true_there;
-    })) (subst (λ q. IsInRange s store p.after t q v) e p.range_is)
-      where
-        below : BaseBelow limit low.base × BaseBelow limit high.base
-        below = subst (RangeBelow limit) e p.range_below
+    own_kept : (first last : ℕ) → first ≤ n → Extends first last p.after after
+    own_kept first last up = record { addresses = λ k below. address_kept n v.number p.after k (omega (arith, below, up)); numbers = λ x below. refl }
 
-    wider_limit : limit ≤ most
-    wider_limit = omega (arith, over, under)
+    part : (later : Valuation) → Extends most (next_behind fresh types) after later → Extends limit (next_behind fresh types) p.after later
+    part later ext =
+        extends_on limit (next_behind fresh types) p.after after later (own_kept limit (next_behind fresh types) over)
+        (extends_less limit (next_behind fresh types) most (next_behind fresh types) after later (omega (arith, over, under)) (omega arith) ext)
 
-    pub or_own : Placed s store entry here t most (option_or place (Some (base_form (base.Value n)))) r first fresh before v
-    or_own = by place refl
+    fits_later : (later : Valuation) → Extends most (next_behind fresh types) after later → Fits s.frame store.locals later
+    fits_later later ext =
+        still_fits s store.locals 0 fresh after later are (still_fits s store.locals first fresh before after are fits (extends_on first fresh before p.after after p.extends (own_kept first fresh from)))
+        (extends_less 0 fresh most (next_behind fresh types) after later (omega arith) (next_more fresh types little) ext)
+
+    pub or_own : Placed s store entry here t most (λ facts. option_or (place facts) (Some (base_form (base.Value n)))) r types first fresh before v
+    or_own = record {
+      after = after;
+      extends = extends_on first fresh before p.after after p.extends (own_kept first fresh from);
+      place_below = λ facts. below (place facts) (p.place_below facts);
+      range_below = range_weaker limit most (r here.at) (omega (arith, over, under)) p.range_below;
+      of_local = λ facts. local (place facts) (p.of_local facts);
+      place_in = λ later ext facts told. at_place later ext (place facts) (p.place_in later (part later ext) facts told);
+      range_is = λ later ext. p.range_is later (part later ext);
+      readable = λ widened bounded later ext. p.readable widened bounded later (part later ext);
+      numbers = λ later ext. p.numbers later (part later ext);
+    }
       where
-        by : (o : Option Form) → place ≡ o → Placed s store entry here t most (option_or o (Some (base_form (base.Value n)))) r first fresh before v
-        by (Some h) e = record {
-          after = p.after;
-          place_below = base_weaker limit most h.base wider_limit (subst (λ (o : Option Form). IfSome o (λ f. BaseBelow limit f.base)) e p.place_below);
-          range_below = range_weaker limit most r wider_limit p.range_below;
-          of_local = subst (λ (o : Option Form). IfSome o (λ f. IsOfLocal s t f.base)) e p.of_local;
-          extends = p.extends;
-          place_is = subst (λ o. IsAtPlace s store.locals p.after t o v.number) e p.place_is;
-          range_is = p.range_is;
-        }
-        by None e = record {
-          after = after;
-          place_below = under;
-          range_below = range_weaker limit most r wider_limit p.range_below;
-          of_local = tt;
-          extends = record {
-            addresses = λ k below. address_kept n v.number p.after k (less k below from) ∙ p.extends.addresses k below;
-            numbers = p.extends.numbers;
-          };
-          place_is = sym (at_base s store entry here t after zero (base.Value n) ∙ ap pos (address_added n v.number p.after));
-          range_is = range_there r refl;
-        }
-          where
-            less : (k : ℕ) → k < first → first ≤ n → k < n
-            less k below from = omega arith
+        below : (o : Option Form) → IfSome o (λ f. BaseBelow limit f.base) → IfSome (option_or o (Some (base_form (base.Value n)))) (λ f. BaseBelow most f.base)
+        below (Some h) there = base_weaker limit most h.base (omega (arith, over, under)) there
+        below None there = under
+
+        local : (o : Option Form) → IfSome o (λ f. IsOfLocal s t f.base) → IfSome (option_or o (Some (base_form (base.Value n)))) (λ f. IsOfLocal s t f.base)
+        local (Some h) there = there
+        local None there = tt
+
+        at_place : (later : Valuation) → Extends most (next_behind fresh types) after later → (o : Option Form) → IsAtPlace s store.locals later t o v.number
+            → IsAtPlace s store.locals later t (option_or o (Some (base_form (base.Value n)))) v.number
+        at_place later ext (Some h) there = there
+        at_place later ext None there =
+            sym (at_base s store.locals t later (fits_later later ext 0 (inl refl)) (base.Value n) ∙ ap pos (ext.addresses n under ∙ address_added n v.number p.after))
 
   -- ---- a pointer of another type
 
@@ -138,16 +135,30 @@ module _ (s : Setting) (store : Store) (entry : List ℕ) (here : Here) where
     of_place None h = tt
     of_place (Some f) h = of_there f.base h
 
-    pub retyped : (limit : ℕ) (place : Option Form) (q : Range) (first fresh : ℕ) (before : Valuation) (p : Value) → Placed s store entry here t limit place q first fresh before p
-        → Placed s store entry here r limit place q first fresh before p
-    retyped limit place q first fresh before p h = record {
+    read_in : (v : Valuation) (q : Range) (n : ℕ) → IsReadIn s store v t q n → IsReadIn s store v r q n
+    read_in v range.Missing n h = tt
+    read_in v range.Any n h = h
+    read_in v (range.Known low high) n (inl null) = inl null
+    read_in v (range.Known low high) n (inr ends) = inr (record {
+      from = ends.from;
+      to = ends.to;
+      low_is = ends.low_is ∙ ap (λ n. address_by s store.locals v n low) size_same;
+      high_is = ends.high_is ∙ ap (λ n. address_by s store.locals v n high) size_same;
+      true_there = true_there n ends.from ends.to ends.true_there;
+    })
+
+    pub retyped : (limit : ℕ) (place : Known → Option Form) (q : State → Range) (types : List CType) (first fresh : ℕ) (before : Valuation) (p : Value) → Placed s store entry here t limit place q types first fresh before p
+        → Placed s store entry here r limit place q types first fresh before p
+    retyped limit place q types first fresh before p h = record {
       after = h.after;
+      extends = h.extends;
       place_below = h.place_below;
       range_below = h.range_below;
-      of_local = of_place place h.of_local;
-      extends = h.extends;
-      place_is = at_place h.after place p.number h.place_is;
-      range_is = in_range h.after q p h.range_is;
+      of_local = λ facts. of_place (place facts) (h.of_local facts);
+      place_in = λ later more facts told. at_place later (place facts) p.number (h.place_in later more facts told);
+      range_is = λ later more. in_range later (q here.at) p (h.range_is later more);
+      readable = λ widened bounded later more. read_in later (q (record here.at { widened = widened })) p.number (h.readable widened bounded later more);
+      numbers = h.numbers;
     }
 
 -- ---- the claims of an address
@@ -155,13 +166,13 @@ module _ (s : Setting) (store : Store) (entry : List ℕ) (here : Here) where
 module _ (s : Setting) (store : Store) (entry : List ℕ) (here : Here) (h : HoldsAt s store entry here) where
   -- what has the place and the range of a pointer to the same elements, by whatever numbers
   pub address_claims : (t r : CType) → element_of r ≡ element_of t → is_pointer r ≡ true → kind_of r ≡ Some kind.Arr → (n : NodeView) → n.behind ≡ None → n.is_zero ≡ false → ((b : Bool) → n.side b here.at ≡ here.at) → (p : Value) → p.number < 2 ^ 32
-      → ((first fresh : ℕ) (before : Valuation) → first + with_own r n + 1 < 2 ^ 32 → fresh < 2 ^ 32 → AreFresh s.frame fresh → Fits s.frame store.locals before
-      → Placed s store entry here t (first + with_own r n) (pointer_place r n first here.at.facts) (pointer_range r n first fresh here.at) first fresh before p)
+      → ((first fresh : ℕ) (before : Valuation) → first + with_own r n + 1 < 2 ^ 32 → fresh + length (node_fresh r n here.at) < 2 ^ 32 → AreFresh s.frame fresh → Fits s.frame store.locals before
+      → Placed s store entry here t (first + with_own r n) (pointer_place r n first) (pointer_range r n first fresh) (node_fresh r n here.at) first fresh before p)
       → NodeClaims s store entry here h r n p
   address_claims t r same pointer array n none some quiet p small placed = record {
     word = pointer_word r pointer p.number small;
     placed = λ first fresh before low little are fits.
-        retyped s store entry here t r same (ap is_terminated_kind array) (first + with_own r n) (pointer_place r n first here.at.facts) (pointer_range r n first fresh here.at) first fresh before p
+        retyped s store entry here t r same (ap is_terminated_kind array) (first + with_own r n) (pointer_place r n first) (pointer_range r n first fresh) (node_fresh r n here.at) first fresh before p
         (placed first fresh before low little are fits);
     one = λ ones one. let other = array in absurd (cc);
     zero = λ e. let other = some in absurd (cc);
@@ -186,12 +197,6 @@ module _ (s : Setting) (store : Store) (entry : List ℕ) (here : Here) (h : Hol
   abbrev pub address_view : NodeView → NodeView
   address_view n = node_view s.frame (Node-F.Un op.Address (expr_view (record { node = n; pos = place; note = note })))
 
-  placed_as : (t : CType) (m n : ℕ) (a b : Option Form) (q z : Range) (first fresh : ℕ) (before : Valuation) (p : Value) → m ≡ n → a ≡ b → q ≡ z → Placed s store entry here t n b z first fresh before p
-      → Placed s store entry here t m a q first fresh before p
-  placed_as t m n a b q z first fresh before p i j k c =
-      subst (λ m. Placed s store entry here t m a q first fresh before p) (sym i) (subst (λ a. Placed s store entry here t n a q first fresh before p) (sym j)
-      (subst (λ q. Placed s store entry here t n b q first fresh before p) (sym k) c))
-
   pub target_claims : (x : Value) → ExprClaims s store entry here e x → NodeClaims s store entry here h r (address_view (node_view s.frame (Node-F.Un op.Deref (view s.frame e)))) x
   target_claims x c =
       address_claims s store entry here h e.note.ctype r same pointer array made refl refl (λ b. nothing_read s store entry (λ facts. None) b here.at) x (word_wide e.note.ctype x.number c.word)
@@ -206,13 +211,13 @@ module _ (s : Setting) (store : Store) (entry : List ℕ) (here : Here) (h : Hol
       own_is : with_own r made ≡ capped (view s.frame e).values 1
       own_is = ap (λ b. if b && true then capped made.values 1 else made.values) pointer ∙ ap (λ n. capped n 1) values_is
 
-      place_is : (first : ℕ) → pointer_place r made first here.at.facts ≡ option_or ((view s.frame e).place first here.at.facts) (Some (base_form (base.Value (capped first (view s.frame e).values))))
-      place_is first =
-          ap (λ b. if b then option_or ((view s.frame e).place first here.at.facts) (Some (base_form (base.Value (capped first made.values)))) else None) pointer
-          ∙ ap (λ n. option_or ((view s.frame e).place first here.at.facts) (Some (base_form (base.Value (capped first n))))) values_is
+      place_is : (first : ℕ) (facts : Known) → pointer_place r made first facts ≡ option_or ((view s.frame e).place first facts) (Some (base_form (base.Value (capped first (view s.frame e).values))))
+      place_is first facts =
+          ap (λ b. if b then option_or ((view s.frame e).place first facts) (Some (base_form (base.Value (capped first made.values)))) else None) pointer
+          ∙ ap (λ n. option_or ((view s.frame e).place first facts) (Some (base_form (base.Value (capped first n))))) values_is
 
-      range_is : (first fresh : ℕ) → pointer_range r made first fresh here.at ≡ (view s.frame e).range first fresh here.at
-      range_is first fresh = ap (λ b. if b then (view s.frame e).range first fresh here.at else range.Missing) pointer
+      range_is : (first fresh : ℕ) (widened : List ℕ) → pointer_range r made first fresh (record here.at { widened = widened }) ≡ (view s.frame e).range first fresh (record here.at { widened = widened })
+      range_is first fresh widened = ap (λ b. if b then (view s.frame e).range first fresh (record here.at { widened = widened }) else range.Missing) pointer
 
       room : (first n : ℕ) → first + capped n 1 + 1 < 2 ^ 32 → (first + n + 1 < 2 ^ 32) × (first ≤ capped first n) × (first + n ≤ capped first n) × (capped first n < first + capped n 1)
       room first n low = (omega arith, omega arith, omega arith, omega arith)
@@ -220,13 +225,14 @@ module _ (s : Setting) (store : Store) (entry : List ℕ) (here : Here) (h : Hol
       placed_so : (first fresh : ℕ) (before : Valuation)
           → (first + (view s.frame e).values + 1 < 2 ^ 32) × (first ≤ capped first (view s.frame e).values) × (first + (view s.frame e).values ≤ capped first (view s.frame e).values)
           × (capped first (view s.frame e).values < first + capped (view s.frame e).values 1)
-          → fresh < 2 ^ 32 → AreFresh s.frame fresh → Fits s.frame store.locals before
-          → Placed s store entry here e.note.ctype (first + with_own r made) (pointer_place r made first here.at.facts) (pointer_range r made first fresh here.at) first fresh before x
+          → fresh + length ((view s.frame e).fresh here.at) < 2 ^ 32 → AreFresh s.frame fresh → Fits s.frame store.locals before
+          → Placed s store entry here e.note.ctype (first + with_own r made) (pointer_place r made first) (pointer_range r made first fresh) (node_fresh r made here.at) first fresh before x
       placed_so first fresh before there little are fits =
           let p = c.placed first fresh before there.0 little are fits in
-          placed_as e.note.ctype _ _ _ _ _ _ first fresh before x (ap (λ m. first + m) own_is) (place_is first) (range_is first fresh)
-          (or_own s store entry here e.note.ctype (first + (view s.frame e).values) (first + capped (view s.frame e).values 1) ((view s.frame e).place first here.at.facts) ((view s.frame e).range first fresh here.at)
-          first fresh before x p (still_fits s store.locals first fresh before p.after are fits p.extends 0 (inl refl)) (capped first (view s.frame e).values) there.1 there.2 there.3)
+          placed_as s store entry here e.note.ctype (first + capped (view s.frame e).values 1) (first + with_own r made) _ (pointer_place r made first) ((view s.frame e).range first fresh) (pointer_range r made first fresh) ((view s.frame e).fresh here.at)
+          (node_fresh r made here.at) first fresh before x (ap (λ m. first + m) own_is) (place_is first) (range_is first fresh) refl
+          (or_own s store entry here e.note.ctype (first + (view s.frame e).values) (first + capped (view s.frame e).values 1) ((view s.frame e).place first) ((view s.frame e).range first fresh) ((view s.frame e).fresh here.at)
+          first fresh before x p little are fits (capped first (view s.frame e).values) there.1 there.2 there.3)
 
   pub index_claims : (f : NotedExpr) → is_pointer e.note.ctype ≡ true → is_raw_kind (kind_of e.note.ctype) ≡ false → (view s.frame e).ctype ≡ e.note.ctype → (x : Value)
       → NodeClaims s store entry here h e.note.ctype (node_view s.frame (Node-F.Bin op.Add (view s.frame e) (view s.frame f))) x
@@ -234,7 +240,9 @@ module _ (s : Setting) (store : Store) (entry : List ℕ) (here : Here) (h : Hol
   index_claims f from checked viewed x c =
       address_claims s store entry here h e.note.ctype r same pointer array made refl refl (λ b. nothing_read s store entry (λ facts. None) b here.at) x (word_wide e.note.ctype x.number c.word)
       (λ first fresh before low little are fits.
-      placed_as e.note.ctype _ _ _ _ _ _ first fresh before x (ap (λ m. first + m) own_is) (place_is first) (range_is first fresh) (c.placed first fresh before (subst (λ m. first + m + 1 < 2 ^ 32) own_is low) little are fits))
+      placed_as s store entry here e.note.ctype (first + with_own e.note.ctype sum) (first + with_own r made) (pointer_place e.note.ctype sum first) (pointer_place r made first) (pointer_range e.note.ctype sum first fresh)
+      (pointer_range r made first fresh) (node_fresh e.note.ctype sum here.at) (node_fresh r made here.at) first fresh before x (ap (λ m. first + m) own_is) (place_is first) (range_is first fresh) types_are
+      (c.placed first fresh before (subst (λ m. first + m + 1 < 2 ^ 32) own_is low) (subst (λ us. fresh + length us < 2 ^ 32) types_are little) are fits))
     where
       made : NodeView
       made = address_view (node_view s.frame (Node-F.Index (view s.frame e) (view s.frame f)))
@@ -258,20 +266,26 @@ module _ (s : Setting) (store : Store) (entry : List ℕ) (here : Here) (h : Hol
       own_form : ℕ → Option Form
       own_form n = Some (base_form (base.Value n))
 
-      place_is : (first : ℕ) → pointer_place r made first here.at.facts ≡ pointer_place e.note.ctype sum first here.at.facts
-      place_is first =
-          ap (λ b. if b then option_or (if is_raw_kind (kind_of (view s.frame e).ctype) then None else sum_of_forms ((view s.frame e).place first here.at.facts) ((view s.frame f).form here.at.facts)) (own_form (capped first made.values)) else None) pointer
-          ∙ ap (λ b. option_or (if b then None else sum_of_forms ((view s.frame e).place first here.at.facts) ((view s.frame f).form here.at.facts)) (own_form (capped first made.values))) raw
-          ∙ ap (λ n. option_or (sum_of_forms ((view s.frame e).place first here.at.facts) ((view s.frame f).form here.at.facts)) (own_form (capped first n))) values_is
-          ∙ sym (ap (λ b. if b then option_or (if is_raw_kind (kind_of e.note.ctype) then None else binary_place first here.at.facts op.Add (view s.frame e) (view s.frame f)) (own_form (capped first sum.values)) else None) from
-          ∙ ap (λ b. option_or (if b then None else binary_place first here.at.facts op.Add (view s.frame e) (view s.frame f)) (own_form (capped first sum.values))) checked
-          ∙ ap (λ b. option_or (if b then sum_of_forms ((view s.frame e).place first here.at.facts) ((view s.frame f).form here.at.facts)
-          else sum_of_forms ((view s.frame f).place (capped first (view s.frame e).values) here.at.facts) ((view s.frame e).form here.at.facts)) (own_form (capped first sum.values))) view_pointer)
+      types_are : node_fresh r made here.at ≡ node_fresh e.note.ctype sum here.at
+      types_are = ap (λ us. (view s.frame e).fresh here.at ++ us) (sym (right_fresh_is s.frame op.Add (view s.frame e) f here.at))
 
-      range_is : (first fresh : ℕ) → pointer_range r made first fresh here.at ≡ pointer_range e.note.ctype sum first fresh here.at
-      range_is first fresh =
-          ap (λ b. if b then (if is_raw_kind (kind_of (view s.frame e).ctype) then range.Missing else (view s.frame e).range first fresh here.at) else range.Missing) pointer
-          ∙ ap (λ b. if b then range.Missing else (view s.frame e).range first fresh here.at) raw
-          ∙ sym (ap (λ b. if b then (if is_raw_kind (kind_of e.note.ctype) then range.Missing else range_of_operand (view s.frame e) (view s.frame f) first fresh here.at) else range.Missing) from
-          ∙ ap (λ b. if b then range.Missing else range_of_operand (view s.frame e) (view s.frame f) first fresh here.at) checked
-          ∙ ap (λ b. if b then (view s.frame e).range first fresh here.at else (view s.frame f).range (capped first (view s.frame e).values) (fresh_behind (view s.frame e) fresh here.at) here.at) view_pointer)
+      place_is : (first : ℕ) (facts : Known) → pointer_place r made first facts ≡ pointer_place e.note.ctype sum first facts
+      place_is first facts =
+          ap (λ b. if b then option_or (if is_raw_kind (kind_of (view s.frame e).ctype) then None else sum_of_forms ((view s.frame e).place first facts) ((view s.frame f).form facts)) (own_form (capped first made.values)) else None) pointer
+          ∙ ap (λ b. option_or (if b then None else sum_of_forms ((view s.frame e).place first facts) ((view s.frame f).form facts)) (own_form (capped first made.values))) raw
+          ∙ ap (λ n. option_or (sum_of_forms ((view s.frame e).place first facts) ((view s.frame f).form facts)) (own_form (capped first n))) values_is
+          ∙ sym (ap (λ b. if b then option_or (if is_raw_kind (kind_of e.note.ctype) then None else binary_place first facts op.Add (view s.frame e) (view s.frame f)) (own_form (capped first sum.values)) else None) from
+          ∙ ap (λ b. option_or (if b then None else binary_place first facts op.Add (view s.frame e) (view s.frame f)) (own_form (capped first sum.values))) checked
+          ∙ ap (λ b. option_or (if b then sum_of_forms ((view s.frame e).place first facts) ((view s.frame f).form facts)
+          else sum_of_forms ((view s.frame f).place (capped first (view s.frame e).values) facts) ((view s.frame e).form facts)) (own_form (capped first sum.values))) view_pointer)
+
+      range_is : (first fresh : ℕ) (widened : List ℕ) → pointer_range r made first fresh (record here.at { widened = widened }) ≡ pointer_range e.note.ctype sum first fresh (record here.at { widened = widened })
+      range_is first fresh widened =
+          ap (λ b. if b then (if is_raw_kind (kind_of (view s.frame e).ctype) then range.Missing else (view s.frame e).range first fresh (at widened)) else range.Missing) pointer
+          ∙ ap (λ b. if b then range.Missing else (view s.frame e).range first fresh (at widened)) raw
+          ∙ sym (ap (λ b. if b then (if is_raw_kind (kind_of e.note.ctype) then range.Missing else range_of_operand (view s.frame e) (view s.frame f) first fresh (at widened)) else range.Missing) from
+          ∙ ap (λ b. if b then range.Missing else range_of_operand (view s.frame e) (view s.frame f) first fresh (at widened)) checked
+          ∙ ap (λ b. if b then (view s.frame e).range first fresh (at widened) else (view s.frame f).range (capped first (view s.frame e).values) (fresh_behind (view s.frame e) fresh (at widened)) (at widened)) view_pointer)
+        where
+          at : List ℕ → State
+          at widened = record here.at { widened = widened }

@@ -1,6 +1,6 @@
 -- The claims of a static array by its name.
 use Rattle.std.proofs.Common.{◌≡◌, inl, inr, refl, sym, ap, subst, ◌∙◌, ℕ, zero, suc, Bool, true, false, List, [], ◌∷◌, rules, arith}
-use Rattle.std.specs.Prelude.{◌+◌, ◌-◌, ◌*◌, ◌%◌, ◌==◌, ◌<◌, ◌^◌, ◌&&◌, ◌||◌, not, if◌then◌else◌, slice_get, length, pos, ◌+ℤ◌, ◌*ℤ◌, Option, None, Some, is_some}
+use Rattle.std.specs.Prelude.{◌+◌, ◌-◌, ◌*◌, ◌%◌, ◌==◌, ◌<◌, ◌^◌, ◌&&◌, ◌||◌, not, if◌then◌else◌, slice_get, length, pos, ◌+ℤ◌, ◌*ℤ◌, None, Some, is_some}
 use Rattle.std.specs.Option.{option_or}
 use Rattle.std.specs.List.{list_any}
 use Rattle.std.proofs.Math.IntN.{pos-*ℤ-pos}
@@ -16,11 +16,11 @@ use Rattle.ckc_linear.specs.declared.forms.Form.{Form}
 use Rattle.ckc_syntax.specs.declared.tree.Name.TheVariants as name
 use Rattle.ckc_syntax.specs.declared.tree.Node.{Node-F}
 use Rattle.ckc_base.specs.declared.places.Pos.{Pos}
-use Rattle.ckc_typed.specs.declared.typed.Range.{Range}
 use Rattle.ckc_typed.specs.declared.typed.Range.TheVariants as range
 use Rattle.ckc_typed.specs.Constants.{size_of}
 use Rattle.ckc_typed.specs.Conversions.{is_terminated_kind}
 use Rattle.ckc_typed.specs.Types.{kind_of}
+use Rattle.ckc_bounds_points.specs.Shown.{Known}
 use Rattle.ckc_bounds_points.specs.Forms.{constant_form, base_form}
 use Rattle.ckc_bounds_ranges.specs.Rows.{readable, range_of_array}
 use Rattle.ckc_bounds_views.specs.Judged.{is_counted_kind}
@@ -45,12 +45,12 @@ use Rattle.ckc_blame_sound.specs.Settings.{Setting}
 use Rattle.ckc_blame_sound.specs.Sound.{AreObjects, IsTerminated, IsPlaced}
 use Rattle.ckc_blame_sound.specs.Points.{HoldsAt}
 use Rattle.ckc_blame_slots.proofs.Apart.{placed_at}
-use Rattle.ckc_blame_pointers.specs.Valuations.{Valuation}
+use Rattle.ckc_blame_pointers.specs.Valuations.{Valuation, Fits, address_by}
 use Rattle.ckc_blame_pointers.specs.Covered.{IsSoundStore, IsStaticArray}
 use Rattle.ckc_blame_pointers.specs.Meant.{IsNotStuck}
-use Rattle.ckc_blame_pointers.proofs.Claims.{Placed, SideGoes, stays, nothing_read}
+use Rattle.ckc_blame_pointers.proofs.Claims.{SideGoes, stays, nothing_read, still_placed, placed_as}
 use Rattle.ckc_blame_pointers.proofs.Moving.{at_base}
-use Rattle.ckc_blame_pointers.proofs.Nodes.{NodeClaims, narrow}
+use Rattle.ckc_blame_pointers.proofs.Nodes.{node_fresh, NodeClaims, narrow}
 use Rattle.ckc_blame_numbers.proofs.Types.{some_is}
 use Rattle.ckc_blame_pointers.proofs.Rows.{pointer_word}
 use Rattle.ckc_blame_pointers.proofs.Widening.{any_at, within_tests}
@@ -217,13 +217,13 @@ module _ (s : Setting) (store : Store) (entry : List ℕ) (next : ℕ) (ready : 
       array_there : is_array (slice_get s.frame.statics k) ≡ true
       array_there = ap is_array c.judged ∙ ap is_some c.array
 
-      place_is : (first : ℕ) → pointer_place t node first here.at.facts ≡ Some (base_form (base.Array k))
-      place_is first =
+      place_is : (first : ℕ) (facts : Known) → pointer_place t node first facts ≡ Some (base_form (base.Array k))
+      place_is first facts =
           ap (λ b. if b then option_or (if is_array (slice_get s.frame.statics k) then Some (base_form (base.Array k)) else None) (own_place node first) else None) c.pointer
           ∙ ap (λ b. option_or (if b then Some (base_form (base.Array k)) else None) (own_place node first)) array_there
 
-      range_is : (first fresh : ℕ) → pointer_range t node first fresh here.at ≡ range.Known (base_form (base.Array k)) high
-      range_is first fresh =
+      range_is : (first fresh : ℕ) (widened : List ℕ) → pointer_range t node first fresh (record here.at { widened = widened }) ≡ range.Known (base_form (base.Array k)) high
+      range_is first fresh widened =
           ap (λ b. if b then range_of_static s.frame k (slice_get s.frame.statics k) t (own_numbers node first fresh here.at).value else range.Missing) c.pointer
           ∙ ap (λ o. range_of_static s.frame k o t (own_numbers node first fresh here.at).value) c.judged ∙ ap (λ b. if b then range_of_array k c.object else range_of_object (slice_get s.frame.objects k) t (own_numbers node first fresh here.at).value) (ap is_some c.array)
 
@@ -240,27 +240,32 @@ module _ (s : Setting) (store : Store) (entry : List ℕ) (next : ℕ) (ready : 
           zero : v.numbers 0 ≡ pos 0 → v.numbers 0 +ℤ pos (readable c.object) ≡ pos (readable c.object)
           zero e = omega (arith, ints)
 
+      low_at : (v : Valuation) → Fits s.frame store.locals v → pos (address_of s.text k) ≡ address_by s store.locals v (size_behind s.text.layout t) (base_form (base.Array k))
+      low_at v fits = sym (at_base s store.locals t v (fits 0 (inl refl)) (base.Array k))
+
       made : NodeClaims s store entry here h t node value_there
       made = record {
         word = pointer_word t c.pointer (address_of s.text k) address_small;
         placed = λ first fresh before low little are fits.
-            subst (λ (f : Option Form). Placed s store entry here t (first + with_own t node) f (pointer_range t node first fresh here.at) first fresh before value_there) (sym (place_is first))
-            (subst (λ (r : Range). Placed s store entry here t (first + with_own t node) (Some (base_form (base.Array k))) r first fresh before value_there) (sym (range_is first fresh)) (record {
-              after = before;
-              place_below = tt;
-              range_below = (tt, tt);
-              of_local = tt;
-              extends = record { addresses = λ n h. refl; numbers = λ x h. refl };
-              place_is = sym (at_base s store entry here t before (fits 0 (inl refl)) (base.Array k));
-              range_is = inr (record {
-                from = address_of s.text k;
-                to = address_of s.text k + bytes_of s.text k;
-                range = refl;
-                low_is = sym (at_base s store entry here t before (fits 0 (inl refl)) (base.Array k));
-                high_is = high_at before (fits 0 (inl refl));
-                true_there = array_true;
-              });
-            }));
+            placed_as s store entry here t (first + with_own t node) (first + with_own t node) (λ facts. Some (base_form (base.Array k))) (pointer_place t node first) (λ at. range.Known (base_form (base.Array k)) high)
+            (pointer_range t node first fresh) [] (node_fresh t node here.at) first fresh before value_there refl (place_is first) (range_is first fresh) refl
+            (still_placed s store entry here t (first + with_own t node) (λ facts. Some (base_form (base.Array k))) (λ at. range.Known (base_form (base.Array k)) high) [] first fresh before value_there little are fits
+            (λ facts. tt) (tt, tt) (λ facts. tt) (λ v fits facts. low_at v fits)
+            (λ v fits. inr (record {
+              from = address_of s.text k;
+              to = address_of s.text k + bytes_of s.text k;
+              range = refl;
+              low_is = low_at v fits;
+              high_is = high_at v (fits 0 (inl refl));
+              true_there = array_true;
+            }))
+            (λ widened bounded v fits. inr (record {
+              from = address_of s.text k;
+              to = address_of s.text k + bytes_of s.text k;
+              low_is = low_at v fits;
+              high_is = high_at v (fits 0 (inl refl));
+              true_there = array_true;
+            })));
         one = λ ones e. let same : c.kind ≡ kind.One = some_is c.kind kind.One (sym c.kind_is ∙ e) in let single : is_counted_kind (Some c.kind) ≡ false = ap (λ q. is_counted_kind (Some q)) same in let counted = c.counted in absurd (cc);
         zero = λ e. absurd (cc);
         wide = λ e. narrow s store entry here h node refl;

@@ -1,6 +1,6 @@
 -- The claims of `p->m`, where a pointer is read.
 use Rattle.std.proofs.Common.{◌≡◌, ◌⊎◌, inl, inr, ⊎_elim, refl, sym, ap, subst, ◌∙◌, ℕ, Bool, true, false, List, [], ◌∷◌, ◌++◌, arith}
-use Rattle.std.specs.Prelude.{◌+◌, ◌<◌, ◌^◌, if◌then◌else◌, find, flat_map, pos, Option, None, Some, Result, IsOk}
+use Rattle.std.specs.Prelude.{◌+◌, ◌<◌, ◌^◌, if◌then◌else◌, length, find, flat_map, ℤ, pos, Option, None, Some, Result, IsOk}
 use Rattle.std.specs.List.{Contains}
 use Rattle.std.proofs.lemmas.Bool.{eqb-true}
 use Rattle.std.proofs.lemmas.List.Elements.{Contains-append_left, Contains-append_right}
@@ -19,7 +19,7 @@ use Rattle.ckc_typed.specs.Layouts.{member_number}
 use Rattle.ckc_typed.specs.Trees.{NotedExpr}
 use Rattle.ckc_typed.specs.Types.{kind_of, element_of}
 use Rattle.ckc_bounds_views.specs.declared.variables.Own.{Own}
-use Rattle.ckc_bounds_views.specs.Fresh.{is_checked, member_in}
+use Rattle.ckc_bounds_views.specs.Fresh.{is_checked, member_in, own_fresh}
 use Rattle.ckc_bounds_views.specs.Judged.{is_counted_kind}
 use Rattle.ckc_bounds_views.specs.Parts.{NodeView}
 use Rattle.ckc_bounds_views.specs.Ranges.{range_by_type, range_in_struct, range_of_member}
@@ -53,8 +53,10 @@ use Rattle.ckc_blame_pointers.proofs.Claims.{weaker, goes_on, nothing_read}
 use Rattle.ckc_blame_pointers.proofs.Binary.{ExprClaims}
 use Rattle.ckc_blame_pointers.proofs.Elements.{IsRanged}
 use Rattle.ckc_blame_pointers.proofs.Loads.{IsTested, element_goes, exact_goes, exact_is, reached_by, tested_pointer}
+use Rattle.ckc_blame_pointers.proofs.Later.{zero_typed}
+use Rattle.ckc_blame_pointers.proofs.Unwidened.{fresh_same}
 use Rattle.ckc_blame_pointers.proofs.Nodes.{NodeClaims}
-use Rattle.ckc_blame_pointers.proofs.Own.{fixed_reads, own_claims, same_count}
+use Rattle.ckc_blame_pointers.proofs.Own.{fixed_reads, own_claims, kind_below, kind_range, kind_one, same_count}
 use Rattle.ckc_blame_pointers.proofs.Reading.{Ranged}
 use Rattle.ckc_blame_pointers.proofs.Structures.{IsWholeElement, whole_element}
 use Rattle.ckc_blame_pointers.proofs.Truths.{first_reached}
@@ -70,7 +72,7 @@ found_slot f p (x ∷ ms) m e slot h = by (λ e. found_slot f p ms m e slot h) (
     by later false t e = let r = later e in (Contains-append_right (f x) (flat_map f ms) slot r.0, r.1)
 
 module _ (s : Setting) (store : Store) (entry : List ℕ) (next : ℕ) (ready : IsSoundStore s store next) (here : Here) (h : HoldsAt s store entry here) (e : NotedExpr) (n : Name) (spot : Pos) (t : CType)
-    (c : IsPointerArrow s store e n t) (viewed : (view s.frame e).ctype ≡ e.note.ctype) (fresh : ℕ) (few : (view s.frame e).values + 1 < 2 ^ 32) (little : fresh < 2 ^ 32) (are : AreFresh s.frame fresh) (place : Pos) (v : Expr)
+    (c : IsPointerArrow s store e n t) (viewed : (view s.frame e).ctype ≡ e.note.ctype) (fresh : ℕ) (few : (view s.frame e).values + 1 < 2 ^ 32) (little : fresh + length ((view s.frame e).fresh here.at) < 2 ^ 32) (are : AreFresh s.frame fresh) (place : Pos) (v : Expr)
     (left : IsNotStuck (ExprClaims s store entry here e) (evaluated store v))
     (ranged : is_counted_kind (kind_of e.note.ctype) ≡ true → (x : Value) → ExprClaims s store entry here e x → IsRanged s store entry next ready here h e fresh few little are x) where
   abbrev made : NodeView
@@ -106,15 +108,18 @@ module _ (s : Setting) (store : Store) (entry : List ℕ) (next : ℕ) (ready : 
   by_kind (Some kind.Raw) o = refl
   by_kind None o = refl
 
-  range_there : (own : Own) (first fresh : ℕ) → made.range t own first fresh here.at ≡ range_by_type (kind_of t) own.value
-  range_there own first fresh =
+  range_there : (own : Own) (first fresh : ℕ) (widened : List ℕ) → made.range t own first fresh (record here.at { widened = widened }) ≡ range_by_type (kind_of t) own.value
+  range_there own first fresh widened =
       ap (λ o. range_of_member s.frame.structs t o own) member_is ∙ ap (λ b. if is_checked (kind_of t) then range_in_struct (kind_of t) b own else range.Missing) c.judged ∙ by_kind (kind_of t) own.value
 
   comes : (x : Value) → (x.number < 2 ^ 32) × ((x.number ≡ 0) ⊎ Ranged store.shapes store.blocks to x.number (pos x.number) (elements_behind x.number to.size c.elements) x) → Made x
   comes x r =
-      own_claims s store entry here h t c.pointer made refl refl (λ first. refl) range_there x
-      (λ z f. subst (λ z. (x.number ≡ 0) ⊎ Ranged store.shapes store.blocks to x.number (pos x.number) (elements_behind x.number to.size z) x) (same_count c.elements z (sym c.counted ∙ f)) r.1)
-      refl refl (λ b. nothing_read s store entry (λ facts. None) b here.at) r.0
+      own_claims s store entry here h t c.pointer made refl refl (λ first facts. refl) (fresh_same s.frame e here.at) (λ own. range_by_type (kind_of t) own.value) range_there (kind_below s store entry t x (there x r.1)) x (pos 0)
+      refl refl (λ b. nothing_read s store entry (λ facts. None) b here.at) r.0 (zero_typed (own_fresh t made here.at.facts)) (kind_range s store entry t x (there x r.1) (own_fresh t made here.at.facts) (pos 0)) (kind_one s store entry t x (there x r.1))
+    where
+      there : (x : Value) → (x.number ≡ 0) ⊎ Ranged store.shapes store.blocks to x.number (pos x.number) (elements_behind x.number to.size c.elements) x → (z : ℤ) → count_of_kind (kind_of t) ≡ Some (count.Fixed z)
+          → (x.number ≡ 0) ⊎ Ranged store.shapes store.blocks to x.number (pos x.number) (elements_behind x.number to.size z) x
+      there x r z f = subst (λ z. (x.number ≡ 0) ⊎ Ranged store.shapes store.blocks to x.number (pos x.number) (elements_behind x.number to.size z) x) (same_count c.elements z (sym c.counted ∙ f)) r
 
   pub count_there : count_of_member s.text.layout tag_there n ≡ Some (count.Fixed c.elements)
   count_there =

@@ -48,7 +48,7 @@ module _ (s : Setting) (store : Store) (entry : List ℕ) where
   -- what is claimed of an expression at a point
   abbrev pub ExprClaims : Here → NotedExpr → Value → Type 0
   ExprClaims here e p =
-      Claims s store entry here e.note.ctype (view s.frame e).values (view s.frame e).place (view s.frame e).range (view s.frame e).behind (view s.frame e).target (view s.frame e).is_zero
+      Claims s store entry here e.note.ctype (view s.frame e).values (view s.frame e).place (view s.frame e).range (view s.frame e).fresh (view s.frame e).behind (view s.frame e).target (view s.frame e).is_zero
       (view s.frame e).side p
 
   pub small_value : (here : Here) (e : NotedExpr) (x : Result Value Halt) → IsNotStuck (ExprClaims here e) x → IsNotStuck IsSmall x

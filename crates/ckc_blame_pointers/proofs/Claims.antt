@@ -1,6 +1,6 @@
 -- What is claimed of an expression, by what is said of it and by what it becomes.
-use Rattle.std.proofs.Common.{◌≡◌, ◌⊎◌, refl, sym, ap, subst, ℕ, Bool, true, false, List}
-use Rattle.std.specs.Prelude.{◌==◌, ◌<◌, ◌^◌, ◌+◌, IfSome, not, if◌then◌else◌, Option, None, Some, Result, Ok, Err}
+use Rattle.std.proofs.Common.{◌≡◌, ◌⊎◌, refl, sym, ap, subst, ℕ, Bool, true, false, List, arith}
+use Rattle.std.specs.Prelude.{◌==◌, ◌<◌, ◌≤◌, ◌^◌, ◌+◌, IfSome, not, length, if◌then◌else◌, Option, None, Some, Result, Ok, Err}
 use Rattle.std.specs.Option.{option_or}
 use Rattle.ckc_types.specs.declared.types.Kind.{Kind}
 use Rattle.ckc_types.specs.declared.types.Kind.TheVariants as kind
@@ -15,7 +15,7 @@ use Rattle.ckc_bounds_points.specs.declared.frame.Local.{Local}
 use Rattle.ckc_bounds_points.specs.Frames.{local_at}
 use Rattle.ckc_bounds_points.specs.Shown.{Known}
 use Rattle.ckc_bounds_points.specs.Flow.{State}
-use Rattle.ckc_bounds_views.specs.Parts.{NodeView}
+use Rattle.ckc_bounds_views.specs.Parts.{NodeView, capped, next_behind}
 use Rattle.ckc_bounds_views.specs.Conditions.{widening, widening_side}
 use Rattle.ckc_bounds_views.specs.Places.{own_place, pointer_place}
 use Rattle.ckc_bounds_views.specs.Ranges.{own_numbers, pointer_range}
@@ -30,9 +30,10 @@ use Rattle.ckc_blame_sound.specs.Settings.{Setting}
 use Rattle.ckc_blame_sound.specs.Values.{AreTrue, IsWordOf}
 use Rattle.ckc_blame_sound.specs.Points.{AreBounded, HoldsAt}
 use Rattle.ckc_blame_sound.specs.Bodies.{AreFresh}
-use Rattle.ckc_blame_pointers.specs.Valuations.{Valuation, Fits, Extends, IsAtPlace, IsInRange, BaseBelow, RangeBelow}
+use Rattle.ckc_blame_pointers.specs.Valuations.{Valuation, Fits, Extends, AreTrueIn, AreNumbers, IsAtPlace, IsInRange, IsReadIn, BaseBelow, RangeBelow}
 use Rattle.ckc_blame_pointers.specs.Covered.{DeclareOnes}
 use Rattle.ckc_blame_pointers.specs.Meant.{IsNotStuck}
+use Rattle.ckc_blame_pointers.proofs.Later.{with_zeros, zeros_extend, zeros_numbers, numbers_kept, next_more, extends_less, still_fits}
 
 -- ---- evaluations that are not stuck
 
@@ -74,26 +75,33 @@ module _ (s : Setting) (store : Store) (entry : List ℕ) where
   pub no_one : (t : CType) (n : ℕ) → is_pointer t ≡ false → IsOne t n
   no_one t n e ones one = absurd (not_one_in (out-CType t) e one)
 
-  -- where a pointer is, by forms whose values have numbers below a limit, in numbers that begin here
-  pub record Placed (here : Here) (t : CType) (limit : ℕ) (place : Option Form) (r : Range) (first fresh : ℕ) (before : Valuation) (p : Value) : Type 0 where
+  -- facts of a point, or ones that are true of a valuation
+  abbrev pub AreTold : Here → Valuation → Known → Type 0
+  AreTold here v facts = (facts ≡ here.at.facts) ⊎ AreTrueIn v facts
+
+  -- Where a pointer is, by forms whose values have numbers below a limit, in numbers that begin here; and of what types its fresh variables are. All but where it begins is said of every later valuation too, which says the same of these.
+  pub record Placed (here : Here) (t : CType) (limit : ℕ) (place : Known → Option Form) (r : State → Range) (types : List CType) (first fresh : ℕ) (before : Valuation) (p : Value) : Type 0 where
     pub after : Valuation
-    pub place_below : IfSome place (λ f. BaseBelow limit f.base)
-    pub range_below : RangeBelow limit r
-    pub of_local : IfSome place (λ f. IsOfLocal s t f.base)
     pub extends : Extends first fresh before after
-    pub place_is : IsAtPlace s store.locals after t place p.number
-    pub range_is : IsInRange s store after t r p
+    pub place_below : (facts : Known) → IfSome (place facts) (λ f. BaseBelow limit f.base)
+    pub range_below : RangeBelow limit (r here.at)
+    pub of_local : (facts : Known) → IfSome (place facts) (λ f. IsOfLocal s t f.base)
+    pub place_in : (later : Valuation) → Extends limit (next_behind fresh types) after later → (facts : Known) → AreTold here later facts → IsAtPlace s store.locals later t (place facts) p.number
+    pub range_is : (later : Valuation) → Extends limit (next_behind fresh types) after later → IsInRange s store later t (r here.at) p
+    pub readable : (widened : List ℕ) → AreBounded s store widened here.seen → (later : Valuation) → Extends limit (next_behind fresh types) after later
+        → IsReadIn s store later t (r (record here.at { widened = widened })) p.number
+    pub numbers : (later : Valuation) → Extends limit (next_behind fresh types) after later → AreNumbers later.numbers (capped fresh 1) types
 
   -- a point on a side: it can be reached, and what is widened there may be read so
   pub record SideGoes (here : Here) (at : State) : Type 0 where
     pub reached : at.reached ≡ true
     pub widened : AreBounded s store at.widened here.seen
 
-  pub record Claims (here : Here) (t : CType) (values : ℕ) (place : ℕ → Known → Option Form) (r : ℕ → ℕ → State → Range) (behind : Option Kind) (target : ℕ → Known → Option Form) (is_zero : Bool)
+  pub record Claims (here : Here) (t : CType) (values : ℕ) (place : ℕ → Known → Option Form) (r : ℕ → ℕ → State → Range) (types : State → List CType) (behind : Option Kind) (target : ℕ → Known → Option Form) (is_zero : Bool)
       (side : Bool → State → State) (p : Value) : Type 0 where
     pub word : IsWordOf t p.number
-    pub placed : (first fresh : ℕ) (before : Valuation) → first + values + 1 < 2 ^ 32 → fresh < 2 ^ 32 → AreFresh s.frame fresh → Fits s.frame store.locals before
-        → Placed here t (first + values) (place first here.at.facts) (r first fresh here.at) first fresh before p
+    pub placed : (first fresh : ℕ) (before : Valuation) → first + values + 1 < 2 ^ 32 → fresh + length (types here.at) < 2 ^ 32 → AreFresh s.frame fresh → Fits s.frame store.locals before
+        → Placed here t (first + values) (place first) (r first fresh) (types here.at) first fresh before p
     pub one : IsOne t p.number
     pub zero : is_zero ≡ true → p.number ≡ 0
     pub wide : (p.number == 0) ≡ false → AreBounded s store (widening s.frame behind (target 0 here.at.facts) here.at).widened here.seen
@@ -125,24 +133,100 @@ module _ (s : Setting) (store : Store) (entry : List ℕ) where
   nothing_read target true at = refl
   nothing_read target false at = refl
 
+  -- ---- what is where it is under each valuation
+
+  -- a pointer whose place and range name no value
+  pub still_placed : (here : Here) (t : CType) (limit : ℕ) (place : Known → Option Form) (r : State → Range) (types : List CType) (first fresh : ℕ) (before : Valuation) (p : Value)
+      → fresh + length types < 2 ^ 32 → AreFresh s.frame fresh → Fits s.frame store.locals before
+      → ((facts : Known) → IfSome (place facts) (λ f. BaseBelow limit f.base)) → RangeBelow limit (r here.at) → ((facts : Known) → IfSome (place facts) (λ f. IsOfLocal s t f.base))
+      → ((v : Valuation) → Fits s.frame store.locals v → (facts : Known) → IsAtPlace s store.locals v t (place facts) p.number)
+      → ((v : Valuation) → Fits s.frame store.locals v → IsInRange s store v t (r here.at) p)
+      → ((widened : List ℕ) → AreBounded s store widened here.seen → (v : Valuation) → Fits s.frame store.locals v → IsReadIn s store v t (r (record here.at { widened = widened })) p.number)
+      → Placed here t limit place r types first fresh before p
+  still_placed here t limit place r types first fresh before p little are fits below range_below local at_place in_range readable = record {
+    after = after;
+    extends = zeros_extend first fresh before;
+    place_below = below;
+    range_below = range_below;
+    of_local = local;
+    place_in = λ later more facts told. at_place later (fits_later later more) facts;
+    range_is = λ later more. in_range later (fits_later later more);
+    readable = λ widened bounded later more. readable widened bounded later (fits_later later more);
+    numbers = λ later more. numbers_kept after later limit fresh types little more (zeros_numbers fresh before types little);
+  }
+    where
+      after : Valuation
+      after = with_zeros fresh before
+
+      fits_later : (later : Valuation) → Extends limit (next_behind fresh types) after later → Fits s.frame store.locals later
+      fits_later later more =
+          still_fits s store.locals 0 fresh after later are (still_fits s store.locals first fresh before after are fits (zeros_extend first fresh before))
+          (extends_less 0 fresh limit (next_behind fresh types) after later (omega arith) (next_more fresh types little) more)
+
+  -- the same place and range at the point, of as many fresh variables
+  pub placed_as : (here : Here) (t : CType) (limit most : ℕ) (place other : Known → Option Form) (r q : State → Range) (ts us : List CType) (first fresh : ℕ) (before : Valuation) (p : Value) → most ≡ limit
+      → ((facts : Known) → other facts ≡ place facts) → ((widened : List ℕ) → q (record here.at { widened = widened }) ≡ r (record here.at { widened = widened })) → us ≡ ts
+      → Placed here t limit place r ts first fresh before p → Placed here t most other q us first fresh before p
+  placed_as here t limit most place other r q ts us first fresh before p limit_is place_is range_is types_are c =
+      subst (λ m. Placed here t m other q us first fresh before p) (sym limit_is) (subst (λ us. Placed here t limit other q us first fresh before p) (sym types_are) (record {
+        after = c.after;
+        extends = c.extends;
+        place_below = λ facts. subst (λ (o : Option Form). IfSome o (λ f. BaseBelow limit f.base)) (sym (place_is facts)) (c.place_below facts);
+        range_below = subst (RangeBelow limit) (sym (range_is here.at.widened)) c.range_below;
+        of_local = λ facts. subst (λ (o : Option Form). IfSome o (λ f. IsOfLocal s t f.base)) (sym (place_is facts)) (c.of_local facts);
+        place_in = λ later more facts told. subst (λ o. IsAtPlace s store.locals later t o p.number) (sym (place_is facts)) (c.place_in later more facts told);
+        range_is = λ later more. subst (λ q. IsInRange s store later t q p) (sym (range_is here.at.widened)) (c.range_is later more);
+        readable = λ widened bounded later more. subst (λ q. IsReadIn s store later t q p.number) (sym (range_is widened)) (c.readable widened bounded later more);
+        numbers = c.numbers;
+      }))
+
+  -- numbers that begin further on begin here too, if fresh variables do
+  pub placed_from : (here : Here) (t : CType) (limit : ℕ) (place : Known → Option Form) (r : State → Range) (types : List CType) (first next fresh : ℕ) (before : Valuation) (p : Value) → first ≤ next
+      → Placed here t limit place r types next fresh before p → Placed here t limit place r types first fresh before p
+  placed_from here t limit place r types first next fresh before p less q = record {
+    after = q.after;
+    extends = extends_less first fresh next fresh before q.after less (omega arith) q.extends;
+    place_below = q.place_below;
+    range_below = q.range_below;
+    of_local = q.of_local;
+    place_in = q.place_in;
+    range_is = q.range_is;
+    readable = q.readable;
+    numbers = q.numbers;
+  }
+
   -- ---- what is no pointer
 
-  pub not_placed : (here : Here) (t : CType) (n : NodeView) (limit first fresh : ℕ) (before : Valuation) (p : Value) → is_pointer t ≡ false → (n.null ≡ true → p.number ≡ 0)
-      → Placed here t limit (pointer_place t n first here.at.facts) (pointer_range t n first fresh here.at) first fresh before p
-  not_placed here t n limit first fresh before p e null =
-      subst (λ (f : Option Form). Placed here t limit f (pointer_range t n first fresh here.at) first fresh before p) (sym place_none)
-      (by n.null (pointer_range t n first fresh here.at) range_none null)
+  pub not_placed : (here : Here) (t : CType) (n : NodeView) (limit : ℕ) (types : List CType) (first fresh : ℕ) (before : Valuation) (p : Value) → is_pointer t ≡ false → (n.null ≡ true → p.number ≡ 0)
+      → fresh + length types < 2 ^ 32 → AreFresh s.frame fresh → Fits s.frame store.locals before
+      → Placed here t limit (pointer_place t n first) (pointer_range t n first fresh) types first fresh before p
+  not_placed here t n limit types first fresh before p e null little are fits =
+      still_placed here t limit (pointer_place t n first) (pointer_range t n first fresh) types first fresh before p little are fits
+      (λ facts. subst (λ (f : Option Form). IfSome f (λ f. BaseBelow limit f.base)) (sym (place_none facts)) tt)
+      (subst (RangeBelow limit) (sym (range_none here.at)) (below n.null))
+      (λ facts. subst (λ (f : Option Form). IfSome f (λ f. IsOfLocal s t f.base)) (sym (place_none facts)) tt)
+      (λ v fits facts. subst (λ o. IsAtPlace s store.locals v t o p.number) (sym (place_none facts)) tt)
+      (λ v fits. subst (λ q. IsInRange s store v t q p) (sym (range_none here.at)) (in_range v n.null null))
+      (λ widened bounded v fits. subst (λ q. IsReadIn s store v t q p.number) (sym (range_none (record here.at { widened = widened }))) (read_in v n.null null))
     where
-      place_none : pointer_place t n first here.at.facts ≡ None
-      place_none = by_pointer (is_pointer t) e
+      place_none : (facts : Known) → pointer_place t n first facts ≡ None
+      place_none facts = by_pointer (is_pointer t) e
         where
-          by_pointer : (b : Bool) → b ≡ false → ◌≡◌ {A = Option Form} (if b then option_or (n.place t first here.at.facts) (own_place n first) else None) None
+          by_pointer : (b : Bool) → b ≡ false → ◌≡◌ {A = Option Form} (if b then option_or (n.place t first facts) (own_place n first) else None) None
           by_pointer true e = absurd (cc)
           by_pointer false e = refl
 
-      range_none : pointer_range t n first fresh here.at ≡ (if n.null then range.Any else range.Missing)
-      range_none = ap (λ (b : Bool). if n.null then range.Any else (if b then n.range t (own_numbers n first fresh here.at) first fresh here.at else range.Missing)) e
+      range_none : (at : State) → pointer_range t n first fresh at ≡ (if n.null then range.Any else range.Missing)
+      range_none at = ap (λ (b : Bool). if n.null then range.Any else (if b then n.range t (own_numbers n first fresh at) first fresh at else range.Missing)) e
 
-      by : (b : Bool) (r : Range) → r ≡ (if b then range.Any else range.Missing) → (b ≡ true → p.number ≡ 0) → Placed here t limit None r first fresh before p
-      by true r is null = subst (λ (r : Range). Placed here t limit None r first fresh before p) (sym is) (record { after = before; place_below = tt; range_below = tt; of_local = tt; extends = record { addresses = λ n h. refl; numbers = λ x h. refl }; place_is = tt; range_is = null refl })
-      by false r is null = subst (λ (r : Range). Placed here t limit None r first fresh before p) (sym is) (record { after = before; place_below = tt; range_below = tt; of_local = tt; extends = record { addresses = λ n h. refl; numbers = λ x h. refl }; place_is = tt; range_is = tt })
+      below : (b : Bool) → RangeBelow limit (if b then range.Any else range.Missing)
+      below true = tt
+      below false = tt
+
+      in_range : (v : Valuation) (b : Bool) → (b ≡ true → p.number ≡ 0) → IsInRange s store v t (if b then range.Any else range.Missing) p
+      in_range v true null = null refl
+      in_range v false null = tt
+
+      read_in : (v : Valuation) (b : Bool) → (b ≡ true → p.number ≡ 0) → IsReadIn s store v t (if b then range.Any else range.Missing) p.number
+      read_in v true null = null refl
+      read_in v false null = tt

@@ -1,6 +1,6 @@
 -- The claims of `*p` and `p[e]`, where an integer is read.
 use Rattle.std.proofs.Common.{◌≡◌, ◌⊎◌, inl, inr, refl, sym, ap, subst, ◌∙◌, ℕ, Bool, true, false, List, arith}
-use Rattle.std.specs.Prelude.{◌+◌, ◌==◌, ◌<◌, ◌^◌, ◌&&◌, not, if◌then◌else◌, ℤ, pos, IfSome, Option, None, Some, Ok}
+use Rattle.std.specs.Prelude.{◌+◌, ◌==◌, ◌<◌, ◌^◌, ◌&&◌, not, length, if◌then◌else◌, ℤ, pos, IfSome, Option, None, Some, Ok}
 use Rattle.ckc_base.specs.declared.places.Pos.{Pos}
 use Rattle.ckc_types.specs.declared.types.Kind.TheVariants as kind
 use Rattle.ckc_types.specs.declared.types.CType.{CType}
@@ -12,8 +12,10 @@ use Rattle.ckc_typed.specs.Types.{is_integer, kind_of, element_of}
 use Rattle.ckc_bounds_points.specs.Codes.{unknown_bounds}
 use Rattle.ckc_bounds_views.specs.Conditions.{wider, widened_by, read_place, widening, widening_side}
 use Rattle.ckc_bounds_views.specs.Judged.{is_counted_kind, is_missing, fault_if, access_fault}
+use Rattle.ckc_bounds_points.specs.Shown.{Known}
 use Rattle.ckc_bounds_points.specs.Flow.{State}
-use Rattle.ckc_bounds_views.specs.Parts.{NodeView}
+use Rattle.ckc_bounds_views.specs.Parts.{NodeView, fresh_behind}
+use Rattle.ckc_bounds_views.specs.Places.{with_own}
 use Rattle.ckc_bounds_views.specs.Views.{view}
 use Rattle.ckc_bounds_statements.specs.Paths.{Here}
 use Rattle.ckc_source.specs.declared.expr.Access.{Access}
@@ -33,14 +35,15 @@ use Rattle.ckc_blame_numbers.specs.Typed.{Agrees}
 use Rattle.ckc_typed.specs.declared.environment.Globals.{Globals}
 use Rattle.ckc_source.specs.Words.{exact, elements_behind}
 use Rattle.ckc_blame_sound.specs.Bodies.{AreFresh}
-use Rattle.ckc_blame_pointers.specs.Valuations.{Valuation, address_by, IsAtPlace, HasEnds, IsInRange}
+use Rattle.ckc_blame_pointers.specs.Valuations.{Valuation, Fits, address_by, IsAtPlace, HasEnds, IsInRange}
 use Rattle.ckc_blame_pointers.specs.Covered.{DeclareLocals, IsSoundStore}
 use Rattle.ckc_blame_pointers.specs.Meant.{IsNotStuck}
 use Rattle.ckc_blame_pointers.proofs.Claims.{IsOfLocal, Placed, SideGoes, no_one, both_go_on, stays, not_placed}
-use Rattle.ckc_blame_pointers.proofs.Nodes.{NodeClaims}
+use Rattle.ckc_blame_pointers.proofs.Nodes.{node_fresh, NodeClaims}
 use Rattle.ckc_blame_pointers.proofs.Binary.{ExprClaims, wider_goes}
 use Rattle.ckc_blame_pointers.proofs.Numbers.{nothing_behind}
-use Rattle.ckc_blame_pointers.proofs.Moving.{still_fits, sum_at}
+use Rattle.ckc_blame_pointers.proofs.Moving.{sum_at, sum_base}
+use Rattle.ckc_blame_pointers.proofs.Later.{extends_self, still_fits}
 use Rattle.ckc_blame_pointers.proofs.Sums.{IsIndex}
 use Rattle.ckc_blame_numbers.proofs.Claims.{plain_is}
 use Rattle.ckc_source.specs.declared.expr.Integer.TheVariants.{Int}
@@ -64,21 +67,28 @@ module _ (s : Setting) (store : Store) (entry : List ℕ) (next : ℕ) (ready : 
       → NodeClaims s store entry here h t n (record { number = m; range = Without })
   integer_read t n integer known some same m word bounded = record {
     word = word;
-    placed = λ first fresh before low little are fits. not_placed s store entry here t n _ first fresh before (record { number = m; range = Without }) (no_pointer t integer) (λ e. absurd (cc));
+    placed = λ first fresh before low little are fits.
+        not_placed s store entry here t n (first + with_own t n) (node_fresh t n here.at) first fresh before (record { number = m; range = Without }) (no_pointer t integer) (λ e. absurd (cc)) little are fits;
     one = no_one s store entry t m (no_pointer t integer);
     zero = λ e. absurd (cc);
     wide = bounded;
     sides = λ b side. subst (SideGoes s store entry here) (sym (same b)) (read_sides n m bounded b side);
   }
 
-  module _ (e : NotedExpr) (fresh : ℕ) (few : (view s.frame e).values + 1 < 2 ^ 32) (little : fresh < 2 ^ 32) (are : AreFresh s.frame fresh) where
+  module _ (e : NotedExpr) (fresh : ℕ) (few : (view s.frame e).values + 1 < 2 ^ 32) (little : fresh + length ((view s.frame e).fresh here.at) < 2 ^ 32) (are : AreFresh s.frame fresh) where
     -- where the pointer is, in numbers that begin with the least
     pub at_pointer : (x : Value) → ExprClaims s store entry here e x
-        → Placed s store entry here e.note.ctype (0 + (view s.frame e).values) ((view s.frame e).place 0 here.at.facts) ((view s.frame e).range 0 fresh here.at) 0 fresh (bare_valuation s store.locals) x
+        → Placed s store entry here e.note.ctype (0 + (view s.frame e).values) ((view s.frame e).place 0) ((view s.frame e).range 0 fresh) ((view s.frame e).fresh here.at) 0 fresh (bare_valuation s store.locals) x
     at_pointer x c = c.placed 0 fresh (bare_valuation s store.locals) (from_zero (view s.frame e).values few) little are (λ y known. refl)
       where
         from_zero : (n : ℕ) → n + 1 < 2 ^ 32 → 0 + n + 1 < 2 ^ 32
         from_zero n h = omega arith
+
+    pub fits_pointer : (x : Value) (c : ExprClaims s store entry here e x) → Fits s.frame store.locals (at_pointer x c).after
+    fits_pointer x c = still_fits s store.locals 0 fresh (bare_valuation s store.locals) (at_pointer x c).after are (λ y known. refl) (at_pointer x c).extends
+
+    place_there : (x : Value) (c : ExprClaims s store entry here e x) → IsAtPlace s store.locals (at_pointer x c).after e.note.ctype ((view s.frame e).place 0 here.at.facts) x.number
+    place_there x c = (at_pointer x c).place_in (at_pointer x c).after (extends_self (0 + (view s.frame e).values) (fresh_behind (view s.frame e) fresh here.at) (at_pointer x c).after) here.at.facts (inl refl)
 
     -- what `*` reads lies where the pointer's place says
     pub target_aims : (x : Value) (c : ExprClaims s store entry here e x) (k : Value) → plain 0 ≡ Ok k → (a : ℕ) → pos a ≡ elements_behind x.number (size_behind s.text.layout e.note.ctype) (exact Int k.number)
@@ -87,21 +97,21 @@ module _ (s : Setting) (store : Store) (entry : List ℕ) (next : ℕ) (ready : 
     target_aims x c k zero a is f there =
         let none : k.number ≡ 0 = plain_is 0 k zero in (
           is ∙ ap (λ n. elements_behind x.number (size_behind s.text.layout e.note.ctype) (exact Int n)) none ∙ nothing_behind x.number (size_behind s.text.layout e.note.ctype)
-              ∙ subst (λ o. IsAtPlace s store.locals (at_pointer x c).after e.note.ctype o x.number) there (at_pointer x c).place_is,
-          subst (λ (o : Option Form). IfSome o (λ f. IsOfLocal s e.note.ctype f.base)) there (at_pointer x c).of_local,
+              ∙ subst (λ o. IsAtPlace s store.locals (at_pointer x c).after e.note.ctype o x.number) there (place_there x c),
+          subst (λ (o : Option Form). IfSome o (λ f. IsOfLocal s e.note.ctype f.base)) there ((at_pointer x c).of_local here.at.facts),
         )
 
     -- and what `[` reads so many elements behind it
-    pub element_aims : (x : Value) (c : ExprClaims s store entry here e x) (z : ℤ) (form : Option Form) → IsIndex s store.locals z form → (a : ℕ)
+    pub element_aims : (x : Value) (c : ExprClaims s store entry here e x) (z : ℤ) (form : Known → Option Form) → IsIndex s store entry here z form → (a : ℕ)
         → pos a ≡ elements_behind x.number (size_behind s.text.layout e.note.ctype) z → (raw : Bool) → raw ≡ false
-        → (f : Form) → (if raw then None else sum_of_forms ((view s.frame e).place 0 here.at.facts) form) ≡ Some f
+        → (f : Form) → (if raw then None else sum_of_forms ((view s.frame e).place 0 here.at.facts) (form here.at.facts)) ≡ Some f
         → (pos a ≡ address_by s store.locals (at_pointer x c).after (size_behind s.text.layout e.note.ctype) f) × IsOfLocal s e.note.ctype f.base
     element_aims x c z form index a is true checked f e' = absurd (cc)
-    element_aims x c z form index a is false checked f e' =
-        let r = sum_at s store entry here e.note.ctype (0 + (view s.frame e).values) 0 ((view s.frame e).place 0 here.at.facts) ((view s.frame e).range 0 fresh here.at) 0 fresh (bare_valuation s store.locals) x (at_pointer x c)
-        (still_fits s store.locals 0 fresh (bare_valuation s store.locals) (at_pointer x c).after are (λ y known. refl) (at_pointer x c).extends) z form index a is
-        ((view s.frame e).place 0 here.at.facts) form refl refl f e' in
-        (r.0, r.2)
+    element_aims x c z form index a is false checked f e' = (
+      sum_at s store.locals e.note.ctype (at_pointer x c).after (fits_pointer x c 0 (inl refl)) x.number z a is ((view s.frame e).place 0 here.at.facts) (form here.at.facts) f (place_there x c)
+          (index (at_pointer x c).after (fits_pointer x c) here.at.facts (inl refl)) e',
+      sum_base (IsOfLocal s e.note.ctype) ((view s.frame e).place 0 here.at.facts) (form here.at.facts) f ((at_pointer x c).of_local here.at.facts) e',
+    )
 
     -- the range of a pointer that is read through is true, unless that is null
     unfoldable pub IsRanged : Value → Type 0
@@ -115,7 +125,7 @@ module _ (s : Setting) (store : Store) (entry : List ℕ) (next : ℕ) (ready : 
     unfolding IsRanged
     ranged_pointer spot counted none x c =
         by ((view s.frame e).range 0 fresh here.at) (no_fault (is_missing ((view s.frame e).range 0 fresh here.at)) spot (sym (ap (λ b. fault_if (b && is_missing ((view s.frame e).range 0 fresh here.at)) unknown_bounds spot) counted) ∙ none))
-        (at_pointer x c).range_is
+        ((at_pointer x c).range_is (at_pointer x c).after (extends_self (0 + (view s.frame e).values) (fresh_behind (view s.frame e) fresh here.at) (at_pointer x c).after))
       where
         by : (r : Range) → is_missing r ≡ false → IsInRange s store (at_pointer x c).after e.note.ctype r x → (x.number ≡ 0) ⊎ ((v : Valuation) × (low : Form) × (high : Form) × HasEnds s store v e.note.ctype low high x)
         by range.Missing m i = absurd (cc)
@@ -200,5 +210,5 @@ module _ (s : Setting) (store : Store) (entry : List ℕ) (next : ℕ) (ready : 
           by x c a m None aims got z = h.widened
           by x c a m (Some f) aims got z =
               place_widens globals s agrees declares store entry next ready here h (at_pointer x c).after
-              (still_fits s store.locals 0 fresh (bare_valuation s store.locals) (at_pointer x c).after are (λ y known. refl) (at_pointer x c).extends) f a m e.note.ctype (aims f refl).0 got z integer
+              (fits_pointer x c) f a m e.note.ctype (aims f refl).0 got z integer
               (λ k l based there. subst (IsOfLocal s e.note.ctype) based (aims f refl).1 l there)

@@ -1,6 +1,6 @@
 -- The claims of all expressions that are covered, by induction.
-use Rattle.std.proofs.Common.{⊎_elim, ◌≡◌, refl, sym, ap, subst, ◌∙◌, ℕ, ◌+◌, Bool, true, false, List}
-use Rattle.std.specs.Prelude.{◌==◌, ◌<◌, ◌^◌, ◌&&◌, not, length, pos, if◌then◌else◌, Option, None, Some, Ok}
+use Rattle.std.proofs.Common.{⊎_elim, ◌≡◌, inl, inr, refl, sym, ap, subst, ◌∙◌, ℕ, ◌+◌, Bool, true, false, List, ◌++◌}
+use Rattle.std.specs.Prelude.{◌==◌, ◌<◌, ◌^◌, ◌&&◌, not, length, pos, ◌+ℤ◌, if◌then◌else◌, Option, None, Some, Ok}
 use Rattle.ckc_base.specs.declared.places.Pos.{Pos}
 use Rattle.ckc_types.specs.declared.types.Kind.{Kind}
 use Rattle.ckc_types.specs.declared.types.Kind.TheVariants as kind
@@ -30,6 +30,7 @@ use Rattle.ckc_bounds_ranges.specs.Rows.{range_of_local}
 use Rattle.ckc_bounds_views.specs.Parts.{LimitsView, NodeView, View, NodeOfViews, fresh_behind}
 use Rattle.ckc_bounds_views.specs.Conditions.{right_point, widening, widening_side}
 use Rattle.ckc_bounds_views.specs.Judged.{is_counted_kind, access_fault, fault_of_node, node_judged}
+use Rattle.ckc_bounds_views.specs.Fresh.{own_fresh}
 use Rattle.ckc_bounds_views.specs.Ranges.{pointer_range}
 use Rattle.ckc_bounds_views.specs.Views.{limits_view, node_view, expr_view, view_of_limits, view_of_node, view}
 use Rattle.ckc_bounds_statements.specs.Paths.{Here, side_of}
@@ -50,7 +51,7 @@ use Rattle.ckc_blame_sound.specs.Values.{AreTrue}
 use Rattle.ckc_blame_sound.specs.Points.{HoldsAt}
 use Rattle.ckc_blame_numbers.specs.Typed.{IsRow, HasRow, IsTyped, Agrees}
 use Rattle.ckc_blame_numbers.proofs.Exprs as numbers
-use Rattle.ckc_blame_numbers.proofs.Holding.{form_exact, side_told}
+use Rattle.ckc_blame_numbers.proofs.Holding.{form_exact, form_exact_in, side_told}
 use Rattle.ckc_blame_numbers.proofs.Types.{no_pointer, IsWide, number_wide, size_wide}
 use Rattle.ckc_blame_sound.specs.Bodies.{AreFresh}
 use Rattle.ckc_blame_pointers.specs.Valuations.{address_by}
@@ -59,9 +60,11 @@ use Rattle.ckc_blame_pointers.specs.Meant.{IsNotStuck}
 use Rattle.ckc_blame_pointers.proofs.Claims.{Claims, weaker, holds_on}
 use Rattle.ckc_blame_numbers.proofs.Known.{form_known}
 use Rattle.ckc_blame_pointers.proofs.Inside.{EveryNode, PartsEvery, parts_every, node_every, node_out, one_part, two_parts, three_parts, IsJudged, judged_is, operand_is}
-use Rattle.ckc_blame_pointers.proofs.Nodes.{NodeClaims}
+use Rattle.ckc_blame_pointers.proofs.Nodes.{node_fresh, NodeClaims}
 use Rattle.ckc_blame_pointers.proofs.Binary.{ExprClaims, other_claims, unequal_claims, and_claims, or_claims}
-use Rattle.ckc_blame_pointers.proofs.Sums.{IsIndex, capped_more, capped_small, fresh_on, sum_claims, difference_claims}
+use Rattle.ckc_blame_pointers.proofs.Sums.{IsIndex, fresh_on, sum_claims, difference_claims}
+use Rattle.ckc_blame_pointers.proofs.Later.{next_more, next_both, left_room, right_room, parts_room}
+use Rattle.ckc_blame_pointers.proofs.Unwidened.{right_fresh_is}
 use Rattle.ckc_blame_pointers.proofs.Elements.{at_pointer, IsRanged, ranged_pointer, WidensThere, target_aims, element_aims, element_claims, wide_terminated, narrow_there}
 use Rattle.ckc_blame_pointers.proofs.Claims.{IsOfLocal}
 use Rattle.ckc_blame_pointers.proofs.Loads.{integer_part, no_count}
@@ -83,22 +86,22 @@ module _ (globals : Globals) (s : Setting) (agrees : Agrees globals s) (declares
   record NodeHolds (n : NotedNode) : Type 0 where
     pub claims : (note : Note) (place : Pos) → IsRow globals s (out-Node Name Note n) note → EveryNode (HasRow globals s) n
         → (here : Here) → EveryNode (IsCoveredExpr s store here.seen) n → IsCoveredNode s store here.seen note.ctype (out-Node Name Note n) → is_raw_kind (kind_of note.ctype) ≡ false
-        → (h : HoldsAt s store entry here) (fresh : ℕ) → fresh < 2 ^ 32 → AreFresh s.frame fresh → (view_of_node s.frame n).judged note.ctype fresh here.at ≡ Ok n
+        → (h : HoldsAt s store entry here) (fresh : ℕ) → fresh + length (node_fresh note.ctype (view_of_node s.frame n) here.at) < 2 ^ 32 → AreFresh s.frame fresh → (view_of_node s.frame n).judged note.ctype fresh here.at ≡ Ok n
         → (view_of_node s.frame n).fault place fresh here.at ≡ None
         → (is_pointer note.ctype ≡ true → note.range ≡ pointer_range note.ctype (view_of_node s.frame n) 0 fresh here.at)
         → (k : ℕ) → IsNotStuck (NodeClaims s store entry here h note.ctype (view_of_node s.frame n)) (evaluated store ((part_of_node n).value note place s.text s.variables k))
     -- the address of such a place
     pub address : (note : Note) (place : Pos) → IsRow globals s (out-Node Name Note n) note → EveryNode (HasRow globals s) n
         → (here : Here) → EveryNode (IsCoveredExpr s store here.seen) n → IsCoveredNode s store here.seen note.ctype (out-Node Name Note n) → IsAddressed (out-Node Name Note n)
-        → (h : HoldsAt s store entry here) (fresh : ℕ) → fresh < 2 ^ 32 → AreFresh s.frame fresh → (view_of_node s.frame n).judged note.ctype fresh here.at ≡ Ok n
+        → (h : HoldsAt s store entry here) (fresh : ℕ) → fresh + length ((view_of_node s.frame n).fresh here.at) < 2 ^ 32 → AreFresh s.frame fresh → (view_of_node s.frame n).judged note.ctype fresh here.at ≡ Ok n
         → (r : CType) → is_pointer r ≡ true → kind_of r ≡ Some kind.Arr → element_of r ≡ note.ctype
         → (k : ℕ) → IsNotStuck (NodeClaims s store entry here h r (node_view s.frame (Node-F.Un op.Address (expr_view (record { node = view_of_node s.frame n; pos = place; note = note })))))
         (evaluated store ((part_of_node n).address note place s.text s.variables k))
 
   record ExprHolds (e : NotedExpr) : Type 0 where
-    pub claims : IsTyped globals s e → (here : Here) → IsCovered s store here.seen e → HoldsAt s store entry here → (fresh : ℕ) → fresh < 2 ^ 32 → AreFresh s.frame fresh → (view s.frame e).judged fresh here.at ≡ Ok e
+    pub claims : IsTyped globals s e → (here : Here) → IsCovered s store here.seen e → HoldsAt s store entry here → (fresh : ℕ) → fresh + length ((view s.frame e).fresh here.at) < 2 ^ 32 → AreFresh s.frame fresh → (view s.frame e).judged fresh here.at ≡ Ok e
         → (k : ℕ) → IsNotStuck (ExprClaims s store entry here e) (evaluated store ((part_of e).value s.text s.variables k))
-    pub address : IsTyped globals s e → (here : Here) → IsCovered s store here.seen e → IsAddressed (out-Node Name Note e.node) → (h : HoldsAt s store entry here) (fresh : ℕ) → fresh < 2 ^ 32 → AreFresh s.frame fresh
+    pub address : IsTyped globals s e → (here : Here) → IsCovered s store here.seen e → IsAddressed (out-Node Name Note e.node) → (h : HoldsAt s store entry here) (fresh : ℕ) → fresh + length ((view s.frame e).fresh here.at) < 2 ^ 32 → AreFresh s.frame fresh
         → (view s.frame e).operand fresh here.at ≡ Ok e → (r : CType) → is_pointer r ≡ true → kind_of r ≡ Some kind.Arr → element_of r ≡ e.note.ctype
         → (k : ℕ) → IsNotStuck (NodeClaims s store entry here h r (node_view s.frame (Node-F.Un op.Address (view s.frame e)))) (evaluated store ((part_of e).address s.text s.variables k))
 
@@ -142,8 +145,11 @@ module _ (globals : Globals) (s : Setting) (agrees : Agrees globals s) (declares
 
   module _ (here : Here) (h : HoldsAt s store entry here) (e : NotedExpr) (typed : IsTyped globals s e) (k : ℕ) (x : Value) (is : evaluated store ((part_of e).value s.text s.variables k) ≡ Ok x) where
     -- its form is what it comes to
-    index_of : IsIndex s store.locals (exact (integer_of e.note.ctype) x.number) ((view s.frame e).form here.at.facts)
-    index_of g there = ((form_exact globals s agrees e k store x typed h.words is here.at.facts g h.facts there).number, form_known s.frame e here.at.facts g there)
+    index_of : IsIndex s store entry here (exact (integer_of e.note.ctype) x.number) (view s.frame e).form
+    index_of v fits facts (inl same) g there =
+        let at_point : (view s.frame e).form here.at.facts ≡ Some g = ap (view s.frame e).form (sym same) ∙ there in
+        (form_exact globals s agrees e k store x typed h.words is here.at.facts g h.facts at_point).number ∙ ap (λ n. n +ℤ g.add) (sym (fits g.var (form_known s.frame e here.at.facts g at_point)))
+    index_of v fits facts (inr told) g there = form_exact_in globals s agrees e k store x typed h.words is v.numbers fits facts told g there
 
     facts_told : (b : Bool) → (x.number == 0) ≡ not b → AreTrue s.frame store.locals ((view s.frame e).side b here.at).facts
     unfolding side_of
@@ -156,18 +162,14 @@ module _ (globals : Globals) (s : Setting) (agrees : Agrees globals s) (declares
   -- ---- a node
 
   module _ (here : Here) (h : HoldsAt s store entry here) where
-    little_on : (e : NotedExpr) (fresh : ℕ) → fresh_behind (view s.frame e) fresh here.at < 2 ^ 32
-    little_on e fresh = capped_small fresh (length ((view s.frame e).fresh here.at))
-
-    are_on : (e : NotedExpr) (fresh : ℕ) → fresh < 2 ^ 32 → AreFresh s.frame fresh → AreFresh s.frame (fresh_behind (view s.frame e) fresh here.at)
-    are_on e fresh little are =
-        fresh_on s store entry here h fresh (fresh_behind (view s.frame e) fresh here.at) (capped_more fresh (length ((view s.frame e).fresh here.at)) little) are
+    are_on : (e : NotedExpr) (fresh : ℕ) → fresh + length ((view s.frame e).fresh here.at) < 2 ^ 32 → AreFresh s.frame fresh → AreFresh s.frame (fresh_behind (view s.frame e) fresh here.at)
+    are_on e fresh little are = fresh_on s store entry here h fresh (fresh_behind (view s.frame e) fresh here.at) (next_more fresh ((view s.frame e).fresh here.at) little) are
 
     abbrev Made : NotedLayer → Note → Pos → ℕ → Type 0
     Made x note place k = IsNotStuck (NodeClaims s store entry here h note.ctype (node_view s.frame (viewed_node x))) (evaluated store (node_value (part_node x) note place s.text s.variables k))
 
-    module _ (e f : KeptExpr) (typed : IsTyped globals s e.0 × IsTyped globals s f.0) (covered : IsCovered s store here.seen e.0 × IsCovered s store here.seen f.0) (fresh : ℕ) (little : fresh < 2 ^ 32) (are : AreFresh s.frame fresh)
-        (k : ℕ) where
+    module _ (e f : KeptExpr) (typed : IsTyped globals s e.0 × IsTyped globals s f.0) (covered : IsCovered s store here.seen e.0 × IsCovered s store here.seen f.0) (fresh : ℕ)
+        (little : fresh + length ((view s.frame e.0).fresh here.at) < 2 ^ 32) (are : AreFresh s.frame fresh) (k : ℕ) where
       abbrev v : Expr
       v = (part_of e.0).value s.text s.variables k
 
@@ -183,29 +185,33 @@ module _ (globals : Globals) (s : Setting) (agrees : Agrees globals s) (declares
       left_claims : IsLeft → IsNotStuck (ExprClaims s store entry here e.0) (evaluated store v)
       left_claims is = e.1.claims typed.0 here covered.0 h fresh little are is k
 
-      right_claims : (at : State) → IsRight at → HoldsAt s store entry (record here { at = at }) → IsNotStuck (ExprClaims s store entry (record here { at = at }) f.0) (evaluated store w)
-      right_claims at is holds = f.1.claims typed.1 (record here { at = at }) covered.1 holds (fresh_behind (view s.frame e.0) fresh here.at) (little_on e.0 fresh) (are_on e.0 fresh little are) is (k + (part_of e.0).literals)
+      -- where there is room for the fresh variables of the right operand
+      abbrev HasRight : State → Type 0
+      HasRight at = fresh_behind (view s.frame e.0) fresh here.at + length ((view s.frame f.0).fresh at) < 2 ^ 32
+
+      right_claims : (at : State) → HasRight at → IsRight at → HoldsAt s store entry (record here { at = at }) → IsNotStuck (ExprClaims s store entry (record here { at = at }) f.0) (evaluated store w)
+      right_claims at room is holds = f.1.claims typed.1 (record here { at = at }) covered.1 holds (fresh_behind (view s.frame e.0) fresh here.at) room (are_on e.0 fresh little are) is (k + (part_of e.0).literals)
 
       binary_step : (o : TreeOp) (note : Note) (place : Pos) → IsRow globals s (Node-F.Bin o e.0 f.0) note → is_raw_kind (kind_of note.ctype) ≡ false → size_behind s.text.layout e.0.note.ctype < 2 ^ 32
-          → IsLeft → IsRight (right_point o (view s.frame e.0) here.at)
+          → IsLeft → HasRight (right_point o (view s.frame e.0) here.at) → IsRight (right_point o (view s.frame e.0) here.at)
           → IsNotStuck (NodeClaims s store entry here h note.ctype (node_view s.frame (Node-F.Bin o (view s.frame e.0) (view s.frame f.0))))
           (evaluated store (of_operands s.text.layout o e.0.note.ctype f.0.note.ctype place v w))
-      binary_step op.AndThen note place row checked sized left right =
+      binary_step op.AndThen note place row checked sized left room right =
           and_claims s store entry here h s.text.layout e.0 f.0 note.ctype place v w (left_claims left) (is_null e.0) (is_null f.0)
-          (λ x is c b side. point_of here h e.0 typed.0 k x is c b side) row.row (right_claims _ right)
-      binary_step op.OrElse note place row checked sized left right =
+          (λ x is c b side. point_of here h e.0 typed.0 k x is c b side) row.row (right_claims _ room right)
+      binary_step op.OrElse note place row checked sized left room right =
           or_claims s store entry here h s.text.layout e.0 f.0 note.ctype place v w (left_claims left) (is_null e.0) (is_null f.0)
-          (λ x is c b side. point_of here h e.0 typed.0 k x is c b side) row.row (right_claims _ right)
-      binary_step op.Ne note place row checked sized left right =
-          unequal_claims s store entry here h s.text.layout e.0 f.0 note.ctype place v w (left_claims left) (is_null e.0) (is_null f.0) row.row (right_claims here.at right h)
-      binary_step op.Add note place row checked sized left right =
-          sum_claims s store entry here h e.0 f.0 note.ctype place v w (left_claims left) (right_claims here.at right h) (viewed_type e.0)
+          (λ x is c b side. point_of here h e.0 typed.0 k x is c b side) row.row (right_claims _ room right)
+      binary_step op.Ne note place row checked sized left room right =
+          unequal_claims s store entry here h s.text.layout e.0 f.0 note.ctype place v w (left_claims left) (is_null e.0) (is_null f.0) row.row (right_claims here.at room right h)
+      binary_step op.Add note place row checked sized left room right =
+          sum_claims s store entry here h e.0 f.0 note.ctype place v w (left_claims left) (right_claims here.at room right h) (viewed_type e.0)
           (λ x is. index_of here h e.0 typed.0 k x is) (λ x is. index_of here h f.0 typed.1 (k + (part_of e.0).literals) x is) checked row.row
-      binary_step op.Sub note place row checked sized left right =
-          difference_claims s store entry here h e.0 f.0 note.ctype place v w (left_claims left) (right_claims here.at right h) (viewed_type e.0)
+      binary_step op.Sub note place row checked sized left room right =
+          difference_claims s store entry here h e.0 f.0 note.ctype place v w (left_claims left) (right_claims here.at room right h) (viewed_type e.0)
           (λ x is. index_of here h e.0 typed.0 k x is) (λ x is. index_of here h f.0 typed.1 (k + (part_of e.0).literals) x is) sized checked row.row
-      binary_step o note place row checked sized left right =
-          other_claims s store entry here h s.text.layout e.0 f.0 note.ctype place v w (left_claims left) (is_null e.0) (is_null f.0) o refl refl row.row (right_claims here.at right h)
+      binary_step o note place row checked sized left room right =
+          other_claims s store entry here h s.text.layout e.0 f.0 note.ctype place v w (left_claims left) (is_null e.0) (is_null f.0) o refl refl row.row (right_claims here.at room right h)
 
     covered_few : (e : NotedExpr) → IsCovered s store here.seen e → (view s.frame e).values + 1 < 2 ^ 32
     covered_few e c = (every_here-Expr Name Note AnyLimits AnyNode (IsCoveredExpr s store here.seen) e c).few
@@ -220,7 +226,7 @@ module _ (globals : Globals) (s : Setting) (agrees : Agrees globals s) (declares
 
     -- `*p` and `p[e]`
     read_claims : (n : NodeOfViews) (e : KeptExpr) → IsElement e.0 → (place : Pos) (index : Integer) (v w : Expr) (R : Value → Type 0) → IsNotStuck (ExprClaims s store entry here e.0) (evaluated store v)
-        → IsNotStuck R (evaluated store w) → (few : (view s.frame e.0).values + 1 < 2 ^ 32) (fresh : ℕ) (little : fresh < 2 ^ 32) (are : AreFresh s.frame fresh) → access_fault (view s.frame e.0) place fresh here.at ≡ None
+        → IsNotStuck R (evaluated store w) → (few : (view s.frame e.0).values + 1 < 2 ^ 32) (fresh : ℕ) (little : fresh + length ((view s.frame e.0).fresh here.at) < 2 ^ 32) (are : AreFresh s.frame fresh) → access_fault (view s.frame e.0) place fresh here.at ≡ None
         → (node_view s.frame n).null ≡ false → (node_view s.frame n).is_zero ≡ false
         → ((b : Bool) → (node_view s.frame n).side b here.at ≡ widening_side s.frame (node_view s.frame n).behind ((node_view s.frame n).target 0) b here.at) → (node_view s.frame n).behind ≡ kind_of e.0.note.ctype
         → ((x : Value) (c : ExprClaims s store entry here e.0 x) (j : Value) → evaluated store w ≡ Ok j → (a : ℕ) → pos a ≡ elements_behind x.number (size_behind s.text.layout e.0.note.ctype) (exact index j.number)
@@ -257,7 +263,7 @@ module _ (globals : Globals) (s : Setting) (agrees : Agrees globals s) (declares
 
     node_step : (y : Node-F Name Note KeptLimits KeptNode KeptExpr) (note : Note) (place : Pos) → IsRow globals s (inner_node y) note → PartsEvery (HasRow globals s) (inner_node y)
         → PartsEvery (IsCoveredExpr s store here.seen) (inner_node y) → IsCoveredNode s store here.seen note.ctype (inner_node y) → is_raw_kind (kind_of note.ctype) ≡ false
-        → (fresh : ℕ) → fresh < 2 ^ 32 → AreFresh s.frame fresh → fault_of_node s.frame (viewed_node (inner_node y)) place fresh here.at ≡ None → node_judged s.frame (viewed_node (inner_node y)) note.ctype fresh here.at ≡ Ok (node_of (inner_node y))
+        → (fresh : ℕ) → fresh + length (node_fresh note.ctype (node_view s.frame (viewed_node (inner_node y))) here.at) < 2 ^ 32 → AreFresh s.frame fresh → fault_of_node s.frame (viewed_node (inner_node y)) place fresh here.at ≡ None → node_judged s.frame (viewed_node (inner_node y)) note.ctype fresh here.at ≡ Ok (node_of (inner_node y))
         → (is_pointer note.ctype ≡ true → note.range ≡ pointer_range note.ctype (node_view s.frame (viewed_node (inner_node y))) 0 fresh here.at)
         → (k : ℕ) → Made (inner_node y) note place k
     node_step (Node-F.Number n uns) note place row typed covered node checked fresh little are fault judged noted k =
@@ -293,16 +299,35 @@ module _ (globals : Globals) (s : Setting) (agrees : Agrees globals s) (declares
     node_step (Node-F.Bin o e f) note place row typed covered node checked fresh little are fault judged noted k =
         let parts = two_parts (λ a b. Node-F.Bin o a b) (λ a b c d e. (cc, cc)) _ _ e.0 f.0 judged in
         subst (λ t. Of t (part_of f.0).ctype) (sym (parted_type e.0)) (subst (λ u. Of e.0.note.ctype u) (sym (parted_type f.0))
-        (binary_step e f typed covered fresh little are k o note place row checked (covered_sized e.0 covered.0) parts.0 parts.1))
+        (binary_step e f typed covered fresh (left_room fresh ((view s.frame e.0).fresh here.at) _ little) are k o note place row checked (covered_sized e.0 covered.0) parts.0
+        (subst (λ us. fresh_behind (view s.frame e.0) fresh here.at + length us < 2 ^ 32) (right_fresh_is s.frame o (view s.frame e.0) f.0 here.at) (right_room fresh ((view s.frame e.0).fresh here.at) _ little)) parts.1))
       where
         Of : CType → CType → Type 0
         Of t u = IsNotStuck (NodeClaims s store entry here h note.ctype (node_view s.frame (Node-F.Bin o (view s.frame e.0) (view s.frame f.0))))
             (evaluated store (of_operands s.text.layout o t u place ((part_of e.0).value s.text s.variables k) ((part_of f.0).value s.text s.variables (k + (part_of e.0).literals))))
     node_step (Node-F.Pick e f g) note place row typed covered node checked fresh little are fault judged noted k =
-        let parts = three_parts _ _ _ e.0 f.0 g.0 judged in
         choice_claims s store entry here h e.0 f.0 g.0 note.ctype ((part_of e.0).value s.text s.variables k) ((part_of f.0).value s.text s.variables (k + (part_of e.0).literals))
-        ((part_of g.0).value s.text s.variables (k + (part_of e.0).literals + (part_of f.0).literals)) (e.1.claims typed.0 here covered.0 h fresh little are parts.0 k) (f.1.claims typed.1 here covered.1 h _ (little_on e.0 fresh) (are_on e.0 fresh little are) parts.1 (k + (part_of e.0).literals))
-        (g.1.claims typed.2 here covered.2 h _ (little_on f.0 _) (are_on f.0 _ (little_on e.0 fresh) (are_on e.0 fresh little are)) parts.2 (k + (part_of e.0).literals + (part_of f.0).literals)) row.row
+        ((part_of g.0).value s.text s.variables (k + (part_of e.0).literals + (part_of f.0).literals)) (e.1.claims typed.0 here covered.0 h fresh first are parts.0 k)
+        (f.1.claims typed.1 here covered.1 h (fresh_behind (view s.frame e.0) fresh here.at) second (are_on e.0 fresh first are) parts.1 (k + (part_of e.0).literals))
+        (g.1.claims typed.2 here covered.2 h (fresh_behind (view s.frame f.0) (fresh_behind (view s.frame e.0) fresh here.at) here.at) third (are_on f.0 _ second (are_on e.0 fresh first are)) parts.2
+        (k + (part_of e.0).literals + (part_of f.0).literals)) row.row
+      where
+        parts : ((view s.frame e.0).judged fresh here.at ≡ Ok e.0) × ((view s.frame f.0).judged (fresh_behind (view s.frame e.0) fresh here.at) here.at ≡ Ok f.0)
+            × ((view s.frame g.0).judged (fresh_behind (view s.frame f.0) (fresh_behind (view s.frame e.0) fresh here.at) here.at) here.at ≡ Ok g.0)
+        parts = three_parts _ _ _ e.0 f.0 g.0 judged
+
+        both : fresh + length ((view s.frame e.0).fresh here.at ++ (view s.frame f.0).fresh here.at) < 2 ^ 32
+        both = left_room fresh ((view s.frame e.0).fresh here.at ++ (view s.frame f.0).fresh here.at) ((view s.frame g.0).fresh here.at) little
+
+        first : fresh + length ((view s.frame e.0).fresh here.at) < 2 ^ 32
+        first = left_room fresh ((view s.frame e.0).fresh here.at) ((view s.frame f.0).fresh here.at) both
+
+        second : fresh_behind (view s.frame e.0) fresh here.at + length ((view s.frame f.0).fresh here.at) < 2 ^ 32
+        second = right_room fresh ((view s.frame e.0).fresh here.at) ((view s.frame f.0).fresh here.at) both
+
+        third : fresh_behind (view s.frame f.0) (fresh_behind (view s.frame e.0) fresh here.at) here.at + length ((view s.frame g.0).fresh here.at) < 2 ^ 32
+        third = subst (λ n. n + length ((view s.frame g.0).fresh here.at) < 2 ^ 32) (sym (next_both fresh ((view s.frame e.0).fresh here.at) ((view s.frame f.0).fresh here.at) both))
+            (right_room fresh ((view s.frame e.0).fresh here.at ++ (view s.frame f.0).fresh here.at) ((view s.frame g.0).fresh here.at) little)
     node_step (Node-F.Cast w e) note place row typed covered node checked fresh little are fault judged noted k =
         cast_claims s store entry here h e.0 note.ctype place ((part_of e.0).value s.text s.variables k)
         (e.1.claims typed here covered h fresh little are (one_part (λ a. Node-F.Cast w a) (λ a b e. cc) _ e.0 judged) k) w (type_written w) (part_of e.0).ctype (is_null e.0) row.row.1 checked row.row.0
@@ -340,13 +365,16 @@ module _ (globals : Globals) (s : Setting) (agrees : Agrees globals s) (declares
         subst (λ t. Of t (part_of e.0).ctype (part_of f.0).ctype) is (subst (λ u. Of (element_of e.0.note.ctype) u (part_of f.0).ctype) (sym (parted_type e.0)) (subst (λ q. Of (element_of e.0.note.ctype) e.0.note.ctype q) (sym (parted_type f.0))
         (read_claims (Node-F.Index (view s.frame e.0) (view s.frame f.0)) e node place (integer_of f.0.note.ctype) ((part_of e.0).value s.text s.variables k)
         ((part_of f.0).value s.text s.variables (k + (part_of e.0).literals)) (ExprClaims s store entry here f.0)
-        (e.1.claims typed.0 here covered.0 h fresh little are parts.0 k)
-        (f.1.claims typed.1 here covered.1 h _ (little_on e.0 fresh) (are_on e.0 fresh little are) parts.1 (k + (part_of e.0).literals))
-        (covered_few e.0 covered.0) fresh little are fault refl refl (λ b. refl) (ap kind_of (viewed_type e.0))
-        (λ x c j there a at g target. element_aims s store entry next ready here h e.0 fresh (covered_few e.0 covered.0) little are x c (exact (integer_of f.0.note.ctype) j.number) ((view s.frame f.0).form here.at.facts)
+        (e.1.claims typed.0 here covered.0 h fresh first are parts.0 k)
+        (f.1.claims typed.1 here covered.1 h (fresh_behind (view s.frame e.0) fresh here.at) (right_room fresh ((view s.frame e.0).fresh here.at) ((view s.frame f.0).fresh here.at) little) (are_on e.0 fresh first are) parts.1 (k + (part_of e.0).literals))
+        (covered_few e.0 covered.0) fresh first are fault refl refl (λ b. refl) (ap kind_of (viewed_type e.0))
+        (λ x c j there a at g target. element_aims s store entry next ready here h e.0 fresh (covered_few e.0 covered.0) first are x c (exact (integer_of f.0.note.ctype) j.number) (view s.frame f.0).form
         (index_of here h f.0 typed.1 (k + (part_of e.0).literals) j there) a at (is_raw_kind (kind_of (view s.frame e.0).ctype))
         (ap is_raw_kind (ap kind_of (viewed_type e.0)) ∙ (every_here-Expr Name Note AnyLimits AnyNode (IsCoveredExpr s store here.seen) e.0 covered.0).checked) g target))))
       where
+        first : fresh + length ((view s.frame e.0).fresh here.at) < 2 ^ 32
+        first = left_room fresh ((view s.frame e.0).fresh here.at) ((view s.frame f.0).fresh here.at) little
+
         is : element_of e.0.note.ctype ≡ note.ctype
         is = some_if (is_moved e.0.note.ctype && is_integer f.0.note.ctype) (element_of e.0.note.ctype) note.ctype row.row
 
@@ -359,6 +387,9 @@ module _ (globals : Globals) (s : Setting) (agrees : Agrees globals s) (declares
       where
         made : NodeView
         made = node_view s.frame (Node-F.Arrow (view s.frame e.0) n spot)
+
+        inner : fresh + length ((view s.frame e.0).fresh here.at) < 2 ^ 32
+        inner = parts_room fresh ((view s.frame e.0).fresh here.at) (own_fresh note.ctype made here.at.facts) little
 
         v : Expr
         v = (part_of e.0).value s.text s.variables k
@@ -374,10 +405,10 @@ module _ (globals : Globals) (s : Setting) (agrees : Agrees globals s) (declares
         Read = IsNotStuck (NodeClaims s store entry here h note.ctype made) (evaluated store (read_at s.text.layout note.ctype None (member_place s.text.layout tag n (target_place s.text.layout e.0.note.ctype place v))))
 
         inside : IsNotStuck (ExprClaims s store entry here e.0) (evaluated store v)
-        inside = e.1.claims typed here covered h fresh little are (one_part (λ a. Node-F.Arrow a n spot) (λ a b e. cc) _ e.0 judged) k
+        inside = e.1.claims typed here covered h fresh inner are (one_part (λ a. Node-F.Arrow a n spot) (λ a b e. cc) _ e.0 judged) k
 
-        ranged : is_counted_kind (kind_of e.0.note.ctype) ≡ true → (x : Value) → ExprClaims s store entry here e.0 x → IsRanged s store entry next ready here h e.0 fresh (covered_few e.0 covered) little are x
-        ranged counted = ranged_pointer s store entry next ready here h e.0 fresh (covered_few e.0 covered) little are place (ap is_counted_kind (ap kind_of (viewed_type e.0)) ∙ counted) fault
+        ranged : is_counted_kind (kind_of e.0.note.ctype) ≡ true → (x : Value) → ExprClaims s store entry here e.0 x → IsRanged s store entry next ready here h e.0 fresh (covered_few e.0 covered) inner are x
+        ranged counted = ranged_pointer s store entry next ready here h e.0 fresh (covered_few e.0 covered) inner are place (ap is_counted_kind (ap kind_of (viewed_type e.0)) ∙ counted) fault
 
         part : IsArrow s e.0 n note.ctype → IsPart s.text.layout (element_of e.0.note.ctype) (0 + offset_of s.text.layout tag (member_number n)) (width_of note.ctype)
         part node = member_behind s.text.layout (element_of e.0.note.ctype) n note.ctype node.member.number node.member.named node.member.there
@@ -387,17 +418,17 @@ module _ (globals : Globals) (s : Setting) (agrees : Agrees globals s) (declares
 
         several : IsArrow s e.0 n note.ctype → is_counted_kind (kind_of e.0.note.ctype) ≡ true → Read
         several node counted =
-            element_claims s store entry next ready here h e.0 fresh (covered_few e.0 covered) little are place Int v (Number 0) (λ x. Unit {0}) inside tt counted (ranged counted)
+            element_claims s store entry next ready here h e.0 fresh (covered_few e.0 covered) inner are place Int v (Number 0) (λ x. Unit {0}) inside tt counted (ranged counted)
             (0 + offset_of s.text.layout tag (member_number n)) note.ctype (part node) node.member.integer made refl refl (λ b. refl)
-            (narrow_there s store entry next ready here h e.0 fresh (covered_few e.0 covered) little are place Int v (Number 0) (λ x. Unit {0}) inside tt counted (ranged counted)
+            (narrow_there s store entry next ready here h e.0 fresh (covered_few e.0 covered) inner are place Int v (Number 0) (λ x. Unit {0}) inside tt counted (ranged counted)
             (0 + offset_of s.text.layout tag (member_number n)) note.ctype (part node) made refl)
 
         address : IsPointerArrow s store e.0 n note.ctype → Of e.0.note.ctype
         address node =
             subst (λ x. IsNotStuck (NodeClaims s store entry here h note.ctype made) (evaluated store x))
             (sym (ap (λ o. read_at s.text.layout note.ctype o (member_place s.text.layout tag n (target_place s.text.layout e.0.note.ctype place v)))
-            (count_there s store entry next ready here h e.0 n spot note.ctype node (viewed_type e.0) fresh (covered_few e.0 covered) little are place v inside ranged)))
-            (arrow_claims s store entry next ready here h e.0 n spot note.ctype node (viewed_type e.0) fresh (covered_few e.0 covered) little are place v inside ranged)
+            (count_there s store entry next ready here h e.0 n spot note.ctype node (viewed_type e.0) fresh (covered_few e.0 covered) inner are place v inside ranged)))
+            (arrow_claims s store entry next ready here h e.0 n spot note.ctype node (viewed_type e.0) fresh (covered_few e.0 covered) inner are place v inside ranged)
 
         number : IsArrow s e.0 n note.ctype → Of e.0.note.ctype
         number node =
@@ -409,7 +440,7 @@ module _ (globals : Globals) (s : Setting) (agrees : Agrees globals s) (declares
 
     address_step : (y : Node-F Name Note KeptLimits KeptNode KeptExpr) (note : Note) (place : Pos) → IsRow globals s (inner_node y) note → PartsEvery (HasRow globals s) (inner_node y)
         → PartsEvery (IsCoveredExpr s store here.seen) (inner_node y) → IsCoveredNode s store here.seen note.ctype (inner_node y) → IsAddressed (inner_node y)
-        → (fresh : ℕ) → fresh < 2 ^ 32 → AreFresh s.frame fresh → node_judged s.frame (viewed_node (inner_node y)) note.ctype fresh here.at ≡ Ok (node_of (inner_node y))
+        → (fresh : ℕ) → fresh + length ((node_view s.frame (viewed_node (inner_node y))).fresh here.at) < 2 ^ 32 → AreFresh s.frame fresh → node_judged s.frame (viewed_node (inner_node y)) note.ctype fresh here.at ≡ Ok (node_of (inner_node y))
         → (r : CType) → is_pointer r ≡ true → kind_of r ≡ Some kind.Arr → element_of r ≡ note.ctype
         → (k : ℕ) → IsNotStuck (NodeClaims s store entry here h r (node_view s.frame (Node-F.Un op.Address (expr_view (record { node = node_view s.frame (viewed_node (inner_node y)); pos = place; note = note })))))
         (evaluated store (node_address (part_node (inner_node y)) note place s.text s.variables k))
@@ -427,11 +458,15 @@ module _ (globals : Globals) (s : Setting) (agrees : Agrees globals s) (declares
         let small = covered_sized e.0 covered.0 in
         subst (λ t. Of t (part_of f.0).ctype) (sym (parted_type e.0)) (subst (λ u. Of e.0.note.ctype u) (sym (parted_type f.0))
         (weaker (evaluated store (of_operands s.text.layout op.Add e.0.note.ctype f.0.note.ctype place v w))
-        (sum_claims s store entry here h e.0 f.0 e.0.note.ctype place v w (left_claims e f typed covered fresh little are k parts.0) (right_claims e f typed covered fresh little are k here.at parts.1 h) (viewed_type e.0)
+        (sum_claims s store entry here h e.0 f.0 e.0.note.ctype place v w (left_claims e f typed covered fresh first are k parts.0)
+        (right_claims e f typed covered fresh first are k here.at (right_room fresh ((view s.frame e.0).fresh here.at) ((view s.frame f.0).fresh here.at) little) parts.1 h) (viewed_type e.0)
         (λ x is. index_of here h e.0 typed.0 k x is) (λ x is. index_of here h f.0 typed.1 (k + (part_of e.0).literals) x is) checked
         (ap (λ b. if b then Some e.0.note.ctype else (if is_integer e.0.note.ctype && is_moved f.0.note.ctype then Some f.0.note.ctype else arithmetic_type e.0.note.ctype f.0.note.ctype)) moved))
         (λ x there c. index_claims s store entry here h e.0 note place bare r pointer array (element ∙ sym is) f.0 (counted_pointer e.0.note.ctype node.counted) checked (viewed_type e.0) x c)))
       where
+        first : fresh + length ((view s.frame e.0).fresh here.at) < 2 ^ 32
+        first = left_room fresh ((view s.frame e.0).fresh here.at) ((view s.frame f.0).fresh here.at) little
+
         v : Expr
         v = (part_of e.0).value s.text s.variables k
 
@@ -471,7 +506,7 @@ module _ (globals : Globals) (s : Setting) (agrees : Agrees globals s) (declares
         (node_step here h y note place (subst (λ z. IsRow globals s z note) out row)
         (subst (PartsEvery (HasRow globals s)) out (parts_every (HasRow globals s) (roll-Node Name Note (inner_node y)) typed))
         (subst (PartsEvery (IsCoveredExpr s store here.seen)) out (parts_every (IsCoveredExpr s store here.seen) (roll-Node Name Note (inner_node y)) covered))
-        (subst (IsCoveredNode s store here.seen note.ctype) out node) checked fresh little are
+        (subst (IsCoveredNode s store here.seen note.ctype) out node) checked fresh (subst (λ (n : NodeView). fresh + length (node_fresh note.ctype n here.at) < 2 ^ 32) n_is little) are
         (subst (λ (n : NodeView). n.fault place fresh here.at ≡ None) n_is fault)
         (subst (λ (n : NodeView). n.judged note.ctype fresh here.at ≡ Ok (node_of (inner_node y))) n_is (judged ∙ ap Ok (node_rolled (inner_node y))))
         (λ p. subst (λ (n : NodeView). note.range ≡ pointer_range note.ctype n 0 fresh here.at) n_is (noted p)) k));
@@ -488,7 +523,7 @@ module _ (globals : Globals) (s : Setting) (agrees : Agrees globals s) (declares
         (address_step here h y note place (subst (λ z. IsRow globals s z note) out row)
         (subst (PartsEvery (HasRow globals s)) out (parts_every (HasRow globals s) (roll-Node Name Note (inner_node y)) typed))
         (subst (PartsEvery (IsCoveredExpr s store here.seen)) out (parts_every (IsCoveredExpr s store here.seen) (roll-Node Name Note (inner_node y)) covered))
-        (subst (IsCoveredNode s store here.seen note.ctype) out node) (subst IsAddressed out addressed) fresh little are
+        (subst (IsCoveredNode s store here.seen note.ctype) out node) (subst IsAddressed out addressed) fresh (subst (λ (n : NodeView). fresh + length (n.fresh here.at) < 2 ^ 32) n_is little) are
         (subst (λ (n : NodeView). n.judged note.ctype fresh here.at ≡ Ok (node_of (inner_node y))) n_is (judged ∙ ap Ok (node_rolled (inner_node y)))) r pointer array element k));
   })
 
@@ -501,13 +536,13 @@ module _ (globals : Globals) (s : Setting) (agrees : Agrees globals s) (declares
         let e : NotedExpr = roll-Expr Name Note (inner_expr y) in
         let v_is : view s.frame e ≡ expr_view (viewed_expr (inner_expr y)) = fold-roll-Expr Name Note LimitsView NodeView View limits_view (node_view s.frame) expr_view (inner_expr y) in
         let q_is : part_of e ≡ expr_parts (part_expr (inner_expr y)) = fold-roll-Expr Name Note LimitsPart NodePart Part limits_parts node_parts expr_parts (inner_expr y) in
-        let P : View → Part → Type 0 = λ v q. IsNotStuck (Claims s store entry here y.note.ctype v.values v.place v.range v.behind v.target v.is_zero v.side) (evaluated store (q.value s.text s.variables k)) in
+        let P : View → Part → Type 0 = λ v q. IsNotStuck (Claims s store entry here y.note.ctype v.values v.place v.range v.fresh v.behind v.target v.is_zero v.side) (evaluated store (q.value s.text s.variables k)) in
         let seen : IsJudged (view_of_node s.frame y.node.0) y.pos y.note y.node.0 fresh here.at =
         judged_is (view_of_node s.frame y.node.0) y.pos y.note y.node.0 fresh here.at (subst (λ (v : View). v.judged fresh here.at ≡ Ok e) v_is judged) in
         let row : IsRow globals s (out-Node Name Note y.node.0) y.note = every_here-Expr Name Note AnyLimits AnyNode (HasRow globals s) e typed in
         let cover : IsCoveredExpr s store here.seen (record { node = y.node.0; pos = y.pos; note = y.note }) = every_here-Expr Name Note AnyLimits AnyNode (IsCoveredExpr s store here.seen) e covered in
         subst (λ v. P v (part_of e)) (sym v_is) (subst (λ q. P (expr_view (viewed_expr (inner_expr y))) q) (sym q_is)
-        (y.node.1.claims y.note y.pos row (node_every (HasRow globals s) e typed) here (node_every (IsCoveredExpr s store here.seen) e covered) cover.node cover.checked h fresh little are seen.node seen.fault seen.range k));
+        (y.node.1.claims y.note y.pos row (node_every (HasRow globals s) e typed) here (node_every (IsCoveredExpr s store here.seen) e covered) cover.node cover.checked h fresh (subst (λ (v : View). fresh + length (v.fresh here.at) < 2 ^ 32) v_is little) are seen.node seen.fault seen.range k));
     address = λ typed here covered addressed h fresh little are judged r pointer array element k.
         let e : NotedExpr = roll-Expr Name Note (inner_expr y) in
         let v_is : view s.frame e ≡ expr_view (viewed_expr (inner_expr y)) = fold-roll-Expr Name Note LimitsView NodeView View limits_view (node_view s.frame) expr_view (inner_expr y) in
@@ -518,12 +553,12 @@ module _ (globals : Globals) (s : Setting) (agrees : Agrees globals s) (declares
         let row : IsRow globals s (out-Node Name Note y.node.0) y.note = every_here-Expr Name Note AnyLimits AnyNode (HasRow globals s) e typed in
         let cover : IsCoveredExpr s store here.seen (record { node = y.node.0; pos = y.pos; note = y.note }) = every_here-Expr Name Note AnyLimits AnyNode (IsCoveredExpr s store here.seen) e covered in
         subst (λ v. P v (part_of e)) (sym v_is) (subst (λ q. P (expr_view (viewed_expr (inner_expr y))) q) (sym q_is)
-        (y.node.1.address y.note y.pos row (node_every (HasRow globals s) e typed) here (node_every (IsCoveredExpr s store here.seen) e covered) cover.node addressed h fresh little are seen r pointer array element k));
+        (y.node.1.address y.note y.pos row (node_every (HasRow globals s) e typed) here (node_every (IsCoveredExpr s store here.seen) e covered) cover.node addressed h fresh (parts_room fresh ((view_of_node s.frame y.node.0).fresh here.at) (own_fresh y.note.ctype (view_of_node s.frame y.node.0) here.at.facts) (subst (λ (v : View). fresh + length (v.fresh here.at) < 2 ^ 32) v_is little)) are seen r pointer array element k));
   })
 
   expr_holds : (e : NotedExpr) → ExprHolds e
   expr_holds = ind-Expr Name Note AnyLimitsHold NodeHolds ExprHolds limits_by node_by expr_by
 
-  pub expr_claims : (e : NotedExpr) → IsTyped globals s e → (here : Here) → IsCovered s store here.seen e → HoldsAt s store entry here → (fresh : ℕ) → fresh < 2 ^ 32 → AreFresh s.frame fresh → (view s.frame e).judged fresh here.at ≡ Ok e
-      → (k : ℕ) → IsNotStuck (ExprClaims s store entry here e) (evaluated store ((part_of e).value s.text s.variables k))
+  pub expr_claims : (e : NotedExpr) → IsTyped globals s e → (here : Here) → IsCovered s store here.seen e → HoldsAt s store entry here → (fresh : ℕ) → fresh + length ((view s.frame e).fresh here.at) < 2 ^ 32 → AreFresh s.frame fresh
+      → (view s.frame e).judged fresh here.at ≡ Ok e → (k : ℕ) → IsNotStuck (ExprClaims s store entry here e) (evaluated store ((part_of e).value s.text s.variables k))
   expr_claims e = (expr_holds e).claims

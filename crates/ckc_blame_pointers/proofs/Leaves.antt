@@ -1,5 +1,5 @@
 -- The claims of numbers, of null, of locals, of unary operators, of `?:` and of casts.
-use Rattle.std.proofs.Common.{◌≡◌, ◌⊎◌, inl, refl, sym, ap, subst, ◌∙◌, ℕ, Bool, true, false, List, arith}
+use Rattle.std.proofs.Common.{◌≡◌, ◌⊎◌, inl, refl, sym, ap, subst, ◌∙◌, ℕ, Bool, true, false, List, [], arith}
 use Rattle.std.specs.Prelude.{◌+◌, ◌%◌, ◌==◌, ◌<◌, ◌^◌, ◌&&◌, ◌||◌, not, if◌then◌else◌, slice_index, pos, Option, None, Some}
 use Rattle.std.specs.Option.{option_or}
 use Rattle.std.proofs.lemmas.Bool.{eqb-true}
@@ -23,7 +23,7 @@ use Rattle.ckc_bounds_points.specs.Frames.{local_at}
 use Rattle.ckc_bounds_points.specs.Forms.{base_form}
 use Rattle.ckc_bounds_ranges.specs.Rows.{range_of_local}
 use Rattle.ckc_bounds_views.specs.Parts.{NodeView}
-use Rattle.ckc_bounds_views.specs.Places.{with_own}
+use Rattle.ckc_bounds_views.specs.Places.{with_own, pointer_place}
 use Rattle.ckc_bounds_views.specs.Ranges.{pointer_range}
 use Rattle.ckc_bounds_views.specs.Views.{node_view, view}
 use Rattle.ckc_bounds_statements.specs.Paths.{Here}
@@ -42,11 +42,12 @@ use Rattle.ckc_blame_sound.specs.Values.{IsWordOf}
 use Rattle.ckc_blame_sound.specs.Points.{HoldsAt}
 use Rattle.ckc_blame_numbers.specs.Typed.{Agrees}
 use Rattle.ckc_blame_numbers.proofs.Types.{some_is, no_pointer, wide_word, byte_word, sign_row}
+use Rattle.ckc_blame_pointers.specs.Valuations.{IsReadIn}
 use Rattle.ckc_blame_pointers.specs.Covered.{DeclareLocals, IsInScope}
 use Rattle.ckc_blame_pointers.specs.Meant.{IsNotStuck}
-use Rattle.ckc_blame_pointers.proofs.Claims.{Placed, SideGoes, weaker, goes_on, stays, nothing_read}
+use Rattle.ckc_blame_pointers.proofs.Claims.{SideGoes, weaker, goes_on, stays, nothing_read, still_placed, placed_as}
 use Rattle.ckc_blame_pointers.proofs.Moving.{at_base}
-use Rattle.ckc_blame_pointers.proofs.Nodes.{NodeClaims, narrow, integer_claims, quiet_claims, LocalComes, local_comes}
+use Rattle.ckc_blame_pointers.proofs.Nodes.{node_fresh, NodeClaims, narrow, integer_claims, quiet_claims, local_readable, LocalComes, local_comes}
 use Rattle.ckc_blame_pointers.proofs.Rows.{IsSmall, operation_word, Wide, wide_small, int_row, arithmetic_wide}
 use Rattle.ckc_blame_pointers.proofs.Binary.{ExprClaims, small_value, flag_small}
 use Rattle.ckc_blame_numbers.proofs.Nodes.{not_side}
@@ -74,15 +75,20 @@ module _ (s : Setting) (store : Store) (entry : List ℕ) (here : Here) (h : Hol
 
   -- ---- null
 
+  abbrev null_view : NodeView
+  null_view = node_view s.frame Node-F.Null
+
   pub null_claims : (t : CType) → IsNotStuck (NodeClaims s store entry here h t (node_view s.frame Node-F.Null)) (plain 0)
   null_claims t = record {
     word = zero_word t;
     placed = λ first fresh before low little are fits.
-        subst (λ (f : Option Form). Placed s store entry here t (first + with_own t (node_view s.frame Node-F.Null)) f range.Any first fresh before (record { number = 0; range = Without })) (sym (none (is_pointer t)))
-        (record { after = before; place_below = tt; range_below = tt; of_local = tt; extends = record { addresses = λ n h. refl; numbers = λ x h. refl }; place_is = tt; range_is = refl });
+        placed_as s store entry here t (first + with_own t null_view) (first + with_own t null_view) (λ facts. None) (pointer_place t null_view first) (λ at. range.Any) (pointer_range t null_view first fresh) [] (node_fresh t null_view here.at) first fresh before
+        (record { number = 0; range = Without }) refl (λ facts. none (is_pointer t)) (λ widened. refl) refl
+        (still_placed s store entry here t (first + with_own t null_view) (λ facts. None) (λ at. range.Any) [] first fresh before (record { number = 0; range = Without }) little are fits (λ facts. tt) tt (λ facts. tt) (λ v fits facts. tt)
+        (λ v fits. refl) (λ widened bounded v fits. refl));
     one = λ ones e. inl refl;
     zero = λ e. refl;
-    wide = λ e. narrow s store entry here h (node_view s.frame Node-F.Null) refl;
+    wide = λ e. narrow s store entry here h null_view refl;
     sides = λ b e. subst (SideGoes s store entry here) (sym (nothing_read s store entry (λ facts. None) b here.at)) (stays s store entry here h);
   }
     where
@@ -110,16 +116,12 @@ module _ (s : Setting) (store : Store) (entry : List ℕ) (here : Here) (h : Hol
     pointer_local pointer p c = record {
       word = subst (IsWordOf kept) (sym c.0) word_is;
       placed = λ first fresh before low little are fits.
-          subst (λ (f : Option Form). Placed s store entry here kept (first + with_own kept node) f (pointer_range kept node first fresh here.at) first fresh before p) (sym place)
-          (subst (λ (r : Range). Placed s store entry here kept (first + with_own kept node) (Some (base_form (base.Local k))) r first fresh before p) (sym range_there) (record {
-            after = before;
-            place_below = tt;
-            of_local = λ l there. let same : scope.local ≡ l = local_same l there in ap (λ (l : locals.Local). element_of l.ctype) (sym same);
-            range_below = c.1 (first + with_own kept node);
-            extends = record { addresses = λ n h. refl; numbers = λ x h. refl };
-            place_is = ap pos c.0 ∙ sym (at_base s store entry here kept before (fits 0 (inl refl)) (base.Local k));
-            range_is = c.2 before fits;
-          }));
+          placed_as s store entry here kept (first + with_own kept node) (first + with_own kept node) (λ facts. Some (base_form (base.Local k))) (pointer_place kept node first) (λ at. range_of_local s.frame k at.widened) (pointer_range kept node first fresh) []
+          (node_fresh kept node here.at) first fresh before p refl (λ facts. place) range_there refl
+          (still_placed s store entry here kept (first + with_own kept node) (λ facts. Some (base_form (base.Local k))) (λ at. range_of_local s.frame k at.widened) [] first fresh before p little are fits
+          (λ facts. tt) (c.1 (first + with_own kept node)) (λ facts l there. let same : scope.local ≡ l = local_same l there in ap (λ (l : locals.Local). element_of l.ctype) (sym same))
+          (λ v fits facts. ap pos c.0 ∙ sym (at_base s store.locals kept v (fits 0 (inl refl)) (base.Local k))) c.2
+          (λ widened bounded v fits. subst (IsReadIn s store v kept (range_of_local s.frame k widened)) (sym c.0) (local_readable s store entry here h globals agrees declares k scope widened bounded v fits)));
       one = λ ones e.
           subst (λ n. (n ≡ 0) ⊎ (is_true store.shapes store.blocks (pointee_of s.text.layout kept) n n (n + size_behind s.text.layout kept) ≡ true)) (sym c.0)
           (local_one globals s agrees declares ones store entry here h k scope.local scope.there scope.seen_there e);
@@ -131,8 +133,8 @@ module _ (s : Setting) (store : Store) (entry : List ℕ) (here : Here) (h : Hol
         place : ◌≡◌ {A = Option Form} (if is_pointer kept then Some (base_form (base.Local k)) else None) (Some (base_form (base.Local k)))
         place = ap (λ b. if b then Some (base_form (base.Local k)) else None) pointer
 
-        range_there : ◌≡◌ {A = Range} (if is_pointer kept then range_of_local s.frame k here.at.widened else range.Missing) (range_of_local s.frame k here.at.widened)
-        range_there = ap (λ b. if b then range_of_local s.frame k here.at.widened else range.Missing) pointer
+        range_there : (widened : List ℕ) → ◌≡◌ {A = Range} (if is_pointer kept then range_of_local s.frame k widened else range.Missing) (range_of_local s.frame k widened)
+        range_there widened = ap (λ b. if b then range_of_local s.frame k widened else range.Missing) pointer
 
     -- a local that is read with the range that it is judged to have
     pub local_claims : (r : Range) → (is_integer kept ≡ true → r ≡ range.Missing) → (is_pointer kept ≡ true → r ≡ range_of_local s.frame k here.at.widened)

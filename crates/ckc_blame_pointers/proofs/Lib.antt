@@ -1,3 +1,5 @@
+pub mod Unwidened
+pub mod Later
 pub mod Numbers
 pub mod Claims
 pub mod Reading

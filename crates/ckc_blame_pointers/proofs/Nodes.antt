@@ -17,9 +17,11 @@ use Rattle.ckc_bounds_points.specs.declared.frame.Bounds.{Bounds}
 use Rattle.ckc_bounds_points.specs.declared.frame.Bounds.TheVariants as bounds
 use Rattle.ckc_bounds_points.specs.declared.frame.Local.{Local}
 use Rattle.ckc_bounds_points.specs.Frames.{local_at}
+use Rattle.ckc_bounds_points.specs.Flow.{State}
 use Rattle.ckc_bounds_points.specs.Forms.{moved_form}
 use Rattle.ckc_bounds_ranges.specs.Rows.{range_moved, range_of_bounds, range_widened, range_by, range_of_local}
-use Rattle.ckc_bounds_views.specs.Parts.{NodeView}
+use Rattle.ckc_bounds_views.specs.Parts.{NodeView, with_last}
+use Rattle.ckc_bounds_views.specs.Fresh.{own_fresh}
 use Rattle.ckc_bounds_views.specs.Conditions.{widening}
 use Rattle.ckc_bounds_views.specs.Places.{with_own, pointer_place}
 use Rattle.ckc_bounds_views.specs.Ranges.{pointer_range}
@@ -34,14 +36,14 @@ use Rattle.ckc_build_values.specs.Ends.{end_at}
 use Rattle.ckc_build_values.specs.Expressions.{local_in}
 use Rattle.ckc_blame_sound.specs.Settings.{Setting}
 use Rattle.ckc_blame_sound.specs.Values.{IsWordOf}
-use Rattle.ckc_blame_sound.specs.Points.{AreBounded, HoldsAt}
+use Rattle.ckc_blame_sound.specs.Points.{IsReadable, IsBounded, AreBounded, HoldsAt}
 use Rattle.ckc_typed.specs.declared.environment.Globals.{Globals}
 use Rattle.ckc_blame_numbers.specs.Typed.{Agrees}
-use Rattle.ckc_blame_pointers.specs.Valuations.{Valuation, Fits, HasEnds, IsInRange, BaseBelow, RangeBelow}
+use Rattle.ckc_blame_pointers.specs.Valuations.{Valuation, Fits, address_by, HasEnds, IsTrueBetween, IsInRange, IsReadIn, BaseBelow, RangeBelow}
 use Rattle.ckc_blame_pointers.specs.Covered.{IsLocalBase, IsLocalForm, DeclareLocals, IsInScope}
 use Rattle.ckc_blame_pointers.specs.Meant.{IsNotStuck}
 use Rattle.ckc_blame_pointers.proofs.Claims.{SideGoes, Claims, no_one, weaker, stays, not_placed}
-use Rattle.ckc_blame_pointers.proofs.Reading.{Ranged, end_is, range_local, local_reads}
+use Rattle.ckc_blame_pointers.proofs.Reading.{Ranged, Reads, reads_gives, ok_gives, end_is, range_local, local_reads}
 
 -- a pointer that is moved without wrapping, unless that stops
 pub moved_goes : (Q : Value → Type 0) (shift : Shift) (v : Value) (k : ℕ) → shift.checked ≡ true
@@ -65,10 +67,14 @@ moved_goes Q shift v k checked next =
     by_null true e = tt
     by_null false e = by_address (moved_exactly shift v.number (exact shift.index k)) refl (λ z. let same : (v.number == 0) ≡ true = ap (λ n. n == 0) z in absurd (cc))
 
+-- the types of the fresh variables that a node needs at a point, its own included
+abbrev pub node_fresh : CType → NodeView → State → List CType
+node_fresh t n at = with_last (n.fresh at) (own_fresh t n at.facts)
+
 module _ (s : Setting) (store : Store) (entry : List ℕ) (here : Here) (h : HoldsAt s store entry here) where
   -- what is claimed of a node of a type
   abbrev pub NodeClaims : CType → NodeView → Value → Type 0
-  NodeClaims t n p = Claims s store entry here t (with_own t n) (pointer_place t n) (pointer_range t n) n.behind n.target n.is_zero n.side p
+  NodeClaims t n p = Claims s store entry here t (with_own t n) (pointer_place t n) (pointer_range t n) (node_fresh t n) n.behind n.target n.is_zero n.side p
 
   -- what reads through no pointer widens nothing
   pub narrow : (n : NodeView) → n.behind ≡ None → AreBounded s store (widening s.frame n.behind (n.target 0 here.at.facts) here.at).widened here.seen
@@ -79,7 +85,7 @@ module _ (s : Setting) (store : Store) (entry : List ℕ) (here : Here) (h : Hol
       → ((b : Bool) → (p.number == 0) ≡ not b → SideGoes s store entry here (n.side b here.at)) → NodeClaims t n p
   integer_claims t n bare none p word null zero sides = record {
     word = word;
-    placed = λ first fresh before low small are fits. not_placed s store entry here t n (first + with_own t n) first fresh before p bare null;
+    placed = λ first fresh before low little are fits. not_placed s store entry here t n (first + with_own t n) (node_fresh t n here.at) first fresh before p bare null little are fits;
     one = no_one s store entry t p.number bare;
     zero = zero;
     wide = λ e. narrow n none;
@@ -124,6 +130,37 @@ module _ (s : Setting) (store : Store) (entry : List ℕ) (here : Here) (h : Hol
             one None e = absurd (cc)
             one (Some f) e = absurd (cc)
 
+    abbrev end_of : Form → ℤ
+    end_of f = end_address store.locals (size_behind s.text.layout scope.local.ctype) word_there (end_at s.text s.variables k f)
+
+    end_there : (v : Valuation) → Fits s.frame store.locals v → (f : Form) → IsLocalForm s f → end_of f ≡ address_by s store.locals v (size_behind s.text.layout scope.local.ctype) f
+    end_there v fits f g = end_is globals s agrees store.locals v fits k (size_behind s.text.layout scope.local.ctype) f g
+
+    -- A pointer local may be read within its bounds, whatever is widened, as long as that may be read so.
+    pub local_readable : (widened : List ℕ) → AreBounded s store widened here.seen → (v : Valuation) → Fits s.frame store.locals v → IsReadIn s store v scope.local.ctype (range_of_local s.frame k widened) word_there
+    local_readable widened bounded v fits = by (range_of_local s.frame k widened) refl (subst (IsBounded s store widened k) scope.there (bounded k scope.seen_there))
+      where
+        by : (r : Range) → range_of_local s.frame k widened ≡ r → IsReadable s store k scope.local.ctype r → IsReadIn s store v scope.local.ctype r word_there
+        by range.Missing e readable = tt
+        by range.Any e readable = absurd (not_any (local_at s.frame k) (list_any (λ p. p == k) widened) e)
+        by (range.Known low high) e readable =
+            let forms = range_local s declares k scope.local scope.there widened low high e in
+            let got = ok_gives (Reads store.shapes store.blocks (pointee_of s.text.layout scope.local.ctype) word_there (end_of low) (end_of high)) _ readable
+            (reads_gives store.shapes store.blocks (pointee_of s.text.layout scope.local.ctype) word_there (end_of low) (end_of high) readable) in
+            ends low high forms.0 forms.1 got.0 got.1.ranged_there
+          where
+            ends : (low high : Form) → IsLocalForm s low → IsLocalForm s high → (p : Value)
+                → (word_there ≡ 0) ⊎ Ranged store.shapes store.blocks (pointee_of s.text.layout scope.local.ctype) word_there (end_of low) (end_of high) p
+                → (word_there ≡ 0) ⊎ IsTrueBetween s store v scope.local.ctype low high word_there
+            ends low high f g p (inl z) = inl z
+            ends low high f g p (inr r) = inr (record {
+              from = r.from;
+              to = r.upto;
+              low_is = r.low_is ∙ end_there v fits low f;
+              high_is = r.high_is ∙ end_there v fits high g;
+              true_there = r.true_there;
+            })
+
     -- what a pointer local is read as
     abbrev pub LocalComes : Range → Value → Type 0
     LocalComes r p = (p.number ≡ word_there)
@@ -137,9 +174,6 @@ module _ (s : Setting) (store : Store) (entry : List ℕ) (here : Here) (h : Hol
         (local_reads s store entry here h k scope.local scope.there scope.seen_there low high (sym e))
         (λ p is reads. (reads.number, λ limit. (local_below limit low forms.0, local_below limit high forms.1), λ v fits. ends p v fits reads.number reads.ranged_there))
       where
-        end_of : Form → ℤ
-        end_of f = end_address store.locals (size_behind s.text.layout scope.local.ctype) word_there (end_at s.text s.variables k f)
-
         forms : IsLocalForm s low × IsLocalForm s high
         forms = range_local s declares k scope.local scope.there here.at.widened low high (sym e)
 
@@ -150,7 +184,7 @@ module _ (s : Setting) (store : Store) (entry : List ℕ) (here : Here) (h : Hol
           from = g.from;
           to = g.upto;
           range = g.range;
-          low_is = g.low_is ∙ end_is globals s agrees store.locals v fits k (size_behind s.text.layout scope.local.ctype) low forms.0;
-          high_is = g.high_is ∙ end_is globals s agrees store.locals v fits k (size_behind s.text.layout scope.local.ctype) high forms.1;
+          low_is = g.low_is ∙ end_there v fits low forms.0;
+          high_is = g.high_is ∙ end_there v fits high forms.1;
           true_there = subst (λ n. is_true store.shapes store.blocks (pointee_of s.text.layout scope.local.ctype) n g.from g.upto ≡ true) (sym same) g.true_there;
         })

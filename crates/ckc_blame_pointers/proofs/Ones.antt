@@ -1,6 +1,6 @@
 -- A local that is a `_Ptr` points to one element.
 use Rattle.std.proofs.Common.{◌≡◌, ◌⊎◌, inl, inr, refl, ap, subst, ◌∙◌, ℕ, ◌+◌, true, false, List, [], arith}
-use Rattle.std.specs.Prelude.{◌*◌, slice_index, ℤ, pos, ◌+ℤ◌, ◌*ℤ◌, Some, Result, Ok, Err, IsOk}
+use Rattle.std.specs.Prelude.{◌*◌, slice_index, ℤ, pos, ◌+ℤ◌, ◌*ℤ◌, Some}
 use Rattle.std.specs.List.{Contains}
 use Rattle.std.proofs.Math.IntN.{pos-*ℤ-pos}
 use Rattle.std.proofs.lemmas.Int.{ints}
@@ -15,7 +15,6 @@ use Rattle.ckc_bounds_points.specs.Frames.{local_at}
 use Rattle.ckc_bounds_points.specs.Forms.{base_form}
 use Rattle.ckc_bounds_ranges.specs.Rows.{range_of_bounds, range_by, range_of_local}
 use Rattle.ckc_bounds_statements.specs.Paths.{Here}
-use Rattle.ckc_source.specs.declared.outcome.Halt.{Halt}
 use Rattle.ckc_source.specs.declared.outcome.Value.{Value}
 use Rattle.ckc_source.specs.Eval.{Store, end_address}
 use Rattle.ckc_source.specs.Runs.{is_true}
@@ -28,13 +27,8 @@ use Rattle.ckc_blame_sound.specs.Points.{IsReadable, IsBounded, HoldsAt}
 use Rattle.ckc_blame_numbers.specs.Typed.{Agrees}
 use Rattle.ckc_blame_pointers.specs.Valuations.{Valuation}
 use Rattle.ckc_blame_pointers.specs.Covered.{IsLocalForm, DeclareLocals, DeclareOnes}
-use Rattle.ckc_blame_pointers.specs.Meant.{IsNotStuck}
-use Rattle.ckc_blame_pointers.proofs.Reading.{Ranged, Reads, reads_gives, end_is, range_local}
+use Rattle.ckc_blame_pointers.proofs.Reading.{Ranged, Reads, reads_gives, ok_gives, end_is, range_local}
 use Rattle.ckc_blame_pointers.proofs.Numbers.{same_number}
-
-ok_gives : (P : Value → Type 0) (x : Result Value Halt) → IsOk x → IsNotStuck P x → (v : Value) × P v
-ok_gives P (Ok v) ok h = (v, h)
-ok_gives P (Err e) ok h = absurd (cc)
 
 no_elements : (n size : ℕ) → elements_behind n size (pos 0 +ℤ pos 0) ≡ pos n
 no_elements n size =

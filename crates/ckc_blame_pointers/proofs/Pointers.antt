@@ -21,6 +21,7 @@ use Rattle.ckc_bounds_views.specs.declared.variables.Own.{Own}
 use Rattle.ckc_bounds_views.specs.Judged.{is_declared_object}
 use Rattle.ckc_bounds_views.specs.Parts.{NodeView}
 use Rattle.ckc_bounds_views.specs.Places.{is_array}
+use Rattle.ckc_bounds_views.specs.Fresh.{own_fresh}
 use Rattle.ckc_bounds_views.specs.Ranges.{range_of_object, range_by_type, range_of_static}
 use Rattle.ckc_bounds_views.specs.Views.{node_view}
 use Rattle.ckc_bounds_ranges.specs.Rows.{range_of_array}
@@ -43,9 +44,10 @@ use Rattle.ckc_blame_pointers.specs.Covered.{IsSoundStore, IsStaticPointer}
 use Rattle.ckc_blame_pointers.specs.Meant.{IsNotStuck}
 use Rattle.ckc_blame_pointers.proofs.Arrays.{object_at}
 use Rattle.ckc_blame_pointers.proofs.Claims.{weaker, nothing_read}
+use Rattle.ckc_blame_pointers.proofs.Later.{zero_typed}
 use Rattle.ckc_blame_pointers.proofs.Nodes.{NodeClaims}
 use Rattle.ckc_blame_pointers.proofs.Reading.{Ranged}
-use Rattle.ckc_blame_pointers.proofs.Own.{fixed_reads, own_claims, same_count}
+use Rattle.ckc_blame_pointers.proofs.Own.{fixed_reads, own_claims, kind_below, kind_range, kind_one, same_count}
 use Rattle.ckc_blame_slots.specs.Cells.{IsCell, IsPart}
 use Rattle.ckc_blame_slots.proofs.Apart.{cell_there, cell_address}
 use Rattle.ckc_blame_slots.proofs.Objects.{object_cell}
@@ -82,8 +84,8 @@ module _ (s : Setting) (store : Store) (entry : List ℕ) (next : ℕ) (ready : 
   single : is_array (slice_get s.frame.statics k) ≡ false
   single = ap is_array c.judged ∙ ap is_some c.single
 
-  ranged : (own : Own) (first fresh : ℕ) → node.range t own first fresh here.at ≡ range_by_type (kind_of t) own.value
-  ranged own first fresh =
+  ranged : (own : Own) (first fresh : ℕ) (widened : List ℕ) → node.range t own first fresh (record here.at { widened = widened }) ≡ range_by_type (kind_of t) own.value
+  ranged own first fresh widened =
       ap (λ o. range_of_static s.frame k o t own.value) c.judged ∙ ap (λ b. if b then range_of_array k c.object else range_of_object (slice_get s.frame.objects k) t own.value) (ap is_some c.single)
       ∙ object_range (slice_get s.frame.objects k) t own.value c.bare
 
@@ -92,7 +94,8 @@ module _ (s : Setting) (store : Store) (entry : List ℕ) (next : ℕ) (ready : 
       → NodeClaims s store entry here h t node x
   comes x small there =
       own_claims s store entry here h t c.pointer node (ap (λ b. is_none (if b then Some (base_form (base.Array k)) else None)) single) refl
-      (λ first. ap (λ b. if b then Some (base_form (base.Array k)) else None) single) ranged x there refl refl (λ b. nothing_read s store entry (λ facts. None) b here.at) small
+      (λ first facts. ap (λ b. if b then Some (base_form (base.Array k)) else None) single) (λ widened. refl) (λ own. range_by_type (kind_of t) own.value) ranged (kind_below s store entry t x there) x (pos 0)
+      refl refl (λ b. nothing_read s store entry (λ facts. None) b here.at) small (zero_typed (own_fresh t node here.at.facts)) (kind_range s store entry t x there (own_fresh t node here.at.facts) (pos 0)) (kind_one s store entry t x there)
 
   at : (b : Block) × (slice_get store.blocks k ≡ Some b) × (b ≡ record (block_of (object_elaborated s.text.layout c.is_run c.object)) { bytes = b.bytes })
   at = object_at (objects_elaborated s.text) store.blocks ready.sound.memory.objects k (object_elaborated s.text.layout c.is_run c.object) c.placed

@@ -1,6 +1,6 @@
 -- A local pointer is read within its bounds, between the addresses that these stand for.
 use Rattle.std.proofs.Common.{◌≡◌, ◌⊎◌, inl, inr, refl, sym, ap, subst, ◌∙◌, ℕ, ◌+◌, ◌-◌, Bool, true, false, List, arith}
-use Rattle.std.specs.Prelude.{◌==◌, ◌&&◌, if◌then◌else◌, slice_index, ℤ, pos, negsuc, ◌+ℤ◌, Option, None, Some, Err, IsOk}
+use Rattle.std.specs.Prelude.{◌==◌, ◌&&◌, if◌then◌else◌, slice_index, ℤ, pos, negsuc, ◌+ℤ◌, Option, None, Some, Result, Ok, Err, IsOk}
 use Rattle.std.specs.List.{Contains, list_any}
 use Rattle.std.proofs.lemmas.Bool.{eqb-true}
 use Rattle.std.proofs.lemmas.Bool.Decides.{nat_tests}
@@ -22,6 +22,7 @@ use Rattle.ckc_bounds_statements.specs.Paths.{Here}
 use Rattle.ckc_source.specs.declared.expr.Base.TheVariants.{Own, Local as OtherLocal}
 use Rattle.ckc_source.specs.declared.expr.Pointee.{Pointee}
 use Rattle.ckc_source.specs.declared.program.Shape.{Shape}
+use Rattle.ckc_source.specs.declared.outcome.Halt.{Halt}
 use Rattle.ckc_source.specs.declared.outcome.Halt.TheVariants as halt
 use Rattle.ckc_source.specs.declared.outcome.Range.TheVariants.{Within}
 use Rattle.ckc_source.specs.declared.outcome.Value.{Value}
@@ -73,6 +74,10 @@ module _ (shapes : List Shape) (blocks : List Block) (to : Pointee) (n : ℕ) wh
           → IsNotStuck (Reads low high) (if b then plain 0 else reads_within shapes blocks to n low high)
       by true e ok = record { number = sym (eqb-true n 0 e); ranged_there = inl (eqb-true n 0 e) }
       by false e ok = within_gives low high ok
+
+pub ok_gives : (P : Value → Type 0) (x : Result Value Halt) → IsOk x → IsNotStuck P x → (v : Value) × P v
+ok_gives P (Ok v) ok h = (v, h)
+ok_gives P (Err e) ok h = absurd (cc)
 
 -- ---- the ends of bounds
 

@@ -1,5 +1,5 @@
 -- What forms over values and fresh variables stand for: a valuation says it.
-use Rattle.std.specs.Prelude.{◌≡◌, ◌⊎◌, ℕ, ◌<◌, ◌≤◌, true, List, slice_index, ℤ, pos, Option, None, Some, IfSome}
+use Rattle.std.specs.Prelude.{◌≡◌, ◌⊎◌, ℕ, ◌<◌, ◌≤◌, true, List, [], ◌∷◌, slice_index, ℤ, pos, Option, None, Some, IfSome}
 use Rattle.ckc_types.specs.declared.types.CType.{CType}
 use Rattle.ckc_linear.specs.declared.forms.Base.{Base}
 use Rattle.ckc_linear.specs.declared.forms.Base.TheVariants as base
@@ -7,6 +7,8 @@ use Rattle.ckc_linear.specs.declared.forms.Form.{Form}
 use Rattle.ckc_typed.specs.declared.typed.Range as noted
 use Rattle.ckc_typed.specs.declared.typed.Range.TheVariants as range
 use Rattle.ckc_bounds_points.specs.declared.frame.Frame.{Frame}
+use Rattle.ckc_bounds_points.specs.Shown.{Known}
+use Rattle.ckc_bounds_views.specs.Parts.{capped}
 use Rattle.ckc_source.specs.declared.outcome.Range.TheVariants.{Within}
 use Rattle.ckc_source.specs.declared.outcome.Value.{Value}
 use Rattle.ckc_source.specs.Eval.{Store}
@@ -15,9 +17,8 @@ use Rattle.ckc_source.specs.Words.{elements_behind}
 use Rattle.ckc_build_values.specs.Kinds.{pointee_of, size_behind}
 use Rattle.ckc_build_values.specs.Names.{address_of}
 use Rattle.ckc_blame_sound.specs.Settings.{Setting}
-use Rattle.ckc_blame_sound.specs.Values.{number_of}
-use Rattle.ckc_blame_sound.specs.Variables.{HaveValues}
-pub use Rattle.ckc_blame_sound.specs.Variables.{IsKnownVariable}
+use Rattle.ckc_blame_sound.specs.Values.{number_of, IsNumberOf}
+use Rattle.ckc_blame_sound.specs.Variables.{HaveValues, AreTrueBy}
 
 -- the numbers that the variables of forms stand for, and the addresses that pointers stand for which are their own base
 pub record Valuation : Type 0 where
@@ -33,6 +34,15 @@ Fits frame locals v = HaveValues frame locals v.numbers
 pub record Extends (first fresh : ℕ) (before after : Valuation) : Type 0 where
   pub addresses : (n : ℕ) → n < first → after.addresses n ≡ before.addresses n
   pub numbers : (x : ℕ) → x ≤ fresh → after.numbers x ≡ before.numbers x
+
+-- Facts are true of the numbers of a valuation.
+abbrev pub AreTrueIn : Valuation → Known → Type 0
+AreTrueIn v facts = AreTrueBy v.numbers facts
+
+-- Variables, of which the first is variable x, stand for numbers of their types.
+abbrev pub AreNumbers : (ℕ → ℤ) → ℕ → List CType → Type 0
+AreNumbers numbers x [] = Unit {0}
+AreNumbers numbers x (t ∷ ts) = IsNumberOf t (numbers x) × AreNumbers numbers (capped x 1) ts
 
 -- the address of the base of a form
 abbrev pub address_in : Setting → List ℕ → Valuation → Option Base → ℕ
@@ -66,6 +76,22 @@ abbrev pub IsInRange : Setting → Store → Valuation → CType → noted.Range
 IsInRange s store v t (range.Known low high) p = (p.number ≡ 0) ⊎ HasEnds s store v t low high p
 IsInRange s store v t range.Any p = p.number ≡ 0
 IsInRange s store v t range.Missing p = Unit {0}
+
+-- A range of a pointer n of a type is true: it is between the addresses that the two ends stand for.
+pub record IsTrueBetween (s : Setting) (store : Store) (v : Valuation) (t : CType) (low high : Form) (n : ℕ)
+    : Type 0 where
+  pub from : ℕ
+  pub to : ℕ
+  pub low_is : pos from ≡ address_by s store.locals v (size_behind s.text.layout t) low
+  pub high_is : pos to ≡ address_by s store.locals v (size_behind s.text.layout t) high
+  pub true_there : is_true store.shapes store.blocks (pointee_of s.text.layout t) n from to ≡ true
+
+-- A pointer n may be read within a range: it is null, or the range is true, if that is known. One that may be used for
+-- any range is null.
+abbrev pub IsReadIn : Setting → Store → Valuation → CType → noted.Range → ℕ → Type 0
+IsReadIn s store v t (range.Known low high) n = (n ≡ 0) ⊎ IsTrueBetween s store v t low high n
+IsReadIn s store v t range.Any n = n ≡ 0
+IsReadIn s store v t range.Missing n = Unit {0}
 
 -- ---- the numbers of values
 

@@ -1,6 +1,6 @@
 //! What follows from the definitions alone, each the contract of a function that does nothing.
 
-ghost use Rattle.std.specs.Prelude.{◌≡◌, ℕ, ◌<◌, ◌^◌, List, Ok};
+ghost use Rattle.std.specs.Prelude.{◌≡◌, ℕ, ◌+◌, ◌<◌, ◌^◌, List, length, Ok};
 ghost use Rattle.ckc_typed.specs.declared.environment.Globals.{Globals};
 ghost use Rattle.ckc_typed.specs.Trees.{NotedExpr};
 ghost use Rattle.ckc_bounds_views.specs.Views.{view};
@@ -21,7 +21,8 @@ ghost use Rattle.ckc_blame_pointers.specs.Meant.{IsNotStuck, IsMeant};
 pub fn expressions_are_not_stuck()
     ensures { (globals : Globals) (s : Setting) (entry : List ℕ) (here : Here)
         (before after : NotedExpr) (fresh literals next : ℕ) (store : Store) → Agrees globals s
-        → DeclareLocals s → IsSoundStore s store next → fresh < 2 ^ 32 → AreFresh s.frame fresh
+        → DeclareLocals s → IsSoundStore s store next
+        → fresh + length ((view s.frame before).fresh here.at) < 2 ^ 32 → AreFresh s.frame fresh
         → IsTyped globals s before
         → (view s.frame before).judged fresh here.at ≡ Ok after → IsCovered s store here.seen after
         → HoldsAt s store entry here
