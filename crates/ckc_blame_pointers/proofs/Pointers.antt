@@ -69,7 +69,7 @@ object_range (Some (Some b)) t n e = absurd (cc)
 object_range (Some None) t n e = refl
 object_range None t n e = refl
 
-slots_are : (p : Typed) (k : ℕ) (t : CType) (f : CType-F CType) → is_pointer_form f ≡ true → slots_in p k t f ≡ slot_by p.layout 0 t (count_of_static p t (name.Static k))
+pub slots_are : (p : Typed) (k : ℕ) (t : CType) (f : CType-F CType) → is_pointer_form f ≡ true → slots_in p k t f ≡ slot_by p.layout 0 t (count_of_static p t (name.Static k))
 slots_are p k t (CType-F.Pointer q u) e = refl
 slots_are p k t CType-F.Int e = absurd (cc)
 slots_are p k t CType-F.Unsigned e = absurd (cc)

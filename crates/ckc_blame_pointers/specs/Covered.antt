@@ -20,6 +20,8 @@ use Rattle.ckc_syntax.specs.declared.tree.Expr.{Expr-F, every-Expr}
 use Rattle.ckc_typed.specs.declared.typed.Note.{Note}
 use Rattle.ckc_typed.specs.declared.typed.StaticObject.{StaticObject}
 use Rattle.ckc_typed.specs.declared.environment.Variable.{Variable}
+use Rattle.ckc_typed.specs.declared.typed.Typed.{Typed}
+use Rattle.ckc_source.specs.declared.program.Object.{Object}
 use Rattle.ckc_typed.specs.Conversions.{is_terminated_kind}
 use Rattle.ckc_typed.specs.Environment.{variable_named}
 use Rattle.ckc_typed.specs.Operands.{is_raw_kind, dot_type}
@@ -37,7 +39,7 @@ use Rattle.ckc_bounds_views.specs.Views.{view}
 use Rattle.ckc_source.specs.Eval.{Store}
 use Rattle.ckc_build_values.specs.Kinds.{size_behind, count_of_kind, tag_of}
 use Rattle.ckc_build_values.specs.Members.{member_named, count_of_member}
-use Rattle.ckc_build_values.specs.Names.{count_of_static}
+use Rattle.ckc_build_values.specs.Names.{count_of_static, limits_declared}
 use Rattle.ckc_build_elaborate.specs.Objects.{object_elaborated, objects_elaborated}
 use Rattle.ckc_build_elaborate.specs.Shapes.{is_run, shapes_elaborated}
 use Rattle.ckc_blame_sound.specs.Settings.{Setting}
@@ -231,6 +233,19 @@ pub record IsStructureElement (e : NotedExpr) : Type 0 where
   pub struct : out-CType (element_of e.note.ctype) ≡ CType-F.Struct tag
   pub array : kind_of e.note.ctype ≡ Some kind.Arr
 
+-- Pointers with known limits point into no static object that is declared with bounds.
+abbrev pub KeepRunsFree : Typed → Type 0
+KeepRunsFree p =
+    (k : ℕ) → (limits_declared p (name.Static k) ≡ None)
+    ⊎ ((o : Object) × (slice_get (objects_elaborated p) k ≡ Some o) × (o.is_run ≡ false))
+
+-- what else `*` and `[` read: a pointer, through an `_Array_ptr` or a `_Ptr`; the pointers that memory holds are in bounds
+pub record IsPointerTarget (s : Setting) (store : Store) (e : NotedExpr) : Type 0 where
+  pub pointer : is_pointer (element_of e.note.ctype) ≡ true
+  pub through : IsThrough s e.note.ctype
+  pub free : KeepRunsFree s.text
+  pub filled : AreFilled s.text store
+
 -- the expressions of which `.` gives a member: static objects by their names, `*p` and `p[e]`
 abbrev pub IsStructureNode : NotedLayer → Type 0
 IsStructureNode (Node-F.Name (name.Static k)) = Unit {0}
@@ -266,23 +281,23 @@ pub record IsFreeMember (s : Setting) (u t : CType) (n : Name) : Type 0 where
   pub scalar : is_scalar t ≡ true
   pub free : is_run (members_of s.text.layout tag) member ≡ true
 
--- what `&` gives the address of: static objects, `*p`, `p[e]` and members
+-- what `&` gives the address of: static objects, members, and `*p` and `p[e]` that are no pointers
 abbrev pub IsAddressed : Setting → CType → NotedLayer → Type 0
 IsAddressed s t (Node-F.Name (name.Static k)) = IsFreeObject s t k
-IsAddressed s t (Node-F.Un op.Deref e) = Unit {0}
-IsAddressed s t (Node-F.Index e f) = Unit {0}
+IsAddressed s t (Node-F.Un op.Deref e) = is_pointer t ≡ false
+IsAddressed s t (Node-F.Index e f) = is_pointer t ≡ false
 IsAddressed s t (Node-F.Arrow e n spot) = IsFreeMember s (element_of e.note.ctype) t n × IsThrough s e.note.ctype
 IsAddressed s t (Node-F.Dot e n spot) = IsFreeMember s e.note.ctype t n
 IsAddressed s t _ = ⊥
 
 -- the operands of unary operators
-abbrev pub IsCoveredUnary : Setting → TreeOp → NotedExpr → Type 0
-IsCoveredUnary s op.Deref e = IsElement e ⊎ (IsSingle s e ⊎ IsStructureTarget s e)
-IsCoveredUnary s op.Address e = IsAddressed s e.note.ctype (out-Node Name Note e.node)
-IsCoveredUnary s o e = IsArithmetic o
+abbrev pub IsCoveredUnary : Setting → Store → TreeOp → NotedExpr → Type 0
+IsCoveredUnary s store op.Deref e = IsElement e ⊎ (IsSingle s e ⊎ (IsStructureTarget s e ⊎ IsPointerTarget s store e))
+IsCoveredUnary s store op.Address e = IsAddressed s e.note.ctype (out-Node Name Note e.node)
+IsCoveredUnary s store o e = IsArithmetic o
 
 -- The nodes of a type of which it is said what they come to: numbers, `sizeof`, `NULL`, locals in scope, static
--- integers, arrays and pointers, operators, `?:`, casts, integers that are read through pointers, what `->` and `.` read,
+-- integers, arrays and pointers, operators, `?:`, casts, what is read through pointers, what `->` and `.` read,
 -- and the addresses of static objects, elements and members; and the structures of which `.` gives a member.
 abbrev pub IsCoveredNode : Setting → Store → List ℕ → CType → NotedLayer → Type 0
 IsCoveredNode s store seen t (Node-F.Number n unsigned) = Unit {0}
@@ -291,11 +306,12 @@ IsCoveredNode s store seen t Node-F.Null = Unit {0}
 IsCoveredNode s store seen t (Node-F.Name (name.Local k)) = IsInScope s seen k
 IsCoveredNode s store seen t (Node-F.Name (name.Static k)) =
     IsStaticInteger s t k ⊎ (IsStaticArray s t k ⊎ (IsStaticPointer s store t k ⊎ IsStaticStructure s t k))
-IsCoveredNode s store seen t (Node-F.Un o e) = IsCoveredUnary s o e
+IsCoveredNode s store seen t (Node-F.Un o e) = IsCoveredUnary s store o e
 IsCoveredNode s store seen t (Node-F.Bin o e f) = Unit {0}
 IsCoveredNode s store seen t (Node-F.Pick e f g) = Unit {0}
 IsCoveredNode s store seen t (Node-F.Cast w e) = Unit {0}
-IsCoveredNode s store seen t (Node-F.Index e f) = IsElement e ⊎ IsStructureElement e
+IsCoveredNode s store seen t (Node-F.Index e f) =
+    IsElement e ⊎ (IsStructureElement e ⊎ (IsPointerTarget s store e × (kind_of e.note.ctype ≡ Some kind.Arr)))
 IsCoveredNode s store seen t (Node-F.Arrow e n spot) = IsArrow s e n t ⊎ IsPointerArrow s store e n t
 IsCoveredNode s store seen t (Node-F.Dot e n spot) = IsDot s store e n t
 IsCoveredNode s store seen t _ = ⊥
