@@ -55,7 +55,7 @@ use Rattle.ckc_blame_numbers.proofs.Holding.{form_exact, form_exact_in, side_tol
 use Rattle.ckc_blame_numbers.proofs.Types.{sign_row, IsWide, number_wide, size_wide}
 use Rattle.ckc_blame_sound.specs.Bodies.{AreFresh}
 use Rattle.ckc_blame_pointers.specs.Valuations.{address_by}
-use Rattle.ckc_blame_pointers.specs.Covered.{DeclareLocals, DeclareOnes, IsSoundStore, IsElement, IsSingle, IsArrow, IsPointerArrow, IsAddressed, IsStaticInteger, IsStaticArray, IsStaticPointer, IsStaticStructure, IsStructureTarget, IsPointerTarget, IsStructureElement, IsStructureNode, IsCoveredNode, IsCoveredExpr, AreCovered, IsCovered}
+use Rattle.ckc_blame_pointers.specs.Covered.{DeclareLocals, DeclareOnes, IsSoundStore, IsElement, IsSingle, IsArrow, IsPointerArrow, IsAddressed, IsStaticInteger, IsStaticArray, IsStaticPointer, IsStaticBounded, IsStaticStructure, IsStructureTarget, IsPointerTarget, IsStructureElement, IsStructureNode, IsCoveredNode, IsCoveredExpr, AreCovered, IsCovered}
 use Rattle.ckc_blame_pointers.specs.Meant.{IsNotStuck}
 use Rattle.ckc_blame_pointers.proofs.Claims.{Claims, weaker, holds_on, nothing_read}
 use Rattle.ckc_blame_numbers.proofs.Known.{form_known}
@@ -84,7 +84,7 @@ use Rattle.ckc_blame_pointers.proofs.Members.{member_behind}
 use Rattle.ckc_blame_pointers.proofs.Single.{single_claims}
 use Rattle.ckc_blame_pointers.proofs.Statics.{static_claims}
 use Rattle.ckc_blame_pointers.proofs.Arrays.{array_claims}
-use Rattle.ckc_blame_pointers.proofs.Pointers.{pointer_claims}
+use Rattle.ckc_blame_pointers.proofs.Pointers.{pointer_claims, bounded_claims}
 use Rattle.ckc_blame_pointers.proofs.Leaves.{number_claims, size_claims, null_claims, local_claims, minus_claims, plus_claims, flip_claims, not_claims, cast_claims, choice_claims}
 
 module _ (globals : Globals) (s : Setting) (agrees : Agrees globals s) (declares : DeclareLocals s) (store : Store) (entry : List ℕ) (next : ℕ) (ready : IsSoundStore s store next) where
@@ -295,7 +295,8 @@ module _ (globals : Globals) (s : Setting) (agrees : Agrees globals s) (declares
         noted_is p = noted p ∙ ap (λ b. if b then range_of_local s.frame j here.at.widened else range.Missing) p
     node_step (Node-F.Name (name.Static j)) note place row typed covered node checked scalar fresh little are fault judged noted k =
         ⊎_elim (λ c. static_claims s store entry next ready here h note.ctype j c place) (λ c. ⊎_elim (λ c. array_claims s store entry next ready here h note.ctype j c place)
-        (λ c. ⊎_elim (λ c. pointer_claims s store entry next ready here h note.ctype j c place) (λ (c : IsStaticStructure s note.ctype j). absurd (no_structure note.ctype scalar c.tag c.struct)) c) c) node
+        (λ c. ⊎_elim (λ c. pointer_claims s store entry next ready here h note.ctype j c place)
+        (λ c. ⊎_elim (λ c. bounded_claims s store entry next ready here h note.ctype j c place) (λ (c : IsStaticStructure s note.ctype j). absurd (no_structure note.ctype scalar c.tag c.struct)) c) c) c) node
     node_step (Node-F.Un op.Minus e) note place row typed covered node checked scalar fresh little are fault judged noted k =
         minus_claims s store entry here h e.0 note.ctype place ((part_of e.0).value s.text s.variables k)
         (e.1.claims typed here covered (integer_scalar e.0.note.ctype (sign_row e.0.note.ctype note.ctype row.row).0) h fresh little are (one_part (λ a. Node-F.Un op.Minus a) (λ a b e. cc) _ e.0 judged) k) row.row
@@ -516,7 +517,8 @@ module _ (globals : Globals) (s : Setting) (agrees : Agrees globals s) (declares
       ⊎_elim (λ (c : IsStaticInteger s note.ctype j). absurd (no_structure note.ctype (integer_scalar note.ctype c.integer) tag struct))
           (λ c. ⊎_elim (λ (c : IsStaticArray s note.ctype j). absurd (no_structure note.ctype (pointer_scalar note.ctype c.pointer) tag struct))
           (λ c. ⊎_elim (λ (c : IsStaticPointer s store note.ctype j). absurd (no_structure note.ctype (pointer_scalar note.ctype c.pointer) tag struct))
-          (λ c. object_structure s store next ready note.ctype j c place) c) c) node,
+          (λ c. ⊎_elim (λ (c : IsStaticBounded s store note.ctype j). absurd (no_structure note.ctype (pointer_scalar note.ctype c.pointer) tag struct))
+          (λ c. object_structure s store next ready note.ctype j c place) c) c) c) node,
       refl,
     )
     place_step (Node-F.Un op.Deref e) note place row typed covered node structure tag struct fresh little are judged fault k = (

@@ -1,5 +1,5 @@
 -- The expressions of which it is said what they come to, and what is taken for granted of the text around them.
-use Rattle.std.specs.Prelude.{◌≡◌, ◌⊎◌, ◌+◌, ◌<◌, ◌^◌, ℕ, Bool, false, true, List, slice_get, Option, None, Some}
+use Rattle.std.specs.Prelude.{◌≡◌, ◌⊎◌, ◌+◌, ◌<◌, ◌^◌, ℕ, Bool, false, true, List, slice_get, ℤ, Option, None, Some}
 use Rattle.std.specs.List.{Contains}
 use Rattle.ckc_types.specs.declared.types.Kind.{Kind}
 use Rattle.ckc_types.specs.declared.types.Kind.TheVariants as kind
@@ -18,6 +18,7 @@ use Rattle.ckc_syntax.specs.declared.tree.TreeOp.TheVariants as op
 use Rattle.ckc_syntax.specs.declared.tree.Node.{Node-F, out-Node}
 use Rattle.ckc_syntax.specs.declared.tree.Expr.{Expr-F, every-Expr}
 use Rattle.ckc_typed.specs.declared.typed.Note.{Note}
+use Rattle.ckc_typed.specs.declared.typed.Range.TheVariants.{Missing}
 use Rattle.ckc_typed.specs.declared.typed.StaticObject.{StaticObject}
 use Rattle.ckc_typed.specs.declared.environment.Variable.{Variable}
 use Rattle.ckc_typed.specs.declared.typed.Typed.{Typed}
@@ -34,8 +35,12 @@ use Rattle.ckc_bounds_points.specs.declared.frame.Local.{Local}
 use Rattle.ckc_bounds_points.specs.Frames.{local_at}
 use Rattle.ckc_bounds_declared.specs.Written.{bounds_of_kind}
 use Rattle.ckc_bounds_views.specs.Fresh.{member_bounds, named_type}
+use Rattle.ckc_bounds_points.specs.Forms.{constant_form}
+use Rattle.ckc_bounds_ranges.specs.Rows.{range_from}
 use Rattle.ckc_bounds_views.specs.Judged.{is_counted_kind, is_declared_object}
+use Rattle.ckc_bounds_views.specs.Ranges.{range_of_object}
 use Rattle.ckc_bounds_views.specs.Views.{view}
+use Rattle.ckc_source.specs.declared.expr.Count.TheVariants as count
 use Rattle.ckc_source.specs.Eval.{Store}
 use Rattle.ckc_build_values.specs.Kinds.{size_behind, count_of_kind, tag_of}
 use Rattle.ckc_build_values.specs.Members.{member_named, count_of_member}
@@ -142,6 +147,31 @@ pub record IsStaticPointer (s : Setting) (store : Store) (t : CType) (k : ℕ) :
   pub pointer : is_pointer t ≡ true
   pub bare : is_declared_object (slice_get s.frame.objects k) ≡ false
   pub counted : count_of_static s.text t (name.Static k) ≡ count_of_kind (kind_of t)
+  pub filled : AreFilled s.text store
+
+-- How many elements a static pointer has is a constant by its range as it is judged and as it is read, or not known.
+abbrev pub IsCountedAs : Setting → CType → ℕ → Type 0
+IsCountedAs s t k =
+    ((z : ℤ) × (count_of_static s.text t (name.Static k) ≡ Some (count.Fixed z))
+    × ((own : ℕ) → range_of_object (slice_get s.frame.objects k) t own ≡ range_from (base.Value own) (constant_form z)))
+    ⊎ ((count_of_static s.text t (name.Static k) ≡ None)
+    × ((own : ℕ) → range_of_object (slice_get s.frame.objects k) t own ≡ Missing))
+
+-- a static object that is one pointer of a type and is declared with bounds, which a `_Ptr` is not; the pointers that
+-- memory holds are in bounds
+pub record IsStaticBounded (s : Setting) (store : Store) (t : CType) (k : ℕ) : Type 0 where
+  pub object : StaticObject
+  pub there : slice_get s.text.statics k ≡ Some object
+  pub judged : slice_get s.frame.statics k ≡ Some object
+  pub is_run : Option Bool
+  pub placed : slice_get (objects_elaborated s.text) k ≡ Some (object_elaborated s.text.layout is_run object)
+  pub single : object.array ≡ None
+  pub plain : object.terminated ≡ false
+  pub some : 0 < object.count
+  pub element : object.element ≡ t
+  pub pointer : is_pointer t ≡ true
+  pub several : kind_of t ≡ Some kind.One → ⊥
+  pub counts : IsCountedAs s t k
   pub filled : AreFilled s.text store
 
 -- a static structure, which has no bounds
@@ -305,7 +335,8 @@ IsCoveredNode s store seen t (Node-F.Size w) = Unit {0}
 IsCoveredNode s store seen t Node-F.Null = Unit {0}
 IsCoveredNode s store seen t (Node-F.Name (name.Local k)) = IsInScope s seen k
 IsCoveredNode s store seen t (Node-F.Name (name.Static k)) =
-    IsStaticInteger s t k ⊎ (IsStaticArray s t k ⊎ (IsStaticPointer s store t k ⊎ IsStaticStructure s t k))
+    IsStaticInteger s t k
+    ⊎ (IsStaticArray s t k ⊎ (IsStaticPointer s store t k ⊎ (IsStaticBounded s store t k ⊎ IsStaticStructure s t k)))
 IsCoveredNode s store seen t (Node-F.Un o e) = IsCoveredUnary s store o e
 IsCoveredNode s store seen t (Node-F.Bin o e f) = Unit {0}
 IsCoveredNode s store seen t (Node-F.Pick e f g) = Unit {0}
