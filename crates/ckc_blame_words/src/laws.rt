@@ -33,19 +33,19 @@ pub fn trees_have_words()
         → parsing.Makes tokens whole → tree_has_words whole ≡ true }
 {}
 
-/// The literals of a tree stay if its names are resolved.
+/// A tree with its names resolved has only words as literals exactly when the tree of the spellings has.
 pub fn names_keep_words()
     ensures { (whole : Tree) (named : NamedText) → naming.Makes whole named
         → tree_has_words named.tree ≡ tree_has_words whole }
 {}
 
-/// They stay if it gets its types.
+/// So has a typed text, exactly when the text before it had types has.
 pub fn types_keep_words()
     ensures { (named : NamedText) (typed : Typed) → TypedAs named typed
         → tree_has_words typed.tree ≡ tree_has_words named.tree }
 {}
 
-/// They stay if its bounds are judged.
+/// So has a text whose bounds are judged, exactly when the typed text has.
 pub fn judging_keeps_words()
     ensures { (typed p : Typed) → bounding.Makes typed p
         → tree_has_words p.tree ≡ tree_has_words typed.tree }
