@@ -33,7 +33,7 @@ pub fn trees_have_words()
         → parsing.Makes tokens whole → tree_has_words whole ≡ true }
 {}
 
-/// A tree with its names resolved has only words as literals exactly when the tree of the spellings has.
+/// A tree with its names has only words as literals exactly when the tree of the spellings has.
 pub fn names_keep_words()
     ensures { (whole : Tree) (named : NamedText) → naming.Makes whole named
         → tree_has_words named.tree ≡ tree_has_words whole }
