@@ -64,8 +64,8 @@ abbrev pub AreTypedSides : Globals → Setting → Act-F Name Note NotedAct Note
 AreTypedSides globals s (Act-F.Assign e f) = IsTyped globals s e × IsTyped globals s f
 AreTypedSides globals s a = Unit {0}
 
--- The expressions of a statement that is a step by itself are typed: the two sides of an assignment and of each one in a
--- bundle, the initialiser of a local, which has its type, what is returned, a call, and what is checked.
+-- The expressions of a statement that is a step by itself are typed: the two sides of an assignment and of each one in
+-- a bundle, the initialiser of a local, which has its type, what is returned, a call, and what is checked.
 abbrev pub IsTypedAct : Globals → Setting → Act-F Name Note NotedAct NotedStmt → Type 0
 IsTypedAct globals s (Act-F.Local d) =
     IsTypedInit globals s d.init

@@ -40,8 +40,8 @@ pub record IsStep (s : Setting) (here : Here) (step : Code → Code) (there : He
   pub becomes : stmt_elaborated s.text s.variables s.result literals after ≡ step ∷ []
   pub goes : GoesTo s.frame behind there
 
--- A condition of the function is judged at such a point, and becomes this expression; if it is true control is at a second
--- point, and if it is false at a third. One that is left out is true.
+-- A condition of the function is judged at such a point, and becomes this expression; if it is true control is at a
+-- second point, and if it is false at a third. One that is left out is true.
 pub record IsCondition (s : Setting) (here : Here) (e : Expr) (yes no : Here) : Type 0 where
   pub before : Option NotedExpr
   pub after : Option NotedExpr

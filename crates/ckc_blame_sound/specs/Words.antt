@@ -39,8 +39,9 @@ abbrev pub HasWordsSides : Act-F Name Note NotedAct NotedStmt → Type 0
 HasWordsSides (Act-F.Assign e f) = HasWords e × HasWords f
 HasWordsSides a = Unit {0}
 
--- The expressions of a statement that is a step by itself have only words as literals: the two sides of an assignment and
--- of each one in a bundle, the initialiser of a local that is declared, what is returned, a call, and what is checked.
+-- The expressions of a statement that is a step by itself have only words as literals: the two sides of an assignment
+-- and of each one in a bundle, the initialiser of a local that is declared, what is returned, a call, and what is
+-- checked.
 abbrev pub HasWordsAct : Act-F Name Note NotedAct NotedStmt → Type 0
 HasWordsAct (Act-F.Local d) = HasWordsInit d.init
 HasWordsAct (Act-F.Call e) = HasWords e
@@ -57,8 +58,8 @@ exprs_of_act = inside_run listed (λ e. e ∷ []) (λ (d : NotedDecl). inside_in
 abbrev pub exprs_of_stmt : Stmt-F Name Note (List NotedExpr) (List NotedExpr) → List NotedExpr
 exprs_of_stmt s = s.body
 
--- The expressions in a statement, and in each statement in it, however deep: both sides of an assignment, the initialiser
--- of a local, what is returned, a call that is a statement, and conditions.
+-- The expressions in a statement, and in each statement in it, however deep: both sides of an assignment, the
+-- initialiser of a local, what is returned, a call that is a statement, and conditions.
 abbrev pub exprs_in : NotedStmt → List NotedExpr
 exprs_in = fold-Stmt Name Note (List NotedExpr) (List NotedExpr) exprs_of_act exprs_of_stmt
 
