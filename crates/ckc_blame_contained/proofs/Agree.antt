@@ -9,8 +9,8 @@ use Rattle.ckc_linear.specs.Facts.{Satisfies}
 use Rattle.ckc_bounds_points.specs.declared.frame.Local.{Local}
 use Rattle.ckc_bounds_points.specs.Frames.{local_at}
 use Rattle.ckc_blame_sound.specs.Settings.{Setting}
-use Rattle.ckc_blame_sound.specs.Values.{value}
-use Rattle.ckc_blame_contained.specs.Valuations.{Valuation, IsValuationOf, IsIntegerLocal, IsInteger, NamesIntegers}
+use Rattle.ckc_blame_sound.specs.Values.{value, IsIntegerLocal, IsInteger, NamesIntegers}
+use Rattle.ckc_blame_sound.specs.Valuations.{Valuation, IsValuationOf}
 use Rattle.ckc_blame_contained.proofs.Ends.{number_there}
 
 module _ (s : Setting) (locals : List ℕ) (v : Valuation) (are : IsValuationOf s locals v) where

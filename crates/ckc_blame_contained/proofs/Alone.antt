@@ -34,6 +34,7 @@ use Rattle.ckc_build_values.specs.Kinds.{width_of, pointee_of}
 use Rattle.ckc_build_values.specs.Names.{count_of_static}
 use Rattle.ckc_blame_sound.specs.Settings.{Setting}
 use Rattle.ckc_blame_sound.specs.Slots.{Slot, slot_by, slots_in, slots_of, IsFilled, AreFilled}
+use Rattle.ckc_blame_sound.specs.Valuations.{Valuation, AreFacts}
 use Rattle.ckc_blame_slots.specs.Cells.{AreSound, IsPart, IsPartIn}
 use Rattle.ckc_blame_slots.specs.Limited.{AreSlotParts, AreSparedOrFilled, IsCountPart, IsCountSpared, IsSpared, IsSlotPart, store_with}
 use Rattle.ckc_blame_slots.specs.Writes.{AreCellWrites, AreElsewhere, IsElsewhere}
@@ -42,7 +43,6 @@ use Rattle.ckc_blame_slots.proofs.Filled.{filled_after, filled_by, part_cell, pa
 use Rattle.ckc_blame_slots.proofs.Objects.{element_at}
 use Rattle.ckc_blame_slots.proofs.Ranges.{contains_at, scalar_part}
 use Rattle.ckc_blame_slots.proofs.Written.{all_keep, laid, last_write}
-use Rattle.ckc_blame_contained.specs.Valuations.{Valuation, AreFacts}
 use Rattle.ckc_blame_contained.specs.Containment.{IsReadBetween}
 use Rattle.ckc_blame_contained.specs.Given.{memory_of}
 use Rattle.ckc_blame_contained.specs.Memory.{IsMemberGiven}

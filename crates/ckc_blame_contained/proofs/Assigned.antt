@@ -27,7 +27,8 @@ use Rattle.ckc_blame_sound.specs.Settings.{Setting}
 use Rattle.ckc_blame_sound.specs.Points.{IsReadable}
 use Rattle.ckc_blame_sound.specs.Sound.{IsPlaced}
 use Rattle.ckc_blame_sound.specs.Values.{number_of}
-use Rattle.ckc_blame_contained.specs.Valuations.{Valuation, form_address, AreFacts, IsValuationOf, IsReplaced}
+use Rattle.ckc_blame_sound.specs.Valuations.{Valuation, form_address, AreFacts, IsValuationOf}
+use Rattle.ckc_blame_contained.specs.Valuations.{IsReplaced}
 use Rattle.ckc_blame_contained.specs.Containment.{IsReadWithin, IsJudged}
 use Rattle.ckc_blame_contained.specs.Ends.{IsCounted, IsBase, IsEnd, AreEnds}
 use Rattle.ckc_blame_contained.specs.Given.{memory_of, IsGiven, IsAssigned, AreAssigned, StayTrue}

@@ -35,11 +35,13 @@ use Rattle.ckc_blame_sound.specs.Settings.{Setting}
 use Rattle.ckc_blame_sound.specs.Points.{IsReadable, IsBounded}
 use Rattle.ckc_blame_sound.specs.Sound.{IsPlaced}
 use Rattle.ckc_blame_sound.specs.Values.{number_of}
-use Rattle.ckc_blame_contained.specs.Valuations.{Valuation, form_address, AreFacts, IsValuationOf, IsReplaced}
+use Rattle.ckc_blame_sound.specs.Valuations.{Valuation, form_address, AreFacts, IsValuationOf}
+use Rattle.ckc_blame_sound.specs.Arguments.{AreArguments}
+use Rattle.ckc_blame_contained.specs.Valuations.{IsReplaced}
 use Rattle.ckc_blame_contained.specs.Containment.{IsReadWithin}
 use Rattle.ckc_blame_contained.specs.Ends.{IsCounted, IsBase, IsEnd, AreEnds, HaveEnds}
 use Rattle.ckc_blame_contained.specs.Given.{memory_of}
-use Rattle.ckc_blame_contained.specs.Passed.{AreArguments, AreNewArguments, AreParameters}
+use Rattle.ckc_blame_contained.specs.Passed.{AreNewArguments, AreParameters}
 use Rattle.ckc_blame_contained.proofs.Tests.{left_of, right_of}
 use Rattle.ckc_blame_contained.proofs.Contained.{contained_reads, more_known}
 use Rattle.ckc_blame_contained.proofs.Ends.{valuation_of, values_are, reads_so}

@@ -28,8 +28,9 @@ use Rattle.ckc_source.specs.Runs.{is_true}
 use Rattle.ckc_source.specs.Eval.{reads, reads_within, plain, ranged}
 use Rattle.ckc_blame_sound.specs.Values.{number_of}
 use Rattle.ckc_blame_sound.specs.Sound.{IsPlaced}
+use Rattle.ckc_blame_sound.specs.Valuations.{Valuation, form_address, AreFacts}
 use Rattle.ckc_blame_sound.proofs.Facts.{fact_added, shown_true}
-use Rattle.ckc_blame_contained.specs.Valuations.{Valuation, form_address, AreFacts, IsReplaced}
+use Rattle.ckc_blame_contained.specs.Valuations.{IsReplaced}
 use Rattle.ckc_blame_contained.specs.Containment.{Memory, IsReadBetween, IsReadWithin, IsJudged, IsRanged}
 use Rattle.ckc_blame_contained.proofs.Moved.{form_moved}
 use Rattle.ckc_blame_contained.proofs.Numbers.{so_far, far}

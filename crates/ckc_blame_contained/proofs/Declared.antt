@@ -29,7 +29,8 @@ use Rattle.ckc_build_values.specs.Kinds.{integer_of, size_behind}
 use Rattle.ckc_blame_sound.specs.Settings.{Setting}
 use Rattle.ckc_blame_sound.specs.Points.{IsReadable, IsBounded, AreBounded}
 use Rattle.ckc_blame_sound.specs.Sound.{IsPlaced}
-use Rattle.ckc_blame_contained.specs.Valuations.{Valuation, form_address, AreFacts, IsValuationOf, IsReplaced}
+use Rattle.ckc_blame_sound.specs.Valuations.{Valuation, form_address, AreFacts, IsValuationOf}
+use Rattle.ckc_blame_contained.specs.Valuations.{IsReplaced}
 use Rattle.ckc_blame_contained.specs.Ends.{IsCounted, IsBase, IsEnd, AreEnds, HaveEnds}
 use Rattle.ckc_blame_contained.specs.Given.{memory_of, IsFrom, IsBegun, OthersStay, IsUnnamed, StayTrue}
 use Rattle.ckc_blame_contained.proofs.Contained.{null_reads, contained_reads}

@@ -23,7 +23,7 @@ use Rattle.ckc_build_values.specs.Names.{address_of}
 use Rattle.ckc_blame_sound.specs.Settings.{Setting}
 use Rattle.ckc_blame_sound.specs.Points.{IsReadable}
 use Rattle.ckc_blame_sound.specs.Values.{value, value_in}
-use Rattle.ckc_blame_contained.specs.Valuations.{Valuation, form_address, IsValuationOf}
+use Rattle.ckc_blame_sound.specs.Valuations.{Valuation, form_address, IsValuationOf}
 use Rattle.ckc_blame_contained.specs.Containment.{IsReadBetween}
 use Rattle.ckc_blame_contained.specs.Ends.{IsCounted, IsBase, IsEnd}
 use Rattle.ckc_blame_contained.specs.Given.{memory_of}

@@ -22,9 +22,9 @@ use Rattle.ckc_build_values.specs.Kinds.{integer_of, size_behind, pointee_of}
 use Rattle.ckc_blame_sound.specs.Settings.{Setting}
 use Rattle.ckc_blame_sound.specs.Points.{IsReadable}
 use Rattle.ckc_blame_sound.specs.Values.{number_of}
+use Rattle.ckc_blame_sound.specs.Valuations.{Valuation, form_address, IsValuationOf}
 use Rattle.ckc_blame_sound.proofs.Facts.{one_of}
 use Rattle.ckc_blame_contained.proofs.Tests.{left_of, right_of}
-use Rattle.ckc_blame_contained.specs.Valuations.{Valuation, form_address, IsValuationOf}
 use Rattle.ckc_blame_contained.specs.Containment.{Memory, IsReadWithin}
 use Rattle.ckc_blame_contained.specs.Ends.{IsCounted, IsBase, IsEnd, AreEnds}
 use Rattle.ckc_blame_contained.specs.Given.{memory_of, StayTrue}

@@ -16,7 +16,7 @@ use Rattle.ckc_build_values.specs.Kinds.{size_behind}
 use Rattle.ckc_blame_sound.specs.Settings.{Setting}
 use Rattle.ckc_blame_sound.specs.Points.{IsReadable, IsBounded, AreBounded}
 use Rattle.ckc_blame_sound.specs.Sound.{IsPlaced}
-use Rattle.ckc_blame_contained.specs.Valuations.{Valuation, AreFacts, IsValuationOf}
+use Rattle.ckc_blame_sound.specs.Valuations.{Valuation, AreFacts, IsValuationOf}
 use Rattle.ckc_blame_contained.specs.Ends.{AreEnds, HaveEnds}
 use Rattle.ckc_blame_contained.specs.Given.{IsAssigned, AreAssigned, StayTrue}
 use Rattle.ckc_blame_contained.proofs.Tests.{left_of, right_of}

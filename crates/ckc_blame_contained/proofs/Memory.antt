@@ -40,7 +40,7 @@ use Rattle.ckc_build_values.specs.Members.{count_by, offset_of, integer_in_membe
 use Rattle.ckc_blame_sound.specs.Settings.{Setting}
 use Rattle.ckc_blame_sound.specs.Sound.{IsPlaced}
 use Rattle.ckc_blame_sound.specs.Values.{number_of}
-use Rattle.ckc_blame_contained.specs.Valuations.{Valuation, AreFacts}
+use Rattle.ckc_blame_sound.specs.Valuations.{Valuation, AreFacts}
 use Rattle.ckc_blame_contained.specs.Containment.{Memory, IsReadBetween}
 use Rattle.ckc_blame_contained.specs.Given.{memory_of, IsFrom}
 use Rattle.ckc_blame_contained.specs.Memory.{AreOwn, IsMemberGiven, AreMembersGiven, IsCountedBy}

@@ -10,7 +10,8 @@ use Rattle.ckc_bounds_ranges.specs.declared.replacements.BaseBy.{BaseBy}
 use Rattle.ckc_bounds_ranges.specs.declared.replacements.VariableBy.{VariableBy}
 use Rattle.ckc_bounds_ranges.specs.Replaced.{base_replaced, variable_replaced, replaced}
 use Rattle.ckc_blame_sound.specs.Values.{number_of}
-use Rattle.ckc_blame_contained.specs.Valuations.{Valuation, form_address, IsReplaced}
+use Rattle.ckc_blame_sound.specs.Valuations.{Valuation, form_address}
+use Rattle.ckc_blame_contained.specs.Valuations.{IsReplaced}
 use Rattle.ckc_blame_contained.proofs.Numbers.{spread}
 
 -- a moved form is one with another number

@@ -22,10 +22,10 @@ use Rattle.ckc_bounds_views.specs.Views.{view}
 use Rattle.ckc_bounds_stores.specs.declared.values.Numbered.{Numbered}
 use Rattle.ckc_bounds_stores.specs.Values.{narrow, has_element, range_received, new_value, same_value}
 use Rattle.ckc_blame_sound.specs.Sound.{IsPlaced}
+use Rattle.ckc_blame_sound.specs.Valuations.{Valuation, AreFacts, AreNumbersOf}
 use Rattle.ckc_blame_sound.proofs.Facts.{range_added}
-use Rattle.ckc_blame_contained.specs.Valuations.{Valuation, AreFacts}
 use Rattle.ckc_blame_contained.specs.Containment.{Memory, IsReadWithin, IsJudged, IsNarrowed}
-use Rattle.ckc_blame_contained.specs.Given.{AreNumbersOf, IsNew}
+use Rattle.ckc_blame_contained.specs.Given.{IsNew}
 use Rattle.ckc_blame_contained.proofs.Contained.{more_known}
 
 pub types_added : (v : Valuation) → v.number 0 ≡ pos 0 → (x : ℕ) (ts : List CType) (facts : Known) → AreNumbersOf v x ts → AreFacts v facts → AreFacts v (with_types x ts facts)

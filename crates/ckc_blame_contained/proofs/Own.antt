@@ -11,7 +11,8 @@ use Rattle.ckc_bounds_ranges.specs.declared.replacements.VariableBy.{VariableBy}
 use Rattle.ckc_bounds_ranges.specs.Replaced.{base_replaced, variable_replaced}
 use Rattle.ckc_bounds_stores.specs.Stores.{own_place}
 use Rattle.ckc_blame_sound.specs.Values.{number_of}
-use Rattle.ckc_blame_contained.specs.Valuations.{Valuation, form_address, IsReplaced}
+use Rattle.ckc_blame_sound.specs.Valuations.{Valuation, form_address}
+use Rattle.ckc_blame_contained.specs.Valuations.{IsReplaced}
 use Rattle.ckc_blame_contained.proofs.Contained.{base_equal}
 use Rattle.ckc_blame_contained.proofs.Assigned.{base_address_is, some_equal}
 

@@ -26,9 +26,10 @@ use Rattle.ckc_source.specs.Words.{exact}
 use Rattle.ckc_build_values.specs.Kinds.{integer_of, size_behind}
 use Rattle.ckc_blame_sound.specs.Settings.{Setting}
 use Rattle.ckc_blame_sound.specs.Values.{number_of}
-use Rattle.ckc_blame_contained.specs.Valuations.{Valuation, form_address}
+use Rattle.ckc_blame_sound.specs.Valuations.{Valuation, form_address}
+use Rattle.ckc_blame_sound.specs.Arguments.{IsArgumentIf, AreArguments}
 use Rattle.ckc_blame_contained.specs.Given.{memory_of}
-use Rattle.ckc_blame_contained.specs.Passed.{IsArgumentIf, AreArguments, IsNewArgument, IsNewArgumentIf, AreNewArguments}
+use Rattle.ckc_blame_contained.specs.Passed.{IsNewArgument, IsNewArgumentIf, AreNewArguments}
 
 no_pointer : (t : CType) → is_integer t ≡ true → is_pointer t ≡ false
 no_pointer t e = by (out-CType t) e

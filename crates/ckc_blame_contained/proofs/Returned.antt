@@ -31,11 +31,13 @@ use Rattle.ckc_build_values.specs.Ends.{variable_at}
 use Rattle.ckc_build_values.specs.Names.{address_of}
 use Rattle.ckc_blame_sound.specs.Settings.{Setting}
 use Rattle.ckc_blame_sound.specs.Sound.{IsPlaced}
-use Rattle.ckc_blame_contained.specs.Valuations.{Valuation, form_address, AreFacts, IsValuationOf, IsReplaced}
+use Rattle.ckc_blame_sound.specs.Valuations.{Valuation, form_address, AreFacts, IsValuationOf}
+use Rattle.ckc_blame_sound.specs.Arguments.{AreArguments}
+use Rattle.ckc_blame_contained.specs.Valuations.{IsReplaced}
 use Rattle.ckc_blame_contained.specs.Containment.{Memory, IsReadBetween, IsReadWithin}
 use Rattle.ckc_blame_contained.specs.Ends.{IsCounted}
 use Rattle.ckc_blame_contained.specs.Given.{memory_of, IsFrom}
-use Rattle.ckc_blame_contained.specs.Passed.{AreArguments, AreParameters, IsResultBase, IsResultEnd, IsResult, result_base, result_end, result_between}
+use Rattle.ckc_blame_contained.specs.Passed.{AreParameters, IsResultBase, IsResultEnd, IsResult, result_base, result_end, result_between}
 use Rattle.ckc_blame_contained.proofs.Tests.{left_of, right_of}
 use Rattle.ckc_blame_contained.proofs.Contained.{contained_reads}
 use Rattle.ckc_blame_contained.proofs.Ends.{amount_is}

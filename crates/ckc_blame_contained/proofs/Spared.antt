@@ -19,6 +19,7 @@ use Rattle.ckc_build_values.specs.Kinds.{width_of}
 use Rattle.ckc_build_values.specs.Members.{offset_of}
 use Rattle.ckc_blame_sound.specs.Settings.{Setting}
 use Rattle.ckc_blame_sound.specs.Slots.{Slot, slots_of, IsFilled, AreFilled}
+use Rattle.ckc_blame_sound.specs.Valuations.{Valuation, AreFacts}
 use Rattle.ckc_blame_slots.specs.Cells.{AreSound, HaveOwnNames, IsPart}
 use Rattle.ckc_blame_slots.specs.Limited.{AreSlotParts, AreSparedOrFilled, IsCountPart, IsCountSpared, IsSpared, store_with}
 use Rattle.ckc_blame_slots.specs.Writes.{AreCellWrites, AreElsewhere}
@@ -26,7 +27,6 @@ use Rattle.ckc_blame_slots.proofs.Apart.{elements_apart, three}
 use Rattle.ckc_blame_slots.proofs.Filled.{filled_after}
 use Rattle.ckc_blame_slots.proofs.Objects.{element_at}
 use Rattle.ckc_blame_slots.proofs.Written.{all_keep, laid}
-use Rattle.ckc_blame_contained.specs.Valuations.{Valuation, AreFacts}
 use Rattle.ckc_blame_contained.specs.Elements.{NameIntegerMembers, IsStructure, AreTargetsWritten, AreWrittenOnce}
 use Rattle.ckc_blame_contained.proofs.Targets.{targets_elsewhere}
 use Rattle.ckc_blame_contained.proofs.Shapes.{member_there}

@@ -39,13 +39,13 @@ use Rattle.ckc_build_values.specs.Kinds.{integer_of, width_of, pointee_of, count
 use Rattle.ckc_build_values.specs.Members.{offset_of, count_by, integer_in_member, member_named}
 use Rattle.ckc_blame_sound.specs.Settings.{Setting}
 use Rattle.ckc_blame_sound.specs.Slots.{Slot, slots_in, slots_of, slot_of_member, IsFilled}
+use Rattle.ckc_blame_sound.specs.Valuations.{Valuation, AreFacts}
 use Rattle.ckc_blame_slots.specs.Cells.{AreSound, HaveOwnNames, IsPartIn}
 use Rattle.ckc_blame_slots.specs.Limited.{AreSlotParts, IsSlotPart, IsCountPart, IsCountSpared, IsSpared, store_with}
 use Rattle.ckc_blame_slots.specs.Writes.{AreCellWrites, AreElsewhere}
 use Rattle.ckc_blame_slots.proofs.Filled.{filled_by}
 use Rattle.ckc_blame_slots.proofs.Objects.{element_at}
 use Rattle.ckc_blame_slots.proofs.Ranges.{contains_at}
-use Rattle.ckc_blame_contained.specs.Valuations.{Valuation, AreFacts}
 use Rattle.ckc_blame_contained.specs.Containment.{IsReadBetween}
 use Rattle.ckc_blame_contained.specs.Given.{memory_of}
 use Rattle.ckc_blame_contained.specs.Memory.{IsCountedBy}

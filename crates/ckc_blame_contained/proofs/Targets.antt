@@ -16,9 +16,9 @@ use Rattle.ckc_source.specs.Eval.{Store}
 use Rattle.ckc_source.specs.Steps.{Write}
 use Rattle.ckc_build_values.specs.Members.{offset_of}
 use Rattle.ckc_blame_sound.specs.Settings.{Setting}
+use Rattle.ckc_blame_sound.specs.Valuations.{Valuation}
 use Rattle.ckc_blame_slots.specs.Writes.{IsElsewhere, AreElsewhere}
 use Rattle.ckc_blame_sound.proofs.Facts.{one_of}
-use Rattle.ckc_blame_contained.specs.Valuations.{Valuation}
 use Rattle.ckc_blame_contained.specs.Memory.{AreMembersGiven, IsMemberGiven}
 use Rattle.ckc_blame_contained.proofs.Tests.{left_of, right_of}
 use Rattle.ckc_blame_contained.specs.Elements.{IsMemberWritten, IsTargetWritten, AreTargetsWritten, IsLast, AreWrittenOnce}

@@ -9,7 +9,7 @@ use Rattle.ckc_source.specs.Blocks.{Block}
 use Rattle.ckc_source.specs.Eval.{reads}
 use Rattle.ckc_bounds_stores.specs.Values.{Value}
 use Rattle.ckc_blame_sound.specs.Values.{number_of}
-use Rattle.ckc_blame_contained.specs.Valuations.{Valuation, form_address, AreFacts}
+use Rattle.ckc_blame_sound.specs.Valuations.{Valuation, form_address, AreFacts}
 
 -- what memory has, and what a pointer points to there
 pub record Memory : Type 0 where

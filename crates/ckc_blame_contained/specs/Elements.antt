@@ -33,8 +33,8 @@ use Rattle.ckc_build_values.specs.Members.{offset_of}
 use Rattle.ckc_build_values.specs.Names.{count_of_static}
 use Rattle.ckc_blame_sound.specs.Settings.{Setting}
 use Rattle.ckc_blame_sound.specs.Values.{number_of}
+use Rattle.ckc_blame_sound.specs.Valuations.{Valuation, AreFacts}
 use Rattle.ckc_blame_slots.specs.Writes.{IsElsewhere, AreElsewhere}
-use Rattle.ckc_blame_contained.specs.Valuations.{Valuation, AreFacts}
 use Rattle.ckc_blame_contained.specs.Given.{memory_of, IsFrom}
 
 -- The bounds of a member name no other thing than an integer member of its structure.

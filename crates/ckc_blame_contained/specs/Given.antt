@@ -1,5 +1,5 @@
 -- What evaluation gives to what is assigned.
-use Rattle.std.specs.Prelude.{◌≡◌, ◌≢◌, ℕ, true, false, pos, List, [], ◌∷◌, slice_index, Option, None, Some}
+use Rattle.std.specs.Prelude.{◌≡◌, ◌≢◌, ℕ, true, false, pos, List, slice_index, Option, None, Some}
 use Rattle.std.specs.List.{find, Contains}
 use Rattle.ckc_linear.specs.declared.forms.Form.{Form}
 use Rattle.ckc_syntax.specs.declared.tree.Init.TheVariants as init
@@ -21,18 +21,13 @@ use Rattle.ckc_source.specs.Words.{exact}
 use Rattle.ckc_source.specs.declared.expr.Pointee.{Pointee}
 use Rattle.ckc_build_values.specs.Kinds.{integer_of, size_behind, pointee_of}
 use Rattle.ckc_blame_sound.specs.Settings.{Setting}
-use Rattle.ckc_blame_sound.specs.Values.{number_of, IsNumberOf}
-use Rattle.ckc_blame_contained.specs.Valuations.{Valuation, form_address, AreFacts}
+use Rattle.ckc_blame_sound.specs.Values.{number_of}
+use Rattle.ckc_blame_sound.specs.Valuations.{Valuation, form_address, AreFacts, AreNumbersOf}
 use Rattle.ckc_blame_contained.specs.Containment.{Memory, IsRanged}
 
 -- what a pointer of a type points to, in what expressions read
 abbrev pub memory_of : Setting → Store → CType → Memory
 memory_of s store t = record { shapes = store.shapes; blocks = store.blocks; to = pointee_of s.text.layout t }
-
--- Fresh variables, of which the first is variable x, stand for numbers of their types.
-abbrev pub AreNumbersOf : Valuation → ℕ → List CType → Type 0
-AreNumbersOf v x [] = Unit {0}
-AreNumbersOf v x (t ∷ ts) = IsNumberOf t (v.number x) × AreNumbersOf v (capped x 1) ts
 
 -- What is known of the word n that an expression gives to a place of type t: it is null if the expression is; it may be
 -- read within the range of the expression; and if it is not null, fresh variables stand for numbers of their types.

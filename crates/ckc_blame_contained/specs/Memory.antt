@@ -14,7 +14,7 @@ use Rattle.ckc_source.specs.declared.expr.Count.{Count}
 use Rattle.ckc_source.specs.declared.expr.Count.TheVariants as count
 use Rattle.ckc_blame_sound.specs.Settings.{Setting}
 use Rattle.ckc_blame_sound.specs.Values.{number_of}
-use Rattle.ckc_blame_contained.specs.Valuations.{Valuation, AreFacts}
+use Rattle.ckc_blame_sound.specs.Valuations.{Valuation, AreFacts}
 
 -- The bounds of a pointer in memory lie from its own value.
 pub record AreOwn (low high : Form) : Type 0 where

@@ -46,16 +46,18 @@ ghost use Rattle.ckc_blame_sound.specs.Points.{AreBounded, IsBounded};
 ghost use Rattle.ckc_blame_sound.specs.Settings.{Setting};
 ghost use Rattle.ckc_blame_sound.specs.Slots.{AreFilled};
 ghost use Rattle.ckc_blame_sound.specs.Sound.{IsPlaced};
-ghost use Rattle.ckc_blame_sound.specs.Values.{AreTrue};
+ghost use Rattle.ckc_blame_sound.specs.Values.{AreTrue, NamesIntegers};
+ghost use Rattle.ckc_blame_sound.specs.Valuations.{Valuation, form_address, AreFacts, IsValuationOf};
+ghost use Rattle.ckc_blame_sound.specs.Arguments.{AreArguments};
 ghost use Rattle.ckc_blame_slots.specs.Cells.{AreSound, HaveOwnNames};
 ghost use Rattle.ckc_blame_slots.specs.Limited.{AreSlotParts, store_with};
 ghost use Rattle.ckc_blame_slots.specs.Writes.{AreCellWrites};
-ghost use Rattle.ckc_blame_contained.specs.Valuations.{Valuation, form_address, AreFacts, IsReplaced, IsValuationOf, NamesIntegers};
+ghost use Rattle.ckc_blame_contained.specs.Valuations.{IsReplaced};
 ghost use Rattle.ckc_blame_contained.specs.Containment.{Memory, IsReadBetween, IsReadWithin, IsJudged, IsRanged};
 ghost use Rattle.ckc_blame_contained.specs.Ends.{HaveEnds};
 ghost use Rattle.ckc_blame_contained.specs.Memory.{AreMembersGiven, AreOwn, IsCountedBy};
 ghost use Rattle.ckc_blame_contained.specs.Elements.{AreTargetsWritten, AreWrittenOnce, IsElementWritten, IsStructure, NameIntegerMembers};
-ghost use Rattle.ckc_blame_contained.specs.Passed.{AreArguments, AreNewArguments, AreParameters, IsResult, result_between};
+ghost use Rattle.ckc_blame_contained.specs.Passed.{AreNewArguments, AreParameters, IsResult, result_between};
 ghost use Rattle.ckc_blame_contained.specs.Given.{memory_of, AreAssigned, IsBegun, IsFrom, IsUnnamed, OthersStay, StayTrue};
 
 /// Facts that name the number zero and integer locals alone are true of each valuation that gives locals their values,

@@ -1,10 +1,11 @@
 -- A call waits for the one that it enters, and stands again after that.
 use Rattle.std.proofs.Common.{◌≡◌, ℕ, ◌+◌, List, [], ◌∷◌, sym, subst, arith}
-use Rattle.std.specs.Prelude.{◌≤◌, length, true, slice_get, Option, Some}
+use Rattle.std.specs.Prelude.{◌≤◌, length, map, true, slice_get, Option, Some}
 use Rattle.std.proofs.lemmas.Bool.Decides.{nat_tests}
 use Rattle.ckc_base.specs.Activations.{has_room}
 use Rattle.ckc_base.specs.Lists.{AreBytes}
 use Rattle.ckc_typed.specs.declared.typed.Typed.{Typed}
+use Rattle.ckc_bounds_views.specs.Views.{view}
 use Rattle.ckc_source.specs.declared.stmt.Kept.{Kept}
 use Rattle.ckc_source.specs.declared.stmt.Spot.{Spot}
 use Rattle.ckc_source.specs.Blocks.{Block}
@@ -26,7 +27,7 @@ use Rattle.ckc_blame_control.proofs.Kept.{waiting_kept}
 
 pub call_waits : (p : Typed) (blocks : List Block) (s called : Setting) (frame : states.Frame) (spot : Spot) (target : Option Kept) (number : ℕ) (es : List Expr) (next : List Work) (callee : Function)
     (entry : List ℕ) (f : Faces s (store_in p blocks frame) frame.entry (Call spot target number es) next) → IsFunction p s frame.function → slice_get (functions_elaborated p) number ≡ Some callee
-    → ArePassed s f.here.at.facts frame.locals called.head.params (arguments_of f.judged.before) entry
+    → ((n : ℕ) → ArePassed s called f.here frame.locals entry (map (view s.frame) (arguments_of f.judged.before)) n)
     → Waits p blocks (record { frame = record frame { work = next }; target = target }) s called callee entry
 call_waits p blocks s called frame spot target number es next callee entry f function calls passed = record {
   function = function;
@@ -48,7 +49,7 @@ room_left n h = grind (arith, nat_tests)
 pub entered_sound : (p : Typed) (s : State) (h : Sound p s) (called : Setting) (spot : Spot) (target : Option Kept) (number : ℕ) (es : List Expr) (next : List Work) (callee : Function)
     (values : List ℕ) (f : Faces h.setting (store_in p s.blocks s.frame) s.frame.entry (Call spot target number es) next) → has_room (active s) ≡ true
     → slice_get (functions_elaborated p) number ≡ Some callee → IsFunction p called callee
-    → ArePassed h.setting f.here.at.facts s.frame.locals called.head.params (arguments_of f.judged.before) values
+    → ((n : ℕ) → ArePassed h.setting called f.here s.frame.locals values (map (view h.setting.frame) (arguments_of f.judged.before)) n)
     → IsReady called (store_in p s.blocks (entered callee values)) values (Rest callee.body ∷ []) → Sound p (inside s next target callee values)
 unfolding AreWaiting
 entered_sound p s h called spot target number es next callee values f room calls function passed ready = record {

@@ -25,10 +25,11 @@ use Rattle.ckc_build_elaborate.specs.Steps.{Destination, spot, nowhere, destinat
 use Rattle.ckc_build_elaborate.specs.Statements.{all_assigns, act_code, part_of}
 use Rattle.ckc_blame_sound.specs.Settings.{Setting}
 use Rattle.ckc_blame_sound.specs.Points.{GoesTo}
+use Rattle.ckc_blame_sound.specs.Words.{HasWordsAct}
 use Rattle.ckc_blame_sound.specs.Bodies.{globals_of_text}
 use Rattle.ckc_blame_sound.specs.Steps.{is_simple, IsStep, IsCondition}
 use Rattle.ckc_blame_numbers.proofs.Statements.{made_of, pair_same, passes}
-use Rattle.ckc_blame_control.proofs.Typed.{by_parts}
+use Rattle.ckc_blame_control.proofs.Typed.{by_parts, words_in}
 use Rattle.ckc_blame_numbers.proofs.Stepping.{ActLayer, viewed, judged_is, parted, code_is, out_call, out_return, out_check, out_bundle, first_step}
 
 -- An expression is a condition at a point, and control goes from its true side to another point.
@@ -136,9 +137,14 @@ module _ (s : Setting) (here there : Here) (sp : Spot) (e : Expr) (step : IsStep
           after = Some m.0.0;
           literals = step.literals;
           behind = m.0.1;
-          inside = record { mode = step.inside.mode; typed = check_inside x is };
+          inside = record {
+            mode = step.inside.mode;
+            typed = check_inside x is;
+            words = λ w. subst HasWordsAct is (words_in step.before (step.inside.words w));
+          };
           fresh = step.fresh;
           counting = step.counting;
+          named = step.named;
           judged = ap (λ (o : Outcome (NotedExpr × Here)). bind o (λ p. Ok (Some p.0, p.1))) m.1;
           becomes = same_check code;
           true_side = refl;

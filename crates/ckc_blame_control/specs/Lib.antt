@@ -1,4 +1,5 @@
 pub mod Ready
 pub mod Decided
 pub mod Kept
+pub mod Known
 pub mod Whole

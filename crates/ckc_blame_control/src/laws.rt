@@ -1,15 +1,13 @@
 //! What follows from the definitions alone, each the contract of a function that does nothing.
 
-ghost use Rattle.std.specs.Prelude.{◌≡◌, ◌≢◌, ℕ, ◌<◌, ◌^◌, true, List, [], ◌∷◌, ◌++◌, length, slice_get, Option, None, Some, IfSome, Ok, Err};
+ghost use Rattle.std.specs.Prelude.{◌≡◌, ◌≢◌, ℕ, ◌<◌, ◌^◌, true, List, [], ◌∷◌, ◌++◌, length, map, slice_get, Option, None, Some, IfSome, Ok, Err};
 ghost use Rattle.ckc_base.specs.Activations.{has_room};
 ghost use Rattle.ckc_base.specs.Lists.{AreBytes};
 ghost use Rattle.ckc_base.specs.Steps.{Halts};
 ghost use Rattle.ckc_base.specs.Traces.{Ended};
-ghost use Rattle.ckc_syntax.specs.declared.tree.Name.{Name};
-ghost use Rattle.ckc_syntax.specs.declared.tree.Act.{out-Act};
-ghost use Rattle.ckc_typed.specs.declared.typed.Note.{Note};
 ghost use Rattle.ckc_typed.specs.declared.typed.Typed.{Typed};
 ghost use Rattle.ckc_typed.specs.Trees.{NotedExpr};
+ghost use Rattle.ckc_bounds_views.specs.Views.{view};
 ghost use Rattle.ckc_bounds_statements.specs.Paths.{Here};
 ghost use Rattle.ckc_source.specs.declared.outcome.Halt.TheVariants as halt;
 ghost use Rattle.ckc_source.specs.declared.program.Shape.{Shape};
@@ -26,6 +24,7 @@ ghost use Rattle.ckc_build_elaborate.specs.Functions.{functions_elaborated};
 ghost use Rattle.ckc_build_elaborate.specs.Shapes.{shapes_elaborated};
 ghost use Rattle.ckc_blame_sound.specs.Settings.{Setting, IsFunction};
 ghost use Rattle.ckc_blame_sound.specs.Points.{HoldsAt};
+ghost use Rattle.ckc_blame_sound.specs.Words.{HaveWords};
 ghost use Rattle.ckc_blame_sound.specs.Bodies.{AreFresh};
 ghost use Rattle.ckc_blame_sound.specs.Steps.{IsStep, IsCondition};
 ghost use Rattle.ckc_blame_sound.specs.Calls.{store_in, arguments_of, ArePassed, Stands, Waits, AreWaiting};
@@ -34,13 +33,13 @@ ghost use Rattle.ckc_blame_sound.specs.Sound.{Sound};
 ghost use Rattle.ckc_blame_runs.specs.Moves.{IsSoundMove, StaysSound};
 ghost use Rattle.ckc_blame_numbers.specs.Typed.{IsTypedIf, IsTypedStmt};
 ghost use Rattle.ckc_blame_texts.specs.Judged.{IsJudged, globals_in};
-ghost use Rattle.ckc_blame_texts.specs.Words.{HasWords, HasWordsAct};
 ghost use Rattle.ckc_blame_slots.specs.Cells.{AreSound};
 ghost use Rattle.ckc_blame_slots.specs.Limited.{store_with};
 ghost use Rattle.ckc_blame_slots.specs.Writes.{AreCellWrites};
 ghost use Rattle.ckc_blame_control.specs.Ready.{IsReady, Begins, Faces, is_step};
 ghost use Rattle.ckc_blame_control.specs.Decided.{LeadsTo, IsDecided, HasSides};
 ghost use Rattle.ckc_blame_control.specs.Whole.{KeepSound};
+ghost use Rattle.ckc_blame_control.specs.Known.{IsKnownPoint};
 ghost use Rattle.ckc_blame_control.specs.Kept.{KeepRanges, IsSameCall, IsBack, inside};
 
 /// What comes next in a call, from the next step on, is judged from a point that holds if what came
@@ -178,7 +177,7 @@ pub fn states_stay_sound()
 {}
 
 /// The state in a function that was called is sound if what the function begins with is judged from a
-/// point that holds, and its parameters have what the arguments stand for.
+/// point that holds, and the arguments stand for what its parameters have.
 pub fn calls_enter_soundly()
     ensures { (p : Typed) (s : State) (h : Sound p s) (called : Setting) (spot : Spot)
         (target : Option Kept) (number : ℕ) (es : List Expr) (next : List Work)
@@ -186,8 +185,8 @@ pub fn calls_enter_soundly()
         (f : Faces h.setting (store_in p s.blocks s.frame) s.frame.entry
         (Call spot target number es) next) → has_room (active s) ≡ true
         → slice_get (functions_elaborated p) number ≡ Some callee → IsFunction p called callee
-        → ArePassed h.setting f.here.at.facts s.frame.locals called.head.params
-        (arguments_of f.judged.before) values
+        → ((n : ℕ) → ArePassed h.setting called f.here s.frame.locals values
+        (map (view h.setting.frame) (arguments_of f.judged.before)) n)
         → IsReady called (store_in p s.blocks (entered callee values)) values
         (Rest callee.body ∷ [])
         → Sound p (inside s next target callee values) }
@@ -217,16 +216,15 @@ pub fn checked_steps_stay_sound()
     ensures { (p : Typed) → KeepSound p → StaysSound p }
 {}
 
-/// The statement of a step, and a condition, of a judged text are typed, if their literals are words.
-/// In a function of less than 2^32 variables those from the next fresh one on are no integers, and it
+/// The statement of a step, and a condition, of a judged text are typed, if the literals of the text are
+/// words. In a function of less than 2^32 variables those from the next fresh one on are no integers, and it
 /// has a word as its number.
 pub fn steps_are_typed()
     ensures step { (p : Typed) (s : Setting) (f : Function) (here there : Here)
-        (step : Code → Code) → IsJudged p → IsFunction p s f → (is : IsStep s here step there)
-        → HasWordsAct (out-Act Name Note is.before.body)
-        → IsTypedStmt (globals_in p) s is.before }
+        (step : Code → Code) → IsJudged p → HaveWords p → IsFunction p s f
+        → (is : IsStep s here step there) → IsTypedStmt (globals_in p) s is.before }
     ensures condition { (p : Typed) (s : Setting) (f : Function) (here yes no : Here) (e : Expr) →
-        IsFunction p s f → (c : IsCondition s here e yes no) → IfSome c.before HasWords
+        HaveWords p → IsFunction p s f → (c : IsCondition s here e yes no)
         → IsTypedIf (globals_in p) s c.before }
     ensures fresh { (p : Typed) (s : Setting) (f : Function) (here there : Here)
         (step : Code → Code) → IsFunction p s f → IsStep s here step there
@@ -234,4 +232,17 @@ pub fn steps_are_typed()
     ensures tested { (p : Typed) (s : Setting) (f : Function) (here yes no : Here) (e : Expr) →
         IsFunction p s f → IsCondition s here e yes no → length s.variables < 2 ^ 32
         → AreFresh s.frame here.next × (here.next < 2 ^ 32) }
+{}
+
+/// A step and a condition of a judged text whose literals are words are typed, and the point where they
+/// stand is known as the laws on expressions ask, in a function of less than 2^32 variables.
+pub fn steps_are_known()
+    ensures step { (p : Typed) (s : Setting) (f : Function) (here there : Here)
+        (step : Code → Code) → IsJudged p → HaveWords p → IsFunction p s f
+        → length s.variables < 2 ^ 32 → (is : IsStep s here step there)
+        → IsTypedStmt (globals_in p) s is.before × IsKnownPoint (globals_in p) s here }
+    ensures condition { (p : Typed) (s : Setting) (f : Function) (here yes no : Here) (e : Expr) →
+        IsJudged p → HaveWords p → IsFunction p s f → length s.variables < 2 ^ 32
+        → (c : IsCondition s here e yes no)
+        → IsTypedIf (globals_in p) s c.before × IsKnownPoint (globals_in p) s here }
 {}

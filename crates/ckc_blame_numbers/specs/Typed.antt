@@ -1,5 +1,6 @@
 -- Expressions that have been judged, with their types.
 use Rattle.std.specs.Prelude.{◌≡◌, ◌<◌, ◌^◌, ℕ, true, Option, Some, IfSome}
+use Rattle.std.specs.List.{AllByRecursion}
 use Rattle.ckc_base.specs.declared.arithmetic.Mode.{Mode}
 use Rattle.ckc_types.specs.declared.types.CType.{CType}
 use Rattle.ckc_types.specs.declared.types.Structs.{Structs}
@@ -58,13 +59,23 @@ IsTypedInit globals s init.Nothing = Unit {0}
 IsTypedInit globals s (init.One e) = IsTyped globals s e
 IsTypedInit globals s (init.Many es) = ⊥
 
--- The expressions that an assignment or a declaration has are typed, and the local that is declared has its type.
+-- The two sides of an assignment are typed.
+abbrev pub AreTypedSides : Globals → Setting → Act-F Name Note NotedAct NotedStmt → Type 0
+AreTypedSides globals s (Act-F.Assign e f) = IsTyped globals s e × IsTyped globals s f
+AreTypedSides globals s a = Unit {0}
+
+-- The expressions of a statement that is a step by itself are typed: the two sides of an assignment and of each one in
+-- a bundle, the initialiser of a local, which has its type, what is returned, a call, and what is checked.
 abbrev pub IsTypedAct : Globals → Setting → Act-F Name Note NotedAct NotedStmt → Type 0
-IsTypedAct globals s (Act-F.Assign e f) = IsTyped globals s e × IsTyped globals s f
 IsTypedAct globals s (Act-F.Local d) =
     IsTypedInit globals s d.init
     × ((k : ℕ) (l : Local) → d.name ≡ name.Local k → local_at s.frame k ≡ Some l → l.ctype ≡ type_written d.ctype)
-IsTypedAct globals s a = Unit {0}
+IsTypedAct globals s (Act-F.Call e) = IsTyped globals s e
+IsTypedAct globals s (Act-F.Return e) = IsTypedIf globals s e
+IsTypedAct globals s (Act-F.Check e) = IsTyped globals s e
+IsTypedAct globals s (Act-F.Bundle ss) =
+    AllByRecursion (λ (st : NotedStmt). AreTypedSides globals s (out-Act Name Note st.body)) ss
+IsTypedAct globals s a = AreTypedSides globals s a
 
 -- the same of a statement
 abbrev pub IsTypedStmt : Globals → Setting → NotedStmt → Type 0

@@ -2,4 +2,5 @@ pub mod Facts
 pub mod Flow
 pub mod Kept
 pub mod Joined
+pub mod Words
 pub mod Typed

@@ -1,8 +1,6 @@
 -- The active call and those that wait, as they were judged.
-use Rattle.std.specs.Prelude.{◌≡◌, ℕ, Bool, true, false, List, [], ◌∷◌, slice_get, slice_index, pos, Option, None, Some, IfSome}
-use Rattle.ckc_linear.specs.declared.forms.Base.{Base}
+use Rattle.std.specs.Prelude.{◌≡◌, ℕ, List, [], ◌∷◌, map, slice_get, pos, Some}
 use Rattle.ckc_linear.specs.declared.forms.Base.TheVariants as base
-use Rattle.ckc_linear.specs.declared.forms.Form.{Form}
 use Rattle.ckc_syntax.specs.declared.tree.Name.{Name}
 use Rattle.ckc_syntax.specs.declared.tree.Init.TheVariants as init
 use Rattle.ckc_syntax.specs.declared.tree.Node.{Node-F, out-Node}
@@ -10,10 +8,9 @@ use Rattle.ckc_syntax.specs.declared.tree.Act.{Act-F, out-Act}
 use Rattle.ckc_typed.specs.declared.typed.Note.{Note}
 use Rattle.ckc_typed.specs.declared.typed.Typed.{Typed}
 use Rattle.ckc_typed.specs.Trees.{NotedAct, NotedExpr, NotedInit, NotedLayer, NotedStmt}
-use Rattle.ckc_typed.specs.Types.{is_pointer}
-use Rattle.ckc_bounds_points.specs.declared.frame.Local.{Local}
-use Rattle.ckc_bounds_points.specs.Shown.{Known}
-use Rattle.ckc_bounds_points.specs.Forms.{in_type}
+use Rattle.ckc_bounds_views.specs.Fresh.{all_fresh}
+use Rattle.ckc_bounds_views.specs.Parts.{View, capped}
+use Rattle.ckc_bounds_views.specs.Places.{values_after}
 use Rattle.ckc_bounds_views.specs.Views.{view}
 use Rattle.ckc_bounds_statements.specs.Paths.{Here}
 use Rattle.ckc_source.specs.declared.stmt.Spot.{Spot}
@@ -22,13 +19,11 @@ use Rattle.ckc_source.specs.Code.{Expr, Call, Function}
 use Rattle.ckc_source.specs.Eval.{Store}
 use Rattle.ckc_source.specs.States as states
 use Rattle.ckc_source.specs.States.{Caller}
-use Rattle.ckc_source.specs.Words.{exact, elements_behind}
-use Rattle.ckc_build_values.specs.Kinds.{integer_of, size_behind}
-use Rattle.ckc_build_values.specs.Names.{address_of}
 use Rattle.ckc_build_elaborate.specs.Functions.{functions_elaborated}
 use Rattle.ckc_build_elaborate.specs.Shapes.{shapes_elaborated}
 use Rattle.ckc_blame_sound.specs.Settings.{Setting, IsFunction}
-use Rattle.ckc_blame_sound.specs.Values.{value, number_of}
+use Rattle.ckc_blame_sound.specs.Valuations.{Valuation, IsValuationOf, AreNumbersOf}
+use Rattle.ckc_blame_sound.specs.Arguments.{AreArguments}
 use Rattle.ckc_blame_sound.specs.Points.{HoldsAt}
 use Rattle.ckc_blame_sound.specs.Steps.{IsStep}
 use Rattle.ckc_blame_sound.specs.Judged.{Exits, JudgedWork}
@@ -67,41 +62,22 @@ arguments_of_act _ = []
 abbrev pub arguments_of : NotedStmt → List NotedExpr
 arguments_of s = arguments_of_act (out-Act Name Note s.body)
 
--- the address of a base that is a local pointer or a static array
-abbrev pub address_at : Setting → List ℕ → Option Base → Option ℕ
-address_at s locals (Some (base.Local k)) = Some (slice_index locals k)
-address_at s locals (Some (base.Array k)) = Some (address_of s.text k)
-address_at s locals _ = None
-
--- A word is the address that a place stands for, if that lies from a local pointer or a static array.
-abbrev pub IsAddress : Setting → List ℕ → ℕ → ℕ → Form → Type 0
-IsAddress s locals size n f =
-    IfSome (address_at s locals f.base) (λ a. pos n ≡ elements_behind a size (number_of (value s.frame locals) f))
-
--- A parameter was entered with what its argument stands for at a point, if that is a form over locals and static arrays
--- alone: a pointer with the argument's place, an integer with its form in the parameter's type.
-abbrev pub IsPassedAs : Bool → Setting → Known → List ℕ → Local → NotedExpr → ℕ → Type 0
-IsPassedAs true s facts locals parameter e n =
-    IfSome ((view s.frame e).place 0 facts) (IsAddress s locals (size_behind s.text.layout e.note.ctype) n)
-IsPassedAs false s facts locals parameter e n =
-    IfSome (in_type facts parameter.ctype ((view s.frame e).form facts))
-    (λ f. exact (integer_of parameter.ctype) n ≡ number_of (value s.frame locals) f)
-
--- which of the two it is, by the parameter's type
-abbrev pub IsPassed : Setting → Known → List ℕ → Local → NotedExpr → ℕ → Type 0
-IsPassed s facts locals parameter e n = IsPassedAs (is_pointer parameter.ctype) s facts locals parameter e n
-
--- each parameter that has an argument
-abbrev pub ArePassed : Setting → Known → List ℕ → List Local → List NotedExpr → List ℕ → Type 0
-ArePassed s facts locals parameters es entry =
-    (k : ℕ) (parameter : Local) (e : NotedExpr) → slice_get parameters k ≡ Some parameter → slice_get es k ≡ Some e
-    → IsPassed s facts locals parameter e (slice_index entry k)
+-- The arguments of a call stand for what the parameters of another function are entered with, under a valuation of the
+-- locals at the point of the call. The fresh variables in them stand for numbers of their types, and the value of the
+-- call itself, which is numbered after those in its arguments, for the word n.
+pub record ArePassed (s called : Setting) (at : Here) (locals entry : List ℕ) (es : List View) (n : ℕ) : Type 0 where
+  pub valuation : Valuation
+  pub values : IsValuationOf s locals valuation
+  pub arguments : AreArguments s.text.layout valuation at.at.facts called.head.params entry 0 0 es
+  pub numbers : AreNumbersOf valuation (capped at.next 1) (all_fresh es at.at)
+  pub own : valuation.address (Some (base.Value (values_after 0 es))) ≡ pos n
 
 -- ---- calls that wait
 
--- A call waits for another one, which was entered with these values: the point of the step that called it holds, what comes
--- after that step is judged, and the parameters still have what the arguments stand for there.
-pub record Waits (p : Typed) (blocks : List Block) (caller : Caller) (s called : Setting) (callee : Function) (entry : List ℕ) : Type 0 where
+-- A call waits for another one, which was entered with these values: the point of the step that called it holds, what
+-- comes after that step is judged, and the arguments there stand for these values, whatever word the call will give.
+pub record Waits (p : Typed) (blocks : List Block) (caller : Caller) (s called : Setting) (callee : Function)
+    (entry : List ℕ) : Type 0 where
   pub function : IsFunction p s caller.frame.function
   pub spot : Spot
   pub number : ℕ
@@ -112,7 +88,8 @@ pub record Waits (p : Typed) (blocks : List Block) (caller : Caller) (s called :
   pub calls : slice_get (functions_elaborated p) number ≡ Some callee
   pub work : JudgedWork s caller.frame.work exits
   pub holds : HoldsAt s (store_in p blocks caller.frame) caller.frame.entry at
-  pub passed : ArePassed s at.at.facts caller.frame.locals called.head.params (arguments_of call.before) entry
+  pub passed : (n : ℕ)
+      → ArePassed s called at caller.frame.locals entry (map (view s.frame) (arguments_of call.before)) n
 
 -- Each call that waits does so for the one in front of it.
 unfoldable pub AreWaiting : Typed → List Block → List Caller → Setting → Function → List ℕ → Type 0

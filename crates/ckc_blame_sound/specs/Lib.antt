@@ -1,7 +1,10 @@
 pub mod Settings
 pub mod Values
 pub mod Variables
+pub mod Valuations
+pub mod Arguments
 pub mod Points
+pub mod Words
 pub mod Bodies
 pub mod Steps
 pub mod Judged

@@ -1,5 +1,6 @@
 -- A step of a program and the statement that it comes from, as that is judged.
 use Rattle.std.specs.Prelude.{◌≡◌, ℕ, Bool, true, false, [], ◌∷◌, Option, Ok}
+use Rattle.std.specs.List.{All}
 use Rattle.ckc_syntax.specs.declared.tree.Name.{Name}
 use Rattle.ckc_syntax.specs.declared.tree.Act.{Act-F, out-Act}
 use Rattle.ckc_typed.specs.declared.typed.Note.{Note}
@@ -9,6 +10,7 @@ use Rattle.ckc_source.specs.Code.{Expr, Code}
 use Rattle.ckc_build_elaborate.specs.Statements.{stmt_elaborated}
 use Rattle.ckc_build_elaborate.specs.Steps.{condition}
 use Rattle.ckc_blame_sound.specs.Settings.{Setting}
+use Rattle.ckc_blame_sound.specs.Values.{NamesIntegers}
 use Rattle.ckc_blame_sound.specs.Points.{GoesTo}
 use Rattle.ckc_blame_sound.specs.Bodies.{IsInBody, IsTestInBody, IsNextFresh}
 
@@ -22,8 +24,8 @@ is_simple (Act-F.Check e) = true
 is_simple (Act-F.Bundle ss) = true
 is_simple a = false
 
--- A statement of the function is judged at a point, and not only counted; what becomes of it is this one step, and
--- control goes from there to another point.
+-- A statement of the function is judged at a point, and not only counted, and each fact there names the number zero and
+-- integer locals alone; what becomes of it is this one step, and control goes from there to another point.
 pub record IsStep (s : Setting) (here : Here) (step : Code → Code) (there : Here) : Type 0 where
   pub before : NotedStmt
   pub after : NotedStmt
@@ -33,12 +35,13 @@ pub record IsStep (s : Setting) (here : Here) (step : Code → Code) (there : He
   pub inside : IsInBody s before
   pub fresh : IsNextFresh s here.next
   pub counting : here.counting ≡ false
+  pub named : All (NamesIntegers s.frame) here.at.facts.list
   pub judged : (path before).judged s.frame s.head here ≡ Ok (after, behind)
   pub becomes : stmt_elaborated s.text s.variables s.result literals after ≡ step ∷ []
   pub goes : GoesTo s.frame behind there
 
--- A condition of the function is judged at a point, and not only counted, and becomes this expression; if it is true
--- control is at a second point, and if it is false at a third. One that is left out is true.
+-- A condition of the function is judged at such a point, and becomes this expression; if it is true control is at a
+-- second point, and if it is false at a third. One that is left out is true.
 pub record IsCondition (s : Setting) (here : Here) (e : Expr) (yes no : Here) : Type 0 where
   pub before : Option NotedExpr
   pub after : Option NotedExpr
@@ -47,6 +50,7 @@ pub record IsCondition (s : Setting) (here : Here) (e : Expr) (yes no : Here) : 
   pub inside : IsTestInBody s before
   pub fresh : IsNextFresh s here.next
   pub counting : here.counting ≡ false
+  pub named : All (NamesIntegers s.frame) here.at.facts.list
   pub judged : maybe_judged s.frame before here ≡ Ok (after, behind)
   pub becomes : e ≡ condition s.text s.variables literals after
   pub true_side : yes ≡ record behind { at = maybe_side s.frame true after behind.at }

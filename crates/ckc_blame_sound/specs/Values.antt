@@ -1,7 +1,8 @@
 -- The numbers that variables and forms stand for if locals have values.
-use Rattle.std.specs.Prelude.{◌≡◌, ℕ, zero, suc, ◌<◌, ◌^◌, if◌then◌else◌, ℤ, pos, ◌+ℤ◌, ◌≤ℤ◌, List, slice_index, Option, None, Some}
+use Rattle.std.specs.Prelude.{◌≡◌, ℕ, zero, suc, true, ◌<◌, ◌^◌, if◌then◌else◌, ℤ, pos, ◌+ℤ◌, ◌≤ℤ◌, List, slice_index, Option, None, Some}
 use Rattle.std.specs.List.{All}
 use Rattle.ckc_types.specs.declared.types.CType.{CType}
+use Rattle.ckc_linear.specs.declared.facts.Fact.{Fact}
 use Rattle.ckc_linear.specs.declared.forms.Form.{Form}
 use Rattle.ckc_linear.specs.Facts.{Satisfies}
 use Rattle.ckc_typed.specs.Types.{is_char, is_integer}
@@ -48,3 +49,17 @@ IsNumberOf t z = IsBetween (range_of t) z
 -- each local holds a word of its type
 abbrev pub HoldWords : Frame → List ℕ → Type 0
 HoldWords frame locals = (k : ℕ) (l : Local) → local_at frame k ≡ Some l → IsWordOf l.ctype (slice_index locals k)
+
+-- There is such a local, and it is an integer.
+abbrev pub IsIntegerLocal : Option Local → Type 0
+IsIntegerLocal (Some l) = is_integer l.ctype ≡ true
+IsIntegerLocal None = ⊥
+
+-- A variable is the number zero or an integer local.
+abbrev pub IsInteger : Frame → ℕ → Type 0
+IsInteger frame zero = Unit {0}
+IsInteger frame (suc k) = IsIntegerLocal (local_at frame k)
+
+-- A fact names no variable but these.
+abbrev pub NamesIntegers : Frame → Fact → Type 0
+NamesIntegers frame f = IsInteger frame f.x × IsInteger frame f.y

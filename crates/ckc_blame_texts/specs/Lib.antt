@@ -1,3 +1,2 @@
 pub mod Judged
 pub mod Numbered
-pub mod Words

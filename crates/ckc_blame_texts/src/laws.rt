@@ -39,13 +39,13 @@ ghost use Rattle.ckc_build_values.specs.Kinds.{width_of};
 ghost use Rattle.ckc_build_values.specs.Members.{offset_of};
 ghost use Rattle.ckc_source.specs.Code.{Function};
 ghost use Rattle.ckc_blame_sound.specs.Settings.{Setting, IsFunction};
+ghost use Rattle.ckc_blame_sound.specs.Words.{HasWords, HasWordsAct};
 ghost use Rattle.ckc_blame_numbers.specs.Typed.{Agrees, IsTyped, IsTypedIf, IsTypedStmt};
 ghost use Rattle.ckc_blame_sound.specs.Slots.{Slot, slots_of};
 ghost use Rattle.ckc_blame_slots.specs.Cells.{HaveOwnNames, IsPart};
 ghost use Rattle.ckc_blame_slots.specs.Limited.{IsElementAt};
 ghost use Rattle.ckc_blame_texts.specs.Judged.{IsJudged, IsBodyJudged, globals_in};
 ghost use Rattle.ckc_blame_texts.specs.Numbered.{AreLocals, HaveTypes, IsKnownIn};
-ghost use Rattle.ckc_blame_texts.specs.Words.{HasWords, HasWordsAct};
 
 /// No member of a structure of a judged text has the name of another one.
 pub fn members_have_own_names()

@@ -28,9 +28,9 @@ use Rattle.ckc_blame_sound.specs.Steps.{IsCondition}
 use Rattle.ckc_blame_sound.specs.Judged.{Exits, ending, Branches, Judged}
 use Rattle.ckc_blame_sound.proofs.Joined.{first_known, second_known}
 use Rattle.ckc_blame_nested.specs.Nested.{Nesting, is_branch, is_branch_if}
-use Rattle.ckc_blame_walk.specs.Walks.{AreSmall, MayLeave, Stays}
+use Rattle.ckc_blame_walk.specs.Walks.{AreNamed, MayLeave, Stays}
 use Rattle.ckc_blame_walk.proofs.Adds.{Adds, side_adds}
-use Rattle.ckc_blame_walk.proofs.Flow.{stays_none, stays_adding, stays_through, stays_front, stays_back}
+use Rattle.ckc_blame_walk.proofs.Flow.{AreTame, tame_adding, stays_none, stays_adding, stays_through, stays_front, stays_back}
 use Rattle.ckc_blame_walk.proofs.Heads.{stays_joined}
 use Rattle.ckc_blame_walk.proofs.Onward.{Onward, IsOn, onward_none, onward_through, on_there}
 use Rattle.ckc_blame_walk.proofs.Pieces.{Gives, through, nested, given, Moved, value_moves}
@@ -90,7 +90,7 @@ module _ (s : Setting) (Claimed : Type 0) where
     pub same : nest.declares ≡ false → p.1.seen ≡ here.seen
     pub onward : Onward here p.1
     pub stays : Stays s.frame ks here.at p.1.at
-    pub code : IsOn s Claimed here → AreSmall here.at.facts → (k : ℕ) (exits : Exits) → MayLeave s.frame ks left turned here exits
+    pub code : IsOn s Claimed here → AreTame s.frame here.at.facts → (k : ℕ) (exits : Exits) → MayLeave s.frame ks left turned here exits
         → IsCode s (stmt_elaborated s.text s.variables s.result k p.0) exits here p.1
 
   -- the same of a statement that may be left out
@@ -99,7 +99,7 @@ module _ (s : Setting) (Claimed : Type 0) where
     pub same : is_branch_if nest ≡ true → p.1.seen ≡ here.seen
     pub onward : Onward here p.1
     pub stays : Stays s.frame ks here.at p.1.at
-    pub code : IsOn s Claimed here → AreSmall here.at.facts → (k : ℕ) (exits : Exits) → MayLeave s.frame ks left turned here exits
+    pub code : IsOn s Claimed here → AreTame s.frame here.at.facts → (k : ℕ) (exits : Exits) → MayLeave s.frame ks left turned here exits
         → IsCode s (code_if (part_if p.0) s.text s.variables s.result k) exits here p.1
 
   pub record Whole (path : Path) (nest : Nesting) : Type 0 where
@@ -118,7 +118,7 @@ module _ (s : Setting) (Claimed : Type 0) where
       same = λ e. refl;
       onward = onward_none here;
       stays = stays_none s.frame [] here.at;
-      code = λ on small k exits may. inl (refl, refl);
+      code = λ on tame k exits may. inl (refl, refl);
     });
     plain = λ e. (refl, refl);
   }
@@ -184,15 +184,16 @@ module _ (s : Setting) (Claimed : Type 0) where
       abbrev no : Here
       no = record v.1 { at = side_of s.frame false v.0 v.1.at }
 
-      adds : (b : Bool) → Adds here.at (side_of s.frame b v.0 v.1.at)
+      adds : (b : Bool) → Adds s.frame here.at (side_of s.frame b v.0 v.1.at)
       unfolding side_of
-      adds b = subst (λ a. Adds a (side_of s.frame b v.0 v.1.at)) moved.at (side_adds s.frame v.0 b v.1.at)
+      adds b = subst (λ a. Adds s.frame a (side_of s.frame b v.0 v.1.at)) moved.at (side_adds s.frame v.0 b v.1.at)
 
-      if_condition : (k : ℕ) → IsOn s Claimed here → IsCondition s here (expr_elaborated s.text s.variables k v.0) yes no
-      if_condition k on = record {
+      if_condition : (k : ℕ) → IsOn s Claimed here → AreNamed s.frame here.at.facts → IsCondition s here (expr_elaborated s.text s.variables k v.0) yes no
+      if_condition k on named = record {
         inside = inside on.claimed;
         fresh = on.fresh;
         counting = on.counts;
+        named = named;
         before = Some e;
         after = Some v.0;
         literals = k;
@@ -223,7 +224,7 @@ module _ (s : Setting) (Claimed : Type 0) where
               (stays_front s.frame ks js here.at q.1.at (stays_through s.frame [] ks here.at yes.at q.1.at (stays_adding s.frame here.at yes.at (adds true)) first.stays))
               (stays_back s.frame ks js here.at r.1.at (stays_through s.frame [] js here.at other.at r.1.at (stays_adding s.frame here.at other.at (adds false)) second.stays))
 
-          module _ (on : IsOn s Claimed here) (small : AreSmall here.at.facts) (k : ℕ) (exits : Exits)
+          module _ (on : IsOn s Claimed here) (tame : AreTame s.frame here.at.facts) (k : ℕ) (exits : Exits)
               (may : MayLeave s.frame (ks ++ js) (path.breaks || breaks_if path2) (path.continues || continues_if path2) here exits) (next : Here) (rest : Code)
               (goes : GoesTo s.frame there next) (behind : Judged s rest exits next) where
             abbrev branches : Branches
@@ -250,12 +251,12 @@ module _ (s : Setting) (Claimed : Type 0) where
             unfolding Judged
             if_judged_code = (
               branches,
-              if_condition k on,
+              if_condition k on tame.1,
               closed_code s (stmt_elaborated s.text s.variables s.result (k + literals_of v.0) q.0) (ending exits next) yes q.1 one_ends
-                  (first.code (on_there s here yes moved.onward on) ((adds true).more.small small) (k + literals_of v.0) (ending exits next) one_may),
+                  (first.code (on_there s here yes moved.onward on) (tame_adding s.frame here.at yes.at (adds true) tame) (k + literals_of v.0) (ending exits next) one_may),
               record { known = λ reached. (goes_nowhere no).known reached; seen = λ k c. same_has no.seen q.1.seen (seen_first ∙ sym moved.seen) k c },
               closed_code s (code_if (part_if r.0) s.text s.variables s.result (k + literals_of v.0 + (part_of q.0).literals)) (ending exits next) other r.1 two_ends
-                  (second.code (on_there s here other (onward_through here yes other moved.onward first.onward) on) ((adds false).more.small small) (k + literals_of v.0 + (part_of q.0).literals) (ending exits next) two_may),
+                  (second.code (on_there s here other (onward_through here yes other moved.onward first.onward) on) (tame_adding s.frame here.at other.at (adds false) tame) (k + literals_of v.0 + (part_of q.0).literals) (ending exits next) two_may),
               behind,
             )
 
@@ -265,10 +266,10 @@ module _ (s : Setting) (Claimed : Type 0) where
             same = λ d. seen_second ∙ seen_first;
             onward = onward_through here other there (onward_through here yes other moved.onward first.onward) second.onward;
             stays = if_stays;
-            code = λ on small k exits may. inr (λ next rest goes behind.
+            code = λ on tame k exits may. inr (λ next rest goes behind.
                 subst (λ fs. Judged s (chained fs rest) exits here)
                 (sym (code_is at note (Act-F.If v.0 q.0 r.0) (act.If v.0 q.0 r.0) k (act.rolls-If v.0 q.0 r.0) ∙ if_code at note.mode v.0 q.0 r.0 k))
-                (if_judged_code on small k exits may next rest goes behind));
+                (if_judged_code on tame k exits may next rest goes behind));
           }
 
     pub if_gives : Gives (Next (ks ++ js) mine (path.breaks || breaks_if path2) (path.continues || continues_if path2) here) (if_judged s.frame s.head at note e path path2 here)

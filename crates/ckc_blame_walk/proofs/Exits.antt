@@ -20,7 +20,7 @@ use Rattle.ckc_blame_walk.proofs.Codes.{goes_through}
 
 module _ (frame : Frame) where
   -- more facts tell more
-  pub known_before : (at after : State) → at.reached ≡ true → Adds at after → IsKnown frame after at
+  pub known_before : (at after : State) → at.reached ≡ true → Adds frame at after → IsKnown frame after at
   known_before at after reached h = record {
     reached = reached;
     facts = λ locals words t. All-weaker (Contains at.facts.list) (Satisfies (value frame locals))
@@ -94,7 +94,7 @@ module _ (frame : Frame) where
   }
 
   -- an exit of what comes where more is known
-  pub exit_adding : (ks : List ℕ) (here there exit : Here) → Adds here.at there.at → ((k : ℕ) → Contains here.seen k → Contains there.seen k) → IsExit frame ks here exit
+  pub exit_adding : (ks : List ℕ) (here there exit : Here) → Adds frame here.at there.at → ((k : ℕ) → Contains here.seen k → Contains there.seen k) → IsExit frame ks here exit
       → IsExit frame ks there exit
   exit_adding ks here there exit adds seen h = record {
     point = h.point;
@@ -118,7 +118,7 @@ module _ (frame : Frame) where
       exit_goes [] there exit (exit_after ks [] here there exit small stays seen (subst (λ xs. IsExit frame xs here exit) (sym (append-nil ks)) h))
 
   -- what is known at the head of a loop, where more is known
-  pub loop_left : (ks : List ℕ) (at there : State) → Adds (less frame ks at) there → there.reached ≡ true → IsLeft frame ks (less frame ks at) there
+  pub loop_left : (ks : List ℕ) (at there : State) → Adds frame (less frame ks at) there → there.reached ≡ true → IsLeft frame ks (less frame ks at) there
   loop_left ks at there adds reached =
       let l : IsLeft frame ks (less frame ks at) at = left_less frame ks at ((stays_less frame ks at).reached (sym adds.reached ∙ reached)) in
       record {
@@ -155,7 +155,7 @@ module _ (frame : Frame) where
     continues = λ e. exit_after ks js here there exits.continues small stays seen (h.continues (or_else c d e));
   }
 
-  pub may_adding : (ks : List ℕ) (a b : Bool) (here there : Here) (exits : Exits) → Adds here.at there.at → ((k : ℕ) → Contains here.seen k → Contains there.seen k)
+  pub may_adding : (ks : List ℕ) (a b : Bool) (here there : Here) (exits : Exits) → Adds frame here.at there.at → ((k : ℕ) → Contains here.seen k → Contains there.seen k)
       → MayLeave frame ks a b here exits → MayLeave frame ks a b there exits
   may_adding ks a b here there exits adds seen h = record {
     breaks = λ e. exit_adding ks here there exits.breaks adds seen (h.breaks e);

@@ -1,13 +1,10 @@
 -- The code of a function is judged from its first point.
-use Rattle.std.proofs.Common.{◌≡◌, refl, ap, ◌∙◌, ℕ, ◌+◌, true, false, List, [], length, arith}
-use Rattle.std.specs.Prelude.{◌^◌, Ok}
+use Rattle.std.proofs.Common.{◌≡◌, refl, ap, ◌∙◌, ℕ, true, false, List, [], arith}
+use Rattle.std.specs.Prelude.{Ok}
 use Rattle.std.specs.List.{Contains}
 use Rattle.std.proofs.lemmas.List.Elements.{All-nil}
-use Rattle.ckc_linear.specs.declared.facts.Fact.{Fact}
 use Rattle.ckc_typed.specs.Trees.{NotedHead, NotedStmt}
-use Rattle.ckc_bounds_known.specs.Shown.{is_within}
 use Rattle.ckc_bounds_points.specs.declared.frame.Frame.{Frame}
-use Rattle.ckc_bounds_points.specs.Flow.{entry}
 use Rattle.ckc_bounds_statements.specs.Paths.{Here, path}
 use Rattle.ckc_base.proofs.Outcomes.{made_of}
 use Rattle.ckc_bounds.specs.Declarations.{head_bounds}
@@ -21,9 +18,9 @@ use Rattle.ckc_blame_sound.specs.Points.{GoesTo}
 use Rattle.ckc_blame_sound.specs.Bodies.{IsInBody, IsNextFresh}
 use Rattle.ckc_blame_sound.specs.Judged.{Judged}
 use Rattle.ckc_blame_nested.specs.Nested.{nesting_of}
-use Rattle.ckc_blame_walk.specs.Walks.{AreSmall, IsExit, empty_point, leaving}
+use Rattle.ckc_blame_walk.specs.Walks.{IsExit, empty_point, leaving}
 use Rattle.ckc_blame_walk.proofs.Codes.{goes_nowhere}
-use Rattle.ckc_blame_walk.proofs.Walk.{ranges_small}
+use Rattle.ckc_blame_walk.proofs.Adds.{entry_small, entry_named}
 use Rattle.ckc_blame_walk.proofs.Whole.{statement_judged}
 
 none_in : {X : Type 0} (x : X) → Contains {X = X} [] x → ⊥
@@ -49,15 +46,12 @@ empty_exit frame ks here = record {
   seen = λ k c. absurd (none_in k c);
 }
 
-pub entry_small : (frame : Frame) → AreSmall (entry frame).facts
-entry_small frame = ranges_small 1 frame.locals (record { vars = length frame.locals + 1; list = [] }) (All-nil (λ (f : Fact). is_within (2 ^ 50) f.c ≡ true))
-
 pub body_goes : (s : Setting) (head : NotedHead) (n : ℕ) (body after : NotedStmt) (there : Here) (k : ℕ) → (nesting_of body).fine ≡ true → IsInBody s body → IsNextFresh s n
     → (path body).judged s.frame s.head (begin_in s.frame false head n) ≡ Ok (after, there)
     → Judged s (alone (stmt_elaborated s.text s.variables s.result k after)) leaving (begin_in s.frame false head n)
 unfolding Judged
 body_goes s head n body after there k fine inside fresh walk =
-    statement_judged s body after (begin_in s.frame false head n) there k leaving _ fine inside fresh refl (entry_small s.frame) walk
+    statement_judged s body after (begin_in s.frame false head n) there k leaving _ fine inside fresh refl (entry_small s.frame) (entry_named s.frame) walk
     (record {
       breaks = λ b. empty_exit s.frame (path body).assigned (begin_in s.frame false head n);
       continues = λ c. empty_exit s.frame (path body).assigned (begin_in s.frame false head n);

@@ -18,7 +18,7 @@ use Rattle.ckc_bounds_points.specs.declared.frame.Local.{Local}
 use Rattle.ckc_bounds_points.specs.declared.frame.Frame.{Frame}
 use Rattle.ckc_bounds_points.specs.Frames.{local_at}
 use Rattle.ckc_bounds_points.specs.Flow.{State, assigned_facts, widening_names, local_assigned, assigned, less, same_fact, in_both, wide_in_both, joined}
-use Rattle.ckc_blame_sound.specs.Values.{value, HoldWords, IsBetween}
+use Rattle.ckc_blame_sound.specs.Values.{value, HoldWords, IsBetween, NamesIntegers}
 use Rattle.ckc_blame_sound.proofs.Flow.{word_lies, integer_value, variable_value}
 use Rattle.ckc_blame_walk.specs.Walks.{IsSpared, StaysWide, IsAlways, IsLeft, Stays}
 use Rattle.ckc_blame_walk.proofs.Flow.{passes_on, was_in, passed_by}
@@ -149,6 +149,7 @@ module _ (frame : Frame) (ks : List ℕ) (at one two : State) (h : Stays frame k
         facts = λ r f w s c. passes_on (λ f. list_any (same_fact f) two.facts.list) one.facts.list f (h.facts p f w s c) (there_too f (g.facts q f w s c));
         widened = λ r k s c. passes_on (λ k. list_any (λ q. q == k) two.widened) one.widened k (h.widened p k s c) (wide_too k (g.widened q k s c));
         small = λ s. All-filter (λ f. list_any (same_fact f) two.facts.list) (λ (f : Fact). is_within (2 ^ 50) f.c ≡ true) one.facts.list (h.small s);
+        named = λ n. All-filter (λ f. list_any (same_fact f) two.facts.list) (NamesIntegers frame) one.facts.list (h.named n);
       }
         where
           there_too : (f : Fact) → Contains two.facts.list f → list_any (same_fact f) two.facts.list ≡ true

@@ -1,5 +1,5 @@
 -- The parts of a statement in the body of a function stand there too.
-use Rattle.std.proofs.Common.{◌≡◌, ap, subst, ◌∙◌, Bool, true, List, [], ◌∷◌, ◌++◌, map, rules}
+use Rattle.std.proofs.Common.{◌≡◌, refl, ap, subst, ◌∙◌, Bool, true, List, [], ◌∷◌, ◌++◌, map, arith, rules}
 use Rattle.std.specs.Prelude.{Option, None, Some, unwrap_or, IfSome}
 use Rattle.std.specs.List.{AllByRecursion, Contains}
 use Rattle.std.proofs.lemmas.List.Elements.{Contains-append_left, Contains-append_right}
@@ -12,12 +12,15 @@ use Rattle.ckc_syntax.specs.declared.tree.Stmt.{fold-roll-Stmt}
 use Rattle.ckc_typed.specs.declared.typed.Note.{Note}
 use Rattle.ckc_typed.specs.Environment.{variable_declared}
 use Rattle.ckc_typed.specs.Trees.{NotedAct, NotedDecl, NotedExpr, NotedStmt}
+use Rattle.ckc_typed_welltyped.specs.Statements as rows
 use Rattle.ckc_typed_welltyped.specs.Statements.{act_rows, WellTypedStmt}
 use Rattle.ckc_typed_welltyped.specs.Parts.{StmtByParts}
 use Rattle.ckc_typed_welltyped.proofs.ByParts.{stmt_by_parts}
 use Rattle.ckc_bounds_statements.specs.Paths.{Path, ActPath, act_declared, act_path, stmt_path, path_of_act, path, stated}
 use Rattle.ckc_blame_sound.specs.Settings.{Setting}
+use Rattle.ckc_blame_sound.specs.Words.{HasWords, exprs_of_act, exprs_in, HaveWords}
 use Rattle.ckc_blame_sound.specs.Bodies.{globals_of_text, IsInBody, IsTestInBody}
+use Rattle.ckc_blame_sound.proofs.Words.{exprs_inside, exprs_rolled}
 
 abbrev Layer : Type 0
 Layer = Act-F Name Note NotedAct NotedStmt
@@ -42,67 +45,100 @@ module _ (s : Setting) where
   PartsInBody (Act-F.For u e t b) = IfSome u (IsInBody s) × IsTestInBody s e × IfSome t (IsInBody s) × IsInBody s b
   PartsInBody a = Unit {0}
 
-  abbrev Known : List NotedDecl → Type 0
-  Known ds = (d : NotedDecl) → Contains ds d → Contains s.variables (variable_declared d)
+  -- What is declared in a part is among the variables, and the literals of its expressions are words.
+  record Own (ds : List NotedDecl) (es : List NotedExpr) : Type 0 where
+    pub known : (d : NotedDecl) → Contains ds d → Contains s.variables (variable_declared d)
+    pub words : HaveWords s.text → (e : NotedExpr) → Contains es e → HasWords e
 
-  known_front : (ds es : List NotedDecl) → Known (ds ++ es) → Known ds
-  known_front ds es h d c = h d (Contains-append_left ds es d c)
+  front : (ds cs : List NotedDecl) (es fs : List NotedExpr) → Own (ds ++ cs) (es ++ fs) → Own ds es
+  front ds cs es fs h = record {
+    known = λ d c. h.known d (Contains-append_left ds cs d c);
+    words = λ w e c. h.words w e (Contains-append_left es fs e c);
+  }
 
-  known_back : (ds es : List NotedDecl) → Known (ds ++ es) → Known es
-  known_back ds es h d c = h d (Contains-append_right ds es d c)
+  back : (ds cs : List NotedDecl) (es fs : List NotedExpr) → Own (ds ++ cs) (es ++ fs) → Own cs fs
+  back ds cs es fs h = record {
+    known = λ d c. h.known d (Contains-append_right ds cs d c);
+    words = λ w e c. h.words w e (Contains-append_right es fs e c);
+  }
 
   abbrev Fits : NotedStmt → Mode → Bool → Type 0
   Fits = WellTypedStmt (globals_of_text s.text) s.variables s.result
 
-  own : (st : NotedStmt) (m : Mode) (l : Bool) → Fits st m l → Known (path st).declared → IsInBody s st
-  own st m l w k = record { mode = m; looped = l; typed = w; known = k }
+  own : (st : NotedStmt) (m : Mode) (l : Bool) → Fits st m l → Own (path st).declared (exprs_in st) → IsInBody s st
+  own st m l w k = record { mode = m; looped = l; typed = w; known = k.known; words = k.words }
 
-  each : (ss : List NotedStmt) (m : Mode) (l : Bool) → AllByRecursion (λ st. Fits st m l) ss → Known (inside_each listed (λ (v : Path). v.declared) (map path ss)) → AllByRecursion (IsInBody s) ss
+  abbrev declared_each : List NotedStmt → List NotedDecl
+  declared_each ss = inside_each listed (λ (v : Path). v.declared) (map path ss)
+
+  abbrev exprs_each : List NotedStmt → List NotedExpr
+  exprs_each ss = inside_each listed (λ (es : List NotedExpr). es) (map exprs_in ss)
+
+  each : (ss : List NotedStmt) (m : Mode) (l : Bool) → AllByRecursion (λ st. Fits st m l) ss → Own (declared_each ss) (exprs_each ss) → AllByRecursion (IsInBody s) ss
   each [] m l w k = tt
-  each (st ∷ ss) m l w k =
-      let rest : List NotedDecl = inside_each listed (λ (v : Path). v.declared) (map path ss) in
-      (own st m l w.0 (known_front (path st).declared rest k), each ss m l w.1 (known_back (path st).declared rest k))
+  each (st ∷ ss) m l w k = (
+    own st m l w.0 (front (path st).declared (declared_each ss) (exprs_in st) (exprs_each ss) k),
+    each ss m l w.1 (back (path st).declared (declared_each ss) (exprs_in st) (exprs_each ss) k),
+  )
 
   abbrev none_in : Option NotedExpr → List NotedDecl
   none_in e = inside_if listed (λ (f : NotedExpr). []) e
 
-  parts : (x : Layer) (m : Mode) (l : Bool) → act_rows (globals_of_text s.text) s.variables s.result Fits x m l → Known (act_declared (act_inside x)) → PartsInBody x
+  abbrev tests_in : Option NotedExpr → List NotedExpr
+  tests_in e = inside_if listed (λ (f : NotedExpr). f ∷ []) e
+
+  test : (e : Option NotedExpr) (m : Mode) → IfSome e (rows.IsCondition (globals_of_text s.text) s.variables m) → Own (none_in e) (tests_in e) → IsTestInBody s e
+  test None m w k = record { mode = m; typed = w; words = λ h. tt }
+  test (Some e) m w k = record { mode = m; typed = w; words = λ h. k.words h e (0, omega arith, refl) }
+
+  -- a condition, and a statement after it
+  tested : (e : NotedExpr) (u : NotedStmt) (m n : Mode) (l : Bool) → rows.IsCondition (globals_of_text s.text) s.variables m e → Fits u n l → Own (path u).declared (e ∷ exprs_in u)
+      → IsTestInBody s (Some e) × IsInBody s u
+  tested e u m n l w v k = (test (Some e) m w (front [] (path u).declared (e ∷ []) (exprs_in u) k), own u n l v (back [] (path u).declared (e ∷ []) (exprs_in u) k))
+
+  abbrev path_declared : Option NotedStmt → List NotedDecl
+  path_declared None = []
+  path_declared (Some u) = (path u).declared
+
+  abbrev exprs_there : Option NotedStmt → List NotedExpr
+  exprs_there None = []
+  exprs_there (Some u) = exprs_in u
+
+  maybe : (u : Option NotedStmt) (m : Mode) (l : Bool) → IfSome u (λ v. Fits v m l) → Own (path_declared u) (exprs_there u) → IfSome u (IsInBody s)
+  maybe None m l w k = tt
+  maybe (Some u) m l w k = own u m l w k
+
+  -- the parts of a `for`
+  abbrev ForParts : Option NotedStmt → Option NotedExpr → Option NotedStmt → NotedStmt → Type 0
+  ForParts u e t b = IfSome u (IsInBody s) × IsTestInBody s e × IfSome t (IsInBody s) × IsInBody s b
+
+  for_parts : (u : Option NotedStmt) (e : Option NotedExpr) (t : Option NotedStmt) (b : NotedStmt) (m : Mode) (l : Bool) → IfSome u (λ v. Fits v m l)
+      → IfSome e (rows.IsCondition (globals_of_text s.text) s.variables m) → IfSome t (λ v. Fits v m l) → Fits b m true
+      → Own (path_declared u ++ (none_in e ++ ((path b).declared ++ path_declared t))) (exprs_there u ++ (tests_in e ++ (exprs_in b ++ exprs_there t))) → ForParts u e t b
+  for_parts u e t b m l wu we wt wb k =
+      let ds : List NotedDecl = (path b).declared ++ path_declared t in
+      let es : List NotedExpr = exprs_in b ++ exprs_there t in
+      let rest : Own (none_in e ++ ds) (tests_in e ++ es) = back (path_declared u) (none_in e ++ ds) (exprs_there u) (tests_in e ++ es) k in
+      let last : Own ds es = back (none_in e) ds (tests_in e) es rest in (
+        maybe u m l wu (front (path_declared u) (none_in e ++ ds) (exprs_there u) (tests_in e ++ es) k),
+        test e m we (front (none_in e) ds (tests_in e) es rest),
+        maybe t m l wt (back (path b).declared (path_declared t) (exprs_in b) (exprs_there t) last),
+        own b m true wb (front (path b).declared (path_declared t) (exprs_in b) (exprs_there t) last),
+      )
+
+  parts : (x : Layer) (m : Mode) (l : Bool) → act_rows (globals_of_text s.text) s.variables s.result Fits x m l → Own (act_declared (act_inside x)) (exprs_of_act (exprs_inside x)) → PartsInBody x
   parts (Act-F.Block n ss) m l w k = each ss (unwrap_or n m) l w k
-  parts (Act-F.If e u None) m l w k = (record { mode = m; typed = w.0 }, own u m l w.1 (known_front (path u).declared [] k), tt)
-  parts (Act-F.If e u (Some t)) m l w k = (
-    record { mode = m; typed = w.0 },
-    own u m l w.1 (known_front (path u).declared (path t).declared k),
-    own t m l w.2 (known_back (path u).declared (path t).declared k),
-  )
-  parts (Act-F.While e u) m l w k = (record { mode = m; typed = w.0 }, own u m true w.1 k)
-  parts (Act-F.For None e None b) m l w k = (
-    tt,
-    record { mode = m; typed = w.1 },
-    tt,
-    own b m true w.3 (known_front (path b).declared [] (known_back (none_in e) ((path b).declared ++ []) k)),
-  )
-  parts (Act-F.For None e (Some t) b) m l w k =
-      let k = known_back (none_in e) ((path b).declared ++ (path t).declared) k in (
-        tt,
-        record { mode = m; typed = w.1 },
-        own t m l w.2 (known_back (path b).declared (path t).declared k),
-        own b m true w.3 (known_front (path b).declared (path t).declared k),
-      )
-  parts (Act-F.For (Some u) e None b) m l w k =
-      let rest : List NotedDecl = none_in e ++ ((path b).declared ++ []) in (
-        own u m l w.0 (known_front (path u).declared rest k),
-        record { mode = m; typed = w.1 },
-        tt,
-        own b m true w.3 (known_front (path b).declared [] (known_back (none_in e) ((path b).declared ++ []) (known_back (path u).declared rest k))),
-      )
-  parts (Act-F.For (Some u) e (Some t) b) m l w k =
-      let rest : List NotedDecl = none_in e ++ ((path b).declared ++ (path t).declared) in
-      let k2 = known_back (none_in e) ((path b).declared ++ (path t).declared) (known_back (path u).declared rest k) in (
-        own u m l w.0 (known_front (path u).declared rest k),
-        record { mode = m; typed = w.1 },
-        own t m l w.2 (known_back (path b).declared (path t).declared k2),
-        own b m true w.3 (known_front (path b).declared (path t).declared k2),
-      )
+  parts (Act-F.If e u None) m l w k =
+      let p = tested e u m m l w.0 w.1 (front (path u).declared [] (e ∷ exprs_in u) [] k) in
+      (p.0, p.1, tt)
+  parts (Act-F.If e u (Some t)) m l w k =
+      let p = tested e u m m l w.0 w.1 (front (path u).declared (path t).declared (e ∷ exprs_in u) (exprs_in t) k) in
+      (p.0, p.1, own t m l w.2 (back (path u).declared (path t).declared (e ∷ exprs_in u) (exprs_in t) k))
+  parts (Act-F.While e u) m l w k = tested e u m m true w.0 w.1 k
+  parts (Act-F.For None e None b) m l w k = for_parts None e None b m l w.0 w.1 w.2 w.3 k
+  parts (Act-F.For None e (Some t) b) m l w k = for_parts None e (Some t) b m l w.0 w.1 w.2 w.3 k
+  parts (Act-F.For (Some u) e None b) m l w k = for_parts (Some u) e None b m l w.0 w.1 w.2 w.3 k
+  parts (Act-F.For (Some u) e (Some t) b) m l w k = for_parts (Some u) e (Some t) b m l w.0 w.1 w.2 w.3 k
   parts Act-F.Empty m l w k = tt
   parts (Act-F.Local d) m l w k = tt
   parts (Act-F.Assign e f) m l w k = tt
@@ -119,4 +155,7 @@ module _ (s : Setting) where
       let p : StmtByParts (globals_of_text s.text) s.variables s.result st h.mode h.looped = (stmt_by_parts (globals_of_text s.text) s.variables s.result st h.mode h.looped).0 h.typed in
       parts x h.mode h.looped
       (subst (λ y. act_rows (globals_of_text s.text) s.variables s.result Fits y h.mode h.looped) (act_out x) p.row)
-      (subst Known (declared_is at note x) h.known)
+      (record {
+        known = subst (λ ds. (d : NotedDecl) → Contains ds d → Contains s.variables (variable_declared d)) (declared_is at note x) h.known;
+        words = λ w. subst (λ es. (e : NotedExpr) → Contains es e → HasWords e) (exprs_rolled at note x) (h.words w);
+      })

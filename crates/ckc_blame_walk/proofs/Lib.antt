@@ -1,3 +1,4 @@
+pub mod Named
 pub mod Adds
 pub mod Flow
 pub mod Heads

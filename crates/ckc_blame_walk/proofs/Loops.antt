@@ -25,9 +25,9 @@ use Rattle.ckc_blame_sound.specs.Steps.{IsCondition}
 use Rattle.ckc_blame_sound.specs.Judged.{Exits, ending, Turns, in_body, Judged}
 use Rattle.ckc_blame_sound.proofs.Joined.{less_known}
 use Rattle.ckc_blame_nested.specs.Nested.{Nesting, is_branch, begins, steps}
-use Rattle.ckc_blame_walk.specs.Walks.{AreSmall, IsLeft, IsExit, MayLeave, Stays}
+use Rattle.ckc_blame_walk.specs.Walks.{AreNamed, IsLeft, IsExit, MayLeave, Stays}
 use Rattle.ckc_blame_walk.proofs.Adds.{Adds, adds_none, side_adds}
-use Rattle.ckc_blame_walk.proofs.Flow.{stays_adding, stays_through, stays_back, stays_less}
+use Rattle.ckc_blame_walk.proofs.Flow.{AreTame, tame_there, tame_adding, stays_adding, stays_through, stays_back, stays_less}
 use Rattle.ckc_blame_walk.proofs.Onward.{Onward, IsOn, onward_none, onward_through, on_there}
 use Rattle.ckc_blame_walk.proofs.Pieces.{Gives, through, nested, given, Moved, value_moves, maybe_moves}
 use Rattle.ckc_blame_walk.proofs.Codes.{goes_nowhere, goes_through, IsCode, both_code, closed_code}
@@ -37,16 +37,16 @@ use Rattle.ckc_blame_walk.proofs.Compound.{Extends, extends_none, extends_throug
 -- ---- the sides of a condition that may be left out
 
 module _ (frame : Frame) where
-  pub maybe_adds : (b : Bool) (e : Option NotedExpr) (at : State) → Adds at (maybe_side frame b e at)
+  pub maybe_adds : (b : Bool) (e : Option NotedExpr) (at : State) → Adds frame at (maybe_side frame b e at)
   unfolding side_of
-  maybe_adds b None at = adds_none at
+  maybe_adds b None at = adds_none frame at
   maybe_adds b (Some e) at = side_adds frame e b at
 
   -- the point after a loop, if a `break` leaves it and if none does
-  pub other_adds : (left : Bool) (e : Option NotedExpr) (at : State) → Adds at (maybe_other frame left e at)
+  pub other_adds : (left : Bool) (e : Option NotedExpr) (at : State) → Adds frame at (maybe_other frame left e at)
   unfolding side_of
-  other_adds left None at = adds_none at
-  other_adds true (Some e) at = adds_none at
+  other_adds left None at = adds_none frame at
+  other_adds true (Some e) at = adds_none frame at
   other_adds false (Some e) at = side_adds frame e false at
 
   pub left_other : (left : Bool) (e : Option NotedExpr) (at : State) → left ≡ true → maybe_other frame left e at ≡ at
@@ -61,7 +61,7 @@ module _ (frame : Frame) where
   side_known true (Some e) at reached = known_before frame at (side_of frame false e at) (sym (side_adds frame e false at).reached ∙ reached) (side_adds frame e false at)
   side_known false (Some e) at reached = record { reached = reached; facts = λ locals words h. h; widened = λ k c. c }
 
-  pub stays_more : (ks : List ℕ) (a b c : State) → Stays frame ks a b → Adds b c → Stays frame ks a c
+  pub stays_more : (ks : List ℕ) (a b c : State) → Stays frame ks a b → Adds frame b c → Stays frame ks a c
   stays_more ks a b c h g = subst (λ xs. Stays frame xs a c) (append-nil ks) (stays_through frame ks [] a b c h (stays_adding frame b c g))
 
 module _ (s : Setting) (Claimed : Type 0) where
@@ -84,14 +84,15 @@ module _ (s : Setting) (Claimed : Type 0) where
       abbrev no : Here
       no = record v.1 { at = side_of s.frame false v.0 v.1.at }
 
-      yes_adds : Adds head.at yes.at
-      yes_adds = subst (λ a. Adds a yes.at) moved.at (maybe_adds s.frame true (Some v.0) v.1.at)
+      yes_adds : Adds s.frame head.at yes.at
+      yes_adds = subst (λ a. Adds s.frame a yes.at) moved.at (maybe_adds s.frame true (Some v.0) v.1.at)
 
-      while_condition : (k : ℕ) → IsOn s Claimed here → IsCondition s head (expr_elaborated s.text s.variables k v.0) yes no
-      while_condition k on = record {
+      while_condition : (k : ℕ) → IsOn s Claimed here → AreNamed s.frame head.at.facts → IsCondition s head (expr_elaborated s.text s.variables k v.0) yes no
+      while_condition k on named = record {
         inside = inside on.claimed;
         fresh = on.fresh;
         counting = on.counts;
+        named = named;
         before = Some e;
         after = Some v.0;
         literals = k;
@@ -119,12 +120,15 @@ module _ (s : Setting) (Claimed : Type 0) where
         seen_body : q.1.seen ≡ v.1.seen
         seen_body = body.same (is_false s Claimed nest.declares (and_cases nest.fine (not nest.declares) branch).1)
 
-        module _ (on : IsOn s Claimed here) (small : AreSmall here.at.facts) (k : ℕ) (next : Here) (goes : GoesTo s.frame there next) where
+        module _ (on : IsOn s Claimed here) (tame : AreTame s.frame here.at.facts) (k : ℕ) (next : Here) (goes : GoesTo s.frame there next) where
           abbrev points : Turns
           points = record { head = head; yes = yes; no = no; step = head; behind = next }
 
-          yes_small : AreSmall yes.at.facts
-          yes_small = yes_adds.more.small ((stays_less s.frame ks here.at).small small)
+          head_tame : AreTame s.frame head.at.facts
+          head_tame = tame_there s.frame ks here.at head.at (stays_less s.frame ks here.at) tame
+
+          yes_tame : AreTame s.frame yes.at.facts
+          yes_tame = tame_adding s.frame head.at yes.at yes_adds head_tame
 
           to_head : IsExit s.frame ks yes head
           to_head = head_exit head head refl (same_has yes.seen here.seen (sym moved.seen)) (goes_nowhere head)
@@ -142,11 +146,11 @@ module _ (s : Setting) (Claimed : Type 0) where
             points,
             record { known = λ reached. less_known s.frame ks here.at reached; seen = λ k c. c },
             (
-              while_condition k on,
+              while_condition k on head_tame.1,
               goes_through no there next (record { known = λ reached. side_known s.frame path.breaks (Some v.0) v.1.at reached; seen = λ k c. same_has no.seen q.1.seen seen_body k c }) goes,
               closed_code s (stmt_elaborated s.text s.variables s.result (k + literals_of v.0) q.0) (in_body points) yes q.1
-                  (exit_end s.frame ks yes q.1 head yes_small body.stays (extended_has yes.seen q.1.seen body.extends) to_head)
-                  (body.code (on_there s head yes moved.onward on) yes_small (k + literals_of v.0) (in_body points) body_may),
+                  (exit_end s.frame ks yes q.1 head yes_tame.0 body.stays (extended_has yes.seen q.1.seen body.extends) to_head)
+                  (body.code (on_there s head yes moved.onward on) yes_tame (k + literals_of v.0) (in_body points) body_may),
               λ exits. goes_nowhere head,
             ),
             behind,
@@ -158,9 +162,9 @@ module _ (s : Setting) (Claimed : Type 0) where
           same = λ d. seen_body ∙ moved.seen;
           onward = onward_through here yes there moved.onward body.onward;
           stays = stays_more s.frame ks here.at v.1.at there.at (subst (λ a. Stays s.frame ks here.at a) (sym moved.at) (stays_less s.frame ks here.at)) (other_adds s.frame path.breaks (Some v.0) v.1.at);
-          code = λ on small k exits may. inr (λ next rest goes behind.
+          code = λ on tame k exits may. inr (λ next rest goes behind.
               subst (λ fs. Judged s (chained fs rest) exits here) (sym (code_is s Claimed at note (Act-F.While v.0 q.0) (act.While v.0 q.0) k (act.rolls-While v.0 q.0)))
-              (while_judged_code on small k next goes exits rest behind));
+              (while_judged_code on tame k next goes exits rest behind));
         }
 
     pub while_gives : Gives (Next s Claimed ks mine left turned here) (while_judged s.frame s.head at note e path here)
@@ -218,11 +222,11 @@ module _ (s : Setting) (Claimed : Type 0) where
         abbrev for_no : Here
         for_no = record v.1 { at = maybe_side s.frame false v.0 v.1.at }
 
-        for_adds : Adds for_head.at for_yes.at
-        for_adds = subst (λ a. Adds a for_yes.at) for_moved.at (maybe_adds s.frame true v.0 v.1.at)
+        for_adds : Adds s.frame for_head.at for_yes.at
+        for_adds = subst (λ a. Adds s.frame a for_yes.at) for_moved.at (maybe_adds s.frame true v.0 v.1.at)
 
-        for_condition : (k : ℕ) → IsOn s Claimed for_head → IsCondition s for_head (condition s.text s.variables k v.0) for_yes for_no
-        for_condition k on = record { before = e; after = v.0; literals = k; behind = v.1; inside = inside on.claimed; fresh = on.fresh; counting = on.counts; judged = judged; becomes = refl; true_side = refl; false_side = refl }
+        for_condition : (k : ℕ) → IsOn s Claimed for_head → AreNamed s.frame for_head.at.facts → IsCondition s for_head (condition s.text s.variables k v.0) for_yes for_no
+        for_condition k on named = record { before = e; after = v.0; literals = k; behind = v.1; inside = inside on.claimed; fresh = on.fresh; counting = on.counts; named = named; judged = judged; becomes = refl; true_side = refl; false_side = refl }
 
         for_exit : (x exit : Here) → x.at ≡ for_head.at → ((k : ℕ) → Contains x.seen k → Contains for_yes.seen k) → GoesTo s.frame x exit → IsExit s.frame (us ++ ts) for_yes exit
         for_exit x exit same seen goes = record {
@@ -252,23 +256,23 @@ module _ (s : Setting) (Claimed : Type 0) where
           to_step_onward : (b : Bool) → Onward for_yes (step_at b)
           to_step_onward b = onward_through for_yes q.1 (step_at b) body.onward (step_onward b)
 
-          module _ (small : AreSmall p.1.at.facts) where
-            head_small : AreSmall for_head.at.facts
-            head_small = (stays_less s.frame (us ++ ts) p.1.at).small small
+          module _ (tame : AreTame s.frame p.1.at.facts) where
+            for_head_tame : AreTame s.frame for_head.at.facts
+            for_head_tame = tame_there s.frame (us ++ ts) p.1.at for_head.at (stays_less s.frame (us ++ ts) p.1.at) tame
 
-            for_small : AreSmall for_yes.at.facts
-            for_small = for_adds.more.small head_small
+            for_tame : AreTame s.frame for_yes.at.facts
+            for_tame = tame_adding s.frame for_head.at for_yes.at for_adds for_head_tame
 
-            step_small : (b : Bool) → AreSmall (step_at b).at.facts
-            step_small true = subst (λ (a : State). AreSmall a.facts) (sym for_moved.at) head_small
-            step_small false = body.stays.small for_small
+            step_tame : (b : Bool) → AreTame s.frame (step_at b).at.facts
+            step_tame true = subst (λ (a : State). AreTame s.frame a.facts) (sym for_moved.at) for_head_tame
+            step_tame false = tame_there s.frame us for_yes.at q.1.at body.stays for_tame
 
             step_exit : IsExit s.frame us for_yes (step_at true)
             step_exit = exit_front s.frame us ts for_yes (step_at true) (for_exit (step_at true) (step_at true) for_moved.at (same_has for_yes.seen q.1.seen for_seen) (goes_nowhere (step_at true)))
 
             -- the end of the body goes to the step
             to_the_step : (b : Bool) → GoesTo s.frame q.1 (step_at b)
-            to_the_step true = exit_end s.frame us for_yes q.1 (step_at true) for_small body.stays (extended_has for_yes.seen q.1.seen body.extends) step_exit
+            to_the_step true = exit_end s.frame us for_yes q.1 (step_at true) for_tame.0 body.stays (extended_has for_yes.seen q.1.seen body.extends) step_exit
             to_the_step false = goes_nowhere q.1
 
             -- and the step to the head
@@ -281,10 +285,10 @@ module _ (s : Setting) (Claimed : Type 0) where
               goes = goes_nowhere for_head;
               reached = λ r. ap (λ (a : State). a.reached) (sym for_moved.at) ∙ r;
               left = λ r. subst (λ a. IsLeft s.frame ts for_head.at a) (sym for_moved.at)
-                  (left_back s.frame us ts for_head.at for_head.at (loop_left s.frame (us ++ ts) p.1.at for_head.at (adds_none for_head.at) (ap (λ (a : State). a.reached) (sym for_moved.at) ∙ r)));
+                  (left_back s.frame us ts for_head.at for_head.at (loop_left s.frame (us ++ ts) p.1.at for_head.at (adds_none s.frame for_head.at) (ap (λ (a : State). a.reached) (sym for_moved.at) ∙ r)));
               seen = same_has q.1.seen for_head.seen (sym (for_seen ∙ for_moved.seen));
             }
-            head_after false = exit_after s.frame us ts for_yes q.1 for_head for_small body.stays (extended_has for_yes.seen q.1.seen body.extends) head_left
+            head_after false = exit_after s.frame us ts for_yes q.1 for_head for_tame.0 body.stays (extended_has for_yes.seen q.1.seen body.extends) head_left
 
           module _ (x : Option NotedStmt × Here) (last : NextIf s Claimed ts step_nest (breaks_if step) (continues_if step) (step_at path.continues) x) where
             abbrev ended : Here
@@ -302,12 +306,12 @@ module _ (s : Setting) (Claimed : Type 0) where
             seen_closed : for_there.seen ≡ here.seen
             seen_closed = extended_front here.seen x.1.seen seen_last
 
-            module _ (on : IsOn s Claimed here) (small : AreSmall here.at.facts) (k : ℕ) (next : Here) (goes : GoesTo s.frame for_there next) where
+            module _ (on : IsOn s Claimed here) (tame : AreTame s.frame here.at.facts) (k : ℕ) (next : Here) (goes : GoesTo s.frame for_there next) where
               abbrev for_points : Turns
               for_points = record { head = for_head; yes = for_yes; no = for_no; step = step_at path.continues; behind = next }
 
-              begun_small : AreSmall p.1.at.facts
-              begun_small = first.stays.small small
+              begun_tame : AreTame s.frame p.1.at.facts
+              begun_tame = tame_there s.frame is here.at p.1.at first.stays tame
 
               head_on : IsOn s Claimed for_head
               head_on = on_there s here for_head first.onward on
@@ -321,7 +325,7 @@ module _ (s : Setting) (Claimed : Type 0) where
               for_may : MayLeave s.frame us path.breaks path.continues for_yes (in_body for_points)
               for_may = record {
                 breaks = λ b. exit_front s.frame us ts for_yes next (for_exit for_there next (left_other s.frame path.breaks v.0 v.1.at b ∙ for_moved.at) has_closed goes);
-                continues = λ c. subst (λ b. IsExit s.frame us for_yes (step_at b)) (sym c) (step_exit begun_small);
+                continues = λ c. subst (λ b. IsExit s.frame us for_yes (step_at b)) (sym c) (step_exit begun_tame);
               }
 
               step_may : (exits : Exits) → MayLeave s.frame ts (breaks_if step) (continues_if step) (step_at path.continues) (ending exits for_head)
@@ -336,16 +340,16 @@ module _ (s : Setting) (Claimed : Type 0) where
                 for_points,
                 record { known = λ reached. less_known s.frame (us ++ ts) p.1.at reached; seen = λ k c. c },
                 (
-                  for_condition k head_on,
+                  for_condition k head_on (for_head_tame begun_tame).1,
                   goes_through for_no for_there next (record { known = λ reached. side_known s.frame path.breaks v.0 v.1.at reached; seen = has_closed }) goes,
                   closed_code s (stmt_elaborated s.text s.variables s.result (k + literals_of_value v.0 + literals_if (part_if x.0)) q.0) (in_body for_points) for_yes q.1
-                      (to_the_step begun_small path.continues)
-                      (body.code yes_on (for_small begun_small) (k + literals_of_value v.0 + literals_if (part_if x.0)) (in_body for_points) for_may),
+                      (to_the_step begun_tame path.continues)
+                      (body.code yes_on (for_tame begun_tame) (k + literals_of_value v.0 + literals_if (part_if x.0)) (in_body for_points) for_may),
                   λ exits.
                       closed_code s (code_if (part_if x.0) s.text s.variables s.result (k + literals_of_value v.0)) (ending exits for_head) (step_at path.continues) x.1
-                      (exit_end s.frame ts (step_at path.continues) x.1 for_head (step_small begun_small path.continues) last.stays (extended_has (step_at path.continues).seen x.1.seen last.extends)
-                      (head_after begun_small path.continues))
-                      (last.code (on_there s for_yes (step_at path.continues) (to_step_onward path.continues) yes_on) (step_small begun_small path.continues) (k + literals_of_value v.0) (ending exits for_head) (step_may exits)),
+                      (exit_end s.frame ts (step_at path.continues) x.1 for_head (step_tame begun_tame path.continues).0 last.stays (extended_has (step_at path.continues).seen x.1.seen last.extends)
+                      (head_after begun_tame path.continues))
+                      (last.code (on_there s for_yes (step_at path.continues) (to_step_onward path.continues) yes_on) (step_tame begun_tame path.continues) (k + literals_of_value v.0) (ending exits for_head) (step_may exits)),
                 ),
                 behind,
               )
@@ -364,14 +368,14 @@ module _ (s : Setting) (Claimed : Type 0) where
               onward = onward_through here for_yes for_there (onward_through here for_head for_yes first.onward for_moved.onward)
                   (onward_through for_yes (step_at path.continues) for_there (to_step_onward path.continues) last.onward);
               stays = for_stays;
-              code = λ on small k exits may.
+              code = λ on tame k exits may.
                   let n = k + literals_if (part_if p.0) in
                   let plain = wi.plain (begins_plain init_nest begin).1 in
                   subst (λ fs. IsCode s fs exits here for_there)
                   (sym (code_is s Claimed at note (Act-F.For p.0 v.0 x.0 q.0) (act.For p.0 v.0 x.0 q.0) k (act.rolls-For p.0 v.0 x.0 q.0) ∙ for_code at note.mode p.0 v.0 x.0 q.0 k))
                   (both_code s (code_if (part_if p.0) s.text s.variables s.result k) (one (turns s.text s.variables s.result (spot at note.mode) n v.0 (part_if x.0) (part_of q.0))) exits here p.1 for_there
-                  (first.code on small k exits (may_not s.frame is (breaks_if init) (continues_if init) here exits plain.0 plain.1))
-                  (inr (λ next rest goes behind. for_judged_code on small n next goes exits rest behind)));
+                  (first.code on tame k exits (may_not s.frame is (breaks_if init) (continues_if init) here exits plain.0 plain.1))
+                  (inr (λ next rest goes behind. for_judged_code on tame n next goes exits rest behind)));
             }
 
     abbrev ForNext : NotedStmt × Here → Type 0

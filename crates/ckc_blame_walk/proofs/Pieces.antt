@@ -29,8 +29,9 @@ use Rattle.ckc_bounds_views.specs.Views.{limits_view, node_view, expr_view, view
 use Rattle.ckc_bounds_stores.specs.Stores.{Store, stores_of, Placed, numbered, received, assigned_local, after, unless_refused, stored, stored_placed, first_fault, passed}
 use Rattle.ckc_bounds_stores.specs.Targets.{local_named, local_in, local_of}
 use Rattle.ckc_bounds_statements.specs.Paths as paths
-use Rattle.ckc_bounds_statements.specs.Paths.{Here, expr_judged, value_judged, values_judged, maybe_judged, init_judged, target_in, local_in_node, starts_within, start_form, started, declared_here, bounds_judged, decl_judged, stated, sides_judged, stores_judged, behind_stores}
+use Rattle.ckc_bounds_statements.specs.Paths.{Here, expr_judged, value_judged, values_judged, maybe_judged, init_judged, target_in, local_in_node, stores_judged, behind_stores}
 use Rattle.ckc_blame_walk.specs.Walks.{Stays}
+use Rattle.ckc_blame_walk.proofs.Named.{NamesInteger, in_type_named, form_named}
 use Rattle.ckc_blame_walk.proofs.Flow.{stays_none, stays_through, stays_assigned}
 use Rattle.ckc_blame_walk.proofs.Onward.{Onward, onward_none, onward_through, onward_capped}
 
@@ -210,16 +211,16 @@ module _ (frame : Frame) where
       by (Node-F.Name n) = by_name n
       by x = refl
 
-  stays_local : (form : Option Form) (at : State) (o : Option ℕ) → Stays frame (as_list o) at (assigned_local frame form at o)
-  stays_local form at None = stays_none frame [] at
-  stays_local form at (Some k) = stays_assigned frame k form at
+  stays_local : (form : Option Form) (at : State) (o : Option ℕ) → NamesInteger frame form → Stays frame (as_list o) at (assigned_local frame form at o)
+  stays_local form at None i = stays_none frame [] at
+  stays_local form at (Some k) i = stays_assigned frame k form at i
 
   stays_after : (facts : Known) (start : State) (value fresh : ℕ) (ss : List Store) (at : State) → Stays frame (locals_of ss) at (after frame facts (numbered frame start value fresh ss) at)
   stays_after facts start value fresh [] at = stays_none frame [] at
   stays_after facts start value fresh (s ∷ ss) at =
       let first : Placed = record { target = s.target; right = s.right; pos = s.pos; from = record { value = value; fresh = fresh_behind (view frame s.target) fresh start } } in
       let next : State = assigned_local frame (received frame facts first) at (local_of s.target) in
-      stays_through frame (as_list (local_of s.target)) (locals_of ss) at next _ (stays_local (received frame facts first) at (local_of s.target))
+      stays_through frame (as_list (local_of s.target)) (locals_of ss) at next _ (stays_local (received frame facts first) at (local_of s.target) (in_type_named frame facts s.target.note.ctype ((view frame s.right).form facts) (form_named frame s.right facts)))
       (stays_after facts start (capped value (view frame s.right).values) (fresh_behind (view frame s.right) (fresh_behind (view frame s.target) fresh start) start) ss next)
 
   not_refused : (r : Option Refusal) (at b : State) → unless_refused r at ≡ Ok b → at ≡ b

@@ -1,11 +1,12 @@
 -- The code of each statement is judged, by induction.
 use Rattle.std.proofs.Common.{◌≡◌, inl, inr, refl, sym, ap, subst, ◌∙◌, ℕ, Bool, true, false, List, [], ◌∷◌, ◌++◌, length, take, map, append-nil, rules}
-use Rattle.std.specs.Prelude.{◌&&◌, ◌||◌, ◌+◌, ◌^◌, not, Option, None, Some, Ok}
+use Rattle.std.specs.Prelude.{◌&&◌, ◌||◌, ◌+◌, not, Option, None, Some, Ok}
 use Rattle.std.specs.List.{AllByRecursion}
-use Rattle.std.proofs.lemmas.List.Elements.{All-nil}
 use Rattle.ckc_base.specs.declared.places.Pos.{Pos}
 use Rattle.ckc_base.specs.Outcomes.{Outcome, bind, unless, refused}
 use Rattle.ckc_syntax.specs.Inside.{listed, one_has, all_have, inside_each, inside_if}
+use Rattle.ckc_types.specs.declared.types.CType.{CType}
+use Rattle.ckc_syntax.specs.declared.tree.Init.TheVariants as init
 use Rattle.ckc_syntax.specs.declared.tree.Name.{Name}
 use Rattle.ckc_syntax.specs.declared.tree.Name.TheVariants as name
 use Rattle.ckc_syntax.specs.declared.tree.Act.{Act-F, map-Act, out-Act, roll-Act, fold-roll-Act, the_lemmas}
@@ -14,17 +15,15 @@ use Rattle.ckc_syntax.specs.declared.tree.Stmt.{Stmt-F, map-Stmt, ind-Stmt, roll
 use Rattle.ckc_typed.specs.declared.typed.Note.{Note}
 use Rattle.ckc_typed.specs.Trees.{NotedAct, NotedStmt, NotedExpr, NotedDecl, NotedInit}
 use Rattle.ckc_typed.specs.Types.{type_written}
-use Rattle.ckc_linear.specs.declared.facts.Fact.{Fact}
-use Rattle.ckc_bounds_known.specs.Shown.{Known, is_within}
-use Rattle.ckc_bounds_known.specs.Ranges.{range_of, with_range}
+use Rattle.ckc_bounds_known.specs.Shown.{Known}
 use Rattle.ckc_bounds_known.proofs.Reaching.{and_cases}
-use Rattle.ckc_bounds_points.specs.declared.frame.Local.{Local}
 use Rattle.ckc_bounds_points.specs.declared.frame.Frame.{Frame}
-use Rattle.ckc_bounds_points.specs.Flow.{State, ranges_from, unreached}
+use Rattle.ckc_bounds_points.specs.Flow.{State, unreached}
 use Rattle.ckc_bounds_points.specs.Codes.{not_contained, bad_bundle}
+use Rattle.ckc_bounds_views.specs.Views.{view}
 use Rattle.ckc_bounds_stores.specs.Stores.{with_store, stores_of}
 use Rattle.ckc_bounds_stores.specs.Targets.{local_of}
-use Rattle.ckc_bounds_statements.specs.Paths.{Here, value_judged, maybe_judged, init_judged, side_of, target_in, local_in, start_form, started, starts_within, declared_here, bounds_judged, stated, sides_judged, behind_stores, is_returned, gone, is_good, Path, ActPath, all_judged, parts_judged, bundle_judged, closed, local_judged, assign_judged, call_judged, return_judged, check_judged, block_judged, act_path, stmt_path, path_of_act, path}
+use Rattle.ckc_bounds_statements.specs.Paths.{Here, value_judged, maybe_judged, init_judged, side_of, target_in, local_in, value_form, start_form, started, starts_within, declared_here, bounds_judged, stated, sides_judged, behind_stores, is_returned, gone, is_good, Path, ActPath, all_judged, parts_judged, bundle_judged, closed, local_judged, assign_judged, call_judged, return_judged, check_judged, block_judged, act_path, stmt_path, path_of_act, path}
 use Rattle.ckc_source.specs.Code.{Code, Return, Check, Bundle, chained}
 use Rattle.ckc_build_elaborate.specs.Literals.{literals_of_bounds}
 use Rattle.ckc_build_values.specs.Expressions.{expr_elaborated, literals_of}
@@ -35,9 +34,10 @@ use Rattle.ckc_blame_sound.specs.Bodies.{IsInBody}
 use Rattle.ckc_blame_sound.specs.Steps.{is_simple}
 use Rattle.ckc_blame_sound.specs.Judged.{Exits, Judged}
 use Rattle.ckc_blame_nested.specs.Nested.{Nesting, is_branch, begins, steps, nesting_by, nesting_in, nesting_of_act, nesting_of}
-use Rattle.ckc_blame_walk.specs.Walks.{AreSmall, MayLeave, Stays}
-use Rattle.ckc_blame_walk.proofs.Adds.{Adds, range_more, side_adds}
-use Rattle.ckc_blame_walk.proofs.Flow.{stays_none, stays_adding, stays_through, stays_assigned}
+use Rattle.ckc_blame_walk.specs.Walks.{MayLeave, Stays}
+use Rattle.ckc_blame_walk.proofs.Named.{NamesInteger, in_type_named, form_named}
+use Rattle.ckc_blame_walk.proofs.Adds.{Adds, entry_small, entry_named, side_adds}
+use Rattle.ckc_blame_walk.proofs.Flow.{AreTame, tame_there, stays_none, stays_adding, stays_through, stays_assigned}
 use Rattle.ckc_blame_walk.proofs.Onward.{Onward, IsOn, onward_none, onward_through, on_there}
 use Rattle.ckc_blame_walk.proofs.Inside.{PartsInBody, parts_inside}
 use Rattle.ckc_blame_walk.proofs.Pieces.{Gives, through, nested, given, unless_gives, Moved, moved_not, moved_through, value_moves, maybe_moves, init_moves, value_named, locals_of, as_list, named_list, Stored, stores_stay}
@@ -55,17 +55,21 @@ unless_nested P false code at o g h = h
 
 -- ---- a point that cannot be reached
 
-pub ranges_small : (x : ℕ) (ls : List Local) (facts : Known) → AreSmall facts → AreSmall (ranges_from x ls facts)
-ranges_small x [] facts h = h
-ranges_small x (l ∷ ls) facts h = ranges_small (x + 1) ls (with_range x (range_of l.ctype) facts) ((range_more x (range_of l.ctype) facts).small h)
-
 stays_gone : (frame : Frame) (ks : List ℕ) (at : State) → Stays frame ks at (unreached frame)
 stays_gone frame ks at = record {
   reached = λ r. absurd (cc);
   facts = λ r f w s c. absurd (cc);
   widened = λ r p s c. absurd (cc);
-  small = λ s. ranges_small 1 frame.locals (record { vars = length frame.locals + 1; list = [] }) (All-nil (λ (f : Fact). is_within (2 ^ 50) f.c ≡ true));
+  small = λ s. entry_small frame;
+  named = λ n. entry_named frame;
 }
+
+-- what an integer begins with
+start_named : (frame : Frame) (t : CType) (i : NotedInit) (facts : Known) → NamesInteger frame (start_form frame t i facts)
+unfolding value_form
+start_named frame t init.Nothing facts = tt
+start_named frame t (init.One e) facts = in_type_named frame facts t ((view frame e).form facts) (form_named frame e facts)
+start_named frame t (init.Many es) facts = tt
 
 module _ (s : Setting) (Claimed : Type 0) where
   pub record PartNext (ks : List ℕ) (here : Here) (p : NotedStmt × Here) : Type 0 where
@@ -80,7 +84,7 @@ module _ (s : Setting) (Claimed : Type 0) where
     pub extends : Extends here.seen p.1.seen
     pub onward : Onward here p.1
     pub stays : Stays s.frame ks here.at p.1.at
-    pub code : IsOn s Claimed here → AreSmall here.at.facts → (k : ℕ) (exits : Exits) → MayLeave s.frame ks left turned here exits
+    pub code : IsOn s Claimed here → AreTame s.frame here.at.facts → (k : ℕ) (exits : Exits) → MayLeave s.frame ks left turned here exits
         → IsCode s (all_code (map part_of p.0) s.text s.variables s.result k) exits here p.1
 
   record ActHolds (path : ActPath) (nest : Nesting) (a : NotedAct) : Type 0 where
@@ -146,7 +150,7 @@ module _ (s : Setting) (Claimed : Type 0) where
     extends = extends_none here.seen here.seen refl;
     onward = onward_none here;
     stays = stays_none s.frame [] here.at;
-    code = λ on small k exits may. inl (refl, refl);
+    code = λ on tame k exits may. inl (refl, refl);
   })
   all_gives (k ∷ ks) fine inside here =
       let fines = and_cases (nesting_of k.0).fine (fine_in ks) fine in
@@ -158,11 +162,11 @@ module _ (s : Setting) (Claimed : Type 0) where
         extends = extends_through here.seen p.1.seen q.1.seen one.extends rest.extends;
         onward = onward_through here p.1 q.1 one.onward rest.onward;
         stays = stays_through s.frame (path k.0).assigned (assigned_in ks) here.at p.1.at q.1.at one.stays rest.stays;
-        code = λ on small n exits may.
+        code = λ on tame n exits may.
             both_code s (stmt_elaborated s.text s.variables s.result n p.0) (all_code (map part_of q.0) s.text s.variables s.result (n + (part_of p.0).literals)) exits here p.1 q.1
-            (one.code on small n exits (may_first s.frame (path k.0).assigned (assigned_in ks) (path k.0).breaks (breaks_in ks) (path k.0).continues (continues_in ks) here exits may))
-            (rest.code (on_there s here p.1 one.onward on) (one.stays.small small) (n + (part_of p.0).literals) exits
-            (may_after s.frame (path k.0).assigned (assigned_in ks) (path k.0).breaks (breaks_in ks) (path k.0).continues (continues_in ks) here p.1 exits small one.stays
+            (one.code on tame n exits (may_first s.frame (path k.0).assigned (assigned_in ks) (path k.0).breaks (breaks_in ks) (path k.0).continues (continues_in ks) here exits may))
+            (rest.code (on_there s here p.1 one.onward on) (tame_there s.frame (path k.0).assigned here.at p.1.at one.stays tame) (n + (part_of p.0).literals) exits
+            (may_after s.frame (path k.0).assigned (assigned_in ks) (path k.0).breaks (breaks_in ks) (path k.0).continues (continues_in ks) here p.1 exits tame.0 one.stays
             (extended_has here.seen p.1.seen one.extends) may));
       })))
 
@@ -193,12 +197,12 @@ module _ (s : Setting) (Claimed : Type 0) where
         same = λ d. front;
         onward = all.onward;
         stays = all.stays;
-        code = λ on small k exits may.
+        code = λ on tame k exits may.
             subst (λ fs. IsCode s fs exits here there) (sym (code_is s Claimed at note (Act-F.Block m p.0) (act.Block m p.0) k (act.rolls-Block m p.0)))
             (further_code s (all_code (map part_of p.0) s.text s.variables s.result k) exits here p.1 there
             (record { known = (goes_nowhere p.1).known; seen = λ n c. extended_has here.seen p.1.seen all.extends n (same_has here.seen there.seen front n c) })
             (λ e. ap (λ (h : Here). record h { seen = take (length here.seen) h.seen }) e ∙ ap (λ x. record here { seen = x }) (extended_front here.seen here.seen (extends_none here.seen here.seen refl)))
-            (all.code on small k exits may));
+            (all.code on tame k exits may));
       }))
 
   -- ---- statements that are a step
@@ -218,9 +222,9 @@ module _ (s : Setting) (Claimed : Type 0) where
       same = plain;
       onward = onward;
       stays = stays;
-      code = λ on small k exits may.
+      code = λ on tame k exits may.
           let f = becomes k in
-          step_code s before (stated at note b) here there k exits f.0 (ap is_simple same ∙ simple) inside on walk f.1 f.2;
+          step_code s before (stated at note b) here there k exits f.0 (ap is_simple same ∙ simple) inside on tame.1 walk f.1 f.2;
     }
 
     -- a step in the same scope
@@ -278,7 +282,7 @@ module _ (s : Setting) (Claimed : Type 0) where
   stays_declared d i at = by d.name
     where
       by : (n : Name) → Stays s.frame (local_in n) at (started s.frame n (type_written d.ctype) i at)
-      by (name.Local k) = stays_assigned s.frame k (start_form s.frame (type_written d.ctype) i at.facts) at
+      by (name.Local k) = stays_assigned s.frame k (start_form s.frame (type_written d.ctype) i at.facts) at (start_named s.frame (type_written d.ctype) i at.facts)
       by n = stays_none s.frame [] at
 
   module _ (a : NotedAct) (at : Pos) (note : Note) (inside : Claimed → IsInBody s (stated at note a)) (here : Here) where
@@ -339,7 +343,7 @@ module _ (s : Setting) (Claimed : Type 0) where
         let there : Here = record p.1 { at = side_of s.frame true p.0 p.1.at } in
         given (Walked [] mine left turned) (stated at note (act.Check p.0), there)
         (in_scope a (Act-F.Check e) same refl at note inside [] mine left turned here (act.Check p.0) there moved.seen moved.onward
-        (stays_adding s.frame here.at there.at (subst (λ x. Adds x there.at) moved.at (side_adds s.frame p.0 true p.1.at)))
+        (stays_adding s.frame here.at there.at (subst (λ x. Adds s.frame x there.at) moved.at (side_adds s.frame p.0 true p.1.at)))
         (λ k. (
           Check (spot at note.mode) (expr_elaborated s.text s.variables k p.0),
           code_is s Claimed at note (Act-F.Check p.0) (act.Check p.0) k (act.rolls-Check p.0),
@@ -389,7 +393,7 @@ module _ (s : Setting) (Claimed : Type 0) where
       same = λ d. refl;
       onward = onward_none here;
       stays = stays_none s.frame [] here.at;
-      code = λ on small k exits may. inl (code_is s Claimed at note Act-F.Empty act.Empty k act.rolls-Empty, refl);
+      code = λ on tame k exits may. inl (code_is s Claimed at note Act-F.Empty act.Empty k act.rolls-Empty, refl);
     });
     part = λ bundle at note here. no_part _ here bundle;
     plain = λ e. absurd (cc);
@@ -455,7 +459,7 @@ module _ (s : Setting) (Claimed : Type 0) where
       same = λ d. refl;
       onward = onward_none here;
       stays = stays_gone s.frame [] here.at;
-      code = λ on small k exits may. inr (λ next rest goes j.
+      code = λ on tame k exits may. inr (λ next rest goes j.
           subst (λ fs. Judged s (chained fs rest) exits here) (sym (code_is s Claimed at note Act-F.Break act.Break k act.rolls-Break)) (exit_goes s.frame [] here exits.breaks (may.breaks refl)));
     });
     part = λ bundle at note here. no_part _ here bundle;
@@ -467,7 +471,7 @@ module _ (s : Setting) (Claimed : Type 0) where
       same = λ d. refl;
       onward = onward_none here;
       stays = stays_gone s.frame [] here.at;
-      code = λ on small k exits may. inr (λ next rest goes j.
+      code = λ on tame k exits may. inr (λ next rest goes j.
           subst (λ fs. Judged s (chained fs rest) exits here) (sym (code_is s Claimed at note Act-F.Continue act.Continue k act.rolls-Continue)) (exit_goes s.frame [] here exits.continues (may.continues refl)));
     });
     part = λ bundle at note here. no_part _ here bundle;

@@ -9,7 +9,7 @@ use Rattle.ckc_blame_sound.specs.Settings.{Setting}
 use Rattle.ckc_blame_sound.specs.Bodies.{IsInBody, IsNextFresh}
 use Rattle.ckc_blame_sound.specs.Judged.{Exits, Judged}
 use Rattle.ckc_blame_nested.specs.Nested.{nesting_of}
-use Rattle.ckc_blame_walk.specs.Walks.{AreSmall, Stays, MayLeave}
+use Rattle.ckc_blame_walk.specs.Walks.{AreSmall, AreNamed, Stays, MayLeave}
 use Rattle.ckc_blame_walk.proofs.Codes.{goes_nowhere, IsCode}
 use Rattle.ckc_blame_walk.proofs.Compound.{Next}
 use Rattle.ckc_blame_walk.proofs.Walk.{all_hold}
@@ -23,10 +23,10 @@ pub statement_stays : (s : Setting) (st after : NotedStmt) (here there : Here) �
 statement_stays s st after here there fine walk = (statement_next s st after here there ⊥ (λ none. absurd none) fine walk).stays
 
 pub statement_judged : (s : Setting) (st after : NotedStmt) (here there : Here) (literals : ℕ) (exits : Exits) (rest : Code) → (nesting_of st).fine ≡ true → IsInBody s st → IsNextFresh s here.next
-    → here.counting ≡ false → AreSmall here.at.facts → (path st).judged s.frame s.head here ≡ Ok (after, there) → MayLeave s.frame (path st).assigned (path st).breaks (path st).continues here exits
+    → here.counting ≡ false → AreSmall here.at.facts → AreNamed s.frame here.at.facts → (path st).judged s.frame s.head here ≡ Ok (after, there) → MayLeave s.frame (path st).assigned (path st).breaks (path st).continues here exits
     → Judged s rest exits there → Judged s (chained (stmt_elaborated s.text s.variables s.result literals after) rest) exits here
-statement_judged s st after here there literals exits rest fine inside fresh count small walk may behind =
-    by ((statement_next s st after here there (Unit {0}) (λ u. inside) fine walk).code (record { claimed = tt; counts = count; fresh = fresh }) small literals exits may)
+statement_judged s st after here there literals exits rest fine inside fresh count small named walk may behind =
+    by ((statement_next s st after here there (Unit {0}) (λ u. inside) fine walk).code (record { claimed = tt; counts = count; fresh = fresh }) (small, named) literals exits may)
   where
     by : IsCode s (stmt_elaborated s.text s.variables s.result literals after) exits here there
         → Judged s (chained (stmt_elaborated s.text s.variables s.result literals after) rest) exits here

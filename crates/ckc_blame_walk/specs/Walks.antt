@@ -9,13 +9,17 @@ use Rattle.ckc_bounds_points.specs.Frames.{local_at}
 use Rattle.ckc_bounds_points.specs.Shown.{Known, is_within}
 use Rattle.ckc_bounds_points.specs.Flow.{State, widening_names}
 use Rattle.ckc_bounds_statements.specs.Paths.{Here}
-use Rattle.ckc_blame_sound.specs.Values.{value, HoldWords}
+use Rattle.ckc_blame_sound.specs.Values.{value, HoldWords, NamesIntegers}
 use Rattle.ckc_blame_sound.specs.Points.{GoesTo}
 use Rattle.ckc_blame_sound.specs.Judged.{Exits}
 
 -- The number of each fact is within 2^50.
 abbrev pub AreSmall : Known → Type 0
 AreSmall facts = All (λ f. is_within (2 ^ 50) f.c ≡ true) facts.list
+
+-- Each fact names the number zero and integer locals alone.
+abbrev pub AreNamed : Frame → Known → Type 0
+AreNamed frame facts = All (NamesIntegers frame) facts.list
 
 -- A fact names no integer that is assigned if the local k is.
 abbrev pub IsSpared : Frame → Fact → ℕ → Type 0
@@ -30,7 +34,7 @@ abbrev pub IsAlways : Frame → Fact → Type 0
 IsAlways frame f = (locals : List ℕ) → HoldWords frame locals → Satisfies (value frame locals) f
 
 -- What is known at a point and is named by no assignment to these locals is known at a later one, if control comes to
--- it; and facts stay small.
+-- it; and facts stay small, and name integer locals alone.
 pub record Stays (frame : Frame) (ks : List ℕ) (at after : State) : Type 0 where
   pub reached : after.reached ≡ true → at.reached ≡ true
   pub facts : after.reached ≡ true → (f : Fact) → is_within (2 ^ 50) f.c ≡ true → All (IsSpared frame f) ks
@@ -38,6 +42,7 @@ pub record Stays (frame : Frame) (ks : List ℕ) (at after : State) : Type 0 whe
   pub widened : after.reached ≡ true → (p : ℕ) → All (StaysWide frame p) ks → Contains at.widened p
       → Contains after.widened p
   pub small : AreSmall at.facts → AreSmall after.facts
+  pub named : AreNamed frame at.facts → AreNamed frame after.facts
 
 -- What is known at one point is still known at another one, and is named by no assignment to these locals: each fact is
 -- one of those there or true of all words.

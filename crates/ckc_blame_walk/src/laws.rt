@@ -18,7 +18,7 @@ ghost use Rattle.ckc_blame_sound.specs.Bodies.{IsInBody, IsNextFresh};
 ghost use Rattle.ckc_blame_sound.specs.Judged.{Exits, Judged};
 ghost use Rattle.ckc_blame_texts.specs.Judged.{IsJudged};
 ghost use Rattle.ckc_blame_nested.specs.Nested.{nesting_of, AreNested};
-ghost use Rattle.ckc_blame_walk.specs.Walks.{AreSmall, IsLeft, Stays, MayLeave, leaving};
+ghost use Rattle.ckc_blame_walk.specs.Walks.{AreSmall, AreNamed, IsLeft, Stays, MayLeave, leaving};
 
 /// A fact or a widening at the head of a loop names nothing that the loop assigns, and what names nothing that a statement
 /// assigns is still known after it. A fact on the range of a type names its variable, and is true of all words.
@@ -36,6 +36,7 @@ pub fn walks_are_judged()
     ensures { (s : Setting) (st after : NotedStmt) (here there : Here) (literals : ℕ)
         (exits : Exits) (rest : Code) → (nesting_of st).fine ≡ true → IsInBody s st
         → IsNextFresh s here.next → here.counting ≡ false → AreSmall here.at.facts
+        → AreNamed s.frame here.at.facts
         → (path st).judged s.frame s.head here ≡ Ok (after, there)
         → MayLeave s.frame (path st).assigned (path st).breaks (path st).continues here exits
         → Judged s rest exits there

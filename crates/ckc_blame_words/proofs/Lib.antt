@@ -1,0 +1,7 @@
+mod Tokens
+mod Grammar
+mod Named
+mod Noteless
+mod Chain
+mod Words
+mod Whole

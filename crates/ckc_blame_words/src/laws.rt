@@ -1,0 +1,61 @@
+//! What follows from the definitions alone, each the contract of a function that does nothing.
+
+ghost use Rattle.std.specs.Prelude.{◌≡◌, ℕ, List, [], ◌∷◌, true};
+ghost use Rattle.ckc_base.specs.Phases.{◌>=>◌};
+ghost use Rattle.ckc_syntax.specs.Spelled.{Tokens};
+ghost use Rattle.ckc_syntax.specs.declared.tree.NamedText.{NamedText};
+ghost use Rattle.ckc_lexer.specs.Phase.{lexing};
+ghost use Rattle.ckc_parser_grammar.specs.declared.kind.Kind.{Kind};
+ghost use Rattle.ckc_parser_grammar.specs.Grammar as g;
+ghost use Rattle.ckc_parser_grammar.specs.Grammar.{n};
+ghost use Rattle.ckc_parser_grammar.specs.Trees.{Tree};
+ghost use Rattle.ckc_parser_grammar.specs.Values.{tree};
+ghost use Rattle.ckc_parser_grammar.specs.Derives.{Sign, Derives};
+ghost use Rattle.ckc_parser.specs.Phase.{parsing};
+ghost use Rattle.ckc_resolve.specs.Phase.{naming};
+ghost use Rattle.ckc_scopes.specs.Phase.{scoping};
+ghost use Rattle.ckc_bounds.specs.Phase.{bounding};
+ghost use Rattle.ckc_typed.specs.declared.typed.Typed.{Typed};
+ghost use Rattle.ckc_typed_welltyped.specs.Texts.{TypedAs};
+ghost use Rattle.ckc_blame_sound.specs.Words.{HaveWords};
+ghost use Rattle.ckc_blame_words.specs.Literals.{HoldWords, SignsHoldWords, tree_has_words};
+
+/// The tokens of a text hold words: the lexer refuses a larger number, and a character is a byte.
+pub fn tokens_hold_words()
+    ensures { (text : List ℕ) (tokens : Tokens) → lexing.Makes text tokens → HoldWords tokens.list }
+{}
+
+/// In the tree that such tokens derive each literal number is a word.
+pub fn trees_have_words()
+    ensures derived { (xs : List Sign) (next : Kind) (whole : Tree) → SignsHoldWords xs
+        → Derives (n g.text ∷ []) xs next (tree whole ∷ []) → tree_has_words whole ≡ true }
+    ensures parsed { (tokens : Tokens) (whole : Tree) → HoldWords tokens.list
+        → parsing.Makes tokens whole → tree_has_words whole ≡ true }
+{}
+
+/// The literals of a tree stay if its names are resolved.
+pub fn names_keep_words()
+    ensures { (whole : Tree) (named : NamedText) → naming.Makes whole named
+        → tree_has_words named.tree ≡ tree_has_words whole }
+{}
+
+/// They stay if it gets its types.
+pub fn types_keep_words()
+    ensures { (named : NamedText) (typed : Typed) → TypedAs named typed
+        → tree_has_words typed.tree ≡ tree_has_words named.tree }
+{}
+
+/// They stay if its bounds are judged.
+pub fn judging_keeps_words()
+    ensures { (typed p : Typed) → bounding.Makes typed p
+        → tree_has_words p.tree ≡ tree_has_words typed.tree }
+{}
+
+/// The literals of every text that the phases accept are words.
+pub fn literals_are_words()
+    ensures tree { (p : Typed) → tree_has_words p.tree ≡ true → HaveWords p }
+    ensures text { (text : List ℕ) (tokens : Tokens) (whole : Tree) (named : NamedText)
+        (typed p : Typed) → lexing.Makes text tokens → parsing.Makes tokens whole
+        → naming.Makes whole named → TypedAs named typed → (scoping >=> bounding).Makes typed p
+        → HaveWords p }
+{}
