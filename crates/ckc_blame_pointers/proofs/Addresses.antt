@@ -38,10 +38,10 @@ use Rattle.ckc_build_values.specs.Kinds.{pointee_of, size_behind}
 use Rattle.ckc_blame_sound.specs.Settings.{Setting}
 use Rattle.ckc_blame_sound.specs.Points.{HoldsAt}
 use Rattle.ckc_blame_sound.specs.Bodies.{AreFresh}
-use Rattle.ckc_blame_pointers.specs.Valuations.{Valuation, Fits, Extends, address_by, IsAtPlace, HasEnds, IsInRange, IsReadIn, BaseBelow}
+use Rattle.ckc_blame_pointers.specs.Valuations.{Valuation, Fits, Extends, address_by, IsAtPlace, HasEnds, IsInRange, IsReadIn, BaseBetween}
 use Rattle.ckc_blame_pointers.proofs.Claims.{IsOfLocal, Placed, SideGoes, stays, nothing_read, placed_as}
-use Rattle.ckc_blame_pointers.proofs.Moving.{with_address, address_added, address_kept, base_weaker, range_weaker, at_base}
-use Rattle.ckc_blame_pointers.proofs.Later.{extends_less, extends_on, still_fits, next_more}
+use Rattle.ckc_blame_pointers.proofs.Moving.{with_address, address_added, address_kept, at_base}
+use Rattle.ckc_blame_pointers.proofs.Later.{extends_less, extends_on, still_fits, next_more, base_wider, range_wider}
 use Rattle.ckc_blame_pointers.proofs.Unwidened.{right_fresh_is}
 use Rattle.ckc_blame_numbers.proofs.Types.{word_wide}
 use Rattle.ckc_blame_pointers.proofs.Binary.{ExprClaims}
@@ -74,8 +74,8 @@ module _ (s : Setting) (store : Store) (entry : List ℕ) (here : Here) where
     or_own = record {
       after = after;
       extends = extends_on first fresh before p.after after p.extends (own_kept first fresh from);
-      place_below = λ facts. below (place facts) (p.place_below facts);
-      range_below = range_weaker limit most (r here.at) (omega (arith, over, under)) p.range_below;
+      place_between = λ facts. between (place facts) (p.place_between facts);
+      range_between = λ widened. range_wider first first limit most (r (record here.at { widened = widened })) (omega arith) (omega (arith, over, under)) (p.range_between widened);
       of_local = λ facts. local (place facts) (p.of_local facts);
       place_in = λ later ext facts told. at_place later ext (place facts) (p.place_in later (part later ext) facts told);
       range_is = λ later ext. p.range_is later (part later ext);
@@ -83,9 +83,9 @@ module _ (s : Setting) (store : Store) (entry : List ℕ) (here : Here) where
       numbers = λ later ext. p.numbers later (part later ext);
     }
       where
-        below : (o : Option Form) → IfSome o (λ f. BaseBelow limit f.base) → IfSome (option_or o (Some (base_form (base.Value n)))) (λ f. BaseBelow most f.base)
-        below (Some h) there = base_weaker limit most h.base (omega (arith, over, under)) there
-        below None there = under
+        between : (o : Option Form) → IfSome o (λ f. BaseBetween first limit f.base) → IfSome (option_or o (Some (base_form (base.Value n)))) (λ f. BaseBetween first most f.base)
+        between (Some h) there = base_wider first first limit most h.base (omega arith) (omega (arith, over, under)) there
+        between None there = (from, under)
 
         local : (o : Option Form) → IfSome o (λ f. IsOfLocal s t f.base) → IfSome (option_or o (Some (base_form (base.Value n)))) (λ f. IsOfLocal s t f.base)
         local (Some h) there = there
@@ -152,8 +152,8 @@ module _ (s : Setting) (store : Store) (entry : List ℕ) (here : Here) where
     retyped limit place q types first fresh before p h = record {
       after = h.after;
       extends = h.extends;
-      place_below = h.place_below;
-      range_below = h.range_below;
+      place_between = h.place_between;
+      range_between = h.range_between;
       of_local = λ facts. of_place (place facts) (h.of_local facts);
       place_in = λ later more facts told. at_place later (place facts) p.number (h.place_in later more facts told);
       range_is = λ later more. in_range later (q here.at) p (h.range_is later more);

@@ -250,7 +250,7 @@ module _ (s : Setting) (store : Store) (entry : List ℕ) (next : ℕ) (ready : 
             placed_as s store entry here t (first + with_own t node) (first + with_own t node) (λ facts. Some (base_form (base.Array k))) (pointer_place t node first) (λ at. range.Known (base_form (base.Array k)) high)
             (pointer_range t node first fresh) [] (node_fresh t node here.at) first fresh before value_there refl (place_is first) (range_is first fresh) refl
             (still_placed s store entry here t (first + with_own t node) (λ facts. Some (base_form (base.Array k))) (λ at. range.Known (base_form (base.Array k)) high) [] first fresh before value_there little are fits
-            (λ facts. tt) (tt, tt) (λ facts. tt) (λ v fits facts. low_at v fits)
+            (λ facts. tt) (λ widened. (tt, tt)) (λ facts. tt) (λ v fits facts. low_at v fits)
             (λ v fits. inr (record {
               from = address_of s.text k;
               to = address_of s.text k + bytes_of s.text k;

@@ -56,7 +56,7 @@ use Rattle.ckc_blame_pointers.proofs.Loads.{IsTested, element_goes, exact_goes, 
 use Rattle.ckc_blame_pointers.proofs.Later.{zero_typed}
 use Rattle.ckc_blame_pointers.proofs.Unwidened.{fresh_same}
 use Rattle.ckc_blame_pointers.proofs.Nodes.{NodeClaims}
-use Rattle.ckc_blame_pointers.proofs.Own.{fixed_reads, own_claims, kind_below, kind_range, kind_one, same_count}
+use Rattle.ckc_blame_pointers.proofs.Own.{fixed_reads, own_claims, kind_between, kind_range, kind_one, same_count}
 use Rattle.ckc_blame_pointers.proofs.Reading.{Ranged}
 use Rattle.ckc_blame_pointers.proofs.Structures.{IsWholeElement, whole_element}
 use Rattle.ckc_blame_pointers.proofs.Truths.{first_reached}
@@ -114,7 +114,7 @@ module _ (s : Setting) (store : Store) (entry : List ℕ) (next : ℕ) (ready : 
 
   comes : (x : Value) → (x.number < 2 ^ 32) × ((x.number ≡ 0) ⊎ Ranged store.shapes store.blocks to x.number (pos x.number) (elements_behind x.number to.size c.elements) x) → Made x
   comes x r =
-      own_claims s store entry here h t c.pointer made refl refl (λ first facts. refl) (fresh_same s.frame e here.at) (λ own. range_by_type (kind_of t) own.value) range_there (kind_below s store entry t x (there x r.1)) x (pos 0)
+      own_claims s store entry here h t c.pointer made refl refl (λ first facts. refl) (fresh_same s.frame e here.at) (λ own. range_by_type (kind_of t) own.value) range_there (kind_between s store entry t x (there x r.1)) x (pos 0)
       refl refl (λ b. nothing_read s store entry (λ facts. None) b here.at) r.0 (zero_typed (own_fresh t made here.at.facts)) (kind_range s store entry t x (there x r.1) (own_fresh t made here.at.facts) (pos 0)) (kind_one s store entry t x (there x r.1))
     where
       there : (x : Value) → (x.number ≡ 0) ⊎ Ranged store.shapes store.blocks to x.number (pos x.number) (elements_behind x.number to.size c.elements) x → (z : ℤ) → count_of_kind (kind_of t) ≡ Some (count.Fixed z)

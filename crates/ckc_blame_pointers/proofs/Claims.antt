@@ -30,10 +30,10 @@ use Rattle.ckc_blame_sound.specs.Settings.{Setting}
 use Rattle.ckc_blame_sound.specs.Values.{AreTrue, IsWordOf}
 use Rattle.ckc_blame_sound.specs.Points.{AreBounded, HoldsAt}
 use Rattle.ckc_blame_sound.specs.Bodies.{AreFresh}
-use Rattle.ckc_blame_pointers.specs.Valuations.{Valuation, Fits, Extends, AreTrueIn, AreNumbers, IsAtPlace, IsInRange, IsReadIn, BaseBelow, RangeBelow}
+use Rattle.ckc_blame_pointers.specs.Valuations.{Valuation, Fits, Extends, AreTrueIn, AreNumbers, IsAtPlace, IsInRange, IsReadIn, BaseBetween, RangeBetween}
 use Rattle.ckc_blame_pointers.specs.Covered.{DeclareOnes}
 use Rattle.ckc_blame_pointers.specs.Meant.{IsNotStuck}
-use Rattle.ckc_blame_pointers.proofs.Later.{with_zeros, zeros_extend, zeros_numbers, numbers_kept, next_more, extends_less, still_fits}
+use Rattle.ckc_blame_pointers.proofs.Later.{with_zeros, zeros_extend, zeros_numbers, numbers_kept, next_more, extends_less, still_fits, base_wider, range_wider}
 
 -- ---- evaluations that are not stuck
 
@@ -83,8 +83,8 @@ module _ (s : Setting) (store : Store) (entry : List ℕ) where
   pub record Placed (here : Here) (t : CType) (limit : ℕ) (place : Known → Option Form) (r : State → Range) (types : List CType) (first fresh : ℕ) (before : Valuation) (p : Value) : Type 0 where
     pub after : Valuation
     pub extends : Extends first fresh before after
-    pub place_below : (facts : Known) → IfSome (place facts) (λ f. BaseBelow limit f.base)
-    pub range_below : RangeBelow limit (r here.at)
+    pub place_between : (facts : Known) → IfSome (place facts) (λ f. BaseBetween first limit f.base)
+    pub range_between : (widened : List ℕ) → RangeBetween first limit (r (record here.at { widened = widened }))
     pub of_local : (facts : Known) → IfSome (place facts) (λ f. IsOfLocal s t f.base)
     pub place_in : (later : Valuation) → Extends limit (next_behind fresh types) after later → (facts : Known) → AreTold here later facts → IsAtPlace s store.locals later t (place facts) p.number
     pub range_is : (later : Valuation) → Extends limit (next_behind fresh types) after later → IsInRange s store later t (r here.at) p
@@ -138,16 +138,16 @@ module _ (s : Setting) (store : Store) (entry : List ℕ) where
   -- a pointer whose place and range name no value
   pub still_placed : (here : Here) (t : CType) (limit : ℕ) (place : Known → Option Form) (r : State → Range) (types : List CType) (first fresh : ℕ) (before : Valuation) (p : Value)
       → fresh + length types < 2 ^ 32 → AreFresh s.frame fresh → Fits s.frame store.locals before
-      → ((facts : Known) → IfSome (place facts) (λ f. BaseBelow limit f.base)) → RangeBelow limit (r here.at) → ((facts : Known) → IfSome (place facts) (λ f. IsOfLocal s t f.base))
+      → ((facts : Known) → IfSome (place facts) (λ f. BaseBetween first limit f.base)) → ((widened : List ℕ) → RangeBetween first limit (r (record here.at { widened = widened }))) → ((facts : Known) → IfSome (place facts) (λ f. IsOfLocal s t f.base))
       → ((v : Valuation) → Fits s.frame store.locals v → (facts : Known) → IsAtPlace s store.locals v t (place facts) p.number)
       → ((v : Valuation) → Fits s.frame store.locals v → IsInRange s store v t (r here.at) p)
       → ((widened : List ℕ) → AreBounded s store widened here.seen → (v : Valuation) → Fits s.frame store.locals v → IsReadIn s store v t (r (record here.at { widened = widened })) p.number)
       → Placed here t limit place r types first fresh before p
-  still_placed here t limit place r types first fresh before p little are fits below range_below local at_place in_range readable = record {
+  still_placed here t limit place r types first fresh before p little are fits place_between range_between local at_place in_range readable = record {
     after = after;
     extends = zeros_extend first fresh before;
-    place_below = below;
-    range_below = range_below;
+    place_between = place_between;
+    range_between = range_between;
     of_local = local;
     place_in = λ later more facts told. at_place later (fits_later later more) facts;
     range_is = λ later more. in_range later (fits_later later more);
@@ -171,8 +171,8 @@ module _ (s : Setting) (store : Store) (entry : List ℕ) where
       subst (λ m. Placed here t m other q us first fresh before p) (sym limit_is) (subst (λ us. Placed here t limit other q us first fresh before p) (sym types_are) (record {
         after = c.after;
         extends = c.extends;
-        place_below = λ facts. subst (λ (o : Option Form). IfSome o (λ f. BaseBelow limit f.base)) (sym (place_is facts)) (c.place_below facts);
-        range_below = subst (RangeBelow limit) (sym (range_is here.at.widened)) c.range_below;
+        place_between = λ facts. subst (λ (o : Option Form). IfSome o (λ f. BaseBetween first limit f.base)) (sym (place_is facts)) (c.place_between facts);
+        range_between = λ widened. subst (RangeBetween first limit) (sym (range_is widened)) (c.range_between widened);
         of_local = λ facts. subst (λ (o : Option Form). IfSome o (λ f. IsOfLocal s t f.base)) (sym (place_is facts)) (c.of_local facts);
         place_in = λ later more facts told. subst (λ o. IsAtPlace s store.locals later t o p.number) (sym (place_is facts)) (c.place_in later more facts told);
         range_is = λ later more. subst (λ q. IsInRange s store later t q p) (sym (range_is here.at.widened)) (c.range_is later more);
@@ -186,14 +186,18 @@ module _ (s : Setting) (store : Store) (entry : List ℕ) where
   placed_from here t limit place r types first next fresh before p less q = record {
     after = q.after;
     extends = extends_less first fresh next fresh before q.after less (omega arith) q.extends;
-    place_below = q.place_below;
-    range_below = q.range_below;
+    place_between = λ facts. wider (place facts) (q.place_between facts);
+    range_between = λ widened. range_wider first next limit limit (r (record here.at { widened = widened })) less (omega arith) (q.range_between widened);
     of_local = q.of_local;
     place_in = q.place_in;
     range_is = q.range_is;
     readable = q.readable;
     numbers = q.numbers;
   }
+    where
+      wider : (o : Option Form) → IfSome o (λ f. BaseBetween next limit f.base) → IfSome o (λ f. BaseBetween first limit f.base)
+      wider None b = tt
+      wider (Some f) b = base_wider first next limit limit f.base less (omega arith) b
 
   -- ---- what is no pointer
 
@@ -202,8 +206,8 @@ module _ (s : Setting) (store : Store) (entry : List ℕ) where
       → Placed here t limit (pointer_place t n first) (pointer_range t n first fresh) types first fresh before p
   not_placed here t n limit types first fresh before p e null little are fits =
       still_placed here t limit (pointer_place t n first) (pointer_range t n first fresh) types first fresh before p little are fits
-      (λ facts. subst (λ (f : Option Form). IfSome f (λ f. BaseBelow limit f.base)) (sym (place_none facts)) tt)
-      (subst (RangeBelow limit) (sym (range_none here.at)) (below n.null))
+      (λ facts. subst (λ (f : Option Form). IfSome f (λ f. BaseBetween first limit f.base)) (sym (place_none facts)) tt)
+      (λ widened. subst (RangeBetween first limit) (sym (range_none (record here.at { widened = widened }))) (between n.null))
       (λ facts. subst (λ (f : Option Form). IfSome f (λ f. IsOfLocal s t f.base)) (sym (place_none facts)) tt)
       (λ v fits facts. subst (λ o. IsAtPlace s store.locals v t o p.number) (sym (place_none facts)) tt)
       (λ v fits. subst (λ q. IsInRange s store v t q p) (sym (range_none here.at)) (in_range v n.null null))
@@ -219,9 +223,9 @@ module _ (s : Setting) (store : Store) (entry : List ℕ) where
       range_none : (at : State) → pointer_range t n first fresh at ≡ (if n.null then range.Any else range.Missing)
       range_none at = ap (λ (b : Bool). if n.null then range.Any else (if b then n.range t (own_numbers n first fresh at) first fresh at else range.Missing)) e
 
-      below : (b : Bool) → RangeBelow limit (if b then range.Any else range.Missing)
-      below true = tt
-      below false = tt
+      between : (b : Bool) → RangeBetween first limit (if b then range.Any else range.Missing)
+      between true = tt
+      between false = tt
 
       in_range : (v : Valuation) (b : Bool) → (b ≡ true → p.number ≡ 0) → IsInRange s store v t (if b then range.Any else range.Missing) p
       in_range v true null = null refl

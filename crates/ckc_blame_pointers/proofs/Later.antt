@@ -5,12 +5,16 @@ use Rattle.std.proofs.lemmas.Bool.{ltb-true}
 use Rattle.std.proofs.lemmas.Bool.Decides.{nat_tests}
 use Rattle.std.proofs.lemmas.Int.{ints}
 use Rattle.ckc_types.specs.declared.types.CType.{CType, CType-F, out-CType}
+use Rattle.ckc_linear.specs.declared.forms.Base.{Base}
+use Rattle.ckc_linear.specs.declared.forms.Base.TheVariants as base
+use Rattle.ckc_typed.specs.declared.typed.Range.{Range}
+use Rattle.ckc_typed.specs.declared.typed.Range.TheVariants as range
 use Rattle.ckc_bounds_known.specs.Ranges.{range_in}
 use Rattle.ckc_bounds_views.specs.Parts.{capped, next_behind, with_last}
 use Rattle.ckc_blame_sound.specs.Settings.{Setting}
 use Rattle.ckc_blame_sound.specs.Values.{value, IsBetween, IsNumberOf}
 use Rattle.ckc_blame_sound.specs.Bodies.{AreFresh}
-use Rattle.ckc_blame_pointers.specs.Valuations.{Valuation, Fits, Extends, AreNumbers}
+use Rattle.ckc_blame_pointers.specs.Valuations.{Valuation, Fits, Extends, AreNumbers, BaseBetween, RangeBetween}
 
 -- ---- valuations that say more
 
@@ -33,6 +37,19 @@ still_fits s locals first fresh before after are fits more x (inr (k, l, e, ther
     by : (b : Bool) → nat_lt k fresh ≡ b → after.numbers x ≡ value s.frame locals x
     by true h = let less : k < fresh = ltb-true k fresh h in more.numbers x (omega arith) ∙ fits x (inr (k, l, e, there, integer))
     by false h = let not_less : fresh ≤ k = grind (arith, nat_tests) in let not_integer = are k l not_less there in absurd (cc)
+
+-- ---- how values are numbered
+
+pub base_wider : (first next m n : ℕ) (b : Option Base) → first ≤ next → m ≤ n → BaseBetween next m b → BaseBetween first n b
+base_wider first next m n (Some (base.Value k)) a h g = (omega (arith, g.0), omega (arith, g.1))
+base_wider first next m n (Some (base.Local k)) a h g = tt
+base_wider first next m n (Some (base.Array k)) a h g = tt
+base_wider first next m n None a h g = absurd g
+
+pub range_wider : (first next m n : ℕ) (r : Range) → first ≤ next → m ≤ n → RangeBetween next m r → RangeBetween first n r
+range_wider first next m n (range.Known low high) a h g = (base_wider first next m n low.base a h g.0, base_wider first next m n high.base a h g.1)
+range_wider first next m n range.Missing a h g = tt
+range_wider first next m n range.Any a h g = tt
 
 -- ---- how fresh variables are numbered
 

@@ -47,7 +47,7 @@ use Rattle.ckc_blame_pointers.specs.Covered.{DeclareLocals, IsInScope}
 use Rattle.ckc_blame_pointers.specs.Meant.{IsNotStuck}
 use Rattle.ckc_blame_pointers.proofs.Claims.{SideGoes, weaker, goes_on, stays, nothing_read, still_placed, placed_as}
 use Rattle.ckc_blame_pointers.proofs.Moving.{at_base}
-use Rattle.ckc_blame_pointers.proofs.Nodes.{node_fresh, NodeClaims, narrow, integer_claims, quiet_claims, local_readable, LocalComes, local_comes}
+use Rattle.ckc_blame_pointers.proofs.Nodes.{node_fresh, NodeClaims, narrow, integer_claims, quiet_claims, local_between, local_readable, LocalComes, local_comes}
 use Rattle.ckc_blame_pointers.proofs.Rows.{IsSmall, operation_word, Wide, wide_small, int_row, arithmetic_wide}
 use Rattle.ckc_blame_pointers.proofs.Binary.{ExprClaims, small_value, flag_small}
 use Rattle.ckc_blame_numbers.proofs.Nodes.{not_side}
@@ -84,7 +84,7 @@ module _ (s : Setting) (store : Store) (entry : List ℕ) (here : Here) (h : Hol
     placed = λ first fresh before low little are fits.
         placed_as s store entry here t (first + with_own t null_view) (first + with_own t null_view) (λ facts. None) (pointer_place t null_view first) (λ at. range.Any) (pointer_range t null_view first fresh) [] (node_fresh t null_view here.at) first fresh before
         (record { number = 0; range = Without }) refl (λ facts. none (is_pointer t)) (λ widened. refl) refl
-        (still_placed s store entry here t (first + with_own t null_view) (λ facts. None) (λ at. range.Any) [] first fresh before (record { number = 0; range = Without }) little are fits (λ facts. tt) tt (λ facts. tt) (λ v fits facts. tt)
+        (still_placed s store entry here t (first + with_own t null_view) (λ facts. None) (λ at. range.Any) [] first fresh before (record { number = 0; range = Without }) little are fits (λ facts. tt) (λ widened. tt) (λ facts. tt) (λ v fits facts. tt)
         (λ v fits. refl) (λ widened bounded v fits. refl));
     one = λ ones e. inl refl;
     zero = λ e. refl;
@@ -119,8 +119,8 @@ module _ (s : Setting) (store : Store) (entry : List ℕ) (here : Here) (h : Hol
           placed_as s store entry here kept (first + with_own kept node) (first + with_own kept node) (λ facts. Some (base_form (base.Local k))) (pointer_place kept node first) (λ at. range_of_local s.frame k at.widened) (pointer_range kept node first fresh) []
           (node_fresh kept node here.at) first fresh before p refl (λ facts. place) range_there refl
           (still_placed s store entry here kept (first + with_own kept node) (λ facts. Some (base_form (base.Local k))) (λ at. range_of_local s.frame k at.widened) [] first fresh before p little are fits
-          (λ facts. tt) (c.1 (first + with_own kept node)) (λ facts l there. let same : scope.local ≡ l = local_same l there in ap (λ (l : locals.Local). element_of l.ctype) (sym same))
-          (λ v fits facts. ap pos c.0 ∙ sym (at_base s store.locals kept v (fits 0 (inl refl)) (base.Local k))) c.2
+          (λ facts. tt) (λ widened. local_between s store entry here h globals agrees declares k scope widened first (first + with_own kept node)) (λ facts l there. let same : scope.local ≡ l = local_same l there in ap (λ (l : locals.Local). element_of l.ctype) (sym same))
+          (λ v fits facts. ap pos c.0 ∙ sym (at_base s store.locals kept v (fits 0 (inl refl)) (base.Local k))) c.1
           (λ widened bounded v fits. subst (IsReadIn s store v kept (range_of_local s.frame k widened)) (sym c.0) (local_readable s store entry here h globals agrees declares k scope widened bounded v fits)));
       one = λ ones e.
           subst (λ n. (n ≡ 0) ⊎ (is_true store.shapes store.blocks (pointee_of s.text.layout kept) n n (n + size_behind s.text.layout kept) ≡ true)) (sym c.0)

@@ -25,10 +25,10 @@ use Rattle.ckc_build_values.specs.Kinds.{pointee_of, size_behind}
 use Rattle.ckc_blame_sound.specs.Settings.{Setting}
 use Rattle.ckc_blame_sound.specs.Values.{number_of}
 use Rattle.ckc_blame_sound.specs.Bodies.{AreFresh}
-use Rattle.ckc_blame_pointers.specs.Valuations.{Valuation, Fits, Extends, AreNumbers, address_in, address_by, IsAtPlace, IsInRange, IsReadIn, BaseBelow, RangeBelow}
+use Rattle.ckc_blame_pointers.specs.Valuations.{Valuation, Fits, Extends, AreNumbers, address_in, address_by, IsAtPlace, IsInRange, IsReadIn, BaseBetween}
 use Rattle.ckc_blame_pointers.proofs.Numbers.{times_negative, elements_twice, away, true_same}
 use Rattle.ckc_blame_pointers.proofs.Claims.{IsOfLocal, AreTold, Placed}
-use Rattle.ckc_blame_pointers.proofs.Later.{extends_less, extends_on, still_fits, numbers_kept}
+use Rattle.ckc_blame_pointers.proofs.Later.{extends_less, extends_on, still_fits, numbers_kept, base_wider, range_wider}
 
 -- a valuation in which one more value has an address
 abbrev pub with_address : ℕ → ℕ → Valuation → Valuation
@@ -45,17 +45,6 @@ address_kept n a v k h = ap (λ (b : Bool). if b then a else v.addresses k) diff
   where
     different : (k == n) ≡ false
     different = grind (arith, nat_tests)
-
-pub base_weaker : (m n : ℕ) (b : Option Base) → m ≤ n → BaseBelow m b → BaseBelow n b
-base_weaker m n (Some (base.Value k)) h g = omega arith
-base_weaker m n (Some (base.Local k)) h g = tt
-base_weaker m n (Some (base.Array k)) h g = tt
-base_weaker m n None h g = tt
-
-pub range_weaker : (m n : ℕ) (r : Range) → m ≤ n → RangeBelow m r → RangeBelow n r
-range_weaker m n (range.Known low high) h g = (base_weaker m n low.base h g.0, base_weaker m n high.base h g.1)
-range_weaker m n range.Missing h g = tt
-range_weaker m n range.Any h g = tt
 
 -- a place at the begin of a base
 pub at_base : (s : Setting) (locals : List ℕ) (t : CType) (v : Valuation) → v.numbers 0 ≡ pos 0 → (b : Base)
@@ -170,14 +159,14 @@ module _ (s : Setting) (store : Store) (entry : List ℕ) (here : Here) (t : CTy
     (form_is : (w : Valuation) → Fits s.frame store.locals w → (facts : Known) → AreTold s store entry here w facts → (g : Form) → form facts ≡ Some g → z ≡ number_of w.numbers g)
     (a : ℕ) (is : pos a ≡ elements_behind v.number (size_behind s.text.layout t) z) (some : v.number ≡ 0 → ⊥) where
   -- It has the place of the sum, or stands for itself; w is a valuation that also says what the fresh variables of the index are.
-  pub moved_placed : (first fresh n : ℕ) (w : Valuation) → first ≤ n → limit ≤ n → n < most → next_behind more ts ≤ next_behind fresh types → fresh ≤ next_behind fresh types → fresh + length types < 2 ^ 32
+  pub moved_placed : (first fresh n : ℕ) (w : Valuation) → first ≤ next → first ≤ n → limit ≤ n → n < most → next_behind more ts ≤ next_behind fresh types → fresh ≤ next_behind fresh types → fresh + length types < 2 ^ 32
       → AreFresh s.frame fresh → Fits s.frame store.locals before → Extends first fresh before w → Extends limit (next_behind more ts) p.after w → AreNumbers w.numbers (capped fresh 1) types
       → Placed s store entry here t most (λ facts. option_or (sum_of_forms (place facts) (form facts)) (Some (base_form (base.Value n)))) r types first fresh before (record { number = a; range = v.range })
-  moved_placed first fresh n w from over under up on little are fits begins goes numbers = record {
+  moved_placed first fresh n w begin from over under up on little are fits begins goes numbers = record {
     after = after;
     extends = extends_on first fresh before w after begins (own_kept first fresh from);
-    place_below = λ facts. below (sum_of_forms (place facts) (form facts)) (λ h e. sum_base (BaseBelow limit) (place facts) (form facts) h (p.place_below facts) e);
-    range_below = range_weaker limit most (r here.at) (omega (arith, over, under)) p.range_below;
+    place_between = λ facts. between (sum_of_forms (place facts) (form facts)) (λ h e. sum_base (BaseBetween next limit) (place facts) (form facts) h (p.place_between facts) e);
+    range_between = λ widened. range_wider first next limit most (r (record here.at { widened = widened })) begin (omega (arith, over, under)) (p.range_between widened);
     of_local = λ facts. local (sum_of_forms (place facts) (form facts)) (λ h e. sum_base (IsOfLocal s t) (place facts) (form facts) h (p.of_local facts) e);
     place_in = λ later ext facts told. at_place later ext facts told (sum_of_forms (place facts) (form facts)) refl;
     range_is = λ later ext. range_on s store t v.number z a is some later (r here.at) v.range (p.range_is later (part later ext));
@@ -203,9 +192,9 @@ module _ (s : Setting) (store : Store) (entry : List ℕ) (here : Here) (t : CTy
           (extends_on 0 fresh before w later (extends_less 0 fresh first fresh before w (omega arith) (omega arith) begins)
           (extends_on 0 fresh w after later (own_kept 0 fresh (omega arith)) (extends_less 0 fresh most (next_behind fresh types) after later (omega arith) on ext)))
 
-      below : (o : Option Form) → ((h : Form) → o ≡ Some h → BaseBelow limit h.base) → IfSome (option_or o (Some (base_form (base.Value n)))) (λ f. BaseBelow most f.base)
-      below (Some h) there = base_weaker limit most h.base (omega (arith, over, under)) (there h refl)
-      below None there = under
+      between : (o : Option Form) → ((h : Form) → o ≡ Some h → BaseBetween next limit h.base) → IfSome (option_or o (Some (base_form (base.Value n)))) (λ f. BaseBetween first most f.base)
+      between (Some h) there = base_wider first next limit most h.base begin (omega (arith, over, under)) (there h refl)
+      between None there = (from, under)
 
       local : (o : Option Form) → ((h : Form) → o ≡ Some h → IsOfLocal s t h.base) → IfSome (option_or o (Some (base_form (base.Value n)))) (λ f. IsOfLocal s t f.base)
       local (Some h) there = there h refl

@@ -39,7 +39,7 @@ use Rattle.ckc_blame_sound.specs.Values.{IsWordOf}
 use Rattle.ckc_blame_sound.specs.Points.{IsReadable, IsBounded, AreBounded, HoldsAt}
 use Rattle.ckc_typed.specs.declared.environment.Globals.{Globals}
 use Rattle.ckc_blame_numbers.specs.Typed.{Agrees}
-use Rattle.ckc_blame_pointers.specs.Valuations.{Valuation, Fits, address_by, HasEnds, IsTrueBetween, IsInRange, IsReadIn, BaseBelow, RangeBelow}
+use Rattle.ckc_blame_pointers.specs.Valuations.{Valuation, Fits, address_by, HasEnds, IsTrueBetween, IsInRange, IsReadIn, BaseBetween, RangeBetween}
 use Rattle.ckc_blame_pointers.specs.Covered.{IsLocalBase, IsLocalForm, DeclareLocals, IsInScope}
 use Rattle.ckc_blame_pointers.specs.Meant.{IsNotStuck}
 use Rattle.ckc_blame_pointers.proofs.Claims.{SideGoes, Claims, no_one, weaker, stays, not_placed}
@@ -104,14 +104,14 @@ module _ (s : Setting) (store : Store) (entry : List ℕ) (here : Here) (h : Hol
     abbrev word_there : ℕ
     word_there = slice_index store.locals k
 
-    local_below : (limit : ℕ) (f : Form) → IsLocalForm s f → BaseBelow limit f.base
-    local_below limit f g = by f.base g.based
+    local_form : (first limit : ℕ) (f : Form) → IsLocalForm s f → BaseBetween first limit f.base
+    local_form first limit f g = by f.base g.based
       where
-        by : (b : Option Base) → IsLocalBase b → BaseBelow limit b
+        by : (b : Option Base) → IsLocalBase b → BaseBetween first limit b
         by (Some (base.Local j)) g = tt
         by (Some (base.Array j)) g = tt
         by (Some (base.Value j)) g = absurd g
-        by None g = tt
+        by None g = absurd g
 
     not_any : (o : Option Local) (wide : Bool) → range_by o wide ≡ range.Any → ⊥
     not_any None wide e = absurd (cc)
@@ -161,18 +161,27 @@ module _ (s : Setting) (store : Store) (entry : List ℕ) (here : Here) (h : Hol
               true_there = r.true_there;
             })
 
+    -- The bounds of a local name no value.
+    pub local_between : (widened : List ℕ) (first limit : ℕ) → RangeBetween first limit (range_of_local s.frame k widened)
+    local_between widened first limit = by (range_of_local s.frame k widened) refl
+      where
+        by : (r : Range) → range_of_local s.frame k widened ≡ r → RangeBetween first limit r
+        by range.Missing e = tt
+        by range.Any e = tt
+        by (range.Known low high) e = let forms = range_local s declares k scope.local scope.there widened low high e in (local_form first limit low forms.0, local_form first limit high forms.1)
+
     -- what a pointer local is read as
     abbrev pub LocalComes : Range → Value → Type 0
     LocalComes r p = (p.number ≡ word_there)
-        × ((limit : ℕ) → RangeBelow limit r) × ((v : Valuation) → Fits s.frame store.locals v → IsInRange s store v scope.local.ctype r p)
+        × ((v : Valuation) → Fits s.frame store.locals v → IsInRange s store v scope.local.ctype r p)
 
     pub local_comes : (r : Range) → r ≡ range_of_local s.frame k here.at.widened → IsNotStuck (LocalComes r) (evaluated store (local_in s.text s.variables scope.local.ctype k r))
-    local_comes range.Missing e = (refl, λ limit. tt, λ v fits. tt)
+    local_comes range.Missing e = (refl, λ v fits. tt)
     local_comes range.Any e = absurd (not_any (local_at s.frame k) (list_any (λ p. p == k) here.at.widened) (sym e))
     local_comes (range.Known low high) e =
         weaker (evaluated store (local_in s.text s.variables scope.local.ctype k (range.Known low high)))
         (local_reads s store entry here h k scope.local scope.there scope.seen_there low high (sym e))
-        (λ p is reads. (reads.number, λ limit. (local_below limit low forms.0, local_below limit high forms.1), λ v fits. ends p v fits reads.number reads.ranged_there))
+        (λ p is reads. (reads.number, λ v fits. ends p v fits reads.number reads.ranged_there))
       where
         forms : IsLocalForm s low × IsLocalForm s high
         forms = range_local s declares k scope.local scope.there here.at.widened low high (sym e)

@@ -36,7 +36,7 @@ use Rattle.ckc_blame_sound.specs.Settings.{Setting}
 use Rattle.ckc_blame_sound.specs.Values.{number_of, IsNumberOf}
 use Rattle.ckc_blame_sound.specs.Points.{HoldsAt}
 use Rattle.ckc_blame_sound.specs.Bodies.{AreFresh}
-use Rattle.ckc_blame_pointers.specs.Valuations.{Valuation, Fits, Extends, IsInRange, IsReadIn, RangeBelow}
+use Rattle.ckc_blame_pointers.specs.Valuations.{Valuation, Fits, Extends, IsInRange, IsReadIn, RangeBetween}
 use Rattle.ckc_blame_pointers.specs.Meant.{IsNotStuck}
 use Rattle.ckc_blame_pointers.proofs.Claims.{IsOne, Placed, SideGoes, weaker, stays, placed_as}
 use Rattle.ckc_blame_pointers.proofs.Loads.{loaded_in}
@@ -71,7 +71,7 @@ fixed_reads store bytes to c begin a ok = by (loaded Word a store.blocks) refl o
 module _ (s : Setting) (store : Store) (entry : List ℕ) (here : Here) (h : HoldsAt s store entry here) (t : CType) (pointer : is_pointer t ≡ true) (n : NodeView) (alone : n.stands_alone ≡ true) (known : n.null ≡ false)
     (nowhere : (first : ℕ) (facts : Known) → n.place t first facts ≡ None) (kept : (widened : List ℕ) → n.fresh (record here.at { widened = widened }) ≡ n.fresh here.at)
     (r : Own → Range) (ranged : (own : Own) (first fresh : ℕ) (widened : List ℕ) → n.range t own first fresh (record here.at { widened = widened }) ≡ r own)
-    (below : (own : Own) (limit : ℕ) → own.value < limit → RangeBelow limit (r own)) (x : Value) (z : ℤ) where
+    (between : (own : Own) (first limit : ℕ) → first ≤ own.value → own.value < limit → RangeBetween first limit (r own)) (x : Value) (z : ℤ) where
   abbrev own : ℕ → ℕ
   own first = capped first n.values
 
@@ -110,8 +110,8 @@ module _ (s : Setting) (store : Store) (entry : List ℕ) (here : Here) (h : Hol
   own_placed o typed in_range first fresh limit before over under little are fits = record {
     after = after;
     extends = extends_on first fresh before (numbered fresh ts z before o) after (numbered_extends fresh ts z before first o little) own_kept;
-    place_below = λ facts. under;
-    range_below = below (own_numbers n first fresh here.at) limit under;
+    place_between = λ facts. (over, under);
+    range_between = λ widened. between (own_numbers n first fresh here.at) first limit over under;
     of_local = λ facts. tt;
     place_in = λ later more facts told. sym (at_base s store.locals t later (fits_later later more 0 (inl refl)) (base.Value (own first)) ∙ ap pos (there later more));
     range_is = λ later more. in_later later more;
@@ -163,8 +163,8 @@ module _ (s : Setting) (store : Store) (entry : List ℕ) (here : Here) (h : Hol
 abbrev pub range_of_own : (ℕ → Form) → Own → Range
 range_of_own g own = range_from (base.Value own.value) (g own.fresh)
 
-pub own_below : (g : ℕ → Form) (own : Own) (limit : ℕ) → own.value < limit → RangeBelow limit (range_of_own g own)
-own_below g own limit less = (less, less)
+pub own_between : (g : ℕ → Form) (own : Own) (first limit : ℕ) → first ≤ own.value → own.value < limit → RangeBetween first limit (range_of_own g own)
+own_between g own first limit more less = ((more, less), (more, less))
 
 module _ (s : Setting) (store : Store) (t : CType) (x : Value) (z c : ℤ) (there : (x.number ≡ 0) ⊎ Ranged store.shapes store.blocks (pointee_of s.text.layout t) x.number (pos x.number) (elements_behind x.number (size_behind s.text.layout t) c) x) where
   -- A pointer has the range of so many elements, if it is null or it may be read in that range, and the form says their number.
@@ -202,12 +202,12 @@ module _ (s : Setting) (store : Store) (entry : List ℕ) (t : CType) (x : Value
   abbrev range_by_kind : Own → Range
   range_by_kind own = range_by_type (kind_of t) own.value
 
-  pub kind_below : (own : Own) (limit : ℕ) → own.value < limit → RangeBelow limit (range_by_type (kind_of t) own.value)
-  kind_below own limit less = by (kind_of t)
+  pub kind_between : (own : Own) (first limit : ℕ) → first ≤ own.value → own.value < limit → RangeBetween first limit (range_by_type (kind_of t) own.value)
+  kind_between own first limit more less = by (kind_of t)
     where
-      by : (k : Option Kind) → RangeBelow limit (range_by_type k own.value)
-      by (Some kind.One) = (less, less)
-      by (Some kind.Nt) = (less, less)
+      by : (k : Option Kind) → RangeBetween first limit (range_by_type k own.value)
+      by (Some kind.One) = ((more, less), (more, less))
+      by (Some kind.Nt) = ((more, less), (more, less))
       by (Some kind.Arr) = tt
       by (Some kind.Raw) = tt
       by None = tt

@@ -47,7 +47,7 @@ use Rattle.ckc_blame_pointers.proofs.Claims.{weaker, nothing_read}
 use Rattle.ckc_blame_pointers.proofs.Later.{zero_typed}
 use Rattle.ckc_blame_pointers.proofs.Nodes.{NodeClaims}
 use Rattle.ckc_blame_pointers.proofs.Reading.{Ranged}
-use Rattle.ckc_blame_pointers.proofs.Own.{fixed_reads, own_claims, kind_below, kind_range, kind_one, same_count}
+use Rattle.ckc_blame_pointers.proofs.Own.{fixed_reads, own_claims, kind_between, kind_range, kind_one, same_count}
 use Rattle.ckc_blame_slots.specs.Cells.{IsCell, IsPart}
 use Rattle.ckc_blame_slots.proofs.Apart.{cell_there, cell_address}
 use Rattle.ckc_blame_slots.proofs.Objects.{object_cell}
@@ -94,7 +94,7 @@ module _ (s : Setting) (store : Store) (entry : List ℕ) (next : ℕ) (ready : 
       → NodeClaims s store entry here h t node x
   comes x small there =
       own_claims s store entry here h t c.pointer node (ap (λ b. is_none (if b then Some (base_form (base.Array k)) else None)) single) refl
-      (λ first facts. ap (λ b. if b then Some (base_form (base.Array k)) else None) single) (λ widened. refl) (λ own. range_by_type (kind_of t) own.value) ranged (kind_below s store entry t x there) x (pos 0)
+      (λ first facts. ap (λ b. if b then Some (base_form (base.Array k)) else None) single) (λ widened. refl) (λ own. range_by_type (kind_of t) own.value) ranged (kind_between s store entry t x there) x (pos 0)
       refl refl (λ b. nothing_read s store entry (λ facts. None) b here.at) small (zero_typed (own_fresh t node here.at.facts)) (kind_range s store entry t x there (own_fresh t node here.at.facts) (pos 0)) (kind_one s store entry t x there)
 
   at : (b : Block) × (slice_get store.blocks k ≡ Some b) × (b ≡ record (block_of (object_elaborated s.text.layout c.is_run c.object)) { bytes = b.bytes })

@@ -159,7 +159,7 @@ module _ (s : Setting) (store : Store) (entry : List ℕ) (here : Here) (h : Hol
           (front ++ (ts ++ back)) first fresh before (record { number = a; range = x.range })
       placed_so first fresh before room little are fits =
           moved_placed s store entry here k.note.ctype limit (first + with_own k.note.ctype n) (next first) more ((view s.frame k).place (next first)) ((view s.frame k).range (next first) more) ts (front ++ (ts ++ back)) before middle x p z form index a is some
-          first fresh (capped first n.values) w (omega (arith, room)) room.2 room.3 ends_under (next_more fresh (front ++ (ts ++ back)) little) little are fits begins goes all
+          first fresh (capped first n.values) w room.1 (omega (arith, room)) room.2 room.3 ends_under (next_more fresh (front ++ (ts ++ back)) little) little are fits begins goes all
         where
           more : ℕ
           more = next_behind fresh front

@@ -36,8 +36,8 @@ module _ (globals : Globals) (s : Setting) (agrees : Agrees globals s) (declares
         (record {
           after = q.after;
           extends = q.extends;
-          place_below = q.place_below;
-          range_below = q.range_below;
+          place_between = q.place_between;
+          range_between = q.range_between;
           place = q.place_in q.after (itself first fresh q.after) here.at.facts (inl refl);
           range = q.range_is q.after (itself first fresh q.after);
           place_in = λ later more facts told. q.place_in later more facts (inr told);

@@ -11,7 +11,7 @@ use Rattle.ckc_blame_sound.specs.Settings.{Setting}
 use Rattle.ckc_blame_sound.specs.Values.{IsWordOf}
 use Rattle.ckc_blame_sound.specs.Points.{AreBounded, HoldsAt}
 use Rattle.ckc_blame_sound.specs.Bodies.{AreFresh}
-use Rattle.ckc_blame_pointers.specs.Valuations.{Valuation, BaseBelow, RangeBelow, Fits, Extends, AreTrueIn, AreNumbers, IsAtPlace, IsInRange, IsReadIn}
+use Rattle.ckc_blame_pointers.specs.Valuations.{Valuation, BaseBetween, RangeBetween, Fits, Extends, AreTrueIn, AreNumbers, IsAtPlace, IsInRange, IsReadIn}
 
 -- An evaluation gives a value of which this holds, or stops at a named check. It is not stuck.
 abbrev pub IsNotStuck : (Value → Type 0) → Result Value Halt → Type 0
@@ -27,8 +27,9 @@ pub record HasPlace (s : Setting) (store : Store) (here : Here) (e : View) (firs
     (p : Value) : Type 0 where
   pub after : Valuation
   pub extends : Extends first fresh before after
-  pub place_below : (facts : Known) → IfSome (e.place first facts) (λ f. BaseBelow (first + e.values) f.base)
-  pub range_below : RangeBelow (first + e.values) (e.range first fresh here.at)
+  pub place_between : (facts : Known) → IfSome (e.place first facts) (λ f. BaseBetween first (first + e.values) f.base)
+  pub range_between : (widened : List ℕ)
+      → RangeBetween first (first + e.values) (e.range first fresh (record here.at { widened = widened }))
   pub place : IsAtPlace s store.locals after e.ctype (e.place first here.at.facts) p.number
   pub range : IsInRange s store after e.ctype (e.range first fresh here.at) p
   pub place_in : (later : Valuation) → Extends (first + e.values) (fresh_behind e fresh here.at) after later

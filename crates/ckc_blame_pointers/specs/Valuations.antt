@@ -95,12 +95,14 @@ IsReadIn s store v t range.Missing n = Unit {0}
 
 -- ---- the numbers of values
 
--- a base is no value from a number on
-abbrev pub BaseBelow : ℕ → Option Base → Type 0
-BaseBelow limit (Some (base.Value n)) = n < limit
-BaseBelow limit _ = Unit {0}
+-- a base that is a local, a static array, or a value with a number from one on and below another one
+abbrev pub BaseBetween : (first limit : ℕ) → Option Base → Type 0
+BaseBetween first limit (Some (base.Value n)) = (first ≤ n) × (n < limit)
+BaseBetween first limit (Some (base.Local k)) = Unit {0}
+BaseBetween first limit (Some (base.Array k)) = Unit {0}
+BaseBetween first limit None = ⊥
 
--- nor are those of the ends of a range
-abbrev pub RangeBelow : ℕ → noted.Range → Type 0
-RangeBelow limit (range.Known low high) = BaseBelow limit low.base × BaseBelow limit high.base
-RangeBelow limit _ = Unit {0}
+-- the same of both ends of a range
+abbrev pub RangeBetween : (first limit : ℕ) → noted.Range → Type 0
+RangeBetween first limit (range.Known low high) = BaseBetween first limit low.base × BaseBetween first limit high.base
+RangeBetween first limit _ = Unit {0}

@@ -1,0 +1,31 @@
+//! What follows from the definitions alone, each the contract of a function that does nothing.
+
+ghost use Rattle.std.specs.Prelude.{◌≡◌, ℕ, ◌+◌, ◌<◌, ◌^◌, List, length, Ok};
+ghost use Rattle.ckc_typed.specs.declared.environment.Globals.{Globals};
+ghost use Rattle.ckc_typed.specs.Trees.{NotedExpr};
+ghost use Rattle.ckc_bounds_views.specs.Views.{view};
+ghost use Rattle.ckc_bounds_statements.specs.Paths.{Here};
+ghost use Rattle.ckc_source.specs.Eval.{Store, evaluated};
+ghost use Rattle.ckc_build_values.specs.Expressions.{expr_elaborated};
+ghost use Rattle.ckc_blame_sound.specs.Settings.{Setting};
+ghost use Rattle.ckc_blame_sound.specs.Points.{HoldsAt};
+ghost use Rattle.ckc_blame_sound.specs.Bodies.{AreFresh};
+ghost use Rattle.ckc_blame_numbers.specs.Typed.{IsTyped, Agrees};
+ghost use Rattle.ckc_blame_pointers.specs.Covered.{DeclareLocals, IsSoundStore, IsCovered};
+ghost use Rattle.ckc_blame_pointers.specs.Meant.{IsNotStuck};
+ghost use Rattle.ckc_blame_given.specs.At.{GivesAt};
+
+/// What becomes of a judged expression gives a word that has the place, the number and the range of the expression, under
+/// numbers for its values and its fresh variables that may be chosen beside any for those before, or stops at a named
+/// check. It is not stuck.
+pub fn expressions_give()
+    ensures { (globals : Globals) (s : Setting) (entry : List ℕ) (here : Here)
+        (before after : NotedExpr) (fresh literals next : ℕ) (store : Store) → Agrees globals s
+        → DeclareLocals s → IsSoundStore s store next
+        → fresh + length ((view s.frame before).fresh here.at) < 2 ^ 32 → AreFresh s.frame fresh
+        → IsTyped globals s before
+        → (view s.frame before).judged fresh here.at ≡ Ok after → IsCovered s store here.seen after
+        → HoldsAt s store entry here
+        → IsNotStuck (λ p. GivesAt s store here.at before p.number)
+        (evaluated store (expr_elaborated s.text s.variables literals after)) }
+{}
