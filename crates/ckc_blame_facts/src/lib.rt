@@ -3,4 +3,4 @@
 
 mod laws;
 
-pub use laws::callees_have_heads;
+pub use laws::{callees_have_heads, statics_are_told};
