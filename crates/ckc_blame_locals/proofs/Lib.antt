@@ -1,0 +1,9 @@
+pub mod Named
+pub mod Apart
+pub mod Written
+pub mod Given
+pub mod Facts
+pub mod Assigned
+pub mod Points
+pub mod Declared
+pub mod Calls
