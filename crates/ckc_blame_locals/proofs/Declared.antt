@@ -42,11 +42,11 @@ use Rattle.ckc_blame_locals.proofs.Given.{zero_kept, kept_word, from_kept}
 
 -- ---- what is judged
 
-ok_is : {A : Type 0} (a b : A) → ◌≡◌ {A = Outcome A} (Ok a) (Ok b) → a ≡ b
+pub ok_is : {A : Type 0} (a b : A) → ◌≡◌ {A = Outcome A} (Ok a) (Ok b) → a ≡ b
 ok_is a b e = cc
 
 -- what is Ok has passed its test
-passed : {A : Type 0} (b : Bool) (code : ℕ) (at : Pos) (o : Outcome A) (a : A) → unless (not b) code at o ≡ Ok a → (b ≡ true) × (o ≡ Ok a)
+pub passed : {A : Type 0} (b : Bool) (code : ℕ) (at : Pos) (o : Outcome A) (a : A) → unless (not b) code at o ≡ Ok a → (b ≡ true) × (o ≡ Ok a)
 passed true code at o a e = (refl, e)
 passed false code at o a e = absurd (cc)
 

@@ -7,3 +7,4 @@ pub mod Assigned
 pub mod Points
 pub mod Declared
 pub mod Calls
+pub mod Stored

@@ -4,6 +4,7 @@ ghost use Rattle.std.specs.Prelude.{◌≡◌, ◌≢◌, ℕ, ◌<◌, ◌^◌,
 ghost use Rattle.std.specs.List.{All};
 ghost use Rattle.ckc_syntax.specs.declared.tree.Name.{Name};
 ghost use Rattle.ckc_syntax.specs.declared.tree.Node.{Node-F, out-Node};
+ghost use Rattle.ckc_syntax.specs.declared.tree.Act.{Act-F, out-Act};
 ghost use Rattle.ckc_types.specs.declared.types.CType.{CType};
 ghost use Rattle.ckc_typed.specs.declared.typed.Note.{Note};
 ghost use Rattle.ckc_typed.specs.Trees.{NotedDecl, NotedExpr, NotedStmt};
@@ -16,7 +17,7 @@ ghost use Rattle.ckc_bounds_views.specs.Views.{view};
 ghost use Rattle.ckc_bounds_stores.specs.declared.values.Numbered.{Numbered};
 ghost use Rattle.ckc_bounds_stores.specs.Targets.{local_of};
 ghost use Rattle.ckc_bounds_stores.specs.Stores.{Placed, stores_of, numbered, stored_placed};
-ghost use Rattle.ckc_bounds_statements.specs.Paths.{Here, decl_judged};
+ghost use Rattle.ckc_bounds_statements.specs.Paths.{Here, decl_judged, path};
 ghost use Rattle.ckc_source.specs.declared.outcome.Place.TheVariants as place;
 ghost use Rattle.ckc_source.specs.declared.program.Shape.{Shape};
 ghost use Rattle.ckc_source.specs.Blocks.{Block};
@@ -32,6 +33,7 @@ ghost use Rattle.ckc_blame_contained.specs.Valuations.{Valuation, AreFacts, IsVa
 ghost use Rattle.ckc_blame_contained.specs.Ends.{HaveEnds};
 ghost use Rattle.ckc_blame_contained.specs.Given.{AreNumbersOf, StayTrue};
 ghost use Rattle.ckc_blame_given.specs.Planned.{ArePlanned};
+ghost use Rattle.ckc_blame_locals.specs.Stored.{AreAssignsJudged, AreStored};
 ghost use Rattle.ckc_blame_locals.specs.Written.{AreOne, IsFitting, IsReceived, IsWritten, IsStart, IsDeclared};
 
 /// The point after an assignment, or after those of a bundle, holds after what was planned is
@@ -101,4 +103,21 @@ pub fn calls_give_words()
         → is_pointer e.note.ctype ≡ false
         → (w ≢ 0 → AreNumbersOf v (capped from.fresh 1) ((view s.frame e).fresh at))
         → IsReceived s store v at t e from w }
+{}
+
+/// An assignment, and a bundle, whose step is judged at a point becomes assignments with both sides
+/// judged, one after another, which are judged as one and lead to the next point.
+pub fn steps_are_stored()
+    ensures assignment { (s : Setting) (here there : Here) (before after : NotedStmt)
+        (e f : NotedExpr) → here.counting ≡ false
+        → out-Act Name Note before.body ≡ Act-F.Assign e f
+        → (path before).judged s.frame s.head here ≡ Ok (after, there)
+        → AreAssignsJudged s here.at here.next (before ∷ []) (after ∷ [])
+        × AreStored s here (after ∷ []) there }
+    ensures bundle { (s : Setting) (here there : Here) (before after : NotedStmt)
+        (ss : List NotedStmt) → here.counting ≡ false
+        → out-Act Name Note before.body ≡ Act-F.Bundle ss
+        → (path before).judged s.frame s.head here ≡ Ok (after, there)
+        → (ts : List NotedStmt) × (out-Act Name Note after.body ≡ Act-F.Bundle ts)
+        × AreAssignsJudged s here.at here.next ss ts × AreStored s here ts there }
 {}
