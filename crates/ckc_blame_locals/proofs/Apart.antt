@@ -1,5 +1,5 @@
 -- Of assignments that are judged as one no two are to one local, and no right side names an earlier target.
-use Rattle.std.proofs.Common.{◌≡◌, refl, sym, ap, subst, ◌∙◌, ℕ, zero, suc, ◌==◌, Bool, true, false, List, [], ◌∷◌, ◌++◌, length, rules}
+use Rattle.std.proofs.Common.{◌≡◌, refl, sym, ap, subst, ◌∙◌, ℕ, zero, suc, ◌==◌, Bool, true, false, List, [], ◌∷◌, ◌++◌, length}
 use Rattle.std.specs.Prelude.{not, nat_le, ◌&&◌, if◌then◌else◌, slice_get, Option, None, Some}
 use Rattle.std.specs.List.{All, Contains, list_any}
 use Rattle.std.proofs.lemmas.Bool.{eq-eqb}
@@ -7,7 +7,7 @@ use Rattle.std.proofs.lemmas.List.Elements.{All-nil, All-cons, All-weaker, All-c
 use Rattle.ckc_base.specs.declared.places.Pos.{Pos}
 use Rattle.ckc_syntax.specs.declared.tree.Name.{Name}
 use Rattle.ckc_syntax.specs.declared.tree.Name.TheVariants as name
-use Rattle.ckc_syntax.specs.declared.tree.Node.{Node-F, out-Node, roll-Node, fold-roll-Node, the_lemmas}
+use Rattle.ckc_syntax.specs.declared.tree.Node.{Node-F, out-Node, fold-roll-Node}
 use Rattle.ckc_syntax.specs.declared.tree.Act.{Act-F, out-Act}
 use Rattle.ckc_typed.specs.declared.typed.Note.{Note}
 use Rattle.ckc_typed.specs.Trees.{NotedAct, NotedExpr, NotedLayer, NotedNode, NotedStmt}
@@ -17,9 +17,10 @@ use Rattle.ckc_bounds_known.proofs.Reaching.{and_cases}
 use Rattle.ckc_bounds_ranges.specs.Bundles.{local_target, Mention, limits_mention, node_mention, expr_mention, mention_of_node, mention, is_call, is_in_the_way, may_follow, names_earlier, target_behind, target_in, and_rest, all_follow}
 use Rattle.ckc_bounds_stores.specs.Targets.{local_in, local_of}
 use Rattle.ckc_bounds_stores.specs.Stores.{Placed, with_store, stores_of, numbered}
+use Rattle.ckc_blame_numbers.proofs.Types.{some_is, none_is_some}
 use Rattle.ckc_blame_contained.proofs.Tests.{left_of, right_of}
 use Rattle.ckc_blame_locals.specs.Written.{AreOne}
-use Rattle.ckc_blame_locals.proofs.Named.{holds_of, names_local, mentioned_node, mention_is}
+use Rattle.ckc_blame_locals.proofs.Named.{node_back, holds_of, names_local, mentioned_node, mention_is}
 
 -- A later assignment is to another local, and its right side does not name this one.
 pub record IsAfter (p q : Placed) : Type 0 where
@@ -32,9 +33,6 @@ AreApart [] = Unit {0}
 AreApart (p ∷ ps) = All (IsAfter p) ps × AreApart ps
 
 -- ---- targets
-
-node_back : (n : NotedNode) → roll-Node Name Note (out-Node Name Note n) ≡ n
-node_back n = search (rules, the_lemmas)
 
 node_mention_is : (n : NotedNode) → mention_of_node n ≡ node_mention (mentioned_node (out-Node Name Note n))
 node_mention_is n =
@@ -75,12 +73,6 @@ not_true false n e = absurd (cc)
 not_false : (b : Bool) → (b ≡ true → ⊥) → b ≡ false
 not_false true h = absurd (h refl)
 not_false false h = refl
-
-some_is : (a b : ℕ) → ◌≡◌ {A = Option ℕ} (Some a) (Some b) → a ≡ b
-some_is a b e = cc
-
-none_some : {P : Type 0} (k : ℕ) → ◌≡◌ {A = Option ℕ} None (Some k) → P
-none_some k e = absurd (cc)
 
 -- ---- bundles
 
@@ -148,7 +140,7 @@ module _ (frame : Frame) (at : State) where
       by : (o : Option ℕ) → local_of p.target ≡ o → All (IsAfter p) ps
       by None is =
           All-weaker (Contains ps) (IsAfter p)
-          (λ q c. record { target = λ k e f. none_some k (sym is ∙ e); right = λ k e. none_some k (sym is ∙ e) }) ps (All-contains_itself ps)
+          (λ q c. record { target = λ k e f. none_is_some k (sym is ∙ e); right = λ k e. none_is_some k (sym is ∙ e) }) ps (All-contains_itself ps)
       by (Some k) is =
           All-weaker (IsPast k) (IsAfter p) (λ q g. record {
             target = λ j e f. g.target (f ∙ ap (λ i. Some i) (some_is j k (sym e ∙ is)));

@@ -1,9 +1,9 @@
 -- What a call gives that gives no pointer is a word of which nothing more is known.
-use Rattle.std.proofs.Common.{◌≡◌, ◌≢◌, refl, sym, ap, ◌∙◌, ℕ, Bool, true, false, List, rules}
-use Rattle.std.specs.Prelude.{◌<◌, ◌^◌, if◌then◌else◌, Option, None, Some}
+use Rattle.std.proofs.Common.{◌≡◌, ◌≢◌, refl, sym, ap, ◌∙◌, ℕ, Bool, true, false, List}
+use Rattle.std.specs.Prelude.{◌<◌, ◌^◌, if◌then◌else◌, Option, None}
 use Rattle.ckc_linear.specs.declared.forms.Form.{Form}
 use Rattle.ckc_syntax.specs.declared.tree.Name.{Name}
-use Rattle.ckc_syntax.specs.declared.tree.Node.{Node-F, map-Node, out-Node, roll-Node, fold-roll-Node, the_lemmas}
+use Rattle.ckc_syntax.specs.declared.tree.Node.{Node-F, map-Node, out-Node, fold-roll-Node}
 use Rattle.ckc_types.specs.declared.types.CType.{CType}
 use Rattle.ckc_typed.specs.declared.typed.Note.{Note}
 use Rattle.ckc_typed.specs.Trees.{NotedExpr, NotedLayer, NotedLimits, NotedNode}
@@ -18,13 +18,12 @@ use Rattle.ckc_bounds_stores.specs.declared.values.Numbered.{Numbered}
 use Rattle.ckc_bounds_stores.specs.Values.{narrow, range_received, has_element}
 use Rattle.ckc_source.specs.Eval.{Store}
 use Rattle.ckc_blame_sound.specs.Settings.{Setting}
+use Rattle.ckc_blame_numbers.proofs.Types.{none_is_some}
 use Rattle.ckc_blame_contained.specs.Valuations.{Valuation}
 use Rattle.ckc_blame_contained.specs.Given.{memory_of, AreNumbersOf}
 use Rattle.ckc_blame_locals.specs.Written.{IsReceived}
+use Rattle.ckc_blame_locals.proofs.Named.{node_back}
 use Rattle.ckc_blame_locals.proofs.Given.{view_is, no_place, received_bare, ranged_bare}
-
-node_back : (n : NotedNode) → roll-Node Name Note (out-Node Name Note n) ≡ n
-node_back n = search (rules, the_lemmas)
 
 module _ (frame : Frame) (e : NotedExpr) (n : Name) (es : List NotedExpr) (is : out-Node Name Note e.node ≡ Node-F.Call n es) where
   abbrev viewed : NotedLayer → NodeOfViews
@@ -64,9 +63,6 @@ call_received s store v at t e first w n es is small bare fresh = record {
       fresh = fresh;
     };
   };
-  form = λ facts f all there. none_some f (sym (ap (in_type facts t) (no_form s.frame e n es is facts)) ∙ there);
+  form = λ facts f all there. none_is_some f (sym (ap (in_type facts t) (no_form s.frame e n es is facts)) ∙ there);
   bare = λ c. bare;
 }
-  where
-    none_some : {P : Type 0} (f : Form) → ◌≡◌ {A = Option Form} None (Some f) → P
-    none_some f e = absurd (cc)

@@ -1,6 +1,6 @@
 -- What a local has after a word is written to it.
 use Rattle.std.proofs.Common.{◌≡◌, refl, sym, ap, subst, ◌∙◌, ℕ, Bool, true, false, arith}
-use Rattle.std.specs.Prelude.{◌<◌, ◌^◌, ◌%◌, ◌&&◌, if◌then◌else◌, Option, None, Some}
+use Rattle.std.specs.Prelude.{◌<◌, ◌^◌, ◌%◌, ◌&&◌, if◌then◌else◌, None, Some}
 use Rattle.std.specs.Option.{option_or}
 use Rattle.ckc_base.specs.declared.arithmetic.Width.TheVariants.{Byte, Word}
 use Rattle.ckc_base.specs.Memory.{kept_part}
@@ -29,7 +29,7 @@ use Rattle.ckc_source.specs.Steps.{Write}
 use Rattle.ckc_build_values.specs.Kinds.{width_of}
 use Rattle.ckc_blame_sound.specs.Settings.{Setting}
 use Rattle.ckc_blame_sound.specs.Values.{IsWordOf}
-use Rattle.ckc_blame_numbers.proofs.Types.{wide_word, byte_word}
+use Rattle.ckc_blame_numbers.proofs.Types.{none_is_some, wide_word, byte_word}
 use Rattle.ckc_blame_contained.specs.Valuations.{Valuation}
 use Rattle.ckc_blame_contained.specs.Containment.{Memory, IsReadWithin, IsRanged}
 use Rattle.ckc_blame_contained.specs.Given.{memory_of, IsFrom, IsGiven, StayTrue}
@@ -57,10 +57,7 @@ module _ (frame : Frame) (e : NotedExpr) where
         let none : (view frame e).place first facts ≡ None =
         ap (λ (v : View). v.place first facts) view_is
         ∙ ap (λ b. if b then option_or ((view_of_node frame e.node).place e.note.ctype first facts) (own_place (view_of_node frame e.node) first) else None) bare in
-        none_some (sym none ∙ is)
-      where
-        none_some : ◌≡◌ {A = Option Form} None (Some f) → ⊥
-        none_some e = absurd (cc)
+        none_is_some f (sym none ∙ is)
 
     bare_range : (first fresh : ℕ) (at : State) → IsBare ((view frame e).range first fresh at)
     bare_range first fresh at =

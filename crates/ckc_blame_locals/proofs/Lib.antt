@@ -8,3 +8,4 @@ pub mod Points
 pub mod Declared
 pub mod Calls
 pub mod Stored
+pub mod Fitting

@@ -1,5 +1,5 @@
 -- The variable of the form of an integer is 0 or that of an integer local that the expression names.
-use Rattle.std.proofs.Common.{◌≡◌, ◌⊎◌, inl, inr, refl, sym, ap, subst, ◌∙◌, ℕ, ◌+◌, ◌==◌, Bool, true, false}
+use Rattle.std.proofs.Common.{◌≡◌, ◌⊎◌, inl, inr, refl, sym, ap, subst, ◌∙◌, ℕ, ◌+◌, ◌==◌, Bool, true, false, rules}
 use Rattle.std.specs.Prelude.{◌&&◌, if◌then◌else◌, ℤ, pos, ◌+ℤ◌, Option, None, Some}
 use Rattle.std.proofs.lemmas.Bool.{eq-eqb}
 use Rattle.ckc_types.specs.declared.types.CType.{CType}
@@ -7,7 +7,7 @@ use Rattle.ckc_linear.specs.declared.forms.Form.{Form}
 use Rattle.ckc_syntax.specs.declared.tree.Name.{Name}
 use Rattle.ckc_syntax.specs.declared.tree.Name.TheVariants as name
 use Rattle.ckc_syntax.specs.declared.tree.Limits.{Limits-F, map-Limits, roll-Limits}
-use Rattle.ckc_syntax.specs.declared.tree.Node.{Node-F, map-Node, roll-Node, fold-roll-Node}
+use Rattle.ckc_syntax.specs.declared.tree.Node.{Node-F, map-Node, roll-Node, fold-roll-Node, out-Node, the_lemmas}
 use Rattle.ckc_syntax.specs.declared.tree.Expr.{Expr-F, map-Expr, ind-Expr, roll-Expr, fold-roll-Expr}
 use Rattle.ckc_typed.specs.declared.environment.Constant.{Constant}
 use Rattle.ckc_typed.specs.declared.typed.Note.{Note}
@@ -42,6 +42,9 @@ abbrev pub Names : Type 0
 Names = ℕ → Bool
 
 -- ---- what is said of an expression by its layer
+
+pub node_back : (n : NotedNode) → roll-Node Name Note (out-Node Name Note n) ≡ n
+node_back n = search (rules, the_lemmas)
 
 abbrev pub mapped_node : {L M E : Type 0} → (NotedLimits → L) → (NotedNode → M) → (NotedExpr → E) → NotedLayer → Node-F Name Note L M E
 mapped_node {L} {M} {E} f g h = map-Node Name Note NotedLimits NotedNode NotedExpr L M E f g h

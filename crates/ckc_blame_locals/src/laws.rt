@@ -1,15 +1,19 @@
 //! What follows from the definitions alone, each the contract of a function that does nothing.
 
-ghost use Rattle.std.specs.Prelude.{◌≡◌, ◌≢◌, ℕ, ◌<◌, ◌^◌, false, List, [], ◌∷◌, Option, None, Ok};
-ghost use Rattle.std.specs.List.{All};
+ghost use Rattle.std.specs.Prelude.{◌≡◌, ◌≢◌, ◌⊎◌, ℕ, ◌<◌, ◌^◌, false, List, [], ◌∷◌, length, None, Some, Ok};
+ghost use Rattle.std.specs.List.{All, Contains};
 ghost use Rattle.ckc_syntax.specs.declared.tree.Name.{Name};
+ghost use Rattle.ckc_syntax.specs.declared.tree.Name.TheVariants as name;
 ghost use Rattle.ckc_syntax.specs.declared.tree.Node.{Node-F, out-Node};
 ghost use Rattle.ckc_syntax.specs.declared.tree.Act.{Act-F, out-Act};
 ghost use Rattle.ckc_types.specs.declared.types.CType.{CType};
 ghost use Rattle.ckc_typed.specs.declared.typed.Note.{Note};
 ghost use Rattle.ckc_typed.specs.Trees.{NotedDecl, NotedExpr, NotedStmt};
-ghost use Rattle.ckc_typed.specs.Types.{is_pointer};
+ghost use Rattle.ckc_typed.specs.declared.typed.Typed.{Typed};
+ghost use Rattle.ckc_typed.specs.Environment.{variable_declared};
+ghost use Rattle.ckc_typed.specs.Types.{is_pointer, type_written};
 ghost use Rattle.ckc_bounds_points.specs.declared.frame.Local.{Local};
+ghost use Rattle.ckc_bounds_points.specs.Frames.{local_at};
 ghost use Rattle.ckc_bounds_points.specs.Shown.{Known};
 ghost use Rattle.ckc_bounds_points.specs.Flow.{State};
 ghost use Rattle.ckc_bounds_views.specs.Parts.{capped};
@@ -22,12 +26,15 @@ ghost use Rattle.ckc_source.specs.declared.outcome.Place.TheVariants as place;
 ghost use Rattle.ckc_source.specs.declared.program.Shape.{Shape};
 ghost use Rattle.ckc_source.specs.Blocks.{Block};
 ghost use Rattle.ckc_source.specs.Eval.{Store};
+ghost use Rattle.ckc_source.specs.Code.{Function};
 ghost use Rattle.ckc_source.specs.States as states;
 ghost use Rattle.ckc_source.specs.Steps.{Write, store_of, writes, all_written};
 ghost use Rattle.ckc_build_values.specs.Kinds.{width_of};
+ghost use Rattle.ckc_blame_sound.specs.Bodies.{IsInBody};
 ghost use Rattle.ckc_blame_sound.specs.Points.{HoldsAt};
-ghost use Rattle.ckc_blame_sound.specs.Settings.{Setting};
+ghost use Rattle.ckc_blame_sound.specs.Settings.{Setting, IsFunction};
 ghost use Rattle.ckc_blame_sound.specs.Sound.{IsPlaced};
+ghost use Rattle.ckc_blame_texts.specs.Judged.{IsJudged};
 ghost use Rattle.ckc_blame_slots.specs.Limited.{store_with};
 ghost use Rattle.ckc_blame_contained.specs.Valuations.{Valuation, AreFacts, IsValuationOf};
 ghost use Rattle.ckc_blame_contained.specs.Ends.{HaveEnds};
@@ -120,4 +127,19 @@ pub fn steps_are_stored()
         → (path before).judged s.frame s.head here ≡ Ok (after, there)
         → (ts : List NotedStmt) × (out-Act Name Note after.body ≡ Act-F.Bundle ts)
         × AreAssignsJudged s here.at here.next ss ts × AreStored s here ts there }
+{}
+
+/// The assignments that a statement of the body of a function of a judged text becomes are typed, and
+/// so is a local that a statement there declares.
+pub fn statements_fit()
+    ensures assignments { (p : Typed) (s : Setting) (f : Function) (before : NotedStmt)
+        (befores afters : List NotedStmt) (at point : State) (fresh value first : ℕ) →
+        IsJudged p → IsFunction p s f → IsInBody s before
+        → (befores ≡ before ∷ []) ⊎ (out-Act Name Note before.body ≡ Act-F.Bundle befores)
+        → AreAssignsJudged s at fresh befores afters
+        → All (IsFitting s) (numbered s.frame point value first (stores_of afters)) }
+    ensures declaration { (p : Typed) (s : Setting) (f : Function) (d : NotedDecl) (k : ℕ) →
+        IsJudged p → IsFunction p s f → Contains s.variables (variable_declared d)
+        → d.name ≡ name.Local k → (k < length s.variables)
+        × ((l : Local) → local_at s.frame k ≡ Some l → l.ctype ≡ type_written d.ctype) }
 {}
