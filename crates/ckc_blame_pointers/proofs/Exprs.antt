@@ -71,7 +71,9 @@ use Rattle.ckc_blame_pointers.proofs.Loads.{integer_part, no_count}
 use Rattle.ckc_blame_slots.specs.Cells.{IsPart}
 use Rattle.ckc_blame_pointers.proofs.Addresses.{address_row, target_claims, index_claims}
 use Rattle.ckc_blame_pointers.proofs.Rows.{counted_pointer}
-use Rattle.ckc_blame_pointers.proofs.Arrows.{count_there, arrow_claims}
+use Rattle.ckc_blame_pointers.proofs.Arrows.{arrow_node}
+use Rattle.ckc_blame_pointers.proofs.Held.{held_claims}
+use Rattle.ckc_blame_pointers.proofs.Through.{target_structure}
 use Rattle.ckc_blame_pointers.proofs.Members.{member_behind}
 use Rattle.ckc_blame_pointers.proofs.Single.{single_claims}
 use Rattle.ckc_blame_pointers.proofs.Statics.{static_claims}
@@ -425,10 +427,8 @@ module _ (globals : Globals) (s : Setting) (agrees : Agrees globals s) (declares
 
         address : IsPointerArrow s store e.0 n note.ctype → Of e.0.note.ctype
         address node =
-            subst (λ x. IsNotStuck (NodeClaims s store entry here h note.ctype made) (evaluated store x))
-            (sym (ap (λ o. read_at s.text.layout note.ctype o (member_place s.text.layout tag n (target_place s.text.layout e.0.note.ctype place v)))
-            (count_there s store entry next ready here h e.0 n spot note.ctype node (viewed_type e.0) fresh (covered_few e.0 covered) inner are place v inside ranged)))
-            (arrow_claims s store entry next ready here h e.0 n spot note.ctype node (viewed_type e.0) fresh (covered_few e.0 covered) inner are place v inside ranged)
+            held_claims s store entry next ready here h (element_of e.0.note.ctype) note.ctype n node.member checked made (arrow_node s store here e.0 n spot note.ctype node.member (viewed_type e.0)) (target_place s.text.layout e.0.note.ctype place v)
+            (target_structure s store entry next ready here h e.0 node.member.tag node.member.struct fresh (covered_few e.0 covered) inner are v inside ranged node.through place)
 
         number : IsArrow s e.0 n note.ctype → Of e.0.note.ctype
         number node =

@@ -26,4 +26,7 @@ pub mod Addresses
 pub mod Own
 pub mod Pointers
 pub mod Structures
+pub mod Reach
+pub mod Through
+pub mod Held
 pub mod Arrows

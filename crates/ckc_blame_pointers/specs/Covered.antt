@@ -1,12 +1,12 @@
 -- The expressions of which it is said what they come to, and what is taken for granted of the text around them.
-use Rattle.std.specs.Prelude.{◌≡◌, ◌⊎◌, ◌+◌, ◌<◌, ◌^◌, ℕ, Bool, false, true, List, slice_get, ℤ, Option, None, Some}
+use Rattle.std.specs.Prelude.{◌≡◌, ◌⊎◌, ◌+◌, ◌<◌, ◌^◌, ℕ, Bool, false, true, List, slice_get, Option, None, Some}
 use Rattle.std.specs.List.{Contains}
 use Rattle.ckc_types.specs.declared.types.Kind.{Kind}
 use Rattle.ckc_types.specs.declared.types.Kind.TheVariants as kind
 use Rattle.ckc_types.specs.declared.types.CType.{CType, CType-F, out-CType}
 use Rattle.ckc_types.specs.declared.types.MemberShape.{MemberShape}
+use Rattle.ckc_types.specs.declared.types.MemberBounds.{MemberBounds}
 use Rattle.ckc_types.specs.declared.types.MemberBounds.TheVariants as mbounds
-use Rattle.ckc_source.specs.declared.expr.Count.TheVariants as count
 use Rattle.ckc_linear.specs.declared.forms.Base.{Base}
 use Rattle.ckc_linear.specs.declared.forms.Base.TheVariants as base
 use Rattle.ckc_linear.specs.declared.forms.Form.{Form}
@@ -30,7 +30,7 @@ use Rattle.ckc_bounds_points.specs.declared.frame.Bounds.TheVariants as bounds
 use Rattle.ckc_bounds_points.specs.declared.frame.Local.{Local}
 use Rattle.ckc_bounds_points.specs.Frames.{local_at}
 use Rattle.ckc_bounds_declared.specs.Written.{bounds_of_kind}
-use Rattle.ckc_bounds_views.specs.Fresh.{member_bounds}
+use Rattle.ckc_bounds_views.specs.Fresh.{member_bounds, named_type}
 use Rattle.ckc_bounds_views.specs.Judged.{is_counted_kind, is_declared_object}
 use Rattle.ckc_bounds_views.specs.Views.{view}
 use Rattle.ckc_source.specs.Eval.{Store}
@@ -176,22 +176,33 @@ pub record IsArrow (s : Setting) (e : NotedExpr) (n : Name) (t : CType) : Type 0
   pub through : (is_counted_kind (kind_of e.note.ctype) ≡ true)
       ⊎ ((kind_of e.note.ctype ≡ Some kind.One) × DeclareOnes s)
 
--- what else `->` reads: a `_Ptr` or an `_Nt_array_ptr` without bounds; the pointers that memory holds are in bounds
-pub record IsPointerArrow (s : Setting) (store : Store) (e : NotedExpr) (n : Name) (t : CType) : Type 0 where
+-- What the bounds of a member name is an integer member of the same structure.
+abbrev pub NamesInteger : Setting → ℕ → MemberBounds → Type 0
+NamesInteger s tag (mbounds.Named k c) =
+    (m : MemberShape) × (member_named s.text.layout tag (name.Member k) ≡ Some m) × (is_integer m.ctype ≡ true)
+    × (named_type s.frame.structs tag (mbounds.Named k c) ≡ Some m.ctype)
+NamesInteger s tag b = Unit {0}
+
+-- a pointer that is a member of a structure of a type, as it is judged and as it is read; a `_Ptr` has no bounds, and the
+-- pointers that memory holds are in bounds
+pub record IsPointerMember (s : Setting) (store : Store) (u t : CType) (n : Name) : Type 0 where
   pub tag : ℕ
-  pub struct : out-CType (element_of e.note.ctype) ≡ CType-F.Struct tag
+  pub struct : out-CType u ≡ CType-F.Struct tag
   pub number : ℕ
   pub named : n ≡ name.Member number
   pub member : MemberShape
   pub found : member_named s.text.layout tag n ≡ Some member
   pub type : member.ctype ≡ t
   pub pointer : is_pointer t ≡ true
-  pub elements : ℤ
-  pub counted : count_of_kind (kind_of t) ≡ Some (count.Fixed elements)
-  pub bare : member.bounds ≡ mbounds.Nothing
-  pub judged : member_bounds s.frame.structs (record { tag = tag; number = number }) ≡ mbounds.Nothing
-  pub through : (kind_of e.note.ctype ≡ Some kind.Arr) ⊎ ((kind_of e.note.ctype ≡ Some kind.One) × DeclareOnes s)
+  pub judged : member_bounds s.frame.structs (record { tag = tag; number = number }) ≡ member.bounds
+  pub single : kind_of t ≡ Some kind.One → member.bounds ≡ mbounds.Nothing
+  pub counts : NamesInteger s tag member.bounds
   pub filled : AreFilled s.text store
+
+-- what else `->` reads: a pointer, through an `_Array_ptr` or a `_Ptr`
+pub record IsPointerArrow (s : Setting) (store : Store) (e : NotedExpr) (n : Name) (t : CType) : Type 0 where
+  pub member : IsPointerMember s store (element_of e.note.ctype) t n
+  pub through : (kind_of e.note.ctype ≡ Some kind.Arr) ⊎ ((kind_of e.note.ctype ≡ Some kind.One) × DeclareOnes s)
 
 -- `*p` and `p[e]`, of which `&` gives the address
 abbrev pub IsAddressed : NotedLayer → Type 0
