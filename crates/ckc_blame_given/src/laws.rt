@@ -1,0 +1,1 @@
+//! Nothing follows here: the definitions are cited by the crates above.

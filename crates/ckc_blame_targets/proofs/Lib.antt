@@ -1,0 +1,4 @@
+pub mod Layers
+pub mod Reached
+pub mod Hits
+pub mod Places

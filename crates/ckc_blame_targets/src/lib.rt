@@ -1,0 +1,4 @@
+//! Where the targets of judged assignments lie, and what writes to them keep.
+#![tactic(auto)]
+
+mod laws;
