@@ -1,6 +1,6 @@
 -- The element that an access goes to through a checked pointer lies in a true range.
-use Rattle.std.proofs.Common.{◌≡◌, ◌⊎◌, ⊎_elim, inl, inr, refl, sym, ap, subst, ◌∙◌, ℕ, Bool, true, false, List, arith}
-use Rattle.std.specs.Prelude.{◌+◌, ◌<◌, ◌^◌, ◌==◌, if◌then◌else◌, ℤ, pos, Option, None, Some, Result, Ok, Err}
+use Rattle.std.proofs.Common.{◌≡◌, ◌⊎◌, ⊎_elim, inl, inr, refl, sym, ap, subst, ◌∙◌, ℕ, true, false, List}
+use Rattle.std.specs.Prelude.{◌+◌, ◌<◌, ◌^◌, pos, Option, None, Some, Result, Ok, Err}
 use Rattle.ckc_base.specs.declared.arithmetic.Width.{Width}
 use Rattle.ckc_base.specs.declared.places.Pos.{Pos}
 use Rattle.ckc_types.specs.declared.types.Kind.{Kind}

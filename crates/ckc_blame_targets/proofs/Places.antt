@@ -1,6 +1,6 @@
 -- What an access to an element of a block or a member of it goes to is a target in memory.
 use Rattle.std.proofs.Common.{◌≡◌, ◌⊎◌, ⊎_elim, inl, inr, refl, sym, ap, subst, ◌∙◌, ℕ, Bool, true, false, List, [], ◌∷◌, arith}
-use Rattle.std.specs.Prelude.{◌+◌, ◌*◌, ◌-◌, ◌<◌, ◌^◌, ◌==◌, ◌&&◌, ◌||◌, not, if◌then◌else◌, find, pos, slice_get, Option, None, Some, Result, Ok, Err}
+use Rattle.std.specs.Prelude.{◌+◌, ◌*◌, ◌-◌, ◌<◌, ◌^◌, ◌==◌, ◌&&◌, ◌||◌, not, if◌then◌else◌, find, pos, slice_get, Option, None, Some, Ok}
 use Rattle.std.specs.List.{All, Contains, list_any}
 use Rattle.std.specs.Option.{option_map}
 use Rattle.std.proofs.lemmas.Bool.{and_parts, eqb-true}
@@ -37,13 +37,13 @@ use Rattle.ckc_source.specs.declared.outcome.Range.{Range}
 use Rattle.ckc_source.specs.declared.outcome.Value.{Value}
 use Rattle.ckc_source.specs.declared.program.Object.{Object}
 use Rattle.ckc_source.specs.declared.program.Shape.{Shape}
-use Rattle.ckc_source.specs.Blocks.{Block, block_of, end_of}
+use Rattle.ckc_source.specs.Blocks.{Block, end_of}
 use Rattle.ckc_source.specs.Eval.{Store, stops, place_in}
 use Rattle.ckc_source.specs.Runs.{is_within, is_in_block, is_in_member, member_runs, is_in, is_true}
-use Rattle.ckc_source.specs.Steps.{aims_at, allowed, refuses, terminator_at}
+use Rattle.ckc_source.specs.Steps.{aims_at, allowed, terminator_at}
 use Rattle.ckc_build_values.specs.Kinds.{width_of, count_of_kind, pointee_of}
 use Rattle.ckc_build_values.specs.Members.{offset_of}
-use Rattle.ckc_build_values.specs.Names.{count_declared, count_of_static, limits_declared}
+use Rattle.ckc_build_values.specs.Names.{count_declared, limits_declared}
 use Rattle.ckc_build_elaborate.specs.Objects.{objects_elaborated}
 use Rattle.ckc_build_elaborate.specs.Shapes.{shapes_elaborated}
 use Rattle.ckc_blame_sound.specs.Settings.{Setting}
@@ -59,7 +59,7 @@ use Rattle.ckc_blame_contained.specs.Elements.{AreCounted}
 use Rattle.ckc_blame_pointers.specs.Covered.{IsSoundStore}
 use Rattle.ckc_blame_pointers.proofs.Structures.{IsWholeElement, whole_element}
 use Rattle.ckc_blame_pointers.proofs.Truths.{either}
-use Rattle.ckc_blame_given.specs.Planned.{IsPartTarget, IsElementTarget, IsRunTarget, IsMemberTarget, IsMemoryTarget, IsTarget}
+use Rattle.ckc_blame_given.specs.Planned.{IsPartTarget, IsMemoryTarget, IsTarget}
 use Rattle.ckc_blame_targets.specs.Targets.{KeepRunsFree, begin_of, LiesIn, GoesThere, ComesTo}
 use Rattle.ckc_blame_targets.proofs.Hits.{IsHit}
 use Rattle.ckc_blame_targets.proofs.Reached.{IsElementReached, IsRunReached, scalar_reached}

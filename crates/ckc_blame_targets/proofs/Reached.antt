@@ -1,10 +1,9 @@
 -- An integer or a pointer that a true range reaches is an element of a block, or a member that takes part in no bounds.
 use Rattle.std.proofs.Common.{◌≡◌, ◌⊎◌, ⊎_elim, inl, inr, refl, sym, ap, subst, ◌∙◌, ℕ, zero, suc, ◌+◌, Bool, true, false, List, [], ◌∷◌, ◌++◌, arith}
-use Rattle.std.specs.Prelude.{◌*◌, ◌==◌, ◌<◌, ◌&&◌, ◌||◌, not, if◌then◌else◌, nat_le, slice_get, Option, None, Some}
+use Rattle.std.specs.Prelude.{◌*◌, ◌==◌, ◌<◌, ◌&&◌, ◌||◌, not, nat_le, slice_get, Option, None, Some}
 use Rattle.std.specs.List.{All, Contains, list_any}
 use Rattle.std.proofs.lemmas.Bool.{and_parts}
 use Rattle.std.proofs.lemmas.List.Elements.{All-nil, All-cons, All-contains, Contains-append_right}
-use Rattle.ckc_base.specs.declared.arithmetic.Width.{Width}
 use Rattle.ckc_types.specs.declared.types.CType.{CType, CType-F, out-CType}
 use Rattle.ckc_types.specs.declared.types.MemberShape.{MemberShape}
 use Rattle.ckc_types.specs.declared.types.StructShape.{StructShape}
@@ -16,7 +15,6 @@ use Rattle.ckc_typed.specs.Constants.{size_of}
 use Rattle.ckc_typed.specs.Types.{is_scalar}
 use Rattle.ckc_source.specs.declared.expr.Pointee.{Pointee}
 use Rattle.ckc_source.specs.declared.program.MemberRun.{MemberRun}
-use Rattle.ckc_source.specs.declared.program.Shape.{Shape}
 use Rattle.ckc_source.specs.Blocks.{Block, end_of}
 use Rattle.ckc_source.specs.Runs.{is_within, is_in_block, is_at, is_in_some_element, is_in_member, runs_of, runs_in, member_runs, is_in, is_true}
 use Rattle.ckc_build_values.specs.Kinds.{width_of}
