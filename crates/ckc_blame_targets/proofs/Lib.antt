@@ -5,3 +5,5 @@ pub mod Places
 pub mod Statics
 pub mod Pointers
 pub mod Aims
+pub mod Kept
+pub mod Runs
