@@ -7,3 +7,5 @@ pub mod Pointers
 pub mod Aims
 pub mod Kept
 pub mod Runs
+pub mod Members
+pub mod Filled

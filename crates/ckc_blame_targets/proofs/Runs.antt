@@ -1,6 +1,6 @@
 -- The pointers in memory may be read after an assignment to a member that takes part in no bounds.
 use Rattle.std.proofs.Common.{◌≡◌, ◌≢◌, ◌⊎◌, ⊎_elim, inl, inr, ℕ, ◌+◌, ◌*◌, ◌==◌, ◌<◌, refl, sym, ◌∙◌, ap, subst, List, [], ◌∷◌, ◌++◌, arith}
-use Rattle.std.specs.Prelude.{Bool, true, false, not, ◌&&◌, ◌||◌, pos, if◌then◌else◌, slice_get, Option, None, Some, Ok}
+use Rattle.std.specs.Prelude.{Bool, true, false, not, ◌||◌, pos, if◌then◌else◌, slice_get, Option, None, Some, Ok}
 use Rattle.std.specs.List.{Contains, flat_map, list_any}
 use Rattle.std.proofs.lemmas.Bool.{and_parts, eq-eqb, eqb-true}
 use Rattle.std.proofs.lemmas.List.Elements.{All-contains}
@@ -22,7 +22,6 @@ use Rattle.ckc_typed.specs.Types.{is_char_form, kind_of, kind_in}
 use Rattle.ckc_bounds_points.specs.declared.frame.Bounds.{Bounds}
 use Rattle.ckc_bounds_points.specs.Flow.{State}
 use Rattle.ckc_bounds_points.specs.Forms.{base_form}
-use Rattle.ckc_bounds_declared.specs.Written.{is_integer_member}
 use Rattle.ckc_bounds_views.specs.Views.{view}
 use Rattle.ckc_bounds_stores.specs.Stores.{Placed, stored_placed}
 use Rattle.ckc_bounds_stores.specs.Targets.{local_of, memory_bounds}
@@ -60,7 +59,7 @@ use Rattle.ckc_blame_contained.proofs.Spared.{pair_known}
 use Rattle.ckc_blame_contained.proofs.Tests.{right_of}
 use Rattle.ckc_blame_given.specs.Planned.{IsRunTarget}
 
-cancel : (n a b : ℕ) → n + a ≡ n + b → a ≡ b
+pub cancel : (n a b : ℕ) → n + a ≡ n + b → a ≡ b
 cancel n a b e = omega arith
 
 -- a pointer with a number of elements is a word

@@ -3,4 +3,4 @@
 
 mod laws;
 
-pub use laws::targets_aim;
+pub use laws::{memory_stays_filled, targets_aim};
