@@ -9,3 +9,4 @@ pub mod Declared
 pub mod Calls
 pub mod Stored
 pub mod Fitting
+pub mod Plans

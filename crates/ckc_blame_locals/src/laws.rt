@@ -26,9 +26,9 @@ ghost use Rattle.ckc_source.specs.declared.outcome.Place.TheVariants as place;
 ghost use Rattle.ckc_source.specs.declared.program.Shape.{Shape};
 ghost use Rattle.ckc_source.specs.Blocks.{Block};
 ghost use Rattle.ckc_source.specs.Eval.{Store};
-ghost use Rattle.ckc_source.specs.Code.{Function};
+ghost use Rattle.ckc_source.specs.Code.{Function, Target, Right};
 ghost use Rattle.ckc_source.specs.States as states;
-ghost use Rattle.ckc_source.specs.Steps.{Write, store_of, writes, all_written};
+ghost use Rattle.ckc_source.specs.Steps.{Write, Planned, planned, store_of, writes, all_written};
 ghost use Rattle.ckc_build_values.specs.Kinds.{width_of};
 ghost use Rattle.ckc_blame_sound.specs.Bodies.{IsInBody};
 ghost use Rattle.ckc_blame_sound.specs.Points.{HoldsAt};
@@ -142,4 +142,13 @@ pub fn statements_fit()
         IsJudged p → IsFunction p s f → Contains s.variables (variable_declared d)
         → d.name ≡ name.Local k → (k < length s.variables)
         × ((l : Local) → local_at s.frame k ≡ Some l → l.ctype ≡ type_written d.ctype) }
+{}
+
+/// What assignments are going to write is planned in a state that stays as it is but for blocks that
+/// it makes, so that each range that was true is true.
+pub fn plans_make_blocks()
+    ensures { (shapes : List Shape) (assigns : List (Target × Right)) (before : states.State)
+        (p : Planned) → planned shapes before assigns ≡ Ok p
+        → (p.state ≡ record before { blocks = p.state.blocks; next = p.state.next })
+        × StayTrue (store_of shapes before) (store_of shapes p.state) }
 {}

@@ -4,6 +4,6 @@
 mod laws;
 
 pub use laws::{
-    assignments_lead_on, calls_give_words, declarations_lead_on, results_lead_on, statements_fit,
-    steps_are_stored,
+    assignments_lead_on, calls_give_words, declarations_lead_on, plans_make_blocks,
+    results_lead_on, statements_fit, steps_are_stored,
 };
