@@ -48,8 +48,8 @@ pub fn expressions_give()
         (evaluated store (expr_elaborated s.text s.variables literals after)) }
 {}
 
-/// The range of an expression without its widenings begins as it does with them, and ends at the same
-/// base.
+/// The range of an expression without its widenings begins as it does with them, and ends at the
+/// same base.
 pub fn ranges_begin_alike()
     ensures { (frame : Frame) (e : NotedExpr) (first fresh : ℕ) (at : State) → IsNarrowed
         ((view frame e).range first fresh at) ((view frame e).range first fresh (narrow at)) }
@@ -74,6 +74,7 @@ pub fn words_go_to_places()
         (v : Valuation) (e : NotedExpr) (from : Numbered) (t : CType) (n : ℕ) (facts : Known)
         (f : Form) → IsTyped globals s e → is_raw_kind (kind_of e.note.ctype) ≡ false
         → converts t e ≡ true → is_allocation e ≡ false → Gives s store v at e from n
-        → v.number 0 ≡ pos 0 → AreFacts v facts → in_type facts t ((view s.frame e).form facts) ≡ Some f
+        → v.number 0 ≡ pos 0 → AreFacts v facts
+        → in_type facts t ((view s.frame e).form facts) ≡ Some f
         → number_of v.number f ≡ number_kept t n }
 {}
