@@ -10,8 +10,8 @@ use Rattle.ckc_blame_sound.specs.Bodies.{AreFresh}
 use Rattle.ckc_blame_contained.specs.Valuations.{Valuation, IsValuationOf}
 use Rattle.ckc_blame_given.specs.Gives.{GivesOn}
 
--- An expression gives a word at a point, whatever numbers its values and its fresh variables begin with, if there is room
--- for them, and whatever is known of those before.
+-- An expression gives a word at a point, whatever numbers its values and its fresh variables begin with, if there is
+-- room for them, and whatever is known of those before.
 abbrev pub GivesAt : Setting → Store → State → NotedExpr → ℕ → Type 0
 GivesAt s store at e n =
     (from : Numbered) (before : Valuation) → from.value + (view s.frame e).values + 1 < 2 ^ 32
