@@ -5,3 +5,6 @@ pub mod Statics
 pub mod StaticBounds
 pub mod Told
 pub mod StaticKinds
+pub mod Small
+pub mod Tallies
+pub mod Values

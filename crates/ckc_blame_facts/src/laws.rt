@@ -1,10 +1,15 @@
 //! What follows from the definitions alone, each the contract of a function that does nothing.
 
-ghost use Rattle.std.specs.Prelude.{◌≡◌, ℕ, true, None, Some, slice_get};
+ghost use Rattle.std.specs.Prelude.{◌≡◌, ◌<◌, ◌≤◌, ℕ, length, true, None, Some, slice_get};
 ghost use Rattle.ckc_types.specs.declared.types.CType.{CType};
 ghost use Rattle.ckc_types.specs.declared.types.Kind.{Kind};
 ghost use Rattle.ckc_syntax.specs.declared.tree.Name.TheVariants as name;
+ghost use Rattle.ckc_syntax_limits.specs.Marks.{is_node, marks_of_expr};
+ghost use Rattle.ckc_syntax_limits.specs.Small.{Small, how_many};
 ghost use Rattle.ckc_typed.specs.declared.typed.Typed.{Typed};
+ghost use Rattle.ckc_typed.specs.Trees.{NotedExpr};
+ghost use Rattle.ckc_bounds_points.specs.declared.frame.Frame.{Frame};
+ghost use Rattle.ckc_bounds_views.specs.Views.{view};
 ghost use Rattle.ckc_typed.specs.Environment.{type_of_name};
 ghost use Rattle.ckc_typed.specs.Types.{is_integer, is_pointer};
 ghost use Rattle.ckc_bounds_views.specs.Judged.{is_counted_kind};
@@ -47,4 +52,13 @@ pub fn statics_are_told()
     ensures pointers { (s : Setting) (store : Store) (t : CType) (k : ℕ) (w : IsStatic s t k) →
         w.object.array ≡ None → is_pointer t ≡ true → w.decl.bounds ≡ None
         → AreFilled s.text store → IsStaticPointer s store t k }
+{}
+
+/// A function of a text that keeps the limits of a text has fewer than 1,024 variables. An expression has at most as
+/// many values as nodes, of which such a function has at most 1,000.
+pub fn functions_are_small()
+    ensures locals { (p : Typed) (s : Setting) (f : Function) (j : IsJudged p) → Small j.named.tree
+        → IsFunction p s f → length s.variables < 1024 }
+    ensures values { (frame : Frame) (e : NotedExpr) →
+        (view frame e).values ≤ how_many is_node (marks_of_expr e) }
 {}
