@@ -17,7 +17,7 @@ use Rattle.ckc_source.specs.Eval.{Store}
 use Rattle.ckc_source.specs.Steps.{Write}
 use Rattle.ckc_build_values.specs.Kinds.{width_of}
 use Rattle.ckc_blame_sound.specs.Settings.{Setting}
-use Rattle.ckc_blame_contained.specs.Valuations.{Valuation}
+use Rattle.ckc_blame_sound.specs.Valuations.{Valuation}
 use Rattle.ckc_blame_contained.specs.Given.{IsGiven, IsAssigned, StayTrue}
 use Rattle.ckc_blame_contained.proofs.Faults.{Good, unless_none}
 use Rattle.ckc_blame_locals.specs.Written.{IsLocalWritten, IsWritten, AreWritten}

@@ -28,7 +28,7 @@ use Rattle.ckc_build_values.specs.Kinds.{width_of, integer_of}
 use Rattle.ckc_blame_sound.specs.Settings.{Setting}
 use Rattle.ckc_blame_sound.specs.Values.{value, value_in, number_of, AreTrue, HoldWords, IsWordOf}
 use Rattle.ckc_blame_sound.proofs.Flow.{facts_assigned_hold, integer_value, variable_value}
-use Rattle.ckc_blame_contained.specs.Valuations.{Valuation, AreFacts, IsValuationOf}
+use Rattle.ckc_blame_sound.specs.Valuations.{Valuation, AreFacts, IsValuationOf}
 use Rattle.ckc_blame_contained.specs.Elements.{number_kept}
 use Rattle.ckc_blame_contained.proofs.Faults.{one_wide}
 use Rattle.ckc_blame_locals.specs.Written.{IsReceived, IsWritten, AreWritten}

@@ -30,7 +30,7 @@ use Rattle.ckc_build_values.specs.Kinds.{width_of}
 use Rattle.ckc_blame_sound.specs.Settings.{Setting}
 use Rattle.ckc_blame_sound.specs.Values.{IsWordOf}
 use Rattle.ckc_blame_numbers.proofs.Types.{none_is_some, wide_word, byte_word}
-use Rattle.ckc_blame_contained.specs.Valuations.{Valuation}
+use Rattle.ckc_blame_sound.specs.Valuations.{Valuation}
 use Rattle.ckc_blame_contained.specs.Containment.{Memory, IsReadWithin, IsRanged}
 use Rattle.ckc_blame_contained.specs.Given.{memory_of, IsFrom, IsGiven, StayTrue}
 use Rattle.ckc_blame_contained.proofs.Kept.{reads_stay}

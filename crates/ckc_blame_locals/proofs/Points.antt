@@ -19,7 +19,7 @@ use Rattle.ckc_blame_sound.specs.Settings.{Setting}
 use Rattle.ckc_blame_sound.specs.Values.{AreTrue, HoldWords}
 use Rattle.ckc_blame_sound.specs.Points.{AreBounded, HoldsAt}
 use Rattle.ckc_blame_sound.specs.Sound.{IsPlaced}
-use Rattle.ckc_blame_contained.specs.Valuations.{Valuation, AreFacts, IsValuationOf}
+use Rattle.ckc_blame_sound.specs.Valuations.{Valuation, AreFacts, IsValuationOf}
 use Rattle.ckc_blame_contained.specs.Ends.{HaveEnds}
 use Rattle.ckc_blame_contained.specs.Given.{IsAssigned, AreAssigned, StayTrue}
 use Rattle.ckc_blame_contained.proofs.Faults.{Good, good}

@@ -24,7 +24,7 @@ use Rattle.ckc_source.specs.Steps.{Write}
 use Rattle.ckc_build_values.specs.Kinds.{width_of}
 use Rattle.ckc_blame_sound.specs.Settings.{Setting}
 use Rattle.ckc_blame_sound.specs.Values.{number_of}
-use Rattle.ckc_blame_contained.specs.Valuations.{Valuation, AreFacts}
+use Rattle.ckc_blame_sound.specs.Valuations.{Valuation, AreFacts}
 use Rattle.ckc_blame_contained.specs.Given.{memory_of, IsFrom, IsUnnamed}
 use Rattle.ckc_blame_contained.specs.Elements.{number_kept}
 

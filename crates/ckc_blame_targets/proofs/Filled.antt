@@ -40,7 +40,7 @@ use Rattle.ckc_blame_slots.proofs.Places.{element_between}
 use Rattle.ckc_blame_slots.proofs.Written.{KeepsAll, all_keep, laid}
 use Rattle.ckc_blame_contained.specs.Elements.{IsStructure, NameIntegerMembers}
 use Rattle.ckc_blame_contained.specs.Given.{memory_of, IsFrom}
-use Rattle.ckc_blame_contained.specs.Valuations.{Valuation, AreFacts}
+use Rattle.ckc_blame_sound.specs.Valuations.{Valuation, AreFacts}
 use Rattle.ckc_blame_contained.proofs.Alone.{element_filled}
 use Rattle.ckc_blame_contained.proofs.Spared.{members_filled}
 use Rattle.ckc_blame_given.specs.Planned.{IsPartTarget, IsMemberTarget, IsMemoryTarget, IsTarget, IsLocalTarget, IsPlanned, ArePlanned}

@@ -16,7 +16,7 @@ use Rattle.ckc_source.specs.declared.program.Shape.{Shape}
 use Rattle.ckc_source.specs.Blocks.{Block}
 use Rattle.ckc_source.specs.Runs.{is_true}
 use Rattle.ckc_blame_slots.proofs.Filled.{same_reads}
-use Rattle.ckc_blame_contained.specs.Valuations.{Valuation, form_address}
+use Rattle.ckc_blame_sound.specs.Valuations.{Valuation, form_address}
 use Rattle.ckc_blame_contained.specs.Containment.{Memory, IsReadBetween, IsReadWithin}
 use Rattle.ckc_blame_contained.specs.Given.{IsFrom}
 

@@ -30,7 +30,7 @@ use Rattle.ckc_blame_slots.specs.Cells.{AreSound, HaveOwnNames}
 use Rattle.ckc_blame_slots.specs.Writes.{AreElsewhere, IsElsewhere}
 use Rattle.ckc_blame_contained.specs.Elements.{IsStructure, number_kept, AreTargetsWritten, IsTargetWritten, AreWrittenOnce, IsLast}
 use Rattle.ckc_blame_contained.specs.Given.{memory_of, IsFrom}
-use Rattle.ckc_blame_contained.specs.Valuations.{Valuation, AreFacts}
+use Rattle.ckc_blame_sound.specs.Valuations.{Valuation, AreFacts}
 use Rattle.ckc_blame_contained.proofs.Placed.{members_differ}
 use Rattle.ckc_blame_contained.proofs.Shapes.{HasMember, member_there}
 use Rattle.ckc_blame_contained.proofs.Tests.{left_of, right_of}

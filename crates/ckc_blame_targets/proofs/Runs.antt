@@ -50,7 +50,7 @@ use Rattle.ckc_blame_contained.specs.Containment.{IsReadBetween}
 use Rattle.ckc_blame_contained.specs.Elements.{AreCounted, IsStructure, NameIntegerMembers}
 use Rattle.ckc_blame_contained.specs.Given.{memory_of, IsFrom}
 use Rattle.ckc_blame_contained.specs.Memory.{IsMemberGiven}
-use Rattle.ckc_blame_contained.specs.Valuations.{Valuation, AreFacts}
+use Rattle.ckc_blame_sound.specs.Valuations.{Valuation, AreFacts}
 use Rattle.ckc_blame_contained.proofs.Faults.{good}
 use Rattle.ckc_blame_contained.proofs.Memory.{memory_read, member_counted}
 use Rattle.ckc_blame_contained.proofs.Placed.{member_part, members_differ, member_read}

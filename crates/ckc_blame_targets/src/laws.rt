@@ -25,7 +25,7 @@ ghost use Rattle.ckc_blame_slots.specs.Cells.{AreSound, HaveOwnNames};
 ghost use Rattle.ckc_blame_slots.specs.Limited.{AreSlotParts, store_with};
 ghost use Rattle.ckc_blame_slots.specs.Writes.{AreCellWrites};
 ghost use Rattle.ckc_blame_contained.specs.Elements.{NameIntegerMembers};
-ghost use Rattle.ckc_blame_contained.specs.Valuations.{Valuation, AreFacts};
+ghost use Rattle.ckc_blame_sound.specs.Valuations.{Valuation, AreFacts};
 ghost use Rattle.ckc_blame_numbers.specs.Typed.{IsTyped, Agrees};
 ghost use Rattle.ckc_blame_pointers.specs.Covered.{DeclareLocals, IsSoundStore};
 ghost use Rattle.ckc_blame_given.specs.Planned.{ArePlanned};
