@@ -9,3 +9,4 @@ pub mod Kept
 pub mod Runs
 pub mod Members
 pub mod Filled
+pub mod Bundles

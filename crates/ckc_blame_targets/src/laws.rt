@@ -1,5 +1,6 @@
 //! What follows from the definitions alone, each the contract of a function that does nothing.
 
+ghost use Rattle.std.specs.List.{Contains};
 ghost use Rattle.std.specs.Prelude.{◌≡◌, ℕ, ◌<◌, ◌^◌, true, pos, List, ◌++◌, Ok};
 ghost use Rattle.ckc_bounds_points.specs.declared.frame.Bounds.{Bounds};
 ghost use Rattle.ckc_bounds_points.specs.Flow.{State};
@@ -7,11 +8,13 @@ ghost use Rattle.ckc_syntax.specs.declared.tree.Name.{Name};
 ghost use Rattle.ckc_syntax.specs.declared.tree.Node.{out-Node};
 ghost use Rattle.ckc_typed.specs.declared.environment.Globals.{Globals};
 ghost use Rattle.ckc_typed.specs.declared.typed.Note.{Note};
-ghost use Rattle.ckc_typed.specs.Trees.{NotedExpr};
+ghost use Rattle.ckc_typed.specs.Trees.{NotedExpr, NotedStmt};
 ghost use Rattle.ckc_typed.specs.Types.{is_scalar};
+ghost use Rattle.ckc_bounds_ranges.specs.Bundles.{is_bundle};
 ghost use Rattle.ckc_bounds_views.specs.Views.{view};
 ghost use Rattle.ckc_bounds_statements.specs.Paths.{Here};
-ghost use Rattle.ckc_bounds_stores.specs.Stores.{Placed, stored_placed};
+ghost use Rattle.ckc_bounds_stores.specs.Stores as stores;
+ghost use Rattle.ckc_bounds_stores.specs.Stores.{Placed, numbered, stores_of, stored_placed};
 ghost use Rattle.ckc_source.specs.Blocks.{Block};
 ghost use Rattle.ckc_source.specs.Eval.{Store};
 ghost use Rattle.ckc_source.specs.States as states;
@@ -63,4 +66,12 @@ pub fn memory_stays_filled()
         → AreFilled s.text (store_with after.shapes state.blocks old)
         → AreCellWrites s.text.layout state.blocks ws × AreSound s.text done.blocks next
         × AreFilled s.text (store_with after.shapes done.blocks locals) }
+{}
+
+/// The assignments of a bundle go together: their targets are locals, or members of one structure, no two of them one.
+pub fn bundles_go_together()
+    ensures { (globals : Globals) (s : Setting) (locals : List ℕ) (ss : List NotedStmt)
+        (at : State) (value fresh : ℕ) → is_bundle ss ≡ true
+        → ((q : stores.Store) → Contains (stores_of ss) q → IsTyped globals s q.target)
+        → AreTogether s locals (numbered s.frame at value fresh (stores_of ss)) }
 {}

@@ -3,4 +3,4 @@
 
 mod laws;
 
-pub use laws::{memory_stays_filled, targets_aim};
+pub use laws::{bundles_go_together, memory_stays_filled, targets_aim};
