@@ -1,5 +1,5 @@
 -- The claims of a pointer that is a member of a structure, however that is reached.
-use Rattle.std.proofs.Common.{◌≡◌, ◌⊎◌, inr, refl, sym, ap, subst, ◌∙◌, ℕ, Bool, true, false, List, [], ◌∷◌, ◌++◌, arith}
+use Rattle.std.proofs.Common.{◌≡◌, ◌⊎◌, refl, sym, ap, subst, ◌∙◌, ℕ, Bool, true, false, List, [], ◌∷◌, ◌++◌, arith}
 use Rattle.std.specs.Prelude.{◌+◌, ◌<◌, ◌≤◌, ◌^◌, ◌&&◌, if◌then◌else◌, find, flat_map, ℤ, pos, ◌+ℤ◌, Option, None, Some, IfSome, Result, Ok, Err, IsOk}
 use Rattle.std.specs.List.{Contains}
 use Rattle.std.specs.Option.{option_map}
@@ -38,7 +38,7 @@ use Rattle.ckc_source.specs.declared.outcome.Halt.TheVariants as halt
 use Rattle.ckc_source.specs.declared.outcome.Range.TheVariants.{Without}
 use Rattle.ckc_source.specs.declared.outcome.Value.{Value}
 use Rattle.ckc_source.specs.Blocks.{loaded}
-use Rattle.ckc_source.specs.Eval.{Store, given, given_some, plain, place_in, loads, counted, reads, loads_pointer, evaluated}
+use Rattle.ckc_source.specs.Eval.{Store, given, given_some, place_in, counted, reads, loads_pointer, evaluated}
 use Rattle.ckc_source.specs.Words.{exact, elements_behind}
 use Rattle.ckc_source.specs.Words as words
 use Rattle.ckc_build_values.specs.Kinds.{integer_in, integer_of, width_of, pointee_of, count_of_kind, tag_in, tag_of}
@@ -50,22 +50,19 @@ use Rattle.ckc_blame_sound.specs.Points.{HoldsAt}
 use Rattle.ckc_blame_sound.specs.Slots.{Slot, slot_by, slot_of_member, slots_in, slots_of}
 use Rattle.ckc_blame_sound.proofs.Flow.{word_lies}
 use Rattle.ckc_blame_numbers.proofs.Types.{word_wide}
-use Rattle.ckc_blame_slots.specs.Cells.{IsCell, IsPart}
-use Rattle.ckc_blame_slots.proofs.Apart.{cell_there, cell_address}
+use Rattle.ckc_blame_slots.specs.Cells.{IsPart}
 use Rattle.ckc_blame_slots.proofs.Ranges.{contains_at}
-use Rattle.ckc_blame_slots.proofs.Reached.{place_is}
-use Rattle.ckc_blame_slots.proofs.Stores.{load_goes}
 use Rattle.ckc_blame_pointers.specs.Valuations.{Valuation, Fits, RangeBetween, IsInRange}
 use Rattle.ckc_blame_pointers.specs.Covered.{NamesInteger, IsPointerMember, IsSoundStore}
 use Rattle.ckc_blame_pointers.specs.Meant.{IsNotStuck}
 use Rattle.ckc_blame_pointers.proofs.Claims.{IsOne, weaker}
 use Rattle.ckc_blame_pointers.proofs.Later.{zero_typed}
-use Rattle.ckc_blame_pointers.proofs.Loads.{FitsWidth, loaded_in, word_loaded}
+use Rattle.ckc_blame_pointers.proofs.Loads.{FitsWidth, loaded_in}
 use Rattle.ckc_blame_pointers.proofs.Members.{member_there}
 use Rattle.ckc_blame_pointers.proofs.Nodes.{NodeClaims}
 use Rattle.ckc_blame_pointers.proofs.Own.{counted_reads, own_claims, own_between, own_range, constant_counts, fresh_counts, kind_between, kind_range, kind_one, same_count}
 use Rattle.ckc_blame_pointers.proofs.Pointers.{not_member}
-use Rattle.ckc_blame_pointers.proofs.Reach.{IsStructurePlace, got, member_reads}
+use Rattle.ckc_blame_pointers.proofs.Reach.{IsStructurePlace, element_loads, got, member_reads}
 use Rattle.ckc_blame_pointers.proofs.Reading.{Ranged}
 use Rattle.ckc_blame_pointers.proofs.Structures.{IsWholeElement}
 
@@ -204,34 +201,13 @@ module _ (s : Setting) (store : Store) (entry : List ℕ) (next : ℕ) (ready : 
   -- what is loaded there
   plainly : ((m : ℕ) → m < 2 ^ 32 → Made (record { number = m; range = Without })) → (a : ℕ) → IsWholeElement store.blocks u a → IsNotStuck Made (got store s.text.layout t offset_there None a)
   plainly out a w =
-      subst (λ x. IsNotStuck Made (loads store (width_of t) x))
-      (sym (place_is a offset_there (width_of t) (cell_address s.text store.blocks ready.sound.memory.placed (a + offset_there) (width_of t) true cell).1)) (by (loaded (width_of t) (a + offset_there) store.blocks) refl)
+      element_loads s.text store.blocks next ready.sound Made u t offset_there part a w (λ m word. out m (word_wide t m word))
     where
       there_type : dot_type s.text.layout u n ≡ Some t
       there_type = ap (member_in s.text.layout n) c.struct ∙ ap (option_map (λ m. m.ctype)) c.found ∙ ap Some c.type
 
       part : IsPart s.text.layout u offset_there (width_of t)
       part = subst (λ o. IsPart s.text.layout u o (width_of t)) offset_is (member_there s.text.layout u n t c.number c.named there_type)
-
-      cell : IsCell s.text.layout store.blocks (a + offset_there) (width_of t) true
-      cell = record {
-        number = w.number;
-        block = w.block;
-        there = w.there;
-        index = w.index;
-        below = w.below;
-        offset = offset_there;
-        part = subst (λ u. IsPart s.text.layout u offset_there (width_of t)) (sym w.element) part;
-        address = ap (λ a. a + offset_there) w.address;
-        ends = λ e. inr refl;
-      }
-
-      there : (m : ℕ) × (loaded (width_of t) (a + offset_there) store.blocks ≡ Some m)
-      there = load_goes (width_of t) (a + offset_there) store.blocks (cell_there s.text store.blocks ready.sound.memory.placed (a + offset_there) (width_of t) true cell)
-
-      by : (o : Option ℕ) → loaded (width_of t) (a + offset_there) store.blocks ≡ o → IsNotStuck Made (given_some o plain)
-      by (Some m) e = out m (word_wide t m (word_loaded t m (loaded_in (width_of t) (a + offset_there) store.blocks ready.sound.bytes m e)))
-      by None e = let got : loaded (width_of t) (a + offset_there) store.blocks ≡ Some there.0 = there.1 in absurd (cc)
 
   -- a pointer of which the number of elements is not known
   missing : (b : MemberBounds) → c.member.bounds ≡ b → (kind_of t ≡ Some kind.One → ⊥) → ((own : Own) → range_in_struct (kind_of t) b own ≡ range.Missing) → named_type s.frame.structs c.tag b ≡ None

@@ -29,4 +29,6 @@ pub mod Structures
 pub mod Reach
 pub mod Through
 pub mod Held
+pub mod Scalars
+pub mod Dots
 pub mod Arrows

@@ -1,5 +1,5 @@
 -- Which element the place of an expression is in, and what is read there.
-use Rattle.std.proofs.Common.{◌≡◌, refl, sym, ap, subst, ◌∙◌, ℕ, ◌+◌, arith}
+use Rattle.std.proofs.Common.{◌≡◌, inr, refl, sym, ap, subst, ◌∙◌, ℕ, ◌+◌, true, List, arith}
 use Rattle.std.specs.Prelude.{Option, None, Some, Result, Ok, Err}
 use Rattle.ckc_types.specs.declared.types.CType.{CType}
 use Rattle.ckc_types.specs.declared.types.Structs.{Structs}
@@ -13,11 +13,20 @@ use Rattle.ckc_source.specs.declared.expr.Through.TheVariants as through
 use Rattle.ckc_source.specs.declared.outcome.Halt.{Halt}
 use Rattle.ckc_source.specs.declared.outcome.Halt.TheVariants as halt
 use Rattle.ckc_source.specs.declared.outcome.Value.{Value}
-use Rattle.ckc_source.specs.Eval.{Store, given, given_both, plain, spanned, element, element_through, place_in, loads, loads_pointer, accessed, evaluated}
+use Rattle.ckc_source.specs.declared.outcome.Range.TheVariants.{Without}
+use Rattle.ckc_source.specs.Blocks.{Block, loaded}
+use Rattle.ckc_source.specs.Eval.{Store, given, given_both, given_some, plain, spanned, element, element_through, place_in, loads, loads_pointer, accessed, evaluated}
 use Rattle.ckc_build_values.specs.Kinds.{width_of, pointee_of}
 use Rattle.ckc_build_values.specs.Members.{offset_of}
 use Rattle.ckc_build_values.specs.Places.{Place, member_place, read_at, address_at}
+use Rattle.ckc_typed.specs.declared.typed.Typed.{Typed}
+use Rattle.ckc_blame_sound.specs.Values.{IsWordOf}
+use Rattle.ckc_blame_slots.specs.Cells.{IsPart, IsCell, AreSound}
+use Rattle.ckc_blame_slots.proofs.Apart.{cell_there, cell_address}
+use Rattle.ckc_blame_slots.proofs.Reached.{place_is}
+use Rattle.ckc_blame_slots.proofs.Stores.{load_goes}
 use Rattle.ckc_blame_pointers.specs.Meant.{IsNotStuck}
+use Rattle.ckc_blame_pointers.proofs.Loads.{loaded_in, word_loaded}
 use Rattle.ckc_blame_pointers.proofs.Structures.{IsWholeElement}
 
 -- ---- addresses
@@ -46,6 +55,35 @@ comes_both P Q R (Ok v) (Err (halt.Stopped why at)) f h k next = tt
 comes_both P Q R (Ok v) (Err halt.Stuck) f h k next = k
 comes_both P Q R (Err (halt.Stopped why at)) y f h k next = tt
 comes_both P Q R (Err halt.Stuck) y f h k next = h
+
+-- ---- what an element holds
+
+-- an integer or a pointer that is an element or a member of it
+pub element_loads : (p : Typed) (blocks : List Block) (next : ℕ) → AreSound p blocks next → (Q : Value → Type 0) (u t : CType) (offset : ℕ) → IsPart p.layout u offset (width_of t) → (a : ℕ) → IsWholeElement blocks u a
+    → ((m : ℕ) → IsWordOf t m → Q (record { number = m; range = Without })) → IsNotStuck Q (given_some (loaded (width_of t) (place_in a offset) blocks) plain)
+element_loads p blocks next sound Q u t offset part a w out =
+    subst (λ x. IsNotStuck Q (given_some (loaded (width_of t) x blocks) plain))
+    (sym (place_is a offset (width_of t) (cell_address p blocks sound.memory.placed (a + offset) (width_of t) true cell).1)) (by (loaded (width_of t) (a + offset) blocks) refl)
+  where
+    cell : IsCell p.layout blocks (a + offset) (width_of t) true
+    cell = record {
+      number = w.number;
+      block = w.block;
+      there = w.there;
+      index = w.index;
+      below = w.below;
+      offset = offset;
+      part = subst (λ u. IsPart p.layout u offset (width_of t)) (sym w.element) part;
+      address = ap (λ a. a + offset) w.address;
+      ends = λ e. inr refl;
+    }
+
+    there : (m : ℕ) × (loaded (width_of t) (a + offset) blocks ≡ Some m)
+    there = load_goes (width_of t) (a + offset) blocks (cell_there p blocks sound.memory.placed (a + offset) (width_of t) true cell)
+
+    by : (o : Option ℕ) → loaded (width_of t) (a + offset) blocks ≡ o → IsNotStuck Q (given_some o plain)
+    by (Some m) e = out m (word_loaded t m (loaded_in (width_of t) (a + offset) blocks sound.bytes m e))
+    by None e = let got : loaded (width_of t) (a + offset) blocks ≡ Some there.0 = there.1 in absurd (cc)
 
 -- ---- elements
 

@@ -27,7 +27,7 @@ use Rattle.ckc_blame_slots.specs.Cells.{IsReached}
 use Rattle.ckc_blame_slots.proofs.Objects.{are_members}
 use Rattle.ckc_linear.specs.declared.forms.Form.{Form}
 use Rattle.ckc_blame_pointers.specs.Valuations.{Valuation, HasEnds}
-use Rattle.ckc_blame_pointers.specs.Covered.{DeclareOnes, IsSoundStore}
+use Rattle.ckc_blame_pointers.specs.Covered.{DeclareOnes, IsThrough, IsSoundStore}
 use Rattle.ckc_blame_pointers.specs.Meant.{IsNotStuck}
 use Rattle.ckc_blame_pointers.proofs.Binary.{ExprClaims}
 use Rattle.ckc_blame_pointers.proofs.Elements.{IsRanged}
@@ -85,7 +85,7 @@ module _ (s : Setting) (store : Store) (entry : List ℕ) (next : ℕ) (ready : 
           (first_reached store.shapes store.blocks (pointee_of s.text.layout e.note.ctype) x.number points))
 
   -- `*p`, and the structure of `p->m`
-  pub target_structure : (kind_of e.note.ctype ≡ Some kind.Arr) ⊎ ((kind_of e.note.ctype ≡ Some kind.One) × DeclareOnes s) → (place : Pos)
+  pub target_structure : IsThrough s e.note.ctype → (place : Pos)
       → IsStructurePlace store (element_of e.note.ctype) (target_place s.text.layout e.note.ctype place v)
   target_structure how place = record {
     begins = refl;
