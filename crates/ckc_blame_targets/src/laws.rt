@@ -1,7 +1,7 @@
 //! What follows from the definitions alone, each the contract of a function that does nothing.
 
 ghost use Rattle.std.specs.List.{Contains};
-ghost use Rattle.std.specs.Prelude.{◌≡◌, ℕ, ◌<◌, ◌^◌, true, pos, List, ◌++◌, Ok};
+ghost use Rattle.std.specs.Prelude.{◌≡◌, ℕ, ◌+◌, ◌<◌, ◌^◌, true, pos, List, ◌++◌, length, Ok};
 ghost use Rattle.ckc_bounds_points.specs.declared.frame.Bounds.{Bounds};
 ghost use Rattle.ckc_bounds_points.specs.Flow.{State};
 ghost use Rattle.ckc_syntax.specs.declared.tree.Name.{Name};
@@ -41,7 +41,7 @@ pub fn targets_aim()
     ensures { (globals : Globals) (s : Setting) (entry : List ℕ) (here : Here)
         (before : NotedExpr) (p : Placed) (fresh literals next : ℕ) (store : Store) →
         Agrees globals s → DeclareLocals s → KeepRunsFree s.text → IsSoundStore s store next
-        → fresh < 2 ^ 32 → AreFresh s.frame fresh → IsTyped globals s before
+        → fresh + length ((view s.frame before).fresh here.at) < 2 ^ 32 → AreFresh s.frame fresh → IsTyped globals s before
         → (view s.frame before).judged fresh here.at ≡ Ok p.target
         → is_scalar p.target.note.ctype ≡ true
         → IsCoveredTarget s store here.seen p.target (out-Node Name Note p.target.node)
