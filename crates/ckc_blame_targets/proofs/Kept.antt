@@ -1,8 +1,7 @@
 -- What is known of a new value is known where the same ranges are true.
 use Rattle.std.proofs.Common.{◌≡◌, sym, subst, ℕ, List}
-use Rattle.std.specs.Prelude.{[], pos, Result, IsOk}
+use Rattle.std.specs.Prelude.{[], Result, IsOk}
 use Rattle.ckc_types.specs.declared.types.CType.{CType}
-use Rattle.ckc_linear.specs.declared.forms.Form.{Form}
 use Rattle.ckc_typed.specs.declared.typed.Range.{Range}
 use Rattle.ckc_typed.specs.declared.typed.Range.TheVariants as range
 use Rattle.ckc_typed.specs.Trees.{NotedExpr}
@@ -17,7 +16,7 @@ use Rattle.ckc_source.specs.Blocks.{Block}
 use Rattle.ckc_source.specs.Runs.{is_true}
 use Rattle.ckc_blame_slots.proofs.Filled.{same_reads}
 use Rattle.ckc_blame_contained.specs.Valuations.{Valuation, form_address}
-use Rattle.ckc_blame_contained.specs.Containment.{Memory, IsReadBetween, IsReadWithin}
+use Rattle.ckc_blame_contained.specs.Containment.{Memory, IsReadWithin}
 use Rattle.ckc_blame_contained.specs.Given.{IsFrom}
 
 module _ (shapes : List Shape) (bs cs : List Block) (truths : (to : Pointee) (i low high : ℕ) → is_true shapes cs to i low high ≡ is_true shapes bs to i low high)
