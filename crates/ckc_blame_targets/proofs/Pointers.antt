@@ -5,13 +5,11 @@ use Rattle.ckc_base.specs.declared.arithmetic.Width.{Width}
 use Rattle.ckc_base.specs.declared.places.Pos.{Pos}
 use Rattle.ckc_types.specs.declared.types.CType.{CType}
 use Rattle.ckc_syntax.specs.declared.tree.Name.{Name}
-use Rattle.ckc_syntax.specs.declared.tree.Name.TheVariants as name
 use Rattle.ckc_syntax.specs.declared.tree.TreeOp.TheVariants as op
 use Rattle.ckc_syntax.specs.declared.tree.Node.{Node-F, out-Node, roll-Node}
 use Rattle.ckc_syntax.specs.declared.tree.Expr.{every_here-Expr}
 use Rattle.ckc_typed.specs.declared.environment.Globals.{Globals}
 use Rattle.ckc_typed.specs.declared.typed.Note.{Note}
-use Rattle.ckc_typed.specs.declared.typed.Range.TheVariants as range
 use Rattle.ckc_typed.specs.Operands.{is_moved}
 use Rattle.ckc_typed.specs.Trees.{NotedExpr, NotedLayer}
 use Rattle.ckc_typed.specs.Types.{is_integer, is_pointer, is_void, kind_of, element_of}
