@@ -8,3 +8,5 @@ pub mod StaticKinds
 pub mod Small
 pub mod Tallies
 pub mod Values
+pub mod StaticTargets
+pub mod Pointees

@@ -1,1 +1,2 @@
 pub mod Statics
+pub mod Pointees
