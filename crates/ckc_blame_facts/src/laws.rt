@@ -1,6 +1,6 @@
 //! What follows from the definitions alone, each the contract of a function that does nothing.
 
-ghost use Rattle.std.specs.Prelude.{◌≡◌, ◌<◌, ◌≤◌, ℕ, length, true, None, Some, slice_get};
+ghost use Rattle.std.specs.Prelude.{◌+◌, ◌^◌, ◌≡◌, ◌<◌, ◌≤◌, ℕ, length, true, None, Some, slice_get};
 ghost use Rattle.ckc_types.specs.declared.types.CType.{CType};
 ghost use Rattle.ckc_types.specs.declared.types.Kind.{Kind};
 ghost use Rattle.ckc_types.specs.declared.types.Kind.TheVariants as kind;
@@ -34,26 +34,30 @@ ghost use Rattle.ckc_source.specs.Eval.{Store};
 ghost use Rattle.ckc_blame_sound.specs.Slots.{AreFilled};
 ghost use Rattle.ckc_blame_pointers.specs.Covered.{IsStaticInteger, IsStaticArray, IsStaticPointer};
 ghost use Rattle.ckc_blame_texts.specs.Judged.{IsJudged, globals_in};
+ghost use Rattle.ckc_blame_facts.specs.Values.{HaveFewValues};
 ghost use Rattle.ckc_blame_facts.specs.Statics.{IsStatic, range_counted};
 
-/// The head by which a call of a function is judged is that of the function that the program calls, which is a function
-/// of the text. If there is such a head, the program has such a function.
+/// The head by which a call of a function is judged is that of the function that the program
+/// calls, which is a function of the text. If there is such a head, the program has such a
+/// function.
 pub fn callees_have_heads()
     ensures called { (p : Typed) (s : Setting) (f callee : Function) (k : ℕ) → IsJudged p
         → IsFunction p s f
-        → slice_get (functions_elaborated p) (number_of (name.Function k) p.tree.items) ≡ Some callee
+        → slice_get (functions_elaborated p) (number_of (name.Function k) p.tree.items)
+        ≡ Some callee
         → (called : Setting) × IsFunction p called callee
         × (slice_get s.frame.heads k ≡ Some called.head) }
     ensures judged { (p : Typed) (s : Setting) (f : Function) (k : ℕ) (h : HeadBounds) → IsJudged p
         → IsFunction p s f → slice_get s.frame.heads k ≡ Some h
         → (called : Setting) × (callee : Function) × IsFunction p called callee × (h ≡ called.head)
-        × (slice_get (functions_elaborated p) (number_of (name.Function k) p.tree.items) ≡ Some callee) }
+        × (slice_get (functions_elaborated p) (number_of (name.Function k) p.tree.items)
+        ≡ Some callee) }
 {}
 
-/// A name of file scope that has a type is declared: what the judgement and the program know of its object, and the
-/// bounds and the range that the judgement knows of a pointer count as many elements as the program does. It is an
-/// integer, an array or a pointer by its type. A pointer that is assigned or read by its name has such bounds and such a
-/// range.
+/// A name of file scope that has a type is declared: what the judgement and the program know of
+/// its object, and the bounds and the range that the judgement knows of a pointer count as many
+/// elements as the program does. It is an integer, an array or a pointer by its type. A pointer
+/// that is assigned or read by its name has such bounds and such a range.
 pub fn statics_are_told()
     ensures told { (p : Typed) (s : Setting) (f : Function) (t : CType) (k : ℕ) → IsJudged p
         → IsFunction p s f → type_of_name (globals_in p) s.variables (name.Static k) ≡ Some t
@@ -75,17 +79,21 @@ pub fn statics_are_told()
         ≡ range_counted own (count_of_static s.text t (name.Static k)) }
 {}
 
-/// A function of a text that keeps the limits of a text has fewer than 1,024 variables. An expression has at most as
-/// many values as nodes, of which such a function has at most 1,000.
+/// A function of a text that keeps the limits of a text has fewer than 1,024 variables. An
+/// expression has at most as many values as nodes, of which such a function has at most 1,000; so
+/// has each expression in it.
 pub fn functions_are_small()
     ensures locals { (p : Typed) (s : Setting) (f : Function) (j : IsJudged p) → Small j.named.tree
         → IsFunction p s f → length s.variables < 1024 }
     ensures values { (frame : Frame) (e : NotedExpr) →
         (view frame e).values ≤ how_many is_node (marks_of_expr e) }
+    ensures each { (frame : Frame) (e : NotedExpr) →
+        how_many is_node (marks_of_expr e) + 1 < 2 ^ 32 → HaveFewValues frame e }
 {}
 
-/// An `_Nt_array_ptr` in the type of an object points to an integer, however deep it is in the type. So it is in the
-/// types of typed expressions, if names, members and results have such types.
+/// An `_Nt_array_ptr` in the type of an object points to an integer, however deep it is in the
+/// type. So it is in the types of typed expressions, if names, members and results have such
+/// types.
 pub fn pointees_are_integers()
     ensures objects { (t : CType) → is_object_type t ≡ true → IsFine t }
     ensures typed { (globals : Globals) (s : Setting) (e : NotedExpr) → AreFine globals s.variables
