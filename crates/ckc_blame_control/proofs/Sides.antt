@@ -1,6 +1,7 @@
 -- A condition leads to the side that its expression comes to.
 use Rattle.std.proofs.Common.{◌≡◌, ℕ, List, refl, sym, ap, subst, ◌∙◌}
 use Rattle.std.specs.Prelude.{◌==◌, Bool, true, false, not, if◌then◌else◌, Option, None, Some, Result, Ok, Err}
+use Rattle.ckc_base.specs.declared.arithmetic.Mode.{Mode}
 use Rattle.ckc_typed.specs.Trees.{NotedExpr}
 use Rattle.std.specs.List.{Contains}
 use Rattle.ckc_bounds_points.specs.Flow.{State}
@@ -44,7 +45,7 @@ module _ (s : Setting) (store : Store) (entry : List ℕ) where
       by true h = h false refl
       by false h = h true refl
 
-  module _ (here one other : Here) (e : Expr) (c : IsCondition s here e one other) where
+  module _ (mode : Mode) (here one other : Here) (e : Expr) (c : IsCondition s mode here e one other) where
     -- the point on a side
     abbrev there : Bool → Here
     there side = record c.behind { at = maybe_side s.frame side c.after c.behind.at }

@@ -33,7 +33,7 @@ use Rattle.ckc_blame_numbers.specs.Typed.{IsRow, HasRow, IsTyped}
 use Rattle.ckc_blame_numbers.specs.Exact.{IsExactBy}
 use Rattle.ckc_blame_numbers.proofs.Types.{no_pointer}
 use Rattle.ckc_blame_numbers.proofs.Sums.{byte_exact, word_exact}
-use Rattle.ckc_blame_contained.specs.Valuations.{Valuation, form_address, AreFacts}
+use Rattle.ckc_blame_sound.specs.Valuations.{Valuation, form_address, AreFacts}
 use Rattle.ckc_blame_contained.specs.Containment.{IsReadWithin, IsRanged}
 use Rattle.ckc_blame_contained.specs.Elements.{number_kept}
 use Rattle.ckc_blame_contained.specs.Given.{memory_of, IsNew, IsFrom}

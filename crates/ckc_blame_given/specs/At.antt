@@ -7,7 +7,7 @@ use Rattle.ckc_bounds_stores.specs.declared.values.Numbered.{Numbered}
 use Rattle.ckc_source.specs.Eval.{Store}
 use Rattle.ckc_blame_sound.specs.Settings.{Setting}
 use Rattle.ckc_blame_sound.specs.Bodies.{AreFresh}
-use Rattle.ckc_blame_contained.specs.Valuations.{Valuation, IsValuationOf}
+use Rattle.ckc_blame_sound.specs.Valuations.{Valuation, IsValuationOf}
 use Rattle.ckc_blame_given.specs.Gives.{GivesOn}
 
 -- An expression gives a word at a point, whatever numbers its values and its fresh variables begin with, if there is

@@ -25,7 +25,7 @@ ghost use Rattle.ckc_blame_sound.specs.Bodies.{AreFresh};
 ghost use Rattle.ckc_blame_numbers.specs.Typed.{IsTyped, Agrees};
 ghost use Rattle.ckc_blame_pointers.specs.Covered.{DeclareLocals, IsSoundStore, IsCovered};
 ghost use Rattle.ckc_blame_pointers.specs.Meant.{IsNotStuck};
-ghost use Rattle.ckc_blame_contained.specs.Valuations.{Valuation, AreFacts};
+ghost use Rattle.ckc_blame_sound.specs.Valuations.{Valuation, AreFacts};
 ghost use Rattle.ckc_blame_contained.specs.Containment.{IsNarrowed};
 ghost use Rattle.ckc_blame_contained.specs.Elements.{number_kept};
 ghost use Rattle.ckc_blame_contained.specs.Given.{memory_of, IsFrom};

@@ -5,6 +5,7 @@ pub mod Valuations
 pub mod Arguments
 pub mod Points
 pub mod Words
+pub mod Safe
 pub mod Bodies
 pub mod Steps
 pub mod Judged

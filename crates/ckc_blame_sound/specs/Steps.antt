@@ -1,6 +1,7 @@
 -- A step of a program and the statement that it comes from, as that is judged.
 use Rattle.std.specs.Prelude.{◌≡◌, ℕ, Bool, true, false, [], ◌∷◌, Option, Ok}
 use Rattle.std.specs.List.{All}
+use Rattle.ckc_base.specs.declared.arithmetic.Mode.{Mode}
 use Rattle.ckc_syntax.specs.declared.tree.Name.{Name}
 use Rattle.ckc_syntax.specs.declared.tree.Act.{Act-F, out-Act}
 use Rattle.ckc_typed.specs.declared.typed.Note.{Note}
@@ -40,14 +41,14 @@ pub record IsStep (s : Setting) (here : Here) (step : Code → Code) (there : He
   pub becomes : stmt_elaborated s.text s.variables s.result literals after ≡ step ∷ []
   pub goes : GoesTo s.frame behind there
 
--- A condition of the function is judged at such a point, and becomes this expression; if it is true control is at a
+-- A condition of a statement of a mode in the function is judged at such a point, and becomes this expression; if it is true control is at a
 -- second point, and if it is false at a third. One that is left out is true.
-pub record IsCondition (s : Setting) (here : Here) (e : Expr) (yes no : Here) : Type 0 where
+pub record IsCondition (s : Setting) (mode : Mode) (here : Here) (e : Expr) (yes no : Here) : Type 0 where
   pub before : Option NotedExpr
   pub after : Option NotedExpr
   pub literals : ℕ
   pub behind : Here
-  pub inside : IsTestInBody s before
+  pub inside : IsTestInBody s mode before
   pub fresh : IsNextFresh s here.next
   pub counting : here.counting ≡ false
   pub named : All (NamesIntegers s.frame) here.at.facts.list

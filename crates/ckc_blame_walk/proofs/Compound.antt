@@ -167,7 +167,7 @@ module _ (s : Setting) (Claimed : Type 0) where
   -- ---- an `if`
 
   module _ (at : Pos) (note : Note) (e : NotedExpr) (path : Path) (nest : Nesting) (w : Whole path nest) (path2 : Option Path) (nest2 : Option Nesting) (w2 : WholeIf path2 nest2)
-      (one_branch : is_branch nest ≡ true) (other_branch : is_branch_if nest2 ≡ true) (inside : Claimed → IsTestInBody s (Some e)) (mine : Nesting) (here : Here) where
+      (one_branch : is_branch nest ≡ true) (other_branch : is_branch_if nest2 ≡ true) (inside : Claimed → IsTestInBody s note.mode (Some e)) (mine : Nesting) (here : Here) where
     abbrev ks : List ℕ
     ks = path.assigned
 
@@ -188,7 +188,7 @@ module _ (s : Setting) (Claimed : Type 0) where
       unfolding side_of
       adds b = subst (λ a. Adds s.frame a (side_of s.frame b v.0 v.1.at)) moved.at (side_adds s.frame v.0 b v.1.at)
 
-      if_condition : (k : ℕ) → IsOn s Claimed here → AreNamed s.frame here.at.facts → IsCondition s here (expr_elaborated s.text s.variables k v.0) yes no
+      if_condition : (k : ℕ) → IsOn s Claimed here → AreNamed s.frame here.at.facts → IsCondition s note.mode here (expr_elaborated s.text s.variables k v.0) yes no
       if_condition k on named = record {
         inside = inside on.claimed;
         fresh = on.fresh;

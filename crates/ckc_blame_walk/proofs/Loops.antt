@@ -67,7 +67,7 @@ module _ (frame : Frame) where
 module _ (s : Setting) (Claimed : Type 0) where
   -- ---- a `while`
 
-  module _ (at : Pos) (note : Note) (e : NotedExpr) (path : Path) (nest : Nesting) (w : Whole s Claimed path nest) (branch : is_branch nest ≡ true) (inside : Claimed → IsTestInBody s (Some e)) (mine : Nesting) (left turned : Bool) (here : Here) where
+  module _ (at : Pos) (note : Note) (e : NotedExpr) (path : Path) (nest : Nesting) (w : Whole s Claimed path nest) (branch : is_branch nest ≡ true) (inside : Claimed → IsTestInBody s note.mode (Some e)) (mine : Nesting) (left turned : Bool) (here : Here) where
     abbrev ks : List ℕ
     ks = path.assigned
 
@@ -87,7 +87,7 @@ module _ (s : Setting) (Claimed : Type 0) where
       yes_adds : Adds s.frame head.at yes.at
       yes_adds = subst (λ a. Adds s.frame a yes.at) moved.at (maybe_adds s.frame true (Some v.0) v.1.at)
 
-      while_condition : (k : ℕ) → IsOn s Claimed here → AreNamed s.frame head.at.facts → IsCondition s head (expr_elaborated s.text s.variables k v.0) yes no
+      while_condition : (k : ℕ) → IsOn s Claimed here → AreNamed s.frame head.at.facts → IsCondition s note.mode head (expr_elaborated s.text s.variables k v.0) yes no
       while_condition k on named = record {
         inside = inside on.claimed;
         fresh = on.fresh;
@@ -186,7 +186,7 @@ module _ (s : Setting) (Claimed : Type 0) where
 
   module _ (at : Pos) (note : Note) (init : Option Path) (init_nest : Option Nesting) (wi : WholeIf s Claimed init init_nest) (begin : begins init_nest ≡ true) (e : Option NotedExpr)
       (step : Option Path) (step_nest : Option Nesting) (ws : WholeIf s Claimed step step_nest) (stepping : steps step_nest ≡ true)
-      (path : Path) (nest : Nesting) (w : Whole s Claimed path nest) (branch : is_branch nest ≡ true) (inside : Claimed → IsTestInBody s e) (mine : Nesting) (left turned : Bool) (es : List ℕ) (here : Here) where
+      (path : Path) (nest : Nesting) (w : Whole s Claimed path nest) (branch : is_branch nest ≡ true) (inside : Claimed → IsTestInBody s note.mode e) (mine : Nesting) (left turned : Bool) (es : List ℕ) (here : Here) where
     abbrev is : List ℕ
     is = assigned_if init
 
@@ -225,7 +225,7 @@ module _ (s : Setting) (Claimed : Type 0) where
         for_adds : Adds s.frame for_head.at for_yes.at
         for_adds = subst (λ a. Adds s.frame a for_yes.at) for_moved.at (maybe_adds s.frame true v.0 v.1.at)
 
-        for_condition : (k : ℕ) → IsOn s Claimed for_head → AreNamed s.frame for_head.at.facts → IsCondition s for_head (condition s.text s.variables k v.0) for_yes for_no
+        for_condition : (k : ℕ) → IsOn s Claimed for_head → AreNamed s.frame for_head.at.facts → IsCondition s note.mode for_head (condition s.text s.variables k v.0) for_yes for_no
         for_condition k on named = record { before = e; after = v.0; literals = k; behind = v.1; inside = inside on.claimed; fresh = on.fresh; counting = on.counts; named = named; judged = judged; becomes = refl; true_side = refl; false_side = refl }
 
         for_exit : (x exit : Here) → x.at ≡ for_head.at → ((k : ℕ) → Contains x.seen k → Contains for_yes.seen k) → GoesTo s.frame x exit → IsExit s.frame (us ++ ts) for_yes exit

@@ -416,7 +416,7 @@ module _ (s : Setting) (Claimed : Type 0) where
   act_step (Act-F.If e k None) = record {
     judged = λ fine at note inside here.
         let b = and_cases (is_branch (nesting_of k.0)) true fine in
-        let i : Claimed → PartsInBody s (inner_act (Act-F.If e k None)) = λ a. parts_inside s at note (inner_act (Act-F.If e k None)) (inside a) in
+        let i : Claimed → PartsInBody s note.mode (inner_act (Act-F.If e k None)) = λ a. parts_inside s at note (inner_act (Act-F.If e k None)) (inside a) in
         through_parts _ here _ _ (if_gives s Claimed at note e (path k.0) (nesting_of k.0) (k.1.whole (λ a. (i a).1)) None None (whole_none s Claimed) b.0 refl (λ a. (i a).0) (nesting_by (act_nested (inner_act (Act-F.If e k None)))) here);
     part = λ bundle at note here. no_part _ here bundle;
     plain = λ e. absurd (cc);
@@ -424,7 +424,7 @@ module _ (s : Setting) (Claimed : Type 0) where
   act_step (Act-F.If e k (Some j)) = record {
     judged = λ fine at note inside here.
         let b = and_cases (is_branch (nesting_of k.0)) (is_branch (nesting_of j.0)) fine in
-        let i : Claimed → PartsInBody s (inner_act (Act-F.If e k (Some j))) = λ a. parts_inside s at note (inner_act (Act-F.If e k (Some j))) (inside a) in
+        let i : Claimed → PartsInBody s note.mode (inner_act (Act-F.If e k (Some j))) = λ a. parts_inside s at note (inner_act (Act-F.If e k (Some j))) (inside a) in
         through_parts _ here _ _ (if_gives s Claimed at note e (path k.0) (nesting_of k.0) (k.1.whole (λ a. (i a).1)) (Some (path j.0)) (Some (nesting_of j.0)) (whole_some s Claimed (path j.0) (nesting_of j.0) (j.1.whole (λ a. (i a).2))) b.0 b.1 (λ a. (i a).0)
         (nesting_by (act_nested (inner_act (Act-F.If e k (Some j))))) here);
     part = λ bundle at note here. no_part _ here bundle;
@@ -432,7 +432,7 @@ module _ (s : Setting) (Claimed : Type 0) where
   }
   act_step (Act-F.While e k) = record {
     judged = λ fine at note inside here.
-        let i : Claimed → PartsInBody s (inner_act (Act-F.While e k)) = λ a. parts_inside s at note (inner_act (Act-F.While e k)) (inside a) in
+        let i : Claimed → PartsInBody s note.mode (inner_act (Act-F.While e k)) = λ a. parts_inside s at note (inner_act (Act-F.While e k)) (inside a) in
         through_parts _ here _ _ (while_gives s Claimed at note e (path k.0) (nesting_of k.0) (k.1.whole (λ a. (i a).1)) fine (λ a. (i a).0) (nesting_by (act_nested (inner_act (Act-F.While e k)))) false false here);
     part = λ bundle at note here. no_part _ here bundle;
     plain = λ e. absurd (cc);
@@ -479,7 +479,7 @@ module _ (s : Setting) (Claimed : Type 0) where
   }
   act_step (Act-F.For None e None k) = record {
     judged = λ fine at note inside here.
-        let i : Claimed → PartsInBody s (inner_act (Act-F.For None e None k)) = λ a. parts_inside s at note (inner_act (Act-F.For None e None k)) (inside a) in
+        let i : Claimed → PartsInBody s note.mode (inner_act (Act-F.For None e None k)) = λ a. parts_inside s at note (inner_act (Act-F.For None e None k)) (inside a) in
         let b = and_cases true (true && is_branch (nesting_of k.0)) fine in
         let c = and_cases true (is_branch (nesting_of k.0)) b.1 in
         through_parts _ here _ _ (for_gives s Claimed at note None None (whole_none s Claimed) b.0 e
@@ -490,7 +490,7 @@ module _ (s : Setting) (Claimed : Type 0) where
   }
   act_step (Act-F.For None e (Some j) k) = record {
     judged = λ fine at note inside here.
-        let i : Claimed → PartsInBody s (inner_act (Act-F.For None e (Some j) k)) = λ a. parts_inside s at note (inner_act (Act-F.For None e (Some j) k)) (inside a) in
+        let i : Claimed → PartsInBody s note.mode (inner_act (Act-F.For None e (Some j) k)) = λ a. parts_inside s at note (inner_act (Act-F.For None e (Some j) k)) (inside a) in
         let b = and_cases true ((steps (Some (nesting_of j.0))) && is_branch (nesting_of k.0)) fine in
         let c = and_cases (steps (Some (nesting_of j.0))) (is_branch (nesting_of k.0)) b.1 in
         through_parts _ here _ _ (for_gives s Claimed at note None None (whole_none s Claimed) b.0 e
@@ -501,7 +501,7 @@ module _ (s : Setting) (Claimed : Type 0) where
   }
   act_step (Act-F.For (Some l) e None k) = record {
     judged = λ fine at note inside here.
-        let i : Claimed → PartsInBody s (inner_act (Act-F.For (Some l) e None k)) = λ a. parts_inside s at note (inner_act (Act-F.For (Some l) e None k)) (inside a) in
+        let i : Claimed → PartsInBody s note.mode (inner_act (Act-F.For (Some l) e None k)) = λ a. parts_inside s at note (inner_act (Act-F.For (Some l) e None k)) (inside a) in
         let b = and_cases (begins (Some (nesting_of l.0))) (true && is_branch (nesting_of k.0)) fine in
         let c = and_cases true (is_branch (nesting_of k.0)) b.1 in
         through_parts _ here _ _ (for_gives s Claimed at note (Some (path l.0)) (Some (nesting_of l.0)) (whole_some s Claimed (path l.0) (nesting_of l.0) (l.1.whole (λ a. (i a).0))) b.0 e
@@ -512,7 +512,7 @@ module _ (s : Setting) (Claimed : Type 0) where
   }
   act_step (Act-F.For (Some l) e (Some j) k) = record {
     judged = λ fine at note inside here.
-        let i : Claimed → PartsInBody s (inner_act (Act-F.For (Some l) e (Some j) k)) = λ a. parts_inside s at note (inner_act (Act-F.For (Some l) e (Some j) k)) (inside a) in
+        let i : Claimed → PartsInBody s note.mode (inner_act (Act-F.For (Some l) e (Some j) k)) = λ a. parts_inside s at note (inner_act (Act-F.For (Some l) e (Some j) k)) (inside a) in
         let b = and_cases (begins (Some (nesting_of l.0))) ((steps (Some (nesting_of j.0))) && is_branch (nesting_of k.0)) fine in
         let c = and_cases (steps (Some (nesting_of j.0))) (is_branch (nesting_of k.0)) b.1 in
         through_parts _ here _ _ (for_gives s Claimed at note (Some (path l.0)) (Some (nesting_of l.0)) (whole_some s Claimed (path l.0) (nesting_of l.0) (l.1.whole (λ a. (i a).0))) b.0 e
