@@ -31,4 +31,5 @@ pub mod Through
 pub mod Held
 pub mod Scalars
 pub mod Dots
+pub mod Singles
 pub mod Arrows

@@ -34,7 +34,7 @@ use Rattle.ckc_blame_pointers.proofs.Elements.{IsRanged}
 use Rattle.ckc_blame_pointers.proofs.Loads.{IsTested, element_goes, exact_goes, exact_is, reached_by, tested_pointer}
 use Rattle.ckc_blame_pointers.proofs.Numbers.{nothing_behind, same_number}
 use Rattle.ckc_blame_pointers.proofs.Reach.{ComesTo, comes_by, comes_both, IsStructurePlace}
-use Rattle.ckc_blame_pointers.proofs.Structures.{IsWholeElement, whole_element}
+use Rattle.ckc_blame_pointers.proofs.Structures.{IsStructureAt, structure_at}
 use Rattle.ckc_blame_pointers.proofs.Truths.{first_reached}
 
 module _ (s : Setting) (store : Store) (entry : List ℕ) (next : ℕ) (ready : IsSoundStore s store next) (here : Here) (h : HoldsAt s store entry here) (e : NotedExpr) (tag : ℕ)
@@ -42,12 +42,12 @@ module _ (s : Setting) (store : Store) (entry : List ℕ) (next : ℕ) (ready : 
     (left : IsNotStuck (ExprClaims s store entry here e) (evaluated store v))
     (ranged : is_counted_kind (kind_of e.note.ctype) ≡ true → (x : Value) → ExprClaims s store entry here e x → IsRanged s store entry next ready here h e fresh few little are x) where
   abbrev Whole : ℕ → Type 0
-  Whole = IsWholeElement store.blocks (element_of e.note.ctype)
+  Whole = IsStructureAt store.blocks (element_of e.note.ctype)
 
   at_range : is_terminated_kind (kind_of e.note.ctype) ≡ false → (m low high a : ℕ) → is_true store.shapes store.blocks (pointee_of s.text.layout e.note.ctype) m low high ≡ true
       → IsReached (pointee_of s.text.layout e.note.ctype) m low high a → Whole a
   at_range bare m low high a true_there r =
-      whole_element s.text store.blocks (pointee_of s.text.layout e.note.ctype) refl tag struct bare m low high a r (shapes_elaborated s.text.layout) (are_members s.text.layout ready.names) ready.sound.memory.placed
+      structure_at s.text store.blocks (pointee_of s.text.layout e.note.ctype) refl tag struct bare m low high a r (shapes_elaborated s.text.layout) (are_members s.text.layout ready.names) ready.sound.memory.placed
       (subst (λ sh. is_true sh store.blocks (pointee_of s.text.layout e.note.ctype) m low high ≡ true) ready.shapes true_there)
 
   abbrev access_by : Pos → Integer → Access

@@ -5,6 +5,7 @@ use Rattle.ckc_types.specs.declared.types.Kind.{Kind}
 use Rattle.ckc_types.specs.declared.types.Kind.TheVariants as kind
 use Rattle.ckc_types.specs.declared.types.CType.{CType, CType-F, out-CType}
 use Rattle.ckc_types.specs.declared.types.MemberShape.{MemberShape}
+use Rattle.ckc_types.specs.Layout.{members_of}
 use Rattle.ckc_types.specs.declared.types.MemberBounds.{MemberBounds}
 use Rattle.ckc_types.specs.declared.types.MemberBounds.TheVariants as mbounds
 use Rattle.ckc_linear.specs.declared.forms.Base.{Base}
@@ -38,7 +39,7 @@ use Rattle.ckc_build_values.specs.Kinds.{size_behind, count_of_kind, tag_of}
 use Rattle.ckc_build_values.specs.Members.{member_named, count_of_member}
 use Rattle.ckc_build_values.specs.Names.{count_of_static}
 use Rattle.ckc_build_elaborate.specs.Objects.{object_elaborated, objects_elaborated}
-use Rattle.ckc_build_elaborate.specs.Shapes.{shapes_elaborated}
+use Rattle.ckc_build_elaborate.specs.Shapes.{is_run, shapes_elaborated}
 use Rattle.ckc_blame_sound.specs.Settings.{Setting}
 use Rattle.ckc_blame_sound.specs.Slots.{AreFilled}
 use Rattle.ckc_blame_slots.specs.Cells.{AreSound, HaveOwnNames}
@@ -141,12 +142,11 @@ pub record IsStaticPointer (s : Setting) (store : Store) (t : CType) (k : ℕ) :
   pub counted : count_of_static s.text t (name.Static k) ≡ count_of_kind (kind_of t)
   pub filled : AreFilled s.text store
 
--- a static structure
+-- a static structure, which has no bounds
 pub record IsStaticStructure (s : Setting) (t : CType) (k : ℕ) : Type 0 where
   pub object : StaticObject
   pub there : slice_get s.text.statics k ≡ Some object
-  pub is_run : Option Bool
-  pub placed : slice_get (objects_elaborated s.text) k ≡ Some (object_elaborated s.text.layout is_run object)
+  pub free : slice_get (objects_elaborated s.text) k ≡ Some (object_elaborated s.text.layout (Some true) object)
   pub some : 0 < object.count
   pub element : object.element ≡ t
   pub tag : ℕ
@@ -245,21 +245,45 @@ pub record IsDot (s : Setting) (store : Store) (e : NotedExpr) (n : Name) (t : C
   pub struct : out-CType e.note.ctype ≡ CType-F.Struct tag
   pub member : IsIntegerMember s e.note.ctype t n ⊎ IsPointerMember s store e.note.ctype t n
 
--- `*p` and `p[e]`, of which `&` gives the address
-abbrev pub IsAddressed : NotedLayer → Type 0
-IsAddressed (Node-F.Un op.Deref e) = Unit {0}
-IsAddressed (Node-F.Index e f) = Unit {0}
-IsAddressed _ = ⊥
+-- a static object that is no array and is declared without bounds
+pub record IsFreeObject (s : Setting) (t : CType) (k : ℕ) : Type 0 where
+  pub object : StaticObject
+  pub there : slice_get s.text.statics k ≡ Some object
+  pub free : slice_get (objects_elaborated s.text) k ≡ Some (object_elaborated s.text.layout (Some true) object)
+  pub plain : object.terminated ≡ false
+  pub some : 0 < object.count
+  pub element : object.element ≡ t
+
+-- a member of a structure of a type, an integer or a pointer, that takes part in no bounds; of others there is no address
+pub record IsFreeMember (s : Setting) (u t : CType) (n : Name) : Type 0 where
+  pub tag : ℕ
+  pub struct : out-CType u ≡ CType-F.Struct tag
+  pub number : ℕ
+  pub named : n ≡ name.Member number
+  pub member : MemberShape
+  pub found : member_named s.text.layout tag n ≡ Some member
+  pub type : member.ctype ≡ t
+  pub scalar : is_scalar t ≡ true
+  pub free : is_run (members_of s.text.layout tag) member ≡ true
+
+-- what `&` gives the address of: static objects, `*p`, `p[e]` and members
+abbrev pub IsAddressed : Setting → CType → NotedLayer → Type 0
+IsAddressed s t (Node-F.Name (name.Static k)) = IsFreeObject s t k
+IsAddressed s t (Node-F.Un op.Deref e) = Unit {0}
+IsAddressed s t (Node-F.Index e f) = Unit {0}
+IsAddressed s t (Node-F.Arrow e n spot) = IsFreeMember s (element_of e.note.ctype) t n × IsThrough s e.note.ctype
+IsAddressed s t (Node-F.Dot e n spot) = IsFreeMember s e.note.ctype t n
+IsAddressed s t _ = ⊥
 
 -- the operands of unary operators
 abbrev pub IsCoveredUnary : Setting → TreeOp → NotedExpr → Type 0
 IsCoveredUnary s op.Deref e = IsElement e ⊎ (IsSingle s e ⊎ IsStructureTarget s e)
-IsCoveredUnary s op.Address e = IsAddressed (out-Node Name Note e.node)
+IsCoveredUnary s op.Address e = IsAddressed s e.note.ctype (out-Node Name Note e.node)
 IsCoveredUnary s o e = IsArithmetic o
 
 -- The nodes of a type of which it is said what they come to: numbers, `sizeof`, `NULL`, locals in scope, static
 -- integers, arrays and pointers, operators, `?:`, casts, integers that are read through pointers, what `->` and `.` read,
--- `&*p` and `&p[e]`; and the structures of which `.` gives a member.
+-- and the addresses of static objects, elements and members; and the structures of which `.` gives a member.
 abbrev pub IsCoveredNode : Setting → Store → List ℕ → CType → NotedLayer → Type 0
 IsCoveredNode s store seen t (Node-F.Number n unsigned) = Unit {0}
 IsCoveredNode s store seen t (Node-F.Size w) = Unit {0}
