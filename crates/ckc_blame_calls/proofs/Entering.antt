@@ -49,7 +49,7 @@ use Rattle.ckc_build_elaborate.specs.Functions.{functions_elaborated}
 use Rattle.ckc_build_elaborate.specs.Names.{number_of, params_of}
 use Rattle.ckc_build_elaborate.specs.Steps.{arguments}
 use Rattle.ckc_blame_sound.specs.Settings.{Setting, IsFunction, frame_of_text, setting_of}
-use Rattle.ckc_blame_sound.specs.Values.{IsWordOf}
+use Rattle.ckc_blame_sound.specs.Values.{IsWordOf, NamesIntegers}
 use Rattle.ckc_blame_sound.specs.Valuations.{Valuation, AreFacts}
 use Rattle.ckc_blame_sound.specs.Arguments.{AreArguments}
 use Rattle.ckc_blame_sound.specs.Points.{IsBounded}
@@ -64,7 +64,6 @@ use Rattle.ckc_blame_texts.proofs.Functions.{numbered}
 use Rattle.ckc_blame_nested.specs.Nested.{AreNested}
 use Rattle.ckc_blame_walk.specs.Walks.{leaving}
 use Rattle.ckc_blame_walk.proofs.Frames.{text_goes}
-use Rattle.ckc_blame_contained.specs.Valuations.{NamesIntegers}
 use Rattle.ckc_blame_contained.specs.Passed.{AreParameters}
 use Rattle.ckc_blame_contained.proofs.Agree.{facts_agree}
 use Rattle.ckc_blame_contained.proofs.Called.{parameters_bounded}

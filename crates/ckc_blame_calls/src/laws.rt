@@ -15,7 +15,7 @@ ghost use Rattle.ckc_blame_sound.specs.Sound.{Sound};
 ghost use Rattle.ckc_blame_runs.specs.Moves.{IsSoundMove};
 ghost use Rattle.ckc_blame_texts.specs.Judged.{IsJudged};
 ghost use Rattle.ckc_blame_nested.specs.Nested.{AreNested};
-ghost use Rattle.ckc_blame_contained.specs.Valuations.{NamesIntegers};
+ghost use Rattle.ckc_blame_sound.specs.Values.{NamesIntegers};
 ghost use Rattle.ckc_blame_control.specs.Ready.{Faces};
 ghost use Rattle.ckc_blame_calls.specs.Arguments.{GiveWords, literals_before};
 ghost use Rattle.ckc_blame_calls.specs.Callees.{HaveCallees, HaveFewVariables};
